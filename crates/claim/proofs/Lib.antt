@@ -1,0 +1,13 @@
+pub mod Accepting
+pub mod After
+pub mod GrantLaws
+pub mod GrantReply
+pub mod PoolLaws
+pub mod RestorationApply
+pub mod RestorationElements
+pub mod RestorationJudge
+pub mod RestorationRead
+pub mod RestoreAll
+pub mod Sequence
+pub mod Steps
+pub mod VerdictLaws

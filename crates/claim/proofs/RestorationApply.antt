@@ -1,0 +1,184 @@
+-- What a restoration request does: it puts its session into the table.
+-- Assumes nothing.
+use mathlib.Core.Path.{_≡_, refl, sym, ap, ap₂, _∙_}
+use Prim.Native.Nat.{ℕ, _+_, _-_, _^_, _≤_, _<_}
+use native.Mathlib.Nat.{le-trans}
+use native.Mathlib.Omega.{arith}
+use mathlib.Core.Bool.{Bool, true, false, not, _&&_, _||_}
+use mathlib.Core.List.{List, [], _∷_, _++_, map, append-nil}
+use lib.ListN.{length}
+use lib.Dec.{T, leb, ltb, eqb, ltb→lt, lt→ltb, lit≤}
+use lib.Seq.{append-snoc}
+use mir.Facts.{no-leb, no-ltb}
+use Rattle.octets.specs.Choice.{pick, mapOption}
+use Rattle.octets.specs.Lists.{keep, all, ascending, insertBy, insertAll, anyIn}
+use Rattle.octets.specs.Octets.{put}
+use Rattle.octets.proofs.Tests.{pick-yes, pick-no, each, all-head, all-tail, all-cons, no-eqb, ascending-head, ascending-tail}
+use Rattle.rules.specs.Model.{Settings, Tunnel, Place, neither, tunnel, endpoint, Pdr, Endpoint, Csid, Session, Sessions, endpointId, pdrId, nodeTypeOf, placeTunnel, placeEndpoint, sessionTeids, heldTeids}
+use Rattle.rules.specs.Elements.{unitFteid}
+use Rattle.rules.specs.Layout.{encode}
+use Rattle.rules.specs.Sound.{settingsAllowed, tunnelAllowed, placeAllowed, pdrTests, pdrAllowed, endpointTests, endpointAllowed, sessionTests, sessionAllowed, sessionsAllowed, sound}
+use Rattle.laws.proofs.LayoutLaws.{pdrsOk, endpointsOk, tests, sound-encode, encoded-settings, sessions-back}
+use Rattle.rules.specs.Message.{Request, headerSeid, headerAllowed, served, frameFault}
+use Rattle.rules.specs.Grants.{Kind, grants, grantedTeid}
+use Rattle.rules.specs.Stages.{newSession, atEntry, isLive, plain, judge, entrySession, judged, fromReading, fromFraming, unknownSession, verdict}
+use Rattle.rules.specs.Apply.{tunnelFrom, namedPlace, placeFrom, createPdr, createEndpoint, updateAll, otherNode, setCsid, setCsids, followCsids, pdrsAfter, endpointsAfter, apply, putSession, follow}
+use Rattle.rules.specs.Serve.{unserved, sessionsAfter, replyTo, answered, answer, serveSound, serve}
+use Rattle.rules.specs.Restoration.{Peer, peerAllowed, restoration, restoredPdr, restoredEndpoint, restoredRequest, recordCsid}
+use Rattle.claim.proofs.RestorationRead.{msg-allowed, msg-kind, msg-short, msg-framed, msg-sound, msg-request}
+use Rattle.claim.proofs.RestorationJudge.{v4-same, v6-same, unit-families, restored-judged}
+
+-- ---- putting in what ascends
+
+module _ {A : Type 0} (key : A → ℕ) where
+  -- the keys of a list are below the first of another
+  abbrev pub Under : List A → List A → Type 0
+  Under acc [] = Unit {0}
+  Under acc (r ∷ rs) = T (all (λ y. ltb (key y) (key r)) acc)
+
+  insert-end : (a : A) (acc : List A) → T (all (λ y. ltb (key y) (key a)) acc) → insertBy key a acc ≡ acc ++ a ∷ []
+  unfolding insertBy
+  insert-end a [] h = refl
+  insert-end a (y ∷ acc) h =
+      let less = ltb→lt (key y) (key a) (all-head (λ z. ltb (key z) (key a)) y acc h) in
+      pick-no (leb (key a) (key y)) _ _ (no-leb less) ∙ ap (λ (ys : List A). y ∷ ys) (insert-end a acc (all-tail (λ z. ltb (key z) (key a)) y acc h))
+
+  under-end : (acc : List A) (r r′ : A) → key r < key r′ → T (all (λ y. ltb (key y) (key r)) acc) → T (all (λ y. ltb (key y) (key r′)) (acc ++ r ∷ []))
+  under-end [] r r′ up h = all-cons (λ y. ltb (key y) (key r′)) r [] (lt→ltb (key r) (key r′) up) (unfold all in tt)
+  under-end (y ∷ acc) r r′ up h =
+      let less = ltb→lt (key y) (key r) (all-head (λ z. ltb (key z) (key r)) y acc h) in
+      all-cons (λ z. ltb (key z) (key r′)) y (acc ++ r ∷ []) (lt→ltb (key y) (key r′) (omega arith)) (under-end acc r r′ up (all-tail (λ z. ltb (key z) (key r)) y acc h))
+
+  pub under-next : (acc : List A) (r : A) (rs : List A) → T (ascending (map key (r ∷ rs))) → T (all (λ y. ltb (key y) (key r)) acc) → Under (acc ++ r ∷ []) rs
+  under-next acc r [] up h = tt
+  under-next acc r (r′ ∷ rs) up h = under-end acc r r′ (ascending-head (key r) (key r′) (map key rs) up) h
+
+  pub insertAll-up : (rs acc : List A) → T (ascending (map key rs)) → Under acc rs → insertAll key rs acc ≡ acc ++ rs
+  unfolding insertAll
+  insertAll-up [] acc up h = sym (append-nil acc)
+  insertAll-up (r ∷ rs) acc up h =
+      ap (insertAll key rs) (insert-end r acc h)
+      ∙ insertAll-up rs (acc ++ r ∷ []) (ascending-tail (key r) (map key rs) up) (under-next acc r rs up h)
+      ∙ append-snoc acc r rs
+
+  pub under-nil : (rs : List A) → Under [] rs
+  unfolding all
+  under-nil [] = tt
+  under-nil (r ∷ rs) = tt
+
+-- FQ-CSIDs of other node types stay
+keep-others : (n : ℕ) (ds : List Csid) → T (all (λ y. ltb (y .nodeType) n) ds) → keep (otherNode n) ds ≡ ds
+unfolding keep otherNode
+keep-others n [] h = refl
+keep-others n (d ∷ ds) h =
+    let less = ltb→lt (d .nodeType) n (all-head (λ y. ltb (y .nodeType) n) d ds h) in
+    pick-yes (not (eqb (d .nodeType) n)) _ _ (no-eqb (d .nodeType) n (omega arith))
+    ∙ ap (λ (es : List Csid). d ∷ es) (keep-others n ds (all-tail (λ y. ltb (y .nodeType) n) d ds h))
+
+csids-set : (cs ds : List Csid) → T (ascending (map nodeTypeOf cs)) → Under nodeTypeOf ds cs → setCsids (map recordCsid cs) ds ≡ ds ++ cs
+unfolding setCsids setCsid recordCsid
+csids-set [] ds up h = sym (append-nil ds)
+csids-set (c ∷ cs) ds up h =
+    ap (setCsids (map recordCsid cs)) (ap (insertBy nodeTypeOf c) (keep-others (c .nodeType) ds h) ∙ insert-end nodeTypeOf c ds h)
+    ∙ csids-set cs (ds ++ c ∷ []) (ascending-tail (c .nodeType) (map nodeTypeOf cs) up) (under-next nodeTypeOf ds c cs up h)
+    ∙ append-snoc ds c cs
+
+module _ (s : Settings) (hs : T (settingsAllowed s)) where
+  tunnel-again : (n : ℕ) (t : Tunnel) → T (tunnelAllowed s t) → tunnelFrom n (unitFteid s t) ≡ t
+  unfolding tunnelFrom unitFteid
+  tunnel-again n t h = λ i. record { teid = t .teid; v4 = v4-same s hs (t .v4) i; v6 = v6-same s hs (t .v6) (unit-families s hs t h) i }
+
+  place-again : (n : ℕ) (live : List ℕ) (l : Place) → T (placeAllowed s live l) → placeFrom n (mapOption (unitFteid s) (placeTunnel l)) (placeEndpoint l) ≡ l
+  unfolding placeFrom namedPlace placeTunnel placeEndpoint placeAllowed
+  place-again n live neither h = refl
+  place-again n live (tunnel t) h = ap tunnel (tunnel-again n t h)
+  place-again n live (endpoint e) h = refl
+
+  pdrs-again : (teids : Kind → ℕ → ℕ) (live : List ℕ) (ps : List Pdr) → T (all (pdrAllowed s live) ps) → map (createPdr teids) (map (restoredPdr s) ps) ≡ ps
+  unfolding createPdr restoredPdr pdrAllowed pdrTests
+  pdrs-again teids live [] h = refl
+  pdrs-again teids live (p ∷ ps) h =
+      let e = each (pdrTests s live p) (all-head (pdrAllowed s live) p ps h) in
+      λ i. record { id = p .id; precedence = p .precedence; far = p .far; source = p .source; place = place-again (teids Kind.ofPdr (p .id)) live (p .place) (e .1 .1 .1 .1 .0) i }
+      ∷ pdrs-again teids live ps (all-tail (pdrAllowed s live) p ps h) i
+
+  endpoints-again : (teids : Kind → ℕ → ℕ) (es : List Endpoint) → T (all (endpointAllowed s) es) → map (createEndpoint teids) (map (restoredEndpoint s) es) ≡ es
+  unfolding createEndpoint restoredEndpoint endpointAllowed endpointTests
+  endpoints-again teids [] h = refl
+  endpoints-again teids (e ∷ es) h =
+      λ i. record { id = e .id; local = tunnel-again (teids Kind.ofEndpoint (e .id)) (e .local) (each (endpointTests s e) (all-head (endpointAllowed s) e es h) .1 .0) i }
+      ∷ endpoints-again teids es (all-tail (endpointAllowed s) e es h) i
+
+  module _ (x : Session) (hx : T (sessionAllowed s x)) where
+    up-pdrs : T (ascending (map pdrId (x .pdrs)))
+    unfolding sessionTests
+    up-pdrs = tests s hs x hx .1 .1 .1 .0
+
+    up-endpoints : T (ascending (map endpointId (x .endpoints)))
+    unfolding sessionTests
+    up-endpoints = tests s hs x hx .1 .1 .1 .1 .1 .1 .0
+
+    up-csids : T (ascending (map nodeTypeOf (x .csids)))
+    unfolding sessionTests
+    up-csids = tests s hs x hx .1 .1 .1 .1 .1 .1 .1 .1 .1 .0
+
+    -- the request makes the session
+    pub applied : (teids : Kind → ℕ → ℕ) → apply teids (restoredRequest s x) (newSession (x .seid)) ≡ x
+    unfolding apply restoredRequest newSession pdrsAfter endpointsAfter followCsids updateAll keep
+    applied teids =
+        λ i. record {
+          seid = x .seid;
+          pdrs = (ap (λ (ps : List Pdr). insertAll pdrId ps []) (pdrs-again teids (map endpointId (x .endpoints)) (x .pdrs) (pdrsOk s hs x hx))
+              ∙ insertAll-up pdrId (x .pdrs) [] up-pdrs (under-nil pdrId (x .pdrs))) i;
+          endpoints = (ap (λ (es : List Endpoint). insertAll endpointId es []) (endpoints-again teids (x .endpoints) (endpointsOk s hs x hx))
+              ∙ insertAll-up endpointId (x .endpoints) [] up-endpoints (under-nil endpointId (x .endpoints))) i;
+          csids = csids-set (x .csids) [] up-csids (under-nil nodeTypeOf (x .csids)) i;
+        }
+
+    -- ---- the call
+
+    module _ (limit : ℕ) (m : Sessions) (fresh : isLive (x .seid) m ≡ false) (room : length m < limit)
+        (separate : T (not (anyIn (sessionTeids x) (heldTeids m)))) (p : Peer) (hp : T (peerAllowed p)) where
+      abbrev msg : List ℕ
+      msg = restoration s p x
+
+      msg-verdict : verdict limit s m msg ≡ plain 1
+      unfolding verdict unknownSession fromFraming fromReading judged entrySession
+      msg-verdict =
+          ap (λ (k : ℕ). pick (not (eqb k 50) && not (isLive (headerSeid msg) m)) (plain 65) (fromFraming limit s m msg (frameFault msg))) (msg-kind s hs p hp x hx)
+          ∙ ap (fromFraming limit s m msg) (msg-framed s hs p hp x hx)
+          ∙ ap (fromReading limit s m msg) (msg-sound s hs p hp x hx)
+          ∙ ap₂ (λ (k : ℕ) (r : Request). judge limit k s m (atEntry k (headerSeid msg) r m) r) (msg-kind s hs p hp x hx) (msg-request s hs p hp x hx)
+          ∙ at-new
+        where
+          at-new : judge limit 50 s m (atEntry 50 (headerSeid msg) (restoredRequest s x) m) (restoredRequest s x) ≡ plain 1
+          at-new = unfold atEntry restoredRequest in (restored-judged s hs x hx limit m fresh room separate)
+
+      msg-after : sessionsAfter s m msg ≡ putSession x m
+      unfolding sessionsAfter follow atEntry
+      msg-after =
+          ap₂ (λ (k : ℕ) (r : Request). follow (grantedTeid (grants s m r)) k (headerSeid msg) r m) (msg-kind s hs p hp x hx) (msg-request s hs p hp x hx)
+          ∙ ap (λ (y : Session). putSession y m) made
+        where
+          made : apply (grantedTeid (grants s m (restoredRequest s x))) (restoredRequest s x) (newSession (restoredRequest s x .seid)) ≡ x
+          made = unfold restoredRequest in (applied (grantedTeid (grants s m (restoredRequest s x))))
+
+      -- a restoration into a table of other sessions is accepted, and puts its session in
+      pub restored-call : limit < 256 ^ 2 → T (sessionsAllowed limit s m) → (space : List ℕ) → 1024 ≤ length space
+          → serve limit (encode limit s m) msg space ≡ record { outcome = 0; space = put 0 (replyTo s m msg (plain 1)) space; table = encode limit s (putSession x m) }
+      unfolding serve serveSound answer answered served
+      restored-call small hm space long =
+          let t = encode limit s m in
+          let short : length msg ≤ 2048 = le-trans (msg-short s hs p hp x hx) (lit≤ tt) in
+          pick-yes (sound limit t) _ _ (sound-encode s hs limit small m hm)
+          ∙ ap₂ (λ (s′ : Settings) (m′ : Sessions). serveSound limit s′ m′ t msg space) (encoded-settings s hs limit small m hm) (sessions-back s hs limit small m hm)
+          ∙ pick-no (ltb (length space) 1024) _ _ (no-ltb long)
+          ∙ pick-no (ltb 2048 (length msg)) _ _ (no-ltb short)
+          ∙ pick-no (not (headerAllowed msg)) _ _ (twice (headerAllowed msg) (msg-allowed s hs p hp x hx))
+          ∙ ap (λ (k : ℕ). pick (not (eqb k 50 || eqb k 52 || eqb k 54)) (unserved 5 space t) (answer limit s m msg space t)) (msg-kind s hs p hp x hx)
+          ∙ ap (answered limit s m msg space t) msg-verdict
+          ∙ ap (λ (m′ : Sessions). record { outcome = 0; space = put 0 (replyTo s m msg (plain 1)) space; table = encode limit s m′ }) msg-after
+        where
+          twice : (b : Bool) → T b → T (not (not b))
+          twice true h = tt
+          twice false h = absurd h

@@ -1,0 +1,348 @@
+-- A restoration request that was written for a session is read as that session's records.
+-- Assumes nothing.
+use mathlib.Core.Path.{_≡_, refl, ap, _∙_}
+use Prim.Native.Nat.{ℕ, _+_, _-_, _%_, _^_, _≤_, _<_, zero-le, suc-le-suc}
+use native.Mathlib.Nat.{le-trans, le-of-eq, mod-eq-of-lt}
+use native.Mathlib.Omega.{arith}
+use mathlib.Core.Bool.{Bool, true, false, not, _&&_, _||_}
+use mathlib.Core.Option.{Option, none, some}
+use mathlib.Core.List.{List, [], _∷_, _++_}
+use lib.ListN.{length, length-append}
+use lib.Dec.{T, eqb, ltb→lt, lt→ltb, lit<, lit≤}
+use mir.Facts.{yes-eqb}
+use Rattle.octets.specs.Choice.{pick, orElse, mapOption, isNil}
+use Rattle.octets.specs.Octets.{be, number, numberAt, octets, concatMap}
+use Rattle.octets.specs.Lists.{member, any, findBy}
+use Rattle.octets.proofs.Tests.{each, all-of-each, both}
+use Rattle.octets.proofs.Numbers.{length-be, number-be}
+use Rattle.rules.specs.Model.{Settings, Tunnel, Place, neither, tunnel, endpoint, Pdr, Endpoint, Csid, placeTunnel, placeEndpoint}
+use Rattle.rules.specs.Elements.{Answer, value, Fteid, readFteid, readFqcsid, addressOf, givenTests, fteidAllowed, fteidOctets, unitFteid, fqcsidOctets}
+use Rattle.laws.proofs.ElementLaws.{fteid-back, fqcsid-back}
+use Rattle.rules.specs.Sound.{ipv6Allowed, settingsTests, settingsAllowed, unitFamilies, tunnelTests, tunnelAllowed, placeAllowed, farAllowed, pdrTests, pdrAllowed, csidTests, csidAllowed}
+use Rattle.laws.proofs.LayoutLaws.{csid-address-length, address-short, teid-fits, settingsFacts, ipv4-four, ipv6-ok, ipv6-short}
+use Rattle.rules.specs.Message.{Element, Fault, elements, hasType, there, contentOf, shortFault, memberFault, membersFault, missingFault, required, requiredOf, placesOf, opened, groupFault, widthOf, plainFault, pdiMember, pdiFault, createPdrMember, createEndpointMember, answerFault, answerValue, field, fieldOr0, membersOf, fteidIn, newPdr, newEndpoint, frame}
+use Rattle.laws.proofs.MessageLaws.{Fits, el, elements-cons, elements-nil, elements-last, Inside, framed-nil, framed-cons, framed-last, length-one}
+use Rattle.rules.specs.Reply.{element, unitElement}
+use Rattle.rules.specs.Restoration.{placeElement, farElement, pdiContent, pdrContent, endpointContent, recordCsid, restoredPdr, restoredEndpoint}
+
+-- ---- the unit's F-TEIDs
+
+module _ (s : Settings) (hs : T (settingsAllowed s)) where
+  ipv4-octets : T (octets (s .ipv4))
+  unfolding settingsTests
+  ipv4-octets = settingsFacts s hs .1 .0
+
+  ipv6-octets : T (octets (s .ipv6))
+  unfolding settingsTests
+  ipv6-octets = settingsFacts s hs .1 .1 .1 .0
+
+  four-not-nil : (a : List ℕ) → length a ≡ 4 → T (not (isNil a))
+  four-not-nil [] h = absurd (omega arith)
+  four-not-nil (x ∷ a) h = tt
+
+  address4 : (v4 : Bool) → T (addressOf 4 (pick v4 (s .ipv4) []))
+  unfolding addressOf
+  address4 false = tt
+  address4 true = both (isNil (s .ipv4) || eqb (length (s .ipv4)) 4) (octets (s .ipv4)) (or-right (isNil (s .ipv4)) (eqb (length (s .ipv4)) 4) (yes-eqb (ipv4-four s hs))) ipv4-octets
+    where
+      or-right : (a b : Bool) → T b → T (a || b)
+      or-right true b h = tt
+      or-right false b h = h
+
+  address16 : (v6 : Bool) → T (addressOf 16 (pick v6 (s .ipv6) []))
+  unfolding addressOf ipv6Allowed
+  address16 false = tt
+  address16 true = both (isNil (s .ipv6) || eqb (length (s .ipv6)) 16) (octets (s .ipv6)) (ipv6-ok s hs) ipv6-octets
+
+  some-address : (v4 v6 : Bool) → T (v4 || v6) → T (unitFamilies s v6) → T (not (isNil (pick v4 (s .ipv4) []) && isNil (pick v6 (s .ipv6) [])))
+  unfolding unitFamilies
+  some-address true v6 h g = not-left (isNil (s .ipv4)) (isNil (pick v6 (s .ipv6) [])) (four-not-nil (s .ipv4) (ipv4-four s hs))
+    where
+      not-left : (a b : Bool) → T (not a) → T (not (a && b))
+      not-left true b h = absurd h
+      not-left false b h = tt
+  some-address false true h g = g
+  some-address false false h g = absurd h
+
+  unit-allowed : (e : Bool) (t : Tunnel) → T (tunnelAllowed s t) → T (fteidAllowed e (unitFteid s t))
+  unfolding fteidAllowed unitFteid tunnelAllowed tunnelTests givenTests
+  unit-allowed e t h =
+      let g = each (tunnelTests s t) h in
+      all-of-each (givenTests (t .teid) (pick (t .v4) (s .ipv4) []) (pick (t .v6) (s .ipv6) []))
+      (lt→ltb (t .teid) (2 ^ 32) (teid-fits s t hs h), (address4 (t .v4), (address16 (t .v6), (some-address (t .v4) (t .v6) (g .1 .0) (g .1 .1 .0), tt))))
+
+  -- the unit's F-TEID is read back
+  pub unit-back : (e : Bool) (t : Tunnel) → T (tunnelAllowed s t) → readFteid e (fteidOctets (unitFteid s t)) ≡ value (unitFteid s t)
+  unit-back e t h = fteid-back e (unitFteid s t) (unit-allowed e t h)
+
+  pick-short : (b : Bool) (a : List ℕ) (n : ℕ) → length a ≤ n → length (pick b a []) ≤ n
+  pick-short true a n h = h
+  pick-short false a n h = zero-le
+
+  -- at most 25 octets, and 29 with type and length
+  pub unit-short : (t : Tunnel) → length (fteidOctets (unitFteid s t)) ≤ 25
+  unfolding fteidOctets unitFteid be
+  unit-short t =
+      let a = pick-short (t .v4) (s .ipv4) 4 (le-of-eq (ipv4-four s hs)) in
+      let b = pick-short (t .v6) (s .ipv6) 16 (ipv6-short (s .ipv6) (ipv6-ok s hs)) in
+      let e = length-append (pick (t .v4) (s .ipv4) []) (pick (t .v6) (s .ipv6) []) in
+      omega arith
+
+  pub small : {n : ℕ} → n ≤ 2048 → n < 256 ^ 2
+  small h = le-trans (suc-le-suc h) (lit≤ tt)
+
+  pub unit-fits : (t : Tunnel) → Fits 21 (fteidOctets (unitFteid s t))
+  unfolding Fits
+  unit-fits t = (lit< tt, small (le-trans (unit-short t) (lit≤ tt)))
+
+  pub number-one : (c : ℕ) → number (c ∷ []) ≡ c
+  unfolding number
+  number-one c = omega arith
+
+  -- ---- a PDI: source interface c and place l
+
+  placeElements : Place → List Element
+  placeElements neither = []
+  placeElements (tunnel t) = el 21 (fteidOctets (unitFteid s t)) ∷ []
+  placeElements (endpoint e) = el 131 (e ∷ []) ∷ []
+
+  pub one-fits : (t : ℕ) → t < 256 ^ 2 → (c : ℕ) → Fits t (c ∷ [])
+  unfolding Fits
+  one-fits t h c = (h, lit< tt)
+
+  place-elements : (l : Place) → elements (placeElement s l) ≡ placeElements l
+  unfolding placeElement placeElements unitElement
+  place-elements neither = elements-nil
+  place-elements (tunnel t) = elements-last 21 (fteidOctets (unitFteid s t)) (unit-fits t)
+  place-elements (endpoint e) = elements-last 131 (e ∷ []) (one-fits 131 (lit< tt) e)
+
+  place-short : (l : Place) → length (placeElement s l) ≤ 29
+  unfolding placeElement unitElement
+  place-short neither = zero-le
+  place-short (tunnel t) = le-trans (le-of-eq (length-one 21 (fteidOctets (unitFteid s t)))) (let h = unit-short t in omega arith)
+  place-short (endpoint e) = le-trans (le-of-eq (length-one 131 (e ∷ []))) (lit≤ tt)
+
+  pdi-elements : (p : Pdr) → elements (pdiContent s p) ≡ el 20 (p .source ∷ []) ∷ placeElements (p .place)
+  unfolding pdiContent
+  pdi-elements p =
+      elements-cons 20 (p .source ∷ []) (placeElement s (p .place)) (one-fits 20 (lit< tt) (p .source))
+      ∙ ap (λ (es : List Element). el 20 (p .source ∷ []) ∷ es) (place-elements (p .place))
+
+  pdi-short : (p : Pdr) → length (pdiContent s p) ≤ 34
+  unfolding pdiContent
+  pdi-short p =
+      let a = length-append (element 20 (p .source ∷ [])) (placeElement s (p .place)) in
+      let b = length-one 20 (p .source ∷ []) in
+      let h = place-short (p .place) in
+      omega arith
+
+  pdi-fault : (c : ℕ) (l : Place) (live : List ℕ) → T (placeAllowed s live l)
+      → orElse (membersFault pdiMember (placesOf 2) [] (el 20 (c ∷ []) ∷ placeElements l)) (missingFault (requiredOf 2) (el 20 (c ∷ []) ∷ placeElements l)) ≡ none
+  unfolding placeElements placeAllowed membersFault memberFault missingFault pdiMember plainFault shortFault widthOf placesOf requiredOf required there any hasType member answerFault
+  pdi-fault c neither live h = refl
+  pdi-fault c (tunnel t) live h = ap (λ (a : Answer Fteid). orElse (orElse (answerFault 21 a) none) none) (unit-back false t h)
+  pdi-fault c (endpoint e) live h = refl
+
+  pdi-sound : (p : Pdr) (live : List ℕ) → T (placeAllowed s live (p .place)) → pdiFault (pdiContent s p) ≡ none
+  unfolding pdiFault groupFault
+  pdi-sound p live h =
+      ap (λ (es : List Element). orElse (membersFault pdiMember (placesOf 2) [] es) (missingFault (requiredOf 2) es)) (pdi-elements p)
+      ∙ pdi-fault (p .source) (p .place) live h
+
+  -- what is read of a PDI
+  pdi-source : (c : ℕ) (l : Place) → c < 16 → fieldOr0 20 (el 20 (c ∷ []) ∷ placeElements l) % 16 ≡ c
+  unfolding fieldOr0 field contentOf findBy hasType numberAt widthOf
+  pdi-source c l h = ap (λ (n : ℕ). n % 16) (number-one c) ∙ mod-eq-of-lt h
+
+  pdi-local : (c : ℕ) (l : Place) (live : List ℕ) → T (placeAllowed s live l)
+      → fteidIn false (el 20 (c ∷ []) ∷ placeElements l) ≡ mapOption (unitFteid s) (placeTunnel l)
+  unfolding fteidIn contentOf findBy hasType placeElements placeTunnel placeAllowed answerValue
+  pdi-local c neither live h = refl
+  pdi-local c (tunnel t) live h = ap (λ (a : Answer Fteid). answerValue a) (unit-back false t h)
+  pdi-local c (endpoint e) live h = refl
+
+  pdi-endpoint : (c : ℕ) (l : Place) → field 131 (el 20 (c ∷ []) ∷ placeElements l) ≡ placeEndpoint l
+  unfolding field contentOf findBy hasType placeElements placeEndpoint numberAt widthOf
+  pdi-endpoint c neither = refl
+  pdi-endpoint c (tunnel t) = refl
+  pdi-endpoint c (endpoint e) = ap some (number-one e)
+
+  -- ---- a Create PDR
+
+  farElements : Option ℕ → List Element
+  farElements none = []
+  farElements (some n) = el 108 (be 4 n) ∷ []
+
+  pub be-fits : (t w n : ℕ) → t < 256 ^ 2 → w ≤ 2048 → Fits t (be w n)
+  unfolding Fits
+  be-fits t w n h g = (h, small (le-trans (le-of-eq (length-be w n)) g))
+
+  far-elements : (f : Option ℕ) → elements (farElement f) ≡ farElements f
+  unfolding farElement farElements
+  far-elements none = elements-nil
+  far-elements (some n) = elements-last 108 (be 4 n) (be-fits 108 4 n (lit< tt) (lit≤ tt))
+
+  pdi-fits : (p : Pdr) → Fits 2 (pdiContent s p)
+  unfolding Fits
+  pdi-fits p = (lit< tt, small (le-trans (pdi-short p) (lit≤ tt)))
+
+  pdrElements : Pdr → List Element
+  pdrElements p = el 56 (be 2 (p .id)) ∷ el 29 (be 4 (p .precedence)) ∷ el 2 (pdiContent s p) ∷ farElements (p .far)
+
+  pdr-elements : (p : Pdr) → elements (pdrContent s p) ≡ pdrElements p
+  unfolding pdrContent pdrElements
+  pdr-elements p =
+      elements-cons 56 (be 2 (p .id)) _ (be-fits 56 2 (p .id) (lit< tt) (lit≤ tt))
+      ∙ ap (λ (es : List Element). el 56 (be 2 (p .id)) ∷ es)
+      (elements-cons 29 (be 4 (p .precedence)) _ (be-fits 29 4 (p .precedence) (lit< tt) (lit≤ tt))
+      ∙ ap (λ (es : List Element). el 29 (be 4 (p .precedence)) ∷ es)
+      (elements-cons 2 (pdiContent s p) (farElement (p .far)) (pdi-fits p)
+      ∙ ap (λ (es : List Element). el 2 (pdiContent s p) ∷ es) (far-elements (p .far))))
+
+  far-short : (f : Option ℕ) → length (farElement f) ≤ 8
+  unfolding farElement
+  far-short none = zero-le
+  far-short (some n) = le-of-eq (length-one 108 (be 4 n) ∙ ap (λ (k : ℕ). 4 + k) (length-be 4 n))
+
+  pub pdr-short : (p : Pdr) → length (pdrContent s p) ≤ 60
+  unfolding pdrContent
+  pdr-short p =
+      let a = length-append (element 56 (be 2 (p .id))) (element 29 (be 4 (p .precedence)) ++ (element 2 (pdiContent s p) ++ farElement (p .far))) in
+      let b = length-append (element 29 (be 4 (p .precedence))) (element 2 (pdiContent s p) ++ farElement (p .far)) in
+      let c = length-append (element 2 (pdiContent s p)) (farElement (p .far)) in
+      let d = length-one 56 (be 2 (p .id)) in
+      let d′ = length-be 2 (p .id) in
+      let e = length-one 29 (be 4 (p .precedence)) in
+      let e′ = length-be 4 (p .precedence) in
+      let f = length-one 2 (pdiContent s p) in
+      let g = pdi-short p in
+      let h = far-short (p .far) in
+      omega arith
+
+  -- no fault among the members
+  pdr-fault : (i n : ℕ) (v : List ℕ) (f : Option ℕ) → pdiFault v ≡ none
+      → let es = el 56 (be 2 i) ∷ el 29 (be 4 n) ∷ el 2 v ∷ farElements f in
+      orElse (membersFault createPdrMember (placesOf 1) [] es) (missingFault (requiredOf 1) es) ≡ none
+  unfolding farElements membersFault memberFault missingFault createPdrMember plainFault shortFault widthOf placesOf requiredOf required there any hasType member be
+  pdr-fault i n v none h = ap (λ (o : Option Fault). orElse (orElse o none) none) h
+  pdr-fault i n v (some f) h = ap (λ (o : Option Fault). orElse (orElse o none) none) h
+
+  pub pdr-sound : (p : Pdr) (live : List ℕ) → T (placeAllowed s live (p .place)) → groupFault createPdrMember 1 (pdrContent s p) ≡ none
+  unfolding groupFault pdrElements
+  pdr-sound p live h =
+      ap (λ (es : List Element). orElse (membersFault createPdrMember (placesOf 1) [] es) (missingFault (requiredOf 1) es)) (pdr-elements p)
+      ∙ pdr-fault (p .id) (p .precedence) (pdiContent s p) (p .far) (pdi-sound p live h)
+
+  -- the fields of a Create PDR
+  read-id : (i n : ℕ) (v : List ℕ) (f : Option ℕ) → i < 256 ^ 2 → fieldOr0 56 (el 56 (be 2 i) ∷ el 29 (be 4 n) ∷ el 2 v ∷ farElements f) ≡ i
+  unfolding fieldOr0 field contentOf findBy hasType numberAt widthOf be
+  read-id i n v f h = number-be 2 i h
+
+  read-precedence : (i n : ℕ) (v : List ℕ) (f : Option ℕ) → n < 256 ^ 4 → fieldOr0 29 (el 56 (be 2 i) ∷ el 29 (be 4 n) ∷ el 2 v ∷ farElements f) ≡ n
+  unfolding fieldOr0 field contentOf findBy hasType numberAt widthOf be
+  read-precedence i n v f h = number-be 4 n h
+
+  read-far : (i n : ℕ) (v : List ℕ) (f : Option ℕ) → T (farAllowed f) → field 108 (el 56 (be 2 i) ∷ el 29 (be 4 n) ∷ el 2 v ∷ farElements f) ≡ f
+  unfolding field contentOf findBy hasType numberAt widthOf be farElements farAllowed
+  read-far i n v none h = refl
+  read-far i n v (some f) h = ap some (number-be 4 f (ltb→lt f (2 ^ 32) h))
+
+  read-pdi : (i n : ℕ) (v : List ℕ) (f : Option ℕ) → membersOf 2 (el 56 (be 2 i) ∷ el 29 (be 4 n) ∷ el 2 v ∷ farElements f) ≡ elements v
+  unfolding membersOf contentOf findBy hasType
+  read-pdi i n v f = refl
+
+  -- a Create PDR is read as the record
+  pub pdr-read : (p : Pdr) (live : List ℕ) → T (pdrAllowed s live p) → newPdr (elements (pdrContent s p)) ≡ restoredPdr s p
+  unfolding newPdr restoredPdr pdrElements pdrAllowed pdrTests
+  pdr-read p live h =
+      let e = each (pdrTests s live p) h in
+      let es = pdrElements p in
+      let pdi = read-pdi (p .id) (p .precedence) (pdiContent s p) (p .far) ∙ pdi-elements p in
+      ap newPdr (pdr-elements p)
+      ∙ (λ j. record {
+        id = read-id (p .id) (p .precedence) (pdiContent s p) (p .far) (ltb→lt (p .id) (2 ^ 16) (e .0)) j;
+        precedence = read-precedence (p .id) (p .precedence) (pdiContent s p) (p .far) (ltb→lt (p .precedence) (2 ^ 32) (e .1 .0)) j;
+        far = read-far (p .id) (p .precedence) (pdiContent s p) (p .far) (e .1 .1 .0) j;
+        source = (ap (λ (xs : List Element). fieldOr0 20 xs % 16) pdi ∙ pdi-source (p .source) (p .place) (ltb→lt (p .source) 16 (e .1 .1 .1 .0))) j;
+        local = (ap (fteidIn false) pdi ∙ pdi-local (p .source) (p .place) live (e .1 .1 .1 .1 .0)) j;
+        endpoint = (ap (field 131) pdi ∙ pdi-endpoint (p .source) (p .place)) j;
+      })
+
+  -- ---- framing a Create PDR, at depth 2 in an establishment
+
+  place-framed : (l : Place) → frame 1 50 2 (placeElement s l) ≡ none
+  unfolding placeElement unitElement Inside opened member
+  place-framed neither = framed-nil 0 50 2
+  place-framed (tunnel t) = framed-last 0 50 2 21 (fteidOctets (unitFteid s t)) (unit-fits t) refl
+  place-framed (endpoint e) = framed-last 0 50 2 131 (e ∷ []) (one-fits 131 (lit< tt) e) refl
+
+  pdi-framed : (p : Pdr) → frame 1 50 2 (pdiContent s p) ≡ none
+  unfolding pdiContent Inside opened member
+  pdi-framed p = framed-cons 0 50 2 20 (p .source ∷ []) (placeElement s (p .place)) (one-fits 20 (lit< tt) (p .source)) refl (place-framed (p .place))
+
+  far-framed : (f : Option ℕ) → frame 2 50 1 (farElement f) ≡ none
+  unfolding farElement Inside opened member
+  far-framed none = framed-nil 1 50 1
+  far-framed (some n) = framed-last 1 50 1 108 (be 4 n) (be-fits 108 4 n (lit< tt) (lit≤ tt)) refl
+
+  pub pdr-framed : (p : Pdr) → frame 2 50 1 (pdrContent s p) ≡ none
+  unfolding pdrContent Inside opened member
+  pdr-framed p =
+      framed-cons 1 50 1 56 (be 2 (p .id)) _ (be-fits 56 2 (p .id) (lit< tt) (lit≤ tt)) refl
+      (framed-cons 1 50 1 29 (be 4 (p .precedence)) _ (be-fits 29 4 (p .precedence) (lit< tt) (lit≤ tt)) refl
+      (framed-cons 1 50 1 2 (pdiContent s p) (farElement (p .far)) (pdi-fits p) (pdi-framed p) (far-framed (p .far))))
+
+  -- ---- a Create Traffic Endpoint
+
+  endpointElements : Endpoint → List Element
+  endpointElements e = el 131 (e .id ∷ []) ∷ el 21 (fteidOctets (unitFteid s (e .local))) ∷ []
+
+  endpoint-elements : (e : Endpoint) → elements (endpointContent s e) ≡ endpointElements e
+  unfolding endpointContent endpointElements unitElement
+  endpoint-elements e =
+      elements-cons 131 (e .id ∷ []) (element 21 (fteidOctets (unitFteid s (e .local)))) (one-fits 131 (lit< tt) (e .id))
+      ∙ ap (λ (es : List Element). el 131 (e .id ∷ []) ∷ es) (elements-last 21 (fteidOctets (unitFteid s (e .local))) (unit-fits (e .local)))
+
+  pub endpoint-short : (e : Endpoint) → length (endpointContent s e) ≤ 34
+  unfolding endpointContent unitElement
+  endpoint-short e =
+      let a = length-append (element 131 (e .id ∷ [])) (element 21 (fteidOctets (unitFteid s (e .local)))) in
+      let b = length-one 131 (e .id ∷ []) in
+      let c = length-one 21 (fteidOctets (unitFteid s (e .local))) in
+      let h = unit-short (e .local) in
+      omega arith
+
+  pub endpoint-sound : (e : Endpoint) → T (tunnelAllowed s (e .local)) → groupFault createEndpointMember 127 (endpointContent s e) ≡ none
+  unfolding groupFault endpointElements membersFault memberFault missingFault createEndpointMember plainFault shortFault widthOf placesOf requiredOf required there any hasType member answerFault
+  endpoint-sound e h =
+      ap (λ (es : List Element). orElse (membersFault createEndpointMember (placesOf 127) [] es) (missingFault (requiredOf 127) es)) (endpoint-elements e)
+      ∙ ap (λ (a : Answer Fteid). orElse (orElse (answerFault 21 a) none) none) (unit-back true (e .local) h)
+
+  pub endpoint-read : (e : Endpoint) → T (tunnelAllowed s (e .local)) → newEndpoint (elements (endpointContent s e)) ≡ some (restoredEndpoint s e)
+  unfolding newEndpoint restoredEndpoint endpointElements fteidIn fieldOr0 field contentOf findBy hasType numberAt widthOf answerValue
+  endpoint-read e h =
+      ap newEndpoint (endpoint-elements e)
+      ∙ ap (λ (a : Answer Fteid). mapOption (λ (v : Fteid). record { id = number (e .id ∷ []); local = v }) (answerValue a)) (unit-back true (e .local) h)
+      ∙ ap (λ (i : ℕ). some (record { id = i; local = unitFteid s (e .local) })) (number-one (e .id))
+
+  pub endpoint-framed : (e : Endpoint) → frame 2 50 127 (endpointContent s e) ≡ none
+  unfolding endpointContent unitElement Inside opened member
+  endpoint-framed e =
+      framed-cons 1 50 127 131 (e .id ∷ []) _ (one-fits 131 (lit< tt) (e .id)) refl
+      (framed-last 1 50 127 21 (fteidOctets (unitFteid s (e .local))) (unit-fits (e .local)) refl)
+
+-- ---- an FQ-CSID
+
+pub csid-read : (c : Csid) → T (csidAllowed c) → readFqcsid (fqcsidOctets (recordCsid c)) ≡ value (recordCsid c)
+unfolding recordCsid csidAllowed csidTests
+csid-read c h =
+    let e = each (csidTests c) h in
+    fqcsid-back (c .idType) (c .address) (c .csid) (c .nodeType) (e .1 .0) (e .1 .1 .0) (e .0)
+
+pub csid-octets-short : (c : Csid) → T (csidAllowed c) → length (fqcsidOctets (recordCsid c)) ≤ 20
+unfolding fqcsidOctets recordCsid concatMap be
+csid-octets-short c h =
+    let a = length-append (c .address) (be 2 (c .csid) ++ c .nodeType ∷ []) in
+    let b = csid-address-length c h in
+    let d = address-short (c .idType) in
+    omega arith

@@ -1,0 +1,350 @@
+-- A restoration request of a session that is not live, whose TEIDs no other session holds, is accepted where there is room.
+-- Assumes nothing.
+use mathlib.Core.Path.{_≡_, refl, sym, ap, ap₂, _∙_, subst}
+use Prim.Native.Nat.{ℕ, _+_, _-_, _≤_, _<_}
+use native.Mathlib.Nat.{le-trans}
+use native.Mathlib.Omega.{arith}
+use mathlib.Core.Bool.{Bool, true, false, not, _&&_, _||_}
+use mathlib.Core.Option.{none, some}
+use mathlib.Core.List.{List, [], _∷_, _++_, map}
+use lib.ListN.{length, length-map}
+use lib.Dec.{T, leb, ltb, eqb, ltb→lt, lt→ltb, leb·suc-zero}
+use mir.Facts.{no-ltb, no-leb}
+use Rattle.octets.specs.Choice.{pick, oneOf, mapOption, bindOption, consOption, isNil, isSome}
+use Rattle.octets.specs.Lists.{collect, member, anyIn, allIn, hasRepeat, without, any, all, allPairs, ascending}
+use Rattle.octets.proofs.Tests.{each, Each, both, and-right, all-head, all-tail, all-cons, neither-one, no-eqb, ascending-head, ascending-tail, is-true, is-false}
+use Rattle.octets.proofs.Numbers.{same-refl}
+use Rattle.rules.specs.Model.{Settings, Tunnel, Place, neither, tunnel, endpoint, Pdr, Endpoint, Session, Sessions, Holding, endpointId, pdrId, placeTunnel, placeEndpoint, tunnelHolding, pdrHolding, endpointHolding, sessionHoldings, teidOf, sessionTeids, heldTeids, freeCount}
+use Rattle.rules.specs.Elements.{Fteid, unitFteid, hasV6, chooses, chooseId}
+use Rattle.rules.specs.Sound.{settingsAllowed, inPool, unitFamilies, tunnelTests, tunnelAllowed, placeAllowed, pdrTests, pdrAllowed, endpointTests, endpointAllowed, sessionTests, sessionAllowed, agree}
+use Rattle.laws.proofs.LayoutLaws.{pdrsOk, endpointsOk, fewPdrs, fewEndpoints, tests, ipv4-four}
+use Rattle.rules.specs.Message.{Request}
+use Rattle.rules.specs.Grants.{Kind, choiceOf, endpointChoice, pdrChoice, choices, needFrom, need}
+use Rattle.rules.specs.Stages
+use Rattle.rules.specs.Stages.{newSession, isLive, newPdrId, newEndpointId, namedEndpoint, pdrLocal, endpointLocal, createdPdrs, createdEndpoints, updatedPdrs, livePdrs, liveEndpoints, fteidsOf, wrongAllocation, invalidAllocation, idTwice, createdLive, absentId, updatesRemoved, namesBoth, endpointIdsAfter, namesAbsent, endpointInUse, sameChoice, fteidsMayShare, localsMayShare, choicesAgree, lacksFamily, otherAddress, strange, restoredHolding, endpointRestored, pdrRestored, restoredHoldings, clash, brokenRules, breaksRule, tooManySessions, tooManyPdrs, tooManyEndpoints, tooFewTeids, noRoom, plain, judge}
+use Rattle.rules.specs.Restoration.{restoredPdr, restoredEndpoint, restoredRequest}
+
+-- ---- lists
+
+-- tests that all fail
+pub none-of : (bs : List Bool) → Each (map not bs) → oneOf bs ≡ false
+none-of [] h = refl
+none-of (b ∷ bs) h = ap₂ _||_ (is-false b (h .0)) (none-of bs (h .1))
+
+pub ascending-above : (x : ℕ) (xs : List ℕ) → T (ascending (x ∷ xs)) → T (all (λ n. ltb x n) xs)
+unfolding all
+ascending-above x [] h = tt
+ascending-above x (y ∷ xs) h =
+    let up = ascending-head x y xs h in
+    all-cons (λ n. ltb x n) y xs (lt→ltb x y up) (raise xs up (ascending-above y xs (ascending-tail x (y ∷ xs) h)))
+  where
+    raise : (ns : List ℕ) → x < y → T (all (λ n. ltb y n) ns) → T (all (λ n. ltb x n) ns)
+    raise [] up g = tt
+    raise (n ∷ ns) up g =
+        let over = ltb→lt y n (all-head (λ m. ltb y m) n ns g) in
+        all-cons (λ m. ltb x m) n ns (lt→ltb x n (omega arith)) (raise ns up (all-tail (λ m. ltb y m) n ns g))
+
+pub above-not-member : (x : ℕ) (xs : List ℕ) → T (all (λ n. ltb x n) xs) → T (not (member x xs))
+unfolding member
+above-not-member x [] h = tt
+above-not-member x (y ∷ xs) h =
+    let over = ltb→lt x y (all-head (λ n. ltb x n) y xs h) in
+    neither-one (eqb x y) (member x xs) (no-eqb x y (omega arith)) (above-not-member x xs (all-tail (λ n. ltb x n) y xs h))
+
+-- ascending numbers do not repeat
+pub ascending-once : (xs : List ℕ) → T (ascending xs) → T (not (hasRepeat xs))
+unfolding hasRepeat
+ascending-once [] h = tt
+ascending-once (x ∷ xs) h =
+    neither-one (member x xs) (hasRepeat xs) (above-not-member x xs (ascending-above x xs h)) (ascending-once xs (ascending-tail x xs h))
+
+pub anyIn-nil : (xs : List ℕ) → anyIn xs [] ≡ false
+unfolding anyIn member
+anyIn-nil [] = refl
+anyIn-nil (x ∷ xs) = anyIn-nil xs
+
+pub all-map : {A B : Type 0} (f : A → B) (p : B → Bool) → ((a : A) → p (f a) ≡ true) → (rs : List A) → all p (map f rs) ≡ true
+unfolding all
+all-map f p h [] = refl
+all-map f p h (r ∷ rs) = ap₂ _&&_ (h r) (all-map f p h rs)
+
+pub allPairs-map : {A B : Type 0} (f : A → B) (p : B → B → Bool) → ((a b : A) → p (f a) (f b) ≡ true) → (rs : List A) → allPairs p (map f rs) ≡ true
+unfolding allPairs
+allPairs-map f p h [] = refl
+allPairs-map f p h (r ∷ rs) = ap₂ _&&_ (all-map f (p (f r)) (h r) rs) (allPairs-map f p h rs)
+
+module _ (s : Settings) (hs : T (settingsAllowed s)) where
+  -- ---- the unit's F-TEIDs as they are read
+
+  ipv4-there : isNil (s .ipv4) ≡ false
+  ipv4-there = go (s .ipv4) (ipv4-four s hs)
+    where
+      go : (a : List ℕ) → length a ≡ 4 → isNil a ≡ false
+      go [] h = absurd (omega arith)
+      go (y ∷ a) h = refl
+
+  -- the family flags are the record's
+  pub v4-same : (v4 : Bool) → not (isNil (pick v4 (s .ipv4) [])) ≡ v4
+  v4-same true = ap not ipv4-there
+  v4-same false = refl
+
+  pub v6-same : (v6 : Bool) → T (unitFamilies s v6) → not (isNil (pick v6 (s .ipv6) [])) ≡ v6
+  unfolding unitFamilies
+  v6-same true h = is-true (not (isNil (s .ipv6))) h
+  v6-same false h = refl
+
+  pub unit-families : (t : Tunnel) → T (tunnelAllowed s t) → T (unitFamilies s (t .v6))
+  unfolding tunnelAllowed tunnelTests
+  unit-families t h = each (tunnelTests s t) h .1 .1 .0
+
+  unit-in-pool : (t : Tunnel) → T (tunnelAllowed s t) → T (inPool s (t .teid))
+  unfolding tunnelAllowed tunnelTests
+  unit-in-pool t h = each (tunnelTests s t) h .0
+
+  unit-lacks : (t : Tunnel) → T (tunnelAllowed s t) → lacksFamily s (unitFteid s t) ≡ false
+  unfolding lacksFamily unitFteid hasV6
+  unit-lacks t h =
+      ap (λ (b : Bool). not (unitFamilies s b)) (v6-same (t .v6) (unit-families t h)) ∙ ap not (is-true (unitFamilies s (t .v6)) (unit-families t h))
+
+  own-address : (b : Bool) (a : List ℕ) → otherAddress a (pick b a []) ≡ false
+  unfolding otherAddress
+  own-address false a = refl
+  own-address true a = ap (λ (c : Bool). not (isNil a) && not c) (same-refl a) ∙ and-false (not (isNil a))
+    where
+      and-false : (c : Bool) → (c && false) ≡ false
+      and-false true = refl
+      and-false false = refl
+
+  unit-strange : (t : Tunnel) → T (tunnelAllowed s t) → strange s (unitFteid s t) ≡ false
+  unfolding strange unitFteid
+  unit-strange t h =
+      λ i. not (is-true (inPool s (t .teid)) (unit-in-pool t h) i) || own-address (t .v4) (s .ipv4) i || own-address (t .v6) (s .ipv6) i
+
+  unit-given : (t : Tunnel) → T (tunnelAllowed s t) → wrongAllocation true (unitFteid s t) ≡ false
+  unfolding wrongAllocation chooses unitFteid
+  unit-given t h = refl
+
+  -- a hold of the unit's F-TEID is the record's hold
+  unit-holding : (shared : Bool) (c : ℕ) (t : Tunnel) → T (tunnelAllowed s t)
+      → restoredHolding shared c (unitFteid s t) ≡ some (tunnelHolding shared c t)
+  unfolding restoredHolding unitFteid tunnelHolding
+  unit-holding shared c t h =
+      λ i. some (record { shared = shared; teid = t .teid; v4 = v4-same (t .v4) i; v6 = v6-same (t .v6) (unit-families t h) i; source = c })
+
+  -- ---- the records
+
+  -- a test that fails on every unit F-TEID fails on those of PDRs and endpoints
+  module _ (q : Fteid → Bool) (no-unit : (t : Tunnel) → T (tunnelAllowed s t) → q (unitFteid s t) ≡ false) where
+    any-place : (live : List ℕ) (l : Place) → T (placeAllowed s live l) → (vs : List Fteid) → any q vs ≡ false
+        → any q (consOption (mapOption (unitFteid s) (placeTunnel l)) vs) ≡ false
+    unfolding placeAllowed placeTunnel any
+    any-place live neither h vs k = k
+    any-place live (tunnel t) h vs k = ap₂ _||_ (no-unit t h) k
+    any-place live (endpoint e) h vs k = k
+
+    any-pdrs : (live : List ℕ) (ps : List Pdr) → T (all (pdrAllowed s live) ps) → any q (collect pdrLocal (map (restoredPdr s) ps)) ≡ false
+    unfolding collect restoredPdr any pdrAllowed pdrTests
+    any-pdrs live [] h = refl
+    any-pdrs live (p ∷ ps) h =
+        any-place live (p .place) (each (pdrTests s live p) (all-head (pdrAllowed s live) p ps h) .1 .1 .1 .1 .0) (collect pdrLocal (map (restoredPdr s) ps))
+        (any-pdrs live ps (all-tail (pdrAllowed s live) p ps h))
+
+    any-both : (es : List Endpoint) → T (all (endpointAllowed s) es) → (vs : List Fteid) → any q vs ≡ false
+        → any q (map endpointLocal (map (restoredEndpoint s) es) ++ vs) ≡ false
+    unfolding restoredEndpoint any endpointAllowed endpointTests
+    any-both [] h vs k = k
+    any-both (e ∷ es) h vs k =
+        ap₂ _||_ (no-unit (e .local) (each (endpointTests s e) (all-head (endpointAllowed s) e es h) .1 .0)) (any-both es (all-tail (endpointAllowed s) e es h) vs k)
+
+  ids-pdrs : (ps : List Pdr) → map newPdrId (map (restoredPdr s) ps) ≡ map pdrId ps
+  unfolding restoredPdr
+  ids-pdrs [] = refl
+  ids-pdrs (p ∷ ps) = ap (λ (ns : List ℕ). p .id ∷ ns) (ids-pdrs ps)
+
+  ids-endpoints : (es : List Endpoint) → map newEndpointId (map (restoredEndpoint s) es) ≡ map endpointId es
+  unfolding restoredEndpoint
+  ids-endpoints [] = refl
+  ids-endpoints (e ∷ es) = ap (λ (ns : List ℕ). e .id ∷ ns) (ids-endpoints es)
+
+  one-place : (l : Place) → (isSome (mapOption (unitFteid s) (placeTunnel l)) && isSome (placeEndpoint l)) ≡ false
+  unfolding placeTunnel placeEndpoint
+  one-place neither = refl
+  one-place (tunnel t) = refl
+  one-place (endpoint e) = refl
+
+  none-both : (ps : List Pdr) → any namesBoth (map (restoredPdr s) ps) ≡ false
+  unfolding any namesBoth restoredPdr
+  none-both [] = refl
+  none-both (p ∷ ps) = ap₂ _||_ (one-place (p .place)) (none-both ps)
+
+  named-place : (live : List ℕ) (l : Place) → T (placeAllowed s live l) → (ns : List ℕ) → T (allIn ns live) → T (allIn (consOption (placeEndpoint l) ns) live)
+  unfolding placeAllowed placeEndpoint allIn
+  named-place live neither h ns k = k
+  named-place live (tunnel t) h ns k = k
+  named-place live (endpoint e) h ns k = both (member e live) (allIn ns live) (and-right (ltb e 256) (member e live) h) k
+
+  named-there : (live : List ℕ) (ps : List Pdr) → T (all (pdrAllowed s live) ps) → T (allIn (collect namedEndpoint (map (restoredPdr s) ps)) live)
+  unfolding collect restoredPdr allIn pdrAllowed pdrTests
+  named-there live [] h = tt
+  named-there live (p ∷ ps) h =
+      named-place live (p .place) (each (pdrTests s live p) (all-head (pdrAllowed s live) p ps h) .1 .1 .1 .1 .0) (collect namedEndpoint (map (restoredPdr s) ps))
+      (named-there live ps (all-tail (pdrAllowed s live) p ps h))
+
+  places-agree : (k l : Place) (i j : ℕ)
+      → localsMayShare (mapOption (unitFteid s) (placeTunnel k)) i (mapOption (unitFteid s) (placeTunnel l)) j ≡ true
+  unfolding localsMayShare placeTunnel fteidsMayShare sameChoice chooseId unitFteid
+  places-agree neither l i j = refl
+  places-agree (tunnel t) neither i j = refl
+  places-agree (tunnel t) (tunnel u) i j = refl
+  places-agree (tunnel t) (endpoint e) i j = refl
+  places-agree (endpoint e) l i j = refl
+
+  choices-agree : (ps : List Pdr) → allPairs choicesAgree (map (restoredPdr s) ps) ≡ true
+  choices-agree ps = allPairs-map (restoredPdr s) choicesAgree (λ p q. unfold choicesAgree restoredPdr in (places-agree (p .place) (q .place) (p .source) (q .source))) ps
+
+  -- ---- holds
+
+  place-holds : (live : List ℕ) (p : Pdr) → T (placeAllowed s live (p .place)) → pdrRestored (restoredPdr s p) ≡ pdrHolding p
+  unfolding pdrRestored restoredPdr pdrHolding
+  place-holds live p h = go (p .place) h
+    where
+      go : (l : Place) → T (placeAllowed s live l)
+          → bindOption (mapOption (unitFteid s) (placeTunnel l)) (restoredHolding true (p .source)) ≡ mapOption (tunnelHolding true (p .source)) (placeTunnel l)
+      go neither g = unfold placeTunnel in refl
+      go (tunnel t) g = unfold placeTunnel placeAllowed in (unit-holding true (p .source) t g)
+      go (endpoint e) g = unfold placeTunnel in refl
+
+  pdr-holds : (live : List ℕ) (ps : List Pdr) → T (all (pdrAllowed s live) ps) → collect pdrRestored (map (restoredPdr s) ps) ≡ collect pdrHolding ps
+  unfolding collect pdrAllowed pdrTests
+  pdr-holds live [] h = refl
+  pdr-holds live (p ∷ ps) h =
+      ap₂ consOption (place-holds live p (each (pdrTests s live p) (all-head (pdrAllowed s live) p ps h) .1 .1 .1 .1 .0))
+      (pdr-holds live ps (all-tail (pdrAllowed s live) p ps h))
+
+  endpoint-holds : (es : List Endpoint) → T (all (endpointAllowed s) es) → collect endpointRestored (map (restoredEndpoint s) es) ≡ map endpointHolding es
+  unfolding collect endpointRestored restoredEndpoint endpointHolding endpointAllowed endpointTests
+  endpoint-holds [] h = refl
+  endpoint-holds (e ∷ es) h =
+      ap₂ consOption (unit-holding false 0 (e .local) (each (endpointTests s e) (all-head (endpointAllowed s) e es h) .1 .0))
+      (endpoint-holds es (all-tail (endpointAllowed s) e es h))
+
+  -- ---- no CHOOSE
+
+  no-pdr-choice : (ps : List Pdr) → collect pdrChoice (map (restoredPdr s) ps) ≡ []
+  unfolding collect pdrChoice restoredPdr choiceOf unitFteid
+  no-pdr-choice [] = refl
+  no-pdr-choice (p ∷ ps) = ap₂ consOption (go (p .place)) (no-pdr-choice ps)
+    where
+      go : (l : Place) → bindOption (mapOption (unitFteid s) (placeTunnel l)) (choiceOf Kind.ofPdr (p .id)) ≡ none
+      go neither = unfold placeTunnel in refl
+      go (tunnel t) = unfold placeTunnel choiceOf unitFteid in refl
+      go (endpoint e) = unfold placeTunnel in refl
+
+  no-endpoint-choice : (es : List Endpoint) → collect endpointChoice (map (restoredEndpoint s) es) ≡ []
+  unfolding collect endpointChoice restoredEndpoint choiceOf unitFteid
+  no-endpoint-choice [] = refl
+  no-endpoint-choice (e ∷ es) = no-endpoint-choice es
+
+  -- ---- the request of a session
+
+  module _ (x : Session) (hx : T (sessionAllowed s x)) where
+    request : Request
+    request = restoredRequest s x
+
+    idsUp : T (ascending (map pdrId (x .pdrs)))
+    unfolding sessionTests
+    idsUp = tests s hs x hx .1 .1 .1 .0
+
+    endpointIdsUp : T (ascending (map endpointId (x .endpoints)))
+    unfolding sessionTests
+    endpointIdsUp = tests s hs x hx .1 .1 .1 .1 .1 .1 .0
+
+    no-fteid : (q : Fteid → Bool) → ((t : Tunnel) → T (tunnelAllowed s t) → q (unitFteid s t) ≡ false) → any q (fteidsOf request) ≡ false
+    unfolding fteidsOf request restoredRequest
+    no-fteid q f =
+        any-both q f (x .endpoints) (endpointsOk s hs x hx) (collect pdrLocal (map (restoredPdr s) (x .pdrs)))
+        (any-pdrs q f (map endpointId (x .endpoints)) (x .pdrs) (pdrsOk s hs x hx))
+
+    once : idTwice request ≡ false
+    unfolding idTwice request restoredRequest createdPdrs createdEndpoints updatedPdrs hasRepeat
+    once =
+        λ i. is-false (hasRepeat (map newPdrId (map (restoredPdr s) (x .pdrs)))) pdrs-once i
+        || (is-false (hasRepeat (map newEndpointId (map (restoredEndpoint s) (x .endpoints)))) endpoints-once i || false)
+      where
+        pdrs-once : T (not (hasRepeat (map newPdrId (map (restoredPdr s) (x .pdrs)))))
+        pdrs-once = subst (λ (ns : List ℕ). T (not (hasRepeat ns))) (sym (ids-pdrs (x .pdrs))) (ascending-once (map pdrId (x .pdrs)) idsUp)
+
+        endpoints-once : T (not (hasRepeat (map newEndpointId (map (restoredEndpoint s) (x .endpoints)))))
+        endpoints-once = subst (λ (ns : List ℕ). T (not (hasRepeat ns))) (sym (ids-endpoints (x .endpoints))) (ascending-once (map endpointId (x .endpoints)) endpointIdsUp)
+
+    not-live : createdLive (newSession (x .seid)) request ≡ false
+    unfolding createdLive livePdrs liveEndpoints newSession
+    not-live = ap₂ _||_ (anyIn-nil (createdPdrs request)) (anyIn-nil (createdEndpoints request))
+
+    absent : absentId (newSession (x .seid)) request ≡ false
+    unfolding absentId request restoredRequest updatedPdrs allIn
+    absent = refl
+
+    names : namesAbsent (newSession (x .seid)) request ≡ false
+    unfolding namesAbsent endpointIdsAfter liveEndpoints newSession without request restoredRequest createdEndpoints
+    names =
+        ap (λ (ns : List ℕ). not (allIn (collect namedEndpoint (map (restoredPdr s) (x .pdrs))) ns)) (ids-endpoints (x .endpoints))
+        ∙ ap not (is-true (allIn (collect namedEndpoint (map (restoredPdr s) (x .pdrs))) (map endpointId (x .endpoints)))
+        (named-there (map endpointId (x .endpoints)) (x .pdrs) (pdrsOk s hs x hx)))
+
+    -- the holds are the session's
+    holds : restoredHoldings request ≡ sessionHoldings x
+    unfolding restoredHoldings sessionHoldings request restoredRequest
+    holds = ap₂ _++_ (endpoint-holds (x .endpoints) (endpointsOk s hs x hx)) (pdr-holds (map endpointId (x .endpoints)) (x .pdrs) (pdrsOk s hs x hx))
+
+    pub no-choices : choices (restoredRequest s x) ≡ []
+    unfolding choices restoredRequest
+    no-choices = ap₂ _++_ (no-endpoint-choice (x .endpoints)) (no-pdr-choice (x .pdrs))
+
+    needs-none : need request ≡ 0
+    unfolding need needFrom request
+    needs-none = ap (needFrom []) no-choices
+
+    module _ (limit : ℕ) (m : Sessions) (fresh : isLive (x .seid) m ≡ false) (room : length m < limit)
+        (separate : T (not (anyIn (sessionTeids x) (heldTeids m)))) where
+      own : T (allPairs agree (sessionHoldings x))
+      unfolding sessionTests
+      own = tests s hs x hx .1 .1 .1 .1 .1 .1 .1 .1 .1 .1 .1 .0
+
+      no-clash : clash m request ≡ false
+      unfolding clash sessionTeids
+      no-clash =
+          ap (λ (hs′ : List Holding). anyIn (map teidOf hs′) (heldTeids m) || not (allPairs agree hs′)) holds
+          ∙ (λ i. is-false (anyIn (sessionTeids x) (heldTeids m)) separate i || not (is-true (allPairs agree (sessionHoldings x)) own i))
+
+      rules-kept : breaksRule s m (newSession (x .seid)) request ≡ false
+      unfolding breaksRule brokenRules updatesRemoved endpointInUse updatedPdrs anyIn request restoredRequest
+      rules-kept =
+          λ i. once i || (not-live i || (absent i || (false || (none-both (x .pdrs) i || (names i || (false || (not (choices-agree (x .pdrs) i)
+          || (no-fteid (lacksFamily s) unit-lacks i || (no-fteid (strange s) unit-strange i || (no-clash i || false))))))))))
+
+      enough-room : noRoom limit 50 s m (newSession (x .seid)) request ≡ false
+      unfolding noRoom tooManySessions tooManyPdrs tooManyEndpoints tooFewTeids newSession request restoredRequest
+      enough-room =
+          λ i. sessions-fit i || (pdrs-fit i || (endpoints-fit i || (teids-fit i || false)))
+        where
+          sessions-fit : leb limit (length m) ≡ false
+          sessions-fit = is-false (leb limit (length m)) (no-leb room)
+
+          few : (k n l : ℕ) → l ≡ n → n ≤ k → ltb k (0 - 0 + l) ≡ false
+          few k n l e h = is-false (ltb k (0 - 0 + l)) (no-ltb (le-trans (omega arith) h))
+
+          pdrs-fit : ltb 16 (0 - 0 + length (map (restoredPdr s) (x .pdrs))) ≡ false
+          pdrs-fit = few 16 (length (x .pdrs)) (length (map (restoredPdr s) (x .pdrs))) (length-map (x .pdrs) (restoredPdr s)) (fewPdrs s hs x hx)
+
+          endpoints-fit : ltb 8 (0 - 0 + length (map (restoredEndpoint s) (x .endpoints))) ≡ false
+          endpoints-fit = few 8 (length (x .endpoints)) (length (map (restoredEndpoint s) (x .endpoints))) (length-map (x .endpoints) (restoredEndpoint s)) (fewEndpoints s hs x hx)
+
+          teids-fit : ltb (freeCount s m) (need request) ≡ false
+          teids-fit = ap (ltb (freeCount s m)) needs-none ∙ leb·suc-zero (freeCount s m)
+
+      -- accepted
+      pub restored-judged : judge limit 50 s m (newSession (x .seid)) (restoredRequest s x) ≡ plain 1
+      unfolding judge request restoredRequest invalidAllocation
+      restored-judged =
+          λ i. pick (fresh i) (plain 64) (pick (no-fteid (wrongAllocation true) unit-given i) (plain 71) (pick false (plain 76) (pick (rules-kept i) (plain 73) (pick (enough-room i) (plain 75) (plain 1)))))

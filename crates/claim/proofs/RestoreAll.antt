@@ -1,0 +1,327 @@
+-- Sessions restored one after the other, in any order, into an empty table make the table that holds them.
+-- Assumes nothing.
+use mathlib.Core.Path.{_≡_, refl, sym, ap, ap₂, _∙_, subst}
+use Prim.Native.Nat.{ℕ, suc, _+_, _-_, _^_, _≤_, _<_, zero-le}
+use native.Mathlib.Nat.{le-trans, le-of-eq}
+use native.Mathlib.Omega.{arith}
+use mathlib.Core.Bool.{Bool, true, false, not, _&&_, _||_}
+use mathlib.Core.List.{List, [], _∷_, _++_, map, append-nil, List·Permᴰ}
+use lib.ListN.{length, length-append}
+use lib.Dec.{T, leb, eqb, leb→le}
+use mir.Facts.{yes-leb}
+use Rattle.octets.specs.Choice.{isSome}
+use Rattle.octets.specs.Octets.{octets, put, be, concatMap, octetAt, numberAt}
+use Rattle.octets.specs.Lists.{member, anyIn, all, allPairs, keep, findBy, ascending, insertBy, insertAll}
+use Rattle.octets.proofs.Tests.{pick-yes, pick-no, each, Each, all-of-each, and-left, all-head, all-tail, all-cons, neither-one, no-eqb, of-true}
+use Rattle.octets.proofs.Ordered.{perm-length, all-perm, pairs-head, pairs-tail, pairs-perm, otherKey, insertAll-perm, insert-length, insert-all, insert-pairs, insert-ascending, ascending-other, ne-of}
+use Rattle.rules.specs.Model.{Settings, Session, Sessions, seidOf, sessionTeids, heldTeids, freeTeids}
+use Rattle.rules.specs.Layout.{encode}
+use Rattle.laws.proofs.LayoutLaws.{ipv4-four}
+use Rattle.rules.specs.Sound.{settingsAllowed, sessionAllowed, apart, sessionsTests, sessionsAllowed}
+use Rattle.rules.specs.Message.{readRequest, headerAllowed, firstOctetAllowed, Request}
+use Rattle.laws.proofs.MessageLaws.{length-one}
+use Rattle.rules.specs.Elements.{fseidOctets}
+use Rattle.laws.proofs.ReplyLaws.{reply-cause, sequence-three}
+use Rattle.claim.proofs.RestorationJudge.{no-choices}
+use Rattle.rules.specs.Grants.{Grant, choices, grantFrom, grants, grantsOf}
+use Rattle.rules.specs.Stages.{hasSeid, sessionOf, isLive, plain}
+use Rattle.rules.specs.Apply.{otherSession, removeSession, putSession}
+use Rattle.rules.specs.Reply.{element, replyBody, nodeIdElement, offendingElement, acceptedPart, unitFseid, created}
+use Rattle.rules.specs.Serve.{Served, replyTo, serve}
+use Rattle.rules.specs.Live.{accepted, replyCause}
+use Rattle.rules.specs.Restoration.{Peer, peerAllowed, restoration}
+use Rattle.claim.proofs.RestorationRead.{msg-kind, msg-allowed, msg-request}
+use Rattle.claim.proofs.RestorationApply.{restored-call, insertAll-up, under-nil}
+use Rattle.rules.specs.Claim.{Restore, restored, restoreAllowed, restoreCall, restoreCalls, tableAfter, eventOf, tableAfterAll, eventsOf}
+
+-- ---- nothing in common
+
+not-or-left : (a b : Bool) → T (not (a || b)) → T (not a)
+not-or-left true b h = absurd h
+not-or-left false b h = tt
+
+not-or-right : (a b : Bool) → T (not (a || b)) → T (not b)
+not-or-right true b h = absurd h
+not-or-right false b h = h
+
+turn-eqb : (a b : ℕ) → T (not (eqb a b)) → T (not (eqb b a))
+turn-eqb a b h = no-eqb b a (λ e. ne-of a b h (sym e))
+
+disjoint-member : (xs : List ℕ) (y : ℕ) (ys : List ℕ) → T (not (anyIn xs (y ∷ ys))) → T (not (member y xs))
+unfolding anyIn member
+disjoint-member [] y ys h = tt
+disjoint-member (x ∷ xs) y ys h =
+    neither-one (eqb y x) (member y xs)
+    (turn-eqb x y (not-or-left (eqb x y) (member x ys) (not-or-left (eqb x y || member x ys) (anyIn xs (y ∷ ys)) h)))
+    (disjoint-member xs y ys (not-or-right (eqb x y || member x ys) (anyIn xs (y ∷ ys)) h))
+
+disjoint-rest : (xs : List ℕ) (y : ℕ) (ys : List ℕ) → T (not (anyIn xs (y ∷ ys))) → T (not (anyIn xs ys))
+unfolding anyIn member
+disjoint-rest [] y ys h = tt
+disjoint-rest (x ∷ xs) y ys h =
+    neither-one (member x ys) (anyIn xs ys)
+    (not-or-right (eqb x y) (member x ys) (not-or-left (eqb x y || member x ys) (anyIn xs (y ∷ ys)) h))
+    (disjoint-rest xs y ys (not-or-right (eqb x y || member x ys) (anyIn xs (y ∷ ys)) h))
+
+pub disjoint-turn : (xs ys : List ℕ) → T (not (anyIn xs ys)) → T (not (anyIn ys xs))
+unfolding anyIn
+disjoint-turn xs [] h = tt
+disjoint-turn xs (y ∷ ys) h = neither-one (member y xs) (anyIn ys xs) (disjoint-member xs y ys h) (disjoint-turn xs ys (disjoint-rest xs y ys h))
+
+member-append : (x : ℕ) (ys zs : List ℕ) → T (not (member x ys)) → T (not (member x zs)) → T (not (member x (ys ++ zs)))
+unfolding member
+member-append x [] zs h k = k
+member-append x (y ∷ ys) zs h k =
+    neither-one (eqb x y) (member x (ys ++ zs)) (not-or-left (eqb x y) (member x ys) h) (member-append x ys zs (not-or-right (eqb x y) (member x ys) h) k)
+
+pub disjoint-append : (xs ys zs : List ℕ) → T (not (anyIn xs ys)) → T (not (anyIn xs zs)) → T (not (anyIn xs (ys ++ zs)))
+unfolding anyIn
+disjoint-append [] ys zs h k = tt
+disjoint-append (x ∷ xs) ys zs h k =
+    neither-one (member x (ys ++ zs)) (anyIn xs (ys ++ zs))
+    (member-append x ys zs (not-or-left (member x ys) (anyIn xs ys) h) (not-or-left (member x zs) (anyIn xs zs) k))
+    (disjoint-append xs ys zs (not-or-right (member x ys) (anyIn xs ys) h) (not-or-right (member x zs) (anyIn xs zs) k))
+
+disjoint-nil : (xs : List ℕ) → T (not (anyIn xs []))
+unfolding anyIn member
+disjoint-nil [] = tt
+disjoint-nil (x ∷ xs) = disjoint-nil xs
+
+-- ---- a session beside others
+
+pub apart-turn : (x y : Session) → T (apart x y) → T (apart y x)
+unfolding apart
+apart-turn x y h = disjoint-turn (sessionTeids x) (sessionTeids y) h
+
+other-seid-turn : (x y : Session) → T (otherKey seidOf x y) → T (otherKey seidOf y x)
+other-seid-turn x y h = turn-eqb (x .seid) (y .seid) h
+
+-- no TEID in common with any session
+pub separate-all : (x : Session) (m : Sessions) → T (all (apart x) m) → T (not (anyIn (sessionTeids x) (heldTeids m)))
+unfolding heldTeids apart
+separate-all x [] h = disjoint-nil (sessionTeids x)
+separate-all x (y ∷ m) h = disjoint-append (sessionTeids x) (sessionTeids y) (heldTeids m) (all-head (apart x) y m h) (separate-all x m (all-tail (apart x) y m h))
+
+pub fresh-seid : (x : Session) (m : Sessions) → T (all (otherKey seidOf x) m) → isLive (x .seid) m ≡ false
+unfolding isLive sessionOf findBy hasSeid
+fresh-seid x [] h = refl
+fresh-seid x (y ∷ m) h =
+    ap isSome (pick-no (eqb (y .seid) (x .seid)) _ _ (turn-eqb (x .seid) (y .seid) (all-head (otherKey seidOf x) y m h)))
+    ∙ fresh-seid x m (all-tail (otherKey seidOf x) y m h)
+
+remove-none : (x : Session) (m : Sessions) → T (all (otherKey seidOf x) m) → removeSession (x .seid) m ≡ m
+unfolding removeSession keep otherSession hasSeid
+remove-none x [] h = refl
+remove-none x (y ∷ m) h =
+    pick-yes (not (eqb (y .seid) (x .seid))) _ _ (turn-eqb (x .seid) (y .seid) (all-head (otherKey seidOf x) y m h))
+    ∙ ap (λ (n : Sessions). y ∷ n) (remove-none x m (all-tail (otherKey seidOf x) y m h))
+
+pub put-fresh : (x : Session) (m : Sessions) → T (all (otherKey seidOf x) m) → putSession x m ≡ insertBy seidOf x m
+unfolding putSession
+put-fresh x m h = ap (insertBy seidOf x) (remove-none x m h)
+
+turn-all : (r : Session → Session → Bool) → ((x y : Session) → T (r x y) → T (r y x)) → (x : Session) (m : Sessions) → T (all (r x) m) → T (all (λ y. r y x) m)
+unfolding all
+turn-all r turn x [] h = tt
+turn-all r turn x (y ∷ m) h = all-cons (λ z. r z x) y m (turn x y (all-head (r x) y m h)) (turn-all r turn x m (all-tail (r x) y m h))
+
+-- one more session keeps the rules
+pub insert-allowed : (limit : ℕ) (s : Settings) (x : Session) (m : Sessions) → T (sessionsAllowed limit s m) → T (sessionAllowed s x)
+    → T (all (otherKey seidOf x) m) → T (all (apart x) m) → length m < limit → T (sessionsAllowed limit s (insertBy seidOf x m))
+unfolding sessionsAllowed sessionsTests
+insert-allowed limit s x m hm hx other sep room =
+    let e = each (sessionsTests limit s m) hm in
+    all-of-each (sessionsTests limit s (insertBy seidOf x m)) (
+      yes-leb (le-trans (le-of-eq (insert-length seidOf x m)) room),
+      (
+        insert-ascending seidOf x m other (e .1 .0),
+        (
+          insert-all seidOf (sessionAllowed s) x m hx (e .1 .1 .0),
+          (insert-pairs seidOf apart x m sep (turn-all apart apart-turn x m sep) (e .1 .1 .1 .0), tt),
+        ),
+      ),
+    )
+
+-- an empty table keeps the rules
+pub empty-allowed : (limit : ℕ) (s : Settings) → T (sessionsAllowed limit s [])
+unfolding sessionsAllowed sessionsTests ascending all allPairs
+empty-allowed limit s = all-of-each (sessionsTests limit s []) (yes-leb {a = 0} {b = limit} zero-le, (tt, (tt, (tt, tt))))
+
+-- ---- the reply is an acceptance
+
+module _ (s : Settings) (hs : T (settingsAllowed s)) where
+  body-short : (n : ℕ) → length (replyBody 50 s n (plain 1) []) ≤ 2000
+  unfolding replyBody nodeIdElement offendingElement acceptedPart unitFseid created grantsOf keep concatMap fseidOctets
+  body-short n =
+      let node = element 60 (0 ∷ s .ipv4) in
+      let cause = element 19 (1 ∷ []) in
+      let fseid = element 57 (fseidOctets n (s .ipv4) []) in
+      let a = length-append node (cause ++ (fseid ++ [])) in
+      let b = length-append cause (fseid ++ []) in
+      let c = length-append fseid [] in
+      let d = length-one 60 (0 ∷ s .ipv4) in
+      let e = length-one 19 (1 ∷ []) in
+      let f = length-one 57 (fseidOctets n (s .ipv4) []) in
+      let g = length-fseid n in
+      let h = ipv4-four s hs in
+      omega arith
+    where
+      length-fseid : (k : ℕ) → length (fseidOctets k (s .ipv4) []) ≡ 9 + length (s .ipv4)
+      length-fseid k = unfold be in (let e = ap length (append-nil (s .ipv4)) in omega arith)
+
+  module _ (x : Session) (hx : T (sessionAllowed s x)) (p : Peer) (hp : T (peerAllowed p)) (m : Sessions) where
+    abbrev msg : List ℕ
+    msg = restoration s p x
+
+    no-grants : grants s m (readRequest msg) ≡ []
+    unfolding grants grantFrom
+    no-grants = ap (λ (r : Request). grantFrom [] (freeTeids s m) (choices r)) (msg-request s hs p hp x hx) ∙ ap (grantFrom [] (freeTeids s m)) (no-choices s hs x hx)
+
+    header-long : 16 ≤ length msg
+    unfolding headerAllowed
+    header-long =
+        leb→le 16 (length msg) (and-left (leb 16 (length msg)) (firstOctetAllowed (octetAt msg 0))
+        (and-left (leb 16 (length msg) && firstOctetAllowed (octetAt msg 0)) (eqb (4 + numberAt 2 2 msg) (length msg)) (msg-allowed s hs p hp x hx)))
+
+    pub restored-cause : (space : List ℕ) → replyCause (put 0 (replyTo s m msg (plain 1)) space) ≡ 1
+    unfolding replyTo
+    restored-cause space =
+        reply-cause s msg (readRequest msg .seid) (plain 1) (grants s m (readRequest msg)) space (ipv4-four s hs) (sequence-three msg header-long)
+        (le-trans (le-of-eq (ap₂ (λ (k : ℕ) (gs : List Grant). length (replyBody k s (readRequest msg .seid) (plain 1) gs)) (msg-kind s hs p hp x hx) no-grants)) (body-short (readRequest msg .seid)))
+
+-- ---- one after the other
+
+-- what stands beside a list of sessions stands beside it with one more
+beside-insert : (r : Session → Session → Bool) → ((x y : Session) → T (r x y) → T (r y x)) → (x : Session) (m xs : Sessions)
+    → T (all (r x) xs) → T (all (λ y. all (r y) m) xs) → T (all (λ y. all (r y) (insertBy seidOf x m)) xs)
+unfolding all
+beside-insert r turn x m [] h k = tt
+beside-insert r turn x m (y ∷ xs) h k =
+    all-cons (λ z. all (r z) (insertBy seidOf x m)) y xs
+    (insert-all seidOf (r y) x m (turn x y (all-head (r x) y xs h)) (all-head (λ z. all (r z) m) y xs k))
+    (beside-insert r turn x m xs (all-tail (r x) y xs h) (all-tail (λ z. all (r z) m) y xs k))
+
+-- sessions that can be put in one after the other
+pub record Ready (limit : ℕ) (s : Settings) (m : Sessions) (xs : Sessions) : Type 0 where
+  pub sound : T (sessionsAllowed limit s m)
+  pub allowed : T (all (sessionAllowed s) xs)
+  pub seids : T (allPairs (otherKey seidOf) xs)
+  pub teids : T (allPairs apart xs)
+  pub newSeids : T (all (λ x. all (otherKey seidOf x) m) xs)
+  pub newTeids : T (all (λ x. all (apart x) m) xs)
+  pub room : length m + length xs ≤ limit
+
+ready-next : (limit : ℕ) (s : Settings) (m : Sessions) (x : Session) (xs : Sessions) → Ready limit s m (x ∷ xs) → Ready limit s (insertBy seidOf x m) xs
+ready-next limit s m x xs r =
+    let fits : length m < limit = fit (length m) (length xs) limit (r .room) in
+    record {
+      sound = insert-allowed limit s x m (r .sound) (all-head (sessionAllowed s) x xs (r .allowed)) (all-head (λ y. all (otherKey seidOf y) m) x xs (r .newSeids))
+          (all-head (λ y. all (apart y) m) x xs (r .newTeids)) fits;
+      allowed = all-tail (sessionAllowed s) x xs (r .allowed);
+      seids = pairs-tail (otherKey seidOf) x xs (r .seids);
+      teids = pairs-tail apart x xs (r .teids);
+      newSeids = beside-insert (otherKey seidOf) other-seid-turn x m xs (pairs-head (otherKey seidOf) x xs (r .seids)) (all-tail (λ y. all (otherKey seidOf y) m) x xs (r .newSeids));
+      newTeids = beside-insert apart apart-turn x m xs (pairs-head apart x xs (r .teids)) (all-tail (λ y. all (apart y) m) x xs (r .newTeids));
+      room = more (length (insertBy seidOf x m)) (length m) (length xs) limit (insert-length seidOf x m) (r .room);
+    }
+  where
+    fit : (a b c : ℕ) → a + suc b ≤ c → a < c
+    fit a b c h = omega arith
+
+    more : (k a b c : ℕ) → k ≡ suc a → a + suc b ≤ c → k + b ≤ c
+    more k a b c e h = omega arith
+
+module _ (s : Settings) (hs : T (settingsAllowed s)) (limit : ℕ) (small : limit < 256 ^ 2) where
+  -- one restoration: the table after it, and its acceptance
+  module _ (m : Sessions) (r : Restore) (ok : T (restoreAllowed r)) (xs : Sessions) (ready : Ready limit s m (r .session ∷ xs)) where
+    okFacts : Each (peerAllowed (r .peer) ∷ octets (r .space) ∷ leb 1024 (length (r .space)) ∷ [])
+    unfolding restoreAllowed
+    okFacts = each (peerAllowed (r .peer) ∷ octets (r .space) ∷ leb 1024 (length (r .space)) ∷ []) ok
+
+    abbrev x : Session
+    x = r .session
+
+    hx : T (sessionAllowed s x)
+    hx = all-head (sessionAllowed s) x xs (ready .allowed)
+
+    other : T (all (otherKey seidOf x) m)
+    other = all-head (λ y. all (otherKey seidOf y) m) x xs (ready .newSeids)
+
+    fits : length m < limit
+    fits = fit (length m) (length xs) limit (ready .room)
+      where
+        fit : (a b c : ℕ) → a + suc b ≤ c → a < c
+        fit a b c h = omega arith
+
+    call : serve limit (encode limit s m) (restoration s (r .peer) x) (r .space)
+        ≡ record { outcome = 0; space = put 0 (replyTo s m (restoration s (r .peer) x) (plain 1)) (r .space); table = encode limit s (putSession x m) }
+    call =
+        restored-call s hs x hx limit m (fresh-seid x m other) fits (separate-all x m (all-head (λ y. all (apart y) m) x xs (ready .newTeids))) (r .peer) (okFacts .0)
+        small (ready .sound) (r .space) (leb→le 1024 (length (r .space)) (okFacts .1 .1 .0))
+
+    table-after : tableAfter limit (encode limit s m) (restoreCall s r) ≡ encode limit s (insertBy seidOf x m)
+    unfolding tableAfter restoreCall
+    table-after = ap (λ (v : Served). v .table) call ∙ ap (encode limit s) (put-fresh x m other)
+
+    is-accepted : T (accepted (eventOf limit (encode limit s m) (restoreCall s r)))
+    unfolding accepted eventOf restoreCall
+    is-accepted = of-true (ap₂ (λ (o : ℕ) (l : List ℕ). eqb o 0 && eqb (replyCause l) 1) (ap (λ (v : Served). v .outcome) call) (ap (λ (v : Served). v .space) call) ∙ ap (λ (c : ℕ). eqb c 1) (restored-cause s hs x hx (r .peer) (okFacts .0) m (r .space)))
+
+  run-table : (rs : List Restore) (m : Sessions) → T (all restoreAllowed rs) → Ready limit s m (map restored rs)
+      → tableAfterAll limit (encode limit s m) (restoreCalls s rs) ≡ encode limit s (insertAll seidOf (map restored rs) m)
+  unfolding tableAfterAll restoreCalls insertAll
+  run-table [] m ok ready = refl
+  run-table (r ∷ rs) m ok ready =
+      ap (λ (t : List ℕ). tableAfterAll limit t (restoreCalls s rs)) (table-after m r (all-head restoreAllowed r rs ok) (map restored rs) ready)
+      ∙ run-table rs (insertBy seidOf (r .session) m) (all-tail restoreAllowed r rs ok) (ready-next limit s m (r .session) (map restored rs) ready)
+
+  run-accepted : (rs : List Restore) (m : Sessions) → T (all restoreAllowed rs) → Ready limit s m (map restored rs)
+      → T (all accepted (eventsOf limit (encode limit s m) (restoreCalls s rs)))
+  unfolding eventsOf restoreCalls all
+  run-accepted [] m ok ready = tt
+  run-accepted (r ∷ rs) m ok ready =
+      all-cons accepted (eventOf limit (encode limit s m) (restoreCall s r)) (eventsOf limit (tableAfter limit (encode limit s m) (restoreCall s r)) (restoreCalls s rs))
+      (is-accepted m r (all-head restoreAllowed r rs ok) (map restored rs) ready)
+      (subst (λ (t : List ℕ). T (all accepted (eventsOf limit t (restoreCalls s rs)))) (sym (table-after m r (all-head restoreAllowed r rs ok) (map restored rs) ready))
+      (run-accepted rs (insertBy seidOf (r .session) m) (all-tail restoreAllowed r rs ok) (ready-next limit s m (r .session) (map restored rs) ready)))
+
+  -- ---- in any order
+
+  module _ (m : Sessions) (hm : T (sessionsAllowed limit s m)) (rs : List Restore) (ok : T (all restoreAllowed rs)) (order : List·Permᴰ m (map restored rs)) where
+    facts : Each (sessionsTests limit s m)
+    unfolding sessionsAllowed
+    facts = each (sessionsTests limit s m) hm
+
+    up : T (ascending (map seidOf m))
+    unfolding sessionsTests
+    up = facts .1 .0
+
+    ready : Ready limit s [] (map restored rs)
+    unfolding sessionsTests all
+    ready =
+        record {
+          sound = empty-allowed limit s;
+          allowed = all-perm (sessionAllowed s) order (facts .1 .1 .0);
+          seids = pairs-perm (otherKey seidOf) other-seid-turn order (ascending-other seidOf m up);
+          teids = pairs-perm apart apart-turn order (facts .1 .1 .1 .0);
+          newSeids = nothing (map restored rs);
+          newTeids = nothing (map restored rs);
+          room = few (length (map restored rs)) (length m) limit (perm-length order) (leb→le (length m) limit (facts .0));
+        }
+      where
+        nothing : (xs : Sessions) → T (all (λ x. true) xs)
+        nothing [] = tt
+        nothing (y ∷ ys) = nothing ys
+
+        few : (a b c : ℕ) → b ≡ a → b ≤ c → 0 + a ≤ c
+        few a b c e h = omega arith
+
+    -- the restored table is the table of the sessions
+    pub restored-table : tableAfterAll limit (encode limit s []) (restoreCalls s rs) ≡ encode limit s m
+    restored-table =
+        run-table rs [] ok ready
+        ∙ ap (encode limit s) (sym (insertAll-perm seidOf order (ascending-other seidOf m up) []) ∙ insertAll-up seidOf m [] up (under-nil seidOf m))
+
+    -- and every restoration is accepted
+    pub restored-accepted : T (all accepted (eventsOf limit (encode limit s []) (restoreCalls s rs)))
+    restored-accepted = run-accepted rs [] ok ready

@@ -1,0 +1,96 @@
+-- Demand 3 from one fact about one request: an accepted request keeps the rules and changes the table as it changes the live set.
+-- Assumes nothing.
+use mathlib.Core.Path.{_≡_, refl, sym, ap, ap₂, _∙_, subst}
+use Prim.Native.Nat.{ℕ, _^_, _<_}
+use mathlib.Core.Bool.{Bool, true, false, _&&_}
+use mathlib.Core.List.{List, [], _∷_, map, List·Permᴰ}
+use lib.ListN.{length}
+use lib.Dec.{T, eqb}
+use Rattle.octets.specs.Choice.{pick}
+use Rattle.octets.specs.Octets.{octets}
+use Rattle.octets.specs.Lists.{all}
+use Rattle.octets.proofs.Tests.{and-left, and-right, all-head, all-tail}
+use Rattle.rules.specs.Model.{Settings, Sessions}
+use Rattle.rules.specs.Layout.{tableLength, encode}
+use Rattle.rules.specs.Sound.{settingsAllowed, sessionsAllowed, make, Made, countFree}
+use Rattle.rules.specs.Serve.{serve}
+use Rattle.rules.specs.Live.{Event, replied, accepted, liveStep, liveFrom, live}
+use Rattle.claim.proofs.RestoreAll.{empty-allowed, restored-table, restored-accepted}
+use Rattle.rules.specs.Claim.{Call, request, count, callAllowed, tableAfter, eventOf, tableAfterAll, eventsOf, restored, restoreCalls, mapOf, liveAfter, Claim}
+
+-- what one call does to a table and to the live set: both go to sessions m′ that keep the rules
+pub record Kept (limit : ℕ) (s : Settings) (m : Sessions) (t : List ℕ) (e : Event) : Type 0 where
+  pub after : Sessions
+  pub sound : T (sessionsAllowed limit s after)
+  pub table : t ≡ encode limit s after
+  pub live : liveStep m e ≡ after
+
+-- the fact about one request
+unfoldable pub Keeps : ℕ → Type 0
+Keeps limit =
+    (s : Settings) (m : Sessions) (msg space : List ℕ) → T (settingsAllowed s) → T (sessionsAllowed limit s m) → T (octets msg) → T (octets space)
+    → Kept limit s m (serve limit (encode limit s m) msg space .table)
+    (replied msg (serve limit (encode limit s m) msg space .outcome) (serve limit (encode limit s m) msg space .space))
+
+module _ (limit : ℕ) (keeps : Keeps limit) (s : Settings) (hs : T (settingsAllowed s)) where
+  one : (m : Sessions) (c : Call) → T (sessionsAllowed limit s m) → T (callAllowed c) → Kept limit s m (tableAfter limit (encode limit s m) c) (eventOf limit (encode limit s m) c)
+  unfolding Keeps callAllowed tableAfter eventOf liveStep accepted
+  one m (request msg space) hm hc = keeps s m msg space hs hm (and-left (octets msg) (octets space) hc) (and-right (octets msg) (octets space) hc)
+  one m count hm hc = record { after = m; sound = hm; table = refl; live = refl }
+
+  -- calls one after the other
+  record KeptAll (m : Sessions) (cs : List Call) : Type 0 where
+    sound : T (sessionsAllowed limit s (liveFrom m (eventsOf limit (encode limit s m) cs)))
+    table : tableAfterAll limit (encode limit s m) cs ≡ encode limit s (liveFrom m (eventsOf limit (encode limit s m) cs))
+
+  kept-all : (cs : List Call) (m : Sessions) → T (sessionsAllowed limit s m) → T (all callAllowed cs) → KeptAll m cs
+  unfolding tableAfterAll eventsOf liveFrom
+  kept-all [] m hm hc = record { sound = hm; table = refl }
+  kept-all (c ∷ cs) m hm hc =
+      let k = one m c hm (all-head callAllowed c cs hc) in
+      let ih = kept-all cs (k .after) (k .sound) (all-tail callAllowed c cs hc) in
+      let same : liveFrom (k .after) (eventsOf limit (encode limit s (k .after)) cs) ≡ liveFrom (liveStep m (eventOf limit (encode limit s m) c)) (eventsOf limit (tableAfter limit (encode limit s m) c) cs)
+      = ap₂ (λ (n : Sessions) (t : List ℕ). liveFrom n (eventsOf limit t cs)) (sym (k .live)) (sym (k .table)) in
+      record {
+        sound = subst (λ (n : Sessions). T (sessionsAllowed limit s n)) same (ih .sound);
+        table = ap (λ (t : List ℕ). tableAfterAll limit t cs) (k .table) ∙ ih .table ∙ ap (encode limit s) same;
+      }
+
+-- an empty table that was made is the empty table
+made-empty : (limit : ℕ) (s : Settings) (a : List ℕ) → T (make limit s a .made) → make limit s a .table ≡ encode limit s []
+unfolding make
+made-empty limit s a h = go (settingsAllowed s && eqb (length a) (tableLength limit)) h
+  where
+    go : (b : Bool) → T (pick {X = Made} b (record { made = true; table = encode limit s [] }) (record { made = false; table = a }) .made)
+        → pick {X = Made} b (record { made = true; table = encode limit s [] }) (record { made = false; table = a }) .table ≡ encode limit s []
+    go true h = refl
+    go false h = absurd h
+
+made-settings : (limit : ℕ) (s : Settings) (a : List ℕ) → T (make limit s a .made) → T (settingsAllowed s)
+unfolding make
+made-settings limit s a h = and-left (settingsAllowed s) (eqb (length a) (tableLength limit)) (go (settingsAllowed s && eqb (length a) (tableLength limit)) h)
+  where
+    go : (b : Bool) → T (pick {X = Made} b (record { made = true; table = encode limit s [] }) (record { made = false; table = a }) .made) → T b
+    go true h = tt
+    go false h = h
+
+-- the claim
+pub claim : (limit : ℕ) → limit < 256 ^ 2 → Keeps limit → Claim limit
+unfolding Claim liveAfter live
+claim limit small keeps s a b cs rs ha hb hc hr order =
+    let hs = made-settings limit s a ha in
+    let t = encode limit s [] in
+    let ea = made-empty limit s a ha in
+    let eb = made-empty limit s b hb in
+    let k = kept-all limit keeps s hs cs [] (empty-allowed limit s) hc in
+    let m = liveFrom [] (eventsOf limit t cs) in
+    let order′ : List·Permᴰ m (map restored rs) = subst (λ (u : List ℕ). List·Permᴰ (liveFrom [] (eventsOf limit u cs)) (map restored rs)) ea order in
+    let same : tableAfterAll limit (make limit s b .table) (restoreCalls s rs) ≡ tableAfterAll limit (make limit s a .table) cs
+    = ap (λ (u : List ℕ). tableAfterAll limit u (restoreCalls s rs)) eb ∙ restored-table s hs limit small m (k .sound) rs hr order′
+    ∙ sym (ap (λ (u : List ℕ). tableAfterAll limit u cs) ea ∙ k .table) in
+    record {
+      each = subst (λ (u : List ℕ). T (all accepted (eventsOf limit u (restoreCalls s rs)))) (sym eb) (restored-accepted s hs limit small m (k .sound) rs hr order′);
+      octetsEqual = same;
+      countEqual = ap (countFree limit) same;
+      mapEqual = ap mapOf same;
+    }

@@ -1,0 +1,5 @@
+pub mod BoundLaws
+pub mod ElementLaws
+pub mod LayoutLaws
+pub mod MessageLaws
+pub mod ReplyLaws

@@ -1,0 +1,91 @@
+-- The reply's cause is read back from the reply space.
+-- Assumes nothing.
+use mathlib.Core.Path.{_≡_, sym, ap, _∙_}
+use Prim.Native.Nat.{ℕ, suc, _+_, _-_, _^_, _≤_, _<_, suc-le-suc}
+use native.Mathlib.Nat.{le-trans, le-of-eq}
+use native.Mathlib.Omega.{arith}
+use mathlib.Core.Bool.{Bool, true, false}
+use mathlib.Core.Option.{Option, some}
+use mathlib.Core.List.{List, [], _∷_, _++_}
+use lib.ListN.{length, take, drop, length-append, length-drop}
+use lib.Dec.{eqb, lit<, lit≤}
+use lib.Seq.{take-at, drop-at, drop-drop, length-take-le}
+use Rattle.octets.specs.Choice.{pick, valueOr, mapOption}
+use Rattle.octets.specs.Octets.{be, numberAt, octetAt, put}
+use Rattle.octets.specs.Lists.{findBy}
+use Rattle.octets.proofs.Numbers.{number-be}
+use Rattle.rules.specs.Model.{Settings}
+use Rattle.rules.specs.Message.{Element, elements, body, kindOf, headerSeid, sequenceOf, hasType, contentIn, contentOf}
+use Rattle.laws.proofs.MessageLaws.{Fits, el, elements-cons}
+use Rattle.rules.specs.Grants.{Grant}
+use Rattle.rules.specs.Stages.{Verdict}
+use Rattle.rules.specs.Reply.{element, message, nodeIdElement, offendingElement, acceptedPart, replyBody, replySeid, reply}
+use Rattle.rules.specs.Live.{replyIn, replyElements, replyCause}
+
+small : {n : ℕ} → n ≤ 2048 → n < 256 ^ 2
+small h = le-trans (suc-le-suc h) (lit≤ tt)
+
+-- ---- a message in a space
+
+module _ (kind seid : ℕ) (q xs space : List ℕ) (three : length q ≡ 3) (short : length xs ≤ 2000) where
+  abbrev msg : List ℕ
+  msg = message kind seid q xs
+
+  length-message : length msg ≡ 16 + length xs
+  unfolding message be
+  length-message = let e = length-append q (0 ∷ xs) in omega arith
+
+  number-there : numberAt 2 2 (put 0 msg space) ≡ 12 + length xs
+  unfolding put numberAt message be
+  number-there = number-be 2 (12 + length xs) (small (omega arith))
+
+  -- the reply is found in its space
+  pub found : replyIn (put 0 msg space) ≡ msg
+  unfolding replyIn put
+  found =
+      ap (λ (n : ℕ). take (4 + n) (put 0 msg space)) number-there
+      ∙ take-at msg (drop (0 + length msg) space) (4 + (12 + length xs)) (length-message ∙ regroup (length xs))
+    where
+      regroup : (n : ℕ) → 16 + n ≡ 4 + (12 + n)
+      regroup n = omega arith
+
+  pub body-there : body msg ≡ xs
+  unfolding body message be
+  body-there = sym (drop-drop 1 3 (q ++ 0 ∷ xs)) ∙ ap (drop 1) (drop-at q (0 ∷ xs) 3 three)
+
+  pub elements-there : replyElements (put 0 msg space) ≡ elements xs
+  unfolding replyElements
+  elements-there = ap (λ (l : List ℕ). elements (body l)) found ∙ ap elements body-there
+
+-- ---- the cause
+
+one-fits : (t : ℕ) → t < 256 ^ 2 → (c : ℕ) → Fits t (c ∷ [])
+unfolding Fits
+one-fits t h c = (h, lit< tt)
+
+-- Node ID where there is one, then the cause
+cause-first : (establishing : Bool) (s : Settings) (c : ℕ) (rest : List ℕ) → length (s .ipv4) ≡ 4
+    → contentOf 19 (elements (pick establishing (element 60 (0 ∷ s .ipv4)) [] ++ (element 19 (c ∷ []) ++ rest))) ≡ some (c ∷ [])
+unfolding contentOf findBy hasType
+cause-first true s c rest four =
+    ap (λ (es : List Element). mapOption contentIn (findBy (hasType 19) es))
+    (elements-cons 60 (0 ∷ s .ipv4) (element 19 (c ∷ []) ++ rest) node-fits ∙ ap (λ (es : List Element). el 60 (0 ∷ s .ipv4) ∷ es) (elements-cons 19 (c ∷ []) rest (one-fits 19 (lit< tt) c)))
+  where
+    node-fits : Fits 60 (0 ∷ s .ipv4)
+    node-fits = unfold Fits in (lit< tt, small (le-trans (le-of-eq (ap suc four)) (lit≤ tt)))
+cause-first false s c rest four = ap (λ (es : List Element). mapOption contentIn (findBy (hasType 19) es)) (elements-cons 19 (c ∷ []) rest (one-fits 19 (lit< tt) c))
+
+-- the reply's cause is the verdict's
+pub reply-cause : (s : Settings) (msg : List ℕ) (seid : ℕ) (v : Verdict) (gs : List Grant) (space : List ℕ)
+    → length (s .ipv4) ≡ 4 → length (sequenceOf msg) ≡ 3 → length (replyBody (kindOf msg) s seid v gs) ≤ 2000
+    → replyCause (put 0 (reply s msg seid v gs) space) ≡ v .cause
+unfolding replyCause reply replyBody nodeIdElement octetAt
+reply-cause s msg seid v gs space four three short =
+    ap (λ (es : List Element). octetAt (valueOr [] (contentOf 19 es)) 0)
+    (elements-there (kindOf msg + 1) (replySeid (kindOf msg) (v .cause) (headerSeid msg) seid) (sequenceOf msg) (replyBody (kindOf msg) s seid v gs) space three short)
+    ∙ ap (λ (o : Option (List ℕ)). octetAt (valueOr [] o) 0)
+    (cause-first (eqb (kindOf msg) 50) s (v .cause) (offendingElement (v .offending) ++ pick (eqb (v .cause) 1) (acceptedPart (kindOf msg) s seid gs) []) four)
+
+pub sequence-three : (msg : List ℕ) → 16 ≤ length msg → length (sequenceOf msg) ≡ 3
+unfolding sequenceOf
+sequence-three msg h = length-take-le 3 (drop 12 msg) (le-trans (omega arith) (le-of-eq (sym (length-drop 12 msg))))

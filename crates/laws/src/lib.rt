@@ -1,0 +1,1 @@
+// Laws of the rules' definitions stand in proofs/; this crate has no code.

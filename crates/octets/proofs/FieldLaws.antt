@@ -1,0 +1,175 @@
+-- Fields and octets: each way back, for all widths. Assumes nothing.
+use mathlib.Core.Bool.{Bool, true, false, _&&_, false≢true}
+use mathlib.Core.List.{List, [], _∷_, _++_, append-assoc}
+use mathlib.Core.Path.{_≡_, refl, sym, ap, _∙_}
+use Prim.Native.Nat.{ℕ, zero, suc, _+_, _*_, _^_, _≤_, _<_, zero-le}
+use native.Mathlib.Nat.{suc-ne-zero, suc-inj}
+use native.Mathlib.Numerals.{add-one}
+use native.Mathlib.Omega.{arith}
+use borrow.Author.Tests.{ltb-true, lt-ltb, leb-true}
+use lib.Dec.{ltb, leb, lit<}
+use lib.ListN.{length, getD, take, drop, set, drop-of-length-le, length-append}
+use lib.Seq.{take-all, take-suc-set, append-snoc, drop-cons, take-at, drop-at, take-add, drop-drop}
+use lib.Dec.{T}
+use Rattle.octets.specs.Octets.{part, put, number, be, octets}
+use Rattle.octets.specs.Fields.{widthOf, narrow, fieldsAt, fit, fieldOctets}
+use Rattle.octets.proofs.Parts.{part-first}
+use Rattle.octets.proofs.Put.{length-part, length-put, put-none, put-put}
+use Rattle.octets.proofs.Numbers.{length-be, number-be}
+use Rattle.octets.proofs.Digits.{number-one, be-number, number-below, part-octets}
+
+-- both of two tests that hold together
+pub both : (a b : Bool) → (a && b) ≡ true → (a ≡ true) × (b ≡ true)
+both true b e = (refl, e)
+both false b e = absurd (false≢true e)
+
+pub length-fit : (ws vs : List ℕ) → fit ws vs ≡ true → length vs ≡ length ws
+unfolding fit
+length-fit [] [] h = refl
+length-fit [] (v ∷ vs) h = absurd (false≢true h)
+length-fit (w ∷ ws) [] h = absurd (false≢true h)
+length-fit (w ∷ ws) (v ∷ vs) h = ap suc (length-fit ws vs (both (ltb v (256 ^ w)) (fit ws vs) h .1))
+
+pub length-fieldOctets : (ws vs : List ℕ) → length vs ≡ length ws → length (fieldOctets ws vs) ≡ widthOf ws
+unfolding fieldOctets widthOf
+length-fieldOctets [] vs e = refl
+length-fieldOctets (w ∷ ws) [] e = absurd (suc-ne-zero (length ws) (sym e))
+length-fieldOctets (w ∷ ws) (v ∷ vs) e = rw (length-append, length-be, length-fieldOctets ws vs (suc-inj e))
+
+-- the fields of the fields' octets, whatever stands before and after them
+pub fields-octets : (at : ℕ) (p ws vs rest : List ℕ) → length p ≡ at → fit ws vs ≡ true → fieldsAt at ws (p ++ fieldOctets ws vs ++ rest) ≡ vs
+unfolding fit fieldOctets fieldsAt
+fields-octets at p [] [] rest e h = refl
+fields-octets at p [] (v ∷ vs) rest e h = absurd (false≢true h)
+fields-octets at p (w ∷ ws) [] rest e h = absurd (false≢true h)
+fields-octets at p (w ∷ ws) (v ∷ vs) rest e h =
+    let k : (ltb v (256 ^ w) ≡ true) × (fit ws vs ≡ true) = both (ltb v (256 ^ w)) (fit ws vs) h in
+    let first : p ++ (be w v ++ fieldOctets ws vs) ++ rest ≡ p ++ (be w v ++ (fieldOctets ws vs ++ rest)) = simp append-assoc in
+    let then : p ++ (be w v ++ fieldOctets ws vs) ++ rest ≡ p ++ be w v ++ fieldOctets ws vs ++ rest = simp append-assoc in
+    let l : length (p ++ be w v) ≡ at + w = simp (length-append, length-be) (omega arith) in
+    let n : number (part at w (p ++ (be w v ++ fieldOctets ws vs) ++ rest)) ≡ v =
+    rw (first, drop-at p (be w v ++ (fieldOctets ws vs ++ rest)) at e, take-at (be w v) (fieldOctets ws vs ++ rest) w (length-be w v)) (number-be w v (ltb-true _ _ (k .0))) in
+    let f : fieldsAt (at + w) ws (p ++ (be w v ++ fieldOctets ws vs) ++ rest) ≡ vs =
+    rw then (fields-octets (at + w) (p ++ be w v) ws vs rest l (k .1)) in
+    rw (n, f)
+
+-- the octets of the fields of octets
+pub octets-fields : (at : ℕ) (ws s : List ℕ) → T (octets s) → at + widthOf ws ≤ length s → fieldOctets ws (fieldsAt at ws s) ≡ part at (widthOf ws) s
+unfolding fieldOctets fieldsAt widthOf
+octets-fields at [] s o h = refl
+octets-fields at (w ∷ ws) s o h =
+    let e : be w (number (part at w s)) ≡ part at w s = rw (length-part at w s (omega arith)) at (be-number (part at w s) (part-octets at w s o)) in
+    rw (e, octets-fields (at + w) ws s o (omega arith), take-add w (widthOf ws) (drop at s), drop-drop w at s)
+
+-- the same of all the octets
+pub octets-fields-all : (ws s : List ℕ) → T (octets s) → length s ≡ widthOf ws → fieldOctets ws (fieldsAt 0 ws s) ≡ s
+octets-fields-all ws s o e = octets-fields 0 ws s o (omega arith) ∙ take-all (widthOf ws) s (omega arith)
+
+-- the fields of octets fit their widths
+pub fit-fields : (at : ℕ) (ws s : List ℕ) → T (octets s) → at + widthOf ws ≤ length s → fit ws (fieldsAt at ws s) ≡ true
+unfolding fit fieldsAt widthOf
+fit-fields at [] s o h = refl
+fit-fields at (w ∷ ws) s o h =
+    let b : number (part at w s) < 256 ^ w = rw (length-part at w s (omega arith)) at (number-below (part at w s) (part-octets at w s o)) in
+    rw (lt-ltb _ _ b) (fit-fields (at + w) ws s o (omega arith))
+
+-- the fields put one by one, as straight-line code writes them
+abbrev pub putEach : ℕ → List ℕ → List ℕ → List ℕ → List ℕ
+putEach at [] vs s = s
+putEach at (w ∷ ws) [] s = s
+putEach at (w ∷ ws) (v ∷ vs) s = putEach (at + w) ws vs (put at (be w v) s)
+
+-- are their octets put at once
+pub put-each : (at : ℕ) (ws vs s : List ℕ) → fit ws vs ≡ true → at + widthOf ws ≤ length s → putEach at ws vs s ≡ put at (fieldOctets ws vs) s
+unfolding fit fieldOctets widthOf
+put-each at [] vs s f h = sym (put-none at [] s (zero-le))
+put-each at (w ∷ ws) [] s f h = absurd (false≢true f)
+put-each at (w ∷ ws) (v ∷ vs) s f h =
+    let l : length (be w v) ≡ w = length-be w v in
+    let k : length (put at (be w v) s) ≡ length s = length-put at (be w v) s (omega arith) in
+    put-each (at + w) ws vs (put at (be w v) s) (both (ltb v (256 ^ w)) (fit ws vs) f .1) (omega arith) ∙ put-put at w (be w v) (fieldOctets ws vs) s l (omega arith)
+
+-- ---- the loops over widths and numbers: what stands at index i, and the rest
+
+next : (l : List ℕ) (i : ℕ) → i < length l → drop i l ≡ getD l i 0 ∷ drop (i + 1) l
+next l i h = rw add-one (drop-cons l i 0 h)
+
+module _ (ws : List ℕ) (i : ℕ) (h : i < length ws) where
+  pub width-next : widthOf (drop i ws) ≡ getD ws i 0 + widthOf (drop (i + 1) ws)
+  unfolding widthOf
+  width-next = rw (next ws i h)
+
+  pub narrow-next : narrow (drop i ws) ≡ true → (getD ws i 0 ≤ 8) × (narrow (drop (i + 1) ws) ≡ true)
+  unfolding narrow
+  narrow-next e =
+      let k : (leb (getD ws i 0) 8 ≡ true) × (narrow (drop (i + 1) ws) ≡ true) = both _ _ (rw (next ws i h) at e) in
+      (leb-true _ _ (k .0), k .1)
+
+  pub fields-next : (at : ℕ) (s : List ℕ) → fieldsAt at (drop i ws) s ≡ number (part at (getD ws i 0) s) ∷ fieldsAt (at + getD ws i 0) (drop (i + 1) ws) s
+  unfolding fieldsAt
+  fields-next at s = rw (next ws i h)
+
+  pub fit-next : (vs : List ℕ) → i < length vs → fit (drop i ws) (drop i vs) ≡ (ltb (getD vs i 0) (256 ^ getD ws i 0) && fit (drop (i + 1) ws) (drop (i + 1) vs))
+  unfolding fit
+  fit-next vs k = rw (next ws i h, next vs i k)
+
+  pub octets-next : (vs : List ℕ) → i < length vs → fieldOctets (drop i ws) (drop i vs) ≡ be (getD ws i 0) (getD vs i 0) ++ fieldOctets (drop (i + 1) ws) (drop (i + 1) vs)
+  unfolding fieldOctets
+  octets-next vs k = rw (next ws i h, next vs i k)
+
+  -- a turn of the loop that reads fields, and of the one that writes them
+  pub read-turn : (at r : ℕ) (vs s : List ℕ) → i < length vs → r ≡ number (part at (getD ws i 0) s)
+      → take (i + 1) (set vs i r) ++ fieldsAt (at + getD ws i 0) (drop (i + 1) ws) s ≡ take i vs ++ fieldsAt at (drop i ws) s
+  read-turn at r vs s k e =
+      let f : take (i + 1) (set vs i r) ≡ take i vs ++ (r ∷ []) = rw add-one (take-suc-set vs i r k) in
+      rw (f, fields-next at s, ← e) (append-snoc (take i vs) r (fieldsAt (at + getD ws i 0) (drop (i + 1) ws) s))
+
+  pub write-turn : (at : ℕ) (vs s t : List ℕ) → i < length vs → at + getD ws i 0 ≤ length s → t ≡ put at (be (getD ws i 0) (getD vs i 0)) s
+      → put (at + getD ws i 0) (fieldOctets (drop (i + 1) ws) (drop (i + 1) vs)) t ≡ put at (fieldOctets (drop i ws) (drop i vs)) s
+  write-turn at vs s t k l e =
+      rw (e, octets-next vs k)
+      (put-put at (getD ws i 0) (be (getD ws i 0) (getD vs i 0)) (fieldOctets (drop (i + 1) ws) (drop (i + 1) vs)) s (length-be (getD ws i 0) (getD vs i 0)) l)
+
+pub narrow-width : (ws : List ℕ) → narrow ws ≡ true → widthOf ws ≤ 8 * length ws
+unfolding narrow widthOf
+narrow-width [] e = omega arith
+narrow-width (w ∷ ws) e =
+    let k : (leb w 8 ≡ true) × (narrow ws ≡ true) = both (leb w 8) (narrow ws) e in
+    omega (arith, leb-true w 8 (k .0), narrow-width ws (k .1))
+
+pub length-fieldsAt : (at : ℕ) (ws s : List ℕ) → length (fieldsAt at ws s) ≡ length ws
+unfolding fieldsAt
+length-fieldsAt at [] s = refl
+length-fieldsAt at (w ∷ ws) s = ap suc (length-fieldsAt (at + w) ws s)
+
+-- ---- a list by its elements, as code takes an array apart: n of them from index i
+
+abbrev pub elements : ℕ → ℕ → List ℕ → List ℕ
+elements i zero l = []
+elements i (suc n) l = getD l i 0 ∷ elements (suc i) n l
+
+pub elements-all : (i n : ℕ) (l : List ℕ) → length l ≡ i + n → elements i n l ≡ drop i l
+elements-all i zero l e = sym (drop-of-length-le l {i = i} (omega arith))
+elements-all i (suc n) l e = rw (elements-all (suc i) n l (omega arith)) (sym (drop-cons l i 0 (omega arith)))
+
+-- ---- a field of one octet is the octet
+pub first-written : (ws vs rest : List ℕ) → fit (1 ∷ ws) vs ≡ true → getD (fieldOctets (1 ∷ ws) vs ++ rest) 0 0 ≡ getD vs 0 0
+unfolding fit fieldOctets be
+first-written ws [] rest h = absurd (false≢true h)
+first-written ws (v ∷ vs) rest h =
+    let l : v < 256 = ltb-true v 256 (both (ltb v 256) (fit ws vs) h .0) in
+    omega arith
+
+pub octet-read : (at : ℕ) (s : List ℕ) → at < length s → number (part at 1 s) ≡ getD s at 0
+octet-read at s h = rw (part-first at 1 s (lit< tt) (omega arith)) (number-one (getD s at 0))
+
+pub first-read : (ws s : List ℕ) → getD (fieldsAt 0 (1 ∷ ws) s) 0 0 ≡ getD s 0 0
+unfolding fieldsAt number
+first-read ws [] = refl
+first-read ws (x ∷ s) = number-one x
+
+pub last-read : (at : ℕ) (ws s : List ℕ) → at + widthOf ws < length s → getD (fieldsAt at (ws ++ (1 ∷ [])) s) (length ws) 0 ≡ getD s (at + widthOf ws) 0
+unfolding fieldsAt widthOf
+last-read at [] s h = octet-read at s (omega arith) ∙ ap (λ (i : ℕ). getD s i 0) (omega arith)
+last-read at (w ∷ ws) s h =
+    last-read (at + w) ws s (omega arith) ∙ ap (λ (i : ℕ). getD s i 0) (omega arith)

@@ -1,0 +1,15 @@
+-- Document 01 as definitions. To be read in this order.
+pub mod Limits
+pub mod Model
+pub mod Elements
+pub mod Layout
+pub mod Sound
+pub mod Message
+pub mod Grants
+pub mod Stages
+pub mod Apply
+pub mod Reply
+pub mod Serve
+pub mod Live
+pub mod Restoration
+pub mod Claim

@@ -1,0 +1,50 @@
+-- Every limit of document 01, each named once.
+-- Assumes nothing.
+use Prim.Native.Nat.{ℕ}
+
+-- sessions in a table
+abbrev pub maxSessions : ℕ
+maxSessions = 64
+
+-- PDRs in a session
+abbrev pub maxPdrs : ℕ
+maxPdrs = 16
+
+-- traffic endpoints in a session
+abbrev pub maxEndpoints : ℕ
+maxEndpoints = 8
+
+-- node types, and so FQ-CSIDs in a session
+abbrev pub nodeTypes : ℕ
+nodeTypes = 6
+
+-- CSIDs in an FQ-CSID: the number m has four bits
+abbrev pub maxCsids : ℕ
+maxCsids = 15
+
+-- the top 20 bits of a Node-ID of type 2, MCC x 1000 + MNC, at most
+abbrev pub maxOperator : ℕ
+maxOperator = 999999
+
+-- TEIDs in the pool
+abbrev pub maxPool : ℕ
+maxPool = 4096
+
+-- words of 64 bits in the map of taken TEIDs
+abbrev pub mapWords : ℕ
+mapWords = 64
+
+-- how deep groups nest, the message counted
+abbrev pub maxDepth : ℕ
+maxDepth = 3
+
+-- octets of the longest message that is read, and of the smallest reply space
+abbrev pub maxMessage : ℕ
+maxMessage = 2048
+
+abbrev pub minSpace : ℕ
+minSpace = 1024
+
+-- octets of the longest restoration request
+abbrev pub maxRestoration : ℕ
+maxRestoration = 1526

@@ -1,0 +1,78 @@
+-- 01's live set ("What lives"): the sessions that the calls so far make, from each call's message, outcome and reply, and never from the table.
+-- Assumes nothing.
+use Prim.Native.Nat.{ℕ, _+_}
+use mathlib.Core.Bool.{Bool, false, _&&_}
+use mathlib.Core.List.{List, [], _∷_}
+use lib.ListN.{take}
+use lib.Dec.{eqb}
+use Rattle.octets.specs.Choice.{pick, valueOr, mapOption}
+use Rattle.octets.specs.Octets.{numberAt, octetAt}
+use Rattle.octets.specs.Lists.{findBy}
+use Rattle.rules.specs.Model.{Sessions}
+use Rattle.rules.specs.Message.{Element, elements, body, hasType, contentIn, contentOf, fieldOr0, kindOf, headerSeid, readRequest}
+use Rattle.rules.specs.Grants.{Kind, ofPdr, ofEndpoint}
+use Rattle.rules.specs.Apply.{follow}
+
+-- what the host sees of a call: a request with its message, the outcome and the reply space at exit; or a free count
+pub data Event : Type 0 where
+  replied : List ℕ → ℕ → List ℕ → Event
+  counted : Event
+
+-- ---- reading a reply
+
+-- the reply in its space: as long as its header says
+unfoldable pub replyIn : List ℕ → List ℕ
+replyIn space = take (4 + numberAt 2 2 space) space
+
+unfoldable pub replyElements : List ℕ → List Element
+replyElements space = elements (body (replyIn space))
+
+unfoldable pub replyCause : List ℕ → ℕ
+replyCause space = octetAt (valueOr [] (contentOf 19 (replyElements space))) 0
+
+-- the Created group of a kind, and the element that holds its ID
+unfoldable pub createdType : Kind → ℕ
+createdType ofPdr = 8
+createdType ofEndpoint = 128
+
+unfoldable pub idType : Kind → ℕ
+idType ofPdr = 56
+idType ofEndpoint = 131
+
+unfoldable pub isCreated : Kind → ℕ → Element → Bool
+isCreated k i e = hasType (createdType k) e && eqb (fieldOr0 (idType k) (elements (e .content))) i
+
+-- the TEID of the F-TEID in a Created group
+unfoldable pub teidIn : List Element → ℕ
+teidIn es = numberAt 1 4 (valueOr [] (contentOf 21 es))
+
+-- the TEID in the reply's Created group of a kind and ID
+unfoldable pub createdTeid : List ℕ → Kind → ℕ → ℕ
+createdTeid space k i = teidIn (elements (valueOr [] (mapOption contentIn (findBy (isCreated k i) (replyElements space)))))
+
+-- ---- the live set
+
+-- outcome 0 and the reply's cause 1
+unfoldable pub accepted : Event → Bool
+accepted (replied msg outcome space) = eqb outcome 0 && eqb (replyCause space) 1
+accepted counted = false
+
+unfoldable pub followEvent : Sessions → Event → Sessions
+followEvent m (replied msg outcome space) = follow (createdTeid space) (kindOf msg) (headerSeid msg) (readRequest msg) m
+followEvent m counted = m
+
+unfoldable pub liveStep : Sessions → Event → Sessions
+liveStep m e = pick (accepted e) (followEvent m e) m
+
+-- the live set after calls, from the one before them
+unfoldable pub liveFrom : Sessions → List Event → Sessions
+liveFrom m [] = m
+liveFrom m (e ∷ es) = liveFrom (liveStep m e) es
+
+-- at first it is empty
+unfoldable pub live : List Event → Sessions
+live es = liveFrom [] es
+
+unfoldable pub computing : ℕ
+unfolding replyIn replyElements replyCause createdType idType isCreated teidIn createdTeid accepted followEvent liveStep liveFrom live
+computing = 0

@@ -1,0 +1,133 @@
+-- The unit's settings and the live sessions, as the table holds them (01, "Settings and table").
+-- Assumes nothing.
+use Prim.Native.Nat.{ℕ, _+_, _-_}
+use mathlib.Core.Bool.{Bool, true, false}
+use mathlib.Core.Option.{Option, none, some}
+use mathlib.Core.List.{List, [], _∷_, _++_, map}
+use Rattle.octets.specs.Choice.{mapOption}
+use Rattle.octets.specs.Lists.{distinct, without, range, collect}
+
+-- ---- records
+
+-- 01's settings: the unit's addresses (the IPv6 one empty where there is none) and its pool of TEIDs
+pub record Settings : Type 0 where
+  pub ipv4 : List ℕ
+  pub ipv6 : List ℕ
+  pub first : ℕ
+  pub size : ℕ
+
+-- a held F-TEID: its addresses are the unit's
+pub record Tunnel : Type 0 where
+  pub teid : ℕ
+  pub v4 : Bool
+  pub v6 : Bool
+
+-- what a PDR matches on: nothing, a local F-TEID, or a traffic endpoint by its ID
+pub data Place : Type 0 where
+  neither : Place
+  tunnel : Tunnel → Place
+  endpoint : ℕ → Place
+
+pub record Pdr : Type 0 where
+  pub id : ℕ
+  pub precedence : ℕ
+  pub far : Option ℕ
+  pub source : ℕ
+  pub place : Place
+
+pub record Endpoint : Type 0 where
+  pub id : ℕ
+  pub local : Tunnel
+
+-- an FQ-CSID with one CSID
+pub record Csid : Type 0 where
+  pub nodeType : ℕ
+  pub idType : ℕ
+  pub address : List ℕ
+  pub csid : ℕ
+
+-- PDRs and endpoints in ascending order of ID, FQ-CSIDs of node type
+pub record Session : Type 0 where
+  pub seid : ℕ
+  pub pdrs : List Pdr
+  pub endpoints : List Endpoint
+  pub csids : List Csid
+
+-- sessions in ascending order of SEID
+abbrev pub Sessions : Type 0
+Sessions = List Session
+
+-- ---- who holds which TEID
+
+-- one record's hold on a TEID: a PDR's may be shared, an endpoint's not
+pub record Holding : Type 0 where
+  pub shared : Bool
+  pub teid : ℕ
+  pub v4 : Bool
+  pub v6 : Bool
+  pub source : ℕ
+
+unfoldable pub placeTunnel : Place → Option Tunnel
+placeTunnel neither = none
+placeTunnel (tunnel t) = some t
+placeTunnel (endpoint e) = none
+
+unfoldable pub placeEndpoint : Place → Option ℕ
+placeEndpoint neither = none
+placeEndpoint (tunnel t) = none
+placeEndpoint (endpoint e) = some e
+
+unfoldable pub pdrEndpoint : Pdr → Option ℕ
+pdrEndpoint p = placeEndpoint (p .place)
+
+unfoldable pub tunnelHolding : Bool → ℕ → Tunnel → Holding
+tunnelHolding shared source t = record { shared = shared; teid = t .teid; v4 = t .v4; v6 = t .v6; source = source }
+
+-- a PDR's hold, which other PDRs of its session may share
+unfoldable pub pdrHolding : Pdr → Option Holding
+pdrHolding p = mapOption (tunnelHolding true (p .source)) (placeTunnel (p .place))
+
+-- an endpoint's hold, its own alone
+unfoldable pub endpointHolding : Endpoint → Holding
+endpointHolding e = tunnelHolding false 0 (e .local)
+
+unfoldable pub sessionHoldings : Session → List Holding
+sessionHoldings x = map endpointHolding (x .endpoints) ++ collect pdrHolding (x .pdrs)
+
+abbrev pub teidOf : Holding → ℕ
+teidOf h = h .teid
+
+-- the TEIDs in a session's records, as often as they stand there
+unfoldable pub sessionTeids : Session → List ℕ
+sessionTeids x = map teidOf (sessionHoldings x)
+
+-- every TEID in the records
+unfoldable pub heldTeids : Sessions → List ℕ
+heldTeids [] = []
+heldTeids (x ∷ m) = sessionTeids x ++ heldTeids m
+
+-- 01's free count: pool size minus the number of different TEIDs in the records
+unfoldable pub freeCount : Settings → Sessions → ℕ
+freeCount s m = s .size - distinct (heldTeids m)
+
+-- the TEIDs of the pool that no record holds, the lowest first
+unfoldable pub freeTeids : Settings → Sessions → List ℕ
+freeTeids s m = without (range (s .first) (s .size)) (heldTeids m)
+
+-- ---- keys
+
+abbrev pub pdrId : Pdr → ℕ
+pdrId p = p .id
+
+abbrev pub endpointId : Endpoint → ℕ
+endpointId e = e .id
+
+abbrev pub nodeTypeOf : Csid → ℕ
+nodeTypeOf c = c .nodeType
+
+abbrev pub seidOf : Session → ℕ
+seidOf s = s .seid
+
+unfoldable pub computing : ℕ
+unfolding placeTunnel placeEndpoint pdrEndpoint tunnelHolding pdrHolding endpointHolding sessionHoldings sessionTeids heldTeids freeCount freeTeids
+computing = 0

@@ -1,0 +1,74 @@
+-- Writing messages: elements, headers, and the reply (01, "Reply").
+-- Assumes nothing.
+use Prim.Native.Nat.{ℕ, _+_}
+use mathlib.Core.Option.{Option, none, some}
+use mathlib.Core.List.{List, [], _∷_, _++_}
+use lib.ListN.{length}
+use lib.Dec.{eqb}
+use Rattle.octets.specs.Choice.{pick}
+use Rattle.octets.specs.Octets.{be, concatMap}
+use Rattle.rules.specs.Model.{Settings, Tunnel}
+use Rattle.rules.specs.Elements.{fteidOctets, unitFteid, fseidOctets}
+use Rattle.rules.specs.Message.{establishment, kindOf, headerSeid, sequenceOf}
+use Rattle.rules.specs.Grants.{Grant, ofPdr, ofEndpoint, grantsOf}
+use Rattle.rules.specs.Stages.{Verdict}
+
+-- type, length and value
+unfoldable pub element : ℕ → List ℕ → List ℕ
+element t xs = be 2 t ++ (be 2 (length xs) ++ xs)
+
+-- version 1 with S; kind, length, SEID, sequence number (three octets), a spare octet, then the elements
+unfoldable pub message : ℕ → ℕ → List ℕ → List ℕ → List ℕ
+message kind seid sequence xs = 33 ∷ kind ∷ be 2 (12 + length xs) ++ (be 8 seid ++ (sequence ++ 0 ∷ xs))
+
+-- an F-TEID element with the unit's addresses
+unfoldable pub unitElement : Settings → Tunnel → List ℕ
+unitElement s t = element 21 (fteidOctets (unitFteid s t))
+
+unfoldable pub createdPdrContent : Settings → Grant → List ℕ
+createdPdrContent s g = element 56 (be 2 (g .id)) ++ unitElement s (g .local)
+
+unfoldable pub createdPdr : Settings → Grant → List ℕ
+createdPdr s g = element 8 (createdPdrContent s g)
+
+unfoldable pub createdEndpointContent : Settings → Grant → List ℕ
+createdEndpointContent s g = element 131 (g .id ∷ []) ++ unitElement s (g .local)
+
+unfoldable pub createdEndpoint : Settings → Grant → List ℕ
+createdEndpoint s g = element 128 (createdEndpointContent s g)
+
+unfoldable pub created : Settings → List Grant → List ℕ
+created s gs = concatMap (createdPdr s) (grantsOf ofPdr gs) ++ concatMap (createdEndpoint s) (grantsOf ofEndpoint gs)
+
+unfoldable pub offendingElement : Option ℕ → List ℕ
+offendingElement none = []
+offendingElement (some t) = element 40 (be 2 t)
+
+-- Node ID, in an establishment's reply only
+unfoldable pub nodeIdElement : ℕ → Settings → List ℕ
+nodeIdElement kind s = pick (eqb kind establishment) (element 60 (0 ∷ s .ipv4)) []
+
+-- the unit's F-SEID, in an accepted establishment's reply only: its SEID equals the peer's
+unfoldable pub unitFseid : ℕ → Settings → ℕ → List ℕ
+unitFseid kind s seid = pick (eqb kind establishment) (element 57 (fseidOctets seid (s .ipv4) [])) []
+
+unfoldable pub acceptedPart : ℕ → Settings → ℕ → List Grant → List ℕ
+acceptedPart kind s seid gs = unitFseid kind s seid ++ created s gs
+
+unfoldable pub replyBody : ℕ → Settings → ℕ → Verdict → List Grant → List ℕ
+replyBody kind s seid v gs =
+    nodeIdElement kind s
+    ++ (element 19 (v .cause ∷ []) ++ (offendingElement (v .offending) ++ pick (eqb (v .cause) 1) (acceptedPart kind s seid gs) []))
+
+-- the session's SEID, but 0 for cause 65 and refused establishments
+unfoldable pub replySeid : ℕ → ℕ → ℕ → ℕ → ℕ
+replySeid kind cause header seid = pick (eqb kind establishment) (pick (eqb cause 1) seid 0) (pick (eqb cause 65) 0 header)
+
+-- seid is the F-SEID's, gs are the grants of an accepted request
+unfoldable pub reply : Settings → List ℕ → ℕ → Verdict → List Grant → List ℕ
+reply s msg seid v gs =
+    message (kindOf msg + 1) (replySeid (kindOf msg) (v .cause) (headerSeid msg) seid) (sequenceOf msg) (replyBody (kindOf msg) s seid v gs)
+
+unfoldable pub computing : ℕ
+unfolding element message unitElement createdPdrContent createdPdr createdEndpointContent createdEndpoint created offendingElement nodeIdElement unitFseid acceptedPart replyBody replySeid reply
+computing = 0

@@ -1,0 +1,102 @@
+-- A live session's restoration request (01, "What a request does"): its SEID, flags 01 and its records, nothing more,
+-- in the order of the establishment line, Places and the table, with the unit's addresses.
+-- Assumes nothing.
+use Prim.Native.Nat.{ℕ, _^_}
+use mathlib.Core.Bool.{Bool, true, false, not, _&&_}
+use mathlib.Core.Option.{Option, none, some}
+use mathlib.Core.List.{List, [], _∷_, _++_, map}
+use lib.Dec.{ltb}
+use Rattle.octets.specs.Octets.{be, concatMap}
+use Rattle.octets.specs.Choice.{mapOption, allOf, isNil}
+use Rattle.rules.specs.Model.{Settings, Place, neither, tunnel, endpoint, Pdr, Endpoint, Csid, Session, placeTunnel, placeEndpoint}
+use Rattle.rules.specs.Elements.{Fqcsid, unitFteid, fqcsidOctets, sets, fseidOctets, addressOf}
+use Rattle.rules.specs.Message.{establishment, NewPdr, NewEndpoint, Request}
+use Rattle.rules.specs.Reply.{element, message, unitElement}
+
+unfoldable pub placeElement : Settings → Place → List ℕ
+placeElement s neither = []
+placeElement s (tunnel t) = unitElement s t
+placeElement s (endpoint e) = element 131 (e ∷ [])
+
+unfoldable pub farElement : Option ℕ → List ℕ
+farElement none = []
+farElement (some n) = element 108 (be 4 n)
+
+unfoldable pub pdiContent : Settings → Pdr → List ℕ
+pdiContent s p = element 20 (p .source ∷ []) ++ placeElement s (p .place)
+
+unfoldable pub pdrContent : Settings → Pdr → List ℕ
+pdrContent s p = element 56 (be 2 (p .id)) ++ (element 29 (be 4 (p .precedence)) ++ (element 2 (pdiContent s p) ++ farElement (p .far)))
+
+unfoldable pub pdrElement : Settings → Pdr → List ℕ
+pdrElement s p = element 1 (pdrContent s p)
+
+unfoldable pub endpointContent : Settings → Endpoint → List ℕ
+endpointContent s e = element 131 (e .id ∷ []) ++ unitElement s (e .local)
+
+unfoldable pub endpointElement : Settings → Endpoint → List ℕ
+endpointElement s e = element 127 (endpointContent s e)
+
+-- the FQ-CSID of a record
+unfoldable pub recordCsid : Csid → Fqcsid
+recordCsid c = sets (c .idType) (c .address) (c .csid ∷ []) (c .nodeType)
+
+unfoldable pub csidElement : Csid → List ℕ
+csidElement c = element 65 (fqcsidOctets (recordCsid c))
+
+-- the records as the request has them
+unfoldable pub restoredPdr : Settings → Pdr → NewPdr
+restoredPdr s p =
+    record {
+      id = p .id;
+      precedence = p .precedence;
+      far = p .far;
+      source = p .source;
+      local = mapOption (unitFteid s) (placeTunnel (p .place));
+      endpoint = placeEndpoint (p .place);
+    }
+
+unfoldable pub restoredEndpoint : Settings → Endpoint → NewEndpoint
+restoredEndpoint s e = record { id = e .id; local = unitFteid s (e .local) }
+
+unfoldable pub restoredRequest : Settings → Session → Request
+restoredRequest s x =
+    record {
+      seid = x .seid;
+      restoring = true;
+      pdrs = map (restoredPdr s) (x .pdrs);
+      endpoints = map (restoredEndpoint s) (x .endpoints);
+      changes = [];
+      gonePdrs = [];
+      goneEndpoints = [];
+      csids = map recordCsid (x .csids);
+      clears = false;
+      unsupported = false;
+    }
+
+-- what may be any: header SEID, sequence number, and the F-SEID's addresses (empty where that one is not there)
+pub record Peer : Type 0 where
+  pub header : ℕ
+  pub sequence : ℕ
+  pub ipv4 : List ℕ
+  pub ipv6 : List ℕ
+
+unfoldable pub peerTests : Peer → List Bool
+peerTests p =
+    ltb (p .header) (2 ^ 64) ∷ ltb (p .sequence) (2 ^ 24) ∷ addressOf 4 (p .ipv4) ∷ addressOf 16 (p .ipv6) ∷ not (isNil (p .ipv4) && isNil (p .ipv6)) ∷ []
+
+unfoldable pub peerAllowed : Peer → Bool
+peerAllowed p = allOf (peerTests p)
+
+-- the records, in the order of the establishment line
+unfoldable pub recordElements : Settings → Session → List ℕ
+recordElements s x = concatMap (pdrElement s) (x .pdrs) ++ (concatMap (endpointElement s) (x .endpoints) ++ concatMap csidElement (x .csids))
+
+unfoldable pub restoration : Settings → Peer → Session → List ℕ
+restoration s p x =
+    message establishment (p .header) (be 3 (p .sequence))
+    (element 57 (fseidOctets (x .seid) (p .ipv4) (p .ipv6)) ++ (element 186 (1 ∷ []) ++ recordElements s x))
+
+unfoldable pub computing : ℕ
+unfolding placeElement farElement pdiContent pdrContent pdrElement endpointContent endpointElement recordCsid csidElement restoredPdr restoredEndpoint restoredRequest peerTests peerAllowed recordElements restoration
+computing = 0

@@ -1,0 +1,59 @@
+-- One request: the host outcome, the reply space and the table at exit (01, "What comes back").
+-- Assumes nothing.
+use Prim.Native.Nat.{ℕ}
+use mathlib.Core.Bool.{not}
+use mathlib.Core.List.{List}
+use lib.ListN.{length}
+use lib.Dec.{ltb, eqb}
+use Rattle.octets.specs.Choice.{pick}
+use Rattle.octets.specs.Octets.{put}
+use Rattle.rules.specs.Model.{Settings, Sessions}
+use Rattle.rules.specs.Layout.{encode, viewSettings, viewSessions}
+use Rattle.rules.specs.Sound.{sound}
+use Rattle.rules.specs.Message.{kindOf, headerSeid, headerAllowed, served, readRequest}
+use Rattle.rules.specs.Grants.{grants, grantedTeid}
+use Rattle.rules.specs.Stages.{Verdict, verdict}
+use Rattle.rules.specs.Apply.{follow}
+use Rattle.rules.specs.Reply.{reply}
+use Rattle.rules.specs.Limits.{maxMessage, minSpace}
+
+-- outcome, reply space and table at exit
+pub record Served : Type 0 where
+  pub outcome : ℕ
+  pub space : List ℕ
+  pub table : List ℕ
+
+abbrev pub unserved : ℕ → List ℕ → List ℕ → Served
+unserved n space t = record { outcome = n; space = space; table = t }
+
+-- the sessions after an accepted request
+unfoldable pub sessionsAfter : Settings → Sessions → List ℕ → Sessions
+sessionsAfter s m msg = follow (grantedTeid (grants s m (readRequest msg))) (kindOf msg) (headerSeid msg) (readRequest msg) m
+
+unfoldable pub replyTo : Settings → Sessions → List ℕ → Verdict → List ℕ
+replyTo s m msg v = reply s msg (readRequest msg .seid) v (grants s m (readRequest msg))
+
+-- outcome 0: a reply, and on cause 1 a changed table
+unfoldable pub answered : ℕ → Settings → Sessions → List ℕ → List ℕ → List ℕ → Verdict → Served
+answered limit s m msg space t v =
+    record { outcome = 0; space = put 0 (replyTo s m msg v) space; table = pick (eqb (v .cause) 1) (encode limit s (sessionsAfter s m msg)) t }
+
+unfoldable pub answer : ℕ → Settings → Sessions → List ℕ → List ℕ → List ℕ → Served
+answer limit s m msg space t = answered limit s m msg space t (verdict limit s m msg)
+
+-- outcomes 2 to 5, of a table that is not broken
+unfoldable pub serveSound : ℕ → Settings → Sessions → List ℕ → List ℕ → List ℕ → Served
+serveSound limit s m t msg space =
+    pick (ltb (length space) minSpace) (unserved 2 space t)
+    (pick (ltb maxMessage (length msg)) (unserved 3 space t)
+    (pick (not (headerAllowed msg)) (unserved 4 space t)
+    (pick (not (served (kindOf msg))) (unserved 5 space t)
+    (answer limit s m msg space t))))
+
+-- the outcomes, tested in this order
+unfoldable pub serve : ℕ → List ℕ → List ℕ → List ℕ → Served
+serve limit t msg space = pick (sound limit t) (serveSound limit (viewSettings t) (viewSessions t) t msg space) (unserved 1 space t)
+
+unfoldable pub computing : ℕ
+unfolding sessionsAfter replyTo answered answer serveSound serve
+computing = 0

@@ -1,0 +1,171 @@
+-- Which settings are allowed, which octets are a table that is not broken, and the calls that make and count (01, "Settings and table").
+-- Assumes nothing.
+use Prim.Native.Nat.{ℕ, zero, suc, _+_, _*_, _^_}
+use mathlib.Core.Bool.{Bool, true, false, not, _&&_, _||_}
+use mathlib.Core.Option.{Option, none, some}
+use mathlib.Core.List.{List, [], _∷_, map}
+use lib.ListN.{length}
+use lib.Dec.{leb, ltb, eqb}
+use Rattle.octets.specs.Choice.{pick, allOf, isNil, sameBool, flag}
+use Rattle.octets.specs.Octets.{octets, sameOctets}
+use Rattle.octets.specs.Lists.{member, anyIn, ascending, all, allPairs}
+use Rattle.rules.specs.Model.{Settings, Tunnel, Place, neither, tunnel, endpoint, Pdr, Endpoint, Csid, Session, Sessions, Holding, sessionHoldings, sessionTeids, heldTeids, freeCount, pdrId, endpointId, nodeTypeOf, seidOf}
+use Rattle.rules.specs.Limits.{maxPdrs, maxEndpoints, nodeTypes, maxPool}
+use Rattle.rules.specs.Elements.{nodeAddressAllowed, nodeTypeKept, below16}
+use Rattle.rules.specs.Layout.{tableLength, encode, viewSettings, viewSessions}
+use Rattle.rules.specs.Limits.{mapWords}
+
+-- ---- settings
+
+-- the first TEID at least 1, the size 1 to 4,096, the last TEID at most 4,294,967,295
+unfoldable pub poolTests : ℕ → ℕ → List Bool
+poolTests first size = leb 1 first ∷ leb 1 size ∷ leb size maxPool ∷ leb (first + size) (2 ^ 32) ∷ []
+
+unfoldable pub ipv6Allowed : List ℕ → Bool
+ipv6Allowed a = isNil a || eqb (length a) 16
+
+unfoldable pub settingsTests : Settings → List Bool
+settingsTests s =
+    eqb (length (s .ipv4)) 4 ∷ octets (s .ipv4) ∷ ipv6Allowed (s .ipv6) ∷ octets (s .ipv6) ∷ allOf (poolTests (s .first) (s .size)) ∷ []
+
+unfoldable pub settingsAllowed : Settings → Bool
+settingsAllowed s = allOf (settingsTests s)
+
+-- ---- records
+
+unfoldable pub inPool : Settings → ℕ → Bool
+inPool s t = leb (s .first) t && ltb t (s .first + s .size)
+
+-- IPv4 is always the unit's, IPv6 where the unit has it
+unfoldable pub unitFamilies : Settings → Bool → Bool
+unitFamilies s v6 = not v6 || not (isNil (s .ipv6))
+
+-- in the pool, with a family at least, and the unit's
+unfoldable pub tunnelTests : Settings → Tunnel → List Bool
+tunnelTests s t = inPool s (t .teid) ∷ (t .v4 || t .v6) ∷ unitFamilies s (t .v6) ∷ []
+
+unfoldable pub tunnelAllowed : Settings → Tunnel → Bool
+tunnelAllowed s t = allOf (tunnelTests s t)
+
+-- a named endpoint exists
+unfoldable pub placeAllowed : Settings → List ℕ → Place → Bool
+placeAllowed s live neither = true
+placeAllowed s live (tunnel t) = tunnelAllowed s t
+placeAllowed s live (endpoint e) = ltb e 256 && member e live
+
+unfoldable pub farAllowed : Option ℕ → Bool
+farAllowed none = true
+farAllowed (some n) = ltb n (2 ^ 32)
+
+-- the fields' widths; the source interface has four bits
+unfoldable pub pdrTests : Settings → List ℕ → Pdr → List Bool
+pdrTests s live p =
+    ltb (p .id) (2 ^ 16) ∷ ltb (p .precedence) (2 ^ 32) ∷ farAllowed (p .far) ∷ ltb (p .source) 16 ∷ placeAllowed s live (p .place) ∷ []
+
+unfoldable pub pdrAllowed : Settings → List ℕ → Pdr → Bool
+pdrAllowed s live p = allOf (pdrTests s live p)
+
+unfoldable pub endpointTests : Settings → Endpoint → List Bool
+endpointTests s e = ltb (e .id) 256 ∷ tunnelAllowed s (e .local) ∷ []
+
+unfoldable pub endpointAllowed : Settings → Endpoint → Bool
+endpointAllowed s e = allOf (endpointTests s e)
+
+-- an FQ-CSID's rules with m = 1
+unfoldable pub csidTests : Csid → List Bool
+csidTests c = nodeTypeKept (c .nodeType) ∷ nodeAddressAllowed (c .idType) (c .address) ∷ below16 (c .csid) ∷ []
+
+unfoldable pub csidAllowed : Csid → Bool
+csidAllowed c = allOf (csidTests c)
+
+-- two holds on one TEID within a session are of PDRs, with equal family flags and source interface
+unfoldable pub shareTests : Holding → Holding → List Bool
+shareTests h k = h .shared ∷ k .shared ∷ sameBool (h .v4) (k .v4) ∷ sameBool (h .v6) (k .v6) ∷ eqb (h .source) (k .source) ∷ []
+
+unfoldable pub agree : Holding → Holding → Bool
+agree h k = not (eqb (h .teid) (k .teid)) || allOf (shareTests h k)
+
+unfoldable pub sessionTests : Settings → Session → List Bool
+sessionTests s x =
+    leb 1 (x .seid)
+    ∷ ltb (x .seid) (2 ^ 64)
+    ∷ leb (length (x .pdrs)) maxPdrs
+    ∷ ascending (map pdrId (x .pdrs))
+    ∷ all (pdrAllowed s (map endpointId (x .endpoints))) (x .pdrs)
+    ∷ leb (length (x .endpoints)) maxEndpoints
+    ∷ ascending (map endpointId (x .endpoints))
+    ∷ all (endpointAllowed s) (x .endpoints)
+    ∷ leb (length (x .csids)) nodeTypes
+    ∷ ascending (map nodeTypeOf (x .csids))
+    ∷ all csidAllowed (x .csids)
+    ∷ allPairs agree (sessionHoldings x)
+    ∷ []
+
+unfoldable pub sessionAllowed : Settings → Session → Bool
+sessionAllowed s x = allOf (sessionTests s x)
+
+-- two sessions hold no TEID in common
+unfoldable pub apart : Session → Session → Bool
+apart x y = not (anyIn (sessionTeids x) (sessionTeids y))
+
+unfoldable pub sessionsTests : ℕ → Settings → Sessions → List Bool
+sessionsTests limit s m = leb (length m) limit ∷ ascending (map seidOf m) ∷ all (sessionAllowed s) m ∷ allPairs apart m ∷ []
+
+unfoldable pub sessionsAllowed : ℕ → Settings → Sessions → Bool
+sessionsAllowed limit s m = allOf (sessionsTests limit s m)
+
+-- ---- tables
+
+-- settings and records that keep the rules, in octets that are just what they encode to; anything else is 01's broken table
+unfoldable pub soundTests : ℕ → List ℕ → Settings → Sessions → List Bool
+soundTests limit t s m = eqb (length t) (tableLength limit) ∷ settingsAllowed s ∷ sessionsAllowed limit s m ∷ sameOctets (encode limit s m) t ∷ []
+
+unfoldable pub sound : ℕ → List ℕ → Bool
+sound limit t = allOf (soundTests limit t (viewSettings t) (viewSessions t))
+
+-- ---- making an empty table
+
+-- whether it was made, and the table's octets at exit
+pub record Made : Type 0 where
+  pub made : Bool
+  pub table : List ℕ
+
+unfoldable pub make : ℕ → Settings → List ℕ → Made
+make limit s t =
+    pick (settingsAllowed s && eqb (length t) (tableLength limit))
+    (record { made = true; table = encode limit s [] })
+    (record { made = false; table = t })
+
+-- ---- counting
+
+-- outcome 1, or the free count
+pub data Count : Type 0 where
+  broken : Count
+  free : ℕ → Count
+
+unfoldable pub countFree : ℕ → List ℕ → Count
+countFree limit t = pick (sound limit t) (free (freeCount (viewSettings t) (viewSessions t))) broken
+
+-- ---- the map of taken TEIDs
+
+-- is the TEID at an offset from the first one held
+unfoldable pub taken : Settings → Sessions → ℕ → Bool
+taken s m i = member (s .first + i) (heldTeids m)
+
+-- the bits from offset i on, n of them, the lowest first, as a number
+unfoldable pub takenBits : Settings → Sessions → ℕ → ℕ → ℕ
+takenBits s m zero i = 0
+takenBits s m (suc n) i = flag (taken s m i) + 2 * takenBits s m n (i + 1)
+
+-- n words of 64 bits, the first for the offsets from i on
+unfoldable pub takenWords : Settings → Sessions → ℕ → ℕ → List ℕ
+takenWords s m zero i = []
+takenWords s m (suc n) i = takenBits s m 64 i ∷ takenWords s m n (i + 64)
+
+-- 01's map: words of 64 bits, the lowest bit of the first for the first TEID of the pool; bits past the pool are 0
+unfoldable pub takenMap : Settings → Sessions → List ℕ
+takenMap s m = takenWords s m mapWords 0
+
+unfoldable pub computing : ℕ
+unfolding poolTests ipv6Allowed settingsTests settingsAllowed inPool unitFamilies tunnelTests tunnelAllowed placeAllowed farAllowed pdrTests pdrAllowed endpointTests endpointAllowed csidTests csidAllowed sessionTests shareTests agree sessionAllowed apart sessionsTests sessionsAllowed soundTests sound make countFree taken takenBits takenWords takenMap
+computing = 0

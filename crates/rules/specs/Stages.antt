@@ -1,0 +1,254 @@
+-- The causes, stage by stage (01, "What comes back"). Each rule is one test on numbers taken from the request and from the session at entry.
+-- Assumes nothing.
+use Prim.Native.Nat.{ℕ, _+_, _-_}
+use mathlib.Core.Bool.{Bool, true, false, not, _&&_, _||_}
+use mathlib.Core.Option.{Option, none, some}
+use mathlib.Core.List.{List, [], _∷_, _++_, map}
+use lib.ListN.{length}
+use lib.Dec.{leb, ltb, eqb}
+use Rattle.octets.specs.Choice.{pick, oneOf, valueOr, bindOption, isSome, isNil, sameBool}
+use Rattle.octets.specs.Octets.{sameOctets}
+use Rattle.octets.specs.Lists.{member, anyIn, allIn, hasRepeat, without, any, allPairs, keep, findBy, collect}
+use Rattle.rules.specs.Model.{Settings, Pdr, Session, Sessions, Holding, teidOf, heldTeids, freeCount, pdrId, endpointId, pdrEndpoint}
+use Rattle.rules.specs.Limits.{maxPdrs, maxEndpoints}
+use Rattle.rules.specs.Elements.{causeOf, Fteid, given, choose, hasV4, hasV6, chooses, chooseId}
+use Rattle.rules.specs.Sound.{inPool, unitFamilies, agree}
+use Rattle.rules.specs.Message.{establishment, kindOf, headerSeid, frameFault, readFault, readRequest, Fault, NewPdr, NewEndpoint, Change, Request}
+use Rattle.rules.specs.Grants.{need}
+
+-- ---- the session at entry
+
+unfoldable pub hasSeid : ℕ → Session → Bool
+hasSeid n x = eqb (x .seid) n
+
+unfoldable pub sessionOf : ℕ → Sessions → Option Session
+sessionOf n m = findBy (hasSeid n) m
+
+unfoldable pub isLive : ℕ → Sessions → Bool
+isLive n m = isSome (sessionOf n m)
+
+unfoldable pub newSession : ℕ → Session
+newSession n = record { seid = n; pdrs = []; endpoints = []; csids = [] }
+
+-- the session that a request is about: a new one for an establishment, else the header's
+unfoldable pub atEntry : ℕ → ℕ → Request → Sessions → Session
+atEntry kind header r m =
+    pick (eqb kind establishment) (newSession (r .seid)) (valueOr (newSession header) (sessionOf header m))
+
+-- ---- numbers of the request
+
+abbrev pub newPdrId : NewPdr → ℕ
+newPdrId p = p .id
+
+abbrev pub newEndpointId : NewEndpoint → ℕ
+newEndpointId e = e .id
+
+abbrev pub changeId : Change → ℕ
+changeId c = c .id
+
+abbrev pub namedEndpoint : NewPdr → Option ℕ
+namedEndpoint p = p .endpoint
+
+abbrev pub pdrLocal : NewPdr → Option Fteid
+pdrLocal p = p .local
+
+abbrev pub endpointLocal : NewEndpoint → Fteid
+endpointLocal e = e .local
+
+unfoldable pub createdPdrs : Request → List ℕ
+createdPdrs r = map newPdrId (r .pdrs)
+
+unfoldable pub createdEndpoints : Request → List ℕ
+createdEndpoints r = map newEndpointId (r .endpoints)
+
+unfoldable pub updatedPdrs : Request → List ℕ
+updatedPdrs r = map changeId (r .changes)
+
+unfoldable pub livePdrs : Session → List ℕ
+livePdrs x = map pdrId (x .pdrs)
+
+unfoldable pub liveEndpoints : Session → List ℕ
+liveEndpoints x = map endpointId (x .endpoints)
+
+-- every F-TEID of the request
+unfoldable pub fteidsOf : Request → List Fteid
+fteidsOf r = map endpointLocal (r .endpoints) ++ collect pdrLocal (r .pdrs)
+
+-- ---- stage 4, cause 71
+
+-- without CH outside restoration, or with CH inside it
+unfoldable pub wrongAllocation : Bool → Fteid → Bool
+wrongAllocation restoring v = sameBool (chooses v) restoring
+
+unfoldable pub invalidAllocation : Request → Bool
+invalidAllocation r = any (wrongAllocation (r .restoring)) (fteidsOf r)
+
+-- ---- stage 4, cause 73: 01's rules in their order
+
+-- an ID removed, created or updated twice
+unfoldable pub idTwice : Request → Bool
+idTwice r =
+    oneOf (hasRepeat (r .gonePdrs) ∷ hasRepeat (r .goneEndpoints) ∷ hasRepeat (createdPdrs r) ∷ hasRepeat (createdEndpoints r) ∷ hasRepeat (updatedPdrs r) ∷ [])
+
+-- a created ID live at entry
+unfoldable pub createdLive : Session → Request → Bool
+createdLive x r = anyIn (createdPdrs r) (livePdrs x) || anyIn (createdEndpoints r) (liveEndpoints x)
+
+-- a removed or updated ID not live at entry
+unfoldable pub absentId : Session → Request → Bool
+absentId x r =
+    oneOf (not (allIn (r .gonePdrs) (livePdrs x)) ∷ not (allIn (r .goneEndpoints) (liveEndpoints x)) ∷ not (allIn (updatedPdrs r) (livePdrs x)) ∷ [])
+
+-- an update of a removed PDR
+unfoldable pub updatesRemoved : Request → Bool
+updatesRemoved r = anyIn (updatedPdrs r) (r .gonePdrs)
+
+-- F-TEID and endpoint ID in one PDI
+unfoldable pub namesBoth : NewPdr → Bool
+namesBoth p = isSome (p .local) && isSome (p .endpoint)
+
+-- an endpoint ID not there afterwards
+unfoldable pub endpointIdsAfter : Session → Request → List ℕ
+endpointIdsAfter x r = without (liveEndpoints x) (r .goneEndpoints) ++ createdEndpoints r
+
+unfoldable pub namesAbsent : Session → Request → Bool
+namesAbsent x r = not (allIn (collect namedEndpoint (r .pdrs)) (endpointIdsAfter x r))
+
+-- a removed endpoint still named by a PDR
+unfoldable pub staysPdr : Request → Pdr → Bool
+staysPdr r p = not (member (p .id) (r .gonePdrs))
+
+unfoldable pub endpointInUse : Session → Request → Bool
+endpointInUse x r = anyIn (r .goneEndpoints) (collect pdrEndpoint (keep (staysPdr r) (x .pdrs)))
+
+-- equal CHOOSE IDs with other families or source interface
+unfoldable pub sameChoice : Option ℕ → Option ℕ → Bool
+sameChoice none j = false
+sameChoice (some i) none = false
+sameChoice (some i) (some j) = eqb i j
+
+unfoldable pub alikeFteids : Fteid → Fteid → Bool
+alikeFteids v w = sameBool (hasV4 v) (hasV4 w) && sameBool (hasV6 v) (hasV6 w)
+
+unfoldable pub fteidsMayShare : Fteid → ℕ → Fteid → ℕ → Bool
+fteidsMayShare v i w j = not (sameChoice (chooseId v) (chooseId w)) || (alikeFteids v w && eqb i j)
+
+unfoldable pub localsMayShare : Option Fteid → ℕ → Option Fteid → ℕ → Bool
+localsMayShare none i w j = true
+localsMayShare (some v) i none j = true
+localsMayShare (some v) i (some w) j = fteidsMayShare v i w j
+
+unfoldable pub choicesAgree : NewPdr → NewPdr → Bool
+choicesAgree p q = localsMayShare (p .local) (p .source) (q .local) (q .source)
+
+-- a family the unit lacks
+unfoldable pub lacksFamily : Settings → Fteid → Bool
+lacksFamily s v = not (unitFamilies s (hasV6 v))
+
+-- a restored F-TEID outside the pool, or with another address
+unfoldable pub otherAddress : List ℕ → List ℕ → Bool
+otherAddress unit a = not (isNil a) && not (sameOctets a unit)
+
+unfoldable pub strange : Settings → Fteid → Bool
+strange s (given t a b) = not (inPool s t) || otherAddress (s .ipv4) a || otherAddress (s .ipv6) b
+strange s (choose v4 v6 i) = false
+
+-- the holds that restored F-TEIDs make
+unfoldable pub restoredHolding : Bool → ℕ → Fteid → Option Holding
+restoredHolding shared source (given t a b) = some (record { shared = shared; teid = t; v4 = not (isNil a); v6 = not (isNil b); source = source })
+restoredHolding shared source (choose v4 v6 i) = none
+
+unfoldable pub endpointRestored : NewEndpoint → Option Holding
+endpointRestored e = restoredHolding false 0 (e .local)
+
+unfoldable pub pdrRestored : NewPdr → Option Holding
+pdrRestored p = bindOption (p .local) (restoredHolding true (p .source))
+
+unfoldable pub restoredHoldings : Request → List Holding
+restoredHoldings r = collect endpointRestored (r .endpoints) ++ collect pdrRestored (r .pdrs)
+
+-- held by another session, or shared against the table's rule
+unfoldable pub clash : Sessions → Request → Bool
+clash m r = anyIn (map teidOf (restoredHoldings r)) (heldTeids m) || not (allPairs agree (restoredHoldings r))
+
+unfoldable pub brokenRules : Settings → Sessions → Session → Request → List Bool
+brokenRules s m x r =
+    idTwice r
+    ∷ createdLive x r
+    ∷ absentId x r
+    ∷ updatesRemoved r
+    ∷ any namesBoth (r .pdrs)
+    ∷ namesAbsent x r
+    ∷ endpointInUse x r
+    ∷ not (allPairs choicesAgree (r .pdrs))
+    ∷ any (lacksFamily s) (fteidsOf r)
+    ∷ any (strange s) (fteidsOf r)
+    ∷ clash m r
+    ∷ []
+
+unfoldable pub breaksRule : Settings → Sessions → Session → Request → Bool
+breaksRule s m x r = oneOf (brokenRules s m x r)
+
+-- ---- stage 5, cause 75
+
+unfoldable pub tooManySessions : ℕ → ℕ → Sessions → Bool
+tooManySessions limit kind m = eqb kind establishment && leb limit (length m)
+
+unfoldable pub tooManyPdrs : Session → Request → Bool
+tooManyPdrs x r = ltb maxPdrs (length (x .pdrs) - length (r .gonePdrs) + length (r .pdrs))
+
+unfoldable pub tooManyEndpoints : Session → Request → Bool
+tooManyEndpoints x r = ltb maxEndpoints (length (x .endpoints) - length (r .goneEndpoints) + length (r .endpoints))
+
+unfoldable pub tooFewTeids : Settings → Sessions → Request → Bool
+tooFewTeids s m r = ltb (freeCount s m) (need r)
+
+unfoldable pub noRoom : ℕ → ℕ → Settings → Sessions → Session → Request → Bool
+noRoom limit kind s m x r = oneOf (tooManySessions limit kind m ∷ tooManyPdrs x r ∷ tooManyEndpoints x r ∷ tooFewTeids s m r ∷ [])
+
+-- ---- the verdict
+
+-- the cause, and the type that Offending IE names
+pub record Verdict : Type 0 where
+  pub cause : ℕ
+  pub offending : Option ℕ
+
+abbrev pub plain : ℕ → Verdict
+plain c = record { cause = c; offending = none }
+
+-- stages 4 to 6, of a request without a fault
+unfoldable pub judge : ℕ → ℕ → Settings → Sessions → Session → Request → Verdict
+judge limit kind s m x r =
+    pick (eqb kind establishment && isLive (r .seid) m) (plain 64)
+    (pick (invalidAllocation r) (plain 71)
+    (pick (r .unsupported) (plain 76)
+    (pick (breaksRule s m x r) (plain 73)
+    (pick (noRoom limit kind s m x r) (plain 75) (plain 1)))))
+
+-- the session at entry, in a request without a fault
+unfoldable pub entrySession : Sessions → List ℕ → Session
+entrySession m msg = atEntry (kindOf msg) (headerSeid msg) (readRequest msg) m
+
+unfoldable pub judged : ℕ → Settings → Sessions → List ℕ → Verdict
+judged limit s m msg = judge limit (kindOf msg) s m (entrySession m msg) (readRequest msg)
+
+-- stage 3, then 4 to 6
+unfoldable pub fromReading : ℕ → Settings → Sessions → List ℕ → Option Fault → Verdict
+fromReading limit s m msg none = judged limit s m msg
+fromReading limit s m msg (some f) = record { cause = causeOf (f .cause); offending = some (f .at) }
+
+-- stage 2, then 3 to 6
+unfoldable pub fromFraming : ℕ → Settings → Sessions → List ℕ → Option ℕ → Verdict
+fromFraming limit s m msg none = fromReading limit s m msg (readFault msg)
+fromFraming limit s m msg (some t) = record { cause = 68; offending = some t }
+
+-- stage 1: no such session
+unfoldable pub unknownSession : Sessions → List ℕ → Bool
+unknownSession m msg = not (eqb (kindOf msg) establishment) && not (isLive (headerSeid msg) m)
+
+unfoldable pub verdict : ℕ → Settings → Sessions → List ℕ → Verdict
+verdict limit s m msg = pick (unknownSession m msg) (plain 65) (fromFraming limit s m msg (frameFault msg))
+
+unfoldable pub computing : ℕ
+unfolding hasSeid sessionOf isLive newSession atEntry createdPdrs createdEndpoints updatedPdrs livePdrs liveEndpoints fteidsOf wrongAllocation invalidAllocation idTwice createdLive absentId updatesRemoved namesBoth endpointIdsAfter namesAbsent staysPdr endpointInUse sameChoice alikeFteids fteidsMayShare localsMayShare choicesAgree lacksFamily otherAddress strange restoredHolding endpointRestored pdrRestored restoredHoldings clash brokenRules breaksRule tooManySessions tooManyPdrs tooManyEndpoints tooFewTeids noRoom judge entrySession judged fromReading fromFraming unknownSession verdict
+computing = 0
