@@ -1,1 +1,4 @@
-pub mod Examples
+pub mod Computing
+pub mod ElementExamples
+pub mod CallExamples
+pub mod RestorationExamples
