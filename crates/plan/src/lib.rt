@@ -1,0 +1,1 @@
+// What the rows of a plan mean stands in specs/; this crate has no code.
