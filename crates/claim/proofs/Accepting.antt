@@ -17,7 +17,7 @@ use Rattle.claim.proofs.VerdictLaws.{Passed, passed, few-new-pdrs, few-
 use Rattle.laws.proofs.BoundLaws.{grants-fit, grants-few}
 use Rattle.claim.proofs.GrantReply.{accepted-cause, accepted-teids}
 use Rattle.claim.proofs.Steps.{AcceptedKeeps, keeps, header-long}
-use Rattle.claim.proofs.Sequence.{claim}
+use Rattle.claim.proofs.Runs.{claim}
 use Rattle.rules.specs.Claim.{Demand3}
 
 -- what is left to prove

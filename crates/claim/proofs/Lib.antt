@@ -11,3 +11,4 @@ pub mod RestoreAll
 pub mod Sequence
 pub mod Steps
 pub mod VerdictLaws
+pub mod Runs

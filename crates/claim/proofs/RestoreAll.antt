@@ -32,7 +32,8 @@ use Rattle.rules.specs.Live.{accepted, replyCause}
 use Rattle.rules.specs.Restoration.{Peer, peerAllowed, restoration}
 use Rattle.claim.proofs.RestorationRead.{msg-kind, msg-allowed, msg-request}
 use Rattle.claim.proofs.RestorationApply.{restored-call, insertAll-up, under-nil}
-use Rattle.rules.specs.Claim.{Restore, restored, restoreAllowed, restoreCall, restoreCalls, tableAfter, eventOf, tableAfterAll, eventsOf}
+use Rattle.rules.specs.Calls.{tableAfter, eventOf, tableAfterAll, eventsOf}
+use Rattle.rules.specs.Claim.{Restore, restored, restoreAllowed, restoreCall, restoreCalls}
 
 -- ---- nothing in common
 

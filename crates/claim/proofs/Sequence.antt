@@ -1,9 +1,9 @@
--- Demand 3 from one fact about one request: an accepted request keeps the rules and changes the table as it changes the live set.
+-- Calls one after the other, from one fact about one request: an accepted request keeps the rules and changes the table as it changes the live set.
 -- Assumes nothing.
 use mathlib.Core.Path.{_≡_, refl, sym, ap, ap₂, _∙_, subst}
-use Prim.Native.Nat.{ℕ, _^_, _<_}
+use Prim.Native.Nat.{ℕ}
 use mathlib.Core.Bool.{Bool, true, false, _&&_}
-use mathlib.Core.List.{List, [], _∷_, map, List·Permᴰ}
+use mathlib.Core.List.{List, [], _∷_}
 use lib.ListN.{length}
 use lib.Dec.{T, eqb}
 use Rattle.octets.specs.Choice.{pick}
@@ -12,11 +12,10 @@ use Rattle.octets.specs.Lists.{all}
 use Rattle.octets.proofs.Tests.{and-left, and-right, all-head, all-tail}
 use Rattle.rules.specs.Model.{Settings, Sessions}
 use Rattle.rules.specs.Layout.{tableLength, encode}
-use Rattle.rules.specs.Sound.{settingsAllowed, sessionsAllowed, make, Made, countFree}
+use Rattle.rules.specs.Sound.{settingsAllowed, sessionsAllowed, make, Made}
 use Rattle.rules.specs.Serve.{serve}
 use Rattle.rules.specs.Live.{Event, replied, accepted, liveStep, liveFrom, live}
-use Rattle.claim.proofs.RestoreAll.{empty-allowed, restored-table, restored-accepted}
-use Rattle.rules.specs.Claim.{Call, request, count, callAllowed, tableAfter, eventOf, tableAfterAll, eventsOf, restored, restoreCalls, mapOf, liveAfter, Claim}
+use Rattle.rules.specs.Calls.{Call, request, count, callAllowed, tableAfter, eventOf, tableAfterAll, eventsOf}
 
 -- what one call does to a table and to the live set: both go to sessions m′ that keep the rules
 pub record Kept (limit : ℕ) (s : Settings) (m : Sessions) (t : List ℕ) (e : Event) : Type 0 where
@@ -39,11 +38,11 @@ module _ (limit : ℕ) (keeps : Keeps limit) (s : Settings) (hs : T (settingsAll
   one m count hm hc = record { after = m; sound = hm; table = refl; live = refl }
 
   -- calls one after the other
-  record KeptAll (m : Sessions) (cs : List Call) : Type 0 where
-    sound : T (sessionsAllowed limit s (liveFrom m (eventsOf limit (encode limit s m) cs)))
-    table : tableAfterAll limit (encode limit s m) cs ≡ encode limit s (liveFrom m (eventsOf limit (encode limit s m) cs))
+  pub record KeptAll (m : Sessions) (cs : List Call) : Type 0 where
+    pub sound : T (sessionsAllowed limit s (liveFrom m (eventsOf limit (encode limit s m) cs)))
+    pub table : tableAfterAll limit (encode limit s m) cs ≡ encode limit s (liveFrom m (eventsOf limit (encode limit s m) cs))
 
-  kept-all : (cs : List Call) (m : Sessions) → T (sessionsAllowed limit s m) → T (all callAllowed cs) → KeptAll m cs
+  pub kept-all : (cs : List Call) (m : Sessions) → T (sessionsAllowed limit s m) → T (all callAllowed cs) → KeptAll m cs
   unfolding tableAfterAll eventsOf liveFrom
   kept-all [] m hm hc = record { sound = hm; table = refl }
   kept-all (c ∷ cs) m hm hc =
@@ -57,7 +56,7 @@ module _ (limit : ℕ) (keeps : Keeps limit) (s : Settings) (hs : T (settingsAll
       }
 
 -- an empty table that was made is the empty table
-made-empty : (limit : ℕ) (s : Settings) (a : List ℕ) → T (make limit s a .made) → make limit s a .table ≡ encode limit s []
+pub made-empty : (limit : ℕ) (s : Settings) (a : List ℕ) → T (make limit s a .made) → make limit s a .table ≡ encode limit s []
 unfolding make
 made-empty limit s a h = go (settingsAllowed s && eqb (length a) (tableLength limit)) h
   where
@@ -66,31 +65,10 @@ made-empty limit s a h = go (settingsAllowed s && eqb (length a) (tableLength li
     go true h = refl
     go false h = absurd h
 
-made-settings : (limit : ℕ) (s : Settings) (a : List ℕ) → T (make limit s a .made) → T (settingsAllowed s)
+pub made-settings : (limit : ℕ) (s : Settings) (a : List ℕ) → T (make limit s a .made) → T (settingsAllowed s)
 unfolding make
 made-settings limit s a h = and-left (settingsAllowed s) (eqb (length a) (tableLength limit)) (go (settingsAllowed s && eqb (length a) (tableLength limit)) h)
   where
     go : (b : Bool) → T (pick {X = Made} b (record { made = true; table = encode limit s [] }) (record { made = false; table = a }) .made) → T b
     go true h = tt
     go false h = h
-
--- the claim
-pub claim : (limit : ℕ) → limit < 256 ^ 2 → Keeps limit → Claim limit
-unfolding Claim liveAfter live
-claim limit small keeps s a b cs rs ha hb hc hr order =
-    let hs = made-settings limit s a ha in
-    let t = encode limit s [] in
-    let ea = made-empty limit s a ha in
-    let eb = made-empty limit s b hb in
-    let k = kept-all limit keeps s hs cs [] (empty-allowed limit s) hc in
-    let m = liveFrom [] (eventsOf limit t cs) in
-    let order′ : List·Permᴰ m (map restored rs) = subst (λ (u : List ℕ). List·Permᴰ (liveFrom [] (eventsOf limit u cs)) (map restored rs)) ea order in
-    let same : tableAfterAll limit (make limit s b .table) (restoreCalls s rs) ≡ tableAfterAll limit (make limit s a .table) cs
-    = ap (λ (u : List ℕ). tableAfterAll limit u (restoreCalls s rs)) eb ∙ restored-table s hs limit small m (k .sound) rs hr order′
-    ∙ sym (ap (λ (u : List ℕ). tableAfterAll limit u cs) ea ∙ k .table) in
-    record {
-      each = subst (λ (u : List ℕ). T (all accepted (eventsOf limit u (restoreCalls s rs)))) (sym eb) (restored-accepted s hs limit small m (k .sound) rs hr order′);
-      octetsEqual = same;
-      countEqual = ap (countFree limit) same;
-      mapEqual = ap mapOf same;
-    }

@@ -10,7 +10,7 @@ use Rattle.rules.specs.Layout.{encode}
 use Rattle.rules.specs.Reply.{element}
 use Rattle.rules.specs.Live.{accepted}
 use Rattle.rules.specs.Restoration.{Peer, restoration}
-use Rattle.rules.specs.Claim.{Call, request, count, tableAfterAll, eventsOf, liveAfter}
+use Rattle.rules.specs.Calls.{Call, request, count, tableAfterAll, eventsOf, liveAfter}
 use Rattle.rules.proofs.Computing.{computing}
 use Rattle.rules.proofs.CallExamples.{unit, space, create, remove, own, withId, establish, modify, calls}
 

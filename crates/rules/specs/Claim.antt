@@ -1,52 +1,62 @@
--- Demand 3 as one statement. From an empty table any calls are made, one after the other. The live set that they leave is restored
--- into an empty table with the same settings, each live session by one request, in any order. Then every restoration is accepted,
--- and the two tables are equal octet for octet, with equal free counts and equal maps of taken TEIDs.
+-- Demand 3 as one statement. An empty table is made, and any calls follow, each of which leaves what its contract says it leaves: the host
+-- outcome, the reply space and the table of `serve`, or the answer of `countFree`. Then
+-- * the table holds the live set that the messages, outcomes and replies alone determine, field by field, in the octets that encode it; the
+--   free count and the map of taken TEIDs are those of the live set;
+-- * one restoration request for each live session, in any order, run on an empty table with the same settings, is accepted each time, and
+--   leaves the same octets, the same free count and the same map;
+-- * any other calls from an empty table with the same settings that leave the same live set leave the same octets.
 -- Assumes nothing.
 use mathlib.Core.Path.{_≡_}
-use Prim.Native.Nat.{ℕ}
+use Prim.Native.Nat.{ℕ, _-_}
 use mathlib.Core.Bool.{Bool, true, _&&_}
 use mathlib.Core.List.{List, [], _∷_, map, List·Permᴰ}
 use lib.ListN.{length}
 use lib.Dec.{T, leb}
 use Rattle.octets.specs.Choice.{allOf}
 use Rattle.octets.specs.Octets.{octets}
-use Rattle.octets.specs.Lists.{all}
-use Rattle.rules.specs.Model.{Settings, Session, Sessions}
-use Rattle.rules.specs.Limits.{maxSessions}
-use Rattle.rules.specs.Layout.{viewSettings, viewSessions}
-use Rattle.rules.specs.Sound.{make, countFree, takenMap}
-use Rattle.rules.specs.Serve.{serve}
+use Rattle.octets.specs.Lists.{all, distinct}
+use Rattle.rules.specs.Limits.{maxSessions, minSpace}
+use Rattle.rules.specs.Model.{Settings, Session, Sessions, heldTeids}
+use Rattle.rules.specs.Layout.{encode, viewSettings, viewSessions}
+use Rattle.rules.specs.Sound.{make, Count, free, countFree, takenMap}
+use Rattle.rules.specs.Serve.{serve, Served}
 use Rattle.rules.specs.Live.{Event, replied, counted, accepted, live}
 use Rattle.rules.specs.Restoration.{Peer, peerAllowed, restoration}
-use Rattle.rules.specs.Limits.{minSpace}
+use Rattle.rules.specs.Calls.{Call, request, count}
 
--- a call: a request with its message and reply space, or a free count
-pub data Call : Type 0 where
-  request : List ℕ → List ℕ → Call
-  count : Call
+-- ---- a run
+
+-- one call as it went: a request with its message and reply space, and the outcome, reply space and table at exit; or a free count and its answer
+pub data Step : Type 0 where
+  asked : List ℕ → List ℕ → Served → Step
+  told : Count → Step
 
 -- any octets at all
-unfoldable pub callAllowed : Call → Bool
-callAllowed (request msg space) = octets msg && octets space
-callAllowed count = true
+unfoldable pub stepAllowed : Step → Bool
+stepAllowed (asked msg space r) = octets msg && octets space
+stepAllowed (told c) = true
 
--- the table after a call, and what the host sees of it
-unfoldable pub tableAfter : ℕ → List ℕ → Call → List ℕ
-tableAfter limit t (request msg space) = serve limit t msg space .table
-tableAfter limit t count = t
+-- on the table t each call left what its contract says, and the next call had the table that it left
+abbrev pub Ran : ℕ → List ℕ → List Step → Type 0
+Ran limit t [] = Unit
+Ran limit t (asked msg space r ∷ steps) = (r ≡ serve limit t msg space) × Ran limit (r .table) steps
+Ran limit t (told c ∷ steps) = (c ≡ countFree limit t) × Ran limit t steps
 
-unfoldable pub eventOf : ℕ → List ℕ → Call → Event
-eventOf limit t (request msg space) = replied msg (serve limit t msg space .outcome) (serve limit t msg space .space)
-eventOf limit t count = counted
+-- the table that the last one left
+unfoldable pub lastTable : List ℕ → List Step → List ℕ
+lastTable t [] = t
+lastTable t (asked msg space r ∷ steps) = lastTable (r .table) steps
+lastTable t (told c ∷ steps) = lastTable t steps
 
--- the same for calls one after the other
-unfoldable pub tableAfterAll : ℕ → List ℕ → List Call → List ℕ
-tableAfterAll limit t [] = t
-tableAfterAll limit t (c ∷ cs) = tableAfterAll limit (tableAfter limit t c) cs
+-- what the live set is folded from: message, outcome and reply, never the table
+unfoldable pub eventIn : Step → Event
+eventIn (asked msg space r) = replied msg (r .outcome) (r .space)
+eventIn (told c) = counted
 
-unfoldable pub eventsOf : ℕ → List ℕ → List Call → List Event
-eventsOf limit t [] = []
-eventsOf limit t (c ∷ cs) = eventOf limit t c ∷ eventsOf limit (tableAfter limit t c) cs
+unfoldable pub liveSet : List Step → Sessions
+liveSet steps = live (map eventIn steps)
+
+-- ---- restorations
 
 -- one live session's restoration: the session, what may be any, and the reply space
 pub record Restore : Type 0 where
@@ -67,32 +77,49 @@ restoreCall s r = request (restoration s (r .peer) (r .session)) (r .space)
 unfoldable pub restoreCalls : Settings → List Restore → List Call
 restoreCalls s rs = map (restoreCall s) rs
 
+-- the call that a step was
+unfoldable pub callIn : Step → Call
+callIn (asked msg space r) = request msg space
+callIn (told c) = count
+
+-- ---- what is promised
+
 unfoldable pub mapOf : List ℕ → List ℕ
 mapOf t = takenMap (viewSettings t) (viewSessions t)
 
--- the live set that calls on a table leave
-unfoldable pub liveAfter : ℕ → List ℕ → List Call → Sessions
-liveAfter limit t cs = live (eventsOf limit t cs)
+-- the table t holds the settings s and the sessions m
+pub record Holds (limit : ℕ) (s : Settings) (m : Sessions) (t : List ℕ) : Type 0 where
+  pub settings : viewSettings t ≡ s
+  pub records : viewSessions t ≡ m
+  pub encoded : t ≡ encode limit s m
+  pub count : countFree limit t ≡ free (s .size - distinct (heldTeids m))
+  pub marks : mapOf t ≡ takenMap s m
 
--- what is promised of the table t after the calls, and of restorations rs run on the empty table t₀
-pub record Restores (limit : ℕ) (s : Settings) (t : List ℕ) (t₀ : List ℕ) (rs : List Restore) : Type 0 where
-  pub each : T (all accepted (eventsOf limit t₀ (restoreCalls s rs)))
-  pub octetsEqual : tableAfterAll limit t₀ (restoreCalls s rs) ≡ t
-  pub countEqual : countFree limit (tableAfterAll limit t₀ (restoreCalls s rs)) ≡ countFree limit t
-  pub mapEqual : mapOf (tableAfterAll limit t₀ (restoreCalls s rs)) ≡ mapOf t
+-- restorations that ran on an empty table t₀ left the table t
+pub record Restores (limit : ℕ) (t : List ℕ) (t₀ : List ℕ) (steps : List Step) : Type 0 where
+  pub each : T (all accepted (map eventIn steps))
+  pub octetsEqual : lastTable t₀ steps ≡ t
+  pub countEqual : countFree limit (lastTable t₀ steps) ≡ countFree limit t
+  pub mapEqual : mapOf (lastTable t₀ steps) ≡ mapOf t
 
--- a and b are any octets that an empty table is made in; `List·Permᴰ` says that the restorations are of the live set, in any order
+-- of the table t that a run with the settings s left, and its live set m; `List·Permᴰ` says "one for each, in any order"
+pub record Promise (limit : ℕ) (s : Settings) (m : Sessions) (t : List ℕ) : Type 0 where
+  pub holds : Holds limit s m t
+  pub restores : (b : List ℕ) (rs : List Restore) (steps : List Step) → T (make limit s b .made) → T (all restoreAllowed rs)
+      → Ran limit (make limit s b .table) steps → map callIn steps ≡ restoreCalls s rs → List·Permᴰ m (map restored rs)
+      → Restores limit t (make limit s b .table) steps
+  pub noHistory : (b : List ℕ) (steps : List Step) → T (make limit s b .made) → T (all stepAllowed steps)
+      → Ran limit (make limit s b .table) steps → liveSet steps ≡ m → lastTable (make limit s b .table) steps ≡ t
+
+-- a and b are any octets that an empty table is made in
 unfoldable pub Claim : ℕ → Type 0
 Claim limit =
-    (s : Settings) (a b : List ℕ) (cs : List Call) (rs : List Restore)
-    → T (make limit s a .made) → T (make limit s b .made)
-    → T (all callAllowed cs) → T (all restoreAllowed rs)
-    → List·Permᴰ (liveAfter limit (make limit s a .table) cs) (map restored rs)
-    → Restores limit s (tableAfterAll limit (make limit s a .table) cs) (make limit s b .table) rs
+    (s : Settings) (a : List ℕ) (steps : List Step) → T (make limit s a .made) → T (all stepAllowed steps) → Ran limit (make limit s a .table) steps
+    → Promise limit s (liveSet steps) (lastTable (make limit s a .table) steps)
 
 unfoldable pub Demand3 : Type 0
 Demand3 = Claim maxSessions
 
 unfoldable pub computing : ℕ
-unfolding callAllowed tableAfter eventOf tableAfterAll eventsOf restoreAllowed restoreCall restoreCalls mapOf liveAfter
+unfolding stepAllowed lastTable eventIn liveSet restoreAllowed restoreCall restoreCalls callIn mapOf
 computing = 0

@@ -12,4 +12,5 @@ pub mod Reply
 pub mod Serve
 pub mod Live
 pub mod Restoration
+pub mod Calls
 pub mod Claim
