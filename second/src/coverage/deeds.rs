@@ -1,0 +1,334 @@
+//! What an accepted request has done, for the counters.
+
+use std::collections::{BTreeMap, BTreeSet};
+
+use crate::element::f_teid::FTeid;
+use crate::element::fq_csid::NodeId;
+use crate::request::{FarChange, Kind, Record, Request};
+use crate::session::{Local, Session, Sessions};
+
+/// What an accepted request has done.
+#[derive(Clone, Copy, PartialEq, Eq, PartialOrd, Ord, Debug)]
+pub enum Done {
+    Establishment,
+    Restoration,
+    Modification,
+    Deletion,
+    PdrWithNeither,
+    PdrWithOwnChoose,
+    PdrWithSoleChooseId,
+    PdrsSharingChooseId,
+    PdrNamingCreatedEndpoint,
+    PdrNamingLiveEndpoint,
+    EndpointWithChoose,
+    FarGiven,
+    NoFarGiven,
+    GrantV4,
+    GrantV6,
+    GrantBoth,
+    RestorationWithoutRecords,
+    RestorationWithoutPdr,
+    RestoredPdr,
+    RestoredPdrsSharing,
+    RestoredEndpoint,
+    RestoredPdrNamingEndpoint,
+    ModificationOfNothing,
+    PdrRemoved,
+    TunnelFreed,
+    TunnelKeptBySharing,
+    EndpointRemoved,
+    EndpointRemovedWithItsPdrs,
+    PrecedenceUpdated,
+    FarUpdated,
+    FarTakenAway,
+    AbsentFarTakenAway,
+    UpdateOfNothing,
+    FqCsidSetNew,
+    FqCsidReplaced,
+    FqCsidRemoved,
+    AbsentFqCsidRemoved,
+    AllFqCsidsRemoved,
+    AllOfNoFqCsidsRemoved,
+    FqCsidIpv4,
+    FqCsidIpv6,
+    FqCsidOperator,
+    DeletionWithOneCsid,
+    DeletionWithManyCsids,
+    LargestSession,
+}
+
+pub const ALL_DONE: [Done; 45] = [
+    Done::Establishment,
+    Done::Restoration,
+    Done::Modification,
+    Done::Deletion,
+    Done::PdrWithNeither,
+    Done::PdrWithOwnChoose,
+    Done::PdrWithSoleChooseId,
+    Done::PdrsSharingChooseId,
+    Done::PdrNamingCreatedEndpoint,
+    Done::PdrNamingLiveEndpoint,
+    Done::EndpointWithChoose,
+    Done::FarGiven,
+    Done::NoFarGiven,
+    Done::GrantV4,
+    Done::GrantV6,
+    Done::GrantBoth,
+    Done::RestorationWithoutRecords,
+    Done::RestorationWithoutPdr,
+    Done::RestoredPdr,
+    Done::RestoredPdrsSharing,
+    Done::RestoredEndpoint,
+    Done::RestoredPdrNamingEndpoint,
+    Done::ModificationOfNothing,
+    Done::PdrRemoved,
+    Done::TunnelFreed,
+    Done::TunnelKeptBySharing,
+    Done::EndpointRemoved,
+    Done::EndpointRemovedWithItsPdrs,
+    Done::PrecedenceUpdated,
+    Done::FarUpdated,
+    Done::FarTakenAway,
+    Done::AbsentFarTakenAway,
+    Done::UpdateOfNothing,
+    Done::FqCsidSetNew,
+    Done::FqCsidReplaced,
+    Done::FqCsidRemoved,
+    Done::AbsentFqCsidRemoved,
+    Done::AllFqCsidsRemoved,
+    Done::AllOfNoFqCsidsRemoved,
+    Done::FqCsidIpv4,
+    Done::FqCsidIpv6,
+    Done::FqCsidOperator,
+    Done::DeletionWithOneCsid,
+    Done::DeletionWithManyCsids,
+    Done::LargestSession,
+];
+
+/// What an accepted request does, each thing once.
+pub fn deeds(request: &Request, before: &Sessions) -> BTreeSet<Done> {
+    let nothing = Session::default();
+    let own = match request.header.kind {
+        Kind::Establishment => &nothing,
+        _ => before.get(&request.header.seid).unwrap_or(&nothing),
+    };
+    let mut done = BTreeSet::new();
+    match (request.header.kind, request.restoration) {
+        (Kind::Establishment, true) => {
+            done.insert(Done::Restoration);
+            deeds_of_restoration(request, &mut done);
+        }
+        (Kind::Establishment, false) => {
+            done.insert(Done::Establishment);
+            deeds_of_creation(request, &mut done);
+        }
+        (Kind::Modification, _) => {
+            done.insert(Done::Modification);
+            if request.records.is_empty() {
+                done.insert(Done::ModificationOfNothing);
+            }
+            deeds_of_creation(request, &mut done);
+            deeds_of_removal(request, own, &mut done);
+            deeds_of_update(request, own, &mut done);
+        }
+        (Kind::Deletion, _) => {
+            done.insert(Done::Deletion);
+            for record in &request.records {
+                if let Record::FqCsid(fq_csid) = record {
+                    done.insert(match fq_csid.csids.len() {
+                        1 => Done::DeletionWithOneCsid,
+                        _ => Done::DeletionWithManyCsids,
+                    });
+                }
+            }
+            return done;
+        }
+    }
+    deeds_of_fq_csids(request, own, &mut done);
+    let count = |wanted: fn(&Record) -> bool| request.records.iter().filter(|r| wanted(r)).count();
+    if count(|record| matches!(record, Record::CreatePdr { .. })) == 16
+        && count(|record| matches!(record, Record::CreateEndpoint { .. })) == 8
+        && count(|record| matches!(record, Record::FqCsid(_))) == 6
+    {
+        done.insert(Done::LargestSession);
+    }
+    done
+}
+
+fn deeds_of_creation(request: &Request, done: &mut BTreeSet<Done>) {
+    let mut uses: BTreeMap<u8, u32> = BTreeMap::new();
+    let created: BTreeSet<u8> = request.records.iter().filter_map(created_endpoint).collect();
+    for record in &request.records {
+        match record {
+            Record::CreatePdr { pdi, far_id, .. } => {
+                done.insert(match far_id {
+                    Some(_) => Done::FarGiven,
+                    None => Done::NoFarGiven,
+                });
+                match (&pdi.f_teid, pdi.endpoint) {
+                    (Some(FTeid::Choose { choose_id: Some(id), .. }), _) => {
+                        *uses.entry(*id).or_insert(0) += 1;
+                    }
+                    (Some(_), _) => {
+                        done.insert(Done::PdrWithOwnChoose);
+                    }
+                    (None, Some(id)) if created.contains(&id) => {
+                        done.insert(Done::PdrNamingCreatedEndpoint);
+                    }
+                    (None, Some(_)) => {
+                        done.insert(Done::PdrNamingLiveEndpoint);
+                    }
+                    (None, None) => {
+                        done.insert(Done::PdrWithNeither);
+                    }
+                }
+            }
+            Record::CreateEndpoint { .. } => {
+                done.insert(Done::EndpointWithChoose);
+            }
+            _ => {}
+        }
+    }
+    for count in uses.values() {
+        done.insert(match count {
+            1 => Done::PdrWithSoleChooseId,
+            _ => Done::PdrsSharingChooseId,
+        });
+    }
+    for (f_teid, _) in request.f_teids() {
+        let families = f_teid.families();
+        done.insert(match (families.v4, families.v6) {
+            (true, true) => Done::GrantBoth,
+            (true, false) => Done::GrantV4,
+            _ => Done::GrantV6,
+        });
+    }
+}
+
+fn created_endpoint(record: &Record) -> Option<u8> {
+    match record {
+        Record::CreateEndpoint { id, .. } => Some(*id),
+        _ => None,
+    }
+}
+
+fn deeds_of_restoration(request: &Request, done: &mut BTreeSet<Done>) {
+    let mut teids = BTreeSet::new();
+    let mut pdrs = 0;
+    for record in &request.records {
+        match record {
+            Record::CreatePdr { pdi, .. } => {
+                pdrs += 1;
+                if let Some(FTeid::Given { teid, .. }) = &pdi.f_teid {
+                    done.insert(match teids.insert(*teid) {
+                        true => Done::RestoredPdr,
+                        false => Done::RestoredPdrsSharing,
+                    });
+                }
+                if pdi.endpoint.is_some() {
+                    done.insert(Done::RestoredPdrNamingEndpoint);
+                }
+            }
+            Record::CreateEndpoint { .. } => {
+                done.insert(Done::RestoredEndpoint);
+            }
+            _ => {}
+        }
+    }
+    if request.records.is_empty() {
+        done.insert(Done::RestorationWithoutRecords);
+    } else if pdrs == 0 {
+        done.insert(Done::RestorationWithoutPdr);
+    }
+}
+
+fn deeds_of_removal(request: &Request, own: &Session, done: &mut BTreeSet<Done>) {
+    let mut after = own.clone();
+    for record in &request.records {
+        match record {
+            Record::RemovePdr { id } => {
+                after.pdrs.remove(id);
+            }
+            Record::RemoveEndpoint { id } => {
+                after.endpoints.remove(id);
+            }
+            _ => {}
+        }
+    }
+    let left: BTreeSet<u32> = after.teids().collect();
+    for record in &request.records {
+        match record {
+            Record::RemovePdr { id } => {
+                done.insert(Done::PdrRemoved);
+                if let Local::Tunnel(tunnel) = own.pdrs[id].local {
+                    done.insert(match left.contains(&tunnel.teid) {
+                        true => Done::TunnelKeptBySharing,
+                        false => Done::TunnelFreed,
+                    });
+                }
+            }
+            Record::RemoveEndpoint { id } => {
+                done.insert(match own.is_named(*id) {
+                    true => Done::EndpointRemovedWithItsPdrs,
+                    false => Done::EndpointRemoved,
+                });
+            }
+            _ => {}
+        }
+    }
+}
+
+fn deeds_of_update(request: &Request, own: &Session, done: &mut BTreeSet<Done>) {
+    for record in &request.records {
+        if let Record::UpdatePdr { id, precedence, far, .. } = record {
+            if precedence.is_some() {
+                done.insert(Done::PrecedenceUpdated);
+            }
+            match far {
+                FarChange::Set(_) => {
+                    done.insert(Done::FarUpdated);
+                }
+                FarChange::TakenAway => {
+                    done.insert(match own.pdrs[id].far_id {
+                        Some(_) => Done::FarTakenAway,
+                        None => Done::AbsentFarTakenAway,
+                    });
+                }
+                FarChange::Stays if precedence.is_none() => {
+                    done.insert(Done::UpdateOfNothing);
+                }
+                FarChange::Stays => {}
+            }
+        }
+    }
+}
+
+fn deeds_of_fq_csids(request: &Request, own: &Session, done: &mut BTreeSet<Done>) {
+    for record in &request.records {
+        match record {
+            Record::FqCsid(fq_csid) => {
+                let held = own.fq_csids.contains_key(&fq_csid.node_type);
+                done.insert(match (fq_csid.is_removal(), held) {
+                    (true, true) => Done::FqCsidRemoved,
+                    (true, false) => Done::AbsentFqCsidRemoved,
+                    (false, true) => Done::FqCsidReplaced,
+                    (false, false) => Done::FqCsidSetNew,
+                });
+                if !fq_csid.is_removal() {
+                    done.insert(match fq_csid.node {
+                        NodeId::Ipv4(_) => Done::FqCsidIpv4,
+                        NodeId::Ipv6(_) => Done::FqCsidIpv6,
+                        NodeId::Operator { .. } => Done::FqCsidOperator,
+                    });
+                }
+            }
+            Record::RemoveAllFqCsids => {
+                done.insert(match own.fq_csids.is_empty() {
+                    true => Done::AllOfNoFqCsidsRemoved,
+                    false => Done::AllFqCsidsRemoved,
+                });
+            }
+            _ => {}
+        }
+    }
+}

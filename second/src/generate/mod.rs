@@ -1,0 +1,308 @@
+//! A seeded generator of sequences of calls. It writes its messages by itself and uses none of the
+//! readers and writers under test; of the run it sees the live set only, which whoever drives it
+//! folds from the replies. So it can drive any implementation of the rules.
+
+pub mod damage;
+pub mod draft;
+pub mod flaws;
+pub mod plan;
+pub mod planner;
+pub mod random;
+pub mod requests;
+
+use crate::session::{Session, Sessions};
+use crate::settings::Settings;
+use draft::{lay_out, Draft, Node};
+use plan::{Plan, DELETION, ESTABLISHMENT, MODIFICATION};
+use planner::Planner;
+use random::Random;
+
+/// What a sequence is about.
+#[derive(Clone, Copy, PartialEq, Eq, Debug)]
+pub enum Flavour {
+    /// A pool of a few TEIDs.
+    Tight,
+    /// A few dozen TEIDs.
+    Middle,
+    /// Many small sessions.
+    Crowd,
+    /// Few sessions with many records.
+    Full,
+}
+
+/// The frame of one sequence of calls.
+#[derive(Clone, Debug)]
+pub struct Scenario {
+    pub settings: Settings,
+    pub calls: usize,
+    pub flavour: Flavour,
+    /// Sessions that were deleted, for restoring them.
+    graves: Vec<(u64, Session)>,
+}
+
+#[derive(Clone, Debug)]
+pub struct Call {
+    pub message: Vec<u8>,
+    pub reply_space: usize,
+}
+
+pub struct Generator {
+    random: Random,
+    made: usize,
+}
+
+impl Generator {
+    pub fn new(seed: u64) -> Generator {
+        Generator { random: Random::new(seed), made: 0 }
+    }
+
+    pub fn scenario(&mut self) -> Scenario {
+        let flavours = [Flavour::Tight, Flavour::Middle, Flavour::Full, Flavour::Crowd];
+        let flavour = flavours[self.made % flavours.len()];
+        self.made += 1;
+        let random = &mut self.random;
+        let size = match flavour {
+            Flavour::Tight => random.between(1, 6),
+            Flavour::Middle => random.between(8, 70),
+            Flavour::Crowd => random.pick(&[200, 1000, 4095, 4096]),
+            Flavour::Full => random.pick(&[40, 64, 65, 4096]),
+        } as u32;
+        let first = match random.below(4) {
+            0 => 1,
+            1 => u32::MAX - (size - 1),
+            2 => 4096,
+            _ => 1 + random.below(1 << 31) as u32,
+        };
+        let ipv4 = random.pick(&[[192, 0, 2, 1], [0, 0, 0, 0], [10, 1, 2, 3]]);
+        let mut ipv6 = None;
+        if random.percent(60) {
+            let address: [u8; 16] = std::array::from_fn(|_| random.octet());
+            ipv6 = Some(address);
+        }
+        let settings = Settings { ipv4, ipv6, first, size };
+        Scenario { settings, calls: 250, flavour, graves: vec![] }
+    }
+
+    /// The next call of a sequence, for the sessions that live now.
+    pub fn call(&mut self, scenario: &mut Scenario, live: &Sessions) -> Call {
+        let reply_space = match self.random.below(10) {
+            0 => self.random.between(1024, 4096),
+            _ => 1024,
+        };
+        // A crowd has to gather first.
+        let gathering = scenario.flavour == Flavour::Crowd && live.len() < 64;
+        let message = match self.random.below(100) {
+            _ if gathering && self.random.percent(60) => self.sound(scenario, live).octets(),
+            0..=2 => {
+                let message = self.sound(scenario, live).octets();
+                let reply_space = self.random.pick(&[0, 1, 16, 512, 1022, 1023]);
+                return Call { message, reply_space };
+            }
+            3..=5 => self.of_edge_length(scenario, live),
+            6..=9 => self.with_wrong_header(scenario, live),
+            10..=11 => {
+                let count = self.random.below(80);
+                self.random.octets(count)
+            }
+            12..=14 => self.soup(live),
+            15..=17 => self.with_octets_changed(scenario, live),
+            18..=52 => self.damaged(scenario, live),
+            53..=78 => self.flawed(scenario, live).octets(),
+            _ => self.sound(scenario, live).octets(),
+        };
+        Call { message, reply_space }
+    }
+
+    fn planner<'a>(&'a mut self, scenario: &'a Scenario, live: &'a Sessions) -> Planner<'a> {
+        let (settings, flavour) = (&scenario.settings, scenario.flavour);
+        Planner { random: &mut self.random, settings, live, flavour }
+    }
+
+    /// A plan that fits the live sessions.
+    fn plan(&mut self, scenario: &mut Scenario, live: &Sessions) -> Plan {
+        let graves = scenario.graves.clone();
+        let mut planner = self.planner(scenario, live);
+        let Some(seid) = planner.live_seid() else { return planner.establishment() };
+        // Of a hundred: establishments, modifications, restorations; the rest are deletions.
+        let (establishments, modifications, restorations) = match planner.flavour {
+            Flavour::Tight => (32, 40, 15),
+            Flavour::Middle => (28, 47, 15),
+            Flavour::Crowd if live.len() < 62 => (66, 22, 11),
+            Flavour::Crowd => (40, 12, 40),
+            Flavour::Full => (12, 62, 20),
+        };
+        let chance = planner.random.below(100);
+        if chance < establishments {
+            planner.establishment()
+        } else if chance < establishments + modifications {
+            planner.modification(seid)
+        } else if chance < establishments + modifications + restorations {
+            planner.restoration(&graves)
+        } else {
+            let plan = planner.deletion(seid);
+            scenario.graves.push((seid, live[&seid].clone()));
+            if scenario.graves.len() > 8 {
+                scenario.graves.remove(0);
+            }
+            plan
+        }
+    }
+
+    /// A sound request, sometimes with elements that are to be skipped.
+    fn sound(&mut self, scenario: &mut Scenario, live: &Sessions) -> Draft {
+        let plan = self.plan(scenario, live);
+        let noise = self.random.percent(50);
+        let mut draft = lay_out(&plan, &mut self.random, noise);
+        if noise {
+            for _ in 0..self.random.below(5) {
+                damage::add_skipped(&mut draft, &mut self.random);
+            }
+        }
+        draft
+    }
+
+    /// A request against a rule of stage 4 or 5, or two.
+    fn flawed(&mut self, scenario: &mut Scenario, live: &Sessions) -> Draft {
+        let mut plan = match self.random.percent(25) {
+            true => {
+                let graves = scenario.graves.clone();
+                self.planner(scenario, live).restoration(&graves)
+            }
+            false => self.plan(scenario, live),
+        };
+        let twice = self.random.percent(40);
+        let mut planner = self.planner(scenario, live);
+        planner.add_flaw(&mut plan);
+        if twice {
+            planner.add_flaw(&mut plan);
+        }
+        if self.random.percent(50) {
+            self.random.shuffle(&mut plan.items);
+        }
+        let noise = self.random.percent(20);
+        lay_out(&plan, &mut self.random, noise)
+    }
+
+    fn damaged(&mut self, scenario: &mut Scenario, live: &Sessions) -> Vec<u8> {
+        let plan = match self.random.below(10) {
+            0..=1 => self.plan(scenario, live),
+            _ => {
+                let mut planner = self.planner(scenario, live);
+                let kind = match planner.random.below(20) {
+                    0..=6 => ESTABLISHMENT,
+                    7..=16 => MODIFICATION,
+                    _ => DELETION,
+                };
+                let unknown = planner.random.percent(11);
+                let seid = match (kind, planner.live_seid()) {
+                    (MODIFICATION | DELETION, Some(seid)) if !unknown => seid,
+                    _ => planner.unused_seid(),
+                };
+                planner.rich(kind, seid)
+            }
+        };
+        let mut draft = lay_out(&plan, &mut self.random, false);
+        if plan.message_type == ESTABLISHMENT && !draft.nodes.iter().any(|n| n.ie_type == 186) {
+            draft.nodes.insert(0, Node::leaf(186, vec![0]));
+        }
+        for _ in 0..self.random.pick(&[1, 1, 1, 1, 2, 3]) {
+            damage::damage(&mut draft, &mut self.random);
+        }
+        draft.octets()
+    }
+
+    /// Around the largest message: filled up with a vendor element.
+    fn of_edge_length(&mut self, scenario: &mut Scenario, live: &Sessions) -> Vec<u8> {
+        let mut draft = self.sound(scenario, live);
+        let length = draft.octets().len();
+        let wanted = self.random.pick(&[2047, 2048, 2048, 2049, 2050, 2500, 5000]);
+        if length + 4 <= wanted {
+            let filling = vec![0; wanted - length - 4];
+            draft.nodes.push(Node::leaf(50000, filling));
+        }
+        draft.octets()
+    }
+
+    fn with_wrong_header(&mut self, scenario: &mut Scenario, live: &Sessions) -> Vec<u8> {
+        let mut draft = self.sound(scenario, live);
+        match self.random.below(7) {
+            0 => draft.first_octet ^= 1,
+            1 => draft.first_octet |= 4,
+            2 => {
+                draft.first_octet = draft.first_octet & 0x1F | self.random.pick(&[0, 2, 3, 7]) << 5
+            }
+            3 => draft.length_shift = self.random.pick(&[-16, -4, -1, 1, 4, 256]),
+            4 => draft.message_type = self.random.pick(&[1, 5, 49, 51, 53, 55, 56, 0, 255]),
+            5 => draft.seid = self.random.pick(&[0, 12345, u64::MAX - 1]),
+            _ => {
+                let mut message = draft.octets();
+                let some = self.random.below(17);
+                message.truncate(self.random.pick(&[15, 16, some, some]));
+                return message;
+            }
+        }
+        draft.octets()
+    }
+
+    /// A sound message with a few bits flipped or cut short, mostly with its length set right.
+    fn with_octets_changed(&mut self, scenario: &mut Scenario, live: &Sessions) -> Vec<u8> {
+        let mut message = match self.random.percent(50) {
+            true => self.sound(scenario, live).octets(),
+            false => self.flawed(scenario, live).octets(),
+        };
+        for _ in 0..self.random.below(4) {
+            let at =
+                self.random.between(if message.len() > 16 { 16 } else { 0 }, message.len() - 1);
+            message[at] ^= 1 << self.random.below(8);
+        }
+        if self.random.percent(40) {
+            let length = self.random.between(16, message.len());
+            message.truncate(length);
+        }
+        if message.len() >= 16 && self.random.percent(90) {
+            let length = (message.len() - 4) as u16;
+            message[2..4].copy_from_slice(&length.to_be_bytes());
+        }
+        message
+    }
+
+    /// A right header and random elements, most of them of types that the rules name.
+    fn soup(&mut self, live: &Sessions) -> Vec<u8> {
+        let seids: Vec<u64> = live.keys().copied().collect();
+        let seid = if seids.is_empty() { 1 } else { self.random.pick(&seids) };
+        let message_type = self.random.pick(&[ESTABLISHMENT, MODIFICATION, MODIFICATION, DELETION]);
+        let nodes = self.soup_nodes(3);
+        Draft {
+            first_octet: 0x21,
+            message_type,
+            seid,
+            sequence: 7,
+            spare: 0,
+            length_shift: 0,
+            nodes,
+        }
+        .octets()
+    }
+
+    fn soup_nodes(&mut self, depth: usize) -> Vec<Node> {
+        let types =
+            [1, 1, 2, 2, 9, 15, 20, 21, 29, 56, 56, 57, 65, 108, 127, 129, 130, 131, 186, 40000];
+        let mut nodes = Vec::new();
+        for _ in 0..self.random.below(6) {
+            let ie_type = self.random.pick(&types);
+            let group = [1, 2, 9, 15, 127, 130].contains(&ie_type) && depth > 0;
+            let mut node = match group {
+                true => Node::group(ie_type, self.soup_nodes(depth - 1)),
+                false => {
+                    let count = self.random.pick(&[0, 1, 2, 4, 5, 8, 13]);
+                    Node::leaf(ie_type, self.random.octets(count))
+                }
+            };
+            if self.random.percent(4) {
+                node.length_shift = self.random.pick(&[-2, -1, 1, 3]);
+            }
+            nodes.push(node);
+        }
+        nodes
+    }
+}

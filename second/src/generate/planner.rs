@@ -1,0 +1,194 @@
+//! The IDs and values that plans are made of, fitting the settings and the live sessions.
+
+use std::collections::{BTreeMap, BTreeSet};
+
+use super::plan::*;
+use super::random::Random;
+use super::Flavour;
+use crate::session::{Session, Sessions};
+use crate::settings::Settings;
+
+pub struct Planner<'a> {
+    pub random: &'a mut Random,
+    pub settings: &'a Settings,
+    pub live: &'a Sessions,
+    pub flavour: Flavour,
+}
+
+/// The families and source interface that go with a CHOOSE ID within one request.
+pub type Uses = BTreeMap<u8, (bool, bool, u8)>;
+
+impl Planner<'_> {
+    // IDs: small spaces, so that they meet again.
+
+    fn pdr_id_space(&self) -> Vec<u16> {
+        match self.flavour {
+            Flavour::Full => (0..=19).collect(),
+            _ => (0..=6).chain([65535]).collect(),
+        }
+    }
+
+    fn endpoint_id_space(&self) -> Vec<u8> {
+        match self.flavour {
+            Flavour::Full => (0..=10).collect(),
+            _ => (0..=4).chain([255]).collect(),
+        }
+    }
+
+    pub fn unused_pdr_id(&mut self, plan: &Plan, own: Option<&Session>) -> u16 {
+        let mut used: BTreeSet<u16> = plan.pdr_ids().into_iter().collect();
+        used.extend(own.iter().flat_map(|session| session.pdrs.keys()));
+        let mut rest = self.pdr_id_space();
+        rest.retain(|id| !used.contains(id));
+        loop {
+            let id = match rest.is_empty() {
+                true => self.random.number() as u16,
+                false => self.random.pick(&rest),
+            };
+            if !used.contains(&id) {
+                return id;
+            }
+        }
+    }
+
+    pub fn unused_endpoint_id(&mut self, plan: &Plan, own: Option<&Session>) -> u8 {
+        let mut used: BTreeSet<u8> = plan.endpoint_ids().into_iter().collect();
+        used.extend(own.iter().flat_map(|session| session.endpoints.keys()));
+        let mut rest = self.endpoint_id_space();
+        rest.retain(|id| !used.contains(id));
+        loop {
+            let id = match rest.is_empty() {
+                true => self.random.octet(),
+                false => self.random.pick(&rest),
+            };
+            if !used.contains(&id) {
+                return id;
+            }
+        }
+    }
+
+    pub fn unused_seid(&mut self) -> u64 {
+        let last = match self.flavour {
+            Flavour::Crowd => 90,
+            Flavour::Full => 4,
+            _ => 10,
+        };
+        let mut rest: Vec<u64> = (1..=last).chain([u64::MAX, 1 << 63]).collect();
+        rest.retain(|seid| !self.live.contains_key(seid));
+        match rest.is_empty() {
+            true => self.random.number() | 1 << 40,
+            false => self.random.pick(&rest),
+        }
+    }
+
+    pub fn live_seid(&mut self) -> Option<u64> {
+        let seids: Vec<u64> = self.live.keys().copied().collect();
+        (!seids.is_empty()).then(|| self.random.pick(&seids))
+    }
+
+    // Values.
+
+    pub fn number32(&mut self) -> u32 {
+        match self.random.below(4) {
+            0 => self.random.below(3) as u32,
+            1 => u32::MAX,
+            _ => self.random.number() as u32,
+        }
+    }
+
+    pub fn far_id(&mut self) -> Option<u32> {
+        self.random.percent(60).then(|| self.number32())
+    }
+
+    pub fn source_interface(&mut self) -> u8 {
+        self.random.pick(&[0, 0, 0, 1, 1, 2, 3, 15])
+    }
+
+    pub fn families(&mut self) -> (bool, bool) {
+        match self.settings.ipv6 {
+            None => (true, false),
+            Some(_) => self.random.pick(&[(true, false), (false, true), (true, true)]),
+        }
+    }
+
+    pub fn given(&self, teid: u32, (v4, v6): (bool, bool)) -> Ask {
+        let ipv6 = self.settings.ipv6.unwrap_or([0; 16]);
+        Ask::Given { teid, ipv4: v4.then_some(self.settings.ipv4), ipv6: v6.then_some(ipv6) }
+    }
+
+    pub fn choose(&mut self) -> Ask {
+        let (v4, v6) = self.families();
+        Ask::Choose { v4, v6, id: None }
+    }
+
+    /// A PDR without a tunnel or endpoint.
+    pub fn plain_pdr(&mut self, id: u16) -> NewPdr {
+        NewPdr {
+            id,
+            precedence: self.number32(),
+            far_id: self.far_id(),
+            source_interface: self.source_interface(),
+            ask: None,
+            endpoint: None,
+        }
+    }
+
+    pub fn pdr(&mut self, id: u16, endpoints: &[u8], uses: &mut Uses) -> NewPdr {
+        let mut pdr = self.plain_pdr(id);
+        match self.random.below(20) {
+            0..=4 => {}
+            5..=9 => pdr.ask = Some(self.choose()),
+            10..=15 => {
+                let choose_id = self.random.pick(&[0, 1, 7, 255]);
+                let (v4, v6) = self.families();
+                let (v4, v6, source) =
+                    *uses.entry(choose_id).or_insert((v4, v6, pdr.source_interface));
+                pdr.source_interface = source;
+                pdr.ask = Some(Ask::Choose { v4, v6, id: Some(choose_id) });
+            }
+            _ if endpoints.is_empty() => {}
+            _ => pdr.endpoint = Some(self.random.pick(endpoints)),
+        }
+        pdr
+    }
+
+    /// FQ-CSID octets with so many CSIDs. The ignored half of the last octet is sometimes set.
+    pub fn fq_csid(&mut self, node_type: u8, m: usize) -> Vec<u8> {
+        let node_id_type = self.random.below(3) as u8;
+        self.fq_csid_of(node_id_type, node_type, m)
+    }
+
+    pub fn fq_csid_of(&mut self, node_id_type: u8, node_type: u8, m: usize) -> Vec<u8> {
+        let mut value = vec![node_id_type << 4 | m as u8];
+        match node_id_type {
+            0 => value.extend(self.random.octets(4)),
+            1 => value.extend(self.random.octets(16)),
+            _ => {
+                let top = self.random.pick(&[262_001, 999_999, 0, 123_045]);
+                value.extend((top << 12 | self.random.below(4096) as u32).to_be_bytes());
+            }
+        }
+        value.extend(self.random.octets(2 * m));
+        let high = if self.random.percent(10) { 0xA0 } else { 0 };
+        value.push(high | node_type);
+        value
+    }
+
+    pub fn fq_csid_removal(&mut self, node_type: u8) -> Vec<u8> {
+        vec![0, 0, 0, 0, 0, node_type]
+    }
+
+    pub fn node_types(&mut self) -> Vec<u8> {
+        let mut types = vec![0, 1, 2, 3, 4, 5];
+        self.random.shuffle(&mut types);
+        types
+    }
+
+    /// TEIDs of the pool that no live session holds, in some order.
+    pub fn free_teids(&mut self) -> Vec<u32> {
+        let taken: BTreeSet<u32> = self.live.values().flat_map(|s| s.teids()).collect();
+        let mut free: Vec<u32> = self.settings.pool().filter(|t| !taken.contains(t)).collect();
+        self.random.shuffle(&mut free);
+        free
+    }
+}

@@ -1,0 +1,299 @@
+//! Whole plans that fit the live sessions: establishments, restorations, modifications, deletions.
+
+use std::collections::BTreeSet;
+
+use super::plan::*;
+use super::planner::{Planner, Uses};
+use super::Flavour;
+use crate::element::fq_csid::NodeId;
+use crate::session::{Families, Local, Pdr, Session, Tunnel};
+
+impl Planner<'_> {
+    pub fn establishment(&mut self) -> Plan {
+        let seid = self.unused_seid();
+        let mut plan =
+            Plan { message_type: ESTABLISHMENT, seid, restoration: false, items: vec![] };
+        if self.flavour == Flavour::Full && self.random.percent(25) {
+            self.fill_whole(&mut plan);
+            return plan;
+        }
+        let endpoints = if self.random.percent(45) { self.random.between(1, 3) } else { 0 };
+        for _ in 0..endpoints {
+            let id = self.unused_endpoint_id(&plan, None);
+            let ask = self.choose();
+            plan.items.push(Item::CreateEndpoint { id, ask });
+        }
+        let most = if self.flavour == Flavour::Crowd { 2 } else { 5 };
+        self.add_pdrs(&mut plan, None, 1, most);
+        let count = self.random.pick(&[0, 0, 0, 1, 2, 6]);
+        for node_type in self.node_types().into_iter().take(count) {
+            let value = self.fq_csid(node_type, 1);
+            plan.items.push(Item::FqCsid(value));
+        }
+        self.order(&mut plan);
+        plan
+    }
+
+    /// The largest session: everything there is room for.
+    fn fill_whole(&mut self, plan: &mut Plan) {
+        let both = (true, self.settings.ipv6.is_some());
+        for id in 0..8 {
+            plan.items.push(Item::CreateEndpoint {
+                id,
+                ask: Ask::Choose { v4: both.0, v6: both.1, id: None },
+            });
+        }
+        for id in 0..16 {
+            let mut pdr = self.plain_pdr(id);
+            pdr.far_id = Some(self.number32());
+            pdr.ask = Some(Ask::Choose { v4: both.0, v6: both.1, id: None });
+            plan.items.push(Item::CreatePdr(pdr));
+        }
+        for node_type in 0..6 {
+            let value = self.fq_csid_of(1, node_type, 1);
+            plan.items.push(Item::FqCsid(value));
+        }
+        self.order(plan);
+    }
+
+    fn add_pdrs(&mut self, plan: &mut Plan, own: Option<&Session>, least: usize, most: usize) {
+        let mut endpoints: Vec<u8> = own.map_or(vec![], |s| s.endpoints.keys().copied().collect());
+        for item in &plan.items {
+            match item {
+                Item::CreateEndpoint { id, .. } => endpoints.push(*id),
+                Item::RemoveEndpoint(id) => endpoints.retain(|other| other != id),
+                _ => {}
+            }
+        }
+        let mut uses = Uses::new();
+        for _ in 0..self.random.between(least, most) {
+            let id = self.unused_pdr_id(plan, own);
+            let pdr = self.pdr(id, &endpoints, &mut uses);
+            plan.items.push(Item::CreatePdr(pdr));
+        }
+    }
+
+    fn order(&mut self, plan: &mut Plan) {
+        if self.random.percent(60) {
+            self.random.shuffle(&mut plan.items);
+        }
+    }
+
+    /// A restoration of a session that was deleted before, or of a new one.
+    pub fn restoration(&mut self, graves: &[(u64, Session)]) -> Plan {
+        if !graves.is_empty() && self.random.percent(50) {
+            let (seid, session) = self.random.pick(graves);
+            let seid = if self.live.contains_key(&seid) { self.unused_seid() } else { seid };
+            return self.restoration_of(seid, &session);
+        }
+        let seid = self.unused_seid();
+        let mut session = Session::default();
+        let mut free = self.free_teids();
+        let families = |pair: (bool, bool)| Families { v4: pair.0, v6: pair.1 };
+        let mut plan = self.restoration_of(seid, &session);
+        for _ in 0..self.random.below(3) {
+            if let Some(teid) = free.pop() {
+                let id = self.unused_endpoint_id(&plan, None);
+                let tunnel = Tunnel { teid, families: families(self.families()) };
+                session.endpoints.insert(id, tunnel);
+            }
+        }
+        let mut last: Option<(Tunnel, u8)> = None;
+        for _ in 0..self.random.below(5) {
+            let id = self.unused_pdr_id(&plan, None);
+            let mut source_interface = self.source_interface();
+            let mut local = Local::Neither;
+            let shared = last.filter(|_| self.random.percent(40));
+            if let Some((tunnel, source)) = shared {
+                local = Local::Tunnel(tunnel);
+                source_interface = source;
+            } else if self.random.percent(20) && !session.endpoints.is_empty() {
+                let ids: Vec<u8> = session.endpoints.keys().copied().collect();
+                local = Local::Endpoint(self.random.pick(&ids));
+            } else if let Some(teid) = free.pop() {
+                let tunnel = Tunnel { teid, families: families(self.families()) };
+                last = Some((tunnel, source_interface));
+                local = Local::Tunnel(tunnel);
+            }
+            let (precedence, far_id) = (self.number32(), self.far_id());
+            let pdr = Pdr { precedence, far_id, source_interface, local };
+            session.pdrs.insert(id, pdr);
+        }
+        plan = self.restoration_of(seid, &session);
+        if self.random.percent(30) {
+            let node_type = self.random.below(6) as u8;
+            let value = self.fq_csid(node_type, 1);
+            plan.items.push(Item::FqCsid(value));
+        }
+        plan
+    }
+
+    pub fn restoration_of(&mut self, seid: u64, session: &Session) -> Plan {
+        let mut plan = Plan { message_type: ESTABLISHMENT, seid, restoration: true, items: vec![] };
+        for (&id, pdr) in &session.pdrs {
+            let mut new = NewPdr {
+                id,
+                precedence: pdr.precedence,
+                far_id: pdr.far_id,
+                source_interface: pdr.source_interface,
+                ask: None,
+                endpoint: None,
+            };
+            match pdr.local {
+                Local::Neither => {}
+                Local::Endpoint(endpoint) => new.endpoint = Some(endpoint),
+                Local::Tunnel(tunnel) => {
+                    let families = (tunnel.families.v4, tunnel.families.v6);
+                    new.ask = Some(self.given(tunnel.teid, families));
+                }
+            }
+            plan.items.push(Item::CreatePdr(new));
+        }
+        for (&id, tunnel) in &session.endpoints {
+            let ask = self.given(tunnel.teid, (tunnel.families.v4, tunnel.families.v6));
+            plan.items.push(Item::CreateEndpoint { id, ask });
+        }
+        for (&node_type, held) in &session.fq_csids {
+            let (first, address) = match held.node {
+                NodeId::Ipv4(octets) => (0x01, octets.to_vec()),
+                NodeId::Ipv6(octets) => (0x11, octets.to_vec()),
+                NodeId::Operator { country_and_network, number } => {
+                    let word = country_and_network << 12 | u32::from(number);
+                    (0x21, word.to_be_bytes().to_vec())
+                }
+            };
+            let mut value = vec![first];
+            value.extend(address);
+            value.extend(held.csid.to_be_bytes());
+            value.push(node_type);
+            plan.items.push(Item::FqCsid(value));
+        }
+        self.order(&mut plan);
+        plan
+    }
+
+    pub fn modification(&mut self, seid: u64) -> Plan {
+        let own = self.live[&seid].clone();
+        let mut plan = Plan { message_type: MODIFICATION, seid, restoration: false, items: vec![] };
+        if self.random.percent(4) {
+            return plan;
+        }
+        let removes = self.random.pick(&[0, 0, 20, 50]);
+        let updates = self.random.pick(&[0, 20, 50]);
+        let mut named: BTreeSet<u8> = BTreeSet::new();
+        for (&id, pdr) in &own.pdrs {
+            if self.random.percent(removes) {
+                plan.items.push(Item::RemovePdr(id));
+                continue;
+            }
+            if let Local::Endpoint(endpoint) = pdr.local {
+                named.insert(endpoint);
+            }
+            if self.random.percent(updates) {
+                let item = self.update(id);
+                plan.items.push(item);
+            }
+        }
+        for &id in own.endpoints.keys() {
+            if !named.contains(&id) && self.random.percent(30) {
+                plan.items.push(Item::RemoveEndpoint(id));
+            }
+        }
+        let most = if self.flavour == Flavour::Full { 5 } else { 2 };
+        if self.random.percent(40) {
+            for _ in 0..self.random.between(1, most) {
+                let id = self.unused_endpoint_id(&plan, Some(&own));
+                let ask = self.choose();
+                plan.items.push(Item::CreateEndpoint { id, ask });
+            }
+        }
+        if self.random.percent(60) {
+            self.add_pdrs(&mut plan, Some(&own), 1, most + 1);
+        }
+        match self.random.below(10) {
+            0 => plan.items.push(Item::FqCsid(vec![])),
+            1..=4 => {
+                let count = self.random.between(1, 3);
+                for node_type in self.node_types().into_iter().take(count) {
+                    let value = match self.random.percent(50) {
+                        true => self.fq_csid(node_type, 1),
+                        false => self.fq_csid_removal(node_type),
+                    };
+                    plan.items.push(Item::FqCsid(value));
+                }
+            }
+            _ => {}
+        }
+        self.order(&mut plan);
+        plan
+    }
+
+    pub fn update(&mut self, id: u16) -> Item {
+        let precedence = self.random.percent(50).then(|| self.number32());
+        let far = match self.random.below(3) {
+            0 => FarAsk::Nothing,
+            1 => FarAsk::TakeAway,
+            _ => FarAsk::Set(self.number32()),
+        };
+        Item::UpdatePdr { id, precedence, far, with_pdi: false }
+    }
+
+    pub fn deletion(&mut self, seid: u64) -> Plan {
+        let mut plan = Plan { message_type: DELETION, seid, restoration: false, items: vec![] };
+        if self.random.percent(50) {
+            let count = self.random.between(1, 3);
+            for node_type in self.node_types().into_iter().take(count) {
+                let m = self.random.pick(&[1, 1, 2, 15]);
+                let value = self.fq_csid(node_type, m);
+                plan.items.push(Item::FqCsid(value));
+            }
+        }
+        plan
+    }
+
+    /// A request with every group and element that its message knows, for being damaged. It need
+    /// not fit the live sessions.
+    pub fn rich(&mut self, message_type: u8, seid: u64) -> Plan {
+        let mut plan = Plan { message_type, seid, restoration: false, items: vec![] };
+        if message_type == DELETION {
+            plan = self.deletion(seid);
+        } else {
+            for id in [1, 2] {
+                let ask = self.choose();
+                plan.items.push(Item::CreateEndpoint { id, ask });
+                let mut pdr = self.plain_pdr(u16::from(id));
+                pdr.far_id = Some(self.number32());
+                pdr.ask = Some(self.choose());
+                if let (Some(Ask::Choose { id, .. }), true) =
+                    (&mut pdr.ask, self.random.percent(50))
+                {
+                    *id = Some(7);
+                }
+                if self.random.percent(40) {
+                    let families = self.families();
+                    pdr.ask = Some(self.given(self.settings.first, families));
+                }
+                pdr.endpoint = Some(id);
+                plan.items.push(Item::CreatePdr(pdr));
+            }
+        }
+        if message_type == MODIFICATION {
+            plan.items.push(Item::UpdatePdr {
+                id: 3,
+                precedence: Some(5),
+                far: FarAsk::Set(9),
+                with_pdi: true,
+            });
+            plan.items.push(Item::RemovePdr(4));
+            plan.items.push(Item::RemoveEndpoint(3));
+        }
+        if !plan.items.iter().any(|item| matches!(item, Item::FqCsid(_))) {
+            for node_type in self.node_types().into_iter().take(2) {
+                let value = self.fq_csid(node_type, 1);
+                plan.items.push(Item::FqCsid(value));
+            }
+        }
+        self.order(&mut plan);
+        plan
+    }
+}

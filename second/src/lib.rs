@@ -1,0 +1,24 @@
+//! An independent second implementation of the rules in document 01 ("What we are building and its
+//! rules") and its readings. It shares no code with the proved product and exists to test it and
+//! our reading of the rules.
+//!
+//! * `settings`, `session`, `element`, `ie`: the values the rules speak of.
+//! * `request`: the header test, stage 2 (framing) and stage 3 (reading).
+//! * `unit`: the live sessions, all stages and causes, grants, application and reply.
+//! * `live`: the live set, folded from messages, outcomes and replies alone.
+//! * `restoration`: the restoration request of a live session.
+//! * `coverage`: what a run of calls has met, and what it should meet.
+//! * `generate`: seeded sequences of calls; it uses none of the readers and writers above.
+//! * `selfcheck`: drives the unit over generated sequences and checks what 01 promises.
+
+pub mod coverage;
+pub mod element;
+pub mod generate;
+pub mod ie;
+pub mod live;
+pub mod request;
+pub mod restoration;
+pub mod selfcheck;
+pub mod session;
+pub mod settings;
+pub mod unit;

@@ -1,0 +1,178 @@
+//! The live set: "from the calls in turn, each with its message, outcome and reply, and never from
+//! the table". Nothing here looks at a unit or its settings.
+
+use std::collections::BTreeMap;
+
+use crate::element::f_teid::{self, FTeid};
+use crate::ie;
+use crate::request::framing::elements;
+use crate::request::{self, FarChange, Kind, Record, Request};
+use crate::session::{HeldCsid, Local, Pdr, Session, Sessions, Tunnel};
+
+#[derive(Clone, PartialEq, Eq, Debug, Default)]
+pub struct LiveSet {
+    pub sessions: Sessions,
+}
+
+/// What a reply says: its cause, and the TEIDs of its Created groups.
+struct Said {
+    cause: Option<u8>,
+    pdrs: BTreeMap<u16, u32>,
+    endpoints: BTreeMap<u8, u32>,
+}
+
+impl LiveSet {
+    /// "At first it is empty."
+    pub fn new() -> LiveSet {
+        LiveSet::default()
+    }
+
+    /// Follows one call. An accepted call whose message or reply cannot be followed is an error
+    /// and changes nothing; it tells of a fault in whoever replied.
+    pub fn follow(&mut self, message: &[u8], outcome: u8, reply: &[u8]) -> Result<(), String> {
+        // "A request is accepted when its outcome is 0 and its reply's cause 1; any other, and a
+        // free count, changes nothing."
+        if outcome != 0 {
+            return Ok(());
+        }
+        let said = hear(reply)?;
+        if said.cause != Some(1) {
+            return Ok(());
+        }
+        let header = request::header::test(message).map_err(|n| format!("outcome {n} accepted"))?;
+        let request = request::read(&header, message)
+            .map_err(|fault| format!("accepted with a fault of cause {}", fault.cause))?;
+        match header.kind {
+            Kind::Establishment => {
+                let seid = request.f_seid.as_ref().ok_or("accepted without an F-SEID")?.seid;
+                let session = changed(Session::default(), &request, &said)?;
+                self.sessions.insert(seid, session);
+            }
+            Kind::Modification => {
+                let session = self.sessions.get(&header.seid).ok_or("accepted for no session")?;
+                let session = changed(session.clone(), &request, &said)?;
+                self.sessions.insert(header.seid, session);
+            }
+            Kind::Deletion => {
+                self.sessions.remove(&header.seid).ok_or("accepted for no session")?;
+            }
+        }
+        Ok(())
+    }
+}
+
+/// Reads a reply's cause and Created groups.
+fn hear(reply: &[u8]) -> Result<Said, String> {
+    let body = reply.get(ie::HEADER_OCTETS..).ok_or("a reply under 16 octets")?;
+    let mut said = Said { cause: None, pdrs: BTreeMap::new(), endpoints: BTreeMap::new() };
+    for element in elements(body) {
+        match element.ie_type {
+            ie::CAUSE => said.cause = element.value.first().copied(),
+            ie::CREATED_PDR => {
+                let id = member(element.value, ie::PDR_ID)?;
+                let id = id.try_into().map_err(|_| "a Created PDR's ID is not two octets")?;
+                let teid = created_teid(element.value)?;
+                said.pdrs.insert(u16::from_be_bytes(id), teid);
+            }
+            ie::CREATED_ENDPOINT => {
+                let id = member(element.value, ie::ENDPOINT_ID)?;
+                let id = *id.first().ok_or("a Created Endpoint's ID is empty")?;
+                let teid = created_teid(element.value)?;
+                said.endpoints.insert(id, teid);
+            }
+            _ => {}
+        }
+    }
+    Ok(said)
+}
+
+fn member(group: &[u8], ie_type: u16) -> Result<&[u8], String> {
+    let found = elements(group).find(|element| element.ie_type == ie_type);
+    found.map(|element| element.value).ok_or(format!("a Created group without {ie_type}"))
+}
+
+fn created_teid(group: &[u8]) -> Result<u32, String> {
+    match f_teid::read(member(group, ie::F_TEID)?) {
+        Ok(FTeid::Given { teid, .. }) => Ok(teid),
+        other => Err(format!("a Created group with {other:?}")),
+    }
+}
+
+/// A session after an accepted request: "takes out what it removes, adds what it creates, then
+/// makes its updates and follows its FQ-CSIDs".
+fn changed(mut session: Session, request: &Request, said: &Said) -> Result<Session, String> {
+    for record in &request.records {
+        match record {
+            Record::RemovePdr { id } => {
+                session.pdrs.remove(id).ok_or(format!("removed PDR {id} was not live"))?;
+            }
+            Record::RemoveEndpoint { id } => {
+                let was = session.endpoints.remove(id);
+                was.ok_or(format!("removed endpoint {id} was not live"))?;
+            }
+            _ => {}
+        }
+    }
+    for record in &request.records {
+        match record {
+            Record::CreatePdr { id, precedence, pdi, far_id } => {
+                let mut local = Local::Neither;
+                if let Some(endpoint) = pdi.endpoint {
+                    local = Local::Endpoint(endpoint);
+                }
+                if let Some(f_teid) = &pdi.f_teid {
+                    let from_reply = said.pdrs.get(id).copied();
+                    local = Local::Tunnel(tunnel(f_teid, from_reply)?);
+                }
+                let pdr = Pdr {
+                    precedence: *precedence,
+                    far_id: *far_id,
+                    source_interface: pdi.source_interface,
+                    local,
+                };
+                session.pdrs.insert(*id, pdr);
+            }
+            Record::CreateEndpoint { id, f_teid } => {
+                let from_reply = said.endpoints.get(id).copied();
+                session.endpoints.insert(*id, tunnel(f_teid, from_reply)?);
+            }
+            _ => {}
+        }
+    }
+    for record in &request.records {
+        match record {
+            Record::UpdatePdr { id, precedence, far, .. } => {
+                let pdr = session.pdrs.get_mut(id).ok_or(format!("updated PDR {id} not live"))?;
+                pdr.precedence = precedence.unwrap_or(pdr.precedence);
+                pdr.far_id = match far {
+                    FarChange::Stays => pdr.far_id,
+                    FarChange::Set(far_id) => Some(*far_id),
+                    FarChange::TakenAway => None,
+                };
+            }
+            Record::RemoveAllFqCsids => session.fq_csids = BTreeMap::new(),
+            Record::FqCsid(fq_csid) if fq_csid.is_removal() => {
+                session.fq_csids.remove(&fq_csid.node_type);
+            }
+            Record::FqCsid(fq_csid) => {
+                let held = HeldCsid { node: fq_csid.node, csid: fq_csid.csids[0] };
+                session.fq_csids.insert(fq_csid.node_type, held);
+            }
+            _ => {}
+        }
+    }
+    Ok(session)
+}
+
+/// "A record's families are the request's, and so is a TEID without CH; with CH it is the one in
+/// the reply's Created group of that kind and ID."
+fn tunnel(f_teid: &FTeid, from_reply: Option<u32>) -> Result<Tunnel, String> {
+    let families = f_teid.families();
+    match f_teid {
+        FTeid::Given { teid, .. } => Ok(Tunnel { teid: *teid, families }),
+        FTeid::Choose { .. } => {
+            let teid = from_reply.ok_or("a CHOOSE without its Created group")?;
+            Ok(Tunnel { teid, families })
+        }
+    }
+}

@@ -1,0 +1,46 @@
+//! From the octets of a message to a request: the header test (outcomes 3 to 5), stage 2 (framing)
+//! and stage 3 (reading). None of it looks at the live sessions.
+
+pub mod fault;
+pub mod framing;
+pub mod header;
+pub mod reading;
+pub mod record;
+pub mod render;
+
+pub use fault::{Fault, FaultKind};
+pub use header::Header;
+pub use record::{FarChange, Pdi, Record, Request};
+
+/// The three served messages.
+#[derive(Clone, Copy, PartialEq, Eq, PartialOrd, Ord, Debug)]
+pub enum Kind {
+    Establishment,
+    Modification,
+    Deletion,
+}
+
+impl Kind {
+    /// The message type of the reply: "replies 51, 53, 55".
+    pub fn reply_type(&self) -> u8 {
+        match self {
+            Kind::Establishment => 51,
+            Kind::Modification => 53,
+            Kind::Deletion => 55,
+        }
+    }
+}
+
+/// Stages 2 and 3 on a message that has passed the header test.
+pub fn read(header: &Header, message: &[u8]) -> Result<Request, Fault> {
+    let body = &message[crate::ie::HEADER_OCTETS..];
+    framing::frame(header.kind, body)?;
+    reading::read(header, body)
+}
+
+/// The first fault of stages 2 and 3 as (cause, offending type). A message that fails the header
+/// test has no stages, so it has no fault either.
+pub fn first_fault(message: &[u8]) -> Option<(u8, u16)> {
+    let header = header::test(message).ok()?;
+    read(&header, message).err().map(|fault| (fault.cause, fault.offending))
+}

@@ -1,0 +1,288 @@
+//! Stage 3: "a required one missing 66 (F-TEID of an endpoint 67), short 68, bad or repeated 69",
+//! the first fault in reading order.
+
+use std::collections::BTreeSet;
+
+use super::fault::{At, Fault, Place};
+use super::framing::{elements, Element};
+use super::{FarChange, Header, Kind, Pdi, Record, Request};
+use crate::element::{f_seid, f_teid, fq_csid, front_u32, Bad, Refusal};
+use crate::ie;
+
+/// Reads the body of a framed message.
+pub fn read(header: &Header, body: &[u8]) -> Result<Request, Fault> {
+    let kind = header.kind;
+    let at = At { message: kind, place: Place::Top };
+    let mut once = Once::new(at);
+    let mut node_types = BTreeSet::new();
+    let mut f_seid = None;
+    let mut restoration = false;
+    let mut records = Vec::new();
+    for element in elements(body) {
+        let value = element.value;
+        match (kind, element.ie_type) {
+            (Kind::Establishment, ie::F_SEID) => {
+                once.mark(ie::F_SEID)?;
+                f_seid = Some(f_seid::read(value).map_err(|r| at.refused(ie::F_SEID, r))?);
+            }
+            (Kind::Establishment, ie::ESTABLISHMENT_FLAGS) => {
+                once.mark(ie::ESTABLISHMENT_FLAGS)?;
+                // "bit 1 = restoration"; its other bits are ignored.
+                restoration = one_octet(at, &element)? & 1 != 0;
+            }
+            (Kind::Establishment | Kind::Modification, ie::CREATE_PDR) => {
+                once.see(ie::CREATE_PDR);
+                records.push(create_pdr(kind, value)?);
+            }
+            (Kind::Establishment | Kind::Modification, ie::CREATE_ENDPOINT) => {
+                records.push(create_endpoint(kind, value)?);
+            }
+            (Kind::Modification, ie::UPDATE_PDR) => records.push(update_pdr(value)?),
+            (Kind::Modification, ie::REMOVE_PDR) => records.push(remove_pdr(value)?),
+            (Kind::Modification, ie::REMOVE_ENDPOINT) => records.push(remove_endpoint(value)?),
+            (Kind::Modification, ie::UPDATE_ENDPOINT) => records.push(Record::UpdateEndpoint),
+            (_, ie::FQ_CSID) => {
+                let record = fq_csid_record(at, body, value)?;
+                if let Record::FqCsid(read) = &record {
+                    // "a node type repeated in one request, 69"
+                    if !node_types.insert(read.node_type) {
+                        return Err(at.repeated(ie::FQ_CSID));
+                    }
+                }
+                records.push(record);
+            }
+            // "Vendor, unknown and misplaced elements are skipped."
+            _ => {}
+        }
+    }
+    if kind == Kind::Establishment {
+        // "Establishment needs 57, and 1 unless it is a restoration (H)."
+        if !restoration {
+            once.require(ie::CREATE_PDR)?;
+        }
+        once.require(ie::F_SEID)?;
+    }
+    Ok(Request { header: *header, f_seid, restoration, records })
+}
+
+/// The elements of one part that have been met: for repeats and for missing ones.
+struct Once {
+    at: At,
+    met: BTreeSet<u16>,
+}
+
+impl Once {
+    fn new(at: At) -> Once {
+        Once { at, met: BTreeSet::new() }
+    }
+
+    /// "A repeat of 57, 186 or a member within its group is 69 before its value is read."
+    fn mark(&mut self, ie_type: u16) -> Result<(), Fault> {
+        match self.met.insert(ie_type) {
+            true => Ok(()),
+            false => Err(self.at.repeated(ie_type)),
+        }
+    }
+
+    /// Notes an element that may stand there several times.
+    fn see(&mut self, ie_type: u16) {
+        self.met.insert(ie_type);
+    }
+
+    fn require(&self, ie_type: u16) -> Result<(), Fault> {
+        match self.met.contains(&ie_type) {
+            true => Ok(()),
+            false => Err(self.at.missing(ie_type)),
+        }
+    }
+}
+
+/// An FQ-CSID of this message, with the m that the message allows.
+fn fq_csid_record(at: At, body: &[u8], value: &[u8]) -> Result<Record, Fault> {
+    // "Null length in a modification removes all if it is the only FQ-CSID there, and is 68
+    // otherwise." All elements 65 at top are counted, later and faulty ones too.
+    if value.is_empty() && at.message == Kind::Modification {
+        let count = elements(body).filter(|element| element.ie_type == ie::FQ_CSID).count();
+        if count == 1 {
+            return Ok(Record::RemoveAllFqCsids);
+        }
+    }
+    let read = fq_csid::read(value).map_err(|r| at.refused(ie::FQ_CSID, r))?;
+    let m = read.csids.len();
+    // "Establishment m = 1; modification m = 1 sets that node type, m = 0 [..] removes it;
+    // deletion m at least 1."
+    let allowed = match at.message {
+        Kind::Establishment => m == 1,
+        Kind::Modification => m <= 1,
+        Kind::Deletion => m >= 1,
+    };
+    match allowed {
+        true => Ok(Record::FqCsid(read)),
+        false => Err(at.refused(ie::FQ_CSID, Refusal::Bad(Bad::NumberOfCsids))),
+    }
+}
+
+/// "Create and Update PDR 56, 29, 2, 108"; "Required: Create PDR 56, 29, 2".
+fn create_pdr(message: Kind, part: &[u8]) -> Result<Record, Fault> {
+    let at = At { message, place: Place::CreatePdr };
+    let mut once = Once::new(at);
+    let (mut id, mut precedence, mut pdi, mut far_id) = (None, None, None, None);
+    for element in elements(part) {
+        match element.ie_type {
+            ie::PDR_ID => {
+                once.mark(ie::PDR_ID)?;
+                id = Some(two_octets(at, &element)?);
+            }
+            ie::PRECEDENCE => {
+                once.mark(ie::PRECEDENCE)?;
+                precedence = Some(four_octets(at, &element)?);
+            }
+            ie::PDI => {
+                once.mark(ie::PDI)?;
+                pdi = Some(read_pdi(message, element.value)?);
+            }
+            ie::FAR_ID => {
+                once.mark(ie::FAR_ID)?;
+                far_id = Some(four_octets(at, &element)?);
+            }
+            _ => {}
+        }
+    }
+    // "Missing members are reported after a group's own, lowest type first"
+    Ok(Record::CreatePdr {
+        pdi: pdi.ok_or(at.missing(ie::PDI))?,
+        precedence: precedence.ok_or(at.missing(ie::PRECEDENCE))?,
+        id: id.ok_or(at.missing(ie::PDR_ID))?,
+        far_id,
+    })
+}
+
+/// "PDI 20, 21, 131"; "Required: [..] PDI 20".
+fn read_pdi(message: Kind, part: &[u8]) -> Result<Pdi, Fault> {
+    let at = At { message, place: Place::PdiOfCreatePdr };
+    let mut once = Once::new(at);
+    let (mut source_interface, mut tunnel, mut endpoint) = (None, None, None);
+    for element in elements(part) {
+        match element.ie_type {
+            ie::SOURCE_INTERFACE => {
+                once.mark(ie::SOURCE_INTERFACE)?;
+                // "Source Interface 20 (low 4 bits of 1)"
+                source_interface = Some(one_octet(at, &element)? & 0x0F);
+            }
+            ie::F_TEID => {
+                once.mark(ie::F_TEID)?;
+                let read = f_teid::read(element.value).map_err(|r| at.refused(ie::F_TEID, r))?;
+                tunnel = Some(read);
+            }
+            ie::ENDPOINT_ID => {
+                once.mark(ie::ENDPOINT_ID)?;
+                endpoint = Some(one_octet(at, &element)?);
+            }
+            _ => {}
+        }
+    }
+    let source_interface = source_interface.ok_or(at.missing(ie::SOURCE_INTERFACE))?;
+    Ok(Pdi { source_interface, f_teid: tunnel, endpoint })
+}
+
+/// "Create Endpoint 131, 21", both required.
+fn create_endpoint(message: Kind, part: &[u8]) -> Result<Record, Fault> {
+    let at = At { message, place: Place::CreateEndpoint };
+    let mut once = Once::new(at);
+    let (mut id, mut tunnel) = (None, None);
+    for element in elements(part) {
+        match element.ie_type {
+            ie::ENDPOINT_ID => {
+                once.mark(ie::ENDPOINT_ID)?;
+                id = Some(one_octet(at, &element)?);
+            }
+            ie::F_TEID => {
+                once.mark(ie::F_TEID)?;
+                let read = f_teid::read_in_endpoint(element.value)
+                    .map_err(|r| at.refused(ie::F_TEID, r))?;
+                tunnel = Some(read);
+            }
+            _ => {}
+        }
+    }
+    Ok(Record::CreateEndpoint {
+        f_teid: tunnel.ok_or(at.missing(ie::F_TEID))?,
+        id: id.ok_or(at.missing(ie::ENDPOINT_ID))?,
+    })
+}
+
+/// "updates and removals their ID"
+fn update_pdr(part: &[u8]) -> Result<Record, Fault> {
+    let at = At { message: Kind::Modification, place: Place::UpdatePdr };
+    let mut once = Once::new(at);
+    let (mut id, mut precedence, mut far, mut with_pdi) = (None, None, FarChange::Stays, false);
+    for element in elements(part) {
+        match element.ie_type {
+            ie::PDR_ID => {
+                once.mark(ie::PDR_ID)?;
+                id = Some(two_octets(at, &element)?);
+            }
+            ie::PRECEDENCE => {
+                once.mark(ie::PRECEDENCE)?;
+                precedence = Some(four_octets(at, &element)?);
+            }
+            ie::PDI => {
+                // "PDI in Update PDR (framed in stage 2, its members not read)"
+                once.mark(ie::PDI)?;
+                with_pdi = true;
+            }
+            ie::FAR_ID => {
+                once.mark(ie::FAR_ID)?;
+                far = match element.value.is_empty() {
+                    true => FarChange::TakenAway,
+                    false => FarChange::Set(four_octets(at, &element)?),
+                };
+            }
+            _ => {}
+        }
+    }
+    let id = id.ok_or(at.missing(ie::PDR_ID))?;
+    Ok(Record::UpdatePdr { id, precedence, far, with_pdi })
+}
+
+fn remove_pdr(part: &[u8]) -> Result<Record, Fault> {
+    let at = At { message: Kind::Modification, place: Place::RemovePdr };
+    let mut id = None;
+    let mut once = Once::new(at);
+    for element in elements(part).filter(|element| element.ie_type == ie::PDR_ID) {
+        once.mark(ie::PDR_ID)?;
+        id = Some(two_octets(at, &element)?);
+    }
+    Ok(Record::RemovePdr { id: id.ok_or(at.missing(ie::PDR_ID))? })
+}
+
+fn remove_endpoint(part: &[u8]) -> Result<Record, Fault> {
+    let at = At { message: Kind::Modification, place: Place::RemoveEndpoint };
+    let mut id = None;
+    let mut once = Once::new(at);
+    for element in elements(part).filter(|element| element.ie_type == ie::ENDPOINT_ID) {
+        once.mark(ie::ENDPOINT_ID)?;
+        id = Some(one_octet(at, &element)?);
+    }
+    Ok(Record::RemoveEndpoint { id: id.ok_or(at.missing(ie::ENDPOINT_ID))? })
+}
+
+// Values of a fixed size at the front of an element; "Octets past a value are ignored."
+
+fn one_octet(at: At, element: &Element) -> Result<u8, Fault> {
+    element.value.first().copied().ok_or(too_short(at, element))
+}
+
+fn two_octets(at: At, element: &Element) -> Result<u16, Fault> {
+    let octets = element.value.first_chunk::<2>().ok_or(too_short(at, element))?;
+    Ok(u16::from_be_bytes(*octets))
+}
+
+fn four_octets(at: At, element: &Element) -> Result<u32, Fault> {
+    front_u32(element.value).ok_or(too_short(at, element))
+}
+
+fn too_short(at: At, element: &Element) -> Fault {
+    let refusal = if element.value.is_empty() { Refusal::Empty } else { Refusal::Short };
+    at.refused(element.ie_type, refusal)
+}

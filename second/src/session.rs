@@ -1,0 +1,153 @@
+//! The records that live in a unit, and the rules that document 01 gives for them under "Settings
+//! and table".
+
+use std::collections::{BTreeMap, BTreeSet};
+
+use crate::element::fq_csid::{NodeId, LAST_NODE_TYPE};
+use crate::settings::Settings;
+
+/// "At most 64 sessions, each with 16 PDRs, 8 traffic endpoints and one FQ-CSID per node type."
+pub const MOST_SESSIONS: usize = 64;
+pub const MOST_PDRS: usize = 16;
+pub const MOST_ENDPOINTS: usize = 8;
+
+/// The family flags of a local F-TEID.
+#[derive(Clone, Copy, PartialEq, Eq, PartialOrd, Ord, Debug)]
+pub struct Families {
+    pub v4: bool,
+    pub v6: bool,
+}
+
+impl Families {
+    pub fn none(&self) -> bool {
+        !self.v4 && !self.v6
+    }
+}
+
+/// A local F-TEID as a record holds it: "(TEID, V4, V6)". Its addresses are the unit's.
+#[derive(Clone, Copy, PartialEq, Eq, PartialOrd, Ord, Debug)]
+pub struct Tunnel {
+    pub teid: u32,
+    pub families: Families,
+}
+
+/// "a local F-TEID (TEID, V4, V6), an endpoint ID, or neither"
+#[derive(Clone, Copy, PartialEq, Eq, Debug)]
+pub enum Local {
+    Neither,
+    Tunnel(Tunnel),
+    Endpoint(u8),
+}
+
+/// A PDR without its ID, which is its key in the session.
+#[derive(Clone, PartialEq, Eq, Debug)]
+pub struct Pdr {
+    pub precedence: u32,
+    pub far_id: Option<u32>,
+    pub source_interface: u8,
+    pub local: Local,
+}
+
+/// An FQ-CSID as a session holds it: one CSID, and its node type is its key in the session.
+#[derive(Clone, PartialEq, Eq, Debug)]
+pub struct HeldCsid {
+    pub node: NodeId,
+    pub csid: u16,
+}
+
+/// A session without its SEID, which is its key. The maps keep "ascending order of SEID and ID".
+#[derive(Clone, PartialEq, Eq, Debug, Default)]
+pub struct Session {
+    pub pdrs: BTreeMap<u16, Pdr>,
+    pub endpoints: BTreeMap<u8, Tunnel>,
+    pub fq_csids: BTreeMap<u8, HeldCsid>,
+}
+
+pub type Sessions = BTreeMap<u64, Session>;
+
+impl Session {
+    /// Every TEID in the session's records, one for each record that holds one.
+    pub fn teids(&self) -> impl Iterator<Item = u32> + '_ {
+        let of_pdrs = self.pdrs.values().filter_map(|pdr| match pdr.local {
+            Local::Tunnel(tunnel) => Some(tunnel.teid),
+            _ => None,
+        });
+        self.endpoints.values().map(|tunnel| tunnel.teid).chain(of_pdrs)
+    }
+
+    /// Whether a PDR names this endpoint.
+    pub fn is_named(&self, endpoint: u8) -> bool {
+        self.pdrs.values().any(|pdr| pdr.local == Local::Endpoint(endpoint))
+    }
+}
+
+/// The different TEIDs in the records.
+pub fn distinct_teids(sessions: &Sessions) -> BTreeSet<u32> {
+    sessions.values().flat_map(|session| session.teids()).collect()
+}
+
+/// The rules for the records of a table, as 01 lists them. The answer names the first broken rule.
+pub fn records_hold(settings: &Settings, sessions: &Sessions) -> Result<(), String> {
+    if sessions.len() > MOST_SESSIONS {
+        return Err(format!("{} sessions", sessions.len()));
+    }
+    // Who holds a TEID: an endpoint alone, or PDRs of one session with one use of it.
+    let mut of_endpoints: BTreeSet<u32> = BTreeSet::new();
+    let mut of_pdrs: BTreeMap<u32, (u64, Families, u8)> = BTreeMap::new();
+    for (&seid, session) in sessions {
+        let fail = |what: &str| Err(format!("session {seid}: {what}"));
+        if seid == 0 {
+            return fail("SEID 0");
+        }
+        if session.pdrs.len() > MOST_PDRS {
+            return fail("more than 16 PDRs");
+        }
+        if session.endpoints.len() > MOST_ENDPOINTS {
+            return fail("more than 8 endpoints");
+        }
+        for tunnel in session.endpoints.values() {
+            if !tunnel_holds(settings, tunnel) {
+                return fail("an endpoint's F-TEID breaks a rule");
+            }
+            if !of_endpoints.insert(tunnel.teid) {
+                return fail("two endpoints share a TEID");
+            }
+        }
+        for pdr in session.pdrs.values() {
+            if pdr.source_interface > 15 {
+                return fail("a source interface of more than four bits");
+            }
+            match pdr.local {
+                Local::Neither => {}
+                Local::Endpoint(id) => {
+                    if !session.endpoints.contains_key(&id) {
+                        return fail("a PDR names an endpoint that does not exist");
+                    }
+                }
+                Local::Tunnel(tunnel) => {
+                    if !tunnel_holds(settings, &tunnel) {
+                        return fail("a PDR's F-TEID breaks a rule");
+                    }
+                    let this_use = (seid, tunnel.families, pdr.source_interface);
+                    if *of_pdrs.entry(tunnel.teid).or_insert(this_use) != this_use {
+                        return fail("PDRs share a TEID against the rule");
+                    }
+                }
+            }
+        }
+        for (&node_type, held) in &session.fq_csids {
+            if node_type > LAST_NODE_TYPE || !held.node.is_allowed() {
+                return fail("an FQ-CSID breaks its rules");
+            }
+        }
+    }
+    match of_endpoints.iter().find(|teid| of_pdrs.contains_key(teid)) {
+        Some(teid) => Err(format!("an endpoint and a PDR share TEID {teid}")),
+        None => Ok(()),
+    }
+}
+
+/// "TEIDs lie in the pool; families are the unit's, at least one each"
+fn tunnel_holds(settings: &Settings, tunnel: &Tunnel) -> bool {
+    settings.holds(tunnel.teid) && !tunnel.families.none() && settings.has(tunnel.families)
+}

@@ -1,0 +1,110 @@
+//! "Removals come first, then endpoints, PDRs, updates, FQ-CSIDs." Only for an accepted request.
+
+use super::grants::{self, Grant, Owner};
+use crate::element::f_teid::FTeid;
+use crate::request::{FarChange, Kind, Record, Request};
+use crate::session::{HeldCsid, Local, Pdr, Session, Sessions, Tunnel};
+
+pub fn apply(sessions: &mut Sessions, request: &Request, grants: &[Grant]) {
+    let seid = match (&request.f_seid, request.header.kind) {
+        // "only the SEID is kept"
+        (Some(f_seid), _) => f_seid.seid,
+        (None, Kind::Deletion) => {
+            // "Deletion removes the session whole."
+            sessions.remove(&request.header.seid);
+            return;
+        }
+        (None, _) => request.header.seid,
+    };
+    let session = sessions.entry(seid).or_default();
+    for record in &request.records {
+        remove(session, record);
+    }
+    for record in &request.records {
+        create_endpoint(session, record, grants);
+    }
+    for record in &request.records {
+        create_pdr(session, record, grants);
+    }
+    for record in &request.records {
+        update(session, record);
+    }
+    for record in &request.records {
+        follow_fq_csid(session, record);
+    }
+}
+
+fn remove(session: &mut Session, record: &Record) {
+    match record {
+        Record::RemovePdr { id } => {
+            session.pdrs.remove(id);
+        }
+        Record::RemoveEndpoint { id } => {
+            session.endpoints.remove(id);
+        }
+        _ => {}
+    }
+}
+
+/// The tunnel of a record: the request's own TEID, or the granted one.
+fn tunnel(f_teid: &FTeid, grants: &[Grant], owner: Owner) -> Tunnel {
+    let teid = match f_teid {
+        FTeid::Given { teid, .. } => *teid,
+        FTeid::Choose { .. } => grants::of(grants, owner).expect("every CHOOSE has a grant"),
+    };
+    Tunnel { teid, families: f_teid.families() }
+}
+
+fn create_endpoint(session: &mut Session, record: &Record, grants: &[Grant]) {
+    if let Record::CreateEndpoint { id, f_teid } = record {
+        session.endpoints.insert(*id, tunnel(f_teid, grants, Owner::Endpoint(*id)));
+    }
+}
+
+fn create_pdr(session: &mut Session, record: &Record, grants: &[Grant]) {
+    if let Record::CreatePdr { id, precedence, pdi, far_id } = record {
+        let local = match (&pdi.f_teid, pdi.endpoint) {
+            (Some(f_teid), _) => Local::Tunnel(tunnel(f_teid, grants, Owner::Pdr(*id))),
+            (None, Some(endpoint)) => Local::Endpoint(endpoint),
+            (None, None) => Local::Neither,
+        };
+        let pdr = Pdr {
+            precedence: *precedence,
+            far_id: *far_id,
+            source_interface: pdi.source_interface,
+            local,
+        };
+        session.pdrs.insert(*id, pdr);
+    }
+}
+
+/// "What isn't named stays."
+fn update(session: &mut Session, record: &Record) {
+    if let Record::UpdatePdr { id, precedence, far, .. } = record {
+        let pdr = session.pdrs.get_mut(id).expect("an updated PDR is live");
+        if let Some(precedence) = precedence {
+            pdr.precedence = *precedence;
+        }
+        match far {
+            FarChange::Stays => {}
+            FarChange::Set(far_id) => pdr.far_id = Some(*far_id),
+            FarChange::TakenAway => pdr.far_id = None,
+        }
+    }
+}
+
+/// "m = 1 sets that node type, m = 0 [..] removes it"; "Removing an absent one is accepted."
+fn follow_fq_csid(session: &mut Session, record: &Record) {
+    match record {
+        Record::RemoveAllFqCsids => session.fq_csids.clear(),
+        Record::FqCsid(fq_csid) => match fq_csid.csids.first() {
+            Some(&csid) => {
+                session.fq_csids.insert(fq_csid.node_type, HeldCsid { node: fq_csid.node, csid });
+            }
+            None => {
+                session.fq_csids.remove(&fq_csid.node_type);
+            }
+        },
+        _ => {}
+    }
+}

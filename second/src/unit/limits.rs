@@ -1,0 +1,80 @@
+//! Stage 5, cause 75: "more than 64 sessions, 16 PDRs or 8 endpoints would result, or more TEIDs
+//! are needed than are free at entry".
+
+use std::collections::BTreeSet;
+
+use super::{grants, Reason};
+use crate::request::{Kind, Record, Request};
+use crate::session::{distinct_teids, Session, Sessions};
+use crate::session::{MOST_ENDPOINTS, MOST_PDRS, MOST_SESSIONS};
+use crate::settings::Settings;
+
+#[derive(Clone, Copy, PartialEq, Eq, PartialOrd, Ord, Debug)]
+pub enum Limit {
+    Sessions,
+    SessionsByRestoration,
+    Pdrs,
+    PdrsByRestoration,
+    Endpoints,
+    EndpointsByRestoration,
+    Teids,
+    /// There would be enough if the request's own removals freed their TEIDs at once: "A TEID freed
+    /// by a request is free from the next call on (H)."
+    TeidsButForRemovals,
+}
+
+pub fn passed(settings: &Settings, sessions: &Sessions, request: &Request) -> Vec<Reason> {
+    let mut found = Vec::new();
+    let own = match request.header.kind {
+        Kind::Establishment => None,
+        _ => sessions.get(&request.header.seid),
+    };
+    // The limits count live minus removed plus created.
+    let mut pdrs: BTreeSet<u16> = own.map_or(BTreeSet::new(), |s| s.pdrs.keys().copied().collect());
+    let mut endpoints: BTreeSet<u8> =
+        own.map_or(BTreeSet::new(), |s| s.endpoints.keys().copied().collect());
+    for record in &request.records {
+        match record {
+            Record::RemovePdr { id } => pdrs.remove(id),
+            Record::RemoveEndpoint { id } => endpoints.remove(id),
+            _ => false,
+        };
+    }
+    for record in &request.records {
+        match record {
+            Record::CreatePdr { id, .. } => pdrs.insert(*id),
+            Record::CreateEndpoint { id, .. } => endpoints.insert(*id),
+            _ => false,
+        };
+    }
+    let by = |restoration, otherwise| if request.restoration { restoration } else { otherwise };
+    if request.header.kind == Kind::Establishment && sessions.len() >= MOST_SESSIONS {
+        found.push(by(Limit::SessionsByRestoration, Limit::Sessions));
+    }
+    if pdrs.len() > MOST_PDRS {
+        found.push(by(Limit::PdrsByRestoration, Limit::Pdrs));
+    }
+    if endpoints.len() > MOST_ENDPOINTS {
+        found.push(by(Limit::EndpointsByRestoration, Limit::Endpoints));
+    }
+    let free = settings.size as usize - distinct_teids(sessions).len();
+    let needed = grants::needed(request);
+    if needed > free {
+        let freed = own.map_or(0, |own| freed_by_removals(own, &pdrs, &endpoints));
+        found.push(match needed <= free + freed {
+            true => Limit::TeidsButForRemovals,
+            false => Limit::Teids,
+        });
+    }
+    found.into_iter().map(Reason::Limit).collect()
+}
+
+/// How many TEIDs the request's removals free, for naming the kind of 75 only.
+fn freed_by_removals(own: &Session, pdrs: &BTreeSet<u16>, endpoints: &BTreeSet<u8>) -> usize {
+    let before: BTreeSet<u32> = own.teids().collect();
+    let mut after = own.clone();
+    after.pdrs.retain(|id, _| pdrs.contains(id));
+    after.endpoints.retain(|id, _| endpoints.contains(id));
+    let after: BTreeSet<u32> = after.teids().collect();
+    before.len() - after.len()
+}

@@ -1,0 +1,104 @@
+//! The reply: "header [..], Node ID 60 (establishment only, IPv4, type octet 0), Cause 19,
+//! Offending IE, then on acceptance F-SEID [..], a Created PDR 8 for each CHOOSE, then a Created
+//! Traffic Endpoint 128 likewise, each kind in request order".
+
+use super::grants::{self, Grant, Owner};
+use super::Refused;
+use crate::element::f_seid::{self, FSeid};
+use crate::element::f_teid::{self, FTeid};
+use crate::ie;
+use crate::request::{Header, Kind, Record, Request};
+use crate::session::Families;
+use crate::settings::Settings;
+
+const ACCEPTED: u8 = 1;
+const NO_SESSION: u8 = 65;
+
+pub fn refusal(settings: &Settings, refused: &Refused) -> Vec<u8> {
+    let header = &refused.header;
+    // "the session's SEID, but 0 for cause 65 and refused establishments"
+    let seid = match (header.kind, refused.cause()) {
+        (Kind::Establishment, _) | (_, NO_SESSION) => 0,
+        _ => header.seid,
+    };
+    let mut body = front(settings, header.kind, refused.cause());
+    if let Some(offending) = refused.offending() {
+        body.extend(element(ie::OFFENDING_IE, &offending.to_be_bytes()));
+    }
+    with_header(header, seid, &body)
+}
+
+pub fn acceptance(settings: &Settings, request: &Request, grants: &[Grant]) -> Vec<u8> {
+    let header = &request.header;
+    let mut seid = header.seid;
+    let mut body = front(settings, header.kind, ACCEPTED);
+    if let Some(asked) = &request.f_seid {
+        // "IPv4 only; the unit's SEID equals the peer's, H"
+        seid = asked.seid;
+        let own = FSeid { seid, ipv4: Some(settings.ipv4), ipv6: None };
+        let mut space = [0; 13];
+        let length = f_seid::write(&own, &mut space).expect("a live SEID is not 0");
+        body.extend(element(ie::F_SEID, &space[..length]));
+    }
+    for record in &request.records {
+        if let Record::CreatePdr { id, pdi, .. } = record {
+            if let Some(FTeid::Choose { families, .. }) = &pdi.f_teid {
+                let teid = grants::of(grants, Owner::Pdr(*id)).expect("every CHOOSE has a grant");
+                let mut group = element(ie::PDR_ID, &id.to_be_bytes());
+                group.extend(granted(settings, teid, *families));
+                body.extend(element(ie::CREATED_PDR, &group));
+            }
+        }
+    }
+    for record in &request.records {
+        if let Record::CreateEndpoint { id, f_teid: FTeid::Choose { families, .. } } = record {
+            let teid = grants::of(grants, Owner::Endpoint(*id)).expect("every CHOOSE has a grant");
+            let mut group = element(ie::ENDPOINT_ID, &[*id]);
+            group.extend(granted(settings, teid, *families));
+            body.extend(element(ie::CREATED_ENDPOINT, &group));
+        }
+    }
+    with_header(header, seid, &body)
+}
+
+/// What every reply of this kind starts with.
+fn front(settings: &Settings, kind: Kind, cause: u8) -> Vec<u8> {
+    let mut body = Vec::new();
+    if kind == Kind::Establishment {
+        let mut node = vec![0];
+        node.extend(settings.ipv4);
+        body.extend(element(ie::NODE_ID, &node));
+    }
+    body.extend(element(ie::CAUSE, &[cause]));
+    body
+}
+
+/// "the F-TEID with the unit's addresses"
+fn granted(settings: &Settings, teid: u32, families: Families) -> Vec<u8> {
+    let f_teid = FTeid::Given {
+        teid,
+        ipv4: families.v4.then_some(settings.ipv4),
+        ipv6: settings.ipv6.filter(|_| families.v6),
+    };
+    let mut space = [0; 25];
+    let length = f_teid::write(&f_teid, &mut space).expect("a granted F-TEID has a family");
+    element(ie::F_TEID, &space[..length])
+}
+
+fn element(ie_type: u16, value: &[u8]) -> Vec<u8> {
+    let mut octets = ie_type.to_be_bytes().to_vec();
+    octets.extend((value.len() as u16).to_be_bytes());
+    octets.extend(value);
+    octets
+}
+
+/// "header (the request's sequence; the session's SEID [..]; spare 0)"
+fn with_header(request: &Header, seid: u64, body: &[u8]) -> Vec<u8> {
+    let mut message = vec![0x21, request.kind.reply_type()];
+    message.extend(((ie::HEADER_OCTETS - 4 + body.len()) as u16).to_be_bytes());
+    message.extend(seid.to_be_bytes());
+    message.extend(&request.sequence.to_be_bytes()[1..]);
+    message.push(0);
+    message.extend(body);
+    message
+}

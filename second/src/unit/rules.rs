@@ -1,0 +1,315 @@
+//! Stage 4: causes 64, 71, 76 and 73, "one cause after the other". Every reason that holds is
+//! given, in the order of the causes, so that the tests can see which rules stood alone.
+
+use std::collections::{BTreeMap, BTreeSet};
+
+use super::Reason;
+use crate::element::f_teid::FTeid;
+use crate::request::{Kind, Pdi, Record, Request};
+use crate::session::{distinct_teids, Families, Local, Session, Sessions};
+use crate::settings::Settings;
+
+/// 71: "F-TEID without CH outside restoration, or with CH inside it".
+#[derive(Clone, Copy, PartialEq, Eq, PartialOrd, Ord, Debug)]
+pub enum Allocation {
+    PdrGivenOutsideRestoration,
+    EndpointGivenOutsideRestoration,
+    PdrChooseInRestoration,
+    EndpointChooseInRestoration,
+}
+
+/// 76: "PDI in Update PDR [..], or element 129 (not opened) in a modification".
+#[derive(Clone, Copy, PartialEq, Eq, PartialOrd, Ord, Debug)]
+pub enum Unsupported {
+    PdiInUpdatePdr,
+    UpdateEndpoint,
+}
+
+/// 73: every clause of its sentence by name.
+#[derive(Clone, Copy, PartialEq, Eq, PartialOrd, Ord, Debug)]
+pub enum Rule {
+    // "an ID removed, created or updated twice"
+    PdrRemovedTwice,
+    PdrCreatedTwice,
+    PdrUpdatedTwice,
+    EndpointRemovedTwice,
+    EndpointCreatedTwice,
+    // "a created ID live at entry"; also where the same request removes it
+    CreatedPdrLive,
+    CreatedPdrLiveButRemoved,
+    CreatedEndpointLive,
+    CreatedEndpointLiveButRemoved,
+    // "a removed or updated ID not live at entry"
+    RemovedPdrNotLive,
+    RemovedEndpointNotLive,
+    UpdatedPdrNotLive,
+    // "an update of a removed PDR"
+    UpdateOfRemovedPdr,
+    // "F-TEID and endpoint ID in one PDI"
+    TunnelAndEndpointInPdi,
+    // "an endpoint ID not there afterwards"
+    EndpointNotThere,
+    EndpointNotThereForItIsRemoved,
+    // "a removed endpoint still named by a PDR (H)"
+    RemovedEndpointNamed,
+    // "equal CHOOSE IDs with other families or source interface"
+    ChooseIdWithOtherFamilies,
+    ChooseIdWithOtherSourceInterface,
+    // "a family the unit lacks"
+    PdrFamilyLacking,
+    EndpointFamilyLacking,
+    // "a restored F-TEID outside the pool,
+    RestoredPdrOutsidePool,
+    RestoredEndpointOutsidePool,
+    // with another address,
+    RestoredWithOtherIpv4,
+    RestoredWithOtherIpv6,
+    // held by another session,
+    RestoredHeldByAnotherSession,
+    // or shared against the table's rule"
+    SharedByEndpoints,
+    SharedByEndpointAndPdr,
+    SharedWithOtherFamilies,
+    SharedWithOtherSourceInterface,
+}
+
+/// Every reason of stage 4 that holds for a request.
+pub fn broken(settings: &Settings, sessions: &Sessions, request: &Request) -> Vec<Reason> {
+    let mut reasons = Vec::new();
+    if let Some(f_seid) = &request.f_seid {
+        // 64: "establishment of a live SEID"
+        if sessions.contains_key(&f_seid.seid) {
+            reasons.push(Reason::LiveSeid);
+        }
+    }
+    reasons.extend(allocations(request).into_iter().map(Reason::Allocation));
+    reasons.extend(unsupported(request).into_iter().map(Reason::Unsupported));
+    reasons.extend(conflicts(settings, sessions, request).into_iter().map(Reason::Rule));
+    reasons
+}
+
+/// Every F-TEID of the request is looked at, also in a PDI that names an endpoint as well.
+fn allocations(request: &Request) -> BTreeSet<Allocation> {
+    let mut found = BTreeSet::new();
+    for (f_teid, source_interface) in request.f_teids() {
+        let of_pdr = source_interface.is_some();
+        let given = matches!(f_teid, FTeid::Given { .. });
+        match (given, request.restoration) {
+            (true, false) if of_pdr => found.insert(Allocation::PdrGivenOutsideRestoration),
+            (true, false) => found.insert(Allocation::EndpointGivenOutsideRestoration),
+            (false, true) if of_pdr => found.insert(Allocation::PdrChooseInRestoration),
+            (false, true) => found.insert(Allocation::EndpointChooseInRestoration),
+            _ => false,
+        };
+    }
+    found
+}
+
+fn unsupported(request: &Request) -> BTreeSet<Unsupported> {
+    let of = |record: &Record| match record {
+        Record::UpdatePdr { with_pdi: true, .. } => Some(Unsupported::PdiInUpdatePdr),
+        Record::UpdateEndpoint => Some(Unsupported::UpdateEndpoint),
+        _ => None,
+    };
+    request.records.iter().filter_map(of).collect()
+}
+
+/// The IDs that a request names, by verb, in request order.
+#[derive(Default)]
+struct Named {
+    pdrs_removed: Vec<u16>,
+    pdrs_created: Vec<u16>,
+    pdrs_updated: Vec<u16>,
+    endpoints_removed: Vec<u8>,
+    endpoints_created: Vec<u8>,
+}
+
+impl Named {
+    fn of(request: &Request) -> Named {
+        let mut named = Named::default();
+        for record in &request.records {
+            match record {
+                Record::CreatePdr { id, .. } => named.pdrs_created.push(*id),
+                Record::CreateEndpoint { id, .. } => named.endpoints_created.push(*id),
+                Record::UpdatePdr { id, .. } => named.pdrs_updated.push(*id),
+                Record::RemovePdr { id } => named.pdrs_removed.push(*id),
+                Record::RemoveEndpoint { id } => named.endpoints_removed.push(*id),
+                _ => {}
+            }
+        }
+        named
+    }
+}
+
+fn has_repeat<T: Ord>(ids: &[T]) -> bool {
+    ids.iter().collect::<BTreeSet<_>>().len() < ids.len()
+}
+
+/// The broken rules of 73.
+fn conflicts(settings: &Settings, sessions: &Sessions, request: &Request) -> BTreeSet<Rule> {
+    let nothing = Session::default();
+    // What the request changes, as it stands at entry: an establishment starts from nothing.
+    let own = match request.header.kind {
+        Kind::Establishment => &nothing,
+        _ => sessions.get(&request.header.seid).unwrap_or(&nothing),
+    };
+    let named = Named::of(request);
+    let mut found = BTreeSet::new();
+    found.extend(verbs(own, &named));
+    found.extend(names_of_endpoints(own, &named, request));
+    found.extend(choose_ids(request));
+    found.extend(families(settings, request));
+    if request.restoration {
+        found.extend(restored(settings, sessions, request));
+    }
+    found
+}
+
+/// What is removed, created and updated, against what is live at entry.
+fn verbs(own: &Session, named: &Named) -> Vec<Rule> {
+    let mut found = Vec::new();
+    let twice = [
+        (has_repeat(&named.pdrs_removed), Rule::PdrRemovedTwice),
+        (has_repeat(&named.pdrs_created), Rule::PdrCreatedTwice),
+        (has_repeat(&named.pdrs_updated), Rule::PdrUpdatedTwice),
+        (has_repeat(&named.endpoints_removed), Rule::EndpointRemovedTwice),
+        (has_repeat(&named.endpoints_created), Rule::EndpointCreatedTwice),
+    ];
+    found.extend(twice.iter().filter(|(holds, _)| *holds).map(|(_, rule)| *rule));
+    for id in named.pdrs_created.iter().filter(|id| own.pdrs.contains_key(id)) {
+        found.push(match named.pdrs_removed.contains(id) {
+            true => Rule::CreatedPdrLiveButRemoved,
+            false => Rule::CreatedPdrLive,
+        });
+    }
+    for id in named.endpoints_created.iter().filter(|id| own.endpoints.contains_key(id)) {
+        found.push(match named.endpoints_removed.contains(id) {
+            true => Rule::CreatedEndpointLiveButRemoved,
+            false => Rule::CreatedEndpointLive,
+        });
+    }
+    if named.pdrs_removed.iter().any(|id| !own.pdrs.contains_key(id)) {
+        found.push(Rule::RemovedPdrNotLive);
+    }
+    if named.endpoints_removed.iter().any(|id| !own.endpoints.contains_key(id)) {
+        found.push(Rule::RemovedEndpointNotLive);
+    }
+    if named.pdrs_updated.iter().any(|id| !own.pdrs.contains_key(id)) {
+        found.push(Rule::UpdatedPdrNotLive);
+    }
+    if named.pdrs_updated.iter().any(|id| named.pdrs_removed.contains(id)) {
+        found.push(Rule::UpdateOfRemovedPdr);
+    }
+    found
+}
+
+fn created_pdis(request: &Request) -> impl Iterator<Item = &Pdi> {
+    request.records.iter().filter_map(|record| match record {
+        Record::CreatePdr { pdi, .. } => Some(pdi),
+        _ => None,
+    })
+}
+
+/// The endpoints that PDRs name, before and after.
+fn names_of_endpoints(own: &Session, named: &Named, request: &Request) -> Vec<Rule> {
+    let mut found = Vec::new();
+    for pdi in created_pdis(request) {
+        let Some(id) = pdi.endpoint else { continue };
+        if pdi.f_teid.is_some() {
+            found.push(Rule::TunnelAndEndpointInPdi);
+        }
+        let removed = named.endpoints_removed.contains(&id);
+        let stays = own.endpoints.contains_key(&id) && !removed;
+        if !stays && !named.endpoints_created.contains(&id) {
+            found.push(match own.endpoints.contains_key(&id) {
+                true => Rule::EndpointNotThereForItIsRemoved,
+                false => Rule::EndpointNotThere,
+            });
+        }
+    }
+    for (id, pdr) in &own.pdrs {
+        if let Local::Endpoint(endpoint) = pdr.local {
+            if named.endpoints_removed.contains(&endpoint) && !named.pdrs_removed.contains(id) {
+                found.push(Rule::RemovedEndpointNamed);
+            }
+        }
+    }
+    found
+}
+
+/// CHOOSE IDs are a space of the request's Create PDRs.
+fn choose_ids(request: &Request) -> Vec<Rule> {
+    let mut found = Vec::new();
+    let mut first_uses: BTreeMap<u8, (Families, u8)> = BTreeMap::new();
+    for pdi in created_pdis(request) {
+        if let Some(FTeid::Choose { families, choose_id: Some(id) }) = pdi.f_teid {
+            let first = *first_uses.entry(id).or_insert((families, pdi.source_interface));
+            if first.0 != families {
+                found.push(Rule::ChooseIdWithOtherFamilies);
+            }
+            if first.1 != pdi.source_interface {
+                found.push(Rule::ChooseIdWithOtherSourceInterface);
+            }
+        }
+    }
+    found
+}
+
+fn families(settings: &Settings, request: &Request) -> Vec<Rule> {
+    let lacking = request.f_teids().filter(|(f_teid, _)| !settings.has(f_teid.families()));
+    lacking
+        .map(|(_, source_interface)| match source_interface {
+            Some(_) => Rule::PdrFamilyLacking,
+            None => Rule::EndpointFamilyLacking,
+        })
+        .collect()
+}
+
+/// The F-TEIDs that a restoration carries.
+fn restored(settings: &Settings, sessions: &Sessions, request: &Request) -> Vec<Rule> {
+    let mut found = Vec::new();
+    let elsewhere = distinct_teids(sessions);
+    let mut of_endpoints: BTreeSet<u32> = BTreeSet::new();
+    let mut of_pdrs: BTreeMap<u32, (Families, u8)> = BTreeMap::new();
+    for (f_teid, source_interface) in request.f_teids() {
+        let FTeid::Given { teid, ipv4, ipv6 } = f_teid else { continue };
+        if !settings.holds(*teid) {
+            found.push(match source_interface {
+                Some(_) => Rule::RestoredPdrOutsidePool,
+                None => Rule::RestoredEndpointOutsidePool,
+            });
+        }
+        if ipv4.is_some_and(|address| address != settings.ipv4) {
+            found.push(Rule::RestoredWithOtherIpv4);
+        }
+        if let (Some(address), Some(own)) = (ipv6, settings.ipv6) {
+            if *address != own {
+                found.push(Rule::RestoredWithOtherIpv6);
+            }
+        }
+        if elsewhere.contains(teid) {
+            found.push(Rule::RestoredHeldByAnotherSession);
+        }
+        match source_interface {
+            None => {
+                if !of_endpoints.insert(*teid) {
+                    found.push(Rule::SharedByEndpoints);
+                }
+            }
+            Some(source) => {
+                let this_use = (f_teid.families(), source);
+                let first = *of_pdrs.entry(*teid).or_insert(this_use);
+                if first.0 != this_use.0 {
+                    found.push(Rule::SharedWithOtherFamilies);
+                }
+                if first.1 != this_use.1 {
+                    found.push(Rule::SharedWithOtherSourceInterface);
+                }
+            }
+        }
+    }
+    if of_endpoints.iter().any(|teid| of_pdrs.contains_key(teid)) {
+        found.push(Rule::SharedByEndpointAndPdr);
+    }
+    found
+}

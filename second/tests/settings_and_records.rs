@@ -1,0 +1,86 @@
+//! Document 01 "Settings and table", with the readings of it.
+
+mod common;
+
+use common::*;
+use second::session::{records_hold, Families, Local, Pdr, Session, Sessions, Tunnel};
+use second::settings::Settings;
+use second::unit::Unit;
+
+#[test]
+fn allowed_settings() {
+    let made = |ipv6: &[u8], first, size| Settings::make([0; 4], ipv6, first, size).is_some();
+    assert!(made(&[], 1, 1));
+    assert!(made(&[0; 16], 1, 4096));
+    assert!(!made(&[0; 15], 1, 1) && !made(&[0; 17], 1, 1) && !made(&[0; 4], 1, 1));
+    assert!(!made(&[], 0, 1));
+    assert!(!made(&[], 1, 0) && !made(&[], 1, 4097));
+    assert!(made(&[], u32::MAX, 1) && !made(&[], u32::MAX, 2));
+    assert!(made(&[], u32::MAX - 4095, 4096) && !made(&[], u32::MAX - 4094, 4096));
+    let other = Settings { ipv4: [0; 4], ipv6: None, first: 0, size: 1 };
+    assert!(Unit::new(other).is_none());
+}
+
+#[test]
+fn ids_of_zero_are_allowed() {
+    let mut unit = unit(1, 4);
+    let pdi = group(2, &[source(0), endpoint_id(0)]);
+    let pdr = group(1, &[pdr_id(0), precedence(0), pdi, far(0)]);
+    assert_eq!(cause(&mut unit, &establishment(1, &[pdr, create_endpoint(0, &[5])])), 1);
+    let session = &unit.sessions()[&1];
+    assert_eq!(session.pdrs[&0].far_id, Some(0));
+    assert_eq!(session.pdrs[&0].local, Local::Endpoint(0));
+}
+
+#[test]
+fn map_of_taken_teids() {
+    let mut unit = unit(4096, 4096);
+    assert_eq!(unit.taken_map(), [0; 64]);
+    let given = |id, teid| create_pdr(id, &[ie(21, &given_v4(teid))]);
+    let parts = [given(1, 4096), given(2, 4096 + 65), given(3, 8191), given(4, 8191)];
+    assert_eq!(cause(&mut unit, &restoration(1, &parts)), 1);
+    let map = unit.taken_map();
+    assert_eq!((map[0], map[1], map[63]), (1, 2, 1 << 63));
+    assert_eq!(map.iter().map(|word| word.count_ones()).sum::<u32>(), 3);
+    assert_eq!(unit.free_count(), 4093);
+}
+
+/// The rules for records, each broken alone.
+#[test]
+fn broken_records() {
+    let settings = Settings::make(IPV4, &[], 10, 10).unwrap();
+    let v4 = Families { v4: true, v6: false };
+    let tunnel = |teid| Tunnel { teid, families: v4 };
+    let pdr = |local| Pdr { precedence: 0, far_id: None, source_interface: 0, local };
+    let of = |session: Session| Sessions::from([(1, session)]);
+    let mut good = Session::default();
+    good.pdrs.insert(1, pdr(Local::Tunnel(tunnel(10))));
+    good.pdrs.insert(2, pdr(Local::Tunnel(tunnel(10))));
+    good.endpoints.insert(1, tunnel(19));
+    good.pdrs.insert(3, pdr(Local::Endpoint(1)));
+    assert_eq!(records_hold(&settings, &of(good.clone())), Ok(()));
+    let broken = |change: &dyn Fn(&mut Session)| {
+        let mut session = good.clone();
+        change(&mut session);
+        assert!(records_hold(&settings, &of(session)).is_err());
+    };
+    let with_endpoint = |tunnel: Tunnel| {
+        broken(&|s| {
+            s.endpoints.insert(2, tunnel);
+        })
+    };
+    broken(&|s| s.pdrs.get_mut(&2).unwrap().source_interface = 1);
+    broken(&|s| s.pdrs.get_mut(&2).unwrap().source_interface = 16);
+    broken(&|s| s.endpoints.clear());
+    broken(&|s| s.pdrs.extend((10..24).map(|id| (id, pdr(Local::Neither)))));
+    // Shared with an endpoint, shared with a PDR, outside the pool on both sides.
+    for teid in [19, 10, 20, 9] {
+        with_endpoint(tunnel(teid));
+    }
+    for families in [Families { v4: true, v6: true }, Families { v4: false, v6: false }] {
+        with_endpoint(Tunnel { teid: 15, families });
+    }
+    let twice = Sessions::from([(1, good.clone()), (2, good.clone())]);
+    assert!(records_hold(&settings, &twice).is_err());
+    assert!(records_hold(&settings, &Sessions::from([(0, Session::default())])).is_err());
+}
