@@ -58,7 +58,7 @@ others x (y ∷ m) h =
 
 -- ---- room for the session
 
-live-any : (n : ℕ) (m : Sessions) → T (isLive n m) → T (any (λ y. not (otherSession n y)) m)
+pub live-any : (n : ℕ) (m : Sessions) → T (isLive n m) → T (any (λ y. not (otherSession n y)) m)
 unfolding isLive sessionOf findBy any otherSession hasSeid
 live-any n [] h = absurd h
 live-any n (y ∷ m) h = one (eqb (y .seid) n) (λ g. live-any n m g) h
@@ -77,7 +77,7 @@ changed-seid : (s : Settings) (m : Sessions) (msg : List ℕ) → changed s m ms
 unfolding changed apply
 changed-seid s m msg = refl
 
-found-seid : (n : ℕ) (m : Sessions) → T (isLive n m) → valueOr (newSession n) (sessionOf n m) .seid ≡ n
+pub found-seid : (n : ℕ) (m : Sessions) → T (isLive n m) → valueOr (newSession n) (sessionOf n m) .seid ≡ n
 unfolding isLive sessionOf findBy hasSeid
 found-seid n [] h = absurd h
 found-seid n (y ∷ m) h = one (eqb (y .seid) n) refl (λ g. found-seid n m g) h

@@ -30,10 +30,10 @@ eqb-turn a b = one (eqb a b) refl
     one false e = sym (is-false (eqb b a) (no-eqb b a (λ g. ne-of a b (subst (λ (c : Bool). T (not c)) (sym e) tt) (sym g))))
 
 -- the CHOOSE IDs seen are those that have a TEID
-abbrev Matches : List ℕ → List Chosen → Type 0
+abbrev pub Matches : List ℕ → List Chosen → Type 0
 Matches seen cs = (i : ℕ) → member i seen ≡ isSome (findBy (isChoice i) cs)
 
-matches-new : (seen : List ℕ) (cs : List Chosen) (i t : ℕ) → Matches seen cs → Matches (i ∷ seen) (record { chooseId = i; teid = t } ∷ cs)
+pub matches-new : (seen : List ℕ) (cs : List Chosen) (i t : ℕ) → Matches seen cs → Matches (i ∷ seen) (record { chooseId = i; teid = t } ∷ cs)
 unfolding member findBy isChoice
 matches-new seen cs i t h j = ap₂ _||_ (eqb-turn j i) (h j) ∙ one (eqb i j)
   where
@@ -41,7 +41,7 @@ matches-new seen cs i t h j = ap₂ _||_ (eqb-turn j i) (h j) ∙ one (eqb i j)
     one true = refl
     one false = refl
 
-matches-old : (seen : List ℕ) (cs : List Chosen) (i : ℕ) → Matches seen cs → isSome (findBy (isChoice i) cs) ≡ true → Matches (i ∷ seen) cs
+pub matches-old : (seen : List ℕ) (cs : List Chosen) (i : ℕ) → Matches seen cs → isSome (findBy (isChoice i) cs) ≡ true → Matches (i ∷ seen) cs
 unfolding member
 matches-old seen cs i h there j = one (eqb j i) refl
   where
@@ -57,7 +57,7 @@ module _ (p : ℕ → Bool) where
   grantOk g = p (g .local .teid)
 
   -- the next free TEID, where one is needed
-  next-ok : (free : List ℕ) (n : ℕ) → 1 + n ≤ length free → T (all p free) → T (p (headOr 0 free)) × T (all p (rest free)) × (n ≤ length (rest free))
+  pub next-ok : (free : List ℕ) (n : ℕ) → 1 + n ≤ length free → T (all p free) → T (p (headOr 0 free)) × T (all p (rest free)) × (n ≤ length (rest free))
   next-ok [] n h k = absurd (omega arith)
   next-ok (t ∷ ts) n h k = (all-head p t ts k, all-tail p t ts k, omega arith)
 
@@ -108,7 +108,7 @@ module _ (p : ℕ → Bool) where
 
 -- the grants of an accepted request are free TEIDs: in the pool, and held by nobody
 module _ {limit : ℕ} {s : Settings} {m : Sessions} {msg : List ℕ} (passed : Passed limit s m msg) where
-  enough : need (readRequest msg) ≤ length (freeTeids s m)
+  pub enough : need (readRequest msg) ≤ length (freeTeids s m)
   unfolding tooFewTeids
   enough = le-trans (nltb→le (freeCount s m) (need (readRequest msg)) (passed .room .1 .1 .1 .0)) (free-enough s m)
 

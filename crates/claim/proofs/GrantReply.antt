@@ -172,7 +172,7 @@ module _ (s : Settings) (hs : T (settingsAllowed s)) where
   unfolding Fits
   node-fits = (lit< tt, small s hs (le-trans (le-of-eq (ap suc (ipv4-four s hs))) (lit≤ tt)))
 
-  fseid-length : (n : ℕ) → length (fseidOctets n (s .ipv4) []) ≡ 13
+  pub fseid-length : (n : ℕ) → length (fseidOctets n (s .ipv4) []) ≡ 13
   unfolding fseidOctets be
   fseid-length n = let e = ap length (append-nil (s .ipv4)) in let f = ipv4-four s hs in omega arith
 
@@ -180,7 +180,7 @@ module _ (s : Settings) (hs : T (settingsAllowed s)) where
   unfolding Fits
   fseid-fits n = (lit< tt, small s hs (le-trans (le-of-eq (fseid-length n)) (lit≤ tt)))
 
-  pdr-content-short : (g : Grant) → length (createdPdrContent s g) ≤ 35
+  pub pdr-content-short : (g : Grant) → length (createdPdrContent s g) ≤ 35
   unfolding createdPdrContent unitElement
   pdr-content-short g =
       let a = length-append (element 56 (be 2 (g .id))) (element 21 (fteidOctets (unitFteid s (g .local)))) in
@@ -190,7 +190,7 @@ module _ (s : Settings) (hs : T (settingsAllowed s)) where
       let h = unit-short s hs (g .local) in
       omega arith
 
-  endpoint-content-short : (g : Grant) → length (createdEndpointContent s g) ≤ 35
+  pub endpoint-content-short : (g : Grant) → length (createdEndpointContent s g) ≤ 35
   unfolding createdEndpointContent unitElement
   endpoint-content-short g =
       let a = length-append (element 131 (g .id ∷ [])) (element 21 (fteidOctets (unitFteid s (g .local)))) in

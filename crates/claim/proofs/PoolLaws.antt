@@ -18,7 +18,7 @@ use Rattle.rules.specs.Sound.{inPool}
 
 -- ---- numbers from one on
 
-range-above : (x y n : ℕ) → x < y → T (all (λ k. ltb x k) (range y n))
+pub range-above : (x y n : ℕ) → x < y → T (all (λ k. ltb x k) (range y n))
 unfolding all range
 range-above x y zero h = tt
 range-above x y (suc n) h = all-cons (λ k. ltb x k) y (range (y + 1) n) (lt→ltb x y h) (range-above x (y + 1) n (omega arith))
@@ -28,7 +28,7 @@ unfolding hasRepeat range
 range-once x zero = tt
 range-once x (suc n) = neither-one (member x (range (x + 1) n)) (hasRepeat (range (x + 1) n)) (above-not-member x (range (x + 1) n) (range-above x (x + 1) n (omega arith))) (range-once (x + 1) n)
 
-length-range : (x n : ℕ) → length (range x n) ≡ n
+pub length-range : (x n : ℕ) → length (range x n) ≡ n
 unfolding range
 length-range x zero = refl
 length-range x (suc n) = ap suc (length-range (x + 1) n)
@@ -112,7 +112,7 @@ range-in s x (suc n) h g =
     all-cons (inPool s) x (range (x + 1) n) (both (leb (s .first) x) (ltb x (s .first + s .size)) (yes-leb h) (lt→ltb x (s .first + s .size) below))
     (range-in s (x + 1) n (omega arith) (omega arith))
 
-without-all : (p : ℕ → Bool) (xs ys : List ℕ) → T (all p xs) → T (all p (without xs ys))
+pub without-all : (p : ℕ → Bool) (xs ys : List ℕ) → T (all p xs) → T (all p (without xs ys))
 unfolding all without
 without-all p [] ys h = tt
 without-all p (x ∷ xs) ys h =

@@ -82,10 +82,10 @@ AcceptedKeeps limit =
 
 module _ (limit : ℕ) (small : limit < 256 ^ 2) (accepts : AcceptedKeeps limit) (s : Settings) (m : Sessions) (msg space : List ℕ)
     (hs : T (settingsAllowed s)) (hm : T (sessionsAllowed limit s m)) (ho : T (octets msg)) where
-  abbrev t : List ℕ
+  abbrev pub t : List ℕ
   t = encode limit s m
 
-  abbrev P : Served → Type 0
+  abbrev pub P : Served → Type 0
   P r = Kept limit s m (r .table) (replied msg (r .outcome) (r .space))
 
   -- nothing changes where the event is no acceptance
@@ -138,7 +138,7 @@ module _ (limit : ℕ) (small : limit < 256 ^ 2) (accepts : AcceptedKeeps limit)
       twice true h = tt
       twice false h = h
 
-  one-kept : P (serve limit t msg space)
+  pub one-kept : P (serve limit t msg space)
   unfolding serve
   one-kept =
       pick-case P (sound limit t) _ (unserved 1 space t)

@@ -31,7 +31,7 @@ number-bound (x ∷ xs) h =
     lt-of-lt-of-le (digits-lt (ltb→lt x 256 (and-left (ltb x 256) (areBytes xs) h)) (number-bound xs (and-right (ltb x 256) (areBytes xs) h)))
     (le-of-eq (mul-comm 256 (256 ^ length xs) ∙ sym (pow-suc 256 (length xs))))
 
-bytes-take : (n : ℕ) (xs : List ℕ) → T (areBytes xs) → T (areBytes (take n xs))
+pub bytes-take : (n : ℕ) (xs : List ℕ) → T (areBytes xs) → T (areBytes (take n xs))
 bytes-take zero xs h = tt
 bytes-take (suc n) [] h = tt
 bytes-take (suc n) (x ∷ xs) h = both (ltb x 256) (areBytes (take n xs)) (and-left (ltb x 256) (areBytes xs) h) (bytes-take n xs (and-right (ltb x 256) (areBytes xs) h))
@@ -112,7 +112,7 @@ endpoint-ids (e ∷ es) h = one (fteidIn true (elements (e .content))) (collect 
     one (some v) l k = all-cons endpointFits (record { id = fieldOr0 131 (elements (e .content)); local = v }) l (lt→ltb (fieldOr0 131 (elements (e .content))) (256 ^ 2) id-fits) k
 
 module _ (msg : List ℕ) (h : T (areBytes msg)) where
-  clean-body : T (all clean (elements (body msg)))
+  pub clean-body : T (all clean (elements (body msg)))
   unfolding body
   clean-body = clean-elements (drop 16 msg) (bytes-drop 16 msg h)
 

@@ -2,4 +2,6 @@ pub mod BoundLaws
 pub mod ElementLaws
 pub mod LayoutLaws
 pub mod MessageLaws
+pub mod ReadLaws
 pub mod ReplyLaws
+pub mod RequestLaws

@@ -5,3 +5,5 @@ pub mod Put
 pub mod Parts
 pub mod Digits
 pub mod FieldLaws
+pub mod ListLaws
+pub mod MemberLaws

@@ -1,0 +1,160 @@
+-- The session that an accepted establishment or modification makes or changes keeps the rules and shares no TEID with another; and so demand 3.
+-- Assumes nothing.
+use mathlib.Core.Path.{_≡_, refl, sym, subst}
+use Prim.Native.Nat.{ℕ, _≤_}
+use mathlib.Core.Bool.{Bool, true, false, not, _&&_}
+use mathlib.Core.Option.{Option, none, some}
+use mathlib.Core.List.{List}
+use lib.ListN.{length}
+use lib.Dec.{T, eqb, eqb→eq}
+use Rattle.octets.specs.Choice.{pick, isSome, valueOr}
+use Rattle.octets.specs.Octets.{octets}
+use Rattle.octets.specs.Lists.{member, anyIn, ascending, all, allPairs, keep, findBy, collect}
+use Rattle.octets.proofs.ListLaws.{not-not, all-every, all-always, found-passes, found-knows, found-others}
+use Rattle.rules.specs.Model.{Settings, Session, Sessions, sessionHoldings, sessionTeids, heldTeids, freeTeids}
+use Rattle.rules.specs.Limits.{maxSessions}
+use Rattle.rules.specs.Sound.{sessionAllowed, sessionsAllowed, apart}
+use Rattle.rules.specs.Message.{kindOf, headerSeid, readFault, readRequest, Request}
+use Rattle.rules.specs.Grants.{Kind, grants, grantedTeid, need}
+use Rattle.rules.specs.Stages.{hasSeid, sessionOf, isLive, newSession, atEntry, entrySession, unknownSession, invalidAllocation}
+use Rattle.rules.specs.Apply.{apply, otherSession, removeSession}
+use Rattle.claim.proofs.RestoreAll.{apart-turn}
+use Rattle.claim.proofs.VerdictLaws.{Passed}
+use Rattle.claim.proofs.GrantLaws.{enough}
+use Rattle.laws.proofs.ReadLaws.{SeidRead}
+use Rattle.laws.proofs.RequestLaws.{pdrs-read, endpoints-read, changes-read, csids-read, seid-read}
+use Rattle.claim.proofs.KeptRules.{SessionKept, session-kept, session-allowed, sessions-kept, RulesKept, rules-kept, RoomLeft, room-left}
+use Rattle.claim.proofs.ChangedCsids.{CsidsKept, csids-kept, csids-few}
+use Rattle.claim.proofs.ChangedRecords.{RequestRead, endpoints-few, endpoints-order, endpoints-allowed, pdrs-few, pdrs-order, pdrs-allowed}
+use Rattle.claim.proofs.ChangedHolds.{all-held, changed-agree, changed-apart}
+use Rattle.claim.proofs.After.{changed, ChangedSound, demand3-from-changed}
+use Rattle.rules.specs.Claim.{Demand3}
+
+-- ---- the session at entry
+
+-- it keeps the rules, its TEIDs are held, and no other session holds them
+pub record Entry (s : Settings) (m : Sessions) (x : Session) : Type 0 where
+  pub kept : SessionKept s x
+  pub held : T (all (λ n. member n (heldTeids m)) (sessionTeids x))
+  pub separate : T (all (apart x) (removeSession (x .seid) m))
+
+-- a new session
+new-entry : (s : Settings) (m : Sessions) (n : ℕ) → SeidRead n → Entry s m (newSession n)
+unfolding newSession
+new-entry s m n h =
+    record {
+      kept = record {
+        seid = h .nonzero;
+        seidFits = h .fits;
+        fewPdrs = tt;
+        pdrOrder = unfold ascending in tt;
+        pdrs = unfold all in tt;
+        fewEndpoints = tt;
+        endpointOrder = unfold ascending in tt;
+        endpoints = unfold all in tt;
+        fewCsids = tt;
+        csidOrder = unfold ascending in tt;
+        csids = unfold all in tt;
+        holds = unfold sessionHoldings collect allPairs in tt;
+      };
+      held = unfold sessionTeids sessionHoldings collect all in tt;
+      separate = all-always (apart (newSession n)) (λ z. unfold apart sessionTeids sessionHoldings collect anyIn in tt) (removeSession n m);
+    }
+
+-- the one found has the SEID
+found-has : (m : Sessions) (n : ℕ) (x : Session) → findBy (hasSeid n) m ≡ some x → x .seid ≡ n
+unfolding hasSeid
+found-has m n x e = eqb→eq (x .seid) n (found-passes (hasSeid n) m x e)
+
+-- and no other session holds its TEIDs
+found-separate : (m : Sessions) (n : ℕ) (x : Session) → T (allPairs apart m) → findBy (hasSeid n) m ≡ some x → T (all (apart x) (removeSession (x .seid) m))
+unfolding removeSession otherSession
+found-separate m n x h e = subst (λ (i : ℕ). T (all (apart x) (keep (λ z. not (hasSeid i z)) m))) (sym (found-has m n x e)) (found-others apart apart-turn (hasSeid n) m x h e)
+
+-- a live one
+found-entry : (limit : ℕ) (s : Settings) (m : Sessions) (n : ℕ) → T (sessionsAllowed limit s m) → T (isLive n m) → Entry s m (valueOr (newSession n) (sessionOf n m))
+unfolding isLive sessionOf
+found-entry limit s m n hm live = one (findBy (hasSeid n) m) refl live
+  where
+    one : (o : Option Session) → findBy (hasSeid n) m ≡ o → T (isSome o) → Entry s m (valueOr (newSession n) o)
+    one none e h = absurd h
+    one (some x) e h =
+        let k = sessions-kept limit s m hm in
+        record {
+          kept = session-kept s x (found-knows (λ z. T (sessionAllowed s z)) (hasSeid n) m x (all-every (sessionAllowed s) m (k .sessions)) e);
+          held = found-knows (λ z. T (all (λ t. member t (heldTeids m)) (sessionTeids z))) (hasSeid n) m x (all-every (λ z. all (λ t. member t (heldTeids m)) (sessionTeids z)) m (all-held m)) e;
+          separate = found-separate m n x (k .separate) e;
+        }
+
+-- the one that a request without a fault is about
+pub entry-known : (limit : ℕ) (s : Settings) (m : Sessions) (msg : List ℕ) → T (sessionsAllowed limit s m) → T (octets msg) → T (not (unknownSession m msg)) → readFault msg ≡ none → Entry s m (entrySession m msg)
+unfolding entrySession atEntry unknownSession
+entry-known limit s m msg hm ho known read = one (eqb (kindOf msg) 50) refl known
+  where
+    one : (b : Bool) → eqb (kindOf msg) 50 ≡ b → T (not (not b && not (isLive (headerSeid msg) m)))
+        → Entry s m (pick b (newSession (readRequest msg .seid)) (valueOr (newSession (headerSeid msg)) (sessionOf (headerSeid msg) m)))
+    one true e k = new-entry s m (readRequest msg .seid) (seid-read msg ho (subst T (sym e) tt) read)
+    one false e k = found-entry limit s m (headerSeid msg) hm (not-not (isLive (headerSeid msg) m) k)
+
+-- the one that an accepted request is about
+pub entry-sound : (limit : ℕ) (s : Settings) (m : Sessions) (msg : List ℕ) → T (sessionsAllowed limit s m) → T (octets msg) → Passed limit s m msg → Entry s m (entrySession m msg)
+entry-sound limit s m msg hm ho p = entry-known limit s m msg hm ho (p .known) (p .read)
+
+-- ---- the session afterwards
+
+-- the request's records
+pub request-read : (msg : List ℕ) → T (octets msg) → RequestRead (readRequest msg)
+request-read msg h = record { pdrs = pdrs-read msg h; endpoints = endpoints-read msg h; changes = changes-read msg h; csids = csids-read msg h }
+
+module _ (limit kind : ℕ) (s : Settings) (m : Sessions) (x : Session) (r : Request) (entry : Entry s m x) (rules : RulesKept s m x r) (room : RoomLeft limit kind s m x r) (read : RequestRead r)
+    (enough′ : need r ≤ length (freeTeids s m)) (ok : T (not (invalidAllocation r))) where
+  -- what is looked up among the grants
+  abbrev teids : Kind → ℕ → ℕ
+  teids = grantedTeid (grants s m r)
+
+  -- its FQ-CSIDs
+  csids-after : CsidsKept (apply teids r x .csids)
+  unfolding apply
+  csids-after = csids-kept (r .clears) (r .csids) (x .csids) (read .csids) (record { order = entry .kept .csidOrder; each = entry .kept .csids })
+
+  -- it keeps every rule
+  pub applied-kept : SessionKept s (apply teids r x)
+  applied-kept =
+      let k = entry .kept in
+      record {
+        seid = unfold apply in (k .seid);
+        seidFits = unfold apply in (k .seidFits);
+        fewPdrs = unfold apply in (pdrs-few limit kind s m x r k rules room read enough′);
+        pdrOrder = unfold apply in (pdrs-order limit kind s m x r k rules room read enough′);
+        pdrs = unfold apply in (pdrs-allowed limit kind s m x r k rules room read enough′);
+        fewEndpoints = unfold apply in (endpoints-few limit kind s m x r k rules room read enough′);
+        endpointOrder = unfold apply in (endpoints-order limit kind s m x r k rules room read enough′);
+        endpoints = unfold apply in (endpoints-allowed limit kind s m x r k rules room read enough′);
+        fewCsids = csids-few (apply teids r x .csids) csids-after;
+        csidOrder = csids-after .order;
+        csids = csids-after .each;
+        holds = changed-agree s m x r k rules read enough′ (entry .held) ok;
+      }
+
+  -- and no other session holds its TEIDs
+  pub applied-separate : T (all (apart (apply teids r x)) (removeSession (x .seid) m))
+  unfolding removeSession
+  applied-separate = changed-apart s m x r (entry .kept) rules read enough′ (entry .held) (otherSession (x .seid)) (entry .separate)
+
+-- the open fact of the sequence claim, for any number of session slots
+pub changed-sound : (limit : ℕ) → ChangedSound limit
+unfolding ChangedSound changed
+changed-sound limit s m msg hs hm ho hk nd p =
+    let x = entrySession m msg in
+    let r = readRequest msg in
+    let entry = entry-sound limit s m msg hm ho p in
+    let rules = rules-kept s m x r (p .rules) in
+    let room = room-left limit (kindOf msg) s m x r (p .room) in
+    record {
+      sound = unfold changed in (session-allowed (applied-kept limit (kindOf msg) s m x r entry rules room (request-read msg ho) (enough p) (p .allocation)));
+      separate = unfold changed apply in (applied-separate limit (kindOf msg) s m x r entry rules room (request-read msg ho) (enough p) (p .allocation));
+    }
+
+-- demand 3
+pub demand3 : Demand3
+demand3 = demand3-from-changed (changed-sound maxSessions)

@@ -1,0 +1,6 @@
+pub mod Bools
+pub mod Loops
+pub mod Questions
+pub mod EachTwo
+pub mod Counting
+pub mod RowLaws

@@ -1,0 +1,5 @@
+pub mod Bits
+pub mod Marks
+pub mod Free
+pub mod TakenLaws
+pub mod GrantWalk
