@@ -1,0 +1,149 @@
+-- How long a reply is at most: every reply of at most 24 grants fits the least reply space. Assumes nothing.
+use mathlib.Core.Option.{Option, none, some}
+use mathlib.Core.List.{List, [], _∷_, _++_}
+use Prim.Native.Nat.{ℕ, _+_, _*_, _≤_}
+use native.Mathlib.Nat.{le-trans, le-of-eq, min-le-left}
+use native.Mathlib.Omega.{arith}
+use lib.Dec.{eqb}
+use lib.ListN.{length, drop, length-append, length-take}
+use Rattle.octets.specs.Choice.{pick}
+use Rattle.octets.specs.Octets.{be, part, octetAt, concatMap}
+use Rattle.octets.specs.Lists.{keep}
+use Rattle.octets.proofs.Numbers.{length-be}
+use Rattle.octets.proofs.Tests.{pick-either}
+use Rattle.rules.specs.Limits.{minSpace}
+use Rattle.rules.specs.Model.{Settings, Tunnel}
+use Rattle.rules.specs.Layout.{viewSettings}
+use Rattle.rules.specs.Elements.{fteidOctets, unitFteid, fseidOctets}
+use Rattle.rules.specs.Message.{kindOf, headerSeid, sequenceOf}
+use Rattle.rules.specs.Grants.{Kind, ofPdr, ofEndpoint, Grant, sameKind, isKind, grantsOf}
+use Rattle.rules.specs.Stages.{Verdict}
+use Rattle.rules.specs.Reply.{element, message, unitElement, createdPdr, createdPdrContent, createdEndpoint, createdEndpointContent, created, offendingElement, nodeIdElement, unitFseid, acceptedPart, replyBody, replySeid, reply}
+use Rattle.reply.specs.Parts.{bodyFront, group, groups}
+use Rattle.reply.specs.Rows.{kindIn, grantsIn}
+use Rattle.reply.proofs.PlacedLaws.{length-element}
+use Rattle.reply.proofs.GroupSteps.{groups-more, groups-none, length-created}
+
+abbrev atMost : ℕ → List ℕ → Type 0
+atMost n xs = length xs ≤ n
+
+abbrev grant : Kind → ℕ → Tunnel → Grant
+grant k i t = record { kind = k; id = i; local = t }
+
+-- a part is no longer than was asked for
+length-part-most : (at n : ℕ) (xs : List ℕ) → length (part at n xs) ≤ n
+length-part-most at n xs = le-trans (le-of-eq (length-take n (drop at xs))) (min-le-left n (length (drop at xs)))
+
+pub view-ipv4 : (t : List ℕ) → length (viewSettings t .ipv4) ≤ 4
+unfolding viewSettings
+view-ipv4 t = length-part-most 0 4 t
+
+pub view-ipv6 : (t : List ℕ) → length (viewSettings t .ipv6) ≤ 16
+unfolding viewSettings
+view-ipv6 t = pick-either (atMost 16) (eqb (octetAt t 4) 0) [] (part 5 16 t) (omega arith) (length-part-most 5 16 t)
+
+pub rows-most : (rows : List ℕ) → 4 * length (grantsIn rows) ≤ length rows
+unfolding grantsIn
+rows-most [] = omega arith
+rows-most (k ∷ []) = omega arith
+rows-most (k ∷ i ∷ []) = omega arith
+rows-most (k ∷ i ∷ t ∷ []) = omega arith
+rows-most (k ∷ i ∷ t ∷ f ∷ rows) = let m = rows-most rows in omega arith
+
+pub length-offending : (o : Option ℕ) → length (offendingElement o) ≤ 6
+unfolding offendingElement
+length-offending none = omega arith
+length-offending (some t) = rw length-element (omega (arith, length-be 2 t))
+
+module _ (s : Settings) (four : length (s .ipv4) ≤ 4) where
+  pub length-node : (kind : ℕ) → length (nodeIdElement kind s) ≤ 9
+  unfolding nodeIdElement
+  length-node kind = pick-either (atMost 9) (eqb kind 50) _ [] (rw length-element (omega arith)) (omega arith)
+
+  pub length-front : (kind cause : ℕ) → length (bodyFront kind s cause) ≤ 14
+  unfolding bodyFront
+  length-front kind cause =
+      omega (arith, length-append (nodeIdElement kind s) (element 19 (cause ∷ [])), length-node kind, length-element 19 (cause ∷ []))
+
+  pub length-fseid : (kind seid : ℕ) → length (unitFseid kind s seid) ≤ 17
+  unfolding unitFseid fseidOctets
+  length-fseid kind seid =
+      pick-either (atMost 17) (eqb kind 50) _ []
+      (rw length-element (omega (arith, length-append (be 8 seid) (s .ipv4 ++ []), length-append (s .ipv4) [], length-be 8 seid)))
+      (omega arith)
+
+  module _ (sixteen : length (s .ipv6) ≤ 16) where
+    length-unit-most : (t : Tunnel) → length (unitElement s t) ≤ 29
+    unfolding unitElement unitFteid fteidOctets
+    length-unit-most t =
+        let a = pick (t .v4) (s .ipv4) [] in
+        let b = pick (t .v6) (s .ipv6) [] in
+        let la : length a ≤ 4 = pick-either (atMost 4) (t .v4) (s .ipv4) [] four (omega arith) in
+        let lb : length b ≤ 16 = pick-either (atMost 16) (t .v6) (s .ipv6) [] sixteen (omega arith) in
+        rw length-element (omega (arith, length-append (be 4 (t .teid)) (a ++ b), length-append a b, length-be 4 (t .teid)))
+
+    length-pdr : (g : Grant) → length (createdPdr s g) ≤ 39
+    unfolding createdPdr createdPdrContent
+    length-pdr g =
+        rw length-element
+        (omega (arith, length-append (element 56 (be 2 (g .id))) (unitElement s (g .local)), length-element 56 (be 2 (g .id)), length-be 2 (g .id), length-unit-most (g .local)))
+
+    length-endpoint : (g : Grant) → length (createdEndpoint s g) ≤ 39
+    unfolding createdEndpoint createdEndpointContent
+    length-endpoint g =
+        rw length-element
+        (omega (arith, length-append (element 131 (g .id ∷ [])) (unitElement s (g .local)), length-element 131 (g .id ∷ []), length-unit-most (g .local)))
+
+    -- a grant has one group, of one kind or the other
+    one-group : (k : Kind) (i : ℕ) (t : Tunnel) → length (groups ofPdr s (grant k i t ∷ [])) + length (groups ofEndpoint s (grant k i t ∷ [])) ≤ 39
+    unfolding groups group grantsOf keep isKind sameKind concatMap
+    one-group ofPdr i t = omega (arith, length-append (createdPdr s (grant ofPdr i t)) [], length-pdr (grant ofPdr i t))
+    one-group ofEndpoint i t = omega (arith, length-append (createdEndpoint s (grant ofEndpoint i t)) [], length-endpoint (grant ofEndpoint i t))
+
+    length-groups : (gs : List Grant) → length (groups ofPdr s gs) + length (groups ofEndpoint s gs) ≤ 39 * length gs
+    length-groups [] = rw (groups-none ofPdr s, groups-none ofEndpoint s) (omega arith)
+    length-groups (g ∷ gs) =
+        let first = one-group (g .kind) (g .id) (g .local) in
+        let more = length-groups gs in
+        rw (groups-more ofPdr s g gs, groups-more ofEndpoint s g gs)
+        (omega (arith, length-append (groups ofPdr s (g ∷ [])) (groups ofPdr s gs), length-append (groups ofEndpoint s (g ∷ [])) (groups ofEndpoint s gs)))
+
+    pub length-created-most : (gs : List Grant) → length (created s gs) ≤ 39 * length gs
+    unfolding kindIn
+    length-created-most gs = omega (arith, length-created s gs, length-groups gs)
+
+    pub length-body : (kind seid : ℕ) (v : Verdict) (gs : List Grant) → length gs ≤ 24 → length (replyBody kind s seid v gs) ≤ 973
+    unfolding replyBody acceptedPart
+    length-body kind seid v gs h =
+        let o = offendingElement (v .offending) in
+        let a = unitFseid kind s seid ++ created s gs in
+        let b = pick (eqb (v .cause) 1) a [] in
+        let la : length b ≤ 953 =
+        pick-either (atMost 953) (eqb (v .cause) 1) a [] (omega (arith, length-append (unitFseid kind s seid) (created s gs), length-fseid kind seid, length-created-most gs)) (omega arith) in
+        omega (
+          arith,
+          length-append (nodeIdElement kind s) (element 19 (v .cause ∷ []) ++ (o ++ b)),
+          length-append (element 19 (v .cause ∷ [])) (o ++ b),
+          length-append o b,
+          length-node kind,
+          length-element 19 (v .cause ∷ []),
+          length-offending (v .offending),
+        )
+
+    -- any reply with at most 24 grants fits the least reply space
+    pub reply-fits : (msg : List ℕ) (seid : ℕ) (v : Verdict) (gs : List Grant) → length gs ≤ 24 → length (reply s msg seid v gs) ≤ minSpace
+    unfolding reply message sequenceOf
+    reply-fits msg seid v gs h =
+        let xs = replyBody (kindOf msg) s seid v gs in
+        let n : ℕ = replySeid (kindOf msg) (v .cause) (headerSeid msg) seid in
+        let q = part 12 3 msg in
+        omega (
+          arith,
+          length-append (be 2 (12 + length xs)) (be 8 n ++ (q ++ 0 ∷ xs)),
+          length-append (be 8 n) (q ++ 0 ∷ xs),
+          length-append q (0 ∷ xs),
+          length-be 2 (12 + length xs),
+          length-be 8 n,
+          length-part-most 12 3 msg,
+          length-body (kindOf msg) seid v gs h,
+        )

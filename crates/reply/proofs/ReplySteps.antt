@@ -1,0 +1,157 @@
+-- The header before the elements, and the whole replies: from what the calls leave. Assumes nothing.
+use mathlib.Core.Path.{_≡_, refl, sym, ap, ap₂, _∙_}
+use mathlib.Core.Option.{Option}
+use mathlib.Core.List.{List, [], _∷_, _++_, append-assoc, append-nil}
+use Prim.Native.Nat.{ℕ, _+_, _-_, _/_, _%_, _≤_}
+use native.Mathlib.Omega.{arith}
+use borrow.Author.Tests.{eq-eqb, ne-eqb}
+use lib.ListN.{length, set, getD, take, drop, length-append}
+use Rattle.octets.specs.Octets.{put, be, part, number, numberAt, octetAt}
+use Rattle.octets.proofs.Numbers.{length-be}
+use Rattle.octets.proofs.Put.{put-front, length-part}
+use Rattle.laws.proofs.ReplyLaws.{sequence-three}
+use Rattle.rules.specs.Model.{Settings}
+use Rattle.rules.specs.Layout.{viewSettings}
+use Rattle.rules.specs.Message.{kindOf, headerSeid, sequenceOf}
+use Rattle.rules.specs.Grants.{Grant}
+use Rattle.rules.specs.Stages.{Verdict, plain}
+use Rattle.rules.specs.Reply.{element, message, created, offendingElement, nodeIdElement, unitFseid, acceptedPart, replyBody, replySeid, reply}
+use Rattle.reply.specs.Placed.{Placed, written}
+use Rattle.reply.specs.Parts.{messageHead, replyHead, bodyFront}
+use Rattle.reply.specs.Rows.{grantsIn}
+use Rattle.reply.proofs.LengthLaws.{view-ipv4, view-ipv6, rows-most, length-node, length-front, length-fseid, length-created-most, length-body}
+use Rattle.reply.proofs.PlacedLaws.{next-put, next-set, four-stores, be-two, placed-then}
+
+-- ---- the first elements
+
+module _ (t : List ℕ) (kind cause : ℕ) (out : List ℕ) (room : 30 ≤ length out) {next : ℕ} {out₁ : List ℕ} (p : Placed out 16 (nodeIdElement kind (viewSettings t)) next out₁) where
+  pub front-room : length out₁ ≡ length out → next + 5 ≤ length out₁
+  front-room l = let e = p .ends in omega (arith, length-node (viewSettings t) (view-ipv4 t) kind)
+
+  pub front-steps : {end : ℕ} {out₂ : List ℕ} → Placed out₁ next (element 19 (cause ∷ [])) end out₂ → Placed out 16 (bodyFront kind (viewSettings t) cause) end out₂
+  unfolding bodyFront
+  front-steps q = placed-then p q (omega (arith, length-node (viewSettings t) (view-ipv4 t) kind))
+
+-- ---- the header
+
+pub header-steps : (msg out : List ℕ) (seid n : ℕ) {out₁ out₂ : List ℕ} → 16 ≤ length msg → n ≤ 1008 → 16 ≤ length out
+    → out₁ ≡ put 4 (be 8 seid) (set (set (set (set out 0 33) 1 (getD msg 1 0 + 1)) 2 ((12 + n) / 256)) 3 ((12 + n) % 256))
+    → out₂ ≡ put 12 (take 3 (drop 12 msg)) out₁
+    → set out₂ 15 0 ≡ put 0 (messageHead (kindOf msg + 1) seid (sequenceOf msg) n) out
+unfolding messageHead kindOf octetAt sequenceOf
+header-steps msg out seid n h small room p q =
+    let k : ℕ = getD msg 1 0 + 1 in
+    let e : (12 + n) / 256 % 256 ≡ (12 + n) / 256 = omega arith in
+    let two : be 2 (12 + n) ≡ (12 + n) / 256 ∷ (12 + n) % 256 ∷ [] = be-two (12 + n) ∙ ap (λ (x : ℕ). x ∷ (12 + n) % 256 ∷ []) e in
+    let a : List ℕ = 33 ∷ k ∷ (12 + n) / 256 ∷ (12 + n) % 256 ∷ [] in
+    let three : length (part 12 3 msg) ≡ 3 = length-part 12 3 msg (omega arith) in
+    let eight = length-be 8 seid in
+    let first = next-put 0 4 a (be 8 seid) out (four-stores 0 33 k ((12 + n) / 256) ((12 + n) % 256) out (omega arith)) p refl (omega arith) in
+    let l : length (a ++ be 8 seid) ≡ 12 = length-append a (be 8 seid) ∙ omega arith in
+    let second = next-put 0 12 (a ++ be 8 seid) (part 12 3 msg) out first q (omega arith) (omega arith) in
+    let m : length ((a ++ be 8 seid) ++ part 12 3 msg) ≡ 15 = length-append (a ++ be 8 seid) (part 12 3 msg) ∙ omega arith in
+    next-set 0 15 ((a ++ be 8 seid) ++ part 12 3 msg) 0 out second (omega arith) (omega arith)
+    ∙ rw two (ap (λ (xs : List ℕ). put 0 xs out) (simp append-assoc))
+
+-- ---- the reply's SEID
+
+module _ (msg : List ℕ) (cause seid : ℕ) where
+  abbrev out-seid : ℕ
+  out-seid = replySeid (kindOf msg) cause (headerSeid msg) seid
+
+  pub seid-new : getD msg 1 0 ≡ 50 → cause ≡ 1 → seid ≡ out-seid
+  unfolding replySeid kindOf octetAt
+  seid-new e f = rw (eq-eqb (getD msg 1 0) 50 e, eq-eqb cause 1 f)
+
+  pub seid-refused : getD msg 1 0 ≡ 50 → (cause ≡ 1 → ⊥) → 0 ≡ out-seid
+  unfolding replySeid kindOf octetAt
+  seid-refused e f = rw (eq-eqb (getD msg 1 0) 50 e, ne-eqb cause 1 f)
+
+  pub seid-unknown : (getD msg 1 0 ≡ 50 → ⊥) → cause ≡ 65 → 0 ≡ out-seid
+  unfolding replySeid kindOf octetAt
+  seid-unknown e f = rw (ne-eqb (getD msg 1 0) 50 e, eq-eqb cause 65 f)
+
+  pub seid-header : (getD msg 1 0 ≡ 50 → ⊥) → (cause ≡ 65 → ⊥) → (r : ℕ) → r ≡ number (part 4 8 msg) → r ≡ out-seid
+  unfolding replySeid kindOf octetAt headerSeid numberAt
+  seid-header e f r g = rw (ne-eqb (getD msg 1 0) 50 e, ne-eqb cause 65 f) g
+
+-- ---- the whole
+
+-- a message is its header and its elements
+message-headed : (kind seid : ℕ) (q xs : List ℕ) → message kind seid q xs ≡ messageHead kind seid q (length xs) ++ xs
+unfolding message messageHead
+message-headed kind seid q xs = simp append-assoc
+
+length-head : (kind seid : ℕ) (q : List ℕ) (n : ℕ) → length q ≡ 3 → length (messageHead kind seid q n) ≡ 16
+unfolding messageHead
+length-head kind seid q n e =
+    omega (arith, length-append (be 2 (12 + n)) (be 8 seid ++ (q ++ 0 ∷ [])), length-append (be 8 seid) (q ++ 0 ∷ []), length-append q (0 ∷ []), length-be 2 (12 + n), length-be 8 seid)
+
+-- elements from octet 16 on with the header before them are the reply
+pub whole : (s : Settings) (msg : List ℕ) (seid : ℕ) (v : Verdict) (gs : List Grant) (out : List ℕ) {out₁ out₂ : List ℕ} {end : ℕ}
+    → 16 ≤ length msg → 16 + length (replyBody (kindOf msg) s seid v gs) ≤ length out
+    → Placed out 16 (replyBody (kindOf msg) s seid v gs) end out₁ → out₂ ≡ put 0 (replyHead msg seid (v .cause) (end - 16)) out₁
+    → (end, out₂) ≡ written (reply s msg seid v gs) out
+unfolding reply replyHead
+whole s msg seid v gs out {out₁} {out₂} {end} h room p q =
+    let xs : List ℕ = replyBody (kindOf msg) s seid v gs in
+    let k : ℕ = replySeid (kindOf msg) (v .cause) (headerSeid msg) seid in
+    let ends = p .ends in
+    let n : end - 16 ≡ length xs = omega arith in
+    let head : List ℕ = messageHead (kindOf msg + 1) k (sequenceOf msg) (length xs) in
+    let l : length head ≡ 16 = length-head (kindOf msg + 1) k (sequenceOf msg) (length xs) (sequence-three msg h) in
+    let place : 16 ≡ 0 + length head = omega arith in
+    let both : out₂ ≡ put 0 (head ++ xs) out =
+    q ∙ ap₂ (λ (m : ℕ) (o : List ℕ). put 0 (messageHead (kindOf msg + 1) k (sequenceOf msg) m) o) n (p .holds ∙ ap (λ (m : ℕ). put m xs out) place)
+    ∙ put-front 0 head xs out (omega arith) in
+    ap₂ (λ (m : ℕ) (o : List ℕ). (m, o))
+    (p .ends ∙ ap (λ (m : ℕ). m + length xs) (sym l) ∙ sym (length-append head xs) ∙ ap length (sym (message-headed (kindOf msg + 1) k (sequenceOf msg) xs)))
+    (both ∙ ap (λ (ys : List ℕ). put 0 ys out) (sym (message-headed (kindOf msg + 1) k (sequenceOf msg) xs)))
+
+module _ (s : Settings) (kind : ℕ) where
+  pub refused-body : (cause : ℕ) (o : Option ℕ) → (cause ≡ 1 → ⊥)
+      → bodyFront kind s cause ++ offendingElement o ≡ replyBody kind s 0 (record { cause = cause; offending = o }) []
+  unfolding bodyFront replyBody
+  refused-body cause o n = rw (ne-eqb cause 1 n, append-nil) (append-assoc (nodeIdElement kind s) (element 19 (cause ∷ [])) (offendingElement o))
+
+  pub accepted-body : (seid : ℕ) (gs : List Grant) → bodyFront kind s 1 ++ (unitFseid kind s seid ++ created s gs) ≡ replyBody kind s seid (plain 1) gs
+  unfolding bodyFront replyBody offendingElement acceptedPart
+  accepted-body seid gs = append-assoc (nodeIdElement kind s) (element 19 (1 ∷ [])) (unitFseid kind s seid ++ created s gs)
+
+-- ---- what a refusal and an acceptance write
+
+module _ (t msg out : List ℕ) (header : 16 ≤ length msg) (space : 1024 ≤ length out) where
+  abbrev st : Settings
+  st = viewSettings t
+
+  abbrev kind : ℕ
+  kind = getD msg 1 0
+
+  pub refused-steps : (cause : ℕ) (o : Option ℕ) {out₁ out₂ out₃ : List ℕ} {next end : ℕ} → (cause ≡ 1 → ⊥)
+      → Placed out 16 (bodyFront kind st cause) next out₁ → Placed out₁ next (offendingElement o) end out₂ → out₃ ≡ put 0 (replyHead msg 0 cause (end - 16)) out₂
+      → (end, out₃) ≡ written (reply st msg 0 (record { cause = cause; offending = o }) []) out
+  unfolding kindOf octetAt
+  refused-steps cause o n p q r =
+      let v : Verdict = record { cause = cause; offending = o } in
+      whole st msg 0 v [] out header (omega (arith, length-body st (view-ipv4 t) (view-ipv6 t) kind 0 v [] (omega arith)))
+      (rw (refused-body st kind cause o n) at (placed-then p q (omega (arith, length-front st (view-ipv4 t) kind cause)))) r
+
+  module _ (rows : List ℕ) (few : length rows ≤ 96) (seid : ℕ) where
+    abbrev gs : List Grant
+    gs = grantsIn rows
+
+    -- how long the elements are at most
+    pub accepted-room : length (bodyFront kind st 1) + (length (unitFseid kind st seid) + length (created st gs)) ≤ 967
+    accepted-room =
+        omega (arith, length-front st (view-ipv4 t) kind 1, length-fseid st (view-ipv4 t) kind seid, length-created-most st (view-ipv4 t) (view-ipv6 t) gs, rows-most rows)
+
+    pub accepted-steps : {out₁ out₂ out₃ out₄ : List ℕ} {next own end : ℕ}
+        → Placed out 16 (bodyFront kind st 1) next out₁ → Placed out₁ next (unitFseid kind st seid) own out₂ → Placed out₂ own (created st gs) end out₃
+        → length out₁ ≡ length out → out₄ ≡ put 0 (replyHead msg seid 1 (end - 16)) out₃
+        → (end, out₄) ≡ written (reply st msg seid (plain 1) gs) out
+    unfolding kindOf octetAt
+    accepted-steps {next = next} p q u same r =
+        let ends = p .ends in
+        let rest = placed-then q u (omega (arith, accepted-room)) in
+        whole st msg seid (plain 1) gs out header (omega (arith, length-body st (view-ipv4 t) (view-ipv6 t) kind seid (plain 1) gs (omega (arith, rows-most rows))))
+        (rw (accepted-body st kind seid gs) at (placed-then p rest (omega (arith, accepted-room)))) r

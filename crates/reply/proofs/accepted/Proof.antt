@@ -1,0 +1,58 @@
+-- `reply::accepted` meets its contract: the elements and the header before them are the whole reply.
+-- Assumes nothing.
+use native.Mathlib.Omega.{arith}
+use borrow.Author.Needs.{needs}
+use lib.ListN.{getD}
+use Rattle.rules.specs.Layout.{viewSettings}
+use Rattle.reply.proofs.LengthLaws.{view-ipv4, length-front}
+use Rattle.reply.proofs.ReplySteps.{accepted-room, accepted-steps}
+use Rattle.reply.proofs.accepted.Statement.{statement}
+use Rattle.reply.proofs.accepted.Tie as tie
+
+write-fseid-requires : tie.Need-write-fseid-requires
+write-fseid-requires c κs =
+    let s = c .before .before .before .before .before .before .before .before .before .before .before in
+    let a = s .args in
+    let p = s .pre in
+    let f = c .before .before .before .before .write-front in
+    (p .0, omega (arith, p .5, f .ensures .ends, f .kept .1 .1 .1 .0, length-front (viewSettings (a .t .now)) (view-ipv4 (a .t .now)) (getD (a .msg .now) 1 0) 1))
+
+write-created-requires : tie.Need-write-created-requires
+write-created-requires c κs =
+    let s = c .before .before .before .before .before .before .before .before .before .before .before .before .before .before .before in
+    let a = s .args in
+    let p = s .pre in
+    let f = c .before .before .before .before .before .before .before .before .write-front in
+    let o = c .before .before .before .write-fseid in
+    (p .0, p .4, omega (arith, p .5, f .ensures .ends, o .ensures .ends, f .kept .1 .1 .1 .0, o .kept .1 .1 .1 .0, accepted-room (a .t .now) (a .msg .now) (a .out .now) (p .1) (p .5) (a .grants .now) (p .3) (a .seid)))
+
+finish-requires : tie.Need-finish-requires
+finish-requires c κs =
+    let s = c .before .before .before .before .before .before .before .before .before .before .before .before .before .before .before .before .before .before .before in
+    let a = s .args in
+    let p = s .pre in
+    let f = c .before .before .before .before .before .before .before .before .before .before .before .before .write-front in
+    let o = c .before .before .before .before .before .before .before .write-fseid in
+    let w = c .before .before .before .write-created in (
+      p .1,
+      p .2,
+      omega (arith, f .ensures .ends, o .ensures .ends, w .ensures .ends),
+      omega (arith, f .ensures .ends, o .ensures .ends, w .ensures .ends, accepted-room (a .t .now) (a .msg .now) (a .out .now) (p .1) (p .5) (a .grants .now) (p .3) (a .seid)),
+      omega (arith, p .5, f .kept .1 .1 .1 .0, o .kept .1 .1 .1 .0, w .kept .1 .1 .0),
+    )
+
+returns : tie.Need-returns
+returns c = search accepted-steps
+
+pub accepted-spec : {M : Type 1} → statement M
+accepted-spec =
+    tie.close
+    (tie.spec
+    (λ c. search needs)
+    (λ c κs. search needs)
+    (λ c. search needs)
+    write-fseid-requires
+    write-created-requires
+    finish-requires
+    (λ c. search needs)
+    returns)

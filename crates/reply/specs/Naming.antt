@@ -1,0 +1,16 @@
+-- The element at fault that a refusal names, if any.
+-- Assumes nothing.
+use Prim.Native.Nat.{ℕ}
+use mathlib.Core.Option.{Option, none, some}
+use Rattle.rules.specs.Stages.{Verdict}
+use Rattle.reply.specs.declared.Offending.{Offending}
+use Rattle.reply.specs.declared.Offending.the-variants.{Nothing, Element}
+
+-- 01's Offending IE: its value for each case of the code's answer
+abbrev pub offendingIn : Offending → Option ℕ
+offendingIn Nothing = none
+offendingIn (Element t) = some t
+
+-- the verdict of a refusal
+abbrev pub refusal : ℕ → Offending → Verdict
+refusal c o = record { cause = c; offending = offendingIn o }

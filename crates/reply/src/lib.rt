@@ -1,0 +1,110 @@
+// The reply to a request (01, "Reply"), written straight into the reply space: the elements from octet 16 on, then the header before them.
+ghost use mathlib.Core.Path.{_≡_};
+ghost use Prim.Native.Nat.{_+_, _-_, _*_, _≤_, _<_};
+ghost use mathlib.Core.List.{[]};
+ghost use mathlib.Core.Bool.{true};
+ghost use lib.ListN.{length};
+ghost use Rattle.octets.specs.Octets.{put};
+ghost use Rattle.octets.specs.Lists.{all};
+ghost use Rattle.rules.specs.Layout.{viewSettings};
+ghost use Rattle.rules.specs.Message.{kindOf, headerSeid, sequenceOf};
+ghost use Rattle.rules.specs.Stages.{plain};
+ghost use Rattle.rules.specs.Reply.{replySeid, offendingElement, reply};
+ghost use Rattle.reply.specs.Placed.{Placed, written};
+ghost use Rattle.reply.specs.Parts.{messageHead, replyHead, bodyFront};
+ghost use Rattle.reply.specs.Naming.{offendingIn, refusal};
+ghost use Rattle.reply.specs.Rows.{rowWidth, maxGrants, grantsIn, idFits};
+
+pub mod created;
+pub mod elements;
+
+// The element at fault, by its type, where the refusal names one.
+pub enum Offending {
+    Nothing,
+    Element(u64),
+}
+
+// The SEID in a reply's header: the session's, but 0 for cause 65 and refused establishments.
+fn reply_seid(msg: &[u8], cause: u8, seid: u64) -> u64
+    requires { ⌜ 16 ≤ length (now msg) ⌝ }
+    ensures { λ r. ⌜ r ≡ replySeid (kindOf (now (msg .entry))) cause (headerSeid (now (msg .entry))) seid ⌝ }
+{
+    if msg[1] == elements::ESTABLISHMENT {
+        if cause == 1 {
+            return seid;
+        }
+        return 0;
+    }
+    if cause == 65 {
+        return 0;
+    }
+    octets::read(msg, 4, 8)
+}
+
+// The header, for elements of n octets: the type after the request's, the request's sequence number.
+fn write_header(msg: &[u8], seid: u64, n: usize, out: &mut [u8])
+    requires { ⌜ (16 ≤ length (now msg)) × (kindOf (now msg) < 255) × (n ≤ 1008) × (16 ≤ length (now out)) ⌝ }
+    ensures { λ _. ⌜ now (out .exit) ≡ put 0 (messageHead (kindOf (now (msg .entry)) + 1) seid (sequenceOf (now (msg .entry))) n) (now (out .entry)) ⌝ }
+{
+    let total = 12 + n;
+    out[0] = 33;
+    out[1] = msg[1] + 1;
+    out[2] = (total / 256) as u8;
+    out[3] = (total % 256) as u8;
+    octets::write(out, 4, 8, seid);
+    octets::copy(out, 12, &msg[12..15]);
+    out[15] = 0;
+}
+
+// What every reply has from octet 16 on: the Node ID in an establishment's, and the cause.
+fn write_front(t: &[u8], kind: u8, cause: u8, out: &mut [u8]) -> usize
+    requires { ⌜ (29 ≤ length (now t)) × (30 ≤ length (now out)) ⌝ }
+    ensures { λ r. ⌜ Placed (now (out .entry)) 16 (bodyFront kind (viewSettings (now (t .entry))) cause) r (now (out .exit)) ⌝ }
+{
+    let next = elements::write_node_id(t, kind, out, 16);
+    elements::write_cause(cause, out, next)
+}
+
+// The element that names the type at fault.
+fn write_offending(offending: Offending, out: &mut [u8], at: usize) -> usize
+    requires { ⌜ at + 6 ≤ length (now out) ⌝ }
+    ensures { λ r. ⌜ Placed (now (out .entry)) at (offendingElement (offendingIn offending)) r (now (out .exit)) ⌝ }
+{
+    match offending {
+        Offending::Nothing => at,
+        Offending::Element(t) => elements::write_offending(t, out, at),
+    }
+}
+
+// The header before elements that end at a place.
+fn finish(msg: &[u8], cause: u8, seid: u64, end: usize, out: &mut [u8])
+    requires { ⌜ (16 ≤ length (now msg)) × (kindOf (now msg) < 255) × (16 ≤ end) × (end ≤ 1024) × (16 ≤ length (now out)) ⌝ }
+    ensures { λ _. ⌜ now (out .exit) ≡ put 0 (replyHead (now (msg .entry)) seid cause (end - 16)) (now (out .entry)) ⌝ }
+{
+    let s = reply_seid(msg, cause, seid);
+    write_header(msg, s, end - 16, out);
+}
+
+// The whole reply of a refusal, at the front of out; the answer is its length.
+pub fn refused(t: &[u8], msg: &[u8], cause: u8, offending: Offending, out: &mut [u8]) -> usize
+    requires { ⌜ (29 ≤ length (now t)) × (16 ≤ length (now msg)) × (kindOf (now msg) < 255) × (cause ≡ 1 → ⊥) × (1024 ≤ length (now out)) ⌝ }
+    ensures { λ r. ⌜ (r, now (out .exit)) ≡ written (reply (viewSettings (now (t .entry))) (now (msg .entry)) 0 (refusal cause offending) []) (now (out .entry)) ⌝ }
+{
+    let next = write_front(t, msg[1], cause, out);
+    let end = write_offending(offending, out, next);
+    finish(msg, cause, 0, end, out);
+    end
+}
+
+// The whole reply of an accepted request, at the front of out; the answer is its length. The grants are rows of four words
+// (kind, ID, TEID, families), in the order in which the TEIDs were given.
+pub fn accepted(t: &[u8], msg: &[u8], seid: u64, grants: &[u64], out: &mut [u8]) -> usize
+    requires { ⌜ (29 ≤ length (now t)) × (16 ≤ length (now msg)) × (kindOf (now msg) < 255) × (length (now grants) ≤ rowWidth * maxGrants) × (all idFits (grantsIn (now grants)) ≡ true) × (1024 ≤ length (now out)) ⌝ }
+    ensures { λ r. ⌜ (r, now (out .exit)) ≡ written (reply (viewSettings (now (t .entry))) (now (msg .entry)) seid (plain 1) (grantsIn (now (grants .entry)))) (now (out .entry)) ⌝ }
+{
+    let next = write_front(t, msg[1], 1, out);
+    let own = elements::write_fseid(t, msg[1], seid, out, next);
+    let end = created::write_created(t, grants, out, own);
+    finish(msg, 1, seid, end, out);
+    end
+}

@@ -1,0 +1,2 @@
+-- `Records`: records of one width, the search for a key, and what the calls write.
+pub mod Records
