@@ -1,0 +1,166 @@
+-- The session that a plan builds is the rules' session.
+-- Assumes nothing.
+use mathlib.Core.Path.{_≡_, refl, sym, ap, _∙_, subst}
+use mathlib.Core.Bool.{Bool, true, false, true≢false, not, _||_}
+use mathlib.Core.Option.{Option, none, some}
+use mathlib.Core.List.{List, [], _∷_, map}
+use Prim.Native.Nat.{ℕ, _+_, _≤_}
+use native.Mathlib.Omega.{arith}
+use lib.Dec.{T, eqb}
+use lib.ListN.{length}
+use Rattle.octets.specs.Choice.{pick, consOption}
+use Rattle.octets.specs.Lists.{anyIn, hasRepeat, all, any, keep, insertBy, insertAll, collect}
+use Rattle.octets.proofs.Ordered.{keep-passes}
+use Rattle.rules.specs.Model.{Pdr, Endpoint, Csid, Session, pdrId, endpointId, nodeTypeOf}
+use Rattle.rules.specs.Elements.{Fqcsid, sets, removal}
+use Rattle.rules.specs.Grants.{Kind}
+use Rattle.rules.specs.Apply.{createPdr, createEndpoint, updateAll, otherNode, setCsid, setCsids, followCsids, keptPdr, keptEndpoint, pdrsAfter, endpointsAfter, apply}
+use Rattle.plan.specs.Rows.{word, hasTag, tagged, rowPdrId, rowEndpointId, rowPdr, rowEndpoint, rowChange, rowAddress, rowCsid, isNullRow, requestIn}
+use Rattle.slots.proofs.Places.{otherThan}
+use Rattle.session.specs.Build.{passed, built}
+use Rattle.session.proofs.RowRecords.{pdrOf, endpointOf, csidOf}
+use Rattle.session.proofs.Slot.{Slot}
+use Rattle.session.proofs.InTurn.{takeOut, take-out, putIn, put-in, none-of-kept}
+use Rattle.session.proofs.Passes.{applied, pass-tagged, setPdrs, setEndpoints, endpointRow, pdrRow, csidRow, csidStep, csidsFrom, pdrs-out, endpoints-out, endpoints-in, pdrs-in, pdrs-updated, csids-followed}
+
+tagged-tags : (t : ℕ) (rows : List (List ℕ)) → T (all (hasTag t) (tagged t rows))
+unfolding tagged
+tagged-tags t rows = keep-passes (hasTag t) rows
+
+or-left : (a b : Bool) → (a || b) ≡ false → a ≡ false
+or-left true b e = e
+or-left false b e = refl
+
+or-right : (a b : Bool) → (a || b) ≡ false → b ≡ false
+or-right true b e = absurd (let z : _≡_ {A = Bool} true false = e in true≢false z)
+or-right false b e = e
+
+-- ---- FQ-CSIDs in turn
+
+-- what a row makes of the FQ-CSIDs, by the value that it has, if any
+unfoldable byValue : Option Fqcsid → Bool → List Csid → List Csid
+byValue none null cs = pick null [] cs
+byValue (some v) null cs = setCsid v cs
+
+step-by : (row : List ℕ) (cs : List Csid) → csidStep row cs ≡ byValue (rowCsid row) (isNullRow row) cs
+unfolding rowCsid csidStep isNullRow
+step-by row cs = go (eqb (word 1 row) 1) (eqb (word 1 row) 2)
+  where
+    go : (a b : Bool)
+        → pick a (insertBy nodeTypeOf (csidOf row) (keep (otherThan nodeTypeOf (word 7 row)) cs)) (pick b (keep (otherThan nodeTypeOf (word 7 row)) cs) (pick (eqb (word 1 row) 3) [] cs))
+        ≡ byValue (pick a (some (sets (word 8 row) (rowAddress row) (word 11 row ∷ []) (word 7 row))) (pick b (some (removal (word 7 row))) none)) (eqb (word 1 row) 3) cs
+    go true b = unfold byValue setCsid csidOf otherNode in refl
+    go false true = unfold byValue setCsid otherNode in refl
+    go false false = unfold byValue in refl
+
+-- rows of which none is null set and remove in turn
+all-values : (rows : List (List ℕ)) (cs : List Csid) → any isNullRow rows ≡ false → csidsFrom rows cs ≡ setCsids (collect rowCsid rows) cs
+unfolding csidsFrom setCsids collect any
+all-values [] cs e = refl
+all-values (row ∷ rows) cs e =
+    let n : isNullRow row ≡ false = or-left (isNullRow row) (any isNullRow rows) e in
+    let m : any isNullRow rows ≡ false = or-right (isNullRow row) (any isNullRow rows) e in
+    ap (csidsFrom rows) (step-by row cs ∙ ap (λ (b : Bool). byValue (rowCsid row) b cs) n) ∙ go (rowCsid row) (λ ds. all-values rows ds m)
+  where
+    go : (o : Option Fqcsid) → ((ds : List Csid) → csidsFrom rows ds ≡ setCsids (collect rowCsid rows) ds)
+        → csidsFrom rows (byValue o false cs) ≡ setCsids (consOption o (collect rowCsid rows)) cs
+    go none ih = unfold byValue in (ih cs)
+    go (some v) ih = unfold byValue in (ih (setCsid v cs))
+
+-- rows without a value do nothing, or remove all
+no-values : (rows : List (List ℕ)) (cs : List Csid) → collect rowCsid rows ≡ [] → csidsFrom rows cs ≡ pick (any isNullRow rows) [] cs
+unfolding csidsFrom collect any
+no-values [] cs e = refl
+no-values (row ∷ rows) cs e = ap (csidsFrom rows) (step-by row cs) ∙ go (rowCsid row) (isNullRow row) e (λ ds h. no-values rows ds h)
+  where
+    twice : (a b : Bool) → pick b [] (pick a [] cs) ≡ pick (a || b) [] cs
+    twice true true = refl
+    twice true false = refl
+    twice false b = refl
+
+    go : (o : Option Fqcsid) (b : Bool) → consOption o (collect rowCsid rows) ≡ [] → ((ds : List Csid) → collect rowCsid rows ≡ [] → csidsFrom rows ds ≡ pick (any isNullRow rows) [] ds)
+        → csidsFrom rows (byValue o b cs) ≡ pick (b || any isNullRow rows) [] cs
+    go none b h ih = unfold byValue in (ih (pick b [] cs) h ∙ twice b (any isNullRow rows))
+    go (some v) b h ih = absurd (let z : _≡_ {A = ℕ} 0 1 = cc in omega arith)
+
+csids-in-turn : (rows : List (List ℕ)) (cs : List Csid) → (any isNullRow rows ≡ true → collect rowCsid rows ≡ []) → csidsFrom rows cs ≡ followCsids (any isNullRow rows) (collect rowCsid rows) cs
+unfolding followCsids setCsids
+csids-in-turn rows cs only = go (any isNullRow rows) refl
+  where
+    go : (b : Bool) → any isNullRow rows ≡ b → csidsFrom rows cs ≡ setCsids (collect rowCsid rows) (pick b [] cs)
+    go true e = no-values rows cs (only e) ∙ ap (λ (b : Bool). pick b [] cs) e ∙ ap (λ (vs : List Fqcsid). setCsids vs []) (sym (only e))
+    go false e = all-values rows cs e
+
+-- ---- the session
+
+-- what the stages before have found of the rows and the session at entry, and what was granted
+pub record Ready (teids : Kind → ℕ → ℕ) (rows : List (List ℕ)) (x : Session) : Type 0 where
+  pub endpointRows : T (all endpointRow (tagged 127 rows))
+  pub pdrRows : T (all pdrRow (tagged 1 rows))
+  pub csidRows : T (all csidRow (tagged 65 rows))
+  pub endpointRoom : length (keep (keptEndpoint (map rowEndpointId (tagged 130 rows))) (x .endpoints)) + length (tagged 127 rows) ≤ 8
+  pub pdrRoom : length (keep (keptPdr (map rowPdrId (tagged 15 rows))) (x .pdrs)) + length (tagged 1 rows) ≤ 16
+  pub endpointsOnce : T (not (hasRepeat (map endpointId (map endpointOf (tagged 127 rows)))))
+  pub endpointsNew : T (not (anyIn (map endpointId (map endpointOf (tagged 127 rows))) (map endpointId (x .endpoints))))
+  pub pdrsOnce : T (not (hasRepeat (map pdrId (map pdrOf (tagged 1 rows)))))
+  pub pdrsNew : T (not (anyIn (map pdrId (map pdrOf (tagged 1 rows))) (map pdrId (x .pdrs))))
+  pub endpointTeids : map (createEndpoint teids) (map rowEndpoint (tagged 127 rows)) ≡ map endpointOf (tagged 127 rows)
+  pub pdrTeids : map (createPdr teids) (map rowPdr (tagged 1 rows)) ≡ map pdrOf (tagged 1 rows)
+  pub onlyNull : any isNullRow (tagged 65 rows) ≡ true → collect rowCsid (tagged 65 rows) ≡ []
+
+module _ (teids : Kind → ℕ → ℕ) (rows : List (List ℕ)) {x : Session} {s : List ℕ} (h : Slot x s) (k : Ready teids rows x) where
+  abbrev q : ℕ → List (List ℕ)
+  q t = tagged t rows
+
+  abbrev keptPs : List Pdr
+  keptPs = keep (keptPdr (map rowPdrId (q 15))) (x .pdrs)
+
+  abbrev keptEs : List Endpoint
+  keptEs = keep (keptEndpoint (map rowEndpointId (q 130))) (x .endpoints)
+
+  -- a pass, by the rows of its type
+  by-pass : (t : ℕ) (u : List ℕ) {y : Session} → Slot y (applied (q t) u) → Slot y (passed t rows u)
+  by-pass t u {y} g = subst (λ (l : List ℕ). Slot y l) (sym (pass-tagged t rows u)) g
+
+  kept-pdrs : takeOut pdrId (map rowPdrId (q 15)) (x .pdrs) ≡ keptPs
+  unfolding keptPdr
+  kept-pdrs = take-out pdrId (map rowPdrId (q 15)) (x .pdrs)
+
+  kept-endpoints : takeOut endpointId (map rowEndpointId (q 130)) (x .endpoints) ≡ keptEs
+  unfolding keptEndpoint
+  kept-endpoints = take-out endpointId (map rowEndpointId (q 130)) (x .endpoints)
+
+  removed : Slot (setEndpoints (setPdrs x keptPs) keptEs) (passed 130 rows (passed 15 rows s))
+  removed =
+      let a : Slot (setPdrs x keptPs) (passed 15 rows s) = subst (λ (ps : List Pdr). Slot (setPdrs x ps) (passed 15 rows s)) kept-pdrs (by-pass 15 s (pdrs-out (q 15) (tagged-tags 15 rows) h)) in
+      subst (λ (es : List Endpoint). Slot (setEndpoints (setPdrs x keptPs) es) (passed 130 rows (passed 15 rows s))) kept-endpoints
+      (by-pass 130 (passed 15 rows s) (endpoints-out (q 130) (tagged-tags 130 rows) a))
+
+  new-endpoints : putIn endpointId (map endpointOf (q 127)) keptEs ≡ insertAll endpointId (map (createEndpoint teids) (map rowEndpoint (q 127))) keptEs
+  new-endpoints =
+      put-in endpointId (map endpointOf (q 127)) keptEs (k .endpointsOnce)
+      (none-of-kept endpointId (keptEndpoint (map rowEndpointId (q 130))) (map endpointId (map endpointOf (q 127))) (x .endpoints) (k .endpointsNew))
+      ∙ ap (λ (es : List Endpoint). insertAll endpointId es keptEs) (sym (k .endpointTeids))
+
+  new-pdrs : putIn pdrId (map pdrOf (q 1)) keptPs ≡ insertAll pdrId (map (createPdr teids) (map rowPdr (q 1))) keptPs
+  new-pdrs =
+      put-in pdrId (map pdrOf (q 1)) keptPs (k .pdrsOnce)
+      (none-of-kept pdrId (keptPdr (map rowPdrId (q 15))) (map pdrId (map pdrOf (q 1))) (x .pdrs) (k .pdrsNew))
+      ∙ ap (λ (ps : List Pdr). insertAll pdrId ps keptPs) (sym (k .pdrTeids))
+
+  -- the session that the plan builds
+  pub built-session : (seid : ℕ) (restoring noted : Bool) → Slot (apply teids (requestIn seid restoring noted rows) x) (built rows s)
+  unfolding built apply requestIn pdrsAfter endpointsAfter
+  built-session seid restoring noted =
+      let s₂ = passed 130 rows (passed 15 rows s) in
+      let a = by-pass 127 s₂ (endpoints-in (q 127) (k .endpointRows) (k .endpointRoom) removed) in
+      let b = by-pass 1 (passed 127 rows s₂) (pdrs-in (q 1) (k .pdrRows) (k .pdrRoom) a) in
+      let c = by-pass 9 (passed 1 rows (passed 127 rows s₂)) (pdrs-updated (q 9) (tagged-tags 9 rows) b) in
+      let d = by-pass 65 (passed 9 rows (passed 1 rows (passed 127 rows s₂))) (csids-followed (q 65) (k .csidRows) c) in
+      subst (λ (y : Session). Slot y (passed 65 rows (passed 9 rows (passed 1 rows (passed 127 rows (passed 130 rows (passed 15 rows s)))))))
+      (λ i. record {
+        seid = x .seid;
+        pdrs = updateAll (map rowChange (q 9)) (new-pdrs i);
+        endpoints = new-endpoints i;
+        csids = csids-in-turn (q 65) (x .csids) (k .onlyNull) i;
+      }) d

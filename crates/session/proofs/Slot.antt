@@ -1,0 +1,241 @@
+-- A slot that holds a session: its octets, and what its areas hold. A change of one area's records is a change of the session's.
+-- Assumes nothing.
+use mathlib.Core.Path.{_≡_, refl, sym, ap, _∙_}
+use mathlib.Core.Bool.{Bool, true, _&&_}
+use mathlib.Core.List.{List, [], _∷_, _++_, append-assoc, append-nil, map}
+use Prim.Native.Nat.{ℕ, _+_, _*_, _≤_, _<_}
+use native.Mathlib.Omega.{arith}
+use lib.Dec.{T, ltb, leb, ltb→lt, leb→le, lit<}
+use lib.ListN.{length, length-append}
+use lib.Seq.{take-at}
+use Rattle.octets.specs.Octets.{be, number, padded, concatMap}
+use Rattle.octets.specs.Lists.{all, ascending}
+use Rattle.octets.proofs.Tests.{and-right}
+use Rattle.octets.proofs.Numbers.{length-be, number-be, length-padded, length-concatMap}
+use Rattle.octets.proofs.Digits.{number-one}
+use Rattle.rules.specs.Model.{Pdr, Endpoint, Csid, Session, pdrId, endpointId, nodeTypeOf}
+use Rattle.rules.specs.Layout.{area, pdrWidth, endpointWidth, csidWidth, pdrOctets, endpointOctets, csidOctets, sessionOctets}
+use Rattle.laws.proofs.LayoutLaws.{length-pdr, length-endpoint}
+use Rattle.slots.specs.Records.{keyOf}
+use Rattle.areas.proofs.Held.{Held}
+use Rattle.session.specs.Areas.{pdrArea, endpointArea, csidArea}
+use Rattle.session.proofs.RowRecords.{one-octet}
+
+-- ---- what a record has to keep, so that it has the area's width and its key in front
+
+abbrev pub pdrFits : Pdr → Bool
+pdrFits p = ltb (p .id) 65536
+
+abbrev pub endpointFits : Endpoint → Bool
+endpointFits e = ltb (e .id) 256
+
+abbrev pub csidFits : Csid → Bool
+csidFits c = ltb (c .nodeType) 6 && leb (length (c .address)) 16
+
+pub pdr-good : (p : Pdr) → T (pdrFits p) → (length (pdrOctets p) ≡ pdrArea .width) × (keyOf (pdrArea .key) (pdrOctets p) ≡ pdrId p)
+unfolding keyOf pdrOctets pdrWidth
+pdr-good p h = (length-pdr p, ap number (take-at (be 2 (p .id)) _ 2 (length-be 2 (p .id))) ∙ number-be 2 (p .id) (ltb→lt (p .id) 65536 h))
+
+pub endpoint-good : (e : Endpoint) → T (endpointFits e) → (length (endpointOctets e) ≡ endpointArea .width) × (keyOf (endpointArea .key) (endpointOctets e) ≡ endpointId e)
+unfolding keyOf endpointOctets endpointWidth
+endpoint-good e h = (length-endpoint e, number-one (e .id))
+
+pub csid-good : (c : Csid) → T (csidFits c) → (length (csidOctets c) ≡ csidArea .width) × (keyOf (csidArea .key) (csidOctets c) ≡ nodeTypeOf c)
+unfolding keyOf csidOctets
+csid-good c h = (
+  (let l = length-append (padded 16 (c .address)) (be 2 (c .csid)) in
+      let k = length-padded 16 (c .address) (leb→le (length (c .address)) 16 (and-right (ltb (c .nodeType) 6) (leb (length (c .address)) 16) h)) in
+      omega (arith, l, k, length-be 2 (c .csid))),
+  number-one (c .nodeType),
+)
+
+-- ---- the areas of a slot
+
+abbrev pub HeldPdrs : List ℕ → List ℕ → List ℕ → List Pdr → List ℕ → Type 0
+HeldPdrs pre mid post rs s = Held pdrOctets pdrId pdrArea pdrFits pdr-good pre mid post rs s
+
+abbrev pub HeldEndpoints : List ℕ → List ℕ → List ℕ → List Endpoint → List ℕ → Type 0
+HeldEndpoints pre mid post rs s = Held endpointOctets endpointId endpointArea endpointFits endpoint-good pre mid post rs s
+
+abbrev pub HeldCsids : List ℕ → List ℕ → List ℕ → List Csid → List ℕ → Type 0
+HeldCsids pre mid post rs s = Held csidOctets nodeTypeOf csidArea csidFits csid-good pre mid post rs s
+
+-- s holds the session x
+pub record Slot (x : Session) (s : List ℕ) : Type 0 where
+  pub octets : s ≡ sessionOctets x
+  pub pdrsFit : T (all pdrFits (x .pdrs))
+  pub pdrsFew : length (x .pdrs) ≤ 16
+  pub pdrsUp : T (ascending (map pdrId (x .pdrs)))
+  pub endpointsFit : T (all endpointFits (x .endpoints))
+  pub endpointsFew : length (x .endpoints) ≤ 8
+  pub endpointsUp : T (ascending (map endpointId (x .endpoints)))
+  pub csidsFit : T (all csidFits (x .csids))
+  pub csidsFew : length (x .csids) ≤ 6
+  pub csidsUp : T (ascending (map nodeTypeOf (x .csids)))
+
+-- the octets of a session by its records
+unfoldable pub octetsBy : ℕ → List Pdr → List Endpoint → List Csid → List ℕ
+octetsBy n ps es cs =
+    be 8 n
+    ++ (length ps ∷ length es ∷ length cs
+    ∷ padded 304 (concatMap pdrOctets ps) ++ (padded 48 (concatMap endpointOctets es) ++ padded 120 (concatMap csidOctets cs)))
+
+by-octets : (x : Session) → sessionOctets x ≡ octetsBy (x .seid) (x .pdrs) (x .endpoints) (x .csids)
+unfolding sessionOctets octetsBy area pdrWidth endpointWidth csidWidth
+by-octets x = refl
+
+module _ (n : ℕ) (ps : List Pdr) (es : List Endpoint) (cs : List Csid) where
+  abbrev pub pdrPre : List ℕ
+  pdrPre = be 8 n
+
+  abbrev pub pdrMid : List ℕ
+  pdrMid = length es ∷ length cs ∷ []
+
+  abbrev pub pdrPost : List ℕ
+  pdrPost = padded 48 (concatMap endpointOctets es) ++ padded 120 (concatMap csidOctets cs)
+
+  abbrev pub endpointPre : List ℕ
+  endpointPre = be 8 n ++ (length ps ∷ [])
+
+  abbrev pub endpointMid : List ℕ
+  endpointMid = length cs ∷ padded 304 (concatMap pdrOctets ps)
+
+  abbrev pub endpointPost : List ℕ
+  endpointPost = padded 120 (concatMap csidOctets cs)
+
+  abbrev pub csidPre : List ℕ
+  csidPre = be 8 n ++ (length ps ∷ length es ∷ [])
+
+  abbrev pub csidMid : List ℕ
+  csidMid = padded 304 (concatMap pdrOctets ps) ++ padded 48 (concatMap endpointOctets es)
+
+  -- the same octets grouped round each area
+  by-pdrs : length ps ≤ 16 → octetsBy n ps es cs ≡ pdrPre ++ (be 1 (length ps) ++ (pdrMid ++ (padded (16 * 19) (concatMap pdrOctets ps) ++ pdrPost)))
+  unfolding octetsBy
+  by-pdrs h = rw (one-octet (length ps) (omega arith))
+
+  by-endpoints : length es ≤ 8 → octetsBy n ps es cs ≡ endpointPre ++ (be 1 (length es) ++ (endpointMid ++ (padded (8 * 6) (concatMap endpointOctets es) ++ endpointPost)))
+  unfolding octetsBy
+  by-endpoints h = rw (one-octet (length es) (omega arith)) (simp append-assoc)
+
+  by-csids : length cs ≤ 6 → octetsBy n ps es cs ≡ csidPre ++ (be 1 (length cs) ++ (csidMid ++ (padded (6 * 20) (concatMap csidOctets cs) ++ [])))
+  unfolding octetsBy
+  by-csids h = rw (one-octet (length cs) (omega arith), append-nil) (simp append-assoc)
+
+all-true : {A : Type 0} (rs : List A) → T (all (λ r. true) rs)
+unfolding all
+all-true [] = tt
+all-true (r ∷ rs) = all-true rs
+
+-- how long an area is
+pdrs-long : (ps : List Pdr) → length ps ≤ 16 → length (padded 304 (concatMap pdrOctets ps)) ≡ 304
+pdrs-long ps h =
+    length-padded 304 (concatMap pdrOctets ps)
+    (let l = length-concatMap pdrOctets 19 (λ p. true) (λ p _. unfold pdrWidth in (length-pdr p)) ps (all-true ps) in omega (arith, l))
+
+endpoints-long : (es : List Endpoint) → length es ≤ 8 → length (padded 48 (concatMap endpointOctets es)) ≡ 48
+endpoints-long es h =
+    length-padded 48 (concatMap endpointOctets es)
+    (let l = length-concatMap endpointOctets 6 (λ e. true) (λ e _. unfold endpointWidth in (length-endpoint e)) es (all-true es) in omega (arith, l))
+
+module _ {x : Session} {s : List ℕ} (h : Slot x s) where
+  abbrev n : ℕ
+  n = x .seid
+
+  abbrev ps : List Pdr
+  ps = x .pdrs
+
+  abbrev es : List Endpoint
+  es = x .endpoints
+
+  abbrev cs : List Csid
+  cs = x .csids
+
+  pub held-pdrs : HeldPdrs (pdrPre n ps es cs) (pdrMid n ps es cs) (pdrPost n ps es cs) ps s
+  held-pdrs =
+      record {
+        octets = h .octets ∙ by-octets x ∙ by-pdrs n ps es cs (h .pdrsFew);
+        before = length-be 8 n;
+        gap = refl;
+        counted = lit< tt;
+        passes = h .pdrsFit;
+        fits = h .pdrsFew;
+        up = h .pdrsUp;
+      }
+
+  pub held-endpoints : HeldEndpoints (endpointPre n ps es cs) (endpointMid n ps es cs) (endpointPost n ps es cs) es s
+  held-endpoints =
+      record {
+        octets = h .octets ∙ by-octets x ∙ by-endpoints n ps es cs (h .endpointsFew);
+        before = length-append (be 8 n) (length ps ∷ []) ∙ rw length-be;
+        gap = let l = pdrs-long ps (h .pdrsFew) in omega (arith, l);
+        counted = lit< tt;
+        passes = h .endpointsFit;
+        fits = h .endpointsFew;
+        up = h .endpointsUp;
+      }
+
+  pub held-csids : HeldCsids (csidPre n ps es cs) (csidMid n ps es cs) [] cs s
+  held-csids =
+      record {
+        octets = h .octets ∙ by-octets x ∙ by-csids n ps es cs (h .csidsFew);
+        before = length-append (be 8 n) (length ps ∷ length es ∷ []) ∙ rw length-be;
+        gap =
+            let l = pdrs-long ps (h .pdrsFew) in
+            let m = endpoints-long es (h .endpointsFew) in
+            let k = length-append (padded 304 (concatMap pdrOctets ps)) (padded 48 (concatMap endpointOctets es)) in
+            omega (arith, l, m, k);
+        counted = lit< tt;
+        passes = h .csidsFit;
+        fits = h .csidsFew;
+        up = h .csidsUp;
+      }
+
+  -- another list of records in an area
+  pub with-pdrs : {ps′ : List Pdr} {s′ : List ℕ} → HeldPdrs (pdrPre n ps es cs) (pdrMid n ps es cs) (pdrPost n ps es cs) ps′ s′
+      → Slot (record { seid = n; pdrs = ps′; endpoints = es; csids = cs }) s′
+  with-pdrs {ps′} {s′} k =
+      record {
+        octets = k .octets ∙ sym (by-octets (record { seid = n; pdrs = ps′; endpoints = es; csids = cs }) ∙ by-pdrs n ps′ es cs (k .fits));
+        pdrsFit = k .passes;
+        pdrsFew = k .fits;
+        pdrsUp = k .up;
+        endpointsFit = h .endpointsFit;
+        endpointsFew = h .endpointsFew;
+        endpointsUp = h .endpointsUp;
+        csidsFit = h .csidsFit;
+        csidsFew = h .csidsFew;
+        csidsUp = h .csidsUp;
+      }
+
+  pub with-endpoints : {es′ : List Endpoint} {s′ : List ℕ} → HeldEndpoints (endpointPre n ps es cs) (endpointMid n ps es cs) (endpointPost n ps es cs) es′ s′
+      → Slot (record { seid = n; pdrs = ps; endpoints = es′; csids = cs }) s′
+  with-endpoints {es′} {s′} k =
+      record {
+        octets = k .octets ∙ sym (by-octets (record { seid = n; pdrs = ps; endpoints = es′; csids = cs }) ∙ by-endpoints n ps es′ cs (k .fits));
+        pdrsFit = h .pdrsFit;
+        pdrsFew = h .pdrsFew;
+        pdrsUp = h .pdrsUp;
+        endpointsFit = k .passes;
+        endpointsFew = k .fits;
+        endpointsUp = k .up;
+        csidsFit = h .csidsFit;
+        csidsFew = h .csidsFew;
+        csidsUp = h .csidsUp;
+      }
+
+  pub with-csids : {cs′ : List Csid} {s′ : List ℕ} → HeldCsids (csidPre n ps es cs) (csidMid n ps es cs) [] cs′ s′
+      → Slot (record { seid = n; pdrs = ps; endpoints = es; csids = cs′ }) s′
+  with-csids {cs′} {s′} k =
+      record {
+        octets = k .octets ∙ sym (by-octets (record { seid = n; pdrs = ps; endpoints = es; csids = cs′ }) ∙ by-csids n ps es cs′ (k .fits));
+        pdrsFit = h .pdrsFit;
+        pdrsFew = h .pdrsFew;
+        pdrsUp = h .pdrsUp;
+        endpointsFit = h .endpointsFit;
+        endpointsFew = h .endpointsFew;
+        endpointsUp = h .endpointsUp;
+        csidsFit = k .passes;
+        csidsFew = k .fits;
+        csidsUp = k .up;
+      }

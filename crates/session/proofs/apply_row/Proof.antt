@@ -1,0 +1,118 @@
+use mathlib.Core.Path.{_≡_}
+use lib.ListN.{length}
+use Rattle.session.proofs.Steps.{pdrs-fit, endpoints-fit, pdr-wide, endpoint-wide, row-15, row-130, row-127, row-1, row-9, row-65, row-none}
+use borrow.Author.Needs.{needs}
+use Rattle.session.proofs.apply_row.Statement.{statement}
+use Rattle.session.proofs.apply_row.Tie as tie
+use Rattle.session.proofs.apply_row.Reads as reads
+use Rattle.session.proofs.apply_row.Lts as lts
+use Rattle.areas.proofs.drop_record.Reads as drop-record-reads
+use Rattle.areas.proofs.put_record.Reads as put-record-reads
+use Rattle.session.proofs.follow_csid.Reads as follow-csid-reads
+use Rattle.session.proofs.layout.endpoints.Reads as endpoints-reads
+use Rattle.session.proofs.layout.pdrs.Reads as pdrs-reads
+use Rattle.session.proofs.record.endpoint.Reads as endpoint-reads
+use Rattle.session.proofs.record.pdr.Reads as pdr-reads
+use Rattle.session.proofs.update_pdr.Reads as update-pdr-reads
+
+-- src/lib.rt:66:16
+-- src/lib.rt:68:40
+-- src/lib.rt:68:56
+-- src/lib.rt:68:15
+drop-record-requires : tie.Need-drop-record-requires
+drop-record-requires c κs = search pdrs-fit
+
+-- src/lib.rt:69:41
+-- src/lib.rt:69:62
+-- src/lib.rt:69:16
+drop-record-requires-2 : tie.Need-drop-record-requires-2
+drop-record-requires-2 c κs = search endpoints-fit
+
+-- src/lib.rt:71:23
+-- src/lib.rt:72:37
+-- src/lib.rt:72:58
+-- src/lib.rt:72:13
+put-record-requires : tie.Need-put-record-requires
+put-record-requires c κs =
+    let n : length (c .before .before .before .endpoint .result) ≡ 6 = search needs in
+    (search endpoints-fit, endpoint-wide _ _ (c .before .endpoints2 .ensures) n)
+
+-- src/lib.rt:75:23
+-- src/lib.rt:76:37
+-- src/lib.rt:76:53
+-- src/lib.rt:76:13
+put-record-requires-2 : tie.Need-put-record-requires-2
+put-record-requires-2 c κs =
+    let n : length (c .before .before .before .pdr .result) ≡ 19 = search needs in
+    (search pdrs-fit, pdr-wide _ _ (c .before .pdrs2 .ensures) n)
+
+-- src/lib.rt:78:14
+-- src/lib.rt:79:15
+-- src/lib.rt:62:1
+-- src/lib.rt:62:1
+returns : tie.Need-returns
+returns c = search row-15
+
+-- src/lib.rt:62:1
+-- src/lib.rt:62:1
+returns-2 : tie.Need-returns-2
+returns-2 c = search row-130
+
+-- src/lib.rt:62:1
+-- src/lib.rt:62:1
+returns-3 : tie.Need-returns-3
+returns-3 c = search row-127
+
+-- src/lib.rt:62:1
+-- src/lib.rt:62:1
+returns-4 : tie.Need-returns-4
+returns-4 c = search row-1
+
+-- src/lib.rt:62:1
+-- src/lib.rt:62:1
+returns-5 : tie.Need-returns-5
+returns-5 c = search row-9
+
+-- src/lib.rt:62:1
+-- src/lib.rt:62:1
+returns-6 : tie.Need-returns-6
+returns-6 c = search row-65
+
+-- src/lib.rt:62:1
+returns-7 : tie.Need-returns-7
+returns-7 c = row-none _ _ (c .match .rest .0 .0 .0 .0 .0 .1) (c .match .rest .0 .0 .0 .0 .1) (c .match .rest .0 .0 .0 .1) (c .match .rest .0 .0 .1) (c .match .rest .0 .1) (c .match .rest .1)
+
+pub apply-row-spec : {M : Type 1} → statement M
+apply-row-spec =
+    tie.close
+    (tie.spec
+    (λ c. search needs)
+    (λ c κs. search needs)
+    (λ c. search needs)
+    drop-record-requires
+    (λ c κs. search needs)
+    (λ c. search needs)
+    drop-record-requires-2
+    (λ c κs. search needs)
+    (λ c κs. search needs)
+    (λ c. search needs)
+    put-record-requires
+    (λ c κs. search needs)
+    (λ c κs. search needs)
+    (λ c. search needs)
+    put-record-requires-2
+    (λ c κs. search needs)
+    (λ c κs. search needs)
+    (λ c. search needs)
+    returns
+    (λ c. search needs)
+    returns-2
+    (λ c. search needs)
+    returns-3
+    (λ c. search needs)
+    returns-4
+    (λ c. search needs)
+    returns-5
+    (λ c. search needs)
+    returns-6
+    returns-7)

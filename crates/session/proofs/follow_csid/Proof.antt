@@ -1,0 +1,71 @@
+use mathlib.Core.Path.{_≡_}
+use lib.ListN.{length}
+use Rattle.session.proofs.Steps.{csids-fit, csid-set, csid-removed, csids-cleared, csids-kept, csid-wide}
+use borrow.Author.Needs.{needs}
+use Rattle.session.proofs.follow_csid.Statement.{statement}
+use Rattle.session.proofs.follow_csid.Tie as tie
+use Rattle.session.proofs.follow_csid.Reads as reads
+use Rattle.session.proofs.follow_csid.Lts as lts
+use Rattle.areas.proofs.clear.Reads as clear-reads
+use Rattle.areas.proofs.drop_record.Reads as drop-record-reads
+use Rattle.areas.proofs.put_record.Reads as put-record-reads
+use Rattle.session.proofs.layout.csids.Reads as csids-reads
+use Rattle.session.proofs.record.csid.Reads as csid-reads
+
+-- src/lib.rt:45:16
+-- src/lib.rt:46:9
+-- src/lib.rt:48:19
+-- src/lib.rt:49:36
+-- src/lib.rt:49:9
+put-record-requires : tie.Need-put-record-requires
+put-record-requires c κs =
+    let n : length (c .before .before .csid .result) ≡ 20 = search needs in
+    (search csids-fit, csid-wide _ _ (c .before .before .before .before .csids .ensures) n)
+
+-- src/lib.rt:50:9
+-- src/lib.rt:50:9
+returns : tie.Need-returns
+returns c = search csid-set
+
+-- src/lib.rt:53:37
+-- src/lib.rt:53:9
+drop-record-requires : tie.Need-drop-record-requires
+drop-record-requires c κs = search csids-fit
+
+-- src/lib.rt:54:9
+-- src/lib.rt:54:9
+returns-2 : tie.Need-returns-2
+returns-2 c = search csid-removed
+
+-- src/lib.rt:57:9
+clear-requires : tie.Need-clear-requires
+clear-requires c κs = search csids-fit
+
+-- src/lib.rt:41:1
+-- src/lib.rt:41:1
+returns-3 : tie.Need-returns-3
+returns-3 c = search csids-cleared
+
+-- src/lib.rt:41:1
+returns-4 : tie.Need-returns-4
+returns-4 c = search csids-kept
+
+pub follow-csid-spec : {M : Type 1} → statement M
+follow-csid-spec =
+    tie.close
+    (tie.spec
+    (λ c. search needs)
+    (λ c κs. search needs)
+    (λ c κs. search needs)
+    (λ c. search needs)
+    put-record-requires
+    (λ c. search needs)
+    returns
+    (λ c. search needs)
+    drop-record-requires
+    (λ c. search needs)
+    returns-2
+    clear-requires
+    (λ c. search needs)
+    returns-3
+    returns-4)

@@ -1,0 +1,63 @@
+use mathlib.Core.Path.{_≡_, refl}
+use lib.ListN.{length}
+use Rattle.session.proofs.Steps.{pdrs-fit, updated-at, pdr-wide, pdr-room}
+use borrow.Author.Needs.{needs}
+use Rattle.session.proofs.update_at.Statement.{statement}
+use Rattle.session.proofs.update_at.Tie as tie
+use Rattle.session.proofs.update_at.Reads as reads
+use Rattle.session.proofs.update_at.Lts as lts
+use Rattle.areas.proofs.replace.Reads as replace-reads
+use Rattle.octets.proofs.copy.Reads as copy-reads
+use Rattle.session.proofs.layout.pdrs.Reads as pdrs-reads
+use Rattle.session.proofs.record.set_far.Reads as set-far-reads
+use Rattle.session.proofs.record.set_precedence.Reads as set-precedence-reads
+
+-- src/lib.rt:19:19
+-- src/lib.rt:19:14
+-- src/lib.rt:20:15
+-- src/lib.rt:22:18
+-- src/lib.rt:22:31
+-- src/lib.rt:22:31
+-- src/lib.rt:22:31
+-- src/lib.rt:22:5
+-- src/lib.rt:23:28
+-- src/lib.rt:23:5
+-- src/lib.rt:24:21
+-- src/lib.rt:24:5
+-- src/lib.rt:25:26
+-- src/lib.rt:25:45
+-- src/lib.rt:25:5
+replace-requires : tie.Need-replace-requires
+replace-requires c κs =
+    let n : length (c .before .before .before .before .set-far .last .0) ≡ 19 = search needs in
+    (search pdrs-fit, search pdr-room, pdr-wide _ _ (c .before .pdrs .ensures) n)
+
+-- src/lib.rt:15:1
+-- src/lib.rt:15:1
+returns : tie.Need-returns
+returns c =
+    let s = c .before .before .before .before .before .before .before .before .before .before .before .before .before .before .before .before .before .before .before in
+    updated-at (s .args .row .now) (s .args .slot .now) _ (c .before .before .before .before .before .before .before .before .before .before .before .before .before .copy .last .0) (c .before .before .before .before .before .before .before .before .before .before .set-precedence .last .0) (c .before .before .before .before .before .before .before .set-far .last .0) (c .before .before .replace .last .0) (s .args .p) _ (c .before .before .before .before .pdrs .result)
+    (s .pre .0) (s .pre .2) (c .before .before .before .before .pdrs .ensures) refl refl (c .before .before .before .before .before .before .before .before .before .before .before .before .before .copy .ensures) (c .before .before .before .before .before .before .before .before .before .before .set-precedence .ensures) (c .before .before .before .before .before .before .before .set-far .ensures) (c .before .before .replace .ensures)
+
+pub update-at-spec : {M : Type 1} → statement M
+update-at-spec =
+    tie.close
+    (tie.spec
+    (λ c. search needs)
+    (λ c. search needs)
+    (λ c. search needs)
+    (λ c. search needs)
+    (λ c. search needs)
+    (λ c. search needs)
+    (λ c. search needs)
+    (λ c κs. search needs)
+    (λ c. search needs)
+    (λ c κs. search needs)
+    (λ c. search needs)
+    (λ c κs. search needs)
+    (λ c κs. search needs)
+    (λ c. search needs)
+    replace-requires
+    (λ c. search needs)
+    returns)

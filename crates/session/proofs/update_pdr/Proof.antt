@@ -1,0 +1,46 @@
+use Rattle.session.proofs.Steps.{pdrs-fit, update-none, update-place, update-found}
+use borrow.Author.Needs.{needs}
+use Rattle.session.proofs.update_pdr.Statement.{statement}
+use Rattle.session.proofs.update_pdr.Tie as tie
+use Rattle.session.proofs.update_pdr.Reads as reads
+use Rattle.session.proofs.update_pdr.Lts as lts
+use Rattle.areas.proofs.find.Reads as find-reads
+use Rattle.session.proofs.layout.pdrs.Reads as pdrs-reads
+use Rattle.session.proofs.update_at.Reads as update-at-reads
+
+-- src/lib.rt:33:35
+-- src/lib.rt:33:51
+-- src/lib.rt:33:9
+find-requires : tie.Need-find-requires
+find-requires c κs = search pdrs-fit
+
+-- src/lib.rt:34:22
+-- src/lib.rt:35:9
+-- src/lib.rt:35:9
+-- src/lib.rt:35:9
+returns : tie.Need-returns
+returns c = search update-none
+
+-- src/lib.rt:37:5
+update-at-requires : tie.Need-update-at-requires
+update-at-requires c κs = (search needs, search needs, search update-place)
+
+-- src/lib.rt:29:1
+-- src/lib.rt:29:1
+returns-2 : tie.Need-returns-2
+returns-2 c = search update-found
+
+pub update-pdr-spec : {M : Type 1} → statement M
+update-pdr-spec =
+    tie.close
+    (tie.spec
+    (λ c κs. search needs)
+    (λ c. search needs)
+    find-requires
+    (λ c. search needs)
+    (λ c. search needs)
+    (λ c. search needs)
+    returns
+    update-at-requires
+    (λ c. search needs)
+    returns-2)

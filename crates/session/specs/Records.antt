@@ -1,0 +1,71 @@
+-- The octets that a row of the plan gives a record, and what an Update PDR's row makes of a PDR's octets. A TEID stands in its word of the
+-- row whether it was given or chosen.
+-- Assumes nothing.
+use Prim.Native.Nat.{ℕ, _%_}
+use mathlib.Core.List.{List, [], _∷_}
+use lib.Dec.{eqb}
+use Rattle.octets.specs.Choice.{pick}
+use Rattle.octets.specs.Octets.{be, put, zeros}
+use Rattle.octets.specs.Fields.{fieldOctets}
+use Rattle.plan.specs.Rows.{word}
+
+-- a word that counts if another word has a value
+unfoldable pub ifIs : ℕ → ℕ → ℕ → ℕ
+ifIs there n v = pick (eqb there n) v 0
+
+-- ---- PDR
+
+unfoldable pub pdrWidths : List ℕ
+pdrWidths = 2 ∷ 4 ∷ 1 ∷ 4 ∷ 1 ∷ 1 ∷ 4 ∷ 1 ∷ 1 ∷ []
+
+-- 0 neither, 1 a local F-TEID, 2 an endpoint ID
+unfoldable pub placeKind : List ℕ → ℕ
+placeKind row = pick (eqb (word 12 row) 0) (pick (eqb (word 5 row) 1) 2 0) 1
+
+unfoldable pub pdrValues : List ℕ → List ℕ
+pdrValues row =
+    word 7 row
+    ∷ word 8 row
+    ∷ ifIs (word 3 row) 1 1
+    ∷ ifIs (word 3 row) 1 (word 9 row)
+    ∷ word 10 row
+    ∷ placeKind row
+    ∷ ifIs (placeKind row) 1 (word 13 row)
+    ∷ ifIs (placeKind row) 1 (word 12 row % 4)
+    ∷ ifIs (placeKind row) 2 (word 11 row)
+    ∷ []
+
+unfoldable pub pdrRecord : List ℕ → List ℕ
+pdrRecord row = fieldOctets pdrWidths (pdrValues row)
+
+-- ---- endpoint
+
+unfoldable pub endpointRecord : List ℕ → List ℕ
+endpointRecord row = fieldOctets (1 ∷ 4 ∷ 1 ∷ []) (word 11 row ∷ word 13 row ∷ word 12 row % 4 ∷ [])
+
+-- ---- FQ-CSID
+
+-- the address fills 16 octets, or four and zeros
+unfoldable pub csidWidths : ℕ → List ℕ
+csidWidths t = pick (eqb t 1) (1 ∷ 1 ∷ 8 ∷ 8 ∷ 0 ∷ 2 ∷ []) (1 ∷ 1 ∷ 4 ∷ 8 ∷ 4 ∷ 2 ∷ [])
+
+unfoldable pub csidValues : List ℕ → List ℕ
+csidValues row =
+    pick (eqb (word 8 row) 1) (word 7 row ∷ word 8 row ∷ word 9 row ∷ word 10 row ∷ 0 ∷ word 11 row ∷ [])
+    (word 7 row ∷ word 8 row ∷ word 10 row ∷ 0 ∷ 0 ∷ word 11 row ∷ [])
+
+unfoldable pub csidRecord : List ℕ → List ℕ
+csidRecord row = fieldOctets (csidWidths (word 8 row)) (csidValues row)
+
+-- ---- Update PDR
+
+unfoldable pub withPrecedence : List ℕ → List ℕ → List ℕ
+withPrecedence row s = pick (eqb (word 2 row) 1) (put 2 (be 4 (word 8 row)) s) s
+
+-- a null FAR ID takes it away
+unfoldable pub withFar : List ℕ → List ℕ → List ℕ
+withFar row s =
+    pick (eqb (word 3 row) 1) (put 7 (be 4 (word 9 row)) (put 6 (be 1 1) s)) (pick (eqb (word 3 row) 2) (put 6 (zeros 5) s) s)
+
+unfoldable pub updatedRecord : List ℕ → List ℕ → List ℕ
+updatedRecord row s = withFar row (withPrecedence row s)

@@ -1,0 +1,112 @@
+// Building a session in its slot of 483 octets from the rows of a plan, after every check has passed.
+//
+// The functions work on any octets of the slot's length; proofs/ says that on a session's octets they make the rules' session.
+ghost use mathlib.Core.Path.{_≡_};
+ghost use Prim.Native.Nat.{_*_, _≤_, _<_};
+ghost use lib.ListN.{length};
+ghost use Rattle.octets.specs.Octets.{slices};
+ghost use Rattle.session.specs.Build.{updatedAt, updatedPdr, followedCsid, rowApplied, passed, built};
+use slots::Place;
+
+pub mod layout;
+mod record;
+
+// An Update PDR's row on the record at place p.
+fn update_at(slot: &mut [u8], row: &[u64], p: usize)
+    requires { ⌜ (length (now slot) ≡ 483) × (length (now row) ≡ 18) × (p < 16) ⌝ }
+    ensures { λ _. ⌜ now (slot .exit) ≡ updatedAt (now (row .entry)) p (now (slot .entry)) ⌝ }
+{
+    let at = 11 + p * 19;
+    let end = at + 19;
+    let mut rec = [0u8; 19];
+    octets::copy(&mut rec, 0, &slot[at..end]);
+    record::set_precedence(&mut rec, row);
+    record::set_far(&mut rec, row);
+    areas::replace(slot, layout::pdrs(), p, &rec);
+}
+
+// An Update PDR's row: it replaces what it names, and the rest stays.
+fn update_pdr(slot: &mut [u8], row: &[u64])
+    requires { ⌜ (length (now slot) ≡ 483) × (length (now row) ≡ 18) ⌝ }
+    ensures { λ _. ⌜ now (slot .exit) ≡ updatedPdr (now (row .entry)) (now (slot .entry)) ⌝ }
+{
+    let place = areas::find(slot, layout::pdrs(), row[7]);
+    let Place::Found(p) = place else {
+        return;
+    };
+    update_at(slot, row, p);
+}
+
+// An FQ-CSID's row: it sets or removes a node type's, or removes all.
+fn follow_csid(slot: &mut [u8], row: &[u64])
+    requires { ⌜ (length (now slot) ≡ 483) × (length (now row) ≡ 18) ⌝ }
+    ensures { λ _. ⌜ now (slot .exit) ≡ followedCsid (now (row .entry)) (now (slot .entry)) ⌝ }
+{
+    let verb = row[1];
+    let a = layout::csids();
+    if verb == 1 {
+        let rec = record::csid(row);
+        areas::put_record(slot, a, &rec);
+        return;
+    }
+    if verb == 2 {
+        areas::drop_record(slot, a, row[7]);
+        return;
+    }
+    if verb == 3 {
+        areas::clear(slot, a);
+    }
+}
+
+// What one row does to the session.
+fn apply_row(slot: &mut [u8], row: &[u64])
+    requires { ⌜ (length (now slot) ≡ 483) × (length (now row) ≡ 18) ⌝ }
+    ensures { λ _. ⌜ now (slot .exit) ≡ rowApplied (now (row .entry)) (now (slot .entry)) ⌝ }
+{
+    let kind = row[0];
+    match kind {
+        15 => areas::drop_record(slot, layout::pdrs(), row[7]),
+        130 => areas::drop_record(slot, layout::endpoints(), row[11]),
+        127 => {
+            let rec = record::endpoint(row);
+            areas::put_record(slot, layout::endpoints(), &rec);
+        }
+        1 => {
+            let rec = record::pdr(row);
+            areas::put_record(slot, layout::pdrs(), &rec);
+        }
+        9 => update_pdr(slot, row),
+        65 => follow_csid(slot, row),
+        _ => {}
+    }
+}
+
+// What the rows of one type do, in request order.
+fn pass(slot: &mut [u8], plan: &[u64], n: usize, kind: u64)
+    requires { ⌜ (length (now slot) ≡ 483) × (n * 18 ≤ length (now plan)) ⌝ }
+    ensures { λ _. ⌜ now (slot .exit) ≡ passed kind (slices 18 n (now (plan .entry))) (now (slot .entry)) ⌝ }
+{
+    let mut i = 0;
+    while i < n {
+        let at = i * 18;
+        let end = at + 18;
+        i += 1;
+        if plan[at] != kind {
+            continue;
+        }
+        apply_row(slot, &plan[at..end]);
+    }
+}
+
+// The session that the plan makes: removals first, then endpoints, PDRs, updates, FQ-CSIDs.
+pub fn build(slot: &mut [u8], plan: &[u64], n: usize)
+    requires { ⌜ (length (now slot) ≡ 483) × (n * 18 ≤ length (now plan)) ⌝ }
+    ensures { λ _. ⌜ now (slot .exit) ≡ built (slices 18 n (now (plan .entry))) (now (slot .entry)) ⌝ }
+{
+    pass(slot, plan, n, 15);
+    pass(slot, plan, n, 130);
+    pass(slot, plan, n, 127);
+    pass(slot, plan, n, 1);
+    pass(slot, plan, n, 9);
+    pass(slot, plan, n, 65);
+}

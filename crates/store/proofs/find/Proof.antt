@@ -1,0 +1,20 @@
+use Rattle.store.proofs.Steps.{sessions-fit, found-there}
+use borrow.Author.Needs.{needs}
+use Rattle.store.proofs.find.Statement.{statement}
+use Rattle.store.proofs.find.Tie as tie
+use Rattle.store.proofs.find.Reads as reads
+use Rattle.store.proofs.find.Lts as lts
+use Rattle.areas.proofs.find.Reads as find-reads
+use Rattle.session.proofs.layout.sessions.Reads as sessions-reads
+
+-- src/lib.rt:15:20
+-- src/lib.rt:15:5
+find-requires : tie.Need-find-requires
+find-requires c κs = search sessions-fit
+
+-- src/lib.rt:11:1
+returns : tie.Need-returns
+returns c = search found-there
+
+pub find-spec : {M : Type 1} → statement M
+find-spec = tie.close (tie.spec (λ c κs. search needs) find-requires returns)

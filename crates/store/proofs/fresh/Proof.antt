@@ -1,0 +1,18 @@
+use Rattle.store.proofs.Steps.{fresh-made}
+use borrow.Author.Needs.{needs}
+use Rattle.store.proofs.fresh.Statement.{statement}
+use Rattle.store.proofs.fresh.Tie as tie
+use Rattle.store.proofs.fresh.Reads as reads
+use Rattle.store.proofs.fresh.Lts as lts
+use Rattle.octets.proofs.clear.Reads as clear-reads
+use Rattle.octets.proofs.write.Reads as write-reads
+
+-- src/lib.rt:33:5
+-- src/lib.rt:34:5
+-- src/lib.rt:29:1
+-- src/lib.rt:29:1
+returns : tie.Need-returns
+returns c = search fresh-made
+
+pub fresh-spec : {M : Type 1} → statement M
+fresh-spec = tie.close (tie.spec (λ c κs. search needs) (λ c κs. search needs) (λ c. search needs) returns)

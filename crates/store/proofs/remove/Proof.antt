@@ -1,0 +1,21 @@
+use Rattle.store.proofs.Steps.{sessions-fit, removed-there}
+use borrow.Author.Needs.{needs}
+use Rattle.store.proofs.remove.Statement.{statement}
+use Rattle.store.proofs.remove.Tie as tie
+use Rattle.store.proofs.remove.Reads as reads
+use Rattle.store.proofs.remove.Lts as lts
+use Rattle.areas.proofs.drop_record.Reads as drop-record-reads
+use Rattle.session.proofs.layout.sessions.Reads as sessions-reads
+
+-- src/lib.rt:50:27
+-- src/lib.rt:50:5
+drop-record-requires : tie.Need-drop-record-requires
+drop-record-requires c κs = search sessions-fit
+
+-- src/lib.rt:46:1
+-- src/lib.rt:46:1
+returns : tie.Need-returns
+returns c = search removed-there
+
+pub remove-spec : {M : Type 1} → statement M
+remove-spec = tie.close (tie.spec (λ c κs. search needs) drop-record-requires (λ c. search needs) returns)

@@ -1,0 +1,51 @@
+// A session's slot in the table: found by its SEID, copied out, put back, taken out; and the slot of a new session.
+ghost use mathlib.Core.Path.{_≡_};
+ghost use Prim.Native.Nat.{_*_, _<_};
+ghost use lib.ListN.{length};
+ghost use Rattle.octets.specs.Octets.{be, part, put, zeros};
+ghost use Rattle.areas.specs.Counted.{areaIn, placeIn, withRecord, withoutRecord};
+ghost use Rattle.session.specs.Areas.{sessionArea};
+use slots::Place;
+
+// Where the session of a SEID stands, or has its place.
+pub fn find(t: &[u8], seid: u64) -> Place
+    requires { ⌜ length (now t) ≡ 30943 ⌝ }
+    ensures { λ r. ⌜ r ≡ placeIn sessionArea seid (now (t .entry)) ⌝ }
+{
+    areas::find(t, session::layout::sessions(), seid)
+}
+
+// Copies the slot at place p.
+pub fn load(t: &[u8], p: usize, slot: &mut [u8])
+    requires { ⌜ (length (now t) ≡ 30943) × (p < 64) × (length (now slot) ≡ 483) ⌝ }
+    ensures { λ _. ⌜ now (slot .exit) ≡ part (p * 483) 483 (areaIn sessionArea (now (t .entry))) ⌝ }
+{
+    let at = 31 + p * 483;
+    let end = at + 483;
+    octets::copy(slot, 0, &t[at..end]);
+}
+
+// The slot of a new session.
+pub fn fresh(slot: &mut [u8], seid: u64)
+    requires { ⌜ length (now slot) ≡ 483 ⌝ }
+    ensures { λ _. ⌜ now (slot .exit) ≡ put 0 (be 8 seid) (zeros 483) ⌝ }
+{
+    octets::clear(slot, 0, 483);
+    octets::write(slot, 0, 8, seid);
+}
+
+// Makes the slot that of its SEID: over the one that is there, or put in.
+pub fn save(t: &mut [u8], slot: &[u8])
+    requires { ⌜ (length (now t) ≡ 30943) × (length (now slot) ≡ 483) ⌝ }
+    ensures { λ _. ⌜ now (t .exit) ≡ withRecord sessionArea (now (slot .entry)) (now (t .entry)) ⌝ }
+{
+    areas::put_record(t, session::layout::sessions(), slot);
+}
+
+// Takes the session of a SEID out, if there is one.
+pub fn remove(t: &mut [u8], seid: u64)
+    requires { ⌜ length (now t) ≡ 30943 ⌝ }
+    ensures { λ _. ⌜ now (t .exit) ≡ withoutRecord sessionArea seid (now (t .entry)) ⌝ }
+{
+    areas::drop_record(t, session::layout::sessions(), seid);
+}
