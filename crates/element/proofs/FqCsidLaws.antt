@@ -1,0 +1,566 @@
+-- FQ-CSID: what the code tests, reads and writes, in the rules' terms; s the octets. Assumes nothing.
+use mathlib.Core.Bool.{Bool, true, false, not, _&&_, _||_}
+use mathlib.Core.List.{List, [], _∷_, _++_, map, append-nil, append-assoc}
+use mathlib.Core.Option.{none, some}
+use mathlib.Core.Path.{_≡_, refl, sym, ap, ap₂, _∙_}
+use Prim.Native.Nat.{ℕ, zero, suc, _+_, _-_, _*_, _/_, _%_, _^_, _≤_, _<_, min}
+use native.Mathlib.Nat.{not-suc-le-zero, zero-add}
+use native.Mathlib.Omega.{arith}
+use borrow.Author.Tests.{lt-ltb, le-ltb, le-leb, eq-eqb, ne-eqb, eqb-true, eqb-false}
+use lib.Dec.{T, ltb, leb, eqb, ltb→lt, leb→le, eqb→eq, not-T, lit<}
+use lib.ListN.{length, getD, drop, take-append-drop, length-append, length-map}
+use lib.Seq.{drop-drop, getD-drop}
+use Rattle.octets.specs.Choice.{pick, allOf, mapOption}
+use Rattle.octets.specs.Octets.{be, put, number, part, octetAt, octets, slices, zeros, sameOctets}
+use Rattle.octets.specs.Fields.{widthOf, narrow, fieldsAt, fit, fieldOctets}
+use Rattle.octets.proofs.Tests.{each, all-of-each, of-true, is-true, is-false, and-left, and-right}
+use Rattle.octets.proofs.Put.{length-part}
+use Rattle.octets.proofs.Numbers.{number-be, same-eq}
+use Rattle.octets.proofs.FieldLaws.{last-read, length-fieldOctets, octets-fields, fit-fields}
+use Rattle.rules.specs.Elements as rules
+use Rattle.rules.specs.Elements.{Fqcsid, sets, addressLength, operatorAllowed, nodeAddressTests, nodeAddressAllowed, nodeTypeKept, csidsAt, csidFields, nodeOf, countAllowed, checkedCsid, csidRest, readFqcsid, below16, setsTests, fqcsidAllowed, fqcsidOctets, writeFqcsid, value, refuse, tooShort, incorrect}
+use Rattle.rules.specs.Limits.{maxOperator}
+use Rattle.element.specs.declared.Refusal.{Refusal}
+use Rattle.element.specs.declared.fqcsid.FqCsid.{FqCsid}
+use Rattle.element.specs.declared.fqcsid.Answer.{Answer}
+use Rattle.element.specs.declared.fqcsid.Answer.the-variants.{Value, Refused}
+use Rattle.element.specs.Answers.{refusalOf, allowedIn, writeMeant}
+use Rattle.element.specs.FqCsid.{answerOf, addressWidths, wordWidth, csidWidths, fqcsidWidths, addressNumbers, csidNumbers, addressIn, csidsIn, fqcsidTests, fqcsidMeant, fqcsidOf}
+use Rattle.element.proofs.OctetLaws.{one-octet, fit-at, octets-fieldOctets, fieldOctets-two, widthOf-two, fit-two, slices-front, length-slices, concat-slices, below-slices}
+use Rattle.element.proofs.AnswerLaws.{ReadAs, read-as, some-same, picked, allowed-picked, just-where, never, not-allowed, no-room, done}
+
+-- ---- the widths
+
+pub widths-long : (t m : ℕ) (a b c d : ℕ) → t ≡ 1 → a ≡ wordWidth 0 m → b ≡ wordWidth 1 m → c ≡ wordWidth 2 m → d ≡ wordWidth 3 m
+    → 1 ∷ 8 ∷ 8 ∷ a ∷ b ∷ c ∷ d ∷ 1 ∷ [] ≡ fqcsidWidths t m
+unfolding addressWidths csidWidths
+widths-long t m a b c d e i j k l = rw (eq-eqb t 1 e, i, j, k, l)
+
+pub widths-small : (t m : ℕ) (a b c d : ℕ) → (t ≡ 1 → ⊥) → a ≡ wordWidth 0 m → b ≡ wordWidth 1 m → c ≡ wordWidth 2 m → d ≡ wordWidth 3 m
+    → 1 ∷ 0 ∷ 4 ∷ a ∷ b ∷ c ∷ d ∷ 1 ∷ [] ≡ fqcsidWidths t m
+unfolding addressWidths csidWidths
+widths-small t m a b c d e i j k l = rw (ne-eqb t 1 e, i, j, k, l)
+
+-- there are two numbers of the address, which take its octets
+pub two-widths : (t : ℕ) → length (addressWidths t) ≡ 2
+unfolding addressWidths
+two-widths t = by (eqb t 1)
+  where
+    by : (b : Bool) → length {A = ℕ} (pick b (8 ∷ 8 ∷ []) (0 ∷ 4 ∷ [])) ≡ 2
+    by true = refl
+    by false = refl
+
+width-address : (t : ℕ) → widthOf (addressWidths t) ≡ addressLength t
+unfolding addressWidths widthOf addressLength
+width-address t = by (eqb t 1)
+  where
+    by : (b : Bool) → widthOf (pick b (8 ∷ 8 ∷ []) (0 ∷ 4 ∷ [])) ≡ pick b 16 4
+    by true = refl
+    by false = refl
+
+-- m CSIDs take two octets each
+word-first : (r : ℕ) → min 8 (r - 0) + (r - 8) ≡ r
+word-first r = omega arith
+
+word-step : (r : ℕ) → min 8 r + (r - 8) ≡ r
+word-step r = omega arith
+
+word-last : (r : ℕ) → r ≤ 8 → min 8 r ≡ r
+word-last r h = omega arith
+
+four-words : (r a b c d : ℕ) → r ≤ 32 → a + (r - 8) ≡ r → b + (r - 8 - 8) ≡ r - 8 → c + (r - 16 - 8) ≡ r - 16 → d ≡ r - 24 → a + (b + (c + (d + 0))) ≡ r
+four-words r a b c d h i j k l = omega arith
+
+width-csids : (m : ℕ) → m < 16 → widthOf (csidWidths m) ≡ 2 * m
+unfolding csidWidths widthOf
+width-csids m h =
+    four-words (2 * m) (wordWidth 0 m) (wordWidth 1 m) (wordWidth 2 m) (wordWidth 3 m) (omega arith) (word-first (2 * m)) (word-step (2 * m - 8)) (word-step (2 * m - 16))
+    (word-last (2 * m - 24) (omega arith))
+
+pub eight-widths : (t m : ℕ) → length (fqcsidWidths t m) ≡ 8
+unfolding csidWidths
+eight-widths t m = ap suc (length-append (addressWidths t) (csidWidths m ++ 1 ∷ []) ∙ ap (λ (n : ℕ). n + 5) (two-widths t))
+
+pub width-all : (t m : ℕ) → m < 16 → widthOf (fqcsidWidths t m) ≡ 1 + (addressLength t + (2 * m + 1))
+unfolding widthOf
+width-all t m h =
+    ap (λ (n : ℕ). 1 + n)
+    (widthOf-two (addressWidths t) (csidWidths m ++ 1 ∷ [])
+    ∙ ap₂ _+_ (width-address t) (widthOf-two (csidWidths m) (1 ∷ []) ∙ ap (λ (n : ℕ). n + 1) (width-csids m h)))
+
+narrow-word : (k m : ℕ) → wordWidth k m ≤ 8
+narrow-word k m = omega arith
+
+pub narrow-widths : (t m : ℕ) → narrow (fqcsidWidths t m) ≡ true
+unfolding addressWidths csidWidths narrow
+narrow-widths t m = by (eqb t 1)
+  where
+    by : (b : Bool) → narrow (1 ∷ pick b (8 ∷ 8 ∷ []) (0 ∷ 4 ∷ []) ++ (wordWidth 0 m ∷ wordWidth 1 m ∷ wordWidth 2 m ∷ wordWidth 3 m ∷ [] ++ 1 ∷ [])) ≡ true
+    by true = rw (le-leb (wordWidth 0 m) 8 (narrow-word 0 m), le-leb (wordWidth 1 m) 8 (narrow-word 1 m), le-leb (wordWidth 2 m) 8 (narrow-word 2 m), le-leb (wordWidth 3 m) 8 (narrow-word 3 m))
+    by false = rw (le-leb (wordWidth 0 m) 8 (narrow-word 0 m), le-leb (wordWidth 1 m) 8 (narrow-word 1 m), le-leb (wordWidth 2 m) 8 (narrow-word 2 m), le-leb (wordWidth 3 m) 8 (narrow-word 3 m))
+
+-- ---- the rules, by the numbers of a struct
+
+-- an address of four octets is the second number's
+small-address : (high low : ℕ) → fit (0 ∷ 4 ∷ []) (high ∷ low ∷ []) ≡ true → low < 256 ^ 4
+small-address high low h = fit-at 1 (0 ∷ 4 ∷ []) (high ∷ low ∷ []) (lit< tt) h
+
+small-widths : (t : ℕ) → (t ≡ 1 → ⊥) → addressWidths t ≡ 0 ∷ 4 ∷ []
+unfolding addressWidths
+small-widths t h = rw (ne-eqb t 1 h)
+
+small-number : (high low : ℕ) → low < 256 ^ 4 → number (fieldOctets (0 ∷ 4 ∷ []) (high ∷ low ∷ [])) ≡ low
+unfolding fieldOctets be
+small-number high low h = number-be 4 low h
+
+small-zero : (high low : ℕ) → low < 256 ^ 4 → sameOctets (fieldOctets (0 ∷ 4 ∷ []) (high ∷ low ∷ [])) (zeros 4) ≡ eqb low 0
+unfolding fieldOctets be zeros sameOctets number
+small-zero high low h = by (eqb low 0) refl
+  where
+    by : (b : Bool) → eqb low 0 ≡ b → sameOctets (fieldOctets (0 ∷ 4 ∷ []) (high ∷ low ∷ [])) (zeros 4) ≡ eqb low 0
+    by true e = rw (eqb-true low 0 e)
+    by false e =
+        is-false (sameOctets (fieldOctets (0 ∷ 4 ∷ []) (high ∷ low ∷ [])) (zeros 4))
+        (not-T (sameOctets (fieldOctets (0 ∷ 4 ∷ []) (high ∷ low ∷ [])) (zeros 4)) (λ s. eqb-false low 0 e (sym (small-number high low h) ∙ ap number (same-eq (fieldOctets (0 ∷ 4 ∷ []) (high ∷ low ∷ [])) (zeros 4) s))))
+        ∙ sym e
+
+operator-is : (t high low : ℕ) → fit (addressWidths t) (high ∷ low ∷ []) ≡ true
+    → operatorAllowed t (fieldOctets (addressWidths t) (high ∷ low ∷ [])) ≡ (not (eqb t 2) || leb (low / 4096) maxOperator)
+unfolding operatorAllowed
+operator-is t high low h = by (eqb t 2) refl
+  where
+    by : (b : Bool) → eqb t 2 ≡ b → operatorAllowed t (fieldOctets (addressWidths t) (high ∷ low ∷ [])) ≡ (not (eqb t 2) || leb (low / 4096) maxOperator)
+    by true e =
+        let two = eqb-true t 2 e in
+        let w = small-widths t (λ q. omega arith) in
+        rw (w, small-number high low (small-address high low (rw w at h)))
+    by false e = rw e
+
+count-is : (m t high low : ℕ) → fit (addressWidths t) (high ∷ low ∷ []) ≡ true
+    → countAllowed m t (fieldOctets (addressWidths t) (high ∷ low ∷ [])) ≡ (not (eqb m 0) || (eqb t 0 && eqb low 0))
+unfolding countAllowed
+count-is zero t high low h = by (eqb t 0) refl
+  where
+    by : (b : Bool) → eqb t 0 ≡ b → (eqb t 0 && sameOctets (fieldOctets (addressWidths t) (high ∷ low ∷ [])) (zeros 4)) ≡ (eqb t 0 && eqb low 0)
+    by true e =
+        let none = eqb-true t 0 e in
+        let w = small-widths t (λ q. omega arith) in
+        rw (w, small-zero high low (small-address high low (rw w at h)))
+    by false e = rw e
+count-is (suc m) t high low h = rw (ne-eqb (suc m) 0 (λ q. omega arith))
+
+-- the rules as the code tests them, by the numbers
+abbrev pub ruleTests : FqCsid → List Bool
+ruleTests v =
+    nodeTypeKept (v .«node_type»)
+    ∷ (not (eqb (v .«id_type») 2) || leb (v .«address_low» / 4096) maxOperator)
+    ∷ (not (eqb (v .count) 0) || (eqb (v .«id_type») 0 && eqb (v .«address_low») 0))
+    ∷ []
+
+pub rules-are : (v : FqCsid) → fit (addressWidths (v .«id_type»)) (addressNumbers v) ≡ true
+    → ruleTests v ≡ nodeTypeKept (v .«node_type») ∷ operatorAllowed (v .«id_type») (addressIn v) ∷ countAllowed (v .count) (v .«id_type») (addressIn v) ∷ []
+rules-are v h = rw (operator-is (v .«id_type») (v .«address_high») (v .«address_low») h, count-is (v .count) (v .«id_type») (v .«address_high») (v .«address_low») h)
+
+-- ---- the answers of the reader: t the Node-ID type and m the count of the octets s
+
+abbrev pub typeOf : List ℕ → ℕ
+typeOf s = getD s 0 0 / 16
+
+abbrev pub countIn : List ℕ → ℕ
+countIn s = getD s 0 0 % 16
+
+pub read-empty : (s : List ℕ) → length s ≡ 0 → readFqcsid s ≡ refuse tooShort
+unfolding readFqcsid
+read-empty [] h = refl
+read-empty (x ∷ s) h = absurd (omega arith)
+
+pub read-type : (s : List ℕ) → 0 < length s → 2 < typeOf s → readFqcsid s ≡ refuse incorrect
+unfolding readFqcsid
+read-type [] h l = absurd (not-suc-le-zero h)
+read-type (x ∷ s) h l = rw (lt-ltb 2 (x / 16) l)
+
+pub read-short : (s ws : List ℕ) → 0 < length s → typeOf s ≤ 2 → ws ≡ fqcsidWidths (typeOf s) (countIn s) → length s < widthOf ws → readFqcsid s ≡ refuse tooShort
+unfolding readFqcsid csidRest
+read-short [] ws h t w l = absurd (not-suc-le-zero h)
+read-short (x ∷ s) ws h t w l =
+    let e = width-all (x / 16) (x % 16) (omega arith) in
+    let n : length s < addressLength (x / 16) + 2 * (x % 16) + 1 = omega (arith, ap widthOf w) in
+    rw (le-ltb 2 (x / 16) t, lt-ltb (length s) (addressLength (x / 16) + 2 * (x % 16) + 1) n)
+
+pub read-checked : (s ws : List ℕ) → 0 < length s → typeOf s ≤ 2 → ws ≡ fqcsidWidths (typeOf s) (countIn s) → widthOf ws ≤ length s
+    → readFqcsid s
+    ≡ checkedCsid (countIn s) (typeOf s) (part 1 (addressLength (typeOf s)) s) (csidsAt (countIn s) (drop (1 + addressLength (typeOf s)) s))
+    (getD s (1 + (addressLength (typeOf s) + 2 * countIn s)) 0 % 16)
+unfolding readFqcsid csidRest octetAt
+read-checked [] ws h t w l = absurd (not-suc-le-zero h)
+read-checked (x ∷ s) ws h t w l =
+    let e = width-all (x / 16) (x % 16) (omega arith) in
+    let n : addressLength (x / 16) + 2 * (x % 16) + 1 ≤ length s = omega (arith, ap widthOf w) in
+    rw (le-ltb 2 (x / 16) t, le-ltb (length s) (addressLength (x / 16) + 2 * (x % 16) + 1) n)
+    (ap₂ (λ (xs : List ℕ) (k : ℕ). checkedCsid (x % 16) (x / 16) (part 0 (addressLength (x / 16)) s) (csidsAt (x % 16) xs) (k % 16))
+    (drop-drop (addressLength (x / 16)) 1 (x ∷ s)) (getD-drop 1 (x ∷ s) (addressLength (x / 16) + 2 * (x % 16)) 0))
+
+-- the struct that the code makes of the type, the count and the numbers vs
+abbrev pub structOf : ℕ → ℕ → List ℕ → FqCsid
+structOf t m vs = record {
+  «id_type» = t;
+  count = m;
+  «address_high» = getD vs 1 0;
+  «address_low» = getD vs 2 0;
+  «csids_1» = getD vs 3 0;
+  «csids_2» = getD vs 4 0;
+  «csids_3» = getD vs 5 0;
+  «csids_4» = getD vs 6 0;
+  «node_type» = getD vs 7 0 % 16;
+}
+
+-- its numbers, where vs are the fields of the octets
+address-numbers : (t m : ℕ) (s : List ℕ) → addressNumbers (structOf t m (fieldsAt 0 (fqcsidWidths t m) s)) ≡ fieldsAt 1 (addressWidths t) s
+unfolding addressWidths fieldsAt
+address-numbers t m s = by (eqb t 1)
+  where
+    by : (b : Bool) → addressNumbers (structOf t m (fieldsAt 0 (1 ∷ pick b (8 ∷ 8 ∷ []) (0 ∷ 4 ∷ []) ++ (csidWidths m ++ 1 ∷ [])) s)) ≡ fieldsAt 1 (pick b (8 ∷ 8 ∷ []) (0 ∷ 4 ∷ [])) s
+    by true = refl
+    by false = refl
+
+csid-numbers : (t m : ℕ) (s : List ℕ) → csidNumbers (structOf t m (fieldsAt 0 (fqcsidWidths t m) s)) ≡ fieldsAt (1 + addressLength t) (csidWidths m) s
+unfolding addressWidths csidWidths fieldsAt addressLength
+csid-numbers t m s = by (eqb t 1)
+  where
+    by : (b : Bool) → csidNumbers (structOf t m (fieldsAt 0 (1 ∷ pick b (8 ∷ 8 ∷ []) (0 ∷ 4 ∷ []) ++ (csidWidths m ++ 1 ∷ [])) s)) ≡ fieldsAt (1 + pick b 16 4) (csidWidths m) s
+    by true = refl
+    by false = refl
+
+before-node : (t m : ℕ) → m < 16 → 0 + widthOf (1 ∷ addressWidths t ++ csidWidths m) ≡ 1 + (addressLength t + 2 * m)
+unfolding widthOf
+before-node t m h =
+    zero-add (1 + widthOf (addressWidths t ++ csidWidths m))
+    ∙ ap (λ (n : ℕ). 1 + n) (widthOf-two (addressWidths t) (csidWidths m) ∙ ap₂ _+_ (width-address t) (width-csids m h))
+
+pub node-number : (t m : ℕ) (s : List ℕ) → m < 16 → widthOf (fqcsidWidths t m) ≤ length s
+    → getD (fieldsAt 0 (fqcsidWidths t m) s) 7 0 ≡ getD s (1 + (addressLength t + 2 * m)) 0
+unfolding csidWidths
+node-number t m s h l =
+    let aw : List ℕ = addressWidths t in
+    let cw : List ℕ = csidWidths m in
+    let e = width-all t m h in
+    let same : fqcsidWidths t m ≡ (1 ∷ aw ++ cw) ++ (1 ∷ []) = ap (λ (l : List ℕ). 1 ∷ l) (sym (append-assoc aw cw (1 ∷ []))) in
+    let seven : length (1 ∷ aw ++ cw) ≡ 7 = ap suc (length-append aw cw ∙ ap (λ (n : ℕ). n + 4) (two-widths t)) in
+    let sum : 0 + widthOf (1 ∷ aw ++ cw) ≡ 1 + (addressLength t + 2 * m) = before-node t m h in
+    ap (λ (l : List ℕ). getD (fieldsAt 0 l s) 7 0) same
+    ∙ ap (λ (k : ℕ). getD (fieldsAt 0 ((1 ∷ aw ++ cw) ++ (1 ∷ [])) s) k 0) (sym seven)
+    ∙ last-read 0 (1 ∷ aw ++ cw) s (omega arith)
+    ∙ ap (λ (k : ℕ). getD s k 0) sum
+
+-- the address, the CSIDs and the node type of the octets
+module _ (s : List ℕ) (o : T (octets s)) (t m : ℕ) (h : m < 16) (l : widthOf (fqcsidWidths t m) ≤ length s) where
+  address-read : addressIn (structOf t m (fieldsAt 0 (fqcsidWidths t m) s)) ≡ part 1 (addressLength t) s
+  address-read =
+      let e = width-all t m h in
+      let a = width-address t in
+      ap (fieldOctets (addressWidths t)) (address-numbers t m s) ∙ octets-fields 1 (addressWidths t) s o (omega arith) ∙ ap (λ (n : ℕ). part 1 n s) a
+
+  csids-read : csidsIn (structOf t m (fieldsAt 0 (fqcsidWidths t m) s)) ≡ csidsAt m (drop (1 + addressLength t) s)
+  unfolding csidsAt
+  csids-read =
+      let e = width-all t m h in
+      let c = width-csids m h in
+      let at : ℕ = 1 + addressLength t in
+      let p : fieldOctets (csidWidths m) (csidNumbers (structOf t m (fieldsAt 0 (fqcsidWidths t m) s))) ≡ part at (2 * m) s =
+      ap (fieldOctets (csidWidths m)) (csid-numbers t m s) ∙ octets-fields at (csidWidths m) s o (omega arith) ∙ ap (λ (n : ℕ). part at n s) c in
+      let n : length (part at (2 * m) s) ≡ 2 * m = length-part at (2 * m) s (omega arith) in
+      let f : slices 2 m (part at (2 * m) s) ≡ slices 2 m (drop at s) =
+      sym (slices-front 2 m (part at (2 * m) s) (drop (2 * m) (drop at s)) (omega arith)) ∙ ap (slices 2 m) (take-append-drop (2 * m) (drop at s)) in
+      ap (λ (xs : List ℕ). map number (slices 2 m xs)) p ∙ ap (map number) f
+
+  address-fits : fit (addressWidths t) (addressNumbers (structOf t m (fieldsAt 0 (fqcsidWidths t m) s))) ≡ true
+  address-fits =
+      let e = width-all t m h in
+      let a = width-address t in
+      rw (address-numbers t m s) (fit-fields 1 (addressWidths t) s o (omega arith))
+
+  csids-fit : fit (csidWidths m) (csidNumbers (structOf t m (fieldsAt 0 (fqcsidWidths t m) s))) ≡ true
+  csids-fit =
+      let e = width-all t m h in
+      let c = width-csids m h in
+      rw (csid-numbers t m s) (fit-fields (1 + addressLength t) (csidWidths m) s o (omega arith))
+
+  node-read : structOf t m (fieldsAt 0 (fqcsidWidths t m) s) .«node_type» ≡ getD s (1 + (addressLength t + 2 * m)) 0 % 16
+  node-read = ap (λ (n : ℕ). n % 16) (node-number t m s h l)
+
+-- a struct whose numbers fit means a value, if no CSIDs go with type and address zero
+pub meant : (v : FqCsid) → v .«id_type» < 16 → v .count < 16 → v .«node_type» < 16 → fit (addressWidths (v .«id_type»)) (addressNumbers v) ≡ true
+    → fit (csidWidths (v .count)) (csidNumbers v) ≡ true → countAllowed (v .count) (v .«id_type») (addressIn v) ≡ true → fqcsidOf v ≡ some (fqcsidMeant v)
+unfolding fqcsidOf fqcsidTests
+meant v h i j k l n = rw (lt-ltb (v .«id_type») 16 h, lt-ltb (v .count) 16 i, lt-ltb (v .«node_type») 16 j, k, l, n)
+
+-- what the reader answers: vs the fields as the code has them
+module _ (s ws vs : List ℕ) (o : T (octets s)) (h : 0 < length s) (type : typeOf s ≤ 2) (w : ws ≡ fqcsidWidths (typeOf s) (countIn s)) (l : widthOf ws ≤ length s)
+    (e : vs ≡ fieldsAt 0 ws s) where
+  fields : vs ≡ fieldsAt 0 (fqcsidWidths (typeOf s) (countIn s)) s
+  fields = e ∙ ap (λ (l : List ℕ). fieldsAt 0 l s) w
+
+  enough : widthOf (fqcsidWidths (typeOf s) (countIn s)) ≤ length s
+  enough = rw w at l
+
+  small : countIn s < 16
+  small = omega arith
+
+  checked : readFqcsid s
+      ≡ checkedCsid (countIn s) (typeOf s) (addressIn (structOf (typeOf s) (countIn s) vs)) (csidsIn (structOf (typeOf s) (countIn s) vs)) (structOf (typeOf s) (countIn s) vs .«node_type»)
+  checked =
+      read-checked s ws h type w l
+      ∙ rw fields
+      (λ i.
+      checkedCsid (countIn s) (typeOf s) (sym (address-read s o (typeOf s) (countIn s) small enough) i) (sym (csids-read s o (typeOf s) (countIn s) small enough) i)
+      (sym (node-read s o (typeOf s) (countIn s) small enough) i))
+
+  tests-are : allOf (ruleTests (structOf (typeOf s) (countIn s) vs))
+      ≡ allOf (nodeTypeKept (getD vs 7 0 % 16) ∷ operatorAllowed (typeOf s) (addressIn (structOf (typeOf s) (countIn s) vs)) ∷ countAllowed (countIn s) (typeOf s) (addressIn (structOf (typeOf s) (countIn s) vs)) ∷ [])
+  tests-are = ap allOf (rules-are (structOf (typeOf s) (countIn s) vs) (rw fields (address-fits s o (typeOf s) (countIn s) small enough)))
+
+  pub read-incorrect : allOf (ruleTests (structOf (typeOf s) (countIn s) vs)) ≡ false → readFqcsid s ≡ refuse incorrect
+  unfolding checkedCsid
+  read-incorrect b = checked ∙ rw (sym tests-are ∙ b)
+
+  pub read-value : allOf (ruleTests (structOf (typeOf s) (countIn s) vs)) ≡ true → mapOption value (fqcsidOf (structOf (typeOf s) (countIn s) vs)) ≡ some (readFqcsid s)
+  unfolding checkedCsid
+  read-value b =
+      let v : FqCsid = structOf (typeOf s) (countIn s) vs in
+      let t = sym tests-are ∙ b in
+      let c : countAllowed (countIn s) (typeOf s) (addressIn v) ≡ true = is-true _ (each (nodeTypeKept (getD vs 7 0 % 16) ∷ operatorAllowed (typeOf s) (addressIn v) ∷ countAllowed (countIn s) (typeOf s) (addressIn v) ∷ []) (of-true t) .1 .1 .0) in
+      ap (mapOption value)
+      (meant v (omega arith) small (omega arith) (rw fields (address-fits s o (typeOf s) (countIn s) small enough)) (rw fields (csids-fit s o (typeOf s) (countIn s) small enough)) c)
+      ∙ ap some (sym (checked ∙ rw t))
+
+-- ---- the values that are written: the numbers as they stand in the octets
+
+abbrev pub fqcsidNumbers : FqCsid → List ℕ
+fqcsidNumbers v = (16 * v .«id_type» + v .count) ∷ addressNumbers v ++ (csidNumbers v ++ v .«node_type» ∷ [])
+
+length-address : (v : FqCsid) → length (addressIn v) ≡ addressLength (v .«id_type»)
+length-address v = length-fieldOctets (addressWidths (v .«id_type»)) (addressNumbers v) (sym (two-widths (v .«id_type»))) ∙ width-address (v .«id_type»)
+
+length-words : (v : FqCsid) → v .count < 16 → length (fieldOctets (csidWidths (v .count)) (csidNumbers v)) ≡ 2 * v .count
+unfolding csidWidths
+length-words v h = length-fieldOctets (csidWidths (v .count)) (csidNumbers v) refl ∙ width-csids (v .count) h
+
+octets-split : (v : FqCsid) → fieldOctets (fqcsidWidths (v .«id_type») (v .count)) (fqcsidNumbers v)
+    ≡ be 1 (16 * v .«id_type» + v .count) ++ (addressIn v ++ (fieldOctets (csidWidths (v .count)) (csidNumbers v) ++ be 1 (v .«node_type»)))
+unfolding fieldOctets csidWidths
+octets-split v =
+    let aw : List ℕ = addressWidths (v .«id_type») in
+    let cw : List ℕ = csidWidths (v .count) in
+    let last : fieldOctets (cw ++ 1 ∷ []) (csidNumbers v ++ v .«node_type» ∷ []) ≡ fieldOctets cw (csidNumbers v) ++ be 1 (v .«node_type») =
+    fieldOctets-two cw (csidNumbers v) (1 ∷ []) (v .«node_type» ∷ []) refl ∙ ap (λ (l : List ℕ). fieldOctets cw (csidNumbers v) ++ l) (append-nil (be 1 (v .«node_type»))) in
+    ap (λ (l : List ℕ). be 1 (16 * v .«id_type» + v .count) ++ l)
+    (fieldOctets-two aw (addressNumbers v) (cw ++ 1 ∷ []) (csidNumbers v ++ v .«node_type» ∷ []) (sym (two-widths (v .«id_type»))) ∙ ap (λ (l : List ℕ). addressIn v ++ l) last)
+
+pub fit-split : (v : FqCsid) → fit (fqcsidWidths (v .«id_type») (v .count)) (fqcsidNumbers v)
+    ≡ allOf (ltb (16 * v .«id_type» + v .count) 256 ∷ fit (addressWidths (v .«id_type»)) (addressNumbers v) ∷ fit (csidWidths (v .count)) (csidNumbers v) ∷ ltb (v .«node_type») 256 ∷ [])
+unfolding fit csidWidths
+fit-split v =
+    let aw : List ℕ = addressWidths (v .«id_type») in
+    let cw : List ℕ = csidWidths (v .count) in
+    ap (λ (b : Bool). ltb (16 * v .«id_type» + v .count) 256 && b)
+    (fit-two aw (addressNumbers v) (cw ++ 1 ∷ []) (csidNumbers v ++ v .«node_type» ∷ []) (sym (two-widths (v .«id_type»)))
+    ∙ ap (λ (b : Bool). fit aw (addressNumbers v) && b) (fit-two cw (csidNumbers v) (1 ∷ []) (v .«node_type» ∷ []) refl))
+
+-- the octets of a value, by its count: ys those of the CSIDs
+no-octets : (ys : List ℕ) → length ys ≡ 0 → ys ≡ []
+no-octets [] e = refl
+no-octets (y ∷ ys) e = absurd (omega arith)
+
+octets-of : (m t : ℕ) (address ys : List ℕ) (n : ℕ) → T (countAllowed m t address) → T (octets ys) → length ys ≡ 2 * m → m < 16 → t < 16 → n < 16
+    → fqcsidOctets (csidFields m t address (csidsAt m ys) n) ≡ be 1 (16 * t + m) ++ (address ++ (ys ++ be 1 n))
+unfolding countAllowed csidFields csidsAt fqcsidOctets be zeros
+octets-of zero t address ys n c o e h i j =
+    let z : t ≡ 0 = eqb→eq t 0 (and-left (eqb t 0) (sameOctets address (zeros 4)) c) in
+    let a : address ≡ zeros 4 = same-eq address (zeros 4) (and-right (eqb t 0) (sameOctets address (zeros 4)) c) in
+    rw (z, a, no-octets ys e, one-octet n (omega arith))
+octets-of (suc m) t address ys n c o e h i j =
+    let l : length (map number (slices 2 (suc m) ys)) ≡ suc m = length-map (slices 2 (suc m) ys) number ∙ length-slices 2 (suc m) ys in
+    let first : t * 16 + length (map number (slices 2 (suc m) ys)) ≡ 16 * t + suc m = omega arith in
+    rw (concat-slices 2 (suc m) ys o (omega arith), first, one-octet (16 * t + suc m) (omega arith), one-octet n (omega arith))
+
+-- the octets of the value that a struct means
+pub fqcsid-octets : (v : FqCsid) (x : Fqcsid) → fqcsidOf v ≡ some x → fqcsidOctets x ≡ fieldOctets (fqcsidWidths (v .«id_type») (v .count)) (fqcsidNumbers v)
+unfolding fqcsidOf fqcsidTests
+fqcsid-octets v x e =
+    let p = picked (allOf (fqcsidTests v)) (fqcsidMeant v) x e in
+    let t = each (fqcsidTests v) (p .0) in
+    let few : v .count < 16 = ltb→lt (v .count) 16 (t .1 .0) in
+    ap fqcsidOctets (p .1)
+    ∙ octets-of (v .count) (v .«id_type») (addressIn v) (fieldOctets (csidWidths (v .count)) (csidNumbers v)) (v .«node_type») (t .1 .1 .1 .1 .1 .0)
+    (octets-fieldOctets (csidWidths (v .count)) (csidNumbers v)) (length-words v few) few (ltb→lt (v .«id_type») 16 (t .0)) (ltb→lt (v .«node_type») 16 (t .1 .1 .0))
+    ∙ sym (octets-split v)
+
+no-operator : (address : List ℕ) → T (operatorAllowed 0 address)
+unfolding operatorAllowed
+no-operator address = tt
+
+-- what an allowed value says, by its count, and when it is allowed
+facts-of : (m t : ℕ) (address cs : List ℕ) (n : ℕ) → T (countAllowed m t address) → T (fqcsidAllowed (csidFields m t address cs n))
+    → (t ≤ 2) × T (nodeTypeKept n) × T (operatorAllowed t address)
+unfolding countAllowed csidFields fqcsidAllowed setsTests nodeAddressAllowed nodeAddressTests
+facts-of zero t address cs n c h =
+    let z : t ≡ 0 = eqb→eq t 0 (and-left (eqb t 0) (sameOctets address (zeros 4)) c) in
+    (omega arith, h, rw z (no-operator address))
+facts-of (suc m) t address cs n c h =
+    let s = each (setsTests t address cs n) h in
+    let a = each (nodeAddressTests t address) (s .0) in
+    (leb→le t 2 (a .0), s .1 .1 .1 .1 .0, a .1 .1 .1 .0)
+
+allowed-from : (m t : ℕ) (address ys : List ℕ) (n : ℕ) → t ≤ 2 → T (nodeTypeKept n) → T (operatorAllowed t address) → length address ≡ addressLength t
+    → T (octets address) → T (octets ys) → length ys ≡ 2 * m → m < 16 → T (fqcsidAllowed (csidFields m t address (csidsAt m ys) n))
+unfolding csidFields csidsAt fqcsidAllowed setsTests nodeAddressAllowed nodeAddressTests below16
+allowed-from zero t address ys n h k o l b p e f = k
+allowed-from (suc m) t address ys n h k o l b p e f =
+    let cs : List ℕ = map number (slices 2 (suc m) ys) in
+    let c : length cs ≡ suc m = length-map (slices 2 (suc m) ys) number ∙ length-slices 2 (suc m) ys in
+    let one : leb 1 (length cs) ≡ true = le-leb 1 (length cs) (omega arith) in
+    let few : leb (length cs) 15 ≡ true = le-leb (length cs) 15 (omega arith) in
+    all-of-each (setsTests t address cs n) (
+      all-of-each (nodeAddressTests t address) (of-true (le-leb t 2 h), (of-true (eq-eqb (length address) (addressLength t) l), (b, (o, tt)))),
+      (of-true one, (of-true few, (below-slices 2 (suc m) ys p (omega arith), (k, tt)))),
+    )
+
+-- a struct that means a value has numbers that fit
+pub record Fits (v : FqCsid) : Type 0 where
+  pub few : v .count < 16
+  pub fits : fit (fqcsidWidths (v .«id_type») (v .count)) (fqcsidNumbers v) ≡ true
+
+fits-tests : (v : FqCsid) → T (allOf (fqcsidTests v)) → Fits v
+unfolding fqcsidTests
+fits-tests v h =
+    let t = each (fqcsidTests v) h in
+    let m : v .count < 16 = ltb→lt (v .count) 16 (t .1 .0) in
+    let k : v .«id_type» < 16 = ltb→lt (v .«id_type») 16 (t .0) in
+    let n : v .«node_type» < 16 = ltb→lt (v .«node_type») 16 (t .1 .1 .0) in
+    record {
+      few = m;
+      fits =
+          fit-split v
+          ∙ is-true _
+          (all-of-each (ltb (16 * v .«id_type» + v .count) 256 ∷ fit (addressWidths (v .«id_type»)) (addressNumbers v) ∷ fit (csidWidths (v .count)) (csidNumbers v) ∷ ltb (v .«node_type») 256 ∷ [])
+          (of-true (lt-ltb (16 * v .«id_type» + v .count) 256 (omega arith)), (t .1 .1 .1 .0, (t .1 .1 .1 .1 .0, (of-true (lt-ltb (v .«node_type») 256 (omega arith)), tt)))));
+    }
+
+pub fits-meant : (v : FqCsid) (x : Fqcsid) → fqcsidOf v ≡ some x → Fits v
+unfolding fqcsidOf
+fits-meant v x e = fits-tests v (picked (allOf (fqcsidTests v)) (fqcsidMeant v) x e .0)
+
+-- whether a struct means a value that is allowed, by the tests of the code
+pub record Right (v : FqCsid) : Type 0 where
+  pub kind : v .«id_type» ≤ 2
+  pub few : v .count < 16
+  pub rules : allOf (ruleTests v) ≡ true
+  pub fits : fit (fqcsidWidths (v .«id_type») (v .count)) (fqcsidNumbers v) ≡ true
+
+kept-small : (n : ℕ) → T (nodeTypeKept n) → n < 6
+unfolding nodeTypeKept
+kept-small n h = ltb→lt n 6 h
+
+pub right : (v : FqCsid) → T (allowedIn fqcsidAllowed (fqcsidOf v)) → Right v
+unfolding fqcsidOf fqcsidTests
+right v h =
+    let p = allowed-picked fqcsidAllowed (allOf (fqcsidTests v)) (fqcsidMeant v) h in
+    let t = each (fqcsidTests v) (p .0) in
+    let a = t .1 .1 .1 .0 in
+    let c = t .1 .1 .1 .1 .1 .0 in
+    let z = fits-tests v (p .0) in
+    let f = facts-of (v .count) (v .«id_type») (addressIn v) (csidsIn v) (v .«node_type») c (p .1) in
+    record {
+      kind = f .0;
+      few = z .few;
+      rules =
+          ap allOf (rules-are v (is-true _ a))
+          ∙ is-true _
+          (all-of-each (nodeTypeKept (v .«node_type») ∷ operatorAllowed (v .«id_type») (addressIn v) ∷ countAllowed (v .count) (v .«id_type») (addressIn v) ∷ [])
+          (f .1, (f .2, (c, tt))));
+      fits = z .fits;
+    }
+
+pub right-allowed : (v : FqCsid) → Right v → allowedIn fqcsidAllowed (fqcsidOf v) ≡ true
+right-allowed v r =
+    let g = each (ltb (16 * v .«id_type» + v .count) 256 ∷ fit (addressWidths (v .«id_type»)) (addressNumbers v) ∷ fit (csidWidths (v .count)) (csidNumbers v) ∷ ltb (v .«node_type») 256 ∷ [])
+    (of-true (sym (fit-split v) ∙ r .fits)) in
+    let a = is-true _ (g .1 .0) in
+    let k = each (nodeTypeKept (v .«node_type») ∷ operatorAllowed (v .«id_type») (addressIn v) ∷ countAllowed (v .count) (v .«id_type») (addressIn v) ∷ [])
+    (of-true (sym (ap allOf (rules-are v a)) ∙ r .rules)) in
+    let kind : v .«id_type» ≤ 2 = r .kind in
+    let small = kept-small (v .«node_type») (k .0) in
+    ap (allowedIn fqcsidAllowed) (meant v (omega arith) (r .few) (omega arith) a (is-true _ (g .1 .1 .0)) (is-true _ (k .1 .1 .0)))
+    ∙ is-true _
+    (allowed-from (v .count) (v .«id_type») (addressIn v) (fieldOctets (csidWidths (v .count)) (csidNumbers v)) (v .«node_type») (r .kind) (k .0) (k .1 .0) (length-address v)
+    (octets-fieldOctets (addressWidths (v .«id_type»)) (addressNumbers v)) (octets-fieldOctets (csidWidths (v .count)) (csidNumbers v)) (length-words v (r .few)) (r .few))
+
+pub not-right : (v : FqCsid) → (Right v → ⊥) → allowedIn fqcsidAllowed (fqcsidOf v) ≡ false
+not-right v f = never _ (λ h. f (right v h))
+
+pub right-where : (v : FqCsid) → v .«id_type» ≤ 2 → v .count < 16 → allOf (ruleTests v) ≡ true
+    → fit (fqcsidWidths (v .«id_type») (v .count)) (fqcsidNumbers v) ≡ allowedIn fqcsidAllowed (fqcsidOf v)
+right-where v h i j =
+    just-where _ _ (λ f. of-true (right-allowed v (record { kind = h; few = i; rules = j; fits = is-true _ f }))) (λ a. of-true (right v a .fits))
+
+-- ---- what the writer leaves: ws the widths as the code has them
+
+module _ (v : FqCsid) (s : List ℕ) where
+  pub write-refused : allowedIn fqcsidAllowed (fqcsidOf v) ≡ false → record { count = 0; space = s } ≡ writeMeant writeFqcsid (fqcsidOf v) s
+  unfolding writeFqcsid
+  write-refused h = not-allowed fqcsidAllowed fqcsidOctets s (fqcsidOf v) h
+
+  module _ (ws : List ℕ) (w : ws ≡ fqcsidWidths (v .«id_type») (v .count)) where
+    length-octets : widthOf ws ≡ length (fieldOctets (fqcsidWidths (v .«id_type») (v .count)) (fqcsidNumbers v))
+    length-octets = rw w (sym (length-fieldOctets (fqcsidWidths (v .«id_type») (v .count)) (fqcsidNumbers v) (sym (eight-widths (v .«id_type») (v .count)))))
+
+    pub write-no-room : length s < widthOf ws → record { count = 0; space = s } ≡ writeMeant writeFqcsid (fqcsidOf v) s
+    unfolding writeFqcsid
+    write-no-room l =
+        no-room fqcsidAllowed fqcsidOctets s (fieldOctets (fqcsidWidths (v .«id_type») (v .count)) (fqcsidNumbers v)) (fqcsidOf v) (fqcsid-octets v) (rw length-octets at l)
+
+    pub write-done : (t : List ℕ) → allowedIn fqcsidAllowed (fqcsidOf v) ≡ true → widthOf ws ≤ length s → t ≡ put 0 (fieldOctets ws (fqcsidNumbers v)) s
+        → record { count = widthOf ws; space = t } ≡ writeMeant writeFqcsid (fqcsidOf v) s
+    unfolding writeFqcsid
+    write-done t ok l q =
+        done fqcsidAllowed fqcsidOctets s (fieldOctets (fqcsidWidths (v .«id_type») (v .count)) (fqcsidNumbers v)) (fqcsidOf v) (fqcsid-octets v) ok (widthOf ws) t length-octets l
+        (rw (← w) q)
+
+-- ---- what callers ask of a value, by the struct that means it
+
+-- the value, and its node type
+pub fqcsid-is : (v : FqCsid) (x : Fqcsid) → fqcsidOf v ≡ some x → x ≡ fqcsidMeant v
+unfolding fqcsidOf
+fqcsid-is v x e = picked (allOf (fqcsidTests v)) (fqcsidMeant v) x e .1
+
+csids-meant : (v : FqCsid) (x : Fqcsid) → fqcsidOf v ≡ some x → fit (csidWidths (v .count)) (csidNumbers v) ≡ true
+unfolding fqcsidOf fqcsidTests
+csids-meant v x e = is-true _ (each (fqcsidTests v) (picked (allOf (fqcsidTests v)) (fqcsidMeant v) x e .0) .1 .1 .1 .1 .0)
+
+node-of : (m t : ℕ) (a cs : List ℕ) (n : ℕ) → nodeOf (csidFields m t a cs n) ≡ n
+unfolding nodeOf csidFields
+node-of zero t a cs n = refl
+node-of (suc m) t a cs n = refl
+
+pub fqcsid-node : (v : FqCsid) (x : Fqcsid) → fqcsidOf v ≡ some x → nodeOf x ≡ v .«node_type»
+fqcsid-node v x e = ap nodeOf (fqcsid-is v x e) ∙ node-of (v .count) (v .«id_type») (addressIn v) (csidsIn v) (v .«node_type»)
+
+-- a single CSID
+single : (t : ℕ) (a : List ℕ) (c d e f n : ℕ) → fit (csidWidths 1) (c ∷ d ∷ e ∷ f ∷ []) ≡ true
+    → csidFields 1 t a (csidsAt 1 (fieldOctets (csidWidths 1) (c ∷ d ∷ e ∷ f ∷ []))) n ≡ sets t a (c ∷ []) n
+unfolding csidFields csidsAt csidWidths fieldOctets be slices
+single t a c d e f n h =
+    let l : c < 256 ^ 2 = fit-at 0 (csidWidths 1) (c ∷ d ∷ e ∷ f ∷ []) (lit< tt) h in
+    ap (λ (k : ℕ). sets t a (k ∷ []) n) (number-be 2 c l)
+
+pub fqcsid-single : (v : FqCsid) (x : Fqcsid) → fqcsidOf v ≡ some x → v .count ≡ 1 → x ≡ sets (v .«id_type») (addressIn v) (v .«csids_1» ∷ []) (v .«node_type»)
+fqcsid-single v x e one =
+    fqcsid-is v x e
+    ∙ rw one (single (v .«id_type») (addressIn v) (v .«csids_1») (v .«csids_2») (v .«csids_3») (v .«csids_4») (v .«node_type») (rw one at (csids-meant v x e)))
+
+-- the reader's answer, where its case is known: a struct means the value that the rules answer, and a refusal is theirs
+pub answer-value : {a : Answer} {v : FqCsid} {y : rules.Answer Fqcsid} → a ≡ Value v → answerOf a ≡ some y → ReadAs (fqcsidOf v) y
+answer-value {a} {v} {y} p q = read-as (fqcsidOf v) y (sym (ap answerOf p) ∙ q)
+
+pub answer-refused : {a : Answer} {r : Refusal} {y : rules.Answer Fqcsid} → a ≡ Refused r → answerOf a ≡ some y → y ≡ refuse (refusalOf r)
+answer-refused p q = sym (some-same (sym (ap answerOf p) ∙ q))

@@ -1,0 +1,50 @@
+-- `element::fteid::write` meets its contract: at each return the tests that led there say what the rules leave.
+-- Assumes nothing.
+use mathlib.Core.Path.{sym, _∙_}
+use borrow.Author.Needs.{needs}
+use borrow.Author.Tests.{not-true, not-false}
+use native.Mathlib.Omega.{arith}
+use Rattle.element.proofs.FTeidLaws.{narrow-widths, write-refused, write-no-room, write-done}
+use Rattle.element.proofs.fteid.write.Statement.{statement}
+use Rattle.element.proofs.fteid.write.Tie as tie
+
+returns : tie.Need-returns
+returns c =
+    let a = c .before .before .before .args in
+    write-refused (a .endpoint) (a .v) (a .out .now) (sym (c .before .is-allowed .ensures) ∙ not-true (c .before .is-allowed .result) (c .if1 .taken))
+
+width-requires : tie.Need-width-requires
+width-requires c κs = rw (c .before .widths-of .ensures) (narrow-widths _)
+
+returns-2 : tie.Need-returns-2
+returns-2 c =
+    let w = c .before .before .before in
+    let a = w .before .before .before .before .args in
+    write-no-room (a .endpoint) (a .v) (a .out .now) (w .widths-of .result) (w .widths-of .ensures) (omega arith)
+
+returns-3 : tie.Need-returns-3
+returns-3 c =
+    let i = c .before .before .before .before .before .before in
+    let w = i .before .before .before in
+    let b = w .before .before in
+    let a = b .before .before .args in
+    rw (i .before .width .ensures)
+    (write-done (a .endpoint) (a .v) (a .out .now) (w .widths-of .result) (w .widths-of .ensures) (c .before .before .write-fields .last .0)
+    (sym (b .is-allowed .ensures) ∙ not-false (b .is-allowed .result) (w .before .if1 .left)) (omega (arith, i .if2 .left, i .before .width .ensures))
+    (c .before .before .write-fields .ensures))
+
+pub write-spec : {M : Type 1} → statement M
+write-spec =
+    tie.close
+    (tie.spec
+    (λ c κs. search needs)
+    returns
+    (λ c κs. search needs)
+    (λ c. search needs)
+    width-requires
+    returns-2
+    (λ c. search needs)
+    (λ c. search needs)
+    (λ c κs. search needs)
+    (λ c. search needs)
+    returns-3)

@@ -1,0 +1,5 @@
+-- `Answers`: what the readers and writers answer, in the rules' terms. `FTeid`, `FqCsid`, `FSeid`: what the structs mean.
+pub mod Answers
+pub mod FTeid
+pub mod FqCsid
+pub mod FSeid

@@ -1,0 +1,67 @@
+// F-SEID (TS 29.244, clause 8.2.37): the value octets, read and written. V6 is bit 1 of the flags and V4 bit 2, the other
+// way round than in an F-TEID.
+use crate::Refusal;
+use crate::Written;
+ghost use mathlib.Core.Path.{_≡_};
+ghost use mathlib.Core.Bool.{not};
+ghost use mathlib.Core.List.{[]};
+ghost use lib.Dec.{eqb};
+ghost use Rattle.octets.specs.Octets.{be};
+ghost use Rattle.rules.specs.Elements.{readFseid, fseidOctets, writeIf};
+ghost use Rattle.element.specs.Answers.{left};
+ghost use Rattle.element.specs.FSeid.{answerOf, causeIn};
+
+// The SEID, or why the value is refused.
+pub enum Answer {
+    Value(u64),
+    Refused(Refusal),
+}
+
+// Reads a value, of which only the SEID is kept. Octets after it and other flags are ignored.
+pub fn read(s: &[u8]) -> Answer
+    ensures { λ r. ⌜ answerOf r ≡ readFseid (now (s .entry)) ⌝ }
+{
+    if s.len() == 0 {
+        return Answer::Refused(Refusal::TooShort);
+    }
+    let v6 = (s[0] % 2) as usize;
+    let v4 = (s[0] / 2 % 2) as usize;
+    if v4 + v6 == 0 {
+        return Answer::Refused(Refusal::Incorrect);
+    }
+    if s.len() < 9 + 4 * v4 + 16 * v6 {
+        return Answer::Refused(Refusal::TooShort);
+    }
+    let seid = octets::read(s, 1, 8);
+    if seid == 0 {
+        return Answer::Refused(Refusal::Incorrect);
+    }
+    Answer::Value(seid)
+}
+
+// Writes a value with an IPv4 address at the start of out, or refuses a SEID of 0, or too little space, and writes nothing.
+// Octets after it stay.
+pub fn write(seid: u64, ipv4: u32, out: &mut [u8]) -> Written
+    ensures { λ r. ⌜ left r (now (out .exit)) ≡ writeIf (not (eqb seid 0)) (fseidOctets seid (be 4 ipv4) []) (now (out .entry)) ⌝ }
+{
+    if seid == 0 {
+        return Written::Refused;
+    }
+    if out.len() < 13 {
+        return Written::Refused;
+    }
+    octets::write(out, 0, 1, 2);
+    octets::write(out, 1, 8, seid);
+    octets::write(out, 9, 4, ipv4 as u64);
+    Written::Octets(13)
+}
+
+// The cause of the reply for a refusal, and 0 for a value.
+pub fn cause_of(a: Answer) -> u64
+    ensures { λ r. ⌜ r ≡ causeIn a ⌝ }
+{
+    match a {
+        Answer::Value(_) => 0,
+        Answer::Refused(refusal) => crate::cause_of(refusal),
+    }
+}

@@ -1,0 +1,2 @@
+-- `First`: the first refusal of two answers.
+pub mod First
