@@ -1,0 +1,188 @@
+-- The elements of octets by the one at the front, and lists of elements by their first one. Assumes nothing.
+use mathlib.Core.Path.{_≡_, refl, sym, ap, _∙_}
+use Prim.Native.Nat.{ℕ, zero, suc, _+_, _-_, _≤_, _<_}
+use native.Mathlib.Nat.{le-refl, le-trans, le-of-eq, not-suc-le-zero}
+use native.Mathlib.Omega.{arith}
+use mathlib.Core.Bool.{Bool, true, false, not, _||_}
+use mathlib.Core.List.{List, [], _∷_}
+use lib.ListN.{length, take, drop, length-drop, drop-of-length-le}
+use lib.Seq.{take-all}
+use lib.Dec.{ltb, eqb}
+use borrow.Author.Tests.{lt-ltb, le-ltb, eq-eqb, ne-eqb, ltb-true, ltb-false}
+use Rattle.octets.specs.Choice.{pick, valueOr}
+use Rattle.octets.specs.Octets.{part, number, numberAt}
+use Rattle.octets.specs.Lists.{keep, any, findBy}
+use Rattle.rules.specs.Message.{Element, elementType, elementLength, elementsUpTo, elements, hasType, there, contentOf}
+use Rattle.frame.proofs.Walk.{part-from}
+use Rattle.elements.specs.FirstOf.{firstOf}
+use Rattle.elements.specs.declared.First.the-variants as first
+
+abbrev pub el : ℕ → List ℕ → Element
+el t v = record { type = t; content = v }
+
+-- ---- any count that is large enough gives the same
+
+shorter : (e n : ℕ) (xs : List ℕ) → length xs ≤ suc n → length (drop (4 + e) xs) ≤ n
+shorter e n xs h = le-trans (le-of-eq (length-drop (4 + e) xs)) (omega arith)
+
+enough : (n k : ℕ) (xs : List ℕ) → length xs ≤ n → length xs ≤ k → elementsUpTo n xs ≡ elementsUpTo k xs
+unfolding elementsUpTo
+enough zero zero xs h g = refl
+enough zero (suc k) [] h g = refl
+enough zero (suc k) (x ∷ xs) h g = absurd (not-suc-le-zero h)
+enough (suc n) zero [] h g = refl
+enough (suc n) zero (x ∷ xs) h g = absurd (not-suc-le-zero g)
+enough (suc n) (suc k) xs h g =
+    ap (λ (more : List Element). pick (ltb (length xs) 4) [] (el (elementType xs) (part 4 (elementLength xs) xs) ∷ more))
+    (enough n k (drop (4 + elementLength xs) xs) (shorter (elementLength xs) n xs h) (shorter (elementLength xs) k xs g))
+
+by-front : (s : List ℕ) → elements s ≡ pick (ltb (length s) 4) [] (el (elementType s) (part 4 (elementLength s) s) ∷ elements (drop (4 + elementLength s) s))
+unfolding elements elementsUpTo
+by-front [] = refl
+by-front (x ∷ xs) =
+    ap (λ (more : List Element). pick (ltb (length (x ∷ xs)) 4) [] (el (elementType (x ∷ xs)) (part 4 (elementLength (x ∷ xs)) (x ∷ xs)) ∷ more))
+    (enough (length xs) _ _ (shorter (elementLength (x ∷ xs)) (length xs) (x ∷ xs) (le-refl _)) (le-refl _))
+
+-- ---- the element at the front
+
+-- the element takes 4 octets at least, lies within the octets, and is the first of their elements
+pub record Front (s : List ℕ) (t e : ℕ) : Type 0 where
+  pub low : 4 ≤ e
+  pub high : e ≤ length s
+  pub less : length (take (length s - e) (drop e s)) < length s
+  pub cons : elements s ≡ el t (take (e - 4) (drop 4 s)) ∷ elements (take (length s - e) (drop e s))
+
+pub none-left : (s : List ℕ) → first.Done ≡ firstOf s → elements s ≡ []
+unfolding firstOf
+none-left s = go (ltb (length s) 4) (ltb (length s) (4 + elementLength s)) refl
+  where
+    go : (a b : Bool) → ltb (length s) 4 ≡ a → first.Done ≡ pick a first.Done (pick b (first.Element (elementType s) (length s)) (first.Element (elementType s) (4 + elementLength s))) → elements s ≡ []
+    go true b p h = by-front s ∙ rw p
+    go false true p h = let z : _≡_ {A = ℕ} 0 1 = cc in absurd (omega arith)
+    go false false p h = let z : _≡_ {A = ℕ} 0 1 = cc in absurd (omega arith)
+
+front-at : (s : List ℕ) (t e : ℕ) → 4 ≤ e → e ≤ length s → t ≡ elementType s → part 4 (elementLength s) s ≡ take (e - 4) (drop 4 s) → drop (4 + elementLength s) s ≡ drop e s → Front s t e
+front-at s t e low high p q r = record {
+  low = low;
+  high = high;
+  less = rw (part-from e s, length-drop) (omega arith);
+  cons = by-front s ∙ rw (le-ltb (length s) 4 (omega arith), q, r, ← p, part-from e s);
+}
+
+pub front : (s : List ℕ) (t e : ℕ) → first.Element t e ≡ firstOf s → Front s t e
+unfolding firstOf
+front s t e = go (ltb (length s) 4) (ltb (length s) (4 + elementLength s)) refl refl
+  where
+    go : (a b : Bool) → ltb (length s) 4 ≡ a → ltb (length s) (4 + elementLength s) ≡ b
+        → first.Element t e ≡ pick a first.Done (pick b (first.Element (elementType s) (length s)) (first.Element (elementType s) (4 + elementLength s))) → Front s t e
+    go true b p q h = let z : _≡_ {A = ℕ} 0 1 = cc in absurd (omega arith)
+    go false true p q h =
+        let m : t ≡ elementType s = cc in
+        let n : e ≡ length s = cc in
+        let low : 4 ≤ length s = ltb-false (length s) 4 p in
+        let over : length s < 4 + elementLength s = ltb-true (length s) (4 + elementLength s) q in
+        front-at s t e (omega arith) (omega arith) m
+        (take-all (elementLength s) (drop 4 s) (rw length-drop (omega arith)) ∙ sym (take-all (e - 4) (drop 4 s) (rw length-drop (omega arith))))
+        (drop-of-length-le s {i = 4 + elementLength s} (omega arith) ∙ sym (drop-of-length-le s {i = e} (omega arith)))
+    go false false p q h =
+        let m : t ≡ elementType s = cc in
+        let n : e ≡ 4 + elementLength s = cc in
+        let low : 4 ≤ length s = ltb-false (length s) 4 p in
+        let whole : 4 + elementLength s ≤ length s = ltb-false (length s) (4 + elementLength s) q in
+        let k : elementLength s ≡ e - 4 = omega arith in
+        front-at s t e (omega arith) (omega arith) m (ap (λ (i : ℕ). take i (drop 4 s)) k) (ap (λ (i : ℕ). drop i s) (sym n))
+
+-- the octets after the element at the front
+abbrev pub behind : List ℕ → ℕ → List ℕ
+behind s e = take (length s - e) (drop e s)
+
+-- how many elements pass a test; have a type
+abbrev pub countBy : (Element → Bool) → List Element → ℕ
+countBy p es = length (keep p es)
+
+abbrev pub countOf : ℕ → List Element → ℕ
+countOf kind es = countBy (hasType kind) es
+
+-- the value of the first of a type
+abbrev pub valueIn : ℕ → List Element → List ℕ
+valueIn kind es = valueOr [] (contentOf kind es)
+
+module _ (p : Element → Bool) (e : Element) (es : List Element) where
+  count-yes : p e ≡ true → countBy p (e ∷ es) ≡ countBy p es + 1
+  unfolding keep
+  count-yes h = rw h (omega arith)
+
+  count-no : p e ≡ false → countBy p (e ∷ es) ≡ countBy p es
+  unfolding keep
+  count-no h = rw h
+
+pub count-none : (p : Element → Bool) → countBy p [] ≡ 0
+unfolding keep
+count-none p = refl
+
+module _ (kind t : ℕ) (v : List ℕ) where
+  pub type-same : t ≡ kind → hasType kind (el t v) ≡ true
+  unfolding hasType
+  type-same h = eq-eqb t kind h
+
+  pub type-other : (t ≡ kind → ⊥) → hasType kind (el t v) ≡ false
+  unfolding hasType
+  type-other h = ne-eqb t kind h
+
+module _ (kind t : ℕ) (v : List ℕ) (es : List Element) where
+  pub value-same : t ≡ kind → valueIn kind (el t v ∷ es) ≡ v
+  unfolding contentOf findBy hasType
+  value-same h = rw (eq-eqb t kind h)
+
+  pub value-other : (t ≡ kind → ⊥) → valueIn kind (el t v ∷ es) ≡ valueIn kind es
+  unfolding contentOf findBy hasType
+  value-other h = rw (ne-eqb t kind h)
+
+pub value-none : (kind : ℕ) → valueIn kind [] ≡ []
+unfolding contentOf findBy
+value-none kind = refl
+
+-- an element is there where there is not none
+pub there-count : (kind : ℕ) (es : List Element) → not (eqb (countOf kind es) 0) ≡ there kind es
+unfolding there any keep
+there-count kind [] = refl
+there-count kind (e ∷ es) = by-test (hasType kind e) (there-count kind es)
+  where
+    by-test : (b : Bool) → not (eqb (countOf kind es) 0) ≡ any (hasType kind) es
+        → not (eqb (length (pick b (e ∷ keep (hasType kind) es) (keep (hasType kind) es))) 0) ≡ (b || any (hasType kind) es)
+    by-test true h = rw (ne-eqb (suc (countOf kind es)) 0 (λ z. absurd (omega arith)))
+    by-test false h = h
+
+-- ---- the laws of the functions
+
+pub first-short : (s : List ℕ) → length s < 4 → first.Done ≡ firstOf s
+unfolding firstOf
+first-short s h = rw (lt-ltb (length s) 4 h)
+
+module _ (s : List ℕ) (long : 4 ≤ length s) (t n : ℕ) (type : t ≡ number (part 0 2 s)) (size : n ≡ number (part 2 2 s)) where
+  pub first-over : length s < 4 + n → first.Element t (length s) ≡ firstOf s
+  unfolding firstOf elementType elementLength numberAt
+  first-over h = rw (le-ltb (length s) 4 long, ← size, lt-ltb (length s) (4 + n) h, type)
+
+  pub first-whole : 4 + n ≤ length s → first.Element t (4 + n) ≡ firstOf s
+  unfolding firstOf elementType elementLength numberAt
+  first-whole h = rw (le-ltb (length s) 4 long, ← size, le-ltb (length s) (4 + n) h, type)
+
+-- a turn of a loop over the elements
+module _ {s : List ℕ} {t e : ℕ} (f : Front s t e) (p : Element → Bool) where
+  pub counted : {a : ℕ} (n : ℕ) → a ≡ n + countBy p (elements s) → p (el t (take (e - 4) (drop 4 s))) ≡ true → a ≡ n + 1 + countBy p (elements (behind s e))
+  counted {a} n h q =
+      let k : countBy p (elements s) ≡ countBy p (elements (behind s e)) + 1 = ap (countBy p) (f .cons) ∙ count-yes p _ _ q in
+      omega arith
+
+  pub uncounted : {a : ℕ} (n : ℕ) → a ≡ n + countBy p (elements s) → p (el t (take (e - 4) (drop 4 s))) ≡ false → a ≡ n + countBy p (elements (behind s e))
+  uncounted {a} n h q =
+      let k : countBy p (elements s) ≡ countBy p (elements (behind s e)) = ap (countBy p) (f .cons) ∙ count-no p _ _ q in
+      omega arith
+
+module _ {s : List ℕ} {t e : ℕ} (f : Front s t e) (kind : ℕ) where
+  pub found : {a : List ℕ} → a ≡ valueIn kind (elements s) → t ≡ kind → take (e - 4) (drop 4 s) ≡ a
+  found h q = sym (h ∙ ap (valueIn kind) (f .cons) ∙ value-same kind t _ _ q)
+
+  pub passed : {a : List ℕ} → a ≡ valueIn kind (elements s) → (t ≡ kind → ⊥) → a ≡ valueIn kind (elements (behind s e))
+  passed h q = h ∙ ap (valueIn kind) (f .cons) ∙ value-other kind t _ _ q

@@ -1,0 +1,2 @@
+-- `FirstOf`: the element at the front of some octets.
+pub mod FirstOf

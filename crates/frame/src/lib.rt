@@ -1,0 +1,82 @@
+// The frame of a message: its header (header.rt), and stage 2, the framing of its elements and groups.
+ghost use mathlib.Core.Path.{_≡_};
+ghost use Rattle.octets.specs.Lists.{member};
+ghost use Rattle.rules.specs.Message.{opened, frame, frameFault};
+ghost use Rattle.frame.specs.Framed.{faultIn};
+
+pub mod header;
+
+// What the framing of a message or of a group finds.
+pub enum Framing {
+    Framed,
+    // The type at fault: of an element that runs past its end, or of the group (0: the message) where under 4 octets are left.
+    Fault(u64),
+}
+
+// Whether an element of type kind is a group that is opened at the place group (0: the message) of a message of type message.
+fn opens(message: u64, group: u64, kind: u64) -> bool
+    ensures { λ r. ⌜ r ≡ member kind (opened message group) ⌝ }
+{
+    match kind {
+        // Vendor elements.
+        32768..=65535 => false,
+        1 | 127 => match group {
+            0 => match message {
+                50 | 52 => true,
+                _ => false,
+            },
+            _ => false,
+        },
+        9 | 15 | 130 => match group {
+            0 => match message {
+                52 => true,
+                _ => false,
+            },
+            _ => false,
+        },
+        2 => match group {
+            1 | 9 => true,
+            _ => false,
+        },
+        _ => false,
+    }
+}
+
+// The first fault in the framing of s, the value of the group or (group 0) the elements of the message, with so many depths left.
+// A group's value is handed on as a part of s.
+fn first_fault(s: &[u8], message: u64, group: u64, depth: u64) -> Framing
+    ensures { λ r. ⌜ faultIn r ≡ frame depth message group (now (s .entry)) ⌝ }
+{
+    if depth == 0 {
+        return Framing::Framed;
+    }
+    let mut rest = s;
+    while 0 < rest.len() {
+        if rest.len() < 4 {
+            return Framing::Fault(group);
+        }
+        let kind = octets::read(rest, 0, 2);
+        let end = 4 + octets::read(rest, 2, 2) as usize;
+        if rest.len() < end {
+            return Framing::Fault(kind);
+        }
+        if opens(message, group, kind) {
+            let inner = first_fault(&rest[4..end], message, kind, depth - 1);
+            let Framing::Framed = inner else {
+                return inner;
+            };
+        }
+        rest = &rest[end..];
+    }
+    Framing::Framed
+}
+
+// Stage 2 of a message, the header of which is allowed: groups nest at most three deep, the message counted.
+pub fn frame_fault(msg: &[u8]) -> Framing
+    ensures { λ r. ⌜ faultIn r ≡ frameFault (now (msg .entry)) ⌝ }
+{
+    if msg.len() < 16 {
+        return Framing::Framed;
+    }
+    first_fault(&msg[16..], octets::read(msg, 1, 1), 0, 3)
+}

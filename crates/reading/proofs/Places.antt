@@ -1,0 +1,136 @@
+-- The tables of 01's Places by the keys of the arms that hold them. Assumes nothing.
+use mathlib.Core.Path.{_≡_, refl, sym, ap, subst, _∙_}
+use mathlib.Core.Logic.{inl, inr}
+use Prim.Native.Nat.{ℕ}
+use mathlib.Core.Bool.{Bool, true, false, _||_}
+use mathlib.Core.List.{List, [], _∷_}
+use lib.Dec.{T, eqb}
+use borrow.Author.Tests.{eq-eqb, ne-eqb, eqb-true}
+use Rattle.octets.specs.Lists.{member, allIn}
+use Rattle.octets.proofs.Tests.{is-true, and-left, and-right}
+use Rattle.rules.specs.Elements.{missing, conditional}
+use Rattle.rules.specs.Message.{placesOf, required, requiredOf, widthOf, actedOn}
+use Rattle.frame.proofs.Among.{OneOf}
+use Rattle.reading.specs.Members.{isPdi}
+
+-- the keys of an arm are in a list; none of them is, so that all of the list is among the keys
+pub keys-in : (t a : ℕ) (bs ls : List ℕ) → T (allIn (a ∷ bs) ls) → OneOf t a bs → member t ls ≡ true
+unfolding allIn
+keys-in t a [] ls h e = ap (λ (k : ℕ). member k ls) e ∙ is-true (member a ls) (and-left (member a ls) true h)
+keys-in t a (b ∷ bs) ls h (inl e) = ap (λ (k : ℕ). member k ls) e ∙ is-true (member a ls) (and-left (member a ls) (allIn (b ∷ bs) ls) h)
+keys-in t a (b ∷ bs) ls h (inr e) = keys-in t b bs ls (and-right (member a ls) (allIn (b ∷ bs) ls) h) e
+
+pub one-of : (t a : ℕ) (bs : List ℕ) → T (member t (a ∷ bs)) → OneOf t a bs
+unfolding member
+one-of t a [] h = by-test (eqb t a) (eqb-true t a) h
+  where
+    by-test : (b : Bool) → (b ≡ true → t ≡ a) → T (b || false) → t ≡ a
+    by-test true e h = e refl
+    by-test false e h = absurd h
+one-of t a (b ∷ bs) h = by-test (eqb t a) (eqb-true t a) (λ k. one-of t b bs k) h
+  where
+    by-test : (x : Bool) → (x ≡ true → t ≡ a) → (T (member t (b ∷ bs)) → OneOf t b bs) → T (x || member t (b ∷ bs)) → OneOf t a (b ∷ bs)
+    by-test true e f h = inl (e refl)
+    by-test false e f h = inr (f h)
+
+pub keys-out : (t a : ℕ) (bs ls : List ℕ) → T (allIn ls (a ∷ bs)) → (OneOf t a bs → ⊥) → member t ls ≡ false
+unfolding allIn member
+keys-out t a bs [] h n = refl
+keys-out t a bs (l ∷ ls) h n =
+    let k : T (member l (a ∷ bs)) = and-left (member l (a ∷ bs)) (allIn ls (a ∷ bs)) h in
+    rw (ne-eqb t l (λ e. n (one-of t a bs (subst (λ (i : ℕ). T (member i (a ∷ bs))) (sym e) k))))
+    (keys-out t a bs ls (and-right (member l (a ∷ bs)) (allIn ls (a ∷ bs)) h) n)
+
+-- the keys of two arms, the second with one key
+pub keys-out-2 : (t a x : ℕ) (bs ls : List ℕ) → T (allIn ls (x ∷ a ∷ bs)) → (OneOf t a bs → ⊥) → (t ≡ x → ⊥) → member t ls ≡ false
+keys-out-2 t a x bs ls h m n = keys-out t x (a ∷ bs) ls h none-of
+  where
+    none-of : OneOf t x (a ∷ bs) → ⊥
+    none-of (inl e) = n e
+    none-of (inr e) = m e
+
+-- membership in a list that is known
+pub in-place : {b : Bool} (t : ℕ) (ps qs : List ℕ) → qs ≡ ps → member t ps ≡ b → b ≡ member t qs
+in-place t ps qs e h = sym (ap (member t) e ∙ h)
+
+module _ (g : ℕ) where
+  pub in-pdr : OneOf g 1 (9 ∷ []) → placesOf g ≡ 56 ∷ 29 ∷ 2 ∷ 108 ∷ []
+  unfolding placesOf
+  in-pdr (inl e) = rw e
+  in-pdr (inr e) = rw e
+
+  pub in-pdi : g ≡ 2 → placesOf g ≡ 20 ∷ 21 ∷ 131 ∷ []
+  unfolding placesOf
+  in-pdi e = rw e
+
+  pub in-endpoint : g ≡ 127 → placesOf g ≡ 131 ∷ 21 ∷ []
+  unfolding placesOf
+  in-endpoint e = rw e
+
+  pub in-removal : g ≡ 15 → placesOf g ≡ 56 ∷ []
+  unfolding placesOf
+  in-removal e = rw e
+
+  pub in-other : (OneOf g 1 (9 ∷ []) → ⊥) → (g ≡ 2 → ⊥) → (g ≡ 127 → ⊥) → (g ≡ 15 → ⊥) → placesOf g ≡ 131 ∷ []
+  unfolding placesOf
+  in-other a b d e = rw (ne-eqb g 1 (λ h. a (inl h)), ne-eqb g 9 (λ h. a (inr h)), ne-eqb g 2 b, ne-eqb g 127 d, ne-eqb g 15 e)
+
+  -- what a group requires
+  pub of-create : g ≡ 1 → requiredOf g ≡ required missing 2 ∷ required missing 29 ∷ required missing 56 ∷ []
+  unfolding requiredOf
+  of-create e = rw e
+
+  pub of-pdi : g ≡ 2 → requiredOf g ≡ required missing 20 ∷ []
+  unfolding requiredOf
+  of-pdi e = rw e
+
+  pub of-endpoint : g ≡ 127 → requiredOf g ≡ required conditional 21 ∷ required missing 131 ∷ []
+  unfolding requiredOf
+  of-endpoint e = rw e
+
+  pub of-pdr : OneOf g 9 (15 ∷ []) → requiredOf g ≡ required missing 56 ∷ []
+  unfolding requiredOf
+  of-pdr (inl e) = rw e
+  of-pdr (inr e) = rw e
+
+  pub of-other : (g ≡ 1 → ⊥) → (g ≡ 2 → ⊥) → (g ≡ 127 → ⊥) → (OneOf g 9 (15 ∷ []) → ⊥) → requiredOf g ≡ required missing 131 ∷ []
+  unfolding requiredOf
+  of-other a b d e = rw (ne-eqb g 1 a, ne-eqb g 2 b, ne-eqb g 127 d, ne-eqb g 9 (λ h. e (inl h)), ne-eqb g 15 (λ h. e (inr h)))
+
+module _ (t : ℕ) where
+  pub two-octets : t ≡ 56 → 2 ≡ widthOf t
+  unfolding widthOf
+  two-octets e = rw e
+
+  pub four-octets : OneOf t 29 (108 ∷ []) → 4 ≡ widthOf t
+  unfolding widthOf
+  four-octets (inl e) = rw e
+  four-octets (inr e) = rw e
+
+  pub one-octet : (t ≡ 56 → ⊥) → (OneOf t 29 (108 ∷ []) → ⊥) → 1 ≡ widthOf t
+  unfolding widthOf
+  one-octet a b = rw (ne-eqb t 56 a, ne-eqb t 29 (λ h. b (inl h)), ne-eqb t 108 (λ h. b (inr h)))
+
+module _ (g t : ℕ) where
+  pub not-create : (g ≡ 1 → ⊥) → false ≡ isPdi g t
+  unfolding isPdi
+  not-create h = rw (ne-eqb g 1 h)
+
+  pub in-create : g ≡ 1 → eqb t 2 ≡ isPdi g t
+  unfolding isPdi
+  in-create h = rw (eq-eqb g 1 h)
+
+-- ---- the elements that are acted on at the top
+
+module _ (m : ℕ) where
+  pub in-establishment : m ≡ 50 → actedOn m ≡ 57 ∷ 186 ∷ 1 ∷ 127 ∷ 65 ∷ []
+  unfolding actedOn
+  in-establishment e = rw e
+
+  pub in-modification : m ≡ 52 → actedOn m ≡ 1 ∷ 127 ∷ 9 ∷ 15 ∷ 130 ∷ 65 ∷ 129 ∷ []
+  unfolding actedOn
+  in-modification e = rw e
+
+  pub in-deletion : (m ≡ 50 → ⊥) → (m ≡ 52 → ⊥) → actedOn m ≡ 65 ∷ []
+  unfolding actedOn
+  in-deletion a b = rw (ne-eqb m 50 a, ne-eqb m 52 b)
