@@ -1,0 +1,211 @@
+-- The CHOOSEs of a plan's rows are those of the request that the rows mean, in the order in which TEIDs are given. Assumes nothing.
+use mathlib.Core.Path.{_≡_, refl, sym, ap, _∙_}
+use mathlib.Core.Bool.{Bool, true, false, _&&_, _||_}
+use mathlib.Core.Option.{Option, none, some}
+use mathlib.Core.List.{List, [], _∷_, _++_, map}
+use Prim.Native.Nat.{ℕ, zero, suc, _+_, _-_, _≤_}
+use native.Mathlib.Decide.{ℕ-discrete}
+use native.Mathlib.Omega.{arith}
+use borrow.Author.Tests.{eq-eqb, ne-eqb, eqb-true}
+use lib.Dec.{T, eqb, ltb}
+use lib.ListN.{length, drop, length-map}
+use lib.Seq.{take-all, drop-drop}
+use Rattle.octets.specs.Choice.{pick, bindOption, consOption}
+use Rattle.octets.specs.Octets.{bit, part, slices}
+use Rattle.octets.specs.Lists.{all, keep, collect}
+use Rattle.octets.proofs.Tests.{pick-yes, and-left, and-right, all-head, all-tail, all-cons, both}
+use Rattle.rules.specs.Elements.{given, choose}
+use Rattle.rules.specs.Message.{Request}
+use Rattle.rules.specs.Grants.{Kind, ofPdr, ofEndpoint, Choice, sameKind, choiceOf, endpointChoice, pdrChoice, choices}
+use Rattle.plan.specs.Rows.{rowWidth, word, rowsOf, hasTag, tagged, fteidFrom, rowFteid, rowLocal, rowPdr, rowEndpoint, requestIn}
+use Rattle.reply.specs.Rows.{kindIn}
+use Rattle.grants.specs.Choosing.{maxGrants, choosing, placesFrom, places, rowId, octet, rowChooseId, choiceIn, choiceAt}
+use Rattle.grants.proofs.PlaceLaws.{all-append}
+
+-- ---- of general use
+
+pub map-append : {A B : Type 0} (f : A → B) (xs ys : List A) → map f (xs ++ ys) ≡ map f xs ++ map f ys
+map-append f [] ys = refl
+map-append f (x ∷ xs) ys = ap (λ (l : List _). f x ∷ l) (map-append f xs ys)
+
+pub all-left : {A : Type 0} (p : A → Bool) (xs ys : List A) → T (all p (xs ++ ys)) → T (all p xs)
+unfolding all
+all-left p [] ys h = tt
+all-left p (x ∷ xs) ys h = all-cons p x xs (all-head p x (xs ++ ys) h) (all-left p xs ys (all-tail p x (xs ++ ys) h))
+
+pub all-right : {A : Type 0} (p : A → Bool) (xs ys : List A) → T (all p (xs ++ ys)) → T (all p ys)
+all-right p [] ys h = h
+all-right p (x ∷ xs) ys h = all-right p xs ys (all-tail p x (xs ++ ys) h)
+
+-- ---- bounds
+
+abbrev pub idIsOctet : Option ℕ → Bool
+idIsOctet none = true
+idIsOctet (some i) = ltb i 256
+
+-- a CHOOSE ID is one octet, and so is an endpoint's ID
+abbrev pub choiceFits : Choice → Bool
+choiceFits c = idIsOctet (c .chooseId) && (sameKind ofPdr (c .kind) || ltb (c .id) 256)
+
+-- a row's endpoint ID and CHOOSE ID are octets
+abbrev pub rowFits : List ℕ → Bool
+rowFits row = ltb (word 11 row) 256 && ltb (word 17 row) 256
+
+pub id-octet : (b : Bool) (c : ℕ) → T (ltb c 256) → T (idIsOctet (pick b (some c) none))
+id-octet true c h = h
+id-octet false c h = tt
+
+-- ---- one row
+
+-- the rules' CHOOSE of a row's F-TEID
+abbrev rowChoice : Kind → ℕ → List ℕ → Choice
+rowChoice k i row = record { kind = k; id = i; v4 = bit 0 (word 12 row); v6 = bit 1 (word 12 row); chooseId = pick (bit 3 (word 12 row)) (some (word 17 row)) none }
+
+fteid-choice : (k : Kind) (i : ℕ) (row : List ℕ) → choiceOf k i (rowFteid row) ≡ pick (bit 2 (word 12 row)) (some (rowChoice k i row)) none
+unfolding rowFteid fteidFrom
+fteid-choice k i row = one (bit 2 (word 12 row)) _ _ _ _ _ _
+  where
+    one : (b v4 v6 : Bool) (c : Option ℕ) (t : ℕ) (a h : List ℕ)
+        → choiceOf k i (pick b (choose v4 v6 c) (given t a h)) ≡ pick b (some (record { kind = k; id = i; v4 = v4; v6 = v6; chooseId = c })) none
+    one true v4 v6 c t a h = unfold choiceOf in refl
+    one false v4 v6 c t a h = unfold choiceOf in refl
+
+endpoint-choice : (row : List ℕ) → endpointChoice (rowEndpoint row) ≡ pick (bit 2 (word 12 row)) (some (rowChoice ofEndpoint (word 11 row) row)) none
+unfolding endpointChoice rowEndpoint
+endpoint-choice row = fteid-choice ofEndpoint (word 11 row) row
+
+no-choice : bit 2 0 ≡ false
+unfolding bit
+no-choice = refl
+
+pdr-choice : (row : List ℕ) → pdrChoice (rowPdr row) ≡ pick (bit 2 (word 12 row)) (some (rowChoice ofPdr (word 7 row) row)) none
+unfolding pdrChoice rowPdr rowLocal
+pdr-choice row = one (ℕ-discrete (word 12 row) 0)
+  where
+    one : Dec (word 12 row ≡ 0)
+        → bindOption (pick (eqb (word 12 row) 0) none (some (rowFteid row))) (choiceOf ofPdr (word 7 row)) ≡ pick (bit 2 (word 12 row)) (some (rowChoice ofPdr (word 7 row) row)) none
+    one (yes e) = rw (eq-eqb (word 12 row) 0 e) (sym (ap (λ (b : Bool). pick b (some (rowChoice ofPdr (word 7 row) row)) none) (ap (bit 2) e ∙ no-choice)))
+    one (no n) = rw (ne-eqb (word 12 row) 0 n) (fteid-choice ofPdr (word 7 row) row)
+
+octet-id : (b : Bool) (c : ℕ) → T (idIsOctet (pick b (some c) none)) → pick b (some c) none ≡ pick b (octet c) none
+octet-id true c h = sym (pick-yes (ltb c 256) (some c) none h)
+octet-id false c h = refl
+
+-- ---- the rows of one type
+
+module _ {A : Type 0} (g : A → Option Choice) (h : List ℕ → A) (tag : ℕ) (k : Kind) (idOf : List ℕ → ℕ)
+    (kinds : kindIn tag ≡ k) (ids : (row : List ℕ) → word 0 row ≡ tag → rowId row ≡ idOf row)
+    (values : (row : List ℕ) → g (h row) ≡ pick (bit 2 (word 12 row)) (some (rowChoice k (idOf row) row)) none) where
+  same-choice : (row : List ℕ) → word 0 row ≡ tag → T (choiceFits (rowChoice k (idOf row) row)) → rowChoice k (idOf row) row ≡ choiceIn row
+  unfolding choiceIn rowChooseId
+  same-choice row e f =
+      let o = octet-id (bit 3 (word 12 row)) (word 17 row) (and-left (idIsOctet (pick (bit 3 (word 12 row)) (some (word 17 row)) none)) _ f) in
+      let kind = sym kinds ∙ ap kindIn (sym e) in
+      let id = sym (ids row e) in
+      λ j. record { kind = kind j; id = id j; v4 = bit 0 (word 12 row); v6 = bit 1 (word 12 row); chooseId = o j }
+
+  pub tagged-choices : (rows : List (List ℕ)) → T (all choiceFits (collect g (map h (tagged tag rows)))) → collect g (map h (tagged tag rows)) ≡ map choiceIn (keep (choosing tag) rows)
+  unfolding tagged keep collect choosing
+  tagged-choices [] f = refl
+  tagged-choices (row ∷ rows) f = one (hasTag tag row) (bit 2 (word 12 row)) refl (values row) (λ f′. tagged-choices rows f′) f
+    where
+      one : (b d : Bool) → hasTag tag row ≡ b → g (h row) ≡ pick d (some (rowChoice k (idOf row) row)) none
+          → (T (all choiceFits (collect g (map h (tagged tag rows)))) → collect g (map h (tagged tag rows)) ≡ map choiceIn (keep (choosing tag) rows))
+          → T (all choiceFits (collect g (map h (pick b (row ∷ tagged tag rows) (tagged tag rows)))))
+          → collect g (map h (pick b (row ∷ tagged tag rows) (tagged tag rows))) ≡ map choiceIn (pick (b && d) (row ∷ keep (choosing tag) rows) (keep (choosing tag) rows))
+      one false d t v ih f′ = ih f′
+      one true true t v ih f′ =
+          let p = rw v at f′ in
+          let here = same-choice row (eqb-true (word 0 row) tag (unfold hasTag in t)) (all-head choiceFits _ _ p) in
+          let more = ih (all-tail choiceFits _ _ p) in
+          rw v (λ j. here j ∷ more j)
+      one true false t v ih f′ = rw v (ih (rw v at f′))
+
+  -- bounds of the rows are bounds of the choices
+  pub tagged-fit : ((row : List ℕ) → T (rowFits row) → T (sameKind ofPdr k || ltb (idOf row) 256)) → (rows : List (List ℕ)) → T (all rowFits rows)
+      → T (all choiceFits (collect g (map h (tagged tag rows))))
+  unfolding tagged keep collect all
+  tagged-fit fit [] f = tt
+  tagged-fit fit (row ∷ rows) f = one (hasTag tag row) (tagged-fit fit rows (all-tail rowFits row rows f))
+    where
+      this : T (choiceFits (rowChoice k (idOf row) row))
+      this =
+          let t = all-head rowFits row rows f in
+          both (idIsOctet (pick (bit 3 (word 12 row)) (some (word 17 row)) none)) (sameKind ofPdr k || ltb (idOf row) 256)
+          (id-octet (bit 3 (word 12 row)) (word 17 row) (and-right (ltb (word 11 row) 256) (ltb (word 17 row) 256) t)) (fit row t)
+
+      two : (d : Bool) → g (h row) ≡ pick d (some (rowChoice k (idOf row) row)) none → T (all choiceFits (collect g (map h (tagged tag rows))))
+          → T (all choiceFits (consOption (g (h row)) (collect g (map h (tagged tag rows)))))
+      two true v ih = rw v (all-cons choiceFits (rowChoice k (idOf row) row) (collect g (map h (tagged tag rows))) this ih)
+      two false v ih = rw v ih
+
+      one : (b : Bool) → T (all choiceFits (collect g (map h (tagged tag rows)))) → T (all choiceFits (collect g (map h (pick b (row ∷ tagged tag rows) (tagged tag rows)))))
+      one true ih = two (bit 2 (word 12 row)) (values row) ih
+      one false ih = ih
+
+-- ---- places and rows
+
+pub place-choices : (tag : ℕ) (plan : List ℕ) (left at : ℕ)
+    → map (choiceAt plan) (placesFrom tag at (slices rowWidth left (drop at plan))) ≡ map choiceIn (keep (choosing tag) (slices rowWidth left (drop at plan)))
+unfolding placesFrom keep slices
+place-choices tag plan zero at = refl
+place-choices tag plan (suc n) at =
+    one (choosing tag (part at rowWidth plan)) (slices rowWidth n (drop rowWidth (drop at plan)))
+    (ap (λ (l : List ℕ). map (choiceAt plan) (placesFrom tag (at + rowWidth) (slices rowWidth n l))) (drop-drop rowWidth at plan) ∙ place-choices tag plan n (at + rowWidth)
+    ∙ ap (λ (l : List ℕ). map choiceIn (keep (choosing tag) (slices rowWidth n l))) (sym (drop-drop rowWidth at plan)))
+  where
+    one : (b : Bool) (rows : List (List ℕ)) → map (choiceAt plan) (placesFrom tag (at + rowWidth) rows) ≡ map choiceIn (keep (choosing tag) rows)
+        → map (choiceAt plan) (pick b (at ∷ placesFrom tag (at + rowWidth) rows) (placesFrom tag (at + rowWidth) rows))
+        ≡ map choiceIn (pick b (part at rowWidth plan ∷ keep (choosing tag) rows) (keep (choosing tag) rows))
+    one true rows ih = unfold choiceAt in ap (λ (l : List Choice). choiceIn (part at rowWidth plan) ∷ l) ih
+    one false rows ih = ih
+
+-- the rows that choose: endpoints', then PDRs'
+unfoldable pub chosenRows : List (List ℕ) → List (List ℕ)
+chosenRows rows = keep (choosing 127) rows ++ keep (choosing 1) rows
+
+module _ (seid : ℕ) (restoring noted : Bool) (rows : List (List ℕ)) where
+  abbrev r : Request
+  r = requestIn seid restoring noted rows
+
+  pub request-choices : T (all choiceFits (choices r)) → choices r ≡ map choiceIn (chosenRows rows)
+  unfolding choices requestIn chosenRows
+  request-choices f =
+      let e = all-left choiceFits (collect endpointChoice (map rowEndpoint (tagged 127 rows))) (collect pdrChoice (map rowPdr (tagged 1 rows))) f in
+      let p = all-right choiceFits (collect endpointChoice (map rowEndpoint (tagged 127 rows))) (collect pdrChoice (map rowPdr (tagged 1 rows))) f in
+      let a = tagged-choices endpointChoice rowEndpoint 127 ofEndpoint (word 11) (unfold kindIn in refl) (λ row t. unfold rowId in rw t) endpoint-choice rows e in
+      let b = tagged-choices pdrChoice rowPdr 1 ofPdr (word 7) (unfold kindIn in refl) (λ row t. unfold rowId in rw t) pdr-choice rows p in
+      (λ j. a j ++ b j) ∙ sym (map-append choiceIn (keep (choosing 127) rows) (keep (choosing 1) rows))
+
+  pub choices-fit : T (all rowFits rows) → T (all choiceFits (choices r))
+  unfolding choices requestIn
+  choices-fit f =
+      all-append choiceFits (collect endpointChoice (map rowEndpoint (tagged 127 rows))) (collect pdrChoice (map rowPdr (tagged 1 rows)))
+      (tagged-fit endpointChoice rowEndpoint 127 ofEndpoint (word 11) (unfold kindIn in refl) (λ row t. unfold rowId in rw t) endpoint-choice
+      (λ row t. unfold sameKind in and-left (ltb (word 11 row) 256) (ltb (word 17 row) 256) t) rows f)
+      (tagged-fit pdrChoice rowPdr 1 ofPdr (word 7) (unfold kindIn in refl) (λ row t. unfold rowId in rw t) pdr-choice (λ row t. unfold sameKind in tt) rows f)
+
+-- the CHOOSEs at a plan's places are the request's
+module _ (seid : ℕ) (restoring noted : Bool) (n : ℕ) (plan : List ℕ) (fits : T (all choiceFits (choices (requestIn seid restoring noted (rowsOf n plan)))))
+    (few : length (choices (requestIn seid restoring noted (rowsOf n plan))) ≤ maxGrants) where
+  all-places : List ℕ
+  all-places = placesFrom 127 0 (rowsOf n plan) ++ placesFrom 1 0 (rowsOf n plan)
+
+  all-choices : map (choiceAt plan) all-places ≡ choices (requestIn seid restoring noted (rowsOf n plan))
+  unfolding all-places chosenRows
+  all-choices =
+      map-append (choiceAt plan) (placesFrom 127 0 (rowsOf n plan)) (placesFrom 1 0 (rowsOf n plan))
+      ∙ (λ j. place-choices 127 plan n 0 j ++ place-choices 1 plan n 0 j)
+      ∙ sym (map-append choiceIn (keep (choosing 127) (rowsOf n plan)) (keep (choosing 1) (rowsOf n plan)))
+      ∙ sym (request-choices seid restoring noted (rowsOf n plan) fits)
+
+  pub places-are : places n plan ≡ placesFrom 127 0 (rowsOf n plan) ++ placesFrom 1 0 (rowsOf n plan)
+  unfolding places all-places
+  places-are =
+      let l = ap length all-choices in
+      let k = length-map all-places (choiceAt plan) in
+      take-all maxGrants all-places (omega arith)
+
+  pub places-choices : map (choiceAt plan) (places n plan) ≡ choices (requestIn seid restoring noted (rowsOf n plan))
+  unfolding all-places
+  places-choices = ap (map (choiceAt plan)) places-are ∙ all-choices

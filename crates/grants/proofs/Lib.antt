@@ -1,0 +1,14 @@
+pub mod StepLaws
+pub mod PlaceLaws
+pub mod StoreLaws
+pub mod FillLaws
+pub mod GrantSteps
+pub mod ChoiceLaws
+pub mod RowsBack
+pub mod OwnLaws
+pub mod PassLaws
+pub mod PlanLaws
+pub mod RequestLaws
+pub mod GrantLaws
+pub mod FitLaws
+pub mod ReadLaws

@@ -1,0 +1,144 @@
+-- The places of the rows that choose: found one row after the other, each row within the plan. Assumes nothing.
+use mathlib.Core.Path.{_≡_, refl, sym, ap, _∙_}
+use mathlib.Core.Bool.{Bool, true, false}
+use mathlib.Core.List.{List, [], _∷_, _++_, append-assoc, append-nil}
+use Prim.Native.Nat.{ℕ, zero, suc, _+_, _-_, _*_, _≤_, _<_}
+use native.Mathlib.Numerals.{add-one}
+use native.Mathlib.Omega.{arith}
+use lib.Dec.{T, leb, le→leb}
+use lib.ListN.{length, take, drop, getD, set, length-set, length-take, length-drop}
+use lib.Seq.{length-take-le, take-all, take-at, take-suc-set, drop-drop}
+use Rattle.octets.specs.Choice.{pick}
+use Rattle.octets.specs.Octets.{part, slices}
+use Rattle.octets.specs.Lists.{all}
+use Rattle.octets.proofs.Tests.{all-head, all-tail, all-cons}
+use Rattle.lists.proofs.RowLaws.{rows-more}
+use Rattle.plan.specs.Rows.{rowWidth, rowsOf}
+use Rattle.grants.specs.Choosing.{maxGrants, choosing, placesFrom, places}
+
+-- ---- of general use
+
+-- a test of every element holds of the one at an index
+pub all-at : (p : ℕ → Bool) (xs : List ℕ) (i : ℕ) → i < length xs → T (all p xs) → T (p (getD xs i 0))
+all-at p [] i h t = absurd (omega arith)
+all-at p (x ∷ xs) zero h t = all-head p x xs t
+all-at p (x ∷ xs) (suc i) h t = all-at p xs i (omega arith) (all-tail p x xs t)
+
+pub all-append : {A : Type 0} (p : A → Bool) (xs ys : List A) → T (all p xs) → T (all p ys) → T (all p (xs ++ ys))
+all-append p [] ys h g = g
+all-append p (x ∷ xs) ys h g = all-cons p x (xs ++ ys) (all-head p x xs h) (all-append p xs ys (all-tail p x xs h) g)
+
+all-take : (p : ℕ → Bool) (n : ℕ) (xs : List ℕ) → T (all p xs) → T (all p (take n xs))
+unfolding all
+all-take p zero xs h = tt
+all-take p (suc n) [] h = tt
+all-take p (suc n) (x ∷ xs) h = all-cons p x (take n xs) (all-head p x xs h) (all-take p n xs (all-tail p x xs h))
+
+-- the front of a list after a front was taken
+take-front : (n : ℕ) (xs ys : List ℕ) → take n (take n xs ++ ys) ≡ take n (xs ++ ys)
+take-front zero xs ys = refl
+take-front (suc n) [] ys = refl
+take-front (suc n) (x ∷ xs) ys = ap (λ (l : List ℕ). x ∷ l) (take-front n xs ys)
+
+-- ---- places
+
+pub places-more : (tag at left : ℕ) (plan : List ℕ) → 0 < left
+    → placesFrom tag at (slices rowWidth left (drop at plan))
+    ≡ pick (choosing tag (part at rowWidth plan)) (at ∷ placesFrom tag (at + rowWidth) (slices rowWidth (left - 1) (drop (at + rowWidth) plan)))
+    (placesFrom tag (at + rowWidth) (slices rowWidth (left - 1) (drop (at + rowWidth) plan)))
+unfolding placesFrom
+places-more tag at left plan h = rw (rows-more rowWidth left (drop at plan) h, drop-drop)
+
+pub places-none : (tag at : ℕ) (plan : List ℕ) → placesFrom tag at (slices rowWidth 0 (drop at plan)) ≡ []
+unfolding placesFrom slices
+places-none tag at plan = refl
+
+-- a row at a place lies within the plan
+abbrev pub within : List ℕ → ℕ → Bool
+within plan p = leb (p + rowWidth) (length plan)
+
+within-from : (tag : ℕ) (plan : List ℕ) (left at : ℕ) → at + left * rowWidth ≤ length plan → T (all (within plan) (placesFrom tag at (slices rowWidth left (drop at plan))))
+within-from tag plan zero at h = rw (places-none tag at plan) (unfold all in tt)
+within-from tag plan (suc n) at h =
+    let e : suc n - 1 ≡ n = omega arith in
+    rw (places-more tag at (suc n) plan (omega arith), e) (one (choosing tag (part at rowWidth plan)) (within-from tag plan n (at + rowWidth) (omega arith)))
+  where
+    one : (b : Bool) → T (all (within plan) (placesFrom tag (at + rowWidth) (slices rowWidth n (drop (at + rowWidth) plan))))
+        → T (all (within plan) (pick b (at ∷ placesFrom tag (at + rowWidth) (slices rowWidth n (drop (at + rowWidth) plan))) (placesFrom tag (at + rowWidth) (slices rowWidth n (drop (at + rowWidth) plan)))))
+    one true g = all-cons (within plan) at _ (le→leb (at + rowWidth) (length plan) (omega arith)) g
+    one false g = g
+
+pub places-within : (n : ℕ) (plan : List ℕ) → n * rowWidth ≤ length plan → T (all (within plan) (places n plan))
+unfolding places
+places-within n plan h =
+    all-take (within plan) maxGrants _ (all-append (within plan) _ _ (within-from 127 plan n 0 (omega arith)) (within-from 1 plan n 0 (omega arith)))
+
+-- ---- finding them
+
+-- Where the search for places stands: those found and those of the rows that are left are, as far as there is room, those found at first and those of all rows.
+pub record Finding (plan : List ℕ) (n tag : ℕ) (places₀ : List ℕ) (k : ℕ) (found-places : List ℕ) (at left found : ℕ) : Type 0 where
+  pub inside : at + left * rowWidth ≤ length plan
+  pub long : length found-places ≡ length places₀
+  pub few : found ≤ length places₀
+  pub same :
+      take (length places₀) (take found found-places ++ placesFrom tag at (slices rowWidth left (drop at plan)))
+      ≡ take (length places₀) (take k places₀ ++ placesFrom tag 0 (rowsOf n plan))
+
+-- what the search leaves
+abbrev pub Found : List ℕ → ℕ → ℕ → List ℕ → ℕ → List ℕ → ℕ → Type 0
+Found plan n tag places₀ k places′ r = (r ≤ length places₀) × (take r places′ ≡ take (length places₀) (take k places₀ ++ placesFrom tag 0 (rowsOf n plan)))
+
+module _ {plan : List ℕ} {n tag : ℕ} {places₀ : List ℕ} {k : ℕ} where
+  pub finding-none : n * rowWidth ≤ length plan → k ≤ length places₀ → Finding plan n tag places₀ k places₀ 0 n k
+  finding-none h g = record { inside = omega arith; long = refl; few = g; same = refl }
+
+  module _ {ps : List ℕ} {at left found : ℕ} (f : Finding plan n tag places₀ k ps at left found) where
+    -- the row that is read next
+    pub finding-row : 0 < left → length (take (at + rowWidth - at) (drop at plan)) ≡ rowWidth
+    finding-row h = let i = f .inside in omega (arith, length-take (at + rowWidth - at) (drop at plan), length-drop at plan)
+
+    abbrev rest : List ℕ
+    rest = placesFrom tag (at + rowWidth) (slices rowWidth (left - 1) (drop (at + rowWidth) plan))
+
+    next : 0 < left → (b : Bool) → b ≡ choosing tag (take (at + rowWidth - at) (drop at plan)) → placesFrom tag at (slices rowWidth left (drop at plan)) ≡ pick b (at ∷ rest) rest
+    next h b e =
+        let w : at + rowWidth - at ≡ rowWidth = omega arith in
+        places-more tag at left plan h ∙ ap (λ (t : Bool). pick t (at ∷ rest) rest) (sym (e ∙ ap (λ (m : ℕ). choosing tag (take m (drop at plan))) w))
+
+    pub finding-skip : 0 < left → (b : Bool) → b ≡ choosing tag (take (at + rowWidth - at) (drop at plan)) → b ≡ false → Finding plan n tag places₀ k ps (at + rowWidth) (left - 1) found
+    finding-skip h b e z =
+        let i = f .inside in
+        record { inside = omega arith; long = f .long; few = f .few; same = rw (next h b e, z) at (f .same) }
+
+    pub finding-more : 0 < left → (b : Bool) → b ≡ choosing tag (take (at + rowWidth - at) (drop at plan)) → b ≡ true → (found ≡ length ps → ⊥)
+        → Finding plan n tag places₀ k (set ps found at) (at + rowWidth) (left - 1) (found + 1)
+    finding-more h b e z u =
+        let i = f .inside in
+        let g = f .few in
+        let l = f .long in
+        let less : found < length ps = omega (arith, u) in
+        let old = rw (next h b e, z) at (f .same) in
+        let front : take (found + 1) (set ps found at) ++ rest ≡ take found ps ++ at ∷ rest = rw (add-one, take-suc-set) (append-assoc (take found ps) (at ∷ []) rest) in
+        record { inside = omega arith; long = length-set ps found at ∙ l; few = omega arith; same = ap (λ (l′ : List ℕ). take (length places₀) l′) front ∙ old }
+
+    pub finding-full : found ≡ length ps → Found plan n tag places₀ k ps found
+    finding-full e =
+        let l = f .long in
+        let full : length (take found ps) ≡ length places₀ = length-take-le found ps (omega arith) ∙ omega arith in
+        (f .few, sym (take-at (take found ps) _ (length places₀) full) ∙ f .same)
+
+    pub finding-all : left ≤ 0 → Found plan n tag places₀ k ps found
+    finding-all h =
+        let l = f .long in
+        let g = f .few in
+        let z : left ≡ 0 = omega arith in
+        let short : length (take found ps) ≤ length places₀ = omega (arith, length-take-le found ps (omega arith)) in
+        let nil : take found ps ++ placesFrom tag at (slices rowWidth left (drop at plan)) ≡ take found ps = rw (z, places-none) (append-nil (take found ps)) in
+        (f .few, sym (take-all (length places₀) (take found ps) short) ∙ ap (λ (l′ : List ℕ). take (length places₀) l′) (sym nil) ∙ f .same)
+
+-- the two searches: endpoints' rows, then PDRs'
+pub found-both : (plan : List ℕ) (n : ℕ) (p₀ p₁ p₂ : List ℕ) (k m : ℕ) → length p₀ ≡ maxGrants → length p₁ ≡ maxGrants
+    → Found plan n 127 p₀ 0 p₁ k → Found plan n 1 p₁ k p₂ m → take m p₂ ≡ places n plan
+unfolding places
+found-both plan n p₀ p₁ p₂ k m l l′ f g =
+    g .1 ∙ rw (l′, f .1, l) (take-front maxGrants (placesFrom 127 0 (rowsOf n plan)) (placesFrom 1 0 (rowsOf n plan)))

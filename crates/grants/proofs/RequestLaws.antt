@@ -1,0 +1,166 @@
+-- The rows with their grants' TEIDs mean the same request. Assumes nothing.
+use mathlib.Core.Path.{_≡_, refl, ap, _∙_}
+use mathlib.Core.Bool.{Bool, true, false, _||_}
+use mathlib.Core.Option.{Option, none, some}
+use mathlib.Core.List.{List, [], _∷_, _++_, map}
+use Prim.Native.Nat.{ℕ}
+use native.Mathlib.Omega.{arith}
+use lib.Dec.{eqb}
+use lib.ListN.{set}
+use Rattle.octets.specs.Choice.{pick, consOption}
+use Rattle.octets.specs.Octets.{be, bit}
+use Rattle.octets.specs.Lists.{any, keep, collect}
+use Rattle.rules.specs.Elements.{sets, removal}
+use Rattle.rules.specs.Message.{hasPdi}
+use Rattle.rules.specs.Grants.{Grant}
+use Rattle.plan.specs.Rows.{word, hasTag, tagged, fteidFrom, rowFteid, rowLocal, present, rowPdr, rowEndpoint, rowFar, rowChange, rowPdrId, rowEndpointId, rowAddress, rowCsid, isNullRow, requestIn}
+use Rattle.grants.specs.Choosing.{choosing, rowWith}
+use Rattle.grants.proofs.PlanLaws.{word-set, choosing-bit}
+
+-- ---- one row
+
+-- only the TEID word differs, and the F-TEID is the same
+pub record Alike (a b : List ℕ) : Type 0 where
+  pub words : (k : ℕ) → (k ≡ 13 → ⊥) → word k a ≡ word k b
+  pub fteid : rowFteid a ≡ rowFteid b
+
+-- a CHOOSE has no TEID
+fteid-choose : (f t t′ a h l c : ℕ) → bit 2 f ≡ true → fteidFrom f t a h l c ≡ fteidFrom f t′ a h l c
+unfolding fteidFrom
+fteid-choose f t t′ a h l c e = rw e
+
+set-fteid : (row : List ℕ) (t : ℕ) → bit 2 (word 12 row) ≡ true → rowFteid (set row 13 t) ≡ rowFteid row
+unfolding rowFteid
+set-fteid row t e =
+    let f = word-set row t 12 (λ z. omega arith) in
+    let a = word-set row t 14 (λ z. omega arith) in
+    let h = word-set row t 15 (λ z. omega arith) in
+    let l = word-set row t 16 (λ z. omega arith) in
+    let c = word-set row t 17 (λ z. omega arith) in
+    (λ j. fteidFrom (f j) (word 13 (set row 13 t)) (a j) (h j) (l j) (c j))
+    ∙ fteid-choose (word 12 row) (word 13 (set row 13 t)) (word 13 row) (word 14 row) (word 15 row) (word 16 row) (word 17 row) e
+
+pub alike-with : (gs : List Grant) (row : List ℕ) → Alike (rowWith gs row) row
+unfolding rowWith
+alike-with gs row = one (choosing 127 row) (choosing 1 row) refl refl _
+  where
+    one : (b d : Bool) → choosing 127 row ≡ b → choosing 1 row ≡ d → (t : ℕ) → Alike (pick (b || d) (set row 13 t) row) row
+    one true d e f t = record { words = word-set row t; fteid = set-fteid row t (choosing-bit 127 row e) }
+    one false true e f t = record { words = word-set row t; fteid = set-fteid row t (choosing-bit 1 row f) }
+    one false false e f t = record { words = λ k n. refl; fteid = refl }
+
+module _ {a b : List ℕ} (w : Alike a b) where
+  same-tag : (t : ℕ) → hasTag t a ≡ hasTag t b
+  unfolding hasTag
+  same-tag t = ap (λ (x : ℕ). eqb x t) (w .words 0 (λ z. omega arith))
+
+  same-pdr : rowPdr a ≡ rowPdr b
+  unfolding rowPdr rowLocal present
+  same-pdr =
+      let i = w .words 7 (λ z. omega arith) in
+      let p = w .words 8 (λ z. omega arith) in
+      let hasFar = w .words 3 (λ z. omega arith) in
+      let far = w .words 9 (λ z. omega arith) in
+      let source = w .words 10 (λ z. omega arith) in
+      let hasEnd = w .words 5 (λ z. omega arith) in
+      let end = w .words 11 (λ z. omega arith) in
+      let flags = w .words 12 (λ z. omega arith) in
+      let v = w .fteid in
+      λ j. record {
+        id = i j;
+        precedence = p j;
+        far = pick (eqb (hasFar j) 1) (some (far j)) none;
+        source = source j;
+        local = pick (eqb (flags j) 0) none (some (v j));
+        endpoint = pick (eqb (hasEnd j) 1) (some (end j)) none;
+      }
+
+  same-endpoint : rowEndpoint a ≡ rowEndpoint b
+  unfolding rowEndpoint
+  same-endpoint = let i = w .words 11 (λ z. omega arith) in let v = w .fteid in λ j. record { id = i j; local = v j }
+
+  same-change : rowChange a ≡ rowChange b
+  unfolding rowChange rowFar present
+  same-change =
+      let i = w .words 7 (λ z. omega arith) in
+      let hasP = w .words 2 (λ z. omega arith) in
+      let p = w .words 8 (λ z. omega arith) in
+      let hasFar = w .words 3 (λ z. omega arith) in
+      let far = w .words 9 (λ z. omega arith) in
+      let pdi = w .words 6 (λ z. omega arith) in
+      λ j. record {
+        id = i j;
+        precedence = pick (eqb (hasP j) 1) (some (p j)) none;
+        far = pick (eqb (hasFar j) 2) (some none) (pick (eqb (hasFar j) 1) (some (some (far j))) none);
+        pdi = eqb (pdi j) 1;
+      }
+
+  same-csid : rowCsid a ≡ rowCsid b
+  unfolding rowCsid rowAddress
+  same-csid =
+      let use1 = w .words 1 (λ z. omega arith) in
+      let node = w .words 7 (λ z. omega arith) in
+      let type = w .words 8 (λ z. omega arith) in
+      let high = w .words 9 (λ z. omega arith) in
+      let low = w .words 10 (λ z. omega arith) in
+      let csid = w .words 11 (λ z. omega arith) in
+      λ j. pick (eqb (use1 j) 1) (some (sets (type j) (pick (eqb (type j) 1) (be 8 (high j) ++ be 8 (low j)) (be 4 (low j))) (csid j ∷ []) (node j)))
+      (pick (eqb (use1 j) 2) (some (removal (node j))) none)
+
+  same-null : isNullRow a ≡ isNullRow b
+  unfolding isNullRow
+  same-null = ap (λ (x : ℕ). eqb x 3) (w .words 1 (λ z. omega arith))
+
+-- ---- all rows
+
+module _ (h : List ℕ → List ℕ) (alike : (row : List ℕ) → Alike (h row) row) where
+  tagged-with : (t : ℕ) (rows : List (List ℕ)) → tagged t (map h rows) ≡ map h (tagged t rows)
+  unfolding tagged keep
+  tagged-with t [] = refl
+  tagged-with t (row ∷ rows) =
+      ap (λ (b : Bool). pick b (h row ∷ tagged t (map h rows)) (tagged t (map h rows))) (same-tag (alike row) t) ∙ one (hasTag t row) (tagged-with t rows)
+    where
+      one : (b : Bool) → tagged t (map h rows) ≡ map h (tagged t rows)
+          → pick b (h row ∷ tagged t (map h rows)) (tagged t (map h rows)) ≡ map h (pick b (row ∷ tagged t rows) (tagged t rows))
+      one true ih = ap (λ (l : List (List ℕ)). h row ∷ l) ih
+      one false ih = ih
+
+  map-with : {A : Type 0} (v : List ℕ → A) → ((row : List ℕ) → v (h row) ≡ v row) → (rows : List (List ℕ)) → map v (map h rows) ≡ map v rows
+  map-with v e [] = refl
+  map-with v e (row ∷ rows) = let here = e row in let more = map-with v e rows in λ j. here j ∷ more j
+
+  collect-with : {A : Type 0} (v : List ℕ → Option A) → ((row : List ℕ) → v (h row) ≡ v row) → (rows : List (List ℕ)) → collect v (map h rows) ≡ collect v rows
+  unfolding collect
+  collect-with v e [] = refl
+  collect-with v e (row ∷ rows) = let here = e row in let more = collect-with v e rows in λ j. consOption (here j) (more j)
+
+  any-with : (v : List ℕ → Bool) → ((row : List ℕ) → v (h row) ≡ v row) → (rows : List (List ℕ)) → any v (map h rows) ≡ any v rows
+  unfolding any
+  any-with v e [] = refl
+  any-with v e (row ∷ rows) = let here = e row in let more = any-with v e rows in λ j. here j || more j
+
+  tagged-map : {A : Type 0} (t : ℕ) (v : List ℕ → A) → ((row : List ℕ) → v (h row) ≡ v row) → (rows : List (List ℕ)) → map v (tagged t (map h rows)) ≡ map v (tagged t rows)
+  tagged-map t v e rows = ap (map v) (tagged-with t rows) ∙ map-with v e (tagged t rows)
+
+  pub request-same : (seid : ℕ) (restoring noted : Bool) (rows : List (List ℕ)) → requestIn seid restoring noted (map h rows) ≡ requestIn seid restoring noted rows
+  unfolding requestIn
+  request-same seid restoring noted rows =
+      let pdrs = tagged-map 1 rowPdr (λ row. same-pdr (alike row)) rows in
+      let endpoints = tagged-map 127 rowEndpoint (λ row. same-endpoint (alike row)) rows in
+      let changes = tagged-map 9 rowChange (λ row. same-change (alike row)) rows in
+      let gonePdrs = tagged-map 15 rowPdrId (λ row. alike row .words 7 (λ z. omega arith)) rows in
+      let goneEndpoints = tagged-map 130 rowEndpointId (λ row. alike row .words 11 (λ z. omega arith)) rows in
+      let csids = ap (collect rowCsid) (tagged-with 65 rows) ∙ collect-with rowCsid (λ row. same-csid (alike row)) (tagged 65 rows) in
+      let clears = ap (any isNullRow) (tagged-with 65 rows) ∙ any-with isNullRow (λ row. same-null (alike row)) (tagged 65 rows) in
+      λ j. record {
+        seid = seid;
+        restoring = restoring;
+        pdrs = pdrs j;
+        endpoints = endpoints j;
+        changes = changes j;
+        gonePdrs = gonePdrs j;
+        goneEndpoints = goneEndpoints j;
+        csids = csids j;
+        clears = clears j;
+        unsupported = noted || any hasPdi (changes j);
+      }

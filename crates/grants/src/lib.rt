@@ -1,0 +1,216 @@
+// Grants: the TEIDs that a request's CHOOSEs get (01, "What a request does"), to endpoints in request order and then to PDRs.
+// A plan has rows of 18 words; a grant's row has four: the type of the group that creates the record, its ID, the TEID, the families.
+ghost use mathlib.Core.Path.{_≡_};
+ghost use mathlib.Core.List.{_++_};
+ghost use Prim.Native.Nat.{_+_, _*_, _^_, _≤_, _<_};
+ghost use lib.Dec.{T, leb};
+ghost use lib.ListN.{length, take, getD, set};
+ghost use lib.Seq.{sets};
+ghost use Rattle.octets.specs.Choice.{valueOr};
+ghost use Rattle.octets.specs.Lists.{all};
+ghost use Rattle.rules.specs.Limits.{maxPool};
+ghost use Rattle.rules.specs.Grants.{grantOf};
+ghost use Rattle.plan.specs.Rows.{rowWidth, rowsOf};
+ghost use Rattle.grants.specs.Choosing.{maxGrants, grantWidth, choosing, placesFrom, rowId, rowChooseId, choiceIn, kindWord, grantWords, rowsAt, stores, Granted};
+ghost use Rattle.grants.specs.Steps.{Gives};
+
+// Words in a plan's row and in a grant's row; the number of grants at most.
+const ROW: usize = 18;
+
+const GRANT: usize = 4;
+
+const MOST: usize = 24;
+
+// A CHOOSE ID is one octet.
+const IDS: usize = 256;
+
+// A TEID, and the offset from which the next search for a free one starts.
+struct Given {
+    teid: u64,
+    next: usize,
+}
+
+// Is it a row of this type whose F-TEID has CH?
+fn chooses(row: &[u64], tag: u64) -> bool
+    requires { ⌜ length (now row) ≡ rowWidth ⌝ }
+    ensures { λ r. ⌜ r ≡ choosing tag (now (row .entry)) ⌝ }
+{
+    if row[0] != tag {
+        return false;
+    }
+    row[12] / 4 % 2 == 1
+}
+
+// Writes to `places`, from the k-th on and as far as there is room, where the rows begin that choose; the answer is how many places there are then.
+fn find_places(plan: &[u64], n: usize, tag: u64, places: &mut [usize], k: usize) -> usize
+    requires { ⌜ (n * rowWidth ≤ length (now plan)) × (k ≤ length (now places)) ⌝ }
+    ensures { λ r. ⌜ (r ≤ length (now (places .entry))) × (take r (now (places .exit)) ≡ take (length (now (places .entry))) (take k (now (places .entry)) ++ placesFrom tag 0 (rowsOf n (now (plan .entry))))) ⌝ }
+{
+    let mut at: usize = 0;
+    let mut left = n;
+    let mut found = k;
+    while 0 < left {
+        let here = at;
+        at += ROW;
+        left -= 1;
+        if !chooses(&plan[here..at], tag) {
+            continue;
+        }
+        if found == places.len() {
+            return found;
+        }
+        places[found] = here;
+        found += 1;
+    }
+    found
+}
+
+// The CHOOSE ID of a row, or one past the last ID where it has none.
+fn choose_id(row: &[u64]) -> usize
+    requires { ⌜ length (now row) ≡ rowWidth ⌝ }
+    ensures { λ r. ⌜ r ≡ valueOr 256 (rowChooseId (now (row .entry))) ⌝ }
+{
+    if row[12] / 8 % 2 != 1 {
+        return IDS;
+    }
+    if row[17] >= 256 {
+        return IDS;
+    }
+    row[17] as usize
+}
+
+// The word at a place, 0 past the end.
+fn word_at(words: &[u64], i: usize) -> u64
+    ensures { λ r. ⌜ r ≡ getD (now (words .entry)) i 0 ⌝ }
+{
+    if i < words.len() {
+        return words[i];
+    }
+    0
+}
+
+// Stores a word at a place, nothing past the end.
+fn set_word(words: &mut [u64], i: usize, v: u64)
+    ensures { λ _. ⌜ now (words .exit) ≡ set (now (words .entry)) i v ⌝ }
+{
+    if i < words.len() {
+        words[i] = v;
+    }
+}
+
+// The TEID for a CHOOSE with this ID: the one that the ID has, else the next free one, which the ID then has; 0 if none is free.
+// Word i of `known` is one more than the TEID that CHOOSE ID i has, 0 if it has none.
+fn teid_for(
+    known: &mut [u64],
+    id: usize,
+    words: &[u64],
+    first: u64,
+    from: usize,
+    size: usize,
+) -> Given
+    requires { ⌜ (size ≤ 64 * length (now words)) × (size ≤ maxPool) × (first < 2 ^ 32) ⌝ }
+    ensures { λ r. ⌜ Gives first (now (words .entry)) from size (now (known .entry)) id r (now (known .exit)) ⌝ }
+{
+    let has = word_at(known, id);
+    if has != 0 {
+        return Given {
+            teid: has - 1,
+            next: from,
+        };
+    }
+    let found = pool::next_free(words, from, size);
+    let pool::Lowest::At(i) = found else {
+        set_word(known, id, 1);
+        return Given {
+            teid: 0,
+            next: from,
+        };
+    };
+    let teid = first + i as u64;
+    set_word(known, id, teid + 1);
+    Given { teid, next: i + 1 }
+}
+
+// The type of the group that creates the row's record: Create PDR, else Create Traffic Endpoint.
+fn kind_word(row: &[u64]) -> u64
+    requires { ⌜ length (now row) ≡ rowWidth ⌝ }
+    ensures { λ r. ⌜ r ≡ kindWord (choiceIn (now (row .entry)) .kind) ⌝ }
+{
+    if row[0] == 1 {
+        return 1;
+    }
+    127
+}
+
+// The ID of the row's record.
+fn row_id(row: &[u64]) -> u64
+    requires { ⌜ length (now row) ≡ rowWidth ⌝ }
+    ensures { λ r. ⌜ r ≡ rowId (now (row .entry)) ⌝ }
+{
+    if row[0] == 1 {
+        return row[7];
+    }
+    row[11]
+}
+
+// Writes the grant's row of a plan's row that gets this TEID.
+fn put_grant(row: &[u64], teid: u64, out: &mut [u64], at: usize)
+    requires { ⌜ (length (now row) ≡ rowWidth) × (at + grantWidth ≤ length (now out)) ⌝ }
+    ensures { λ _. ⌜ now (out .exit) ≡ sets (now (out .entry)) at (grantWords (grantOf (choiceIn (now (row .entry))) teid)) ⌝ }
+{
+    out[at] = kind_word(row);
+    out[at + 1] = row_id(row);
+    out[at + 2] = teid;
+    out[at + 3] = row[12] % 4;
+}
+
+// The grants' rows of the plan's rows at these places.
+fn fill(plan: &[u64], places: &[usize], words: &[u64], first: u64, size: usize, out: &mut [u64])
+    requires { ⌜ T (all (λ p. leb (p + rowWidth) (length (now plan))) (now places)) × (size ≤ 64 * length (now words)) × (size ≤ maxPool) × (first < 2 ^ 32) × (grantWidth * length (now places) ≤ length (now out)) ⌝ }
+    ensures { λ _. ⌜ now (out .exit) ≡ sets (now (out .entry)) 0 (rowsAt first (now (words .entry)) size (now (plan .entry)) (now (places .entry))) ⌝ }
+{
+    let mut known = [0u64; IDS];
+    let mut from: usize = 0;
+    let mut i = 0;
+    while i < places.len() {
+        let p = places[i];
+        let row = &plan[p..p + ROW];
+        let g = teid_for(&mut known, choose_id(row), words, first, from, size);
+        put_grant(row, g.teid, out, GRANT * i);
+        from = g.next;
+        i += 1;
+    }
+}
+
+// Writes the TEIDs of grants into the plan's rows at these places.
+fn store(plan: &mut [u64], places: &[usize], grants: &[u64])
+    requires { ⌜ T (all (λ p. leb (p + rowWidth) (length (now plan))) (now places)) × (grantWidth * length (now places) ≤ length (now grants)) ⌝ }
+    ensures { λ _. ⌜ now (plan .exit) ≡ stores (now (plan .entry)) (now (places .entry)) (now (grants .entry)) ⌝ }
+{
+    let mut i = 0;
+    while i < places.len() {
+        plan[places[i] + 13] = grants[GRANT * i + 2];
+        i += 1;
+    }
+}
+
+// Grants a TEID to each row that chooses, at most 24: written into the row and, in the order in which they are given, into `out`.
+// The answer is how many there are. `words` is the map of taken TEIDs.
+pub fn grant(
+    plan: &mut [u64],
+    n: usize,
+    words: &[u64],
+    first: u64,
+    size: usize,
+    out: &mut [u64],
+) -> usize
+    requires { ⌜ (n * rowWidth ≤ length (now plan)) × (size ≤ 64 * length (now words)) × (size ≤ maxPool) × (first < 2 ^ 32) × (maxGrants * grantWidth ≤ length (now out)) ⌝ }
+    ensures { λ r. ⌜ Granted n first (now (words .entry)) size (now (plan .entry)) (now (out .entry)) r (now (plan .exit)) (now (out .exit)) ⌝ }
+{
+    let mut places = [0usize; MOST];
+    let k = find_places(plan, n, 127, &mut places, 0);
+    let m = find_places(plan, n, 1, &mut places, k);
+    fill(plan, &places[..m], words, first, size, out);
+    store(plan, &places[..m], out);
+    m
+}

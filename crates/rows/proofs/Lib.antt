@@ -1,0 +1,10 @@
+pub mod ListLaws
+pub mod AddressLaws
+pub mod FteidLaws
+pub mod RowTests
+pub mod TunnelLaws
+pub mod PairLaws
+pub mod WalkLaws
+pub mod RequestLaws
+pub mod MergeLaws
+pub mod NeedLaws

@@ -1,0 +1,95 @@
+-- What the rules say of the request that rows mean, by the rows: the F-TEIDs, the columns of IDs, causes 71 and 76. Assumes nothing.
+use mathlib.Core.Path.{_≡_, refl, sym, ap, ap₂, _∙_}
+use mathlib.Core.Bool.{Bool, true, false, not, _&&_, _||_, or-false, or-self}
+use mathlib.Core.Option.{Option, none, some}
+use mathlib.Core.List.{List, [], _∷_, map, map-map}
+use Prim.Native.Nat.{ℕ}
+use lib.Dec.{eqb}
+use Rattle.octets.specs.Choice.{pick, consOption}
+use Rattle.octets.specs.Lists.{member, any, keep, collect}
+use Rattle.lists.specs.Rows.{column}
+use Rattle.rules.specs.Elements.{Fteid}
+use Rattle.rules.specs.Message.{hasPdi}
+use Rattle.rules.specs.Stages.{fteidsOf, pdrLocal, endpointLocal, newPdrId, newEndpointId, changeId, createdPdrs, createdEndpoints, updatedPdrs, wrongAllocation, invalidAllocation}
+use Rattle.plan.specs.Rows.{word, hasTag, tagged, rowFteid, rowLocal, rowPdr, rowEndpoint, rowChange, requestIn}
+use Rattle.rows.specs.RowRules.{hasFteid, ofFteid}
+use Rattle.rows.proofs.ListLaws.{onSome, any-ext, any-or, any-append, any-keep, any-map, any-collect}
+use Rattle.rows.proofs.WalkLaws.{isNamed, member-column}
+use Rattle.lists.proofs.Bools.{eqb-turn}
+
+-- ---- F-TEIDs
+
+rows-endpoint : (p : Fteid → Bool) (rows : List (List ℕ)) → any p (map endpointLocal (map rowEndpoint (tagged 127 rows))) ≡ any (λ row. hasTag 127 row && p (rowFteid row)) rows
+unfolding rowEndpoint tagged
+rows-endpoint p rows =
+    any-map p endpointLocal (map rowEndpoint (keep (hasTag 127) rows))
+    ∙ any-map (λ e. p (endpointLocal e)) rowEndpoint (keep (hasTag 127) rows)
+    ∙ any-keep (λ row. p (rowFteid row)) (hasTag 127) rows
+
+rows-pdr : (p : Fteid → Bool) (rows : List (List ℕ)) → any p (collect pdrLocal (map rowPdr (tagged 1 rows))) ≡ any (λ row. hasTag 1 row && onSome p (rowLocal row)) rows
+unfolding rowPdr tagged
+rows-pdr p rows =
+    any-collect p pdrLocal (map rowPdr (keep (hasTag 1) rows))
+    ∙ any-map (λ x. onSome p (pdrLocal x)) rowPdr (keep (hasTag 1) rows)
+    ∙ any-keep (λ row. onSome p (rowLocal row)) (hasTag 1) rows
+
+-- a test of some F-TEID is a test of some row
+pub any-fteids : (p : Fteid → Bool) (seid : ℕ) (restoring noted : Bool) (rows : List (List ℕ)) → any p (fteidsOf (requestIn seid restoring noted rows)) ≡ any (ofFteid p) rows
+unfolding fteidsOf requestIn onSome
+any-fteids p seid restoring noted rows =
+    any-append p (map endpointLocal (map rowEndpoint (tagged 127 rows))) (collect pdrLocal (map rowPdr (tagged 1 rows)))
+    ∙ ap₂ _||_ (rows-endpoint p rows) (rows-pdr p rows)
+    ∙ any-or (λ row. hasTag 127 row && p (rowFteid row)) (λ row. hasTag 1 row && onSome p (rowLocal row)) rows
+    ∙ any-ext (λ row. (hasTag 127 row && p (rowFteid row)) || (hasTag 1 row && onSome p (rowLocal row))) (ofFteid p) (λ row. here row) rows
+  where
+    one : (e t z : Bool) (v : Fteid) → ((e && p v) || (t && onSome p (pick z none (some v)))) ≡ ((e || (t && not z)) && p v)
+    one true true true v = or-false (p v)
+    one true true false v = or-self (p v)
+    one true false z v = or-false (p v)
+    one false true true v = refl
+    one false true false v = refl
+    one false false z v = refl
+
+    here : (row : List ℕ) → ((hasTag 127 row && p (rowFteid row)) || (hasTag 1 row && onSome p (rowLocal row))) ≡ ofFteid p row
+    here row = unfold ofFteid hasFteid rowLocal in (one (hasTag 127 row) (hasTag 1 row) (eqb (word 12 row) 0) (rowFteid row))
+
+pub invalid-rows : (seid : ℕ) (restoring noted : Bool) (rows : List (List ℕ)) → invalidAllocation (requestIn seid restoring noted rows) ≡ any (ofFteid (wrongAllocation restoring)) rows
+unfolding invalidAllocation requestIn
+invalid-rows seid restoring noted rows = any-fteids (wrongAllocation restoring) seid restoring noted rows
+
+-- ---- columns
+
+pub collect-map : {A B C : Type 0} (g : B → Option C) (f : A → B) (xs : List A) → collect g (map f xs) ≡ collect (λ x. g (f x)) xs
+unfolding collect
+collect-map g f [] = refl
+collect-map g f (x ∷ xs) = ap (consOption (g (f x))) (collect-map g f xs)
+
+module _ (seid : ℕ) (restoring noted : Bool) (rows : List (List ℕ)) where
+  pub created-pdrs : createdPdrs (requestIn seid restoring noted rows) ≡ column 1 7 rows
+  unfolding createdPdrs requestIn rowPdr tagged column hasTag
+  created-pdrs = map-map newPdrId rowPdr (keep (hasTag 1) rows)
+
+  pub created-endpoints : createdEndpoints (requestIn seid restoring noted rows) ≡ column 127 11 rows
+  unfolding createdEndpoints requestIn rowEndpoint tagged column hasTag
+  created-endpoints = map-map newEndpointId rowEndpoint (keep (hasTag 127) rows)
+
+  pub updated-pdrs : updatedPdrs (requestIn seid restoring noted rows) ≡ column 9 7 rows
+  unfolding updatedPdrs requestIn rowChange tagged column hasTag
+  updated-pdrs = map-map changeId rowChange (keep (hasTag 9) rows)
+
+  pub gone-pdrs : requestIn seid restoring noted rows .gonePdrs ≡ column 15 7 rows
+  unfolding requestIn tagged column hasTag
+  gone-pdrs = refl
+
+  pub gone-endpoints : requestIn seid restoring noted rows .goneEndpoints ≡ column 130 11 rows
+  unfolding requestIn tagged column hasTag
+  gone-endpoints = refl
+
+  pub unsupported-rows : requestIn seid restoring noted rows .unsupported ≡ (noted || member 1 (column 9 6 rows))
+  unfolding requestIn tagged
+  unsupported-rows =
+      ap (λ (b : Bool). noted || b)
+      (any-map hasPdi rowChange (keep (hasTag 9) rows)
+      ∙ any-keep (λ row. hasPdi (rowChange row)) (hasTag 9) rows
+      ∙ any-ext (λ row. hasTag 9 row && hasPdi (rowChange row)) (isNamed 9 6 1) (λ row. unfold rowChange in (ap (λ (b : Bool). hasTag 9 row && b) (eqb-turn (word 6 row) 1))) rows
+      ∙ sym (member-column 9 6 1 rows))

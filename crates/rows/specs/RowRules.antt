@@ -1,0 +1,99 @@
+-- 01's rules of stages 4 and 5 as they meet one row of a plan, or two rows of which one stands before the other.
+-- Assumes nothing.
+use Prim.Native.Nat.{ℕ, _+_, _-_}
+use mathlib.Core.Bool.{Bool, false, not, _&&_, _||_}
+use mathlib.Core.Option.{Option, none, some}
+use mathlib.Core.List.{List, [], _∷_, _++_}
+use lib.Dec.{eqb}
+use Rattle.octets.specs.Choice.{pick, oneOf, bindOption}
+use Rattle.octets.specs.Octets.{be, bit}
+use Rattle.rules.specs.Model.{Settings, Holding}
+use Rattle.rules.specs.Elements.{Fteid, chooseId}
+use Rattle.rules.specs.Message.{Request}
+use Rattle.rules.specs.Sound.{inPool, agree}
+use Rattle.rules.specs.Stages.{choicesAgree, alikeFteids, sameChoice, endpointRestored, pdrRestored}
+use Rattle.rules.specs.Grants.{Choice, endpointChoice, pdrChoice}
+use Rattle.plan.specs.Rows.{word, hasTag, rowPdr, rowEndpoint, rowFteid, requestIn}
+use Rattle.pool.specs.Map.{marked}
+
+-- the request that rows mean, where its SEID and element 129 do not matter
+abbrev pub requestOf : Bool → List (List ℕ) → Request
+requestOf restoring rows = requestIn 0 restoring false rows
+
+-- ---- F-TEIDs
+
+-- a Create Traffic Endpoint has an F-TEID, a Create PDR if its flags say so
+unfoldable pub hasFteid : List ℕ → Bool
+hasFteid row = hasTag 127 row || (hasTag 1 row && not (eqb (word 12 row) 0))
+
+-- a test of a row's F-TEID
+unfoldable pub ofFteid : (Fteid → Bool) → List ℕ → Bool
+ofFteid p row = hasFteid row && p (rowFteid row)
+
+-- the addresses of a row's F-TEID, where it has them
+unfoldable pub rowIpv4 : List ℕ → List ℕ
+rowIpv4 row = pick (bit 0 (word 12 row)) (be 4 (word 14 row)) []
+
+unfoldable pub rowIpv6 : List ℕ → List ℕ
+rowIpv6 row = pick (bit 1 (word 12 row)) (be 8 (word 15 row) ++ be 8 (word 16 row)) []
+
+-- the hold that a restored F-TEID makes
+unfoldable pub rowHolding : List ℕ → Option Holding
+rowHolding row = pick (hasTag 127 row) (endpointRestored (rowEndpoint row)) (pick (hasTag 1 row) (pdrRestored (rowPdr row)) none)
+
+-- the CHOOSE of a row
+unfoldable pub rowChoice : List ℕ → Option Choice
+rowChoice row = pick (hasTag 127 row) (endpointChoice (rowEndpoint row)) (pick (hasTag 1 row) (pdrChoice (rowPdr row)) none)
+
+-- ---- cause 73: rules on one F-TEID
+
+-- a TEID of the pool that the map has marked
+unfoldable pub heldIn : Settings → List ℕ → ℕ → Bool
+heldIn s words t = inPool s t && marked words (t - s .first)
+
+-- a restored TEID for which a test holds
+unfoldable pub restores : (ℕ → Bool) → Option Holding → Bool
+restores held none = false
+restores held (some h) = held (h .teid)
+
+-- ---- cause 73: rules on two rows
+
+-- an ID removed, created or updated twice: two rows of one type with the same ID
+unfoldable pub repeats : ℕ → ℕ → List ℕ → List ℕ → Bool
+repeats tag field a b = hasTag tag a && (hasTag tag b && eqb (word field a) (word field b))
+
+unfoldable pub sameId : List ℕ → List ℕ → Bool
+sameId a b = oneOf (repeats 15 7 a b ∷ repeats 130 11 a b ∷ repeats 1 7 a b ∷ repeats 127 11 a b ∷ repeats 9 7 a b ∷ [])
+
+-- equal families and source interface
+unfoldable pub alike : List ℕ → List ℕ → Bool
+alike a b = alikeFteids (rowFteid a) (rowFteid b) && eqb (word 10 a) (word 10 b)
+
+-- equal CHOOSE IDs with other families or source interface
+unfoldable pub otherChoice : List ℕ → List ℕ → Bool
+otherChoice a b = hasTag 1 a && (hasTag 1 b && not (choicesAgree (rowPdr a) (rowPdr b)))
+
+-- two restored F-TEIDs that share a TEID against the table's rule
+unfoldable pub holdsApart : Option Holding → Option Holding → Bool
+holdsApart none k = false
+holdsApart (some h) none = false
+holdsApart (some h) (some k) = not (agree h k)
+
+unfoldable pub otherHold : List ℕ → List ℕ → Bool
+otherHold a b = holdsApart (rowHolding a) (rowHolding b)
+
+unfoldable pub disagree : List ℕ → List ℕ → Bool
+disagree a b = oneOf (sameId a b ∷ otherChoice a b ∷ otherHold a b ∷ [])
+
+-- ---- cause 75: TEIDs needed
+
+abbrev pub choiceId : Choice → Option ℕ
+choiceId c = c .chooseId
+
+-- the CHOOSE ID of a row
+unfoldable pub rowChooseId : List ℕ → Option ℕ
+rowChooseId row = bindOption (rowChoice row) choiceId
+
+-- two CHOOSEs with the same CHOOSE ID
+unfoldable pub sharesChoice : List ℕ → List ℕ → Bool
+sharesChoice a b = sameChoice (rowChooseId a) (rowChooseId b)

@@ -1,0 +1,146 @@
+// The F-TEID of one row: flags at word 12 (V4 1, V6 2, CH 4, CHID 8), then TEID, IPv4 address, IPv6 address in two words, CHOOSE ID.
+use crate::Unit;
+ghost use mathlib.Core.Path.{_≡_};
+ghost use mathlib.Core.Bool.{not};
+ghost use Prim.Native.Nat.{_*_, _≤_};
+ghost use lib.ListN.{length};
+ghost use Rattle.octets.specs.Choice.{isSome};
+ghost use Rattle.rules.specs.Sound.{inPool};
+ghost use Rattle.rules.specs.Stages.{wrongAllocation, lacksFamily, strange, otherAddress};
+ghost use Rattle.plan.specs.Rows.{rowWidth};
+ghost use Rattle.rows.specs.RowRules.{hasFteid, ofFteid, rowIpv4, rowIpv6, rowHolding, rowChoice, restores, heldIn};
+ghost use Rattle.rows.specs.Units.{settingsOf};
+
+// Has the row an F-TEID? A Create Traffic Endpoint has one, a Create PDR if its flags say so.
+pub fn has_fteid(row: &[u64]) -> bool
+    requires { ⌜ length (now row) ≡ rowWidth ⌝ }
+    ensures { λ r. ⌜ r ≡ hasFteid (now (row .entry)) ⌝ }
+{
+    if row[0] == 127 {
+        return true;
+    }
+    if row[0] != 1 {
+        return false;
+    }
+    row[12] != 0
+}
+
+// Is it a CHOOSE?
+pub fn chooses(row: &[u64]) -> bool
+    requires { ⌜ length (now row) ≡ rowWidth ⌝ }
+    ensures { λ r. ⌜ r ≡ isSome (rowChoice (now (row .entry))) ⌝ }
+{
+    if !has_fteid(row) {
+        return false;
+    }
+    row[12] / 4 % 2 == 1
+}
+
+// Is it one with a TEID, as a restoration carries it?
+pub fn restored(row: &[u64]) -> bool
+    requires { ⌜ length (now row) ≡ rowWidth ⌝ }
+    ensures { λ r. ⌜ r ≡ isSome (rowHolding (now (row .entry))) ⌝ }
+{
+    if !has_fteid(row) {
+        return false;
+    }
+    row[12] / 4 % 2 != 1
+}
+
+// Cause 71: without CH outside restoration, or with CH inside it.
+pub fn wrong_allocation(row: &[u64], restoring: bool) -> bool
+    requires { ⌜ length (now row) ≡ rowWidth ⌝ }
+    ensures { λ r. ⌜ r ≡ ofFteid (wrongAllocation restoring) (now (row .entry)) ⌝ }
+{
+    if !has_fteid(row) {
+        return false;
+    }
+    if row[12] / 4 % 2 == 1 {
+        return restoring;
+    }
+    !restoring
+}
+
+// Cause 73: a family that the unit lacks.
+pub fn lacks_family(row: &[u64], u: Unit) -> bool
+    requires { ⌜ length (now row) ≡ rowWidth ⌝ }
+    ensures { λ r. ⌜ r ≡ ofFteid (lacksFamily (settingsOf u)) (now (row .entry)) ⌝ }
+{
+    if u.has_ipv6 {
+        return false;
+    }
+    if !has_fteid(row) {
+        return false;
+    }
+    row[12] / 2 % 2 == 1
+}
+
+// Does a TEID lie outside the pool?
+fn outside(teid: u64, u: Unit) -> bool
+    ensures { λ r. ⌜ r ≡ not (inPool (settingsOf u) teid) ⌝ }
+{
+    if teid < u.first {
+        return true;
+    }
+    u.size <= teid - u.first
+}
+
+// Is there an IPv4 address, and another one than the unit's?
+fn other_ipv4(row: &[u64], u: Unit) -> bool
+    requires { ⌜ length (now row) ≡ rowWidth ⌝ }
+    ensures { λ r. ⌜ r ≡ otherAddress (settingsOf u .ipv4) (rowIpv4 (now (row .entry))) ⌝ }
+{
+    if row[12] % 2 != 1 {
+        return false;
+    }
+    row[14] % 4294967296 != u.ipv4 % 4294967296
+}
+
+// The same for IPv6, of which the unit may have none.
+fn other_ipv6(row: &[u64], u: Unit) -> bool
+    requires { ⌜ length (now row) ≡ rowWidth ⌝ }
+    ensures { λ r. ⌜ r ≡ otherAddress (settingsOf u .ipv6) (rowIpv6 (now (row .entry))) ⌝ }
+{
+    if row[12] / 2 % 2 != 1 {
+        return false;
+    }
+    if !u.has_ipv6 {
+        return true;
+    }
+    if row[15] != u.high {
+        return true;
+    }
+    row[16] != u.low
+}
+
+// Cause 73: a restored F-TEID outside the pool, or with another address.
+pub fn strange(row: &[u64], u: Unit) -> bool
+    requires { ⌜ length (now row) ≡ rowWidth ⌝ }
+    ensures { λ r. ⌜ r ≡ ofFteid (strange (settingsOf u)) (now (row .entry)) ⌝ }
+{
+    if !restored(row) {
+        return false;
+    }
+    if outside(row[13], u) {
+        return true;
+    }
+    if other_ipv4(row, u) {
+        return true;
+    }
+    other_ipv6(row, u)
+}
+
+// Cause 73: a restored TEID that a session holds. The map says so of the TEIDs in the pool.
+pub fn is_held(row: &[u64], u: Unit, taken: &[u64]) -> bool
+    requires { ⌜ (length (now row) ≡ rowWidth) × (u .size ≤ 64 * length (now taken)) ⌝ }
+    ensures { λ r. ⌜ r ≡ restores (heldIn (settingsOf u) (now (taken .entry))) (rowHolding (now (row .entry))) ⌝ }
+{
+    if !restored(row) {
+        return false;
+    }
+    let teid = row[13];
+    if outside(teid, u) {
+        return false;
+    }
+    pool::is_marked(taken, (teid - u.first) as usize)
+}

@@ -1,0 +1,52 @@
+-- Walking the rows for the rules of cause 73: the first of the rows that are left, and the rest. Assumes nothing.
+use mathlib.Core.Path.{_≡_, sym, _∙_}
+use mathlib.Core.Bool.{Bool, true, false, or-false}
+use mathlib.Core.List.{List, [], _∷_}
+use Prim.Native.Nat.{ℕ, _-_, _≤_, _<_}
+use native.Mathlib.Omega.{arith}
+use lib.ListN.{length, take, drop}
+use Rattle.octets.specs.Choice.{oneOf}
+use Rattle.octets.specs.Lists.{any}
+use Rattle.rules.specs.Model.{Settings}
+use Rattle.plan.specs.Rows.{rowWidth, rowsOf}
+use Rattle.lists.proofs.RowLaws.{rows-more, rows-none}
+use Rattle.lists.proofs.Loops.{left-part}
+use Rattle.rows.specs.RowRules.{disagree}
+use Rattle.stages.specs.RowRules.{breaksId, breaksFteid, breaksRow, someRow}
+
+-- the rest of the rows as a loop has it
+abbrev rest : List ℕ → List ℕ
+rest s = take (length s - rowWidth) (drop rowWidth s)
+
+module _ (held : ℕ → Bool) (set′ : Settings) (pdrs endpoints : List ℕ) (rows : List (List ℕ)) where
+  abbrev p : List ℕ → Bool
+  p = breaksRow held set′ pdrs endpoints rows
+
+  pub some-none : (s : List ℕ) (left : ℕ) → left ≤ 0 → someRow p (rowsOf left s) ≡ false
+  unfolding someRow
+  some-none s left h =
+      let e : left ≡ 0 = omega arith in
+      rw (e, rows-none rowWidth s)
+
+  module _ (s : List ℕ) (left : ℕ) (h : 0 < left) where
+    first : someRow p (rowsOf left s) ≡ oneOf (p (take rowWidth s) ∷ any (disagree (take rowWidth s)) (rowsOf (left - 1) (rest s)) ∷ someRow p (rowsOf (left - 1) (rest s)) ∷ [])
+    unfolding someRow
+    first = rw (rows-more rowWidth left s h, left-part s rowWidth)
+
+    pub some-id : breaksId pdrs endpoints rows (take rowWidth s) ≡ true → someRow p (rowsOf left s) ≡ true
+    unfolding breaksRow
+    some-id a = first ∙ rw a
+
+    module _ (a : breaksId pdrs endpoints rows (take rowWidth s) ≡ false) where
+      pub some-fteid : breaksFteid held set′ (take rowWidth s) ≡ true → someRow p (rowsOf left s) ≡ true
+      unfolding breaksRow
+      some-fteid b = first ∙ rw (a, b)
+
+      module _ (b : breaksFteid held set′ (take rowWidth s) ≡ false) where
+        pub some-pair : any (disagree (take rowWidth s)) (rowsOf (left - 1) (rest s)) ≡ true → someRow p (rowsOf left s) ≡ true
+        unfolding breaksRow
+        some-pair d = first ∙ rw (a, b, d)
+
+        pub some-rest : any (disagree (take rowWidth s)) (rowsOf (left - 1) (rest s)) ≡ false → someRow p (rowsOf (left - 1) (rest s)) ≡ someRow p (rowsOf left s)
+        unfolding breaksRow
+        some-rest d = sym (first ∙ rw (a, b, d) (or-false (someRow p (rowsOf (left - 1) (rest s)))))

@@ -1,0 +1,167 @@
+-- The rules on one row's IDs, by the tests that code makes. Assumes nothing.
+use mathlib.Core.Path.{_≡_, refl, ap, _∙_}
+use mathlib.Core.Bool.{Bool, true, false, not, _&&_, _||_, and-false, or-true, or-false}
+use mathlib.Core.Option.{none, some}
+use mathlib.Core.List.{List, [], _∷_}
+use Prim.Native.Nat.{ℕ}
+use lib.Dec.{eqb}
+use borrow.Author.Tests.{eq-eqb, ne-eqb, eqb-true}
+use Rattle.octets.specs.Choice.{pick, isSome}
+use Rattle.octets.specs.Lists.{member, without}
+use Rattle.lists.specs.Rows.{column}
+use Rattle.rules.specs.Stages.{namesBoth, lacksFamily, strange}
+use Rattle.plan.specs.Rows.{word, hasTag, present, rowFteid, rowLocal, rowPdr}
+use Rattle.rows.proofs.RowTests.{tag-yes, tag-no}
+use Rattle.stages.specs.RowRules.{createsLive, namesDead, updatesGone, pdiNamesBoth, absentFrom, pdiNamesAbsent, breaksId, breaksFteid}
+use Rattle.rules.specs.Model.{Settings}
+use Rattle.rows.specs.RowRules.{ofFteid, rowHolding, restores}
+use Rattle.lists.proofs.Questions.{member-append}
+
+-- ---- live IDs
+
+module _ (pdrs endpoints row : List ℕ) where
+  pub creates-pdr : word 0 row ≡ 1 → createsLive pdrs endpoints row ≡ member (word 7 row) pdrs
+  unfolding createsLive hasTag
+  creates-pdr h = rw h (or-false (member (word 7 row) pdrs))
+
+  pub creates-endpoint : word 0 row ≡ 127 → createsLive pdrs endpoints row ≡ member (word 11 row) endpoints
+  unfolding createsLive hasTag
+  creates-endpoint h = rw h
+
+  pub creates-other : (word 0 row ≡ 1 → ⊥) → (word 0 row ≡ 127 → ⊥) → createsLive pdrs endpoints row ≡ false
+  unfolding createsLive
+  creates-other h g = rw (tag-no row 1 h, tag-no row 127 g)
+
+  pub dead-15 : word 0 row ≡ 15 → namesDead pdrs endpoints row ≡ not (member (word 7 row) pdrs)
+  unfolding namesDead hasTag
+  dead-15 h = rw h (or-false (not (member (word 7 row) pdrs)))
+
+  pub dead-9 : word 0 row ≡ 9 → namesDead pdrs endpoints row ≡ not (member (word 7 row) pdrs)
+  unfolding namesDead hasTag
+  dead-9 h = rw h (or-false (not (member (word 7 row) pdrs)))
+
+  pub dead-130 : word 0 row ≡ 130 → namesDead pdrs endpoints row ≡ not (member (word 11 row) endpoints)
+  unfolding namesDead hasTag
+  dead-130 h = rw h (or-false (not (member (word 11 row) endpoints)))
+
+  pub dead-other : (word 0 row ≡ 15 → ⊥) → (word 0 row ≡ 9 → ⊥) → (word 0 row ≡ 130 → ⊥) → namesDead pdrs endpoints row ≡ false
+  unfolding namesDead
+  dead-other h g k = rw (tag-no row 15 h, tag-no row 130 k, tag-no row 9 g)
+
+-- ---- updates
+
+module _ (rows : List (List ℕ)) (row : List ℕ) where
+  pub updates-other : (word 0 row ≡ 9 → ⊥) → updatesGone rows row ≡ false
+  unfolding updatesGone
+  updates-other h = rw (tag-no row 9 h)
+
+  pub updates-9 : word 0 row ≡ 9 → updatesGone rows row ≡ member (word 7 row) (column 15 7 rows)
+  unfolding updatesGone
+  updates-9 h = rw (tag-yes row 9 h)
+
+-- ---- F-TEID and endpoint ID
+
+module _ (row : List ℕ) where
+  pub both-other : (word 0 row ≡ 1 → ⊥) → pdiNamesBoth row ≡ false
+  unfolding pdiNamesBoth
+  both-other h = rw (tag-no row 1 h)
+
+  pub both-none : word 0 row ≡ 1 → (word 5 row ≡ 1 → ⊥) → pdiNamesBoth row ≡ false
+  unfolding pdiNamesBoth namesBoth rowPdr present
+  both-none h g = rw (tag-yes row 1 h, ne-eqb (word 5 row) 1 g) (and-false (isSome (rowLocal row)))
+
+  pub both-some : word 0 row ≡ 1 → word 5 row ≡ 1 → pdiNamesBoth row ≡ not (eqb (word 12 row) 0)
+  unfolding pdiNamesBoth namesBoth rowPdr present rowLocal
+  both-some h g = rw (tag-yes row 1 h, eq-eqb (word 5 row) 1 g) (one (eqb (word 12 row) 0))
+    where
+      one : (z : Bool) → (isSome (pick z none (some (rowFteid row))) && true) ≡ not z
+      one true = refl
+      one false = refl
+
+-- ---- endpoints there afterwards
+
+member-without : (e : ℕ) (xs ys : List ℕ) → member e (without xs ys) ≡ (member e xs && not (member e ys))
+unfolding member without
+member-without e [] ys = refl
+member-without e (x ∷ xs) ys = one (member x ys) (eqb e x) refl refl (member-without e xs ys)
+  where
+    one : (b t : Bool) → member x ys ≡ b → eqb e x ≡ t → member e (without xs ys) ≡ (member e xs && not (member e ys))
+        → member e (pick b (without xs ys) (x ∷ without xs ys)) ≡ ((t || member e xs) && not (member e ys))
+    one true true p q h =
+        let there : member e ys ≡ true = ap (λ (k : ℕ). member k ys) (eqb-true e x q) ∙ p in
+        h ∙ rw there (and-false (member e xs))
+    one true false p q h = h
+    one false true p q h =
+        let there : member e ys ≡ false = ap (λ (k : ℕ). member k ys) (eqb-true e x q) ∙ p in
+        rw (q, there)
+    one false false p q h = rw q h
+
+module _ (endpoints : List ℕ) (rows : List (List ℕ)) (row : List ℕ) where
+  pub absent-other : (word 0 row ≡ 1 → ⊥) → pdiNamesAbsent endpoints rows row ≡ false
+  unfolding pdiNamesAbsent
+  absent-other h = rw (tag-no row 1 h)
+
+  pub absent-none : word 0 row ≡ 1 → (word 5 row ≡ 1 → ⊥) → pdiNamesAbsent endpoints rows row ≡ false
+  unfolding pdiNamesAbsent absentFrom rowPdr present
+  absent-none h g = rw (tag-yes row 1 h, ne-eqb (word 5 row) 1 g)
+
+  pub absent-some : word 0 row ≡ 1 → word 5 row ≡ 1
+      → pdiNamesAbsent endpoints rows row
+      ≡ not ((member (word 11 row) endpoints && not (member (word 11 row) (column 130 11 rows))) || member (word 11 row) (column 127 11 rows))
+  unfolding pdiNamesAbsent absentFrom rowPdr present
+  absent-some h g =
+      rw (tag-yes row 1 h, eq-eqb (word 5 row) 1 g, member-append (word 11 row) (without endpoints (column 130 11 rows)) (column 127 11 rows), member-without (word 11 row) endpoints (column 130 11 rows))
+
+module _ (endpoints : List ℕ) (rows : List (List ℕ)) (row : List ℕ) (h : word 0 row ≡ 1) (g : word 5 row ≡ 1) where
+  pub absent-created : member (word 11 row) (column 127 11 rows) ≡ true → pdiNamesAbsent endpoints rows row ≡ false
+  absent-created k = absent-some endpoints rows row h g ∙ rw k (ap not (or-true (member (word 11 row) endpoints && not (member (word 11 row) (column 130 11 rows)))))
+
+  pub absent-gone : member (word 11 row) (column 127 11 rows) ≡ false → member (word 11 row) (column 130 11 rows) ≡ true → pdiNamesAbsent endpoints rows row ≡ true
+  absent-gone k l = absent-some endpoints rows row h g ∙ rw (k, l) (ap (λ (b : Bool). not (b || false)) (and-false (member (word 11 row) endpoints)))
+
+  pub absent-dead : member (word 11 row) (column 127 11 rows) ≡ false → member (word 11 row) (column 130 11 rows) ≡ false
+      → pdiNamesAbsent endpoints rows row ≡ not (member (word 11 row) endpoints)
+  absent-dead k l = absent-some endpoints rows row h g ∙ rw (k, l) (ap not (one (member (word 11 row) endpoints)))
+    where
+      one : (b : Bool) → ((b && true) || false) ≡ b
+      one true = refl
+      one false = refl
+
+-- ---- all rules on one row
+
+module _ (pdrs endpoints : List ℕ) (rows : List (List ℕ)) (row : List ℕ) where
+  pub breaks-1 : createsLive pdrs endpoints row ≡ true → breaksId pdrs endpoints rows row ≡ true
+  unfolding breaksId
+  breaks-1 h = rw h
+
+  module _ (a : createsLive pdrs endpoints row ≡ false) where
+    pub breaks-2 : namesDead pdrs endpoints row ≡ true → breaksId pdrs endpoints rows row ≡ true
+    unfolding breaksId
+    breaks-2 h = rw (a, h)
+
+    module _ (b : namesDead pdrs endpoints row ≡ false) where
+      pub breaks-3 : updatesGone rows row ≡ true → breaksId pdrs endpoints rows row ≡ true
+      unfolding breaksId
+      breaks-3 h = rw (a, b, h)
+
+      module _ (d : updatesGone rows row ≡ false) where
+        pub breaks-4 : pdiNamesBoth row ≡ true → breaksId pdrs endpoints rows row ≡ true
+        unfolding breaksId
+        breaks-4 h = rw (a, b, d, h)
+
+        pub breaks-5 : pdiNamesBoth row ≡ false → breaksId pdrs endpoints rows row ≡ pdiNamesAbsent endpoints rows row
+        unfolding breaksId
+        breaks-5 h = rw (a, b, d, h) (or-false (pdiNamesAbsent endpoints rows row))
+
+module _ (held : ℕ → Bool) (s : Settings) (row : List ℕ) where
+  pub tunnel-1 : ofFteid (lacksFamily s) row ≡ true → breaksFteid held s row ≡ true
+  unfolding breaksFteid
+  tunnel-1 h = rw h
+
+  pub tunnel-2 : ofFteid (lacksFamily s) row ≡ false → ofFteid (strange s) row ≡ true → breaksFteid held s row ≡ true
+  unfolding breaksFteid
+  tunnel-2 a h = rw (a, h)
+
+  pub tunnel-3 : ofFteid (lacksFamily s) row ≡ false → ofFteid (strange s) row ≡ false → breaksFteid held s row ≡ restores held (rowHolding row)
+  unfolding breaksFteid
+  tunnel-3 a h = rw (a, h) (or-false (restores held (rowHolding row)))

@@ -1,0 +1,8 @@
+pub mod IdLaws
+pub mod SlotLaws
+pub mod BreakLaws
+pub mod UnitLaws
+pub mod RuleLaws
+pub mod CauseLaws
+pub mod VerdictLaws
+pub mod EntryLaws

@@ -1,0 +1,127 @@
+-- The settings at the front of a table, and how many records a request leaves. Assumes nothing.
+use mathlib.Core.Path.{_≡_, refl, sym, ap, _∙_}
+use mathlib.Core.Bool.{Bool, true, false, not, or-false}
+use mathlib.Core.List.{List, [], _∷_, _++_}
+use Prim.Native.Nat.{ℕ, zero, suc, _+_, _-_, _*_, _≤_, _<_}
+use native.Mathlib.Omega.{arith}
+use lib.Dec.{T, eqb, ltb, leb}
+use lib.ListN.{length, take, drop, getD, length-map}
+use lib.Seq.{take-add, drop-drop}
+use borrow.Author.Tests.{ne-eqb}
+use Rattle.octets.specs.Choice.{pick}
+use Rattle.octets.specs.Octets.{be, number, numberAt, octetAt, part, octets, slices}
+use Rattle.octets.specs.Lists.{keep}
+use Rattle.octets.proofs.Put.{length-part}
+use Rattle.octets.proofs.Digits.{be-number, part-octets, octets-known}
+use Rattle.rules.specs.Limits.{maxSessions}
+use Rattle.rules.specs.Model.{Settings, Session, Sessions, freeCount}
+use Rattle.rules.specs.Layout.{viewSettings, viewSession, viewSessions, viewArea, viewPdr, viewEndpoint, pdrWidth, endpointWidth, sessionHead}
+use Rattle.rules.specs.Grants.{need}
+use Rattle.rules.specs.Message.{Request}
+use Rattle.rules.specs.Stages.{tooManySessions, tooManyPdrs, tooManyEndpoints, tooFewTeids, noRoom}
+use Rattle.plan.specs.Rows.{tagged, hasTag, rowsOf, rowPdr, rowEndpoint, rowPdrId, rowEndpointId, requestIn}
+use Rattle.rows.specs.declared.Unit.{Unit}
+use Rattle.rows.specs.Units.{settingsOf}
+
+-- ---- settings
+
+settings-eq : {a a′ b b′ : List ℕ} {f f′ n n′ : ℕ} → a ≡ a′ → b ≡ b′ → f ≡ f′ → n ≡ n′
+    → _≡_ {A = Settings} (record { ipv4 = a; ipv6 = b; first = f; size = n }) (record { ipv4 = a′; ipv6 = b′; first = f′; size = n′ })
+settings-eq p q r s = λ i. record { ipv4 = p i; ipv6 = q i; first = r i; size = s i }
+
+-- octets of a list read as a number and written again
+written : (at n : ℕ) (s : List ℕ) → T (octets s) → at + n ≤ length s → be n (number (part at n s)) ≡ part at n s
+written at n s h g = ap (λ (k : ℕ). be k (number (part at n s))) (sym (length-part at n s g)) ∙ be-number (part at n s) (part-octets at n s h)
+
+two-halves : (s : List ℕ) → part 5 16 s ≡ part 5 8 s ++ part 13 8 s
+two-halves s = take-add 8 8 (drop 5 s) ∙ ap (λ (l : List ℕ). part 5 8 s ++ take 8 l) (drop-drop 8 5 s)
+
+pub unit-is : (t : List ℕ) (u : Unit) → ((i : ℕ) → getD t i 0 < 256) → 29 ≤ length t
+    → u .ipv4 ≡ number (part 0 4 t) → u .«has_ipv6» ≡ not (eqb (getD t 4 0) 0) → u .high ≡ number (part 5 8 t) → u .low ≡ number (part 13 8 t)
+    → u .first ≡ number (part 21 4 t) → u .size ≡ number (part 25 4 t)
+    → settingsOf u ≡ viewSettings t
+unfolding settingsOf viewSettings octetAt numberAt
+unit-is t u k long a b h l f n =
+    let bytes = octets-known t k in
+    settings-eq
+    (rw a (written 0 4 t bytes (omega arith)))
+    (rw (b, h, l, written 5 8 t bytes (omega arith), written 13 8 t bytes (omega arith), ← two-halves t) (one (eqb (getD t 4 0) 0)))
+    f
+    n
+  where
+    one : (z : Bool) → pick (not z) (part 5 16 t) [] ≡ pick z [] (part 5 16 t)
+    one true = refl
+    one false = refl
+
+pub unit-size : (u : Unit) (s : Settings) → settingsOf u ≡ s → u .size ≡ s .size
+unfolding settingsOf
+unit-size u s e = ap (λ (x : Settings). x .size) e
+
+-- ---- counts
+
+pub slices-length : (w n : ℕ) (s : List ℕ) → length (slices w n s) ≡ n
+unfolding slices
+slices-length w zero s = refl
+slices-length w (suc n) s = ap suc (slices-length w n (drop w s))
+
+keep-length : {A : Type 0} (t : A → Bool) (xs : List A) → length (keep t xs) ≤ length xs
+unfolding keep
+keep-length t [] = omega arith
+keep-length t (x ∷ xs) = one (t x) (keep-length t xs)
+  where
+    one : (b : Bool) → length (keep t xs) ≤ length xs → length (pick b (x ∷ keep t xs) (keep t xs)) ≤ suc (length xs)
+    one true h = omega arith
+    one false h = omega arith
+
+pub tagged-length : (tag n : ℕ) (s : List ℕ) → length (tagged tag (rowsOf n s)) ≤ n
+unfolding tagged
+tagged-length tag n s = omega (arith, keep-length (hasTag tag) (rowsOf n s), slices-length 18 n s)
+
+pub session-count : (t : List ℕ) → length (viewSessions t) ≡ number (part 29 2 t)
+unfolding viewSessions viewArea numberAt
+session-count t = length-map (slices _ (number (part 29 2 t)) _) viewSession ∙ slices-length _ (number (part 29 2 t)) _
+
+pub full-other : (kind : ℕ) (m : Sessions) → (kind ≡ 50 → ⊥) → tooManySessions maxSessions kind m ≡ false
+unfolding tooManySessions
+full-other kind m h = rw (ne-eqb kind 50 h)
+
+pub full-new : (kind : ℕ) (t : List ℕ) (n : ℕ) → kind ≡ 50 → n ≡ number (part 29 2 t) → leb 64 n ≡ tooManySessions maxSessions kind (viewSessions t)
+unfolding tooManySessions
+full-new kind t n h e = rw (h, e, session-count t)
+
+-- more removed than live
+pub too-many-none : (live limit g n : ℕ) → live < g → ltb limit n ≡ ltb limit (live - g + n)
+too-many-none live limit g n h = let e : n ≡ live - g + n = omega arith in ap (ltb limit) e
+
+-- ---- cause 75
+
+module _ (slot : List ℕ) (seid : ℕ) (restoring noted : Bool) (rows : List (List ℕ)) where
+  pub many-pdrs : tooManyPdrs (viewSession slot) (requestIn seid restoring noted rows) ≡ ltb 16 (getD slot 8 0 - length (tagged 15 rows) + length (tagged 1 rows))
+  unfolding tooManyPdrs viewSession viewArea requestIn octetAt
+  many-pdrs =
+      rw (length-map (slices pdrWidth (getD slot 8 0) (drop sessionHead slot)) viewPdr, slices-length pdrWidth (getD slot 8 0) (drop sessionHead slot), length-map (tagged 15 rows) rowPdrId, length-map (tagged 1 rows) rowPdr)
+
+  pub many-endpoints : tooManyEndpoints (viewSession slot) (requestIn seid restoring noted rows) ≡ ltb 8 (getD slot 9 0 - length (tagged 130 rows) + length (tagged 127 rows))
+  unfolding tooManyEndpoints viewSession viewArea requestIn octetAt
+  many-endpoints =
+      rw (length-map (slices endpointWidth (getD slot 9 0) (drop (sessionHead + 16 * pdrWidth) slot)) viewEndpoint, slices-length endpointWidth (getD slot 9 0) (drop (sessionHead + 16 * pdrWidth) slot), length-map (tagged 130 rows) rowEndpointId, length-map (tagged 127 rows) rowEndpoint)
+
+-- the tests one after the other
+module _ (limit kind : ℕ) (s : Settings) (m : Sessions) (x : Session) (r : Request) where
+  pub room-1 : tooManySessions limit kind m ≡ true → noRoom limit kind s m x r ≡ true
+  unfolding noRoom
+  room-1 h = rw h
+
+  module _ (a : tooManySessions limit kind m ≡ false) where
+    pub room-2 : tooManyPdrs x r ≡ true → noRoom limit kind s m x r ≡ true
+    unfolding noRoom
+    room-2 h = rw (a, h)
+
+    module _ (b : tooManyPdrs x r ≡ false) where
+      pub room-3 : tooManyEndpoints x r ≡ true → noRoom limit kind s m x r ≡ true
+      unfolding noRoom
+      room-3 h = rw (a, b, h)
+
+      pub room-4 : (free n : ℕ) → tooManyEndpoints x r ≡ false → free ≡ freeCount s m → n ≡ need r → ltb free n ≡ noRoom limit kind s m x r
+      unfolding noRoom tooFewTeids
+      room-4 free n h f e = rw (a, b, h, f, e) (sym (or-false (ltb (freeCount s m) (need r))))

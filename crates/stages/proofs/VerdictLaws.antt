@@ -1,0 +1,127 @@
+-- The verdict of stages 4 to 6, one cause after the other, from what the code has found. Assumes nothing.
+use mathlib.Core.Path.{_≡_, refl, sym, ap, _∙_}
+use mathlib.Core.Bool.{Bool, true, false, _&&_}
+use mathlib.Core.List.{List, [], _∷_}
+use Prim.Native.Nat.{ℕ}
+use lib.Dec.{eqb, ltb}
+use borrow.Author.Tests.{eqb-true}
+use Rattle.octets.specs.Choice.{pick, oneOf}
+use Rattle.rules.specs.Model.{Settings, Session, Sessions, freeCount}
+use Rattle.rules.specs.Limits.{maxSessions}
+use Rattle.rules.specs.Message.{establishment, Request}
+use Rattle.rules.specs.Layout.{viewSettings, viewSession, viewSessions}
+use Rattle.rules.specs.Grants.{need}
+use Rattle.rules.specs.Stages.{isLive, invalidAllocation, breaksRule, tooManySessions, tooManyPdrs, tooManyEndpoints, tooFewTeids, noRoom, judge, plain}
+use Rattle.plan.specs.Rows.{rowsOf, requestIn}
+use Rattle.rows.specs.RowRules.{heldIn}
+use Rattle.rows.proofs.RequestLaws.{invalid-rows, unsupported-rows}
+use Rattle.rows.proofs.NeedLaws.{need-rows}
+use Rattle.stages.specs.Rules.{AtEntry, breaksRuleBy}
+use Rattle.stages.proofs.CauseLaws.{breaks-by, map-agrees, rule-rows}
+
+-- the request's SEID, restoration and element 129 do not matter to cause 75
+pdrs-same : (x : Session) (seid : ℕ) (restoring noted : Bool) (rows : List (List ℕ)) → tooManyPdrs x (requestIn 0 false false rows) ≡ tooManyPdrs x (requestIn seid restoring noted rows)
+unfolding tooManyPdrs requestIn
+pdrs-same x seid restoring noted rows = refl
+
+endpoints-same : (x : Session) (seid : ℕ) (restoring noted : Bool) (rows : List (List ℕ)) → tooManyEndpoints x (requestIn 0 false false rows) ≡ tooManyEndpoints x (requestIn seid restoring noted rows)
+unfolding tooManyEndpoints requestIn
+endpoints-same x seid restoring noted rows = refl
+
+room-rows : (limit kind : ℕ) (s : Settings) (m : Sessions) (x : Session) (seid : ℕ) (restoring noted : Bool) (rows : List (List ℕ))
+    → noRoom limit kind s m x (requestIn 0 false false rows) ≡ noRoom limit kind s m x (requestIn seid restoring noted rows)
+unfolding noRoom tooFewTeids
+room-rows limit kind s m x seid restoring noted rows =
+    let few : need (requestIn 0 false false rows) ≡ need (requestIn seid restoring noted rows) = need-rows 0 false false rows ∙ sym (need-rows seid restoring noted rows) in
+    λ i. oneOf (tooManySessions limit kind m ∷ pdrs-same x seid restoring noted rows i ∷ endpoints-same x seid restoring noted rows i ∷ ltb (freeCount s m) (few i) ∷ [])
+
+-- ---- the causes, in 01's order
+
+unfoldable pub chain : Bool → Bool → Bool → Bool → Bool → ℕ
+chain a b c d e = pick a 64 (pick b 71 (pick c 76 (pick d 73 (pick e 75 1))))
+
+judge-is : (limit kind : ℕ) (s : Settings) (m : Sessions) (x : Session) (r : Request) (seid : ℕ) → r .seid ≡ seid
+    → judge limit kind s m x r .cause ≡ chain (eqb kind establishment && isLive seid m) (invalidAllocation r) (r .unsupported) (breaksRule s m x r) (noRoom limit kind s m x r)
+unfolding judge chain
+judge-is limit kind s m x r seid h =
+    one (eqb kind establishment && isLive (r .seid) m) (invalidAllocation r) (r .unsupported) (breaksRule s m x r) (noRoom limit kind s m x r)
+    ∙ ap (λ (k : ℕ). chain (eqb kind establishment && isLive k m) (invalidAllocation r) (r .unsupported) (breaksRule s m x r) (noRoom limit kind s m x r)) h
+  where
+    one : (a b c d e : Bool) → pick a (plain 64) (pick b (plain 71) (pick c (plain 76) (pick d (plain 73) (pick e (plain 75) (plain 1))))) .cause ≡ chain a b c d e
+    one true b c d e = refl
+    one false true c d e = refl
+    one false false true d e = refl
+    one false false false true e = refl
+    one false false false false true = refl
+    one false false false false false = refl
+
+module _ (a b c d e : Bool) where
+  pub is-64 : a ≡ true → chain a b c d e ≡ 64
+  unfolding chain
+  is-64 h = rw h
+
+  module _ (p : a ≡ false) where
+    pub is-71 : b ≡ true → chain a b c d e ≡ 71
+    unfolding chain
+    is-71 h = rw (p, h)
+
+    module _ (q : b ≡ false) where
+      pub is-76 : c ≡ true → chain a b c d e ≡ 76
+      unfolding chain
+      is-76 h = rw (p, q, h)
+
+      module _ (r : c ≡ false) where
+        pub is-73 : d ≡ true → chain a b c d e ≡ 73
+        unfolding chain
+        is-73 h = rw (p, q, r, h)
+
+        module _ (s : d ≡ false) where
+          pub is-75 : e ≡ true → chain a b c d e ≡ 75
+          unfolding chain
+          is-75 h = rw (p, q, r, s, h)
+
+          pub is-1 : e ≡ false → chain a b c d e ≡ 1
+          unfolding chain
+          is-1 h = rw (p, q, r, s, h)
+
+module _ {t taken slot plan : List ℕ} {n free kind seid : ℕ} {live : Bool} (restoring noted : Bool) (known : AtEntry t taken slot plan n free kind seid live) where
+  live-same : (eqb kind establishment && live) ≡ (eqb kind establishment && isLive seid (viewSessions t))
+  live-same = one (eqb kind 50) refl
+    where
+      one : (b : Bool) → eqb kind 50 ≡ b → (b && live) ≡ (b && isLive seid (viewSessions t))
+      one true e = known .known (eqb-true kind 50 e)
+      one false e = refl
+
+  rule-same : breaksRuleBy (heldIn (viewSettings t) taken) (viewSettings t) (viewSession slot) (requestIn 0 false false (rowsOf n plan))
+      ≡ breaksRule (viewSettings t) (viewSessions t) (viewSession slot) (requestIn seid restoring noted (rowsOf n plan))
+  rule-same =
+      rule-rows (heldIn (viewSettings t) taken) (viewSettings t) (viewSession slot) seid restoring noted (rowsOf n plan)
+      ∙ breaks-by (heldIn (viewSettings t) taken) (viewSettings t) (viewSessions t) (viewSession slot) seid restoring noted (rowsOf n plan) (map-agrees (viewSettings t) (viewSessions t) taken (known .marks))
+
+  -- the verdict by five tests, as code makes them
+  pub verdict-is : judge maxSessions kind (viewSettings t) (viewSessions t) (viewSession slot) (requestIn seid restoring noted (rowsOf n plan)) .cause
+      ≡ chain (eqb kind establishment && live) (invalidAllocation (requestIn 0 restoring false (rowsOf n plan))) (requestIn 0 false noted (rowsOf n plan) .unsupported)
+      (breaksRuleBy (heldIn (viewSettings t) taken) (viewSettings t) (viewSession slot) (requestIn 0 false false (rowsOf n plan)))
+      (noRoom maxSessions kind (viewSettings t) (viewSessions t) (viewSession slot) (requestIn 0 false false (rowsOf n plan)))
+  verdict-is =
+      let a = live-same in
+      let b : invalidAllocation (requestIn 0 restoring false (rowsOf n plan)) ≡ invalidAllocation (requestIn seid restoring noted (rowsOf n plan)) = invalid-rows 0 restoring false (rowsOf n plan) ∙ sym (invalid-rows seid restoring noted (rowsOf n plan)) in
+      let c : requestIn 0 false noted (rowsOf n plan) .unsupported ≡ requestIn seid restoring noted (rowsOf n plan) .unsupported = unsupported-rows 0 false noted (rowsOf n plan) ∙ sym (unsupported-rows seid restoring noted (rowsOf n plan)) in
+      let e = room-rows maxSessions kind (viewSettings t) (viewSessions t) (viewSession slot) seid restoring noted (rowsOf n plan) in
+      judge-is maxSessions kind (viewSettings t) (viewSessions t) (viewSession slot) (requestIn seid restoring noted (rowsOf n plan)) seid (unfold requestIn in refl)
+      ∙ sym (λ i. chain (a i) (b i) (c i) (rule-same i) (e i))
+
+-- these causes name no element
+pub judge-plain : (limit kind : ℕ) (s : Settings) (m : Sessions) (x : Session) (r : Request) → judge limit kind s m x r ≡ plain (judge limit kind s m x r .cause)
+unfolding judge
+judge-plain limit kind s m x r = one (eqb kind establishment && isLive (r .seid) m) (invalidAllocation r) (r .unsupported) (breaksRule s m x r) (noRoom limit kind s m x r)
+  where
+    one : (a b c d e : Bool)
+        → pick a (plain 64) (pick b (plain 71) (pick c (plain 76) (pick d (plain 73) (pick e (plain 75) (plain 1)))))
+        ≡ plain (pick a (plain 64) (pick b (plain 71) (pick c (plain 76) (pick d (plain 73) (pick e (plain 75) (plain 1))))) .cause)
+    one true b c d e = refl
+    one false true c d e = refl
+    one false false true d e = refl
+    one false false false true e = refl
+    one false false false false true = refl
+    one false false false false false = refl

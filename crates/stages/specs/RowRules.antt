@@ -1,0 +1,64 @@
+-- The rules of cause 73 as they meet one row of a plan, given the IDs of the session's live PDRs and endpoints, and all rows.
+-- Assumes nothing.
+use Prim.Native.Nat.{ℕ}
+use mathlib.Core.Bool.{Bool, false, not, _&&_, _||_}
+use mathlib.Core.Option.{Option, none, some}
+use mathlib.Core.List.{List, [], _∷_, _++_}
+use Rattle.octets.specs.Choice.{oneOf}
+use Rattle.octets.specs.Lists.{member, any, without}
+use Rattle.lists.specs.Rows.{column}
+use Rattle.rules.specs.Model.{Settings, Pdr, pdrEndpoint}
+use Rattle.rules.specs.Stages.{namesBoth, namedEndpoint, lacksFamily, strange}
+use Rattle.plan.specs.Rows.{word, hasTag, rowPdr}
+use Rattle.rows.specs.RowRules.{ofFteid, rowHolding, restores, disagree}
+
+-- a created ID live at entry
+unfoldable pub createsLive : List ℕ → List ℕ → List ℕ → Bool
+createsLive pdrs endpoints row = (hasTag 1 row && member (word 7 row) pdrs) || (hasTag 127 row && member (word 11 row) endpoints)
+
+-- a removed or updated ID not live at entry
+unfoldable pub namesDead : List ℕ → List ℕ → List ℕ → Bool
+namesDead pdrs endpoints row =
+    oneOf ((hasTag 15 row && not (member (word 7 row) pdrs)) ∷ (hasTag 130 row && not (member (word 11 row) endpoints)) ∷ (hasTag 9 row && not (member (word 7 row) pdrs)) ∷ [])
+
+-- an update of a removed PDR
+unfoldable pub updatesGone : List (List ℕ) → List ℕ → Bool
+updatesGone rows row = hasTag 9 row && member (word 7 row) (column 15 7 rows)
+
+-- F-TEID and endpoint ID in one PDI
+unfoldable pub pdiNamesBoth : List ℕ → Bool
+pdiNamesBoth row = hasTag 1 row && namesBoth (rowPdr row)
+
+-- an endpoint ID that is not among those there afterwards
+unfoldable pub absentFrom : List ℕ → Option ℕ → Bool
+absentFrom ids none = false
+absentFrom ids (some e) = not (member e ids)
+
+unfoldable pub pdiNamesAbsent : List ℕ → List (List ℕ) → List ℕ → Bool
+pdiNamesAbsent endpoints rows row = hasTag 1 row && absentFrom (without endpoints (column 130 11 rows) ++ column 127 11 rows) (namedEndpoint (rowPdr row))
+
+-- the rules on a row's IDs
+unfoldable pub breaksId : List ℕ → List ℕ → List (List ℕ) → List ℕ → Bool
+breaksId pdrs endpoints rows row =
+    oneOf (createsLive pdrs endpoints row ∷ namesDead pdrs endpoints row ∷ updatesGone rows row ∷ pdiNamesBoth row ∷ pdiNamesAbsent endpoints rows row ∷ [])
+
+-- the rules on a row's F-TEID, with a test of the TEIDs that are held
+unfoldable pub breaksFteid : (ℕ → Bool) → Settings → List ℕ → Bool
+breaksFteid held s row = oneOf (ofFteid (lacksFamily s) row ∷ ofFteid (strange s) row ∷ restores held (rowHolding row) ∷ [])
+
+-- a row for which a test holds, or two of which the earlier disagrees with the later
+unfoldable pub someRow : (List ℕ → Bool) → List (List ℕ) → Bool
+someRow p [] = false
+someRow p (row ∷ later) = oneOf (p row ∷ any (disagree row) later ∷ someRow p later ∷ [])
+
+-- the rules on rows
+unfoldable pub breaksRow : (ℕ → Bool) → Settings → List ℕ → List ℕ → List (List ℕ) → List ℕ → Bool
+breaksRow held s pdrs endpoints rows row = breaksId pdrs endpoints rows row || breaksFteid held s row
+
+-- a live PDR that stays and names an endpoint that is removed
+unfoldable pub namedIn : List ℕ → Option ℕ → Bool
+namedIn ids none = false
+namedIn ids (some e) = member e ids
+
+unfoldable pub namesGone : List (List ℕ) → Pdr → Bool
+namesGone rows p = not (member (p .id) (column 15 7 rows)) && namedIn (column 130 11 rows) (pdrEndpoint p)

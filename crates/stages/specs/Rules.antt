@@ -1,0 +1,55 @@
+-- Cause 73 with a test in place of the list of held TEIDs, and what is known of table, map and slot before stages 4 and 5. Assumes nothing.
+use Prim.Native.Nat.{ℕ, _+_, _*_, _≤_, _<_}
+use mathlib.Core.Path.{_≡_}
+use mathlib.Core.Bool.{Bool, not, _||_}
+use mathlib.Core.List.{List, [], _∷_}
+use lib.ListN.{length, getD}
+use Rattle.octets.specs.Choice.{oneOf}
+use Rattle.octets.specs.Lists.{member, any, allPairs}
+use Rattle.rules.specs.Limits.{maxPdrs, maxEndpoints}
+use Rattle.rules.specs.Layout.{viewSettings, viewSessions}
+use Rattle.rules.specs.Model.{Settings, Session, teidOf, heldTeids, freeCount}
+use Rattle.plan.specs.Rows.{rowWidth}
+use Rattle.pool.specs.Map.{marked}
+use Rattle.rules.specs.Message.{Request}
+use Rattle.rules.specs.Sound.{agree}
+use Rattle.rules.specs.Stages.{isLive, idTwice, createdLive, absentId, updatesRemoved, namesBoth, namesAbsent, endpointInUse, choicesAgree, lacksFamily, strange, fteidsOf, restoredHoldings}
+
+-- a restored TEID that is held, or shared against the table's rule
+unfoldable pub clashBy : (ℕ → Bool) → Request → Bool
+clashBy held r = any (λ h. held (teidOf h)) (restoredHoldings r) || not (allPairs agree (restoredHoldings r))
+
+-- the rules but the last, in 01's order
+unfoldable pub otherRules : Settings → Session → Request → List Bool
+otherRules s x r =
+    idTwice r
+    ∷ createdLive x r
+    ∷ absentId x r
+    ∷ updatesRemoved r
+    ∷ any namesBoth (r .pdrs)
+    ∷ namesAbsent x r
+    ∷ endpointInUse x r
+    ∷ not (allPairs choicesAgree (r .pdrs))
+    ∷ any (lacksFamily s) (fteidsOf r)
+    ∷ any (strange s) (fteidsOf r)
+    ∷ []
+
+unfoldable pub breaksRuleBy : (ℕ → Bool) → Settings → Session → Request → Bool
+breaksRuleBy held s x r = oneOf (otherRules s x r) || clashBy held r
+
+-- the octets of a session's slot: as many as the layout has, and counts of records within the limits
+pub record Slot (slot : List ℕ) : Type 0 where
+  pub long : length slot ≡ 483
+  pub pdrs : getD slot 8 0 ≤ maxPdrs
+  pub endpoints : getD slot 9 0 ≤ maxEndpoints
+
+-- What is known before stages 4 and 5: the table's settings and session count can be read, the map has a bit for each TEID of the pool,
+-- set where a session holds the TEID, the free count is 01's, and for an establishment (50) it is known whether the SEID is live.
+pub record AtEntry (t taken slot plan : List ℕ) (n free kind seid : ℕ) (live : Bool) : Type 0 where
+  pub long : 31 ≤ length t
+  pub place : Slot slot
+  pub rows : n * rowWidth ≤ length plan
+  pub wide : viewSettings t .size ≤ 64 * length taken
+  pub marks : (i : ℕ) → i < viewSettings t .size → marked taken i ≡ member (viewSettings t .first + i) (heldTeids (viewSessions t))
+  pub count : free ≡ freeCount (viewSettings t) (viewSessions t)
+  pub known : kind ≡ 50 → live ≡ isLive seid (viewSessions t)

@@ -1,0 +1,196 @@
+// Stages 4 and 5 of a request: the causes 64, 71, 76, 73 and 75, judged on the plan's rows and the session's slot at entry. Nothing is written here.
+ghost use mathlib.Core.Path.{_≡_};
+ghost use mathlib.Core.Bool.{false, _&&_};
+ghost use Prim.Native.Nat.{_*_, _+_, _-_, _≤_};
+ghost use lib.Dec.{eqb, ltb};
+ghost use lib.ListN.{length};
+ghost use Rattle.rules.specs.Limits.{maxSessions};
+ghost use Rattle.rules.specs.Message.{establishment};
+ghost use Rattle.rules.specs.Model.{freeCount};
+ghost use Rattle.rules.specs.Layout.{viewSettings, viewSession, viewSessions};
+ghost use Rattle.rules.specs.Stages.{tooManySessions, noRoom, judge};
+ghost use Rattle.plan.specs.Rows.{rowWidth, rowsOf, tagged, requestIn};
+ghost use Rattle.rows.specs.RowRules.{requestOf, heldIn};
+ghost use Rattle.rows.specs.Units.{settingsOf};
+ghost use Rattle.stages.specs.RowRules.{breaksRow, someRow};
+ghost use Rattle.stages.specs.Rules.{Slot, AtEntry, breaksRuleBy};
+
+pub mod row;
+pub mod session;
+
+use rows::Unit;
+
+// Sessions in a table, PDRs and traffic endpoints in a session.
+pub const SESSIONS: u64 = 64;
+
+pub const PDRS: usize = 16;
+
+pub const ENDPOINTS: usize = 8;
+
+// The settings at the front of a table.
+pub fn unit(t: &[u8]) -> Unit
+    requires { ⌜ 29 ≤ length (now t) ⌝ }
+    ensures { λ r. ⌜ settingsOf r ≡ viewSettings (now (t .entry)) ⌝ }
+{
+    let ipv4 = octets::read(t, 0, 4);
+    let has_ipv6 = t[4] != 0;
+    let high = octets::read(t, 5, 8);
+    let low = octets::read(t, 13, 8);
+    let first = octets::read(t, 21, 4);
+    let size = octets::read(t, 25, 4);
+    Unit {
+        ipv4,
+        has_ipv6,
+        high,
+        low,
+        first,
+        size,
+    }
+}
+
+// Cause 73: does one of the n rows break a rule?
+fn breaks_rows(
+    plan: &[u64],
+    n: usize,
+    pdrs: &[u64],
+    endpoints: &[u64],
+    u: Unit,
+    taken: &[u64],
+) -> bool
+    requires { ⌜ (n * rowWidth ≤ length (now plan)) × (u .size ≤ 64 * length (now taken)) ⌝ }
+    ensures { λ r. ⌜ r ≡ someRow (breaksRow (heldIn (settingsOf u) (now (taken .entry))) (settingsOf u) (now (pdrs .entry)) (now (endpoints .entry)) (rowsOf n (now (plan .entry)))) (rowsOf n (now (plan .entry))) ⌝ }
+{
+    let mut rest = plan;
+    let mut left = n;
+    while 0 < left {
+        let row = &rest[..rows::WIDTH];
+        rest = &rest[rows::WIDTH..];
+        left -= 1;
+        if row::breaks_id(row, plan, n, pdrs, endpoints) {
+            return true;
+        }
+        if row::breaks_fteid(row, u, taken) {
+            return true;
+        }
+        if rows::disagrees(row, rest, left) {
+            return true;
+        }
+    }
+    false
+}
+
+// Cause 73: is a rule broken?
+pub fn breaks_rule(t: &[u8], taken: &[u64], slot: &[u8], plan: &[u64], n: usize) -> bool
+    requires { ⌜ (29 ≤ length (now t)) × (viewSettings (now t) .size ≤ 64 * length (now taken)) × Slot (now slot) × (n * rowWidth ≤ length (now plan)) ⌝ }
+    ensures { λ r. ⌜ r ≡ breaksRuleBy (heldIn (viewSettings (now (t .entry))) (now (taken .entry))) (viewSettings (now (t .entry))) (viewSession (now (slot .entry))) (requestOf false (rowsOf n (now (plan .entry)))) ⌝ }
+{
+    let k = slot[8] as usize;
+    let j = slot[9] as usize;
+    let mut pdrs = [0u64; PDRS];
+    let mut endpoints = [0u64; ENDPOINTS];
+    session::ids(
+        &slot[session::PDRS_AT..],
+        k,
+        session::PDR_WIDTH,
+        2,
+        &mut pdrs,
+    );
+    session::ids(
+        &slot[session::ENDPOINTS_AT..],
+        j,
+        session::ENDPOINT_WIDTH,
+        1,
+        &mut endpoints,
+    );
+    let u = unit(t);
+    if breaks_rows(plan, n, &pdrs[..k], &endpoints[..j], u, taken) {
+        return true;
+    }
+    session::endpoint_in_use(slot, plan, n)
+}
+
+// Would more records result than there is room for? Live ones less those removed, plus those created.
+fn too_many(live: usize, limit: usize, plan: &[u64], n: usize, gone: u64, new: u64) -> bool
+    requires { ⌜ (live ≤ 255) × (n * rowWidth ≤ length (now plan)) ⌝ }
+    ensures { λ r. ⌜ r ≡ ltb limit (live - length (tagged gone (rowsOf n (now (plan .entry)))) + length (tagged new (rowsOf n (now (plan .entry))))) ⌝ }
+{
+    let removed = rows::count(plan, n, gone);
+    let created = rows::count(plan, n, new);
+    if live < removed {
+        return limit < created;
+    }
+    limit < live - removed + created
+}
+
+// Would an establishment be one session too many?
+fn full(t: &[u8], kind: u64) -> bool
+    requires { ⌜ 31 ≤ length (now t) ⌝ }
+    ensures { λ r. ⌜ r ≡ tooManySessions maxSessions kind (viewSessions (now (t .entry))) ⌝ }
+{
+    if kind != 50 {
+        return false;
+    }
+    SESSIONS <= octets::read(t, 29, 2)
+}
+
+// Cause 75: more than 64 sessions, 16 PDRs or 8 endpoints would result, or more TEIDs are needed than are free at entry.
+pub fn no_room(t: &[u8], free: usize, kind: u64, slot: &[u8], plan: &[u64], n: usize) -> bool
+    requires { ⌜ (31 ≤ length (now t)) × (free ≡ freeCount (viewSettings (now t)) (viewSessions (now t))) × Slot (now slot) × (n * rowWidth ≤ length (now plan)) ⌝ }
+    ensures { λ r. ⌜ r ≡ noRoom maxSessions kind (viewSettings (now (t .entry))) (viewSessions (now (t .entry))) (viewSession (now (slot .entry))) (requestOf false (rowsOf n (now (plan .entry)))) ⌝ }
+{
+    if full(t, kind) {
+        return true;
+    }
+    if too_many(slot[8] as usize, PDRS, plan, n, 15, 1) {
+        return true;
+    }
+    if too_many(slot[9] as usize, ENDPOINTS, plan, n, 130, 127) {
+        return true;
+    }
+    free < rows::need(plan, n)
+}
+
+// Cause 64: an establishment of a live SEID.
+fn already_live(kind: u64, live: bool) -> bool
+    ensures { λ r. ⌜ r ≡ (eqb kind establishment && live) ⌝ }
+{
+    if kind != 50 {
+        return false;
+    }
+    live
+}
+
+// The cause of stages 4 to 6, 1 where there is none. seid is the F-SEID's, and live says whether its session is: for an establishment.
+pub fn judge(
+    t: &[u8],
+    taken: &[u64],
+    free: usize,
+    kind: u64,
+    seid: u64,
+    live: bool,
+    slot: &[u8],
+    plan: &[u64],
+    n: usize,
+    restoring: bool,
+    noted: bool,
+) -> u64
+    requires { ⌜ AtEntry (now t) (now taken) (now slot) (now plan) n free kind seid live ⌝ }
+    ensures { λ r. ⌜ r ≡ judge maxSessions kind (viewSettings (now (t .entry))) (viewSessions (now (t .entry))) (viewSession (now (slot .entry))) (requestIn seid restoring noted (rowsOf n (now (plan .entry)))) .cause ⌝ }
+{
+    if already_live(kind, live) {
+        return 64;
+    }
+    if rows::invalid_allocation(plan, n, restoring) {
+        return 71;
+    }
+    if rows::unsupported(plan, n, noted) {
+        return 76;
+    }
+    if breaks_rule(t, taken, slot, plan, n) {
+        return 73;
+    }
+    if no_room(t, free, kind, slot, plan, n) {
+        return 75;
+    }
+    1
+}

@@ -1,0 +1,120 @@
+// The rules of cause 73 on one row: on its IDs, by the session's live IDs and the other rows, and on its F-TEID.
+use rows::Unit;
+ghost use mathlib.Core.Path.{_≡_};
+ghost use Prim.Native.Nat.{_*_, _≤_};
+ghost use lib.ListN.{length};
+ghost use Rattle.plan.specs.Rows.{rowWidth, rowsOf};
+ghost use Rattle.rows.specs.RowRules.{heldIn};
+ghost use Rattle.rows.specs.Units.{settingsOf};
+ghost use Rattle.stages.specs.RowRules.{createsLive, namesDead, updatesGone, pdiNamesBoth, pdiNamesAbsent, breaksId, breaksFteid};
+
+// A created ID live at entry.
+fn created_live(row: &[u64], pdrs: &[u64], endpoints: &[u64]) -> bool
+    requires { ⌜ length (now row) ≡ rowWidth ⌝ }
+    ensures { λ r. ⌜ r ≡ createsLive (now (pdrs .entry)) (now (endpoints .entry)) (now (row .entry)) ⌝ }
+{
+    if row[0] == 1 {
+        return lists::is_in(row[7], pdrs);
+    }
+    if row[0] == 127 {
+        return lists::is_in(row[11], endpoints);
+    }
+    false
+}
+
+// A removed or updated ID not live at entry.
+fn absent_id(row: &[u64], pdrs: &[u64], endpoints: &[u64]) -> bool
+    requires { ⌜ length (now row) ≡ rowWidth ⌝ }
+    ensures { λ r. ⌜ r ≡ namesDead (now (pdrs .entry)) (now (endpoints .entry)) (now (row .entry)) ⌝ }
+{
+    if row[0] == 15 {
+        return !lists::is_in(row[7], pdrs);
+    }
+    if row[0] == 9 {
+        return !lists::is_in(row[7], pdrs);
+    }
+    if row[0] == 130 {
+        return !lists::is_in(row[11], endpoints);
+    }
+    false
+}
+
+// An update of a removed PDR.
+fn updates_removed(row: &[u64], plan: &[u64], n: usize) -> bool
+    requires { ⌜ (length (now row) ≡ rowWidth) × (n * rowWidth ≤ length (now plan)) ⌝ }
+    ensures { λ r. ⌜ r ≡ updatesGone (rowsOf n (now (plan .entry))) (now (row .entry)) ⌝ }
+{
+    if row[0] != 9 {
+        return false;
+    }
+    rows::named(plan, n, 15, 7, row[7])
+}
+
+// F-TEID and endpoint ID in one PDI.
+fn names_both(row: &[u64]) -> bool
+    requires { ⌜ length (now row) ≡ rowWidth ⌝ }
+    ensures { λ r. ⌜ r ≡ pdiNamesBoth (now (row .entry)) ⌝ }
+{
+    if row[0] != 1 {
+        return false;
+    }
+    if row[5] != 1 {
+        return false;
+    }
+    row[12] != 0
+}
+
+// An endpoint ID not there afterwards: neither created nor live and not removed.
+fn names_absent(row: &[u64], plan: &[u64], n: usize, endpoints: &[u64]) -> bool
+    requires { ⌜ (length (now row) ≡ rowWidth) × (n * rowWidth ≤ length (now plan)) ⌝ }
+    ensures { λ r. ⌜ r ≡ pdiNamesAbsent (now (endpoints .entry)) (rowsOf n (now (plan .entry))) (now (row .entry)) ⌝ }
+{
+    if row[0] != 1 {
+        return false;
+    }
+    if row[5] != 1 {
+        return false;
+    }
+    let id = row[11];
+    if rows::named(plan, n, 127, 11, id) {
+        return false;
+    }
+    if rows::named(plan, n, 130, 11, id) {
+        return true;
+    }
+    !lists::is_in(id, endpoints)
+}
+
+// The rules on a row's IDs.
+pub fn breaks_id(row: &[u64], plan: &[u64], n: usize, pdrs: &[u64], endpoints: &[u64]) -> bool
+    requires { ⌜ (length (now row) ≡ rowWidth) × (n * rowWidth ≤ length (now plan)) ⌝ }
+    ensures { λ r. ⌜ r ≡ breaksId (now (pdrs .entry)) (now (endpoints .entry)) (rowsOf n (now (plan .entry))) (now (row .entry)) ⌝ }
+{
+    if created_live(row, pdrs, endpoints) {
+        return true;
+    }
+    if absent_id(row, pdrs, endpoints) {
+        return true;
+    }
+    if updates_removed(row, plan, n) {
+        return true;
+    }
+    if names_both(row) {
+        return true;
+    }
+    names_absent(row, plan, n, endpoints)
+}
+
+// The rules on a row's F-TEID. Only a TEID of the pool is looked up in the map.
+pub fn breaks_fteid(row: &[u64], u: Unit, taken: &[u64]) -> bool
+    requires { ⌜ (length (now row) ≡ rowWidth) × (u .size ≤ 64 * length (now taken)) ⌝ }
+    ensures { λ r. ⌜ r ≡ breaksFteid (heldIn (settingsOf u) (now (taken .entry))) (settingsOf u) (now (row .entry)) ⌝ }
+{
+    if rows::tunnel::lacks_family(row, u) {
+        return true;
+    }
+    if rows::tunnel::strange(row, u) {
+        return true;
+    }
+    rows::tunnel::is_held(row, u, taken)
+}
