@@ -2,5 +2,4 @@ pub mod Joining
 pub mod WalkLaws
 pub mod MapWalk
 pub mod RecordWalk
-pub mod RowHolds
 pub mod SessionWalk

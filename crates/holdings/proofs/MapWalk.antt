@@ -5,11 +5,11 @@ use mathlib.Core.Path.{_≡_, refl, sym, _∙_, ap, subst}
 use mathlib.Core.Bool.{Bool, true, false, not, _&&_, _||_, and-assoc}
 use mathlib.Core.List.{List, [], _∷_, _++_, map, map-append}
 use Prim.Native.Nat.{ℕ, _+_, _-_, _*_, _≤_}
-use lib.Dec.{T, leb, ltb, le→leb, lt→ltb}
+use lib.Dec.{T}
 use lib.ListN.{length, replicate, length-replicate}
 use Rattle.octets.specs.Choice.{consOption, mapOption}
 use Rattle.octets.specs.Lists.{all, allPairs, collect}
-use Rattle.octets.proofs.Tests.{both, each, all-head, all-tail, all-cons}
+use Rattle.octets.proofs.Tests.{each, all-head, all-tail, all-cons}
 use Rattle.lists.proofs.Bools.{and-swap, and-four}
 use Rattle.lists.proofs.EachTwo.{all-step, all-append}
 use Rattle.rules.specs.Model.{Settings, Tunnel, Place, neither, tunnel, endpoint, Pdr, Endpoint, Holding, Session, Sessions, teidOf, placeTunnel, tunnelHolding, pdrHolding, endpointHolding, endpointId, sessionHoldings, sessionTeids, heldTeids, freeCount}
@@ -18,7 +18,6 @@ use Rattle.pool.specs.Map.{mark, marks, newMarks, offsets}
 use Rattle.pool.proofs.Marks.{length-mark, length-marks, marks-append, new-append, offsets-append}
 use Rattle.pool.proofs.TakenLaws.{Means, means-empty, means-test, means-mark, pool-from, pool-offset, new-marks-distinct}
 use Rattle.holdings.specs.Walk.{joins, accepts, sessionKeeps, seenAfter, tableKeeps, sessionMarks, tableMarks}
-use Rattle.holdings.specs.Rows.{inMap}
 use Rattle.holdings.proofs.WalkLaws.{table-keeps}
 
 module _ (s : Settings) where
@@ -46,16 +45,6 @@ module _ (s : Settings) where
       let e = means-test (s .first) ws seen (k .teid) h (pool-from s (k .teid) p) in
       let ih = session-marks (mark ws (k .teid - s .first)) (k .teid ∷ seen) (earlier ++ k ∷ []) hs h′ (rw length-mark f) (all-tail (inPool s) (k .teid) (map teidOf hs) g) in
       λ i. (not (e i) || joins earlier k) && ih i
-
-  -- each of them has its bit, as code that marks them asks
-  pub pooled-in-map : (n : ℕ) (hs : List Holding) → s .size ≤ 64 * n → T (pooled hs) → T (inMap (s .first) n hs)
-  unfolding inMap all
-  pooled-in-map n [] f h = tt
-  pooled-in-map n (k ∷ hs) f h =
-      let p = all-head (inPool s) (k .teid) (map teidOf hs) h in
-      all-cons (λ x. leb (s .first) (x .teid) && ltb (x .teid - s .first) (64 * n)) k hs
-      (both (leb (s .first) (k .teid)) (ltb (k .teid - s .first) (64 * n)) (le→leb (s .first) (k .teid) (pool-from s (k .teid) p)) (lt→ltb (k .teid - s .first) (64 * n) (pool-offset s n (k .teid) f p)))
-      (pooled-in-map n hs f (all-tail (inPool s) (k .teid) (map teidOf hs) h))
 
   -- the walk over sessions, each tested before: what the tests say, and what the walk with the list says
   module _ (own : Session → Bool) (in-pool : (x : Session) → T (own x) → T (all (inPool s) (sessionTeids x))) where

@@ -1,0 +1,153 @@
+-- A PDR's hold by its octets, and the look back over the PDRs passed.
+-- Assumes nothing.
+use mathlib.Core.Path.{_≡_, refl, sym, ap, ap₂, _∙_}
+use Prim.Native.Nat.{ℕ, zero, suc, _+_, _-_, _*_, _/_, _%_, _^_, _≤_, _<_}
+use native.Mathlib.Omega.{arith}
+use mathlib.Core.Bool.{Bool, true, false, _&&_}
+use mathlib.Core.Option.{none, some}
+use mathlib.Core.List.{List, _∷_, map}
+use borrow.Author.Tests.{eq-eqb, ne-eqb}
+use lib.ListN.{take, drop, getD}
+use lib.Seq.{drop-drop, getD-drop}
+use lib.Dec.{eqb, eqb→eq, lit<}
+use native.Mathlib.Nat.{mod-lt}
+use mir.Facts.{yes-eqb}
+use Rattle.octets.specs.Choice.{pick, mapOption, sameBool}
+use Rattle.octets.specs.Octets.{part, number, numberAt, octetAt, bit, slices}
+use Rattle.octets.specs.Lists.{collect}
+use Rattle.octets.proofs.Tests.{and-left, and-right, both}
+use Rattle.rules.specs.Model.{neither, tunnel, endpoint, Pdr, tunnelHolding, placeTunnel, pdrHolding}
+use Rattle.rules.specs.Layout.{viewTunnel, viewPlace, viewPdr}
+use Rattle.holdings.specs.Walk.{joins}
+use Rattle.holdings.proofs.RecordWalk.{look-none, look-some, look-end}
+use Rattle.records.proofs.Cells.{same-test, and-assoc}
+use Rattle.sessions.proofs.Turns.{slices-more}
+use Rattle.marking.specs.Marking.{holdsTeid, alike, heldBy, pdrHolds}
+
+-- ---- a PDR's hold
+
+hold-with : (b c : Bool) (xs : List ℕ)
+    → mapOption (tunnelHolding true (octetAt xs 11)) (placeTunnel (pick b (tunnel (viewTunnel (drop 1 (drop 12 xs)))) (pick c (endpoint (octetAt (drop 12 xs) 6)) neither)))
+    ≡ pick b (some (heldBy xs)) none
+unfolding placeTunnel heldBy
+hold-with true c xs = ap (λ (ys : List ℕ). some (tunnelHolding true (octetAt xs 11) (viewTunnel ys))) (drop-drop 1 12 xs)
+hold-with false true xs = refl
+hold-with false false xs = refl
+
+kind-at : (xs : List ℕ) → octetAt (drop 12 xs) 0 ≡ getD xs 12 0
+unfolding octetAt
+kind-at xs = getD-drop 12 xs 0 0
+
+pub hold-of : (xs : List ℕ) → pdrHolding (viewPdr xs) ≡ pick (eqb (getD xs 12 0) 1) (some (heldBy xs)) none
+unfolding pdrHolding viewPdr viewPlace
+hold-of xs =
+    hold-with (eqb (octetAt (drop 12 xs) 0) 1) (eqb (octetAt (drop 12 xs) 0) 2) xs
+    ∙ ap (λ (n : ℕ). pick (eqb n 1) (some (heldBy xs)) none) (kind-at xs)
+
+-- ---- families
+
+bit-same : (m n : ℕ) → m < 2 → n < 2 → sameBool (eqb m 1) (eqb n 1) ≡ eqb m n
+bit-same zero zero h k = refl
+bit-same zero (suc zero) h k = refl
+bit-same (suc zero) zero h k = refl
+bit-same (suc zero) (suc zero) h k = refl
+bit-same zero (suc (suc n)) h k = absurd (omega arith)
+bit-same (suc zero) (suc (suc n)) h k = absurd (omega arith)
+bit-same (suc (suc m)) n h k = absurd (omega arith)
+
+low-two : (f : ℕ) → f % 4 ≡ f / (2 ^ 0) % 2 + 2 * (f / (2 ^ 1) % 2)
+low-two f = omega arith
+
+digits : (a b c d : ℕ) → a < 2 → c < 2 → a + 2 * b ≡ c + 2 * d → (a ≡ c) × (b ≡ d)
+digits a b c d h k e = (omega arith, omega arith)
+
+two-bits : (f g : ℕ) → (sameBool (bit 0 f) (bit 0 g) && sameBool (bit 1 f) (bit 1 g)) ≡ eqb (f % 4) (g % 4)
+unfolding bit
+two-bits f g =
+    (λ i. bit-same (f / (2 ^ 0) % 2) (g / (2 ^ 0) % 2) (omega arith) (omega arith) i && bit-same (f / (2 ^ 1) % 2) (g / (2 ^ 1) % 2) (omega arith) (omega arith) i)
+    ∙ same-test (eqb (f / (2 ^ 0) % 2) (g / (2 ^ 0) % 2) && eqb (f / (2 ^ 1) % 2) (g / (2 ^ 1) % 2)) (eqb (f % 4) (g % 4))
+    (λ h.
+    let a = eqb→eq (f / (2 ^ 0) % 2) (g / (2 ^ 0) % 2) (and-left (eqb (f / (2 ^ 0) % 2) (g / (2 ^ 0) % 2)) (eqb (f / (2 ^ 1) % 2) (g / (2 ^ 1) % 2)) h) in
+    let b = eqb→eq (f / (2 ^ 1) % 2) (g / (2 ^ 1) % 2) (and-right (eqb (f / (2 ^ 0) % 2) (g / (2 ^ 0) % 2)) (eqb (f / (2 ^ 1) % 2) (g / (2 ^ 1) % 2)) h) in
+    yes-eqb (low-two f ∙ ap₂ (λ (x y : ℕ). x + 2 * y) a b ∙ sym (low-two g)))
+    (λ h.
+    let e = eqb→eq (f % 4) (g % 4) h in
+    let d = digits (f / (2 ^ 0) % 2) (f / (2 ^ 1) % 2) (g / (2 ^ 0) % 2) (g / (2 ^ 1) % 2) (mod-lt (f / (2 ^ 0)) (lit< tt)) (mod-lt (g / (2 ^ 0)) (lit< tt)) (sym (low-two f) ∙ e ∙ low-two g) in
+    both (eqb (f / (2 ^ 0) % 2) (g / (2 ^ 0) % 2)) (eqb (f / (2 ^ 1) % 2) (g / (2 ^ 1) % 2)) (yes-eqb (d .0)) (yes-eqb (d .1)))
+
+families-at : (xs : List ℕ) → octetAt (drop 13 xs) 4 ≡ octetAt xs 17
+unfolding octetAt
+families-at xs = getD-drop 13 xs 4 0
+
+kinds-alike : (xs ys : List ℕ)
+    → (sameBool (heldBy xs .v4) (heldBy ys .v4) && (sameBool (heldBy xs .v6) (heldBy ys .v6) && eqb (heldBy xs .source) (heldBy ys .source))) ≡ alike xs ys
+unfolding heldBy tunnelHolding viewTunnel alike
+kinds-alike xs ys =
+    sym (and-assoc (sameBool (bit 0 (octetAt (drop 13 xs) 4)) (bit 0 (octetAt (drop 13 ys) 4))) (sameBool (bit 1 (octetAt (drop 13 xs) 4)) (bit 1 (octetAt (drop 13 ys) 4))) (eqb (octetAt xs 11) (octetAt ys 11)))
+    ∙ rw (families-at xs, families-at ys, two-bits (octetAt xs 17) (octetAt ys 17))
+
+pub teid-of : (xs : List ℕ) → heldBy xs .teid ≡ number (part 13 4 xs)
+unfolding heldBy tunnelHolding viewTunnel numberAt
+teid-of xs = refl
+
+-- ---- the look back
+
+look-with : (b : Bool) (xs : List ℕ) (ds : List Pdr) (ys : List ℕ) → pdrHolding (viewPdr xs) ≡ pick b (some (heldBy xs)) none
+    → joins (collect pdrHolding (viewPdr xs ∷ ds)) (heldBy ys)
+    ≡ pick (b && eqb (number (part 13 4 xs)) (number (part 13 4 ys))) (alike xs ys) (joins (collect pdrHolding ds) (heldBy ys))
+unfolding tunnelHolding
+look-with false xs ds ys e = look-none pdrHolding (viewPdr xs) ds (heldBy ys) e
+look-with true xs ds ys e =
+    look-some pdrHolding (viewPdr xs) ds (heldBy ys) (heldBy xs) e (unfold heldBy in refl) (unfold heldBy in refl)
+    ∙ (λ i. pick (eqb (teid-of xs i) (teid-of ys i)) (kinds-alike xs ys i) (joins (collect pdrHolding ds) (heldBy ys)))
+
+look-step : (xs : List ℕ) (ds : List Pdr) (ys : List ℕ)
+    → joins (collect pdrHolding (viewPdr xs ∷ ds)) (heldBy ys) ≡ pick (holdsTeid xs (number (part 13 4 ys))) (alike xs ys) (joins (collect pdrHolding ds) (heldBy ys))
+unfolding holdsTeid octetAt
+look-step xs ds ys = look-with (eqb (getD xs 12 0) 1) xs ds ys (hold-of xs)
+
+-- the loop: what is left of the PDRs gives the same answer
+module _ (a : List ℕ) (n i : ℕ) (ys : List ℕ) where
+  abbrev pub looksFrom : ℕ → Bool
+  looksFrom j = joins (pdrHolds (n - j) (drop (j * 19) a)) (heldBy ys)
+
+  module _ (h : i < n) where
+    here : looksFrom i ≡ pick (holdsTeid (part (i * 19) 19 a) (number (part 13 4 ys))) (alike (part (i * 19) 19 a) ys) (looksFrom (i + 1))
+    unfolding pdrHolds
+    here = rw (slices-more (λ x. true) 19 a n i h) (look-step (part (i * 19) 19 a) (map viewPdr (slices 19 (n - (i + 1)) (drop ((i + 1) * 19) a))) ys)
+
+    -- as the code has the slot
+    module _ (t : ℕ) (q : t ≡ number (part 13 4 ys)) (r : Bool) (e : r ≡ holdsTeid (take (i * 19 + 19 - i * 19) (drop (i * 19) a)) t) where
+      held : r ≡ holdsTeid (part (i * 19) 19 a) (number (part 13 4 ys))
+      held = let span : i * 19 + 19 - i * 19 ≡ 19 = omega arith in rw (span, q) at e
+
+      pub look-here : (k : Bool) → r ≡ true → k ≡ alike (take (i * 19 + 19 - i * 19) (drop (i * 19) a)) ys → k ≡ looksFrom i
+      look-here k g u =
+          let span : i * 19 + 19 - i * 19 ≡ 19 = omega arith in
+          let v : k ≡ alike (part (i * 19) 19 a) ys = rw span at u in
+          v ∙ sym (here ∙ rw (← held, g))
+
+      pub look-later : r ≡ false → looksFrom i ≡ looksFrom (i + 1)
+      look-later g = here ∙ rw (← held, g)
+
+pub look-none-left : (a : List ℕ) (n i : ℕ) (ys : List ℕ) → n ≤ i → joins (pdrHolds (n - i) (drop (i * 19) a)) (heldBy ys) ≡ false
+unfolding pdrHolds slices
+look-none-left a n i ys h = let e : n - i ≡ 0 = omega arith in rw e (look-end pdrHolding (heldBy ys))
+
+-- ---- the answers of the two tests
+
+pub holds-not : (xs : List ℕ) (t : ℕ) → (getD xs 12 0 ≡ 1 → ⊥) → false ≡ holdsTeid xs t
+unfolding holdsTeid octetAt
+holds-not xs t h = sym (rw (ne-eqb (getD xs 12 0) 1 h))
+
+pub holds-test : (xs : List ℕ) (t v : ℕ) → getD xs 12 0 ≡ 1 → v ≡ number (part 13 4 xs) → eqb v t ≡ holdsTeid xs t
+unfolding holdsTeid octetAt
+holds-test xs t v h q = sym (rw (h, ← q))
+
+pub alike-not : (xs ys : List ℕ) → (getD xs 17 0 % 4 ≡ getD ys 17 0 % 4 → ⊥) → false ≡ alike xs ys
+unfolding alike octetAt
+alike-not xs ys h = sym (rw (ne-eqb (getD xs 17 0 % 4) (getD ys 17 0 % 4) h))
+
+pub alike-test : (xs ys : List ℕ) → getD xs 17 0 % 4 ≡ getD ys 17 0 % 4 → eqb (getD xs 11 0) (getD ys 11 0) ≡ alike xs ys
+unfolding alike octetAt
+alike-test xs ys h = sym (rw (eq-eqb (getD xs 17 0 % 4) (getD ys 17 0 % 4) h))

@@ -1,0 +1,112 @@
+-- Who holds which TEID by the octets of slots, and the walk that marks them (01: "a TEID is held by one endpoint, or by PDRs of one session
+-- with equal family flags and source interface").
+-- Assumes nothing.
+use Prim.Native.Nat.{ℕ, _*_, _-_, _%_, _≤_}
+use mathlib.Core.Path.{_≡_}
+use mathlib.Core.Bool.{Bool, true, false, _&&_}
+use mathlib.Core.Option.{Option, none, some}
+use mathlib.Core.List.{List, [], _∷_, map}
+use lib.Dec.{eqb}
+use lib.ListN.{length, drop}
+use Rattle.octets.specs.Choice.{pick}
+use Rattle.octets.specs.Octets.{part, number, octetAt, slices}
+use Rattle.octets.specs.Lists.{all, collect}
+use Rattle.rules.specs.Model.{Settings, Holding, tunnelHolding, pdrHolding, endpointHolding, sessionHoldings, teidOf, heldTeids}
+use Rattle.rules.specs.Layout.{viewTunnel, viewPdr, viewEndpoint, viewSession}
+use Rattle.rules.specs.Sound.{inPool}
+use Rattle.pool.specs.Map.{marked, mark, marks, newMarks, offsets}
+use Rattle.holdings.specs.Walk.{joins, sessionMarks}
+use Rattle.records.specs.Kept.{unit}
+use Rattle.sessions.specs.Slot.{slotSound}
+use Rattle.marking.specs.declared.Marks.{Marks}
+use Rattle.marking.specs.declared.Marks.the-variants.{Clash, New}
+
+-- ---- one PDR
+
+-- a PDR's slot holds a TEID
+unfoldable pub holdsTeid : List ℕ → ℕ → Bool
+holdsTeid xs teid = eqb (octetAt xs 12) 1 && eqb (number (part 13 4 xs)) teid
+
+-- two PDRs' slots have equal families and source interface
+unfoldable pub alike : List ℕ → List ℕ → Bool
+alike xs ys = eqb (octetAt xs 17 % 4) (octetAt ys 17 % 4) && eqb (octetAt xs 11) (octetAt ys 11)
+
+-- the hold of a PDR whose slot has an F-TEID
+unfoldable pub heldBy : List ℕ → Holding
+heldBy xs = tunnelHolding true (octetAt xs 11) (viewTunnel (drop 13 xs))
+
+-- ---- holds by octets
+
+unfoldable pub pdrHolds : ℕ → List ℕ → List Holding
+pdrHolds n a = collect pdrHolding (map viewPdr (slices 19 n a))
+
+unfoldable pub endpointHolds : ℕ → List ℕ → List Holding
+endpointHolds n a = map endpointHolding (map viewEndpoint (slices 6 n a))
+
+unfoldable pub slotHolds : List ℕ → List Holding
+slotHolds xs = sessionHoldings (viewSession xs)
+
+-- the hold of the PDR at place i
+unfoldable pub holdAt : List ℕ → ℕ → Option Holding
+holdAt a i = pdrHolding (viewPdr (part (i * 19) 19 a))
+
+-- every TEID of holds has its bit in a map of n words
+unfoldable pub mapped : ℕ → ℕ → List Holding → Bool
+mapped first n hs = all (inPool (unit first (64 * n) false)) (map teidOf hs)
+
+-- ---- marking
+
+-- the map with the TEIDs of holds marked, and how many of them were new
+unfoldable pub marksAfter : ℕ → List ℕ → List Holding → List ℕ
+marksAfter first ws hs = marks ws (offsets first (map teidOf hs))
+
+unfoldable pub newAfter : ℕ → List ℕ → List Holding → ℕ
+newAfter first ws hs = newMarks ws (offsets first (map teidOf hs))
+
+-- one record's hold, if it has one, after the session's earlier ones
+unfoldable pub stepOf : ℕ → List ℕ → List Holding → Option Holding → Marks
+stepOf first ws earlier none = New 0
+stepOf first ws earlier (some h) = pick (marked ws (h .teid - first)) (pick (joins earlier h) (New 0) Clash) (New 1)
+
+unfoldable pub wordsOf : ℕ → List ℕ → Option Holding → List ℕ
+wordsOf first ws none = ws
+wordsOf first ws (some h) = mark ws (h .teid - first)
+
+pub record Stepped (first : ℕ) (ws : List ℕ) (earlier : List Holding) (hold : Option Holding) (r : Marks) (ws′ : List ℕ) : Type 0 where
+  pub answer : r ≡ stepOf first ws earlier hold
+  pub words : ws′ ≡ wordsOf first ws hold
+
+-- the holds of one session: refused, or marked
+unfoldable pub walked : ℕ → List ℕ → List Holding → Marks
+walked first ws hs = pick (sessionMarks first ws [] hs) (New (newAfter first ws hs)) Clash
+
+-- the map is what it should be where the walk is not refused
+pub record Marked (first : ℕ) (ws : List ℕ) (hs : List Holding) (r : Marks) (ws′ : List ℕ) : Type 0 where
+  pub answer : r ≡ walked first ws hs
+  pub words : (n : ℕ) → r ≡ New n → ws′ ≡ marksAfter first ws hs
+  pub few : (n : ℕ) → r ≡ New n → n ≤ length hs
+
+-- ---- slots
+
+-- a slot is sound and its holds are not against the rule
+unfoldable pub slotKeeps : Settings → List ℕ → List ℕ → Bool
+slotKeeps s ws xs = slotSound s xs && sessionMarks (s .first) ws [] (slotHolds xs)
+
+pub record Admitted (s : Settings) (ws xs : List ℕ) (r : Marks) (ws′ : List ℕ) : Type 0 where
+  pub answer : r ≡ pick (slotKeeps s ws xs) (New (newAfter (s .first) ws (slotHolds xs))) Clash
+  pub words : (n : ℕ) → r ≡ New n → ws′ ≡ marksAfter (s .first) ws (slotHolds xs)
+  pub few : (n : ℕ) → r ≡ New n → n ≤ 24
+
+-- ---- the slots of a table, in turn
+
+unfoldable pub slotsKeep : Settings → List ℕ → List (List ℕ) → Bool
+slotsKeep s ws [] = true
+slotsKeep s ws (xs ∷ xss) = slotKeeps s ws xs && slotsKeep s (marksAfter (s .first) ws (slotHolds xs)) xss
+
+-- the TEIDs that they hold
+unfoldable pub teidsIn : List (List ℕ) → List ℕ
+teidsIn xss = heldTeids (map viewSession xss)
+
+pub record AllAdmitted (s : Settings) (ws : List ℕ) (xss : List (List ℕ)) (r : Marks) (ws′ : List ℕ) : Type 0 where
+  pub answer : r ≡ pick (slotsKeep s ws xss) (New (newMarks ws (offsets (s .first) (teidsIn xss)))) Clash
+  pub words : (n : ℕ) → r ≡ New n → ws′ ≡ marks ws (offsets (s .first) (teidsIn xss))

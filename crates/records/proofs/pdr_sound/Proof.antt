@@ -1,0 +1,56 @@
+-- `records::pdr_sound` meets its contract.
+-- Assumes nothing.
+use lib.Dec.{T}
+use Rattle.octets.specs.Octets.{octets}
+use Rattle.octets.proofs.Digits.{octets-known}
+use Rattle.records.proofs.Answers.{pdr-source, pdr-far, pdr-place}
+use borrow.Author.Needs.{needs}
+use Rattle.records.proofs.pdr_sound.Statement.{statement}
+use Rattle.records.proofs.pdr_sound.Tie as tie
+
+shared-slice-read-if1 : tie.Need-shared-slice-read-if1
+shared-slice-read-if1 c = search needs
+
+returns : tie.Need-returns
+returns c =
+    let o : T (octets (c .before .before .before .before .args .slot .now)) = octets-known (c .before .before .before .before .args .slot .now) (λ i. c .before .before .before .shared-slice-known .given i .fits) in
+    search pdr-source
+
+optional-sound-requires : tie.Need-optional-sound-requires
+optional-sound-requires c κs = search needs
+
+returns-2 : tie.Need-returns-2
+returns-2 c =
+    let o : T (octets (c .before .before .before .before .before .before .args .slot .now)) = octets-known (c .before .before .before .before .before .before .args .slot .now) (λ i. c .before .before .before .before .before .shared-slice-known .given i .fits) in
+    search pdr-far
+
+sub-place-sound : tie.Need-sub-place-sound
+sub-place-sound c = search needs
+
+part-place-sound-start : tie.Need-part-place-sound-start
+part-place-sound-start c = search needs
+
+part-place-sound-end : tie.Need-part-place-sound-end
+part-place-sound-end c = search needs
+
+place-sound-requires : tie.Need-place-sound-requires
+place-sound-requires c κs = search needs
+
+returns-3 : tie.Need-returns-3
+returns-3 c =
+    let o : T (octets (c .before .before .before .before .before .before .before .before .args .slot .now)) = octets-known (c .before .before .before .before .before .before .before .before .args .slot .now) (λ i. c .before .before .before .before .before .before .before .shared-slice-known .given i .fits) in
+    search pdr-place
+
+pub pdr-sound-spec : {M : Type 1} → statement M
+pdr-sound-spec =
+    tie.close
+    (tie.spec
+    shared-slice-read-if1
+    returns
+    optional-sound-requires
+    returns-2
+    sub-place-sound
+    part-place-sound-start
+    part-place-sound-end
+    place-sound-requires
+    returns-3)

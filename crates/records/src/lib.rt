@@ -1,0 +1,167 @@
+// Tests of the records in the session table's slots, for any octets of a slot: the record keeps the rules, and the slot has
+// just that record's octets. Each reads the fields where they stand; proofs/Slots.antt says why these tests are enough.
+//
+// first, size and v6 are the unit's pool of TEIDs and whether it has an IPv6 address.
+pub mod layout;
+
+ghost use mathlib.Core.Path.{_≡_};
+ghost use Prim.Native.Nat.{_+_, _*_, _^_, _≤_, _<_};
+ghost use lib.ListN.{length, drop};
+ghost use Rattle.octets.specs.Choice.{allOf};
+ghost use Rattle.octets.specs.Lists.{member};
+ghost use Rattle.rules.specs.Sound.{poolTests};
+ghost use Rattle.records.specs.Kept.{settingsSound, optionalSound, tunnelSound, familiesTest, placeSound, pdrSound, endpointSound, csidSound, endpointIds, unit};
+
+// A field of n octets that may be absent: 1 and the field, or zeros.
+fn optional_sound(slot: &[u8], at: usize, n: usize) -> bool
+    requires { ⌜ at + 1 + n ≤ length (now slot) ⌝ }
+    ensures { λ r. ⌜ r ≡ optionalSound at n (now (slot .entry)) ⌝ }
+{
+    let there = slot[at];
+    if there == 0 {
+        return octets::is_zero(slot, at + 1, n);
+    }
+    there == 1
+}
+
+// The pool of TEIDs: the first at least 1, the size 1 to 4,096, the last at most 4,294,967,295.
+pub fn pool_sound(first: u64, size: u64) -> bool
+    requires { ⌜ (first < 2 ^ 32) × (size < 2 ^ 32) ⌝ }
+    ensures { λ r. ⌜ r ≡ allOf (poolTests first size) ⌝ }
+{
+    if first < 1 {
+        return false;
+    }
+    if size < 1 {
+        return false;
+    }
+    if layout::MAX_POOL < size {
+        return false;
+    }
+    first + size <= 4294967296
+}
+
+// The settings' slot.
+pub fn settings_sound(slot: &[u8]) -> bool
+    requires { ⌜ length (now slot) ≡ 29 ⌝ }
+    ensures { λ r. ⌜ r ≡ settingsSound (now (slot .entry)) ⌝ }
+{
+    if !optional_sound(slot, layout::IPV6_THERE, 16) {
+        return false;
+    }
+    let first = octets::read(slot, layout::FIRST, 4);
+    let size = octets::read(slot, layout::SIZE, 4);
+    pool_sound(first, size)
+}
+
+// The F-TEID at index at.
+fn tunnel_sound(slot: &[u8], at: usize, first: u64, size: u64, v6: bool) -> bool
+    requires { ⌜ (at + 5 ≤ length (now slot)) × (first + size ≤ 2 ^ 32) ⌝ }
+    ensures { λ r. ⌜ r ≡ tunnelSound (unit first size v6) (drop at (now (slot .entry))) ⌝ }
+{
+    let teid = octets::read(slot, at, 4);
+    if teid < first {
+        return false;
+    }
+    if first + size <= teid {
+        return false;
+    }
+    families_sound(slot[at + 4], v6)
+}
+
+// The families octet: IPv4, or IPv6 and perhaps IPv4 where the unit has an IPv6 address.
+fn families_sound(families: u8, v6: bool) -> bool
+    ensures { λ r. ⌜ r ≡ familiesTest families v6 ⌝ }
+{
+    if families == 1 {
+        return true;
+    }
+    if families < 2 {
+        return false;
+    }
+    if 3 < families {
+        return false;
+    }
+    v6
+}
+
+// A traffic endpoint's slot.
+pub fn endpoint_sound(slot: &[u8], first: u64, size: u64, v6: bool) -> bool
+    requires { ⌜ (length (now slot) ≡ 6) × (first + size ≤ 2 ^ 32) ⌝ }
+    ensures { λ r. ⌜ r ≡ endpointSound (unit first size v6) (now (slot .entry)) ⌝ }
+{
+    tunnel_sound(slot, 1, first, size, v6)
+}
+
+// Whether one of the first n endpoints in ends has the ID id.
+fn names_endpoint(ends: &[u8], n: usize, id: u8) -> bool
+    requires { ⌜ n * 6 ≤ length (now ends) ⌝ }
+    ensures { λ r. ⌜ r ≡ member id (endpointIds n (now (ends .entry))) ⌝ }
+{
+    for i in 0..n {
+        if ends[i * layout::ENDPOINT] == id {
+            return true;
+        }
+    }
+    false
+}
+
+// What a PDR matches on: the seven octets of a slot from index 12. ends has the session's n endpoints.
+fn place_sound(place: &[u8], ends: &[u8], n: usize, first: u64, size: u64, v6: bool) -> bool
+    requires { ⌜ (length (now place) ≡ 7) × (n * 6 ≤ length (now ends)) × (first + size ≤ 2 ^ 32) ⌝ }
+    ensures { λ r. ⌜ r ≡ placeSound (unit first size v6) (endpointIds n (now (ends .entry))) (now (place .entry)) ⌝ }
+{
+    let kind = place[0];
+    let id = place[6];
+    if kind == 1 {
+        if id != 0 {
+            return false;
+        }
+        return tunnel_sound(place, 1, first, size, v6);
+    }
+    if kind == 2 {
+        if !octets::is_zero(place, 1, 5) {
+            return false;
+        }
+        return names_endpoint(ends, n, id);
+    }
+    octets::is_zero(place, 0, 7)
+}
+
+// A PDR's slot. ends has the session's n endpoints.
+pub fn pdr_sound(slot: &[u8], ends: &[u8], n: usize, first: u64, size: u64, v6: bool) -> bool
+    requires { ⌜ (length (now slot) ≡ 19) × (n * 6 ≤ length (now ends)) × (first + size ≤ 2 ^ 32) ⌝ }
+    ensures { λ r. ⌜ r ≡ pdrSound (unit first size v6) (endpointIds n (now (ends .entry))) (now (slot .entry)) ⌝ }
+{
+    if 15 < slot[layout::SOURCE] {
+        return false;
+    }
+    if !optional_sound(slot, layout::FAR, 4) {
+        return false;
+    }
+    place_sound(&slot[layout::PLACE..layout::PDR], ends, n, first, size, v6)
+}
+
+// An FQ-CSID's slot.
+pub fn csid_sound(slot: &[u8]) -> bool
+    requires { ⌜ length (now slot) ≡ 20 ⌝ }
+    ensures { λ r. ⌜ r ≡ csidSound (now (slot .entry)) ⌝ }
+{
+    let kind = slot[1];
+    if 5 < slot[0] {
+        return false;
+    }
+    if kind == 1 {
+        return true;
+    }
+    if 2 < kind {
+        return false;
+    }
+    if kind == 2 {
+        if 999999 < octets::read(slot, 2, 4) / 4096 {
+            return false;
+        }
+        return octets::is_zero(slot, 6, 12);
+    }
+    octets::is_zero(slot, 6, 12)
+}

@@ -1,0 +1,2 @@
+-- `Slot`: which octets of a session's slot are those of a session that keeps the rules but for the one on shared TEIDs.
+pub mod Slot

@@ -1,0 +1,44 @@
+-- `table::free_count` meets its contract.
+-- Assumes nothing.
+use Rattle.table.proofs.Examining.{count-broken, count-free, count-read, count-less}
+use borrow.Author.Needs.{needs}
+use Rattle.table.proofs.free_count.Statement.{statement}
+use Rattle.table.proofs.free_count.Tie as tie
+
+slice-aggregate-examine : tie.Need-slice-aggregate-examine
+slice-aggregate-examine c = search needs
+
+examine-requires : tie.Need-examine-requires
+examine-requires c κs = search needs
+
+enum-known-seen : tie.Need-enum-known-seen
+enum-known-seen c = search needs
+
+enum-told : tie.Need-enum-told
+enum-told c = search needs
+
+returns : tie.Need-returns
+returns c = search count-broken
+
+read-requires : tie.Need-read-requires
+read-requires c κs =
+    count-read (c .before .before .before .before .before .before .before .args .t .now) _ _ (c .before .before .before .before .examine .ensures) (c .before .seen .given .0 .0) (c .before .seen .given .1)
+
+sub-t9 : tie.Need-sub-t9
+sub-t9 c = search count-less
+
+returns-2 : tie.Need-returns-2
+returns-2 c = search count-free
+
+pub free-count-spec : {M : Type 1} → statement M
+free-count-spec =
+    tie.close
+    (tie.spec
+    slice-aggregate-examine
+    examine-requires
+    enum-known-seen
+    enum-told
+    returns
+    read-requires
+    sub-t9
+    returns-2)

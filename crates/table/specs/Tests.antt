@@ -1,0 +1,43 @@
+-- The tests of a table on its octets, in the order in which they are made: the length, the settings, the number of sessions, the order
+-- of the SEIDs with the unused room, and the sessions with their TEIDs.
+-- Assumes nothing.
+use Prim.Native.Nat.{ℕ, _*_}
+use mathlib.Core.Bool.{Bool, not, _&&_}
+use mathlib.Core.List.{List, [], _∷_, map}
+use lib.Dec.{leb, eqb}
+use lib.ListN.{length, drop, replicate}
+use Rattle.octets.specs.Choice.{allOf}
+use Rattle.octets.specs.Octets.{part, number, slices, allZero}
+use Rattle.octets.specs.Lists.{ascending}
+use Rattle.octets.specs.Octets.{octetAt}
+use Rattle.rules.specs.Limits.{maxSessions, mapWords}
+use Rattle.rules.specs.Model.{Settings}
+use Rattle.slots.specs.Records.{keyOf}
+use Rattle.records.specs.Kept.{settingsSound, unit}
+use Rattle.marking.specs.Marking.{slotsKeep}
+
+-- the number of sessions, and their slots
+abbrev pub sessionCount : List ℕ → ℕ
+sessionCount t = number (part 29 2 t)
+
+abbrev pub slotsOf : List ℕ → List (List ℕ)
+slotsOf t = slices 483 (sessionCount t) (drop 31 t)
+
+-- the settings as far as the rules of records ask
+abbrev pub unitOf : List ℕ → Settings
+unitOf t = unit (number (part 21 4 t)) (number (part 25 4 t)) (not (eqb (octetAt t 4) 0))
+
+-- the slots stand in ascending order of SEIDs, and the room after them is zero
+unfoldable pub orderSound : List ℕ → Bool
+orderSound t = ascending (map (keyOf 8) (slotsOf t)) && allZero (drop (sessionCount t * 483) (drop 31 t))
+
+-- the tests before the walk over the sessions
+unfoldable pub frontTests : List ℕ → List Bool
+frontTests t = eqb (length t) 30943 ∷ settingsSound (part 0 29 t) ∷ leb (sessionCount t) maxSessions ∷ orderSound t ∷ []
+
+unfoldable pub frontSound : List ℕ → Bool
+frontSound t = allOf (frontTests t)
+
+-- the walk
+unfoldable pub walkSound : List ℕ → Bool
+walkSound t = slotsKeep (unitOf t) (replicate mapWords 0) (slotsOf t)
