@@ -1,0 +1,2 @@
+-- `CallLaws`: the calls' answers as numbers.
+pub mod CallLaws

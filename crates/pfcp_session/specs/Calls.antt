@@ -1,0 +1,31 @@
+-- What the host's calls answer, as numbers, and what they leave behind.
+-- Assumes nothing.
+use Prim.Native.Nat.{ℕ}
+use mathlib.Core.List.{List}
+use Rattle.octets.specs.Choice.{pick}
+use Rattle.rules.specs.Limits.{maxSessions}
+use Rattle.rules.specs.Model.{Settings}
+use Rattle.rules.specs.Sound.{Made, make, Count, broken, free, countFree}
+
+-- making: 0 made, 1 refused; and the table at exit
+pub record MakeCall : Type 0 where
+  pub outcome : ℕ
+  pub table : List ℕ
+
+abbrev pub makeAnswer : Made → MakeCall
+makeAnswer m = record { outcome = pick (m .made) 0 1; table = m .table }
+
+unfoldable pub makeCall : Settings → List ℕ → MakeCall
+makeCall s t = makeAnswer (make maxSessions s t)
+
+-- counting: outcome 0 and the free count, or 01's outcome 1 and no TEIDs
+pub record CountCall : Type 0 where
+  pub outcome : ℕ
+  pub count : ℕ
+
+abbrev pub countAnswer : Count → CountCall
+countAnswer broken = record { outcome = 1; count = 0 }
+countAnswer (free n) = record { outcome = 0; count = n }
+
+unfoldable pub countCall : List ℕ → CountCall
+countCall t = countAnswer (countFree maxSessions t)

@@ -1,0 +1,2 @@
+-- `Calls`: what the host's calls answer and leave.
+pub mod Calls

@@ -1,0 +1,64 @@
+// The calls for a host program in C. include/pfcp_session.h says what a host must pass.
+//
+// A slice is passed as a pointer and then its length. Every call may be given any octets and any numbers.
+ghost use mathlib.Core.Path.{_≡_};
+ghost use Rattle.rules.specs.Limits.{maxSessions};
+ghost use Rattle.rules.specs.Layout.{tableLength};
+ghost use Rattle.table.specs.Answers.{settingsOf};
+ghost use Rattle.pfcp_session.specs.Calls.{makeCall, countCall};
+
+// Outcomes of making a table.
+const MADE: u32 = 0;
+
+const REFUSED: u32 = 1;
+
+// Outcomes of counting; the second is 01's outcome 1.
+const COUNTED: u32 = 0;
+
+const BROKEN: u32 = 1;
+
+// How many octets a session table has.
+#[no_mangle]
+pub extern "C" fn pfcp_table_length() -> usize
+    ensures { λ r. ⌜ r ≡ tableLength maxSessions ⌝ }
+{
+    records::layout::LENGTH
+}
+
+// Makes an empty table: 0 made, 1 refused (nothing is written). No IPv6 address is a length of 0.
+#[no_mangle]
+pub extern "C" fn pfcp_make_table(
+    table: &mut [u8],
+    ipv4: u32,
+    ipv6: &[u8],
+    first: u32,
+    size: u32,
+) -> u32
+    ensures { λ r.
+        ⌜ record { outcome = r; table = now (table .exit) }
+        ≡ makeCall (settingsOf ipv4 (now (ipv6 .entry)) first size) (now (table .entry)) ⌝ }
+{
+    let answer = table::make(table, ipv4, ipv6, first, size);
+    match answer {
+        table::Making::Made => MADE,
+        table::Making::Refused => REFUSED,
+    }
+}
+
+// Writes the number of free TEIDs to count: outcome 0, or 1 and 0 TEIDs where the table is broken or of wrong length.
+#[no_mangle]
+pub extern "C" fn pfcp_free_count(table: &[u8], count: &mut u32) -> u32
+    ensures { λ r. ⌜ record { outcome = r; count = now (count .exit) } ≡ countCall (now (table .entry)) ⌝ }
+{
+    let answer = table::free_count(table);
+    match answer {
+        table::Count::Broken => {
+            *count = 0;
+            BROKEN
+        }
+        table::Count::Free(n) => {
+            *count = n as u32;
+            COUNTED
+        }
+    }
+}
