@@ -3,3 +3,4 @@ pub mod Among
 pub mod Walk
 pub mod HeaderLaws
 pub mod MessageFrame
+pub mod ServeLaws

@@ -12,3 +12,4 @@ pub mod RowMeaning
 pub mod RequestLaws
 pub mod ReadingLaws
 pub mod ActedLaws
+pub mod StageLaws

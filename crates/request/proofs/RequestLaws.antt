@@ -15,8 +15,9 @@ use Rattle.octets.specs.Lists.{member, any, keep, collect}
 use Rattle.frame.proofs.Among.{OneOf, pick-same}
 use Rattle.frame.proofs.Walk.{part-from}
 use Rattle.frame.proofs.HeaderLaws.{read-kind}
+use Rattle.rules.specs.Elements.{Fqcsid}
 use Rattle.rules.specs.Message as message
-use Rattle.rules.specs.Message.{Element, elements, body, hasType, groupOf, groupsOf, ofType, actedOn, groupFault, fieldOr0, newPdr, newEndpoint, changeOf, hasPdi, isNull, fqcsidIn, fseidIn, restorationIn, requestOf, readRequest, topFaultFrom, topFault, readFault, missingFault, requiredAtTop}
+use Rattle.rules.specs.Message.{Element, Request, elements, body, hasType, groupOf, groupsOf, ofType, actedOn, groupFault, fieldOr0, newPdr, newEndpoint, changeOf, hasPdi, isNull, fqcsidIn, fseidIn, restorationIn, requestOf, readRequest, topFaultFrom, topFault, readFault, missingFault, requiredAtTop}
 use Rattle.plan.specs.Rows.{hasTag, tagged, rowPdr, rowEndpoint, rowChange, rowPdrId, rowEndpointId, rowCsid, isNullRow, requestIn}
 use Rattle.reading.specs.Members.{memberOf}
 use Rattle.reading.proofs.Places.{in-deletion}
@@ -235,6 +236,22 @@ none-65 kind = by-test (eqb kind 50) (eqb kind 52)
     by-test false true h = let z : _≡_ {A = ℕ} 0 1 = cc in absurd (omega arith)
     by-test false false h = not-in-nil 65
 
+-- a request with other FQ-CSIDs
+abbrev csidsAs : Request → List Fqcsid → Bool → Request
+csidsAs r cs clears =
+    record {
+      seid = r .seid;
+      restoring = r .restoring;
+      pdrs = r .pdrs;
+      endpoints = r .endpoints;
+      changes = r .changes;
+      gonePdrs = r .gonePdrs;
+      goneEndpoints = r .goneEndpoints;
+      csids = cs;
+      clears = clears;
+      unsupported = r .unsupported;
+    }
+
 -- what is said beside the rows
 record Head (kind : ℕ) (es : List Element) (seid : ℕ) (restoring noted : Bool) : Type 0 where
   seid-is : seid ≡ fseidIn (ofType kind 57 es)
@@ -243,9 +260,11 @@ record Head (kind : ℕ) (es : List Element) (seid : ℕ) (restoring noted : Boo
 
 module _ (kind : ℕ) (es : List Element) (rows : List (List ℕ)) (fine : Goods kind es (itemsOf kind es)) (written : Rows (itemsOf kind es) rows)
     (seid : ℕ) (restoring noted : Bool) (head : Head kind es seid restoring noted) where
-  whole : (eqb kind 50 || eqb kind 52) ≡ true → requestIn seid restoring noted rows ≡ requestOf kind es
+  -- the request, but for what its FQ-CSIDs say
+  assembled : {cs : List Fqcsid} {clears : Bool} → collect rowCsid (tagged 65 rows) ≡ cs → any isNullRow (tagged 65 rows) ≡ clears
+      → requestIn seid restoring noted rows ≡ csidsAs (requestOf kind es) cs clears
   unfolding requestIn requestOf
-  whole h = λ i. record {
+  assembled p q = λ i. record {
     seid = head .seid-is i;
     restoring = head .restoring-is i;
     pdrs = pdrs-same kind es rows fine written (same-1 kind) i;
@@ -253,29 +272,25 @@ module _ (kind : ℕ) (es : List Element) (rows : List (List ℕ)) (fine : Goods
     changes = changes-same kind es rows fine written (same-9 kind) i;
     gonePdrs = gone-pdrs-same kind es rows fine written (same-15 kind) i;
     goneEndpoints = gone-endpoints-same kind es rows fine written (same-130 kind) i;
-    csids = (csids-kept kind es rows fine written ∙ ap (collect fqcsidIn) (typed kind es rows fine written 65 (same-65 kind h))) i;
-    clears = (clears-kept kind es rows fine written ∙ ap (any isNull) (typed kind es rows fine written 65 (same-65 kind h))) i;
+    csids = p i;
+    clears = q i;
     unsupported = ap₂ _||_ (head .noted-is) (ap (any hasPdi) (changes-same kind es rows fine written (same-9 kind))) i;
   }
+
+  csids-are : {xs : List Element} → keep (hasType 65) (itemsOf kind es) ≡ xs → requestIn seid restoring noted rows ≡ csidsAs (requestOf kind es) (collect fqcsidIn xs) (any isNull xs)
+  csids-are h = assembled (csids-kept kind es rows fine written ∙ ap (collect fqcsidIn) h) (clears-kept kind es rows fine written ∙ ap (any isNull) h)
+
+  whole : (eqb kind 50 || eqb kind 52) ≡ true → requestIn seid restoring noted rows ≡ requestOf kind es
+  unfolding requestOf
+  whole h = csids-are (typed kind es rows fine written 65 (same-65 kind h))
 
   no-csids : (eqb kind 50 || eqb kind 52) ≡ false → keep (hasType 65) (itemsOf kind es) ≡ []
   unfolding itemsOf
   no-csids h = kept kind es 65 es ∙ ap (λ (b : Bool). pick b (keep (hasType 65) es) []) (none-65 kind h)
 
   without : (eqb kind 50 || eqb kind 52) ≡ false → requestIn seid restoring noted rows ≡ withoutCsids (requestOf kind es)
-  unfolding requestIn requestOf withoutCsids collect any
-  without h = λ i. record {
-    seid = head .seid-is i;
-    restoring = head .restoring-is i;
-    pdrs = pdrs-same kind es rows fine written (same-1 kind) i;
-    endpoints = endpoints-same kind es rows fine written (same-127 kind) i;
-    changes = changes-same kind es rows fine written (same-9 kind) i;
-    gonePdrs = gone-pdrs-same kind es rows fine written (same-15 kind) i;
-    goneEndpoints = gone-endpoints-same kind es rows fine written (same-130 kind) i;
-    csids = (csids-kept kind es rows fine written ∙ ap (collect fqcsidIn) (no-csids h)) i;
-    clears = (clears-kept kind es rows fine written ∙ ap (any isNull) (no-csids h)) i;
-    unsupported = ap₂ _||_ (head .noted-is) (ap (any hasPdi) (changes-same kind es rows fine written (same-9 kind))) i;
-  }
+  unfolding withoutCsids collect any
+  without h = csids-are (no-csids h)
 
   by-kind : requestIn seid restoring noted rows ≡ pick (eqb kind 50 || eqb kind 52) (requestOf kind es) (withoutCsids (requestOf kind es))
   by-kind = by-test (eqb kind 50 || eqb kind 52) refl

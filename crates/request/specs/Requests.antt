@@ -21,7 +21,7 @@ maxItems = 226
 
 -- the words of their rows
 abbrev pub maxWords : ℕ
-maxWords = 4068
+maxWords = rowWidth * maxItems
 
 -- a cause with the type at fault, or a request
 pub data Result : Type 0 where
