@@ -3,11 +3,9 @@ use crate::Verdict;
 use element::fqcsid::Answer;
 use elements::First;
 ghost use mathlib.Core.Path.{_≡_};
-ghost use lib.Dec.{ltb};
 ghost use lib.ListN.{length};
 ghost use Rattle.octets.specs.Lists.{keep};
 ghost use Rattle.rules.specs.Message.{elements, isClearing};
-ghost use Rattle.elements.proofs.Front.{el};
 ghost use Rattle.reading.specs.Verdicts.{told, numbered};
 ghost use Rattle.reading.specs.Csids.{hasNode, nodeMet, countIn, refusedIn, csidOwn};
 

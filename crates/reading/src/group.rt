@@ -4,8 +4,6 @@ use crate::Verdict;
 use element::fteid::Answer;
 use elements::First;
 ghost use mathlib.Core.Path.{_≡_};
-ghost use mathlib.Core.Bool.{_&&_};
-ghost use lib.Dec.{ltb, eqb};
 ghost use Rattle.octets.specs.Lists.{member};
 ghost use Rattle.octets.specs.Choice.{pick};
 ghost use Rattle.rules.specs.Elements.{readFteid};

@@ -18,7 +18,7 @@ use Rattle.rules.specs.Elements.{Refusal, refuse, value, Fqcsid, sets, removal,
 use Rattle.plan.specs.Rows.{rowAddress, rowCsid, isNullRow}
 use Rattle.element.specs.FqCsid.{addressWidths, csidWidths, csidNumbers, addressIn, fqcsidTests, fqcsidMeant, fqcsidOf}
 use Rattle.element.specs.declared.fqcsid.FqCsid.{FqCsid}
-use Rattle.request.specs.Members.{fewCsids, csidWords, CsidRow}
+use Rattle.request.specs.Members.{fewCsids, bareCsid, csidWords, CsidRow}
 use Rattle.request.specs.declared.row.Csid.{Csid}
 use Rattle.reading.proofs.CsidLaws.{length-slices}
 use Rattle.request.proofs.FieldLaws.{not-null}
@@ -27,7 +27,7 @@ abbrev words : ℕ → ℕ → ℕ → ℕ → ℕ → ℕ → Csid
 words s n t h l c = record { state = s; node = n; «id_type» = t; high = h; low = l; csid = c }
 
 -- null length
-pub csid-null : (v : List ℕ) → length v ≡ 0 → CsidRow v (csidWords (words 3 0 0 0 0 0))
+pub csid-null : (v : List ℕ) → length v ≡ 0 → CsidRow v (csidWords (bareCsid 3 0))
 unfolding isNullRow rowCsid fewCsids readFqcsid
 csid-null [] h = record { null = refl; csid = refl }
 csid-null (x ∷ xs) h = absurd (omega arith)
@@ -65,7 +65,7 @@ unfolding fqcsidTests
 csid-fit x h = each (fqcsidTests x) h .1 .1 .1 .1 .0
 
 module _ (v : List ℕ) (long : length v ≡ 0 → ⊥) where
-  pub csid-refused : (c : Refusal) → refuse c ≡ readFqcsid v → CsidRow v (csidWords (words 0 0 0 0 0 0))
+  pub csid-refused : (c : Refusal) → refuse c ≡ readFqcsid v → CsidRow v (csidWords (bareCsid 0 0))
   unfolding isNullRow rowCsid fewCsids
   csid-refused c h = record { null = sym (not-null v long); csid = rw (← h) }
 
@@ -78,11 +78,11 @@ module _ (v : List ℕ) (long : length v ≡ 0 → ⊥) where
         by-test true h = (cc, tt)
         by-test false h = let z : _≡_ {A = ℕ} 0 1 = cc in absurd (omega arith)
 
-    pub csid-removes : x .count ≡ 0 → mapOption value (fqcsidOf x) ≡ some (readFqcsid v) → CsidRow v (csidWords (words 2 (x .«node_type») 0 0 0 0))
+    pub csid-removes : x .count ≡ 0 → mapOption value (fqcsidOf x) ≡ some (readFqcsid v) → CsidRow v (csidWords (bareCsid 2 (x .«node_type»)))
     unfolding isNullRow rowCsid fewCsids
     csid-removes m = by-option (fqcsidOf x) refl
       where
-        by-option : (o : Option Fqcsid) → fqcsidOf x ≡ o → mapOption value o ≡ some (readFqcsid v) → CsidRow v (csidWords (words 2 (x .«node_type») 0 0 0 0))
+        by-option : (o : Option Fqcsid) → fqcsidOf x ≡ o → mapOption value o ≡ some (readFqcsid v) → CsidRow v (csidWords (bareCsid 2 (x .«node_type»)))
         by-option none q h = let z : _≡_ {A = ℕ} 0 1 = cc in absurd (omega arith)
         by-option (some y) q h =
             let k : value y ≡ readFqcsid v = cc in
@@ -105,12 +105,16 @@ module _ (v : List ℕ) (long : length v ≡ 0 → ⊥) where
             let r = ap value (same ∙ sym one ∙ meant y q .0) ∙ k in
             record { null = sym (not-null v long); csid = rw (← r) }
 
-    pub csid-many : (x .count ≡ 0 → ⊥) → (x .count ≡ 1 → ⊥) → mapOption value (fqcsidOf x) ≡ some (readFqcsid v) → CsidRow v (csidWords (words 0 0 0 0 0 0))
+    pub csid-many : (x .count ≡ 0 → ⊥) → (x .count ≡ 1 → ⊥) → mapOption value (fqcsidOf x) ≡ some (readFqcsid v) → CsidRow v (csidWords (bareCsid 0 0))
     unfolding isNullRow rowCsid
     csid-many a b = by-option (fqcsidOf x) refl
       where
-        by-option : (o : Option Fqcsid) → fqcsidOf x ≡ o → mapOption value o ≡ some (readFqcsid v) → CsidRow v (csidWords (words 0 0 0 0 0 0))
+        by-option : (o : Option Fqcsid) → fqcsidOf x ≡ o → mapOption value o ≡ some (readFqcsid v) → CsidRow v (csidWords (bareCsid 0 0))
         by-option none q h = let z : _≡_ {A = ℕ} 0 1 = cc in absurd (omega arith)
         by-option (some y) q h =
             let k : value y ≡ readFqcsid v = cc in
             record { null = sym (not-null v long); csid = many-of-them (x .count) _ _ _ _ a b ∙ ap fewCsids (ap value (meant y q .0) ∙ k) }
+
+-- the row of a struct that is known
+pub row-as : {x y : Csid} (v : List ℕ) → x ≡ y → CsidRow v (csidWords y) → CsidRow v (csidWords x)
+row-as v e h = subst (λ (z : Csid). CsidRow v (csidWords z)) (sym e) h

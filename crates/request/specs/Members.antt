@@ -55,6 +55,10 @@ fewCsids (refuse c) = none
 fewCsids (value (sets t a cs n)) = pick (eqb (length cs) 1) (some (sets t a cs n)) none
 fewCsids (value (removal n)) = some (removal n)
 
+-- an FQ-CSID without an address and a CSID
+abbrev pub bareCsid : ℕ → ℕ → Csid
+bareCsid s n = record { state = s; node = n; «id_type» = 0; high = 0; low = 0; csid = 0 }
+
 -- the row of an FQ-CSID
 abbrev pub csidWords : Csid → List ℕ
 csidWords x = 65 ∷ x .state ∷ 0 ∷ 0 ∷ 0 ∷ 0 ∷ 0 ∷ x .node ∷ x .«id_type» ∷ x .high ∷ x .low ∷ x .csid ∷ 0 ∷ 0 ∷ 0 ∷ 0 ∷ 0 ∷ 0 ∷ []

@@ -2,7 +2,6 @@
 use element::fteid::Answer;
 use element::fteid::FTeid;
 ghost use mathlib.Core.Path.{_≡_};
-ghost use lib.ListN.{length};
 ghost use Rattle.octets.specs.Octets.{numberAt};
 ghost use Rattle.rules.specs.Message.{elements, widthOf, fteidIn};
 ghost use Rattle.request.specs.Members.{memberIn, farIn, tunnelIn, innerOf};

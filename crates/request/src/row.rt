@@ -8,7 +8,7 @@ ghost use Rattle.octets.specs.Octets.{put};
 ghost use Rattle.octets.specs.Lists.{member};
 ghost use Rattle.plan.specs.Rows.{rowWidth};
 ghost use Rattle.rules.specs.Message.{elements};
-ghost use Rattle.request.specs.Members.{csidWords, CsidRow};
+ghost use Rattle.request.specs.Members.{bareCsid, csidWords, CsidRow};
 ghost use Rattle.request.specs.Items.{plannedOf, itemsOf, Written, Row, Filled};
 
 // Writes the words of a row at index at.
@@ -69,40 +69,33 @@ pub struct Csid {
     pub csid: u64,
 }
 
+// An FQ-CSID without an address and a CSID.
+fn bare(state: u64, node: u64) -> Csid
+    ensures { λ r. ⌜ r ≡ bareCsid state node ⌝ }
+{
+    Csid {
+        state: state,
+        node: node,
+        id_type: 0,
+        high: 0,
+        low: 0,
+        csid: 0,
+    }
+}
+
 // The FQ-CSID of value v, if it has one CSID at most.
 fn csid_of(v: &[u8]) -> Csid
     ensures { λ r. ⌜ CsidRow (now (v .entry)) (csidWords r) ⌝ }
 {
     if v.len() == 0 {
-        return Csid {
-            state: 3,
-            node: 0,
-            id_type: 0,
-            high: 0,
-            low: 0,
-            csid: 0,
-        };
+        return bare(3, 0);
     }
     let Answer::Value(x) = element::fqcsid::read(v) else {
-        return Csid {
-            state: 0,
-            node: 0,
-            id_type: 0,
-            high: 0,
-            low: 0,
-            csid: 0,
-        };
+        return bare(0, 0);
     };
     let count = x.count;
     match count {
-        0 => Csid {
-            state: 2,
-            node: x.node_type,
-            id_type: 0,
-            high: 0,
-            low: 0,
-            csid: 0,
-        },
+        0 => bare(2, x.node_type),
         1 => Csid {
             state: 1,
             node: x.node_type,
@@ -111,14 +104,7 @@ fn csid_of(v: &[u8]) -> Csid
             low: x.address_low,
             csid: x.csids_1,
         },
-        _ => Csid {
-            state: 0,
-            node: 0,
-            id_type: 0,
-            high: 0,
-            low: 0,
-            csid: 0,
-        },
+        _ => bare(0, 0),
     }
 }
 
