@@ -17,7 +17,8 @@ use Rattle.table.specs.declared.Making.the-variants.{Made, Refused}
 use Rattle.table.specs.declared.Count as code
 use Rattle.table.specs.declared.Count.the-variants.{Broken, Free}
 use Rattle.table.specs.Answers.{madeOf, countOf}
-use Rattle.pfcp_session.specs.Calls.{MakeCall, makeAnswer, makeCall, CountCall, countAnswer, countCall}
+use Rattle.engine.specs.Steps.{Serves}
+use Rattle.pfcp_session.specs.Calls.{MakeCall, makeAnswer, makeCall, CountCall, countAnswer, countCall, RequestCall, replyOf, requestAnswer, requestCall}
 
 module _ (s : Settings) (t t′ : List ℕ) (r : Making) (e : madeOf r t′ ≡ make maxSessions s t) where
   pub call-made : r ≡ Made → _≡_ {A = MakeCall} (record { outcome = 0; table = t′ }) (makeCall s t)
@@ -59,3 +60,10 @@ module _ (t : List ℕ) (r : code.Count) (e : countOf r ≡ countFree maxSession
 pub length-is : 30943 ≡ tableLength maxSessions
 unfolding tableLength headWidth sessionWidth
 length-is = refl
+
+-- the request call
+pub call-request : {t msg out : List ℕ} {outcome used : ℕ} {out′ t′ : List ℕ} → Serves t msg out outcome used out′ t′
+    → _≡_ {A = RequestCall} (record { outcome = outcome; used = used; space = out′; table = t′ }) (requestCall t msg out)
+unfolding requestCall requestAnswer replyOf
+call-request {t} {msg} {out} {outcome} {used} {out′} {t′} s =
+    (λ i. record { outcome = outcome; used = s .long i; space = out′; table = t′ }) ∙ ap (requestAnswer (replyOf t msg)) (s .served)

@@ -2,10 +2,15 @@
 -- Assumes nothing.
 use Prim.Native.Nat.{ℕ}
 use mathlib.Core.List.{List}
+use lib.Dec.{eqb}
+use lib.ListN.{length}
 use Rattle.octets.specs.Choice.{pick}
 use Rattle.rules.specs.Limits.{maxSessions}
 use Rattle.rules.specs.Model.{Settings}
+use Rattle.rules.specs.Layout.{viewSettings, viewSessions}
 use Rattle.rules.specs.Sound.{Made, make, Count, broken, free, countFree}
+use Rattle.rules.specs.Stages.{verdict}
+use Rattle.rules.specs.Serve.{Served, replyTo, serve}
 
 -- making: 0 made, 1 refused; and the table at exit
 pub record MakeCall : Type 0 where
@@ -29,3 +34,20 @@ countAnswer (free n) = record { outcome = 0; count = n }
 
 unfoldable pub countCall : List ℕ → CountCall
 countCall t = countAnswer (countFree maxSessions t)
+
+-- a request: 01's outcome, the length of the reply (0 where there is none), the reply space and the table at exit
+pub record RequestCall : Type 0 where
+  pub outcome : ℕ
+  pub used : ℕ
+  pub space : List ℕ
+  pub table : List ℕ
+
+-- the reply to a request on a table
+unfoldable pub replyOf : List ℕ → List ℕ → List ℕ
+replyOf t msg = replyTo (viewSettings t) (viewSessions t) msg (verdict maxSessions (viewSettings t) (viewSessions t) msg)
+
+unfoldable pub requestAnswer : List ℕ → Served → RequestCall
+requestAnswer answer s = record { outcome = s .outcome; used = pick (eqb (s .outcome) 0) (length answer) 0; space = s .space; table = s .table }
+
+unfoldable pub requestCall : List ℕ → List ℕ → List ℕ → RequestCall
+requestCall t msg space = requestAnswer (replyOf t msg) (serve maxSessions t msg space)

@@ -5,7 +5,7 @@ ghost use mathlib.Core.Path.{_≡_};
 ghost use Rattle.rules.specs.Limits.{maxSessions};
 ghost use Rattle.rules.specs.Layout.{tableLength};
 ghost use Rattle.table.specs.Answers.{settingsOf};
-ghost use Rattle.pfcp_session.specs.Calls.{makeCall, countCall};
+ghost use Rattle.pfcp_session.specs.Calls.{makeCall, countCall, requestCall};
 
 // Outcomes of making a table.
 const MADE: u32 = 0;
@@ -61,4 +61,22 @@ pub extern "C" fn pfcp_free_count(table: &[u8], count: &mut u32) -> u32
             COUNTED
         }
     }
+}
+
+// Handles one request: 01's outcome. With outcome 0 the reply stands at the front of the reply space, and used is its length; any other
+// outcome writes nothing but 0 there.
+#[no_mangle]
+pub extern "C" fn pfcp_request(
+    table: &mut [u8],
+    message: &[u8],
+    reply: &mut [u8],
+    used: &mut usize,
+) -> u32
+    ensures { λ r.
+        ⌜ record { outcome = r; used = now (used .exit); space = now (reply .exit); table = now (table .exit) }
+        ≡ requestCall (now (table .entry)) (now (message .entry)) (now (reply .entry)) ⌝ }
+{
+    let served = engine::serve(table, message, reply);
+    *used = served.used;
+    served.outcome
 }

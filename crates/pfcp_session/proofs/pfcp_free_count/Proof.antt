@@ -6,15 +6,6 @@ use borrow.Author.Needs.{needs}
 use Rattle.pfcp_session.proofs.pfcp_free_count.Statement.{statement}
 use Rattle.pfcp_session.proofs.pfcp_free_count.Tie as tie
 
-free-count-requires : tie.Need-free-count-requires
-free-count-requires c κs = search needs
-
-enum-told : tie.Need-enum-told
-enum-told c = search needs
-
-enum-known-answer : tie.Need-enum-known-answer
-enum-known-answer c = search needs
-
 cast-count : tie.Need-cast-count
 cast-count c =
     let few = call-few (c .before .before .before .before .before .args .table .now) _ (c .before .before .before .free-count .ensures) (c .before .answer .given .0 .0) (c .before .answer .given .1) in
@@ -29,4 +20,4 @@ returns-2 c = search call-free
 pub pfcp-free-count-spec : {M : Type 1} → statement M
 pfcp-free-count-spec =
     tie.close
-    (tie.spec free-count-requires enum-told enum-known-answer cast-count returns returns-2)
+    (tie.spec (λ c κs. search needs) (λ c. search needs) (λ c. search needs) cast-count returns returns-2)

@@ -1,0 +1,163 @@
+-- What an accepted establishment or modification leaves.
+-- Assumes nothing.
+use mathlib.Core.Path.{_≡_, refl, sym, ap, ap₂, _∙_, subst}
+use mathlib.Core.Bool.{true}
+use mathlib.Core.List.{List}
+use Prim.Native.Nat.{ℕ, _*_, _^_, _≤_, _<_}
+use native.Mathlib.Omega.{arith}
+use lib.Dec.{T}
+use lib.ListN.{length, take}
+use Rattle.octets.specs.Octets.{put, octets, part, number, numberAt}
+use Rattle.octets.specs.Lists.{all, any, hasRepeat}
+use Rattle.octets.proofs.Tests.{is-false}
+use Rattle.rules.specs.Limits.{maxSessions, maxPool}
+use Rattle.rules.specs.Model.{Settings, Sessions, heldTeids}
+use Rattle.rules.specs.Layout.{viewSettings, viewSessions}
+use Rattle.rules.specs.Message.{Request, readRequest}
+use Rattle.rules.specs.Grants.{Grant, choices, grants, grantedTeid}
+use Rattle.rules.specs.Stages.{Verdict, plain, entrySession, fteidsOf, lacksFamily, createdPdrs, createdEndpoints}
+use Rattle.rules.specs.Reply.{reply}
+use Rattle.rules.specs.Serve.{replyTo}
+use Rattle.claim.proofs.VerdictLaws.{Passed, passed, few-new-pdrs, few-new-endpoints}
+use Rattle.claim.proofs.KeptRules.{RulesKept, rules-kept}
+use Rattle.claim.proofs.ServeLaws.{TableKept, table-kept}
+use Rattle.claim.proofs.FreeTeids.{held-in-pool}
+use Rattle.claim.proofs.Changed.{request-read}
+use Rattle.claim.proofs.ChangedRecords.{RequestRead}
+use Rattle.pool.proofs.TakenLaws.{Means, map-means}
+use Rattle.plan.specs.Rows.{rowWidth, rowsOf, requestIn}
+use Rattle.grants.specs.Choosing.{Granted}
+use Rattle.grants.proofs.GrantLaws.{IsGranted, granted}
+use Rattle.grants.proofs.FitLaws as fits
+use Rattle.grants.proofs.FitLaws.{granted-fit}
+use Rattle.grants.proofs.ChoiceLaws.{choiceFits}
+use Rattle.grants.proofs.ReadLaws.{read-choices-fit, choices-few}
+use Rattle.reply.specs.Placed.{written}
+use Rattle.reply.specs.Rows.{grantsIn, idFits}
+use Rattle.areas.specs.Counted.{withRecord}
+use Rattle.session.specs.Areas.{sessionArea}
+use Rattle.session.specs.Build.{built}
+use Rattle.session.proofs.Built.{Ready}
+use Rattle.engine.specs.Answers.{verdictOn, Answers, Accepting}
+use Rattle.engine.proofs.Accepted.{RowsFit, TeidsStored, ready}
+use Rattle.engine.proofs.Granting.{rows-fit, teids-stored, whole-rows}
+use Rattle.engine.proofs.NewTable.{changed-table}
+
+module _ {t words msg slot plan out : List ℕ} {seid n : ℕ} (a : Accepting t words msg slot plan out seid n) where
+  abbrev s : Settings
+  s = viewSettings t
+
+  abbrev m : Sessions
+  m = viewSessions t
+
+  abbrev q : Request
+  q = requestIn seid (a .restoring) (a .noted) (rowsOf n plan)
+
+  kept : TableKept maxSessions t
+  kept = table-kept maxSessions t (a .asked .table)
+
+  passes : Passed maxSessions s m msg
+  passes = passed maxSessions s m msg (ap (λ (v : Verdict). v .cause) (a .verdict))
+
+  rules : RulesKept s m (entrySession m msg) q
+  rules = subst (λ (r : Request). RulesKept s m (entrySession m msg) r) (a .means) (rules-kept s m (entrySession m msg) (readRequest msg) (passes .rules))
+
+  marked-held : Means (s .first) words (heldTeids m)
+  marked-held = subst (λ (w : List ℕ). Means (s .first) w (heldTeids m)) (sym (a .marks)) (map-means s m (kept .settings) (held-in-pool maxSessions s m (kept .sessions)))
+
+  choice-fits : T (all choiceFits (choices q))
+  choice-fits = subst (λ (r : Request). T (all choiceFits (choices r))) (a .means) (read-choices-fit msg (a .asked .octets))
+
+  few-choices : length (choices q) ≤ 24
+  few-choices = subst (λ (r : Request). length (choices r) ≤ 24) (a .means) (choices-few (readRequest msg) (few-new-pdrs passes) (few-new-endpoints passes))
+
+  module _ {given : List ℕ} {k : ℕ} {plan′ given′ : List ℕ} (room : length given ≡ 96) (g : Granted n (s .first) words (s .size) plan given k plan′ given′) where
+    is-granted : IsGranted (grants s m q) seid (a .restoring) (a .noted) n plan k plan′ given′
+    is-granted =
+        granted seid (a .restoring) (a .noted) n plan s m words given marked-held (a .rows) (omega arith) choice-fits few-choices
+        (is-false (hasRepeat (createdPdrs q)) (rules .createdPdrsOnce)) (is-false (hasRepeat (createdEndpoints q)) (rules .createdEndpointsOnce)) g
+
+    grants-fit : fits.RowsFit s (take (4 * k) given′)
+    grants-fit = granted-fit s m q is-granted (kept .settings) choice-fits (is-false (any (lacksFamily s) (fteidsOf q)) (rules .families))
+
+    -- what the reply asks of the rows of grants
+    pub few-grants : k ≤ 24
+    few-grants = is-granted .most
+
+    pub grants-short : length (take (4 * k) given′) ≤ 96
+    grants-short = grants-fit .few
+
+    pub grants-ids : all idFits (grantsIn (take (4 * k) given′)) ≡ true
+    grants-ids = grants-fit .ids
+
+    rows′ : List (List ℕ)
+    rows′ = rowsOf n plan′
+
+    means′ : readRequest msg ≡ requestIn seid (a .restoring) (a .noted) (rowsOf n plan′)
+    means′ = a .means ∙ sym (is-granted .same)
+
+    same-grants : grants s m q ≡ grants s m (readRequest msg)
+    same-grants = ap (grants s m) (sym (a .means))
+
+    stored : TeidsStored (grantedTeid (grants s m (readRequest msg))) (rowsOf n plan′)
+    stored =
+        subst (λ (gs : List Grant). TeidsStored (grantedTeid gs) (rowsOf n plan′)) same-grants
+        (subst (λ (rs : List (List ℕ)). TeidsStored (grantedTeid (grants s m q)) rs) (sym (is-granted .rows)) (teids-stored (grants s m q) (rowsOf n plan) (whole-rows n plan (a .rows))))
+
+    fit : RowsFit (rowsOf n plan′)
+    fit = rows-fit seid (a .restoring) (a .noted) (rowsOf n plan′) (subst RequestRead means′ (request-read msg (a .asked .octets)))
+
+    is-ready : Ready (grantedTeid (grants s m (readRequest msg))) (rowsOf n plan′) (entrySession m msg)
+    is-ready = ready maxSessions s m msg passes seid (a .restoring) (a .noted) (rowsOf n plan′) means′ fit stored
+
+    same-seid : seid ≡ readRequest msg .seid
+    unfolding requestIn
+    same-seid = sym (ap (λ (r : Request). r .seid) (a .means))
+
+    same-reply : reply s msg seid (plain 1) (grantsIn (take (4 * k) given′)) ≡ replyTo s m msg (verdictOn t msg)
+    unfolding replyTo
+    same-reply = λ i. reply s msg (same-seid i) (sym (a .verdict) i) ((is-granted .written ∙ same-grants) i)
+
+    pub accepted-answers : (used : ℕ) (out′ slot′ t′ : List ℕ) → (used, out′) ≡ written (reply s msg seid (plain 1) (grantsIn (take (4 * k) given′))) out
+        → slot′ ≡ built (rowsOf n plan′) slot → t′ ≡ withRecord sessionArea slot′ t → Answers t msg out used out′ t′
+    accepted-answers used out′ slot′ t′ w b d =
+        record {
+          long = ap (λ (p : ℕ × List ℕ). p .0) w ∙ ap length same-reply;
+          space = ap (λ (p : ℕ × List ℕ). p .1) w ∙ ap (λ (l : List ℕ). put 0 l out) same-reply;
+          table =
+              d ∙ ap₂ (λ (u v : List ℕ). withRecord sessionArea u v) b (sym (kept .encoded))
+              ∙ changed-table s (kept .settings) m (kept .sessions) msg (a .asked .octets) (a .asked .kind) passes (a .other) seid (a .restoring) (a .noted) (rowsOf n plan′) slot means′ (a .entry) is-ready
+              ∙ rw (a .verdict);
+        }
+
+-- the same, with the pool as it was read from the table
+module _ {t words msg slot plan out : List ℕ} {seid n first size : ℕ} (a : Accepting t words msg slot plan out seid n) (f : first ≡ number (part 21 4 t)) (z : size ≡ number (part 25 4 t)) where
+  pool-fits : size ≤ maxPool
+  unfolding viewSettings numberAt
+  pool-fits = subst (λ (k : ℕ). k ≤ maxPool) (sym z) (a .size)
+
+  pub grant-asks : first < 256 ^ 4 → (n * rowWidth ≤ length plan) × (size ≤ 64 * length words) × (size ≤ maxPool) × (first < 2 ^ 32) × (96 ≤ 96)
+  grant-asks b = (a .rows, let h = pool-fits in let l = a .mapLong in omega arith, pool-fits, omega arith, omega arith)
+
+  module _ {given : List ℕ} {k : ℕ} {plan′ given′ : List ℕ} (room : length given ≡ 96) (g : Granted n first words size plan given k plan′ given′) where
+    from-settings : Granted n (viewSettings t .first) words (viewSettings t .size) plan given k plan′ given′
+    unfolding viewSettings numberAt
+    from-settings = subst (λ (u : ℕ). Granted n u words (number (part 25 4 t)) plan given k plan′ given′) f (subst (λ (v : ℕ). Granted n first words v plan given k plan′ given′) z g)
+
+    pub read-few : k ≤ 24
+    read-few = few-grants a room from-settings
+
+    pub read-short : length (take (4 * k) given′) ≤ 96
+    read-short = grants-short a room from-settings
+
+    pub read-ids : all idFits (grantsIn (take (4 * k) given′)) ≡ true
+    read-ids = grants-ids a room from-settings
+
+    pub read-answers : (used : ℕ) (out′ t′ : List ℕ) → (used, out′) ≡ written (reply (viewSettings t) msg seid (plain 1) (grantsIn (take (4 * k) given′))) out
+        → t′ ≡ withRecord sessionArea (built (rowsOf n plan′) slot) t → Answers t msg out used out′ t′
+    read-answers used out′ t′ w d = accepted-answers a room from-settings used out′ (built (rowsOf n plan′) slot) t′ w refl d
+
+-- the session built and stored
+pub kept-session : (n : ℕ) (plan slot slot′ t t′ : List ℕ) → slot′ ≡ built (rowsOf n plan) slot → t′ ≡ withRecord sessionArea slot′ t
+    → (slot′ ≡ built (rowsOf n plan) slot) × (t′ ≡ withRecord sessionArea (built (rowsOf n plan) slot) t)
+kept-session n plan slot slot′ t t′ b d = (b, d ∙ ap (λ (u : List ℕ). withRecord sessionArea u t) b)

@@ -1,0 +1,99 @@
+-- What an accepted request gives the building of its session: every check has passed, so the plan's rows and the session at entry are ready.
+-- Assumes nothing.
+use mathlib.Core.Path.{_≡_, refl, sym, ap, _∙_, subst}
+use mathlib.Core.Bool.{Bool, true, not}
+use mathlib.Core.List.{List, [], _∷_, map}
+use Prim.Native.Nat.{ℕ, _+_, _-_, _≤_}
+use native.Mathlib.Omega.{arith}
+use lib.Dec.{T}
+use lib.ListN.{length, length-map}
+use Rattle.octets.specs.Lists.{anyIn, hasRepeat, all, any, keep, collect}
+use Rattle.rules.specs.Model.{Settings, Session, Sessions, pdrId, endpointId}
+use Rattle.rules.specs.Message.{Request, kindOf, readRequest}
+use Rattle.rules.specs.Grants.{Kind, grants, grantedTeid}
+use Rattle.rules.specs.Stages.{entrySession, newPdrId, newEndpointId, createdPdrs, createdEndpoints, livePdrs, liveEndpoints}
+use Rattle.rules.specs.Apply.{createPdr, createEndpoint, keptPdr, keptEndpoint}
+use Rattle.plan.specs.Rows.{tagged, rowPdrId, rowEndpointId, rowPdr, rowEndpoint, rowCsid, isNullRow, requestIn}
+use Rattle.claim.proofs.VerdictLaws.{Passed}
+use Rattle.claim.proofs.KeptRules.{RulesKept, rules-kept, RoomLeft, room-left}
+use Rattle.claim.proofs.InsertLaws.{removed-length}
+use Rattle.octets.proofs.MemberLaws.{all-in}
+use Rattle.session.proofs.RowRecords.{pdrOf, endpointOf}
+use Rattle.session.proofs.Passes.{endpointRow, pdrRow, csidRow}
+use Rattle.session.proofs.Built.{Ready}
+use Rattle.engine.proofs.OnlyNull.{only-null}
+
+-- the rows' fields fit the octets that they get
+pub record RowsFit (rows : List (List ℕ)) : Type 0 where
+  pub endpointRows : T (all endpointRow (tagged 127 rows))
+  pub pdrRows : T (all pdrRow (tagged 1 rows))
+  pub csidRows : T (all csidRow (tagged 65 rows))
+
+-- the TEID words of the rows hold what was granted
+pub record TeidsStored (teids : Kind → ℕ → ℕ) (rows : List (List ℕ)) : Type 0 where
+  pub endpointTeids : map (createEndpoint teids) (map rowEndpoint (tagged 127 rows)) ≡ map endpointOf (tagged 127 rows)
+  pub pdrTeids : map (createPdr teids) (map rowPdr (tagged 1 rows)) ≡ map pdrOf (tagged 1 rows)
+
+endpoint-ids : (qs : List (List ℕ)) → map newEndpointId (map rowEndpoint qs) ≡ map endpointId (map endpointOf qs)
+unfolding endpointOf createEndpoint
+endpoint-ids [] = refl
+endpoint-ids (q ∷ qs) = ap (λ (l : List ℕ). rowEndpoint q .id ∷ l) (endpoint-ids qs)
+
+pdr-ids : (qs : List (List ℕ)) → map newPdrId (map rowPdr qs) ≡ map pdrId (map pdrOf qs)
+unfolding pdrOf createPdr
+pdr-ids [] = refl
+pdr-ids (q ∷ qs) = ap (λ (l : List ℕ). rowPdr q .id ∷ l) (pdr-ids qs)
+
+-- records that stay, and those that are new
+room-for : (old gone new a b most : ℕ) → a + gone ≤ old → old - gone + new ≤ most → b ≡ new → a + b ≤ most
+room-for old gone new a b most h k e = omega arith
+
+module _ (limit : ℕ) (s : Settings) (m : Sessions) (msg : List ℕ) (p : Passed limit s m msg) (seid : ℕ) (restoring noted : Bool) (rows : List (List ℕ))
+    (means : readRequest msg ≡ requestIn seid restoring noted rows) where
+  abbrev x : Session
+  x = entrySession m msg
+
+  abbrev r : Request
+  r = requestIn seid restoring noted rows
+
+  rules : RulesKept s m x r
+  rules = subst (λ (q : Request). RulesKept s m x q) means (rules-kept s m x (readRequest msg) (p .rules))
+
+  room : RoomLeft limit (kindOf msg) s m x r
+  room = subst (λ (q : Request). RoomLeft limit (kindOf msg) s m x q) means (room-left limit (kindOf msg) s m x (readRequest msg) (p .room))
+
+  endpoint-room : length (keep (keptEndpoint (map rowEndpointId (tagged 130 rows))) (x .endpoints)) + length (tagged 127 rows) ≤ 8
+  unfolding keptEndpoint requestIn
+  endpoint-room =
+      room-for (length (x .endpoints)) (length (r .goneEndpoints)) (length (r .endpoints)) (length (keep (keptEndpoint (r .goneEndpoints)) (x .endpoints))) (length (tagged 127 rows)) 8
+      (removed-length endpointId (r .goneEndpoints) (x .endpoints) (rules .goneEndpointsOnce) (all-in (r .goneEndpoints) (map endpointId (x .endpoints)) (unfold liveEndpoints in (rules .goneEndpointsLive))))
+      (room .endpoints) (sym (length-map (tagged 127 rows) rowEndpoint))
+
+  pdr-room : length (keep (keptPdr (map rowPdrId (tagged 15 rows))) (x .pdrs)) + length (tagged 1 rows) ≤ 16
+  unfolding keptPdr requestIn
+  pdr-room =
+      room-for (length (x .pdrs)) (length (r .gonePdrs)) (length (r .pdrs)) (length (keep (keptPdr (r .gonePdrs)) (x .pdrs))) (length (tagged 1 rows)) 16
+      (removed-length pdrId (r .gonePdrs) (x .pdrs) (rules .gonePdrsOnce) (all-in (r .gonePdrs) (map pdrId (x .pdrs)) (unfold livePdrs in (rules .gonePdrsLive))))
+      (room .pdrs) (sym (length-map (tagged 1 rows) rowPdr))
+
+  null-only : any isNullRow (tagged 65 rows) ≡ true → collect rowCsid (tagged 65 rows) ≡ []
+  unfolding requestIn
+  null-only e = sym (ap (λ (q : Request). q .csids) means) ∙ only-null msg (p .read) (ap (λ (q : Request). q .clears) means ∙ e)
+
+  module _ (fit : RowsFit rows) (stored : TeidsStored (grantedTeid (grants s m (readRequest msg))) rows) where
+    pub ready : Ready (grantedTeid (grants s m (readRequest msg))) rows x
+    ready =
+        record {
+          endpointRows = fit .endpointRows;
+          pdrRows = fit .pdrRows;
+          csidRows = fit .csidRows;
+          endpointRoom = endpoint-room;
+          pdrRoom = pdr-room;
+          endpointsOnce = unfold createdEndpoints requestIn in (subst (λ (l : List ℕ). T (not (hasRepeat l))) (endpoint-ids (tagged 127 rows)) (rules .createdEndpointsOnce));
+          endpointsNew = unfold createdEndpoints liveEndpoints requestIn in (subst (λ (l : List ℕ). T (not (anyIn l (map endpointId (x .endpoints))))) (endpoint-ids (tagged 127 rows)) (rules .createdEndpointsNew));
+          pdrsOnce = unfold createdPdrs requestIn in (subst (λ (l : List ℕ). T (not (hasRepeat l))) (pdr-ids (tagged 1 rows)) (rules .createdPdrsOnce));
+          pdrsNew = unfold createdPdrs livePdrs requestIn in (subst (λ (l : List ℕ). T (not (anyIn l (map pdrId (x .pdrs))))) (pdr-ids (tagged 1 rows)) (rules .createdPdrsNew));
+          endpointTeids = stored .endpointTeids;
+          pdrTeids = stored .pdrTeids;
+          onlyNull = null-only;
+        }

@@ -1,0 +1,122 @@
+-- The session at entry: whether a SEID is live, and the session in its slot.
+-- Assumes nothing.
+use mathlib.Core.Path.{_≡_, refl, sym, ap, _∙_}
+use mathlib.Core.Bool.{Bool, true, false}
+use mathlib.Core.Option.{some}
+use mathlib.Core.List.{List, []}
+use Prim.Native.Nat.{ℕ, _*_, _<_, _^_}
+use lib.Dec.{T, eqb}
+use borrow.Author.Tests.{eqb-true}
+use lib.ListN.{length, getD}
+use Rattle.octets.specs.Choice.{isSome}
+use Rattle.octets.specs.Octets.{be, numberAt, octetAt, part, put, zeros, slices}
+use Rattle.octets.specs.Lists.{all}
+use Rattle.octets.proofs.Tests.{each}
+use Rattle.octets.proofs.Numbers.{number-be}
+use Rattle.octets.proofs.ListLaws.{all-every, found-knows}
+use Rattle.rules.specs.Limits.{maxSessions}
+use Rattle.rules.specs.Model.{Settings, Session, Sessions}
+use Rattle.rules.specs.Layout.{sessionOctets, encode, viewSession, viewArea, viewSettings, viewSessions, sessionHead, pdrWidth, endpointWidth, csidWidth}
+use Rattle.rules.specs.Sound.{sound, sessionAllowed, sessionsTests, sessionsAllowed}
+use Rattle.rules.specs.Message.{kindOf, headerSeid, readRequest}
+use Rattle.rules.specs.Stages.{hasSeid, sessionOf, isLive, newSession, atEntry, entrySession}
+use Rattle.laws.proofs.LayoutLaws.{session-back}
+use Rattle.claim.proofs.ServeLaws.{TableKept, table-kept}
+use Rattle.slots.specs.declared.Place.{Place}
+use Rattle.slots.specs.declared.Place.the-variants.{Found, Absent}
+use Rattle.areas.specs.Counted.{areaIn, placeIn}
+use Rattle.session.specs.Areas.{sessionArea}
+use Rattle.store.proofs.Stored.{session-found, session-absent, session-loaded, fresh-slot}
+use Rattle.stages.proofs.EntryLaws.{slot-live, slot-new}
+use Rattle.engine.specs.Steps.{Entering, Entered}
+
+module _ (t : List ℕ) (h : T (sound maxSessions t)) where
+  abbrev s : Settings
+  s = viewSettings t
+
+  abbrev m : Sessions
+  m = viewSessions t
+
+  kept : TableKept maxSessions t
+  kept = table-kept maxSessions t h
+
+  at-place : (n : ℕ) (r q : Place) → r ≡ placeIn sessionArea n t → r ≡ q → placeIn sessionArea n (encode maxSessions s m) ≡ q
+  at-place n r q e d = ap (placeIn sessionArea n) (kept .encoded) ∙ sym e ∙ d
+
+  pub live-found : (n p : ℕ) (r : Place) → r ≡ placeIn sessionArea n t → r ≡ Found p → true ≡ isLive n (viewSessions t)
+  unfolding isLive
+  live-found n p r e d = sym (ap isSome (session-found s (kept .settings) m (kept .sessions) n p (newSession 0) (at-place n r (Found p) e d) .1))
+
+  pub live-absent : (n p : ℕ) (r : Place) → r ≡ placeIn sessionArea n t → r ≡ Absent p → false ≡ isLive n (viewSessions t)
+  unfolding isLive
+  live-absent n p r e d = sym (ap isSome (session-absent s (kept .settings) m (kept .sessions) n p (at-place n r (Absent p) e d)))
+
+  each-allowed : T (all (sessionAllowed s) m)
+  unfolding sessionsAllowed sessionsTests
+  each-allowed = each (sessionsTests maxSessions s m) (kept .sessions) .1 .1 .0
+
+  live-allowed : (n : ℕ) (x : Session) → sessionOf n m ≡ some x → T (sessionAllowed s x)
+  unfolding sessionOf
+  live-allowed n x e = found-knows (λ (y : Session). T (sessionAllowed s y)) (hasSeid n) m x (all-every (sessionAllowed s) m each-allowed) e
+
+new-entry : (m : Sessions) (msg : List ℕ) → kindOf msg ≡ 50 → entrySession m msg ≡ newSession (readRequest msg .seid)
+unfolding entrySession atEntry
+new-entry m msg e = rw e
+
+pub other-than : (k n : ℕ) → (k ≡ n → ⊥) → eqb k n ≡ false
+other-than k n h = go (eqb k n) refl
+  where
+    go : (b : Bool) → eqb k n ≡ b → b ≡ false
+    go true e = absurd (h (eqb-true k n e))
+    go false e = refl
+
+live-entry : (m : Sessions) (msg : List ℕ) (x : Session) → (kindOf msg ≡ 50 → ⊥) → sessionOf (headerSeid msg) m ≡ some x → entrySession m msg ≡ x
+unfolding entrySession atEntry
+live-entry m msg x h e = rw (other-than (kindOf msg) 50 h, e)
+
+new-viewed : (n : ℕ) → n < 2 ^ 64 → viewSession (sessionOctets (newSession n)) ≡ newSession n
+unfolding newSession sessionOctets viewSession viewArea numberAt octetAt sessionHead pdrWidth endpointWidth csidWidth be slices
+new-viewed n h = λ j. record { seid = number-be 8 n h j; pdrs = []; endpoints = []; csids = [] }
+
+-- a new session in its slot
+pub entered-new : (t msg out slot slot′ : List ℕ) (kind seid p : ℕ) (live : Bool) → Entering t msg out slot kind seid p → kind ≡ 50 → slot′ ≡ put 0 (be 8 seid) (zeros 483) → length slot′ ≡ 483
+    → live ≡ isLive seid (viewSessions t) → Entered t msg kind seid live slot′
+entered-new t msg out slot slot′ kind seid p live a k e long l =
+    let fresh : slot′ ≡ sessionOctets (newSession seid) = e ∙ fresh-slot seid in
+    let at : newSession seid ≡ entrySession (viewSessions t) msg = ap newSession (a .new k) ∙ sym (new-entry (viewSessions t) msg (sym (a .kindIs) ∙ k)) in
+    let viewed : viewSession slot′ ≡ newSession seid = ap viewSession fresh ∙ new-viewed seid (a .fits) in
+    record { entry = fresh ∙ ap sessionOctets at; viewed = viewed ∙ at; place = slot-new slot′ seid long viewed; known = λ z. l }
+
+-- a live session in its slot
+module _ (t msg out slot : List ℕ) (kind seid p : ℕ) (a : Entering t msg out slot kind seid p) (other : kind ≡ 50 → ⊥) where
+  sound-table : T (sound maxSessions t)
+  sound-table = a .asked .table
+
+  k : TableKept maxSessions t
+  k = table-kept maxSessions t sound-table
+
+  x : Session
+  x = getD (viewSessions t) p (newSession 0)
+
+  there : placeIn sessionArea (headerSeid msg) (encode maxSessions (viewSettings t) (viewSessions t)) ≡ Found p
+  there = ap (placeIn sessionArea (headerSeid msg)) (k .encoded) ∙ a .found other
+
+  found : (p < 64) × (sessionOf (headerSeid msg) (viewSessions t) ≡ some x)
+  unfolding x
+  found = session-found (viewSettings t) (k .settings) (viewSessions t) (k .sessions) (headerSeid msg) p (newSession 0) there
+
+  pub place-within : p < 64
+  place-within = found .0
+
+  allowed : T (sessionAllowed (viewSettings t) x)
+  allowed = live-allowed t sound-table (headerSeid msg) x (found .1)
+
+  is-entry : x ≡ entrySession (viewSessions t) msg
+  is-entry = sym (live-entry (viewSessions t) msg x (λ e. other (a .kindIs ∙ e)) (found .1))
+
+  pub entered-live : (slot′ : List ℕ) → slot′ ≡ part (p * 483) 483 (areaIn sessionArea t) → length slot′ ≡ 483 → Entered t msg kind seid false slot′
+  unfolding x
+  entered-live slot′ e long =
+      let loaded : slot′ ≡ sessionOctets x = e ∙ ap (λ (u : List ℕ). part (p * 483) 483 (areaIn sessionArea u)) (sym (k .encoded)) ∙ session-loaded (viewSettings t) (k .settings) (viewSessions t) (k .sessions) (headerSeid msg) p (newSession 0) there in
+      let viewed : viewSession slot′ ≡ x = ap viewSession loaded ∙ session-back (viewSettings t) (k .settings) x allowed in
+      record { entry = loaded ∙ ap sessionOctets is-entry; viewed = viewed ∙ is-entry; place = slot-live (viewSettings t) slot′ x long viewed allowed; known = λ z. absurd (other z) }

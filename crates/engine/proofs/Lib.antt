@@ -1,0 +1,15 @@
+pub mod OnlyNull
+pub mod VerdictSteps
+pub mod Accepted
+pub mod NewTable
+pub mod Refusals
+pub mod Deleting
+pub mod Faults
+pub mod Deleted
+pub mod Granting
+pub mod Acceptance
+pub mod Entering
+pub mod Settling
+pub mod Changing
+pub mod Answering
+pub mod Serving

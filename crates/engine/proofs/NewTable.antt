@@ -1,0 +1,112 @@
+-- The table that an accepted request leaves: the session that was built stands in its place, or is gone.
+-- Assumes nothing.
+use mathlib.Core.Path.{_≡_, sym, ap, _∙_, subst}
+use mathlib.Core.Bool.{Bool, true, false, not}
+use mathlib.Core.List.{List, [], _∷_, map}
+use Prim.Native.Nat.{ℕ, _≤_}
+use native.Mathlib.Omega.{arith}
+use lib.Dec.{T, eqb, ltb, leb, leb→le, le→leb}
+use lib.ListN.{length}
+use Rattle.octets.specs.Octets.{octets}
+use Rattle.octets.specs.Lists.{all}
+use Rattle.octets.proofs.Tests.{both, all-head, all-tail, all-cons}
+use Rattle.rules.specs.Limits.{maxSessions, maxPdrs, maxEndpoints, nodeTypes}
+use Rattle.rules.specs.Model.{Settings, Session, Sessions, Pdr, Endpoint, Csid, endpointId}
+use Rattle.rules.specs.Elements.{nodeTypeKept}
+use Rattle.rules.specs.Layout.{sessionOctets, encode}
+use Rattle.rules.specs.Sound.{settingsAllowed, sessionAllowed, sessionsAllowed, pdrAllowed, endpointAllowed, csidAllowed}
+use Rattle.rules.specs.Message.{kindOf, headerSeid, served, readRequest, Request}
+use Rattle.rules.specs.Grants.{Kind, grants, grantedTeid}
+use Rattle.rules.specs.Stages.{entrySession}
+use Rattle.rules.specs.Apply.{apply, putSession, follow}
+use Rattle.rules.specs.Serve.{sessionsAfter}
+use Rattle.laws.proofs.LayoutLaws.{csid-address-length, address-short}
+use Rattle.claim.proofs.VerdictLaws.{Passed}
+use Rattle.claim.proofs.KeptRules.{SessionKept, pdr-kept, endpoint-kept, csid-kept, sessions-kept}
+use Rattle.claim.proofs.Changed.{entry-sound, changed-sound}
+use Rattle.claim.proofs.After.{changed, ChangedSound, sound-after}
+use Rattle.claim.proofs.Accepting.{SoundAfter}
+use Rattle.plan.specs.Rows.{requestIn}
+use Rattle.areas.specs.Counted.{withRecord, withoutRecord}
+use Rattle.session.specs.Areas.{sessionArea}
+use Rattle.session.specs.Build.{built}
+use Rattle.session.proofs.Slot.{Slot, pdrFits, endpointFits, csidFits}
+use Rattle.session.proofs.Built.{Ready, built-session}
+use Rattle.store.proofs.Stored.{session-saved, session-removed}
+
+pdrs-fit : (s : Settings) (live : List ℕ) (ps : List Pdr) → T (all (pdrAllowed s live) ps) → T (all pdrFits ps)
+unfolding all
+pdrs-fit s live [] h = tt
+pdrs-fit s live (p ∷ ps) h = all-cons pdrFits p ps (pdr-kept s live p (all-head (pdrAllowed s live) p ps h) .id) (pdrs-fit s live ps (all-tail (pdrAllowed s live) p ps h))
+
+endpoints-fit : (s : Settings) (es : List Endpoint) → T (all (endpointAllowed s) es) → T (all endpointFits es)
+unfolding all
+endpoints-fit s [] h = tt
+endpoints-fit s (e ∷ es) h = all-cons endpointFits e es (endpoint-kept s e (all-head (endpointAllowed s) e es h) .id) (endpoints-fit s es (all-tail (endpointAllowed s) e es h))
+
+csid-fits : (c : Csid) → T (csidAllowed c) → T (csidFits c)
+unfolding nodeTypeKept
+csid-fits c h =
+    let l = csid-address-length c h in
+    let k = address-short (c .idType) in
+    both (ltb (c .nodeType) 6) (leb (length (c .address)) 16) (csid-kept c h .node) (le→leb (length (c .address)) 16 (omega arith))
+
+csids-fit : (cs : List Csid) → T (all csidAllowed cs) → T (all csidFits cs)
+unfolding all
+csids-fit [] h = tt
+csids-fit (c ∷ cs) h = all-cons csidFits c cs (csid-fits c (all-head csidAllowed c cs h)) (csids-fit cs (all-tail csidAllowed c cs h))
+
+-- a slot with the octets of a session that keeps the rules
+pub slot-holds : (s : Settings) (x : Session) (slot : List ℕ) → SessionKept s x → slot ≡ sessionOctets x → Slot x slot
+slot-holds s x slot k e =
+    record {
+      octets = e;
+      pdrsFit = pdrs-fit s (map endpointId (x .endpoints)) (x .pdrs) (k .pdrs);
+      pdrsFew = leb→le (length (x .pdrs)) maxPdrs (k .fewPdrs);
+      pdrsUp = k .pdrOrder;
+      endpointsFit = endpoints-fit s (x .endpoints) (k .endpoints);
+      endpointsFew = leb→le (length (x .endpoints)) maxEndpoints (k .fewEndpoints);
+      endpointsUp = k .endpointOrder;
+      csidsFit = csids-fit (x .csids) (k .csids);
+      csidsFew = leb→le (length (x .csids)) nodeTypes (k .fewCsids);
+      csidsUp = k .csidOrder;
+    }
+
+module _ (s : Settings) (hs : T (settingsAllowed s)) (m : Sessions) (hm : T (sessionsAllowed maxSessions s m)) (msg : List ℕ) (ho : T (octets msg)) (hk : T (served (kindOf msg)))
+    (p : Passed maxSessions s m msg) where
+  -- a deletion
+  pub deleted-table : eqb (kindOf msg) 54 ≡ true → withoutRecord sessionArea (headerSeid msg) (encode maxSessions s m) ≡ encode maxSessions s (sessionsAfter s m msg)
+  unfolding sessionsAfter follow
+  deleted-table e = session-removed s hs m hm (headerSeid msg) ∙ ap (encode maxSessions s) (rw e)
+
+  -- an establishment or a modification
+  module _ (other : eqb (kindOf msg) 54 ≡ false) where
+    not-deletion : T (not (eqb (kindOf msg) 54))
+    not-deletion = subst (λ (b : Bool). T (not b)) (sym other) tt
+
+    abbrev teids : Kind → ℕ → ℕ
+    teids = grantedTeid (grants s m (readRequest msg))
+
+    abbrev new : Session
+    new = apply teids (readRequest msg) (entrySession m msg)
+
+    after-is : sessionsAfter s m msg ≡ putSession new m
+    unfolding sessionsAfter follow entrySession
+    after-is = rw other
+
+    new-allowed : T (sessionAllowed s new)
+    unfolding changed ChangedSound
+    new-allowed = changed-sound maxSessions s m msg hs hm ho hk not-deletion p .sound
+
+    few-after : length (putSession new m) ≤ 64
+    unfolding SoundAfter
+    few-after =
+        leb→le (length (putSession new m)) maxSessions
+        (subst (λ (n : Sessions). T (leb (length n) maxSessions)) after-is (sessions-kept maxSessions s (sessionsAfter s m msg) (sound-after maxSessions (changed-sound maxSessions) s m msg hs hm ho hk p) .few))
+
+    pub changed-table : (seid : ℕ) (restoring noted : Bool) (rows : List (List ℕ)) (slot : List ℕ) → readRequest msg ≡ requestIn seid restoring noted rows → slot ≡ sessionOctets (entrySession m msg)
+        → Ready teids rows (entrySession m msg) → withRecord sessionArea (built rows slot) (encode maxSessions s m) ≡ encode maxSessions s (sessionsAfter s m msg)
+    changed-table seid restoring noted rows slot means e ready =
+        let holds = slot-holds s (entrySession m msg) slot (entry-sound maxSessions s m msg hm ho p .kept) e in
+        let b : built rows slot ≡ sessionOctets new = built-session teids rows holds ready seid restoring noted .octets ∙ ap (λ (q : Request). sessionOctets (apply teids q (entrySession m msg))) (sym means) in
+        ap (λ (l : List ℕ). withRecord sessionArea l (encode maxSessions s m)) b ∙ session-saved s hs m hm new new-allowed few-after ∙ ap (encode maxSessions s) (sym after-is)

@@ -1,0 +1,38 @@
+-- A refusal: its reply does not depend on grants or on the F-SEID, and the table stays.
+-- Assumes nothing.
+use mathlib.Core.Path.{_≡_, sym, ap, _∙_}
+use mathlib.Core.List.{List, []}
+use Prim.Native.Nat.{ℕ}
+use borrow.Author.Tests.{ne-eqb}
+use lib.ListN.{length}
+use Rattle.octets.specs.Octets.{put}
+use Rattle.rules.specs.Layout.{viewSettings, viewSessions}
+use Rattle.rules.specs.Message.{readRequest}
+use Rattle.rules.specs.Grants.{grants}
+use Rattle.rules.specs.Stages.{Verdict}
+use Rattle.rules.specs.Reply.{reply}
+use Rattle.rules.specs.Serve.{replyTo}
+use Rattle.reply.specs.Placed.{written}
+use Rattle.reply.specs.declared.Offending.{Offending}
+use Rattle.reply.specs.Naming.{refusal}
+use Rattle.reply.proofs.CallerLaws.{refusal-alone}
+use Rattle.engine.specs.Answers.{verdictOn, Answers, Refusing}
+
+module _ (t msg out : List ℕ) where
+  -- the reply of a refusal, whatever was read
+  alone : (c : ℕ) (o : Offending) → (c ≡ 1 → ⊥) → verdictOn t msg ≡ refusal c o → reply (viewSettings t) msg 0 (refusal c o) [] ≡ replyTo (viewSettings t) (viewSessions t) msg (verdictOn t msg)
+  unfolding replyTo
+  alone c o h e =
+      refusal-alone (viewSettings t) msg 0 (readRequest msg .seid) (refusal c o) [] (grants (viewSettings t) (viewSessions t) (readRequest msg)) h
+      ∙ ap (λ (v : Verdict). reply (viewSettings t) msg (readRequest msg .seid) v (grants (viewSettings t) (viewSessions t) (readRequest msg))) (sym e)
+
+  pub refused-answers : (c : ℕ) (o : Offending) (used : ℕ) (out′ : List ℕ) → Refusing t msg out c o → (used, out′) ≡ written (reply (viewSettings t) msg 0 (refusal c o) []) out → Answers t msg out used out′ t
+  refused-answers c o used out′ k w =
+      let e = k .verdict in
+      let h = k .other in
+      let same = alone c o h e in
+      record {
+        long = ap (λ (p : ℕ × List ℕ). p .0) w ∙ ap length same;
+        space = ap (λ (p : ℕ × List ℕ). p .1) w ∙ ap (λ (l : List ℕ). put 0 l out) same;
+        table = rw (e, ne-eqb c 1 h);
+      }

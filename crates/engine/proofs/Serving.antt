@@ -1,0 +1,129 @@
+-- The whole call: the outcomes in 01's order, and the answer.
+-- Assumes nothing.
+use mathlib.Core.Path.{_≡_, refl, sym, ap, ap₂, _∙_, subst}
+use mathlib.Core.Bool.{Bool, true, false, not, _||_}
+use mathlib.Core.List.{List}
+use Prim.Native.Nat.{ℕ, _-_, _≤_, _<_}
+use native.Mathlib.Omega.{arith}
+use lib.Dec.{T, eqb, ltb}
+use lib.ListN.{length}
+use borrow.Author.Tests.{lt-ltb, eqb-true}
+use Rattle.octets.specs.Choice.{pick}
+use Rattle.octets.specs.Octets.{octets, part, number, numberAt}
+use Rattle.octets.specs.Lists.{distinct}
+use Rattle.octets.proofs.Tests.{of-true}
+use Rattle.rules.specs.Limits.{maxSessions, maxMessage, minSpace}
+use Rattle.rules.specs.Model.{heldTeids, freeCount}
+use Rattle.rules.specs.Layout.{viewSettings, viewSessions, tableLength, headWidth, sessionWidth}
+use Rattle.rules.specs.Sound.{sound}
+use Rattle.rules.specs.Message.{kindOf, headerSeid, headerAllowed, served}
+use Rattle.rules.specs.Serve.{unserved, replyTo, answered, answer, serveSound, serve}
+use Rattle.claim.proofs.ServeLaws.{table-kept}
+use Rattle.frame.specs.HeaderOf.{outcome, request, opened, headerOf}
+use Rattle.frame.specs.declared.header.Header.{Header}
+use Rattle.frame.specs.declared.header.Header.the-variants.{Request}
+use Rattle.frame.proofs.HeaderLaws.{request-bounds}
+use Rattle.frame.proofs.ServeLaws.{request-is, header-outcome, header-request}
+use Rattle.marking.specs.declared.Marks.{Marks}
+use Rattle.marking.specs.declared.Marks.the-variants.{Clash, New}
+use Rattle.table.specs.Answers.{Examined}
+use Rattle.table.proofs.Examining.{sound-no, sound-yes}
+use Rattle.engine.specs.Answers.{Asked, Answers, verdictOn}
+use Rattle.engine.specs.Steps.{Counted, Serves}
+
+-- the header of a request is allowed
+allowed-header : (msg : List ℕ) (k n : ℕ) → request k n ≡ headerOf msg → headerAllowed msg ≡ true
+unfolding headerOf
+allowed-header msg k n = by-tests (ltb maxMessage (length msg)) (headerAllowed msg) (served (kindOf msg))
+  where
+    by-tests : (a b c : Bool) → request k n ≡ pick a (outcome 3) (pick (not b) (outcome 4) (pick (not c) (outcome 5) (request (kindOf msg) (headerSeid msg)))) → b ≡ true
+    by-tests true b c h = let z : _≡_ {A = ℕ} 0 1 = cc in absurd (omega arith)
+    by-tests false false c h = let z : _≡_ {A = ℕ} 0 1 = cc in absurd (omega arith)
+    by-tests false true c h = refl
+
+small-kind : (k : ℕ) → served k ≡ true → k < 255
+unfolding served
+small-kind k = go (eqb k 50) (eqb k 52) (eqb k 54) refl refl refl
+  where
+    go : (a b c : Bool) → eqb k 50 ≡ a → eqb k 52 ≡ b → eqb k 54 ≡ c → (a || b || c) ≡ true → k < 255
+    go true b c x y z h = let e = eqb-true k 50 x in omega arith
+    go false true c x y z h = let e = eqb-true k 52 y in omega arith
+    go false false true x y z h = let e = eqb-true k 54 z in omega arith
+    go false false false x y z h = absurd (subst T (sym h) tt)
+
+-- an outcome without a reply
+module _ (t msg out : List ℕ) where
+  without-reply : {o u : ℕ} (n : ℕ) → eqb n 0 ≡ false → serve maxSessions t msg out ≡ unserved n out t → (o ≡ n) × (u ≡ 0) → Serves t msg out o u out t
+  without-reply {o} {u} n z e a =
+      record {
+        served = ap (λ (k : ℕ). unserved k out t) (a .0) ∙ sym e;
+        long = a .1 ∙ sym (ap (λ (b : Bool). pick b (length (replyTo (viewSettings t) (viewSessions t) msg (verdictOn t msg))) 0) (ap (λ (k : ℕ). eqb k 0) (a .0) ∙ z));
+      }
+
+  module _ {r : Marks} {w : List ℕ} (x : Examined t r w) where
+    pub serves-broken : {o u : ℕ} → r ≡ Clash → (o ≡ 1) × (u ≡ 0) → Serves t msg out o u out t
+    unfolding serve
+    serves-broken e a = without-reply 1 refl (rw (sym (sound-no t r w x e))) a
+
+    module _ {held : ℕ} (e : r ≡ New held) where
+      is-sound : sound maxSessions t ≡ true
+      is-sound = sym (sound-yes t r w x held e)
+
+      after-sound : serve maxSessions t msg out ≡ serveSound maxSessions (viewSettings t) (viewSessions t) t msg out
+      unfolding serve
+      after-sound = rw is-sound
+
+      is-held : held ≡ distinct (heldTeids (viewSessions t))
+      is-held = go (sound maxSessions t) (sym e ∙ x .answer)
+        where
+          go : (b : Bool) → New held ≡ pick b (New (distinct (heldTeids (viewSessions t)))) Clash → held ≡ distinct (heldTeids (viewSessions t))
+          go true z = cc
+          go false z = absurd (let u : _≡_ {A = ℕ} 0 1 = cc in omega arith)
+
+      pub serves-small : {o u : ℕ} → length out < 1024 → (o ≡ 2) × (u ≡ 0) → Serves t msg out o u out t
+      unfolding serveSound
+      serves-small l a = without-reply 2 refl (after-sound ∙ rw (lt-ltb (length out) minSpace l)) a
+
+      module _ (room : 1024 ≤ length out) {h : Header} (is : opened h ≡ headerOf msg) where
+        -- outcomes 3, 4 and 5
+        pub serves-outcome : {o u : ℕ} (g : Header) (n : ℕ) → eqb n 0 ≡ false → opened g ≡ outcome n → h ≡ g → (o ≡ n) × (u ≡ 0) → Serves t msg out o u out t
+        serves-outcome g n z q d a =
+            without-reply n z (after-sound ∙ header-outcome msg maxSessions (viewSettings t) (viewSessions t) t out room n (sym q ∙ sym (ap opened d) ∙ is)) a
+
+        module _ {kind seid : ℕ} (d : h ≡ Request kind seid) where
+          is-request : request kind seid ≡ headerOf msg
+          is-request = sym (ap opened d) ∙ is
+
+          pub asks : T (octets msg) → Asked t msg out
+          asks o =
+              let q = request-is msg kind seid is-request in
+              let b = request-bounds msg kind seid is-request in
+              record {
+                table = of-true is-sound;
+                space = room;
+                short = b .1;
+                header = of-true (allowed-header msg kind seid is-request);
+                kind = of-true (q .2);
+                octets = o;
+                tableLong = unfold tableLength headWidth sessionWidth in (table-kept maxSessions t (of-true is-sound) .whole);
+                whole = b .0;
+                below = small-kind (kindOf msg) (q .2);
+              }
+
+          pub kind-is : kind ≡ kindOf msg
+          kind-is = request-is msg kind seid is-request .0
+
+          pub seid-is : seid ≡ headerSeid msg
+          seid-is = request-is msg kind seid is-request .1
+
+          pub serves-answer : {used : ℕ} {out′ t′ : List ℕ} → Answers t msg out used out′ t′ → Serves t msg out 0 used out′ t′
+          unfolding answer answered
+          serves-answer a =
+              record {
+                served = (λ i. record { outcome = 0; space = a .space i; table = a .table i }) ∙ sym (after-sound ∙ header-request msg maxSessions (viewSettings t) (viewSessions t) t out room kind seid is-request);
+                long = a .long;
+              }
+
+      pub counts : {size : ℕ} → length w ≡ 64 → size ≡ number (part 25 4 t) → Counted t w (size - held)
+      unfolding freeCount viewSettings numberAt
+      counts l z = record { marks = x .words held e; long = l; count = ap₂ (λ (a b : ℕ). a - b) z is-held }

@@ -1,0 +1,96 @@
+-- Stages 4 to 6 of a request that was read: what the code's cause means.
+-- Assumes nothing.
+use mathlib.Core.Path.{_≡_, sym, ap, _∙_, subst}
+use mathlib.Core.Bool.{Bool, true, false, _&&_}
+use mathlib.Core.List.{List}
+use Prim.Native.Nat.{ℕ, _≤_, _<_}
+use native.Mathlib.Omega.{arith}
+use lib.Dec.{T, eqb, leb→le}
+use Rattle.octets.specs.Choice.{pick}
+use Rattle.octets.proofs.Tests.{each}
+use Rattle.rules.specs.Limits.{maxSessions, maxPool}
+use Rattle.rules.specs.Model.{Settings, Session, Sessions, heldTeids}
+use Rattle.rules.specs.Layout.{viewSession, viewSettings, viewSessions}
+use Rattle.rules.specs.Sound.{poolTests, settingsTests, settingsAllowed}
+use Rattle.rules.specs.Message.{establishment, Request}
+use Rattle.rules.specs.Stages.{Verdict, plain, isLive, invalidAllocation, breaksRule, noRoom, judge, judged}
+use Rattle.claim.proofs.ServeLaws.{TableKept, table-kept}
+use Rattle.claim.proofs.FreeTeids.{held-in-pool}
+use Rattle.pool.proofs.TakenLaws.{Means, map-means}
+use Rattle.plan.specs.Rows.{rowsOf, requestIn}
+use Rattle.reply.specs.declared.Offending.the-variants.{Nothing}
+use Rattle.stages.specs.Rules.{AtEntry}
+use Rattle.stages.proofs.EntryLaws.{at-entry}
+use Rattle.stages.proofs.VerdictLaws.{judge-plain}
+use Rattle.engine.specs.Answers.{verdictOn, Refusing, Accepting}
+use Rattle.engine.specs.Steps.{Counted, Entered, Readable}
+
+-- a cause is one octet
+judge-small : (limit kind : ℕ) (s : Settings) (m : Sessions) (x : Session) (r : Request) → judge limit kind s m x r .cause < 256
+unfolding judge
+judge-small limit kind s m x r = one (eqb kind establishment && isLive (r .seid) m) (invalidAllocation r) (r .unsupported) (breaksRule s m x r) (noRoom limit kind s m x r)
+  where
+    one : (a b c d e : Bool) → pick a (plain 64) (pick b (plain 71) (pick c (plain 76) (pick d (plain 73) (pick e (plain 75) (plain 1))))) .cause < 256
+    one true b c d e = omega arith
+    one false true c d e = omega arith
+    one false false true d e = omega arith
+    one false false false true e = omega arith
+    one false false false false true = omega arith
+    one false false false false false = omega arith
+
+pool-small : (s : Settings) → T (settingsAllowed s) → s .size ≤ maxPool
+unfolding settingsAllowed settingsTests poolTests
+pool-small s h =
+    let tests = each (settingsTests s) h in
+    let pool = each (poolTests (s .first) (s .size)) (tests .1 .1 .1 .1 .0) in
+    leb→le (s .size) maxPool (pool .1 .1 .0)
+
+module _ {t msg out plan words slot : List ℕ} {kind seid n free : ℕ} {restoring noted live : Bool} (r : Readable t msg out plan kind seid n restoring noted) (k : Counted t words free) (e : Entered t msg kind seid live slot) where
+  kept : TableKept maxSessions t
+  kept = table-kept maxSessions t (r .asked .table)
+
+  marked-held : Means (viewSettings t .first) words (heldTeids (viewSessions t))
+  marked-held =
+      subst (λ (w : List ℕ). Means (viewSettings t .first) w (heldTeids (viewSessions t))) (sym (k .marks))
+      (map-means (viewSettings t) (viewSessions t) (kept .settings) (held-in-pool maxSessions (viewSettings t) (viewSessions t) (kept .sessions)))
+
+  -- what stages 4 to 6 ask
+  pub entry-asks : AtEntry t words slot plan n free kind seid live
+  entry-asks = at-entry t words slot plan n free kind seid live (r .asked .table) (e .place) (r .rows) (k .long) marked-held (k .count) (e .known)
+
+  abbrev judgement : Verdict
+  judgement = judge maxSessions kind (viewSettings t) (viewSessions t) (viewSession slot) (requestIn seid restoring noted (rowsOf n plan))
+
+  same-judgement : verdictOn t msg ≡ judgement
+  unfolding judged
+  same-judgement = r .verdict ∙ (λ i. judge maxSessions (sym (r .kindIs) i) (viewSettings t) (viewSessions t) (sym (e .viewed) i) (r .means i))
+
+  same-verdict : (c : ℕ) → c ≡ judgement .cause → verdictOn t msg ≡ plain c
+  same-verdict c q =
+      same-judgement ∙ judge-plain maxSessions kind (viewSettings t) (viewSessions t) (viewSession slot) (requestIn seid restoring noted (rowsOf n plan)) ∙ ap plain (sym q)
+
+  pub settle-refuses : (c : ℕ) → c ≡ judgement .cause → (c ≡ 1 → ⊥) → Refusing t msg out c Nothing
+  settle-refuses c q o =
+      record {
+        asked = r .asked;
+        verdict = same-verdict c q;
+        small = subst (λ (z : ℕ). z < 256) (sym q) (judge-small maxSessions kind (viewSettings t) (viewSessions t) (viewSession slot) (requestIn seid restoring noted (rowsOf n plan)));
+        other = o;
+      }
+
+  pub settle-accepts : (c : ℕ) → c ≡ judgement .cause → c ≡ 1 → Accepting t words msg slot plan out seid n
+  settle-accepts c q o =
+      record {
+        asked = r .asked;
+        verdict = same-verdict c q ∙ ap plain o;
+        other = r .other;
+        restoring = restoring;
+        noted = noted;
+        means = r .means;
+        rows = r .rows;
+        entry = e .entry;
+        slotLong = e .place .long;
+        marks = k .marks;
+        mapLong = k .long;
+        size = pool-small (viewSettings t) (kept .settings);
+      }

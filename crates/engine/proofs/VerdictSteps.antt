@@ -1,0 +1,34 @@
+-- The verdict, stage by stage.
+-- Assumes nothing.
+use mathlib.Core.Path.{_≡_}
+use mathlib.Core.Bool.{true, false}
+use mathlib.Core.Option.{none, some}
+use mathlib.Core.List.{List}
+use Prim.Native.Nat.{ℕ}
+use Rattle.rules.specs.Model.{Settings, Sessions}
+use Rattle.rules.specs.Elements.{causeOf}
+use Rattle.rules.specs.Message.{Fault, frameFault, readFault}
+use Rattle.rules.specs.Stages.{plain, judged, fromReading, fromFraming, unknownSession, verdict}
+
+module _ (limit : ℕ) (s : Settings) (m : Sessions) (msg : List ℕ) where
+  -- stage 1
+  pub no-session : unknownSession m msg ≡ true → verdict limit s m msg ≡ plain 65
+  unfolding verdict
+  no-session e = rw e
+
+  module _ (known : unknownSession m msg ≡ false) where
+    -- stage 2
+    pub not-framed : (t : ℕ) → frameFault msg ≡ some t → verdict limit s m msg ≡ record { cause = 68; offending = some t }
+    unfolding verdict fromFraming
+    not-framed t e = rw (known, e)
+
+    module _ (framed : frameFault msg ≡ none) where
+      -- stage 3
+      pub not-read : (f : Fault) → readFault msg ≡ some f → verdict limit s m msg ≡ record { cause = causeOf (f .cause); offending = some (f .at) }
+      unfolding verdict fromFraming fromReading
+      not-read f e = rw (known, framed, e)
+
+      -- stages 4 to 6
+      pub read-through : readFault msg ≡ none → verdict limit s m msg ≡ judged limit s m msg
+      unfolding verdict fromFraming fromReading
+      read-through e = rw (known, framed, e)

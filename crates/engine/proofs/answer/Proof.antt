@@ -1,0 +1,49 @@
+-- `engine::answer` meets its contract.
+-- Assumes nothing.
+use Rattle.engine.proofs.Answering.{establishes, absent-refuses, named-live, modifies}
+use mathlib.Core.Path.{sym, _∙_}
+use borrow.Author.Needs.{needs}
+use Rattle.engine.proofs.answer.Statement.{statement}
+use Rattle.engine.proofs.answer.Tie as tie
+use Rattle.engine.proofs.answer.Reads as reads
+use Rattle.engine.proofs.answer.Lts as lts
+use Rattle.engine.proofs.change.Reads as change-reads
+use Rattle.engine.proofs.delete.Reads as delete-reads
+use Rattle.engine.proofs.refuse.Reads as refuse-reads
+use Rattle.store.proofs.find.Reads as find-reads
+
+change-requires : tie.Need-change-requires
+change-requires c κs = (establishes (c .before .before .before .before .before .before .pre .0) (c .before .before .before .before .before .before .pre .2) (c .before .before .if1 .taken), c .before .before .before .before .before .before .pre .1)
+
+refuse-requires : tie.Need-refuse-requires
+refuse-requires c κs = absent-refuses (c .before .before .before .before .before .before .before .before .before .before .before .pre .0) (c .before .before .before .before .before .before .before .before .before .before .before .pre .2) (c .before .before .before .before .before .before .before .if1 .left) (c .before .before .before .before .before .before .before .before .before .before .before .pre .3) (c .before .before .before .before .before .find .ensures) _ (c .before .before .before .place .given .1)
+
+delete-requires : tie.Need-delete-requires
+delete-requires c κs = (c .before .before .before .before .before .before .before .before .before .before .before .before .pre .0, named-live (c .before .before .before .before .before .before .before .before .before .before .before .before .pre .0) (c .before .before .before .before .before .before .before .before .before .before .before .before .pre .2) (c .before .before .before .before .before .before .before .before .if1 .left) (c .before .before .before .before .before .before .before .before .before .before .before .before .pre .3) (c .before .before .before .before .before .before .find .ensures) (c .before .before .before .before .place2 .given .1), sym (c .before .before .before .before .before .before .before .before .before .before .before .before .pre .2) ∙ c .before .before .if2 .taken, c .before .before .before .before .before .before .before .before .before .before .before .before .pre .3)
+
+change-requires-2 : tie.Need-change-requires-2
+change-requires-2 c κs = (modifies (c .before .before .before .before .before .before .before .before .before .before .before .before .pre .0) (c .before .before .before .before .before .before .before .before .before .before .before .before .pre .2) (c .before .before .before .before .before .before .before .before .if1 .left) (c .before .before .before .before .before .before .before .before .before .before .before .before .pre .3) (c .before .before .before .before .before .before .find .ensures) (c .before .before .before .before .place2 .given .1) (c .before .before .if2 .left), c .before .before .before .before .before .before .before .before .before .before .before .before .pre .1)
+
+pub answer-spec : {M : Type 1} → statement M
+answer-spec =
+    tie.close
+    (tie.spec
+    change-requires
+    (λ c. search needs)
+    (λ c. search needs)
+    (λ c. search needs)
+    (λ c κs. search needs)
+    (λ c. search needs)
+    refuse-requires
+    (λ c. search needs)
+    (λ c. search needs)
+    (λ c. search needs)
+    (λ c. search needs)
+    delete-requires
+    (λ c. search needs)
+    (λ c. search needs)
+    (λ c. search needs)
+    change-requires-2
+    (λ c. search needs)
+    (λ c. search needs)
+    (λ c. search needs))

@@ -1,0 +1,43 @@
+-- `engine::change` meets its contract.
+-- Assumes nothing.
+use Rattle.engine.proofs.Changing.{fault-refuses, readable, enter-asks}
+use mathlib.Core.Path.{refl}
+use borrow.Author.Needs.{needs}
+use Rattle.engine.proofs.change.Statement.{statement}
+use Rattle.engine.proofs.change.Tie as tie
+use Rattle.engine.proofs.change.Reads as reads
+use Rattle.engine.proofs.change.Lts as lts
+use Rattle.engine.proofs.enter.Reads as enter-reads
+use Rattle.engine.proofs.refuse.Reads as refuse-reads
+use Rattle.engine.proofs.settle.Reads as settle-reads
+use Rattle.request.proofs.read_request.Reads as read-request-reads
+
+refuse-requires : tie.Need-refuse-requires
+refuse-requires c κs = fault-refuses (c .before .before .before .before .before .before .before .before .before .before .before .pre .0) (c .before .before .before .before .before .before .read-request .ensures) _ _ (c .before .before .before .reading .given .1)
+
+enter-requires : tie.Need-enter-requires
+enter-requires c κs = enter-asks (c .before .before .before .before .before .before .before .before .before .before .before .before .pre .0) (c .before .before .before .before .before .before .before .read-request .ensures) (c .before .before .before .before .reading2 .given .1) _ (search needs) refl
+
+settle-requires : tie.Need-settle-requires
+settle-requires c κs = (readable (c .before .before .before .before .before .before .before .before .before .before .before .before .before .before .before .before .before .before .pre .0) (c .before .before .before .before .before .before .before .before .before .before .before .before .before .read-request .ensures) (c .before .before .before .before .before .before .before .before .before .before .reading2 .given .1), c .before .before .before .before .before .before .before .before .before .before .before .before .before .before .before .before .before .before .pre .1, c .before .before .before .before .before .enter .ensures)
+
+pub change-spec : {M : Type 1} → statement M
+change-spec =
+    tie.close
+    (tie.spec
+    (λ c. search needs)
+    (λ c κs. search needs)
+    (λ c. search needs)
+    refuse-requires
+    (λ c. search needs)
+    (λ c. search needs)
+    (λ c. search needs)
+    (λ c. search needs)
+    (λ c. search needs)
+    enter-requires
+    (λ c. search needs)
+    (λ c. search needs)
+    settle-requires
+    (λ c. search needs)
+    (λ c. search needs)
+    (λ c. search needs))

@@ -1,0 +1,67 @@
+-- What the functions that answer a request know at entry, and what they leave: the reply and the table of the rules' verdict.
+-- Assumes nothing.
+use Prim.Native.Nat.{ℕ, _*_, _≤_, _<_}
+use mathlib.Core.Path.{_≡_}
+use mathlib.Core.Bool.{Bool, false}
+use mathlib.Core.List.{List}
+use lib.Dec.{T, eqb}
+use lib.ListN.{length}
+use Rattle.octets.specs.Choice.{pick}
+use Rattle.octets.specs.Octets.{octets, put}
+use Rattle.rules.specs.Limits.{maxSessions, maxPool, maxMessage, minSpace}
+use Rattle.rules.specs.Layout.{sessionOctets, encode, viewSettings, viewSessions}
+use Rattle.rules.specs.Sound.{sound, takenMap}
+use Rattle.rules.specs.Message.{kindOf, headerAllowed, served, readRequest}
+use Rattle.rules.specs.Stages.{Verdict, plain, entrySession, unknownSession, verdict}
+use Rattle.rules.specs.Serve.{sessionsAfter, replyTo}
+use Rattle.plan.specs.Rows.{rowWidth, rowsOf, requestIn}
+use Rattle.reply.specs.declared.Offending.{Offending}
+use Rattle.reply.specs.Naming.{refusal}
+
+-- outcomes 1 to 5 have been passed
+pub record Asked (t msg out : List ℕ) : Type 0 where
+  pub table : T (sound maxSessions t)
+  pub space : minSpace ≤ length out
+  pub short : length msg ≤ maxMessage
+  pub header : T (headerAllowed msg)
+  pub kind : T (served (kindOf msg))
+  pub octets : T (octets msg)
+  pub tableLong : length t ≡ 30943
+  pub whole : 16 ≤ length msg
+  pub below : kindOf msg < 255
+
+-- and stage 1: the session that the request names is live, or the request makes one
+abbrev pub Live : List ℕ → List ℕ → Type 0
+Live t msg = unknownSession (viewSessions t) msg ≡ false
+
+-- the verdict on a request
+abbrev pub verdictOn : List ℕ → List ℕ → Verdict
+verdictOn t msg = verdict maxSessions (viewSettings t) (viewSessions t) msg
+
+-- its reply stands at the front of the space, and on acceptance the table is that of the sessions after it
+pub record Answers (t msg out : List ℕ) (used : ℕ) (out′ t′ : List ℕ) : Type 0 where
+  pub long : used ≡ length (replyTo (viewSettings t) (viewSessions t) msg (verdictOn t msg))
+  pub space : out′ ≡ put 0 (replyTo (viewSettings t) (viewSessions t) msg (verdictOn t msg)) out
+  pub table : t′ ≡ pick (eqb (verdictOn t msg .cause) 1) (encode maxSessions (viewSettings t) (sessionsAfter (viewSettings t) (viewSessions t) msg)) t
+
+-- the verdict is a refusal, by its cause and the element that it names
+pub record Refusing (t msg out : List ℕ) (c : ℕ) (o : Offending) : Type 0 where
+  pub asked : Asked t msg out
+  pub verdict : verdictOn t msg ≡ refusal c o
+  pub small : c < 256
+  pub other : c ≡ 1 → ⊥
+
+-- the verdict is acceptance: the plan is the request's, the slot holds the session at entry, and the map marks the TEIDs held
+pub record Accepting (t words msg slot plan out : List ℕ) (seid n : ℕ) : Type 0 where
+  pub asked : Asked t msg out
+  pub verdict : verdictOn t msg ≡ plain 1
+  pub other : eqb (kindOf msg) 54 ≡ false
+  pub restoring : Bool
+  pub noted : Bool
+  pub means : readRequest msg ≡ requestIn seid restoring noted (rowsOf n plan)
+  pub rows : n * rowWidth ≤ length plan
+  pub entry : slot ≡ sessionOctets (entrySession (viewSessions t) msg)
+  pub slotLong : length slot ≡ 483
+  pub marks : words ≡ takenMap (viewSettings t) (viewSessions t)
+  pub mapLong : length words ≡ 64
+  pub size : viewSettings t .size ≤ maxPool

@@ -1,0 +1,66 @@
+-- What is known from step to step while a request is answered.
+-- Assumes nothing.
+use Prim.Native.Nat.{ℕ, _*_, _≤_, _<_, _^_}
+use mathlib.Core.Path.{_≡_}
+use mathlib.Core.Bool.{Bool, false}
+use mathlib.Core.List.{List}
+use lib.Dec.{eqb}
+use lib.ListN.{length}
+use Rattle.octets.specs.Choice.{pick}
+use Rattle.rules.specs.Limits.{maxSessions}
+use Rattle.rules.specs.Model.{freeCount}
+use Rattle.rules.specs.Layout.{sessionOctets, viewSession, viewSettings, viewSessions}
+use Rattle.rules.specs.Sound.{takenMap}
+use Rattle.rules.specs.Message.{kindOf, headerSeid, readRequest}
+use Rattle.rules.specs.Stages.{isLive, entrySession, judged}
+use Rattle.rules.specs.Serve.{replyTo, serve}
+use Rattle.plan.specs.Rows.{rowWidth, rowsOf, requestIn}
+use Rattle.areas.specs.Counted.{placeIn}
+use Rattle.session.specs.Areas.{sessionArea}
+use Rattle.slots.specs.declared.Place.the-variants.{Found}
+use Rattle.stages.specs.Rules.{Slot}
+use Rattle.engine.specs.Answers.{Asked, Live, verdictOn}
+
+-- the map of taken TEIDs and the free count are the table's
+pub record Counted (t words : List ℕ) (free : ℕ) : Type 0 where
+  pub marks : words ≡ takenMap (viewSettings t) (viewSessions t)
+  pub long : length words ≡ 64
+  pub count : free ≡ freeCount (viewSettings t) (viewSessions t)
+
+-- where the session at entry comes from: the SEID of an establishment's F-SEID, or the place of the header's session in the table
+pub record Entering (t msg out slot : List ℕ) (kind seid p : ℕ) : Type 0 where
+  pub asked : Asked t msg out
+  pub kindIs : kind ≡ kindOf msg
+  pub new : kind ≡ 50 → seid ≡ readRequest msg .seid
+  pub fits : seid < 2 ^ 64
+  pub found : (kind ≡ 50 → ⊥) → placeIn sessionArea (headerSeid msg) t ≡ Found p
+  pub long : length slot ≡ 483
+
+-- the session at entry in its slot, and whether the SEID of an establishment is live
+pub record Entered (t msg : List ℕ) (kind seid : ℕ) (live : Bool) (slot : List ℕ) : Type 0 where
+  pub entry : slot ≡ sessionOctets (entrySession (viewSessions t) msg)
+  pub viewed : viewSession slot ≡ entrySession (viewSessions t) msg
+  pub place : Slot slot
+  pub known : kind ≡ 50 → live ≡ isLive seid (viewSessions t)
+
+-- a request without a fault, as the rows of its plan, that is not a deletion
+pub record Readable (t msg out plan : List ℕ) (kind seid n : ℕ) (restoring noted : Bool) : Type 0 where
+  pub asked : Asked t msg out
+  pub kindIs : kind ≡ kindOf msg
+  pub other : eqb (kindOf msg) 54 ≡ false
+  pub verdict : verdictOn t msg ≡ judged maxSessions (viewSettings t) (viewSessions t) msg
+  pub means : readRequest msg ≡ requestIn seid restoring noted (rowsOf n plan)
+  pub rows : n * rowWidth ≤ length plan
+
+-- an establishment, or the modification of the session at the place p
+pub record Changing (t msg out : List ℕ) (kind p : ℕ) : Type 0 where
+  pub asked : Asked t msg out
+  pub live : Live t msg
+  pub kindIs : kind ≡ kindOf msg
+  pub other : eqb (kindOf msg) 54 ≡ false
+  pub found : (kind ≡ 50 → ⊥) → placeIn sessionArea (headerSeid msg) t ≡ Found p
+
+-- the whole call: outcome, reply space and table are the rules', and `used` is the length of the reply, 0 where there is none
+pub record Serves (t msg out : List ℕ) (outcome used : ℕ) (out′ t′ : List ℕ) : Type 0 where
+  pub served : record { outcome = outcome; space = out′; table = t′ } ≡ serve maxSessions t msg out
+  pub long : used ≡ pick (eqb outcome 0) (length (replyTo (viewSettings t) (viewSessions t) msg (verdictOn t msg))) 0

@@ -1,0 +1,270 @@
+// One request: the stages on the plan and the table, the grants, the new session, the reply. A refusal never writes the table: every
+// check comes first, then the session is built in a slot of its own and stored by one splice.
+ghost use mathlib.Core.Path.{_≡_};
+ghost use Prim.Native.Nat.{_*_, _≤_};
+ghost use lib.ListN.{length};
+ghost use Rattle.rules.specs.Message.{kindOf, headerSeid};
+ghost use Rattle.plan.specs.Rows.{rowWidth, rowsOf};
+ghost use Rattle.areas.specs.Counted.{withRecord};
+ghost use Rattle.session.specs.Areas.{sessionArea};
+ghost use Rattle.session.specs.Build.{built};
+ghost use Rattle.engine.specs.Answers.{Asked, Live, Answers, Refusing, Accepting};
+ghost use Rattle.engine.specs.Steps.{Counted, Entering, Entered, Readable, Changing, Serves};
+ghost use lib.Dec.{T};
+ghost use Rattle.rules.specs.Limits.{maxSessions};
+ghost use Rattle.rules.specs.Layout.{viewSessions};
+ghost use Rattle.rules.specs.Sound.{sound};
+ghost use Rattle.rules.specs.Stages.{isLive};
+use frame::Framing;
+use frame::header::Header;
+use pool::Taken;
+use reading::Verdict;
+use reply::Offending;
+use request::Reading;
+use slots::Place;
+
+// Words of the grants, of the plan and octets of a session's slot.
+const GRANTS: usize = 96;
+
+const PLAN: usize = 4068;
+
+const SLOT: usize = 483;
+
+// The reply of a refusal; the table stays.
+fn refuse(t: &[u8], msg: &[u8], cause: u64, offending: Offending, out: &mut [u8]) -> usize
+    requires { ⌜ Refusing (now t) (now msg) (now out) cause offending ⌝ }
+    ensures { λ r. ⌜ Answers (now (t .entry)) (now (msg .entry)) (now (out .entry)) r (now (out .exit)) (now (t .entry)) ⌝ }
+{
+    reply::refused(t, msg, cause as u8, offending, out)
+}
+
+// A deletion of a live session.
+fn delete(t: &mut [u8], msg: &[u8], seid: u64, out: &mut [u8]) -> usize
+    requires { ⌜ Asked (now t) (now msg) (now out) × Live (now t) (now msg) × (kindOf (now msg) ≡ 54) × (seid ≡ headerSeid (now msg)) ⌝ }
+    ensures { λ r. ⌜ Answers (now (t .entry)) (now (msg .entry)) (now (out .entry)) r (now (out .exit)) (now (t .exit)) ⌝ }
+{
+    let framing = frame::frame_fault(msg);
+    if let Framing::Fault(kind) = framing {
+        return refuse(t, msg, 68, Offending::Element(kind), out);
+    }
+    let verdict = reading::top::read_fault(msg);
+    if let Verdict::Refused(cause, kind) = verdict {
+        return refuse(t, msg, cause, Offending::Element(kind), out);
+    }
+    let none = [0u64; 4];
+    let used = reply::accepted(t, msg, 0, &none[0..0], out);
+    store::remove(t, seid);
+    used
+}
+
+// The session of an accepted request: built in its slot, and the slot stored.
+fn keep(t: &mut [u8], slot: &mut [u8], plan: &[u64], n: usize)
+    requires { ⌜ (length (now t) ≡ 30943) × (length (now slot) ≡ 483) × (n * rowWidth ≤ length (now plan)) ⌝ }
+    ensures { λ _. ⌜ (now (slot .exit) ≡ built (rowsOf n (now (plan .entry))) (now (slot .entry))) × (now (t .exit) ≡ withRecord sessionArea (built (rowsOf n (now (plan .entry))) (now (slot .entry))) (now (t .entry))) ⌝ }
+{
+    session::build(slot, plan, n);
+    store::save(t, slot);
+}
+
+// An accepted establishment or modification: the TEIDs, the reply, the session in its slot, and the slot in the table.
+fn accept(
+    t: &mut [u8],
+    taken: Taken,
+    msg: &[u8],
+    seid: u64,
+    slot: &mut [u8],
+    plan: &mut [u64],
+    n: usize,
+    out: &mut [u8],
+) -> usize
+    requires { ⌜ Accepting (now t) (taken .words) (now msg) (now slot) (now plan) (now out) seid n ⌝ }
+    ensures { λ r. ⌜ Answers (now (t .entry)) (now (msg .entry)) (now (out .entry)) r (now (out .exit)) (now (t .exit)) ⌝ }
+{
+    let words = taken.words;
+    let first = octets::read(t, 21, 4);
+    let size = octets::read(t, 25, 4) as usize;
+    let mut given = [0u64; GRANTS];
+    let k = grants::grant(plan, n, &words, first, size, &mut given);
+    let end = 4 * k;
+    let used = reply::accepted(t, msg, seid, &given[..end], out);
+    keep(t, slot, plan, n);
+    used
+}
+
+// Whether the session of a SEID is live.
+fn is_live(t: &[u8], seid: u64) -> bool
+    requires { ⌜ T (sound maxSessions (now t)) × (length (now t) ≡ 30943) ⌝ }
+    ensures { λ r. ⌜ r ≡ isLive seid (viewSessions (now (t .entry))) ⌝ }
+{
+    let place = store::find(t, seid);
+    match place {
+        Place::Found(p) => return true,
+        Place::Absent(p) => return false,
+    }
+}
+
+// Puts the session at entry into its slot: a new one for an establishment, else the one at the place p. The answer is whether the SEID of
+// an establishment is live.
+fn enter(t: &[u8], msg: &[u8], out: &[u8], kind: u64, seid: u64, p: usize, slot: &mut [u8]) -> bool
+    requires { ⌜ Entering (now t) (now msg) (now out) (now slot) kind seid p ⌝ }
+    ensures { λ r. ⌜ Entered (now (t .entry)) (now (msg .entry)) kind seid r (now (slot .exit)) ⌝ }
+{
+    if kind == 50 {
+        store::fresh(slot, seid);
+        return is_live(t, seid);
+    }
+    store::load(t, p, slot);
+    false
+}
+
+// Stages 4 to 6 of a request that was read, and what follows.
+fn settle(
+    t: &mut [u8],
+    taken: Taken,
+    free: usize,
+    msg: &[u8],
+    kind: u64,
+    live: bool,
+    slot: &mut [u8],
+    plan: &mut [u64],
+    n: usize,
+    seid: u64,
+    restoring: bool,
+    noted: bool,
+    out: &mut [u8],
+) -> usize
+    requires { ⌜ Readable (now t) (now msg) (now out) (now plan) kind seid n restoring noted × Counted (now t) (taken .words) free × Entered (now t) (now msg) kind seid live (now slot) ⌝ }
+    ensures { λ r. ⌜ Answers (now (t .entry)) (now (msg .entry)) (now (out .entry)) r (now (out .exit)) (now (t .exit)) ⌝ }
+{
+    let words = taken.words;
+    let cause = stages::judge(
+        t,
+        &words,
+        free,
+        kind,
+        seid,
+        live,
+        slot,
+        plan,
+        n,
+        restoring,
+        noted,
+    );
+    if cause != 1 {
+        return refuse(t, msg, cause, Offending::Nothing, out);
+    }
+    accept(t, Taken { words: words }, msg, seid, slot, plan, n, out)
+}
+
+// An establishment, or the modification of the session at the place p.
+fn change(
+    t: &mut [u8],
+    taken: Taken,
+    free: usize,
+    msg: &[u8],
+    kind: u64,
+    p: usize,
+    out: &mut [u8],
+) -> usize
+    requires { ⌜ Changing (now t) (now msg) (now out) kind p × Counted (now t) (taken .words) free ⌝ }
+    ensures { λ r. ⌜ Answers (now (t .entry)) (now (msg .entry)) (now (out .entry)) r (now (out .exit)) (now (t .exit)) ⌝ }
+{
+    let mut plan = [0u64; PLAN];
+    let reading = request::read_request(msg, &mut plan);
+    match reading {
+        Reading::Fault(cause, element) => {
+            return refuse(t, msg, cause, Offending::Element(element), out);
+        }
+        Reading::Whole(read) => {
+            let mut slot = [0u8; SLOT];
+            let live = enter(t, msg, out, kind, read.seid, p, &mut slot);
+            return settle(
+                t,
+                taken,
+                free,
+                msg,
+                kind,
+                live,
+                &mut slot,
+                &mut plan,
+                read.rows,
+                read.seid,
+                read.restoring,
+                read.noted,
+                out,
+            );
+        }
+    }
+}
+
+// A request whose header is allowed.
+fn answer(
+    t: &mut [u8],
+    taken: Taken,
+    free: usize,
+    msg: &[u8],
+    kind: u64,
+    seid: u64,
+    out: &mut [u8],
+) -> usize
+    requires { ⌜ Asked (now t) (now msg) (now out) × Counted (now t) (taken .words) free × (kind ≡ kindOf (now msg)) × (seid ≡ headerSeid (now msg)) ⌝ }
+    ensures { λ r. ⌜ Answers (now (t .entry)) (now (msg .entry)) (now (out .entry)) r (now (out .exit)) (now (t .exit)) ⌝ }
+{
+    if kind == 50 {
+        return change(t, taken, free, msg, kind, 0, out);
+    }
+    let place = store::find(t, seid);
+    match place {
+        Place::Absent(p) => return refuse(t, msg, 65, Offending::Nothing, out),
+        Place::Found(p) => {
+            if kind == 54 {
+                return delete(t, msg, seid, out);
+            }
+            return change(t, taken, free, msg, kind, p, out);
+        }
+    }
+}
+
+// What the host gets: 01's outcome, and how many octets of the reply space hold the reply.
+pub struct Served {
+    pub outcome: u32,
+    pub used: usize,
+}
+
+// An outcome without a reply.
+fn unserved(outcome: u32) -> Served
+    ensures { λ r. ⌜ (r .outcome ≡ outcome) × (r .used ≡ 0) ⌝ }
+{
+    Served {
+        outcome: outcome,
+        used: 0,
+    }
+}
+
+// One request on any octets: the table, the message and the reply space.
+pub fn serve(t: &mut [u8], msg: &[u8], out: &mut [u8]) -> Served
+    ensures { λ r. ⌜ Serves (now (t .entry)) (now (msg .entry)) (now (out .entry)) (r .outcome) (r .used) (now (out .exit)) (now (t .exit)) ⌝ }
+{
+    let mut words = [0u64; 64];
+    let seen = table::examine(t, &mut words);
+    let marking::Marks::New(held) = seen else {
+        return unserved(1);
+    };
+    if out.len() < 1024 {
+        return unserved(2);
+    }
+    let header = frame::header::read_header(msg);
+    match header {
+        Header::TooLong => return unserved(3),
+        Header::Malformed => return unserved(4),
+        Header::NotServed => return unserved(5),
+        Header::Request(kind, seid) => {
+            let free = octets::read(t, 25, 4) as usize - held;
+            let used = answer(t, Taken { words: words }, free, msg, kind, seid, out);
+            return Served {
+                outcome: 0,
+                used: used,
+            };
+        }
+    }
+}
