@@ -1,5 +1,5 @@
 # The commands that README.md names.
-.PHONY: test check fmt
+.PHONY: test check fmt run demo bench
 
 # every proof from nothing, every must-fail edit, every program, then the C and Rust tests
 test:
@@ -11,3 +11,15 @@ check:
 
 fmt:
 	@rt fmt
+
+# the unit on UDP port 8805 of 127.0.0.1; make run ARGS='--help' lists its options
+run:
+	@scripts/run $(ARGS)
+
+# a scripted exchange with the unit over the loopback interface
+demo:
+	@scripts/run --demo
+
+# instructions and time for accepted requests, against bench/ordinary; the last line is the ratio
+bench:
+	@scripts/bench

@@ -1,4 +1,4 @@
-# shellcheck shell=bash
+# shellcheck shell=bash disable=SC2034,SC2054
 # Shell functions for the scripts of this directory; to be sourced with bash from the repository's root.
 
 # need PROGRAM WHAT: fails with a clear message where a program is missing
@@ -8,7 +8,9 @@ need() {
     return 1
 }
 
+need_gcc() { need gcc 'the C tests need a C compiler (Debian: gcc, libc6-dev)'; }
 need_cargo() { need cargo 'the Rust tests need Rust 1.88 or newer with cargo'; }
+need_valgrind() { need valgrind 'the memory checks need it (Debian: valgrind)'; }
 
 # quietly COMMAND..: runs a command and prints what it says only if it fails
 quietly() {
@@ -21,9 +23,74 @@ quietly() {
     return "$status"
 }
 
+# ordinary_archive: builds bench/ordinary and sets archive_ordinary
+ordinary_archive() {
+    need_cargo || return 1
+    quietly cargo build --release --offline --manifest-path bench/ordinary/Cargo.toml || return 1
+    archive_ordinary=$PWD/bench/ordinary/target/release/libordinary.a
+}
+
+# stand_in_archive: builds bench/ordinary under the archive's names and sets archive_dir and archive_name
+stand_in_archive() {
+    need_cargo || return 1
+    quietly cargo build --release --offline --features as_pfcp --target-dir target/stand_in \
+        --manifest-path bench/ordinary/Cargo.toml || return 1
+    archive_dir=$PWD/target/stand_in/release
+    archive_name=ordinary
+}
+
+# find_archive: builds the archive and sets archive_dir, archive_name and archive_file. It is the proved one of the crate
+# pfcp_session. Before that crate exists, and only where PFCP_STAND_IN=1 asks for it, bench/ordinary stands in.
+find_archive() {
+    if grep -qs '^pfcp_session *:' crates.txt &&
+        grep -rqs 'extern "C" fn pfcp_request' crates/pfcp_session/src; then
+        need rt 'the Rattle kit (compiler, prover and libraries) has to be installed; see README.md' || return 1
+        quietly rt staticlib pfcp_session || return 1
+        archive_dir=$PWD/target/staticlib
+        archive_name=pfcp_session
+    elif [ "${PFCP_STAND_IN:-}" = 1 ]; then
+        printf 'PFCP_STAND_IN=1: bench/ordinary stands in for the proved archive\n'
+        stand_in_archive || return 1
+    else
+        printf 'there is no archive: the crate pfcp_session does not export pfcp_request\n' >&2
+        return 1
+    fi
+    archive_file=$archive_dir/lib$archive_name.a
+    if [ ! -f "$archive_file" ]; then
+        printf 'the archive was not written\n' >&2
+        return 1
+    fi
+}
+
+strict=(-std=c11 -D_POSIX_C_SOURCE=200809L -Wall -Wextra -Werror -pedantic -Iinclude -Ihost)
+sanitizers=(-g -O1 -fsanitize=address,undefined -fno-sanitize-recover=all -fno-omit-frame-pointer)
+unit_sources=(host/main.c host/options.c host/unit.c host/demo.c host/sessions.c host/words.c host/message.c)
+checked_by_valgrind=(valgrind -q --error-exitcode=9 --leak-check=full --errors-for-leak-kinds=all)
+
+# compile OUTPUT WORDS..: compiles C files to target/c/OUTPUT
+compile() {
+    local output=$1
+    shift
+    need_gcc || return 1
+    mkdir -p target/c
+    gcc "${strict[@]}" "$@" -o "target/c/$output"
+}
+
 # The counts of a test script.
 passed=0
 failed=0
+
+# expect WHAT COMMAND..: counts whether a command succeeds
+expect() {
+    local what=$1
+    shift
+    if "$@"; then
+        passed=$((passed + 1))
+    else
+        failed=$((failed + 1))
+        printf 'failed: %s\n' "$what"
+    fi
+}
 
 # take_counts FILE STATUS WHAT: adds the counts of a program whose last line is 'N passed, M failed'
 take_counts() {

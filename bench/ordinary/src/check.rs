@@ -1,0 +1,181 @@
+//! Whether a table is sound, and the map of the TEIDs that its records hold.
+
+use crate::layout::*;
+
+#[derive(Clone, Copy)]
+pub struct Settings {
+    pub ipv4: [u8; 4],
+    pub ipv6: Option<[u8; 16]>,
+    pub first: u32,
+    pub size: u32,
+}
+
+impl Settings {
+    pub fn are_allowed(&self) -> bool {
+        self.first >= 1
+            && (1..=4096).contains(&self.size)
+            && u64::from(self.first) + u64::from(self.size) <= 1 << 32
+    }
+
+    /// The place of a TEID in the pool.
+    pub fn place(&self, teid: u32) -> Option<usize> {
+        let place = teid.checked_sub(self.first)?;
+        (place < self.size).then_some(place as usize)
+    }
+
+    pub fn has(&self, families: u8) -> bool {
+        families & V6 == 0 || self.ipv6.is_some()
+    }
+}
+
+/// Bit i of word k is the TEID first + 64 k + i.
+pub struct Map {
+    words: [u64; 64],
+}
+
+impl Map {
+    /// Takes a TEID; whether it was free.
+    fn take(&mut self, place: usize) -> bool {
+        let (word, bit) = (&mut self.words[place / 64], 1 << (place % 64));
+        let free = *word & bit == 0;
+        *word |= bit;
+        free
+    }
+
+    pub fn is_taken(&self, place: usize) -> bool {
+        self.words[place / 64] >> (place % 64) & 1 == 1
+    }
+
+    pub fn count(&self) -> u32 {
+        self.words.iter().map(|word| word.count_ones()).sum()
+    }
+
+    /// The places that are free, lowest first, also those past the pool.
+    pub fn free_places(&self) -> impl Iterator<Item = usize> + '_ {
+        self.words.iter().enumerate().flat_map(|(index, word)| {
+            let mut left = !word;
+            std::iter::from_fn(move || {
+                let bit = (left != 0).then(|| left.trailing_zeros() as usize)?;
+                left &= left - 1;
+                Some(64 * index + bit)
+            })
+        })
+    }
+}
+
+pub struct Checked {
+    pub settings: Settings,
+    pub sessions: usize,
+    pub taken: Map,
+}
+
+/// What a sound table says of itself, or nothing for a broken one.
+pub fn check(table: &[u8; TABLE_OCTETS]) -> Option<Checked> {
+    let settings = settings(table)?;
+    let sessions = usize::from(u16_at(table, COUNT));
+    if sessions > MOST_SESSIONS {
+        return None;
+    }
+    let (used, room) = slots(table).split_at(sessions);
+    let mut taken = Map { words: [0; 64] };
+    let mut last = 0;
+    for slot in used {
+        // From 0 on, ascending also says "not 0".
+        if seid(slot) <= last || !session_holds(&settings, slot, &mut taken) {
+            return None;
+        }
+        last = seid(slot);
+    }
+    is_zero(room.as_flattened()).then_some(Checked { settings, sessions, taken })
+}
+
+fn settings(table: &[u8; TABLE_OCTETS]) -> Option<Settings> {
+    let mut ipv6 = [0; 16];
+    ipv6.copy_from_slice(&table[5..21]);
+    let ipv6 = match table[4] {
+        0 if is_zero(&ipv6) => None,
+        1 => Some(ipv6),
+        _ => return None,
+    };
+    let ipv4 = [table[0], table[1], table[2], table[3]];
+    let settings = Settings { ipv4, ipv6, first: u32_at(table, 21), size: u32_at(table, 25) };
+    settings.are_allowed().then_some(settings)
+}
+
+fn session_holds(settings: &Settings, slot: &Slot, taken: &mut Map) -> bool {
+    let counts = (usize::from(slot[8]), usize::from(slot[9]), usize::from(slot[10]));
+    if counts.0 > MOST_PDRS || counts.1 > MOST_ENDPOINTS || counts.2 > MOST_FQ_CSIDS {
+        return false;
+    }
+    let whole = areas(slot);
+    let (pdrs, no_pdrs) = whole.pdrs.split_at(counts.0);
+    let (endpoints, no_endpoints) = whole.endpoints.split_at(counts.1);
+    let (fq_csids, no_fq_csids) = whole.fq_csids.split_at(counts.2);
+    ascend(pdrs, pdr_id)
+        && ascend(endpoints, endpoint_id)
+        && ascend(fq_csids, node_type)
+        && endpoints.iter().all(|endpoint| {
+            // A TEID of an endpoint is held by nothing else.
+            tunnel_place(settings, u32_at(endpoint, 1), endpoint[5])
+                .is_some_and(|place| taken.take(place))
+        })
+        && (0..pdrs.len()).all(|index| pdr_holds(settings, pdrs, index, endpoints, taken))
+        && fq_csids.iter().all(fq_csid_holds)
+        && is_zero(no_pdrs.as_flattened())
+        && is_zero(no_endpoints.as_flattened())
+        && is_zero(no_fq_csids.as_flattened())
+}
+
+fn pdr_holds(
+    settings: &Settings,
+    pdrs: &[PdrSlot],
+    index: usize,
+    endpoints: &[EndpointSlot],
+    taken: &mut Map,
+) -> bool {
+    let pdr = &pdrs[index];
+    let (far_id, source_interface) = (u32_at(pdr, 7), pdr[11]);
+    let (place, teid, families, endpoint) = (pdr[12], u32_at(pdr, 13), pdr[17], pdr[18]);
+    if pdr[6] > 1 || (pdr[6] == 0 && far_id != 0) || source_interface > 15 {
+        return false;
+    }
+    match place {
+        NEITHER => teid == 0 && families == 0 && endpoint == 0,
+        ENDPOINT => {
+            teid == 0 && families == 0 && endpoints.iter().any(|other| other[0] == endpoint)
+        }
+        TUNNEL if endpoint == 0 => match tunnel_place(settings, teid, families) {
+            None => false,
+            Some(place) if taken.take(place) => true,
+            // Held already: by a PDR of this session with the same use, or against the rules.
+            Some(_) => pdrs[..index]
+                .iter()
+                .find(|other| other[12] == TUNNEL && u32_at(*other, 13) == teid)
+                .is_some_and(|other| other[17] == families && other[11] == source_interface),
+        },
+        _ => false,
+    }
+}
+
+fn tunnel_place(settings: &Settings, teid: u32, families: u8) -> Option<usize> {
+    match (1..=3).contains(&families) && settings.has(families) {
+        true => settings.place(teid),
+        false => None,
+    }
+}
+
+fn fq_csid_holds(slot: &FqCsidSlot) -> bool {
+    let long = slot[1] == 1;
+    slot[0] <= 5
+        && slot[1] <= 2
+        && (long || is_zero(&slot[6..18]))
+        && (slot[1] != 2 || u32_at(slot, 2) >> 12 <= 999_999)
+}
+
+fn ascend<T, K: Ord>(records: &[T], key: impl Fn(&T) -> K) -> bool {
+    records.windows(2).all(|pair| key(&pair[0]) < key(&pair[1]))
+}
+
+fn is_zero(octets: &[u8]) -> bool {
+    octets.iter().fold(0, |all, octet| all | octet) == 0
+}

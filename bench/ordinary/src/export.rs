@@ -1,0 +1,85 @@
+//! The C interface of `include/pfcp_session.h`, under the names `ordinary_*`, or `pfcp_*` with the
+//! feature `as_pfcp`. The caller passes pointers as that header says.
+
+use std::slice;
+
+use crate::{free_count, handle, make_table, Settings, TABLE_OCTETS};
+
+/// A slice from a pointer and a length; an empty one may have any pointer.
+///
+/// # Safety
+/// Unless the length is 0, the pointer is valid for it.
+unsafe fn lent<'a>(octets: *const u8, length: usize) -> &'a [u8] {
+    match length {
+        0 => &[],
+        _ => unsafe { slice::from_raw_parts(octets, length) },
+    }
+}
+
+/// # Safety
+/// As `lent`, and nothing else reads or writes the octets meanwhile.
+unsafe fn lent_mut<'a>(octets: *mut u8, length: usize) -> &'a mut [u8] {
+    match length {
+        0 => &mut [],
+        _ => unsafe { slice::from_raw_parts_mut(octets, length) },
+    }
+}
+
+#[cfg_attr(not(feature = "as_pfcp"), export_name = "ordinary_table_length")]
+#[cfg_attr(feature = "as_pfcp", export_name = "pfcp_table_length")]
+pub extern "C" fn table_length() -> usize {
+    TABLE_OCTETS
+}
+
+/// # Safety
+/// As the header says.
+#[cfg_attr(not(feature = "as_pfcp"), export_name = "ordinary_make_table")]
+#[cfg_attr(feature = "as_pfcp", export_name = "pfcp_make_table")]
+pub unsafe extern "C" fn make(
+    table: *mut u8,
+    table_len: usize,
+    ipv4: u32,
+    ipv6: *const u8,
+    ipv6_len: usize,
+    first_teid: u32,
+    pool_size: u32,
+) -> u32 {
+    let (table, ipv6) = unsafe { (lent_mut(table, table_len), lent(ipv6, ipv6_len)) };
+    let ipv6 = match (ipv6.len(), ipv6.try_into()) {
+        (0, _) => None,
+        (_, Ok(address)) => Some(address),
+        _ => return 1,
+    };
+    let settings = Settings { ipv4: ipv4.to_be_bytes(), ipv6, first: first_teid, size: pool_size };
+    u32::from(!make_table(table, &settings))
+}
+
+/// # Safety
+/// As the header says.
+#[cfg_attr(not(feature = "as_pfcp"), export_name = "ordinary_free_count")]
+#[cfg_attr(feature = "as_pfcp", export_name = "pfcp_free_count")]
+pub unsafe extern "C" fn free(table: *const u8, table_len: usize, count: *mut u32) -> u32 {
+    let answer = free_count(unsafe { lent(table, table_len) });
+    unsafe { *count = answer.unwrap_or(0) };
+    u32::from(answer.is_none())
+}
+
+/// # Safety
+/// As the header says.
+#[cfg_attr(not(feature = "as_pfcp"), export_name = "ordinary_request")]
+#[cfg_attr(feature = "as_pfcp", export_name = "pfcp_request")]
+pub unsafe extern "C" fn request(
+    table: *mut u8,
+    table_len: usize,
+    message: *const u8,
+    message_len: usize,
+    reply: *mut u8,
+    reply_len: usize,
+    reply_used: *mut usize,
+) -> u32 {
+    let table = unsafe { lent_mut(table, table_len) };
+    let (message, space) = unsafe { (lent(message, message_len), lent_mut(reply, reply_len)) };
+    let answer = handle(table, message, space);
+    unsafe { *reply_used = answer.unwrap_or(0) };
+    answer.err().unwrap_or(0)
+}

@@ -1,0 +1,22 @@
+//! An ordinary Rust version of the four calls, as one would write it without proofs. It works on
+//! the table octets of `docs/layout.md`, checks them at every call, and is what the proved product
+//! is measured against.
+//!
+//! * `layout`: the octets of the table.
+//! * `check`: whether a table is sound, and the map of taken TEIDs.
+//! * `request`: from the octets of a message to a request (stages 2 and 3).
+//! * `unit`: one call: all stages, grants and the change to the table.
+//! * `reply`: the octets of a reply.
+//! * `export`: the C interface.
+
+mod check;
+pub mod export;
+mod layout;
+mod list;
+mod reply;
+mod request;
+mod unit;
+
+pub use check::Settings;
+pub use layout::TABLE_OCTETS;
+pub use unit::{free_count, handle, make_table};

@@ -1,0 +1,294 @@
+//! The four calls: stages 1 and 4 to 6, grants and the change to the table.
+
+use crate::check::{check, Checked, Settings};
+use crate::layout::*;
+use crate::reply;
+use crate::request::{self, FqCsidChange, Header, Kind, Refusal, Request, Teid, Tunnel};
+
+const LEAST_REPLY_SPACE: usize = 1024;
+
+/// Makes an empty table; whether it was made. A refusal writes nothing.
+pub fn make_table(table: &mut [u8], settings: &Settings) -> bool {
+    let Ok(table) = <&mut [u8; TABLE_OCTETS]>::try_from(table) else { return false };
+    if !settings.are_allowed() {
+        return false;
+    }
+    table.fill(0);
+    put(table, 0, &settings.ipv4);
+    if let Some(ipv6) = &settings.ipv6 {
+        table[4] = 1;
+        put(table, 5, ipv6);
+    }
+    put(table, 21, &settings.first.to_be_bytes());
+    put(table, 25, &settings.size.to_be_bytes());
+    true
+}
+
+/// The number of free TEIDs, or nothing for a broken table.
+pub fn free_count(table: &[u8]) -> Option<u32> {
+    let checked = check(table.try_into().ok()?)?;
+    Some(checked.settings.size - checked.taken.count())
+}
+
+/// One request: the length of the reply, or the host outcome 1 to 5.
+pub fn handle(table: &mut [u8], message: &[u8], space: &mut [u8]) -> Result<usize, u32> {
+    let Ok(table) = <&mut [u8; TABLE_OCTETS]>::try_from(table) else { return Err(1) };
+    let checked = check(table).ok_or(1_u32)?;
+    if space.len() < LEAST_REPLY_SPACE {
+        return Err(2);
+    }
+    let (header, body) = request::header(message)?;
+    let mut request = Request::new(header.seid);
+    match decide(table, &checked, &header, body, &mut request) {
+        Ok((at, teids)) => {
+            change(table, checked.sessions, &header, &request, at, &teids);
+            Ok(reply::accepted(space, &checked.settings, &header, &request, &teids))
+        }
+        Err(refusal) => Ok(reply::refused(space, &checked.settings, &header, &refusal)),
+    }
+}
+
+fn cause(cause: u8) -> Refusal {
+    Refusal { cause, offending: None }
+}
+
+/// The TEIDs of the created records in request order.
+pub struct Teids {
+    pub pdrs: [u32; MOST_PDRS],
+    pub endpoints: [u32; MOST_ENDPOINTS],
+}
+
+/// All stages; reads the body into the request. An accepted one gives its session's index in the
+/// table (where it stands or is to stand) and the TEIDs of what it creates.
+fn decide<'a>(
+    table: &[u8; TABLE_OCTETS],
+    checked: &Checked,
+    header: &Header,
+    body: &'a [u8],
+    request: &mut Request<'a>,
+) -> Result<(usize, Teids), Refusal> {
+    let used = &slots(table)[..checked.sessions];
+    let establishment = header.kind == Kind::Establishment;
+    let mut found = used.binary_search_by_key(&header.seid, seid);
+    if !establishment && found.is_err() {
+        return Err(cause(65));
+    }
+    request::frame(header.kind, 0, body)?;
+    request::read(header, body, request)?;
+    let request = &*request;
+    if establishment {
+        found = used.binary_search_by_key(&request.seid, seid);
+        if found.is_ok() {
+            return Err(cause(64));
+        }
+    }
+    let tunnels = || {
+        let of_pdrs = request.new_pdrs.iter().filter_map(|pdr| pdr.tunnel.as_ref());
+        of_pdrs.chain(request.new_endpoints.iter().map(|endpoint| &endpoint.tunnel))
+    };
+    if tunnels().any(|tunnel| matches!(tunnel.teid, Teid::Given(_)) != request.restoration) {
+        return Err(cause(71));
+    }
+    if request.unsupported {
+        return Err(cause(76));
+    }
+    let (own, at) = match found {
+        Ok(at) => (records(&used[at]), at),
+        Err(at) => (Records { pdrs: &[], endpoints: &[] }, at),
+    };
+    if verbs_conflict(&own, request)
+        || names_conflict(&own, request)
+        || tunnels().any(|tunnel| !checked.settings.has(tunnel.families))
+        || sharing_conflicts(request)
+        || (request.restoration && tunnels().any(|tunnel| !may_be_restored(checked, tunnel)))
+    {
+        return Err(cause(73));
+    }
+    // Removed IDs are live and different by now.
+    let pdrs = own.pdrs.len() - request.removed_pdrs.len() + request.new_pdrs.len();
+    let endpoints =
+        own.endpoints.len() - request.removed_endpoints.len() + request.new_endpoints.len();
+    if (establishment && checked.sessions == MOST_SESSIONS)
+        || pdrs > MOST_PDRS
+        || endpoints > MOST_ENDPOINTS
+    {
+        return Err(cause(75));
+    }
+    let teids = allot(checked, request).ok_or(cause(75))?;
+    Ok((at, teids))
+}
+
+fn has_repeat<T: PartialEq>(ids: impl Iterator<Item = T> + Clone) -> bool {
+    let mut rest = ids;
+    while let Some(id) = rest.next() {
+        if rest.clone().any(|other| other == id) {
+            return true;
+        }
+    }
+    false
+}
+
+/// What is removed, created and updated, against what is live at entry.
+fn verbs_conflict(own: &Records, request: &Request) -> bool {
+    let new_pdrs = request.new_pdrs.iter().map(|pdr| pdr_id(&pdr.slot));
+    let new_endpoints = request.new_endpoints.iter().map(|endpoint| endpoint.slot[0]);
+    let updated = request.updates.iter().map(|update| update.id);
+    let pdr_lives = |id: u16| own.pdrs.binary_search_by_key(&id, pdr_id).is_ok();
+    let endpoint_lives = |id: u8| own.endpoints.iter().any(|endpoint| endpoint[0] == id);
+    new_pdrs.clone().any(pdr_lives)
+        || new_endpoints.clone().any(endpoint_lives)
+        || !request.removed_pdrs.iter().all(|id| pdr_lives(*id))
+        || !request.removed_endpoints.iter().all(|id| endpoint_lives(*id))
+        || updated.clone().any(|id| !pdr_lives(id) || request.removed_pdrs.contains(&id))
+        || has_repeat(new_pdrs)
+        || has_repeat(new_endpoints)
+        || has_repeat(updated)
+        || has_repeat(request.removed_pdrs.iter())
+        || has_repeat(request.removed_endpoints.iter())
+}
+
+/// The endpoints that PDRs name.
+fn names_conflict(own: &Records, request: &Request) -> bool {
+    let removed = |id: u8| request.removed_endpoints.contains(&id);
+    let there = |id: u8| {
+        request.new_endpoints.iter().any(|endpoint| endpoint.slot[0] == id)
+            || (own.endpoints.iter().any(|endpoint| endpoint[0] == id) && !removed(id))
+    };
+    request.new_pdrs.iter().any(|pdr| match pdr.endpoint {
+        Some(id) => pdr.tunnel.is_some() || !there(id),
+        None => false,
+    }) || own.pdrs.iter().any(|pdr| {
+        pdr[12] == ENDPOINT && removed(pdr[18]) && !request.removed_pdrs.contains(&pdr_id(pdr))
+    })
+}
+
+/// TEIDs and CHOOSE IDs that created records share against the rules.
+fn sharing_conflicts(request: &Request) -> bool {
+    let pdrs = &request.new_pdrs;
+    let of_pdrs = pdrs.iter().enumerate().any(|(index, pdr)| {
+        let Some(tunnel) = &pdr.tunnel else { return false };
+        tunnel.teid != Teid::Choose
+            && pdrs[..index].iter().any(|other| {
+                other.tunnel.as_ref().is_some_and(|shared| shared.teid == tunnel.teid)
+                    && (other.slot[11], other.slot[17]) != (pdr.slot[11], pdr.slot[17])
+            })
+    });
+    let given = |tunnel: &Tunnel| match tunnel.teid {
+        Teid::Given(teid) => Some(teid),
+        _ => None,
+    };
+    let of_endpoints = request.new_endpoints.iter().filter_map(|e| given(&e.tunnel));
+    let by_both = |teid| pdrs.iter().any(|p| p.tunnel.as_ref().and_then(given) == Some(teid));
+    of_pdrs || has_repeat(of_endpoints.clone()) || of_endpoints.clone().any(by_both)
+}
+
+/// A given F-TEID: in the pool, held by no session, with the unit's addresses.
+fn may_be_restored(checked: &Checked, tunnel: &Tunnel) -> bool {
+    let Teid::Given(teid) = tunnel.teid else { return false };
+    let Some(place) = checked.settings.place(teid) else { return false };
+    let (ipv4, ipv6) = tunnel.addresses.split_at(if tunnel.families & V4 != 0 { 4 } else { 0 });
+    !checked.taken.is_taken(place)
+        && (ipv4.is_empty() || ipv4 == checked.settings.ipv4)
+        && (ipv6.is_empty() || checked.settings.ipv6.is_some_and(|own| ipv6 == own))
+}
+
+/// TEIDs for what is created, the lowest free ones for CHOOSE: to endpoints first, then to PDRs at
+/// the first use of a CHOOSE ID. Nothing if there are too few.
+fn allot(checked: &Checked, request: &Request) -> Option<Teids> {
+    let settings = &checked.settings;
+    let mut free = checked.taken.free_places();
+    let mut next = || {
+        let place = free.next()?;
+        (place < settings.size as usize).then(|| settings.first + place as u32)
+    };
+    let mut teids = Teids { pdrs: [0; MOST_PDRS], endpoints: [0; MOST_ENDPOINTS] };
+    for (index, endpoint) in request.new_endpoints.iter().enumerate() {
+        teids.endpoints[index] = match endpoint.tunnel.teid {
+            Teid::Given(teid) => teid,
+            _ => next()?,
+        };
+    }
+    for (index, pdr) in request.new_pdrs.iter().enumerate() {
+        let Some(tunnel) = &pdr.tunnel else { continue };
+        let same = |other: &request::NewPdr| {
+            other.tunnel.as_ref().is_some_and(|shared| shared.teid == tunnel.teid)
+        };
+        teids.pdrs[index] = match tunnel.teid {
+            Teid::Given(teid) => teid,
+            Teid::Choose => next()?,
+            Teid::ChooseShared(_) => match request.new_pdrs[..index].iter().position(same) {
+                Some(first) => teids.pdrs[first],
+                None => next()?,
+            },
+        };
+    }
+    Some(teids)
+}
+
+/// Makes the change of an accepted request.
+fn change(
+    table: &mut [u8; TABLE_OCTETS],
+    sessions: usize,
+    header: &Header,
+    request: &Request,
+    at: usize,
+    teids: &Teids,
+) {
+    let slots = slots_mut(table);
+    match header.kind {
+        Kind::Establishment => {
+            slots.copy_within(at..sessions, at + 1);
+            slots[at].fill(0);
+            put(&mut slots[at], 0, &request.seid.to_be_bytes());
+            change_session(&mut slots[at], request, teids);
+            put(table, COUNT, &(sessions as u16 + 1).to_be_bytes());
+        }
+        Kind::Modification => change_session(&mut slots[at], request, teids),
+        Kind::Deletion => {
+            slots.copy_within(at + 1..sessions, at);
+            slots[sessions - 1].fill(0);
+            put(table, COUNT, &(sessions as u16 - 1).to_be_bytes());
+        }
+    }
+}
+
+fn change_session(slot: &mut Slot, request: &Request, teids: &Teids) {
+    let (mut pdrs, mut endpoints, mut fq_csids) = areas_mut(slot);
+    if !request.removed_pdrs.is_empty() {
+        pdrs.retain(|pdr| !request.removed_pdrs.contains(&pdr_id(pdr)));
+    }
+    if !request.removed_endpoints.is_empty() {
+        endpoints.retain(|endpoint| !request.removed_endpoints.contains(&endpoint[0]));
+    }
+    for (endpoint, teid) in request.new_endpoints.iter().zip(teids.endpoints) {
+        let mut record = endpoint.slot;
+        put(&mut record, 1, &teid.to_be_bytes());
+        endpoints.insert(record, endpoint_id);
+    }
+    for (pdr, teid) in request.new_pdrs.iter().zip(teids.pdrs) {
+        let mut record = pdr.slot;
+        put(&mut record, 13, &teid.to_be_bytes());
+        pdrs.insert(record, pdr_id);
+    }
+    for update in request.updates.iter() {
+        let Some(pdr) = pdrs.used().iter_mut().find(|pdr| pdr_id(pdr) == update.id) else {
+            continue;
+        };
+        if let Some(precedence) = update.precedence {
+            put(pdr, 2, &precedence.to_be_bytes());
+        }
+        if let Some(far) = update.far {
+            pdr[6] = u8::from(far.is_some());
+            put(pdr, 7, &far.unwrap_or(0).to_be_bytes());
+        }
+    }
+    if request.removes_all_fq_csids {
+        fq_csids.retain(|_| false);
+    }
+    for change in request.fq_csids.iter() {
+        match change {
+            FqCsidChange::Set(record) => fq_csids.insert(*record, node_type),
+            FqCsidChange::Remove(gone) => fq_csids.retain(|held| node_type(held) != *gone),
+        }
+    }
+}

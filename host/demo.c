@@ -1,0 +1,194 @@
+/*
+ * A scripted exchange: a control-plane peer with a socket of its own sends requests to the unit
+ * over the loopback interface and reads the replies. Both run in one process, one after the other,
+ * so the output is the same every time.
+ */
+#include <arpa/inet.h>
+#include <errno.h>
+#include <netinet/in.h>
+#include <stdio.h>
+#include <stdlib.h>
+#include <string.h>
+#include <sys/time.h>
+#include <unistd.h>
+
+#include "message.h"
+#include "unit.h"
+#include "words.h"
+
+struct exchange {
+    struct unit *unit;
+    int peer;
+    int step;
+};
+
+/* Sends a message, has the unit serve it, and prints both sides. */
+static bool send_octets(struct exchange *x, const char *title, const uint8_t *octets, size_t length)
+{
+    uint8_t reply[PFCP_REPLY_SPACE];
+
+    printf("\n%d. %s\n  request, %zu octets\n", ++x->step, title, length);
+    print_octets(stdout, "    ", octets, length);
+    print_message(stdout, octets, length);
+    fflush(stdout);
+    if (send(x->peer, octets, length, 0) != (ssize_t)length) {
+        fprintf(stderr, "pfcp_unit: the request could not be sent: %s\n", strerror(errno));
+        return false;
+    }
+    enum served served = unit_serve(x->unit);
+    if (served == SERVED_NO_REPLY)
+        return true;
+    ssize_t used = served == SERVED_REPLY ? recv(x->peer, reply, sizeof reply, 0) : -1;
+    if (used < 0) {
+        fputs("pfcp_unit: the unit did not answer\n", stderr);
+        return false;
+    }
+    printf("  reply, %zd octets\n", used);
+    print_octets(stdout, "    ", reply, (size_t)used);
+    print_message(stdout, reply, (size_t)used);
+    if (x->unit->changed)
+        unit_print(x->unit);
+    return true;
+}
+
+static bool send_message(struct exchange *x, const char *title, struct message *m)
+{
+    message_end(m);
+    return send_octets(x, title, m->octets, m->length);
+}
+
+static const struct tunnel choose = {.flags = CHOOSE | V4};
+static const struct tunnel choose_7 = {.flags = CHOOSE | CHOOSE_ID | V4, .choose_id = 7};
+
+static bool establish_first(struct exchange *x)
+{
+    struct message m;
+
+    message_start(&m, ESTABLISHMENT, 0, 1);
+    put_f_seid(&m, 1);
+    create_pdr(&m, 1, &choose_7);
+    create_pdr(&m, 2, &choose_7);
+    create_pdr_start(&m, 3, 50, 1);
+    put_number(&m, IE_ENDPOINT_ID, 1, 1);
+    create_pdr_end(&m, 10);
+    create_endpoint(&m, 1, &choose);
+    put_fq_csid(&m, 1, 5);
+    return send_message(x,
+                        "Session 1: PDRs 1 and 2 share a TEID by CHOOSE ID 7, PDR 3 names an "
+                        "endpoint",
+                        &m);
+}
+
+static bool establish(struct exchange *x, const char *title, uint64_t seid, uint32_t sequence)
+{
+    struct message m;
+
+    message_start(&m, ESTABLISHMENT, 0, sequence);
+    put_f_seid(&m, seid);
+    create_pdr(&m, 1, &choose);
+    return send_message(x, title, &m);
+}
+
+static bool modify(struct exchange *x)
+{
+    struct message m;
+
+    message_start(&m, MODIFICATION, 1, 4);
+    remove_pdr(&m, 1);
+    group_start(&m, IE_UPDATE_PDR);
+    put_number(&m, IE_PDR_ID, 3, 2);
+    put_number(&m, IE_PRECEDENCE, 20, 4);
+    put_element(&m, IE_FAR_ID, NULL, 0);
+    group_end(&m);
+    return send_message(x, "Session 1 loses PDR 1; PDR 3 gets another precedence and loses its FAR",
+                        &m);
+}
+
+static bool refusals(struct exchange *x)
+{
+    struct message m;
+    static const uint8_t heartbeat[] = {0x20, 1, 0, 12, 0, 0, 9, 0, 0, 96, 0, 4, 0, 0, 0, 0};
+
+    if (!establish(x, "Session 1 once more: its SEID is live", 1, 5))
+        return false;
+    message_start(&m, DELETION, 9, 6);
+    if (!send_message(x, "Deletion of a session that is not there", &m))
+        return false;
+    message_start(&m, MODIFICATION, 1, 7);
+    group_start(&m, IE_CREATE_PDR);
+    put_number(&m, IE_PDR_ID, 4, 2);
+    put_number(&m, IE_PRECEDENCE, 1, 4);
+    group_end(&m);
+    if (!send_message(x, "A Create PDR without a PDI", &m))
+        return false;
+    message_start(&m, MODIFICATION, 1, 8);
+    remove_endpoint(&m, 1);
+    if (!send_message(x, "Removal of an endpoint that a PDR still names", &m))
+        return false;
+    return send_octets(x, "A heartbeat: not a session's message, so there is no reply", heartbeat,
+                       sizeof heartbeat);
+}
+
+/* Takes the address from the table: the settings stand at its front. */
+static bool delete_and_restore(struct exchange *x)
+{
+    struct message m;
+    struct tunnel existing = {.flags = V4, .ipv4 = x->unit->table};
+
+    message_start(&m, DELETION, 1, 9);
+    if (!send_message(x, "Deletion of session 1", &m))
+        return false;
+    existing.teid = (uint32_t)number_at(x->unit->table + 21, 4) + 1;
+    message_start(&m, ESTABLISHMENT, 0, 10);
+    put_f_seid(&m, 7);
+    put_number(&m, IE_FLAGS, 1, 1);
+    create_pdr(&m, 1, &existing);
+    create_pdr(&m, 2, &existing);
+    if (!send_message(x, "Restoration of a session 7 that brings its TEID along", &m))
+        return false;
+    message_start(&m, DELETION, 2, 11);
+    if (!send_message(x, "Deletion of session 2", &m))
+        return false;
+    message_start(&m, DELETION, 7, 12);
+    return send_message(x, "Deletion of session 7", &m);
+}
+
+/* A socket that is connected to the unit's. */
+static int connect_peer(const struct unit *unit)
+{
+    struct sockaddr_storage address;
+    socklen_t length = sizeof address;
+    struct timeval limit = {.tv_sec = 5};
+
+    if (getsockname(unit->socket, (struct sockaddr *)&address, &length) != 0)
+        return -1;
+    int peer = socket(address.ss_family, SOCK_DGRAM, 0);
+    if (peer < 0)
+        return -1;
+    if (connect(peer, (struct sockaddr *)&address, length) != 0 ||
+        setsockopt(peer, SOL_SOCKET, SO_RCVTIMEO, &limit, sizeof limit) != 0) {
+        close(peer);
+        return -1;
+    }
+    return peer;
+}
+
+int run_demo(struct unit *unit)
+{
+    struct exchange x = {.unit = unit, .peer = connect_peer(unit), .step = 0};
+
+    if (x.peer < 0) {
+        fprintf(stderr, "pfcp_unit: no socket for the demonstration: %s\n", strerror(errno));
+        return EXIT_FAILURE;
+    }
+    puts("A unit and its control-plane peer, over the loopback interface.");
+    unit_print(unit);
+    bool done = establish_first(&x) && establish(&x, "Session 2: the next free TEID", 2, 2) &&
+                establish(&x, "Session 3: one TEID more", 3, 3) && modify(&x) && refusals(&x) &&
+                delete_and_restore(&x);
+    close(x.peer);
+    if (done)
+        printf("\nend; requests answered: %lu, messages without a reply: %lu\n", unit->answered,
+               unit->refused);
+    return done ? EXIT_SUCCESS : EXIT_FAILURE;
+}

@@ -1,0 +1,167 @@
+#include "message.h"
+
+#include <assert.h>
+#include <string.h>
+
+uint64_t number_at(const uint8_t *octets, size_t count)
+{
+    uint64_t number = 0;
+
+    for (size_t i = 0; i < count; i++)
+        number = number << 8 | octets[i];
+    return number;
+}
+
+static void write_number(uint8_t *octets, uint64_t number, size_t count)
+{
+    for (size_t i = count; i > 0; i--) {
+        octets[i - 1] = (uint8_t)number;
+        number >>= 8;
+    }
+}
+
+static void add_number(struct message *m, uint64_t number, size_t count)
+{
+    assert(m->length + count <= MESSAGE_ROOM);
+    write_number(m->octets + m->length, number, count);
+    m->length += count;
+}
+
+void message_start(struct message *m, uint8_t type, uint64_t seid, uint32_t sequence)
+{
+    m->length = 0;
+    m->open = 0;
+    add_number(m, 0x21, 1);
+    add_number(m, type, 1);
+    add_number(m, 0, 2);
+    add_number(m, seid, 8);
+    add_number(m, sequence, 3);
+    add_number(m, 0, 1);
+}
+
+void message_end(struct message *m)
+{
+    assert(m->open == 0);
+    write_number(m->octets + 2, m->length - 4, 2);
+}
+
+void group_start(struct message *m, uint16_t type)
+{
+    assert(m->open < GROUPS_ROOM);
+    m->groups[m->open++] = m->length;
+    add_number(m, type, 2);
+    add_number(m, 0, 2);
+}
+
+void group_end(struct message *m)
+{
+    assert(m->open > 0);
+    size_t start = m->groups[--m->open];
+    write_number(m->octets + start + 2, m->length - start - 4, 2);
+}
+
+void put_element(struct message *m, uint16_t type, const void *value, size_t length)
+{
+    add_number(m, type, 2);
+    add_number(m, length, 2);
+    assert(m->length + length <= MESSAGE_ROOM);
+    if (length > 0)
+        memcpy(m->octets + m->length, value, length);
+    m->length += length;
+}
+
+void put_number(struct message *m, uint16_t type, uint64_t value, size_t octets)
+{
+    add_number(m, type, 2);
+    add_number(m, octets, 2);
+    add_number(m, value, octets);
+}
+
+void put_f_seid(struct message *m, uint64_t seid)
+{
+    static const uint8_t peer[4] = {127, 0, 0, 1};
+    uint8_t value[13] = {2}; /* V4 is bit 2 here */
+
+    write_number(value + 1, seid, 8);
+    memcpy(value + 9, peer, sizeof peer);
+    put_element(m, IE_F_SEID, value, sizeof value);
+}
+
+void put_f_teid(struct message *m, const struct tunnel *tunnel)
+{
+    uint8_t value[25];
+    size_t length = 0;
+
+    value[length++] = tunnel->flags;
+    if (tunnel->flags & CHOOSE) {
+        if (tunnel->flags & CHOOSE_ID)
+            value[length++] = tunnel->choose_id;
+    } else {
+        write_number(value + length, tunnel->teid, 4);
+        length += 4;
+        if (tunnel->flags & V4) {
+            memcpy(value + length, tunnel->ipv4, 4);
+            length += 4;
+        }
+        if (tunnel->flags & V6) {
+            memcpy(value + length, tunnel->ipv6, 16);
+            length += 16;
+        }
+    }
+    put_element(m, IE_F_TEID, value, length);
+}
+
+void put_fq_csid(struct message *m, uint8_t node_type, uint16_t csid)
+{
+    uint8_t value[8] = {0x01, 192, 0, 2, 10, 0, 0, node_type};
+
+    write_number(value + 5, csid, 2);
+    put_element(m, IE_FQ_CSID, value, sizeof value);
+}
+
+void create_pdr_start(struct message *m, uint16_t id, uint32_t precedence, uint8_t source)
+{
+    group_start(m, IE_CREATE_PDR);
+    put_number(m, IE_PDR_ID, id, 2);
+    put_number(m, IE_PRECEDENCE, precedence, 4);
+    group_start(m, IE_PDI);
+    put_number(m, IE_SOURCE_INTERFACE, source, 1);
+}
+
+void create_pdr_end(struct message *m, int64_t far_id)
+{
+    group_end(m);
+    if (far_id >= 0)
+        put_number(m, IE_FAR_ID, (uint64_t)far_id, 4);
+    group_end(m);
+}
+
+void create_pdr(struct message *m, uint16_t id, const struct tunnel *tunnel)
+{
+    create_pdr_start(m, id, 100, 0);
+    if (tunnel)
+        put_f_teid(m, tunnel);
+    create_pdr_end(m, -1);
+}
+
+void create_endpoint(struct message *m, uint8_t id, const struct tunnel *tunnel)
+{
+    group_start(m, IE_CREATE_ENDPOINT);
+    put_number(m, IE_ENDPOINT_ID, id, 1);
+    put_f_teid(m, tunnel);
+    group_end(m);
+}
+
+void remove_pdr(struct message *m, uint16_t id)
+{
+    group_start(m, IE_REMOVE_PDR);
+    put_number(m, IE_PDR_ID, id, 2);
+    group_end(m);
+}
+
+void remove_endpoint(struct message *m, uint8_t id)
+{
+    group_start(m, IE_REMOVE_ENDPOINT);
+    put_number(m, IE_ENDPOINT_ID, id, 1);
+    group_end(m);
+}

@@ -1,0 +1,91 @@
+/* Writes requests, for the demonstration, the tests and the measurements. */
+#ifndef MESSAGE_H
+#define MESSAGE_H
+
+#include <stddef.h>
+#include <stdint.h>
+
+enum { MESSAGE_ROOM = 4096, GROUPS_ROOM = 3 };
+
+/* Message types. */
+enum { ESTABLISHMENT = 50, MODIFICATION = 52, DELETION = 54 };
+
+/* Element types. */
+enum {
+    IE_CREATE_PDR = 1,
+    IE_PDI = 2,
+    IE_CREATED_PDR = 8,
+    IE_UPDATE_PDR = 9,
+    IE_REMOVE_PDR = 15,
+    IE_CAUSE = 19,
+    IE_SOURCE_INTERFACE = 20,
+    IE_F_TEID = 21,
+    IE_PRECEDENCE = 29,
+    IE_OFFENDING_IE = 40,
+    IE_PDR_ID = 56,
+    IE_F_SEID = 57,
+    IE_NODE_ID = 60,
+    IE_FQ_CSID = 65,
+    IE_FAR_ID = 108,
+    IE_CREATE_ENDPOINT = 127,
+    IE_CREATED_ENDPOINT = 128,
+    IE_UPDATE_ENDPOINT = 129,
+    IE_REMOVE_ENDPOINT = 130,
+    IE_ENDPOINT_ID = 131,
+    IE_FLAGS = 186
+};
+
+/* Flags of an F-TEID. */
+enum { V4 = 1, V6 = 2, CHOOSE = 4, CHOOSE_ID = 8 };
+
+/* A message that is being written. */
+struct message {
+    uint8_t octets[MESSAGE_ROOM];
+    size_t length;
+    size_t groups[GROUPS_ROOM]; /* where the open groups start */
+    size_t open;
+};
+
+/* Starts a message; message_end sets its length. */
+void message_start(struct message *m, uint8_t type, uint64_t seid, uint32_t sequence);
+void message_end(struct message *m);
+
+/* Opens a group, and closes the one opened last. */
+void group_start(struct message *m, uint16_t type);
+void group_end(struct message *m);
+
+/* One element with this value. */
+void put_element(struct message *m, uint16_t type, const void *value, size_t length);
+
+/* One element with a number as its value, of 1, 2, 4 or 8 octets. */
+void put_number(struct message *m, uint16_t type, uint64_t value, size_t octets);
+
+/* Whole elements and groups. An F-TEID with CHOOSE is flags and the CHOOSE ID; another one has a
+   TEID and the addresses that its flags name. */
+struct tunnel {
+    uint8_t flags;
+    uint8_t choose_id;
+    uint32_t teid;
+    const uint8_t *ipv4;
+    const uint8_t *ipv6;
+};
+
+void put_f_seid(struct message *m, uint64_t seid);
+void put_f_teid(struct message *m, const struct tunnel *tunnel);
+void put_fq_csid(struct message *m, uint8_t node_type, uint16_t csid);
+
+/* A Create PDR up to the PDI's source interface, and its end. Further members of the PDI stand
+   between the two. A negative FAR ID is none. */
+void create_pdr_start(struct message *m, uint16_t id, uint32_t precedence, uint8_t source);
+void create_pdr_end(struct message *m, int64_t far_id);
+
+/* A Create PDR with an F-TEID or, without one, neither. */
+void create_pdr(struct message *m, uint16_t id, const struct tunnel *tunnel);
+void create_endpoint(struct message *m, uint8_t id, const struct tunnel *tunnel);
+void remove_pdr(struct message *m, uint16_t id);
+void remove_endpoint(struct message *m, uint8_t id);
+
+/* Numbers in octets, the first one on top. */
+uint64_t number_at(const uint8_t *octets, size_t count);
+
+#endif

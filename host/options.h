@@ -1,0 +1,29 @@
+/* The command line of the unit. */
+#ifndef OPTIONS_H
+#define OPTIONS_H
+
+#include <stdbool.h>
+#include <stddef.h>
+#include <stdint.h>
+#include <sys/socket.h>
+
+struct options {
+    struct sockaddr_storage listen; /* where requests arrive */
+    socklen_t listen_length;
+    const char *listen_text;
+    uint16_t port; /* 0: any that is free */
+    uint32_t ipv4; /* the unit's own addresses and its pool */
+    uint8_t ipv6[16];
+    size_t ipv6_length; /* 0 or 16 */
+    uint32_t first_teid;
+    uint32_t pool_size;
+    bool demo;
+    bool help;
+};
+
+/* Reads the options; says on standard error what is wrong with them and gives false. */
+bool read_options(struct options *options, int argc, char **argv);
+
+extern const char usage[];
+
+#endif

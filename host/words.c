@@ -1,0 +1,305 @@
+#include "words.h"
+
+#include <arpa/inet.h>
+#include <inttypes.h>
+
+#include "message.h"
+
+const char *cause_in_words(unsigned cause)
+{
+    switch (cause) {
+    case 1:
+        return "request accepted";
+    case 64:
+        return "request rejected";
+    case 65:
+        return "session context not found";
+    case 66:
+        return "mandatory element missing";
+    case 67:
+        return "conditional element missing";
+    case 68:
+        return "invalid length";
+    case 69:
+        return "mandatory element incorrect";
+    case 71:
+        return "invalid F-TEID allocation option";
+    case 73:
+        return "rule creation or modification failure";
+    case 75:
+        return "no resources available";
+    case 76:
+        return "service not supported";
+    default:
+        return "unknown cause";
+    }
+}
+
+const char *outcome_in_words(unsigned outcome)
+{
+    switch (outcome) {
+    case 0:
+        return "answered";
+    case 1:
+        return "the table is broken";
+    case 2:
+        return "the reply space is too small";
+    case 3:
+        return "the message is over 2,048 octets long";
+    case 4:
+        return "the header is wrong";
+    case 5:
+        return "this type of message is not served";
+    default:
+        return "unknown outcome";
+    }
+}
+
+const char *element_in_words(unsigned type)
+{
+    switch (type) {
+    case 0:
+        return "the message";
+    case IE_CREATE_PDR:
+        return "Create PDR";
+    case IE_PDI:
+        return "PDI";
+    case IE_CREATED_PDR:
+        return "Created PDR";
+    case IE_UPDATE_PDR:
+        return "Update PDR";
+    case IE_REMOVE_PDR:
+        return "Remove PDR";
+    case IE_CAUSE:
+        return "Cause";
+    case IE_SOURCE_INTERFACE:
+        return "Source Interface";
+    case IE_F_TEID:
+        return "F-TEID";
+    case IE_PRECEDENCE:
+        return "Precedence";
+    case IE_OFFENDING_IE:
+        return "Offending IE";
+    case IE_PDR_ID:
+        return "PDR ID";
+    case IE_F_SEID:
+        return "F-SEID";
+    case IE_NODE_ID:
+        return "Node ID";
+    case IE_FQ_CSID:
+        return "FQ-CSID";
+    case IE_FAR_ID:
+        return "FAR ID";
+    case IE_CREATE_ENDPOINT:
+        return "Create Traffic Endpoint";
+    case IE_CREATED_ENDPOINT:
+        return "Created Traffic Endpoint";
+    case IE_UPDATE_ENDPOINT:
+        return "Update Traffic Endpoint";
+    case IE_REMOVE_ENDPOINT:
+        return "Remove Traffic Endpoint";
+    case IE_ENDPOINT_ID:
+        return "Traffic Endpoint ID";
+    case IE_FLAGS:
+        return "session establishment flags";
+    default:
+        return type >= 32768 ? "vendor element" : "unknown element";
+    }
+}
+
+static const char *message_in_words(unsigned type)
+{
+    switch (type) {
+    case 50:
+        return "Session Establishment Request";
+    case 51:
+        return "Session Establishment Response";
+    case 52:
+        return "Session Modification Request";
+    case 53:
+        return "Session Modification Response";
+    case 54:
+        return "Session Deletion Request";
+    case 55:
+        return "Session Deletion Response";
+    default:
+        return "another message";
+    }
+}
+
+const char *address_in_words(const uint8_t *address, size_t octets, char *room, size_t size)
+{
+    const char *text = inet_ntop(octets == 16 ? AF_INET6 : AF_INET, address, room, (socklen_t)size);
+
+    return text ? text : "?";
+}
+
+void print_octets(FILE *out, const char *margin, const uint8_t *octets, size_t length)
+{
+    for (size_t i = 0; i < length; i++) {
+        if (i % 16 == 0)
+            fputs(margin, out);
+        fprintf(out, "%02X%c", octets[i], i % 16 == 15 || i + 1 == length ? '\n' : ' ');
+    }
+}
+
+static void print_f_teid(FILE *out, const uint8_t *value, size_t length)
+{
+    char room[INET6_ADDRSTRLEN];
+    unsigned flags = length > 0 ? value[0] : 0;
+    size_t needed = 5u + (flags & V4 ? 4u : 0u) + (flags & V6 ? 16u : 0u);
+
+    if (flags & CHOOSE) {
+        fprintf(out, "choose one for%s%s", flags & V4 ? " IPv4" : "", flags & V6 ? " IPv6" : "");
+        if ((flags & CHOOSE_ID) && length > 1)
+            fprintf(out, ", CHOOSE ID %u", value[1]);
+    } else if (length >= needed && (flags & (V4 | V6))) {
+        const uint8_t *address = value + 5;
+
+        fprintf(out, "TEID %" PRIu64, number_at(value + 1, 4));
+        if (flags & V4) {
+            fprintf(out, " at %s", address_in_words(address, 4, room, sizeof room));
+            address += 4;
+        }
+        if (flags & V6)
+            fprintf(out, " at %s", address_in_words(address, 16, room, sizeof room));
+    } else {
+        fputs("not readable", out);
+    }
+}
+
+static void print_f_seid(FILE *out, const uint8_t *value, size_t length)
+{
+    char room[INET6_ADDRSTRLEN];
+
+    /* V4 is bit 2 and V6 is bit 1 here. */
+    if (length < 9 || (value[0] & 3) == 0) {
+        fputs("not readable", out);
+        return;
+    }
+    fprintf(out, "SEID %" PRIu64, number_at(value + 1, 8));
+    if ((value[0] & 2) && length >= 13)
+        fprintf(out, " at %s", address_in_words(value + 9, 4, room, sizeof room));
+}
+
+static void print_fq_csid(FILE *out, const uint8_t *value, size_t length)
+{
+    char room[INET6_ADDRSTRLEN];
+    size_t address = length > 0 && value[0] >> 4 == 1 ? 16 : 4;
+    size_t csids = length > 0 ? value[0] & 15 : 0;
+    size_t end = 1 + address + 2 * csids;
+
+    if (length == 0) {
+        fputs("remove all", out);
+    } else if (length <= end) {
+        fputs("not readable", out);
+    } else if (csids == 0) {
+        fprintf(out, "remove that of node type %u", value[end] & 15);
+    } else {
+        fprintf(out, "node type %u, CSID %" PRIu64 " of ", value[end] & 15,
+                number_at(value + 1 + address, 2));
+        if (value[0] >> 4 == 2)
+            fprintf(out, "operator node %08" PRIX64, number_at(value + 1, 4));
+        else
+            fputs(address_in_words(value + 1, address, room, sizeof room), out);
+    }
+}
+
+static int is_group(unsigned type)
+{
+    switch (type) {
+    case IE_CREATE_PDR:
+    case IE_PDI:
+    case IE_CREATED_PDR:
+    case IE_UPDATE_PDR:
+    case IE_REMOVE_PDR:
+    case IE_CREATE_ENDPOINT:
+    case IE_CREATED_ENDPOINT:
+    case IE_REMOVE_ENDPOINT:
+        return 1;
+    default:
+        return 0;
+    }
+}
+
+static void print_value(FILE *out, unsigned type, const uint8_t *value, size_t length)
+{
+    char room[INET6_ADDRSTRLEN];
+
+    switch (type) {
+    case IE_F_TEID:
+        print_f_teid(out, value, length);
+        return;
+    case IE_F_SEID:
+        print_f_seid(out, value, length);
+        return;
+    case IE_FQ_CSID:
+        print_fq_csid(out, value, length);
+        return;
+    case IE_NODE_ID:
+        if (length == 5)
+            fputs(address_in_words(value + 1, 4, room, sizeof room), out);
+        return;
+    default:
+        break;
+    }
+    if (length == 0) {
+        fputs("empty", out);
+        return;
+    }
+    if (length > 8) {
+        fprintf(out, "%zu octets", length);
+        return;
+    }
+    unsigned number = (unsigned)number_at(value, length);
+
+    fprintf(out, "%" PRIu64, number_at(value, length));
+    if (type == IE_CAUSE)
+        fprintf(out, ", %s", cause_in_words(number));
+    else if (type == IE_OFFENDING_IE)
+        fprintf(out, ", %s", element_in_words(number));
+    else if (type == IE_FLAGS && (number & 1))
+        fputs(", restoration", out);
+}
+
+/* The elements of a part; deeper ones are indented. A broken frame ends the part. */
+static void print_part(FILE *out, int depth, const uint8_t *part, size_t length)
+{
+    while (length > 0) {
+        int margin = 4 + 2 * depth;
+        unsigned type = length >= 4 ? (unsigned)number_at(part, 2) : 0;
+        size_t claimed = length >= 4 ? (size_t)number_at(part + 2, 2) : 0;
+
+        if (length < 4) {
+            fprintf(out, "%*s%zu octets left over\n", margin, "", length);
+            return;
+        }
+        fprintf(out, "%*s%s", margin, "", element_in_words(type));
+        if (claimed > length - 4) {
+            fprintf(out, ": %zu octets claimed and %zu there\n", claimed, length - 4);
+            return;
+        }
+        if (is_group(type) && depth < 2) {
+            fputc('\n', out);
+            print_part(out, depth + 1, part + 4, claimed);
+        } else {
+            fputs(": ", out);
+            print_value(out, type, part + 4, claimed);
+            fputc('\n', out);
+        }
+        part += 4 + claimed;
+        length -= 4 + claimed;
+    }
+}
+
+void print_message(FILE *out, const uint8_t *message, size_t length)
+{
+    if (length < 16 || !(message[0] & 1)) {
+        fprintf(out, "    %zu octets without a session's header\n", length);
+        return;
+    }
+    fprintf(out, "    %s (%u), SEID %" PRIu64 ", sequence %" PRIu64 "\n",
+            message_in_words(message[1]), message[1], number_at(message + 4, 8),
+            number_at(message + 12, 3));
+    print_part(out, 0, message + 16, length - 16);
+}

@@ -1,0 +1,83 @@
+/*
+ * PFCP session requests (3GPP TS 29.244 Release 17) on a session table that the caller lends.
+ *
+ * The archive keeps nothing between calls: all that it knows is in the table's octets, whose layout
+ * is in docs/layout.md. The rules for requests and replies are document 01; docs/ has the rest.
+ *
+ * Pointers. Every pair of a pointer and a length is a slice: the pointer is valid for that many
+ * octets, for reading where it is const and for reading and writing where it is not. A slice of
+ * length 0 may have any pointer, also NULL. The slices of one call do not overlap, and neither do
+ * they overlap the number that a call writes (count, reply_used). The pointer to that number is
+ * never NULL and is aligned for its type. While a call runs, nothing else reads or writes what it
+ * may write, and nothing else writes what it reads. Calls on different tables may run at the same
+ * time.
+ *
+ * An IPv4 address given as a number has its first octet on top: 192.0.2.1 is 0xC0000201.
+ */
+#ifndef PFCP_SESSION_H
+#define PFCP_SESSION_H
+
+#include <stddef.h>
+#include <stdint.h>
+
+#ifdef __cplusplus
+extern "C" {
+#endif
+
+/* The length of a table, the same as pfcp_table_length() gives. */
+#define PFCP_TABLE_LENGTH 30943
+
+/* A request needs a reply space of at least this many octets, ... */
+#define PFCP_REPLY_SPACE 1024
+
+/* ... and is at most this long. */
+#define PFCP_LONGEST_REQUEST 2048
+
+/* Host outcomes of pfcp_request; pfcp_free_count has the first two. */
+#define PFCP_ANSWERED 0          /* a reply was written */
+#define PFCP_BROKEN_TABLE 1      /* the table is broken or of another length */
+#define PFCP_SMALL_REPLY_SPACE 2 /* reply_len is under 1,024 */
+#define PFCP_LONG_MESSAGE 3      /* message_len is over 2,048 */
+#define PFCP_WRONG_HEADER 4      /* under 16 octets, or version, S, FO or length wrong */
+#define PFCP_NOT_SERVED 5        /* another message type than 50, 52, 54 */
+
+/* The number of octets that a table has: 30,943. */
+size_t pfcp_table_length(void);
+
+/*
+ * Makes an empty table with these settings, whatever the octets were before.
+ *
+ * ipv4        the unit's IPv4 address
+ * ipv6        the unit's IPv6 address: ipv6_len is 16, or 0 if the unit has none
+ * first_teid  the first TEID of the pool, at least 1
+ * pool_size   the number of TEIDs, 1 to 4,096; the last one is at most 4,294,967,295
+ *
+ * Gives 0 if the table was made, and 1 if it was refused: table_len is not pfcp_table_length(), or
+ * a setting is another one than said here. A refusal writes nothing.
+ */
+uint32_t pfcp_make_table(uint8_t *table, size_t table_len, uint32_t ipv4, const uint8_t *ipv6,
+                         size_t ipv6_len, uint32_t first_teid, uint32_t pool_size);
+
+/*
+ * Counts the free TEIDs: the pool size minus the different TEIDs in the table's records.
+ *
+ * Gives 0 and writes the number to *count, or gives 1 (PFCP_BROKEN_TABLE) and writes 0.
+ */
+uint32_t pfcp_free_count(const uint8_t *table, size_t table_len, uint32_t *count);
+
+/*
+ * Handles one request: reads the message, changes the table and writes the reply.
+ *
+ * Gives a host outcome. With outcome 0 the reply stands at the front of the reply space and
+ * *reply_used is its length; the octets after it are unchanged. The reply says whether the request
+ * was accepted (cause 1); only then the table may have changed. With any other outcome nothing is
+ * written but *reply_used, which is 0. The outcomes are tested in the order 1 to 5.
+ */
+uint32_t pfcp_request(uint8_t *table, size_t table_len, const uint8_t *message, size_t message_len,
+                      uint8_t *reply, size_t reply_len, size_t *reply_used);
+
+#ifdef __cplusplus
+}
+#endif
+
+#endif

@@ -1,0 +1,609 @@
+/*
+ * The archive from C: document 01's whole replies, its story of a pool of two, the errors that were
+ * seen before, empty slices, lengths and broken tables. The last line is "N passed, M failed".
+ *
+ * Every slice is lent from a block of its own and of exactly its length, so that a memory checker
+ * sees an octet read or written outside.
+ */
+#include <stdint.h>
+#include <stdio.h>
+#include <stdlib.h>
+#include <string.h>
+
+#include "message.h"
+#include "pfcp_session.h"
+
+enum { FILLING = 0xA5 };
+
+static unsigned long passed;
+static unsigned long failed;
+
+static int check_at(int line, int holds, const char *what)
+{
+    if (holds) {
+        passed++;
+    } else {
+        failed++;
+        printf("line %d: %s\n", line, what);
+    }
+    return holds;
+}
+
+#define CHECK(holds) check_at(__LINE__, (holds) ? 1 : 0, #holds)
+
+static uint8_t *block(size_t length, int filling)
+{
+    uint8_t *octets = malloc(length > 0 ? length : 1);
+
+    if (!octets) {
+        fputs("no memory\n", stderr);
+        exit(2);
+    }
+    memset(octets, filling, length);
+    return octets;
+}
+
+static uint8_t *copy_of(const uint8_t *octets, size_t length)
+{
+    uint8_t *copy = block(length, 0);
+
+    if (length > 0)
+        memcpy(copy, octets, length);
+    return copy;
+}
+
+static int all_are(const uint8_t *octets, size_t length, uint8_t octet)
+{
+    for (size_t i = 0; i < length; i++)
+        if (octets[i] != octet)
+            return 0;
+    return 1;
+}
+
+/* An empty table of the unit 192.0.2.1 without IPv6. */
+static uint8_t *new_table(uint32_t first_teid, uint32_t pool_size)
+{
+    uint8_t *table = block(PFCP_TABLE_LENGTH, FILLING);
+
+    CHECK(pfcp_make_table(table, PFCP_TABLE_LENGTH, 0xC0000201, NULL, 0, first_teid, pool_size) ==
+          0);
+    return table;
+}
+
+/* The last answer. */
+static struct {
+    uint32_t outcome;
+    uint8_t octets[PFCP_REPLY_SPACE];
+    size_t used;
+} answer;
+
+/* One request with a reply space of 1,024; checks what holds of every answer. */
+static uint32_t ask_octets(uint8_t *table, const uint8_t *octets, size_t length)
+{
+    uint8_t *message = copy_of(octets, length);
+    uint8_t *reply = block(PFCP_REPLY_SPACE, FILLING);
+
+    answer.used = SIZE_MAX;
+    answer.outcome = pfcp_request(table, PFCP_TABLE_LENGTH, message, length, reply,
+                                  PFCP_REPLY_SPACE, &answer.used);
+    if (CHECK(answer.used <= PFCP_REPLY_SPACE)) {
+        CHECK((answer.outcome == 0) == (answer.used >= 16));
+        CHECK(all_are(reply + answer.used, PFCP_REPLY_SPACE - answer.used, FILLING));
+        memcpy(answer.octets, reply, PFCP_REPLY_SPACE);
+    }
+    CHECK(length == 0 || memcmp(message, octets, length) == 0);
+    free(message);
+    free(reply);
+    return answer.outcome;
+}
+
+/* One request that must be answered; gives the cause. */
+static unsigned ask(uint8_t *table, struct message *m)
+{
+    message_end(m);
+    if (!CHECK(ask_octets(table, m->octets, m->length) == 0))
+        return 0;
+    /* An establishment's reply has the Node ID (9 octets) before the cause. */
+    size_t cause = answer.octets[1] == 51 ? 16 + 9 : 16;
+    CHECK(number_at(answer.octets + cause, 4) == (IE_CAUSE << 16 | 1));
+    return answer.octets[cause + 4];
+}
+
+/* The Offending IE of the last answer, or 65536 if it has none. */
+static unsigned offending(void)
+{
+    size_t at = (answer.octets[1] == 51 ? 16 + 9 : 16) + 5;
+
+    if (answer.used != at + 6 || number_at(answer.octets + at, 4) != (IE_OFFENDING_IE << 16 | 2))
+        return 65536;
+    return (unsigned)number_at(answer.octets + at + 4, 2);
+}
+
+/* The TEID of the Created PDR or Created Traffic Endpoint with this ID in the last answer, or 0. */
+static uint32_t granted(unsigned group, unsigned id)
+{
+    size_t at = 16;
+
+    while (at + 4 <= answer.used) {
+        unsigned type = (unsigned)number_at(answer.octets + at, 2);
+        size_t length = (size_t)number_at(answer.octets + at + 2, 2);
+        const uint8_t *value = answer.octets + at + 4;
+        size_t id_octets = group == IE_CREATED_PDR ? 2 : 1;
+
+        if (type == group && number_at(value + 4, id_octets) == id)
+            return (uint32_t)number_at(value + 4 + id_octets + 4 + 1, 4);
+        at += 4 + length;
+    }
+    return 0;
+}
+
+static uint32_t free_teids(const uint8_t *table)
+{
+    uint32_t count = 0xA5A5A5A5;
+
+    CHECK(pfcp_free_count(table, PFCP_TABLE_LENGTH, &count) == 0);
+    return count;
+}
+
+static const struct tunnel choose = {.flags = CHOOSE | V4};
+static const struct tunnel choose_7 = {.flags = CHOOSE | CHOOSE_ID | V4, .choose_id = 7};
+
+static void start_establishment(struct message *m, uint64_t seid)
+{
+    message_start(m, ESTABLISHMENT, 0, 1);
+    put_f_seid(m, seid);
+}
+
+static unsigned establish_one_pdr(uint8_t *table, uint64_t seid, const struct tunnel *tunnel)
+{
+    struct message m;
+
+    start_establishment(&m, seid);
+    create_pdr(&m, 1, tunnel);
+    return ask(table, &m);
+}
+
+static unsigned modify_remove_pdr(uint8_t *table, uint64_t seid, uint16_t id)
+{
+    struct message m;
+
+    message_start(&m, MODIFICATION, seid, 2);
+    remove_pdr(&m, id);
+    return ask(table, &m);
+}
+
+static unsigned delete_session(uint8_t *table, uint64_t seid)
+{
+    struct message m;
+
+    message_start(&m, DELETION, seid, 1);
+    return ask(table, &m);
+}
+
+/* "Deletion of an unknown session, sequence 1, whole reply", and the first establishment's. */
+static void whole_replies(void)
+{
+    static const uint8_t unknown[] = {0x21, 0x37, 0x00, 0x11, 0, 0, 0,    0,    0,    0,   0,
+                                      0,    0x00, 0x00, 0x01, 0, 0, 0x13, 0x00, 0x01, 0x41};
+    static const uint8_t first[] = {
+        0x21, 0x33, 0x00, 0x42, 0x00, 0x00, 0x00, 0x00, 0x00, 0x00, 0x00, 0x01, 0x00, 0x00,
+        0x01, 0x00, 0x00, 0x3C, 0x00, 0x05, 0x00, 0xC0, 0x00, 0x02, 0x01, 0x00, 0x13, 0x00,
+        0x01, 0x01, 0x00, 0x39, 0x00, 0x0D, 0x02, 0x00, 0x00, 0x00, 0x00, 0x00, 0x00, 0x00,
+        0x01, 0xC0, 0x00, 0x02, 0x01, 0x00, 0x08, 0x00, 0x13, 0x00, 0x38, 0x00, 0x02, 0x00,
+        0x01, 0x00, 0x15, 0x00, 0x09, 0x01, 0x00, 0x00, 0x10, 0x00, 0xC0, 0x00, 0x02, 0x01};
+    uint8_t *table = new_table(4096, 4096);
+
+    CHECK(delete_session(table, 1) == 65);
+    CHECK(answer.used == sizeof unknown && memcmp(answer.octets, unknown, sizeof unknown) == 0);
+    CHECK(free_teids(table) == 4096);
+    CHECK(establish_one_pdr(table, 1, &choose) == 1);
+    CHECK(answer.used == sizeof first && memcmp(answer.octets, first, sizeof first) == 0);
+    CHECK(free_teids(table) == 4095);
+    free(table);
+}
+
+/* "Pool 4096, 4097": session 1 with PDRs 1, 2 sharing a CHOOSE ID and PDR 3 without one. */
+static uint8_t *pool_of_two(void)
+{
+    uint8_t *table = new_table(4096, 2);
+    struct message m;
+
+    start_establishment(&m, 1);
+    create_pdr(&m, 1, &choose_7);
+    create_pdr(&m, 2, &choose_7);
+    create_pdr(&m, 3, &choose);
+    CHECK(ask(table, &m) == 1);
+    CHECK(granted(IE_CREATED_PDR, 1) == 4096);
+    CHECK(granted(IE_CREATED_PDR, 2) == 4096);
+    CHECK(granted(IE_CREATED_PDR, 3) == 4097);
+    CHECK(free_teids(table) == 0);
+    return table;
+}
+
+static void pool_story(void)
+{
+    uint8_t *table = pool_of_two();
+    struct message m;
+
+    /* "Another session's CHOOSE: 75." */
+    CHECK(establish_one_pdr(table, 2, &choose) == 75);
+    CHECK(offending() == 65536);
+    /* "Removing PDR 1 keeps 4096; removing PDR 2 too frees it." */
+    CHECK(modify_remove_pdr(table, 1, 1) == 1);
+    CHECK(free_teids(table) == 0);
+    CHECK(modify_remove_pdr(table, 1, 2) == 1);
+    CHECK(free_teids(table) == 1);
+    CHECK(establish_one_pdr(table, 2, &choose) == 1);
+    CHECK(granted(IE_CREATED_PDR, 1) == 4096);
+    free(table);
+
+    /* "With both taken, removing PDR 3 and creating a CHOOSE PDR together: 75." */
+    table = pool_of_two();
+    message_start(&m, MODIFICATION, 1, 3);
+    remove_pdr(&m, 3);
+    create_pdr(&m, 4, &choose);
+    CHECK(ask(table, &m) == 75);
+    CHECK(free_teids(table) == 0);
+    CHECK(modify_remove_pdr(table, 1, 3) == 1);
+    message_start(&m, MODIFICATION, 1, 4);
+    create_pdr(&m, 4, &choose);
+    CHECK(ask(table, &m) == 1);
+    CHECK(granted(IE_CREATED_PDR, 4) == 4097);
+    free(table);
+}
+
+/* "A CHOOSE ID remembered into the next request" */
+static void choose_id_forgotten(void)
+{
+    uint8_t *table = new_table(4096, 10);
+    struct message m;
+
+    CHECK(establish_one_pdr(table, 1, &choose_7) == 1);
+    CHECK(granted(IE_CREATED_PDR, 1) == 4096);
+    message_start(&m, MODIFICATION, 1, 2);
+    create_pdr(&m, 2, &choose_7);
+    CHECK(ask(table, &m) == 1);
+    CHECK(granted(IE_CREATED_PDR, 2) == 4097);
+    CHECK(establish_one_pdr(table, 2, &choose_7) == 1);
+    CHECK(granted(IE_CREATED_PDR, 1) == 4098);
+    CHECK(free_teids(table) == 7);
+    free(table);
+}
+
+/* "a TEID freed with the first of two sharing PDRs" */
+static void shared_teid_stays(void)
+{
+    uint8_t *table = new_table(4096, 10);
+    struct message m;
+
+    start_establishment(&m, 1);
+    create_pdr(&m, 1, &choose_7);
+    create_pdr(&m, 2, &choose_7);
+    CHECK(ask(table, &m) == 1);
+    CHECK(free_teids(table) == 9);
+    CHECK(modify_remove_pdr(table, 1, 1) == 1);
+    CHECK(free_teids(table) == 9);
+    CHECK(establish_one_pdr(table, 2, &choose) == 1);
+    CHECK(granted(IE_CREATED_PDR, 1) == 4097);
+    free(table);
+}
+
+static unsigned establish_with_f_seid(uint8_t *table, const uint8_t *value, size_t length)
+{
+    struct message m;
+
+    message_start(&m, ESTABLISHMENT, 0, 1);
+    put_element(&m, IE_F_SEID, value, length);
+    create_pdr(&m, 1, NULL);
+    return ask(table, &m);
+}
+
+/* "F-SEID's V4 and V6 bits read in F-TEID order" */
+static void f_seid_families(void)
+{
+    uint8_t *table = new_table(4096, 10);
+    uint8_t value[29] = {0, 0, 0, 0, 0, 0, 0, 0, 5, 10, 0, 0, 1};
+
+    value[0] = 2; /* V4: 13 octets are enough */
+    CHECK(establish_with_f_seid(table, value, 13) == 1);
+    value[0] = 1; /* V6: 25 are needed */
+    value[8] = 6;
+    CHECK(establish_with_f_seid(table, value, 13) == 68);
+    CHECK(offending() == IE_F_SEID);
+    CHECK(establish_with_f_seid(table, value, 24) == 68);
+    CHECK(establish_with_f_seid(table, value, 25) == 1);
+    value[0] = 3; /* both: 29 */
+    value[8] = 7;
+    CHECK(establish_with_f_seid(table, value, 28) == 68);
+    CHECK(establish_with_f_seid(table, value, 29) == 1);
+    value[0] = 0;
+    value[8] = 8;
+    CHECK(establish_with_f_seid(table, value, 29) == 69);
+    CHECK(offending() == IE_F_SEID);
+    free(table);
+}
+
+/* "records half made before a 75" */
+static void nothing_half_made(void)
+{
+    uint8_t *table = new_table(4096, 3);
+    struct message m;
+
+    CHECK(establish_one_pdr(table, 1, &choose) == 1);
+    uint8_t *before = copy_of(table, PFCP_TABLE_LENGTH);
+
+    start_establishment(&m, 2);
+    create_endpoint(&m, 1, &choose);
+    create_pdr(&m, 1, &choose);
+    create_pdr(&m, 2, &choose);
+    CHECK(ask(table, &m) == 75);
+    CHECK(memcmp(table, before, PFCP_TABLE_LENGTH) == 0);
+    CHECK(free_teids(table) == 2);
+
+    message_start(&m, MODIFICATION, 1, 1);
+    for (uint16_t id = 2; id <= 17; id++)
+        create_pdr(&m, id, NULL);
+    CHECK(ask(table, &m) == 75);
+    CHECK(memcmp(table, before, PFCP_TABLE_LENGTH) == 0);
+    free(before);
+    free(table);
+}
+
+/* Empty slices may have no pointer. */
+static void empty_slices(void)
+{
+    uint8_t *table = new_table(4096, 10);
+    uint8_t *reply = block(PFCP_REPLY_SPACE, FILLING);
+    uint8_t octet[16] = {0};
+    uint32_t count = 7;
+    size_t used = 7;
+
+    CHECK(pfcp_make_table(NULL, 0, 0, NULL, 0, 1, 1) == 1);
+    CHECK(pfcp_make_table(NULL, 0, 0, octet, 16, 1, 1) == 1);
+    CHECK(pfcp_free_count(NULL, 0, &count) == 1 && count == 0);
+    CHECK(pfcp_request(NULL, 0, NULL, 0, NULL, 0, &used) == 1 && used == 0);
+    used = 7;
+    CHECK(pfcp_request(table, PFCP_TABLE_LENGTH, NULL, 0, NULL, 0, &used) == 2 && used == 0);
+    used = 7;
+    CHECK(pfcp_request(table, PFCP_TABLE_LENGTH, NULL, 0, reply, PFCP_REPLY_SPACE, &used) == 4);
+    CHECK(used == 0 && all_are(reply, PFCP_REPLY_SPACE, FILLING));
+    used = 7;
+    CHECK(pfcp_request(NULL, 0, octet, 16, reply, PFCP_REPLY_SPACE, &used) == 1 && used == 0);
+    CHECK(all_are(reply, PFCP_REPLY_SPACE, FILLING));
+    CHECK(free_teids(table) == 10);
+    free(reply);
+    free(table);
+}
+
+/* Tables of another length, small reply spaces, long and short messages, other headers. */
+static void lengths(void)
+{
+    struct message m;
+    size_t used;
+
+    CHECK(pfcp_table_length() == PFCP_TABLE_LENGTH);
+    for (size_t length = PFCP_TABLE_LENGTH - 1; length <= PFCP_TABLE_LENGTH + 1; length += 2) {
+        uint8_t *table = block(length, FILLING);
+        uint8_t *reply = block(PFCP_REPLY_SPACE, FILLING);
+        uint32_t count = 7;
+
+        CHECK(pfcp_make_table(table, length, 0xC0000201, NULL, 0, 1, 1) == 1);
+        CHECK(all_are(table, length, FILLING));
+        CHECK(pfcp_free_count(table, length, &count) == 1 && count == 0);
+        message_start(&m, DELETION, 1, 1);
+        message_end(&m);
+        used = 7;
+        CHECK(pfcp_request(table, length, m.octets, m.length, reply, PFCP_REPLY_SPACE, &used) == 1);
+        CHECK(used == 0 && all_are(reply, PFCP_REPLY_SPACE, FILLING));
+        free(reply);
+        free(table);
+    }
+
+    uint8_t *table = new_table(4096, 10);
+    uint8_t *before = copy_of(table, PFCP_TABLE_LENGTH);
+    uint8_t *small = block(PFCP_REPLY_SPACE - 1, FILLING);
+
+    start_establishment(&m, 1);
+    create_pdr(&m, 1, &choose);
+    message_end(&m);
+    used = 7;
+    CHECK(pfcp_request(table, PFCP_TABLE_LENGTH, m.octets, m.length, small, PFCP_REPLY_SPACE - 1,
+                       &used) == 2);
+    CHECK(used == 0 && all_are(small, PFCP_REPLY_SPACE - 1, FILLING));
+    free(small);
+
+    /* A vendor element fills the message up to 2,049 octets, then to 2,048. */
+    static const uint8_t zeros[PFCP_LONGEST_REQUEST];
+    size_t room = PFCP_LONGEST_REQUEST - m.length - 4;
+
+    put_element(&m, 40000, zeros, room + 1);
+    message_end(&m);
+    CHECK(m.length == PFCP_LONGEST_REQUEST + 1 && ask_octets(table, m.octets, m.length) == 3);
+    CHECK(memcmp(table, before, PFCP_TABLE_LENGTH) == 0);
+    start_establishment(&m, 1);
+    create_pdr(&m, 1, &choose);
+    put_element(&m, 40000, zeros, room);
+    message_end(&m);
+    CHECK(m.length == PFCP_LONGEST_REQUEST && ask_octets(table, m.octets, m.length) == 0);
+    CHECK(granted(IE_CREATED_PDR, 1) == 4096);
+    CHECK(delete_session(table, 1) == 1);
+    CHECK(memcmp(table, before, PFCP_TABLE_LENGTH) == 0);
+
+    message_start(&m, DELETION, 1, 1);
+    message_end(&m);
+    CHECK(ask_octets(table, m.octets, 15) == 4);
+    CHECK(ask_octets(table, m.octets, 16) == 0);
+    m.octets[3]++;
+    CHECK(ask_octets(table, m.octets, 16) == 4);
+    m.octets[3]--;
+    static const uint8_t wrong_first[] = {0x20, 0x25, 0x01, 0x41, 0xE1};
+    for (size_t i = 0; i < sizeof wrong_first; i++) {
+        m.octets[0] = wrong_first[i];
+        CHECK(ask_octets(table, m.octets, 16) == 4);
+    }
+    m.octets[0] = 0x3B; /* only ignored bits differ */
+    CHECK(ask_octets(table, m.octets, 16) == 0);
+    static const uint8_t other_types[] = {0, 1, 5, 49, 51, 53, 55, 56, 255};
+    for (size_t i = 0; i < sizeof other_types; i++) {
+        m.octets[1] = other_types[i];
+        CHECK(ask_octets(table, m.octets, 16) == 5);
+    }
+    CHECK(memcmp(table, before, PFCP_TABLE_LENGTH) == 0);
+    free(before);
+    free(table);
+}
+
+/* Settings that are made and refused. */
+static void settings(void)
+{
+    static const struct {
+        size_t ipv6_len;
+        uint32_t first_teid;
+        uint32_t pool_size;
+        uint32_t expected;
+    } cases[] = {
+        {0, 1, 1, 0},          {0, 1, 4096, 0},          {0, 0, 1, 1},
+        {0, 1, 0, 1},          {0, 1, 4097, 1},          {0, 0xFFFFFFFF, 1, 0},
+        {0, 0xFFFFFFFF, 2, 1}, {0, 0xFFFFF000, 4096, 0}, {0, 0xFFFFF001, 4096, 1},
+        {16, 4096, 2, 0},      {15, 4096, 2, 1},         {17, 4096, 2, 1},
+        {1, 4096, 2, 1},       {0, 4096, 0xFFFFFFFF, 1}, {16, 0, 0, 1},
+    };
+
+    for (size_t i = 0; i < sizeof cases / sizeof cases[0]; i++) {
+        uint8_t *table = block(PFCP_TABLE_LENGTH, FILLING);
+        uint8_t *ipv6 = block(cases[i].ipv6_len, 0x20);
+        uint32_t made = pfcp_make_table(table, PFCP_TABLE_LENGTH, 0xC0000201, ipv6,
+                                        cases[i].ipv6_len, cases[i].first_teid, cases[i].pool_size);
+
+        CHECK(made == cases[i].expected);
+        if (made == 0) {
+            CHECK(number_at(table, 4) == 0xC0000201);
+            CHECK(table[4] == (cases[i].ipv6_len == 16));
+            CHECK(all_are(table + 5, 16, cases[i].ipv6_len == 16 ? 0x20 : 0));
+            CHECK(number_at(table + 21, 4) == cases[i].first_teid);
+            CHECK(number_at(table + 25, 4) == cases[i].pool_size);
+            CHECK(all_are(table + 29, PFCP_TABLE_LENGTH - 29, 0));
+            CHECK(free_teids(table) == cases[i].pool_size);
+        } else {
+            CHECK(all_are(table, PFCP_TABLE_LENGTH, FILLING));
+        }
+        free(ipv6);
+        free(table);
+    }
+}
+
+/* Octets that break a table with one session; outcome 1 comes before all others. */
+static void broken_tables(void)
+{
+    static const struct {
+        size_t at;
+        uint8_t octet;
+    } damage[] = {
+        {4, 2},               /* presence of the IPv6 address */
+        {20, 1},              /* an address that is not there */
+        {25, 1},              /* pool size */
+        {30, 0},              /* one session fewer: its slot is unused room */
+        {30, 65},             /* too many sessions */
+        {31 + 7, 0},          /* SEID 0 */
+        {31 + 8, 17},         /* too many PDRs */
+        {31 + 11 + 6, 2},     /* presence of the FAR ID */
+        {31 + 11 + 11, 16},   /* source interface */
+        {31 + 11 + 12, 3},    /* place */
+        {31 + 11 + 15, 0x20}, /* a TEID outside the pool */
+        {31 + 11 + 17, 0},    /* no family */
+        {31 + 11 + 17, 3},    /* a family that the unit lacks */
+        {31 + 11 + 18, 1},    /* an endpoint ID beside a TEID */
+        {31 + 315, 1},        /* unused room of endpoints */
+        {31 + 363, 1},        /* unused room of FQ-CSIDs */
+        {31 + 483 + 7, 1},    /* unused room of sessions */
+        {PFCP_TABLE_LENGTH - 1, 1},
+    };
+    uint8_t *table = new_table(4096, 10);
+    uint8_t *reply = block(PFCP_REPLY_SPACE, FILLING);
+    struct message m;
+
+    CHECK(establish_one_pdr(table, 1, &choose) == 1);
+    uint8_t *before = copy_of(table, PFCP_TABLE_LENGTH);
+    message_start(&m, DELETION, 1, 1);
+    message_end(&m);
+    for (size_t i = 0; i < sizeof damage / sizeof damage[0]; i++) {
+        uint32_t count = 7;
+        size_t used = 7;
+        uint8_t was = table[damage[i].at];
+
+        table[damage[i].at] = damage[i].octet;
+        uint8_t *damaged = copy_of(table, PFCP_TABLE_LENGTH);
+        CHECK(pfcp_free_count(table, PFCP_TABLE_LENGTH, &count) == 1 && count == 0);
+        CHECK(pfcp_request(table, PFCP_TABLE_LENGTH, m.octets, m.length, reply, PFCP_REPLY_SPACE,
+                           &used) == 1);
+        CHECK(used == 0 && all_are(reply, PFCP_REPLY_SPACE, FILLING));
+        used = 7;
+        CHECK(pfcp_request(table, PFCP_TABLE_LENGTH, m.octets, 3, reply, 5, &used) == 1 &&
+              used == 0);
+        CHECK(memcmp(table, damaged, PFCP_TABLE_LENGTH) == 0);
+        free(damaged);
+        table[damage[i].at] = was;
+    }
+    CHECK(memcmp(table, before, PFCP_TABLE_LENGTH) == 0);
+    CHECK(delete_session(table, 1) == 1);
+    free(before);
+    free(reply);
+    free(table);
+}
+
+/* A session restored into an empty table makes the same table again. */
+static void restoration(void)
+{
+    static const uint8_t ipv4[4] = {192, 0, 2, 1};
+    static const uint8_t other[4] = {192, 0, 2, 2};
+    struct tunnel existing = {.flags = V4, .teid = 4096, .ipv4 = ipv4};
+    uint8_t *table = new_table(4096, 10);
+    uint8_t *fresh = new_table(4096, 10);
+    struct message m;
+
+    CHECK(establish_one_pdr(table, 1, &choose) == 1);
+    start_establishment(&m, 1);
+    put_number(&m, IE_FLAGS, 1, 1);
+    create_pdr(&m, 1, &existing);
+    CHECK(ask(fresh, &m) == 1);
+    CHECK(granted(IE_CREATED_PDR, 1) == 0);
+    CHECK(memcmp(table, fresh, PFCP_TABLE_LENGTH) == 0);
+    /* Again: 64 for the live SEID; another SEID: 73, the TEID is held. */
+    CHECK(ask(fresh, &m) == 64);
+    start_establishment(&m, 2);
+    put_number(&m, IE_FLAGS, 1, 1);
+    create_pdr(&m, 1, &existing);
+    CHECK(ask(fresh, &m) == 73);
+    existing.teid = 4097;
+    existing.ipv4 = other;
+    start_establishment(&m, 2);
+    put_number(&m, IE_FLAGS, 1, 1);
+    create_pdr(&m, 1, &existing);
+    CHECK(ask(fresh, &m) == 73);
+    /* CHOOSE inside a restoration, and a given F-TEID outside of one: 71. */
+    start_establishment(&m, 2);
+    put_number(&m, IE_FLAGS, 1, 1);
+    create_pdr(&m, 1, &choose);
+    CHECK(ask(fresh, &m) == 71);
+    CHECK(establish_one_pdr(fresh, 2, &existing) == 71);
+    CHECK(memcmp(table, fresh, PFCP_TABLE_LENGTH) == 0);
+    free(fresh);
+    free(table);
+}
+
+int main(void)
+{
+    whole_replies();
+    pool_story();
+    choose_id_forgotten();
+    shared_teid_stays();
+    f_seid_families();
+    nothing_half_made();
+    empty_slices();
+    lengths();
+    settings();
+    broken_tables();
+    restoration();
+    printf("%lu passed, %lu failed\n", passed, failed);
+    return failed == 0 ? EXIT_SUCCESS : EXIT_FAILURE;
+}

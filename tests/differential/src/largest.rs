@@ -1,0 +1,40 @@
+//! A table with everything that it has room for: 64 sessions of 16 PDRs, 8 endpoints and 6
+//! FQ-CSIDs, each record with a TEID of its own.
+
+use second::element::fq_csid::NodeId;
+use second::session::{Families, HeldCsid, Local, Pdr, Session, Sessions, Tunnel};
+use second::settings::Settings;
+
+pub fn settings() -> Settings {
+    let ipv6 = [0x20, 1, 0x0D, 0xB8, 0, 0, 0, 0, 0, 0, 0, 0, 0, 0, 0, 1];
+    Settings { ipv4: [192, 0, 2, 1], ipv6: Some(ipv6), first: 4096, size: 1536 }
+}
+
+pub fn sessions() -> Sessions {
+    (0..64).map(|number| (1 + 1000 * u64::from(number), session(number))).collect()
+}
+
+fn session(number: u32) -> Session {
+    let first = settings().first + 24 * number;
+    let families = Families { v4: true, v6: true };
+    let mut session = Session::default();
+    for id in 0..16 {
+        let tunnel = Tunnel { teid: first + 8 + u32::from(id), families };
+        let pdr = Pdr {
+            precedence: u32::MAX - u32::from(id),
+            far_id: Some(number),
+            source_interface: (id % 16) as u8,
+            local: Local::Tunnel(tunnel),
+        };
+        session.pdrs.insert(id, pdr);
+    }
+    for id in 0..8 {
+        let tunnel = Tunnel { teid: first + u32::from(id), families };
+        session.endpoints.insert(id, tunnel);
+    }
+    for node_type in 0..6 {
+        let node = NodeId::Ipv6([node_type + 1; 16]);
+        session.fq_csids.insert(node_type, HeldCsid { node, csid: 0xFFFF });
+    }
+    session
+}

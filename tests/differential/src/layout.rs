@@ -1,0 +1,178 @@
+//! The table's octets as `docs/layout.md` gives them: written from records, and read into them.
+
+use second::element::fq_csid::NodeId;
+use second::session::{records_hold, Families, HeldCsid, Local, Pdr, Session, Sessions, Tunnel};
+use second::settings::Settings;
+
+pub const TABLE: usize = 30_943;
+pub const SLOTS: usize = 31;
+pub const SLOT: usize = 483;
+pub const PDRS: usize = 11;
+pub const PDR: usize = 19;
+pub const ENDPOINTS: usize = 315;
+pub const ENDPOINT: usize = 6;
+pub const FQ_CSIDS: usize = 363;
+pub const FQ_CSID: usize = 20;
+
+/// The octets of a table. There must be room for the records; they may break the rules otherwise.
+pub fn encode(settings: &Settings, sessions: &Sessions) -> Vec<u8> {
+    let mut table = Vec::with_capacity(TABLE);
+    table.extend(settings.ipv4);
+    table.push(u8::from(settings.ipv6.is_some()));
+    table.extend(settings.ipv6.unwrap_or([0; 16]));
+    table.extend(settings.first.to_be_bytes());
+    table.extend(settings.size.to_be_bytes());
+    table.extend((sessions.len() as u16).to_be_bytes());
+    for (seid, session) in sessions {
+        encode_session(&mut table, *seid, session);
+    }
+    assert!(table.len() <= TABLE, "more sessions than there is room for");
+    table.resize(TABLE, 0);
+    table
+}
+
+fn encode_session(table: &mut Vec<u8>, seid: u64, session: &Session) {
+    let start = table.len();
+    table.extend(seid.to_be_bytes());
+    table.push(session.pdrs.len() as u8);
+    table.push(session.endpoints.len() as u8);
+    table.push(session.fq_csids.len() as u8);
+    for (id, pdr) in &session.pdrs {
+        table.extend(id.to_be_bytes());
+        table.extend(pdr.precedence.to_be_bytes());
+        table.push(u8::from(pdr.far_id.is_some()));
+        table.extend(pdr.far_id.unwrap_or(0).to_be_bytes());
+        table.push(pdr.source_interface);
+        let (place, teid, flags, endpoint) = match pdr.local {
+            Local::Neither => (0, 0, 0, 0),
+            Local::Tunnel(tunnel) => (1, tunnel.teid, flags(tunnel.families), 0),
+            Local::Endpoint(id) => (2, 0, 0, id),
+        };
+        table.push(place);
+        table.extend(teid.to_be_bytes());
+        table.push(flags);
+        table.push(endpoint);
+    }
+    table.resize(start + ENDPOINTS, 0);
+    for (id, tunnel) in &session.endpoints {
+        table.push(*id);
+        table.extend(tunnel.teid.to_be_bytes());
+        table.push(flags(tunnel.families));
+    }
+    table.resize(start + FQ_CSIDS, 0);
+    for (node_type, held) in &session.fq_csids {
+        let slot = table.len();
+        table.push(*node_type);
+        match held.node {
+            NodeId::Ipv4(address) => {
+                table.push(0);
+                table.extend(address);
+            }
+            NodeId::Ipv6(address) => {
+                table.push(1);
+                table.extend(address);
+            }
+            NodeId::Operator { country_and_network, number } => {
+                table.push(2);
+                table.extend((country_and_network << 12 | u32::from(number)).to_be_bytes());
+            }
+        }
+        table.resize(slot + 18, 0);
+        table.extend(held.csid.to_be_bytes());
+    }
+    table.resize(start + SLOT, 0);
+}
+
+fn flags(families: Families) -> u8 {
+    u8::from(families.v4) + 2 * u8::from(families.v6)
+}
+
+/// The settings and records of a table; nothing where an octet has no meaning at all.
+pub fn decode(table: &[u8]) -> Option<(Settings, Sessions)> {
+    if table.len() != TABLE {
+        return None;
+    }
+    let settings = Settings {
+        ipv4: array(table, 0),
+        ipv6: (table[4] != 0).then(|| array(table, 5)),
+        first: u32::from_be_bytes(array(table, 21)),
+        size: u32::from_be_bytes(array(table, 25)),
+    };
+    let count = usize::from(u16::from_be_bytes(array(table, 29)));
+    if count > 64 {
+        return None;
+    }
+    let mut sessions = Sessions::new();
+    for slot in table[SLOTS..].chunks(SLOT).take(count) {
+        sessions.insert(u64::from_be_bytes(array(slot, 0)), decode_session(slot)?);
+    }
+    Some((settings, sessions))
+}
+
+fn decode_session(slot: &[u8]) -> Option<Session> {
+    let counts = (usize::from(slot[8]), usize::from(slot[9]), usize::from(slot[10]));
+    if counts.0 > 16 || counts.1 > 8 || counts.2 > 6 {
+        return None;
+    }
+    let mut session = Session::default();
+    for record in slot[PDRS..ENDPOINTS].chunks(PDR).take(counts.0) {
+        let local = match record[12] {
+            0 => Local::Neither,
+            1 => Local::Tunnel(tunnel(&record[13..18])),
+            2 => Local::Endpoint(record[18]),
+            _ => return None,
+        };
+        let pdr = Pdr {
+            precedence: u32::from_be_bytes(array(record, 2)),
+            far_id: (record[6] != 0).then(|| u32::from_be_bytes(array(record, 7))),
+            source_interface: record[11],
+            local,
+        };
+        session.pdrs.insert(u16::from_be_bytes(array(record, 0)), pdr);
+    }
+    for record in slot[ENDPOINTS..FQ_CSIDS].chunks(ENDPOINT).take(counts.1) {
+        session.endpoints.insert(record[0], tunnel(&record[1..6]));
+    }
+    for record in slot[FQ_CSIDS..].chunks(FQ_CSID).take(counts.2) {
+        let word = u32::from_be_bytes(array(record, 2));
+        let node = match record[1] {
+            0 => NodeId::Ipv4(array(record, 2)),
+            1 => NodeId::Ipv6(array(record, 2)),
+            2 => {
+                NodeId::Operator { country_and_network: word >> 12, number: (word & 0xFFF) as u16 }
+            }
+            _ => return None,
+        };
+        let csid = u16::from_be_bytes(array(record, 18));
+        session.fq_csids.insert(record[0], HeldCsid { node, csid });
+    }
+    Some(session)
+}
+
+fn tunnel(octets: &[u8]) -> Tunnel {
+    let families = Families { v4: octets[4] & 1 != 0, v6: octets[4] & 2 != 0 };
+    Tunnel { teid: u32::from_be_bytes(array(octets, 0)), families }
+}
+
+fn array<const N: usize>(octets: &[u8], at: usize) -> [u8; N] {
+    octets[at..at + N].try_into().expect("a slice of N octets")
+}
+
+/// The settings and records of a sound table, or why it is broken: "exactly when its length is not
+/// 30,943, its settings or records break a rule of document 01, or its octets are not the ones that
+/// its own settings and records encode to".
+pub fn sound(table: &[u8]) -> Result<(Settings, Sessions), String> {
+    if table.len() != TABLE {
+        return Err("a wrong length".to_string());
+    }
+    let (settings, sessions) = decode(table).ok_or("an octet without a meaning")?;
+    if !settings.are_allowed() {
+        return Err("settings that are not allowed".to_string());
+    }
+    // Whether the records hold comes first, so that the counters tell the rules apart.
+    records_hold(&settings, &sessions)?;
+    match encode(&settings, &sessions) == table {
+        true => Ok((settings, sessions)),
+        false => Err("octets that its records do not encode to".to_string()),
+    }
+}

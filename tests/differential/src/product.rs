@@ -1,0 +1,74 @@
+//! The four calls of a product. Empty slices are passed as null.
+
+pub type TableLength = unsafe extern "C" fn() -> usize;
+pub type MakeTable = unsafe extern "C" fn(*mut u8, usize, u32, *const u8, usize, u32, u32) -> u32;
+pub type FreeCount = unsafe extern "C" fn(*const u8, usize, *mut u32) -> u32;
+pub type Request =
+    unsafe extern "C" fn(*mut u8, usize, *const u8, usize, *mut u8, usize, *mut usize) -> u32;
+
+#[derive(Clone, Copy)]
+pub struct Product {
+    pub table_length: TableLength,
+    pub make_table: MakeTable,
+    pub free_count: FreeCount,
+    pub request: Request,
+}
+
+impl Product {
+    pub fn table_length(&self) -> usize {
+        unsafe { (self.table_length)() }
+    }
+
+    pub fn make_table(
+        &self,
+        table: &mut [u8],
+        ipv4: [u8; 4],
+        ipv6: &[u8],
+        first: u32,
+        size: u32,
+    ) -> u32 {
+        let (pointer, length) = (pointer_mut(table), table.len());
+        let ipv4 = u32::from_be_bytes(ipv4);
+        unsafe {
+            (self.make_table)(pointer, length, ipv4, self::pointer(ipv6), ipv6.len(), first, size)
+        }
+    }
+
+    /// The outcome and the count.
+    pub fn free_count(&self, table: &[u8]) -> (u32, u32) {
+        let mut count = 0xA5A5_A5A5;
+        let outcome = unsafe { (self.free_count)(pointer(table), table.len(), &mut count) };
+        (outcome, count)
+    }
+
+    /// The outcome and the length of the reply.
+    pub fn request(&self, table: &mut [u8], message: &[u8], space: &mut [u8]) -> (u32, usize) {
+        let mut used = usize::MAX;
+        let outcome = unsafe {
+            (self.request)(
+                pointer_mut(table),
+                table.len(),
+                pointer(message),
+                message.len(),
+                pointer_mut(space),
+                space.len(),
+                &mut used,
+            )
+        };
+        (outcome, used)
+    }
+}
+
+fn pointer(octets: &[u8]) -> *const u8 {
+    match octets.is_empty() {
+        true => std::ptr::null(),
+        false => octets.as_ptr(),
+    }
+}
+
+fn pointer_mut(octets: &mut [u8]) -> *mut u8 {
+    match octets.is_empty() {
+        true => std::ptr::null_mut(),
+        false => octets.as_mut_ptr(),
+    }
+}

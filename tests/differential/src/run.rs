@@ -1,0 +1,519 @@
+//! The comparison: generated sequences of calls, restorations, and damaged tables.
+
+use std::collections::BTreeMap;
+
+use second::coverage::Coverage;
+use second::generate::random::Random;
+use second::generate::{Call, Flavour, Generator};
+use second::live::LiveSet;
+use second::restoration::{self, Envelope};
+use second::session::Sessions;
+use second::settings::Settings;
+use second::unit::{Decision, Unit};
+
+use crate::crowded;
+use crate::largest;
+use crate::layout::{self, TABLE};
+use crate::product::Product;
+use crate::spoil::{self, REASONS};
+
+/// From this many calls on, a run must have met every counter.
+pub const CALLS_FOR_WHOLE_COVERAGE: usize = 20_000;
+
+/// Generated calls on the largest table, before the sequences.
+const CALLS_ON_LARGEST: usize = 500;
+
+/// The octet around lent slices, and in a reply space before a call.
+const FILLING: u8 = 0xA5;
+const GUARD: usize = 64;
+
+/// Octets to lend, with guards before and after them.
+struct Lent {
+    octets: Vec<u8>,
+}
+
+impl Lent {
+    fn new(content: &[u8]) -> Lent {
+        let mut octets = vec![FILLING; GUARD];
+        octets.extend(content);
+        octets.extend([FILLING; GUARD]);
+        Lent { octets }
+    }
+
+    fn filled(length: usize) -> Lent {
+        Lent { octets: vec![FILLING; GUARD + length + GUARD] }
+    }
+
+    fn lend(&mut self) -> &mut [u8] {
+        let end = self.octets.len() - GUARD;
+        &mut self.octets[GUARD..end]
+    }
+
+    fn content(&self) -> &[u8] {
+        &self.octets[GUARD..self.octets.len() - GUARD]
+    }
+
+    fn guards_hold(&self) -> bool {
+        let (first, last) = (&self.octets[..GUARD], &self.octets[self.octets.len() - GUARD..]);
+        first.iter().chain(last).all(|octet| *octet == FILLING)
+    }
+}
+
+/// What a call of the product gave: outcome, reply and the reply space after it.
+struct Answer {
+    outcome: u32,
+    used: usize,
+    space: Lent,
+}
+
+impl Answer {
+    fn reply(&self) -> &[u8] {
+        let space = self.space.content();
+        &space[..self.used.min(space.len())]
+    }
+
+    fn rest_is_unchanged(&self) -> bool {
+        let space = self.space.content();
+        space[self.used.min(space.len())..].iter().all(|octet| *octet == FILLING)
+            && self.space.guards_hold()
+    }
+}
+
+/// What one sequence has brought about, on both sides.
+struct State {
+    unit: Unit,
+    live: LiveSet,
+    table: Lent,
+}
+
+pub struct Report {
+    pub calls: usize,
+    pub restored: usize,
+    pub damaged: usize,
+    /// Damaged tables that were sound all the same.
+    pub still_sound: usize,
+    pub passed: u64,
+    pub failures: Vec<String>,
+    pub coverage: Coverage,
+    /// How often the product gave each host outcome.
+    pub outcomes: [u64; 6],
+    /// How often a table was broken for each reason.
+    pub reasons: BTreeMap<&'static str, u64>,
+}
+
+impl Report {
+    fn new() -> Report {
+        Report {
+            calls: 0,
+            restored: 0,
+            damaged: 0,
+            still_sound: 0,
+            passed: 0,
+            failures: Vec::new(),
+            coverage: Coverage::new(),
+            outcomes: [0; 6],
+            reasons: REASONS.iter().map(|reason| (*reason, 0)).collect(),
+        }
+    }
+
+    /// Notes a check; gives back whether it held.
+    fn check(&mut self, holds: bool, what: impl FnOnce() -> String) -> bool {
+        match holds {
+            true => self.passed += 1,
+            false => self.failures.push(format!("call {}: {}", self.calls, what())),
+        }
+        holds
+    }
+
+    /// What a whole run should have met and has not.
+    pub fn unmet(&self) -> Vec<String> {
+        let counters = self.coverage.unmet();
+        let mut unmet: Vec<String> = counters.iter().map(|counter| counter.to_string()).collect();
+        for (number, count) in self.outcomes.iter().enumerate() {
+            if *count == 0 {
+                unmet.push(format!("outcome {number} of the product"));
+            }
+        }
+        for (reason, count) in &self.reasons {
+            if *count == 0 {
+                unmet.push(format!("a table broken by: {reason}"));
+            }
+        }
+        if self.still_sound == 0 {
+            unmet.push("a damaged table that is sound".to_string());
+        }
+        unmet
+    }
+}
+
+/// Runs so many generated calls from a seed.
+pub fn run(product: &Product, seed: u64, calls: usize) -> Report {
+    let mut run = Run { product, report: Report::new(), random: Random::new(!seed) };
+    run.fixed_settings();
+    run.largest_table(&mut Generator::new(!seed));
+    run.crowded_messages();
+    let mut generator = Generator::new(seed);
+    while run.report.calls < calls && run.report.failures.len() < 20 {
+        run.sequence(&mut generator, calls);
+    }
+    if calls >= CALLS_FOR_WHOLE_COVERAGE {
+        for what in run.report.unmet() {
+            run.report.check(false, || format!("never met: {what}"));
+        }
+        let whole = run.report.unmet().is_empty();
+        run.report.check(whole, || "the coverage is not whole".to_string());
+    }
+    run.report
+}
+
+struct Run<'a> {
+    product: &'a Product,
+    report: Report,
+    random: Random,
+}
+
+impl Run<'_> {
+    /// One generated sequence. It ends at its first difference.
+    fn sequence(&mut self, generator: &mut Generator, calls: usize) {
+        let mut scenario = generator.scenario();
+        let Some(mut state) = self.empty_state(&scenario.settings) else { return };
+        for number in 0..scenario.calls.min(calls - self.report.calls) {
+            let call = generator.call(&mut scenario, &state.live.sessions);
+            let same = self.one_call(&mut state, &call);
+            self.report.calls += 1;
+            if !same {
+                return;
+            }
+            if number % 4 == 3 {
+                self.damaged_table(&state, &call);
+            }
+            if number % 60 == 59 {
+                self.restore_all(&state);
+            }
+        }
+        self.restore_all(&state);
+        let positions = if scenario.flavour == Flavour::Crowd { 100 } else { 25 };
+        self.single_octets(state.table.content(), positions);
+    }
+
+    fn empty_table(&mut self, settings: &Settings) -> Option<Lent> {
+        // Made over any content.
+        let mut content = vec![0; TABLE];
+        let filling = self.random.octet();
+        content.fill(filling);
+        let mut table = Lent::new(&content);
+        let ipv6: &[u8] = settings.ipv6.as_ref().map_or(&[], |address| address);
+        let made = self.product.make_table(
+            table.lend(),
+            settings.ipv4,
+            ipv6,
+            settings.first,
+            settings.size,
+        );
+        let right = made == 0
+            && table.guards_hold()
+            && table.content() == layout::encode(settings, &Sessions::new());
+        self.report.check(right, || format!("an empty table for {settings:?}")).then_some(table)
+    }
+
+    fn empty_state(&mut self, settings: &Settings) -> Option<State> {
+        let table = self.empty_table(settings)?;
+        let unit = Unit::new(settings.clone()).expect("settings that are allowed");
+        Some(State { unit, live: LiveSet::new(), table })
+    }
+
+    fn ask(&mut self, table: &mut Lent, message: &[u8], space: usize) -> Answer {
+        let mut space = Lent::filled(space);
+        let (outcome, used) = self.product.request(table.lend(), message, space.lend());
+        if let Some(count) = self.report.outcomes.get_mut(outcome as usize) {
+            *count += 1;
+        }
+        Answer { outcome, used, space }
+    }
+
+    /// One call on both sides; whether all was the same.
+    fn one_call(&mut self, state: &mut State, call: &Call) -> bool {
+        let before = state.unit.sessions().clone();
+        let table_before = state.table.content().to_vec();
+        let decision = state.unit.decide(&call.message, call.reply_space);
+        self.report.coverage.decided(&call.message, call.reply_space, &decision, &before);
+        let mut expected = vec![FILLING; call.reply_space];
+        let outcome = state.unit.request(&call.message, &mut expected);
+        expected.truncate(outcome.reply_length);
+
+        let answer = self.ask(&mut state.table, &call.message, call.reply_space);
+        let what = |part: &str| format!("{part} to the message {}", hexadecimal(&call.message));
+        let report = &mut self.report;
+        let mut same = report.check(answer.outcome == u32::from(outcome.number), || {
+            what(&format!("outcome {} instead of {}", answer.outcome, outcome.number))
+        });
+        same &= report.check(answer.used == outcome.reply_length, || what("another reply length"));
+        same &= report.check(answer.reply() == expected, || {
+            what(&format!(
+                "reply {} instead of {}",
+                hexadecimal(answer.reply()),
+                hexadecimal(&expected)
+            ))
+        });
+        same &= report.check(answer.rest_is_unchanged(), || what("octets after the reply, "));
+
+        // "Any cause but 1 leaves the table unchanged."
+        let table = state.table.content();
+        if !matches!(decision, Decision::Accepted { .. }) {
+            same &= report.check(table == table_before, || what("a change by a refusal, "));
+        }
+        same &= report.check(state.table.guards_hold(), || what("octets around the table, "));
+        let (settings, sessions) = (state.unit.settings(), state.unit.sessions());
+        let read = layout::decode(table);
+        let records_same = read.is_some_and(|read| read.0 == *settings && read.1 == *sessions);
+        same &= report.check(records_same, || what("other records in the table, "));
+        let octets = layout::encode(settings, sessions);
+        same &= report.check(table == octets, || what("other octets of the table, "));
+
+        // The live set comes from the product's replies alone.
+        let followed = state.live.follow(&call.message, answer.outcome as u8, answer.reply());
+        same &= report.check(followed.is_ok(), || what(&format!("live set: {followed:?}")));
+        same &= report.check(state.live.sessions == *sessions, || what("another live set, "));
+        let free = self.product.free_count(table);
+        report.check(free == (0, state.unit.free_count()), || what("another free count")) && same
+    }
+
+    /// A damaged copy of the table: outcome 1 exactly where it is broken, and the answer of a unit
+    /// with the same records where it is sound all the same.
+    fn damaged_table(&mut self, state: &State, call: &Call) {
+        let mut content = state.table.content().to_vec();
+        for _ in 0..self.random.pick(&[1, 1, 1, 2]) {
+            if content.len() == TABLE {
+                spoil::spoil(&mut content, &mut self.random);
+            }
+        }
+        let mut table = Lent::new(&content);
+        let free = self.product.free_count(table.content());
+        let answer = self.ask(&mut table, &call.message, call.reply_space);
+        self.report.damaged += 1;
+        match layout::sound(&content) {
+            Err(reason) => {
+                self.broken(&reason);
+                let report = &mut self.report;
+                let right = free == (1, 0) && answer.outcome == 1 && answer.used == 0;
+                report.check(right, || format!("outcome {} for {reason}", answer.outcome));
+                let unchanged = table.content() == content && table.guards_hold();
+                report.check(unchanged, || format!("a table with {reason} was changed"));
+                report.check(answer.rest_is_unchanged(), || format!("a reply for {reason}"));
+            }
+            Ok((settings, sessions)) => {
+                self.report.still_sound += 1;
+                let Some(mut unit) = self.unit_with(&settings, &sessions) else { return };
+                let count = unit.free_count();
+                let mut expected = vec![FILLING; call.reply_space];
+                let outcome = unit.request(&call.message, &mut expected);
+                expected.truncate(outcome.reply_length);
+                let report = &mut self.report;
+                report.check(free == (0, count), || "the free count of a changed table".into());
+                let same = answer.outcome == u32::from(outcome.number)
+                    && answer.reply() == expected
+                    && answer.rest_is_unchanged();
+                report.check(same, || "another answer on a changed table".into());
+                let octets = layout::encode(&settings, unit.sessions());
+                let same = table.content() == octets && table.guards_hold();
+                report.check(same, || "other octets of a changed table".into());
+            }
+        }
+    }
+
+    fn broken(&mut self, reason: &str) {
+        let known = REASONS.iter().find(|known| reason.contains(**known));
+        match known {
+            Some(known) => *self.report.reasons.entry(known).or_insert(0) += 1,
+            None => drop(self.report.check(false, || format!("a new kind of damage: {reason}"))),
+        }
+    }
+
+    /// A unit of the second implementation with these records.
+    fn unit_with(&mut self, settings: &Settings, sessions: &Sessions) -> Option<Unit> {
+        let mut unit = Unit::new(settings.clone())?;
+        for (seid, session) in sessions {
+            let envelope =
+                Envelope { header_seid: 0, sequence: 0, ipv4: Some([127, 0, 0, 1]), ipv6: None };
+            let message = restoration::request(settings, *seid, session, &envelope)?;
+            unit.request(&message, &mut [0; 1024]);
+        }
+        let same = unit.sessions() == sessions;
+        self.report.check(same, || "a sound table that cannot be restored".into());
+        same.then_some(unit)
+    }
+
+    /// Single octets of a table changed: outcome 1 exactly where that breaks it.
+    fn single_octets(&mut self, table: &[u8], positions: usize) {
+        let mut table = Lent::new(table);
+        for _ in 0..positions {
+            let at = spoil::an_offset(table.content(), &mut self.random);
+            let flip = match self.random.percent(50) {
+                true => 1 << self.random.below(8),
+                false => self.random.between(1, 255) as u8,
+            };
+            table.lend()[at] ^= flip;
+            self.report.damaged += 1;
+            let (outcome, count) = self.product.free_count(table.content());
+            let right = match layout::sound(table.content()) {
+                Err(reason) => {
+                    self.broken(&reason);
+                    (outcome, count) == (1, 0)
+                }
+                Ok((settings, sessions)) => {
+                    self.report.still_sound += 1;
+                    let taken = second::session::distinct_teids(&sessions).len() as u32;
+                    (outcome, count) == (0, settings.size - taken)
+                }
+            };
+            self.report.check(right, || format!("octet {at} changed by {flip:02X}: {outcome}"));
+            table.lend()[at] ^= flip;
+        }
+        let guarded = table.guards_hold();
+        self.report.check(guarded, || "octets around the table".into());
+    }
+
+    /// Restores every live session, in any order, into an empty table: it becomes the same table.
+    fn restore_all(&mut self, state: &State) {
+        let (settings, live) = (state.unit.settings(), &state.live.sessions);
+        let Some(mut table) = self.empty_table(settings) else { return };
+        let mut seids: Vec<u64> = live.keys().copied().collect();
+        self.random.shuffle(&mut seids);
+        for seid in seids {
+            let random = &mut self.random;
+            let (v4, v6) = random.pick(&[(true, false), (false, true), (true, true)]);
+            let envelope = Envelope {
+                header_seid: random.pick(&[0, seid, u64::MAX]),
+                sequence: random.number() as u32 & 0xFF_FFFF,
+                ipv4: v4.then(|| std::array::from_fn(|_| random.octet())),
+                ipv6: v6.then(|| std::array::from_fn(|_| random.octet())),
+            };
+            let space = random.pick(&[1024, 1025, 3000]);
+            let message = restoration::request(settings, seid, &live[&seid], &envelope);
+            let message = message.expect("a live session can be restored");
+            let longest = message.len() <= restoration::LONGEST;
+            self.report.check(longest, || format!("a restoration of {} octets", message.len()));
+            let answer = self.ask(&mut table, &message, space);
+            let expected = restored_reply(settings, seid, envelope.sequence);
+            let right =
+                answer.outcome == 0 && answer.reply() == expected && answer.rest_is_unchanged();
+            self.report.check(right, || format!("restoration of session {seid}"));
+            self.report.restored += 1;
+        }
+        let same = table.content() == state.table.content() && table.guards_hold();
+        self.report.check(same, || "the restored table differs".into());
+    }
+
+    /// A table with everything that it has room for, brought about by restorations: damaged, then
+    /// with some generated calls, then emptied.
+    fn largest_table(&mut self, generator: &mut Generator) {
+        let (settings, sessions) = (largest::settings(), largest::sessions());
+        let Some(unit) = self.unit_with(&settings, &sessions) else { return };
+        let live = LiveSet { sessions: sessions.clone() };
+        let table = Lent::new(&layout::encode(&settings, &sessions));
+        let mut state = State { unit, live, table };
+        self.restore_all(&state);
+        let free = self.product.free_count(state.table.content());
+        self.report.check(free == (0, 0), || format!("free count {free:?} of the largest table"));
+        self.single_octets(state.table.content(), 1000);
+        let mut scenario = generator.scenario();
+        scenario.settings = settings;
+        scenario.flavour = Flavour::Full;
+        for _ in 0..CALLS_ON_LARGEST {
+            let call = generator.call(&mut scenario, &state.live.sessions);
+            if !self.one_call(&mut state, &call) {
+                return;
+            }
+        }
+        self.restore_all(&state);
+        // Every session is deleted, the table stays right, and nothing is left at the end.
+        let mut seids: Vec<u64> = state.live.sessions.keys().copied().collect();
+        self.random.shuffle(&mut seids);
+        for seid in seids {
+            let mut message = vec![0x21, 54, 0, 12];
+            message.extend(seid.to_be_bytes());
+            message.extend([0, 0, 9, 0]);
+            self.one_call(&mut state, &Call { message, reply_space: 1024 });
+        }
+        let empty = state.unit.sessions().is_empty();
+        self.report.check(empty, || "sessions left after their deletion".into());
+        // Every octet of the empty table.
+        let table = state.table.content().to_vec();
+        for at in 0..TABLE {
+            let mut changed = table.clone();
+            changed[at] ^= 1 << self.random.below(8);
+            let outcome = self.product.free_count(&changed).0;
+            let right = outcome == u32::from(layout::sound(&changed).is_err());
+            self.report.check(right, || format!("octet {at} of an empty table changed"));
+        }
+    }
+
+    /// Messages with as many records as fit, each on a table with one small session.
+    fn crowded_messages(&mut self) {
+        let (live, new) = (1, 2);
+        for message in crowded::messages(live, new) {
+            let Some(mut state) = self.empty_state(&largest::settings()) else { return };
+            let first = Call { message: crowded::first(live), reply_space: 1024 };
+            self.one_call(&mut state, &first);
+            self.one_call(&mut state, &Call { message, reply_space: 1024 });
+            self.restore_all(&state);
+        }
+    }
+
+    /// Making tables: settings at the edges, and lengths.
+    fn fixed_settings(&mut self) {
+        let length = self.product.table_length();
+        self.report.check(length == TABLE, || format!("a table length of {length}"));
+        let address = [7_u8; 17];
+        for (first, size) in [
+            (0, 1),
+            (1, 0),
+            (1, 1),
+            (1, 4096),
+            (1, 4097),
+            (4096, u32::MAX),
+            (u32::MAX, 1),
+            (u32::MAX, 2),
+            (u32::MAX - 4095, 4096),
+            (u32::MAX - 4094, 4096),
+        ] {
+            for ipv6_length in [0, 1, 15, 16, 17] {
+                for table_length in [0, 1, TABLE - 1, TABLE, TABLE + 1] {
+                    let ipv6 = &address[..ipv6_length];
+                    let mut table = Lent::filled(table_length);
+                    let made =
+                        self.product.make_table(table.lend(), [10, 0, 0, 1], ipv6, first, size);
+                    let allowed = Settings::make([10, 0, 0, 1], ipv6, first, size)
+                        .filter(|_| table_length == TABLE);
+                    let right = match &allowed {
+                        Some(settings) => {
+                            made == 0
+                                && table.content() == layout::encode(settings, &Sessions::new())
+                        }
+                        None => made == 1 && table.content().iter().all(|octet| *octet == FILLING),
+                    };
+                    self.report.check(right && table.guards_hold(), || {
+                        format!("made {made}: first {first}, size {size}, IPv6 of {ipv6_length}")
+                    });
+                }
+            }
+        }
+    }
+}
+
+/// The whole reply to an accepted restoration: nothing is granted.
+fn restored_reply(settings: &Settings, seid: u64, sequence: u32) -> Vec<u8> {
+    let mut reply = vec![0x21, 51, 0, 43];
+    reply.extend(seid.to_be_bytes());
+    reply.extend(&sequence.to_be_bytes()[1..]);
+    reply.extend([0, 0, 60, 0, 5, 0]);
+    reply.extend(settings.ipv4);
+    reply.extend([0, 19, 0, 1, 1, 0, 57, 0, 13, 2]);
+    reply.extend(seid.to_be_bytes());
+    reply.extend(settings.ipv4);
+    reply
+}
+
+fn hexadecimal(octets: &[u8]) -> String {
+    octets.iter().map(|octet| format!("{octet:02X}")).collect()
+}

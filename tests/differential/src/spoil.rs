@@ -1,0 +1,185 @@
+//! Damage to the octets of a table. Some of it leaves a sound table, which is meant.
+
+use second::element::fq_csid::NodeId;
+use second::generate::random::Random;
+use second::session::{Families, Local, Session, Tunnel};
+use second::settings::Settings;
+
+use crate::layout::*;
+
+/// One piece of damage. The length may change.
+pub fn spoil(table: &mut Vec<u8>, random: &mut Random) {
+    match random.below(20) {
+        0 => {
+            let length = random.pick(&[0, 1, 29, 31, TABLE - 1, TABLE + 1, TABLE - SLOT]);
+            table.resize(length, 0);
+        }
+        1..=7 => change_an_octet(table, random),
+        8 => swap_records(table, random),
+        9 => copy_a_record(table, random),
+        _ => change_a_record(table, random),
+    }
+}
+
+fn change_an_octet(table: &mut [u8], random: &mut Random) {
+    let at = an_offset(table, random);
+    table[at] = match random.below(4) {
+        0 => table[at] ^ 1 << random.below(8),
+        1 => table[at].wrapping_add(1),
+        2 => table[at].wrapping_sub(1),
+        _ => random.octet(),
+    };
+}
+
+/// A random offset, more often where records stand than in unused room.
+pub fn an_offset(table: &[u8], random: &mut Random) -> usize {
+    let count = usize::from(table[30]).min(64);
+    match random.below(10) {
+        0 => random.below(SLOTS),
+        1 => random.below(TABLE),
+        _ if count == 0 => random.below(SLOTS + SLOT),
+        chance => {
+            let slot = SLOTS + SLOT * random.below(count);
+            let (pdrs, endpoints, fq_csids) = (table[slot + 8], table[slot + 9], table[slot + 10]);
+            slot + match chance {
+                2 => random.below(PDRS),
+                3..=5 => PDRS + PDR * some(pdrs, 15, random) + random.below(PDR),
+                6 | 7 => ENDPOINTS + ENDPOINT * some(endpoints, 7, random) + random.below(ENDPOINT),
+                8 => FQ_CSIDS + FQ_CSID * some(fq_csids, 5, random) + random.below(FQ_CSID),
+                _ => random.below(SLOT),
+            }
+        }
+    }
+}
+
+/// The index of a record in use, or of the one after the last.
+fn some(count: u8, last: usize, random: &mut Random) -> usize {
+    random.between(0, usize::from(count).min(last))
+}
+
+/// The offset, size and count of an area of records: the sessions, or one of a session's.
+fn an_area(table: &[u8], random: &mut Random) -> (usize, usize, usize) {
+    let count = usize::from(table[30]).min(64);
+    let slot = SLOTS + SLOT * random.below(count.max(1));
+    match random.below(4) {
+        0 => (SLOTS, SLOT, count),
+        1 => (slot + PDRS, PDR, usize::from(table[slot + 8])),
+        2 => (slot + ENDPOINTS, ENDPOINT, usize::from(table[slot + 9])),
+        _ => (slot + FQ_CSIDS, FQ_CSID, usize::from(table[slot + 10])),
+    }
+}
+
+/// Two neighbours change places, so the order is lost.
+fn swap_records(table: &mut [u8], random: &mut Random) {
+    let (start, size, count) = an_area(table, random);
+    if count >= 2 {
+        let first = start + size * random.below(count - 1);
+        table[first..first + 2 * size].rotate_left(size);
+    }
+}
+
+/// A record stands twice.
+fn copy_a_record(table: &mut [u8], random: &mut Random) {
+    let (start, size, count) = an_area(table, random);
+    if count >= 2 {
+        let first = start + size * random.below(count - 1);
+        table.copy_within(first..first + size, first + size);
+    }
+}
+
+/// A record or a setting is changed and the table written anew, so that its octets are right and
+/// only the rules for records can tell.
+fn change_a_record(table: &mut Vec<u8>, random: &mut Random) {
+    let Some((mut settings, mut sessions)) = decode(table) else { return };
+    let teids: Vec<u32> = sessions.values().flat_map(|session| session.teids()).collect();
+    let seids: Vec<u64> = sessions.keys().copied().collect();
+    if seids.is_empty() || random.percent(10) {
+        change_settings(&mut settings, random);
+    } else {
+        let seid = random.pick(&seids);
+        if random.percent(5) {
+            let session = sessions.remove(&seid).expect("a SEID of the table");
+            sessions.insert(0, session);
+        } else {
+            let session = sessions.get_mut(&seid).expect("a SEID of the table");
+            change_session(session, &settings, &teids, random);
+        }
+    }
+    *table = encode(&settings, &sessions);
+}
+
+fn change_settings(settings: &mut Settings, random: &mut Random) {
+    match random.below(6) {
+        0 => settings.ipv6 = None,
+        1 => settings.first = random.pick(&[0, 1, u32::MAX]),
+        2 => settings.first = settings.first.wrapping_add(1),
+        3 => settings.size = random.pick(&[0, 1, 4096, 4097, u32::MAX]),
+        4 => settings.size = settings.size.wrapping_sub(1),
+        _ => settings.ipv4 = [0; 4],
+    }
+}
+
+fn change_session(session: &mut Session, settings: &Settings, teids: &[u32], random: &mut Random) {
+    let mut teid = || match random.below(6) {
+        0 => settings.first.wrapping_sub(1),
+        1 => settings.first.wrapping_add(settings.size),
+        2 => settings.first,
+        _ if teids.is_empty() => 0,
+        _ => random.pick(teids),
+    };
+    let teid = teid();
+    let families = Families { v4: random.percent(50), v6: random.percent(50) };
+    let pdrs: Vec<u16> = session.pdrs.keys().copied().collect();
+    let endpoints: Vec<u8> = session.endpoints.keys().copied().collect();
+    let node_types: Vec<u8> = session.fq_csids.keys().copied().collect();
+    match random.below(10) {
+        0..=4 if !pdrs.is_empty() => {
+            let pdr = session.pdrs.get_mut(&random.pick(&pdrs)).expect("an ID of the session");
+            match (random.below(6), &mut pdr.local) {
+                (0, _) => pdr.source_interface = random.pick(&[0, 1, 15, 16, 255]),
+                (1, local) => *local = Local::Endpoint(random.octet() % 6),
+                (2, Local::Tunnel(tunnel)) => tunnel.families = families,
+                (_, Local::Tunnel(tunnel)) => tunnel.teid = teid,
+                (_, local) => *local = Local::Tunnel(Tunnel { teid, families }),
+            }
+        }
+        5..=7 if !endpoints.is_empty() => {
+            let id = random.pick(&endpoints);
+            let tunnel = session.endpoints.get_mut(&id).expect("an ID of the session");
+            match random.below(4) {
+                0 => tunnel.families = families,
+                1 => drop(session.endpoints.remove(&id)),
+                _ => tunnel.teid = teid,
+            }
+        }
+        _ if !node_types.is_empty() => {
+            let node_type = random.pick(&node_types);
+            let mut held = session.fq_csids.remove(&node_type).expect("a key of the session");
+            let country_and_network = random.pick(&[0, 999_999, 1_000_000, 0xF_FFFF]);
+            match random.percent(50) {
+                true => held.node = NodeId::Operator { country_and_network, number: 0xFFF },
+                false => held.csid = 0,
+            }
+            let node_type = if random.percent(40) { random.pick(&[5, 6, 15]) } else { node_type };
+            session.fq_csids.insert(node_type, held);
+        }
+        _ => {}
+    }
+}
+
+/// The parts of `layout::sound`'s reasons by which a run of damage is counted.
+pub const REASONS: [&str; 13] = [
+    "a wrong length",
+    "an octet without a meaning",
+    "settings that are not allowed",
+    "octets that its records do not encode to",
+    "SEID 0",
+    "an endpoint's F-TEID breaks a rule",
+    "two endpoints share a TEID",
+    "a source interface of more than four bits",
+    "a PDR names an endpoint that does not exist",
+    "a PDR's F-TEID breaks a rule",
+    "PDRs share a TEID against the rule",
+    "an FQ-CSID breaks its rules",
+    "an endpoint and a PDR share TEID",
+];
