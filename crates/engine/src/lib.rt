@@ -19,16 +19,21 @@ use frame::Framing;
 use frame::header::Header;
 use pool::Taken;
 use reading::Verdict;
+use records::layout::FIRST;
+use records::layout::SIZE;
+use records::layout::SLOT;
 use reply::Offending;
 use request::Reading;
 use slots::Place;
 
-// Words of the grants, of the plan and octets of a session's slot.
+// Words of the grants: at most 24, four words each.
 const GRANTS: usize = 96;
 
+// Words of the plan of the longest message: 226 rows of 18.
 const PLAN: usize = 4068;
 
-const SLOT: usize = 483;
+// The least reply space.
+const SPACE: usize = 1024;
 
 // The reply of a refusal; the table stays.
 fn refuse(t: &[u8], msg: &[u8], cause: u64, offending: Offending, out: &mut [u8]) -> usize
@@ -81,8 +86,8 @@ fn accept(
     ensures { λ r. ⌜ Answers (now (t .entry)) (now (msg .entry)) (now (out .entry)) r (now (out .exit)) (now (t .exit)) ⌝ }
 {
     let words = taken.words;
-    let first = octets::read(t, 21, 4);
-    let size = octets::read(t, 25, 4) as usize;
+    let first = octets::read(t, FIRST, 4);
+    let size = octets::read(t, SIZE, 4) as usize;
     let mut given = [0u64; GRANTS];
     let k = grants::grant(plan, n, &words, first, size, &mut given);
     let end = 4 * k;
@@ -250,7 +255,7 @@ pub fn serve(t: &mut [u8], msg: &[u8], out: &mut [u8]) -> Served
     let marking::Marks::New(held) = seen else {
         return unserved(1);
     };
-    if out.len() < 1024 {
+    if out.len() < SPACE {
         return unserved(2);
     }
     let header = frame::header::read_header(msg);
@@ -259,7 +264,7 @@ pub fn serve(t: &mut [u8], msg: &[u8], out: &mut [u8]) -> Served
         Header::Malformed => return unserved(4),
         Header::NotServed => return unserved(5),
         Header::Request(kind, seid) => {
-            let free = octets::read(t, 25, 4) as usize - held;
+            let free = octets::read(t, SIZE, 4) as usize - held;
             let used = answer(t, Taken { words: words }, free, msg, kind, seid, out);
             return Served {
                 outcome: 0,
