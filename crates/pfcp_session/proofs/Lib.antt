@@ -1,2 +1,3 @@
--- `CallLaws`: the calls' answers as numbers.
+-- `CallLaws`: the calls' answers as numbers; `RunLaws`: demand 3 of the calls.
 pub mod CallLaws
+pub mod RunLaws

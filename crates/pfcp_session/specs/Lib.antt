@@ -1,2 +1,3 @@
--- `Calls`: what the host's calls answer and leave.
+-- `Calls`: what the host's calls answer and leave; `Runs`: calls one after the other.
 pub mod Calls
+pub mod Runs

@@ -1,0 +1,70 @@
+/*
+ * The stack that a request takes: a thread runs one cycle of accepted requests on a stack filled
+ * with one octet; the octets that changed are counted from its far end.
+ */
+#include <pthread.h>
+#include <stdint.h>
+#include <stdio.h>
+#include <stdlib.h>
+#include <string.h>
+
+#include "pfcp_session.h"
+#include "workload.h"
+
+enum { STACK = 1 << 20, MARK = 0xA5 };
+
+static const struct side archive = {"archive", pfcp_make_table, pfcp_free_count, pfcp_request};
+static struct message cycle[CYCLE];
+static struct place ours;
+static _Alignas(4096) uint8_t stack[STACK];
+
+/* No request: what the thread itself takes. */
+static void *idle(void *unused)
+{
+    return unused;
+}
+
+static void *requests(void *unused)
+{
+    for (size_t i = 0; i < CYCLE; i++) {
+        uint32_t outcome = pfcp_request(ours.table, sizeof ours.table, cycle[i].octets,
+                                        cycle[i].length, ours.reply, sizeof ours.reply, &ours.used);
+
+        if (!accepted(&ours, outcome)) {
+            fprintf(stderr, "stack: request %zu is refused\n", i);
+            exit(EXIT_FAILURE);
+        }
+    }
+    return unused;
+}
+
+/* How many octets of the stack a thread has written, from its start to the deepest. */
+static size_t depth_of(void *(*work)(void *))
+{
+    pthread_attr_t attributes;
+    pthread_t thread;
+    size_t untouched = 0;
+
+    memset(stack, MARK, sizeof stack);
+    if (pthread_attr_init(&attributes) != 0 ||
+        pthread_attr_setstack(&attributes, stack, sizeof stack) != 0 ||
+        pthread_create(&thread, &attributes, work, NULL) != 0 || pthread_join(thread, NULL) != 0) {
+        fputs("stack: the thread does not run\n", stderr);
+        exit(EXIT_FAILURE);
+    }
+    pthread_attr_destroy(&attributes);
+    while (untouched < sizeof stack && stack[untouched] == MARK)
+        untouched++;
+    return sizeof stack - untouched;
+}
+
+int main(void)
+{
+    write_cycle(cycle);
+    fill(&ours, &archive);
+    size_t without = depth_of(idle);
+    size_t with = depth_of(requests);
+
+    printf("stack of a request: %zu octets\n", with - without);
+    return EXIT_SUCCESS;
+}

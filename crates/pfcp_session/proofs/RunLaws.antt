@@ -1,0 +1,54 @@
+-- Demand 3 holds of the exported calls: what their contracts say of a run is what the claim asks of one.
+-- Assumes nothing.
+use mathlib.Core.Path.{_≡_, refl, sym, ap, _∙_, subst}
+use Prim.Native.Nat.{ℕ}
+use native.Mathlib.Omega.{arith}
+use mathlib.Core.Bool.{Bool, true, false}
+use mathlib.Core.List.{List, [], _∷_}
+use lib.Dec.{T}
+use Rattle.octets.specs.Choice.{pick}
+use Rattle.rules.specs.Limits.{maxSessions}
+use Rattle.rules.specs.Sound.{Made, make, Count, broken, free, countFree}
+use Rattle.rules.specs.Serve.{Served, serve}
+use Rattle.rules.specs.Claim.{Ran, lastTable, liveSet, Promise, Claim, Demand3}
+use Rattle.claim.proofs.Changed.{demand3}
+use Rattle.pfcp_session.specs.Calls.{MakeCall, makeAnswer, makeCall, CountCall, countAnswer, countCall, RequestCall, requestAnswer, requestCall}
+use Rattle.pfcp_session.specs.Runs.{HostStep, requested, counted, HostRan, countOf, stepOf, stepsOf, HostClaim}
+
+-- a request's outcome, space and table are those of `serve`
+request-step : (t msg space : List ℕ) (r : RequestCall) → r ≡ requestCall t msg space
+    → _≡_ {A = Served} (record { outcome = r .outcome; space = r .space; table = r .table }) (serve maxSessions t msg space)
+unfolding requestCall requestAnswer
+request-step t msg space r e = ap (λ (x : RequestCall). record { outcome = x .outcome; space = x .space; table = x .table }) e
+
+-- a count is that of `countFree`
+count-back : (c : Count) → countOf (countAnswer c) ≡ c
+unfolding countOf
+count-back broken = refl
+count-back (free n) = refl
+
+count-step : (t : List ℕ) (c : CountCall) → c ≡ countCall t → countOf c ≡ countFree maxSessions t
+unfolding countCall
+count-step t c e = ap countOf e ∙ count-back (countFree maxSessions t)
+
+ran : (t : List ℕ) (hs : List HostStep) → HostRan t hs → Ran maxSessions t (stepsOf hs)
+unfolding stepOf
+ran t [] h = tt
+ran t (requested msg space r ∷ hs) h = (request-step t msg space r (h .0), ran (r .table) hs (h .1))
+ran t (counted c ∷ hs) h = (count-step t c (h .0), ran t hs (h .1))
+
+-- a table was made where the call says 0
+is-made : (m : Made) → makeAnswer m .outcome ≡ 0 → T (m .made)
+is-made m e = go (m .made) e
+  where
+    go : (b : Bool) → _≡_ {A = ℕ} (pick b 0 1) 0 → T b
+    go true z = tt
+    go false z = absurd (omega arith)
+
+pub host-claim : HostClaim
+unfolding HostClaim makeCall Demand3 Claim
+host-claim s a made hs e o ok h =
+    let same : made .table ≡ make maxSessions s a .table = ap (λ (x : MakeCall). x .table) e in
+    let yes : T (make maxSessions s a .made) = is-made (make maxSessions s a) (sym (ap (λ (x : MakeCall). x .outcome) e) ∙ o) in
+    let run : Ran maxSessions (make maxSessions s a .table) (stepsOf hs) = subst (λ (t : List ℕ). Ran maxSessions t (stepsOf hs)) same (ran (made .table) hs h) in
+    subst (λ (t : List ℕ). Promise maxSessions s (liveSet (stepsOf hs)) (lastTable t (stepsOf hs))) (sym same) (demand3 s a (stepsOf hs) yes ok run)

@@ -1,0 +1,41 @@
+-- A host's run of the exported calls, each of which left what its contract says; and demand 3 of it.
+-- Assumes nothing.
+use Prim.Native.Nat.{ℕ}
+use mathlib.Core.Path.{_≡_}
+use mathlib.Core.List.{List, [], _∷_, map}
+use lib.Dec.{T, eqb}
+use Rattle.octets.specs.Choice.{pick}
+use Rattle.octets.specs.Lists.{all}
+use Rattle.rules.specs.Limits.{maxSessions}
+use Rattle.rules.specs.Model.{Settings}
+use Rattle.rules.specs.Sound.{Count, broken, free}
+use Rattle.rules.specs.Claim.{Step, asked, told, stepAllowed, lastTable, liveSet, Promise}
+use Rattle.pfcp_session.specs.Calls.{MakeCall, makeCall, CountCall, countCall, RequestCall, requestCall}
+
+-- a call of pfcp_request with its message and reply space, or one of pfcp_free_count, and what it left
+pub data HostStep : Type 0 where
+  requested : List ℕ → List ℕ → RequestCall → HostStep
+  counted : CountCall → HostStep
+
+-- each call left what its contract says on the table t, and the next one had the table that it left
+abbrev pub HostRan : List ℕ → List HostStep → Type 0
+HostRan t [] = Unit
+HostRan t (requested msg space r ∷ steps) = (r ≡ requestCall t msg space) × HostRan (r .table) steps
+HostRan t (counted c ∷ steps) = (c ≡ countCall t) × HostRan t steps
+
+-- the same in the claim's words
+unfoldable pub countOf : CountCall → Count
+countOf c = pick (eqb (c .outcome) 0) (free (c .count)) broken
+
+unfoldable pub stepOf : HostStep → Step
+stepOf (requested msg space r) = asked msg space (record { outcome = r .outcome; space = r .space; table = r .table })
+stepOf (counted c) = told (countOf c)
+
+abbrev pub stepsOf : List HostStep → List Step
+stepsOf hs = map stepOf hs
+
+-- pfcp_make_table said 0, and any calls followed: the claim's promise holds of the table that they left
+unfoldable pub HostClaim : Type 0
+HostClaim =
+    (s : Settings) (a : List ℕ) (made : MakeCall) (hs : List HostStep) → made ≡ makeCall s a → made .outcome ≡ 0 → T (all stepAllowed (stepsOf hs)) → HostRan (made .table) hs
+    → Promise maxSessions s (liveSet (stepsOf hs)) (lastTable (made .table) (stepsOf hs))
