@@ -1,4 +1,4 @@
-//! The two programs, as a user meets them.
+//! The programs, as a user meets them.
 
 mod common;
 
@@ -6,7 +6,7 @@ use common::*;
 use std::io::Write;
 use std::process::{Command, Output, Stdio};
 
-fn run(program: &str, arguments: &[&str], input: &str) -> Output {
+fn run(program: &str, arguments: &[&str], input: impl AsRef<[u8]>) -> Output {
     let mut child = Command::new(program)
         .args(arguments)
         .stdin(Stdio::piped())
@@ -15,7 +15,7 @@ fn run(program: &str, arguments: &[&str], input: &str) -> Output {
         .spawn()
         .unwrap();
     // A program that ends early has closed its input; that is no failure here.
-    let _ = child.stdin.take().unwrap().write_all(input.as_bytes());
+    let _ = child.stdin.take().unwrap().write_all(input.as_ref());
     child.wait_with_output().unwrap()
 }
 
@@ -107,4 +107,16 @@ fn verdicts_refuse_what_is_not_hexadecimal() {
         assert!(String::from_utf8(output.stderr).unwrap().contains(said));
     }
     assert_eq!(run(env!("CARGO_BIN_EXE_verdicts"), &["x"], "").status.code(), Some(2));
+}
+
+/// The proved program `exchanges` is held to the file `stdout`: it has to be this program's output.
+#[test]
+fn exchanges_of_the_worked_examples() {
+    let folder = concat!(env!("CARGO_MANIFEST_DIR"), "/../crates/exchanges");
+    let input = std::fs::read(format!("{folder}/stdin")).unwrap();
+    let expected = std::fs::read_to_string(format!("{folder}/stdout")).unwrap();
+    let output = run(env!("CARGO_BIN_EXE_exchanges"), &[], input);
+    assert_eq!(output.status.code(), Some(0));
+    assert_eq!(String::from_utf8(output.stdout).unwrap(), expected);
+    assert_eq!(expected.lines().count(), 47);
 }

@@ -1,0 +1,94 @@
+// Runs 01's worked examples and the errors seen. Reads parts from standard input, each after its length in two octets. A part of 12 octets
+// (too short for a message) makes an empty table: the unit's IPv4 address, the first TEID and the pool size. Any other is a request on the
+// table as it then stands. Writes a line for each: `table` or `outcome` and the call's outcome, the free count after it (`broken` where
+// there is none), and the reply's octets where there is one. The lines in `stdout` are the second implementation's.
+ghost use mathlib.Core.Path.{_≡_};
+ghost use lib.ListN.{length};
+use libc::STDOUT_FILENO;
+use table::Count;
+use table::Making;
+
+fn text(s: &[u8]) {
+    io::write_all(STDOUT_FILENO, s);
+}
+
+// The first n octets of s in hexadecimal digits; all of them where there are fewer.
+fn hex(s: &[u8], n: usize) {
+    let mut i = 0;
+    while i < s.len() {
+        if n <= i {
+            return;
+        }
+        io::print_hex(STDOUT_FILENO, octets::read(s, i, 1), 2);
+        i += 1;
+    }
+}
+
+// The outcome of a call, and the free count after it.
+fn outcome(t: &[u8], name: &[u8], n: u64) {
+    text(name);
+    io::print_decimal(STDOUT_FILENO, n);
+    text(b" free ");
+    let count = table::free_count(t);
+    match count {
+        Count::Broken => text(b"broken"),
+        Count::Free(free) => {
+            io::print_decimal(STDOUT_FILENO, free);
+        }
+    }
+}
+
+// An empty table with the settings in s.
+fn make(t: &mut [u8], s: &[u8])
+    requires { ⌜ length (now s) ≡ 12 ⌝ }
+{
+    let ipv4 = octets::read(s, 0, 4) as u32;
+    let first = octets::read(s, 4, 4) as u32;
+    let size = octets::read(s, 8, 4) as u32;
+    let answer = table::make(t, ipv4, &s[0..0], first, size);
+    match answer {
+        Making::Made => outcome(t, b"table ", 0),
+        Making::Refused => outcome(t, b"table ", 1),
+    }
+    text(b"\n");
+}
+
+// One request on the table.
+fn request(t: &mut [u8], msg: &[u8]) {
+    let mut reply = [0u8; 1024];
+    let served = engine::serve(t, msg, &mut reply);
+    outcome(t, b"outcome ", served.outcome as u64);
+    if served.outcome == 0 {
+        text(b" reply ");
+        hex(&reply, served.used);
+    }
+    text(b"\n");
+}
+
+fn exchange(t: &mut [u8], s: &[u8]) {
+    if s.len() == 12 {
+        make(t, s);
+        return;
+    }
+    request(t, s);
+}
+
+// The parts of s, one after the other.
+fn exchanges(t: &mut [u8], s: &[u8]) {
+    let mut rest = s;
+    while 2 <= rest.len() {
+        let end = 2 + octets::read(rest, 0, 2) as usize;
+        if rest.len() < end {
+            return;
+        }
+        exchange(t, &rest[2..end]);
+        rest = &rest[end..];
+    }
+}
+
+fn main() {
+    let mut t = [0u8; 30943];
+    let mut buf = io::large_buffer();
+    let n = io::read_full(0, &mut buf);
+    exchanges(&mut t, &buf[..n]);
+}

@@ -1,0 +1,68 @@
+//! `exchanges`: reads parts from standard input, each after its length in two octets. A part of 12
+//! octets makes an empty unit: its IPv4 address, the first TEID and the pool size. Any other is a
+//! request. Prints a line for each: `table` or `outcome` and the number, `free` and the free count
+//! after it, and `reply` and the reply's octets in hexadecimal digits where there is one.
+
+use std::io::{self, Read};
+use std::process::ExitCode;
+
+use second::settings::Settings;
+use second::unit::Unit;
+
+fn main() -> ExitCode {
+    let mut input = Vec::new();
+    if let Err(error) = io::stdin().lock().read_to_end(&mut input) {
+        eprintln!("exchanges: {error}");
+        return ExitCode::from(2);
+    }
+    let mut unit = None;
+    let mut rest = &input[..];
+    while let Some((part, after)) = next_part(rest) {
+        println!("{}", line(&mut unit, part));
+        rest = after;
+    }
+    ExitCode::SUCCESS
+}
+
+/// The next part, and what follows it.
+fn next_part(octets: &[u8]) -> Option<(&[u8], &[u8])> {
+    let length = usize::from(u16::from_be_bytes([*octets.first()?, *octets.get(1)?]));
+    (octets.len() >= 2 + length).then(|| octets[2..].split_at(length))
+}
+
+fn line(unit: &mut Option<Unit>, part: &[u8]) -> String {
+    let (word, number, reply) = match part.len() {
+        12 => ("table", make(unit, part), Vec::new()),
+        _ => request(unit, part),
+    };
+    // Only a unit that was never made stands for a broken table.
+    let free = unit.as_ref().map_or("broken".to_string(), |unit| unit.free_count().to_string());
+    let start = format!("{word} {number} free {free}");
+    if reply.is_empty() {
+        return start;
+    }
+    let digits: String = reply.iter().map(|octet| format!("{octet:02x}")).collect();
+    format!("{start} reply {digits}")
+}
+
+/// Refused settings leave the unit as it was.
+fn make(unit: &mut Option<Unit>, part: &[u8]) -> u8 {
+    let number = |at: usize| part[at..at + 4].try_into().map(u32::from_be_bytes).unwrap_or(0);
+    let ipv4 = number(0).to_be_bytes();
+    match Settings::make(ipv4, &[], number(4), number(8)).and_then(Unit::new) {
+        Some(made) => {
+            *unit = Some(made);
+            0
+        }
+        None => 1,
+    }
+}
+
+fn request(unit: &mut Option<Unit>, message: &[u8]) -> (&'static str, u8, Vec<u8>) {
+    let mut space = [0; 1024];
+    let Some(unit) = unit else {
+        return ("outcome", 1, Vec::new());
+    };
+    let outcome = unit.request(message, &mut space);
+    ("outcome", outcome.number, space[..outcome.reply_length].to_vec())
+}
