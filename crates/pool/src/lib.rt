@@ -2,11 +2,8 @@
 // A map is filled through a lent slice of words, so that no mark copies it, and made into the record `Taken` once.
 ghost use mathlib.Core.Path.{_≡_};
 ghost use Prim.Native.Nat.{_*_, _≤_, _<_};
-ghost use lib.Dec.{T, ltb};
-ghost use lib.ListN.{length, replicate};
-ghost use Rattle.octets.specs.Lists.{all};
-ghost use Rattle.rules.specs.Limits.{mapWords};
-ghost use Rattle.pool.specs.Map.{mapSize, marked, mark, marks, newMarks, freeFrom};
+ghost use lib.ListN.{length};
+ghost use Rattle.pool.specs.Map.{marked, mark, freeFrom};
 ghost use Rattle.pool.specs.Answer.{lowest};
 
 // The number of words in the map.
@@ -45,24 +42,6 @@ pub fn mark(words: &mut [u64], i: usize) -> bool
     (w >> b) % 2 == 1
 }
 
-// Marks every offset of held, and counts those that were not marked before.
-pub fn mark_all(words: &mut [u64], held: &[u64]) -> usize
-    requires { ⌜ T (all (λ i. ltb i (64 * length (now words))) (now held)) ⌝ }
-    ensures { λ r. ⌜ (r ≡ newMarks (now (words .entry)) (now (held .entry))) × (now (words .exit) ≡ marks (now (words .entry)) (now (held .entry))) ⌝ }
-{
-    let mut n: usize = 0;
-    let mut i = 0;
-    while i < held.len() {
-        let t = held[i] as usize;
-        i += 1;
-        if mark(words, t) {
-            continue;
-        }
-        n += 1;
-    }
-    n
-}
-
 // The lowest free offset that is at least `at` and below size.
 pub fn next_free(words: &[u64], at: usize, size: usize) -> Lowest
     requires { ⌜ size ≤ 64 * length (now words) ⌝ }
@@ -77,39 +56,4 @@ pub fn next_free(words: &[u64], at: usize, size: usize) -> Lowest
         return Lowest::At(i);
     }
     Lowest::Full
-}
-
-// The map that filled words make.
-pub fn of_words(words: [u64; WORDS]) -> Taken
-    ensures { λ r. ⌜ r .words ≡ words ⌝ }
-{
-    Taken { words }
-}
-
-// The map of the offsets held.
-pub fn of_held(held: &[u64]) -> Taken
-    requires { ⌜ T (all (λ i. ltb i mapSize) (now held)) ⌝ }
-    ensures { λ r. ⌜ r .words ≡ marks (replicate mapWords 0) (now (held .entry)) ⌝ }
-{
-    let mut words = [0u64; WORDS];
-    mark_all(&mut words, held);
-    Taken { words }
-}
-
-// Is offset i taken?
-pub fn is_taken(t: Taken, i: usize) -> bool
-    requires { ⌜ i < mapSize ⌝ }
-    ensures { λ r. ⌜ r ≡ marked (t .words) i ⌝ }
-{
-    let words = t.words;
-    is_marked(&words, i)
-}
-
-// The lowest free offset of a pool.
-pub fn lowest_free(t: Taken, size: usize) -> Lowest
-    requires { ⌜ size ≤ mapSize ⌝ }
-    ensures { λ r. ⌜ r ≡ lowest (freeFrom (t .words) 0 size) ⌝ }
-{
-    let words = t.words;
-    next_free(&words, 0, size)
 }
