@@ -108,7 +108,7 @@ module _ {t msg out : List ℕ} {kind p : ℕ} (ch : Changing t msg out kind p) 
             rows = rows-within;
           }
 
-      pub enter-asks : (slot : List ℕ) → w .seid < 2 ^ 64 → length slot ≡ 483 → Entering t msg out slot kind (w .seid) p
+      pub enter-asks : (slot : List ℕ) → w .seid < 2 ^ 64 → length slot ≡ 483 → Entering t msg slot kind (w .seid) p
       unfolding requestIn
       enter-asks slot f l =
-          record { asked = ch .asked; kindIs = ch .kindIs; new = λ e. sym (ap (λ (x : Request). x .seid) is-read); fits = f; found = ch .found; long = l }
+          record { table = ch .asked .table; tableLong = ch .asked .tableLong; kindIs = ch .kindIs; new = λ e. sym (ap (λ (x : Request). x .seid) is-read); fits = f; found = ch .found; long = l }

@@ -79,18 +79,18 @@ unfolding newSession sessionOctets viewSession viewArea numberAt octetAt session
 new-viewed n h = λ j. record { seid = number-be 8 n h j; pdrs = []; endpoints = []; csids = [] }
 
 -- a new session in its slot
-pub entered-new : (t msg out slot slot′ : List ℕ) (kind seid p : ℕ) (live : Bool) → Entering t msg out slot kind seid p → kind ≡ 50 → slot′ ≡ put 0 (be 8 seid) (zeros 483) → length slot′ ≡ 483
+pub entered-new : (t msg slot slot′ : List ℕ) (kind seid p : ℕ) (live : Bool) → Entering t msg slot kind seid p → kind ≡ 50 → slot′ ≡ put 0 (be 8 seid) (zeros 483) → length slot′ ≡ 483
     → live ≡ isLive seid (viewSessions t) → Entered t msg kind seid live slot′
-entered-new t msg out slot slot′ kind seid p live a k e long l =
+entered-new t msg slot slot′ kind seid p live a k e long l =
     let fresh : slot′ ≡ sessionOctets (newSession seid) = e ∙ fresh-slot seid in
     let at : newSession seid ≡ entrySession (viewSessions t) msg = ap newSession (a .new k) ∙ sym (new-entry (viewSessions t) msg (sym (a .kindIs) ∙ k)) in
     let viewed : viewSession slot′ ≡ newSession seid = ap viewSession fresh ∙ new-viewed seid (a .fits) in
     record { entry = fresh ∙ ap sessionOctets at; viewed = viewed ∙ at; place = slot-new slot′ seid long viewed; known = λ z. l }
 
 -- a live session in its slot
-module _ (t msg out slot : List ℕ) (kind seid p : ℕ) (a : Entering t msg out slot kind seid p) (other : kind ≡ 50 → ⊥) where
+module _ (t msg slot : List ℕ) (kind seid p : ℕ) (a : Entering t msg slot kind seid p) (other : kind ≡ 50 → ⊥) where
   sound-table : T (sound maxSessions t)
-  sound-table = a .asked .table
+  sound-table = a .table
 
   k : TableKept maxSessions t
   k = table-kept maxSessions t sound-table

@@ -4,13 +4,13 @@ use Prim.Native.Nat.{ℕ, _*_, _≤_, _<_, _^_}
 use mathlib.Core.Path.{_≡_}
 use mathlib.Core.Bool.{Bool, false}
 use mathlib.Core.List.{List}
-use lib.Dec.{eqb}
+use lib.Dec.{T, eqb}
 use lib.ListN.{length}
 use Rattle.octets.specs.Choice.{pick}
 use Rattle.rules.specs.Limits.{maxSessions}
 use Rattle.rules.specs.Model.{freeCount}
 use Rattle.rules.specs.Layout.{sessionOctets, viewSession, viewSettings, viewSessions}
-use Rattle.rules.specs.Sound.{takenMap}
+use Rattle.rules.specs.Sound.{sound, takenMap}
 use Rattle.rules.specs.Message.{kindOf, headerSeid, readRequest}
 use Rattle.rules.specs.Stages.{isLive, entrySession, judged}
 use Rattle.rules.specs.Serve.{replyTo, serve}
@@ -28,8 +28,9 @@ pub record Counted (t words : List ℕ) (free : ℕ) : Type 0 where
   pub count : free ≡ freeCount (viewSettings t) (viewSessions t)
 
 -- where the session at entry comes from: the SEID of an establishment's F-SEID, or the place of the header's session in the table
-pub record Entering (t msg out slot : List ℕ) (kind seid p : ℕ) : Type 0 where
-  pub asked : Asked t msg out
+pub record Entering (t msg slot : List ℕ) (kind seid p : ℕ) : Type 0 where
+  pub table : T (sound maxSessions t)
+  pub tableLong : length t ≡ 30943
   pub kindIs : kind ≡ kindOf msg
   pub new : kind ≡ 50 → seid ≡ readRequest msg .seid
   pub fits : seid < 2 ^ 64

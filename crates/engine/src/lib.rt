@@ -110,8 +110,8 @@ fn is_live(t: &[u8], seid: u64) -> bool
 
 // Puts the session at entry into its slot: a new one for an establishment, else the one at the place p. The answer is whether the SEID of
 // an establishment is live.
-fn enter(t: &[u8], msg: &[u8], out: &[u8], kind: u64, seid: u64, p: usize, slot: &mut [u8]) -> bool
-    requires { ⌜ Entering (now t) (now msg) (now out) (now slot) kind seid p ⌝ }
+fn enter(t: &[u8], msg: &[u8], kind: u64, seid: u64, p: usize, slot: &mut [u8]) -> bool
+    requires { ⌜ Entering (now t) (now msg) (now slot) kind seid p ⌝ }
     ensures { λ r. ⌜ Entered (now (t .entry)) (now (msg .entry)) kind seid r (now (slot .exit)) ⌝ }
 {
     if kind == 50 {
@@ -182,7 +182,7 @@ fn change(
         }
         Reading::Whole(read) => {
             let mut slot = [0u8; SLOT];
-            let live = enter(t, msg, out, kind, read.seid, p, &mut slot);
+            let live = enter(t, msg, kind, read.seid, p, &mut slot);
             return settle(
                 t,
                 taken,

@@ -16,10 +16,10 @@ refuse-requires : tie.Need-refuse-requires
 refuse-requires c κs = fault-refuses (c .before .before .before .before .before .before .before .before .before .before .before .pre .0) (c .before .before .before .before .before .before .read-request .ensures) _ _ (c .before .before .before .reading .given .1)
 
 enter-requires : tie.Need-enter-requires
-enter-requires c κs = enter-asks (c .before .before .before .before .before .before .before .before .before .before .before .before .pre .0) (c .before .before .before .before .before .before .before .read-request .ensures) (c .before .before .before .before .reading2 .given .1) _ (search needs) refl
+enter-requires c κs = enter-asks (c .before .before .before .before .before .before .before .before .before .before .before .pre .0) (c .before .before .before .before .before .before .read-request .ensures) (c .before .before .before .reading2 .given .1) _ (search needs) refl
 
 settle-requires : tie.Need-settle-requires
-settle-requires c κs = (readable (c .before .before .before .before .before .before .before .before .before .before .before .before .before .before .before .before .before .before .pre .0) (c .before .before .before .before .before .before .before .before .before .before .before .before .before .read-request .ensures) (c .before .before .before .before .before .before .before .before .before .before .reading2 .given .1), c .before .before .before .before .before .before .before .before .before .before .before .before .before .before .before .before .before .before .pre .1, c .before .before .before .before .before .enter .ensures)
+settle-requires c κs = (readable (c .before .before .before .before .before .before .before .before .before .before .before .before .before .before .before .before .before .pre .0) (c .before .before .before .before .before .before .before .before .before .before .before .before .read-request .ensures) (c .before .before .before .before .before .before .before .before .before .reading2 .given .1), c .before .before .before .before .before .before .before .before .before .before .before .before .before .before .before .before .before .pre .1, c .before .before .before .before .before .enter .ensures)
 
 pub change-spec : {M : Type 1} → statement M
 change-spec =

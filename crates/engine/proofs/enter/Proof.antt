@@ -11,13 +11,13 @@ use Rattle.store.proofs.fresh.Reads as fresh-reads
 use Rattle.store.proofs.load.Reads as load-reads
 
 returns : tie.Need-returns
-returns c = entered-new _ _ _ _ _ _ _ _ _ (c .before .before .before .before .before .before .before .before .before .before .pre) (c .before .before .before .before .before .if1 .taken) (c .before .before .before .fresh .ensures) (search needs) (c .is-live .ensures)
+returns c = entered-new _ _ _ _ _ _ _ _ (c .before .before .before .before .before .before .before .before .before .pre) (c .before .before .before .before .before .if1 .taken) (c .before .before .before .fresh .ensures) (search needs) (c .is-live .ensures)
 
 load-requires : tie.Need-load-requires
-load-requires c κs = (search needs, place-within _ _ _ _ _ _ _ (c .before .before .before .before .before .before .pre) (c .before .if1 .left), search needs)
+load-requires c κs = (search needs, place-within _ _ _ _ _ _ (c .before .before .before .before .before .pre) (c .before .if1 .left), search needs)
 
 returns-2 : tie.Need-returns-2
-returns-2 c = entered-live _ _ _ _ _ _ _ (c .before .before .before .before .before .before .before .before .before .pre) (c .before .before .before .before .if1 .left) _ (c .before .before .load .ensures) (search needs)
+returns-2 c = entered-live _ _ _ _ _ _ (c .before .before .before .before .before .before .before .before .pre) (c .before .before .before .before .if1 .left) _ (c .before .before .load .ensures) (search needs)
 
 pub enter-spec : {M : Type 1} → statement M
 enter-spec =
