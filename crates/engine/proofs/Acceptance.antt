@@ -1,21 +1,20 @@
 -- What an accepted establishment or modification leaves.
 -- Assumes nothing.
 use mathlib.Core.Path.{_≡_, refl, sym, ap, ap₂, _∙_, subst}
-use mathlib.Core.Bool.{true}
 use mathlib.Core.List.{List}
 use Prim.Native.Nat.{ℕ, _*_, _^_, _≤_, _<_}
 use native.Mathlib.Omega.{arith}
 use lib.Dec.{T}
 use lib.ListN.{length, take}
 use Rattle.octets.specs.Octets.{put, octets, part, number, numberAt}
-use Rattle.octets.specs.Lists.{all, any, hasRepeat}
+use Rattle.octets.specs.Lists.{all, hasRepeat}
 use Rattle.octets.proofs.Tests.{is-false}
 use Rattle.rules.specs.Limits.{maxSessions, maxPool}
 use Rattle.rules.specs.Model.{Settings, Sessions, heldTeids}
 use Rattle.rules.specs.Layout.{viewSettings, viewSessions}
 use Rattle.rules.specs.Message.{Request, readRequest}
 use Rattle.rules.specs.Grants.{Grant, choices, grants, grantedTeid}
-use Rattle.rules.specs.Stages.{Verdict, plain, entrySession, fteidsOf, lacksFamily, createdPdrs, createdEndpoints}
+use Rattle.rules.specs.Stages.{Verdict, plain, entrySession, createdPdrs, createdEndpoints}
 use Rattle.rules.specs.Reply.{reply}
 use Rattle.rules.specs.Serve.{replyTo}
 use Rattle.claim.proofs.VerdictLaws.{Passed, passed, few-new-pdrs, few-new-endpoints}
@@ -32,8 +31,8 @@ use Rattle.grants.proofs.FitLaws as fits
 use Rattle.grants.proofs.FitLaws.{granted-fit}
 use Rattle.grants.proofs.ChoiceLaws.{choiceFits}
 use Rattle.grants.proofs.ReadLaws.{read-choices-fit, choices-few}
-use Rattle.reply.specs.Placed.{written}
-use Rattle.reply.specs.Rows.{grantsIn, idFits}
+use Rattle.writing.specs.Placed.{written}
+use Rattle.created.specs.Entries.{maxGrants, grantsAt}
 use Rattle.areas.specs.Counted.{withRecord}
 use Rattle.session.specs.Areas.{sessionArea}
 use Rattle.session.specs.Build.{built}
@@ -71,27 +70,18 @@ module _ {t words msg slot plan out : List ℕ} {seid n : ℕ} (a : Accepting t 
   few-choices : length (choices q) ≤ 24
   few-choices = subst (λ (r : Request). length (choices r) ≤ 24) (a .means) (choices-few (readRequest msg) (few-new-pdrs passes) (few-new-endpoints passes))
 
-  module _ {given : List ℕ} {k : ℕ} {plan′ given′ : List ℕ} (room : length given ≡ 96) (g : Granted n (s .first) words (s .size) plan given k plan′ given′) where
-    is-granted : IsGranted (grants s m q) seid (a .restoring) (a .noted) n plan k plan′ given′
+  module _ {k : ℕ} {plan′ places′ : List ℕ} (g : Granted n (s .first) words (s .size) plan k plan′ places′) where
+    is-granted : IsGranted (grants s m q) seid (a .restoring) (a .noted) n plan k plan′ places′
     is-granted =
-        granted seid (a .restoring) (a .noted) n plan s m words given marked-held (a .rows) (omega arith) choice-fits few-choices
+        granted seid (a .restoring) (a .noted) n plan s m words marked-held (a .rows) choice-fits few-choices
         (is-false (hasRepeat (createdPdrs q)) (rules .createdPdrsOnce)) (is-false (hasRepeat (createdEndpoints q)) (rules .createdEndpointsOnce)) g
 
-    grants-fit : fits.RowsFit s (take (4 * k) given′)
-    grants-fit = granted-fit s m q is-granted (kept .settings) choice-fits (is-false (any (lacksFamily s) (fteidsOf q)) (rules .families))
-
-    -- what the reply asks of the rows of grants
-    pub few-grants : k ≤ 24
+    -- what the reply asks of the plan and the places
+    pub few-grants : k ≤ maxGrants
     few-grants = is-granted .most
 
-    pub grants-short : length (take (4 * k) given′) ≤ 96
-    grants-short = grants-fit .few
-
-    pub grants-ids : all idFits (grantsIn (take (4 * k) given′)) ≡ true
-    grants-ids = grants-fit .ids
-
-    rows′ : List (List ℕ)
-    rows′ = rowsOf n plan′
+    pub grants-fit : fits.RowsFit plan′ (take k places′)
+    grants-fit = granted-fit s m q is-granted choice-fits
 
     means′ : readRequest msg ≡ requestIn seid (a .restoring) (a .noted) (rowsOf n plan′)
     means′ = a .means ∙ sym (is-granted .same)
@@ -114,11 +104,11 @@ module _ {t words msg slot plan out : List ℕ} {seid n : ℕ} (a : Accepting t 
     unfolding requestIn
     same-seid = sym (ap (λ (r : Request). r .seid) (a .means))
 
-    same-reply : reply s msg seid (plain 1) (grantsIn (take (4 * k) given′)) ≡ replyTo s m msg (verdictOn t msg)
+    same-reply : reply s msg seid (plain 1) (grantsAt plan′ (take k places′)) ≡ replyTo s m msg (verdictOn t msg)
     unfolding replyTo
-    same-reply = λ i. reply s msg (same-seid i) (sym (a .verdict) i) ((is-granted .written ∙ same-grants) i)
+    same-reply = λ i. reply s msg (same-seid i) (sym (a .verdict) i) ((is-granted .reported ∙ same-grants) i)
 
-    pub accepted-answers : (used : ℕ) (out′ slot′ t′ : List ℕ) → (used, out′) ≡ written (reply s msg seid (plain 1) (grantsIn (take (4 * k) given′))) out
+    pub accepted-answers : (used : ℕ) (out′ slot′ t′ : List ℕ) → (used, out′) ≡ written (reply s msg seid (plain 1) (grantsAt plan′ (take k places′))) out
         → slot′ ≡ built (rowsOf n plan′) slot → t′ ≡ withRecord sessionArea slot′ t → Answers t msg out used out′ t′
     accepted-answers used out′ slot′ t′ w b d =
         record {
@@ -136,26 +126,23 @@ module _ {t words msg slot plan out : List ℕ} {seid n first size : ℕ} (a : A
   unfolding viewSettings numberAt
   pool-fits = subst (λ (k : ℕ). k ≤ maxPool) (sym z) (a .size)
 
-  pub grant-asks : first < 256 ^ 4 → (n * rowWidth ≤ length plan) × (size ≤ 64 * length words) × (size ≤ maxPool) × (first < 2 ^ 32) × (96 ≤ 96)
-  grant-asks b = (a .rows, let h = pool-fits in let l = a .mapLong in omega arith, pool-fits, omega arith, omega arith)
+  pub grant-asks : first < 256 ^ 4 → (n * rowWidth ≤ length plan) × (size ≤ 64 * length words) × (size ≤ maxPool) × (first < 2 ^ 32) × (24 ≡ maxGrants)
+  grant-asks b = (a .rows, let h = pool-fits in let l = a .mapLong in omega arith, pool-fits, omega arith, refl)
 
-  module _ {given : List ℕ} {k : ℕ} {plan′ given′ : List ℕ} (room : length given ≡ 96) (g : Granted n first words size plan given k plan′ given′) where
-    from-settings : Granted n (viewSettings t .first) words (viewSettings t .size) plan given k plan′ given′
+  module _ {k : ℕ} {plan′ places′ : List ℕ} (g : Granted n first words size plan k plan′ places′) where
+    from-settings : Granted n (viewSettings t .first) words (viewSettings t .size) plan k plan′ places′
     unfolding viewSettings numberAt
-    from-settings = subst (λ (u : ℕ). Granted n u words (number (part 25 4 t)) plan given k plan′ given′) f (subst (λ (v : ℕ). Granted n first words v plan given k plan′ given′) z g)
+    from-settings = subst (λ (u : ℕ). Granted n u words (number (part 25 4 t)) plan k plan′ places′) f (subst (λ (v : ℕ). Granted n first words v plan k plan′ places′) z g)
 
-    pub read-few : k ≤ 24
-    read-few = few-grants a room from-settings
+    pub read-few : k ≤ maxGrants
+    read-few = few-grants a from-settings
 
-    pub read-short : length (take (4 * k) given′) ≤ 96
-    read-short = grants-short a room from-settings
+    pub read-fit : fits.RowsFit plan′ (take k places′)
+    read-fit = grants-fit a from-settings
 
-    pub read-ids : all idFits (grantsIn (take (4 * k) given′)) ≡ true
-    read-ids = grants-ids a room from-settings
-
-    pub read-answers : (used : ℕ) (out′ t′ : List ℕ) → (used, out′) ≡ written (reply (viewSettings t) msg seid (plain 1) (grantsIn (take (4 * k) given′))) out
+    pub read-answers : (used : ℕ) (out′ t′ : List ℕ) → (used, out′) ≡ written (reply (viewSettings t) msg seid (plain 1) (grantsAt plan′ (take k places′))) out
         → t′ ≡ withRecord sessionArea (built (rowsOf n plan′) slot) t → Answers t msg out used out′ t′
-    read-answers used out′ t′ w d = accepted-answers a room from-settings used out′ (built (rowsOf n plan′) slot) t′ w refl d
+    read-answers used out′ t′ w d = accepted-answers a from-settings used out′ (built (rowsOf n plan′) slot) t′ w refl d
 
 -- the session built and stored
 pub kept-session : (n : ℕ) (plan slot slot′ t t′ : List ℕ) → slot′ ≡ built (rowsOf n plan) slot → t′ ≡ withRecord sessionArea slot′ t

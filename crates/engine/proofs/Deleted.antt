@@ -21,8 +21,7 @@ use Rattle.claim.proofs.VerdictLaws.{passed}
 use Rattle.claim.proofs.Changed.{entry-known}
 use Rattle.areas.specs.Counted.{withoutRecord}
 use Rattle.session.specs.Areas.{sessionArea}
-use Rattle.reply.specs.Placed.{written}
-use Rattle.reply.specs.Rows.{grantsIn}
+use Rattle.writing.specs.Placed.{written}
 use Rattle.frame.specs.Framed.{faultIn}
 use Rattle.frame.specs.declared.Framing.{Framing}
 use Rattle.frame.specs.declared.Framing.the-variants as framings
@@ -63,9 +62,8 @@ module _ (t msg out : List ℕ) (a : Asked t msg out) (live : Live t msg) (fr : 
         let e = deletion-empty msg del in
         λ i. reply s msg (sym (e .seid) i) (sym accepts i) (sym (no-grants s m (entrySession m msg) (readRequest msg) e) i)
 
-    pub deleted-answers : (seid used : ℕ) (out′ t′ : List ℕ) → seid ≡ headerSeid msg → (used, out′) ≡ written (reply s msg 0 (plain 1) (grantsIn [])) out → t′ ≡ withoutRecord sessionArea seid t
+    pub deleted-answers : (seid used : ℕ) (out′ t′ : List ℕ) → seid ≡ headerSeid msg → (used, out′) ≡ written (reply s msg 0 (plain 1) []) out → t′ ≡ withoutRecord sessionArea seid t
         → Answers t msg out used out′ t′
-    unfolding grantsIn
     deleted-answers seid used out′ t′ es w d =
         record {
           long = ap (λ (p : ℕ × List ℕ). p .0) w ∙ ap length same-reply;
@@ -78,6 +76,6 @@ module _ (t msg out : List ℕ) (a : Asked t msg out) (live : Live t msg) (fr : 
 -- from what the code's readers answer
 pub deleted-through : (t msg out : List ℕ) (f : Framing) (v : read.Verdict) (seid used : ℕ) (out′ t′ : List ℕ) → Asked t msg out → Live t msg → kindOf msg ≡ 54 → seid ≡ headerSeid msg
     → faultIn f ≡ frameFault msg → f ≡ framings.Framed → told v ≡ numbered (readFault msg) → v ≡ Fine
-    → (used, out′) ≡ written (reply (viewSettings t) msg 0 (plain 1) (grantsIn [])) out → t′ ≡ withoutRecord sessionArea seid t → Answers t msg out used out′ t′
+    → (used, out′) ≡ written (reply (viewSettings t) msg 0 (plain 1) []) out → t′ ≡ withoutRecord sessionArea seid t → Answers t msg out used out′ t′
 deleted-through t msg out f v seid used out′ t′ a live del es fe fq ve vq w d =
     deleted-answers t msg out a live (framed t msg out a live f fe fq) (read-fine t msg out a live v ve vq) del seid used out′ t′ es w d

@@ -12,7 +12,7 @@ use Rattle.rules.specs.Grants.{grants}
 use Rattle.rules.specs.Stages.{Verdict}
 use Rattle.rules.specs.Reply.{reply}
 use Rattle.rules.specs.Serve.{replyTo}
-use Rattle.reply.specs.Placed.{written}
+use Rattle.writing.specs.Placed.{written}
 use Rattle.reply.specs.declared.Offending.{Offending}
 use Rattle.reply.specs.Naming.{refusal}
 use Rattle.reply.proofs.CallerLaws.{refusal-alone}

@@ -26,8 +26,8 @@ use reply::Offending;
 use request::Reading;
 use slots::Place;
 
-// Words of the grants: at most 24, four words each.
-const GRANTS: usize = 96;
+// The grants of a request at most.
+const GRANTS: usize = 24;
 
 // Words of the plan of the longest message: 226 rows of 18.
 const PLAN: usize = 4068;
@@ -56,8 +56,9 @@ fn delete(t: &mut [u8], msg: &[u8], seid: u64, out: &mut [u8]) -> usize
     if let Verdict::Refused(cause, kind) = verdict {
         return refuse(t, msg, cause, Offending::Element(kind), out);
     }
-    let none = [0u64; 4];
-    let used = reply::accepted(t, msg, 0, &none[0..0], out);
+    let plan = [0u64; 1];
+    let places = [0usize; 1];
+    let used = reply::accepted(t, msg, 0, &plan[0..0], &places[0..0], out);
     store::remove(t, seid);
     used
 }
@@ -88,10 +89,9 @@ fn accept(
     let words = taken.words;
     let first = octets::read(t, FIRST, 4);
     let size = octets::read(t, SIZE, 4) as usize;
-    let mut given = [0u64; GRANTS];
-    let k = grants::grant(plan, n, &words, first, size, &mut given);
-    let end = 4 * k;
-    let used = reply::accepted(t, msg, seid, &given[..end], out);
+    let mut places = [0usize; GRANTS];
+    let k = grants::grant(plan, n, &words, first, size, &mut places);
+    let used = reply::accepted(t, msg, seid, plan, &places[..k], out);
     keep(t, slot, plan, n);
     used
 }

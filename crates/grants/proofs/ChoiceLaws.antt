@@ -3,24 +3,24 @@ use mathlib.Core.Path.{_≡_, refl, sym, ap, _∙_}
 use mathlib.Core.Bool.{Bool, true, false, _&&_, _||_}
 use mathlib.Core.Option.{Option, none, some}
 use mathlib.Core.List.{List, [], _∷_, _++_, map}
-use Prim.Native.Nat.{ℕ, zero, suc, _+_, _-_, _≤_}
+use Prim.Native.Nat.{ℕ, zero, suc, _+_, _≤_}
 use native.Mathlib.Decide.{ℕ-discrete}
 use native.Mathlib.Omega.{arith}
 use borrow.Author.Tests.{eq-eqb, ne-eqb, eqb-true}
 use lib.Dec.{T, eqb, ltb}
 use lib.ListN.{length, drop, length-map}
 use lib.Seq.{take-all, drop-drop}
-use Rattle.octets.specs.Choice.{pick, bindOption, consOption}
+use Rattle.octets.specs.Choice.{pick, bindOption}
 use Rattle.octets.specs.Octets.{bit, part, slices}
 use Rattle.octets.specs.Lists.{all, keep, collect}
-use Rattle.octets.proofs.Tests.{pick-yes, and-left, and-right, all-head, all-tail, all-cons, both}
+use Rattle.octets.proofs.Tests.{pick-yes, and-left, all-head, all-tail, all-cons}
 use Rattle.rules.specs.Elements.{given, choose}
 use Rattle.rules.specs.Message.{Request}
 use Rattle.rules.specs.Grants.{Kind, ofPdr, ofEndpoint, Choice, sameKind, choiceOf, endpointChoice, pdrChoice, choices}
 use Rattle.plan.specs.Rows.{rowWidth, word, rowsOf, hasTag, tagged, fteidFrom, rowFteid, rowLocal, rowPdr, rowEndpoint, requestIn}
-use Rattle.reply.specs.Rows.{kindIn}
-use Rattle.grants.specs.Choosing.{maxGrants, choosing, placesFrom, places, rowId, octet, rowChooseId, choiceIn, choiceAt}
-use Rattle.grants.proofs.PlaceLaws.{all-append}
+use Rattle.created.specs.Groups.{kindIn}
+use Rattle.created.specs.Entries.{maxGrants, rowId}
+use Rattle.grants.specs.Choosing.{choosing, placesFrom, places, octet, rowChooseId, choiceIn, choiceAt}
 
 -- ---- of general use
 
@@ -46,10 +46,6 @@ idIsOctet (some i) = ltb i 256
 -- a CHOOSE ID is one octet, and so is an endpoint's ID
 abbrev pub choiceFits : Choice → Bool
 choiceFits c = idIsOctet (c .chooseId) && (sameKind ofPdr (c .kind) || ltb (c .id) 256)
-
--- a row's endpoint ID and CHOOSE ID are octets
-abbrev pub rowFits : List ℕ → Bool
-rowFits row = ltb (word 11 row) 256 && ltb (word 17 row) 256
 
 pub id-octet : (b : Bool) (c : ℕ) → T (ltb c 256) → T (idIsOctet (pick b (some c) none))
 id-octet true c h = h
@@ -121,48 +117,37 @@ module _ {A : Type 0} (g : A → Option Choice) (h : List ℕ → A) (tag : ℕ)
           rw v (λ j. here j ∷ more j)
       one true false t v ih f′ = rw v (ih (rw v at f′))
 
-  -- bounds of the rows are bounds of the choices
-  pub tagged-fit : ((row : List ℕ) → T (rowFits row) → T (sameKind ofPdr k || ltb (idOf row) 256)) → (rows : List (List ℕ)) → T (all rowFits rows)
-      → T (all choiceFits (collect g (map h (tagged tag rows))))
-  unfolding tagged keep collect all
-  tagged-fit fit [] f = tt
-  tagged-fit fit (row ∷ rows) f = one (hasTag tag row) (tagged-fit fit rows (all-tail rowFits row rows f))
-    where
-      this : T (choiceFits (rowChoice k (idOf row) row))
-      this =
-          let t = all-head rowFits row rows f in
-          both (idIsOctet (pick (bit 3 (word 12 row)) (some (word 17 row)) none)) (sameKind ofPdr k || ltb (idOf row) 256)
-          (id-octet (bit 3 (word 12 row)) (word 17 row) (and-right (ltb (word 11 row) 256) (ltb (word 17 row) 256) t)) (fit row t)
-
-      two : (d : Bool) → g (h row) ≡ pick d (some (rowChoice k (idOf row) row)) none → T (all choiceFits (collect g (map h (tagged tag rows))))
-          → T (all choiceFits (consOption (g (h row)) (collect g (map h (tagged tag rows)))))
-      two true v ih = rw v (all-cons choiceFits (rowChoice k (idOf row) row) (collect g (map h (tagged tag rows))) this ih)
-      two false v ih = rw v ih
-
-      one : (b : Bool) → T (all choiceFits (collect g (map h (tagged tag rows)))) → T (all choiceFits (collect g (map h (pick b (row ∷ tagged tag rows) (tagged tag rows)))))
-      one true ih = two (bit 2 (word 12 row)) (values row) ih
-      one false ih = ih
-
 -- ---- places and rows
-
-pub place-choices : (tag : ℕ) (plan : List ℕ) (left at : ℕ)
-    → map (choiceAt plan) (placesFrom tag at (slices rowWidth left (drop at plan))) ≡ map choiceIn (keep (choosing tag) (slices rowWidth left (drop at plan)))
-unfolding placesFrom keep slices
-place-choices tag plan zero at = refl
-place-choices tag plan (suc n) at =
-    one (choosing tag (part at rowWidth plan)) (slices rowWidth n (drop rowWidth (drop at plan)))
-    (ap (λ (l : List ℕ). map (choiceAt plan) (placesFrom tag (at + rowWidth) (slices rowWidth n l))) (drop-drop rowWidth at plan) ∙ place-choices tag plan n (at + rowWidth)
-    ∙ ap (λ (l : List ℕ). map choiceIn (keep (choosing tag) (slices rowWidth n l))) (sym (drop-drop rowWidth at plan)))
-  where
-    one : (b : Bool) (rows : List (List ℕ)) → map (choiceAt plan) (placesFrom tag (at + rowWidth) rows) ≡ map choiceIn (keep (choosing tag) rows)
-        → map (choiceAt plan) (pick b (at ∷ placesFrom tag (at + rowWidth) rows) (placesFrom tag (at + rowWidth) rows))
-        ≡ map choiceIn (pick b (part at rowWidth plan ∷ keep (choosing tag) rows) (keep (choosing tag) rows))
-    one true rows ih = unfold choiceAt in ap (λ (l : List Choice). choiceIn (part at rowWidth plan) ∷ l) ih
-    one false rows ih = ih
 
 -- the rows that choose: endpoints', then PDRs'
 unfoldable pub chosenRows : List (List ℕ) → List (List ℕ)
 chosenRows rows = keep (choosing 127) rows ++ keep (choosing 1) rows
+
+-- what is read of the rows at the places is what is read of the rows that choose
+module _ {A : Type 0} (f : List ℕ → A) (plan : List ℕ) where
+  abbrev readAt : ℕ → A
+  readAt at = f (part at rowWidth plan)
+
+  tag-rows : (tag left at : ℕ) → map readAt (placesFrom tag at (slices rowWidth left (drop at plan))) ≡ map f (keep (choosing tag) (slices rowWidth left (drop at plan)))
+  unfolding placesFrom keep slices
+  tag-rows tag zero at = refl
+  tag-rows tag (suc n) at =
+      one (choosing tag (part at rowWidth plan)) (slices rowWidth n (drop rowWidth (drop at plan)))
+      (ap (λ (l : List ℕ). map readAt (placesFrom tag (at + rowWidth) (slices rowWidth n l))) (drop-drop rowWidth at plan) ∙ tag-rows tag n (at + rowWidth)
+      ∙ ap (λ (l : List ℕ). map f (keep (choosing tag) (slices rowWidth n l))) (sym (drop-drop rowWidth at plan)))
+    where
+      one : (b : Bool) (rows : List (List ℕ)) → map readAt (placesFrom tag (at + rowWidth) rows) ≡ map f (keep (choosing tag) rows)
+          → map readAt (pick b (at ∷ placesFrom tag (at + rowWidth) rows) (placesFrom tag (at + rowWidth) rows))
+          ≡ map f (pick b (part at rowWidth plan ∷ keep (choosing tag) rows) (keep (choosing tag) rows))
+      one true rows ih = ap (λ (l : List A). f (part at rowWidth plan) ∷ l) ih
+      one false rows ih = ih
+
+  pub place-rows : (n : ℕ) → map readAt (placesFrom 127 0 (rowsOf n plan) ++ placesFrom 1 0 (rowsOf n plan)) ≡ map f (chosenRows (rowsOf n plan))
+  unfolding chosenRows
+  place-rows n =
+      map-append readAt (placesFrom 127 0 (rowsOf n plan)) (placesFrom 1 0 (rowsOf n plan))
+      ∙ (λ j. tag-rows 127 n 0 j ++ tag-rows 1 n 0 j)
+      ∙ sym (map-append f (keep (choosing 127) (rowsOf n plan)) (keep (choosing 1) (rowsOf n plan)))
 
 module _ (seid : ℕ) (restoring noted : Bool) (rows : List (List ℕ)) where
   abbrev r : Request
@@ -177,14 +162,6 @@ module _ (seid : ℕ) (restoring noted : Bool) (rows : List (List ℕ)) where
       let b = tagged-choices pdrChoice rowPdr 1 ofPdr (word 7) (unfold kindIn in refl) (λ row t. unfold rowId in rw t) pdr-choice rows p in
       (λ j. a j ++ b j) ∙ sym (map-append choiceIn (keep (choosing 127) rows) (keep (choosing 1) rows))
 
-  pub choices-fit : T (all rowFits rows) → T (all choiceFits (choices r))
-  unfolding choices requestIn
-  choices-fit f =
-      all-append choiceFits (collect endpointChoice (map rowEndpoint (tagged 127 rows))) (collect pdrChoice (map rowPdr (tagged 1 rows)))
-      (tagged-fit endpointChoice rowEndpoint 127 ofEndpoint (word 11) (unfold kindIn in refl) (λ row t. unfold rowId in rw t) endpoint-choice
-      (λ row t. unfold sameKind in and-left (ltb (word 11 row) 256) (ltb (word 17 row) 256) t) rows f)
-      (tagged-fit pdrChoice rowPdr 1 ofPdr (word 7) (unfold kindIn in refl) (λ row t. unfold rowId in rw t) pdr-choice (λ row t. unfold sameKind in tt) rows f)
-
 -- the CHOOSEs at a plan's places are the request's
 module _ (seid : ℕ) (restoring noted : Bool) (n : ℕ) (plan : List ℕ) (fits : T (all choiceFits (choices (requestIn seid restoring noted (rowsOf n plan)))))
     (few : length (choices (requestIn seid restoring noted (rowsOf n plan))) ≤ maxGrants) where
@@ -192,12 +169,8 @@ module _ (seid : ℕ) (restoring noted : Bool) (n : ℕ) (plan : List ℕ) (fits
   all-places = placesFrom 127 0 (rowsOf n plan) ++ placesFrom 1 0 (rowsOf n plan)
 
   all-choices : map (choiceAt plan) all-places ≡ choices (requestIn seid restoring noted (rowsOf n plan))
-  unfolding all-places chosenRows
-  all-choices =
-      map-append (choiceAt plan) (placesFrom 127 0 (rowsOf n plan)) (placesFrom 1 0 (rowsOf n plan))
-      ∙ (λ j. place-choices 127 plan n 0 j ++ place-choices 1 plan n 0 j)
-      ∙ sym (map-append choiceIn (keep (choosing 127) (rowsOf n plan)) (keep (choosing 1) (rowsOf n plan)))
-      ∙ sym (request-choices seid restoring noted (rowsOf n plan) fits)
+  unfolding all-places choiceAt
+  all-choices = place-rows choiceIn plan n ∙ sym (request-choices seid restoring noted (rowsOf n plan) fits)
 
   pub places-are : places n plan ≡ placesFrom 127 0 (rowsOf n plan) ++ placesFrom 1 0 (rowsOf n plan)
   unfolding places all-places

@@ -1,33 +1,26 @@
--- The grants' rows, one after the other, with what is known of CHOOSE IDs kept in words. Assumes nothing.
+-- The TEIDs given, one after the other, with what is known of CHOOSE IDs kept in words. Assumes nothing.
 use mathlib.Core.Path.{_≡_, refl, sym, ap, _∙_}
 use mathlib.Core.Bool.{Bool, true, false}
 use mathlib.Core.Option.{Option, none, some}
-use mathlib.Core.List.{List, [], _∷_, _++_, map}
-use Prim.Native.Nat.{ℕ, suc, _+_, _-_, _*_, _≤_, _<_}
+use mathlib.Core.List.{List, [], _∷_, map}
+use Prim.Native.Nat.{ℕ, _+_, _-_, _≤_, _<_}
 use native.Mathlib.Decide.{ℕ-discrete, decLt}
 use native.Mathlib.Omega.{arith}
 use borrow.Author.Tests.{eq-eqb, ne-eqb, lt-ltb, le-ltb}
-use lib.Dec.{T, eqb, ltb, leb→le}
-use lib.ListN.{length, take, drop, getD, set, replicate, length-set, length-replicate, length-take, length-drop, List·getD-eq-default}
-use lib.Seq.{sets, length-sets, set-out, getD-set-same, getD-set-other}
+use lib.Dec.{eqb, ltb}
+use lib.ListN.{length, take, drop, getD, set, replicate, length-set, length-replicate, List·getD-eq-default}
+use lib.Seq.{sets, set-out, getD-set-same, getD-set-other}
 use Rattle.octets.specs.Choice.{pick, valueOr, mapOption}
-use Rattle.octets.specs.Octets.{bit, part, concatMap}
-use Rattle.octets.specs.Lists.{all, findBy}
-use Rattle.lists.proofs.Loops.{left-more, left-none}
-use Rattle.rules.specs.Grants.{Choice, Chosen, Grant, chosen, isChoice, chosenTeid, remember, grantOf, teidFor, freeAfter, chosenAfter, grantFrom}
+use Rattle.octets.specs.Octets.{bit, part}
+use Rattle.octets.specs.Lists.{findBy}
+use Rattle.lists.proofs.Loops.{left-more, left-none, sets-more}
+use Rattle.rules.specs.Grants.{Choice, Chosen, chosen, isChoice, chosenTeid, remember, grantOf, grantTeid, teidFor, freeAfter, chosenAfter, grantFrom}
 use Rattle.plan.specs.Rows.{rowWidth}
 use Rattle.pool.specs.Map.{teidsFrom}
 use Rattle.pool.proofs.Marks.{zeros-at}
-use Rattle.grants.specs.Choosing.{rowChooseId, choiceIn, choiceAt, grantWords, grantsAt, rowsAt}
+use Rattle.grants.specs.Choosing.{rowChooseId, choiceIn, choiceAt, chosenGrants, teidsAt}
 use Rattle.grants.specs.Steps.{kept, Gives}
 use Rattle.grants.specs.declared.Given.{Given}
-use Rattle.grants.proofs.PlaceLaws.{within, all-at}
-
--- ---- of general use
-
-pub sets-append : (l : List ℕ) (k : ℕ) (a b : List ℕ) → sets l k (a ++ b) ≡ sets (sets l k a) (k + length a) b
-sets-append l k [] b = let e : k + 0 ≡ k = omega arith in rw e
-sets-append l k (x ∷ a) b = let e : k + suc (length a) ≡ suc k + length a = omega arith in rw e (sets-append (set l k x) (suc k) a b)
 
 -- ---- CHOOSE IDs
 
@@ -35,7 +28,7 @@ sets-append l k (x ∷ a) b = let e : k + suc (length a) ≡ suc k + length a = 
 abbrev pub Knows : List ℕ → List Chosen → Type 0
 Knows known cs = (i : ℕ) → chosenTeid cs (some i) ≡ kept (getD known i 0)
 
-pub knows-none : (n : ℕ) → Knows (replicate n 0) []
+knows-none : (n : ℕ) → Knows (replicate n 0) []
 unfolding chosenTeid findBy
 knows-none n i = rw (zeros-at n i)
 
@@ -45,7 +38,7 @@ Fits known none = Unit {0}
 Fits known (some i) = i < length known
 
 -- of a row
-pub id-fits : (known row : List ℕ) → length known ≡ 256 → Fits known (rowChooseId row)
+id-fits : (known row : List ℕ) → length known ≡ 256 → Fits known (rowChooseId row)
 unfolding rowChooseId
 id-fits known row l = one (bit 3 (getD row 12 0)) (decLt (getD row 17 0) 256)
   where
@@ -84,18 +77,13 @@ knows-after known cs free o t l f k e = one (eqb (getD known (valueOr 256 o) 0) 
     one true none f′ e′ = unfold remember in rw (set-out known 256 (t + 1) (omega arith)) k
     one true (some i) f′ e′ = rw (← e′) (knows-more known cs i t k f′)
 
--- ---- the rows
+-- ---- the TEIDs
 
-pub rows-more : (cs : List Chosen) (free : List ℕ) (c : Choice) (more : List Choice) (o : Option ℕ) → chosenTeid cs (c .chooseId) ≡ o
-    → concatMap grantWords (grantFrom cs free (c ∷ more))
-    ≡ grantWords (grantOf c (teidFor o free)) ++ concatMap grantWords (grantFrom (chosenAfter o cs (c .chooseId) free) (freeAfter o free) more)
-unfolding grantFrom concatMap
-rows-more cs free c more o e =
-    ap (λ (q : Option ℕ). grantWords (grantOf c (teidFor q free)) ++ concatMap grantWords (grantFrom (chosenAfter q cs (c .chooseId) free) (freeAfter q free) more)) e
-
-length-words : (g : Grant) → length (grantWords g) ≡ 4
-unfolding grantWords
-length-words g = refl
+teids-more : (cs : List Chosen) (free : List ℕ) (c : Choice) (more : List Choice) (o : Option ℕ) → chosenTeid cs (c .chooseId) ≡ o
+    → map grantTeid (grantFrom cs free (c ∷ more)) ≡ teidFor o free ∷ map grantTeid (grantFrom (chosenAfter o cs (c .chooseId) free) (freeAfter o free) more)
+unfolding grantFrom grantOf
+teids-more cs free c more o e =
+    ap (λ (q : Option ℕ). teidFor q free ∷ map grantTeid (grantFrom (chosenAfter q cs (c .chooseId) free) (freeAfter q free) more)) e
 
 length-after : (b : Bool) (known : List ℕ) (i v : ℕ) → length (pick b (set known i v) known) ≡ length known
 length-after true known i v = length-set known i v
@@ -105,29 +93,28 @@ choice-id : (row : List ℕ) → choiceIn row .chooseId ≡ rowChooseId row
 unfolding choiceIn
 choice-id row = refl
 
--- Where the filling stands: the rows of the places that are left, stored after those that are done, make all.
-pub record Filling (plan ps words : List ℕ) (first size : ℕ) (out₀ out known : List ℕ) (from i : ℕ) : Type 0 where
+-- Where the filling stands: the TEIDs of the places that are left, stored after those that are done, make all.
+pub record Filling (plan ps words : List ℕ) (first size : ℕ) (ts₀ ts known : List ℕ) (from i : ℕ) : Type 0 where
   pub inside : i ≤ length ps
-  pub long : length out ≡ length out₀
+  pub long : length ts ≡ length ts₀
   pub ids : length known ≡ 256
   pub cs : List Chosen
   pub knows : Knows known cs
   pub same :
-      sets out (4 * i) (concatMap grantWords (grantFrom cs (teidsFrom first words from size) (map (choiceAt plan) (drop i ps))))
-      ≡ sets out₀ 0 (rowsAt first words size plan ps)
+      sets ts i (map grantTeid (grantFrom cs (teidsFrom first words from size) (map (choiceAt plan) (drop i ps))))
+      ≡ sets ts₀ 0 (teidsAt first words size plan ps)
 
-module _ (plan ps words : List ℕ) (first size : ℕ) (out₀ : List ℕ) where
-  pub filling-none : Filling plan ps words first size out₀ out₀ (replicate 256 0) 0 0
-  unfolding rowsAt grantsAt
+module _ (plan ps words : List ℕ) (first size : ℕ) (ts₀ : List ℕ) where
+  pub filling-none : Filling plan ps words first size ts₀ ts₀ (replicate 256 0) 0 0
+  unfolding teidsAt chosenGrants
   filling-none = record { inside = omega arith; long = refl; ids = length-replicate {A = ℕ} 256 0; cs = []; knows = knows-none 256; same = refl }
 
-  module _ {out known : List ℕ} {from i : ℕ} (f : Filling plan ps words first size out₀ out known from i) where
-    pub filling-more : {known′ out′ : List ℕ} {g : Given} {id : ℕ} → i < length ps → id ≡ valueOr 256 (rowChooseId (part (getD ps i 0) rowWidth plan))
+  module _ {ts known : List ℕ} {from i : ℕ} (f : Filling plan ps words first size ts₀ ts known from i) where
+    filling-more : {known′ : List ℕ} {g : Given} {id : ℕ} → i < length ps → id ≡ valueOr 256 (rowChooseId (part (getD ps i 0) rowWidth plan))
         → Gives first words from size known id g known′
-        → out′ ≡ sets out (4 * i) (grantWords (grantOf (choiceIn (part (getD ps i 0) rowWidth plan)) (g .teid)))
-        → Filling plan ps words first size out₀ out′ known′ (g .next) (i + 1)
+        → Filling plan ps words first size ts₀ (set ts i (g .teid)) known′ (g .next) (i + 1)
     unfolding choiceAt
-    filling-more {known′} {out′} {g} {id} h e v s =
+    filling-more {known′} {g} {id} h e v =
         let row : List ℕ = part (getD ps i 0) rowWidth plan in
         let c : Choice = choiceIn row in
         let o : Option ℕ = c .chooseId in
@@ -137,40 +124,27 @@ module _ (plan ps words : List ℕ) (first size : ℕ) (out₀ : List ℕ) where
         let w = rw place at v in
         let has : Option ℕ = kept (getD known (valueOr 256 o) 0) in
         let cs′ : List Chosen = chosenAfter has (f .cs) o free in
-        let one = rows-more (f .cs) free c more has (known-teid known (f .cs) o (f .ids) (f .knows)) in
-        let l = f .long in
-        let next : 4 * (i + 1) ≡ 4 * i + length (grantWords (grantOf c (g .teid))) = omega (arith, length-words (grantOf c (g .teid))) in
-        let left : List ℕ = concatMap grantWords (grantFrom cs′ (teidsFrom first words (g .next) size) more) in
-        let first-row : sets out′ (4 * (i + 1)) left ≡ sets out (4 * i) (grantWords (grantOf c (g .teid)) ++ left) =
-        rw (s, next) (sym (sets-append out (4 * i) (grantWords (grantOf c (g .teid))) left)) in
-        let both : grantWords (grantOf c (g .teid)) ++ left ≡ concatMap grantWords (grantFrom (f .cs) free (c ∷ more)) = rw (w .teid, w .free) (sym one) in
+        let one = teids-more (f .cs) free c more has (known-teid known (f .cs) o (f .ids) (f .knows)) in
+        let left : List ℕ = map grantTeid (grantFrom cs′ (teidsFrom first words (g .next) size) more) in
+        let both : g .teid ∷ left ≡ map grantTeid (grantFrom (f .cs) free (c ∷ more)) = rw (w .teid, w .free) (sym one) in
         record {
           inside = omega arith;
-          long = ap length s ∙ length-sets out (4 * i) (grantWords (grantOf c (g .teid))) ∙ l;
+          long = length-set ts i (g .teid) ∙ f .long;
           ids = ap length (w .knows) ∙ length-after (eqb (getD known (valueOr 256 o) 0) 0) known (valueOr 256 o) (g .teid + 1) ∙ f .ids;
           cs = cs′;
           knows = rw (w .knows) (knows-after known (f .cs) free o (g .teid) (f .ids) (rw (choice-id row) (id-fits known row (f .ids))) (f .knows) (w .teid));
-          same = first-row ∙ ap (λ (xs : List ℕ). sets out (4 * i) xs) both ∙ rw (left-more ps i h) at (f .same);
+          same = sym (sets-more ts i (g .teid) left) ∙ ap (λ (xs : List ℕ). sets ts i xs) both ∙ rw (left-more ps i h) at (f .same);
         }
 
-    -- the row that is read next
-    pub filling-inside : T (all (within plan) ps) → i < length ps → getD ps i 0 + rowWidth ≤ length plan
-    filling-inside t h = leb→le (getD ps i 0 + rowWidth) (length plan) (all-at (within plan) ps i h t)
-
-    pub filling-row : T (all (within plan) ps) → i < length ps → length (take (getD ps i 0 + rowWidth - getD ps i 0) (drop (getD ps i 0) plan)) ≡ rowWidth
-    filling-row t h =
-        omega (arith, filling-inside t h, length-take (getD ps i 0 + rowWidth - getD ps i 0) (drop (getD ps i 0) plan), length-drop (getD ps i 0) plan)
-
     -- a turn as the code slices the row
-    pub filling-turn : {known′ out′ : List ℕ} {g : Given} {id : ℕ} → i < length ps
+    pub filling-turn : {known′ : List ℕ} {g : Given} {id : ℕ} → i < length ps
         → id ≡ valueOr 256 (rowChooseId (take (getD ps i 0 + rowWidth - getD ps i 0) (drop (getD ps i 0) plan)))
         → Gives first words from size known id g known′
-        → out′ ≡ sets out (4 * i) (grantWords (grantOf (choiceIn (take (getD ps i 0 + rowWidth - getD ps i 0) (drop (getD ps i 0) plan))) (g .teid)))
-        → Filling plan ps words first size out₀ out′ known′ (g .next) (i + 1)
-    filling-turn h e v s =
+        → Filling plan ps words first size ts₀ (set ts i (g .teid)) known′ (g .next) (i + 1)
+    filling-turn h e v =
         let w : getD ps i 0 + rowWidth - getD ps i 0 ≡ rowWidth = omega arith in
-        filling-more h (rw w at e) v (rw w at s)
+        filling-more h (rw w at e) v
 
-    pub filling-all : length ps ≤ i → out ≡ sets out₀ 0 (rowsAt first words size plan ps)
-    unfolding grantFrom concatMap
+    pub filling-all : length ps ≤ i → ts ≡ sets ts₀ 0 (teidsAt first words size plan ps)
+    unfolding grantFrom
     filling-all h = rw (left-none ps i h) at (f .same)

@@ -1,14 +1,13 @@
--- How long the grants' rows are, and what `grant` leaves from what its calls leave. Assumes nothing.
+-- How many grants there are, and what `grant` leaves from what its calls leave. Assumes nothing.
 use mathlib.Core.Path.{_≡_, refl, sym, ap, _∙_}
 use mathlib.Core.List.{List, [], _∷_, _++_, map}
-use Prim.Native.Nat.{ℕ, _+_, _*_, _≤_}
+use Prim.Native.Nat.{ℕ, _+_, _≤_}
 use native.Mathlib.Omega.{arith}
-use lib.ListN.{length, drop, length-map}
+use lib.ListN.{length, take, drop, length-map}
 use lib.Seq.{sets, sets-eq}
-use Rattle.octets.specs.Octets.{concatMap}
-use Rattle.rules.specs.Grants.{Choice, Chosen, Grant, chosenTeid, chosenAfter, freeAfter, grantFrom}
+use Rattle.rules.specs.Grants.{Choice, Chosen, grantTeid, chosenTeid, chosenAfter, freeAfter, grantFrom}
 use Rattle.pool.specs.Map.{teidsFrom}
-use Rattle.grants.specs.Choosing.{places, choiceAt, grantWords, grantsAt, rowsAt, stores, Granted}
+use Rattle.grants.specs.Choosing.{places, choiceAt, chosenGrants, teidsAt, stores, Granted}
 use Rattle.grants.proofs.StoreLaws.{stores-front}
 
 -- a grant for each choice
@@ -20,26 +19,21 @@ length-grants cs free (c ∷ xs) =
     let n = length-grants (chosenAfter o cs (c .chooseId) free) (freeAfter o free) xs in
     omega arith
 
--- four words for each grant
-pub length-words : (gs : List Grant) → length (concatMap grantWords gs) ≡ 4 * length gs
-unfolding concatMap grantWords
-length-words [] = refl
-length-words (g ∷ gs) = let n = length-words gs in omega arith
+-- a TEID for each place
+length-teids : (first : ℕ) (words : List ℕ) (size : ℕ) (plan ps : List ℕ) → length (teidsAt first words size plan ps) ≡ length ps
+unfolding teidsAt chosenGrants
+length-teids first words size plan ps =
+    length-map (chosenGrants first words size plan ps) grantTeid
+    ∙ length-grants [] (teidsFrom first words 0 size) (map (choiceAt plan) ps)
+    ∙ length-map ps (choiceAt plan)
 
-pub length-rows : (first : ℕ) (words : List ℕ) (size : ℕ) (plan ps : List ℕ) → length (rowsAt first words size plan ps) ≡ 4 * length ps
-unfolding rowsAt grantsAt
-length-rows first words size plan ps =
-    let a = length-words (grantsAt first words size plan ps) in
-    let b = length-grants [] (teidsFrom first words 0 size) (map (choiceAt plan) ps) in
-    let c = length-map ps (choiceAt plan) in
-    omega arith
-
-pub granted-steps : (n first : ℕ) (words : List ℕ) (size : ℕ) (plan out : List ℕ) {m : ℕ} {ps out′ plan′ : List ℕ} → ps ≡ places n plan → length ps ≡ m → 4 * m ≤ length out
-    → out′ ≡ sets out 0 (rowsAt first words size plan ps) → plan′ ≡ stores plan ps out′ → Granted n first words size plan out m plan′ out′
-granted-steps n first words size plan out {m} {ps} {out′} {plan′} e l h f g =
-    let rows : List ℕ = rowsAt first words size plan ps in
-    let four = length-rows first words size plan ps in
-    let front : out′ ≡ rows ++ drop (0 + length rows) out = f ∙ sets-eq rows out 0 (omega arith) in
-    let stored : plan′ ≡ stores plan ps rows =
-    g ∙ ap (λ (xs : List ℕ). stores plan ps xs) front ∙ stores-front plan ps rows (drop (0 + length rows) out) (omega arith) in
-    record { count = sym l ∙ ap length e; rows = rw e at f; stored = rw e at stored }
+pub granted-steps : (n first : ℕ) (words : List ℕ) (size : ℕ) (plan ts : List ℕ) {m : ℕ} {places′ ts′ plan′ : List ℕ}
+    → take m places′ ≡ places n plan → length (take m places′) ≡ m → m ≤ length ts
+    → ts′ ≡ sets ts 0 (teidsAt first words size plan (take m places′)) → plan′ ≡ stores plan (take m places′) ts′ → Granted n first words size plan m plan′ places′
+granted-steps n first words size plan ts {m} {places′} {ts′} {plan′} e l h f g =
+    let ps : List ℕ = take m places′ in
+    let given : List ℕ = teidsAt first words size plan ps in
+    let many = length-teids first words size plan ps in
+    let front : ts′ ≡ given ++ drop (0 + length given) ts = f ∙ sets-eq given ts 0 (omega arith) in
+    let stored : plan′ ≡ stores plan ps given = g ∙ ap (λ (xs : List ℕ). stores plan ps xs) front ∙ stores-front plan ps given (drop (0 + length given) ts) (omega arith) in
+    record { count = sym l ∙ ap length e; listed = e; stored = stored ∙ (λ j. stores plan (e j) (teidsAt first words size plan (e j))) }

@@ -4,11 +4,11 @@ pub mod StoreLaws
 pub mod FillLaws
 pub mod GrantSteps
 pub mod ChoiceLaws
-pub mod RowsBack
 pub mod OwnLaws
 pub mod PassLaws
 pub mod PlanLaws
 pub mod RequestLaws
+pub mod ReportLaws
 pub mod GrantLaws
 pub mod FitLaws
 pub mod ReadLaws

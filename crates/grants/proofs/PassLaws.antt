@@ -2,34 +2,22 @@
 use mathlib.Core.Path.{_≡_, refl, sym, ap, _∙_}
 use mathlib.Core.Bool.{Bool, true, false}
 use mathlib.Core.List.{List, [], _∷_, _++_, map, append-assoc}
-use Prim.Native.Nat.{ℕ, zero, suc, _+_, _-_, _*_, _≤_, _<_}
+use Prim.Native.Nat.{ℕ, zero, suc, _+_, _*_, _≤_, _<_}
 use native.Mathlib.Omega.{arith}
 use lib.ListN.{length, take, drop, set, length-set, length-append, length-drop, take-append-drop}
 use lib.Seq.{length-take-le, set-append-left, take-at, drop-at, drop-drop, drop-append-add}
-use Rattle.octets.specs.Choice.{pick, headOr, rest}
-use Rattle.octets.specs.Octets.{slices, concatMap}
+use Rattle.octets.specs.Choice.{pick}
+use Rattle.octets.specs.Octets.{slices}
 use Rattle.octets.specs.Lists.{keep}
-use Rattle.rules.specs.Grants.{Grant, grantTeid}
 use Rattle.plan.specs.Rows.{rowWidth}
-use Rattle.grants.specs.Choosing.{choosing, placesFrom, grantWords, stores}
+use Rattle.grants.specs.Choosing.{choosing, placesFrom, stores}
 
--- TEIDs written at places
-unfoldable pub puts : List ℕ → List ℕ → List ℕ → List ℕ
-puts plan [] ts = plan
-puts plan (p ∷ ps) ts = puts (set plan (p + 13) (headOr 0 ts)) ps (rest ts)
-
-pub stores-puts : (plan ps : List ℕ) (gs : List Grant) → stores plan ps (concatMap grantWords gs) ≡ puts plan ps (map grantTeid gs)
-unfolding stores puts concatMap grantWords
-stores-puts plan [] gs = refl
-stores-puts plan (p ∷ ps) [] = stores-puts (set plan (p + 13) 0) ps []
-stores-puts plan (p ∷ ps) (g ∷ gs) = stores-puts (set plan (p + 13) (g .local .teid)) ps gs
-
-pub puts-append : (plan ps qs ts us : List ℕ) → length ps ≡ length ts → puts plan (ps ++ qs) (ts ++ us) ≡ puts (puts plan ps ts) qs us
-unfolding puts
-puts-append plan [] qs [] us e = refl
-puts-append plan [] qs (t ∷ ts) us e = absurd (omega arith)
-puts-append plan (p ∷ ps) qs [] us e = absurd (omega arith)
-puts-append plan (p ∷ ps) qs (t ∷ ts) us e = puts-append (set plan (p + 13) t) ps qs ts us (omega arith)
+pub stores-append : (plan ps qs ts us : List ℕ) → length ps ≡ length ts → stores plan (ps ++ qs) (ts ++ us) ≡ stores (stores plan ps ts) qs us
+unfolding stores
+stores-append plan [] qs [] us e = refl
+stores-append plan [] qs (t ∷ ts) us e = absurd (omega arith)
+stores-append plan (p ∷ ps) qs [] us e = absurd (omega arith)
+stores-append plan (p ∷ ps) qs (t ∷ ts) us e = stores-append (set plan (p + 13) t) ps qs ts us (omega arith)
 
 set-row : (pre row after : List ℕ) (t : ℕ) → 13 < length row → set (pre ++ (row ++ after)) (length pre + 13) t ≡ (pre ++ set row 13 t) ++ after
 set-row [] row after t h = set-append-left row after 13 t h
@@ -70,33 +58,33 @@ module _ (tag : ℕ) (f : List ℕ → ℕ) where
       one false ih = ih
 
   pass-row : (row after pre : List ℕ) (rows : List (List ℕ)) → 13 < length row
-      → puts (pre ++ (row ++ after)) (placesFrom tag (length pre) (row ∷ rows)) (map f (keep (choosing tag) (row ∷ rows)))
-      ≡ puts ((pre ++ withTeid row) ++ after) (placesFrom tag (length pre + rowWidth) rows) (map f (keep (choosing tag) rows))
+      → stores (pre ++ (row ++ after)) (placesFrom tag (length pre) (row ∷ rows)) (map f (keep (choosing tag) (row ∷ rows)))
+      ≡ stores ((pre ++ withTeid row) ++ after) (placesFrom tag (length pre + rowWidth) rows) (map f (keep (choosing tag) rows))
   unfolding placesFrom keep withTeid
   pass-row row after pre rows w = two (choosing tag row)
     where
       two : (b : Bool)
-          → puts (pre ++ (row ++ after)) (pick b (length pre ∷ placesFrom tag (length pre + rowWidth) rows) (placesFrom tag (length pre + rowWidth) rows)) (map f (pick b (row ∷ keep (choosing tag) rows) (keep (choosing tag) rows)))
-          ≡ puts ((pre ++ pick b (set row 13 (f row)) row) ++ after) (placesFrom tag (length pre + rowWidth) rows) (map f (keep (choosing tag) rows))
-      two true = unfold puts in ap (λ (x : List ℕ). puts x (placesFrom tag (length pre + rowWidth) rows) (map f (keep (choosing tag) rows))) (set-row pre row after (f row) w)
-      two false = ap (λ (x : List ℕ). puts x (placesFrom tag (length pre + rowWidth) rows) (map f (keep (choosing tag) rows))) (sym (append-assoc pre row after))
+          → stores (pre ++ (row ++ after)) (pick b (length pre ∷ placesFrom tag (length pre + rowWidth) rows) (placesFrom tag (length pre + rowWidth) rows)) (map f (pick b (row ∷ keep (choosing tag) rows) (keep (choosing tag) rows)))
+          ≡ stores ((pre ++ pick b (set row 13 (f row)) row) ++ after) (placesFrom tag (length pre + rowWidth) rows) (map f (keep (choosing tag) rows))
+      two true = unfold stores in ap (λ (x : List ℕ). stores x (placesFrom tag (length pre + rowWidth) rows) (map f (keep (choosing tag) rows))) (set-row pre row after (f row) w)
+      two false = ap (λ (x : List ℕ). stores x (placesFrom tag (length pre + rowWidth) rows) (map f (keep (choosing tag) rows))) (sym (append-assoc pre row after))
 
-  pub puts-pass : (n : ℕ) (pre plan : List ℕ) → n * rowWidth ≤ length plan
-      → puts (pre ++ plan) (placesFrom tag (length pre) (slices rowWidth n plan)) (map f (keep (choosing tag) (slices rowWidth n plan))) ≡ pre ++ passed n plan
+  pub stores-pass : (n : ℕ) (pre plan : List ℕ) → n * rowWidth ≤ length plan
+      → stores (pre ++ plan) (placesFrom tag (length pre) (slices rowWidth n plan)) (map f (keep (choosing tag) (slices rowWidth n plan))) ≡ pre ++ passed n plan
   unfolding placesFrom keep slices passed
-  puts-pass zero pre plan h = unfold puts in refl
-  puts-pass (suc n) pre plan h =
+  stores-pass zero pre plan h = unfold stores in refl
+  stores-pass (suc n) pre plan h =
       let row : List ℕ = take rowWidth plan in
       let after : List ℕ = drop rowWidth plan in
       let l : length row ≡ rowWidth = length-take-le rowWidth plan (omega arith) in
       let d = length-drop rowWidth plan in
       let wide = length-first n plan h in
       let next : length (pre ++ withTeid row) ≡ length pre + rowWidth = length-append pre (withTeid row) ∙ omega arith in
-      let ih = puts-pass n (pre ++ withTeid row) after (omega arith) in
+      let ih = stores-pass n (pre ++ withTeid row) after (omega arith) in
       let split : pre ++ plan ≡ pre ++ (row ++ after) = ap (λ (x : List ℕ). pre ++ x) (sym (take-append-drop rowWidth plan)) in
-      ap (λ (x : List ℕ). puts x (placesFrom tag (length pre) (row ∷ slices rowWidth n after)) (map f (keep (choosing tag) (row ∷ slices rowWidth n after)))) split
+      ap (λ (x : List ℕ). stores x (placesFrom tag (length pre) (row ∷ slices rowWidth n after)) (map f (keep (choosing tag) (row ∷ slices rowWidth n after)))) split
       ∙ pass-row row after pre (slices rowWidth n after) (omega arith)
-      ∙ ap (λ (k : ℕ). puts ((pre ++ withTeid row) ++ after) (placesFrom tag k (slices rowWidth n after)) (map f (keep (choosing tag) (slices rowWidth n after)))) (sym next)
+      ∙ ap (λ (k : ℕ). stores ((pre ++ withTeid row) ++ after) (placesFrom tag k (slices rowWidth n after)) (map f (keep (choosing tag) (slices rowWidth n after)))) (sym next)
       ∙ ih ∙ append-assoc pre (withTeid row) (passed n after)
 
   -- what stands in the plan then

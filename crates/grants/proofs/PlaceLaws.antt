@@ -1,12 +1,12 @@
 -- The places of the rows that choose: found one row after the other, each row within the plan. Assumes nothing.
 use mathlib.Core.Path.{_≡_, refl, sym, ap, _∙_}
 use mathlib.Core.Bool.{Bool, true, false}
-use mathlib.Core.List.{List, [], _∷_, _++_, append-assoc, append-nil}
+use mathlib.Core.List.{List, [], _∷_, _++_, map, append-assoc, append-nil}
 use Prim.Native.Nat.{ℕ, zero, suc, _+_, _-_, _*_, _≤_, _<_}
 use native.Mathlib.Numerals.{add-one}
 use native.Mathlib.Omega.{arith}
 use lib.Dec.{T, leb, le→leb}
-use lib.ListN.{length, take, drop, getD, set, length-set, length-take, length-drop}
+use lib.ListN.{length, take, drop, set, length-set, length-take, length-drop}
 use lib.Seq.{length-take-le, take-all, take-at, take-suc-set, drop-drop}
 use Rattle.octets.specs.Choice.{pick}
 use Rattle.octets.specs.Octets.{part, slices}
@@ -14,15 +14,10 @@ use Rattle.octets.specs.Lists.{all}
 use Rattle.octets.proofs.Tests.{all-head, all-tail, all-cons}
 use Rattle.lists.proofs.RowLaws.{rows-more}
 use Rattle.plan.specs.Rows.{rowWidth, rowsOf}
-use Rattle.grants.specs.Choosing.{maxGrants, choosing, placesFrom, places}
+use Rattle.created.specs.Entries.{maxGrants, within}
+use Rattle.grants.specs.Choosing.{choosing, placesFrom, places}
 
 -- ---- of general use
-
--- a test of every element holds of the one at an index
-pub all-at : (p : ℕ → Bool) (xs : List ℕ) (i : ℕ) → i < length xs → T (all p xs) → T (p (getD xs i 0))
-all-at p [] i h t = absurd (omega arith)
-all-at p (x ∷ xs) zero h t = all-head p x xs t
-all-at p (x ∷ xs) (suc i) h t = all-at p xs i (omega arith) (all-tail p x xs t)
 
 pub all-append : {A : Type 0} (p : A → Bool) (xs ys : List A) → T (all p xs) → T (all p ys) → T (all p (xs ++ ys))
 all-append p [] ys h g = g
@@ -53,25 +48,35 @@ pub places-none : (tag at : ℕ) (plan : List ℕ) → placesFrom tag at (slices
 unfolding placesFrom slices
 places-none tag at plan = refl
 
--- a row at a place lies within the plan
-abbrev pub within : List ℕ → ℕ → Bool
-within plan p = leb (p + rowWidth) (length plan)
+-- rows that choose as others do have their places
+pub places-same : (tag : ℕ) (h : List ℕ → List ℕ) → ((row : List ℕ) → choosing tag (h row) ≡ choosing tag row) → (at : ℕ) (rows : List (List ℕ))
+    → placesFrom tag at (map h rows) ≡ placesFrom tag at rows
+unfolding placesFrom
+places-same tag h e at [] = refl
+places-same tag h e at (row ∷ rows) =
+    let b = e row in
+    let more = places-same tag h e (at + rowWidth) rows in
+    λ j. pick (b j) (at ∷ more j) (more j)
 
-within-from : (tag : ℕ) (plan : List ℕ) (left at : ℕ) → at + left * rowWidth ≤ length plan → T (all (within plan) (placesFrom tag at (slices rowWidth left (drop at plan))))
+-- the row at a place lies within the plan
+abbrev rowWithin : List ℕ → ℕ → Bool
+rowWithin plan p = leb (p + rowWidth) (length plan)
+
+within-from : (tag : ℕ) (plan : List ℕ) (left at : ℕ) → at + left * rowWidth ≤ length plan → T (all (rowWithin plan) (placesFrom tag at (slices rowWidth left (drop at plan))))
 within-from tag plan zero at h = rw (places-none tag at plan) (unfold all in tt)
 within-from tag plan (suc n) at h =
     let e : suc n - 1 ≡ n = omega arith in
     rw (places-more tag at (suc n) plan (omega arith), e) (one (choosing tag (part at rowWidth plan)) (within-from tag plan n (at + rowWidth) (omega arith)))
   where
-    one : (b : Bool) → T (all (within plan) (placesFrom tag (at + rowWidth) (slices rowWidth n (drop (at + rowWidth) plan))))
-        → T (all (within plan) (pick b (at ∷ placesFrom tag (at + rowWidth) (slices rowWidth n (drop (at + rowWidth) plan))) (placesFrom tag (at + rowWidth) (slices rowWidth n (drop (at + rowWidth) plan)))))
-    one true g = all-cons (within plan) at _ (le→leb (at + rowWidth) (length plan) (omega arith)) g
+    one : (b : Bool) → T (all (rowWithin plan) (placesFrom tag (at + rowWidth) (slices rowWidth n (drop (at + rowWidth) plan))))
+        → T (all (rowWithin plan) (pick b (at ∷ placesFrom tag (at + rowWidth) (slices rowWidth n (drop (at + rowWidth) plan))) (placesFrom tag (at + rowWidth) (slices rowWidth n (drop (at + rowWidth) plan)))))
+    one true g = all-cons (rowWithin plan) at _ (le→leb (at + rowWidth) (length plan) (omega arith)) g
     one false g = g
 
-pub places-within : (n : ℕ) (plan : List ℕ) → n * rowWidth ≤ length plan → T (all (within plan) (places n plan))
+pub places-within : (n : ℕ) (plan : List ℕ) → n * rowWidth ≤ length plan → T (within plan (places n plan))
 unfolding places
 places-within n plan h =
-    all-take (within plan) maxGrants _ (all-append (within plan) _ _ (within-from 127 plan n 0 (omega arith)) (within-from 1 plan n 0 (omega arith)))
+    all-take (rowWithin plan) maxGrants _ (all-append (rowWithin plan) _ _ (within-from 127 plan n 0 (omega arith)) (within-from 1 plan n 0 (omega arith)))
 
 -- ---- finding them
 

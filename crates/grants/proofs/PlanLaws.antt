@@ -9,15 +9,17 @@ use lib.Dec.{eqb}
 use lib.ListN.{length, drop, set}
 use lib.Seq.{getD-set-other}
 use Rattle.octets.specs.Choice.{pick}
-use Rattle.octets.specs.Octets.{bit, slices, concatMap}
+use Rattle.octets.specs.Octets.{bit, slices}
 use Rattle.octets.specs.Lists.{hasRepeat, keep}
 use Rattle.rules.specs.Grants.{Kind, ofPdr, ofEndpoint, Choice, Chosen, Grant, grantTeid, grantFrom, grantedTeid}
 use Rattle.plan.specs.Rows.{rowWidth, word, rowsOf, hasTag, tagged}
-use Rattle.reply.specs.Rows.{kindIn}
-use Rattle.grants.specs.Choosing.{choosing, placesFrom, rowId, choiceIn, grantWords, stores, rowWith}
+use Rattle.created.specs.Groups.{kindIn}
+use Rattle.created.specs.Entries.{rowId}
+use Rattle.grants.specs.Choosing.{choosing, placesFrom, choiceIn, stores, rowWith}
+use Rattle.grants.proofs.PlaceLaws.{places-same}
 use Rattle.grants.proofs.ChoiceLaws.{map-append, chosenRows}
 use Rattle.grants.proofs.OwnLaws.{Apart, Of, idOf, repeat-keep, apart-kind, apart-both, grants-map, own-teids}
-use Rattle.grants.proofs.PassLaws.{puts, stores-puts, puts-append, withTeid, passed, length-places, puts-pass, rows-passed, length-passed, rest-passed}
+use Rattle.grants.proofs.PassLaws.{stores-append, withTeid, passed, length-places, stores-pass, rows-passed, length-passed, rest-passed}
 
 -- ---- one row with another TEID
 
@@ -78,14 +80,6 @@ module _ (f : List ℕ → ℕ) where
       one true t ih = let w = with-pdr row t in λ j. w j ∷ ih j
       one false t ih = ih
 
-  places-with : (at : ℕ) (rows : List (List ℕ)) → placesFrom 1 at (map (withTeid 127 f) rows) ≡ placesFrom 1 at rows
-  unfolding placesFrom
-  places-with at [] = refl
-  places-with at (row ∷ rows) =
-      let b = with-choosing 1 127 row in
-      let more = places-with (at + rowWidth) rows in
-      λ j. pick (b j) (at ∷ more j) (more j)
-
   with-both : (row : List ℕ) → withTeid 1 f (withTeid 127 f row) ≡ pick (choosing 127 row || choosing 1 row) (set row 13 (f row)) row
   unfolding withTeid
   with-both row = one (choosing 127 row) refl
@@ -101,18 +95,18 @@ module _ (f : List ℕ → ℕ) where
     rows-first = rows-passed 127 f n plan h
 
     -- both passes
-    pub puts-both : puts plan (placesFrom 127 0 (rowsOf n plan) ++ placesFrom 1 0 (rowsOf n plan)) (map f (chosenRows (rowsOf n plan))) ≡ passed 1 f n (passed 127 f n plan)
+    pub stores-both : stores plan (placesFrom 127 0 (rowsOf n plan) ++ placesFrom 1 0 (rowsOf n plan)) (map f (chosenRows (rowsOf n plan))) ≡ passed 1 f n (passed 127 f n plan)
     unfolding chosenRows
-    puts-both =
+    stores-both =
         let rows : List (List ℕ) = rowsOf n plan in
         let l = length-passed 127 f n plan h in
-        let ps : placesFrom 1 0 (slices rowWidth n (passed 127 f n plan)) ≡ placesFrom 1 0 rows = ap (placesFrom 1 0) rows-first ∙ places-with 0 rows in
+        let ps : placesFrom 1 0 (slices rowWidth n (passed 127 f n plan)) ≡ placesFrom 1 0 rows = ap (placesFrom 1 0) rows-first ∙ places-same 1 (withTeid 127 f) (with-choosing 1 127) 0 rows in
         let ks : keep (choosing 1) (slices rowWidth n (passed 127 f n plan)) ≡ keep (choosing 1) rows = ap (keep (choosing 1)) rows-first ∙ keep-with rows in
-        ap (puts plan (placesFrom 127 0 rows ++ placesFrom 1 0 rows)) (map-append f (keep (choosing 127) rows) (keep (choosing 1) rows))
-        ∙ puts-append plan (placesFrom 127 0 rows) (placesFrom 1 0 rows) (map f (keep (choosing 127) rows)) (map f (keep (choosing 1) rows)) (length-places 127 f 0 rows)
-        ∙ ap (λ (x : List ℕ). puts x (placesFrom 1 0 rows) (map f (keep (choosing 1) rows))) (puts-pass 127 f n [] plan h)
-        ∙ sym (λ j. puts (passed 127 f n plan) (ps j) (map f (ks j)))
-        ∙ puts-pass 1 f n [] (passed 127 f n plan) (omega arith)
+        ap (stores plan (placesFrom 127 0 rows ++ placesFrom 1 0 rows)) (map-append f (keep (choosing 127) rows) (keep (choosing 1) rows))
+        ∙ stores-append plan (placesFrom 127 0 rows) (placesFrom 1 0 rows) (map f (keep (choosing 127) rows)) (map f (keep (choosing 1) rows)) (length-places 127 f 0 rows)
+        ∙ ap (λ (x : List ℕ). stores x (placesFrom 1 0 rows) (map f (keep (choosing 1) rows))) (stores-pass 127 f n [] plan h)
+        ∙ sym (λ j. stores (passed 127 f n plan) (ps j) (map f (ks j)))
+        ∙ stores-pass 1 f n [] (passed 127 f n plan) (omega arith)
 
     pub rows-both : rowsOf n (passed 1 f n (passed 127 f n plan)) ≡ map (λ (row : List ℕ). pick (choosing 127 row || choosing 1 row) (set row 13 (f row)) row) (rowsOf n plan)
     rows-both =
@@ -188,10 +182,10 @@ pub record After (gs : List Grant) (n : ℕ) (plan plan′ : List ℕ) : Type 0 
 
 pub plan-after : (gs : List Grant) (n : ℕ) (plan : List ℕ) → n * rowWidth ≤ length plan
     → map grantTeid gs ≡ map (λ (row : List ℕ). grantedTeid gs (kindIn (word 0 row)) (rowId row)) (chosenRows (rowsOf n plan))
-    → After gs n plan (stores plan (placesFrom 127 0 (rowsOf n plan) ++ placesFrom 1 0 (rowsOf n plan)) (concatMap grantWords gs))
+    → After gs n plan (stores plan (placesFrom 127 0 (rowsOf n plan) ++ placesFrom 1 0 (rowsOf n plan)) (map grantTeid gs))
 unfolding rowWith
 plan-after gs n plan h e =
     let f : List ℕ → ℕ = λ row. grantedTeid gs (kindIn (word 0 row)) (rowId row) in
     let ps : List ℕ = placesFrom 127 0 (rowsOf n plan) ++ placesFrom 1 0 (rowsOf n plan) in
-    let is : stores plan ps (concatMap grantWords gs) ≡ passed 1 f n (passed 127 f n plan) = stores-puts plan ps gs ∙ ap (puts plan ps) e ∙ puts-both f n plan h in
+    let is : stores plan ps (map grantTeid gs) ≡ passed 1 f n (passed 127 f n plan) = ap (stores plan ps) e ∙ stores-both f n plan h in
     record { rows = ap (rowsOf n) is ∙ rows-both f n plan h; rest = ap (drop (n * rowWidth)) is ∙ rest-both f n plan h }

@@ -1,6 +1,6 @@
 -- The rows with their grants' TEIDs mean the same request. Assumes nothing.
 use mathlib.Core.Path.{_≡_, refl, ap, _∙_}
-use mathlib.Core.Bool.{Bool, true, false, _||_}
+use mathlib.Core.Bool.{Bool, true, false, _&&_, _||_}
 use mathlib.Core.Option.{Option, none, some}
 use mathlib.Core.List.{List, [], _∷_, _++_, map}
 use Prim.Native.Nat.{ℕ}
@@ -53,6 +53,13 @@ module _ {a b : List ℕ} (w : Alike a b) where
   same-tag : (t : ℕ) → hasTag t a ≡ hasTag t b
   unfolding hasTag
   same-tag t = ap (λ (x : ℕ). eqb x t) (w .words 0 (λ z. omega arith))
+
+  pub same-choosing : (t : ℕ) → choosing t a ≡ choosing t b
+  unfolding choosing
+  same-choosing t =
+      let tag = same-tag t in
+      let flags = w .words 12 (λ z. omega arith) in
+      λ j. tag j && bit 2 (flags j)
 
   same-pdr : rowPdr a ≡ rowPdr b
   unfolding rowPdr rowLocal present

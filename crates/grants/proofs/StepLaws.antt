@@ -1,24 +1,20 @@
--- One row of a plan, one TEID given and one grant's row, as the code tests, finds and stores them. Assumes nothing.
-use mathlib.Core.Path.{_≡_, sym, ap, _∙_}
+-- One row of a plan and one TEID given, as the code tests and finds them. Assumes nothing.
+use mathlib.Core.Path.{_≡_, sym, _∙_}
 use mathlib.Core.Bool.{true, false}
-use mathlib.Core.List.{List, [], _∷_}
-use Prim.Native.Nat.{ℕ, suc, _+_, _-_, _*_, _/_, _%_, _≤_, _<_}
-use native.Mathlib.Decide.{ℕ-discrete}
-use native.Mathlib.Omega.{arith}
+use mathlib.Core.List.{List}
+use Prim.Native.Nat.{ℕ, _+_, _-_, _/_, _%_, _≤_, _<_}
 use borrow.Author.Tests.{eq-eqb, ne-eqb, lt-ltb, le-ltb}
 use lib.Dec.{eqb}
 use lib.ListN.{getD, set}
-use lib.Seq.{sets}
-use Rattle.octets.specs.Choice.{flag, valueOr}
+use Rattle.octets.specs.Choice.{valueOr}
 use Rattle.octets.specs.Octets.{bit}
-use Rattle.rules.specs.Grants.{grantOf, teidFor, freeAfter}
+use Rattle.rules.specs.Grants.{teidFor, freeAfter}
 use Rattle.plan.specs.Rows.{hasTag}
 use Rattle.pool.specs.declared.Lowest.the-variants.{At, Full}
 use Rattle.pool.specs.Answer.{lowest}
 use Rattle.pool.specs.Map.{freeFrom}
 use Rattle.pool.proofs.TakenLaws.{next-teid, no-teid}
-use Rattle.reply.specs.Rows.{kindIn}
-use Rattle.grants.specs.Choosing.{choosing, rowId, rowChooseId, choiceIn, kindWord, grantWords}
+use Rattle.grants.specs.Choosing.{choosing, rowChooseId}
 use Rattle.grants.specs.Steps.{Gives}
 
 -- ---- one row
@@ -43,54 +39,6 @@ module _ (row : List ℕ) where
   pub id-is : getD row 12 0 / 8 % 2 ≡ 1 → getD row 17 0 < 256 → getD row 17 0 ≡ valueOr 256 (rowChooseId row)
   unfolding rowChooseId bit
   id-is e h = rw (eq-eqb (getD row 12 0 / 8 % 2) 1 e, lt-ltb (getD row 17 0) 256 h)
-
-  pub kind-pdr : getD row 0 0 ≡ 1 → 1 ≡ kindWord (choiceIn row .kind)
-  unfolding choiceIn kindIn kindWord
-  kind-pdr e = rw (eq-eqb (getD row 0 0) 1 e)
-
-  pub kind-endpoint : (getD row 0 0 ≡ 1 → ⊥) → 127 ≡ kindWord (choiceIn row .kind)
-  unfolding choiceIn kindIn kindWord
-  kind-endpoint n = rw (ne-eqb (getD row 0 0) 1 n)
-
-  pub row-pdr : getD row 0 0 ≡ 1 → getD row 7 0 ≡ rowId row
-  unfolding rowId
-  row-pdr e = rw (eq-eqb (getD row 0 0) 1 e)
-
-  pub row-endpoint : (getD row 0 0 ≡ 1 → ⊥) → getD row 11 0 ≡ rowId row
-  unfolding rowId
-  row-endpoint n = rw (ne-eqb (getD row 0 0) 1 n)
-
--- ---- a grant's row
-
--- a test of a last bit as a number
-flag-bit : (x : ℕ) → flag (eqb (x % 2) 1) ≡ x % 2
-flag-bit x = go (ℕ-discrete (x % 2) 1)
-  where
-    go : Dec (x % 2 ≡ 1) → flag (eqb (x % 2) 1) ≡ x % 2
-    go (yes e) = ap flag (eq-eqb (x % 2) 1 e) ∙ sym e
-    go (no n) = ap flag (ne-eqb (x % 2) 1 n) ∙ omega (arith, n)
-
--- the two lowest bits of the flags are the families
-pub families : (f : ℕ) → f % 4 ≡ flag (bit 0 f) + 2 * flag (bit 1 f)
-unfolding bit
-families f =
-    let a = flag-bit (f / 1) in
-    let b = flag-bit (f / 2) in
-    omega arith
-
--- four words stored one after the other
-pub four-stores : (out : List ℕ) (at a b c d : ℕ) → set (set (set (set out at a) (at + 1) b) (at + 2) c) (at + 3) d ≡ sets out at (a ∷ b ∷ c ∷ d ∷ [])
-four-stores out at a b c d =
-    let e : at + 1 ≡ suc at = omega arith in
-    let f : at + 2 ≡ suc (suc at) = omega arith in
-    let g : at + 3 ≡ suc (suc (suc at)) = omega arith in
-    rw (e, f, g)
-
-pub grant-steps : (row out : List ℕ) (teid at k i : ℕ) → k ≡ kindWord (choiceIn row .kind) → i ≡ rowId row
-    → set (set (set (set out at k) (at + 1) i) (at + 2) teid) (at + 3) (getD row 12 0 % 4) ≡ sets out at (grantWords (grantOf (choiceIn row) teid))
-unfolding grantWords grantOf choiceIn
-grant-steps row out teid at k i e f =
-    four-stores out at k i teid (getD row 12 0 % 4) ∙ (λ j. sets out at (e j ∷ f j ∷ teid ∷ families (getD row 12 0) j ∷ []))
 
 -- ---- a TEID
 

@@ -1,28 +1,19 @@
--- The rows of a plan that choose, what they choose, and the rows of their grants.
+-- The rows of a plan that choose, what they choose, and the TEIDs that they get.
 -- A row begins at its place, counted in words. Assumes nothing.
-use Prim.Native.Nat.{ℕ, _+_, _*_}
+use Prim.Native.Nat.{ℕ, _+_}
 use mathlib.Core.Path.{_≡_}
 use mathlib.Core.Bool.{Bool, _&&_, _||_}
 use mathlib.Core.Option.{Option, none, some}
 use mathlib.Core.List.{List, [], _∷_, _++_, map}
-use lib.ListN.{length, take, drop, getD, set}
-use lib.Seq.{sets}
-use lib.Dec.{eqb, ltb}
-use Rattle.octets.specs.Choice.{pick, flag}
-use Rattle.octets.specs.Octets.{bit, part, concatMap}
-use Rattle.rules.specs.Limits.{maxPdrs, maxEndpoints}
-use Rattle.rules.specs.Grants.{Kind, ofPdr, ofEndpoint, Choice, Grant, grantFrom, grantedTeid}
+use lib.ListN.{length, take, set}
+use lib.Dec.{ltb}
+use Rattle.octets.specs.Choice.{pick, headOr, rest}
+use Rattle.octets.specs.Octets.{bit, part}
+use Rattle.rules.specs.Grants.{Choice, Grant, grantTeid, grantFrom, grantedTeid}
 use Rattle.plan.specs.Rows.{rowWidth, word, rowsOf, hasTag}
 use Rattle.pool.specs.Map.{teidsFrom}
-use Rattle.reply.specs.Rows.{kindIn}
-
--- 01's list of grants has at most 24 entries: one for each record of a session
-abbrev pub maxGrants : ℕ
-maxGrants = maxPdrs + maxEndpoints
-
--- words in a grant's row
-abbrev pub grantWidth : ℕ
-grantWidth = 4
+use Rattle.created.specs.Groups.{kindIn}
+use Rattle.created.specs.Entries.{maxGrants, rowId}
 
 -- ---- rows that choose
 
@@ -41,9 +32,6 @@ places n plan = take maxGrants (placesFrom 127 0 (rowsOf n plan) ++ placesFrom 1
 
 -- ---- what they choose
 
-unfoldable pub rowId : List ℕ → ℕ
-rowId row = pick (eqb (word 0 row) 1) (word 7 row) (word 11 row)
-
 -- a CHOOSE ID is one octet
 abbrev pub octet : ℕ → Option ℕ
 octet c = pick (ltb c 256) (some c) none
@@ -58,34 +46,26 @@ choiceIn row = record { kind = kindIn (word 0 row); id = rowId row; v4 = bit 0 (
 unfoldable pub choiceAt : List ℕ → ℕ → Choice
 choiceAt plan at = choiceIn (part at rowWidth plan)
 
--- ---- grants as rows
-
-unfoldable pub kindWord : Kind → ℕ
-kindWord ofPdr = 1
-kindWord ofEndpoint = 127
-
--- the type of the group that creates the record, its ID, the TEID, the families (V4 = 1, V6 = 2)
-unfoldable pub grantWords : Grant → List ℕ
-grantWords g = kindWord (g .kind) ∷ g .id ∷ g .local .teid ∷ (flag (g .local .v4) + 2 * flag (g .local .v6)) ∷ []
+-- ---- the TEIDs that they get
 
 -- the grants of the rows at places, by a map of taken TEIDs
-unfoldable pub grantsAt : ℕ → List ℕ → ℕ → List ℕ → List ℕ → List Grant
-grantsAt first words size plan ps = grantFrom [] (teidsFrom first words 0 size) (map (choiceAt plan) ps)
+unfoldable pub chosenGrants : ℕ → List ℕ → ℕ → List ℕ → List ℕ → List Grant
+chosenGrants first words size plan ps = grantFrom [] (teidsFrom first words 0 size) (map (choiceAt plan) ps)
 
-unfoldable pub rowsAt : ℕ → List ℕ → ℕ → List ℕ → List ℕ → List ℕ
-rowsAt first words size plan ps = concatMap grantWords (grantsAt first words size plan ps)
+unfoldable pub teidsAt : ℕ → List ℕ → ℕ → List ℕ → List ℕ → List ℕ
+teidsAt first words size plan ps = map grantTeid (chosenGrants first words size plan ps)
 
--- the plan with the TEID of each grant in the TEID word of the row at its place
+-- the plan with TEIDs in the TEID words of the rows at places, one for each
 unfoldable pub stores : List ℕ → List ℕ → List ℕ → List ℕ
-stores plan [] rows = plan
-stores plan (p ∷ ps) rows = stores (set plan (p + 13) (getD rows 2 0)) ps (drop grantWidth rows)
+stores plan [] ts = plan
+stores plan (p ∷ ps) ts = stores (set plan (p + 13) (headOr 0 ts)) ps (rest ts)
 
 -- a row with the TEID of its grant, if it is one that chooses
 unfoldable pub rowWith : List Grant → List ℕ → List ℕ
 rowWith gs row = pick (choosing 127 row || choosing 1 row) (set row 13 (grantedTeid gs (kindIn (word 0 row)) (rowId row))) row
 
 -- what `grant` leaves and answers
-pub record Granted (n first : ℕ) (words : List ℕ) (size : ℕ) (plan out : List ℕ) (r : ℕ) (plan′ out′ : List ℕ) : Type 0 where
+pub record Granted (n first : ℕ) (words : List ℕ) (size : ℕ) (plan : List ℕ) (r : ℕ) (plan′ places′ : List ℕ) : Type 0 where
   pub count : r ≡ length (places n plan)
-  pub rows : out′ ≡ sets out 0 (rowsAt first words size plan (places n plan))
-  pub stored : plan′ ≡ stores plan (places n plan) (rowsAt first words size plan (places n plan))
+  pub listed : take r places′ ≡ places n plan
+  pub stored : plan′ ≡ stores plan (places n plan) (teidsAt first words size plan (places n plan))

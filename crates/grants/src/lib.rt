@@ -1,23 +1,20 @@
 // Grants: the TEIDs that a request's CHOOSEs get (01, "What a request does"), to endpoints in request order and then to PDRs.
-// A plan has rows of 18 words; a grant's row has four: the type of the group that creates the record, its ID, the TEID, the families.
+// A plan has rows of 18 words. A TEID goes into its row, where crate `created` reads it for the list of grants.
 ghost use mathlib.Core.Path.{_≡_};
 ghost use mathlib.Core.List.{_++_};
 ghost use Prim.Native.Nat.{_+_, _*_, _^_, _≤_, _<_};
-ghost use lib.Dec.{T, leb};
+ghost use lib.Dec.{T};
 ghost use lib.ListN.{length, take, getD, set};
 ghost use lib.Seq.{sets};
 ghost use Rattle.octets.specs.Choice.{valueOr};
-ghost use Rattle.octets.specs.Lists.{all};
 ghost use Rattle.rules.specs.Limits.{maxPool};
-ghost use Rattle.rules.specs.Grants.{grantOf};
 ghost use Rattle.plan.specs.Rows.{rowWidth, rowsOf};
-ghost use Rattle.grants.specs.Choosing.{maxGrants, grantWidth, choosing, placesFrom, rowId, rowChooseId, choiceIn, kindWord, grantWords, rowsAt, stores, Granted};
+ghost use Rattle.created.specs.Entries.{maxGrants, within};
+ghost use Rattle.grants.specs.Choosing.{choosing, placesFrom, rowChooseId, teidsAt, stores, Granted};
 ghost use Rattle.grants.specs.Steps.{Gives};
 
-// Words in a plan's row and in a grant's row; the number of grants at most.
+// Words in a plan's row; the number of grants at most.
 const ROW: usize = 18;
-
-const GRANT: usize = 4;
 
 const MOST: usize = 24;
 
@@ -131,43 +128,10 @@ fn teid_for(
     Given { teid, next: i + 1 }
 }
 
-// The type of the group that creates the row's record: Create PDR, else Create Traffic Endpoint.
-fn kind_word(row: &[u64]) -> u64
-    requires { ⌜ length (now row) ≡ rowWidth ⌝ }
-    ensures { λ r. ⌜ r ≡ kindWord (choiceIn (now (row .entry)) .kind) ⌝ }
-{
-    if row[0] == 1 {
-        return 1;
-    }
-    127
-}
-
-// The ID of the row's record.
-fn row_id(row: &[u64]) -> u64
-    requires { ⌜ length (now row) ≡ rowWidth ⌝ }
-    ensures { λ r. ⌜ r ≡ rowId (now (row .entry)) ⌝ }
-{
-    if row[0] == 1 {
-        return row[7];
-    }
-    row[11]
-}
-
-// Writes the grant's row of a plan's row that gets this TEID.
-fn put_grant(row: &[u64], teid: u64, out: &mut [u64], at: usize)
-    requires { ⌜ (length (now row) ≡ rowWidth) × (at + grantWidth ≤ length (now out)) ⌝ }
-    ensures { λ _. ⌜ now (out .exit) ≡ sets (now (out .entry)) at (grantWords (grantOf (choiceIn (now (row .entry))) teid)) ⌝ }
-{
-    out[at] = kind_word(row);
-    out[at + 1] = row_id(row);
-    out[at + 2] = teid;
-    out[at + 3] = row[12] % 4;
-}
-
-// The grants' rows of the plan's rows at these places.
-fn fill(plan: &[u64], places: &[usize], words: &[u64], first: u64, size: usize, out: &mut [u64])
-    requires { ⌜ T (all (λ p. leb (p + rowWidth) (length (now plan))) (now places)) × (size ≤ 64 * length (now words)) × (size ≤ maxPool) × (first < 2 ^ 32) × (grantWidth * length (now places) ≤ length (now out)) ⌝ }
-    ensures { λ _. ⌜ now (out .exit) ≡ sets (now (out .entry)) 0 (rowsAt first (now (words .entry)) size (now (plan .entry)) (now (places .entry))) ⌝ }
+// The TEIDs of the plan's rows at these places, one for each.
+fn fill(plan: &[u64], places: &[usize], words: &[u64], first: u64, size: usize, teids: &mut [u64])
+    requires { ⌜ T (within (now plan) (now places)) × (size ≤ 64 * length (now words)) × (size ≤ maxPool) × (first < 2 ^ 32) × (length (now places) ≤ length (now teids)) ⌝ }
+    ensures { λ _. ⌜ now (teids .exit) ≡ sets (now (teids .entry)) 0 (teidsAt first (now (words .entry)) size (now (plan .entry)) (now (places .entry))) ⌝ }
 {
     let mut known = [0u64; IDS];
     let mut from: usize = 0;
@@ -176,41 +140,41 @@ fn fill(plan: &[u64], places: &[usize], words: &[u64], first: u64, size: usize, 
         let p = places[i];
         let row = &plan[p..p + ROW];
         let g = teid_for(&mut known, choose_id(row), words, first, from, size);
-        put_grant(row, g.teid, out, GRANT * i);
+        teids[i] = g.teid;
         from = g.next;
         i += 1;
     }
 }
 
-// Writes the TEIDs of grants into the plan's rows at these places.
-fn store(plan: &mut [u64], places: &[usize], grants: &[u64])
-    requires { ⌜ T (all (λ p. leb (p + rowWidth) (length (now plan))) (now places)) × (grantWidth * length (now places) ≤ length (now grants)) ⌝ }
-    ensures { λ _. ⌜ now (plan .exit) ≡ stores (now (plan .entry)) (now (places .entry)) (now (grants .entry)) ⌝ }
+// Writes TEIDs into the TEID words of the plan's rows at these places, one for each.
+fn store(plan: &mut [u64], places: &[usize], teids: &[u64])
+    requires { ⌜ T (within (now plan) (now places)) × (length (now places) ≤ length (now teids)) ⌝ }
+    ensures { λ _. ⌜ now (plan .exit) ≡ stores (now (plan .entry)) (now (places .entry)) (now (teids .entry)) ⌝ }
 {
     let mut i = 0;
     while i < places.len() {
-        plan[places[i] + 13] = grants[GRANT * i + 2];
+        plan[places[i] + 13] = teids[i];
         i += 1;
     }
 }
 
-// Grants a TEID to each row that chooses, at most 24: written into the row and, in the order in which they are given, into `out`.
-// The answer is how many there are. `words` is the map of taken TEIDs.
+// Grants a TEID to each row that chooses, at most 24, and writes it into the row. `places` gets where those rows begin, in the order
+// in which the TEIDs are given; the answer is how many there are. `words` is the map of taken TEIDs.
 pub fn grant(
     plan: &mut [u64],
     n: usize,
     words: &[u64],
     first: u64,
     size: usize,
-    out: &mut [u64],
+    places: &mut [usize],
 ) -> usize
-    requires { ⌜ (n * rowWidth ≤ length (now plan)) × (size ≤ 64 * length (now words)) × (size ≤ maxPool) × (first < 2 ^ 32) × (maxGrants * grantWidth ≤ length (now out)) ⌝ }
-    ensures { λ r. ⌜ Granted n first (now (words .entry)) size (now (plan .entry)) (now (out .entry)) r (now (plan .exit)) (now (out .exit)) ⌝ }
+    requires { ⌜ (n * rowWidth ≤ length (now plan)) × (size ≤ 64 * length (now words)) × (size ≤ maxPool) × (first < 2 ^ 32) × (length (now places) ≡ maxGrants) ⌝ }
+    ensures { λ r. ⌜ Granted n first (now (words .entry)) size (now (plan .entry)) r (now (plan .exit)) (now (places .exit)) ⌝ }
 {
-    let mut places = [0usize; MOST];
-    let k = find_places(plan, n, 127, &mut places, 0);
-    let m = find_places(plan, n, 1, &mut places, k);
-    fill(plan, &places[..m], words, first, size, out);
-    store(plan, &places[..m], out);
+    let mut teids = [0u64; MOST];
+    let k = find_places(plan, n, 127, places, 0);
+    let m = find_places(plan, n, 1, places, k);
+    fill(plan, &places[..m], words, first, size, &mut teids);
+    store(plan, &places[..m], &teids);
     m
 }

@@ -11,18 +11,16 @@ use Rattle.octets.specs.Octets.{be, part, octetAt, concatMap}
 use Rattle.octets.specs.Lists.{keep}
 use Rattle.octets.proofs.Numbers.{length-be}
 use Rattle.octets.proofs.Tests.{pick-either}
-use Rattle.rules.specs.Limits.{minSpace}
 use Rattle.rules.specs.Model.{Settings, Tunnel}
 use Rattle.rules.specs.Layout.{viewSettings}
 use Rattle.rules.specs.Elements.{fteidOctets, unitFteid, fseidOctets}
-use Rattle.rules.specs.Message.{kindOf, headerSeid, sequenceOf}
 use Rattle.rules.specs.Grants.{Kind, ofPdr, ofEndpoint, Grant, sameKind, isKind, grantsOf}
 use Rattle.rules.specs.Stages.{Verdict}
-use Rattle.rules.specs.Reply.{element, message, unitElement, createdPdr, createdPdrContent, createdEndpoint, createdEndpointContent, created, offendingElement, nodeIdElement, unitFseid, acceptedPart, replyBody, replySeid, reply}
-use Rattle.reply.specs.Parts.{bodyFront, group, groups}
-use Rattle.reply.specs.Rows.{kindIn, grantsIn}
-use Rattle.reply.proofs.PlacedLaws.{length-element}
-use Rattle.reply.proofs.GroupSteps.{groups-more, groups-none, length-created}
+use Rattle.rules.specs.Reply.{element, unitElement, createdPdr, createdPdrContent, createdEndpoint, createdEndpointContent, created, offendingElement, nodeIdElement, unitFseid, acceptedPart, replyBody}
+use Rattle.created.specs.Groups.{kindIn, group, groups}
+use Rattle.reply.specs.Parts.{bodyFront}
+use Rattle.writing.proofs.PlacedLaws.{length-element}
+use Rattle.created.proofs.GroupSteps.{groups-more, groups-none, length-created}
 
 abbrev atMost : ℕ → List ℕ → Type 0
 atMost n xs = length xs ≤ n
@@ -41,14 +39,6 @@ view-ipv4 t = length-part-most 0 4 t
 pub view-ipv6 : (t : List ℕ) → length (viewSettings t .ipv6) ≤ 16
 unfolding viewSettings
 view-ipv6 t = pick-either (atMost 16) (eqb (octetAt t 4) 0) [] (part 5 16 t) (omega arith) (length-part-most 5 16 t)
-
-pub rows-most : (rows : List ℕ) → 4 * length (grantsIn rows) ≤ length rows
-unfolding grantsIn
-rows-most [] = omega arith
-rows-most (k ∷ []) = omega arith
-rows-most (k ∷ i ∷ []) = omega arith
-rows-most (k ∷ i ∷ t ∷ []) = omega arith
-rows-most (k ∷ i ∷ t ∷ f ∷ rows) = let m = rows-most rows in omega arith
 
 pub length-offending : (o : Option ℕ) → length (offendingElement o) ≤ 6
 unfolding offendingElement
@@ -128,22 +118,4 @@ module _ (s : Settings) (four : length (s .ipv4) ≤ 4) where
           length-node kind,
           length-element 19 (v .cause ∷ []),
           length-offending (v .offending),
-        )
-
-    -- any reply with at most 24 grants fits the least reply space
-    pub reply-fits : (msg : List ℕ) (seid : ℕ) (v : Verdict) (gs : List Grant) → length gs ≤ 24 → length (reply s msg seid v gs) ≤ minSpace
-    unfolding reply message sequenceOf
-    reply-fits msg seid v gs h =
-        let xs = replyBody (kindOf msg) s seid v gs in
-        let n : ℕ = replySeid (kindOf msg) (v .cause) (headerSeid msg) seid in
-        let q = part 12 3 msg in
-        omega (
-          arith,
-          length-append (be 2 (12 + length xs)) (be 8 n ++ (q ++ 0 ∷ xs)),
-          length-append (be 8 n) (q ++ 0 ∷ xs),
-          length-append q (0 ∷ xs),
-          length-be 2 (12 + length xs),
-          length-be 8 n,
-          length-part-most 12 3 msg,
-          length-body (kindOf msg) seid v gs h,
         )

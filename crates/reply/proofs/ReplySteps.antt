@@ -16,11 +16,10 @@ use Rattle.rules.specs.Message.{kindOf, headerSeid, sequenceOf}
 use Rattle.rules.specs.Grants.{Grant}
 use Rattle.rules.specs.Stages.{Verdict, plain}
 use Rattle.rules.specs.Reply.{element, message, created, offendingElement, nodeIdElement, unitFseid, acceptedPart, replyBody, replySeid, reply}
-use Rattle.reply.specs.Placed.{Placed, written}
+use Rattle.writing.specs.Placed.{Placed, written}
 use Rattle.reply.specs.Parts.{messageHead, replyHead, bodyFront}
-use Rattle.reply.specs.Rows.{grantsIn}
-use Rattle.reply.proofs.LengthLaws.{view-ipv4, view-ipv6, rows-most, length-node, length-front, length-fseid, length-created-most, length-body}
-use Rattle.reply.proofs.PlacedLaws.{next-put, next-set, four-stores, be-two, placed-then}
+use Rattle.reply.proofs.LengthLaws.{view-ipv4, view-ipv6, length-node, length-front, length-fseid, length-created-most, length-body}
+use Rattle.writing.proofs.PlacedLaws.{next-put, next-set, four-stores, be-two, placed-then}
 
 -- ---- the first elements
 
@@ -136,14 +135,11 @@ module _ (t msg out : List ℕ) (header : 16 ≤ length msg) (space : 1024 ≤ l
       whole st msg 0 v [] out header (omega (arith, length-body st (view-ipv4 t) (view-ipv6 t) kind 0 v [] (omega arith)))
       (rw (refused-body st kind cause o n) at (placed-then p q (omega (arith, length-front st (view-ipv4 t) kind cause)))) r
 
-  module _ (rows : List ℕ) (few : length rows ≤ 96) (seid : ℕ) where
-    abbrev gs : List Grant
-    gs = grantsIn rows
-
+  module _ (gs : List Grant) (few : length gs ≤ 24) (seid : ℕ) where
     -- how long the elements are at most
     pub accepted-room : length (bodyFront kind st 1) + (length (unitFseid kind st seid) + length (created st gs)) ≤ 967
     accepted-room =
-        omega (arith, length-front st (view-ipv4 t) kind 1, length-fseid st (view-ipv4 t) kind seid, length-created-most st (view-ipv4 t) (view-ipv6 t) gs, rows-most rows)
+        omega (arith, length-front st (view-ipv4 t) kind 1, length-fseid st (view-ipv4 t) kind seid, length-created-most st (view-ipv4 t) (view-ipv6 t) gs)
 
     pub accepted-steps : {out₁ out₂ out₃ out₄ : List ℕ} {next own end : ℕ}
         → Placed out 16 (bodyFront kind st 1) next out₁ → Placed out₁ next (unitFseid kind st seid) own out₂ → Placed out₂ own (created st gs) end out₃
@@ -153,5 +149,5 @@ module _ (t msg out : List ℕ) (header : 16 ≤ length msg) (space : 1024 ≤ l
     accepted-steps {next = next} p q u same r =
         let ends = p .ends in
         let rest = placed-then q u (omega (arith, accepted-room)) in
-        whole st msg seid (plain 1) gs out header (omega (arith, length-body st (view-ipv4 t) (view-ipv6 t) kind seid (plain 1) gs (omega (arith, rows-most rows))))
+        whole st msg seid (plain 1) gs out header (omega (arith, length-body st (view-ipv4 t) (view-ipv6 t) kind seid (plain 1) gs few))
         (rw (accepted-body st kind seid gs) at (placed-then p rest (omega (arith, accepted-room)))) r

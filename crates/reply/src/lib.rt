@@ -1,8 +1,9 @@
 // The reply to a request (01, "Reply"), written straight into the reply space: the elements from octet 16 on, then the header before them.
 ghost use mathlib.Core.Path.{_≡_};
-ghost use Prim.Native.Nat.{_+_, _-_, _*_, _≤_, _<_};
+ghost use Prim.Native.Nat.{_+_, _-_, _≤_, _<_};
 ghost use mathlib.Core.List.{[]};
 ghost use mathlib.Core.Bool.{true};
+ghost use lib.Dec.{T};
 ghost use lib.ListN.{length};
 ghost use Rattle.octets.specs.Octets.{put};
 ghost use Rattle.octets.specs.Lists.{all};
@@ -10,13 +11,11 @@ ghost use Rattle.rules.specs.Layout.{viewSettings};
 ghost use Rattle.rules.specs.Message.{kindOf, headerSeid, sequenceOf};
 ghost use Rattle.rules.specs.Stages.{plain};
 ghost use Rattle.rules.specs.Reply.{replySeid, offendingElement, reply};
-ghost use Rattle.reply.specs.Placed.{Placed, written};
+ghost use Rattle.writing.specs.Placed.{Placed, written};
 ghost use Rattle.reply.specs.Parts.{messageHead, replyHead, bodyFront};
 ghost use Rattle.reply.specs.Naming.{offendingIn, refusal};
-ghost use Rattle.reply.specs.Rows.{rowWidth, maxGrants, grantsIn, idFits};
-
-pub mod created;
-pub mod elements;
+ghost use Rattle.created.specs.Groups.{idFits};
+ghost use Rattle.created.specs.Entries.{maxGrants, grantsAt, within};
 
 // The element at fault, by its type, where the refusal names one.
 pub enum Offending {
@@ -29,7 +28,7 @@ fn reply_seid(msg: &[u8], cause: u8, seid: u64) -> u64
     requires { ⌜ 16 ≤ length (now msg) ⌝ }
     ensures { λ r. ⌜ r ≡ replySeid (kindOf (now (msg .entry))) cause (headerSeid (now (msg .entry))) seid ⌝ }
 {
-    if msg[1] == elements::ESTABLISHMENT {
+    if msg[1] == writing::ESTABLISHMENT {
         if cause == 1 {
             return seid;
         }
@@ -61,8 +60,8 @@ fn write_front(t: &[u8], kind: u8, cause: u8, out: &mut [u8]) -> usize
     requires { ⌜ (29 ≤ length (now t)) × (30 ≤ length (now out)) ⌝ }
     ensures { λ r. ⌜ Placed (now (out .entry)) 16 (bodyFront kind (viewSettings (now (t .entry))) cause) r (now (out .exit)) ⌝ }
 {
-    let next = elements::write_node_id(t, kind, out, 16);
-    elements::write_cause(cause, out, next)
+    let next = writing::write_node_id(t, kind, out, 16);
+    writing::write_cause(cause, out, next)
 }
 
 // The element that names the type at fault.
@@ -72,7 +71,7 @@ fn write_offending(offending: Offending, out: &mut [u8], at: usize) -> usize
 {
     match offending {
         Offending::Nothing => at,
-        Offending::Element(t) => elements::write_offending(t, out, at),
+        Offending::Element(t) => writing::write_offending(t, out, at),
     }
 }
 
@@ -96,15 +95,22 @@ pub fn refused(t: &[u8], msg: &[u8], cause: u8, offending: Offending, out: &mut 
     end
 }
 
-// The whole reply of an accepted request, at the front of out; the answer is its length. The grants are rows of four words
-// (kind, ID, TEID, families), in the order in which the TEIDs were given.
-pub fn accepted(t: &[u8], msg: &[u8], seid: u64, grants: &[u64], out: &mut [u8]) -> usize
-    requires { ⌜ (29 ≤ length (now t)) × (16 ≤ length (now msg)) × (kindOf (now msg) < 255) × (length (now grants) ≤ rowWidth * maxGrants) × (all idFits (grantsIn (now grants)) ≡ true) × (1024 ≤ length (now out)) ⌝ }
-    ensures { λ r. ⌜ (r, now (out .exit)) ≡ written (reply (viewSettings (now (t .entry))) (now (msg .entry)) seid (plain 1) (grantsIn (now (grants .entry)))) (now (out .entry)) ⌝ }
+// The whole reply of an accepted request, at the front of out; the answer is its length. The grants are those of the plan's rows at the
+// places, in the order in which the TEIDs were given.
+pub fn accepted(
+    t: &[u8],
+    msg: &[u8],
+    seid: u64,
+    plan: &[u64],
+    places: &[usize],
+    out: &mut [u8],
+) -> usize
+    requires { ⌜ (29 ≤ length (now t)) × (16 ≤ length (now msg)) × (kindOf (now msg) < 255) × (length (now places) ≤ maxGrants) × T (within (now plan) (now places)) × (all idFits (grantsAt (now plan) (now places)) ≡ true) × (1024 ≤ length (now out)) ⌝ }
+    ensures { λ r. ⌜ (r, now (out .exit)) ≡ written (reply (viewSettings (now (t .entry))) (now (msg .entry)) seid (plain 1) (grantsAt (now (plan .entry)) (now (places .entry)))) (now (out .entry)) ⌝ }
 {
     let next = write_front(t, msg[1], 1, out);
-    let own = elements::write_fseid(t, msg[1], seid, out, next);
-    let end = created::write_created(t, grants, out, own);
+    let own = writing::write_fseid(t, msg[1], seid, out, next);
+    let end = created::write_created(t, plan, places, out, own);
     finish(msg, 1, seid, end, out);
     end
 }

@@ -1,37 +1,35 @@
 -- `engine::accept` meets its contract.
 -- Assumes nothing.
-use lib.Seq.{length-take-le}
-use mathlib.Core.Path.{refl, sym}
+use mathlib.Core.Path.{sym}
 use Prim.Native.Nat.{_≤_}
 use native.Mathlib.Omega.{arith}
-use Rattle.engine.proofs.Acceptance.{grant-asks, read-few, read-short, read-ids, read-answers}
+use lib.ListN.{length}
+use lib.Seq.{length-take-le}
+use Rattle.engine.proofs.Acceptance.{grant-asks, read-few, read-fit, read-answers}
+use Rattle.created.specs.Entries.{maxGrants}
 use borrow.Author.Needs.{needs}
 use Rattle.engine.proofs.accept.Statement.{statement}
 use Rattle.engine.proofs.accept.Tie as tie
-use Rattle.engine.proofs.accept.Reads as reads
-use Rattle.engine.proofs.accept.Lts as lts
-use Rattle.engine.proofs.keep.Reads as keep-reads
-use Rattle.grants.proofs.grant.Reads as grant-reads
-use Rattle.octets.proofs.read.Reads as read-reads
-use Rattle.reply.proofs.accepted.Reads as accepted-reads
 
 grant-requires : tie.Need-grant-requires
 grant-requires c κs = grant-asks (c .before .before .before .before .before .before .before .before .before .before .before .before .before .pre) (c .before .before .before .before .before .read .ensures .0) (c .before .before .before .read2 .ensures .0) (c .before .before .before .before .before .read .ensures .1)
 
-mul-end : tie.Need-mul-end
-mul-end c = let h : c .before .before .before .grant .result ≤ 24 = search read-few in omega arith
-
-array-share-prefix-given : tie.Need-array-share-prefix-given
-array-share-prefix-given c = let h : c .before .before .before .before .grant .result ≤ 24 = search read-few in omega arith
+-- the places found, which are no more than there is room for
+found : (c : tie.After-accepted-arg2) → c .before .before .before .before .before .grant .result ≤ length (c .before .before .before .before .before .grant .last .1 .1 .1 .1 .1 .0)
+found c = let h : c .before .before .before .before .before .grant .result ≤ maxGrants = search read-few in omega (arith, c .before .before .before .before .before .grant .kept .1 .1 .1 .1 .1 .0)
 
 slice-aggregate-accepted : tie.Need-slice-aggregate-accepted
-slice-aggregate-accepted c = let h : c .before .before .before .before .before .grant .result ≤ 24 = search read-few in sym (length-take-le _ _ (omega arith))
+slice-aggregate-accepted c = sym (length-take-le _ _ (found (c .before)))
 
 accepted-requires : tie.Need-accepted-requires
-accepted-requires c κs = (search needs, search needs, search needs, search read-short, search read-ids, search needs)
+accepted-requires c κs =
+    let s = c .before .before .before .before .before .before .before .before .before .before .before .before .before .before .before .before .before .before .before .before .before in
+    let f = read-fit (s .pre) (c .before .before .before .before .before .before .before .before .before .before .before .before .before .read .ensures .0) (c .before .before .before .before .before .before .before .before .before .before .before .read2 .ensures .0) (c .before .before .before .before .before .before .before .grant .ensures) in
+    (search needs, search needs, search needs, f .few, f .inside, f .ids, search needs)
 
 returns : tie.Need-returns
-returns c = read-answers (c .before .before .before .before .before .before .before .before .before .before .before .before .before .before .before .before .before .before .before .before .before .before .before .before .before .before .before .before .before .before .before .pre) (c .before .before .before .before .before .before .before .before .before .before .before .before .before .before .before .before .before .before .before .before .before .before .before .read .ensures .0) (c .before .before .before .before .before .before .before .before .before .before .before .before .before .before .before .before .before .before .before .before .before .read2 .ensures .0) refl (c .before .before .before .before .before .before .before .before .before .before .before .before .before .before .before .before .before .grant .ensures) _ _ _ (c .before .before .before .before .before .before .before .before .before .before .accepted .ensures) (c .before .before .before .before .keep .ensures .1)
+returns c =
+    read-answers (c .before .before .before .before .before .before .before .before .before .before .before .before .before .before .before .before .before .before .before .before .before .before .before .before .before .before .before .before .before .before .before .before .pre) (c .before .before .before .before .before .before .before .before .before .before .before .before .before .before .before .before .before .before .before .before .before .before .before .before .read .ensures .0) (c .before .before .before .before .before .before .before .before .before .before .before .before .before .before .before .before .before .before .before .before .before .before .read2 .ensures .0) (c .before .before .before .before .before .before .before .before .before .before .before .before .before .before .before .before .before .before .grant .ensures) _ _ _ (c .before .before .before .before .before .before .before .before .before .before .accepted .ensures) (c .before .before .before .before .keep .ensures .1)
 
 pub accept-spec : {M : Type 1} → statement M
 accept-spec =
@@ -42,8 +40,7 @@ accept-spec =
     (λ c. search needs)
     (λ c. search needs)
     grant-requires
-    mul-end
-    array-share-prefix-given
+    found
     slice-aggregate-accepted
     accepted-requires
     (λ c κs. search needs)

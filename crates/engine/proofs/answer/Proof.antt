@@ -5,12 +5,6 @@ use mathlib.Core.Path.{sym, _∙_}
 use borrow.Author.Needs.{needs}
 use Rattle.engine.proofs.answer.Statement.{statement}
 use Rattle.engine.proofs.answer.Tie as tie
-use Rattle.engine.proofs.answer.Reads as reads
-use Rattle.engine.proofs.answer.Lts as lts
-use Rattle.engine.proofs.change.Reads as change-reads
-use Rattle.engine.proofs.delete.Reads as delete-reads
-use Rattle.engine.proofs.refuse.Reads as refuse-reads
-use Rattle.store.proofs.find.Reads as find-reads
 
 change-requires : tie.Need-change-requires
 change-requires c κs = (establishes (c .before .before .before .before .before .before .pre .0) (c .before .before .before .before .before .before .pre .2) (c .before .before .if1 .taken), c .before .before .before .before .before .before .pre .1)

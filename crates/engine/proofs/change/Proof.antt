@@ -5,12 +5,6 @@ use mathlib.Core.Path.{refl}
 use borrow.Author.Needs.{needs}
 use Rattle.engine.proofs.change.Statement.{statement}
 use Rattle.engine.proofs.change.Tie as tie
-use Rattle.engine.proofs.change.Reads as reads
-use Rattle.engine.proofs.change.Lts as lts
-use Rattle.engine.proofs.enter.Reads as enter-reads
-use Rattle.engine.proofs.refuse.Reads as refuse-reads
-use Rattle.engine.proofs.settle.Reads as settle-reads
-use Rattle.request.proofs.read_request.Reads as read-request-reads
 
 refuse-requires : tie.Need-refuse-requires
 refuse-requires c κs = fault-refuses (c .before .before .before .before .before .before .before .before .before .before .before .pre .0) (c .before .before .before .before .before .before .read-request .ensures) _ _ (c .before .before .before .reading .given .1)

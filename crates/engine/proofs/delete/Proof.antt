@@ -1,7 +1,6 @@
 -- `engine::delete` meets its contract.
 -- Assumes nothing.
 use Rattle.octets.specs.Lists.{all}
-use Rattle.reply.specs.Rows.{grantsIn}
 use mathlib.Core.Path.{refl}
 use native.Mathlib.Omega.{arith}
 use Rattle.engine.proofs.Deleted.{deleted-through}
@@ -9,13 +8,6 @@ use Rattle.engine.proofs.Faults.{frame-refuses, then-refuses}
 use borrow.Author.Needs.{needs}
 use Rattle.engine.proofs.delete.Statement.{statement}
 use Rattle.engine.proofs.delete.Tie as tie
-use Rattle.engine.proofs.delete.Reads as reads
-use Rattle.engine.proofs.delete.Lts as lts
-use Rattle.engine.proofs.refuse.Reads as refuse-reads
-use Rattle.frame.proofs.frame_fault.Reads as frame-fault-reads
-use Rattle.reading.proofs.top.read_fault.Reads as read-fault-reads
-use Rattle.reply.proofs.accepted.Reads as accepted-reads
-use Rattle.store.proofs.remove.Reads as remove-reads
 
 refuse-requires : tie.Need-refuse-requires
 refuse-requires c κs = search frame-refuses
@@ -24,8 +16,8 @@ refuse-requires-2 : tie.Need-refuse-requires-2
 refuse-requires-2 c κs = search then-refuses
 
 accepted-requires : tie.Need-accepted-requires
-unfolding grantsIn all
-accepted-requires c κs = (search needs, search needs, search needs, omega arith, refl, search needs)
+unfolding all
+accepted-requires c κs = (search needs, search needs, search needs, omega arith, tt, refl, search needs)
 
 returns-3 : tie.Need-returns-3
 returns-3 c = search deleted-through
@@ -44,6 +36,9 @@ delete-spec =
     (λ c κs. search needs)
     (λ c. search needs)
     refuse-requires-2
+    (λ c. search needs)
+    (λ c. search needs)
+    (λ c. search needs)
     (λ c. search needs)
     (λ c. search needs)
     (λ c. search needs)

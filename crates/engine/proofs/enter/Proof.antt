@@ -4,11 +4,6 @@ use Rattle.engine.proofs.Entering.{entered-new, place-within, entered-l
 use borrow.Author.Needs.{needs}
 use Rattle.engine.proofs.enter.Statement.{statement}
 use Rattle.engine.proofs.enter.Tie as tie
-use Rattle.engine.proofs.enter.Reads as reads
-use Rattle.engine.proofs.enter.Lts as lts
-use Rattle.engine.proofs.is_live.Reads as is-live-reads
-use Rattle.store.proofs.fresh.Reads as fresh-reads
-use Rattle.store.proofs.load.Reads as load-reads
 
 returns : tie.Need-returns
 returns c = entered-new _ _ _ _ _ _ _ _ (c .before .before .before .before .before .before .before .before .before .pre) (c .before .before .before .before .before .if1 .taken) (c .before .before .before .fresh .ensures) (search needs) (c .is-live .ensures)

@@ -4,9 +4,6 @@ use Rattle.engine.proofs.Entering.{live-found, live-absent}
 use borrow.Author.Needs.{needs}
 use Rattle.engine.proofs.is_live.Statement.{statement}
 use Rattle.engine.proofs.is_live.Tie as tie
-use Rattle.engine.proofs.is_live.Reads as reads
-use Rattle.engine.proofs.is_live.Lts as lts
-use Rattle.store.proofs.find.Reads as find-reads
 
 returns : tie.Need-returns
 returns c = search live-found

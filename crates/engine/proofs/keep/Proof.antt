@@ -4,10 +4,6 @@ use Rattle.engine.proofs.Acceptance.{kept-session}
 use borrow.Author.Needs.{needs}
 use Rattle.engine.proofs.keep.Statement.{statement}
 use Rattle.engine.proofs.keep.Tie as tie
-use Rattle.engine.proofs.keep.Reads as reads
-use Rattle.engine.proofs.keep.Lts as lts
-use Rattle.session.proofs.build.Reads as build-reads
-use Rattle.store.proofs.save.Reads as save-reads
 
 returns : tie.Need-returns
 returns c = kept-session _ _ _ _ _ _ (c .before .before .before .before .before .before .before .build .ensures) (c .before .before .save .ensures)

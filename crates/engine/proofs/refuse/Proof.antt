@@ -4,9 +4,6 @@ use Rattle.engine.proofs.Refusals.{refused-answers}
 use borrow.Author.Needs.{needs}
 use Rattle.engine.proofs.refuse.Statement.{statement}
 use Rattle.engine.proofs.refuse.Tie as tie
-use Rattle.engine.proofs.refuse.Reads as reads
-use Rattle.engine.proofs.refuse.Lts as lts
-use Rattle.reply.proofs.refused.Reads as refused-reads
 
 returns : tie.Need-returns
 returns c = search refused-answers

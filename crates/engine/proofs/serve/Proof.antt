@@ -10,13 +10,6 @@ use mathlib.Core.Path.{refl}
 use borrow.Author.Needs.{needs}
 use Rattle.engine.proofs.serve.Statement.{statement}
 use Rattle.engine.proofs.serve.Tie as tie
-use Rattle.engine.proofs.serve.Reads as reads
-use Rattle.engine.proofs.serve.Lts as lts
-use Rattle.engine.proofs.answer.Reads as answer-reads
-use Rattle.engine.proofs.unserved.Reads as unserved-reads
-use Rattle.frame.proofs.header.read_header.Reads as read-header-reads
-use Rattle.octets.proofs.read.Reads as read-reads
-use Rattle.table.proofs.examine.Reads as examine-reads
 
 returns : tie.Need-returns
 returns c = serves-broken (c .before .before .before .before .before .before .before .before .before .before .args .t .now) (c .before .before .before .before .before .before .before .before .before .before .args .msg .now) (c .before .before .before .before .before .before .before .before .before .before .args .out .now) (c .before .before .before .before .examine .ensures) (c .before .enum-told .given .1) (c .unserved .ensures)

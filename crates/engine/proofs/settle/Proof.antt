@@ -4,11 +4,6 @@ use Rattle.engine.proofs.Settling.{entry-asks, settle-refuses, settle-a
 use borrow.Author.Needs.{needs}
 use Rattle.engine.proofs.settle.Statement.{statement}
 use Rattle.engine.proofs.settle.Tie as tie
-use Rattle.engine.proofs.settle.Reads as reads
-use Rattle.engine.proofs.settle.Lts as lts
-use Rattle.engine.proofs.accept.Reads as accept-reads
-use Rattle.engine.proofs.refuse.Reads as refuse-reads
-use Rattle.stages.proofs.judge.Reads as judge-reads
 
 judge-requires : tie.Need-judge-requires
 judge-requires c κs = entry-asks (c .before .before .before .before .before .before .before .before .before .before .pre .0) (c .before .before .before .before .before .before .before .before .before .before .pre .1) (c .before .before .before .before .before .before .before .before .before .before .pre .2)

@@ -1,34 +1,45 @@
 -- `reply::accepted` meets its contract: the elements and the header before them are the whole reply.
 -- Assumes nothing.
+use mathlib.Core.List.{List}
+use Prim.Native.Nat.{_≤_}
 use native.Mathlib.Omega.{arith}
 use borrow.Author.Needs.{needs}
-use lib.ListN.{getD}
+use lib.ListN.{length, getD, length-map}
 use Rattle.rules.specs.Layout.{viewSettings}
+use Rattle.rules.specs.Grants.{Grant}
+use Rattle.created.specs.Entries.{maxGrants, grantAt, grantsAt}
 use Rattle.reply.proofs.LengthLaws.{view-ipv4, length-front}
 use Rattle.reply.proofs.ReplySteps.{accepted-room, accepted-steps}
 use Rattle.reply.proofs.accepted.Statement.{statement}
 use Rattle.reply.proofs.accepted.Tie as tie
 
+-- the grants, and that they are few
+abbrev grants : tie.Start → List Grant
+grants s = grantsAt (s .args .plan .now) (s .args .places .now)
+
+few : (s : tie.Start) → length (grants s) ≤ maxGrants
+few s = omega (arith, s .pre .3, length-map (s .args .places .now) (grantAt (s .args .plan .now)))
+
 write-fseid-requires : tie.Need-write-fseid-requires
 write-fseid-requires c κs =
-    let s = c .before .before .before .before .before .before .before .before .before .before .before in
+    let s = c .before .before .before .before .before .before .before .before .before .before .before .before in
     let a = s .args in
     let p = s .pre in
     let f = c .before .before .before .before .write-front in
-    (p .0, omega (arith, p .5, f .ensures .ends, f .kept .1 .1 .1 .0, length-front (viewSettings (a .t .now)) (view-ipv4 (a .t .now)) (getD (a .msg .now) 1 0) 1))
+    (p .0, omega (arith, p .6, f .ensures .ends, f .kept .1 .1 .1 .0, length-front (viewSettings (a .t .now)) (view-ipv4 (a .t .now)) (getD (a .msg .now) 1 0) 1))
 
 write-created-requires : tie.Need-write-created-requires
 write-created-requires c κs =
-    let s = c .before .before .before .before .before .before .before .before .before .before .before .before .before .before .before in
+    let s = c .before .before .before .before .before .before .before .before .before .before .before .before .before .before .before .before in
     let a = s .args in
     let p = s .pre in
     let f = c .before .before .before .before .before .before .before .before .write-front in
     let o = c .before .before .before .write-fseid in
-    (p .0, p .4, omega (arith, p .5, f .ensures .ends, o .ensures .ends, f .kept .1 .1 .1 .0, o .kept .1 .1 .1 .0, accepted-room (a .t .now) (a .msg .now) (a .out .now) (p .1) (p .5) (a .grants .now) (p .3) (a .seid)))
+    (p .0, p .3, p .4, p .5, omega (arith, p .6, f .ensures .ends, o .ensures .ends, f .kept .1 .1 .1 .0, o .kept .1 .1 .1 .0, accepted-room (a .t .now) (a .msg .now) (a .out .now) (p .1) (p .6) (grants s) (few s) (a .seid)))
 
 finish-requires : tie.Need-finish-requires
 finish-requires c κs =
-    let s = c .before .before .before .before .before .before .before .before .before .before .before .before .before .before .before .before .before .before .before in
+    let s = c .before .before .before .before .before .before .before .before .before .before .before .before .before .before .before .before .before .before .before .before in
     let a = s .args in
     let p = s .pre in
     let f = c .before .before .before .before .before .before .before .before .before .before .before .before .write-front in
@@ -37,12 +48,17 @@ finish-requires c κs =
       p .1,
       p .2,
       omega (arith, f .ensures .ends, o .ensures .ends, w .ensures .ends),
-      omega (arith, f .ensures .ends, o .ensures .ends, w .ensures .ends, accepted-room (a .t .now) (a .msg .now) (a .out .now) (p .1) (p .5) (a .grants .now) (p .3) (a .seid)),
-      omega (arith, p .5, f .kept .1 .1 .1 .0, o .kept .1 .1 .1 .0, w .kept .1 .1 .0),
+      omega (arith, f .ensures .ends, o .ensures .ends, w .ensures .ends, accepted-room (a .t .now) (a .msg .now) (a .out .now) (p .1) (p .6) (grants s) (few s) (a .seid)),
+      omega (arith, p .6, f .kept .1 .1 .1 .0, o .kept .1 .1 .1 .0, w .kept .1 .1 .1 .0),
     )
 
 returns : tie.Need-returns
-returns c = search accepted-steps
+returns c =
+    let s = c .before .before .before .before .before .before .before .before .before .before .before .before .before .before .before .before .before .before .before .before .before .before .before in
+    let a = s .args in
+    let f = c .before .before .before .before .before .before .before .before .before .before .before .before .before .before .before .write-front in
+    let w = c .before .before .before .before .before .before .write-created in
+    accepted-steps (a .t .now) (a .msg .now) (a .out .now) (s .pre .1) (s .pre .6) (grants s) (few s) (a .seid) (f .ensures) (c .before .before .before .before .before .before .before .before .before .before .write-fseid .ensures) (w .ensures) (f .kept .1 .1 .1 .0) (c .before .before .finish .ensures)
 
 pub accepted-spec : {M : Type 1} → statement M
 accepted-spec =

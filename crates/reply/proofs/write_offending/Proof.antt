@@ -2,7 +2,7 @@
 -- Assumes nothing.
 use borrow.Author.Needs.{needs}
 use Rattle.rules.specs.Reply.{offendingElement}
-use Rattle.reply.proofs.PlacedLaws.{placed-none}
+use Rattle.writing.proofs.PlacedLaws.{placed-none}
 use Rattle.reply.proofs.write_offending.Statement.{statement}
 use Rattle.reply.proofs.write_offending.Tie as tie
 

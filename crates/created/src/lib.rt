@@ -1,0 +1,141 @@
+// Created PDR and Created Traffic Endpoint: the groups that report the TEIDs of a request's CHOOSEs, written from 01's list of grants.
+// The list is made for each request: an array of 24 entries, lent as a slice to be filled and then lent to the writer of the groups.
+// `fill`, `write_groups` and `write_created` are proved by a walk of their steps, by hand; whoever calls `write_created` names no list.
+ghost use mathlib.Core.Path.{_≡_};
+ghost use mathlib.Core.Bool.{true};
+ghost use mathlib.Core.List.{[], _∷_, _++_};
+ghost use Prim.Native.Nat.{_+_, _≤_, _<_};
+ghost use lib.Dec.{T};
+ghost use lib.ListN.{length};
+ghost use Rattle.octets.specs.Octets.{be};
+ghost use Rattle.octets.specs.Lists.{all};
+ghost use Rattle.rules.specs.Layout.{viewSettings};
+ghost use Rattle.rules.specs.Reply.{element, unitElement, created};
+ghost use Rattle.plan.specs.Rows.{rowWidth};
+ghost use Rattle.writing.specs.Placed.{Placed};
+ghost use Rattle.writing.specs.Families.{tunnelIn, unitAddresses};
+ghost use Rattle.created.specs.Groups.{kindIn, groups, idFits};
+ghost use Rattle.created.specs.Entries.{maxGrants, grantOf, listed, rowId, entryAt, grantsAt, within, filled};
+
+// One entry of the list: a record's kind and ID, the TEID that it was granted, and the families of its F-TEID (V4 = 1, V6 = 2).
+pub struct Grant {
+    pub kind: u64,
+    pub id: u64,
+    pub teid: u64,
+    pub families: u64,
+}
+
+// The kinds, by the type of the group that creates the record.
+const PDR: u64 = 1;
+
+const ENDPOINT: u64 = 127;
+
+// Words in a plan's row.
+const ROW: usize = 18;
+
+// A group: the ID in an element of its own, then the F-TEID with the unit's addresses.
+fn write_group(
+    t: &[u8],
+    group: usize,
+    member: usize,
+    width: usize,
+    g: Grant,
+    out: &mut [u8],
+    at: usize,
+) -> usize
+    requires { ⌜ (29 ≤ length (now t)) × (width ≤ 8) × (at + 17 + width + unitAddresses (viewSettings (now t)) (g .families) ≤ length (now out)) ⌝ }
+    ensures { λ r. ⌜ Placed (now (out .entry)) at (element group (element member (be width (g .id)) ++ unitElement (viewSettings (now (t .entry))) (tunnelIn (g .teid) (g .families)))) r (now (out .exit)) ⌝ }
+{
+    let f = writing::unit_families(t, g.families);
+    let n = 4 * (f % 2) + 16 * (f / 2);
+    writing::write_head(group, 13 + width + n, out, at);
+    writing::write_head(member, width, out, at + 4);
+    octets::write(out, at + 8, width, g.id);
+    writing::write_fteid(t, g.teid, g.families, out, at + 8 + width)
+}
+
+// The group of a grant of one kind; nothing for a grant of the other.
+fn write_grant(t: &[u8], kind: u64, g: Grant, out: &mut [u8], at: usize) -> usize
+    requires { ⌜ (29 ≤ length (now t)) × (idFits (grantOf g) ≡ true) × (at + length (groups (kindIn kind) (viewSettings (now t)) (grantOf g ∷ [])) ≤ length (now out)) ⌝ }
+    ensures { λ r. ⌜ Placed (now (out .entry)) at (groups (kindIn kind) (viewSettings (now (t .entry))) (grantOf g ∷ [])) r (now (out .exit)) ⌝ }
+{
+    if kind == PDR {
+        if g.kind != PDR {
+            return at;
+        }
+        return write_group(t, 8, 56, 2, g, out, at);
+    }
+    if g.kind == PDR {
+        return at;
+    }
+    write_group(t, 128, 131, 1, g, out, at)
+}
+
+// The ID of the row's record.
+fn row_id(row: &[u64]) -> u64
+    requires { ⌜ length (now row) ≡ rowWidth ⌝ }
+    ensures { λ r. ⌜ r ≡ rowId (now (row .entry)) ⌝ }
+{
+    if row[0] == PDR {
+        return row[7];
+    }
+    row[11]
+}
+
+// The entry of the row at the i-th place.
+fn entry_at(plan: &[u64], places: &[usize], i: usize) -> Grant
+    requires { ⌜ (i < length (now places)) × T (within (now plan) (now places)) ⌝ }
+    ensures { λ r. ⌜ r ≡ entryAt (now (plan .entry)) (now (places .entry)) i ⌝ }
+{
+    let p = places[i];
+    let row = &plan[p..p + ROW];
+    Grant {
+        kind: row[0],
+        id: row_id(row),
+        teid: row[13],
+        families: row[12] % 4,
+    }
+}
+
+// Fills the first n entries of the list from the rows at the first n places.
+fn fill(grants: &mut [Grant], plan: &[u64], places: &[usize], n: usize)
+    requires { ⌜ (n ≤ length (now grants)) × (n ≤ length (now places)) × T (within (now plan) (now places)) ⌝ }
+    ensures { λ _. ⌜ now (grants .exit) ≡ filled (entryAt (now (plan .entry)) (now (places .entry))) n (now (grants .entry)) ⌝ }
+{
+    let mut i = 0;
+    while i < n {
+        grants[i] = entry_at(plan, places, i);
+        i += 1;
+    }
+}
+
+// The groups of the grants of one kind among the first n entries, in their order.
+fn write_groups(t: &[u8], grants: &[Grant], n: usize, kind: u64, out: &mut [u8], at: usize) -> usize
+    requires { ⌜ (29 ≤ length (now t)) × (n ≤ length (now grants)) × (all idFits (listed n (now grants)) ≡ true) × (at + length (groups (kindIn kind) (viewSettings (now t)) (listed n (now grants))) ≤ length (now out)) ⌝ }
+    ensures { λ r. ⌜ Placed (now (out .entry)) at (groups (kindIn kind) (viewSettings (now (t .entry))) (listed n (now (grants .entry)))) r (now (out .exit)) ⌝ }
+{
+    let mut next = at;
+    let mut i = 0;
+    while i < n {
+        next = write_grant(t, kind, grants[i], out, next);
+        i += 1;
+    }
+    next
+}
+
+// Created PDRs, then Created Traffic Endpoints, of the grants of the plan's rows at places.
+pub fn write_created(t: &[u8], plan: &[u64], places: &[usize], out: &mut [u8], at: usize) -> usize
+    requires { ⌜ (29 ≤ length (now t)) × (length (now places) ≤ maxGrants) × T (within (now plan) (now places)) × (all idFits (grantsAt (now plan) (now places)) ≡ true) × (at + length (created (viewSettings (now t)) (grantsAt (now plan) (now places))) ≤ length (now out)) ⌝ }
+    ensures { λ r. ⌜ Placed (now (out .entry)) at (created (viewSettings (now (t .entry))) (grantsAt (now (plan .entry)) (now (places .entry)))) r (now (out .exit)) ⌝ }
+{
+    let n = places.len();
+    let mut grants = [Grant {
+        kind: 0,
+        id: 0,
+        teid: 0,
+        families: 0,
+    }; 24];
+    fill(&mut grants, plan, places, n);
+    let next = write_groups(t, &grants, n, PDR, out, at);
+    write_groups(t, &grants, n, ENDPOINT, out, next)
+}

@@ -1,0 +1,212 @@
+-- What the writers of single elements leave: for each, from what its calls and stores leave. Assumes nothing.
+use mathlib.Core.Path.{_≡_, refl, sym, ap, _∙_}
+use mathlib.Core.Bool.{Bool, true, false, not, _&&_}
+use mathlib.Core.Option.{some}
+use mathlib.Core.List.{List, [], _∷_, _++_, append-nil}
+use Prim.Native.Nat.{ℕ, zero, suc, _+_, _-_, _*_, _/_, _%_, _≤_, _<_}
+use native.Mathlib.Nat.{div-one}
+use native.Mathlib.Omega.{arith}
+use borrow.Author.Tests.{eq-eqb, ne-eqb}
+use lib.Dec.{eqb}
+use lib.ListN.{length, set, getD, take, length-append}
+use Rattle.octets.specs.Choice.{pick, flag, isNil}
+use Rattle.octets.specs.Octets.{put, be, part, bit, octetAt}
+use Rattle.octets.proofs.Numbers.{length-be}
+use Rattle.octets.proofs.Put.{set-put, length-part}
+use Rattle.rules.specs.Layout.{viewSettings}
+use Rattle.rules.specs.Model.{Settings}
+use Rattle.rules.specs.Elements.{fteidOctets, unitFteid, fseidOctets}
+use Rattle.rules.specs.Reply.{element, nodeIdElement, offendingElement, unitFseid, unitElement}
+use Rattle.writing.specs.Families.{unitFamilies, unitAddresses, tunnelIn}
+use Rattle.writing.specs.Placed.{Placed}
+use Rattle.writing.proofs.PlacedLaws.{next-put, four-stores, be-two, length-element, placed-none, placed-element, length-headed}
+
+pub head-steps : (kind n at : ℕ) (s : List ℕ) → at + 4 ≤ length s
+    → set (set (set (set s at (kind / 256 % 256)) (at + 1) (kind % 256)) (at + 2) (n / 256 % 256)) (at + 3) (n % 256) ≡ put at (be 2 kind ++ be 2 n) s
+head-steps kind n at s h = rw (be-two kind, be-two n) (four-stores at (kind / 256 % 256) (kind % 256) (n / 256 % 256) (n % 256) s h)
+
+-- ---- elements of fixed length
+
+module _ (at : ℕ) (s : List ℕ) {s₁ : List ℕ} where
+  pub cause-steps : (cause : ℕ) → at + 5 ≤ length s → s₁ ≡ put at (be 2 19 ++ be 2 1) s → Placed s at (element 19 (cause ∷ [])) (at + 5) (set s₁ (at + 4) cause)
+  cause-steps cause h p =
+      let l : length s₁ ≡ length s = length-headed at 19 1 s p (omega arith) in
+      placed-element at 19 1 s p (omega arith) (at + 4) (at + 5) (cause ∷ []) (set-put (at + 4) cause s₁ (omega arith)) refl refl (omega arith)
+
+  pub offending-steps : (t : ℕ) {s₂ : List ℕ} → at + 6 ≤ length s → s₁ ≡ put at (be 2 40 ++ be 2 2) s → s₂ ≡ put (at + 4) (be 2 t) s₁ → Placed s at (offendingElement (some t)) (at + 6) s₂
+  unfolding offendingElement
+  offending-steps t h p q = placed-element at 40 2 s p (omega arith) (at + 4) (at + 6) (be 2 t) q refl (length-be 2 t) (omega arith)
+
+-- ---- elements with the unit's IPv4 address
+
+not-nil : (xs : List ℕ) (n : ℕ) → length xs ≡ suc n → isNil xs ≡ false
+not-nil [] n e = absurd (native.Mathlib.Nat.suc-ne-zero n (sym e))
+not-nil (x ∷ xs) n e = refl
+
+module _ (kind at : ℕ) (t s : List ℕ) where
+  pub node-not : (kind ≡ 50 → ⊥) → Placed s at (nodeIdElement kind (viewSettings t)) at s
+  unfolding nodeIdElement
+  node-not k = rw (ne-eqb kind 50 k) (placed-none s at)
+
+  pub fseid-not : (seid : ℕ) → (kind ≡ 50 → ⊥) → Placed s at (unitFseid kind (viewSettings t) seid) at s
+  unfolding unitFseid
+  fseid-not seid k = rw (ne-eqb kind 50 k) (placed-none s at)
+
+  module _ (long : 29 ≤ length t) (k : kind ≡ 50) where
+    four : length (take 4 t) ≡ 4
+    four = length-part 0 4 t (omega arith)
+
+    pub node-steps : {s₁ s₂ : List ℕ} → at + 9 ≤ length s → s₁ ≡ put at (be 2 60 ++ be 2 5) s → s₂ ≡ put (at + 5) (take 4 t) (set s₁ (at + 4) 0)
+        → Placed s at (nodeIdElement kind (viewSettings t)) (at + 9) s₂
+    unfolding nodeIdElement viewSettings
+    node-steps {s₁} h p q =
+        let l : length s₁ ≡ length s = length-headed at 60 5 s p (omega arith) in
+        rw (eq-eqb kind 50 k)
+        (placed-element at 60 5 s p (omega arith) (at + 4) (at + 9) (0 ∷ take 4 t)
+        (next-put (at + 4) (at + 5) (0 ∷ []) (take 4 t) s₁ (set-put (at + 4) 0 s₁ (omega arith)) q (omega arith) (omega arith))
+        refl (ap suc four) (omega arith))
+
+    pub fseid-steps : (seid : ℕ) {s₁ s₂ s₃ : List ℕ} → at + 17 ≤ length s → s₁ ≡ put at (be 2 57 ++ be 2 13) s → s₂ ≡ put (at + 5) (be 8 seid) (set s₁ (at + 4) 2)
+        → s₃ ≡ put (at + 13) (take 4 t) s₂ → Placed s at (unitFseid kind (viewSettings t) seid) (at + 17) s₃
+    unfolding unitFseid viewSettings fseidOctets
+    fseid-steps seid {s₁} h p q r =
+        let l : length s₁ ≡ length s = length-headed at 57 13 s p (omega arith) in
+        let b = length-be 8 seid in
+        rw (eq-eqb kind 50 k, not-nil (take 4 t) 3 four, append-nil (take 4 t))
+        (placed-element at 57 13 s p (omega arith) (at + 4) (at + 17) ((2 ∷ be 8 seid) ++ take 4 t)
+        (next-put (at + 4) (at + 13) (2 ∷ be 8 seid) (take 4 t) s₁
+        (next-put (at + 4) (at + 5) (2 ∷ []) (be 8 seid) s₁ (set-put (at + 4) 2 s₁ (omega arith)) q (omega arith) (omega arith)) r (omega arith) (omega arith))
+        refl (let e = length-append (be 8 seid) (take 4 t) in omega (arith, four)) (omega arith))
+
+-- ---- F-TEID
+
+flag-one : (m : ℕ) → m < 2 → flag (eqb m 1) ≡ m
+flag-one zero h = refl
+flag-one (suc zero) h = refl
+flag-one (suc (suc m)) h = let no : ⊥ = omega arith in absurd no
+
+module _ (n : ℕ) where
+  low-bit : flag (bit 0 n) ≡ n % 2
+  unfolding bit
+  low-bit = rw div-one (flag-one (n % 2) (omega arith))
+
+  next-bit : flag (bit 1 n) ≡ n / 2 % 2
+  unfolding bit
+  next-bit = flag-one (n / 2 % 2) (omega arith)
+
+-- with the unit's addresses: which there are, by their flags, and what the table has of them
+module _ (t : List ℕ) (long : 29 ≤ length t) (families : ℕ) where
+  abbrev st : Settings
+  st = viewSettings t
+
+  x4 : isNil (take 4 t) ≡ false
+  x4 = not-nil (take 4 t) 3 (length-part 0 4 t (omega arith))
+
+  x6 : isNil (part 5 16 t) ≡ false
+  x6 = not-nil (part 5 16 t) 15 (length-part 5 16 t (omega arith))
+
+  pub families-without : getD t 4 0 ≡ 0 → (families % 2 ≡ unitFamilies st families) × (families % 2 < 4)
+  unfolding unitFamilies viewSettings octetAt
+  families-without z = (rw (eq-eqb (getD t 4 0) 0 z, x4) (plain (bit 0 families) (bit 1 families) (low-bit families)), omega arith)
+    where
+      plain : (p q : Bool) → flag p ≡ families % 2 → families % 2 ≡ flag (p && true) + 2 * flag (q && false)
+      plain true true e = sym e
+      plain true false e = sym e
+      plain false true e = sym e
+      plain false false e = sym e
+
+  pub families-with : (getD t 4 0 ≡ 0 → ⊥) → (families % 4 ≡ unitFamilies st families) × (families % 4 < 4)
+  unfolding unitFamilies viewSettings octetAt
+  families-with z = (rw (ne-eqb (getD t 4 0) 0 z, x4, x6) (plain (bit 0 families) (bit 1 families) (low-bit families) (next-bit families)), omega arith)
+    where
+      plain : (p q : Bool) → flag p ≡ families % 2 → flag q ≡ families / 2 % 2 → families % 4 ≡ flag (p && true) + 2 * flag (q && true)
+      plain true true e g = omega arith
+      plain true false e g = omega arith
+      plain false true e g = omega arith
+      plain false false e g = omega arith
+
+  -- for the families f: the flags octet, and the addresses as parts of the table
+  record Held (a b : List ℕ) (f : ℕ) : Type 0 where
+    flags : f ≡ flag (not (isNil a)) + 2 * flag (not (isNil b))
+    small : f < 4
+    first : part 0 (4 * (f % 2)) t ≡ a
+    second : part 5 (16 * (f / 2)) t ≡ b
+
+  held : Held (pick (bit 0 families) (st .ipv4) []) (pick (bit 1 families) (st .ipv6) []) (unitFamilies st families)
+  unfolding unitFamilies viewSettings
+  held = rw x4 (by (bit 0 families) (bit 1 families) (eqb (octetAt t 4) 0))
+    where
+      none : Held [] [] 0
+      none = record { flags = refl; small = omega arith; first = refl; second = refl }
+
+      one : Held (take 4 t) [] 1
+      one = record { flags = rw x4; small = omega arith; first = refl; second = refl }
+
+      other : Held [] (part 5 16 t) 2
+      other = record { flags = rw x6; small = omega arith; first = refl; second = refl }
+
+      two : Held (take 4 t) (part 5 16 t) 3
+      two = record { flags = rw (x4, x6); small = omega arith; first = refl; second = refl }
+
+      by : (p q z : Bool) → Held (pick p (take 4 t) []) (pick q (pick z [] (part 5 16 t)) []) (flag (p && true) + 2 * flag (q && not (isNil (pick z [] (part 5 16 t)))))
+      by true true true = one
+      by true true false = rw x6 two
+      by true false z = one
+      by false true true = none
+      by false true false = rw x6 other
+      by false false z = none
+
+  abbrev has : ℕ
+  has = unitFamilies st families
+
+  module _ (teid : ℕ) where
+    -- the value's octets after the first five are those parts
+    unit-value : fteidOctets (unitFteid st (tunnelIn teid families)) ≡ has ∷ be 4 teid ++ (part 0 (4 * (has % 2)) t ++ part 5 (16 * (has / 2)) t)
+    unfolding unitFteid fteidOctets tunnelIn
+    unit-value = rw (held .first, held .second) (ap (λ (x : ℕ). x ∷ be 4 teid ++ (pick (bit 0 families) (st .ipv4) [] ++ pick (bit 1 families) (st .ipv6) [])) (sym (held .flags)))
+
+    length-value : length (fteidOctets (unitFteid st (tunnelIn teid families))) ≡ 5 + unitAddresses st families
+    length-value =
+        let a = part 0 (4 * (has % 2)) t in
+        let b = part 5 (16 * (has / 2)) t in
+        let la : length a ≡ 4 * (has % 2) = length-part 0 (4 * (has % 2)) t (omega arith) in
+        let lb : length b ≡ 16 * (has / 2) = length-part 5 (16 * (has / 2)) t (omega (arith, held .small)) in
+        rw unit-value (omega (arith, length-append (be 4 teid) (a ++ b), length-append a b, length-be 4 teid, la, lb))
+
+    pub length-unit : length (unitElement st (tunnelIn teid families)) ≡ 9 + unitAddresses st families
+    unfolding unitElement
+    length-unit = rw (length-element, length-value) (omega arith)
+
+    pub fteid-steps : (at f : ℕ) (s : List ℕ) {s₁ s₂ s₃ : List ℕ} {e : ℕ} → at + 9 + unitAddresses st families ≤ length s → f ≡ has
+        → s₁ ≡ put at (be 2 21 ++ be 2 (5 + (4 * (f % 2) + 16 * (f / 2)))) s → s₂ ≡ put (at + 5) (be 4 teid) (set s₁ (at + 4) f)
+        → Placed s₂ (at + 9) (part 0 (4 * (f % 2)) t ++ part 5 (16 * (f / 2)) t) e s₃
+        → Placed s at (unitElement st (tunnelIn teid families)) e s₃
+    unfolding unitElement
+    fteid-steps at f s {s₁} {s₂} {s₃} {e} h g p q r =
+        let n : ℕ = 5 + (4 * (f % 2) + 16 * (f / 2)) in
+        let long-one : length s₁ ≡ length s = length-headed at 21 n s p (omega arith) in
+        let b = length-be 4 teid in
+        let w : List ℕ = part 0 (4 * (f % 2)) t ++ part 5 (16 * (f / 2)) t in
+        let v : fteidOctets (unitFteid st (tunnelIn teid families)) ≡ f ∷ be 4 teid ++ w = rw g unit-value in
+        let l : length (f ∷ be 4 teid ++ w) ≡ n = sym (ap length v) ∙ rw g length-value in
+        rw v
+        (placed-element at 21 n s p (omega arith) (at + 4) e (f ∷ be 4 teid ++ w)
+        (next-put (at + 4) (at + 9) (f ∷ be 4 teid) w s₁
+        (next-put (at + 4) (at + 5) (f ∷ []) (be 4 teid) s₁ (set-put (at + 4) f s₁ (omega arith)) q (omega arith) (omega arith))
+        (r .holds) (omega arith) (omega arith))
+        refl l (let k = r .ends in let m = length-append (be 4 teid) w in omega arith))
+
+-- the addresses, one after the other
+pub addresses-steps : (t : List ℕ) (f at : ℕ) (s : List ℕ) {s₁ s₂ : List ℕ} → 29 ≤ length t → f < 4 → at + (4 * (f % 2) + 16 * (f / 2)) ≤ length s
+    → s₁ ≡ put at (take (4 * (f % 2)) t) s → s₂ ≡ put (at + 4 * (f % 2)) (part 5 (5 + 16 * (f / 2) - 5) t) s₁
+    → Placed s at (part 0 (4 * (f % 2)) t ++ part 5 (16 * (f / 2)) t) (at + 4 * (f % 2) + 16 * (f / 2)) s₂
+addresses-steps t f at s {s₁} {s₂} h g l p q =
+    let a : List ℕ = take (4 * (f % 2)) t in
+    let b : List ℕ = part 5 (16 * (f / 2)) t in
+    let la : length a ≡ 4 * (f % 2) = length-part 0 (4 * (f % 2)) t (omega arith) in
+    let lb : length b ≡ 16 * (f / 2) = length-part 5 (16 * (f / 2)) t (omega arith) in
+    let k : 5 + 16 * (f / 2) - 5 ≡ 16 * (f / 2) = omega arith in
+    record {
+      ends = rw (length-append a b, la, lb) (omega arith);
+      holds = next-put at (at + 4 * (f % 2)) a b s p (rw k at q) (omega arith) (omega arith);
+    }

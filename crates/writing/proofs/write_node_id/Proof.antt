@@ -1,0 +1,41 @@
+-- `writing::write_node_id` meets its contract: nothing but in an establishment's reply; there the head, a store and a copy are one element.
+-- Assumes nothing.
+use mathlib.Core.Path.{_∙_}
+use native.Mathlib.Omega.{arith}
+use borrow.Author.Needs.{needs}
+use lib.ListN.{length-set}
+use Rattle.octets.proofs.Put.{length-part}
+use Rattle.writing.proofs.ElementSteps.{node-not, node-steps}
+use Rattle.writing.proofs.write_node_id.Statement.{statement}
+use Rattle.writing.proofs.write_node_id.Tie as tie
+
+returns : tie.Need-returns
+returns c = search node-not
+
+copy-requires : tie.Need-copy-requires
+copy-requires c κs =
+    let a = c .before .before .before .before .before .before .before .before .before .args in
+    simp length-set (omega (arith, length-part 0 4 (a .t .now) (omega arith)))
+
+same-length : tie.Need-same-length
+same-length c = (simp length-set at (c .before .before .copy .kept .0)) ∙ c .before .before .before .before .before .before .before .write-head .kept .1 .1 .0
+
+returns-2 : tie.Need-returns-2
+returns-2 c = search node-steps
+
+pub write-node-id-spec : {M : Type 1} → statement M
+write-node-id-spec =
+    tie.close
+    (tie.spec
+    returns
+    (λ c κs. search needs)
+    (λ c. search needs)
+    (λ c. search needs)
+    (λ c. search needs)
+    (λ c. search needs)
+    (λ c. search needs)
+    (λ c. search needs)
+    copy-requires
+    (λ c. search needs)
+    same-length
+    returns-2)

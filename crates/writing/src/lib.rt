@@ -1,0 +1,110 @@
+// The reply's elements, each written from a place on; the answer is the place after it.
+ghost use mathlib.Core.Path.{_≡_};
+ghost use Prim.Native.Nat.{_+_, _*_, _/_, _%_, _≤_, _<_};
+ghost use lib.ListN.{length};
+ghost use mathlib.Core.List.{[], _∷_, _++_};
+ghost use mathlib.Core.Option.{some};
+ghost use Rattle.octets.specs.Octets.{put, be, part};
+ghost use Rattle.rules.specs.Layout.{viewSettings};
+ghost use Rattle.rules.specs.Reply.{element, nodeIdElement, offendingElement, unitFseid, unitElement};
+ghost use Rattle.writing.specs.Families.{unitFamilies, addressOctets, unitAddresses, tunnelIn};
+ghost use Rattle.writing.specs.Placed.{Placed};
+
+// The type of a Session Establishment Request.
+pub const ESTABLISHMENT: u8 = 50;
+
+// Type and length.
+pub fn write_head(kind: usize, n: usize, out: &mut [u8], at: usize)
+    requires { ⌜ at + 4 ≤ length (now out) ⌝ }
+    ensures { λ _. ⌜ now (out .exit) ≡ put at (be 2 kind ++ be 2 n) (now (out .entry)) ⌝ }
+{
+    out[at] = (kind / 256 % 256) as u8;
+    out[at + 1] = (kind % 256) as u8;
+    out[at + 2] = (n / 256 % 256) as u8;
+    out[at + 3] = (n % 256) as u8;
+}
+
+// Node ID, in an establishment's reply only.
+pub fn write_node_id(t: &[u8], kind: u8, out: &mut [u8], at: usize) -> usize
+    requires { ⌜ (29 ≤ length (now t)) × (at + 9 ≤ length (now out)) ⌝ }
+    ensures { λ r. ⌜ Placed (now (out .entry)) at (nodeIdElement kind (viewSettings (now (t .entry)))) r (now (out .exit)) ⌝ }
+{
+    if kind != ESTABLISHMENT {
+        return at;
+    }
+    write_head(60, 5, out, at);
+    out[at + 4] = 0;
+    octets::copy(out, at + 5, &t[0..4]);
+    at + 9
+}
+
+// Cause.
+pub fn write_cause(cause: u8, out: &mut [u8], at: usize) -> usize
+    requires { ⌜ at + 5 ≤ length (now out) ⌝ }
+    ensures { λ r. ⌜ Placed (now (out .entry)) at (element 19 (cause ∷ [])) r (now (out .exit)) ⌝ }
+{
+    write_head(19, 1, out, at);
+    out[at + 4] = cause;
+    at + 5
+}
+
+// Offending IE: the type at fault.
+pub fn write_offending(t: u64, out: &mut [u8], at: usize) -> usize
+    requires { ⌜ at + 6 ≤ length (now out) ⌝ }
+    ensures { λ r. ⌜ Placed (now (out .entry)) at (offendingElement (some t)) r (now (out .exit)) ⌝ }
+{
+    write_head(40, 2, out, at);
+    octets::write(out, at + 4, 2, t);
+    at + 6
+}
+
+// The unit's F-SEID, in an accepted establishment's reply only: bit 2 says that an IPv4 address is there.
+pub fn write_fseid(t: &[u8], kind: u8, seid: u64, out: &mut [u8], at: usize) -> usize
+    requires { ⌜ (29 ≤ length (now t)) × (at + 17 ≤ length (now out)) ⌝ }
+    ensures { λ r. ⌜ Placed (now (out .entry)) at (unitFseid kind (viewSettings (now (t .entry))) seid) r (now (out .exit)) ⌝ }
+{
+    if kind != ESTABLISHMENT {
+        return at;
+    }
+    write_head(57, 13, out, at);
+    out[at + 4] = 2;
+    octets::write(out, at + 5, 8, seid);
+    octets::copy(out, at + 13, &t[0..4]);
+    at + 17
+}
+
+// The families of an F-TEID with the unit's addresses: V4 = 1, V6 = 2 where the unit has an IPv6 address.
+pub fn unit_families(t: &[u8], families: u64) -> usize
+    requires { ⌜ 29 ≤ length (now t) ⌝ }
+    ensures { λ r. ⌜ (r ≡ unitFamilies (viewSettings (now (t .entry))) families) × (r < 4) ⌝ }
+{
+    if t[4] == 0 {
+        return (families % 2) as usize;
+    }
+    (families % 4) as usize
+}
+
+// The unit's addresses of these families, as the table has them.
+fn write_addresses(t: &[u8], families: usize, out: &mut [u8], at: usize) -> usize
+    requires { ⌜ (29 ≤ length (now t)) × (families < 4) × (at + addressOctets families ≤ length (now out)) ⌝ }
+    ensures { λ r. ⌜ Placed (now (out .entry)) at (part 0 (4 * (families % 2)) (now (t .entry)) ++ part 5 (16 * (families / 2)) (now (t .entry))) r (now (out .exit)) ⌝ }
+{
+    let v4 = 4 * (families % 2);
+    let v6 = 16 * (families / 2);
+    octets::copy(out, at, &t[..v4]);
+    let next = at + v4;
+    octets::copy(out, next, &t[5..5 + v6]);
+    next + v6
+}
+
+// An F-TEID with the unit's addresses.
+pub fn write_fteid(t: &[u8], teid: u64, families: u64, out: &mut [u8], at: usize) -> usize
+    requires { ⌜ (29 ≤ length (now t)) × (at + 9 + unitAddresses (viewSettings (now t)) families ≤ length (now out)) ⌝ }
+    ensures { λ r. ⌜ Placed (now (out .entry)) at (unitElement (viewSettings (now (t .entry))) (tunnelIn teid families)) r (now (out .exit)) ⌝ }
+{
+    let f = unit_families(t, families);
+    write_head(21, 5 + (4 * (f % 2) + 16 * (f / 2)), out, at);
+    out[at + 4] = f as u8;
+    octets::write(out, at + 5, 4, teid);
+    write_addresses(t, f, out, at + 9)
+}
