@@ -84,18 +84,6 @@ static void timed(size_t requests, double *our_time, double *their_time)
     }
 }
 
-static size_t read_count(const char *text, size_t most)
-{
-    char *end;
-    unsigned long value = strtoul(text, &end, 10);
-
-    if (text[0] < '0' || text[0] > '9' || *end != '\0' || value < 1 || value > most) {
-        fprintf(stderr, "bench: %s is not a number from 1 to %zu\n", text, most);
-        exit(2);
-    }
-    return value;
-}
-
 static int one_side(const struct side *side, size_t requests)
 {
     write_cycle(cycle);
@@ -110,15 +98,15 @@ int main(int argc, char **argv)
     static double their_times[MOST_RUNS];
 
     if (argc == 3 && strcmp(argv[1], archive.name) == 0)
-        return one_side(&archive, read_count(argv[2], 100000000));
+        return one_side(&archive, read_count("bench", argv[2], 100000000));
     if (argc == 3 && strcmp(argv[1], ordinary.name) == 0)
-        return one_side(&ordinary, read_count(argv[2], 100000000));
+        return one_side(&ordinary, read_count("bench", argv[2], 100000000));
     if (argc > 3) {
         fputs("usage: bench [REQUESTS [RUNS]] | bench archive|ordinary REQUESTS\n", stderr);
         return 2;
     }
-    size_t requests = argc > 1 ? read_count(argv[1], 100000000) : 100000;
-    size_t runs = argc > 2 ? read_count(argv[2], MOST_RUNS) : 7;
+    size_t requests = argc > 1 ? read_count("bench", argv[1], 100000000) : 100000;
+    size_t runs = argc > 2 ? read_count("bench", argv[2], MOST_RUNS) : 7;
 
     write_cycle(cycle);
     fill(&ours, &archive);

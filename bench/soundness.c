@@ -22,18 +22,6 @@ __attribute__((noinline)) static uint32_t sum(const uint8_t *octets, size_t leng
     return total;
 }
 
-static size_t read_count(const char *text, size_t most)
-{
-    char *end;
-    unsigned long value = strtoul(text, &end, 10);
-
-    if (text[0] < '0' || text[0] > '9' || *end != '\0' || value < 1 || value > most) {
-        fprintf(stderr, "soundness: %s is not a number from 1 to %zu\n", text, most);
-        exit(2);
-    }
-    return value;
-}
-
 int main(int argc, char **argv)
 {
     static double checks[MOST_RUNS];
@@ -45,8 +33,8 @@ int main(int argc, char **argv)
         fputs("usage: soundness [CALLS [RUNS]]\n", stderr);
         return 2;
     }
-    size_t calls = argc > 1 ? read_count(argv[1], 100000000) : 20000;
-    size_t runs = argc > 2 ? read_count(argv[2], MOST_RUNS) : 7;
+    size_t calls = argc > 1 ? read_count("soundness", argv[1], 100000000) : 20000;
+    size_t runs = argc > 2 ? read_count("soundness", argv[2], MOST_RUNS) : 7;
 
     fill(&place, &archive);
     for (size_t run = 0; run < runs; run++) {

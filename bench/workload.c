@@ -131,3 +131,15 @@ double median(double *values, size_t count)
     qsort(values, count, sizeof *values, ascending);
     return count % 2 == 1 ? values[count / 2] : (values[count / 2 - 1] + values[count / 2]) / 2;
 }
+
+size_t read_count(const char *program, const char *text, size_t most)
+{
+    char *end;
+    unsigned long value = strtoul(text, &end, 10);
+
+    if (text[0] < '0' || text[0] > '9' || *end != '\0' || value < 1 || value > most) {
+        fprintf(stderr, "%s: %s is not a number from 1 to %zu\n", program, text, most);
+        exit(2);
+    }
+    return value;
+}

@@ -43,4 +43,7 @@ double processor_time(void);
 
 double median(double *values, size_t count);
 
+/* An argument of a program, a number from 1 to the most; ends the program if it is none. */
+size_t read_count(const char *program, const char *text, size_t most);
+
 #endif

@@ -10,12 +10,14 @@
 //! * `coverage`: what a run of calls has met, and what it should meet.
 //! * `generate`: seeded sequences of calls; it uses none of the readers and writers above.
 //! * `selfcheck`: drives the unit over generated sequences and checks what 01 promises.
+//! * `program`: the arguments and the exit status of a program that runs generated calls.
 
 pub mod coverage;
 pub mod element;
 pub mod generate;
 pub mod ie;
 pub mod live;
+pub mod program;
 pub mod request;
 pub mod restoration;
 pub mod selfcheck;

@@ -5,6 +5,7 @@
 use crate::element::f_seid::{self, FSeid};
 use crate::element::f_teid::{self, FTeid};
 use crate::element::fq_csid::{self, FqCsid};
+use crate::generate::random::Random;
 use crate::ie;
 use crate::session::{Local, Session, Tunnel};
 use crate::settings::Settings;
@@ -20,6 +21,19 @@ pub struct Envelope {
     pub sequence: u32,
     pub ipv4: Option<[u8; 4]>,
     pub ipv6: Option<[u8; 16]>,
+}
+
+impl Envelope {
+    /// Any that is allowed, drawn at random for the restoration of this session.
+    pub fn any(random: &mut Random, seid: u64) -> Envelope {
+        let (v4, v6) = random.pick(&[(true, false), (false, true), (true, true)]);
+        Envelope {
+            header_seid: random.pick(&[0, seid, u64::MAX]),
+            sequence: random.number() as u32 & 0xFF_FFFF,
+            ipv4: v4.then(|| std::array::from_fn(|_| random.octet())),
+            ipv6: v6.then(|| std::array::from_fn(|_| random.octet())),
+        }
+    }
 }
 
 /// The restoration request of a live session; nothing for SEID 0 or without an F-SEID address.

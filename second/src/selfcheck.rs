@@ -165,13 +165,7 @@ fn restore_all(report: &mut Report, random: &mut Random, settings: &Settings, li
     let mut seids: Vec<u64> = live.keys().copied().collect();
     random.shuffle(&mut seids);
     for seid in seids {
-        let (v4, v6) = random.pick(&[(true, false), (false, true), (true, true)]);
-        let envelope = Envelope {
-            header_seid: random.pick(&[0, seid, u64::MAX]),
-            sequence: random.number() as u32 & 0xFF_FFFF,
-            ipv4: v4.then(|| std::array::from_fn(|_| random.octet())),
-            ipv6: v6.then(|| std::array::from_fn(|_| random.octet())),
-        };
+        let envelope = Envelope::any(random, seid);
         let message = restoration::request(settings, seid, &live[&seid], &envelope);
         let message = message.expect("a live session can be restored");
         report.check(message.len() <= LONGEST, || format!("{} octets", message.len()));

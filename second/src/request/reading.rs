@@ -22,13 +22,11 @@ pub fn read(header: &Header, body: &[u8]) -> Result<Request, Fault> {
         let value = element.value;
         match (kind, element.ie_type) {
             (Kind::Establishment, ie::F_SEID) => {
-                once.mark(ie::F_SEID)?;
-                f_seid = Some(f_seid::read(value).map_err(|r| at.refused(ie::F_SEID, r))?);
+                f_seid = Some(once.read(&element, f_seid::read)?);
             }
             (Kind::Establishment, ie::ESTABLISHMENT_FLAGS) => {
-                once.mark(ie::ESTABLISHMENT_FLAGS)?;
                 // "bit 1 = restoration"; its other bits are ignored.
-                restoration = one_octet(at, &element)? & 1 != 0;
+                restoration = once.read(&element, one_octet)? & 1 != 0;
             }
             (Kind::Establishment | Kind::Modification, ie::CREATE_PDR) => {
                 once.see(ie::CREATE_PDR);
@@ -65,6 +63,9 @@ pub fn read(header: &Header, body: &[u8]) -> Result<Request, Fault> {
     Ok(Request { header: *header, f_seid, restoration, records })
 }
 
+/// Reads the value of an element; what it refuses is a fault of the part where the element stands.
+type ValueReader<T> = fn(&[u8]) -> Result<T, Refusal>;
+
 /// The elements of one part that have been met: for repeats and for missing ones.
 struct Once {
     at: At,
@@ -84,13 +85,23 @@ impl Once {
         }
     }
 
+    /// The value of an element that may stand there once.
+    fn read<T>(&mut self, element: &Element, value: ValueReader<T>) -> Result<T, Fault> {
+        self.mark(element.ie_type)?;
+        value(element.value).map_err(|refusal| self.at.refused(element.ie_type, refusal))
+    }
+
     /// Notes an element that may stand there several times.
     fn see(&mut self, ie_type: u16) {
         self.met.insert(ie_type);
     }
 
+    fn has(&self, ie_type: u16) -> bool {
+        self.met.contains(&ie_type)
+    }
+
     fn require(&self, ie_type: u16) -> Result<(), Fault> {
-        match self.met.contains(&ie_type) {
+        match self.has(ie_type) {
             true => Ok(()),
             false => Err(self.at.missing(ie_type)),
         }
@@ -129,22 +140,13 @@ fn create_pdr(message: Kind, part: &[u8]) -> Result<Record, Fault> {
     let (mut id, mut precedence, mut pdi, mut far_id) = (None, None, None, None);
     for element in elements(part) {
         match element.ie_type {
-            ie::PDR_ID => {
-                once.mark(ie::PDR_ID)?;
-                id = Some(two_octets(at, &element)?);
-            }
-            ie::PRECEDENCE => {
-                once.mark(ie::PRECEDENCE)?;
-                precedence = Some(four_octets(at, &element)?);
-            }
+            ie::PDR_ID => id = Some(once.read(&element, two_octets)?),
+            ie::PRECEDENCE => precedence = Some(once.read(&element, four_octets)?),
             ie::PDI => {
                 once.mark(ie::PDI)?;
                 pdi = Some(read_pdi(message, element.value)?);
             }
-            ie::FAR_ID => {
-                once.mark(ie::FAR_ID)?;
-                far_id = Some(four_octets(at, &element)?);
-            }
+            ie::FAR_ID => far_id = Some(once.read(&element, four_octets)?),
             _ => {}
         }
     }
@@ -165,19 +167,11 @@ fn read_pdi(message: Kind, part: &[u8]) -> Result<Pdi, Fault> {
     for element in elements(part) {
         match element.ie_type {
             ie::SOURCE_INTERFACE => {
-                once.mark(ie::SOURCE_INTERFACE)?;
                 // "Source Interface 20 (low 4 bits of 1)"
-                source_interface = Some(one_octet(at, &element)? & 0x0F);
+                source_interface = Some(once.read(&element, one_octet)? & 0x0F);
             }
-            ie::F_TEID => {
-                once.mark(ie::F_TEID)?;
-                let read = f_teid::read(element.value).map_err(|r| at.refused(ie::F_TEID, r))?;
-                tunnel = Some(read);
-            }
-            ie::ENDPOINT_ID => {
-                once.mark(ie::ENDPOINT_ID)?;
-                endpoint = Some(one_octet(at, &element)?);
-            }
+            ie::F_TEID => tunnel = Some(once.read(&element, f_teid::read)?),
+            ie::ENDPOINT_ID => endpoint = Some(once.read(&element, one_octet)?),
             _ => {}
         }
     }
@@ -192,16 +186,8 @@ fn create_endpoint(message: Kind, part: &[u8]) -> Result<Record, Fault> {
     let (mut id, mut tunnel) = (None, None);
     for element in elements(part) {
         match element.ie_type {
-            ie::ENDPOINT_ID => {
-                once.mark(ie::ENDPOINT_ID)?;
-                id = Some(one_octet(at, &element)?);
-            }
-            ie::F_TEID => {
-                once.mark(ie::F_TEID)?;
-                let read = f_teid::read_in_endpoint(element.value)
-                    .map_err(|r| at.refused(ie::F_TEID, r))?;
-                tunnel = Some(read);
-            }
+            ie::ENDPOINT_ID => id = Some(once.read(&element, one_octet)?),
+            ie::F_TEID => tunnel = Some(once.read(&element, f_teid::read_in_endpoint)?),
             _ => {}
         }
     }
@@ -215,74 +201,68 @@ fn create_endpoint(message: Kind, part: &[u8]) -> Result<Record, Fault> {
 fn update_pdr(part: &[u8]) -> Result<Record, Fault> {
     let at = At { message: Kind::Modification, place: Place::UpdatePdr };
     let mut once = Once::new(at);
-    let (mut id, mut precedence, mut far, mut with_pdi) = (None, None, FarChange::Stays, false);
+    let (mut id, mut precedence, mut far) = (None, None, FarChange::Stays);
     for element in elements(part) {
         match element.ie_type {
-            ie::PDR_ID => {
-                once.mark(ie::PDR_ID)?;
-                id = Some(two_octets(at, &element)?);
-            }
-            ie::PRECEDENCE => {
-                once.mark(ie::PRECEDENCE)?;
-                precedence = Some(four_octets(at, &element)?);
-            }
-            ie::PDI => {
-                // "PDI in Update PDR (framed in stage 2, its members not read)"
-                once.mark(ie::PDI)?;
-                with_pdi = true;
-            }
-            ie::FAR_ID => {
-                once.mark(ie::FAR_ID)?;
-                far = match element.value.is_empty() {
-                    true => FarChange::TakenAway,
-                    false => FarChange::Set(four_octets(at, &element)?),
-                };
-            }
+            ie::PDR_ID => id = Some(once.read(&element, two_octets)?),
+            ie::PRECEDENCE => precedence = Some(once.read(&element, four_octets)?),
+            // "PDI in Update PDR (framed in stage 2, its members not read)"
+            ie::PDI => once.mark(ie::PDI)?,
+            ie::FAR_ID => far = once.read(&element, far_change)?,
             _ => {}
         }
     }
     let id = id.ok_or(at.missing(ie::PDR_ID))?;
-    Ok(Record::UpdatePdr { id, precedence, far, with_pdi })
+    Ok(Record::UpdatePdr { id, precedence, far, with_pdi: once.has(ie::PDI) })
 }
 
 fn remove_pdr(part: &[u8]) -> Result<Record, Fault> {
-    let at = At { message: Kind::Modification, place: Place::RemovePdr };
-    let mut id = None;
-    let mut once = Once::new(at);
-    for element in elements(part).filter(|element| element.ie_type == ie::PDR_ID) {
-        once.mark(ie::PDR_ID)?;
-        id = Some(two_octets(at, &element)?);
-    }
-    Ok(Record::RemovePdr { id: id.ok_or(at.missing(ie::PDR_ID))? })
+    let id = removed(Place::RemovePdr, part, ie::PDR_ID, two_octets)?;
+    Ok(Record::RemovePdr { id })
 }
 
 fn remove_endpoint(part: &[u8]) -> Result<Record, Fault> {
-    let at = At { message: Kind::Modification, place: Place::RemoveEndpoint };
-    let mut id = None;
+    let id = removed(Place::RemoveEndpoint, part, ie::ENDPOINT_ID, one_octet)?;
+    Ok(Record::RemoveEndpoint { id })
+}
+
+/// The ID in a removal, its only member.
+fn removed<T>(place: Place, part: &[u8], ie_type: u16, value: ValueReader<T>) -> Result<T, Fault> {
+    let at = At { message: Kind::Modification, place };
     let mut once = Once::new(at);
-    for element in elements(part).filter(|element| element.ie_type == ie::ENDPOINT_ID) {
-        once.mark(ie::ENDPOINT_ID)?;
-        id = Some(one_octet(at, &element)?);
+    let mut id = None;
+    for element in elements(part).filter(|element| element.ie_type == ie_type) {
+        id = Some(once.read(&element, value)?);
     }
-    Ok(Record::RemoveEndpoint { id: id.ok_or(at.missing(ie::ENDPOINT_ID))? })
+    id.ok_or(at.missing(ie_type))
 }
 
 // Values of a fixed size at the front of an element; "Octets past a value are ignored."
 
-fn one_octet(at: At, element: &Element) -> Result<u8, Fault> {
-    element.value.first().copied().ok_or(too_short(at, element))
+fn one_octet(value: &[u8]) -> Result<u8, Refusal> {
+    value.first().copied().ok_or(too_short(value))
 }
 
-fn two_octets(at: At, element: &Element) -> Result<u16, Fault> {
-    let octets = element.value.first_chunk::<2>().ok_or(too_short(at, element))?;
+fn two_octets(value: &[u8]) -> Result<u16, Refusal> {
+    let octets = value.first_chunk::<2>().ok_or(too_short(value))?;
     Ok(u16::from_be_bytes(*octets))
 }
 
-fn four_octets(at: At, element: &Element) -> Result<u32, Fault> {
-    front_u32(element.value).ok_or(too_short(at, element))
+fn four_octets(value: &[u8]) -> Result<u32, Refusal> {
+    front_u32(value).ok_or(too_short(value))
 }
 
-fn too_short(at: At, element: &Element) -> Fault {
-    let refusal = if element.value.is_empty() { Refusal::Empty } else { Refusal::Short };
-    at.refused(element.ie_type, refusal)
+/// "a FAR ID of null length takes it away"
+fn far_change(value: &[u8]) -> Result<FarChange, Refusal> {
+    match value.is_empty() {
+        true => Ok(FarChange::TakenAway),
+        false => four_octets(value).map(FarChange::Set),
+    }
+}
+
+fn too_short(value: &[u8]) -> Refusal {
+    match value.is_empty() {
+        true => Refusal::Empty,
+        false => Refusal::Short,
+    }
 }

@@ -6,10 +6,8 @@ use std::process::ExitCode;
 use differential::product::Product;
 use differential::run::{run, Report, CALLS_FOR_WHOLE_COVERAGE};
 use second::coverage;
+use second::program;
 
-const USAGE: &str =
-    "usage: differential [SEED] [CALLS]   (whole numbers; CALLS from 1 to 10000000)";
-const DEFAULT_SEED: u64 = 1;
 const DEFAULT_CALLS: usize = 100_000;
 const MOST_PRINTED: usize = 30;
 
@@ -37,27 +35,19 @@ extern "C" {
 }
 
 fn main() -> ExitCode {
-    let arguments: Vec<String> = std::env::args().skip(1).collect();
-    let (seed, calls) = match read_arguments(&arguments) {
-        Ok(pair) => pair,
-        Err(message) => {
-            eprintln!("differential: {message}\n{USAGE}");
-            return ExitCode::from(2);
-        }
-    };
+    program::run("differential", DEFAULT_CALLS, compare)
+}
+
+fn compare(seed: u64, calls: usize) -> bool {
     let product = Product {
         table_length: pfcp_table_length,
         make_table: pfcp_make_table,
         free_count: pfcp_free_count,
         request: pfcp_request,
     };
-    println!("seed {seed}, {calls} calls");
     let report = run(&product, seed, calls);
     print(&report, calls);
-    match report.failures.is_empty() {
-        true => ExitCode::SUCCESS,
-        false => ExitCode::FAILURE,
-    }
+    report.failures.is_empty()
 }
 
 fn print(report: &Report, calls: usize) {
@@ -81,22 +71,4 @@ fn print(report: &Report, calls: usize) {
         println!("and {} more", report.failures.len() - MOST_PRINTED);
     }
     println!("{} passed, {} failed", report.passed, report.failures.len());
-}
-
-fn read_arguments(arguments: &[String]) -> Result<(u64, usize), String> {
-    if arguments.len() > 2 {
-        return Err("too many arguments".to_string());
-    }
-    let seed = match arguments.first() {
-        None => DEFAULT_SEED,
-        Some(text) => text.parse().map_err(|_| format!("'{text}' is not a seed"))?,
-    };
-    let calls = match arguments.get(1) {
-        None => DEFAULT_CALLS,
-        Some(text) => text.parse().map_err(|_| format!("'{text}' is not a number of calls"))?,
-    };
-    match (1..=10_000_000).contains(&calls) {
-        true => Ok((seed, calls)),
-        false => Err(format!("{calls} calls are too few or too many")),
-    }
 }

@@ -380,15 +380,8 @@ impl Run<'_> {
         let mut seids: Vec<u64> = live.keys().copied().collect();
         self.random.shuffle(&mut seids);
         for seid in seids {
-            let random = &mut self.random;
-            let (v4, v6) = random.pick(&[(true, false), (false, true), (true, true)]);
-            let envelope = Envelope {
-                header_seid: random.pick(&[0, seid, u64::MAX]),
-                sequence: random.number() as u32 & 0xFF_FFFF,
-                ipv4: v4.then(|| std::array::from_fn(|_| random.octet())),
-                ipv6: v6.then(|| std::array::from_fn(|_| random.octet())),
-            };
-            let space = random.pick(&[1024, 1025, 3000]);
+            let envelope = Envelope::any(&mut self.random, seid);
+            let space = self.random.pick(&[1024, 1025, 3000]);
             let message = restoration::request(settings, seid, &live[&seid], &envelope);
             let message = message.expect("a live session can be restored");
             let longest = message.len() <= restoration::LONGEST;
