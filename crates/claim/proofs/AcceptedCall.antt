@@ -12,7 +12,7 @@ use Rattle.octets.proofs.Tests.{and-left, and-right}
 use Rattle.octets.proofs.ListLaws.{Every, every-imply, pairs-imply}
 use Rattle.rules.specs.Model.{Settings, Session, Sessions, teidOf, sessionTeids, heldTeids, freeTeids}
 use Rattle.rules.specs.Layout.{encode, viewSettings, viewSessions}
-use Rattle.laws.proofs.LayoutLaws.{sessions-back, encoded-settings}
+use Rattle.laws.proofs.TableLaws.{sessions-back, encoded-settings}
 use Rattle.rules.specs.Sound.{sessionsAllowed, inPool}
 use Rattle.rules.specs.Message.{kindOf, readRequest, Request}
 use Rattle.rules.specs.Grants.{Kind, ofPdr, grants, grantedTeid}

@@ -72,11 +72,6 @@ live-any n (y ∷ m) h = one (eqb (y .seid) n) (λ g. live-any n m g) h
 unfoldable pub changed : Settings → Sessions → List ℕ → Session
 changed s m msg = apply (grantedTeid (grants s m (readRequest msg))) (readRequest msg) (entrySession m msg)
 
--- its SEID is the one at entry
-changed-seid : (s : Settings) (m : Sessions) (msg : List ℕ) → changed s m msg .seid ≡ entrySession m msg .seid
-unfolding changed apply
-changed-seid s m msg = refl
-
 pub found-seid : (n : ℕ) (m : Sessions) → T (isLive n m) → valueOr (newSession n) (sessionOf n m) .seid ≡ n
 unfolding isLive sessionOf findBy hasSeid
 found-seid n [] h = absurd h

@@ -13,8 +13,8 @@ use Rattle.octets.specs.Lists.{member, range, without, distinct, all, allPairs,
 use Rattle.octets.proofs.Tests.{pick-either, and-left, and-right, all-head, all-tail, no-eqb}
 use Rattle.octets.proofs.Ordered.{pairs-head, pairs-tail, pairs-cons, ne-of}
 use Rattle.octets.proofs.ListLaws.{by-test, or-right, or-by-left, or-by-right, onSome, all-imply, pairs-imply, all-append, all-map, all-collect}
-use Rattle.octets.proofs.MemberLaws.{differ-turn, member-without, member-passes}
-use Rattle.claim.proofs.PoolLaws.{range-above, length-range, without-all, free-enough, free-in-pool, free-not-held}
+use Rattle.octets.proofs.MemberLaws.{differ-turn, member-without}
+use Rattle.claim.proofs.PoolLaws.{range-above, length-range, without-all, free-enough}
 use Rattle.rules.specs.Model.{Settings, Place, neither, tunnel, endpoint, Pdr, Endpoint, Session, Sessions, teidOf, placeTunnel, tunnelHolding, pdrHolding, endpointHolding, sessionHoldings, sessionTeids, heldTeids, freeCount, freeTeids, endpointId}
 use Rattle.rules.specs.Sound.{inPool, placeAllowed, pdrAllowed, endpointAllowed, sessionAllowed, sessionsAllowed}
 use Rattle.claim.proofs.KeptRules.{tunnel-kept, endpoint-kept, pdr-kept, session-kept, sessions-kept}
@@ -38,14 +38,6 @@ pool-range s t h = range-member t (s .first) (s .size) (leb→le (s .first) t (a
 pub free-there : (s : Settings) (m : Sessions) (t : ℕ) → T (inPool s t) → T (not (member t (heldTeids m))) → T (member t (freeTeids s m))
 unfolding freeTeids
 free-there s m t h g = member-without t (range (s .first) (s .size)) (heldTeids m) (pool-range s t h) g
-
--- and a free TEID is one
-pub free-pool : (s : Settings) (m : Sessions) (t : ℕ) → T (member t (freeTeids s m)) → T (inPool s t)
-free-pool s m t h = member-passes (inPool s) t (freeTeids s m) h (free-in-pool s m)
-
--- held by nobody
-pub free-unheld : (s : Settings) (m : Sessions) (t : ℕ) → T (member t (freeTeids s m)) → T (not (member t (heldTeids m)))
-free-unheld s m t h = member-passes (λ n. not (member n (heldTeids m))) t (freeTeids s m) h (free-not-held s m)
 
 -- ---- the free TEIDs stand in ascending order
 

@@ -17,7 +17,7 @@ use Rattle.octets.proofs.Numbers.{length-be, number-be}
 use Rattle.rules.specs.Model.{Settings}
 use Rattle.rules.specs.Elements.{fteidOctets, unitFteid, fseidOctets}
 use Rattle.rules.specs.Sound.{settingsAllowed}
-use Rattle.laws.proofs.LayoutLaws.{ipv4-four}
+use Rattle.laws.proofs.TableLaws.{ipv4-four}
 use Rattle.rules.specs.Message.{Element, elements, hasType, contentIn, contentOf, widthOf, field, fieldOr0, kindOf, headerSeid, sequenceOf}
 use Rattle.laws.proofs.MessageLaws.{Fits, el, elements-cons, elements-nil, elements-last, length-one, written, asElement, elements-map, short-map}
 use Rattle.rules.specs.Grants.{Kind, ofPdr, ofEndpoint, sameKind, Grant, grantTeid, isGrantFor, grantedTeid, isKind, grantsOf}

@@ -15,7 +15,7 @@ use Rattle.rules.specs.Elements.{nodeAddressAllowed, nodeTypeKept, below16}
 use Rattle.rules.specs.Sound.{inPool, unitFamilies, tunnelTests, tunnelAllowed, placeAllowed, farAllowed, pdrTests, pdrAllowed, endpointTests, endpointAllowed, csidTests, csidAllowed, shareTests, agree, sessionTests, sessionAllowed, apart, sessionsTests, sessionsAllowed}
 use Rattle.rules.specs.Message.{Request}
 use Rattle.rules.specs.Grants.{need}
-use Rattle.rules.specs.Stages.{createdPdrs, createdEndpoints, updatedPdrs, livePdrs, liveEndpoints, fteidsOf, idTwice, createdLive, absentId, updatesRemoved, namesBoth, namedEndpoint, endpointIdsAfter, namesAbsent, endpointInUse, choicesAgree, lacksFamily, strange, restoredHoldings, clash, brokenRules, tooManySessions, tooManyPdrs, tooManyEndpoints, tooFewTeids}
+use Rattle.rules.specs.Stages.{createdPdrs, createdEndpoints, updatedPdrs, livePdrs, liveEndpoints, fteidsOf, idTwice, createdLive, absentId, updatesRemoved, namesBoth, namedEndpoint, endpointIdsAfter, namesAbsent, endpointInUse, choicesAgree, lacksFamily, strange, restoredHoldings, clash, requestRules, brokenRules, tooManySessions, tooManyPdrs, tooManyEndpoints, tooFewTeids}
 use Rattle.claim.proofs.VerdictLaws.{NoneOf, none-hold}
 
 -- ---- records of the table
@@ -186,7 +186,7 @@ pub record RulesKept (s : Settings) (m : Sessions) (x : Session) (r : Request) :
 
 -- from the tests to the names
 pub rules-kept : (s : Settings) (m : Sessions) (x : Session) (r : Request) → NoneOf (brokenRules s m x r) → RulesKept s m x r
-unfolding brokenRules idTwice createdLive absentId namesAbsent clash
+unfolding requestRules brokenRules idTwice createdLive absentId namesAbsent clash
 rules-kept s m x r n =
     let once = none-hold (hasRepeat (r .gonePdrs) ∷ hasRepeat (r .goneEndpoints) ∷ hasRepeat (createdPdrs r) ∷ hasRepeat (createdEndpoints r) ∷ hasRepeat (updatedPdrs r) ∷ []) (n .0) in
     let new = or-fails (anyIn (createdPdrs r) (livePdrs x)) (anyIn (createdEndpoints r) (liveEndpoints x)) (n .1 .0) in

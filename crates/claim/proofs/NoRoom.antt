@@ -128,10 +128,6 @@ module _ (limit : ℕ) (s : Settings) (m : Sessions) (msg : List ℕ) where
   pub verdict-75 : Reached s m msg → Full → verdict limit s m msg .cause ≡ 75
   verdict-75 p full = ap {B = ℕ} (λ (v : Verdict). v .cause) (reached-verdict p ∙ pick-yes (noRoom limit (kindOf msg) s m (entrySession m msg) (readRequest msg)) (plain 75) (plain 1) full)
 
-  -- and acceptance where there is room
-  pub verdict-1 : Reached s m msg → T (not (noRoom limit (kindOf msg) s m (entrySession m msg) (readRequest msg))) → verdict limit s m msg .cause ≡ 1
-  verdict-1 p room = ap {B = ℕ} (λ (v : Verdict). v .cause) (reached-verdict p ∙ pick-no (noRoom limit (kindOf msg) s m (entrySession m msg) (readRequest msg)) (plain 75) (plain 1) room)
-
 -- ---- what would result
 
 -- 01's words: more than `limit` sessions, 16 PDRs or 8 endpoints would result, or more TEIDs are needed than are free at entry

@@ -15,7 +15,7 @@ use Rattle.octets.specs.Lists.{all, keep}
 use Rattle.octets.proofs.Numbers.{length-be}
 use Rattle.octets.proofs.Ordered.{keep-all}
 use Rattle.rules.specs.Model.{Settings, Sessions}
-use Rattle.laws.proofs.LayoutLaws.{ipv4-four}
+use Rattle.laws.proofs.TableLaws.{ipv4-four}
 use Rattle.rules.specs.Elements.{fseidOctets}
 use Rattle.rules.specs.Sound.{settingsAllowed}
 use Rattle.rules.specs.Message.{kindOf, headerSeid, sequenceOf, readRequest}

@@ -19,7 +19,8 @@ use Rattle.rules.specs.Model.{Settings, Tunnel, Place, neither, tunnel, endpoin
 use Rattle.rules.specs.Elements.{Answer, value, Fteid, readFteid, readFqcsid, addressOf, givenTests, fteidAllowed, fteidOctets, unitFteid, fqcsidOctets}
 use Rattle.laws.proofs.ElementLaws.{fteid-back, fqcsid-back}
 use Rattle.rules.specs.Sound.{ipv6Allowed, settingsTests, settingsAllowed, unitFamilies, tunnelTests, tunnelAllowed, placeAllowed, farAllowed, pdrTests, pdrAllowed, csidTests, csidAllowed}
-use Rattle.laws.proofs.LayoutLaws.{csid-address-length, address-short, teid-fits, settingsFacts, ipv4-four, ipv6-ok, ipv6-short}
+use Rattle.laws.proofs.LayoutLaws.{csid-address-length, address-short, teid-fits}
+use Rattle.laws.proofs.TableLaws.{settingsFacts, ipv4-four, ipv6-ok, ipv6-short}
 use Rattle.rules.specs.Message.{Element, Fault, elements, hasType, there, contentOf, shortFault, memberFault, membersFault, missingFault, required, requiredOf, placesOf, opened, groupFault, widthOf, plainFault, pdiMember, pdiFault, createPdrMember, createEndpointMember, answerFault, answerValue, field, fieldOr0, membersOf, fteidIn, newPdr, newEndpoint, frame}
 use Rattle.laws.proofs.MessageLaws.{Fits, el, elements-cons, elements-nil, elements-last, Inside, framed-nil, framed-cons, framed-last, length-one}
 use Rattle.rules.specs.Reply.{element, unitElement}

@@ -10,26 +10,21 @@ use mathlib.Core.List.{List, [], _∷_, _++_, map}
 use lib.ListN.{length, length-map}
 use lib.Dec.{T, leb, ltb, eqb, ltb→lt, lt→ltb, leb·suc-zero}
 use mir.Facts.{no-ltb, no-leb}
-use Rattle.octets.specs.Choice.{pick, oneOf, mapOption, bindOption, consOption, isNil, isSome}
+use Rattle.octets.specs.Choice.{pick, mapOption, bindOption, consOption, isNil, isSome}
 use Rattle.octets.specs.Lists.{collect, member, anyIn, allIn, hasRepeat, without, any, all, allPairs, ascending}
-use Rattle.octets.proofs.Tests.{each, Each, both, and-right, all-head, all-tail, all-cons, neither-one, no-eqb, ascending-head, ascending-tail, is-true, is-false}
+use Rattle.octets.proofs.Tests.{each, both, and-right, all-head, all-tail, all-cons, neither-one, no-eqb, ascending-head, ascending-tail, is-true, is-false}
 use Rattle.octets.proofs.Numbers.{same-refl}
 use Rattle.rules.specs.Model.{Settings, Tunnel, Place, neither, tunnel, endpoint, Pdr, Endpoint, Session, Sessions, Holding, endpointId, pdrId, placeTunnel, placeEndpoint, tunnelHolding, pdrHolding, endpointHolding, sessionHoldings, teidOf, sessionTeids, heldTeids, freeCount}
 use Rattle.rules.specs.Elements.{Fteid, unitFteid, hasV6, chooses, chooseId}
 use Rattle.rules.specs.Sound.{settingsAllowed, inPool, unitFamilies, tunnelTests, tunnelAllowed, placeAllowed, pdrTests, pdrAllowed, endpointTests, endpointAllowed, sessionTests, sessionAllowed, agree}
-use Rattle.laws.proofs.LayoutLaws.{pdrsOk, endpointsOk, fewPdrs, fewEndpoints, tests, ipv4-four}
+use Rattle.laws.proofs.LayoutLaws.{pdrsOk, endpointsOk, fewPdrs, fewEndpoints, tests}
+use Rattle.laws.proofs.TableLaws.{ipv4-four}
 use Rattle.rules.specs.Message.{Request}
 use Rattle.rules.specs.Grants.{Kind, choiceOf, endpointChoice, pdrChoice, choices, needFrom, need}
-use Rattle.rules.specs.Stages
-use Rattle.rules.specs.Stages.{newSession, isLive, newPdrId, newEndpointId, namedEndpoint, pdrLocal, endpointLocal, createdPdrs, createdEndpoints, updatedPdrs, livePdrs, liveEndpoints, fteidsOf, wrongAllocation, invalidAllocation, idTwice, createdLive, absentId, updatesRemoved, namesBoth, endpointIdsAfter, namesAbsent, endpointInUse, sameChoice, fteidsMayShare, localsMayShare, choicesAgree, lacksFamily, otherAddress, strange, restoredHolding, endpointRestored, pdrRestored, restoredHoldings, clash, brokenRules, breaksRule, tooManySessions, tooManyPdrs, tooManyEndpoints, tooFewTeids, noRoom, plain, judge}
+use Rattle.rules.specs.Stages.{newSession, isLive, newPdrId, newEndpointId, namedEndpoint, pdrLocal, endpointLocal, createdPdrs, createdEndpoints, updatedPdrs, livePdrs, liveEndpoints, fteidsOf, wrongAllocation, invalidAllocation, idTwice, createdLive, absentId, updatesRemoved, namesBoth, endpointIdsAfter, namesAbsent, endpointInUse, sameChoice, fteidsMayShare, localsMayShare, choicesAgree, lacksFamily, otherAddress, strange, restoredHolding, endpointRestored, pdrRestored, restoredHoldings, clash, requestRules, brokenRules, breaksRule, tooManySessions, tooManyPdrs, tooManyEndpoints, tooFewTeids, noRoom, plain, judge}
 use Rattle.rules.specs.Restoration.{restoredPdr, restoredEndpoint, restoredRequest}
 
 -- ---- lists
-
--- tests that all fail
-pub none-of : (bs : List Bool) → Each (map not bs) → oneOf bs ≡ false
-none-of [] h = refl
-none-of (b ∷ bs) h = ap₂ _||_ (is-false b (h .0)) (none-of bs (h .1))
 
 pub ascending-above : (x : ℕ) (xs : List ℕ) → T (ascending (x ∷ xs)) → T (all (λ n. ltb x n) xs)
 unfolding all
@@ -318,7 +313,7 @@ module _ (s : Settings) (hs : T (settingsAllowed s)) where
           ∙ (λ i. is-false (anyIn (sessionTeids x) (heldTeids m)) separate i || not (is-true (allPairs agree (sessionHoldings x)) own i))
 
       rules-kept : breaksRule s m (newSession (x .seid)) request ≡ false
-      unfolding breaksRule brokenRules updatesRemoved endpointInUse updatedPdrs anyIn request restoredRequest
+      unfolding breaksRule requestRules brokenRules updatesRemoved endpointInUse updatedPdrs anyIn request restoredRequest
       rules-kept =
           λ i. once i || (not-live i || (absent i || (false || (none-both (x .pdrs) i || (names i || (false || (not (choices-agree (x .pdrs) i)
           || (no-fteid (lacksFamily s) unit-lacks i || (no-fteid (strange s) unit-strange i || (no-clash i || false))))))))))

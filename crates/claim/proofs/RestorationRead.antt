@@ -15,12 +15,12 @@ use Rattle.octets.specs.Lists.{collect, member, any, all, keep, findBy, ascendi
 use Rattle.octets.specs.Octets.{be, numberAt, octetAt, bit, octets, concatMap}
 use Rattle.octets.proofs.Tests.{pick-yes, pick-no, each, Each, both, and-left, all-head, all-tail, all-cons, below-not-member, below-mono, ascending-head, ascending-tail, of-true}
 use Rattle.octets.proofs.Numbers.{number-be}
+use Rattle.rules.specs.Limits.{maxRestoration}
 use Rattle.rules.specs.Model.{Settings, Pdr, Endpoint, Csid, Session, endpointId, nodeTypeOf}
 use Rattle.rules.specs.Elements.{Answer, value, Fqcsid, readFseid, addressOf, fqcsidOctets, fseidOctets, nodeOf}
 use Rattle.laws.proofs.ElementLaws.{fseid-back}
 use Rattle.rules.specs.Sound.{settingsAllowed, pdrTests, pdrAllowed, endpointTests, endpointAllowed, csidAllowed, sessionTests, sessionAllowed}
 use Rattle.laws.proofs.LayoutLaws.{pdrsOk, endpointsOk, csidsOk, fewPdrs, fewEndpoints, fewCsids, seidFits, tests}
-use Rattle.rules.specs.Message
 use Rattle.rules.specs.Message.{Element, elements, body, kindOf, headerAllowed, firstOctetAllowed, frame, frameFault, opened, openedAtTop, actedOn, hasType, there, contentOf, actedFault, topFaultFrom, topFault, readFault, onceFault, shortFault, answerFault, csidFault, isClearing, csidReadFault, csidCountAllowed, nodesIn, nodeIn, answerValue, requiredAtTop, restorationIn, missingFault, required, requestOf, readRequest, ofType, groupsOf, groupOf, newPdr, newEndpoint, fseidIn, fqcsidIn, isNull}
 use Rattle.laws.proofs.MessageLaws.{Fits, el, elements-cons, elements-nil, Inside, framed-nil, framed-cons, length-one, written, asElement, elements-map, framed-map, short-map}
 use Rattle.rules.specs.Reply.{element, message}
@@ -238,7 +238,7 @@ module _ (s : Settings) (hs : T (settingsAllowed s)) (p : Peer) (hp : T (peerAll
   msg-body = ap body msg-content ∙ message-body (p .header) (p .sequence) content
 
   -- 01: every session fits one request of at most 1,526 octets
-  pub msg-short : length msg ≤ 1526
+  pub msg-short : length msg ≤ maxRestoration
   msg-short = let e = ap length msg-content ∙ message-length (p .header) (p .sequence) content in let h = content-short in omega arith
 
   pub msg-framed : frameFault msg ≡ none

@@ -16,7 +16,7 @@ use Rattle.octets.proofs.Tests.{pick-yes, pick-no, each, Each, all-of-each, and
 use Rattle.octets.proofs.Ordered.{perm-length, all-perm, pairs-head, pairs-tail, pairs-perm, otherKey, insertAll-perm, insert-length, insert-all, insert-pairs, insert-ascending, ascending-other, ne-of}
 use Rattle.rules.specs.Model.{Settings, Session, Sessions, seidOf, sessionTeids, heldTeids, freeTeids}
 use Rattle.rules.specs.Layout.{encode}
-use Rattle.laws.proofs.LayoutLaws.{ipv4-four}
+use Rattle.laws.proofs.TableLaws.{ipv4-four}
 use Rattle.rules.specs.Sound.{settingsAllowed, sessionAllowed, apart, sessionsTests, sessionsAllowed}
 use Rattle.rules.specs.Message.{readRequest, headerAllowed, firstOctetAllowed, Request}
 use Rattle.laws.proofs.MessageLaws.{length-one}

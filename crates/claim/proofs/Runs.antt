@@ -14,7 +14,7 @@ use Rattle.rules.specs.Serve.{Served}
 use Rattle.rules.specs.Live.{Event, replied, accepted, live, liveFrom}
 use Rattle.rules.specs.Calls.{Call, callAllowed, tableAfter, eventOf, tableAfterAll, eventsOf}
 use Rattle.rules.specs.Claim.{Step, asked, told, stepAllowed, Ran, lastTable, eventIn, liveSet, callIn, mapOf, Holds, Claim}
-use Rattle.laws.proofs.LayoutLaws.{sessions-back, encoded-settings, sound-encode}
+use Rattle.laws.proofs.TableLaws.{sessions-back, encoded-settings, sound-encode}
 use Rattle.claim.proofs.RestoreAll.{empty-allowed, restored-table, restored-accepted}
 use Rattle.claim.proofs.Sequence.{Keeps, kept-all, made-empty, made-settings}
 

@@ -17,7 +17,7 @@ use Rattle.octets.proofs.Numbers.{same-eq}
 use Rattle.octets.proofs.ListLaws.{not-not, pick-cases}
 use Rattle.rules.specs.Model.{Settings, Sessions}
 use Rattle.rules.specs.Layout.{tableLength, encode, viewSettings, viewSessions}
-use Rattle.laws.proofs.LayoutLaws.{sound-encode, ipv4-four}
+use Rattle.laws.proofs.TableLaws.{ipv4-four, sound-encode}
 use Rattle.rules.specs.Sound.{settingsAllowed, sessionsAllowed, soundTests, sound}
 use Rattle.rules.specs.Message.{kindOf, headerSeid, headerAllowed, served, readRequest, sequenceOf}
 use Rattle.rules.specs.Grants.{grants}
@@ -28,8 +28,7 @@ use Rattle.claim.proofs.ReplyLength.{reply-body-short, reply-short}
 use Rattle.octets.proofs.Put.{length-put}
 use Rattle.rules.specs.Serve.{Served, unserved, sessionsAfter, replyTo, answered, answer, serveSound, serve}
 use Rattle.rules.specs.Live.{replied, accepted, replyIn, replyCause}
-use Rattle.claim.proofs.Sequence.{Keeps}
-use Rattle.claim.proofs.Steps.{AcceptedKeeps, keeps, one-kept, header-long}
+use Rattle.claim.proofs.Steps.{AcceptedKeeps, one-kept, header-long}
 use Rattle.claim.proofs.Accepting.{SoundAfter, accepting}
 use Rattle.claim.proofs.After.{sound-after}
 use Rattle.claim.proofs.Changed.{changed-sound}
@@ -47,10 +46,6 @@ sessions-after limit = sound-after limit (changed-sound limit)
 -- and the live set reads the same from the reply
 pub accepted-keeps : (limit : ℕ) → AcceptedKeeps limit
 accepted-keeps limit = accepting limit (sessions-after limit)
-
--- so every call keeps table and live set equal
-pub calls-keep : (limit : ℕ) → limit < 256 ^ 2 → Keeps limit
-calls-keep limit small = keeps limit small (accepted-keeps limit)
 
 -- ---- a table that is not broken
 

@@ -15,7 +15,7 @@ use Rattle.octets.proofs.Tests.{pick-no, and-left}
 use Rattle.octets.proofs.Numbers.{length-be}
 use Rattle.rules.specs.Model.{Settings, Sessions}
 use Rattle.rules.specs.Layout.{encode}
-use Rattle.laws.proofs.LayoutLaws.{sound-encode, encoded-settings, sessions-back, ipv4-four}
+use Rattle.laws.proofs.TableLaws.{ipv4-four, sound-encode, encoded-settings, sessions-back}
 use Rattle.rules.specs.Sound.{settingsAllowed, sessionsAllowed, sound}
 use Rattle.rules.specs.Message.{kindOf, headerSeid, headerAllowed, firstOctetAllowed, served, readRequest}
 use Rattle.laws.proofs.MessageLaws.{length-one}

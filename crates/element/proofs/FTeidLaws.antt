@@ -385,29 +385,6 @@ pub record Parts (v : FTeid) (x : Fteid) : Type 0 where
   pub ch : chooses x ≡ chFlag (v .flags)
   pub id : chooseId x ≡ pick (chidFlag (v .flags)) (some (v .«choose_id»)) none
 
-not-not : (b : Bool) → not (not b) ≡ b
-not-not true = refl
-not-not false = refl
-
-meant-parts : (v : FTeid) → Means v → Parts v (fteidMeant v)
-unfolding hasV4 hasV6 chooses chooseId
-meant-parts v m = by (chFlag (v .flags)) refl
-  where
-    by : (c : Bool) → chFlag (v .flags) ≡ c → Parts v (fteidMeant v)
-    by true c = record { v4 = rw c; v6 = rw c; ch = rw c; id = rw c }
-    by false c = record {
-      v4 = rw (c, address-whole (v4Flag (v .flags)) (v .ipv4) .1) (not-not (v4Flag (v .flags)));
-      v6 = rw (c, halves-whole (v6Flag (v .flags)) (v .«ipv6_high») (v .«ipv6_low») .1) (not-not (v6Flag (v .flags)));
-      ch = rw c;
-      id = rw (c, no-chid-alone v m c);
-    }
-
-pub parts : (v : FTeid) (x : Fteid) → fteidOf v ≡ some x → Parts v x
-unfolding fteidOf
-parts v x e =
-    let p = picked (allOf (fteidTests v)) (fteidMeant v) x e in
-    rw (p .1) (meant-parts v (means v (p .0)))
-
 -- the reader's answer, where its case is known: a struct means the value that the rules answer, and a refusal is theirs
 pub answer-value : {a : Answer} {v : FTeid} {y : rules.Answer Fteid} → a ≡ Value v → answerOf a ≡ some y → ReadAs (fteidOf v) y
 answer-value {a} {v} {y} p q = read-as (fteidOf v) y (sym (ap answerOf p) ∙ q)

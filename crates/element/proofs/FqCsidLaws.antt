@@ -1,33 +1,33 @@
--- FQ-CSID: what the code tests, reads and writes, in the rules' terms; s the octets. Assumes nothing.
+-- FQ-CSID: what the code tests and reads, in the rules' terms; s the octets. Assumes nothing.
 use mathlib.Core.Bool.{Bool, true, false, not, _&&_, _||_}
-use mathlib.Core.List.{List, [], _∷_, _++_, map, append-nil, append-assoc}
+use mathlib.Core.List.{List, [], _∷_, _++_, map, append-assoc}
 use mathlib.Core.Option.{none, some}
 use mathlib.Core.Path.{_≡_, refl, sym, ap, ap₂, _∙_}
 use Prim.Native.Nat.{ℕ, zero, suc, _+_, _-_, _*_, _/_, _%_, _^_, _≤_, _<_, min}
 use native.Mathlib.Nat.{not-suc-le-zero, zero-add}
 use native.Mathlib.Omega.{arith}
 use borrow.Author.Tests.{lt-ltb, le-ltb, le-leb, eq-eqb, ne-eqb, eqb-true, eqb-false}
-use lib.Dec.{T, ltb, leb, eqb, ltb→lt, leb→le, eqb→eq, not-T, lit<}
-use lib.ListN.{length, getD, drop, take-append-drop, length-append, length-map}
+use lib.Dec.{T, leb, eqb, not-T, lit<}
+use lib.ListN.{length, getD, drop, take-append-drop, length-append}
 use lib.Seq.{drop-drop, getD-drop}
 use Rattle.octets.specs.Choice.{pick, allOf, mapOption}
-use Rattle.octets.specs.Octets.{be, put, number, part, octetAt, octets, slices, zeros, sameOctets}
+use Rattle.octets.specs.Octets.{be, number, part, octetAt, octets, slices, zeros, sameOctets}
 use Rattle.octets.specs.Fields.{widthOf, narrow, fieldsAt, fit, fieldOctets}
-use Rattle.octets.proofs.Tests.{each, all-of-each, of-true, is-true, is-false, and-left, and-right}
+use Rattle.octets.proofs.Tests.{each, of-true, is-true, is-false}
 use Rattle.octets.proofs.Put.{length-part}
 use Rattle.octets.proofs.Numbers.{number-be, same-eq}
-use Rattle.octets.proofs.FieldLaws.{last-read, length-fieldOctets, octets-fields, fit-fields}
+use Rattle.octets.proofs.FieldLaws.{last-read, octets-fields, fit-fields}
 use Rattle.rules.specs.Elements as rules
-use Rattle.rules.specs.Elements.{Fqcsid, sets, addressLength, operatorAllowed, nodeAddressTests, nodeAddressAllowed, nodeTypeKept, csidsAt, csidFields, nodeOf, countAllowed, checkedCsid, csidRest, readFqcsid, below16, setsTests, fqcsidAllowed, fqcsidOctets, writeFqcsid, value, refuse, tooShort, incorrect}
+use Rattle.rules.specs.Elements.{Fqcsid, addressLength, operatorAllowed, nodeTypeKept, csidsAt, countAllowed, checkedCsid, csidRest, readFqcsid, value, refuse, tooShort, incorrect}
 use Rattle.rules.specs.Limits.{maxOperator}
 use Rattle.element.specs.declared.Refusal.{Refusal}
 use Rattle.element.specs.declared.fqcsid.FqCsid.{FqCsid}
 use Rattle.element.specs.declared.fqcsid.Answer.{Answer}
 use Rattle.element.specs.declared.fqcsid.Answer.the-variants.{Value, Refused}
-use Rattle.element.specs.Answers.{refusalOf, allowedIn, writeMeant}
+use Rattle.element.specs.Answers.{refusalOf}
 use Rattle.element.specs.FqCsid.{answerOf, addressWidths, wordWidth, csidWidths, fqcsidWidths, addressNumbers, csidNumbers, addressIn, csidsIn, fqcsidTests, fqcsidMeant, fqcsidOf}
-use Rattle.element.proofs.OctetLaws.{one-octet, fit-at, octets-fieldOctets, fieldOctets-two, widthOf-two, fit-two, slices-front, length-slices, concat-slices, below-slices}
-use Rattle.element.proofs.AnswerLaws.{ReadAs, read-as, some-same, picked, allowed-picked, just-where, never, not-allowed, no-room, done}
+use Rattle.element.proofs.OctetLaws.{fit-at, widthOf-two, slices-front}
+use Rattle.element.proofs.AnswerLaws.{ReadAs, read-as, some-same}
 
 -- ---- the widths
 
@@ -50,7 +50,7 @@ two-widths t = by (eqb t 1)
     by true = refl
     by false = refl
 
-width-address : (t : ℕ) → widthOf (addressWidths t) ≡ addressLength t
+pub width-address : (t : ℕ) → widthOf (addressWidths t) ≡ addressLength t
 unfolding addressWidths widthOf addressLength
 width-address t = by (eqb t 1)
   where
@@ -71,7 +71,7 @@ word-last r h = omega arith
 four-words : (r a b c d : ℕ) → r ≤ 32 → a + (r - 8) ≡ r → b + (r - 8 - 8) ≡ r - 8 → c + (r - 16 - 8) ≡ r - 16 → d ≡ r - 24 → a + (b + (c + (d + 0))) ≡ r
 four-words r a b c d h i j k l = omega arith
 
-width-csids : (m : ℕ) → m < 16 → widthOf (csidWidths m) ≡ 2 * m
+pub width-csids : (m : ℕ) → m < 16 → widthOf (csidWidths m) ≡ 2 * m
 unfolding csidWidths widthOf
 width-csids m h =
     four-words (2 * m) (wordWidth 0 m) (wordWidth 1 m) (wordWidth 2 m) (wordWidth 3 m) (omega arith) (word-first (2 * m)) (word-step (2 * m - 8)) (word-step (2 * m - 16))
@@ -303,7 +303,7 @@ module _ (s ws vs : List ℕ) (o : T (octets s)) (h : 0 < length s) (type : type
   enough : widthOf (fqcsidWidths (typeOf s) (countIn s)) ≤ length s
   enough = rw w at l
 
-  small : countIn s < 16
+  pub small : countIn s < 16
   small = omega arith
 
   checked : readFqcsid s
@@ -333,230 +333,7 @@ module _ (s ws vs : List ℕ) (o : T (octets s)) (h : 0 < length s) (type : type
       (meant v (omega arith) small (omega arith) (rw fields (address-fits s o (typeOf s) (countIn s) small enough)) (rw fields (csids-fit s o (typeOf s) (countIn s) small enough)) c)
       ∙ ap some (sym (checked ∙ rw t))
 
--- ---- the values that are written: the numbers as they stand in the octets
-
-abbrev pub fqcsidNumbers : FqCsid → List ℕ
-fqcsidNumbers v = (16 * v .«id_type» + v .count) ∷ addressNumbers v ++ (csidNumbers v ++ v .«node_type» ∷ [])
-
-length-address : (v : FqCsid) → length (addressIn v) ≡ addressLength (v .«id_type»)
-length-address v = length-fieldOctets (addressWidths (v .«id_type»)) (addressNumbers v) (sym (two-widths (v .«id_type»))) ∙ width-address (v .«id_type»)
-
-length-words : (v : FqCsid) → v .count < 16 → length (fieldOctets (csidWidths (v .count)) (csidNumbers v)) ≡ 2 * v .count
-unfolding csidWidths
-length-words v h = length-fieldOctets (csidWidths (v .count)) (csidNumbers v) refl ∙ width-csids (v .count) h
-
-octets-split : (v : FqCsid) → fieldOctets (fqcsidWidths (v .«id_type») (v .count)) (fqcsidNumbers v)
-    ≡ be 1 (16 * v .«id_type» + v .count) ++ (addressIn v ++ (fieldOctets (csidWidths (v .count)) (csidNumbers v) ++ be 1 (v .«node_type»)))
-unfolding fieldOctets csidWidths
-octets-split v =
-    let aw : List ℕ = addressWidths (v .«id_type») in
-    let cw : List ℕ = csidWidths (v .count) in
-    let last : fieldOctets (cw ++ 1 ∷ []) (csidNumbers v ++ v .«node_type» ∷ []) ≡ fieldOctets cw (csidNumbers v) ++ be 1 (v .«node_type») =
-    fieldOctets-two cw (csidNumbers v) (1 ∷ []) (v .«node_type» ∷ []) refl ∙ ap (λ (l : List ℕ). fieldOctets cw (csidNumbers v) ++ l) (append-nil (be 1 (v .«node_type»))) in
-    ap (λ (l : List ℕ). be 1 (16 * v .«id_type» + v .count) ++ l)
-    (fieldOctets-two aw (addressNumbers v) (cw ++ 1 ∷ []) (csidNumbers v ++ v .«node_type» ∷ []) (sym (two-widths (v .«id_type»))) ∙ ap (λ (l : List ℕ). addressIn v ++ l) last)
-
-pub fit-split : (v : FqCsid) → fit (fqcsidWidths (v .«id_type») (v .count)) (fqcsidNumbers v)
-    ≡ allOf (ltb (16 * v .«id_type» + v .count) 256 ∷ fit (addressWidths (v .«id_type»)) (addressNumbers v) ∷ fit (csidWidths (v .count)) (csidNumbers v) ∷ ltb (v .«node_type») 256 ∷ [])
-unfolding fit csidWidths
-fit-split v =
-    let aw : List ℕ = addressWidths (v .«id_type») in
-    let cw : List ℕ = csidWidths (v .count) in
-    ap (λ (b : Bool). ltb (16 * v .«id_type» + v .count) 256 && b)
-    (fit-two aw (addressNumbers v) (cw ++ 1 ∷ []) (csidNumbers v ++ v .«node_type» ∷ []) (sym (two-widths (v .«id_type»)))
-    ∙ ap (λ (b : Bool). fit aw (addressNumbers v) && b) (fit-two cw (csidNumbers v) (1 ∷ []) (v .«node_type» ∷ []) refl))
-
--- the octets of a value, by its count: ys those of the CSIDs
-no-octets : (ys : List ℕ) → length ys ≡ 0 → ys ≡ []
-no-octets [] e = refl
-no-octets (y ∷ ys) e = absurd (omega arith)
-
-octets-of : (m t : ℕ) (address ys : List ℕ) (n : ℕ) → T (countAllowed m t address) → T (octets ys) → length ys ≡ 2 * m → m < 16 → t < 16 → n < 16
-    → fqcsidOctets (csidFields m t address (csidsAt m ys) n) ≡ be 1 (16 * t + m) ++ (address ++ (ys ++ be 1 n))
-unfolding countAllowed csidFields csidsAt fqcsidOctets be zeros
-octets-of zero t address ys n c o e h i j =
-    let z : t ≡ 0 = eqb→eq t 0 (and-left (eqb t 0) (sameOctets address (zeros 4)) c) in
-    let a : address ≡ zeros 4 = same-eq address (zeros 4) (and-right (eqb t 0) (sameOctets address (zeros 4)) c) in
-    rw (z, a, no-octets ys e, one-octet n (omega arith))
-octets-of (suc m) t address ys n c o e h i j =
-    let l : length (map number (slices 2 (suc m) ys)) ≡ suc m = length-map (slices 2 (suc m) ys) number ∙ length-slices 2 (suc m) ys in
-    let first : t * 16 + length (map number (slices 2 (suc m) ys)) ≡ 16 * t + suc m = omega arith in
-    rw (concat-slices 2 (suc m) ys o (omega arith), first, one-octet (16 * t + suc m) (omega arith), one-octet n (omega arith))
-
--- the octets of the value that a struct means
-pub fqcsid-octets : (v : FqCsid) (x : Fqcsid) → fqcsidOf v ≡ some x → fqcsidOctets x ≡ fieldOctets (fqcsidWidths (v .«id_type») (v .count)) (fqcsidNumbers v)
-unfolding fqcsidOf fqcsidTests
-fqcsid-octets v x e =
-    let p = picked (allOf (fqcsidTests v)) (fqcsidMeant v) x e in
-    let t = each (fqcsidTests v) (p .0) in
-    let few : v .count < 16 = ltb→lt (v .count) 16 (t .1 .0) in
-    ap fqcsidOctets (p .1)
-    ∙ octets-of (v .count) (v .«id_type») (addressIn v) (fieldOctets (csidWidths (v .count)) (csidNumbers v)) (v .«node_type») (t .1 .1 .1 .1 .1 .0)
-    (octets-fieldOctets (csidWidths (v .count)) (csidNumbers v)) (length-words v few) few (ltb→lt (v .«id_type») 16 (t .0)) (ltb→lt (v .«node_type») 16 (t .1 .1 .0))
-    ∙ sym (octets-split v)
-
-no-operator : (address : List ℕ) → T (operatorAllowed 0 address)
-unfolding operatorAllowed
-no-operator address = tt
-
--- what an allowed value says, by its count, and when it is allowed
-facts-of : (m t : ℕ) (address cs : List ℕ) (n : ℕ) → T (countAllowed m t address) → T (fqcsidAllowed (csidFields m t address cs n))
-    → (t ≤ 2) × T (nodeTypeKept n) × T (operatorAllowed t address)
-unfolding countAllowed csidFields fqcsidAllowed setsTests nodeAddressAllowed nodeAddressTests
-facts-of zero t address cs n c h =
-    let z : t ≡ 0 = eqb→eq t 0 (and-left (eqb t 0) (sameOctets address (zeros 4)) c) in
-    (omega arith, h, rw z (no-operator address))
-facts-of (suc m) t address cs n c h =
-    let s = each (setsTests t address cs n) h in
-    let a = each (nodeAddressTests t address) (s .0) in
-    (leb→le t 2 (a .0), s .1 .1 .1 .1 .0, a .1 .1 .1 .0)
-
-allowed-from : (m t : ℕ) (address ys : List ℕ) (n : ℕ) → t ≤ 2 → T (nodeTypeKept n) → T (operatorAllowed t address) → length address ≡ addressLength t
-    → T (octets address) → T (octets ys) → length ys ≡ 2 * m → m < 16 → T (fqcsidAllowed (csidFields m t address (csidsAt m ys) n))
-unfolding csidFields csidsAt fqcsidAllowed setsTests nodeAddressAllowed nodeAddressTests below16
-allowed-from zero t address ys n h k o l b p e f = k
-allowed-from (suc m) t address ys n h k o l b p e f =
-    let cs : List ℕ = map number (slices 2 (suc m) ys) in
-    let c : length cs ≡ suc m = length-map (slices 2 (suc m) ys) number ∙ length-slices 2 (suc m) ys in
-    let one : leb 1 (length cs) ≡ true = le-leb 1 (length cs) (omega arith) in
-    let few : leb (length cs) 15 ≡ true = le-leb (length cs) 15 (omega arith) in
-    all-of-each (setsTests t address cs n) (
-      all-of-each (nodeAddressTests t address) (of-true (le-leb t 2 h), (of-true (eq-eqb (length address) (addressLength t) l), (b, (o, tt)))),
-      (of-true one, (of-true few, (below-slices 2 (suc m) ys p (omega arith), (k, tt)))),
-    )
-
--- a struct that means a value has numbers that fit
-pub record Fits (v : FqCsid) : Type 0 where
-  pub few : v .count < 16
-  pub fits : fit (fqcsidWidths (v .«id_type») (v .count)) (fqcsidNumbers v) ≡ true
-
-fits-tests : (v : FqCsid) → T (allOf (fqcsidTests v)) → Fits v
-unfolding fqcsidTests
-fits-tests v h =
-    let t = each (fqcsidTests v) h in
-    let m : v .count < 16 = ltb→lt (v .count) 16 (t .1 .0) in
-    let k : v .«id_type» < 16 = ltb→lt (v .«id_type») 16 (t .0) in
-    let n : v .«node_type» < 16 = ltb→lt (v .«node_type») 16 (t .1 .1 .0) in
-    record {
-      few = m;
-      fits =
-          fit-split v
-          ∙ is-true _
-          (all-of-each (ltb (16 * v .«id_type» + v .count) 256 ∷ fit (addressWidths (v .«id_type»)) (addressNumbers v) ∷ fit (csidWidths (v .count)) (csidNumbers v) ∷ ltb (v .«node_type») 256 ∷ [])
-          (of-true (lt-ltb (16 * v .«id_type» + v .count) 256 (omega arith)), (t .1 .1 .1 .0, (t .1 .1 .1 .1 .0, (of-true (lt-ltb (v .«node_type») 256 (omega arith)), tt)))));
-    }
-
-pub fits-meant : (v : FqCsid) (x : Fqcsid) → fqcsidOf v ≡ some x → Fits v
-unfolding fqcsidOf
-fits-meant v x e = fits-tests v (picked (allOf (fqcsidTests v)) (fqcsidMeant v) x e .0)
-
--- whether a struct means a value that is allowed, by the tests of the code
-pub record Right (v : FqCsid) : Type 0 where
-  pub kind : v .«id_type» ≤ 2
-  pub few : v .count < 16
-  pub rules : allOf (ruleTests v) ≡ true
-  pub fits : fit (fqcsidWidths (v .«id_type») (v .count)) (fqcsidNumbers v) ≡ true
-
-kept-small : (n : ℕ) → T (nodeTypeKept n) → n < 6
-unfolding nodeTypeKept
-kept-small n h = ltb→lt n 6 h
-
-pub right : (v : FqCsid) → T (allowedIn fqcsidAllowed (fqcsidOf v)) → Right v
-unfolding fqcsidOf fqcsidTests
-right v h =
-    let p = allowed-picked fqcsidAllowed (allOf (fqcsidTests v)) (fqcsidMeant v) h in
-    let t = each (fqcsidTests v) (p .0) in
-    let a = t .1 .1 .1 .0 in
-    let c = t .1 .1 .1 .1 .1 .0 in
-    let z = fits-tests v (p .0) in
-    let f = facts-of (v .count) (v .«id_type») (addressIn v) (csidsIn v) (v .«node_type») c (p .1) in
-    record {
-      kind = f .0;
-      few = z .few;
-      rules =
-          ap allOf (rules-are v (is-true _ a))
-          ∙ is-true _
-          (all-of-each (nodeTypeKept (v .«node_type») ∷ operatorAllowed (v .«id_type») (addressIn v) ∷ countAllowed (v .count) (v .«id_type») (addressIn v) ∷ [])
-          (f .1, (f .2, (c, tt))));
-      fits = z .fits;
-    }
-
-pub right-allowed : (v : FqCsid) → Right v → allowedIn fqcsidAllowed (fqcsidOf v) ≡ true
-right-allowed v r =
-    let g = each (ltb (16 * v .«id_type» + v .count) 256 ∷ fit (addressWidths (v .«id_type»)) (addressNumbers v) ∷ fit (csidWidths (v .count)) (csidNumbers v) ∷ ltb (v .«node_type») 256 ∷ [])
-    (of-true (sym (fit-split v) ∙ r .fits)) in
-    let a = is-true _ (g .1 .0) in
-    let k = each (nodeTypeKept (v .«node_type») ∷ operatorAllowed (v .«id_type») (addressIn v) ∷ countAllowed (v .count) (v .«id_type») (addressIn v) ∷ [])
-    (of-true (sym (ap allOf (rules-are v a)) ∙ r .rules)) in
-    let kind : v .«id_type» ≤ 2 = r .kind in
-    let small = kept-small (v .«node_type») (k .0) in
-    ap (allowedIn fqcsidAllowed) (meant v (omega arith) (r .few) (omega arith) a (is-true _ (g .1 .1 .0)) (is-true _ (k .1 .1 .0)))
-    ∙ is-true _
-    (allowed-from (v .count) (v .«id_type») (addressIn v) (fieldOctets (csidWidths (v .count)) (csidNumbers v)) (v .«node_type») (r .kind) (k .0) (k .1 .0) (length-address v)
-    (octets-fieldOctets (addressWidths (v .«id_type»)) (addressNumbers v)) (octets-fieldOctets (csidWidths (v .count)) (csidNumbers v)) (length-words v (r .few)) (r .few))
-
-pub not-right : (v : FqCsid) → (Right v → ⊥) → allowedIn fqcsidAllowed (fqcsidOf v) ≡ false
-not-right v f = never _ (λ h. f (right v h))
-
-pub right-where : (v : FqCsid) → v .«id_type» ≤ 2 → v .count < 16 → allOf (ruleTests v) ≡ true
-    → fit (fqcsidWidths (v .«id_type») (v .count)) (fqcsidNumbers v) ≡ allowedIn fqcsidAllowed (fqcsidOf v)
-right-where v h i j =
-    just-where _ _ (λ f. of-true (right-allowed v (record { kind = h; few = i; rules = j; fits = is-true _ f }))) (λ a. of-true (right v a .fits))
-
--- ---- what the writer leaves: ws the widths as the code has them
-
-module _ (v : FqCsid) (s : List ℕ) where
-  pub write-refused : allowedIn fqcsidAllowed (fqcsidOf v) ≡ false → record { count = 0; space = s } ≡ writeMeant writeFqcsid (fqcsidOf v) s
-  unfolding writeFqcsid
-  write-refused h = not-allowed fqcsidAllowed fqcsidOctets s (fqcsidOf v) h
-
-  module _ (ws : List ℕ) (w : ws ≡ fqcsidWidths (v .«id_type») (v .count)) where
-    length-octets : widthOf ws ≡ length (fieldOctets (fqcsidWidths (v .«id_type») (v .count)) (fqcsidNumbers v))
-    length-octets = rw w (sym (length-fieldOctets (fqcsidWidths (v .«id_type») (v .count)) (fqcsidNumbers v) (sym (eight-widths (v .«id_type») (v .count)))))
-
-    pub write-no-room : length s < widthOf ws → record { count = 0; space = s } ≡ writeMeant writeFqcsid (fqcsidOf v) s
-    unfolding writeFqcsid
-    write-no-room l =
-        no-room fqcsidAllowed fqcsidOctets s (fieldOctets (fqcsidWidths (v .«id_type») (v .count)) (fqcsidNumbers v)) (fqcsidOf v) (fqcsid-octets v) (rw length-octets at l)
-
-    pub write-done : (t : List ℕ) → allowedIn fqcsidAllowed (fqcsidOf v) ≡ true → widthOf ws ≤ length s → t ≡ put 0 (fieldOctets ws (fqcsidNumbers v)) s
-        → record { count = widthOf ws; space = t } ≡ writeMeant writeFqcsid (fqcsidOf v) s
-    unfolding writeFqcsid
-    write-done t ok l q =
-        done fqcsidAllowed fqcsidOctets s (fieldOctets (fqcsidWidths (v .«id_type») (v .count)) (fqcsidNumbers v)) (fqcsidOf v) (fqcsid-octets v) ok (widthOf ws) t length-octets l
-        (rw (← w) q)
-
 -- ---- what callers ask of a value, by the struct that means it
-
--- the value, and its node type
-pub fqcsid-is : (v : FqCsid) (x : Fqcsid) → fqcsidOf v ≡ some x → x ≡ fqcsidMeant v
-unfolding fqcsidOf
-fqcsid-is v x e = picked (allOf (fqcsidTests v)) (fqcsidMeant v) x e .1
-
-csids-meant : (v : FqCsid) (x : Fqcsid) → fqcsidOf v ≡ some x → fit (csidWidths (v .count)) (csidNumbers v) ≡ true
-unfolding fqcsidOf fqcsidTests
-csids-meant v x e = is-true _ (each (fqcsidTests v) (picked (allOf (fqcsidTests v)) (fqcsidMeant v) x e .0) .1 .1 .1 .1 .0)
-
-node-of : (m t : ℕ) (a cs : List ℕ) (n : ℕ) → nodeOf (csidFields m t a cs n) ≡ n
-unfolding nodeOf csidFields
-node-of zero t a cs n = refl
-node-of (suc m) t a cs n = refl
-
-pub fqcsid-node : (v : FqCsid) (x : Fqcsid) → fqcsidOf v ≡ some x → nodeOf x ≡ v .«node_type»
-fqcsid-node v x e = ap nodeOf (fqcsid-is v x e) ∙ node-of (v .count) (v .«id_type») (addressIn v) (csidsIn v) (v .«node_type»)
-
--- a single CSID
-single : (t : ℕ) (a : List ℕ) (c d e f n : ℕ) → fit (csidWidths 1) (c ∷ d ∷ e ∷ f ∷ []) ≡ true
-    → csidFields 1 t a (csidsAt 1 (fieldOctets (csidWidths 1) (c ∷ d ∷ e ∷ f ∷ []))) n ≡ sets t a (c ∷ []) n
-unfolding csidFields csidsAt csidWidths fieldOctets be slices
-single t a c d e f n h =
-    let l : c < 256 ^ 2 = fit-at 0 (csidWidths 1) (c ∷ d ∷ e ∷ f ∷ []) (lit< tt) h in
-    ap (λ (k : ℕ). sets t a (k ∷ []) n) (number-be 2 c l)
-
-pub fqcsid-single : (v : FqCsid) (x : Fqcsid) → fqcsidOf v ≡ some x → v .count ≡ 1 → x ≡ sets (v .«id_type») (addressIn v) (v .«csids_1» ∷ []) (v .«node_type»)
-fqcsid-single v x e one =
-    fqcsid-is v x e
-    ∙ rw one (single (v .«id_type») (addressIn v) (v .«csids_1») (v .«csids_2») (v .«csids_3») (v .«csids_4») (v .«node_type») (rw one at (csids-meant v x e)))
 
 -- the reader's answer, where its case is known: a struct means the value that the rules answer, and a refusal is theirs
 pub answer-value : {a : Answer} {v : FqCsid} {y : rules.Answer Fqcsid} → a ≡ Value v → answerOf a ≡ some y → ReadAs (fqcsidOf v) y

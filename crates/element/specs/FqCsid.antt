@@ -2,7 +2,7 @@
 use mathlib.Core.Bool.{Bool}
 use mathlib.Core.List.{List, [], _∷_, _++_}
 use mathlib.Core.Option.{Option, none, some}
-use Prim.Native.Nat.{ℕ, _-_, _*_, min}
+use Prim.Native.Nat.{ℕ, _+_, _-_, _*_, min}
 use lib.Dec.{eqb, ltb}
 use Rattle.octets.specs.Choice.{pick, allOf, mapOption}
 use Rattle.octets.specs.Fields.{fit, fieldOctets}
@@ -33,6 +33,10 @@ addressNumbers v = v .«address_high» ∷ v .«address_low» ∷ []
 
 abbrev pub csidNumbers : FqCsid → List ℕ
 csidNumbers v = v .«csids_1» ∷ v .«csids_2» ∷ v .«csids_3» ∷ v .«csids_4» ∷ []
+
+-- the numbers of all eight
+abbrev pub fqcsidNumbers : FqCsid → List ℕ
+fqcsidNumbers v = (16 * v .«id_type» + v .count) ∷ addressNumbers v ++ (csidNumbers v ++ v .«node_type» ∷ [])
 
 -- the address, and the CSIDs
 abbrev pub addressIn : FqCsid → List ℕ

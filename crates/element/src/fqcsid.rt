@@ -11,7 +11,7 @@ ghost use Rattle.octets.specs.Choice.{allOf};
 ghost use Rattle.rules.specs.Limits.{maxOperator};
 ghost use Rattle.rules.specs.Elements.{nodeTypeKept, readFqcsid, fqcsidAllowed, writeFqcsid};
 ghost use Rattle.element.specs.Answers.{left, writeMeant, allowedIn};
-ghost use Rattle.element.specs.FqCsid.{wordWidth, fqcsidWidths, fqcsidOf, answerOf, causeIn};
+ghost use Rattle.element.specs.FqCsid.{wordWidth, fqcsidWidths, fqcsidNumbers, fqcsidOf, answerOf, causeIn};
 
 // A Node-ID of 4 octets has its address in address_low alone. The CSIDs, of which there are count, stand two octets each in
 // four words, the first of them in csids_1, eight octets or what is left of them in each. So a single CSID is csids_1.
@@ -150,6 +150,23 @@ pub fn read(s: &[u8]) -> Answer
     }
 }
 
+// The numbers that stand in these octets.
+fn numbers_of(v: FqCsid) -> [u64; 8]
+    requires { ⌜ (v .«id_type» < 16) × (v .count < 16) ⌝ }
+    ensures { λ r. ⌜ r ≡ fqcsidNumbers v ⌝ }
+{
+    [
+        16 * v.id_type + v.count,
+        v.address_high,
+        v.address_low,
+        v.csids_1,
+        v.csids_2,
+        v.csids_3,
+        v.csids_4,
+        v.node_type,
+    ]
+}
+
 // Whether the struct means a value that the rules allow.
 fn is_allowed(v: FqCsid) -> bool
     ensures { λ r. ⌜ r ≡ allowedIn fqcsidAllowed (fqcsidOf v) ⌝ }
@@ -166,16 +183,7 @@ fn is_allowed(v: FqCsid) -> bool
         return false;
     }
     let ws = widths_of(id_type, count);
-    let vs = [
-        16 * id_type + count,
-        v.address_high,
-        v.address_low,
-        v.csids_1,
-        v.csids_2,
-        v.csids_3,
-        v.csids_4,
-        v.node_type,
-    ];
+    let vs = numbers_of(v);
     octets::fields::fit_fields(&ws, &vs)
 }
 
@@ -193,16 +201,7 @@ pub fn write(v: FqCsid, out: &mut [u8]) -> Written
     if out.len() < width {
         return Written::Refused;
     }
-    let vs = [
-        16 * id_type + count,
-        v.address_high,
-        v.address_low,
-        v.csids_1,
-        v.csids_2,
-        v.csids_3,
-        v.csids_4,
-        v.node_type,
-    ];
+    let vs = numbers_of(v);
     octets::fields::write_fields(out, 0, &ws, &vs);
     Written::Octets(width)
 }

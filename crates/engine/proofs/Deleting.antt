@@ -13,7 +13,7 @@ use Rattle.rules.specs.Limits.{maxPdrs, maxEndpoints}
 use Rattle.rules.specs.Model.{Settings, Session, Sessions, freeCount}
 use Rattle.rules.specs.Message.{Element, Request, kindOf, body, elements, ofType, groupsOf, actedOn, requestOf, readRequest, fseidIn, contentOf, there}
 use Rattle.rules.specs.Grants.{choices, needFrom, need, grantFrom, grants}
-use Rattle.rules.specs.Stages.{plain, fteidsOf, invalidAllocation, createdPdrs, createdEndpoints, updatedPdrs, idTwice, createdLive, absentId, updatesRemoved, namesAbsent, endpointInUse, restoredHoldings, clash, brokenRules, breaksRule, tooManySessions, tooManyPdrs, tooManyEndpoints, tooFewTeids, noRoom, judge}
+use Rattle.rules.specs.Stages.{plain, fteidsOf, invalidAllocation, createdPdrs, createdEndpoints, updatedPdrs, idTwice, createdLive, absentId, updatesRemoved, namesAbsent, endpointInUse, restoredHoldings, clash, requestRules, brokenRules, breaksRule, tooManySessions, tooManyPdrs, tooManyEndpoints, tooFewTeids, noRoom, judge}
 
 -- a request without records
 pub record Empty (r : Request) : Type 0 where
@@ -51,7 +51,7 @@ module _ (s : Settings) (m : Sessions) (x : Session) (r : Request) (e : Empty r)
   no-holdings = rw (e .endpoints, e .pdrs)
 
   kept : breaksRule s m x r ≡ false
-  unfolding breaksRule brokenRules idTwice createdLive absentId updatesRemoved namesAbsent endpointInUse clash createdPdrs createdEndpoints updatedPdrs hasRepeat anyIn allIn any allPairs collect
+  unfolding breaksRule requestRules brokenRules idTwice createdLive absentId updatesRemoved namesAbsent endpointInUse clash createdPdrs createdEndpoints updatedPdrs hasRepeat anyIn allIn any allPairs collect
   kept = rw (no-fteids, no-holdings, e .pdrs, e .endpoints, e .changes, e .gonePdrs, e .goneEndpoints)
 
   needs-none : need r ≡ 0

@@ -23,6 +23,7 @@ use records::layout::FIRST;
 use records::layout::SIZE;
 use records::layout::SLOT;
 use reply::Offending;
+use request::Plan;
 use request::Reading;
 use slots::Place;
 
@@ -132,13 +133,10 @@ fn settle(
     live: bool,
     slot: &mut [u8],
     plan: &mut [u64],
-    n: usize,
-    seid: u64,
-    restoring: bool,
-    noted: bool,
+    read: Plan,
     out: &mut [u8],
 ) -> usize
-    requires { ⌜ Readable (now t) (now msg) (now out) (now plan) kind seid n restoring noted × Counted (now t) (taken .words) free × Entered (now t) (now msg) kind seid live (now slot) ⌝ }
+    requires { ⌜ Readable (now t) (now msg) (now out) (now plan) kind (read .seid) (read .rows) (read .restoring) (read .noted) × Counted (now t) (taken .words) free × Entered (now t) (now msg) kind (read .seid) live (now slot) ⌝ }
     ensures { λ r. ⌜ Answers (now (t .entry)) (now (msg .entry)) (now (out .entry)) r (now (out .exit)) (now (t .exit)) ⌝ }
 {
     let words = taken.words;
@@ -147,18 +145,27 @@ fn settle(
         &words,
         free,
         kind,
-        seid,
+        read.seid,
         live,
         slot,
         plan,
-        n,
-        restoring,
-        noted,
+        read.rows,
+        read.restoring,
+        read.noted,
     );
     if cause != 1 {
         return refuse(t, msg, cause, Offending::Nothing, out);
     }
-    accept(t, Taken { words: words }, msg, seid, slot, plan, n, out)
+    accept(
+        t,
+        Taken { words: words },
+        msg,
+        read.seid,
+        slot,
+        plan,
+        read.rows,
+        out,
+    )
 }
 
 // An establishment, or the modification of the session at the place p.
@@ -192,10 +199,7 @@ fn change(
                 live,
                 &mut slot,
                 &mut plan,
-                read.rows,
-                read.seid,
-                read.restoring,
-                read.noted,
+                read,
                 out,
             );
         }

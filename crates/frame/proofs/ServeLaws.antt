@@ -11,7 +11,7 @@ use Rattle.octets.specs.Choice.{pick}
 use Rattle.rules.specs.Limits.{maxMessage, minSpace}
 use Rattle.rules.specs.Model.{Settings, Sessions}
 use Rattle.rules.specs.Message.{kindOf, headerSeid, headerAllowed, served}
-use Rattle.rules.specs.Serve.{Served, unserved, answer, serveSound}
+use Rattle.rules.specs.Serve.{unserved, answer, serveSound}
 use Rattle.frame.specs.HeaderOf.{outcome, request, headerOf}
 
 module _ (msg : List ℕ) where

@@ -12,11 +12,11 @@ use Rattle.octets.specs.Lists.{all, allPairs, collect}
 use Rattle.octets.proofs.Tests.{each, all-head, all-tail, all-cons}
 use Rattle.lists.proofs.Bools.{and-swap, and-four}
 use Rattle.lists.proofs.EachTwo.{all-step, all-append}
-use Rattle.rules.specs.Model.{Settings, Tunnel, Place, neither, tunnel, endpoint, Pdr, Endpoint, Holding, Session, Sessions, teidOf, placeTunnel, tunnelHolding, pdrHolding, endpointHolding, endpointId, sessionHoldings, sessionTeids, heldTeids, freeCount}
+use Rattle.rules.specs.Model.{Settings, Tunnel, Place, neither, tunnel, endpoint, Pdr, Endpoint, Holding, Session, Sessions, teidOf, placeTunnel, tunnelHolding, pdrHolding, endpointHolding, endpointId, sessionHoldings, sessionTeids, heldTeids}
 use Rattle.rules.specs.Sound.{inPool, tunnelTests, tunnelAllowed, placeAllowed, pdrTests, pdrAllowed, endpointTests, endpointAllowed, agree, sessionTests, sessionAllowed, apart, sessionsTests, sessionsAllowed}
-use Rattle.pool.specs.Map.{mark, marks, newMarks, offsets}
-use Rattle.pool.proofs.Marks.{length-mark, length-marks, marks-append, new-append, offsets-append}
-use Rattle.pool.proofs.TakenLaws.{Means, means-empty, means-test, means-mark, pool-from, pool-offset, new-marks-distinct}
+use Rattle.pool.specs.Map.{mark, marks, offsets}
+use Rattle.pool.proofs.Marks.{length-mark, length-marks}
+use Rattle.pool.proofs.TakenLaws.{Means, means-empty, means-test, means-mark, pool-from, pool-offset}
 use Rattle.holdings.specs.Walk.{joins, accepts, sessionKeeps, seenAfter, tableKeeps, sessionMarks, tableMarks}
 use Rattle.holdings.proofs.WalkLaws.{table-keeps}
 
@@ -86,35 +86,6 @@ module _ (s : Settings) where
             all-step (sessionAllowed s) x xs ∙ (λ i. split x i && joined xs i)
             ∙ and-four (own x) (allPairs agree (sessionHoldings x)) (all own xs) (all (λ y. allPairs agree (sessionHoldings y)) xs)
             ∙ (λ i. sym (all-step own x xs) i && sym (all-step (λ y. allPairs agree (sessionHoldings y)) x xs) i)
-
-  -- ---- the words and the count, session by session
-
-  pub table-nil : (own : Session → Bool) (ws : List ℕ) → tableMarks own (s .first) ws [] ≡ true
-  unfolding tableMarks
-  table-nil own ws = refl
-
-  pub table-step : (own : Session → Bool) (ws : List ℕ) (x : Session) (m : Sessions)
-      → tableMarks own (s .first) ws (x ∷ m) ≡ (own x && (sessionMarks (s .first) ws [] (sessionHoldings x) && tableMarks own (s .first) (marks ws (offsets (s .first) (sessionTeids x))) m))
-  unfolding tableMarks
-  table-step own ws x m = refl
-
-  pub words-step : (ws : List ℕ) (x : Session) (m : Sessions)
-      → marks ws (offsets (s .first) (heldTeids (x ∷ m))) ≡ marks (marks ws (offsets (s .first) (sessionTeids x))) (offsets (s .first) (heldTeids m))
-  unfolding heldTeids
-  words-step ws x m =
-      ap (marks ws) (offsets-append (s .first) (sessionTeids x) (heldTeids m)) ∙ marks-append ws (offsets (s .first) (sessionTeids x)) (offsets (s .first) (heldTeids m))
-
-  pub new-step : (ws : List ℕ) (x : Session) (m : Sessions)
-      → newMarks ws (offsets (s .first) (heldTeids (x ∷ m)))
-      ≡ newMarks ws (offsets (s .first) (sessionTeids x)) + newMarks (marks ws (offsets (s .first) (sessionTeids x))) (offsets (s .first) (heldTeids m))
-  unfolding heldTeids
-  new-step ws x m =
-      ap (newMarks ws) (offsets-append (s .first) (sessionTeids x) (heldTeids m)) ∙ new-append ws (offsets (s .first) (sessionTeids x)) (offsets (s .first) (heldTeids m))
-
-  -- the pool's size less the new marks of all of them is 01's free count
-  pub count-new : (n : ℕ) (m : Sessions) → s .size ≤ 64 * n → T (all (inPool s) (heldTeids m)) → s .size - newMarks (replicate n 0) (offsets (s .first) (heldTeids m)) ≡ freeCount s m
-  unfolding freeCount
-  count-new n m f h = ap (λ (k : ℕ). s .size - k) (new-marks-distinct s n (heldTeids m) f h)
 
   -- ---- TEIDs of records that keep the rules
 

@@ -8,17 +8,14 @@ use mathlib.Core.List.{List, [], _∷_, _++_, map, append-assoc, append-nil}
 use Prim.Native.Nat.{ℕ, _-_}
 use lib.Dec.{T, eqb}
 use Rattle.octets.specs.Choice.{pick, sameBool, consOption}
-use Rattle.octets.specs.Lists.{anyIn, all, allPairs, collect}
+use Rattle.octets.specs.Lists.{all, collect}
 use Rattle.octets.proofs.Tests.{all-head, all-tail, all-cons, is-false}
 use Rattle.lists.proofs.Bools.{and-true}
-use Rattle.rules.specs.Model.{Holding, Sessions, teidOf, heldTeids}
-use Rattle.rules.specs.Sound.{shareTests, agree}
-use Rattle.rules.specs.Message.{Request}
-use Rattle.rules.specs.Stages.{restoredHoldings, clash}
+use Rattle.rules.specs.Model.{Holding, teidOf}
+use Rattle.rules.specs.Sound.{shareTests}
 use Rattle.pool.specs.Map.{marked, mark, marks, offsets}
-use Rattle.holdings.specs.Walk.{onSame, sharedWith, joins, sessionKeeps, sessionMarks}
+use Rattle.holdings.specs.Walk.{onSame, sharedWith, joins, sessionMarks}
 use Rattle.holdings.proofs.Joining.{joins-nil, joins-cons}
-use Rattle.holdings.proofs.WalkLaws.{session-keeps, clear-any}
 
 -- ---- lists of holds
 
@@ -152,15 +149,6 @@ module _ {A : Type 0} (hold : A → Option Holding) where
       ∙ marks-step first ws (collect hold done) h (collect hold left)
       ∙ ap (λ (l : List Holding). (not (marked ws (h .teid - first)) || joins (collect hold done) h) && sessionMarks first (mark ws (h .teid - first)) l (collect hold left)) (sym passed)
 
-  -- the offsets marked
-  pub offsets-none : (first : ℕ) (a : A) (left : List A) → hold a ≡ none → offsets first (map teidOf (collect hold (a ∷ left))) ≡ offsets first (map teidOf (collect hold left))
-  offsets-none first a left e = ap (λ (hs : List Holding). offsets first (map teidOf hs)) (collect-none a left e)
-
-  pub offsets-some : (first : ℕ) (a : A) (h : Holding) (left : List A) → hold a ≡ some h
-      → offsets first (map teidOf (collect hold (a ∷ left))) ≡ (h .teid - first) ∷ offsets first (map teidOf (collect hold left))
-  unfolding offsets
-  offsets-some first a h left e = ap (λ (hs : List Holding). offsets first (map teidOf hs)) (collect-some a h left e)
-
   -- the look back over records
   pub look-none : (d : A) (ds : List A) (h : Holding) → hold d ≡ none → joins (collect hold (d ∷ ds)) h ≡ joins (collect hold ds) h
   look-none d ds h e = ap (λ (hs : List Holding). joins hs h) (collect-none d ds e)
@@ -173,18 +161,3 @@ module _ {A : Type 0} (hold : A → Option Holding) where
   pub look-end : (h : Holding) → joins (collect hold []) h ≡ false
   unfolding collect
   look-end h = joins-nil h
-
--- ---- a restoration
-
--- 01's cause 73: a restored F-TEID held by another session, or shared against the table's rule, is one that the walk over the request's holds
--- refuses, where the TEIDs that the table holds are seen already
-pub clash-walk : (m : Sessions) (r : Request) → clash m r ≡ not (sessionKeeps (heldTeids m) [] (restoredHoldings r))
-unfolding clash
-clash-walk m r =
-    let hs = restoredHoldings r in
-    one (anyIn (map teidOf hs) (heldTeids m)) (allPairs agree hs)
-    ∙ ap not (ap (λ (b : Bool). b && allPairs agree hs) (sym (clear-any (heldTeids m) hs)) ∙ sym (session-keeps (heldTeids m) hs))
-  where
-    one : (a b : Bool) → (a || not b) ≡ not (not a && b)
-    one true b = refl
-    one false b = refl

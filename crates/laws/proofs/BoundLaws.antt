@@ -18,7 +18,7 @@ use Rattle.octets.proofs.Tests.{pick-either, and-left, and-right, both, all-hea
 use Rattle.rules.specs.Model.{Settings, Sessions, heldTeids, freeTeids}
 use Rattle.rules.specs.Elements.{Fteid, given, choose}
 use Rattle.rules.specs.Sound.{settingsAllowed}
-use Rattle.laws.proofs.LayoutLaws.{pool-fits}
+use Rattle.laws.proofs.TableLaws.{pool-fits}
 use Rattle.rules.specs.Message.{Element, elementLength, elementsUpTo, elements, hasType, contentIn, contentOf, widthOf, field, fieldOr0, fteidIn, ofType, groupOf, groupsOf, newPdr, newEndpoint, NewPdr, NewEndpoint, requestOf, readRequest, kindOf, body, actedOn}
 use Rattle.rules.specs.Grants.{Kind, ofPdr, ofEndpoint, Choice, Chosen, Grant, choiceOf, endpointChoice, pdrChoice, choices, chosen, isChoice, chosenTeid, remember, grantOf, teidFor, freeAfter, chosenAfter, grantFrom, grants}
 

@@ -1,6 +1,7 @@
 pub mod BoundLaws
 pub mod ElementLaws
 pub mod LayoutLaws
+pub mod TableLaws
 pub mod MessageLaws
 pub mod ReadLaws
 pub mod ReplyLaws

@@ -1,14 +1,14 @@
 -- Laws for loops over slices, of use to every crate. A loop that reads from the front: what is left at i is the element there and then
 -- what is left at i + 1. A loop that stores from the front: `sets` stores one after the other, and past the end nothing.
 -- Assumes nothing.
-use mathlib.Core.Path.{_≡_, refl}
+use mathlib.Core.Path.{_≡_}
 use mathlib.Core.List.{List, [], _∷_}
 use Prim.Native.Nat.{ℕ, zero, suc, _+_, _-_, _*_, _≤_, _<_}
 use native.Mathlib.Nat.{zero-add, suc-mul}
 use native.Mathlib.Numerals.{add-one}
 use native.Mathlib.Omega.{arith}
 use lib.ListN.{length, take, drop, getD, set, length-drop, drop-of-length-le}
-use lib.Seq.{drop-cons, take-all, sets, set-out, sets-eq, take-append-seam}
+use lib.Seq.{drop-cons, take-all, sets, sets-eq, take-append-seam}
 
 -- ---- reading
 
@@ -31,10 +31,6 @@ width-more (suc n) width h = let e : suc n - 1 ≡ n = omega arith in rw (e, suc
 
 pub sets-more : (l : List ℕ) (n x : ℕ) (xs : List ℕ) → sets l n (x ∷ xs) ≡ sets (set l n x) (n + 1) xs
 sets-more l n x xs = rw add-one
-
-pub sets-full : (l : List ℕ) (n : ℕ) (xs : List ℕ) → length l ≤ n → sets l n xs ≡ l
-sets-full l n [] h = refl
-sets-full l n (x ∷ xs) h = rw (set-out l n x h) (sets-full l (suc n) xs (omega arith))
 
 -- what was stored from the front on is the front
 pub take-sets : (l xs : List ℕ) → length xs ≤ length l → take (length xs) (sets l 0 xs) ≡ xs

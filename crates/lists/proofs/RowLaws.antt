@@ -2,9 +2,9 @@
 use mathlib.Core.Path.{_≡_, refl, ap}
 use mathlib.Core.Bool.{Bool, true, false}
 use mathlib.Core.List.{List, [], _∷_, map}
-use Prim.Native.Nat.{ℕ, zero, suc, _+_, _-_, _≤_, _<_}
+use Prim.Native.Nat.{ℕ, zero, suc, _+_, _-_, _<_}
 use native.Mathlib.Omega.{arith}
-use lib.ListN.{length, take, drop, getD}
+use lib.ListN.{take, drop, getD}
 use lib.Seq.{getD-take, getD-drop, drop-drop}
 use lib.Dec.{eqb}
 use Rattle.octets.specs.Choice.{pick}
@@ -45,15 +45,3 @@ column-more tag field width s at left h g =
     let first : getD (take width (drop at s)) 0 0 ≡ getD s at 0 = rw (getD-take, getD-drop) (ap (λ (k : ℕ). getD s k 0) (omega arith)) in
     let word : getD (take width (drop at s)) field 0 ≡ getD s (at + field) 0 = rw (getD-take, getD-drop) in
     rw (rows-more width left (drop at s) h, column-cons, first, word, drop-drop)
-
--- there are at most as many words as rows
-pub column-length : (tag field width n : ℕ) (s : List ℕ) → length (column tag field (slices width n s)) ≤ n
-column-length tag field width zero s = rw (rows-none, column-nil) (omega arith)
-column-length tag field width (suc n) s =
-    let e : suc n - 1 ≡ n = omega arith in
-    rw (rows-more width (suc n) s (omega arith), column-cons, e) (one (eqb (getD (take width s) 0 0) tag) (column-length tag field width n (drop width s)))
-  where
-    one : (b : Bool) → length (column tag field (slices width n (drop width s))) ≤ n
-        → length (pick b (getD (take width s) field 0 ∷ column tag field (slices width n (drop width s))) (column tag field (slices width n (drop width s)))) ≤ suc n
-    one true h = omega arith
-    one false h = omega arith

@@ -199,7 +199,3 @@ module _ {first : ℕ} {ws₀ : List ℕ} {hs : List Holding} where
 
     pub pdr-clash : (r : Marks) (ws′ : List ℕ) → Stepped first ws (collect pdrHolding done) (pdrHolding a) r ws′ → r ≡ Clash → Clash ≡ walked first ws₀ hs
     pdr-clash r ws′ t e = clash-with (pdrHolding a) refl (sym (t .answer) ∙ e)
-
-    -- the record's own hold has its bit
-    pub pdr-inside : (h : Holding) → pdrHolding a ≡ some h → (first ≤ h .teid) × (h .teid < first + 64 * length ws₀)
-    pdr-inside h e = in-map first (length ws₀) h (collect pdrHolding left) (subst (λ (l : List Holding). T (mapped first (length ws₀) l)) (hold-some a h left e) (m .inside))

@@ -75,10 +75,6 @@ grows v x k h l = rw pow-suc (omega arith)
 pub grows-fits : (v x k : ℕ) → v < 256 ^ k → x < 256 → k < 8 → v * 256 + x < 2 ^ 64
 grows-fits v x k h l p = lt-of-lt-of-le (grows v x k h l) (pow-le-pow-right (lit< tt) p)
 
--- a number of w octets is one of k octets, where k is not less
-pub wider : (r w k : ℕ) → r < 256 ^ w → w ≤ k → r < 256 ^ k
-wider r w k h l = lt-of-lt-of-le h (pow-le-pow-right (lit< tt) l)
-
 same-test : (a b c d : ℕ) (t : Bool) → ltb a b ≡ t → (a < b → c < d) → (b ≤ a → d ≤ c) → t ≡ ltb c d
 same-test a b c d true e f g = sym (lt-ltb c d (f (ltb-true a b e)))
 same-test a b c d false e f g = sym (le-ltb c d (g (ltb-false a b e)))

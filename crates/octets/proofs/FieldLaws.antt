@@ -23,13 +23,6 @@ pub both : (a b : Bool) → (a && b) ≡ true → (a ≡ true) × (b ≡ true)
 both true b e = (refl, e)
 both false b e = absurd (false≢true e)
 
-pub length-fit : (ws vs : List ℕ) → fit ws vs ≡ true → length vs ≡ length ws
-unfolding fit
-length-fit [] [] h = refl
-length-fit [] (v ∷ vs) h = absurd (false≢true h)
-length-fit (w ∷ ws) [] h = absurd (false≢true h)
-length-fit (w ∷ ws) (v ∷ vs) h = ap suc (length-fit ws vs (both (ltb v (256 ^ w)) (fit ws vs) h .1))
-
 pub length-fieldOctets : (ws vs : List ℕ) → length vs ≡ length ws → length (fieldOctets ws vs) ≡ widthOf ws
 unfolding fieldOctets widthOf
 length-fieldOctets [] vs e = refl

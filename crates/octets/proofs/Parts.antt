@@ -1,14 +1,14 @@
 -- A part of octets with its first or last octet taken off, and tests on parts. Assumes nothing.
 use mathlib.Core.Bool.{_&&_}
-use mathlib.Core.List.{List, [], _∷_, _++_}
+use mathlib.Core.List.{List, _∷_}
 use mathlib.Core.Path.{_≡_}
 use Prim.Native.Nat.{ℕ, zero, suc, _+_, _-_, _≤_, _<_}
 use native.Mathlib.Nat.{not-suc-le-zero}
 use native.Mathlib.Numerals.{add-one}
 use native.Mathlib.Omega.{arith}
 use lib.Dec.{eqb}
-use lib.ListN.{length, getD, drop, replicate, length-drop, replicate-append-replicate}
-use lib.Seq.{take-suc, drop-cons, getD-drop}
+use lib.ListN.{length, getD}
+use lib.Seq.{drop-cons}
 use Rattle.octets.specs.Octets.{part, allZero, sameOctets}
 
 pub part-first : (at n : ℕ) (s : List ℕ) → 0 < n → at + n ≤ length s → part at n s ≡ getD s at 0 ∷ part (at + 1) (n - 1) s
@@ -16,20 +16,6 @@ part-first at zero s p h = absurd (not-suc-le-zero p)
 part-first at (suc n) s p h =
     let e : suc n - 1 ≡ n = omega arith in
     rw (e, drop-cons s at 0 (omega arith), add-one)
-
-pub part-last : (at n : ℕ) (s : List ℕ) → 0 < n → at + n ≤ length s → part at n s ≡ part at (n - 1) s ++ (getD s (at + (n - 1)) 0 ∷ [])
-part-last at zero s p h = absurd (not-suc-le-zero p)
-part-last at (suc n) s p h =
-    let e : suc n - 1 ≡ n = omega arith in
-    let k : n < length (drop at s) = simp length-drop (omega arith) in
-    rw (e, take-suc (drop at s) n 0 k, getD-drop at s n 0)
-
-pub replicate-last : (n a : ℕ) → 0 < n → replicate n a ≡ replicate (n - 1) a ++ (a ∷ [])
-replicate-last zero a p = absurd (not-suc-le-zero p)
-replicate-last (suc n) a p =
-    let e : suc n - 1 ≡ n = omega arith in
-    let f : n + 1 ≡ suc n = add-one n in
-    rw (e, replicate-append-replicate n 1 a, f)
 
 pub zero-first : (at n : ℕ) (s : List ℕ) → 0 < n → at + n ≤ length s → allZero (part at n s) ≡ (eqb (getD s at 0) 0 && allZero (part (at + 1) (n - 1) s))
 unfolding allZero

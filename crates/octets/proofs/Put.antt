@@ -219,7 +219,3 @@ put-put at n xs ys s e h = rw (← e) (put-behind at xs ys s (omega arith))
 pub set-put : (at b : ℕ) (s : List ℕ) → at < length s → set s at b ≡ put at (b ∷ []) s
 unfolding put
 set-put at b s h = rw (set-split s at b h, add-one)
-
--- octets after a first one that was stored
-pub put-rest : (b : ℕ) (xs s : List ℕ) → 0 < length s → put 1 xs (set s 0 b) ≡ put 0 (b ∷ xs) s
-put-rest b xs s h = rw (set-put 0 b s h) (put-put 0 1 (b ∷ []) xs s refl (omega arith))

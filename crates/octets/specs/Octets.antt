@@ -59,10 +59,6 @@ octets xs = areBytes xs
 unfoldable pub padded : ℕ → List ℕ → List ℕ
 padded n xs = xs ++ zeros (n - length xs)
 
--- what stands in the space after octets are written at its front: the rest of the space stays
-unfoldable pub over : List ℕ → List ℕ → List ℕ
-over xs space = xs ++ drop (length xs) space
-
 -- the octets of each, one after the other
 unfoldable pub concatMap : {A : Type 0} → (A → List ℕ) → List A → List ℕ
 concatMap f [] = []

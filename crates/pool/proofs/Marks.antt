@@ -1,6 +1,6 @@
 -- Which offsets are marked after marking, over the number of words. Assumes nothing.
 use mathlib.Core.Path.{_≡_, refl, sym, _∙_, ap}
-use mathlib.Core.Bool.{Bool, false, not, _||_, or-assoc}
+use mathlib.Core.Bool.{Bool, false, _||_}
 use mathlib.Core.List.{List, [], _∷_, _++_}
 use Prim.Native.Nat.{ℕ, zero, suc, _+_, _-_, _*_, _/_, _%_, _^_, _<_}
 use native.Mathlib.Decide.{ℕ-discrete}
@@ -8,14 +8,11 @@ use native.Mathlib.Omega.{arith}
 use borrow.Author.Tests.{eq-eqb, ne-eqb}
 use lib.Bits.{or-lt}
 use lib.Dec.{T, eqb, ltb, ltb→lt, lt→ltb, lit<}
-use lib.ListN.{length, drop, getD, set, replicate, length-set}
+use lib.ListN.{length, getD, set, replicate, length-set}
 use lib.Pow.{pow-lt}
 use lib.Seq.{getD-set-same, getD-set-other}
-use Rattle.octets.specs.Choice.{flag}
-use Rattle.octets.specs.Lists.{member, all}
+use Rattle.octets.specs.Lists.{all}
 use Rattle.octets.proofs.Tests.{all-head, all-tail, all-cons}
-use Rattle.lists.proofs.Bools.{or-swap}
-use Rattle.lists.proofs.Loops.{left-more}
 use Rattle.pool.specs.Map.{marked, mark, marks, newMarks, offsets}
 use Rattle.pool.proofs.Bits.{bit-set-same, bit-set-other, bit-of-zero}
 
@@ -52,30 +49,6 @@ marked-zeros n i = rw (zeros-at n (i / 64)) (bit-of-zero (i % 64))
 
 -- ---- a list of marks
 
--- every offset of a list has its bit in n words
-abbrev pub allBelow : ℕ → List ℕ → Bool
-allBelow n is = all (λ i. ltb i (64 * n)) is
-
-pub below-head : (n t : ℕ) (ts : List ℕ) → T (allBelow n (t ∷ ts)) → t < 64 * n
-below-head n t ts h = ltb→lt t (64 * n) (all-head (λ i. ltb i (64 * n)) t ts h)
-
-pub below-tail : (n t : ℕ) (ts : List ℕ) → T (allBelow n (t ∷ ts)) → T (allBelow n ts)
-below-tail n t ts h = all-tail (λ i. ltb i (64 * n)) t ts h
-
--- at the element of a list that a loop has reached
-pub below-at : (n : ℕ) (ts : List ℕ) (i : ℕ) → i < length ts → T (allBelow n (drop i ts)) → (getD ts i 0 < 64 * n) × T (allBelow n (drop (i + 1) ts))
-below-at n ts i l h =
-    let e = rw (left-more ts i l) at h in
-    (below-head n (getD ts i 0) (drop (i + 1) ts) e, below-tail n (getD ts i 0) (drop (i + 1) ts) e)
-
-pub marks-nil : (ws : List ℕ) → marks ws [] ≡ ws
-unfolding marks
-marks-nil ws = refl
-
-pub marks-cons : (ws : List ℕ) (t : ℕ) (ts : List ℕ) → marks ws (t ∷ ts) ≡ marks (mark ws t) ts
-unfolding marks
-marks-cons ws t ts = refl
-
 pub marks-append : (ws ts us : List ℕ) → marks ws (ts ++ us) ≡ marks (marks ws ts) us
 unfolding marks
 marks-append ws [] us = refl
@@ -86,37 +59,10 @@ unfolding marks
 length-marks ws [] = refl
 length-marks ws (t ∷ ts) = length-marks (mark ws t) ts ∙ length-mark ws t
 
-pub new-nil : (ws : List ℕ) → newMarks ws [] ≡ 0
-unfolding newMarks
-new-nil ws = refl
-
-pub new-cons : (ws : List ℕ) (t : ℕ) (ts : List ℕ) → newMarks ws (t ∷ ts) ≡ flag (not (marked ws t)) + newMarks (mark ws t) ts
-unfolding newMarks
-new-cons ws t ts = refl
-
 pub new-append : (ws ts us : List ℕ) → newMarks ws (ts ++ us) ≡ newMarks ws ts + newMarks (marks ws ts) us
 unfolding newMarks marks
 new-append ws [] us = omega arith
 new-append ws (t ∷ ts) us = let ih = new-append (mark ws t) ts us in omega arith
-
--- what is marked after it: the list's offsets, and what was marked before
-pub marked-marks : (ws ts : List ℕ) (i : ℕ) → T (allBelow (length ws) ts) → marked (marks ws ts) i ≡ (member i ts || marked ws i)
-unfolding marks member
-marked-marks ws [] i h = refl
-marked-marks ws (t ∷ ts) i h =
-    marked-marks (mark ws t) ts i (rw length-mark (below-tail (length ws) t ts h))
-    ∙ ap (λ (b : Bool). member i ts || b) (marked-mark ws t i (below-head (length ws) t ts h))
-    ∙ or-swap (member i ts) (eqb i t) (marked ws i)
-    ∙ sym (or-assoc (eqb i t) (member i ts) (marked ws i))
-
--- the offsets of one list of TEIDs and then another's
-pub offsets-nil : (first : ℕ) → offsets first [] ≡ []
-unfolding offsets
-offsets-nil first = refl
-
-pub offsets-cons : (first t : ℕ) (ts : List ℕ) → offsets first (t ∷ ts) ≡ (t - first) ∷ offsets first ts
-unfolding offsets
-offsets-cons first t ts = refl
 
 pub offsets-append : (first : ℕ) (ts us : List ℕ) → offsets first (ts ++ us) ≡ offsets first ts ++ offsets first us
 unfolding offsets

@@ -9,14 +9,14 @@ use native.Mathlib.Nat.{pow-suc, add-zero}
 use native.Mathlib.Decide.{ℕ-discrete}
 use native.Mathlib.Omega.{arith}
 use borrow.Author.Tests.{eq-eqb, ne-eqb}
-use lib.Dec.{T, leb, ltb, eqb, leb→le, ltb→lt, lt→ltb}
+use lib.Dec.{T, leb, ltb, eqb, leb→le, ltb→lt}
 use lib.ListN.{length, replicate, length-replicate}
 use Rattle.octets.specs.Choice.{pick, flag, headOr, rest}
 use Rattle.octets.specs.Octets.{bit}
 use Rattle.octets.specs.Lists.{member, distinct, range, without, keep, all}
-use Rattle.octets.proofs.Tests.{and-left, and-right, all-head, all-tail, all-cons, each}
+use Rattle.octets.proofs.Tests.{and-left, and-right, all-head, all-tail, each}
 use Rattle.rules.specs.Limits.{mapWords}
-use Rattle.rules.specs.Model.{Settings, Sessions, heldTeids, freeCount, freeTeids}
+use Rattle.rules.specs.Model.{Settings, Sessions, heldTeids, freeTeids}
 use Rattle.rules.specs.Sound.{poolTests, settingsTests, settingsAllowed, inPool, taken, takenBits, takenWords, takenMap}
 use Rattle.pool.specs.declared.Lowest.the-variants.{At, Full}
 use Rattle.pool.specs.Answer.{lowest}
@@ -25,7 +25,7 @@ use Rattle.pool.proofs.Bits.{bit-low, bit-suc}
 use Rattle.pool.proofs.Marks.{allWords, marked-mark, marked-zeros, length-mark, length-marks, words-map}
 use Rattle.pool.proofs.Free.{lowest-at, lowest-full}
 use Rattle.lists.proofs.Questions.{member-middle}
-use Rattle.lists.proofs.Counting.{newIn, new-distinct, free-distinct}
+use Rattle.lists.proofs.Counting.{newIn, new-distinct}
 
 -- ---- words
 
@@ -85,15 +85,6 @@ module _ (s : Settings) where
   pub pool-fits : T (settingsAllowed s) → s .size ≤ mapSize
   unfolding settingsAllowed settingsTests poolTests
   pool-fits h = leb→le (s .size) mapSize (each (poolTests (s .first) (s .size)) (each (settingsTests s) h .1 .1 .1 .1 .0) .1 .1 .0)
-
-  -- the offsets of TEIDs of the pool all have their bits
-  pub offsets-below : (n : ℕ) (ts : List ℕ) → s .size ≤ 64 * n → T (all (inPool s) ts) → T (all (λ i. ltb i (64 * n)) (offsets (s .first) ts))
-  unfolding offsets all
-  offsets-below n [] f h = tt
-  offsets-below n (t ∷ ts) f h =
-      all-cons (λ i. ltb i (64 * n)) (t - s .first) (offsets (s .first) ts)
-      (lt→ltb (t - s .first) (64 * n) (pool-offset n t f (all-head (inPool s) t ts h)))
-      (offsets-below n ts f (all-tail (inPool s) t ts h))
 
   pub means-marks : (ws seen ts : List ℕ) → Means (s .first) ws seen → s .size ≤ 64 * length ws → T (all (inPool s) ts) → Means (s .first) (marks ws (offsets (s .first) ts)) (ts ++ seen)
   unfolding marks offsets
@@ -175,23 +166,6 @@ unfolding freeTeids
 free-teids s m ws h =
     free-are (s .first) ws (heldTeids m) h 0 (s .size) ∙ (let a : s .first + 0 ≡ s .first = omega arith in let b : s .size - 0 ≡ s .size = omega arith in rw (a, b))
 
--- there are as many as 01's free count says
-pub free-number : (s : Settings) (m : Sessions) → T (all (inPool s) (heldTeids m)) → length (freeTeids s m) ≡ freeCount s m
-unfolding freeTeids freeCount
-free-number s m h =
-    let e = free-distinct (s .first) (s .size) (heldTeids m) (belows (heldTeids m) h) (froms (heldTeids m) h) in
-    omega arith
-  where
-    belows : (ts : List ℕ) → T (all (inPool s) ts) → T (all (λ t. ltb t (s .first + s .size)) ts)
-    belows [] g = unfold all in tt
-    belows (t ∷ ts) g =
-        all-cons (λ x. ltb x (s .first + s .size)) t ts (lt→ltb t (s .first + s .size) (pool-below s t (all-head (inPool s) t ts g))) (belows ts (all-tail (inPool s) t ts g))
-
-    froms : (ts : List ℕ) → T (all (inPool s) ts) → T (all (λ t. ltb (s .first) (t + 1)) ts)
-    froms [] g = unfold all in tt
-    froms (t ∷ ts) g =
-        all-cons (λ x. ltb (s .first) (x + 1)) t ts (lt→ltb (s .first) (t + 1) (omega (arith, pool-from s t (all-head (inPool s) t ts g)))) (froms ts (all-tail (inPool s) t ts g))
-
 -- the new marks of a list are its numbers that were not seen before
 pub new-marks : (s : Settings) (ws seen ts : List ℕ) → Means (s .first) ws seen → s .size ≤ 64 * length ws → T (all (inPool s) ts) → newMarks ws (offsets (s .first) ts) ≡ newIn seen ts
 unfolding newMarks newIn offsets
@@ -226,12 +200,3 @@ next-teid first ws at size i e =
 pub no-teid : (first : ℕ) (ws : List ℕ) (at size : ℕ) → Full ≡ lowest (freeFrom ws at size) → teidsFrom first ws at size ≡ []
 unfolding teidsFrom
 no-teid first ws at size e = rw (lowest-full (freeFrom ws at size) e)
-
--- the lowest free TEID is the first of the free ones, and there is none exactly when none is free
-pub lowest-teid : (s : Settings) (m : Sessions) (ws : List ℕ) (i : ℕ) → Means (s .first) ws (heldTeids m) → At i ≡ lowest (freeFrom ws 0 (s .size))
-    → freeTeids s m ≡ (s .first + i) ∷ teidsFrom (s .first) ws (i + 1) (s .size)
-unfolding teidsFrom
-lowest-teid s m ws i h e = sym (free-teids s m ws h) ∙ ap (map (λ k. s .first + k)) (lowest-at ws 0 (s .size) i e .is)
-
-pub lowest-none : (s : Settings) (m : Sessions) (ws : List ℕ) → Means (s .first) ws (heldTeids m) → Full ≡ lowest (freeFrom ws 0 (s .size)) → freeTeids s m ≡ []
-lowest-none s m ws h e = sym (free-teids s m ws h) ∙ no-teid (s .first) ws 0 (s .size) e

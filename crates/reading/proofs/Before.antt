@@ -20,11 +20,6 @@ eqb-sym m n = by-test (eqb m n) refl
     by-test true e = e ∙ sym (eq-eqb n m (sym (eqb-true m n e)))
     by-test false e = e ∙ sym (ne-eqb n m (λ q. eqb-false m n e (sym q)))
 
-or-assoc : (a b c : Bool) → (a || (b || c)) ≡ (b || (a || c))
-or-assoc true true c = refl
-or-assoc true false c = refl
-or-assoc false b c = refl
-
 pub or-false : (a : Bool) → (a || false) ≡ a
 or-false true = refl
 or-false false = refl

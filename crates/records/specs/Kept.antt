@@ -9,8 +9,8 @@ use lib.Dec.{eqb}
 use Rattle.octets.specs.Choice.{pick}
 use Rattle.octets.specs.Octets.{part, octetAt, zeros, allZero, sameOctets, slices}
 use Rattle.rules.specs.Model.{Settings, endpointId}
-use Rattle.rules.specs.Layout.{endpointWidth, families, viewTunnel, placeOctets, viewPlace, settingsOctets, pdrOctets, endpointOctets, csidOctets, sessionOctets, viewSettings, viewPdr, viewEndpoint, viewCsid, viewSession}
-use Rattle.rules.specs.Sound.{settingsAllowed, tunnelAllowed, placeAllowed, pdrAllowed, endpointAllowed, csidAllowed, sessionAllowed}
+use Rattle.rules.specs.Layout.{endpointWidth, families, viewTunnel, placeOctets, viewPlace, settingsOctets, pdrOctets, endpointOctets, csidOctets, viewSettings, viewPdr, viewEndpoint, viewCsid}
+use Rattle.rules.specs.Sound.{settingsAllowed, tunnelAllowed, placeAllowed, pdrAllowed, endpointAllowed, csidAllowed}
 
 unfoldable pub kept : {A : Type 0} → (A → Bool) → (A → List ℕ) → (List ℕ → A) → List ℕ → Bool
 kept allowed written read xs = allowed (read xs) && sameOctets (written (read xs)) xs
@@ -43,9 +43,6 @@ familiesTest f v6 = eqb f 1 || ((eqb f 2 || eqb f 3) && v6)
 -- what a PDR matches on, in octets: nothing, an F-TEID or an endpoint
 unfoldable pub placeSound : Settings → List ℕ → List ℕ → Bool
 placeSound s live xs = kept (placeAllowed s live) placeOctets viewPlace xs
-
-unfoldable pub sessionSound : Settings → List ℕ → Bool
-sessionSound s xs = kept (sessionAllowed s) sessionOctets viewSession xs
 
 -- the IDs of the first n endpoints in octets
 unfoldable pub endpointIds : ℕ → List ℕ → List ℕ

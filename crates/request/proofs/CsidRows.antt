@@ -13,7 +13,6 @@ use Rattle.octets.specs.Octets.{be, slices}
 use Rattle.octets.specs.Fields.{fit, fieldOctets}
 use Rattle.octets.proofs.Tests.{and-left, each}
 use Rattle.octets.proofs.Numbers.{number-be}
-use Rattle.rules.specs.Elements as rules
 use Rattle.rules.specs.Elements.{Refusal, refuse, value, Fqcsid, sets, removal, csidsAt, csidFields, readFqcsid}
 use Rattle.plan.specs.Rows.{rowAddress, rowCsid, isNullRow}
 use Rattle.element.specs.FqCsid.{addressWidths, csidWidths, csidNumbers, addressIn, fqcsidTests, fqcsidMeant, fqcsidOf}

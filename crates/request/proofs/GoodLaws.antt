@@ -13,7 +13,7 @@ use Rattle.octets.specs.Choice.{pick, orElse, mapOption}
 use Rattle.octets.specs.Lists.{member, allIn, findBy, keep}
 use Rattle.octets.proofs.Tests.{of-true}
 use Rattle.rules.specs.Elements as rules
-use Rattle.rules.specs.Elements.{Refusal, refuse, value, incorrect, tooShort, readFteid, readFqcsid}
+use Rattle.rules.specs.Elements.{Refusal, incorrect, tooShort, readFteid, readFqcsid}
 use Rattle.rules.specs.Message.{Element, Fault, fault, elements, hasType, there, contentIn, contentOf, actedOn, widthOf, answerFault, shortFault, plainFault, memberFault, membersFault, missingFault, required, requiredOf, placesOf, groupFault, createPdrMember, createEndpointMember, updatePdrMember, csidReadFault, isClearing, csidFault, actedFault, topFaultFrom}
 use Rattle.frame.proofs.Among.{OneOf}
 use Rattle.reading.specs.Members.{memberOf}
@@ -245,11 +245,6 @@ module _ (v : List ℕ) where
   far-of-create h is = long-enough 108 _ (member-read 1 v h 108 refl is)
 
 -- ---- an FQ-CSID without a fault
-
-pub no-refusal : {A : Type 0} (t : ℕ) (a : rules.Answer A) → answerFault t a ≡ none → a ≡ refuse tooShort → ⊥
-unfolding answerFault
-no-refusal t (refuse c) h e = let z : _≡_ {A = ℕ} 0 1 = cc in omega arith
-no-refusal t (value x) h e = let z : _≡_ {A = ℕ} 0 1 = cc in omega arith
 
 module _ (kind : ℕ) (es before : List Element) (v : List ℕ) (fine : csidFault kind es before v ≡ none) where
   -- it clears all, or it is a value with an allowed number of CSIDs

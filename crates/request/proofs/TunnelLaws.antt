@@ -1,6 +1,6 @@
 -- An F-TEID as the words of a row. Assumes nothing.
 use mathlib.Core.Path.{_≡_, refl, sym, ap, _∙_}
-use Prim.Native.Nat.{ℕ, _+_, _*_, _≤_, _<_}
+use Prim.Native.Nat.{ℕ, _+_, _*_, _≤_}
 use native.Mathlib.Omega.{arith}
 use mathlib.Core.Bool.{Bool, true, false, not, _&&_, _||_}
 use mathlib.Core.Option.{Option, none, some}
@@ -37,10 +37,6 @@ tunnel-in e es v h = ap (λ (xs : List ℕ). answerValue (readFteid e xs)) h ∙
 
 part-nil : (at n : ℕ) (xs : List ℕ) → at + n ≤ length xs → part at n xs ≡ [] → n ≡ 0
 part-nil at n xs h e = sym (length-part at n xs h) ∙ ap length e
-
-flag-zero : (b : Bool) (k : ℕ) → 0 < k → k * flag b ≡ 0 → b ≡ false
-flag-zero true k h e = absurd (omega arith)
-flag-zero false k h e = refl
 
 given-same : {t u : ℕ} {a b c d : List ℕ} → given t a b ≡ given u c d → (a ≡ c) × (b ≡ d)
 given-same h = (cc, cc)

@@ -171,8 +171,9 @@ restoredHoldings r = collect endpointRestored (r .endpoints) ++ collect pdrResto
 unfoldable pub clash : Sessions → Request → Bool
 clash m r = anyIn (map teidOf (restoredHoldings r)) (heldTeids m) || not (allPairs agree (restoredHoldings r))
 
-unfoldable pub brokenRules : Settings → Sessions → Session → Request → List Bool
-brokenRules s m x r =
+-- the rules of cause 73 in 01's order: those on the request and its session alone, and the one on what other sessions hold
+unfoldable pub requestRules : Settings → Session → Request → List Bool
+requestRules s x r =
     idTwice r
     ∷ createdLive x r
     ∷ absentId x r
@@ -183,8 +184,10 @@ brokenRules s m x r =
     ∷ not (allPairs choicesAgree (r .pdrs))
     ∷ any (lacksFamily s) (fteidsOf r)
     ∷ any (strange s) (fteidsOf r)
-    ∷ clash m r
     ∷ []
+
+unfoldable pub brokenRules : Settings → Sessions → Session → Request → List Bool
+brokenRules s m x r = requestRules s x r ++ (clash m r ∷ [])
 
 unfoldable pub breaksRule : Settings → Sessions → Session → Request → Bool
 breaksRule s m x r = oneOf (brokenRules s m x r)
@@ -250,5 +253,5 @@ unfoldable pub verdict : ℕ → Settings → Sessions → List ℕ → Verdict
 verdict limit s m msg = pick (unknownSession m msg) (plain 65) (fromFraming limit s m msg (frameFault msg))
 
 unfoldable pub computing : ℕ
-unfolding hasSeid sessionOf isLive newSession atEntry createdPdrs createdEndpoints updatedPdrs livePdrs liveEndpoints fteidsOf wrongAllocation invalidAllocation idTwice createdLive absentId updatesRemoved namesBoth endpointIdsAfter namesAbsent staysPdr endpointInUse sameChoice alikeFteids fteidsMayShare localsMayShare choicesAgree lacksFamily otherAddress strange restoredHolding endpointRestored pdrRestored restoredHoldings clash brokenRules breaksRule tooManySessions tooManyPdrs tooManyEndpoints tooFewTeids noRoom judge entrySession judged fromReading fromFraming unknownSession verdict
+unfolding hasSeid sessionOf isLive newSession atEntry createdPdrs createdEndpoints updatedPdrs livePdrs liveEndpoints fteidsOf wrongAllocation invalidAllocation idTwice createdLive absentId updatesRemoved namesBoth endpointIdsAfter namesAbsent staysPdr endpointInUse sameChoice alikeFteids fteidsMayShare localsMayShare choicesAgree lacksFamily otherAddress strange restoredHolding endpointRestored pdrRestored restoredHoldings clash requestRules brokenRules breaksRule tooManySessions tooManyPdrs tooManyEndpoints tooFewTeids noRoom judge entrySession judged fromReading fromFraming unknownSession verdict
 computing = 0

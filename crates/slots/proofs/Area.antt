@@ -12,7 +12,7 @@ use lib.Seq.{length-take-le, split-at, set-split, take-at, drop-at}
 use Rattle.octets.specs.Octets.{put, part, zeros, padded, concatMap, slices}
 use Rattle.octets.proofs.Put.{put-over, part-of}
 use Rattle.octets.proofs.Numbers.{length-zeros, length-padded}
-use Rattle.slots.specs.Records.{inserted, removed, replaced, keyOf}
+use Rattle.slots.specs.Records.{inserted, removed, replaced}
 use Rattle.slots.proofs.Rows.{rows}
 use Rattle.slots.proofs.Places.{insertAt, removeAt}
 
@@ -221,13 +221,6 @@ module _ {A : Type 0} (f : A → List ℕ) where
     pub held-slices : slices w (length rs) s ≡ map f rs
     unfolding padded
     held-slices = ap (slices w (length rs)) (held .octets) ∙ slices-of w rs (zeros (cap * w - length (concatMap f rs))) (held .wide)
-
-    pub held-keys : (k : ℕ) (key : A → ℕ) → ((r : A) → keyOf k (f r) ≡ key r) → map (keyOf k) (slices w (length rs) s) ≡ map key rs
-    held-keys k key same = ap (map (keyOf k)) held-slices ∙ over rs
-      where
-        over : (l : List A) → map (keyOf k) (map f l) ≡ map key l
-        over [] = refl
-        over (r ∷ l) = λ i. same r i ∷ over l i
 
     pub held-length : length s ≡ cap * w
     held-length =

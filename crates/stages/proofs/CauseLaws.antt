@@ -12,7 +12,7 @@ use Rattle.octets.proofs.Tests.{and-left, and-right, of-true}
 use Rattle.rules.specs.Model.{Settings, Session, Sessions, Holding, teidOf, heldTeids}
 use Rattle.rules.specs.Message.{Request}
 use Rattle.rules.specs.Sound.{inPool, agree}
-use Rattle.rules.specs.Stages.{endpointInUse, lacksFamily, strange, restoredHoldings, clash, brokenRules, breaksRule, livePdrs, liveEndpoints}
+use Rattle.rules.specs.Stages.{endpointInUse, lacksFamily, strange, restoredHoldings, clash, requestRules, brokenRules, breaksRule, livePdrs, liveEndpoints}
 use Rattle.plan.specs.Rows.{word, requestIn}
 use Rattle.pool.specs.Map.{marked}
 use Rattle.rows.specs.RowRules.{ofFteid, rowHolding, restores, heldIn, sameId, otherChoice, otherHold, disagree}
@@ -20,7 +20,7 @@ use Rattle.rows.proofs.ListLaws.{onSome, any-ext, any-or, any-map, any-in, anyP
 use Rattle.rows.proofs.RequestLaws.{any-fteids}
 use Rattle.rows.proofs.TunnelLaws.{held-none, held-some, strange-some}
 use Rattle.stages.specs.RowRules.{createsLive, namesDead, updatesGone, pdiNamesBoth, pdiNamesAbsent, breaksId, breaksFteid, breaksRow, someRow}
-use Rattle.stages.specs.Rules.{clashBy, otherRules, breaksRuleBy}
+use Rattle.stages.specs.Rules.{clashBy, breaksRuleBy}
 use Rattle.stages.proofs.SlotLaws.{use-pdrs}
 use Rattle.stages.proofs.RuleLaws.{any-ones, pair-ones, twice-rows, created-rows, dead-rows, updates-rows, both-rows, absent-rows, choices-rows, held-rows, shared-rows}
 
@@ -95,7 +95,7 @@ module _ (held : ℕ → Bool) (s : Settings) (x : Session) (seid : ℕ) (restor
   -- cause 73 by the rows
   pub breaks-rows : breaksRuleBy held s x (requestIn seid restoring noted rows)
       ≡ (someRow (breaksRow held s (livePdrs x) (liveEndpoints x) rows) rows || endpointInUse x (requestIn seid restoring noted rows))
-  unfolding breaksRuleBy otherRules
+  unfolding breaksRuleBy requestRules
   breaks-rows =
       rw (twice-rows x seid restoring noted rows, created-rows x seid restoring noted rows, dead-rows x seid restoring noted rows, updates-rows x seid restoring noted rows, both-rows x seid restoring noted rows, absent-rows x seid restoring noted rows, choices-rows x seid restoring noted rows, any-fteids (lacksFamily s) seid restoring noted rows, any-fteids (strange s) seid restoring noted rows, clash-rows, rows-is, ids-rows, fteid-rows, pair-rows)
       (shuffle (anyPair sameId rows) (any (createsLive (livePdrs x) (liveEndpoints x)) rows) (any (namesDead (livePdrs x) (liveEndpoints x)) rows) (any (updatesGone rows) rows) (any pdiNamesBoth rows)
@@ -110,10 +110,10 @@ snoc-one (b ∷ bs) c = ap (λ (d : Bool). b || d) (snoc-one bs c) ∙ sym (or-a
 
 -- the rule as 01 has it: a test of the TEIDs in the records
 rule-by : (s : Settings) (m : Sessions) (x : Session) (r : Request) → breaksRule s m x r ≡ breaksRuleBy (λ t. member t (heldTeids m)) s x r
-unfolding breaksRule brokenRules breaksRuleBy otherRules clash clashBy
+unfolding breaksRule brokenRules breaksRuleBy requestRules clash clashBy
 rule-by s m x r =
-    snoc-one (otherRules s x r) (clash m r)
-    ∙ ap (λ (b : Bool). oneOf (otherRules s x r) || (b || not (allPairs agree (restoredHoldings r))))
+    snoc-one (requestRules s x r) (clash m r)
+    ∙ ap (λ (b : Bool). oneOf (requestRules s x r) || (b || not (allPairs agree (restoredHoldings r))))
     (any-in (map teidOf (restoredHoldings r)) (heldTeids m) ∙ any-map (λ t. member t (heldTeids m)) teidOf (restoredHoldings r))
 
 module _ (held other : ℕ → Bool) (s : Settings) (alike : (t : ℕ) → inPool s t ≡ true → held t ≡ other t) where

@@ -2,7 +2,7 @@
 use Prim.Native.Nat.{ℕ, _+_, _*_, _≤_, _<_}
 use mathlib.Core.Path.{_≡_}
 use mathlib.Core.Bool.{Bool, not, _||_}
-use mathlib.Core.List.{List, [], _∷_}
+use mathlib.Core.List.{List}
 use lib.ListN.{length, getD}
 use Rattle.octets.specs.Choice.{oneOf}
 use Rattle.octets.specs.Lists.{member, any, allPairs}
@@ -13,29 +13,14 @@ use Rattle.plan.specs.Rows.{rowWidth}
 use Rattle.pool.specs.Map.{marked}
 use Rattle.rules.specs.Message.{Request}
 use Rattle.rules.specs.Sound.{agree}
-use Rattle.rules.specs.Stages.{isLive, idTwice, createdLive, absentId, updatesRemoved, namesBoth, namesAbsent, endpointInUse, choicesAgree, lacksFamily, strange, fteidsOf, restoredHoldings}
+use Rattle.rules.specs.Stages.{isLive, requestRules, restoredHoldings}
 
 -- a restored TEID that is held, or shared against the table's rule
 unfoldable pub clashBy : (ℕ → Bool) → Request → Bool
 clashBy held r = any (λ h. held (teidOf h)) (restoredHoldings r) || not (allPairs agree (restoredHoldings r))
 
--- the rules but the last, in 01's order
-unfoldable pub otherRules : Settings → Session → Request → List Bool
-otherRules s x r =
-    idTwice r
-    ∷ createdLive x r
-    ∷ absentId x r
-    ∷ updatesRemoved r
-    ∷ any namesBoth (r .pdrs)
-    ∷ namesAbsent x r
-    ∷ endpointInUse x r
-    ∷ not (allPairs choicesAgree (r .pdrs))
-    ∷ any (lacksFamily s) (fteidsOf r)
-    ∷ any (strange s) (fteidsOf r)
-    ∷ []
-
 unfoldable pub breaksRuleBy : (ℕ → Bool) → Settings → Session → Request → Bool
-breaksRuleBy held s x r = oneOf (otherRules s x r) || clashBy held r
+breaksRuleBy held s x r = oneOf (requestRules s x r) || clashBy held r
 
 -- the octets of a session's slot: as many as the layout has, and counts of records within the limits
 pub record Slot (slot : List ℕ) : Type 0 where

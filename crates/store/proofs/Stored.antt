@@ -19,7 +19,8 @@ use Rattle.rules.specs.Layout.{area, sessionWidth, sessionOctets, settingsOctet
 use Rattle.rules.specs.Sound.{settingsAllowed, sessionAllowed, sessionsTests, sessionsAllowed}
 use Rattle.rules.specs.Stages.{hasSeid, sessionOf, newSession}
 use Rattle.rules.specs.Apply.{otherSession, removeSession, putSession}
-use Rattle.laws.proofs.LayoutLaws.{length-settings, length-session, seidFits}
+use Rattle.laws.proofs.LayoutLaws.{length-session, seidFits}
+use Rattle.laws.proofs.TableLaws.{length-settings}
 use Rattle.slots.specs.Records.{keyOf}
 use Rattle.slots.specs.declared.Place.the-variants.{Found, Absent}
 use Rattle.slots.proofs.Places.{otherThan, found-within, found-record, absent-record}

@@ -9,7 +9,7 @@ use Rattle.octets.proofs.Numbers.{same-eq}
 use Rattle.rules.specs.Model.{Settings, Sessions}
 use Rattle.rules.specs.Layout.{encode, viewSettings, viewSessions}
 use Rattle.rules.specs.Sound.{settingsAllowed, sessionsAllowed, soundTests, sound}
-use Rattle.laws.proofs.LayoutLaws.{encoded-settings, sessions-back, sound-encode}
+use Rattle.laws.proofs.TableLaws.{encoded-settings, sessions-back, sound-encode}
 
 -- octets that encode settings and sessions that keep the rules
 pub record Encoded (limit : ℕ) (t : List ℕ) (s : Settings) (m : Sessions) : Type 0 where

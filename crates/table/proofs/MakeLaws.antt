@@ -18,7 +18,7 @@ use Rattle.rules.specs.Limits.{maxSessions}
 use Rattle.rules.specs.Model.{Settings}
 use Rattle.rules.specs.Layout.{headWidth, sessionWidth, tableLength, area, settingsOctets, encode}
 use Rattle.rules.specs.Sound.{poolTests, ipv6Allowed, settingsTests, settingsAllowed, make}
-use Rattle.laws.proofs.LayoutLaws.{ipv6-short}
+use Rattle.laws.proofs.TableLaws.{ipv6-short}
 use Rattle.records.proofs.Cells.{and-true, and-false}
 use Rattle.table.specs.declared.Making.the-variants.{Made, Refused}
 use Rattle.table.specs.Answers.{settingsOf, madeOf}

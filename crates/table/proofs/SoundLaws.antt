@@ -21,7 +21,8 @@ use Rattle.rules.specs.Limits.{maxSessions, mapWords}
 use Rattle.rules.specs.Model.{Settings, Session, seidOf}
 use Rattle.rules.specs.Layout.{headWidth, sessionWidth, tableLength, area, sessionOctets, settingsOctets, encode, viewArea, viewSession, viewSettings, viewSessions}
 use Rattle.rules.specs.Sound.{settingsAllowed, sessionAllowed, apart, sessionsTests, sessionsAllowed, soundTests, sound}
-use Rattle.laws.proofs.LayoutLaws.{length-session, length-settings}
+use Rattle.laws.proofs.LayoutLaws.{length-session}
+use Rattle.laws.proofs.TableLaws.{length-settings}
 use Rattle.pool.proofs.TakenLaws.{pool-fits}
 use Rattle.slots.specs.Records.{keyOf}
 use Rattle.slots.proofs.Lookup.{length-slices}

@@ -2,10 +2,6 @@ use borrow.Author.Needs.{needs}
 use Rattle.areas.proofs.Steps.{cleared-in}
 use Rattle.areas.proofs.clear.Statement.{statement}
 use Rattle.areas.proofs.clear.Tie as tie
-use Rattle.areas.proofs.clear.Reads as reads
-use Rattle.areas.proofs.clear.Lts as lts
-use Rattle.octets.proofs.clear.Reads as clear-reads
-use Rattle.octets.proofs.write.Reads as write-reads
 
 -- src/lib.rt:77:28
 -- src/lib.rt:77:5

@@ -3,9 +3,6 @@ use Rattle.octets.specs.Octets.{numberAt}
 use Rattle.areas.specs.Counted.{countIn}
 use Rattle.areas.proofs.count.Statement.{statement}
 use Rattle.areas.proofs.count.Tie as tie
-use Rattle.areas.proofs.count.Reads as reads
-use Rattle.areas.proofs.count.Lts as lts
-use Rattle.octets.proofs.read.Reads as read-reads
 
 -- src/lib.rt:25:5
 -- src/lib.rt:21:1

@@ -3,10 +3,6 @@ use Rattle.areas.proofs.Steps.{found-room, take-none, take-out}
 use mathlib.Core.Path.{sym, _∙_}
 use Rattle.areas.proofs.drop_record.Statement.{statement}
 use Rattle.areas.proofs.drop_record.Tie as tie
-use Rattle.areas.proofs.drop_record.Reads as reads
-use Rattle.areas.proofs.drop_record.Lts as lts
-use Rattle.areas.proofs.find.Reads as find-reads
-use Rattle.areas.proofs.remove.Reads as remove-reads
 
 -- src/lib.rt:103:9
 -- src/lib.rt:104:22

@@ -2,10 +2,6 @@ use borrow.Author.Needs.{needs}
 use Rattle.areas.proofs.Steps.{room-from, place-none, place-found}
 use Rattle.areas.proofs.find.Statement.{statement}
 use Rattle.areas.proofs.find.Tie as tie
-use Rattle.areas.proofs.find.Reads as reads
-use Rattle.areas.proofs.find.Lts as lts
-use Rattle.areas.proofs.count.Reads as count-reads
-use Rattle.slots.proofs.find.Reads as find-reads
 
 -- src/lib.rt:33:9
 -- src/lib.rt:35:9

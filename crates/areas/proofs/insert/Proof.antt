@@ -2,11 +2,6 @@ use borrow.Author.Needs.{needs}
 use Rattle.areas.proofs.Steps.{after-counted, inserted-in}
 use Rattle.areas.proofs.insert.Statement.{statement}
 use Rattle.areas.proofs.insert.Tie as tie
-use Rattle.areas.proofs.insert.Reads as reads
-use Rattle.areas.proofs.insert.Lts as lts
-use Rattle.areas.proofs.count.Reads as count-reads
-use Rattle.octets.proofs.write.Reads as write-reads
-use Rattle.slots.proofs.insert.Reads as insert-reads
 
 -- src/lib.rt:46:9
 -- src/lib.rt:48:19

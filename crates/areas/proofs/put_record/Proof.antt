@@ -4,13 +4,6 @@ use mathlib.Core.Path.{sym, _∙_}
 use native.Mathlib.Omega.{arith}
 use Rattle.areas.proofs.put_record.Statement.{statement}
 use Rattle.areas.proofs.put_record.Tie as tie
-use Rattle.areas.proofs.put_record.Reads as reads
-use Rattle.areas.proofs.put_record.Lts as lts
-use Rattle.areas.proofs.count.Reads as count-reads
-use Rattle.areas.proofs.find.Reads as find-reads
-use Rattle.areas.proofs.insert.Reads as insert-reads
-use Rattle.areas.proofs.replace.Reads as replace-reads
-use Rattle.octets.proofs.read.Reads as read-reads
 
 -- src/lib.rt:86:9
 -- src/lib.rt:87:9

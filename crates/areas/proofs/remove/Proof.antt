@@ -2,11 +2,6 @@ use borrow.Author.Needs.{needs}
 use Rattle.areas.proofs.Steps.{room-counted, removed-in}
 use Rattle.areas.proofs.remove.Statement.{statement}
 use Rattle.areas.proofs.remove.Tie as tie
-use Rattle.areas.proofs.remove.Reads as reads
-use Rattle.areas.proofs.remove.Lts as lts
-use Rattle.areas.proofs.count.Reads as count-reads
-use Rattle.octets.proofs.write.Reads as write-reads
-use Rattle.slots.proofs.remove.Reads as remove-reads
 
 -- src/lib.rt:57:9
 -- src/lib.rt:59:19

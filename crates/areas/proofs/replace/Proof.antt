@@ -2,9 +2,6 @@ use borrow.Author.Needs.{needs}
 use Rattle.areas.proofs.Steps.{room-after, replaced-in}
 use Rattle.areas.proofs.replace.Statement.{statement}
 use Rattle.areas.proofs.replace.Tie as tie
-use Rattle.areas.proofs.replace.Reads as reads
-use Rattle.areas.proofs.replace.Lts as lts
-use Rattle.slots.proofs.replace.Reads as replace-reads
 
 -- src/lib.rt:69:20
 -- src/lib.rt:69:20

@@ -4,9 +4,6 @@ use Rattle.pfcp_session.proofs.CallLaws.{call-request}
 use borrow.Author.Needs.{needs}
 use Rattle.pfcp_session.proofs.pfcp_request.Statement.{statement}
 use Rattle.pfcp_session.proofs.pfcp_request.Tie as tie
-use Rattle.pfcp_session.proofs.pfcp_request.Reads as reads
-use Rattle.pfcp_session.proofs.pfcp_request.Lts as lts
-use Rattle.engine.proofs.serve.Reads as serve-reads
 
 returns : tie.Need-returns
 returns c = call-request (c .before .before .before .before .serve .ensures)

@@ -4,16 +4,6 @@ use Rattle.session.proofs.Steps.{pdrs-fit, endpoints-fit, pdr-wide, end
 use borrow.Author.Needs.{needs}
 use Rattle.session.proofs.apply_row.Statement.{statement}
 use Rattle.session.proofs.apply_row.Tie as tie
-use Rattle.session.proofs.apply_row.Reads as reads
-use Rattle.session.proofs.apply_row.Lts as lts
-use Rattle.areas.proofs.drop_record.Reads as drop-record-reads
-use Rattle.areas.proofs.put_record.Reads as put-record-reads
-use Rattle.session.proofs.follow_csid.Reads as follow-csid-reads
-use Rattle.session.proofs.layout.endpoints.Reads as endpoints-reads
-use Rattle.session.proofs.layout.pdrs.Reads as pdrs-reads
-use Rattle.session.proofs.record.endpoint.Reads as endpoint-reads
-use Rattle.session.proofs.record.pdr.Reads as pdr-reads
-use Rattle.session.proofs.update_pdr.Reads as update-pdr-reads
 
 -- src/lib.rt:66:16
 -- src/lib.rt:68:40

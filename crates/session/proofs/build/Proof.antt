@@ -2,9 +2,6 @@ use Rattle.session.proofs.Steps.{built-in-turn}
 use borrow.Author.Needs.{needs}
 use Rattle.session.proofs.build.Statement.{statement}
 use Rattle.session.proofs.build.Tie as tie
-use Rattle.session.proofs.build.Reads as reads
-use Rattle.session.proofs.build.Lts as lts
-use Rattle.session.proofs.pass.Reads as pass-reads
 
 -- src/lib.rt:106:5
 -- src/lib.rt:107:5

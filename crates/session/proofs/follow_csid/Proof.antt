@@ -4,13 +4,6 @@ use Rattle.session.proofs.Steps.{csids-fit, csid-set, csid-removed, csi
 use borrow.Author.Needs.{needs}
 use Rattle.session.proofs.follow_csid.Statement.{statement}
 use Rattle.session.proofs.follow_csid.Tie as tie
-use Rattle.session.proofs.follow_csid.Reads as reads
-use Rattle.session.proofs.follow_csid.Lts as lts
-use Rattle.areas.proofs.clear.Reads as clear-reads
-use Rattle.areas.proofs.drop_record.Reads as drop-record-reads
-use Rattle.areas.proofs.put_record.Reads as put-record-reads
-use Rattle.session.proofs.layout.csids.Reads as csids-reads
-use Rattle.session.proofs.record.csid.Reads as csid-reads
 
 -- src/lib.rt:45:16
 -- src/lib.rt:46:9

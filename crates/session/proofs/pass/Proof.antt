@@ -4,9 +4,6 @@ use native.Mathlib.Omega.{arith}
 use Rattle.session.proofs.Steps.{Passing, passing-none, passing-hit, passing-miss, passing-all}
 use Rattle.session.proofs.pass.Statement.{statement}
 use Rattle.session.proofs.pass.Tie as tie
-use Rattle.session.proofs.pass.Reads as reads
-use Rattle.session.proofs.pass.Lts as lts
-use Rattle.session.proofs.apply_row.Reads as apply-row-reads
 
 abbrev Inv-loop : tie.InvT-loop
 Inv-loop slot₀ plan n kind i₀ slot i = Passing kind n plan slot₀ slot i

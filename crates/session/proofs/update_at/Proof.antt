@@ -4,13 +4,6 @@ use Rattle.session.proofs.Steps.{pdrs-fit, updated-at, pdr-wide, pdr-ro
 use borrow.Author.Needs.{needs}
 use Rattle.session.proofs.update_at.Statement.{statement}
 use Rattle.session.proofs.update_at.Tie as tie
-use Rattle.session.proofs.update_at.Reads as reads
-use Rattle.session.proofs.update_at.Lts as lts
-use Rattle.areas.proofs.replace.Reads as replace-reads
-use Rattle.octets.proofs.copy.Reads as copy-reads
-use Rattle.session.proofs.layout.pdrs.Reads as pdrs-reads
-use Rattle.session.proofs.record.set_far.Reads as set-far-reads
-use Rattle.session.proofs.record.set_precedence.Reads as set-precedence-reads
 
 -- src/lib.rt:19:19
 -- src/lib.rt:19:14

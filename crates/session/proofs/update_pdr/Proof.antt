@@ -2,11 +2,6 @@ use Rattle.session.proofs.Steps.{pdrs-fit, update-none, update-place, u
 use borrow.Author.Needs.{needs}
 use Rattle.session.proofs.update_pdr.Statement.{statement}
 use Rattle.session.proofs.update_pdr.Tie as tie
-use Rattle.session.proofs.update_pdr.Reads as reads
-use Rattle.session.proofs.update_pdr.Lts as lts
-use Rattle.areas.proofs.find.Reads as find-reads
-use Rattle.session.proofs.layout.pdrs.Reads as pdrs-reads
-use Rattle.session.proofs.update_at.Reads as update-at-reads
 
 -- src/lib.rt:33:35
 -- src/lib.rt:33:51

@@ -10,9 +10,6 @@ use Rattle.slots.proofs.Lookup.{keys, length-keys}
 use Rattle.sessions.proofs.Turns.{Rising, rising-first, rising-more, rising-not, rising-end, ascends-none, key-read}
 use Rattle.sessions.proofs.ascends.Statement.{statement}
 use Rattle.sessions.proofs.ascends.Tie as tie
-use Rattle.sessions.proofs.ascends.Reads as reads
-use Rattle.sessions.proofs.ascends.Lts as lts
-use Rattle.octets.proofs.read.Reads as read-reads
 
 abbrev Inv-loop : tie.InvT-loop
 Inv-loop a w k n i₀ last₀ i last = Rising (keys w k n a) n i last

@@ -2,10 +2,6 @@ use Rattle.store.proofs.Steps.{fresh-made}
 use borrow.Author.Needs.{needs}
 use Rattle.store.proofs.fresh.Statement.{statement}
 use Rattle.store.proofs.fresh.Tie as tie
-use Rattle.store.proofs.fresh.Reads as reads
-use Rattle.store.proofs.fresh.Lts as lts
-use Rattle.octets.proofs.clear.Reads as clear-reads
-use Rattle.octets.proofs.write.Reads as write-reads
 
 -- src/lib.rt:33:5
 -- src/lib.rt:34:5

@@ -3,9 +3,6 @@ use Rattle.store.proofs.Steps.{loaded}
 use borrow.Author.Needs.{needs}
 use Rattle.store.proofs.load.Statement.{statement}
 use Rattle.store.proofs.load.Tie as tie
-use Rattle.store.proofs.load.Reads as reads
-use Rattle.store.proofs.load.Lts as lts
-use Rattle.octets.proofs.copy.Reads as copy-reads
 
 -- src/lib.rt:23:19
 -- src/lib.rt:23:14

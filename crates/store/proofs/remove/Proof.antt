@@ -2,10 +2,6 @@ use Rattle.store.proofs.Steps.{sessions-fit, removed-there}
 use borrow.Author.Needs.{needs}
 use Rattle.store.proofs.remove.Statement.{statement}
 use Rattle.store.proofs.remove.Tie as tie
-use Rattle.store.proofs.remove.Reads as reads
-use Rattle.store.proofs.remove.Lts as lts
-use Rattle.areas.proofs.drop_record.Reads as drop-record-reads
-use Rattle.session.proofs.layout.sessions.Reads as sessions-reads
 
 -- src/lib.rt:50:27
 -- src/lib.rt:50:5

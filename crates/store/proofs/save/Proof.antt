@@ -2,10 +2,6 @@ use Rattle.store.proofs.Steps.{sessions-fit, session-wide, saved-there}
 use borrow.Author.Needs.{needs}
 use Rattle.store.proofs.save.Statement.{statement}
 use Rattle.store.proofs.save.Tie as tie
-use Rattle.store.proofs.save.Reads as reads
-use Rattle.store.proofs.save.Lts as lts
-use Rattle.areas.proofs.put_record.Reads as put-record-reads
-use Rattle.session.proofs.layout.sessions.Reads as sessions-reads
 
 -- src/lib.rt:42:26
 -- src/lib.rt:42:5

@@ -4,7 +4,7 @@ use mathlib.Core.Path.{_≡_, ap, _∙_}
 use native.Mathlib.Omega.{arith}
 use lib.ListN.{length}
 use Rattle.octets.proofs.Numbers.{length-zeros}
-use Rattle.laws.proofs.LayoutLaws.{ipv6-short}
+use Rattle.laws.proofs.TableLaws.{ipv6-short}
 use Rattle.table.proofs.MakeLaws.{settings-steps}
 use borrow.Author.Needs.{needs}
 use Rattle.table.proofs.write_settings.Statement.{statement}

@@ -1,12 +1,12 @@
 -- `element::fqcsid::is_allowed` meets its contract: at each return the tests that led there say whether the value is allowed.
 -- Assumes nothing.
 use mathlib.Core.Bool.{false≢true}
-use mathlib.Core.Path.{sym, ap, _∙_}
+use mathlib.Core.Path.{sym, _∙_}
 use native.Mathlib.Omega.{arith}
 use borrow.Author.Needs.{needs}
 use borrow.Author.Tests.{not-true, not-false}
 use Rattle.octets.specs.Fields.{fit}
-use Rattle.element.proofs.FqCsidLaws.{fqcsidNumbers, not-right, right-where}
+use Rattle.element.proofs.FqCsidWriting.{not-right, right-where}
 use Rattle.element.proofs.fqcsid.is_allowed.Statement.{statement}
 use Rattle.element.proofs.fqcsid.is_allowed.Tie as tie
 
@@ -25,11 +25,11 @@ returns-3 c =
 
 returns-4 : tie.Need-returns-4
 returns-4 c =
-    let w = c .before .before .before in
+    let n = c .before .before .before in
+    let w = n .before in
     let k = w .before .before in
     let v = k .before .before .before .args .v in
-    c .fit-fields .ensures
-    ∙ ap (λ l. fit l (fqcsidNumbers v)) (w .widths-of .ensures)
+    c .fit-fields .ensures ∙ (λ i. fit (w .widths-of .ensures i) (n .numbers-of .ensures i))
     ∙ right-where v (omega arith) (omega arith) (sym (k .keeps-rules .ensures) ∙ not-false (k .keeps-rules .result) (w .before .if3 .left))
 
 pub is-allowed-spec : {M : Type 1} → statement M
@@ -41,8 +41,7 @@ is-allowed-spec =
     (λ c κs. search needs)
     returns-3
     (λ c κs. search needs)
-    (λ c. search needs)
-    (λ c. search needs)
+    (λ c κs. search needs)
     (λ c. search needs)
     (λ c. search needs)
     (λ c κs. search needs)

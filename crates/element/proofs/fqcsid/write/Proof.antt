@@ -1,11 +1,16 @@
 -- `element::fqcsid::write` meets its contract: at each return the tests that led there say what the rules leave.
 -- Assumes nothing.
-use mathlib.Core.Path.{sym, _∙_}
+use mathlib.Core.List.{List}
+use mathlib.Core.Path.{sym, ap, _∙_}
+use Prim.Native.Nat.{ℕ}
 use native.Mathlib.Omega.{arith}
 use borrow.Author.Needs.{needs}
 use borrow.Author.Tests.{not-true, not-false}
+use Rattle.octets.specs.Octets.{put}
+use Rattle.octets.specs.Fields.{fieldOctets}
 use Rattle.octets.proofs.Tests.{of-true}
-use Rattle.element.proofs.FqCsidLaws.{narrow-widths, right, write-refused, write-no-room, write-done}
+use Rattle.element.proofs.FqCsidLaws.{narrow-widths}
+use Rattle.element.proofs.FqCsidWriting.{right, write-refused, write-no-room, write-done}
 use Rattle.element.proofs.fqcsid.write.Statement.{statement}
 use Rattle.element.proofs.fqcsid.write.Tie as tie
 
@@ -29,29 +34,24 @@ returns-2 c =
     let a = w .before .before .before .before .args in
     write-no-room (a .v) (a .out .now) (w .widths-of .result) (w .widths-of .ensures) (omega arith)
 
-mul-t14 : tie.Need-mul-t14
-mul-t14 c =
-    let i = c .before .before .before .before in
-    let b = i .before in
-    omega (arith, right (b .before .before .args .v) (of-true (sym (b .is-allowed .ensures) ∙ not-false (b .is-allowed .result) (i .if1 .left))) .kind)
-
-add-t15 : tie.Need-add-t15
-add-t15 c =
+numbers-of-requires : tie.Need-numbers-of-requires
+numbers-of-requires c κs =
     let i = c .before .before .before .before in
     let b = i .before in
     let r = right (b .before .before .args .v) (of-true (sym (b .is-allowed .ensures) ∙ not-false (b .is-allowed .result) (i .if1 .left))) in
-    omega (arith, r .kind, r .few)
+    (omega (arith, r .kind), omega (arith, r .few))
 
 returns-3 : tie.Need-returns-3
 returns-3 c =
-    let i = c .before .before .before .before .before .before in
+    let n = c .before .before .before .before .before .before in
+    let i = n .before in
     let w = i .before .before .before in
     let b = w .before .before in
     let a = b .before .before .args in
     rw (i .before .width .ensures)
     (write-done (a .v) (a .out .now) (w .widths-of .result) (w .widths-of .ensures) (c .before .before .write-fields .last .0)
     (sym (b .is-allowed .ensures) ∙ not-false (b .is-allowed .result) (w .before .if1 .left)) (omega (arith, i .if2 .left, i .before .width .ensures))
-    (c .before .before .write-fields .ensures))
+    (c .before .before .write-fields .ensures ∙ ap (λ (l : List ℕ). put 0 (fieldOctets (w .widths-of .result) l) (a .out .now)) (n .numbers-of .ensures)))
 
 pub write-spec : {M : Type 1} → statement M
 write-spec =
@@ -63,8 +63,7 @@ write-spec =
     (λ c. search needs)
     width-requires
     returns-2
-    mul-t14
-    add-t15
+    numbers-of-requires
     (λ c. search needs)
     (λ c. search needs)
     (λ c κs. search needs)

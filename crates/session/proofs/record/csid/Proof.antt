@@ -5,9 +5,6 @@ use Rattle.session.proofs.Steps.{csid-long, csid-short}
 use borrow.Author.Needs.{needs}
 use Rattle.session.proofs.record.csid.Statement.{statement}
 use Rattle.session.proofs.record.csid.Tie as tie
-use Rattle.session.proofs.record.csid.Reads as reads
-use Rattle.session.proofs.record.csid.Lts as lts
-use Rattle.octets.proofs.fields.write_fields.Reads as write-fields-reads
 
 -- src/record.rt:69:8
 -- src/record.rt:71:19

@@ -5,9 +5,6 @@ use Rattle.session.proofs.Steps.{endpoint-written}
 use borrow.Author.Needs.{needs}
 use Rattle.session.proofs.record.endpoint.Statement.{statement}
 use Rattle.session.proofs.record.endpoint.Tie as tie
-use Rattle.session.proofs.record.endpoint.Reads as reads
-use Rattle.session.proofs.record.endpoint.Lts as lts
-use Rattle.octets.proofs.fields.write_fields.Reads as write-fields-reads
 
 -- src/record.rt:57:15
 -- src/record.rt:57:24

@@ -2,8 +2,6 @@ use Rattle.session.specs.Records.{ifIs}
 use borrow.Author.Tests.{eq-eqb, ne-eqb}
 use Rattle.session.proofs.record.if_is.Statement.{statement}
 use Rattle.session.proofs.record.if_is.Tie as tie
-use Rattle.session.proofs.record.if_is.Reads as reads
-use Rattle.session.proofs.record.if_is.Lts as lts
 
 -- src/record.rt:11:9
 returns : tie.Need-returns

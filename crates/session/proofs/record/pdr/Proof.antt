@@ -5,11 +5,6 @@ use Rattle.session.proofs.Steps.{pdr-written}
 use borrow.Author.Needs.{needs}
 use Rattle.session.proofs.record.pdr.Statement.{statement}
 use Rattle.session.proofs.record.pdr.Tie as tie
-use Rattle.session.proofs.record.pdr.Reads as reads
-use Rattle.session.proofs.record.pdr.Lts as lts
-use Rattle.octets.proofs.fields.write_fields.Reads as write-fields-reads
-use Rattle.session.proofs.record.if_is.Reads as if-is-reads
-use Rattle.session.proofs.record.place_kind.Reads as place-kind-reads
 
 -- src/record.rt:34:9
 -- src/record.rt:37:9

@@ -3,8 +3,6 @@ use borrow.Author.Tests.{eq-eqb, ne-eqb}
 use borrow.Author.Needs.{needs}
 use Rattle.session.proofs.record.place_kind.Statement.{statement}
 use Rattle.session.proofs.record.place_kind.Tie as tie
-use Rattle.session.proofs.record.place_kind.Reads as reads
-use Rattle.session.proofs.record.place_kind.Lts as lts
 
 -- src/record.rt:21:8
 -- src/record.rt:22:12

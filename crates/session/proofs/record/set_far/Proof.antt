@@ -2,10 +2,6 @@ use Rattle.session.proofs.Steps.{far-set, far-gone, far-kept}
 use borrow.Author.Needs.{needs}
 use Rattle.session.proofs.record.set_far.Statement.{statement}
 use Rattle.session.proofs.record.set_far.Tie as tie
-use Rattle.session.proofs.record.set_far.Reads as reads
-use Rattle.session.proofs.record.set_far.Lts as lts
-use Rattle.octets.proofs.clear.Reads as clear-reads
-use Rattle.octets.proofs.write.Reads as write-reads
 
 -- src/record.rt:96:15
 -- src/record.rt:98:9

@@ -2,9 +2,6 @@ use Rattle.session.proofs.Steps.{precedence-set, precedence-kept}
 use borrow.Author.Needs.{needs}
 use Rattle.session.proofs.record.set_precedence.Statement.{statement}
 use Rattle.session.proofs.record.set_precedence.Tie as tie
-use Rattle.session.proofs.record.set_precedence.Reads as reads
-use Rattle.session.proofs.record.set_precedence.Lts as lts
-use Rattle.octets.proofs.write.Reads as write-reads
 
 -- src/record.rt:86:8
 -- src/record.rt:87:34
