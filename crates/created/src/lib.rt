@@ -30,9 +30,6 @@ const PDR: u64 = 1;
 
 const ENDPOINT: u64 = 127;
 
-// Words in a plan's row.
-const ROW: usize = 18;
-
 // A group: the ID in an element of its own, then the F-TEID with the unit's addresses.
 fn write_group(
     t: &[u8],
@@ -88,7 +85,7 @@ fn entry_at(plan: &[u64], places: &[usize], i: usize) -> Grant
     ensures { λ r. ⌜ r ≡ entryAt (now (plan .entry)) (now (places .entry)) i ⌝ }
 {
     let p = places[i];
-    let row = &plan[p..p + ROW];
+    let row = &plan[p..p + format::ROW];
     Grant {
         kind: row[0],
         id: row_id(row),
@@ -134,7 +131,7 @@ pub fn write_created(t: &[u8], plan: &[u64], places: &[usize], out: &mut [u8], a
         id: 0,
         teid: 0,
         families: 0,
-    }; 24];
+    }; format::GRANTS];
     fill(&mut grants, plan, places, n);
     let next = write_groups(t, &grants, n, PDR, out, at);
     write_groups(t, &grants, n, ENDPOINT, out, next)

@@ -1,7 +1,7 @@
 -- The elements of octets by the one at the front, and lists of elements by their first one. Assumes nothing.
 use mathlib.Core.Path.{_≡_, refl, sym, ap, _∙_}
-use Prim.Native.Nat.{ℕ, zero, suc, _+_, _-_, _≤_, _<_}
-use native.Mathlib.Nat.{le-refl, le-trans, le-of-eq, not-suc-le-zero}
+use Prim.Native.Nat.{ℕ, suc, _+_, _-_, _≤_, _<_}
+use native.Mathlib.Nat.{le-refl}
 use native.Mathlib.Omega.{arith}
 use mathlib.Core.Bool.{Bool, true, false, not, _||_}
 use mathlib.Core.List.{List, [], _∷_}
@@ -13,6 +13,7 @@ use Rattle.octets.specs.Choice.{pick, valueOr}
 use Rattle.octets.specs.Octets.{part, number, numberAt}
 use Rattle.octets.specs.Lists.{keep, any, findBy}
 use Rattle.rules.specs.Message.{Element, elementType, elementLength, elementsUpTo, elements, hasType, there, contentOf}
+use Rattle.laws.proofs.MessageLaws.{shorter, elements-enough}
 use Rattle.frame.proofs.Walk.{part-from}
 use Rattle.elements.specs.FirstOf.{firstOf}
 use Rattle.elements.specs.declared.First.the-variants as first
@@ -20,28 +21,12 @@ use Rattle.elements.specs.declared.First.the-variants as first
 abbrev pub el : ℕ → List ℕ → Element
 el t v = record { type = t; content = v }
 
--- ---- any count that is large enough gives the same
-
-shorter : (e n : ℕ) (xs : List ℕ) → length xs ≤ suc n → length (drop (4 + e) xs) ≤ n
-shorter e n xs h = le-trans (le-of-eq (length-drop (4 + e) xs)) (omega arith)
-
-enough : (n k : ℕ) (xs : List ℕ) → length xs ≤ n → length xs ≤ k → elementsUpTo n xs ≡ elementsUpTo k xs
-unfolding elementsUpTo
-enough zero zero xs h g = refl
-enough zero (suc k) [] h g = refl
-enough zero (suc k) (x ∷ xs) h g = absurd (not-suc-le-zero h)
-enough (suc n) zero [] h g = refl
-enough (suc n) zero (x ∷ xs) h g = absurd (not-suc-le-zero g)
-enough (suc n) (suc k) xs h g =
-    ap (λ (more : List Element). pick (ltb (length xs) 4) [] (el (elementType xs) (part 4 (elementLength xs) xs) ∷ more))
-    (enough n k (drop (4 + elementLength xs) xs) (shorter (elementLength xs) n xs h) (shorter (elementLength xs) k xs g))
-
 by-front : (s : List ℕ) → elements s ≡ pick (ltb (length s) 4) [] (el (elementType s) (part 4 (elementLength s) s) ∷ elements (drop (4 + elementLength s) s))
 unfolding elements elementsUpTo
 by-front [] = refl
 by-front (x ∷ xs) =
     ap (λ (more : List Element). pick (ltb (length (x ∷ xs)) 4) [] (el (elementType (x ∷ xs)) (part 4 (elementLength (x ∷ xs)) (x ∷ xs)) ∷ more))
-    (enough (length xs) _ _ (shorter (elementLength (x ∷ xs)) (length xs) (x ∷ xs) (le-refl _)) (le-refl _))
+    (elements-enough (length xs) _ _ (shorter (elementLength (x ∷ xs)) (length xs) (x ∷ xs) (le-refl _)) (le-refl _))
 
 -- ---- the element at the front
 

@@ -19,22 +19,10 @@ use frame::Framing;
 use frame::header::Header;
 use pool::Taken;
 use reading::Verdict;
-use records::layout::FIRST;
-use records::layout::SIZE;
-use records::layout::SLOT;
 use reply::Offending;
 use request::Plan;
 use request::Reading;
 use slots::Place;
-
-// The grants of a request at most.
-const GRANTS: usize = 24;
-
-// Words of the plan of the longest message: 226 rows of 18.
-const PLAN: usize = 4068;
-
-// The least reply space.
-const SPACE: usize = 1024;
 
 // The reply of a refusal; the table stays.
 fn refuse(t: &[u8], msg: &[u8], cause: u64, offending: Offending, out: &mut [u8]) -> usize
@@ -88,9 +76,9 @@ fn accept(
     ensures { λ r. ⌜ Answers (now (t .entry)) (now (msg .entry)) (now (out .entry)) r (now (out .exit)) (now (t .exit)) ⌝ }
 {
     let words = taken.words;
-    let first = octets::read(t, FIRST, 4);
-    let size = octets::read(t, SIZE, 4) as usize;
-    let mut places = [0usize; GRANTS];
+    let first = octets::read(t, format::FIRST, 4);
+    let size = octets::read(t, format::SIZE, 4) as usize;
+    let mut places = [0usize; format::GRANTS];
     let k = grants::grant(plan, n, &words, first, size, &mut places);
     let used = reply::accepted(t, msg, seid, plan, &places[..k], out);
     keep(t, slot, plan, n);
@@ -181,14 +169,14 @@ fn change(
     requires { ⌜ Changing (now t) (now msg) (now out) kind p × Counted (now t) (taken .words) free ⌝ }
     ensures { λ r. ⌜ Answers (now (t .entry)) (now (msg .entry)) (now (out .entry)) r (now (out .exit)) (now (t .exit)) ⌝ }
 {
-    let mut plan = [0u64; PLAN];
+    let mut plan = [0u64; format::PLAN];
     let reading = request::read_request(msg, &mut plan);
     match reading {
         Reading::Fault(cause, element) => {
             return refuse(t, msg, cause, Offending::Element(element), out);
         }
         Reading::Whole(read) => {
-            let mut slot = [0u8; SLOT];
+            let mut slot = [0u8; format::SLOT];
             let live = enter(t, msg, kind, read.seid, p, &mut slot);
             return settle(
                 t,
@@ -254,12 +242,12 @@ fn unserved(outcome: u32) -> Served
 pub fn serve(t: &mut [u8], msg: &[u8], out: &mut [u8]) -> Served
     ensures { λ r. ⌜ Serves (now (t .entry)) (now (msg .entry)) (now (out .entry)) (r .outcome) (r .used) (now (out .exit)) (now (t .exit)) ⌝ }
 {
-    let mut words = [0u64; 64];
+    let mut words = [0u64; pool::WORDS];
     let seen = table::examine(t, &mut words);
     let marking::Marks::New(held) = seen else {
         return unserved(1);
     };
-    if out.len() < SPACE {
+    if out.len() < format::SPACE {
         return unserved(2);
     }
     let header = frame::header::read_header(msg);
@@ -268,7 +256,7 @@ pub fn serve(t: &mut [u8], msg: &[u8], out: &mut [u8]) -> Served
         Header::Malformed => return unserved(4),
         Header::NotServed => return unserved(5),
         Header::Request(kind, seid) => {
-            let free = octets::read(t, SIZE, 4) as usize - held;
+            let free = octets::read(t, format::SIZE, 4) as usize - held;
             let used = answer(t, Taken { words: words }, free, msg, kind, seid, out);
             return Served {
                 outcome: 0,

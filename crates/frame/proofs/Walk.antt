@@ -1,7 +1,7 @@
 -- The framing of octets, element by element: what each length at the front says. Assumes nothing.
 use mathlib.Core.Path.{_≡_, refl, ap}
 use Prim.Native.Nat.{ℕ, zero, suc, _+_, _-_, _≤_, _<_}
-use native.Mathlib.Nat.{le-refl, le-trans, le-of-eq, not-suc-le-zero}
+use native.Mathlib.Nat.{le-refl, not-suc-le-zero}
 use native.Mathlib.Numerals.{sub-one}
 use native.Mathlib.Omega.{arith}
 use mathlib.Core.Bool.{true, false}
@@ -11,13 +11,14 @@ use lib.ListN.{length, take, drop, length-drop}
 use lib.Seq.{take-length}
 use lib.Dec.{ltb}
 use borrow.Author.Tests.{lt-ltb, le-ltb}
-use Rattle.octets.specs.Choice.{pick, orElse, isNil}
+use Rattle.octets.specs.Choice.{pick, orElse}
 use Rattle.octets.specs.Octets.{part}
 use Rattle.octets.specs.Lists.{member}
 use Rattle.rules.specs.Message.{elementType, elementLength, opened, innerFault, frameUpTo, frame}
 use Rattle.frame.specs.Framed.{faultIn}
 use Rattle.frame.specs.declared.Framing.{Framing}
 use Rattle.frame.specs.declared.Framing.the-variants.{Fault}
+use Rattle.laws.proofs.MessageLaws.{shorter, frame-enough}
 
 -- ---- parts from a place on
 
@@ -28,25 +29,7 @@ part-from n s = rw (← length-drop n s) (take-length (drop n s))
 pub part-shorter : (n : ℕ) (s : List ℕ) → 0 < n → n ≤ length s → length (take (length s - n) (drop n s)) < length s
 part-shorter n s h k = rw (part-from n s, length-drop) (omega arith)
 
--- ---- any count that is large enough gives the same
-
-shorter : (e n : ℕ) (xs : List ℕ) → length xs ≤ suc n → length (drop (4 + e) xs) ≤ n
-shorter e n xs h = le-trans (le-of-eq (length-drop (4 + e) xs)) (omega arith)
-
 module _ (inner : ℕ → List ℕ → Option ℕ) (kind group : ℕ) where
-  enough : (n k : ℕ) (xs : List ℕ) → length xs ≤ n → length xs ≤ k → frameUpTo inner kind group n xs ≡ frameUpTo inner kind group k xs
-  unfolding frameUpTo
-  enough zero zero xs h g = refl
-  enough zero (suc k) [] h g = refl
-  enough zero (suc k) (x ∷ xs) h g = absurd (not-suc-le-zero h)
-  enough (suc n) zero [] h g = refl
-  enough (suc n) zero (x ∷ xs) h g = absurd (not-suc-le-zero g)
-  enough (suc n) (suc k) xs h g =
-      ap (λ (more : Option ℕ). pick (isNil xs) none
-      (pick (ltb (length xs) 4) (some group)
-      (pick (ltb (length xs) (4 + elementLength xs)) (some (elementType xs)) (orElse (innerFault inner kind group xs) more))))
-      (enough n k (drop (4 + elementLength xs) xs) (shorter (elementLength xs) n xs h) (shorter (elementLength xs) k xs g))
-
   -- octets at the front
   ahead : (x : ℕ) (xs : List ℕ) → frameUpTo inner kind group (length (x ∷ xs)) (x ∷ xs)
       ≡ pick (ltb (length (x ∷ xs)) 4) (some group)
@@ -56,7 +39,7 @@ module _ (inner : ℕ → List ℕ → Option ℕ) (kind group : ℕ) where
   ahead x xs =
       ap (λ (more : Option ℕ). pick (ltb (length (x ∷ xs)) 4) (some group)
       (pick (ltb (length (x ∷ xs)) (4 + elementLength (x ∷ xs))) (some (elementType (x ∷ xs))) (orElse (innerFault inner kind group (x ∷ xs)) more)))
-      (enough (length xs) _ _ (shorter (elementLength (x ∷ xs)) (length xs) (x ∷ xs) (le-refl _)) (le-refl _))
+      (frame-enough inner kind group (length xs) _ _ (shorter (elementLength (x ∷ xs)) (length xs) (x ∷ xs) (le-refl _)) (le-refl _))
 
 -- ---- the framing by what stands at the front, with a depth left
 

@@ -53,7 +53,7 @@ fn is_served(kind: u64) -> bool
 pub fn read_header(msg: &[u8]) -> Header
     ensures { λ r. ⌜ opened r ≡ headerOf (now (msg .entry)) ⌝ }
 {
-    if 2048 < msg.len() {
+    if format::MESSAGE < msg.len() {
         return Header::TooLong;
     }
     if !allowed(msg) {

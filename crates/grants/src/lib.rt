@@ -13,11 +13,6 @@ ghost use Rattle.created.specs.Entries.{maxGrants, within};
 ghost use Rattle.grants.specs.Choosing.{choosing, placesFrom, rowChooseId, teidsAt, stores, Granted};
 ghost use Rattle.grants.specs.Steps.{Gives};
 
-// Words in a plan's row; the number of grants at most.
-const ROW: usize = 18;
-
-const MOST: usize = 24;
-
 // A CHOOSE ID is one octet.
 const IDS: usize = 256;
 
@@ -48,7 +43,7 @@ fn find_places(plan: &[u64], n: usize, tag: u64, places: &mut [usize], k: usize)
     let mut found = k;
     while 0 < left {
         let here = at;
-        at += ROW;
+        at += format::ROW;
         left -= 1;
         if !chooses(&plan[here..at], tag) {
             continue;
@@ -138,7 +133,7 @@ fn fill(plan: &[u64], places: &[usize], words: &[u64], first: u64, size: usize, 
     let mut i = 0;
     while i < places.len() {
         let p = places[i];
-        let row = &plan[p..p + ROW];
+        let row = &plan[p..p + format::ROW];
         let g = teid_for(&mut known, choose_id(row), words, first, from, size);
         teids[i] = g.teid;
         from = g.next;
@@ -171,7 +166,7 @@ pub fn grant(
     requires { ⌜ (n * rowWidth ≤ length (now plan)) × (size ≤ 64 * length (now words)) × (size ≤ maxPool) × (first < 2 ^ 32) × (length (now places) ≡ maxGrants) ⌝ }
     ensures { λ r. ⌜ Granted n first (now (words .entry)) size (now (plan .entry)) r (now (plan .exit)) (now (places .exit)) ⌝ }
 {
-    let mut teids = [0u64; MOST];
+    let mut teids = [0u64; format::GRANTS];
     let k = find_places(plan, n, 127, places, 0);
     let m = find_places(plan, n, 1, places, k);
     fill(plan, &places[..m], words, first, size, &mut teids);

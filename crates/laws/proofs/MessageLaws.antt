@@ -55,22 +55,22 @@ module _ (t : ℕ) (v rest : List ℕ) (fits : Fits t v) where
 
 -- ---- any count that is large enough gives the same
 
-shorter : (e n : ℕ) (xs : List ℕ) → length xs ≤ suc n → length (drop (4 + e) xs) ≤ n
+pub shorter : (e n : ℕ) (xs : List ℕ) → length xs ≤ suc n → length (drop (4 + e) xs) ≤ n
 shorter e n xs h = le-trans (le-of-eq (length-drop (4 + e) xs)) (omega arith)
 
-enough : (n k : ℕ) (xs : List ℕ) → length xs ≤ n → length xs ≤ k → elementsUpTo n xs ≡ elementsUpTo k xs
+pub elements-enough : (n k : ℕ) (xs : List ℕ) → length xs ≤ n → length xs ≤ k → elementsUpTo n xs ≡ elementsUpTo k xs
 unfolding elementsUpTo
-enough zero zero xs h g = refl
-enough zero (suc k) [] h g = refl
-enough zero (suc k) (x ∷ xs) h g = absurd (not-suc-le-zero h)
-enough (suc n) zero [] h g = refl
-enough (suc n) zero (x ∷ xs) h g = absurd (not-suc-le-zero g)
-enough (suc n) (suc k) xs h g =
+elements-enough zero zero xs h g = refl
+elements-enough zero (suc k) [] h g = refl
+elements-enough zero (suc k) (x ∷ xs) h g = absurd (not-suc-le-zero h)
+elements-enough (suc n) zero [] h g = refl
+elements-enough (suc n) zero (x ∷ xs) h g = absurd (not-suc-le-zero g)
+elements-enough (suc n) (suc k) xs h g =
     ap (λ (more : List Element). pick (ltb (length xs) 4) [] (record { type = elementType xs; content = part 4 (elementLength xs) xs } ∷ more))
-    (enough n k (drop (4 + elementLength xs) xs) (shorter (elementLength xs) n xs h) (shorter (elementLength xs) k xs g))
+    (elements-enough n k (drop (4 + elementLength xs) xs) (shorter (elementLength xs) n xs h) (shorter (elementLength xs) k xs g))
 
 module _ (inner : ℕ → List ℕ → Option ℕ) (kind group : ℕ) where
-  frame-enough : (n k : ℕ) (xs : List ℕ) → length xs ≤ n → length xs ≤ k → frameUpTo inner kind group n xs ≡ frameUpTo inner kind group k xs
+  pub frame-enough : (n k : ℕ) (xs : List ℕ) → length xs ≤ n → length xs ≤ k → frameUpTo inner kind group n xs ≡ frameUpTo inner kind group k xs
   unfolding frameUpTo
   frame-enough zero zero xs h g = refl
   frame-enough zero (suc k) [] h g = refl
@@ -115,7 +115,7 @@ module _ (t : ℕ) (v rest : List ℕ) (fits : Fits t v) where
       ap (λ (n : ℕ). elementsUpTo n all-of-it) (suc-length all-of-it four-at-least)
       ∙ pick-no (ltb (length all-of-it) 4) _ _ (no-ltb four-at-least)
       ∙ (λ i. record { type = read-type t v rest fits i; content = read-content t v rest fits i }
-      ∷ (ap (elementsUpTo (length all-of-it - 1)) (read-rest t v rest fits) ∙ enough (length all-of-it - 1) (length rest) rest room (le-refl (length rest))) i)
+      ∷ (ap (elementsUpTo (length all-of-it - 1)) (read-rest t v rest fits) ∙ elements-enough (length all-of-it - 1) (length rest) rest room (le-refl (length rest))) i)
 
   module _ (inner : ℕ → List ℕ → Option ℕ) (kind group : ℕ) where
     inner-read : innerFault inner kind group all-of-it ≡ pick (member t (opened kind group)) (inner t v) none

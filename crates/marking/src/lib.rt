@@ -12,18 +12,18 @@ ghost use Rattle.octets.specs.Octets.{slices};
 ghost use Rattle.holdings.specs.Walk.{joins};
 ghost use Rattle.records.specs.Kept.{unit};
 ghost use Rattle.marking.specs.Marking.{holdsTeid, alike, heldBy, holdAt, pdrHolds, endpointHolds, mapped, Stepped, Marked, Admitted, AllAdmitted};
-use records::layout::CSIDS;
-use records::layout::ENDPOINT;
-use records::layout::ENDPOINT_COUNT;
-use records::layout::ENDPOINTS;
-use records::layout::FAMILIES;
-use records::layout::PDR;
-use records::layout::PDR_COUNT;
-use records::layout::PDRS;
-use records::layout::PLACE;
-use records::layout::SLOT;
-use records::layout::SOURCE;
-use records::layout::TEID;
+use format::CSIDS;
+use format::ENDPOINT;
+use format::ENDPOINT_COUNT;
+use format::ENDPOINTS;
+use format::FAMILIES;
+use format::PDR;
+use format::PDR_COUNT;
+use format::PDRS;
+use format::PLACE;
+use format::SLOT;
+use format::SOURCE;
+use format::TEID;
 
 // What became of holds that were to be marked: one is against the rule, or so many of them were new.
 pub enum Marks {

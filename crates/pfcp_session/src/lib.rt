@@ -22,7 +22,7 @@ const BROKEN: u32 = 1;
 pub extern "C" fn pfcp_table_length() -> usize
     ensures { λ r. ⌜ r ≡ tableLength maxSessions ⌝ }
 {
-    records::layout::LENGTH
+    format::LENGTH
 }
 
 // Makes an empty table: 0 made, 1 refused (nothing is written). No IPv6 address is a length of 0.

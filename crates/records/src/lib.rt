@@ -2,7 +2,6 @@
 // just that record's octets. Each reads the fields where they stand; proofs/Slots.antt says why these tests are enough.
 //
 // first, size and v6 are the unit's pool of TEIDs and whether it has an IPv6 address.
-pub mod layout;
 
 ghost use mathlib.Core.Path.{_≡_};
 ghost use Prim.Native.Nat.{_+_, _*_, _^_, _≤_, _<_};
@@ -35,7 +34,7 @@ pub fn pool_sound(first: u64, size: u64) -> bool
     if size < 1 {
         return false;
     }
-    if layout::MAX_POOL < size {
+    if format::MAX_POOL < size {
         return false;
     }
     first + size <= 4294967296
@@ -46,11 +45,11 @@ pub fn settings_sound(slot: &[u8]) -> bool
     requires { ⌜ length (now slot) ≡ 29 ⌝ }
     ensures { λ r. ⌜ r ≡ settingsSound (now (slot .entry)) ⌝ }
 {
-    if !optional_sound(slot, layout::IPV6_THERE, 16) {
+    if !optional_sound(slot, format::IPV6_THERE, 16) {
         return false;
     }
-    let first = octets::read(slot, layout::FIRST, 4);
-    let size = octets::read(slot, layout::SIZE, 4);
+    let first = octets::read(slot, format::FIRST, 4);
+    let size = octets::read(slot, format::SIZE, 4);
     pool_sound(first, size)
 }
 
@@ -99,7 +98,7 @@ fn names_endpoint(ends: &[u8], n: usize, id: u8) -> bool
     ensures { λ r. ⌜ r ≡ member id (endpointIds n (now (ends .entry))) ⌝ }
 {
     for i in 0..n {
-        if ends[i * layout::ENDPOINT] == id {
+        if ends[i * format::ENDPOINT] == id {
             return true;
         }
     }
@@ -133,13 +132,13 @@ pub fn pdr_sound(slot: &[u8], ends: &[u8], n: usize, first: u64, size: u64, v6: 
     requires { ⌜ (length (now slot) ≡ 19) × (n * 6 ≤ length (now ends)) × (first + size ≤ 2 ^ 32) ⌝ }
     ensures { λ r. ⌜ r ≡ pdrSound (unit first size v6) (endpointIds n (now (ends .entry))) (now (slot .entry)) ⌝ }
 {
-    if 15 < slot[layout::SOURCE] {
+    if 15 < slot[format::SOURCE] {
         return false;
     }
-    if !optional_sound(slot, layout::FAR, 4) {
+    if !optional_sound(slot, format::FAR, 4) {
         return false;
     }
-    place_sound(&slot[layout::PLACE..layout::PDR], ends, n, first, size, v6)
+    place_sound(&slot[format::PLACE..format::PDR], ends, n, first, size, v6)
 }
 
 // An FQ-CSID's slot.

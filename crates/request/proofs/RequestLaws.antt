@@ -17,14 +17,14 @@ use Rattle.frame.proofs.Walk.{part-from}
 use Rattle.frame.proofs.HeaderLaws.{read-kind}
 use Rattle.rules.specs.Elements.{Fqcsid}
 use Rattle.rules.specs.Message as message
-use Rattle.rules.specs.Message.{Element, Request, elements, body, hasType, groupOf, groupsOf, ofType, actedOn, groupFault, fieldOr0, newPdr, newEndpoint, changeOf, hasPdi, isNull, fqcsidIn, fseidIn, restorationIn, requestOf, readRequest, topFaultFrom, topFault, readFault, missingFault, requiredAtTop}
+use Rattle.rules.specs.Message.{Element, elements, body, hasType, groupOf, groupsOf, ofType, actedOn, groupFault, fieldOr0, newPdr, newEndpoint, changeOf, hasPdi, isNull, fqcsidIn, fseidIn, restorationIn, requestOf, readRequest, topFaultFrom, topFault, readFault, missingFault, requiredAtTop}
 use Rattle.plan.specs.Rows.{hasTag, tagged, rowPdr, rowEndpoint, rowChange, rowPdrId, rowEndpointId, rowCsid, isNullRow, requestIn}
 use Rattle.reading.specs.Members.{memberOf}
 use Rattle.reading.proofs.Places.{in-deletion}
 use Rattle.reading.proofs.TopLaws.{either}
 use Rattle.request.specs.Members.{GroupRow, CsidRow}
 use Rattle.request.specs.Items.{plannedOf, planned, itemsOf, Row, Rows}
-use Rattle.request.specs.Requests.{withoutCsids, actedRequest}
+use Rattle.request.specs.Requests.{withCsids, withoutCsids, actedRequest}
 use Rattle.request.proofs.ItemLaws.{planned-none}
 use Rattle.request.proofs.GoodLaws.{Good, Goods, goods, good-group, good-csid, no-row, no-first}
 use Rattle.request.proofs.RowMeaning.{row-pdr, row-change, row-endpoint, row-gone, few-csids}
@@ -236,22 +236,6 @@ none-65 kind = by-test (eqb kind 50) (eqb kind 52)
     by-test false true h = let z : _≡_ {A = ℕ} 0 1 = cc in absurd (omega arith)
     by-test false false h = not-in-nil 65
 
--- a request with other FQ-CSIDs
-abbrev csidsAs : Request → List Fqcsid → Bool → Request
-csidsAs r cs clears =
-    record {
-      seid = r .seid;
-      restoring = r .restoring;
-      pdrs = r .pdrs;
-      endpoints = r .endpoints;
-      changes = r .changes;
-      gonePdrs = r .gonePdrs;
-      goneEndpoints = r .goneEndpoints;
-      csids = cs;
-      clears = clears;
-      unsupported = r .unsupported;
-    }
-
 -- what is said beside the rows
 record Head (kind : ℕ) (es : List Element) (seid : ℕ) (restoring noted : Bool) : Type 0 where
   seid-is : seid ≡ fseidIn (ofType kind 57 es)
@@ -262,7 +246,7 @@ module _ (kind : ℕ) (es : List Element) (rows : List (List ℕ)) (fine : Goods
     (seid : ℕ) (restoring noted : Bool) (head : Head kind es seid restoring noted) where
   -- the request, but for what its FQ-CSIDs say
   assembled : {cs : List Fqcsid} {clears : Bool} → collect rowCsid (tagged 65 rows) ≡ cs → any isNullRow (tagged 65 rows) ≡ clears
-      → requestIn seid restoring noted rows ≡ csidsAs (requestOf kind es) cs clears
+      → requestIn seid restoring noted rows ≡ withCsids (requestOf kind es) cs clears
   unfolding requestIn requestOf
   assembled p q = λ i. record {
     seid = head .seid-is i;
@@ -277,7 +261,7 @@ module _ (kind : ℕ) (es : List Element) (rows : List (List ℕ)) (fine : Goods
     unsupported = ap₂ _||_ (head .noted-is) (ap (any hasPdi) (changes-same kind es rows fine written (same-9 kind))) i;
   }
 
-  csids-are : {xs : List Element} → keep (hasType 65) (itemsOf kind es) ≡ xs → requestIn seid restoring noted rows ≡ csidsAs (requestOf kind es) (collect fqcsidIn xs) (any isNull xs)
+  csids-are : {xs : List Element} → keep (hasType 65) (itemsOf kind es) ≡ xs → requestIn seid restoring noted rows ≡ withCsids (requestOf kind es) (collect fqcsidIn xs) (any isNull xs)
   csids-are h = assembled (csids-kept kind es rows fine written ∙ ap (collect fqcsidIn) h) (clears-kept kind es rows fine written ∙ ap (any isNull) h)
 
   whole : (eqb kind 50 || eqb kind 52) ≡ true → requestIn seid restoring noted rows ≡ requestOf kind es

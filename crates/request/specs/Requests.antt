@@ -2,13 +2,13 @@
 -- Assumes nothing.
 use mathlib.Core.Path.{_≡_}
 use Prim.Native.Nat.{ℕ, _*_, _≤_}
-use mathlib.Core.Bool.{false, _||_}
+use mathlib.Core.Bool.{Bool, false, _||_}
 use mathlib.Core.Option.{Option, none, some}
 use mathlib.Core.List.{List, []}
 use lib.ListN.{length}
 use lib.Dec.{eqb}
 use Rattle.octets.specs.Choice.{pick}
-use Rattle.rules.specs.Elements.{causeOf}
+use Rattle.rules.specs.Elements.{Fqcsid, causeOf}
 use Rattle.rules.specs.Message.{Fault, Request, establishment, modification, kindOf, frameFault, readFault, readRequest}
 use Rattle.plan.specs.Rows.{rowWidth, rowsOf, requestIn}
 use Rattle.request.specs.declared.Plan.{Plan}
@@ -28,9 +28,9 @@ pub data Result : Type 0 where
   refused : ℕ → ℕ → Result
   whole : Request → Result
 
--- the FQ-CSIDs of a deletion are checked and otherwise unused, and have no rows
-unfoldable pub withoutCsids : Request → Request
-withoutCsids r =
+-- a request with other FQ-CSIDs
+abbrev pub withCsids : Request → List Fqcsid → Bool → Request
+withCsids r cs clears =
     record {
       seid = r .seid;
       restoring = r .restoring;
@@ -39,10 +39,14 @@ withoutCsids r =
       changes = r .changes;
       gonePdrs = r .gonePdrs;
       goneEndpoints = r .goneEndpoints;
-      csids = [];
-      clears = false;
+      csids = cs;
+      clears = clears;
       unsupported = r .unsupported;
     }
+
+-- the FQ-CSIDs of a deletion are checked and otherwise unused, and have no rows
+unfoldable pub withoutCsids : Request → Request
+withoutCsids r = withCsids r [] false
 
 unfoldable pub actedRequest : List ℕ → Request
 actedRequest msg = pick (eqb (kindOf msg) establishment || eqb (kindOf msg) modification) (readRequest msg) (withoutCsids (readRequest msg))

@@ -177,7 +177,7 @@ pub(crate) fn put_rows(s: &[u8], message: u64, words: &mut [u64]) -> usize
             return n;
         };
         if is_planned(message, kind) {
-            put_row(&rest[4..end], kind, words, 18 * n);
+            put_row(&rest[4..end], kind, words, format::ROW * n);
             n += 1;
         }
         rest = &rest[end..];

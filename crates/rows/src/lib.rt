@@ -15,9 +15,6 @@ ghost use Rattle.rows.specs.RowRules.{requestOf, disagree, sharesChoice}
 pub mod pair;
 pub mod tunnel;
 
-// Words in a row.
-pub const WIDTH: usize = 18;
-
 // The unit's settings: its IPv4 address, whether it has an IPv6 address and that address in two halves, the first TEID and the pool's size.
 pub struct Unit {
     pub ipv4: u64,
@@ -47,10 +44,10 @@ pub fn named(plan: &[u64], n: usize, tag: u64, field: usize, x: u64) -> bool
     let mut rest = plan;
     let mut left = n;
     while 0 < left {
-        if is_named(&rest[..WIDTH], tag, field, x) {
+        if is_named(&rest[..format::ROW], tag, field, x) {
             return true;
         }
-        rest = &rest[WIDTH..];
+        rest = &rest[format::ROW..];
         left -= 1;
     }
     false
@@ -66,7 +63,7 @@ pub fn count(plan: &[u64], n: usize, tag: u64) -> usize
     let mut found: usize = 0;
     while 0 < left {
         let here = rest[0];
-        rest = &rest[WIDTH..];
+        rest = &rest[format::ROW..];
         left -= 1;
         if here == tag {
             found += 1;
@@ -83,10 +80,10 @@ pub fn invalid_allocation(plan: &[u64], n: usize, restoring: bool) -> bool
     let mut rest = plan;
     let mut left = n;
     while 0 < left {
-        if tunnel::wrong_allocation(&rest[..WIDTH], restoring) {
+        if tunnel::wrong_allocation(&rest[..format::ROW], restoring) {
             return true;
         }
-        rest = &rest[WIDTH..];
+        rest = &rest[format::ROW..];
         left -= 1;
     }
     false
@@ -111,10 +108,10 @@ pub fn disagrees(row: &[u64], later: &[u64], n: usize) -> bool
     let mut rest = later;
     let mut left = n;
     while 0 < left {
-        if pair::disagree(row, &rest[..WIDTH]) {
+        if pair::disagree(row, &rest[..format::ROW]) {
             return true;
         }
-        rest = &rest[WIDTH..];
+        rest = &rest[format::ROW..];
         left -= 1;
     }
     false
@@ -128,10 +125,10 @@ fn shared_later(row: &[u64], later: &[u64], n: usize) -> bool
     let mut rest = later;
     let mut left = n;
     while 0 < left {
-        if pair::shares_choice(row, &rest[..WIDTH]) {
+        if pair::shares_choice(row, &rest[..format::ROW]) {
             return true;
         }
-        rest = &rest[WIDTH..];
+        rest = &rest[format::ROW..];
         left -= 1;
     }
     false
@@ -146,8 +143,8 @@ pub fn need(plan: &[u64], n: usize) -> usize
     let mut left = n;
     let mut teids: usize = 0;
     while 0 < left {
-        let row = &rest[..WIDTH];
-        rest = &rest[WIDTH..];
+        let row = &rest[..format::ROW];
+        rest = &rest[format::ROW..];
         left -= 1;
         if !tunnel::chooses(row) {
             continue;

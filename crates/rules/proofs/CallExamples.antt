@@ -165,10 +165,10 @@ poolSameRequestCause = refl
 
 -- ---- errors we have seen
 
--- a CHOOSE ID is not remembered: the next request's ID 7 gets a TEID of its own
-unfoldable pub first7 : Served
-first7 = ask (encode 2 (unit 3) []) (establish 1 (create 1 (withId 7)))
+-- a CHOOSE ID is not remembered: the next request's ID 9 gets a TEID of its own
+unfoldable pub first9 : Served
+first9 = ask (encode 2 (unit 3) []) (establish 1 (create 1 (withId 9)))
 
-pub chooseIdForgotten : createdTeid (ask (first7 .table) (modify 1 (create 2 (withId 7))) .space) ofPdr 2 ≡ 4097
-unfolding story first7
+pub chooseIdForgotten : createdTeid (ask (first9 .table) (modify 1 (create 2 (withId 9))) .space) ofPdr 2 ≡ 4097
+unfolding story first9
 chooseIdForgotten = refl

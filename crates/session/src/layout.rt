@@ -3,15 +3,18 @@ use areas::Area;
 ghost use mathlib.Core.Path.{_≡_};
 ghost use Rattle.session.specs.Areas.{pdrArea, endpointArea, csidArea, sessionArea};
 
+// The sessions of a table at most, as the room of an area.
+const SESSIONS: usize = format::MAX_SESSIONS as usize;
+
 pub fn pdrs() -> Area
     ensures { λ r. ⌜ r ≡ pdrArea ⌝ }
 {
     Area {
-        count_at: 8,
+        count_at: format::PDR_COUNT,
         count_width: 1,
-        at: 11,
-        room: 16,
-        width: 19,
+        at: format::PDRS,
+        room: format::MAX_PDRS,
+        width: format::PDR,
         key: 2,
     }
 }
@@ -20,11 +23,11 @@ pub fn endpoints() -> Area
     ensures { λ r. ⌜ r ≡ endpointArea ⌝ }
 {
     Area {
-        count_at: 9,
+        count_at: format::ENDPOINT_COUNT,
         count_width: 1,
-        at: 315,
-        room: 8,
-        width: 6,
+        at: format::ENDPOINTS,
+        room: format::MAX_ENDPOINTS,
+        width: format::ENDPOINT,
         key: 1,
     }
 }
@@ -33,11 +36,11 @@ pub fn csids() -> Area
     ensures { λ r. ⌜ r ≡ csidArea ⌝ }
 {
     Area {
-        count_at: 10,
+        count_at: format::CSID_COUNT,
         count_width: 1,
-        at: 363,
-        room: 6,
-        width: 20,
+        at: format::CSIDS,
+        room: format::MAX_CSIDS,
+        width: format::CSID,
         key: 1,
     }
 }
@@ -46,11 +49,11 @@ pub fn sessions() -> Area
     ensures { λ r. ⌜ r ≡ sessionArea ⌝ }
 {
     Area {
-        count_at: 29,
+        count_at: format::COUNT,
         count_width: 2,
-        at: 31,
-        room: 64,
-        width: 483,
+        at: format::HEAD,
+        room: SESSIONS,
+        width: format::SLOT,
         key: 8,
     }
 }

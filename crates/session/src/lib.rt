@@ -16,9 +16,9 @@ fn update_at(slot: &mut [u8], row: &[u64], p: usize)
     requires { ⌜ (length (now slot) ≡ 483) × (length (now row) ≡ 18) × (p < 16) ⌝ }
     ensures { λ _. ⌜ now (slot .exit) ≡ updatedAt (now (row .entry)) p (now (slot .entry)) ⌝ }
 {
-    let at = 11 + p * 19;
-    let end = at + 19;
-    let mut rec = [0u8; 19];
+    let at = format::PDRS + p * format::PDR;
+    let end = at + format::PDR;
+    let mut rec = [0u8; format::PDR];
     octets::copy(&mut rec, 0, &slot[at..end]);
     record::set_precedence(&mut rec, row);
     record::set_far(&mut rec, row);
@@ -88,8 +88,8 @@ fn pass(slot: &mut [u8], plan: &[u64], n: usize, kind: u64)
 {
     let mut i = 0;
     while i < n {
-        let at = i * 18;
-        let end = at + 18;
+        let at = i * format::ROW;
+        let end = at + format::ROW;
         i += 1;
         if plan[at] != kind {
             continue;

@@ -27,7 +27,7 @@ fn place_kind(row: &[u64]) -> u64
     1
 }
 
-pub fn pdr(row: &[u64]) -> [u8; 19]
+pub fn pdr(row: &[u64]) -> [u8; format::PDR]
     requires { ⌜ length (now row) ≡ 18 ⌝ }
     ensures { λ r. ⌜ r ≡ pdrRecord (now (row .entry)) ⌝ }
 {
@@ -44,28 +44,28 @@ pub fn pdr(row: &[u64]) -> [u8; 19]
         if_is(kind, 1, row[12] % 4),
         if_is(kind, 2, row[11]),
     ];
-    let mut out = [0u8; 19];
+    let mut out = [0u8; format::PDR];
     octets::fields::write_fields(&mut out, 0, &ws, &vs);
     out
 }
 
-pub fn endpoint(row: &[u64]) -> [u8; 6]
+pub fn endpoint(row: &[u64]) -> [u8; format::ENDPOINT]
     requires { ⌜ length (now row) ≡ 18 ⌝ }
     ensures { λ r. ⌜ r ≡ endpointRecord (now (row .entry)) ⌝ }
 {
     let ws = [1usize, 4, 1];
     let vs = [row[11], row[13], row[12] % 4];
-    let mut out = [0u8; 6];
+    let mut out = [0u8; format::ENDPOINT];
     octets::fields::write_fields(&mut out, 0, &ws, &vs);
     out
 }
 
 // An address of 16 octets, or of 4 and zeros after it.
-pub fn csid(row: &[u64]) -> [u8; 20]
+pub fn csid(row: &[u64]) -> [u8; format::CSID]
     requires { ⌜ length (now row) ≡ 18 ⌝ }
     ensures { λ r. ⌜ r ≡ csidRecord (now (row .entry)) ⌝ }
 {
-    let mut out = [0u8; 20];
+    let mut out = [0u8; format::CSID];
     if row[8] == 1 {
         let ws = [1usize, 1, 8, 8, 0, 2];
         let vs = [row[7], row[8], row[9], row[10], 0, row[11]];
@@ -84,7 +84,7 @@ pub fn set_precedence(rec: &mut [u8], row: &[u64])
     ensures { λ _. ⌜ now (rec .exit) ≡ withPrecedence (now (row .entry)) (now (rec .entry)) ⌝ }
 {
     if row[2] == 1 {
-        octets::write(rec, 2, 4, row[8]);
+        octets::write(rec, format::PRECEDENCE, 4, row[8]);
     }
 }
 
@@ -95,11 +95,11 @@ pub fn set_far(rec: &mut [u8], row: &[u64])
 {
     let far = row[3];
     if far == 1 {
-        octets::write(rec, 6, 1, 1);
-        octets::write(rec, 7, 4, row[9]);
+        octets::write(rec, format::FAR, 1, 1);
+        octets::write(rec, format::FAR_ID, 4, row[9]);
         return;
     }
     if far == 2 {
-        octets::clear(rec, 6, 5);
+        octets::clear(rec, format::FAR, 5);
     }
 }

@@ -13,19 +13,26 @@ ghost use Rattle.octets.specs.Lists.{ascending};
 ghost use Rattle.slots.specs.Records.{keyOf};
 ghost use Rattle.records.specs.Kept.{pdrSound, endpointSound, csidSound, endpointIds, unit};
 ghost use Rattle.sessions.specs.Slot.{areaSound, headSound, slotSound};
-use records::layout::CSID;
-use records::layout::CSID_COUNT;
-use records::layout::CSIDS;
-use records::layout::ENDPOINT;
-use records::layout::ENDPOINT_COUNT;
-use records::layout::ENDPOINTS;
-use records::layout::MAX_CSIDS;
-use records::layout::MAX_ENDPOINTS;
-use records::layout::MAX_PDRS;
-use records::layout::PDR;
-use records::layout::PDR_COUNT;
-use records::layout::PDRS;
-use records::layout::SLOT;
+use format::CSID;
+use format::CSID_COUNT;
+use format::CSIDS;
+use format::ENDPOINT;
+use format::ENDPOINT_COUNT;
+use format::ENDPOINTS;
+use format::MAX_CSIDS;
+use format::MAX_ENDPOINTS;
+use format::MAX_PDRS;
+use format::PDR;
+use format::PDR_COUNT;
+use format::PDRS;
+use format::SLOT;
+
+// The limits as a slot counts its records, in one octet each.
+const MOST_PDRS: u8 = MAX_PDRS as u8;
+
+const MOST_ENDPOINTS: u8 = MAX_ENDPOINTS as u8;
+
+const MOST_CSIDS: u8 = MAX_CSIDS as u8;
 
 // Whether the keys of n records ascend. A key is the first k octets of a record of w.
 fn ascends(a: &[u8], w: usize, k: usize, n: usize) -> bool
@@ -110,13 +117,13 @@ fn head_sound(slot: &[u8]) -> bool
     if octets::read(slot, 0, 8) < 1 {
         return false;
     }
-    if MAX_PDRS < slot[PDR_COUNT] {
+    if MOST_PDRS < slot[PDR_COUNT] {
         return false;
     }
-    if MAX_ENDPOINTS < slot[ENDPOINT_COUNT] {
+    if MOST_ENDPOINTS < slot[ENDPOINT_COUNT] {
         return false;
     }
-    slot[CSID_COUNT] <= MAX_CSIDS
+    slot[CSID_COUNT] <= MOST_CSIDS
 }
 
 // A session's slot.

@@ -20,24 +20,17 @@ pub mod session;
 
 use rows::Unit;
 
-// Sessions in a table, PDRs and traffic endpoints in a session.
-pub const SESSIONS: u64 = 64;
-
-pub const PDRS: usize = 16;
-
-pub const ENDPOINTS: usize = 8;
-
 // The settings at the front of a table.
 pub fn unit(t: &[u8]) -> Unit
     requires { ⌜ 29 ≤ length (now t) ⌝ }
     ensures { λ r. ⌜ settingsOf r ≡ viewSettings (now (t .entry)) ⌝ }
 {
-    let ipv4 = octets::read(t, 0, 4);
-    let has_ipv6 = t[4] != 0;
-    let high = octets::read(t, 5, 8);
-    let low = octets::read(t, 13, 8);
-    let first = octets::read(t, 21, 4);
-    let size = octets::read(t, 25, 4);
+    let ipv4 = octets::read(t, format::IPV4, 4);
+    let has_ipv6 = t[format::IPV6_THERE] != 0;
+    let high = octets::read(t, format::IPV6, 8);
+    let low = octets::read(t, format::IPV6_LOW, 8);
+    let first = octets::read(t, format::FIRST, 4);
+    let size = octets::read(t, format::SIZE, 4);
     Unit {
         ipv4,
         has_ipv6,
@@ -63,8 +56,8 @@ fn breaks_rows(
     let mut rest = plan;
     let mut left = n;
     while 0 < left {
-        let row = &rest[..rows::WIDTH];
-        rest = &rest[rows::WIDTH..];
+        let row = &rest[..format::ROW];
+        rest = &rest[format::ROW..];
         left -= 1;
         if row::breaks_id(row, plan, n, pdrs, endpoints) {
             return true;
@@ -84,21 +77,15 @@ pub fn breaks_rule(t: &[u8], taken: &[u64], slot: &[u8], plan: &[u64], n: usize)
     requires { ⌜ (29 ≤ length (now t)) × (viewSettings (now t) .size ≤ 64 * length (now taken)) × Slot (now slot) × (n * rowWidth ≤ length (now plan)) ⌝ }
     ensures { λ r. ⌜ r ≡ breaksRuleBy (heldIn (viewSettings (now (t .entry))) (now (taken .entry))) (viewSettings (now (t .entry))) (viewSession (now (slot .entry))) (requestOf false (rowsOf n (now (plan .entry)))) ⌝ }
 {
-    let k = slot[8] as usize;
-    let j = slot[9] as usize;
-    let mut pdrs = [0u64; PDRS];
-    let mut endpoints = [0u64; ENDPOINTS];
+    let k = slot[format::PDR_COUNT] as usize;
+    let j = slot[format::ENDPOINT_COUNT] as usize;
+    let mut pdrs = [0u64; format::MAX_PDRS];
+    let mut endpoints = [0u64; format::MAX_ENDPOINTS];
+    session::ids(&slot[format::PDRS..], k, format::PDR, 2, &mut pdrs);
     session::ids(
-        &slot[session::PDRS_AT..],
-        k,
-        session::PDR_WIDTH,
-        2,
-        &mut pdrs,
-    );
-    session::ids(
-        &slot[session::ENDPOINTS_AT..],
+        &slot[format::ENDPOINTS..],
         j,
-        session::ENDPOINT_WIDTH,
+        format::ENDPOINT,
         1,
         &mut endpoints,
     );
@@ -130,7 +117,7 @@ fn full(t: &[u8], kind: u64) -> bool
     if kind != 50 {
         return false;
     }
-    SESSIONS <= octets::read(t, 29, 2)
+    format::MAX_SESSIONS <= octets::read(t, format::COUNT, 2)
 }
 
 // Cause 75: more than 64 sessions, 16 PDRs or 8 endpoints would result, or more TEIDs are needed than are free at entry.
@@ -141,10 +128,24 @@ pub fn no_room(t: &[u8], free: usize, kind: u64, slot: &[u8], plan: &[u64], n: u
     if full(t, kind) {
         return true;
     }
-    if too_many(slot[8] as usize, PDRS, plan, n, 15, 1) {
+    if too_many(
+        slot[format::PDR_COUNT] as usize,
+        format::MAX_PDRS,
+        plan,
+        n,
+        15,
+        1,
+    ) {
         return true;
     }
-    if too_many(slot[9] as usize, ENDPOINTS, plan, n, 130, 127) {
+    if too_many(
+        slot[format::ENDPOINT_COUNT] as usize,
+        format::MAX_ENDPOINTS,
+        plan,
+        n,
+        130,
+        127,
+    ) {
         return true;
     }
     free < rows::need(plan, n)

@@ -13,15 +13,6 @@ ghost use Rattle.rows.specs.RowRules.{requestOf};
 ghost use Rattle.stages.specs.RowRules.{namesGone};
 ghost use Rattle.stages.specs.Rules.{Slot};
 
-// The places of a slot's PDRs and endpoints, and the octets of a record.
-pub const PDRS_AT: usize = 11;
-
-pub const PDR_WIDTH: usize = 19;
-
-pub const ENDPOINTS_AT: usize = 315;
-
-pub const ENDPOINT_WIDTH: usize = 6;
-
 // Writes to out the ID of each of the n records of an area, which is the first idw of a record's octets.
 pub fn ids(area: &[u8], n: usize, width: usize, idw: usize, out: &mut [u64])
     requires { ⌜ (n * width ≤ length (now area)) × (idw ≤ width) × (idw ≤ 8) × (n ≤ length (now out)) ⌝ }
@@ -43,10 +34,10 @@ fn names_removed(pdr: &[u8], plan: &[u64], n: usize) -> bool
     requires { ⌜ (length (now pdr) ≡ 19) × (n * rowWidth ≤ length (now plan)) ⌝ }
     ensures { λ r. ⌜ r ≡ namesGone (rowsOf n (now (plan .entry))) (viewPdr (now (pdr .entry))) ⌝ }
 {
-    if pdr[12] != 2 {
+    if pdr[format::PLACE] != 2 {
         return false;
     }
-    if !rows::named(plan, n, 130, 11, pdr[18] as u64) {
+    if !rows::named(plan, n, 130, 11, pdr[format::NAMED_ENDPOINT] as u64) {
         return false;
     }
     let id = octets::read(pdr, 0, 2);
@@ -58,13 +49,13 @@ pub fn endpoint_in_use(slot: &[u8], plan: &[u64], n: usize) -> bool
     requires { ⌜ Slot (now slot) × (n * rowWidth ≤ length (now plan)) ⌝ }
     ensures { λ r. ⌜ r ≡ endpointInUse (viewSession (now (slot .entry))) (requestOf false (rowsOf n (now (plan .entry)))) ⌝ }
 {
-    let mut rest = &slot[PDRS_AT..];
-    let mut left = slot[8] as usize;
+    let mut rest = &slot[format::PDRS..];
+    let mut left = slot[format::PDR_COUNT] as usize;
     while 0 < left {
-        if names_removed(&rest[..PDR_WIDTH], plan, n) {
+        if names_removed(&rest[..format::PDR], plan, n) {
             return true;
         }
-        rest = &rest[PDR_WIDTH..];
+        rest = &rest[format::PDR..];
         left -= 1;
     }
     false

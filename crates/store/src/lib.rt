@@ -20,8 +20,8 @@ pub fn load(t: &[u8], p: usize, slot: &mut [u8])
     requires { ⌜ (length (now t) ≡ 30943) × (p < 64) × (length (now slot) ≡ 483) ⌝ }
     ensures { λ _. ⌜ now (slot .exit) ≡ part (p * 483) 483 (areaIn sessionArea (now (t .entry))) ⌝ }
 {
-    let at = 31 + p * 483;
-    let end = at + 483;
+    let at = format::HEAD + p * format::SLOT;
+    let end = at + format::SLOT;
     octets::copy(slot, 0, &t[at..end]);
 }
 
@@ -30,7 +30,7 @@ pub fn fresh(slot: &mut [u8], seid: u64)
     requires { ⌜ length (now slot) ≡ 483 ⌝ }
     ensures { λ _. ⌜ now (slot .exit) ≡ put 0 (be 8 seid) (zeros 483) ⌝ }
 {
-    octets::clear(slot, 0, 483);
+    octets::clear(slot, 0, format::SLOT);
     octets::write(slot, 0, 8, seid);
 }
 

@@ -11,17 +11,17 @@ ghost use Rattle.rules.specs.Limits.{maxSessions, mapWords};
 ghost use Rattle.rules.specs.Sound.{sound, countFree, make, ipv6Allowed};
 ghost use Rattle.table.specs.Tests.{frontSound};
 ghost use Rattle.table.specs.Answers.{Examined, countOf, settingsOf, madeOf};
-use records::layout::COUNT;
-use records::layout::FIRST;
-use records::layout::HEAD;
-use records::layout::IPV4;
-use records::layout::IPV6;
-use records::layout::IPV6_THERE;
-use records::layout::LENGTH;
-use records::layout::MAX_SESSIONS;
-use records::layout::SETTINGS;
-use records::layout::SIZE;
-use records::layout::SLOT;
+use format::COUNT;
+use format::FIRST;
+use format::HEAD;
+use format::IPV4;
+use format::IPV6;
+use format::IPV6_THERE;
+use format::LENGTH;
+use format::MAX_SESSIONS;
+use format::SETTINGS;
+use format::SIZE;
+use format::SLOT;
 
 // The number of free TEIDs, or that the table is broken (01's outcome 1).
 pub enum Count {
@@ -66,7 +66,7 @@ pub fn examine(t: &[u8], words: &mut [u64]) -> marking::Marks
 pub fn is_sound(t: &[u8]) -> bool
     ensures { λ r. ⌜ r ≡ sound maxSessions (now (t .entry)) ⌝ }
 {
-    let mut words = [0u64; 64];
+    let mut words = [0u64; pool::WORDS];
     let seen = examine(t, &mut words);
     let marking::Marks::New(n) = seen else {
         return false;
@@ -78,7 +78,7 @@ pub fn is_sound(t: &[u8]) -> bool
 pub fn free_count(t: &[u8]) -> Count
     ensures { λ r. ⌜ countOf r ≡ countFree maxSessions (now (t .entry)) ⌝ }
 {
-    let mut words = [0u64; 64];
+    let mut words = [0u64; pool::WORDS];
     let seen = examine(t, &mut words);
     let marking::Marks::New(n) = seen else {
         return Count::Broken;

@@ -34,7 +34,7 @@ pub fn write_node_id(t: &[u8], kind: u8, out: &mut [u8], at: usize) -> usize
     }
     write_head(60, 5, out, at);
     out[at + 4] = 0;
-    octets::copy(out, at + 5, &t[0..4]);
+    octets::copy(out, at + 5, &t[format::IPV4..format::IPV6_THERE]);
     at + 9
 }
 
@@ -69,7 +69,7 @@ pub fn write_fseid(t: &[u8], kind: u8, seid: u64, out: &mut [u8], at: usize) -> 
     write_head(57, 13, out, at);
     out[at + 4] = 2;
     octets::write(out, at + 5, 8, seid);
-    octets::copy(out, at + 13, &t[0..4]);
+    octets::copy(out, at + 13, &t[format::IPV4..format::IPV6_THERE]);
     at + 17
 }
 
@@ -78,7 +78,7 @@ pub fn unit_families(t: &[u8], families: u64) -> usize
     requires { ⌜ 29 ≤ length (now t) ⌝ }
     ensures { λ r. ⌜ (r ≡ unitFamilies (viewSettings (now (t .entry))) families) × (r < 4) ⌝ }
 {
-    if t[4] == 0 {
+    if t[format::IPV6_THERE] == 0 {
         return (families % 2) as usize;
     }
     (families % 4) as usize
@@ -93,7 +93,7 @@ fn write_addresses(t: &[u8], families: usize, out: &mut [u8], at: usize) -> usiz
     let v6 = 16 * (families / 2);
     octets::copy(out, at, &t[..v4]);
     let next = at + v4;
-    octets::copy(out, next, &t[5..5 + v6]);
+    octets::copy(out, next, &t[format::IPV6..format::IPV6 + v6]);
     next + v6
 }
 

@@ -1,0 +1,89 @@
+// Widths, places and limits that several crates share, each named once; what follows from others is worked out from them. Numbers are
+// big-endian; docs/layout.md and the rules' Layout say what stands where.
+//
+// How many there are at most: sessions, in a session PDRs, endpoints and FQ-CSIDs, and TEIDs in the pool.
+pub const MAX_SESSIONS: u64 = 64;
+
+pub const MAX_PDRS: usize = 16;
+
+pub const MAX_ENDPOINTS: usize = 8;
+
+pub const MAX_CSIDS: usize = 6;
+
+pub const MAX_POOL: u64 = 4096;
+
+// The settings: the IPv4 address (4 octets), whether there is an IPv6 address (1), the IPv6 address (16), the first TEID (4), the
+// pool's size (4).
+pub const IPV4: usize = 0;
+
+pub const IPV6_THERE: usize = 4;
+
+pub const IPV6: usize = 5;
+
+pub const IPV6_LOW: usize = IPV6 + 8;
+
+pub const FIRST: usize = 21;
+
+pub const SIZE: usize = 25;
+
+pub const SETTINGS: usize = 29;
+
+// A PDR: ID (2 octets), precedence (4), whether there is a FAR ID (1), the FAR ID (4), source interface (1), what it matches on (1: 0
+// nothing, 1 an F-TEID, 2 an endpoint), TEID (4), families (1), endpoint ID (1).
+pub const PRECEDENCE: usize = 2;
+
+pub const FAR: usize = 6;
+
+pub const FAR_ID: usize = FAR + 1;
+
+pub const SOURCE: usize = 11;
+
+pub const PLACE: usize = 12;
+
+pub const TEID: usize = 13;
+
+pub const FAMILIES: usize = 17;
+
+pub const NAMED_ENDPOINT: usize = 18;
+
+pub const PDR: usize = 19;
+
+// A traffic endpoint: ID (1 octet), TEID (4), families (1).
+pub const ENDPOINT: usize = 6;
+
+// An FQ-CSID: node type (1 octet), Node-ID type (1), address (16), CSID (2).
+pub const CSID: usize = 20;
+
+// A session's slot: the SEID (8 octets), the numbers of PDRs, endpoints and FQ-CSIDs (1 each), and an area for each.
+pub const PDR_COUNT: usize = 8;
+
+pub const ENDPOINT_COUNT: usize = 9;
+
+pub const CSID_COUNT: usize = 10;
+
+pub const PDRS: usize = 11;
+
+pub const ENDPOINTS: usize = PDRS + MAX_PDRS * PDR;
+
+pub const CSIDS: usize = ENDPOINTS + MAX_ENDPOINTS * ENDPOINT;
+
+pub const SLOT: usize = CSIDS + MAX_CSIDS * CSID;
+
+// The table: the settings, the number of sessions (2 octets at COUNT), and the slots from HEAD on.
+pub const COUNT: usize = SETTINGS;
+
+pub const HEAD: usize = COUNT + 2;
+
+pub const LENGTH: usize = HEAD + MAX_SESSIONS as usize * SLOT;
+
+// The longest message, the least reply space, and the grants of a request at most.
+pub const MESSAGE: usize = 2048;
+
+pub const SPACE: usize = 1024;
+
+pub const GRANTS: usize = MAX_PDRS + MAX_ENDPOINTS;
+
+// Words of a plan's row, and of the plan of the longest message, which has at most 226 rows.
+pub const ROW: usize = 18;
+
+pub const PLAN: usize = 226 * ROW;
