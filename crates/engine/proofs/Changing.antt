@@ -23,7 +23,8 @@ use Rattle.request.proofs.StageLaws.{stage-refused}
 use Rattle.request.proofs.ActedLaws.{acted-whole}
 use Rattle.reply.specs.declared.Offending.the-variants.{Element}
 use Rattle.engine.specs.Answers.{verdictOn, Refusing}
-use Rattle.engine.specs.Steps.{Changing, Entering, Readable}
+use Rattle.engine.specs.Steps.{Changing, Readable}
+use Rattle.engine.proofs.Entering.{Entering}
 use Rattle.engine.proofs.Faults.{small-cause}
 use Rattle.engine.proofs.VerdictSteps.{read-through}
 

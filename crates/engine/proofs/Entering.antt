@@ -5,6 +5,7 @@ use mathlib.Core.Bool.{Bool, true, false}
 use mathlib.Core.Option.{some}
 use mathlib.Core.List.{List, []}
 use Prim.Native.Nat.{ℕ, _*_, _<_, _^_}
+use native.Mathlib.Decide.{ℕ-discrete}
 use lib.Dec.{T, eqb}
 use borrow.Author.Tests.{eqb-true}
 use lib.ListN.{length, getD}
@@ -28,7 +29,17 @@ use Rattle.areas.specs.Counted.{areaIn, placeIn}
 use Rattle.session.specs.Areas.{sessionArea}
 use Rattle.store.proofs.Stored.{session-found, session-absent, session-loaded, fresh-slot}
 use Rattle.stages.proofs.EntryLaws.{slot-live, slot-new}
-use Rattle.engine.specs.Steps.{Entering, Entered}
+use Rattle.engine.specs.Steps.{Fetching, Fetched, Entered}
+
+-- where the session at entry comes from: the SEID of an establishment's F-SEID, or the place of the header's session in the table
+pub record Entering (t msg slot : List ℕ) (kind seid p : ℕ) : Type 0 where
+  pub table : T (sound maxSessions t)
+  pub tableLong : length t ≡ 30943
+  pub kindIs : kind ≡ kindOf msg
+  pub new : kind ≡ 50 → seid ≡ readRequest msg .seid
+  pub fits : seid < 2 ^ 64
+  pub found : (kind ≡ 50 → ⊥) → placeIn sessionArea (headerSeid msg) t ≡ Found p
+  pub long : length slot ≡ 483
 
 module _ (t : List ℕ) (h : T (sound maxSessions t)) where
   abbrev s : Settings
@@ -79,7 +90,7 @@ unfolding newSession sessionOctets viewSession viewArea numberAt octetAt session
 new-viewed n h = λ j. record { seid = number-be 8 n h j; pdrs = []; endpoints = []; csids = [] }
 
 -- a new session in its slot
-pub entered-new : (t msg slot slot′ : List ℕ) (kind seid p : ℕ) (live : Bool) → Entering t msg slot kind seid p → kind ≡ 50 → slot′ ≡ put 0 (be 8 seid) (zeros 483) → length slot′ ≡ 483
+entered-new : (t msg slot slot′ : List ℕ) (kind seid p : ℕ) (live : Bool) → Entering t msg slot kind seid p → kind ≡ 50 → slot′ ≡ put 0 (be 8 seid) (zeros 483) → length slot′ ≡ 483
     → live ≡ isLive seid (viewSessions t) → Entered t msg kind seid live slot′
 entered-new t msg slot slot′ kind seid p live a k e long l =
     let fresh : slot′ ≡ sessionOctets (newSession seid) = e ∙ fresh-slot seid in
@@ -105,7 +116,7 @@ module _ (t msg slot : List ℕ) (kind seid p : ℕ) (a : Entering t msg slot ki
   unfolding x
   found = session-found (viewSettings t) (k .settings) (viewSessions t) (k .sessions) (headerSeid msg) p (newSession 0) there
 
-  pub place-within : p < 64
+  place-within : p < 64
   place-within = found .0
 
   allowed : T (sessionAllowed (viewSettings t) x)
@@ -114,9 +125,21 @@ module _ (t msg slot : List ℕ) (kind seid p : ℕ) (a : Entering t msg slot ki
   is-entry : x ≡ entrySession (viewSessions t) msg
   is-entry = sym (live-entry (viewSessions t) msg x (λ e. other (a .kindIs ∙ e)) (found .1))
 
-  pub entered-live : (slot′ : List ℕ) → slot′ ≡ part (p * 483) 483 (areaIn sessionArea t) → length slot′ ≡ 483 → Entered t msg kind seid false slot′
+  entered-live : (live : Bool) (slot′ : List ℕ) → slot′ ≡ part (p * 483) 483 (areaIn sessionArea t) → length slot′ ≡ 483 → Entered t msg kind seid live slot′
   unfolding x
-  entered-live slot′ e long =
+  entered-live live slot′ e long =
       let loaded : slot′ ≡ sessionOctets x = e ∙ ap (λ (u : List ℕ). part (p * 483) 483 (areaIn sessionArea u)) (sym (k .encoded)) ∙ session-loaded (viewSettings t) (k .settings) (viewSessions t) (k .sessions) (headerSeid msg) p (newSession 0) there in
       let viewed : viewSession slot′ ≡ x = ap viewSession loaded ∙ session-back (viewSettings t) (k .settings) x allowed in
       record { entry = loaded ∙ ap sessionOctets is-entry; viewed = viewed ∙ is-entry; place = slot-live (viewSettings t) slot′ x long viewed allowed; known = λ z. absurd (other z) }
+
+-- what fetching it asks, and that what it leaves is the session at entry
+module _ (t msg slot : List ℕ) (kind seid p : ℕ) (a : Entering t msg slot kind seid p) where
+  pub fetch-asks : Fetching t slot kind seid p
+  fetch-asks = record { table = a .table; tableLong = a .tableLong; fits = a .fits; there = λ n. place-within t msg slot kind seid p a n; long = a .long }
+
+  pub entered : (live : Bool) (slot′ : List ℕ) → Fetched t kind seid p live slot′ → Entered t msg kind seid live slot′
+  entered live slot′ f = go (ℕ-discrete kind 50)
+    where
+      go : Dec (kind ≡ 50) → Entered t msg kind seid live slot′
+      go (yes e) = entered-new t msg slot slot′ kind seid p live a e (f .new e) (f .long) (f .known e)
+      go (no n) = entered-live t msg slot kind seid p a n live slot′ (f .old n) (f .long)

@@ -7,6 +7,7 @@ use mathlib.Core.List.{List}
 use lib.Dec.{T, eqb}
 use lib.ListN.{length}
 use Rattle.octets.specs.Choice.{pick}
+use Rattle.octets.specs.Octets.{be, part, put, zeros}
 use Rattle.rules.specs.Limits.{maxSessions}
 use Rattle.rules.specs.Model.{freeCount}
 use Rattle.rules.specs.Layout.{sessionOctets, viewSession, viewSettings, viewSessions}
@@ -15,7 +16,7 @@ use Rattle.rules.specs.Message.{kindOf, headerSeid, readRequest}
 use Rattle.rules.specs.Stages.{isLive, entrySession, judged}
 use Rattle.rules.specs.Serve.{replyTo, serve}
 use Rattle.plan.specs.Rows.{rowWidth, rowsOf, requestIn}
-use Rattle.areas.specs.Counted.{placeIn}
+use Rattle.areas.specs.Counted.{areaIn, placeIn}
 use Rattle.session.specs.Areas.{sessionArea}
 use Rattle.slots.specs.declared.Place.the-variants.{Found}
 use Rattle.stages.specs.Rules.{Slot}
@@ -27,15 +28,20 @@ pub record Counted (t words : List ℕ) (free : ℕ) : Type 0 where
   pub long : length words ≡ 64
   pub count : free ≡ freeCount (viewSettings t) (viewSessions t)
 
--- where the session at entry comes from: the SEID of an establishment's F-SEID, or the place of the header's session in the table
-pub record Entering (t msg slot : List ℕ) (kind seid p : ℕ) : Type 0 where
+-- what fetching the session at entry asks: a place in the table, unless the session is new
+pub record Fetching (t slot : List ℕ) (kind seid p : ℕ) : Type 0 where
   pub table : T (sound maxSessions t)
   pub tableLong : length t ≡ 30943
-  pub kindIs : kind ≡ kindOf msg
-  pub new : kind ≡ 50 → seid ≡ readRequest msg .seid
   pub fits : seid < 2 ^ 64
-  pub found : (kind ≡ 50 → ⊥) → placeIn sessionArea (headerSeid msg) t ≡ Found p
+  pub there : (kind ≡ 50 → ⊥) → p < 64
   pub long : length slot ≡ 483
+
+-- what it leaves and answers: a new session's slot and whether its SEID is live, or the slot at the place
+pub record Fetched (t : List ℕ) (kind seid p : ℕ) (live : Bool) (slot : List ℕ) : Type 0 where
+  pub long : length slot ≡ 483
+  pub new : kind ≡ 50 → slot ≡ put 0 (be 8 seid) (zeros 483)
+  pub known : kind ≡ 50 → live ≡ isLive seid (viewSessions t)
+  pub old : (kind ≡ 50 → ⊥) → slot ≡ part (p * 483) 483 (areaIn sessionArea t)
 
 -- the session at entry in its slot, and whether the SEID of an establishment is live
 pub record Entered (t msg : List ℕ) (kind seid : ℕ) (live : Bool) (slot : List ℕ) : Type 0 where

@@ -9,7 +9,7 @@ ghost use Rattle.areas.specs.Counted.{withRecord};
 ghost use Rattle.session.specs.Areas.{sessionArea};
 ghost use Rattle.session.specs.Build.{built};
 ghost use Rattle.engine.specs.Answers.{Asked, Live, Answers, Refusing, Accepting};
-ghost use Rattle.engine.specs.Steps.{Counted, Entering, Entered, Readable, Changing, Serves};
+ghost use Rattle.engine.specs.Steps.{Counted, Fetching, Fetched, Entered, Readable, Changing, Serves};
 ghost use lib.Dec.{T};
 ghost use Rattle.rules.specs.Limits.{maxSessions};
 ghost use Rattle.rules.specs.Layout.{viewSessions};
@@ -99,9 +99,9 @@ fn is_live(t: &[u8], seid: u64) -> bool
 
 // Puts the session at entry into its slot: a new one for an establishment, else the one at the place p. The answer is whether the SEID of
 // an establishment is live.
-fn enter(t: &[u8], msg: &[u8], kind: u64, seid: u64, p: usize, slot: &mut [u8]) -> bool
-    requires { ⌜ Entering (now t) (now msg) (now slot) kind seid p ⌝ }
-    ensures { λ r. ⌜ Entered (now (t .entry)) (now (msg .entry)) kind seid r (now (slot .exit)) ⌝ }
+fn enter(t: &[u8], kind: u64, seid: u64, p: usize, slot: &mut [u8]) -> bool
+    requires { ⌜ Fetching (now t) (now slot) kind seid p ⌝ }
+    ensures { λ r. ⌜ Fetched (now (t .entry)) kind seid p r (now (slot .exit)) ⌝ }
 {
     if kind == 50 {
         store::fresh(slot, seid);
@@ -177,7 +177,7 @@ fn change(
         }
         Reading::Whole(read) => {
             let mut slot = [0u8; format::SLOT];
-            let live = enter(t, msg, kind, read.seid, p, &mut slot);
+            let live = enter(t, kind, read.seid, p, &mut slot);
             return settle(
                 t,
                 taken,

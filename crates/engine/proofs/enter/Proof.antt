@@ -1,18 +1,17 @@
 -- `engine::enter` meets its contract.
 -- Assumes nothing.
-use Rattle.engine.proofs.Entering.{entered-new, place-within, entered-live}
 use borrow.Author.Needs.{needs}
 use Rattle.engine.proofs.enter.Statement.{statement}
 use Rattle.engine.proofs.enter.Tie as tie
 
 returns : tie.Need-returns
-returns c = entered-new _ _ _ _ _ _ _ _ (c .before .before .before .before .before .before .before .before .before .pre) (c .before .before .before .before .before .if1 .taken) (c .before .before .before .fresh .ensures) (search needs) (c .is-live .ensures)
+returns c = record { long = search needs; new = λ e. c .before .before .before .fresh .ensures; known = λ e. c .is-live .ensures; old = λ n. absurd (n (c .before .before .before .before .before .if1 .taken)) }
 
 load-requires : tie.Need-load-requires
-load-requires c κs = (search needs, place-within _ _ _ _ _ _ (c .before .before .before .before .before .pre) (c .before .if1 .left), search needs)
+load-requires c κs = (search needs, c .before .before .before .before .pre .there (c .before .if1 .left), search needs)
 
 returns-2 : tie.Need-returns-2
-returns-2 c = entered-live _ _ _ _ _ _ (c .before .before .before .before .before .before .before .before .pre) (c .before .before .before .before .if1 .left) _ (c .before .before .load .ensures) (search needs)
+returns-2 c = record { long = search needs; new = λ e. absurd (c .before .before .before .before .if1 .left e); known = λ e. absurd (c .before .before .before .before .if1 .left e); old = λ n. c .before .before .load .ensures }
 
 pub enter-spec : {M : Type 1} → statement M
 enter-spec =
