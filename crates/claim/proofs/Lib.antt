@@ -13,6 +13,7 @@ pub mod GrantReply
 pub mod GrantedTeids
 pub mod InsertLaws
 pub mod KeptRules
+pub mod MessageHeader
 pub mod NewHolds
 pub mod NewTeids
 pub mod NoRoom

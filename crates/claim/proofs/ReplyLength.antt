@@ -22,12 +22,13 @@ use Rattle.rules.specs.Message.{kindOf, headerSeid, sequenceOf, readRequest}
 use Rattle.laws.proofs.MessageLaws.{length-one, written, short-map}
 use Rattle.rules.specs.Grants.{Kind, ofPdr, ofEndpoint, sameKind, Grant, isKind, grantsOf, grants}
 use Rattle.rules.specs.Stages.{Verdict, verdict}
-use Rattle.rules.specs.Reply.{element, message, createdPdrContent, createdPdr, createdEndpointContent, createdEndpoint, created, offendingElement, nodeIdElement, unitFseid, acceptedPart, replyBody, replySeid, reply}
+use Rattle.rules.specs.Reply.{element, createdPdrContent, createdPdr, createdEndpointContent, createdEndpoint, created, offendingElement, nodeIdElement, unitFseid, acceptedPart, replyBody, replySeid, reply}
 use Rattle.rules.specs.Serve.{replyTo}
 use Rattle.laws.proofs.ReplyLaws.{sequence-three}
 use Rattle.laws.proofs.BoundLaws.{grantFits, grants-fit, grants-few}
 use Rattle.claim.proofs.GrantReply.{pdr-content-short, endpoint-content-short, fseid-length}
 use Rattle.claim.proofs.VerdictLaws.{passed, few-new-pdrs, few-new-endpoints}
+use Rattle.claim.proofs.MessageHeader.{length-header}
 
 -- ---- the Created groups
 
@@ -114,11 +115,6 @@ module _ (s : Settings) (hs : T (settingsAllowed s)) where
       let f = offending-short (v .offending) in
       let g = accepted-short kind n v gs fits few in
       omega arith
-
--- the header's 16 octets
-length-header : (kind seid : ℕ) (q xs : List ℕ) → length q ≡ 3 → length (message kind seid q xs) ≡ 16 + length xs
-unfolding message be
-length-header kind seid q xs three = let e = length-append q (0 ∷ xs) in omega arith
 
 -- ---- every reply
 

@@ -1,30 +1,29 @@
 -- A whole restoration request: its header passes, it is framed, it has no fault, and it is read as the session's records.
 -- Assumes nothing.
 use mathlib.Core.Path.{_≡_, refl, sym, ap, ap₂, _∙_, subst}
-use Prim.Native.Nat.{ℕ, suc, _+_, _-_, _*_, _^_, _≤_, _<_, zero-le}
+use Prim.Native.Nat.{ℕ, _+_, _-_, _*_, _≤_, _<_, zero-le}
 use native.Mathlib.Nat.{le-trans, le-of-eq, mul-le-mul-right, le-of-lt}
 use native.Mathlib.Omega.{arith}
 use mathlib.Core.Bool.{Bool, true, false, not, _&&_}
 use mathlib.Core.Option.{none}
 use mathlib.Core.List.{List, [], _∷_, _++_, map, append-nil}
 use lib.ListN.{length, length-append}
-use lib.Dec.{T, leb, ltb, eqb, eqb→eq, leb→le, lt→ltb, lit<, lit≤}
-use mir.Facts.{yes-eqb, yes-leb}
+use lib.Dec.{T, ltb, eqb, eqb→eq, leb→le, lt→ltb, lit<, lit≤}
 use Rattle.octets.specs.Choice.{orElse, valueOr, mapOption, consOption}
 use Rattle.octets.specs.Lists.{collect, member, any, all, keep, findBy, ascending}
-use Rattle.octets.specs.Octets.{be, numberAt, octetAt, bit, octets, concatMap}
-use Rattle.octets.proofs.Tests.{pick-yes, pick-no, each, Each, both, and-left, all-head, all-tail, all-cons, below-not-member, below-mono, ascending-head, ascending-tail, of-true}
-use Rattle.octets.proofs.Numbers.{number-be}
+use Rattle.octets.specs.Octets.{be, octetAt, bit, octets, concatMap}
+use Rattle.octets.proofs.Tests.{pick-yes, pick-no, each, Each, and-left, all-head, all-tail, all-cons, below-not-member, below-mono, ascending-head, ascending-tail, of-true}
 use Rattle.rules.specs.Limits.{maxRestoration}
 use Rattle.rules.specs.Model.{Settings, Pdr, Endpoint, Csid, Session, endpointId, nodeTypeOf}
 use Rattle.rules.specs.Elements.{Answer, value, Fqcsid, readFseid, addressOf, fqcsidOctets, fseidOctets, nodeOf}
 use Rattle.laws.proofs.ElementLaws.{fseid-back}
 use Rattle.rules.specs.Sound.{settingsAllowed, pdrTests, pdrAllowed, endpointTests, endpointAllowed, csidAllowed, sessionTests, sessionAllowed}
 use Rattle.laws.proofs.LayoutLaws.{pdrsOk, endpointsOk, csidsOk, fewPdrs, fewEndpoints, fewCsids, seidFits, tests}
-use Rattle.rules.specs.Message.{Element, elements, body, kindOf, headerAllowed, firstOctetAllowed, frame, frameFault, opened, openedAtTop, actedOn, hasType, there, contentOf, actedFault, topFaultFrom, topFault, readFault, onceFault, shortFault, answerFault, csidFault, isClearing, csidReadFault, csidCountAllowed, nodesIn, nodeIn, answerValue, requiredAtTop, restorationIn, missingFault, required, requestOf, readRequest, ofType, groupsOf, groupOf, newPdr, newEndpoint, fseidIn, fqcsidIn, isNull}
+use Rattle.rules.specs.Message.{Element, elements, body, kindOf, headerAllowed, frame, frameFault, opened, openedAtTop, actedOn, hasType, there, contentOf, actedFault, topFaultFrom, topFault, readFault, onceFault, shortFault, answerFault, csidFault, isClearing, csidReadFault, csidCountAllowed, nodesIn, nodeIn, answerValue, requiredAtTop, restorationIn, missingFault, required, requestOf, readRequest, ofType, groupsOf, groupOf, newPdr, newEndpoint, fseidIn, fqcsidIn, isNull}
 use Rattle.laws.proofs.MessageLaws.{Fits, el, elements-cons, elements-nil, Inside, framed-nil, framed-cons, length-one, written, asElement, elements-map, framed-map, short-map}
 use Rattle.rules.specs.Reply.{element, message}
 use Rattle.rules.specs.Restoration.{pdrContent, pdrElement, endpointContent, endpointElement, recordCsid, csidElement, Peer, peerTests, peerAllowed, recordElements, restoration, restoredPdr, restoredEndpoint, restoredRequest}
+use Rattle.claim.proofs.MessageHeader.{message-body, message-kind, message-length, message-allowed}
 use Rattle.claim.proofs.RestorationElements.{small, one-fits, pdr-short, pdr-sound, pdr-read, pdr-framed, endpoint-short, endpoint-sound, endpoint-read, endpoint-framed, csid-read, csid-octets-short}
 
 -- the elements of a type among those of one type
@@ -194,52 +193,18 @@ module _ (s : Settings) (hs : T (settingsAllowed s)) (p : Peer) (hp : T (peerAll
   unfolding restoration recordElements content pdrOctets endpointOctets csidOctets written pdrElement endpointElement csidElement fseid csidContent
   msg-content = refl
 
-  message-body : (h q : ℕ) (xs : List ℕ) → body (message 50 h (be 3 q) xs) ≡ xs
-  unfolding body message be
-  message-body h q xs = refl
-
-  message-kind : (h q : ℕ) (xs : List ℕ) → kindOf (message 50 h (be 3 q) xs) ≡ 50
-  unfolding kindOf message octetAt
-  message-kind h q xs = refl
-
-  message-length : (h q : ℕ) (xs : List ℕ) → length (message 50 h (be 3 q) xs) ≡ 16 + length xs
-  unfolding message be
-  message-length h q xs = sixteen (length xs)
-    where
-      sixteen : (n : ℕ) → suc (suc (suc (suc (suc (suc (suc (suc (suc (suc (suc (suc (suc (suc (suc (suc n))))))))))))))) ≡ 16 + n
-      sixteen n = omega arith
-
-  message-number : (h q : ℕ) (xs : List ℕ) → 12 + length xs < 256 ^ 2 → numberAt 2 2 (message 50 h (be 3 q) xs) ≡ 12 + length xs
-  unfolding numberAt message be
-  message-number h q xs small′ = number-be 2 (12 + length xs) small′
-
-  message-allowed : (h q : ℕ) (xs : List ℕ) → length xs ≤ 2000 → T (headerAllowed (message 50 h (be 3 q) xs))
-  unfolding headerAllowed
-  message-allowed h q xs short =
-      let m = message 50 h (be 3 q) xs in
-      let e = message-length h q xs in
-      let n = message-number h q xs (small s hs (omega arith)) in
-      let long : 16 ≤ length m = omega arith in
-      let exact : 4 + numberAt 2 2 m ≡ length m = omega arith in
-      both (leb 16 (length m) && firstOctetAllowed (octetAt m 0)) (eqb (4 + numberAt 2 2 m) (length m))
-      (both (leb 16 (length m)) (firstOctetAllowed (octetAt m 0)) (yes-leb long) first)
-      (yes-eqb exact)
-    where
-      first : T (firstOctetAllowed (octetAt (message 50 h (be 3 q) xs) 0))
-      first = unfold firstOctetAllowed octetAt message bit in tt
-
   pub msg-allowed : T (headerAllowed msg)
-  msg-allowed = rw msg-content (message-allowed (p .header) (p .sequence) content (le-trans content-short (lit≤ tt)))
+  msg-allowed = rw msg-content (message-allowed 50 (p .header) (p .sequence) content (le-trans content-short (lit≤ tt)))
 
   pub msg-kind : kindOf msg ≡ 50
-  msg-kind = ap kindOf msg-content ∙ message-kind (p .header) (p .sequence) content
+  msg-kind = ap kindOf msg-content ∙ message-kind 50 (p .header) (p .sequence) content
 
   msg-body : body msg ≡ content
-  msg-body = ap body msg-content ∙ message-body (p .header) (p .sequence) content
+  msg-body = ap body msg-content ∙ message-body 50 (p .header) (p .sequence) content
 
   -- 01: every session fits one request of at most 1,526 octets
   pub msg-short : length msg ≤ maxRestoration
-  msg-short = let e = ap length msg-content ∙ message-length (p .header) (p .sequence) content in let h = content-short in omega arith
+  msg-short = let e = ap length msg-content ∙ message-length 50 (p .header) (p .sequence) content in let h = content-short in omega arith
 
   pub msg-framed : frameFault msg ≡ none
   unfolding frameFault
