@@ -12,18 +12,6 @@ fn text(s: &[u8]) {
     io::write_all(STDOUT_FILENO, s);
 }
 
-// The first n octets of s in hexadecimal digits; all of them where there are fewer.
-fn hex(s: &[u8], n: usize) {
-    let mut i = 0;
-    while i < s.len() {
-        if n <= i {
-            return;
-        }
-        io::print_hex(STDOUT_FILENO, octets::read(s, i, 1), 2);
-        i += 1;
-    }
-}
-
 // The outcome of a call, and the free count after it.
 fn outcome(t: &[u8], name: &[u8], n: u64) {
     text(name);
@@ -60,7 +48,7 @@ fn request(t: &mut [u8], msg: &[u8]) {
     outcome(t, b"outcome ", served.outcome as u64);
     if served.outcome == 0 {
         text(b" reply ");
-        hex(&reply, served.used);
+        output::hex(&reply, served.used);
     }
     text(b"\n");
 }

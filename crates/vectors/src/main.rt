@@ -33,23 +33,8 @@ fn number(n: u64) {
     io::write_all(STDOUT_FILENO, b" ");
 }
 
-fn wide(x: u8) -> u64 {
-    x as u64
-}
-
-// The octets of s before index n, in hexadecimal.
-fn hexadecimal(s: &[u8], n: usize) {
-    let mut i = 0;
-    while i < s.len() {
-        if i < n {
-            io::print_hex(STDOUT_FILENO, wide(s[i]), 2);
-        }
-        i += 1;
-    }
-}
-
 fn line(s: &[u8], n: usize) {
-    hexadecimal(s, n);
+    output::hex(s, n);
     io::write_all(STDOUT_FILENO, b"\n");
 }
 

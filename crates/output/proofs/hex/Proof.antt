@@ -1,18 +1,19 @@
--- `vectors::hexadecimal` is safe and ends: the index stays within the slice. Assumes nothing.
-use Prim.Native.Nat.{_-_}
-use borrow.Author.Needs.{needs}
+-- `output::hex` meets its contract: the octets that are written are there.
+-- Assumes nothing.
+use Prim.Native.Nat.{_-_, _≤_}
 use lib.ListN.{length}
-use Rattle.vectors.proofs.hexadecimal.Statement.{statement}
-use Rattle.vectors.proofs.hexadecimal.Tie as tie
+use borrow.Author.Needs.{needs}
+use Rattle.output.proofs.hex.Statement.{statement}
+use Rattle.output.proofs.hex.Tie as tie
 
 abbrev Inv-loop : tie.InvT-loop
-Inv-loop s n i₀ i = Unit
+Inv-loop s n i₀ i = i ≤ length s
 
 abbrev μ-loop : tie.MeasureT-loop
 μ-loop s n i₀ i = length s - i
 
-pub hexadecimal-spec : {M : Type 1} → statement M
-hexadecimal-spec =
+pub hex-spec : {M : Type 1} → statement M
+hex-spec =
     tie.close
     (tie.spec
     Inv-loop
