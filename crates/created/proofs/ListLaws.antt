@@ -2,7 +2,7 @@
 -- Assumes nothing.
 use mathlib.Core.Path.{_≡_, refl, sym, ap, ap₂, _∙_}
 use mathlib.Core.Bool.{Bool, true}
-use mathlib.Core.List.{List, [], _∷_, _++_, map, append-assoc}
+use mathlib.Core.List.{List, [], _∷_, _++_, map, map-append, append-assoc}
 use Prim.Native.Nat.{ℕ, zero, suc, _+_, _-_, _≤_, _<_}
 use native.Mathlib.Nat.{le-of-eq}
 use native.Mathlib.Numerals.{add-one}
@@ -59,10 +59,6 @@ pub listed-filled : (plan places : List ℕ) (l : List Entry) → listed (length
 listed-filled plan places l = ap (map grantOf) (take-filled (entryAt plan places) (length places) l) ∙ firsts-grants plan places
 
 -- ---- the groups of one kind, entry after entry
-
-map-append : {X Y : Type 0} (f : X → Y) (xs ys : List X) → map f (xs ++ ys) ≡ map f xs ++ map f ys
-map-append f [] ys = refl
-map-append {Y} f (x ∷ xs) ys = ap (λ (l : List Y). f x ∷ l) (map-append f xs ys)
 
 groups-append : (k : Kind) (s : Settings) (xs ys : List Grant) → groups k s (xs ++ ys) ≡ groups k s xs ++ groups k s ys
 groups-append k s [] ys = sym (ap (λ (l : List ℕ). l ++ groups k s ys) (groups-none k s))

@@ -6,7 +6,9 @@
 use mathlib.Core.Path.{_≡_, refl, sym, ap, subst}
 use mathlib.Core.Bool.{Bool}
 use Prim.Native.Nat.{ℕ, _<_, _≤_, _^_, _*_, _+_}
+use native.Mathlib.Nat.{le-refl}
 use native.Mathlib.Omega.{arith}
+use borrow.Author.Tests.{lt-ltb, le-ltb}
 use mathlib.Core.List.{[], _∷_, List}
 use lib.ListN.{length}
 use lib.Dec.{T, lit<}
@@ -46,7 +48,7 @@ use denote.Exit.{yes}
 use Rattle.created.specs.declared.Grant.{Grant as Entry}
 use Rattle.created.specs.Entries.{entryAt, within, filled}
 use Rattle.created.proofs.ListLaws.{filled-none, filled-more, length-filled}
-use Rattle.created.proofs.Counted.{test-holds, test-fails, counts}
+use Rattle.created.proofs.Counted.{counts}
 use Rattle.created.proofs.EntryMemory.{R, vals, tells, typed, cell, mut-slice}
 use Rattle.created.proofs.Walk.{calls-of, free-cell, by-walk}
 use Rattle.created.proofs.entry_at as entry-at
@@ -181,7 +183,7 @@ module _ {M : Type 1} (𝓤 : URA M) (H : Heap 𝓤) (A : Atoms 𝓤) (W : Given
     more i X small k =
         qed W (At i) ∵ exec ! C Λ En pieces.turn-1 (anyQ (afterTurn 𝓤 H X Left)) $
         assigns ! (bin ! (load ! (from ! (stop !)) (look ! 16 refl)) (load ! (from ! (stop !)) (look ! 18 refl)) tt) (from ! (stop !)) (init ! 14 refl (tt, tt)) $
-        rewrite ! 14 (λ (t : Bool). ‵ (fat fullShare tyBool l₆ 0 (vbool t))) (test-holds i n small) refl $
+        rewrite ! 14 (λ (t : Bool). ‵ (fat fullShare tyBool l₆ 0 (vbool t))) (lt-ltb i n small) refl $
         stays ! (load ! (from ! (stop !)) (look ! 14 refl)) $
         -- `entry_at`, on a copy of the plan and of the places
         move ! (5 ∷ []) $ use1 W (‵ Plan ⊛ ‵ Plan) (shr-slice-copy 𝓤 H A W (named 1) κ₁ u64 .twice x₁ (s₁ ∷ [])) $ split ! $
@@ -220,7 +222,7 @@ module _ {M : Type 1} (𝓤 : URA M) (H : Heap 𝓤) (A : Atoms 𝓤) (W : Given
     last X =
         qed W (At n) ∵ exec ! C Λ En pieces.turn-1 (anyQ (afterTurn 𝓤 H X Left)) $
         assigns ! (bin ! (load ! (from ! (stop !)) (look ! 16 refl)) (load ! (from ! (stop !)) (look ! 18 refl)) tt) (from ! (stop !)) (init ! 14 refl (tt, tt)) $
-        rewrite ! 14 (λ (t : Bool). ‵ (fat fullShare tyBool l₆ 0 (vbool t))) (test-fails n) refl $
+        rewrite ! 14 (λ (t : Bool). ‵ (fat fullShare tyBool l₆ 0 (vbool t))) (le-ltb n n (le-refl n)) refl $
         leaves-loop ! (load ! (from ! (stop !)) (look ! 14 refl)) $ exec ! C Λ En pieces.t-3 (atRet En Post) $
         closes-slice ! tt R ys (zs n) (zs-length n (omega arith)) b o $
         -- [obs; the borrow; the token; the plan's token; the plan; the places' token; the places; _9; …; room for _0; …]

@@ -6,7 +6,9 @@
 use mathlib.Core.Path.{_≡_, refl, sym, _∙_, ap, subst}
 use mathlib.Core.Bool.{Bool, true}
 use Prim.Native.Nat.{ℕ, _<_, _≤_, _-_, _^_, _*_, _+_}
+use native.Mathlib.Nat.{le-refl}
 use native.Mathlib.Omega.{arith}
+use borrow.Author.Tests.{lt-ltb, le-ltb}
 use mathlib.Core.List.{[], _∷_, List}
 use lib.ListN.{length, getD}
 use lib.Dec.{lit<}
@@ -53,7 +55,7 @@ use Rattle.created.specs.declared.Grant.{Grant as Entry}
 use Rattle.created.specs.Groups.{kindIn, groups, idFits}
 use Rattle.created.specs.Entries.{noEntry, listed}
 use Rattle.created.proofs.Again.{LentAgain, lends-again, comes-back}
-use Rattle.created.proofs.Counted.{test-holds, test-fails, counts}
+use Rattle.created.proofs.Counted.{counts}
 use Rattle.created.proofs.ListLaws.{wrote, writes, wrote-none, wrote-more, wrote-next, wrote-fits, id-at}
 use Rattle.created.proofs.EntryMemory.{R, vals, tells, makes, copy, typed, cell, shr-slice}
 use Rattle.created.proofs.Walk.{calls-of, free-cell, by-walk}
@@ -232,7 +234,7 @@ module _ {M : Type 1} (𝓤 : URA M) (H : Heap 𝓤) (A : Atoms 𝓤) (W : Given
     more i X small k =
         qed W (At i) ∵ exec ! C Λ En pieces.turn-1 (anyQ (afterTurn 𝓤 H X Left)) $
         assigns ! (bin ! (load ! (from ! (stop !)) (look ! 19 refl)) (load ! (from ! (stop !)) (look ! 29 refl)) tt) (from ! (stop !)) (init ! 17 refl (tt, tt)) $
-        rewrite ! 17 (λ (u : Bool). ‵ (fat fullShare tyBool l₉ 0 (vbool u))) (test-holds i n small) refl $
+        rewrite ! 17 (λ (u : Bool). ‵ (fat fullShare tyBool l₉ 0 (vbool u))) (lt-ltb i n small) refl $
         stays ! (load ! (from ! (stop !)) (look ! 17 refl)) $
         -- the place of grants[i]
         assigns ! (bin ! (load ! (from ! (stop !)) (look ! 19 refl)) (lit ! tt) (record { fits = fits })) (from ! (stop !)) (init ! 15 refl (tt, record { fits = fits })) $
@@ -279,7 +281,7 @@ module _ {M : Type 1} (𝓤 : URA M) (H : Heap 𝓤) (A : Atoms 𝓤) (W : Given
     last X =
         qed W (At n) ∵ exec ! C Λ En pieces.turn-1 (anyQ (afterTurn 𝓤 H X Left)) $
         assigns ! (bin ! (load ! (from ! (stop !)) (look ! 19 refl)) (load ! (from ! (stop !)) (look ! 29 refl)) tt) (from ! (stop !)) (init ! 17 refl (tt, tt)) $
-        rewrite ! 17 (λ (u : Bool). ‵ (fat fullShare tyBool l₉ 0 (vbool u))) (test-fails n) refl $
+        rewrite ! 17 (λ (u : Bool). ‵ (fat fullShare tyBool l₉ 0 (vbool u))) (le-ltb n n (le-refl n)) refl $
         leaves-loop ! (load ! (from ! (stop !)) (look ! 17 refl)) $ exec ! C Λ En pieces.t-4 (atRet En Post) $
         assigns ! (of-opd ! (load ! (from ! (stop !)) (look ! 21 refl))) (from ! (stop !)) (init ! 35 refl (tt, record { fits = place-fits n (omega arith) })) $
         returns ! (look ! 35 refl) $
