@@ -114,7 +114,7 @@ module _ (a : List ℕ) (n i : ℕ) (ys : List ℕ) where
   module _ (h : i < n) where
     here : looksFrom i ≡ pick (holdsTeid (part (i * 19) 19 a) (number (part 13 4 ys))) (alike (part (i * 19) 19 a) ys) (looksFrom (i + 1))
     unfolding pdrHolds
-    here = rw (slices-more (λ x. true) 19 a n i h) (look-step (part (i * 19) 19 a) (map viewPdr (slices 19 (n - (i + 1)) (drop ((i + 1) * 19) a))) ys)
+    here = rw (slices-more 19 a n i h) (look-step (part (i * 19) 19 a) (map viewPdr (slices 19 (n - (i + 1)) (drop ((i + 1) * 19) a))) ys)
 
     -- as the code has the slot
     module _ (t : ℕ) (q : t ≡ number (part 13 4 ys)) (r : Bool) (e : r ≡ holdsTeid (take (i * 19 + 19 - i * 19) (drop (i * 19) a)) t) where

@@ -1,41 +1,27 @@
 -- The loops that mark holds: what is left gives the same answer, the same map and the same number of new marks.
 -- Assumes nothing.
 use mathlib.Core.Path.{_≡_, refl, sym, ap, subst, _∙_}
-use Prim.Native.Nat.{ℕ, _+_, _-_, _*_, _≤_, _<_, zero-le}
+use Prim.Native.Nat.{ℕ, _+_, _-_, _≤_, zero-le}
 use native.Mathlib.Omega.{arith}
 use native.Mathlib.Nat.{add-zero, zero-add, add-assoc, le-trans, le-of-eq}
 use mathlib.Core.Bool.{Bool, true, false, not, _&&_, _||_}
 use mathlib.Core.Option.{Option, none, some}
 use mathlib.Core.List.{List, [], _∷_, _++_, map}
 use lib.ListN.{length}
-use lib.Dec.{T, leb, ltb, leb→le, ltb→lt, lit≤}
+use lib.Dec.{lit≤}
 use Rattle.octets.specs.Choice.{pick, flag, consOption}
-use Rattle.octets.specs.Lists.{all, collect}
-use Rattle.octets.proofs.Tests.{and-left, and-right, all-head, all-tail, all-cons}
-use Rattle.rules.specs.Model.{Holding, Pdr, Endpoint, pdrHolding, endpointHolding, tunnelHolding, teidOf}
-use Rattle.rules.specs.Sound.{inPool}
+use Rattle.octets.specs.Lists.{collect}
+use Rattle.rules.specs.Model.{Holding, Pdr, Endpoint, pdrHolding, endpointHolding, tunnelHolding}
 use Rattle.pool.specs.Map.{marked, mark, marks, newMarks, offsets}
 use Rattle.pool.proofs.Marks.{length-mark}
 use Rattle.holdings.specs.Walk.{joins, sessionMarks}
-use Rattle.holdings.proofs.RecordWalk.{marks-nil, record-none, record-some}
+use Rattle.holdings.proofs.RecordWalk.{marks-nil, record-none, record-some, look-end}
 use Rattle.holdings.proofs.SessionWalk.{endpoint-step}
-use Rattle.records.specs.Kept.{unit}
-use Rattle.marking.specs.declared.Marks.{Marks}
+use Rattle.records.proofs.Cells.{or-false}
 use Rattle.marking.specs.declared.Marks.the-variants.{Clash, New}
-use Rattle.marking.specs.Marking.{mapped, marksAfter, newAfter, stepOf, wordsOf, Stepped, walked, Marked}
+use Rattle.marking.specs.Marking.{marksAfter, newAfter, stepOf, wordsOf, walked, Marked}
 
 -- ---- one hold more
-
--- the offset of a hold that has its bit in a map of n words
-pub in-map : (first n : ℕ) (h : Holding) (hs : List Holding) → T (mapped first n (h ∷ hs)) → (first ≤ h .teid) × (h .teid < first + 64 * n)
-unfolding mapped inPool unit
-in-map first n h hs m =
-    let g = all-head (inPool (unit first (64 * n) false)) (h .teid) (map teidOf hs) m in
-    (leb→le first (h .teid) (and-left (leb first (h .teid)) (ltb (h .teid) (first + 64 * n)) g), ltb→lt (h .teid) (first + 64 * n) (and-right (leb first (h .teid)) (ltb (h .teid) (first + 64 * n)) g))
-
-mapped-tail : (first n : ℕ) (h : Holding) (hs : List Holding) → T (mapped first n (h ∷ hs)) → T (mapped first n hs)
-unfolding mapped
-mapped-tail first n h hs m = all-tail (inPool (unit first (64 * n) false)) (h .teid) (map teidOf hs) m
 
 marks-cons : (first : ℕ) (ws : List ℕ) (h : Holding) (hs : List Holding) → marksAfter first ws (h ∷ hs) ≡ marksAfter first (mark ws (h .teid - first)) hs
 unfolding marksAfter marks offsets
@@ -75,16 +61,6 @@ unfolding stepOf
 step-few first ws earlier none k e = let z : k ≡ 0 = cc in omega arith
 step-few first ws earlier (some h) k e = let t = step-new first ws earlier h k e in omega (arith, t .1, flag-few (not (marked ws (h .teid - first))))
 
--- a record's own hold, of holds that have their bits
-pub mapped-own : (first n : ℕ) (a : Pdr) (left : List Pdr) → T (mapped first n (collect pdrHolding (a ∷ left))) → T (mapped first n (consOption (pdrHolding a) []))
-unfolding collect mapped
-mapped-own first n a left m = one (pdrHolding a) m
-  where
-    one : (o : Option Holding) → T (mapped first n (consOption o (collect pdrHolding left))) → T (mapped first n (consOption o []))
-    one none g = unfold mapped all in tt
-    one (some h) g =
-        unfold mapped in (all-cons (inPool (unit first (64 * n) false)) (h .teid) [] (all-head (inPool (unit first (64 * n) false)) (h .teid) (map teidOf (collect pdrHolding left)) g) (unfold all in tt))
-
 hold-none : (a : Pdr) (left : List Pdr) → pdrHolding a ≡ none → collect pdrHolding (a ∷ left) ≡ collect pdrHolding left
 unfolding collect
 hold-none a left e = ap (λ (o : Option Holding). consOption o (collect pdrHolding left)) e
@@ -105,11 +81,10 @@ pub record Marking (first : ℕ) (ws₀ : List ℕ) (hs : List Holding) (ws : Li
   pub keeps : sessionMarks first ws earlier left ≡ sessionMarks first ws₀ [] hs
   pub words : marksAfter first ws left ≡ marksAfter first ws₀ hs
   pub count : new + newAfter first ws left ≡ newAfter first ws₀ hs
-  pub inside : T (mapped first (length ws₀) left)
 
 module _ {first : ℕ} {ws₀ : List ℕ} {hs : List Holding} where
-  pub marking-start : T (mapped first (length ws₀) hs) → Marking first ws₀ hs ws₀ [] hs 0
-  marking-start m = record { long = refl; keeps = refl; words = refl; count = zero-add (newAfter first ws₀ hs); inside = m }
+  pub marking-start : Marking first ws₀ hs ws₀ [] hs 0
+  marking-start = record { long = refl; keeps = refl; words = refl; count = zero-add (newAfter first ws₀ hs) }
 
   -- a hold that is accepted
   marking-turn : {ws : List ℕ} {earlier left : List Holding} {new : ℕ} (h : Holding) (earlier′ : List Holding) (test : Bool) (k : ℕ)
@@ -124,39 +99,44 @@ module _ {first : ℕ} {ws₀ : List ℕ} {hs : List Holding} where
         words = sym (marks-cons first ws h left) ∙ m .words;
         count = add-assoc new k (newAfter first (mark ws (h .teid - first)) left)
             ∙ ap (λ (n : ℕ). new + n) (ap (λ (j : ℕ). j + newAfter first (mark ws (h .teid - first)) left) e ∙ sym (new-cons first ws h left)) ∙ m .count;
-        inside = mapped-tail first (length ws₀) h left (m .inside);
       }
 
   -- one that is not
   marking-bad : {ws : List ℕ} {earlier left : List Holding} {new : ℕ} (h : Holding) (earlier′ : List Holding) (test : Bool)
       → Marking first ws₀ hs ws earlier (h ∷ left) new
       → sessionMarks first ws earlier (h ∷ left) ≡ (test && sessionMarks first (mark ws (h .teid - first)) earlier′ left)
-      → test ≡ false → Clash ≡ walked first ws₀ hs
-  unfolding walked
+      → test ≡ false → sessionMarks first ws₀ [] hs ≡ false
   marking-bad {ws} {earlier} {left} h earlier′ test m step t =
-      let no : sessionMarks first ws₀ [] hs ≡ false = sym (m .keeps) ∙ step ∙ ap (λ (b : Bool). b && sessionMarks first (mark ws (h .teid - first)) earlier′ left) t in
-      sym (rw no)
+      sym (m .keeps) ∙ step ∙ ap (λ (b : Bool). b && sessionMarks first (mark ws (h .teid - first)) earlier′ left) t
 
-  pub marking-end : {ws : List ℕ} {earlier : List Holding} {new : ℕ} → Marking first ws₀ hs ws earlier [] new → Marked first ws₀ hs (New new) ws
+  pub marking-end : {ws : List ℕ} {earlier : List Holding} {new : ℕ} (sound : Bool) → sound ≡ true → Marking first ws₀ hs ws earlier [] new → Marked sound first ws₀ hs (New new) ws
   unfolding walked marksAfter newAfter marks newMarks offsets
-  marking-end {ws} {earlier} {new} m =
+  marking-end {ws} {earlier} {new} sound e m =
       let yes′ : sessionMarks first ws₀ [] hs ≡ true = sym (m .keeps) ∙ marks-nil first ws earlier in
       let few : new ≤ length hs = le-trans (le-of-eq (sym (add-zero new) ∙ m .count)) (new-few first ws₀ hs) in
-      record { answer = sym (rw (yes′, ← m .count) (ap New (add-zero new))); words = λ n e. m .words; few = λ n e. let same : new ≡ n = cc in omega arith }
+      record { answer = sym (rw (e, yes′, ← m .count) (ap New (add-zero new))); words = λ n e. m .words; few = λ n e. let same : new ≡ n = cc in omega arith }
 
   -- ---- endpoints: each has to be the first on its TEID
 
   module _ {ws : List ℕ} {new : ℕ} (e : Endpoint) (es : List Endpoint) (m : Marking first ws₀ hs ws [] (map endpointHolding (e ∷ es)) new) where
-    pub endpoint-new : (r : Bool) (ws′ : List ℕ) → r ≡ marked ws (e .local .teid - first) → ws′ ≡ mark ws (e .local .teid - first) → r ≡ false
-        → Marking first ws₀ hs ws′ [] (map endpointHolding es) (new + 1)
-    unfolding endpointHolding tunnelHolding
-    endpoint-new r ws′ q w z =
-        subst (λ (v : List ℕ). Marking first ws₀ hs v [] (map endpointHolding es) (new + 1)) (sym w)
-        (marking-turn (endpointHolding e) [] (not (marked ws (e .local .teid - first))) 1 m (endpoint-step first ws e es) (rw (← q, z)) (rw (← q, z)))
+    abbrev offset : ℕ
+    offset = e .local .teid - first
 
-    pub endpoint-clash : (r : Bool) → r ≡ marked ws (e .local .teid - first) → r ≡ true → Clash ≡ walked first ws₀ hs
+    first-on : (not (marked ws offset) || joins [] (endpointHolding e)) ≡ not (marked ws offset)
+    unfolding collect
+    first-on = ap (λ (j : Bool). not (marked ws offset) || j) (look-end pdrHolding (endpointHolding e)) ∙ or-false (not (marked ws offset))
+
+    pub endpoint-turn : (k : ℕ) → stepOf first ws [] (some (endpointHolding e)) ≡ New k
+        → Marking first ws₀ hs (wordsOf first ws (some (endpointHolding e))) [] (map endpointHolding es) (new + k)
+    unfolding endpointHolding tunnelHolding wordsOf
+    endpoint-turn k q =
+        let t = step-new first ws [] (endpointHolding e) k q in
+        marking-turn (endpointHolding e) [] (not (marked ws offset)) k m (endpoint-step first ws e es) (sym first-on ∙ t .0) (t .1)
+
+    pub endpoint-clash : stepOf first ws [] (some (endpointHolding e)) ≡ Clash → sessionMarks first ws₀ [] hs ≡ false
     unfolding endpointHolding tunnelHolding
-    endpoint-clash r q z = marking-bad (endpointHolding e) [] (not (marked ws (e .local .teid - first))) m (endpoint-step first ws e es) (rw (← q, z))
+    endpoint-clash q =
+        marking-bad (endpointHolding e) [] (not (marked ws offset)) m (endpoint-step first ws e es) (sym first-on ∙ step-bad first ws [] (endpointHolding e) q)
 
   -- ---- PDRs, some of which hold a TEID
 
@@ -173,7 +153,6 @@ module _ {first : ℕ} {ws₀ : List ℕ} {hs : List Holding} where
           keeps = sym (record-none pdrHolding first ws done a left e) ∙ m .keeps;
           words = ap (marksAfter first ws) (sym same) ∙ m .words;
           count = (λ i. (ap (λ (n : ℕ). new + n) z ∙ add-zero new) i + newAfter first ws (sym same i)) ∙ m .count;
-          inside = subst (λ (l : List Holding). T (mapped first (length ws₀) l)) same (m .inside);
         }
     turn-with (some h) e k q =
         let same = hold-some a h left e in
@@ -182,13 +161,11 @@ module _ {first : ℕ} {ws₀ : List ℕ} {hs : List Holding} where
         (subst (λ (l : List Holding). Marking first ws₀ hs ws (collect pdrHolding done) l new) same m)
         (ap (sessionMarks first ws (collect pdrHolding done)) (sym same) ∙ record-some pdrHolding first ws done a h left e) (t .0) (t .1)
 
-    pub pdr-turn : (r : Marks) (k : ℕ) (ws′ : List ℕ) → Stepped first ws (collect pdrHolding done) (pdrHolding a) r ws′ → r ≡ New k
-        → Marking first ws₀ hs ws′ (collect pdrHolding (done ++ a ∷ [])) (collect pdrHolding left) (new + k)
-    pdr-turn r k ws′ t e =
-        subst (λ (v : List ℕ). Marking first ws₀ hs v (collect pdrHolding (done ++ a ∷ [])) (collect pdrHolding left) (new + k)) (sym (t .words))
-        (turn-with (pdrHolding a) refl k (sym (t .answer) ∙ e))
+    pub pdr-turn : (k : ℕ) → stepOf first ws (collect pdrHolding done) (pdrHolding a) ≡ New k
+        → Marking first ws₀ hs (wordsOf first ws (pdrHolding a)) (collect pdrHolding (done ++ a ∷ [])) (collect pdrHolding left) (new + k)
+    pdr-turn k q = turn-with (pdrHolding a) refl k q
 
-    clash-with : (o : Option Holding) → pdrHolding a ≡ o → stepOf first ws (collect pdrHolding done) o ≡ Clash → Clash ≡ walked first ws₀ hs
+    clash-with : (o : Option Holding) → pdrHolding a ≡ o → stepOf first ws (collect pdrHolding done) o ≡ Clash → sessionMarks first ws₀ [] hs ≡ false
     unfolding stepOf
     clash-with none e q = absurd (let z : _≡_ {A = ℕ} 0 1 = cc in omega arith)
     clash-with (some h) e q =
@@ -197,5 +174,5 @@ module _ {first : ℕ} {ws₀ : List ℕ} {hs : List Holding} where
         (subst (λ (l : List Holding). Marking first ws₀ hs ws (collect pdrHolding done) l new) same m)
         (ap (sessionMarks first ws (collect pdrHolding done)) (sym same) ∙ record-some pdrHolding first ws done a h left e) (step-bad first ws (collect pdrHolding done) h q)
 
-    pub pdr-clash : (r : Marks) (ws′ : List ℕ) → Stepped first ws (collect pdrHolding done) (pdrHolding a) r ws′ → r ≡ Clash → Clash ≡ walked first ws₀ hs
-    pdr-clash r ws′ t e = clash-with (pdrHolding a) refl (sym (t .answer) ∙ e)
+    pub pdr-clash : stepOf first ws (collect pdrHolding done) (pdrHolding a) ≡ Clash → sessionMarks first ws₀ [] hs ≡ false
+    pdr-clash q = clash-with (pdrHolding a) refl q

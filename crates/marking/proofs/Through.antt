@@ -73,7 +73,7 @@ module _ (s : Settings) (ws₀ a : List ℕ) (n : ℕ) where
 
     more : slices 483 (n - i) (drop (i * 483) a) ≡ slot ∷ left
     unfolding slot left
-    more = slices-more (λ x. true) 483 a n i h
+    more = slices-more 483 a n i h
 
     here : Admitted s ws slot r ws′
     unfolding slot

@@ -3,20 +3,18 @@
 -- Assumes nothing.
 use Prim.Native.Nat.{ℕ, _*_, _-_, _%_, _≤_}
 use mathlib.Core.Path.{_≡_}
-use mathlib.Core.Bool.{Bool, true, false, _&&_}
+use mathlib.Core.Bool.{Bool, true, _&&_}
 use mathlib.Core.Option.{Option, none, some}
 use mathlib.Core.List.{List, [], _∷_, map}
 use lib.Dec.{eqb}
 use lib.ListN.{length, drop}
 use Rattle.octets.specs.Choice.{pick}
 use Rattle.octets.specs.Octets.{part, number, octetAt, slices}
-use Rattle.octets.specs.Lists.{all, collect}
+use Rattle.octets.specs.Lists.{collect}
 use Rattle.rules.specs.Model.{Settings, Holding, tunnelHolding, pdrHolding, endpointHolding, sessionHoldings, teidOf, heldTeids}
 use Rattle.rules.specs.Layout.{viewTunnel, viewPdr, viewEndpoint, viewSession}
-use Rattle.rules.specs.Sound.{inPool}
 use Rattle.pool.specs.Map.{marked, mark, marks, newMarks, offsets}
 use Rattle.holdings.specs.Walk.{joins, sessionMarks}
-use Rattle.records.specs.Kept.{unit}
 use Rattle.sessions.specs.Slot.{slotSound}
 use Rattle.marking.specs.declared.Marks.{Marks}
 use Rattle.marking.specs.declared.Marks.the-variants.{Clash, New}
@@ -50,9 +48,9 @@ slotHolds xs = sessionHoldings (viewSession xs)
 unfoldable pub holdAt : List ℕ → ℕ → Option Holding
 holdAt a i = pdrHolding (viewPdr (part (i * 19) 19 a))
 
--- every TEID of holds has its bit in a map of n words
-unfoldable pub mapped : ℕ → ℕ → List Holding → Bool
-mapped first n hs = all (inPool (unit first (64 * n) false)) (map teidOf hs)
+-- the hold of an endpoint's slot
+unfoldable pub endpointHold : List ℕ → Option Holding
+endpointHold xs = some (endpointHolding (viewEndpoint xs))
 
 -- ---- marking
 
@@ -72,17 +70,18 @@ unfoldable pub wordsOf : ℕ → List ℕ → Option Holding → List ℕ
 wordsOf first ws none = ws
 wordsOf first ws (some h) = mark ws (h .teid - first)
 
-pub record Stepped (first : ℕ) (ws : List ℕ) (earlier : List Holding) (hold : Option Holding) (r : Marks) (ws′ : List ℕ) : Type 0 where
-  pub answer : r ≡ stepOf first ws earlier hold
-  pub words : ws′ ≡ wordsOf first ws hold
+-- a record that is sound or not, and its hold: the map is what it should be where the record is not refused
+pub record Stepped (sound : Bool) (first : ℕ) (ws : List ℕ) (earlier : List Holding) (hold : Option Holding) (r : Marks) (ws′ : List ℕ) : Type 0 where
+  pub answer : r ≡ pick sound (stepOf first ws earlier hold) Clash
+  pub words : (n : ℕ) → r ≡ New n → ws′ ≡ wordsOf first ws hold
 
--- the holds of one session: refused, or marked
-unfoldable pub walked : ℕ → List ℕ → List Holding → Marks
-walked first ws hs = pick (sessionMarks first ws [] hs) (New (newAfter first ws hs)) Clash
+-- the holds of an area of one session that is sound or not: refused, or marked
+unfoldable pub walked : Bool → ℕ → List ℕ → List Holding → Marks
+walked sound first ws hs = pick (sound && sessionMarks first ws [] hs) (New (newAfter first ws hs)) Clash
 
 -- the map is what it should be where the walk is not refused
-pub record Marked (first : ℕ) (ws : List ℕ) (hs : List Holding) (r : Marks) (ws′ : List ℕ) : Type 0 where
-  pub answer : r ≡ walked first ws hs
+pub record Marked (sound : Bool) (first : ℕ) (ws : List ℕ) (hs : List Holding) (r : Marks) (ws′ : List ℕ) : Type 0 where
+  pub answer : r ≡ walked sound first ws hs
   pub words : (n : ℕ) → r ≡ New n → ws′ ≡ marksAfter first ws hs
   pub few : (n : ℕ) → r ≡ New n → n ≤ length hs
 

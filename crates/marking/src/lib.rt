@@ -1,17 +1,19 @@
-// The walk over the records of sessions that marks their TEIDs in a map, and refuses a TEID held against the rule: one that is
-// marked already has to be held by an earlier PDR of the same session with equal families and source interface.
+// The walk over the records of sessions that tests each, compares its place in the order, and marks its TEID in a map. It refuses a TEID
+// held against the rule: one that is marked already has to be held by an earlier PDR of the same session with equal families and
+// source interface. On a refusal nothing is said of the map, so each record is tested and marked in one turn.
 //
+// first, size and v6 are the unit's pool of TEIDs and whether it has an IPv6 address.
 // A PDR that matches on an F-TEID has 1 at PLACE.
 ghost use mathlib.Core.Path.{_≡_};
 ghost use mathlib.Core.List.{[]};
-ghost use Rattle.octets.specs.Choice.{consOption};
 ghost use Prim.Native.Nat.{_+_, _*_, _^_, _≤_};
-ghost use lib.Dec.{T};
 ghost use lib.ListN.{length};
-ghost use Rattle.octets.specs.Octets.{slices};
+ghost use Rattle.octets.specs.Octets.{part, slices};
 ghost use Rattle.holdings.specs.Walk.{joins};
-ghost use Rattle.records.specs.Kept.{unit};
-ghost use Rattle.marking.specs.Marking.{holdsTeid, alike, heldBy, holdAt, pdrHolds, endpointHolds, mapped, Stepped, Marked, Admitted, AllAdmitted};
+ghost use Rattle.records.specs.Kept.{pdrSound, endpointSound, endpointIds, unit};
+ghost use Rattle.sessions.specs.Slot.{areaSound};
+ghost use Rattle.marking.specs.Marking.{holdsTeid, alike, heldBy, holdAt, endpointHold, pdrHolds, endpointHolds, Stepped, Marked, Admitted, AllAdmitted};
+use format::CSID_COUNT;
 use format::CSIDS;
 use format::ENDPOINT;
 use format::ENDPOINT_COUNT;
@@ -25,7 +27,7 @@ use format::SLOT;
 use format::SOURCE;
 use format::TEID;
 
-// What became of holds that were to be marked: one is against the rule, or so many of them were new.
+// What became of records that were to be tested and marked: one is broken or holds a TEID against the rule, or so many TEIDs were new.
 pub enum Marks {
     Clash,
     New(usize),
@@ -69,14 +71,77 @@ fn shares(pdrs: &[u8], n: usize, slot: &[u8]) -> bool
     false
 }
 
-// Marks the TEID of the PDR at place i, if it has one.
-fn mark_pdr(words: &mut [u64], pdrs: &[u8], i: usize, first: u64) -> Marks
-    requires { ⌜ ((i + 1) * 19 ≤ length (now pdrs)) × T (mapped first (length (now words)) (consOption (holdAt (now pdrs) i) [])) ⌝ }
+// One endpoint: tested, and its TEID marked, which has to be new.
+fn admit_endpoint(words: &mut [u64], slot: &[u8], first: u64, size: u64, v6: bool) -> Marks
+    requires { ⌜ (length (now slot) ≡ 6) × (first + size ≤ 2 ^ 32) × (size ≤ 64 * length (now words)) ⌝ }
     ensures { λ r.
-        ⌜ Stepped first (now (words .entry)) (pdrHolds i (now (pdrs .entry))) (holdAt (now (pdrs .entry)) i) r (now (words .exit)) ⌝ }
+        ⌜ Stepped (endpointSound (unit first size v6) (now (slot .entry))) first (now (words .entry)) [] (endpointHold (now (slot .entry))) r (now (words .exit)) ⌝ }
+{
+    if !records::endpoint_sound(slot, first, size, v6) {
+        return Marks::Clash;
+    }
+    let teid = octets::read(slot, 1, 4);
+    if pool::mark(words, (teid - first) as usize) {
+        return Marks::Clash;
+    }
+    Marks::New(1)
+}
+
+// The area of n endpoints, in one walk: each is tested and marked, their IDs ascend, and the room after them is zero.
+fn admit_endpoints(
+    words: &mut [u64],
+    ends: &[u8],
+    n: usize,
+    first: u64,
+    size: u64,
+    v6: bool,
+) -> Marks
+    requires { ⌜ (n * 6 ≤ length (now ends)) × (first + size ≤ 2 ^ 32) × (size ≤ 64 * length (now words)) ⌝ }
+    ensures { λ r.
+        ⌜ Marked (areaSound (endpointSound (unit first size v6)) 6 1 n (now (ends .entry))) first (now (words .entry)) (endpointHolds n (now (ends .entry))) r (now (words .exit)) ⌝ }
+{
+    let mut new: usize = 0;
+    let mut next: u64 = 0;
+    for i in 0..n {
+        let at = i * ENDPOINT;
+        let id = octets::read(ends, at, 1);
+        if id < next {
+            return Marks::Clash;
+        }
+        let step = admit_endpoint(words, &ends[at..at + ENDPOINT], first, size, v6);
+        let Marks::New(k) = step else {
+            return Marks::Clash;
+        };
+        new += k;
+        next = id + 1;
+    }
+    let used = n * ENDPOINT;
+    if !octets::is_zero(ends, used, ends.len() - used) {
+        return Marks::Clash;
+    }
+    Marks::New(new)
+}
+
+// The PDR at place i: tested, and its TEID marked, if it has one. ends has the session's m endpoints.
+fn admit_pdr(
+    words: &mut [u64],
+    pdrs: &[u8],
+    i: usize,
+    ends: &[u8],
+    m: usize,
+    first: u64,
+    size: u64,
+    v6: bool,
+) -> Marks
+    requires { ⌜ ((i + 1) * 19 ≤ length (now pdrs)) × (m * 6 ≤ length (now ends)) × (first + size ≤ 2 ^ 32) × (size ≤ 64 * length (now words)) ⌝ }
+    ensures { λ r.
+        ⌜ Stepped (pdrSound (unit first size v6) (endpointIds m (now (ends .entry))) (part (i * 19) 19 (now (pdrs .entry)))) first (now (words .entry)) (pdrHolds i (now (pdrs .entry))) (holdAt (now (pdrs .entry)) i) r (now (words .exit)) ⌝ }
 {
     let at = i * PDR;
     let slot = &pdrs[at..at + PDR];
+    if !records::pdr_sound(slot, ends, m, first, size, v6) {
+        return Marks::Clash;
+    }
     if slot[PLACE] != 1 {
         return Marks::New(0);
     }
@@ -90,34 +155,40 @@ fn mark_pdr(words: &mut [u64], pdrs: &[u8], i: usize, first: u64) -> Marks
     Marks::Clash
 }
 
-// Marks the TEIDs of n PDRs of one session.
-fn mark_pdrs(words: &mut [u64], pdrs: &[u8], n: usize, first: u64) -> Marks
-    requires { ⌜ (n * 19 ≤ length (now pdrs)) × T (mapped first (length (now words)) (pdrHolds n (now pdrs))) ⌝ }
-    ensures { λ r. ⌜ Marked first (now (words .entry)) (pdrHolds n (now (pdrs .entry))) r (now (words .exit)) ⌝ }
+// The area of n PDRs, in one walk: each is tested and marked, their IDs ascend, and the room after them is zero.
+fn admit_pdrs(
+    words: &mut [u64],
+    pdrs: &[u8],
+    n: usize,
+    ends: &[u8],
+    m: usize,
+    first: u64,
+    size: u64,
+    v6: bool,
+) -> Marks
+    requires { ⌜ (n * 19 ≤ length (now pdrs)) × (m * 6 ≤ length (now ends)) × (first + size ≤ 2 ^ 32) × (size ≤ 64 * length (now words)) ⌝ }
+    ensures { λ r.
+        ⌜ Marked (areaSound (pdrSound (unit first size v6) (endpointIds m (now (ends .entry)))) 19 2 n (now (pdrs .entry))) first (now (words .entry)) (pdrHolds n (now (pdrs .entry))) r (now (words .exit)) ⌝ }
 {
     let mut new: usize = 0;
+    let mut next: u64 = 0;
     for i in 0..n {
-        let step = mark_pdr(words, pdrs, i, first);
+        let id = octets::read(pdrs, i * PDR, 2);
+        if id < next {
+            return Marks::Clash;
+        }
+        let step = admit_pdr(words, pdrs, i, ends, m, first, size, v6);
         let Marks::New(k) = step else {
             return Marks::Clash;
         };
         new += k;
+        next = id + 1;
+    }
+    let used = n * PDR;
+    if !octets::is_zero(pdrs, used, pdrs.len() - used) {
+        return Marks::Clash;
     }
     Marks::New(new)
-}
-
-// Marks the TEIDs of n endpoints, each of which has to be new.
-fn mark_endpoints(words: &mut [u64], ends: &[u8], n: usize, first: u64) -> Marks
-    requires { ⌜ (n * 6 ≤ length (now ends)) × T (mapped first (length (now words)) (endpointHolds n (now ends))) ⌝ }
-    ensures { λ r. ⌜ Marked first (now (words .entry)) (endpointHolds n (now (ends .entry))) r (now (words .exit)) ⌝ }
-{
-    for i in 0..n {
-        let teid = octets::read(ends, i * ENDPOINT + 1, 4);
-        if pool::mark(words, (teid - first) as usize) {
-            return Marks::Clash;
-        }
-    }
-    Marks::New(n)
 }
 
 // Tests a session's slot and marks its TEIDs. A slot that is broken, or holds a TEID against the rule, is a clash.
@@ -125,23 +196,27 @@ pub fn admit(words: &mut [u64], slot: &[u8], first: u64, size: u64, v6: bool) ->
     requires { ⌜ (length (now slot) ≡ 483) × (first + size ≤ 2 ^ 32) × (size ≤ 64 * length (now words)) ⌝ }
     ensures { λ r. ⌜ Admitted (unit first size v6) (now (words .entry)) (now (slot .entry)) r (now (words .exit)) ⌝ }
 {
-    if !sessions::slot_sound(slot, first, size, v6) {
+    if !sessions::head_sound(slot) {
         return Marks::Clash;
     }
-    let ends = mark_endpoints(
-        words,
-        &slot[ENDPOINTS..CSIDS],
-        slot[ENDPOINT_COUNT] as usize,
-        first,
-    );
-    let Marks::New(e) = ends else {
+    if !sessions::csids_sound(&slot[CSIDS..SLOT], slot[CSID_COUNT] as usize) {
+        return Marks::Clash;
+    }
+    let ends = &slot[ENDPOINTS..CSIDS];
+    let m = slot[ENDPOINT_COUNT] as usize;
+    let held = admit_endpoints(words, ends, m, first, size, v6);
+    let Marks::New(e) = held else {
         return Marks::Clash;
     };
-    let pdrs = mark_pdrs(
+    let pdrs = admit_pdrs(
         words,
         &slot[PDRS..ENDPOINTS],
         slot[PDR_COUNT] as usize,
+        ends,
+        m,
         first,
+        size,
+        v6,
     );
     let Marks::New(p) = pdrs else {
         return Marks::Clash;

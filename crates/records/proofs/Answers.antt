@@ -1,24 +1,26 @@
 -- The answers of the record tests, return by return: premises are what the code knows there.
 -- Assumes nothing.
-use mathlib.Core.Path.{_≡_, sym, ap, _∙_}
-use Prim.Native.Nat.{ℕ, suc, _+_, _-_, _*_, _/_, _≤_, _<_}
+use mathlib.Core.Path.{_≡_, refl, sym, ap, subst, _∙_}
+use Prim.Native.Nat.{ℕ, zero, suc, _+_, _-_, _*_, _/_, _^_, _≤_, _<_}
 use native.Mathlib.Omega.{arith}
-use mathlib.Core.Bool.{Bool, true, false, not}
-use mathlib.Core.List.{List, _∷_}
+use mathlib.Core.Bool.{Bool, true, false, not, _&&_, _||_}
+use mathlib.Core.List.{List, [], _∷_}
 use borrow.Author.Tests.{lt-ltb, le-ltb, le-leb, lt-leb, eq-eqb, ne-eqb, not-true, not-false}
 use lib.ListN.{length, take, drop, getD, length-drop}
 use lib.Seq.{getD-take, take-take, take-all, drop-drop, drop-cons, getD-drop}
-use lib.Dec.{T, leb, ltb, eqb, lit≤, lit<}
-use Rattle.octets.specs.Choice.{allOf}
+use lib.Dec.{T, leb, ltb, eqb, leb→le, ltb→lt, lit≤, lit<}
+use Rattle.octets.specs.Choice.{pick, allOf}
 use Rattle.octets.specs.Octets.{part, number, allZero, octets, octetAt, slices}
 use Rattle.octets.specs.Lists.{member}
 use Rattle.octets.proofs.Ordered.{orders}
+use Rattle.octets.proofs.Tests.{and-left, and-right, is-true, of-true}
+use Rattle.octets.proofs.Digits.{drop-octets}
 use Rattle.rules.specs.Model.{Settings}
 use Rattle.rules.specs.Layout.{viewEndpoint, endpointWidth}
-use native.Mathlib.Nat.{add-zero}
+use native.Mathlib.Nat.{add-zero, zero-add, zero-mul, mul-pos, pow-suc}
 use Rattle.rules.specs.Sound.{poolTests}
 use Rattle.records.specs.Kept.{settingsSound, optionalSound, tunnelSound, familiesTest, placeSound, pdrSound, endpointSound, csidSound, endpointIds, unit}
-use Rattle.records.proofs.Cells.{and-true, and-false, drop-take}
+use Rattle.records.proofs.Cells.{and-true, and-false, or-true, or-false, drop-take}
 use Rattle.records.proofs.Tunnels.{tunnel-law}
 use Rattle.records.proofs.Slots.{endpoint-law, placeTest, place-law, pdrTest, pdr-law, csidTest, csid-law, settings-law}
 
@@ -151,21 +153,64 @@ module _ (at n : ℕ) (xs : List ℕ) where
   unfolding optionalSound
   optional-there k = sym (rw (ne-eqb (getD xs at 0) 0 k))
 
-module _ (f : ℕ) (v6 : Bool) where
-  pub families-v4 : f ≡ 1 → true ≡ familiesTest f v6
-  families-v4 h = sym (rw h)
+-- octets are zeros just when their number is
+power-some : (n : ℕ) → 0 < 256 ^ n
+power-some zero = lit< tt
+power-some (suc n) = rw (pow-suc 256 n) (mul-pos (power-some n) (lit< tt))
 
-  pub families-v6 : 2 ≤ f → f ≤ 3 → v6 ≡ familiesTest f v6
-  families-v6 h k =
-      orders f 2
-      (λ l. let e : f ≡ 2 = omega arith in sym (rw e))
-      (λ l. let e : f ≡ 3 = omega arith in sym (rw e))
+zero-number : (xs : List ℕ) → leb (number xs) 0 ≡ allZero xs
+unfolding number allZero
+zero-number [] = refl
+zero-number (x ∷ xs) =
+    orders x 0
+    (λ l. let e : x ≡ 0 = omega arith in rw (e, zero-mul, zero-add) (zero-number xs))
+    (λ l.
+    let some : 0 < x * (256 ^ length xs) = mul-pos l (power-some (length xs)) in
+    rw (lt-leb (x * (256 ^ length xs) + number xs) 0 (omega arith), ne-eqb x 0 (λ e. omega arith)))
 
-  pub families-low : (f ≡ 1 → ⊥) → f < 2 → false ≡ familiesTest f v6
-  families-low h k = sym (rw (ne-eqb f 1 h, ne-eqb f 2 (λ e. omega arith), ne-eqb f 3 (λ e. omega arith)))
+-- a field of four octets: the number in them is at most zero, or any
+pub field-law : (at v : ℕ) (xs : List ℕ) → getD xs at 0 ≤ 1 → v ≡ number (part (at + 1) 4 xs) → v < 256 ^ 4 → leb v (getD xs at 0 * 4294967295) ≡ optionalSound at 4 xs
+unfolding optionalSound
+field-law at v xs h q l =
+    orders (getD xs at 0) 0
+    (λ k. let e : getD xs at 0 ≡ 0 = omega arith in rw (e, q) (zero-number (part (at + 1) 4 xs)))
+    (λ k. let e : getD xs at 0 ≡ 1 = omega arith in rw (e, le-leb v 4294967295 (omega arith)))
 
-  pub families-high : (f ≡ 1 → ⊥) → 3 < f → false ≡ familiesTest f v6
-  families-high h k = sym (rw (ne-eqb f 1 h, ne-eqb f 2 (λ e. omega arith), ne-eqb f 3 (λ e. omega arith)))
+pub field-high : (at : ℕ) (xs : List ℕ) → 1 < getD xs at 0 → false ≡ optionalSound at 4 xs
+unfolding optionalSound
+field-high at xs h = sym (rw (ne-eqb (getD xs at 0) 0 (λ e. omega arith), ne-eqb (getD xs at 0) 1 (λ e. omega arith)))
+
+module _ (f : ℕ) where
+  pub families-none : (v6 : Bool) → f < 1 → false ≡ familiesTest f v6
+  families-none v6 h = let e : f ≡ 0 = omega arith in sym (rw e)
+
+  families-high : (v6 : Bool) → 3 < f → leb f (pick v6 3 1) ≡ familiesTest f v6
+  families-high v6 h = over v6 ∙ sym (rw (ne-eqb f 1 (λ e. omega arith), ne-eqb f 2 (λ e. omega arith), ne-eqb f 3 (λ e. omega arith)))
+    where
+      over : (b : Bool) → leb f (pick b 3 1) ≡ false
+      over true = lt-leb f 3 h
+      over false = lt-leb f 1 (omega arith)
+
+  pub families-most : (v6 : Bool) (m : ℕ) → 1 ≤ f → m ≡ pick v6 3 1 → leb f m ≡ familiesTest f v6
+  families-most v6 m h q =
+      rw q
+      (orders f 1
+      (λ k. let e : f ≡ 1 = omega arith in rw e (one v6))
+      (λ k. orders f 2
+      (λ l. let e : f ≡ 2 = omega arith in rw e (two v6))
+      (λ l. orders f 3 (λ j. let e : f ≡ 3 = omega arith in rw e (three v6)) (families-high v6))))
+    where
+      one : (b : Bool) → leb 1 (pick b 3 1) ≡ true
+      one true = refl
+      one false = refl
+
+      two : (b : Bool) → leb 2 (pick b 3 1) ≡ b
+      two true = refl
+      two false = refl
+
+      three : (b : Bool) → leb 3 (pick b 3 1) ≡ b
+      three true = refl
+      three false = refl
 
 -- ---- endpoint IDs
 
@@ -181,14 +226,50 @@ module _ (a : List ℕ) (n i : ℕ) (h : i < n) where
     abbrev named : ℕ → Bool
     named j = member id (endpointIds (n - j) (drop (j * 6) a))
 
-    pub named-here : getD a (i * 6) 0 ≡ id → named i ≡ true
+    named-here : getD a (i * 6) 0 ≡ id → named i ≡ true
     unfolding member
     named-here e = rw (ids-more, eq-eqb id (getD a (i * 6) 0) (sym e))
 
-    pub named-later : (getD a (i * 6) 0 ≡ id → ⊥) → named i ≡ named (i + 1)
+    named-later : (getD a (i * 6) 0 ≡ id → ⊥) → named i ≡ named (i + 1)
     unfolding member
     named-later e = rw (ids-more, ne-eqb id (getD a (i * 6) 0) (λ q. e (sym q)))
 
-pub named-none : (a : List ℕ) (n i id : ℕ) → n ≤ i → member id (endpointIds (n - i) (drop (i * 6) a)) ≡ false
+    -- what was found, with what is left
+    module _ (f m : Bool) (q : (f || named i) ≡ m) where
+      pub found-here : getD a (i * 6) 0 ≡ id → true ≡ m
+      found-here e = sym (or-true f) ∙ ap (λ (t : Bool). f || t) (sym (named-here e)) ∙ q
+
+      pub found-later : (getD a (i * 6) 0 ≡ id → ⊥) → (f || named (i + 1)) ≡ m
+      found-later e = ap (λ (t : Bool). f || t) (sym (named-later e)) ∙ q
+
+pub found-all : (a : List ℕ) (n i id : ℕ) (f m : Bool) → n ≤ i → (f || member id (endpointIds (n - i) (drop (i * 6) a))) ≡ m → f ≡ m
 unfolding endpointIds slices member
-named-none a n i id h = let e : n - i ≡ 0 = omega arith in rw e
+found-all a n i id f m h q = let e : n - i ≡ 0 = omega arith in sym (or-false f) ∙ rw e at q
+
+-- ---- the TEID of a record that is sound is of the pool
+
+module _ (first size : ℕ) (v6 : Bool) where
+  tunnel-pool : (at : ℕ) (xs : List ℕ) → tunnelSound (unit first size v6) (drop at xs) ≡ true → (first ≤ number (part at 4 xs)) × (number (part at 4 xs) < first + size)
+  tunnel-pool at xs e =
+      let t : ℕ = number (part at 4 xs) in
+      let f = familiesTest (getD xs (at + 4) 0) v6 in
+      let k : T (leb first t && (ltb t (first + size) && f)) = of-true (sym (tunnel-law first size v6 at xs) ∙ e) in
+      let r = and-right (leb first t) (ltb t (first + size) && f) k in
+      (leb→le first t (and-left (leb first t) (ltb t (first + size) && f) k), ltb→lt t (first + size) (and-left (ltb t (first + size)) f r))
+
+  pub endpoint-pool : (xs : List ℕ) → length xs ≡ 6 → T (octets xs) → endpointSound (unit first size v6) xs ≡ true → (first ≤ number (part 1 4 xs)) × (number (part 1 4 xs) < first + size)
+  endpoint-pool xs e o k = tunnel-pool 1 xs (sym (endpoint-law (unit first size v6) xs e o) ∙ k)
+
+  pub pdr-pool : (live xs : List ℕ) → length xs ≡ 19 → T (octets xs) → pdrSound (unit first size v6) live xs ≡ true → getD xs 12 0 ≡ 1
+      → (first ≤ number (part 13 4 xs)) × (number (part 13 4 xs) < first + size)
+  pdr-pool live xs e o k there =
+      let s : Settings = unit first size v6 in
+      let t : T (pdrTest s live xs) = of-true (sym (pdr-law s live xs e o) ∙ k) in
+      let rest = and-right (ltb (getD xs 11 0) 16) (optionalSound 6 4 xs && placeSound s live (drop 12 xs)) t in
+      let place : T (placeSound s live (drop 12 xs)) = and-right (optionalSound 6 4 xs) (placeSound s live (drop 12 xs)) rest in
+      let long : length (drop 12 xs) ≡ 7 = rw length-drop (omega arith) in
+      let kind : getD (drop 12 xs) 0 0 ≡ 1 = getD-drop 12 xs 0 0 ∙ there in
+      let tests : T (placeTest s live (getD (drop 12 xs) 0 0) (drop 1 (drop 12 xs))) = subst T (place-law s live (drop 12 xs) long (drop-octets 12 xs o)) place in
+      let one : T (eqb (getD (drop 1 (drop 12 xs)) 5 0) 0 && tunnelSound s (drop 1 (drop 12 xs))) = rw kind at tests in
+      let held : T (tunnelSound s (drop 1 (drop 12 xs))) = and-right (eqb (getD (drop 1 (drop 12 xs)) 5 0) 0) (tunnelSound s (drop 1 (drop 12 xs))) one in
+      tunnel-pool 13 xs (rw (drop-drop 1 12 xs) at (is-true (tunnelSound s (drop 1 (drop 12 xs))) held))

@@ -6,7 +6,7 @@
 ghost use mathlib.Core.Path.{_≡_};
 ghost use Prim.Native.Nat.{_+_, _*_, _^_, _≤_, _<_};
 ghost use lib.ListN.{length, drop};
-ghost use Rattle.octets.specs.Choice.{allOf};
+ghost use Rattle.octets.specs.Choice.{pick, allOf};
 ghost use Rattle.octets.specs.Lists.{member};
 ghost use Rattle.rules.specs.Sound.{poolTests};
 ghost use Rattle.records.specs.Kept.{settingsSound, optionalSound, tunnelSound, familiesTest, placeSound, pdrSound, endpointSound, csidSound, endpointIds, unit};
@@ -21,6 +21,18 @@ fn optional_sound(slot: &[u8], at: usize, n: usize) -> bool
         return octets::is_zero(slot, at + 1, n);
     }
     there == 1
+}
+
+// A field of four octets that may be absent. No branch goes by whether it is there.
+fn field_sound(slot: &[u8], at: usize) -> bool
+    requires { ⌜ at + 5 ≤ length (now slot) ⌝ }
+    ensures { λ r. ⌜ r ≡ optionalSound at 4 (now (slot .entry)) ⌝ }
+{
+    let there = slot[at];
+    if 1 < there {
+        return false;
+    }
+    octets::read(slot, at + 1, 4) <= there as u64 * 4294967295
 }
 
 // The pool of TEIDs: the first at least 1, the size 1 to 4,096, the last at most 4,294,967,295.
@@ -68,20 +80,24 @@ fn tunnel_sound(slot: &[u8], at: usize, first: u64, size: u64, v6: bool) -> bool
     families_sound(slot[at + 4], v6)
 }
 
+// The most that a families octet is: 2 and 3 name IPv6.
+fn most_families(v6: bool) -> u8
+    ensures { λ r. ⌜ r ≡ pick v6 3 1 ⌝ }
+{
+    if v6 {
+        return 3;
+    }
+    1
+}
+
 // The families octet: IPv4, or IPv6 and perhaps IPv4 where the unit has an IPv6 address.
 fn families_sound(families: u8, v6: bool) -> bool
     ensures { λ r. ⌜ r ≡ familiesTest families v6 ⌝ }
 {
-    if families == 1 {
-        return true;
-    }
-    if families < 2 {
+    if families < 1 {
         return false;
     }
-    if 3 < families {
-        return false;
-    }
-    v6
+    families <= most_families(v6)
 }
 
 // A traffic endpoint's slot.
@@ -92,17 +108,18 @@ pub fn endpoint_sound(slot: &[u8], first: u64, size: u64, v6: bool) -> bool
     tunnel_sound(slot, 1, first, size, v6)
 }
 
-// Whether one of the first n endpoints in ends has the ID id.
+// Whether one of the first n endpoints in ends has the ID id. Every ID is read, so that no branch goes by which one it is.
 fn names_endpoint(ends: &[u8], n: usize, id: u8) -> bool
     requires { ⌜ n * 6 ≤ length (now ends) ⌝ }
     ensures { λ r. ⌜ r ≡ member id (endpointIds n (now (ends .entry))) ⌝ }
 {
+    let mut found = false;
     for i in 0..n {
         if ends[i * format::ENDPOINT] == id {
-            return true;
+            found = true;
         }
     }
-    false
+    found
 }
 
 // What a PDR matches on: the seven octets of a slot from index 12. ends has the session's n endpoints.
@@ -135,7 +152,7 @@ pub fn pdr_sound(slot: &[u8], ends: &[u8], n: usize, first: u64, size: u64, v6: 
     if 15 < slot[format::SOURCE] {
         return false;
     }
-    if !optional_sound(slot, format::FAR, 4) {
+    if !field_sound(slot, format::FAR) {
         return false;
     }
     place_sound(&slot[format::PLACE..format::PDR], ends, n, first, size, v6)

@@ -97,6 +97,12 @@ cut at n xs = sym (take-append-drop n (drop at xs)) ∙ rw (drop-drop n at xs)
 abbrev headTests : List ℕ → List Bool
 headTests xs = leb 1 (number (part 0 8 xs)) ∷ leb (getD xs 8 0) maxPdrs ∷ leb (getD xs 9 0) maxEndpoints ∷ leb (getD xs 10 0) nodeTypes ∷ []
 
+pub counts-headed : (xs : List ℕ) → T (headSound xs) → Counts xs
+unfolding headSound octetAt numberAt
+counts-headed xs h =
+    let t = each (headTests xs) h in
+    record { pdrs = leb→le (getD xs 8 0) 16 (t .1 .0); endpoints = leb→le (getD xs 9 0) 8 (t .1 .1 .0); csids = leb→le (getD xs 10 0) 6 (t .1 .1 .1 .0) }
+
 module _ (xs : List ℕ) (long : length xs ≡ 483) where
   slot-parts : part 0 8 xs ++ (getD xs 8 0 ∷ getD xs 9 0 ∷ getD xs 10 0 ∷ pdrArea xs ++ (endpointArea xs ++ csidArea xs)) ≡ xs
   slot-parts =
@@ -140,11 +146,9 @@ module _ (xs : List ℕ) (long : length xs ≡ 483) where
         csids = le-trans (le-of-eq (sym (length-map (slices csidWidth (getD xs 10 0) (drop (sessionHead + maxPdrs * pdrWidth + maxEndpoints * endpointWidth) xs)) viewCsid ∙ length-slices csidWidth (getD xs 10 0) (drop (sessionHead + maxPdrs * pdrWidth + maxEndpoints * endpointWidth) xs)))) lc;
       }
 
-  pub counts-tested : (s : Settings) → T (slotSound s xs) → Counts xs
-  unfolding slotSound slotTests headSound octetAt numberAt
-  counts-tested s h =
-      let t = each (headTests xs) (each (slotTests s xs) h .0) in
-      record { pdrs = leb→le (getD xs 8 0) 16 (t .1 .0); endpoints = leb→le (getD xs 9 0) 8 (t .1 .1 .0); csids = leb→le (getD xs 10 0) 6 (t .1 .1 .1 .0) }
+  counts-tested : (s : Settings) → T (slotSound s xs) → Counts xs
+  unfolding slotSound slotTests
+  counts-tested s h = counts-headed xs (each (slotTests s xs) h .0)
 
   module _ (s : Settings) (o : T (octets xs)) (c : Counts xs) where
     live : List ℕ

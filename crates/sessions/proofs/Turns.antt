@@ -1,24 +1,23 @@
 -- The loops over records: what is left gives the same answer; and the answers, return by return.
 -- Assumes nothing.
 use mathlib.Core.Path.{_≡_, refl, sym, ap, _∙_}
-use Prim.Native.Nat.{ℕ, suc, _+_, _-_, _*_, _≤_, _<_}
+use Prim.Native.Nat.{ℕ, suc, _+_, _-_, _*_, _≤_, _<_, zero-le}
 use native.Mathlib.Numerals.{add-one}
 use native.Mathlib.Omega.{arith}
 use mathlib.Core.Bool.{Bool, true, false, not, _&&_}
-use mathlib.Core.List.{List, [], _∷_}
+use mathlib.Core.List.{List, [], _∷_, map}
 use borrow.Author.Tests.{lt-ltb, le-ltb, le-leb, lt-leb, not-true, not-false}
 use lib.ListN.{length, take, drop, getD, drop-of-length-le, length-drop}
-use lib.Seq.{drop-cons, drop-drop, take-all}
-use lib.Dec.{leb, ltb, leb→le}
-use Rattle.octets.proofs.Tests.{Each, each, of-true}
-use Rattle.octets.proofs.Put.{length-part}
+use lib.Seq.{drop-cons, drop-drop, take-all, take-take}
+use lib.Dec.{leb, ltb}
 use Rattle.rules.specs.Model.{Settings}
 use Rattle.octets.specs.Octets.{part, number, numberAt, octetAt, slices, allZero}
 use Rattle.octets.specs.Lists.{all, ascending}
 use Rattle.rules.specs.Layout.{pdrWidth, endpointWidth, csidWidth}
+use Rattle.slots.specs.Records.{keyOf}
 use Rattle.slots.proofs.Lookup.{keys, key-at}
 use Rattle.records.specs.Kept.{pdrSound, endpointSound, csidSound, endpointIds}
-use Rattle.records.proofs.Cells.{and-true}
+use Rattle.records.proofs.Cells.{and-true, and-false, and-assoc}
 use Rattle.sessions.specs.Slot.{areaSound, headSound, slotTests, slotSound, pdrArea, endpointArea, csidArea}
 
 -- ---- ascending keys
@@ -62,49 +61,93 @@ module _ {ks : List ℕ} {n : ℕ} where
       let end : drop (i + 1) ks ≡ [] = drop-of-length-le ks {i = i + 1} (omega (arith, r .size, r .within)) in
       sym (sym (r .rest) ∙ ap ascending (next ks i (omega (arith, r .size, r .within)) ∙ ap (λ (l : List ℕ). getD ks i 0 ∷ l) end))
 
--- ---- a test of every record
+-- ---- one walk over an area: each record is tested, and its key compared with the least that it may be
 
-module _ (p : List ℕ → Bool) (w : ℕ) (a : List ℕ) (n i : ℕ) where
-  -- the records from i on
-  abbrev pub left : ℕ → Bool
-  left j = all p (slices w (n - j) (drop (j * w) a))
+-- the records from place i on
+pub slices-more : (w : ℕ) (a : List ℕ) (n i : ℕ) → i < n → slices w (n - i) (drop (i * w) a) ≡ part (i * w) w a ∷ slices w (n - (i + 1)) (drop ((i + 1) * w) a)
+unfolding slices
+slices-more w a n i h =
+    let e : n - i ≡ suc (n - (i + 1)) = omega arith in
+    let step : i * w + w ≡ (i + 1) * w = omega arith in
+    rw (e, drop-drop w (i * w) a, step)
 
-  pub slices-more : i < n → slices w (n - i) (drop (i * w) a) ≡ part (i * w) w a ∷ slices w (n - (i + 1)) (drop ((i + 1) * w) a)
-  unfolding slices
-  slices-more h =
-      let e : n - i ≡ suc (n - (i + 1)) = omega arith in
-      let step : i * w + w ≡ (i + 1) * w = omega arith in
-      rw (e, drop-drop w (i * w) a, step)
+-- keys of which the first is at least b, and each other one above the one before it
+unfoldable pub risesFrom : ℕ → List ℕ → Bool
+risesFrom b [] = true
+risesFrom b (x ∷ xs) = leb b x && risesFrom (x + 1) xs
 
-  -- a record read as the part from at on
-  module _ (h : i < n) (r : Bool) (e : r ≡ p (take (i * w + w - i * w) (drop (i * w) a))) where
-    here : r ≡ p (part (i * w) w a)
-    here = let span : i * w + w - i * w ≡ w = omega arith in rw span at e
+rises-after : (x : ℕ) (xs : List ℕ) → risesFrom (x + 1) xs ≡ ascending (x ∷ xs)
+unfolding risesFrom ascending
+rises-after x [] = refl
+rises-after x (y ∷ ys) = let e : x + 1 ≡ suc x = add-one x in ap (λ (k : ℕ). leb k y && risesFrom (y + 1) ys) e ∙ ap (λ (t : Bool). ltb x y && t) (rises-after y ys)
 
-    pub record-bad : not r ≡ true → left i ≡ false
-    unfolding all
-    record-bad k = rw (slices-more h, ← here, not-true r k)
+rises-all : (xs : List ℕ) → risesFrom 0 xs ≡ ascending xs
+unfolding risesFrom ascending
+rises-all [] = refl
+rises-all (x ∷ xs) = rw (le-leb 0 x zero-le) (rises-after x xs)
 
-    pub record-good : not r ≡ false → left i ≡ left (i + 1)
-    unfolding all
-    record-good k = rw (slices-more h, ← here, not-false r k)
+pairs : (a b c d : Bool) → ((a && b) && (c && d)) ≡ ((a && c) && (b && d))
+pairs true true c d = refl
+pairs true false true d = refl
+pairs true false false d = refl
+pairs false b c d = refl
 
-pub none-left : (p : List ℕ → Bool) (w : ℕ) (a : List ℕ) (n i : ℕ) → n ≤ i → all p (slices w (n - i) (drop (i * w) a)) ≡ true
-unfolding all slices
-none-left p w a n i h = let e : n - i ≡ 0 = omega arith in rw e
+module _ (p : List ℕ → Bool) (w k : ℕ) (a : List ℕ) (n : ℕ) where
+  -- those from place i on pass their test, and their keys rise from b
+  abbrev pub soundFrom : ℕ → ℕ → Bool
+  soundFrom i b = all p (slices w (n - i) (drop (i * w) a)) && risesFrom b (map (keyOf k) (slices w (n - i) (drop (i * w) a)))
 
-pub all-left : (p : List ℕ → Bool) (w : ℕ) (a : List ℕ) (n : ℕ) → all p (slices w (n - 0) (drop (0 * w) a)) ≡ all p (slices w n a)
-all-left p w a n = let e : n - 0 ≡ n = omega arith in let z : 0 * w ≡ 0 = omega arith in rw (e, z)
+  -- What holds at the head of the loop: what is left, with keys from next on, gives the same answer.
+  pub record Rows (i next : ℕ) : Type 0 where
+    pub within : i ≤ n
+    pub rest : soundFrom i next ≡ (all p (slices w n a) && ascending (keys w k n a))
 
--- the area's answers
-module _ (p : List ℕ → Bool) (w k n : ℕ) (a : List ℕ) where
-  pub area-bad : all p (slices w n a) ≡ false → false ≡ areaSound p w k n a
+  pub rows-none : Rows 0 0
+  rows-none =
+      let e : n - 0 ≡ n = omega arith in
+      let z : 0 * w ≡ 0 = omega arith in
+      record { within = zero-le; rest = rw (e, z, rises-all (keys w k n a)) }
+
+  -- an area whose records are not sound
+  area-not : (all p (slices w n a) && ascending (keys w k n a)) ≡ false → areaSound p w k n a ≡ false
   unfolding areaSound
-  area-bad e = sym (rw e)
+  area-not e = sym (and-assoc (all p (slices w n a)) (ascending (keys w k n a)) (allZero (drop (n * w) a))) ∙ ap (λ (t : Bool). t && allZero (drop (n * w) a)) e
 
-  pub area-good : (r : Bool) → all p (slices w n a) ≡ true → r ≡ (ascending (keys w k n a) && allZero (drop (n * w) a)) → r ≡ areaSound p w k n a
-  unfolding areaSound
-  area-good r e q = q ∙ sym (rw e)
+  module _ {i next : ℕ} (r : Rows i next) (h : i < n) where
+    turn : soundFrom i next ≡ ((p (part (i * w) w a) && leb next (keyOf k (part (i * w) w a))) && soundFrom (i + 1) (keyOf k (part (i * w) w a) + 1))
+    unfolding all risesFrom
+    turn =
+        let here : List ℕ = part (i * w) w a in
+        let left : List (List ℕ) = slices w (n - (i + 1)) (drop ((i + 1) * w) a) in
+        ap (λ (l : List (List ℕ)). all p l && risesFrom next (map (keyOf k) l)) (slices-more w a n i h)
+        ∙ pairs (p here) (all p left) (leb next (keyOf k here)) (risesFrom (keyOf k here + 1) (map (keyOf k) left))
+
+    pub rows-bad : p (part (i * w) w a) ≡ false → areaSound p w k n a ≡ false
+    rows-bad e = area-not (sym (r .rest) ∙ turn ∙ rw e)
+
+    module _ (narrow : k ≤ w) (key : ℕ) (q : key ≡ number (part (i * w) k a)) where
+      key-is : keyOf k (part (i * w) w a) ≡ key
+      unfolding keyOf
+      key-is = ap number (take-take k w (drop (i * w) a) narrow) ∙ sym q
+
+      pub rows-low : key < next → areaSound p w k n a ≡ false
+      rows-low l = area-not (sym (r .rest) ∙ turn ∙ rw (key-is, lt-leb next key l, and-false (p (part (i * w) w a))))
+
+      pub rows-more : next ≤ key → p (part (i * w) w a) ≡ true → Rows (i + 1) (key + 1)
+      rows-more l e = record { within = omega arith; rest = sym (turn ∙ rw (key-is, e, le-leb next key l)) ∙ r .rest }
+
+  -- the room after the records
+  pub rows-room : {i next : ℕ} → Rows i next → n ≤ i → n * w ≤ length a → (z : Bool) → z ≡ allZero (part (n * w) (length a - n * w) a) → z ≡ areaSound p w k n a
+  unfolding areaSound all risesFrom slices
+  rows-room {i} {next} r h long z q =
+      let e : n - i ≡ 0 = omega arith in
+      let done : (all p (slices w n a) && ascending (keys w k n a)) ≡ true = sym (r .rest) ∙ rw e in
+      let room : part (n * w) (length a - n * w) a ≡ drop (n * w) a = take-all (length a - n * w) (drop (n * w) a) (rw length-drop (omega arith)) in
+      q ∙ ap allZero room ∙ sym (sym (and-assoc (all p (slices w n a)) (ascending (keys w k n a)) (allZero (drop (n * w) a))) ∙ ap (λ (t : Bool). t && allZero (drop (n * w) a)) done)
+
+-- a record as the code has it
+pub record-read : (p : List ℕ → Bool) (w i : ℕ) (a : List ℕ) (b : Bool) → b ≡ p (take (i * w + w - i * w) (drop (i * w) a)) → b ≡ p (part (i * w) w a)
+record-read p w i a b e = let span : i * w + w - i * w ≡ w = omega arith in rw span at e
 
 -- keys and the room after the records
 module _ (w k n : ℕ) (a : List ℕ) (r : Bool) (e : r ≡ ascending (keys w k n a)) where
@@ -145,36 +188,11 @@ key-read w k n i r a h l q = q ∙ sym (key-at w k n i a h l)
 
 -- ---- a slot
 
-module _ (xs : List ℕ) (h : Bool) (q : h ≡ headSound xs) where
-  head-tests : not h ≡ false → Each (leb 1 (number (part 0 8 xs)) ∷ leb (getD xs 8 0) 16 ∷ leb (getD xs 9 0) 8 ∷ leb (getD xs 10 0) 6 ∷ [])
-  unfolding headSound numberAt octetAt
-  head-tests k = each (leb 1 (number (part 0 8 xs)) ∷ leb (getD xs 8 0) 16 ∷ leb (getD xs 9 0) 8 ∷ leb (getD xs 10 0) 6 ∷ []) (of-true (sym q ∙ not-false h k))
-
-  -- what is known once the head is sound
-  pub head-room : length xs ≡ 483 → not h ≡ false
-      → (getD xs 8 0 * 19 ≤ length (pdrArea xs)) × (getD xs 9 0 * 6 ≤ length (endpointArea xs)) × (getD xs 10 0 * 20 ≤ length (csidArea xs))
-  head-room e k =
-      let t = head-tests k in
-      let lp = length-part 11 304 xs (omega arith) in
-      let le = length-part 315 48 xs (omega arith) in
-      let lc = length-part 363 120 xs (omega arith) in
-      (omega (arith, leb→le (getD xs 8 0) 16 (t .1 .0)), omega (arith, leb→le (getD xs 9 0) 8 (t .1 .1 .0)), omega (arith, leb→le (getD xs 10 0) 6 (t .1 .1 .1 .0)))
-
-  module _ (s : Settings) where
-    pub slot-head : not h ≡ true → false ≡ slotSound s xs
-    unfolding slotSound slotTests
-    slot-head k = sym (rw (← q, not-true h k))
-
-    module _ (k : not h ≡ false) (p : Bool) (qp : p ≡ areaSound (pdrSound s (endpointIds (getD xs 9 0) (endpointArea xs))) 19 2 (getD xs 8 0) (pdrArea xs)) where
-      pub slot-pdrs : not p ≡ true → false ≡ slotSound s xs
-      unfolding slotSound slotTests octetAt pdrWidth
-      slot-pdrs kp = sym (rw (← q, not-false h k, ← qp, not-true p kp))
-
-      module _ (kp : not p ≡ false) (e : Bool) (qe : e ≡ areaSound (endpointSound s) 6 1 (getD xs 9 0) (endpointArea xs)) where
-        pub slot-endpoints : not e ≡ true → false ≡ slotSound s xs
-        unfolding slotSound slotTests octetAt pdrWidth endpointWidth
-        slot-endpoints ke = sym (rw (← q, not-false h k, ← qp, not-false p kp, ← qe, not-true e ke))
-
-        pub slot-csids : (r : Bool) → not e ≡ false → r ≡ areaSound csidSound 20 1 (getD xs 10 0) (csidArea xs) → r ≡ slotSound s xs
-        unfolding slotSound slotTests octetAt pdrWidth endpointWidth csidWidth
-        slot-csids r ke qr = sym (rw (← q, not-false h k, ← qp, not-false p kp, ← qe, not-false e ke, ← qr) (and-true r))
+-- the head, then the areas
+pub slot-areas : (s : Settings) (xs : List ℕ)
+    → slotSound s xs
+    ≡ (headSound xs
+    && (areaSound (pdrSound s (endpointIds (getD xs 9 0) (endpointArea xs))) 19 2 (getD xs 8 0) (pdrArea xs)
+    && (areaSound (endpointSound s) 6 1 (getD xs 9 0) (endpointArea xs) && areaSound csidSound 20 1 (getD xs 10 0) (csidArea xs))))
+unfolding slotSound slotTests octetAt pdrWidth endpointWidth csidWidth
+slot-areas s xs = rw (and-true (areaSound csidSound 20 1 (getD xs 10 0) (csidArea xs)))

@@ -1,57 +1,81 @@
 -- `marking::admit` meets its contract.
 -- Assumes nothing.
-use mathlib.Core.Path.{sym, subst}
-use Prim.Native.Nat.{ℕ}
 use native.Mathlib.Omega.{arith}
-use lib.Dec.{T}
-use Rattle.octets.specs.Octets.{octets}
-use Rattle.octets.proofs.Digits.{octets-known}
 use Rattle.octets.proofs.Put.{length-part}
-use Rattle.marking.specs.Marking.{mapped}
-use Rattle.marking.proofs.Admitting.{pdrsOf, slot-counts, endpoints-mapped, pdrs-mapped, admit-broken, admit-endpoints, admit-pdrs, admit-few, admit-all}
+use Rattle.marking.proofs.Admitting.{slot-counts, ends-long, admit-broken, admit-csids, admit-ends, admit-rules, admit-few, admit-whole}
 use borrow.Author.Needs.{needs}
 use Rattle.marking.proofs.admit.Statement.{statement}
 use Rattle.marking.proofs.admit.Tie as tie
 
-slot-sound-requires : tie.Need-slot-sound-requires
-slot-sound-requires c κs = search needs
+head-sound-requires : tie.Need-head-sound-requires
+head-sound-requires c κs = search needs
 
 returns : tie.Need-returns
 returns c =
     let start = c .before .before .before .before in
     let g = start .args in
     let xs = g .slot .now in
-    let o : T (octets xs) = octets-known xs (λ i. c .before .before .shared-slice-known .given i .fits) in
-    let sound = c .before .slot-sound in
-    admit-broken (g .first) (g .size) (g .v6) xs (start .pre .0) o (sound .result) (sound .ensures) (g .words .now) (start .pre .2) (g .words .now) (c .if1 .taken)
+    let head = c .before .head-sound in
+    admit-broken (g .first) (g .size) (g .v6) (g .words .now) xs (head .result) (head .ensures) (g .words .now) (c .if1 .taken)
 
-sub-mark-endpoints : tie.Need-sub-mark-endpoints
-sub-mark-endpoints c = search needs
+sub-csids-sound : tie.Need-sub-csids-sound
+sub-csids-sound c = search needs
 
-part-mark-endpoints-start : tie.Need-part-mark-endpoints-start
-part-mark-endpoints-start c = search needs
+part-csids-sound-start : tie.Need-part-csids-sound-start
+part-csids-sound-start c = search needs
 
-part-mark-endpoints-end : tie.Need-part-mark-endpoints-end
-part-mark-endpoints-end c = search needs
+part-csids-sound-end : tie.Need-part-csids-sound-end
+part-csids-sound-end c = search needs
 
-shared-slice-read-mark-endpoints : tie.Need-shared-slice-read-mark-endpoints
-shared-slice-read-mark-endpoints c = search needs
+shared-slice-read-csids-sound : tie.Need-shared-slice-read-csids-sound
+shared-slice-read-csids-sound c = search needs
 
-cast-mark-endpoints : tie.Need-cast-mark-endpoints
-cast-mark-endpoints c = omega (arith, c .shared-slice-known2 .given 9)
+cast-csids-sound : tie.Need-cast-csids-sound
+cast-csids-sound c = omega (arith, c .shared-slice-known2 .given 10)
 
-mark-endpoints-requires : tie.Need-mark-endpoints-requires
-mark-endpoints-requires c κs =
-    let start = c .before .before .before .before .before .before .before in
+csids-sound-requires : tie.Need-csids-sound-requires
+csids-sound-requires c κs =
+    let start = c .before .before .before .before .before .before in
     let g = start .args in
     let xs = g .slot .now in
-    let o : T (octets xs) = octets-known xs (λ i. c .before .before .before .before .before .shared-slice-known .given i .fits) in
-    let sound = c .before .before .before .before .slot-sound in
-    let counts = slot-counts (g .first) (g .size) (g .v6) xs (start .pre .0) o (sound .result) (sound .ensures) (c .before .before .before .if1 .left) in
-    (omega (arith, counts .endpoints, length-part 315 48 xs (omega arith)), endpoints-mapped (g .first) (g .size) (g .v6) xs (start .pre .0) o (sound .result) (sound .ensures) (g .words .now) (start .pre .2) (c .before .before .before .if1 .left))
+    let head = c .before .before .before .head-sound in
+    let counts = slot-counts (g .first) (g .size) (g .v6) (g .words .now) xs (head .result) (head .ensures) (c .before .before .if1 .left) in
+    omega (arith, counts .csids, length-part 363 120 xs (omega arith))
 
-enum-known-ends : tie.Need-enum-known-ends
-enum-known-ends c = search needs
+returns-2 : tie.Need-returns-2
+returns-2 c =
+    let start = c .before .before .before .before .before .before .before .before in
+    let g = start .args in
+    let xs = g .slot .now in
+    let head = c .before .before .before .before .before .head-sound in
+    admit-csids (g .first) (g .size) (g .v6) (g .words .now) xs (head .result) (head .ensures) (c .before .before .before .before .if1 .left) (c .before .csids-sound .result) (c .before .csids-sound .ensures) (g .words .now) (c .if2 .taken)
+
+sub-ends : tie.Need-sub-ends
+sub-ends c = search needs
+
+part-ends-start : tie.Need-part-ends-start
+part-ends-start c = search needs
+
+part-ends-end : tie.Need-part-ends-end
+part-ends-end c = search needs
+
+shared-slice-read-m : tie.Need-shared-slice-read-m
+shared-slice-read-m c = search needs
+
+cast-m : tie.Need-cast-m
+cast-m c = omega (arith, c .shared-slice-known3 .given 9)
+
+admit-endpoints-requires : tie.Need-admit-endpoints-requires
+admit-endpoints-requires c κs =
+    let start = c .before .before .before .before .before .before .before .before .before .before .before in
+    let g = start .args in
+    let xs = g .slot .now in
+    let head = c .before .before .before .before .before .before .before .before .head-sound in
+    let counts = slot-counts (g .first) (g .size) (g .v6) (g .words .now) xs (head .result) (head .ensures) (c .before .before .before .before .before .before .before .if1 .left) in
+    (omega (arith, counts .endpoints, length-part 315 48 xs (omega arith)), start .pre .1, start .pre .2)
+
+enum-known-held : tie.Need-enum-known-held
+enum-known-held c = search needs
 
 enum-told : tie.Need-enum-told
 enum-told c = search needs
@@ -59,39 +83,39 @@ enum-told c = search needs
 same-length : tie.Need-same-length
 same-length c = search needs
 
-returns-2 : tie.Need-returns-2
-returns-2 c =
-    let start = c .before .before .before .before .before .before .before .before .before .before .before .before in
-    let g = start .args in
-    let xs = g .slot .now in
-    let o : T (octets xs) = octets-known xs (λ i. c .before .before .before .before .before .before .before .before .before .before .shared-slice-known .given i .fits) in
-    let sound = c .before .before .before .before .before .before .before .before .before .slot-sound in
-    admit-endpoints (g .first) (g .size) (g .v6) xs (start .pre .0) o (sound .result) (sound .ensures) (g .words .now) (start .pre .2) (c .before .before .before .before .before .before .before .before .if1 .left) (c .before .before .before .before .mark-endpoints .result) (c .before .before .before .before .mark-endpoints .last .0) (c .before .before .before .before .mark-endpoints .ensures) (c .before .before .before .before .mark-endpoints .last .0) (c .enum-told .given .1)
-
-sub-mark-pdrs : tie.Need-sub-mark-pdrs
-sub-mark-pdrs c = search needs
-
-part-mark-pdrs-start : tie.Need-part-mark-pdrs-start
-part-mark-pdrs-start c = search needs
-
-part-mark-pdrs-end : tie.Need-part-mark-pdrs-end
-part-mark-pdrs-end c = search needs
-
-shared-slice-read-mark-pdrs : tie.Need-shared-slice-read-mark-pdrs
-shared-slice-read-mark-pdrs c = search needs
-
-cast-mark-pdrs : tie.Need-cast-mark-pdrs
-cast-mark-pdrs c = omega (arith, c .shared-slice-known3 .given 8)
-
-mark-pdrs-requires : tie.Need-mark-pdrs-requires
-mark-pdrs-requires c κs =
+returns-3 : tie.Need-returns-3
+returns-3 c =
     let start = c .before .before .before .before .before .before .before .before .before .before .before .before .before .before .before .before in
     let g = start .args in
     let xs = g .slot .now in
-    let o : T (octets xs) = octets-known xs (λ i. c .before .before .before .before .before .before .before .before .before .before .before .before .before .before .shared-slice-known .given i .fits) in
-    let sound = c .before .before .before .before .before .before .before .before .before .before .before .before .before .slot-sound in
-    let counts = slot-counts (g .first) (g .size) (g .v6) xs (start .pre .0) o (sound .result) (sound .ensures) (c .before .before .before .before .before .before .before .before .before .before .before .before .if1 .left) in
-    (omega (arith, counts .pdrs, length-part 11 304 xs (omega arith)), subst (λ (k : ℕ). T (mapped (g .first) k (pdrsOf xs))) (sym (c .before .before .before .before .before .before .before .before .mark-endpoints .kept .0)) (pdrs-mapped (g .first) (g .size) (g .v6) xs (start .pre .0) o (sound .result) (sound .ensures) (g .words .now) (start .pre .2) (c .before .before .before .before .before .before .before .before .before .before .before .before .if1 .left)))
+    let head = c .before .before .before .before .before .before .before .before .before .before .before .before .before .head-sound in
+    admit-ends (g .first) (g .size) (g .v6) (g .words .now) xs (head .result) (head .ensures) (c .before .before .before .before .before .before .before .before .before .before .before .before .if1 .left) (c .before .before .before .before .before .before .before .before .before .csids-sound .result) (c .before .before .before .before .before .before .before .before .before .csids-sound .ensures) (c .before .before .before .before .before .before .before .before .if2 .left) (c .before .before .before .before .admit-endpoints .result) (c .before .before .before .before .admit-endpoints .last .0) (c .before .before .before .before .admit-endpoints .ensures) (c .before .before .before .before .admit-endpoints .last .0) (c .enum-told .given .1)
+
+sub-admit-pdrs : tie.Need-sub-admit-pdrs
+sub-admit-pdrs c = search needs
+
+part-admit-pdrs-start : tie.Need-part-admit-pdrs-start
+part-admit-pdrs-start c = search needs
+
+part-admit-pdrs-end : tie.Need-part-admit-pdrs-end
+part-admit-pdrs-end c = search needs
+
+shared-slice-read-admit-pdrs : tie.Need-shared-slice-read-admit-pdrs
+shared-slice-read-admit-pdrs c = search needs
+
+cast-admit-pdrs : tie.Need-cast-admit-pdrs
+cast-admit-pdrs c = omega (arith, c .shared-slice-known4 .given 8)
+
+admit-pdrs-requires : tie.Need-admit-pdrs-requires
+admit-pdrs-requires c κs =
+    let start = c .before .before .before .before .before .before .before .before .before .before .before .before .before .before .before .before .before .before .before .before in
+    let g = start .args in
+    let xs = g .slot .now in
+    let head = c .before .before .before .before .before .before .before .before .before .before .before .before .before .before .before .before .before .head-sound in
+    let counts = slot-counts (g .first) (g .size) (g .v6) (g .words .now) xs (head .result) (head .ensures) (c .before .before .before .before .before .before .before .before .before .before .before .before .before .before .before .before .if1 .left) in
+    let ends = c .before .before .before .before .before .before .before .before .admit-endpoints in
+    let long = ends-long (g .first) (g .size) (g .v6) (g .words .now) xs (head .result) (head .ensures) (c .before .before .before .before .before .before .before .before .before .before .before .before .before .before .before .before .if1 .left) (c .before .before .before .before .before .before .before .before .before .before .before .before .before .csids-sound .result) (c .before .before .before .before .before .before .before .before .before .before .before .before .before .csids-sound .ensures) (c .before .before .before .before .before .before .before .before .before .before .before .before .if2 .left) (ends .result) (ends .last .0) (ends .ensures) (c .before .before .before .before .held .given .0 .0) (c .before .before .before .before .held .given .1) in
+    (omega (arith, counts .pdrs, length-part 11 304 xs (omega arith)), omega (arith, counts .endpoints, length-part 315 48 xs (omega arith)), start .pre .1, omega (arith, long))
 
 enum-known-pdrs : tie.Need-enum-known-pdrs
 enum-known-pdrs c = search needs
@@ -102,63 +126,67 @@ enum-told-2 c = search needs
 same-length-2 : tie.Need-same-length-2
 same-length-2 c = search needs
 
-returns-3 : tie.Need-returns-3
-returns-3 c =
-    let start = c .before .before .before .before .before .before .before .before .before .before .before .before .before .before .before .before .before .before .before .before .before in
+returns-4 : tie.Need-returns-4
+returns-4 c =
+    let start = c .before .before .before .before .before .before .before .before .before .before .before .before .before .before .before .before .before .before .before .before .before .before .before .before .before in
     let g = start .args in
     let xs = g .slot .now in
-    let o : T (octets xs) = octets-known xs (λ i. c .before .before .before .before .before .before .before .before .before .before .before .before .before .before .before .before .before .before .before .shared-slice-known .given i .fits) in
-    let sound = c .before .before .before .before .before .before .before .before .before .before .before .before .before .before .before .before .before .before .slot-sound in
-    admit-pdrs (g .first) (g .size) (g .v6) xs (start .pre .0) o (sound .result) (sound .ensures) (g .words .now) (start .pre .2) (c .before .before .before .before .before .before .before .before .before .before .before .before .before .before .before .before .before .if1 .left) (c .before .before .before .before .before .before .before .before .before .before .before .before .before .mark-endpoints .result) (c .before .before .before .before .before .before .before .before .before .before .before .before .before .mark-endpoints .last .0) (c .before .before .before .before .before .before .before .before .before .before .before .before .before .mark-endpoints .ensures) (c .before .before .before .before .before .before .before .before .before .ends .given .0 .0) (c .before .before .before .before .before .before .before .before .before .ends .given .1) (c .before .before .before .before .mark-pdrs .result) (c .before .before .before .before .mark-pdrs .last .0) (c .before .before .before .before .mark-pdrs .ensures) (c .before .before .before .before .mark-pdrs .last .0) (c .enum-told2 .given .1)
+    let head = c .before .before .before .before .before .before .before .before .before .before .before .before .before .before .before .before .before .before .before .before .before .before .head-sound in
+    admit-rules (g .first) (g .size) (g .v6) (g .words .now) xs (head .result) (head .ensures) (c .before .before .before .before .before .before .before .before .before .before .before .before .before .before .before .before .before .before .before .before .before .if1 .left) (c .before .before .before .before .before .before .before .before .before .before .before .before .before .before .before .before .before .before .csids-sound .result) (c .before .before .before .before .before .before .before .before .before .before .before .before .before .before .before .before .before .before .csids-sound .ensures) (c .before .before .before .before .before .before .before .before .before .before .before .before .before .before .before .before .before .if2 .left) (c .before .before .before .before .before .before .before .before .before .before .before .before .before .admit-endpoints .result) (c .before .before .before .before .before .before .before .before .before .before .before .before .before .admit-endpoints .last .0) (c .before .before .before .before .before .before .before .before .before .before .before .before .before .admit-endpoints .ensures) (c .before .before .before .before .before .before .before .before .before .held .given .0 .0) (c .before .before .before .before .before .before .before .before .before .held .given .1) (c .before .before .before .before .admit-pdrs .result) (c .before .before .before .before .admit-pdrs .last .0) (c .before .before .before .before .admit-pdrs .ensures) (c .before .before .before .before .admit-pdrs .last .0) (c .enum-told2 .given .1)
 
 add-t15 : tie.Need-add-t15
 add-t15 c =
-    let start = c .before .before .before .before .before .before .before .before .before .before .before .before .before .before .before .before .before .before .before .before .before .before in
+    let start = c .before .before .before .before .before .before .before .before .before .before .before .before .before .before .before .before .before .before .before .before .before .before .before .before .before .before in
     let g = start .args in
     let xs = g .slot .now in
-    let o : T (octets xs) = octets-known xs (λ i. c .before .before .before .before .before .before .before .before .before .before .before .before .before .before .before .before .before .before .before .before .shared-slice-known .given i .fits) in
-    let sound = c .before .before .before .before .before .before .before .before .before .before .before .before .before .before .before .before .before .before .before .slot-sound in
-    let few = admit-few (g .first) (g .size) (g .v6) xs (start .pre .0) o (sound .result) (sound .ensures) (g .words .now) (start .pre .2) (c .before .before .before .before .before .before .before .before .before .before .before .before .before .before .before .before .before .before .if1 .left) (c .before .before .before .before .before .before .before .before .before .before .before .before .before .before .mark-endpoints .result) (c .before .before .before .before .before .before .before .before .before .before .before .before .before .before .mark-endpoints .last .0) (c .before .before .before .before .before .before .before .before .before .before .before .before .before .before .mark-endpoints .ensures) (c .before .before .before .before .before .before .before .before .before .before .ends .given .0 .0) (c .before .before .before .before .before .before .before .before .before .before .ends .given .1) (c .before .before .before .before .before .mark-pdrs .result) (c .before .before .before .before .before .mark-pdrs .last .0) (c .before .before .before .before .before .mark-pdrs .ensures) (c .before .pdrs .given .0 .0) (c .before .pdrs .given .1) in
+    let head = c .before .before .before .before .before .before .before .before .before .before .before .before .before .before .before .before .before .before .before .before .before .before .before .head-sound in
+    let few = admit-few (g .first) (g .size) (g .v6) (g .words .now) xs (head .result) (head .ensures) (c .before .before .before .before .before .before .before .before .before .before .before .before .before .before .before .before .before .before .before .before .before .before .if1 .left) (c .before .before .before .before .before .before .before .before .before .before .before .before .before .before .before .before .before .before .before .csids-sound .result) (c .before .before .before .before .before .before .before .before .before .before .before .before .before .before .before .before .before .before .before .csids-sound .ensures) (c .before .before .before .before .before .before .before .before .before .before .before .before .before .before .before .before .before .before .if2 .left) (c .before .before .before .before .before .before .before .before .before .before .before .before .before .before .admit-endpoints .result) (c .before .before .before .before .before .before .before .before .before .before .before .before .before .before .admit-endpoints .last .0) (c .before .before .before .before .before .before .before .before .before .before .before .before .before .before .admit-endpoints .ensures) (c .before .before .before .before .before .before .before .before .before .before .held .given .0 .0) (c .before .before .before .before .before .before .before .before .before .before .held .given .1) (c .before .before .before .before .before .admit-pdrs .result) (c .before .before .before .before .before .admit-pdrs .last .0) (c .before .before .before .before .before .admit-pdrs .ensures) (c .before .pdrs .given .0 .0) (c .before .pdrs .given .1) in
     omega arith
 
 same-length-3 : tie.Need-same-length-3
 same-length-3 c = search needs
 
-returns-4 : tie.Need-returns-4
-returns-4 c =
-    let start = c .before .before .before .before .before .before .before .before .before .before .before .before .before .before .before .before .before .before .before .before .before .before in
+returns-5 : tie.Need-returns-5
+returns-5 c =
+    let start = c .before .before .before .before .before .before .before .before .before .before .before .before .before .before .before .before .before .before .before .before .before .before .before .before .before .before in
     let g = start .args in
     let xs = g .slot .now in
-    let o : T (octets xs) = octets-known xs (λ i. c .before .before .before .before .before .before .before .before .before .before .before .before .before .before .before .before .before .before .before .before .shared-slice-known .given i .fits) in
-    let sound = c .before .before .before .before .before .before .before .before .before .before .before .before .before .before .before .before .before .before .before .slot-sound in
-    admit-all (g .first) (g .size) (g .v6) xs (start .pre .0) o (sound .result) (sound .ensures) (g .words .now) (start .pre .2) (c .before .before .before .before .before .before .before .before .before .before .before .before .before .before .before .before .before .before .if1 .left) (c .before .before .before .before .before .before .before .before .before .before .before .before .before .before .mark-endpoints .result) (c .before .before .before .before .before .before .before .before .before .before .before .before .before .before .mark-endpoints .last .0) (c .before .before .before .before .before .before .before .before .before .before .before .before .before .before .mark-endpoints .ensures) (c .before .before .before .before .before .before .before .before .before .before .ends .given .0 .0) (c .before .before .before .before .before .before .before .before .before .before .ends .given .1) (c .before .before .before .before .before .mark-pdrs .result) (c .before .before .before .before .before .mark-pdrs .last .0) (c .before .before .before .before .before .mark-pdrs .ensures) (c .before .pdrs .given .0 .0) (c .before .pdrs .given .1)
+    let head = c .before .before .before .before .before .before .before .before .before .before .before .before .before .before .before .before .before .before .before .before .before .before .before .head-sound in
+    admit-whole (g .first) (g .size) (g .v6) (g .words .now) xs (head .result) (head .ensures) (c .before .before .before .before .before .before .before .before .before .before .before .before .before .before .before .before .before .before .before .before .before .before .if1 .left) (c .before .before .before .before .before .before .before .before .before .before .before .before .before .before .before .before .before .before .before .csids-sound .result) (c .before .before .before .before .before .before .before .before .before .before .before .before .before .before .before .before .before .before .before .csids-sound .ensures) (c .before .before .before .before .before .before .before .before .before .before .before .before .before .before .before .before .before .before .if2 .left) (c .before .before .before .before .before .before .before .before .before .before .before .before .before .before .admit-endpoints .result) (c .before .before .before .before .before .before .before .before .before .before .before .before .before .before .admit-endpoints .last .0) (c .before .before .before .before .before .before .before .before .before .before .before .before .before .before .admit-endpoints .ensures) (c .before .before .before .before .before .before .before .before .before .before .held .given .0 .0) (c .before .before .before .before .before .before .before .before .before .before .held .given .1) (c .before .before .before .before .before .admit-pdrs .result) (c .before .before .before .before .before .admit-pdrs .last .0) (c .before .before .before .before .before .admit-pdrs .ensures) (c .before .pdrs .given .0 .0) (c .before .pdrs .given .1)
 
 pub admit-spec : {M : Type 1} → statement M
 admit-spec =
     tie.close
     (tie.spec
-    slot-sound-requires
+    head-sound-requires
     returns
-    sub-mark-endpoints
-    part-mark-endpoints-start
-    part-mark-endpoints-end
-    shared-slice-read-mark-endpoints
-    cast-mark-endpoints
-    mark-endpoints-requires
-    enum-known-ends
+    sub-csids-sound
+    part-csids-sound-start
+    part-csids-sound-end
+    shared-slice-read-csids-sound
+    cast-csids-sound
+    csids-sound-requires
+    returns-2
+    sub-ends
+    part-ends-start
+    part-ends-end
+    shared-slice-read-m
+    cast-m
+    admit-endpoints-requires
+    enum-known-held
     enum-told
     same-length
-    returns-2
-    sub-mark-pdrs
-    part-mark-pdrs-start
-    part-mark-pdrs-end
-    shared-slice-read-mark-pdrs
-    cast-mark-pdrs
-    mark-pdrs-requires
+    returns-3
+    sub-admit-pdrs
+    part-admit-pdrs-start
+    part-admit-pdrs-end
+    shared-slice-read-admit-pdrs
+    cast-admit-pdrs
+    admit-pdrs-requires
     enum-known-pdrs
     enum-told-2
     same-length-2
-    returns-3
+    returns-4
     add-t15
     same-length-3
-    returns-4)
+    returns-5)

@@ -16,8 +16,8 @@ returns c =
     let o : T (octets (c .before .before .before .before .args .slot .now)) = octets-known (c .before .before .before .before .args .slot .now) (λ i. c .before .before .before .shared-slice-known .given i .fits) in
     search pdr-source
 
-optional-sound-requires : tie.Need-optional-sound-requires
-optional-sound-requires c κs = search needs
+field-sound-requires : tie.Need-field-sound-requires
+field-sound-requires c κs = search needs
 
 returns-2 : tie.Need-returns-2
 returns-2 c =
@@ -47,7 +47,7 @@ pdr-sound-spec =
     (tie.spec
     shared-slice-read-if1
     returns
-    optional-sound-requires
+    field-sound-requires
     returns-2
     sub-place-sound
     part-place-sound-start

@@ -1,30 +1,36 @@
 -- `sessions::csids_sound` meets its contract: what is left of the area gives the same answer.
 -- Assumes nothing.
-use mathlib.Core.Path.{_≡_, sym, _∙_}
-use Prim.Native.Nat.{_≤_, _-_, _*_}
+use mathlib.Core.Path.{sym, _∙_}
+use Prim.Native.Nat.{_-_}
 use native.Mathlib.Omega.{arith}
+use lib.Dec.{lit≤}
 use borrow.Author.Needs.{needs}
-use lib.ListN.{drop}
-use Rattle.octets.specs.Octets.{slices}
-use Rattle.octets.specs.Lists.{all}
+use borrow.Author.Tests.{not-true, not-false}
 use Rattle.records.specs.Kept.{csidSound}
-use Rattle.sessions.proofs.Turns.{record-bad, record-good, none-left, all-left, area-bad, area-good}
+use Rattle.sessions.proofs.Turns.{Rows, rows-none, rows-low, rows-bad, rows-more, rows-room, record-read}
 use Rattle.sessions.proofs.csids_sound.Statement.{statement}
 use Rattle.sessions.proofs.csids_sound.Tie as tie
 
 abbrev Inv-loop : tie.InvT-loop
-Inv-loop a n i₀ i = (i ≤ n) × (all (csidSound) (slices 20 (n - i) (drop (i * 20) a)) ≡ all (csidSound) (slices 20 n a))
+Inv-loop a n next₀ i₀ next i = Rows csidSound 20 1 a n i next
 
 abbrev μ-loop : tie.MeasureT-loop
-μ-loop a n i₀ i = n - i
+μ-loop a n next₀ i₀ next i = n - i
 
 loop-holds : tie.Need-loop-holds Inv-loop μ-loop
-loop-holds c =
-    let g = c .before .args in
-    (omega arith, all-left csidSound 20 (g .a .now) (g .n))
+loop-holds c = let g = c .before .args in rows-none csidSound 20 1 (g .a .now) (g .n)
 
 mul-at : tie.Need-mul-at Inv-loop μ-loop
 mul-at c = search needs
+
+read-requires : tie.Need-read-requires Inv-loop μ-loop
+read-requires c κs = search needs
+
+returns : tie.Need-returns Inv-loop μ-loop
+returns c =
+    let g = c .before .before .before .before .before .args in
+    let l = c .before .before .before .loop in
+    sym (rows-low csidSound 20 1 (g .a .now) (g .n) (l .inv) (c .before .before .loop-test .taken) (lit≤ tt) (c .before .read .result) (c .before .read .ensures .0) (c .if1 .taken))
 
 add-csid-sound : tie.Need-add-csid-sound Inv-loop μ-loop
 add-csid-sound c = search needs
@@ -41,12 +47,15 @@ part-csid-sound-end c = search needs
 csid-sound-requires : tie.Need-csid-sound-requires Inv-loop μ-loop
 csid-sound-requires c κs = search needs
 
-returns : tie.Need-returns Inv-loop μ-loop
-returns c =
-    let g = c .before .before .before .before .before .before .args in
-    let l = c .before .before .before .before .loop in
-    let turn = record-bad csidSound 20 (g .a .now) (g .n) (l .i) (c .before .before .before .loop-test .taken) (c .before .csid-sound .result) (c .before .csid-sound .ensures) in
-    area-bad csidSound 20 1 (g .n) (g .a .now) (sym (l .inv .1) ∙ turn (c .if1 .taken))
+returns-2 : tie.Need-returns-2 Inv-loop μ-loop
+returns-2 c =
+    let g = c .before .before .before .before .before .before .before .before .args in
+    let l = c .before .before .before .before .before .before .loop in
+    let sound = record-read csidSound 20 (l .i) (g .a .now) (c .before .csid-sound .result) (c .before .csid-sound .ensures) in
+    sym (rows-bad csidSound 20 1 (g .a .now) (g .n) (l .inv) (c .before .before .before .before .before .loop-test .taken) (sym sound ∙ not-true _ (c .if2 .taken)))
+
+add-next : tie.Need-add-next Inv-loop μ-loop
+add-next c = omega (arith, c .before .before .before .before .read .ensures .1)
 
 add-i : tie.Need-add-i Inv-loop μ-loop
 add-i c = search needs
@@ -56,19 +65,26 @@ loop-less c = search needs
 
 loop-again : tie.Need-loop-again Inv-loop μ-loop
 loop-again c =
-    let g = c .before .before .before .before .before .before .args in
-    let l = c .before .before .before .before .loop in
-    let turn = record-good csidSound 20 (g .a .now) (g .n) (l .i) (c .before .before .before .loop-test .taken) (c .before .csid-sound .result) (c .before .csid-sound .ensures) in
-    (omega arith, sym (turn (c .if1 .left)) ∙ l .inv .1)
+    let g = c .before .before .before .before .before .before .before .before .args in
+    let l = c .before .before .before .before .before .before .loop in
+    let node = c .before .before .before .before .read in
+    let sound = record-read csidSound 20 (l .i) (g .a .now) (c .before .csid-sound .result) (c .before .csid-sound .ensures) in
+    rows-more csidSound 20 1 (g .a .now) (g .n) (l .inv) (c .before .before .before .before .before .loop-test .taken) (lit≤ tt) (node .result) (node .ensures .0) (c .before .before .before .if1 .left) (sym sound ∙ not-false _ (c .if2 .left))
 
-ordered-requires : tie.Need-ordered-requires Inv-loop μ-loop
-ordered-requires c κs = search needs
+mul-used : tie.Need-mul-used Inv-loop μ-loop
+mul-used c = search needs
 
-returns-2 : tie.Need-returns-2 Inv-loop μ-loop
-returns-2 c =
+sub-is-zero : tie.Need-sub-is-zero Inv-loop μ-loop
+sub-is-zero c = search needs
+
+is-zero-requires : tie.Need-is-zero-requires Inv-loop μ-loop
+is-zero-requires c κs = search needs
+
+returns-3 : tie.Need-returns-3 Inv-loop μ-loop
+returns-3 c =
     let g = c .before .before .before .before .args in
     let l = c .before .before .loop in
-    area-good csidSound 20 1 (g .n) (g .a .now) (c .ordered .result) (sym (l .inv .1) ∙ none-left csidSound 20 (g .a .now) (g .n) (l .i) (c .before .loop-test .left)) (c .ordered .ensures)
+    rows-room csidSound 20 1 (g .a .now) (g .n) (l .inv) (c .before .loop-test .left) (c .before .before .before .before .pre) (c .is-zero .result) (c .is-zero .ensures)
 
 pub csids-sound-spec : {M : Type 1} → statement M
 csids-sound-spec =
@@ -78,14 +94,19 @@ csids-sound-spec =
     μ-loop
     loop-holds
     mul-at
+    read-requires
+    returns
     add-csid-sound
     sub-csid-sound
     part-csid-sound-start
     part-csid-sound-end
     csid-sound-requires
-    returns
+    returns-2
+    add-next
     add-i
     loop-less
     loop-again
-    ordered-requires
-    returns-2)
+    mul-used
+    sub-is-zero
+    is-zero-requires
+    returns-3)
