@@ -1,8 +1,10 @@
 -- The free offsets, one after the other. Assumes nothing.
-use mathlib.Core.Path.{_≡_, refl, _∙_, ap}
+use mathlib.Core.Path.{_≡_, refl, sym, _∙_, ap}
 use mathlib.Core.Bool.{Bool, true, false, not}
 use mathlib.Core.List.{List, [], _∷_}
 use Prim.Native.Nat.{ℕ, zero, suc, _+_, _-_, _≤_, _<_}
+use native.Mathlib.Nat.{add-zero}
+use native.Mathlib.Decide.{decLt}
 use native.Mathlib.Omega.{arith}
 use Rattle.octets.specs.Choice.{pick}
 use Rattle.octets.specs.Lists.{keep, range}
@@ -26,6 +28,18 @@ module _ (ws : List ℕ) (i size : ℕ) where
   pub free-end : size ≤ i → freeFrom ws i size ≡ []
   unfolding freeFrom keep range
   free-end h = let e : size - i ≡ 0 = omega arith in rw e
+
+-- a run of marked offsets is passed over
+pub free-run : (ws : List ℕ) (m i size : ℕ) → ((j : ℕ) → j < m → marked ws (i + j) ≡ true) → freeFrom ws i size ≡ freeFrom ws (i + m) size
+free-run ws zero i size h = rw add-zero
+free-run ws (suc m) i size h =
+    go (decLt i size) (free-run ws m (i + 1) size (λ j l. let e : i + 1 + j ≡ i + suc j = omega arith in rw e (h (suc j) (omega arith))))
+  where
+    go : Dec (i < size) → freeFrom ws (i + 1) size ≡ freeFrom ws (i + 1 + m) size → freeFrom ws i size ≡ freeFrom ws (i + suc m) size
+    go (yes l) ih =
+        let e : i + suc m ≡ i + 1 + m = omega arith in
+        rw e (free-skip ws i size l (rw add-zero at (h 0 (omega arith))) ∙ ih)
+    go (no n) ih = free-end ws i size (omega (arith, n)) ∙ sym (free-end ws (i + suc m) size (omega (arith, n)))
 
 -- what the answer of a search says of the free offsets
 pub lowest-full : (xs : List ℕ) → Full ≡ lowest xs → xs ≡ []

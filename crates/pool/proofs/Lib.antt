@@ -1,5 +1,6 @@
 pub mod Bits
 pub mod Marks
 pub mod Free
+pub mod Words
 pub mod TakenLaws
 pub mod GrantWalk

@@ -42,18 +42,29 @@ pub fn mark(words: &mut [u64], i: usize) -> bool
     (w >> b) % 2 == 1
 }
 
-// The lowest free offset that is at least `at` and below size.
+// The lowest free offset that is at least `at` and below size. A word's complement, shifted by b, has a bit for each free offset of the
+// word from bit b on: its trailing zeros lead to the first, and a word that has none is passed over.
 pub fn next_free(words: &[u64], at: usize, size: usize) -> Lowest
     requires { ⌜ size ≤ 64 * length (now words) ⌝ }
     ensures { λ r. ⌜ r ≡ lowest (freeFrom (now (words .entry)) at size) ⌝ }
 {
-    let mut i = at;
-    while i < size {
-        if is_marked(words, i) {
-            i += 1;
-            continue;
+    if size <= at {
+        return Lowest::Full;
+    }
+    let last = (size - 1) / 64;
+    let mut k = at / 64;
+    let mut b = at % 64;
+    while k <= last {
+        let open = !words[k] >> b;
+        if open != 0 {
+            let i = 64 * k + b + u64::trailing_zeros(open) as usize;
+            if i < size {
+                return Lowest::At(i);
+            }
+            return Lowest::Full;
         }
-        return Lowest::At(i);
+        k += 1;
+        b = 0;
     }
     Lowest::Full
 }
