@@ -20,6 +20,6 @@ run:
 demo:
 	@scripts/run --demo
 
-# instructions and time for accepted requests, against bench/ordinary; the last line is the ratio
+# stack, instructions and time against bench/ordinary; the last line is the ratio
 bench:
 	@scripts/bench

@@ -8,14 +8,12 @@
 #include <stdlib.h>
 #include <string.h>
 
-#include "pfcp_session.h"
 #include "workload.h"
 
 enum { STACK = 1 << 20, MARK = 0xA5 };
 
-static const struct side archive = {"archive", pfcp_make_table, pfcp_free_count, pfcp_request};
-static struct message cycle[CYCLE];
-static struct place ours;
+static struct message cycle[MOST_CYCLE];
+static struct pair pair;
 static _Alignas(4096) uint8_t stack[STACK];
 
 /* No request: what the thread itself takes. */
@@ -24,17 +22,10 @@ static void *idle(void *unused)
     return unused;
 }
 
-static void *requests(void *unused)
+static void *cycle_requests(void *unused)
 {
-    for (size_t i = 0; i < CYCLE; i++) {
-        uint32_t outcome = pfcp_request(ours.table, sizeof ours.table, cycle[i].octets,
-                                        cycle[i].length, ours.reply, sizeof ours.reply, &ours.used);
-
-        if (!accepted(&ours, outcome)) {
-            fprintf(stderr, "stack: request %zu is refused\n", i);
-            exit(EXIT_FAILURE);
-        }
-    }
+    for (size_t i = 0; i < MOST_CYCLE; i++)
+        must_accept(&pair.ours, &cycle[i]);
     return unused;
 }
 
@@ -60,11 +51,10 @@ static size_t depth_of(void *(*work)(void *))
 
 int main(void)
 {
-    write_cycle(cycle);
-    fill(&ours, &archive);
+    write_cycle(cycle, &workloads[ALIKE], MOST_SESSIONS);
+    fill(&pair, &workloads[ALIKE], MOST_SESSIONS);
     size_t without = depth_of(idle);
-    size_t with = depth_of(requests);
-
+    size_t with = depth_of(cycle_requests);
     printf("stack of a request: %zu octets\n", with - without);
     return EXIT_SUCCESS;
 }

@@ -1,16 +1,44 @@
 #include "workload.h"
 
-#include <stdio.h>
-#include <stdlib.h>
 #include <string.h>
-#include <time.h>
+
+const struct workload workloads[WORKLOADS] = {
+    [ALIKE] = {"alike", MOST_PDRS, MOST_ENDPOINTS, MOST_FQ_CSIDS, 0, 0},
+    [MIXED] = {"mixed", MOST_PDRS, MOST_ENDPOINTS, MOST_FQ_CSIDS, 1, 0},
+    [PART_FILLED] = {"part-filled", 4, 2, 1, 0, 0},
+};
+
+const size_t live_counts[LIVE_COUNTS] = {1, 16, MOST_SESSIONS};
+
+const char *const kind_names[KINDS] = {"deletion", "establishment", "updates", "exchange"};
 
 static const struct tunnel choose = {.flags = CHOOSE | V4 | V6};
 static const struct tunnel choose_7 = {.flags = CHOOSE | CHOOSE_ID | V4 | V6, .choose_id = 7};
 
-static uint64_t seid_of(size_t session)
+uint64_t seid_of(size_t session)
 {
     return 1000003 * (uint64_t)(session + 1);
+}
+
+/* A number that looks drawn, always the same for the same record. */
+static uint32_t draw(const struct workload *w, size_t session, uint32_t record)
+{
+    uint64_t x = ((uint64_t)w->seed << 40) + ((uint64_t)session << 16) + record;
+
+    x *= 0x9E3779B97F4A7C15;
+    x = (x ^ x >> 30) * 0xBF58476D1CE4E5B9;
+    x = (x ^ x >> 27) * 0x94D049BB133111EB;
+    return (uint32_t)(x >> 32);
+}
+
+/* What draw counts records by: PDRs by their ID, the others above. */
+enum { OF_ENDPOINTS = 1 << 8, OF_FQ_CSIDS = 1 << 9, OF_UPDATES = 1 << 10 };
+
+static struct tunnel drawn_tunnel(uint32_t drawn)
+{
+    static const uint8_t families[4] = {V4, V6, V4 | V6, V4 | V6};
+
+    return (struct tunnel){.flags = CHOOSE | families[drawn % 4]};
 }
 
 static void put_long_fq_csid(struct message *m, uint8_t node_type, uint8_t octet)
@@ -23,123 +51,114 @@ static void put_long_fq_csid(struct message *m, uint8_t node_type, uint8_t octet
     put_element(m, IE_FQ_CSID, value, sizeof value);
 }
 
-static void write_establishment(struct message *m, size_t session)
+static void write_fq_csid(struct message *m, const struct workload *w, uint8_t node_type,
+                          uint8_t octet, uint32_t drawn)
+{
+    uint8_t node_id_type = w->mixed ? drawn % 3 : 1;
+    uint8_t value[8] = {(uint8_t)(node_id_type << 4 | 1), 1, 2, 3, 4, 0, octet, node_type};
+
+    if (node_id_type == 1)
+        put_long_fq_csid(m, node_type, octet);
+    else
+        put_element(m, IE_FQ_CSID, value, sizeof value);
+}
+
+/* A PDR by its draw: one of four names an endpoint, two have an F-TEID, one has neither. The last
+   endpoint is not named: an exchange removes it. */
+static void write_mixed_pdr(struct message *m, const struct workload *w, uint16_t id,
+                            uint32_t drawn)
+{
+    struct tunnel tunnel = drawn_tunnel(drawn >> 4);
+
+    create_pdr_start(m, id, 100 + id, id % 4);
+    if (drawn % 4 == 0)
+        put_number(m, IE_ENDPOINT_ID, 1 + (drawn >> 8) % (w->endpoints - 1u), 1);
+    else if (drawn % 4 < 3)
+        put_f_teid(m, &tunnel);
+    create_pdr_end(m, drawn >> 16 & 1 ? id : -1);
+}
+
+void write_establishment(struct message *m, const struct workload *w, size_t session)
 {
     message_start(m, ESTABLISHMENT, 0, (uint32_t)session);
     put_f_seid(m, seid_of(session));
-    for (uint16_t id = 1; id <= 16; id++) {
-        create_pdr_start(m, id, 100 + id, id % 4);
-        put_f_teid(m, &choose);
-        create_pdr_end(m, id);
+    for (uint16_t id = 1; id <= w->pdrs; id++) {
+        if (w->mixed) {
+            write_mixed_pdr(m, w, id, draw(w, session, id));
+        } else {
+            create_pdr_start(m, id, 100 + id, id % 4);
+            put_f_teid(m, &choose);
+            create_pdr_end(m, id);
+        }
     }
-    for (uint8_t id = 1; id <= 8; id++)
-        create_endpoint(m, id, &choose);
-    for (uint8_t node_type = 0; node_type < 6; node_type++)
-        put_long_fq_csid(m, node_type, (uint8_t)session);
+    for (uint8_t id = 1; id <= w->endpoints; id++) {
+        struct tunnel drawn = drawn_tunnel(draw(w, session, OF_ENDPOINTS + id));
+
+        create_endpoint(m, id, w->mixed ? &drawn : &choose);
+    }
+    for (uint8_t node_type = 0; node_type < w->fq_csids; node_type++)
+        write_fq_csid(m, w, node_type, (uint8_t)session, draw(w, session, OF_FQ_CSIDS + node_type));
     message_end(m);
 }
 
-/* Four updates and an FQ-CSID. */
-static void write_updates(struct message *m, size_t session)
+/* Updates of the first PDRs, four at most, and an FQ-CSID. */
+static void write_updates(struct message *m, const struct workload *w, size_t session)
 {
+    uint16_t updates = w->pdrs - 2 < 4 ? w->pdrs - 2 : 4;
+
     message_start(m, MODIFICATION, seid_of(session), (uint32_t)session);
-    for (uint16_t id = 1; id <= 4; id++) {
+    for (uint16_t id = 1; id <= updates; id++) {
         group_start(m, IE_UPDATE_PDR);
         put_number(m, IE_PDR_ID, id, 2);
         put_number(m, IE_PRECEDENCE, 200 + id, 4);
-        put_number(m, IE_FAR_ID, 300 + id, 4);
+        if (w->mixed && draw(w, session, OF_UPDATES + id) % 2 == 0)
+            put_element(m, IE_FAR_ID, NULL, 0); /* takes the FAR ID away */
+        else
+            put_number(m, IE_FAR_ID, 300 + id, 4);
         group_end(m);
     }
-    put_long_fq_csid(m, 2, 0xEE);
+    write_fq_csid(m, w, w->fq_csids > 2 ? 2 : 0, 0xEE, draw(w, session, OF_UPDATES));
     message_end(m);
 }
 
-/* Two PDRs and an endpoint go, and others come in their place. */
-static void write_exchange(struct message *m, size_t session)
+/* The last two PDRs and the last endpoint go, and others come in their place. */
+static void write_exchange(struct message *m, const struct workload *w, size_t session)
 {
     message_start(m, MODIFICATION, seid_of(session), (uint32_t)session);
-    remove_pdr(m, 15);
-    remove_pdr(m, 16);
-    remove_endpoint(m, 8);
+    remove_pdr(m, w->pdrs - 1);
+    remove_pdr(m, w->pdrs);
+    remove_endpoint(m, w->endpoints);
     create_endpoint(m, 18, &choose);
     create_pdr(m, 115, &choose_7);
     create_pdr(m, 116, &choose_7);
     message_end(m);
 }
 
-void write_cycle(struct message cycle[CYCLE])
+size_t write_cycle(struct message cycle[MOST_CYCLE], const struct workload *w, size_t live)
 {
-    for (size_t i = 0; i < SESSIONS; i++) {
+    for (size_t i = 0; i < live; i++) {
         /* The sessions in an order that is not that of their SEIDs. */
-        size_t session = i * 37 % SESSIONS;
+        size_t session = i * 37 % live;
+        struct message *turn = &cycle[KINDS * i];
 
-        message_start(&cycle[4 * i], DELETION, seid_of(session), (uint32_t)i);
-        message_end(&cycle[4 * i]);
-        write_establishment(&cycle[4 * i + 1], session);
-        write_updates(&cycle[4 * i + 2], (session + SESSIONS / 2) % SESSIONS);
-        write_exchange(&cycle[4 * i + 3], session);
+        message_start(&turn[DELETES], DELETION, seid_of(session), (uint32_t)i);
+        message_end(&turn[DELETES]);
+        write_establishment(&turn[ESTABLISHES], w, session);
+        write_updates(&turn[UPDATES], w, (session + live / 2) % live);
+        write_exchange(&turn[EXCHANGES], w, session);
     }
+    return KINDS * live;
 }
 
-int accepted(const struct place *place, uint32_t outcome)
+void fill(struct pair *pair, const struct workload *w, size_t live)
 {
-    size_t cause = place->reply[1] == 51 ? 16 + 9 + 4 : 16 + 4;
-
-    return outcome == PFCP_ANSWERED && place->reply[cause] == 1;
-}
-
-void fill(struct place *place, const struct side *side)
-{
-    static const uint8_t ipv6[16] = {0x20, 1, 0x0D, 0xB8, [15] = 1};
     static struct message m;
 
-    place->side = side;
-    if (side->make_table(place->table, sizeof place->table, 0xC0000201, ipv6, sizeof ipv6, 4096,
-                         4096) != 0) {
-        fprintf(stderr, "bench: %s makes no table\n", side->name);
-        exit(EXIT_FAILURE);
+    make_both_empty(pair, POOL);
+    for (size_t session = 0; session < live; session++) {
+        write_establishment(&m, w, session);
+        ask_both(pair, &m);
+        if (cause_of(&pair->ours) != 1)
+            give_up("session %zu of the table '%s' is refused", session, w->name);
     }
-    for (size_t session = 0; session < SESSIONS; session++) {
-        write_establishment(&m, session);
-        uint32_t outcome = side->request(place->table, sizeof place->table, m.octets, m.length,
-                                         place->reply, sizeof place->reply, &place->used);
-        if (!accepted(place, outcome)) {
-            fprintf(stderr, "bench: %s refuses session %zu\n", side->name, session);
-            exit(EXIT_FAILURE);
-        }
-    }
-}
-
-double processor_time(void)
-{
-    struct timespec now;
-
-    clock_gettime(CLOCK_PROCESS_CPUTIME_ID, &now);
-    return (double)now.tv_sec + (double)now.tv_nsec * 1e-9;
-}
-
-static int ascending(const void *a, const void *b)
-{
-    double x = *(const double *)a;
-    double y = *(const double *)b;
-
-    return (x > y) - (x < y);
-}
-
-double median(double *values, size_t count)
-{
-    qsort(values, count, sizeof *values, ascending);
-    return count % 2 == 1 ? values[count / 2] : (values[count / 2 - 1] + values[count / 2]) / 2;
-}
-
-size_t read_count(const char *program, const char *text, size_t most)
-{
-    char *end;
-    unsigned long value = strtoul(text, &end, 10);
-
-    if (text[0] < '0' || text[0] > '9' || *end != '\0' || value < 1 || value > most) {
-        fprintf(stderr, "%s: %s is not a number from 1 to %zu\n", program, text, most);
-        exit(2);
-    }
-    return value;
 }

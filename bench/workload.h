@@ -1,4 +1,4 @@
-/* A full table and requests that keep it full, for the measurements. */
+/* Tables and requests that keep them as full as they are, for the measurements. */
 #ifndef WORKLOAD_H
 #define WORKLOAD_H
 
@@ -6,44 +6,43 @@
 #include <stdint.h>
 
 #include "message.h"
-#include "pfcp_session.h"
+#include "sides.h"
 
-enum { SESSIONS = 64, CYCLE = 4 * SESSIONS };
+enum { MOST_SESSIONS = 64, MOST_PDRS = 16, MOST_ENDPOINTS = 8, MOST_FQ_CSIDS = 6 };
 
-/* The calls of one implementation. */
-struct side {
+/* What the sessions of a table hold. With mixed records a PDR has a FAR ID or none, and an F-TEID,
+   an endpoint or neither; an F-TEID has one family or two; an FQ-CSID has Node-ID type 0, 1 or 2;
+   all drawn from the seed. Otherwise every record has everything: FAR ID, both families, type 1. */
+struct workload {
     const char *name;
-    uint32_t (*make_table)(uint8_t *, size_t, uint32_t, const uint8_t *, size_t, uint32_t,
-                           uint32_t);
-    uint32_t (*free_count)(const uint8_t *, size_t, uint32_t *);
-    uint32_t (*request)(uint8_t *, size_t, const uint8_t *, size_t, uint8_t *, size_t, size_t *);
+    uint16_t pdrs;
+    uint8_t endpoints;
+    uint8_t fq_csids;
+    int mixed;
+    uint32_t seed;
 };
 
-/* One implementation with its table and the last reply. */
-struct place {
-    const struct side *side;
-    uint8_t table[PFCP_TABLE_LENGTH];
-    uint8_t reply[PFCP_REPLY_SPACE];
-    size_t used;
-};
+enum { ALIKE, MIXED, PART_FILLED, WORKLOADS };
+extern const struct workload workloads[WORKLOADS];
 
-/* Requests in turn: a deletion, the establishment of the same session, a modification of another
-   session and one of this; then the next session. After a whole cycle they can start anew. */
-void write_cycle(struct message cycle[CYCLE]);
+/* How many sessions live in the tables that are measured, ascending to MOST_SESSIONS. */
+enum { LIVE_COUNTS = 3 };
+extern const size_t live_counts[LIVE_COUNTS];
 
-/* Makes a table with 64 sessions of 16 PDRs, 8 endpoints and 6 FQ-CSIDs; ends the program if a
-   request is not accepted. */
-void fill(struct place *place, const struct side *side);
+/* The requests of a cycle come in turn: the deletion of a session, its establishment, updates of
+   another session, an exchange of records in this one; then the next session. After a whole cycle
+   they can start anew. */
+enum kind { DELETES, ESTABLISHES, UPDATES, EXCHANGES, KINDS };
+enum { MOST_CYCLE = KINDS * MOST_SESSIONS };
+extern const char *const kind_names[KINDS];
 
-/* Whether a request was answered and accepted. */
-int accepted(const struct place *place, uint32_t outcome);
+uint64_t seid_of(size_t session);
+void write_establishment(struct message *m, const struct workload *w, size_t session);
 
-/* The time that this process has had of a processor, in seconds. */
-double processor_time(void);
+/* The cycle of a table with so many sessions; gives its number of requests. */
+size_t write_cycle(struct message cycle[MOST_CYCLE], const struct workload *w, size_t live);
 
-double median(double *values, size_t count);
-
-/* An argument of a program, a number from 1 to the most; ends the program if it is none. */
-size_t read_count(const char *program, const char *text, size_t most);
+/* Makes both tables with so many sessions, and compares them after every request. */
+void fill(struct pair *pair, const struct workload *w, size_t live);
 
 #endif

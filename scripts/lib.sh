@@ -65,6 +65,7 @@ find_archive() {
 strict=(-std=c11 -D_POSIX_C_SOURCE=200809L -Wall -Wextra -Werror -pedantic -Iinclude -Ihost)
 sanitizers=(-g -O1 -fsanitize=address,undefined -fno-sanitize-recover=all -fno-omit-frame-pointer)
 unit_sources=(host/main.c host/options.c host/unit.c host/demo.c host/sessions.c host/words.c host/message.c)
+bench_sources=(-O2 -Ibench bench/workload.c bench/sides.c bench/measure.c host/message.c)
 checked_by_valgrind=(valgrind -q --error-exitcode=9 --leak-check=full --errors-for-leak-kinds=all)
 
 # compile OUTPUT WORDS..: compiles C files to target/c/OUTPUT
@@ -75,6 +76,25 @@ compile() {
     mkdir -p target/c
     gcc "${strict[@]}" "$@" -o "target/c/$output"
 }
+
+# compile_bench OUTPUT WORDS..: compiles a program of bench/ with both archives
+compile_bench() {
+    local output=$1
+    shift
+    compile "$output" "$@" "${bench_sources[@]}" "$archive_file" "$archive_ordinary" -pthread
+}
+
+# compile_times OUTPUT PADDING: the measurements of time, with so many octets before the archives
+compile_times() {
+    compile sum_by_octet.o -c -O2 -DSUM=sum_by_octet bench/sum.c || return 1
+    compile sum_by_vector.o -c -O3 -DSUM=sum_by_vector bench/sum.c || return 1
+    compile floor.o -c -O3 bench/floor.c || return 1
+    compile_bench "$1" bench/bench.c bench/tables.c bench/kinds.c bench/eight.c bench/passes.c \
+        target/c/sum_by_octet.o target/c/sum_by_vector.o target/c/floor.o -DPADDING="\"$2\"" bench/padding.c
+}
+
+# compile_summary: the program that sums up what those print
+compile_summary() { compile summary -O2 -Ibench bench/summary.c bench/samples.c bench/measure.c; }
 
 # The counts of a test script.
 passed=0

@@ -1,0 +1,101 @@
+#include "sides.h"
+
+#include <stdarg.h>
+#include <stdio.h>
+#include <stdlib.h>
+#include <string.h>
+
+#include "ordinary.h"
+
+const struct side archive = {"archive", pfcp_make_table, pfcp_free_count, pfcp_request};
+const struct side ordinary = {"ordinary", ordinary_make_table, ordinary_free_count,
+                              ordinary_request};
+
+const uint8_t unit_ipv4[4] = {192, 0, 2, 1};
+static const uint8_t unit_ipv6[16] = {0x20, 1, 0x0D, 0xB8, [15] = 1};
+
+static uint64_t compared;
+
+void give_up(const char *format, ...)
+{
+    va_list words;
+
+    va_start(words, format);
+    fputs("bench: ", stderr);
+    vfprintf(stderr, format, words);
+    fputc('\n', stderr);
+    va_end(words);
+    exit(EXIT_FAILURE);
+}
+
+static void make_empty(struct place *place, const struct side *side, uint32_t pool)
+{
+    place->side = side;
+    if (side->make_table(place->table, sizeof place->table, (uint32_t)number_at(unit_ipv4, 4),
+                         unit_ipv6, sizeof unit_ipv6, FIRST_TEID, pool) != 0)
+        give_up("%s makes no table", side->name);
+}
+
+void make_both_empty(struct pair *pair, uint32_t pool)
+{
+    make_empty(&pair->ours, &archive, pool);
+    make_empty(&pair->theirs, &ordinary, pool);
+    compare_tables(pair);
+}
+
+void ask(struct place *place, const struct message *m)
+{
+    place->outcome = place->side->request(place->table, sizeof place->table, m->octets, m->length,
+                                          place->reply, sizeof place->reply, &place->used);
+}
+
+uint8_t cause_of(const struct place *place)
+{
+    /* In an establishment's reply the Node ID (9 octets) stands before the Cause. */
+    size_t cause = place->reply[1] == ESTABLISHMENT + 1 ? 16 + 9 + 4 : 16 + 4;
+
+    return place->outcome == PFCP_ANSWERED ? place->reply[cause] : 0;
+}
+
+void must_accept(struct place *place, const struct message *m)
+{
+    ask(place, m);
+    if (cause_of(place) != 1)
+        give_up("%s refuses a request of type %d: outcome %u, cause %d", place->side->name,
+                m->octets[1], place->outcome, cause_of(place));
+}
+
+void ask_both(struct pair *pair, const struct message *m)
+{
+    ask(&pair->ours, m);
+    ask(&pair->theirs, m);
+    if (pair->ours.outcome != pair->theirs.outcome || pair->ours.used != pair->theirs.used ||
+        memcmp(pair->ours.reply, pair->theirs.reply, pair->ours.used) != 0)
+        give_up("the sides answer a request of type %d differently", m->octets[1]);
+    compared += pair->ours.used;
+    compare_tables(pair);
+}
+
+void compare_tables(const struct pair *pair)
+{
+    if (memcmp(pair->ours.table, pair->theirs.table, sizeof pair->ours.table) != 0)
+        give_up("the tables of the sides differ");
+    compared += sizeof pair->ours.table;
+}
+
+uint32_t count_both(const struct pair *pair)
+{
+    uint32_t ours = 0;
+    uint32_t theirs = 0;
+
+    if (archive.free_count(pair->ours.table, sizeof pair->ours.table, &ours) != 0 ||
+        ordinary.free_count(pair->theirs.table, sizeof pair->theirs.table, &theirs) != 0 ||
+        ours != theirs)
+        give_up("the sides count the free TEIDs differently: %u and %u", ours, theirs);
+    return ours;
+}
+
+uint64_t octets_compared(void)
+{
+    return compared;
+}

@@ -1,0 +1,70 @@
+/* The two implementations that are compared, and a table of each. */
+#ifndef SIDES_H
+#define SIDES_H
+
+#include <stddef.h>
+#include <stdint.h>
+
+#include "message.h"
+#include "pfcp_session.h"
+
+/* The settings of every table here, but for a pool of another size where a measurement says so. */
+enum { FIRST_TEID = 4096, POOL = 4096 };
+
+/* The calls of one implementation. */
+struct side {
+    const char *name;
+    uint32_t (*make_table)(uint8_t *, size_t, uint32_t, const uint8_t *, size_t, uint32_t,
+                           uint32_t);
+    uint32_t (*free_count)(const uint8_t *, size_t, uint32_t *);
+    uint32_t (*request)(uint8_t *, size_t, const uint8_t *, size_t, uint8_t *, size_t, size_t *);
+};
+
+extern const struct side archive;
+extern const struct side ordinary;
+
+/* One implementation with its table and its last answer. */
+struct place {
+    const struct side *side;
+    uint32_t outcome;
+    size_t used;
+    _Alignas(64) uint8_t table[PFCP_TABLE_LENGTH];
+    _Alignas(64) uint8_t reply[PFCP_REPLY_SPACE];
+};
+
+/* Both implementations, with tables of the same octets. */
+struct pair {
+    struct place ours;   /* the archive */
+    struct place theirs; /* bench/ordinary */
+};
+
+extern const uint8_t unit_ipv4[4];
+
+/* Ends the program with this line as its last word. */
+__attribute__((noreturn, format(printf, 1, 2))) void give_up(const char *format, ...);
+
+/* Makes empty tables with a pool of this size. */
+void make_both_empty(struct pair *pair, uint32_t pool);
+
+/* One request; the answer is in the place. */
+void ask(struct place *place, const struct message *m);
+
+/* The cause of the last reply, or 0 if there was none. */
+uint8_t cause_of(const struct place *place);
+
+/* One request, which must be accepted. */
+void must_accept(struct place *place, const struct message *m);
+
+/* One request on both sides. Outcomes, replies and tables must be the same. */
+void ask_both(struct pair *pair, const struct message *m);
+
+/* Compares the two tables, and counts their octets as compared. */
+void compare_tables(const struct pair *pair);
+
+/* The free count, the same on both sides. */
+uint32_t count_both(const struct pair *pair);
+
+/* How many octets of replies and tables were compared so far. */
+uint64_t octets_compared(void);
+
+#endif
