@@ -10,12 +10,13 @@
 #include <stdio.h>
 #include <stdlib.h>
 
-#include "workload.h"
+#include "search.h"
 
 /* So many sessions of the cycle, which are spread over the table. */
 enum { COUNTED = 16 };
 
 static struct message cycle[MOST_CYCLE];
+static struct message m;
 static struct pair pair;
 static struct place place;
 
@@ -81,9 +82,29 @@ static void count_workload(const struct workload *w)
     }
 }
 
+/* The same request on a table whose first TEIDs are taken, and on one whose first is free. */
+static void count_search(uint32_t taken)
+{
+    static const char *const names[2] = {"taken-below", "first-free"};
+    char name[64];
+
+    for (int from = FROM_FIRST; from <= FROM_SECOND; from++) {
+        fill_for_search(&pair, &m, taken, (enum first_taken)from);
+        for (int side = 0; side < 2; side++) {
+            place = side == 0 ? pair.ours : pair.theirs;
+            counted_request(&m);
+            snprintf(name, sizeof name, "%u/%s", taken, names[from]);
+            end_part("search", name, 1);
+        }
+    }
+}
+
 int main(void)
 {
     for (size_t k = 0; k < WORKLOADS; k++)
         count_workload(&workloads[k]);
+    count_search(0);
+    count_search(SEARCHED_POOL / 2);
+    count_search(SEARCHED_POOL - 1);
     return EXIT_SUCCESS;
 }

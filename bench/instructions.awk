@@ -57,6 +57,16 @@ function row(w, n,    s, k, a, r) {
     printf "  %5.2f  %5.2f\n", a[1] / a[2], r[1] / r[2]
 }
 
+function search_row(taken,    k, s) {
+    printf "%-28s", taken " taken"
+    for (k = 1; k <= 2; k++) {
+        s = k == 1 ? "archive" : "ordinary"
+        printf " %8.0f %8.0f %8.0f", mean(all, "search", taken "/taken-below", s), mean(all, "search", taken "/first-free", s),
+            mean(all, "search", taken "/taken-below", s) - mean(all, "search", taken "/first-free", s)
+    }
+    printf "\n"
+}
+
 END {
     if (file - 1 != parts || parts == 0) {
         printf "callgrind wrote %d parts and not %d\n", file - 1, parts > "/dev/stderr"
@@ -80,4 +90,10 @@ END {
     for (i = 1; i <= parts; i++)
         if (side[i] == "archive" && what[i] == "check")
             row("check", name[i])
+    print "== instructions to find the lowest free TEID: a CHOOSE where it stands after, and before, the taken ones; the difference"
+    printf "%-28s %-26s %-26s\n%-28s", "", "archive", "ordinary", ""
+    printf " %8s %8s %8s %8s %8s %8s\n", "after", "before", "search", "after", "before", "search"
+    for (i = 1; i <= parts; i++)
+        if (side[i] == "archive" && what[i] == "search" && name[i] ~ /taken-below/)
+            search_row(substr(name[i], 1, index(name[i], "/") - 1))
 }

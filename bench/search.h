@@ -1,0 +1,19 @@
+/* Tables in which the lowest free TEID stands after so many taken ones, and a request for it. */
+#ifndef SEARCH_H
+#define SEARCH_H
+
+#include "workload.h"
+
+/* A pool of 4,096, or of as many TEIDs as the sessions can hold, so that all can be taken. */
+enum {
+    MOST_HELD = MOST_SESSIONS * (MOST_PDRS + MOST_ENDPOINTS),
+    SEARCHED_POOL = MOST_HELD < 4096 ? MOST_HELD : 4096
+};
+
+/* Fills both tables by restorations with records that hold so many TEIDs one after another, from
+   the pool's first or second one on, and writes a request for one more. So two tables with the same
+   number of TEIDs differ only in where the lowest free one stands: after all of them, or first. */
+enum first_taken { FROM_FIRST, FROM_SECOND };
+void fill_for_search(struct pair *pair, struct message *m, uint32_t taken, enum first_taken from);
+
+#endif
