@@ -26,6 +26,7 @@ int main(int argc, char **argv)
     time_kinds();
     time_eight();
     time_passes();
+    time_longest();
     printf("compared %" PRIu64 "\n", octets_compared());
     return EXIT_SUCCESS;
 }

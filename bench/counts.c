@@ -10,6 +10,7 @@
 #include <stdio.h>
 #include <stdlib.h>
 
+#include "longest.h"
 #include "search.h"
 
 /* So many sessions of the cycle, which are spread over the table. */
@@ -99,6 +100,24 @@ static void count_search(uint32_t taken)
     }
 }
 
+static void count_longest(void)
+{
+    fill_for_longest(&pair);
+    for (int side = 0; side < 2; side++) {
+        place = side == 0 ? pair.ours : pair.theirs;
+        counted_check();
+        end_part("longest", "one-check", 1);
+    }
+    for (size_t i = 0; i < LONGEST_MESSAGES; i++) {
+        write_longest(&m, &longest_messages[i], &pair);
+        for (int side = 0; side < 2; side++) {
+            place = side == 0 ? pair.ours : pair.theirs;
+            counted_request(&m);
+            end_part("longest", longest_messages[i].name, 1);
+        }
+    }
+}
+
 int main(void)
 {
     for (size_t k = 0; k < WORKLOADS; k++)
@@ -106,5 +125,6 @@ int main(void)
     count_search(0);
     count_search(SEARCHED_POOL / 2);
     count_search(SEARCHED_POOL - 1);
+    count_longest();
     return EXIT_SUCCESS;
 }

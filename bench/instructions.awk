@@ -67,6 +67,16 @@ function search_row(taken,    k, s) {
     printf "\n"
 }
 
+function longest_row(n,    k, s, a) {
+    printf "%-28s", n
+    for (k = 1; k <= 2; k++) {
+        s = k == 1 ? "archive" : "ordinary"
+        a = mean(all, "longest", n, s)
+        printf " %8.0f %8.2f", a, a / mean(all, "longest", "one-check", s)
+    }
+    printf "\n"
+}
+
 END {
     if (file - 1 != parts || parts == 0) {
         printf "callgrind wrote %d parts and not %d\n", file - 1, parts > "/dev/stderr"
@@ -96,4 +106,9 @@ END {
     for (i = 1; i <= parts; i++)
         if (side[i] == "archive" && what[i] == "search" && name[i] ~ /taken-below/)
             search_row(substr(name[i], 1, index(name[i], "/") - 1))
+    print "== instructions for requests of the greatest length, and as a multiple of one check of their table"
+    printf "%-28s %17s %17s\n", "", "archive", "ordinary"
+    for (i = 1; i <= parts; i++)
+        if (side[i] == "archive" && what[i] == "longest")
+            longest_row(name[i])
 }

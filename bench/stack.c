@@ -1,6 +1,7 @@
 /*
- * The stack that a request takes: a thread runs one cycle of accepted requests on a stack filled
- * with one octet; the octets that changed are counted from its far end.
+ * The stack that a request takes: a thread runs one cycle of accepted requests, and another one
+ * those of the greatest length, on a stack filled with one octet; the octets that changed are
+ * counted from its far end.
  */
 #include <pthread.h>
 #include <stdint.h>
@@ -8,11 +9,12 @@
 #include <stdlib.h>
 #include <string.h>
 
-#include "workload.h"
+#include "longest.h"
 
 enum { STACK = 1 << 20, MARK = 0xA5 };
 
 static struct message cycle[MOST_CYCLE];
+static struct message longest[LONGEST_MESSAGES];
 static struct pair pair;
 static _Alignas(4096) uint8_t stack[STACK];
 
@@ -26,6 +28,17 @@ static void *cycle_requests(void *unused)
 {
     for (size_t i = 0; i < MOST_CYCLE; i++)
         must_accept(&pair.ours, &cycle[i]);
+    return unused;
+}
+
+static void *longest_requests(void *unused)
+{
+    static struct place place;
+
+    for (size_t i = 0; i < LONGEST_MESSAGES; i++) {
+        place = pair.ours;
+        ask(&place, &longest[i]);
+    }
     return unused;
 }
 
@@ -56,5 +69,11 @@ int main(void)
     size_t without = depth_of(idle);
     size_t with = depth_of(cycle_requests);
     printf("stack of a request: %zu octets\n", with - without);
+
+    fill_for_longest(&pair);
+    for (size_t i = 0; i < LONGEST_MESSAGES; i++)
+        write_longest(&longest[i], &longest_messages[i], &pair);
+    with = depth_of(longest_requests);
+    printf("stack of the requests of the greatest length: %zu octets\n", with - without);
     return EXIT_SUCCESS;
 }

@@ -23,6 +23,8 @@ static const struct heading headings[] = {
     {"eight", "the check alone, over eight different tables in turn", "archive", "ordinary"},
     {"kind", "a request by its kind, each timed by itself", "archive", "ordinary"},
     {"pass", "one check of a full table, and one pass in C over its octets", "check", "pass"},
+    {"longest", "requests of the greatest length, and one check of their table", "request",
+     "check"},
 };
 
 static void print_spread(struct spread s, int width)

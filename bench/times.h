@@ -24,6 +24,9 @@ void time_eight(void);
 /* pass: the archive's free count against one pass in C over the same octets. */
 void time_passes(void);
 
+/* longest: the archive's requests of the greatest length against its free count of their table. */
+void time_longest(void);
+
 void print_times(const char *what, const char *name, size_t live, double measured, double other);
 
 #endif

@@ -89,7 +89,7 @@ compile_times() {
     compile sum_by_octet.o -c -O2 -DSUM=sum_by_octet bench/sum.c || return 1
     compile sum_by_vector.o -c -O3 -DSUM=sum_by_vector bench/sum.c || return 1
     compile floor.o -c -O3 bench/floor.c || return 1
-    compile_bench "$1" bench/bench.c bench/tables.c bench/kinds.c bench/eight.c bench/passes.c \
+    compile_bench "$1" bench/bench.c bench/tables.c bench/kinds.c bench/eight.c bench/passes.c bench/longest.c bench/longest_time.c \
         target/c/sum_by_octet.o target/c/sum_by_vector.o target/c/floor.o -DPADDING="\"$2\"" bench/padding.c
 }
 
