@@ -21,5 +21,6 @@ demo:
 	@scripts/run --demo
 
 # stack, instructions and time against bench/ordinary; the last line is the ratio
+# make bench ARGS='--picture docs/benchmarks.svg' also writes the picture
 bench:
-	@scripts/bench
+	@scripts/bench $(ARGS)

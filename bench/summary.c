@@ -1,12 +1,14 @@
 /*
- * Sums up what several processes of bench printed: summary <LINES. Medians, lowest and
- * highest of each row. The last line is 'ratio X.XX': of a request's
+ * Sums up what several processes of bench printed: summary [PICTURE] <LINES. Medians, lowest and
+ * highest of each row; with PICTURE also that file. The last line is 'ratio X.XX': of a request's
  * median ratios on the tables with all sessions live, the worst.
  */
+#include <errno.h>
 #include <inttypes.h>
 #include <stdlib.h>
 #include <string.h>
 
+#include "picture.h"
 #include "samples.h"
 
 /* What a table of figures says above its rows, and its columns. */
@@ -77,10 +79,27 @@ static double worst_ratio(const struct samples *samples)
     return worst;
 }
 
-int main(void)
+static int save_picture(const struct samples *samples, const char *path)
+{
+    FILE *out = fopen(path, "w");
+
+    if (out)
+        write_picture(samples, out);
+    if (!out || fclose(out) != 0) {
+        fprintf(stderr, "summary: %s cannot be written: %s\n", path, strerror(errno));
+        return 0;
+    }
+    return 1;
+}
+
+int main(int argc, char **argv)
 {
     static struct samples samples;
 
+    if (argc > 2) {
+        fputs("usage: summary [PICTURE] <LINES\n", stderr);
+        return 2;
+    }
     read_samples(&samples, stdin);
     double worst = worst_ratio(&samples);
     if (worst <= 0) {
@@ -89,6 +108,8 @@ int main(void)
     }
     for (size_t k = 0; k < sizeof headings / sizeof headings[0]; k++)
         print_rows(&samples, &headings[k]);
+    if (argc == 2 && !save_picture(&samples, argv[1]))
+        return EXIT_FAILURE;
     printf("octets of replies and tables compared: %" PRIu64 "\n", samples.compared);
     printf("ratio %.2f\n", worst);
     return EXIT_SUCCESS;

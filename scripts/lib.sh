@@ -94,7 +94,7 @@ compile_times() {
 }
 
 # compile_summary: the program that sums up what those print
-compile_summary() { compile summary -O2 -Ibench bench/summary.c bench/samples.c bench/measure.c; }
+compile_summary() { compile summary -O2 -Ibench bench/summary.c bench/samples.c bench/picture.c bench/measure.c -lm; }
 
 # The counts of a test script.
 passed=0
