@@ -12,6 +12,7 @@
 #include <sys/time.h>
 #include <unistd.h>
 
+#include "listing.h"
 #include "message.h"
 #include "unit.h"
 #include "words.h"
@@ -22,10 +23,32 @@ struct exchange {
     int step;
 };
 
+static void print_sessions(const struct unit *unit)
+{
+    static struct listing listing;
+    struct text text = {.length = 0};
+
+    listing_all(&listing, unit, 0, 0);
+    while (listing_next(&listing, &text)) {
+        fwrite(text.octets, 1, text.length, stdout);
+        text.length = 0;
+    }
+}
+
+/* The unit's own line, without the time and the peer's port, which are others every time. */
+static void print_line(const struct served *served)
+{
+    struct text text = {.length = 0};
+
+    served_facts(&text, served);
+    printf("  line: %.*s", (int)text.length, text.octets);
+}
+
 /* Sends a message, has the unit serve it, and prints both sides. */
 static bool send_octets(struct exchange *x, const char *title, const uint8_t *octets, size_t length)
 {
     uint8_t reply[PFCP_REPLY_SPACE];
+    struct served served;
 
     printf("\n%d. %s\n  request, %zu octets\n", ++x->step, title, length);
     print_octets(stdout, "    ", octets, length);
@@ -35,19 +58,23 @@ static bool send_octets(struct exchange *x, const char *title, const uint8_t *oc
         fprintf(stderr, "pfcp_unit: the request could not be sent: %s\n", strerror(errno));
         return false;
     }
-    enum served served = unit_serve(x->unit);
-    if (served == SERVED_NO_REPLY)
-        return true;
-    ssize_t used = served == SERVED_REPLY ? recv(x->peer, reply, sizeof reply, 0) : -1;
-    if (used < 0) {
+    enum turn turn = unit_serve(x->unit, &served);
+    if (turn == TURN_REPLY) {
+        ssize_t used = recv(x->peer, reply, sizeof reply, 0);
+
+        if (used < 0)
+            turn = TURN_NOTHING;
+        printf("  reply, %zd octets\n", used);
+        print_octets(stdout, "    ", reply, used < 0 ? 0 : (size_t)used);
+        print_message(stdout, reply, used < 0 ? 0 : (size_t)used);
+    }
+    if (turn != TURN_REPLY && turn != TURN_NO_REPLY) {
         fputs("pfcp_unit: the unit did not answer\n", stderr);
         return false;
     }
-    printf("  reply, %zd octets\n", used);
-    print_octets(stdout, "    ", reply, (size_t)used);
-    print_message(stdout, reply, (size_t)used);
-    if (x->unit->changed)
-        unit_print(x->unit);
+    print_line(&served);
+    if (served.cause == ACCEPTED)
+        print_sessions(x->unit);
     return true;
 }
 
@@ -129,16 +156,18 @@ static bool refusals(struct exchange *x)
                        sizeof heartbeat);
 }
 
-/* Takes the address from the table: the settings stand at its front. */
 static bool delete_and_restore(struct exchange *x)
 {
     struct message m;
-    struct tunnel existing = {.flags = V4, .ipv4 = x->unit->table};
+    uint32_t ipv4 = x->unit->options->ipv4;
+    uint8_t own[4] = {(uint8_t)(ipv4 >> 24), (uint8_t)(ipv4 >> 16), (uint8_t)(ipv4 >> 8),
+                      (uint8_t)ipv4};
+    struct tunnel existing = {.flags = V4, .ipv4 = own};
 
     message_start(&m, DELETION, 1, 9);
     if (!send_message(x, "Deletion of session 1", &m))
         return false;
-    existing.teid = (uint32_t)number_at(x->unit->table + 21, 4) + 1;
+    existing.teid = x->unit->options->first_teid + 1;
     message_start(&m, ESTABLISHMENT, 0, 10);
     put_f_seid(&m, 7);
     put_number(&m, IE_FLAGS, 1, 1);
@@ -182,13 +211,13 @@ int run_demo(struct unit *unit)
         return EXIT_FAILURE;
     }
     puts("A unit and its control-plane peer, over the loopback interface.");
-    unit_print(unit);
+    print_sessions(unit);
     bool done = establish_first(&x) && establish(&x, "Session 2: the next free TEID", 2, 2) &&
                 establish(&x, "Session 3: one TEID more", 3, 3) && modify(&x) && refusals(&x) &&
                 delete_and_restore(&x);
     close(x.peer);
     if (done)
-        printf("\nend; requests answered: %lu, messages without a reply: %lu\n", unit->answered,
-               unit->refused);
+        printf("\nend; requests answered: %lu, messages without a reply: %lu\n",
+               unit_answered(unit), unit_unanswered(unit));
     return done ? EXIT_SUCCESS : EXIT_FAILURE;
 }

@@ -12,6 +12,22 @@ uint64_t number_at(const uint8_t *octets, size_t count)
     return number;
 }
 
+struct element element_of(const uint8_t *message, size_t length, unsigned type)
+{
+    size_t at = 16;
+
+    while (length >= at + 4) {
+        size_t claimed = (size_t)number_at(message + at + 2, 2);
+
+        if (claimed > length - at - 4)
+            break;
+        if (number_at(message + at, 2) == type)
+            return (struct element){.value = message + at + 4, .length = claimed};
+        at += 4 + claimed;
+    }
+    return (struct element){.value = NULL, .length = 0};
+}
+
 static void write_number(uint8_t *octets, uint64_t number, size_t count)
 {
     for (size_t i = count; i > 0; i--) {

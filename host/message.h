@@ -1,4 +1,4 @@
-/* Writes requests, for the demonstration, the tests and the measurements. */
+/* Writes requests, for the demonstration, the tests and the measurements, and finds elements. */
 #ifndef MESSAGE_H
 #define MESSAGE_H
 
@@ -9,6 +9,9 @@ enum { MESSAGE_ROOM = 4096, GROUPS_ROOM = 3 };
 
 /* Message types. */
 enum { ESTABLISHMENT = 50, MODIFICATION = 52, DELETION = 54 };
+
+/* The cause of a request that was accepted. */
+enum { ACCEPTED = 1 };
 
 /* Element types. */
 enum {
@@ -84,6 +87,15 @@ void create_pdr(struct message *m, uint16_t id, const struct tunnel *tunnel);
 void create_endpoint(struct message *m, uint8_t id, const struct tunnel *tunnel);
 void remove_pdr(struct message *m, uint16_t id);
 void remove_endpoint(struct message *m, uint8_t id);
+
+/* The first element of a type at the top of a request or reply that is sound; its value is NULL and
+   its length 0 where there is none, or where the frame breaks before it. */
+struct element {
+    const uint8_t *value;
+    size_t length;
+};
+
+struct element element_of(const uint8_t *message, size_t length, unsigned type);
 
 /* Numbers in octets, the first one on top. */
 uint64_t number_at(const uint8_t *octets, size_t count);

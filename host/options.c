@@ -1,75 +1,34 @@
 #include "options.h"
 
 #include <arpa/inet.h>
-#include <errno.h>
-#include <netinet/in.h>
 #include <stdio.h>
-#include <stdlib.h>
 #include <string.h>
+
+#include "number.h"
 
 const char usage[] =
     "usage: pfcp_unit [OPTION VALUE].. [--demo]\n"
-    "Serves PFCP session requests over UDP and prints the live sessions whenever they change.\n"
+    "Serves PFCP session requests over UDP and says a line for each.\n"
     "  --address ADDRESS   where to listen, IPv4 or IPv6 (127.0.0.1)\n"
     "  --port PORT         the UDP port, 1 to 65535 (8805)\n"
+    "  --peer ADDRESS      the control plane: nobody else is answered (anybody is)\n"
+    "  --control PATH      a Unix socket on which pfcp-list asks for the live sessions (none)\n"
     "  --ipv4 ADDRESS      the unit's own IPv4 address (192.0.2.1)\n"
     "  --ipv6 ADDRESS      the unit's own IPv6 address (none)\n"
     "  --first-teid TEID   the first TEID of the pool, from 1 on (4096)\n"
     "  --pool SIZE         the number of TEIDs, 1 to 4096 (4096)\n"
     "  --demo              run a scripted exchange over the loopback interface and end;\n"
     "                      without these options it takes any free port and a pool of 3\n"
+    "  --version           print the version\n"
     "  --help              print this\n"
-    "SIGINT and SIGTERM stop it. Exit status: 0, or 2 for a bad option or a port that cannot be "
-    "had.\n";
+    "SIGINT and SIGTERM stop it; SIGUSR1 has it print the live sessions and the counters.\n"
+    "Exit status: 0; 1 if it could not go on; 2 for a bad option, or a port or socket that cannot "
+    "be had.\n";
 
 static bool complain(const char *option, const char *value, const char *wanted)
 {
     fprintf(stderr, "pfcp_unit: %s %s: %s\n", option, value, wanted);
     return false;
-}
-
-/* A decimal number from least to most. */
-static bool read_number(const char *text, uint64_t least, uint64_t most, uint64_t *number)
-{
-    char *end;
-
-    if (text[0] < '0' || text[0] > '9')
-        return false;
-    errno = 0;
-    unsigned long long value = strtoull(text, &end, 10);
-    if (errno != 0 || *end != '\0' || value < least || value > most)
-        return false;
-    *number = value;
-    return true;
-}
-
-static bool read_listen(struct options *options, const char *text)
-{
-    struct sockaddr_in *v4 = (struct sockaddr_in *)&options->listen;
-    struct sockaddr_in6 *v6 = (struct sockaddr_in6 *)&options->listen;
-
-    memset(&options->listen, 0, sizeof options->listen);
-    options->listen_text = text;
-    if (inet_pton(AF_INET, text, &v4->sin_addr) == 1) {
-        options->listen.ss_family = AF_INET;
-        options->listen_length = sizeof *v4;
-        return true;
-    }
-    memset(&options->listen, 0, sizeof options->listen);
-    if (inet_pton(AF_INET6, text, &v6->sin6_addr) == 1) {
-        options->listen.ss_family = AF_INET6;
-        options->listen_length = sizeof *v6;
-        return true;
-    }
-    return false;
-}
-
-static void set_port(struct options *options)
-{
-    if (options->listen.ss_family == AF_INET)
-        ((struct sockaddr_in *)&options->listen)->sin_port = htons(options->port);
-    else
-        ((struct sockaddr_in6 *)&options->listen)->sin6_port = htons(options->port);
 }
 
 static bool read_option(struct options *options, const char *name, const char *value)
@@ -78,12 +37,19 @@ static bool read_option(struct options *options, const char *name, const char *v
     uint8_t ipv4[4];
 
     if (strcmp(name, "--address") == 0) {
-        if (!read_listen(options, value))
+        if (!address_read(&options->listen, value, 0))
             return complain(name, value, "not an IPv4 or IPv6 address");
+        options->listen_text = value;
     } else if (strcmp(name, "--port") == 0) {
         if (!read_number(value, 1, 65535, &number))
             return complain(name, value, "not a port from 1 to 65535");
         options->port = (uint16_t)number;
+    } else if (strcmp(name, "--peer") == 0) {
+        if (!address_read(&options->peer, value, 0))
+            return complain(name, value, "not an IPv4 or IPv6 address");
+        options->has_peer = true;
+    } else if (strcmp(name, "--control") == 0) {
+        options->control = value;
     } else if (strcmp(name, "--ipv4") == 0) {
         if (inet_pton(AF_INET, value, ipv4) != 1)
             return complain(name, value, "not an IPv4 address");
@@ -107,8 +73,8 @@ static bool read_option(struct options *options, const char *name, const char *v
 
 static bool takes_value(const char *name)
 {
-    static const char *const names[] = {"--address", "--port",       "--ipv4",
-                                        "--ipv6",    "--first-teid", "--pool"};
+    static const char *const names[] = {"--address", "--port", "--peer",       "--control",
+                                        "--ipv4",    "--ipv6", "--first-teid", "--pool"};
 
     for (size_t i = 0; i < sizeof names / sizeof names[0]; i++)
         if (strcmp(name, names[i]) == 0)
@@ -116,19 +82,53 @@ static bool takes_value(const char *name)
     return false;
 }
 
+/* Sets what was not given. The demonstration's pool is small, so that it comes to its end. */
+static void fill_in(struct options *options)
+{
+    if (options->port == 0 && !options->demo)
+        options->port = 8805;
+    if (options->pool_size == 0)
+        options->pool_size = options->demo ? 3 : 4096;
+    address_read(&options->listen, options->listen_text, options->port);
+}
+
+/* An IPv6 socket for every address hears IPv4 too. */
+static bool can_hear_peer(const struct options *options)
+{
+    bool listens_v4 = address_is_ipv4(&options->listen);
+
+    return !options->has_peer || listens_v4 == address_is_ipv4(&options->peer) ||
+           (!listens_v4 && address_is_any(&options->listen));
+}
+
+static bool is_possible(const struct options *options)
+{
+    if ((uint64_t)options->first_teid + options->pool_size > (uint64_t)UINT32_MAX + 1) {
+        fprintf(stderr, "pfcp_unit: a pool of %u from %u on ends after TEID 4294967295\n",
+                (unsigned)options->pool_size, (unsigned)options->first_teid);
+        return false;
+    }
+    if (!can_hear_peer(options)) {
+        fprintf(stderr, "pfcp_unit: the peer and %s are not both IPv4 or both IPv6\n",
+                options->listen_text);
+        return false;
+    }
+    return true;
+}
+
 bool read_options(struct options *options, int argc, char **argv)
 {
     memset(options, 0, sizeof *options);
-    read_listen(options, "127.0.0.1");
-    options->port = 0;
+    options->listen_text = "127.0.0.1";
     options->ipv4 = 0xC0000201;
     options->first_teid = 4096;
-    options->pool_size = 0;
     for (int i = 1; i < argc; i++) {
         if (strcmp(argv[i], "--demo") == 0) {
             options->demo = true;
         } else if (strcmp(argv[i], "--help") == 0) {
             options->help = true;
+        } else if (strcmp(argv[i], "--version") == 0) {
+            options->version = true;
         } else if (!takes_value(argv[i])) {
             fprintf(stderr, "pfcp_unit: unknown option %s (--help lists them)\n", argv[i]);
             return false;
@@ -141,16 +141,6 @@ bool read_options(struct options *options, int argc, char **argv)
             i++;
         }
     }
-    /* What was not given. The demonstration's pool is small, so that it comes to its end. */
-    if (options->port == 0 && !options->demo)
-        options->port = 8805;
-    if (options->pool_size == 0)
-        options->pool_size = options->demo ? 3 : 4096;
-    if ((uint64_t)options->first_teid + options->pool_size > (uint64_t)UINT32_MAX + 1) {
-        fprintf(stderr, "pfcp_unit: a pool of %u from %u on ends after TEID 4294967295\n",
-                (unsigned)options->pool_size, (unsigned)options->first_teid);
-        return false;
-    }
-    set_port(options);
-    return true;
+    fill_in(options);
+    return is_possible(options);
 }

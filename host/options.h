@@ -5,20 +5,24 @@
 #include <stdbool.h>
 #include <stddef.h>
 #include <stdint.h>
-#include <sys/socket.h>
+
+#include "address.h"
 
 struct options {
-    struct sockaddr_storage listen; /* where requests arrive */
-    socklen_t listen_length;
+    struct address listen; /* where requests arrive */
     const char *listen_text;
     uint16_t port; /* 0: any that is free */
-    uint32_t ipv4; /* the unit's own addresses and its pool */
+    bool has_peer; /* only this address is answered */
+    struct address peer;
+    const char *control; /* the control socket's path, or NULL */
+    uint32_t ipv4;       /* the unit's own addresses and its pool */
     uint8_t ipv6[16];
     size_t ipv6_length; /* 0 or 16 */
     uint32_t first_teid;
     uint32_t pool_size;
     bool demo;
     bool help;
+    bool version;
 };
 
 /* Reads the options; says on standard error what is wrong with them and gives false. */

@@ -1,10 +1,8 @@
 #include "sessions.h"
 
-#include <arpa/inet.h>
-#include <inttypes.h>
+#include <string.h>
 
 #include "message.h"
-#include "words.h"
 
 /* docs/layout.md */
 enum {
@@ -19,61 +17,61 @@ enum {
     FQ_CSID = 20
 };
 
-static const char *families_in_words(unsigned families)
+static void read_pdr(struct pdr *pdr, const uint8_t *octets)
 {
-    static const char *const words[] = {"no family", "IPv4", "IPv6", "IPv4 and IPv6"};
-
-    return words[families & 3];
+    pdr->id = (uint16_t)number_at(octets, 2);
+    pdr->precedence = (uint32_t)number_at(octets + 2, 4);
+    pdr->has_far = octets[6] == 1;
+    pdr->far_id = (uint32_t)number_at(octets + 7, 4);
+    pdr->source_interface = octets[11];
+    pdr->place = octets[12];
+    pdr->teid = (uint32_t)number_at(octets + 13, 4);
+    pdr->families = octets[17];
+    pdr->endpoint_id = octets[18];
 }
 
-static void print_pdr(FILE *out, const uint8_t *pdr)
+static void read_endpoint(struct endpoint *endpoint, const uint8_t *octets)
 {
-    fprintf(out, "    PDR %" PRIu64 ": precedence %" PRIu64, number_at(pdr, 2),
-            number_at(pdr + 2, 4));
-    if (pdr[6])
-        fprintf(out, ", FAR %" PRIu64, number_at(pdr + 7, 4));
-    else
-        fputs(", no FAR", out);
-    fprintf(out, ", source interface %u", pdr[11]);
-    if (pdr[12] == 1)
-        fprintf(out, ", TEID %" PRIu64 " (%s)", number_at(pdr + 13, 4), families_in_words(pdr[17]));
-    else if (pdr[12] == 2)
-        fprintf(out, ", endpoint %u", pdr[18]);
-    fputc('\n', out);
+    endpoint->id = octets[0];
+    endpoint->teid = (uint32_t)number_at(octets + 1, 4);
+    endpoint->families = octets[5];
 }
 
-static void print_fq_csid(FILE *out, const uint8_t *fq_csid)
+static void read_fq_csid(struct fq_csid *fq_csid, const uint8_t *octets)
 {
-    char room[INET6_ADDRSTRLEN];
-
-    fprintf(out, "    FQ-CSID of node type %u: CSID %" PRIu64 " of ", fq_csid[0],
-            number_at(fq_csid + 18, 2));
-    if (fq_csid[1] == 2)
-        fprintf(out, "operator node %08" PRIX64 "\n", number_at(fq_csid + 2, 4));
-    else
-        fprintf(out, "%s\n",
-                address_in_words(fq_csid + 2, fq_csid[1] == 1 ? 16 : 4, room, sizeof room));
+    fq_csid->node_type = octets[0];
+    fq_csid->node_id_type = octets[1];
+    memcpy(fq_csid->address, octets + 2, sizeof fq_csid->address);
+    fq_csid->csid = (uint16_t)number_at(octets + 18, 2);
 }
 
-void print_sessions(FILE *out, const uint8_t *table, uint32_t free_teids)
+size_t sessions_count(const uint8_t *table)
 {
-    size_t count = (size_t)number_at(table + COUNT, 2);
+    return (size_t)number_at(table + COUNT, 2);
+}
 
-    fprintf(out, "live sessions: %zu; free TEIDs: %" PRIu32 " of %" PRIu64 "\n", count, free_teids,
-            number_at(table + 25, 4));
-    for (size_t i = 0; i < count; i++) {
-        const uint8_t *slot = table + SLOTS + SLOT * i;
+void sessions_read(const uint8_t *table, size_t place, struct session *session)
+{
+    const uint8_t *slot = table + SLOTS + SLOT * place;
 
-        fprintf(out, "  session %" PRIu64 "\n", number_at(slot, 8));
-        for (size_t k = 0; k < slot[8]; k++)
-            print_pdr(out, slot + PDRS + PDR * k);
-        for (size_t k = 0; k < slot[9]; k++) {
-            const uint8_t *endpoint = slot + ENDPOINTS + ENDPOINT * k;
+    session->seid = number_at(slot, 8);
+    session->pdr_count = slot[8];
+    session->endpoint_count = slot[9];
+    session->fq_csid_count = slot[10];
+    for (size_t i = 0; i < session->pdr_count; i++)
+        read_pdr(&session->pdrs[i], slot + PDRS + PDR * i);
+    for (size_t i = 0; i < session->endpoint_count; i++)
+        read_endpoint(&session->endpoints[i], slot + ENDPOINTS + ENDPOINT * i);
+    for (size_t i = 0; i < session->fq_csid_count; i++)
+        read_fq_csid(&session->fq_csids[i], slot + FQ_CSIDS + FQ_CSID * i);
+}
 
-            fprintf(out, "    endpoint %u: TEID %" PRIu64 " (%s)\n", endpoint[0],
-                    number_at(endpoint + 1, 4), families_in_words(endpoint[5]));
-        }
-        for (size_t k = 0; k < slot[10]; k++)
-            print_fq_csid(out, slot + FQ_CSIDS + FQ_CSID * k);
-    }
+size_t sessions_find(const uint8_t *table, uint64_t seid)
+{
+    size_t count = sessions_count(table);
+    size_t place = 0;
+
+    while (place < count && number_at(table + SLOTS + SLOT * place, 8) != seid)
+        place++;
+    return place;
 }

@@ -1,11 +1,53 @@
-/* The live sessions, read from the table's octets (docs/layout.md). */
+/* The live sessions, read from the table. Nothing else in this directory knows where they stand. */
 #ifndef SESSIONS_H
 #define SESSIONS_H
 
+#include <stdbool.h>
+#include <stddef.h>
 #include <stdint.h>
-#include <stdio.h>
 
-/* Prints every live session of a sound table with its records, and the number of free TEIDs. */
-void print_sessions(FILE *out, const uint8_t *table, uint32_t free_teids);
+enum { MOST_PDRS = 16, MOST_ENDPOINTS = 8, MOST_FQ_CSIDS = 6 };
+
+/* Families are V4 and V6 of message.h. */
+struct pdr {
+    uint16_t id;
+    uint32_t precedence;
+    bool has_far;
+    uint32_t far_id;
+    uint8_t source_interface;
+    enum { NO_PLACE, LOCAL_F_TEID, NAMED_ENDPOINT } place;
+    uint32_t teid;
+    uint8_t families;
+    uint8_t endpoint_id;
+};
+
+struct endpoint {
+    uint8_t id;
+    uint32_t teid;
+    uint8_t families;
+};
+
+struct fq_csid {
+    uint8_t node_type;
+    uint8_t node_id_type;
+    uint8_t address[16]; /* types 0 and 2 use the first 4 octets */
+    uint16_t csid;
+};
+
+struct session {
+    uint64_t seid;
+    size_t pdr_count;
+    size_t endpoint_count;
+    size_t fq_csid_count;
+    struct pdr pdrs[MOST_PDRS];
+    struct endpoint endpoints[MOST_ENDPOINTS];
+    struct fq_csid fq_csids[MOST_FQ_CSIDS];
+};
+
+/* Of a sound table: how many sessions there are, the one at a place from 0 on, and the place of a
+   SEID, which is the number of sessions if it is not live. */
+size_t sessions_count(const uint8_t *table);
+void sessions_read(const uint8_t *table, size_t place, struct session *session);
+size_t sessions_find(const uint8_t *table, uint64_t seid);
 
 #endif

@@ -5,28 +5,30 @@
 #include <string.h>
 #include <unistd.h>
 
+#include "datagrams.h"
+#include "message.h"
 #include "sessions.h"
-#include "words.h"
+
+static bool count_free(struct unit *unit)
+{
+    return pfcp_free_count(unit->table, sizeof unit->table, &unit->free_teids) == PFCP_ANSWERED;
+}
 
 bool unit_start(struct unit *unit, const struct options *options)
 {
     memset(unit, 0, sizeof *unit);
     unit->socket = -1;
+    unit->options = options;
     if (pfcp_make_table(unit->table, sizeof unit->table, options->ipv4, options->ipv6,
-                        options->ipv6_length, options->first_teid, options->pool_size) != 0) {
+                        options->ipv6_length, options->first_teid, options->pool_size) != 0 ||
+        !count_free(unit)) {
         fputs("pfcp_unit: these settings are refused\n", stderr);
         return false;
     }
-    unit->socket = socket(options->listen.ss_family, SOCK_DGRAM, 0);
+    unit->socket = datagrams_open(&options->listen);
     if (unit->socket < 0) {
-        fprintf(stderr, "pfcp_unit: no UDP socket: %s\n", strerror(errno));
-        return false;
-    }
-    if (bind(unit->socket, (const struct sockaddr *)&options->listen, options->listen_length) !=
-        0) {
         fprintf(stderr, "pfcp_unit: cannot listen on %s port %u: %s\n", options->listen_text,
                 options->port, strerror(errno));
-        unit_stop(unit);
         return false;
     }
     return true;
@@ -39,44 +41,111 @@ void unit_stop(struct unit *unit)
     unit->socket = -1;
 }
 
-void unit_print(const struct unit *unit)
+/* What the octets tell of the message. A header without S has no SEID. */
+static void read_head(struct served *served, const uint8_t *message, size_t length)
 {
-    uint32_t free_teids;
+    size_t seid_octets = length > 0 && (message[0] & 1) ? 8 : 0;
 
-    if (pfcp_free_count(unit->table, sizeof unit->table, &free_teids) == 0)
-        print_sessions(stdout, unit->table, free_teids);
-    else
-        puts("the table is broken");
-    fflush(stdout);
+    served->length = length;
+    served->has_type = length >= 4 && message[0] >> 5 == 1;
+    if (!served->has_type)
+        return;
+    served->type = message[1];
+    served->has_sequence = length >= 4 + seid_octets + 4;
+    if (!served->has_sequence)
+        return;
+    served->sequence = (uint32_t)number_at(message + 4 + seid_octets, 3);
+    if (seid_octets > 0 && served->type != ESTABLISHMENT) {
+        served->has_seid = true;
+        served->seid = number_at(message + 4, 8);
+    } else if (seid_octets > 0) {
+        struct element f_seid = element_of(message, length, IE_F_SEID);
+
+        served->has_seid = f_seid.length >= 9;
+        served->seid = served->has_seid ? number_at(f_seid.value + 1, 8) : 0;
+    }
 }
 
-enum served unit_serve(struct unit *unit)
+static void read_reply(struct served *served, const uint8_t *reply, size_t length)
+{
+    struct element cause = element_of(reply, length, IE_CAUSE);
+    struct element offending = element_of(reply, length, IE_OFFENDING_IE);
+
+    served->cause = cause.length > 0 ? cause.value[0] : 0;
+    served->has_offending = offending.length >= 2;
+    if (served->has_offending)
+        served->offending = (uint16_t)number_at(offending.value, 2);
+}
+
+static void count(struct counters *counters, const struct served *served)
+{
+    if (served->has_type)
+        counters->messages[served->type]++;
+    else
+        counters->untyped++;
+    if (served->outcome <= PFCP_NOT_SERVED)
+        counters->outcomes[served->outcome]++;
+    if (served->cause != 0)
+        counters->causes[served->cause]++;
+    if (served->send_error != 0)
+        counters->unsent++;
+}
+
+unsigned long unit_answered(const struct unit *unit)
+{
+    return unit->counters.outcomes[PFCP_ANSWERED];
+}
+
+unsigned long unit_unanswered(const struct unit *unit)
+{
+    unsigned long sum = 0;
+
+    for (size_t i = PFCP_ANSWERED + 1; i <= PFCP_NOT_SERVED; i++)
+        sum += unit->counters.outcomes[i];
+    return sum;
+}
+
+/* Hands the message on and sends the reply. */
+static void answer(struct unit *unit, struct served *served, struct datagram *from,
+                   const uint8_t *message)
+{
+    uint8_t reply[PFCP_REPLY_SPACE];
+    size_t used;
+
+    served->outcome = pfcp_request(unit->table, sizeof unit->table, message, served->length, reply,
+                                   sizeof reply, &used);
+    if (served->outcome != PFCP_ANSWERED)
+        return;
+    served->send_error = datagrams_answer(unit->socket, from, reply, used);
+    read_reply(served, reply, used);
+    if (served->cause == ACCEPTED && !count_free(unit))
+        served->outcome = PFCP_BROKEN_TABLE;
+}
+
+enum turn unit_serve(struct unit *unit, struct served *served)
 {
     /* Longer than any datagram, so that a message that is too long is seen as such. */
     static uint8_t message[65536];
-    uint8_t reply[PFCP_REPLY_SPACE];
-    size_t used;
-    struct sockaddr_storage peer;
-    socklen_t peer_length = sizeof peer;
-    ssize_t length = recvfrom(unit->socket, message, sizeof message, MSG_DONTWAIT,
-                              (struct sockaddr *)&peer, &peer_length);
+    struct datagram from = {.dropped = unit->system_dropped};
+    ssize_t length = datagrams_receive(unit->socket, &from, message, sizeof message);
 
-    unit->changed = false;
     if (length < 0)
-        return SERVED_NOTHING;
-    memcpy(unit->before, unit->table, sizeof unit->table);
-    uint32_t outcome = pfcp_request(unit->table, sizeof unit->table, message, (size_t)length, reply,
-                                    sizeof reply, &used);
-    if (outcome != PFCP_ANSWERED) {
-        unit->refused++;
-        printf("no reply to a message of %zd octets: %s (outcome %u)\n", length,
-               outcome_in_words(outcome), (unsigned)outcome);
-        fflush(stdout);
-        return outcome == PFCP_BROKEN_TABLE ? SERVED_BROKEN : SERVED_NO_REPLY;
+        return TURN_NOTHING;
+    memset(served, 0, sizeof *served);
+    clock_gettime(CLOCK_REALTIME, &served->time);
+    served->peer = from.peer;
+    unit->counters.dropped += (uint32_t)(from.dropped - unit->system_dropped);
+    unit->system_dropped = from.dropped;
+    if (unit->options->has_peer && !address_same(&from.peer, &unit->options->peer)) {
+        unit->counters.strangers++;
+        return TURN_STRANGER;
     }
-    if (sendto(unit->socket, reply, used, 0, (struct sockaddr *)&peer, peer_length) < 0)
-        fprintf(stderr, "pfcp_unit: a reply could not be sent: %s\n", strerror(errno));
-    unit->answered++;
-    unit->changed = memcmp(unit->before, unit->table, sizeof unit->table) != 0;
-    return SERVED_REPLY;
+    read_head(served, message, (size_t)length);
+    answer(unit, served, &from, message);
+    served->live_sessions = sessions_count(unit->table);
+    served->free_teids = unit->free_teids;
+    count(&unit->counters, served);
+    if (served->outcome == PFCP_ANSWERED)
+        return TURN_REPLY;
+    return served->outcome == PFCP_BROKEN_TABLE ? TURN_BROKEN : TURN_NO_REPLY;
 }

@@ -4,30 +4,69 @@
 
 #include <stdbool.h>
 #include <stdint.h>
+#include <time.h>
 
+#include "address.h"
 #include "options.h"
 #include "pfcp_session.h"
+#include "text.h"
+
+/* What has happened since the start. */
+struct counters {
+    unsigned long messages[256]; /* by type */
+    unsigned long untyped;       /* too short for a type, or not PFCP version 1 */
+    unsigned long outcomes[PFCP_NOT_SERVED + 1];
+    unsigned long causes[256];
+    unsigned long unsent;    /* replies that could not be sent */
+    unsigned long strangers; /* datagrams from elsewhere than the control plane */
+    unsigned long dropped;   /* datagrams that the system dropped */
+};
 
 struct unit {
     int socket;
+    const struct options *options;
     uint8_t table[PFCP_TABLE_LENGTH];
-    uint8_t before[PFCP_TABLE_LENGTH]; /* the table before the last message */
-    bool changed;                      /* the last message changed the table */
-    unsigned long answered;
-    unsigned long refused;
+    uint32_t free_teids;
+    uint32_t system_dropped; /* what the system told last; it may wrap */
+    struct counters counters;
 };
 
-enum served { SERVED_REPLY, SERVED_NO_REPLY, SERVED_NOTHING, SERVED_BROKEN };
+/* A message that was taken from the socket, and what became of it. */
+struct served {
+    struct timespec time;
+    struct address peer;
+    size_t length;
+    bool has_type; /* the octets are PFCP version 1 and long enough */
+    uint8_t type;
+    bool has_seid; /* an establishment's is that of its F-SEID */
+    uint64_t seid;
+    bool has_sequence;
+    uint32_t sequence;
+    uint32_t outcome;
+    uint8_t cause; /* 0: there is no reply */
+    bool has_offending;
+    uint16_t offending;
+    int send_error; /* 0: the reply was sent, or there is none */
+    size_t live_sessions;
+    uint32_t free_teids;
+};
+
+enum turn { TURN_REPLY, TURN_NO_REPLY, TURN_STRANGER, TURN_NOTHING, TURN_BROKEN };
 
 /* Makes the table and binds the socket; says on standard error what failed and gives false. */
 bool unit_start(struct unit *unit, const struct options *options);
 void unit_stop(struct unit *unit);
 
-/* Receives one message if there is one, and answers it. What gets no reply is said in a line. */
-enum served unit_serve(struct unit *unit);
+/* Receives one message if there is one, and answers it. */
+enum turn unit_serve(struct unit *unit, struct served *served);
 
-/* Prints the live sessions. */
-void unit_print(const struct unit *unit);
+/* How many messages got a reply, and how many did not. */
+unsigned long unit_answered(const struct unit *unit);
+unsigned long unit_unanswered(const struct unit *unit);
+
+/* A message's line from its name on; and the whole line, with its time and its peer before that. */
+void served_facts(struct text *text, const struct served *served);
+void served_line(struct text *text, const struct served *served);
 
 /* A scripted exchange with the unit over the loopback interface; gives the exit status. */
 int run_demo(struct unit *unit);

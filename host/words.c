@@ -35,7 +35,13 @@ const char *cause_in_words(unsigned cause)
     }
 }
 
-const char *outcome_in_words(unsigned outcome)
+/* Types 1 to 17 speak of nodes and of sets of sessions: their header has no SEID. */
+static bool is_of_nodes(unsigned type)
+{
+    return type >= 1 && type <= 17;
+}
+
+const char *outcome_in_words(unsigned outcome, bool has_type, unsigned type)
 {
     switch (outcome) {
     case 0:
@@ -45,11 +51,12 @@ const char *outcome_in_words(unsigned outcome)
     case 2:
         return "the reply space is too small";
     case 3:
-        return "the message is over 2,048 octets long";
+        return "no reply: over 2,048 octets";
     case 4:
-        return "the header is wrong";
+        return has_type && is_of_nodes(type) ? "no reply: not a session's message"
+                                             : "no reply: the header is wrong";
     case 5:
-        return "this type of message is not served";
+        return "no reply: this type is not served";
     default:
         return "unknown outcome";
     }
@@ -107,24 +114,55 @@ const char *element_in_words(unsigned type)
     }
 }
 
-static const char *message_in_words(unsigned type)
+/* TS 29.244, table 7.3-1. */
+const char *message_in_words(unsigned type)
 {
-    switch (type) {
-    case 50:
-        return "Session Establishment Request";
-    case 51:
-        return "Session Establishment Response";
-    case 52:
-        return "Session Modification Request";
-    case 53:
-        return "Session Modification Response";
-    case 54:
-        return "Session Deletion Request";
-    case 55:
-        return "Session Deletion Response";
-    default:
-        return "another message";
+    static const char *const words[] = {
+        [1] = "Heartbeat Request",
+        [2] = "Heartbeat Response",
+        [3] = "PFD Management Request",
+        [4] = "PFD Management Response",
+        [5] = "Association Setup Request",
+        [6] = "Association Setup Response",
+        [7] = "Association Update Request",
+        [8] = "Association Update Response",
+        [9] = "Association Release Request",
+        [10] = "Association Release Response",
+        [11] = "Version Not Supported Response",
+        [12] = "Node Report Request",
+        [13] = "Node Report Response",
+        [14] = "Session Set Deletion Request",
+        [15] = "Session Set Deletion Response",
+        [16] = "Session Set Modification Request",
+        [17] = "Session Set Modification Response",
+        [50] = "Session Establishment Request",
+        [51] = "Session Establishment Response",
+        [52] = "Session Modification Request",
+        [53] = "Session Modification Response",
+        [54] = "Session Deletion Request",
+        [55] = "Session Deletion Response",
+        [56] = "Session Report Request",
+        [57] = "Session Report Response",
+    };
+
+    if (type < sizeof words / sizeof words[0] && words[type])
+        return words[type];
+    return "unknown message";
+}
+
+const char *time_in_words(const struct timespec *time, char *room, size_t size)
+{
+    struct timespec now;
+    struct tm parts;
+
+    if (!time) {
+        clock_gettime(CLOCK_REALTIME, &now);
+        time = &now;
     }
+    gmtime_r(&time->tv_sec, &parts);
+    size_t length = strftime(room, size, "%Y-%m-%dT%H:%M:%S", &parts);
+    snprintf(room + length, size - length, ".%03ldZ", time->tv_nsec / 1000000);
+    return room;
 }
 
 const char *address_in_words(const uint8_t *address, size_t octets, char *room, size_t size)
@@ -294,8 +332,13 @@ static void print_part(FILE *out, int depth, const uint8_t *part, size_t length)
 
 void print_message(FILE *out, const uint8_t *message, size_t length)
 {
-    if (length < 16 || !(message[0] & 1)) {
-        fprintf(out, "    %zu octets without a session's header\n", length);
+    if (length >= 8 && message[0] >> 5 == 1 && !(message[0] & 1)) {
+        fprintf(out, "    %s (%u), sequence %" PRIu64 "\n", message_in_words(message[1]),
+                message[1], number_at(message + 4, 3));
+        return;
+    }
+    if (length < 16 || message[0] >> 5 != 1) {
+        fprintf(out, "    %zu octets that are not a PFCP message\n", length);
         return;
     }
     fprintf(out, "    %s (%u), SEID %" PRIu64 ", sequence %" PRIu64 "\n",

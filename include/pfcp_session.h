@@ -24,6 +24,12 @@
 extern "C" {
 #endif
 
+/* The version of this header and its archive: as numbers and as text. */
+#define PFCP_VERSION_MAJOR 0
+#define PFCP_VERSION_MINOR 1
+#define PFCP_VERSION_PATCH 0
+#define PFCP_VERSION "0.1.0"
+
 /* The length of a table, the same as pfcp_table_length() gives. */
 #define PFCP_TABLE_LENGTH 30943
 

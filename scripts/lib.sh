@@ -39,15 +39,39 @@ stand_in_archive() {
     archive_name=ordinary
 }
 
-# find_archive: builds the archive and sets archive_dir, archive_name and archive_file. It is the proved one of the crate
+# archive_origin: a line that changes with the archive and with what it is made from
+archive_origin() {
+    {
+        rt version
+        find crates.txt crates -type f \( -name '*.rt' -o -name '*.antt' \) -print0 | sort -z | xargs -0 sha256sum
+        sha256sum target/staticlib/libpfcp_session.a
+    } 2>/dev/null | sha256sum
+}
+
+# proved_archive HOW: has rt prove what has changed and write the archive, unless nothing has changed since it was written. HOW is
+# quietly or aloud.
+proved_archive() {
+    need rt 'the Rattle kit (compiler, prover and libraries) has to be installed; see README.md' || return 1
+    if [ "$(cat target/staticlib/origin 2>/dev/null)" != "$(archive_origin)" ]; then
+        "$1" rt staticlib pfcp_session || return 1
+        archive_origin >target/staticlib/origin
+    fi
+    archive_dir=$PWD/target/staticlib
+    archive_name=pfcp_session
+}
+
+# aloud COMMAND..: runs a command and shows on standard error what it says
+aloud() {
+    printf 'proving and building the archive; the first time takes minutes\n' >&2
+    "$@" >&2
+}
+
+# find_archive [HOW]: builds the archive and sets archive_dir, archive_name and archive_file. It is the proved one of the crate
 # pfcp_session. Before that crate exists, and only where PFCP_STAND_IN=1 asks for it, bench/ordinary stands in.
 find_archive() {
     if grep -qs '^pfcp_session *:' crates.txt &&
         grep -rqs 'extern "C" fn pfcp_request' crates/pfcp_session/src; then
-        need rt 'the Rattle kit (compiler, prover and libraries) has to be installed; see README.md' || return 1
-        quietly rt staticlib pfcp_session || return 1
-        archive_dir=$PWD/target/staticlib
-        archive_name=pfcp_session
+        proved_archive "${1:-quietly}" || return 1
     elif [ "${PFCP_STAND_IN:-}" = 1 ]; then
         printf 'PFCP_STAND_IN=1: bench/ordinary stands in for the proved archive\n'
         stand_in_archive || return 1
@@ -64,8 +88,10 @@ find_archive() {
 
 strict=(-std=c11 -D_POSIX_C_SOURCE=200809L -Wall -Wextra -Werror -pedantic -Iinclude -Ihost)
 sanitizers=(-g -O1 -fsanitize=address,undefined -fno-sanitize-recover=all -fno-omit-frame-pointer)
-unit_sources=(host/main.c host/options.c host/unit.c host/demo.c host/sessions.c host/words.c host/message.c)
 bench_sources=(-O2 -Ibench bench/workload.c bench/sides.c bench/measure.c host/message.c)
+unit_sources=(host/main.c host/options.c host/number.c host/address.c host/datagrams.c host/unit.c host/line.c host/sessions.c
+    host/listing.c host/control.c host/output.c host/text.c host/words.c host/message.c host/demo.c -pthread)
+list_sources=(host/pfcp_list.c host/number.c)
 checked_by_valgrind=(valgrind -q --error-exitcode=9 --leak-check=full --errors-for-leak-kinds=all)
 
 # compile OUTPUT WORDS..: compiles C files to target/c/OUTPUT
@@ -95,6 +121,17 @@ compile_times() {
 
 # compile_summary: the program that sums up what those print
 compile_summary() { compile summary -O2 -Ibench bench/summary.c bench/samples.c bench/picture.c bench/measure.c -lm; }
+
+# compile_changed OUTPUT WORDS..: as compile, unless no file that it is made from has changed since
+compile_changed() {
+    local file
+    for file in "${@:2}" host/*.h include/*.h scripts/lib.sh; do
+        if [ -f "$file" ] && [ "$file" -nt "target/c/$1" ]; then
+            compile "$@"
+            return
+        fi
+    done
+}
 
 # The counts of a test script.
 passed=0

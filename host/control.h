@@ -1,0 +1,51 @@
+/*
+ * The control socket: a Unix socket on which pfcp-list asks for the list of live sessions. It takes
+ * one client at a time and never waits for it. The client writes one line and reads the answer:
+ *
+ *   list text | list json | session SEID text | session SEID json
+ *
+ * The answer is a line "ok" and the list, or a line that says what is wrong; a zero octet ends it.
+ */
+#ifndef CONTROL_H
+#define CONTROL_H
+
+#include <poll.h>
+#include <stdbool.h>
+#include <sys/un.h>
+#include <time.h>
+
+#include "listing.h"
+#include "output.h"
+#include "unit.h"
+
+/* The longest question is "session 18446744073709551615 text". */
+enum { QUESTION_ROOM = 64, PATIENCE = 2 /* seconds for a client */ };
+
+struct control {
+    struct sockaddr_un address;
+    int listener; /* -1: there is no control socket */
+    int client;   /* -1: nobody is connected */
+    time_t limit; /* when a client has had its time */
+    char question[QUESTION_ROOM];
+    size_t asked;
+    bool answering;
+    bool last; /* the piece is the last one */
+    struct listing listing;
+    struct text piece;
+    size_t sent;
+};
+
+/* Binds the socket, if a path is given, in place of one that nobody listens on any more; says on
+   standard error what failed and gives false. */
+bool control_start(struct control *control, const char *path);
+void control_stop(struct control *control);
+
+/* What to wait for, and for how many milliseconds at most (-1: any time). */
+struct pollfd control_wait(const struct control *control, int *timeout);
+
+/* Goes on by one step: takes a client, reads its question, or sends one piece of the answer. ready is
+   what poll reported. */
+void control_step(struct control *control, short ready, const struct unit *unit,
+                  struct output *out);
+
+#endif

@@ -1,0 +1,41 @@
+/* The line that the unit says of each message. A new field is added in served_facts. */
+#include <inttypes.h>
+#include <string.h>
+
+#include "unit.h"
+#include "words.h"
+
+void served_facts(struct text *text, const struct served *served)
+{
+    if (served->has_type)
+        text_add(text, "%s (%u)", message_in_words(served->type), served->type);
+    else
+        text_add(text, "not a PFCP message");
+    if (served->has_seid)
+        text_add(text, ", SEID %" PRIu64, served->seid);
+    if (served->has_sequence)
+        text_add(text, ", sequence %" PRIu32, served->sequence);
+    if (served->outcome != PFCP_ANSWERED)
+        text_add(text, ", %zu octets", served->length);
+    text_add(text, ", outcome %" PRIu32 " (%s)", served->outcome,
+             outcome_in_words(served->outcome, served->has_type, served->type));
+    if (served->cause != 0)
+        text_add(text, ", cause %u (%s)", served->cause, cause_in_words(served->cause));
+    if (served->has_offending)
+        text_add(text, ", Offending IE %u (%s)", served->offending,
+                 element_in_words(served->offending));
+    if (served->send_error != 0)
+        text_add(text, ", reply not sent (%s)", strerror(served->send_error));
+    text_add(text, ", live sessions %zu, free TEIDs %" PRIu32 "\n", served->live_sessions,
+             served->free_teids);
+}
+
+void served_line(struct text *text, const struct served *served)
+{
+    char time[TIME_ROOM];
+    char peer[ADDRESS_ROOM];
+
+    text_add(text, "%s %s ", time_in_words(&served->time, time, sizeof time),
+             address_text(&served->peer, peer, sizeof peer));
+    served_facts(text, served);
+}

@@ -1,0 +1,245 @@
+#include "listing.h"
+
+#include <arpa/inet.h>
+#include <inttypes.h>
+#include <string.h>
+
+#include "message.h"
+#include "sessions.h"
+#include "words.h"
+
+static const char *families_in_words(unsigned families)
+{
+    static const char *const words[] = {"no family", "IPv4", "IPv6", "IPv4 and IPv6"};
+
+    return words[families & 3];
+}
+
+static const char *truth(bool is)
+{
+    return is ? "true" : "false";
+}
+
+/* The node of an FQ-CSID: an address, or eight hexadecimal digits. */
+static const char *node_in_words(const struct fq_csid *fq_csid, char *room, size_t size)
+{
+    if (fq_csid->node_id_type != 2)
+        return address_in_words(fq_csid->address, fq_csid->node_id_type == 1 ? 16 : 4, room, size);
+    snprintf(room, size, "%08" PRIX64, number_at(fq_csid->address, 4));
+    return room;
+}
+
+static void pdr_text(struct text *text, const struct pdr *pdr)
+{
+    text_add(text, "    PDR %u: precedence %" PRIu32, pdr->id, pdr->precedence);
+    if (pdr->has_far)
+        text_add(text, ", FAR %" PRIu32, pdr->far_id);
+    else
+        text_add(text, ", no FAR");
+    text_add(text, ", source interface %u", pdr->source_interface);
+    if (pdr->place == LOCAL_F_TEID)
+        text_add(text, ", TEID %" PRIu32 " (%s)", pdr->teid, families_in_words(pdr->families));
+    else if (pdr->place == NAMED_ENDPOINT)
+        text_add(text, ", endpoint %u", pdr->endpoint_id);
+    text_add(text, "\n");
+}
+
+static void session_text(struct text *text, const struct session *session)
+{
+    char room[INET6_ADDRSTRLEN];
+
+    text_add(text, "  session %" PRIu64 "\n", session->seid);
+    for (size_t i = 0; i < session->pdr_count; i++)
+        pdr_text(text, &session->pdrs[i]);
+    for (size_t i = 0; i < session->endpoint_count; i++)
+        text_add(text, "    endpoint %u: TEID %" PRIu32 " (%s)\n", session->endpoints[i].id,
+                 session->endpoints[i].teid, families_in_words(session->endpoints[i].families));
+    for (size_t i = 0; i < session->fq_csid_count; i++) {
+        const struct fq_csid *fq_csid = &session->fq_csids[i];
+
+        text_add(text, "    FQ-CSID of node type %u: CSID %u of %s%s\n", fq_csid->node_type,
+                 fq_csid->csid, fq_csid->node_id_type == 2 ? "operator node " : "",
+                 node_in_words(fq_csid, room, sizeof room));
+    }
+}
+
+static void tunnel_json(struct text *text, uint32_t teid, unsigned families)
+{
+    text_add(text, ",\"teid\":%" PRIu32 ",\"ipv4\":%s,\"ipv6\":%s", teid, truth(families & V4),
+             truth(families & V6));
+}
+
+static void pdr_json(struct text *text, const struct pdr *pdr)
+{
+    text_add(text, "{\"id\":%u,\"precedence\":%" PRIu32, pdr->id, pdr->precedence);
+    if (pdr->has_far)
+        text_add(text, ",\"far_id\":%" PRIu32, pdr->far_id);
+    text_add(text, ",\"source_interface\":%u", pdr->source_interface);
+    if (pdr->place == LOCAL_F_TEID)
+        tunnel_json(text, pdr->teid, pdr->families);
+    else if (pdr->place == NAMED_ENDPOINT)
+        text_add(text, ",\"endpoint_id\":%u", pdr->endpoint_id);
+    text_add(text, "}");
+}
+
+/* A SEID is text: many readers of JSON keep 53 bits of a number. */
+static void session_json(struct text *text, const struct session *session)
+{
+    char room[INET6_ADDRSTRLEN];
+
+    text_add(text, "{\"seid\":\"%" PRIu64 "\",\"pdrs\":[", session->seid);
+    for (size_t i = 0; i < session->pdr_count; i++) {
+        text_add(text, i > 0 ? "," : "");
+        pdr_json(text, &session->pdrs[i]);
+    }
+    text_add(text, "],\"endpoints\":[");
+    for (size_t i = 0; i < session->endpoint_count; i++) {
+        text_add(text, "%s{\"id\":%u", i > 0 ? "," : "", session->endpoints[i].id);
+        tunnel_json(text, session->endpoints[i].teid, session->endpoints[i].families);
+        text_add(text, "}");
+    }
+    text_add(text, "],\"fq_csids\":[");
+    for (size_t i = 0; i < session->fq_csid_count; i++) {
+        const struct fq_csid *fq_csid = &session->fq_csids[i];
+
+        text_add(text, "%s{\"node_type\":%u,\"node\":\"%s\",\"csid\":%u}", i > 0 ? "," : "",
+                 fq_csid->node_type, node_in_words(fq_csid, room, sizeof room), fq_csid->csid);
+    }
+    text_add(text, "]}");
+}
+
+/* The general meaning: a message that is not a session's counts as outcome 4 too. */
+static const char *outcome_in_general(unsigned outcome)
+{
+    if (outcome == PFCP_WRONG_HEADER)
+        return "no reply: not a session's message, or a wrong header";
+    return outcome_in_words(outcome, false, 0);
+}
+
+/* The counts that are not 0, with their number and its meaning. */
+static void add_counts(struct text *text, bool json, const char *title, const unsigned long *counts,
+                       size_t size, const char *(*in_words)(unsigned))
+{
+    const char *separator = "";
+
+    text_add(text, json ? "\"%s\":[" : "%s:\n", title);
+    for (unsigned i = 0; i < size; i++) {
+        if (counts[i] == 0)
+            continue;
+        if (json)
+            text_add(text, "%s{\"number\":%u,\"name\":\"%s\",\"count\":%lu}", separator, i,
+                     in_words(i), counts[i]);
+        else
+            text_add(text, "  %u %s: %lu\n", i, in_words(i), counts[i]);
+        separator = ",";
+    }
+    text_add(text, json ? "]" : "");
+}
+
+static void add_counters(struct text *text, const struct listing *listing)
+{
+    const struct counters *c = &listing->counters;
+    bool json = (listing->form & LIST_JSON) != 0;
+
+    text_add(text, json ? ",\"counters\":{" : "");
+    add_counts(text, json, "messages", c->messages, 256, message_in_words);
+    text_add(text, json ? "," : "");
+    add_counts(text, json, "causes", c->causes, 256, cause_in_words);
+    text_add(text, json ? "," : "");
+    add_counts(text, json, "outcomes", c->outcomes, sizeof c->outcomes / sizeof c->outcomes[0],
+               outcome_in_general);
+    text_add(text,
+             json ? ",\"not_pfcp\":%lu,\"replies_not_sent\":%lu,\"from_others\":%lu,"
+                    "\"dropped_by_system\":%lu,\"lines_dropped\":%lu}"
+                  : "messages that are not PFCP: %lu\nreplies not sent: %lu\n"
+                    "datagrams from others than the peer: %lu\n"
+                    "datagrams dropped by the system: %lu\nlines of output dropped: %lu\n",
+             c->untyped, c->unsent, c->strangers, c->dropped, listing->lines_dropped);
+}
+
+static void start(struct listing *listing, const struct unit *unit, unsigned form)
+{
+    memset(listing, 0, sizeof *listing);
+    memcpy(listing->table, unit->table, sizeof listing->table);
+    listing->counters = unit->counters;
+    listing->free_teids = unit->free_teids;
+    listing->pool_size = unit->options->pool_size;
+    listing->form = form;
+}
+
+void listing_all(struct listing *listing, const struct unit *unit, unsigned long lines_dropped,
+                 unsigned form)
+{
+    start(listing, unit, form);
+    listing->lines_dropped = lines_dropped;
+    listing->whole = true;
+    listing->end = sessions_count(listing->table);
+}
+
+bool listing_one(struct listing *listing, const struct unit *unit, uint64_t seid, unsigned form)
+{
+    size_t place = sessions_find(unit->table, seid);
+
+    if (place == sessions_count(unit->table))
+        return false;
+    start(listing, unit, form);
+    listing->first = place;
+    listing->next = place;
+    listing->end = place + 1;
+    return true;
+}
+
+static void add_head(struct text *text, const struct listing *listing)
+{
+    if (listing->whole)
+        text_add(text,
+                 listing->form & LIST_JSON ? "{\"live_sessions\":%zu,\"free_teids\":%" PRIu32
+                                             ",\"pool_size\":%" PRIu32 ",\"sessions\":["
+                                           : "live sessions: %zu; free TEIDs: %" PRIu32
+                                             " of %" PRIu32 "\n",
+                 listing->end, listing->free_teids, listing->pool_size);
+}
+
+static void add_session(struct text *text, const struct listing *listing)
+{
+    struct session session;
+
+    sessions_read(listing->table, listing->next, &session);
+    if (listing->form & LIST_JSON) {
+        text_add(text, listing->next > listing->first ? ",\n" : "");
+        session_json(text, &session);
+    } else {
+        session_text(text, &session);
+    }
+}
+
+static void add_foot(struct text *text, const struct listing *listing)
+{
+    bool json = (listing->form & LIST_JSON) != 0;
+
+    text_add(text, listing->whole && json ? "]" : "");
+    if (listing->form & LIST_COUNTERS)
+        add_counters(text, listing);
+    text_add(text, json ? listing->whole ? "}\n" : "\n" : "");
+}
+
+bool listing_next(struct listing *listing, struct text *text)
+{
+    switch (listing->stage) {
+    case LIST_HEAD:
+        add_head(text, listing);
+        listing->stage = LIST_SESSIONS;
+        return true;
+    case LIST_SESSIONS:
+        if (listing->next < listing->end) {
+            add_session(text, listing);
+            listing->next++;
+            return true;
+        }
+        add_foot(text, listing);
+        listing->stage = LIST_DONE;
+        return true;
+    default:
+        return false;
+    }
+}

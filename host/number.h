@@ -1,0 +1,11 @@
+/* Numbers on a command line. */
+#ifndef NUMBER_H
+#define NUMBER_H
+
+#include <stdbool.h>
+#include <stdint.h>
+
+/* A decimal number from least to most; gives false where the text is none. */
+bool read_number(const char *text, uint64_t least, uint64_t most, uint64_t *number);
+
+#endif

@@ -1,0 +1,177 @@
+/* Asks a running unit for its live sessions and counters, over its control socket (control.h). */
+#include <errno.h>
+#include <inttypes.h>
+#include <stdbool.h>
+#include <stdio.h>
+#include <stdlib.h>
+#include <string.h>
+#include <sys/socket.h>
+#include <sys/time.h>
+#include <sys/un.h>
+#include <unistd.h>
+
+#include "number.h"
+#include "pfcp_session.h"
+
+static const char usage[] =
+    "usage: pfcp-list --control PATH [--session SEID] [--json]\n"
+    "Prints the live sessions and the counters of a running pfcp_unit.\n"
+    "  --control PATH   the unit's control socket, as given to pfcp_unit --control\n"
+    "  --session SEID   that session only, without counters\n"
+    "  --json           as JSON\n"
+    "  --version        print the version\n"
+    "  --help           print this\n"
+    "Exit status: 0; 1 where the session is not live or the unit does not answer; 2 for a bad "
+    "option.\n";
+
+struct question {
+    const char *path;
+    const char *session; /* NULL: all */
+    bool json;
+};
+
+/* Gives 0, or the exit status of a program that is to end at once plus one. */
+static int read_question(struct question *question, int argc, char **argv)
+{
+    uint64_t seid;
+
+    for (int i = 1; i < argc; i++) {
+        bool path = strcmp(argv[i], "--control") == 0;
+
+        if (strcmp(argv[i], "--help") == 0) {
+            fputs(usage, stdout);
+            return 1;
+        }
+        if (strcmp(argv[i], "--version") == 0) {
+            puts("pfcp-list " PFCP_VERSION);
+            return 1;
+        }
+        if (strcmp(argv[i], "--json") == 0) {
+            question->json = true;
+        } else if (!path && strcmp(argv[i], "--session") != 0) {
+            fprintf(stderr, "pfcp-list: unknown option %s (--help lists them)\n", argv[i]);
+            return 3;
+        } else if (i + 1 == argc) {
+            fprintf(stderr, "pfcp-list: %s needs a value\n", argv[i]);
+            return 3;
+        } else if (path) {
+            question->path = argv[++i];
+        } else if (read_number(argv[++i], 1, UINT64_MAX, &seid)) {
+            question->session = argv[i];
+        } else {
+            fprintf(stderr, "pfcp-list: --session %s: not a SEID from 1 to %" PRIu64 "\n", argv[i],
+                    UINT64_MAX);
+            return 3;
+        }
+    }
+    if (!question->path) {
+        fputs("pfcp-list: --control PATH is needed (--help lists the options)\n", stderr);
+        return 3;
+    }
+    return 0;
+}
+
+static bool complain(const struct question *question, const char *what)
+{
+    fprintf(stderr, "pfcp-list: %s: %s\n", question->path, what);
+    return false;
+}
+
+/* Connects and asks; gives -1 where that fails. */
+static int ask(const struct question *question)
+{
+    struct sockaddr_un address = {.sun_family = AF_UNIX};
+    struct timeval limit = {.tv_sec = 10};
+    char line[64];
+    int length;
+
+    if (strlen(question->path) >= sizeof address.sun_path) {
+        complain(question, "too long for a socket's path");
+        return -1;
+    }
+    strcpy(address.sun_path, question->path);
+    if (question->session)
+        length = snprintf(line, sizeof line, "session %s %s\n", question->session,
+                          question->json ? "json" : "text");
+    else
+        length = snprintf(line, sizeof line, "list %s\n", question->json ? "json" : "text");
+    int unit = socket(AF_UNIX, SOCK_STREAM, 0);
+    if (unit >= 0 && setsockopt(unit, SOL_SOCKET, SO_RCVTIMEO, &limit, sizeof limit) == 0 &&
+        setsockopt(unit, SOL_SOCKET, SO_SNDTIMEO, &limit, sizeof limit) == 0 &&
+        connect(unit, (const struct sockaddr *)&address, sizeof address) == 0 &&
+        send(unit, line, (size_t)length, MSG_NOSIGNAL) == length)
+        return unit;
+    complain(question, errno == EAGAIN ? "the unit does not answer" : strerror(errno));
+    if (unit >= 0)
+        close(unit);
+    return -1;
+}
+
+/* Reads the whole answer before any of it is printed, so that a slow reader of the list does not
+   hold up the unit; gives NULL where it does not come to its end. */
+static char *read_answer(const struct question *question, int unit)
+{
+    size_t room = 0;
+    size_t length = 0;
+    char *answer = NULL;
+
+    do {
+        if (length == room) {
+            room = room == 0 ? 65536 : 2 * room;
+            char *larger = realloc(answer, room);
+
+            if (!larger) {
+                complain(question, "no memory for the answer");
+                break;
+            }
+            answer = larger;
+        }
+        ssize_t got = recv(unit, answer + length, room - length, 0);
+        if (got <= 0) {
+            complain(question,
+                     length > 0 ? "the answer was cut short" : "the unit does not answer");
+            break;
+        }
+        length += (size_t)got;
+        if (answer[length - 1] == '\0')
+            return answer;
+    } while (true);
+    free(answer);
+    return NULL;
+}
+
+/* The first line of the answer is "ok", or says what is wrong. */
+static bool print_answer(const struct question *question, const char *answer)
+{
+    if (strncmp(answer, "ok\n", 3) != 0) {
+        int length = (int)strcspn(answer, "\n");
+
+        if (question->session)
+            fprintf(stderr, "pfcp-list: session %s: %.*s\n", question->session, length, answer);
+        else
+            fprintf(stderr, "pfcp-list: %.*s\n", length, answer);
+        return false;
+    }
+    if (fputs(answer + 3, stdout) < 0 || fflush(stdout) != 0) {
+        fprintf(stderr, "pfcp-list: the list could not be written: %s\n", strerror(errno));
+        return false;
+    }
+    return true;
+}
+
+int main(int argc, char **argv)
+{
+    struct question question = {.path = NULL};
+    int end = read_question(&question, argc, argv);
+
+    if (end != 0)
+        return end - 1;
+    int unit = ask(&question);
+    if (unit < 0)
+        return EXIT_FAILURE;
+    char *answer = read_answer(&question, unit);
+    bool good = answer && print_answer(&question, answer);
+    free(answer);
+    close(unit);
+    return good ? EXIT_SUCCESS : EXIT_FAILURE;
+}

@@ -1,0 +1,105 @@
+# shellcheck shell=bash disable=SC2034,SC2154
+# Shell functions for tests that run the unit; to be sourced after lib.sh. Sets work, a folder for the test's files.
+
+{ need_gcc && need_valgrind && find_archive; } || give_up
+compile_changed pfcp_unit -g -O2 "${unit_sources[@]}" "$archive_file" || give_up
+compile_changed pfcp_unit_sanitized "${sanitizers[@]}" "${unit_sources[@]}" "$archive_file" || give_up
+compile_changed pfcp-list -g -O2 "${list_sources[@]}" || give_up
+plain=(target/c/pfcp_unit)
+sanitized=(target/c/pfcp_unit_sanitized)
+valgrinded=("${checked_by_valgrind[@]}" target/c/pfcp_unit)
+
+work=$(mktemp -d)
+unit_pid=
+# shellcheck disable=SC2317 # called at the end
+clean_up() {
+    [ -n "$unit_pid" ] && kill -KILL "$unit_pid" 2>/dev/null
+    rm -rf "$work"
+}
+trap clean_up EXIT
+
+# within SECONDS COMMAND..: waits until a command succeeds
+within() {
+    local tries=$(($1 * 20))
+    shift
+    for (( ; tries > 0; tries--)); do
+        "$@" && return 0
+        sleep 0.05
+    done
+    return 1
+}
+
+# is_gone PID, listens PORT: for within. A unit that was not waited for yet is gone too.
+is_gone() { [ ! -e "/proc/$1" ] || grep -q '^State:[[:space:]]*Z' "/proc/$1/status" 2>/dev/null; }
+listens() { grep -qi ":$(printf '%04X' "$1") " /proc/net/udp /proc/net/udp6; }
+is_up() { is_gone "$unit_pid" || listens "$port"; }
+
+# start_unit COMMAND..: starts a unit on a free port, with its output in $out and its complaints in $err; sets unit_pid and port
+out=$work/out
+err=$work/err
+start_unit() {
+    local tries
+    for ((tries = 0; tries < 20; tries++)); do
+        port=$((20000 + RANDOM % 20000))
+        listens "$port" && continue
+        "$@" --port "$port" --ipv4 192.0.2.1 --first-teid 4096 --pool 2 >"$out" 2>"$err" &
+        unit_pid=$!
+        within 20 is_up
+        is_gone "$unit_pid" || return 0
+        wait "$unit_pid"
+    done
+    unit_pid=
+    cat "$err"
+    expect 'the unit starts' false
+    return 1
+}
+
+# end_unit SIGNAL: ends the unit within seconds, or kills it; sets ended_with to its exit status
+end_unit() {
+    kill -"$1" "$unit_pid"
+    within 20 is_gone "$unit_pid" || kill -KILL "$unit_pid"
+    wait "$unit_pid"
+    ended_with=$?
+    unit_pid=
+}
+
+# to_peer ADDRESS: opens a socket to the unit as 3
+to_unit() { exec 3<>"/dev/udp/${1:-127.0.0.1}/$port"; }
+
+# send_octets OCTETS: sends octets given in hexadecimal in one datagram
+send_octets() {
+    printf '%b' "\\x${1// /\\x}" >"$work/message"
+    dd if="$work/message" bs=4096 count=1 status=none >&3
+}
+
+# exchange REQUEST [ADDRESS [SECONDS]]: sends a request and prints the reply in hexadecimal
+exchange() {
+    to_unit "${2:-127.0.0.1}" || return 1
+    send_octets "$1"
+    timeout "${3:-10}" dd bs=4096 count=1 status=none <&3 | od -An -v -tx1 | tr -d ' \n' | tr a-f A-F
+    exec 3<&-
+}
+
+# no_answer MESSAGE: sends a message that gets no reply
+no_answer() {
+    to_unit || return 1
+    send_octets "$1"
+    exec 3<&-
+}
+
+# said FILE: the lines of a unit's output, with TIME and PORT in the place of the time and the peer's port
+said() {
+    sed -E 's/^[0-9]{4}-[0-9]{2}-[0-9]{2}T[0-9]{2}:[0-9]{2}:[0-9]{2}\.[0-9]{3}Z /TIME /
+        s/^TIME (127\.0\.0\.[0-9]+):[0-9]+ /TIME \1:PORT /' "$1"
+}
+
+anybody='pfcp_unit: warning: no --peer is given, so requests from any address are answered'
+deletion='21 36 00 0C 00 00 00 00 00 00 00 01 00 00 01 00'
+unknown=213700110000000000000000000001000013000141
+heartbeat='20 01 00 0C 00 00 09 00 00 60 00 04 00 00 00 00'
+establishment='21 32 00 3D 00 00 00 00 00 00 00 00 00 00 01 00 00 39 00 0D 02 00 00 00 00 00 00 00 01 7F 00 00 01'
+establishment+=' 00 01 00 1C 00 38 00 02 00 01 00 1D 00 04 00 00 00 64 00 02 00 0A 00 14 00 01 00 00 15 00 01 05'
+established=2133004200000000000000010000010000 # up to the first element's type
+established+=3C000500C0000201001300010100390 # Node ID, Cause
+established+=00D020000000000000001C0000201000800130038000200010015000901000010 # F-SEID, Created PDR
+established+=00C0000201
