@@ -1,5 +1,19 @@
 # The commands that README.md names.
-.PHONY: test check fmt run demo bench
+.PHONY: all lib install test check fmt run demo bench
+PREFIX = /usr/local
+DESTDIR =
+
+# the archive, the unit and pfcp-list; only what has changed since
+all:
+	@scripts/build
+
+# the archive and a shared object
+lib:
+	@scripts/build lib
+
+# both libraries, the header, the pkg-config file, the programs and the man pages under DESTDIR and PREFIX
+install:
+	@PREFIX='$(PREFIX)' DESTDIR='$(DESTDIR)' scripts/install
 
 # every proof from nothing, every must-fail edit, every program, then the C and Rust tests
 test:

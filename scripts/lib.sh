@@ -9,6 +9,7 @@ need() {
 }
 
 need_gcc() { need gcc 'the C tests need a C compiler (Debian: gcc, libc6-dev)'; }
+need_rt() { need rt 'the Rattle kit (compiler, prover and libraries) has to be installed; see README.md'; }
 need_cargo() { need cargo 'the Rust tests need Rust 1.88 or newer with cargo'; }
 need_valgrind() { need valgrind 'the memory checks need it (Debian: valgrind)'; }
 
@@ -51,7 +52,7 @@ archive_origin() {
 # proved_archive HOW: has rt prove what has changed and write the archive, unless nothing has changed since it was written. HOW is
 # quietly or aloud.
 proved_archive() {
-    need rt 'the Rattle kit (compiler, prover and libraries) has to be installed; see README.md' || return 1
+    need_rt || return 1
     if [ "$(cat target/staticlib/origin 2>/dev/null)" != "$(archive_origin)" ]; then
         "$1" rt staticlib pfcp_session || return 1
         archive_origin >target/staticlib/origin
@@ -131,6 +132,31 @@ compile_changed() {
             return
         fi
     done
+}
+
+# build_unit: builds what has changed of the archive, the unit and pfcp-list
+build_unit() {
+    { need_gcc && need_rt; } || return 1
+    find_archive aloud || return 1
+    compile_changed pfcp_unit -g -O2 "${unit_sources[@]}" "$archive_file" &&
+        compile_changed pfcp-list -g -O2 "${list_sources[@]}"
+}
+
+# version: the version, which stands in the header; soname: the name that a program asks the dynamic linker for. Before version 1 every
+# minor number is another interface.
+version() { sed -n 's/^#define PFCP_VERSION "\(.*\)"$/\1/p' include/pfcp_session.h; }
+soname() { printf 'libpfcp_session.so.%s\n' "$(version | cut -d. -f1,2)"; }
+
+# build_shared: builds what has changed of the archive and a shared object of it, and sets shared_file. The archive's code is position
+# independent; -z text refuses it where it is not.
+build_shared() {
+    { need_gcc && need_rt; } || return 1
+    find_archive aloud || return 1
+    shared_file=target/lib/libpfcp_session.so.$(version)
+    [ "$shared_file" -nt "$archive_file" ] && [ "$shared_file" -nt include/pfcp_session.h ] && return
+    mkdir -p target/lib
+    gcc -shared -Wl,-soname,"$(soname)" -Wl,-z,text -Wl,-z,defs -Wl,-z,relro -Wl,-z,now \
+        -Wl,--whole-archive "$archive_file" -Wl,--no-whole-archive -o "$shared_file"
 }
 
 # The counts of a test script.

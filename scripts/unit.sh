@@ -13,20 +13,23 @@ work=$(mktemp -d)
 unit_pid=
 # shellcheck disable=SC2317 # called at the end
 clean_up() {
-    [ -n "$unit_pid" ] && kill -KILL "$unit_pid" 2>/dev/null
+    local pid
+    for pid in $(jobs -p); do
+        kill -KILL "$pid" 2>/dev/null
+        wait "$pid" 2>/dev/null # which also keeps the shell from telling of it
+    done
     rm -rf "$work"
 }
 trap clean_up EXIT
 
 # within SECONDS COMMAND..: waits until a command succeeds
 within() {
-    local tries=$(($1 * 20))
+    local limit=$((SECONDS + $1))
     shift
-    for (( ; tries > 0; tries--)); do
-        "$@" && return 0
+    until "$@"; do
+        [ "$SECONDS" -lt "$limit" ] || return 1
         sleep 0.05
     done
-    return 1
 }
 
 # is_gone PID, listens PORT: for within. A unit that was not waited for yet is gone too.
@@ -63,7 +66,7 @@ end_unit() {
     unit_pid=
 }
 
-# to_peer ADDRESS: opens a socket to the unit as 3
+# to_unit [ADDRESS]: opens a socket to the unit as 3
 to_unit() { exec 3<>"/dev/udp/${1:-127.0.0.1}/$port"; }
 
 # send_octets OCTETS: sends octets given in hexadecimal in one datagram
