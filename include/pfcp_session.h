@@ -4,13 +4,31 @@
  * The archive keeps nothing between calls: all that it knows is in the table's octets, whose layout
  * is in docs/layout.md. The rules for requests and replies are document 01; docs/ has the rest.
  *
+ * Which messages. A host looks at a message's type first (octet 1, from 0) and hands on the types 50,
+ * 52 and 54. Heartbeats, associations and other messages of nodes have no SEID in their header, so
+ * pfcp_request takes them for a wrong header (outcome 4); it is the host that answers them.
+ *
+ * The cause of a reply is its octet 29, from 0, in a reply of type 51, and its octet 20 in one of type
+ * 53 or 55. With the causes 66 to 69 the Offending IE's two octets stand 5 and 6 octets after it.
+ *
  * Pointers. Every pair of a pointer and a length is a slice: the pointer is valid for that many
  * octets, for reading where it is const and for reading and writing where it is not. A slice of
  * length 0 may have any pointer, also NULL. The slices of one call do not overlap, and neither do
  * they overlap the number that a call writes (count, reply_used). The pointer to that number is
  * never NULL and is aligned for its type. While a call runs, nothing else reads or writes what it
- * may write, and nothing else writes what it reads. Calls on different tables may run at the same
- * time.
+ * may write, and nothing else writes what it reads.
+ *
+ * Threads. The calls have no state of their own: any thread may make them, and calls on different
+ * tables may run at the same time. A table is whole between calls only. A thread that wants to read
+ * a table which another one serves takes a lock that the other one holds around each call, copies
+ * the table, and reads the copy. A copy that was made without the lock may mix two states, and need
+ * not be a broken table for that.
+ *
+ * Stack. A request takes 39,096 octets of stack (docs/benchmarks.md has how it was measured), the
+ * other calls take less. There is no heap. A thread of 64 KiB is large enough.
+ *
+ * Architecture. The archive is for x86-64 Linux, any processor of that kind. It needs memcpy, memmove
+ * and memset of the C library and nothing else, and can be linked into position independent code.
  *
  * An IPv4 address given as a number has its first octet on top: 192.0.2.1 is 0xC0000201.
  */
