@@ -37,7 +37,9 @@ is_gone() { [ ! -e "/proc/$1" ] || grep -q '^State:[[:space:]]*Z' "/proc/$1/stat
 listens() { grep -qi ":$(printf '%04X' "$1") " /proc/net/udp /proc/net/udp6; }
 is_up() { is_gone "$unit_pid" || listens "$port"; }
 
-# start_unit COMMAND..: starts a unit on a free port, with its output in $out and its complaints in $err; sets unit_pid and port
+# start_unit COMMAND..: starts a unit on a free port with these settings, its output in $out and its complaints in $err; sets unit_pid
+# and port
+settings=(--ipv4 192.0.2.1 --first-teid 4096 --pool 2)
 out=$work/out
 err=$work/err
 start_unit() {
@@ -45,7 +47,7 @@ start_unit() {
     for ((tries = 0; tries < 20; tries++)); do
         port=$((20000 + RANDOM % 20000))
         listens "$port" && continue
-        "$@" --port "$port" --ipv4 192.0.2.1 --first-teid 4096 --pool 2 >"$out" 2>"$err" &
+        "$@" --port "$port" "${settings[@]}" >"$out" 2>"$err" &
         unit_pid=$!
         within 20 is_up
         is_gone "$unit_pid" || return 0
@@ -87,6 +89,18 @@ exchange() {
 no_answer() {
     to_unit || return 1
     send_octets "$1"
+    exec 3<&-
+}
+
+# burst COUNT: sends so many deletions of session 1 while the unit stands still, then has it go on
+burst() {
+    local i
+    kill -STOP "$unit_pid"
+    to_unit
+    for ((i = 0; i < $1; i++)); do
+        printf '\x21\x36\x00\x0C\x00\x00\x00\x00\x00\x00\x00\x01\x00\x00\x01\x00' >&3
+    done
+    kill -CONT "$unit_pid"
     exec 3<&-
 }
 

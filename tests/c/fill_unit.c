@@ -1,0 +1,49 @@
+/* Fills a running unit with 64 full sessions: fill_unit PORT. The unit listens on 127.0.0.1 and has
+   an IPv6 address and 1,536 free TEIDs. */
+#include <arpa/inet.h>
+#include <netinet/in.h>
+#include <stdio.h>
+#include <stdlib.h>
+#include <sys/socket.h>
+#include <sys/time.h>
+
+#include "workload.h"
+
+static struct message cycle[CYCLE];
+static struct place answered;
+
+static int connect_to(size_t port)
+{
+    struct sockaddr_in address = {.sin_family = AF_INET, .sin_port = htons((uint16_t)port)};
+    struct timeval limit = {.tv_sec = 10};
+    int unit = socket(AF_INET, SOCK_DGRAM, 0);
+
+    address.sin_addr.s_addr = htonl(INADDR_LOOPBACK);
+    if (unit < 0 || connect(unit, (struct sockaddr *)&address, sizeof address) != 0 ||
+        setsockopt(unit, SOL_SOCKET, SO_RCVTIMEO, &limit, sizeof limit) != 0) {
+        perror("fill_unit");
+        exit(EXIT_FAILURE);
+    }
+    return unit;
+}
+
+int main(int argc, char **argv)
+{
+    if (argc != 2) {
+        fputs("usage: fill_unit PORT\n", stderr);
+        return 2;
+    }
+    int unit = connect_to(read_count("fill_unit", argv[1], 65535));
+    write_cycle(cycle);
+    for (size_t i = 0; i < SESSIONS; i++) {
+        const struct message *establishment = &cycle[4 * i + 1];
+
+        if (send(unit, establishment->octets, establishment->length, 0) < 0 ||
+            recv(unit, answered.reply, sizeof answered.reply, 0) <= 0 ||
+            !accepted(&answered, PFCP_ANSWERED)) {
+            fprintf(stderr, "fill_unit: session %zu is not accepted\n", i);
+            return EXIT_FAILURE;
+        }
+    }
+    return EXIT_SUCCESS;
+}
