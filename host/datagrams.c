@@ -6,7 +6,23 @@
 #include <string.h>
 #include <unistd.h>
 
-int datagrams_open(const struct address *listen)
+/* Raises the receive buffer; gives the number of octets that it has now. */
+static size_t raise_buffer(int socket)
+{
+    int wanted = WANTED_BUFFER;
+    int got = 0;
+    socklen_t length = sizeof got;
+
+    /* The first goes past the system's limit, where the unit may do so. */
+    if (setsockopt(socket, SOL_SOCKET, SO_RCVBUFFORCE, &wanted, sizeof wanted) != 0)
+        setsockopt(socket, SOL_SOCKET, SO_RCVBUF, &wanted, sizeof wanted);
+    /* Linux tells twice what was set: it counts its own records too. */
+    if (getsockopt(socket, SOL_SOCKET, SO_RCVBUF, &got, &length) != 0 || got < 0)
+        return 0;
+    return (size_t)got / 2;
+}
+
+int datagrams_open(const struct address *listen, size_t *buffer)
 {
     int yes = 1;
     int family = listen->socket.ss_family;
@@ -20,6 +36,7 @@ int datagrams_open(const struct address *listen)
     else
         setsockopt(opened, IPPROTO_IPV6, IPV6_RECVPKTINFO, &yes, sizeof yes);
     setsockopt(opened, SOL_SOCKET, SO_RXQ_OVFL, &yes, sizeof yes);
+    *buffer = raise_buffer(opened);
     if (bind(opened, (const struct sockaddr *)&listen->socket, listen->length) != 0) {
         int error = errno;
 
@@ -28,21 +45,6 @@ int datagrams_open(const struct address *listen)
         return -1;
     }
     return opened;
-}
-
-size_t datagrams_buffer(int socket)
-{
-    int wanted = WANTED_BUFFER;
-    int got = 0;
-    socklen_t length = sizeof got;
-
-    /* The first goes past the system's limit, where the unit may do so. */
-    if (setsockopt(socket, SOL_SOCKET, SO_RCVBUFFORCE, &wanted, sizeof wanted) != 0)
-        setsockopt(socket, SOL_SOCKET, SO_RCVBUF, &wanted, sizeof wanted);
-    /* Linux tells twice what was set: it counts its own records too. */
-    if (getsockopt(socket, SOL_SOCKET, SO_RCVBUF, &got, &length) != 0 || got < 0)
-        return 0;
-    return (size_t)got / 2;
 }
 
 static void put_local(struct datagram *from, int level, int type, const void *value, size_t length)

@@ -23,11 +23,9 @@ struct datagram {
     uint32_t dropped;
 };
 
-/* Opens a socket and binds it; gives -1 and errno where that fails. */
-int datagrams_open(const struct address *listen);
-
-/* Raises the receive buffer; gives the number of octets that it has now. */
-size_t datagrams_buffer(int socket);
+/* Opens a socket with a raised receive buffer and binds it; buffer gets the octets that the system
+   gave. Gives -1 and errno where it fails. */
+int datagrams_open(const struct address *listen, size_t *buffer);
 
 /* Receives a datagram if there is one; gives its length, or -1. */
 ssize_t datagrams_receive(int socket, struct datagram *from, uint8_t *room, size_t size);

@@ -172,7 +172,7 @@ static void serve(struct service *service)
 static void say_start(struct service *service)
 {
     const struct options *options = service->unit.options;
-    size_t buffer = datagrams_buffer(service->unit.socket);
+    size_t buffer = service->unit.receive_buffer;
     char listen[ADDRESS_ROOM];
     char words[256];
 
@@ -209,30 +209,39 @@ static void say_end(struct service *service)
 /* The threads inherit the signals that are blocked. */
 static bool start_output(struct service *service)
 {
-    service->signals = open_signals();
-    int error = service->signals < 0 ? errno : output_start(&service->complaints, 2, NULL);
+    int error = output_start(&service->complaints, 2, NULL);
 
     if (error == 0)
         error = output_start(&service->out, 1, &service->complaints);
     if (error != 0)
-        fprintf(stderr, "pfcp_unit: no signals or no threads: %s\n", strerror(error));
+        fprintf(stderr, "pfcp_unit: no threads: %s\n", strerror(error));
     return error == 0;
 }
 
-/* Serves until a signal comes; gives the exit status. */
-static int run_service(struct service *service)
+/* Serves until a signal comes; gives the exit status. The port is bound last: whoever finds the unit
+   there finds the control socket too, and signals do what they should. */
+static int run_service(struct service *service, const struct options *options)
 {
-    if (!control_start(&service->control, service->unit.options->control))
+    service->signals = open_signals();
+    if (service->signals < 0) {
+        fprintf(stderr, "pfcp_unit: no signals: %s\n", strerror(errno));
+        return EXIT_FAILURE;
+    }
+    if (!control_start(&service->control, options->control))
         return 2;
-    if (start_output(service)) {
+    service->status = EXIT_FAILURE;
+    bool bound = unit_start(&service->unit, options);
+    bool started = bound && start_output(service);
+    if (started) {
+        service->status = EXIT_SUCCESS;
         say_start(service);
         serve(service);
-        say_end(service);
-    } else {
-        service->status = EXIT_FAILURE;
     }
     control_stop(&service->control);
-    return service->status;
+    unit_stop(&service->unit);
+    if (started)
+        say_end(service);
+    return bound ? service->status : 2;
 }
 
 static int end_of_text(void)
@@ -243,11 +252,20 @@ static int end_of_text(void)
     return EXIT_FAILURE;
 }
 
+/* Runs the demonstration; gives the exit status. */
+static int run_demonstration(struct unit *unit, const struct options *options)
+{
+    if (!unit_start(unit, options))
+        return 2;
+    int status = run_demo(unit);
+    unit_stop(unit);
+    return end_of_text() == EXIT_SUCCESS ? status : EXIT_FAILURE;
+}
+
 int main(int argc, char **argv)
 {
     static struct service service;
     struct options options;
-    int status;
 
     fill_standard_descriptors();
     if (!read_options(&options, argc, argv))
@@ -256,14 +274,7 @@ int main(int argc, char **argv)
         fputs(options.help ? usage : "pfcp_unit " PFCP_VERSION "\n", stdout);
         return end_of_text();
     }
-    if (!unit_start(&service.unit, &options))
-        return 2;
-    if (options.demo) {
-        status = run_demo(&service.unit);
-        status = end_of_text() == EXIT_SUCCESS ? status : EXIT_FAILURE;
-    } else {
-        status = run_service(&service);
-    }
-    unit_stop(&service.unit);
-    return status;
+    if (options.demo)
+        return run_demonstration(&service.unit, &options);
+    return run_service(&service, &options);
 }

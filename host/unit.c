@@ -25,7 +25,7 @@ bool unit_start(struct unit *unit, const struct options *options)
         fputs("pfcp_unit: these settings are refused\n", stderr);
         return false;
     }
-    unit->socket = datagrams_open(&options->listen);
+    unit->socket = datagrams_open(&options->listen, &unit->receive_buffer);
     if (unit->socket < 0) {
         fprintf(stderr, "pfcp_unit: cannot listen on %s port %u: %s\n", options->listen_text,
                 options->port, strerror(errno));

@@ -24,6 +24,7 @@ struct counters {
 
 struct unit {
     int socket;
+    size_t receive_buffer; /* octets that the system gave */
     const struct options *options;
     uint8_t table[PFCP_TABLE_LENGTH];
     uint32_t free_teids;
