@@ -30,45 +30,57 @@ struct question {
     bool json;
 };
 
-/* Gives 0, or the exit status of a program that is to end at once plus one. */
-static int read_question(struct question *question, int argc, char **argv)
+/* What the options ask for: a question to the unit, a text that was printed, or nothing good. */
+enum asked { ASKED_UNIT, ASKED_TEXT, ASKED_WRONG };
+
+/* Reads an option that has a value. */
+static bool read_option(struct question *question, const char *name, const char *value)
 {
     uint64_t seid;
 
-    for (int i = 1; i < argc; i++) {
-        bool path = strcmp(argv[i], "--control") == 0;
+    if (!value) {
+        fprintf(stderr, "pfcp-list: %s needs a value\n", name);
+        return false;
+    }
+    if (strcmp(name, "--control") == 0) {
+        question->path = value;
+        return true;
+    }
+    question->session = value;
+    if (read_number(value, 1, UINT64_MAX, &seid))
+        return true;
+    fprintf(stderr, "pfcp-list: --session %s: not a SEID from 1 to %" PRIu64 "\n", value,
+            UINT64_MAX);
+    return false;
+}
 
+static enum asked read_question(struct question *question, int argc, char **argv)
+{
+    for (int i = 1; i < argc; i++) {
         if (strcmp(argv[i], "--help") == 0) {
             fputs(usage, stdout);
-            return 1;
+            return ASKED_TEXT;
         }
         if (strcmp(argv[i], "--version") == 0) {
             puts("pfcp-list " PFCP_VERSION);
-            return 1;
+            return ASKED_TEXT;
         }
         if (strcmp(argv[i], "--json") == 0) {
             question->json = true;
-        } else if (!path && strcmp(argv[i], "--session") != 0) {
+        } else if (strcmp(argv[i], "--control") != 0 && strcmp(argv[i], "--session") != 0) {
             fprintf(stderr, "pfcp-list: unknown option %s (--help lists them)\n", argv[i]);
-            return 3;
-        } else if (i + 1 == argc) {
-            fprintf(stderr, "pfcp-list: %s needs a value\n", argv[i]);
-            return 3;
-        } else if (path) {
-            question->path = argv[++i];
-        } else if (read_number(argv[++i], 1, UINT64_MAX, &seid)) {
-            question->session = argv[i];
+            return ASKED_WRONG;
         } else {
-            fprintf(stderr, "pfcp-list: --session %s: not a SEID from 1 to %" PRIu64 "\n", argv[i],
-                    UINT64_MAX);
-            return 3;
+            if (!read_option(question, argv[i], argv[i + 1]))
+                return ASKED_WRONG;
+            i++;
         }
     }
     if (!question->path) {
         fputs("pfcp-list: --control PATH is needed (--help lists the options)\n", stderr);
-        return 3;
+        return ASKED_WRONG;
     }
-    return 0;
+    return ASKED_UNIT;
 }
 
 static bool complain(const struct question *question, const char *what)
@@ -162,10 +174,10 @@ static bool print_answer(const struct question *question, const char *answer)
 int main(int argc, char **argv)
 {
     struct question question = {.path = NULL};
-    int end = read_question(&question, argc, argv);
+    enum asked asked = read_question(&question, argc, argv);
 
-    if (end != 0)
-        return end - 1;
+    if (asked != ASKED_UNIT)
+        return asked == ASKED_TEXT ? EXIT_SUCCESS : 2;
     int unit = ask(&question);
     if (unit < 0)
         return EXIT_FAILURE;

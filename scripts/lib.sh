@@ -9,6 +9,8 @@ need() {
 }
 
 need_gcc() { need gcc 'the C tests need a C compiler (Debian: gcc, libc6-dev)'; }
+need_gxx() { need g++ 'a C++ program is built against the installed tree (Debian: g++)'; }
+need_pkg_config() { need pkg-config 'programs are built against the installed tree by it (Debian: pkg-config)'; }
 need_rt() { need rt 'the Rattle kit (compiler, prover and libraries) has to be installed; see README.md'; }
 need_cargo() { need cargo 'the Rust tests need Rust 1.88 or newer with cargo'; }
 need_valgrind() { need valgrind 'the memory checks need it (Debian: valgrind)'; }
