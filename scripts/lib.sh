@@ -92,8 +92,8 @@ find_archive() {
 strict=(-std=c11 -D_POSIX_C_SOURCE=200809L -Wall -Wextra -Werror -pedantic -Iinclude -Ihost)
 sanitizers=(-g -O1 -fsanitize=address,undefined -fno-sanitize-recover=all -fno-omit-frame-pointer)
 bench_sources=(-O2 -Ibench bench/workload.c bench/sides.c bench/measure.c host/message.c)
-unit_sources=(host/main.c host/options.c host/number.c host/address.c host/datagrams.c host/unit.c host/line.c host/sessions.c
-    host/listing.c host/control.c host/output.c host/text.c host/words.c host/message.c host/demo.c -pthread)
+unit_sources=(host/main.c host/options.c host/number.c host/service.c host/unit.c host/datagrams.c host/address.c host/line.c
+    host/sessions.c host/listing.c host/control.c host/output.c host/text.c host/words.c host/message.c host/demo.c -pthread)
 list_sources=(host/pfcp_list.c host/number.c)
 checked_by_valgrind=(valgrind -q --error-exitcode=9 --leak-check=full --errors-for-leak-kinds=all)
 
