@@ -1,5 +1,5 @@
 # The commands that README.md names.
-.PHONY: all lib install test check fmt run demo bench
+.PHONY: all lib install test check fmt run demo bench trust docs accident
 PREFIX = /usr/local
 DESTDIR =
 
@@ -38,3 +38,15 @@ demo:
 # make bench ARGS='--picture docs/benchmarks.svg' also writes the picture
 bench:
 	@scripts/bench $(ARGS)
+
+# which definitions have to be believed, from the sources
+trust:
+	@scripts/trust
+
+# docs/claims.md, and the table of docs/trust.md, from the sources
+docs:
+	@scripts/docs
+
+# the old program's two mistakes, made in a scratch copy and refused by the prover
+accident:
+	@scripts/accident

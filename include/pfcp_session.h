@@ -2,7 +2,7 @@
  * PFCP session requests (3GPP TS 29.244 Release 17) on a session table that the caller lends.
  *
  * The archive keeps nothing between calls: all that it knows is in the table's octets, whose layout
- * is in docs/layout.md. The rules for requests and replies are document 01; docs/ has the rest.
+ * is in docs/layout.md. The rules for requests and replies are in docs/rules.md.
  *
  * Which messages. A host looks at a message's type first (octet 1, from 0) and hands on the types 50,
  * 52 and 54. Heartbeats, associations and other messages of nodes have no SEID in their header, so
