@@ -12,7 +12,7 @@ use Rattle.octets.specs.Choice.{pick}
 use Rattle.octets.specs.Octets.{octets, part, number, numberAt}
 use Rattle.octets.specs.Lists.{distinct}
 use Rattle.octets.proofs.Tests.{of-true}
-use Rattle.rules.specs.Limits.{maxSessions, maxMessage, minSpace}
+use Rattle.rules.specs.Limits.{maxSessions, mapWords, maxMessage, minSpace}
 use Rattle.rules.specs.Model.{heldTeids, freeCount}
 use Rattle.rules.specs.Layout.{viewSettings, viewSessions, tableLength, headWidth, sessionWidth}
 use Rattle.rules.specs.Sound.{sound}
@@ -124,6 +124,6 @@ module _ (t msg out : List ℕ) where
                 long = a .long;
               }
 
-      pub counts : {size : ℕ} → length w ≡ 64 → size ≡ number (part 25 4 t) → Counted t w (size - held)
+      pub counts : {size : ℕ} → length w ≡ mapWords → size ≡ number (part 25 4 t) → Counted t w (size - held)
       unfolding freeCount viewSettings numberAt
       counts l z = record { marks = x .words held e; long = l; count = ap₂ (λ (a b : ℕ). a - b) z is-held }

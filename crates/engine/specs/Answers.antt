@@ -8,7 +8,7 @@ use lib.Dec.{T, eqb}
 use lib.ListN.{length}
 use Rattle.octets.specs.Choice.{pick}
 use Rattle.octets.specs.Octets.{octets, put}
-use Rattle.rules.specs.Limits.{maxSessions, maxPool, maxMessage, minSpace}
+use Rattle.rules.specs.Limits.{maxSessions, maxPool, mapWords, maxMessage, minSpace}
 use Rattle.rules.specs.Layout.{sessionOctets, encode, viewSettings, viewSessions}
 use Rattle.rules.specs.Sound.{sound, takenMap}
 use Rattle.rules.specs.Message.{kindOf, headerAllowed, served, readRequest}
@@ -63,5 +63,5 @@ pub record Accepting (t words msg slot plan out : List ℕ) (seid n : ℕ) : Typ
   pub entry : slot ≡ sessionOctets (entrySession (viewSessions t) msg)
   pub slotLong : length slot ≡ 483
   pub marks : words ≡ takenMap (viewSettings t) (viewSessions t)
-  pub mapLong : length words ≡ 64
+  pub mapLong : length words ≡ mapWords
   pub size : viewSettings t .size ≤ maxPool

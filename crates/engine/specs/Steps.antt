@@ -8,7 +8,7 @@ use lib.Dec.{T, eqb}
 use lib.ListN.{length}
 use Rattle.octets.specs.Choice.{pick}
 use Rattle.octets.specs.Octets.{be, part, put, zeros}
-use Rattle.rules.specs.Limits.{maxSessions}
+use Rattle.rules.specs.Limits.{maxSessions, mapWords}
 use Rattle.rules.specs.Model.{freeCount}
 use Rattle.rules.specs.Layout.{sessionOctets, viewSession, viewSettings, viewSessions}
 use Rattle.rules.specs.Sound.{sound, takenMap}
@@ -25,7 +25,7 @@ use Rattle.engine.specs.Answers.{Asked, Live, verdictOn}
 -- the map of taken TEIDs and the free count are the table's
 pub record Counted (t words : List ℕ) (free : ℕ) : Type 0 where
   pub marks : words ≡ takenMap (viewSettings t) (viewSessions t)
-  pub long : length words ≡ 64
+  pub long : length words ≡ mapWords
   pub count : free ≡ freeCount (viewSettings t) (viewSessions t)
 
 -- what fetching the session at entry asks: a place in the table, unless the session is new

@@ -8,7 +8,7 @@ use mathlib.Core.List.{List}
 use lib.Dec.{T, leb→le}
 use Rattle.octets.specs.Choice.{pick}
 use Rattle.octets.proofs.Tests.{each}
-use Rattle.rules.specs.Limits.{maxSessions}
+use Rattle.rules.specs.Limits.{maxSessions, maxPool}
 use Rattle.rules.specs.Model.{Settings, freeCount}
 use Rattle.rules.specs.Layout.{headWidth, sessionWidth, tableLength, viewSettings, viewSessions}
 use Rattle.rules.specs.Sound.{poolTests, settingsTests, settingsAllowed, soundTests, sound, make, Count, broken, free, countFree}
@@ -30,17 +30,17 @@ module _ (s : Settings) (t t′ : List ℕ) (r : Making) (e : madeOf r t′ ≡ 
   call-refused z = ap makeAnswer (ap (λ (x : Making). madeOf x t′) (sym z) ∙ e)
 
 -- a free count is at most the largest pool
-few-with : (b : Bool) (t : List ℕ) (n : ℕ) → (T b → freeCount (viewSettings t) (viewSessions t) ≤ 4096) → pick b (free (freeCount (viewSettings t) (viewSessions t))) broken ≡ free n → n ≤ 4096
+few-with : (b : Bool) (t : List ℕ) (n : ℕ) → (T b → freeCount (viewSettings t) (viewSessions t) ≤ maxPool) → pick b (free (freeCount (viewSettings t) (viewSessions t))) broken ≡ free n → n ≤ maxPool
 few-with true t n h e = let same : freeCount (viewSettings t) (viewSessions t) ≡ n = cc in let f = h tt in omega arith
 few-with false t n h e = absurd (let z : _≡_ {A = ℕ} 0 1 = cc in omega arith)
 
-few-free : (t : List ℕ) → T (sound maxSessions t) → freeCount (viewSettings t) (viewSessions t) ≤ 4096
+few-free : (t : List ℕ) → T (sound maxSessions t) → freeCount (viewSettings t) (viewSessions t) ≤ maxPool
 unfolding sound soundTests settingsAllowed settingsTests poolTests freeCount
 few-free t h =
     let s = viewSettings t in
     let f = each (soundTests maxSessions t s (viewSessions t)) h in
     let p = each (poolTests (s .first) (s .size)) (each (settingsTests s) (f .1 .0) .1 .1 .1 .1 .0) in
-    let few = leb→le (s .size) 4096 (p .1 .1 .0) in
+    let few = leb→le (s .size) maxPool (p .1 .1 .0) in
     omega arith
 
 module _ (t : List ℕ) (r : code.Count) (e : countOf r ≡ countFree maxSessions t) where
@@ -52,7 +52,7 @@ module _ (t : List ℕ) (r : code.Count) (e : countOf r ≡ countFree maxSession
   unfolding countCall
   call-free n z = ap countAnswer (ap countOf (sym z) ∙ e)
 
-  pub call-few : (n : ℕ) → r ≡ Free n → n ≤ 4096
+  pub call-few : (n : ℕ) → r ≡ Free n → n ≤ maxPool
   unfolding countFree
   call-few n z = few-with (sound maxSessions t) t n (few-free t) (sym e ∙ ap countOf z)
 

@@ -15,12 +15,12 @@ use Rattle.octets.specs.Choice.{pick, flag, headOr, rest}
 use Rattle.octets.specs.Octets.{bit}
 use Rattle.octets.specs.Lists.{member, distinct, range, without, keep, all}
 use Rattle.octets.proofs.Tests.{and-left, and-right, all-head, all-tail, each}
-use Rattle.rules.specs.Limits.{mapWords}
+use Rattle.rules.specs.Limits.{maxPool, mapWords}
 use Rattle.rules.specs.Model.{Settings, Sessions, heldTeids, freeTeids}
 use Rattle.rules.specs.Sound.{poolTests, settingsTests, settingsAllowed, inPool, taken, takenBits, takenWords, takenMap}
 use Rattle.pool.specs.declared.Lowest.the-variants.{At, Full}
 use Rattle.pool.specs.Answer.{lowest}
-use Rattle.pool.specs.Map.{mapSize, marked, mark, marks, newMarks, freeFrom, offsets, teidsFrom}
+use Rattle.pool.specs.Map.{marked, mark, marks, newMarks, freeFrom, offsets, teidsFrom}
 use Rattle.pool.proofs.Bits.{bit-low, bit-suc}
 use Rattle.pool.proofs.Marks.{allWords, marked-mark, marked-zeros, length-mark, length-marks, words-map}
 use Rattle.pool.proofs.Free.{lowest-at, lowest-full}
@@ -82,9 +82,10 @@ module _ (s : Settings) where
   pub pool-offset : (n t : ℕ) → s .size ≤ 64 * n → T (inPool s t) → t - s .first < 64 * n
   pool-offset n t f h = omega (arith, pool-from t h, pool-below t h)
 
-  pub pool-fits : T (settingsAllowed s) → s .size ≤ mapSize
+  -- 01's map has a bit for each offset of a pool that is allowed
+  pub pool-fits : T (settingsAllowed s) → s .size ≤ 64 * mapWords
   unfolding settingsAllowed settingsTests poolTests
-  pool-fits h = leb→le (s .size) mapSize (each (poolTests (s .first) (s .size)) (each (settingsTests s) h .1 .1 .1 .1 .0) .1 .1 .0)
+  pool-fits h = let few = leb→le (s .size) maxPool (each (poolTests (s .first) (s .size)) (each (settingsTests s) h .1 .1 .1 .1 .0) .1 .1 .0) in omega arith
 
   pub means-marks : (ws seen ts : List ℕ) → Means (s .first) ws seen → s .size ≤ 64 * length ws → T (all (inPool s) ts) → Means (s .first) (marks ws (offsets (s .first) ts)) (ts ++ seen)
   unfolding marks offsets
@@ -101,42 +102,52 @@ module _ (s : Settings) where
       means-marks (replicate n 0) [] ts (means-empty (s .first) n) (rw length-replicate f) h i
       ∙ ap (λ (l : List ℕ). member (s .first + i) l) (append-nil ts)
 
-  -- ---- 01's map
+  -- ---- the words that a list of numbers makes
 
-  module _ (m : Sessions) where
-    word-is : (n w i : ℕ) → w < 2 ^ n → ((j : ℕ) → j < n → bit j w ≡ taken s m (i + j)) → w ≡ takenBits s m n i
+  module _ (held : List ℕ) where
+    word-is : (n w i : ℕ) → w < 2 ^ n → ((j : ℕ) → j < n → bit j w ≡ taken (s .first) held (i + j)) → w ≡ takenBits (s .first) held n i
     unfolding takenBits
     word-is zero w i l h = omega arith
     word-is (suc n) w i l h =
         let l′ = rw (pow-suc 2 n) at l in
         let half : w / 2 < 2 ^ n = omega arith in
-        let low : flag (taken s m i) ≡ w % 2 = ap (λ (k : ℕ). flag (taken s m k)) (sym (add-zero i)) ∙ ap flag (sym (h 0 (omega arith))) ∙ bit-low w in
-        let ih = word-is n (w / 2) (i + 1) half (λ j lj. sym (bit-suc w j) ∙ h (suc j) (omega arith) ∙ ap (taken s m) (omega arith)) in
+        let low : flag (taken (s .first) held i) ≡ w % 2 = ap (λ (k : ℕ). flag (taken (s .first) held k)) (sym (add-zero i)) ∙ ap flag (sym (h 0 (omega arith))) ∙ bit-low w in
+        let ih = word-is n (w / 2) (i + 1) half (λ j lj. sym (bit-suc w j) ∙ h (suc j) (omega arith) ∙ ap (taken (s .first) held) (omega arith)) in
         omega arith
 
-    words-are : (ws : List ℕ) (i : ℕ) → T (allWords ws) → ((k : ℕ) → k < 64 * length ws → marked ws k ≡ taken s m (i + k)) → ws ≡ takenWords s m (length ws) i
+    words-are : (ws : List ℕ) (i : ℕ) → T (allWords ws) → ((k : ℕ) → k < 64 * length ws → marked ws k ≡ taken (s .first) held (i + k)) → ws ≡ takenWords (s .first) held (length ws) i
     unfolding takenWords
     words-are [] i h g = refl
     words-are (w ∷ ws) i h g =
-        let first : w ≡ takenBits s m 64 i =
+        let first : w ≡ takenBits (s .first) held 64 i =
         word-is 64 w i (ltb→lt w (2 ^ 64) (all-head (λ x. ltb x (2 ^ 64)) w ws h)) (λ j l. first-word w ws j l ∙ g j (omega arith)) in
-        let others : ws ≡ takenWords s m (length ws) (i + 64) =
-        words-are ws (i + 64) (all-tail (λ x. ltb x (2 ^ 64)) w ws h) (λ k l. later-word w ws k ∙ g (64 + k) (omega arith) ∙ ap (taken s m) (omega arith)) in
+        let others : ws ≡ takenWords (s .first) held (length ws) (i + 64) =
+        words-are ws (i + 64) (all-tail (λ x. ltb x (2 ^ 64)) w ws h) (λ k l. later-word w ws k ∙ g (64 + k) (omega arith) ∙ ap (taken (s .first) held) (omega arith)) in
         λ j. first j ∷ others j
 
-    -- marking every held TEID in an empty map makes 01's map
-    pub map-is : T (settingsAllowed s) → T (all (inPool s) (heldTeids m)) → marks (replicate mapWords 0) (offsets (s .first) (heldTeids m)) ≡ takenMap s m
-    unfolding takenMap taken
-    map-is a h =
-        let ws = marks (replicate mapWords 0) (offsets (s .first) (heldTeids m)) in
-        let n : length ws ≡ mapWords = length-marks (replicate mapWords 0) (offsets (s .first) (heldTeids m)) ∙ length-replicate {A = ℕ} mapWords 0 in
-        words-are ws 0 (words-map mapWords (offsets (s .first) (heldTeids m)))
-        (λ k l. means-map mapWords (heldTeids m) (pool-fits a) h k ∙ ap (λ (x : ℕ). member (s .first + x) (heldTeids m)) (omega arith))
-        ∙ ap (λ (k : ℕ). takenWords s m k 0) n
+    -- marking every held number in an empty map of n words, which has a bit for each of the pool, makes their words
+    pub words-is : (n : ℕ) → s .size ≤ 64 * n → T (all (inPool s) held) → marks (replicate n 0) (offsets (s .first) held) ≡ takenWords (s .first) held n 0
+    unfolding taken
+    words-is n f h =
+        let ws = marks (replicate n 0) (offsets (s .first) held) in
+        let long : length ws ≡ n = length-marks (replicate n 0) (offsets (s .first) held) ∙ length-replicate {A = ℕ} n 0 in
+        words-are ws 0 (words-map n (offsets (s .first) held))
+        (λ k l. means-map n held f h k ∙ ap (λ (x : ℕ). member (s .first + x) held) (omega arith))
+        ∙ ap (λ (k : ℕ). takenWords (s .first) held k 0) long
 
-    -- so 01's map means the TEIDs held
+    -- so these words mean the numbers held
+    pub words-mean : (n : ℕ) → s .size ≤ 64 * n → T (all (inPool s) held) → Means (s .first) (takenWords (s .first) held n 0) held
+    words-mean n f h i = ap (λ (ws : List ℕ). marked ws i) (sym (words-is n f h)) ∙ means-map n held f h i
+
+  -- 01's map: mapWords words of the TEIDs held
+  module _ (m : Sessions) where
+    pub map-is : T (settingsAllowed s) → T (all (inPool s) (heldTeids m)) → marks (replicate mapWords 0) (offsets (s .first) (heldTeids m)) ≡ takenMap s m
+    unfolding takenMap
+    map-is a h = words-is (heldTeids m) mapWords (pool-fits a) h
+
     pub map-means : T (settingsAllowed s) → T (all (inPool s) (heldTeids m)) → Means (s .first) (takenMap s m) (heldTeids m)
-    map-means a h i = ap (λ (ws : List ℕ). marked ws i) (sym (map-is a h)) ∙ means-map mapWords (heldTeids m) (pool-fits a) h i
+    unfolding takenMap
+    map-means a h = words-mean (heldTeids m) mapWords (pool-fits a) h
 
 -- ---- free TEIDs
 

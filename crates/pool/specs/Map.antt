@@ -1,18 +1,13 @@
--- The map of taken TEIDs as words of 64 bits, a bit for each offset in the pool (a TEID less the pool's first TEID).
+-- A map of taken TEIDs as any number of words of 64 bits, a bit for each offset in the pool (a TEID less the pool's first TEID).
 -- Assumes nothing.
 use mathlib.Core.Bool.{Bool, not}
 use mathlib.Core.List.{List, [], _∷_, map}
-use Prim.Native.Nat.{ℕ, _+_, _-_, _*_, _/_, _%_, _^_}
+use Prim.Native.Nat.{ℕ, _+_, _-_, _/_, _%_, _^_}
 use lib.Bits.{bitOr}
 use lib.ListN.{getD, set}
 use Rattle.octets.specs.Choice.{flag}
 use Rattle.octets.specs.Octets.{bit}
 use Rattle.octets.specs.Lists.{keep, range}
-use Rattle.rules.specs.Limits.{mapWords}
-
--- offsets that the map has bits for
-abbrev pub mapSize : ℕ
-mapSize = 64 * mapWords
 
 -- an offset is marked: its bit in its word is 1
 unfoldable pub marked : List ℕ → ℕ → Bool

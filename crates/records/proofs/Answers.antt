@@ -15,6 +15,7 @@ use Rattle.octets.specs.Lists.{member}
 use Rattle.octets.proofs.Ordered.{orders}
 use Rattle.octets.proofs.Tests.{and-left, and-right, is-true, of-true}
 use Rattle.octets.proofs.Digits.{drop-octets}
+use Rattle.rules.specs.Limits.{maxPool}
 use Rattle.rules.specs.Model.{Settings}
 use Rattle.rules.specs.Layout.{viewEndpoint, endpointWidth}
 use native.Mathlib.Nat.{add-zero, zero-add, zero-mul, mul-pos, pow-suc}
@@ -136,13 +137,13 @@ module _ (first size : ℕ) where
   unfolding poolTests
   pool-empty h = sym (rw (lt-leb 1 size h) (and-false (leb 1 first)))
 
-  pub pool-large : 1 ≤ first → 1 ≤ size → 4096 < size → false ≡ allOf (poolTests first size)
+  pub pool-large : 1 ≤ first → 1 ≤ size → maxPool < size → false ≡ allOf (poolTests first size)
   unfolding poolTests
-  pool-large f e h = sym (rw (le-leb 1 first f, le-leb 1 size e, lt-leb size 4096 h))
+  pool-large f e h = sym (rw (le-leb 1 first f, le-leb 1 size e, lt-leb size maxPool h))
 
-  pub pool-last : 1 ≤ first → 1 ≤ size → size ≤ 4096 → leb (first + size) 4294967296 ≡ allOf (poolTests first size)
+  pub pool-last : 1 ≤ first → 1 ≤ size → size ≤ maxPool → leb (first + size) 4294967296 ≡ allOf (poolTests first size)
   unfolding poolTests
-  pool-last f e h = sym (rw (le-leb 1 first f, le-leb 1 size e, le-leb size 4096 h) (and-true (leb (first + size) 4294967296)))
+  pool-last f e h = sym (rw (le-leb 1 first f, le-leb 1 size e, le-leb size maxPool h) (and-true (leb (first + size) 4294967296)))
 
 module _ (at n : ℕ) (xs : List ℕ) where
   pub optional-absent : (z : Bool) → getD xs at 0 ≡ 0 → z ≡ allZero (part (at + 1) n xs) → z ≡ optionalSound at n xs

@@ -148,23 +148,23 @@ countFree limit t = pick (sound limit t) (free (freeCount (viewSettings t) (view
 
 -- ---- the map of taken TEIDs
 
--- is the TEID at an offset from the first one held
-unfoldable pub taken : Settings → Sessions → ℕ → Bool
-taken s m i = member (s .first + i) (heldTeids m)
+-- is the number at an offset from the first one among those held
+unfoldable pub taken : ℕ → List ℕ → ℕ → Bool
+taken first held i = member (first + i) held
 
 -- the bits from offset i on, n of them, the lowest first, as a number
-unfoldable pub takenBits : Settings → Sessions → ℕ → ℕ → ℕ
-takenBits s m zero i = 0
-takenBits s m (suc n) i = flag (taken s m i) + 2 * takenBits s m n (i + 1)
+unfoldable pub takenBits : ℕ → List ℕ → ℕ → ℕ → ℕ
+takenBits first held zero i = 0
+takenBits first held (suc n) i = flag (taken first held i) + 2 * takenBits first held n (i + 1)
 
 -- n words of 64 bits, the first for the offsets from i on
-unfoldable pub takenWords : Settings → Sessions → ℕ → ℕ → List ℕ
-takenWords s m zero i = []
-takenWords s m (suc n) i = takenBits s m 64 i ∷ takenWords s m n (i + 64)
+unfoldable pub takenWords : ℕ → List ℕ → ℕ → ℕ → List ℕ
+takenWords first held zero i = []
+takenWords first held (suc n) i = takenBits first held 64 i ∷ takenWords first held n (i + 64)
 
 -- 01's map: words of 64 bits, the lowest bit of the first for the first TEID of the pool; bits past the pool are 0
 unfoldable pub takenMap : Settings → Sessions → List ℕ
-takenMap s m = takenWords s m mapWords 0
+takenMap s m = takenWords (s .first) (heldTeids m) mapWords 0
 
 unfoldable pub computing : ℕ
 unfolding poolTests ipv6Allowed settingsTests settingsAllowed inPool unitFamilies tunnelTests tunnelAllowed placeAllowed farAllowed pdrTests pdrAllowed endpointTests endpointAllowed csidTests csidAllowed sessionTests shareTests agree sessionAllowed apart sessionsTests sessionsAllowed soundTests sound make countFree taken takenBits takenWords takenMap

@@ -50,7 +50,7 @@ slot-new slot seid long e = slot-of slot (newSession seid) long e (omega arith) 
 
 -- ---- the map
 
--- a map of 64 words has a bit for each TEID of the pool
+-- the map has a bit for each TEID of the pool
 pub pool-wide : (s : Settings) (words : List ℕ) → T (settingsAllowed s) → length words ≡ mapWords → s .size ≤ 64 * length words
 unfolding settingsAllowed settingsTests poolTests
 pool-wide s words h e =

@@ -13,7 +13,7 @@ use Rattle.octets.specs.Choice.{pick}
 use Rattle.octets.specs.Octets.{part, number, numberAt, octetAt, slices, allZero, octets}
 use Rattle.octets.specs.Lists.{all, ascending, distinct}
 use Rattle.octets.proofs.Tests.{each, of-true, all-head, all-tail, all-cons}
-use Rattle.rules.specs.Limits.{maxSessions, mapWords}
+use Rattle.rules.specs.Limits.{maxSessions, maxPool, mapWords}
 use Rattle.rules.specs.Model.{Settings, Session, heldTeids, freeCount}
 use Rattle.rules.specs.Layout.{headWidth, sessionWidth, tableLength, viewSettings, viewSessions}
 use Rattle.rules.specs.Sound.{poolTests, settingsTests, settingsAllowed, inPool, soundTests, sound, takenMap, free, countFree}
@@ -66,7 +66,7 @@ pub record Front (t : List ℕ) : Type 0 where
   pub settings : T (settingsAllowed (viewSettings t))
   pub few : number (part 29 2 t) ≤ 64
   pub pool : number (part 21 4 t) + number (part 25 4 t) ≤ 2 ^ 32
-  pub size : number (part 25 4 t) ≤ 4096
+  pub size : number (part 25 4 t) ≤ maxPool
 
 pub front-facts : (t : List ℕ) → T (octets t) → (f : Bool) → f ≡ frontSound t → not f ≡ false → Front t
 unfolding frontSound frontTests settingsAllowed settingsTests poolTests viewSettings numberAt
@@ -80,7 +80,7 @@ front-facts t o f q h =
       settings = hs;
       few = leb→le (number (part 29 2 t)) 64 (e .1 .1 .0);
       pool = leb→le (number (part 21 4 t) + number (part 25 4 t)) (2 ^ 32) (pool .1 .1 .1 .0);
-      size = leb→le (number (part 25 4 t)) 4096 (pool .1 .1 .0);
+      size = leb→le (number (part 25 4 t)) maxPool (pool .1 .1 .0);
     }
 
 -- ---- examining

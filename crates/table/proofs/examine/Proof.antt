@@ -7,6 +7,7 @@ use lib.Dec.{T}
 use Rattle.octets.specs.Octets.{part, octets}
 use Rattle.octets.proofs.Digits.{octets-known}
 use Rattle.octets.proofs.Put.{length-part}
+use Rattle.rules.specs.Limits.{mapWords}
 use Rattle.table.proofs.Examining.{front-facts, examined-broken, examined-walk}
 use borrow.Author.Needs.{needs}
 use Rattle.table.proofs.examine.Statement.{statement}
@@ -77,7 +78,7 @@ admit-all-requires c κs =
     let n = c .before .before .before .read3 .ensures .0 in
     let first = c .before .before .before .before .before .read .ensures .0 in
     let size = c .before .before .before .before .read2 .ensures .0 in
-    let words : length (c .before .before .before .before .before .before .before .before .before .before .args .words .now) ≡ 64 = ap length (c .before .before .before .before .before .before .before .before .before .before .pre) in
+    let words : length (c .before .before .before .before .before .before .before .before .before .before .args .words .now) ≡ mapWords = ap length (c .before .before .before .before .before .before .before .before .before .before .pre) in
     let room : length (part 31 30912 t) ≡ 30912 = length-part 31 30912 t (omega (arith, known .long)) in
     (omega (arith, n, known .few, room), omega (arith, n, known .few), omega (arith, first, size, known .pool), omega (arith, size, known .size, words))
 
