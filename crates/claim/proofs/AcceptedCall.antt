@@ -14,14 +14,15 @@ use Rattle.rules.specs.Model.{Settings, Session, Sessions, teidOf, sessionTeids
 use Rattle.rules.specs.Layout.{encode, viewSettings, viewSessions}
 use Rattle.laws.proofs.TableLaws.{sessions-back, encoded-settings}
 use Rattle.rules.specs.Sound.{sessionsAllowed, inPool}
-use Rattle.rules.specs.Message.{kindOf, readRequest, Request}
+use Rattle.rules.specs.Message.{kindOf}
+use Rattle.rules.specs.Reading.{readRequest, Request}
 use Rattle.rules.specs.Grants.{Kind, ofPdr, grants, grantedTeid}
 use Rattle.rules.specs.Stages.{sameChoice, verdict, entrySession}
 use Rattle.rules.specs.Serve.{Served, sessionsAfter, replyTo, answered, answer, serve}
 use Rattle.rules.specs.Live.{replied, accepted, replyCause, createdTeid}
 use Rattle.claim.proofs.VerdictLaws.{Passed, passed, few-new-pdrs, few-new-endpoints}
 use Rattle.claim.proofs.GrantLaws.{enough}
-use Rattle.laws.proofs.BoundLaws.{grants-fit, grants-few}
+use Rattle.laws.proofs.GrantLaws.{grants-fit, grants-few}
 use Rattle.claim.proofs.GrantReply.{accepted-teids}
 use Rattle.claim.proofs.Steps.{header-long}
 use Rattle.claim.proofs.Accepting.{SoundAfter}

@@ -8,13 +8,14 @@ use Rattle.octets.specs.Octets.{octets}
 use Rattle.rules.specs.Model.{Settings, Sessions}
 use Rattle.rules.specs.Limits.{maxSessions}
 use Rattle.rules.specs.Sound.{settingsAllowed, sessionsAllowed}
-use Rattle.rules.specs.Message.{kindOf, headerSeid, served, readRequest}
+use Rattle.rules.specs.Message.{kindOf, headerSeid, served}
+use Rattle.rules.specs.Reading.{readRequest}
 use Rattle.rules.specs.Grants.{Kind, grants}
 use Rattle.rules.specs.Stages.{verdict}
 use Rattle.rules.specs.Apply.{follow}
 use Rattle.rules.specs.Serve.{sessionsAfter, replyTo}
 use Rattle.claim.proofs.VerdictLaws.{Passed, passed, few-new-pdrs, few-new-endpoints}
-use Rattle.laws.proofs.BoundLaws.{grants-fit, grants-few}
+use Rattle.laws.proofs.GrantLaws.{grants-fit, grants-few}
 use Rattle.claim.proofs.GrantReply.{accepted-cause, accepted-teids}
 use Rattle.claim.proofs.Steps.{AcceptedKeeps, keeps, header-long}
 use Rattle.claim.proofs.Runs.{claim}

@@ -17,7 +17,8 @@ use Rattle.octets.proofs.Ordered.{otherKey, keep-all, keep-pairs, keep-length, 
 use Rattle.rules.specs.Model.{Settings, Session, Sessions, seidOf}
 use Rattle.rules.specs.Limits.{maxSessions}
 use Rattle.rules.specs.Sound.{settingsAllowed, sessionAllowed, apart, sessionsTests, sessionsAllowed}
-use Rattle.rules.specs.Message.{kindOf, headerSeid, served, readRequest}
+use Rattle.rules.specs.Message.{kindOf, headerSeid, served}
+use Rattle.rules.specs.Reading.{readRequest}
 use Rattle.rules.specs.Grants.{grants, grantedTeid}
 use Rattle.rules.specs.Stages.{hasSeid, sessionOf, isLive, newSession, atEntry, entrySession, unknownSession, tooManySessions}
 use Rattle.rules.specs.Apply.{apply, otherSession, removeSession, putSession, follow}

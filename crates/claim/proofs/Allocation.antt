@@ -19,7 +19,7 @@ use Rattle.octets.proofs.MemberLaws.{member-passes, member-first, member-behind
 use Rattle.rules.specs.Model.{Settings, Sessions, heldTeids, freeTeids}
 use Rattle.rules.specs.Elements.{Fteid, given, choose, chooseId}
 use Rattle.rules.specs.Sound.{inPool}
-use Rattle.rules.specs.Message.{NewPdr, Request}
+use Rattle.rules.specs.Reading.{NewPdr, Request}
 use Rattle.rules.specs.Grants.{Kind, ofPdr, Choice, Chosen, choiceOf, endpointChoice, pdrChoice, choices, chosen, isChoice, chosenTeid, remember, teidFor, freeAfter, chosenAfter, grants, grantedTeid, isFresh, noted, needFrom, need}
 use Rattle.rules.specs.Stages.{sameChoice}
 use Rattle.claim.proofs.GrantLaws.{Matches, matches-new, matches-old}

@@ -14,7 +14,8 @@ use Rattle.octets.proofs.ListLaws.{not-not, all-every, all-always, found-passes
 use Rattle.rules.specs.Model.{Settings, Session, Sessions, sessionHoldings, sessionTeids, heldTeids, freeTeids}
 use Rattle.rules.specs.Limits.{maxSessions}
 use Rattle.rules.specs.Sound.{sessionAllowed, sessionsAllowed, apart}
-use Rattle.rules.specs.Message.{kindOf, headerSeid, readFault, readRequest, Request}
+use Rattle.rules.specs.Message.{kindOf, headerSeid}
+use Rattle.rules.specs.Reading.{readFault, readRequest, Request}
 use Rattle.rules.specs.Grants.{Kind, grants, grantedTeid, need}
 use Rattle.rules.specs.Stages.{hasSeid, sessionOf, isLive, newSession, atEntry, entrySession, unknownSession, invalidAllocation}
 use Rattle.rules.specs.Apply.{apply, otherSession, removeSession}
@@ -22,10 +23,10 @@ use Rattle.claim.proofs.RestoreAll.{apart-turn}
 use Rattle.claim.proofs.VerdictLaws.{Passed}
 use Rattle.claim.proofs.GrantLaws.{enough}
 use Rattle.laws.proofs.ReadLaws.{SeidRead}
-use Rattle.laws.proofs.RequestLaws.{pdrs-read, endpoints-read, changes-read, csids-read, seid-read}
+use Rattle.laws.proofs.RequestLaws.{RequestRead, request-read, seid-read}
 use Rattle.claim.proofs.KeptRules.{SessionKept, session-kept, session-allowed, sessions-kept, RulesKept, rules-kept, RoomLeft, room-left}
 use Rattle.claim.proofs.ChangedCsids.{CsidsKept, csids-kept, csids-few}
-use Rattle.claim.proofs.ChangedRecords.{RequestRead, endpoints-few, endpoints-order, endpoints-allowed, pdrs-few, pdrs-order, pdrs-allowed}
+use Rattle.claim.proofs.ChangedRecords.{endpoints-few, endpoints-order, endpoints-allowed, pdrs-few, pdrs-order, pdrs-allowed}
 use Rattle.claim.proofs.ChangedHolds.{all-held, changed-agree, changed-apart}
 use Rattle.claim.proofs.After.{changed, ChangedSound, demand3-from-changed}
 use Rattle.rules.specs.Claim.{Demand3}
@@ -102,10 +103,6 @@ entry-sound limit s m msg hm ho p = entry-known limit s m msg hm ho (p .known) (
 
 -- ---- the session afterwards
 
--- the request's records
-pub request-read : (msg : List ℕ) → T (octets msg) → RequestRead (readRequest msg)
-request-read msg h = record { pdrs = pdrs-read msg h; endpoints = endpoints-read msg h; changes = changes-read msg h; csids = csids-read msg h }
-
 module _ (limit kind : ℕ) (s : Settings) (m : Sessions) (x : Session) (r : Request) (entry : Entry s m x) (rules : RulesKept s m x r) (room : RoomLeft limit kind s m x r) (read : RequestRead r)
     (enough′ : need r ≤ length (freeTeids s m)) (ok : T (not (invalidAllocation r))) where
   -- what is looked up among the grants
@@ -115,7 +112,7 @@ module _ (limit kind : ℕ) (s : Settings) (m : Sessions) (x : Session) (r : Req
   -- its FQ-CSIDs
   csids-after : CsidsKept (apply teids r x .csids)
   unfolding apply
-  csids-after = csids-kept (r .clears) (r .csids) (x .csids) (read .csids) (record { order = entry .kept .csidOrder; each = entry .kept .csids })
+  csids-after = csids-kept (r .csids) (x .csids) (read .csids) (record { order = entry .kept .csidOrder; each = entry .kept .csids })
 
   -- it keeps every rule
   pub applied-kept : SessionKept s (apply teids r x)

@@ -2,14 +2,12 @@
 -- Assumes nothing.
 use mathlib.Core.Path.{sym, subst}
 use native.Mathlib.Nat.{le-trans, le-of-eq}
-use mathlib.Core.Bool.{Bool}
 use mathlib.Core.List.{List, [], _∷_, map}
 use lib.ListN.{length, length-map}
 use lib.Dec.{T, leb, ltb}
 use mir.Facts.{yes-leb}
-use Rattle.octets.specs.Choice.{pick, headOr}
+use Rattle.octets.specs.Choice.{headOr}
 use Rattle.octets.specs.Lists.{ascending, all, keep}
-use Rattle.octets.proofs.Tests.{pick-either}
 use Rattle.octets.proofs.Ordered.{otherKey, insert-all, insert-ascending, keep-all, keep-passes, keep-ascending}
 use Rattle.octets.proofs.ListLaws.{Every, all-imply, all-map}
 use Rattle.octets.proofs.MemberLaws.{differ-turn}
@@ -18,8 +16,10 @@ use Rattle.rules.specs.Model.{Csid, nodeTypeOf}
 use Rattle.rules.specs.Limits.{nodeTypes}
 use Rattle.rules.specs.Elements.{Fqcsid, sets, removal, nodeTypeKept}
 use Rattle.rules.specs.Sound.{csidAllowed}
+use Rattle.rules.specs.Reading.{CsidChanges, cleared, changed}
 use Rattle.rules.specs.Apply.{otherNode, setCsid, setCsids, followCsids}
 use Rattle.laws.proofs.ReadLaws.{CsidRead}
+use Rattle.laws.proofs.RequestLaws.{CsidsRead}
 use Rattle.claim.proofs.KeptRules.{csid-kept, csid-allowed}
 
 -- FQ-CSIDs in order and by their rules
@@ -51,10 +51,10 @@ all-kept [] ds h k = k
 all-kept (c ∷ cs) ds h k = all-kept cs (setCsid c ds) (h .1) (one-kept c ds (h .0) k)
 
 -- what a request's FQ-CSIDs leave
-pub csids-kept : (clears : Bool) (cs : List Fqcsid) (ds : List Csid) → Every CsidRead cs → CsidsKept ds → CsidsKept (followCsids clears cs ds)
+pub csids-kept : (c : CsidChanges) (ds : List Csid) → CsidsRead c → CsidsKept ds → CsidsKept (followCsids c ds)
 unfolding followCsids
-csids-kept clears cs ds h k =
-    all-kept cs (pick clears [] ds) h (pick-either (λ (l : List Csid). CsidsKept l) clears [] ds (record { order = unfold ascending in tt; each = unfold all in tt }) k)
+csids-kept cleared ds h k = record { order = unfold ascending in tt; each = unfold all in tt }
+csids-kept (changed cs) ds h k = all-kept cs ds h k
 
 -- there are at most as many as node types
 pub csids-few : (ds : List Csid) → CsidsKept ds → T (leb (length ds) nodeTypes)

@@ -18,14 +18,15 @@ use Rattle.claim.proofs.InsertLaws.{map-perm, collect-perm}
 use Rattle.claim.proofs.RecordsAfter.{after, after-perm, append-perm, swap-inner}
 use Rattle.rules.specs.Model.{Settings, Session, Sessions, Holding, teidOf, pdrId, endpointId, pdrHolding, endpointHolding, tunnelHolding, sessionHoldings, sessionTeids, heldTeids, freeTeids}
 use Rattle.rules.specs.Sound.{shareTests, agree, apart}
-use Rattle.rules.specs.Message.{Request}
+use Rattle.rules.specs.Reading.{Request}
 use Rattle.rules.specs.Grants.{Kind, grants, grantedTeid, need}
 use Rattle.rules.specs.Stages.{invalidAllocation}
 use Rattle.rules.specs.Apply.{createPdr, createEndpoint, keptPdr, keptEndpoint, pdrsAfter, endpointsAfter, apply}
 use Rattle.claim.proofs.KeptRules.{shares, share-tests, SessionKept, RulesKept}
 use Rattle.claim.proofs.NewHolds.{locals, localTunnel, localHolding, newHoldings, new-locals, locals-read}
 use Rattle.claim.proofs.NewTeids.{new-not-held, new-agree}
-use Rattle.claim.proofs.ChangedRecords.{update-holds, RequestRead}
+use Rattle.laws.proofs.RequestLaws.{RequestRead}
+use Rattle.claim.proofs.ChangedRecords.{update-holds}
 
 -- ---- the rule of sharing, the other way round
 

@@ -21,12 +21,11 @@ use Rattle.rules.specs.Model.{Settings, Place, neither, tunnel, endpoint, Pdr, 
 use Rattle.rules.specs.Limits.{maxPdrs, maxEndpoints}
 use Rattle.rules.specs.Elements.{Fteid}
 use Rattle.rules.specs.Sound.{tunnelAllowed, placeAllowed, farAllowed, pdrAllowed, endpointAllowed}
-use Rattle.rules.specs.Message.{Change, Request}
+use Rattle.rules.specs.Reading.{Change, Request}
 use Rattle.rules.specs.Grants.{Kind, ofPdr, grants, grantedTeid, need}
 use Rattle.rules.specs.Stages.{namedEndpoint, createdPdrs, createdEndpoints, livePdrs, liveEndpoints, endpointIdsAfter, staysPdr, endpointInUse}
 use Rattle.rules.specs.Apply.{namedPlace, placeFrom, createPdr, createEndpoint, orOld, updatePdr, updateAll, keptPdr, keptEndpoint, pdrsAfter, endpointsAfter}
-use Rattle.laws.proofs.ReadLaws.{CsidRead}
-use Rattle.laws.proofs.RequestLaws.{PdrRead, EndpointRead, ChangeRead}
+use Rattle.laws.proofs.RequestLaws.{PdrRead, EndpointRead, ChangeRead, RequestRead}
 use Rattle.claim.proofs.KeptRules.{pdr-kept, pdr-allowed, endpoint-allowed, SessionKept, RulesKept, RoomLeft}
 use Rattle.claim.proofs.NewHolds.{locals, endpointNew, pdrNew, localTunnel, locals-read}
 use Rattle.claim.proofs.NewTeids.{new-tunnels}
@@ -87,15 +86,6 @@ update-allowed s live [] ps k h = h
 update-allowed s live (c ∷ cs) ps k h =
     update-allowed s live cs (map (updatePdr c) ps) (k .1)
     (subst T (sym (all-map (updatePdr c) (pdrAllowed s live) ps)) (all-imply (pdrAllowed s live) (λ p. pdrAllowed s live (updatePdr c p)) (update-one s live c (k .0)) ps h))
-
--- ---- the records of a request that was read
-
--- every record of the request was read
-pub record RequestRead (r : Request) : Type 0 where
-  pub pdrs : Every PdrRead (r .pdrs)
-  pub endpoints : Every EndpointRead (r .endpoints)
-  pub changes : Every ChangeRead (r .changes)
-  pub csids : Every CsidRead (r .csids)
 
 -- ---- a session that keeps the rules, and a request that keeps them and finds room
 

@@ -14,7 +14,8 @@ use Rattle.octets.proofs.ListLaws.{not-not, all-imply, all-append, all-map}
 use Rattle.octets.proofs.MemberLaws.{absent-each, each-absent, member-passes, none-in}
 use Rattle.rules.specs.Model.{Settings, Session, Sessions, teidOf, seidOf, sessionHoldings, sessionTeids, heldTeids, freeTeids}
 use Rattle.rules.specs.Sound.{sessionsAllowed, apart, inPool}
-use Rattle.rules.specs.Message.{kindOf, headerSeid, readRequest, Request}
+use Rattle.rules.specs.Message.{kindOf, headerSeid}
+use Rattle.rules.specs.Reading.{readRequest, Request}
 use Rattle.rules.specs.Grants.{grants, grantedTeid}
 use Rattle.rules.specs.Stages.{entrySession, atEntry, newSession, isLive, unknownSession, sessionOf}
 use Rattle.rules.specs.Apply.{apply, removeSession, putSession, follow}
@@ -26,7 +27,8 @@ use Rattle.claim.proofs.KeptRules.{rules-kept}
 use Rattle.claim.proofs.FreeTeids.{free-there, held-in-pool}
 use Rattle.claim.proofs.NewHolds.{newHoldings}
 use Rattle.claim.proofs.ChangedHolds.{stayingHoldings, changed-holds, new-free}
-use Rattle.claim.proofs.Changed.{Entry, entry-sound, request-read}
+use Rattle.laws.proofs.RequestLaws.{request-read}
+use Rattle.claim.proofs.Changed.{Entry, entry-sound}
 
 -- ---- TEIDs that an accepted request leaves unheld
 

@@ -15,7 +15,7 @@ use Rattle.octets.specs.Lists.{member, all, findBy}
 use Rattle.octets.proofs.Tests.{all-head, all-tail, is-true, is-false, no-eqb}
 use Rattle.octets.proofs.Ordered.{ne-of}
 use Rattle.rules.specs.Model.{Settings, Sessions, freeCount, freeTeids}
-use Rattle.rules.specs.Message.{readRequest}
+use Rattle.rules.specs.Reading.{readRequest}
 use Rattle.rules.specs.Grants.{Chosen, isChoice, need}
 use Rattle.rules.specs.Stages.{tooFewTeids}
 use Rattle.claim.proofs.VerdictLaws.{Passed}

@@ -26,7 +26,7 @@ use Rattle.rules.specs.Reply.{element, unitElement, createdPdrContent, createdP
 use Rattle.laws.proofs.ReplyLaws.{elements-there, sequence-three, reply-cause}
 use Rattle.rules.specs.Live.{replyCause, createdType, idType, isCreated, teidIn, createdTeid}
 use Rattle.claim.proofs.RestorationElements.{unit-short, unit-fits, small, one-fits, be-fits, number-one}
-use Rattle.laws.proofs.BoundLaws.{grantFits}
+use Rattle.laws.proofs.GrantLaws.{grantFits}
 
 -- the TEID of what was found
 abbrev valueOf : Option Element → ℕ

@@ -12,7 +12,7 @@ use Rattle.octets.proofs.ListLaws.{Every, OnSome, onSome, onBoth, every-map, ev
 use Rattle.octets.proofs.MemberLaws.{once-differ}
 use Rattle.rules.specs.Model.{Tunnel, endpoint, Holding, placeTunnel, tunnelHolding, pdrHolding, endpointHolding}
 use Rattle.rules.specs.Elements.{Fteid, given, choose}
-use Rattle.rules.specs.Message.{NewPdr, NewEndpoint, Request}
+use Rattle.rules.specs.Reading.{NewPdr, NewEndpoint, Request}
 use Rattle.rules.specs.Grants.{Kind, ofPdr, ofEndpoint, sameKind, Choice, choiceOf, endpointChoice, pdrChoice, choices}
 use Rattle.rules.specs.Stages.{newPdrId, newEndpointId, pdrLocal, createdPdrs, createdEndpoints, fteidsOf, fteidsMayShare, localsMayShare, choicesAgree, restoredHolding, endpointRestored, pdrRestored, restoredHoldings}
 use Rattle.rules.specs.Apply.{tunnelFrom, namedPlace, placeFrom, createPdr, createEndpoint}

@@ -15,7 +15,7 @@ use Rattle.octets.proofs.MemberLaws.{none-in}
 use Rattle.rules.specs.Model.{Settings, Session, Sessions, Holding, teidOf, tunnelHolding, heldTeids, freeTeids}
 use Rattle.rules.specs.Elements.{Fteid, given, choose, hasV4, hasV6, chooses, chooseId}
 use Rattle.rules.specs.Sound.{inPool, unitFamilies, tunnelAllowed, shareTests, agree}
-use Rattle.rules.specs.Message.{Request}
+use Rattle.rules.specs.Reading.{Request}
 use Rattle.rules.specs.Grants.{Kind, ofPdr, ofEndpoint, Choice, Grant, choiceOf, choices, grants, grantedTeid, need}
 use Rattle.rules.specs.Stages.{fteidsOf, wrongAllocation, invalidAllocation, sameChoice, alikeFteids, fteidsMayShare, lacksFamily, otherAddress, strange, restoredHolding, restoredHoldings}
 use Rattle.rules.specs.Apply.{tunnelFrom}

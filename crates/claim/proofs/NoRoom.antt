@@ -23,7 +23,8 @@ use Rattle.rules.specs.Limits.{maxPdrs, maxEndpoints}
 use Rattle.rules.specs.Layout.{viewSettings, viewSessions}
 use Rattle.rules.specs.Elements.{Refusal, missing, conditional, tooShort, incorrect, causeOf}
 use Rattle.rules.specs.Sound.{sessionsAllowed}
-use Rattle.rules.specs.Message.{Fault, Request, kindOf, headerSeid, frameFault, readFault, readRequest}
+use Rattle.rules.specs.Message.{kindOf, headerSeid, frameFault}
+use Rattle.rules.specs.Reading.{Fault, Request, readFault, readRequest}
 use Rattle.rules.specs.Grants.{Kind, grants, grantedTeid, need}
 use Rattle.rules.specs.Stages.{hasSeid, sessionOf, isLive, newSession, atEntry, livePdrs, liveEndpoints, invalidAllocation, brokenRules, breaksRule, tooManySessions, tooManyPdrs, tooManyEndpoints, tooFewTeids, noRoom, Verdict, plain, judge, entrySession, judged, fromReading, fromFraming, unknownSession, verdict}
 use Rattle.rules.specs.Apply.{createPdr, createEndpoint, updateAll, keptPdr, keptEndpoint, pdrsAfter, endpointsAfter, apply, otherSession, removeSession, putSession, follow}

@@ -18,14 +18,15 @@ use Rattle.rules.specs.Model.{Settings, Sessions}
 use Rattle.laws.proofs.TableLaws.{ipv4-four}
 use Rattle.rules.specs.Elements.{fseidOctets}
 use Rattle.rules.specs.Sound.{settingsAllowed}
-use Rattle.rules.specs.Message.{kindOf, headerSeid, sequenceOf, readRequest}
+use Rattle.rules.specs.Message.{kindOf, headerSeid, sequenceOf}
+use Rattle.rules.specs.Reading.{readRequest}
 use Rattle.laws.proofs.MessageLaws.{length-one, written, short-map}
 use Rattle.rules.specs.Grants.{Kind, ofPdr, ofEndpoint, sameKind, Grant, isKind, grantsOf, grants}
 use Rattle.rules.specs.Stages.{Verdict, verdict}
 use Rattle.rules.specs.Reply.{element, createdPdrContent, createdPdr, createdEndpointContent, createdEndpoint, created, offendingElement, nodeIdElement, unitFseid, acceptedPart, replyBody, replySeid, reply}
 use Rattle.rules.specs.Serve.{replyTo}
 use Rattle.laws.proofs.ReplyLaws.{sequence-three}
-use Rattle.laws.proofs.BoundLaws.{grantFits, grants-fit, grants-few}
+use Rattle.laws.proofs.GrantLaws.{grantFits, grants-fit, grants-few}
 use Rattle.claim.proofs.GrantReply.{pdr-content-short, endpoint-content-short, fseid-length}
 use Rattle.claim.proofs.VerdictLaws.{passed, few-new-pdrs, few-new-endpoints}
 use Rattle.claim.proofs.MessageHeader.{length-header}

@@ -20,7 +20,8 @@ use Rattle.rules.specs.Layout.{encode}
 use Rattle.rules.specs.Sound.{settingsAllowed, tunnelAllowed, placeAllowed, pdrTests, pdrAllowed, endpointTests, endpointAllowed, sessionTests, sessionAllowed, sessionsAllowed, sound}
 use Rattle.laws.proofs.LayoutLaws.{pdrsOk, endpointsOk, tests}
 use Rattle.laws.proofs.TableLaws.{sound-encode, encoded-settings, sessions-back}
-use Rattle.rules.specs.Message.{Request, headerSeid, headerAllowed, served, frameFault}
+use Rattle.rules.specs.Message.{headerSeid, headerAllowed, served, frameFault}
+use Rattle.rules.specs.Reading.{Request}
 use Rattle.rules.specs.Grants.{Kind, grants, grantedTeid}
 use Rattle.rules.specs.Stages.{newSession, atEntry, isLive, plain, judge, entrySession, judged, fromReading, fromFraming, unknownSession, verdict}
 use Rattle.rules.specs.Apply.{tunnelFrom, namedPlace, placeFrom, createPdr, createEndpoint, updateAll, otherNode, setCsid, setCsids, followCsids, pdrsAfter, endpointsAfter, apply, putSession, follow}

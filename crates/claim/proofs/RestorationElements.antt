@@ -1,7 +1,7 @@
 -- A restoration request that was written for a session is read as that session's records.
 -- Assumes nothing.
 use mathlib.Core.Path.{_≡_, refl, ap, _∙_}
-use Prim.Native.Nat.{ℕ, _+_, _-_, _%_, _^_, _≤_, _<_, zero-le, suc-le-suc}
+use Prim.Native.Nat.{ℕ, _+_, _%_, _^_, _≤_, _<_, zero-le, suc-le-suc}
 use native.Mathlib.Nat.{le-trans, le-of-eq, mod-eq-of-lt}
 use native.Mathlib.Omega.{arith}
 use mathlib.Core.Bool.{Bool, true, false, not, _&&_, _||_}
@@ -10,18 +10,19 @@ use mathlib.Core.List.{List, [], _∷_, _++_}
 use lib.ListN.{length, length-append}
 use lib.Dec.{T, eqb, ltb→lt, lt→ltb, lit<, lit≤}
 use mir.Facts.{yes-eqb}
-use Rattle.octets.specs.Choice.{pick, orElse, mapOption, isNil}
+use Rattle.octets.specs.Choice.{pick, mapOption, isNil}
 use Rattle.octets.specs.Octets.{be, number, numberAt, octets, concatMap}
-use Rattle.octets.specs.Lists.{member, any, findBy}
+use Rattle.octets.specs.Lists.{member}
 use Rattle.octets.proofs.Tests.{each, all-of-each, both}
 use Rattle.octets.proofs.Numbers.{length-be, number-be}
 use Rattle.rules.specs.Model.{Settings, Tunnel, Place, neither, tunnel, endpoint, Pdr, Endpoint, Csid, placeTunnel, placeEndpoint}
-use Rattle.rules.specs.Elements.{Answer, value, Fteid, readFteid, readFqcsid, addressOf, givenTests, fteidAllowed, fteidOctets, unitFteid, fqcsidOctets}
+use Rattle.rules.specs.Elements.{value, Fteid, readFteid, readFqcsid, addressOf, givenTests, fteidAllowed, fteidOctets, unitFteid, fqcsidOctets}
 use Rattle.laws.proofs.ElementLaws.{fteid-back, fqcsid-back}
 use Rattle.rules.specs.Sound.{ipv6Allowed, settingsTests, settingsAllowed, unitFamilies, tunnelTests, tunnelAllowed, placeAllowed, farAllowed, pdrTests, pdrAllowed, csidTests, csidAllowed}
 use Rattle.laws.proofs.LayoutLaws.{csid-address-length, address-short, teid-fits}
 use Rattle.laws.proofs.TableLaws.{settingsFacts, ipv4-four, ipv6-ok, ipv6-short}
-use Rattle.rules.specs.Message.{Element, Fault, elements, hasType, there, contentOf, shortFault, memberFault, membersFault, missingFault, required, requiredOf, placesOf, opened, groupFault, widthOf, plainFault, pdiMember, pdiFault, createPdrMember, createEndpointMember, answerFault, answerValue, field, fieldOr0, membersOf, fteidIn, newPdr, newEndpoint, frame}
+use Rattle.rules.specs.Message.{Element, elements, placesOf, opened, widthOf, frame}
+use Rattle.rules.specs.Reading.{createsPdr, createsEndpoint, done, andThen, Members, noMembers, holds, numberRead, farRead, pdiIn, valueRead, memberRead, membersRead, unopened, pdiEnd, pdiRead, pdrFrom, endpointFrom, itemFrom, groupRead}
 use Rattle.laws.proofs.MessageLaws.{Fits, el, elements-cons, elements-nil, elements-last, Inside, framed-nil, framed-cons, framed-last, length-one}
 use Rattle.rules.specs.Reply.{element, unitElement}
 use Rattle.rules.specs.Restoration.{placeElement, farElement, pdiContent, pdrContent, endpointContent, recordCsid, restoredPdr, restoredEndpoint}
@@ -137,36 +138,27 @@ module _ (s : Settings) (hs : T (settingsAllowed s)) where
       let h = place-short (p .place) in
       omega arith
 
-  pdi-fault : (c : ℕ) (l : Place) (live : List ℕ) → T (placeAllowed s live l)
-      → orElse (membersFault pdiMember (placesOf 2) [] (el 20 (c ∷ []) ∷ placeElements l)) (missingFault (requiredOf 2) (el 20 (c ∷ []) ∷ placeElements l)) ≡ none
-  unfolding placeElements placeAllowed membersFault memberFault missingFault pdiMember plainFault shortFault widthOf placesOf requiredOf required there any hasType member answerFault
-  pdi-fault c neither live h = refl
-  pdi-fault c (tunnel t) live h = ap (λ (a : Answer Fteid). orElse (orElse (answerFault 21 a) none) none) (unit-back false t h)
-  pdi-fault c (endpoint e) live h = refl
+  pub source-back : (c : ℕ) → c < 16 → number (c ∷ []) % 16 ≡ c
+  source-back c h = ap (λ (n : ℕ). n % 16) (number-one c) ∙ mod-eq-of-lt h
 
-  pdi-sound : (p : Pdr) (live : List ℕ) → T (placeAllowed s live (p .place)) → pdiFault (pdiContent s p) ≡ none
-  unfolding pdiFault groupFault
-  pdi-sound p live h =
-      ap (λ (es : List Element). orElse (membersFault pdiMember (placesOf 2) [] es) (missingFault (requiredOf 2) es)) (pdi-elements p)
-      ∙ pdi-fault (p .source) (p .place) live h
+  -- a Create PDR's members before its PDI's, and with them
+  abbrev begun : ℕ → ℕ → Members
+  begun i n = record { pdrId = some i; precedence = some n; far = none; pdi = true; source = none; local = none; endpointId = none }
 
-  -- what is read of a PDI
-  pdi-source : (c : ℕ) (l : Place) → c < 16 → fieldOr0 20 (el 20 (c ∷ []) ∷ placeElements l) % 16 ≡ c
-  unfolding fieldOr0 field contentOf findBy hasType numberAt widthOf
-  pdi-source c l h = ap (λ (n : ℕ). n % 16) (number-one c) ∙ mod-eq-of-lt h
+  abbrev placed : ℕ → ℕ → ℕ → Option Fteid → Option ℕ → Members
+  placed i n c o e = record { pdrId = some i; precedence = some n; far = none; pdi = true; source = some c; local = o; endpointId = e }
 
-  pdi-local : (c : ℕ) (l : Place) (live : List ℕ) → T (placeAllowed s live l)
-      → fteidIn false (el 20 (c ∷ []) ∷ placeElements l) ≡ mapOption (unitFteid s) (placeTunnel l)
-  unfolding fteidIn contentOf findBy hasType placeElements placeTunnel placeAllowed answerValue
-  pdi-local c neither live h = refl
-  pdi-local c (tunnel t) live h = ap (λ (a : Answer Fteid). answerValue a) (unit-back false t h)
-  pdi-local c (endpoint e) live h = refl
+  pdi-members : (i n c : ℕ) (l : Place) (live : List ℕ) → c < 16 → T (placeAllowed s live l)
+      → andThen (membersRead unopened 2 (el 20 (c ∷ []) ∷ placeElements l) (begun i n)) pdiEnd ≡ done (placed i n c (mapOption (unitFteid s) (placeTunnel l)) (placeEndpoint l))
+  unfolding membersRead memberRead valueRead holds numberRead numberAt widthOf placesOf member pdiEnd placeElements placeTunnel placeEndpoint placeAllowed
+  pdi-members i n c neither live h k = λ j. done (placed i n (source-back c h j) none none)
+  pdi-members i n c (tunnel t) live h k = rw (unit-back false t k) (λ j. done (placed i n (source-back c h j) (some (unitFteid s t)) none))
+  pdi-members i n c (endpoint e) live h k = λ j. done (placed i n (source-back c h j) none (some (number-one e j)))
 
-  pdi-endpoint : (c : ℕ) (l : Place) → field 131 (el 20 (c ∷ []) ∷ placeElements l) ≡ placeEndpoint l
-  unfolding field contentOf findBy hasType placeElements placeEndpoint numberAt widthOf
-  pdi-endpoint c neither = refl
-  pdi-endpoint c (tunnel t) = refl
-  pdi-endpoint c (endpoint e) = ap some (number-one e)
+  pdi-read : (p : Pdr) (live : List ℕ) → p .source < 16 → T (placeAllowed s live (p .place)) → (i n : ℕ)
+      → pdiRead (pdiContent s p) (begun i n) ≡ done (placed i n (p .source) (mapOption (unitFteid s) (placeTunnel (p .place))) (placeEndpoint (p .place)))
+  unfolding pdiRead
+  pdi-read p live h k i n = rw (pdi-elements p) (pdi-members i n (p .source) (p .place) live h k)
 
   -- ---- a Create PDR
 
@@ -220,54 +212,24 @@ module _ (s : Settings) (hs : T (settingsAllowed s)) where
       let h = far-short (p .far) in
       omega arith
 
-  -- no fault among the members
-  pdr-fault : (i n : ℕ) (v : List ℕ) (f : Option ℕ) → pdiFault v ≡ none
-      → let es = el 56 (be 2 i) ∷ el 29 (be 4 n) ∷ el 2 v ∷ farElements f in
-      orElse (membersFault createPdrMember (placesOf 1) [] es) (missingFault (requiredOf 1) es) ≡ none
-  unfolding farElements membersFault memberFault missingFault createPdrMember plainFault shortFault widthOf placesOf requiredOf required there any hasType member be
-  pdr-fault i n v none h = ap (λ (o : Option Fault). orElse (orElse o none) none) h
-  pdr-fault i n v (some f) h = ap (λ (o : Option Fault). orElse (orElse o none) none) h
-
-  pub pdr-sound : (p : Pdr) (live : List ℕ) → T (placeAllowed s live (p .place)) → groupFault createPdrMember 1 (pdrContent s p) ≡ none
-  unfolding groupFault pdrElements
-  pdr-sound p live h =
-      ap (λ (es : List Element). orElse (membersFault createPdrMember (placesOf 1) [] es) (missingFault (requiredOf 1) es)) (pdr-elements p)
-      ∙ pdr-fault (p .id) (p .precedence) (pdiContent s p) (p .far) (pdi-sound p live h)
-
-  -- the fields of a Create PDR
-  read-id : (i n : ℕ) (v : List ℕ) (f : Option ℕ) → i < 256 ^ 2 → fieldOr0 56 (el 56 (be 2 i) ∷ el 29 (be 4 n) ∷ el 2 v ∷ farElements f) ≡ i
-  unfolding fieldOr0 field contentOf findBy hasType numberAt widthOf be
-  read-id i n v f h = number-be 2 i h
-
-  read-precedence : (i n : ℕ) (v : List ℕ) (f : Option ℕ) → n < 256 ^ 4 → fieldOr0 29 (el 56 (be 2 i) ∷ el 29 (be 4 n) ∷ el 2 v ∷ farElements f) ≡ n
-  unfolding fieldOr0 field contentOf findBy hasType numberAt widthOf be
-  read-precedence i n v f h = number-be 4 n h
-
-  read-far : (i n : ℕ) (v : List ℕ) (f : Option ℕ) → T (farAllowed f) → field 108 (el 56 (be 2 i) ∷ el 29 (be 4 n) ∷ el 2 v ∷ farElements f) ≡ f
-  unfolding field contentOf findBy hasType numberAt widthOf be farElements farAllowed
-  read-far i n v none h = refl
-  read-far i n v (some f) h = ap some (number-be 4 f (ltb→lt f (2 ^ 32) h))
-
-  read-pdi : (i n : ℕ) (v : List ℕ) (f : Option ℕ) → membersOf 2 (el 56 (be 2 i) ∷ el 29 (be 4 n) ∷ el 2 v ∷ farElements f) ≡ elements v
-  unfolding membersOf contentOf findBy hasType
-  read-pdi i n v f = refl
+  pdr-members : (i n : ℕ) (v : List ℕ) (f : Option ℕ) (c : ℕ) (o : Option Fteid) (e : Option ℕ) → i < 256 ^ 2 → n < 256 ^ 4 → T (farAllowed f)
+      → ((j k : ℕ) → pdiRead v (begun j k) ≡ done (placed j k c o e))
+      → andThen (membersRead pdiRead 1 (el 56 (be 2 i) ∷ el 29 (be 4 n) ∷ el 2 v ∷ farElements f) noMembers) (itemFrom 1)
+      ≡ done (createsPdr (record { id = i; precedence = n; far = f; source = c; local = o; endpoint = e }))
+  unfolding membersRead memberRead valueRead holds numberRead farRead pdiIn numberAt widthOf placesOf member farElements farAllowed be itemFrom pdrFrom
+  pdr-members i n v none c o e hi hn hf h =
+      rw h (λ j. done (createsPdr (record { id = number-be 2 i hi j; precedence = number-be 4 n hn j; far = none; source = c; local = o; endpoint = e })))
+  pdr-members i n v (some f) c o e hi hn hf h =
+      rw h (λ j. done (createsPdr (record { id = number-be 2 i hi j; precedence = number-be 4 n hn j; far = some (number-be 4 f (ltb→lt f (2 ^ 32) hf) j); source = c; local = o; endpoint = e })))
 
   -- a Create PDR is read as the record
-  pub pdr-read : (p : Pdr) (live : List ℕ) → T (pdrAllowed s live p) → newPdr (elements (pdrContent s p)) ≡ restoredPdr s p
-  unfolding newPdr restoredPdr pdrElements pdrAllowed pdrTests
+  pub pdr-read : (p : Pdr) (live : List ℕ) → T (pdrAllowed s live p) → groupRead 1 (pdrContent s p) ≡ done (createsPdr (restoredPdr s p))
+  unfolding groupRead restoredPdr pdrElements pdrAllowed pdrTests
   pdr-read p live h =
       let e = each (pdrTests s live p) h in
-      let es = pdrElements p in
-      let pdi = read-pdi (p .id) (p .precedence) (pdiContent s p) (p .far) ∙ pdi-elements p in
-      ap newPdr (pdr-elements p)
-      ∙ (λ j. record {
-        id = read-id (p .id) (p .precedence) (pdiContent s p) (p .far) (ltb→lt (p .id) (2 ^ 16) (e .0)) j;
-        precedence = read-precedence (p .id) (p .precedence) (pdiContent s p) (p .far) (ltb→lt (p .precedence) (2 ^ 32) (e .1 .0)) j;
-        far = read-far (p .id) (p .precedence) (pdiContent s p) (p .far) (e .1 .1 .0) j;
-        source = (ap (λ (xs : List Element). fieldOr0 20 xs % 16) pdi ∙ pdi-source (p .source) (p .place) (ltb→lt (p .source) 16 (e .1 .1 .1 .0))) j;
-        local = (ap (fteidIn false) pdi ∙ pdi-local (p .source) (p .place) live (e .1 .1 .1 .1 .0)) j;
-        endpoint = (ap (field 131) pdi ∙ pdi-endpoint (p .source) (p .place)) j;
-      })
+      ap (λ (es : List Element). andThen (membersRead pdiRead 1 es noMembers) (itemFrom 1)) (pdr-elements p)
+      ∙ pdr-members (p .id) (p .precedence) (pdiContent s p) (p .far) (p .source) (mapOption (unitFteid s) (placeTunnel (p .place))) (placeEndpoint (p .place))
+      (ltb→lt (p .id) (2 ^ 16) (e .0)) (ltb→lt (p .precedence) (2 ^ 32) (e .1 .0)) (e .1 .1 .0) (pdi-read p live (ltb→lt (p .source) 16 (e .1 .1 .1 .0)) (e .1 .1 .1 .1 .0))
 
   -- ---- framing a Create PDR, at depth 2 in an establishment
 
@@ -313,18 +275,11 @@ module _ (s : Settings) (hs : T (settingsAllowed s)) where
       let h = unit-short (e .local) in
       omega arith
 
-  pub endpoint-sound : (e : Endpoint) → T (tunnelAllowed s (e .local)) → groupFault createEndpointMember 127 (endpointContent s e) ≡ none
-  unfolding groupFault endpointElements membersFault memberFault missingFault createEndpointMember plainFault shortFault widthOf placesOf requiredOf required there any hasType member answerFault
-  endpoint-sound e h =
-      ap (λ (es : List Element). orElse (membersFault createEndpointMember (placesOf 127) [] es) (missingFault (requiredOf 127) es)) (endpoint-elements e)
-      ∙ ap (λ (a : Answer Fteid). orElse (orElse (answerFault 21 a) none) none) (unit-back true (e .local) h)
-
-  pub endpoint-read : (e : Endpoint) → T (tunnelAllowed s (e .local)) → newEndpoint (elements (endpointContent s e)) ≡ some (restoredEndpoint s e)
-  unfolding newEndpoint restoredEndpoint endpointElements fteidIn fieldOr0 field contentOf findBy hasType numberAt widthOf answerValue
+  pub endpoint-read : (e : Endpoint) → T (tunnelAllowed s (e .local)) → groupRead 127 (endpointContent s e) ≡ done (createsEndpoint (restoredEndpoint s e))
+  unfolding groupRead restoredEndpoint endpointElements membersRead memberRead valueRead holds numberRead numberAt widthOf placesOf member itemFrom endpointFrom
   endpoint-read e h =
-      ap newEndpoint (endpoint-elements e)
-      ∙ ap (λ (a : Answer Fteid). mapOption (λ (v : Fteid). record { id = number (e .id ∷ []); local = v }) (answerValue a)) (unit-back true (e .local) h)
-      ∙ ap (λ (i : ℕ). some (record { id = i; local = unitFteid s (e .local) })) (number-one (e .id))
+      ap (λ (es : List Element). andThen (membersRead pdiRead 127 es noMembers) (itemFrom 127)) (endpoint-elements e)
+      ∙ rw (unit-back true (e .local) h) (λ j. done (createsEndpoint (record { id = number-one (e .id) j; local = unitFteid s (e .local) })))
 
   pub endpoint-framed : (e : Endpoint) → frame 2 50 127 (endpointContent s e) ≡ none
   unfolding endpointContent unitElement Inside opened member

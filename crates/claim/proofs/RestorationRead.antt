@@ -1,42 +1,67 @@
--- A whole restoration request: its header passes, it is framed, it has no fault, and it is read as the session's records.
+-- A whole restoration request: its header passes, it is framed, and it is read as the session's records.
 -- Assumes nothing.
-use mathlib.Core.Path.{_≡_, refl, sym, ap, ap₂, _∙_, subst}
-use Prim.Native.Nat.{ℕ, _+_, _-_, _*_, _≤_, _<_, zero-le}
+use mathlib.Core.Path.{_≡_, refl, sym, ap, ap₂, _∙_}
+use Prim.Native.Nat.{ℕ, _*_, _≤_, zero-le}
 use native.Mathlib.Nat.{le-trans, le-of-eq, mul-le-mul-right, le-of-lt}
 use native.Mathlib.Omega.{arith}
-use mathlib.Core.Bool.{Bool, true, false, not, _&&_}
-use mathlib.Core.Option.{none}
-use mathlib.Core.List.{List, [], _∷_, _++_, map, append-nil}
+use mathlib.Core.Bool.{Bool, true, false, not, _&&_, _||_}
+use mathlib.Core.Option.{Option, none, some}
+use mathlib.Core.List.{List, [], _∷_, _++_, map, append-nil, append-assoc}
 use lib.ListN.{length, length-append}
 use lib.Dec.{T, ltb, eqb, eqb→eq, leb→le, lt→ltb, lit<, lit≤}
-use Rattle.octets.specs.Choice.{orElse, valueOr, mapOption, consOption}
-use Rattle.octets.specs.Lists.{collect, member, any, all, keep, findBy, ascending}
+use Rattle.octets.specs.Choice.{pick}
+use Rattle.octets.specs.Lists.{collect, member, any, all, ascending}
 use Rattle.octets.specs.Octets.{be, octetAt, bit, octets, concatMap}
-use Rattle.octets.proofs.Tests.{pick-yes, pick-no, each, Each, and-left, all-head, all-tail, all-cons, below-not-member, below-mono, ascending-head, ascending-tail, of-true}
+use Rattle.octets.proofs.Tests.{pick-yes, each, Each, and-left, all-head, all-tail, all-cons, below-not-member, below-mono, ascending-head, ascending-tail}
+use Rattle.octets.proofs.ListLaws.{collect-append, collect-map}
 use Rattle.rules.specs.Limits.{maxRestoration}
 use Rattle.rules.specs.Model.{Settings, Pdr, Endpoint, Csid, Session, endpointId, nodeTypeOf}
-use Rattle.rules.specs.Elements.{Answer, value, Fqcsid, readFseid, addressOf, fqcsidOctets, fseidOctets, nodeOf}
+use Rattle.rules.specs.Elements.{incorrect, Answer, value, Fqcsid, readFseid, addressOf, fqcsidOctets, fseidOctets, nodeOf}
 use Rattle.laws.proofs.ElementLaws.{fseid-back}
-use Rattle.rules.specs.Sound.{settingsAllowed, pdrTests, pdrAllowed, endpointTests, endpointAllowed, csidAllowed, sessionTests, sessionAllowed}
+use Rattle.rules.specs.Sound.{settingsAllowed, pdrAllowed, endpointTests, endpointAllowed, csidAllowed, sessionTests, sessionAllowed}
 use Rattle.laws.proofs.LayoutLaws.{pdrsOk, endpointsOk, csidsOk, fewPdrs, fewEndpoints, fewCsids, seidFits, tests}
-use Rattle.rules.specs.Message.{Element, elements, body, kindOf, headerAllowed, frame, frameFault, opened, openedAtTop, actedOn, hasType, there, contentOf, actedFault, topFaultFrom, topFault, readFault, onceFault, shortFault, answerFault, csidFault, isClearing, csidReadFault, csidCountAllowed, nodesIn, nodeIn, answerValue, requiredAtTop, restorationIn, missingFault, required, requestOf, readRequest, ofType, groupsOf, groupOf, newPdr, newEndpoint, fseidIn, fqcsidIn, isNull}
+use Rattle.rules.specs.Message.{Element, elements, body, kindOf, headerAllowed, frame, frameFault, opened, openedAtTop, actedOn}
+use Rattle.rules.specs.Reading.{NewPdr, NewEndpoint, Item, createsPdr, createsEndpoint, setsCsid, cleared, changed, Reading, done, refusal, andThen, named, Draft, emptyDraft, withNode, withItem, seidRead, flagsRead, csidCountAllowed, withCsid, csidRead, actedRead, elementRead, elementsRead, pdrIn, endpointIn, changeIn, gonePdrIn, goneEndpointIn, csidIn, clears, isUnsupported, restoringIn, requestOf, finished, aloneIn, topRead, read, faultIn, readFault, askedIn, readRequest}
 use Rattle.laws.proofs.MessageLaws.{Fits, el, elements-cons, elements-nil, Inside, framed-nil, framed-cons, length-one, written, asElement, elements-map, framed-map, short-map}
 use Rattle.rules.specs.Reply.{element, message}
 use Rattle.rules.specs.Restoration.{pdrContent, pdrElement, endpointContent, endpointElement, recordCsid, csidElement, Peer, peerTests, peerAllowed, recordElements, restoration, restoredPdr, restoredEndpoint, restoredRequest}
 use Rattle.claim.proofs.MessageHeader.{message-body, message-kind, message-length, message-allowed}
-use Rattle.claim.proofs.RestorationElements.{small, one-fits, pdr-short, pdr-sound, pdr-read, pdr-framed, endpoint-short, endpoint-sound, endpoint-read, endpoint-framed, csid-read, csid-octets-short}
+use Rattle.claim.proofs.RestorationElements.{small, one-fits, pdr-short, pdr-read, pdr-framed, endpoint-short, endpoint-read, endpoint-framed, csid-read, csid-octets-short}
 
--- the elements of a type among those of one type
-module _ {A : Type 0} (u : ℕ) (g : A → List ℕ) (p : A → Bool) (t : ℕ) where
-  keep-same : eqb u t ≡ true → (rs : List A) (rest : List Element) → keep (hasType t) (map (asElement u g p) rs ++ rest) ≡ map (asElement u g p) rs ++ keep (hasType t) rest
-  unfolding keep hasType asElement
-  keep-same e [] rest = refl
-  keep-same e (r ∷ rs) rest = pick-yes (eqb u t) _ _ (of-true e) ∙ ap (λ (es : List Element). el u (g r) ∷ es) (keep-same e rs rest)
+-- a draft with other items, and with more
+abbrev having : List Item → Draft → Draft
+having is d = record { seid = d .seid; restores = d .restores; nodes = d .nodes; items = is }
 
-  keep-other : eqb u t ≡ false → (rs : List A) (rest : List Element) → keep (hasType t) (map (asElement u g p) rs ++ rest) ≡ keep (hasType t) rest
-  unfolding keep hasType asElement
-  keep-other e [] rest = refl
-  keep-other e (r ∷ rs) rest = pick-no (eqb u t) _ _ (subst (λ (b : Bool). T (not b)) (sym e) tt) ∙ keep-other e rs rest
+abbrev withItems : List Item → Draft → Draft
+withItems is d = having (d .items ++ is) d
+
+-- the elements of a list of records, each of which is read as an item
+items-read : {A : Type 0} (t : ℕ) (g : A → List ℕ) (p : A → Bool) (f : A → Item) (alone : Bool)
+    → ((a : A) → T (p a) → (d : Draft) → elementRead 50 alone (el t (g a)) d ≡ done (withItem (f a) d))
+    → (rs : List A) → T (all p rs) → (rest : List Element) (d : Draft)
+    → elementsRead 50 alone (map (asElement t g p) rs ++ rest) d ≡ elementsRead 50 alone rest (withItems (map f rs) d)
+unfolding elementsRead asElement
+items-read t g p f alone one [] h rest d = ap (λ (is : List Item). elementsRead 50 alone rest (having is d)) (sym (append-nil (d .items)))
+items-read t g p f alone one (r ∷ rs) h rest d =
+    rw (one r (all-head p r rs h) d)
+    (items-read t g p f alone one rs (all-tail p r rs h) rest (withItem (f r) d)
+    ∙ ap (λ (is : List Item). elementsRead 50 alone rest (having is d)) (append-assoc (d .items) (f r ∷ []) (map f rs)))
+
+-- what is collected where each has it, and where none has
+collect-each : {A B : Type 0} (h : A → B) (rs : List A) → collect (λ a. some (h a)) rs ≡ map h rs
+unfolding collect
+collect-each h [] = refl
+collect-each {A} {B} h (r ∷ rs) = ap (λ (l : List B). h r ∷ l) (collect-each h rs)
+
+collect-none : {A B : Type 0} (rs : List A) → collect {B = B} (λ a. none) rs ≡ []
+unfolding collect
+collect-none [] = refl
+collect-none (r ∷ rs) = collect-none rs
+
+any-none : {A : Type 0} (f : A → Item) (g : Item → Bool) → ((a : A) → g (f a) ≡ false) → (rs : List A) (rest : List Item) → any g (map f rs ++ rest) ≡ any g rest
+unfolding any
+any-none f g e [] rest = refl
+any-none f g e (r ∷ rs) rest = ap₂ _||_ (e r) (any-none f g e rs rest)
 
 module _ (s : Settings) (hs : T (settingsAllowed s)) (p : Peer) (hp : T (peerAllowed p)) (x : Session) (hx : T (sessionAllowed s x)) where
   live : List ℕ
@@ -210,172 +235,133 @@ module _ (s : Settings) (hs : T (settingsAllowed s)) (p : Peer) (hp : T (peerAll
   unfolding frameFault
   msg-framed = ap₂ (λ (k : ℕ) (xs : List ℕ). frame 3 k 0 xs) msg-kind msg-body ∙ content-framed
 
-  -- ---- no fault
+  -- ---- the reading
 
-  -- the faults of the elements of one kind, one after the other; `before` only grows
-  pdrs-pass : (es before : List Element) (qs : List Pdr) → T (all (pdrAllowed s live) qs) → (rest : List Element)
-      → ((b : List Element) → nodesIn b ≡ nodesIn before → topFaultFrom 50 es b rest ≡ none)
-      → topFaultFrom 50 es before (map (asElement 1 (pdrContent s) (pdrAllowed s live)) qs ++ rest) ≡ none
-  unfolding topFaultFrom actedFault actedOn member asElement nodesIn keep hasType pdrAllowed pdrTests
-  pdrs-pass es before [] h rest k = k before refl
-  pdrs-pass es before (q ∷ qs) h rest k =
-      ap₂ orElse (pdr-sound s hs q live (each (pdrTests s live q) (all-head (pdrAllowed s live) q qs h) .1 .1 .1 .1 .0))
-      (pdrs-pass es (el 1 (pdrContent s q) ∷ before) qs (all-tail (pdrAllowed s live) q qs h) rest k)
+  abbrev pdrItem : Pdr → Item
+  pdrItem q = createsPdr (restoredPdr s q)
 
-  endpoints-pass : (es before : List Element) (qs : List Endpoint) → T (all (endpointAllowed s) qs) → (rest : List Element)
-      → ((b : List Element) → nodesIn b ≡ nodesIn before → topFaultFrom 50 es b rest ≡ none)
-      → topFaultFrom 50 es before (map (asElement 127 (endpointContent s) (endpointAllowed s)) qs ++ rest) ≡ none
-  unfolding topFaultFrom actedFault actedOn member asElement nodesIn keep hasType endpointAllowed endpointTests
-  endpoints-pass es before [] h rest k = k before refl
-  endpoints-pass es before (q ∷ qs) h rest k =
-      ap₂ orElse (endpoint-sound s hs q (each (endpointTests s q) (all-head (endpointAllowed s) q qs h) .1 .0))
-      (endpoints-pass es (el 127 (endpointContent s q) ∷ before) qs (all-tail (endpointAllowed s) q qs h) rest k)
+  abbrev endpointItem : Endpoint → Item
+  endpointItem e = createsEndpoint (restoredEndpoint s e)
 
-  -- ---- FQ-CSIDs: their node types ascend, so none is met twice
+  abbrev csidItem : Csid → Item
+  csidItem c = setsCsid (recordCsid c)
 
-  node-of : (c : Csid) → T (csidAllowed c) → (before : List Element) → nodesIn (el 65 (csidContent c) ∷ before) ≡ c .nodeType ∷ nodesIn before
-  unfolding nodesIn keep hasType collect nodeIn csidContent nodeOf recordCsid answerValue
-  node-of c h before = ap (λ (a : Answer Fqcsid). consOption (mapOption nodeOf (answerValue a)) (nodesIn before)) (csid-read c h)
-
-  csid-pass : (es before : List Element) (c : Csid) → T (csidAllowed c) → T (not (member (c .nodeType) (nodesIn before)))
-      → actedFault 50 es before 65 (csidContent c) ≡ none
-  unfolding actedFault csidFault isClearing csidReadFault csidCountAllowed csidContent fqcsidOctets recordCsid nodeOf
-  csid-pass es before c h fresh =
-      ap (csidReadFault 50 before) (csid-read c h)
-      ∙ pick-yes (true && not (member (c .nodeType) (nodesIn before))) _ _ fresh
-
-  -- every node met before is below the next one
-  abbrev Below : List ℕ → List Csid → Type 0
-  Below ns [] = Unit {0}
-  Below ns (c ∷ cs) = T (all (λ n. ltb n (c .nodeType)) ns)
-
-  below-next : (ns : List ℕ) (c : Csid) (cs : List Csid) → T (ascending (map nodeTypeOf (c ∷ cs))) → T (all (λ n. ltb n (c .nodeType)) ns) → Below (c .nodeType ∷ ns) cs
-  below-next ns c [] h g = tt
-  below-next ns c (d ∷ cs) h g =
-      let up = ascending-head (c .nodeType) (d .nodeType) (map nodeTypeOf cs) h in
-      all-cons (λ n. ltb n (d .nodeType)) (c .nodeType) ns (lt→ltb (c .nodeType) (d .nodeType) up) (below-mono (c .nodeType) (d .nodeType) ns (le-of-lt up) g)
-
-  csids-pass : (es before : List Element) (cs : List Csid) → T (all csidAllowed cs) → T (ascending (map nodeTypeOf cs)) → Below (nodesIn before) cs
-      → topFaultFrom 50 es before (map (asElement 65 csidContent csidAllowed) cs) ≡ none
-  unfolding topFaultFrom actedOn member asElement
-  csids-pass es before [] h up below = refl
-  csids-pass es before (c ∷ cs) h up below =
-      let ok = all-head csidAllowed c cs h in
-      ap₂ orElse (csid-pass es before c ok (below-not-member (c .nodeType) (nodesIn before) below))
-      (csids-pass es (el 65 (csidContent c) ∷ before) cs (all-tail csidAllowed c cs h) (ascending-tail (c .nodeType) (map nodeTypeOf cs) up)
-      (subst (λ (ns : List ℕ). Below ns cs) (sym (node-of c ok before)) (below-next (nodesIn before) c cs up below)))
+  -- after the F-SEID and the flags
+  abbrev started : Draft
+  started = record { seid = some (x .seid); restores = some true; nodes = []; items = [] }
 
   nodes-up : T (ascending (map nodeTypeOf (x .csids)))
   unfolding sessionTests
   nodes-up = tests s hs x hx .1 .1 .1 .1 .1 .1 .1 .1 .1 .0
 
-  below-none : (ns : List ℕ) → ns ≡ [] → (cs : List Csid) → Below ns cs
-  unfolding all
-  below-none ns e [] = tt
-  below-none ns e (c ∷ cs) = subst (λ (ms : List ℕ). T (all (λ n. ltb n (c .nodeType)) ms)) (sym e) tt
+  module _ (alone : Bool) where
+    pdr-item : (q : Pdr) → T (pdrAllowed s live q) → (d : Draft) → elementRead 50 alone (el 1 (pdrContent s q)) d ≡ done (withItem (pdrItem q) d)
+    unfolding elementRead actedRead actedOn member
+    pdr-item q h d = rw (pdr-read s hs q live h)
 
-  -- the faults of the whole
-  tops-pass : topFaultFrom 50 tops [] tops ≡ none
-  unfolding tops topFaultFrom actedFault actedOn member onceFault there any hasType shortFault answerFault pdrEls endpointEls csidEls nodesIn keep collect
-  tops-pass =
-      ap₂ orElse (ap (answerFault 57) fseid-read)
-      (pdrs-pass tops (el 186 (1 ∷ []) ∷ el 57 fseid ∷ []) (x .pdrs) pdrs-ok (endpointEls ++ csidEls)
-      (λ b e. endpoints-pass tops b (x .endpoints) (endpointsOk s hs x hx) csidEls
-      (λ b′ e′. csids-pass tops b′ (x .csids) (csidsOk s hs x hx) nodes-up (below-none (nodesIn b′) (e′ ∙ e) (x .csids)))))
+    endpoint-item : (e : Endpoint) → T (endpointAllowed s e) → (d : Draft) → elementRead 50 alone (el 127 (endpointContent s e)) d ≡ done (withItem (endpointItem e) d)
+    unfolding elementRead actedRead actedOn member endpointAllowed endpointTests
+    endpoint-item e h d = rw (endpoint-read s hs e (each (endpointTests s e) h .1 .0))
 
-  tops-complete : missingFault (requiredAtTop 50 (restorationIn tops)) tops ≡ none
-  unfolding tops missingFault requiredAtTop restorationIn contentOf findBy hasType octetAt bit required there any
-  tops-complete = refl
+    csid-item : (c : Csid) → T (csidAllowed c) → (d : Draft) → T (not (member (c .nodeType) (d .nodes)))
+        → elementRead 50 alone (el 65 (csidContent c)) d ≡ done (withNode (c .nodeType) (withItem (csidItem c) d))
+    unfolding elementRead actedRead actedOn member csidRead csidCountAllowed withCsid csidContent fqcsidOctets recordCsid nodeOf
+    csid-item c h d fresh =
+        ap (λ (a : Answer Fqcsid). andThen (named 65 a) (λ v. pick (csidCountAllowed 50 v && not (member (nodeOf v) (d .nodes))) (done (withCsid 50 v d)) (refusal incorrect 65))) (csid-read c h)
+        ∙ pick-yes (true && not (member (c .nodeType) (d .nodes))) _ _ fresh
 
-  pub msg-sound : readFault msg ≡ none
-  unfolding readFault topFault
-  msg-sound =
-      ap₂ (λ (k : ℕ) (xs : List ℕ). topFault k (elements xs)) msg-kind msg-body
-      ∙ ap (topFault 50) content-elements
-      ∙ ap₂ orElse tops-pass tops-complete
+    -- the node types ascend, so none is met twice: every one met before is below the next
+    abbrev Below : List ℕ → List Csid → Type 0
+    Below ns [] = Unit {0}
+    Below ns (c ∷ cs) = T (all (λ n. ltb n (c .nodeType)) ns)
+
+    below-next : (ns : List ℕ) (c : Csid) (cs : List Csid) → T (ascending (map nodeTypeOf (c ∷ cs))) → T (all (λ n. ltb n (c .nodeType)) ns) → Below (c .nodeType ∷ ns) cs
+    below-next ns c [] h g = tt
+    below-next ns c (d ∷ cs) h g =
+        let up = ascending-head (c .nodeType) (d .nodeType) (map nodeTypeOf cs) h in
+        all-cons (λ n. ltb n (d .nodeType)) (c .nodeType) ns (lt→ltb (c .nodeType) (d .nodeType) up) (below-mono (c .nodeType) (d .nodeType) ns (le-of-lt up) g)
+
+    csids-read : (cs : List Csid) → T (all csidAllowed cs) → T (ascending (map nodeTypeOf cs)) → (d : Draft) → Below (d .nodes) cs
+        → andThen (elementsRead 50 alone (map (asElement 65 csidContent csidAllowed) cs) d) (finished 50) ≡ finished 50 (withItems (map csidItem cs) d)
+    unfolding elementsRead asElement finished requestOf restoringIn
+    csids-read [] h up d below = ap (λ (is : List Item). finished 50 (having is d)) (sym (append-nil (d .items)))
+    csids-read (c ∷ cs) h up d below =
+        rw (csid-item c (all-head csidAllowed c cs h) d (below-not-member (c .nodeType) (d .nodes) below))
+        (csids-read cs (all-tail csidAllowed c cs h) (ascending-tail (c .nodeType) (map nodeTypeOf cs) up) (withNode (c .nodeType) (withItem (csidItem c) d)) (below-next (d .nodes) c cs up below)
+        ∙ ap (λ (is : List Item). finished 50 (having is d)) (append-assoc (d .items) (csidItem c ∷ []) (map csidItem cs)))
+
+    below-none : (cs : List Csid) → Below [] cs
+    unfolding all
+    below-none [] = tt
+    below-none (c ∷ cs) = tt
+
+    front-read : elementsRead 50 alone tops emptyDraft ≡ elementsRead 50 alone (pdrEls ++ (endpointEls ++ csidEls)) started
+    unfolding tops elementsRead elementRead actedRead actedOn member seidRead flagsRead octetAt bit
+    front-read = rw fseid-read
+
+    tops-read : andThen (elementsRead 50 alone tops emptyDraft) (finished 50)
+        ≡ finished 50 (withItems (map csidItem (x .csids)) (withItems (map endpointItem (x .endpoints)) (withItems (map pdrItem (x .pdrs)) started)))
+    unfolding pdrEls endpointEls csidEls
+    tops-read =
+        ap (λ (r : Reading Draft). andThen r (finished 50))
+        (front-read
+        ∙ items-read 1 (pdrContent s) (pdrAllowed s live) pdrItem alone pdr-item (x .pdrs) pdrs-ok (endpointEls ++ csidEls) started
+        ∙ items-read 127 (endpointContent s) (endpointAllowed s) endpointItem alone endpoint-item (x .endpoints) (endpointsOk s hs x hx) csidEls (withItems (map pdrItem (x .pdrs)) started))
+        ∙ csids-read (x .csids) (csidsOk s hs x hx) nodes-up (withItems (map endpointItem (x .endpoints)) (withItems (map pdrItem (x .pdrs)) started)) (below-none (x .csids))
 
   -- ---- the request
 
-  kept-pdrs : keep (hasType 1) tops ≡ pdrEls
-  unfolding tops keep hasType pdrEls endpointEls csidEls
-  kept-pdrs =
-      keep-same 1 (pdrContent s) (pdrAllowed s live) 1 refl (x .pdrs) (endpointEls ++ csidEls)
-      ∙ ap (λ (es : List Element). pdrEls ++ es)
-      (keep-other 127 (endpointContent s) (endpointAllowed s) 1 refl (x .endpoints) csidEls
-      ∙ ap (keep (hasType 1)) (sym (append-nil csidEls))
-      ∙ keep-other 65 csidContent csidAllowed 1 refl (x .csids) [])
-      ∙ append-nil pdrEls
+  items : List Item
+  items = map pdrItem (x .pdrs) ++ (map endpointItem (x .endpoints) ++ map csidItem (x .csids))
 
-  kept-endpoints : keep (hasType 127) tops ≡ endpointEls
-  unfolding tops keep hasType pdrEls endpointEls csidEls
-  kept-endpoints =
-      keep-other 1 (pdrContent s) (pdrAllowed s live) 127 refl (x .pdrs) (endpointEls ++ csidEls)
-      ∙ keep-same 127 (endpointContent s) (endpointAllowed s) 127 refl (x .endpoints) csidEls
-      ∙ ap (λ (es : List Element). endpointEls ++ es)
-      (ap (keep (hasType 127)) (sym (append-nil csidEls)) ∙ keep-other 65 csidContent csidAllowed 127 refl (x .csids) [])
-      ∙ append-nil endpointEls
+  collected : {B : Type 0} (g : Item → Option B)
+      → collect g items ≡ collect (λ q. g (pdrItem q)) (x .pdrs) ++ (collect (λ e. g (endpointItem e)) (x .endpoints) ++ collect (λ c. g (csidItem c)) (x .csids))
+  unfolding items
+  collected {B} g =
+      collect-append g (map pdrItem (x .pdrs)) (map endpointItem (x .endpoints) ++ map csidItem (x .csids))
+      ∙ ap₂ (λ (k l : List B). k ++ l) (collect-map pdrItem g (x .pdrs))
+      (collect-append g (map endpointItem (x .endpoints)) (map csidItem (x .csids)) ∙ ap₂ (λ (k l : List B). k ++ l) (collect-map endpointItem g (x .endpoints)) (collect-map csidItem g (x .csids)))
 
-  kept-csids : keep (hasType 65) tops ≡ csidEls
-  unfolding tops keep hasType pdrEls endpointEls csidEls
-  kept-csids =
-      keep-other 1 (pdrContent s) (pdrAllowed s live) 65 refl (x .pdrs) (endpointEls ++ csidEls)
-      ∙ keep-other 127 (endpointContent s) (endpointAllowed s) 65 refl (x .endpoints) csidEls
-      ∙ ap (keep (hasType 65)) (sym (append-nil csidEls))
-      ∙ keep-same 65 csidContent csidAllowed 65 refl (x .csids) []
-      ∙ append-nil csidEls
+  none-such : (g : Item → Bool) → ((q : NewPdr) → g (createsPdr q) ≡ false) → ((e : NewEndpoint) → g (createsEndpoint e) ≡ false) → ((c : Fqcsid) → g (setsCsid c) ≡ false) → any g items ≡ false
+  unfolding items any
+  none-such g a b c =
+      any-none pdrItem g (λ q. a (restoredPdr s q)) (x .pdrs) _ ∙ any-none endpointItem g (λ e. b (restoredEndpoint s e)) (x .endpoints) _
+      ∙ ap (any g) (sym (append-nil (map csidItem (x .csids)))) ∙ any-none csidItem g (λ d. c (recordCsid d)) (x .csids) []
 
-  pdrs-read : (qs : List Pdr) → T (all (pdrAllowed s live) qs) → map newPdr (map groupOf (map (asElement 1 (pdrContent s) (pdrAllowed s live)) qs)) ≡ map (restoredPdr s) qs
-  unfolding asElement
-  pdrs-read [] h = refl
-  pdrs-read (q ∷ qs) h = ap₂ _∷_ (pdr-read s hs q live (all-head (pdrAllowed s live) q qs h)) (pdrs-read qs (all-tail (pdrAllowed s live) q qs h))
-
-  endpoints-read : (qs : List Endpoint) → T (all (endpointAllowed s) qs)
-      → collect newEndpoint (map groupOf (map (asElement 127 (endpointContent s) (endpointAllowed s)) qs)) ≡ map (restoredEndpoint s) qs
-  unfolding asElement collect endpointAllowed endpointTests
-  endpoints-read [] h = refl
-  endpoints-read (q ∷ qs) h =
-      ap₂ consOption (endpoint-read s hs q (each (endpointTests s q) (all-head (endpointAllowed s) q qs h) .1 .0)) (endpoints-read qs (all-tail (endpointAllowed s) q qs h))
-
-  csids-read : (qs : List Csid) → T (all csidAllowed qs) → collect fqcsidIn (map (asElement 65 csidContent csidAllowed) qs) ≡ map recordCsid qs
-  unfolding asElement collect fqcsidIn csidContent answerValue
-  csids-read [] h = refl
-  csids-read (q ∷ qs) h =
-      ap₂ consOption (ap (λ (a : Answer Fqcsid). answerValue a) (csid-read q (all-head csidAllowed q qs h))) (csids-read qs (all-tail csidAllowed q qs h))
-
-  none-null : (qs : List Csid) → any isNull (map (asElement 65 csidContent csidAllowed) qs) ≡ false
-  unfolding asElement any isNull csidContent fqcsidOctets recordCsid
-  none-null [] = refl
-  none-null (q ∷ qs) = none-null qs
-
-  tops-request : requestOf 50 tops ≡ restoredRequest s x
-  unfolding requestOf restoredRequest groupsOf ofType actedOn member fseidIn restorationIn contentOf findBy hasType octetAt bit there any answerValue tops keep
-  tops-request =
+  items-request : requestOf (x .seid) (having items started) ≡ restoredRequest s x
+  unfolding requestOf restoredRequest restoringIn pdrIn endpointIn changeIn gonePdrIn goneEndpointIn csidIn clears isUnsupported
+  items-request =
+      let ps = x .pdrs in
+      let es = x .endpoints in
+      let cs = x .csids in
       λ j. record {
-        seid = ap (λ (a : Answer ℕ). valueOr 0 (answerValue a)) fseid-read j;
+        seid = x .seid;
         restoring = true;
-        pdrs = (ap (λ (es : List Element). map newPdr (map groupOf es)) kept-pdrs ∙ pdrs-read′) j;
-        endpoints = (ap (λ (es : List Element). collect newEndpoint (map groupOf es)) kept-endpoints ∙ endpoints-read′) j;
-        changes = [];
-        gonePdrs = [];
-        goneEndpoints = [];
-        csids = (ap (collect fqcsidIn) kept-csids ∙ csids-read′) j;
-        clears = (ap (any isNull) kept-csids ∙ none-null′) j;
-        unsupported = false;
+        pdrs = (collected pdrIn ∙ (λ i. collect-each (restoredPdr s) ps i ++ (collect-none es i ++ collect-none cs i)) ∙ append-nil (map (restoredPdr s) ps)) j;
+        endpoints = (collected endpointIn ∙ (λ i. collect-none ps i ++ (collect-each (restoredEndpoint s) es i ++ collect-none cs i)) ∙ append-nil (map (restoredEndpoint s) es)) j;
+        changes = (collected changeIn ∙ (λ i. collect-none ps i ++ (collect-none es i ++ collect-none cs i))) j;
+        gonePdrs = (collected gonePdrIn ∙ (λ i. collect-none ps i ++ (collect-none es i ++ collect-none cs i))) j;
+        goneEndpoints = (collected goneEndpointIn ∙ (λ i. collect-none ps i ++ (collect-none es i ++ collect-none cs i))) j;
+        csids =
+            (ap (λ (b : Bool). pick b cleared (changed (collect csidIn items))) (none-such clears (λ _. refl) (λ _. refl) (λ _. refl))
+            ∙ ap changed (collected csidIn ∙ (λ i. collect-none ps i ++ (collect-none es i ++ collect-each recordCsid cs i)))) j;
+        unsupported = none-such isUnsupported (λ _. refl) (λ _. refl) (λ _. refl) j;
       }
-    where
-      pdrs-read′ : map newPdr (map groupOf pdrEls) ≡ map (restoredPdr s) (x .pdrs)
-      pdrs-read′ = unfold pdrEls in (pdrs-read (x .pdrs) pdrs-ok)
 
-      endpoints-read′ : collect newEndpoint (map groupOf endpointEls) ≡ map (restoredEndpoint s) (x .endpoints)
-      endpoints-read′ = unfold endpointEls in (endpoints-read (x .endpoints) (endpointsOk s hs x hx))
+  msg-read : read msg ≡ done (restoredRequest s x)
+  unfolding read topRead finished restoringIn items
+  msg-read =
+      ap₂ (λ (k : ℕ) (xs : List ℕ). topRead k (elements xs)) msg-kind msg-body
+      ∙ ap (topRead 50) content-elements
+      ∙ tops-read (aloneIn tops)
+      ∙ ap (λ (is : List Item). done (requestOf (x .seid) (having is started)))
+      (append-assoc (map pdrItem (x .pdrs)) (map endpointItem (x .endpoints)) (map csidItem (x .csids)))
+      ∙ ap done items-request
 
-      csids-read′ : collect fqcsidIn csidEls ≡ map recordCsid (x .csids)
-      csids-read′ = unfold csidEls in (csids-read (x .csids) (csidsOk s hs x hx))
-
-      none-null′ : any isNull csidEls ≡ false
-      none-null′ = unfold csidEls in (none-null (x .csids))
+  pub msg-sound : readFault msg ≡ none
+  unfolding readFault faultIn
+  msg-sound = ap faultIn msg-read
 
   pub msg-request : readRequest msg ≡ restoredRequest s x
-  unfolding readRequest
-  msg-request =
-      ap₂ (λ (k : ℕ) (xs : List ℕ). requestOf k (elements xs)) msg-kind msg-body ∙ ap (requestOf 50) content-elements ∙ tops-request
+  unfolding readRequest askedIn
+  msg-request = ap askedIn msg-read

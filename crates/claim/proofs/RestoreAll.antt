@@ -18,7 +18,8 @@ use Rattle.rules.specs.Model.{Settings, Session, Sessions, seidOf, sessionTeids
 use Rattle.rules.specs.Layout.{encode}
 use Rattle.laws.proofs.TableLaws.{ipv4-four}
 use Rattle.rules.specs.Sound.{settingsAllowed, sessionAllowed, apart, sessionsTests, sessionsAllowed}
-use Rattle.rules.specs.Message.{readRequest, headerAllowed, firstOctetAllowed, Request}
+use Rattle.rules.specs.Message.{headerAllowed, firstOctetAllowed}
+use Rattle.rules.specs.Reading.{readRequest, Request}
 use Rattle.laws.proofs.MessageLaws.{length-one}
 use Rattle.rules.specs.Elements.{fseidOctets}
 use Rattle.laws.proofs.ReplyLaws.{reply-cause, sequence-three}

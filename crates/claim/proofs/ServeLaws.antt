@@ -19,7 +19,8 @@ use Rattle.rules.specs.Model.{Settings, Sessions}
 use Rattle.rules.specs.Layout.{tableLength, encode, viewSettings, viewSessions}
 use Rattle.laws.proofs.TableLaws.{ipv4-four, sound-encode}
 use Rattle.rules.specs.Sound.{settingsAllowed, sessionsAllowed, soundTests, sound}
-use Rattle.rules.specs.Message.{kindOf, headerSeid, headerAllowed, served, readRequest, sequenceOf}
+use Rattle.rules.specs.Message.{kindOf, headerSeid, headerAllowed, served, sequenceOf}
+use Rattle.rules.specs.Reading.{readRequest}
 use Rattle.rules.specs.Grants.{grants}
 use Rattle.rules.specs.Stages.{Verdict, verdict}
 use Rattle.rules.specs.Reply.{replyBody, replySeid, reply}

@@ -17,7 +17,8 @@ use Rattle.rules.specs.Model.{Settings, Sessions}
 use Rattle.rules.specs.Layout.{encode}
 use Rattle.laws.proofs.TableLaws.{ipv4-four, sound-encode, encoded-settings, sessions-back}
 use Rattle.rules.specs.Sound.{settingsAllowed, sessionsAllowed, sound}
-use Rattle.rules.specs.Message.{kindOf, headerSeid, headerAllowed, firstOctetAllowed, served, readRequest}
+use Rattle.rules.specs.Message.{kindOf, headerSeid, headerAllowed, firstOctetAllowed, served}
+use Rattle.rules.specs.Reading.{readRequest}
 use Rattle.laws.proofs.MessageLaws.{length-one}
 use Rattle.rules.specs.Grants.{Grant, grants}
 use Rattle.rules.specs.Stages.{Verdict, verdict}

@@ -12,7 +12,8 @@ use lib.Dec.{T, eqb, nltb→le}
 use Rattle.octets.specs.Choice.{pick, oneOf}
 use Rattle.rules.specs.Model.{Settings, Sessions}
 use Rattle.rules.specs.Elements.{Refusal, missing, conditional, tooShort, incorrect, causeOf}
-use Rattle.rules.specs.Message.{Fault, kindOf, frameFault, readFault, readRequest}
+use Rattle.rules.specs.Message.{kindOf, frameFault}
+use Rattle.rules.specs.Reading.{Fault, readFault, readRequest}
 use Rattle.rules.specs.Stages.{isLive, invalidAllocation, brokenRules, breaksRule, tooManySessions, tooManyPdrs, tooManyEndpoints, tooFewTeids, noRoom, Verdict, plain, judge, entrySession, judged, fromReading, fromFraming, unknownSession, verdict}
 
 -- tests that all fail

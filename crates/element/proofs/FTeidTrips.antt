@@ -5,7 +5,7 @@ use mathlib.Core.Option.{none, some}
 use mathlib.Core.Path.{_≡_, refl, sym, ap, ap₂, _∙_}
 use Prim.Native.Nat.{ℕ, _+_, _-_, _*_, _/_, _%_, _≤_, _<_}
 use native.Mathlib.Omega.{arith}
-use borrow.Author.Tests.{le-ltb, ltb-false}
+use borrow.Author.Tests.{le-ltb, ltb-true, ltb-false}
 use lib.Dec.{T, ltb}
 use lib.ListN.{length, getD, take, drop, length-append, List·getD-append}
 use Rattle.octets.specs.Choice.{pick, flag, allOf}
@@ -139,6 +139,25 @@ fteid-written-read e (f ∷ xs) v o h p =
       fteid-octets u v m ∙ ap (fieldOctets ws) n ∙ octets-fields-all ws (f ∷ xs) o w,
       of-true (rw m at (fteid-allowed e u (p .low)) ∙ rw (one .0, g)),
     )
+
+-- a value that is read from octets has a struct that means it
+pub record StructOf (x : Fteid) : Type 0 where
+  pub struct : FTeid
+  pub means : fteidOf struct ≡ some x
+
+pub fteid-there : (e : Bool) (s : List ℕ) (x : Fteid) → T (octets s) → readFteid e s ≡ value x → StructOf x
+fteid-there e [] x o h = refused-is-not (sym (FTeidLaws.read-empty e [] refl) ∙ h)
+fteid-there e (y ∷ s) x o h = by (wrongFlags e (y % 16)) (ltb (fteidLength (y % 16)) (length (y ∷ s))) refl refl
+  where
+    by : (w l : Bool) → wrongFlags e (y % 16) ≡ w → ltb (fteidLength (y % 16)) (length (y ∷ s)) ≡ l → StructOf x
+    by true l p q = refused-is-not (sym (FTeidLaws.read-wrong e (y ∷ s) (omega arith) p) ∙ h)
+    by false false p q = refused-is-not (sym (FTeidLaws.read-short e (y ∷ s) (omega arith) p (ltb-false _ _ q)) ∙ h)
+    by false true p q =
+        let l : fteidLength (y % 16) < length (y ∷ s) = ltb-true _ _ q in
+        record {
+          struct = _;
+          means = struct-means (y ∷ s) o (y % 16) (omega arith) (FTeidLaws.right-anywhere e (y % 16) p) l ∙ ap some (value-same (sym (FTeidLaws.read-value e (y ∷ s) p l) ∙ h));
+        }
 
 -- one struct means a value
 same-fteid : {v w : FTeid} → fteidNumbers v ≡ fteidNumbers w → v ≡ w

@@ -9,10 +9,10 @@ use lib.ListN.{length, take, drop, length-drop, drop-of-length-le}
 use lib.Seq.{take-all}
 use lib.Dec.{ltb, eqb}
 use borrow.Author.Tests.{lt-ltb, le-ltb, eq-eqb, ne-eqb, ltb-true, ltb-false}
-use Rattle.octets.specs.Choice.{pick, valueOr}
+use Rattle.octets.specs.Choice.{pick}
 use Rattle.octets.specs.Octets.{part, number, numberAt}
-use Rattle.octets.specs.Lists.{keep, any, findBy}
-use Rattle.rules.specs.Message.{Element, elementType, elementLength, elementsUpTo, elements, hasType, there, contentOf}
+use Rattle.octets.specs.Lists.{keep}
+use Rattle.rules.specs.Message.{Element, elementType, elementLength, elementsUpTo, elements, hasType}
 use Rattle.laws.proofs.MessageLaws.{shorter, elements-enough}
 use Rattle.frame.proofs.Walk.{part-from}
 use Rattle.elements.specs.FirstOf.{firstOf}
@@ -88,10 +88,6 @@ countBy p es = length (keep p es)
 abbrev pub countOf : ℕ → List Element → ℕ
 countOf kind es = countBy (hasType kind) es
 
--- the value of the first of a type
-abbrev pub valueIn : ℕ → List Element → List ℕ
-valueIn kind es = valueOr [] (contentOf kind es)
-
 module _ (p : Element → Bool) (e : Element) (es : List Element) where
   count-yes : p e ≡ true → countBy p (e ∷ es) ≡ countBy p es + 1
   unfolding keep
@@ -113,30 +109,6 @@ module _ (kind t : ℕ) (v : List ℕ) where
   pub type-other : (t ≡ kind → ⊥) → hasType kind (el t v) ≡ false
   unfolding hasType
   type-other h = ne-eqb t kind h
-
-module _ (kind t : ℕ) (v : List ℕ) (es : List Element) where
-  pub value-same : t ≡ kind → valueIn kind (el t v ∷ es) ≡ v
-  unfolding contentOf findBy hasType
-  value-same h = rw (eq-eqb t kind h)
-
-  pub value-other : (t ≡ kind → ⊥) → valueIn kind (el t v ∷ es) ≡ valueIn kind es
-  unfolding contentOf findBy hasType
-  value-other h = rw (ne-eqb t kind h)
-
-pub value-none : (kind : ℕ) → valueIn kind [] ≡ []
-unfolding contentOf findBy
-value-none kind = refl
-
--- an element is there where there is not none
-pub there-count : (kind : ℕ) (es : List Element) → not (eqb (countOf kind es) 0) ≡ there kind es
-unfolding there any keep
-there-count kind [] = refl
-there-count kind (e ∷ es) = by-test (hasType kind e) (there-count kind es)
-  where
-    by-test : (b : Bool) → not (eqb (countOf kind es) 0) ≡ any (hasType kind) es
-        → not (eqb (length (pick b (e ∷ keep (hasType kind) es) (keep (hasType kind) es))) 0) ≡ (b || any (hasType kind) es)
-    by-test true h = rw (ne-eqb (suc (countOf kind es)) 0 (λ z. absurd (omega arith)))
-    by-test false h = h
 
 -- ---- the laws of the functions
 
@@ -164,10 +136,3 @@ module _ {s : List ℕ} {t e : ℕ} (f : Front s t e) (p : Element → Bool) whe
   uncounted {a} n h q =
       let k : countBy p (elements s) ≡ countBy p (elements (behind s e)) = ap (countBy p) (f .cons) ∙ count-no p _ _ q in
       omega arith
-
-module _ {s : List ℕ} {t e : ℕ} (f : Front s t e) (kind : ℕ) where
-  pub found : {a : List ℕ} → a ≡ valueIn kind (elements s) → t ≡ kind → take (e - 4) (drop 4 s) ≡ a
-  found h q = sym (h ∙ ap (valueIn kind) (f .cons) ∙ value-same kind t _ _ q)
-
-  pub passed : {a : List ℕ} → a ≡ valueIn kind (elements s) → (t ≡ kind → ⊥) → a ≡ valueIn kind (elements (behind s e))
-  passed h q = h ∙ ap (valueIn kind) (f .cons) ∙ value-other kind t _ _ q

@@ -1,13 +1,11 @@
-// Walking the elements of a message or of a group: the one at the front, how many there are of a type, and the value of the first of a type.
+// Walking the elements of a message or of a group: the one at the front, and how many there are of a type.
 //
 // Octets here may be any: an element that runs past the end has the octets that are there. So each promise is an equation with no
 // assumption, and stage 2 need not have been passed.
 ghost use mathlib.Core.Path.{_≡_};
 ghost use lib.ListN.{length};
-ghost use Rattle.octets.specs.Choice.{valueOr};
 ghost use Rattle.octets.specs.Lists.{keep};
-ghost use mathlib.Core.List.{[]};
-ghost use Rattle.rules.specs.Message.{elements, hasType, there, contentOf};
+ghost use Rattle.rules.specs.Message.{elements, hasType};
 ghost use Rattle.elements.specs.FirstOf.{firstOf};
 
 // What stands at the front of some octets.
@@ -45,29 +43,6 @@ pub fn count(s: &[u8], kind: u64) -> usize
         };
         if found == kind {
             n += 1;
-        }
-        rest = &rest[end..];
-    }
-}
-
-// Whether an element of s has the type kind.
-pub fn has(s: &[u8], kind: u64) -> bool
-    ensures { λ r. ⌜ r ≡ there kind (elements (now (s .entry))) ⌝ }
-{
-    count(s, kind) != 0
-}
-
-// The value of the first element of s that has the type kind, a part of s; no octets where there is none.
-pub fn content(s: &[u8], kind: u64) -> &[u8]
-    ensures { λ r. ⌜ now r ≡ valueOr [] (contentOf kind (elements (now (s .entry)))) ⌝ }
-{
-    let mut rest = s;
-    loop {
-        let First::Element(found, end) = first_of(rest) else {
-            return &rest[..0];
-        };
-        if found == kind {
-            return &rest[4..end];
         }
         rest = &rest[end..];
     }

@@ -12,32 +12,32 @@ use Rattle.octets.proofs.Tests.{is-false}
 use Rattle.rules.specs.Limits.{maxSessions, maxPool}
 use Rattle.rules.specs.Model.{Settings, Sessions, heldTeids}
 use Rattle.rules.specs.Layout.{viewSettings, viewSessions}
-use Rattle.rules.specs.Message.{Request, readRequest}
+use Rattle.rules.specs.Reading.{Request, readRequest}
 use Rattle.rules.specs.Grants.{Grant, choices, grants, grantedTeid}
 use Rattle.rules.specs.Stages.{Verdict, plain, entrySession, createdPdrs, createdEndpoints}
 use Rattle.rules.specs.Reply.{reply}
 use Rattle.rules.specs.Serve.{replyTo}
+use Rattle.laws.proofs.RequestLaws.{RequestRead, request-read}
+use Rattle.laws.proofs.GrantLaws.{choices-few}
 use Rattle.claim.proofs.VerdictLaws.{Passed, passed, few-new-pdrs, few-new-endpoints}
 use Rattle.claim.proofs.KeptRules.{RulesKept, rules-kept}
 use Rattle.claim.proofs.ServeLaws.{TableKept, table-kept}
 use Rattle.claim.proofs.FreeTeids.{held-in-pool}
-use Rattle.claim.proofs.Changed.{request-read}
-use Rattle.claim.proofs.ChangedRecords.{RequestRead}
 use Rattle.pool.proofs.TakenLaws.{Means, map-means}
 use Rattle.plan.specs.Rows.{rowWidth, rowsOf, requestIn}
-use Rattle.grants.specs.Choosing.{Granted}
+use Rattle.grants.specs.Choosing.{rowWith, Granted}
+use Rattle.grants.proofs.RequestLaws.{alike-with, csids-same, nulls-same}
 use Rattle.grants.proofs.GrantLaws.{IsGranted, granted}
 use Rattle.grants.proofs.FitLaws as fits
-use Rattle.grants.proofs.FitLaws.{granted-fit}
+use Rattle.grants.proofs.FitLaws.{granted-fit, read-choices-fit}
 use Rattle.grants.proofs.ChoiceLaws.{choiceFits}
-use Rattle.grants.proofs.ReadLaws.{read-choices-fit, choices-few}
 use Rattle.writing.specs.Placed.{written}
 use Rattle.created.specs.Entries.{maxGrants, grantsAt}
 use Rattle.areas.specs.Counted.{withRecord}
 use Rattle.session.specs.Areas.{sessionArea}
 use Rattle.session.specs.Build.{built}
 use Rattle.session.proofs.Built.{Ready}
-use Rattle.engine.specs.Answers.{verdictOn, Answers, Accepting}
+use Rattle.engine.specs.Answers.{verdictOn, Answers, OnlyNull, Accepting}
 use Rattle.engine.proofs.Accepted.{RowsFit, TeidsStored, ready}
 use Rattle.engine.proofs.Granting.{rows-fit, teids-stored, whole-rows}
 use Rattle.engine.proofs.NewTable.{changed-table}
@@ -94,11 +94,17 @@ module _ {t words msg slot plan out : List ℕ} {seid n : ℕ} (a : Accepting t 
         subst (λ (gs : List Grant). TeidsStored (grantedTeid gs) (rowsOf n plan′)) same-grants
         (subst (λ (rs : List (List ℕ)). TeidsStored (grantedTeid (grants s m q)) rs) (sym (is-granted .rows)) (teids-stored (grants s m q) (rowsOf n plan) (whole-rows n plan (a .rows))))
 
+    only : OnlyNull (rowsOf n plan′)
+    only =
+        let h = rowWith (grants s m q) in
+        let like = alike-with (grants s m q) in
+        subst OnlyNull (sym (is-granted .rows)) (λ e. csids-same h like (rowsOf n plan) ∙ a .onlyNull (sym (nulls-same h like (rowsOf n plan)) ∙ e))
+
     fit : RowsFit (rowsOf n plan′)
-    fit = rows-fit seid (a .restoring) (a .noted) (rowsOf n plan′) (subst RequestRead means′ (request-read msg (a .asked .octets)))
+    fit = rows-fit seid (a .restoring) (a .noted) (rowsOf n plan′) only (subst RequestRead means′ (request-read msg (a .asked .octets)))
 
     is-ready : Ready (grantedTeid (grants s m (readRequest msg))) (rowsOf n plan′) (entrySession m msg)
-    is-ready = ready maxSessions s m msg passes seid (a .restoring) (a .noted) (rowsOf n plan′) means′ fit stored
+    is-ready = ready maxSessions s m msg passes seid (a .restoring) (a .noted) (rowsOf n plan′) means′ fit only stored
 
     same-seid : seid ≡ readRequest msg .seid
     unfolding requestIn

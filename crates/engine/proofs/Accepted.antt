@@ -1,19 +1,20 @@
 -- What an accepted request gives the building of its session: every check has passed, so the plan's rows and the session at entry are ready.
 -- Assumes nothing.
-use mathlib.Core.Path.{_≡_, refl, sym, ap, _∙_, subst}
-use mathlib.Core.Bool.{Bool, true, not}
+use mathlib.Core.Path.{_≡_, refl, sym, ap, subst}
+use mathlib.Core.Bool.{Bool, not}
 use mathlib.Core.List.{List, [], _∷_, map}
 use Prim.Native.Nat.{ℕ, _+_, _-_, _≤_}
 use native.Mathlib.Omega.{arith}
 use lib.Dec.{T}
 use lib.ListN.{length, length-map}
-use Rattle.octets.specs.Lists.{anyIn, hasRepeat, all, any, keep, collect}
+use Rattle.octets.specs.Lists.{anyIn, hasRepeat, all, keep}
 use Rattle.rules.specs.Model.{Settings, Session, Sessions, pdrId, endpointId}
-use Rattle.rules.specs.Message.{Request, kindOf, readRequest}
+use Rattle.rules.specs.Message.{kindOf}
+use Rattle.rules.specs.Reading.{Request, readRequest}
 use Rattle.rules.specs.Grants.{Kind, grants, grantedTeid}
 use Rattle.rules.specs.Stages.{entrySession, newPdrId, newEndpointId, createdPdrs, createdEndpoints, livePdrs, liveEndpoints}
 use Rattle.rules.specs.Apply.{createPdr, createEndpoint, keptPdr, keptEndpoint}
-use Rattle.plan.specs.Rows.{tagged, rowPdrId, rowEndpointId, rowPdr, rowEndpoint, rowCsid, isNullRow, requestIn}
+use Rattle.plan.specs.Rows.{tagged, rowPdrId, rowEndpointId, rowPdr, rowEndpoint, requestIn}
 use Rattle.claim.proofs.VerdictLaws.{Passed}
 use Rattle.claim.proofs.KeptRules.{RulesKept, rules-kept, RoomLeft, room-left}
 use Rattle.claim.proofs.InsertLaws.{removed-length}
@@ -21,7 +22,7 @@ use Rattle.octets.proofs.MemberLaws.{all-in}
 use Rattle.session.proofs.RowRecords.{pdrOf, endpointOf}
 use Rattle.session.proofs.Passes.{endpointRow, pdrRow, csidRow}
 use Rattle.session.proofs.Built.{Ready}
-use Rattle.engine.proofs.OnlyNull.{only-null}
+use Rattle.engine.specs.Answers.{OnlyNull}
 
 -- the rows' fields fit the octets that they get
 pub record RowsFit (rows : List (List ℕ)) : Type 0 where
@@ -76,11 +77,7 @@ module _ (limit : ℕ) (s : Settings) (m : Sessions) (msg : List ℕ) (p : Passe
       (removed-length pdrId (r .gonePdrs) (x .pdrs) (rules .gonePdrsOnce) (all-in (r .gonePdrs) (map pdrId (x .pdrs)) (unfold livePdrs in (rules .gonePdrsLive))))
       (room .pdrs) (sym (length-map (tagged 1 rows) rowPdr))
 
-  null-only : any isNullRow (tagged 65 rows) ≡ true → collect rowCsid (tagged 65 rows) ≡ []
-  unfolding requestIn
-  null-only e = sym (ap (λ (q : Request). q .csids) means) ∙ only-null msg (p .read) (ap (λ (q : Request). q .clears) means ∙ e)
-
-  module _ (fit : RowsFit rows) (stored : TeidsStored (grantedTeid (grants s m (readRequest msg))) rows) where
+  module _ (fit : RowsFit rows) (only : OnlyNull rows) (stored : TeidsStored (grantedTeid (grants s m (readRequest msg))) rows) where
     pub ready : Ready (grantedTeid (grants s m (readRequest msg))) rows x
     ready =
         record {
@@ -95,5 +92,5 @@ module _ (limit : ℕ) (s : Settings) (m : Sessions) (msg : List ℕ) (p : Passe
           pdrsNew = unfold createdPdrs livePdrs requestIn in (subst (λ (l : List ℕ). T (not (anyIn l (map pdrId (x .pdrs))))) (pdr-ids (tagged 1 rows)) (rules .createdPdrsNew));
           endpointTeids = stored .endpointTeids;
           pdrTeids = stored .pdrTeids;
-          onlyNull = null-only;
+          onlyNull = only;
         }

@@ -12,7 +12,9 @@ use Rattle.octets.specs.Octets.{put}
 use Rattle.rules.specs.Limits.{maxSessions, maxPdrs, maxEndpoints}
 use Rattle.rules.specs.Model.{Settings, Sessions}
 use Rattle.rules.specs.Layout.{viewSettings, viewSessions}
-use Rattle.rules.specs.Message.{kindOf, headerSeid, frameFault, readFault, readRequest}
+use Rattle.rules.specs.Message.{kindOf, headerSeid, frameFault}
+use Rattle.rules.specs.Reading as reading
+use Rattle.rules.specs.Reading.{readFault, readRequest}
 use Rattle.rules.specs.Stages.{Verdict, plain, entrySession, judged, unknownSession}
 use Rattle.rules.specs.Reply.{reply}
 use Rattle.rules.specs.Serve.{replyTo}
@@ -25,7 +27,7 @@ use Rattle.writing.specs.Placed.{written}
 use Rattle.frame.specs.Framed.{faultIn}
 use Rattle.frame.specs.declared.Framing.{Framing}
 use Rattle.frame.specs.declared.Framing.the-variants as framings
-use Rattle.reading.specs.Verdicts.{told, numbered}
+use Rattle.reading.specs.Verdicts.{numbered, outcome}
 use Rattle.reading.specs.declared.Verdict as read
 use Rattle.reading.specs.declared.Verdict.the-variants.{Fine}
 use Rattle.engine.proofs.Faults.{framed, read-fine}
@@ -75,7 +77,7 @@ module _ (t msg out : List ℕ) (a : Asked t msg out) (live : Live t msg) (fr : 
 
 -- from what the code's readers answer
 pub deleted-through : (t msg out : List ℕ) (f : Framing) (v : read.Verdict) (seid used : ℕ) (out′ t′ : List ℕ) → Asked t msg out → Live t msg → kindOf msg ≡ 54 → seid ≡ headerSeid msg
-    → faultIn f ≡ frameFault msg → f ≡ framings.Framed → told v ≡ numbered (readFault msg) → v ≡ Fine
+    → faultIn f ≡ frameFault msg → f ≡ framings.Framed → outcome v (readRequest msg) ≡ numbered (reading.read msg) → v ≡ Fine
     → (used, out′) ≡ written (reply (viewSettings t) msg 0 (plain 1) []) out → t′ ≡ withoutRecord sessionArea seid t → Answers t msg out used out′ t′
 deleted-through t msg out f v seid used out′ t′ a live del es fe fq ve vq w d =
     deleted-answers t msg out a live (framed t msg out a live f fe fq) (read-fine t msg out a live v ve vq) del seid used out′ t′ es w d

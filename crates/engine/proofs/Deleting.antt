@@ -1,17 +1,22 @@
 -- A deletion of a live session without a fault is accepted: it has no records of its own, so no rule can be broken and nothing be short.
 -- Assumes nothing.
 use mathlib.Core.Path.{_≡_, refl}
-use mathlib.Core.Bool.{false}
-use mathlib.Core.List.{List, []}
+use mathlib.Core.Bool.{Bool, true, false, not, _&&_, _||_}
+use mathlib.Core.List.{List, [], _∷_}
 use Prim.Native.Nat.{ℕ, _+_, _-_, _≤_}
 use native.Mathlib.Omega.{arith}
-use borrow.Author.Tests.{le-ltb}
+use borrow.Author.Tests.{le-ltb, eqb-true}
 use lib.Dec.{eqb, ltb}
 use lib.ListN.{length}
-use Rattle.octets.specs.Lists.{member, any, findBy, collect, anyIn, allIn, hasRepeat, allPairs}
+use Rattle.octets.specs.Choice.{pick}
+use Rattle.octets.specs.Lists.{member, any, collect, anyIn, allIn, hasRepeat, allPairs}
+use Rattle.octets.proofs.Tests.{pick-either}
 use Rattle.rules.specs.Limits.{maxPdrs, maxEndpoints}
 use Rattle.rules.specs.Model.{Settings, Session, Sessions, freeCount}
-use Rattle.rules.specs.Message.{Element, Request, kindOf, body, elements, ofType, groupsOf, actedOn, requestOf, readRequest, fseidIn, contentOf, there}
+use Rattle.rules.specs.Elements.{incorrect, Fqcsid, readFqcsid, nodeOf}
+use Rattle.rules.specs.Message.{Element, kindOf, body, elements, actedOn}
+use Rattle.rules.specs.Reading.{Request, Reading, faulty, done, refusal, andThen, named, Draft, emptyDraft, csidCountAllowed, withCsid, csidRead, actedRead, elementRead, elementsRead, requestOf, finished, aloneIn, topRead, read, askedIn, readRequest}
+use Rattle.laws.proofs.ReadLaws.{OnDone, then-done}
 use Rattle.rules.specs.Grants.{choices, needFrom, need, grantFrom, grants}
 use Rattle.rules.specs.Stages.{plain, fteidsOf, invalidAllocation, createdPdrs, createdEndpoints, updatedPdrs, idTwice, createdLive, absentId, updatesRemoved, namesAbsent, endpointInUse, restoredHoldings, clash, requestRules, brokenRules, breaksRule, tooManySessions, tooManyPdrs, tooManyEndpoints, tooFewTeids, noRoom, judge}
 
@@ -25,16 +30,42 @@ pub record Empty (r : Request) : Type 0 where
   pub goneEndpoints : r .goneEndpoints ≡ []
   pub unsupported : r .unsupported ≡ false
 
--- which a deletion is
-empty-of : (kind : ℕ) (es : List Element) → kind ≡ 54 → Empty (requestOf kind es)
-unfolding requestOf ofType groupsOf actedOn member collect any there fseidIn contentOf findBy
-empty-of kind es e =
-    rw e
-    (record { seid = refl; pdrs = refl; endpoints = refl; changes = refl; gonePdrs = refl; goneEndpoints = refl; unsupported = refl })
+-- FQ-CSIDs alone are acted on in a deletion, and they are checked and otherwise unused
+abbrev NoItems : Draft → Type 0
+NoItems d = d .items ≡ []
+
+csid-unused : (alone : Bool) (v : List ℕ) (d : Draft) → NoItems d → OnDone NoItems (csidRead 54 alone v d)
+unfolding csidRead withCsid readFqcsid
+csid-unused alone [] d h = tt
+csid-unused alone (x ∷ xs) d h = one (named 65 (readFqcsid (x ∷ xs)))
+  where
+    one : (r : Reading Fqcsid) → OnDone NoItems (andThen r (λ c. pick (csidCountAllowed 54 c && not (member (nodeOf c) (d .nodes))) (done (withCsid 54 c d)) (refusal incorrect 65)))
+    one (faulty f) = tt
+    one (done c) = pick-either (OnDone NoItems) (csidCountAllowed 54 c && not (member (nodeOf c) (d .nodes))) (done (withCsid 54 c d)) (refusal incorrect 65) h tt
+
+unused : (alone : Bool) (es : List Element) (d : Draft) → NoItems d → OnDone NoItems (elementsRead 54 alone es d)
+unfolding elementsRead elementRead actedOn member actedRead
+unused alone [] d h = h
+unused alone (e ∷ es) d h =
+    then-done NoItems NoItems (elementRead 54 alone e d) (elementsRead 54 alone es) (one (eqb (e .type) 65) refl) (λ d′ h′. unused alone es d′ h′)
+  where
+    one : (b : Bool) → eqb (e .type) 65 ≡ b → OnDone NoItems (pick (b || false) (actedRead 54 alone (e .type) (e .content) d) (done d))
+    one true q = rw (eqb-true (e .type) 65 q) (csid-unused alone (e .content) d h)
+    one false q = h
+
+empty-of : (d : Draft) → NoItems d → Empty (requestOf 0 d)
+unfolding requestOf collect any
+empty-of d h = rw h (record { seid = refl; pdrs = refl; endpoints = refl; changes = refl; gonePdrs = refl; goneEndpoints = refl; unsupported = refl })
+
+-- so a deletion has no records
+asked-empty : (r : Reading Draft) → OnDone NoItems r → Empty (askedIn (andThen r (finished 54)))
+unfolding askedIn finished
+asked-empty (faulty f) h = empty-of emptyDraft refl
+asked-empty (done d) h = empty-of d h
 
 pub deletion-empty : (msg : List ℕ) → kindOf msg ≡ 54 → Empty (readRequest msg)
-unfolding readRequest
-deletion-empty msg e = empty-of (kindOf msg) (elements (body msg)) e
+unfolding readRequest read topRead
+deletion-empty msg e = let es = elements (body msg) in rw e (asked-empty (elementsRead 54 (aloneIn es) es emptyDraft) (unused (aloneIn es) es emptyDraft refl))
 
 -- with no records no rule is broken and nothing is short
 module _ (s : Settings) (m : Sessions) (x : Session) (r : Request) (e : Empty r) where

@@ -19,7 +19,8 @@ use Rattle.rules.specs.Limits.{maxSessions}
 use Rattle.rules.specs.Model.{Settings, Session, Sessions}
 use Rattle.rules.specs.Layout.{sessionOctets, encode, viewSession, viewArea, viewSettings, viewSessions, sessionHead, pdrWidth, endpointWidth, csidWidth}
 use Rattle.rules.specs.Sound.{sound, sessionAllowed, sessionsTests, sessionsAllowed}
-use Rattle.rules.specs.Message.{kindOf, headerSeid, readRequest}
+use Rattle.rules.specs.Message.{kindOf, headerSeid}
+use Rattle.rules.specs.Reading.{readRequest}
 use Rattle.rules.specs.Stages.{hasSeid, sessionOf, isLive, newSession, atEntry, entrySession}
 use Rattle.laws.proofs.LayoutLaws.{session-back}
 use Rattle.claim.proofs.ServeLaws.{TableKept, table-kept}

@@ -12,24 +12,25 @@ use lib.ListN.{length, drop, length-drop}
 use lib.Seq.{length-take-le}
 use Rattle.octets.specs.Choice.{pick, consOption}
 use Rattle.octets.specs.Octets.{be, bit, slices}
-use Rattle.octets.specs.Lists.{all, keep, collect}
+use Rattle.octets.specs.Lists.{all, any, keep, collect}
 use Rattle.octets.proofs.Tests.{and-left, both, all-head, all-tail, is-true}
 use Rattle.octets.proofs.Ordered.{keep-passes}
-use Rattle.octets.proofs.ListLaws.{Every, OnSome}
+use Rattle.octets.proofs.ListLaws.{Every, OnSome, map-map}
 use Rattle.rules.specs.Model.{Tunnel, tunnel}
 use Rattle.rules.specs.Elements.{given, choose, Fqcsid, sets, removal, nodeTypeKept, nodeAddressAllowed, nodeAddressTests}
+use Rattle.rules.specs.Reading.{cleared, changed}
 use Rattle.rules.specs.Grants.{Kind, ofPdr, ofEndpoint, Grant, grantedTeid}
 use Rattle.rules.specs.Apply.{tunnelFrom, placeFrom, createPdr, createEndpoint}
-use Rattle.laws.proofs.RequestLaws.{PdrRead, EndpointRead}
+use Rattle.laws.proofs.RequestLaws.{PdrRead, EndpointRead, CsidsRead, RequestRead}
 use Rattle.laws.proofs.ReadLaws.{CsidRead}
-use Rattle.claim.proofs.ChangedRecords.{RequestRead}
-use Rattle.plan.specs.Rows.{word, hasTag, tagged, present, fteidFrom, rowFteid, rowLocal, rowPdr, rowEndpoint, rowCsid, rowAddress, requestIn, rowsOf}
+use Rattle.plan.specs.Rows.{word, hasTag, tagged, present, fteidFrom, rowFteid, rowLocal, rowPdr, rowEndpoint, rowCsid, rowAddress, isNullRow, requestIn, rowsOf}
 use Rattle.grants.specs.Choosing.{choosing, rowWith}
 use Rattle.grants.proofs.RequestLaws.{alike-with}
 use Rattle.grants.proofs.GrantLaws.{pdr-teid, endpoint-teid}
 use Rattle.session.specs.Records.{ifIs, placeKind}
 use Rattle.session.proofs.RowRecords.{pdrOf, endpointOf}
 use Rattle.session.proofs.Passes.{endpointRow, pdrRow, setsFit, csidRow}
+use Rattle.engine.specs.Answers.{OnlyNull}
 use Rattle.engine.proofs.Accepted.{RowsFit, TeidsStored}
 
 -- ---- the fields fit
@@ -95,20 +96,20 @@ tags : (t : ℕ) (rows : List (List ℕ)) → T (all (hasTag t) (tagged t rows))
 unfolding tagged
 tags t rows = keep-passes (hasTag t) rows
 
-pub rows-fit : (seid : ℕ) (restoring noted : Bool) (rows : List (List ℕ)) → RequestRead (requestIn seid restoring noted rows) → RowsFit rows
+pub rows-fit : (seid : ℕ) (restoring noted : Bool) (rows : List (List ℕ)) → OnlyNull rows → RequestRead (requestIn seid restoring noted rows) → RowsFit rows
 unfolding requestIn
-rows-fit seid restoring noted rows h =
+rows-fit seid restoring noted rows only h =
     record {
       endpointRows = endpoint-fits (tagged 127 rows) (tags 127 rows) (h .endpoints);
       pdrRows = pdr-fits (tagged 1 rows) (tags 1 rows) (h .pdrs);
-      csidRows = csid-fits (tagged 65 rows) (tags 65 rows) (h .csids);
+      csidRows = csid-fits (tagged 65 rows) (tags 65 rows) (values (any isNullRow (tagged 65 rows)) refl (h .csids));
     }
+  where
+    values : (b : Bool) → any isNullRow (tagged 65 rows) ≡ b → CsidsRead (pick b cleared (changed (collect rowCsid (tagged 65 rows)))) → Every CsidRead (collect rowCsid (tagged 65 rows))
+    values true e g = subst (Every CsidRead) (sym (only e)) tt
+    values false e g = g
 
 -- ---- the TEID words
-
-map-twice : {A B C : Type 0} (f : A → B) (g : B → C) (xs : List A) → map g (map f xs) ≡ map (λ x. g (f x)) xs
-map-twice f g [] = refl
-map-twice {A} {B} {C} f g (x ∷ xs) = ap (λ (l : List C). g (f x) ∷ l) (map-twice f g xs)
 
 -- a tunnel's TEID is the chosen one only of a CHOOSE
 same-tunnel : (f t a h l c n k : ℕ) → (bit 2 f ≡ true → n ≡ k) → tunnelFrom n (fteidFrom f t a h l c) ≡ tunnelFrom k (fteidFrom f t a h l c)
@@ -177,13 +178,13 @@ module _ (gs : List Grant) where
   teids-stored rows h =
       record {
         endpointTeids =
-            map-twice rowEndpoint (createEndpoint (grantedTeid gs)) (tagged 127 (map with rows))
+            map-map rowEndpoint (createEndpoint (grantedTeid gs)) (tagged 127 (map with rows))
             ∙ rows-with (λ row. createEndpoint (grantedTeid gs) (rowEndpoint row)) endpointOf 127
             (λ row l t. endpoint-stored (grantedTeid gs) (with row)
             (λ e. ap (grantedTeid gs ofEndpoint) (alike-with gs row .words 11 (λ z. omega arith))
             ∙ sym (endpoint-teid gs row l (chooses-as 127 row t (ap (bit 2) (sym (alike-with gs row .words 12 (λ z. omega arith))) ∙ e))))) rows h;
         pdrTeids =
-            map-twice rowPdr (createPdr (grantedTeid gs)) (tagged 1 (map with rows))
+            map-map rowPdr (createPdr (grantedTeid gs)) (tagged 1 (map with rows))
             ∙ rows-with (λ row. createPdr (grantedTeid gs) (rowPdr row)) pdrOf 1
             (λ row l t. pdr-stored (grantedTeid gs) (with row)
             (λ e. ap (grantedTeid gs ofPdr) (alike-with gs row .words 7 (λ z. omega arith))

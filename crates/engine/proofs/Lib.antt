@@ -1,4 +1,3 @@
-pub mod OnlyNull
 pub mod VerdictSteps
 pub mod Accepted
 pub mod NewTable

@@ -15,7 +15,8 @@ use Rattle.rules.specs.Model.{Settings, Session, Sessions, Pdr, Endpoint, Csid,
 use Rattle.rules.specs.Elements.{nodeTypeKept}
 use Rattle.rules.specs.Layout.{sessionOctets, encode}
 use Rattle.rules.specs.Sound.{settingsAllowed, sessionAllowed, sessionsAllowed, pdrAllowed, endpointAllowed, csidAllowed}
-use Rattle.rules.specs.Message.{kindOf, headerSeid, served, readRequest, Request}
+use Rattle.rules.specs.Message.{kindOf, headerSeid, served}
+use Rattle.rules.specs.Reading.{readRequest, Request}
 use Rattle.rules.specs.Grants.{Kind, grants, grantedTeid}
 use Rattle.rules.specs.Stages.{entrySession}
 use Rattle.rules.specs.Apply.{apply, putSession, follow}

@@ -7,7 +7,7 @@ use borrow.Author.Tests.{ne-eqb}
 use lib.ListN.{length}
 use Rattle.octets.specs.Octets.{put}
 use Rattle.rules.specs.Layout.{viewSettings, viewSessions}
-use Rattle.rules.specs.Message.{readRequest}
+use Rattle.rules.specs.Reading.{readRequest}
 use Rattle.rules.specs.Grants.{grants}
 use Rattle.rules.specs.Stages.{Verdict}
 use Rattle.rules.specs.Reply.{reply}

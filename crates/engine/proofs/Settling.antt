@@ -12,7 +12,8 @@ use Rattle.rules.specs.Limits.{maxSessions, maxPool}
 use Rattle.rules.specs.Model.{Settings, Session, Sessions, heldTeids}
 use Rattle.rules.specs.Layout.{viewSession, viewSettings, viewSessions}
 use Rattle.rules.specs.Sound.{poolTests, settingsTests, settingsAllowed}
-use Rattle.rules.specs.Message.{establishment, Request}
+use Rattle.rules.specs.Message.{establishment}
+use Rattle.rules.specs.Reading.{Request}
 use Rattle.rules.specs.Stages.{Verdict, plain, isLive, invalidAllocation, breaksRule, noRoom, judge, judged}
 use Rattle.claim.proofs.ServeLaws.{TableKept, table-kept}
 use Rattle.claim.proofs.FreeTeids.{held-in-pool}
@@ -88,6 +89,7 @@ module _ {t msg out plan words slot : List ℕ} {kind seid n free : ℕ} {restor
         noted = noted;
         means = r .means;
         rows = r .rows;
+        onlyNull = r .onlyNull;
         entry = e .entry;
         slotLong = e .place .long;
         marks = k .marks;

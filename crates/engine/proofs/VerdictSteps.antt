@@ -7,7 +7,8 @@ use mathlib.Core.List.{List}
 use Prim.Native.Nat.{ℕ}
 use Rattle.rules.specs.Model.{Settings, Sessions}
 use Rattle.rules.specs.Elements.{causeOf}
-use Rattle.rules.specs.Message.{Fault, frameFault, readFault}
+use Rattle.rules.specs.Message.{frameFault}
+use Rattle.rules.specs.Reading.{Fault, readFault}
 use Rattle.rules.specs.Stages.{plain, judged, fromReading, fromFraming, unknownSession, verdict}
 
 module _ (limit : ℕ) (s : Settings) (m : Sessions) (msg : List ℕ) where
@@ -24,7 +25,7 @@ module _ (limit : ℕ) (s : Settings) (m : Sessions) (msg : List ℕ) where
 
     module _ (framed : frameFault msg ≡ none) where
       -- stage 3
-      pub not-read : (f : Fault) → readFault msg ≡ some f → verdict limit s m msg ≡ record { cause = causeOf (f .cause); offending = some (f .at) }
+      pub not-read : (f : Fault) → readFault msg ≡ some f → verdict limit s m msg ≡ record { cause = causeOf (f .cause); offending = some (f .type) }
       unfolding verdict fromFraming fromReading
       not-read f e = rw (known, framed, e)
 

@@ -2,19 +2,21 @@
 -- Assumes nothing.
 use Prim.Native.Nat.{ℕ, _*_, _≤_, _<_}
 use mathlib.Core.Path.{_≡_}
-use mathlib.Core.Bool.{Bool, false}
-use mathlib.Core.List.{List}
+use mathlib.Core.Bool.{Bool, true, false}
+use mathlib.Core.List.{List, []}
 use lib.Dec.{T, eqb}
 use lib.ListN.{length}
 use Rattle.octets.specs.Choice.{pick}
 use Rattle.octets.specs.Octets.{octets, put}
+use Rattle.octets.specs.Lists.{any, collect}
 use Rattle.rules.specs.Limits.{maxSessions, maxPool, mapWords, maxMessage, minSpace}
 use Rattle.rules.specs.Layout.{sessionOctets, encode, viewSettings, viewSessions}
 use Rattle.rules.specs.Sound.{sound, takenMap}
-use Rattle.rules.specs.Message.{kindOf, headerAllowed, served, readRequest}
+use Rattle.rules.specs.Message.{kindOf, headerAllowed, served}
+use Rattle.rules.specs.Reading.{readRequest}
 use Rattle.rules.specs.Stages.{Verdict, plain, entrySession, unknownSession, verdict}
 use Rattle.rules.specs.Serve.{sessionsAfter, replyTo}
-use Rattle.plan.specs.Rows.{rowWidth, rowsOf, requestIn}
+use Rattle.plan.specs.Rows.{rowWidth, rowsOf, tagged, rowCsid, isNullRow, requestIn}
 use Rattle.reply.specs.declared.Offending.{Offending}
 use Rattle.reply.specs.Naming.{refusal}
 
@@ -51,6 +53,10 @@ pub record Refusing (t msg out : List ℕ) (c : ℕ) (o : Offending) : Type 0 wh
   pub small : c < 256
   pub other : c ≡ 1 → ⊥
 
+-- where a row removes all FQ-CSIDs, none sets or removes a node type's
+abbrev pub OnlyNull : List (List ℕ) → Type 0
+OnlyNull rows = any isNullRow (tagged 65 rows) ≡ true → collect rowCsid (tagged 65 rows) ≡ []
+
 -- the verdict is acceptance: the plan is the request's, the slot holds the session at entry, and the map marks the TEIDs held
 pub record Accepting (t words msg slot plan out : List ℕ) (seid n : ℕ) : Type 0 where
   pub asked : Asked t msg out
@@ -60,6 +66,7 @@ pub record Accepting (t words msg slot plan out : List ℕ) (seid n : ℕ) : Typ
   pub noted : Bool
   pub means : readRequest msg ≡ requestIn seid restoring noted (rowsOf n plan)
   pub rows : n * rowWidth ≤ length plan
+  pub onlyNull : OnlyNull (rowsOf n plan)
   pub entry : slot ≡ sessionOctets (entrySession (viewSessions t) msg)
   pub slotLong : length slot ≡ 483
   pub marks : words ≡ takenMap (viewSettings t) (viewSessions t)

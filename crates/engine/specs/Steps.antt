@@ -12,7 +12,8 @@ use Rattle.rules.specs.Limits.{maxSessions, mapWords}
 use Rattle.rules.specs.Model.{freeCount}
 use Rattle.rules.specs.Layout.{sessionOctets, viewSession, viewSettings, viewSessions}
 use Rattle.rules.specs.Sound.{sound, takenMap}
-use Rattle.rules.specs.Message.{kindOf, headerSeid, readRequest}
+use Rattle.rules.specs.Message.{kindOf, headerSeid}
+use Rattle.rules.specs.Reading.{readRequest}
 use Rattle.rules.specs.Stages.{isLive, entrySession, judged}
 use Rattle.rules.specs.Serve.{replyTo, serve}
 use Rattle.plan.specs.Rows.{rowWidth, rowsOf, requestIn}
@@ -20,7 +21,7 @@ use Rattle.areas.specs.Counted.{areaIn, placeIn}
 use Rattle.session.specs.Areas.{sessionArea}
 use Rattle.slots.specs.declared.Place.the-variants.{Found}
 use Rattle.stages.specs.Rules.{Slot}
-use Rattle.engine.specs.Answers.{Asked, Live, verdictOn}
+use Rattle.engine.specs.Answers.{Asked, Live, verdictOn, OnlyNull}
 
 -- the map of taken TEIDs and the free count are the table's
 pub record Counted (t words : List ℕ) (free : ℕ) : Type 0 where
@@ -58,6 +59,7 @@ pub record Readable (t msg out plan : List ℕ) (kind seid n : ℕ) (restoring n
   pub verdict : verdictOn t msg ≡ judged maxSessions (viewSettings t) (viewSessions t) msg
   pub means : readRequest msg ≡ requestIn seid restoring noted (rowsOf n plan)
   pub rows : n * rowWidth ≤ length plan
+  pub onlyNull : OnlyNull (rowsOf n plan)
 
 -- an establishment, or the modification of the session at the place p
 pub record Changing (t msg out : List ℕ) (kind p : ℕ) : Type 0 where

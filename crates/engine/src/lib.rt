@@ -41,7 +41,7 @@ fn delete(t: &mut [u8], msg: &[u8], seid: u64, out: &mut [u8]) -> usize
     if let Framing::Fault(kind) = framing {
         return refuse(t, msg, 68, Offending::Element(kind), out);
     }
-    let verdict = reading::top::read_fault(msg);
+    let verdict = request::read_deletion(msg);
     if let Verdict::Refused(cause, kind) = verdict {
         return refuse(t, msg, cause, Offending::Element(kind), out);
     }

@@ -13,43 +13,25 @@ use lib.Seq.{take-all, drop-drop}
 use Rattle.octets.specs.Choice.{pick, bindOption}
 use Rattle.octets.specs.Octets.{bit, part, slices}
 use Rattle.octets.specs.Lists.{all, keep, collect}
-use Rattle.octets.proofs.Tests.{pick-yes, and-left, all-head, all-tail, all-cons}
+use Rattle.octets.proofs.Tests.{pick-yes, and-left, all-head, all-tail}
+use Rattle.octets.proofs.ListLaws.{onSome, all-front, all-behind, map-append}
 use Rattle.rules.specs.Elements.{given, choose}
-use Rattle.rules.specs.Message.{Request}
+use Rattle.rules.specs.Reading.{Request}
 use Rattle.rules.specs.Grants.{Kind, ofPdr, ofEndpoint, Choice, sameKind, choiceOf, endpointChoice, pdrChoice, choices}
 use Rattle.plan.specs.Rows.{rowWidth, word, rowsOf, hasTag, tagged, fteidFrom, rowFteid, rowLocal, rowPdr, rowEndpoint, requestIn}
 use Rattle.created.specs.Groups.{kindIn}
 use Rattle.created.specs.Entries.{maxGrants, rowId}
 use Rattle.grants.specs.Choosing.{choosing, placesFrom, places, octet, rowChooseId, choiceIn, choiceAt}
 
--- ---- of general use
-
-pub map-append : {A B : Type 0} (f : A → B) (xs ys : List A) → map f (xs ++ ys) ≡ map f xs ++ map f ys
-map-append f [] ys = refl
-map-append f (x ∷ xs) ys = ap (λ (l : List _). f x ∷ l) (map-append f xs ys)
-
-pub all-left : {A : Type 0} (p : A → Bool) (xs ys : List A) → T (all p (xs ++ ys)) → T (all p xs)
-unfolding all
-all-left p [] ys h = tt
-all-left p (x ∷ xs) ys h = all-cons p x xs (all-head p x (xs ++ ys) h) (all-left p xs ys (all-tail p x (xs ++ ys) h))
-
-pub all-right : {A : Type 0} (p : A → Bool) (xs ys : List A) → T (all p (xs ++ ys)) → T (all p ys)
-all-right p [] ys h = h
-all-right p (x ∷ xs) ys h = all-right p xs ys (all-tail p x (xs ++ ys) h)
-
 -- ---- bounds
 
+-- an ID that is there is one octet
 abbrev pub idIsOctet : Option ℕ → Bool
-idIsOctet none = true
-idIsOctet (some i) = ltb i 256
+idIsOctet = onSome (λ i. ltb i 256)
 
 -- a CHOOSE ID is one octet, and so is an endpoint's ID
 abbrev pub choiceFits : Choice → Bool
 choiceFits c = idIsOctet (c .chooseId) && (sameKind ofPdr (c .kind) || ltb (c .id) 256)
-
-pub id-octet : (b : Bool) (c : ℕ) → T (ltb c 256) → T (idIsOctet (pick b (some c) none))
-id-octet true c h = h
-id-octet false c h = tt
 
 -- ---- one row
 
@@ -156,8 +138,8 @@ module _ (seid : ℕ) (restoring noted : Bool) (rows : List (List ℕ)) where
   pub request-choices : T (all choiceFits (choices r)) → choices r ≡ map choiceIn (chosenRows rows)
   unfolding choices requestIn chosenRows
   request-choices f =
-      let e = all-left choiceFits (collect endpointChoice (map rowEndpoint (tagged 127 rows))) (collect pdrChoice (map rowPdr (tagged 1 rows))) f in
-      let p = all-right choiceFits (collect endpointChoice (map rowEndpoint (tagged 127 rows))) (collect pdrChoice (map rowPdr (tagged 1 rows))) f in
+      let e = all-front choiceFits (collect endpointChoice (map rowEndpoint (tagged 127 rows))) (collect pdrChoice (map rowPdr (tagged 1 rows))) f in
+      let p = all-behind choiceFits (collect endpointChoice (map rowEndpoint (tagged 127 rows))) (collect pdrChoice (map rowPdr (tagged 1 rows))) f in
       let a = tagged-choices endpointChoice rowEndpoint 127 ofEndpoint (word 11) (unfold kindIn in refl) (λ row t. unfold rowId in rw t) endpoint-choice rows e in
       let b = tagged-choices pdrChoice rowPdr 1 ofPdr (word 7) (unfold kindIn in refl) (λ row t. unfold rowId in rw t) pdr-choice rows p in
       (λ j. a j ++ b j) ∙ sym (map-append choiceIn (keep (choosing 127) rows) (keep (choosing 1) rows))

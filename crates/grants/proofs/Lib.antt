@@ -11,4 +11,3 @@ pub mod RequestLaws
 pub mod ReportLaws
 pub mod GrantLaws
 pub mod FitLaws
-pub mod ReadLaws

@@ -12,16 +12,11 @@ use Rattle.octets.specs.Choice.{pick}
 use Rattle.octets.specs.Octets.{part, slices}
 use Rattle.octets.specs.Lists.{all}
 use Rattle.octets.proofs.Tests.{all-head, all-tail, all-cons}
+use Rattle.octets.proofs.ListLaws.{all-append}
 use Rattle.lists.proofs.RowLaws.{rows-more}
 use Rattle.plan.specs.Rows.{rowWidth, rowsOf}
 use Rattle.created.specs.Entries.{maxGrants, within}
 use Rattle.grants.specs.Choosing.{choosing, placesFrom, places}
-
--- ---- of general use
-
-pub all-append : {A : Type 0} (p : A → Bool) (xs ys : List A) → T (all p xs) → T (all p ys) → T (all p (xs ++ ys))
-all-append p [] ys h g = g
-all-append p (x ∷ xs) ys h g = all-cons p x (xs ++ ys) (all-head p x xs h) (all-append p xs ys (all-tail p x xs h) g)
 
 all-take : (p : ℕ → Bool) (n : ℕ) (xs : List ℕ) → T (all p xs) → T (all p (take n xs))
 unfolding all

@@ -11,13 +11,14 @@ use lib.Seq.{getD-set-other}
 use Rattle.octets.specs.Choice.{pick}
 use Rattle.octets.specs.Octets.{bit, slices}
 use Rattle.octets.specs.Lists.{hasRepeat, keep}
+use Rattle.octets.proofs.ListLaws.{map-append}
 use Rattle.rules.specs.Grants.{Kind, ofPdr, ofEndpoint, Choice, Chosen, Grant, grantTeid, grantFrom, grantedTeid}
 use Rattle.plan.specs.Rows.{rowWidth, word, rowsOf, hasTag, tagged}
 use Rattle.created.specs.Groups.{kindIn}
 use Rattle.created.specs.Entries.{rowId}
 use Rattle.grants.specs.Choosing.{choosing, placesFrom, choiceIn, stores, rowWith}
 use Rattle.grants.proofs.PlaceLaws.{places-same}
-use Rattle.grants.proofs.ChoiceLaws.{map-append, chosenRows}
+use Rattle.grants.proofs.ChoiceLaws.{chosenRows}
 use Rattle.grants.proofs.OwnLaws.{Apart, Of, idOf, repeat-keep, apart-kind, apart-both, grants-map, own-teids}
 use Rattle.grants.proofs.PassLaws.{stores-append, withTeid, passed, length-places, stores-pass, rows-passed, length-passed, rest-passed}
 

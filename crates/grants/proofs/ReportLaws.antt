@@ -10,6 +10,7 @@ use lib.Seq.{length-take-le, getD-set-same}
 use Rattle.octets.specs.Choice.{pick, headOr, rest}
 use Rattle.octets.specs.Octets.{bit, slices}
 use Rattle.octets.specs.Lists.{keep}
+use Rattle.octets.proofs.ListLaws.{map-append}
 use Rattle.rules.specs.Grants.{Chosen, Grant, chosenTeid, teidFor, chosenAfter, freeAfter, grantOf, grantFrom, grantTeid, grantedTeid}
 use Rattle.plan.specs.Rows.{rowWidth, word, rowsOf}
 use Rattle.writing.specs.Families.{tunnelIn}
@@ -17,7 +18,7 @@ use Rattle.created.specs.Groups.{kindIn}
 use Rattle.created.specs.Entries.{rowId, rowGrant, grantAt, grantsAt}
 use Rattle.grants.specs.Choosing.{choosing, placesFrom, choiceIn, rowWith}
 use Rattle.grants.proofs.PlaceLaws.{places-same}
-use Rattle.grants.proofs.ChoiceLaws.{map-append, chosenRows, place-rows}
+use Rattle.grants.proofs.ChoiceLaws.{chosenRows, place-rows}
 use Rattle.grants.proofs.RequestLaws.{alike-with, same-choosing}
 
 pub or-true : (a : Bool) → (a || true) ≡ true

@@ -1,19 +1,20 @@
 -- The rows with their grants' TEIDs mean the same request. Assumes nothing.
 use mathlib.Core.Path.{_≡_, refl, ap, _∙_}
 use mathlib.Core.Bool.{Bool, true, false, _&&_, _||_}
-use mathlib.Core.Option.{Option, none, some}
+use mathlib.Core.Option.{none, some}
 use mathlib.Core.List.{List, [], _∷_, _++_, map}
 use Prim.Native.Nat.{ℕ}
 use native.Mathlib.Omega.{arith}
 use lib.Dec.{eqb}
 use lib.ListN.{set}
-use Rattle.octets.specs.Choice.{pick, consOption}
+use Rattle.octets.specs.Choice.{pick}
 use Rattle.octets.specs.Octets.{be, bit}
 use Rattle.octets.specs.Lists.{any, keep, collect}
+use Rattle.octets.proofs.ListLaws.{map-same, map-map, collect-same, collect-map}
 use Rattle.rules.specs.Elements.{sets, removal}
-use Rattle.rules.specs.Message.{hasPdi}
+use Rattle.rules.specs.Reading.{cleared, changed}
 use Rattle.rules.specs.Grants.{Grant}
-use Rattle.plan.specs.Rows.{word, hasTag, tagged, fteidFrom, rowFteid, rowLocal, present, rowPdr, rowEndpoint, rowFar, rowChange, rowPdrId, rowEndpointId, rowAddress, rowCsid, isNullRow, requestIn}
+use Rattle.plan.specs.Rows.{word, hasTag, tagged, fteidFrom, rowFteid, rowLocal, present, rowPdr, rowEndpoint, rowFar, rowChange, rowPdi, rowPdrId, rowEndpointId, rowAddress, rowCsid, isNullRow, requestIn}
 use Rattle.grants.specs.Choosing.{choosing, rowWith}
 use Rattle.grants.proofs.PlanLaws.{word-set, choosing-bit}
 
@@ -118,6 +119,9 @@ module _ {a b : List ℕ} (w : Alike a b) where
   unfolding isNullRow
   same-null = ap (λ (x : ℕ). eqb x 3) (w .words 1 (λ z. omega arith))
 
+  same-pdi : rowPdi a ≡ rowPdi b
+  same-pdi = ap (λ (x : ℕ). eqb x 1) (w .words 6 (λ z. omega arith))
+
 -- ---- all rows
 
 module _ (h : List ℕ → List ℕ) (alike : (row : List ℕ) → Alike (h row) row) where
@@ -132,22 +136,24 @@ module _ (h : List ℕ → List ℕ) (alike : (row : List ℕ) → Alike (h row)
       one true ih = ap (λ (l : List (List ℕ)). h row ∷ l) ih
       one false ih = ih
 
-  map-with : {A : Type 0} (v : List ℕ → A) → ((row : List ℕ) → v (h row) ≡ v row) → (rows : List (List ℕ)) → map v (map h rows) ≡ map v rows
-  map-with v e [] = refl
-  map-with v e (row ∷ rows) = let here = e row in let more = map-with v e rows in λ j. here j ∷ more j
-
-  collect-with : {A : Type 0} (v : List ℕ → Option A) → ((row : List ℕ) → v (h row) ≡ v row) → (rows : List (List ℕ)) → collect v (map h rows) ≡ collect v rows
-  unfolding collect
-  collect-with v e [] = refl
-  collect-with v e (row ∷ rows) = let here = e row in let more = collect-with v e rows in λ j. consOption (here j) (more j)
+  tagged-map : {A : Type 0} (t : ℕ) (v : List ℕ → A) → ((row : List ℕ) → v (h row) ≡ v row) → (rows : List (List ℕ)) → map v (tagged t (map h rows)) ≡ map v (tagged t rows)
+  tagged-map t v e rows = ap (map v) (tagged-with t rows) ∙ map-map h v (tagged t rows) ∙ map-same (λ row. v (h row)) v e (tagged t rows)
 
   any-with : (v : List ℕ → Bool) → ((row : List ℕ) → v (h row) ≡ v row) → (rows : List (List ℕ)) → any v (map h rows) ≡ any v rows
   unfolding any
   any-with v e [] = refl
   any-with v e (row ∷ rows) = let here = e row in let more = any-with v e rows in λ j. here j || more j
 
-  tagged-map : {A : Type 0} (t : ℕ) (v : List ℕ → A) → ((row : List ℕ) → v (h row) ≡ v row) → (rows : List (List ℕ)) → map v (tagged t (map h rows)) ≡ map v (tagged t rows)
-  tagged-map t v e rows = ap (map v) (tagged-with t rows) ∙ map-with v e (tagged t rows)
+  tagged-any : (t : ℕ) (v : List ℕ → Bool) → ((row : List ℕ) → v (h row) ≡ v row) → (rows : List (List ℕ)) → any v (tagged t (map h rows)) ≡ any v (tagged t rows)
+  tagged-any t v e rows = ap (any v) (tagged-with t rows) ∙ any-with v e (tagged t rows)
+
+  -- the FQ-CSIDs of the rows, and whether one removes all
+  pub csids-same : (rows : List (List ℕ)) → collect rowCsid (tagged 65 (map h rows)) ≡ collect rowCsid (tagged 65 rows)
+  csids-same rows =
+      ap (collect rowCsid) (tagged-with 65 rows) ∙ collect-map h rowCsid (tagged 65 rows) ∙ collect-same (λ row. rowCsid (h row)) rowCsid (λ row. same-csid (alike row)) (tagged 65 rows)
+
+  pub nulls-same : (rows : List (List ℕ)) → any isNullRow (tagged 65 (map h rows)) ≡ any isNullRow (tagged 65 rows)
+  nulls-same rows = tagged-any 65 isNullRow (λ row. same-null (alike row)) rows
 
   pub request-same : (seid : ℕ) (restoring noted : Bool) (rows : List (List ℕ)) → requestIn seid restoring noted (map h rows) ≡ requestIn seid restoring noted rows
   unfolding requestIn
@@ -157,8 +163,7 @@ module _ (h : List ℕ → List ℕ) (alike : (row : List ℕ) → Alike (h row)
       let changes = tagged-map 9 rowChange (λ row. same-change (alike row)) rows in
       let gonePdrs = tagged-map 15 rowPdrId (λ row. alike row .words 7 (λ z. omega arith)) rows in
       let goneEndpoints = tagged-map 130 rowEndpointId (λ row. alike row .words 11 (λ z. omega arith)) rows in
-      let csids = ap (collect rowCsid) (tagged-with 65 rows) ∙ collect-with rowCsid (λ row. same-csid (alike row)) (tagged 65 rows) in
-      let clears = ap (any isNullRow) (tagged-with 65 rows) ∙ any-with isNullRow (λ row. same-null (alike row)) (tagged 65 rows) in
+      let pdis = tagged-any 9 rowPdi (λ row. same-pdi (alike row)) rows in
       λ j. record {
         seid = seid;
         restoring = restoring;
@@ -167,7 +172,6 @@ module _ (h : List ℕ → List ℕ) (alike : (row : List ℕ) → Alike (h row)
         changes = changes j;
         gonePdrs = gonePdrs j;
         goneEndpoints = goneEndpoints j;
-        csids = csids j;
-        clears = clears j;
-        unsupported = noted || any hasPdi (changes j);
+        csids = pick (nulls-same rows j) cleared (changed (csids-same rows j));
+        unsupported = noted || pdis j;
       }

@@ -6,3 +6,6 @@ pub mod MessageLaws
 pub mod ReadLaws
 pub mod ReplyLaws
 pub mod RequestLaws
+pub mod GrantLaws
+pub mod CsidLaws
+pub mod WeightLaws

@@ -11,59 +11,72 @@ use lib.ListN.{length, take, drop, length-take}
 use lib.Dec.{T, leb, ltb, eqb, lt→ltb, nltb→le, lit<}
 use mir.Facts.{yes-leb, yes-eqb}
 use lib.Pow.{areBytes}
-use Rattle.octets.specs.Choice.{pick, valueOr, mapOption, bindOption, isNil, flag, allOf, headOr}
+use Rattle.octets.specs.Choice.{pick, isNil, flag, allOf, headOr}
 use Rattle.octets.specs.Octets.{number, part, numberAt, octetAt, bit, slices}
-use Rattle.octets.specs.Lists.{all, findBy}
-use Rattle.octets.proofs.Tests.{Each, each, all-of-each, and-right, all-head, all-tail}
+use Rattle.octets.proofs.Tests.{Each, each, all-of-each, and-left, and-right}
 use Rattle.octets.proofs.ListLaws.{pick-cases, not-not, or-fails, or-by-right, OnSome}
-use Rattle.laws.proofs.BoundLaws.{clean, clean-elements, field-bound, bytes-take, bytes-drop}
+use Rattle.laws.proofs.BoundLaws.{field-bound, bytes-take, bytes-drop}
 use Rattle.octets.proofs.Ordered.{ne-of}
-use Rattle.rules.specs.Elements.{tooShort, incorrect, Answer, refuse, value, Fteid, given, choose, v4Flag, v6Flag, chFlag, chidFlag, wrongFlags, fteidLength, chosenFields, givenFields, fteidFields, readFteid, hasV4, hasV6, chooseId, Fqcsid, sets, removal, addressLength, operatorAllowed, nodeAddressTests, nodeAddressAllowed, nodeTypeKept, csidsAt, csidFields, countAllowed, checkedCsid, csidRest, readFqcsid, below16, fseidLength, seidAnswer, readFseid}
-use Rattle.rules.specs.Message.{Element, elements, hasType, contentIn, contentOf, answerValue, widthOf, field, membersOf, fteidIn, farValue, farChange}
+use Rattle.rules.specs.Elements.{Refusal, tooShort, incorrect, Answer, refuse, value, Fteid, given, choose, v4Flag, v6Flag, chFlag, chidFlag, wrongFlags, fteidLength, chosenFields, givenFields, fteidFields, readFteid, hasV4, hasV6, chooseId, Fqcsid, sets, removal, addressLength, operatorAllowed, nodeAddressTests, nodeAddressAllowed, nodeTypeKept, csidsAt, csidFields, countAllowed, checkedCsid, csidRest, readFqcsid, below16, fseidLength, seidAnswer, readFseid}
+use Rattle.rules.specs.Reading.{Reading, faulty, done, andThen, named, need, once}
 
--- ---- members of a group
+-- ---- answers and readings
 
--- the value of an element among clean ones is octets
-pub content-octets : (t : ℕ) (es : List Element) → T (all clean es) → OnSome (λ xs. T (areBytes xs)) (contentOf t es)
-unfolding contentOf findBy
-content-octets t [] h = tt
-content-octets t (e ∷ es) h =
-    pick-cases (λ (o : Option Element). OnSome (λ xs. T (areBytes xs)) (mapOption contentIn o)) (hasType t e) (some e) (findBy (hasType t) es)
-    (λ _. all-head clean e es h) (λ _. content-octets t es (all-tail clean e es h))
+-- a fact about the value that a reader answers
+abbrev pub OnValue : {A : Type 0} → (A → Type 0) → Answer A → Type 0
+OnValue P (refuse c) = Unit {0}
+OnValue P (value a) = P a
 
--- the members of a group that stands in clean elements are clean
-pub members-clean : (t : ℕ) (es : List Element) → T (all clean es) → T (all clean (membersOf t es))
-unfolding membersOf
-members-clean t es h = one (contentOf t es) (content-octets t es h)
-  where
-    one : (o : Option (List ℕ)) → OnSome (λ xs. T (areBytes xs)) o → T (all clean (elements (valueOr [] o)))
-    one none k = clean-elements [] tt
-    one (some xs) k = clean-elements xs k
+-- a fact about what was read
+abbrev pub OnDone : {A : Type 0} → (A → Type 0) → Reading A → Type 0
+OnDone P (faulty f) = Unit {0}
+OnDone P (done a) = P a
 
--- a field that is there is below 256 to its width
-pub field-fits : (t : ℕ) (es : List Element) → T (all clean es) → OnSome (λ n. n < 256 ^ widthOf t) (field t es)
-unfolding field
-field-fits t es h = one (contentOf t es) (content-octets t es h)
-  where
-    one : (o : Option (List ℕ)) → OnSome (λ xs. T (areBytes xs)) o → OnSome (λ n. n < 256 ^ widthOf t) (mapOption (λ xs. numberAt 0 (widthOf t) xs) o)
-    one none k = tt
-    one (some xs) k = field-bound (widthOf t) xs k
+-- anything that was read
+pub anything : {A : Type 0} (r : Reading A) → OnDone (λ _. Unit {0}) r
+anything (faulty f) = tt
+anything (done a) = tt
 
--- a FAR ID that an Update PDR sets has four octets
-pub far-fits : (es : List Element) → T (all clean es) → OnSome (OnSome (λ n. n < 256 ^ 4)) (farChange es)
-unfolding farChange farValue
-far-fits es h = one (contentOf 108 es) (content-octets 108 es h)
-  where
-    one : (o : Option (List ℕ)) → OnSome (λ xs. T (areBytes xs)) o → OnSome (OnSome (λ n. n < 256 ^ 4)) (mapOption farValue o)
-    one none k = tt
-    one (some xs) k = unfold farValue in (pick-cases (λ (v : Option ℕ). OnSome (λ n. n < 256 ^ 4) v) (isNil xs) none (some (numberAt 0 4 xs)) (λ _. tt) (λ _. field-bound 4 xs k))
+pub any-value : {A : Type 0} (r : Answer A) → OnValue (λ _. Unit {0}) r
+any-value (refuse c) = tt
+any-value (value a) = tt
+
+-- what is required, and whatever it is
+pub need-any : {A B : Type 0} (Q : B → Type 0) (c : Refusal) (t : ℕ) (o : Option A) (next : A → Reading B) → ((a : A) → OnDone Q (next a)) → OnDone Q (need c t o next)
+need-any Q c t none next k = tt
+need-any Q c t (some a) next k = k a
+
+module _ {A : Type 0} (P : A → Type 0) where
+  pub named-done : (t : ℕ) (a : Answer A) → OnValue P a → OnDone P (named t a)
+  named-done t (refuse c) h = tt
+  named-done t (value a) h = h
+
+  pub once-done : {B : Type 0} (o : Option B) (t : ℕ) (r : Reading A) → OnDone P r → OnDone P (once o t r)
+  once-done none t r h = h
+  once-done (some b) t r h = tt
+
+  module _ {B : Type 0} (Q : B → Type 0) where
+    pub then-done : (r : Reading A) (next : A → Reading B) → OnDone P r → ((a : A) → P a → OnDone Q (next a)) → OnDone Q (andThen r next)
+    then-done (faulty f) next h k = tt
+    then-done (done a) next h k = k a h
+
+    pub need-done : (c : Refusal) (t : ℕ) (o : Option A) (next : A → Reading B) → OnSome P o → ((a : A) → P a → OnDone Q (next a)) → OnDone Q (need c t o next)
+    need-done c t none next h k = tt
+    need-done c t (some a) next h k = k a h
 
 -- ---- F-TEID
 
--- what is used of an F-TEID that was read: a family at least, and in an endpoint no CHOOSE ID
+-- what is used of an F-TEID that was read: a family at least, a CHOOSE ID of one octet, and none in an endpoint
 pub record FteidRead (inEndpoint : Bool) (v : Fteid) : Type 0 where
   pub family : T (hasV4 v || hasV6 v)
+  pub octet : OnSome (λ i. T (ltb i 256)) (chooseId v)
   pub noChooseId : T inEndpoint → chooseId v ≡ none
+
+-- the first octet of octets, 0 where there is none
+first-octet : (xs : List ℕ) → T (areBytes xs) → T (ltb (octetAt xs 0) 256)
+unfolding octetAt
+first-octet [] h = tt
+first-octet (x ∷ xs) h = and-left (ltb x 256) (areBytes xs) h
 
 -- octets from a place before the end on are some
 part-some : (xs : List ℕ) (at n : ℕ) → at < length xs → 0 < n → isNil (part at n xs) ≡ false
@@ -81,54 +94,45 @@ given-family false true xs h l =
 given-family false false xs h l = absurd h
 
 -- a CHOOSE that was read
-chosen-read : (e b4 b6 chid ch : Bool) (n : ℕ) → T (b4 || b6) → T (not (chid && (e || not ch))) → FteidRead e (choose b4 b6 (pick chid (some n) none))
+chosen-read : (e b4 b6 chid ch : Bool) (n : ℕ) → T (ltb n 256) → T (b4 || b6) → T (not (chid && (e || not ch))) → FteidRead e (choose b4 b6 (pick chid (some n) none))
 unfolding hasV4 hasV6 chooseId
-chosen-read e b4 b6 false ch n h g = record { family = h; noChooseId = λ _. refl }
-chosen-read true b4 b6 true ch n h g = absurd g
-chosen-read false b4 b6 true ch n h g = record { family = h; noChooseId = λ k. absurd k }
+chosen-read e b4 b6 false ch n o h g = record { family = h; octet = tt; noChooseId = λ _. refl }
+chosen-read true b4 b6 true ch n o h g = absurd g
+chosen-read false b4 b6 true ch n o h g = record { family = h; octet = o; noChooseId = λ k. absurd k }
 
 -- an F-TEID without CH that was read
 given-read : (e b4 b6 : Bool) (t : ℕ) (xs : List ℕ) → T (b4 || b6) → 4 + 4 * flag b4 + 16 * flag b6 ≤ length xs
     → FteidRead e (given t (part 4 (4 * flag b4) xs) (part (4 + 4 * flag b4) (16 * flag b6) xs))
 unfolding hasV4 hasV6 chooseId
-given-read e b4 b6 t xs h l = record { family = given-family b4 b6 xs h l; noChooseId = λ _. refl }
+given-read e b4 b6 t xs h l = record { family = given-family b4 b6 xs h l; octet = tt; noChooseId = λ _. refl }
 
 -- the fields after a flags octet that is not wrong
-fields-read : (e : Bool) (f : ℕ) (xs : List ℕ) → T (not (wrongFlags e f)) → fteidLength f ≤ length xs → FteidRead e (fteidFields f xs)
+fields-read : (e : Bool) (f : ℕ) (xs : List ℕ) → T (areBytes xs) → T (not (wrongFlags e f)) → fteidLength f ≤ length xs → FteidRead e (fteidFields f xs)
 unfolding wrongFlags fteidLength fteidFields
-fields-read e f xs right long = one (chFlag f) right long
+fields-read e f xs h right long = one (chFlag f) right long
   where
     one : (ch : Bool) → T (not (not (v4Flag f || v6Flag f) || (chidFlag f && (e || not ch)))) → pick ch (flag (chidFlag f)) (4 + 4 * flag (v4Flag f) + 16 * flag (v6Flag f)) ≤ length xs
         → FteidRead e (pick ch (chosenFields f xs) (givenFields f xs))
     one true r l =
         unfold chosenFields in (
         let k = or-fails (not (v4Flag f || v6Flag f)) (chidFlag f && (e || false)) r in
-        chosen-read e (v4Flag f) (v6Flag f) (chidFlag f) true (octetAt xs 0) (not-not (v4Flag f || v6Flag f) (k .0)) (k .1))
+        chosen-read e (v4Flag f) (v6Flag f) (chidFlag f) true (octetAt xs 0) (first-octet xs h) (not-not (v4Flag f || v6Flag f) (k .0)) (k .1))
     one false r l =
         unfold givenFields in (
         let k = or-fails (not (v4Flag f || v6Flag f)) (chidFlag f && (e || true)) r in
         given-read e (v4Flag f) (v6Flag f) (numberAt 0 4 xs) xs (not-not (v4Flag f || v6Flag f) (k .0)) l)
 
 -- a read F-TEID keeps the rules of its flags
-pub fteid-read : (e : Bool) (xs : List ℕ) → OnSome (FteidRead e) (answerValue (readFteid e xs))
-unfolding readFteid answerValue
-fteid-read e [] = tt
-fteid-read e (f ∷ xs) =
+pub fteid-read : (e : Bool) (xs : List ℕ) → T (areBytes xs) → OnValue (FteidRead e) (readFteid e xs)
+unfolding readFteid
+fteid-read e [] h = tt
+fteid-read e (f ∷ xs) h =
     pick-cases P (wrongFlags e f) (refuse incorrect) _ (λ _. tt)
     (λ right. pick-cases P (ltb (length xs) (fteidLength f)) (refuse tooShort) (value (fteidFields f xs)) (λ _. tt)
-    (λ long. fields-read e f xs right (nltb→le (length xs) (fteidLength f) long)))
+    (λ long. fields-read e f xs (and-right (ltb f 256) (areBytes xs) h) right (nltb→le (length xs) (fteidLength f) long)))
   where
     P : Answer Fteid → Type 0
-    P a = OnSome (FteidRead e) (answerValue a)
-
--- the F-TEID of a group
-pub group-fteid : (e : Bool) (es : List Element) → OnSome (FteidRead e) (fteidIn e es)
-unfolding fteidIn
-group-fteid e es = one (contentOf 21 es)
-  where
-    one : (o : Option (List ℕ)) → OnSome (FteidRead e) (bindOption o (λ xs. answerValue (readFteid e xs)))
-    one none = tt
-    one (some xs) = fteid-read e xs
+    P a = OnValue (FteidRead e) a
 
 -- ---- FQ-CSID
 
@@ -160,10 +164,10 @@ address-allowed t xs h l k o =
 
 -- the rest of an FQ-CSID, once the octets are known to be there
 checked-read : (m t : ℕ) (xs : List ℕ) (n : ℕ) → T (areBytes xs) → t ≤ 2 → addressLength t ≤ length xs
-    → OnSome CsidRead (answerValue (checkedCsid m t (part 0 (addressLength t) xs) (csidsAt m (drop (addressLength t) xs)) n))
-unfolding checkedCsid answerValue
+    → OnValue CsidRead (checkedCsid m t (part 0 (addressLength t) xs) (csidsAt m (drop (addressLength t) xs)) n)
+unfolding checkedCsid
 checked-read m t xs n h l k =
-    pick-cases (λ (a : Answer Fqcsid). OnSome CsidRead (answerValue a)) (allOf (nodeTypeKept n ∷ operatorAllowed t a ∷ countAllowed m t a ∷ [])) (value (csidFields m t a (csidsAt m (drop (addressLength t) xs)) n)) (refuse incorrect)
+    pick-cases (OnValue CsidRead) (allOf (nodeTypeKept n ∷ operatorAllowed t a ∷ countAllowed m t a ∷ [])) (value (csidFields m t a (csidsAt m (drop (addressLength t) xs)) n)) (refuse incorrect)
     (λ g. one m (each (nodeTypeKept n ∷ operatorAllowed t a ∷ countAllowed m t a ∷ []) g)) (λ _. tt)
   where
     a : List ℕ
@@ -174,8 +178,8 @@ checked-read m t xs n h l k =
     one (suc m) e = unfold csidFields in (record { node = e .0; address = address-allowed t xs h l k (e .1 .0); csid = first-csid (suc m) (drop (addressLength t) xs) (bytes-drop (addressLength t) xs h) })
 
 -- a read FQ-CSID keeps the rules of its node
-pub fqcsid-read : (xs : List ℕ) → T (areBytes xs) → OnSome CsidRead (answerValue (readFqcsid xs))
-unfolding readFqcsid answerValue csidRest
+pub fqcsid-read : (xs : List ℕ) → T (areBytes xs) → OnValue CsidRead (readFqcsid xs)
+unfolding readFqcsid csidRest
 fqcsid-read [] h = tt
 fqcsid-read (f ∷ xs) h =
     pick-cases P (ltb 2 (f / 16)) (refuse incorrect) _ (λ _. tt)
@@ -184,7 +188,7 @@ fqcsid-read (f ∷ xs) h =
     checked-read (f % 16) (f / 16) xs (octetAt xs (addressLength (f / 16) + 2 * (f % 16)) % 16) (and-right (ltb f 256) (areBytes xs) h) (nltb→le 2 (f / 16) kind) (omega arith)))
   where
     P : Answer Fqcsid → Type 0
-    P a = OnSome CsidRead (answerValue a)
+    P a = OnValue CsidRead a
 
 -- ---- F-SEID
 
@@ -194,8 +198,8 @@ pub record SeidRead (n : ℕ) : Type 0 where
   pub fits : T (ltb n (2 ^ 64))
 
 -- a read SEID is not 0 and has eight octets
-pub fseid-read : (xs : List ℕ) → T (areBytes xs) → OnSome SeidRead (answerValue (readFseid xs))
-unfolding readFseid seidAnswer answerValue
+pub fseid-read : (xs : List ℕ) → T (areBytes xs) → OnValue SeidRead (readFseid xs)
+unfolding readFseid seidAnswer
 fseid-read [] h = tt
 fseid-read (f ∷ xs) h =
     pick-cases P (not (bit 0 f || bit 1 f)) (refuse incorrect) _ (λ _. tt)
@@ -204,7 +208,7 @@ fseid-read (f ∷ xs) h =
     (λ other. record { nonzero = above (numberAt 0 8 xs) other; fits = lt→ltb (numberAt 0 8 xs) (2 ^ 64) (field-bound 8 xs (and-right (ltb f 256) (areBytes xs) h)) })))
   where
     P : Answer ℕ → Type 0
-    P a = OnSome SeidRead (answerValue a)
+    P a = OnValue SeidRead a
 
     above : (n : ℕ) → T (not (eqb n 0)) → T (leb 1 n)
     above n g = let ne = ne-of n 0 g in yes-leb (above′ n ne)

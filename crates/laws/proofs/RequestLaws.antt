@@ -1,23 +1,27 @@
--- The records of a request that was read: their fields keep their widths, and an establishment's SEID is one.
+-- What is read of a message's octets keeps its widths and rules: a group's members, each thing asked for, and so the request.
 -- Assumes nothing.
-use mathlib.Core.Path.{_≡_, refl, sym, subst}
+use mathlib.Core.Path.{_≡_, refl, sym, ap, subst}
 use Prim.Native.Nat.{ℕ, _%_, _^_, _<_}
 use native.Mathlib.Nat.{zero-lt-suc, mod-lt}
-use mathlib.Core.Bool.{Bool, true, false, _||_}
+use native.Mathlib.Omega.{arith}
+use mathlib.Core.Bool.{Bool, true, false, not, _&&_, _||_}
 use mathlib.Core.Option.{Option, none, some}
 use mathlib.Core.List.{List, [], _∷_}
-use lib.Dec.{T, ltb, eqb, lt→ltb, eqb→eq}
+use lib.ListN.{length}
+use lib.Dec.{T, T-not, ltb, eqb, lt→ltb, eqb→eq}
 use lib.Pow.{areBytes}
-use Rattle.octets.specs.Choice.{pick, orElse, valueOr, mapOption, bindOption, isSome}
-use Rattle.octets.specs.Lists.{all, any, keep, findBy, member}
-use Rattle.octets.proofs.Tests.{pick-either, all-head, all-tail}
-use Rattle.octets.proofs.Ordered.{keep-all}
-use Rattle.octets.proofs.ListLaws.{Every, OnSome, all-every, every-map, every-collect}
-use Rattle.laws.proofs.BoundLaws.{clean, clean-elements, clean-body, member-bound}
-use Rattle.rules.specs.Elements.{missing, incorrect, Answer, refuse, value, Fteid, readFseid}
+use Rattle.octets.specs.Choice.{pick, bindOption, isNil}
+use Rattle.octets.specs.Octets.{numberAt, octetAt, bit}
+use Rattle.octets.specs.Lists.{all, any, member, collect}
+use Rattle.octets.proofs.Tests.{pick-either, is-true, all-head, all-tail}
+use Rattle.octets.proofs.ListLaws.{Every, OnSome, pick-cases, every-append, every-collect}
+use Rattle.laws.proofs.BoundLaws.{clean, clean-elements, clean-body, field-bound}
+use Rattle.laws.proofs.ReadLaws.{OnValue, OnDone, named-done, once-done, then-done, need-done, FteidRead, CsidRead, SeidRead, fteid-read, fqcsid-read, fseid-read}
+use Rattle.rules.specs.Elements.{missing, conditional, incorrect, Fteid, Fqcsid, readFteid, readFqcsid, readFseid, nodeOf}
 use Rattle.rules.specs.Sound.{farAllowed}
-use Rattle.rules.specs.Message.{Element, elements, body, kindOf, actedOn, answerValue, answerFault, hasType, there, contentIn, contentOf, Fault, fault, required, missingFault, onceFault, actedFault, topFaultFrom, restorationIn, requiredAtTop, topFault, readFault, widthOf, field, fieldOr0, membersOf, fteidIn, farChange, NewPdr, NewEndpoint, Change, newPdr, newEndpoint, changeOf, ofType, groupOf, groupsOf, fseidIn, fqcsidIn, requestOf, readRequest}
-use Rattle.laws.proofs.ReadLaws.{FteidRead, CsidRead, SeidRead, members-clean, field-fits, far-fits, group-fteid, fqcsid-read, fseid-read}
+use Rattle.rules.specs.Types as ie
+use Rattle.rules.specs.Message.{establishment, modification, deletion, kindOf, body, Element, elements, actedOn, placesOf, widthOf}
+use Rattle.rules.specs.Reading.{NewPdr, NewEndpoint, Change, Item, createsPdr, createsEndpoint, updatesPdr, removesPdr, removesEndpoint, setsCsid, clearsCsids, updatesEndpoint, CsidChanges, cleared, changed, Request, Reading, faulty, done, refusal, named, Members, noMembers, withPdi, withLocal, holds, numberRead, farRead, pdiIn, valueRead, memberRead, membersRead, unopened, pdiEnd, pdiRead, pdrFrom, endpointFrom, changeFrom, itemFrom, groupRead, Draft, emptyDraft, withSeid, withRestores, withNode, withItem, seidRead, flagsRead, csidCountAllowed, withCsid, csidRead, actedRead, elementRead, elementsRead, pdrIn, endpointIn, changeIn, csidIn, clears, restoringIn, requestOf, createsAny, finished, aloneIn, topRead, read, faultIn, readFault, askedIn, readRequest}
 
 -- ---- the records
 
@@ -40,159 +44,294 @@ pub record ChangeRead (c : Change) : Type 0 where
   pub precedence : OnSome (λ n. T (ltb n (2 ^ 32))) (c .precedence)
   pub far : OnSome (λ f. T (farAllowed f)) (c .far)
 
--- a bound as a test
-bound-test : (k n : ℕ) (o : Option ℕ) → k ≡ n → OnSome (λ m. m < k) o → OnSome (λ m. T (ltb m n)) o
-bound-test k n none e h = tt
-bound-test k n (some m) e h = lt→ltb m n (subst (λ (j : ℕ). m < j) e h)
+-- one thing that is asked for
+abbrev pub ItemRead : Item → Type 0
+ItemRead (createsPdr x) = PdrRead x
+ItemRead (createsEndpoint x) = EndpointRead x
+ItemRead (updatesPdr x) = ChangeRead x
+ItemRead (removesPdr x) = Unit {0}
+ItemRead (removesEndpoint x) = Unit {0}
+ItemRead (setsCsid x) = CsidRead x
+ItemRead clearsCsids = Unit {0}
+ItemRead updatesEndpoint = Unit {0}
 
--- a FAR ID of four octets is allowed
-far-test : (o : Option ℕ) → OnSome (λ m. m < 256 ^ 4) o → T (farAllowed o)
-unfolding farAllowed
-far-test none h = tt
-far-test (some m) h = lt→ltb m (2 ^ 32) h
+-- ---- the members of a group
 
--- a Create PDR that was read
-pub pdr-read : (es : List Element) → T (all clean es) → PdrRead (newPdr es)
-unfolding newPdr widthOf
-pdr-read es h =
-    let pdi = members-clean 2 es h in
-    record {
-      id = lt→ltb (fieldOr0 56 es) (2 ^ 16) (member-bound 56 es h);
-      precedence = lt→ltb (fieldOr0 29 es) (2 ^ 32) (member-bound 29 es h);
-      far = far-test (field 108 es) (field-fits 108 es h);
-      source = lt→ltb (fieldOr0 20 (membersOf 2 es) % 16) 16 (mod-lt (fieldOr0 20 (membersOf 2 es)) (zero-lt-suc 15));
-      local = group-fteid false (membersOf 2 es);
-      endpoint = bound-test (256 ^ 1) 256 (field 131 (membersOf 2 es)) refl (field-fits 131 (membersOf 2 es) pdi);
-    }
+-- those that are there; in an endpoint (e) without a CHOOSE ID
+record MembersRead (e : Bool) (m : Members) : Type 0 where
+  pdrId : OnSome (λ n. T (ltb n (2 ^ 16))) (m .pdrId)
+  precedence : OnSome (λ n. T (ltb n (2 ^ 32))) (m .precedence)
+  far : OnSome (λ f. T (farAllowed f)) (m .far)
+  source : OnSome (λ n. T (ltb n 16)) (m .source)
+  local : OnSome (FteidRead e) (m .local)
+  endpointId : OnSome (λ n. T (ltb n 256)) (m .endpointId)
 
--- a Create Traffic Endpoint that was read
-pub endpoint-read : (es : List Element) → T (all clean es) → OnSome EndpointRead (newEndpoint es)
-unfolding newEndpoint widthOf
-endpoint-read es h = one (fteidIn true es) (group-fteid true es)
+-- a number is below 256 to its width
+number-read : (t w : ℕ) (v : List ℕ) → widthOf t ≡ w → T (areBytes v) → OnDone (λ n. T (ltb n (256 ^ w))) (numberRead t v)
+unfolding numberRead
+number-read t w v e h =
+    pick-either (OnDone (λ n. T (ltb n (256 ^ w)))) (ltb (length v) (widthOf t)) _ _ tt
+    (lt→ltb (numberAt 0 (widthOf t) v) (256 ^ w) (subst (λ (k : ℕ). numberAt 0 (widthOf t) v < 256 ^ k) e (field-bound (widthOf t) v h)))
+
+-- the width of a type that is known
+width-of : (t k : ℕ) → T (eqb t k) → widthOf t ≡ widthOf k
+width-of t k c = ap widthOf (eqb→eq t k c)
+
+other-width : (a b c : Bool) → T (not a) → T (not b) → T (not c) → _≡_ {A = ℕ} (pick a 2 (pick (b || c) 4 1)) 1
+other-width false false false x y z = refl
+other-width true b c x y z = absurd x
+other-width false true c x y z = absurd y
+other-width false false true x y z = absurd z
+
+far-read : (g : ℕ) (v : List ℕ) → T (areBytes v) → OnDone (λ f. T (farAllowed f)) (farRead g v)
+unfolding farRead farAllowed widthOf
+far-read g v h =
+    pick-either (OnDone (λ f. T (farAllowed f))) (eqb g ie.updatePdr && isNil v) _ _ tt
+    (then-done (λ n. T (ltb n (2 ^ 32))) (λ f. T (farAllowed f)) (numberRead ie.farId v) _ (number-read ie.farId 4 v refl h) (λ n k. k))
+
+-- a reader of the PDI's octets keeps the bounds
+abbrev Keeps : (List ℕ → Members → Reading Members) → Type 0
+Keeps inner = (v : List ℕ) (m : Members) → T (areBytes v) → MembersRead false m → OnDone (MembersRead false) (inner v m)
+
+module _ (inner : List ℕ → Members → Reading Members) (keeps : Keeps inner) (g : ℕ) where
+  abbrev Kept : Members → Type 0
+  Kept m = MembersRead (eqb g ie.createEndpoint) m
+
+  with-pdi : (e : Bool) (m : Members) → MembersRead e m → MembersRead e (withPdi m)
+  with-pdi e m b = record { pdrId = b .pdrId; precedence = b .precedence; far = b .far; source = b .source; local = b .local; endpointId = b .endpointId }
+
+  pdi-in : (v : List ℕ) (m : Members) → T (areBytes v) → Kept m → OnDone Kept (pdiIn inner g v m)
+  unfolding pdiIn
+  pdi-in v m h b =
+      pick-cases (OnDone Kept) (eqb g ie.createPdr) _ _
+      (λ c. subst (λ (k : ℕ). MembersRead (eqb k ie.createEndpoint) m → OnDone (MembersRead (eqb k ie.createEndpoint)) (inner v (withPdi m))) (sym (eqb→eq g ie.createPdr c))
+      (λ b′. keeps v (withPdi m) h (with-pdi false m b′)) b)
+      (λ _. with-pdi (eqb g ie.createEndpoint) m b)
+
+  value-read : (t : ℕ) (v : List ℕ) (m : Members) → T (areBytes v) → Kept m → OnDone Kept (valueRead inner g t v m)
+  unfolding valueRead widthOf
+  value-read t v m h b =
+      pick-cases (OnDone Kept) (eqb t ie.pdrId) _ _
+      (λ c. then-done (λ n. T (ltb n (2 ^ 16))) Kept (numberRead t v) _ (number-read t 2 v (width-of t ie.pdrId c) h)
+      (λ n k. record { pdrId = k; precedence = b .precedence; far = b .far; source = b .source; local = b .local; endpointId = b .endpointId }))
+      (λ c₁. pick-cases (OnDone Kept) (eqb t ie.precedence) _ _
+      (λ c. then-done (λ n. T (ltb n (2 ^ 32))) Kept (numberRead t v) _ (number-read t 4 v (width-of t ie.precedence c) h)
+      (λ n k. record { pdrId = b .pdrId; precedence = k; far = b .far; source = b .source; local = b .local; endpointId = b .endpointId }))
+      (λ c₂. pick-cases (OnDone Kept) (eqb t ie.farId) _ _
+      (λ _. then-done (λ f. T (farAllowed f)) Kept (farRead g v) _ (far-read g v h)
+      (λ f k. record { pdrId = b .pdrId; precedence = b .precedence; far = k; source = b .source; local = b .local; endpointId = b .endpointId }))
+      (λ c₃. pick-either (OnDone Kept) (eqb t ie.pdi) _ _ (pdi-in v m h b)
+      (pick-cases (OnDone Kept) (eqb t ie.sourceInterface) _ _
+      (λ c. then-done (λ n. T (ltb n 256)) Kept (numberRead t v) _ (number-read t 1 v (width-of t ie.sourceInterface c) h)
+      (λ n _. record { pdrId = b .pdrId; precedence = b .precedence; far = b .far; source = lt→ltb (n % 16) 16 (mod-lt n (zero-lt-suc 15)); local = b .local; endpointId = b .endpointId }))
+      (λ _. pick-either (OnDone Kept) (eqb t ie.fteid) _ _
+      (then-done (FteidRead (eqb g ie.createEndpoint)) Kept (named t (readFteid (eqb g ie.createEndpoint) v)) (λ y. done (withLocal y m)) (named-done (FteidRead (eqb g ie.createEndpoint)) t (readFteid (eqb g ie.createEndpoint) v) (fteid-read (eqb g ie.createEndpoint) v h))
+      (λ y k. record { pdrId = b .pdrId; precedence = b .precedence; far = b .far; source = b .source; local = k; endpointId = b .endpointId }))
+      (then-done (λ n. T (ltb n 256)) Kept (numberRead t v) _ (number-read t 1 v (other-width (eqb t ie.pdrId) (eqb t ie.precedence) (eqb t ie.farId) c₁ c₂ c₃) h)
+      (λ n k. record { pdrId = b .pdrId; precedence = b .precedence; far = b .far; source = b .source; local = b .local; endpointId = k })))))))
+
+  member-read : (e : Element) (m : Members) → T (clean e) → Kept m → OnDone Kept (memberRead inner g e m)
+  unfolding memberRead
+  member-read e m h b =
+      pick-either (OnDone Kept) (member (e .type) (placesOf g)) _ _ (pick-either (OnDone Kept) (holds (e .type) m) _ _ tt (value-read (e .type) (e .content) m h b)) b
+
+  members-read : (es : List Element) (m : Members) → T (all clean es) → Kept m → OnDone Kept (membersRead inner g es m)
+  unfolding membersRead
+  members-read [] m h b = b
+  members-read (e ∷ es) m h b =
+      then-done Kept Kept (memberRead inner g e m) _ (member-read e m (all-head clean e es h) b) (λ m′ b′. members-read es m′ (all-tail clean e es h) b′)
+
+-- a PDI's members
+pdi-read : Keeps pdiRead
+unfolding pdiRead pdiEnd
+pdi-read v m h b =
+    then-done (MembersRead false) (MembersRead false) (membersRead unopened ie.pdi (elements v) m) pdiEnd
+    (members-read unopened (λ _ m′ _ b′. b′) ie.pdi (elements v) m (clean-elements v h) b)
+    (λ m′ b′. need-done (λ n. T (ltb n 16)) (MembersRead false) missing ie.sourceInterface (m′ .source) _ (b′ .source) (λ _ _. b′))
+
+-- ---- what a group makes
+
+module _ (e : Bool) (m : Members) (b : MembersRead e m) where
+  pdr-from : OnDone ItemRead (pdrFrom m)
+  unfolding pdrFrom
+  pdr-from =
+      pick-either (OnDone ItemRead) (m .pdi) _ _
+      (need-done (λ n. T (ltb n (2 ^ 32))) ItemRead missing ie.precedence (m .precedence) _ (b .precedence)
+      (λ n hn. need-done (λ i. T (ltb i (2 ^ 16))) ItemRead missing ie.pdrId (m .pdrId) _ (b .pdrId)
+      (λ i hi. need-done (λ c. T (ltb c 16)) ItemRead missing ie.sourceInterface (m .source) _ (b .source)
+      (λ c hc. record { id = hi; precedence = hn; far = flat (m .far) (b .far); source = hc; local = weaker (m .local) (b .local); endpoint = b .endpointId }))))
+      tt
+    where
+      flat : (o : Option (Option ℕ)) → OnSome (λ f. T (farAllowed f)) o → T (farAllowed (bindOption o (λ f. f)))
+      flat none h = unfold farAllowed in tt
+      flat (some f) h = h
+
+      weaker : (o : Option Fteid) → OnSome (FteidRead e) o → OnSome (FteidRead false) o
+      weaker none h = tt
+      weaker (some v) h = record { family = h .family; octet = h .octet; noChooseId = λ k. absurd k }
+
+  endpoint-from : T e → OnDone ItemRead (endpointFrom m)
+  unfolding endpointFrom
+  endpoint-from c =
+      need-done (FteidRead true) ItemRead conditional ie.fteid (m .local) _ (subst (λ (x : Bool). OnSome (FteidRead x) (m .local)) (is-true e c) (b .local))
+      (λ v hv. need-done (λ i. T (ltb i 256)) ItemRead missing ie.endpointId (m .endpointId) _ (b .endpointId) (λ i hi. record { id = hi; local = hv }))
+
+  change-from : OnDone ItemRead (changeFrom m)
+  unfolding changeFrom
+  change-from = need-done (λ i. T (ltb i (2 ^ 16))) ItemRead missing ie.pdrId (m .pdrId) _ (b .pdrId) (λ i hi. record { precedence = b .precedence; far = b .far })
+
+item-from : (g : ℕ) (m : Members) → MembersRead (eqb g ie.createEndpoint) m → OnDone ItemRead (itemFrom g m)
+unfolding itemFrom
+item-from g m b =
+    let e = eqb g ie.createEndpoint in
+    pick-either (OnDone ItemRead) (eqb g ie.createPdr) _ _ (pdr-from e m b)
+    (pick-cases (OnDone ItemRead) e _ _ (endpoint-from e m b)
+    (λ _. pick-either (OnDone ItemRead) (eqb g ie.updatePdr) _ _ (change-from e m b)
+    (pick-either (OnDone ItemRead) (eqb g ie.removePdr) _ _
+    (need-done (λ i. T (ltb i (2 ^ 16))) ItemRead missing ie.pdrId (m .pdrId) _ (b .pdrId) (λ i hi. tt))
+    (need-done (λ i. T (ltb i 256)) ItemRead missing ie.endpointId (m .endpointId) _ (b .endpointId) (λ i hi. tt)))))
+
+group-read : (g : ℕ) (v : List ℕ) → T (areBytes v) → OnDone ItemRead (groupRead g v)
+unfolding groupRead
+group-read g v h =
+    then-done (MembersRead (eqb g ie.createEndpoint)) ItemRead (membersRead pdiRead g (elements v) noMembers) (itemFrom g)
+    (members-read pdiRead pdi-read g (elements v) noMembers (clean-elements v h) (record { pdrId = tt; precedence = tt; far = tt; source = tt; local = tt; endpointId = tt }))
+    (item-from g)
+
+-- ---- the top of a message
+
+-- what an element may make of a draft d, if S holds of a SEID that is read, C of an FQ-CSID and I of a group's item
+pub record Steps (S : ℕ → Type 0) (C : Fqcsid → Type 0) (I : Item → Type 0) (alone : Bool) (t : ℕ) (d : Draft) (Q : Draft → Type 0) : Type 0 where
+  pub skips : Q d
+  pub seid : (n : ℕ) → S n → Q (withSeid n d)
+  pub restores : (b : Bool) → Q (withRestores b d)
+  pub clears : T (eqb t ie.fqcsid) → T alone → Q (withItem clearsCsids d)
+  pub checks : (n : ℕ) → Q (withNode n d)
+  pub sets : T (eqb t ie.fqcsid) → (c : Fqcsid) → C c → Q (withNode (nodeOf c) (withItem (setsCsid c) d))
+  pub updates : Q (withItem updatesEndpoint d)
+  pub makes : (i : Item) → I i → Q (withItem i d)
+
+pub element-step : (S : ℕ → Type 0) (C : Fqcsid → Type 0) (I : Item → Type 0) (kind : ℕ) (alone : Bool) (e : Element) (d : Draft) (Q : Draft → Type 0)
+    → OnValue S (readFseid (e .content)) → OnValue C (readFqcsid (e .content)) → OnDone I (groupRead (e .type) (e .content)) → Steps S C I alone (e .type) d Q
+    → OnDone Q (elementRead kind alone e d)
+unfolding elementRead actedRead seidRead flagsRead csidRead withCsid
+element-step S C I kind alone e d Q hs hc hi k =
+    pick-either (OnDone Q) (member (e .type) (actedOn kind)) _ _
+    (pick-either (OnDone Q) (eqb (e .type) ie.fseid) _ _
+    (once-done Q (d .seid) ie.fseid _ (then-done S Q (named ie.fseid (readFseid (e .content))) (λ n. done (withSeid n d)) (named-done S ie.fseid (readFseid (e .content)) hs) (k .seid)))
+    (pick-either (OnDone Q) (eqb (e .type) ie.sessionFlags) _ _
+    (once-done Q (d .restores) ie.sessionFlags _ (pick-either (OnDone Q) (ltb (length (e .content)) 1) _ _ tt (k .restores (bit 0 (octetAt (e .content) 0)))))
+    (pick-cases (OnDone Q) (eqb (e .type) ie.fqcsid) _ _
+    (λ t. pick-cases (OnDone Q) (isNil (e .content) && eqb kind modification && alone) _ _
+    (λ c. k .clears t (last (isNil (e .content)) (eqb kind modification) c))
+    (λ _. then-done C Q (named ie.fqcsid (readFqcsid (e .content))) (λ c. pick (csidCountAllowed kind c && not (member (nodeOf c) (d .nodes))) (done (withCsid kind c d)) (refusal incorrect ie.fqcsid)) (named-done C ie.fqcsid (readFqcsid (e .content)) hc)
+    (λ c g. pick-either (OnDone Q) (csidCountAllowed kind c && not (member (nodeOf c) (d .nodes))) (done (withCsid kind c d)) (refusal incorrect ie.fqcsid)
+    (pick-either (λ (x : Draft). Q (withNode (nodeOf c) x)) (eqb kind deletion) d (withItem (setsCsid c) d) (k .checks (nodeOf c)) (k .sets t c g)) tt)))
+    (λ _. pick-either (OnDone Q) (eqb (e .type) ie.updateEndpoint) _ _ (k .updates) (then-done I Q (groupRead (e .type) (e .content)) (λ i. done (withItem i d)) hi (k .makes))))))
+    (k .skips)
   where
-    id-fits : T (ltb (fieldOr0 131 es) 256)
-    id-fits = lt→ltb (fieldOr0 131 es) 256 (member-bound 131 es h)
+    last : (a b : Bool) → T (a && b && alone) → T alone
+    last true true h = h
+    last true false h = absurd h
+    last false b h = absurd h
 
-    one : (o : Option Fteid) → OnSome (FteidRead true) o → OnSome EndpointRead (mapOption (λ v. record { id = fieldOr0 131 es; local = v }) o)
-    one none k = tt
-    one (some v) k = record { id = id-fits; local = k }
+-- what was read keeps its bounds
+abbrev DraftRead : Draft → Type 0
+DraftRead d = OnSome SeidRead (d .seid) × Every ItemRead (d .items)
 
--- an Update PDR that was read
-pub change-read : (es : List Element) → T (all clean es) → ChangeRead (changeOf es)
-unfolding changeOf widthOf
-change-read es h =
-    record { precedence = bound-test (256 ^ 4) (2 ^ 32) (field 29 es) refl (field-fits 29 es h); far = one (farChange es) (far-fits es h) }
+element-read : (kind : ℕ) (alone : Bool) (e : Element) (d : Draft) → T (clean e) → DraftRead d → OnDone DraftRead (elementRead kind alone e d)
+element-read kind alone e d h b =
+    element-step SeidRead CsidRead ItemRead kind alone e d DraftRead (fseid-read (e .content) h) (fqcsid-read (e .content) h) (group-read (e .type) (e .content) h)
+    (record {
+      skips = b;
+      seid = λ n k. (k, b .1);
+      restores = λ _. b;
+      clears = λ _ _. more clearsCsids tt;
+      checks = λ _. b;
+      sets = λ _ c k. more (setsCsid c) k;
+      updates = more updatesEndpoint tt;
+      makes = more;
+    })
   where
-    one : (o : Option (Option ℕ)) → OnSome (OnSome (λ n. n < 256 ^ 4)) o → OnSome (λ f. T (farAllowed f)) o
-    one none k = tt
-    one (some f) k = far-test f k
+    more : (i : Item) → ItemRead i → DraftRead (withItem i d)
+    more i k = (b .0, every-append ItemRead (d .items) (i ∷ []) (b .1) (k, tt))
+
+elements-read : (kind : ℕ) (alone : Bool) (es : List Element) (d : Draft) → T (all clean es) → DraftRead d → OnDone DraftRead (elementsRead kind alone es d)
+unfolding elementsRead
+elements-read kind alone [] d h b = b
+elements-read kind alone (e ∷ es) d h b =
+    then-done DraftRead DraftRead (elementRead kind alone e d) _ (element-read kind alone e d (all-head clean e es h) b) (λ d′ b′. elements-read kind alone es d′ (all-tail clean e es h) b′)
 
 -- ---- the request
 
+abbrev pub CsidsRead : CsidChanges → Type 0
+CsidsRead cleared = Unit {0}
+CsidsRead (changed cs) = Every CsidRead cs
+
+pub record RequestRead (r : Request) : Type 0 where
+  pub pdrs : Every PdrRead (r .pdrs)
+  pub endpoints : Every EndpointRead (r .endpoints)
+  pub changes : Every ChangeRead (r .changes)
+  pub csids : CsidsRead (r .csids)
+
+-- what is collected of an item
+item-parts : (i : Item) → ItemRead i → OnSome PdrRead (pdrIn i) × (OnSome EndpointRead (endpointIn i) × (OnSome ChangeRead (changeIn i) × OnSome CsidRead (csidIn i)))
+unfolding pdrIn endpointIn changeIn csidIn
+item-parts (createsPdr x) h = (h, (tt, (tt, tt)))
+item-parts (createsEndpoint x) h = (tt, (h, (tt, tt)))
+item-parts (updatesPdr x) h = (tt, (tt, (h, tt)))
+item-parts (removesPdr x) h = (tt, (tt, (tt, tt)))
+item-parts (removesEndpoint x) h = (tt, (tt, (tt, tt)))
+item-parts (setsCsid x) h = (tt, (tt, (tt, h)))
+item-parts clearsCsids h = (tt, (tt, (tt, tt)))
+item-parts updatesEndpoint h = (tt, (tt, (tt, tt)))
+
+request-of : (n : ℕ) (d : Draft) → Every ItemRead (d .items) → RequestRead (requestOf n d)
+unfolding requestOf
+request-of n d b =
+    record {
+      pdrs = every-collect pdrIn ItemRead PdrRead (λ i h. item-parts i h .0) (d .items) b;
+      endpoints = every-collect endpointIn ItemRead EndpointRead (λ i h. item-parts i h .1 .0) (d .items) b;
+      changes = every-collect changeIn ItemRead ChangeRead (λ i h. item-parts i h .1 .1 .0) (d .items) b;
+      csids =
+          pick-either CsidsRead (any clears (d .items)) cleared (changed (collect csidIn (d .items))) tt
+          (every-collect csidIn ItemRead CsidRead (λ i h. item-parts i h .1 .1 .1) (d .items) b);
+    }
+
+-- an establishment has its SEID
+abbrev Finished : ℕ → Request → Type 0
+Finished kind r = RequestRead r × (T (eqb kind establishment) → SeidRead (r .seid))
+
+finished-read : (kind : ℕ) (d : Draft) → DraftRead d → OnDone (Finished kind) (finished kind d)
+unfolding finished requestOf
+finished-read kind d b =
+    pick-cases (OnDone (Finished kind)) (eqb kind establishment) _ _
+    (λ _. pick-either (OnDone (Finished kind)) (restoringIn d || createsAny (d .items)) _ _
+    (need-done SeidRead (Finished kind) missing ie.fseid (d .seid) _ (b .0) (λ n hn. (request-of n d (b .1), λ _. hn))) tt)
+    (λ no-est. (request-of 0 d (b .1), λ est. absurd (T-not (eqb kind establishment) no-est est)))
+
 module _ (msg : List ℕ) (h : T (areBytes msg)) where
-  -- the elements of a type are clean
-  of-type-clean : (t : ℕ) → Every (λ e. T (clean e)) (ofType (kindOf msg) t (elements (body msg)))
-  unfolding ofType
-  of-type-clean t =
-      pick-either (λ (l : List Element). Every (λ e. T (clean e)) l) (member t (actedOn (kindOf msg))) (keep (hasType t) (elements (body msg))) []
-      (all-every clean (keep (hasType t) (elements (body msg))) (keep-all (hasType t) clean (elements (body msg)) (clean-body msg h))) tt
+  message-read : OnDone (Finished (kindOf msg)) (read msg)
+  unfolding read topRead
+  message-read =
+      let es = elements (body msg) in
+      then-done DraftRead (Finished (kindOf msg)) (elementsRead (kindOf msg) (aloneIn es) es emptyDraft) (finished (kindOf msg))
+      (elements-read (kindOf msg) (aloneIn es) es emptyDraft (clean-body msg h) (tt, tt)) (finished-read (kindOf msg))
 
-  -- the members of the groups of a type are clean
-  groups-clean : (t : ℕ) → Every (λ es. T (all clean es)) (groupsOf (kindOf msg) t (elements (body msg)))
-  unfolding groupsOf
-  groups-clean t = every-map groupOf (λ e. T (clean e)) (λ es. T (all clean es)) (λ e k. clean-elements (e .content) k) (ofType (kindOf msg) t (elements (body msg))) (of-type-clean t)
+  -- what a request asks for
+  pub request-read : RequestRead (readRequest msg)
+  unfolding readRequest
+  request-read = asked (read msg) message-read
+    where
+      asked : (r : Reading Request) → OnDone (Finished (kindOf msg)) r → RequestRead (askedIn r)
+      asked (faulty f) k = unfold askedIn in (request-of 0 emptyDraft tt)
+      asked (done r) k = unfold askedIn in (k .0)
 
-  -- every Create PDR of the request
-  pub pdrs-read : Every PdrRead (readRequest msg .pdrs)
-  unfolding readRequest requestOf
-  pdrs-read = every-map newPdr (λ es. T (all clean es)) PdrRead pdr-read (groupsOf (kindOf msg) 1 (elements (body msg))) (groups-clean 1)
-
-  -- every Create Traffic Endpoint
-  pub endpoints-read : Every EndpointRead (readRequest msg .endpoints)
-  unfolding readRequest requestOf
-  endpoints-read = every-collect newEndpoint (λ es. T (all clean es)) EndpointRead endpoint-read (groupsOf (kindOf msg) 127 (elements (body msg))) (groups-clean 127)
-
-  -- every Update PDR
-  pub changes-read : Every ChangeRead (readRequest msg .changes)
-  unfolding readRequest requestOf
-  changes-read = every-map changeOf (λ es. T (all clean es)) ChangeRead change-read (groupsOf (kindOf msg) 9 (elements (body msg))) (groups-clean 9)
-
-  -- every FQ-CSID
-  pub csids-read : Every CsidRead (readRequest msg .csids)
-  unfolding readRequest requestOf
-  csids-read =
-      every-collect fqcsidIn (λ e. T (clean e)) CsidRead (λ e k. unfold fqcsidIn in (fqcsid-read (e .content) k)) (ofType (kindOf msg) 65 (elements (body msg))) (of-type-clean 65)
-
--- ---- an establishment's SEID
-
--- a value is not nothing
-some-none : {A : Type 0} (a : A) → some a ≡ none → ⊥
-some-none a e = subst (λ (o : Option _). T (isSome o)) e tt
-
--- no fault at all: none first and none after it
-or-none : {A : Type 0} (a b : Option A) → orElse a b ≡ none → (a ≡ none) × (b ≡ none)
-or-none none b e = (refl, e)
-or-none (some x) b e = absurd (some-none x e)
-
--- an answer without a fault has its value
-answered : (t : ℕ) (P : ℕ → Type 0) (a : Answer ℕ) → answerFault t a ≡ none → OnSome P (answerValue a) → P (valueOr 0 (answerValue a))
-unfolding answerFault answerValue
-answered t P (refuse c) e h = absurd (some-none _ e)
-answered t P (value n) e h = h
-
--- the first F-SEID of elements without a fault
-first-fseid : (es before l : List Element) → T (all clean l) → T (there 57 l) → topFaultFrom 50 es before l ≡ none → SeidRead (fseidIn (keep (hasType 57) l))
-unfolding there any topFaultFrom fseidIn contentOf keep findBy hasType
-first-fseid es before [] h k e = absurd k
-first-fseid es before (x ∷ l) h k e =
-    let parts = or-none (pick (member (x .type) (actedOn 50)) (actedFault 50 es before (x .type) (x .content)) none) (topFaultFrom 50 es (x ∷ before) l) e in
-    one (eqb (x .type) 57) refl (parts .0) (λ g. first-fseid es (x ∷ before) l (all-tail clean x l h) g (parts .1)) k
-  where
-    Goal : List Element → Type 0
-    Goal l′ = SeidRead (valueOr 0 (bindOption (mapOption contentIn (findBy (λ y. eqb (y .type) 57) l′)) (λ xs. answerValue (readFseid xs))))
-
-    once : (b : Bool) (f g : Option Fault) → pick b (fault incorrect 57) f ≡ none → f ≡ none
-    once true f g c = absurd (some-none _ c)
-    once false f g c = c
-
-    at-57 : pick (member 57 (actedOn 50)) (actedFault 50 es before 57 (x .content)) none ≡ none → SeidRead (valueOr 0 (answerValue (readFseid (x .content))))
-    at-57 f = unfold member actedOn actedFault onceFault in (
-        answered 57 SeidRead (readFseid (x .content)) (once (there 57 before) (answerFault 57 (readFseid (x .content))) none f) (fseid-read (x .content) (all-head clean x l h)))
-
-    one : (b : Bool) → eqb (x .type) 57 ≡ b → pick (member (x .type) (actedOn 50)) (actedFault 50 es before (x .type) (x .content)) none ≡ none
-        → (T (any (λ y. eqb (y .type) 57) l) → Goal (keep (λ y. eqb (y .type) 57) l)) → T (b || any (λ y. eqb (y .type) 57) l)
-        → Goal (pick b (x ∷ keep (λ y. eqb (y .type) 57) l) (keep (λ y. eqb (y .type) 57) l))
-    one true c f ih k′ =
-        subst (λ (d : Bool). SeidRead (valueOr 0 (bindOption (mapOption contentIn (pick d (some x) (findBy (λ y. eqb (y .type) 57) (keep (λ y. eqb (y .type) 57) l)))) (λ xs. answerValue (readFseid xs)))))
-        (sym c)
-        (at-57 (subst (λ (t : ℕ). pick (member t (actedOn 50)) (actedFault 50 es before t (x .content)) none ≡ none) (eqb→eq (x .type) 57 (subst T (sym c) tt)) f))
-    one false c f ih k′ = ih k′
-
--- an establishment without a fault has an F-SEID
-fseid-there : (es : List Element) (b : Bool) → missingFault (requiredAtTop 50 b) es ≡ none → T (there 57 es)
-unfolding requiredAtTop missingFault required
-fseid-there es true e = one (there 57 es) e
-  where
-    one : (b : Bool) → pick b none (some (required missing 57)) ≡ none → T b
-    one true g = tt
-    one false g = absurd (some-none _ g)
-fseid-there es false e = one (there 1 es) (there 57 es) e
-  where
-    one : (a b : Bool) → pick a (pick b none (some (required missing 57))) (some (required missing 1)) ≡ none → T b
-    one true true g = tt
-    one true false g = absurd (some-none _ g)
-    one false b g = absurd (some-none _ g)
-
--- the elements of an establishment without a fault
-establishment-read : (es : List Element) → T (all clean es) → topFault 50 es ≡ none → SeidRead (fseidIn (ofType 50 57 es))
-unfolding topFault ofType actedOn member
-establishment-read es h e =
-    let parts = or-none (topFaultFrom 50 es [] es) (missingFault (requiredAtTop 50 (restorationIn es)) es) e in
-    first-fseid es [] es h (fseid-there es (restorationIn es) (parts .1)) (parts .0)
-
--- the SEID of an establishment without a fault is not 0 and has eight octets
-pub seid-read : (msg : List ℕ) → T (areBytes msg) → T (eqb (kindOf msg) 50) → readFault msg ≡ none → SeidRead (readRequest msg .seid)
-unfolding readFault readRequest requestOf
-seid-read msg h k e =
-    subst (λ (n : ℕ). topFault n (elements (body msg)) ≡ none → SeidRead (fseidIn (ofType n 57 (elements (body msg))))) (sym (eqb→eq (kindOf msg) 50 k))
-    (establishment-read (elements (body msg)) (clean-body msg h)) e
+  -- the SEID of an establishment without a fault is not 0 and has eight octets
+  pub seid-read : T (eqb (kindOf msg) establishment) → readFault msg ≡ none → SeidRead (readRequest msg .seid)
+  unfolding readFault readRequest
+  seid-read est fine = asked (read msg) message-read fine
+    where
+      asked : (r : Reading Request) → OnDone (Finished (kindOf msg)) r → faultIn r ≡ none → SeidRead (askedIn r .seid)
+      asked (faulty f) k e = absurd (unfold faultIn in (let z : _≡_ {A = ℕ} 0 1 = cc in omega arith))
+      asked (done r) k e = unfold askedIn in (k .1 est)

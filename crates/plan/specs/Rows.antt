@@ -2,7 +2,7 @@
 --
 --   word    a group's row                              an FQ-CSID's row
 --   0       its type: 1, 127, 9, 15 or 130             65
---   1       1 if PDR ID 56 is there                    1 sets, 2 removes, 3 null length
+--   1       1 if PDR ID 56 is there, else 0            1 sets, 2 removes, 3 null length
 --   2       1 if Precedence 29 is there
 --   3       1 if FAR ID 108 is there, 2 if it is null
 --   4       1 if Source Interface 20 is there
@@ -30,7 +30,7 @@ use Rattle.octets.specs.Choice.{pick}
 use Rattle.octets.specs.Octets.{be, bit, slices}
 use Rattle.octets.specs.Lists.{any, keep, collect}
 use Rattle.rules.specs.Elements.{Fteid, given, choose, Fqcsid, sets, removal}
-use Rattle.rules.specs.Message.{NewPdr, NewEndpoint, Change, Request, hasPdi}
+use Rattle.rules.specs.Reading.{NewPdr, NewEndpoint, Change, cleared, changed, Request}
 
 -- words in a row
 abbrev pub rowWidth : ℕ
@@ -88,6 +88,9 @@ rowFar row = pick (eqb (word 3 row) 2) (some none) (pick (eqb (word 3 row) 1) (s
 unfoldable pub rowChange : List ℕ → Change
 rowChange row = record { id = word 7 row; precedence = present (word 2 row) (word 8 row); far = rowFar row; pdi = eqb (word 6 row) 1 }
 
+abbrev pub rowPdi : List ℕ → Bool
+rowPdi row = eqb (word 6 row) 1
+
 abbrev pub rowPdrId : List ℕ → ℕ
 rowPdrId row = word 7 row
 
@@ -117,7 +120,6 @@ requestIn seid restoring noted rows =
       changes = map rowChange (tagged 9 rows);
       gonePdrs = map rowPdrId (tagged 15 rows);
       goneEndpoints = map rowEndpointId (tagged 130 rows);
-      csids = collect rowCsid (tagged 65 rows);
-      clears = any isNullRow (tagged 65 rows);
-      unsupported = noted || any hasPdi (map rowChange (tagged 9 rows));
+      csids = pick (any isNullRow (tagged 65 rows)) cleared (changed (collect rowCsid (tagged 65 rows)));
+      unsupported = noted || any rowPdi (tagged 9 rows);
     }

@@ -2,16 +2,16 @@
 use mathlib.Core.Path.{_≡_, refl, sym, ap, subst, _∙_}
 use mathlib.Core.Logic.{inl, inr}
 use Prim.Native.Nat.{ℕ}
-use mathlib.Core.Bool.{Bool, true, false, _||_}
+use native.Mathlib.Omega.{arith}
+use mathlib.Core.Bool.{Bool, true, false, _&&_, _||_}
 use mathlib.Core.List.{List, [], _∷_}
 use lib.Dec.{T, eqb}
 use borrow.Author.Tests.{eq-eqb, ne-eqb, eqb-true}
 use Rattle.octets.specs.Lists.{member, allIn}
 use Rattle.octets.proofs.Tests.{is-true, and-left, and-right}
-use Rattle.rules.specs.Elements.{missing, conditional}
-use Rattle.rules.specs.Message.{placesOf, required, requiredOf, widthOf, actedOn}
+use Rattle.rules.specs.Message.{placesOf, widthOf}
 use Rattle.frame.proofs.Among.{OneOf}
-use Rattle.reading.specs.Members.{isPdi}
+use Rattle.reading.specs.Rows.{isPdi}
 
 -- the keys of an arm are in a list; none of them is, so that all of the list is among the keys
 pub keys-in : (t a : ℕ) (bs ls : List ℕ) → T (allIn (a ∷ bs) ls) → OneOf t a bs → member t ls ≡ true
@@ -75,28 +75,6 @@ module _ (g : ℕ) where
   unfolding placesOf
   in-other a b d e = rw (ne-eqb g 1 (λ h. a (inl h)), ne-eqb g 9 (λ h. a (inr h)), ne-eqb g 2 b, ne-eqb g 127 d, ne-eqb g 15 e)
 
-  -- what a group requires
-  pub of-create : g ≡ 1 → requiredOf g ≡ required missing 2 ∷ required missing 29 ∷ required missing 56 ∷ []
-  unfolding requiredOf
-  of-create e = rw e
-
-  pub of-pdi : g ≡ 2 → requiredOf g ≡ required missing 20 ∷ []
-  unfolding requiredOf
-  of-pdi e = rw e
-
-  pub of-endpoint : g ≡ 127 → requiredOf g ≡ required conditional 21 ∷ required missing 131 ∷ []
-  unfolding requiredOf
-  of-endpoint e = rw e
-
-  pub of-pdr : OneOf g 9 (15 ∷ []) → requiredOf g ≡ required missing 56 ∷ []
-  unfolding requiredOf
-  of-pdr (inl e) = rw e
-  of-pdr (inr e) = rw e
-
-  pub of-other : (g ≡ 1 → ⊥) → (g ≡ 2 → ⊥) → (g ≡ 127 → ⊥) → (OneOf g 9 (15 ∷ []) → ⊥) → requiredOf g ≡ required missing 131 ∷ []
-  unfolding requiredOf
-  of-other a b d e = rw (ne-eqb g 1 a, ne-eqb g 2 b, ne-eqb g 127 d, ne-eqb g 9 (λ h. e (inl h)), ne-eqb g 15 (λ h. e (inr h)))
-
 module _ (t : ℕ) where
   pub two-octets : t ≡ 56 → 2 ≡ widthOf t
   unfolding widthOf
@@ -120,17 +98,19 @@ module _ (g t : ℕ) where
   unfolding isPdi
   in-create h = rw (eq-eqb g 1 h)
 
--- ---- the elements that are acted on at the top
+pub pdi-in-create : (g t : ℕ) → true ≡ isPdi g t → g ≡ 1
+unfolding isPdi
+pdi-in-create g t h = by-test (eqb g 1) (eqb-true g 1) h
+  where
+    by-test : (b : Bool) → (b ≡ true → g ≡ 1) → true ≡ (b && eqb t 2) → g ≡ 1
+    by-test true e h = e refl
+    by-test false e h = let z : _≡_ {A = ℕ} 0 1 = cc in absurd (omega arith)
 
-module _ (m : ℕ) where
-  pub in-establishment : m ≡ 50 → actedOn m ≡ 57 ∷ 186 ∷ 1 ∷ 127 ∷ 65 ∷ []
-  unfolding actedOn
-  in-establishment e = rw e
-
-  pub in-modification : m ≡ 52 → actedOn m ≡ 1 ∷ 127 ∷ 9 ∷ 15 ∷ 130 ∷ 65 ∷ 129 ∷ []
-  unfolding actedOn
-  in-modification e = rw e
-
-  pub in-deletion : (m ≡ 50 → ⊥) → (m ≡ 52 → ⊥) → actedOn m ≡ 65 ∷ []
-  unfolding actedOn
-  in-deletion a b = rw (ne-eqb m 50 a, ne-eqb m 52 b)
+pub pdi-type : (g t : ℕ) → true ≡ isPdi g t → t ≡ 2
+unfolding isPdi
+pdi-type g t h = by-tests (eqb g 1) (eqb t 2) (eqb-true t 2) h
+  where
+    by-tests : (a b : Bool) → (b ≡ true → t ≡ 2) → true ≡ (a && b) → t ≡ 2
+    by-tests true true e h = e refl
+    by-tests true false e h = let z : _≡_ {A = ℕ} 0 1 = cc in absurd (omega arith)
+    by-tests false b e h = let z : _≡_ {A = ℕ} 0 1 = cc in absurd (omega arith)

@@ -1,6 +1,3 @@
--- `Verdicts`: what the answers of stage 3 mean. `Members`, `Csids`, `Items`: the fault of one member of a group, of one FQ-CSID and of one
--- element at the top, for the functions inside this crate.
+-- `Verdicts`: what an answer means. `Rows`: what a row of the plan holds while its group is read.
 pub mod Verdicts
-pub mod Members
-pub mod Csids
-pub mod Items
+pub mod Rows

@@ -1,25 +1,22 @@
--- What the answers of stage 3 mean: none, or 01's cause and the type at fault.
+-- What the answers of stage 3 mean: 01's cause with the type at fault, or what was read.
 -- Assumes nothing.
 use Prim.Native.Nat.{ℕ}
-use mathlib.Core.Option.{Option, none, some}
 use Rattle.rules.specs.Elements.{causeOf}
-use Rattle.rules.specs.Message.{Fault}
+use Rattle.rules.specs.Reading.{Reading, faulty, done}
 use Rattle.reading.specs.declared.Verdict.{Verdict}
 use Rattle.reading.specs.declared.Verdict.the-variants.{Fine, Refused}
 
--- a cause by its number, and the type that Offending IE names
-pub record Offence : Type 0 where
-  pub cause : ℕ
-  pub at : ℕ
+-- a cause by its number with the type that Offending IE names, or a value
+pub data Outcome (A : Type 0) : Type 0 where
+  stopped : ℕ → ℕ → Outcome A
+  got : A → Outcome A
 
-abbrev pub offence : ℕ → ℕ → Option Offence
-offence c t = some (record { cause = c; at = t })
+-- the rules' reading, its cause by 01's number
+abbrev pub numbered : {A : Type 0} → Reading A → Outcome A
+numbered (faulty f) = stopped (causeOf (f .cause)) (f .type)
+numbered (done a) = got a
 
-abbrev pub told : Verdict → Option Offence
-told Fine = none
-told (Refused c t) = offence c t
-
--- the rules' fault, its cause by 01's number
-unfoldable pub numbered : Option Fault → Option Offence
-numbered none = none
-numbered (some f) = offence (causeOf (f .cause)) (f .at)
+-- a verdict, and the value where it is no refusal
+abbrev pub outcome : {A : Type 0} → Verdict → A → Outcome A
+outcome Fine a = got a
+outcome (Refused c t) a = stopped c t

@@ -1,8 +1,6 @@
-// Stage 3: the elements that a request acts on, each read in its place: group.rt has the members of a group, csid.rt the FQ-CSIDs and
-// top.rt the message itself.
-pub mod csid;
+// Stage 3 of the rules for groups: members.rt reads a group once, straight into its row of the plan; group.rt has the tables of groups.
 pub mod group;
-pub mod top;
+pub mod members;
 
 // What stage 3 finds.
 pub enum Verdict {

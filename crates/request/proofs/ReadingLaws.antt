@@ -1,46 +1,135 @@
 -- What reading a request gives, by the answers of stages 2 and 3. Assumes nothing.
-use mathlib.Core.Path.{_≡_, sym, ap, _∙_}
-use Prim.Native.Nat.{ℕ}
+use mathlib.Core.Path.{_≡_, refl, sym, ap, ap₂, subst, _∙_}
+use Prim.Native.Nat.{ℕ, _+_, _-_, _*_, _≤_}
 use native.Mathlib.Omega.{arith}
+use mathlib.Core.Bool.{Bool, true, false, _||_}
 use mathlib.Core.Option.{Option, none, some}
-use mathlib.Core.List.{List}
-use Rattle.rules.specs.Message.{Fault, Request, frameFault, readFault}
+use mathlib.Core.Logic.{_⊎_, inl, inr}
+use mathlib.Core.List.{List, [], _∷_}
+use lib.ListN.{length, take, drop, length-drop}
+use lib.Dec.{eqb}
+use borrow.Author.Tests.{ne-eqb}
+use Rattle.octets.specs.Choice.{pick}
+use Rattle.octets.specs.Octets.{number, part, octetAt, slices}
+use Rattle.octets.specs.Lists.{any, keep, collect}
+use Rattle.rules.specs.Elements.{causeOf}
+use Rattle.rules.specs.Message.{elements, body, kindOf, frameFault}
+use Rattle.rules.specs.Reading as rules
+use Rattle.rules.specs.Reading.{Reading, faulty, done, andThen, Request, aloneIn, emptyDraft, elementsRead, finished, requestOf, topRead, read, askedIn, readRequest, clears, csidIn}
+use Rattle.laws.proofs.CsidLaws.{only-clear}
+use Rattle.plan.specs.Rows.{rowsOf, tagged, rowCsid, isNullRow}
+use Rattle.frame.proofs.Walk.{part-from}
 use Rattle.frame.specs.Framed.{faultIn}
 use Rattle.frame.specs.declared.Framing.{Framing}
 use Rattle.frame.specs.declared.Framing.the-variants as framing
-use Rattle.reading.specs.Verdicts.{Offence, told, numbered}
+use Rattle.reading.specs.Verdicts.{Outcome, stopped, got, numbered, outcome}
 use Rattle.reading.specs.declared.Verdict.{Verdict}
 use Rattle.reading.specs.declared.Verdict.the-variants as verdict
-use Rattle.reading.proofs.VerdictLaws.{no-fault}
-use Rattle.reading.proofs.ValueLaws.{some-same}
-use Rattle.request.specs.Requests.{refused, whole, actedRequest, afterFraming, fromFraming, readingOf, Read}
+use Rattle.request.specs.Items.{Means, Enough, Ended, AllRead, planOf, concluded}
+use Rattle.request.specs.Requests.{Result, refused, whole, resultOf, fromFraming, readingOf, meant, rowsLeft, Read}
+use Rattle.request.specs.declared.Reading as code
 use Rattle.request.specs.declared.Reading.the-variants as reading
+use Rattle.request.specs.declared.items.Draft.{Draft}
+use Rattle.request.specs.declared.items.Step.{Step}
+use Rattle.request.specs.declared.items.Step.the-variants.{Fault, Next}
+use Rattle.request.proofs.PlanLaws.{csids-same, nulls-same}
+use Rattle.request.proofs.TurnLaws.{concluded-same}
 
-module _ (msg : List ℕ) (f : Framing) (framed : faultIn f ≡ frameFault msg) where
-  pub not-framed : (t : ℕ) → f ≡ framing.Fault t → refused 68 t ≡ readingOf msg
-  unfolding readingOf fromFraming
-  not-framed t h = ap (fromFraming msg) (sym (ap faultIn h) ∙ framed)
-
-  module _ (v : Verdict) (fine : f ≡ framing.Framed) (read : told v ≡ numbered (readFault msg)) where
-    by-reading : readingOf msg ≡ afterFraming msg (readFault msg)
-    unfolding readingOf fromFraming
-    by-reading = ap (fromFraming msg) (sym (sym (ap faultIn fine) ∙ framed))
-
-    refused-as : (o : Option Fault) (c t : ℕ) → told (verdict.Refused c t) ≡ numbered o → refused c t ≡ afterFraming msg o
-    unfolding afterFraming numbered
-    refused-as none c t h = let z : _≡_ {A = ℕ} 0 1 = cc in absurd (omega arith)
-    refused-as (some x) c t h = ap (λ (o : Offence). refused (o .cause) (o .at)) (some-same h)
-
-    pub not-read : (c t : ℕ) → v ≡ verdict.Refused c t → refused c t ≡ readingOf msg
-    not-read c t h = refused-as (readFault msg) c t (sym (ap told h) ∙ read) ∙ sym by-reading
-
-    pub no-fault-there : v ≡ verdict.Fine → readFault msg ≡ none
-    no-fault-there h = no-fault (readFault msg) read h
-
-    pub a-request : {r : Request} → v ≡ verdict.Fine → r ≡ actedRequest msg → whole r ≡ readingOf msg
-    unfolding afterFraming
-    a-request h e = ap whole e ∙ sym (by-reading ∙ ap (afterFraming msg) (no-fault-there h))
+-- no rows, no null FQ-CSID among them
+no-rows : (words : List ℕ) {X : Type 0} → any isNullRow (tagged 65 (rowsOf 0 words)) ≡ true → X
+unfolding any tagged keep slices
+no-rows words h = let z : _≡_ {A = ℕ} 0 1 = cc in absurd (omega arith)
 
 -- a refusal leaves no rows
-pub refused-whole : {msg words : List ℕ} {c t : ℕ} → refused c t ≡ readingOf msg → Read msg (reading.Fault c t) words
-refused-whole h = record { result = h; room = omega arith }
+refused-whole : {msg words : List ℕ} {c t : ℕ} → refused c t ≡ readingOf msg → Read msg (reading.Fault c t) words
+refused-whole {words = words} h = record { result = h; room = omega arith; onlyNull = λ e. no-rows words e }
+
+pub not-framed : (msg : List ℕ) {words : List ℕ} (f : Framing) → faultIn f ≡ frameFault msg → (t : ℕ) → f ≡ framing.Fault t → Read msg (reading.Fault 68 t) words
+unfolding readingOf fromFraming
+not-framed msg f framed t h = refused-whole (ap (fromFraming msg) (sym (ap faultIn h) ∙ framed))
+
+module _ (msg : List ℕ) (long : 16 ≤ length msg) where
+  abbrev tail : List ℕ
+  tail = take (length msg - 16) (drop 16 msg)
+
+  tail-short : length msg ≤ 2048 → length (take (length msg - 16) (drop 16 msg)) ≤ 2032
+  tail-short h = let size : length tail ≡ length msg - 16 = ap length (part-from 16 msg) ∙ length-drop 16 msg in omega arith
+
+  pub message-room : (k : ℕ) {words : List ℕ} → length msg ≤ 2048 → 4068 ≤ length words → Enough k (take (length msg - 16) (drop 16 msg)) words
+  message-room k short room = record { short = tail-short short; row = λ e. room }
+
+  pub deletion-room : {words : List ℕ} → length msg ≤ 2048 → Enough 54 (take (length msg - 16) (drop 16 msg)) words
+  deletion-room short = record { short = tail-short short; row = λ e. absurd (let z : _≡_ {A = ℕ} 0 1 = cc in omega arith) }
+
+  module _ {k : ℕ} (kind : k ≡ kindOf msg) where
+    abbrev drafted : Reading rules.Draft
+    drafted = elementsRead k (aloneIn (elements tail)) (elements tail) emptyDraft
+
+    read-is : read msg ≡ andThen drafted (finished k)
+    unfolding read topRead body
+    read-is = ap₂ (λ (j : ℕ) (s : List ℕ). topRead j (elements s)) (sym kind) (sym (part-from 16 msg))
+
+    module _ {words : List ℕ} (r : Step) (all : AllRead (elementsRead k (aloneIn (elements (take (length msg - 16) (drop 16 msg)))) (elements (take (length msg - 16) (drop 16 msg))) emptyDraft) r words) where
+      stopped-read : (c t : ℕ) → r ≡ Fault c t → refused c t ≡ resultOf (read msg)
+      stopped-read c t q = go drafted (all .fault c t q) ∙ sym (ap (λ (x : Reading Request). resultOf x) read-is)
+        where
+          go : (x : Reading rules.Draft) → numbered x ≡ stopped c t → refused c t ≡ resultOf (andThen x (finished k))
+          go (faulty f) h = sym cc
+          go (done d) h = let z : _≡_ {A = ℕ} 0 1 = cc in absurd (omega arith)
+
+      module _ (f : Framing) (framed : faultIn f ≡ frameFault msg) (fine : f ≡ framing.Framed) where
+        by-reading : readingOf msg ≡ resultOf (read msg)
+        unfolding readingOf fromFraming
+        by-reading = ap (fromFraming msg) (sym (sym (ap faultIn fine) ∙ framed))
+
+        pub read-refused : {exit : List ℕ} (c t : ℕ) → r ≡ Fault c t → Read msg (reading.Fault c t) exit
+        read-refused c t q = refused-whole (stopped-read c t q ∙ sym by-reading)
+
+        pub read-whole : 4068 ≤ length words → (d : Draft) → r ≡ Next d → {q : code.Reading} → q ≡ concluded k d → Read msg q words
+        read-whole room d e {q} h =
+            let w = all .next d e in
+            let m = w .read .means in
+            let same : meant (concluded k d) words ≡ readingOf msg =
+            concluded-same m k ∙ ap (λ (x : Reading rules.Draft). resultOf (andThen x (finished k))) (sym (w .read .is)) ∙ sym (ap (λ (x : Reading Request). resultOf x) read-is) ∙ sym by-reading in
+            let alone : any isNullRow (tagged 65 (rowsOf (d .rows) words)) ≡ true → collect rowCsid (tagged 65 (rowsOf (d .rows) words)) ≡ [] =
+            λ n. csids-same m ∙ only-clear k (elements tail) (w .read .draft) (w .read .is) (sym (nulls-same m) ∙ n) in
+            rw h (by-plan d (w .few) room alone (concluded k d) (planned d) same)
+          where
+            -- all of the rows, or none
+            planned : (d : Draft) → (rowsLeft (concluded k d) ≡ d .rows) ⊎ (rowsLeft (concluded k d) ≡ 0)
+            planned d = unfold concluded in (go (eqb k 50) (eqb (d .flags) 2 || d .creates) (eqb (d .seid) 0))
+              where
+                go : (a b e : Bool) → (rowsLeft (pick a (pick b (pick e (reading.Fault 66 57) (reading.Whole (planOf d (d .seid)))) (reading.Fault 66 1)) (reading.Whole (planOf d 0))) ≡ d .rows)
+                    ⊎ (rowsLeft (pick a (pick b (pick e (reading.Fault 66 57) (reading.Whole (planOf d (d .seid)))) (reading.Fault 66 1)) (reading.Whole (planOf d 0))) ≡ 0)
+                go true true true = inr refl
+                go true true false = inl refl
+                go true false e = inr refl
+                go false b e = inl refl
+
+            by-plan : (d : Draft) → d .rows ≤ 226 → 4068 ≤ length words → (any isNullRow (tagged 65 (rowsOf (d .rows) words)) ≡ true → collect rowCsid (tagged 65 (rowsOf (d .rows) words)) ≡ [])
+                → (q : code.Reading) → (rowsLeft q ≡ d .rows) ⊎ (rowsLeft q ≡ 0) → meant q words ≡ readingOf msg → Read msg q words
+            by-plan d few room alone q (inl n) s = record { result = s; room = omega arith; onlyNull = subst (λ (i : ℕ). any isNullRow (tagged 65 (rowsOf i words)) ≡ true → collect rowCsid (tagged 65 (rowsOf i words)) ≡ []) (sym n) alone }
+            by-plan d few room alone q (inr n) s = record { result = s; room = omega arith; onlyNull = subst (λ (i : ℕ). any isNullRow (tagged 65 (rowsOf i words)) ≡ true → collect rowCsid (tagged 65 (rowsOf i words)) ≡ []) (sym n) (λ e. no-rows words e) }
+
+-- ---- deletions
+
+module _ (msg : List ℕ) (long : 16 ≤ length msg) (kind : kindOf msg ≡ 54) {words : List ℕ} (r : Step)
+    (all : AllRead (elementsRead 54 (aloneIn (elements (take (length msg - 16) (drop 16 msg)))) (elements (take (length msg - 16) (drop 16 msg))) emptyDraft) r words) where
+  pub deletion-refused : (c t : ℕ) → r ≡ Fault c t → outcome (verdict.Refused c t) (readRequest msg) ≡ numbered (read msg)
+  deletion-refused c t q = go (read msg) (stopped-read msg long (sym kind) r all c t q)
+    where
+      go : (x : Reading Request) → refused c t ≡ resultOf x → stopped c t ≡ numbered x
+      go (faulty f) h = cc
+      go (done d) h = let z : _≡_ {A = ℕ} 0 1 = cc in absurd (omega arith)
+
+  settled : (x : Reading Request) {q : Request} → x ≡ done q → got (askedIn x) ≡ numbered x
+  unfolding askedIn
+  settled (faulty f) h = let z : _≡_ {A = ℕ} 0 1 = cc in absurd (omega arith)
+  settled (done q) h = refl
+
+  pub deletion-fine : (d : Draft) → r ≡ Next d → outcome verdict.Fine (readRequest msg) ≡ numbered (read msg)
+  unfolding readRequest
+  deletion-fine d q =
+      let w = all .next d q .read in
+      let e : read msg ≡ done (requestOf 0 (w .draft)) = read-is msg long (sym kind) ∙ ap (λ (x : Reading rules.Draft). andThen x (finished 54)) (w .is) ∙ unfold finished in refl in
+      settled (read msg) e

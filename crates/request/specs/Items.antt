@@ -1,49 +1,165 @@
--- The items of a request that have a row, and the rows that were written for them.
+-- What was read of a message so far, as the code keeps it: a row of the plan for each item that has one, and a few numbers beside them.
+-- For the functions inside this crate.
 -- Assumes nothing.
 use mathlib.Core.Path.{_≡_}
-use Prim.Native.Nat.{ℕ}
-use mathlib.Core.Bool.{Bool}
-use mathlib.Core.List.{List, [], _∷_}
-use lib.ListN.{length}
+use Prim.Native.Nat.{ℕ, _+_, _*_, _≤_}
+use mathlib.Core.Bool.{Bool, true, false, not, _||_}
+use mathlib.Core.Option.{Option, none, some}
+use mathlib.Core.List.{List, [], _∷_, map}
+use lib.ListN.{length, getD}
 use lib.Dec.{eqb}
-use Rattle.octets.specs.Choice.{pick}
-use Rattle.octets.specs.Octets.{put}
-use Rattle.octets.specs.Lists.{member, keep}
-use Rattle.rules.specs.Message.{Element, establishment, modification}
-use Rattle.plan.specs.Rows.{rowWidth, word, rowsOf}
-use Rattle.request.specs.Members.{GroupRow, CsidRow}
+use Rattle.octets.specs.Choice.{pick, valueOr, flag}
+use Rattle.octets.specs.Lists.{member, keep, any}
+use Rattle.rules.specs.Types as ie
+use Rattle.rules.specs.Elements.{sets, removal}
+use Rattle.rules.specs.Message.{establishment}
+use Rattle.rules.specs.Reading as rules
+use Rattle.rules.specs.Reading.{Item, createsPdr, createsEndpoint, updatesPdr, removesPdr, removesEndpoint, setsCsid, clearsCsids, updatesEndpoint, Reading, done, andThen, withItem, groupRead, elementRead, createsAny}
+use Rattle.plan.specs.Rows.{rowWidth, word, rowsOf, rowPdr, rowEndpoint, rowChange, rowAddress}
+use Rattle.reading.specs.declared.Verdict.{Verdict}
+use Rattle.reading.specs.declared.Verdict.the-variants.{Fine, Refused}
+use Rattle.reading.specs.Verdicts.{stopped, numbered}
+use Rattle.request.specs.declared.Plan.{Plan}
+use Rattle.request.specs.declared.Reading as code
+use Rattle.request.specs.declared.Reading.the-variants as reading
+use Rattle.request.specs.declared.items.Draft.{Draft}
+use Rattle.request.specs.declared.items.Step.{Step}
+use Rattle.request.specs.declared.items.Step.the-variants.{Fault, Next}
 
--- the types that have rows, by the kind of message: what is acted on, but for 57, 186 and 129; none in a deletion
-unfoldable pub plannedOf : ℕ → List ℕ
-plannedOf kind = pick (eqb kind establishment) (1 ∷ 127 ∷ 65 ∷ []) (pick (eqb kind modification) (1 ∷ 127 ∷ 9 ∷ 15 ∷ 130 ∷ 65 ∷ []) [])
+-- ---- the item of a row
 
-unfoldable pub planned : ℕ → Element → Bool
-planned kind e = member (e .type) (plannedOf kind)
+unfoldable pub csidItem : List ℕ → Item
+csidItem row =
+    pick (eqb (word 1 row) 1) (setsCsid (sets (word 8 row) (rowAddress row) (word 11 row ∷ []) (word 7 row)))
+    (pick (eqb (word 1 row) 2) (setsCsid (removal (word 7 row))) (pick (eqb (word 1 row) 3) clearsCsids updatesEndpoint))
 
-unfoldable pub itemsOf : ℕ → List Element → List Element
-itemsOf kind es = keep (planned kind) es
+-- of a row of type t; element 129 has no row, and stands for a row that is none
+unfoldable pub itemOf : ℕ → List ℕ → Item
+itemOf t row =
+    pick (eqb t ie.createPdr) (createsPdr (rowPdr row))
+    (pick (eqb t ie.createEndpoint) (createsEndpoint (rowEndpoint row))
+    (pick (eqb t ie.updatePdr) (updatesPdr (rowChange row))
+    (pick (eqb t ie.removePdr) (removesPdr (word 7 row))
+    (pick (eqb t ie.removeEndpoint) (removesEndpoint (word 11 row)) (pick (eqb t ie.fqcsid) (csidItem row) updatesEndpoint)))))
 
--- the row of an element of type t with the value v
-pub record Row (t : ℕ) (v row : List ℕ) : Type 0 where
-  pub tag : word 0 row ≡ t
-  pub csid : t ≡ 65 → CsidRow v row
-  pub group : (t ≡ 65 → ⊥) → GroupRow t v row
+unfoldable pub rowItem : List ℕ → Item
+rowItem row = itemOf (word 0 row) row
 
--- a row for each item, in request order
-abbrev pub Rows : List Element → List (List ℕ) → Type 0
-Rows [] [] = Unit {0}
-Rows [] (row ∷ rows) = ⊥
-Rows (e ∷ es) [] = ⊥
-Rows (e ∷ es) (row ∷ rows) = Row (e .type) (e .content) row × Rows es rows
+unfoldable pub isUpdate : Item → Bool
+isUpdate (createsPdr x) = false
+isUpdate (createsEndpoint x) = false
+isUpdate (updatesPdr x) = false
+isUpdate (removesPdr x) = false
+isUpdate (removesEndpoint x) = false
+isUpdate (setsCsid x) = false
+isUpdate clearsCsids = false
+isUpdate updatesEndpoint = true
 
--- a row of which Means holds was written over the words at a place
-pub record Written (Means : List ℕ → Type 0) (at : ℕ) (before after : List ℕ) : Type 0 where
-  pub row : List ℕ
-  pub wide : length row ≡ rowWidth
-  pub stored : after ≡ put at row before
-  pub means : Means row
+unfoldable pub hasRow : Item → Bool
+hasRow i = not (isUpdate i)
 
--- n rows, one for each item
-pub record Filled (items : List Element) (n : ℕ) (words : List ℕ) : Type 0 where
-  pub count : n ≡ length items
-  pub rows : Rows items (rowsOf n words)
+-- ---- the draft
+
+-- 0 where the flags were not met, 1 without and 2 with the restoration's bit
+abbrev pub flagsOf : Option Bool → ℕ
+flagsOf none = 0
+flagsOf (some b) = 1 + flag b
+
+-- a node type is among those that were met
+abbrev pub met : ℕ → List ℕ → Bool
+met k nodes = not (eqb (getD nodes k 0) 0)
+
+abbrev pub SeidThere : Option ℕ → Type 0
+SeidThere none = Unit {0}
+SeidThere (some n) = n ≡ 0 → ⊥
+
+-- the code's draft, its node types and its rows mean the rules' draft
+pub record Means (d : rules.Draft) (c : Draft) (nodes words : List ℕ) : Type 0 where
+  pub seid : c .seid ≡ valueOr 0 (d .seid)
+  pub seidThere : SeidThere (d .seid)
+  pub flags : c .flags ≡ flagsOf (d .restores)
+  pub noted : c .noted ≡ any isUpdate (d .items)
+  pub creates : c .creates ≡ createsAny (d .items)
+  pub seen : (k : ℕ) → met k nodes ≡ member k (d .nodes)
+  pub rows : map rowItem (rowsOf (c .rows) words) ≡ keep hasRow (d .items)
+
+-- a reading that went well, and what it means
+pub record Read (result : Reading rules.Draft) (c : Draft) (nodes words : List ℕ) : Type 0 where
+  pub draft : rules.Draft
+  pub is : result ≡ done draft
+  pub means : Means draft c nodes words
+
+-- a step of the reading: the fault that the rules find, or a draft
+pub record Steps (result : Reading rules.Draft) (r : Step) (nodes words : List ℕ) : Type 0 where
+  pub fault : (c t : ℕ) → r ≡ Fault c t → numbered result ≡ stopped c t
+  pub next : (c : Draft) → r ≡ Next c → Read result c nodes words
+
+-- it is the rules' step from any draft that the code's means
+pub record Follows (step : rules.Draft → Reading rules.Draft) (c : Draft) (nodes words : List ℕ) (r : Step) (nodes′ words′ : List ℕ) : Type 0 where
+  pub follows : (d : rules.Draft) → Means d c nodes words → Steps (step d) r nodes′ words′
+
+-- room for the node types, and for one more row where the message has rows
+pub record Roomy (kind : ℕ) (c : Draft) (nodes words : List ℕ) : Type 0 where
+  pub wide : length nodes ≡ 16
+  pub row : eqb kind 54 ≡ false → rowWidth * c .rows + rowWidth ≤ length words
+  pub few : c .rows ≤ 225
+
+-- a step that touches neither node types nor rows
+pub record Passes (step : rules.Draft → Reading rules.Draft) (c : Draft) (r : Step) : Type 0 where
+  pub passes : (nodes words : List ℕ) → Follows step c nodes words r nodes words
+
+-- one that touches no node types
+pub record Puts (step : rules.Draft → Reading rules.Draft) (c : Draft) (words : List ℕ) (r : Step) (words′ : List ℕ) : Type 0 where
+  pub puts : (nodes : List ℕ) → Follows step c nodes words r nodes words′
+
+-- a draft with element 129, and with one more row
+abbrev pub withNote : Draft → Draft
+withNote c = record { rows = c .rows; seid = c .seid; flags = c .flags; noted = true; creates = c .creates }
+
+abbrev pub withRow : Bool → Draft → Draft
+withRow b c = record { rows = c .rows + 1; seid = c .seid; flags = c .flags; noted = c .noted; creates = pick b true (c .creates) }
+
+-- a verdict that is a refusal
+abbrev pub verdictStep : Draft → Verdict → Step
+verdictStep c Fine = Next c
+verdictStep c (Refused n t) = Fault n t
+
+-- the groups at the top of a message
+abbrev pub groupTypes : List ℕ
+groupTypes = ie.createPdr ∷ ie.createEndpoint ∷ ie.updatePdr ∷ ie.removePdr ∷ ie.removeEndpoint ∷ []
+
+-- the rules' step on a group, and on any element
+abbrev pub groupAt : ℕ → List ℕ → rules.Draft → Reading rules.Draft
+groupAt t v d = andThen (groupRead t v) (λ i. done (withItem i d))
+
+abbrev pub elementAt : ℕ → Bool → ℕ → List ℕ → rules.Draft → Reading rules.Draft
+elementAt kind alone t v d = elementRead kind alone (record { type = t; content = v }) d
+
+-- octets that fit a message, and room for their rows, where there are rows
+pub record Enough (kind : ℕ) (s words : List ℕ) : Type 0 where
+  pub short : length s ≤ 2032
+  pub row : eqb kind 54 ≡ false → 4068 ≤ length words
+
+-- all elements: the fault that the rules find, or a draft
+pub record Ended (result : Reading rules.Draft) (c : Draft) (words : List ℕ) : Type 0 where
+  pub nodes : List ℕ
+  pub read : Read result c nodes words
+  pub few : c .rows ≤ 226
+
+pub record AllRead (result : Reading rules.Draft) (r : Step) (words : List ℕ) : Type 0 where
+  pub fault : (c t : ℕ) → r ≡ Fault c t → numbered result ≡ stopped c t
+  pub next : (c : Draft) → r ≡ Next c → Ended result c words
+
+-- ---- the plan
+
+abbrev pub planOf : Draft → ℕ → Plan
+planOf c n = record { rows = c .rows; seid = n; restoring = eqb (c .flags) 2; noted = c .noted }
+
+-- a message's end: an establishment needs a Create PDR unless it is a restoration, and its F-SEID
+unfoldable pub concluded : ℕ → Draft → code.Reading
+concluded kind c =
+    pick (eqb kind establishment)
+    (pick (eqb (c .flags) 2 || c .creates)
+    (pick (eqb (c .seid) 0) (reading.Fault 66 ie.fseid) (reading.Whole (planOf c (c .seid))))
+    (reading.Fault 66 ie.createPdr))
+    (reading.Whole (planOf c 0))

@@ -1,5 +1,5 @@
--- `Requests`: what reading a request gives. `Members`, `Items`: the words of a row and the rows of a request, for the functions inside
--- this crate.
+-- `Requests`: what reading a request gives. `Items`, `Csids`: what was read so far, and the words of an FQ-CSID, for the functions inside this
+-- crate.
 pub mod Requests
-pub mod Members
 pub mod Items
+pub mod Csids

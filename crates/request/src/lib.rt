@@ -1,17 +1,22 @@
-// A request as a plan: stages 2 and 3, and then a row of words for each item that the request acts on, in request order. What a row
-// means stands in the crate plan.
+// A request as a plan: stages 2 and 3, which read each element that the request acts on once, into a row of words, in request order. What a
+// row means stands in the crate plan.
 use frame::Framing;
+use items::Draft;
+use items::Step;
 use reading::Verdict;
 ghost use mathlib.Core.Path.{_≡_};
 ghost use Prim.Native.Nat.{_≤_};
 ghost use lib.ListN.{length};
-ghost use mathlib.Core.Option.{none};
-ghost use Rattle.rules.specs.Message.{readFault};
 ghost use Rattle.rules.specs.Limits.{maxMessage};
-ghost use Rattle.request.specs.Requests.{maxWords, Read, Planned};
+ghost use Rattle.rules.specs.Message.{kindOf};
+ghost use Rattle.rules.specs.Reading.{read, readRequest};
+ghost use Rattle.reading.specs.Verdicts.{outcome, numbered};
+ghost use mathlib.Core.Bool.{not, _||_};
+ghost use lib.Dec.{eqb};
+ghost use Rattle.request.specs.Items.{planOf, concluded};
+ghost use Rattle.request.specs.Requests.{maxWords, Read};
 
-pub mod head;
-pub mod member;
+pub mod items;
 pub mod row;
 
 // The rows that were written, and what has no row: the F-SEID's SEID, whether the request is a restoration, and whether element 129 was
@@ -30,6 +35,44 @@ pub enum Reading {
     Whole(Plan),
 }
 
+// The plan of what was read, with an SEID.
+fn plan_of(d: Draft, seid: u64) -> Plan
+    ensures { λ r. ⌜ r ≡ planOf d seid ⌝ }
+{
+    Plan {
+        rows: d.rows,
+        seid: seid,
+        restoring: d.flags == 2,
+        noted: d.noted,
+    }
+}
+
+// Whether an establishment lacks a Create PDR, which a restoration does not need.
+fn lacks_pdr(d: Draft) -> bool
+    ensures { λ r. ⌜ r ≡ not (eqb (d .flags) 2 || d .creates) ⌝ }
+{
+    if d.flags == 2 {
+        return false;
+    }
+    !d.creates
+}
+
+// The end of a message: what it lacks, or its plan.
+fn conclude(message: u64, d: Draft) -> Reading
+    ensures { λ r. ⌜ r ≡ concluded message d ⌝ }
+{
+    if message != 50 {
+        return Reading::Whole(plan_of(d, 0));
+    }
+    if lacks_pdr(d) {
+        return Reading::Fault(66, 1);
+    }
+    if d.seid == 0 {
+        return Reading::Fault(66, 57);
+    }
+    Reading::Whole(plan_of(d, d.seid))
+}
+
 // Reads a message whose header is allowed.
 pub fn read_request(msg: &[u8], words: &mut [u64]) -> Reading
     requires { ⌜ (16 ≤ length (now msg)) × (length (now msg) ≤ maxMessage) × (maxWords ≤ length (now words)) ⌝ }
@@ -38,27 +81,22 @@ pub fn read_request(msg: &[u8], words: &mut [u64]) -> Reading
     if let Framing::Fault(kind) = frame::frame_fault(msg) {
         return Reading::Fault(68, kind);
     }
-    if let Verdict::Refused(cause, kind) = reading::top::read_fault(msg) {
-        return Reading::Fault(cause, kind);
+    let message = octets::read(msg, 1, 1);
+    let step = items::read_elements(&msg[16..], message, words);
+    match step {
+        Step::Fault(cause, kind) => Reading::Fault(cause, kind),
+        Step::Next(d) => conclude(message, d),
     }
-    Reading::Whole(fill(msg, words))
 }
 
-// The plan of a message without a fault.
-fn fill(msg: &[u8], words: &mut [u64]) -> Plan
-    requires { ⌜ (16 ≤ length (now msg)) × (length (now msg) ≤ maxMessage) × (maxWords ≤ length (now words)) × (readFault (now msg) ≡ none) ⌝ }
-    ensures { λ r. ⌜ Planned (now (msg .entry)) r (now (words .exit)) ⌝ }
+// Stage 3 of a deletion whose header is allowed.
+pub fn read_deletion(msg: &[u8]) -> Verdict
+    requires { ⌜ (16 ≤ length (now msg)) × (length (now msg) ≤ maxMessage) × (kindOf (now msg) ≡ 54) ⌝ }
+    ensures { λ r. ⌜ outcome r (readRequest (now (msg .entry))) ≡ numbered (read (now (msg .entry))) ⌝ }
 {
-    let s = &msg[16..];
-    let message = octets::read(msg, 1, 1);
-    let seid = head::seid(s, message);
-    let restoring = head::restoring(s, message);
-    let noted = head::noted(s, message);
-    let rows = row::put_rows(s, message, words);
-    Plan {
-        rows: rows,
-        seid: seid,
-        restoring: restoring,
-        noted: noted,
-    }
+    let mut words = [0u64; 1];
+    let Step::Fault(cause, kind) = items::read_elements(&msg[16..], 54, &mut words) else {
+        return Verdict::Fine;
+    };
+    Verdict::Refused(cause, kind)
 }

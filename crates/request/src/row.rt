@@ -1,15 +1,22 @@
-// The rows of a request.
+// The rows of a request: a group or an FQ-CSID is read into its row, which is put into the plan once it has no fault.
+use crate::items::Draft;
+use crate::items::Step;
 use element::fqcsid::Answer;
-use elements::First;
+use element::fqcsid::FqCsid;
+use reading::Verdict;
 ghost use mathlib.Core.Path.{_≡_};
+ghost use mathlib.Core.Bool.{true, false, _&&_};
 ghost use Prim.Native.Nat.{_+_, _*_, _≤_};
+ghost use lib.Dec.{eqb};
 ghost use lib.ListN.{length};
+ghost use Rattle.octets.specs.Choice.{isNil};
 ghost use Rattle.octets.specs.Octets.{put};
 ghost use Rattle.octets.specs.Lists.{member};
+ghost use Rattle.rules.specs.Message.{modification, elements};
+ghost use Rattle.rules.specs.Reading.{aloneIn, csidRead};
 ghost use Rattle.plan.specs.Rows.{rowWidth};
-ghost use Rattle.rules.specs.Message.{elements};
-ghost use Rattle.request.specs.Members.{bareCsid, csidWords, CsidRow};
-ghost use Rattle.request.specs.Items.{plannedOf, itemsOf, Written, Row, Filled};
+ghost use Rattle.request.specs.Items.{groupTypes, groupAt, Puts, Follows, Roomy, withRow, verdictStep};
+ghost use Rattle.request.specs.Csids.{countIn, bareCsid, csidWords, csidFrom, csidRefusal};
 
 // Writes the words of a row at index at.
 fn put_words(words: &mut [u64], at: usize, row: &[u64])
@@ -23,40 +30,52 @@ fn put_words(words: &mut [u64], at: usize, row: &[u64])
     }
 }
 
-// The row of a group of type kind with the value v.
-fn put_group(v: &[u8], kind: u64, words: &mut [u64], at: usize)
-    requires { ⌜ (at + rowWidth ≤ length (now words)) × (kind ≡ 65 → ⊥) ⌝ }
-    ensures { λ _. ⌜ Written (Row kind (now (v .entry))) at (now (words .entry)) (now (words .exit)) ⌝ }
+// One more row, of a Create PDR or not.
+fn with_row(d: Draft, creates: bool) -> Draft
+    requires { ⌜ d .rows ≤ 225 ⌝ }
+    ensures { λ r. ⌜ r ≡ withRow creates d ⌝ }
 {
-    let inner = crate::member::inner(v, kind);
-    let id = crate::member::field_of(v, 56);
-    let precedence = crate::member::field_of(v, 29);
-    let far = crate::member::far(v);
-    let pdi = crate::member::field_of(v, 2);
-    let source = crate::member::field_of(inner, 20);
-    let endpoint = crate::member::field_of(inner, 131);
-    let tunnel = crate::member::tunnel(inner, kind == 127);
-    let row = [
-        kind,
-        id.there,
-        precedence.there,
-        far.there,
-        source.there,
-        endpoint.there,
-        pdi.there,
-        id.value,
-        precedence.value,
-        far.value,
-        source.value % 16,
-        endpoint.value,
-        tunnel.flags,
-        tunnel.teid,
-        tunnel.ipv4,
-        tunnel.ipv6_high,
-        tunnel.ipv6_low,
-        tunnel.choose_id,
-    ];
-    put_words(words, at, &row);
+    if creates {
+        return Draft {
+            rows: d.rows + 1,
+            seid: d.seid,
+            flags: d.flags,
+            noted: d.noted,
+            creates: true,
+        };
+    }
+    Draft {
+        rows: d.rows + 1,
+        seid: d.seid,
+        flags: d.flags,
+        noted: d.noted,
+        creates: d.creates,
+    }
+}
+
+// A group of type kind with the value v, read once into its row.
+pub(crate) fn read_group(v: &[u8], kind: u64, words: &mut [u64], d: Draft) -> Step
+    requires { ⌜ (member kind groupTypes ≡ true) × (rowWidth * d .rows + rowWidth ≤ length (now words)) × (d .rows ≤ 225) ⌝ }
+    ensures { λ r. ⌜ Puts (groupAt kind (now (v .entry))) d (now (words .entry)) r (now (words .exit)) ⌝ }
+{
+    let mut row = [0u64; format::ROW];
+    let read = reading::members::read_group(v, kind, &mut row);
+    let Verdict::Fine = read else {
+        return refused(read, d);
+    };
+    row[0] = kind;
+    put_words(words, format::ROW * d.rows, &row);
+    Step::Next(with_row(d, kind == 1))
+}
+
+// The refusal in a verdict, if it is one.
+fn refused(verdict: Verdict, d: Draft) -> Step
+    ensures { λ r. ⌜ r ≡ verdictStep d verdict ⌝ }
+{
+    let Verdict::Refused(cause, kind) = verdict else {
+        return Step::Next(d);
+    };
+    Step::Fault(cause, kind)
 }
 
 // An FQ-CSID as the words of a row: 1 sets a node type's, 2 removes it, 3 is of null length.
@@ -83,37 +102,28 @@ fn bare(state: u64, node: u64) -> Csid
     }
 }
 
-// The FQ-CSID of value v, if it has one CSID at most.
-fn csid_of(v: &[u8]) -> Csid
-    ensures { λ r. ⌜ CsidRow (now (v .entry)) (csidWords r) ⌝ }
+// The FQ-CSID of a value with one CSID at most.
+fn csid_from(x: FqCsid) -> Csid
+    ensures { λ r. ⌜ r ≡ csidFrom x ⌝ }
 {
-    if v.len() == 0 {
-        return bare(3, 0);
+    if x.count == 0 {
+        return bare(2, x.node_type);
     }
-    let Answer::Value(x) = element::fqcsid::read(v) else {
-        return bare(0, 0);
-    };
-    let count = x.count;
-    match count {
-        0 => bare(2, x.node_type),
-        1 => Csid {
-            state: 1,
-            node: x.node_type,
-            id_type: x.id_type,
-            high: x.address_high,
-            low: x.address_low,
-            csid: x.csids_1,
-        },
-        _ => bare(0, 0),
+    Csid {
+        state: 1,
+        node: x.node_type,
+        id_type: x.id_type,
+        high: x.address_high,
+        low: x.address_low,
+        csid: x.csids_1,
     }
 }
 
-// The row of an FQ-CSID of value v.
-fn put_csid(v: &[u8], words: &mut [u64], at: usize)
-    requires { ⌜ at + rowWidth ≤ length (now words) ⌝ }
-    ensures { λ _. ⌜ Written (Row 65 (now (v .entry))) at (now (words .entry)) (now (words .exit)) ⌝ }
+// Puts the row of an FQ-CSID into the plan.
+fn put_csid(x: Csid, words: &mut [u64], d: Draft) -> Draft
+    requires { ⌜ (rowWidth * d .rows + rowWidth ≤ length (now words)) × (d .rows ≤ 225) ⌝ }
+    ensures { λ r. ⌜ (r ≡ withRow false d) × (now (words .exit) ≡ put (rowWidth * d .rows) (csidWords x) (now (words .entry))) ⌝ }
 {
-    let x = csid_of(v);
     let row = [
         65,
         x.state,
@@ -134,52 +144,73 @@ fn put_csid(v: &[u8], words: &mut [u64], at: usize)
         0,
         0,
     ];
-    put_words(words, at, &row);
+    put_words(words, format::ROW * d.rows, &row);
+    with_row(d, false)
 }
 
-// Whether an element of type kind at the top of a message has a row.
-fn is_planned(message: u64, kind: u64) -> bool
-    ensures { λ r. ⌜ r ≡ member kind (plannedOf message) ⌝ }
+// Whether v is the null FQ-CSID of a modification whose elements s have no other.
+fn is_clearing(s: &[u8], v: &[u8], message: u64) -> bool
+    ensures { λ r. ⌜ r ≡ (isNil (now (v .entry)) && eqb message modification && aloneIn (elements (now (s .entry)))) ⌝ }
 {
-    match message {
-        50 => match kind {
-            1 | 65 | 127 => true,
-            _ => false,
-        },
-        52 => match kind {
-            1 | 9 | 15 | 65 | 127 | 130 => true,
-            _ => false,
-        },
-        _ => false,
+    if v.len() != 0 {
+        return false;
+    }
+    if message != 52 {
+        return false;
+    }
+    elements::count(s, 65) == 1
+}
+
+// Whether so many CSIDs are allowed: one in an establishment, one or none in a modification, one at least in a deletion.
+fn is_count_allowed(message: u64, count: u64) -> bool
+    ensures { λ r. ⌜ r ≡ countIn message count ⌝ }
+{
+    match count {
+        0 => message == 52,
+        1 => true,
+        _ => message == 54,
     }
 }
 
-// The row of an element of type kind with the value v.
-fn put_row(v: &[u8], kind: u64, words: &mut [u64], at: usize)
-    requires { ⌜ at + rowWidth ≤ length (now words) ⌝ }
-    ensures { λ _. ⌜ Written (Row kind (now (v .entry))) at (now (words .entry)) (now (words .exit)) ⌝ }
+// The refusal in an answer on an FQ-CSID, if it is one.
+fn csid_refused(answer: Answer, d: Draft) -> Step
+    ensures { λ r. ⌜ r ≡ csidRefusal d answer ⌝ }
 {
-    if kind == 65 {
-        return put_csid(v, words, at);
-    }
-    put_group(v, kind, words, at);
+    let Answer::Refused(refusal) = answer else {
+        return Step::Next(d);
+    };
+    Step::Fault(element::cause_of(refusal), 65)
 }
 
-// The rows of the elements s of a message, and how many they are.
-pub(crate) fn put_rows(s: &[u8], message: u64, words: &mut [u64]) -> usize
-    requires { ⌜ rowWidth * length (itemsOf message (elements (now s))) ≤ length (now words) ⌝ }
-    ensures { λ r. ⌜ Filled (itemsOf message (elements (now (s .entry)))) r (now (words .exit)) ⌝ }
+// An FQ-CSID of value v of the message s, read once: into its row, and its node type into those that were met. A deletion's has no row.
+pub(crate) fn read_csid(
+    s: &[u8],
+    v: &[u8],
+    message: u64,
+    nodes: &mut [u64],
+    words: &mut [u64],
+    d: Draft,
+) -> Step
+    requires { ⌜ Roomy message d (now nodes) (now words) ⌝ }
+    ensures { λ r. ⌜ Follows (csidRead message (aloneIn (elements (now (s .entry)))) (now (v .entry))) d (now (nodes .entry)) (now (words .entry)) r (now (nodes .exit)) (now (words .exit)) ⌝ }
 {
-    let mut rest = s;
-    let mut n = 0;
-    loop {
-        let First::Element(kind, end) = elements::first_of(rest) else {
-            return n;
-        };
-        if is_planned(message, kind) {
-            put_row(&rest[4..end], kind, words, format::ROW * n);
-            n += 1;
-        }
-        rest = &rest[end..];
+    if is_clearing(s, v, message) {
+        return Step::Next(put_csid(bare(3, 0), words, d));
     }
+    let answer = element::fqcsid::read(v);
+    let Answer::Value(x) = answer else {
+        return csid_refused(answer, d);
+    };
+    let node = x.node_type as usize;
+    if !is_count_allowed(message, x.count) {
+        return Step::Fault(69, 65);
+    }
+    if nodes[node] != 0 {
+        return Step::Fault(69, 65);
+    }
+    nodes[node] = 1;
+    if message == 54 {
+        return Step::Next(d);
+    }
+    Step::Next(put_csid(csid_from(x), words, d))
 }

@@ -12,6 +12,7 @@ use lib.ListN.{length, take, drop}
 use Rattle.octets.specs.Choice.{pick, flag, isSome, bindOption, consOption}
 use Rattle.octets.specs.Lists.{member, any, keep, collect}
 use Rattle.octets.proofs.Tests.{is-true}
+use Rattle.octets.proofs.ListLaws.{collect-map}
 use Rattle.rules.specs.Stages.{sameChoice}
 use Rattle.rules.specs.Grants.{Choice, choices, need, needFrom, isFresh, noted, endpointChoice, pdrChoice}
 use Rattle.plan.specs.Rows.{rowWidth, hasTag, tagged, rowsOf, rowPdr, rowEndpoint, requestIn}
@@ -20,7 +21,6 @@ use Rattle.lists.proofs.RowLaws.{rows-more, rows-none}
 use Rattle.lists.proofs.Loops.{left-part}
 use Rattle.rows.proofs.ListLaws.{onSome, any-ext, any-collect}
 use Rattle.rows.proofs.MergeLaws.{Merge, empty, left, right, any-middle, any-merge, merged}
-use Rattle.rows.proofs.RequestLaws.{collect-map}
 use Rattle.rows.proofs.PairLaws.{same-none, tags-apart}
 use Rattle.lists.proofs.Bools.{eqb-turn, or-swap}
 
@@ -166,7 +166,7 @@ pub need-rows : (seid : ℕ) (restoring noted′ : Bool) (rows : List (List ℕ)
 unfolding need choices requestIn tagged rowChoice
 need-rows seid restoring noted′ rows =
     need-last (collect endpointChoice (map rowEndpoint (keep (hasTag 127) rows)) ++ collect pdrChoice (map rowPdr (keep (hasTag 1) rows)))
-    ∙ ap₂ (λ (a b : List Choice). needLast (a ++ b)) (collect-map endpointChoice rowEndpoint (keep (hasTag 127) rows)) (collect-map pdrChoice rowPdr (keep (hasTag 1) rows))
+    ∙ ap₂ (λ (a b : List Choice). needLast (a ++ b)) (collect-map rowEndpoint endpointChoice (keep (hasTag 127) rows)) (collect-map rowPdr pdrChoice (keep (hasTag 1) rows))
     ∙ need-merge (merged (hasTag 127) (hasTag 1) (λ row. tags-apart 127 1 row (λ e. omega arith)) (λ row. endpointChoice (rowEndpoint row)) (λ row. pdrChoice (rowPdr row)) rows)
     ∙ last-rows rows
 

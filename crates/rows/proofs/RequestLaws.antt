@@ -5,13 +5,12 @@ use mathlib.Core.Option.{Option, none, some}
 use mathlib.Core.List.{List, [], _∷_, map, map-map}
 use Prim.Native.Nat.{ℕ}
 use lib.Dec.{eqb}
-use Rattle.octets.specs.Choice.{pick, consOption}
+use Rattle.octets.specs.Choice.{pick}
 use Rattle.octets.specs.Lists.{member, any, keep, collect}
 use Rattle.lists.specs.Rows.{column}
 use Rattle.rules.specs.Elements.{Fteid}
-use Rattle.rules.specs.Message.{hasPdi}
 use Rattle.rules.specs.Stages.{fteidsOf, pdrLocal, endpointLocal, newPdrId, newEndpointId, changeId, createdPdrs, createdEndpoints, updatedPdrs, wrongAllocation, invalidAllocation}
-use Rattle.plan.specs.Rows.{word, hasTag, tagged, rowFteid, rowLocal, rowPdr, rowEndpoint, rowChange, requestIn}
+use Rattle.plan.specs.Rows.{word, hasTag, tagged, rowFteid, rowLocal, rowPdr, rowEndpoint, rowChange, rowPdi, requestIn}
 use Rattle.rows.specs.RowRules.{hasFteid, ofFteid}
 use Rattle.rows.proofs.ListLaws.{onSome, any-ext, any-or, any-append, any-keep, any-map, any-collect}
 use Rattle.rows.proofs.WalkLaws.{isNamed, member-column}
@@ -59,11 +58,6 @@ invalid-rows seid restoring noted rows = any-fteids (wrongAllocation restoring) 
 
 -- ---- columns
 
-pub collect-map : {A B C : Type 0} (g : B → Option C) (f : A → B) (xs : List A) → collect g (map f xs) ≡ collect (λ x. g (f x)) xs
-unfolding collect
-collect-map g f [] = refl
-collect-map g f (x ∷ xs) = ap (consOption (g (f x))) (collect-map g f xs)
-
 module _ (seid : ℕ) (restoring noted : Bool) (rows : List (List ℕ)) where
   pub created-pdrs : createdPdrs (requestIn seid restoring noted rows) ≡ column 1 7 rows
   unfolding createdPdrs requestIn rowPdr tagged column hasTag
@@ -89,7 +83,6 @@ module _ (seid : ℕ) (restoring noted : Bool) (rows : List (List ℕ)) where
   unfolding requestIn tagged
   unsupported-rows =
       ap (λ (b : Bool). noted || b)
-      (any-map hasPdi rowChange (keep (hasTag 9) rows)
-      ∙ any-keep (λ row. hasPdi (rowChange row)) (hasTag 9) rows
-      ∙ any-ext (λ row. hasTag 9 row && hasPdi (rowChange row)) (isNamed 9 6 1) (λ row. unfold rowChange in (ap (λ (b : Bool). hasTag 9 row && b) (eqb-turn (word 6 row) 1))) rows
+      (any-keep rowPdi (hasTag 9) rows
+      ∙ any-ext (λ row. hasTag 9 row && rowPdi row) (isNamed 9 6 1) (λ row. ap (λ (b : Bool). hasTag 9 row && b) (eqb-turn (word 6 row) 1)) rows
       ∙ sym (member-column 9 6 1 rows))

@@ -9,7 +9,7 @@ use Rattle.octets.specs.Choice.{pick, oneOf, bindOption}
 use Rattle.octets.specs.Octets.{be, bit}
 use Rattle.rules.specs.Model.{Settings, Holding}
 use Rattle.rules.specs.Elements.{Fteid, chooseId}
-use Rattle.rules.specs.Message.{Request}
+use Rattle.rules.specs.Reading.{Request}
 use Rattle.rules.specs.Sound.{inPool, agree}
 use Rattle.rules.specs.Stages.{choicesAgree, alikeFteids, sameChoice, endpointRestored, pdrRestored}
 use Rattle.rules.specs.Grants.{Choice, endpointChoice, pdrChoice}

@@ -8,6 +8,7 @@ use Rattle.rules.specs.Elements
 use Rattle.rules.specs.Layout
 use Rattle.rules.specs.Sound
 use Rattle.rules.specs.Message
+use Rattle.rules.specs.Reading
 use Rattle.rules.specs.Grants
 use Rattle.rules.specs.Stages
 use Rattle.rules.specs.Apply
@@ -19,5 +20,5 @@ use Rattle.rules.specs.Calls
 use Rattle.rules.specs.Claim
 
 unfoldable pub computing : ℕ
-unfolding Octets.computing Lists.computing Model.computing Elements.computing Layout.computing Sound.computing Message.computing Grants.computing Stages.computing Apply.computing Reply.computing Serve.computing Live.computing Restoration.computing Calls.computing Claim.computing
+unfolding Octets.computing Lists.computing Model.computing Elements.computing Layout.computing Sound.computing Message.computing Reading.computing Grants.computing Stages.computing Apply.computing Reply.computing Serve.computing Live.computing Restoration.computing Calls.computing Claim.computing
 computing = 0

@@ -10,7 +10,8 @@ use Rattle.octets.specs.Choice.{pick, isNil, headOr}
 use Rattle.octets.specs.Lists.{keep, member, insertBy, insertAll}
 use Rattle.rules.specs.Model.{Tunnel, Place, neither, tunnel, endpoint, Pdr, Endpoint, Csid, Session, Sessions, pdrId, endpointId, nodeTypeOf, seidOf}
 use Rattle.rules.specs.Elements.{Fteid, given, choose, Fqcsid, sets, removal}
-use Rattle.rules.specs.Message.{deletion, NewPdr, NewEndpoint, Change, Request}
+use Rattle.rules.specs.Message.{deletion}
+use Rattle.rules.specs.Reading.{NewPdr, NewEndpoint, Change, CsidChanges, cleared, changed, Request}
 use Rattle.rules.specs.Grants.{Kind, ofPdr, ofEndpoint}
 use Rattle.rules.specs.Stages.{hasSeid, atEntry}
 
@@ -66,8 +67,9 @@ setCsids [] ds = ds
 setCsids (c ∷ cs) ds = setCsids cs (setCsid c ds)
 
 -- null length removes all
-unfoldable pub followCsids : Bool → List Fqcsid → List Csid → List Csid
-followCsids clears cs ds = setCsids cs (pick clears [] ds)
+unfoldable pub followCsids : CsidChanges → List Csid → List Csid
+followCsids cleared ds = []
+followCsids (changed cs) ds = setCsids cs ds
 
 -- ---- the session
 
@@ -90,7 +92,7 @@ apply teids r x =
       seid = x .seid;
       pdrs = pdrsAfter teids r (x .pdrs);
       endpoints = endpointsAfter teids r (x .endpoints);
-      csids = followCsids (r .clears) (r .csids) (x .csids);
+      csids = followCsids (r .csids) (x .csids);
     }
 
 -- ---- the sessions

@@ -9,7 +9,8 @@ use Rattle.octets.specs.Choice.{pick, valueOr, mapOption}
 use Rattle.octets.specs.Octets.{numberAt, octetAt}
 use Rattle.octets.specs.Lists.{findBy}
 use Rattle.rules.specs.Model.{Sessions}
-use Rattle.rules.specs.Message.{Element, elements, body, hasType, contentIn, contentOf, fieldOr0, kindOf, headerSeid, readRequest}
+use Rattle.rules.specs.Message.{Element, elements, body, hasType, contentIn, contentOf, fieldOr0, kindOf, headerSeid}
+use Rattle.rules.specs.Reading.{readRequest}
 use Rattle.rules.specs.Grants.{Kind, ofPdr, ofEndpoint}
 use Rattle.rules.specs.Apply.{follow}
 

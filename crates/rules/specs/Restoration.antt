@@ -10,7 +10,8 @@ use Rattle.octets.specs.Octets.{be, concatMap}
 use Rattle.octets.specs.Choice.{mapOption, allOf, isNil}
 use Rattle.rules.specs.Model.{Settings, Place, neither, tunnel, endpoint, Pdr, Endpoint, Csid, Session, placeTunnel, placeEndpoint}
 use Rattle.rules.specs.Elements.{Fqcsid, unitFteid, fqcsidOctets, sets, fseidOctets, addressOf}
-use Rattle.rules.specs.Message.{establishment, NewPdr, NewEndpoint, Request}
+use Rattle.rules.specs.Message.{establishment}
+use Rattle.rules.specs.Reading.{NewPdr, NewEndpoint, changed, Request}
 use Rattle.rules.specs.Reply.{element, message, unitElement}
 
 unfoldable pub placeElement : Settings → Place → List ℕ
@@ -69,8 +70,7 @@ restoredRequest s x =
       changes = [];
       gonePdrs = [];
       goneEndpoints = [];
-      csids = map recordCsid (x .csids);
-      clears = false;
+      csids = changed (map recordCsid (x .csids));
       unsupported = false;
     }
 

@@ -10,7 +10,8 @@ use Rattle.octets.specs.Octets.{put}
 use Rattle.rules.specs.Model.{Settings, Sessions}
 use Rattle.rules.specs.Layout.{encode, viewSettings, viewSessions}
 use Rattle.rules.specs.Sound.{sound}
-use Rattle.rules.specs.Message.{kindOf, headerSeid, headerAllowed, served, readRequest}
+use Rattle.rules.specs.Message.{kindOf, headerSeid, headerAllowed, served}
+use Rattle.rules.specs.Reading.{readRequest}
 use Rattle.rules.specs.Grants.{grants, grantedTeid}
 use Rattle.rules.specs.Stages.{Verdict, verdict}
 use Rattle.rules.specs.Apply.{follow}

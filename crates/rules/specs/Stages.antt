@@ -13,7 +13,8 @@ use Rattle.rules.specs.Model.{Settings, Pdr, Session, Sessions, Holding,
 use Rattle.rules.specs.Limits.{maxPdrs, maxEndpoints}
 use Rattle.rules.specs.Elements.{causeOf, Fteid, given, choose, hasV4, hasV6, chooses, chooseId}
 use Rattle.rules.specs.Sound.{inPool, unitFamilies, agree}
-use Rattle.rules.specs.Message.{establishment, kindOf, headerSeid, frameFault, readFault, readRequest, Fault, NewPdr, NewEndpoint, Change, Request}
+use Rattle.rules.specs.Message.{establishment, kindOf, headerSeid, frameFault}
+use Rattle.rules.specs.Reading.{readFault, readRequest, Fault, NewPdr, NewEndpoint, Change, Request}
 use Rattle.rules.specs.Grants.{need}
 
 -- ---- the session at entry
@@ -238,7 +239,7 @@ judged limit s m msg = judge limit (kindOf msg) s m (entrySession m msg) (readRe
 -- stage 3, then 4 to 6
 unfoldable pub fromReading : ℕ → Settings → Sessions → List ℕ → Option Fault → Verdict
 fromReading limit s m msg none = judged limit s m msg
-fromReading limit s m msg (some f) = record { cause = causeOf (f .cause); offending = some (f .at) }
+fromReading limit s m msg (some f) = record { cause = causeOf (f .cause); offending = some (f .type) }
 
 -- stage 2, then 3 to 6
 unfoldable pub fromFraming : ℕ → Settings → Sessions → List ℕ → Option ℕ → Verdict

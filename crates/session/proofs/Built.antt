@@ -13,6 +13,7 @@ use Rattle.octets.specs.Lists.{anyIn, hasRepeat, all, any, keep, insertBy, inse
 use Rattle.octets.proofs.Ordered.{keep-passes}
 use Rattle.rules.specs.Model.{Pdr, Endpoint, Csid, Session, pdrId, endpointId, nodeTypeOf}
 use Rattle.rules.specs.Elements.{Fqcsid, sets, removal}
+use Rattle.rules.specs.Reading.{cleared, changed}
 use Rattle.rules.specs.Grants.{Kind}
 use Rattle.rules.specs.Apply.{createPdr, createEndpoint, updateAll, otherNode, setCsid, setCsids, followCsids, keptPdr, keptEndpoint, pdrsAfter, endpointsAfter, apply}
 use Rattle.plan.specs.Rows.{word, hasTag, tagged, rowPdrId, rowEndpointId, rowPdr, rowEndpoint, rowChange, rowAddress, rowCsid, isNullRow, requestIn}
@@ -83,13 +84,13 @@ no-values (row ∷ rows) cs e = ap (csidsFrom rows) (step-by row cs) ∙ go (row
     go none b h ih = unfold byValue in (ih (pick b [] cs) h ∙ twice b (any isNullRow rows))
     go (some v) b h ih = absurd (let z : _≡_ {A = ℕ} 0 1 = cc in omega arith)
 
-csids-in-turn : (rows : List (List ℕ)) (cs : List Csid) → (any isNullRow rows ≡ true → collect rowCsid rows ≡ []) → csidsFrom rows cs ≡ followCsids (any isNullRow rows) (collect rowCsid rows) cs
-unfolding followCsids setCsids
+csids-in-turn : (rows : List (List ℕ)) (cs : List Csid) → (any isNullRow rows ≡ true → collect rowCsid rows ≡ [])
+    → csidsFrom rows cs ≡ followCsids (pick (any isNullRow rows) cleared (changed (collect rowCsid rows))) cs
 csids-in-turn rows cs only = go (any isNullRow rows) refl
   where
-    go : (b : Bool) → any isNullRow rows ≡ b → csidsFrom rows cs ≡ setCsids (collect rowCsid rows) (pick b [] cs)
-    go true e = no-values rows cs (only e) ∙ ap (λ (b : Bool). pick b [] cs) e ∙ ap (λ (vs : List Fqcsid). setCsids vs []) (sym (only e))
-    go false e = all-values rows cs e
+    go : (b : Bool) → any isNullRow rows ≡ b → csidsFrom rows cs ≡ followCsids (pick b cleared (changed (collect rowCsid rows))) cs
+    go true e = unfold followCsids in (no-values rows cs (only e) ∙ ap (λ (b : Bool). pick b [] cs) e)
+    go false e = unfold followCsids in (all-values rows cs e)
 
 -- ---- the session
 

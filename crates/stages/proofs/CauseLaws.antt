@@ -10,7 +10,7 @@ use Rattle.octets.specs.Choice.{oneOf, isSome}
 use Rattle.octets.specs.Lists.{member, any, allPairs}
 use Rattle.octets.proofs.Tests.{and-left, and-right, of-true}
 use Rattle.rules.specs.Model.{Settings, Session, Sessions, Holding, teidOf, heldTeids}
-use Rattle.rules.specs.Message.{Request}
+use Rattle.rules.specs.Reading.{Request}
 use Rattle.rules.specs.Sound.{inPool, agree}
 use Rattle.rules.specs.Stages.{endpointInUse, lacksFamily, strange, restoredHoldings, clash, requestRules, brokenRules, breaksRule, livePdrs, liveEndpoints}
 use Rattle.plan.specs.Rows.{word, requestIn}

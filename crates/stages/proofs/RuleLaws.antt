@@ -9,16 +9,17 @@ use lib.Dec.{eqb}
 use lib.ListN.{getD}
 use Rattle.octets.specs.Choice.{pick, oneOf, sameBool, consOption}
 use Rattle.octets.specs.Lists.{member, anyIn, allIn, hasRepeat, any, allPairs, keep, collect, without}
+use Rattle.octets.proofs.ListLaws.{collect-map}
 use Rattle.lists.specs.Rows.{column, wordAt}
 use Rattle.rules.specs.Model.{Session, Holding}
-use Rattle.rules.specs.Message.{NewPdr}
+use Rattle.rules.specs.Reading.{NewPdr}
 use Rattle.rules.specs.Sound.{agree, shareTests}
 use Rattle.rules.specs.Stages.{idTwice, createdLive, absentId, updatesRemoved, namesBoth, namedEndpoint, endpointIdsAfter, namesAbsent, choicesAgree, endpointRestored, pdrRestored, restoredHoldings, livePdrs, liveEndpoints}
 use Rattle.plan.specs.Rows.{word, hasTag, tagged, rowPdr, rowEndpoint, requestIn}
 use Rattle.rows.specs.RowRules.{rowHolding, repeats, sameId, otherChoice, holdsApart, otherHold}
 use Rattle.rows.proofs.ListLaws.{onSome, any-ext, any-or, any-keep, any-map, any-collect, any-in, not-all-in, anyPair, pair-or, not-pairs, pair-keep, pair-map, repeat-pairs}
 use Rattle.rows.proofs.MergeLaws.{merged, any-merge, pair-merge}
-use Rattle.rows.proofs.RequestLaws.{collect-map, created-pdrs, created-endpoints, updated-pdrs, gone-pdrs, gone-endpoints}
+use Rattle.rows.proofs.RequestLaws.{created-pdrs, created-endpoints, updated-pdrs, gone-pdrs, gone-endpoints}
 use Rattle.rows.proofs.PairLaws.{tags-apart}
 use Rattle.stages.specs.RowRules.{createsLive, namesDead, updatesGone, pdiNamesBoth, absentFrom, pdiNamesAbsent}
 use Rattle.lists.proofs.Bools.{eqb-turn, and-swap}
@@ -134,7 +135,7 @@ pub held-rows : (q : Holding → Bool) (seid : ℕ) (restoring noted : Bool) (ro
     → any q (restoredHoldings (requestIn seid restoring noted rows)) ≡ any (λ row. onSome q (rowHolding row)) rows
 unfolding restoredHoldings requestIn tagged rowHolding
 held-rows q seid restoring noted rows =
-    ap₂ (λ (a b : List Holding). any q (a ++ b)) (collect-map endpointRestored rowEndpoint (keep (hasTag 127) rows)) (collect-map pdrRestored rowPdr (keep (hasTag 1) rows))
+    ap₂ (λ (a b : List Holding). any q (a ++ b)) (collect-map rowEndpoint endpointRestored (keep (hasTag 127) rows)) (collect-map rowPdr pdrRestored (keep (hasTag 1) rows))
     ∙ any-merge q (merged (hasTag 127) (hasTag 1) (λ row. tags-apart 127 1 row (λ e. omega arith)) (λ row. endpointRestored (rowEndpoint row)) (λ row. pdrRestored (rowPdr row)) rows)
     ∙ any-collect q (λ row. pick (hasTag 127 row) (endpointRestored (rowEndpoint row)) (pick (hasTag 1 row) (pdrRestored (rowPdr row)) none)) rows
 
@@ -169,6 +170,6 @@ pub shared-rows : (seid : ℕ) (restoring noted : Bool) (rows : List (List ℕ))
 unfolding restoredHoldings requestIn tagged rowHolding otherHold
 shared-rows seid restoring noted rows =
     not-pairs agree (collect endpointRestored (map rowEndpoint (keep (hasTag 127) rows)) ++ collect pdrRestored (map rowPdr (keep (hasTag 1) rows)))
-    ∙ ap₂ (λ (a b : List Holding). anyPair (λ h k. not (agree h k)) (a ++ b)) (collect-map endpointRestored rowEndpoint (keep (hasTag 127) rows)) (collect-map pdrRestored rowPdr (keep (hasTag 1) rows))
+    ∙ ap₂ (λ (a b : List Holding). anyPair (λ h k. not (agree h k)) (a ++ b)) (collect-map rowEndpoint endpointRestored (keep (hasTag 127) rows)) (collect-map rowPdr pdrRestored (keep (hasTag 1) rows))
     ∙ pair-merge (λ h k. not (agree h k)) (λ h k. ap not (agree-even h k)) (merged (hasTag 127) (hasTag 1) (λ row. tags-apart 127 1 row (λ e. omega arith)) (λ row. endpointRestored (rowEndpoint row)) (λ row. pdrRestored (rowPdr row)) rows)
     ∙ pair-collect (λ row. pick (hasTag 127 row) (endpointRestored (rowEndpoint row)) (pick (hasTag 1 row) (pdrRestored (rowPdr row)) none)) rows

@@ -17,7 +17,7 @@ use Rattle.rules.specs.Limits.{maxSessions}
 use Rattle.rules.specs.Model.{Settings, Session, Sessions, freeCount}
 use Rattle.rules.specs.Layout.{viewSettings, viewSession, viewSessions, viewArea, viewPdr, viewEndpoint, pdrWidth, endpointWidth, sessionHead}
 use Rattle.rules.specs.Grants.{need}
-use Rattle.rules.specs.Message.{Request}
+use Rattle.rules.specs.Reading.{Request}
 use Rattle.rules.specs.Stages.{tooManySessions, tooManyPdrs, tooManyEndpoints, tooFewTeids, noRoom}
 use Rattle.plan.specs.Rows.{tagged, hasTag, rowsOf, rowPdr, rowEndpoint, rowPdrId, rowEndpointId, requestIn}
 use Rattle.rows.specs.declared.Unit.{Unit}

@@ -8,7 +8,8 @@ use borrow.Author.Tests.{eqb-true}
 use Rattle.octets.specs.Choice.{pick, oneOf}
 use Rattle.rules.specs.Model.{Settings, Session, Sessions, freeCount}
 use Rattle.rules.specs.Limits.{maxSessions}
-use Rattle.rules.specs.Message.{establishment, Request}
+use Rattle.rules.specs.Message.{establishment}
+use Rattle.rules.specs.Reading.{Request}
 use Rattle.rules.specs.Layout.{viewSettings, viewSession, viewSessions}
 use Rattle.rules.specs.Grants.{need}
 use Rattle.rules.specs.Stages.{isLive, invalidAllocation, breaksRule, tooManySessions, tooManyPdrs, tooManyEndpoints, tooFewTeids, noRoom, judge, plain}

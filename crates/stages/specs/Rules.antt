@@ -11,7 +11,7 @@ use Rattle.rules.specs.Layout.{viewSettings, viewSessions}
 use Rattle.rules.specs.Model.{Settings, Session, teidOf, heldTeids, freeCount}
 use Rattle.plan.specs.Rows.{rowWidth}
 use Rattle.pool.specs.Map.{marked}
-use Rattle.rules.specs.Message.{Request}
+use Rattle.rules.specs.Reading.{Request}
 use Rattle.rules.specs.Sound.{agree}
 use Rattle.rules.specs.Stages.{isLive, requestRules, restoredHoldings}
 

@@ -1,27 +1,77 @@
--- `request::read_request` meets its contract: the first fault of stages 2 and 3, or the request that the rows mean. Assumes nothing.
+-- `read_request` meets its contract. Assumes nothing.
+use mathlib.Core.Path.{sym, subst, _∙_}
+use Prim.Native.Nat.{ℕ, _≤_}
+use Rattle.frame.proofs.HeaderLaws.{read-kind}
+use Rattle.request.proofs.ReadingLaws.{message-room, not-framed, read-refused, read-whole}
 use borrow.Author.Needs.{needs}
-use Rattle.request.proofs.ReadingLaws.{not-framed, not-read, no-fault-there, a-request, refused-whole}
 use Rattle.request.proofs.read_request.Statement.{statement}
 use Rattle.request.proofs.read_request.Tie as tie
 
+frame-fault-requires : tie.Need-frame-fault-requires
+frame-fault-requires c κs = search needs
+
+enum-known-kind : tie.Need-enum-known-kind
+enum-known-kind c = search needs
+
 returns : tie.Need-returns
-returns c = refused-whole (not-framed _ _ (c .before .before .before .frame-fault .ensures) _ (c .before .kind .given .1))
+returns c = not-framed _ _ (c .before .before .before .frame-fault .ensures) _ (c .before .kind .given .1)
+
+enum-told : tie.Need-enum-told
+enum-told c = search needs
+
+read-requires : tie.Need-read-requires
+read-requires c κs = search needs
+
+sub-read-elements : tie.Need-sub-read-elements
+sub-read-elements c = search needs
+
+part-read-elements-start : tie.Need-part-read-elements-start
+part-read-elements-start c = search needs
+
+part-read-elements-end : tie.Need-part-read-elements-end
+part-read-elements-end c = search needs
+
+read-elements-requires : tie.Need-read-elements-requires
+read-elements-requires c κs = let p = c .before .before .before .before .before .before .before .before .pre in message-room (c .before .before .before .before .before .before .before .before .args .msg .now) (p .0) _ (p .1) (p .2)
+
+enum-known-step : tie.Need-enum-known-step
+enum-known-step c = search needs
+
+enum-known-step-2 : tie.Need-enum-known-step-2
+enum-known-step-2 c = search needs
+
+conclude-requires : tie.Need-conclude-requires
+conclude-requires c κs = search needs
+
+same-length : tie.Need-same-length
+same-length c = search needs
 
 returns-2 : tie.Need-returns-2
-returns-2 c = refused-whole (not-read _ _ (c .before .before .before .before .before .before .frame-fault .ensures) _ (c .before .before .before .before .enum-told .given .1) (c .before .before .before .read-fault .ensures) _ _ (c .before .cause .given .1))
+returns-2 c = let p = c .before .before .before .before .before .before .before .before .before .before .before .before .before .before .pre in read-refused _ (p .0) (read-kind _ (p .0) _ (c .before .before .before .before .before .before .before .before .read .ensures .0)) _ (c .before .before .before .before .before .read-elements .ensures) _ (c .before .before .before .before .before .before .before .before .before .before .before .frame-fault .ensures) (c .before .before .before .before .before .before .before .before .before .enum-told .given .1) _ _ (c .before .step .given .1)
 
-fill-requires : tie.Need-fill-requires
-fill-requires c κs =
-    let p = c .before .before .before .before .before .before .before .before .before .pre in
-    (p .0, p .1, p .2, no-fault-there _ _ (c .before .before .before .before .before .before .frame-fault .ensures) _ (c .before .before .before .before .enum-told .given .1) (c .before .before .before .read-fault .ensures) (c .before .enum-told2 .given .1))
+same-length-2 : tie.Need-same-length-2
+same-length-2 c = search needs
 
 returns-3 : tie.Need-returns-3
-returns-3 c =
-    let f = c .before .before .fill .ensures in
-    record {
-      result = a-request _ _ (c .before .before .before .before .before .before .before .before .before .frame-fault .ensures) _ (c .before .before .before .before .before .before .before .enum-told .given .1) (c .before .before .before .before .before .before .read-fault .ensures) (c .before .before .before .before .enum-told2 .given .1) (f .request);
-      room = f .room;
-    }
+returns-3 c = let p = c .before .before .before .before .before .before .before .before .before .before .before .before .before .before .before .pre in read-whole _ (p .0) (read-kind _ (p .0) _ (c .before .before .before .before .before .before .before .before .before .read .ensures .0)) _ (c .before .before .before .before .before .before .read-elements .ensures) _ (c .before .before .before .before .before .before .before .before .before .before .before .before .frame-fault .ensures) (c .before .before .before .before .before .before .before .before .before .before .enum-told .given .1) (subst (λ (n : ℕ). 4068 ≤ n) (sym (c .before .before .before .before .before .before .read-elements .kept .1 .1 .0)) (p .2)) _ (c .before .before .step2 .given .1) (c .conclude .ensures)
 
 pub read-request-spec : {M : Type 1} → statement M
-read-request-spec = tie.close (tie.spec (λ c κs. search needs) (λ c. search needs) returns (λ c. search needs) (λ c κs. search needs) (λ c. search needs) returns-2 (λ c. search needs) fill-requires (λ c. search needs) returns-3)
+read-request-spec =
+    tie.close
+    (tie.spec
+    frame-fault-requires
+    enum-known-kind
+    returns
+    enum-told
+    read-requires
+    sub-read-elements
+    part-read-elements-start
+    part-read-elements-end
+    read-elements-requires
+    enum-known-step
+    enum-known-step-2
+    conclude-requires
+    same-length
+    returns-2
+    same-length-2
+    returns-3)

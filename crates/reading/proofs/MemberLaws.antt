@@ -1,0 +1,433 @@
+-- What each function of the group reader answers is a case of the rules' reading of a member. Assumes nothing.
+use mathlib.Core.Path.{_≡_, refl, sym, ap, ap₂, subst, _∙_}
+use mathlib.Core.Logic.{inl, inr}
+use Prim.Native.Nat.{ℕ, zero, suc, _+_, _-_, _*_, _%_, _≤_, _<_}
+use native.Mathlib.Omega.{arith}
+use mathlib.Core.Bool.{Bool, true, false, not, _&&_, _||_}
+use mathlib.Core.Option.{Option, none, some}
+use mathlib.Core.List.{List, [], _∷_}
+use lib.ListN.{length, set, getD, take, drop}
+use lib.Dec.{T, ltb, eqb}
+use borrow.Author.Tests.{eq-eqb, ne-eqb, lt-ltb, le-ltb, ltb-false}
+use Rattle.octets.specs.Choice.{pick, flag, allOf, mapOption, isNil}
+use Rattle.octets.specs.Octets.{be, bit, number, part, numberAt, octetAt}
+use Rattle.octets.specs.Lists.{member, allIn}
+use Rattle.octets.proofs.Put.{length-part}
+use Rattle.octets.proofs.Tests.{pick-either, of-true}
+use Rattle.rules.specs.Elements as rules
+use Rattle.rules.specs.Elements.{Refusal, missing, conditional, tooShort, incorrect, causeOf, refuse, value, Fteid, given, choose, v4Flag, v6Flag, chFlag, chidFlag, wrongFlags, fteidLength, chosenFields, givenFields, fteidFields, readFteid}
+use Rattle.rules.specs.Message.{Element, elements, placesOf, widthOf}
+use Rattle.rules.specs.Reading.{Fault, Reading, faulty, done, refusal, andThen, named, need, Members, withPdrId, withPrecedence, withFar, withPdi, withSource, withLocal, withEndpointId, holds, numberRead, farRead, pdiIn, valueRead, memberRead, membersRead, unopened, pdiEnd, pdiRead, pdrFrom, endpointFrom, changeFrom, itemFrom}
+use Rattle.plan.specs.Rows.{word, present, rowFar, rowLocal, rowFteid}
+use Rattle.element.specs.FTeid.{fteidTests, fteidMeant, fteidOf}
+use Rattle.element.specs.declared.fteid.FTeid.{FTeid}
+use Rattle.element.proofs.AnswerLaws.{picked}
+use Rattle.frame.proofs.Among.{OneOf}
+use Rattle.elements.proofs.Front.{Front, el, behind}
+use Rattle.reading.specs.declared.Verdict.{Verdict}
+use Rattle.reading.specs.declared.Verdict.the-variants.{Fine, Refused}
+use Rattle.reading.specs.Verdicts.{Outcome, stopped, got, numbered, outcome}
+use Rattle.reading.specs.Rows.{memberTypes, plainTypes, column, rowMembers, Tidy, Reads, plainNumber, plainRead, fteidRead, ownRead, isNullFar, isPdi, closing, closedRead}
+use Rattle.reading.proofs.Places.{keys-in, one-of, pdi-in-create, pdi-type}
+use Rattle.reading.proofs.RowLaws.{Holding, by-plain, by-member, plainPut, put-plain, put-null-far, put-pdi, sixSet, put-fteid, held, unheld, from-words}
+
+-- ---- readings by their numbers
+
+module _ {A B : Type 0} where
+  -- a fault stops what comes after it
+  pub stops : (x : Reading A) (k : A → Reading B) {c t : ℕ} → numbered x ≡ stopped c t → numbered (andThen x k) ≡ stopped c t
+  stops (faulty f) k h = cc
+  stops (done a) k h = let z : _≡_ {A = ℕ} 0 1 = cc in absurd (omega arith)
+
+pub is-done : {A : Type 0} (x : Reading A) (a : A) → numbered x ≡ got a → x ≡ done a
+is-done (faulty f) a h = let z : _≡_ {A = ℕ} 0 1 = cc in absurd (omega arith)
+is-done (done b) a h = cc
+
+-- a verdict that is no refusal, with the row's members
+holding : {result : Reading Members} {m : Members} {row : List ℕ} → Holding m row → result ≡ done m → Reads result row Fine
+holding h e = record { told = ap got (h .members) ∙ sym (ap numbered e); tidy = h .tidy }
+
+-- ---- plain members
+
+narrow-width : (t : ℕ) → widthOf t ≤ 8
+unfolding widthOf
+narrow-width t = pick-either (λ n. n ≤ 8) (eqb t 56) 2 (pick (eqb t 29 || eqb t 108) 4 1) (omega arith) (pick-either (λ n. n ≤ 8) (eqb t 29 || eqb t 108) 4 1 (omega arith) (omega arith))
+
+pub width-fits : (t : ℕ) {w : ℕ} → w ≡ widthOf t → w ≤ 8
+width-fits t e = let h = narrow-width t in omega arith
+
+module _ (t : ℕ) (v : List ℕ) where
+  pub number-source : {w n : ℕ} → w ≡ widthOf t → t ≡ 20 → n ≡ number (part 0 w v) → n % 16 ≡ plainNumber t v
+  unfolding plainNumber numberAt
+  number-source e h k = ap (λ (i : ℕ). i % 16) (k ∙ ap (λ (w : ℕ). number (part 0 w v)) e) ∙ sym (rw (eq-eqb t 20 h))
+
+  pub number-other : {w n : ℕ} → w ≡ widthOf t → (t ≡ 20 → ⊥) → n ≡ number (part 0 w v) → n ≡ plainNumber t v
+  unfolding plainNumber numberAt
+  number-other e h k = k ∙ ap (λ (w : ℕ). number (part 0 w v)) e ∙ sym (rw (ne-eqb t 20 h))
+
+then-pick : {A B : Type 0} (b : Bool) (c : Refusal) (t : ℕ) (a : A) (k : A → Reading B) → andThen (pick b (refusal c t) (done a)) k ≡ pick b (refusal c t) (k a)
+then-pick true c t a k = refl
+then-pick false c t a k = refl
+
+then-twice : {A B C : Type 0} (b : Bool) (c : Refusal) (t : ℕ) (a : A) (j : A → B) (k : B → Reading C)
+    → andThen (andThen (pick b (refusal c t) (done a)) (λ x. done (j x))) k ≡ pick b (refusal c t) (k (j a))
+then-twice true c t a j k = refl
+then-twice false c t a j k = refl
+
+-- a plain member, short or read
+module _ (v : List ℕ) (m : Members) where
+  plain-is : (t : ℕ) → member t plainTypes ≡ true → plainRead t v m ≡ pick (ltb (length v) (widthOf t)) (refusal tooShort t) (done (plainPut t (plainNumber t v) m))
+  unfolding plainRead valueRead numberRead farRead plainPut plainNumber widthOf
+  plain-is =
+      by-plain (λ t. plainRead t v m ≡ pick (ltb (length v) (widthOf t)) (refusal tooShort t) (done (plainPut t (plainNumber t v) m)))
+      (then-pick (ltb (length v) 2) tooShort 56 (numberAt 0 2 v) (λ n. done (withPdrId n m)))
+      (then-pick (ltb (length v) 4) tooShort 29 (numberAt 0 4 v) (λ n. done (withPrecedence n m)))
+      (then-twice (ltb (length v) 4) tooShort 108 (numberAt 0 4 v) some (λ f. done (withFar f m)))
+      (then-pick (ltb (length v) 1) tooShort 20 (numberAt 0 1 v) (λ n. done (withSource (n % 16) m)))
+      (then-pick (ltb (length v) 1) tooShort 131 (numberAt 0 1 v) (λ n. done (withEndpointId n m)))
+
+module _ (t : ℕ) (v row : List ℕ) (k : member t plainTypes ≡ true) (z : Tidy row) where
+  pub plain-short : {w : ℕ} → w ≡ widthOf t → length v < w → Reads (plainRead t v (rowMembers row)) row (Refused 68 t)
+  unfolding causeOf
+  plain-short e h =
+      let q : plainRead t v (rowMembers row) ≡ refusal tooShort t = plain-is v (rowMembers row) t k ∙ rw (← e, lt-ltb _ _ h) in
+      record { told = sym (ap (λ (x : Reading Members). numbered x) q); tidy = z }
+
+  pub plain-long : {w n at : ℕ} → w ≡ widthOf t → w ≤ length v → n ≡ plainNumber t v → at ≡ column t
+      → Reads (plainRead t v (rowMembers row)) (set (set row at 1) (at + 6) n) Fine
+  plain-long e h q a =
+      rw (a, q) (holding (put-plain row t (plainNumber t v) k z) (plain-is v (rowMembers row) t k ∙ rw (← e, le-ltb _ _ h)))
+
+-- ---- an F-TEID
+
+-- one that was read has a family
+part-nil : (at n : ℕ) (xs : List ℕ) → at + n ≤ length xs → part at n xs ≡ [] → n ≡ 0
+part-nil at n xs h e = sym (length-part at n xs h) ∙ ap length e
+
+given-same : {t u : ℕ} {a b c d : List ℕ} → given t a b ≡ given u c d → (a ≡ c) × (b ≡ d)
+given-same h = (cc, cc)
+
+no-family : (e : Bool) (f : ℕ) (xs : List ℕ) (t : ℕ) → wrongFlags e f ≡ false → fteidLength f ≤ length xs → fteidFields f xs ≡ given t [] [] → ⊥
+unfolding fteidFields chosenFields givenFields fteidLength wrongFlags
+no-family e f xs t wrong long = by-ch (chFlag f) (v4Flag f) (v6Flag f) wrong long
+  where
+    by-ch : (ch v4 v6 : Bool) → (not (v4 || v6) || (chidFlag f && (e || not ch))) ≡ false
+        → pick ch (flag (chidFlag f)) (4 + 4 * flag v4 + 16 * flag v6) ≤ length xs
+        → pick ch (choose v4 v6 (pick (chidFlag f) (some (octetAt xs 0)) none)) (given (numberAt 0 4 xs) (part 4 (4 * flag v4) xs) (part (4 + 4 * flag v4) (16 * flag v6) xs)) ≡ given t [] [] → ⊥
+    by-ch true v4 v6 w l h = let z : _≡_ {A = ℕ} 0 1 = cc in omega arith
+    by-ch false true v6 w l h = let n = part-nil 4 4 xs (omega arith) (given-same h .0) in omega arith
+    by-ch false false true w l h = let n = part-nil 4 16 xs (omega arith) (given-same h .1) in omega arith
+    by-ch false false false w l h = let z : _≡_ {A = ℕ} 0 1 = cc in omega arith
+
+no-families : (e : Bool) (v : List ℕ) (t : ℕ) → readFteid e v ≡ value (given t [] []) → ⊥
+unfolding readFteid
+no-families e [] t h = let z : _≡_ {A = ℕ} 0 1 = cc in omega arith
+no-families e (f ∷ xs) t h = by-tests (wrongFlags e f) (ltb (length xs) (fteidLength f)) refl refl h
+  where
+    by-tests : (a b : Bool) → wrongFlags e f ≡ a → ltb (length xs) (fteidLength f) ≡ b
+        → pick a (refuse rules.incorrect) (pick b (refuse rules.tooShort) (value (fteidFields f xs))) ≡ value (given t [] []) → ⊥
+    by-tests true b p q h = let z : _≡_ {A = ℕ} 0 1 = cc in omega arith
+    by-tests false true p q h = let z : _≡_ {A = ℕ} 0 1 = cc in omega arith
+    by-tests false false p q h =
+        let k : fteidFields f xs ≡ given t [] [] = cc in
+        no-family e f xs t p (ltb-false (length xs) (fteidLength f) q) k
+
+pub fteid-refused : (a : rules.Answer Fteid) (c : Refusal) (row : List ℕ) {r : Verdict} → Tidy row → some (refuse c) ≡ some a → r ≡ Refused (causeOf c) 21 → Reads (fteidRead a (rowMembers row)) row r
+unfolding fteidRead
+fteid-refused a c row z h e = let k : refuse c ≡ a = cc in record { told = rw (← k, e); tidy = z }
+
+no-flags : (x : FTeid) → x .flags ≡ 0 → fteidMeant x ≡ given (x .teid) [] []
+unfolding bit be
+no-flags x h = rw h
+
+pub fteid-value : (x : FTeid) (e : Bool) (v row : List ℕ) → Tidy row → mapOption value (fteidOf x) ≡ some (readFteid e v)
+    → Reads (fteidRead (readFteid e v) (rowMembers row)) (sixSet row (x .flags) (x .teid) (x .ipv4) (x .«ipv6_high») (x .«ipv6_low») (x .«choose_id») row) Fine
+unfolding fteidRead
+fteid-value x e v row z = by-option (fteidOf x) refl
+  where
+    by-option : (o : Option Fteid) → fteidOf x ≡ o → mapOption value o ≡ some (readFteid e v)
+        → Reads (fteidRead (readFteid e v) (rowMembers row)) (sixSet row (x .flags) (x .teid) (x .ipv4) (x .«ipv6_high») (x .«ipv6_low») (x .«choose_id») row) Fine
+    by-option none q h = let y : _≡_ {A = ℕ} 0 1 = cc in absurd (omega arith)
+    by-option (some y) q h =
+        let k : readFteid e v ≡ value y = cc in
+        let m : y ≡ fteidMeant x = unfold fteidOf in (picked (allOf (fteidTests x)) (fteidMeant x) y q .1) in
+        let there : x .flags ≡ 0 → ⊥ = λ n. no-families e v (x .teid) (k ∙ ap value (m ∙ no-flags x n)) in
+        holding (put-fteid row (x .flags) (x .teid) (x .ipv4) (x .«ipv6_high») (x .«ipv6_low») (x .«choose_id») y there (from-words (x .flags) (x .teid) (x .ipv4) (x .«ipv6_high») (x .«ipv6_low») (x .«choose_id») ∙ sym m) z) (rw k)
+
+-- ---- a member
+
+nil-length : (xs : List ℕ) → eqb (length xs) 0 ≡ isNil xs
+nil-length [] = refl
+nil-length (x ∷ xs) = ne-eqb (suc (length xs)) 0 (λ e. absurd (omega arith))
+
+and-false : (a : Bool) → (a && false) ≡ false
+and-false true = refl
+and-false false = refl
+
+module _ (g t : ℕ) (v : List ℕ) where
+  pub no-update : (g ≡ 9 → ⊥) → false ≡ isNullFar g t v
+  unfolding isNullFar
+  no-update h = rw (ne-eqb g 9 h)
+
+  pub no-far : (t ≡ 108 → ⊥) → false ≡ isNullFar g t v
+  unfolding isNullFar
+  no-far h = sym (rw (ne-eqb t 108 h) (and-false (eqb g 9)))
+
+  pub a-far : g ≡ 9 → t ≡ 108 → eqb (length v) 0 ≡ isNullFar g t v
+  unfolding isNullFar
+  a-far h k = sym (rw (h, k) (sym (nil-length v)))
+
+-- without a null FAR ID a plain member is read alike in every group
+plain-alike : (g : ℕ) (v : List ℕ) (m : Members) (t : ℕ) → member t plainTypes ≡ true → false ≡ isNullFar g t v → plainRead t v m ≡ valueRead unopened g t v m
+unfolding plainRead valueRead isNullFar farRead
+plain-alike g v m =
+    by-plain (λ t. false ≡ isNullFar g t v → plainRead t v m ≡ valueRead unopened g t v m)
+    (λ h. refl) (λ h. refl) (λ h. rw (← h)) (λ h. refl) (λ h. refl)
+
+-- a type that holds a number is one that is neither an F-TEID nor a PDI
+pub is-plain : (t : ℕ) → member t memberTypes ≡ true → (t ≡ 21 → ⊥) → (t ≡ 2 → ⊥) → member t plainTypes ≡ true
+unfolding member
+is-plain =
+    by-member (λ t. (t ≡ 21 → ⊥) → (t ≡ 2 → ⊥) → member t plainTypes ≡ true)
+    (λ a b. refl) (λ a b. refl) (λ a b. refl) (λ a b. absurd (b refl)) (λ a b. refl) (λ a b. absurd (a refl)) (λ a b. refl)
+
+module _ (g t : ℕ) (v row : List ℕ) where
+  pub value-fteid : {row′ : List ℕ} {r : Verdict} → t ≡ 21 → Reads (fteidRead (readFteid (eqb g 127) v) (rowMembers row)) row′ r → Reads (valueRead unopened g t v (rowMembers row)) row′ r
+  unfolding valueRead fteidRead
+  value-fteid h e = rw h e
+
+  pub value-pdi : t ≡ 2 → Tidy row → Reads (valueRead unopened g t v (rowMembers row)) (set row 6 1) Fine
+  unfolding valueRead pdiIn
+  value-pdi h z = rw h (holding (put-pdi row z) (pick-same (eqb g 1) (done (withPdi (rowMembers row)))))
+    where
+      pick-same : {A : Type 0} (b : Bool) (a : A) → pick b a a ≡ a
+      pick-same true a = refl
+      pick-same false a = refl
+
+  pub value-null : member t memberTypes ≡ true → true ≡ isNullFar g t v → Tidy row → Reads (valueRead unopened g t v (rowMembers row)) (set row 3 2) Fine
+  unfolding valueRead farRead isNullFar
+  value-null k h z = holding (put-null-far row z) (null-is t k h)
+    where
+      null-is : (t : ℕ) → member t memberTypes ≡ true → true ≡ (eqb g 9 && (eqb t 108 && isNil v)) → valueRead unopened g t v (rowMembers row) ≡ done (withFar none (rowMembers row))
+      null-is =
+          by-member (λ t. true ≡ (eqb g 9 && (eqb t 108 && isNil v)) → valueRead unopened g t v (rowMembers row) ≡ done (withFar none (rowMembers row)))
+          never never (λ q. rw (← q)) never never never never
+        where
+          never : {X : Type 0} → true ≡ (eqb g 9 && false) → X
+          never q = let y : true ≡ false = q ∙ and-false (eqb g 9) in let n : _≡_ {A = ℕ} 0 1 = cc in absurd (omega arith)
+
+  pub value-plain : {row′ : List ℕ} {r : Verdict} → member t plainTypes ≡ true → false ≡ isNullFar g t v → Reads (plainRead t v (rowMembers row)) row′ r → Reads (valueRead unopened g t v (rowMembers row)) row′ r
+  value-plain k h e = record { told = e .told ∙ ap numbered (plain-alike g v (rowMembers row) t k h); tidy = e .tidy }
+
+-- every member with a place has words
+pub has-words : (g t : ℕ) → true ≡ member t (placesOf g) → member t memberTypes ≡ true
+unfolding placesOf allIn member
+has-words g t h = go (eqb g 1 || eqb g 9) (eqb g 2) (eqb g 127) (eqb g 15) (sym h)
+  where
+    in-list : (a : ℕ) (bs : List ℕ) → T (allIn (a ∷ bs) memberTypes) → member t (a ∷ bs) ≡ true → member t memberTypes ≡ true
+    in-list a bs k q = keys-in t a bs memberTypes k (one-of t a bs (of-true q))
+
+    go : (a b c d : Bool) → member t (pick a (56 ∷ 29 ∷ 2 ∷ 108 ∷ []) (pick b (20 ∷ 21 ∷ 131 ∷ []) (pick c (131 ∷ 21 ∷ []) (pick d (56 ∷ []) (131 ∷ []))))) ≡ true → member t memberTypes ≡ true
+    go true b c d q = in-list 56 (29 ∷ 2 ∷ 108 ∷ []) tt q
+    go false true c d q = in-list 20 (21 ∷ 131 ∷ []) tt q
+    go false false true d q = in-list 131 (21 ∷ []) tt q
+    go false false false true q = in-list 56 [] tt q
+    go false false false false q = in-list 131 [] tt q
+
+module _ (g t : ℕ) (v row : List ℕ) (z : Tidy row) where
+  pub own-skipped : false ≡ member t (placesOf g) → Reads (ownRead g t v (rowMembers row)) row Fine
+  unfolding ownRead memberRead
+  own-skipped h = record { told = sym (rw (← h)); tidy = z }
+
+  pub own-repeat : {at : ℕ} → true ≡ member t (placesOf g) → at ≡ column t → (getD row at 0 ≡ 0 → ⊥) → Reads (ownRead g t v (rowMembers row)) row (Refused 69 t)
+  unfolding ownRead memberRead causeOf
+  own-repeat h a k = record { told = sym (rw (← h, held row z t (has-words g t h) (λ q. k (ap (λ (i : ℕ). getD row i 0) a ∙ q)))); tidy = z }
+
+  pub own-value : {at : ℕ} {row′ : List ℕ} {r : Verdict} → true ≡ member t (placesOf g) → at ≡ column t → getD row at 0 ≡ 0
+      → Reads (valueRead unopened g t v (rowMembers row)) row′ r → Reads (ownRead g t v (rowMembers row)) row′ r
+  unfolding ownRead memberRead
+  own-value h a k e = record { told = e .told ∙ sym (rw (← h, unheld row z t (has-words g t h) (ap (λ (i : ℕ). getD row i 0) (sym a) ∙ k))); tidy = e .tidy }
+
+-- ---- what is missing
+
+need-then : {A B C : Type 0} (c : Refusal) (t : ℕ) (o : Option A) (k : A → Reading B) (j : B → Reading C) → andThen (need c t o k) j ≡ need c t o (λ x. andThen (k x) j)
+need-then c t none k j = refl
+need-then c t (some a) k j = refl
+
+-- a word that is 0 is a member that is missing
+module _ {A : Type 0} (m : A) (next : Verdict) (c : Refusal) (t : ℕ) where
+  lacks : (a v : ℕ) (k : ℕ → Reading A) → a ≤ 1 → outcome next m ≡ numbered (k v) → outcome (pick (eqb a 0) (Refused (causeOf c) t) next) m ≡ numbered (need c t (present a v) k)
+  unfolding present
+  lacks zero v k l h = refl
+  lacks (suc zero) v k l h = h
+  lacks (suc (suc a)) v k l h = absurd (omega arith)
+
+  lacks-then : {B : Type 0} (a v : ℕ) (k : ℕ → Reading B) (j : B → Reading A) → a ≤ 1 → outcome next m ≡ numbered (andThen (k v) j)
+      → outcome (pick (eqb a 0) (Refused (causeOf c) t) next) m ≡ numbered (andThen (need c t (present a v) k) j)
+  lacks-then a v k j l h = lacks a v (λ x. andThen (k x) j) l h ∙ sym (ap (λ (x : Reading A). numbered x) (need-then c t (present a v) k j))
+
+  lacks-pdi : {B : Type 0} (a : ℕ) (r : Reading B) (j : B → Reading A) → a ≤ 1 → outcome next m ≡ numbered (andThen r j)
+      → outcome (pick (eqb a 0) (Refused (causeOf c) t) next) m ≡ numbered (andThen (pick (eqb a 1) r (refusal c t)) j)
+  lacks-pdi zero r j l h = refl
+  lacks-pdi (suc zero) r j l h = h
+  lacks-pdi (suc (suc a)) r j l h = absurd (omega arith)
+
+  lacks-local : {B : Type 0} (b : Bool) (v : Fteid) (k : Fteid → Reading B) (j : B → Reading A) → outcome next m ≡ numbered (andThen (k v) j)
+      → outcome (pick b (Refused (causeOf c) t) next) m ≡ numbered (andThen (need c t (pick b none (some v)) k) j)
+  lacks-local true v k j h = refl
+  lacks-local false v k j h = h
+
+-- the answers of `require`, one in the other, and a group's end
+abbrev Required : List ℕ → ℕ → ℕ → Verdict → Verdict → Type 0
+Required row c t next r = r ≡ pick (eqb (word (column t) row) 0) (Refused c t) next
+
+abbrev Ends : List ℕ → ℕ → Verdict → Type 0
+Ends row g r = outcome r (rowMembers row) ≡ numbered (closing g (rowMembers row))
+
+module _ (row : List ℕ) (z : Tidy row) (g : ℕ) where
+  pub ends-pdi : {a : Verdict} → g ≡ 2 → Required row 66 20 Fine a → Ends row g a
+  unfolding closing pdiEnd rowMembers causeOf column
+  ends-pdi e a = rw (e, a) (lacks (rowMembers row) Fine missing 20 (word 4 row) (word 10 row) (λ n. done (rowMembers row)) (z .source) refl)
+
+  pub ends-create : {a b c d : Verdict} → g ≡ 1 → Required row 66 20 Fine a → Required row 66 56 a b → Required row 66 29 b c → Required row 66 2 c d → Ends row g d
+  unfolding closing itemFrom pdrFrom rowMembers causeOf column
+  ends-create {a} {b} {c} {d} e p q r s =
+      rw (e, s)
+      (lacks-pdi (rowMembers row) c missing 2 (word 6 row) _ _ (z .pdi)
+      (rw r (lacks-then (rowMembers row) b missing 29 (word 2 row) (word 8 row) _ _ (z .precedence)
+      (rw q (lacks-then (rowMembers row) a missing 56 (word 1 row) (word 7 row) _ _ (z .pdrId)
+      (rw p (lacks-then (rowMembers row) Fine missing 20 (word 4 row) (word 10 row) _ _ (z .source) refl)))))))
+
+  pub ends-endpoint : {a b : Verdict} → g ≡ 127 → Required row 66 131 Fine a → Required row 67 21 a b → Ends row g b
+  unfolding closing itemFrom endpointFrom rowMembers rowLocal causeOf column
+  ends-endpoint {a} {b} e p q =
+      rw (e, q)
+      (lacks-local (rowMembers row) a conditional 21 (eqb (word 12 row) 0) (rowFteid row) _ _
+      (rw p (lacks-then (rowMembers row) Fine missing 131 (word 5 row) (word 11 row) _ _ (z .endpointId) refl)))
+
+  pub ends-pdr : {a : Verdict} → OneOf g 9 (15 ∷ []) → Required row 66 56 Fine a → Ends row g a
+  unfolding closing itemFrom changeFrom rowMembers causeOf column
+  ends-pdr (inl e) p = rw (e, p) (lacks-then (rowMembers row) Fine missing 56 (word 1 row) (word 7 row) _ _ (z .pdrId) refl)
+  ends-pdr (inr e) p = rw (e, p) (lacks-then (rowMembers row) Fine missing 56 (word 1 row) (word 7 row) _ _ (z .pdrId) refl)
+
+  pub ends-other : {a : Verdict} → (g ≡ 1 → ⊥) → (g ≡ 2 → ⊥) → (g ≡ 127 → ⊥) → (OneOf g 9 (15 ∷ []) → ⊥) → Required row 66 131 Fine a → Ends row g a
+  unfolding closing itemFrom rowMembers causeOf column
+  ends-other h i j k p =
+      rw (ne-eqb g 1 h, ne-eqb g 2 i, ne-eqb g 127 j, ne-eqb g 9 (λ q. k (inl q)), ne-eqb g 15 (λ q. k (inr q)), p)
+      (lacks-then (rowMembers row) Fine missing 131 (word 5 row) (word 11 row) _ _ (z .endpointId) refl)
+
+-- ---- a turn of the loop over the elements of a group, with the element of type t at the front of the rest
+
+-- only a Create PDR opens its PDI
+pick-inner : {X : Type 0} (a b c d e : Bool) (x y z i u r : X) → (e && d) ≡ false
+    → pick a x (pick b y (pick c z (pick d (pick e i u) r))) ≡ pick a x (pick b y (pick c z (pick d (pick e u u) r)))
+pick-inner a b c true true x y z i u r h = let n : _≡_ {A = ℕ} 0 1 = cc in absurd (omega arith)
+pick-inner a b c true false x y z i u r h = refl
+pick-inner a b c false e x y z i u r h = refl
+
+value-alike : (g t : ℕ) (v : List ℕ) (m : Members) → isPdi g t ≡ false → valueRead pdiRead g t v m ≡ valueRead unopened g t v m
+unfolding valueRead pdiIn isPdi
+value-alike g t v m h = pick-inner (eqb t 56) (eqb t 29) (eqb t 108) (eqb t 2) (eqb g 1) _ _ _ _ _ _ h
+
+then-done : {A : Type 0} (x : Reading A) → andThen x (λ n. done n) ≡ x
+then-done (faulty f) = refl
+then-done (done a) = refl
+
+-- a member, and then what stands inside it
+member-split : (g t : ℕ) (v : List ℕ) (m : Members) → memberRead pdiRead g (el t v) m ≡ andThen (ownRead g t v m) (λ n. pick (isPdi g t) (pdiRead v n) (done n))
+unfolding ownRead
+member-split g t v m = go (isPdi g t) refl
+  where
+    in-pdi : (o : Bool) → pick o (refusal incorrect 2) (pdiRead v (withPdi m)) ≡ andThen (pick o (refusal incorrect 2) (done (withPdi m))) (λ n. pdiRead v n)
+    in-pdi true = refl
+    in-pdi false = refl
+
+    opened : g ≡ 1 → t ≡ 2 → memberRead pdiRead g (el t v) m ≡ andThen (memberRead unopened g (el t v) m) (λ n. pdiRead v n)
+    opened a b = rw (a, b) (unfold memberRead placesOf member holds valueRead pdiIn in (in-pdi (m .pdi)))
+
+    go : (b : Bool) → isPdi g t ≡ b → memberRead pdiRead g (el t v) m ≡ andThen (memberRead unopened g (el t v) m) (λ n. pick b (pdiRead v n) (done n))
+    go true h = opened (pdi-in-create g t (sym h)) (pdi-type g t (sym h))
+    go false h = unfold memberRead in (rw (value-alike g t v m h) (sym (then-done _)))
+
+-- a PDI opens no group, so it does not matter how one would be read
+unopened-same : (es : List Element) (m : Members) → membersRead pdiRead 2 es m ≡ membersRead unopened 2 es m
+unfolding membersRead memberRead
+unopened-same [] m = refl
+unopened-same (e ∷ es) m =
+    rw (value-alike 2 (e .type) (e .content) m (unfold isPdi in refl)) (step (memberRead unopened 2 e m) (λ n. unopened-same es n))
+  where
+    step : (x : Reading Members) → ((n : Members) → membersRead pdiRead 2 es n ≡ membersRead unopened 2 es n) → andThen x (membersRead pdiRead 2 es) ≡ andThen x (membersRead unopened 2 es)
+    step (faulty f) k = refl
+    step (done n) k = k n
+
+pub pdi-same : (v : List ℕ) (m : Members) → closedRead 2 (elements v) m ≡ pdiRead v m
+unfolding closedRead closing pdiRead
+pdi-same v m = ap (λ (x : Reading Members). andThen x pdiEnd) (unopened-same (elements v) m)
+
+-- what is left gives the same members from this row as the whole from the first
+pub record Going (g : ℕ) (s row₀ rest row : List ℕ) : Type 0 where
+  pub tidy : Tidy row
+  pub same : membersRead pdiRead g (elements s) (rowMembers row₀) ≡ membersRead pdiRead g (elements rest) (rowMembers row)
+
+module _ {g t e : ℕ} {s row₀ rest row : List ℕ} (f : Front rest t e) (inv : Going g s row₀ rest row) where
+  abbrev v : List ℕ
+  v = take (e - 4) (drop 4 rest)
+
+  ahead : membersRead pdiRead g (elements s) (rowMembers row₀)
+      ≡ andThen (andThen (ownRead g t v (rowMembers row)) (λ n. pick (isPdi g t) (pdiRead v n) (done n))) (membersRead pdiRead g (elements (behind rest e)))
+  unfolding membersRead
+  ahead =
+      inv .same ∙ ap (λ (es : List Element). membersRead pdiRead g es (rowMembers row)) (f .cons)
+      ∙ ap (λ (x : Reading Members). andThen x (membersRead pdiRead g (elements (behind rest e)))) (member-split g t v (rowMembers row))
+
+  closed : closedRead g (elements s) (rowMembers row₀)
+      ≡ andThen (andThen (andThen (ownRead g t v (rowMembers row)) (λ n. pick (isPdi g t) (pdiRead v n) (done n))) (membersRead pdiRead g (elements (behind rest e)))) (closing g)
+  unfolding closedRead
+  closed = ap (λ (x : Reading Members). andThen x (closing g)) ahead
+
+  module _ (r : Verdict) (own : List ℕ) (read : Reads (ownRead g t v (rowMembers row)) own r) where
+    pub turn-refused : {c x : ℕ} → r ≡ Refused c x → Reads (closedRead g (elements s) (rowMembers row₀)) own r
+    turn-refused {c} {x} q =
+        let h : outcome r (rowMembers own) ≡ stopped c x = ap (λ (y : Verdict). outcome y (rowMembers own)) q in
+        let o : numbered (ownRead g t v (rowMembers row)) ≡ stopped c x = sym (read .told) ∙ h in
+        let own-then : Members → Reading Members = λ n. pick (isPdi g t) (pdiRead v n) (done n) in
+        let rest-then : Members → Reading Members = membersRead pdiRead g (elements (behind rest e)) in
+        let one = stops (ownRead g t v (rowMembers row)) own-then o in
+        let two = stops (andThen (ownRead g t v (rowMembers row)) own-then) rest-then one in
+        let three = stops (andThen (andThen (ownRead g t v (rowMembers row)) own-then) rest-then) (closing g) two in
+        record { told = h ∙ sym (ap (λ (y : Reading Members). numbered y) closed ∙ three); tidy = read .tidy }
+
+    module _ (fine : r ≡ Fine) where
+      own-is : ownRead g t v (rowMembers row) ≡ done (rowMembers own)
+      own-is = is-done _ _ (sym (read .told) ∙ ap (λ (y : Verdict). outcome y (rowMembers own)) fine)
+
+      pub turn-shut : false ≡ isPdi g t → Going g s row₀ (behind rest e) own
+      turn-shut h = record { tidy = read .tidy; same = ahead ∙ rw (own-is, ← h) }
+
+      module _ (pdi : true ≡ isPdi g t) (q : Verdict) (all : List ℕ) (inside : Reads (closedRead 2 (elements v) (rowMembers own)) all q) where
+        inner-told : numbered (pdiRead v (rowMembers own)) ≡ outcome q (rowMembers all)
+        inner-told = sym (inside .told ∙ ap (λ (y : Reading Members). numbered y) (pdi-same v (rowMembers own)))
+
+        pub turn-inside : {c x : ℕ} → q ≡ Refused c x → Reads (closedRead g (elements s) (rowMembers row₀)) all q
+        turn-inside {c} {x} k =
+            let h : outcome q (rowMembers all) ≡ stopped c x = ap (λ (y : Verdict). outcome y (rowMembers all)) k in
+            let o : numbered (pdiRead v (rowMembers own)) ≡ stopped c x = inner-told ∙ h in
+            let w : closedRead g (elements s) (rowMembers row₀) ≡ andThen (andThen (pdiRead v (rowMembers own)) (membersRead pdiRead g (elements (behind rest e)))) (closing g) = closed ∙ rw (own-is, ← pdi) in
+            let rest-then : Members → Reading Members = membersRead pdiRead g (elements (behind rest e)) in
+            let one = stops (pdiRead v (rowMembers own)) rest-then o in
+            let two = stops (andThen (pdiRead v (rowMembers own)) rest-then) (closing g) one in
+            record { told = h ∙ sym (ap (λ (y : Reading Members). numbered y) w ∙ two); tidy = inside .tidy }
+
+        pub turn-open : q ≡ Fine → Going g s row₀ (behind rest e) all
+        turn-open k =
+            let o : pdiRead v (rowMembers own) ≡ done (rowMembers all) = is-done _ _ (inner-told ∙ ap (λ (y : Verdict). outcome y (rowMembers all)) k) in
+            record { tidy = inside .tidy; same = ahead ∙ rw (own-is, ← pdi, o) }
+
+pub turns-done : {g : ℕ} {s row₀ rest row : List ℕ} {r : Verdict} → Going g s row₀ rest row → elements rest ≡ []
+    → outcome r (rowMembers row) ≡ numbered (closing g (rowMembers row)) → Reads (closedRead g (elements s) (rowMembers row₀)) row r
+unfolding closedRead membersRead
+turns-done {g} {s} {row₀} {rest} {row} inv e h =
+    record {
+      told = h ∙ sym (ap (λ (x : Reading Members). numbered (andThen x (closing g))) (inv .same ∙ ap (λ (es : List Element). membersRead pdiRead g es (rowMembers row)) e));
+      tidy = inv .tidy;
+    }

@@ -1,0 +1,193 @@
+-- The words of a row under writes, and the members that it then holds. Assumes nothing.
+use mathlib.Core.Path.{_≡_, refl, sym, ap, subst, _∙_}
+use mathlib.Core.Logic.{inl, inr}
+use Prim.Native.Nat.{ℕ, zero, suc, _+_, _*_, _%_, _≤_, _<_}
+use native.Mathlib.Omega.{arith}
+use mathlib.Core.Bool.{Bool, true, false, not, _&&_, _||_}
+use mathlib.Core.Option.{Option, none, some}
+use mathlib.Core.List.{List, [], _∷_, _++_}
+use lib.ListN.{length, set, getD}
+use lib.Dec.{T, eqb}
+use borrow.Author.Tests.{eq-eqb, ne-eqb}
+use Rattle.octets.specs.Choice.{pick, flag, isSome}
+use Rattle.octets.specs.Octets.{be, bit}
+use Rattle.octets.specs.Lists.{member}
+use Rattle.octets.proofs.Tests.{of-true}
+use Rattle.rules.specs.Elements.{Fteid, given, choose, v4Flag, v6Flag, chFlag, chidFlag}
+use Rattle.rules.specs.Reading.{Members, withPdrId, withPrecedence, withFar, withPdi, withSource, withLocal, withEndpointId, holds}
+use Rattle.plan.specs.Rows.{word, fteidFrom, present, rowFteid, rowLocal, rowFar}
+use Rattle.frame.proofs.Among.{OneOf}
+use Rattle.reading.specs.Rows.{memberTypes, plainTypes, column, rowMembers, Tidy}
+use Rattle.reading.proofs.Places.{one-of}
+
+-- ---- a row taken apart
+
+uncons : (P : List ℕ → Type 0) (n : ℕ) → ((x : ℕ) (xs : List ℕ) → length xs ≡ n → P (x ∷ xs)) → (row : List ℕ) → length row ≡ suc n → P row
+uncons P n f [] h = absurd (omega arith)
+uncons P n f (x ∷ xs) h = f x xs (omega arith)
+
+nothing-left : (P : List ℕ → Type 0) → P [] → (row : List ℕ) → length row ≡ 0 → P row
+nothing-left P p [] h = p
+nothing-left P p (x ∷ xs) h = absurd (omega arith)
+
+pub apart : (P : List ℕ → Type 0)
+    → ((a b c d e f g h i j k l m n o p q r : ℕ) → P (a ∷ b ∷ c ∷ d ∷ e ∷ f ∷ g ∷ h ∷ i ∷ j ∷ k ∷ l ∷ m ∷ n ∷ o ∷ p ∷ q ∷ r ∷ [])) → (row : List ℕ) → length row ≡ 18 → P row
+apart P w =
+    uncons P 17 (λ a. uncons (λ t. P (a ∷ t)) 16 (λ b. uncons (λ t. P (a ∷ b ∷ t)) 15 (λ c. uncons (λ t. P (a ∷ b ∷ c ∷ t)) 14 (λ d.
+    uncons (λ t. P (a ∷ b ∷ c ∷ d ∷ t)) 13 (λ e. uncons (λ t. P (a ∷ b ∷ c ∷ d ∷ e ∷ t)) 12 (λ f. uncons (λ t. P (a ∷ b ∷ c ∷ d ∷ e ∷ f ∷ t)) 11 (λ g.
+    uncons (λ t. P (a ∷ b ∷ c ∷ d ∷ e ∷ f ∷ g ∷ t)) 10 (λ h. uncons (λ t. P (a ∷ b ∷ c ∷ d ∷ e ∷ f ∷ g ∷ h ∷ t)) 9 (λ i.
+    uncons (λ t. P (a ∷ b ∷ c ∷ d ∷ e ∷ f ∷ g ∷ h ∷ i ∷ t)) 8 (λ j. uncons (λ t. P (a ∷ b ∷ c ∷ d ∷ e ∷ f ∷ g ∷ h ∷ i ∷ j ∷ t)) 7 (λ k.
+    uncons (λ t. P (a ∷ b ∷ c ∷ d ∷ e ∷ f ∷ g ∷ h ∷ i ∷ j ∷ k ∷ t)) 6 (λ l. uncons (λ t. P (a ∷ b ∷ c ∷ d ∷ e ∷ f ∷ g ∷ h ∷ i ∷ j ∷ k ∷ l ∷ t)) 5 (λ m.
+    uncons (λ t. P (a ∷ b ∷ c ∷ d ∷ e ∷ f ∷ g ∷ h ∷ i ∷ j ∷ k ∷ l ∷ m ∷ t)) 4 (λ n. uncons (λ t. P (a ∷ b ∷ c ∷ d ∷ e ∷ f ∷ g ∷ h ∷ i ∷ j ∷ k ∷ l ∷ m ∷ n ∷ t)) 3 (λ o.
+    uncons (λ t. P (a ∷ b ∷ c ∷ d ∷ e ∷ f ∷ g ∷ h ∷ i ∷ j ∷ k ∷ l ∷ m ∷ n ∷ o ∷ t)) 2 (λ p. uncons (λ t. P (a ∷ b ∷ c ∷ d ∷ e ∷ f ∷ g ∷ h ∷ i ∷ j ∷ k ∷ l ∷ m ∷ n ∷ o ∷ p ∷ t)) 1 (λ q.
+    uncons (λ t. P (a ∷ b ∷ c ∷ d ∷ e ∷ f ∷ g ∷ h ∷ i ∷ j ∷ k ∷ l ∷ m ∷ n ∷ o ∷ p ∷ q ∷ t)) 0 (λ r.
+    nothing-left (λ t. P (a ∷ b ∷ c ∷ d ∷ e ∷ f ∷ g ∷ h ∷ i ∷ j ∷ k ∷ l ∷ m ∷ n ∷ o ∷ p ∷ q ∷ r ∷ t)) (w a b c d e f g h i j k l m n o p q r)))))))))))))))))))
+
+-- ---- writes
+
+-- a tidy row that holds these members
+pub record Holding (m : Members) (row : List ℕ) : Type 0 where
+  pub members : rowMembers row ≡ m
+  pub tidy : Tidy row
+
+-- the members with a plain one of type t
+unfoldable pub plainPut : ℕ → ℕ → Members → Members
+plainPut t n m = pick (eqb t 56) (withPdrId n m) (pick (eqb t 29) (withPrecedence n m) (pick (eqb t 108) (withFar (some n) m) (pick (eqb t 20) (withSource n m) (withEndpointId n m))))
+
+-- a fact of every type that holds a number, and of every type of a member
+pub by-plain : (P : ℕ → Type 0) → P 56 → P 29 → P 108 → P 20 → P 131 → (t : ℕ) → member t plainTypes ≡ true → P t
+by-plain P a b c d e t h = go (one-of t 56 (29 ∷ 108 ∷ 20 ∷ 131 ∷ []) (of-true h))
+  where
+    go : OneOf t 56 (29 ∷ 108 ∷ 20 ∷ 131 ∷ []) → P t
+    go (inl q) = subst P (sym q) a
+    go (inr (inl q)) = subst P (sym q) b
+    go (inr (inr (inl q))) = subst P (sym q) c
+    go (inr (inr (inr (inl q)))) = subst P (sym q) d
+    go (inr (inr (inr (inr q)))) = subst P (sym q) e
+
+pub by-member : (P : ℕ → Type 0) → P 56 → P 29 → P 108 → P 2 → P 20 → P 21 → P 131 → (t : ℕ) → member t memberTypes ≡ true → P t
+by-member P a b c d e f g t h = go (one-of t 56 (29 ∷ 108 ∷ 2 ∷ 20 ∷ 21 ∷ 131 ∷ []) (of-true h))
+  where
+    go : OneOf t 56 (29 ∷ 108 ∷ 2 ∷ 20 ∷ 21 ∷ 131 ∷ []) → P t
+    go (inl q) = subst P (sym q) a
+    go (inr (inl q)) = subst P (sym q) b
+    go (inr (inr (inl q))) = subst P (sym q) c
+    go (inr (inr (inr (inl q)))) = subst P (sym q) d
+    go (inr (inr (inr (inr (inl q))))) = subst P (sym q) e
+    go (inr (inr (inr (inr (inr (inl q)))))) = subst P (sym q) f
+    go (inr (inr (inr (inr (inr (inr q)))))) = subst P (sym q) g
+
+-- a row with other words, of which the first six are as small
+tidied : {row′ : List ℕ} → length row′ ≡ 18 → word 1 row′ ≤ 1 → word 2 row′ ≤ 1 → word 3 row′ ≤ 2 → word 4 row′ ≤ 1 → word 5 row′ ≤ 1 → word 6 row′ ≤ 1 → Tidy row′
+tidied w a b c d e f = record { wide = w; pdrId = a; precedence = b; far = c; source = d; endpointId = e; pdi = f }
+
+module _ (row : List ℕ) where
+  abbrev Writes : (List ℕ → List ℕ) → (Members → Members) → Type 0
+  Writes f g = Tidy row → Holding (g (rowMembers row)) (f row)
+
+  wrote : (f : List ℕ → List ℕ) (g : Members → Members) → ((a b c d e f′ g′ h i j k l m n o p q r : ℕ)
+      → let x = a ∷ b ∷ c ∷ d ∷ e ∷ f′ ∷ g′ ∷ h ∷ i ∷ j ∷ k ∷ l ∷ m ∷ n ∷ o ∷ p ∷ q ∷ r ∷ [] in Tidy x → Holding (g (rowMembers x)) (f x)) → Writes f g
+  wrote f g w t = apart (λ x. Tidy x → Holding (g (rowMembers x)) (f x)) w row (t .wide) t
+
+  pub put-plain : (t n : ℕ) → member t plainTypes ≡ true → Writes (λ x. set (set x (column t) 1) (column t + 6) n) (plainPut t n)
+  unfolding column plainPut rowMembers present rowFar rowLocal rowFteid
+  put-plain t n =
+      by-plain (λ t. Writes (λ x. set (set x (column t) 1) (column t + 6) n) (plainPut t n))
+      (wrote (λ x. set (set x 1 1) 7 n) (withPdrId n) (λ a b c d e f g h i j k l m n o p q r z. record { members = refl; tidy = tidied refl (omega arith) (z .precedence) (z .far) (z .source) (z .endpointId) (z .pdi) }))
+      (wrote (λ x. set (set x 2 1) 8 n) (withPrecedence n) (λ a b c d e f g h i j k l m n o p q r z. record { members = refl; tidy = tidied refl (z .pdrId) (omega arith) (z .far) (z .source) (z .endpointId) (z .pdi) }))
+      (wrote (λ x. set (set x 3 1) 9 n) (withFar (some n)) (λ a b c d e f g h i j k l m n o p q r z. record { members = refl; tidy = tidied refl (z .pdrId) (z .precedence) (omega arith) (z .source) (z .endpointId) (z .pdi) }))
+      (wrote (λ x. set (set x 4 1) 10 n) (withSource n) (λ a b c d e f g h i j k l m n o p q r z. record { members = refl; tidy = tidied refl (z .pdrId) (z .precedence) (z .far) (omega arith) (z .endpointId) (z .pdi) }))
+      (wrote (λ x. set (set x 5 1) 11 n) (withEndpointId n) (λ a b c d e f g h i j k l m n o p q r z. record { members = refl; tidy = tidied refl (z .pdrId) (z .precedence) (z .far) (z .source) (omega arith) (z .pdi) }))
+      t
+
+  pub put-null-far : Writes (λ x. set x 3 2) (withFar none)
+  unfolding rowMembers present rowFar rowLocal rowFteid
+  put-null-far = wrote (λ x. set x 3 2) (withFar none) (λ a b c d e f g h i j k l m n o p q r z. record { members = refl; tidy = tidied refl (z .pdrId) (z .precedence) (omega arith) (z .source) (z .endpointId) (z .pdi) })
+
+  pub put-pdi : Writes (λ x. set x 6 1) withPdi
+  unfolding rowMembers present rowFar rowLocal rowFteid
+  put-pdi = wrote (λ x. set x 6 1) withPdi (λ a b c d e f g h i j k l m n o p q r z. record { members = refl; tidy = tidied refl (z .pdrId) (z .precedence) (z .far) (z .source) (z .endpointId) (omega arith) })
+
+  -- the six words of an F-TEID
+  abbrev pub sixSet : ℕ → ℕ → ℕ → ℕ → ℕ → ℕ → List ℕ → List ℕ
+  sixSet f t a h l c x = set (set (set (set (set (set x 12 f) 13 t) 14 a) 15 h) 16 l) 17 c
+
+  pub put-fteid : (u v w x y z : ℕ) (local : Fteid) → (u ≡ 0 → ⊥) → fteidFrom u v w x y z ≡ local → Writes (sixSet u v w x y z) (withLocal local)
+  unfolding rowMembers present rowFar rowLocal rowFteid
+  put-fteid u v w x y z local there is =
+      wrote (sixSet u v w x y z) (withLocal local)
+      (λ a b c d e f g h i j k l m n o p q r t. record {
+        members = ap (λ (s : Option Fteid). record { pdrId = present b h; precedence = present c i; far = pick (eqb d 2) (some none) (pick (eqb d 1) (some (some j)) none); pdi = eqb g 1; source = present e k; local = s; endpointId = present f l })
+            (rw (ne-eqb u 0 there) (ap some is));
+        tidy = tidied refl (t .pdrId) (t .precedence) (t .far) (t .source) (t .endpointId) (t .pdi);
+      })
+
+-- ---- what a word says
+
+is-one : (n : ℕ) → (n ≡ 0 → ⊥) → n ≤ 1 → n ≡ 1
+is-one n h l = omega arith
+
+present-there : (n v : ℕ) → (n ≡ 0 → ⊥) → n ≤ 1 → isSome (present n v) ≡ true
+unfolding present
+present-there n v h l = rw (is-one n h l)
+
+present-none : (n v : ℕ) → n ≡ 0 → isSome (present n v) ≡ false
+unfolding present
+present-none n v h = rw h
+
+module _ (row : List ℕ) (z : Tidy row) where
+  -- a word that is set is a member that is there
+  pub held : (t : ℕ) → member t memberTypes ≡ true → (word (column t) row ≡ 0 → ⊥) → holds t (rowMembers row) ≡ true
+  unfolding column holds rowMembers rowFar rowLocal
+  held =
+      by-member (λ t. (word (column t) row ≡ 0 → ⊥) → holds t (rowMembers row) ≡ true)
+      (λ h. present-there _ _ h (z .pdrId))
+      (λ h. present-there _ _ h (z .precedence))
+      (λ h. far-there (word 3 row) (word 9 row) h (z .far))
+      (λ h. rw (is-one _ h (z .pdi)))
+      (λ h. present-there _ _ h (z .source))
+      (λ h. rw (ne-eqb (word 12 row) 0 h))
+      (λ h. present-there _ _ h (z .endpointId))
+    where
+      far-there : (n v : ℕ) → (n ≡ 0 → ⊥) → n ≤ 2 → isSome (pick (eqb n 2) (some none) (pick (eqb n 1) (some (some v)) none)) ≡ true
+      far-there zero v h l = absurd (h refl)
+      far-there (suc zero) v h l = refl
+      far-there (suc (suc zero)) v h l = refl
+      far-there (suc (suc (suc n))) v h l = absurd (omega arith)
+
+  pub unheld : (t : ℕ) → member t memberTypes ≡ true → word (column t) row ≡ 0 → holds t (rowMembers row) ≡ false
+  unfolding column holds rowMembers rowFar rowLocal
+  unheld =
+      by-member (λ t. word (column t) row ≡ 0 → holds t (rowMembers row) ≡ false)
+      (λ h. present-none _ _ h)
+      (λ h. present-none _ _ h)
+      (λ h. rw h)
+      (λ h. rw h)
+      (λ h. present-none _ _ h)
+      (λ h. rw h)
+      (λ h. present-none _ _ h)
+
+-- ---- columns
+
+pub column-low : (t : ℕ) → member t plainTypes ≡ true → column t ≤ 5
+unfolding column
+column-low = by-plain (λ t. column t ≤ 5) (omega arith) (omega arith) (omega arith) (omega arith) (omega arith)
+
+pub column-none : (t : ℕ) → (t ≡ 56 → ⊥) → (t ≡ 29 → ⊥) → (t ≡ 108 → ⊥) → (t ≡ 20 → ⊥) → (t ≡ 131 → ⊥) → (t ≡ 2 → ⊥) → (t ≡ 21 → ⊥) → 0 ≡ column t
+unfolding column
+column-none t a b c d e f g = rw (ne-eqb t 56 a, ne-eqb t 29 b, ne-eqb t 108 c, ne-eqb t 20 d, ne-eqb t 131 e, ne-eqb t 2 f, ne-eqb t 21 g)
+
+-- ---- an F-TEID from its words
+
+pub from-words : (f t a h l c : ℕ) → fteidFrom f t a h l c
+    ≡ pick (chFlag f) (choose (v4Flag f) (v6Flag f) (pick (chidFlag f) (some c) none))
+    (given t (be (4 * flag (v4Flag f)) a) (be (8 * flag (v6Flag f)) h ++ be (8 * flag (v6Flag f)) l))
+unfolding fteidFrom be
+from-words f t a h l c = by-bits (bit 0 f) (bit 1 f)
+  where
+    by-bits : (v4 v6 : Bool) → pick (bit 2 f) (choose v4 v6 (pick (bit 3 f) (some c) none)) (given t (pick v4 (be 4 a) []) (pick v6 (be 8 h ++ be 8 l) []))
+        ≡ pick (bit 2 f) (choose v4 v6 (pick (bit 3 f) (some c) none)) (given t (be (4 * flag v4) a) (be (8 * flag v6) h ++ be (8 * flag v6) l))
+    by-bits true true = refl
+    by-bits true false = refl
+    by-bits false true = refl
+    by-bits false false = refl

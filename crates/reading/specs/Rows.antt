@@ -1,0 +1,105 @@
+-- A group's row while the group is read: the members that it holds. For the functions inside this crate.
+-- Assumes nothing.
+use mathlib.Core.Path.{_≡_}
+use Prim.Native.Nat.{ℕ, _+_, _%_, _≤_}
+use mathlib.Core.Bool.{Bool, _&&_}
+use mathlib.Core.List.{List, [], _∷_}
+use lib.ListN.{length}
+use lib.Dec.{eqb}
+use Rattle.octets.specs.Choice.{pick, isNil}
+use Rattle.octets.specs.Octets.{numberAt}
+use Rattle.rules.specs.Types as ie
+use Rattle.rules.specs.Message.{Element, widthOf}
+use Rattle.rules.specs.Elements.{Answer, Fteid, causeOf}
+use Rattle.rules.specs.Reading.{Reading, done, andThen, named, Members, withLocal, valueRead, memberRead, membersRead, unopened, pdiRead, pdiEnd, itemFrom}
+use Rattle.plan.specs.Rows.{rowWidth, word, present, rowFar, rowLocal}
+use Rattle.element.specs.Answers.{refusalOf}
+use Rattle.element.specs.declared.fteid.Answer as code
+use Rattle.element.specs.declared.fteid.Answer.the-variants as code-case
+use Rattle.reading.specs.declared.Verdict.{Verdict}
+use Rattle.reading.specs.declared.Verdict.the-variants.{Fine, Refused}
+use Rattle.reading.specs.Verdicts.{numbered, outcome}
+
+-- the types that have words in a row
+abbrev pub memberTypes : List ℕ
+memberTypes = ie.pdrId ∷ ie.precedence ∷ ie.farId ∷ ie.pdi ∷ ie.sourceInterface ∷ ie.fteid ∷ ie.endpointId ∷ []
+
+-- those that hold a number
+abbrev pub plainTypes : List ℕ
+plainTypes = ie.pdrId ∷ ie.precedence ∷ ie.farId ∷ ie.sourceInterface ∷ ie.endpointId ∷ []
+
+-- the word that says whether a member is there; that of an F-TEID holds its flags
+unfoldable pub column : ℕ → ℕ
+column t =
+    pick (eqb t ie.pdrId) 1
+    (pick (eqb t ie.precedence) 2
+    (pick (eqb t ie.farId) 3
+    (pick (eqb t ie.sourceInterface) 4
+    (pick (eqb t ie.endpointId) 5
+    (pick (eqb t ie.pdi) 6
+    (pick (eqb t ie.fteid) 12 0))))))
+
+-- the members that a row holds
+unfoldable pub rowMembers : List ℕ → Members
+rowMembers row =
+    record {
+      pdrId = present (word 1 row) (word 7 row);
+      precedence = present (word 2 row) (word 8 row);
+      far = rowFar row;
+      pdi = eqb (word 6 row) 1;
+      source = present (word 4 row) (word 10 row);
+      local = rowLocal row;
+      endpointId = present (word 5 row) (word 11 row);
+    }
+
+-- a row whose first words only say whether a member is there
+pub record Tidy (row : List ℕ) : Type 0 where
+  pub wide : length row ≡ rowWidth
+  pub pdrId : word 1 row ≤ 1
+  pub precedence : word 2 row ≤ 1
+  pub far : word 3 row ≤ 2
+  pub source : word 4 row ≤ 1
+  pub endpointId : word 5 row ≤ 1
+  pub pdi : word 6 row ≤ 1
+
+-- a reading of members that a row took part in
+pub record Reads (result : Reading Members) (row : List ℕ) (r : Verdict) : Type 0 where
+  pub told : outcome r (rowMembers row) ≡ numbered result
+  pub tidy : Tidy row
+
+-- a plain member's number, of a Source Interface the low four bits
+unfoldable pub plainNumber : ℕ → List ℕ → ℕ
+plainNumber t v = pick (eqb t ie.sourceInterface) (numberAt 0 (widthOf t) v % 16) (numberAt 0 (widthOf t) v)
+
+-- a plain member, as in a Create PDR, where a null FAR ID is short
+unfoldable pub plainRead : ℕ → List ℕ → Members → Reading Members
+plainRead t v m = valueRead unopened ie.createPdr t v m
+
+-- the answer on an F-TEID
+unfoldable pub fteidRead : Answer Fteid → Members → Reading Members
+fteidRead a m = andThen (named ie.fteid a) (λ y. done (withLocal y m))
+
+-- an element by itself: a PDI is noted and not opened
+unfoldable pub ownRead : ℕ → ℕ → List ℕ → Members → Reading Members
+ownRead g t v m = memberRead unopened g (record { type = t; content = v }) m
+
+-- a null FAR ID in an Update PDR
+unfoldable pub isNullFar : ℕ → ℕ → List ℕ → Bool
+isNullFar g t v = eqb g ie.updatePdr && (eqb t ie.farId && isNil v)
+
+-- a PDI whose members are read
+unfoldable pub isPdi : ℕ → ℕ → Bool
+isPdi g t = eqb g ie.createPdr && eqb t ie.pdi
+
+-- a group's end: its members, if none that is required is missing
+unfoldable pub closing : ℕ → Members → Reading Members
+closing g m = pick (eqb g ie.pdi) (pdiEnd m) (andThen (itemFrom g m) (λ i. done m))
+
+-- the members of a group, read into those that were there before
+unfoldable pub closedRead : ℕ → List Element → Members → Reading Members
+closedRead g es m = andThen (membersRead pdiRead g es m) (closing g)
+
+-- what a reader's refusal tells
+abbrev pub fteidRefusal : code.Answer → Verdict
+fteidRefusal (code-case.Value x) = Fine
+fteidRefusal (code-case.Refused r) = Refused (causeOf (refusalOf r)) ie.fteid

@@ -1,0 +1,184 @@
+-- The elements of a message in turn: a turn of the loop, and the plan at its end. Assumes nothing.
+use mathlib.Core.Path.{_≡_, refl, sym, ap, ap₂, subst, _∙_}
+use Prim.Native.Nat.{ℕ, zero, suc, _+_, _-_, _*_, _≤_}
+use native.Mathlib.Omega.{arith}
+use mathlib.Core.Bool.{Bool, true, false, not, _||_}
+use mathlib.Core.Option.{Option, none, some}
+use mathlib.Core.List.{List, [], _∷_, map}
+use lib.ListN.{length, take, drop, getD, replicate, length-drop}
+use lib.Seq.{length-take-le}
+use lib.Dec.{eqb}
+use borrow.Author.Tests.{eq-eqb, ne-eqb}
+use Rattle.octets.specs.Choice.{pick, valueOr}
+use Rattle.octets.specs.Octets.{slices}
+use Rattle.octets.specs.Lists.{member, any, keep, collect}
+use Rattle.rules.specs.Elements.{causeOf, missing}
+use Rattle.rules.specs.Message.{Element, elements, body, kindOf, frameFault}
+use Rattle.rules.specs.Reading as rules
+use Rattle.rules.specs.Reading.{Reading, faulty, done, andThen, need, Request, Item, updatesEndpoint, aloneIn, emptyDraft, elementRead, elementsRead, finished, restoringIn, createsAny, requestOf, topRead, read, askedIn, readRequest, clears, csidIn}
+use Rattle.laws.proofs.CsidLaws.{only-clear}
+use Rattle.laws.proofs.WeightLaws.{Light, light-none, light-next, light-room, light-end}
+use Rattle.plan.specs.Rows.{rowsOf, tagged, rowCsid, isNullRow, requestIn}
+use Rattle.frame.proofs.Walk.{part-from}
+use Rattle.elements.proofs.Front.{Front, el, behind}
+use Rattle.reading.specs.Verdicts.{Outcome, stopped, got, numbered, outcome}
+use Rattle.reading.specs.declared.Verdict.{Verdict}
+use Rattle.reading.specs.declared.Verdict.the-variants as verdict
+use Rattle.reading.proofs.MemberLaws.{stops}
+use Rattle.request.specs.Items.{rowItem, isUpdate, hasRow, met, SeidThere, Means, Read, Steps, Follows, Roomy, Enough, Ended, AllRead, elementAt, planOf, concluded}
+use Rattle.request.specs.Requests as requests
+use Rattle.request.specs.Requests.{Result, refused, whole, resultOf, fromFraming, readingOf, meant, rowsLeft}
+use Rattle.request.specs.declared.Plan.{Plan}
+use Rattle.request.specs.declared.Reading as code
+use Rattle.request.specs.declared.Reading.the-variants as reading
+use Rattle.request.specs.declared.items.Draft.{Draft}
+use Rattle.request.specs.declared.items.Step.{Step}
+use Rattle.request.specs.declared.items.Step.the-variants.{Fault, Next}
+use Rattle.request.proofs.PlanLaws.{no-row, csids-same, nulls-same, restoring-same, request-same}
+
+-- ---- the loop
+
+-- what is left gives the same draft from this one as the whole from the first
+pub record Going (kind : ℕ) (s rest words₀ words nodes : List ℕ) (c : Draft) : Type 0 where
+  pub draft : rules.Draft
+  pub means : Means draft c nodes words
+  pub same : elementsRead kind (aloneIn (elements s)) (elements s) emptyDraft ≡ elementsRead kind (aloneIn (elements s)) (elements rest) draft
+  pub light : Light hasRow (aloneIn (elements s)) s rest draft
+  pub long : length words ≡ length words₀
+  pub wide : length nodes ≡ 16
+
+start-means : (words : List ℕ) → Means emptyDraft (record { rows = 0; seid = 0; flags = 0; noted = false; creates = false }) (replicate 16 0) words
+unfolding any collect createsAny slices keep member
+start-means words = record { seid = refl; seidThere = tt; flags = refl; noted = refl; creates = refl; seen = λ k. none-seen 16 k; rows = refl }
+  where
+    none-seen : (n k : ℕ) → met k (replicate n 0) ≡ false
+    none-seen zero k = refl
+    none-seen (suc n) zero = refl
+    none-seen (suc n) (suc k) = none-seen n k
+
+pub going-none : (kind : ℕ) (s words : List ℕ) → Going kind s s words words (replicate 16 0) (record { rows = 0; seid = 0; flags = 0; noted = false; creates = false })
+going-none kind s words = record { draft = emptyDraft; means = start-means words; same = refl; light = light-none hasRow no-row s; long = refl; wide = refl }
+
+-- as many rows as items that have one
+slices-length : (n : ℕ) (xs : List ℕ) → length (slices 18 n xs) ≡ n
+unfolding slices
+slices-length zero xs = refl
+slices-length (suc n) xs = ap suc (slices-length n (drop 18 xs))
+
+map-length : {A B : Type 0} (f : A → B) (xs : List A) → length (map f xs) ≡ length xs
+map-length f [] = refl
+map-length f (x ∷ xs) = let h = map-length f xs in omega arith
+
+module _ {kind : ℕ} {s rest words₀ words nodes : List ℕ} {c : Draft} (g : Going kind s rest words₀ words nodes c) where
+  rows-are : c .rows ≡ length (keep hasRow (g .draft .items))
+  rows-are = sym (map-length rowItem (slices 18 (c .rows) words) ∙ slices-length (c .rows) words) ∙ ap length (g .means .rows)
+
+  module _ {t e : ℕ} (f : Front rest t e) (enough : Enough kind s words₀) where
+    abbrev v : List ℕ
+    v = take (e - 4) (drop 4 rest)
+
+    pub turn-room : Roomy kind c nodes words
+    turn-room =
+        let few = light-room hasRow no-row (let l = f .low in let h = f .high in omega arith) (enough .short) (g .light) in
+        let n = rows-are in
+        let l = g .long in
+        record { wide = g .wide; row = λ k. let r = enough .row k in omega arith; few = omega arith }
+
+    ahead : elementsRead kind (aloneIn (elements s)) (elements s) emptyDraft ≡ andThen (elementAt kind (aloneIn (elements s)) t v (g .draft)) (elementsRead kind (aloneIn (elements s)) (elements (behind rest e)))
+    unfolding elementsRead
+    ahead = g .same ∙ ap (λ (es : List Element). elementsRead kind (aloneIn (elements s)) es (g .draft)) (f .cons)
+
+    module _ {r : Step} {nodes′ words′ : List ℕ} (step : Follows (elementAt kind (aloneIn (elements s)) t v) c nodes words r nodes′ words′) where
+      pub turn-fault : {n x : ℕ} {exit : List ℕ} → r ≡ Fault n x → AllRead (elementsRead kind (aloneIn (elements s)) (elements s) emptyDraft) r exit
+      turn-fault {n} {x} q =
+          let o = step .follows (g .draft) (g .means) .fault n x q in
+          let all : numbered (elementsRead kind (aloneIn (elements s)) (elements s) emptyDraft) ≡ stopped n x =
+          ap (λ (y : Reading rules.Draft). numbered y) ahead ∙ stops (elementAt kind (aloneIn (elements s)) t v (g .draft)) (elementsRead kind (aloneIn (elements s)) (elements (behind rest e))) o in
+          record { fault = λ m y h. all ∙ same-fault (sym q ∙ h); next = λ d h. no-next (sym q ∙ h) }
+        where
+          same-fault : {m y : ℕ} → Fault n x ≡ Fault m y → _≡_ {A = Outcome rules.Draft} (stopped n x) (stopped m y)
+          same-fault h = cc
+
+          no-next : {d : Draft} {X : Type 0} → Fault n x ≡ Next d → X
+          no-next h = let z : _≡_ {A = ℕ} 0 1 = cc in absurd (omega arith)
+
+      pub turn-next : {b : Draft} → r ≡ Next b → length words′ ≡ length words → length nodes′ ≡ 16 → Going kind s (behind rest e) words₀ words′ nodes′ b
+      turn-next {b} q long wide =
+          let w = step .follows (g .draft) (g .means) .next b q in
+          let l = f .low in
+          let h = f .high in
+          let own : length v ≡ e - 4 = length-take-le (e - 4) (drop 4 rest) (rw length-drop (omega arith)) in
+          let after : length (behind rest e) ≡ length rest - e = ap length (part-from e rest) ∙ length-drop e rest in
+          record {
+            draft = w .draft;
+            means = w .means;
+            same = ahead ∙ ap (λ (x : Reading rules.Draft). andThen x (elementsRead kind (aloneIn (elements s)) (elements (behind rest e)))) (w .is);
+            light = light-next hasRow no-row kind (f .cons) (omega arith) (g .light) (w .is);
+            long = long ∙ g .long;
+            wide = wide;
+          }
+
+  pub turns-end : elements rest ≡ [] → Enough kind s words₀ → AllRead (elementsRead kind (aloneIn (elements s)) (elements s) emptyDraft) (Next c) words
+  unfolding elementsRead
+  turns-end e enough =
+      let whole : elementsRead kind (aloneIn (elements s)) (elements s) emptyDraft ≡ done (g .draft) = g .same ∙ ap (λ (es : List Element). elementsRead kind (aloneIn (elements s)) es (g .draft)) e in
+      let few = light-end hasRow no-row (enough .short) (g .light) in
+      let n = rows-are in
+      let ended : Ended (elementsRead kind (aloneIn (elements s)) (elements s) emptyDraft) c words = record { nodes = nodes; read = record { draft = g .draft; is = whole; means = g .means }; few = omega arith } in
+      record { fault = λ m x h. no-fault h; next = λ b h. subst (λ (k : Draft). Ended (elementsRead kind (aloneIn (elements s)) (elements s) emptyDraft) k words) (same-draft h) ended }
+    where
+      no-fault : {m x : ℕ} {X : Type 0} → Next c ≡ Fault m x → X
+      no-fault h = let z : _≡_ {A = ℕ} 0 1 = cc in absurd (omega arith)
+
+      same-draft : {b : Draft} → Next c ≡ Next b → c ≡ b
+      same-draft h = cc
+
+-- ---- the end of a message
+
+module _ {d : rules.Draft} {c : Draft} {nodes words : List ℕ} (m : Means d c nodes words) where
+  pub concluded-same : (kind : ℕ) → meant (concluded kind c) words ≡ resultOf (finished kind d)
+  unfolding concluded finished causeOf
+  concluded-same kind = go (eqb kind 50)
+    where
+      by-seid : (o : Option ℕ) → valueOr 0 o ≡ c .seid → SeidThere o
+          → meant (pick (eqb (c .seid) 0) (reading.Fault 66 57) (reading.Whole (planOf c (c .seid)))) words ≡ resultOf (need missing 57 o (λ n. done (requestOf n d)))
+      by-seid none e t = rw (sym e)
+      by-seid (some n) e t = rw (← e, ne-eqb n 0 t) (ap whole (request-same m n))
+
+      go : (b : Bool) → meant (pick b (pick (eqb (c .flags) 2 || c .creates) (pick (eqb (c .seid) 0) (reading.Fault 66 57) (reading.Whole (planOf c (c .seid)))) (reading.Fault 66 1)) (reading.Whole (planOf c 0))) words
+          ≡ resultOf (pick b (pick (restoringIn d || createsAny (d .items)) (need missing 57 (d .seid) (λ n. done (requestOf n d))) (rules.refusal missing 1)) (done (requestOf 0 d)))
+      go false = ap whole (request-same m 0)
+      go true = ap₂ (λ (x y : Bool). meant (pick (x || y) (pick (eqb (c .seid) 0) (reading.Fault 66 57) (reading.Whole (planOf c (c .seid)))) (reading.Fault 66 1)) words) (restoring-same m) (m .creates) ∙ by-test (restoringIn d || createsAny (d .items))
+        where
+          by-test : (x : Bool) → meant (pick x (pick (eqb (c .seid) 0) (reading.Fault 66 57) (reading.Whole (planOf c (c .seid)))) (reading.Fault 66 1)) words
+              ≡ resultOf (pick x (need missing 57 (d .seid) (λ n. done (requestOf n d))) (rules.refusal missing 1))
+          by-test true = by-seid (d .seid) (sym (m .seid)) (m .seidThere)
+          by-test false = unfold causeOf in refl
+
+lacks-yes : (x : Bool) → true ≡ not x → x ≡ false
+lacks-yes true h = let z : _≡_ {A = ℕ} 0 1 = cc in absurd (omega arith)
+lacks-yes false h = refl
+
+lacks-no : (x : Bool) → false ≡ not x → x ≡ true
+lacks-no true h = refl
+lacks-no false h = let z : _≡_ {A = ℕ} 0 1 = cc in absurd (omega arith)
+
+-- the cases of a message's end
+module _ (c : Draft) (kind : ℕ) where
+  pub end-other : {p : Plan} → (kind ≡ 50 → ⊥) → p ≡ planOf c 0 → reading.Whole p ≡ concluded kind c
+  unfolding concluded
+  end-other h e = rw e (sym (rw (ne-eqb kind 50 h)))
+
+  module _ (first : kind ≡ 50) where
+    pub end-no-pdr : true ≡ not (eqb (c .flags) 2 || c .creates) → reading.Fault 66 1 ≡ concluded kind c
+    unfolding concluded
+    end-no-pdr h = sym (rw (first, lacks-yes (eqb (c .flags) 2 || c .creates) h))
+
+    module _ (some-pdr : false ≡ not (eqb (c .flags) 2 || c .creates)) where
+      pub end-no-seid : c .seid ≡ 0 → reading.Fault 66 57 ≡ concluded kind c
+      unfolding concluded
+      end-no-seid h = sym (rw (first, lacks-no (eqb (c .flags) 2 || c .creates) some-pdr, h))
+
+      pub end-whole : {p : Plan} → (c .seid ≡ 0 → ⊥) → p ≡ planOf c (c .seid) → reading.Whole p ≡ concluded kind c
+      unfolding concluded
+      end-whole h e = rw e (sym (rw (first, lacks-no (eqb (c .flags) 2 || c .creates) some-pdr, ne-eqb (c .seid) 0 h)))

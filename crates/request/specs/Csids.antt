@@ -1,0 +1,47 @@
+-- The words that hold an FQ-CSID, in the rules' terms.
+-- Assumes nothing.
+use Prim.Native.Nat.{ℕ}
+use mathlib.Core.Bool.{Bool, _||_}
+use mathlib.Core.List.{List, [], _∷_}
+use lib.Dec.{eqb}
+use Rattle.octets.specs.Choice.{pick}
+use Rattle.rules.specs.Types as ie
+use Rattle.rules.specs.Elements.{causeOf}
+use Rattle.rules.specs.Message.{modification, deletion}
+use Rattle.element.specs.Answers.{refusalOf}
+use Rattle.element.specs.declared.fqcsid.FqCsid.{FqCsid}
+use Rattle.element.specs.declared.fqcsid.Answer as answer
+use Rattle.element.specs.declared.fqcsid.Answer.the-variants as answer-case
+use Rattle.element.specs.declared.fseid.Answer as seid
+use Rattle.element.specs.declared.fseid.Answer.the-variants as seid-case
+use Rattle.request.specs.declared.items.Draft.{Draft}
+use Rattle.request.specs.declared.items.Step.{Step}
+use Rattle.request.specs.declared.items.Step.the-variants.{Fault, Next}
+use Rattle.request.specs.declared.row.Csid.{Csid}
+
+-- m CSIDs: m = 0 is the removal
+unfoldable pub countIn : ℕ → ℕ → Bool
+countIn kind m = pick (eqb m 0) (eqb kind modification) (eqb m 1 || eqb kind deletion)
+
+-- an FQ-CSID without an address and a CSID
+abbrev pub bareCsid : ℕ → ℕ → Csid
+bareCsid s n = record { state = s; node = n; «id_type» = 0; high = 0; low = 0; csid = 0 }
+
+-- the row of an FQ-CSID
+abbrev pub csidWords : Csid → List ℕ
+csidWords x = 65 ∷ x .state ∷ 0 ∷ 0 ∷ 0 ∷ 0 ∷ 0 ∷ x .node ∷ x .«id_type» ∷ x .high ∷ x .low ∷ x .csid ∷ 0 ∷ 0 ∷ 0 ∷ 0 ∷ 0 ∷ 0 ∷ []
+
+-- the words of a value with one CSID at most
+unfoldable pub csidFrom : FqCsid → Csid
+csidFrom x =
+    pick (eqb (x .count) 0) (bareCsid 2 (x .«node_type»))
+    (record { state = 1; node = x .«node_type»; «id_type» = x .«id_type»; high = x .«address_high»; low = x .«address_low»; csid = x .«csids_1» })
+
+-- what a reader's refusal leads to, else the draft as it was
+abbrev pub csidRefusal : Draft → answer.Answer → Step
+csidRefusal d (answer-case.Value x) = Next d
+csidRefusal d (answer-case.Refused r) = Fault (causeOf (refusalOf r)) ie.fqcsid
+
+abbrev pub seidRefusal : Draft → seid.Answer → Step
+seidRefusal d (seid-case.Value n) = Next d
+seidRefusal d (seid-case.Refused r) = Fault (causeOf (refusalOf r)) ie.fseid
