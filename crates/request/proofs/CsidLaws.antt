@@ -3,7 +3,7 @@ use mathlib.Core.Path.{_≡_, refl, sym, ap, subst, _∙_}
 use Prim.Native.Nat.{ℕ, zero, suc, _+_, _^_, _<_}
 use native.Mathlib.Omega.{arith}
 use mathlib.Core.Bool.{Bool, true, false, _||_}
-use mathlib.Core.Option.{Option, none, some}
+use mathlib.Core.Option.{none, some}
 use mathlib.Core.List.{List, [], _∷_, _++_, map}
 use lib.ListN.{length}
 use lib.Dec.{T, ltb, eqb, ltb→lt}
@@ -14,7 +14,7 @@ use Rattle.octets.specs.Fields.{fit, fieldOctets}
 use Rattle.octets.proofs.Tests.{and-left, each}
 use Rattle.octets.proofs.Numbers.{number-be}
 use Rattle.rules.specs.Elements.{Fqcsid, sets, removal, csidsAt, csidFields, nodeOf}
-use Rattle.rules.specs.Reading.{Item, setsCsid, clearsCsids, csidCountAllowed}
+use Rattle.rules.specs.Reading.{setsCsid, clearsCsids, csidCountAllowed}
 use Rattle.plan.specs.Rows.{rowAddress}
 use Rattle.element.specs.FqCsid.{addressWidths, csidWidths, csidNumbers, addressIn, fqcsidTests, fqcsidMeant, fqcsidOf}
 use Rattle.element.specs.declared.fqcsid.FqCsid.{FqCsid}

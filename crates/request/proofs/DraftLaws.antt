@@ -4,24 +4,22 @@ use Prim.Native.Nat.{ℕ, zero, suc, _+_, _-_, _*_, _≤_, _<_}
 use native.Mathlib.Nat.{zero-add, suc-add}
 use native.Mathlib.Numerals.{add-one}
 use native.Mathlib.Omega.{arith}
-use mathlib.Core.Bool.{Bool, true, false, not, _&&_, _||_}
+use mathlib.Core.Bool.{Bool, true, false, not, _||_}
 use mathlib.Core.Option.{Option, none, some}
 use mathlib.Core.List.{List, [], _∷_, _++_, append-nil, map}
-use lib.ListN.{length, set, getD, take, drop, length-drop}
+use lib.ListN.{length, set, take, drop, length-drop}
 use lib.Seq.{getD-set-same, getD-set-other, take-at, take-append-le, drop-append-le, take-take, drop-drop, length-take-le}
 use lib.Dec.{eqb}
-use borrow.Author.Tests.{eq-eqb, ne-eqb, eqb-true, eqb-false}
+use borrow.Author.Tests.{eq-eqb, eqb-true, eqb-false}
 use Rattle.octets.specs.Choice.{pick, consOption, isSome, isNil}
 use Rattle.octets.specs.Octets.{put, slices}
 use Rattle.octets.specs.Lists.{member, any, keep, collect}
 use Rattle.octets.proofs.ListLaws.{collect-append, map-append}
 use Rattle.rules.specs.Reading as rules
-use Rattle.rules.specs.Reading.{Item, createsPdr, createsEndpoint, updatesPdr, removesPdr, removesEndpoint, setsCsid, clearsCsids, updatesEndpoint, Reading, done, faulty, NewPdr, withItem, withNode, pdrIn, createsAny}
-use Rattle.plan.specs.Rows.{rowsOf}
-use Rattle.reading.specs.Verdicts.{Outcome, stopped, got, numbered}
+use Rattle.rules.specs.Reading.{Item, updatesEndpoint, Reading, done, NewPdr, withItem, withNode, pdrIn, createsAny}
+use Rattle.reading.specs.Verdicts.{Outcome, stopped, numbered}
 use Rattle.request.specs.Items.{rowItem, isUpdate, hasRow, met, Means, Read, Steps, withNote, withRow}
 use Rattle.request.specs.declared.items.Draft.{Draft}
-use Rattle.request.specs.declared.items.Step.{Step}
 use Rattle.request.specs.declared.items.Step.the-variants.{Fault, Next}
 
 -- ---- steps

@@ -1,6 +1,9 @@
 pub mod PlanLaws
 pub mod DraftLaws
 pub mod CsidLaws
-pub mod StepLaws
+pub mod HeadSteps
+pub mod GroupSteps
+pub mod CsidSteps
+pub mod ElementSteps
 pub mod TurnLaws
 pub mod ReadingLaws

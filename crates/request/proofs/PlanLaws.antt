@@ -3,16 +3,16 @@ use mathlib.Core.Path.{_≡_, refl, sym, ap, ap₂, subst, _∙_}
 use Prim.Native.Nat.{ℕ, zero, suc}
 use native.Mathlib.Omega.{arith}
 use mathlib.Core.Logic.{_⊎_, inl, inr}
-use mathlib.Core.Bool.{Bool, true, false, not, _&&_, _||_}
+use mathlib.Core.Bool.{Bool, true, false, _&&_, _||_}
 use mathlib.Core.Option.{Option, none, some}
 use mathlib.Core.List.{List, [], _∷_, map}
 use lib.Dec.{eqb}
 use borrow.Author.Tests.{ne-eqb, eqb-true, eqb-false}
-use Rattle.octets.specs.Choice.{pick, valueOr, consOption, flag}
+use Rattle.octets.specs.Choice.{pick, valueOr, consOption}
 use Rattle.octets.specs.Lists.{any, keep, collect}
 use Rattle.octets.proofs.Tests.{pick-either}
 use Rattle.rules.specs.Reading as rules
-use Rattle.rules.specs.Reading.{Item, createsPdr, createsEndpoint, updatesPdr, removesPdr, removesEndpoint, setsCsid, clearsCsids, updatesEndpoint, cleared, changed, CsidChanges, Request, NewPdr, NewEndpoint, Change, pdrIn, endpointIn, changeIn, gonePdrIn, goneEndpointIn, csidIn, clears, isUnsupported, restoringIn, requestOf}
+use Rattle.rules.specs.Reading.{Item, createsPdr, createsEndpoint, updatesPdr, removesPdr, removesEndpoint, setsCsid, clearsCsids, updatesEndpoint, cleared, changed, pdrIn, endpointIn, changeIn, gonePdrIn, goneEndpointIn, csidIn, clears, isUnsupported, restoringIn, requestOf}
 use Rattle.rules.specs.Elements.{Fqcsid, sets, removal}
 use Rattle.plan.specs.Rows.{word, hasTag, tagged, rowsOf, rowPdr, rowEndpoint, rowChange, rowPdi, rowPdrId, rowEndpointId, rowAddress, rowCsid, isNullRow, requestIn}
 use Rattle.request.specs.Items.{csidItem, itemOf, rowItem, isUpdate, hasRow, flagsOf, Means}

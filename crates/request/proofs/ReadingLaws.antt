@@ -1,32 +1,29 @@
 -- What reading a request gives, by the answers of stages 2 and 3. Assumes nothing.
 use mathlib.Core.Path.{_≡_, refl, sym, ap, ap₂, subst, _∙_}
-use Prim.Native.Nat.{ℕ, _+_, _-_, _*_, _≤_}
+use Prim.Native.Nat.{ℕ, _-_, _≤_}
 use native.Mathlib.Omega.{arith}
 use mathlib.Core.Bool.{Bool, true, false, _||_}
-use mathlib.Core.Option.{Option, none, some}
+use mathlib.Core.Option.{none}
 use mathlib.Core.Logic.{_⊎_, inl, inr}
-use mathlib.Core.List.{List, [], _∷_}
+use mathlib.Core.List.{List, []}
 use lib.ListN.{length, take, drop, length-drop}
 use lib.Dec.{eqb}
-use borrow.Author.Tests.{ne-eqb}
 use Rattle.octets.specs.Choice.{pick}
-use Rattle.octets.specs.Octets.{number, part, octetAt, slices}
+use Rattle.octets.specs.Octets.{slices}
 use Rattle.octets.specs.Lists.{any, keep, collect}
-use Rattle.rules.specs.Elements.{causeOf}
 use Rattle.rules.specs.Message.{elements, body, kindOf, frameFault}
 use Rattle.rules.specs.Reading as rules
-use Rattle.rules.specs.Reading.{Reading, faulty, done, andThen, Request, aloneIn, emptyDraft, elementsRead, finished, requestOf, topRead, read, askedIn, readRequest, clears, csidIn}
+use Rattle.rules.specs.Reading.{Reading, faulty, done, andThen, Request, aloneIn, emptyDraft, elementsRead, finished, requestOf, topRead, read, askedIn, readRequest}
 use Rattle.laws.proofs.CsidLaws.{only-clear}
 use Rattle.plan.specs.Rows.{rowsOf, tagged, rowCsid, isNullRow}
 use Rattle.frame.proofs.Walk.{part-from}
 use Rattle.frame.specs.Framed.{faultIn}
 use Rattle.frame.specs.declared.Framing.{Framing}
 use Rattle.frame.specs.declared.Framing.the-variants as framing
-use Rattle.reading.specs.Verdicts.{Outcome, stopped, got, numbered, outcome}
-use Rattle.reading.specs.declared.Verdict.{Verdict}
+use Rattle.reading.specs.Verdicts.{stopped, got, numbered, outcome}
 use Rattle.reading.specs.declared.Verdict.the-variants as verdict
-use Rattle.request.specs.Items.{Means, Enough, Ended, AllRead, planOf, concluded}
-use Rattle.request.specs.Requests.{Result, refused, whole, resultOf, fromFraming, readingOf, meant, rowsLeft, Read}
+use Rattle.request.specs.Items.{Enough, AllRead, planOf, concluded}
+use Rattle.request.specs.Requests.{refused, resultOf, fromFraming, readingOf, meant, rowsLeft, Read}
 use Rattle.request.specs.declared.Reading as code
 use Rattle.request.specs.declared.Reading.the-variants as reading
 use Rattle.request.specs.declared.items.Draft.{Draft}

@@ -1,40 +1,34 @@
 -- The elements of a message in turn: a turn of the loop, and the plan at its end. Assumes nothing.
 use mathlib.Core.Path.{_≡_, refl, sym, ap, ap₂, subst, _∙_}
-use Prim.Native.Nat.{ℕ, zero, suc, _+_, _-_, _*_, _≤_}
+use Prim.Native.Nat.{ℕ, zero, suc, _-_}
 use native.Mathlib.Omega.{arith}
 use mathlib.Core.Bool.{Bool, true, false, not, _||_}
 use mathlib.Core.Option.{Option, none, some}
 use mathlib.Core.List.{List, [], _∷_, map}
-use lib.ListN.{length, take, drop, getD, replicate, length-drop}
+use lib.ListN.{length, take, drop, replicate, length-drop}
 use lib.Seq.{length-take-le}
 use lib.Dec.{eqb}
-use borrow.Author.Tests.{eq-eqb, ne-eqb}
+use borrow.Author.Tests.{ne-eqb}
 use Rattle.octets.specs.Choice.{pick, valueOr}
 use Rattle.octets.specs.Octets.{slices}
 use Rattle.octets.specs.Lists.{member, any, keep, collect}
 use Rattle.rules.specs.Elements.{causeOf, missing}
-use Rattle.rules.specs.Message.{Element, elements, body, kindOf, frameFault}
+use Rattle.rules.specs.Message.{Element, elements}
 use Rattle.rules.specs.Reading as rules
-use Rattle.rules.specs.Reading.{Reading, faulty, done, andThen, need, Request, Item, updatesEndpoint, aloneIn, emptyDraft, elementRead, elementsRead, finished, restoringIn, createsAny, requestOf, topRead, read, askedIn, readRequest, clears, csidIn}
-use Rattle.laws.proofs.CsidLaws.{only-clear}
+use Rattle.rules.specs.Reading.{Reading, done, andThen, need, aloneIn, emptyDraft, elementsRead, finished, restoringIn, createsAny, requestOf, read}
 use Rattle.laws.proofs.WeightLaws.{Light, light-none, light-next, light-room, light-end}
-use Rattle.plan.specs.Rows.{rowsOf, tagged, rowCsid, isNullRow, requestIn}
 use Rattle.frame.proofs.Walk.{part-from}
-use Rattle.elements.proofs.Front.{Front, el, behind}
-use Rattle.reading.specs.Verdicts.{Outcome, stopped, got, numbered, outcome}
-use Rattle.reading.specs.declared.Verdict.{Verdict}
-use Rattle.reading.specs.declared.Verdict.the-variants as verdict
+use Rattle.elements.proofs.Front.{Front, behind}
+use Rattle.reading.specs.Verdicts.{Outcome, stopped, numbered}
 use Rattle.reading.proofs.MemberLaws.{stops}
-use Rattle.request.specs.Items.{rowItem, isUpdate, hasRow, met, SeidThere, Means, Read, Steps, Follows, Roomy, Enough, Ended, AllRead, elementAt, planOf, concluded}
-use Rattle.request.specs.Requests as requests
-use Rattle.request.specs.Requests.{Result, refused, whole, resultOf, fromFraming, readingOf, meant, rowsLeft}
+use Rattle.request.specs.Items.{rowItem, hasRow, met, SeidThere, Means, Follows, Roomy, Enough, Ended, AllRead, elementAt, planOf, concluded}
+use Rattle.request.specs.Requests.{whole, resultOf, meant}
 use Rattle.request.specs.declared.Plan.{Plan}
-use Rattle.request.specs.declared.Reading as code
 use Rattle.request.specs.declared.Reading.the-variants as reading
 use Rattle.request.specs.declared.items.Draft.{Draft}
 use Rattle.request.specs.declared.items.Step.{Step}
 use Rattle.request.specs.declared.items.Step.the-variants.{Fault, Next}
-use Rattle.request.proofs.PlanLaws.{no-row, csids-same, nulls-same, restoring-same, request-same}
+use Rattle.request.proofs.PlanLaws.{no-row, restoring-same, request-same}
 
 -- ---- the loop
 

@@ -12,7 +12,6 @@ use Rattle.rules.specs.Message.{frameFault}
 use Rattle.rules.specs.Reading as rules
 use Rattle.rules.specs.Reading.{Request, faulty, done, read}
 use Rattle.plan.specs.Rows.{rowWidth, rowsOf, tagged, rowCsid, isNullRow, requestIn}
-use Rattle.request.specs.declared.Plan.{Plan}
 use Rattle.request.specs.declared.Reading.{Reading}
 use Rattle.request.specs.declared.Reading.the-variants as reading
 

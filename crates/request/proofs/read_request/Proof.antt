@@ -1,5 +1,5 @@
 -- `read_request` meets its contract. Assumes nothing.
-use mathlib.Core.Path.{sym, subst, _∙_}
+use mathlib.Core.Path.{sym, subst}
 use Prim.Native.Nat.{ℕ, _≤_}
 use Rattle.frame.proofs.HeaderLaws.{read-kind}
 use Rattle.request.proofs.ReadingLaws.{message-room, not-framed, read-refused, read-whole}

@@ -1,20 +1,19 @@
 -- The proof of the cycle of calls {read_group}. The measure: a Create PDR, in which PDIs are read, and any other group. The loop's
 -- invariant: what is left gives the same outcome from this row as the whole from the first. Assumes nothing.
 use Prim.Native.Nat.{ℕ, _-_, _<_}
-use mathlib.Core.Path.{_≡_, refl, ap, subst, sym, _∙_}
+use mathlib.Core.Path.{refl, ap, subst, sym, _∙_}
 use mathlib.Core.Logic.{⊎-elim}
 use mathlib.Core.List.{List}
 use native.Mathlib.Omega.{arith}
-use lib.ListN.{length, take, drop}
+use lib.ListN.{length}
 use lib.Dec.{eqb}
 use borrow.Author.Needs.{needs}
 use borrow.Fn.Kinds.{In}
 use borrow.Fn.PlainCycle.{Measures, is, falls, and}
 use Rattle.octets.specs.Choice.{flag}
-use Rattle.rules.specs.Message.{elements}
 use Rattle.elements.proofs.Front.{Front, front, none-left, behind}
 use Rattle.reading.proofs.Places.{pdi-in-create}
-use Rattle.reading.proofs.MemberLaws.{Going, turn-refused, turn-shut, turn-inside, turn-open, turns-done}
+use Rattle.reading.proofs.GroupLaws.{Going, turn-refused, turn-shut, turn-inside, turn-open, turns-done}
 use Rattle.reading.proofs.members.read_group.Reads as reads
 use Rattle.reading.proofs.members.read_group.Kinds as kinds
 use Rattle.reading.proofs.members.+read_group.Lts-read_group as lts

@@ -1,5 +1,5 @@
 -- `column_of` meets its contract. Assumes nothing.
-use mathlib.Core.Path.{_≡_, sym, _∙_}
+use mathlib.Core.Path.{sym}
 use native.Mathlib.Omega.{arith}
 use Rattle.reading.specs.Rows.{column}
 use Rattle.reading.proofs.RowLaws.{column-none}

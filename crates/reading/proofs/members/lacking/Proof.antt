@@ -1,6 +1,6 @@
 -- `lacking` meets its contract: each arm has the types that its group requires, in order. Assumes nothing.
 use borrow.Author.Needs.{needs}
-use Rattle.reading.proofs.MemberLaws.{ends-pdi, ends-create, ends-endpoint, ends-pdr, ends-other}
+use Rattle.reading.proofs.GroupLaws.{ends-pdi, ends-create, ends-endpoint, ends-pdr, ends-other}
 use Rattle.reading.proofs.members.lacking.Statement.{statement}
 use Rattle.reading.proofs.members.lacking.Tie as tie
 

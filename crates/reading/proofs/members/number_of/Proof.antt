@@ -1,6 +1,5 @@
 -- `number_of` meets its contract. Assumes nothing.
 use native.Mathlib.Omega.{arith}
-use borrow.Author.Needs.{needs}
 use Rattle.reading.proofs.MemberLaws.{width-fits, number-source, number-other}
 use Rattle.reading.proofs.members.number_of.Statement.{statement}
 use Rattle.reading.proofs.members.number_of.Tie as tie

@@ -1,7 +1,7 @@
 -- `require` meets its contract. Assumes nothing.
 use native.Mathlib.Omega.{arith}
 use borrow.Author.Needs.{needs}
-use mathlib.Core.Path.{sym, ap, _∙_}
+use mathlib.Core.Path.{sym}
 use borrow.Author.Tests.{ne-eqb}
 use Rattle.reading.proofs.members.require.Statement.{statement}
 use Rattle.reading.proofs.members.require.Tie as tie

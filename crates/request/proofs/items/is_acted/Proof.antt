@@ -3,7 +3,7 @@ use mathlib.Core.List.{[], _∷_}
 use Rattle.octets.specs.Lists.{allIn, member}
 use Rattle.frame.proofs.Among.{among-yes, among-no}
 use Rattle.reading.proofs.Places.{in-place, keys-in, keys-out, keys-out-2}
-use Rattle.request.proofs.StepLaws.{in-establishment, in-modification, in-deletion}
+use Rattle.request.proofs.ElementSteps.{in-establishment, in-modification, in-deletion}
 use Rattle.request.proofs.items.is_acted.Statement.{statement}
 use Rattle.request.proofs.items.is_acted.Tie as tie
 

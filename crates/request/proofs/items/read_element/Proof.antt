@@ -3,7 +3,7 @@ use mathlib.Core.Path.{sym, _∙_}
 use borrow.Author.Tests.{not-true, not-false}
 use Rattle.rules.specs.Message.{elements}
 use Rattle.rules.specs.Reading.{aloneIn}
-use Rattle.request.proofs.StepLaws.{element-skipped, element-seid, element-flags, element-csid, element-note, acted-group, acted-rows, element-group}
+use Rattle.request.proofs.ElementSteps.{element-skipped, element-seid, element-flags, element-csid, element-note, acted-group, acted-rows, element-group}
 use borrow.Author.Needs.{needs}
 use Rattle.request.proofs.items.read_element.Statement.{statement}
 use Rattle.request.proofs.items.read_element.Tie as tie

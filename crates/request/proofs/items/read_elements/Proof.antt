@@ -1,5 +1,5 @@
 -- `read_elements` meets its contract. The invariant: what is left gives the same draft from this one as the whole from the first. Assumes nothing.
-use mathlib.Core.Path.{refl, sym, ap, _∙_}
+use mathlib.Core.Path.{sym, _∙_}
 use native.Mathlib.Omega.{arith}
 use lib.ListN.{length}
 use borrow.Author.Needs.{needs}

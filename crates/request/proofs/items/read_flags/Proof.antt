@@ -1,5 +1,5 @@
 -- `read_flags` meets its contract. Assumes nothing.
-use Rattle.request.proofs.StepLaws.{flags-repeat, flags-short, flags-value}
+use Rattle.request.proofs.HeadSteps.{flags-repeat, flags-short, flags-value}
 use borrow.Author.Needs.{needs}
 use Rattle.request.proofs.items.read_flags.Statement.{statement}
 use Rattle.request.proofs.items.read_flags.Tie as tie

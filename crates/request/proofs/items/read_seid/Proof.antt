@@ -2,7 +2,7 @@
 use mathlib.Core.Path.{sym, ap, _∙_}
 use Rattle.element.specs.FSeid.{answerOf}
 use Rattle.request.specs.Csids.{seidRefusal}
-use Rattle.request.proofs.StepLaws.{seid-repeat, seid-refused, seid-value}
+use Rattle.request.proofs.HeadSteps.{seid-repeat, seid-refused, seid-value}
 use borrow.Author.Needs.{needs}
 use Rattle.request.proofs.items.read_seid.Statement.{statement}
 use Rattle.request.proofs.items.read_seid.Tie as tie

@@ -1,5 +1,5 @@
 -- `is_clearing` meets its contract. Assumes nothing.
-use Rattle.request.proofs.StepLaws.{clear-long, clear-other, clear-alone}
+use Rattle.request.proofs.CsidSteps.{clear-long, clear-other, clear-alone}
 use borrow.Author.Needs.{needs}
 use Rattle.request.proofs.row.is_clearing.Statement.{statement}
 use Rattle.request.proofs.row.is_clearing.Tie as tie

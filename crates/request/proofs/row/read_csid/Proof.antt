@@ -1,13 +1,12 @@
 -- `read_csid` meets its contract. Assumes nothing.
 use mathlib.Core.Path.{sym, ap, _∙_}
 use native.Mathlib.Omega.{arith}
-use lib.ListN.{length-set}
 use borrow.Author.Tests.{ne-eqb, not-true, not-false}
 use Rattle.rules.specs.Message.{elements}
 use Rattle.rules.specs.Reading.{aloneIn}
 use Rattle.element.specs.FqCsid.{answerOf}
 use Rattle.request.specs.Csids.{csidRefusal}
-use Rattle.request.proofs.StepLaws.{clearing-change, csid-clears, csid-refused, node-small, csid-count, csid-repeat, csid-checked, csid-taken}
+use Rattle.request.proofs.CsidSteps.{clearing-change, csid-clears, csid-refused, node-small, csid-count, csid-repeat, csid-checked, csid-taken}
 use borrow.Author.Needs.{needs}
 use Rattle.request.proofs.row.read_csid.Statement.{statement}
 use Rattle.request.proofs.row.read_csid.Tie as tie

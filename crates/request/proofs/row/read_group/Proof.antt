@@ -1,9 +1,9 @@
 -- `read_group` meets its contract. Assumes nothing.
-use mathlib.Core.Path.{sym, ap, _∙_}
+use mathlib.Core.Path.{ap, _∙_}
 use native.Mathlib.Omega.{arith}
 use lib.ListN.{length-set}
 use Rattle.request.specs.Items.{verdictStep}
-use Rattle.request.proofs.StepLaws.{tidy-start, group-refused, group-taken}
+use Rattle.request.proofs.GroupSteps.{tidy-start, group-refused, group-taken}
 use borrow.Author.Needs.{needs}
 use Rattle.request.proofs.row.read_group.Statement.{statement}
 use Rattle.request.proofs.row.read_group.Tie as tie

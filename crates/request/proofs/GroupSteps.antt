@@ -1,0 +1,182 @@
+-- A group of a message, read into its row: what the code does with it is the rules' step. Assumes nothing.
+use mathlib.Core.Path.{_≡_, refl, sym, ap, subst, _∙_}
+use mathlib.Core.Logic.{inl, inr}
+use Prim.Native.Nat.{ℕ, zero, suc, _+_, _*_, _≤_, zero-le}
+use native.Mathlib.Omega.{arith}
+use mathlib.Core.Bool.{Bool, true, false}
+use mathlib.Core.Option.{Option, none, some}
+use mathlib.Core.List.{List, [], _∷_}
+use lib.ListN.{length, set, replicate, length-set}
+use lib.Dec.{eqb}
+use borrow.Author.Tests.{ne-eqb}
+use Rattle.octets.specs.Choice.{pick, bindOption, isSome}
+use Rattle.octets.specs.Octets.{put}
+use Rattle.octets.specs.Lists.{member}
+use Rattle.octets.proofs.Tests.{of-true}
+use Rattle.rules.specs.Elements.{missing, conditional}
+use Rattle.rules.specs.Message.{elements}
+use Rattle.rules.specs.Reading as rules
+use Rattle.rules.specs.Reading.{Item, createsPdr, createsEndpoint, updatesPdr, removesPdr, removesEndpoint, Reading, faulty, done, refusal, andThen, need, Members, noMembers, withItem, membersRead, pdiRead, pdrFrom, endpointFrom, changeFrom, itemFrom, groupRead, pdrIn}
+use Rattle.plan.specs.Rows.{word, rowPdr, rowEndpoint, rowChange, rowLocal, rowFteid, rowFar, rowAddress, present}
+use Rattle.frame.proofs.Among.{OneOf}
+use Rattle.reading.specs.declared.Verdict.{Verdict}
+use Rattle.reading.specs.declared.Verdict.the-variants as verdict
+use Rattle.reading.specs.Verdicts.{stopped, numbered, outcome}
+use Rattle.reading.specs.Rows.{rowMembers, Tidy, Reads, closing, closedRead}
+use Rattle.reading.proofs.MemberLaws.{stops, is-done}
+use Rattle.reading.proofs.Places.{one-of}
+use Rattle.reading.proofs.RowLaws.{apart}
+use Rattle.request.specs.Items.{csidItem, itemOf, rowItem, isUpdate, hasRow, Puts, withRow, groupTypes, groupAt}
+use Rattle.request.specs.declared.items.Draft.{Draft}
+use Rattle.request.specs.declared.items.Step.{Step}
+use Rattle.request.specs.declared.items.Step.the-variants.{Fault, Next}
+use Rattle.request.proofs.DraftLaws.{step-fault, went, row-added}
+
+-- ---- groups
+
+-- a group's end is that of its item
+module _ (t : ℕ) (k : member t groupTypes ≡ true) where
+  by-group : (P : ℕ → Type 0) → P 1 → P 127 → P 9 → P 15 → P 130 → P t
+  by-group P a b c d e = go (one-of t 1 (127 ∷ 9 ∷ 15 ∷ 130 ∷ []) (of-true k))
+    where
+      go : OneOf t 1 (127 ∷ 9 ∷ 15 ∷ 130 ∷ []) → P t
+      go (inl q) = subst P (sym q) a
+      go (inr (inl q)) = subst P (sym q) b
+      go (inr (inr (inl q))) = subst P (sym q) c
+      go (inr (inr (inr (inl q)))) = subst P (sym q) d
+      go (inr (inr (inr (inr q)))) = subst P (sym q) e
+
+  closing-is : (m : Members) → closing t m ≡ andThen (itemFrom t m) (λ i. done m)
+  unfolding closing
+  closing-is m = by-group (λ t. closing t m ≡ andThen (itemFrom t m) (λ i. done m)) refl refl refl refl refl
+
+  then-fault : {A B : Type 0} (x : Reading A) (b : B) {c n : ℕ} → numbered (andThen x (λ i. done b)) ≡ stopped c n → numbered x ≡ stopped c n
+  then-fault (faulty f) b h = cc
+  then-fault (done a) b h = let z : _≡_ {A = ℕ} 0 1 = cc in absurd (omega arith)
+
+  group-fault : (v : List ℕ) {c n : ℕ} → numbered (closedRead t (elements v) noMembers) ≡ stopped c n → numbered (groupRead t v) ≡ stopped c n
+  unfolding closedRead groupRead
+  group-fault v {c} {n} h = go (membersRead pdiRead t (elements v) noMembers) h
+    where
+      go : (x : Reading Members) → numbered (andThen x (closing t)) ≡ stopped c n → numbered (andThen x (itemFrom t)) ≡ stopped c n
+      go (faulty f) e = cc
+      go (done m) e = then-fault (itemFrom t m) m (ap (λ (y : Reading Members). numbered y) (sym (closing-is m)) ∙ e)
+
+-- the item that a row makes
+module _ (row : List ℕ) where
+  far-same : bindOption (rowFar row) (λ f. f) ≡ present (word 3 row) (word 9 row)
+  unfolding rowFar present
+  far-same = go (word 3 row)
+    where
+      go : (n : ℕ) → bindOption (pick (eqb n 2) (some none) (pick (eqb n 1) (some (some (word 9 row))) none)) (λ f. f) ≡ pick (eqb n 1) (some (word 9 row)) none
+      go zero = refl
+      go (suc zero) = refl
+      go (suc (suc zero)) = refl
+      go (suc (suc (suc n))) = rw (ne-eqb (suc (suc (suc n))) 2 (λ h. absurd (omega arith)), ne-eqb (suc (suc (suc n))) 1 (λ h. absurd (omega arith)))
+
+  abbrev made : ℕ → ℕ → ℕ → Item
+  made n k s = createsPdr (record { id = k; precedence = n; far = bindOption (rowFar row) (λ f. f); source = s; local = rowLocal row; endpoint = present (word 5 row) (word 11 row) })
+
+  pdr-is : (i : Item) → pdrFrom (rowMembers row) ≡ done i → i ≡ createsPdr (rowPdr row)
+  unfolding pdrFrom rowMembers present rowPdr
+  pdr-is i h =
+      go (eqb (word 6 row) 1) (eqb (word 2 row) 1) (eqb (word 1 row) 1) (eqb (word 4 row) 1) h
+      ∙ ap (λ (f : Option ℕ). createsPdr (record { id = word 7 row; precedence = word 8 row; far = f; source = word 10 row; local = rowLocal row; endpoint = present (word 5 row) (word 11 row) })) far-same
+    where
+      never : {X : Type 0} {f : rules.Fault} → faulty f ≡ done i → X
+      never q = let z : _≡_ {A = ℕ} 0 1 = cc in absurd (omega arith)
+
+      go : (a b c e : Bool)
+          → pick a (need missing 29 (pick b (some (word 8 row)) none) (λ n. need missing 56 (pick c (some (word 7 row)) none) (λ k. need missing 20 (pick e (some (word 10 row)) none) (λ s. done (made n k s))))) (refusal missing 2) ≡ done i
+          → i ≡ made (word 8 row) (word 7 row) (word 10 row)
+      go true true true true q = cc
+      go true true true false q = never q
+      go true true false e q = never q
+      go true false c e q = never q
+      go false b c e q = never q
+
+  endpoint-is : (i : Item) → endpointFrom (rowMembers row) ≡ done i → i ≡ createsEndpoint (rowEndpoint row)
+  unfolding endpointFrom rowMembers present rowLocal rowEndpoint
+  endpoint-is i h = go (eqb (word 12 row) 0) (eqb (word 5 row) 1) h
+    where
+      go : (a b : Bool) → need conditional 21 (pick a none (some (rowFteid row))) (λ v. need missing 131 (pick b (some (word 11 row)) none) (λ k. done (createsEndpoint (record { id = k; local = v })))) ≡ done i
+          → i ≡ createsEndpoint (record { id = word 11 row; local = rowFteid row })
+      go true b q = let z : _≡_ {A = ℕ} 0 1 = cc in absurd (omega arith)
+      go false true q = cc
+      go false false q = let z : _≡_ {A = ℕ} 0 1 = cc in absurd (omega arith)
+
+  -- one with a number alone
+  one-is : (make : ℕ → Item) (t a n : ℕ) (i : Item) → need missing t (present a n) (λ k. done (make k)) ≡ done i → i ≡ make n
+  unfolding present
+  one-is make t a n i h = go (eqb a 1) h
+    where
+      go : (b : Bool) → need missing t (pick b (some n) none) (λ k. done (make k)) ≡ done i → i ≡ make n
+      go true q = cc
+      go false q = let z : _≡_ {A = ℕ} 0 1 = cc in absurd (omega arith)
+
+  pub item-is : (t : ℕ) → member t groupTypes ≡ true → (i : Item) → itemFrom t (rowMembers row) ≡ done i → i ≡ itemOf t row
+  unfolding itemFrom itemOf changeFrom rowMembers rowChange
+  item-is t k =
+      by-group t k (λ t. (i : Item) → itemFrom t (rowMembers row) ≡ done i → i ≡ itemOf t row)
+      pdr-is endpoint-is
+      (one-is (λ n. updatesPdr (record { id = n; precedence = present (word 2 row) (word 8 row); far = rowFar row; pdi = eqb (word 6 row) 1 })) 56 (word 1 row) (word 7 row))
+      (one-is removesPdr 56 (word 1 row) (word 7 row))
+      (one-is removesEndpoint 131 (word 5 row) (word 11 row))
+
+  -- it has a row, and creates a PDR where its type says so
+  pub group-row : (t : ℕ) → member t groupTypes ≡ true → hasRow (itemOf t row) ≡ true
+  unfolding itemOf hasRow isUpdate
+  group-row t k = by-group t k (λ t. hasRow (itemOf t row) ≡ true) refl refl refl refl refl
+
+  pub group-creates : (t : ℕ) → member t groupTypes ≡ true → isSome (pdrIn (itemOf t row)) ≡ eqb t 1
+  unfolding itemOf pdrIn
+  group-creates t k = by-group t k (λ t. isSome (pdrIn (itemOf t row)) ≡ eqb t 1) refl refl refl refl refl
+
+  -- the type stands in word 0
+  pub tagged-row : (t : ℕ) → length row ≡ 18 → rowItem (set row 0 t) ≡ itemOf t row
+  unfolding rowItem itemOf csidItem rowPdr rowEndpoint rowChange rowAddress present rowFar rowLocal rowFteid
+  tagged-row t = apart (λ x. rowItem (set x 0 t) ≡ itemOf t x) (λ a b c d e f g h i j k l m n o p q r. refl) row
+
+  pub group-item : (t : ℕ) → member t groupTypes ≡ true → (v : List ℕ) → closedRead t (elements v) noMembers ≡ done (rowMembers row) → groupRead t v ≡ done (itemOf t row)
+  unfolding closedRead groupRead
+  group-item t k v h = go (membersRead pdiRead t (elements v) noMembers) h
+    where
+      end : (n : Members) (x : Reading Item) → itemFrom t n ≡ x → andThen x (λ j. done n) ≡ done (rowMembers row) → itemFrom t n ≡ done (itemOf t row)
+      end n (faulty f) e q = let z : _≡_ {A = ℕ} 0 1 = cc in absurd (omega arith)
+      end n (done j) e q =
+          let same : n ≡ rowMembers row = cc in
+          e ∙ ap done (item-is t k j (ap (itemFrom t) (sym same) ∙ e))
+
+      go : (x : Reading Members) → andThen x (closing t) ≡ done (rowMembers row) → andThen x (itemFrom t) ≡ done (itemOf t row)
+      go (faulty f) q = let z : _≡_ {A = ℕ} 0 1 = cc in absurd (omega arith)
+      go (done n) q = end n (itemFrom t n) refl (sym (closing-is t k n) ∙ q)
+
+-- a row of zeros has no members
+pub no-members : rowMembers (replicate 18 0) ≡ noMembers
+unfolding rowMembers present rowFar rowLocal
+no-members = refl
+
+pub tidy-start : Tidy (replicate 18 0)
+tidy-start = record { wide = refl; pdrId = zero-le; precedence = zero-le; far = zero-le; source = zero-le; endpointId = zero-le; pdi = zero-le }
+
+module _ (t : ℕ) (k : member t groupTypes ≡ true) (v row : List ℕ) (r : Verdict) (c : Draft) (words : List ℕ) (read : Reads (closedRead t (elements v) (rowMembers (replicate 18 0))) row r) where
+  pub group-refused : {n x : ℕ} {s : Step} → r ≡ verdict.Refused n x → s ≡ Fault n x → Puts (groupAt t v) c words s words
+  group-refused {n} {x} q e =
+      let h : numbered (closedRead t (elements v) noMembers) ≡ stopped n x = ap (λ (m : Members). numbered (closedRead t (elements v) m)) (sym no-members) ∙ sym (read .told) ∙ ap (λ (y : Verdict). outcome y (rowMembers row)) q in
+      rw e (record { puts = λ nodes. record { follows = λ d m. step-fault (stops (groupRead t v) _ (group-fault t k v h)) } })
+
+  pub group-taken : r ≡ verdict.Fine → 18 * c .rows + 18 ≤ length words → {b : Draft} {words′ : List ℕ} → b ≡ withRow (eqb t 1) c → words′ ≡ put (18 * c .rows) (set row 0 t) words
+      → Puts (groupAt t v) c words (Next b) words′
+  group-taken q room to stored =
+      let h : closedRead t (elements v) noMembers ≡ done (rowMembers row) =
+      is-done _ _ (ap (λ (m : Members). numbered (closedRead t (elements v) m)) (sym no-members) ∙ sym (read .told) ∙ ap (λ (y : Verdict). outcome y (rowMembers row)) q) in
+      let i = itemOf t row in
+      let g : groupRead t v ≡ done i = group-item row t k v h in
+      let wide = read .tidy .wide in
+      rw (to, stored)
+      record {
+        puts = λ nodes. record {
+          follows = λ d m. went (withItem i d) (rw g)
+              (row-added m i (set row 0 t) (eqb t 1) (tagged-row row t wide) (group-row row t k) (group-creates row t k) (simp length-set wide) room);
+        };
+      }
