@@ -15,6 +15,7 @@ use Rattle.octets.specs.Octets.{be, put, number, numberAt, part, octetAt, octet
 use Rattle.octets.specs.Fields.{widthOf, narrow, fit, fieldOctets}
 use Rattle.octets.proofs.Tests.{each, is-true}
 use Rattle.octets.proofs.Numbers.{bytes-be}
+use Rattle.octets.proofs.Digits.{octets-append}
 use Rattle.octets.proofs.FieldLaws.{octet-read, length-fieldOctets}
 use Rattle.rules.specs.Elements as rules
 use Rattle.rules.specs.Elements.{Fteid, given, choose, v4Flag, v6Flag, chFlag, chidFlag, wrongFlags, fteidLength, chosenFields, givenFields, fteidFields, addressOf, givenTests, hasV4, hasV6, chooses, chooseId, fteidAllowed, fteidOctets, readFteid, writeFteid, refuse, value, tooShort, incorrect}
@@ -24,7 +25,7 @@ use Rattle.element.specs.declared.fteid.Answer.{Answer}
 use Rattle.element.specs.declared.fteid.Answer.the-variants.{Value, Refused}
 use Rattle.element.specs.Answers.{refusalOf, allowedIn, writeMeant}
 use Rattle.element.specs.FTeid.{answerOf, fteidWidths, fteidNumbers, fteidTests, fteidMeant, fteidOf}
-use Rattle.element.proofs.OctetLaws.{be-part, part-two, part-after, octets-two, one-octet, fit-at}
+use Rattle.element.proofs.OctetLaws.{be-part, part-two, part-after, one-octet, fit-at}
 use Rattle.element.proofs.FlagLaws.{low-bit-0, low-bit-1, low-bit-2, low-bit-3, flag-low, bit-number, bit-first, bit-set, bit-clear, four-bits, one-set, none-set, or-true, or-false, and-true}
 use Rattle.element.proofs.AnswerLaws.{ReadAs, read-as, some-same, picked, not-allowed, no-room, done}
 
@@ -150,7 +151,7 @@ address-whole false n = (refl, refl)
 
 halves-whole : (b : Bool) (n m : ℕ) → (addressOf 16 (be (8 * flag b) n ++ be (8 * flag b) m) ≡ true) × (isNil (be (8 * flag b) n ++ be (8 * flag b) m) ≡ not b)
 unfolding addressOf be
-halves-whole true n m = (is-true _ (octets-two (be 8 n) (be 8 m) (bytes-be 8 n) (bytes-be 8 m)), refl)
+halves-whole true n m = (is-true _ (octets-append (be 8 n) (be 8 m) (bytes-be 8 n) (bytes-be 8 m)), refl)
 halves-whole false n m = (refl, refl)
 
 -- what a struct with a CHOOSE means, and one without: allowed where the flags are right, and their octets

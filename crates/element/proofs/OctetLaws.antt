@@ -12,10 +12,10 @@ use lib.Seq.{take-add, drop-drop, take-append-le, drop-append-le, length-take-le
 use Rattle.octets.specs.Octets.{be, number, part, octets, slices, concatMap}
 use Rattle.octets.specs.Lists.{all}
 use Rattle.octets.specs.Fields.{widthOf, fit, fieldOctets}
-use Rattle.octets.proofs.Tests.{and-left, and-right, both as both-hold}
+use Rattle.octets.proofs.Tests.{both as both-hold}
 use Rattle.octets.proofs.Put.{length-part}
 use Rattle.octets.proofs.Numbers.{bytes-be}
-use Rattle.octets.proofs.Digits.{be-number, part-octets, take-octets, drop-octets, number-below}
+use Rattle.octets.proofs.Digits.{octets-append, be-number, part-octets, take-octets, drop-octets, number-below}
 use Rattle.octets.proofs.FieldLaws.{both}
 
 -- octets are those of the number that they spell
@@ -31,11 +31,6 @@ part-two at n m s = rw (take-add n m (drop at s), drop-drop n at s)
 -- a part of the octets after the first
 pub part-after : (at n : ℕ) (s : List ℕ) → part at n (drop 1 s) ≡ part (1 + at) n s
 part-after at n s = ap (take n) (drop-drop at 1 s)
-
--- the octets of two lists
-pub octets-two : (xs ys : List ℕ) → T (octets xs) → T (octets ys) → T (octets (xs ++ ys))
-octets-two [] ys h g = g
-octets-two (x ∷ xs) ys h g = both-hold (ltb x 256) (octets (xs ++ ys)) (and-left (ltb x 256) (octets xs) h) (octets-two xs ys (and-right (ltb x 256) (octets xs) h) g)
 
 pub one-octet : (n : ℕ) → n < 256 → n / 1 % 256 ≡ n
 one-octet n h = omega arith
@@ -53,7 +48,7 @@ pub octets-fieldOctets : (ws vs : List ℕ) → T (octets (fieldOctets ws vs))
 unfolding fieldOctets
 octets-fieldOctets [] vs = tt
 octets-fieldOctets (w ∷ ws) [] = tt
-octets-fieldOctets (w ∷ ws) (v ∷ vs) = octets-two (be w v) (fieldOctets ws vs) (bytes-be w v) (octets-fieldOctets ws vs)
+octets-fieldOctets (w ∷ ws) (v ∷ vs) = octets-append (be w v) (fieldOctets ws vs) (bytes-be w v) (octets-fieldOctets ws vs)
 
 -- fields side by side
 pub fieldOctets-two : (ws vs us xs : List ℕ) → length vs ≡ length ws → fieldOctets (ws ++ us) (vs ++ xs) ≡ fieldOctets ws vs ++ fieldOctets us xs

@@ -32,21 +32,21 @@ pub const SETTINGS: usize = 29;
 // nothing, 1 an F-TEID, 2 an endpoint), TEID (4), families (1), endpoint ID (1).
 pub const PRECEDENCE: usize = 2;
 
-pub const FAR: usize = 6;
+pub const FAR: usize = PRECEDENCE + 4;
 
 pub const FAR_ID: usize = FAR + 1;
 
-pub const SOURCE: usize = 11;
+pub const SOURCE: usize = FAR_ID + 4;
 
-pub const PLACE: usize = 12;
+pub const PLACE: usize = SOURCE + 1;
 
-pub const TEID: usize = 13;
+pub const TEID: usize = PLACE + 1;
 
-pub const FAMILIES: usize = 17;
+pub const FAMILIES: usize = TEID + 4;
 
-pub const NAMED_ENDPOINT: usize = 18;
+pub const NAMED_ENDPOINT: usize = FAMILIES + 1;
 
-pub const PDR: usize = 19;
+pub const PDR: usize = NAMED_ENDPOINT + 1;
 
 // A traffic endpoint: ID (1 octet), TEID (4), families (1).
 pub const ENDPOINT: usize = 6;

@@ -1,24 +1,28 @@
 -- A session slot's octets read back: `viewSession` is the inverse of `sessionOctets` on sessions that are allowed, and the length is fixed.
 -- Assumes nothing.
-use mathlib.Core.Path.{_≡_, refl, sym, ap, ap₂, _∙_}
+use mathlib.Core.Path.{_≡_, refl, sym, ap, ap₂, subst, _∙_}
 use Prim.Native.Nat.{ℕ, suc, _+_, _-_, _*_, _^_, _≤_, _<_}
-use native.Mathlib.Nat.{le-refl, le-trans, le-of-eq, mul-le-mul-right, lt-of-lt-of-le}
+use native.Mathlib.Nat.{le-refl, le-trans, le-of-eq, mul-le-mul-right, lt-of-lt-of-le, pow-le-pow-right}
+use native.Mathlib.Omega.{arith}
 use mathlib.Core.Bool.{Bool, true, false}
 use mathlib.Core.Option.{Option, none, some}
 use mathlib.Core.List.{List, [], _∷_, _++_, map, append-assoc, append-nil}
-use lib.ListN.{length, take, drop, length-append}
-use lib.Dec.{T, leb, ltb, eqb, eqb→eq, leb→le, ltb→lt, lit≤}
-use lib.Seq.{take-at, drop-at, drop-drop}
-use Rattle.octets.specs.Choice.{pick, flag}
-use Rattle.octets.specs.Octets.{be, number, numberAt, octetAt, bit, zeros, padded, concatMap, slices}
-use Rattle.octets.specs.Lists.{all}
-use Rattle.octets.proofs.Tests.{each, Each, and-right, all-head, all-tail}
+use lib.ListN.{length, take, drop, getD, length-append, length-drop, take-append-drop}
+use lib.Dec.{T, leb, ltb, eqb, eqb→eq, leb→le, ltb→lt, lit≤, lit<}
+use lib.Seq.{take-at, take-all, drop-at, drop-drop, length-take-le}
+use Rattle.octets.specs.Choice.{pick, flag, isSome, valueOr}
+use Rattle.octets.specs.Octets.{be, part, number, numberAt, octetAt, octets, bit, zeros, padded, concatMap, slices}
+use Rattle.octets.specs.Fields.{fieldsAt, fit}
+use Rattle.octets.specs.Lists.{all, member}
+use Rattle.octets.proofs.Tests.{each, Each, and-left, and-right, all-head, all-tail}
+use Rattle.octets.proofs.Digits.{number-below, take-octets, drop-octets, be-back}
+use Rattle.octets.proofs.FieldLaws.{all-fit, length-fieldOctets, octet-field, record-back}
 use Rattle.octets.proofs.Numbers.{number-be, length-padded, length-concatMap, slices-concatMap}
 use Rattle.rules.specs.Model.{Settings, Tunnel, Place, neither, tunnel, endpoint, Pdr, Endpoint, Csid, Session, endpointId}
 use Rattle.rules.specs.Limits.{maxPdrs, maxEndpoints, nodeTypes}
-use Rattle.rules.specs.Elements.{addressLength, nodeAddressAllowed, nodeAddressTests, below16}
+use Rattle.rules.specs.Elements.{addressLength, nodeTypeKept, nodeAddressAllowed, nodeAddressTests, below16}
 use Rattle.rules.specs.Sound.{poolTests, settingsTests, settingsAllowed, inPool, tunnelTests, tunnelAllowed, placeAllowed, farAllowed, pdrTests, pdrAllowed, endpointTests, endpointAllowed, csidTests, csidAllowed, sessionTests, sessionAllowed}
-use Rattle.rules.specs.Layout.{pdrWidth, endpointWidth, csidWidth, sessionHead, sessionWidth, area, families, farOctets, placeOctets, pdrOctets, endpointOctets, csidOctets, sessionOctets, viewTunnel, viewFar, viewPlace, viewPdr, viewEndpoint, viewCsid, viewArea, viewSession}
+use Rattle.rules.specs.Layout.{families, optionRead, tunnelRead, pdrWidths, matchKind, matchTeid, matchFamilies, matchEndpoint, placeRead, pdrNumbers, pdrFrom, endpointWidths, endpointNumbers, endpointFrom, csidSlotWidths, csidSlotNumbers, addressRead, csidFrom, pdrWidth, endpointWidth, csidWidth, sessionHead, sessionWidth, area, pdrOctets, endpointOctets, csidOctets, sessionOctets, viewPdr, viewEndpoint, viewCsid, viewArea, viewSession}
 
 -- ---- areas
 
@@ -59,47 +63,114 @@ bit-v6 true false = refl
 bit-v6 false true = refl
 bit-v6 false false = refl
 
-tunnel-back : (t : Tunnel) (rest : List ℕ) → t .teid < 256 ^ 4 → viewTunnel (be 4 (t .teid) ++ families t ∷ rest) ≡ t
-unfolding viewTunnel families be numberAt octetAt
-tunnel-back t rest h = λ i. record { teid = number-be 4 (t .teid) h i; v4 = bit-v4 (t .v4) (t .v6) i; v6 = bit-v6 (t .v4) (t .v6) i }
+tunnel-back : (t : Tunnel) → tunnelRead (t .teid) (families t) ≡ t
+unfolding tunnelRead families
+tunnel-back t = λ i. record { teid = t .teid; v4 = bit-v4 (t .v4) (t .v6) i; v6 = bit-v6 (t .v4) (t .v6) i }
+
+families-fit : (t : Tunnel) → families t < 256
+unfolding families
+families-fit t = go (t .v4) (t .v6)
+  where
+    go : (a b : Bool) → flag a + 2 * flag b < 256
+    go true true = lit< tt
+    go true false = lit< tt
+    go false true = lit< tt
+    go false false = lit< tt
 
 -- a TEID of the pool has four octets
-pub teid-fits : (s : Settings) (t : Tunnel) → T (settingsAllowed s) → T (tunnelAllowed s t) → t .teid < 256 ^ 4
-unfolding settingsAllowed settingsTests poolTests tunnelAllowed tunnelTests inPool
-teid-fits s t hs ht =
-    let pool = each (poolTests (s .first) (s .size)) (each (settingsTests s) hs .1 .1 .1 .1 .0) in
-    let inside = each (tunnelTests s t) ht .0 in
+teid-below : (s : Settings) → s .first + s .size ≤ 2 ^ 32 → (t : Tunnel) → T (tunnelAllowed s t) → t .teid < 256 ^ 4
+unfolding tunnelAllowed tunnelTests inPool
+teid-below s hs t ht =
     lt-of-lt-of-le
-    (ltb→lt (t .teid) (s .first + s .size) (and-right (leb (s .first) (t .teid)) (ltb (t .teid) (s .first + s .size)) inside))
-    (leb→le (s .first + s .size) (2 ^ 32) (pool .1 .1 .1 .0))
+    (ltb→lt (t .teid) (s .first + s .size) (and-right (leb (s .first) (t .teid)) (ltb (t .teid) (s .first + s .size)) (each (tunnelTests s t) ht .0)))
+    hs
 
--- ---- PDRs
+pool-below : (s : Settings) → T (settingsAllowed s) → s .first + s .size ≤ 2 ^ 32
+unfolding settingsAllowed settingsTests poolTests
+pool-below s hs = leb→le (s .first + s .size) (2 ^ 32) (each (poolTests (s .first) (s .size)) (each (settingsTests s) hs .1 .1 .1 .1 .0) .1 .1 .1 .0)
+
+pub teid-fits : (s : Settings) (t : Tunnel) → T (settingsAllowed s) → T (tunnelAllowed s t) → t .teid < 256 ^ 4
+teid-fits s t hs ht = teid-below s (pool-below s hs) t ht
+
+-- ---- a record of a record's numbers, and the numbers' widths
+
+option-back : (o : Option ℕ) → optionRead (flag (isSome o)) (valueOr 0 o) ≡ o
+unfolding optionRead
+option-back none = refl
+option-back (some n) = refl
+
+there-fits : (o : Option ℕ) → flag (isSome o) < 256
+there-fits none = lit< tt
+there-fits (some n) = lit< tt
+
+value-fits : (o : Option ℕ) → T (farAllowed o) → valueOr 0 o < 256 ^ 4
+unfolding farAllowed
+value-fits none h = lit< tt
+value-fits (some n) h = ltb→lt n (2 ^ 32) h
+
+place-back : (l : Place) → placeRead (matchKind l) (matchTeid l) (matchFamilies l) (matchEndpoint l) ≡ l
+unfolding placeRead matchKind matchTeid matchFamilies matchEndpoint
+place-back neither = refl
+place-back (tunnel t) = ap tunnel (tunnel-back t)
+place-back (endpoint e) = refl
+
+pdr-numbers : (p : Pdr) → pdrFrom (pdrNumbers p) ≡ p
+unfolding pdrFrom pdrNumbers
+pdr-numbers p = λ j. record { id = p .id; precedence = p .precedence; far = option-back (p .far) j; source = p .source; place = place-back (p .place) j }
+
+endpoint-numbers : (e : Endpoint) → endpointFrom (endpointNumbers e) ≡ e
+unfolding endpointFrom endpointNumbers
+endpoint-numbers e = λ j. record { id = e .id; local = tunnel-back (e .local) j }
+
+record PlaceFits (l : Place) : Type 0 where
+  kind : matchKind l < 256
+  teid : matchTeid l < 256 ^ 4
+  families : matchFamilies l < 256
+  endpoint : matchEndpoint l < 256
+
+module _ (s : Settings) (hs : s .first + s .size ≤ 2 ^ 32) where
+  place-fits : (live : List ℕ) (l : Place) → T (placeAllowed s live l) → PlaceFits l
+  unfolding placeAllowed matchKind matchTeid matchFamilies matchEndpoint
+  place-fits live neither h = record { kind = lit< tt; teid = lit< tt; families = lit< tt; endpoint = lit< tt }
+  place-fits live (tunnel t) h = record { kind = lit< tt; teid = teid-below s hs t h; families = families-fit t; endpoint = lit< tt }
+  place-fits live (endpoint e) h = record { kind = lit< tt; teid = lit< tt; families = lit< tt; endpoint = ltb→lt e 256 (and-left (ltb e 256) (member e live) h) }
+
+  pub pdr-fits : (live : List ℕ) (p : Pdr) → T (pdrAllowed s live p) → fit pdrWidths (pdrNumbers p) ≡ true
+  unfolding pdrAllowed pdrTests pdrNumbers
+  pdr-fits live p h =
+      let e = each (pdrTests s live p) h in
+      let l = place-fits live (p .place) (e .1 .1 .1 .1 .0) in
+      all-fit pdrWidths _ (
+        ltb→lt (p .id) (2 ^ 16) (e .0),
+        (
+          ltb→lt (p .precedence) (2 ^ 32) (e .1 .0),
+          (
+            there-fits (p .far),
+            (
+              value-fits (p .far) (e .1 .1 .0),
+              (
+                lt-of-lt-of-le (ltb→lt (p .source) 16 (e .1 .1 .1 .0)) (lit≤ tt),
+                (l .kind, (l .teid, (l .families, (l .endpoint, tt)))),
+              ),
+            ),
+          ),
+        ),
+      )
+
+  pub endpoint-fits : (e : Endpoint) → T (endpointAllowed s e) → fit endpointWidths (endpointNumbers e) ≡ true
+  unfolding endpointAllowed endpointTests endpointNumbers
+  endpoint-fits e h =
+      let t = each (endpointTests s e) h in
+      all-fit endpointWidths _ (ltb→lt (e .id) 256 (t .0), (teid-below s hs (e .local) (t .1 .0), (families-fit (e .local), tt)))
 
 module _ (s : Settings) (hs : T (settingsAllowed s)) where
-  place-back : (live : List ℕ) (l : Place) → T (placeAllowed s live l) → viewPlace (placeOctets l) ≡ l
-  unfolding placeAllowed viewPlace placeOctets octetAt zeros be
-  place-back live neither h = refl
-  place-back live (tunnel t) h = ap tunnel (tunnel-back t (0 ∷ []) (teid-fits s t hs h))
-  place-back live (endpoint e) h = refl
-
-  pdr-with : (live : List ℕ) (i n : ℕ) (f : Option ℕ) (c : ℕ) (l : Place)
-      → i < 256 ^ 2 → n < 256 ^ 4 → T (farAllowed f) → T (placeAllowed s live l)
-      → viewPdr (pdrOctets (record { id = i; precedence = n; far = f; source = c; place = l })) ≡ record { id = i; precedence = n; far = f; source = c; place = l }
-  unfolding viewPdr pdrOctets viewFar farOctets farAllowed be numberAt octetAt zeros
-  pdr-with live i n none c l hi hn hf hl =
-      λ j. record { id = number-be 2 i hi j; precedence = number-be 4 n hn j; far = none; source = c; place = place-back live l hl j }
-  pdr-with live i n (some f) c l hi hn hf hl =
-      λ j. record { id = number-be 2 i hi j; precedence = number-be 4 n hn j; far = some (number-be 4 f (ltb→lt f (2 ^ 32) hf) j); source = c; place = place-back live l hl j }
-
   pub pdr-back : (live : List ℕ) (p : Pdr) → T (pdrAllowed s live p) → viewPdr (pdrOctets p) ≡ p
-  unfolding pdrAllowed pdrTests
-  pdr-back live p h =
-      let e = each (pdrTests s live p) h in
-      pdr-with live (p .id) (p .precedence) (p .far) (p .source) (p .place) (ltb→lt (p .id) (2 ^ 16) (e .0)) (ltb→lt (p .precedence) (2 ^ 32) (e .1 .0)) (e .1 .1 .0) (e .1 .1 .1 .1 .0)
+  unfolding viewPdr pdrOctets
+  pdr-back live p h = record-back pdrWidths pdrNumbers pdrFrom p (pdr-fits s (pool-below s hs) live p h) (pdr-numbers p)
 
   pub endpoint-back : (e : Endpoint) → T (endpointAllowed s e) → viewEndpoint (endpointOctets e) ≡ e
-  unfolding endpointAllowed endpointTests viewEndpoint endpointOctets octetAt
-  endpoint-back e h = λ j. record { id = e .id; local = tunnel-back (e .local) [] (teid-fits s (e .local) hs (each (endpointTests s e) h .1 .0)) j }
+  unfolding viewEndpoint endpointOctets
+  endpoint-back e h = record-back endpointWidths endpointNumbers endpointFrom e (endpoint-fits s (pool-below s hs) e h) (endpoint-numbers e)
 
 -- ---- FQ-CSIDs
 
@@ -111,55 +182,82 @@ pub address-short : (t : ℕ) → addressLength t ≤ 16
 unfolding addressLength
 address-short t = short-either (eqb t 1)
 
--- the address and the CSID of an FQ-CSID slot
-csid-address : (a : List ℕ) (n c : ℕ) → length a ≡ n → take n (padded 16 a ++ be 2 c) ≡ a
-unfolding padded
-csid-address a n c h = rw (append-assoc a (zeros (16 - length a)) (be 2 c)) (take-at a (zeros (16 - length a) ++ be 2 c) n h)
-
-csid-code : (a : List ℕ) (c : ℕ) → length a ≤ 16 → c < 256 ^ 2 → number (take 2 (drop 16 (padded 16 a ++ be 2 c))) ≡ c
-unfolding be
-csid-code a c ha hc = ap (λ (xs : List ℕ). number (take 2 xs)) (drop-at (padded 16 a) (be 2 c) 16 (length-padded 16 a ha)) ∙ number-be 2 c hc
-
-csid-with : (n t : ℕ) (a : List ℕ) (c : ℕ) → length a ≡ addressLength t → c < 256 ^ 2
-    → viewCsid (csidOctets (record { nodeType = n; idType = t; address = a; csid = c })) ≡ record { nodeType = n; idType = t; address = a; csid = c }
-unfolding viewCsid csidOctets numberAt octetAt
-csid-with n t a c ha hc =
-    λ j. record { nodeType = n; idType = t; address = csid-address a (addressLength t) c ha j; csid = csid-code a c (le-trans (le-of-eq ha) (address-short t)) hc j }
-
 pub csid-address-length : (c : Csid) → T (csidAllowed c) → length (c .address) ≡ addressLength (c .idType)
 unfolding csidAllowed csidTests nodeAddressAllowed nodeAddressTests
 csid-address-length c h =
     eqb→eq (length (c .address)) (addressLength (c .idType)) (each (nodeAddressTests (c .idType) (c .address)) (each (csidTests c) h .1 .0) .1 .0)
 
-pub csid-back : (c : Csid) → T (csidAllowed c) → viewCsid (csidOctets c) ≡ c
-unfolding csidAllowed csidTests below16
-csid-back c h =
-    csid-with (c .nodeType) (c .idType) (c .address) (c .csid) (csid-address-length c h) (ltb→lt (c .csid) (2 ^ 16) (each (csidTests c) h .1 .1 .0))
+-- an address of sixteen octets or four is read back from its two numbers, which fit
+module _ (a : List ℕ) (o : T (octets a)) where
+  address-back : (b : Bool) → length a ≡ pick b 16 4 → take (pick b 16 4) (be 4 (number (take 4 a)) ++ be 12 (number (drop 4 a))) ≡ a
+  address-back true e =
+      rw (be-back 4 (take 4 a) (length-take-le 4 a (omega arith)) (take-octets 4 a o), be-back 12 (drop 4 a) (rw length-drop (omega arith)) (drop-octets 4 a o), take-append-drop 4 a)
+      (take-all 16 a (omega arith))
+  address-back false e =
+      rw (be-back 4 (take 4 a) (length-take-le 4 a (omega arith)) (take-octets 4 a o))
+      (take-at (take 4 a) (be 12 (number (drop 4 a))) 4 (length-take-le 4 a (omega arith)) ∙ take-all 4 a (omega arith))
+
+  address-fits : (b : Bool) → length a ≡ pick b 16 4 → (number (take 4 a) < 256 ^ 4) × (number (drop 4 a) < 256 ^ 12)
+  address-fits b e =
+      let long : 4 ≤ length a = subst (λ (n : ℕ). 4 ≤ n) (sym e) (four b) in
+      let room : length (drop 4 a) ≤ 12 = rw (length-drop, e) (rest b) in
+      (rw (length-take-le 4 a long) at (number-below (take 4 a) (take-octets 4 a o)), lt-of-lt-of-le (number-below (drop 4 a) (drop-octets 4 a o)) (pow-le-pow-right (lit< tt) room))
+    where
+      four : (b : Bool) → 4 ≤ pick b 16 4
+      four true = lit≤ tt
+      four false = lit≤ tt
+
+      rest : (b : Bool) → pick b 16 4 - 4 ≤ 12
+      rest true = lit≤ tt
+      rest false = lit≤ tt
+
+module _ (c : Csid) (h : T (csidAllowed c)) where
+  csid-octets : T (octets (c .address))
+  unfolding csidAllowed csidTests nodeAddressAllowed nodeAddressTests
+  csid-octets = each (nodeAddressTests (c .idType) (c .address)) (each (csidTests c) h .1 .0) .1 .1 .0
+
+  csid-numbers : csidFrom (csidSlotNumbers c) ≡ c
+  unfolding csidFrom csidSlotNumbers addressRead addressLength
+  csid-numbers = λ j. record { nodeType = c .nodeType; idType = c .idType; address = address-back (c .address) csid-octets (eqb (c .idType) 1) (csid-address-length c h) j; csid = c .csid }
+
+  pub csid-fits : fit csidSlotWidths (csidSlotNumbers c) ≡ true
+  unfolding csidAllowed csidTests nodeTypeKept nodeAddressAllowed nodeAddressTests below16 csidSlotNumbers addressLength
+  csid-fits =
+      let t = each (csidTests c) h in
+      let a = address-fits (c .address) csid-octets (eqb (c .idType) 1) (csid-address-length c h) in
+      let k : c .idType ≤ 2 = leb→le (c .idType) 2 (each (nodeAddressTests (c .idType) (c .address)) (t .1 .0) .0) in
+      all-fit csidSlotWidths _ (
+        lt-of-lt-of-le (ltb→lt (c .nodeType) 6 (t .0)) (lit≤ tt),
+        (omega arith, (a .0, (a .1, (ltb→lt (c .csid) (2 ^ 16) (t .1 .1 .0), tt)))),
+      )
+
+  pub csid-back : viewCsid (csidOctets c) ≡ c
+  unfolding viewCsid csidOctets
+  csid-back = record-back csidSlotWidths csidSlotNumbers csidFrom c csid-fits csid-numbers
 
 -- ---- widths
 
-length-pdr-with : (i n : ℕ) (f : Option ℕ) (c : ℕ) (l : Place) → length (pdrOctets (record { id = i; precedence = n; far = f; source = c; place = l })) ≡ pdrWidth
-unfolding pdrOctets be farOctets placeOctets zeros pdrWidth
-length-pdr-with i n none c neither = refl
-length-pdr-with i n none c (tunnel t) = refl
-length-pdr-with i n none c (endpoint e) = refl
-length-pdr-with i n (some f) c neither = refl
-length-pdr-with i n (some f) c (tunnel t) = refl
-length-pdr-with i n (some f) c (endpoint e) = refl
-
 pub length-pdr : (p : Pdr) → length (pdrOctets p) ≡ pdrWidth
-length-pdr p = length-pdr-with (p .id) (p .precedence) (p .far) (p .source) (p .place)
+unfolding pdrOctets pdrWidth pdrNumbers
+length-pdr p = length-fieldOctets pdrWidths (pdrNumbers p) refl
 
 pub length-endpoint : (e : Endpoint) → length (endpointOctets e) ≡ endpointWidth
-unfolding endpointOctets be endpointWidth
-length-endpoint e = refl
+unfolding endpointOctets endpointWidth endpointNumbers
+length-endpoint e = length-fieldOctets endpointWidths (endpointNumbers e) refl
 
-pub length-csid : (c : Csid) → T (csidAllowed c) → length (csidOctets c) ≡ csidWidth
-unfolding csidOctets csidWidth be
-length-csid c h =
-    ap (λ (n : ℕ). suc (suc n))
-    (length-append (padded 16 (c .address)) (be 2 (c .csid))
-    ∙ ap (λ (n : ℕ). n + 2) (length-padded 16 (c .address) (le-trans (le-of-eq (csid-address-length c h)) (address-short (c .idType)))))
+pub length-csid : (c : Csid) → length (csidOctets c) ≡ csidWidth
+unfolding csidOctets csidWidth csidSlotNumbers
+length-csid c = length-fieldOctets csidSlotWidths (csidSlotNumbers c) refl
+
+-- ---- what is read, octet by octet
+
+pub pdr-view : (xs : List ℕ) → viewPdr xs ≡ record { id = number (part 0 2 xs); precedence = number (part 2 4 xs); far = optionRead (getD xs 6 0) (number (part 7 4 xs)); source = getD xs 11 0; place = placeRead (getD xs 12 0) (number (part 13 4 xs)) (getD xs 17 0) (getD xs 18 0) }
+unfolding viewPdr pdrFrom fieldsAt
+pdr-view xs = rw (octet-field 6 xs, octet-field 11 xs, octet-field 12 xs, octet-field 17 xs, octet-field 18 xs)
+
+pub endpoint-view : (xs : List ℕ) → viewEndpoint xs ≡ record { id = getD xs 0 0; local = tunnelRead (number (part 1 4 xs)) (getD xs 5 0) }
+unfolding viewEndpoint endpointFrom fieldsAt
+endpoint-view xs = rw (octet-field 0 xs, octet-field 5 xs)
 
 -- ---- sessions
 
@@ -221,7 +319,7 @@ module _ (s : Settings) (hs : T (settingsAllowed s)) (x : Session) (hx : T (sess
 
   length-csidArea : length csidArea ≡ nodeTypes * csidWidth
   unfolding csidArea
-  length-csidArea = length-area csidOctets csidWidth csidAllowed length-csid nodeTypes (x .csids) csidsOk fewCsids
+  length-csidArea = length-area csidOctets csidWidth csidAllowed (λ c h. length-csid c) nodeTypes (x .csids) csidsOk fewCsids
 
   pub length-session : length (sessionOctets x) ≡ sessionWidth
   unfolding sessionOctets be sessionWidth pdrArea endpointArea csidArea pdrWidth endpointWidth csidWidth
@@ -248,7 +346,7 @@ module _ (s : Settings) (hs : T (settingsAllowed s)) (x : Session) (hx : T (sess
   csids-back =
       ap (λ (xs : List ℕ). map viewCsid (slices csidWidth (length (x .csids)) xs))
       (after-pdrs (maxEndpoints * endpointWidth) ∙ drop-at endpointArea csidArea (maxEndpoints * endpointWidth) length-endpointArea ∙ sym (append-nil csidArea))
-      ∙ area-back csidOctets csidWidth csidAllowed length-csid viewCsid csid-back nodeTypes (x .csids) csidsOk []
+      ∙ area-back csidOctets csidWidth csidAllowed (λ c h. length-csid c) viewCsid csid-back nodeTypes (x .csids) csidsOk []
 
   -- a session's octets are read back
   pub session-back : viewSession (sessionOctets x) ≡ x

@@ -1,7 +1,7 @@
 -- The answers of the functions that test and mark one record, return by return: premises are what the code knows there.
 -- Assumes nothing.
 use mathlib.Core.Path.{_≡_, refl, sym, ap, _∙_}
-use Prim.Native.Nat.{ℕ, _+_, _-_, _*_, _≤_, _<_}
+use Prim.Native.Nat.{ℕ, _+_, _-_, _*_, _^_, _≤_, _<_}
 use native.Mathlib.Omega.{arith}
 use mathlib.Core.Bool.{Bool, true, false, not}
 use mathlib.Core.Option.{Option, none, some}
@@ -10,10 +10,11 @@ use borrow.Author.Tests.{ne-eqb, not-true, not-false}
 use lib.ListN.{length, take, drop, getD}
 use lib.Dec.{T, eqb}
 use Rattle.octets.specs.Choice.{pick}
-use Rattle.octets.specs.Octets.{part, number, numberAt, octets}
+use Rattle.octets.specs.Octets.{part, number, octets}
+use Rattle.octets.specs.Fields.{fieldsAt}
 use Rattle.octets.specs.Lists.{collect}
 use Rattle.rules.specs.Model.{Holding, pdrHolding, endpointHolding, tunnelHolding}
-use Rattle.rules.specs.Layout.{viewEndpoint, viewTunnel}
+use Rattle.rules.specs.Layout.{tunnelRead, endpointFrom, viewEndpoint}
 use Rattle.pool.specs.Map.{marked, mark}
 use Rattle.holdings.specs.Walk.{joins}
 use Rattle.holdings.proofs.RecordWalk.{look-end}
@@ -50,21 +51,21 @@ module _ (xs : List ℕ) (first size : ℕ) (v6 : Bool) (ws : List ℕ) (b : Boo
   endpoint-broken h = step-broken (sym qb ∙ not-true b h)
 
   module _ (good : not b ≡ false) (t : ℕ) (q : t ≡ number (part 1 4 xs)) where
-    pub endpoint-fits : length xs ≡ 6 → T (octets xs) → size ≤ 64 * length ws → (first ≤ t) × (t - first < 64 * length ws)
-    endpoint-fits e o room =
-        let f = endpoint-pool first size v6 xs e o (sym qb ∙ not-false b good) in
+    pub endpoint-fits : length xs ≡ 6 → T (octets xs) → first + size ≤ 2 ^ 32 → size ≤ 64 * length ws → (first ≤ t) × (t - first < 64 * length ws)
+    endpoint-fits e o pool room =
+        let f = endpoint-pool first size v6 pool xs e o (sym qb ∙ not-false b good) in
         (omega (arith, f .0, q), omega (arith, f .0, f .1, q))
 
     module _ (m : Bool) (ws′ : List ℕ) (qm : m ≡ marked ws (t - first)) (qw : ws′ ≡ mark ws (t - first)) where
       endpoint-step-is : stepOf first ws [] (endpointHold xs) ≡ pick m Clash (New 1)
-      unfolding stepOf endpointHold endpointHolding tunnelHolding viewEndpoint viewTunnel numberAt collect
+      unfolding stepOf endpointHold endpointHolding tunnelHolding viewEndpoint endpointFrom tunnelRead fieldsAt collect
       endpoint-step-is = λ i. pick ((ap (λ (n : ℕ). marked ws (n - first)) (sym q) ∙ sym qm) i) (pick (look-end pdrHolding (endpointHolding (viewEndpoint xs)) i) (New 0) Clash) (New 1)
 
       pub endpoint-met : m ≡ true → Stepped (endpointSound (unit first size v6) xs) first ws [] (endpointHold xs) Clash ws′
       endpoint-met h = step-clash (sym (endpoint-step-is ∙ rw h))
 
       pub endpoint-new : m ≡ false → Stepped (endpointSound (unit first size v6) xs) first ws [] (endpointHold xs) (New 1) ws′
-      unfolding wordsOf endpointHold endpointHolding tunnelHolding viewEndpoint viewTunnel numberAt
+      unfolding wordsOf endpointHold endpointHolding tunnelHolding viewEndpoint endpointFrom tunnelRead fieldsAt
       endpoint-new h = step-good (sym qb ∙ not-false b good) (sym (endpoint-step-is ∙ rw h)) (qw ∙ ap (λ (n : ℕ). mark ws (n - first)) q)
 
 -- ---- a PDR
@@ -103,9 +104,9 @@ module _ (a : List ℕ) (i : ℕ) where
       pdr-none h = step-good (sym sound-is ∙ not-false b good) (sym (rw (hold-absent h))) (sym (rw (hold-absent h)))
 
       module _ (there : getD (slotAt a i) 12 0 ≡ 1) (t : ℕ) (q : t ≡ number (part 13 4 (slotAt a i))) where
-        pub pdr-fits : length (slotAt a i) ≡ 19 → T (octets (slotAt a i)) → size ≤ 64 * length ws → (first ≤ t) × (t - first < 64 * length ws)
-        pdr-fits e o room =
-            let f = pdr-pool first size v6 live (slotAt a i) e o (sym qb ∙ not-false b good) there in
+        pub pdr-fits : length (slotAt a i) ≡ 19 → T (octets (slotAt a i)) → first + size ≤ 2 ^ 32 → size ≤ 64 * length ws → (first ≤ t) × (t - first < 64 * length ws)
+        pdr-fits e o pool room =
+            let f = pdr-pool first size v6 pool live (slotAt a i) e o (sym qb ∙ not-false b good) there in
             (omega (arith, f .0, q), omega (arith, f .0, f .1, q))
 
         held : t ≡ heldBy (slotAt a i) .teid

@@ -1,6 +1,6 @@
 -- A PDR's hold by its octets, and the look back over the PDRs passed.
 -- Assumes nothing.
-use mathlib.Core.Path.{_≡_, refl, sym, ap, ap₂, _∙_}
+use mathlib.Core.Path.{_≡_, refl, sym, ap₂, _∙_}
 use Prim.Native.Nat.{ℕ, zero, suc, _+_, _-_, _*_, _/_, _%_, _^_, _≤_, _<_}
 use native.Mathlib.Omega.{arith}
 use mathlib.Core.Bool.{Bool, true, false, _&&_}
@@ -8,16 +8,16 @@ use mathlib.Core.Option.{none, some}
 use mathlib.Core.List.{List, _∷_, map}
 use borrow.Author.Tests.{eq-eqb, ne-eqb}
 use lib.ListN.{take, drop, getD}
-use lib.Seq.{drop-drop, getD-drop}
 use lib.Dec.{eqb, eqb→eq, lit<}
 use native.Mathlib.Nat.{mod-lt}
 use mir.Facts.{yes-eqb}
 use Rattle.octets.specs.Choice.{pick, mapOption, sameBool}
-use Rattle.octets.specs.Octets.{part, number, numberAt, octetAt, bit, slices}
+use Rattle.octets.specs.Octets.{part, number, octetAt, bit, slices}
 use Rattle.octets.specs.Lists.{collect}
 use Rattle.octets.proofs.Tests.{and-left, and-right, both}
 use Rattle.rules.specs.Model.{neither, tunnel, endpoint, Pdr, tunnelHolding, placeTunnel, pdrHolding}
-use Rattle.rules.specs.Layout.{viewTunnel, viewPlace, viewPdr}
+use Rattle.rules.specs.Layout.{tunnelRead, placeRead, viewPdr}
+use Rattle.laws.proofs.LayoutLaws.{pdr-view}
 use Rattle.holdings.specs.Walk.{joins}
 use Rattle.holdings.proofs.RecordWalk.{look-none, look-some, look-end}
 use Rattle.records.proofs.Cells.{same-test, and-assoc}
@@ -26,23 +26,15 @@ use Rattle.marking.specs.Marking.{holdsTeid, alike, heldBy, pdrHolds}
 
 -- ---- a PDR's hold
 
-hold-with : (b c : Bool) (xs : List ℕ)
-    → mapOption (tunnelHolding true (octetAt xs 11)) (placeTunnel (pick b (tunnel (viewTunnel (drop 1 (drop 12 xs)))) (pick c (endpoint (octetAt (drop 12 xs) 6)) neither)))
-    ≡ pick b (some (heldBy xs)) none
-unfolding placeTunnel heldBy
-hold-with true c xs = ap (λ (ys : List ℕ). some (tunnelHolding true (octetAt xs 11) (viewTunnel ys))) (drop-drop 1 12 xs)
-hold-with false true xs = refl
-hold-with false false xs = refl
-
-kind-at : (xs : List ℕ) → octetAt (drop 12 xs) 0 ≡ getD xs 12 0
-unfolding octetAt
-kind-at xs = getD-drop 12 xs 0 0
-
 pub hold-of : (xs : List ℕ) → pdrHolding (viewPdr xs) ≡ pick (eqb (getD xs 12 0) 1) (some (heldBy xs)) none
-unfolding pdrHolding viewPdr viewPlace
-hold-of xs =
-    hold-with (eqb (octetAt (drop 12 xs) 0) 1) (eqb (octetAt (drop 12 xs) 0) 2) xs
-    ∙ ap (λ (n : ℕ). pick (eqb n 1) (some (heldBy xs)) none) (kind-at xs)
+hold-of xs = rw (pdr-view xs) (unfold pdrHolding placeRead in (go (eqb (getD xs 12 0) 1) (eqb (getD xs 12 0) 2)))
+  where
+    go : (b c : Bool)
+        → mapOption (tunnelHolding true (getD xs 11 0)) (placeTunnel (pick b (tunnel (tunnelRead (number (part 13 4 xs)) (getD xs 17 0))) (pick c (endpoint (getD xs 18 0)) neither)))
+        ≡ pick b (some (heldBy xs)) none
+    go true c = unfold placeTunnel heldBy octetAt in refl
+    go false true = unfold placeTunnel in refl
+    go false false = unfold placeTunnel in refl
 
 -- ---- families
 
@@ -75,19 +67,15 @@ two-bits f g =
     let d = digits (f / (2 ^ 0) % 2) (f / (2 ^ 1) % 2) (g / (2 ^ 0) % 2) (g / (2 ^ 1) % 2) (mod-lt (f / (2 ^ 0)) (lit< tt)) (mod-lt (g / (2 ^ 0)) (lit< tt)) (sym (low-two f) ∙ e ∙ low-two g) in
     both (eqb (f / (2 ^ 0) % 2) (g / (2 ^ 0) % 2)) (eqb (f / (2 ^ 1) % 2) (g / (2 ^ 1) % 2)) (yes-eqb (d .0)) (yes-eqb (d .1)))
 
-families-at : (xs : List ℕ) → octetAt (drop 13 xs) 4 ≡ octetAt xs 17
-unfolding octetAt
-families-at xs = getD-drop 13 xs 4 0
-
 kinds-alike : (xs ys : List ℕ)
     → (sameBool (heldBy xs .v4) (heldBy ys .v4) && (sameBool (heldBy xs .v6) (heldBy ys .v6) && eqb (heldBy xs .source) (heldBy ys .source))) ≡ alike xs ys
-unfolding heldBy tunnelHolding viewTunnel alike
+unfolding heldBy tunnelHolding tunnelRead alike
 kinds-alike xs ys =
-    sym (and-assoc (sameBool (bit 0 (octetAt (drop 13 xs) 4)) (bit 0 (octetAt (drop 13 ys) 4))) (sameBool (bit 1 (octetAt (drop 13 xs) 4)) (bit 1 (octetAt (drop 13 ys) 4))) (eqb (octetAt xs 11) (octetAt ys 11)))
-    ∙ rw (families-at xs, families-at ys, two-bits (octetAt xs 17) (octetAt ys 17))
+    sym (and-assoc (sameBool (bit 0 (octetAt xs 17)) (bit 0 (octetAt ys 17))) (sameBool (bit 1 (octetAt xs 17)) (bit 1 (octetAt ys 17))) (eqb (octetAt xs 11) (octetAt ys 11)))
+    ∙ rw (two-bits (octetAt xs 17) (octetAt ys 17))
 
 pub teid-of : (xs : List ℕ) → heldBy xs .teid ≡ number (part 13 4 xs)
-unfolding heldBy tunnelHolding viewTunnel numberAt
+unfolding heldBy tunnelHolding tunnelRead
 teid-of xs = refl
 
 -- ---- the look back

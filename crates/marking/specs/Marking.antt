@@ -7,12 +7,12 @@ use mathlib.Core.Bool.{Bool, true, _&&_}
 use mathlib.Core.Option.{Option, none, some}
 use mathlib.Core.List.{List, [], _∷_, map}
 use lib.Dec.{eqb}
-use lib.ListN.{length, drop}
+use lib.ListN.{length}
 use Rattle.octets.specs.Choice.{pick}
 use Rattle.octets.specs.Octets.{part, number, octetAt, slices}
 use Rattle.octets.specs.Lists.{collect}
 use Rattle.rules.specs.Model.{Settings, Holding, tunnelHolding, pdrHolding, endpointHolding, sessionHoldings, teidOf, heldTeids}
-use Rattle.rules.specs.Layout.{viewTunnel, viewPdr, viewEndpoint, viewSession}
+use Rattle.rules.specs.Layout.{tunnelRead, viewPdr, viewEndpoint, viewSession}
 use Rattle.pool.specs.Map.{marked, mark, marks, newMarks, offsets}
 use Rattle.holdings.specs.Walk.{joins, sessionMarks}
 use Rattle.sessions.specs.Slot.{slotSound}
@@ -31,7 +31,7 @@ alike xs ys = eqb (octetAt xs 17 % 4) (octetAt ys 17 % 4) && eqb (octetAt xs 11)
 
 -- the hold of a PDR whose slot has an F-TEID
 unfoldable pub heldBy : List ℕ → Holding
-heldBy xs = tunnelHolding true (octetAt xs 11) (viewTunnel (drop 13 xs))
+heldBy xs = tunnelHolding true (octetAt xs 11) (tunnelRead (number (part 13 4 xs)) (octetAt xs 17))
 
 -- ---- holds by octets
 

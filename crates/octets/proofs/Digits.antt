@@ -67,6 +67,10 @@ pub be-number : (xs : List ℕ) → T (octets xs) → be (length xs) (number xs)
 unfolding be
 be-number xs o = let e : 0 + length xs ≡ length xs = omega arith in rw (← from-zero xs) (rw e at (be-after xs 0 0 o))
 
+-- the octets of a number that was read from as many
+pub be-back : (n : ℕ) (xs : List ℕ) → length xs ≡ n → T (octets xs) → be n (number xs) ≡ xs
+be-back n xs e o = rw (← e) (be-number xs o)
+
 -- a number of k octets and one more octet are a number of k + 1 octets
 pub grows : (v x k : ℕ) → v < 256 ^ k → x < 256 → v * 256 + x < 256 ^ suc k
 grows v x k h l = rw pow-suc (omega arith)
@@ -121,6 +125,11 @@ drop-octets (suc n) (x ∷ s) o = drop-octets n s (and-right (ltb x 256) (areByt
 
 pub part-octets : (at n : ℕ) (s : List ℕ) → T (octets s) → T (octets (part at n s))
 part-octets at n s o = take-octets n (drop at s) (drop-octets at s o)
+
+-- two lists of octets
+pub octets-append : (xs ys : List ℕ) → T (octets xs) → T (octets ys) → T (octets (xs ++ ys))
+octets-append [] ys h g = g
+octets-append (x ∷ xs) ys h g = both (ltb x 256) (areBytes (xs ++ ys)) (and-left (ltb x 256) (areBytes xs) h) (octets-append xs ys (and-right (ltb x 256) (areBytes xs) h) g)
 
 -- what a slice of u8 holds are octets
 pub octets-known : (s : List ℕ) → ((i : ℕ) → getD s i 0 < 256) → T (octets s)

@@ -1,21 +1,22 @@
 -- Fields and octets: each way back, for all widths. Assumes nothing.
 use mathlib.Core.Bool.{Bool, true, false, _&&_, false≢true}
-use mathlib.Core.List.{List, [], _∷_, _++_, append-assoc}
+use mathlib.Core.List.{List, [], _∷_, _++_, append-assoc, append-nil}
 use mathlib.Core.Path.{_≡_, refl, sym, ap, _∙_}
 use Prim.Native.Nat.{ℕ, zero, suc, _+_, _*_, _^_, _≤_, _<_, zero-le}
-use native.Mathlib.Nat.{suc-ne-zero, suc-inj}
+use native.Mathlib.Nat.{suc-ne-zero, suc-inj, zero-add, zero-mul, suc-mul, one-le-pow, add-zero, le-of-suc-le-suc}
 use native.Mathlib.Numerals.{add-one}
 use native.Mathlib.Omega.{arith}
-use borrow.Author.Tests.{ltb-true, lt-ltb, leb-true}
-use lib.Dec.{ltb, leb, lit<}
+use borrow.Author.Tests.{ltb-true, lt-ltb, leb-true, ne-eqb}
+use lib.Dec.{ltb, leb, eqb, lit<}
 use lib.ListN.{length, getD, take, drop, set, drop-of-length-le, length-append}
 use lib.Seq.{take-all, take-suc-set, append-snoc, drop-cons, take-at, drop-at, take-add, drop-drop}
 use lib.Dec.{T}
-use Rattle.octets.specs.Octets.{part, put, number, be, octets}
+use Rattle.octets.specs.Octets.{part, put, number, be, octets, sameOctets, allZero}
 use Rattle.octets.specs.Fields.{widthOf, narrow, fieldsAt, fit, fieldOctets}
 use Rattle.octets.proofs.Parts.{part-first}
-use Rattle.octets.proofs.Put.{length-part, length-put, put-none, put-put}
-use Rattle.octets.proofs.Numbers.{length-be, number-be}
+use Rattle.octets.proofs.Put.{length-part, length-put, put-none, put-put, put-over}
+use Rattle.octets.proofs.Numbers.{length-be, number-be, same-refl, same-eq}
+use Rattle.octets.proofs.Tests.{of-true, is-true}
 use Rattle.octets.proofs.Digits.{number-one, be-number, number-below, part-octets}
 
 -- both of two tests that hold together
@@ -166,3 +167,116 @@ unfolding fieldsAt widthOf
 last-read at [] s h = octet-read at s (omega arith) ∙ ap (λ (i : ℕ). getD s i 0) (omega arith)
 last-read at (w ∷ ws) s h =
     last-read (at + w) ws s (omega arith) ∙ ap (λ (i : ℕ). getD s i 0) (omega arith)
+
+-- wherever it stands, also past the end
+pub octet-field : (at : ℕ) (s : List ℕ) → number (part at 1 s) ≡ getD s at 0
+unfolding number
+octet-field zero [] = refl
+octet-field zero (x ∷ s) = number-one x
+octet-field (suc at) [] = refl
+octet-field (suc at) (x ∷ s) = octet-field at s
+
+-- ---- octets are zeros exactly when their number is 0, and when their fields are
+
+both-zero : (x p n : ℕ) → 1 ≤ p → eqb (x * p + n) 0 ≡ (eqb x 0 && eqb n 0)
+both-zero zero p n h = ap (λ (k : ℕ). eqb (k + n) 0) (zero-mul p) ∙ ap (λ (k : ℕ). eqb k 0) (zero-add n)
+both-zero (suc x) p n h =
+    let e : suc x * p ≡ x * p + p = suc-mul x p in
+    ne-eqb (suc x * p + n) 0 (λ q. omega arith) ∙ sym (rw (ne-eqb (suc x) 0 (λ q. omega arith)))
+
+pub zero-number : (xs : List ℕ) → allZero xs ≡ eqb (number xs) 0
+unfolding allZero number
+zero-number [] = refl
+zero-number (x ∷ xs) = ap (λ (b : Bool). eqb x 0 && b) (zero-number xs) ∙ sym (both-zero x (256 ^ length xs) (number xs) (one-le-pow (length xs) 256 (lit< tt)))
+
+pub zero-append : (xs ys : List ℕ) → allZero (xs ++ ys) ≡ (allZero xs && allZero ys)
+unfolding allZero
+zero-append [] ys = refl
+zero-append (x ∷ xs) ys = ap (λ (b : Bool). eqb x 0 && b) (zero-append xs ys) ∙ sym (and-assoc (eqb x 0) (allZero xs) (allZero ys))
+  where
+    and-assoc : (a b c : Bool) → ((a && b) && c) ≡ (a && (b && c))
+    and-assoc true b c = refl
+    and-assoc false b c = refl
+
+pub zero-fields : (at : ℕ) (ws s : List ℕ) → allZero (part at (widthOf ws) s) ≡ allZero (fieldsAt at ws s)
+unfolding widthOf fieldsAt allZero
+zero-fields at [] s = refl
+zero-fields at (w ∷ ws) s =
+    ap allZero (take-add w (widthOf ws) (drop at s)) ∙ zero-append (part at w s) (take (widthOf ws) (drop w (drop at s)))
+    ∙ rw (drop-drop w at s, zero-number (part at w s), zero-fields (at + w) ws s)
+
+-- ---- a record as a list of fields: the numbers of a record, and the record of numbers
+
+-- each number fits its width
+abbrev pub Fits : List ℕ → List ℕ → Type 0
+Fits [] [] = Unit {0}
+Fits [] (v ∷ vs) = ⊥
+Fits (w ∷ ws) [] = ⊥
+Fits (w ∷ ws) (v ∷ vs) = (v < 256 ^ w) × Fits ws vs
+
+pub all-fit : (ws vs : List ℕ) → Fits ws vs → fit ws vs ≡ true
+unfolding fit
+all-fit [] [] h = refl
+all-fit [] (v ∷ vs) h = absurd h
+all-fit (w ∷ ws) [] h = absurd h
+all-fit (w ∷ ws) (v ∷ vs) h = rw (lt-ltb v (256 ^ w) (h .0)) (all-fit ws vs (h .1))
+
+pub each-fit : (ws vs : List ℕ) → fit ws vs ≡ true → Fits ws vs
+unfolding fit
+each-fit [] [] h = tt
+each-fit [] (v ∷ vs) h = absurd (false≢true h)
+each-fit (w ∷ ws) [] h = absurd (false≢true h)
+each-fit (w ∷ ws) (v ∷ vs) h = let k = both (ltb v (256 ^ w)) (fit ws vs) h in (ltb-true v (256 ^ w) (k .0), each-fit ws vs (k .1))
+
+pub fields-back : (ws vs : List ℕ) → fit ws vs ≡ true → fieldsAt 0 ws (fieldOctets ws vs) ≡ vs
+fields-back ws vs f = rw append-nil at (fields-octets 0 [] ws vs [] refl f)
+
+-- one field written anew, whatever stands before them
+put-field-after : (p : List ℕ) (at k : ℕ) (ws vs : List ℕ) (v : ℕ) → length p ≡ at → k < length ws → length vs ≡ length ws
+    → put (at + widthOf (take k ws)) (be (getD ws k 0) v) (p ++ fieldOctets ws vs) ≡ p ++ fieldOctets ws (set vs k v)
+unfolding fieldOctets widthOf
+put-field-after p at k [] vs v l h e = absurd (omega arith)
+put-field-after p at k (w ∷ ws) [] v l h e = absurd (suc-ne-zero (length ws) (sym e))
+put-field-after p at zero (w ∷ ws) (x ∷ vs) v l h e =
+    rw add-zero (put-over p (be w x) (fieldOctets ws vs) (be w v) at l (length-be w v ∙ sym (length-be w x)))
+put-field-after p at (suc k) (w ∷ ws) (x ∷ vs) v l h e =
+    let g : length (p ++ be w x) ≡ at + w = simp (length-append, length-be) (omega arith) in
+    let m : at + (w + widthOf (take k ws)) ≡ at + w + widthOf (take k ws) = omega arith in
+    rw (m, ← append-assoc p (be w x) (fieldOctets ws vs), ← append-assoc p (be w x) (fieldOctets ws (set vs k v)))
+    (put-field-after (p ++ be w x) (at + w) k ws vs v g (le-of-suc-le-suc h) (suc-inj e))
+
+pub put-field : (k : ℕ) (ws vs : List ℕ) (v : ℕ) → k < length ws → length vs ≡ length ws
+    → put (widthOf (take k ws)) (be (getD ws k 0) v) (fieldOctets ws vs) ≡ fieldOctets ws (set vs k v)
+put-field k ws vs v h e = rw zero-add at (put-field-after [] 0 k ws vs v refl h e)
+
+-- octets are those of numbers exactly when their fields are the numbers
+pub same-fields : (ws vs xs : List ℕ) → length xs ≡ widthOf ws → T (octets xs) → fit ws vs ≡ true
+    → sameOctets (fieldOctets ws vs) xs ≡ sameOctets vs (fieldsAt 0 ws xs)
+same-fields ws vs xs e o f =
+    go (sameOctets (fieldOctets ws vs) xs) (sameOctets vs (fieldsAt 0 ws xs))
+    (λ h. of-true (ap (λ (l : List ℕ). sameOctets vs (fieldsAt 0 ws l)) (sym (same-eq (fieldOctets ws vs) xs h)) ∙ rw (fields-back ws vs f) (same-refl vs)))
+    (λ h. of-true (ap (λ (l : List ℕ). sameOctets (fieldOctets ws l) xs) (same-eq vs (fieldsAt 0 ws xs) h) ∙ rw (octets-fields-all ws xs o e) (same-refl xs)))
+  where
+    go : (a b : Bool) → (T a → T b) → (T b → T a) → a ≡ b
+    go true b f g = sym (is-true b (f tt))
+    go false true f g = absurd (g tt)
+    go false false f g = refl
+
+module _ {A : Type 0} (ws : List ℕ) (numbers : A → List ℕ) (from : List ℕ → A) where
+  -- a record is read back from its octets
+  pub record-back : (r : A) → fit ws (numbers r) ≡ true → from (numbers r) ≡ r → from (fieldsAt 0 ws (fieldOctets ws (numbers r))) ≡ r
+  record-back r f e = ap from (fields-back ws (numbers r) f) ∙ e
+
+  -- a slot is that of an allowed record exactly when its numbers pass a test
+  pub slot-law : (allowed : A → Bool) (test : List ℕ → Bool) → ((r : A) → T (allowed r) → fit ws (numbers r) ≡ true)
+      → (xs : List ℕ) → length xs ≡ widthOf ws → T (octets xs)
+      → (allowed (from (fieldsAt 0 ws xs)) && sameOctets (numbers (from (fieldsAt 0 ws xs))) (fieldsAt 0 ws xs)) ≡ test (fieldsAt 0 ws xs)
+      → (allowed (from (fieldsAt 0 ws xs)) && sameOctets (fieldOctets ws (numbers (from (fieldsAt 0 ws xs)))) xs) ≡ test (fieldsAt 0 ws xs)
+  slot-law allowed test fits xs e o same = go (allowed (from (fieldsAt 0 ws xs))) refl ∙ same
+    where
+      r : A
+      r = from (fieldsAt 0 ws xs)
+
+      go : (b : Bool) → allowed r ≡ b → (b && sameOctets (fieldOctets ws (numbers r)) xs) ≡ (b && sameOctets (numbers r) (fieldsAt 0 ws xs))
+      go true a = same-fields ws (numbers r) xs e o (fits r (of-true a))
+      go false a = refl

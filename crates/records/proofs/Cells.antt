@@ -1,4 +1,4 @@
--- Lists of a known length, cell by cell; tests that come to the same; comparing octets part by part. Of general use.
+-- Tests that come to the same; comparing octets part by part. Of general use.
 -- Assumes nothing.
 use mathlib.Core.Path.{_≡_, refl, sym, ap, _∙_}
 use Prim.Native.Nat.{ℕ, zero, suc, _+_, _-_, _≤_, _<_}
@@ -6,16 +6,14 @@ use native.Mathlib.Nat.{suc-ne-zero, suc-inj, zero-add, suc-add}
 use native.Mathlib.Omega.{arith}
 use mathlib.Core.Bool.{Bool, true, false, _&&_, _||_}
 use mathlib.Core.List.{List, [], _∷_, _++_}
-use lib.ListN.{length, take, drop, getD, length-drop, take-append-drop}
+use lib.ListN.{length, take, drop, length-drop, take-append-drop}
 use lib.Seq.{length-take-le, take-nil, take-all, take-add, drop-drop}
-use lib.Dec.{T, ltb, eqb, eqb-refl, eqb→eq, ltb→lt}
+use lib.Dec.{T, eqb, eqb-refl, eqb→eq}
 use mir.Facts.{yes-eqb}
-use lib.Pow.{areBytes}
 use Rattle.octets.specs.Choice.{flag}
-use Rattle.octets.specs.Octets.{part, sameOctets, zeros, padded, allZero, octets, be, number}
+use Rattle.octets.specs.Octets.{part, sameOctets, zeros, padded, allZero}
 use Rattle.octets.proofs.Numbers.{same-refl}
-use Rattle.octets.proofs.Tests.{is-true, and-left}
-use Rattle.octets.proofs.Digits.{be-number}
+use Rattle.octets.proofs.Tests.{is-true}
 
 -- ---- tests
 
@@ -48,20 +46,6 @@ and-assoc false b c = refl
 pub eqb-same : (x : ℕ) → eqb x x ≡ true
 eqb-same x = is-true (eqb x x) (eqb-refl x)
 
--- ---- cells
-
--- the first n cells of a list
-unfoldable pub cells : ℕ → List ℕ → List ℕ
-cells zero xs = []
-cells (suc n) xs = getD xs 0 0 ∷ cells n (drop 1 xs)
-
-pub all-cells : (n : ℕ) (xs : List ℕ) → length xs ≡ n → xs ≡ cells n xs
-unfolding cells
-all-cells zero [] e = refl
-all-cells zero (x ∷ xs) e = absurd (suc-ne-zero (length xs) e)
-all-cells (suc n) [] e = absurd (suc-ne-zero n (sym e))
-all-cells (suc n) (x ∷ xs) e = ap (λ (l : List ℕ). x ∷ l) (all-cells n xs (suc-inj e))
-
 -- ---- comparing
 
 pub same-append : (a b x y : List ℕ) → length a ≡ length x → sameOctets (a ++ b) (x ++ y) ≡ (sameOctets a x && sameOctets b y)
@@ -81,10 +65,6 @@ unfolding sameOctets zeros allZero
 same-zeros [] = refl
 same-zeros (x ∷ xs) = λ i. eqb-turn 0 x i && same-zeros xs i
 
--- the octets of a number that was read from as many
-pub be-back : (n : ℕ) (xs : List ℕ) → length xs ≡ n → T (octets xs) → be n (number xs) ≡ xs
-be-back n xs e o = rw (← e) (be-number xs o)
-
 -- ---- bits
 
 -- the octet of two flags
@@ -103,13 +83,15 @@ same-padded m xs h =
     ∙ same-append (take m xs) (zeros (length xs - length (take m xs))) (take m xs) (drop m xs) refl
     ∙ rw (same-refl (take m xs), long, ← room) (same-zeros (drop m xs))
 
--- the first of octets
-pub octet-below : (x : ℕ) (xs : List ℕ) → T (octets (x ∷ xs)) → x < 256
-octet-below x xs o = ltb→lt x 256 (and-left (ltb x 256) (areBytes xs) o)
-
 pub and-comm : (a b : Bool) → (a && b) ≡ (b && a)
 and-comm true b = sym (and-true b)
 and-comm false b = sym (and-false b)
+
+pub interchange : (a b c d : Bool) → ((a && b) && (c && d)) ≡ ((a && c) && (b && d))
+interchange true true c d = refl
+interchange true false true d = refl
+interchange true false false d = refl
+interchange false b c d = refl
 
 -- the last of three tests put first
 pub last-first : (a b c : Bool) → (a && (b && c)) ≡ (c && (a && b))

@@ -1,205 +1,216 @@
 -- What the tests of a slot come to, field by field: what is left is what an octet can have wrong.
 -- Assumes nothing.
-use mathlib.Core.Path.{_≡_, refl, sym, ap, subst, _∙_}
+use mathlib.Core.Path.{_≡_, refl, sym, ap, ap₂, subst, _∙_}
 use Prim.Native.Nat.{ℕ, suc, _+_, _-_, _/_, _^_, _≤_, _<_, zero-le}
 use native.Mathlib.Omega.{arith}
 use mathlib.Core.Bool.{Bool, true, false, not, _&&_, _||_}
-use mathlib.Core.Option.{Option, none, some}
+use mathlib.Core.Option.{none, some}
 use mathlib.Core.List.{List, [], _∷_, _++_, append-nil}
 use borrow.Author.Tests.{lt-ltb, eq-eqb, eqb-true}
-use lib.ListN.{length, take, drop, getD, drop-of-length-le, length-drop}
-use lib.Seq.{take-append-le, take-all, take-at, drop-at, drop-drop, drop-cons, length-take-le}
-use Rattle.octets.proofs.Put.{length-part}
-use Rattle.laws.proofs.LayoutLaws.{address-short}
-use lib.Dec.{T, leb, ltb, eqb, lit<}
+use lib.ListN.{length, take, drop, getD, drop-of-length-le, length-drop, length-append}
+use lib.Seq.{take-all, take-at, drop-at, drop-drop, drop-cons}
+use lib.Dec.{T, leb, ltb, eqb, lit≤, lit<}
 use lib.Pow.{areBytes}
-use Rattle.octets.specs.Choice.{pick, flag, isNil, allOf}
+use Rattle.octets.specs.Choice.{pick, flag, isNil, isSome, valueOr, allOf}
 use Rattle.octets.specs.Octets.{part, number, numberAt, octetAt, be, zeros, padded, allZero, sameOctets, octets}
+use Rattle.octets.specs.Fields.{widthOf, fieldsAt}
 use Rattle.octets.specs.Lists.{member}
 use Rattle.octets.proofs.Tests.{is-true}
-use Rattle.octets.proofs.Numbers.{same-refl, length-padded}
-use Rattle.octets.proofs.Digits.{number-below, part-octets, take-octets}
-use Rattle.rules.specs.Model.{Settings, Place, neither, tunnel, endpoint}
+use Rattle.octets.proofs.Numbers.{same-refl, length-padded, length-be, number-be, bytes-be}
+use Rattle.octets.proofs.Put.{length-part}
+use Rattle.octets.proofs.Digits.{octets-append, part-octets, take-octets, be-back}
+use Rattle.octets.proofs.FieldLaws.{Fits, each-fit, fit-fields, slot-law, zero-number}
+use Rattle.rules.specs.Model.{Settings, neither, tunnel, endpoint}
 use Rattle.rules.specs.Limits.{maxOperator}
 use Rattle.rules.specs.Elements.{addressLength, operatorAllowed, nodeAddressTests, nodeAddressAllowed, nodeTypeKept, below16}
-use Rattle.rules.specs.Layout.{families, farOctets, placeOctets, pdrOctets, endpointOctets, csidOctets, viewTunnel, settingsOctets, viewSettings, viewFar, viewPlace, viewPdr, viewEndpoint, viewCsid}
+use Rattle.rules.specs.Layout.{families, optionRead, tunnelRead, pdrWidths, matchKind, matchTeid, matchFamilies, matchEndpoint, placeRead, pdrNumbers, pdrFrom, endpointWidths, endpointNumbers, endpointFrom, csidSlotWidths, csidSlotNumbers, addressRead, csidFrom, pdrOctets, endpointOctets, csidOctets, settingsOctets, viewSettings, viewPdr, viewEndpoint, viewCsid}
 use Rattle.rules.specs.Sound.{poolTests, ipv6Allowed, settingsTests, settingsAllowed, tunnelAllowed, placeAllowed, farAllowed, pdrTests, pdrAllowed, endpointTests, endpointAllowed, csidTests, csidAllowed}
-use Rattle.records.specs.Kept.{kept, settingsSound, pdrSound, endpointSound, csidSound, tunnelSound, placeSound, optionalSound}
-use Rattle.records.proofs.Cells.{and-true, and-false, eqb-same, eqb-turn, cells, all-cells, be-back, same-zeros, octet-below, same-append, same-padded, two-parts, and-comm, last-first}
+use Rattle.laws.proofs.LayoutLaws.{pdr-fits, endpoint-fits, csid-fits}
+use Rattle.records.specs.Kept.{kept, settingsSound, pdrSound, endpointSound, csidSound, unit, optionalTest, tunnelTest, placeTest, pdrTest, endpointTest, csidTest}
+use Rattle.records.proofs.Cells.{and-true, and-false, interchange, eqb-same, eqb-turn, same-zeros, same-append, two-parts, and-comm, last-first}
+use Rattle.records.proofs.Tunnels.{tunnel-law}
 
--- ---- endpoints
+-- ---- fields one by one
 
-module _ (s : Settings) where
-  endpoint-cells : (a b c d e f : ℕ) → T (octets (a ∷ b ∷ c ∷ d ∷ e ∷ f ∷ []))
-      → endpointSound s (a ∷ b ∷ c ∷ d ∷ e ∷ f ∷ []) ≡ tunnelSound s (b ∷ c ∷ d ∷ e ∷ f ∷ [])
-  unfolding endpointSound kept endpointAllowed endpointTests endpointOctets viewEndpoint tunnelSound sameOctets octetAt viewTunnel numberAt
-  endpoint-cells a b c d e f o =
-      let xs : List ℕ = a ∷ b ∷ c ∷ d ∷ e ∷ f ∷ [] in
-      rw (be-back 4 (b ∷ c ∷ d ∷ e ∷ []) refl (part-octets 1 4 xs o))
-      (simp (lt-ltb a 256 (octet-below a (b ∷ c ∷ d ∷ e ∷ f ∷ []) o), eqb-same, and-true))
+-- what a field allows, and its numbers us read back as vs, come to the test r
+record Comes (a : Bool) (us vs : List ℕ) (r : Bool) : Type 0 where
+  long : length us ≡ length vs
+  same : (a && sameOctets us vs) ≡ r
 
-  pub endpoint-law : (xs : List ℕ) → length xs ≡ 6 → T (octets xs) → endpointSound s xs ≡ tunnelSound s (drop 1 xs)
-  unfolding cells
-  endpoint-law xs e =
-      subst (λ (ys : List ℕ). T (octets ys) → endpointSound s ys ≡ tunnelSound s (drop 1 ys)) (sym (all-cells 6 xs e)) (endpoint-cells _ _ _ _ _ _)
+-- a field beside the others
+beside : {a c r t : Bool} {us vs us′ vs′ : List ℕ} → Comes a us vs r → Comes c us′ vs′ t → Comes (a && c) (us ++ us′) (vs ++ vs′) (r && t)
+beside {a} {c} {r} {t} {us} {vs} {us′} {vs′} e f =
+    record {
+      long = length-append us us′ ∙ ap₂ _+_ (e .long) (f .long) ∙ sym (length-append vs vs′);
+      same = ap (λ (b : Bool). (a && c) && b) (same-append us us′ vs vs′ (e .long)) ∙ interchange a c (sameOctets us vs) (sameOctets us′ vs′) ∙ (λ i. e .same i && f .same i);
+    }
 
-  -- ---- PDRs
+no-field : Comes true [] [] true
+no-field = record { long = refl; same = same-refl [] }
 
-  far-with : (b : Bool) (g : ℕ) (h : List ℕ) → length h ≡ 4 → T (octets h) → eqb g 0 ≡ b
-      → (farAllowed (pick b none (some (number h))) && sameOctets (farOctets (pick b none (some (number h)))) (g ∷ h)) ≡ pick b (allZero h) (eqb g 1)
-  unfolding farAllowed farOctets sameOctets zeros
-  far-with true g h l o e =
-      let k : sameOctets (zeros 5) (g ∷ h) ≡ allZero (g ∷ h) = ap (λ (n : ℕ). sameOctets (zeros (suc n)) (g ∷ h)) (sym l) ∙ same-zeros (g ∷ h) in
-      k ∙ unfold allZero in rw e
-  far-with false g h l o e =
-      let below : number h < 256 ^ 4 = rw l at (number-below h o) in
-      rw (lt-ltb (number h) (2 ^ 32) below, be-back 4 h l o, same-refl h, eqb-turn 1 g) (and-true (eqb g 1))
+-- a number that is tested alone, and one that any slot may have
+tested : (b : Bool) (v : ℕ) → Comes b (v ∷ []) (v ∷ []) b
+tested b v = record { long = refl; same = rw (same-refl (v ∷ [])) (and-true b) }
+
+untested : (n v : ℕ) → v < n → Comes (ltb v n) (v ∷ []) (v ∷ []) true
+untested n v h = record { long = refl; same = rw (lt-ltb v n h) (same-refl (v ∷ [])) }
+
+optional-same : (g h : ℕ) → h < 2 ^ 32
+    → (farAllowed (optionRead g h) && sameOctets (flag (isSome (optionRead g h)) ∷ valueOr 0 (optionRead g h) ∷ []) (g ∷ h ∷ [])) ≡ optionalTest g h
+unfolding optionRead farAllowed sameOctets
+optional-same g h k = go (eqb g 0) refl
+  where
+    go : (b : Bool) → eqb g 0 ≡ b
+        → let o = pick b none (some h) in
+        (farAllowed o && (eqb (flag (isSome o)) g && (eqb (valueOr 0 o) h && true))) ≡ pick b (eqb h 0) (eqb g 1)
+    go true e = rw (eqb-turn 0 g, e, eqb-turn 0 h) (and-true (eqb h 0))
+    go false e = rw (lt-ltb h (2 ^ 32) k, eqb-turn 1 g, eqb-same h) (and-true (eqb g 1))
+
+optional : (g h : ℕ) → h < 2 ^ 32 → Comes (farAllowed (optionRead g h)) (flag (isSome (optionRead g h)) ∷ valueOr 0 (optionRead g h) ∷ []) (g ∷ h ∷ []) (optionalTest g h)
+optional g h k = record { long = refl; same = optional-same g h k }
+
+module _ (first size : ℕ) (v6 : Bool) where
+  abbrev s : Settings
+  s = unit first size v6
+
+  pool : first + size ≤ 2 ^ 32 → s .first + s .size ≤ 2 ^ 32
+  unfolding unit
+  pool h = h
+
+  -- ---- endpoints
+
+  endpoint-same : (i t f : ℕ) → i < 256
+      → let vs = i ∷ t ∷ f ∷ [] in
+      (endpointAllowed s (endpointFrom vs) && sameOctets (endpointNumbers (endpointFrom vs)) vs) ≡ endpointTest first size v6 vs
+  unfolding endpointAllowed endpointTests endpointFrom endpointNumbers endpointTest sameOctets tunnelRead
+  endpoint-same i t f h =
+      rw (lt-ltb i 256 h, eqb-same i, eqb-same t) (simp and-true (tunnel-law first size v6 t f))
+
+  pub endpoint-law : first + size ≤ 2 ^ 32 → (xs : List ℕ) → length xs ≡ 6 → T (octets xs) → endpointSound s xs ≡ endpointTest first size v6 (fieldsAt 0 endpointWidths xs)
+  unfolding endpointSound kept endpointOctets viewEndpoint widthOf fieldsAt
+  endpoint-law h xs e o =
+      let b = each-fit endpointWidths _ (fit-fields 0 endpointWidths xs o (omega arith)) in
+      slot-law endpointWidths endpointNumbers endpointFrom (endpointAllowed s) (endpointTest first size v6) (endpoint-fits s (pool h)) xs e o
+      (endpoint-same _ _ _ (b .0))
 
   -- ---- what a PDR matches on
 
-  -- the place: a number that says which, then an F-TEID and an endpoint ID
-  abbrev pub placeTest : List ℕ → ℕ → List ℕ → Bool
-  placeTest live k m =
-      pick (eqb k 1) (eqb (getD m 5 0) 0 && tunnelSound s m)
-      (pick (eqb k 2) (allZero (take 5 m) && member (getD m 5 0) live) (allZero (k ∷ m)))
+  place-law : (live : List ℕ) (k t f e : ℕ) → e < 256
+      → let l = placeRead k t f e in
+      (placeAllowed s live l && sameOctets (matchKind l ∷ matchTeid l ∷ matchFamilies l ∷ matchEndpoint l ∷ []) (k ∷ t ∷ f ∷ e ∷ [])) ≡ placeTest first size v6 live k t f e
+  unfolding placeRead tunnelRead
+  place-law live k t f e h = go (eqb k 1) (eqb k 2) refl refl
+    where
+      go : (b c : Bool) → eqb k 1 ≡ b → eqb k 2 ≡ c
+          → let l = pick b (tunnel (tunnelRead t f)) (pick c (endpoint e) neither) in
+          (placeAllowed s live l && sameOctets (matchKind l ∷ matchTeid l ∷ matchFamilies l ∷ matchEndpoint l ∷ []) (k ∷ t ∷ f ∷ e ∷ []))
+          ≡ pick b (eqb e 0 && tunnelTest first size v6 t f) (pick c (allZero (t ∷ f ∷ []) && member e live) (allZero (k ∷ t ∷ f ∷ e ∷ [])))
+      go true c eb ec =
+          unfold placeAllowed matchKind matchTeid matchFamilies matchEndpoint sameOctets in
+          (rw (eqb-turn 1 k, eb, eqb-turn 0 e, eqb-same t, and-true (eqb e 0))
+          (last-first (tunnelAllowed s (tunnelRead t f)) (eqb (families (tunnelRead t f)) f) (eqb e 0) ∙ ap (λ (b : Bool). eqb e 0 && b) (tunnel-law first size v6 t f)))
+      go false true eb ec =
+          unfold placeAllowed matchKind matchTeid matchFamilies matchEndpoint sameOctets allZero in
+          (rw (lt-ltb e 256 h, eqb-turn 2 k, ec, eqb-turn 0 t, eqb-turn 0 f, eqb-same e) (and-comm (member e live) (eqb t 0 && (eqb f 0 && true))))
+      go false false eb ec = unfold placeAllowed matchKind matchTeid matchFamilies matchEndpoint zeros in (same-zeros (k ∷ t ∷ f ∷ e ∷ []))
 
-  place-tunnel : (k u v w x y z : ℕ) → T (octets (u ∷ v ∷ w ∷ x ∷ y ∷ z ∷ [])) → eqb k 1 ≡ true
-      → let m = u ∷ v ∷ w ∷ x ∷ y ∷ z ∷ [] in
-      (tunnelAllowed s (viewTunnel m) && sameOctets (placeOctets (tunnel (viewTunnel m))) (k ∷ m)) ≡ (eqb z 0 && tunnelSound s m)
-  unfolding placeOctets sameOctets tunnelSound viewTunnel numberAt octetAt
-  place-tunnel k u v w x y z o e =
-      let m = u ∷ v ∷ w ∷ x ∷ y ∷ z ∷ [] in
-      rw (be-back 4 (u ∷ v ∷ w ∷ x ∷ []) refl (part-octets 0 4 m o), eqb-turn 1 k, e, eqb-turn 0 z)
-      (simp (eqb-same, and-true) (last-first (tunnelAllowed s (viewTunnel m)) (eqb (families (viewTunnel m)) y) (eqb z 0)))
-
-  place-endpoint : (live : List ℕ) (k u v w x y z : ℕ) → z < 256 → eqb k 2 ≡ true
-      → (placeAllowed s live (endpoint z) && sameOctets (placeOctets (endpoint z)) (k ∷ u ∷ v ∷ w ∷ x ∷ y ∷ z ∷ [])) ≡ (allZero (u ∷ v ∷ w ∷ x ∷ y ∷ []) && member z live)
-  unfolding placeAllowed placeOctets sameOctets zeros
-  place-endpoint live k u v w x y z h e =
-      rw (lt-ltb z 256 h, eqb-turn 2 k, e, eqb-same z)
-      (ap (λ (t : Bool). member z live && t) (same-zeros (u ∷ v ∷ w ∷ x ∷ y ∷ [])) ∙ and-comm (member z live) (allZero (u ∷ v ∷ w ∷ x ∷ y ∷ [])))
-
-  place-with : (b c : Bool) (live : List ℕ) (k u v w x y z : ℕ) → T (octets (u ∷ v ∷ w ∷ x ∷ y ∷ z ∷ [])) → eqb k 1 ≡ b → eqb k 2 ≡ c
-      → let m = u ∷ v ∷ w ∷ x ∷ y ∷ z ∷ [] in
-      let l : Place = pick b (tunnel (viewTunnel m)) (pick c (endpoint z) neither) in
-      (placeAllowed s live l && sameOctets (placeOctets l) (k ∷ m))
-      ≡ pick b (eqb z 0 && tunnelSound s m) (pick c (allZero (u ∷ v ∷ w ∷ x ∷ y ∷ []) && member z live) (allZero (k ∷ m)))
-  unfolding placeAllowed placeOctets zeros
-  place-with true c live k u v w x y z o eb ec = place-tunnel k u v w x y z o eb
-  place-with false true live k u v w x y z o eb ec = place-endpoint live k u v w x y z (octet-below z [] (part-octets 5 1 (u ∷ v ∷ w ∷ x ∷ y ∷ z ∷ []) o)) ec
-  place-with false false live k u v w x y z o eb ec = same-zeros (k ∷ u ∷ v ∷ w ∷ x ∷ y ∷ z ∷ [])
-
-  place-cells : (live : List ℕ) (k u v w x y z : ℕ) → T (octets (k ∷ u ∷ v ∷ w ∷ x ∷ y ∷ z ∷ []))
-      → placeSound s live (k ∷ u ∷ v ∷ w ∷ x ∷ y ∷ z ∷ []) ≡ placeTest live k (u ∷ v ∷ w ∷ x ∷ y ∷ z ∷ [])
-  unfolding placeSound kept viewPlace octetAt
-  place-cells live k u v w x y z o =
-      place-with (eqb k 1) (eqb k 2) live k u v w x y z (part-octets 1 6 (k ∷ u ∷ v ∷ w ∷ x ∷ y ∷ z ∷ []) o) refl refl
-
-  pub place-law : (live : List ℕ) (xs : List ℕ) → length xs ≡ 7 → T (octets xs) → placeSound s live xs ≡ placeTest live (getD xs 0 0) (drop 1 xs)
-  unfolding cells
-  place-law live xs e =
-      subst (λ (ys : List ℕ). T (octets ys) → placeSound s live ys ≡ placeTest live (getD ys 0 0) (drop 1 ys)) (sym (all-cells 7 xs e)) (place-cells live _ _ _ _ _ _ _)
+  matched : (live : List ℕ) (k t f e : ℕ) → e < 256
+      → let l = placeRead k t f e in
+      Comes (placeAllowed s live l) (matchKind l ∷ matchTeid l ∷ matchFamilies l ∷ matchEndpoint l ∷ []) (k ∷ t ∷ f ∷ e ∷ []) (placeTest first size v6 live k t f e)
+  matched live k t f e h = record { long = refl; same = place-law live k t f e h }
 
   -- ---- the whole PDR
 
-  abbrev pub pdrTest : List ℕ → List ℕ → Bool
-  pdrTest live xs = ltb (getD xs 11 0) 16 && (optionalSound 6 4 xs && placeSound s live (drop 12 xs))
+  pdr-same : (live : List ℕ) (i p g h c k t f e : ℕ)
+      → let vs = i ∷ p ∷ g ∷ h ∷ c ∷ k ∷ t ∷ f ∷ e ∷ [] in
+      Fits pdrWidths vs → Comes (pdrAllowed s live (pdrFrom vs)) (pdrNumbers (pdrFrom vs)) vs (pdrTest first size v6 live vs)
+  unfolding pdrAllowed pdrTests pdrFrom pdrNumbers pdrTest
+  pdr-same live i p g h c k t f e b =
+      beside (untested (2 ^ 16) i (b .0))
+      (beside (untested (2 ^ 32) p (b .1 .0))
+      (beside (optional g h (b .1 .1 .1 .0))
+      (beside (tested (ltb c 16) c)
+      (beside (matched live k t f e (b .1 .1 .1 .1 .1 .1 .1 .1 .0)) no-field))))
 
-  gather : (a b c d e : Bool) → ((a && (b && (c && true))) && (d && e)) ≡ (b && ((a && d) && (c && e)))
-  gather true true true d e = refl
-  gather true true false d e = sym (and-false d)
-  gather true false c d e = refl
-  gather false true c d e = refl
-  gather false false c d e = refl
-
-  length-far : (f : Option ℕ) → length (farOctets f) ≡ 5
-  unfolding farOctets zeros be
-  length-far none = refl
-  length-far (some n) = refl
-
-  pdr-cells : (i₀ i₁ p₀ p₁ p₂ p₃ g h₀ h₁ h₂ h₃ c k u v w x y z : ℕ) (live : List ℕ)
-      → let xs = i₀ ∷ i₁ ∷ p₀ ∷ p₁ ∷ p₂ ∷ p₃ ∷ g ∷ h₀ ∷ h₁ ∷ h₂ ∷ h₃ ∷ c ∷ k ∷ u ∷ v ∷ w ∷ x ∷ y ∷ z ∷ [] in
-      T (octets xs) → pdrSound s live xs ≡ pdrTest live xs
-  unfolding pdrSound placeSound optionalSound kept pdrAllowed pdrTests viewPdr pdrOctets numberAt octetAt viewFar viewPlace sameOctets
-  pdr-cells i₀ i₁ p₀ p₁ p₂ p₃ g h₀ h₁ h₂ h₃ c k u v w x y z live o =
-      let xs = i₀ ∷ i₁ ∷ p₀ ∷ p₁ ∷ p₂ ∷ p₃ ∷ g ∷ h₀ ∷ h₁ ∷ h₂ ∷ h₃ ∷ c ∷ k ∷ u ∷ v ∷ w ∷ x ∷ y ∷ z ∷ [] in
-      let i : List ℕ = i₀ ∷ i₁ ∷ [] in
-      let p : List ℕ = p₀ ∷ p₁ ∷ p₂ ∷ p₃ ∷ [] in
-      let h : List ℕ = h₀ ∷ h₁ ∷ h₂ ∷ h₃ ∷ [] in
-      let m : List ℕ = u ∷ v ∷ w ∷ x ∷ y ∷ z ∷ [] in
-      let f : Option ℕ = pick (eqb g 0) none (some (number h)) in
-      let l : Place = pick (eqb k 1) (tunnel (viewTunnel m)) (pick (eqb k 2) (endpoint z) neither) in
-      rw (lt-ltb (number i) (2 ^ 16) (number-below i (part-octets 0 2 xs o)), lt-ltb (number p) (2 ^ 32) (number-below p (part-octets 2 4 xs o)), be-back 2 i refl (part-octets 0 2 xs o), be-back 4 p refl (part-octets 2 4 xs o))
-      (simp (eqb-same)
-      (ap (λ (t : Bool). (farAllowed f && (ltb c 16 && (placeAllowed s live l && true))) && t)
-      (same-append (farOctets f) (c ∷ placeOctets l) (g ∷ h) (c ∷ k ∷ m) (length-far f) ∙ simp (eqb-same))
-      ∙ gather (farAllowed f) (ltb c 16) (placeAllowed s live l) (sameOctets (farOctets f) (g ∷ h)) (sameOctets (placeOctets l) (k ∷ m))
-      ∙ rw (far-with (eqb g 0) g h refl (part-octets 7 4 xs o) refl)))
-
-  pub pdr-law : (live xs : List ℕ) → length xs ≡ 19 → T (octets xs) → pdrSound s live xs ≡ pdrTest live xs
-  unfolding cells
-  pdr-law live xs e =
-      subst (λ (ys : List ℕ). T (octets ys) → pdrSound s live ys ≡ pdrTest live ys) (sym (all-cells 19 xs e))
-      (pdr-cells _ _ _ _ _ _ _ _ _ _ _ _ _ _ _ _ _ _ _ live)
+  pub pdr-law : first + size ≤ 2 ^ 32 → (live xs : List ℕ) → length xs ≡ 19 → T (octets xs) → pdrSound s live xs ≡ pdrTest first size v6 live (fieldsAt 0 pdrWidths xs)
+  unfolding pdrSound kept pdrOctets viewPdr widthOf fieldsAt
+  pdr-law h live xs e o =
+      slot-law pdrWidths pdrNumbers pdrFrom (pdrAllowed s live) (pdrTest first size v6 live) (pdr-fits s (pool h) live) xs e o
+      (pdr-same live _ _ _ _ _ _ _ _ _ (each-fit pdrWidths _ (fit-fields 0 pdrWidths xs o (omega arith))) .same)
 
 -- ---- FQ-CSIDs
 
--- the address of sixteen octets, or one of four and zeros; of type 2 with an operator that is allowed
-abbrev pub addressTest : ℕ → List ℕ → Bool
-addressTest t q = pick (eqb t 1) true ((not (eqb t 2) || leb (number (take 4 q) / 4096) maxOperator) && allZero (drop 4 q))
+-- an address read from two numbers has them again, but for the second where it has four octets
+module _ (a b : ℕ) (ha : a < 256 ^ 4) (hb : b < 256 ^ 12) where
+  abbrev address : Bool → List ℕ
+  address long = take (pick long 16 4) (be 4 a ++ be 12 b)
 
-address-with : (b : Bool) (t : ℕ) (q : List ℕ) → length q ≡ 16 → eqb t 1 ≡ b
-    → ((not (eqb t 2) || leb (number (take (pick b 16 4) q) / 4096) maxOperator) && allZero (drop (pick b 16 4) q))
-    ≡ pick b true ((not (eqb t 2) || leb (number (take 4 q) / 4096) maxOperator) && allZero (drop 4 q))
-address-with true t q l e =
-    let one : t ≡ 1 = eqb-true t 1 e in
-    let none : drop 16 q ≡ [] = drop-of-length-le q {i = 16} (omega arith) in
-    rw (one, none) (unfold allZero in refl)
-address-with false t q l e = refl
+  address-is : (long : Bool) → address long ≡ pick long (be 4 a ++ be 12 b) (be 4 a)
+  address-is true = take-all 16 (be 4 a ++ be 12 b) (rw (length-append, length-be, length-be) (lit≤ tt))
+  address-is false = take-at (be 4 a) (be 12 b) 4 (length-be 4 a)
 
-abbrev pub csidTest : List ℕ → Bool
-csidTest xs = ltb (getD xs 0 0) 6 && (leb (getD xs 1 0) 2 && addressTest (getD xs 1 0) (part 2 16 xs))
+  address-length : (long : Bool) → length (address long) ≡ pick long 16 4
+  address-length long = ap length (address-is long) ∙ go long
+    where
+      go : (long : Bool) → length (pick long (be 4 a ++ be 12 b) (be 4 a)) ≡ pick long 16 4
+      go true = rw (length-append, length-be, length-be)
+      go false = length-be 4 a
 
-order : (a b c d : Bool) → ((a && ((b && (c && true)) && true)) && d) ≡ (a && (b && (c && d)))
-order true true c d = rw (and-true c, and-true c)
-order true false c d = refl
-order false b c d = refl
+  address-octets : (long : Bool) → T (octets (address long))
+  address-octets long = take-octets (pick long 16 4) (be 4 a ++ be 12 b) (octets-append (be 4 a) (be 12 b) (bytes-be 4 a) (bytes-be 12 b))
 
-csid-parts : (n t : ℕ) (q c : List ℕ) → length q ≡ 16 → length c ≡ 2 → T (octets q) → T (octets c)
-    → csidSound (n ∷ t ∷ (q ++ c)) ≡ (ltb n 6 && (leb t 2 && addressTest t q))
-unfolding csidSound kept csidAllowed csidTests nodeTypeKept nodeAddressAllowed nodeAddressTests operatorAllowed below16 csidOctets viewCsid octetAt numberAt addressLength sameOctets
-csid-parts n t q c lq lc oq oc =
-    let m : ℕ = pick (eqb t 1) 16 4 in
-    let short : m ≤ 16 = unfold addressLength in address-short t in
-    let read : take m (q ++ c) ≡ take m q = take-append-le m q c (omega arith) in
-    let code : take 2 (drop 16 (q ++ c)) ≡ c = ap (take 2) (drop-at q c 16 lq) ∙ take-all 2 c (omega arith) in
-    let long : length (take m q) ≡ m = length-take-le m q (omega arith) in
-    let small : number c < 2 ^ 16 = rw lc at (number-below c oc) in
-    let pad : sameOctets (padded 16 (take m q)) q ≡ allZero (drop m q) =
-    ap (λ (k : ℕ). sameOctets (padded k (take m q)) q) (sym lq) ∙ same-padded m q (omega arith) in
-    let whole : sameOctets (padded 16 (take m q) ++ be 2 (number c)) (q ++ c) ≡ allZero (drop m q) =
-    same-append (padded 16 (take m q)) (be 2 (number c)) q c (length-padded 16 (take m q) (omega arith) ∙ sym lq)
-    ∙ rw (be-back 2 c lc oc, same-refl c) (and-true _ ∙ pad) in
-    rw (read, code, eq-eqb (length (take m q)) m long, is-true (areBytes (take m q)) (take-octets m q oq), lt-ltb (number c) (2 ^ 16) small, eqb-same n, eqb-same t, whole)
-    (order (ltb n 6) (leb t 2) (not (eqb t 2) || leb (number (take m q) / 4096) maxOperator) (allZero (drop m q))
-    ∙ ap (λ (b : Bool). ltb n 6 && (leb t 2 && b)) (address-with (eqb t 1) t q lq refl))
+  address-first : (long : Bool) → number (take 4 (address long)) ≡ a
+  address-first long = ap (λ (l : List ℕ). number (take 4 l)) (address-is long) ∙ go long
+    where
+      go : (long : Bool) → number (take 4 (pick long (be 4 a ++ be 12 b) (be 4 a))) ≡ a
+      go true = rw (take-at (be 4 a) (be 12 b) 4 (length-be 4 a)) (number-be 4 a ha)
+      go false = rw (take-all 4 (be 4 a) (rw length-be (lit≤ tt))) (number-be 4 a ha)
 
-pub csid-law : (xs : List ℕ) → length xs ≡ 20 → T (octets xs) → csidSound xs ≡ csidTest xs
+  address-rest : (long : Bool) → number (drop 4 (address long)) ≡ pick long b 0
+  address-rest long = ap (λ (l : List ℕ). number (drop 4 l)) (address-is long) ∙ go long
+    where
+      go : (long : Bool) → number (drop 4 (pick long (be 4 a ++ be 12 b) (be 4 a))) ≡ pick long b 0
+      go true = rw (drop-at (be 4 a) (be 12 b) 4 (length-be 4 a)) (number-be 12 b hb)
+      go false = rw (drop-of-length-le (be 4 a) {i = 4} (rw length-be (lit≤ tt))) (unfold number in refl)
+
+  address-law : (t : ℕ) (long : Bool) → eqb t 1 ≡ long → ((not (eqb t 2) || leb (number (address long) / 4096) maxOperator) && eqb (pick long b 0) b) ≡ pick long true ((not (eqb t 2) || leb (a / 4096) maxOperator) && eqb b 0)
+  address-law t true e = let one : t ≡ 1 = eqb-true t 1 e in rw (one, eqb-same b)
+  address-law t false e = rw (address-is false, number-be 4 a ha, eqb-turn 0 b)
+
+order : (x y z w : Bool) → ((x && ((y && (z && true)) && true)) && (w && true)) ≡ (x && (y && (z && w)))
+order true true z w = simp and-true
+order true false z w = refl
+order false y z w = refl
+
+csid-same : (n t a b c : ℕ)
+    → let vs = n ∷ t ∷ a ∷ b ∷ c ∷ [] in
+    Fits csidSlotWidths vs → (csidAllowed (csidFrom vs) && sameOctets (csidSlotNumbers (csidFrom vs)) vs) ≡ csidTest vs
+unfolding csidAllowed csidTests nodeTypeKept nodeAddressAllowed nodeAddressTests operatorAllowed below16 csidFrom csidSlotNumbers addressRead addressLength csidTest sameOctets
+csid-same n t a b c f =
+    let long = eqb t 1 in
+    let ad : List ℕ = take (pick long 16 4) (be 4 a ++ be 12 b) in
+    let ha = f .1 .1 .0 in
+    let hb = f .1 .1 .1 .0 in
+    rw (eq-eqb (length ad) (pick long 16 4) (address-length a b ha hb long), is-true (areBytes ad) (address-octets a b ha hb long), address-first a b ha hb long, address-rest a b ha hb long, lt-ltb c (2 ^ 16) (f .1 .1 .1 .1 .0), eqb-same n, eqb-same t, eqb-same a, eqb-same c)
+    (order (ltb n 6) (leb t 2) (not (eqb t 2) || leb (number ad / 4096) maxOperator) (eqb (pick long b 0) b)
+    ∙ ap (λ (x : Bool). ltb n 6 && (leb t 2 && x)) (address-law a b ha hb t long refl))
+
+pub csid-law : (xs : List ℕ) → length xs ≡ 20 → T (octets xs) → csidSound xs ≡ csidTest (fieldsAt 0 csidSlotWidths xs)
+unfolding csidSound kept csidOctets viewCsid widthOf fieldsAt
 csid-law xs e o =
-    let two : xs ≡ getD xs 0 0 ∷ getD xs 1 0 ∷ drop 2 xs = drop-cons xs 0 0 (omega arith) ∙ ap (λ (l : List ℕ). getD xs 0 0 ∷ l) (drop-cons xs 1 0 (omega arith)) in
-    ap csidSound (two ∙ ap (λ (l : List ℕ). getD xs 0 0 ∷ getD xs 1 0 ∷ l) (two-parts 2 16 2 xs (sym e)))
-    ∙ csid-parts (getD xs 0 0) (getD xs 1 0) (part 2 16 xs) (part 18 2 xs) (length-part 2 16 xs (omega arith)) (length-part 18 2 xs (omega arith)) (part-octets 2 16 xs o) (part-octets 18 2 xs o)
+    slot-law csidSlotWidths csidSlotNumbers csidFrom csidAllowed csidTest csid-fits xs e o
+    (csid-same _ _ _ _ _ (each-fit csidSlotWidths _ (fit-fields 0 csidSlotWidths xs o (omega arith))))
 
 -- ---- settings
 
 abbrev pub settingsTest : List ℕ → Bool
-settingsTest xs = optionalSound 4 16 xs && allOf (poolTests (number (part 21 4 xs)) (number (part 25 4 xs)))
+settingsTest xs = optionalTest (getD xs 4 0) (number (part 5 16 xs)) && allOf (poolTests (number (part 21 4 xs)) (number (part 25 4 xs)))
 
 ipv6-with : (b : Bool) (g : ℕ) (v : List ℕ) → length v ≡ 16 → T (octets v) → eqb g 0 ≡ b
     → let a = pick b [] v in
-    (ipv6Allowed a && (octets a && (eqb (flag (not (isNil a))) g && sameOctets (padded 16 a) v))) ≡ pick b (allZero v) (eqb g 1)
+    (ipv6Allowed a && (octets a && (eqb (flag (not (isNil a))) g && sameOctets (padded 16 a) v))) ≡ pick b (eqb (number v) 0) (eqb g 1)
 unfolding ipv6Allowed padded
-ipv6-with true g v l o e = rw (eqb-turn 0 g, e, ← l) (same-zeros v)
+ipv6-with true g v l o e = rw (eqb-turn 0 g, e, ← l) (same-zeros v ∙ zero-number v)
 ipv6-with false g [] l o e = absurd (omega arith)
 ipv6-with false g (x ∷ v) l o e =
     let none : 16 - length (x ∷ v) ≡ 0 = omega arith in
@@ -218,7 +229,7 @@ padded-with false v l = length-padded 16 v (omega arith)
 
 settings-parts : (a₀ a₁ a₂ a₃ g : ℕ) (v f z : List ℕ) → length v ≡ 16 → length f ≡ 4 → length z ≡ 4
     → T (octets (a₀ ∷ a₁ ∷ a₂ ∷ a₃ ∷ [])) → T (octets v) → T (octets f) → T (octets z)
-    → settingsSound (a₀ ∷ a₁ ∷ a₂ ∷ a₃ ∷ g ∷ (v ++ (f ++ z))) ≡ (pick (eqb g 0) (allZero v) (eqb g 1) && allOf (poolTests (number f) (number z)))
+    → settingsSound (a₀ ∷ a₁ ∷ a₂ ∷ a₃ ∷ g ∷ (v ++ (f ++ z))) ≡ (optionalTest g (number v) && allOf (poolTests (number f) (number z)))
 unfolding settingsSound kept settingsAllowed settingsTests settingsOctets viewSettings octetAt numberAt sameOctets
 settings-parts a₀ a₁ a₂ a₃ g v f z lv lf lz oa ov of′ oz =
     let rest : List ℕ = v ++ (f ++ z) in
@@ -235,7 +246,6 @@ settings-parts a₀ a₁ a₂ a₃ g v f z lv lf lz oa ov of′ oz =
     ∙ ap (λ (t : Bool). t && allOf (poolTests (number f) (number z))) (ipv6-with (eqb g 0) g v lv ov refl))
 
 pub settings-law : (xs : List ℕ) → length xs ≡ 29 → T (octets xs) → settingsSound xs ≡ settingsTest xs
-unfolding optionalSound
 settings-law xs e o =
     let cell : (j : ℕ) → j < 29 → drop j xs ≡ getD xs j 0 ∷ drop (suc j) xs = λ j h. drop-cons xs j 0 (omega arith) in
     let front : xs ≡ getD xs 0 0 ∷ getD xs 1 0 ∷ getD xs 2 0 ∷ getD xs 3 0 ∷ getD xs 4 0 ∷ drop 5 xs =

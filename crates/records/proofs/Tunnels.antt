@@ -1,19 +1,17 @@
--- What the tests of an F-TEID in a slot come to: a TEID of the pool, and a families octet of 1, 2 or 3.
+-- What the tests of an F-TEID's numbers come to: a TEID of the pool, and a families octet of 1, 2 or 3.
 -- Assumes nothing.
 use mathlib.Core.Path.{_≡_, refl, _∙_}
 use Prim.Native.Nat.{ℕ, zero, suc, _+_, _*_, _/_, _%_, _^_}
 use native.Mathlib.Omega.{arith}
 use mathlib.Core.Bool.{Bool, true, false, not, _&&_, _||_}
-use mathlib.Core.List.{List, []}
+use mathlib.Core.List.{[]}
 use borrow.Author.Tests.{ne-eqb}
-use lib.ListN.{drop, getD}
-use lib.Seq.{getD-drop}
 use lib.Dec.{leb, ltb, eqb}
 use Rattle.octets.specs.Choice.{pick, flag, isNil}
-use Rattle.octets.specs.Octets.{part, number, numberAt, octetAt, bit, zeros}
-use Rattle.rules.specs.Layout.{families, viewTunnel}
+use Rattle.octets.specs.Octets.{bit, zeros}
+use Rattle.rules.specs.Layout.{families, tunnelRead}
 use Rattle.rules.specs.Sound.{inPool, unitFamilies, tunnelTests, tunnelAllowed}
-use Rattle.records.specs.Kept.{tunnelSound, familiesTest, unit}
+use Rattle.records.specs.Kept.{familiesTest, tunnelTest, unit}
 use Rattle.records.proofs.Cells.{and-false, and-assoc, flag-bit}
 
 families-law : (f : ℕ) (v6 : Bool)
@@ -38,19 +36,13 @@ unfolding zeros
 unit-v6 true = refl
 unit-v6 false = refl
 
--- the tests by the numbers read
-abbrev pub tunnelTest : ℕ → ℕ → Bool → ℕ → ℕ → Bool
-tunnelTest first size v6 t f = leb first t && (ltb t (first + size) && familiesTest f v6)
-
 regroup : (a b c d e : Bool) → (((a && b) && (c && d)) && e) ≡ (a && (b && ((c && d) && e)))
 regroup true b c d e = and-assoc b (c && d) e
 regroup false b c d e = refl
 
-pub tunnel-law : (first size : ℕ) (v6 : Bool) (at : ℕ) (xs : List ℕ)
-    → tunnelSound (unit first size v6) (drop at xs) ≡ tunnelTest first size v6 (number (part at 4 xs)) (getD xs (at + 4) 0)
-unfolding tunnelSound tunnelAllowed tunnelTests inPool unitFamilies unit viewTunnel families numberAt octetAt
-tunnel-law first size v6 at xs =
-    let f : ℕ = getD (drop at xs) 4 0 in
-    let t : ℕ = number (part at 4 xs) in
+pub tunnel-law : (first size : ℕ) (v6 : Bool) (t f : ℕ)
+    → (tunnelAllowed (unit first size v6) (tunnelRead t f) && eqb (families (tunnelRead t f)) f) ≡ tunnelTest first size v6 t f
+unfolding tunnelAllowed tunnelTests inPool unitFamilies unit tunnelRead families
+tunnel-law first size v6 t f =
     regroup (leb first t) (ltb t (first + size)) (bit 0 f || bit 1 f) ((not (bit 1 f) || not (isNil (pick v6 (zeros 16) []))) && true) (eqb (flag (bit 0 f) + 2 * flag (bit 1 f)) f)
-    ∙ rw (unit-v6 v6, families-law f v6, getD-drop at xs 4 0)
+    ∙ rw (unit-v6 v6, families-law f v6)

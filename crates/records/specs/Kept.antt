@@ -1,16 +1,19 @@
 -- A slot of the table that is not broken: the record that its octets are read as keeps the rules, and its octets are just what
--- that record is written as (01: any other content is a broken table).
+-- that record is written as (01: any other content is a broken table). For a record that is a list of fields the same stands below as a
+-- test of its numbers.
 -- Assumes nothing.
-use Prim.Native.Nat.{ℕ, _+_}
+use Prim.Native.Nat.{ℕ, _+_, _/_}
 use lib.ListN.{getD}
-use mathlib.Core.Bool.{Bool, _&&_, _||_}
-use mathlib.Core.List.{List, [], map}
-use lib.Dec.{eqb}
-use Rattle.octets.specs.Choice.{pick}
-use Rattle.octets.specs.Octets.{part, octetAt, zeros, allZero, sameOctets, slices}
+use mathlib.Core.Bool.{Bool, true, not, _&&_, _||_}
+use mathlib.Core.List.{List, [], _∷_, map}
+use lib.Dec.{eqb, leb, ltb}
+use Rattle.octets.specs.Choice.{pick, allOf}
+use Rattle.octets.specs.Octets.{zeros, allZero, sameOctets, slices}
+use Rattle.octets.specs.Lists.{member}
+use Rattle.rules.specs.Limits.{maxOperator}
 use Rattle.rules.specs.Model.{Settings, endpointId}
-use Rattle.rules.specs.Layout.{endpointWidth, families, viewTunnel, placeOctets, viewPlace, settingsOctets, pdrOctets, endpointOctets, csidOctets, viewSettings, viewPdr, viewEndpoint, viewCsid}
-use Rattle.rules.specs.Sound.{settingsAllowed, tunnelAllowed, placeAllowed, pdrAllowed, endpointAllowed, csidAllowed}
+use Rattle.rules.specs.Layout.{endpointWidth, settingsOctets, pdrOctets, endpointOctets, csidOctets, viewSettings, viewPdr, viewEndpoint, viewCsid}
+use Rattle.rules.specs.Sound.{settingsAllowed, pdrAllowed, endpointAllowed, csidAllowed}
 
 unfoldable pub kept : {A : Type 0} → (A → Bool) → (A → List ℕ) → (List ℕ → A) → List ℕ → Bool
 kept allowed written read xs = allowed (read xs) && sameOctets (written (read xs)) xs
@@ -28,22 +31,6 @@ endpointSound s xs = kept (endpointAllowed s) endpointOctets viewEndpoint xs
 unfoldable pub csidSound : List ℕ → Bool
 csidSound xs = kept csidAllowed csidOctets viewCsid xs
 
--- a field of n octets that may be absent: 1 and the field, or zeros
-unfoldable pub optionalSound : ℕ → ℕ → List ℕ → Bool
-optionalSound at n xs = pick (eqb (getD xs at 0) 0) (allZero (part (at + 1) n xs)) (eqb (getD xs at 0) 1)
-
--- an F-TEID in octets: the TEID, then the families
-unfoldable pub tunnelSound : Settings → List ℕ → Bool
-tunnelSound s xs = tunnelAllowed s (viewTunnel xs) && eqb (families (viewTunnel xs)) (octetAt xs 4)
-
--- the families octet: IPv4, or IPv6 and perhaps IPv4 where the unit has an IPv6 address
-abbrev pub familiesTest : ℕ → Bool → Bool
-familiesTest f v6 = eqb f 1 || ((eqb f 2 || eqb f 3) && v6)
-
--- what a PDR matches on, in octets: nothing, an F-TEID or an endpoint
-unfoldable pub placeSound : Settings → List ℕ → List ℕ → Bool
-placeSound s live xs = kept (placeAllowed s live) placeOctets viewPlace xs
-
 -- the IDs of the first n endpoints in octets
 unfoldable pub endpointIds : ℕ → List ℕ → List ℕ
 endpointIds n a = map endpointId (map viewEndpoint (slices endpointWidth n a))
@@ -51,3 +38,42 @@ endpointIds n a = map endpointId (map viewEndpoint (slices endpointWidth n a))
 -- the settings as far as the rules of records ask: the pool, and whether the unit has an IPv6 address
 unfoldable pub unit : ℕ → ℕ → Bool → Settings
 unit first size v6 = record { ipv4 = zeros 4; ipv6 = pick v6 (zeros 16) []; first = first; size = size }
+
+-- ---- tests of numbers
+
+-- a value that may be absent: 1 and the value, or 0 and 0
+abbrev pub optionalTest : ℕ → ℕ → Bool
+optionalTest there v = pick (eqb there 0) (eqb v 0) (eqb there 1)
+
+-- the families: IPv4, or IPv6 and perhaps IPv4 where the unit has an IPv6 address
+abbrev pub familiesTest : ℕ → Bool → Bool
+familiesTest f v6 = eqb f 1 || ((eqb f 2 || eqb f 3) && v6)
+
+-- an F-TEID: a TEID of the pool, and the families
+abbrev pub tunnelTest : ℕ → ℕ → Bool → ℕ → ℕ → Bool
+tunnelTest first size v6 t f = leb first t && (ltb t (first + size) && familiesTest f v6)
+
+-- what a PDR matches on: a number that says which, an F-TEID and an endpoint ID
+abbrev pub placeTest : ℕ → ℕ → Bool → List ℕ → ℕ → ℕ → ℕ → ℕ → Bool
+placeTest first size v6 live k t f e =
+    pick (eqb k 1) (eqb e 0 && tunnelTest first size v6 t f)
+    (pick (eqb k 2) (allZero (t ∷ f ∷ []) && member e live) (allZero (k ∷ t ∷ f ∷ e ∷ [])))
+
+unfoldable pub pdrTest : ℕ → ℕ → Bool → List ℕ → List ℕ → Bool
+pdrTest first size v6 live vs =
+    allOf (
+    optionalTest (getD vs 2 0) (getD vs 3 0)
+    ∷ ltb (getD vs 4 0) 16
+    ∷ placeTest first size v6 live (getD vs 5 0) (getD vs 6 0) (getD vs 7 0) (getD vs 8 0)
+    ∷ []
+    )
+
+unfoldable pub endpointTest : ℕ → ℕ → Bool → List ℕ → Bool
+endpointTest first size v6 vs = tunnelTest first size v6 (getD vs 1 0) (getD vs 2 0)
+
+-- the address of sixteen octets, or one of four and zeros; of type 2 with an operator that is allowed
+abbrev pub addressTest : ℕ → ℕ → ℕ → Bool
+addressTest t a b = pick (eqb t 1) true ((not (eqb t 2) || leb (a / 4096) maxOperator) && eqb b 0)
+
+unfoldable pub csidTest : List ℕ → Bool
+csidTest vs = ltb (getD vs 0 0) 6 && (leb (getD vs 1 0) 2 && addressTest (getD vs 1 0) (getD vs 2 0) (getD vs 3 0))

@@ -1,20 +1,21 @@
 // Tests of the records in the session table's slots, for any octets of a slot: the record keeps the rules, and the slot has
-// just that record's octets. Each reads the fields where they stand; proofs/Slots.antt says why these tests are enough.
+// just that record's octets. Each reads the fields where they stand; proofs/Slots.antt says why these tests of a record's numbers are enough.
 //
 // first, size and v6 are the unit's pool of TEIDs and whether it has an IPv6 address.
 
 ghost use mathlib.Core.Path.{_≡_};
 ghost use Prim.Native.Nat.{_+_, _*_, _^_, _≤_, _<_};
-ghost use lib.ListN.{length, drop};
+ghost use lib.ListN.{length, getD};
 ghost use Rattle.octets.specs.Choice.{pick, allOf};
 ghost use Rattle.octets.specs.Lists.{member};
+ghost use Rattle.octets.specs.Octets.{part, number};
 ghost use Rattle.rules.specs.Sound.{poolTests};
-ghost use Rattle.records.specs.Kept.{settingsSound, optionalSound, tunnelSound, familiesTest, placeSound, pdrSound, endpointSound, csidSound, endpointIds, unit};
+ghost use Rattle.records.specs.Kept.{settingsSound, pdrSound, endpointSound, csidSound, endpointIds, unit, optionalTest, familiesTest, tunnelTest, placeTest};
 
 // A field of n octets that may be absent: 1 and the field, or zeros.
 fn optional_sound(slot: &[u8], at: usize, n: usize) -> bool
     requires { ⌜ at + 1 + n ≤ length (now slot) ⌝ }
-    ensures { λ r. ⌜ r ≡ optionalSound at n (now (slot .entry)) ⌝ }
+    ensures { λ r. ⌜ r ≡ optionalTest (getD (now (slot .entry)) at 0) (number (part (at + 1) n (now (slot .entry)))) ⌝ }
 {
     let there = slot[at];
     if there == 0 {
@@ -26,7 +27,7 @@ fn optional_sound(slot: &[u8], at: usize, n: usize) -> bool
 // A field of four octets that may be absent. No branch goes by whether it is there.
 fn field_sound(slot: &[u8], at: usize) -> bool
     requires { ⌜ at + 5 ≤ length (now slot) ⌝ }
-    ensures { λ r. ⌜ r ≡ optionalSound at 4 (now (slot .entry)) ⌝ }
+    ensures { λ r. ⌜ r ≡ optionalTest (getD (now (slot .entry)) at 0) (number (part (at + 1) 4 (now (slot .entry)))) ⌝ }
 {
     let there = slot[at];
     if 1 < there {
@@ -68,7 +69,7 @@ pub fn settings_sound(slot: &[u8]) -> bool
 // The F-TEID at index at.
 fn tunnel_sound(slot: &[u8], at: usize, first: u64, size: u64, v6: bool) -> bool
     requires { ⌜ (at + 5 ≤ length (now slot)) × (first + size ≤ 2 ^ 32) ⌝ }
-    ensures { λ r. ⌜ r ≡ tunnelSound (unit first size v6) (drop at (now (slot .entry))) ⌝ }
+    ensures { λ r. ⌜ r ≡ tunnelTest first size v6 (number (part at 4 (now (slot .entry)))) (getD (now (slot .entry)) (at + 4) 0) ⌝ }
 {
     let teid = octets::read(slot, at, 4);
     if teid < first {
@@ -122,26 +123,26 @@ fn names_endpoint(ends: &[u8], n: usize, id: u8) -> bool
     found
 }
 
-// What a PDR matches on: the seven octets of a slot from index 12. ends has the session's n endpoints.
-fn place_sound(place: &[u8], ends: &[u8], n: usize, first: u64, size: u64, v6: bool) -> bool
-    requires { ⌜ (length (now place) ≡ 7) × (n * 6 ≤ length (now ends)) × (first + size ≤ 2 ^ 32) ⌝ }
-    ensures { λ r. ⌜ r ≡ placeSound (unit first size v6) (endpointIds n (now (ends .entry))) (now (place .entry)) ⌝ }
+// What a PDR matches on, in its slot. ends has the session's n endpoints.
+fn place_sound(slot: &[u8], ends: &[u8], n: usize, first: u64, size: u64, v6: bool) -> bool
+    requires { ⌜ (length (now slot) ≡ 19) × (n * 6 ≤ length (now ends)) × (first + size ≤ 2 ^ 32) ⌝ }
+    ensures { λ r. ⌜ r ≡ placeTest first size v6 (endpointIds n (now (ends .entry))) (getD (now (slot .entry)) 12 0) (number (part 13 4 (now (slot .entry)))) (getD (now (slot .entry)) 17 0) (getD (now (slot .entry)) 18 0) ⌝ }
 {
-    let kind = place[0];
-    let id = place[6];
+    let kind = slot[format::PLACE];
+    let id = slot[format::NAMED_ENDPOINT];
     if kind == 1 {
         if id != 0 {
             return false;
         }
-        return tunnel_sound(place, 1, first, size, v6);
+        return tunnel_sound(slot, format::TEID, first, size, v6);
     }
     if kind == 2 {
-        if !octets::is_zero(place, 1, 5) {
+        if !octets::is_zero(slot, format::TEID, 5) {
             return false;
         }
         return names_endpoint(ends, n, id);
     }
-    octets::is_zero(place, 0, 7)
+    octets::is_zero(slot, format::PLACE, 7)
 }
 
 // A PDR's slot. ends has the session's n endpoints.
@@ -155,7 +156,7 @@ pub fn pdr_sound(slot: &[u8], ends: &[u8], n: usize, first: u64, size: u64, v6: 
     if !field_sound(slot, format::FAR) {
         return false;
     }
-    place_sound(&slot[format::PLACE..format::PDR], ends, n, first, size, v6)
+    place_sound(slot, ends, n, first, size, v6)
 }
 
 // An FQ-CSID's slot.

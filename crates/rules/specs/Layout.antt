@@ -9,19 +9,114 @@
 --   endpoint  ID 1, TEID 4, families 1
 --   FQ-CSID   node type 1, Node-ID type 1, address 16 (4 used by types 0 and 2), CSID 2
 --
+-- A PDR, an endpoint and an FQ-CSID are lists of fields: the widths, the numbers of a record and the record of numbers stand once each below;
+-- its octets, its view and its width follow.
+--
 -- limit is the number of session slots: `maxSessions` in the product, fewer in the examples.
 -- Assumes nothing.
 use Prim.Native.Nat.{ℕ, _+_, _*_}
 use mathlib.Core.Bool.{not}
 use mathlib.Core.Option.{Option, none, some}
 use mathlib.Core.List.{List, [], _∷_, _++_, map}
-use lib.ListN.{length, drop}
+use lib.ListN.{length, take, drop, getD}
 use lib.Dec.{eqb}
-use Rattle.octets.specs.Choice.{pick, flag, isNil}
-use Rattle.octets.specs.Octets.{be, part, numberAt, octetAt, bit, zeros, padded, slices, concatMap}
+use Rattle.octets.specs.Choice.{pick, flag, isNil, isSome, valueOr}
+use Rattle.octets.specs.Octets.{be, part, number, numberAt, octetAt, bit, padded, slices, concatMap}
+use Rattle.octets.specs.Fields.{widthOf, fieldsAt, fieldOctets}
 use Rattle.rules.specs.Model.{Settings, Tunnel, Place, neither, tunnel, endpoint, Pdr, Endpoint, Csid, Session, Sessions}
 use Rattle.rules.specs.Limits.{maxPdrs, maxEndpoints, nodeTypes}
 use Rattle.rules.specs.Elements.{addressLength}
+
+-- ---- fields that several records have
+
+-- a value that may be absent is two fields: 1 and the value, or 0 and 0
+unfoldable pub optionRead : ℕ → ℕ → Option ℕ
+optionRead there v = pick (eqb there 0) none (some v)
+
+unfoldable pub families : Tunnel → ℕ
+families t = flag (t .v4) + 2 * flag (t .v6)
+
+unfoldable pub tunnelRead : ℕ → ℕ → Tunnel
+tunnelRead t f = record { teid = t; v4 = bit 0 f; v6 = bit 1 f }
+
+-- ---- PDR
+
+abbrev pub pdrWidths : List ℕ
+pdrWidths = 2 ∷ 4 ∷ 1 ∷ 4 ∷ 1 ∷ 1 ∷ 4 ∷ 1 ∷ 1 ∷ []
+
+-- what a PDR matches on is four fields
+unfoldable pub matchKind : Place → ℕ
+matchKind neither = 0
+matchKind (tunnel t) = 1
+matchKind (endpoint e) = 2
+
+unfoldable pub matchTeid : Place → ℕ
+matchTeid neither = 0
+matchTeid (tunnel t) = t .teid
+matchTeid (endpoint e) = 0
+
+unfoldable pub matchFamilies : Place → ℕ
+matchFamilies neither = 0
+matchFamilies (tunnel t) = families t
+matchFamilies (endpoint e) = 0
+
+unfoldable pub matchEndpoint : Place → ℕ
+matchEndpoint neither = 0
+matchEndpoint (tunnel t) = 0
+matchEndpoint (endpoint e) = e
+
+unfoldable pub placeRead : ℕ → ℕ → ℕ → ℕ → Place
+placeRead k t f e = pick (eqb k 1) (tunnel (tunnelRead t f)) (pick (eqb k 2) (endpoint e) neither)
+
+unfoldable pub pdrNumbers : Pdr → List ℕ
+pdrNumbers p =
+    p .id
+    ∷ p .precedence
+    ∷ flag (isSome (p .far))
+    ∷ valueOr 0 (p .far)
+    ∷ p .source
+    ∷ matchKind (p .place)
+    ∷ matchTeid (p .place)
+    ∷ matchFamilies (p .place)
+    ∷ matchEndpoint (p .place)
+    ∷ []
+
+unfoldable pub pdrFrom : List ℕ → Pdr
+pdrFrom vs =
+    record {
+      id = getD vs 0 0;
+      precedence = getD vs 1 0;
+      far = optionRead (getD vs 2 0) (getD vs 3 0);
+      source = getD vs 4 0;
+      place = placeRead (getD vs 5 0) (getD vs 6 0) (getD vs 7 0) (getD vs 8 0);
+    }
+
+-- ---- endpoint
+
+abbrev pub endpointWidths : List ℕ
+endpointWidths = 1 ∷ 4 ∷ 1 ∷ []
+
+unfoldable pub endpointNumbers : Endpoint → List ℕ
+endpointNumbers e = e .id ∷ e .local .teid ∷ families (e .local) ∷ []
+
+unfoldable pub endpointFrom : List ℕ → Endpoint
+endpointFrom vs = record { id = getD vs 0 0; local = tunnelRead (getD vs 1 0) (getD vs 2 0) }
+
+-- ---- FQ-CSID
+
+-- the address is two fields: four octets, and twelve that only a Node-ID of type 1 has
+abbrev pub csidSlotWidths : List ℕ
+csidSlotWidths = 1 ∷ 1 ∷ 4 ∷ 12 ∷ 2 ∷ []
+
+unfoldable pub csidSlotNumbers : Csid → List ℕ
+csidSlotNumbers c = c .nodeType ∷ c .idType ∷ number (take 4 (c .address)) ∷ number (drop 4 (c .address)) ∷ c .csid ∷ []
+
+unfoldable pub addressRead : ℕ → ℕ → ℕ → List ℕ
+addressRead t a b = take (addressLength t) (be 4 a ++ be 12 b)
+
+unfoldable pub csidFrom : List ℕ → Csid
+csidFrom vs =
+    record { nodeType = getD vs 0 0; idType = getD vs 1 0; address = addressRead (getD vs 1 0) (getD vs 2 0) (getD vs 3 0); csid = getD vs 4 0 }
 
 -- ---- widths
 
@@ -29,21 +124,24 @@ unfoldable pub headWidth : ℕ
 headWidth = 31
 
 unfoldable pub pdrWidth : ℕ
-pdrWidth = 19
+unfolding widthOf
+pdrWidth = widthOf pdrWidths
 
 unfoldable pub endpointWidth : ℕ
-endpointWidth = 6
+unfolding widthOf
+endpointWidth = widthOf endpointWidths
 
 unfoldable pub csidWidth : ℕ
-csidWidth = 20
+unfolding widthOf
+csidWidth = widthOf csidSlotWidths
 
 -- the counts and the SEID before a session's records
 unfoldable pub sessionHead : ℕ
 sessionHead = 11
 
--- 11 + 16 * 19 + 8 * 6 + 6 * 20
 unfoldable pub sessionWidth : ℕ
-sessionWidth = 483
+unfolding sessionHead pdrWidth endpointWidth csidWidth
+sessionWidth = sessionHead + maxPdrs * pdrWidth + maxEndpoints * endpointWidth + nodeTypes * csidWidth
 
 unfoldable pub tableLength : ℕ → ℕ
 tableLength limit = headWidth + limit * sessionWidth
@@ -54,26 +152,14 @@ tableLength limit = headWidth + limit * sessionWidth
 unfoldable pub area : {A : Type 0} → (A → List ℕ) → ℕ → ℕ → List A → List ℕ
 area f w k rs = padded (k * w) (concatMap f rs)
 
-unfoldable pub families : Tunnel → ℕ
-families t = flag (t .v4) + 2 * flag (t .v6)
-
-unfoldable pub farOctets : Option ℕ → List ℕ
-farOctets none = zeros 5
-farOctets (some n) = 1 ∷ be 4 n
-
-unfoldable pub placeOctets : Place → List ℕ
-placeOctets neither = zeros 7
-placeOctets (tunnel t) = 1 ∷ be 4 (t .teid) ++ families t ∷ 0 ∷ []
-placeOctets (endpoint e) = 2 ∷ zeros 5 ++ e ∷ []
-
 unfoldable pub pdrOctets : Pdr → List ℕ
-pdrOctets p = be 2 (p .id) ++ (be 4 (p .precedence) ++ (farOctets (p .far) ++ p .source ∷ placeOctets (p .place)))
+pdrOctets p = fieldOctets pdrWidths (pdrNumbers p)
 
 unfoldable pub endpointOctets : Endpoint → List ℕ
-endpointOctets e = e .id ∷ be 4 (e .local .teid) ++ families (e .local) ∷ []
+endpointOctets e = fieldOctets endpointWidths (endpointNumbers e)
 
 unfoldable pub csidOctets : Csid → List ℕ
-csidOctets c = c .nodeType ∷ c .idType ∷ padded 16 (c .address) ++ be 2 (c .csid)
+csidOctets c = fieldOctets csidSlotWidths (csidSlotNumbers c)
 
 unfoldable pub sessionOctets : Session → List ℕ
 sessionOctets x =
@@ -90,27 +176,14 @@ encode limit s m = settingsOctets s ++ (be 2 (length m) ++ area sessionOctets se
 
 -- ---- reading
 
-unfoldable pub viewTunnel : List ℕ → Tunnel
-viewTunnel xs = record { teid = numberAt 0 4 xs; v4 = bit 0 (octetAt xs 4); v6 = bit 1 (octetAt xs 4) }
-
-unfoldable pub viewFar : List ℕ → Option ℕ
-viewFar xs = pick (eqb (octetAt xs 0) 0) none (some (numberAt 1 4 xs))
-
-unfoldable pub viewPlace : List ℕ → Place
-viewPlace xs =
-    pick (eqb (octetAt xs 0) 1) (tunnel (viewTunnel (drop 1 xs)))
-    (pick (eqb (octetAt xs 0) 2) (endpoint (octetAt xs 6)) neither)
-
 unfoldable pub viewPdr : List ℕ → Pdr
-viewPdr xs =
-    record { id = numberAt 0 2 xs; precedence = numberAt 2 4 xs; far = viewFar (drop 6 xs); source = octetAt xs 11; place = viewPlace (drop 12 xs) }
+viewPdr xs = pdrFrom (fieldsAt 0 pdrWidths xs)
 
 unfoldable pub viewEndpoint : List ℕ → Endpoint
-viewEndpoint xs = record { id = octetAt xs 0; local = viewTunnel (drop 1 xs) }
+viewEndpoint xs = endpointFrom (fieldsAt 0 endpointWidths xs)
 
 unfoldable pub viewCsid : List ℕ → Csid
-viewCsid xs =
-    record { nodeType = octetAt xs 0; idType = octetAt xs 1; address = part 2 (addressLength (octetAt xs 1)) xs; csid = numberAt 18 2 xs }
+viewCsid xs = csidFrom (fieldsAt 0 csidSlotWidths xs)
 
 -- n records of w octets each, from a place on
 unfoldable pub viewArea : {A : Type 0} → (List ℕ → A) → ℕ → ℕ → ℕ → List ℕ → List A
@@ -133,5 +206,5 @@ unfoldable pub viewSessions : List ℕ → Sessions
 viewSessions xs = viewArea viewSession sessionWidth (numberAt 29 2 xs) headWidth xs
 
 unfoldable pub computing : ℕ
-unfolding headWidth pdrWidth endpointWidth csidWidth sessionHead sessionWidth tableLength area families farOctets placeOctets pdrOctets endpointOctets csidOctets sessionOctets settingsOctets encode viewTunnel viewFar viewPlace viewPdr viewEndpoint viewCsid viewArea viewSession viewSettings viewSessions
+unfolding widthOf fieldsAt fieldOctets optionRead families tunnelRead matchKind matchTeid matchFamilies matchEndpoint placeRead pdrNumbers pdrFrom endpointNumbers endpointFrom csidSlotNumbers addressRead csidFrom headWidth pdrWidth endpointWidth csidWidth sessionHead sessionWidth tableLength area pdrOctets endpointOctets csidOctets sessionOctets settingsOctets encode viewPdr viewEndpoint viewCsid viewArea viewSession viewSettings viewSessions
 computing = 0

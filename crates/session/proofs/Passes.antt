@@ -26,7 +26,7 @@ use Rattle.session.specs.Areas.{pdrArea, endpointArea, csidArea}
 use Rattle.session.specs.Records.{ifIs, placeKind, csidRecord, updatedRecord}
 use Rattle.session.specs.Build.{updatedAt, updatedPdr, followedCsid, rowApplied, passed}
 use Rattle.session.proofs.Steps.{row-15, row-130, row-127, row-1, row-9, row-65}
-use Rattle.session.proofs.RowRecords.{PdrBounds, pdrOf, pdr-record, endpointOf, endpoint-record, csidOf, csid-record}
+use Rattle.session.proofs.RowRecords.{pdrOf, pdr-record, endpointOf, endpoint-record, csidOf, csid-record}
 use Rattle.session.proofs.Slot.{Slot, HeldPdrs, pdrPre, pdrMid, pdrPost, pdrFits, endpointFits, csidFits, pdr-good, endpoint-good, csid-good, held-pdrs, held-endpoints, held-csids, with-pdrs, with-endpoints, with-csids}
 use Rattle.session.proofs.UpdateRecords.{changed, record-changed}
 use Rattle.session.proofs.InTurn.{takeOut, putIn, put-long, no-more}
@@ -107,7 +107,7 @@ endpoints-in (row ∷ qs) t {x} {s} room h =
     let one : Slot (setEndpoints x (insertBy endpointId e (keep (otherThan endpointId (e .id)) (x .endpoints)))) (withRecord endpointArea (endpointOctets e) s)
     = with-endpoints h (with-held endpointOctets endpointId endpointArea endpointFits endpoint-good (held-endpoints h) e fits (omega arith)) in
     endpoints-in qs (all-tail endpointRow row qs t) (omega arith)
-    (same-slot (row-127 row s (withRecord endpointArea (endpointOctets e) s) endpointArea (endpointOctets e) refl tag (sym (endpoint-record row small)) refl) one)
+    (same-slot (row-127 row s (withRecord endpointArea (endpointOctets e) s) endpointArea (endpointOctets e) refl tag (sym (endpoint-record row)) refl) one)
 
 pub pdrs-in : (qs : List (List ℕ)) → T (all pdrRow qs) → {x : Session} {s : List ℕ} → length (x .pdrs) + length qs ≤ 16 → Slot x s
     → Slot (setPdrs x (putIn pdrId (map pdrOf qs) (x .pdrs))) (applied qs s)
@@ -118,19 +118,13 @@ pdrs-in (row ∷ qs) t {x} {s} room h =
     let tag = tag-is 1 row (and-left (hasTag 1 row) (ltb (word 7 row) 65536 && (ltb (word 10 row) 256 && ltb (ifIs (placeKind row) 2 (word 11 row)) 256)) q) in
     let k = and-right (hasTag 1 row) (ltb (word 7 row) 65536 && (ltb (word 10 row) 256 && ltb (ifIs (placeKind row) 2 (word 11 row)) 256)) q in
     let kid = and-left (ltb (word 7 row) 65536) (ltb (word 10 row) 256 && ltb (ifIs (placeKind row) 2 (word 11 row)) 256) k in
-    let rest = and-right (ltb (word 7 row) 65536) (ltb (word 10 row) 256 && ltb (ifIs (placeKind row) 2 (word 11 row)) 256) k in
-    let bounds : PdrBounds row = record {
-      id = ltb→lt (word 7 row) 65536 kid;
-      source = ltb→lt (word 10 row) 256 (and-left (ltb (word 10 row) 256) (ltb (ifIs (placeKind row) 2 (word 11 row)) 256) rest);
-      endpoint = ltb→lt (ifIs (placeKind row) 2 (word 11 row)) 256 (and-right (ltb (word 10 row) 256) (ltb (ifIs (placeKind row) 2 (word 11 row)) 256) rest);
-    } in
     let p = pdrOf row in
     let long = put-long pdrId p (x .pdrs) in
     let fits : T (pdrFits p) = unfold pdrOf createPdr rowPdr in kid in
     let one : Slot (setPdrs x (insertBy pdrId p (keep (otherThan pdrId (p .id)) (x .pdrs)))) (withRecord pdrArea (pdrOctets p) s)
     = with-pdrs h (with-held pdrOctets pdrId pdrArea pdrFits pdr-good (held-pdrs h) p fits (omega arith)) in
     pdrs-in qs (all-tail pdrRow row qs t) (omega arith)
-    (same-slot (row-1 row s (withRecord pdrArea (pdrOctets p) s) pdrArea (pdrOctets p) refl tag (sym (pdr-record row bounds)) refl) one)
+    (same-slot (row-1 row s (withRecord pdrArea (pdrOctets p) s) pdrArea (pdrOctets p) refl tag (sym (pdr-record row)) refl) one)
 
 -- ---- updates
 
@@ -255,12 +249,6 @@ sets-fit : (row : List ℕ) → T (csidRow row) → eqb (word 1 row) 1 ≡ true 
 unfolding csidRow
 sets-fit row h e = subst (λ (b : Bool). T (not b || setsFit row)) e (and-right (hasTag 65 row) (not (eqb (word 1 row) 1) || setsFit row) h)
 
-csid-same : (row : List ℕ) → T (setsFit row) → csidRecord row ≡ csidOctets (csidOf row)
-unfolding setsFit
-csid-same row h =
-    let n = ltb→lt (word 7 row) 6 (and-left (ltb (word 7 row) 6) (ltb (word 8 row) 256) h) in
-    csid-record row (omega arith) (ltb→lt (word 8 row) 256 (and-right (ltb (word 7 row) 6) (ltb (word 8 row) 256) h))
-
 one-csid : (row : List ℕ) → T (csidRow row) → {x : Session} {s : List ℕ} → Slot x s → Slot (setCsidsOf x (csidStep row (x .csids))) (followedCsid row s)
 unfolding csidStep followedCsid csidOf
 one-csid row t {x} {s} h = go (eqb (word 1 row) 1) refl (eqb (word 1 row) 2) (eqb (word 1 row) 3)
@@ -275,7 +263,7 @@ one-csid row t {x} {s} h = go (eqb (word 1 row) 1) refl (eqb (word 1 row) 2) (eq
         let up = with-up csidOctets nodeTypeOf csidArea csidFits csid-good k (csidOf row) fits in
         let ok = with-passes csidOctets nodeTypeOf csidArea csidFits csid-good k (csidOf row) fits in
         let few = few-csids (insertBy nodeTypeOf (csidOf row) (keep (otherThan nodeTypeOf (nodeTypeOf (csidOf row))) (x .csids))) ok up in
-        same-slot (ap (λ (v : List ℕ). withRecord csidArea v s) (sym (csid-same row ok′)))
+        same-slot (ap (λ (v : List ℕ). withRecord csidArea v s) (sym (csid-record row)))
         (with-csids h (with-held csidOctets nodeTypeOf csidArea csidFits csid-good k (csidOf row) fits few))
 
     go : (a : Bool) → eqb (word 1 row) 1 ≡ a → (b d : Bool)

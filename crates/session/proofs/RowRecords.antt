@@ -1,24 +1,27 @@
 -- The octets that a row gives a record are those of the record that the rules make of the row.
 -- Assumes nothing.
-use mathlib.Core.Path.{_≡_, refl, sym, ap, ap₂, _∙_}
+use mathlib.Core.Path.{_≡_, refl, sym, ap, _∙_}
 use mathlib.Core.Bool.{Bool, true, false}
 use mathlib.Core.Option.{none, some}
-use mathlib.Core.List.{List, [], _∷_, _++_, append-assoc, append-nil}
-use Prim.Native.Nat.{ℕ, _+_, _-_, _*_, _/_, _%_, _<_}
+use mathlib.Core.List.{List, [], _∷_, _++_}
+use Prim.Native.Nat.{ℕ, _+_, _*_, _/_, _%_, _<_}
 use native.Mathlib.Omega.{arith}
 use native.Mathlib.Nat.{mod-eq-of-lt, div-one}
 use borrow.Author.Tests.{eqb-true, eqb-false}
 use lib.Dec.{eqb}
-use Rattle.octets.specs.Choice.{pick, flag}
-use Rattle.octets.specs.Octets.{be, bit, zeros, padded}
+use lib.ListN.{take, drop}
+use Rattle.octets.specs.Choice.{pick, flag, isSome, valueOr}
+use Rattle.octets.specs.Octets.{be, number, bit}
 use Rattle.octets.specs.Fields.{fieldOctets}
-use Rattle.rules.specs.Model.{Tunnel, endpoint, Pdr, Endpoint, Csid}
+use Rattle.octets.proofs.Numbers.{bytes-be}
+use Rattle.octets.proofs.Digits.{be-back, octets-append, take-octets, drop-octets}
+use Rattle.rules.specs.Model.{Tunnel, Pdr, Endpoint, Csid}
 use Rattle.rules.specs.Elements.{given, choose}
-use Rattle.rules.specs.Layout.{families, farOctets, placeOctets, pdrOctets, endpointOctets, csidOctets}
+use Rattle.rules.specs.Layout.{families, pdrWidths, matchKind, matchTeid, matchFamilies, matchEndpoint, pdrNumbers, endpointNumbers, csidSlotWidths, csidSlotNumbers, pdrOctets, endpointOctets, csidOctets}
 use Rattle.rules.specs.Grants.{Kind}
 use Rattle.rules.specs.Apply.{tunnelFrom, namedPlace, placeFrom, createPdr, createEndpoint}
 use Rattle.plan.specs.Rows.{word, present, fteidFrom, rowFteid, rowLocal, rowPdr, rowEndpoint, rowAddress}
-use Rattle.session.specs.Records.{ifIs, placeKind, pdrWidths, pdrValues, pdrRecord, endpointRecord, csidWidths, csidValues, csidRecord}
+use Rattle.session.specs.Records.{ifIs, placeKind, pdrValues, pdrRecord, endpointRecord, csidWidths, csidValues, csidRecord}
 
 -- a number of one octet
 pub one-octet : (n : ℕ) → n < 256 → be 1 n ≡ n ∷ []
@@ -62,9 +65,6 @@ tunnel-octets row =
     let e = teid-families (word 12 row) (word 13 row) (word 14 row) (word 15 row) (word 16 row) (word 17 row) in
     (ap (λ (t : Tunnel). t .teid) e, ap (λ (t : Tunnel). flag (t .v4) + 2 * flag (t .v6)) e ∙ two-flags (word 12 row))
 
-families-small : (f : ℕ) → be 1 (f % 4) ≡ f % 4 ∷ []
-families-small f = one-octet (f % 4) (omega arith)
-
 -- ---- PDR
 
 -- the TEID of a row's CHOOSE stands in its word
@@ -74,79 +74,66 @@ ofRow row k i = word 13 row
 unfoldable pub pdrOf : List ℕ → Pdr
 pdrOf row = createPdr (ofRow row) (rowPdr row)
 
--- its fields fit the octets that they have
-pub record PdrBounds (row : List ℕ) : Type 0 where
-  pub id : word 7 row < 65536
-  pub source : word 10 row < 256
-  pub endpoint : ifIs (placeKind row) 2 (word 11 row) < 256
-
-far-field : (there v : ℕ) → be 1 (ifIs there 1 1) ++ be 4 (ifIs there 1 v) ≡ farOctets (present there v)
+far-numbers : (there v : ℕ) (rest : List ℕ) → ifIs there 1 1 ∷ ifIs there 1 v ∷ rest ≡ flag (isSome (present there v)) ∷ valueOr 0 (present there v) ∷ rest
 unfolding ifIs present
-far-field there v = go (eqb there 1)
+far-numbers there v rest = go (eqb there 1)
   where
-    go : (b : Bool) → be 1 (pick b 1 0) ++ be 4 (pick b v 0) ≡ farOctets (pick b (some v) none)
-    go true = unfold be farOctets in refl
-    go false = unfold be farOctets zeros in refl
+    go : (b : Bool) → pick b 1 0 ∷ pick b v 0 ∷ rest ≡ flag (isSome (pick b (some v) none)) ∷ valueOr 0 (pick b (some v) none) ∷ rest
+    go true = refl
+    go false = refl
 
-is-tunnel : (row : List ℕ) → be 1 1 ++ (be 4 (word 13 row) ++ (be 1 (word 12 row % 4) ++ be 1 0)) ≡ placeOctets (placeFrom (word 13 row) (some (rowFteid row)) none)
-unfolding placeOctets placeFrom rowTunnel
-is-tunnel row =
-    let e = tunnel-octets row in
-    rw (one-octet 1 (omega arith), one-octet 0 (omega arith), families-small (word 12 row), e .1, e .0)
-
-place-field : (row : List ℕ) → ifIs (placeKind row) 2 (word 11 row) < 256
-    → be 1 (placeKind row) ++ (be 4 (ifIs (placeKind row) 1 (word 13 row)) ++ (be 1 (ifIs (placeKind row) 1 (word 12 row % 4)) ++ be 1 (ifIs (placeKind row) 2 (word 11 row))))
-    ≡ placeOctets (placeFrom (word 13 row) (rowLocal row) (present (word 5 row) (word 11 row)))
+place-numbers : (row rest : List ℕ)
+    → let l = placeFrom (word 13 row) (rowLocal row) (present (word 5 row) (word 11 row)) in
+    placeKind row ∷ ifIs (placeKind row) 1 (word 13 row) ∷ ifIs (placeKind row) 1 (word 12 row % 4) ∷ ifIs (placeKind row) 2 (word 11 row) ∷ rest
+    ≡ matchKind l ∷ matchTeid l ∷ matchFamilies l ∷ matchEndpoint l ∷ rest
 unfolding placeKind rowLocal present ifIs
-place-field row h = go (eqb (word 12 row) 0) (eqb (word 5 row) 1) h
+place-numbers row rest = go (eqb (word 12 row) 0) (eqb (word 5 row) 1)
   where
-    go : (none? ep : Bool) → pick (eqb (pick none? (pick ep 2 0) 1) 2) (word 11 row) 0 < 256
-        → be 1 (pick none? (pick ep 2 0) 1) ++ (be 4 (pick (eqb (pick none? (pick ep 2 0) 1) 1) (word 13 row) 0) ++ (be 1 (pick (eqb (pick none? (pick ep 2 0) 1) 1) (word 12 row % 4) 0) ++ be 1 (pick (eqb (pick none? (pick ep 2 0) 1) 2) (word 11 row) 0)))
-        ≡ placeOctets (placeFrom (word 13 row) (pick none? none (some (rowFteid row))) (pick ep (some (word 11 row)) none))
-    go true true h = rw (one-octet (word 11 row) h) (unfold be placeOctets placeFrom namedPlace zeros in refl)
-    go true false h = unfold be placeOctets placeFrom namedPlace zeros in refl
-    go false ep h = unfold placeFrom in (is-tunnel row)
+    go : (none? ep : Bool)
+        → let k : ℕ = pick none? (pick ep 2 0) 1 in
+        let l = placeFrom (word 13 row) (pick none? none (some (rowFteid row))) (pick ep (some (word 11 row)) none) in
+        k ∷ pick (eqb k 1) (word 13 row) 0 ∷ pick (eqb k 1) (word 12 row % 4) 0 ∷ pick (eqb k 2) (word 11 row) 0 ∷ rest ≡ matchKind l ∷ matchTeid l ∷ matchFamilies l ∷ matchEndpoint l ∷ rest
+    go true true = unfold placeFrom namedPlace matchKind matchTeid matchFamilies matchEndpoint in refl
+    go true false = unfold placeFrom namedPlace matchKind matchTeid matchFamilies matchEndpoint in refl
+    go false ep = let e = tunnel-octets row in unfold placeFrom matchKind matchTeid matchFamilies matchEndpoint rowTunnel in (rw (e .1, e .0))
 
-pub pdr-record : (row : List ℕ) → PdrBounds row → pdrRecord row ≡ pdrOctets (pdrOf row)
-unfolding pdrRecord pdrWidths pdrValues fieldOctets pdrOctets pdrOf createPdr rowPdr
-pdr-record row b =
-    let a : List ℕ = be 1 (ifIs (word 3 row) 1 1) in
-    let v : List ℕ = be 4 (ifIs (word 3 row) 1 (word 9 row)) in
-    let kind : List ℕ = be 1 (placeKind row) in
-    let teid : List ℕ = be 4 (ifIs (placeKind row) 1 (word 13 row)) in
-    let flags : List ℕ = be 1 (ifIs (placeKind row) 1 (word 12 row % 4)) in
-    let named : List ℕ = be 1 (ifIs (placeKind row) 2 (word 11 row)) in
-    let tail : kind ++ (teid ++ (flags ++ (named ++ []))) ≡ placeOctets (placeFrom (word 13 row) (rowLocal row) (present (word 5 row) (word 11 row)))
-    = ap (λ (l : List ℕ). kind ++ (teid ++ (flags ++ l))) (append-nil named) ∙ place-field row (b .endpoint) in
-    let rest : be 1 (word 10 row) ++ (kind ++ (teid ++ (flags ++ (named ++ [])))) ≡ word 10 row ∷ placeOctets (placeFrom (word 13 row) (rowLocal row) (present (word 5 row) (word 11 row)))
-    = ap₂ (λ (x y : List ℕ). x ++ y) (one-octet (word 10 row) (b .source)) tail in
-    ap (λ (l : List ℕ). be 2 (word 7 row) ++ (be 4 (word 8 row) ++ l))
-    (sym (append-assoc a v (be 1 (word 10 row) ++ (kind ++ (teid ++ (flags ++ (named ++ []))))))
-    ∙ ap₂ (λ (x y : List ℕ). x ++ y) (far-field (word 3 row) (word 9 row)) rest)
+pub pdr-record : (row : List ℕ) → pdrRecord row ≡ pdrOctets (pdrOf row)
+unfolding pdrRecord pdrValues pdrOctets pdrNumbers pdrOf createPdr rowPdr
+pdr-record row =
+    ap (λ (l : List ℕ). fieldOctets pdrWidths (word 7 row ∷ word 8 row ∷ l))
+    (far-numbers (word 3 row) (word 9 row) _
+    ∙ ap (λ (l : List ℕ). flag (isSome (present (word 3 row) (word 9 row))) ∷ valueOr 0 (present (word 3 row) (word 9 row)) ∷ word 10 row ∷ l) (place-numbers row []))
 
 -- ---- endpoint
 
 unfoldable pub endpointOf : List ℕ → Endpoint
 endpointOf row = createEndpoint (ofRow row) (rowEndpoint row)
 
-pub endpoint-record : (row : List ℕ) → word 11 row < 256 → endpointRecord row ≡ endpointOctets (endpointOf row)
-unfolding endpointRecord fieldOctets endpointOctets endpointOf createEndpoint rowEndpoint rowTunnel
-endpoint-record row h =
-    let e = tunnel-octets row in
-    rw (one-octet (word 11 row) h, families-small (word 12 row), append-nil, e .1, e .0)
+pub endpoint-record : (row : List ℕ) → endpointRecord row ≡ endpointOctets (endpointOf row)
+unfolding endpointRecord endpointOctets endpointNumbers endpointOf createEndpoint rowEndpoint rowTunnel
+endpoint-record row = let e = tunnel-octets row in rw (e .1, e .0)
 
 -- ---- FQ-CSID
 
 unfoldable pub csidOf : List ℕ → Csid
 csidOf row = record { nodeType = word 7 row; idType = word 8 row; address = rowAddress row; csid = word 11 row }
 
-pub csid-record : (row : List ℕ) → word 7 row < 256 → word 8 row < 256 → csidRecord row ≡ csidOctets (csidOf row)
-unfolding csidRecord csidWidths csidValues csidOctets csidOf rowAddress
-csid-record row h k = go (eqb (word 8 row) 1)
+pub csid-record : (row : List ℕ) → csidRecord row ≡ csidOctets (csidOf row)
+unfolding csidRecord csidWidths csidValues csidOctets csidSlotNumbers csidOf rowAddress fieldOctets
+csid-record row = go (eqb (word 8 row) 1)
   where
+    long : List ℕ
+    long = be 8 (word 9 row) ++ be 8 (word 10 row)
+
     go : (b : Bool)
         → fieldOctets (pick b (1 ∷ 1 ∷ 8 ∷ 8 ∷ 0 ∷ 2 ∷ []) (1 ∷ 1 ∷ 4 ∷ 8 ∷ 4 ∷ 2 ∷ []))
         (pick b (word 7 row ∷ word 8 row ∷ word 9 row ∷ word 10 row ∷ 0 ∷ word 11 row ∷ []) (word 7 row ∷ word 8 row ∷ word 10 row ∷ 0 ∷ 0 ∷ word 11 row ∷ []))
-        ≡ word 7 row ∷ word 8 row ∷ padded 16 (pick b (be 8 (word 9 row) ++ be 8 (word 10 row)) (be 4 (word 10 row))) ++ be 2 (word 11 row)
-    go true = unfold fieldOctets in (rw (one-octet (word 7 row) h, one-octet (word 8 row) k) (unfold be padded zeros in refl))
-    go false = unfold fieldOctets in (rw (one-octet (word 7 row) h, one-octet (word 8 row) k) (unfold be padded zeros in refl))
+        ≡ (let a = pick b long (be 4 (word 10 row)) in
+        fieldOctets csidSlotWidths (word 7 row ∷ word 8 row ∷ number (take 4 a) ∷ number (drop 4 a) ∷ word 11 row ∷ []))
+    go true =
+        let o = octets-append (be 8 (word 9 row)) (be 8 (word 10 row)) (bytes-be 8 (word 9 row)) (bytes-be 8 (word 10 row)) in
+        rw (be-back 4 (take 4 long) (unfold be in refl) (take-octets 4 long o), be-back 12 (drop 4 long) (unfold be in refl) (drop-octets 4 long o))
+        (unfold be in refl)
+    go false =
+        rw (be-back 4 (take 4 (be 4 (word 10 row))) (unfold be in refl) (take-octets 4 (be 4 (word 10 row)) (bytes-be 4 (word 10 row))))
+        (unfold be number in refl)

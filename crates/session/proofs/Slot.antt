@@ -3,19 +3,19 @@
 use mathlib.Core.Path.{_≡_, refl, sym, ap, _∙_}
 use mathlib.Core.Bool.{Bool, true, _&&_}
 use mathlib.Core.List.{List, [], _∷_, _++_, append-assoc, append-nil, map}
-use Prim.Native.Nat.{ℕ, _+_, _*_, _≤_, _<_}
+use Prim.Native.Nat.{ℕ, _+_, _*_, _^_, _≤_, _<_}
 use native.Mathlib.Omega.{arith}
-use lib.Dec.{T, ltb, leb, ltb→lt, leb→le, lit<}
+use lib.Dec.{T, ltb, leb, ltb→lt, lit<}
 use lib.ListN.{length, length-append}
 use lib.Seq.{take-at}
 use Rattle.octets.specs.Octets.{be, number, padded, concatMap}
 use Rattle.octets.specs.Lists.{all, ascending}
-use Rattle.octets.proofs.Tests.{and-right}
+use Rattle.octets.specs.Fields.{fieldOctets}
+use Rattle.octets.proofs.Tests.{and-left}
 use Rattle.octets.proofs.Numbers.{length-be, number-be, length-padded, length-concatMap}
-use Rattle.octets.proofs.Digits.{number-one}
 use Rattle.rules.specs.Model.{Pdr, Endpoint, Csid, Session, pdrId, endpointId, nodeTypeOf}
-use Rattle.rules.specs.Layout.{area, pdrWidth, endpointWidth, csidWidth, pdrOctets, endpointOctets, csidOctets, sessionOctets}
-use Rattle.laws.proofs.LayoutLaws.{length-pdr, length-endpoint}
+use Rattle.rules.specs.Layout.{area, pdrNumbers, endpointNumbers, csidSlotNumbers, pdrWidth, endpointWidth, csidWidth, pdrOctets, endpointOctets, csidOctets, sessionOctets}
+use Rattle.laws.proofs.LayoutLaws.{length-pdr, length-endpoint, length-csid}
 use Rattle.slots.specs.Records.{keyOf}
 use Rattle.areas.proofs.Held.{Held}
 use Rattle.session.specs.Areas.{pdrArea, endpointArea, csidArea}
@@ -32,22 +32,24 @@ endpointFits e = ltb (e .id) 256
 abbrev pub csidFits : Csid → Bool
 csidFits c = ltb (c .nodeType) 6 && leb (length (c .address)) 16
 
+-- the key of fields is the first of them
+key-first : (w v : ℕ) (ws vs : List ℕ) → v < 256 ^ w → keyOf w (fieldOctets (w ∷ ws) (v ∷ vs)) ≡ v
+unfolding keyOf fieldOctets
+key-first w v ws vs h = ap number (take-at (be w v) (fieldOctets ws vs) w (length-be w v)) ∙ number-be w v h
+
 pub pdr-good : (p : Pdr) → T (pdrFits p) → (length (pdrOctets p) ≡ pdrArea .width) × (keyOf (pdrArea .key) (pdrOctets p) ≡ pdrId p)
-unfolding keyOf pdrOctets pdrWidth
-pdr-good p h = (length-pdr p, ap number (take-at (be 2 (p .id)) _ 2 (length-be 2 (p .id))) ∙ number-be 2 (p .id) (ltb→lt (p .id) 65536 h))
+unfolding pdrOctets pdrNumbers pdrWidth
+pdr-good p h = (length-pdr p, key-first 2 (p .id) _ _ (ltb→lt (p .id) 65536 h))
 
 pub endpoint-good : (e : Endpoint) → T (endpointFits e) → (length (endpointOctets e) ≡ endpointArea .width) × (keyOf (endpointArea .key) (endpointOctets e) ≡ endpointId e)
-unfolding keyOf endpointOctets endpointWidth
-endpoint-good e h = (length-endpoint e, number-one (e .id))
+unfolding endpointOctets endpointNumbers endpointWidth
+endpoint-good e h = (length-endpoint e, key-first 1 (e .id) _ _ (ltb→lt (e .id) 256 h))
 
 pub csid-good : (c : Csid) → T (csidFits c) → (length (csidOctets c) ≡ csidArea .width) × (keyOf (csidArea .key) (csidOctets c) ≡ nodeTypeOf c)
-unfolding keyOf csidOctets
-csid-good c h = (
-  (let l = length-append (padded 16 (c .address)) (be 2 (c .csid)) in
-      let k = length-padded 16 (c .address) (leb→le (length (c .address)) 16 (and-right (ltb (c .nodeType) 6) (leb (length (c .address)) 16) h)) in
-      omega (arith, l, k, length-be 2 (c .csid))),
-  number-one (c .nodeType),
-)
+unfolding csidOctets csidSlotNumbers csidWidth
+csid-good c h =
+    let n : c .nodeType < 6 = ltb→lt (c .nodeType) 6 (and-left (ltb (c .nodeType) 6) (leb (length (c .address)) 16) h) in
+    (length-csid c, key-first 1 (c .nodeType) _ _ (omega arith))
 
 -- ---- the areas of a slot
 

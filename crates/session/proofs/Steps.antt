@@ -24,7 +24,7 @@ use Rattle.areas.specs.declared.Area.{Area}
 use Rattle.areas.specs.Counted.{Fits, areaIn, placeIn, replacedIn, clearedIn, withRecord, withoutRecord}
 use Rattle.areas.proofs.Steps.{found-room}
 use Rattle.session.specs.Areas.{pdrArea, endpointArea, csidArea}
-use Rattle.session.specs.Records.{ifIs, placeKind, pdrWidths, pdrValues, pdrRecord, endpointRecord, csidWidths, csidValues, csidRecord, withPrecedence, withFar, updatedRecord}
+use Rattle.session.specs.Records.{ifIs, placeKind, pdrValues, pdrRecord, endpointRecord, csidWidths, csidValues, csidRecord, withPrecedence, withFar, updatedRecord}
 use Rattle.session.specs.Build.{updatedAt, updatedPdr, followedCsid, rowApplied, passed, built}
 
 -- ---- the areas fit a slot
@@ -66,7 +66,7 @@ pub pdr-written : (row s out : List ℕ) (there far kind teid families endpoint 
     → families ≡ ifIs kind 1 (word 12 row % 4) → endpoint ≡ ifIs kind 2 (word 11 row)
     → out ≡ put 0 (fieldOctets (2 ∷ 4 ∷ 1 ∷ 4 ∷ 1 ∷ 1 ∷ 4 ∷ 1 ∷ 1 ∷ []) (word 7 row ∷ word 8 row ∷ there ∷ far ∷ word 10 row ∷ kind ∷ teid ∷ families ∷ endpoint ∷ [])) s
     → out ≡ pdrRecord row
-unfolding pdrRecord pdrWidths pdrValues widthOf
+unfolding pdrRecord pdrValues widthOf
 pdr-written row s out there far kind teid families endpoint long k a b c d e q =
     written-whole _ _ s out refl long q ∙ rw (a, b, c, d, e, k)
 

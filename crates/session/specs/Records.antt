@@ -7,6 +7,7 @@ use lib.Dec.{eqb}
 use Rattle.octets.specs.Choice.{pick}
 use Rattle.octets.specs.Octets.{be, put, zeros}
 use Rattle.octets.specs.Fields.{fieldOctets}
+use Rattle.rules.specs.Layout.{pdrWidths, endpointWidths}
 use Rattle.plan.specs.Rows.{word}
 
 -- a word that counts if another word has a value
@@ -14,9 +15,6 @@ unfoldable pub ifIs : ℕ → ℕ → ℕ → ℕ
 ifIs there n v = pick (eqb there n) v 0
 
 -- ---- PDR
-
-unfoldable pub pdrWidths : List ℕ
-pdrWidths = 2 ∷ 4 ∷ 1 ∷ 4 ∷ 1 ∷ 1 ∷ 4 ∷ 1 ∷ 1 ∷ []
 
 -- 0 neither, 1 a local F-TEID, 2 an endpoint ID
 unfoldable pub placeKind : List ℕ → ℕ
@@ -41,7 +39,7 @@ pdrRecord row = fieldOctets pdrWidths (pdrValues row)
 -- ---- endpoint
 
 unfoldable pub endpointRecord : List ℕ → List ℕ
-endpointRecord row = fieldOctets (1 ∷ 4 ∷ 1 ∷ []) (word 11 row ∷ word 13 row ∷ word 12 row % 4 ∷ [])
+endpointRecord row = fieldOctets endpointWidths (word 11 row ∷ word 13 row ∷ word 12 row % 4 ∷ [])
 
 -- ---- FQ-CSID
 

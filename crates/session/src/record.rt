@@ -1,7 +1,7 @@
 // The octets of a record, from its row in the plan.
 ghost use mathlib.Core.Path.{_≡_};
 ghost use lib.ListN.{length};
-ghost use Rattle.session.specs.Records.{ifIs, placeKind, pdrWidths, pdrRecord, endpointRecord, csidRecord, withPrecedence, withFar};
+ghost use Rattle.session.specs.Records.{ifIs, placeKind, pdrRecord, endpointRecord, csidRecord, withPrecedence, withFar};
 
 // v where a word has the value n, else 0.
 fn if_is(there: u64, n: u64, v: u64) -> u64

@@ -13,20 +13,21 @@ use lib.Dec.{T, leb, leb→le, lt→ltb}
 use mir.Facts.{yes-leb}
 use Rattle.octets.specs.Choice.{allOf}
 use Rattle.octets.specs.Octets.{part, be, number, numberAt, octetAt, slices, sameOctets, octets}
+use Rattle.octets.specs.Fields.{fieldsAt}
 use Rattle.octets.specs.Lists.{all, ascending, allPairs}
 use Rattle.octets.proofs.Tests.{each, all-of-each, both, and-left, and-right, of-true}
 use Rattle.octets.proofs.Numbers.{same-refl, same-eq}
-use Rattle.octets.proofs.Digits.{number-below, part-octets, number-one}
+use Rattle.octets.proofs.Digits.{be-back, number-below, part-octets}
 use Rattle.octets.proofs.Put.{length-part, part-of}
 use Rattle.rules.specs.Limits.{maxPdrs, maxEndpoints, nodeTypes}
 use Rattle.rules.specs.Model.{Settings, Session, pdrId, endpointId, nodeTypeOf, seidOf, sessionHoldings}
-use Rattle.rules.specs.Layout.{area, pdrWidth, endpointWidth, csidWidth, sessionHead, pdrOctets, endpointOctets, csidOctets, sessionOctets, viewArea, viewPdr, viewEndpoint, viewCsid, viewSession}
+use Rattle.rules.specs.Layout.{area, pdrFrom, endpointFrom, csidFrom, pdrWidth, endpointWidth, csidWidth, sessionHead, pdrOctets, endpointOctets, csidOctets, sessionOctets, viewArea, viewPdr, viewEndpoint, viewCsid, viewSession}
 use Rattle.rules.specs.Sound.{pdrAllowed, endpointAllowed, csidAllowed, agree, sessionTests, sessionAllowed}
 use Rattle.laws.proofs.LayoutLaws.{length-area, length-pdr, length-endpoint, length-csid}
 use Rattle.slots.specs.Records.{keyOf}
 use Rattle.slots.proofs.Lookup.{length-slices}
 use Rattle.records.specs.Kept.{kept, pdrSound, endpointSound, csidSound, endpointIds}
-use Rattle.records.proofs.Cells.{same-test, be-back, and-assoc}
+use Rattle.records.proofs.Cells.{same-test, and-assoc}
 use Rattle.sessions.specs.Slot.{pdrArea, endpointArea, csidArea, headSound, slotTests, slotSound, recordsAllowed}
 use Rattle.sessions.proofs.Areas.{slices-take, area-from, area-to}
 
@@ -43,21 +44,17 @@ allowed-split s x = all-last (take 11 (sessionTests s x)) (allPairs agree (sessi
 
 -- ---- keys are the first octets
 
-first-octet : (xs : List ℕ) → getD xs 0 0 ≡ number (take 1 xs)
-first-octet [] = unfold number in refl
-first-octet (x ∷ xs) = sym (number-one x)
-
 pub key-pdr : (xs : List ℕ) → pdrId (viewPdr xs) ≡ keyOf 2 xs
-unfolding viewPdr numberAt keyOf
+unfolding viewPdr pdrFrom fieldsAt keyOf
 key-pdr xs = refl
 
 pub key-endpoint : (xs : List ℕ) → endpointId (viewEndpoint xs) ≡ keyOf 1 xs
-unfolding viewEndpoint octetAt keyOf
-key-endpoint xs = first-octet xs
+unfolding viewEndpoint endpointFrom fieldsAt keyOf
+key-endpoint xs = refl
 
 pub key-csid : (xs : List ℕ) → nodeTypeOf (viewCsid xs) ≡ keyOf 1 xs
-unfolding viewCsid octetAt keyOf
-key-csid xs = first-octet xs
+unfolding viewCsid csidFrom fieldsAt keyOf
+key-csid xs = refl
 
 pub key-session : (xs : List ℕ) → seidOf (viewSession xs) ≡ keyOf 8 xs
 unfolding viewSession numberAt keyOf
@@ -238,7 +235,7 @@ module _ (xs : List ℕ) (long : length xs ≡ 483) where
         let t = each (slotTests s xs) h in
         let ps = area-from (pdrAllowed s live) pdrOctets viewPdr pdrId 19 2 (λ p q. length-pdr p) key-pdr 16 (getD xs 8 0) (pdrArea xs) long-pdrs (c .pdrs) (t .1 .0) in
         let es = area-from (endpointAllowed s) endpointOctets viewEndpoint endpointId 6 1 (λ e q. length-endpoint e) key-endpoint 8 (getD xs 9 0) (endpointArea xs) long-endpoints (c .endpoints) (t .1 .1 .0) in
-        let cs = area-from csidAllowed csidOctets viewCsid nodeTypeOf 20 1 length-csid key-csid 6 (getD xs 10 0) (csidArea xs) long-csids (c .csids) (t .1 .1 .1 .0) in (
+        let cs = area-from csidAllowed csidOctets viewCsid nodeTypeOf 20 1 (λ r q. length-csid r) key-csid 6 (getD xs 10 0) (csidArea xs) long-csids (c .csids) (t .1 .1 .1 .0) in (
           facts-to (record {
             seid = leb→le 1 (number (part 0 8 xs)) (each (headTests xs) (t .0) .0);
             pdrs = ps .0;
@@ -258,7 +255,7 @@ module _ (xs : List ℕ) (long : length xs ≡ 483) where
         let f = facts-from h in
         let lp : length pdrsWritten ≡ 304 = length-area pdrOctets 19 (pdrAllowed s live) (λ p q. length-pdr p) 16 _ (f .pdrs) (le-trans (le-of-eq count-pdrs) (c .pdrs)) in
         let le′ : length endpointsWritten ≡ 48 = length-area endpointOctets 6 (endpointAllowed s) (λ e q. length-endpoint e) 8 _ (f .endpoints) (le-trans (le-of-eq count-endpoints) (c .endpoints)) in
-        let lc : length csidsWritten ≡ 120 = length-area csidOctets 20 csidAllowed length-csid 6 _ (f .csids) (le-trans (le-of-eq count-csids) (c .csids)) in
+        let lc : length csidsWritten ≡ 120 = length-area csidOctets 20 csidAllowed (λ r q. length-csid r) 6 _ (f .csids) (le-trans (le-of-eq count-csids) (c .csids)) in
         let head : List ℕ = part 0 8 xs ++ (getD xs 8 0 ∷ getD xs 9 0 ∷ getD xs 10 0 ∷ []) in
         let long-head : length head ≡ 11 = length-append (part 0 8 xs) (getD xs 8 0 ∷ getD xs 9 0 ∷ getD xs 10 0 ∷ []) ∙ ap (λ (n : ℕ). n + 3) (length-part 0 8 xs (omega arith)) in
         let same : head ++ (pdrsWritten ++ (endpointsWritten ++ csidsWritten)) ≡ xs = append-assoc (part 0 8 xs) (getD xs 8 0 ∷ getD xs 9 0 ∷ getD xs 10 0 ∷ []) _ ∙ sym written-is ∙ e in
@@ -273,7 +270,7 @@ module _ (xs : List ℕ) (long : length xs ≡ 483) where
             area-to (pdrAllowed s live) pdrOctets viewPdr pdrId 19 2 (λ p q. length-pdr p) key-pdr 16 (getD xs 8 0) (pdrArea xs) long-pdrs (c .pdrs) (f .pdrs) (f .pdrs-up) pe,
             (
               area-to (endpointAllowed s) endpointOctets viewEndpoint endpointId 6 1 (λ e q. length-endpoint e) key-endpoint 8 (getD xs 9 0) (endpointArea xs) long-endpoints (c .endpoints) (f .endpoints) (f .endpoints-up) ee,
-              (area-to csidAllowed csidOctets viewCsid nodeTypeOf 20 1 length-csid key-csid 6 (getD xs 10 0) (csidArea xs) long-csids (c .csids) (f .csids) (f .csids-up) ce, tt),
+              (area-to csidAllowed csidOctets viewCsid nodeTypeOf 20 1 (λ r q. length-csid r) key-csid 6 (getD xs 10 0) (csidArea xs) long-csids (c .csids) (f .csids) (f .csids-up) ce, tt),
             ),
           ),
         )

@@ -1,5 +1,5 @@
 -- The session at entry by its slot's octets: the IDs of its records, and the endpoints that its PDRs name. Assumes nothing.
-use mathlib.Core.Path.{_≡_, refl, sym, ap, ap₂, _∙_}
+use mathlib.Core.Path.{_≡_, refl, sym, ap, _∙_}
 use mathlib.Core.Bool.{Bool, true, false, not, _&&_, and-true, and-false}
 use mathlib.Core.Option.{Option, none, some}
 use mathlib.Core.List.{List, [], _∷_, map, map-map}
@@ -7,18 +7,19 @@ use Prim.Native.Nat.{ℕ, _-_, _*_, _≤_, _<_}
 use native.Mathlib.Omega.{arith}
 use lib.Dec.{eqb}
 use lib.ListN.{length, take, drop, getD, replicate, length-drop, length-map}
-use lib.Seq.{take-take, getD-drop, sets}
+use lib.Seq.{take-take, sets}
 use borrow.Author.Tests.{ne-eqb}
 use Rattle.octets.specs.Choice.{pick}
 use Rattle.octets.specs.Octets.{number, numberAt, part, octetAt, slices}
+use Rattle.octets.specs.Fields.{fieldsAt}
 use Rattle.octets.specs.Lists.{member, anyIn, any, keep, collect}
-use Rattle.octets.proofs.Digits.{number-one}
 use Rattle.lists.specs.Rows.{column}
 use Rattle.lists.proofs.RowLaws.{rows-more, rows-none}
 use Rattle.lists.proofs.Loops.{left-part, stored}
 use Rattle.stages.proofs.UnitLaws.{slices-length}
 use Rattle.rules.specs.Model.{Pdr, Session, neither, tunnel, endpoint, pdrId, endpointId, pdrEndpoint, placeEndpoint}
-use Rattle.rules.specs.Layout.{viewTunnel, viewPdr, viewPlace, viewEndpoint, viewArea, viewSession, pdrWidth, endpointWidth, sessionHead}
+use Rattle.rules.specs.Layout.{tunnelRead, placeRead, pdrFrom, endpointFrom, viewPdr, viewEndpoint, viewArea, viewSession, pdrWidth, endpointWidth, sessionHead}
+use Rattle.laws.proofs.LayoutLaws.{pdr-view}
 use Rattle.rules.specs.Stages.{livePdrs, liveEndpoints, staysPdr, endpointInUse}
 use Rattle.plan.specs.Rows.{requestIn}
 use Rattle.rows.proofs.ListLaws.{onSome, any-in, any-ext, any-map, any-keep, any-collect}
@@ -43,24 +44,13 @@ pub ids-more : (width idw n : ℕ) (s : List ℕ) → 0 < n → idw ≤ width
 unfolding numberAt
 ids-more width idw n s h g = rw (rows-more width n s h, left-part s width) (ap (λ (l : List ℕ). number l ∷ idsIn width idw (n - 1) (drop width s)) (take-take idw width s g))
 
-map-ext : {A B : Type 0} (f g : A → B) → ((x : A) → f x ≡ g x) → (xs : List A) → map f xs ≡ map g xs
-map-ext f g h [] = refl
-map-ext f g h (x ∷ xs) = ap₂ _∷_ (h x) (map-ext f g h xs)
-
-first-octet : (s : List ℕ) → octetAt s 0 ≡ numberAt 0 1 s
-unfolding octetAt numberAt number
-first-octet [] = refl
-first-octet (x ∷ s) = sym (number-one x)
-
 pub live-pdrs : (slot : List ℕ) → livePdrs (viewSession slot) ≡ idsIn 19 2 (getD slot 8 0) (drop 11 slot)
-unfolding livePdrs viewSession viewArea viewPdr pdrWidth sessionHead octetAt
+unfolding livePdrs viewSession viewArea viewPdr pdrFrom fieldsAt numberAt pdrWidth sessionHead octetAt
 live-pdrs slot = map-map pdrId viewPdr (slices 19 (getD slot 8 0) (drop 11 slot))
 
 pub live-endpoints : (slot : List ℕ) → liveEndpoints (viewSession slot) ≡ idsIn 6 1 (getD slot 9 0) (drop 315 slot)
-unfolding liveEndpoints viewSession viewArea viewEndpoint pdrWidth endpointWidth sessionHead octetAt
-live-endpoints slot =
-    map-map endpointId viewEndpoint (slices 6 (getD slot 9 0) (drop 315 slot))
-    ∙ map-ext (λ xs. endpointId (viewEndpoint xs)) (numberAt 0 1) (λ xs. first-octet xs) (slices 6 (getD slot 9 0) (drop 315 slot))
+unfolding liveEndpoints viewSession viewArea viewEndpoint endpointFrom fieldsAt numberAt pdrWidth endpointWidth sessionHead octetAt
+live-endpoints slot = map-map endpointId viewEndpoint (slices 6 (getD slot 9 0) (drop 315 slot))
 
 -- ---- endpoints that PDRs name
 
@@ -96,20 +86,12 @@ none-none true = refl
 none-none false = refl
 
 module _ (rows : List (List ℕ)) (pdr : List ℕ) where
-  place-word : octetAt (drop 12 pdr) 0 ≡ getD pdr 12 0
-  unfolding octetAt
-  place-word = getD-drop 12 pdr 0 0
-
-  endpoint-word : octetAt (drop 12 pdr) 6 ≡ getD pdr 18 0
-  unfolding octetAt
-  endpoint-word = getD-drop 12 pdr 6 0
-
   place-is : pdrEndpoint (viewPdr pdr) ≡ pick (eqb (getD pdr 12 0) 1) none (pick (eqb (getD pdr 12 0) 2) (some (getD pdr 18 0)) none)
-  unfolding pdrEndpoint viewPdr viewPlace placeEndpoint
-  place-is = rw (place-word, endpoint-word) (one (eqb (getD pdr 12 0) 1) (eqb (getD pdr 12 0) 2))
+  unfolding pdrEndpoint placeRead placeEndpoint
+  place-is = rw (pdr-view pdr) (one (eqb (getD pdr 12 0) 1) (eqb (getD pdr 12 0) 2))
     where
       one : (a b : Bool)
-          → placeEndpoint (pick a (tunnel (viewTunnel (drop 1 (drop 12 pdr)))) (pick b (endpoint (getD pdr 18 0)) neither))
+          → placeEndpoint (pick a (tunnel (tunnelRead (number (part 13 4 pdr)) (getD pdr 17 0))) (pick b (endpoint (getD pdr 18 0)) neither))
           ≡ pick a none (pick b (some (getD pdr 18 0)) none)
       one true b = refl
       one false true = refl
@@ -121,7 +103,7 @@ module _ (rows : List (List ℕ)) (pdr : List ℕ) where
 
   pub gone-endpoint : getD pdr 12 0 ≡ 2 → namesGone rows (viewPdr pdr) ≡ (not (member (number (part 0 2 pdr)) (column 15 7 rows)) && member (getD pdr 18 0) (column 130 11 rows))
   unfolding namesGone namedIn
-  gone-endpoint h = rw (place-is, h) (unfold viewPdr numberAt in refl)
+  gone-endpoint h = rw (place-is, h) (unfold viewPdr pdrFrom fieldsAt in refl)
 
   pub gone-not : getD pdr 12 0 ≡ 2 → member (getD pdr 18 0) (column 130 11 rows) ≡ false → namesGone rows (viewPdr pdr) ≡ false
   gone-not h g = gone-endpoint h ∙ rw g (and-false (not (member (number (part 0 2 pdr)) (column 15 7 rows))))

@@ -15,7 +15,7 @@ use Rattle.octets.specs.Octets.{part, be, number, numberAt, octetAt, sameOctets
 use Rattle.octets.specs.Lists.{all, allPairs, ascending}
 use Rattle.octets.proofs.Tests.{each, all-of-each, both, and-left, and-right, of-true, all-head, all-tail, all-cons}
 use Rattle.octets.proofs.Numbers.{same-refl, same-eq}
-use Rattle.octets.proofs.Digits.{part-octets, drop-octets}
+use Rattle.octets.proofs.Digits.{be-back, part-octets, drop-octets}
 use Rattle.octets.proofs.Put.{length-part}
 use Rattle.rules.specs.Limits.{maxSessions, mapWords}
 use Rattle.rules.specs.Model.{Settings, Session, seidOf}
@@ -27,7 +27,7 @@ use Rattle.pool.proofs.TakenLaws.{pool-fits}
 use Rattle.slots.specs.Records.{keyOf}
 use Rattle.slots.proofs.Lookup.{length-slices}
 use Rattle.records.specs.Kept.{kept, settingsSound, unit}
-use Rattle.records.proofs.Cells.{same-test, be-back, drop-take}
+use Rattle.records.proofs.Cells.{same-test, drop-take}
 use Rattle.sessions.specs.Slot.{areaSound}
 use Rattle.sessions.proofs.Areas.{area-from, area-to, kept-allowed, kept-same}
 use Rattle.sessions.proofs.SlotLaws.{key-session}

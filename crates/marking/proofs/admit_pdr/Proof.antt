@@ -48,7 +48,7 @@ sub-mark c =
     let xs = slotAt (g .pdrs .now) (g .i) in
     let o : T (octets xs) = octets-known xs (λ i. c .before .before .before .shared-slice-known3 .given i .fits) in
     let sound = c .before .before .before .before .before .pdr-sound in
-    pdr-fits (g .pdrs .now) (g .i) (g .first) (g .size) (g .v6) (endpointIds (g .m) (g .ends .now)) (g .words .now) [] (sound .result) (sound .ensures) (c .before .before .before .before .if1 .left) (c .before .before .if2 .left) (c .before .read .result) (c .before .read .ensures .0) (omega arith) o (start .pre .3) .0
+    pdr-fits (g .pdrs .now) (g .i) (g .first) (g .size) (g .v6) (endpointIds (g .m) (g .ends .now)) (g .words .now) [] (sound .result) (sound .ensures) (c .before .before .before .before .if1 .left) (c .before .before .if2 .left) (c .before .read .result) (c .before .read .ensures .0) (omega arith) o (start .pre .2) (start .pre .3) .0
 
 mark-requires : tie.Need-mark-requires
 mark-requires c κs =
@@ -57,7 +57,7 @@ mark-requires c κs =
     let xs = slotAt (g .pdrs .now) (g .i) in
     let o : T (octets xs) = octets-known xs (λ i. c .before .before .before .shared-slice-known3 .given i .fits) in
     let sound = c .before .before .before .before .before .pdr-sound in
-    pdr-fits (g .pdrs .now) (g .i) (g .first) (g .size) (g .v6) (endpointIds (g .m) (g .ends .now)) (g .words .now) [] (sound .result) (sound .ensures) (c .before .before .before .before .if1 .left) (c .before .before .if2 .left) (c .before .read .result) (c .before .read .ensures .0) (omega arith) o (start .pre .3) .1
+    pdr-fits (g .pdrs .now) (g .i) (g .first) (g .size) (g .v6) (endpointIds (g .m) (g .ends .now)) (g .words .now) [] (sound .result) (sound .ensures) (c .before .before .before .before .if1 .left) (c .before .before .if2 .left) (c .before .read .result) (c .before .read .ensures .0) (omega arith) o (start .pre .2) (start .pre .3) .1
 
 same-length : tie.Need-same-length
 same-length c = search needs

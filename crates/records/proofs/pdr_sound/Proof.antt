@@ -24,21 +24,12 @@ returns-2 c =
     let o : T (octets (c .before .before .before .before .before .before .args .slot .now)) = octets-known (c .before .before .before .before .before .before .args .slot .now) (λ i. c .before .before .before .before .before .shared-slice-known .given i .fits) in
     search pdr-far
 
-sub-place-sound : tie.Need-sub-place-sound
-sub-place-sound c = search needs
-
-part-place-sound-start : tie.Need-part-place-sound-start
-part-place-sound-start c = search needs
-
-part-place-sound-end : tie.Need-part-place-sound-end
-part-place-sound-end c = search needs
-
 place-sound-requires : tie.Need-place-sound-requires
 place-sound-requires c κs = search needs
 
 returns-3 : tie.Need-returns-3
 returns-3 c =
-    let o : T (octets (c .before .before .before .before .before .before .before .before .args .slot .now)) = octets-known (c .before .before .before .before .before .before .before .before .args .slot .now) (λ i. c .before .before .before .before .before .before .before .shared-slice-known .given i .fits) in
+    let o : T (octets (c .before .before .before .before .before .before .before .args .slot .now)) = octets-known (c .before .before .before .before .before .before .before .args .slot .now) (λ i. c .before .before .before .before .before .before .shared-slice-known .given i .fits) in
     search pdr-place
 
 pub pdr-sound-spec : {M : Type 1} → statement M
@@ -49,8 +40,5 @@ pdr-sound-spec =
     returns
     field-sound-requires
     returns-2
-    sub-place-sound
-    part-place-sound-start
-    part-place-sound-end
     place-sound-requires
     returns-3)

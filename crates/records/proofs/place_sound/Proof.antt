@@ -1,8 +1,5 @@
 -- `records::place_sound` meets its contract.
 -- Assumes nothing.
-use lib.Dec.{T}
-use Rattle.octets.specs.Octets.{octets}
-use Rattle.octets.proofs.Digits.{octets-known}
 use Rattle.records.proofs.Answers.{place-both, place-tunnel, place-stray, place-named, place-none}
 use borrow.Author.Needs.{needs}
 use Rattle.records.proofs.place_sound.Statement.{statement}
@@ -15,41 +12,31 @@ shared-slice-read-id : tie.Need-shared-slice-read-id
 shared-slice-read-id c = search needs
 
 returns : tie.Need-returns
-returns c =
-    let o : T (octets (c .before .before .before .before .before .before .args .place .now)) = octets-known (c .before .before .before .before .before .before .args .place .now) (λ i. c .before .before .before .before .before .shared-slice-known .given i .fits) in
-    search place-both
+returns c = search place-both
 
 tunnel-sound-requires : tie.Need-tunnel-sound-requires
 tunnel-sound-requires c κs = search needs
 
 returns-2 : tie.Need-returns-2
-returns-2 c =
-    let o : T (octets (c .before .before .before .before .before .before .before .args .place .now)) = octets-known (c .before .before .before .before .before .before .before .args .place .now) (λ i. c .before .before .before .before .before .before .shared-slice-known .given i .fits) in
-    search place-tunnel
+returns-2 c = search place-tunnel
 
 is-zero-requires : tie.Need-is-zero-requires
 is-zero-requires c κs = search needs
 
 returns-3 : tie.Need-returns-3
-returns-3 c =
-    let o : T (octets (c .before .before .before .before .before .before .before .before .args .place .now)) = octets-known (c .before .before .before .before .before .before .before .before .args .place .now) (λ i. c .before .before .before .before .before .before .before .shared-slice-known .given i .fits) in
-    search place-stray
+returns-3 c = search place-stray
 
 names-endpoint-requires : tie.Need-names-endpoint-requires
 names-endpoint-requires c κs = search needs
 
 returns-4 : tie.Need-returns-4
-returns-4 c =
-    let o : T (octets (c .before .before .before .before .before .before .before .before .before .args .place .now)) = octets-known (c .before .before .before .before .before .before .before .before .before .args .place .now) (λ i. c .before .before .before .before .before .before .before .before .shared-slice-known .given i .fits) in
-    search place-named
+returns-4 c = search place-named
 
 is-zero-requires-2 : tie.Need-is-zero-requires-2
 is-zero-requires-2 c κs = search needs
 
 returns-5 : tie.Need-returns-5
-returns-5 c =
-    let o : T (octets (c .before .before .before .before .before .before .before .args .place .now)) = octets-known (c .before .before .before .before .before .before .before .args .place .now) (λ i. c .before .before .before .before .before .before .shared-slice-known .given i .fits) in
-    search place-none
+returns-5 c = search place-none
 
 pub place-sound-spec : {M : Type 1} → statement M
 place-sound-spec =
