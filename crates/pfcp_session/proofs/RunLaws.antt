@@ -13,10 +13,10 @@ use Rattle.rules.specs.Serve.{Served, serve}
 use Rattle.rules.specs.Claim.{Ran, lastTable, liveSet, Promise, Claim, Demand3}
 use Rattle.claim.proofs.Changed.{demand3}
 use Rattle.pfcp_session.specs.Calls.{MakeCall, makeAnswer, makeCall, CountCall, countAnswer, countCall, RequestCall, requestAnswer, requestCall}
-use Rattle.pfcp_session.specs.Runs.{HostStep, requested, counted, HostRan, countOf, stepOf, stepsOf, HostClaim}
+use Rattle.pfcp_session.specs.Runs.{HostStep, requested, counted, HostRan, countOf, stepOf, stepsOf, liveAfter, tableAfter, HostClaim}
 
 -- a request's outcome, space and table are those of `serve`
-request-step : (t msg space : List ℕ) (r : RequestCall) → r ≡ requestCall t msg space
+pub request-step : (t msg space : List ℕ) (r : RequestCall) → r ≡ requestCall t msg space
     → _≡_ {A = Served} (record { outcome = r .outcome; space = r .space; table = r .table }) (serve maxSessions t msg space)
 unfolding requestCall requestAnswer
 request-step t msg space r e = ap (λ (x : RequestCall). record { outcome = x .outcome; space = x .space; table = x .table }) e
@@ -46,9 +46,12 @@ is-made m e = go (m .made) e
     go false z = absurd (omega arith)
 
 pub host-claim : HostClaim
-unfolding HostClaim makeCall Demand3 Claim
-host-claim s a made hs e o ok h =
-    let same : made .table ≡ make maxSessions s a .table = ap (λ (x : MakeCall). x .table) e in
-    let yes : T (make maxSessions s a .made) = is-made (make maxSessions s a) (sym (ap (λ (x : MakeCall). x .outcome) e) ∙ o) in
-    let run : Ran maxSessions (make maxSessions s a .table) (stepsOf hs) = subst (λ (t : List ℕ). Ran maxSessions t (stepsOf hs)) same (ran (made .table) hs h) in
-    subst (λ (t : List ℕ). Promise maxSessions s (liveSet (stepsOf hs)) (lastTable t (stepsOf hs))) (sym same) (demand3 s a (stepsOf hs) yes ok run)
+unfolding HostClaim liveAfter tableAfter makeCall Demand3 Claim
+host-claim run =
+    let s = run .settings in
+    let a = run .found in
+    let hs = stepsOf (run .steps) in
+    let same : run .made .table ≡ make maxSessions s a .table = ap (λ (x : MakeCall). x .table) (run .making) in
+    let yes : T (make maxSessions s a .made) = is-made (make maxSessions s a) (sym (ap (λ (x : MakeCall). x .outcome) (run .making)) ∙ run .success) in
+    let went : Ran maxSessions (make maxSessions s a .table) hs = subst (λ (t : List ℕ). Ran maxSessions t hs) same (ran (run .made .table) (run .steps) (run .ran)) in
+    subst (λ (t : List ℕ). Promise maxSessions s (liveSet hs) (lastTable t hs)) (sym same) (demand3 s a hs yes (run .allowed) went)

@@ -7,7 +7,7 @@ use lib.Dec.{T, eqb}
 use Rattle.octets.specs.Choice.{pick}
 use Rattle.octets.specs.Lists.{all}
 use Rattle.rules.specs.Limits.{maxSessions}
-use Rattle.rules.specs.Model.{Settings}
+use Rattle.rules.specs.Model.{Settings, Sessions}
 use Rattle.rules.specs.Sound.{Count, broken, free}
 use Rattle.rules.specs.Claim.{Step, asked, told, stepAllowed, lastTable, liveSet, Promise}
 use Rattle.pfcp_session.specs.Calls.{MakeCall, makeCall, CountCall, countCall, RequestCall, requestCall}
@@ -34,8 +34,25 @@ stepOf (counted c) = told (countOf c)
 abbrev pub stepsOf : List HostStep → List Step
 stepsOf hs = map stepOf hs
 
--- pfcp_make_table said 0, and any calls followed: the claim's promise holds of the table that they left
+-- pfcp_make_table said 0 of the octets found, and any calls with any octets followed, each of which left what its contract says
+pub record Run : Type 0 where
+  pub settings : Settings
+  pub found : List ℕ
+  pub made : MakeCall
+  pub steps : List HostStep
+  pub making : made ≡ makeCall settings found
+  pub success : made .outcome ≡ 0
+  pub allowed : T (all stepAllowed (stepsOf steps))
+  pub ran : HostRan (made .table) steps
+
+-- the live set, from messages, outcomes and replies alone
+unfoldable pub liveAfter : Run → Sessions
+liveAfter run = liveSet (stepsOf (run .steps))
+
+-- the octets of the table
+unfoldable pub tableAfter : Run → List ℕ
+tableAfter run = lastTable (run .made .table) (stepsOf (run .steps))
+
+-- the claim's promise holds of the table that any run left
 unfoldable pub HostClaim : Type 0
-HostClaim =
-    (s : Settings) (a : List ℕ) (made : MakeCall) (hs : List HostStep) → made ≡ makeCall s a → made .outcome ≡ 0 → T (all stepAllowed (stepsOf hs)) → HostRan (made .table) hs
-    → Promise maxSessions s (liveSet (stepsOf hs)) (lastTable (made .table) (stepsOf hs))
+HostClaim = (run : Run) → Promise maxSessions (run .settings) (liveAfter run) (tableAfter run)
