@@ -1,0 +1,92 @@
+-- What must never happen: a TEID that was released stays in the table, or a TEID that one patient's session holds comes to another's. That it
+-- does not, as two statements about every run of the exported calls. "At any time" is after any run: the calls up to any moment are a run.
+-- Assumes nothing.
+use Prim.Native.Nat.{ℕ, _-_}
+use mathlib.Core.Path.{_≡_}
+use mathlib.Core.Bool.{Bool, false, not, _&&_}
+use mathlib.Core.List.{List, map}
+use lib.Dec.{T, eqb}
+use lib.ListN.{length}
+use Rattle.octets.specs.Choice.{pick}
+use Rattle.octets.specs.Octets.{octets}
+use Rattle.octets.specs.Lists.{member, ascending, any, keep}
+use Rattle.rules.specs.Model.{Session, Sessions, sessionTeids, heldTeids, freeTeids, seidOf}
+use Rattle.rules.specs.Layout.{viewSettings, viewSessions}
+use Rattle.rules.specs.Sound.{inPool}
+use Rattle.rules.specs.Message.{deletion, kindOf}
+use Rattle.rules.specs.Reading.{readRequest, Request}
+use Rattle.rules.specs.Grants.{Kind}
+use Rattle.rules.specs.Stages.{hasSeid, newSession, entrySession}
+use Rattle.rules.specs.Apply.{keptPdr, keptEndpoint}
+use Rattle.rules.specs.Live.{replied, accepted, createdTeid}
+use Rattle.rules.specs.Claim.{mapOf}
+use Rattle.pool.specs.Map.{marked}
+use Rattle.pfcp_session.specs.Calls.{countCall, RequestCall, requestCall}
+use Rattle.pfcp_session.specs.Runs.{Run, liveAfter, tableAfter}
+
+-- ---- a run, and one more request
+
+-- the sessions whose records stand in the octets of the table
+unfoldable pub entriesAfter : Run → Sessions
+entriesAfter run = viewSessions (tableAfter run)
+
+-- the run's next call is a request, r is what it left, and it was accepted: outcome 0 and the reply's cause 1
+pub record Accepted (run : Run) (msg space : List ℕ) (r : RequestCall) : Type 0 where
+  pub message : T (octets msg)
+  pub call : r ≡ requestCall (tableAfter run) msg space
+  pub reply : T (accepted (replied msg (r .outcome) (r .space)))
+
+-- ---- released is removed
+
+-- a TEID is out of use in a table: no record holds it, its bit in the map of taken TEIDs is 0, and it is among those that requests may be given
+pub record Released (t : List ℕ) (n : ℕ) : Type 0 where
+  pub unheld : T (not (member n (heldTeids (viewSessions t))))
+  pub unmarked : marked (mapOf t) (n - viewSettings t .first) ≡ false
+  pub free : T (member n (freeTeids (viewSettings t) (viewSessions t)))
+
+-- a session without the PDRs and endpoints that a request removes
+unfoldable pub unremoved : Request → Session → Session
+unremoved r x =
+    record {
+      seid = x .seid;
+      pdrs = keep (keptPdr (r .gonePdrs)) (x .pdrs);
+      endpoints = keep (keptEndpoint (r .goneEndpoints)) (x .endpoints);
+      csids = x .csids;
+    }
+
+-- what an accepted request leaves of the session that it is about, before it adds anything: of one that it deletes, no record
+unfoldable pub spared : List ℕ → Session → Session
+spared msg x = pick (eqb (kindOf msg) deletion) (newSession (x .seid)) (unremoved (readRequest msg) x)
+
+-- * the TEIDs in the records of the table are those in the live records, the map marks just those, and the free count is of all others of the pool;
+-- * a TEID of the pool that no live record holds is out of use;
+-- * a TEID that the session which an accepted request is about (`entrySession`) held only in records that it removed is out of use after it
+pub record ReleasedIsRemoved (run : Run) : Type 0 where
+  pub records : heldTeids (entriesAfter run) ≡ heldTeids (liveAfter run)
+  pub marks : (n : ℕ) → T (inPool (run .settings) n) → marked (mapOf (tableAfter run)) (n - run .settings .first) ≡ member n (heldTeids (liveAfter run))
+  pub count : countCall (tableAfter run) ≡ record { outcome = 0; count = length (freeTeids (run .settings) (liveAfter run)) }
+  pub unheld : (n : ℕ) → T (inPool (run .settings) n) → T (not (member n (heldTeids (liveAfter run)))) → Released (tableAfter run) n
+  pub removed : (msg space : List ℕ) (r : RequestCall) → Accepted run msg space r → (n : ℕ)
+      → T (member n (sessionTeids (entrySession (entriesAfter run) msg)))
+      → T (not (member n (sessionTeids (spared msg (entrySession (entriesAfter run) msg)))))
+      → Released (r .table) n
+
+-- ---- no two patients
+
+-- a record of the session with this SEID holds the TEID
+unfoldable pub holds : Sessions → ℕ → ℕ → Bool
+holds m seid n = any (λ x. hasSeid seid x && member n (sessionTeids x)) m
+
+-- each SEID is that of one session, and a TEID that one session holds no other holds
+pub record OneHolder (m : Sessions) : Type 0 where
+  pub seids : T (ascending (map seidOf m))
+  pub teids : (one other n : ℕ) → T (not (eqb one other)) → T (holds m one n) → T (not (holds m other n))
+
+-- * a TEID has one holder in the live set and in the octets of the table;
+-- * the TEID that an accepted request's reply grants to a PDR or an endpoint was held by no record of the table at entry
+--   (where the reply has no such group it reads as 0, which no record holds)
+pub record NoTwoPatients (run : Run) : Type 0 where
+  pub live : OneHolder (liveAfter run)
+  pub table : OneHolder (entriesAfter run)
+  pub granted : (msg space : List ℕ) (r : RequestCall) → Accepted run msg space r → (k : Kind) (id : ℕ)
+      → T (not (member (createdTeid (r .space) k id) (heldTeids (entriesAfter run))))
