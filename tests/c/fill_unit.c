@@ -7,9 +7,10 @@
 #include <sys/socket.h>
 #include <sys/time.h>
 
+#include "measure.h"
 #include "workload.h"
 
-static struct message cycle[CYCLE];
+static struct message establishment;
 static struct place answered;
 
 static int connect_to(size_t port)
@@ -34,13 +35,18 @@ int main(int argc, char **argv)
         return 2;
     }
     int unit = connect_to(read_count("fill_unit", argv[1], 65535));
-    write_cycle(cycle);
-    for (size_t i = 0; i < SESSIONS; i++) {
-        const struct message *establishment = &cycle[4 * i + 1];
+    for (size_t i = 0; i < MOST_SESSIONS; i++) {
+        ssize_t received;
 
-        if (send(unit, establishment->octets, establishment->length, 0) < 0 ||
-            recv(unit, answered.reply, sizeof answered.reply, 0) <= 0 ||
-            !accepted(&answered, PFCP_ANSWERED)) {
+        write_establishment(&establishment, &workloads[ALIKE], i);
+        if (send(unit, establishment.octets, establishment.length, 0) < 0) {
+            perror("fill_unit");
+            return EXIT_FAILURE;
+        }
+        received = recv(unit, answered.reply, sizeof answered.reply, 0);
+        answered.outcome = PFCP_ANSWERED;
+        answered.used = received < 0 ? 0 : (size_t)received;
+        if (answered.used == 0 || cause_of(&answered) != 1) {
             fprintf(stderr, "fill_unit: session %zu is not accepted\n", i);
             return EXIT_FAILURE;
         }
