@@ -14,12 +14,13 @@ use Rattle.rules.specs.Model.{Settings, Session, Sessions, teidOf, sessionTeids
 use Rattle.rules.specs.Layout.{encode, viewSettings, viewSessions}
 use Rattle.laws.proofs.TableLaws.{sessions-back, encoded-settings}
 use Rattle.rules.specs.Sound.{sessionsAllowed, inPool}
-use Rattle.rules.specs.Message.{kindOf}
+use Rattle.rules.specs.Message.{kindOf, deletion}
 use Rattle.rules.specs.Reading.{readRequest, Request}
 use Rattle.rules.specs.Grants.{Kind, ofPdr, grants, grantedTeid}
 use Rattle.rules.specs.Stages.{sameChoice, verdict, entrySession}
 use Rattle.rules.specs.Serve.{Served, sessionsAfter, replyTo, answered, answer, serve}
 use Rattle.rules.specs.Live.{replied, accepted, replyCause, createdTeid}
+use Rattle.rules.specs.Causes as why
 use Rattle.claim.proofs.VerdictLaws.{Passed, passed, few-new-pdrs, few-new-endpoints}
 use Rattle.claim.proofs.GrantLaws.{enough}
 use Rattle.laws.proofs.GrantLaws.{grants-fit, grants-few}
@@ -74,12 +75,12 @@ module _ (limit : ℕ) (t msg space : List ℕ) where
   after-allowed ho a p = let k = table-kept limit t (a .table) in sessions-after limit s m msg (k .settings) (k .sessions) ho (a .kind) p
 
   -- they are what the table holds
-  table-there : verdict limit s m msg .cause ≡ 1 → answer limit s m msg space t .table ≡ encode limit s (sessionsAfter s m msg)
+  table-there : verdict limit s m msg .cause ≡ why.accepted → answer limit s m msg space t .table ≡ encode limit s (sessionsAfter s m msg)
   unfolding answer answered
   table-there c = ap (λ (n : ℕ). pick (eqb n 1) (encode limit s (sessionsAfter s m msg)) t) c
 
   -- the reply's Created groups have the TEIDs of the grants
-  teids-there : T (octets msg) → Answers limit t msg space → Passed limit s m msg → verdict limit s m msg .cause ≡ 1 → (k : Kind) (i : ℕ)
+  teids-there : T (octets msg) → Answers limit t msg space → Passed limit s m msg → verdict limit s m msg .cause ≡ why.accepted → (k : Kind) (i : ℕ)
       → createdTeid (answer limit s m msg space t .space) k i ≡ grantedTeid (grants s m r) k i
   unfolding answer answered replyTo
   teids-there ho a p c k i =
@@ -148,12 +149,12 @@ module _ (limit : ℕ) (t msg space : List ℕ) where
     at-next n h = subst (λ (z : Settings). T (member n (freeTeids z (viewSessions (out .table))))) (sym (c .settings)) (subst (λ (l : Sessions). T (member n (freeTeids s l))) (sym (c .sessions)) h)
 
     -- a TEID of the session at entry that none of its staying records holds, after an establishment or a modification
-    pub next-removed : T (not (eqb (kindOf msg) 54)) → (n : ℕ) → T (member n (sessionTeids x))
+    pub next-removed : T (not (eqb (kindOf msg) deletion)) → (n : ℕ) → T (member n (sessionTeids x))
         → T (not (member n (map teidOf (stayingHoldings r x))))
         → T (member n freeNext)
     next-removed nd n h gone = at-next n (removed-free limit s m msg (table-kept limit t (c .answered .table) .sessions) ho (c .passed) nd n h gone)
 
     -- every TEID of the session at entry, after a deletion
-    pub next-deleted : T (eqb (kindOf msg) 54) → (n : ℕ) → T (member n (sessionTeids x))
+    pub next-deleted : T (eqb (kindOf msg) deletion) → (n : ℕ) → T (member n (sessionTeids x))
         → T (member n freeNext)
     next-deleted d n h = at-next n (deleted-free limit s m msg (table-kept limit t (c .answered .table) .sessions) ho (c .passed) d n h)

@@ -17,7 +17,7 @@ use Rattle.octets.proofs.Ordered.{otherKey, keep-all, keep-pairs, keep-length, 
 use Rattle.rules.specs.Model.{Settings, Session, Sessions, seidOf}
 use Rattle.rules.specs.Limits.{maxSessions}
 use Rattle.rules.specs.Sound.{settingsAllowed, sessionAllowed, apart, sessionsTests, sessionsAllowed}
-use Rattle.rules.specs.Message.{kindOf, headerSeid, served}
+use Rattle.rules.specs.Message.{kindOf, headerSeid, served, establishment, deletion}
 use Rattle.rules.specs.Reading.{readRequest}
 use Rattle.rules.specs.Grants.{grants, grantedTeid}
 use Rattle.rules.specs.Stages.{hasSeid, sessionOf, isLive, newSession, atEntry, entrySession, unknownSession, tooManySessions}
@@ -87,7 +87,7 @@ found-seid n (y ∷ m) h = one (eqb (y .seid) n) refl (λ g. found-seid n m g) h
 room-beside : (limit : ℕ) (s : Settings) (m : Sessions) (msg : List ℕ) → T (sessionsAllowed limit s m) → Passed limit s m msg
     → length (removeSession (entrySession m msg .seid) m) < limit
 unfolding entrySession atEntry tooManySessions unknownSession sessionsAllowed sessionsTests
-room-beside limit s m msg hm p = one (eqb (kindOf msg) 50) (p .known) (p .room .0)
+room-beside limit s m msg hm p = one (eqb (kindOf msg) establishment) (p .known) (p .room .0)
   where
     few : length m ≤ limit
     few = leb→le (length m) limit (each (leb (length m) limit ∷ ascending (map seidOf m) ∷ all (sessionAllowed s) m ∷ allPairs apart m ∷ []) hm .0)
@@ -114,13 +114,13 @@ pub record OwnSound (s : Settings) (m : Sessions) (msg : List ℕ) : Type 0 wher
 unfoldable pub ChangedSound : ℕ → Type 0
 ChangedSound limit =
     (s : Settings) (m : Sessions) (msg : List ℕ) → T (settingsAllowed s) → T (sessionsAllowed limit s m) → T (octets msg) → T (served (kindOf msg))
-    → T (not (eqb (kindOf msg) 54)) → Passed limit s m msg → OwnSound s m msg
+    → T (not (eqb (kindOf msg) deletion)) → Passed limit s m msg → OwnSound s m msg
 
 pub sound-after : (limit : ℕ) → ChangedSound limit → SoundAfter limit
 unfolding ChangedSound SoundAfter sessionsAfter follow changed entrySession apply atEntry
-sound-after limit changes s m msg hs hm ho hk p = go (eqb (kindOf msg) 54) refl
+sound-after limit changes s m msg hs hm ho hk p = go (eqb (kindOf msg) deletion) refl
   where
-    put : T (not (eqb (kindOf msg) 54)) → T (sessionsAllowed limit s (putSession (changed s m msg) m))
+    put : T (not (eqb (kindOf msg) deletion)) → T (sessionsAllowed limit s (putSession (changed s m msg) m))
     put nd = unfold putSession ChangedSound in (
         let c = changes s m msg hs hm ho hk nd p in
         let x = changed s m msg in
@@ -128,7 +128,7 @@ sound-after limit changes s m msg hs hm ho hk p = go (eqb (kindOf msg) 54) refl
         insert-allowed limit s x (removeSession n m) (remove-allowed limit s n m hm) (c .sound)
         (others x (removeSession n m) (unfold removeSession in (keep-passes (otherSession n) m))) (c .separate) (room-beside limit s m msg hm p))
 
-    go : (b : Bool) → eqb (kindOf msg) 54 ≡ b
+    go : (b : Bool) → eqb (kindOf msg) deletion ≡ b
         → T (sessionsAllowed limit s (pick b (removeSession (headerSeid msg) m)
         (putSession (apply (grantedTeid (grants s m (readRequest msg))) (readRequest msg) (atEntry (kindOf msg) (headerSeid msg) (readRequest msg) m)) m)))
     go true e = remove-allowed limit s (headerSeid msg) m hm

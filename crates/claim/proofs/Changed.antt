@@ -14,7 +14,7 @@ use Rattle.octets.proofs.ListLaws.{not-not, all-every, all-always, found-passes
 use Rattle.rules.specs.Model.{Settings, Session, Sessions, sessionHoldings, sessionTeids, heldTeids, freeTeids}
 use Rattle.rules.specs.Limits.{maxSessions}
 use Rattle.rules.specs.Sound.{sessionAllowed, sessionsAllowed, apart}
-use Rattle.rules.specs.Message.{kindOf, headerSeid}
+use Rattle.rules.specs.Message.{kindOf, headerSeid, establishment}
 use Rattle.rules.specs.Reading.{readFault, readRequest, Request}
 use Rattle.rules.specs.Grants.{Kind, grants, grantedTeid, need}
 use Rattle.rules.specs.Stages.{hasSeid, sessionOf, isLive, newSession, atEntry, entrySession, unknownSession, invalidAllocation}
@@ -90,9 +90,9 @@ found-entry limit s m n hm live = one (findBy (hasSeid n) m) refl live
 -- the one that a request without a fault is about
 pub entry-known : (limit : ℕ) (s : Settings) (m : Sessions) (msg : List ℕ) → T (sessionsAllowed limit s m) → T (octets msg) → T (not (unknownSession m msg)) → readFault msg ≡ none → Entry s m (entrySession m msg)
 unfolding entrySession atEntry unknownSession
-entry-known limit s m msg hm ho known read = one (eqb (kindOf msg) 50) refl known
+entry-known limit s m msg hm ho known read = one (eqb (kindOf msg) establishment) refl known
   where
-    one : (b : Bool) → eqb (kindOf msg) 50 ≡ b → T (not (not b && not (isLive (headerSeid msg) m)))
+    one : (b : Bool) → eqb (kindOf msg) establishment ≡ b → T (not (not b && not (isLive (headerSeid msg) m)))
         → Entry s m (pick b (newSession (readRequest msg .seid)) (valueOr (newSession (headerSeid msg)) (sessionOf (headerSeid msg) m)))
     one true e k = new-entry s m (readRequest msg .seid) (seid-read msg ho (subst T (sym e) tt) read)
     one false e k = found-entry limit s m (headerSeid msg) hm (not-not (isLive (headerSeid msg) m) k)

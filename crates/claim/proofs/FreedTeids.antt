@@ -14,7 +14,7 @@ use Rattle.octets.proofs.ListLaws.{not-not, all-imply, all-append, all-map}
 use Rattle.octets.proofs.MemberLaws.{absent-each, each-absent, member-passes, none-in}
 use Rattle.rules.specs.Model.{Settings, Session, Sessions, teidOf, seidOf, sessionHoldings, sessionTeids, heldTeids, freeTeids}
 use Rattle.rules.specs.Sound.{sessionsAllowed, apart, inPool}
-use Rattle.rules.specs.Message.{kindOf, headerSeid}
+use Rattle.rules.specs.Message.{kindOf, headerSeid, establishment, deletion}
 use Rattle.rules.specs.Reading.{readRequest, Request}
 use Rattle.rules.specs.Grants.{grants, grantedTeid}
 use Rattle.rules.specs.Stages.{entrySession, atEntry, newSession, isLive, unknownSession, sessionOf}
@@ -89,24 +89,24 @@ module _ (limit : ℕ) (s : Settings) (m : Sessions) (msg : List ℕ) (hm : T (s
   entry-pool n h = member-passes (inPool s) n (heldTeids m) (member-passes (λ k. member k (heldTeids m)) n (sessionTeids x) h (entry .held)) (held-in-pool limit s m hm)
 
   -- an establishment's or a modification's removals
-  pub removed-free : T (not (eqb (kindOf msg) 54)) → (n : ℕ) → T (member n (sessionTeids x)) → T (not (member n (map teidOf (stayingHoldings r x)))) → T (member n (freeTeids s (sessionsAfter s m msg)))
+  pub removed-free : T (not (eqb (kindOf msg) deletion)) → (n : ℕ) → T (member n (sessionTeids x)) → T (not (member n (map teidOf (stayingHoldings r x)))) → T (member n (freeTeids s (sessionsAfter s m msg)))
   removed-free nd n h gone =
       free-there s (sessionsAfter s m msg) n (entry-pool n h) (subst (λ (l : Sessions). T (not (member n (heldTeids l)))) (sym put) (changed-unheld n h gone))
     where
       put : sessionsAfter s m msg ≡ putSession (changed s m msg) m
-      put = unfold sessionsAfter follow changed entrySession in (pick-no (eqb (kindOf msg) 54) (removeSession (headerSeid msg) m) _ nd)
+      put = unfold sessionsAfter follow changed entrySession in (pick-no (eqb (kindOf msg) deletion) (removeSession (headerSeid msg) m) _ nd)
 
   -- a deletion's: every TEID of its session
-  pub deleted-free : T (eqb (kindOf msg) 54) → (n : ℕ) → T (member n (sessionTeids x)) → T (member n (freeTeids s (sessionsAfter s m msg)))
+  pub deleted-free : T (eqb (kindOf msg) deletion) → (n : ℕ) → T (member n (sessionTeids x)) → T (member n (freeTeids s (sessionsAfter s m msg)))
   deleted-free d n h =
       free-there s (sessionsAfter s m msg) n (entry-pool n h)
       (subst (λ (l : Sessions). T (not (member n (heldTeids l)))) (sym gone) (absent-held n (removeSession (x .seid) m) (others-not n x (removeSession (x .seid) m) h (entry .separate))))
     where
-      kind : kindOf msg ≡ 54
-      kind = eqb→eq (kindOf msg) 54 d
+      kind : kindOf msg ≡ deletion
+      kind = eqb→eq (kindOf msg) deletion d
 
-      not-new : eqb (kindOf msg) 50 ≡ false
-      not-new = ap (λ (k : ℕ). eqb k 50) kind
+      not-new : eqb (kindOf msg) establishment ≡ false
+      not-new = ap (λ (k : ℕ). eqb k establishment) kind
 
       live : T (isLive (headerSeid msg) m)
       live = unfold unknownSession in (not-not (isLive (headerSeid msg) m) (subst (λ (b : Bool). T (not (not b && not (isLive (headerSeid msg) m)))) not-new (p .known)))
@@ -116,4 +116,4 @@ module _ (limit : ℕ) (s : Settings) (m : Sessions) (msg : List ℕ) (hm : T (s
           ap {B = ℕ} (λ (b : Bool). pick b (newSession (readRequest msg .seid)) (valueOr (newSession (headerSeid msg)) (sessionOf (headerSeid msg) m)) .seid) not-new ∙ found-seid (headerSeid msg) m live)
 
       gone : sessionsAfter s m msg ≡ removeSession (entrySession m msg .seid) m
-      gone = unfold sessionsAfter follow in (pick-yes (eqb (kindOf msg) 54) (removeSession (headerSeid msg) m) _ d ∙ ap (λ (k : ℕ). removeSession k m) (sym seid))
+      gone = unfold sessionsAfter follow in (pick-yes (eqb (kindOf msg) deletion) (removeSession (headerSeid msg) m) _ d ∙ ap (λ (k : ℕ). removeSession k m) (sym seid))

@@ -18,13 +18,15 @@ use Rattle.rules.specs.Model.{Settings}
 use Rattle.rules.specs.Elements.{fteidOctets, unitFteid, fseidOctets}
 use Rattle.rules.specs.Sound.{settingsAllowed}
 use Rattle.laws.proofs.TableLaws.{ipv4-four}
-use Rattle.rules.specs.Message.{Element, elements, hasType, contentIn, contentOf, widthOf, field, fieldOr0, kindOf, headerSeid, sequenceOf}
+use Rattle.rules.specs.Message.{Element, elements, hasType, contentIn, contentOf, numberWidth, field, fieldOr0, kindOf, headerSeid, sequenceOf, establishment}
 use Rattle.laws.proofs.MessageLaws.{Fits, el, elements-cons, elements-nil, elements-last, length-one, written, asElement, elements-map, short-map}
 use Rattle.rules.specs.Grants.{Kind, ofPdr, ofEndpoint, sameKind, Grant, grantTeid, isGrantFor, grantedTeid, isKind, grantsOf}
 use Rattle.rules.specs.Stages.{Verdict}
 use Rattle.rules.specs.Reply.{element, unitElement, createdPdrContent, createdPdr, createdEndpointContent, createdEndpoint, created, offendingElement, nodeIdElement, unitFseid, acceptedPart, replyBody, replySeid, reply}
 use Rattle.laws.proofs.ReplyLaws.{elements-there, sequence-three, reply-cause}
 use Rattle.rules.specs.Live.{replyCause, createdType, idType, isCreated, teidIn, createdTeid}
+use Rattle.rules.specs.Types as ie
+use Rattle.rules.specs.Causes as why
 use Rattle.claim.proofs.RestorationElements.{unit-short, unit-fits, small, one-fits, be-fits, number-one}
 use Rattle.laws.proofs.GrantLaws.{grantFits}
 
@@ -64,29 +66,29 @@ keep-fits p (g ∷ gs) h =
 module _ (s : Settings) (hs : T (settingsAllowed s)) where
   -- ---- one Created group
 
-  pdr-group : (g : Grant) → elements (createdPdrContent s g) ≡ el 56 (be 2 (g .id)) ∷ el 21 (fteidOctets (unitFteid s (g .local))) ∷ []
+  pdr-group : (g : Grant) → elements (createdPdrContent s g) ≡ el ie.pdrId (be 2 (g .id)) ∷ el ie.fteid (fteidOctets (unitFteid s (g .local))) ∷ []
   unfolding createdPdrContent unitElement
   pdr-group g =
-      elements-cons 56 (be 2 (g .id)) _ (be-fits s hs 56 2 (g .id) (lit< tt) (lit≤ tt))
-      ∙ ap (λ (es : List Element). el 56 (be 2 (g .id)) ∷ es) (elements-last 21 (fteidOctets (unitFteid s (g .local))) (unit-fits s hs (g .local)))
+      elements-cons ie.pdrId (be 2 (g .id)) _ (be-fits s hs ie.pdrId 2 (g .id) (lit< tt) (lit≤ tt))
+      ∙ ap (λ (es : List Element). el ie.pdrId (be 2 (g .id)) ∷ es) (elements-last ie.fteid (fteidOctets (unitFteid s (g .local))) (unit-fits s hs (g .local)))
 
-  endpoint-group : (g : Grant) → elements (createdEndpointContent s g) ≡ el 131 (g .id ∷ []) ∷ el 21 (fteidOctets (unitFteid s (g .local))) ∷ []
+  endpoint-group : (g : Grant) → elements (createdEndpointContent s g) ≡ el ie.endpointId (g .id ∷ []) ∷ el ie.fteid (fteidOctets (unitFteid s (g .local))) ∷ []
   unfolding createdEndpointContent unitElement
   endpoint-group g =
-      elements-cons 131 (g .id ∷ []) _ (one-fits s hs 131 (lit< tt) (g .id))
-      ∙ ap (λ (es : List Element). el 131 (g .id ∷ []) ∷ es) (elements-last 21 (fteidOctets (unitFteid s (g .local))) (unit-fits s hs (g .local)))
+      elements-cons ie.endpointId (g .id ∷ []) _ (one-fits s hs ie.endpointId (lit< tt) (g .id))
+      ∙ ap (λ (es : List Element). el ie.endpointId (g .id ∷ []) ∷ es) (elements-last ie.fteid (fteidOctets (unitFteid s (g .local))) (unit-fits s hs (g .local)))
 
   teid-there : (g : Grant) → T (grantFits g) → numberAt 1 4 (fteidOctets (unitFteid s (g .local))) ≡ g .local .teid
   unfolding fteidOctets unitFteid numberAt be
   teid-there g h = number-be 4 (g .local .teid) (ltb→lt (g .local .teid) (256 ^ 4) (and-right (ltb (g .id) (256 ^ 2)) (ltb (g .local .teid) (256 ^ 4)) h))
 
-  pdr-id : (g : Grant) → T (grantFits g) → fieldOr0 56 (elements (createdPdrContent s g)) ≡ g .id
-  unfolding fieldOr0 field contentOf findBy hasType numberAt widthOf be
-  pdr-id g h = ap (fieldOr0 56) (pdr-group g) ∙ number-be 2 (g .id) (ltb→lt (g .id) (256 ^ 2) (and-left (ltb (g .id) (256 ^ 2)) (ltb (g .local .teid) (256 ^ 4)) h))
+  pdr-id : (g : Grant) → T (grantFits g) → fieldOr0 ie.pdrId (elements (createdPdrContent s g)) ≡ g .id
+  unfolding fieldOr0 field contentOf findBy hasType numberAt numberWidth be
+  pdr-id g h = ap (fieldOr0 ie.pdrId) (pdr-group g) ∙ number-be 2 (g .id) (ltb→lt (g .id) (256 ^ 2) (and-left (ltb (g .id) (256 ^ 2)) (ltb (g .local .teid) (256 ^ 4)) h))
 
-  endpoint-id : (g : Grant) → fieldOr0 131 (elements (createdEndpointContent s g)) ≡ g .id
-  unfolding fieldOr0 field contentOf findBy hasType numberAt widthOf
-  endpoint-id g = ap (fieldOr0 131) (endpoint-group g) ∙ number-one s hs (g .id)
+  endpoint-id : (g : Grant) → fieldOr0 ie.endpointId (elements (createdEndpointContent s g)) ≡ g .id
+  unfolding fieldOr0 field contentOf findBy hasType numberAt numberWidth
+  endpoint-id g = ap (fieldOr0 ie.endpointId) (endpoint-group g) ∙ number-one s hs (g .id)
 
   pdr-teid : (g : Grant) → T (grantFits g) → teidIn (elements (createdPdrContent s g)) ≡ g .local .teid
   unfolding teidIn contentOf findBy hasType
@@ -99,14 +101,14 @@ module _ (s : Settings) (hs : T (settingsAllowed s)) where
   -- ---- the Created groups
 
   abbrev asPdr : Grant → Element
-  asPdr = asElement 8 (createdPdrContent s) grantFits
+  asPdr = asElement ie.createdPdr (createdPdrContent s) grantFits
 
   abbrev asEndpoint : Grant → Element
-  asEndpoint = asElement 128 (createdEndpointContent s) grantFits
+  asEndpoint = asElement ie.createdEndpoint (createdEndpointContent s) grantFits
 
   value-none : valueOf none ≡ 0
   unfolding teidIn contentOf findBy numberAt number
-  value-none = ap (λ (es : List Element). numberAt 1 4 (valueOr [] (contentOf 21 es))) elements-nil
+  value-none = ap (λ (es : List Element). numberAt 1 4 (valueOr [] (contentOf ie.fteid es))) elements-nil
 
   no-pdr-here : (i : ℕ) (gs : List Grant) → findBy (isCreated ofPdr i) (map asEndpoint gs) ≡ none
   unfolding findBy isCreated createdType hasType asElement
@@ -124,11 +126,11 @@ module _ (s : Settings) (hs : T (settingsAllowed s)) where
   found-pdr i [] h es e = ap valueOf e ∙ value-none
   found-pdr i (g ∷ gs) h es e =
       let ok = all-head grantFits g gs h in
-      ap (λ (n : ℕ). valueOf (pick (eqb n i) (some (el 8 (createdPdrContent s g))) (findBy (isCreated ofPdr i) (map asPdr gs ++ es)))) (pdr-id g ok)
+      ap (λ (n : ℕ). valueOf (pick (eqb n i) (some (el ie.createdPdr (createdPdrContent s g))) (findBy (isCreated ofPdr i) (map asPdr gs ++ es)))) (pdr-id g ok)
       ∙ one (eqb (g .id) i) (findBy (isCreated ofPdr i) (map asPdr gs ++ es)) (findBy (hasId i) gs) (pdr-teid g ok) (found-pdr i gs (all-tail grantFits g gs h) es e)
     where
       one : (b : Bool) (o : Option Element) (p : Option Grant) → teidIn (elements (createdPdrContent s g)) ≡ g .local .teid → valueOf o ≡ valueOr 0 (mapOption grantTeid p)
-          → valueOf (pick b (some (el 8 (createdPdrContent s g))) o) ≡ valueOr 0 (mapOption grantTeid (pick b (some g) p))
+          → valueOf (pick b (some (el ie.createdPdr (createdPdrContent s g))) o) ≡ valueOr 0 (mapOption grantTeid (pick b (some g) p))
       one true o p a c = a
       one false o p a c = c
 
@@ -138,17 +140,17 @@ module _ (s : Settings) (hs : T (settingsAllowed s)) where
   found-endpoint i [] h = value-none
   found-endpoint i (g ∷ gs) h =
       let ok = all-head grantFits g gs h in
-      ap (λ (n : ℕ). valueOf (pick (eqb n i) (some (el 128 (createdEndpointContent s g))) (findBy (isCreated ofEndpoint i) (map asEndpoint gs)))) (endpoint-id g)
+      ap (λ (n : ℕ). valueOf (pick (eqb n i) (some (el ie.createdEndpoint (createdEndpointContent s g))) (findBy (isCreated ofEndpoint i) (map asEndpoint gs)))) (endpoint-id g)
       ∙ one (eqb (g .id) i) (findBy (isCreated ofEndpoint i) (map asEndpoint gs)) (findBy (hasId i) gs) (endpoint-teid g ok) (found-endpoint i gs (all-tail grantFits g gs h))
     where
       one : (b : Bool) (o : Option Element) (p : Option Grant) → teidIn (elements (createdEndpointContent s g)) ≡ g .local .teid → valueOf o ≡ valueOr 0 (mapOption grantTeid p)
-          → valueOf (pick b (some (el 128 (createdEndpointContent s g))) o) ≡ valueOr 0 (mapOption grantTeid (pick b (some g) p))
+          → valueOf (pick b (some (el ie.createdEndpoint (createdEndpointContent s g))) o) ≡ valueOr 0 (mapOption grantTeid (pick b (some g) p))
       one true o p a c = a
       one false o p a c = c
 
   -- ---- the whole reply
 
-  skip-one : (k : Kind) (i t : ℕ) (v more : List ℕ) → Fits t v → eqb t 8 ≡ false → eqb t 128 ≡ false
+  skip-one : (k : Kind) (i t : ℕ) (v more : List ℕ) → Fits t v → eqb t ie.createdPdr ≡ false → eqb t ie.createdEndpoint ≡ false
       → findBy (isCreated k i) (elements (element t v ++ more)) ≡ findBy (isCreated k i) (elements more)
   unfolding findBy isCreated hasType createdType
   skip-one ofPdr i t v more fits e8 e128 =
@@ -158,7 +160,7 @@ module _ (s : Settings) (hs : T (settingsAllowed s)) where
       ap (findBy (isCreated ofEndpoint i)) (elements-cons t v more fits)
       ∙ ap (λ (b : Bool). pick (b && eqb (fieldOr0 (idType ofEndpoint) (elements v)) i) (some (el t v)) (findBy (isCreated ofEndpoint i) (elements more))) e128
 
-  skip-if : (k : Kind) (i : ℕ) (b : Bool) (t : ℕ) (v more : List ℕ) → Fits t v → eqb t 8 ≡ false → eqb t 128 ≡ false
+  skip-if : (k : Kind) (i : ℕ) (b : Bool) (t : ℕ) (v more : List ℕ) → Fits t v → eqb t ie.createdPdr ≡ false → eqb t ie.createdEndpoint ≡ false
       → findBy (isCreated k i) (elements (pick b (element t v) [] ++ more)) ≡ findBy (isCreated k i) (elements more)
   skip-if k i true t v more fits e8 e128 = skip-one k i t v more fits e8 e128
   skip-if k i false t v more fits e8 e128 = refl
@@ -166,9 +168,9 @@ module _ (s : Settings) (hs : T (settingsAllowed s)) where
   skip-offending : (k : Kind) (i : ℕ) (o : Option ℕ) (more : List ℕ) → findBy (isCreated k i) (elements (offendingElement o ++ more)) ≡ findBy (isCreated k i) (elements more)
   unfolding offendingElement
   skip-offending k i none more = refl
-  skip-offending k i (some t) more = skip-one k i 40 (be 2 t) more (be-fits s hs 40 2 t (lit< tt) (lit≤ tt)) refl refl
+  skip-offending k i (some t) more = skip-one k i ie.offendingIe (be 2 t) more (be-fits s hs ie.offendingIe 2 t (lit< tt) (lit≤ tt)) refl refl
 
-  node-fits : Fits 60 (0 ∷ s .ipv4)
+  node-fits : Fits ie.nodeId (0 ∷ s .ipv4)
   unfolding Fits
   node-fits = (lit< tt, small s hs (le-trans (le-of-eq (ap suc (ipv4-four s hs))) (lit≤ tt)))
 
@@ -176,34 +178,34 @@ module _ (s : Settings) (hs : T (settingsAllowed s)) where
   unfolding fseidOctets be
   fseid-length n = let e = ap length (append-nil (s .ipv4)) in let f = ipv4-four s hs in omega arith
 
-  fseid-fits : (n : ℕ) → Fits 57 (fseidOctets n (s .ipv4) [])
+  fseid-fits : (n : ℕ) → Fits ie.fseid (fseidOctets n (s .ipv4) [])
   unfolding Fits
   fseid-fits n = (lit< tt, small s hs (le-trans (le-of-eq (fseid-length n)) (lit≤ tt)))
 
   pub pdr-content-short : (g : Grant) → length (createdPdrContent s g) ≤ 35
   unfolding createdPdrContent unitElement
   pdr-content-short g =
-      let a = length-append (element 56 (be 2 (g .id))) (element 21 (fteidOctets (unitFteid s (g .local)))) in
-      let b = length-one 56 (be 2 (g .id)) in
+      let a = length-append (element ie.pdrId (be 2 (g .id))) (element ie.fteid (fteidOctets (unitFteid s (g .local)))) in
+      let b = length-one ie.pdrId (be 2 (g .id)) in
       let c = length-be 2 (g .id) in
-      let d = length-one 21 (fteidOctets (unitFteid s (g .local))) in
+      let d = length-one ie.fteid (fteidOctets (unitFteid s (g .local))) in
       let h = unit-short s hs (g .local) in
       omega arith
 
   pub endpoint-content-short : (g : Grant) → length (createdEndpointContent s g) ≤ 35
   unfolding createdEndpointContent unitElement
   endpoint-content-short g =
-      let a = length-append (element 131 (g .id ∷ [])) (element 21 (fteidOctets (unitFteid s (g .local)))) in
-      let b = length-one 131 (g .id ∷ []) in
-      let d = length-one 21 (fteidOctets (unitFteid s (g .local))) in
+      let a = length-append (element ie.endpointId (g .id ∷ [])) (element ie.fteid (fteidOctets (unitFteid s (g .local)))) in
+      let b = length-one ie.endpointId (g .id ∷ []) in
+      let d = length-one ie.fteid (fteidOctets (unitFteid s (g .local))) in
       let h = unit-short s hs (g .local) in
       omega arith
 
-  pdr-content-fits : (g : Grant) → T (grantFits g) → Fits 8 (createdPdrContent s g)
+  pdr-content-fits : (g : Grant) → T (grantFits g) → Fits ie.createdPdr (createdPdrContent s g)
   unfolding Fits
   pdr-content-fits g h = (lit< tt, small s hs (le-trans (pdr-content-short g) (lit≤ tt)))
 
-  endpoint-content-fits : (g : Grant) → T (grantFits g) → Fits 128 (createdEndpointContent s g)
+  endpoint-content-fits : (g : Grant) → T (grantFits g) → Fits ie.createdEndpoint (createdEndpointContent s g)
   unfolding Fits
   endpoint-content-fits g h = (lit< tt, small s hs (le-trans (endpoint-content-short g) (lit≤ tt)))
 
@@ -217,10 +219,10 @@ module _ (s : Settings) (hs : T (settingsAllowed s)) where
     created-elements : elements (created s gs) ≡ map asPdr pdrGrants ++ map asEndpoint endpointGrants
     unfolding created grantsOf pdrGrants endpointGrants createdPdr createdEndpoint written
     created-elements =
-        elements-map 8 (createdPdrContent s) grantFits pdr-content-fits (keep (isKind ofPdr) gs) (keep-fits (isKind ofPdr) gs fits) (concatMap (createdEndpoint s) (keep (isKind ofEndpoint) gs))
+        elements-map ie.createdPdr (createdPdrContent s) grantFits pdr-content-fits (keep (isKind ofPdr) gs) (keep-fits (isKind ofPdr) gs fits) (concatMap (createdEndpoint s) (keep (isKind ofEndpoint) gs))
         ∙ ap (λ (es : List Element). map asPdr (keep (isKind ofPdr) gs) ++ es)
         (ap elements (sym (append-nil (concatMap (createdEndpoint s) (keep (isKind ofEndpoint) gs))))
-        ∙ elements-map 128 (createdEndpointContent s) grantFits endpoint-content-fits (keep (isKind ofEndpoint) gs) (keep-fits (isKind ofEndpoint) gs fits) []
+        ∙ elements-map ie.createdEndpoint (createdEndpointContent s) grantFits endpoint-content-fits (keep (isKind ofEndpoint) gs) (keep-fits (isKind ofEndpoint) gs fits) []
         ∙ ap (λ (es : List Element). map asEndpoint (keep (isKind ofEndpoint) gs) ++ es) elements-nil
         ∙ append-nil (map asEndpoint (keep (isKind ofEndpoint) gs)))
 
@@ -237,15 +239,15 @@ module _ (s : Settings) (hs : T (settingsAllowed s)) where
         ∙ found-endpoint i endpointGrants (keep-fits (isKind ofEndpoint) gs fits)
         ∙ ap (λ (o : Option Grant). valueOr 0 (mapOption grantTeid o)) (find-kind ofEndpoint i gs)
 
-    module _ (kind n : ℕ) (v : Verdict) (yes′ : v .cause ≡ 1) where
+    module _ (kind n : ℕ) (v : Verdict) (yes′ : v .cause ≡ why.accepted) where
       body-found : (k : Kind) (i : ℕ) → findBy (isCreated k i) (elements (replyBody kind s n v gs)) ≡ findBy (isCreated k i) (elements (created s gs))
       unfolding replyBody nodeIdElement acceptedPart unitFseid
       body-found k i =
-          skip-if k i (eqb kind 50) 60 (0 ∷ s .ipv4) _ node-fits refl refl
-          ∙ skip-one k i 19 (v .cause ∷ []) _ (one-fits s hs 19 (lit< tt) (v .cause)) refl refl
+          skip-if k i (eqb kind establishment) ie.nodeId (0 ∷ s .ipv4) _ node-fits refl refl
+          ∙ skip-one k i ie.cause (v .cause ∷ []) _ (one-fits s hs ie.cause (lit< tt) (v .cause)) refl refl
           ∙ skip-offending k i (v .offending) _
           ∙ ap (λ (c : ℕ). findBy (isCreated k i) (elements (pick (eqb c 1) (acceptedPart kind s n gs) []))) yes′
-          ∙ skip-if k i (eqb kind 50) 57 (fseidOctets n (s .ipv4) []) (created s gs) (fseid-fits n) refl refl
+          ∙ skip-if k i (eqb kind establishment) ie.fseid (fseidOctets n (s .ipv4) []) (created s gs) (fseid-fits n) refl refl
 
       created-short : length gs ≤ 24 → length (created s gs) ≤ 1872
       unfolding created grantsOf createdPdr createdEndpoint written
@@ -253,8 +255,8 @@ module _ (s : Settings) (hs : T (settingsAllowed s)) where
           let p = keep (isKind ofPdr) gs in
           let e = keep (isKind ofEndpoint) gs in
           let a = length-append (concatMap (createdPdr s) p) (concatMap (createdEndpoint s) e) in
-          let b : length (concatMap (createdPdr s) p) ≤ 24 * 39 = le-trans (short-map 8 (createdPdrContent s) grantFits 35 (λ g h. pdr-content-short g) p (keep-fits (isKind ofPdr) gs fits)) (mul-le-mul-right 39 (le-trans (keep-short (isKind ofPdr) gs) few)) in
-          let c : length (concatMap (createdEndpoint s) e) ≤ 24 * 39 = le-trans (short-map 128 (createdEndpointContent s) grantFits 35 (λ g h. endpoint-content-short g) e (keep-fits (isKind ofEndpoint) gs fits)) (mul-le-mul-right 39 (le-trans (keep-short (isKind ofEndpoint) gs) few)) in
+          let b : length (concatMap (createdPdr s) p) ≤ 24 * 39 = le-trans (short-map ie.createdPdr (createdPdrContent s) grantFits 35 (λ g h. pdr-content-short g) p (keep-fits (isKind ofPdr) gs fits)) (mul-le-mul-right 39 (le-trans (keep-short (isKind ofPdr) gs) few)) in
+          let c : length (concatMap (createdEndpoint s) e) ≤ 24 * 39 = le-trans (short-map ie.createdEndpoint (createdEndpointContent s) grantFits 35 (λ g h. endpoint-content-short g) e (keep-fits (isKind ofEndpoint) gs fits)) (mul-le-mul-right 39 (le-trans (keep-short (isKind ofEndpoint) gs) few)) in
           omega arith
 
       if-short : (b : Bool) (xs : List ℕ) (k : ℕ) → length xs ≤ k → length (pick b xs []) ≤ k
@@ -264,34 +266,34 @@ module _ (s : Settings) (hs : T (settingsAllowed s)) where
       offending-short : (o : Option ℕ) → length (offendingElement o) ≤ 6
       unfolding offendingElement
       offending-short none = zero-le
-      offending-short (some t) = le-of-eq (length-one 40 (be 2 t) ∙ ap (λ (k′ : ℕ). 4 + k′) (length-be 2 t))
+      offending-short (some t) = le-of-eq (length-one ie.offendingIe (be 2 t) ∙ ap (λ (k′ : ℕ). 4 + k′) (length-be 2 t))
 
       body-short : length gs ≤ 24 → length (replyBody kind s n v gs) ≤ 2000
       unfolding replyBody nodeIdElement acceptedPart unitFseid
       body-short few =
-          let node = pick (eqb kind 50) (element 60 (0 ∷ s .ipv4)) [] in
-          let cause = element 19 (v .cause ∷ []) in
-          let ie = offendingElement (v .offending) in
-          let fseid = pick (eqb kind 50) (element 57 (fseidOctets n (s .ipv4) [])) [] in
-          let part′ = pick (eqb (v .cause) 1) (fseid ++ created s gs) [] in
+          let node = pick (eqb kind establishment) (element ie.nodeId (0 ∷ s .ipv4)) [] in
+          let cause = element ie.cause (v .cause ∷ []) in
+          let named = offendingElement (v .offending) in
+          let fseid = pick (eqb kind establishment) (element ie.fseid (fseidOctets n (s .ipv4) [])) [] in
+          let part′ = pick (eqb (v .cause) why.accepted) (fseid ++ created s gs) [] in
           let four = ipv4-four s hs in
-          let a = length-append node (cause ++ (ie ++ part′)) in
-          let b = length-append cause (ie ++ part′) in
-          let c = length-append ie part′ in
+          let a = length-append node (cause ++ (named ++ part′)) in
+          let b = length-append cause (named ++ part′) in
+          let c = length-append named part′ in
           let d = length-append fseid (created s gs) in
-          let e60 = length-one 60 (0 ∷ s .ipv4) in
-          let e19 = length-one 19 (v .cause ∷ []) in
-          let e57 = length-one 57 (fseidOctets n (s .ipv4) []) in
+          let e60 = length-one ie.nodeId (0 ∷ s .ipv4) in
+          let e19 = length-one ie.cause (v .cause ∷ []) in
+          let e57 = length-one ie.fseid (fseidOctets n (s .ipv4) []) in
           let f = fseid-length n in
-          let h1 : length node ≤ 9 = if-short (eqb kind 50) (element 60 (0 ∷ s .ipv4)) 9 (omega arith) in
-          let h2 : length fseid ≤ 17 = if-short (eqb kind 50) (element 57 (fseidOctets n (s .ipv4) [])) 17 (omega arith) in
-          let h3 : length part′ ≤ 1889 = if-short (eqb (v .cause) 1) (fseid ++ created s gs) 1889 (let h = created-short few in omega arith) in
-          let h4 : length ie ≤ 6 = offending-short (v .offending) in
+          let h1 : length node ≤ 9 = if-short (eqb kind establishment) (element ie.nodeId (0 ∷ s .ipv4)) 9 (omega arith) in
+          let h2 : length fseid ≤ 17 = if-short (eqb kind establishment) (element ie.fseid (fseidOctets n (s .ipv4) [])) 17 (omega arith) in
+          let h3 : length part′ ≤ 1889 = if-short (eqb (v .cause) why.accepted) (fseid ++ created s gs) 1889 (let h = created-short few in omega arith) in
+          let h4 : length named ≤ 6 = offending-short (v .offending) in
           omega arith
 
 -- ---- what the live set reads
 
-module _ (s : Settings) (hs : T (settingsAllowed s)) (msg : List ℕ) (long : 16 ≤ length msg) (n : ℕ) (v : Verdict) (yes′ : v .cause ≡ 1) (gs : List Grant)
+module _ (s : Settings) (hs : T (settingsAllowed s)) (msg : List ℕ) (long : 16 ≤ length msg) (n : ℕ) (v : Verdict) (yes′ : v .cause ≡ why.accepted) (gs : List Grant)
     (fits : T (all grantFits gs)) (few : length gs ≤ 24) (space : List ℕ) where
   pub accepted-cause : replyCause (put 0 (reply s msg n v gs) space) ≡ 1
   accepted-cause = reply-cause s msg n v gs space (ipv4-four s hs) (sequence-three msg long) (body-short s hs gs fits (kindOf msg) n v yes′ few) ∙ yes′

@@ -23,13 +23,14 @@ use Rattle.rules.specs.Limits.{maxPdrs, maxEndpoints}
 use Rattle.rules.specs.Layout.{viewSettings, viewSessions}
 use Rattle.rules.specs.Elements.{Refusal, missing, conditional, tooShort, incorrect, causeOf}
 use Rattle.rules.specs.Sound.{sessionsAllowed}
-use Rattle.rules.specs.Message.{kindOf, headerSeid, frameFault}
+use Rattle.rules.specs.Message.{kindOf, headerSeid, frameFault, establishment, deletion}
 use Rattle.rules.specs.Reading.{Fault, Request, readFault, readRequest}
 use Rattle.rules.specs.Grants.{Kind, grants, grantedTeid, need}
 use Rattle.rules.specs.Stages.{hasSeid, sessionOf, isLive, newSession, atEntry, livePdrs, liveEndpoints, invalidAllocation, brokenRules, breaksRule, tooManySessions, tooManyPdrs, tooManyEndpoints, tooFewTeids, noRoom, Verdict, plain, judge, entrySession, judged, fromReading, fromFraming, unknownSession, verdict}
 use Rattle.rules.specs.Apply.{createPdr, createEndpoint, updateAll, keptPdr, keptEndpoint, pdrsAfter, endpointsAfter, apply, otherSession, removeSession, putSession, follow}
 use Rattle.rules.specs.Serve.{sessionsAfter, serve}
 use Rattle.rules.specs.Live.{replyCause}
+use Rattle.rules.specs.Causes as why
 use Rattle.claim.proofs.VerdictLaws.{none-hold}
 use Rattle.claim.proofs.KeptRules.{sessions-kept, RulesKept, rules-kept}
 use Rattle.claim.proofs.FreeTeids.{free-count}
@@ -43,7 +44,7 @@ pub record Reached (s : Settings) (m : Sessions) (msg : List ℕ) : Type 0 where
   pub known : T (not (unknownSession m msg))
   pub framed : frameFault msg ≡ none
   pub read : readFault msg ≡ none
-  pub fresh : T (not (eqb (kindOf msg) 50 && isLive (readRequest msg .seid) m))
+  pub fresh : T (not (eqb (kindOf msg) establishment && isLive (readRequest msg .seid) m))
   pub allocation : T (not (invalidAllocation (readRequest msg)))
   pub supported : T (not (readRequest msg .unsupported))
   -- the rules that the request keeps
@@ -70,24 +71,24 @@ module _ (limit : ℕ) (s : Settings) (m : Sessions) (msg : List ℕ) where
   Full = T (noRoom limit (kindOf msg) s m (entrySession m msg) (readRequest msg))
 
   -- stage 2
-  past-framing : (o : Option ℕ) → fromFraming limit s m msg o .cause ≡ 75 → (o ≡ none) × (fromReading limit s m msg (readFault msg) .cause ≡ 75)
+  past-framing : (o : Option ℕ) → fromFraming limit s m msg o .cause ≡ why.noRoom → (o ≡ none) × (fromReading limit s m msg (readFault msg) .cause ≡ why.noRoom)
   unfolding fromFraming
   past-framing none e = (refl, e)
   past-framing (some t) e = absurd (omega arith)
 
   -- stage 3
-  past-reading : (o : Option Fault) → fromReading limit s m msg o .cause ≡ 75 → (o ≡ none) × (judged limit s m msg .cause ≡ 75)
+  past-reading : (o : Option Fault) → fromReading limit s m msg o .cause ≡ why.noRoom → (o ≡ none) × (judged limit s m msg .cause ≡ why.noRoom)
   unfolding fromReading
   past-reading none e = (refl, e)
   past-reading (some f) e = absurd (not-75 (f .cause) e)
 
   -- the last branch
-  full-branch : (b : Bool) → pick b (plain 75) (plain 1) .cause ≡ 75 → T b
+  full-branch : (b : Bool) → pick b (plain why.noRoom) (plain why.accepted) .cause ≡ why.noRoom → T b
   full-branch true e = tt
   full-branch false e = absurd (omega arith)
 
   -- 75 only then
-  pub cause-75 : verdict limit s m msg .cause ≡ 75 → Reached s m msg × Full
+  pub cause-75 : verdict limit s m msg .cause ≡ why.noRoom → Reached s m msg × Full
   unfolding verdict judged judge
   cause-75 e =
       let a = past 75 65 (unknownSession m msg) (fromFraming limit s m msg (frameFault msg)) (λ p. absurd (omega arith)) e in
@@ -96,7 +97,7 @@ module _ (limit : ℕ) (s : Settings) (m : Sessions) (msg : List ℕ) where
       let x = entrySession m msg in
       let r = readRequest msg in
       let k = kindOf msg in
-      let d = past 75 64 (eqb k 50 && isLive (r .seid) m) _ (λ p. absurd (omega arith)) (c .1) in
+      let d = past 75 64 (eqb k establishment && isLive (r .seid) m) _ (λ p. absurd (omega arith)) (c .1) in
       let f = past 75 71 (invalidAllocation r) _ (λ p. absurd (omega arith)) (d .1) in
       let g = past 75 76 (r .unsupported) _ (λ p. absurd (omega arith)) (f .1) in
       let h = past 75 73 (breaksRule s m x r) _ (λ p. absurd (omega arith)) (g .1) in (
@@ -105,19 +106,19 @@ module _ (limit : ℕ) (s : Settings) (m : Sessions) (msg : List ℕ) where
       )
 
   -- the verdict of a request without an earlier fault
-  reached-verdict : Reached s m msg → verdict limit s m msg ≡ pick (noRoom limit (kindOf msg) s m (entrySession m msg) (readRequest msg)) (plain 75) (plain 1)
+  reached-verdict : Reached s m msg → verdict limit s m msg ≡ pick (noRoom limit (kindOf msg) s m (entrySession m msg) (readRequest msg)) (plain why.noRoom) (plain why.accepted)
   unfolding verdict judged judge
   reached-verdict p =
       let r = readRequest msg in
-      pick-no (unknownSession m msg) (plain 65) _ (p .known)
+      pick-no (unknownSession m msg) (plain why.noSession) _ (p .known)
       ∙ ap (fromFraming limit s m msg) (p .framed)
       ∙ framed
       ∙ ap (fromReading limit s m msg) (p .read)
       ∙ read
-      ∙ pick-no (eqb (kindOf msg) 50 && isLive (r .seid) m) (plain 64) _ (p .fresh)
-      ∙ pick-no (invalidAllocation r) (plain 71) _ (p .allocation)
-      ∙ pick-no (r .unsupported) (plain 76) _ (p .supported)
-      ∙ pick-no (breaksRule s m (entrySession m msg) r) (plain 73) _ (p .rules)
+      ∙ pick-no (eqb (kindOf msg) establishment && isLive (r .seid) m) (plain why.rejected) _ (p .fresh)
+      ∙ pick-no (invalidAllocation r) (plain why.wrongAllocation) _ (p .allocation)
+      ∙ pick-no (r .unsupported) (plain why.notSupported) _ (p .supported)
+      ∙ pick-no (breaksRule s m (entrySession m msg) r) (plain why.brokenRule) _ (p .rules)
     where
       framed : fromFraming limit s m msg none ≡ fromReading limit s m msg (readFault msg)
       framed = unfold fromFraming in refl
@@ -126,8 +127,8 @@ module _ (limit : ℕ) (s : Settings) (m : Sessions) (msg : List ℕ) where
       read = unfold fromReading in refl
 
   -- 75 always then
-  pub verdict-75 : Reached s m msg → Full → verdict limit s m msg .cause ≡ 75
-  verdict-75 p full = ap {B = ℕ} (λ (v : Verdict). v .cause) (reached-verdict p ∙ pick-yes (noRoom limit (kindOf msg) s m (entrySession m msg) (readRequest msg)) (plain 75) (plain 1) full)
+  pub verdict-75 : Reached s m msg → Full → verdict limit s m msg .cause ≡ why.noRoom
+  verdict-75 p full = ap {B = ℕ} (λ (v : Verdict). v .cause) (reached-verdict p ∙ pick-yes (noRoom limit (kindOf msg) s m (entrySession m msg) (readRequest msg)) (plain why.noRoom) (plain why.accepted) full)
 
 -- ---- what would result
 
@@ -179,18 +180,18 @@ module _ (limit : ℕ) (s : Settings) (m : Sessions) (msg : List ℕ) (hm : T (s
   -- the number of sessions
   sessions-exact : ltb limit (length (sessionsAfter s m msg)) ≡ tooManySessions limit (kindOf msg) m
   unfolding sessionsAfter follow tooManySessions
-  sessions-exact = go (eqb (kindOf msg) 54) refl (eqb (kindOf msg) 50) refl
+  sessions-exact = go (eqb (kindOf msg) deletion) refl (eqb (kindOf msg) establishment) refl
     where
-      seid-new : eqb (kindOf msg) 50 ≡ true → apply (grantedTeid (grants s m r)) r (atEntry (kindOf msg) (headerSeid msg) r m) .seid ≡ r .seid
+      seid-new : eqb (kindOf msg) establishment ≡ true → apply (grantedTeid (grants s m r)) r (atEntry (kindOf msg) (headerSeid msg) r m) .seid ≡ r .seid
       seid-new e = unfold apply atEntry newSession in (ap {B = ℕ} (λ (b : Bool). pick b (newSession (r .seid)) (valueOr (newSession (headerSeid msg)) (sessionOf (headerSeid msg) m)) .seid) e)
 
-      seid-old : eqb (kindOf msg) 50 ≡ false → T (isLive (headerSeid msg) m) → apply (grantedTeid (grants s m r)) r (atEntry (kindOf msg) (headerSeid msg) r m) .seid ≡ headerSeid msg
+      seid-old : eqb (kindOf msg) establishment ≡ false → T (isLive (headerSeid msg) m) → apply (grantedTeid (grants s m r)) r (atEntry (kindOf msg) (headerSeid msg) r m) .seid ≡ headerSeid msg
       seid-old e live = unfold apply atEntry in (ap {B = ℕ} (λ (b : Bool). pick b (newSession (r .seid)) (valueOr (newSession (headerSeid msg)) (sessionOf (headerSeid msg) m)) .seid) e ∙ found-seid (headerSeid msg) m live)
 
-      live-header : eqb (kindOf msg) 50 ≡ false → T (isLive (headerSeid msg) m)
+      live-header : eqb (kindOf msg) establishment ≡ false → T (isLive (headerSeid msg) m)
       live-header e = unfold unknownSession in (not-not (isLive (headerSeid msg) m) (subst (λ (b : Bool). T (not (not b && not (isLive (headerSeid msg) m)))) e (p .known)))
 
-      new-seid : eqb (kindOf msg) 50 ≡ true → T (not (isLive (r .seid) m))
+      new-seid : eqb (kindOf msg) establishment ≡ true → T (not (isLive (r .seid) m))
       new-seid e = subst (λ (b : Bool). T (not (b && isLive (r .seid) m))) e (p .fresh)
 
       removed-few : (n : ℕ) → length (removeSession n m) ≤ length m
@@ -199,11 +200,11 @@ module _ (limit : ℕ) (s : Settings) (m : Sessions) (msg : List ℕ) (hm : T (s
       removed-less : (n : ℕ) → T (isLive n m) → length (removeSession n m) < length m
       removed-less n live = unfold removeSession in (keep-less (otherSession n) m (live-any n m live))
 
-      go : (a : Bool) → eqb (kindOf msg) 54 ≡ a → (b : Bool) → eqb (kindOf msg) 50 ≡ b
+      go : (a : Bool) → eqb (kindOf msg) deletion ≡ a → (b : Bool) → eqb (kindOf msg) establishment ≡ b
           → ltb limit (length (pick a (removeSession (headerSeid msg) m) (putSession (apply (grantedTeid (grants s m r)) r (atEntry (kindOf msg) (headerSeid msg) r m)) m))) ≡ (b && leb limit (length m))
       go true d true e =
-          let k : kindOf msg ≡ 54 = eqb→eq (kindOf msg) 54 (subst T (sym d) tt) in
-          let l : kindOf msg ≡ 50 = eqb→eq (kindOf msg) 50 (subst T (sym e) tt) in
+          let k : kindOf msg ≡ deletion = eqb→eq (kindOf msg) deletion (subst T (sym d) tt) in
+          let l : kindOf msg ≡ establishment = eqb→eq (kindOf msg) establishment (subst T (sym e) tt) in
           absurd (omega arith)
       go true d false e = not-above limit (length (removeSession (headerSeid msg) m)) (le-trans (removed-few (headerSeid msg)) few)
       go false d true e =
@@ -253,13 +254,13 @@ module _ (limit : ℕ) (t msg space : List ℕ) (ho : T (octets msg)) (zero′ :
   sessions-entry = table-kept limit t (answers limit t msg space zero′ .table) .sessions
 
   -- only then
-  pub served-75 : replyCause (serve limit t msg space .space) ≡ 75 → Reached (viewSettings t) (viewSessions t) msg × T (oneOf (overLimits limit (viewSettings t) (viewSessions t) msg))
+  pub served-75 : replyCause (serve limit t msg space .space) ≡ why.noRoom → Reached (viewSettings t) (viewSessions t) msg × T (oneOf (overLimits limit (viewSettings t) (viewSessions t) msg))
   served-75 e =
       let k = cause-75 limit (viewSettings t) (viewSessions t) msg (sym (served-cause limit t msg space ho zero′) ∙ e) in
       (k .0, subst T (full-exact limit (viewSettings t) (viewSessions t) msg sessions-entry ho (k .0)) (k .1))
 
   -- and always then
-  pub then-75 : Reached (viewSettings t) (viewSessions t) msg → T (oneOf (overLimits limit (viewSettings t) (viewSessions t) msg)) → replyCause (serve limit t msg space .space) ≡ 75
+  pub then-75 : Reached (viewSettings t) (viewSessions t) msg → T (oneOf (overLimits limit (viewSettings t) (viewSessions t) msg)) → replyCause (serve limit t msg space .space) ≡ why.noRoom
   then-75 p full =
       served-cause limit t msg space ho zero′
       ∙ verdict-75 limit (viewSettings t) (viewSessions t) msg p (subst T (sym (full-exact limit (viewSettings t) (viewSessions t) msg sessions-entry ho p)) full)

@@ -18,13 +18,15 @@ use Rattle.rules.specs.Model.{Settings, Sessions}
 use Rattle.laws.proofs.TableLaws.{ipv4-four}
 use Rattle.rules.specs.Elements.{fseidOctets}
 use Rattle.rules.specs.Sound.{settingsAllowed}
-use Rattle.rules.specs.Message.{kindOf, headerSeid, sequenceOf}
+use Rattle.rules.specs.Message.{kindOf, headerSeid, sequenceOf, establishment}
 use Rattle.rules.specs.Reading.{readRequest}
 use Rattle.laws.proofs.MessageLaws.{length-one, written, short-map}
 use Rattle.rules.specs.Grants.{Kind, ofPdr, ofEndpoint, sameKind, Grant, isKind, grantsOf, grants}
 use Rattle.rules.specs.Stages.{Verdict, verdict}
 use Rattle.rules.specs.Reply.{element, createdPdrContent, createdPdr, createdEndpointContent, createdEndpoint, created, offendingElement, nodeIdElement, unitFseid, acceptedPart, replyBody, replySeid, reply}
 use Rattle.rules.specs.Serve.{replyTo}
+use Rattle.rules.specs.Types as ie
+use Rattle.rules.specs.Causes as why
 use Rattle.laws.proofs.ReplyLaws.{sequence-three}
 use Rattle.laws.proofs.GrantLaws.{grantFits, grants-fit, grants-few}
 use Rattle.claim.proofs.GrantReply.{pdr-content-short, endpoint-content-short, fseid-length}
@@ -52,8 +54,8 @@ module _ (s : Settings) (hs : T (settingsAllowed s)) where
       let p = keep (isKind ofPdr) gs in
       let e = keep (isKind ofEndpoint) gs in
       let a = length-append (concatMap (createdPdr s) p) (concatMap (createdEndpoint s) e) in
-      let b : length (concatMap (createdPdr s) p) ≤ length p * 39 = short-map 8 (createdPdrContent s) grantFits 35 (λ g h. pdr-content-short s hs g) p (keep-all (isKind ofPdr) grantFits gs fits) in
-      let c : length (concatMap (createdEndpoint s) e) ≤ length e * 39 = short-map 128 (createdEndpointContent s) grantFits 35 (λ g h. endpoint-content-short s hs g) e (keep-all (isKind ofEndpoint) grantFits gs fits) in
+      let b : length (concatMap (createdPdr s) p) ≤ length p * 39 = short-map ie.createdPdr (createdPdrContent s) grantFits 35 (λ g h. pdr-content-short s hs g) p (keep-all (isKind ofPdr) grantFits gs fits) in
+      let c : length (concatMap (createdEndpoint s) e) ≤ length e * 39 = short-map ie.createdEndpoint (createdEndpointContent s) grantFits 35 (λ g h. endpoint-content-short s hs g) e (keep-all (isKind ofEndpoint) grantFits gs fits) in
       let d = kinds-count gs in
       omega arith
 
@@ -68,28 +70,28 @@ module _ (s : Settings) (hs : T (settingsAllowed s)) where
   node-short : (kind : ℕ) → length (nodeIdElement kind s) ≤ 9
   unfolding nodeIdElement
   node-short kind =
-      let a = length-one 60 (0 ∷ s .ipv4) in
+      let a = length-one ie.nodeId (0 ∷ s .ipv4) in
       let b = ipv4-four s hs in
-      if-short (eqb kind 50) (element 60 (0 ∷ s .ipv4)) 9 (omega arith)
+      if-short (eqb kind establishment) (element ie.nodeId (0 ∷ s .ipv4)) 9 (omega arith)
 
   -- F-SEID
   fseid-short : (kind n : ℕ) → length (unitFseid kind s n) ≤ 17
   unfolding unitFseid
   fseid-short kind n =
-      let a = length-one 57 (fseidOctets n (s .ipv4) []) in
+      let a = length-one ie.fseid (fseidOctets n (s .ipv4) []) in
       let b = fseid-length s hs n in
-      if-short (eqb kind 50) (element 57 (fseidOctets n (s .ipv4) [])) 17 (omega arith)
+      if-short (eqb kind establishment) (element ie.fseid (fseidOctets n (s .ipv4) [])) 17 (omega arith)
 
   -- Offending IE
   offending-short : (o : Option ℕ) → length (offendingElement o) ≤ 6
   unfolding offendingElement
   offending-short none = zero-le
-  offending-short (some t) = le-of-eq (length-one 40 (be 2 t) ∙ ap (λ (k : ℕ). 4 + k) (length-be 2 t))
+  offending-short (some t) = le-of-eq (length-one ie.offendingIe (be 2 t) ∙ ap (λ (k : ℕ). 4 + k) (length-be 2 t))
 
   -- what an acceptance adds, where the grants are at most 24
-  accepted-short : (kind n : ℕ) (v : Verdict) (gs : List Grant) → T (all grantFits gs) → (T (eqb (v .cause) 1) → length gs ≤ 24) → length (pick (eqb (v .cause) 1) (acceptedPart kind s n gs) []) ≤ 953
+  accepted-short : (kind n : ℕ) (v : Verdict) (gs : List Grant) → T (all grantFits gs) → (T (eqb (v .cause) why.accepted) → length gs ≤ 24) → length (pick (eqb (v .cause) why.accepted) (acceptedPart kind s n gs) []) ≤ 953
   unfolding acceptedPart
-  accepted-short kind n v gs fits few = one (eqb (v .cause) 1) few
+  accepted-short kind n v gs fits few = one (eqb (v .cause) why.accepted) few
     where
       one : (b : Bool) → (T b → length gs ≤ 24) → length (pick b (unitFseid kind s n ++ created s gs) []) ≤ 953
       one true f =
@@ -101,18 +103,18 @@ module _ (s : Settings) (hs : T (settingsAllowed s)) where
       one false f = zero-le
 
   -- all elements of a reply
-  body-short : (kind n : ℕ) (v : Verdict) (gs : List Grant) → T (all grantFits gs) → (T (eqb (v .cause) 1) → length gs ≤ 24) → length (replyBody kind s n v gs) ≤ 973
+  body-short : (kind n : ℕ) (v : Verdict) (gs : List Grant) → T (all grantFits gs) → (T (eqb (v .cause) why.accepted) → length gs ≤ 24) → length (replyBody kind s n v gs) ≤ 973
   unfolding replyBody
   body-short kind n v gs fits few =
       let node = nodeIdElement kind s in
-      let cause = element 19 (v .cause ∷ []) in
-      let ie = offendingElement (v .offending) in
-      let last = pick (eqb (v .cause) 1) (acceptedPart kind s n gs) [] in
-      let a = length-append node (cause ++ (ie ++ last)) in
-      let b = length-append cause (ie ++ last) in
-      let c = length-append ie last in
+      let cause = element ie.cause (v .cause ∷ []) in
+      let named = offendingElement (v .offending) in
+      let last = pick (eqb (v .cause) why.accepted) (acceptedPart kind s n gs) [] in
+      let a = length-append node (cause ++ (named ++ last)) in
+      let b = length-append cause (named ++ last) in
+      let c = length-append named last in
       let d = node-short kind in
-      let e = length-one 19 (v .cause ∷ []) in
+      let e = length-one ie.cause (v .cause ∷ []) in
       let f = offending-short (v .offending) in
       let g = accepted-short kind n v gs fits few in
       omega arith
@@ -121,9 +123,9 @@ module _ (s : Settings) (hs : T (settingsAllowed s)) where
 
 module _ (limit : ℕ) (s : Settings) (hs : T (settingsAllowed s)) (m : Sessions) (msg : List ℕ) (ho : T (octets msg)) where
   -- the grants of an accepted request are at most 24
-  few-grants : T (eqb (verdict limit s m msg .cause) 1) → length (grants s m (readRequest msg)) ≤ 24
+  few-grants : T (eqb (verdict limit s m msg .cause) why.accepted) → length (grants s m (readRequest msg)) ≤ 24
   few-grants h =
-      let p = passed limit s m msg (eqb→eq (verdict limit s m msg .cause) 1 h) in
+      let p = passed limit s m msg (eqb→eq (verdict limit s m msg .cause) why.accepted h) in
       grants-few s hs m msg ho (few-new-pdrs p) (few-new-endpoints p)
 
   -- what stands behind the header

@@ -20,13 +20,14 @@ use Rattle.rules.specs.Layout.{encode}
 use Rattle.rules.specs.Sound.{settingsAllowed, tunnelAllowed, placeAllowed, pdrTests, pdrAllowed, endpointTests, endpointAllowed, sessionTests, sessionAllowed, sessionsAllowed, sound}
 use Rattle.laws.proofs.LayoutLaws.{pdrsOk, endpointsOk, tests}
 use Rattle.laws.proofs.TableLaws.{sound-encode, encoded-settings, sessions-back}
-use Rattle.rules.specs.Message.{headerSeid, headerAllowed, served, frameFault}
+use Rattle.rules.specs.Message.{headerSeid, headerAllowed, served, frameFault, establishment, modification, deletion}
 use Rattle.rules.specs.Reading.{Request}
 use Rattle.rules.specs.Grants.{Kind, grants, grantedTeid}
 use Rattle.rules.specs.Stages.{newSession, atEntry, isLive, plain, judge, entrySession, judged, fromReading, fromFraming, unknownSession, verdict}
 use Rattle.rules.specs.Apply.{tunnelFrom, namedPlace, placeFrom, createPdr, createEndpoint, updateAll, otherNode, setCsid, setCsids, followCsids, pdrsAfter, endpointsAfter, apply, putSession, follow}
 use Rattle.rules.specs.Serve.{unserved, sessionsAfter, replyTo, answered, answer, serveSound, serve}
 use Rattle.rules.specs.Restoration.{Peer, peerAllowed, restoration, restoredPdr, restoredEndpoint, restoredRequest, recordCsid}
+use Rattle.rules.specs.Causes as why
 use Rattle.claim.proofs.RestorationRead.{msg-allowed, msg-kind, msg-short, msg-framed, msg-sound, msg-request}
 use Rattle.claim.proofs.RestorationJudge.{v4-same, v6-same, unit-families, restored-judged}
 
@@ -144,16 +145,16 @@ module _ (s : Settings) (hs : T (settingsAllowed s)) where
       abbrev msg : List ℕ
       msg = restoration s p x
 
-      msg-verdict : verdict limit s m msg ≡ plain 1
+      msg-verdict : verdict limit s m msg ≡ plain why.accepted
       unfolding verdict unknownSession fromFraming fromReading judged entrySession
       msg-verdict =
-          ap (λ (k : ℕ). pick (not (eqb k 50) && not (isLive (headerSeid msg) m)) (plain 65) (fromFraming limit s m msg (frameFault msg))) (msg-kind s hs p hp x hx)
+          ap (λ (k : ℕ). pick (not (eqb k establishment) && not (isLive (headerSeid msg) m)) (plain why.noSession) (fromFraming limit s m msg (frameFault msg))) (msg-kind s hs p hp x hx)
           ∙ ap (fromFraming limit s m msg) (msg-framed s hs p hp x hx)
           ∙ ap (fromReading limit s m msg) (msg-sound s hs p hp x hx)
           ∙ ap₂ (λ (k : ℕ) (r : Request). judge limit k s m (atEntry k (headerSeid msg) r m) r) (msg-kind s hs p hp x hx) (msg-request s hs p hp x hx)
           ∙ at-new
         where
-          at-new : judge limit 50 s m (atEntry 50 (headerSeid msg) (restoredRequest s x) m) (restoredRequest s x) ≡ plain 1
+          at-new : judge limit establishment s m (atEntry establishment (headerSeid msg) (restoredRequest s x) m) (restoredRequest s x) ≡ plain why.accepted
           at-new = unfold atEntry restoredRequest in (restored-judged s hs x hx limit m fresh room separate)
 
       msg-after : sessionsAfter s m msg ≡ putSession x m
@@ -167,7 +168,7 @@ module _ (s : Settings) (hs : T (settingsAllowed s)) where
 
       -- a restoration into a table of other sessions is accepted, and puts its session in
       pub restored-call : limit < 256 ^ 2 → T (sessionsAllowed limit s m) → (space : List ℕ) → 1024 ≤ length space
-          → serve limit (encode limit s m) msg space ≡ record { outcome = 0; space = put 0 (replyTo s m msg (plain 1)) space; table = encode limit s (putSession x m) }
+          → serve limit (encode limit s m) msg space ≡ record { outcome = 0; space = put 0 (replyTo s m msg (plain why.accepted)) space; table = encode limit s (putSession x m) }
       unfolding serve serveSound answer answered served
       restored-call small hm space long =
           let t = encode limit s m in
@@ -177,9 +178,9 @@ module _ (s : Settings) (hs : T (settingsAllowed s)) where
           ∙ pick-no (ltb (length space) 1024) _ _ (no-ltb long)
           ∙ pick-no (ltb 2048 (length msg)) _ _ (no-ltb short)
           ∙ pick-no (not (headerAllowed msg)) _ _ (twice (headerAllowed msg) (msg-allowed s hs p hp x hx))
-          ∙ ap (λ (k : ℕ). pick (not (eqb k 50 || eqb k 52 || eqb k 54)) (unserved 5 space t) (answer limit s m msg space t)) (msg-kind s hs p hp x hx)
+          ∙ ap (λ (k : ℕ). pick (not (eqb k establishment || eqb k modification || eqb k deletion)) (unserved 5 space t) (answer limit s m msg space t)) (msg-kind s hs p hp x hx)
           ∙ ap (answered limit s m msg space t) msg-verdict
-          ∙ ap (λ (m′ : Sessions). record { outcome = 0; space = put 0 (replyTo s m msg (plain 1)) space; table = encode limit s m′ }) msg-after
+          ∙ ap (λ (m′ : Sessions). record { outcome = 0; space = put 0 (replyTo s m msg (plain why.accepted)) space; table = encode limit s m′ }) msg-after
         where
           twice : (b : Bool) → T b → T (not (not b))
           twice true h = tt

@@ -21,11 +21,12 @@ use Rattle.laws.proofs.ElementLaws.{fteid-back, fqcsid-back}
 use Rattle.rules.specs.Sound.{ipv6Allowed, settingsTests, settingsAllowed, unitFamilies, tunnelTests, tunnelAllowed, placeAllowed, farAllowed, pdrTests, pdrAllowed, csidTests, csidAllowed}
 use Rattle.laws.proofs.LayoutLaws.{csid-address-length, address-short, teid-fits}
 use Rattle.laws.proofs.TableLaws.{settingsFacts, ipv4-four, ipv6-ok, ipv6-short}
-use Rattle.rules.specs.Message.{Element, elements, placesOf, opened, widthOf, frame}
+use Rattle.rules.specs.Message.{Element, elements, placesOf, opened, numberWidth, frame, establishment}
 use Rattle.rules.specs.Reading.{createsPdr, createsEndpoint, done, andThen, Members, noMembers, holds, numberRead, farRead, pdiIn, valueRead, memberRead, membersRead, unopened, pdiEnd, pdiRead, pdrFrom, endpointFrom, itemFrom, groupRead}
 use Rattle.laws.proofs.MessageLaws.{Fits, el, elements-cons, elements-nil, elements-last, Inside, framed-nil, framed-cons, framed-last, length-one}
 use Rattle.rules.specs.Reply.{element, unitElement}
 use Rattle.rules.specs.Restoration.{placeElement, farElement, pdiContent, pdrContent, endpointContent, recordCsid, restoredPdr, restoredEndpoint}
+use Rattle.rules.specs.Types as ie
 
 -- ---- the unit's F-TEIDs
 
@@ -93,7 +94,7 @@ module _ (s : Settings) (hs : T (settingsAllowed s)) where
   pub small : {n : ℕ} → n ≤ 2048 → n < 256 ^ 2
   small h = le-trans (suc-le-suc h) (lit≤ tt)
 
-  pub unit-fits : (t : Tunnel) → Fits 21 (fteidOctets (unitFteid s t))
+  pub unit-fits : (t : Tunnel) → Fits ie.fteid (fteidOctets (unitFteid s t))
   unfolding Fits
   unit-fits t = (lit< tt, small (le-trans (unit-short t) (lit≤ tt)))
 
@@ -105,8 +106,8 @@ module _ (s : Settings) (hs : T (settingsAllowed s)) where
 
   placeElements : Place → List Element
   placeElements neither = []
-  placeElements (tunnel t) = el 21 (fteidOctets (unitFteid s t)) ∷ []
-  placeElements (endpoint e) = el 131 (e ∷ []) ∷ []
+  placeElements (tunnel t) = el ie.fteid (fteidOctets (unitFteid s t)) ∷ []
+  placeElements (endpoint e) = el ie.endpointId (e ∷ []) ∷ []
 
   pub one-fits : (t : ℕ) → t < 256 ^ 2 → (c : ℕ) → Fits t (c ∷ [])
   unfolding Fits
@@ -115,26 +116,26 @@ module _ (s : Settings) (hs : T (settingsAllowed s)) where
   place-elements : (l : Place) → elements (placeElement s l) ≡ placeElements l
   unfolding placeElement placeElements unitElement
   place-elements neither = elements-nil
-  place-elements (tunnel t) = elements-last 21 (fteidOctets (unitFteid s t)) (unit-fits t)
-  place-elements (endpoint e) = elements-last 131 (e ∷ []) (one-fits 131 (lit< tt) e)
+  place-elements (tunnel t) = elements-last ie.fteid (fteidOctets (unitFteid s t)) (unit-fits t)
+  place-elements (endpoint e) = elements-last ie.endpointId (e ∷ []) (one-fits ie.endpointId (lit< tt) e)
 
   place-short : (l : Place) → length (placeElement s l) ≤ 29
   unfolding placeElement unitElement
   place-short neither = zero-le
-  place-short (tunnel t) = le-trans (le-of-eq (length-one 21 (fteidOctets (unitFteid s t)))) (let h = unit-short t in omega arith)
-  place-short (endpoint e) = le-trans (le-of-eq (length-one 131 (e ∷ []))) (lit≤ tt)
+  place-short (tunnel t) = le-trans (le-of-eq (length-one ie.fteid (fteidOctets (unitFteid s t)))) (let h = unit-short t in omega arith)
+  place-short (endpoint e) = le-trans (le-of-eq (length-one ie.endpointId (e ∷ []))) (lit≤ tt)
 
-  pdi-elements : (p : Pdr) → elements (pdiContent s p) ≡ el 20 (p .source ∷ []) ∷ placeElements (p .place)
+  pdi-elements : (p : Pdr) → elements (pdiContent s p) ≡ el ie.sourceInterface (p .source ∷ []) ∷ placeElements (p .place)
   unfolding pdiContent
   pdi-elements p =
-      elements-cons 20 (p .source ∷ []) (placeElement s (p .place)) (one-fits 20 (lit< tt) (p .source))
-      ∙ ap (λ (es : List Element). el 20 (p .source ∷ []) ∷ es) (place-elements (p .place))
+      elements-cons ie.sourceInterface (p .source ∷ []) (placeElement s (p .place)) (one-fits ie.sourceInterface (lit< tt) (p .source))
+      ∙ ap (λ (es : List Element). el ie.sourceInterface (p .source ∷ []) ∷ es) (place-elements (p .place))
 
   pdi-short : (p : Pdr) → length (pdiContent s p) ≤ 34
   unfolding pdiContent
   pdi-short p =
-      let a = length-append (element 20 (p .source ∷ [])) (placeElement s (p .place)) in
-      let b = length-one 20 (p .source ∷ []) in
+      let a = length-append (element ie.sourceInterface (p .source ∷ [])) (placeElement s (p .place)) in
+      let b = length-one ie.sourceInterface (p .source ∷ []) in
       let h = place-short (p .place) in
       omega arith
 
@@ -149,8 +150,8 @@ module _ (s : Settings) (hs : T (settingsAllowed s)) where
   placed i n c o e = record { pdrId = some i; precedence = some n; far = none; pdi = true; source = some c; local = o; endpointId = e }
 
   pdi-members : (i n c : ℕ) (l : Place) (live : List ℕ) → c < 16 → T (placeAllowed s live l)
-      → andThen (membersRead unopened 2 (el 20 (c ∷ []) ∷ placeElements l) (begun i n)) pdiEnd ≡ done (placed i n c (mapOption (unitFteid s) (placeTunnel l)) (placeEndpoint l))
-  unfolding membersRead memberRead valueRead holds numberRead numberAt widthOf placesOf member pdiEnd placeElements placeTunnel placeEndpoint placeAllowed
+      → andThen (membersRead unopened 2 (el ie.sourceInterface (c ∷ []) ∷ placeElements l) (begun i n)) pdiEnd ≡ done (placed i n c (mapOption (unitFteid s) (placeTunnel l)) (placeEndpoint l))
+  unfolding membersRead memberRead valueRead holds numberRead numberAt numberWidth placesOf member pdiEnd placeElements placeTunnel placeEndpoint placeAllowed
   pdi-members i n c neither live h k = λ j. done (placed i n (source-back c h j) none none)
   pdi-members i n c (tunnel t) live h k = rw (unit-back false t k) (λ j. done (placed i n (source-back c h j) (some (unitFteid s t)) none))
   pdi-members i n c (endpoint e) live h k = λ j. done (placed i n (source-back c h j) none (some (number-one e j)))
@@ -164,7 +165,7 @@ module _ (s : Settings) (hs : T (settingsAllowed s)) where
 
   farElements : Option ℕ → List Element
   farElements none = []
-  farElements (some n) = el 108 (be 4 n) ∷ []
+  farElements (some n) = el ie.farId (be 4 n) ∷ []
 
   pub be-fits : (t w n : ℕ) → t < 256 ^ 2 → w ≤ 2048 → Fits t (be w n)
   unfolding Fits
@@ -173,50 +174,50 @@ module _ (s : Settings) (hs : T (settingsAllowed s)) where
   far-elements : (f : Option ℕ) → elements (farElement f) ≡ farElements f
   unfolding farElement farElements
   far-elements none = elements-nil
-  far-elements (some n) = elements-last 108 (be 4 n) (be-fits 108 4 n (lit< tt) (lit≤ tt))
+  far-elements (some n) = elements-last ie.farId (be 4 n) (be-fits ie.farId 4 n (lit< tt) (lit≤ tt))
 
-  pdi-fits : (p : Pdr) → Fits 2 (pdiContent s p)
+  pdi-fits : (p : Pdr) → Fits ie.pdi (pdiContent s p)
   unfolding Fits
   pdi-fits p = (lit< tt, small (le-trans (pdi-short p) (lit≤ tt)))
 
   pdrElements : Pdr → List Element
-  pdrElements p = el 56 (be 2 (p .id)) ∷ el 29 (be 4 (p .precedence)) ∷ el 2 (pdiContent s p) ∷ farElements (p .far)
+  pdrElements p = el ie.pdrId (be 2 (p .id)) ∷ el ie.precedence (be 4 (p .precedence)) ∷ el ie.pdi (pdiContent s p) ∷ farElements (p .far)
 
   pdr-elements : (p : Pdr) → elements (pdrContent s p) ≡ pdrElements p
   unfolding pdrContent pdrElements
   pdr-elements p =
-      elements-cons 56 (be 2 (p .id)) _ (be-fits 56 2 (p .id) (lit< tt) (lit≤ tt))
-      ∙ ap (λ (es : List Element). el 56 (be 2 (p .id)) ∷ es)
-      (elements-cons 29 (be 4 (p .precedence)) _ (be-fits 29 4 (p .precedence) (lit< tt) (lit≤ tt))
-      ∙ ap (λ (es : List Element). el 29 (be 4 (p .precedence)) ∷ es)
-      (elements-cons 2 (pdiContent s p) (farElement (p .far)) (pdi-fits p)
-      ∙ ap (λ (es : List Element). el 2 (pdiContent s p) ∷ es) (far-elements (p .far))))
+      elements-cons ie.pdrId (be 2 (p .id)) _ (be-fits ie.pdrId 2 (p .id) (lit< tt) (lit≤ tt))
+      ∙ ap (λ (es : List Element). el ie.pdrId (be 2 (p .id)) ∷ es)
+      (elements-cons ie.precedence (be 4 (p .precedence)) _ (be-fits ie.precedence 4 (p .precedence) (lit< tt) (lit≤ tt))
+      ∙ ap (λ (es : List Element). el ie.precedence (be 4 (p .precedence)) ∷ es)
+      (elements-cons ie.pdi (pdiContent s p) (farElement (p .far)) (pdi-fits p)
+      ∙ ap (λ (es : List Element). el ie.pdi (pdiContent s p) ∷ es) (far-elements (p .far))))
 
   far-short : (f : Option ℕ) → length (farElement f) ≤ 8
   unfolding farElement
   far-short none = zero-le
-  far-short (some n) = le-of-eq (length-one 108 (be 4 n) ∙ ap (λ (k : ℕ). 4 + k) (length-be 4 n))
+  far-short (some n) = le-of-eq (length-one ie.farId (be 4 n) ∙ ap (λ (k : ℕ). 4 + k) (length-be 4 n))
 
   pub pdr-short : (p : Pdr) → length (pdrContent s p) ≤ 60
   unfolding pdrContent
   pdr-short p =
-      let a = length-append (element 56 (be 2 (p .id))) (element 29 (be 4 (p .precedence)) ++ (element 2 (pdiContent s p) ++ farElement (p .far))) in
-      let b = length-append (element 29 (be 4 (p .precedence))) (element 2 (pdiContent s p) ++ farElement (p .far)) in
-      let c = length-append (element 2 (pdiContent s p)) (farElement (p .far)) in
-      let d = length-one 56 (be 2 (p .id)) in
+      let a = length-append (element ie.pdrId (be 2 (p .id))) (element ie.precedence (be 4 (p .precedence)) ++ (element ie.pdi (pdiContent s p) ++ farElement (p .far))) in
+      let b = length-append (element ie.precedence (be 4 (p .precedence))) (element ie.pdi (pdiContent s p) ++ farElement (p .far)) in
+      let c = length-append (element ie.pdi (pdiContent s p)) (farElement (p .far)) in
+      let d = length-one ie.pdrId (be 2 (p .id)) in
       let d′ = length-be 2 (p .id) in
-      let e = length-one 29 (be 4 (p .precedence)) in
+      let e = length-one ie.precedence (be 4 (p .precedence)) in
       let e′ = length-be 4 (p .precedence) in
-      let f = length-one 2 (pdiContent s p) in
+      let f = length-one ie.pdi (pdiContent s p) in
       let g = pdi-short p in
       let h = far-short (p .far) in
       omega arith
 
   pdr-members : (i n : ℕ) (v : List ℕ) (f : Option ℕ) (c : ℕ) (o : Option Fteid) (e : Option ℕ) → i < 256 ^ 2 → n < 256 ^ 4 → T (farAllowed f)
       → ((j k : ℕ) → pdiRead v (begun j k) ≡ done (placed j k c o e))
-      → andThen (membersRead pdiRead 1 (el 56 (be 2 i) ∷ el 29 (be 4 n) ∷ el 2 v ∷ farElements f) noMembers) (itemFrom 1)
+      → andThen (membersRead pdiRead 1 (el ie.pdrId (be 2 i) ∷ el ie.precedence (be 4 n) ∷ el ie.pdi v ∷ farElements f) noMembers) (itemFrom 1)
       ≡ done (createsPdr (record { id = i; precedence = n; far = f; source = c; local = o; endpoint = e }))
-  unfolding membersRead memberRead valueRead holds numberRead farRead pdiIn numberAt widthOf placesOf member farElements farAllowed be itemFrom pdrFrom
+  unfolding membersRead memberRead valueRead holds numberRead farRead pdiIn numberAt numberWidth placesOf member farElements farAllowed be itemFrom pdrFrom
   pdr-members i n v none c o e hi hn hf h =
       rw h (λ j. done (createsPdr (record { id = number-be 2 i hi j; precedence = number-be 4 n hn j; far = none; source = c; local = o; endpoint = e })))
   pdr-members i n v (some f) c o e hi hn hf h =
@@ -233,59 +234,59 @@ module _ (s : Settings) (hs : T (settingsAllowed s)) where
 
   -- ---- framing a Create PDR, at depth 2 in an establishment
 
-  place-framed : (l : Place) → frame 1 50 2 (placeElement s l) ≡ none
+  place-framed : (l : Place) → frame 1 establishment 2 (placeElement s l) ≡ none
   unfolding placeElement unitElement Inside opened member
-  place-framed neither = framed-nil 0 50 2
-  place-framed (tunnel t) = framed-last 0 50 2 21 (fteidOctets (unitFteid s t)) (unit-fits t) refl
-  place-framed (endpoint e) = framed-last 0 50 2 131 (e ∷ []) (one-fits 131 (lit< tt) e) refl
+  place-framed neither = framed-nil 0 establishment 2
+  place-framed (tunnel t) = framed-last 0 establishment ie.pdi ie.fteid (fteidOctets (unitFteid s t)) (unit-fits t) refl
+  place-framed (endpoint e) = framed-last 0 establishment ie.pdi ie.endpointId (e ∷ []) (one-fits ie.endpointId (lit< tt) e) refl
 
-  pdi-framed : (p : Pdr) → frame 1 50 2 (pdiContent s p) ≡ none
+  pdi-framed : (p : Pdr) → frame 1 establishment 2 (pdiContent s p) ≡ none
   unfolding pdiContent Inside opened member
-  pdi-framed p = framed-cons 0 50 2 20 (p .source ∷ []) (placeElement s (p .place)) (one-fits 20 (lit< tt) (p .source)) refl (place-framed (p .place))
+  pdi-framed p = framed-cons 0 establishment ie.pdi ie.sourceInterface (p .source ∷ []) (placeElement s (p .place)) (one-fits ie.sourceInterface (lit< tt) (p .source)) refl (place-framed (p .place))
 
-  far-framed : (f : Option ℕ) → frame 2 50 1 (farElement f) ≡ none
+  far-framed : (f : Option ℕ) → frame 2 establishment 1 (farElement f) ≡ none
   unfolding farElement Inside opened member
-  far-framed none = framed-nil 1 50 1
-  far-framed (some n) = framed-last 1 50 1 108 (be 4 n) (be-fits 108 4 n (lit< tt) (lit≤ tt)) refl
+  far-framed none = framed-nil 1 establishment 1
+  far-framed (some n) = framed-last 1 establishment ie.createPdr ie.farId (be 4 n) (be-fits ie.farId 4 n (lit< tt) (lit≤ tt)) refl
 
-  pub pdr-framed : (p : Pdr) → frame 2 50 1 (pdrContent s p) ≡ none
+  pub pdr-framed : (p : Pdr) → frame 2 establishment 1 (pdrContent s p) ≡ none
   unfolding pdrContent Inside opened member
   pdr-framed p =
-      framed-cons 1 50 1 56 (be 2 (p .id)) _ (be-fits 56 2 (p .id) (lit< tt) (lit≤ tt)) refl
-      (framed-cons 1 50 1 29 (be 4 (p .precedence)) _ (be-fits 29 4 (p .precedence) (lit< tt) (lit≤ tt)) refl
-      (framed-cons 1 50 1 2 (pdiContent s p) (farElement (p .far)) (pdi-fits p) (pdi-framed p) (far-framed (p .far))))
+      framed-cons 1 establishment ie.createPdr ie.pdrId (be 2 (p .id)) _ (be-fits ie.pdrId 2 (p .id) (lit< tt) (lit≤ tt)) refl
+      (framed-cons 1 establishment ie.createPdr ie.precedence (be 4 (p .precedence)) _ (be-fits ie.precedence 4 (p .precedence) (lit< tt) (lit≤ tt)) refl
+      (framed-cons 1 establishment ie.createPdr ie.pdi (pdiContent s p) (farElement (p .far)) (pdi-fits p) (pdi-framed p) (far-framed (p .far))))
 
   -- ---- a Create Traffic Endpoint
 
   endpointElements : Endpoint → List Element
-  endpointElements e = el 131 (e .id ∷ []) ∷ el 21 (fteidOctets (unitFteid s (e .local))) ∷ []
+  endpointElements e = el ie.endpointId (e .id ∷ []) ∷ el ie.fteid (fteidOctets (unitFteid s (e .local))) ∷ []
 
   endpoint-elements : (e : Endpoint) → elements (endpointContent s e) ≡ endpointElements e
   unfolding endpointContent endpointElements unitElement
   endpoint-elements e =
-      elements-cons 131 (e .id ∷ []) (element 21 (fteidOctets (unitFteid s (e .local)))) (one-fits 131 (lit< tt) (e .id))
-      ∙ ap (λ (es : List Element). el 131 (e .id ∷ []) ∷ es) (elements-last 21 (fteidOctets (unitFteid s (e .local))) (unit-fits (e .local)))
+      elements-cons ie.endpointId (e .id ∷ []) (element ie.fteid (fteidOctets (unitFteid s (e .local)))) (one-fits ie.endpointId (lit< tt) (e .id))
+      ∙ ap (λ (es : List Element). el ie.endpointId (e .id ∷ []) ∷ es) (elements-last ie.fteid (fteidOctets (unitFteid s (e .local))) (unit-fits (e .local)))
 
   pub endpoint-short : (e : Endpoint) → length (endpointContent s e) ≤ 34
   unfolding endpointContent unitElement
   endpoint-short e =
-      let a = length-append (element 131 (e .id ∷ [])) (element 21 (fteidOctets (unitFteid s (e .local)))) in
-      let b = length-one 131 (e .id ∷ []) in
-      let c = length-one 21 (fteidOctets (unitFteid s (e .local))) in
+      let a = length-append (element ie.endpointId (e .id ∷ [])) (element ie.fteid (fteidOctets (unitFteid s (e .local)))) in
+      let b = length-one ie.endpointId (e .id ∷ []) in
+      let c = length-one ie.fteid (fteidOctets (unitFteid s (e .local))) in
       let h = unit-short (e .local) in
       omega arith
 
-  pub endpoint-read : (e : Endpoint) → T (tunnelAllowed s (e .local)) → groupRead 127 (endpointContent s e) ≡ done (createsEndpoint (restoredEndpoint s e))
-  unfolding groupRead restoredEndpoint endpointElements membersRead memberRead valueRead holds numberRead numberAt widthOf placesOf member itemFrom endpointFrom
+  pub endpoint-read : (e : Endpoint) → T (tunnelAllowed s (e .local)) → groupRead ie.createEndpoint (endpointContent s e) ≡ done (createsEndpoint (restoredEndpoint s e))
+  unfolding groupRead restoredEndpoint endpointElements membersRead memberRead valueRead holds numberRead numberAt numberWidth placesOf member itemFrom endpointFrom
   endpoint-read e h =
-      ap (λ (es : List Element). andThen (membersRead pdiRead 127 es noMembers) (itemFrom 127)) (endpoint-elements e)
+      ap (λ (es : List Element). andThen (membersRead pdiRead ie.createEndpoint es noMembers) (itemFrom ie.createEndpoint)) (endpoint-elements e)
       ∙ rw (unit-back true (e .local) h) (λ j. done (createsEndpoint (record { id = number-one (e .id) j; local = unitFteid s (e .local) })))
 
-  pub endpoint-framed : (e : Endpoint) → frame 2 50 127 (endpointContent s e) ≡ none
+  pub endpoint-framed : (e : Endpoint) → frame 2 establishment ie.createEndpoint (endpointContent s e) ≡ none
   unfolding endpointContent unitElement Inside opened member
   endpoint-framed e =
-      framed-cons 1 50 127 131 (e .id ∷ []) _ (one-fits 131 (lit< tt) (e .id)) refl
-      (framed-last 1 50 127 21 (fteidOctets (unitFteid s (e .local))) (unit-fits (e .local)) refl)
+      framed-cons 1 establishment ie.createEndpoint ie.endpointId (e .id ∷ []) _ (one-fits ie.endpointId (lit< tt) (e .id)) refl
+      (framed-last 1 establishment ie.createEndpoint ie.fteid (fteidOctets (unitFteid s (e .local))) (unit-fits (e .local)) refl)
 
 -- ---- an FQ-CSID
 

@@ -23,6 +23,8 @@ use Rattle.rules.specs.Reading.{Request}
 use Rattle.rules.specs.Grants.{Kind, choiceOf, endpointChoice, pdrChoice, choices, needFrom, need}
 use Rattle.rules.specs.Stages.{newSession, isLive, newPdrId, newEndpointId, namedEndpoint, pdrLocal, endpointLocal, createdPdrs, createdEndpoints, updatedPdrs, livePdrs, liveEndpoints, fteidsOf, wrongAllocation, invalidAllocation, idTwice, createdLive, absentId, updatesRemoved, namesBoth, endpointIdsAfter, namesAbsent, endpointInUse, sameChoice, fteidsMayShare, localsMayShare, choicesAgree, lacksFamily, otherAddress, strange, restoredHolding, endpointRestored, pdrRestored, restoredHoldings, clash, requestRules, brokenRules, breaksRule, tooManySessions, tooManyPdrs, tooManyEndpoints, tooFewTeids, noRoom, plain, judge}
 use Rattle.rules.specs.Restoration.{restoredPdr, restoredEndpoint, restoredRequest}
+use Rattle.rules.specs.Causes as why
+use Rattle.rules.specs.Message.{establishment}
 
 -- ---- lists
 
@@ -318,7 +320,7 @@ module _ (s : Settings) (hs : T (settingsAllowed s)) where
           λ i. once i || (not-live i || (absent i || (false || (none-both (x .pdrs) i || (names i || (false || (not (choices-agree (x .pdrs) i)
           || (no-fteid (lacksFamily s) unit-lacks i || (no-fteid (strange s) unit-strange i || (no-clash i || false))))))))))
 
-      enough-room : noRoom limit 50 s m (newSession (x .seid)) request ≡ false
+      enough-room : noRoom limit establishment s m (newSession (x .seid)) request ≡ false
       unfolding noRoom tooManySessions tooManyPdrs tooManyEndpoints tooFewTeids newSession request restoredRequest
       enough-room =
           λ i. sessions-fit i || (pdrs-fit i || (endpoints-fit i || (teids-fit i || false)))
@@ -339,7 +341,7 @@ module _ (s : Settings) (hs : T (settingsAllowed s)) where
           teids-fit = ap (ltb (freeCount s m)) needs-none ∙ leb·suc-zero (freeCount s m)
 
       -- accepted
-      pub restored-judged : judge limit 50 s m (newSession (x .seid)) (restoredRequest s x) ≡ plain 1
+      pub restored-judged : judge limit establishment s m (newSession (x .seid)) (restoredRequest s x) ≡ plain why.accepted
       unfolding judge request restoredRequest invalidAllocation
       restored-judged =
-          λ i. pick (fresh i) (plain 64) (pick (no-fteid (wrongAllocation true) unit-given i) (plain 71) (pick false (plain 76) (pick (rules-kept i) (plain 73) (pick (enough-room i) (plain 75) (plain 1)))))
+          λ i. pick (fresh i) (plain why.rejected) (pick (no-fteid (wrongAllocation true) unit-given i) (plain why.wrongAllocation) (pick false (plain why.notSupported) (pick (rules-kept i) (plain why.brokenRule) (pick (enough-room i) (plain why.noRoom) (plain why.accepted)))))

@@ -20,11 +20,12 @@ use Rattle.rules.specs.Elements.{incorrect, Answer, value, Fqcsid, readFseid, a
 use Rattle.laws.proofs.ElementLaws.{fseid-back}
 use Rattle.rules.specs.Sound.{settingsAllowed, pdrAllowed, endpointTests, endpointAllowed, csidAllowed, sessionTests, sessionAllowed}
 use Rattle.laws.proofs.LayoutLaws.{pdrsOk, endpointsOk, csidsOk, fewPdrs, fewEndpoints, fewCsids, seidFits, tests}
-use Rattle.rules.specs.Message.{Element, elements, body, kindOf, headerAllowed, frame, frameFault, opened, openedAtTop, actedOn}
+use Rattle.rules.specs.Message.{Element, elements, body, kindOf, headerAllowed, frame, frameFault, opened, openedAtTop, actedOn, establishment}
 use Rattle.rules.specs.Reading.{NewPdr, NewEndpoint, Item, createsPdr, createsEndpoint, setsCsid, cleared, changed, Reading, done, refusal, andThen, named, Draft, emptyDraft, withNode, withItem, seidRead, flagsRead, csidCountAllowed, withCsid, csidRead, actedRead, elementRead, elementsRead, pdrIn, endpointIn, changeIn, gonePdrIn, goneEndpointIn, csidIn, clears, isUnsupported, restoringIn, requestOf, finished, aloneIn, topRead, read, faultIn, readFault, askedIn, readRequest}
 use Rattle.laws.proofs.MessageLaws.{Fits, el, elements-cons, elements-nil, Inside, framed-nil, framed-cons, length-one, written, asElement, elements-map, framed-map, short-map}
 use Rattle.rules.specs.Reply.{element, message}
 use Rattle.rules.specs.Restoration.{pdrContent, pdrElement, endpointContent, endpointElement, recordCsid, csidElement, Peer, peerTests, peerAllowed, recordElements, restoration, restoredPdr, restoredEndpoint, restoredRequest}
+use Rattle.rules.specs.Types as ie
 use Rattle.claim.proofs.MessageHeader.{message-body, message-kind, message-length, message-allowed}
 use Rattle.claim.proofs.RestorationElements.{small, one-fits, pdr-short, pdr-read, pdr-framed, endpoint-short, endpoint-read, endpoint-framed, csid-read, csid-octets-short}
 
@@ -37,15 +38,15 @@ withItems is d = having (d .items ++ is) d
 
 -- the elements of a list of records, each of which is read as an item
 items-read : {A : Type 0} (t : ℕ) (g : A → List ℕ) (p : A → Bool) (f : A → Item) (alone : Bool)
-    → ((a : A) → T (p a) → (d : Draft) → elementRead 50 alone (el t (g a)) d ≡ done (withItem (f a) d))
+    → ((a : A) → T (p a) → (d : Draft) → elementRead establishment alone (el t (g a)) d ≡ done (withItem (f a) d))
     → (rs : List A) → T (all p rs) → (rest : List Element) (d : Draft)
-    → elementsRead 50 alone (map (asElement t g p) rs ++ rest) d ≡ elementsRead 50 alone rest (withItems (map f rs) d)
+    → elementsRead establishment alone (map (asElement t g p) rs ++ rest) d ≡ elementsRead establishment alone rest (withItems (map f rs) d)
 unfolding elementsRead asElement
-items-read t g p f alone one [] h rest d = ap (λ (is : List Item). elementsRead 50 alone rest (having is d)) (sym (append-nil (d .items)))
+items-read t g p f alone one [] h rest d = ap (λ (is : List Item). elementsRead establishment alone rest (having is d)) (sym (append-nil (d .items)))
 items-read t g p f alone one (r ∷ rs) h rest d =
     rw (one r (all-head p r rs h) d)
     (items-read t g p f alone one rs (all-tail p r rs h) rest (withItem (f r) d)
-    ∙ ap (λ (is : List Item). elementsRead 50 alone rest (having is d)) (append-assoc (d .items) (f r ∷ []) (map f rs)))
+    ∙ ap (λ (is : List Item). elementsRead establishment alone rest (having is d)) (append-assoc (d .items) (f r ∷ []) (map f rs)))
 
 -- what is collected where each has it, and where none has
 collect-each : {A B : Type 0} (h : A → B) (rs : List A) → collect (λ a. some (h a)) rs ≡ map h rs
@@ -98,22 +99,22 @@ module _ (s : Settings) (hs : T (settingsAllowed s)) (p : Peer) (hp : T (peerAll
       let e = length-append (p .ipv4) (p .ipv6) in
       omega arith
 
-  fseid-fits : Fits 57 fseid
+  fseid-fits : Fits ie.fseid fseid
   unfolding Fits
   fseid-fits = (lit< tt, small s hs (le-trans fseid-short (lit≤ tt)))
 
-  pdr-fits : (q : Pdr) → T (pdrAllowed s live q) → Fits 1 (pdrContent s q)
+  pdr-fits : (q : Pdr) → T (pdrAllowed s live q) → Fits ie.createPdr (pdrContent s q)
   unfolding Fits
   pdr-fits q h = (lit< tt, small s hs (le-trans (pdr-short s hs q) (lit≤ tt)))
 
-  endpoint-fits : (e : Endpoint) → T (endpointAllowed s e) → Fits 127 (endpointContent s e)
+  endpoint-fits : (e : Endpoint) → T (endpointAllowed s e) → Fits ie.createEndpoint (endpointContent s e)
   unfolding Fits
   endpoint-fits e h = (lit< tt, small s hs (le-trans (endpoint-short s hs e) (lit≤ tt)))
 
   csidContent : Csid → List ℕ
   csidContent c = fqcsidOctets (recordCsid c)
 
-  csid-fits : (c : Csid) → T (csidAllowed c) → Fits 65 (csidContent c)
+  csid-fits : (c : Csid) → T (csidAllowed c) → Fits ie.fqcsid (csidContent c)
   unfolding Fits csidContent
   csid-fits c h = (lit< tt, small s hs (le-trans (csid-octets-short c h) (lit≤ tt)))
 
@@ -122,25 +123,25 @@ module _ (s : Settings) (hs : T (settingsAllowed s)) (p : Peer) (hp : T (peerAll
   pdrOctets = concatMap (written 1 (pdrContent s) (pdrAllowed s live)) (x .pdrs)
 
   endpointOctets : List ℕ
-  endpointOctets = concatMap (written 127 (endpointContent s) (endpointAllowed s)) (x .endpoints)
+  endpointOctets = concatMap (written ie.createEndpoint (endpointContent s) (endpointAllowed s)) (x .endpoints)
 
   csidOctets : List ℕ
   csidOctets = concatMap (written 65 csidContent csidAllowed) (x .csids)
 
   pdrEls : List Element
-  pdrEls = map (asElement 1 (pdrContent s) (pdrAllowed s live)) (x .pdrs)
+  pdrEls = map (asElement ie.createPdr (pdrContent s) (pdrAllowed s live)) (x .pdrs)
 
   endpointEls : List Element
-  endpointEls = map (asElement 127 (endpointContent s) (endpointAllowed s)) (x .endpoints)
+  endpointEls = map (asElement ie.createEndpoint (endpointContent s) (endpointAllowed s)) (x .endpoints)
 
   csidEls : List Element
-  csidEls = map (asElement 65 csidContent csidAllowed) (x .csids)
+  csidEls = map (asElement ie.fqcsid csidContent csidAllowed) (x .csids)
 
   content : List ℕ
-  content = element 57 fseid ++ (element 186 (1 ∷ []) ++ (pdrOctets ++ (endpointOctets ++ csidOctets)))
+  content = element ie.fseid fseid ++ (element ie.sessionFlags (1 ∷ []) ++ (pdrOctets ++ (endpointOctets ++ csidOctets)))
 
   tops : List Element
-  tops = el 57 fseid ∷ el 186 (1 ∷ []) ∷ (pdrEls ++ (endpointEls ++ csidEls))
+  tops = el ie.fseid fseid ∷ el ie.sessionFlags (1 ∷ []) ∷ (pdrEls ++ (endpointEls ++ csidEls))
 
   pdrs-ok : T (all (pdrAllowed s live) (x .pdrs))
   unfolding live
@@ -149,42 +150,42 @@ module _ (s : Settings) (hs : T (settingsAllowed s)) (p : Peer) (hp : T (peerAll
   content-elements : elements content ≡ tops
   unfolding content tops pdrOctets endpointOctets csidOctets pdrEls endpointEls csidEls
   content-elements =
-      elements-cons 57 fseid _ fseid-fits
-      ∙ ap (λ (es : List Element). el 57 fseid ∷ es)
-      (elements-cons 186 (1 ∷ []) _ (one-fits s hs 186 (lit< tt) 1)
-      ∙ ap (λ (es : List Element). el 186 (1 ∷ []) ∷ es)
-      (elements-map 1 (pdrContent s) (pdrAllowed s live) pdr-fits (x .pdrs) pdrs-ok (endpointOctets ++ csidOctets)
+      elements-cons ie.fseid fseid _ fseid-fits
+      ∙ ap (λ (es : List Element). el ie.fseid fseid ∷ es)
+      (elements-cons ie.sessionFlags (1 ∷ []) _ (one-fits s hs ie.sessionFlags (lit< tt) 1)
+      ∙ ap (λ (es : List Element). el ie.sessionFlags (1 ∷ []) ∷ es)
+      (elements-map ie.createPdr (pdrContent s) (pdrAllowed s live) pdr-fits (x .pdrs) pdrs-ok (endpointOctets ++ csidOctets)
       ∙ ap (λ (es : List Element). pdrEls ++ es)
-      (elements-map 127 (endpointContent s) (endpointAllowed s) endpoint-fits (x .endpoints) (endpointsOk s hs x hx) csidOctets
+      (elements-map ie.createEndpoint (endpointContent s) (endpointAllowed s) endpoint-fits (x .endpoints) (endpointsOk s hs x hx) csidOctets
       ∙ ap (λ (es : List Element). endpointEls ++ es)
       (ap elements (sym (append-nil csidOctets))
-      ∙ elements-map 65 csidContent csidAllowed csid-fits (x .csids) (csidsOk s hs x hx) []
+      ∙ elements-map ie.fqcsid csidContent csidAllowed csid-fits (x .csids) (csidsOk s hs x hx) []
       ∙ ap (λ (es : List Element). csidEls ++ es) elements-nil
       ∙ append-nil csidEls))))
 
   -- ---- framing
 
-  content-framed : frame 3 50 0 content ≡ none
+  content-framed : frame 3 establishment 0 content ≡ none
   unfolding content pdrOctets endpointOctets csidOctets Inside opened openedAtTop member
   content-framed =
-      framed-cons 2 50 0 57 fseid _ fseid-fits refl
-      (framed-cons 2 50 0 186 (1 ∷ []) _ (one-fits s hs 186 (lit< tt) 1) refl
-      (framed-map 1 (pdrContent s) (pdrAllowed s live) 2 50 0 pdr-fits (λ q h. pdr-framed s hs q) (x .pdrs) pdrs-ok (endpointOctets ++ csidOctets)
-      (framed-map 127 (endpointContent s) (endpointAllowed s) 2 50 0 endpoint-fits (λ e h. endpoint-framed s hs e) (x .endpoints) (endpointsOk s hs x hx) csidOctets
-      (ap (frame 3 50 0) (sym (append-nil csidOctets))
-      ∙ framed-map 65 csidContent csidAllowed 2 50 0 csid-fits (λ c h. refl) (x .csids) (csidsOk s hs x hx) [] (framed-nil 2 50 0)))))
+      framed-cons 2 establishment 0 ie.fseid fseid _ fseid-fits refl
+      (framed-cons 2 establishment 0 ie.sessionFlags (1 ∷ []) _ (one-fits s hs ie.sessionFlags (lit< tt) 1) refl
+      (framed-map ie.createPdr (pdrContent s) (pdrAllowed s live) 2 establishment 0 pdr-fits (λ q h. pdr-framed s hs q) (x .pdrs) pdrs-ok (endpointOctets ++ csidOctets)
+      (framed-map ie.createEndpoint (endpointContent s) (endpointAllowed s) 2 establishment 0 endpoint-fits (λ e h. endpoint-framed s hs e) (x .endpoints) (endpointsOk s hs x hx) csidOctets
+      (ap (frame 3 establishment 0) (sym (append-nil csidOctets))
+      ∙ framed-map ie.fqcsid csidContent csidAllowed 2 establishment 0 csid-fits (λ c h. refl) (x .csids) (csidsOk s hs x hx) [] (framed-nil 2 establishment 0)))))
 
   -- ---- the length: at most 1,526 octets with the header
 
   content-short : length content ≤ 1510
   unfolding content
   content-short =
-      let a = length-append (element 57 fseid) (element 186 (1 ∷ []) ++ (pdrOctets ++ (endpointOctets ++ csidOctets))) in
-      let b = length-append (element 186 (1 ∷ [])) (pdrOctets ++ (endpointOctets ++ csidOctets)) in
+      let a = length-append (element ie.fseid fseid) (element ie.sessionFlags (1 ∷ []) ++ (pdrOctets ++ (endpointOctets ++ csidOctets))) in
+      let b = length-append (element ie.sessionFlags (1 ∷ [])) (pdrOctets ++ (endpointOctets ++ csidOctets)) in
       let c = length-append pdrOctets (endpointOctets ++ csidOctets) in
       let d = length-append endpointOctets csidOctets in
-      let a′ = length-one 57 fseid in
-      let b′ = length-one 186 (1 ∷ []) in
+      let a′ = length-one ie.fseid fseid in
+      let b′ = length-one ie.sessionFlags (1 ∷ []) in
       let f = fseid-short in
       let g : length pdrOctets ≤ 16 * 64 = le-trans pdr-part (mul-le-mul-right 64 few-pdrs) in
       let h : length endpointOctets ≤ 8 * 38 = le-trans endpoint-part (mul-le-mul-right 38 few-endpoints) in
@@ -192,13 +193,13 @@ module _ (s : Settings) (hs : T (settingsAllowed s)) (p : Peer) (hp : T (peerAll
       omega arith
     where
       pdr-part : length pdrOctets ≤ length (x .pdrs) * 64
-      pdr-part = unfold pdrOctets in (short-map 1 (pdrContent s) (pdrAllowed s live) 60 (λ q h. pdr-short s hs q) (x .pdrs) pdrs-ok)
+      pdr-part = unfold pdrOctets in (short-map ie.createPdr (pdrContent s) (pdrAllowed s live) 60 (λ q h. pdr-short s hs q) (x .pdrs) pdrs-ok)
 
       endpoint-part : length endpointOctets ≤ length (x .endpoints) * 38
-      endpoint-part = unfold endpointOctets in (short-map 127 (endpointContent s) (endpointAllowed s) 34 (λ e h. endpoint-short s hs e) (x .endpoints) (endpointsOk s hs x hx))
+      endpoint-part = unfold endpointOctets in (short-map ie.createEndpoint (endpointContent s) (endpointAllowed s) 34 (λ e h. endpoint-short s hs e) (x .endpoints) (endpointsOk s hs x hx))
 
       csid-part : length csidOctets ≤ length (x .csids) * 24
-      csid-part = unfold csidOctets csidContent in (short-map 65 csidContent csidAllowed 20 csid-octets-short (x .csids) (csidsOk s hs x hx))
+      csid-part = unfold csidOctets csidContent in (short-map ie.fqcsid csidContent csidAllowed 20 csid-octets-short (x .csids) (csidsOk s hs x hx))
 
       few-pdrs : length (x .pdrs) ≤ 16
       few-pdrs = fewPdrs s hs x hx
@@ -214,22 +215,22 @@ module _ (s : Settings) (hs : T (settingsAllowed s)) (p : Peer) (hp : T (peerAll
   abbrev msg : List ℕ
   msg = restoration s p x
 
-  msg-content : msg ≡ message 50 (p .header) (be 3 (p .sequence)) content
+  msg-content : msg ≡ message establishment (p .header) (be 3 (p .sequence)) content
   unfolding restoration recordElements content pdrOctets endpointOctets csidOctets written pdrElement endpointElement csidElement fseid csidContent
   msg-content = refl
 
   pub msg-allowed : T (headerAllowed msg)
-  msg-allowed = rw msg-content (message-allowed 50 (p .header) (p .sequence) content (le-trans content-short (lit≤ tt)))
+  msg-allowed = rw msg-content (message-allowed establishment (p .header) (p .sequence) content (le-trans content-short (lit≤ tt)))
 
-  pub msg-kind : kindOf msg ≡ 50
-  msg-kind = ap kindOf msg-content ∙ message-kind 50 (p .header) (p .sequence) content
+  pub msg-kind : kindOf msg ≡ establishment
+  msg-kind = ap kindOf msg-content ∙ message-kind establishment (p .header) (p .sequence) content
 
   msg-body : body msg ≡ content
-  msg-body = ap body msg-content ∙ message-body 50 (p .header) (p .sequence) content
+  msg-body = ap body msg-content ∙ message-body establishment (p .header) (p .sequence) content
 
   -- 01: every session fits one request of at most 1,526 octets
   pub msg-short : length msg ≤ maxRestoration
-  msg-short = let e = ap length msg-content ∙ message-length 50 (p .header) (p .sequence) content in let h = content-short in omega arith
+  msg-short = let e = ap length msg-content ∙ message-length establishment (p .header) (p .sequence) content in let h = content-short in omega arith
 
   pub msg-framed : frameFault msg ≡ none
   unfolding frameFault
@@ -255,19 +256,19 @@ module _ (s : Settings) (hs : T (settingsAllowed s)) (p : Peer) (hp : T (peerAll
   nodes-up = tests s hs x hx .1 .1 .1 .1 .1 .1 .1 .1 .1 .0
 
   module _ (alone : Bool) where
-    pdr-item : (q : Pdr) → T (pdrAllowed s live q) → (d : Draft) → elementRead 50 alone (el 1 (pdrContent s q)) d ≡ done (withItem (pdrItem q) d)
+    pdr-item : (q : Pdr) → T (pdrAllowed s live q) → (d : Draft) → elementRead establishment alone (el ie.createPdr (pdrContent s q)) d ≡ done (withItem (pdrItem q) d)
     unfolding elementRead actedRead actedOn member
     pdr-item q h d = rw (pdr-read s hs q live h)
 
-    endpoint-item : (e : Endpoint) → T (endpointAllowed s e) → (d : Draft) → elementRead 50 alone (el 127 (endpointContent s e)) d ≡ done (withItem (endpointItem e) d)
+    endpoint-item : (e : Endpoint) → T (endpointAllowed s e) → (d : Draft) → elementRead establishment alone (el ie.createEndpoint (endpointContent s e)) d ≡ done (withItem (endpointItem e) d)
     unfolding elementRead actedRead actedOn member endpointAllowed endpointTests
     endpoint-item e h d = rw (endpoint-read s hs e (each (endpointTests s e) h .1 .0))
 
     csid-item : (c : Csid) → T (csidAllowed c) → (d : Draft) → T (not (member (c .nodeType) (d .nodes)))
-        → elementRead 50 alone (el 65 (csidContent c)) d ≡ done (withNode (c .nodeType) (withItem (csidItem c) d))
+        → elementRead establishment alone (el ie.fqcsid (csidContent c)) d ≡ done (withNode (c .nodeType) (withItem (csidItem c) d))
     unfolding elementRead actedRead actedOn member csidRead csidCountAllowed withCsid csidContent fqcsidOctets recordCsid nodeOf
     csid-item c h d fresh =
-        ap (λ (a : Answer Fqcsid). andThen (named 65 a) (λ v. pick (csidCountAllowed 50 v && not (member (nodeOf v) (d .nodes))) (done (withCsid 50 v d)) (refusal incorrect 65))) (csid-read c h)
+        ap (λ (a : Answer Fqcsid). andThen (named 65 a) (λ v. pick (csidCountAllowed establishment v && not (member (nodeOf v) (d .nodes))) (done (withCsid establishment v d)) (refusal incorrect 65))) (csid-read c h)
         ∙ pick-yes (true && not (member (c .nodeType) (d .nodes))) _ _ fresh
 
     -- the node types ascend, so none is met twice: every one met before is below the next
@@ -282,31 +283,31 @@ module _ (s : Settings) (hs : T (settingsAllowed s)) (p : Peer) (hp : T (peerAll
         all-cons (λ n. ltb n (d .nodeType)) (c .nodeType) ns (lt→ltb (c .nodeType) (d .nodeType) up) (below-mono (c .nodeType) (d .nodeType) ns (le-of-lt up) g)
 
     csids-read : (cs : List Csid) → T (all csidAllowed cs) → T (ascending (map nodeTypeOf cs)) → (d : Draft) → Below (d .nodes) cs
-        → andThen (elementsRead 50 alone (map (asElement 65 csidContent csidAllowed) cs) d) (finished 50) ≡ finished 50 (withItems (map csidItem cs) d)
+        → andThen (elementsRead establishment alone (map (asElement ie.fqcsid csidContent csidAllowed) cs) d) (finished establishment) ≡ finished establishment (withItems (map csidItem cs) d)
     unfolding elementsRead asElement finished requestOf restoringIn
-    csids-read [] h up d below = ap (λ (is : List Item). finished 50 (having is d)) (sym (append-nil (d .items)))
+    csids-read [] h up d below = ap (λ (is : List Item). finished establishment (having is d)) (sym (append-nil (d .items)))
     csids-read (c ∷ cs) h up d below =
         rw (csid-item c (all-head csidAllowed c cs h) d (below-not-member (c .nodeType) (d .nodes) below))
         (csids-read cs (all-tail csidAllowed c cs h) (ascending-tail (c .nodeType) (map nodeTypeOf cs) up) (withNode (c .nodeType) (withItem (csidItem c) d)) (below-next (d .nodes) c cs up below)
-        ∙ ap (λ (is : List Item). finished 50 (having is d)) (append-assoc (d .items) (csidItem c ∷ []) (map csidItem cs)))
+        ∙ ap (λ (is : List Item). finished establishment (having is d)) (append-assoc (d .items) (csidItem c ∷ []) (map csidItem cs)))
 
     below-none : (cs : List Csid) → Below [] cs
     unfolding all
     below-none [] = tt
     below-none (c ∷ cs) = tt
 
-    front-read : elementsRead 50 alone tops emptyDraft ≡ elementsRead 50 alone (pdrEls ++ (endpointEls ++ csidEls)) started
+    front-read : elementsRead establishment alone tops emptyDraft ≡ elementsRead establishment alone (pdrEls ++ (endpointEls ++ csidEls)) started
     unfolding tops elementsRead elementRead actedRead actedOn member seidRead flagsRead octetAt bit
     front-read = rw fseid-read
 
-    tops-read : andThen (elementsRead 50 alone tops emptyDraft) (finished 50)
-        ≡ finished 50 (withItems (map csidItem (x .csids)) (withItems (map endpointItem (x .endpoints)) (withItems (map pdrItem (x .pdrs)) started)))
+    tops-read : andThen (elementsRead establishment alone tops emptyDraft) (finished establishment)
+        ≡ finished establishment (withItems (map csidItem (x .csids)) (withItems (map endpointItem (x .endpoints)) (withItems (map pdrItem (x .pdrs)) started)))
     unfolding pdrEls endpointEls csidEls
     tops-read =
-        ap (λ (r : Reading Draft). andThen r (finished 50))
+        ap (λ (r : Reading Draft). andThen r (finished establishment))
         (front-read
         ∙ items-read 1 (pdrContent s) (pdrAllowed s live) pdrItem alone pdr-item (x .pdrs) pdrs-ok (endpointEls ++ csidEls) started
-        ∙ items-read 127 (endpointContent s) (endpointAllowed s) endpointItem alone endpoint-item (x .endpoints) (endpointsOk s hs x hx) csidEls (withItems (map pdrItem (x .pdrs)) started))
+        ∙ items-read ie.createEndpoint (endpointContent s) (endpointAllowed s) endpointItem alone endpoint-item (x .endpoints) (endpointsOk s hs x hx) csidEls (withItems (map pdrItem (x .pdrs)) started))
         ∙ csids-read (x .csids) (csidsOk s hs x hx) nodes-up (withItems (map endpointItem (x .endpoints)) (withItems (map pdrItem (x .pdrs)) started)) (below-none (x .csids))
 
   -- ---- the request
@@ -352,7 +353,7 @@ module _ (s : Settings) (hs : T (settingsAllowed s)) (p : Peer) (hp : T (peerAll
   unfolding read topRead finished restoringIn items
   msg-read =
       ap₂ (λ (k : ℕ) (xs : List ℕ). topRead k (elements xs)) msg-kind msg-body
-      ∙ ap (topRead 50) content-elements
+      ∙ ap (topRead establishment) content-elements
       ∙ tops-read (aloneIn tops)
       ∙ ap (λ (is : List Item). done (requestOf (x .seid) (having is started)))
       (append-assoc (map pdrItem (x .pdrs)) (map endpointItem (x .endpoints)) (map csidItem (x .csids)))

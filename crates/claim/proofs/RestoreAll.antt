@@ -18,7 +18,7 @@ use Rattle.rules.specs.Model.{Settings, Session, Sessions, seidOf, sessionTeids
 use Rattle.rules.specs.Layout.{encode}
 use Rattle.laws.proofs.TableLaws.{ipv4-four}
 use Rattle.rules.specs.Sound.{settingsAllowed, sessionAllowed, apart, sessionsTests, sessionsAllowed}
-use Rattle.rules.specs.Message.{headerAllowed, firstOctetAllowed}
+use Rattle.rules.specs.Message.{headerAllowed, firstOctetAllowed, establishment}
 use Rattle.rules.specs.Reading.{readRequest, Request}
 use Rattle.laws.proofs.MessageLaws.{length-one}
 use Rattle.rules.specs.Elements.{fseidOctets}
@@ -35,6 +35,8 @@ use Rattle.claim.proofs.RestorationRead.{msg-kind, msg-allowed, msg-req
 use Rattle.claim.proofs.RestorationApply.{restored-call, insertAll-up, under-nil}
 use Rattle.rules.specs.Calls.{tableAfter, eventOf, tableAfterAll, eventsOf}
 use Rattle.rules.specs.Claim.{Restore, restored, restoreAllowed, restoreCall, restoreCalls}
+use Rattle.rules.specs.Types as ie
+use Rattle.rules.specs.Causes as why
 
 -- ---- nothing in common
 
@@ -152,18 +154,18 @@ empty-allowed limit s = all-of-each (sessionsTests limit s []) (yes-leb {a = 0} 
 -- ---- the reply is an acceptance
 
 module _ (s : Settings) (hs : T (settingsAllowed s)) where
-  body-short : (n : ℕ) → length (replyBody 50 s n (plain 1) []) ≤ 2000
+  body-short : (n : ℕ) → length (replyBody establishment s n (plain why.accepted) []) ≤ 2000
   unfolding replyBody nodeIdElement offendingElement acceptedPart unitFseid created grantsOf keep concatMap fseidOctets
   body-short n =
-      let node = element 60 (0 ∷ s .ipv4) in
-      let cause = element 19 (1 ∷ []) in
-      let fseid = element 57 (fseidOctets n (s .ipv4) []) in
+      let node = element ie.nodeId (0 ∷ s .ipv4) in
+      let cause = element ie.cause (1 ∷ []) in
+      let fseid = element ie.fseid (fseidOctets n (s .ipv4) []) in
       let a = length-append node (cause ++ (fseid ++ [])) in
       let b = length-append cause (fseid ++ []) in
       let c = length-append fseid [] in
-      let d = length-one 60 (0 ∷ s .ipv4) in
-      let e = length-one 19 (1 ∷ []) in
-      let f = length-one 57 (fseidOctets n (s .ipv4) []) in
+      let d = length-one ie.nodeId (0 ∷ s .ipv4) in
+      let e = length-one ie.cause (1 ∷ []) in
+      let f = length-one ie.fseid (fseidOctets n (s .ipv4) []) in
       let g = length-fseid n in
       let h = ipv4-four s hs in
       omega arith
@@ -185,11 +187,11 @@ module _ (s : Settings) (hs : T (settingsAllowed s)) where
         leb→le 16 (length msg) (and-left (leb 16 (length msg)) (firstOctetAllowed (octetAt msg 0))
         (and-left (leb 16 (length msg) && firstOctetAllowed (octetAt msg 0)) (eqb (4 + numberAt 2 2 msg) (length msg)) (msg-allowed s hs p hp x hx)))
 
-    pub restored-cause : (space : List ℕ) → replyCause (put 0 (replyTo s m msg (plain 1)) space) ≡ 1
+    pub restored-cause : (space : List ℕ) → replyCause (put 0 (replyTo s m msg (plain why.accepted)) space) ≡ 1
     unfolding replyTo
     restored-cause space =
-        reply-cause s msg (readRequest msg .seid) (plain 1) (grants s m (readRequest msg)) space (ipv4-four s hs) (sequence-three msg header-long)
-        (le-trans (le-of-eq (ap₂ (λ (k : ℕ) (gs : List Grant). length (replyBody k s (readRequest msg .seid) (plain 1) gs)) (msg-kind s hs p hp x hx) no-grants)) (body-short (readRequest msg .seid)))
+        reply-cause s msg (readRequest msg .seid) (plain why.accepted) (grants s m (readRequest msg)) space (ipv4-four s hs) (sequence-three msg header-long)
+        (le-trans (le-of-eq (ap₂ (λ (k : ℕ) (gs : List Grant). length (replyBody k s (readRequest msg .seid) (plain why.accepted) gs)) (msg-kind s hs p hp x hx) no-grants)) (body-short (readRequest msg .seid)))
 
 -- ---- one after the other
 
@@ -256,7 +258,7 @@ module _ (s : Settings) (hs : T (settingsAllowed s)) (limit : ℕ) (small : limi
         fit a b c h = omega arith
 
     call : serve limit (encode limit s m) (restoration s (r .peer) x) (r .space)
-        ≡ record { outcome = 0; space = put 0 (replyTo s m (restoration s (r .peer) x) (plain 1)) (r .space); table = encode limit s (putSession x m) }
+        ≡ record { outcome = 0; space = put 0 (replyTo s m (restoration s (r .peer) x) (plain why.accepted)) (r .space); table = encode limit s (putSession x m) }
     call =
         restored-call s hs x hx limit m (fresh-seid x m other) fits (separate-all x m (all-head (λ y. all (apart y) m) x xs (ready .newTeids))) (r .peer) (okFacts .0)
         small (ready .sound) (r .space) (leb→le 1024 (length (r .space)) (okFacts .1 .1 .0))

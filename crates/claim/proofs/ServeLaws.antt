@@ -29,6 +29,7 @@ use Rattle.claim.proofs.ReplyLength.{reply-body-short, reply-short}
 use Rattle.octets.proofs.Put.{length-put}
 use Rattle.rules.specs.Serve.{Served, unserved, sessionsAfter, replyTo, answered, answer, serveSound, serve}
 use Rattle.rules.specs.Live.{replied, accepted, replyIn, replyCause}
+use Rattle.rules.specs.Causes as why
 use Rattle.claim.proofs.Steps.{AcceptedKeeps, one-kept, header-long}
 use Rattle.claim.proofs.Accepting.{SoundAfter, accepting}
 use Rattle.claim.proofs.After.{sound-after}
@@ -131,20 +132,20 @@ module _ (limit : ℕ) (t msg space : List ℕ) (ho : T (octets msg)) where
   out = serve limit t msg space
 
   -- an answered request that is accepted by its verdict is accepted as the host sees it
-  accepted-seen : Answers limit t msg space → eqb (v .cause) 1 ≡ true
+  accepted-seen : Answers limit t msg space → eqb (v .cause) why.accepted ≡ true
       → replyCause (put 0 (replyTo s m msg v) space) ≡ 1
   unfolding AcceptedKeeps
   accepted-seen a e =
       let k = table-kept limit t (a .table) in
-      accepted-keeps limit s m msg space (k .settings) (k .sessions) ho (a .header) (a .kind) (eqb→eq (v .cause) 1 (of-true e)) .cause
+      accepted-keeps limit s m msg space (k .settings) (k .sessions) ho (a .header) (a .kind) (eqb→eq (v .cause) why.accepted (of-true e)) .cause
 
   -- a request that is not accepted, by its outcome and its reply's cause, leaves the table octet for octet
   pub refused-same : T (not (accepted (replied msg (out .outcome) (out .space)))) → out .table ≡ t
   refused-same =
       serve-cases limit t msg space (λ (o : Served). T (not (accepted (replied msg (o .outcome) (o .space)))) → o .table ≡ t) (λ n e h. refl)
-      (λ a. unfold answer answered accepted in (go a (eqb (v .cause) 1) refl))
+      (λ a. unfold answer answered accepted in (go a (eqb (v .cause) why.accepted) refl))
     where
-      go : Answers limit t msg space → (b : Bool) → eqb (v .cause) 1 ≡ b
+      go : Answers limit t msg space → (b : Bool) → eqb (v .cause) why.accepted ≡ b
           → T (not (eqb (replyCause (put 0 (replyTo s m msg v) space)) 1))
           → pick b (encode limit s (sessionsAfter s m msg)) t ≡ t
       go a true e h = absurd (subst (λ (c : ℕ). T (not (eqb c 1))) (accepted-seen a e) h)

@@ -17,7 +17,7 @@ use Rattle.rules.specs.Model.{Settings, Sessions}
 use Rattle.rules.specs.Layout.{encode}
 use Rattle.laws.proofs.TableLaws.{ipv4-four, sound-encode, encoded-settings, sessions-back}
 use Rattle.rules.specs.Sound.{settingsAllowed, sessionsAllowed, sound}
-use Rattle.rules.specs.Message.{kindOf, headerSeid, headerAllowed, firstOctetAllowed, served}
+use Rattle.rules.specs.Message.{kindOf, headerSeid, headerAllowed, firstOctetAllowed, served, establishment}
 use Rattle.rules.specs.Reading.{readRequest}
 use Rattle.laws.proofs.MessageLaws.{length-one}
 use Rattle.rules.specs.Grants.{Grant, grants}
@@ -27,6 +27,8 @@ use Rattle.rules.specs.Reply.{element, nodeIdElement, offendingElement, accepte
 use Rattle.laws.proofs.ReplyLaws.{reply-cause, sequence-three}
 use Rattle.rules.specs.Serve.{Served, unserved, sessionsAfter, replyTo, answered, answer, serveSound, serve}
 use Rattle.rules.specs.Live.{replied, accepted, followEvent, liveStep, replyCause, createdTeid}
+use Rattle.rules.specs.Types as ie
+use Rattle.rules.specs.Causes as why
 use Rattle.claim.proofs.Sequence.{Kept, Keeps}
 
 -- one of two answers
@@ -36,29 +38,29 @@ pick-case P false v w f g = g tt
 
 -- ---- a refusal's reply
 
-refusal-short : (k : ℕ) (s : Settings) (n : ℕ) (v : Verdict) (gs : List Grant) → length (s .ipv4) ≡ 4 → T (not (eqb (v .cause) 1)) → length (replyBody k s n v gs) ≤ 2000
+refusal-short : (k : ℕ) (s : Settings) (n : ℕ) (v : Verdict) (gs : List Grant) → length (s .ipv4) ≡ 4 → T (not (eqb (v .cause) why.accepted)) → length (replyBody k s n v gs) ≤ 2000
 unfolding replyBody nodeIdElement
 refusal-short k s n v gs four refused =
     let node = nodeIdElement k s in
-    let cause = element 19 (v .cause ∷ []) in
-    let ie = offendingElement (v .offending) in
-    let e = pick-no (eqb (v .cause) 1) (acceptedPart k s n gs) [] refused in
-    let a = ap (λ (xs : List ℕ). length (node ++ (cause ++ (ie ++ xs)))) e in
-    let b = length-append node (cause ++ (ie ++ [])) in
-    let c = length-append cause (ie ++ []) in
-    let d = length-append ie [] in
-    let f = length-one 19 (v .cause ∷ []) in
-    let g : length node ≤ 9 = node-short (eqb k 50) in
+    let cause = element ie.cause (v .cause ∷ []) in
+    let named = offendingElement (v .offending) in
+    let e = pick-no (eqb (v .cause) why.accepted) (acceptedPart k s n gs) [] refused in
+    let a = ap (λ (xs : List ℕ). length (node ++ (cause ++ (named ++ xs)))) e in
+    let b = length-append node (cause ++ (named ++ [])) in
+    let c = length-append cause (named ++ []) in
+    let d = length-append named [] in
+    let f = length-one ie.cause (v .cause ∷ []) in
+    let g : length node ≤ 9 = node-short (eqb k establishment) in
     let h = offending-short (v .offending) in
     omega arith
   where
-    node-short : (b : Bool) → length (pick b (element 60 (0 ∷ s .ipv4)) []) ≤ 9
-    node-short true = let e = length-one 60 (0 ∷ s .ipv4) in omega arith
+    node-short : (b : Bool) → length (pick b (element ie.nodeId (0 ∷ s .ipv4)) []) ≤ 9
+    node-short true = let e = length-one ie.nodeId (0 ∷ s .ipv4) in omega arith
     node-short false = zero-le
 
     offending-short : (o : Option ℕ) → length (offendingElement o) ≤ 6
     offending-short none = unfold offendingElement in zero-le
-    offending-short (some t) = unfold offendingElement in (le-of-eq (length-one 40 (be 2 t) ∙ ap (λ (k′ : ℕ). 4 + k′) (length-be 2 t)))
+    offending-short (some t) = unfold offendingElement in (le-of-eq (length-one ie.offendingIe (be 2 t) ∙ ap (λ (k′ : ℕ). 4 + k′) (length-be 2 t)))
 
 pub header-long : (msg : List ℕ) → T (headerAllowed msg) → 16 ≤ length msg
 unfolding headerAllowed
@@ -77,7 +79,7 @@ pub record Accepts (limit : ℕ) (s : Settings) (m : Sessions) (msg : List ℕ) 
 unfoldable pub AcceptedKeeps : ℕ → Type 0
 AcceptedKeeps limit =
     (s : Settings) (m : Sessions) (msg space : List ℕ) → T (settingsAllowed s) → T (sessionsAllowed limit s m) → T (octets msg)
-    → T (headerAllowed msg) → T (served (kindOf msg)) → verdict limit s m msg .cause ≡ 1 → Accepts limit s m msg space
+    → T (headerAllowed msg) → T (served (kindOf msg)) → verdict limit s m msg .cause ≡ why.accepted → Accepts limit s m msg space
 
 -- ---- every request
 
@@ -96,18 +98,18 @@ module _ (limit : ℕ) (small : limit < 256 ^ 2) (accepts : AcceptedKeeps limit)
   unserved-kept : (n : ℕ) → eqb n 0 ≡ false → P (unserved n space t)
   unserved-kept n e = same n space (unfold accepted in (ap (λ (b : Bool). b && eqb (replyCause space) 1) e))
 
-  refused-event : (v : Verdict) → T (headerAllowed msg) → eqb (v .cause) 1 ≡ false → accepted (replied msg 0 (put 0 (replyTo s m msg v) space)) ≡ false
+  refused-event : (v : Verdict) → T (headerAllowed msg) → eqb (v .cause) why.accepted ≡ false → accepted (replied msg 0 (put 0 (replyTo s m msg v) space)) ≡ false
   unfolding accepted replyTo
   refused-event v hh e =
-      let refused : T (not (eqb (v .cause) 1)) = subst (λ (c : Bool). T (not c)) (sym e) tt in
+      let refused : T (not (eqb (v .cause) why.accepted)) = subst (λ (c : Bool). T (not c)) (sym e) tt in
       let gs = grants s m (readRequest msg) in
       ap (λ (c : ℕ). eqb c 1)
       (reply-cause s msg (readRequest msg .seid) v gs space (ipv4-four s hs) (sequence-three msg (header-long msg hh)) (refusal-short (kindOf msg) s (readRequest msg .seid) v gs (ipv4-four s hs) refused))
       ∙ e
 
-  accepted-facts : T (headerAllowed msg) → T (served (kindOf msg)) → eqb (verdict limit s m msg .cause) 1 ≡ true → Accepts limit s m msg space
+  accepted-facts : T (headerAllowed msg) → T (served (kindOf msg)) → eqb (verdict limit s m msg .cause) why.accepted ≡ true → Accepts limit s m msg space
   unfolding AcceptedKeeps
-  accepted-facts hh hk e = accepts s m msg space hs hm ho hh hk (eqb→eq (verdict limit s m msg .cause) 1 (subst T (sym e) tt))
+  accepted-facts hh hk e = accepts s m msg space hs hm ho hh hk (eqb→eq (verdict limit s m msg .cause) why.accepted (subst T (sym e) tt))
 
   accepted-live : (l : List ℕ) → replyCause l ≡ 1 → liveStep m (replied msg 0 l) ≡ follow (createdTeid l) (kindOf msg) (headerSeid msg) (readRequest msg) m
   unfolding liveStep accepted followEvent
@@ -115,12 +117,12 @@ module _ (limit : ℕ) (small : limit < 256 ^ 2) (accepts : AcceptedKeeps limit)
 
   answered-kept : T (headerAllowed msg) → T (served (kindOf msg)) → P (answer limit s m msg space t)
   unfolding answer answered
-  answered-kept hh hk = go (eqb (verdict limit s m msg .cause) 1) refl
+  answered-kept hh hk = go (eqb (verdict limit s m msg .cause) why.accepted) refl
     where
       l : List ℕ
       l = put 0 (replyTo s m msg (verdict limit s m msg)) space
 
-      go : (b : Bool) → eqb (verdict limit s m msg .cause) 1 ≡ b → Kept limit s m (pick b (encode limit s (sessionsAfter s m msg)) t) (replied msg 0 l)
+      go : (b : Bool) → eqb (verdict limit s m msg .cause) why.accepted ≡ b → Kept limit s m (pick b (encode limit s (sessionsAfter s m msg)) t) (replied msg 0 l)
       go false e = same 0 l (refused-event (verdict limit s m msg) hh e)
       go true e =
           let a = accepted-facts hh hk e in

@@ -12,9 +12,10 @@ use lib.Dec.{T, eqb, nltb→le}
 use Rattle.octets.specs.Choice.{pick, oneOf}
 use Rattle.rules.specs.Model.{Settings, Sessions}
 use Rattle.rules.specs.Elements.{Refusal, missing, conditional, tooShort, incorrect, causeOf}
-use Rattle.rules.specs.Message.{kindOf, frameFault}
+use Rattle.rules.specs.Message.{kindOf, frameFault, establishment}
 use Rattle.rules.specs.Reading.{Fault, readFault, readRequest}
 use Rattle.rules.specs.Stages.{isLive, invalidAllocation, brokenRules, breaksRule, tooManySessions, tooManyPdrs, tooManyEndpoints, tooFewTeids, noRoom, Verdict, plain, judge, entrySession, judged, fromReading, fromFraming, unknownSession, verdict}
+use Rattle.rules.specs.Causes as why
 
 -- tests that all fail
 abbrev pub NoneOf : List Bool → Type 0
@@ -27,7 +28,7 @@ none-hold (true ∷ bs) h = absurd h
 none-hold (false ∷ bs) h = (tt, none-hold bs h)
 
 -- a verdict with cause 1 does not come from a branch with another cause
-passes : (b : Bool) (c : ℕ) (v : Verdict) → c ≢ 1 → pick b (plain c) v .cause ≡ 1 → T (not b) × (v .cause ≡ 1)
+passes : (b : Bool) (c : ℕ) (v : Verdict) → c ≢ 1 → pick b (plain c) v .cause ≡ why.accepted → T (not b) × (v .cause ≡ why.accepted)
 passes true c v ne e = absurd (ne e)
 passes false c v ne e = (tt, e)
 
@@ -35,7 +36,7 @@ pub record Passed (limit : ℕ) (s : Settings) (m : Sessions) (msg : List ℕ) :
   pub known : T (not (unknownSession m msg))
   pub framed : frameFault msg ≡ none
   pub read : readFault msg ≡ none
-  pub fresh : T (not (eqb (kindOf msg) 50 && isLive (readRequest msg .seid) m))
+  pub fresh : T (not (eqb (kindOf msg) establishment && isLive (readRequest msg .seid) m))
   pub allocation : T (not (invalidAllocation (readRequest msg)))
   pub supported : T (not (readRequest msg .unsupported))
   pub rules : NoneOf (brokenRules s m (entrySession m msg) (readRequest msg))
@@ -51,17 +52,17 @@ not-one incorrect e = omega arith
 
 module _ (limit : ℕ) (s : Settings) (m : Sessions) (msg : List ℕ) where
   -- the faults of stages 2 and 3 have other causes
-  unframed : (o : Option ℕ) → fromFraming limit s m msg o .cause ≡ 1 → (o ≡ none) × (fromReading limit s m msg (readFault msg) .cause ≡ 1)
+  unframed : (o : Option ℕ) → fromFraming limit s m msg o .cause ≡ why.accepted → (o ≡ none) × (fromReading limit s m msg (readFault msg) .cause ≡ why.accepted)
   unfolding fromFraming
   unframed none e = (refl, e)
   unframed (some t) e = absurd (omega arith)
 
-  unread : (o : Option Fault) → fromReading limit s m msg o .cause ≡ 1 → (o ≡ none) × (judged limit s m msg .cause ≡ 1)
+  unread : (o : Option Fault) → fromReading limit s m msg o .cause ≡ why.accepted → (o ≡ none) × (judged limit s m msg .cause ≡ why.accepted)
   unfolding fromReading
   unread none e = (refl, e)
   unread (some f) e = absurd (not-one (f .cause) e)
 
-  pub passed : verdict limit s m msg .cause ≡ 1 → Passed limit s m msg
+  pub passed : verdict limit s m msg .cause ≡ why.accepted → Passed limit s m msg
   unfolding verdict judged judge breaksRule noRoom
   passed e =
       let a = passes (unknownSession m msg) 65 (fromFraming limit s m msg (frameFault msg)) (λ p. absurd (omega arith)) e in
@@ -70,11 +71,11 @@ module _ (limit : ℕ) (s : Settings) (m : Sessions) (msg : List ℕ) where
       let x = entrySession m msg in
       let r = readRequest msg in
       let k = kindOf msg in
-      let d = passes (eqb k 50 && isLive (r .seid) m) 64 _ (λ p. absurd (omega arith)) (c .1) in
+      let d = passes (eqb k establishment && isLive (r .seid) m) 64 _ (λ p. absurd (omega arith)) (c .1) in
       let f = passes (invalidAllocation r) 71 _ (λ p. absurd (omega arith)) (d .1) in
       let g = passes (r .unsupported) 76 _ (λ p. absurd (omega arith)) (f .1) in
       let h = passes (oneOf (brokenRules s m x r)) 73 _ (λ p. absurd (omega arith)) (g .1) in
-      let i = passes (oneOf (tooManySessions limit k m ∷ tooManyPdrs x r ∷ tooManyEndpoints x r ∷ tooFewTeids s m r ∷ [])) 75 (plain 1) (λ p. absurd (omega arith)) (h .1) in
+      let i = passes (oneOf (tooManySessions limit k m ∷ tooManyPdrs x r ∷ tooManyEndpoints x r ∷ tooFewTeids s m r ∷ [])) 75 (plain why.accepted) (λ p. absurd (omega arith)) (h .1) in
       record {
         known = a .0;
         framed = b .0;

@@ -13,7 +13,7 @@ use Rattle.octets.specs.Octets.{put, be, concatMap}
 use Rattle.octets.specs.Lists.{keep}
 use Rattle.octets.proofs.Numbers.{length-be}
 use Rattle.rules.specs.Model.{Settings}
-use Rattle.rules.specs.Layout.{viewSettings}
+use Rattle.rules.specs.Layout.{viewSettings, settingsWidth}
 use Rattle.rules.specs.Grants.{Kind, Grant, sameKind, isKind, grantsOf}
 use Rattle.rules.specs.Reply.{element, unitElement, createdPdr, createdPdrContent, createdEndpoint, createdEndpointContent, created}
 use Rattle.created.specs.declared.Grant.{Grant as Entry}
@@ -26,7 +26,7 @@ use Rattle.writing.proofs.ElementSteps.{length-unit}
 
 -- ---- one group
 
-module _ (t : List ℕ) (long : 29 ≤ length t) (teid families : ℕ) where
+module _ (t : List ℕ) (long : settingsWidth ≤ length t) (teid families : ℕ) where
   abbrev unit : List ℕ
   unit = unitElement (viewSettings t) (tunnelIn teid families)
 
@@ -98,7 +98,7 @@ module _ (t : List ℕ) (kind : ℕ) (g : Entry) where
   endpoint-steps e k f p = rw (endpoint-group e k f) p
 
   -- and the room that it wants
-  module _ (at n : ℕ) (long : 29 ≤ length t) (room : at + length of-kind ≤ n) where
+  module _ (at n : ℕ) (long : settingsWidth ≤ length t) (room : at + length of-kind ≤ n) where
     pub pdr-room : kind ≡ 1 → g .kind ≡ 1 → at + 17 + 2 + unitAddresses st (g .families) ≤ n
     pdr-room e k = omega (arith, ap length (pdr-group e k), length-group t long (g .teid) (g .families) 8 56 2 (g .id))
 

@@ -11,6 +11,8 @@ use Rattle.octets.specs.Lists.{all}
 use Rattle.rules.specs.Limits.{maxPdrs, maxEndpoints}
 use Rattle.rules.specs.Grants.{Grant}
 use Rattle.plan.specs.Rows.{rowWidth, word}
+use Rattle.rules.specs.Types as ie
+use Rattle.plan.specs.Words as its
 use Rattle.writing.specs.Families.{tunnelIn}
 use Rattle.created.specs.Groups.{kindIn}
 use Rattle.created.specs.declared.Grant.{Grant as Entry}
@@ -35,10 +37,10 @@ listed n es = map grantOf (take n es)
 
 -- the ID of a row's record: a PDR's, else a traffic endpoint's
 unfoldable pub rowId : List ℕ → ℕ
-rowId row = pick (eqb (word 0 row) 1) (word 7 row) (word 11 row)
+rowId row = pick (eqb (word its.tag row) ie.createPdr) (word its.pdrId row) (word its.endpointId row)
 
 unfoldable pub rowEntry : List ℕ → Entry
-rowEntry row = record { kind = word 0 row; id = rowId row; teid = word 13 row; families = word 12 row % 4 }
+rowEntry row = record { kind = word its.tag row; id = rowId row; teid = word its.teid row; families = word its.flags row % 4 }
 
 -- the entry of the row at the i-th place
 abbrev pub entryAt : List ℕ → List ℕ → ℕ → Entry
@@ -46,7 +48,7 @@ entryAt plan places i = rowEntry (part (getD places i 0) rowWidth plan)
 
 -- the grant of a row whose TEID word holds the TEID that it was granted, and of the rows at places
 unfoldable pub rowGrant : List ℕ → Grant
-rowGrant row = record { kind = kindIn (word 0 row); id = rowId row; local = tunnelIn (word 13 row) (word 12 row) }
+rowGrant row = record { kind = kindIn (word its.tag row); id = rowId row; local = tunnelIn (word its.teid row) (word its.flags row) }
 
 unfoldable pub grantAt : List ℕ → ℕ → Grant
 grantAt plan p = rowGrant (part p rowWidth plan)

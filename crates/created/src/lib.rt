@@ -1,6 +1,7 @@
 // Created PDR and Created Traffic Endpoint: the groups that report the TEIDs of a request's CHOOSEs, written from 01's list of grants.
 // The list is made for each request: an array of 24 entries, lent as a slice to be filled and then lent to the writer of the groups.
 // `fill`, `write_groups` and `write_created` are proved by a walk of their steps, by hand; whoever calls `write_created` names no list.
+use format::words;
 ghost use mathlib.Core.Path.{_≡_};
 ghost use mathlib.Core.Bool.{true};
 ghost use mathlib.Core.List.{[], _∷_, _++_};
@@ -9,7 +10,7 @@ ghost use lib.Dec.{T};
 ghost use lib.ListN.{length};
 ghost use Rattle.octets.specs.Octets.{be};
 ghost use Rattle.octets.specs.Lists.{all};
-ghost use Rattle.rules.specs.Layout.{viewSettings};
+ghost use Rattle.rules.specs.Layout.{viewSettings, settingsWidth};
 ghost use Rattle.rules.specs.Reply.{element, unitElement, created};
 ghost use Rattle.plan.specs.Rows.{rowWidth};
 ghost use Rattle.writing.specs.Placed.{Placed};
@@ -40,7 +41,7 @@ fn write_group(
     out: &mut [u8],
     at: usize,
 ) -> usize
-    requires { ⌜ (29 ≤ length (now t)) × (width ≤ 8) × (at + 17 + width + unitAddresses (viewSettings (now t)) (g .families) ≤ length (now out)) ⌝ }
+    requires { ⌜ (settingsWidth ≤ length (now t)) × (width ≤ 8) × (at + 17 + width + unitAddresses (viewSettings (now t)) (g .families) ≤ length (now out)) ⌝ }
     ensures { λ r. ⌜ Placed (now (out .entry)) at (element group (element member (be width (g .id)) ++ unitElement (viewSettings (now (t .entry))) (tunnelIn (g .teid) (g .families)))) r (now (out .exit)) ⌝ }
 {
     let f = writing::unit_families(t, g.families);
@@ -53,7 +54,7 @@ fn write_group(
 
 // The group of a grant of one kind; nothing for a grant of the other.
 fn write_grant(t: &[u8], kind: u64, g: Grant, out: &mut [u8], at: usize) -> usize
-    requires { ⌜ (29 ≤ length (now t)) × (idFits (grantOf g) ≡ true) × (at + length (groups (kindIn kind) (viewSettings (now t)) (grantOf g ∷ [])) ≤ length (now out)) ⌝ }
+    requires { ⌜ (settingsWidth ≤ length (now t)) × (idFits (grantOf g) ≡ true) × (at + length (groups (kindIn kind) (viewSettings (now t)) (grantOf g ∷ [])) ≤ length (now out)) ⌝ }
     ensures { λ r. ⌜ Placed (now (out .entry)) at (groups (kindIn kind) (viewSettings (now (t .entry))) (grantOf g ∷ [])) r (now (out .exit)) ⌝ }
 {
     if kind == PDR {
@@ -73,10 +74,10 @@ fn row_id(row: &[u64]) -> u64
     requires { ⌜ length (now row) ≡ rowWidth ⌝ }
     ensures { λ r. ⌜ r ≡ rowId (now (row .entry)) ⌝ }
 {
-    if row[0] == PDR {
-        return row[7];
+    if row[words::TAG] == PDR {
+        return row[words::PDR_ID];
     }
-    row[11]
+    row[words::ENDPOINT_ID]
 }
 
 // The entry of the row at the i-th place.
@@ -87,10 +88,10 @@ fn entry_at(plan: &[u64], places: &[usize], i: usize) -> Grant
     let p = places[i];
     let row = &plan[p..p + format::ROW];
     Grant {
-        kind: row[0],
+        kind: row[words::TAG],
         id: row_id(row),
-        teid: row[13],
-        families: row[12] % 4,
+        teid: row[words::TEID],
+        families: row[words::FLAGS] % 4,
     }
 }
 
@@ -108,7 +109,7 @@ fn fill(grants: &mut [Grant], plan: &[u64], places: &[usize], n: usize)
 
 // The groups of the grants of one kind among the first n entries, in their order.
 fn write_groups(t: &[u8], grants: &[Grant], n: usize, kind: u64, out: &mut [u8], at: usize) -> usize
-    requires { ⌜ (29 ≤ length (now t)) × (n ≤ length (now grants)) × (all idFits (listed n (now grants)) ≡ true) × (at + length (groups (kindIn kind) (viewSettings (now t)) (listed n (now grants))) ≤ length (now out)) ⌝ }
+    requires { ⌜ (settingsWidth ≤ length (now t)) × (n ≤ length (now grants)) × (all idFits (listed n (now grants)) ≡ true) × (at + length (groups (kindIn kind) (viewSettings (now t)) (listed n (now grants))) ≤ length (now out)) ⌝ }
     ensures { λ r. ⌜ Placed (now (out .entry)) at (groups (kindIn kind) (viewSettings (now (t .entry))) (listed n (now (grants .entry)))) r (now (out .exit)) ⌝ }
 {
     let mut next = at;
@@ -122,7 +123,7 @@ fn write_groups(t: &[u8], grants: &[Grant], n: usize, kind: u64, out: &mut [u8],
 
 // Created PDRs, then Created Traffic Endpoints, of the grants of the plan's rows at places.
 pub fn write_created(t: &[u8], plan: &[u64], places: &[usize], out: &mut [u8], at: usize) -> usize
-    requires { ⌜ (29 ≤ length (now t)) × (length (now places) ≤ maxGrants) × T (within (now plan) (now places)) × (all idFits (grantsAt (now plan) (now places)) ≡ true) × (at + length (created (viewSettings (now t)) (grantsAt (now plan) (now places))) ≤ length (now out)) ⌝ }
+    requires { ⌜ (settingsWidth ≤ length (now t)) × (length (now places) ≤ maxGrants) × T (within (now plan) (now places)) × (all idFits (grantsAt (now plan) (now places)) ≡ true) × (at + length (created (viewSettings (now t)) (grantsAt (now plan) (now places))) ≤ length (now out)) ⌝ }
     ensures { λ r. ⌜ Placed (now (out .entry)) at (created (viewSettings (now (t .entry))) (grantsAt (now (plan .entry)) (now (places .entry)))) r (now (out .exit)) ⌝ }
 {
     let n = places.len();

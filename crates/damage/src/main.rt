@@ -4,6 +4,8 @@
 ghost use mathlib.Core.Path.{_≡_};
 ghost use Prim.Native.Nat.{_≤_, _<_};
 ghost use lib.ListN.{length};
+ghost use Rattle.rules.specs.Layout.{tableLength};
+ghost use Rattle.rules.specs.Limits.{maxSessions};
 use libc::STDOUT_FILENO;
 
 fn number(n: u64) {
@@ -83,7 +85,7 @@ fn fill(t: &mut [u8], rows: &[u64]) {
 }
 
 fn counts(t: &mut [u8], lowest: bool)
-    requires { ⌜ length (now t) ≡ 30943 ⌝ }
+    requires { ⌜ length (now t) ≡ tableLength maxSessions ⌝ }
 {
     number(count_sound(t, 0, 31, lowest));
     number(count_sound(t, 31, 997, lowest));

@@ -66,7 +66,6 @@ seid-some n e = rw (ne-eqb n 0 e)
 -- ---- the writer
 
 thirteen : (s : List ℕ) → 13 ≤ length s → 0 + widthOf (1 ∷ 8 ∷ 4 ∷ []) ≤ length s
-unfolding widthOf
 thirteen s h = h
 
 module _ (seid a : ℕ) (s : List ℕ) where

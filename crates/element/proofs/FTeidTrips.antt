@@ -107,7 +107,7 @@ six f = by (chFlag f)
     by false = refl
 
 width-whole : (f : ℕ) → widthOf (fteidWidths f) ≡ 1 + fteidLength f
-unfolding fteidWidths widthOf fteidLength
+unfolding fteidWidths fteidLength
 width-whole f = by (chFlag f)
   where
     by : (c : Bool) → widthOf (1 ∷ pick c (0 ∷ 0 ∷ 0 ∷ 0 ∷ flag (chidFlag f) ∷ []) (4 ∷ 4 * flag (v4Flag f) ∷ 8 * flag (v6Flag f) ∷ 8 * flag (v6Flag f) ∷ 0 ∷ []))

@@ -51,7 +51,7 @@ two-widths t = by (eqb t 1)
     by false = refl
 
 pub width-address : (t : ℕ) → widthOf (addressWidths t) ≡ addressLength t
-unfolding addressWidths widthOf addressLength
+unfolding addressWidths addressLength
 width-address t = by (eqb t 1)
   where
     by : (b : Bool) → widthOf (pick b (8 ∷ 8 ∷ []) (0 ∷ 4 ∷ [])) ≡ pick b 16 4
@@ -72,7 +72,7 @@ four-words : (r a b c d : ℕ) → r ≤ 32 → a + (r - 8) ≡ r → b + (r - 8
 four-words r a b c d h i j k l = omega arith
 
 pub width-csids : (m : ℕ) → m < 16 → widthOf (csidWidths m) ≡ 2 * m
-unfolding csidWidths widthOf
+unfolding csidWidths
 width-csids m h =
     four-words (2 * m) (wordWidth 0 m) (wordWidth 1 m) (wordWidth 2 m) (wordWidth 3 m) (omega arith) (word-first (2 * m)) (word-step (2 * m - 8)) (word-step (2 * m - 16))
     (word-last (2 * m - 24) (omega arith))
@@ -82,7 +82,6 @@ unfolding csidWidths
 eight-widths t m = ap suc (length-append (addressWidths t) (csidWidths m ++ 1 ∷ []) ∙ ap (λ (n : ℕ). n + 5) (two-widths t))
 
 pub width-all : (t m : ℕ) → m < 16 → widthOf (fqcsidWidths t m) ≡ 1 + (addressLength t + (2 * m + 1))
-unfolding widthOf
 width-all t m h =
     ap (λ (n : ℕ). 1 + n)
     (widthOf-two (addressWidths t) (csidWidths m ++ 1 ∷ [])
@@ -232,7 +231,6 @@ csid-numbers t m s = by (eqb t 1)
     by false = refl
 
 before-node : (t m : ℕ) → m < 16 → 0 + widthOf (1 ∷ addressWidths t ++ csidWidths m) ≡ 1 + (addressLength t + 2 * m)
-unfolding widthOf
 before-node t m h =
     zero-add (1 + widthOf (addressWidths t ++ csidWidths m))
     ∙ ap (λ (n : ℕ). 1 + n) (widthOf-two (addressWidths t) (csidWidths m) ∙ ap₂ _+_ (width-address t) (width-csids m h))

@@ -60,7 +60,6 @@ fieldOctets-two (w ∷ ws) (v ∷ vs) us xs e =
     ap (λ (l : List ℕ). be w v ++ l) (fieldOctets-two ws vs us xs (suc-inj e)) ∙ sym (append-assoc (be w v) (fieldOctets ws vs) (fieldOctets us xs))
 
 pub widthOf-two : (ws us : List ℕ) → widthOf (ws ++ us) ≡ widthOf ws + widthOf us
-unfolding widthOf
 widthOf-two [] us = sym (zero-add (widthOf us))
 widthOf-two (w ∷ ws) us = ap (λ (n : ℕ). w + n) (widthOf-two ws us) ∙ sym (add-assoc w (widthOf ws) (widthOf us))
 

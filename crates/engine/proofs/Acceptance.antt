@@ -17,6 +17,7 @@ use Rattle.rules.specs.Grants.{Grant, choices, grants, grantedTeid}
 use Rattle.rules.specs.Stages.{Verdict, plain, entrySession, createdPdrs, createdEndpoints}
 use Rattle.rules.specs.Reply.{reply}
 use Rattle.rules.specs.Serve.{replyTo}
+use Rattle.rules.specs.Causes as why
 use Rattle.laws.proofs.RequestLaws.{RequestRead, request-read}
 use Rattle.laws.proofs.GrantLaws.{choices-few}
 use Rattle.claim.proofs.VerdictLaws.{Passed, passed, few-new-pdrs, few-new-endpoints}
@@ -110,11 +111,11 @@ module _ {t words msg slot plan out : List ℕ} {seid n : ℕ} (a : Accepting t 
     unfolding requestIn
     same-seid = sym (ap (λ (r : Request). r .seid) (a .means))
 
-    same-reply : reply s msg seid (plain 1) (grantsAt plan′ (take k places′)) ≡ replyTo s m msg (verdictOn t msg)
+    same-reply : reply s msg seid (plain why.accepted) (grantsAt plan′ (take k places′)) ≡ replyTo s m msg (verdictOn t msg)
     unfolding replyTo
     same-reply = λ i. reply s msg (same-seid i) (sym (a .verdict) i) ((is-granted .reported ∙ same-grants) i)
 
-    pub accepted-answers : (used : ℕ) (out′ slot′ t′ : List ℕ) → (used, out′) ≡ written (reply s msg seid (plain 1) (grantsAt plan′ (take k places′))) out
+    pub accepted-answers : (used : ℕ) (out′ slot′ t′ : List ℕ) → (used, out′) ≡ written (reply s msg seid (plain why.accepted) (grantsAt plan′ (take k places′))) out
         → slot′ ≡ built (rowsOf n plan′) slot → t′ ≡ withRecord sessionArea slot′ t → Answers t msg out used out′ t′
     accepted-answers used out′ slot′ t′ w b d =
         record {
@@ -146,7 +147,7 @@ module _ {t words msg slot plan out : List ℕ} {seid n first size : ℕ} (a : A
     pub read-fit : fits.RowsFit plan′ (take k places′)
     read-fit = grants-fit a from-settings
 
-    pub read-answers : (used : ℕ) (out′ t′ : List ℕ) → (used, out′) ≡ written (reply (viewSettings t) msg seid (plain 1) (grantsAt plan′ (take k places′))) out
+    pub read-answers : (used : ℕ) (out′ t′ : List ℕ) → (used, out′) ≡ written (reply (viewSettings t) msg seid (plain why.accepted) (grantsAt plan′ (take k places′))) out
         → t′ ≡ withRecord sessionArea (built (rowsOf n plan′) slot) t → Answers t msg out used out′ t′
     read-answers used out′ t′ w d = accepted-answers a from-settings used out′ (built (rowsOf n plan′) slot) t′ w refl d
 

@@ -15,6 +15,7 @@ use Rattle.rules.specs.Grants.{Kind, grants, grantedTeid}
 use Rattle.rules.specs.Stages.{entrySession, newPdrId, newEndpointId, createdPdrs, createdEndpoints, livePdrs, liveEndpoints}
 use Rattle.rules.specs.Apply.{createPdr, createEndpoint, keptPdr, keptEndpoint}
 use Rattle.plan.specs.Rows.{tagged, rowPdrId, rowEndpointId, rowPdr, rowEndpoint, requestIn}
+use Rattle.rules.specs.Types as ie
 use Rattle.claim.proofs.VerdictLaws.{Passed}
 use Rattle.claim.proofs.KeptRules.{RulesKept, rules-kept, RoomLeft, room-left}
 use Rattle.claim.proofs.InsertLaws.{removed-length}
@@ -26,14 +27,14 @@ use Rattle.engine.specs.Answers.{OnlyNull}
 
 -- the rows' fields fit the octets that they get
 pub record RowsFit (rows : List (List ℕ)) : Type 0 where
-  pub endpointRows : T (all endpointRow (tagged 127 rows))
-  pub pdrRows : T (all pdrRow (tagged 1 rows))
-  pub csidRows : T (all csidRow (tagged 65 rows))
+  pub endpointRows : T (all endpointRow (tagged ie.createEndpoint rows))
+  pub pdrRows : T (all pdrRow (tagged ie.createPdr rows))
+  pub csidRows : T (all csidRow (tagged ie.fqcsid rows))
 
 -- the TEID words of the rows hold what was granted
 pub record TeidsStored (teids : Kind → ℕ → ℕ) (rows : List (List ℕ)) : Type 0 where
-  pub endpointTeids : map (createEndpoint teids) (map rowEndpoint (tagged 127 rows)) ≡ map endpointOf (tagged 127 rows)
-  pub pdrTeids : map (createPdr teids) (map rowPdr (tagged 1 rows)) ≡ map pdrOf (tagged 1 rows)
+  pub endpointTeids : map (createEndpoint teids) (map rowEndpoint (tagged ie.createEndpoint rows)) ≡ map endpointOf (tagged ie.createEndpoint rows)
+  pub pdrTeids : map (createPdr teids) (map rowPdr (tagged ie.createPdr rows)) ≡ map pdrOf (tagged ie.createPdr rows)
 
 endpoint-ids : (qs : List (List ℕ)) → map newEndpointId (map rowEndpoint qs) ≡ map endpointId (map endpointOf qs)
 unfolding endpointOf createEndpoint
@@ -63,19 +64,19 @@ module _ (limit : ℕ) (s : Settings) (m : Sessions) (msg : List ℕ) (p : Passe
   room : RoomLeft limit (kindOf msg) s m x r
   room = subst (λ (q : Request). RoomLeft limit (kindOf msg) s m x q) means (room-left limit (kindOf msg) s m x (readRequest msg) (p .room))
 
-  endpoint-room : length (keep (keptEndpoint (map rowEndpointId (tagged 130 rows))) (x .endpoints)) + length (tagged 127 rows) ≤ 8
+  endpoint-room : length (keep (keptEndpoint (map rowEndpointId (tagged ie.removeEndpoint rows))) (x .endpoints)) + length (tagged ie.createEndpoint rows) ≤ 8
   unfolding keptEndpoint requestIn
   endpoint-room =
-      room-for (length (x .endpoints)) (length (r .goneEndpoints)) (length (r .endpoints)) (length (keep (keptEndpoint (r .goneEndpoints)) (x .endpoints))) (length (tagged 127 rows)) 8
+      room-for (length (x .endpoints)) (length (r .goneEndpoints)) (length (r .endpoints)) (length (keep (keptEndpoint (r .goneEndpoints)) (x .endpoints))) (length (tagged ie.createEndpoint rows)) 8
       (removed-length endpointId (r .goneEndpoints) (x .endpoints) (rules .goneEndpointsOnce) (all-in (r .goneEndpoints) (map endpointId (x .endpoints)) (unfold liveEndpoints in (rules .goneEndpointsLive))))
-      (room .endpoints) (sym (length-map (tagged 127 rows) rowEndpoint))
+      (room .endpoints) (sym (length-map (tagged ie.createEndpoint rows) rowEndpoint))
 
-  pdr-room : length (keep (keptPdr (map rowPdrId (tagged 15 rows))) (x .pdrs)) + length (tagged 1 rows) ≤ 16
+  pdr-room : length (keep (keptPdr (map rowPdrId (tagged ie.removePdr rows))) (x .pdrs)) + length (tagged ie.createPdr rows) ≤ 16
   unfolding keptPdr requestIn
   pdr-room =
-      room-for (length (x .pdrs)) (length (r .gonePdrs)) (length (r .pdrs)) (length (keep (keptPdr (r .gonePdrs)) (x .pdrs))) (length (tagged 1 rows)) 16
+      room-for (length (x .pdrs)) (length (r .gonePdrs)) (length (r .pdrs)) (length (keep (keptPdr (r .gonePdrs)) (x .pdrs))) (length (tagged ie.createPdr rows)) 16
       (removed-length pdrId (r .gonePdrs) (x .pdrs) (rules .gonePdrsOnce) (all-in (r .gonePdrs) (map pdrId (x .pdrs)) (unfold livePdrs in (rules .gonePdrsLive))))
-      (room .pdrs) (sym (length-map (tagged 1 rows) rowPdr))
+      (room .pdrs) (sym (length-map (tagged ie.createPdr rows) rowPdr))
 
   module _ (fit : RowsFit rows) (only : OnlyNull rows) (stored : TeidsStored (grantedTeid (grants s m (readRequest msg))) rows) where
     pub ready : Ready (grantedTeid (grants s m (readRequest msg))) rows x
@@ -86,10 +87,10 @@ module _ (limit : ℕ) (s : Settings) (m : Sessions) (msg : List ℕ) (p : Passe
           csidRows = fit .csidRows;
           endpointRoom = endpoint-room;
           pdrRoom = pdr-room;
-          endpointsOnce = unfold createdEndpoints requestIn in (subst (λ (l : List ℕ). T (not (hasRepeat l))) (endpoint-ids (tagged 127 rows)) (rules .createdEndpointsOnce));
-          endpointsNew = unfold createdEndpoints liveEndpoints requestIn in (subst (λ (l : List ℕ). T (not (anyIn l (map endpointId (x .endpoints))))) (endpoint-ids (tagged 127 rows)) (rules .createdEndpointsNew));
-          pdrsOnce = unfold createdPdrs requestIn in (subst (λ (l : List ℕ). T (not (hasRepeat l))) (pdr-ids (tagged 1 rows)) (rules .createdPdrsOnce));
-          pdrsNew = unfold createdPdrs livePdrs requestIn in (subst (λ (l : List ℕ). T (not (anyIn l (map pdrId (x .pdrs))))) (pdr-ids (tagged 1 rows)) (rules .createdPdrsNew));
+          endpointsOnce = unfold createdEndpoints requestIn in (subst (λ (l : List ℕ). T (not (hasRepeat l))) (endpoint-ids (tagged ie.createEndpoint rows)) (rules .createdEndpointsOnce));
+          endpointsNew = unfold createdEndpoints liveEndpoints requestIn in (subst (λ (l : List ℕ). T (not (anyIn l (map endpointId (x .endpoints))))) (endpoint-ids (tagged ie.createEndpoint rows)) (rules .createdEndpointsNew));
+          pdrsOnce = unfold createdPdrs requestIn in (subst (λ (l : List ℕ). T (not (hasRepeat l))) (pdr-ids (tagged ie.createPdr rows)) (rules .createdPdrsOnce));
+          pdrsNew = unfold createdPdrs livePdrs requestIn in (subst (λ (l : List ℕ). T (not (anyIn l (map pdrId (x .pdrs))))) (pdr-ids (tagged ie.createPdr rows)) (rules .createdPdrsNew));
           endpointTeids = stored .endpointTeids;
           pdrTeids = stored .pdrTeids;
           onlyNull = only;

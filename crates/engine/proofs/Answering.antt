@@ -9,8 +9,9 @@ use lib.Dec.{eqb}
 use Rattle.rules.specs.Limits.{maxSessions}
 use Rattle.rules.specs.Layout.{viewSettings, viewSessions}
 use Rattle.rules.specs.Model.{Sessions}
-use Rattle.rules.specs.Message.{kindOf, headerSeid}
+use Rattle.rules.specs.Message.{kindOf, headerSeid, establishment, deletion}
 use Rattle.rules.specs.Stages.{isLive, unknownSession}
+use Rattle.rules.specs.Causes as why
 use Rattle.areas.specs.Counted.{placeIn}
 use Rattle.session.specs.Areas.{sessionArea}
 use Rattle.slots.specs.declared.Place.{Place}
@@ -21,27 +22,27 @@ use Rattle.engine.specs.Steps.{Changing}
 use Rattle.engine.proofs.VerdictSteps.{no-session}
 use Rattle.engine.proofs.Entering.{live-found, live-absent, other-than}
 
-new-known : (m : Sessions) (msg : List ℕ) → kindOf msg ≡ 50 → unknownSession m msg ≡ false
+new-known : (m : Sessions) (msg : List ℕ) → kindOf msg ≡ establishment → unknownSession m msg ≡ false
 unfolding unknownSession
 new-known m msg e = rw e
 
-unknown-is : (m : Sessions) (msg : List ℕ) (b : Bool) → (kindOf msg ≡ 50 → ⊥) → b ≡ isLive (headerSeid msg) m → unknownSession m msg ≡ not b
+unknown-is : (m : Sessions) (msg : List ℕ) (b : Bool) → (kindOf msg ≡ establishment → ⊥) → b ≡ isLive (headerSeid msg) m → unknownSession m msg ≡ not b
 unfolding unknownSession
-unknown-is m msg b o e = ap₂ (λ (x y : Bool). not x && not y) (other-than (kindOf msg) 50 o) (sym e)
+unknown-is m msg b o e = ap₂ (λ (x y : Bool). not x && not y) (other-than (kindOf msg) establishment o) (sym e)
 
 module _ {t msg out : List ℕ} {kind : ℕ} (a : Asked t msg out) (is : kind ≡ kindOf msg) where
   -- an establishment
-  pub establishes : kind ≡ 50 → Changing t msg out kind 0
+  pub establishes : kind ≡ establishment → Changing t msg out kind 0
   establishes e =
-      let k : kindOf msg ≡ 50 = sym is ∙ e in
-      record { asked = a; live = new-known (viewSessions t) msg k; kindIs = is; other = ap (λ (n : ℕ). eqb n 54) k; found = λ o. absurd (o e) }
+      let k : kindOf msg ≡ establishment = sym is ∙ e in
+      record { asked = a; live = new-known (viewSessions t) msg k; kindIs = is; other = ap (λ (n : ℕ). eqb n deletion) k; found = λ o. absurd (o e) }
 
-  module _ {seid : ℕ} (o : kind ≡ 50 → ⊥) (seidIs : seid ≡ headerSeid msg) {r : Place} (at : r ≡ placeIn sessionArea seid t) where
+  module _ {seid : ℕ} (o : kind ≡ establishment → ⊥) (seidIs : seid ≡ headerSeid msg) {r : Place} (at : r ≡ placeIn sessionArea seid t) where
     at-header : r ≡ placeIn sessionArea (headerSeid msg) t
     at-header = at ∙ ap (λ (n : ℕ). placeIn sessionArea n t) seidIs
 
     -- no such session: cause 65
-    pub absent-refuses : (p : ℕ) → r ≡ Absent p → Refusing t msg out 65 Nothing
+    pub absent-refuses : (p : ℕ) → r ≡ Absent p → Refusing t msg out why.noSession Nothing
     absent-refuses p e =
         record {
           asked = a;
@@ -57,5 +58,5 @@ module _ {t msg out : List ℕ} {kind : ℕ} (a : Asked t msg out) (is : kind �
       named-live = unknown-is (viewSessions t) msg true (λ z. o (is ∙ z)) (live-found t (a .table) (headerSeid msg) p r at-header e)
 
       -- a modification
-      pub modifies : (kind ≡ 54 → ⊥) → Changing t msg out kind p
-      modifies n = record { asked = a; live = named-live; kindIs = is; other = other-than (kindOf msg) 54 (λ z. n (is ∙ z)); found = λ z. sym at-header ∙ e }
+      pub modifies : (kind ≡ deletion → ⊥) → Changing t msg out kind p
+      modifies n = record { asked = a; live = named-live; kindIs = is; other = other-than (kindOf msg) deletion (λ z. n (is ∙ z)); found = λ z. sym at-header ∙ e }

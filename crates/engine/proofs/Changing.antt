@@ -7,7 +7,7 @@ use Prim.Native.Nat.{ℕ, _*_, _≤_, _<_, _^_}
 use native.Mathlib.Omega.{arith}
 use lib.ListN.{length}
 use Rattle.rules.specs.Limits.{maxSessions}
-use Rattle.rules.specs.Layout.{viewSettings, viewSessions}
+use Rattle.rules.specs.Layout.{viewSettings, viewSessions, sessionWidth}
 use Rattle.rules.specs.Elements.{causeOf}
 use Rattle.rules.specs.Message.{frameFault}
 use Rattle.rules.specs.Reading as rules
@@ -87,7 +87,7 @@ module _ {t msg out : List ℕ} {kind p : ℕ} (ch : Changing t msg out kind p) 
             onlyNull = subst (λ (x : Reading). OnlyNull (rowsOf (rowsLeft x) plan)) q (given .onlyNull);
           }
 
-      pub enter-asks : (slot : List ℕ) → w .seid < 2 ^ 64 → length slot ≡ 483 → Entering t msg slot kind (w .seid) p
+      pub enter-asks : (slot : List ℕ) → w .seid < 2 ^ 64 → length slot ≡ sessionWidth → Entering t msg slot kind (w .seid) p
       unfolding requestIn
       enter-asks slot f l =
           record { table = ch .asked .table; tableLong = ch .asked .tableLong; kindIs = ch .kindIs; new = λ e. sym (ap (λ (x : Request). x .seid) is-read); fits = f; found = ch .found; long = l }

@@ -12,12 +12,13 @@ use Rattle.octets.specs.Octets.{put}
 use Rattle.rules.specs.Limits.{maxSessions, maxPdrs, maxEndpoints}
 use Rattle.rules.specs.Model.{Settings, Sessions}
 use Rattle.rules.specs.Layout.{viewSettings, viewSessions}
-use Rattle.rules.specs.Message.{kindOf, headerSeid, frameFault}
+use Rattle.rules.specs.Message.{kindOf, headerSeid, frameFault, establishment, deletion}
 use Rattle.rules.specs.Reading as reading
 use Rattle.rules.specs.Reading.{readFault, readRequest}
 use Rattle.rules.specs.Stages.{Verdict, plain, entrySession, judged, unknownSession}
 use Rattle.rules.specs.Reply.{reply}
 use Rattle.rules.specs.Serve.{replyTo}
+use Rattle.rules.specs.Causes as why
 use Rattle.claim.proofs.ServeLaws.{TableKept, table-kept}
 use Rattle.claim.proofs.VerdictLaws.{passed}
 use Rattle.claim.proofs.Changed.{entry-known}
@@ -49,35 +50,35 @@ module _ (t msg out : List ℕ) (a : Asked t msg out) (live : Live t msg) (fr : 
   known : T (not (unknownSession m msg))
   known = subst (λ (b : Bool). T (not b)) (sym live) tt
 
-  module _ (del : kindOf msg ≡ 54) where
-    accepts : verdictOn t msg ≡ plain 1
+  module _ (del : kindOf msg ≡ deletion) where
+    accepts : verdictOn t msg ≡ plain why.accepted
     unfolding judged
     accepts =
         let k = entry-known maxSessions s m msg (kept .sessions) (a .octets) known rd .kept in
         read-through maxSessions s m msg live fr rd
-        ∙ accepted-empty s m (entrySession m msg) (readRequest msg) (deletion-empty msg del) maxSessions (kindOf msg) (ap (λ (n : ℕ). eqb n 50) del)
+        ∙ accepted-empty s m (entrySession m msg) (readRequest msg) (deletion-empty msg del) maxSessions (kindOf msg) (ap (λ (n : ℕ). eqb n establishment) del)
         (leb→le (length (entrySession m msg .pdrs)) maxPdrs (k .fewPdrs)) (leb→le (length (entrySession m msg .endpoints)) maxEndpoints (k .fewEndpoints))
 
-    same-reply : reply s msg 0 (plain 1) [] ≡ replyTo s m msg (verdictOn t msg)
+    same-reply : reply s msg 0 (plain why.accepted) [] ≡ replyTo s m msg (verdictOn t msg)
     unfolding replyTo
     same-reply =
         let e = deletion-empty msg del in
         λ i. reply s msg (sym (e .seid) i) (sym accepts i) (sym (no-grants s m (entrySession m msg) (readRequest msg) e) i)
 
-    pub deleted-answers : (seid used : ℕ) (out′ t′ : List ℕ) → seid ≡ headerSeid msg → (used, out′) ≡ written (reply s msg 0 (plain 1) []) out → t′ ≡ withoutRecord sessionArea seid t
+    pub deleted-answers : (seid used : ℕ) (out′ t′ : List ℕ) → seid ≡ headerSeid msg → (used, out′) ≡ written (reply s msg 0 (plain why.accepted) []) out → t′ ≡ withoutRecord sessionArea seid t
         → Answers t msg out used out′ t′
     deleted-answers seid used out′ t′ es w d =
         record {
           long = ap (λ (p : ℕ × List ℕ). p .0) w ∙ ap length same-reply;
           space = ap (λ (p : ℕ × List ℕ). p .1) w ∙ ap (λ (l : List ℕ). put 0 l out) same-reply;
           table = d ∙ ap₂ (λ (n : ℕ) (l : List ℕ). withoutRecord sessionArea n l) es (sym (kept .encoded))
-              ∙ deleted-table s (kept .settings) m (kept .sessions) msg (a .octets) (a .kind) (passed maxSessions s m msg (ap (λ (v : Verdict). v .cause) accepts)) (eq-eqb (kindOf msg) 54 del)
+              ∙ deleted-table s (kept .settings) m (kept .sessions) msg (a .octets) (a .kind) (passed maxSessions s m msg (ap (λ (v : Verdict). v .cause) accepts)) (eq-eqb (kindOf msg) deletion del)
               ∙ rw accepts;
         }
 
 -- from what the code's readers answer
-pub deleted-through : (t msg out : List ℕ) (f : Framing) (v : read.Verdict) (seid used : ℕ) (out′ t′ : List ℕ) → Asked t msg out → Live t msg → kindOf msg ≡ 54 → seid ≡ headerSeid msg
+pub deleted-through : (t msg out : List ℕ) (f : Framing) (v : read.Verdict) (seid used : ℕ) (out′ t′ : List ℕ) → Asked t msg out → Live t msg → kindOf msg ≡ deletion → seid ≡ headerSeid msg
     → faultIn f ≡ frameFault msg → f ≡ framings.Framed → outcome v (readRequest msg) ≡ numbered (reading.read msg) → v ≡ Fine
-    → (used, out′) ≡ written (reply (viewSettings t) msg 0 (plain 1) []) out → t′ ≡ withoutRecord sessionArea seid t → Answers t msg out used out′ t′
+    → (used, out′) ≡ written (reply (viewSettings t) msg 0 (plain why.accepted) []) out → t′ ≡ withoutRecord sessionArea seid t → Answers t msg out used out′ t′
 deleted-through t msg out f v seid used out′ t′ a live del es fe fq ve vq w d =
     deleted-answers t msg out a live (framed t msg out a live f fe fq) (read-fine t msg out a live v ve vq) del seid used out′ t′ es w d

@@ -14,11 +14,12 @@ use Rattle.octets.proofs.Tests.{pick-either}
 use Rattle.rules.specs.Limits.{maxPdrs, maxEndpoints}
 use Rattle.rules.specs.Model.{Settings, Session, Sessions, freeCount}
 use Rattle.rules.specs.Elements.{incorrect, Fqcsid, readFqcsid, nodeOf}
-use Rattle.rules.specs.Message.{Element, kindOf, body, elements, actedOn}
+use Rattle.rules.specs.Message.{Element, kindOf, body, elements, actedOn, establishment, deletion}
 use Rattle.rules.specs.Reading.{Request, Reading, faulty, done, refusal, andThen, named, Draft, emptyDraft, csidCountAllowed, withCsid, csidRead, actedRead, elementRead, elementsRead, requestOf, finished, aloneIn, topRead, read, askedIn, readRequest}
 use Rattle.laws.proofs.ReadLaws.{OnDone, then-done}
 use Rattle.rules.specs.Grants.{choices, needFrom, need, grantFrom, grants}
 use Rattle.rules.specs.Stages.{plain, fteidsOf, invalidAllocation, createdPdrs, createdEndpoints, updatedPdrs, idTwice, createdLive, absentId, updatesRemoved, namesAbsent, endpointInUse, restoredHoldings, clash, requestRules, brokenRules, breaksRule, tooManySessions, tooManyPdrs, tooManyEndpoints, tooFewTeids, noRoom, judge}
+use Rattle.rules.specs.Causes as why
 
 -- a request without records
 pub record Empty (r : Request) : Type 0 where
@@ -34,22 +35,22 @@ pub record Empty (r : Request) : Type 0 where
 abbrev NoItems : Draft → Type 0
 NoItems d = d .items ≡ []
 
-csid-unused : (alone : Bool) (v : List ℕ) (d : Draft) → NoItems d → OnDone NoItems (csidRead 54 alone v d)
+csid-unused : (alone : Bool) (v : List ℕ) (d : Draft) → NoItems d → OnDone NoItems (csidRead deletion alone v d)
 unfolding csidRead withCsid readFqcsid
 csid-unused alone [] d h = tt
 csid-unused alone (x ∷ xs) d h = one (named 65 (readFqcsid (x ∷ xs)))
   where
-    one : (r : Reading Fqcsid) → OnDone NoItems (andThen r (λ c. pick (csidCountAllowed 54 c && not (member (nodeOf c) (d .nodes))) (done (withCsid 54 c d)) (refusal incorrect 65)))
+    one : (r : Reading Fqcsid) → OnDone NoItems (andThen r (λ c. pick (csidCountAllowed deletion c && not (member (nodeOf c) (d .nodes))) (done (withCsid deletion c d)) (refusal incorrect 65)))
     one (faulty f) = tt
-    one (done c) = pick-either (OnDone NoItems) (csidCountAllowed 54 c && not (member (nodeOf c) (d .nodes))) (done (withCsid 54 c d)) (refusal incorrect 65) h tt
+    one (done c) = pick-either (OnDone NoItems) (csidCountAllowed deletion c && not (member (nodeOf c) (d .nodes))) (done (withCsid deletion c d)) (refusal incorrect 65) h tt
 
-unused : (alone : Bool) (es : List Element) (d : Draft) → NoItems d → OnDone NoItems (elementsRead 54 alone es d)
+unused : (alone : Bool) (es : List Element) (d : Draft) → NoItems d → OnDone NoItems (elementsRead deletion alone es d)
 unfolding elementsRead elementRead actedOn member actedRead
 unused alone [] d h = h
 unused alone (e ∷ es) d h =
-    then-done NoItems NoItems (elementRead 54 alone e d) (elementsRead 54 alone es) (one (eqb (e .type) 65) refl) (λ d′ h′. unused alone es d′ h′)
+    then-done NoItems NoItems (elementRead deletion alone e d) (elementsRead deletion alone es) (one (eqb (e .type) 65) refl) (λ d′ h′. unused alone es d′ h′)
   where
-    one : (b : Bool) → eqb (e .type) 65 ≡ b → OnDone NoItems (pick (b || false) (actedRead 54 alone (e .type) (e .content) d) (done d))
+    one : (b : Bool) → eqb (e .type) 65 ≡ b → OnDone NoItems (pick (b || false) (actedRead deletion alone (e .type) (e .content) d) (done d))
     one true q = rw (eqb-true (e .type) 65 q) (csid-unused alone (e .content) d h)
     one false q = h
 
@@ -58,14 +59,14 @@ unfolding requestOf collect any
 empty-of d h = rw h (record { seid = refl; pdrs = refl; endpoints = refl; changes = refl; gonePdrs = refl; goneEndpoints = refl; unsupported = refl })
 
 -- so a deletion has no records
-asked-empty : (r : Reading Draft) → OnDone NoItems r → Empty (askedIn (andThen r (finished 54)))
+asked-empty : (r : Reading Draft) → OnDone NoItems r → Empty (askedIn (andThen r (finished deletion)))
 unfolding askedIn finished
 asked-empty (faulty f) h = empty-of emptyDraft refl
 asked-empty (done d) h = empty-of d h
 
-pub deletion-empty : (msg : List ℕ) → kindOf msg ≡ 54 → Empty (readRequest msg)
+pub deletion-empty : (msg : List ℕ) → kindOf msg ≡ deletion → Empty (readRequest msg)
 unfolding readRequest read topRead
-deletion-empty msg e = let es = elements (body msg) in rw e (asked-empty (elementsRead 54 (aloneIn es) es emptyDraft) (unused (aloneIn es) es emptyDraft refl))
+deletion-empty msg e = let es = elements (body msg) in rw e (asked-empty (elementsRead deletion (aloneIn es) es emptyDraft) (unused (aloneIn es) es emptyDraft refl))
 
 -- with no records no rule is broken and nothing is short
 module _ (s : Settings) (m : Sessions) (x : Session) (r : Request) (e : Empty r) where
@@ -93,7 +94,7 @@ module _ (s : Settings) (m : Sessions) (x : Session) (r : Request) (e : Empty r)
   unfolding grants grantFrom choices collect
   no-grants = rw (e .endpoints, e .pdrs)
 
-  room : (limit kind : ℕ) → eqb kind 50 ≡ false → length (x .pdrs) ≤ 16 → length (x .endpoints) ≤ 8 → noRoom limit kind s m x r ≡ false
+  room : (limit kind : ℕ) → eqb kind establishment ≡ false → length (x .pdrs) ≤ 16 → length (x .endpoints) ≤ 8 → noRoom limit kind s m x r ≡ false
   unfolding noRoom tooManySessions tooManyPdrs tooManyEndpoints tooFewTeids
   room limit kind k a b =
       let p : ltb maxPdrs (length (x .pdrs) - 0 + 0) ≡ false = le-ltb maxPdrs (length (x .pdrs) - 0 + 0) (omega arith) in
@@ -101,6 +102,6 @@ module _ (s : Settings) (m : Sessions) (x : Session) (r : Request) (e : Empty r)
       let f : ltb (freeCount s m) 0 ≡ false = le-ltb (freeCount s m) 0 (omega arith) in
       rw (needs-none, f, k, e .pdrs, e .endpoints, e .gonePdrs, e .goneEndpoints, p, q)
 
-  pub accepted-empty : (limit kind : ℕ) → eqb kind 50 ≡ false → length (x .pdrs) ≤ 16 → length (x .endpoints) ≤ 8 → judge limit kind s m x r ≡ plain 1
+  pub accepted-empty : (limit kind : ℕ) → eqb kind establishment ≡ false → length (x .pdrs) ≤ 16 → length (x .endpoints) ≤ 8 → judge limit kind s m x r ≡ plain why.accepted
   unfolding judge
   accepted-empty limit kind k a b = rw (kept, room limit kind k a b, allocated, k, e .unsupported)

@@ -17,9 +17,9 @@ use Rattle.octets.proofs.Numbers.{number-be}
 use Rattle.octets.proofs.ListLaws.{all-every, found-knows}
 use Rattle.rules.specs.Limits.{maxSessions}
 use Rattle.rules.specs.Model.{Settings, Session, Sessions}
-use Rattle.rules.specs.Layout.{sessionOctets, encode, viewSession, viewArea, viewSettings, viewSessions, sessionHead, pdrWidth, endpointWidth, csidWidth}
+use Rattle.rules.specs.Layout.{sessionOctets, encode, viewSession, viewArea, viewSettings, viewSessions, pdrWidth, endpointWidth, csidWidth, sessionWidth, tableLength}
 use Rattle.rules.specs.Sound.{sound, sessionAllowed, sessionsTests, sessionsAllowed}
-use Rattle.rules.specs.Message.{kindOf, headerSeid}
+use Rattle.rules.specs.Message.{kindOf, headerSeid, establishment}
 use Rattle.rules.specs.Reading.{readRequest}
 use Rattle.rules.specs.Stages.{hasSeid, sessionOf, isLive, newSession, atEntry, entrySession}
 use Rattle.laws.proofs.LayoutLaws.{session-back}
@@ -35,12 +35,12 @@ use Rattle.engine.specs.Steps.{Fetching, Fetched, Entered}
 -- where the session at entry comes from: the SEID of an establishment's F-SEID, or the place of the header's session in the table
 pub record Entering (t msg slot : List ℕ) (kind seid p : ℕ) : Type 0 where
   pub table : T (sound maxSessions t)
-  pub tableLong : length t ≡ 30943
+  pub tableLong : length t ≡ tableLength maxSessions
   pub kindIs : kind ≡ kindOf msg
-  pub new : kind ≡ 50 → seid ≡ readRequest msg .seid
+  pub new : kind ≡ establishment → seid ≡ readRequest msg .seid
   pub fits : seid < 2 ^ 64
-  pub found : (kind ≡ 50 → ⊥) → placeIn sessionArea (headerSeid msg) t ≡ Found p
-  pub long : length slot ≡ 483
+  pub found : (kind ≡ establishment → ⊥) → placeIn sessionArea (headerSeid msg) t ≡ Found p
+  pub long : length slot ≡ sessionWidth
 
 module _ (t : List ℕ) (h : T (sound maxSessions t)) where
   abbrev s : Settings
@@ -71,7 +71,7 @@ module _ (t : List ℕ) (h : T (sound maxSessions t)) where
   unfolding sessionOf
   live-allowed n x e = found-knows (λ (y : Session). T (sessionAllowed s y)) (hasSeid n) m x (all-every (sessionAllowed s) m each-allowed) e
 
-new-entry : (m : Sessions) (msg : List ℕ) → kindOf msg ≡ 50 → entrySession m msg ≡ newSession (readRequest msg .seid)
+new-entry : (m : Sessions) (msg : List ℕ) → kindOf msg ≡ establishment → entrySession m msg ≡ newSession (readRequest msg .seid)
 unfolding entrySession atEntry
 new-entry m msg e = rw e
 
@@ -82,16 +82,16 @@ other-than k n h = go (eqb k n) refl
     go true e = absurd (h (eqb-true k n e))
     go false e = refl
 
-live-entry : (m : Sessions) (msg : List ℕ) (x : Session) → (kindOf msg ≡ 50 → ⊥) → sessionOf (headerSeid msg) m ≡ some x → entrySession m msg ≡ x
+live-entry : (m : Sessions) (msg : List ℕ) (x : Session) → (kindOf msg ≡ establishment → ⊥) → sessionOf (headerSeid msg) m ≡ some x → entrySession m msg ≡ x
 unfolding entrySession atEntry
-live-entry m msg x h e = rw (other-than (kindOf msg) 50 h, e)
+live-entry m msg x h e = rw (other-than (kindOf msg) establishment h, e)
 
 new-viewed : (n : ℕ) → n < 2 ^ 64 → viewSession (sessionOctets (newSession n)) ≡ newSession n
-unfolding newSession sessionOctets viewSession viewArea numberAt octetAt sessionHead pdrWidth endpointWidth csidWidth be slices
+unfolding newSession sessionOctets viewSession viewArea numberAt octetAt be slices
 new-viewed n h = λ j. record { seid = number-be 8 n h j; pdrs = []; endpoints = []; csids = [] }
 
 -- a new session in its slot
-entered-new : (t msg slot slot′ : List ℕ) (kind seid p : ℕ) (live : Bool) → Entering t msg slot kind seid p → kind ≡ 50 → slot′ ≡ put 0 (be 8 seid) (zeros 483) → length slot′ ≡ 483
+entered-new : (t msg slot slot′ : List ℕ) (kind seid p : ℕ) (live : Bool) → Entering t msg slot kind seid p → kind ≡ establishment → slot′ ≡ put 0 (be 8 seid) (zeros sessionWidth) → length slot′ ≡ sessionWidth
     → live ≡ isLive seid (viewSessions t) → Entered t msg kind seid live slot′
 entered-new t msg slot slot′ kind seid p live a k e long l =
     let fresh : slot′ ≡ sessionOctets (newSession seid) = e ∙ fresh-slot seid in
@@ -100,7 +100,7 @@ entered-new t msg slot slot′ kind seid p live a k e long l =
     record { entry = fresh ∙ ap sessionOctets at; viewed = viewed ∙ at; place = slot-new slot′ seid long viewed; known = λ z. l }
 
 -- a live session in its slot
-module _ (t msg slot : List ℕ) (kind seid p : ℕ) (a : Entering t msg slot kind seid p) (other : kind ≡ 50 → ⊥) where
+module _ (t msg slot : List ℕ) (kind seid p : ℕ) (a : Entering t msg slot kind seid p) (other : kind ≡ establishment → ⊥) where
   sound-table : T (sound maxSessions t)
   sound-table = a .table
 
@@ -113,11 +113,11 @@ module _ (t msg slot : List ℕ) (kind seid p : ℕ) (a : Entering t msg slot ki
   there : placeIn sessionArea (headerSeid msg) (encode maxSessions (viewSettings t) (viewSessions t)) ≡ Found p
   there = ap (placeIn sessionArea (headerSeid msg)) (k .encoded) ∙ a .found other
 
-  found : (p < 64) × (sessionOf (headerSeid msg) (viewSessions t) ≡ some x)
+  found : (p < maxSessions) × (sessionOf (headerSeid msg) (viewSessions t) ≡ some x)
   unfolding x
   found = session-found (viewSettings t) (k .settings) (viewSessions t) (k .sessions) (headerSeid msg) p (newSession 0) there
 
-  place-within : p < 64
+  place-within : p < maxSessions
   place-within = found .0
 
   allowed : T (sessionAllowed (viewSettings t) x)
@@ -126,10 +126,10 @@ module _ (t msg slot : List ℕ) (kind seid p : ℕ) (a : Entering t msg slot ki
   is-entry : x ≡ entrySession (viewSessions t) msg
   is-entry = sym (live-entry (viewSessions t) msg x (λ e. other (a .kindIs ∙ e)) (found .1))
 
-  entered-live : (live : Bool) (slot′ : List ℕ) → slot′ ≡ part (p * 483) 483 (areaIn sessionArea t) → length slot′ ≡ 483 → Entered t msg kind seid live slot′
+  entered-live : (live : Bool) (slot′ : List ℕ) → slot′ ≡ part (p * sessionWidth) sessionWidth (areaIn sessionArea t) → length slot′ ≡ sessionWidth → Entered t msg kind seid live slot′
   unfolding x
   entered-live live slot′ e long =
-      let loaded : slot′ ≡ sessionOctets x = e ∙ ap (λ (u : List ℕ). part (p * 483) 483 (areaIn sessionArea u)) (sym (k .encoded)) ∙ session-loaded (viewSettings t) (k .settings) (viewSessions t) (k .sessions) (headerSeid msg) p (newSession 0) there in
+      let loaded : slot′ ≡ sessionOctets x = e ∙ ap (λ (u : List ℕ). part (p * sessionWidth) sessionWidth (areaIn sessionArea u)) (sym (k .encoded)) ∙ session-loaded (viewSettings t) (k .settings) (viewSessions t) (k .sessions) (headerSeid msg) p (newSession 0) there in
       let viewed : viewSession slot′ ≡ x = ap viewSession loaded ∙ session-back (viewSettings t) (k .settings) x allowed in
       record { entry = loaded ∙ ap sessionOctets is-entry; viewed = viewed ∙ is-entry; place = slot-live (viewSettings t) slot′ x long viewed allowed; known = λ z. absurd (other z) }
 
@@ -139,8 +139,8 @@ module _ (t msg slot : List ℕ) (kind seid p : ℕ) (a : Entering t msg slot ki
   fetch-asks = record { table = a .table; tableLong = a .tableLong; fits = a .fits; there = λ n. place-within t msg slot kind seid p a n; long = a .long }
 
   pub entered : (live : Bool) (slot′ : List ℕ) → Fetched t kind seid p live slot′ → Entered t msg kind seid live slot′
-  entered live slot′ f = go (ℕ-discrete kind 50)
+  entered live slot′ f = go (ℕ-discrete kind establishment)
     where
-      go : Dec (kind ≡ 50) → Entered t msg kind seid live slot′
+      go : Dec (kind ≡ establishment) → Entered t msg kind seid live slot′
       go (yes e) = entered-new t msg slot slot′ kind seid p live a e (f .new e) (f .long) (f .known e)
       go (no n) = entered-live t msg slot kind seid p a n live slot′ (f .old n) (f .long)

@@ -10,6 +10,7 @@ use Rattle.rules.specs.Layout.{viewSettings, viewSessions}
 use Rattle.rules.specs.Elements.{Refusal, missing, conditional, tooShort, incorrect, causeOf}
 use Rattle.rules.specs.Message.{frameFault}
 use Rattle.rules.specs.Reading.{Fault, Request, Reading, faulty, done, read, faultIn, readFault, readRequest}
+use Rattle.rules.specs.Causes as why
 use Rattle.frame.specs.Framed as frame
 use Rattle.frame.specs.declared.Framing.{Framing}
 use Rattle.frame.specs.declared.Framing.the-variants as framings
@@ -30,7 +31,7 @@ small-cause incorrect = (omega arith, λ e. omega arith)
 
 module _ (t msg out : List ℕ) (a : Asked t msg out) (live : Live t msg) where
   -- stage 2
-  pub not-framed-refuses : (k : ℕ) → frameFault msg ≡ some k → Refusing t msg out 68 (Element k)
+  pub not-framed-refuses : (k : ℕ) → frameFault msg ≡ some k → Refusing t msg out why.wrongLength (Element k)
   not-framed-refuses k e = record { asked = a; verdict = not-framed maxSessions (viewSettings t) (viewSessions t) msg live k e; small = omega arith; other = λ z. omega arith }
 
   -- stage 3
@@ -45,7 +46,7 @@ module _ (t msg out : List ℕ) (a : Asked t msg out) (live : Live t msg) where
         other = λ z. s .1 (ec ∙ z);
       }
 
-  pub frame-refuses : (f : Framing) (k : ℕ) → frame.faultIn f ≡ frameFault msg → f ≡ framings.Fault k → Refusing t msg out 68 (Element k)
+  pub frame-refuses : (f : Framing) (k : ℕ) → frame.faultIn f ≡ frameFault msg → f ≡ framings.Fault k → Refusing t msg out why.wrongLength (Element k)
   frame-refuses f k e q = not-framed-refuses k (sym e ∙ ap frame.faultIn q)
 
   pub framed : (f : Framing) → frame.faultIn f ≡ frameFault msg → f ≡ framings.Framed → frameFault msg ≡ none

@@ -15,7 +15,7 @@ use Rattle.rules.specs.Model.{Settings, Session, Sessions, Pdr, Endpoint, Csid,
 use Rattle.rules.specs.Elements.{nodeTypeKept}
 use Rattle.rules.specs.Layout.{sessionOctets, encode}
 use Rattle.rules.specs.Sound.{settingsAllowed, sessionAllowed, sessionsAllowed, pdrAllowed, endpointAllowed, csidAllowed}
-use Rattle.rules.specs.Message.{kindOf, headerSeid, served}
+use Rattle.rules.specs.Message.{kindOf, headerSeid, served, deletion}
 use Rattle.rules.specs.Reading.{readRequest, Request}
 use Rattle.rules.specs.Grants.{Kind, grants, grantedTeid}
 use Rattle.rules.specs.Stages.{entrySession}
@@ -76,13 +76,13 @@ slot-holds s x slot k e =
 module _ (s : Settings) (hs : T (settingsAllowed s)) (m : Sessions) (hm : T (sessionsAllowed maxSessions s m)) (msg : List ℕ) (ho : T (octets msg)) (hk : T (served (kindOf msg)))
     (p : Passed maxSessions s m msg) where
   -- a deletion
-  pub deleted-table : eqb (kindOf msg) 54 ≡ true → withoutRecord sessionArea (headerSeid msg) (encode maxSessions s m) ≡ encode maxSessions s (sessionsAfter s m msg)
+  pub deleted-table : eqb (kindOf msg) deletion ≡ true → withoutRecord sessionArea (headerSeid msg) (encode maxSessions s m) ≡ encode maxSessions s (sessionsAfter s m msg)
   unfolding sessionsAfter follow
   deleted-table e = session-removed s hs m hm (headerSeid msg) ∙ ap (encode maxSessions s) (rw e)
 
   -- an establishment or a modification
-  module _ (other : eqb (kindOf msg) 54 ≡ false) where
-    not-deletion : T (not (eqb (kindOf msg) 54))
+  module _ (other : eqb (kindOf msg) deletion ≡ false) where
+    not-deletion : T (not (eqb (kindOf msg) deletion))
     not-deletion = subst (λ (b : Bool). T (not b)) (sym other) tt
 
     abbrev teids : Kind → ℕ → ℕ
@@ -99,7 +99,7 @@ module _ (s : Settings) (hs : T (settingsAllowed s)) (m : Sessions) (hm : T (ses
     unfolding changed ChangedSound
     new-allowed = changed-sound maxSessions s m msg hs hm ho hk not-deletion p .sound
 
-    few-after : length (putSession new m) ≤ 64
+    few-after : length (putSession new m) ≤ maxSessions
     unfolding SoundAfter
     few-after =
         leb→le (length (putSession new m)) maxSessions

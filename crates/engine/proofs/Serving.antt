@@ -16,7 +16,7 @@ use Rattle.rules.specs.Limits.{maxSessions, mapWords, maxMessage, minSpace}
 use Rattle.rules.specs.Model.{heldTeids, freeCount}
 use Rattle.rules.specs.Layout.{viewSettings, viewSessions, tableLength, headWidth, sessionWidth}
 use Rattle.rules.specs.Sound.{sound}
-use Rattle.rules.specs.Message.{kindOf, headerSeid, headerAllowed, served}
+use Rattle.rules.specs.Message.{kindOf, headerSeid, headerAllowed, served, establishment, modification, deletion}
 use Rattle.rules.specs.Serve.{unserved, replyTo, answered, answer, serveSound, serve}
 use Rattle.claim.proofs.ServeLaws.{table-kept}
 use Rattle.frame.specs.HeaderOf.{outcome, request, opened, headerOf}
@@ -43,12 +43,12 @@ allowed-header msg k n = by-tests (ltb maxMessage (length msg)) (headerAllowed m
 
 small-kind : (k : ℕ) → served k ≡ true → k < 255
 unfolding served
-small-kind k = go (eqb k 50) (eqb k 52) (eqb k 54) refl refl refl
+small-kind k = go (eqb k establishment) (eqb k modification) (eqb k deletion) refl refl refl
   where
-    go : (a b c : Bool) → eqb k 50 ≡ a → eqb k 52 ≡ b → eqb k 54 ≡ c → (a || b || c) ≡ true → k < 255
-    go true b c x y z h = let e = eqb-true k 50 x in omega arith
-    go false true c x y z h = let e = eqb-true k 52 y in omega arith
-    go false false true x y z h = let e = eqb-true k 54 z in omega arith
+    go : (a b c : Bool) → eqb k establishment ≡ a → eqb k modification ≡ b → eqb k deletion ≡ c → (a || b || c) ≡ true → k < 255
+    go true b c x y z h = let e = eqb-true k establishment x in omega arith
+    go false true c x y z h = let e = eqb-true k modification y in omega arith
+    go false false true x y z h = let e = eqb-true k deletion z in omega arith
     go false false false x y z h = absurd (subst T (sym h) tt)
 
 -- an outcome without a reply
@@ -105,7 +105,7 @@ module _ (t msg out : List ℕ) where
                 header = of-true (allowed-header msg kind seid is-request);
                 kind = of-true (q .2);
                 octets = o;
-                tableLong = unfold tableLength headWidth sessionWidth in (table-kept maxSessions t (of-true is-sound) .whole);
+                tableLong = (table-kept maxSessions t (of-true is-sound) .whole);
                 whole = b .0;
                 below = small-kind (kindOf msg) (q .2);
               }

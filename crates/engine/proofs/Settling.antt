@@ -15,6 +15,7 @@ use Rattle.rules.specs.Sound.{poolTests, settingsTests, settingsAllowed}
 use Rattle.rules.specs.Message.{establishment}
 use Rattle.rules.specs.Reading.{Request}
 use Rattle.rules.specs.Stages.{Verdict, plain, isLive, invalidAllocation, breaksRule, noRoom, judge, judged}
+use Rattle.rules.specs.Causes as why
 use Rattle.claim.proofs.ServeLaws.{TableKept, table-kept}
 use Rattle.claim.proofs.FreeTeids.{held-in-pool}
 use Rattle.pool.proofs.TakenLaws.{Means, map-means}
@@ -31,7 +32,7 @@ judge-small : (limit kind : ℕ) (s : Settings) (m : Sessions) (x : Session) (r 
 unfolding judge
 judge-small limit kind s m x r = one (eqb kind establishment && isLive (r .seid) m) (invalidAllocation r) (r .unsupported) (breaksRule s m x r) (noRoom limit kind s m x r)
   where
-    one : (a b c d e : Bool) → pick a (plain 64) (pick b (plain 71) (pick c (plain 76) (pick d (plain 73) (pick e (plain 75) (plain 1))))) .cause < 256
+    one : (a b c d e : Bool) → pick a (plain why.rejected) (pick b (plain why.wrongAllocation) (pick c (plain why.notSupported) (pick d (plain why.brokenRule) (pick e (plain why.noRoom) (plain why.accepted))))) .cause < 256
     one true b c d e = omega arith
     one false true c d e = omega arith
     one false false true d e = omega arith

@@ -10,16 +10,17 @@ use Rattle.rules.specs.Elements.{causeOf}
 use Rattle.rules.specs.Message.{frameFault}
 use Rattle.rules.specs.Reading.{Fault, readFault}
 use Rattle.rules.specs.Stages.{plain, judged, fromReading, fromFraming, unknownSession, verdict}
+use Rattle.rules.specs.Causes as why
 
 module _ (limit : ℕ) (s : Settings) (m : Sessions) (msg : List ℕ) where
   -- stage 1
-  pub no-session : unknownSession m msg ≡ true → verdict limit s m msg ≡ plain 65
+  pub no-session : unknownSession m msg ≡ true → verdict limit s m msg ≡ plain why.noSession
   unfolding verdict
   no-session e = rw e
 
   module _ (known : unknownSession m msg ≡ false) where
     -- stage 2
-    pub not-framed : (t : ℕ) → frameFault msg ≡ some t → verdict limit s m msg ≡ record { cause = 68; offending = some t }
+    pub not-framed : (t : ℕ) → frameFault msg ≡ some t → verdict limit s m msg ≡ record { cause = why.wrongLength; offending = some t }
     unfolding verdict fromFraming
     not-framed t e = rw (known, e)
 

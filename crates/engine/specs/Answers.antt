@@ -10,13 +10,15 @@ use Rattle.octets.specs.Choice.{pick}
 use Rattle.octets.specs.Octets.{octets, put}
 use Rattle.octets.specs.Lists.{any, collect}
 use Rattle.rules.specs.Limits.{maxSessions, maxPool, mapWords, maxMessage, minSpace}
-use Rattle.rules.specs.Layout.{sessionOctets, encode, viewSettings, viewSessions}
+use Rattle.rules.specs.Layout.{sessionOctets, encode, viewSettings, viewSessions, sessionWidth, tableLength}
 use Rattle.rules.specs.Sound.{sound, takenMap}
-use Rattle.rules.specs.Message.{kindOf, headerAllowed, served}
+use Rattle.rules.specs.Message.{kindOf, headerAllowed, served, deletion}
 use Rattle.rules.specs.Reading.{readRequest}
 use Rattle.rules.specs.Stages.{Verdict, plain, entrySession, unknownSession, verdict}
 use Rattle.rules.specs.Serve.{sessionsAfter, replyTo}
 use Rattle.plan.specs.Rows.{rowWidth, rowsOf, tagged, rowCsid, isNullRow, requestIn}
+use Rattle.rules.specs.Types as ie
+use Rattle.rules.specs.Causes as why
 use Rattle.reply.specs.declared.Offending.{Offending}
 use Rattle.reply.specs.Naming.{refusal}
 
@@ -28,7 +30,7 @@ pub record Asked (t msg out : List ℕ) : Type 0 where
   pub header : T (headerAllowed msg)
   pub kind : T (served (kindOf msg))
   pub octets : T (octets msg)
-  pub tableLong : length t ≡ 30943
+  pub tableLong : length t ≡ tableLength maxSessions
   pub whole : 16 ≤ length msg
   pub below : kindOf msg < 255
 
@@ -44,7 +46,7 @@ verdictOn t msg = verdict maxSessions (viewSettings t) (viewSessions t) msg
 pub record Answers (t msg out : List ℕ) (used : ℕ) (out′ t′ : List ℕ) : Type 0 where
   pub long : used ≡ length (replyTo (viewSettings t) (viewSessions t) msg (verdictOn t msg))
   pub space : out′ ≡ put 0 (replyTo (viewSettings t) (viewSessions t) msg (verdictOn t msg)) out
-  pub table : t′ ≡ pick (eqb (verdictOn t msg .cause) 1) (encode maxSessions (viewSettings t) (sessionsAfter (viewSettings t) (viewSessions t) msg)) t
+  pub table : t′ ≡ pick (eqb (verdictOn t msg .cause) why.accepted) (encode maxSessions (viewSettings t) (sessionsAfter (viewSettings t) (viewSessions t) msg)) t
 
 -- the verdict is a refusal, by its cause and the element that it names
 pub record Refusing (t msg out : List ℕ) (c : ℕ) (o : Offending) : Type 0 where
@@ -55,20 +57,20 @@ pub record Refusing (t msg out : List ℕ) (c : ℕ) (o : Offending) : Type 0 wh
 
 -- where a row removes all FQ-CSIDs, none sets or removes a node type's
 abbrev pub OnlyNull : List (List ℕ) → Type 0
-OnlyNull rows = any isNullRow (tagged 65 rows) ≡ true → collect rowCsid (tagged 65 rows) ≡ []
+OnlyNull rows = any isNullRow (tagged ie.fqcsid rows) ≡ true → collect rowCsid (tagged ie.fqcsid rows) ≡ []
 
 -- the verdict is acceptance: the plan is the request's, the slot holds the session at entry, and the map marks the TEIDs held
 pub record Accepting (t words msg slot plan out : List ℕ) (seid n : ℕ) : Type 0 where
   pub asked : Asked t msg out
-  pub verdict : verdictOn t msg ≡ plain 1
-  pub other : eqb (kindOf msg) 54 ≡ false
+  pub verdict : verdictOn t msg ≡ plain why.accepted
+  pub other : eqb (kindOf msg) deletion ≡ false
   pub restoring : Bool
   pub noted : Bool
   pub means : readRequest msg ≡ requestIn seid restoring noted (rowsOf n plan)
   pub rows : n * rowWidth ≤ length plan
   pub onlyNull : OnlyNull (rowsOf n plan)
   pub entry : slot ≡ sessionOctets (entrySession (viewSessions t) msg)
-  pub slotLong : length slot ≡ 483
+  pub slotLong : length slot ≡ sessionWidth
   pub marks : words ≡ takenMap (viewSettings t) (viewSessions t)
   pub mapLong : length words ≡ mapWords
   pub size : viewSettings t .size ≤ maxPool

@@ -10,9 +10,9 @@ use Rattle.octets.specs.Choice.{pick}
 use Rattle.octets.specs.Octets.{be, part, put, zeros}
 use Rattle.rules.specs.Limits.{maxSessions, mapWords}
 use Rattle.rules.specs.Model.{freeCount}
-use Rattle.rules.specs.Layout.{sessionOctets, viewSession, viewSettings, viewSessions}
+use Rattle.rules.specs.Layout.{sessionOctets, viewSession, viewSettings, viewSessions, sessionWidth, tableLength}
 use Rattle.rules.specs.Sound.{sound, takenMap}
-use Rattle.rules.specs.Message.{kindOf, headerSeid}
+use Rattle.rules.specs.Message.{kindOf, headerSeid, establishment, deletion}
 use Rattle.rules.specs.Reading.{readRequest}
 use Rattle.rules.specs.Stages.{isLive, entrySession, judged}
 use Rattle.rules.specs.Serve.{replyTo, serve}
@@ -32,30 +32,30 @@ pub record Counted (t words : List ℕ) (free : ℕ) : Type 0 where
 -- what fetching the session at entry asks: a place in the table, unless the session is new
 pub record Fetching (t slot : List ℕ) (kind seid p : ℕ) : Type 0 where
   pub table : T (sound maxSessions t)
-  pub tableLong : length t ≡ 30943
+  pub tableLong : length t ≡ tableLength maxSessions
   pub fits : seid < 2 ^ 64
-  pub there : (kind ≡ 50 → ⊥) → p < 64
-  pub long : length slot ≡ 483
+  pub there : (kind ≡ establishment → ⊥) → p < maxSessions
+  pub long : length slot ≡ sessionWidth
 
 -- what it leaves and answers: a new session's slot and whether its SEID is live, or the slot at the place
 pub record Fetched (t : List ℕ) (kind seid p : ℕ) (live : Bool) (slot : List ℕ) : Type 0 where
-  pub long : length slot ≡ 483
-  pub new : kind ≡ 50 → slot ≡ put 0 (be 8 seid) (zeros 483)
-  pub known : kind ≡ 50 → live ≡ isLive seid (viewSessions t)
-  pub old : (kind ≡ 50 → ⊥) → slot ≡ part (p * 483) 483 (areaIn sessionArea t)
+  pub long : length slot ≡ sessionWidth
+  pub new : kind ≡ establishment → slot ≡ put 0 (be 8 seid) (zeros sessionWidth)
+  pub known : kind ≡ establishment → live ≡ isLive seid (viewSessions t)
+  pub old : (kind ≡ establishment → ⊥) → slot ≡ part (p * sessionWidth) sessionWidth (areaIn sessionArea t)
 
 -- the session at entry in its slot, and whether the SEID of an establishment is live
 pub record Entered (t msg : List ℕ) (kind seid : ℕ) (live : Bool) (slot : List ℕ) : Type 0 where
   pub entry : slot ≡ sessionOctets (entrySession (viewSessions t) msg)
   pub viewed : viewSession slot ≡ entrySession (viewSessions t) msg
   pub place : Slot slot
-  pub known : kind ≡ 50 → live ≡ isLive seid (viewSessions t)
+  pub known : kind ≡ establishment → live ≡ isLive seid (viewSessions t)
 
 -- a request without a fault, as the rows of its plan, that is not a deletion
 pub record Readable (t msg out plan : List ℕ) (kind seid n : ℕ) (restoring noted : Bool) : Type 0 where
   pub asked : Asked t msg out
   pub kindIs : kind ≡ kindOf msg
-  pub other : eqb (kindOf msg) 54 ≡ false
+  pub other : eqb (kindOf msg) deletion ≡ false
   pub verdict : verdictOn t msg ≡ judged maxSessions (viewSettings t) (viewSessions t) msg
   pub means : readRequest msg ≡ requestIn seid restoring noted (rowsOf n plan)
   pub rows : n * rowWidth ≤ length plan
@@ -66,8 +66,8 @@ pub record Changing (t msg out : List ℕ) (kind p : ℕ) : Type 0 where
   pub asked : Asked t msg out
   pub live : Live t msg
   pub kindIs : kind ≡ kindOf msg
-  pub other : eqb (kindOf msg) 54 ≡ false
-  pub found : (kind ≡ 50 → ⊥) → placeIn sessionArea (headerSeid msg) t ≡ Found p
+  pub other : eqb (kindOf msg) deletion ≡ false
+  pub found : (kind ≡ establishment → ⊥) → placeIn sessionArea (headerSeid msg) t ≡ Found p
 
 -- the whole call: outcome, reply space and table are the rules', and `used` is the length of the reply, 0 where there is none
 pub record Serves (t msg out : List ℕ) (outcome used : ℕ) (out′ t′ : List ℕ) : Type 0 where

@@ -3,7 +3,7 @@
 ghost use mathlib.Core.Path.{_≡_};
 ghost use Prim.Native.Nat.{_*_, _≤_};
 ghost use lib.ListN.{length};
-ghost use Rattle.rules.specs.Message.{kindOf, headerSeid};
+ghost use Rattle.rules.specs.Message.{kindOf, headerSeid, deletion};
 ghost use Rattle.plan.specs.Rows.{rowWidth, rowsOf};
 ghost use Rattle.areas.specs.Counted.{withRecord};
 ghost use Rattle.session.specs.Areas.{sessionArea};
@@ -12,9 +12,11 @@ ghost use Rattle.engine.specs.Answers.{Asked, Live, Answers, Refusing, A
 ghost use Rattle.engine.specs.Steps.{Counted, Fetching, Fetched, Entered, Readable, Changing, Serves};
 ghost use lib.Dec.{T};
 ghost use Rattle.rules.specs.Limits.{maxSessions};
-ghost use Rattle.rules.specs.Layout.{viewSessions};
+ghost use Rattle.rules.specs.Layout.{viewSessions, sessionWidth, tableLength};
 ghost use Rattle.rules.specs.Sound.{sound};
 ghost use Rattle.rules.specs.Stages.{isLive};
+use format::causes;
+use format::kinds;
 use frame::Framing;
 use frame::header::Header;
 use pool::Taken;
@@ -34,12 +36,12 @@ fn refuse(t: &[u8], msg: &[u8], cause: u64, offending: Offending, out: &mut [u8]
 
 // A deletion of a live session.
 fn delete(t: &mut [u8], msg: &[u8], seid: u64, out: &mut [u8]) -> usize
-    requires { ⌜ Asked (now t) (now msg) (now out) × Live (now t) (now msg) × (kindOf (now msg) ≡ 54) × (seid ≡ headerSeid (now msg)) ⌝ }
+    requires { ⌜ Asked (now t) (now msg) (now out) × Live (now t) (now msg) × (kindOf (now msg) ≡ deletion) × (seid ≡ headerSeid (now msg)) ⌝ }
     ensures { λ r. ⌜ Answers (now (t .entry)) (now (msg .entry)) (now (out .entry)) r (now (out .exit)) (now (t .exit)) ⌝ }
 {
     let framing = frame::frame_fault(msg);
     if let Framing::Fault(kind) = framing {
-        return refuse(t, msg, 68, Offending::Element(kind), out);
+        return refuse(t, msg, causes::WRONG_LENGTH, Offending::Element(kind), out);
     }
     let verdict = request::read_deletion(msg);
     if let Verdict::Refused(cause, kind) = verdict {
@@ -54,7 +56,7 @@ fn delete(t: &mut [u8], msg: &[u8], seid: u64, out: &mut [u8]) -> usize
 
 // The session of an accepted request: built in its slot, and the slot stored.
 fn keep(t: &mut [u8], slot: &mut [u8], plan: &[u64], n: usize)
-    requires { ⌜ (length (now t) ≡ 30943) × (length (now slot) ≡ 483) × (n * rowWidth ≤ length (now plan)) ⌝ }
+    requires { ⌜ (length (now t) ≡ tableLength maxSessions) × (length (now slot) ≡ sessionWidth) × (n * rowWidth ≤ length (now plan)) ⌝ }
     ensures { λ _. ⌜ (now (slot .exit) ≡ built (rowsOf n (now (plan .entry))) (now (slot .entry))) × (now (t .exit) ≡ withRecord sessionArea (built (rowsOf n (now (plan .entry))) (now (slot .entry))) (now (t .entry))) ⌝ }
 {
     session::build(slot, plan, n);
@@ -87,7 +89,7 @@ fn accept(
 
 // Whether the session of a SEID is live.
 fn is_live(t: &[u8], seid: u64) -> bool
-    requires { ⌜ T (sound maxSessions (now t)) × (length (now t) ≡ 30943) ⌝ }
+    requires { ⌜ T (sound maxSessions (now t)) × (length (now t) ≡ tableLength maxSessions) ⌝ }
     ensures { λ r. ⌜ r ≡ isLive seid (viewSessions (now (t .entry))) ⌝ }
 {
     let place = store::find(t, seid);
@@ -103,7 +105,7 @@ fn enter(t: &[u8], kind: u64, seid: u64, p: usize, slot: &mut [u8]) -> bool
     requires { ⌜ Fetching (now t) (now slot) kind seid p ⌝ }
     ensures { λ r. ⌜ Fetched (now (t .entry)) kind seid p r (now (slot .exit)) ⌝ }
 {
-    if kind == 50 {
+    if kind == kinds::ESTABLISHMENT {
         store::fresh(slot, seid);
         return is_live(t, seid);
     }
@@ -141,7 +143,7 @@ fn settle(
         read.restoring,
         read.noted,
     );
-    if cause != 1 {
+    if cause != causes::ACCEPTED {
         return refuse(t, msg, cause, Offending::Nothing, out);
     }
     accept(
@@ -207,14 +209,14 @@ fn answer(
     requires { ⌜ Asked (now t) (now msg) (now out) × Counted (now t) (taken .words) free × (kind ≡ kindOf (now msg)) × (seid ≡ headerSeid (now msg)) ⌝ }
     ensures { λ r. ⌜ Answers (now (t .entry)) (now (msg .entry)) (now (out .entry)) r (now (out .exit)) (now (t .exit)) ⌝ }
 {
-    if kind == 50 {
+    if kind == kinds::ESTABLISHMENT {
         return change(t, taken, free, msg, kind, 0, out);
     }
     let place = store::find(t, seid);
     match place {
-        Place::Absent(p) => return refuse(t, msg, 65, Offending::Nothing, out),
+        Place::Absent(p) => return refuse(t, msg, causes::NO_SESSION, Offending::Nothing, out),
         Place::Found(p) => {
-            if kind == 54 {
+            if kind == kinds::DELETION {
                 return delete(t, msg, seid, out);
             }
             return change(t, taken, free, msg, kind, p, out);

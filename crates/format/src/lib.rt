@@ -87,3 +87,8 @@ pub const GRANTS: usize = MAX_PDRS + MAX_ENDPOINTS;
 pub const ROW: usize = 18;
 
 pub const PLAN: usize = 226 * ROW;
+
+pub mod causes;
+pub mod kinds;
+pub mod types;
+pub mod words;

@@ -8,7 +8,8 @@ use lib.Dec.{eqb}
 use borrow.Author.Tests.{eq-eqb, ne-eqb}
 use Rattle.octets.specs.Choice.{pick}
 use Rattle.octets.specs.Lists.{member}
-use Rattle.rules.specs.Message.{openedAtTop, opened}
+use Rattle.rules.specs.Message.{openedAtTop, opened, establishment, modification}
+use Rattle.rules.specs.Types as ie
 
 -- what an arm's keys say: x is a, or one of bs
 abbrev pub OneOf : ℕ → ℕ → List ℕ → Type 0
@@ -42,68 +43,68 @@ pick-same false a = refl
 
 -- a group of some messages, and a PDI in some groups
 abbrev placed : ℕ → ℕ → Bool → Bool → Bool → Bool
-placed m g a b d = pick (eqb g 0) (pick (eqb m 50) a (pick (eqb m 52) b false)) (pick (eqb g 1 || eqb g 9) d false)
+placed m g a b d = pick (eqb g 0) (pick (eqb m establishment) a (pick (eqb m modification) b false)) (pick (eqb g ie.createPdr || eqb g ie.updatePdr) d false)
 
-by-place : (m g t : ℕ) → member t (opened m g) ≡ placed m g (member t (1 ∷ 127 ∷ [])) (member t (1 ∷ 127 ∷ 9 ∷ 15 ∷ 130 ∷ [])) (member t (2 ∷ []))
+by-place : (m g t : ℕ) → member t (opened m g) ≡ placed m g (member t (ie.createPdr ∷ ie.createEndpoint ∷ [])) (member t (ie.createPdr ∷ ie.createEndpoint ∷ ie.updatePdr ∷ ie.removePdr ∷ ie.removeEndpoint ∷ [])) (member t (ie.pdi ∷ []))
 unfolding opened openedAtTop member
-by-place m g t = rw (member-pick t (eqb g 0), member-pick t (eqb m 50), member-pick t (eqb m 52), member-pick t (eqb g 1 || eqb g 9))
+by-place m g t = rw (member-pick t (eqb g 0), member-pick t (eqb m establishment), member-pick t (eqb m modification), member-pick t (eqb g ie.createPdr || eqb g ie.updatePdr))
 
-by-any : (m g t : ℕ) → OneOf t 1 (127 ∷ []) → member t (opened m g) ≡ placed m g true true false
+by-any : (m g t : ℕ) → OneOf t ie.createPdr (ie.createEndpoint ∷ []) → member t (opened m g) ≡ placed m g true true false
 unfolding member
 by-any m g t (inl e) = rw (e, by-place m g 1)
-by-any m g t (inr e) = rw (e, by-place m g 127)
+by-any m g t (inr e) = rw (e, by-place m g ie.createEndpoint)
 
-by-change : (m g t : ℕ) → OneOf t 9 (15 ∷ 130 ∷ []) → member t (opened m g) ≡ placed m g false true false
+by-change : (m g t : ℕ) → OneOf t ie.updatePdr (ie.removePdr ∷ ie.removeEndpoint ∷ []) → member t (opened m g) ≡ placed m g false true false
 unfolding member
 by-change m g t (inl e) = rw (e, by-place m g 9)
 by-change m g t (inr (inl e)) = rw (e, by-place m g 15)
-by-change m g t (inr (inr e)) = rw (e, by-place m g 130)
+by-change m g t (inr (inr e)) = rw (e, by-place m g ie.removeEndpoint)
 
-by-pdi : (m g t : ℕ) → t ≡ 2 → member t (opened m g) ≡ placed m g false false true
+by-pdi : (m g t : ℕ) → t ≡ ie.pdi → member t (opened m g) ≡ placed m g false false true
 unfolding member
 by-pdi m g t e = rw (e, by-place m g 2)
 
 -- a group that is not the message, and is no PDR
 placed-inside : (m g : ℕ) (a b : Bool) → (g ≡ 0 → ⊥) → placed m g a b false ≡ false
-placed-inside m g a b n = rw (ne-eqb g 0 n) (pick-same (eqb g 1 || eqb g 9) false)
+placed-inside m g a b n = rw (ne-eqb g 0 n) (pick-same (eqb g ie.createPdr || eqb g ie.updatePdr) false)
 
 module _ (m g t : ℕ) where
-  pub any-open : OneOf t 1 (127 ∷ []) → g ≡ 0 → OneOf m 50 (52 ∷ []) → true ≡ member t (opened m g)
+  pub any-open : OneOf t ie.createPdr (ie.createEndpoint ∷ []) → g ≡ 0 → OneOf m establishment (modification ∷ []) → true ≡ member t (opened m g)
   any-open h e (inl f) = sym (by-any m g t h ∙ rw (e, f))
   any-open h e (inr f) = sym (by-any m g t h ∙ rw (e, f))
 
-  pub any-shut : OneOf t 1 (127 ∷ []) → g ≡ 0 → (OneOf m 50 (52 ∷ []) → ⊥) → false ≡ member t (opened m g)
-  any-shut h e n = sym (by-any m g t h ∙ rw (e, ne-eqb m 50 (λ f. n (inl f)), ne-eqb m 52 (λ f. n (inr f))))
+  pub any-shut : OneOf t ie.createPdr (ie.createEndpoint ∷ []) → g ≡ 0 → (OneOf m establishment (modification ∷ []) → ⊥) → false ≡ member t (opened m g)
+  any-shut h e n = sym (by-any m g t h ∙ rw (e, ne-eqb m establishment (λ f. n (inl f)), ne-eqb m modification (λ f. n (inr f))))
 
-  pub any-inside : OneOf t 1 (127 ∷ []) → (g ≡ 0 → ⊥) → false ≡ member t (opened m g)
+  pub any-inside : OneOf t ie.createPdr (ie.createEndpoint ∷ []) → (g ≡ 0 → ⊥) → false ≡ member t (opened m g)
   any-inside h n = sym (by-any m g t h ∙ placed-inside m g true true n)
 
-  pub change-open : OneOf t 9 (15 ∷ 130 ∷ []) → g ≡ 0 → m ≡ 52 → true ≡ member t (opened m g)
+  pub change-open : OneOf t ie.updatePdr (ie.removePdr ∷ ie.removeEndpoint ∷ []) → g ≡ 0 → m ≡ modification → true ≡ member t (opened m g)
   change-open h e f = sym (by-change m g t h ∙ rw (e, f))
 
-  pub change-shut : OneOf t 9 (15 ∷ 130 ∷ []) → g ≡ 0 → (m ≡ 52 → ⊥) → false ≡ member t (opened m g)
-  change-shut h e n = sym (by-change m g t h ∙ rw (e, ne-eqb m 52 n) (pick-same (eqb m 50) false))
+  pub change-shut : OneOf t ie.updatePdr (ie.removePdr ∷ ie.removeEndpoint ∷ []) → g ≡ 0 → (m ≡ modification → ⊥) → false ≡ member t (opened m g)
+  change-shut h e n = sym (by-change m g t h ∙ rw (e, ne-eqb m modification n) (pick-same (eqb m establishment) false))
 
-  pub change-inside : OneOf t 9 (15 ∷ 130 ∷ []) → (g ≡ 0 → ⊥) → false ≡ member t (opened m g)
+  pub change-inside : OneOf t ie.updatePdr (ie.removePdr ∷ ie.removeEndpoint ∷ []) → (g ≡ 0 → ⊥) → false ≡ member t (opened m g)
   change-inside h n = sym (by-change m g t h ∙ placed-inside m g false true n)
 
-  pub pdi-open : t ≡ 2 → OneOf g 1 (9 ∷ []) → true ≡ member t (opened m g)
+  pub pdi-open : t ≡ ie.pdi → OneOf g ie.createPdr (ie.updatePdr ∷ []) → true ≡ member t (opened m g)
   pdi-open h (inl e) = sym (by-pdi m g t h ∙ rw e)
   pdi-open h (inr e) = sym (by-pdi m g t h ∙ rw e)
 
-  pub pdi-shut : t ≡ 2 → (OneOf g 1 (9 ∷ []) → ⊥) → false ≡ member t (opened m g)
+  pub pdi-shut : t ≡ ie.pdi → (OneOf g ie.createPdr (ie.updatePdr ∷ []) → ⊥) → false ≡ member t (opened m g)
   pdi-shut h n =
-      sym (by-pdi m g t h ∙ rw (ne-eqb g 1 (λ f. n (inl f)), ne-eqb g 9 (λ f. n (inr f)), pick-same (eqb m 52) false, pick-same (eqb m 50) false) (pick-same (eqb g 0) false))
+      sym (by-pdi m g t h ∙ rw (ne-eqb g ie.createPdr (λ f. n (inl f)), ne-eqb g ie.updatePdr (λ f. n (inr f)), pick-same (eqb m modification) false, pick-same (eqb m establishment) false) (pick-same (eqb g 0) false))
 
-  pub none-open : (OneOf t 1 (127 ∷ []) → ⊥) → (OneOf t 9 (15 ∷ 130 ∷ []) → ⊥) → (t ≡ 2 → ⊥) → false ≡ member t (opened m g)
+  pub none-open : (OneOf t ie.createPdr (ie.createEndpoint ∷ []) → ⊥) → (OneOf t ie.updatePdr (ie.removePdr ∷ ie.removeEndpoint ∷ []) → ⊥) → (t ≡ ie.pdi → ⊥) → false ≡ member t (opened m g)
   none-open a b d =
       sym (by-place m g t
-      ∙ rw (among-no t 1 (127 ∷ []) a, all-five, among-no t 2 [] d, pick-same (eqb m 52) false, pick-same (eqb m 50) false, pick-same (eqb g 1 || eqb g 9) false) (pick-same (eqb g 0) false))
+      ∙ rw (among-no t 1 (ie.createEndpoint ∷ []) a, all-five, among-no t 2 [] d, pick-same (eqb m modification) false, pick-same (eqb m establishment) false, pick-same (eqb g ie.createPdr || eqb g ie.updatePdr) false) (pick-same (eqb g 0) false))
     where
-      none-of : OneOf t 1 (127 ∷ 9 ∷ 15 ∷ 130 ∷ []) → ⊥
+      none-of : OneOf t ie.createPdr (ie.createEndpoint ∷ ie.updatePdr ∷ ie.removePdr ∷ ie.removeEndpoint ∷ []) → ⊥
       none-of (inl e) = a (inl e)
       none-of (inr (inl e)) = a (inr e)
       none-of (inr (inr h)) = b h
 
-      all-five : member t (1 ∷ 127 ∷ 9 ∷ 15 ∷ 130 ∷ []) ≡ false
-      all-five = among-no t 1 (127 ∷ 9 ∷ 15 ∷ 130 ∷ []) none-of
+      all-five : member t (ie.createPdr ∷ ie.createEndpoint ∷ ie.updatePdr ∷ ie.removePdr ∷ ie.removeEndpoint ∷ []) ≡ false
+      all-five = among-no t 1 (ie.createEndpoint ∷ ie.updatePdr ∷ ie.removePdr ∷ ie.removeEndpoint ∷ []) none-of

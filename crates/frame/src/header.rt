@@ -1,4 +1,5 @@
 // The header of a message: host outcomes 3, 4 and 5, the type and the header's SEID.
+use format::kinds;
 ghost use mathlib.Core.Path.{_≡_};
 ghost use Rattle.frame.specs.HeaderOf.{opened, headerOf};
 ghost use Rattle.rules.specs.Message.{firstOctetAllowed, headerAllowed, served};
@@ -44,7 +45,7 @@ fn is_served(kind: u64) -> bool
     ensures { λ r. ⌜ r ≡ served kind ⌝ }
 {
     match kind {
-        50 | 52 | 54 => true,
+        kinds::ESTABLISHMENT | kinds::MODIFICATION | kinds::DELETION => true,
         _ => false,
     }
 }

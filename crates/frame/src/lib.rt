@@ -1,4 +1,6 @@
 // The frame of a message: its header (header.rt), and stage 2, the framing of its elements and groups.
+use format::kinds;
+use format::types;
 ghost use mathlib.Core.Path.{_≡_};
 ghost use Rattle.octets.specs.Lists.{member};
 ghost use Rattle.rules.specs.Message.{opened, frame, frameFault};
@@ -20,22 +22,22 @@ fn opens(message: u64, group: u64, kind: u64) -> bool
     match kind {
         // Vendor elements.
         32768..=65535 => false,
-        1 | 127 => match group {
+        types::CREATE_PDR | types::CREATE_ENDPOINT => match group {
             0 => match message {
-                50 | 52 => true,
+                kinds::ESTABLISHMENT | kinds::MODIFICATION => true,
                 _ => false,
             },
             _ => false,
         },
-        9 | 15 | 130 => match group {
+        types::UPDATE_PDR | types::REMOVE_PDR | types::REMOVE_ENDPOINT => match group {
             0 => match message {
-                52 => true,
+                kinds::MODIFICATION => true,
                 _ => false,
             },
             _ => false,
         },
-        2 => match group {
-            1 | 9 => true,
+        types::PDI => match group {
+            types::CREATE_PDR | types::UPDATE_PDR => true,
             _ => false,
         },
         _ => false,

@@ -19,6 +19,8 @@ use Rattle.rules.specs.Elements.{given, choose}
 use Rattle.rules.specs.Reading.{Request}
 use Rattle.rules.specs.Grants.{Kind, ofPdr, ofEndpoint, Choice, sameKind, choiceOf, endpointChoice, pdrChoice, choices}
 use Rattle.plan.specs.Rows.{rowWidth, word, rowsOf, hasTag, tagged, fteidFrom, rowFteid, rowLocal, rowPdr, rowEndpoint, requestIn}
+use Rattle.rules.specs.Types as ie
+use Rattle.plan.specs.Words as its
 use Rattle.created.specs.Groups.{kindIn}
 use Rattle.created.specs.Entries.{maxGrants, rowId}
 use Rattle.grants.specs.Choosing.{choosing, placesFrom, places, octet, rowChooseId, choiceIn, choiceAt}
@@ -37,33 +39,33 @@ choiceFits c = idIsOctet (c .chooseId) && (sameKind ofPdr (c .kind) || ltb (c .i
 
 -- the rules' CHOOSE of a row's F-TEID
 abbrev rowChoice : Kind → ℕ → List ℕ → Choice
-rowChoice k i row = record { kind = k; id = i; v4 = bit 0 (word 12 row); v6 = bit 1 (word 12 row); chooseId = pick (bit 3 (word 12 row)) (some (word 17 row)) none }
+rowChoice k i row = record { kind = k; id = i; v4 = bit 0 (word its.flags row); v6 = bit 1 (word its.flags row); chooseId = pick (bit 3 (word its.flags row)) (some (word its.chooseId row)) none }
 
-fteid-choice : (k : Kind) (i : ℕ) (row : List ℕ) → choiceOf k i (rowFteid row) ≡ pick (bit 2 (word 12 row)) (some (rowChoice k i row)) none
+fteid-choice : (k : Kind) (i : ℕ) (row : List ℕ) → choiceOf k i (rowFteid row) ≡ pick (bit 2 (word its.flags row)) (some (rowChoice k i row)) none
 unfolding rowFteid fteidFrom
-fteid-choice k i row = one (bit 2 (word 12 row)) _ _ _ _ _ _
+fteid-choice k i row = one (bit 2 (word its.flags row)) _ _ _ _ _ _
   where
     one : (b v4 v6 : Bool) (c : Option ℕ) (t : ℕ) (a h : List ℕ)
         → choiceOf k i (pick b (choose v4 v6 c) (given t a h)) ≡ pick b (some (record { kind = k; id = i; v4 = v4; v6 = v6; chooseId = c })) none
     one true v4 v6 c t a h = unfold choiceOf in refl
     one false v4 v6 c t a h = unfold choiceOf in refl
 
-endpoint-choice : (row : List ℕ) → endpointChoice (rowEndpoint row) ≡ pick (bit 2 (word 12 row)) (some (rowChoice ofEndpoint (word 11 row) row)) none
+endpoint-choice : (row : List ℕ) → endpointChoice (rowEndpoint row) ≡ pick (bit 2 (word its.flags row)) (some (rowChoice ofEndpoint (word its.endpointId row) row)) none
 unfolding endpointChoice rowEndpoint
-endpoint-choice row = fteid-choice ofEndpoint (word 11 row) row
+endpoint-choice row = fteid-choice ofEndpoint (word its.endpointId row) row
 
 no-choice : bit 2 0 ≡ false
 unfolding bit
 no-choice = refl
 
-pdr-choice : (row : List ℕ) → pdrChoice (rowPdr row) ≡ pick (bit 2 (word 12 row)) (some (rowChoice ofPdr (word 7 row) row)) none
+pdr-choice : (row : List ℕ) → pdrChoice (rowPdr row) ≡ pick (bit 2 (word its.flags row)) (some (rowChoice ofPdr (word its.pdrId row) row)) none
 unfolding pdrChoice rowPdr rowLocal
-pdr-choice row = one (ℕ-discrete (word 12 row) 0)
+pdr-choice row = one (ℕ-discrete (word its.flags row) 0)
   where
-    one : Dec (word 12 row ≡ 0)
-        → bindOption (pick (eqb (word 12 row) 0) none (some (rowFteid row))) (choiceOf ofPdr (word 7 row)) ≡ pick (bit 2 (word 12 row)) (some (rowChoice ofPdr (word 7 row) row)) none
-    one (yes e) = rw (eq-eqb (word 12 row) 0 e) (sym (ap (λ (b : Bool). pick b (some (rowChoice ofPdr (word 7 row) row)) none) (ap (bit 2) e ∙ no-choice)))
-    one (no n) = rw (ne-eqb (word 12 row) 0 n) (fteid-choice ofPdr (word 7 row) row)
+    one : Dec (word its.flags row ≡ 0)
+        → bindOption (pick (eqb (word its.flags row) 0) none (some (rowFteid row))) (choiceOf ofPdr (word its.pdrId row)) ≡ pick (bit 2 (word its.flags row)) (some (rowChoice ofPdr (word its.pdrId row) row)) none
+    one (yes e) = rw (eq-eqb (word its.flags row) 0 e) (sym (ap (λ (b : Bool). pick b (some (rowChoice ofPdr (word its.pdrId row) row)) none) (ap (bit 2) e ∙ no-choice)))
+    one (no n) = rw (ne-eqb (word its.flags row) 0 n) (fteid-choice ofPdr (word its.pdrId row) row)
 
 octet-id : (b : Bool) (c : ℕ) → T (idIsOctet (pick b (some c) none)) → pick b (some c) none ≡ pick b (octet c) none
 octet-id true c h = sym (pick-yes (ltb c 256) (some c) none h)
@@ -72,20 +74,20 @@ octet-id false c h = refl
 -- ---- the rows of one type
 
 module _ {A : Type 0} (g : A → Option Choice) (h : List ℕ → A) (tag : ℕ) (k : Kind) (idOf : List ℕ → ℕ)
-    (kinds : kindIn tag ≡ k) (ids : (row : List ℕ) → word 0 row ≡ tag → rowId row ≡ idOf row)
-    (values : (row : List ℕ) → g (h row) ≡ pick (bit 2 (word 12 row)) (some (rowChoice k (idOf row) row)) none) where
-  same-choice : (row : List ℕ) → word 0 row ≡ tag → T (choiceFits (rowChoice k (idOf row) row)) → rowChoice k (idOf row) row ≡ choiceIn row
+    (kinds : kindIn tag ≡ k) (ids : (row : List ℕ) → word its.tag row ≡ tag → rowId row ≡ idOf row)
+    (values : (row : List ℕ) → g (h row) ≡ pick (bit 2 (word its.flags row)) (some (rowChoice k (idOf row) row)) none) where
+  same-choice : (row : List ℕ) → word its.tag row ≡ tag → T (choiceFits (rowChoice k (idOf row) row)) → rowChoice k (idOf row) row ≡ choiceIn row
   unfolding choiceIn rowChooseId
   same-choice row e f =
-      let o = octet-id (bit 3 (word 12 row)) (word 17 row) (and-left (idIsOctet (pick (bit 3 (word 12 row)) (some (word 17 row)) none)) _ f) in
+      let o = octet-id (bit 3 (word its.flags row)) (word its.chooseId row) (and-left (idIsOctet (pick (bit 3 (word its.flags row)) (some (word its.chooseId row)) none)) _ f) in
       let kind = sym kinds ∙ ap kindIn (sym e) in
       let id = sym (ids row e) in
-      λ j. record { kind = kind j; id = id j; v4 = bit 0 (word 12 row); v6 = bit 1 (word 12 row); chooseId = o j }
+      λ j. record { kind = kind j; id = id j; v4 = bit 0 (word its.flags row); v6 = bit 1 (word its.flags row); chooseId = o j }
 
   pub tagged-choices : (rows : List (List ℕ)) → T (all choiceFits (collect g (map h (tagged tag rows)))) → collect g (map h (tagged tag rows)) ≡ map choiceIn (keep (choosing tag) rows)
   unfolding tagged keep collect choosing
   tagged-choices [] f = refl
-  tagged-choices (row ∷ rows) f = one (hasTag tag row) (bit 2 (word 12 row)) refl (values row) (λ f′. tagged-choices rows f′) f
+  tagged-choices (row ∷ rows) f = one (hasTag tag row) (bit 2 (word its.flags row)) refl (values row) (λ f′. tagged-choices rows f′) f
     where
       one : (b d : Bool) → hasTag tag row ≡ b → g (h row) ≡ pick d (some (rowChoice k (idOf row) row)) none
           → (T (all choiceFits (collect g (map h (tagged tag rows)))) → collect g (map h (tagged tag rows)) ≡ map choiceIn (keep (choosing tag) rows))
@@ -94,7 +96,7 @@ module _ {A : Type 0} (g : A → Option Choice) (h : List ℕ → A) (tag : ℕ)
       one false d t v ih f′ = ih f′
       one true true t v ih f′ =
           let p = rw v at f′ in
-          let here = same-choice row (eqb-true (word 0 row) tag (unfold hasTag in t)) (all-head choiceFits _ _ p) in
+          let here = same-choice row (eqb-true (word its.tag row) tag (unfold hasTag in t)) (all-head choiceFits _ _ p) in
           let more = ih (all-tail choiceFits _ _ p) in
           rw v (λ j. here j ∷ more j)
       one true false t v ih f′ = rw v (ih (rw v at f′))
@@ -103,7 +105,7 @@ module _ {A : Type 0} (g : A → Option Choice) (h : List ℕ → A) (tag : ℕ)
 
 -- the rows that choose: endpoints', then PDRs'
 unfoldable pub chosenRows : List (List ℕ) → List (List ℕ)
-chosenRows rows = keep (choosing 127) rows ++ keep (choosing 1) rows
+chosenRows rows = keep (choosing ie.createEndpoint) rows ++ keep (choosing 1) rows
 
 -- what is read of the rows at the places is what is read of the rows that choose
 module _ {A : Type 0} (f : List ℕ → A) (plan : List ℕ) where
@@ -124,12 +126,12 @@ module _ {A : Type 0} (f : List ℕ → A) (plan : List ℕ) where
       one true rows ih = ap (λ (l : List A). f (part at rowWidth plan) ∷ l) ih
       one false rows ih = ih
 
-  pub place-rows : (n : ℕ) → map readAt (placesFrom 127 0 (rowsOf n plan) ++ placesFrom 1 0 (rowsOf n plan)) ≡ map f (chosenRows (rowsOf n plan))
+  pub place-rows : (n : ℕ) → map readAt (placesFrom ie.createEndpoint 0 (rowsOf n plan) ++ placesFrom 1 0 (rowsOf n plan)) ≡ map f (chosenRows (rowsOf n plan))
   unfolding chosenRows
   place-rows n =
-      map-append readAt (placesFrom 127 0 (rowsOf n plan)) (placesFrom 1 0 (rowsOf n plan))
-      ∙ (λ j. tag-rows 127 n 0 j ++ tag-rows 1 n 0 j)
-      ∙ sym (map-append f (keep (choosing 127) (rowsOf n plan)) (keep (choosing 1) (rowsOf n plan)))
+      map-append readAt (placesFrom ie.createEndpoint 0 (rowsOf n plan)) (placesFrom 1 0 (rowsOf n plan))
+      ∙ (λ j. tag-rows ie.createEndpoint n 0 j ++ tag-rows 1 n 0 j)
+      ∙ sym (map-append f (keep (choosing ie.createEndpoint) (rowsOf n plan)) (keep (choosing 1) (rowsOf n plan)))
 
 module _ (seid : ℕ) (restoring noted : Bool) (rows : List (List ℕ)) where
   abbrev r : Request
@@ -138,23 +140,23 @@ module _ (seid : ℕ) (restoring noted : Bool) (rows : List (List ℕ)) where
   pub request-choices : T (all choiceFits (choices r)) → choices r ≡ map choiceIn (chosenRows rows)
   unfolding choices requestIn chosenRows
   request-choices f =
-      let e = all-front choiceFits (collect endpointChoice (map rowEndpoint (tagged 127 rows))) (collect pdrChoice (map rowPdr (tagged 1 rows))) f in
-      let p = all-behind choiceFits (collect endpointChoice (map rowEndpoint (tagged 127 rows))) (collect pdrChoice (map rowPdr (tagged 1 rows))) f in
-      let a = tagged-choices endpointChoice rowEndpoint 127 ofEndpoint (word 11) (unfold kindIn in refl) (λ row t. unfold rowId in rw t) endpoint-choice rows e in
-      let b = tagged-choices pdrChoice rowPdr 1 ofPdr (word 7) (unfold kindIn in refl) (λ row t. unfold rowId in rw t) pdr-choice rows p in
-      (λ j. a j ++ b j) ∙ sym (map-append choiceIn (keep (choosing 127) rows) (keep (choosing 1) rows))
+      let e = all-front choiceFits (collect endpointChoice (map rowEndpoint (tagged ie.createEndpoint rows))) (collect pdrChoice (map rowPdr (tagged ie.createPdr rows))) f in
+      let p = all-behind choiceFits (collect endpointChoice (map rowEndpoint (tagged ie.createEndpoint rows))) (collect pdrChoice (map rowPdr (tagged ie.createPdr rows))) f in
+      let a = tagged-choices endpointChoice rowEndpoint ie.createEndpoint ofEndpoint (word its.endpointId) (unfold kindIn in refl) (λ row t. unfold rowId in rw t) endpoint-choice rows e in
+      let b = tagged-choices pdrChoice rowPdr 1 ofPdr (word its.pdrId) (unfold kindIn in refl) (λ row t. unfold rowId in rw t) pdr-choice rows p in
+      (λ j. a j ++ b j) ∙ sym (map-append choiceIn (keep (choosing ie.createEndpoint) rows) (keep (choosing 1) rows))
 
 -- the CHOOSEs at a plan's places are the request's
 module _ (seid : ℕ) (restoring noted : Bool) (n : ℕ) (plan : List ℕ) (fits : T (all choiceFits (choices (requestIn seid restoring noted (rowsOf n plan)))))
     (few : length (choices (requestIn seid restoring noted (rowsOf n plan))) ≤ maxGrants) where
   all-places : List ℕ
-  all-places = placesFrom 127 0 (rowsOf n plan) ++ placesFrom 1 0 (rowsOf n plan)
+  all-places = placesFrom ie.createEndpoint 0 (rowsOf n plan) ++ placesFrom 1 0 (rowsOf n plan)
 
   all-choices : map (choiceAt plan) all-places ≡ choices (requestIn seid restoring noted (rowsOf n plan))
   unfolding all-places choiceAt
   all-choices = place-rows choiceIn plan n ∙ sym (request-choices seid restoring noted (rowsOf n plan) fits)
 
-  pub places-are : places n plan ≡ placesFrom 127 0 (rowsOf n plan) ++ placesFrom 1 0 (rowsOf n plan)
+  pub places-are : places n plan ≡ placesFrom ie.createEndpoint 0 (rowsOf n plan) ++ placesFrom 1 0 (rowsOf n plan)
   unfolding places all-places
   places-are =
       let l = ap length all-choices in

@@ -12,6 +12,8 @@ use Rattle.rules.specs.Reading.{Request}
 use Rattle.rules.specs.Stages.{createdPdrs, createdEndpoints}
 use Rattle.rules.specs.Grants.{ofPdr, ofEndpoint, Grant, choices, grantTeid, grantFrom, grants, grantedTeid}
 use Rattle.plan.specs.Rows.{rowWidth, word, rowsOf, tagged, rowPdr, rowEndpoint, requestIn}
+use Rattle.rules.specs.Types as ie
+use Rattle.plan.specs.Words as its
 use Rattle.pool.specs.Map.{teidsFrom}
 use Rattle.pool.proofs.TakenLaws.{Means}
 use Rattle.pool.proofs.GrantWalk.{grants-walk}
@@ -40,13 +42,13 @@ module _ (seid : ℕ) (restoring noted : Bool) (n : ℕ) (plan : List ℕ) where
   abbrev request : Request
   request = requestIn seid restoring noted (rowsOf n plan)
 
-  pdr-ids : hasRepeat (createdPdrs request) ≡ false → hasRepeat (map (word 7) (tagged 1 (rowsOf n plan))) ≡ false
+  pdr-ids : hasRepeat (createdPdrs request) ≡ false → hasRepeat (map (word its.pdrId) (tagged ie.createPdr (rowsOf n plan))) ≡ false
   unfolding createdPdrs requestIn rowPdr
-  pdr-ids e = ap hasRepeat (sym (map-map _ rowPdr (tagged 1 (rowsOf n plan)))) ∙ e
+  pdr-ids e = ap hasRepeat (sym (map-map _ rowPdr (tagged ie.createPdr (rowsOf n plan)))) ∙ e
 
-  endpoint-ids : hasRepeat (createdEndpoints request) ≡ false → hasRepeat (map (word 11) (tagged 127 (rowsOf n plan))) ≡ false
+  endpoint-ids : hasRepeat (createdEndpoints request) ≡ false → hasRepeat (map (word its.endpointId) (tagged ie.createEndpoint (rowsOf n plan))) ≡ false
   unfolding createdEndpoints requestIn rowEndpoint
-  endpoint-ids e = ap hasRepeat (sym (map-map _ rowEndpoint (tagged 127 (rowsOf n plan)))) ∙ e
+  endpoint-ids e = ap hasRepeat (sym (map-map _ rowEndpoint (tagged ie.createEndpoint (rowsOf n plan)))) ∙ e
 
   teids-of : (first : ℕ) (words : List ℕ) (size : ℕ) (gs : List Grant) → grantFrom [] (teidsFrom first words 0 size) (map (choiceAt plan) (places n plan)) ≡ gs
       → teidsAt first words size plan (places n plan) ≡ map grantTeid gs
@@ -74,7 +76,7 @@ module _ (seid : ℕ) (restoring noted : Bool) (n : ℕ) (plan : List ℕ) where
       let is-count = g .count in
       let chosen : gs ≡ grantFrom [] free (map choiceIn (chosenRows rows)) = walk ∙ ap (grantFrom [] free) (request-choices seid restoring noted rows fits) in
       let teids = rw (← chosen) at (row-teids [] free (chosenRows rows) (apart-rows rows (pdr-ids ps) (endpoint-ids es))) in
-      let is-plan : plan′ ≡ stores plan (placesFrom 127 0 rows ++ placesFrom 1 0 rows) (map grantTeid gs) = g .stored ∙ (λ j. stores plan (is-places j) (given j)) in
+      let is-plan : plan′ ≡ stores plan (placesFrom ie.createEndpoint 0 rows ++ placesFrom 1 0 rows) (map grantTeid gs) = g .stored ∙ (λ j. stores plan (is-places j) (given j)) in
       let after : After gs n plan plan′ = rw is-plan (plan-after gs n plan h teids) in
       let long : length plan′ ≡ length plan = ap length (g .stored) ∙ length-stores plan (places n plan) (teidsAt (s .first) words (s .size) plan (places n plan)) in
       record {
@@ -93,10 +95,10 @@ module _ (seid : ℕ) (restoring noted : Bool) (n : ℕ) (plan : List ℕ) where
 
 -- ---- the TEID of a row that chooses, in the plan at exit
 
-pub pdr-teid : (gs : List Grant) (row : List ℕ) → length row ≡ rowWidth → choosing 1 row ≡ true → word 13 (rowWith gs row) ≡ grantedTeid gs ofPdr (word 7 row)
+pub pdr-teid : (gs : List Grant) (row : List ℕ) → length row ≡ rowWidth → choosing 1 row ≡ true → word its.teid (rowWith gs row) ≡ grantedTeid gs ofPdr (word its.pdrId row)
 unfolding rowId kindIn
-pdr-teid gs row l e = let t = choosing-tag 1 row e in with-teid gs row l (rw e (or-true (choosing 127 row))) ∙ rw t
+pdr-teid gs row l e = let t = choosing-tag 1 row e in with-teid gs row l (rw e (or-true (choosing ie.createEndpoint row))) ∙ rw t
 
-pub endpoint-teid : (gs : List Grant) (row : List ℕ) → length row ≡ rowWidth → choosing 127 row ≡ true → word 13 (rowWith gs row) ≡ grantedTeid gs ofEndpoint (word 11 row)
+pub endpoint-teid : (gs : List Grant) (row : List ℕ) → length row ≡ rowWidth → choosing ie.createEndpoint row ≡ true → word its.teid (rowWith gs row) ≡ grantedTeid gs ofEndpoint (word its.endpointId row)
 unfolding rowId kindIn
-endpoint-teid gs row l e = let t = choosing-tag 127 row e in with-teid gs row l (rw e) ∙ rw t
+endpoint-teid gs row l e = let t = choosing-tag ie.createEndpoint row e in with-teid gs row l (rw e) ∙ rw t

@@ -13,6 +13,7 @@ use Rattle.octets.specs.Octets.{part, slices}
 use Rattle.octets.specs.Lists.{all}
 use Rattle.octets.proofs.Tests.{all-head, all-tail, all-cons}
 use Rattle.octets.proofs.ListLaws.{all-append}
+use Rattle.rules.specs.Types as ie
 use Rattle.lists.proofs.RowLaws.{rows-more}
 use Rattle.plan.specs.Rows.{rowWidth, rowsOf}
 use Rattle.created.specs.Entries.{maxGrants, within}
@@ -71,7 +72,7 @@ within-from tag plan (suc n) at h =
 pub places-within : (n : ℕ) (plan : List ℕ) → n * rowWidth ≤ length plan → T (within plan (places n plan))
 unfolding places
 places-within n plan h =
-    all-take (rowWithin plan) maxGrants _ (all-append (rowWithin plan) _ _ (within-from 127 plan n 0 (omega arith)) (within-from 1 plan n 0 (omega arith)))
+    all-take (rowWithin plan) maxGrants _ (all-append (rowWithin plan) _ _ (within-from ie.createEndpoint plan n 0 (omega arith)) (within-from 1 plan n 0 (omega arith)))
 
 -- ---- finding them
 
@@ -138,7 +139,7 @@ module _ {plan : List ℕ} {n tag : ℕ} {places₀ : List ℕ} {k : ℕ} where
 
 -- the two searches: endpoints' rows, then PDRs'
 pub found-both : (plan : List ℕ) (n : ℕ) (p₀ p₁ p₂ : List ℕ) (k m : ℕ) → length p₀ ≡ maxGrants → length p₁ ≡ maxGrants
-    → Found plan n 127 p₀ 0 p₁ k → Found plan n 1 p₁ k p₂ m → take m p₂ ≡ places n plan
+    → Found plan n ie.createEndpoint p₀ 0 p₁ k → Found plan n 1 p₁ k p₂ m → take m p₂ ≡ places n plan
 unfolding places
 found-both plan n p₀ p₁ p₂ k m l l′ f g =
-    g .1 ∙ rw (l′, f .1, l) (take-front maxGrants (placesFrom 127 0 (rowsOf n plan)) (placesFrom 1 0 (rowsOf n plan)))
+    g .1 ∙ rw (l′, f .1, l) (take-front maxGrants (placesFrom ie.createEndpoint 0 (rowsOf n plan)) (placesFrom 1 0 (rowsOf n plan)))

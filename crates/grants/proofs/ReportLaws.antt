@@ -12,7 +12,9 @@ use Rattle.octets.specs.Octets.{bit, slices}
 use Rattle.octets.specs.Lists.{keep}
 use Rattle.octets.proofs.ListLaws.{map-append}
 use Rattle.rules.specs.Grants.{Chosen, Grant, chosenTeid, teidFor, chosenAfter, freeAfter, grantOf, grantFrom, grantTeid, grantedTeid}
+use Rattle.rules.specs.Types as ie
 use Rattle.plan.specs.Rows.{rowWidth, word, rowsOf}
+use Rattle.plan.specs.Words as its
 use Rattle.writing.specs.Families.{tunnelIn}
 use Rattle.created.specs.Groups.{kindIn}
 use Rattle.created.specs.Entries.{rowId, rowGrant, grantAt, grantsAt}
@@ -47,10 +49,10 @@ grants-by-row f cs free (row ∷ rows) e =
 module _ (gs : List Grant) where
   -- the TEID that a row's kind and ID got
   abbrev pub ownTeid : List ℕ → ℕ
-  ownTeid row = grantedTeid gs (kindIn (word 0 row)) (rowId row)
+  ownTeid row = grantedTeid gs (kindIn (word its.tag row)) (rowId row)
 
-  module _ (row : List ℕ) (l : length row ≡ rowWidth) (c : (choosing 127 row || choosing 1 row) ≡ true) where
-    pub with-teid : word 13 (rowWith gs row) ≡ ownTeid row
+  module _ (row : List ℕ) (l : length row ≡ rowWidth) (c : (choosing ie.createEndpoint row || choosing 1 row) ≡ true) where
+    pub with-teid : word its.teid (rowWith gs row) ≡ ownTeid row
     unfolding rowWith
     with-teid = rw (c, getD-set-same row 13 (ownTeid row) 0 (omega arith))
 
@@ -71,7 +73,7 @@ module _ (gs : List Grant) where
 
   -- ---- all rows
 
-  tag-grants : (tag : ℕ) → ((row : List ℕ) → choosing tag row ≡ true → (choosing 127 row || choosing 1 row) ≡ true) → (n : ℕ) (plan : List ℕ) → n * rowWidth ≤ length plan
+  tag-grants : (tag : ℕ) → ((row : List ℕ) → choosing tag row ≡ true → (choosing ie.createEndpoint row || choosing 1 row) ≡ true) → (n : ℕ) (plan : List ℕ) → n * rowWidth ≤ length plan
       → map rowGrant (keep (choosing tag) (map (rowWith gs) (rowsOf n plan))) ≡ map (granting ownTeid) (keep (choosing tag) (rowsOf n plan))
   unfolding keep slices
   tag-grants tag either zero plan h = refl
@@ -91,20 +93,20 @@ module _ (gs : List Grant) where
 
   -- the plan at exit, read at the places that were found in the plan at entry
   pub reported-grants : (n : ℕ) (plan plan′ : List ℕ) → n * rowWidth ≤ length plan → rowsOf n plan′ ≡ map (rowWith gs) (rowsOf n plan)
-      → grantsAt plan′ (placesFrom 127 0 (rowsOf n plan) ++ placesFrom 1 0 (rowsOf n plan)) ≡ map (granting ownTeid) (chosenRows (rowsOf n plan))
+      → grantsAt plan′ (placesFrom ie.createEndpoint 0 (rowsOf n plan) ++ placesFrom 1 0 (rowsOf n plan)) ≡ map (granting ownTeid) (chosenRows (rowsOf n plan))
   unfolding chosenRows grantAt
   reported-grants n plan plan′ h e =
       let rows : List (List ℕ) = rowsOf n plan in
       let same : (tag : ℕ) → placesFrom tag 0 rows ≡ placesFrom tag 0 (rowsOf n plan′) =
       λ tag. sym (ap (placesFrom tag 0) e ∙ places-same tag (rowWith gs) (λ row. same-choosing (alike-with gs row) tag) 0 rows) in
-      let endpoints = same 127 in
+      let endpoints = same ie.createEndpoint in
       let pdrs = same 1 in
-      let kept = ap (λ (rs : List (List ℕ)). keep (choosing 127) rs ++ keep (choosing 1) rs) e in
-      let a = tag-grants 127 (λ row c. rw c) n plan h in
-      let b = tag-grants 1 (λ row c. rw c (or-true (choosing 127 row))) n plan h in
+      let kept = ap (λ (rs : List (List ℕ)). keep (choosing ie.createEndpoint) rs ++ keep (choosing 1) rs) e in
+      let a = tag-grants ie.createEndpoint (λ row c. rw c) n plan h in
+      let b = tag-grants 1 (λ row c. rw c (or-true (choosing ie.createEndpoint row))) n plan h in
       ap (grantsAt plan′) (λ j. endpoints j ++ pdrs j)
       ∙ place-rows rowGrant plan′ n
       ∙ ap (map rowGrant) kept
-      ∙ map-append rowGrant (keep (choosing 127) (map (rowWith gs) rows)) (keep (choosing 1) (map (rowWith gs) rows))
+      ∙ map-append rowGrant (keep (choosing ie.createEndpoint) (map (rowWith gs) rows)) (keep (choosing 1) (map (rowWith gs) rows))
       ∙ (λ j. a j ++ b j)
-      ∙ sym (map-append (granting ownTeid) (keep (choosing 127) rows) (keep (choosing 1) rows))
+      ∙ sym (map-append (granting ownTeid) (keep (choosing ie.createEndpoint) rows) (keep (choosing 1) rows))

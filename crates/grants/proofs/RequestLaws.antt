@@ -15,6 +15,8 @@ use Rattle.rules.specs.Elements.{sets, removal}
 use Rattle.rules.specs.Reading.{cleared, changed}
 use Rattle.rules.specs.Grants.{Grant}
 use Rattle.plan.specs.Rows.{word, hasTag, tagged, fteidFrom, rowFteid, rowLocal, present, rowPdr, rowEndpoint, rowFar, rowChange, rowPdi, rowPdrId, rowEndpointId, rowAddress, rowCsid, isNullRow, requestIn}
+use Rattle.rules.specs.Types as ie
+use Rattle.plan.specs.Words as its
 use Rattle.grants.specs.Choosing.{choosing, rowWith}
 use Rattle.grants.proofs.PlanLaws.{word-set, choosing-bit}
 
@@ -30,7 +32,7 @@ fteid-choose : (f t t′ a h l c : ℕ) → bit 2 f ≡ true → fteidFrom f t a
 unfolding fteidFrom
 fteid-choose f t t′ a h l c e = rw e
 
-set-fteid : (row : List ℕ) (t : ℕ) → bit 2 (word 12 row) ≡ true → rowFteid (set row 13 t) ≡ rowFteid row
+set-fteid : (row : List ℕ) (t : ℕ) → bit 2 (word its.flags row) ≡ true → rowFteid (set row 13 t) ≡ rowFteid row
 unfolding rowFteid
 set-fteid row t e =
     let f = word-set row t 12 (λ z. omega arith) in
@@ -38,15 +40,15 @@ set-fteid row t e =
     let h = word-set row t 15 (λ z. omega arith) in
     let l = word-set row t 16 (λ z. omega arith) in
     let c = word-set row t 17 (λ z. omega arith) in
-    (λ j. fteidFrom (f j) (word 13 (set row 13 t)) (a j) (h j) (l j) (c j))
-    ∙ fteid-choose (word 12 row) (word 13 (set row 13 t)) (word 13 row) (word 14 row) (word 15 row) (word 16 row) (word 17 row) e
+    (λ j. fteidFrom (f j) (word its.teid (set row 13 t)) (a j) (h j) (l j) (c j))
+    ∙ fteid-choose (word its.flags row) (word its.teid (set row 13 t)) (word its.teid row) (word its.ipv4 row) (word its.ipv6High row) (word its.ipv6Low row) (word its.chooseId row) e
 
 pub alike-with : (gs : List Grant) (row : List ℕ) → Alike (rowWith gs row) row
 unfolding rowWith
-alike-with gs row = one (choosing 127 row) (choosing 1 row) refl refl _
+alike-with gs row = one (choosing ie.createEndpoint row) (choosing 1 row) refl refl _
   where
-    one : (b d : Bool) → choosing 127 row ≡ b → choosing 1 row ≡ d → (t : ℕ) → Alike (pick (b || d) (set row 13 t) row) row
-    one true d e f t = record { words = word-set row t; fteid = set-fteid row t (choosing-bit 127 row e) }
+    one : (b d : Bool) → choosing ie.createEndpoint row ≡ b → choosing 1 row ≡ d → (t : ℕ) → Alike (pick (b || d) (set row 13 t) row) row
+    one true d e f t = record { words = word-set row t; fteid = set-fteid row t (choosing-bit ie.createEndpoint row e) }
     one false true e f t = record { words = word-set row t; fteid = set-fteid row t (choosing-bit 1 row f) }
     one false false e f t = record { words = λ k n. refl; fteid = refl }
 
@@ -148,21 +150,21 @@ module _ (h : List ℕ → List ℕ) (alike : (row : List ℕ) → Alike (h row)
   tagged-any t v e rows = ap (any v) (tagged-with t rows) ∙ any-with v e (tagged t rows)
 
   -- the FQ-CSIDs of the rows, and whether one removes all
-  pub csids-same : (rows : List (List ℕ)) → collect rowCsid (tagged 65 (map h rows)) ≡ collect rowCsid (tagged 65 rows)
+  pub csids-same : (rows : List (List ℕ)) → collect rowCsid (tagged ie.fqcsid (map h rows)) ≡ collect rowCsid (tagged ie.fqcsid rows)
   csids-same rows =
-      ap (collect rowCsid) (tagged-with 65 rows) ∙ collect-map h rowCsid (tagged 65 rows) ∙ collect-same (λ row. rowCsid (h row)) rowCsid (λ row. same-csid (alike row)) (tagged 65 rows)
+      ap (collect rowCsid) (tagged-with 65 rows) ∙ collect-map h rowCsid (tagged ie.fqcsid rows) ∙ collect-same (λ row. rowCsid (h row)) rowCsid (λ row. same-csid (alike row)) (tagged ie.fqcsid rows)
 
-  pub nulls-same : (rows : List (List ℕ)) → any isNullRow (tagged 65 (map h rows)) ≡ any isNullRow (tagged 65 rows)
+  pub nulls-same : (rows : List (List ℕ)) → any isNullRow (tagged ie.fqcsid (map h rows)) ≡ any isNullRow (tagged ie.fqcsid rows)
   nulls-same rows = tagged-any 65 isNullRow (λ row. same-null (alike row)) rows
 
   pub request-same : (seid : ℕ) (restoring noted : Bool) (rows : List (List ℕ)) → requestIn seid restoring noted (map h rows) ≡ requestIn seid restoring noted rows
   unfolding requestIn
   request-same seid restoring noted rows =
       let pdrs = tagged-map 1 rowPdr (λ row. same-pdr (alike row)) rows in
-      let endpoints = tagged-map 127 rowEndpoint (λ row. same-endpoint (alike row)) rows in
+      let endpoints = tagged-map ie.createEndpoint rowEndpoint (λ row. same-endpoint (alike row)) rows in
       let changes = tagged-map 9 rowChange (λ row. same-change (alike row)) rows in
       let gonePdrs = tagged-map 15 rowPdrId (λ row. alike row .words 7 (λ z. omega arith)) rows in
-      let goneEndpoints = tagged-map 130 rowEndpointId (λ row. alike row .words 11 (λ z. omega arith)) rows in
+      let goneEndpoints = tagged-map ie.removeEndpoint rowEndpointId (λ row. alike row .words 11 (λ z. omega arith)) rows in
       let pdis = tagged-any 9 rowPdi (λ row. same-pdi (alike row)) rows in
       λ j. record {
         seid = seid;

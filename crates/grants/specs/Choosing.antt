@@ -10,7 +10,9 @@ use lib.Dec.{ltb}
 use Rattle.octets.specs.Choice.{pick, headOr, rest}
 use Rattle.octets.specs.Octets.{bit, part}
 use Rattle.rules.specs.Grants.{Choice, Grant, grantTeid, grantFrom, grantedTeid}
+use Rattle.rules.specs.Types as ie
 use Rattle.plan.specs.Rows.{rowWidth, word, rowsOf, hasTag}
+use Rattle.plan.specs.Words as its
 use Rattle.pool.specs.Map.{teidsFrom}
 use Rattle.created.specs.Groups.{kindIn}
 use Rattle.created.specs.Entries.{maxGrants, rowId}
@@ -19,7 +21,7 @@ use Rattle.created.specs.Entries.{maxGrants, rowId}
 
 -- a row of a type whose F-TEID has CH
 unfoldable pub choosing : ℕ → List ℕ → Bool
-choosing tag row = hasTag tag row && bit 2 (word 12 row)
+choosing tag row = hasTag tag row && bit 2 (word its.flags row)
 
 -- where the rows of a type begin that choose; the first row begins at a place
 unfoldable pub placesFrom : ℕ → ℕ → List (List ℕ) → List ℕ
@@ -28,7 +30,7 @@ placesFrom tag at (row ∷ rows) = let more = placesFrom tag (at + rowWidth) row
 
 -- the places of a plan's rows that choose: endpoints in request order, then PDRs
 unfoldable pub places : ℕ → List ℕ → List ℕ
-places n plan = take maxGrants (placesFrom 127 0 (rowsOf n plan) ++ placesFrom 1 0 (rowsOf n plan))
+places n plan = take maxGrants (placesFrom ie.createEndpoint 0 (rowsOf n plan) ++ placesFrom 1 0 (rowsOf n plan))
 
 -- ---- what they choose
 
@@ -37,10 +39,10 @@ abbrev pub octet : ℕ → Option ℕ
 octet c = pick (ltb c 256) (some c) none
 
 unfoldable pub rowChooseId : List ℕ → Option ℕ
-rowChooseId row = pick (bit 3 (word 12 row)) (octet (word 17 row)) none
+rowChooseId row = pick (bit 3 (word its.flags row)) (octet (word its.chooseId row)) none
 
 unfoldable pub choiceIn : List ℕ → Choice
-choiceIn row = record { kind = kindIn (word 0 row); id = rowId row; v4 = bit 0 (word 12 row); v6 = bit 1 (word 12 row); chooseId = rowChooseId row }
+choiceIn row = record { kind = kindIn (word its.tag row); id = rowId row; v4 = bit 0 (word its.flags row); v6 = bit 1 (word its.flags row); chooseId = rowChooseId row }
 
 -- of the row at a place
 unfoldable pub choiceAt : List ℕ → ℕ → Choice
@@ -62,7 +64,7 @@ stores plan (p ∷ ps) ts = stores (set plan (p + 13) (headOr 0 ts)) ps (rest ts
 
 -- a row with the TEID of its grant, if it is one that chooses
 unfoldable pub rowWith : List Grant → List ℕ → List ℕ
-rowWith gs row = pick (choosing 127 row || choosing 1 row) (set row 13 (grantedTeid gs (kindIn (word 0 row)) (rowId row))) row
+rowWith gs row = pick (choosing ie.createEndpoint row || choosing 1 row) (set row 13 (grantedTeid gs (kindIn (word its.tag row)) (rowId row))) row
 
 -- what `grant` leaves and answers
 pub record Granted (n first : ℕ) (words : List ℕ) (size : ℕ) (plan : List ℕ) (r : ℕ) (plan′ places′ : List ℕ) : Type 0 where

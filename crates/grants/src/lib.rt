@@ -1,5 +1,7 @@
 // Grants: the TEIDs that a request's CHOOSEs get (01, "What a request does"), to endpoints in request order and then to PDRs.
 // A plan has rows of 18 words. A TEID goes into its row, where crate `created` reads it for the list of grants.
+use format::types;
+use format::words;
 ghost use mathlib.Core.Path.{_≡_};
 ghost use mathlib.Core.List.{_++_};
 ghost use Prim.Native.Nat.{_+_, _*_, _^_, _≤_, _<_};
@@ -27,10 +29,10 @@ fn chooses(row: &[u64], tag: u64) -> bool
     requires { ⌜ length (now row) ≡ rowWidth ⌝ }
     ensures { λ r. ⌜ r ≡ choosing tag (now (row .entry)) ⌝ }
 {
-    if row[0] != tag {
+    if row[words::TAG] != tag {
         return false;
     }
-    row[12] / 4 % 2 == 1
+    row[words::FLAGS] / 4 % 2 == 1
 }
 
 // Writes to `places`, from the k-th on and as far as there is room, where the rows begin that choose; the answer is how many places there are then.
@@ -62,13 +64,13 @@ fn choose_id(row: &[u64]) -> usize
     requires { ⌜ length (now row) ≡ rowWidth ⌝ }
     ensures { λ r. ⌜ r ≡ valueOr 256 (rowChooseId (now (row .entry))) ⌝ }
 {
-    if row[12] / 8 % 2 != 1 {
+    if row[words::FLAGS] / 8 % 2 != 1 {
         return IDS;
     }
-    if row[17] >= 256 {
+    if row[words::CHOOSE_ID] >= 256 {
         return IDS;
     }
-    row[17] as usize
+    row[words::CHOOSE_ID] as usize
 }
 
 // The word at a place, 0 past the end.
@@ -148,7 +150,7 @@ fn store(plan: &mut [u64], places: &[usize], teids: &[u64])
 {
     let mut i = 0;
     while i < places.len() {
-        plan[places[i] + 13] = teids[i];
+        plan[places[i] + words::TEID] = teids[i];
         i += 1;
     }
 }
@@ -167,8 +169,8 @@ pub fn grant(
     ensures { λ r. ⌜ Granted n first (now (words .entry)) size (now (plan .entry)) r (now (plan .exit)) (now (places .exit)) ⌝ }
 {
     let mut teids = [0u64; format::GRANTS];
-    let k = find_places(plan, n, 127, places, 0);
-    let m = find_places(plan, n, 1, places, k);
+    let k = find_places(plan, n, types::CREATE_ENDPOINT, places, 0);
+    let m = find_places(plan, n, types::CREATE_PDR, places, k);
     fill(plan, &places[..m], words, first, size, &mut teids);
     store(plan, &places[..m], &teids);
     m

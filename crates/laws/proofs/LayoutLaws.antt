@@ -22,7 +22,7 @@ use Rattle.rules.specs.Model.{Settings, Tunnel, Place, neither, tunnel, endpoin
 use Rattle.rules.specs.Limits.{maxPdrs, maxEndpoints, nodeTypes}
 use Rattle.rules.specs.Elements.{addressLength, nodeTypeKept, nodeAddressAllowed, nodeAddressTests, below16}
 use Rattle.rules.specs.Sound.{poolTests, settingsTests, settingsAllowed, inPool, tunnelTests, tunnelAllowed, placeAllowed, farAllowed, pdrTests, pdrAllowed, endpointTests, endpointAllowed, csidTests, csidAllowed, sessionTests, sessionAllowed}
-use Rattle.rules.specs.Layout.{families, optionRead, tunnelRead, pdrWidths, matchKind, matchTeid, matchFamilies, matchEndpoint, placeRead, pdrNumbers, pdrFrom, endpointWidths, endpointNumbers, endpointFrom, csidSlotWidths, csidSlotNumbers, addressRead, csidFrom, pdrWidth, endpointWidth, csidWidth, sessionHead, sessionWidth, area, pdrOctets, endpointOctets, csidOctets, sessionOctets, viewPdr, viewEndpoint, viewCsid, viewArea, viewSession}
+use Rattle.rules.specs.Layout.{families, optionRead, tunnelRead, pdrWidths, matchKind, matchTeid, matchFamilies, matchEndpoint, placeRead, pdrNumbers, pdrFrom, endpointWidths, endpointNumbers, endpointFrom, csidSlotWidths, csidSlotNumbers, addressRead, csidFrom, pdrWidth, endpointWidth, csidWidth, sessionWidth, area, pdrOctets, endpointOctets, csidOctets, sessionOctets, viewPdr, viewEndpoint, viewCsid, viewArea, viewSession}
 
 -- ---- areas
 
@@ -238,15 +238,15 @@ module _ (c : Csid) (h : T (csidAllowed c)) where
 -- ---- widths
 
 pub length-pdr : (p : Pdr) → length (pdrOctets p) ≡ pdrWidth
-unfolding pdrOctets pdrWidth pdrNumbers
+unfolding pdrOctets pdrNumbers
 length-pdr p = length-fieldOctets pdrWidths (pdrNumbers p) refl
 
 pub length-endpoint : (e : Endpoint) → length (endpointOctets e) ≡ endpointWidth
-unfolding endpointOctets endpointWidth endpointNumbers
+unfolding endpointOctets endpointNumbers
 length-endpoint e = length-fieldOctets endpointWidths (endpointNumbers e) refl
 
 pub length-csid : (c : Csid) → length (csidOctets c) ≡ csidWidth
-unfolding csidOctets csidWidth csidSlotNumbers
+unfolding csidOctets csidSlotNumbers
 length-csid c = length-fieldOctets csidSlotWidths (csidSlotNumbers c) refl
 
 -- ---- what is read, octet by octet
@@ -322,7 +322,7 @@ module _ (s : Settings) (hs : T (settingsAllowed s)) (x : Session) (hx : T (sess
   length-csidArea = length-area csidOctets csidWidth csidAllowed (λ c h. length-csid c) nodeTypes (x .csids) csidsOk fewCsids
 
   pub length-session : length (sessionOctets x) ≡ sessionWidth
-  unfolding sessionOctets be sessionWidth pdrArea endpointArea csidArea pdrWidth endpointWidth csidWidth
+  unfolding sessionOctets be pdrArea endpointArea csidArea
   length-session =
       ap eleven
       (length-append pdrArea (endpointArea ++ csidArea)
@@ -350,5 +350,5 @@ module _ (s : Settings) (hs : T (settingsAllowed s)) (x : Session) (hx : T (sess
 
   -- a session's octets are read back
   pub session-back : viewSession (sessionOctets x) ≡ x
-  unfolding viewSession sessionOctets viewArea be numberAt octetAt sessionHead pdrArea endpointArea csidArea pdrWidth endpointWidth
+  unfolding viewSession sessionOctets viewArea be numberAt octetAt pdrArea endpointArea csidArea
   session-back = λ j. record { seid = number-be 8 (x .seid) seidFits j; pdrs = pdrs-back j; endpoints = endpoints-back j; csids = csids-back j }

@@ -15,12 +15,14 @@ use Rattle.octets.specs.Octets.{be, numberAt, octetAt, put}
 use Rattle.octets.specs.Lists.{findBy}
 use Rattle.octets.proofs.Numbers.{number-be}
 use Rattle.rules.specs.Model.{Settings}
-use Rattle.rules.specs.Message.{Element, elements, body, kindOf, headerSeid, sequenceOf, hasType, contentIn, contentOf}
+use Rattle.rules.specs.Message.{Element, elements, body, kindOf, headerSeid, sequenceOf, hasType, contentIn, contentOf, establishment}
 use Rattle.laws.proofs.MessageLaws.{Fits, el, elements-cons}
 use Rattle.rules.specs.Grants.{Grant}
 use Rattle.rules.specs.Stages.{Verdict}
 use Rattle.rules.specs.Reply.{element, message, nodeIdElement, offendingElement, acceptedPart, replyBody, replySeid, reply}
 use Rattle.rules.specs.Live.{replyIn, replyElements, replyCause}
+use Rattle.rules.specs.Types as ie
+use Rattle.rules.specs.Causes as why
 
 small : {n : ℕ} → n ≤ 2048 → n < 256 ^ 2
 small h = le-trans (suc-le-suc h) (lit≤ tt)
@@ -65,15 +67,15 @@ one-fits t h c = (h, lit< tt)
 
 -- Node ID where there is one, then the cause
 cause-first : (establishing : Bool) (s : Settings) (c : ℕ) (rest : List ℕ) → length (s .ipv4) ≡ 4
-    → contentOf 19 (elements (pick establishing (element 60 (0 ∷ s .ipv4)) [] ++ (element 19 (c ∷ []) ++ rest))) ≡ some (c ∷ [])
+    → contentOf ie.cause (elements (pick establishing (element ie.nodeId (0 ∷ s .ipv4)) [] ++ (element ie.cause (c ∷ []) ++ rest))) ≡ some (c ∷ [])
 unfolding contentOf findBy hasType
 cause-first true s c rest four =
-    ap (λ (es : List Element). mapOption contentIn (findBy (hasType 19) es))
-    (elements-cons 60 (0 ∷ s .ipv4) (element 19 (c ∷ []) ++ rest) node-fits ∙ ap (λ (es : List Element). el 60 (0 ∷ s .ipv4) ∷ es) (elements-cons 19 (c ∷ []) rest (one-fits 19 (lit< tt) c)))
+    ap (λ (es : List Element). mapOption contentIn (findBy (hasType ie.cause) es))
+    (elements-cons ie.nodeId (0 ∷ s .ipv4) (element ie.cause (c ∷ []) ++ rest) node-fits ∙ ap (λ (es : List Element). el ie.nodeId (0 ∷ s .ipv4) ∷ es) (elements-cons ie.cause (c ∷ []) rest (one-fits ie.cause (lit< tt) c)))
   where
-    node-fits : Fits 60 (0 ∷ s .ipv4)
+    node-fits : Fits ie.nodeId (0 ∷ s .ipv4)
     node-fits = unfold Fits in (lit< tt, small (le-trans (le-of-eq (ap suc four)) (lit≤ tt)))
-cause-first false s c rest four = ap (λ (es : List Element). mapOption contentIn (findBy (hasType 19) es)) (elements-cons 19 (c ∷ []) rest (one-fits 19 (lit< tt) c))
+cause-first false s c rest four = ap (λ (es : List Element). mapOption contentIn (findBy (hasType ie.cause) es)) (elements-cons ie.cause (c ∷ []) rest (one-fits ie.cause (lit< tt) c))
 
 -- the reply's cause is the verdict's
 pub reply-cause : (s : Settings) (msg : List ℕ) (seid : ℕ) (v : Verdict) (gs : List Grant) (space : List ℕ)
@@ -81,10 +83,10 @@ pub reply-cause : (s : Settings) (msg : List ℕ) (seid : ℕ) (v : Verdict) (gs
     → replyCause (put 0 (reply s msg seid v gs) space) ≡ v .cause
 unfolding replyCause reply replyBody nodeIdElement octetAt
 reply-cause s msg seid v gs space four three short =
-    ap (λ (es : List Element). octetAt (valueOr [] (contentOf 19 es)) 0)
+    ap (λ (es : List Element). octetAt (valueOr [] (contentOf ie.cause es)) 0)
     (elements-there (kindOf msg + 1) (replySeid (kindOf msg) (v .cause) (headerSeid msg) seid) (sequenceOf msg) (replyBody (kindOf msg) s seid v gs) space three short)
     ∙ ap (λ (o : Option (List ℕ)). octetAt (valueOr [] o) 0)
-    (cause-first (eqb (kindOf msg) 50) s (v .cause) (offendingElement (v .offending) ++ pick (eqb (v .cause) 1) (acceptedPart (kindOf msg) s seid gs) []) four)
+    (cause-first (eqb (kindOf msg) establishment) s (v .cause) (offendingElement (v .offending) ++ pick (eqb (v .cause) why.accepted) (acceptedPart (kindOf msg) s seid gs) []) four)
 
 pub sequence-three : (msg : List ℕ) → 16 ≤ length msg → length (sequenceOf msg) ≡ 3
 unfolding sequenceOf

@@ -20,7 +20,7 @@ use Rattle.laws.proofs.ReadLaws.{OnValue, OnDone, named-done, once-done
 use Rattle.rules.specs.Elements.{missing, conditional, incorrect, Fteid, Fqcsid, readFteid, readFqcsid, readFseid, nodeOf}
 use Rattle.rules.specs.Sound.{farAllowed}
 use Rattle.rules.specs.Types as ie
-use Rattle.rules.specs.Message.{establishment, modification, deletion, kindOf, body, Element, elements, actedOn, placesOf, widthOf}
+use Rattle.rules.specs.Message.{establishment, modification, deletion, kindOf, body, Element, elements, actedOn, placesOf, numberWidth}
 use Rattle.rules.specs.Reading.{NewPdr, NewEndpoint, Change, Item, createsPdr, createsEndpoint, updatesPdr, removesPdr, removesEndpoint, setsCsid, clearsCsids, updatesEndpoint, CsidChanges, cleared, changed, Request, Reading, faulty, done, refusal, named, Members, noMembers, withPdi, withLocal, holds, numberRead, farRead, pdiIn, valueRead, memberRead, membersRead, unopened, pdiEnd, pdiRead, pdrFrom, endpointFrom, changeFrom, itemFrom, groupRead, Draft, emptyDraft, withSeid, withRestores, withNode, withItem, seidRead, flagsRead, csidCountAllowed, withCsid, csidRead, actedRead, elementRead, elementsRead, pdrIn, endpointIn, changeIn, csidIn, clears, restoringIn, requestOf, createsAny, finished, aloneIn, topRead, read, faultIn, readFault, askedIn, readRequest}
 
 -- ---- the records
@@ -67,15 +67,15 @@ record MembersRead (e : Bool) (m : Members) : Type 0 where
   endpointId : OnSome (λ n. T (ltb n 256)) (m .endpointId)
 
 -- a number is below 256 to its width
-number-read : (t w : ℕ) (v : List ℕ) → widthOf t ≡ w → T (areBytes v) → OnDone (λ n. T (ltb n (256 ^ w))) (numberRead t v)
+number-read : (t w : ℕ) (v : List ℕ) → numberWidth t ≡ w → T (areBytes v) → OnDone (λ n. T (ltb n (256 ^ w))) (numberRead t v)
 unfolding numberRead
 number-read t w v e h =
-    pick-either (OnDone (λ n. T (ltb n (256 ^ w)))) (ltb (length v) (widthOf t)) _ _ tt
-    (lt→ltb (numberAt 0 (widthOf t) v) (256 ^ w) (subst (λ (k : ℕ). numberAt 0 (widthOf t) v < 256 ^ k) e (field-bound (widthOf t) v h)))
+    pick-either (OnDone (λ n. T (ltb n (256 ^ w)))) (ltb (length v) (numberWidth t)) _ _ tt
+    (lt→ltb (numberAt 0 (numberWidth t) v) (256 ^ w) (subst (λ (k : ℕ). numberAt 0 (numberWidth t) v < 256 ^ k) e (field-bound (numberWidth t) v h)))
 
 -- the width of a type that is known
-width-of : (t k : ℕ) → T (eqb t k) → widthOf t ≡ widthOf k
-width-of t k c = ap widthOf (eqb→eq t k c)
+width-of : (t k : ℕ) → T (eqb t k) → numberWidth t ≡ numberWidth k
+width-of t k c = ap numberWidth (eqb→eq t k c)
 
 other-width : (a b c : Bool) → T (not a) → T (not b) → T (not c) → _≡_ {A = ℕ} (pick a 2 (pick (b || c) 4 1)) 1
 other-width false false false x y z = refl
@@ -84,7 +84,7 @@ other-width false true c x y z = absurd y
 other-width false false true x y z = absurd z
 
 far-read : (g : ℕ) (v : List ℕ) → T (areBytes v) → OnDone (λ f. T (farAllowed f)) (farRead g v)
-unfolding farRead farAllowed widthOf
+unfolding farRead farAllowed numberWidth
 far-read g v h =
     pick-either (OnDone (λ f. T (farAllowed f))) (eqb g ie.updatePdr && isNil v) _ _ tt
     (then-done (λ n. T (ltb n (2 ^ 32))) (λ f. T (farAllowed f)) (numberRead ie.farId v) _ (number-read ie.farId 4 v refl h) (λ n k. k))
@@ -109,7 +109,7 @@ module _ (inner : List ℕ → Members → Reading Members) (keeps : Keeps inner
       (λ _. with-pdi (eqb g ie.createEndpoint) m b)
 
   value-read : (t : ℕ) (v : List ℕ) (m : Members) → T (areBytes v) → Kept m → OnDone Kept (valueRead inner g t v m)
-  unfolding valueRead widthOf
+  unfolding valueRead numberWidth
   value-read t v m h b =
       pick-cases (OnDone Kept) (eqb t ie.pdrId) _ _
       (λ c. then-done (λ n. T (ltb n (2 ^ 16))) Kept (numberRead t v) _ (number-read t 2 v (width-of t ie.pdrId c) h)

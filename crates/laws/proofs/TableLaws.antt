@@ -17,7 +17,7 @@ use Rattle.octets.proofs.Tests.{each, Each, all-of-each, of-true}
 use Rattle.octets.proofs.Numbers.{same-refl, number-be, length-padded}
 use Rattle.rules.specs.Model.{Settings, Sessions}
 use Rattle.rules.specs.Sound.{poolTests, ipv6Allowed, settingsTests, settingsAllowed, sessionAllowed, sessionsTests, sessionsAllowed, soundTests, sound}
-use Rattle.rules.specs.Layout.{headWidth, sessionWidth, tableLength, area, sessionOctets, settingsOctets, encode, viewArea, viewSession, viewSettings, viewSessions}
+use Rattle.rules.specs.Layout.{headWidth, sessionWidth, tableLength, area, sessionOctets, settingsOctets, encode, viewArea, viewSession, viewSettings, viewSessions, settingsWidth}
 use Rattle.laws.proofs.LayoutLaws.{length-area, area-back, length-session, session-back}
 
 -- ---- settings
@@ -75,7 +75,7 @@ module _ (a b c d : ℕ) (v : List ℕ) (f n : ℕ) (t : List ℕ) (hv : T (ipv6
 
 -- ---- tables
 
-regroup : (n : ℕ) → 29 + suc (suc n) ≡ 31 + n
+regroup : (n : ℕ) → settingsWidth + suc (suc n) ≡ headWidth + n
 regroup n = omega arith
 
 module _ (s : Settings) (hs : T (settingsAllowed s)) where
@@ -115,7 +115,7 @@ module _ (s : Settings) (hs : T (settingsAllowed s)) where
       (λ a b c d. cells a b c d (s .ipv6) (s .first) (s .size) t ipv6-ok first-fits size-fits)
       (s .ipv4) ipv4-four
 
-  pub length-settings : length (settingsOctets s) ≡ 29
+  pub length-settings : length (settingsOctets s) ≡ settingsWidth
   unfolding settingsOctets be
   length-settings =
       length-append (s .ipv4) (flag (not (isNil (s .ipv6))) ∷ padded 16 (s .ipv6) ++ (be 4 (s .first) ++ be 4 (s .size)))
@@ -149,7 +149,7 @@ module _ (s : Settings) (hs : T (settingsAllowed s)) where
 
     sessions-cells : (a b c d : ℕ)
         → viewSessions (settingsOctets (record { ipv4 = a ∷ b ∷ c ∷ d ∷ []; ipv6 = s .ipv6; first = s .first; size = s .size }) ++ after) ≡ m
-    unfolding viewSessions viewArea settingsOctets numberAt headWidth after be tail
+    unfolding viewSessions viewArea settingsOctets numberAt after be tail
     sessions-cells a b c d =
         let behind = past a b c d (s .ipv6) (s .first) (s .size) after ipv6-ok in
         ap₂ (λ (k : ℕ) (xs : List ℕ). map viewSession (slices sessionWidth k xs))
@@ -171,7 +171,7 @@ module _ (s : Settings) (hs : T (settingsAllowed s)) where
 
     -- the length does not depend on what is encoded
     pub length-encode : length (encode limit s m) ≡ tableLength limit
-    unfolding encode tableLength headWidth be sessionArea
+    unfolding encode be sessionArea
     length-encode =
         length-append (settingsOctets s) (be 2 (length m) ++ sessionArea)
         ∙ ap₂ (λ (i j : ℕ). i + suc (suc j)) length-settings (length-area sessionOctets sessionWidth (sessionAllowed s) (length-session s hs) limit m eachSession fewSessions)

@@ -14,7 +14,7 @@ use Rattle.octets.proofs.Tests.{pick-either}
 use Rattle.octets.proofs.ListLaws.{Every, OnSome, pick-cases}
 use Rattle.rules.specs.Elements.{Answer, refuse, value, missing, tooShort, incorrect, Fqcsid, addressLength, csidRest, readFseid, readFqcsid, readFteid}
 use Rattle.rules.specs.Types as ie
-use Rattle.rules.specs.Message.{Element, elementLength, elementsUpTo, elements, hasType, placesOf, widthOf}
+use Rattle.rules.specs.Message.{Element, elementLength, elementsUpTo, elements, hasType, placesOf, numberWidth}
 use Rattle.rules.specs.Reading.{Item, clearsCsids, setsCsid, updatesEndpoint, Reading, done, andThen, named, need, Members, noMembers, withPdi, holds, numberRead, farRead, pdiIn, valueRead, memberRead, membersRead, unopened, pdiEnd, pdiRead, pdrFrom, endpointFrom, changeFrom, itemFrom, groupRead, Draft, emptyDraft, elementRead, clears, aloneIn}
 use Rattle.laws.proofs.ReadLaws.{OnValue, OnDone, anything, any-value, then-done, need-done, need-any}
 use Rattle.laws.proofs.RequestLaws.{element-step}
@@ -54,10 +54,10 @@ within k xs h = within-upTo (length xs) k xs h
 -- ---- a group has an ID, of an octet at least
 
 some-octets : (t : ℕ) (v : List ℕ) → OnDone (λ _. 1 ≤ length v) (numberRead t v)
-unfolding numberRead widthOf
+unfolding numberRead numberWidth
 some-octets t v =
-    pick-cases (OnDone (λ _. 1 ≤ length v)) (ltb (length v) (widthOf t)) _ _ (λ _. tt)
-    (λ long. le-trans (pick-either (λ (w : ℕ). 1 ≤ w) (eqb t ie.pdrId) _ _ (omega arith) (pick-either (λ (w : ℕ). 1 ≤ w) (eqb t ie.precedence || eqb t ie.farId) _ _ (omega arith) (omega arith))) (nltb→le (length v) (widthOf t) long))
+    pick-cases (OnDone (λ _. 1 ≤ length v)) (ltb (length v) (numberWidth t)) _ _ (λ _. tt)
+    (λ long. le-trans (pick-either (λ (w : ℕ). 1 ≤ w) (eqb t ie.pdrId) _ _ (omega arith) (pick-either (λ (w : ℕ). 1 ≤ w) (eqb t ie.precedence || eqb t ie.farId) _ _ (omega arith) (omega arith))) (nltb→le (length v) (numberWidth t) long))
 
 module _ (n : ℕ) where
   -- what has an ID has 5 octets

@@ -15,7 +15,7 @@ use Rattle.octets.specs.Octets.{slices}
 use Rattle.octets.specs.Lists.{all, collect}
 use Rattle.octets.proofs.Tests.{each, of-true}
 use Rattle.rules.specs.Model.{Settings, Session, Holding, Pdr, sessionHoldings, sessionTeids, teidOf, pdrHolding, endpointHolding, endpointId}
-use Rattle.rules.specs.Layout.{viewPdr, viewEndpoint}
+use Rattle.rules.specs.Layout.{viewPdr, viewEndpoint, pdrWidth, endpointWidth, csidWidth, pdrCountAt, endpointCountAt, csidCountAt}
 use Rattle.rules.specs.Sound.{inPool, sessionTests}
 use Rattle.pool.specs.Map.{marked, mark, marks, newMarks, offsets}
 use Rattle.pool.proofs.Marks.{length-marks}
@@ -53,10 +53,10 @@ length-after first ws hs = length-marks ws (offsets first (map teidOf hs))
 -- ---- a slot's holds
 
 abbrev pub endpointsOf : List ℕ → List Holding
-endpointsOf xs = endpointHolds (getD xs 9 0) (endpointArea xs)
+endpointsOf xs = endpointHolds (getD xs endpointCountAt 0) (endpointArea xs)
 
 abbrev pub pdrsOf : List ℕ → List Holding
-pdrsOf xs = pdrHolds (getD xs 8 0) (pdrArea xs)
+pdrsOf xs = pdrHolds (getD xs pdrCountAt 0) (pdrArea xs)
 
 holds-are : (xs : List ℕ) → Counts xs → slotHolds xs ≡ endpointsOf xs ++ pdrsOf xs
 unfolding slotHolds sessionHoldings slotOf endpointHolds pdrHolds
@@ -76,18 +76,18 @@ length-collect (p ∷ ps) = one (pdrHolding p) (length-collect ps)
     one none h = le-trans h (omega arith)
     one (some k) h = suc-le-suc h
 
-few-endpoints : (xs : List ℕ) → length (endpointsOf xs) ≡ getD xs 9 0
+few-endpoints : (xs : List ℕ) → length (endpointsOf xs) ≡ getD xs endpointCountAt 0
 unfolding endpointHolds
 few-endpoints xs =
-    length-map (map viewEndpoint (slices 6 (getD xs 9 0) (endpointArea xs))) endpointHolding
-    ∙ length-map (slices 6 (getD xs 9 0) (endpointArea xs)) viewEndpoint
-    ∙ length-slices 6 (getD xs 9 0) (endpointArea xs)
+    length-map (map viewEndpoint (slices endpointWidth (getD xs endpointCountAt 0) (endpointArea xs))) endpointHolding
+    ∙ length-map (slices endpointWidth (getD xs endpointCountAt 0) (endpointArea xs)) viewEndpoint
+    ∙ length-slices endpointWidth (getD xs endpointCountAt 0) (endpointArea xs)
 
-few-pdrs : (xs : List ℕ) → length (pdrsOf xs) ≤ getD xs 8 0
+few-pdrs : (xs : List ℕ) → length (pdrsOf xs) ≤ getD xs pdrCountAt 0
 unfolding pdrHolds
 few-pdrs xs =
-    le-trans (length-collect (map viewPdr (slices 19 (getD xs 8 0) (pdrArea xs))))
-    (le-of-eq (length-map (slices 19 (getD xs 8 0) (pdrArea xs)) viewPdr ∙ length-slices 19 (getD xs 8 0) (pdrArea xs)))
+    le-trans (length-collect (map viewPdr (slices pdrWidth (getD xs pdrCountAt 0) (pdrArea xs))))
+    (le-of-eq (length-map (slices pdrWidth (getD xs pdrCountAt 0) (pdrArea xs)) viewPdr ∙ length-slices pdrWidth (getD xs pdrCountAt 0) (pdrArea xs)))
 
 -- ---- what an answer of a walk says
 
@@ -132,13 +132,13 @@ module _ (first size : ℕ) (v6 : Bool) (ws xs : List ℕ) (h : Bool) (q : h ≡
   s = unit first size v6
 
   abbrev pub csidsSound : Bool
-  csidsSound = areaSound csidSound 20 1 (getD xs 10 0) (csidArea xs)
+  csidsSound = areaSound csidSound csidWidth 1 (getD xs csidCountAt 0) (csidArea xs)
 
   abbrev pub endpointsSound : Bool
-  endpointsSound = areaSound (endpointSound s) 6 1 (getD xs 9 0) (endpointArea xs)
+  endpointsSound = areaSound (endpointSound s) endpointWidth 1 (getD xs endpointCountAt 0) (endpointArea xs)
 
   abbrev pub pdrsSound : Bool
-  pdrsSound = areaSound (pdrSound s (endpointIds (getD xs 9 0) (endpointArea xs))) 19 2 (getD xs 8 0) (pdrArea xs)
+  pdrsSound = areaSound (pdrSound s (endpointIds (getD xs endpointCountAt 0) (endpointArea xs))) pdrWidth 2 (getD xs pdrCountAt 0) (pdrArea xs)
 
   clashes : (w : List ℕ) → slotKeeps s ws xs ≡ false → Admitted s ws xs Clash w
   clashes w e = record {

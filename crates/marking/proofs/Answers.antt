@@ -14,7 +14,7 @@ use Rattle.octets.specs.Octets.{part, number, octets}
 use Rattle.octets.specs.Fields.{fieldsAt}
 use Rattle.octets.specs.Lists.{collect}
 use Rattle.rules.specs.Model.{Holding, pdrHolding, endpointHolding, tunnelHolding}
-use Rattle.rules.specs.Layout.{tunnelRead, endpointFrom, viewEndpoint}
+use Rattle.rules.specs.Layout.{tunnelRead, endpointFrom, viewEndpoint, pdrWidth, endpointWidth}
 use Rattle.pool.specs.Map.{marked, mark}
 use Rattle.holdings.specs.Walk.{joins}
 use Rattle.holdings.proofs.RecordWalk.{look-end}
@@ -51,7 +51,7 @@ module _ (xs : List ℕ) (first size : ℕ) (v6 : Bool) (ws : List ℕ) (b : Boo
   endpoint-broken h = step-broken (sym qb ∙ not-true b h)
 
   module _ (good : not b ≡ false) (t : ℕ) (q : t ≡ number (part 1 4 xs)) where
-    pub endpoint-fits : length xs ≡ 6 → T (octets xs) → first + size ≤ 2 ^ 32 → size ≤ 64 * length ws → (first ≤ t) × (t - first < 64 * length ws)
+    pub endpoint-fits : length xs ≡ endpointWidth → T (octets xs) → first + size ≤ 2 ^ 32 → size ≤ 64 * length ws → (first ≤ t) × (t - first < 64 * length ws)
     endpoint-fits e o pool room =
         let f = endpoint-pool first size v6 pool xs e o (sym qb ∙ not-false b good) in
         (omega (arith, f .0, q), omega (arith, f .0, f .1, q))
@@ -72,15 +72,15 @@ module _ (xs : List ℕ) (first size : ℕ) (v6 : Bool) (ws : List ℕ) (b : Boo
 
 -- the slot as the code has it
 abbrev pub slotAt : List ℕ → ℕ → List ℕ
-slotAt a i = take (i * 19 + 19 - i * 19) (drop (i * 19) a)
+slotAt a i = take (i * pdrWidth + pdrWidth - i * pdrWidth) (drop (i * pdrWidth) a)
 
 module _ (a : List ℕ) (i : ℕ) where
-  slot-is : slotAt a i ≡ part (i * 19) 19 a
-  slot-is = let span : i * 19 + 19 - i * 19 ≡ 19 = omega arith in rw span
+  slot-is : slotAt a i ≡ part (i * pdrWidth) pdrWidth a
+  slot-is = let span : i * pdrWidth + pdrWidth - i * pdrWidth ≡ pdrWidth = omega arith in rw span
 
   hold-is : holdAt a i ≡ pick (eqb (getD (slotAt a i) 12 0) 1) (some (heldBy (slotAt a i))) none
   unfolding holdAt
-  hold-is = hold-of (part (i * 19) 19 a) ∙ ap (λ (x : List ℕ). pick (eqb (getD x 12 0) 1) (some (heldBy x)) none) (sym slot-is)
+  hold-is = hold-of (part (i * pdrWidth) pdrWidth a) ∙ ap (λ (x : List ℕ). pick (eqb (getD x 12 0) 1) (some (heldBy x)) none) (sym slot-is)
 
   hold-absent : (getD (slotAt a i) 12 0 ≡ 1 → ⊥) → holdAt a i ≡ none
   hold-absent h = hold-is ∙ rw (ne-eqb (getD (slotAt a i) 12 0) 1 h)
@@ -90,7 +90,7 @@ module _ (a : List ℕ) (i : ℕ) where
 
   module _ (first size : ℕ) (v6 : Bool) (live ws : List ℕ) (earlier : List Holding) (b : Bool) (qb : b ≡ pdrSound (unit first size v6) live (slotAt a i)) where
     abbrev pub soundAt : Bool
-    soundAt = pdrSound (unit first size v6) live (part (i * 19) 19 a)
+    soundAt = pdrSound (unit first size v6) live (part (i * pdrWidth) pdrWidth a)
 
     sound-is : b ≡ soundAt
     sound-is = qb ∙ ap (pdrSound (unit first size v6) live) slot-is
@@ -104,7 +104,7 @@ module _ (a : List ℕ) (i : ℕ) where
       pdr-none h = step-good (sym sound-is ∙ not-false b good) (sym (rw (hold-absent h))) (sym (rw (hold-absent h)))
 
       module _ (there : getD (slotAt a i) 12 0 ≡ 1) (t : ℕ) (q : t ≡ number (part 13 4 (slotAt a i))) where
-        pub pdr-fits : length (slotAt a i) ≡ 19 → T (octets (slotAt a i)) → first + size ≤ 2 ^ 32 → size ≤ 64 * length ws → (first ≤ t) × (t - first < 64 * length ws)
+        pub pdr-fits : length (slotAt a i) ≡ pdrWidth → T (octets (slotAt a i)) → first + size ≤ 2 ^ 32 → size ≤ 64 * length ws → (first ≤ t) × (t - first < 64 * length ws)
         pdr-fits e o pool room =
             let f = pdr-pool first size v6 pool live (slotAt a i) e o (sym qb ∙ not-false b good) there in
             (omega (arith, f .0, q), omega (arith, f .0, f .1, q))
@@ -138,6 +138,6 @@ module _ (a : List ℕ) (i : ℕ) where
 
 -- an endpoint as the code of a walk has it
 pub endpoint-at : (first size : ℕ) (v6 : Bool) (ws a : List ℕ) (i : ℕ) (r : Marks) (ws′ : List ℕ)
-    → let xs = take (i * 6 + 6 - i * 6) (drop (i * 6) a) in Stepped (endpointSound (unit first size v6) xs) first ws [] (endpointHold xs) r ws′
-    → Stepped (endpointSound (unit first size v6) (part (i * 6) 6 a)) first ws [] (endpointHold (part (i * 6) 6 a)) r ws′
-endpoint-at first size v6 ws a i r ws′ t = let span : i * 6 + 6 - i * 6 ≡ 6 = omega arith in rw span at t
+    → let xs = take (i * endpointWidth + 6 - i * endpointWidth) (drop (i * endpointWidth) a) in Stepped (endpointSound (unit first size v6) xs) first ws [] (endpointHold xs) r ws′
+    → Stepped (endpointSound (unit first size v6) (part (i * endpointWidth) 6 a)) first ws [] (endpointHold (part (i * endpointWidth) 6 a)) r ws′
+endpoint-at first size v6 ws a i r ws′ t = let span : i * endpointWidth + 6 - i * endpointWidth ≡ 6 = omega arith in rw span at t

@@ -16,7 +16,7 @@ use Rattle.octets.specs.Octets.{part, number, octetAt, bit, slices}
 use Rattle.octets.specs.Lists.{collect}
 use Rattle.octets.proofs.Tests.{and-left, and-right, both}
 use Rattle.rules.specs.Model.{neither, tunnel, endpoint, Pdr, tunnelHolding, placeTunnel, pdrHolding}
-use Rattle.rules.specs.Layout.{tunnelRead, placeRead, viewPdr}
+use Rattle.rules.specs.Layout.{tunnelRead, placeRead, viewPdr, pdrWidth}
 use Rattle.laws.proofs.LayoutLaws.{pdr-view}
 use Rattle.holdings.specs.Walk.{joins}
 use Rattle.holdings.proofs.RecordWalk.{look-none, look-some, look-end}
@@ -97,28 +97,28 @@ look-step xs ds ys = look-with (eqb (getD xs 12 0) 1) xs ds ys (hold-of xs)
 -- the loop: what is left of the PDRs gives the same answer
 module _ (a : List ℕ) (n i : ℕ) (ys : List ℕ) where
   abbrev pub looksFrom : ℕ → Bool
-  looksFrom j = joins (pdrHolds (n - j) (drop (j * 19) a)) (heldBy ys)
+  looksFrom j = joins (pdrHolds (n - j) (drop (j * pdrWidth) a)) (heldBy ys)
 
   module _ (h : i < n) where
-    here : looksFrom i ≡ pick (holdsTeid (part (i * 19) 19 a) (number (part 13 4 ys))) (alike (part (i * 19) 19 a) ys) (looksFrom (i + 1))
+    here : looksFrom i ≡ pick (holdsTeid (part (i * pdrWidth) pdrWidth a) (number (part 13 4 ys))) (alike (part (i * pdrWidth) pdrWidth a) ys) (looksFrom (i + 1))
     unfolding pdrHolds
-    here = rw (slices-more 19 a n i h) (look-step (part (i * 19) 19 a) (map viewPdr (slices 19 (n - (i + 1)) (drop ((i + 1) * 19) a))) ys)
+    here = rw (slices-more pdrWidth a n i h) (look-step (part (i * pdrWidth) pdrWidth a) (map viewPdr (slices pdrWidth (n - (i + 1)) (drop ((i + 1) * pdrWidth) a))) ys)
 
     -- as the code has the slot
-    module _ (t : ℕ) (q : t ≡ number (part 13 4 ys)) (r : Bool) (e : r ≡ holdsTeid (take (i * 19 + 19 - i * 19) (drop (i * 19) a)) t) where
-      held : r ≡ holdsTeid (part (i * 19) 19 a) (number (part 13 4 ys))
-      held = let span : i * 19 + 19 - i * 19 ≡ 19 = omega arith in rw (span, q) at e
+    module _ (t : ℕ) (q : t ≡ number (part 13 4 ys)) (r : Bool) (e : r ≡ holdsTeid (take (i * pdrWidth + pdrWidth - i * pdrWidth) (drop (i * pdrWidth) a)) t) where
+      held : r ≡ holdsTeid (part (i * pdrWidth) pdrWidth a) (number (part 13 4 ys))
+      held = let span : i * pdrWidth + pdrWidth - i * pdrWidth ≡ pdrWidth = omega arith in rw (span, q) at e
 
-      pub look-here : (k : Bool) → r ≡ true → k ≡ alike (take (i * 19 + 19 - i * 19) (drop (i * 19) a)) ys → k ≡ looksFrom i
+      pub look-here : (k : Bool) → r ≡ true → k ≡ alike (take (i * pdrWidth + pdrWidth - i * pdrWidth) (drop (i * pdrWidth) a)) ys → k ≡ looksFrom i
       look-here k g u =
-          let span : i * 19 + 19 - i * 19 ≡ 19 = omega arith in
-          let v : k ≡ alike (part (i * 19) 19 a) ys = rw span at u in
+          let span : i * pdrWidth + pdrWidth - i * pdrWidth ≡ pdrWidth = omega arith in
+          let v : k ≡ alike (part (i * pdrWidth) pdrWidth a) ys = rw span at u in
           v ∙ sym (here ∙ rw (← held, g))
 
       pub look-later : r ≡ false → looksFrom i ≡ looksFrom (i + 1)
       look-later g = here ∙ rw (← held, g)
 
-pub look-none-left : (a : List ℕ) (n i : ℕ) (ys : List ℕ) → n ≤ i → joins (pdrHolds (n - i) (drop (i * 19) a)) (heldBy ys) ≡ false
+pub look-none-left : (a : List ℕ) (n i : ℕ) (ys : List ℕ) → n ≤ i → joins (pdrHolds (n - i) (drop (i * pdrWidth) a)) (heldBy ys) ≡ false
 unfolding pdrHolds slices
 look-none-left a n i ys h = let e : n - i ≡ 0 = omega arith in rw e (look-end pdrHolding (heldBy ys))
 

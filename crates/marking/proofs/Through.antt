@@ -10,7 +10,7 @@ use lib.ListN.{length, take, drop}
 use Rattle.octets.specs.Choice.{pick}
 use Rattle.octets.specs.Octets.{part, slices}
 use Rattle.rules.specs.Model.{Settings, sessionTeids, heldTeids}
-use Rattle.rules.specs.Layout.{viewSession}
+use Rattle.rules.specs.Layout.{viewSession, sessionWidth}
 use Rattle.pool.specs.Map.{marks, newMarks, offsets}
 use Rattle.pool.proofs.Marks.{marks-append, new-append, offsets-append}
 use Rattle.sessions.proofs.Turns.{slices-more}
@@ -54,30 +54,30 @@ module _ (s : Settings) (ws₀ a : List ℕ) (n : ℕ) where
     pub within : i ≤ n
     pub few : new ≤ 24 * i
     pub long : length ws ≡ length ws₀
-    pub keeps : slotsKeep s ws (slices 483 (n - i) (drop (i * 483) a)) ≡ slotsKeep s ws₀ (slices 483 n a)
-    pub words : marks ws (offsets (s .first) (teidsIn (slices 483 (n - i) (drop (i * 483) a)))) ≡ marks ws₀ (offsets (s .first) (teidsIn (slices 483 n a)))
-    pub count : new + newMarks ws (offsets (s .first) (teidsIn (slices 483 (n - i) (drop (i * 483) a)))) ≡ newMarks ws₀ (offsets (s .first) (teidsIn (slices 483 n a)))
+    pub keeps : slotsKeep s ws (slices sessionWidth (n - i) (drop (i * sessionWidth) a)) ≡ slotsKeep s ws₀ (slices sessionWidth n a)
+    pub words : marks ws (offsets (s .first) (teidsIn (slices sessionWidth (n - i) (drop (i * sessionWidth) a)))) ≡ marks ws₀ (offsets (s .first) (teidsIn (slices sessionWidth n a)))
+    pub count : new + newMarks ws (offsets (s .first) (teidsIn (slices sessionWidth (n - i) (drop (i * sessionWidth) a)))) ≡ newMarks ws₀ (offsets (s .first) (teidsIn (slices sessionWidth n a)))
 
   pub through-none : Through ws₀ 0 0
   through-none =
       let e : n - 0 ≡ n = omega arith in
-      record { within = zero-le; few = zero-le; long = refl; keeps = rw e; words = rw e; count = rw e (zero-add (newMarks ws₀ (offsets (s .first) (teidsIn (slices 483 n a))))) }
+      record { within = zero-le; few = zero-le; long = refl; keeps = rw e; words = rw e; count = rw e (zero-add (newMarks ws₀ (offsets (s .first) (teidsIn (slices sessionWidth n a))))) }
 
   module _ {ws : List ℕ} {i new : ℕ} (p : Through ws i new) (h : i < n) (r : Marks) (ws′ : List ℕ)
-      (m : Admitted s ws (take (i * 483 + 483 - i * 483) (drop (i * 483) a)) r ws′) where
+      (m : Admitted s ws (take (i * sessionWidth + sessionWidth - i * sessionWidth) (drop (i * sessionWidth) a)) r ws′) where
     slot : List ℕ
-    slot = part (i * 483) 483 a
+    slot = part (i * sessionWidth) sessionWidth a
 
     left : List (List ℕ)
-    left = slices 483 (n - (i + 1)) (drop ((i + 1) * 483) a)
+    left = slices sessionWidth (n - (i + 1)) (drop ((i + 1) * sessionWidth) a)
 
-    more : slices 483 (n - i) (drop (i * 483) a) ≡ slot ∷ left
+    more : slices sessionWidth (n - i) (drop (i * sessionWidth) a) ≡ slot ∷ left
     unfolding slot left
-    more = slices-more 483 a n i h
+    more = slices-more sessionWidth a n i h
 
     here : Admitted s ws slot r ws′
     unfolding slot
-    here = let span : i * 483 + 483 - i * 483 ≡ 483 = omega arith in subst (λ (k : ℕ). Admitted s ws (take k (drop (i * 483) a)) r ws′) span m
+    here = let span : i * sessionWidth + sessionWidth - i * sessionWidth ≡ sessionWidth = omega arith in subst (λ (k : ℕ). Admitted s ws (take k (drop (i * sessionWidth) a)) r ws′) span m
 
     pub through-more : (k : ℕ) → r ≡ New k → Through ws′ (i + 1) (new + k)
     unfolding slotsKeep left
@@ -97,20 +97,20 @@ module _ (s : Settings) (ws₀ a : List ℕ) (n : ℕ) where
               ∙ p .count;
         }
 
-    pub through-clash : (w : List ℕ) → r ≡ Clash → AllAdmitted s ws₀ (slices 483 n a) Clash w
+    pub through-clash : (w : List ℕ) → r ≡ Clash → AllAdmitted s ws₀ (slices sessionWidth n a) Clash w
     unfolding slotsKeep
     through-clash w e =
-        let no : slotsKeep s ws₀ (slices 483 n a) ≡ false =
+        let no : slotsKeep s ws₀ (slices sessionWidth n a) ≡ false =
         sym (p .keeps) ∙ ap (slotsKeep s ws) more ∙ ap (λ (b : Bool). b && slotsKeep s (marksAfter (s .first) ws (slotHolds slot)) left) (admitted-clash here e) in
-        record { answer = sym (ap (λ (b : Bool). pick b (New (newMarks ws₀ (offsets (s .first) (teidsIn (slices 483 n a))))) Clash) no); words = λ k q. absurd (let z : _≡_ {A = ℕ} 0 1 = cc in omega arith) }
+        record { answer = sym (ap (λ (b : Bool). pick b (New (newMarks ws₀ (offsets (s .first) (teidsIn (slices sessionWidth n a))))) Clash) no); words = λ k q. absurd (let z : _≡_ {A = ℕ} 0 1 = cc in omega arith) }
 
-  pub through-all : {ws : List ℕ} {i new : ℕ} → Through ws i new → n ≤ i → AllAdmitted s ws₀ (slices 483 n a) (New new) ws
+  pub through-all : {ws : List ℕ} {i new : ℕ} → Through ws i new → n ≤ i → AllAdmitted s ws₀ (slices sessionWidth n a) (New new) ws
   unfolding slotsKeep slices teidsIn heldTeids offsets marks newMarks
   through-all {ws} {i} {new} p h =
       let e : n - i ≡ 0 = omega arith in
-      let none-left : slices 483 (n - i) (drop (i * 483) a) ≡ [] = rw e in
-      let yes′ : slotsKeep s ws₀ (slices 483 n a) ≡ true = sym (p .keeps) ∙ ap (slotsKeep s ws) none-left in
-      let count : newMarks ws₀ (offsets (s .first) (teidsIn (slices 483 n a))) ≡ new = sym (p .count) ∙ ap (λ (l : List (List ℕ)). new + newMarks ws (offsets (s .first) (teidsIn l))) none-left ∙ add-zero new in
+      let none-left : slices sessionWidth (n - i) (drop (i * sessionWidth) a) ≡ [] = rw e in
+      let yes′ : slotsKeep s ws₀ (slices sessionWidth n a) ≡ true = sym (p .keeps) ∙ ap (slotsKeep s ws) none-left in
+      let count : newMarks ws₀ (offsets (s .first) (teidsIn (slices sessionWidth n a))) ≡ new = sym (p .count) ∙ ap (λ (l : List (List ℕ)). new + newMarks ws (offsets (s .first) (teidsIn l))) none-left ∙ add-zero new in
       record {
         answer = sym (λ j. pick (yes′ j) (New (count j)) Clash);
         words = λ k q. ap (λ (l : List (List ℕ)). marks ws (offsets (s .first) (teidsIn l))) (sym none-left) ∙ p .words;

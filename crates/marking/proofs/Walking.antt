@@ -16,7 +16,7 @@ use Rattle.octets.specs.Choice.{pick}
 use Rattle.octets.specs.Octets.{part, number, slices, allZero}
 use Rattle.octets.specs.Lists.{collect}
 use Rattle.rules.specs.Model.{Holding, Pdr, pdrHolding, endpointHolding}
-use Rattle.rules.specs.Layout.{viewPdr, viewEndpoint}
+use Rattle.rules.specs.Layout.{viewPdr, viewEndpoint, pdrWidth, endpointWidth}
 use Rattle.holdings.specs.Walk.{sessionMarks}
 use Rattle.records.proofs.Cells.{and-false}
 use Rattle.sessions.specs.Slot.{areaSound}
@@ -116,25 +116,25 @@ module _ (p : List ℕ → Bool) (w k : ℕ) (a : List ℕ) {n first : ℕ} {ws�
 
 module _ (first : ℕ) (ws₀ a : List ℕ) (n : ℕ) where
   abbrev pub endsFrom : ℕ → List Holding
-  endsFrom i = endpointHolds (n - i) (drop (i * 6) a)
+  endsFrom i = endpointHolds (n - i) (drop (i * endpointWidth) a)
 
-  ends-left : (i : ℕ) → i < n → endsFrom i ≡ map endpointHolding (viewEndpoint (part (i * 6) 6 a) ∷ map viewEndpoint (slices 6 (n - (i + 1)) (drop ((i + 1) * 6) a)))
+  ends-left : (i : ℕ) → i < n → endsFrom i ≡ map endpointHolding (viewEndpoint (part (i * endpointWidth) 6 a) ∷ map viewEndpoint (slices endpointWidth (n - (i + 1)) (drop ((i + 1) * endpointWidth) a)))
   unfolding endpointHolds
-  ends-left i h = ap (λ (l : List (List ℕ)). map endpointHolding (map viewEndpoint l)) (slices-more 6 a n i h)
+  ends-left i h = ap (λ (l : List (List ℕ)). map endpointHolding (map viewEndpoint l)) (slices-more endpointWidth a n i h)
 
   ends-none : (i : ℕ) → n ≤ i → endsFrom i ≡ []
   unfolding endpointHolds slices
   ends-none i h = let e : n - i ≡ 0 = omega arith in rw e
 
-  pub endpoint-places : Places first ws₀ (endpointHolds n a) n (λ i. []) endsFrom (λ i. endpointHold (part (i * 6) 6 a))
+  pub endpoint-places : Places first ws₀ (endpointHolds n a) n (λ i. []) endsFrom (λ i. endpointHold (part (i * endpointWidth) 6 a))
   endpoint-places =
       record {
         start = let e : n - 0 ≡ n = omega arith in rw e marking-start;
         turn = λ {ws} {i} {new} h m. unfold endpointHold endpointHolds in
-            endpoint-turn (viewEndpoint (part (i * 6) 6 a)) (map viewEndpoint (slices 6 (n - (i + 1)) (drop ((i + 1) * 6) a)))
+            endpoint-turn (viewEndpoint (part (i * endpointWidth) 6 a)) (map viewEndpoint (slices endpointWidth (n - (i + 1)) (drop ((i + 1) * endpointWidth) a)))
             (subst (λ (l : List Holding). Marking first ws₀ (endpointHolds n a) ws [] l new) (ends-left i h) m);
         clash = λ {ws} {i} {new} h m. unfold endpointHold endpointHolds in
-            endpoint-clash (viewEndpoint (part (i * 6) 6 a)) (map viewEndpoint (slices 6 (n - (i + 1)) (drop ((i + 1) * 6) a)))
+            endpoint-clash (viewEndpoint (part (i * endpointWidth) 6 a)) (map viewEndpoint (slices endpointWidth (n - (i + 1)) (drop ((i + 1) * endpointWidth) a)))
             (subst (λ (l : List Holding). Marking first ws₀ (endpointHolds n a) ws [] l new) (ends-left i h) m);
         end = ends-none;
       }
@@ -157,23 +157,23 @@ module _ (first : ℕ) (ws₀ a : List ℕ) (n : ℕ) where
   pdrsTo i = pdrHolds i a
 
   abbrev pub pdrsFrom : ℕ → List Holding
-  pdrsFrom i = pdrHolds (n - i) (drop (i * 19) a)
+  pdrsFrom i = pdrHolds (n - i) (drop (i * pdrWidth) a)
 
   abbrev doneAt : ℕ → List Pdr
-  doneAt i = map viewPdr (slices 19 i a)
+  doneAt i = map viewPdr (slices pdrWidth i a)
 
   abbrev restAt : ℕ → List Pdr
-  restAt i = map viewPdr (slices 19 (n - (i + 1)) (drop ((i + 1) * 19) a))
+  restAt i = map viewPdr (slices pdrWidth (n - (i + 1)) (drop ((i + 1) * pdrWidth) a))
 
-  pdrs-left : (i : ℕ) → i < n → pdrsFrom i ≡ collect pdrHolding (viewPdr (part (i * 19) 19 a) ∷ restAt i)
+  pdrs-left : (i : ℕ) → i < n → pdrsFrom i ≡ collect pdrHolding (viewPdr (part (i * pdrWidth) pdrWidth a) ∷ restAt i)
   unfolding pdrHolds
-  pdrs-left i h = ap (λ (l : List (List ℕ)). collect pdrHolding (map viewPdr l)) (slices-more 19 a n i h)
+  pdrs-left i h = ap (λ (l : List (List ℕ)). collect pdrHolding (map viewPdr l)) (slices-more pdrWidth a n i h)
 
-  pdrs-done : (i : ℕ) → collect pdrHolding (doneAt i ++ (viewPdr (part (i * 19) 19 a) ∷ [])) ≡ pdrsTo (i + 1)
+  pdrs-done : (i : ℕ) → collect pdrHolding (doneAt i ++ (viewPdr (part (i * pdrWidth) pdrWidth a) ∷ [])) ≡ pdrsTo (i + 1)
   unfolding pdrHolds
   pdrs-done i =
-      let next : slices 19 (i + 1) a ≡ slices 19 i a ++ (part (i * 19) 19 a ∷ []) = rw add-one (slices-snoc 19 i a) in
-      ap (collect pdrHolding) (sym (ap (map viewPdr) next ∙ map-snoc (slices 19 i a) (part (i * 19) 19 a)))
+      let next : slices pdrWidth (i + 1) a ≡ slices pdrWidth i a ++ (part (i * pdrWidth) pdrWidth a ∷ []) = rw add-one (slices-snoc pdrWidth i a) in
+      ap (collect pdrHolding) (sym (ap (map viewPdr) next ∙ map-snoc (slices pdrWidth i a) (part (i * pdrWidth) pdrWidth a)))
 
   pdrs-none : (i : ℕ) → n ≤ i → pdrsFrom i ≡ []
   unfolding pdrHolds slices collect
@@ -185,7 +185,7 @@ module _ (first : ℕ) (ws₀ a : List ℕ) (n : ℕ) where
         start = start;
         turn = turn;
         clash = λ {ws} {i} {new} h m. unfold holdAt pdrHolds in
-            pdr-clash (doneAt i) (viewPdr (part (i * 19) 19 a)) (restAt i)
+            pdr-clash (doneAt i) (viewPdr (part (i * pdrWidth) pdrWidth a)) (restAt i)
             (subst (λ (l : List Holding). Marking first ws₀ (pdrHolds n a) ws (pdrsTo i) l new) (pdrs-left i h) m);
         end = pdrs-none;
       }
@@ -198,5 +198,5 @@ module _ (first : ℕ) (ws₀ a : List ℕ) (n : ℕ) where
       turn {ws} {i} {new} h m k q =
           unfold holdAt pdrHolds in
           subst (λ (l : List Holding). Marking first ws₀ (pdrHolds n a) (wordsOf first ws (holdAt a i)) l (pdrsFrom (i + 1)) (new + k)) (pdrs-done i)
-          (pdr-turn (doneAt i) (viewPdr (part (i * 19) 19 a)) (restAt i)
+          (pdr-turn (doneAt i) (viewPdr (part (i * pdrWidth) pdrWidth a)) (restAt i)
           (subst (λ (l : List Holding). Marking first ws₀ (pdrHolds n a) ws (pdrsTo i) l new) (pdrs-left i h) m) k q)

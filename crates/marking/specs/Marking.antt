@@ -12,7 +12,7 @@ use Rattle.octets.specs.Choice.{pick}
 use Rattle.octets.specs.Octets.{part, number, octetAt, slices}
 use Rattle.octets.specs.Lists.{collect}
 use Rattle.rules.specs.Model.{Settings, Holding, tunnelHolding, pdrHolding, endpointHolding, sessionHoldings, teidOf, heldTeids}
-use Rattle.rules.specs.Layout.{tunnelRead, viewPdr, viewEndpoint, viewSession}
+use Rattle.rules.specs.Layout.{tunnelRead, viewPdr, viewEndpoint, viewSession, pdrWidth, endpointWidth}
 use Rattle.pool.specs.Map.{marked, mark, marks, newMarks, offsets}
 use Rattle.holdings.specs.Walk.{joins, sessionMarks}
 use Rattle.sessions.specs.Slot.{slotSound}
@@ -36,17 +36,17 @@ heldBy xs = tunnelHolding true (octetAt xs 11) (tunnelRead (number (part 13 4 xs
 -- ---- holds by octets
 
 unfoldable pub pdrHolds : ℕ → List ℕ → List Holding
-pdrHolds n a = collect pdrHolding (map viewPdr (slices 19 n a))
+pdrHolds n a = collect pdrHolding (map viewPdr (slices pdrWidth n a))
 
 unfoldable pub endpointHolds : ℕ → List ℕ → List Holding
-endpointHolds n a = map endpointHolding (map viewEndpoint (slices 6 n a))
+endpointHolds n a = map endpointHolding (map viewEndpoint (slices endpointWidth n a))
 
 unfoldable pub slotHolds : List ℕ → List Holding
 slotHolds xs = sessionHoldings (viewSession xs)
 
 -- the hold of the PDR at place i
 unfoldable pub holdAt : List ℕ → ℕ → Option Holding
-holdAt a i = pdrHolding (viewPdr (part (i * 19) 19 a))
+holdAt a i = pdrHolding (viewPdr (part (i * pdrWidth) pdrWidth a))
 
 -- the hold of an endpoint's slot
 unfoldable pub endpointHold : List ℕ → Option Holding

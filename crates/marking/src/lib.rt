@@ -9,6 +9,8 @@ ghost use mathlib.Core.List.{[]};
 ghost use Prim.Native.Nat.{_+_, _*_, _^_, _≤_};
 ghost use lib.ListN.{length};
 ghost use Rattle.octets.specs.Octets.{part, slices};
+ghost use Rattle.rules.specs.Layout.{pdrWidth, endpointWidth, sessionWidth};
+ghost use Rattle.rules.specs.Limits.{maxSessions};
 ghost use Rattle.holdings.specs.Walk.{joins};
 ghost use Rattle.records.specs.Kept.{pdrSound, endpointSound, endpointIds, unit};
 ghost use Rattle.sessions.specs.Slot.{areaSound};
@@ -35,7 +37,7 @@ pub enum Marks {
 
 // Whether a PDR's slot holds a TEID.
 fn holds(slot: &[u8], teid: u64) -> bool
-    requires { ⌜ length (now slot) ≡ 19 ⌝ }
+    requires { ⌜ length (now slot) ≡ pdrWidth ⌝ }
     ensures { λ r. ⌜ r ≡ holdsTeid (now (slot .entry)) teid ⌝ }
 {
     if slot[PLACE] != 1 {
@@ -46,7 +48,7 @@ fn holds(slot: &[u8], teid: u64) -> bool
 
 // Whether two PDRs have equal families and source interface.
 fn same_kind(a: &[u8], b: &[u8]) -> bool
-    requires { ⌜ (length (now a) ≡ 19) × (length (now b) ≡ 19) ⌝ }
+    requires { ⌜ (length (now a) ≡ pdrWidth) × (length (now b) ≡ pdrWidth) ⌝ }
     ensures { λ r. ⌜ r ≡ alike (now (a .entry)) (now (b .entry)) ⌝ }
 {
     if a[FAMILIES] % 4 != b[FAMILIES] % 4 {
@@ -57,7 +59,7 @@ fn same_kind(a: &[u8], b: &[u8]) -> bool
 
 // Whether the PDR in slot may share its TEID with the first of the n PDRs that holds it.
 fn shares(pdrs: &[u8], n: usize, slot: &[u8]) -> bool
-    requires { ⌜ (n * 19 ≤ length (now pdrs)) × (length (now slot) ≡ 19) ⌝ }
+    requires { ⌜ (n * pdrWidth ≤ length (now pdrs)) × (length (now slot) ≡ pdrWidth) ⌝ }
     ensures { λ r. ⌜ r ≡ joins (pdrHolds n (now (pdrs .entry))) (heldBy (now (slot .entry))) ⌝ }
 {
     let teid = octets::read(slot, TEID, 4);
@@ -96,7 +98,7 @@ fn admit_endpoints(
     size: u64,
     v6: bool,
 ) -> Marks
-    requires { ⌜ (n * 6 ≤ length (now ends)) × (first + size ≤ 2 ^ 32) × (size ≤ 64 * length (now words)) ⌝ }
+    requires { ⌜ (n * endpointWidth ≤ length (now ends)) × (first + size ≤ 2 ^ 32) × (size ≤ 64 * length (now words)) ⌝ }
     ensures { λ r.
         ⌜ Marked (areaSound (endpointSound (unit first size v6)) 6 1 n (now (ends .entry))) first (now (words .entry)) (endpointHolds n (now (ends .entry))) r (now (words .exit)) ⌝ }
 {
@@ -133,9 +135,9 @@ fn admit_pdr(
     size: u64,
     v6: bool,
 ) -> Marks
-    requires { ⌜ ((i + 1) * 19 ≤ length (now pdrs)) × (m * 6 ≤ length (now ends)) × (first + size ≤ 2 ^ 32) × (size ≤ 64 * length (now words)) ⌝ }
+    requires { ⌜ ((i + 1) * pdrWidth ≤ length (now pdrs)) × (m * endpointWidth ≤ length (now ends)) × (first + size ≤ 2 ^ 32) × (size ≤ 64 * length (now words)) ⌝ }
     ensures { λ r.
-        ⌜ Stepped (pdrSound (unit first size v6) (endpointIds m (now (ends .entry))) (part (i * 19) 19 (now (pdrs .entry)))) first (now (words .entry)) (pdrHolds i (now (pdrs .entry))) (holdAt (now (pdrs .entry)) i) r (now (words .exit)) ⌝ }
+        ⌜ Stepped (pdrSound (unit first size v6) (endpointIds m (now (ends .entry))) (part (i * pdrWidth) pdrWidth (now (pdrs .entry)))) first (now (words .entry)) (pdrHolds i (now (pdrs .entry))) (holdAt (now (pdrs .entry)) i) r (now (words .exit)) ⌝ }
 {
     let at = i * PDR;
     let slot = &pdrs[at..at + PDR];
@@ -166,9 +168,9 @@ fn admit_pdrs(
     size: u64,
     v6: bool,
 ) -> Marks
-    requires { ⌜ (n * 19 ≤ length (now pdrs)) × (m * 6 ≤ length (now ends)) × (first + size ≤ 2 ^ 32) × (size ≤ 64 * length (now words)) ⌝ }
+    requires { ⌜ (n * pdrWidth ≤ length (now pdrs)) × (m * endpointWidth ≤ length (now ends)) × (first + size ≤ 2 ^ 32) × (size ≤ 64 * length (now words)) ⌝ }
     ensures { λ r.
-        ⌜ Marked (areaSound (pdrSound (unit first size v6) (endpointIds m (now (ends .entry)))) 19 2 n (now (pdrs .entry))) first (now (words .entry)) (pdrHolds n (now (pdrs .entry))) r (now (words .exit)) ⌝ }
+        ⌜ Marked (areaSound (pdrSound (unit first size v6) (endpointIds m (now (ends .entry)))) pdrWidth 2 n (now (pdrs .entry))) first (now (words .entry)) (pdrHolds n (now (pdrs .entry))) r (now (words .exit)) ⌝ }
 {
     let mut new: usize = 0;
     let mut next: u64 = 0;
@@ -193,7 +195,7 @@ fn admit_pdrs(
 
 // Tests a session's slot and marks its TEIDs. A slot that is broken, or holds a TEID against the rule, is a clash.
 pub fn admit(words: &mut [u64], slot: &[u8], first: u64, size: u64, v6: bool) -> Marks
-    requires { ⌜ (length (now slot) ≡ 483) × (first + size ≤ 2 ^ 32) × (size ≤ 64 * length (now words)) ⌝ }
+    requires { ⌜ (length (now slot) ≡ sessionWidth) × (first + size ≤ 2 ^ 32) × (size ≤ 64 * length (now words)) ⌝ }
     ensures { λ r. ⌜ Admitted (unit first size v6) (now (words .entry)) (now (slot .entry)) r (now (words .exit)) ⌝ }
 {
     if !sessions::head_sound(slot) {
@@ -226,8 +228,8 @@ pub fn admit(words: &mut [u64], slot: &[u8], first: u64, size: u64, v6: bool) ->
 
 // Tests n slots and marks their TEIDs, one after the other.
 pub fn admit_all(words: &mut [u64], a: &[u8], n: usize, first: u64, size: u64, v6: bool) -> Marks
-    requires { ⌜ (n * 483 ≤ length (now a)) × (n ≤ 64) × (first + size ≤ 2 ^ 32) × (size ≤ 64 * length (now words)) ⌝ }
-    ensures { λ r. ⌜ AllAdmitted (unit first size v6) (now (words .entry)) (slices 483 n (now (a .entry))) r (now (words .exit)) ⌝ }
+    requires { ⌜ (n * sessionWidth ≤ length (now a)) × (n ≤ maxSessions) × (first + size ≤ 2 ^ 32) × (size ≤ 64 * length (now words)) ⌝ }
+    ensures { λ r. ⌜ AllAdmitted (unit first size v6) (now (words .entry)) (slices sessionWidth n (now (a .entry))) r (now (words .exit)) ⌝ }
 {
     let mut new: usize = 0;
     for i in 0..n {

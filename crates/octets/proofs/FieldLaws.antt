@@ -25,7 +25,7 @@ both true b e = (refl, e)
 both false b e = absurd (false≢true e)
 
 pub length-fieldOctets : (ws vs : List ℕ) → length vs ≡ length ws → length (fieldOctets ws vs) ≡ widthOf ws
-unfolding fieldOctets widthOf
+unfolding fieldOctets
 length-fieldOctets [] vs e = refl
 length-fieldOctets (w ∷ ws) [] e = absurd (suc-ne-zero (length ws) (sym e))
 length-fieldOctets (w ∷ ws) (v ∷ vs) e = rw (length-append, length-be, length-fieldOctets ws vs (suc-inj e))
@@ -49,7 +49,7 @@ fields-octets at p (w ∷ ws) (v ∷ vs) rest e h =
 
 -- the octets of the fields of octets
 pub octets-fields : (at : ℕ) (ws s : List ℕ) → T (octets s) → at + widthOf ws ≤ length s → fieldOctets ws (fieldsAt at ws s) ≡ part at (widthOf ws) s
-unfolding fieldOctets fieldsAt widthOf
+unfolding fieldOctets fieldsAt
 octets-fields at [] s o h = refl
 octets-fields at (w ∷ ws) s o h =
     let e : be w (number (part at w s)) ≡ part at w s = rw (length-part at w s (omega arith)) at (be-number (part at w s) (part-octets at w s o)) in
@@ -61,7 +61,7 @@ octets-fields-all ws s o e = octets-fields 0 ws s o (omega arith) ∙ take-all (
 
 -- the fields of octets fit their widths
 pub fit-fields : (at : ℕ) (ws s : List ℕ) → T (octets s) → at + widthOf ws ≤ length s → fit ws (fieldsAt at ws s) ≡ true
-unfolding fit fieldsAt widthOf
+unfolding fit fieldsAt
 fit-fields at [] s o h = refl
 fit-fields at (w ∷ ws) s o h =
     let b : number (part at w s) < 256 ^ w = rw (length-part at w s (omega arith)) at (number-below (part at w s) (part-octets at w s o)) in
@@ -75,7 +75,7 @@ putEach at (w ∷ ws) (v ∷ vs) s = putEach (at + w) ws vs (put at (be w v) s)
 
 -- are their octets put at once
 pub put-each : (at : ℕ) (ws vs s : List ℕ) → fit ws vs ≡ true → at + widthOf ws ≤ length s → putEach at ws vs s ≡ put at (fieldOctets ws vs) s
-unfolding fit fieldOctets widthOf
+unfolding fit fieldOctets
 put-each at [] vs s f h = sym (put-none at [] s (zero-le))
 put-each at (w ∷ ws) [] s f h = absurd (false≢true f)
 put-each at (w ∷ ws) (v ∷ vs) s f h =
@@ -90,7 +90,6 @@ next l i h = rw add-one (drop-cons l i 0 h)
 
 module _ (ws : List ℕ) (i : ℕ) (h : i < length ws) where
   pub width-next : widthOf (drop i ws) ≡ getD ws i 0 + widthOf (drop (i + 1) ws)
-  unfolding widthOf
   width-next = rw (next ws i h)
 
   pub narrow-next : narrow (drop i ws) ≡ true → (getD ws i 0 ≤ 8) × (narrow (drop (i + 1) ws) ≡ true)
@@ -125,7 +124,7 @@ module _ (ws : List ℕ) (i : ℕ) (h : i < length ws) where
       (put-put at (getD ws i 0) (be (getD ws i 0) (getD vs i 0)) (fieldOctets (drop (i + 1) ws) (drop (i + 1) vs)) s (length-be (getD ws i 0) (getD vs i 0)) l)
 
 pub narrow-width : (ws : List ℕ) → narrow ws ≡ true → widthOf ws ≤ 8 * length ws
-unfolding narrow widthOf
+unfolding narrow
 narrow-width [] e = omega arith
 narrow-width (w ∷ ws) e =
     let k : (leb w 8 ≡ true) × (narrow ws ≡ true) = both (leb w 8) (narrow ws) e in
@@ -163,7 +162,7 @@ first-read ws [] = refl
 first-read ws (x ∷ s) = number-one x
 
 pub last-read : (at : ℕ) (ws s : List ℕ) → at + widthOf ws < length s → getD (fieldsAt at (ws ++ (1 ∷ [])) s) (length ws) 0 ≡ getD s (at + widthOf ws) 0
-unfolding fieldsAt widthOf
+unfolding fieldsAt
 last-read at [] s h = octet-read at s (omega arith) ∙ ap (λ (i : ℕ). getD s i 0) (omega arith)
 last-read at (w ∷ ws) s h =
     last-read (at + w) ws s (omega arith) ∙ ap (λ (i : ℕ). getD s i 0) (omega arith)
@@ -199,7 +198,7 @@ zero-append (x ∷ xs) ys = ap (λ (b : Bool). eqb x 0 && b) (zero-append xs ys)
     and-assoc false b c = refl
 
 pub zero-fields : (at : ℕ) (ws s : List ℕ) → allZero (part at (widthOf ws) s) ≡ allZero (fieldsAt at ws s)
-unfolding widthOf fieldsAt allZero
+unfolding fieldsAt allZero
 zero-fields at [] s = refl
 zero-fields at (w ∷ ws) s =
     ap allZero (take-add w (widthOf ws) (drop at s)) ∙ zero-append (part at w s) (take (widthOf ws) (drop w (drop at s)))
@@ -234,7 +233,7 @@ fields-back ws vs f = rw append-nil at (fields-octets 0 [] ws vs [] refl f)
 -- one field written anew, whatever stands before them
 put-field-after : (p : List ℕ) (at k : ℕ) (ws vs : List ℕ) (v : ℕ) → length p ≡ at → k < length ws → length vs ≡ length ws
     → put (at + widthOf (take k ws)) (be (getD ws k 0) v) (p ++ fieldOctets ws vs) ≡ p ++ fieldOctets ws (set vs k v)
-unfolding fieldOctets widthOf
+unfolding fieldOctets
 put-field-after p at k [] vs v l h e = absurd (omega arith)
 put-field-after p at k (w ∷ ws) [] v l h e = absurd (suc-ne-zero (length ws) (sym e))
 put-field-after p at zero (w ∷ ws) (x ∷ vs) v l h e =

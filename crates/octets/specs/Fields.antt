@@ -7,7 +7,7 @@ use lib.Dec.{ltb, leb}
 use Rattle.octets.specs.Octets.{part, number, be}
 
 -- how many octets fields of these widths take
-unfoldable pub widthOf : List ℕ → ℕ
+abbrev pub widthOf : List ℕ → ℕ
 widthOf [] = 0
 widthOf (w ∷ ws) = w + widthOf ws
 

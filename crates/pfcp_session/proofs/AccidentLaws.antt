@@ -18,7 +18,7 @@ use Rattle.rules.specs.Limits.{maxSessions}
 use Rattle.rules.specs.Model.{Settings, Session, Sessions, teidOf, sessionHoldings, sessionTeids, heldTeids, freeCount, freeTeids}
 use Rattle.rules.specs.Layout.{viewSettings, viewSessions}
 use Rattle.rules.specs.Sound.{poolTests, settingsTests, settingsAllowed, inPool, apart, sessionsAllowed, sound, broken, free, countFree}
-use Rattle.rules.specs.Message.{kindOf}
+use Rattle.rules.specs.Message.{kindOf, deletion}
 use Rattle.rules.specs.Reading.{readRequest, Request}
 use Rattle.rules.specs.Grants.{Kind, choices, Grant, grantOf, grantTeid, isGrantFor, grants, grantedTeid, need}
 use Rattle.rules.specs.Stages.{hasSeid, newSession, entrySession}
@@ -128,15 +128,15 @@ module _ (run : Run) (msg space : List ℕ) (r : RequestCall) (a : Accepted run 
   removed-out n h gone =
       subst (λ (o : Served). Released (o .table) n) (sym same)
       (free-out (out .table) (table-kept maxSessions (out .table) (serve-sound maxSessions (lit< tt) t msg space (a .message) (call .answered .table))) n
-      (by-test (eqb (kindOf msg) 54) (λ d. next-deleted maxSessions t msg space (a .message) call d n h) (λ d. next-removed maxSessions t msg space (a .message) call d n h (staying d gone))))
+      (by-test (eqb (kindOf msg) deletion) (λ d. next-deleted maxSessions t msg space (a .message) call d n h) (λ d. next-removed maxSessions t msg space (a .message) call d n h (staying d gone))))
     where
       x : Session
       x = entrySession (viewSessions t) msg
 
-      staying : T (not (eqb (kindOf msg) 54)) → T (not (member n (sessionTeids (spared msg x)))) → T (not (member n (map teidOf (stayingHoldings (readRequest msg) x))))
+      staying : T (not (eqb (kindOf msg) deletion)) → T (not (member n (sessionTeids (spared msg x)))) → T (not (member n (map teidOf (stayingHoldings (readRequest msg) x))))
       staying d g =
           unfold spared sessionTeids sessionHoldings unremoved keptPdr keptEndpoint in (
-          subst (λ (y : Session). T (not (member n (map teidOf (sessionHoldings y))))) (pick-no (eqb (kindOf msg) 54) (newSession (x .seid)) (unremoved (readRequest msg) x) d) g)
+          subst (λ (y : Session). T (not (member n (map teidOf (sessionHoldings y))))) (pick-no (eqb (kindOf msg) deletion) (newSession (x .seid)) (unremoved (readRequest msg) x) d) g)
 
   -- a TEID that the reply grants
   granted-unheld : (k : Kind) (id : ℕ) → T (not (member (createdTeid (r .space) k id) (heldTeids (viewSessions t))))

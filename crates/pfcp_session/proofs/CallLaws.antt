@@ -58,7 +58,6 @@ module _ (t : List ℕ) (r : code.Count) (e : countOf r ≡ countFree maxSession
 
 -- the table's length
 pub length-is : 30943 ≡ tableLength maxSessions
-unfolding tableLength headWidth sessionWidth
 length-is = refl
 
 -- the request call

@@ -15,7 +15,10 @@ use Rattle.octets.specs.Lists.{member}
 use Rattle.rules.specs.Elements.{Refusal, missing, conditional, incorrect, causeOf, Fteid}
 use Rattle.rules.specs.Message.{Element, elements, placesOf}
 use Rattle.rules.specs.Reading.{Reading, faulty, done, refusal, andThen, need, Members, withPdi, holds, pdiIn, valueRead, memberRead, membersRead, unopened, pdiEnd, pdiRead, pdrFrom, endpointFrom, changeFrom, itemFrom}
+use Rattle.rules.specs.Types as ie
+use Rattle.rules.specs.Causes as why
 use Rattle.plan.specs.Rows.{word, present, rowLocal, rowFteid}
+use Rattle.plan.specs.Words as its
 use Rattle.frame.proofs.Among.{OneOf}
 use Rattle.elements.proofs.Front.{Front, el, behind}
 use Rattle.reading.specs.declared.Verdict.{Verdict}
@@ -62,36 +65,36 @@ abbrev Ends : List ℕ → ℕ → Verdict → Type 0
 Ends row g r = outcome r (rowMembers row) ≡ numbered (closing g (rowMembers row))
 
 module _ (row : List ℕ) (z : Tidy row) (g : ℕ) where
-  pub ends-pdi : {a : Verdict} → g ≡ 2 → Required row 66 20 Fine a → Ends row g a
+  pub ends-pdi : {a : Verdict} → g ≡ ie.pdi → Required row why.mandatoryMissing ie.sourceInterface Fine a → Ends row g a
   unfolding closing pdiEnd rowMembers causeOf column
-  ends-pdi e a = rw (e, a) (lacks (rowMembers row) Fine missing 20 (word 4 row) (word 10 row) (λ n. done (rowMembers row)) (z .source) refl)
+  ends-pdi e a = rw (e, a) (lacks (rowMembers row) Fine missing ie.sourceInterface (word its.hasSource row) (word its.source row) (λ n. done (rowMembers row)) (z .source) refl)
 
-  pub ends-create : {a b c d : Verdict} → g ≡ 1 → Required row 66 20 Fine a → Required row 66 56 a b → Required row 66 29 b c → Required row 66 2 c d → Ends row g d
+  pub ends-create : {a b c d : Verdict} → g ≡ ie.createPdr → Required row why.mandatoryMissing ie.sourceInterface Fine a → Required row why.mandatoryMissing ie.pdrId a b → Required row why.mandatoryMissing ie.precedence b c → Required row why.mandatoryMissing ie.pdi c d → Ends row g d
   unfolding closing itemFrom pdrFrom rowMembers causeOf column
   ends-create {a} {b} {c} {d} e p q r s =
       rw (e, s)
-      (lacks-pdi (rowMembers row) c missing 2 (word 6 row) _ _ (z .pdi)
-      (rw r (lacks-then (rowMembers row) b missing 29 (word 2 row) (word 8 row) _ _ (z .precedence)
-      (rw q (lacks-then (rowMembers row) a missing 56 (word 1 row) (word 7 row) _ _ (z .pdrId)
-      (rw p (lacks-then (rowMembers row) Fine missing 20 (word 4 row) (word 10 row) _ _ (z .source) refl)))))))
+      (lacks-pdi (rowMembers row) c missing ie.pdi (word its.hasPdi row) _ _ (z .pdi)
+      (rw r (lacks-then (rowMembers row) b missing ie.precedence (word its.hasPrecedence row) (word its.precedence row) _ _ (z .precedence)
+      (rw q (lacks-then (rowMembers row) a missing ie.pdrId (word its.hasPdrId row) (word its.pdrId row) _ _ (z .pdrId)
+      (rw p (lacks-then (rowMembers row) Fine missing ie.sourceInterface (word its.hasSource row) (word its.source row) _ _ (z .source) refl)))))))
 
-  pub ends-endpoint : {a b : Verdict} → g ≡ 127 → Required row 66 131 Fine a → Required row 67 21 a b → Ends row g b
+  pub ends-endpoint : {a b : Verdict} → g ≡ ie.createEndpoint → Required row why.mandatoryMissing ie.endpointId Fine a → Required row why.conditionalMissing ie.fteid a b → Ends row g b
   unfolding closing itemFrom endpointFrom rowMembers rowLocal causeOf column
   ends-endpoint {a} {b} e p q =
       rw (e, q)
-      (lacks-local (rowMembers row) a conditional 21 (eqb (word 12 row) 0) (rowFteid row) _ _
-      (rw p (lacks-then (rowMembers row) Fine missing 131 (word 5 row) (word 11 row) _ _ (z .endpointId) refl)))
+      (lacks-local (rowMembers row) a conditional ie.fteid (eqb (word its.flags row) 0) (rowFteid row) _ _
+      (rw p (lacks-then (rowMembers row) Fine missing ie.endpointId (word its.hasEndpointId row) (word its.endpointId row) _ _ (z .endpointId) refl)))
 
-  pub ends-pdr : {a : Verdict} → OneOf g 9 (15 ∷ []) → Required row 66 56 Fine a → Ends row g a
+  pub ends-pdr : {a : Verdict} → OneOf g ie.updatePdr (ie.removePdr ∷ []) → Required row why.mandatoryMissing ie.pdrId Fine a → Ends row g a
   unfolding closing itemFrom changeFrom rowMembers causeOf column
-  ends-pdr (inl e) p = rw (e, p) (lacks-then (rowMembers row) Fine missing 56 (word 1 row) (word 7 row) _ _ (z .pdrId) refl)
-  ends-pdr (inr e) p = rw (e, p) (lacks-then (rowMembers row) Fine missing 56 (word 1 row) (word 7 row) _ _ (z .pdrId) refl)
+  ends-pdr (inl e) p = rw (e, p) (lacks-then (rowMembers row) Fine missing ie.pdrId (word its.hasPdrId row) (word its.pdrId row) _ _ (z .pdrId) refl)
+  ends-pdr (inr e) p = rw (e, p) (lacks-then (rowMembers row) Fine missing ie.pdrId (word its.hasPdrId row) (word its.pdrId row) _ _ (z .pdrId) refl)
 
-  pub ends-other : {a : Verdict} → (g ≡ 1 → ⊥) → (g ≡ 2 → ⊥) → (g ≡ 127 → ⊥) → (OneOf g 9 (15 ∷ []) → ⊥) → Required row 66 131 Fine a → Ends row g a
+  pub ends-other : {a : Verdict} → (g ≡ ie.createPdr → ⊥) → (g ≡ ie.pdi → ⊥) → (g ≡ ie.createEndpoint → ⊥) → (OneOf g ie.updatePdr (ie.removePdr ∷ []) → ⊥) → Required row why.mandatoryMissing ie.endpointId Fine a → Ends row g a
   unfolding closing itemFrom rowMembers causeOf column
   ends-other h i j k p =
-      rw (ne-eqb g 1 h, ne-eqb g 2 i, ne-eqb g 127 j, ne-eqb g 9 (λ q. k (inl q)), ne-eqb g 15 (λ q. k (inr q)), p)
-      (lacks-then (rowMembers row) Fine missing 131 (word 5 row) (word 11 row) _ _ (z .endpointId) refl)
+      rw (ne-eqb g ie.createPdr h, ne-eqb g ie.pdi i, ne-eqb g ie.createEndpoint j, ne-eqb g ie.updatePdr (λ q. k (inl q)), ne-eqb g ie.removePdr (λ q. k (inr q)), p)
+      (lacks-then (rowMembers row) Fine missing ie.endpointId (word its.hasEndpointId row) (word its.endpointId row) _ _ (z .endpointId) refl)
 
 -- ---- a turn of the loop over the elements of a group, with the element of type t at the front of the rest
 
@@ -104,7 +107,7 @@ pick-inner a b c false e x y z i u r h = refl
 
 value-alike : (g t : ℕ) (v : List ℕ) (m : Members) → isPdi g t ≡ false → valueRead pdiRead g t v m ≡ valueRead unopened g t v m
 unfolding valueRead pdiIn isPdi
-value-alike g t v m h = pick-inner (eqb t 56) (eqb t 29) (eqb t 108) (eqb t 2) (eqb g 1) _ _ _ _ _ _ h
+value-alike g t v m h = pick-inner (eqb t ie.pdrId) (eqb t ie.precedence) (eqb t ie.farId) (eqb t ie.pdi) (eqb g ie.createPdr) _ _ _ _ _ _ h
 
 then-done : {A : Type 0} (x : Reading A) → andThen x (λ n. done n) ≡ x
 then-done (faulty f) = refl
@@ -115,11 +118,11 @@ member-split : (g t : ℕ) (v : List ℕ) (m : Members) → memberRead pdiRead g
 unfolding ownRead
 member-split g t v m = go (isPdi g t) refl
   where
-    in-pdi : (o : Bool) → pick o (refusal incorrect 2) (pdiRead v (withPdi m)) ≡ andThen (pick o (refusal incorrect 2) (done (withPdi m))) (λ n. pdiRead v n)
+    in-pdi : (o : Bool) → pick o (refusal incorrect ie.pdi) (pdiRead v (withPdi m)) ≡ andThen (pick o (refusal incorrect ie.pdi) (done (withPdi m))) (λ n. pdiRead v n)
     in-pdi true = refl
     in-pdi false = refl
 
-    opened : g ≡ 1 → t ≡ 2 → memberRead pdiRead g (el t v) m ≡ andThen (memberRead unopened g (el t v) m) (λ n. pdiRead v n)
+    opened : g ≡ ie.createPdr → t ≡ ie.pdi → memberRead pdiRead g (el t v) m ≡ andThen (memberRead unopened g (el t v) m) (λ n. pdiRead v n)
     opened a b = rw (a, b) (unfold memberRead placesOf member holds valueRead pdiIn in (in-pdi (m .pdi)))
 
     go : (b : Bool) → isPdi g t ≡ b → memberRead pdiRead g (el t v) m ≡ andThen (memberRead unopened g (el t v) m) (λ n. pick b (pdiRead v n) (done n))

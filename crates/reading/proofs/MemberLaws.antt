@@ -15,8 +15,10 @@ use Rattle.octets.proofs.Put.{length-part}
 use Rattle.octets.proofs.Tests.{pick-either, of-true}
 use Rattle.rules.specs.Elements as rules
 use Rattle.rules.specs.Elements.{Refusal, tooShort, incorrect, causeOf, refuse, value, Fteid, given, choose, v4Flag, v6Flag, chFlag, chidFlag, wrongFlags, fteidLength, chosenFields, givenFields, fteidFields, readFteid}
-use Rattle.rules.specs.Message.{placesOf, widthOf}
+use Rattle.rules.specs.Message.{placesOf, numberWidth}
 use Rattle.rules.specs.Reading.{Reading, faulty, done, refusal, andThen, Members, withPdrId, withPrecedence, withFar, withPdi, withSource, withEndpointId, holds, numberRead, farRead, pdiIn, valueRead, memberRead, unopened}
+use Rattle.rules.specs.Types as ie
+use Rattle.rules.specs.Causes as why
 use Rattle.element.specs.FTeid.{fteidTests, fteidMeant, fteidOf}
 use Rattle.element.specs.declared.fteid.FTeid.{FTeid}
 use Rattle.element.proofs.AnswerLaws.{picked}
@@ -45,21 +47,21 @@ holding h e = record { told = ap got (h .members) ∙ sym (ap numbered e); tidy 
 
 -- ---- plain members
 
-narrow-width : (t : ℕ) → widthOf t ≤ 8
-unfolding widthOf
-narrow-width t = pick-either (λ n. n ≤ 8) (eqb t 56) 2 (pick (eqb t 29 || eqb t 108) 4 1) (omega arith) (pick-either (λ n. n ≤ 8) (eqb t 29 || eqb t 108) 4 1 (omega arith) (omega arith))
+narrow-width : (t : ℕ) → numberWidth t ≤ 8
+unfolding numberWidth
+narrow-width t = pick-either (λ n. n ≤ 8) (eqb t ie.pdrId) 2 (pick (eqb t ie.precedence || eqb t ie.farId) 4 1) (omega arith) (pick-either (λ n. n ≤ 8) (eqb t ie.precedence || eqb t ie.farId) 4 1 (omega arith) (omega arith))
 
-pub width-fits : (t : ℕ) {w : ℕ} → w ≡ widthOf t → w ≤ 8
+pub width-fits : (t : ℕ) {w : ℕ} → w ≡ numberWidth t → w ≤ 8
 width-fits t e = let h = narrow-width t in omega arith
 
 module _ (t : ℕ) (v : List ℕ) where
-  pub number-source : {w n : ℕ} → w ≡ widthOf t → t ≡ 20 → n ≡ number (part 0 w v) → n % 16 ≡ plainNumber t v
+  pub number-source : {w n : ℕ} → w ≡ numberWidth t → t ≡ ie.sourceInterface → n ≡ number (part 0 w v) → n % 16 ≡ plainNumber t v
   unfolding plainNumber numberAt
-  number-source e h k = ap (λ (i : ℕ). i % 16) (k ∙ ap (λ (w : ℕ). number (part 0 w v)) e) ∙ sym (rw (eq-eqb t 20 h))
+  number-source e h k = ap (λ (i : ℕ). i % 16) (k ∙ ap (λ (w : ℕ). number (part 0 w v)) e) ∙ sym (rw (eq-eqb t ie.sourceInterface h))
 
-  pub number-other : {w n : ℕ} → w ≡ widthOf t → (t ≡ 20 → ⊥) → n ≡ number (part 0 w v) → n ≡ plainNumber t v
+  pub number-other : {w n : ℕ} → w ≡ numberWidth t → (t ≡ ie.sourceInterface → ⊥) → n ≡ number (part 0 w v) → n ≡ plainNumber t v
   unfolding plainNumber numberAt
-  number-other e h k = k ∙ ap (λ (w : ℕ). number (part 0 w v)) e ∙ sym (rw (ne-eqb t 20 h))
+  number-other e h k = k ∙ ap (λ (w : ℕ). number (part 0 w v)) e ∙ sym (rw (ne-eqb t ie.sourceInterface h))
 
 then-pick : {A B : Type 0} (b : Bool) (c : Refusal) (t : ℕ) (a : A) (k : A → Reading B) → andThen (pick b (refusal c t) (done a)) k ≡ pick b (refusal c t) (k a)
 then-pick true c t a k = refl
@@ -72,24 +74,24 @@ then-twice false c t a j k = refl
 
 -- a plain member, short or read
 module _ (v : List ℕ) (m : Members) where
-  plain-is : (t : ℕ) → member t plainTypes ≡ true → plainRead t v m ≡ pick (ltb (length v) (widthOf t)) (refusal tooShort t) (done (plainPut t (plainNumber t v) m))
-  unfolding plainRead valueRead numberRead farRead plainPut plainNumber widthOf
+  plain-is : (t : ℕ) → member t plainTypes ≡ true → plainRead t v m ≡ pick (ltb (length v) (numberWidth t)) (refusal tooShort t) (done (plainPut t (plainNumber t v) m))
+  unfolding plainRead valueRead numberRead farRead plainPut plainNumber numberWidth
   plain-is =
-      by-plain (λ t. plainRead t v m ≡ pick (ltb (length v) (widthOf t)) (refusal tooShort t) (done (plainPut t (plainNumber t v) m)))
-      (then-pick (ltb (length v) 2) tooShort 56 (numberAt 0 2 v) (λ n. done (withPdrId n m)))
-      (then-pick (ltb (length v) 4) tooShort 29 (numberAt 0 4 v) (λ n. done (withPrecedence n m)))
-      (then-twice (ltb (length v) 4) tooShort 108 (numberAt 0 4 v) some (λ f. done (withFar f m)))
-      (then-pick (ltb (length v) 1) tooShort 20 (numberAt 0 1 v) (λ n. done (withSource (n % 16) m)))
-      (then-pick (ltb (length v) 1) tooShort 131 (numberAt 0 1 v) (λ n. done (withEndpointId n m)))
+      by-plain (λ t. plainRead t v m ≡ pick (ltb (length v) (numberWidth t)) (refusal tooShort t) (done (plainPut t (plainNumber t v) m)))
+      (then-pick (ltb (length v) 2) tooShort ie.pdrId (numberAt 0 2 v) (λ n. done (withPdrId n m)))
+      (then-pick (ltb (length v) 4) tooShort ie.precedence (numberAt 0 4 v) (λ n. done (withPrecedence n m)))
+      (then-twice (ltb (length v) 4) tooShort ie.farId (numberAt 0 4 v) some (λ f. done (withFar f m)))
+      (then-pick (ltb (length v) 1) tooShort ie.sourceInterface (numberAt 0 1 v) (λ n. done (withSource (n % 16) m)))
+      (then-pick (ltb (length v) 1) tooShort ie.endpointId (numberAt 0 1 v) (λ n. done (withEndpointId n m)))
 
 module _ (t : ℕ) (v row : List ℕ) (k : member t plainTypes ≡ true) (z : Tidy row) where
-  pub plain-short : {w : ℕ} → w ≡ widthOf t → length v < w → Reads (plainRead t v (rowMembers row)) row (Refused 68 t)
+  pub plain-short : {w : ℕ} → w ≡ numberWidth t → length v < w → Reads (plainRead t v (rowMembers row)) row (Refused why.wrongLength t)
   unfolding causeOf
   plain-short e h =
       let q : plainRead t v (rowMembers row) ≡ refusal tooShort t = plain-is v (rowMembers row) t k ∙ rw (← e, lt-ltb _ _ h) in
       record { told = sym (ap (λ (x : Reading Members). numbered x) q); tidy = z }
 
-  pub plain-long : {w n at : ℕ} → w ≡ widthOf t → w ≤ length v → n ≡ plainNumber t v → at ≡ column t
+  pub plain-long : {w n at : ℕ} → w ≡ numberWidth t → w ≤ length v → n ≡ plainNumber t v → at ≡ column t
       → Reads (plainRead t v (rowMembers row)) (set (set row at 1) (at + 6) n) Fine
   plain-long e h q a =
       rw (a, q) (holding (put-plain row t (plainNumber t v) k z) (plain-is v (rowMembers row) t k ∙ rw (← e, le-ltb _ _ h)))
@@ -128,7 +130,7 @@ no-families e (f ∷ xs) t h = by-tests (wrongFlags e f) (ltb (length xs) (fteid
         let k : fteidFields f xs ≡ given t [] [] = cc in
         no-family e f xs t p (ltb-false (length xs) (fteidLength f) q) k
 
-pub fteid-refused : (a : rules.Answer Fteid) (c : Refusal) (row : List ℕ) {r : Verdict} → Tidy row → some (refuse c) ≡ some a → r ≡ Refused (causeOf c) 21 → Reads (fteidRead a (rowMembers row)) row r
+pub fteid-refused : (a : rules.Answer Fteid) (c : Refusal) (row : List ℕ) {r : Verdict} → Tidy row → some (refuse c) ≡ some a → r ≡ Refused (causeOf c) ie.fteid → Reads (fteidRead a (rowMembers row)) row r
 unfolding fteidRead
 fteid-refused a c row z h e = let k : refuse c ≡ a = cc in record { told = rw (← k, e); tidy = z }
 
@@ -161,15 +163,15 @@ and-false true = refl
 and-false false = refl
 
 module _ (g t : ℕ) (v : List ℕ) where
-  pub no-update : (g ≡ 9 → ⊥) → false ≡ isNullFar g t v
+  pub no-update : (g ≡ ie.updatePdr → ⊥) → false ≡ isNullFar g t v
   unfolding isNullFar
-  no-update h = rw (ne-eqb g 9 h)
+  no-update h = rw (ne-eqb g ie.updatePdr h)
 
-  pub no-far : (t ≡ 108 → ⊥) → false ≡ isNullFar g t v
+  pub no-far : (t ≡ ie.farId → ⊥) → false ≡ isNullFar g t v
   unfolding isNullFar
-  no-far h = sym (rw (ne-eqb t 108 h) (and-false (eqb g 9)))
+  no-far h = sym (rw (ne-eqb t ie.farId h) (and-false (eqb g ie.updatePdr)))
 
-  pub a-far : g ≡ 9 → t ≡ 108 → eqb (length v) 0 ≡ isNullFar g t v
+  pub a-far : g ≡ ie.updatePdr → t ≡ ie.farId → eqb (length v) 0 ≡ isNullFar g t v
   unfolding isNullFar
   a-far h k = sym (rw (h, k) (sym (nil-length v)))
 
@@ -181,20 +183,20 @@ plain-alike g v m =
     (λ h. refl) (λ h. refl) (λ h. rw (← h)) (λ h. refl) (λ h. refl)
 
 -- a type that holds a number is one that is neither an F-TEID nor a PDI
-pub is-plain : (t : ℕ) → member t memberTypes ≡ true → (t ≡ 21 → ⊥) → (t ≡ 2 → ⊥) → member t plainTypes ≡ true
+pub is-plain : (t : ℕ) → member t memberTypes ≡ true → (t ≡ ie.fteid → ⊥) → (t ≡ ie.pdi → ⊥) → member t plainTypes ≡ true
 unfolding member
 is-plain =
-    by-member (λ t. (t ≡ 21 → ⊥) → (t ≡ 2 → ⊥) → member t plainTypes ≡ true)
+    by-member (λ t. (t ≡ ie.fteid → ⊥) → (t ≡ ie.pdi → ⊥) → member t plainTypes ≡ true)
     (λ a b. refl) (λ a b. refl) (λ a b. refl) (λ a b. absurd (b refl)) (λ a b. refl) (λ a b. absurd (a refl)) (λ a b. refl)
 
 module _ (g t : ℕ) (v row : List ℕ) where
-  pub value-fteid : {row′ : List ℕ} {r : Verdict} → t ≡ 21 → Reads (fteidRead (readFteid (eqb g 127) v) (rowMembers row)) row′ r → Reads (valueRead unopened g t v (rowMembers row)) row′ r
+  pub value-fteid : {row′ : List ℕ} {r : Verdict} → t ≡ ie.fteid → Reads (fteidRead (readFteid (eqb g ie.createEndpoint) v) (rowMembers row)) row′ r → Reads (valueRead unopened g t v (rowMembers row)) row′ r
   unfolding valueRead fteidRead
   value-fteid h e = rw h e
 
-  pub value-pdi : t ≡ 2 → Tidy row → Reads (valueRead unopened g t v (rowMembers row)) (set row 6 1) Fine
+  pub value-pdi : t ≡ ie.pdi → Tidy row → Reads (valueRead unopened g t v (rowMembers row)) (set row 6 1) Fine
   unfolding valueRead pdiIn
-  value-pdi h z = rw h (holding (put-pdi row z) (pick-same (eqb g 1) (done (withPdi (rowMembers row)))))
+  value-pdi h z = rw h (holding (put-pdi row z) (pick-same (eqb g ie.createPdr) (done (withPdi (rowMembers row)))))
     where
       pick-same : {A : Type 0} (b : Bool) (a : A) → pick b a a ≡ a
       pick-same true a = refl
@@ -204,13 +206,13 @@ module _ (g t : ℕ) (v row : List ℕ) where
   unfolding valueRead farRead isNullFar
   value-null k h z = holding (put-null-far row z) (null-is t k h)
     where
-      null-is : (t : ℕ) → member t memberTypes ≡ true → true ≡ (eqb g 9 && (eqb t 108 && isNil v)) → valueRead unopened g t v (rowMembers row) ≡ done (withFar none (rowMembers row))
+      null-is : (t : ℕ) → member t memberTypes ≡ true → true ≡ (eqb g ie.updatePdr && (eqb t ie.farId && isNil v)) → valueRead unopened g t v (rowMembers row) ≡ done (withFar none (rowMembers row))
       null-is =
-          by-member (λ t. true ≡ (eqb g 9 && (eqb t 108 && isNil v)) → valueRead unopened g t v (rowMembers row) ≡ done (withFar none (rowMembers row)))
+          by-member (λ t. true ≡ (eqb g ie.updatePdr && (eqb t ie.farId && isNil v)) → valueRead unopened g t v (rowMembers row) ≡ done (withFar none (rowMembers row)))
           never never (λ q. rw (← q)) never never never never
         where
-          never : {X : Type 0} → true ≡ (eqb g 9 && false) → X
-          never q = let y : true ≡ false = q ∙ and-false (eqb g 9) in let n : _≡_ {A = ℕ} 0 1 = cc in absurd (omega arith)
+          never : {X : Type 0} → true ≡ (eqb g ie.updatePdr && false) → X
+          never q = let y : true ≡ false = q ∙ and-false (eqb g ie.updatePdr) in let n : _≡_ {A = ℕ} 0 1 = cc in absurd (omega arith)
 
   pub value-plain : {row′ : List ℕ} {r : Verdict} → member t plainTypes ≡ true → false ≡ isNullFar g t v → Reads (plainRead t v (rowMembers row)) row′ r → Reads (valueRead unopened g t v (rowMembers row)) row′ r
   value-plain k h e = record { told = e .told ∙ ap numbered (plain-alike g v (rowMembers row) t k h); tidy = e .tidy }
@@ -218,24 +220,24 @@ module _ (g t : ℕ) (v row : List ℕ) where
 -- every member with a place has words
 pub has-words : (g t : ℕ) → true ≡ member t (placesOf g) → member t memberTypes ≡ true
 unfolding placesOf allIn member
-has-words g t h = go (eqb g 1 || eqb g 9) (eqb g 2) (eqb g 127) (eqb g 15) (sym h)
+has-words g t h = go (eqb g ie.createPdr || eqb g ie.updatePdr) (eqb g ie.pdi) (eqb g ie.createEndpoint) (eqb g ie.removePdr) (sym h)
   where
     in-list : (a : ℕ) (bs : List ℕ) → T (allIn (a ∷ bs) memberTypes) → member t (a ∷ bs) ≡ true → member t memberTypes ≡ true
     in-list a bs k q = keys-in t a bs memberTypes k (one-of t a bs (of-true q))
 
-    go : (a b c d : Bool) → member t (pick a (56 ∷ 29 ∷ 2 ∷ 108 ∷ []) (pick b (20 ∷ 21 ∷ 131 ∷ []) (pick c (131 ∷ 21 ∷ []) (pick d (56 ∷ []) (131 ∷ []))))) ≡ true → member t memberTypes ≡ true
-    go true b c d q = in-list 56 (29 ∷ 2 ∷ 108 ∷ []) tt q
-    go false true c d q = in-list 20 (21 ∷ 131 ∷ []) tt q
-    go false false true d q = in-list 131 (21 ∷ []) tt q
-    go false false false true q = in-list 56 [] tt q
-    go false false false false q = in-list 131 [] tt q
+    go : (a b c d : Bool) → member t (pick a (ie.pdrId ∷ ie.precedence ∷ ie.pdi ∷ ie.farId ∷ []) (pick b (ie.sourceInterface ∷ ie.fteid ∷ ie.endpointId ∷ []) (pick c (ie.endpointId ∷ ie.fteid ∷ []) (pick d (ie.pdrId ∷ []) (ie.endpointId ∷ []))))) ≡ true → member t memberTypes ≡ true
+    go true b c d q = in-list ie.pdrId (ie.precedence ∷ ie.pdi ∷ ie.farId ∷ []) tt q
+    go false true c d q = in-list ie.sourceInterface (ie.fteid ∷ ie.endpointId ∷ []) tt q
+    go false false true d q = in-list ie.endpointId (ie.fteid ∷ []) tt q
+    go false false false true q = in-list ie.pdrId [] tt q
+    go false false false false q = in-list ie.endpointId [] tt q
 
 module _ (g t : ℕ) (v row : List ℕ) (z : Tidy row) where
   pub own-skipped : false ≡ member t (placesOf g) → Reads (ownRead g t v (rowMembers row)) row Fine
   unfolding ownRead memberRead
   own-skipped h = record { told = sym (rw (← h)); tidy = z }
 
-  pub own-repeat : {at : ℕ} → true ≡ member t (placesOf g) → at ≡ column t → (getD row at 0 ≡ 0 → ⊥) → Reads (ownRead g t v (rowMembers row)) row (Refused 69 t)
+  pub own-repeat : {at : ℕ} → true ≡ member t (placesOf g) → at ≡ column t → (getD row at 0 ≡ 0 → ⊥) → Reads (ownRead g t v (rowMembers row)) row (Refused why.incorrect t)
   unfolding ownRead memberRead causeOf
   own-repeat h a k = record { told = sym (rw (← h, held row z t (has-words g t h) (λ q. k (ap (λ (i : ℕ). getD row i 0) a ∙ q)))); tidy = z }
 

@@ -9,7 +9,8 @@ use lib.Dec.{T, eqb}
 use borrow.Author.Tests.{eq-eqb, ne-eqb, eqb-true}
 use Rattle.octets.specs.Lists.{member, allIn}
 use Rattle.octets.proofs.Tests.{is-true, and-left, and-right}
-use Rattle.rules.specs.Message.{placesOf, widthOf}
+use Rattle.rules.specs.Message.{placesOf, numberWidth}
+use Rattle.rules.specs.Types as ie
 use Rattle.frame.proofs.Among.{OneOf}
 use Rattle.reading.specs.Rows.{isPdi}
 
@@ -54,63 +55,63 @@ pub in-place : {b : Bool} (t : ℕ) (ps qs : List ℕ) → qs ≡ ps → member 
 in-place t ps qs e h = sym (ap (member t) e ∙ h)
 
 module _ (g : ℕ) where
-  pub in-pdr : OneOf g 1 (9 ∷ []) → placesOf g ≡ 56 ∷ 29 ∷ 2 ∷ 108 ∷ []
+  pub in-pdr : OneOf g ie.createPdr (ie.updatePdr ∷ []) → placesOf g ≡ ie.pdrId ∷ ie.precedence ∷ ie.pdi ∷ ie.farId ∷ []
   unfolding placesOf
   in-pdr (inl e) = rw e
   in-pdr (inr e) = rw e
 
-  pub in-pdi : g ≡ 2 → placesOf g ≡ 20 ∷ 21 ∷ 131 ∷ []
+  pub in-pdi : g ≡ ie.pdi → placesOf g ≡ ie.sourceInterface ∷ ie.fteid ∷ ie.endpointId ∷ []
   unfolding placesOf
   in-pdi e = rw e
 
-  pub in-endpoint : g ≡ 127 → placesOf g ≡ 131 ∷ 21 ∷ []
+  pub in-endpoint : g ≡ ie.createEndpoint → placesOf g ≡ ie.endpointId ∷ ie.fteid ∷ []
   unfolding placesOf
   in-endpoint e = rw e
 
-  pub in-removal : g ≡ 15 → placesOf g ≡ 56 ∷ []
+  pub in-removal : g ≡ ie.removePdr → placesOf g ≡ ie.pdrId ∷ []
   unfolding placesOf
   in-removal e = rw e
 
-  pub in-other : (OneOf g 1 (9 ∷ []) → ⊥) → (g ≡ 2 → ⊥) → (g ≡ 127 → ⊥) → (g ≡ 15 → ⊥) → placesOf g ≡ 131 ∷ []
+  pub in-other : (OneOf g ie.createPdr (ie.updatePdr ∷ []) → ⊥) → (g ≡ ie.pdi → ⊥) → (g ≡ ie.createEndpoint → ⊥) → (g ≡ ie.removePdr → ⊥) → placesOf g ≡ ie.endpointId ∷ []
   unfolding placesOf
-  in-other a b d e = rw (ne-eqb g 1 (λ h. a (inl h)), ne-eqb g 9 (λ h. a (inr h)), ne-eqb g 2 b, ne-eqb g 127 d, ne-eqb g 15 e)
+  in-other a b d e = rw (ne-eqb g ie.createPdr (λ h. a (inl h)), ne-eqb g ie.updatePdr (λ h. a (inr h)), ne-eqb g ie.pdi b, ne-eqb g ie.createEndpoint d, ne-eqb g ie.removePdr e)
 
 module _ (t : ℕ) where
-  pub two-octets : t ≡ 56 → 2 ≡ widthOf t
-  unfolding widthOf
+  pub two-octets : t ≡ ie.pdrId → 2 ≡ numberWidth t
+  unfolding numberWidth
   two-octets e = rw e
 
-  pub four-octets : OneOf t 29 (108 ∷ []) → 4 ≡ widthOf t
-  unfolding widthOf
+  pub four-octets : OneOf t ie.precedence (ie.farId ∷ []) → 4 ≡ numberWidth t
+  unfolding numberWidth
   four-octets (inl e) = rw e
   four-octets (inr e) = rw e
 
-  pub one-octet : (t ≡ 56 → ⊥) → (OneOf t 29 (108 ∷ []) → ⊥) → 1 ≡ widthOf t
-  unfolding widthOf
-  one-octet a b = rw (ne-eqb t 56 a, ne-eqb t 29 (λ h. b (inl h)), ne-eqb t 108 (λ h. b (inr h)))
+  pub one-octet : (t ≡ ie.pdrId → ⊥) → (OneOf t ie.precedence (ie.farId ∷ []) → ⊥) → 1 ≡ numberWidth t
+  unfolding numberWidth
+  one-octet a b = rw (ne-eqb t ie.pdrId a, ne-eqb t ie.precedence (λ h. b (inl h)), ne-eqb t ie.farId (λ h. b (inr h)))
 
 module _ (g t : ℕ) where
-  pub not-create : (g ≡ 1 → ⊥) → false ≡ isPdi g t
+  pub not-create : (g ≡ ie.createPdr → ⊥) → false ≡ isPdi g t
   unfolding isPdi
-  not-create h = rw (ne-eqb g 1 h)
+  not-create h = rw (ne-eqb g ie.createPdr h)
 
-  pub in-create : g ≡ 1 → eqb t 2 ≡ isPdi g t
+  pub in-create : g ≡ ie.createPdr → eqb t ie.pdi ≡ isPdi g t
   unfolding isPdi
-  in-create h = rw (eq-eqb g 1 h)
+  in-create h = rw (eq-eqb g ie.createPdr h)
 
-pub pdi-in-create : (g t : ℕ) → true ≡ isPdi g t → g ≡ 1
+pub pdi-in-create : (g t : ℕ) → true ≡ isPdi g t → g ≡ ie.createPdr
 unfolding isPdi
-pdi-in-create g t h = by-test (eqb g 1) (eqb-true g 1) h
+pdi-in-create g t h = by-test (eqb g ie.createPdr) (eqb-true g 1) h
   where
-    by-test : (b : Bool) → (b ≡ true → g ≡ 1) → true ≡ (b && eqb t 2) → g ≡ 1
+    by-test : (b : Bool) → (b ≡ true → g ≡ ie.createPdr) → true ≡ (b && eqb t ie.pdi) → g ≡ ie.createPdr
     by-test true e h = e refl
     by-test false e h = let z : _≡_ {A = ℕ} 0 1 = cc in absurd (omega arith)
 
-pub pdi-type : (g t : ℕ) → true ≡ isPdi g t → t ≡ 2
+pub pdi-type : (g t : ℕ) → true ≡ isPdi g t → t ≡ ie.pdi
 unfolding isPdi
-pdi-type g t h = by-tests (eqb g 1) (eqb t 2) (eqb-true t 2) h
+pdi-type g t h = by-tests (eqb g ie.createPdr) (eqb t ie.pdi) (eqb-true t 2) h
   where
-    by-tests : (a b : Bool) → (b ≡ true → t ≡ 2) → true ≡ (a && b) → t ≡ 2
+    by-tests : (a b : Bool) → (b ≡ true → t ≡ ie.pdi) → true ≡ (a && b) → t ≡ ie.pdi
     by-tests true true e h = e refl
     by-tests true false e h = let z : _≡_ {A = ℕ} 0 1 = cc in absurd (omega arith)
     by-tests false b e h = let z : _≡_ {A = ℕ} 0 1 = cc in absurd (omega arith)

@@ -15,7 +15,9 @@ use Rattle.octets.specs.Lists.{member}
 use Rattle.octets.proofs.Tests.{of-true}
 use Rattle.rules.specs.Elements.{Fteid, given, choose, v4Flag, v6Flag, chFlag, chidFlag}
 use Rattle.rules.specs.Reading.{Members, withPdrId, withPrecedence, withFar, withPdi, withSource, withLocal, withEndpointId, holds}
+use Rattle.rules.specs.Types as ie
 use Rattle.plan.specs.Rows.{word, fteidFrom, present, rowFteid, rowLocal, rowFar}
+use Rattle.plan.specs.Words as its
 use Rattle.frame.proofs.Among.{OneOf}
 use Rattle.reading.specs.Rows.{memberTypes, plainTypes, column, rowMembers, Tidy}
 use Rattle.reading.proofs.Places.{one-of}
@@ -52,23 +54,23 @@ pub record Holding (m : Members) (row : List ℕ) : Type 0 where
 
 -- the members with a plain one of type t
 unfoldable pub plainPut : ℕ → ℕ → Members → Members
-plainPut t n m = pick (eqb t 56) (withPdrId n m) (pick (eqb t 29) (withPrecedence n m) (pick (eqb t 108) (withFar (some n) m) (pick (eqb t 20) (withSource n m) (withEndpointId n m))))
+plainPut t n m = pick (eqb t ie.pdrId) (withPdrId n m) (pick (eqb t ie.precedence) (withPrecedence n m) (pick (eqb t ie.farId) (withFar (some n) m) (pick (eqb t ie.sourceInterface) (withSource n m) (withEndpointId n m))))
 
 -- a fact of every type that holds a number, and of every type of a member
-pub by-plain : (P : ℕ → Type 0) → P 56 → P 29 → P 108 → P 20 → P 131 → (t : ℕ) → member t plainTypes ≡ true → P t
-by-plain P a b c d e t h = go (one-of t 56 (29 ∷ 108 ∷ 20 ∷ 131 ∷ []) (of-true h))
+pub by-plain : (P : ℕ → Type 0) → P ie.pdrId → P ie.precedence → P ie.farId → P ie.sourceInterface → P ie.endpointId → (t : ℕ) → member t plainTypes ≡ true → P t
+by-plain P a b c d e t h = go (one-of t ie.pdrId (ie.precedence ∷ ie.farId ∷ ie.sourceInterface ∷ ie.endpointId ∷ []) (of-true h))
   where
-    go : OneOf t 56 (29 ∷ 108 ∷ 20 ∷ 131 ∷ []) → P t
+    go : OneOf t ie.pdrId (ie.precedence ∷ ie.farId ∷ ie.sourceInterface ∷ ie.endpointId ∷ []) → P t
     go (inl q) = subst P (sym q) a
     go (inr (inl q)) = subst P (sym q) b
     go (inr (inr (inl q))) = subst P (sym q) c
     go (inr (inr (inr (inl q)))) = subst P (sym q) d
     go (inr (inr (inr (inr q)))) = subst P (sym q) e
 
-pub by-member : (P : ℕ → Type 0) → P 56 → P 29 → P 108 → P 2 → P 20 → P 21 → P 131 → (t : ℕ) → member t memberTypes ≡ true → P t
-by-member P a b c d e f g t h = go (one-of t 56 (29 ∷ 108 ∷ 2 ∷ 20 ∷ 21 ∷ 131 ∷ []) (of-true h))
+pub by-member : (P : ℕ → Type 0) → P ie.pdrId → P ie.precedence → P ie.farId → P ie.pdi → P ie.sourceInterface → P ie.fteid → P ie.endpointId → (t : ℕ) → member t memberTypes ≡ true → P t
+by-member P a b c d e f g t h = go (one-of t ie.pdrId (ie.precedence ∷ ie.farId ∷ ie.pdi ∷ ie.sourceInterface ∷ ie.fteid ∷ ie.endpointId ∷ []) (of-true h))
   where
-    go : OneOf t 56 (29 ∷ 108 ∷ 2 ∷ 20 ∷ 21 ∷ 131 ∷ []) → P t
+    go : OneOf t ie.pdrId (ie.precedence ∷ ie.farId ∷ ie.pdi ∷ ie.sourceInterface ∷ ie.fteid ∷ ie.endpointId ∷ []) → P t
     go (inl q) = subst P (sym q) a
     go (inr (inl q)) = subst P (sym q) b
     go (inr (inr (inl q))) = subst P (sym q) c
@@ -78,7 +80,7 @@ by-member P a b c d e f g t h = go (one-of t 56 (29 ∷ 108 ∷ 2 ∷ 20 ∷ 21 
     go (inr (inr (inr (inr (inr (inr q)))))) = subst P (sym q) g
 
 -- a row with other words, of which the first six are as small
-tidied : {row′ : List ℕ} → length row′ ≡ 18 → word 1 row′ ≤ 1 → word 2 row′ ≤ 1 → word 3 row′ ≤ 2 → word 4 row′ ≤ 1 → word 5 row′ ≤ 1 → word 6 row′ ≤ 1 → Tidy row′
+tidied : {row′ : List ℕ} → length row′ ≡ 18 → word its.hasPdrId row′ ≤ 1 → word its.hasPrecedence row′ ≤ 1 → word its.hasFarId row′ ≤ 2 → word its.hasSource row′ ≤ 1 → word its.hasEndpointId row′ ≤ 1 → word its.hasPdi row′ ≤ 1 → Tidy row′
 tidied w a b c d e f = record { wide = w; pdrId = a; precedence = b; far = c; source = d; endpointId = e; pdi = f }
 
 module _ (row : List ℕ) where
@@ -117,7 +119,7 @@ module _ (row : List ℕ) where
   put-fteid u v w x y z local there is =
       wrote (sixSet u v w x y z) (withLocal local)
       (λ a b c d e f g h i j k l m n o p q r t. record {
-        members = ap (λ (s : Option Fteid). record { pdrId = present b h; precedence = present c i; far = pick (eqb d 2) (some none) (pick (eqb d 1) (some (some j)) none); pdi = eqb g 1; source = present e k; local = s; endpointId = present f l })
+        members = ap (λ (s : Option Fteid). record { pdrId = present b h; precedence = present c i; far = pick (eqb d 2) (some none) (pick (eqb d 1) (some (some j)) none); pdi = eqb g ie.createPdr; source = present e k; local = s; endpointId = present f l })
             (rw (ne-eqb u 0 there) (ap some is));
         tidy = tidied refl (t .pdrId) (t .precedence) (t .far) (t .source) (t .endpointId) (t .pdi);
       })
@@ -143,10 +145,10 @@ module _ (row : List ℕ) (z : Tidy row) where
       by-member (λ t. (word (column t) row ≡ 0 → ⊥) → holds t (rowMembers row) ≡ true)
       (λ h. present-there _ _ h (z .pdrId))
       (λ h. present-there _ _ h (z .precedence))
-      (λ h. far-there (word 3 row) (word 9 row) h (z .far))
+      (λ h. far-there (word its.hasFarId row) (word its.farId row) h (z .far))
       (λ h. rw (is-one _ h (z .pdi)))
       (λ h. present-there _ _ h (z .source))
-      (λ h. rw (ne-eqb (word 12 row) 0 h))
+      (λ h. rw (ne-eqb (word its.flags row) 0 h))
       (λ h. present-there _ _ h (z .endpointId))
     where
       far-there : (n v : ℕ) → (n ≡ 0 → ⊥) → n ≤ 2 → isSome (pick (eqb n 2) (some none) (pick (eqb n 1) (some (some v)) none)) ≡ true
@@ -173,9 +175,9 @@ pub column-low : (t : ℕ) → member t plainTypes ≡ true → column t ≤ 5
 unfolding column
 column-low = by-plain (λ t. column t ≤ 5) (omega arith) (omega arith) (omega arith) (omega arith) (omega arith)
 
-pub column-none : (t : ℕ) → (t ≡ 56 → ⊥) → (t ≡ 29 → ⊥) → (t ≡ 108 → ⊥) → (t ≡ 20 → ⊥) → (t ≡ 131 → ⊥) → (t ≡ 2 → ⊥) → (t ≡ 21 → ⊥) → 0 ≡ column t
+pub column-none : (t : ℕ) → (t ≡ ie.pdrId → ⊥) → (t ≡ ie.precedence → ⊥) → (t ≡ ie.farId → ⊥) → (t ≡ ie.sourceInterface → ⊥) → (t ≡ ie.endpointId → ⊥) → (t ≡ ie.pdi → ⊥) → (t ≡ ie.fteid → ⊥) → 0 ≡ column t
 unfolding column
-column-none t a b c d e f g = rw (ne-eqb t 56 a, ne-eqb t 29 b, ne-eqb t 108 c, ne-eqb t 20 d, ne-eqb t 131 e, ne-eqb t 2 f, ne-eqb t 21 g)
+column-none t a b c d e f g = rw (ne-eqb t ie.pdrId a, ne-eqb t ie.precedence b, ne-eqb t ie.farId c, ne-eqb t ie.sourceInterface d, ne-eqb t ie.endpointId e, ne-eqb t ie.pdi f, ne-eqb t ie.fteid g)
 
 -- ---- an F-TEID from its words
 

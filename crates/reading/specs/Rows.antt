@@ -9,10 +9,11 @@ use lib.Dec.{eqb}
 use Rattle.octets.specs.Choice.{pick, isNil}
 use Rattle.octets.specs.Octets.{numberAt}
 use Rattle.rules.specs.Types as ie
-use Rattle.rules.specs.Message.{Element, widthOf}
+use Rattle.rules.specs.Message.{Element, numberWidth}
 use Rattle.rules.specs.Elements.{Answer, Fteid, causeOf}
 use Rattle.rules.specs.Reading.{Reading, done, andThen, named, Members, withLocal, valueRead, memberRead, membersRead, unopened, pdiRead, pdiEnd, itemFrom}
 use Rattle.plan.specs.Rows.{rowWidth, word, present, rowFar, rowLocal}
+use Rattle.plan.specs.Words as its
 use Rattle.element.specs.Answers.{refusalOf}
 use Rattle.element.specs.declared.fteid.Answer as code
 use Rattle.element.specs.declared.fteid.Answer.the-variants as code-case
@@ -43,24 +44,24 @@ column t =
 unfoldable pub rowMembers : List ℕ → Members
 rowMembers row =
     record {
-      pdrId = present (word 1 row) (word 7 row);
-      precedence = present (word 2 row) (word 8 row);
+      pdrId = present (word its.hasPdrId row) (word its.pdrId row);
+      precedence = present (word its.hasPrecedence row) (word its.precedence row);
       far = rowFar row;
-      pdi = eqb (word 6 row) 1;
-      source = present (word 4 row) (word 10 row);
+      pdi = eqb (word its.hasPdi row) 1;
+      source = present (word its.hasSource row) (word its.source row);
       local = rowLocal row;
-      endpointId = present (word 5 row) (word 11 row);
+      endpointId = present (word its.hasEndpointId row) (word its.endpointId row);
     }
 
 -- a row whose first words only say whether a member is there
 pub record Tidy (row : List ℕ) : Type 0 where
   pub wide : length row ≡ rowWidth
-  pub pdrId : word 1 row ≤ 1
-  pub precedence : word 2 row ≤ 1
-  pub far : word 3 row ≤ 2
-  pub source : word 4 row ≤ 1
-  pub endpointId : word 5 row ≤ 1
-  pub pdi : word 6 row ≤ 1
+  pub pdrId : word its.hasPdrId row ≤ 1
+  pub precedence : word its.hasPrecedence row ≤ 1
+  pub far : word its.hasFarId row ≤ 2
+  pub source : word its.hasSource row ≤ 1
+  pub endpointId : word its.hasEndpointId row ≤ 1
+  pub pdi : word its.hasPdi row ≤ 1
 
 -- a reading of members that a row took part in
 pub record Reads (result : Reading Members) (row : List ℕ) (r : Verdict) : Type 0 where
@@ -69,7 +70,7 @@ pub record Reads (result : Reading Members) (row : List ℕ) (r : Verdict) : Typ
 
 -- a plain member's number, of a Source Interface the low four bits
 unfoldable pub plainNumber : ℕ → List ℕ → ℕ
-plainNumber t v = pick (eqb t ie.sourceInterface) (numberAt 0 (widthOf t) v % 16) (numberAt 0 (widthOf t) v)
+plainNumber t v = pick (eqb t ie.sourceInterface) (numberAt 0 (numberWidth t) v % 16) (numberAt 0 (numberWidth t) v)
 
 -- a plain member, as in a Create PDR, where a null FAR ID is short
 unfoldable pub plainRead : ℕ → List ℕ → Members → Reading Members

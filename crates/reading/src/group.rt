@@ -1,7 +1,8 @@
 // Tables of 01's Places: which members a group has, and how many octets a plain one takes.
+use format::types;
 ghost use mathlib.Core.Path.{_≡_};
 ghost use Rattle.octets.specs.Lists.{member};
-ghost use Rattle.rules.specs.Message.{placesOf, widthOf};
+ghost use Rattle.rules.specs.Message.{placesOf, numberWidth};
 ghost use Rattle.reading.specs.Rows.{isPdi};
 
 // Whether an element of type kind has a place in the group.
@@ -9,25 +10,25 @@ pub(crate) fn is_member(place: u64, kind: u64) -> bool
     ensures { λ r. ⌜ r ≡ member kind (placesOf place) ⌝ }
 {
     match place {
-        1 | 9 => match kind {
-            56 | 29 | 2 | 108 => true,
+        types::CREATE_PDR | types::UPDATE_PDR => match kind {
+            types::PDR_ID | types::PRECEDENCE | types::PDI | types::FAR_ID => true,
             _ => false,
         },
-        2 => match kind {
-            20 | 131 => true,
-            21 => true,
+        types::PDI => match kind {
+            types::SOURCE_INTERFACE | types::ENDPOINT_ID => true,
+            types::FTEID => true,
             _ => false,
         },
-        127 => match kind {
-            131 | 21 => true,
+        types::CREATE_ENDPOINT => match kind {
+            types::ENDPOINT_ID | types::FTEID => true,
             _ => false,
         },
-        15 => match kind {
-            56 => true,
+        types::REMOVE_PDR => match kind {
+            types::PDR_ID => true,
             _ => false,
         },
         _ => match kind {
-            131 => true,
+            types::ENDPOINT_ID => true,
             _ => false,
         },
     }
@@ -35,11 +36,11 @@ pub(crate) fn is_member(place: u64, kind: u64) -> bool
 
 // How many octets a plain member has.
 pub fn width_of(kind: u64) -> usize
-    ensures { λ r. ⌜ r ≡ widthOf kind ⌝ }
+    ensures { λ r. ⌜ r ≡ numberWidth kind ⌝ }
 {
     match kind {
-        56 => 2,
-        29 | 108 => 4,
+        types::PDR_ID => 2,
+        types::PRECEDENCE | types::FAR_ID => 4,
         _ => 1,
     }
 }
@@ -48,8 +49,8 @@ pub fn width_of(kind: u64) -> usize
 pub(crate) fn is_pdi(place: u64, kind: u64) -> bool
     ensures { λ r. ⌜ r ≡ isPdi place kind ⌝ }
 {
-    if place != 1 {
+    if place != types::CREATE_PDR {
         return false;
     }
-    kind == 2
+    kind == types::PDI
 }

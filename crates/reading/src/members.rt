@@ -3,6 +3,9 @@
 use crate::Verdict;
 use element::fteid::Answer;
 use elements::First;
+use format::causes;
+use format::types;
+use format::words;
 ghost use mathlib.Core.Path.{_≡_};
 ghost use Prim.Native.Nat.{_≤_, _<_};
 ghost use lib.Dec.{eqb};
@@ -11,7 +14,7 @@ ghost use mathlib.Core.Bool.{true};
 ghost use Rattle.octets.specs.Choice.{pick};
 ghost use Rattle.octets.specs.Lists.{member};
 ghost use Rattle.rules.specs.Elements.{readFteid};
-ghost use Rattle.rules.specs.Message.{elements, widthOf};
+ghost use Rattle.rules.specs.Message.{elements, numberWidth};
 ghost use Rattle.rules.specs.Reading.{unopened, valueRead};
 ghost use Rattle.plan.specs.Rows.{word, rowWidth};
 ghost use Rattle.reading.specs.Verdicts.{outcome, numbered};
@@ -23,24 +26,24 @@ fn column_of(kind: u64) -> usize
     ensures { λ r. ⌜ (r ≡ column kind) × (r < 13) ⌝ }
 {
     match kind {
-        56 => 1,
-        29 => 2,
-        108 => 3,
-        20 => 4,
-        131 => 5,
-        2 => 6,
-        21 => 12,
+        types::PDR_ID => words::HAS_PDR_ID,
+        types::PRECEDENCE => words::HAS_PRECEDENCE,
+        types::FAR_ID => words::HAS_FAR_ID,
+        types::SOURCE_INTERFACE => words::HAS_SOURCE,
+        types::ENDPOINT_ID => words::HAS_ENDPOINT_ID,
+        types::PDI => words::HAS_PDI,
+        types::FTEID => words::FLAGS,
         _ => 0,
     }
 }
 
 // The number of a plain member of type kind, of a Source Interface the low four bits.
 fn number_of(v: &[u8], kind: u64, width: usize) -> u64
-    requires { ⌜ (width ≡ widthOf kind) × (width ≤ length (now v)) ⌝ }
+    requires { ⌜ (width ≡ numberWidth kind) × (width ≤ length (now v)) ⌝ }
     ensures { λ r. ⌜ r ≡ plainNumber kind (now (v .entry)) ⌝ }
 {
     let n = octets::read(v, 0, width);
-    if kind == 20 {
+    if kind == types::SOURCE_INTERFACE {
         return n % 16;
     }
     n
@@ -53,7 +56,7 @@ fn read_plain(v: &[u8], kind: u64, row: &mut [u64]) -> Verdict
 {
     let width = crate::group::width_of(kind);
     if v.len() < width {
-        return Verdict::Refused(68, kind);
+        return Verdict::Refused(causes::WRONG_LENGTH, kind);
     }
     let n = number_of(v, kind, width);
     let at = column_of(kind);
@@ -69,7 +72,7 @@ fn refused(answer: Answer) -> Verdict
     let Answer::Refused(refusal) = answer else {
         return Verdict::Fine;
     };
-    Verdict::Refused(element::cause_of(refusal), 21)
+    Verdict::Refused(element::cause_of(refusal), types::FTEID)
 }
 
 // An F-TEID: in a traffic endpoint (endpoint) or in a PDI.
@@ -81,12 +84,12 @@ fn read_fteid(v: &[u8], endpoint: bool, row: &mut [u64]) -> Verdict
     let Answer::Value(x) = answer else {
         return refused(answer);
     };
-    row[12] = x.flags;
-    row[13] = x.teid;
-    row[14] = x.ipv4;
-    row[15] = x.ipv6_high;
-    row[16] = x.ipv6_low;
-    row[17] = x.choose_id;
+    row[words::FLAGS] = x.flags;
+    row[words::TEID] = x.teid;
+    row[words::IPV4] = x.ipv4;
+    row[words::IPV6_HIGH] = x.ipv6_high;
+    row[words::IPV6_LOW] = x.ipv6_low;
+    row[words::CHOOSE_ID] = x.choose_id;
     Verdict::Fine
 }
 
@@ -94,10 +97,10 @@ fn read_fteid(v: &[u8], endpoint: bool, row: &mut [u64]) -> Verdict
 fn is_null_far(v: &[u8], place: u64, kind: u64) -> bool
     ensures { λ r. ⌜ r ≡ isNullFar place kind (now (v .entry)) ⌝ }
 {
-    if place != 9 {
+    if place != types::UPDATE_PDR {
         return false;
     }
-    if kind != 108 {
+    if kind != types::FAR_ID {
         return false;
     }
     v.len() == 0
@@ -109,15 +112,15 @@ fn read_value(v: &[u8], place: u64, kind: u64, row: &mut [u64]) -> Verdict
     requires { ⌜ Tidy (now row) × (member kind memberTypes ≡ true) ⌝ }
     ensures { λ r. ⌜ Reads (valueRead unopened place kind (now (v .entry)) (rowMembers (now (row .entry)))) (now (row .exit)) r ⌝ }
 {
-    if kind == 21 {
-        return read_fteid(v, place == 127, row);
+    if kind == types::FTEID {
+        return read_fteid(v, place == types::CREATE_ENDPOINT, row);
     }
-    if kind == 2 {
-        row[6] = 1;
+    if kind == types::PDI {
+        row[words::HAS_PDI] = 1;
         return Verdict::Fine;
     }
     if is_null_far(v, place, kind) {
-        row[3] = 2;
+        row[words::HAS_FAR_ID] = 2;
         return Verdict::Fine;
     }
     read_plain(v, kind, row)
@@ -133,7 +136,7 @@ fn read_own(v: &[u8], place: u64, kind: u64, row: &mut [u64]) -> Verdict
     }
     let at = column_of(kind);
     if row[at] != 0 {
-        return Verdict::Refused(69, kind);
+        return Verdict::Refused(causes::INCORRECT, kind);
     }
     read_value(v, place, kind, row)
 }
@@ -156,21 +159,56 @@ fn lacking(row: &[u64], place: u64) -> Verdict
     ensures { λ r. ⌜ outcome r (rowMembers (now (row .entry))) ≡ numbered (closing place (rowMembers (now (row .entry)))) ⌝ }
 {
     match place {
-        1 => require(
+        types::CREATE_PDR => require(
             row,
-            66,
-            2,
+            causes::MANDATORY_MISSING,
+            types::PDI,
             require(
                 row,
-                66,
-                29,
-                require(row, 66, 56, require(row, 66, 20, Verdict::Fine)),
+                causes::MANDATORY_MISSING,
+                types::PRECEDENCE,
+                require(
+                    row,
+                    causes::MANDATORY_MISSING,
+                    types::PDR_ID,
+                    require(
+                        row,
+                        causes::MANDATORY_MISSING,
+                        types::SOURCE_INTERFACE,
+                        Verdict::Fine,
+                    ),
+                ),
             ),
         ),
-        2 => require(row, 66, 20, Verdict::Fine),
-        127 => require(row, 67, 21, require(row, 66, 131, Verdict::Fine)),
-        9 | 15 => require(row, 66, 56, Verdict::Fine),
-        _ => require(row, 66, 131, Verdict::Fine),
+        types::PDI => require(
+            row,
+            causes::MANDATORY_MISSING,
+            types::SOURCE_INTERFACE,
+            Verdict::Fine,
+        ),
+        types::CREATE_ENDPOINT => require(
+            row,
+            causes::CONDITIONAL_MISSING,
+            types::FTEID,
+            require(
+                row,
+                causes::MANDATORY_MISSING,
+                types::ENDPOINT_ID,
+                Verdict::Fine,
+            ),
+        ),
+        types::UPDATE_PDR | types::REMOVE_PDR => require(
+            row,
+            causes::MANDATORY_MISSING,
+            types::PDR_ID,
+            Verdict::Fine,
+        ),
+        _ => require(
+            row,
+            causes::MANDATORY_MISSING,
+            types::ENDPOINT_ID,
+            Verdict::Fine,
+        ),
     }
 }
 
@@ -190,7 +228,7 @@ pub fn read_group(s: &[u8], place: u64, row: &mut [u64]) -> Verdict
             return own;
         };
         if crate::group::is_pdi(place, kind) {
-            let inner = read_group(v, 2, row);
+            let inner = read_group(v, types::PDI, row);
             let Verdict::Fine = inner else {
                 return inner;
             };

@@ -17,7 +17,7 @@ use Rattle.octets.proofs.Ordered.{orders}
 use Rattle.octets.proofs.Tests.{and-left, and-right, of-true}
 use Rattle.octets.proofs.FieldLaws.{octet-field, zero-number, zero-fields}
 use Rattle.rules.specs.Limits.{maxPool}
-use Rattle.rules.specs.Layout.{endpointWidth}
+use Rattle.rules.specs.Layout.{endpointWidth, settingsWidth, pdrWidth, csidWidth}
 use native.Mathlib.Nat.{add-zero}
 use Rattle.rules.specs.Sound.{poolTests}
 use Rattle.laws.proofs.LayoutLaws.{endpoint-view}
@@ -27,7 +27,7 @@ use Rattle.records.proofs.Slots.{endpoint-law, pdr-law, csid-law, setti
 
 -- ---- FQ-CSIDs
 
-module _ (xs : List ℕ) (e : length xs ≡ 20) (o : T (octets xs)) where
+module _ (xs : List ℕ) (e : length xs ≡ csidWidth) (o : T (octets xs)) where
   csid-is : csidSound xs ≡ (ltb (getD xs 0 0) 6 && (leb (getD xs 1 0) 2 && addressTest (getD xs 1 0) (number (part 2 4 xs)) (number (part 6 12 xs))))
   unfolding fieldsAt csidTest
   csid-is = csid-law xs e o ∙ rw (octet-field 0 xs, octet-field 1 xs)
@@ -54,7 +54,7 @@ module _ (xs : List ℕ) (e : length xs ≡ 20) (o : T (octets xs)) where
 
 -- ---- settings
 
-module _ (xs : List ℕ) (e : length xs ≡ 29) (o : T (octets xs)) where
+module _ (xs : List ℕ) (e : length xs ≡ settingsWidth) (o : T (octets xs)) where
   pub settings-absent : (r : Bool) → r ≡ optionalTest (getD xs 4 0) (number (part 5 16 xs)) → not r ≡ true → false ≡ settingsSound xs
   settings-absent r q h = sym (settings-law xs e o ∙ rw (← q, not-true r h))
 
@@ -93,7 +93,7 @@ module _ (first size : ℕ) (v6 : Bool) (live xs : List ℕ) where
   place-tunnel r k h y = y ∙ sym (rw (k, h))
 
   stray : allZero (part 13 5 xs) ≡ allZero (number (part 13 4 xs) ∷ getD xs 17 0 ∷ [])
-  unfolding fieldsAt widthOf
+  unfolding fieldsAt
   stray = zero-fields 13 (4 ∷ 1 ∷ []) xs ∙ rw (octet-field 17 xs)
 
   pub place-stray : (z : Bool) → getD xs 12 0 ≡ 2 → z ≡ allZero (part 13 5 xs) → not z ≡ true → false ≡ matches
@@ -103,12 +103,12 @@ module _ (first size : ℕ) (v6 : Bool) (live xs : List ℕ) where
   place-named z r k y h m = m ∙ sym (rw (k, ← stray, ← y, not-false z h))
 
   pub place-none : (z : Bool) → (getD xs 12 0 ≡ 1 → ⊥) → (getD xs 12 0 ≡ 2 → ⊥) → z ≡ allZero (part 12 7 xs) → z ≡ matches
-  unfolding fieldsAt widthOf
+  unfolding fieldsAt
   place-none z k h y =
       y ∙ zero-fields 12 (1 ∷ 4 ∷ 1 ∷ 1 ∷ []) xs
       ∙ sym (rw (ne-eqb (getD xs 12 0) 1 k, ne-eqb (getD xs 12 0) 2 h, octet-field 12 xs, octet-field 17 xs, octet-field 18 xs))
 
-  module _ (pool : first + size ≤ 2 ^ 32) (e : length xs ≡ 19) (o : T (octets xs)) where
+  module _ (pool : first + size ≤ 2 ^ 32) (e : length xs ≡ pdrWidth) (o : T (octets xs)) where
     pdr-is : pdrSound (unit first size v6) live xs ≡ allOf (optionalTest (getD xs 6 0) (number (part 7 4 xs)) ∷ ltb (getD xs 11 0) 16 ∷ matches ∷ [])
     unfolding fieldsAt pdrTest
     pdr-is = pdr-law first size v6 pool live xs e o ∙ rw (octet-field 6 xs, octet-field 11 xs, octet-field 12 xs, octet-field 17 xs, octet-field 18 xs)
@@ -199,34 +199,34 @@ module _ (f : ℕ) where
 -- ---- endpoint IDs
 
 module _ (a : List ℕ) (n i : ℕ) (h : i < n) where
-  pub ids-more : endpointIds (n - i) (drop (i * 6) a) ≡ getD a (i * 6) 0 ∷ endpointIds (n - (i + 1)) (drop ((i + 1) * 6) a)
-  unfolding endpointIds slices endpointWidth
+  pub ids-more : endpointIds (n - i) (drop (i * endpointWidth) a) ≡ getD a (i * endpointWidth) 0 ∷ endpointIds (n - (i + 1)) (drop ((i + 1) * endpointWidth) a)
+  unfolding endpointIds slices
   ids-more =
       let e : n - i ≡ suc (n - (i + 1)) = omega arith in
-      let next : i * 6 + 6 ≡ (i + 1) * 6 = omega arith in
-      rw (e, endpoint-view (take 6 (drop (i * 6) a)), getD-take 6 (drop (i * 6) a) 0 0 (lit< tt), getD-drop (i * 6) a 0 0, drop-drop 6 (i * 6) a, next, add-zero)
+      let next : i * endpointWidth + 6 ≡ (i + 1) * endpointWidth = omega arith in
+      rw (e, endpoint-view (take 6 (drop (i * endpointWidth) a)), getD-take 6 (drop (i * endpointWidth) a) 0 0 (lit< tt), getD-drop (i * endpointWidth) a 0 0, drop-drop 6 (i * endpointWidth) a, next, add-zero)
 
   module _ (id : ℕ) where
     abbrev named : ℕ → Bool
-    named j = member id (endpointIds (n - j) (drop (j * 6) a))
+    named j = member id (endpointIds (n - j) (drop (j * endpointWidth) a))
 
-    named-here : getD a (i * 6) 0 ≡ id → named i ≡ true
+    named-here : getD a (i * endpointWidth) 0 ≡ id → named i ≡ true
     unfolding member
-    named-here e = rw (ids-more, eq-eqb id (getD a (i * 6) 0) (sym e))
+    named-here e = rw (ids-more, eq-eqb id (getD a (i * endpointWidth) 0) (sym e))
 
-    named-later : (getD a (i * 6) 0 ≡ id → ⊥) → named i ≡ named (i + 1)
+    named-later : (getD a (i * endpointWidth) 0 ≡ id → ⊥) → named i ≡ named (i + 1)
     unfolding member
-    named-later e = rw (ids-more, ne-eqb id (getD a (i * 6) 0) (λ q. e (sym q)))
+    named-later e = rw (ids-more, ne-eqb id (getD a (i * endpointWidth) 0) (λ q. e (sym q)))
 
     -- what was found, with what is left
     module _ (f m : Bool) (q : (f || named i) ≡ m) where
-      pub found-here : getD a (i * 6) 0 ≡ id → true ≡ m
+      pub found-here : getD a (i * endpointWidth) 0 ≡ id → true ≡ m
       found-here e = sym (or-true f) ∙ ap (λ (t : Bool). f || t) (sym (named-here e)) ∙ q
 
-      pub found-later : (getD a (i * 6) 0 ≡ id → ⊥) → (f || named (i + 1)) ≡ m
+      pub found-later : (getD a (i * endpointWidth) 0 ≡ id → ⊥) → (f || named (i + 1)) ≡ m
       found-later e = ap (λ (t : Bool). f || t) (sym (named-later e)) ∙ q
 
-pub found-all : (a : List ℕ) (n i id : ℕ) (f m : Bool) → n ≤ i → (f || member id (endpointIds (n - i) (drop (i * 6) a))) ≡ m → f ≡ m
+pub found-all : (a : List ℕ) (n i id : ℕ) (f m : Bool) → n ≤ i → (f || member id (endpointIds (n - i) (drop (i * endpointWidth) a))) ≡ m → f ≡ m
 unfolding endpointIds slices member
 found-all a n i id f m h q = let e : n - i ≡ 0 = omega arith in sym (or-false f) ∙ rw e at q
 
@@ -242,7 +242,7 @@ module _ (first size : ℕ) (v6 : Bool) (pool : first + size ≤ 2 ^ 32) where
   unfolding fieldsAt endpointTest
   endpoint-pool xs e o k = tunnel-pool (number (part 1 4 xs)) (number (part 5 1 xs)) (of-true (sym (endpoint-law first size v6 pool xs e o) ∙ k))
 
-  pub pdr-pool : (live xs : List ℕ) → length xs ≡ 19 → T (octets xs) → pdrSound (unit first size v6) live xs ≡ true → getD xs 12 0 ≡ 1
+  pub pdr-pool : (live xs : List ℕ) → length xs ≡ pdrWidth → T (octets xs) → pdrSound (unit first size v6) live xs ≡ true → getD xs 12 0 ≡ 1
       → (first ≤ number (part 13 4 xs)) × (number (part 13 4 xs) < first + size)
   pdr-pool live xs e o k there =
       let far : Bool = optionalTest (getD xs 6 0) (number (part 7 4 xs)) in

@@ -23,7 +23,7 @@ use Rattle.octets.proofs.FieldLaws.{Fits, each-fit, fit-fields, slot-law, zero-
 use Rattle.rules.specs.Model.{Settings, neither, tunnel, endpoint}
 use Rattle.rules.specs.Limits.{maxOperator}
 use Rattle.rules.specs.Elements.{addressLength, operatorAllowed, nodeAddressTests, nodeAddressAllowed, nodeTypeKept, below16}
-use Rattle.rules.specs.Layout.{families, optionRead, tunnelRead, pdrWidths, matchKind, matchTeid, matchFamilies, matchEndpoint, placeRead, pdrNumbers, pdrFrom, endpointWidths, endpointNumbers, endpointFrom, csidSlotWidths, csidSlotNumbers, addressRead, csidFrom, pdrOctets, endpointOctets, csidOctets, settingsOctets, viewSettings, viewPdr, viewEndpoint, viewCsid}
+use Rattle.rules.specs.Layout.{families, optionRead, tunnelRead, pdrWidths, matchKind, matchTeid, matchFamilies, matchEndpoint, placeRead, pdrNumbers, pdrFrom, endpointWidths, endpointNumbers, endpointFrom, csidSlotWidths, csidSlotNumbers, addressRead, csidFrom, pdrOctets, endpointOctets, csidOctets, settingsOctets, viewSettings, viewPdr, viewEndpoint, viewCsid, settingsWidth, pdrWidth, csidWidth}
 use Rattle.rules.specs.Sound.{poolTests, ipv6Allowed, settingsTests, settingsAllowed, tunnelAllowed, placeAllowed, farAllowed, pdrTests, pdrAllowed, endpointTests, endpointAllowed, csidTests, csidAllowed}
 use Rattle.laws.proofs.LayoutLaws.{pdr-fits, endpoint-fits, csid-fits}
 use Rattle.records.specs.Kept.{kept, settingsSound, pdrSound, endpointSound, csidSound, unit, optionalTest, tunnelTest, placeTest, pdrTest, endpointTest, csidTest}
@@ -87,7 +87,7 @@ module _ (first size : ℕ) (v6 : Bool) where
       rw (lt-ltb i 256 h, eqb-same i, eqb-same t) (simp and-true (tunnel-law first size v6 t f))
 
   pub endpoint-law : first + size ≤ 2 ^ 32 → (xs : List ℕ) → length xs ≡ 6 → T (octets xs) → endpointSound s xs ≡ endpointTest first size v6 (fieldsAt 0 endpointWidths xs)
-  unfolding endpointSound kept endpointOctets viewEndpoint widthOf fieldsAt
+  unfolding endpointSound kept endpointOctets viewEndpoint fieldsAt
   endpoint-law h xs e o =
       let b = each-fit endpointWidths _ (fit-fields 0 endpointWidths xs o (omega arith)) in
       slot-law endpointWidths endpointNumbers endpointFrom (endpointAllowed s) (endpointTest first size v6) (endpoint-fits s (pool h)) xs e o
@@ -132,8 +132,8 @@ module _ (first size : ℕ) (v6 : Bool) where
       (beside (tested (ltb c 16) c)
       (beside (matched live k t f e (b .1 .1 .1 .1 .1 .1 .1 .1 .0)) no-field))))
 
-  pub pdr-law : first + size ≤ 2 ^ 32 → (live xs : List ℕ) → length xs ≡ 19 → T (octets xs) → pdrSound s live xs ≡ pdrTest first size v6 live (fieldsAt 0 pdrWidths xs)
-  unfolding pdrSound kept pdrOctets viewPdr widthOf fieldsAt
+  pub pdr-law : first + size ≤ 2 ^ 32 → (live xs : List ℕ) → length xs ≡ pdrWidth → T (octets xs) → pdrSound s live xs ≡ pdrTest first size v6 live (fieldsAt 0 pdrWidths xs)
+  unfolding pdrSound kept pdrOctets viewPdr fieldsAt
   pdr-law h live xs e o =
       slot-law pdrWidths pdrNumbers pdrFrom (pdrAllowed s live) (pdrTest first size v6 live) (pdr-fits s (pool h) live) xs e o
       (pdr-same live _ _ _ _ _ _ _ _ _ (each-fit pdrWidths _ (fit-fields 0 pdrWidths xs o (omega arith))) .same)
@@ -195,8 +195,8 @@ csid-same n t a b c f =
     (order (ltb n 6) (leb t 2) (not (eqb t 2) || leb (number ad / 4096) maxOperator) (eqb (pick long b 0) b)
     ∙ ap (λ (x : Bool). ltb n 6 && (leb t 2 && x)) (address-law a b ha hb t long refl))
 
-pub csid-law : (xs : List ℕ) → length xs ≡ 20 → T (octets xs) → csidSound xs ≡ csidTest (fieldsAt 0 csidSlotWidths xs)
-unfolding csidSound kept csidOctets viewCsid widthOf fieldsAt
+pub csid-law : (xs : List ℕ) → length xs ≡ csidWidth → T (octets xs) → csidSound xs ≡ csidTest (fieldsAt 0 csidSlotWidths xs)
+unfolding csidSound kept csidOctets viewCsid fieldsAt
 csid-law xs e o =
     slot-law csidSlotWidths csidSlotNumbers csidFrom csidAllowed csidTest csid-fits xs e o
     (csid-same _ _ _ _ _ (each-fit csidSlotWidths _ (fit-fields 0 csidSlotWidths xs o (omega arith))))
@@ -236,7 +236,7 @@ settings-parts a₀ a₁ a₂ a₃ g v f z lv lf lz oa ov of′ oz =
     let a : List ℕ = pick (eqb g 0) [] v in
     let address : take 16 rest ≡ v = take-at v (f ++ z) 16 lv in
     let first : take 4 (drop 16 rest) ≡ f = ap (take 4) (drop-at v (f ++ z) 16 lv) ∙ take-at f z 4 lf in
-    let size : take 4 (drop 20 rest) ≡ z =
+    let size : take 4 (drop csidWidth rest) ≡ z =
     ap (take 4) (sym (drop-drop 4 16 rest) ∙ ap (drop 4) (drop-at v (f ++ z) 16 lv) ∙ drop-at f z 4 lf) ∙ take-all 4 z (omega arith) in
     let full : length (padded 16 a) ≡ length v = padded-with (eqb g 0) v lv ∙ sym lv in
     let same : sameOctets (padded 16 a ++ (f ++ z)) rest ≡ sameOctets (padded 16 a) v =
@@ -245,9 +245,9 @@ settings-parts a₀ a₁ a₂ a₃ g v f z lv lf lz oa ov of′ oz =
     (collect (ipv6Allowed a) (octets a) (allOf (poolTests (number f) (number z))) (eqb (flag (not (isNil a))) g) (sameOctets (padded 16 a) v)
     ∙ ap (λ (t : Bool). t && allOf (poolTests (number f) (number z))) (ipv6-with (eqb g 0) g v lv ov refl))
 
-pub settings-law : (xs : List ℕ) → length xs ≡ 29 → T (octets xs) → settingsSound xs ≡ settingsTest xs
+pub settings-law : (xs : List ℕ) → length xs ≡ settingsWidth → T (octets xs) → settingsSound xs ≡ settingsTest xs
 settings-law xs e o =
-    let cell : (j : ℕ) → j < 29 → drop j xs ≡ getD xs j 0 ∷ drop (suc j) xs = λ j h. drop-cons xs j 0 (omega arith) in
+    let cell : (j : ℕ) → j < settingsWidth → drop j xs ≡ getD xs j 0 ∷ drop (suc j) xs = λ j h. drop-cons xs j 0 (omega arith) in
     let front : xs ≡ getD xs 0 0 ∷ getD xs 1 0 ∷ getD xs 2 0 ∷ getD xs 3 0 ∷ getD xs 4 0 ∷ drop 5 xs =
     cell 0 (lit< tt) ∙ ap (λ (l : List ℕ). getD xs 0 0 ∷ l)
     (cell 1 (lit< tt) ∙ ap (λ (l : List ℕ). getD xs 1 0 ∷ l)

@@ -10,6 +10,7 @@ ghost use Rattle.octets.specs.Choice.{pick, allOf};
 ghost use Rattle.octets.specs.Lists.{member};
 ghost use Rattle.octets.specs.Octets.{part, number};
 ghost use Rattle.rules.specs.Sound.{poolTests};
+ghost use Rattle.rules.specs.Layout.{settingsWidth, pdrWidth, endpointWidth, csidWidth};
 ghost use Rattle.records.specs.Kept.{settingsSound, pdrSound, endpointSound, csidSound, endpointIds, unit, optionalTest, familiesTest, tunnelTest, placeTest};
 
 // A field of n octets that may be absent: 1 and the field, or zeros.
@@ -55,7 +56,7 @@ pub fn pool_sound(first: u64, size: u64) -> bool
 
 // The settings' slot.
 pub fn settings_sound(slot: &[u8]) -> bool
-    requires { ⌜ length (now slot) ≡ 29 ⌝ }
+    requires { ⌜ length (now slot) ≡ settingsWidth ⌝ }
     ensures { λ r. ⌜ r ≡ settingsSound (now (slot .entry)) ⌝ }
 {
     if !optional_sound(slot, format::IPV6_THERE, 16) {
@@ -111,7 +112,7 @@ pub fn endpoint_sound(slot: &[u8], first: u64, size: u64, v6: bool) -> bool
 
 // Whether one of the first n endpoints in ends has the ID id. Every ID is read, so that no branch goes by which one it is.
 fn names_endpoint(ends: &[u8], n: usize, id: u8) -> bool
-    requires { ⌜ n * 6 ≤ length (now ends) ⌝ }
+    requires { ⌜ n * endpointWidth ≤ length (now ends) ⌝ }
     ensures { λ r. ⌜ r ≡ member id (endpointIds n (now (ends .entry))) ⌝ }
 {
     let mut found = false;
@@ -125,7 +126,7 @@ fn names_endpoint(ends: &[u8], n: usize, id: u8) -> bool
 
 // What a PDR matches on, in its slot. ends has the session's n endpoints.
 fn place_sound(slot: &[u8], ends: &[u8], n: usize, first: u64, size: u64, v6: bool) -> bool
-    requires { ⌜ (length (now slot) ≡ 19) × (n * 6 ≤ length (now ends)) × (first + size ≤ 2 ^ 32) ⌝ }
+    requires { ⌜ (length (now slot) ≡ pdrWidth) × (n * endpointWidth ≤ length (now ends)) × (first + size ≤ 2 ^ 32) ⌝ }
     ensures { λ r. ⌜ r ≡ placeTest first size v6 (endpointIds n (now (ends .entry))) (getD (now (slot .entry)) 12 0) (number (part 13 4 (now (slot .entry)))) (getD (now (slot .entry)) 17 0) (getD (now (slot .entry)) 18 0) ⌝ }
 {
     let kind = slot[format::PLACE];
@@ -147,7 +148,7 @@ fn place_sound(slot: &[u8], ends: &[u8], n: usize, first: u64, size: u64, v6: bo
 
 // A PDR's slot. ends has the session's n endpoints.
 pub fn pdr_sound(slot: &[u8], ends: &[u8], n: usize, first: u64, size: u64, v6: bool) -> bool
-    requires { ⌜ (length (now slot) ≡ 19) × (n * 6 ≤ length (now ends)) × (first + size ≤ 2 ^ 32) ⌝ }
+    requires { ⌜ (length (now slot) ≡ pdrWidth) × (n * endpointWidth ≤ length (now ends)) × (first + size ≤ 2 ^ 32) ⌝ }
     ensures { λ r. ⌜ r ≡ pdrSound (unit first size v6) (endpointIds n (now (ends .entry))) (now (slot .entry)) ⌝ }
 {
     if 15 < slot[format::SOURCE] {
@@ -161,7 +162,7 @@ pub fn pdr_sound(slot: &[u8], ends: &[u8], n: usize, first: u64, size: u64, v6: 
 
 // An FQ-CSID's slot.
 pub fn csid_sound(slot: &[u8]) -> bool
-    requires { ⌜ length (now slot) ≡ 20 ⌝ }
+    requires { ⌜ length (now slot) ≡ csidWidth ⌝ }
     ensures { λ r. ⌜ r ≡ csidSound (now (slot .entry)) ⌝ }
 {
     let kind = slot[1];

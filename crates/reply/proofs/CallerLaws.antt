@@ -7,7 +7,8 @@ use Rattle.rules.specs.Model.{Settings}
 use Rattle.rules.specs.Grants.{Grant}
 use Rattle.rules.specs.Stages.{Verdict}
 use Rattle.rules.specs.Reply.{replyBody, replySeid, reply}
+use Rattle.rules.specs.Causes as why
 
-pub refusal-alone : (s : Settings) (msg : List ℕ) (seid seid′ : ℕ) (v : Verdict) (gs gs′ : List Grant) → (v .cause ≡ 1 → ⊥) → reply s msg seid v gs ≡ reply s msg seid′ v gs′
+pub refusal-alone : (s : Settings) (msg : List ℕ) (seid seid′ : ℕ) (v : Verdict) (gs gs′ : List Grant) → (v .cause ≡ why.accepted → ⊥) → reply s msg seid v gs ≡ reply s msg seid′ v gs′
 unfolding reply replyBody replySeid
-refusal-alone s msg seid seid′ v gs gs′ n = rw (ne-eqb (v .cause) 1 n)
+refusal-alone s msg seid seid′ v gs gs′ n = rw (ne-eqb (v .cause) why.accepted n)

@@ -17,6 +17,9 @@ use Rattle.rules.specs.Elements.{fteidOctets, unitFteid, fseidOctets}
 use Rattle.rules.specs.Grants.{Kind, ofPdr, ofEndpoint, Grant, sameKind, isKind, grantsOf}
 use Rattle.rules.specs.Stages.{Verdict}
 use Rattle.rules.specs.Reply.{element, unitElement, createdPdr, createdPdrContent, createdEndpoint, createdEndpointContent, created, offendingElement, nodeIdElement, unitFseid, acceptedPart, replyBody}
+use Rattle.rules.specs.Types as ie
+use Rattle.rules.specs.Causes as why
+use Rattle.rules.specs.Message.{establishment}
 use Rattle.created.specs.Groups.{kindIn, group, groups}
 use Rattle.reply.specs.Parts.{bodyFront}
 use Rattle.writing.proofs.PlacedLaws.{length-element}
@@ -48,17 +51,17 @@ length-offending (some t) = rw length-element (omega (arith, length-be 2 t))
 module _ (s : Settings) (four : length (s .ipv4) ≤ 4) where
   pub length-node : (kind : ℕ) → length (nodeIdElement kind s) ≤ 9
   unfolding nodeIdElement
-  length-node kind = pick-either (atMost 9) (eqb kind 50) _ [] (rw length-element (omega arith)) (omega arith)
+  length-node kind = pick-either (atMost 9) (eqb kind establishment) _ [] (rw length-element (omega arith)) (omega arith)
 
   pub length-front : (kind cause : ℕ) → length (bodyFront kind s cause) ≤ 14
   unfolding bodyFront
   length-front kind cause =
-      omega (arith, length-append (nodeIdElement kind s) (element 19 (cause ∷ [])), length-node kind, length-element 19 (cause ∷ []))
+      omega (arith, length-append (nodeIdElement kind s) (element ie.cause (cause ∷ [])), length-node kind, length-element 19 (cause ∷ []))
 
   pub length-fseid : (kind seid : ℕ) → length (unitFseid kind s seid) ≤ 17
   unfolding unitFseid fseidOctets
   length-fseid kind seid =
-      pick-either (atMost 17) (eqb kind 50) _ []
+      pick-either (atMost 17) (eqb kind establishment) _ []
       (rw length-element (omega (arith, length-append (be 8 seid) (s .ipv4 ++ []), length-append (s .ipv4) [], length-be 8 seid)))
       (omega arith)
 
@@ -76,13 +79,13 @@ module _ (s : Settings) (four : length (s .ipv4) ≤ 4) where
     unfolding createdPdr createdPdrContent
     length-pdr g =
         rw length-element
-        (omega (arith, length-append (element 56 (be 2 (g .id))) (unitElement s (g .local)), length-element 56 (be 2 (g .id)), length-be 2 (g .id), length-unit-most (g .local)))
+        (omega (arith, length-append (element ie.pdrId (be 2 (g .id))) (unitElement s (g .local)), length-element ie.pdrId (be 2 (g .id)), length-be 2 (g .id), length-unit-most (g .local)))
 
     length-endpoint : (g : Grant) → length (createdEndpoint s g) ≤ 39
     unfolding createdEndpoint createdEndpointContent
     length-endpoint g =
         rw length-element
-        (omega (arith, length-append (element 131 (g .id ∷ [])) (unitElement s (g .local)), length-element 131 (g .id ∷ []), length-unit-most (g .local)))
+        (omega (arith, length-append (element ie.endpointId (g .id ∷ [])) (unitElement s (g .local)), length-element ie.endpointId (g .id ∷ []), length-unit-most (g .local)))
 
     -- a grant has one group, of one kind or the other
     one-group : (k : Kind) (i : ℕ) (t : Tunnel) → length (groups ofPdr s (grant k i t ∷ [])) + length (groups ofEndpoint s (grant k i t ∷ [])) ≤ 39
@@ -107,13 +110,13 @@ module _ (s : Settings) (four : length (s .ipv4) ≤ 4) where
     length-body kind seid v gs h =
         let o = offendingElement (v .offending) in
         let a = unitFseid kind s seid ++ created s gs in
-        let b = pick (eqb (v .cause) 1) a [] in
+        let b = pick (eqb (v .cause) why.accepted) a [] in
         let la : length b ≤ 953 =
-        pick-either (atMost 953) (eqb (v .cause) 1) a [] (omega (arith, length-append (unitFseid kind s seid) (created s gs), length-fseid kind seid, length-created-most gs)) (omega arith) in
+        pick-either (atMost 953) (eqb (v .cause) why.accepted) a [] (omega (arith, length-append (unitFseid kind s seid) (created s gs), length-fseid kind seid, length-created-most gs)) (omega arith) in
         omega (
           arith,
-          length-append (nodeIdElement kind s) (element 19 (v .cause ∷ []) ++ (o ++ b)),
-          length-append (element 19 (v .cause ∷ [])) (o ++ b),
+          length-append (nodeIdElement kind s) (element ie.cause (v .cause ∷ []) ++ (o ++ b)),
+          length-append (element ie.cause (v .cause ∷ [])) (o ++ b),
           length-append o b,
           length-node kind,
           length-element 19 (v .cause ∷ []),

@@ -12,10 +12,12 @@ use Rattle.octets.proofs.Put.{put-front, length-part}
 use Rattle.laws.proofs.ReplyLaws.{sequence-three}
 use Rattle.rules.specs.Model.{Settings}
 use Rattle.rules.specs.Layout.{viewSettings}
-use Rattle.rules.specs.Message.{kindOf, headerSeid, sequenceOf}
+use Rattle.rules.specs.Message.{kindOf, headerSeid, sequenceOf, establishment}
 use Rattle.rules.specs.Grants.{Grant}
 use Rattle.rules.specs.Stages.{Verdict, plain}
 use Rattle.rules.specs.Reply.{element, message, created, offendingElement, nodeIdElement, unitFseid, acceptedPart, replyBody, replySeid, reply}
+use Rattle.rules.specs.Types as ie
+use Rattle.rules.specs.Causes as why
 use Rattle.writing.specs.Placed.{Placed, written}
 use Rattle.reply.specs.Parts.{messageHead, replyHead, bodyFront}
 use Rattle.reply.proofs.LengthLaws.{view-ipv4, view-ipv6, length-node, length-front, length-fseid, length-created-most, length-body}
@@ -27,7 +29,7 @@ module _ (t : List ℕ) (kind cause : ℕ) (out : List ℕ) (room : 30 ≤ lengt
   pub front-room : length out₁ ≡ length out → next + 5 ≤ length out₁
   front-room l = let e = p .ends in omega (arith, length-node (viewSettings t) (view-ipv4 t) kind)
 
-  pub front-steps : {end : ℕ} {out₂ : List ℕ} → Placed out₁ next (element 19 (cause ∷ [])) end out₂ → Placed out 16 (bodyFront kind (viewSettings t) cause) end out₂
+  pub front-steps : {end : ℕ} {out₂ : List ℕ} → Placed out₁ next (element ie.cause (cause ∷ [])) end out₂ → Placed out 16 (bodyFront kind (viewSettings t) cause) end out₂
   unfolding bodyFront
   front-steps q = placed-then p q (omega (arith, length-node (viewSettings t) (view-ipv4 t) kind))
 
@@ -58,21 +60,21 @@ module _ (msg : List ℕ) (cause seid : ℕ) where
   abbrev out-seid : ℕ
   out-seid = replySeid (kindOf msg) cause (headerSeid msg) seid
 
-  pub seid-new : getD msg 1 0 ≡ 50 → cause ≡ 1 → seid ≡ out-seid
+  pub seid-new : getD msg 1 0 ≡ establishment → cause ≡ why.accepted → seid ≡ out-seid
   unfolding replySeid kindOf octetAt
-  seid-new e f = rw (eq-eqb (getD msg 1 0) 50 e, eq-eqb cause 1 f)
+  seid-new e f = rw (eq-eqb (getD msg 1 0) establishment e, eq-eqb cause why.accepted f)
 
-  pub seid-refused : getD msg 1 0 ≡ 50 → (cause ≡ 1 → ⊥) → 0 ≡ out-seid
+  pub seid-refused : getD msg 1 0 ≡ establishment → (cause ≡ why.accepted → ⊥) → 0 ≡ out-seid
   unfolding replySeid kindOf octetAt
-  seid-refused e f = rw (eq-eqb (getD msg 1 0) 50 e, ne-eqb cause 1 f)
+  seid-refused e f = rw (eq-eqb (getD msg 1 0) establishment e, ne-eqb cause why.accepted f)
 
-  pub seid-unknown : (getD msg 1 0 ≡ 50 → ⊥) → cause ≡ 65 → 0 ≡ out-seid
+  pub seid-unknown : (getD msg 1 0 ≡ establishment → ⊥) → cause ≡ why.noSession → 0 ≡ out-seid
   unfolding replySeid kindOf octetAt
-  seid-unknown e f = rw (ne-eqb (getD msg 1 0) 50 e, eq-eqb cause 65 f)
+  seid-unknown e f = rw (ne-eqb (getD msg 1 0) establishment e, eq-eqb cause why.noSession f)
 
-  pub seid-header : (getD msg 1 0 ≡ 50 → ⊥) → (cause ≡ 65 → ⊥) → (r : ℕ) → r ≡ number (part 4 8 msg) → r ≡ out-seid
+  pub seid-header : (getD msg 1 0 ≡ establishment → ⊥) → (cause ≡ why.noSession → ⊥) → (r : ℕ) → r ≡ number (part 4 8 msg) → r ≡ out-seid
   unfolding replySeid kindOf octetAt headerSeid numberAt
-  seid-header e f r g = rw (ne-eqb (getD msg 1 0) 50 e, ne-eqb cause 65 f) g
+  seid-header e f r g = rw (ne-eqb (getD msg 1 0) establishment e, ne-eqb cause why.noSession f) g
 
 -- ---- the whole
 
@@ -108,14 +110,14 @@ whole s msg seid v gs out {out₁} {out₂} {end} h room p q =
     (both ∙ ap (λ (ys : List ℕ). put 0 ys out) (sym (message-headed (kindOf msg + 1) k (sequenceOf msg) xs)))
 
 module _ (s : Settings) (kind : ℕ) where
-  pub refused-body : (cause : ℕ) (o : Option ℕ) → (cause ≡ 1 → ⊥)
+  pub refused-body : (cause : ℕ) (o : Option ℕ) → (cause ≡ why.accepted → ⊥)
       → bodyFront kind s cause ++ offendingElement o ≡ replyBody kind s 0 (record { cause = cause; offending = o }) []
   unfolding bodyFront replyBody
-  refused-body cause o n = rw (ne-eqb cause 1 n, append-nil) (append-assoc (nodeIdElement kind s) (element 19 (cause ∷ [])) (offendingElement o))
+  refused-body cause o n = rw (ne-eqb cause why.accepted n, append-nil) (append-assoc (nodeIdElement kind s) (element ie.cause (cause ∷ [])) (offendingElement o))
 
-  pub accepted-body : (seid : ℕ) (gs : List Grant) → bodyFront kind s 1 ++ (unitFseid kind s seid ++ created s gs) ≡ replyBody kind s seid (plain 1) gs
+  pub accepted-body : (seid : ℕ) (gs : List Grant) → bodyFront kind s 1 ++ (unitFseid kind s seid ++ created s gs) ≡ replyBody kind s seid (plain why.accepted) gs
   unfolding bodyFront replyBody offendingElement acceptedPart
-  accepted-body seid gs = append-assoc (nodeIdElement kind s) (element 19 (1 ∷ [])) (unitFseid kind s seid ++ created s gs)
+  accepted-body seid gs = append-assoc (nodeIdElement kind s) (element ie.cause (1 ∷ [])) (unitFseid kind s seid ++ created s gs)
 
 -- ---- what a refusal and an acceptance write
 
@@ -126,7 +128,7 @@ module _ (t msg out : List ℕ) (header : 16 ≤ length msg) (space : 1024 ≤ l
   abbrev kind : ℕ
   kind = getD msg 1 0
 
-  pub refused-steps : (cause : ℕ) (o : Option ℕ) {out₁ out₂ out₃ : List ℕ} {next end : ℕ} → (cause ≡ 1 → ⊥)
+  pub refused-steps : (cause : ℕ) (o : Option ℕ) {out₁ out₂ out₃ : List ℕ} {next end : ℕ} → (cause ≡ why.accepted → ⊥)
       → Placed out 16 (bodyFront kind st cause) next out₁ → Placed out₁ next (offendingElement o) end out₂ → out₃ ≡ put 0 (replyHead msg 0 cause (end - 16)) out₂
       → (end, out₃) ≡ written (reply st msg 0 (record { cause = cause; offending = o }) []) out
   unfolding kindOf octetAt
@@ -144,10 +146,10 @@ module _ (t msg out : List ℕ) (header : 16 ≤ length msg) (space : 1024 ≤ l
     pub accepted-steps : {out₁ out₂ out₃ out₄ : List ℕ} {next own end : ℕ}
         → Placed out 16 (bodyFront kind st 1) next out₁ → Placed out₁ next (unitFseid kind st seid) own out₂ → Placed out₂ own (created st gs) end out₃
         → length out₁ ≡ length out → out₄ ≡ put 0 (replyHead msg seid 1 (end - 16)) out₃
-        → (end, out₄) ≡ written (reply st msg seid (plain 1) gs) out
+        → (end, out₄) ≡ written (reply st msg seid (plain why.accepted) gs) out
     unfolding kindOf octetAt
     accepted-steps {next = next} p q u same r =
         let ends = p .ends in
         let rest = placed-then q u (omega (arith, accepted-room)) in
-        whole st msg seid (plain 1) gs out header (omega (arith, length-body st (view-ipv4 t) (view-ipv6 t) kind seid (plain 1) gs few))
+        whole st msg seid (plain why.accepted) gs out header (omega (arith, length-body st (view-ipv4 t) (view-ipv6 t) kind seid (plain why.accepted) gs few))
         (rw (accepted-body st kind seid gs) at (placed-then p rest (omega (arith, accepted-room)))) r

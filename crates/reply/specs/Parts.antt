@@ -6,6 +6,7 @@ use Rattle.octets.specs.Octets.{be}
 use Rattle.rules.specs.Model.{Settings}
 use Rattle.rules.specs.Message.{kindOf, headerSeid, sequenceOf}
 use Rattle.rules.specs.Reply.{element, nodeIdElement, replySeid}
+use Rattle.rules.specs.Types as ie
 
 -- a message's header, before elements of n octets
 unfoldable pub messageHead : ℕ → ℕ → List ℕ → ℕ → List ℕ
@@ -17,4 +18,4 @@ replyHead msg seid cause n = messageHead (kindOf msg + 1) (replySeid (kindOf msg
 
 -- what every reply has after its header: the Node ID in an establishment's, and the cause
 unfoldable pub bodyFront : ℕ → Settings → ℕ → List ℕ
-bodyFront kind s cause = nodeIdElement kind s ++ element 19 (cause ∷ [])
+bodyFront kind s cause = nodeIdElement kind s ++ element ie.cause (cause ∷ [])

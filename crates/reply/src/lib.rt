@@ -7,10 +7,11 @@ ghost use lib.Dec.{T};
 ghost use lib.ListN.{length};
 ghost use Rattle.octets.specs.Octets.{put};
 ghost use Rattle.octets.specs.Lists.{all};
-ghost use Rattle.rules.specs.Layout.{viewSettings};
+ghost use Rattle.rules.specs.Layout.{viewSettings, settingsWidth};
 ghost use Rattle.rules.specs.Message.{kindOf, headerSeid, sequenceOf};
 ghost use Rattle.rules.specs.Stages.{plain};
 ghost use Rattle.rules.specs.Reply.{replySeid, offendingElement, reply};
+ghost use Rattle.rules.specs.Causes as why;
 ghost use Rattle.writing.specs.Placed.{Placed, written};
 ghost use Rattle.reply.specs.Parts.{messageHead, replyHead, bodyFront};
 ghost use Rattle.reply.specs.Naming.{offendingIn, refusal};
@@ -57,7 +58,7 @@ fn write_header(msg: &[u8], seid: u64, n: usize, out: &mut [u8])
 
 // What every reply has from octet 16 on: the Node ID in an establishment's, and the cause.
 fn write_front(t: &[u8], kind: u8, cause: u8, out: &mut [u8]) -> usize
-    requires { ⌜ (29 ≤ length (now t)) × (30 ≤ length (now out)) ⌝ }
+    requires { ⌜ (settingsWidth ≤ length (now t)) × (30 ≤ length (now out)) ⌝ }
     ensures { λ r. ⌜ Placed (now (out .entry)) 16 (bodyFront kind (viewSettings (now (t .entry))) cause) r (now (out .exit)) ⌝ }
 {
     let next = writing::write_node_id(t, kind, out, 16);
@@ -86,7 +87,7 @@ fn finish(msg: &[u8], cause: u8, seid: u64, end: usize, out: &mut [u8])
 
 // The whole reply of a refusal, at the front of out; the answer is its length.
 pub fn refused(t: &[u8], msg: &[u8], cause: u8, offending: Offending, out: &mut [u8]) -> usize
-    requires { ⌜ (29 ≤ length (now t)) × (16 ≤ length (now msg)) × (kindOf (now msg) < 255) × (cause ≡ 1 → ⊥) × (1024 ≤ length (now out)) ⌝ }
+    requires { ⌜ (settingsWidth ≤ length (now t)) × (16 ≤ length (now msg)) × (kindOf (now msg) < 255) × (cause ≡ why.accepted → ⊥) × (1024 ≤ length (now out)) ⌝ }
     ensures { λ r. ⌜ (r, now (out .exit)) ≡ written (reply (viewSettings (now (t .entry))) (now (msg .entry)) 0 (refusal cause offending) []) (now (out .entry)) ⌝ }
 {
     let next = write_front(t, msg[1], cause, out);
@@ -105,8 +106,8 @@ pub fn accepted(
     places: &[usize],
     out: &mut [u8],
 ) -> usize
-    requires { ⌜ (29 ≤ length (now t)) × (16 ≤ length (now msg)) × (kindOf (now msg) < 255) × (length (now places) ≤ maxGrants) × T (within (now plan) (now places)) × (all idFits (grantsAt (now plan) (now places)) ≡ true) × (1024 ≤ length (now out)) ⌝ }
-    ensures { λ r. ⌜ (r, now (out .exit)) ≡ written (reply (viewSettings (now (t .entry))) (now (msg .entry)) seid (plain 1) (grantsAt (now (plan .entry)) (now (places .entry)))) (now (out .entry)) ⌝ }
+    requires { ⌜ (settingsWidth ≤ length (now t)) × (16 ≤ length (now msg)) × (kindOf (now msg) < 255) × (length (now places) ≤ maxGrants) × T (within (now plan) (now places)) × (all idFits (grantsAt (now plan) (now places)) ≡ true) × (1024 ≤ length (now out)) ⌝ }
+    ensures { λ r. ⌜ (r, now (out .exit)) ≡ written (reply (viewSettings (now (t .entry))) (now (msg .entry)) seid (plain why.accepted) (grantsAt (now (plan .entry)) (now (places .entry)))) (now (out .entry)) ⌝ }
 {
     let next = write_front(t, msg[1], 1, out);
     let own = writing::write_fseid(t, msg[1], seid, out, next);

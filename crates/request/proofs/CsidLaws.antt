@@ -15,6 +15,8 @@ use Rattle.octets.proofs.Tests.{and-left, each}
 use Rattle.octets.proofs.Numbers.{number-be}
 use Rattle.rules.specs.Elements.{Fqcsid, sets, removal, csidsAt, csidFields, nodeOf}
 use Rattle.rules.specs.Reading.{setsCsid, clearsCsids, csidCountAllowed}
+use Rattle.rules.specs.Types as ie
+use Rattle.rules.specs.Message.{modification, deletion}
 use Rattle.plan.specs.Rows.{rowAddress}
 use Rattle.element.specs.FqCsid.{addressWidths, csidWidths, csidNumbers, addressIn, fqcsidTests, fqcsidMeant, fqcsidOf}
 use Rattle.element.specs.declared.fqcsid.FqCsid.{FqCsid}
@@ -43,13 +45,13 @@ count-of : (k m t : ℕ) (a xs : List ℕ) (n : ℕ) → csidCountAllowed k (csi
 unfolding csidCountAllowed csidFields countIn csidsAt
 count-of k zero t a xs n = refl
 count-of k (suc m) t a xs n =
-    rw (length-slices (suc m) xs, ne-eqb (suc m) 0 (λ e. absurd (omega arith))) (or-sym (eqb k 54) (eqb (suc m) 1))
+    rw (length-slices (suc m) xs, ne-eqb (suc m) 0 (λ e. absurd (omega arith))) (or-sym (eqb k deletion) (eqb (suc m) 1))
 
-address-same : (t h l : ℕ) → pick (eqb t 1) (be 8 h ++ be 8 l) (be 4 l) ≡ fieldOctets (addressWidths t) (h ∷ l ∷ [])
+address-same : (t h l : ℕ) → pick (eqb t ie.createPdr) (be 8 h ++ be 8 l) (be 4 l) ≡ fieldOctets (addressWidths t) (h ∷ l ∷ [])
 unfolding addressWidths fieldOctets be
-address-same t h l = by-test (eqb t 1)
+address-same t h l = by-test (eqb t ie.createPdr)
   where
-    by-test : (b : Bool) → pick b (be 8 h ++ be 8 l) (be 4 l) ≡ fieldOctets (pick b (8 ∷ 8 ∷ []) (0 ∷ 4 ∷ [])) (h ∷ l ∷ [])
+    by-test : (b : Bool) → pick b (be 8 h ++ be 8 l) (be 4 l) ≡ fieldOctets (pick b (ie.createdPdr ∷ ie.createdPdr ∷ []) (0 ∷ 4 ∷ [])) (h ∷ l ∷ [])
     by-test true = refl
     by-test false = refl
 
@@ -96,7 +98,7 @@ module _ (x : FqCsid) (y : Fqcsid) (means : fqcsidOf x ≡ some y) where
       ap (λ (a : List ℕ). sets (x .«id_type») a (x .«csids_1» ∷ []) (x .«node_type»)) (address-same (x .«id_type») (x .«address_high») (x .«address_low»))
       ∙ sym (one-of-them (x .count) (x .«id_type») (addressIn x) _ (x .«csids_2») (x .«csids_3») (x .«csids_4») (x .«node_type») e small) ∙ meant .0
 
-  pub csid-row : (k : ℕ) → true ≡ countIn k (x .count) → (k ≡ 54 → ⊥) → rowItem (csidWords (csidFrom x)) ≡ setsCsid y
+  pub csid-row : (k : ℕ) → true ≡ countIn k (x .count) → (k ≡ deletion → ⊥) → rowItem (csidWords (csidFrom x)) ≡ setsCsid y
   unfolding rowItem itemOf csidItem csidFrom rowAddress countIn
   csid-row k h n = go (x .count) refl
     where
@@ -104,7 +106,7 @@ module _ (x : FqCsid) (y : Fqcsid) (means : fqcsidOf x ≡ some y) where
       go zero e = rw e (ap setsCsid (removes e))
       go (suc zero) e = rw e (ap setsCsid (sets-one e))
       go (suc (suc m)) e =
-          let b : true ≡ false = h ∙ rw (e, ne-eqb (suc (suc m)) 0 (λ z. absurd (omega arith)), ne-eqb (suc (suc m)) 1 (λ z. absurd (omega arith)), ne-eqb k 54 n) in
+          let b : true ≡ false = h ∙ rw (e, ne-eqb (suc (suc m)) 0 (λ z. absurd (omega arith)), ne-eqb (suc (suc m)) 1 (λ z. absurd (omega arith)), ne-eqb k deletion n) in
           let z : _≡_ {A = ℕ} 0 1 = cc in
           absurd (omega arith)
 
@@ -115,7 +117,7 @@ null-row = refl
 -- ---- the number of CSIDs
 
 module _ (kind m : ℕ) where
-  pub no-csids : m ≡ 0 → eqb kind 52 ≡ countIn kind m
+  pub no-csids : m ≡ 0 → eqb kind modification ≡ countIn kind m
   unfolding countIn
   no-csids e = rw e
 
@@ -123,6 +125,6 @@ module _ (kind m : ℕ) where
   unfolding countIn
   one-csid e = rw e
 
-  pub more-csids : (m ≡ 0 → ⊥) → (m ≡ 1 → ⊥) → eqb kind 54 ≡ countIn kind m
+  pub more-csids : (m ≡ 0 → ⊥) → (m ≡ 1 → ⊥) → eqb kind deletion ≡ countIn kind m
   unfolding countIn
   more-csids a b = rw (ne-eqb m 0 a, ne-eqb m 1 b)

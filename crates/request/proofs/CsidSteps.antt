@@ -12,9 +12,11 @@ use Rattle.octets.specs.Choice.{pick, isNil, mapOption}
 use Rattle.octets.specs.Octets.{put}
 use Rattle.octets.specs.Lists.{member, keep}
 use Rattle.rules.specs.Elements.{Refusal, incorrect, causeOf, refuse, value, readFqcsid, Fqcsid}
-use Rattle.rules.specs.Message.{elements, hasType}
+use Rattle.rules.specs.Message.{elements, hasType, modification, deletion}
 use Rattle.rules.specs.Reading as rules
 use Rattle.rules.specs.Reading.{setsCsid, clearsCsids, Reading, done, refusal, withItem, withNode, withCsid, csidRead, pdrIn, aloneIn}
+use Rattle.rules.specs.Types as ie
+use Rattle.rules.specs.Causes as why
 use Rattle.reading.specs.Verdicts.{numbered}
 use Rattle.request.specs.Items.{isUpdate, hasRow, met, Means, Follows, withRow}
 use Rattle.request.specs.declared.row.Csid.{Csid}
@@ -31,7 +33,7 @@ use Rattle.request.proofs.DraftLaws.{step-fault, went, row-added, node-
 
 module _ (kind : ℕ) (alone : Bool) (v nodes words : List ℕ) (c : Draft) where
   abbrev clearing : Bool
-  clearing = isNil v && eqb kind 52 && alone
+  clearing = isNil v && eqb kind modification && alone
 
   pub csid-clears : true ≡ clearing → 18 * c .rows + 18 ≤ length words → {x : Csid} {b : Draft} {words′ : List ℕ} → x ≡ bareCsid 3 0 → (b ≡ withRow false c) × (words′ ≡ put (18 * c .rows) (csidWords x) words)
       → Follows (csidRead kind alone v) c nodes words (Next b) nodes words′
@@ -61,27 +63,27 @@ module _ (kind : ℕ) (alone : Bool) (v nodes words : List ℕ) (c : Draft) wher
 
       -- the rules' step, by what the code tests
       value-is : (y : Fqcsid) → fqcsidOf x ≡ some y → readFqcsid v ≡ value y → {d : rules.Draft} → Means d c nodes words
-          → csidRead kind alone v d ≡ pick (countIn kind (x .count) && not (met (x .«node_type») nodes)) (done (withCsid kind y d)) (refusal incorrect 65)
+          → csidRead kind alone v d ≡ pick (countIn kind (x .count) && not (met (x .«node_type») nodes)) (done (withCsid kind y d)) (refusal incorrect ie.fqcsid)
       unfolding csidRead
       value-is y q h {d} m =
           rw (← other, h)
-          (ap₂ (λ (a b : Bool). pick (a && not b) (done (withCsid kind y d)) (refusal incorrect 65)) (meant-count x y q kind) (ap (λ (n : ℕ). member n (d .nodes)) (meant-node x y q) ∙ sym (m .seen (x .«node_type»))))
+          (ap₂ (λ (a b : Bool). pick (a && not b) (done (withCsid kind y d)) (refusal incorrect ie.fqcsid)) (meant-count x y q kind) (ap (λ (n : ℕ). member n (d .nodes)) (meant-node x y q) ∙ sym (m .seen (x .«node_type»))))
 
-      pub csid-count : false ≡ countIn kind (x .count) → Follows (csidRead kind alone v) c nodes words (Fault 69 65) nodes words
+      pub csid-count : false ≡ countIn kind (x .count) → Follows (csidRead kind alone v) c nodes words (Fault why.incorrect ie.fqcsid) nodes words
       unfolding causeOf
       csid-count h =
           with-value _ (λ y q e. record {
             follows = λ d m.
-                let w : csidRead kind alone v d ≡ refusal incorrect 65 = value-is y q e m ∙ rw (← h) in
+                let w : csidRead kind alone v d ≡ refusal incorrect ie.fqcsid = value-is y q e m ∙ rw (← h) in
                 step-fault (ap (λ (z : Reading rules.Draft). numbered z) w);
           })
 
-      pub csid-repeat : true ≡ countIn kind (x .count) → (getD nodes (x .«node_type») 0 ≡ 0 → ⊥) → Follows (csidRead kind alone v) c nodes words (Fault 69 65) nodes words
+      pub csid-repeat : true ≡ countIn kind (x .count) → (getD nodes (x .«node_type») 0 ≡ 0 → ⊥) → Follows (csidRead kind alone v) c nodes words (Fault why.incorrect ie.fqcsid) nodes words
       unfolding causeOf
       csid-repeat h n =
           with-value _ (λ y q e. record {
             follows = λ d m.
-                let w : csidRead kind alone v d ≡ refusal incorrect 65 = value-is y q e m ∙ rw (← h, ne-eqb _ 0 n) in
+                let w : csidRead kind alone v d ≡ refusal incorrect ie.fqcsid = value-is y q e m ∙ rw (← h, ne-eqb _ 0 n) in
                 step-fault (ap (λ (z : Reading rules.Draft). numbered z) w);
           })
 
@@ -92,53 +94,53 @@ module _ (kind : ℕ) (alone : Bool) (v nodes words : List ℕ) (c : Draft) wher
         low : x .«node_type» < length nodes
         low = let l = node-small in omega arith
 
-        pub csid-checked : kind ≡ 54 → Follows (csidRead kind alone v) c nodes words (Next c) (set nodes (x .«node_type») 1) words
+        pub csid-checked : kind ≡ deletion → Follows (csidRead kind alone v) c nodes words (Next c) (set nodes (x .«node_type») 1) words
         csid-checked is =
             with-value _ (λ y q e. record {
               follows = λ d m.
                   went (withNode (x .«node_type») d) (went-on y q e m ∙ unfold withCsid in (rw (is, meant-node x y q))) (node-added m (x .«node_type») low);
             })
 
-        pub csid-taken : (kind ≡ 54 → ⊥) → 18 * c .rows + 18 ≤ length words → {z : Csid} {b : Draft} {words′ : List ℕ} → z ≡ csidFrom x → (b ≡ withRow false c) × (words′ ≡ put (18 * c .rows) (csidWords z) words)
+        pub csid-taken : (kind ≡ deletion → ⊥) → 18 * c .rows + 18 ≤ length words → {z : Csid} {b : Draft} {words′ : List ℕ} → z ≡ csidFrom x → (b ≡ withRow false c) × (words′ ≡ put (18 * c .rows) (csidWords z) words)
             → Follows (csidRead kind alone v) c nodes words (Next b) (set nodes (x .«node_type») 1) words′
         csid-taken not-54 room i to =
             rw (to .0, to .1, i)
             (with-value _ (λ y q e. record {
               follows = λ d m.
-                  went (withNode (x .«node_type») (withItem (setsCsid y) d)) (went-on y q e m ∙ unfold withCsid in (rw (ne-eqb kind 54 not-54, meant-node x y q)))
+                  went (withNode (x .«node_type») (withItem (setsCsid y) d)) (went-on y q e m ∙ unfold withCsid in (rw (ne-eqb kind deletion not-54, meant-node x y q)))
                   (node-added (row-added m (setsCsid y) (csidWords (csidFrom x)) false (csid-row x y q kind h not-54) (unfold hasRow isUpdate in refl) (unfold pdrIn in refl) refl room) (x .«node_type») low);
             }))
 
 -- ---- a null FQ-CSID that stands alone
 
 module _ (s v : List ℕ) (kind : ℕ) where
-  pub clear-long : (length v ≡ 0 → ⊥) → false ≡ (isNil v && eqb kind 52 && aloneIn (elements s))
+  pub clear-long : (length v ≡ 0 → ⊥) → false ≡ (isNil v && eqb kind modification && aloneIn (elements s))
   clear-long = go v
     where
-      go : (xs : List ℕ) → (length xs ≡ 0 → ⊥) → false ≡ (isNil xs && eqb kind 52 && aloneIn (elements s))
+      go : (xs : List ℕ) → (length xs ≡ 0 → ⊥) → false ≡ (isNil xs && eqb kind modification && aloneIn (elements s))
       go [] h = absurd (h refl)
       go (x ∷ xs) h = refl
 
-  pub clear-other : (kind ≡ 52 → ⊥) → false ≡ (isNil v && eqb kind 52 && aloneIn (elements s))
-  clear-other h = sym (rw (ne-eqb kind 52 h) (none (isNil v)))
+  pub clear-other : (kind ≡ modification → ⊥) → false ≡ (isNil v && eqb kind modification && aloneIn (elements s))
+  clear-other h = sym (rw (ne-eqb kind modification h) (none (isNil v)))
     where
       none : (b : Bool) → (b && false && aloneIn (elements s)) ≡ false
       none true = refl
       none false = refl
 
-  pub clear-alone : {n : ℕ} → length v ≡ 0 → kind ≡ 52 → n ≡ length (keep (hasType 65) (elements s)) → eqb n 1 ≡ (isNil v && eqb kind 52 && aloneIn (elements s))
+  pub clear-alone : {n : ℕ} → length v ≡ 0 → kind ≡ modification → n ≡ length (keep (hasType ie.fqcsid) (elements s)) → eqb n 1 ≡ (isNil v && eqb kind modification && aloneIn (elements s))
   unfolding aloneIn
   clear-alone {n} l k e = go v l
     where
-      go : (xs : List ℕ) → length xs ≡ 0 → eqb n 1 ≡ (isNil xs && eqb kind 52 && eqb (length (keep (hasType 65) (elements s))) 1)
+      go : (xs : List ℕ) → length xs ≡ 0 → eqb n 1 ≡ (isNil xs && eqb kind modification && eqb (length (keep (hasType ie.fqcsid) (elements s))) 1)
       go [] h = rw (k, e)
       go (x ∷ xs) h = absurd (omega arith)
 
 -- it is a modification's, so that it has a row
-pub clearing-change : (v : List ℕ) (kind : ℕ) (alone : Bool) → true ≡ (isNil v && eqb kind 52 && alone) → eqb kind 54 ≡ false
-clearing-change v kind alone h = go (isNil v) (eqb kind 52) refl h
+pub clearing-change : (v : List ℕ) (kind : ℕ) (alone : Bool) → true ≡ (isNil v && eqb kind modification && alone) → eqb kind deletion ≡ false
+clearing-change v kind alone h = go (isNil v) (eqb kind modification) refl h
   where
-    go : (a b : Bool) → eqb kind 52 ≡ b → true ≡ (a && b && alone) → eqb kind 54 ≡ false
-    go true true e q = ap (λ (n : ℕ). eqb n 54) (eqb-true kind 52 e)
+    go : (a b : Bool) → eqb kind modification ≡ b → true ≡ (a && b && alone) → eqb kind deletion ≡ false
+    go true true e q = ap (λ (n : ℕ). eqb n deletion) (eqb-true kind modification e)
     go true false e q = let z : _≡_ {A = ℕ} 0 1 = cc in absurd (omega arith)
     go false b e q = let z : _≡_ {A = ℕ} 0 1 = cc in absurd (omega arith)

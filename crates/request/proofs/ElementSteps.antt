@@ -9,9 +9,10 @@ use borrow.Author.Tests.{ne-eqb, eqb-true}
 use Rattle.octets.specs.Choice.{pick}
 use Rattle.octets.specs.Lists.{member}
 use Rattle.octets.proofs.Tests.{of-true}
-use Rattle.rules.specs.Message.{actedOn}
+use Rattle.rules.specs.Message.{actedOn, establishment, modification, deletion}
 use Rattle.rules.specs.Reading as rules
 use Rattle.rules.specs.Reading.{updatesEndpoint, Reading, done, withItem, seidRead, flagsRead, csidRead, actedRead, elementRead}
+use Rattle.rules.specs.Types as ie
 use Rattle.frame.proofs.Among.{OneOf}
 use Rattle.reading.proofs.Places.{one-of}
 use Rattle.request.specs.Items.{Steps, Follows, Passes, Puts, withNote, groupTypes, groupAt, elementAt}
@@ -35,82 +36,82 @@ module _ (kind : ℕ) (alone : Bool) (t : ℕ) (v nodes words : List ℕ) (c : D
     acted : (f : rules.Draft → Reading rules.Draft) {r : Step} {nodes′ words′ : List ℕ} → ((d : rules.Draft) → actedRead kind alone t v d ≡ f d) → Follows f c nodes words r nodes′ words′ → Follows (elementAt kind alone t v) c nodes words r nodes′ words′
     acted f {r} {nodes′} {words′} e h = record { follows = λ d m. subst (λ (x : Reading rules.Draft). Steps x r nodes′ words′) (sym (acted-is d ∙ e d)) (h .follows d m) }
 
-    pub element-seid : {r : Step} → t ≡ 57 → Passes (seidRead v) c r → Follows (elementAt kind alone t v) c nodes words r nodes words
+    pub element-seid : {r : Step} → t ≡ ie.fseid → Passes (seidRead v) c r → Follows (elementAt kind alone t v) c nodes words r nodes words
     unfolding actedRead
     element-seid e h = acted (seidRead v) (λ d. rw e) (h .passes nodes words)
 
-    pub element-flags : {r : Step} → t ≡ 186 → Passes (flagsRead v) c r → Follows (elementAt kind alone t v) c nodes words r nodes words
+    pub element-flags : {r : Step} → t ≡ ie.sessionFlags → Passes (flagsRead v) c r → Follows (elementAt kind alone t v) c nodes words r nodes words
     unfolding actedRead
     element-flags e h = acted (flagsRead v) (λ d. rw e) (h .passes nodes words)
 
-    pub element-csid : {r : Step} {nodes′ words′ : List ℕ} → t ≡ 65 → Follows (csidRead kind alone v) c nodes words r nodes′ words′ → Follows (elementAt kind alone t v) c nodes words r nodes′ words′
+    pub element-csid : {r : Step} {nodes′ words′ : List ℕ} → t ≡ ie.fqcsid → Follows (csidRead kind alone v) c nodes words r nodes′ words′ → Follows (elementAt kind alone t v) c nodes words r nodes′ words′
     unfolding actedRead
     element-csid e h = acted (csidRead kind alone v) (λ d. rw e) h
 
-    pub element-note : {b : Draft} → t ≡ 129 → b ≡ withNote c → Follows (elementAt kind alone t v) c nodes words (Next b) nodes words
+    pub element-note : {b : Draft} → t ≡ ie.updateEndpoint → b ≡ withNote c → Follows (elementAt kind alone t v) c nodes words (Next b) nodes words
     unfolding actedRead
     element-note e i = rw i (acted (λ d. done (withItem updatesEndpoint d)) (λ d. rw e) (record { follows = λ d m. went (withItem updatesEndpoint d) refl (note-added m) }))
 
     -- a deletion acts on FQ-CSIDs alone
-    pub acted-rows : (t ≡ 65 → ⊥) → eqb kind 54 ≡ false
-    acted-rows h = go (eqb kind 54) refl
+    pub acted-rows : (t ≡ ie.fqcsid → ⊥) → eqb kind deletion ≡ false
+    acted-rows h = go (eqb kind deletion) refl
       where
-        alone-65 : actedOn 54 ≡ 65 ∷ []
+        alone-65 : actedOn deletion ≡ 65 ∷ []
         alone-65 = unfold actedOn in refl
 
-        in-54 : kind ≡ 54 → ⊥
+        in-54 : kind ≡ deletion → ⊥
         in-54 e =
-            let m : member t (65 ∷ []) ≡ true = sym (ap (λ (k : ℕ). member t (actedOn k)) e ∙ ap (member t) alone-65) ∙ sym on in
+            let m : member t (ie.fqcsid ∷ []) ≡ true = sym (ap (λ (k : ℕ). member t (actedOn k)) e ∙ ap (member t) alone-65) ∙ sym on in
             h (one-of t 65 [] (of-true m))
 
-        go : (q : Bool) → eqb kind 54 ≡ q → q ≡ false
-        go true e = absurd (in-54 (eqb-true kind 54 e))
+        go : (q : Bool) → eqb kind deletion ≡ q → q ≡ false
+        go true e = absurd (in-54 (eqb-true kind deletion e))
         go false e = refl
 
-    module _ (a : t ≡ 57 → ⊥) (b : t ≡ 186 → ⊥) (f : t ≡ 65 → ⊥) (g : t ≡ 129 → ⊥) where
+    module _ (a : t ≡ ie.fseid → ⊥) (b : t ≡ ie.sessionFlags → ⊥) (f : t ≡ ie.fqcsid → ⊥) (g : t ≡ ie.updateEndpoint → ⊥) where
       pub acted-group : member t groupTypes ≡ true
       unfolding actedOn member
-      acted-group = go (eqb kind 50) (eqb kind 52) (sym on)
+      acted-group = go (eqb kind establishment) (eqb kind modification) (sym on)
         where
           is : (k : ℕ) → t ≡ k → member k groupTypes ≡ true → member t groupTypes ≡ true
           is k e h = ap (λ (j : ℕ). member j groupTypes) e ∙ h
 
-          established : OneOf t 57 (186 ∷ 1 ∷ 127 ∷ 65 ∷ []) → member t groupTypes ≡ true
+          established : OneOf t ie.fseid (ie.sessionFlags ∷ ie.createPdr ∷ ie.createEndpoint ∷ ie.fqcsid ∷ []) → member t groupTypes ≡ true
           established (inl e) = absurd (a e)
           established (inr (inl e)) = absurd (b e)
           established (inr (inr (inl e))) = is 1 e (unfold member in refl)
-          established (inr (inr (inr (inl e)))) = is 127 e (unfold member in refl)
+          established (inr (inr (inr (inl e)))) = is ie.createEndpoint e (unfold member in refl)
           established (inr (inr (inr (inr e)))) = absurd (f e)
 
-          modified : OneOf t 1 (127 ∷ 9 ∷ 15 ∷ 130 ∷ 65 ∷ 129 ∷ []) → member t groupTypes ≡ true
+          modified : OneOf t ie.createPdr (ie.createEndpoint ∷ ie.updatePdr ∷ ie.removePdr ∷ ie.removeEndpoint ∷ ie.fqcsid ∷ ie.updateEndpoint ∷ []) → member t groupTypes ≡ true
           modified (inl e) = is 1 e (unfold member in refl)
-          modified (inr (inl e)) = is 127 e (unfold member in refl)
+          modified (inr (inl e)) = is ie.createEndpoint e (unfold member in refl)
           modified (inr (inr (inl e))) = is 9 e (unfold member in refl)
           modified (inr (inr (inr (inl e)))) = is 15 e (unfold member in refl)
-          modified (inr (inr (inr (inr (inl e))))) = is 130 e (unfold member in refl)
+          modified (inr (inr (inr (inr (inl e))))) = is ie.removeEndpoint e (unfold member in refl)
           modified (inr (inr (inr (inr (inr (inl e)))))) = absurd (f e)
           modified (inr (inr (inr (inr (inr (inr e)))))) = absurd (g e)
 
-          go : (x y : Bool) → member t (pick x (57 ∷ 186 ∷ 1 ∷ 127 ∷ 65 ∷ []) (pick y (1 ∷ 127 ∷ 9 ∷ 15 ∷ 130 ∷ 65 ∷ 129 ∷ []) (65 ∷ []))) ≡ true → member t groupTypes ≡ true
-          go true y h = established (one-of t 57 (186 ∷ 1 ∷ 127 ∷ 65 ∷ []) (of-true h))
-          go false true h = modified (one-of t 1 (127 ∷ 9 ∷ 15 ∷ 130 ∷ 65 ∷ 129 ∷ []) (of-true h))
+          go : (x y : Bool) → member t (pick x (ie.fseid ∷ ie.sessionFlags ∷ ie.createPdr ∷ ie.createEndpoint ∷ ie.fqcsid ∷ []) (pick y (ie.createPdr ∷ ie.createEndpoint ∷ ie.updatePdr ∷ ie.removePdr ∷ ie.removeEndpoint ∷ ie.fqcsid ∷ ie.updateEndpoint ∷ []) (ie.fqcsid ∷ []))) ≡ true → member t groupTypes ≡ true
+          go true y h = established (one-of t ie.fseid (ie.sessionFlags ∷ ie.createPdr ∷ ie.createEndpoint ∷ ie.fqcsid ∷ []) (of-true h))
+          go false true h = modified (one-of t 1 (ie.createEndpoint ∷ ie.updatePdr ∷ ie.removePdr ∷ ie.removeEndpoint ∷ ie.fqcsid ∷ ie.updateEndpoint ∷ []) (of-true h))
           go false false h = absurd (f (one-of t 65 [] (of-true h)))
 
       pub element-group : {r : Step} {words′ : List ℕ} → Puts (groupAt t v) c words r words′ → Follows (elementAt kind alone t v) c nodes words r nodes words′
       unfolding actedRead
-      element-group h = acted (groupAt t v) (λ d. rw (ne-eqb t 57 a, ne-eqb t 186 b, ne-eqb t 65 f, ne-eqb t 129 g)) (h .puts nodes)
+      element-group h = acted (groupAt t v) (λ d. rw (ne-eqb t ie.fseid a, ne-eqb t ie.sessionFlags b, ne-eqb t ie.fqcsid f, ne-eqb t ie.updateEndpoint g)) (h .puts nodes)
 
 -- ---- tables
 
 module _ (m : ℕ) where
-  pub in-establishment : m ≡ 50 → actedOn m ≡ 57 ∷ 186 ∷ 1 ∷ 127 ∷ 65 ∷ []
+  pub in-establishment : m ≡ establishment → actedOn m ≡ ie.fseid ∷ ie.sessionFlags ∷ 1 ∷ ie.createEndpoint ∷ 65 ∷ []
   unfolding actedOn
   in-establishment e = rw e
 
-  pub in-modification : m ≡ 52 → actedOn m ≡ 1 ∷ 127 ∷ 9 ∷ 15 ∷ 130 ∷ 65 ∷ 129 ∷ []
+  pub in-modification : m ≡ modification → actedOn m ≡ 1 ∷ ie.createEndpoint ∷ 9 ∷ 15 ∷ ie.removeEndpoint ∷ 65 ∷ ie.updateEndpoint ∷ []
   unfolding actedOn
   in-modification e = rw e
 
-  pub in-deletion : (m ≡ 50 → ⊥) → (m ≡ 52 → ⊥) → actedOn m ≡ 65 ∷ []
+  pub in-deletion : (m ≡ establishment → ⊥) → (m ≡ modification → ⊥) → actedOn m ≡ 65 ∷ []
   unfolding actedOn
-  in-deletion a b = rw (ne-eqb m 50 a, ne-eqb m 52 b)
+  in-deletion a b = rw (ne-eqb m establishment a, ne-eqb m modification b)

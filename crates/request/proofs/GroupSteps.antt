@@ -17,7 +17,9 @@ use Rattle.rules.specs.Elements.{missing, conditional}
 use Rattle.rules.specs.Message.{elements}
 use Rattle.rules.specs.Reading as rules
 use Rattle.rules.specs.Reading.{Item, createsPdr, createsEndpoint, updatesPdr, removesPdr, removesEndpoint, Reading, faulty, done, refusal, andThen, need, Members, noMembers, withItem, membersRead, pdiRead, pdrFrom, endpointFrom, changeFrom, itemFrom, groupRead, pdrIn}
-use Rattle.plan.specs.Rows.{word, rowPdr, rowEndpoint, rowChange, rowLocal, rowFteid, rowFar, rowAddress, present}
+use Rattle.rules.specs.Types as ie
+use Rattle.plan.specs.Rows.{word, rowPdr, rowEndpoint, rowChange, rowLocal, rowFteid, rowFar, rowAddress, present, rowWidth}
+use Rattle.plan.specs.Words as its
 use Rattle.frame.proofs.Among.{OneOf}
 use Rattle.reading.specs.declared.Verdict.{Verdict}
 use Rattle.reading.specs.declared.Verdict.the-variants as verdict
@@ -36,10 +38,10 @@ use Rattle.request.proofs.DraftLaws.{step-fault, went, row-added}
 
 -- a group's end is that of its item
 module _ (t : ℕ) (k : member t groupTypes ≡ true) where
-  by-group : (P : ℕ → Type 0) → P 1 → P 127 → P 9 → P 15 → P 130 → P t
-  by-group P a b c d e = go (one-of t 1 (127 ∷ 9 ∷ 15 ∷ 130 ∷ []) (of-true k))
+  by-group : (P : ℕ → Type 0) → P 1 → P ie.createEndpoint → P 9 → P 15 → P ie.removeEndpoint → P t
+  by-group P a b c d e = go (one-of t 1 (ie.createEndpoint ∷ ie.updatePdr ∷ ie.removePdr ∷ ie.removeEndpoint ∷ []) (of-true k))
     where
-      go : OneOf t 1 (127 ∷ 9 ∷ 15 ∷ 130 ∷ []) → P t
+      go : OneOf t ie.createPdr (ie.createEndpoint ∷ ie.updatePdr ∷ ie.removePdr ∷ ie.removeEndpoint ∷ []) → P t
       go (inl q) = subst P (sym q) a
       go (inr (inl q)) = subst P (sym q) b
       go (inr (inr (inl q))) = subst P (sym q) c
@@ -64,31 +66,31 @@ module _ (t : ℕ) (k : member t groupTypes ≡ true) where
 
 -- the item that a row makes
 module _ (row : List ℕ) where
-  far-same : bindOption (rowFar row) (λ f. f) ≡ present (word 3 row) (word 9 row)
+  far-same : bindOption (rowFar row) (λ f. f) ≡ present (word its.hasFarId row) (word its.farId row)
   unfolding rowFar present
-  far-same = go (word 3 row)
+  far-same = go (word its.hasFarId row)
     where
-      go : (n : ℕ) → bindOption (pick (eqb n 2) (some none) (pick (eqb n 1) (some (some (word 9 row))) none)) (λ f. f) ≡ pick (eqb n 1) (some (word 9 row)) none
+      go : (n : ℕ) → bindOption (pick (eqb n 2) (some none) (pick (eqb n 1) (some (some (word its.farId row))) none)) (λ f. f) ≡ pick (eqb n 1) (some (word its.farId row)) none
       go zero = refl
       go (suc zero) = refl
       go (suc (suc zero)) = refl
       go (suc (suc (suc n))) = rw (ne-eqb (suc (suc (suc n))) 2 (λ h. absurd (omega arith)), ne-eqb (suc (suc (suc n))) 1 (λ h. absurd (omega arith)))
 
   abbrev made : ℕ → ℕ → ℕ → Item
-  made n k s = createsPdr (record { id = k; precedence = n; far = bindOption (rowFar row) (λ f. f); source = s; local = rowLocal row; endpoint = present (word 5 row) (word 11 row) })
+  made n k s = createsPdr (record { id = k; precedence = n; far = bindOption (rowFar row) (λ f. f); source = s; local = rowLocal row; endpoint = present (word its.hasEndpointId row) (word its.endpointId row) })
 
   pdr-is : (i : Item) → pdrFrom (rowMembers row) ≡ done i → i ≡ createsPdr (rowPdr row)
   unfolding pdrFrom rowMembers present rowPdr
   pdr-is i h =
-      go (eqb (word 6 row) 1) (eqb (word 2 row) 1) (eqb (word 1 row) 1) (eqb (word 4 row) 1) h
-      ∙ ap (λ (f : Option ℕ). createsPdr (record { id = word 7 row; precedence = word 8 row; far = f; source = word 10 row; local = rowLocal row; endpoint = present (word 5 row) (word 11 row) })) far-same
+      go (eqb (word its.hasPdi row) 1) (eqb (word its.hasPrecedence row) 1) (eqb (word its.hasPdrId row) 1) (eqb (word its.hasSource row) 1) h
+      ∙ ap (λ (f : Option ℕ). createsPdr (record { id = word its.pdrId row; precedence = word its.precedence row; far = f; source = word its.source row; local = rowLocal row; endpoint = present (word its.hasEndpointId row) (word its.endpointId row) })) far-same
     where
       never : {X : Type 0} {f : rules.Fault} → faulty f ≡ done i → X
       never q = let z : _≡_ {A = ℕ} 0 1 = cc in absurd (omega arith)
 
       go : (a b c e : Bool)
-          → pick a (need missing 29 (pick b (some (word 8 row)) none) (λ n. need missing 56 (pick c (some (word 7 row)) none) (λ k. need missing 20 (pick e (some (word 10 row)) none) (λ s. done (made n k s))))) (refusal missing 2) ≡ done i
-          → i ≡ made (word 8 row) (word 7 row) (word 10 row)
+          → pick a (need missing ie.precedence (pick b (some (word its.precedence row)) none) (λ n. need missing ie.pdrId (pick c (some (word its.pdrId row)) none) (λ k. need missing ie.sourceInterface (pick e (some (word its.source row)) none) (λ s. done (made n k s))))) (refusal missing ie.pdi) ≡ done i
+          → i ≡ made (word its.precedence row) (word its.pdrId row) (word its.source row)
       go true true true true q = cc
       go true true true false q = never q
       go true true false e q = never q
@@ -97,10 +99,10 @@ module _ (row : List ℕ) where
 
   endpoint-is : (i : Item) → endpointFrom (rowMembers row) ≡ done i → i ≡ createsEndpoint (rowEndpoint row)
   unfolding endpointFrom rowMembers present rowLocal rowEndpoint
-  endpoint-is i h = go (eqb (word 12 row) 0) (eqb (word 5 row) 1) h
+  endpoint-is i h = go (eqb (word its.flags row) 0) (eqb (word its.hasEndpointId row) 1) h
     where
-      go : (a b : Bool) → need conditional 21 (pick a none (some (rowFteid row))) (λ v. need missing 131 (pick b (some (word 11 row)) none) (λ k. done (createsEndpoint (record { id = k; local = v })))) ≡ done i
-          → i ≡ createsEndpoint (record { id = word 11 row; local = rowFteid row })
+      go : (a b : Bool) → need conditional ie.fteid (pick a none (some (rowFteid row))) (λ v. need missing ie.endpointId (pick b (some (word its.endpointId row)) none) (λ k. done (createsEndpoint (record { id = k; local = v })))) ≡ done i
+          → i ≡ createsEndpoint (record { id = word its.endpointId row; local = rowFteid row })
       go true b q = let z : _≡_ {A = ℕ} 0 1 = cc in absurd (omega arith)
       go false true q = cc
       go false false q = let z : _≡_ {A = ℕ} 0 1 = cc in absurd (omega arith)
@@ -119,21 +121,21 @@ module _ (row : List ℕ) where
   item-is t k =
       by-group t k (λ t. (i : Item) → itemFrom t (rowMembers row) ≡ done i → i ≡ itemOf t row)
       pdr-is endpoint-is
-      (one-is (λ n. updatesPdr (record { id = n; precedence = present (word 2 row) (word 8 row); far = rowFar row; pdi = eqb (word 6 row) 1 })) 56 (word 1 row) (word 7 row))
-      (one-is removesPdr 56 (word 1 row) (word 7 row))
-      (one-is removesEndpoint 131 (word 5 row) (word 11 row))
+      (one-is (λ n. updatesPdr (record { id = n; precedence = present (word its.hasPrecedence row) (word its.precedence row); far = rowFar row; pdi = eqb (word its.hasPdi row) 1 })) ie.pdrId (word its.hasPdrId row) (word its.pdrId row))
+      (one-is removesPdr ie.pdrId (word its.hasPdrId row) (word its.pdrId row))
+      (one-is removesEndpoint ie.endpointId (word its.hasEndpointId row) (word its.endpointId row))
 
   -- it has a row, and creates a PDR where its type says so
   pub group-row : (t : ℕ) → member t groupTypes ≡ true → hasRow (itemOf t row) ≡ true
   unfolding itemOf hasRow isUpdate
   group-row t k = by-group t k (λ t. hasRow (itemOf t row) ≡ true) refl refl refl refl refl
 
-  pub group-creates : (t : ℕ) → member t groupTypes ≡ true → isSome (pdrIn (itemOf t row)) ≡ eqb t 1
+  pub group-creates : (t : ℕ) → member t groupTypes ≡ true → isSome (pdrIn (itemOf t row)) ≡ eqb t ie.createPdr
   unfolding itemOf pdrIn
-  group-creates t k = by-group t k (λ t. isSome (pdrIn (itemOf t row)) ≡ eqb t 1) refl refl refl refl refl
+  group-creates t k = by-group t k (λ t. isSome (pdrIn (itemOf t row)) ≡ eqb t ie.createPdr) refl refl refl refl refl
 
   -- the type stands in word 0
-  pub tagged-row : (t : ℕ) → length row ≡ 18 → rowItem (set row 0 t) ≡ itemOf t row
+  pub tagged-row : (t : ℕ) → length row ≡ rowWidth → rowItem (set row 0 t) ≡ itemOf t row
   unfolding rowItem itemOf csidItem rowPdr rowEndpoint rowChange rowAddress present rowFar rowLocal rowFteid
   tagged-row t = apart (λ x. rowItem (set x 0 t) ≡ itemOf t x) (λ a b c d e f g h i j k l m n o p q r. refl) row
 
@@ -165,7 +167,7 @@ module _ (t : ℕ) (k : member t groupTypes ≡ true) (v row : List ℕ) (r : Ve
       let h : numbered (closedRead t (elements v) noMembers) ≡ stopped n x = ap (λ (m : Members). numbered (closedRead t (elements v) m)) (sym no-members) ∙ sym (read .told) ∙ ap (λ (y : Verdict). outcome y (rowMembers row)) q in
       rw e (record { puts = λ nodes. record { follows = λ d m. step-fault (stops (groupRead t v) _ (group-fault t k v h)) } })
 
-  pub group-taken : r ≡ verdict.Fine → 18 * c .rows + 18 ≤ length words → {b : Draft} {words′ : List ℕ} → b ≡ withRow (eqb t 1) c → words′ ≡ put (18 * c .rows) (set row 0 t) words
+  pub group-taken : r ≡ verdict.Fine → 18 * c .rows + 18 ≤ length words → {b : Draft} {words′ : List ℕ} → b ≡ withRow (eqb t ie.createPdr) c → words′ ≡ put (18 * c .rows) (set row 0 t) words
       → Puts (groupAt t v) c words (Next b) words′
   group-taken q room to stored =
       let h : closedRead t (elements v) noMembers ≡ done (rowMembers row) =
@@ -177,6 +179,6 @@ module _ (t : ℕ) (k : member t groupTypes ≡ true) (v row : List ℕ) (r : Ve
       record {
         puts = λ nodes. record {
           follows = λ d m. went (withItem i d) (rw g)
-              (row-added m i (set row 0 t) (eqb t 1) (tagged-row row t wide) (group-row row t k) (group-creates row t k) (simp length-set wide) room);
+              (row-added m i (set row 0 t) (eqb t ie.createPdr) (tagged-row row t wide) (group-row row t k) (group-creates row t k) (simp length-set wide) room);
         };
       }

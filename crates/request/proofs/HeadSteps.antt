@@ -13,6 +13,8 @@ use Rattle.octets.specs.Octets.{bit, numberAt, octetAt}
 use Rattle.rules.specs.Elements.{Refusal, tooShort, incorrect, causeOf, refuse, value, readFseid, seidAnswer, fseidLength}
 use Rattle.rules.specs.Reading as rules
 use Rattle.rules.specs.Reading.{Reading, done, andThen, named, once, withSeid, withRestores, seidRead, flagsRead}
+use Rattle.rules.specs.Types as ie
+use Rattle.rules.specs.Causes as why
 use Rattle.element.proofs.FlagLaws.{bit-first}
 use Rattle.reading.specs.Verdicts.{stopped, numbered}
 use Rattle.request.specs.Items.{flagsOf, met, SeidThere, Means, Passes}
@@ -52,15 +54,15 @@ module _ (v : List ℕ) where
       go none e t = refl
       go (some n) e t = absurd (t e)
 
-  pub seid-repeat : (c : Draft) → (c .seid ≡ 0 → ⊥) → Passes (seidRead v) c (Fault 69 57)
+  pub seid-repeat : (c : Draft) → (c .seid ≡ 0 → ⊥) → Passes (seidRead v) c (Fault why.incorrect ie.fseid)
   unfolding seidRead causeOf
   seid-repeat c h = record { passes = λ nodes words. record { follows = λ d m. step-fault (go d (d .seid) (m .seid)) } }
     where
-      go : (d : rules.Draft) (o : Option ℕ) → c .seid ≡ valueOr 0 o → numbered (once o 57 (andThen (named 57 (readFseid v)) (λ n. done (withSeid n d)))) ≡ stopped 69 57
+      go : (d : rules.Draft) (o : Option ℕ) → c .seid ≡ valueOr 0 o → numbered (once o ie.fseid (andThen (named ie.fseid (readFseid v)) (λ n. done (withSeid n d)))) ≡ stopped why.incorrect ie.fseid
       go d none e = absurd (h e)
       go d (some n) e = unfold causeOf in refl
 
-  pub seid-refused : (c : Draft) (q : Refusal) {r : Step} → c .seid ≡ 0 → refuse q ≡ readFseid v → r ≡ Fault (causeOf q) 57 → Passes (seidRead v) c r
+  pub seid-refused : (c : Draft) (q : Refusal) {r : Step} → c .seid ≡ 0 → refuse q ≡ readFseid v → r ≡ Fault (causeOf q) ie.fseid → Passes (seidRead v) c r
   unfolding seidRead
   seid-refused c q h e s = rw s (record { passes = λ nodes words. record { follows = λ d m. step-fault (rw (seid-none m h, ← e)) } })
 
@@ -85,15 +87,15 @@ module _ (v : List ℕ) (c : Draft) where
       go none e = refl
       go (some b) e = absurd (omega arith)
 
-  pub flags-repeat : (c .flags ≡ 0 → ⊥) → Passes (flagsRead v) c (Fault 69 186)
+  pub flags-repeat : (c .flags ≡ 0 → ⊥) → Passes (flagsRead v) c (Fault why.incorrect ie.sessionFlags)
   unfolding flagsRead
   flags-repeat h = record { passes = λ nodes words. record { follows = λ d m. step-fault (go _ (d .restores) (m .flags)) } }
     where
-      go : (x : Reading rules.Draft) (o : Option Bool) → c .flags ≡ flagsOf o → numbered (once o 186 x) ≡ stopped 69 186
+      go : (x : Reading rules.Draft) (o : Option Bool) → c .flags ≡ flagsOf o → numbered (once o ie.sessionFlags x) ≡ stopped why.incorrect ie.sessionFlags
       go x none e = absurd (h e)
       go x (some b) e = unfold causeOf in refl
 
-  pub flags-short : c .flags ≡ 0 → length v < 1 → Passes (flagsRead v) c (Fault 68 186)
+  pub flags-short : c .flags ≡ 0 → length v < 1 → Passes (flagsRead v) c (Fault why.wrongLength ie.sessionFlags)
   unfolding flagsRead causeOf
   flags-short h l = record { passes = λ nodes words. record { follows = λ d m. step-fault (rw (flags-none m h, lt-ltb _ _ l)) } }
 

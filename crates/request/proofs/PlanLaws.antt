@@ -15,15 +15,17 @@ use Rattle.rules.specs.Reading as rules
 use Rattle.rules.specs.Reading.{Item, createsPdr, createsEndpoint, updatesPdr, removesPdr, removesEndpoint, setsCsid, clearsCsids, updatesEndpoint, cleared, changed, pdrIn, endpointIn, changeIn, gonePdrIn, goneEndpointIn, csidIn, clears, isUnsupported, restoringIn, requestOf}
 use Rattle.rules.specs.Elements.{Fqcsid, sets, removal}
 use Rattle.plan.specs.Rows.{word, hasTag, tagged, rowsOf, rowPdr, rowEndpoint, rowChange, rowPdi, rowPdrId, rowEndpointId, rowAddress, rowCsid, isNullRow, requestIn}
+use Rattle.rules.specs.Types as ie
+use Rattle.plan.specs.Words as its
 use Rattle.request.specs.Items.{csidItem, itemOf, rowItem, isUpdate, hasRow, flagsOf, Means}
 use Rattle.request.specs.declared.items.Draft.{Draft}
 
 -- ---- a row by its type
 
-by-tag : (P : ℕ → Type 0) → P 1 → P 127 → P 9 → P 15 → P 130 → P 65
-    → ((t : ℕ) → (t ≡ 1 → ⊥) → (t ≡ 127 → ⊥) → (t ≡ 9 → ⊥) → (t ≡ 15 → ⊥) → (t ≡ 130 → ⊥) → (t ≡ 65 → ⊥) → P t) → (t : ℕ) → P t
+by-tag : (P : ℕ → Type 0) → P 1 → P ie.createEndpoint → P 9 → P 15 → P ie.removeEndpoint → P 65
+    → ((t : ℕ) → (t ≡ ie.createPdr → ⊥) → (t ≡ ie.createEndpoint → ⊥) → (t ≡ ie.updatePdr → ⊥) → (t ≡ ie.removePdr → ⊥) → (t ≡ ie.removeEndpoint → ⊥) → (t ≡ ie.fqcsid → ⊥) → P t) → (t : ℕ) → P t
 by-tag P a b c d e f o t =
-    at 1 a (λ n1. at 127 b (λ n2. at 9 c (λ n3. at 15 d (λ n4. at 130 e (λ n5. at 65 f (λ n6. o t n1 n2 n3 n4 n5 n6))))))
+    at 1 a (λ n1. at ie.createEndpoint b (λ n2. at 9 c (λ n3. at 15 d (λ n4. at ie.removeEndpoint e (λ n5. at 65 f (λ n6. o t n1 n2 n3 n4 n5 n6))))))
   where
     at : (k : ℕ) → P k → ((t ≡ k → ⊥) → P t) → P t
     at k p other = go (eqb t k) refl
@@ -33,66 +35,66 @@ by-tag P a b c d e f o t =
         go false h = other (eqb-false t k h)
 
 -- the item of an FQ-CSID's row
-by-state : (row : List ℕ) (P : Item → Type 0) → P (setsCsid (sets (word 8 row) (rowAddress row) (word 11 row ∷ []) (word 7 row))) → P (setsCsid (removal (word 7 row))) → P clearsCsids → P updatesEndpoint
+by-state : (row : List ℕ) (P : Item → Type 0) → P (setsCsid (sets (word its.idType row) (rowAddress row) (word its.csid row ∷ []) (word its.nodeType row))) → P (setsCsid (removal (word its.nodeType row))) → P clearsCsids → P updatesEndpoint
     → P (csidItem row)
 unfolding csidItem
-by-state row P a b c d = pick-either P (eqb (word 1 row) 1) _ _ a (pick-either P (eqb (word 1 row) 2) _ _ b (pick-either P (eqb (word 1 row) 3) _ _ c d))
+by-state row P a b c d = pick-either P (eqb (word its.verb row) 1) _ _ a (pick-either P (eqb (word its.verb row) 2) _ _ b (pick-either P (eqb (word its.verb row) 3) _ _ c d))
 
 -- the parts of an item, by the row's type
 module _ (row : List ℕ) where
-  pdr-part : (t : ℕ) → pdrIn (itemOf t row) ≡ pick (eqb t 1) (some (rowPdr row)) none
+  pdr-part : (t : ℕ) → pdrIn (itemOf t row) ≡ pick (eqb t ie.createPdr) (some (rowPdr row)) none
   unfolding itemOf pdrIn
   pdr-part =
-      by-tag (λ t. pdrIn (itemOf t row) ≡ pick (eqb t 1) (some (rowPdr row)) none) refl refl refl refl refl (by-state row (λ i. pdrIn i ≡ none) refl refl refl refl)
-      (λ t a b c d e f. rw (ne-eqb t 1 a, ne-eqb t 127 b, ne-eqb t 9 c, ne-eqb t 15 d, ne-eqb t 130 e, ne-eqb t 65 f))
+      by-tag (λ t. pdrIn (itemOf t row) ≡ pick (eqb t ie.createPdr) (some (rowPdr row)) none) refl refl refl refl refl (by-state row (λ i. pdrIn i ≡ none) refl refl refl refl)
+      (λ t a b c d e f. rw (ne-eqb t ie.createPdr a, ne-eqb t ie.createEndpoint b, ne-eqb t ie.updatePdr c, ne-eqb t ie.removePdr d, ne-eqb t ie.removeEndpoint e, ne-eqb t ie.fqcsid f))
 
-  endpoint-part : (t : ℕ) → endpointIn (itemOf t row) ≡ pick (eqb t 127) (some (rowEndpoint row)) none
+  endpoint-part : (t : ℕ) → endpointIn (itemOf t row) ≡ pick (eqb t ie.createEndpoint) (some (rowEndpoint row)) none
   unfolding itemOf endpointIn
   endpoint-part =
-      by-tag (λ t. endpointIn (itemOf t row) ≡ pick (eqb t 127) (some (rowEndpoint row)) none) refl refl refl refl refl (by-state row (λ i. endpointIn i ≡ none) refl refl refl refl)
-      (λ t a b c d e f. rw (ne-eqb t 1 a, ne-eqb t 127 b, ne-eqb t 9 c, ne-eqb t 15 d, ne-eqb t 130 e, ne-eqb t 65 f))
+      by-tag (λ t. endpointIn (itemOf t row) ≡ pick (eqb t ie.createEndpoint) (some (rowEndpoint row)) none) refl refl refl refl refl (by-state row (λ i. endpointIn i ≡ none) refl refl refl refl)
+      (λ t a b c d e f. rw (ne-eqb t ie.createPdr a, ne-eqb t ie.createEndpoint b, ne-eqb t ie.updatePdr c, ne-eqb t ie.removePdr d, ne-eqb t ie.removeEndpoint e, ne-eqb t ie.fqcsid f))
 
-  change-part : (t : ℕ) → changeIn (itemOf t row) ≡ pick (eqb t 9) (some (rowChange row)) none
+  change-part : (t : ℕ) → changeIn (itemOf t row) ≡ pick (eqb t ie.updatePdr) (some (rowChange row)) none
   unfolding itemOf changeIn
   change-part =
-      by-tag (λ t. changeIn (itemOf t row) ≡ pick (eqb t 9) (some (rowChange row)) none) refl refl refl refl refl (by-state row (λ i. changeIn i ≡ none) refl refl refl refl)
-      (λ t a b c d e f. rw (ne-eqb t 1 a, ne-eqb t 127 b, ne-eqb t 9 c, ne-eqb t 15 d, ne-eqb t 130 e, ne-eqb t 65 f))
+      by-tag (λ t. changeIn (itemOf t row) ≡ pick (eqb t ie.updatePdr) (some (rowChange row)) none) refl refl refl refl refl (by-state row (λ i. changeIn i ≡ none) refl refl refl refl)
+      (λ t a b c d e f. rw (ne-eqb t ie.createPdr a, ne-eqb t ie.createEndpoint b, ne-eqb t ie.updatePdr c, ne-eqb t ie.removePdr d, ne-eqb t ie.removeEndpoint e, ne-eqb t ie.fqcsid f))
 
-  gone-pdr-part : (t : ℕ) → gonePdrIn (itemOf t row) ≡ pick (eqb t 15) (some (rowPdrId row)) none
+  gone-pdr-part : (t : ℕ) → gonePdrIn (itemOf t row) ≡ pick (eqb t ie.removePdr) (some (rowPdrId row)) none
   unfolding itemOf gonePdrIn
   gone-pdr-part =
-      by-tag (λ t. gonePdrIn (itemOf t row) ≡ pick (eqb t 15) (some (rowPdrId row)) none) refl refl refl refl refl (by-state row (λ i. gonePdrIn i ≡ none) refl refl refl refl)
-      (λ t a b c d e f. rw (ne-eqb t 1 a, ne-eqb t 127 b, ne-eqb t 9 c, ne-eqb t 15 d, ne-eqb t 130 e, ne-eqb t 65 f))
+      by-tag (λ t. gonePdrIn (itemOf t row) ≡ pick (eqb t ie.removePdr) (some (rowPdrId row)) none) refl refl refl refl refl (by-state row (λ i. gonePdrIn i ≡ none) refl refl refl refl)
+      (λ t a b c d e f. rw (ne-eqb t ie.createPdr a, ne-eqb t ie.createEndpoint b, ne-eqb t ie.updatePdr c, ne-eqb t ie.removePdr d, ne-eqb t ie.removeEndpoint e, ne-eqb t ie.fqcsid f))
 
-  gone-endpoint-part : (t : ℕ) → goneEndpointIn (itemOf t row) ≡ pick (eqb t 130) (some (rowEndpointId row)) none
+  gone-endpoint-part : (t : ℕ) → goneEndpointIn (itemOf t row) ≡ pick (eqb t ie.removeEndpoint) (some (rowEndpointId row)) none
   unfolding itemOf goneEndpointIn
   gone-endpoint-part =
-      by-tag (λ t. goneEndpointIn (itemOf t row) ≡ pick (eqb t 130) (some (rowEndpointId row)) none) refl refl refl refl refl (by-state row (λ i. goneEndpointIn i ≡ none) refl refl refl refl)
-      (λ t a b c d e f. rw (ne-eqb t 1 a, ne-eqb t 127 b, ne-eqb t 9 c, ne-eqb t 15 d, ne-eqb t 130 e, ne-eqb t 65 f))
+      by-tag (λ t. goneEndpointIn (itemOf t row) ≡ pick (eqb t ie.removeEndpoint) (some (rowEndpointId row)) none) refl refl refl refl refl (by-state row (λ i. goneEndpointIn i ≡ none) refl refl refl refl)
+      (λ t a b c d e f. rw (ne-eqb t ie.createPdr a, ne-eqb t ie.createEndpoint b, ne-eqb t ie.updatePdr c, ne-eqb t ie.removePdr d, ne-eqb t ie.removeEndpoint e, ne-eqb t ie.fqcsid f))
 
   csid-state : csidIn (csidItem row) ≡ rowCsid row
   unfolding csidItem csidIn rowCsid
-  csid-state = go (eqb (word 1 row) 1) (eqb (word 1 row) 2) (eqb (word 1 row) 3)
+  csid-state = go (eqb (word its.verb row) 1) (eqb (word its.verb row) 2) (eqb (word its.verb row) 3)
     where
       go : (a b c : Bool)
-          → csidIn (pick a (setsCsid (sets (word 8 row) (rowAddress row) (word 11 row ∷ []) (word 7 row))) (pick b (setsCsid (removal (word 7 row))) (pick c clearsCsids updatesEndpoint)))
-          ≡ pick a (some (sets (word 8 row) (rowAddress row) (word 11 row ∷ []) (word 7 row))) (pick b (some (removal (word 7 row))) none)
+          → csidIn (pick a (setsCsid (sets (word its.idType row) (rowAddress row) (word its.csid row ∷ []) (word its.nodeType row))) (pick b (setsCsid (removal (word its.nodeType row))) (pick c clearsCsids updatesEndpoint)))
+          ≡ pick a (some (sets (word its.idType row) (rowAddress row) (word its.csid row ∷ []) (word its.nodeType row))) (pick b (some (removal (word its.nodeType row))) none)
       go true b c = unfold csidIn in refl
       go false true c = unfold csidIn in refl
       go false false true = unfold csidIn in refl
       go false false false = unfold csidIn in refl
 
-  csid-part : (t : ℕ) → csidIn (itemOf t row) ≡ pick (eqb t 65) (rowCsid row) none
+  csid-part : (t : ℕ) → csidIn (itemOf t row) ≡ pick (eqb t ie.fqcsid) (rowCsid row) none
   unfolding itemOf csidIn
   csid-part =
-      by-tag (λ t. csidIn (itemOf t row) ≡ pick (eqb t 65) (rowCsid row) none) refl refl refl refl refl csid-state
-      (λ t a b c d e f. rw (ne-eqb t 1 a, ne-eqb t 127 b, ne-eqb t 9 c, ne-eqb t 15 d, ne-eqb t 130 e, ne-eqb t 65 f))
+      by-tag (λ t. csidIn (itemOf t row) ≡ pick (eqb t ie.fqcsid) (rowCsid row) none) refl refl refl refl refl csid-state
+      (λ t a b c d e f. rw (ne-eqb t ie.createPdr a, ne-eqb t ie.createEndpoint b, ne-eqb t ie.updatePdr c, ne-eqb t ie.removePdr d, ne-eqb t ie.removeEndpoint e, ne-eqb t ie.fqcsid f))
 
   clear-state : clears (csidItem row) ≡ isNullRow row
   unfolding csidItem clears isNullRow
-  clear-state = go (word 1 row)
+  clear-state = go (word its.verb row)
     where
-      go : (n : ℕ) → clears (pick (eqb n 1) (setsCsid (sets (word 8 row) (rowAddress row) (word 11 row ∷ []) (word 7 row))) (pick (eqb n 2) (setsCsid (removal (word 7 row))) (pick (eqb n 3) clearsCsids updatesEndpoint))) ≡ eqb n 3
+      go : (n : ℕ) → clears (pick (eqb n 1) (setsCsid (sets (word its.idType row) (rowAddress row) (word its.csid row ∷ []) (word its.nodeType row))) (pick (eqb n 2) (setsCsid (removal (word its.nodeType row))) (pick (eqb n 3) clearsCsids updatesEndpoint))) ≡ eqb n 3
       go zero = unfold clears in refl
       go (suc zero) = unfold clears in refl
       go (suc (suc zero)) = unfold clears in refl
@@ -101,11 +103,11 @@ module _ (row : List ℕ) where
           unfold clears in
           (rw (ne-eqb (suc (suc (suc (suc n)))) 1 (λ h. absurd (omega arith)), ne-eqb (suc (suc (suc (suc n)))) 2 (λ h. absurd (omega arith)), ne-eqb (suc (suc (suc (suc n)))) 3 (λ h. absurd (omega arith))))
 
-  clear-part : (t : ℕ) → clears (itemOf t row) ≡ (eqb t 65 && isNullRow row)
+  clear-part : (t : ℕ) → clears (itemOf t row) ≡ (eqb t ie.fqcsid && isNullRow row)
   unfolding itemOf clears
   clear-part =
-      by-tag (λ t. clears (itemOf t row) ≡ (eqb t 65 && isNullRow row)) refl refl refl refl refl clear-state
-      (λ t a b c d e f. rw (ne-eqb t 1 a, ne-eqb t 127 b, ne-eqb t 9 c, ne-eqb t 15 d, ne-eqb t 130 e, ne-eqb t 65 f))
+      by-tag (λ t. clears (itemOf t row) ≡ (eqb t ie.fqcsid && isNullRow row)) refl refl refl refl refl clear-state
+      (λ t a b c d e f. rw (ne-eqb t ie.createPdr a, ne-eqb t ie.createEndpoint b, ne-eqb t ie.updatePdr c, ne-eqb t ie.removePdr d, ne-eqb t ie.removeEndpoint e, ne-eqb t ie.fqcsid f))
 
 -- an Update PDR with a PDI
 unfoldable withPdi : Item → Bool
@@ -118,11 +120,11 @@ withPdi (setsCsid x) = false
 withPdi clearsCsids = false
 withPdi updatesEndpoint = false
 
-pdi-part : (row : List ℕ) (t : ℕ) → withPdi (itemOf t row) ≡ (eqb t 9 && rowPdi row)
+pdi-part : (row : List ℕ) (t : ℕ) → withPdi (itemOf t row) ≡ (eqb t ie.updatePdr && rowPdi row)
 unfolding itemOf withPdi rowChange
 pdi-part row =
-    by-tag (λ t. withPdi (itemOf t row) ≡ (eqb t 9 && rowPdi row)) refl refl refl refl refl (by-state row (λ i. withPdi i ≡ false) refl refl refl refl)
-    (λ t a b c d e f. rw (ne-eqb t 1 a, ne-eqb t 127 b, ne-eqb t 9 c, ne-eqb t 15 d, ne-eqb t 130 e, ne-eqb t 65 f))
+    by-tag (λ t. withPdi (itemOf t row) ≡ (eqb t ie.updatePdr && rowPdi row)) refl refl refl refl refl (by-state row (λ i. withPdi i ≡ false) refl refl refl refl)
+    (λ t a b c d e f. rw (ne-eqb t ie.createPdr a, ne-eqb t ie.createEndpoint b, ne-eqb t ie.updatePdr c, ne-eqb t ie.removePdr d, ne-eqb t ie.removeEndpoint e, ne-eqb t ie.fqcsid f))
 
 -- ---- all rows
 
@@ -130,7 +132,7 @@ collect-tagged : {A : Type 0} (f : Item → Option A) (h : List ℕ → Option A
     → (rows : List (List ℕ)) → collect f (map rowItem rows) ≡ collect h (tagged k rows)
 unfolding collect tagged keep hasTag rowItem
 collect-tagged f h k p [] = refl
-collect-tagged {A} f h k p (row ∷ rows) = ap (λ (o : Option A). consOption o (collect f (map rowItem rows))) (p row (word 0 row)) ∙ go (eqb (word 0 row) k) (collect-tagged f h k p rows)
+collect-tagged {A} f h k p (row ∷ rows) = ap (λ (o : Option A). consOption o (collect f (map rowItem rows))) (p row (word its.tag row)) ∙ go (eqb (word its.tag row) k) (collect-tagged f h k p rows)
   where
     go : (b : Bool) → collect f (map rowItem rows) ≡ collect h (tagged k rows) → consOption (pick b (h row) none) (collect f (map rowItem rows)) ≡ collect h (pick b (row ∷ tagged k rows) (tagged k rows))
     go true e = ap (λ (l : List A). consOption (h row) l) e
@@ -139,7 +141,7 @@ collect-tagged {A} f h k p (row ∷ rows) = ap (λ (o : Option A). consOption o 
 any-tagged : (f : Item → Bool) (h : List ℕ → Bool) (k : ℕ) → ((row : List ℕ) (t : ℕ) → f (itemOf t row) ≡ (eqb t k && h row)) → (rows : List (List ℕ)) → any f (map rowItem rows) ≡ any h (tagged k rows)
 unfolding any tagged keep hasTag rowItem
 any-tagged f h k p [] = refl
-any-tagged f h k p (row ∷ rows) = ap (λ (b : Bool). b || any f (map rowItem rows)) (p row (word 0 row)) ∙ go (eqb (word 0 row) k) (any-tagged f h k p rows)
+any-tagged f h k p (row ∷ rows) = ap (λ (b : Bool). b || any f (map rowItem rows)) (p row (word its.tag row)) ∙ go (eqb (word its.tag row) k) (any-tagged f h k p rows)
   where
     go : (b : Bool) → any f (map rowItem rows) ≡ any h (tagged k rows) → (b && h row || any f (map rowItem rows)) ≡ any h (pick b (row ∷ tagged k rows) (tagged k rows))
     go true e = ap (λ (b : Bool). h row || b) e
@@ -223,11 +225,11 @@ module _ {d : rules.Draft} {c : Draft} {nodes words : List ℕ} (m : Means d c n
   fact : (f : Item → Bool) (h : List ℕ → Bool) (k : ℕ) → ((row : List ℕ) (t : ℕ) → f (itemOf t row) ≡ (eqb t k && h row)) → f updatesEndpoint ≡ false → any h (tagged k rows) ≡ any f (d .items)
   fact f h k p u = sym (any-tagged f h k p rows) ∙ ap (any f) (m .rows) ∙ any-kept f u (d .items)
 
-  pub csids-same : collect rowCsid (tagged 65 rows) ≡ collect csidIn (d .items)
+  pub csids-same : collect rowCsid (tagged ie.fqcsid rows) ≡ collect csidIn (d .items)
   unfolding csidIn
   csids-same = part csidIn rowCsid 65 csid-part refl
 
-  pub nulls-same : any isNullRow (tagged 65 rows) ≡ any clears (d .items)
+  pub nulls-same : any isNullRow (tagged ie.fqcsid rows) ≡ any clears (d .items)
   unfolding clears
   nulls-same = fact clears isNullRow 65 clear-part refl
 
@@ -238,11 +240,11 @@ module _ {d : rules.Draft} {c : Draft} {nodes words : List ℕ} (m : Means d c n
   pub request-same : (n : ℕ) → requestIn n (eqb (c .flags) 2) (c .noted) rows ≡ requestOf n d
   unfolding requestIn requestOf pdrIn endpointIn changeIn gonePdrIn goneEndpointIn withPdi
   request-same n =
-      let pdrs = sym (collect-some rowPdr (tagged 1 rows)) ∙ part pdrIn (λ row. some (rowPdr row)) 1 pdr-part refl in
-      let endpoints = sym (collect-some rowEndpoint (tagged 127 rows)) ∙ part endpointIn (λ row. some (rowEndpoint row)) 127 endpoint-part refl in
-      let changes = sym (collect-some rowChange (tagged 9 rows)) ∙ part changeIn (λ row. some (rowChange row)) 9 change-part refl in
-      let gone-pdrs = sym (collect-some rowPdrId (tagged 15 rows)) ∙ part gonePdrIn (λ row. some (rowPdrId row)) 15 gone-pdr-part refl in
-      let gone-endpoints = sym (collect-some rowEndpointId (tagged 130 rows)) ∙ part goneEndpointIn (λ row. some (rowEndpointId row)) 130 gone-endpoint-part refl in
+      let pdrs = sym (collect-some rowPdr (tagged ie.createPdr rows)) ∙ part pdrIn (λ row. some (rowPdr row)) 1 pdr-part refl in
+      let endpoints = sym (collect-some rowEndpoint (tagged ie.createEndpoint rows)) ∙ part endpointIn (λ row. some (rowEndpoint row)) ie.createEndpoint endpoint-part refl in
+      let changes = sym (collect-some rowChange (tagged ie.updatePdr rows)) ∙ part changeIn (λ row. some (rowChange row)) 9 change-part refl in
+      let gone-pdrs = sym (collect-some rowPdrId (tagged ie.removePdr rows)) ∙ part gonePdrIn (λ row. some (rowPdrId row)) 15 gone-pdr-part refl in
+      let gone-endpoints = sym (collect-some rowEndpointId (tagged ie.removeEndpoint rows)) ∙ part goneEndpointIn (λ row. some (rowEndpointId row)) ie.removeEndpoint gone-endpoint-part refl in
       let csids = ap₂ (λ (b : Bool) (cs : List Fqcsid). pick b cleared (changed cs)) nulls-same csids-same in
       let unsupported = ap₂ _||_ (m .noted) (fact withPdi rowPdi 9 pdi-part refl) ∙ sym (any-unsupported (d .items)) in
       λ j. record {

@@ -11,11 +11,13 @@ use lib.Dec.{eqb}
 use Rattle.octets.specs.Choice.{pick}
 use Rattle.octets.specs.Octets.{slices}
 use Rattle.octets.specs.Lists.{any, keep, collect}
-use Rattle.rules.specs.Message.{elements, body, kindOf, frameFault}
+use Rattle.rules.specs.Message.{elements, body, kindOf, frameFault, establishment, deletion}
 use Rattle.rules.specs.Reading as rules
 use Rattle.rules.specs.Reading.{Reading, faulty, done, andThen, Request, aloneIn, emptyDraft, elementsRead, finished, requestOf, topRead, read, askedIn, readRequest}
 use Rattle.laws.proofs.CsidLaws.{only-clear}
 use Rattle.plan.specs.Rows.{rowsOf, tagged, rowCsid, isNullRow}
+use Rattle.rules.specs.Types as ie
+use Rattle.rules.specs.Causes as why
 use Rattle.frame.proofs.Walk.{part-from}
 use Rattle.frame.specs.Framed.{faultIn}
 use Rattle.frame.specs.declared.Framing.{Framing}
@@ -33,7 +35,7 @@ use Rattle.request.proofs.PlanLaws.{csids-same, nulls-same}
 use Rattle.request.proofs.TurnLaws.{concluded-same}
 
 -- no rows, no null FQ-CSID among them
-no-rows : (words : List ℕ) {X : Type 0} → any isNullRow (tagged 65 (rowsOf 0 words)) ≡ true → X
+no-rows : (words : List ℕ) {X : Type 0} → any isNullRow (tagged ie.fqcsid (rowsOf 0 words)) ≡ true → X
 unfolding any tagged keep slices
 no-rows words h = let z : _≡_ {A = ℕ} 0 1 = cc in absurd (omega arith)
 
@@ -41,7 +43,7 @@ no-rows words h = let z : _≡_ {A = ℕ} 0 1 = cc in absurd (omega arith)
 refused-whole : {msg words : List ℕ} {c t : ℕ} → refused c t ≡ readingOf msg → Read msg (reading.Fault c t) words
 refused-whole {words = words} h = record { result = h; room = omega arith; onlyNull = λ e. no-rows words e }
 
-pub not-framed : (msg : List ℕ) {words : List ℕ} (f : Framing) → faultIn f ≡ frameFault msg → (t : ℕ) → f ≡ framing.Fault t → Read msg (reading.Fault 68 t) words
+pub not-framed : (msg : List ℕ) {words : List ℕ} (f : Framing) → faultIn f ≡ frameFault msg → (t : ℕ) → f ≡ framing.Fault t → Read msg (reading.Fault why.wrongLength t) words
 unfolding readingOf fromFraming
 not-framed msg f framed t h = refused-whole (ap (fromFraming msg) (sym (ap faultIn h) ∙ framed))
 
@@ -55,7 +57,7 @@ module _ (msg : List ℕ) (long : 16 ≤ length msg) where
   pub message-room : (k : ℕ) {words : List ℕ} → length msg ≤ 2048 → 4068 ≤ length words → Enough k (take (length msg - 16) (drop 16 msg)) words
   message-room k short room = record { short = tail-short short; row = λ e. room }
 
-  pub deletion-room : {words : List ℕ} → length msg ≤ 2048 → Enough 54 (take (length msg - 16) (drop 16 msg)) words
+  pub deletion-room : {words : List ℕ} → length msg ≤ 2048 → Enough deletion (take (length msg - 16) (drop 16 msg)) words
   deletion-room short = record { short = tail-short short; row = λ e. absurd (let z : _≡_ {A = ℕ} 0 1 = cc in omega arith) }
 
   module _ {k : ℕ} (kind : k ≡ kindOf msg) where
@@ -88,30 +90,30 @@ module _ (msg : List ℕ) (long : 16 ≤ length msg) where
             let m = w .read .means in
             let same : meant (concluded k d) words ≡ readingOf msg =
             concluded-same m k ∙ ap (λ (x : Reading rules.Draft). resultOf (andThen x (finished k))) (sym (w .read .is)) ∙ sym (ap (λ (x : Reading Request). resultOf x) read-is) ∙ sym by-reading in
-            let alone : any isNullRow (tagged 65 (rowsOf (d .rows) words)) ≡ true → collect rowCsid (tagged 65 (rowsOf (d .rows) words)) ≡ [] =
+            let alone : any isNullRow (tagged ie.fqcsid (rowsOf (d .rows) words)) ≡ true → collect rowCsid (tagged ie.fqcsid (rowsOf (d .rows) words)) ≡ [] =
             λ n. csids-same m ∙ only-clear k (elements tail) (w .read .draft) (w .read .is) (sym (nulls-same m) ∙ n) in
             rw h (by-plan d (w .few) room alone (concluded k d) (planned d) same)
           where
             -- all of the rows, or none
             planned : (d : Draft) → (rowsLeft (concluded k d) ≡ d .rows) ⊎ (rowsLeft (concluded k d) ≡ 0)
-            planned d = unfold concluded in (go (eqb k 50) (eqb (d .flags) 2 || d .creates) (eqb (d .seid) 0))
+            planned d = unfold concluded in (go (eqb k establishment) (eqb (d .flags) 2 || d .creates) (eqb (d .seid) 0))
               where
-                go : (a b e : Bool) → (rowsLeft (pick a (pick b (pick e (reading.Fault 66 57) (reading.Whole (planOf d (d .seid)))) (reading.Fault 66 1)) (reading.Whole (planOf d 0))) ≡ d .rows)
-                    ⊎ (rowsLeft (pick a (pick b (pick e (reading.Fault 66 57) (reading.Whole (planOf d (d .seid)))) (reading.Fault 66 1)) (reading.Whole (planOf d 0))) ≡ 0)
+                go : (a b e : Bool) → (rowsLeft (pick a (pick b (pick e (reading.Fault why.mandatoryMissing ie.fseid) (reading.Whole (planOf d (d .seid)))) (reading.Fault why.mandatoryMissing ie.createPdr)) (reading.Whole (planOf d 0))) ≡ d .rows)
+                    ⊎ (rowsLeft (pick a (pick b (pick e (reading.Fault why.mandatoryMissing ie.fseid) (reading.Whole (planOf d (d .seid)))) (reading.Fault why.mandatoryMissing ie.createPdr)) (reading.Whole (planOf d 0))) ≡ 0)
                 go true true true = inr refl
                 go true true false = inl refl
                 go true false e = inr refl
                 go false b e = inl refl
 
-            by-plan : (d : Draft) → d .rows ≤ 226 → 4068 ≤ length words → (any isNullRow (tagged 65 (rowsOf (d .rows) words)) ≡ true → collect rowCsid (tagged 65 (rowsOf (d .rows) words)) ≡ [])
+            by-plan : (d : Draft) → d .rows ≤ 226 → 4068 ≤ length words → (any isNullRow (tagged ie.fqcsid (rowsOf (d .rows) words)) ≡ true → collect rowCsid (tagged ie.fqcsid (rowsOf (d .rows) words)) ≡ [])
                 → (q : code.Reading) → (rowsLeft q ≡ d .rows) ⊎ (rowsLeft q ≡ 0) → meant q words ≡ readingOf msg → Read msg q words
-            by-plan d few room alone q (inl n) s = record { result = s; room = omega arith; onlyNull = subst (λ (i : ℕ). any isNullRow (tagged 65 (rowsOf i words)) ≡ true → collect rowCsid (tagged 65 (rowsOf i words)) ≡ []) (sym n) alone }
-            by-plan d few room alone q (inr n) s = record { result = s; room = omega arith; onlyNull = subst (λ (i : ℕ). any isNullRow (tagged 65 (rowsOf i words)) ≡ true → collect rowCsid (tagged 65 (rowsOf i words)) ≡ []) (sym n) (λ e. no-rows words e) }
+            by-plan d few room alone q (inl n) s = record { result = s; room = omega arith; onlyNull = subst (λ (i : ℕ). any isNullRow (tagged ie.fqcsid (rowsOf i words)) ≡ true → collect rowCsid (tagged ie.fqcsid (rowsOf i words)) ≡ []) (sym n) alone }
+            by-plan d few room alone q (inr n) s = record { result = s; room = omega arith; onlyNull = subst (λ (i : ℕ). any isNullRow (tagged ie.fqcsid (rowsOf i words)) ≡ true → collect rowCsid (tagged ie.fqcsid (rowsOf i words)) ≡ []) (sym n) (λ e. no-rows words e) }
 
 -- ---- deletions
 
-module _ (msg : List ℕ) (long : 16 ≤ length msg) (kind : kindOf msg ≡ 54) {words : List ℕ} (r : Step)
-    (all : AllRead (elementsRead 54 (aloneIn (elements (take (length msg - 16) (drop 16 msg)))) (elements (take (length msg - 16) (drop 16 msg))) emptyDraft) r words) where
+module _ (msg : List ℕ) (long : 16 ≤ length msg) (kind : kindOf msg ≡ deletion) {words : List ℕ} (r : Step)
+    (all : AllRead (elementsRead deletion (aloneIn (elements (take (length msg - 16) (drop 16 msg)))) (elements (take (length msg - 16) (drop 16 msg))) emptyDraft) r words) where
   pub deletion-refused : (c t : ℕ) → r ≡ Fault c t → outcome (verdict.Refused c t) (readRequest msg) ≡ numbered (read msg)
   deletion-refused c t q = go (read msg) (stopped-read msg long (sym kind) r all c t q)
     where
@@ -128,5 +130,5 @@ module _ (msg : List ℕ) (long : 16 ≤ length msg) (kind : kindOf msg ≡ 54) 
   unfolding readRequest
   deletion-fine d q =
       let w = all .next d q .read in
-      let e : read msg ≡ done (requestOf 0 (w .draft)) = read-is msg long (sym kind) ∙ ap (λ (x : Reading rules.Draft). andThen x (finished 54)) (w .is) ∙ unfold finished in refl in
+      let e : read msg ≡ done (requestOf 0 (w .draft)) = read-is msg long (sym kind) ∙ ap (λ (x : Reading rules.Draft). andThen x (finished deletion)) (w .is) ∙ unfold finished in refl in
       settled (read msg) e

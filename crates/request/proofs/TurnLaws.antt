@@ -13,9 +13,12 @@ use Rattle.octets.specs.Choice.{pick, valueOr}
 use Rattle.octets.specs.Octets.{slices}
 use Rattle.octets.specs.Lists.{member, any, keep, collect}
 use Rattle.rules.specs.Elements.{causeOf, missing}
-use Rattle.rules.specs.Message.{Element, elements}
+use Rattle.rules.specs.Message.{Element, elements, establishment}
 use Rattle.rules.specs.Reading as rules
 use Rattle.rules.specs.Reading.{Reading, done, andThen, need, aloneIn, emptyDraft, elementsRead, finished, restoringIn, createsAny, requestOf, read}
+use Rattle.rules.specs.Types as ie
+use Rattle.rules.specs.Causes as why
+use Rattle.plan.specs.Rows.{rowWidth}
 use Rattle.laws.proofs.WeightLaws.{Light, light-none, light-next, light-room, light-end}
 use Rattle.frame.proofs.Walk.{part-from}
 use Rattle.elements.proofs.Front.{Front, behind}
@@ -54,7 +57,7 @@ pub going-none : (kind : ℕ) (s words : List ℕ) → Going kind s s words word
 going-none kind s words = record { draft = emptyDraft; means = start-means words; same = refl; light = light-none hasRow no-row s; long = refl; wide = refl }
 
 -- as many rows as items that have one
-slices-length : (n : ℕ) (xs : List ℕ) → length (slices 18 n xs) ≡ n
+slices-length : (n : ℕ) (xs : List ℕ) → length (slices rowWidth n xs) ≡ n
 unfolding slices
 slices-length zero xs = refl
 slices-length (suc n) xs = ap suc (slices-length n (drop 18 xs))
@@ -65,7 +68,7 @@ map-length f (x ∷ xs) = let h = map-length f xs in omega arith
 
 module _ {kind : ℕ} {s rest words₀ words nodes : List ℕ} {c : Draft} (g : Going kind s rest words₀ words nodes c) where
   rows-are : c .rows ≡ length (keep hasRow (g .draft .items))
-  rows-are = sym (map-length rowItem (slices 18 (c .rows) words) ∙ slices-length (c .rows) words) ∙ ap length (g .means .rows)
+  rows-are = sym (map-length rowItem (slices rowWidth (c .rows) words) ∙ slices-length (c .rows) words) ∙ ap length (g .means .rows)
 
   module _ {t e : ℕ} (f : Front rest t e) (enough : Enough kind s words₀) where
     abbrev v : List ℕ
@@ -132,20 +135,20 @@ module _ {kind : ℕ} {s rest words₀ words nodes : List ℕ} {c : Draft} (g : 
 module _ {d : rules.Draft} {c : Draft} {nodes words : List ℕ} (m : Means d c nodes words) where
   pub concluded-same : (kind : ℕ) → meant (concluded kind c) words ≡ resultOf (finished kind d)
   unfolding concluded finished causeOf
-  concluded-same kind = go (eqb kind 50)
+  concluded-same kind = go (eqb kind establishment)
     where
       by-seid : (o : Option ℕ) → valueOr 0 o ≡ c .seid → SeidThere o
-          → meant (pick (eqb (c .seid) 0) (reading.Fault 66 57) (reading.Whole (planOf c (c .seid)))) words ≡ resultOf (need missing 57 o (λ n. done (requestOf n d)))
+          → meant (pick (eqb (c .seid) 0) (reading.Fault why.mandatoryMissing ie.fseid) (reading.Whole (planOf c (c .seid)))) words ≡ resultOf (need missing ie.fseid o (λ n. done (requestOf n d)))
       by-seid none e t = rw (sym e)
       by-seid (some n) e t = rw (← e, ne-eqb n 0 t) (ap whole (request-same m n))
 
-      go : (b : Bool) → meant (pick b (pick (eqb (c .flags) 2 || c .creates) (pick (eqb (c .seid) 0) (reading.Fault 66 57) (reading.Whole (planOf c (c .seid)))) (reading.Fault 66 1)) (reading.Whole (planOf c 0))) words
-          ≡ resultOf (pick b (pick (restoringIn d || createsAny (d .items)) (need missing 57 (d .seid) (λ n. done (requestOf n d))) (rules.refusal missing 1)) (done (requestOf 0 d)))
+      go : (b : Bool) → meant (pick b (pick (eqb (c .flags) 2 || c .creates) (pick (eqb (c .seid) 0) (reading.Fault why.mandatoryMissing ie.fseid) (reading.Whole (planOf c (c .seid)))) (reading.Fault why.mandatoryMissing ie.createPdr)) (reading.Whole (planOf c 0))) words
+          ≡ resultOf (pick b (pick (restoringIn d || createsAny (d .items)) (need missing ie.fseid (d .seid) (λ n. done (requestOf n d))) (rules.refusal missing ie.createPdr)) (done (requestOf 0 d)))
       go false = ap whole (request-same m 0)
-      go true = ap₂ (λ (x y : Bool). meant (pick (x || y) (pick (eqb (c .seid) 0) (reading.Fault 66 57) (reading.Whole (planOf c (c .seid)))) (reading.Fault 66 1)) words) (restoring-same m) (m .creates) ∙ by-test (restoringIn d || createsAny (d .items))
+      go true = ap₂ (λ (x y : Bool). meant (pick (x || y) (pick (eqb (c .seid) 0) (reading.Fault why.mandatoryMissing ie.fseid) (reading.Whole (planOf c (c .seid)))) (reading.Fault why.mandatoryMissing ie.createPdr)) words) (restoring-same m) (m .creates) ∙ by-test (restoringIn d || createsAny (d .items))
         where
-          by-test : (x : Bool) → meant (pick x (pick (eqb (c .seid) 0) (reading.Fault 66 57) (reading.Whole (planOf c (c .seid)))) (reading.Fault 66 1)) words
-              ≡ resultOf (pick x (need missing 57 (d .seid) (λ n. done (requestOf n d))) (rules.refusal missing 1))
+          by-test : (x : Bool) → meant (pick x (pick (eqb (c .seid) 0) (reading.Fault why.mandatoryMissing ie.fseid) (reading.Whole (planOf c (c .seid)))) (reading.Fault why.mandatoryMissing ie.createPdr)) words
+              ≡ resultOf (pick x (need missing ie.fseid (d .seid) (λ n. done (requestOf n d))) (rules.refusal missing ie.createPdr))
           by-test true = by-seid (d .seid) (sym (m .seid)) (m .seidThere)
           by-test false = unfold causeOf in refl
 
@@ -159,17 +162,17 @@ lacks-no false h = let z : _≡_ {A = ℕ} 0 1 = cc in absurd (omega arith)
 
 -- the cases of a message's end
 module _ (c : Draft) (kind : ℕ) where
-  pub end-other : {p : Plan} → (kind ≡ 50 → ⊥) → p ≡ planOf c 0 → reading.Whole p ≡ concluded kind c
+  pub end-other : {p : Plan} → (kind ≡ establishment → ⊥) → p ≡ planOf c 0 → reading.Whole p ≡ concluded kind c
   unfolding concluded
-  end-other h e = rw e (sym (rw (ne-eqb kind 50 h)))
+  end-other h e = rw e (sym (rw (ne-eqb kind establishment h)))
 
-  module _ (first : kind ≡ 50) where
-    pub end-no-pdr : true ≡ not (eqb (c .flags) 2 || c .creates) → reading.Fault 66 1 ≡ concluded kind c
+  module _ (first : kind ≡ establishment) where
+    pub end-no-pdr : true ≡ not (eqb (c .flags) 2 || c .creates) → reading.Fault why.mandatoryMissing ie.createPdr ≡ concluded kind c
     unfolding concluded
     end-no-pdr h = sym (rw (first, lacks-yes (eqb (c .flags) 2 || c .creates) h))
 
     module _ (some-pdr : false ≡ not (eqb (c .flags) 2 || c .creates)) where
-      pub end-no-seid : c .seid ≡ 0 → reading.Fault 66 57 ≡ concluded kind c
+      pub end-no-seid : c .seid ≡ 0 → reading.Fault why.mandatoryMissing ie.fseid ≡ concluded kind c
       unfolding concluded
       end-no-seid h = sym (rw (first, lacks-no (eqb (c .flags) 2 || c .creates) some-pdr, h))
 

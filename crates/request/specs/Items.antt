@@ -12,10 +12,12 @@ use Rattle.octets.specs.Choice.{pick, valueOr, flag}
 use Rattle.octets.specs.Lists.{member, keep, any}
 use Rattle.rules.specs.Types as ie
 use Rattle.rules.specs.Elements.{sets, removal}
-use Rattle.rules.specs.Message.{establishment}
+use Rattle.rules.specs.Message.{establishment, deletion}
 use Rattle.rules.specs.Reading as rules
 use Rattle.rules.specs.Reading.{Item, createsPdr, createsEndpoint, updatesPdr, removesPdr, removesEndpoint, setsCsid, clearsCsids, updatesEndpoint, Reading, done, andThen, withItem, groupRead, elementRead, createsAny}
+use Rattle.rules.specs.Causes as why
 use Rattle.plan.specs.Rows.{rowWidth, word, rowsOf, rowPdr, rowEndpoint, rowChange, rowAddress}
+use Rattle.plan.specs.Words as its
 use Rattle.reading.specs.declared.Verdict.{Verdict}
 use Rattle.reading.specs.declared.Verdict.the-variants.{Fine, Refused}
 use Rattle.reading.specs.Verdicts.{stopped, numbered}
@@ -30,8 +32,8 @@ use Rattle.request.specs.declared.items.Step.the-variants.{Fault, Next}
 
 unfoldable pub csidItem : List ℕ → Item
 csidItem row =
-    pick (eqb (word 1 row) 1) (setsCsid (sets (word 8 row) (rowAddress row) (word 11 row ∷ []) (word 7 row)))
-    (pick (eqb (word 1 row) 2) (setsCsid (removal (word 7 row))) (pick (eqb (word 1 row) 3) clearsCsids updatesEndpoint))
+    pick (eqb (word its.verb row) 1) (setsCsid (sets (word its.idType row) (rowAddress row) (word its.csid row ∷ []) (word its.nodeType row)))
+    (pick (eqb (word its.verb row) 2) (setsCsid (removal (word its.nodeType row))) (pick (eqb (word its.verb row) 3) clearsCsids updatesEndpoint))
 
 -- of a row of type t; element 129 has no row, and stands for a row that is none
 unfoldable pub itemOf : ℕ → List ℕ → Item
@@ -39,11 +41,11 @@ itemOf t row =
     pick (eqb t ie.createPdr) (createsPdr (rowPdr row))
     (pick (eqb t ie.createEndpoint) (createsEndpoint (rowEndpoint row))
     (pick (eqb t ie.updatePdr) (updatesPdr (rowChange row))
-    (pick (eqb t ie.removePdr) (removesPdr (word 7 row))
-    (pick (eqb t ie.removeEndpoint) (removesEndpoint (word 11 row)) (pick (eqb t ie.fqcsid) (csidItem row) updatesEndpoint)))))
+    (pick (eqb t ie.removePdr) (removesPdr (word its.pdrId row))
+    (pick (eqb t ie.removeEndpoint) (removesEndpoint (word its.endpointId row)) (pick (eqb t ie.fqcsid) (csidItem row) updatesEndpoint)))))
 
 unfoldable pub rowItem : List ℕ → Item
-rowItem row = itemOf (word 0 row) row
+rowItem row = itemOf (word its.tag row) row
 
 unfoldable pub isUpdate : Item → Bool
 isUpdate (createsPdr x) = false
@@ -101,7 +103,7 @@ pub record Follows (step : rules.Draft → Reading rules.Draft) (c : Draft) (nod
 -- room for the node types, and for one more row where the message has rows
 pub record Roomy (kind : ℕ) (c : Draft) (nodes words : List ℕ) : Type 0 where
   pub wide : length nodes ≡ 16
-  pub row : eqb kind 54 ≡ false → rowWidth * c .rows + rowWidth ≤ length words
+  pub row : eqb kind deletion ≡ false → rowWidth * c .rows + rowWidth ≤ length words
   pub few : c .rows ≤ 225
 
 -- a step that touches neither node types nor rows
@@ -138,7 +140,7 @@ elementAt kind alone t v d = elementRead kind alone (record { type = t; content 
 -- octets that fit a message, and room for their rows, where there are rows
 pub record Enough (kind : ℕ) (s words : List ℕ) : Type 0 where
   pub short : length s ≤ 2032
-  pub row : eqb kind 54 ≡ false → 4068 ≤ length words
+  pub row : eqb kind deletion ≡ false → 4068 ≤ length words
 
 -- all elements: the fault that the rules find, or a draft
 pub record Ended (result : Reading rules.Draft) (c : Draft) (words : List ℕ) : Type 0 where
@@ -160,6 +162,6 @@ unfoldable pub concluded : ℕ → Draft → code.Reading
 concluded kind c =
     pick (eqb kind establishment)
     (pick (eqb (c .flags) 2 || c .creates)
-    (pick (eqb (c .seid) 0) (reading.Fault 66 ie.fseid) (reading.Whole (planOf c (c .seid))))
-    (reading.Fault 66 ie.createPdr))
+    (pick (eqb (c .seid) 0) (reading.Fault why.mandatoryMissing ie.fseid) (reading.Whole (planOf c (c .seid))))
+    (reading.Fault why.mandatoryMissing ie.createPdr))
     (reading.Whole (planOf c 0))

@@ -12,6 +12,8 @@ use Rattle.rules.specs.Message.{frameFault}
 use Rattle.rules.specs.Reading as rules
 use Rattle.rules.specs.Reading.{Request, faulty, done, read}
 use Rattle.plan.specs.Rows.{rowWidth, rowsOf, tagged, rowCsid, isNullRow, requestIn}
+use Rattle.rules.specs.Types as ie
+use Rattle.rules.specs.Causes as why
 use Rattle.request.specs.declared.Reading.{Reading}
 use Rattle.request.specs.declared.Reading.the-variants as reading
 
@@ -36,7 +38,7 @@ resultOf (done r) = whole r
 -- stage 2, and then stage 3
 unfoldable pub fromFraming : List ℕ → Option ℕ → Result
 fromFraming msg none = resultOf (read msg)
-fromFraming msg (some t) = refused 68 t
+fromFraming msg (some t) = refused why.wrongLength t
 
 unfoldable pub readingOf : List ℕ → Result
 readingOf msg = fromFraming msg (frameFault msg)
@@ -56,4 +58,4 @@ pub record Read (msg : List ℕ) (r : Reading) (words : List ℕ) : Type 0 where
   pub result : meant r words ≡ readingOf msg
   pub room : rowWidth * rowsLeft r ≤ length words
   -- where an FQ-CSID removes all, no other is there
-  pub onlyNull : any isNullRow (tagged 65 (rowsOf (rowsLeft r) words)) ≡ true → collect rowCsid (tagged 65 (rowsOf (rowsLeft r) words)) ≡ []
+  pub onlyNull : any isNullRow (tagged ie.fqcsid (rowsOf (rowsLeft r) words)) ≡ true → collect rowCsid (tagged ie.fqcsid (rowsOf (rowsLeft r) words)) ≡ []

@@ -1,6 +1,9 @@
 // Stage 3 at the top of a message: its elements in turn, each read once.
 use element::fseid::Answer;
 use elements::First;
+use format::causes;
+use format::kinds;
+use format::types;
 ghost use mathlib.Core.Path.{_≡_};
 ghost use Prim.Native.Nat.{_≤_};
 ghost use Rattle.octets.specs.Lists.{member};
@@ -32,7 +35,7 @@ fn refused(answer: Answer, d: Draft) -> Step
     let Answer::Refused(refusal) = answer else {
         return Step::Next(d);
     };
-    Step::Fault(element::cause_of(refusal), 57)
+    Step::Fault(element::cause_of(refusal), types::FSEID)
 }
 
 // An F-SEID, which may come once.
@@ -40,7 +43,7 @@ fn read_seid(v: &[u8], d: Draft) -> Step
     ensures { λ r. ⌜ Passes (seidRead (now (v .entry))) d r ⌝ }
 {
     if d.seid != 0 {
-        return Step::Fault(69, 57);
+        return Step::Fault(causes::INCORRECT, types::FSEID);
     }
     let answer = element::fseid::read(v);
     let Answer::Value(seid) = answer else {
@@ -60,10 +63,10 @@ fn read_flags(v: &[u8], d: Draft) -> Step
     ensures { λ r. ⌜ Passes (flagsRead (now (v .entry))) d r ⌝ }
 {
     if d.flags != 0 {
-        return Step::Fault(69, 186);
+        return Step::Fault(causes::INCORRECT, types::SESSION_FLAGS);
     }
     if v.len() < 1 {
-        return Step::Fault(68, 186);
+        return Step::Fault(causes::WRONG_LENGTH, types::SESSION_FLAGS);
     }
     Step::Next(Draft {
         rows: d.rows,
@@ -79,17 +82,26 @@ fn is_acted(message: u64, kind: u64) -> bool
     ensures { λ r. ⌜ r ≡ member kind (actedOn message) ⌝ }
 {
     match message {
-        50 => match kind {
-            1 | 57 | 65 | 127 | 186 => true,
+        kinds::ESTABLISHMENT => match kind {
+            types::CREATE_PDR
+            | types::FSEID
+            | types::FQCSID
+            | types::CREATE_ENDPOINT
+            | types::SESSION_FLAGS => true,
             _ => false,
         },
-        52 => match kind {
-            1 | 9 | 15 | 65 | 127 | 130 => true,
-            129 => true,
+        kinds::MODIFICATION => match kind {
+            types::CREATE_PDR
+            | types::UPDATE_PDR
+            | types::REMOVE_PDR
+            | types::FQCSID
+            | types::CREATE_ENDPOINT
+            | types::REMOVE_ENDPOINT => true,
+            types::UPDATE_ENDPOINT => true,
             _ => false,
         },
         _ => match kind {
-            65 => true,
+            types::FQCSID => true,
             _ => false,
         },
     }
@@ -125,10 +137,10 @@ fn read_element(
         return Step::Next(d);
     }
     match kind {
-        57 => read_seid(v, d),
-        186 => read_flags(v, d),
-        65 => crate::row::read_csid(s, v, message, nodes, words, d),
-        129 => Step::Next(note(d)),
+        types::FSEID => read_seid(v, d),
+        types::SESSION_FLAGS => read_flags(v, d),
+        types::FQCSID => crate::row::read_csid(s, v, message, nodes, words, d),
+        types::UPDATE_ENDPOINT => Step::Next(note(d)),
         _ => crate::row::read_group(v, kind, words, d),
     }
 }

@@ -1,5 +1,8 @@
 // A request as a plan: stages 2 and 3, which read each element that the request acts on once, into a row of words, in request order. What a
 // row means stands in the crate plan.
+use format::causes;
+use format::kinds;
+use format::types;
 use frame::Framing;
 use items::Draft;
 use items::Step;
@@ -8,7 +11,7 @@ ghost use mathlib.Core.Path.{_≡_};
 ghost use Prim.Native.Nat.{_≤_};
 ghost use lib.ListN.{length};
 ghost use Rattle.rules.specs.Limits.{maxMessage};
-ghost use Rattle.rules.specs.Message.{kindOf};
+ghost use Rattle.rules.specs.Message.{kindOf, deletion};
 ghost use Rattle.rules.specs.Reading.{read, readRequest};
 ghost use Rattle.reading.specs.Verdicts.{outcome, numbered};
 ghost use mathlib.Core.Bool.{not, _||_};
@@ -61,14 +64,14 @@ fn lacks_pdr(d: Draft) -> bool
 fn conclude(message: u64, d: Draft) -> Reading
     ensures { λ r. ⌜ r ≡ concluded message d ⌝ }
 {
-    if message != 50 {
+    if message != kinds::ESTABLISHMENT {
         return Reading::Whole(plan_of(d, 0));
     }
     if lacks_pdr(d) {
-        return Reading::Fault(66, 1);
+        return Reading::Fault(causes::MANDATORY_MISSING, types::CREATE_PDR);
     }
     if d.seid == 0 {
-        return Reading::Fault(66, 57);
+        return Reading::Fault(causes::MANDATORY_MISSING, types::FSEID);
     }
     Reading::Whole(plan_of(d, d.seid))
 }
@@ -79,7 +82,7 @@ pub fn read_request(msg: &[u8], words: &mut [u64]) -> Reading
     ensures { λ r. ⌜ Read (now (msg .entry)) r (now (words .exit)) ⌝ }
 {
     if let Framing::Fault(kind) = frame::frame_fault(msg) {
-        return Reading::Fault(68, kind);
+        return Reading::Fault(causes::WRONG_LENGTH, kind);
     }
     let message = octets::read(msg, 1, 1);
     let step = items::read_elements(&msg[16..], message, words);
@@ -91,11 +94,12 @@ pub fn read_request(msg: &[u8], words: &mut [u64]) -> Reading
 
 // Stage 3 of a deletion whose header is allowed.
 pub fn read_deletion(msg: &[u8]) -> Verdict
-    requires { ⌜ (16 ≤ length (now msg)) × (length (now msg) ≤ maxMessage) × (kindOf (now msg) ≡ 54) ⌝ }
+    requires { ⌜ (16 ≤ length (now msg)) × (length (now msg) ≤ maxMessage) × (kindOf (now msg) ≡ deletion) ⌝ }
     ensures { λ r. ⌜ outcome r (readRequest (now (msg .entry))) ≡ numbered (read (now (msg .entry))) ⌝ }
 {
     let mut words = [0u64; 1];
-    let Step::Fault(cause, kind) = items::read_elements(&msg[16..], 54, &mut words) else {
+    let Step::Fault(cause, kind) = items::read_elements(&msg[16..], kinds::DELETION, &mut words)
+    else {
         return Verdict::Fine;
     };
     Verdict::Refused(cause, kind)

@@ -3,6 +3,10 @@ use crate::items::Draft;
 use crate::items::Step;
 use element::fqcsid::Answer;
 use element::fqcsid::FqCsid;
+use format::causes;
+use format::kinds;
+use format::types;
+use format::words;
 use reading::Verdict;
 ghost use mathlib.Core.Path.{_≡_};
 ghost use mathlib.Core.Bool.{true, false, _&&_};
@@ -63,9 +67,9 @@ pub(crate) fn read_group(v: &[u8], kind: u64, words: &mut [u64], d: Draft) -> St
     let Verdict::Fine = read else {
         return refused(read, d);
     };
-    row[0] = kind;
+    row[words::TAG] = kind;
     put_words(words, format::ROW * d.rows, &row);
-    Step::Next(with_row(d, kind == 1))
+    Step::Next(with_row(d, kind == types::CREATE_PDR))
 }
 
 // The refusal in a verdict, if it is one.
@@ -125,7 +129,7 @@ fn put_csid(x: Csid, words: &mut [u64], d: Draft) -> Draft
     ensures { λ r. ⌜ (r ≡ withRow false d) × (now (words .exit) ≡ put (rowWidth * d .rows) (csidWords x) (now (words .entry))) ⌝ }
 {
     let row = [
-        65,
+        types::FQCSID,
         x.state,
         0,
         0,
@@ -155,10 +159,10 @@ fn is_clearing(s: &[u8], v: &[u8], message: u64) -> bool
     if v.len() != 0 {
         return false;
     }
-    if message != 52 {
+    if message != kinds::MODIFICATION {
         return false;
     }
-    elements::count(s, 65) == 1
+    elements::count(s, types::FQCSID) == 1
 }
 
 // Whether so many CSIDs are allowed: one in an establishment, one or none in a modification, one at least in a deletion.
@@ -166,9 +170,9 @@ fn is_count_allowed(message: u64, count: u64) -> bool
     ensures { λ r. ⌜ r ≡ countIn message count ⌝ }
 {
     match count {
-        0 => message == 52,
+        0 => message == kinds::MODIFICATION,
         1 => true,
-        _ => message == 54,
+        _ => message == kinds::DELETION,
     }
 }
 
@@ -179,7 +183,7 @@ fn csid_refused(answer: Answer, d: Draft) -> Step
     let Answer::Refused(refusal) = answer else {
         return Step::Next(d);
     };
-    Step::Fault(element::cause_of(refusal), 65)
+    Step::Fault(element::cause_of(refusal), types::FQCSID)
 }
 
 // An FQ-CSID of value v of the message s, read once: into its row, and its node type into those that were met. A deletion's has no row.
@@ -203,13 +207,13 @@ pub(crate) fn read_csid(
     };
     let node = x.node_type as usize;
     if !is_count_allowed(message, x.count) {
-        return Step::Fault(69, 65);
+        return Step::Fault(causes::INCORRECT, types::FQCSID);
     }
     if nodes[node] != 0 {
-        return Step::Fault(69, 65);
+        return Step::Fault(causes::INCORRECT, types::FQCSID);
     }
     nodes[node] = 1;
-    if message == 54 {
+    if message == kinds::DELETION {
         return Step::Next(d);
     }
     Step::Next(put_csid(csid_from(x), words, d))

@@ -16,6 +16,7 @@ use Rattle.octets.proofs.ListLaws.{collect-map}
 use Rattle.rules.specs.Stages.{sameChoice}
 use Rattle.rules.specs.Grants.{Choice, choices, need, needFrom, isFresh, noted, endpointChoice, pdrChoice}
 use Rattle.plan.specs.Rows.{rowWidth, hasTag, tagged, rowsOf, rowPdr, rowEndpoint, requestIn}
+use Rattle.rules.specs.Types as ie
 use Rattle.rows.specs.RowRules.{rowChoice, rowChooseId, choiceId, sharesChoice}
 use Rattle.lists.proofs.RowLaws.{rows-more, rows-none}
 use Rattle.lists.proofs.Loops.{left-part}
@@ -165,9 +166,9 @@ last-rows (row ∷ rows) = one (rowChoice row) refl (last-rows rows)
 pub need-rows : (seid : ℕ) (restoring noted′ : Bool) (rows : List (List ℕ)) → need (requestIn seid restoring noted′ rows) ≡ needRows rows
 unfolding need choices requestIn tagged rowChoice
 need-rows seid restoring noted′ rows =
-    need-last (collect endpointChoice (map rowEndpoint (keep (hasTag 127) rows)) ++ collect pdrChoice (map rowPdr (keep (hasTag 1) rows)))
-    ∙ ap₂ (λ (a b : List Choice). needLast (a ++ b)) (collect-map rowEndpoint endpointChoice (keep (hasTag 127) rows)) (collect-map rowPdr pdrChoice (keep (hasTag 1) rows))
-    ∙ need-merge (merged (hasTag 127) (hasTag 1) (λ row. tags-apart 127 1 row (λ e. omega arith)) (λ row. endpointChoice (rowEndpoint row)) (λ row. pdrChoice (rowPdr row)) rows)
+    need-last (collect endpointChoice (map rowEndpoint (keep (hasTag ie.createEndpoint) rows)) ++ collect pdrChoice (map rowPdr (keep (hasTag ie.createPdr) rows)))
+    ∙ ap₂ (λ (a b : List Choice). needLast (a ++ b)) (collect-map rowEndpoint endpointChoice (keep (hasTag ie.createEndpoint) rows)) (collect-map rowPdr pdrChoice (keep (hasTag ie.createPdr) rows))
+    ∙ need-merge (merged (hasTag ie.createEndpoint) (hasTag ie.createPdr) (λ row. tags-apart ie.createEndpoint 1 row (λ e. omega arith)) (λ row. endpointChoice (rowEndpoint row)) (λ row. pdrChoice (rowPdr row)) rows)
     ∙ last-rows rows
 
 -- ---- the walk

@@ -17,6 +17,8 @@ use Rattle.rules.specs.Sound.{agree, shareTests}
 use Rattle.rules.specs.Stages.{sameChoice, alikeFteids, fteidsMayShare, localsMayShare, choicesAgree}
 use Rattle.rules.specs.Grants.{ofPdr, choiceOf, pdrChoice}
 use Rattle.plan.specs.Rows.{word, hasTag, rowFteid, rowLocal, rowPdr}
+use Rattle.rules.specs.Types as ie
+use Rattle.plan.specs.Words as its
 use Rattle.rows.specs.RowRules.{hasFteid, rowHolding, rowChoice, rowChooseId, choiceId, alike, repeats, sameId, otherChoice, holdsApart, otherHold, disagree, sharesChoice}
 use Rattle.rows.proofs.FteidLaws.{v4-row, v6-row, chooses-some, choose-id-row, holding-row, holdOf}
 use Rattle.rows.proofs.RowTests.{tag-yes, tag-no}
@@ -59,9 +61,9 @@ families m n = ap₂ _&&_ (same-bits 0 m n) (same-bits 1 m n) ∙ both-ways _ _ 
         let high : m / (2 ^ 1) % 2 ≡ n / (2 ^ 1) % 2 = omega arith in
         rw (low, high) (both (eqb (n / (2 ^ 0) % 2) (n / (2 ^ 0) % 2)) _ (eqb-refl (n / (2 ^ 0) % 2)) (eqb-refl (n / (2 ^ 1) % 2)))
 
-pub alike-row : (a b : List ℕ) → alike a b ≡ (eqb (word 12 a % 4) (word 12 b % 4) && eqb (word 10 a) (word 10 b))
+pub alike-row : (a b : List ℕ) → alike a b ≡ (eqb (word its.flags a % 4) (word its.flags b % 4) && eqb (word its.source a) (word its.source b))
 unfolding alike alikeFteids
-alike-row a b = rw (v4-row a, v4-row b, v6-row a, v6-row b, families (word 12 a) (word 12 b))
+alike-row a b = rw (v4-row a, v4-row b, v6-row a, v6-row b, families (word its.flags a) (word its.flags b))
 
 -- ---- CHOOSE IDs
 
@@ -74,10 +76,10 @@ unfolding sameChoice
 same-none none = refl
 same-none (some i) = refl
 
-id-known : (row : List ℕ) → isSome (rowChooseId row) ≡ true → rowChooseId row ≡ some (word 17 row)
-id-known row h = choose-id-row row ∙ one ((hasFteid row && bit 2 (word 12 row)) && bit 3 (word 12 row)) (sym (ap isSome (choose-id-row row)) ∙ h)
+id-known : (row : List ℕ) → isSome (rowChooseId row) ≡ true → rowChooseId row ≡ some (word its.chooseId row)
+id-known row h = choose-id-row row ∙ one ((hasFteid row && bit 2 (word its.flags row)) && bit 3 (word its.flags row)) (sym (ap isSome (choose-id-row row)) ∙ h)
   where
-    one : (b : Bool) → isSome (pick b (some (word 17 row)) none) ≡ true → pick b (some (word 17 row)) none ≡ some (word 17 row)
+    one : (b : Bool) → isSome (pick b (some (word its.chooseId row)) none) ≡ true → pick b (some (word its.chooseId row)) none ≡ some (word its.chooseId row)
     one true e = refl
     one false e = absurd (false≢true e)
 
@@ -89,7 +91,7 @@ pub shares-right : (a b : List ℕ) → isSome (rowChooseId b) ≡ false → sha
 unfolding sharesChoice
 shares-right a b h = rw (no-id (rowChooseId b) h) (same-none (rowChooseId a))
 
-pub shares-both : (a b : List ℕ) → isSome (rowChooseId a) ≡ true → isSome (rowChooseId b) ≡ true → sharesChoice a b ≡ eqb (word 17 a) (word 17 b)
+pub shares-both : (a b : List ℕ) → isSome (rowChooseId a) ≡ true → isSome (rowChooseId b) ≡ true → sharesChoice a b ≡ eqb (word its.chooseId a) (word its.chooseId b)
 unfolding sharesChoice sameChoice
 shares-both a b h g = rw (id-known a h, id-known b g)
 
@@ -100,9 +102,9 @@ local-id i none = refl
 local-id i (some (given t a b)) = refl
 local-id i (some (choose v4 v6 c)) = refl
 
-pdr-id : (row : List ℕ) → word 0 row ≡ 1 → rowChooseId row ≡ bindOption (rowLocal row) chooseId
+pdr-id : (row : List ℕ) → word its.tag row ≡ ie.createPdr → rowChooseId row ≡ bindOption (rowLocal row) chooseId
 unfolding rowChooseId rowChoice pdrChoice rowPdr hasTag
-pdr-id row h = rw h (local-id (word 7 row) (rowLocal row))
+pdr-id row h = rw h (local-id (word its.pdrId row) (rowLocal row))
 
 may-share : (x y : Bool) (v w : Fteid) (i j : ℕ)
     → not (localsMayShare (pick x none (some v)) i (pick y none (some w)) j)
@@ -116,24 +118,24 @@ may-share false false v w i j = one (sameChoice (chooseId v) (chooseId w)) (alik
     one true t = refl
     one false t = refl
 
-pub choice-other : (a b : List ℕ) → word 0 a ≡ 1 → word 0 b ≡ 1 → otherChoice a b ≡ (sharesChoice a b && not (alike a b))
+pub choice-other : (a b : List ℕ) → word its.tag a ≡ ie.createPdr → word its.tag b ≡ ie.createPdr → otherChoice a b ≡ (sharesChoice a b && not (alike a b))
 unfolding otherChoice choicesAgree rowPdr sharesChoice alike
 choice-other a b h g =
-    rw (tag-yes a 1 h, tag-yes b 1 g, pdr-id a h, pdr-id b g)
-    (unfold rowLocal in (may-share (eqb (word 12 a) 0) (eqb (word 12 b) 0) (rowFteid a) (rowFteid b) (word 10 a) (word 10 b)))
+    rw (tag-yes a ie.createPdr h, tag-yes b ie.createPdr g, pdr-id a h, pdr-id b g)
+    (unfold rowLocal in (may-share (eqb (word its.flags a) 0) (eqb (word its.flags b) 0) (rowFteid a) (rowFteid b) (word its.source a) (word its.source b)))
 
-pub choice-left : (a b : List ℕ) → (word 0 a ≡ 1 → ⊥) → otherChoice a b ≡ false
+pub choice-left : (a b : List ℕ) → (word its.tag a ≡ ie.createPdr → ⊥) → otherChoice a b ≡ false
 unfolding otherChoice
-choice-left a b h = rw (tag-no a 1 h)
+choice-left a b h = rw (tag-no a ie.createPdr h)
 
-pub choice-right : (a b : List ℕ) → word 0 a ≡ 1 → (word 0 b ≡ 1 → ⊥) → otherChoice a b ≡ false
+pub choice-right : (a b : List ℕ) → word its.tag a ≡ ie.createPdr → (word its.tag b ≡ ie.createPdr → ⊥) → otherChoice a b ≡ false
 unfolding otherChoice
-choice-right a b h g = rw (tag-yes a 1 h, tag-no b 1 g)
+choice-right a b h g = rw (tag-yes a ie.createPdr h, tag-no b ie.createPdr g)
 
 -- ---- holds
 
 hold-known : (row : List ℕ) → isSome (rowHolding row) ≡ true → rowHolding row ≡ some (holdOf row)
-hold-known row h = holding-row row ∙ one (hasFteid row && not (bit 2 (word 12 row))) (sym (ap isSome (holding-row row)) ∙ h)
+hold-known row h = holding-row row ∙ one (hasFteid row && not (bit 2 (word its.flags row))) (sym (ap isSome (holding-row row)) ∙ h)
   where
     one : (b : Bool) → isSome (pick b (some (holdOf row)) none) ≡ true → pick b (some (holdOf row)) none ≡ some (holdOf row)
     one true e = refl
@@ -160,33 +162,33 @@ hold-right a b h = apart-right (rowHolding a) (rowHolding b) h
 
 -- with both restored
 both-hold : (a b : List ℕ) → isSome (rowHolding a) ≡ true → isSome (rowHolding b) ≡ true
-    → otherHold a b ≡ not (not (eqb (word 13 a) (word 13 b)) || allOf (shareTests (holdOf a) (holdOf b)))
+    → otherHold a b ≡ not (not (eqb (word its.teid a) (word its.teid b)) || allOf (shareTests (holdOf a) (holdOf b)))
 unfolding otherHold holdsApart agree
 both-hold a b h g = rw (hold-known a h, hold-known b g)
 
-pub hold-other : (a b : List ℕ) → (word 13 a ≡ word 13 b → ⊥) → otherHold a b ≡ false
+pub hold-other : (a b : List ℕ) → (word its.teid a ≡ word its.teid b → ⊥) → otherHold a b ≡ false
 hold-other a b h = one (isSome (rowHolding a)) (isSome (rowHolding b)) refl refl
   where
     one : (x y : Bool) → isSome (rowHolding a) ≡ x → isSome (rowHolding b) ≡ y → otherHold a b ≡ false
     one false y p q = hold-left a b p
     one true false p q = hold-right a b q
-    one true true p q = both-hold a b p q ∙ rw (ne-eqb (word 13 a) (word 13 b) h)
+    one true true p q = both-hold a b p q ∙ rw (ne-eqb (word its.teid a) (word its.teid b) h)
 
-module _ (a b : List ℕ) (e : word 13 a ≡ word 13 b) (h : isSome (rowHolding a) ≡ true) (g : isSome (rowHolding b) ≡ true) where
-  pub hold-endpoint : word 0 a ≡ 127 → otherHold a b ≡ true
+module _ (a b : List ℕ) (e : word its.teid a ≡ word its.teid b) (h : isSome (rowHolding a) ≡ true) (g : isSome (rowHolding b) ≡ true) where
+  pub hold-endpoint : word its.tag a ≡ ie.createEndpoint → otherHold a b ≡ true
   unfolding shareTests
-  hold-endpoint t = both-hold a b h g ∙ rw (eq-eqb (word 13 a) (word 13 b) e, tag-yes a 127 t)
+  hold-endpoint t = both-hold a b h g ∙ rw (eq-eqb (word its.teid a) (word its.teid b) e, tag-yes a ie.createEndpoint t)
 
-  pub hold-later : (word 0 a ≡ 127 → ⊥) → word 0 b ≡ 127 → otherHold a b ≡ true
+  pub hold-later : (word its.tag a ≡ ie.createEndpoint → ⊥) → word its.tag b ≡ ie.createEndpoint → otherHold a b ≡ true
   unfolding shareTests
-  hold-later s t = both-hold a b h g ∙ rw (eq-eqb (word 13 a) (word 13 b) e, tag-no a 127 s, tag-yes b 127 t)
+  hold-later s t = both-hold a b h g ∙ rw (eq-eqb (word its.teid a) (word its.teid b) e, tag-no a ie.createEndpoint s, tag-yes b ie.createEndpoint t)
 
-  pub hold-pdrs : (word 0 a ≡ 127 → ⊥) → (word 0 b ≡ 127 → ⊥) → otherHold a b ≡ not (alike a b)
+  pub hold-pdrs : (word its.tag a ≡ ie.createEndpoint → ⊥) → (word its.tag b ≡ ie.createEndpoint → ⊥) → otherHold a b ≡ not (alike a b)
   unfolding shareTests alike alikeFteids
   hold-pdrs s t =
       both-hold a b h g
-      ∙ rw (eq-eqb (word 13 a) (word 13 b) e, tag-no a 127 s, tag-no b 127 t, v4-row a, v4-row b, v6-row a, v6-row b)
-      (one (sameBool (bit 0 (word 12 a)) (bit 0 (word 12 b))) (sameBool (bit 1 (word 12 a)) (bit 1 (word 12 b))) (eqb (word 10 a) (word 10 b)))
+      ∙ rw (eq-eqb (word its.teid a) (word its.teid b) e, tag-no a ie.createEndpoint s, tag-no b ie.createEndpoint t, v4-row a, v4-row b, v6-row a, v6-row b)
+      (one (sameBool (bit 0 (word its.flags a)) (bit 0 (word its.flags b))) (sameBool (bit 1 (word its.flags a)) (bit 1 (word its.flags b))) (eqb (word its.source a) (word its.source b)))
     where
       one : (x y z : Bool) → not (x && (y && (z && true))) ≡ not ((x && y) && z)
       one true true true = refl
@@ -196,15 +198,15 @@ module _ (a b : List ℕ) (e : word 13 a ≡ word 13 b) (h : isSome (rowHolding 
 
 -- ---- IDs
 
-tag-is : (t : ℕ) (row : List ℕ) → hasTag t row ≡ true → word 0 row ≡ t
+tag-is : (t : ℕ) (row : List ℕ) → hasTag t row ≡ true → word its.tag row ≡ t
 unfolding hasTag
-tag-is t row h = eqb-true (word 0 row) t h
+tag-is t row h = eqb-true (word its.tag row) t h
 
 -- a row has one type
 pub tags-apart : (t u : ℕ) (row : List ℕ) → (t ≡ u → ⊥) → hasTag t row ≡ true → hasTag u row ≡ false
 tags-apart t u row h e = tag-no row u (λ f. h (sym (tag-is t row e) ∙ f))
 
-apart-tags : (t field : ℕ) (a b : List ℕ) → (word 0 a ≡ word 0 b → ⊥) → repeats t field a b ≡ false
+apart-tags : (t field : ℕ) (a b : List ℕ) → (word its.tag a ≡ word its.tag b → ⊥) → repeats t field a b ≡ false
 unfolding repeats
 apart-tags t field a b h = one (hasTag t a) (hasTag t b) refl refl
   where
@@ -213,36 +215,36 @@ apart-tags t field a b h = one (hasTag t a) (hasTag t b) refl refl
     one true false p q = rw (p, q)
     one true true p q = absurd (h (tag-is t a p ∙ sym (tag-is t b q)))
 
-pub id-apart : (a b : List ℕ) → (word 0 a ≡ word 0 b → ⊥) → sameId a b ≡ false
+pub id-apart : (a b : List ℕ) → (word its.tag a ≡ word its.tag b → ⊥) → sameId a b ≡ false
 unfolding sameId
-id-apart a b h = rw (apart-tags 15 7 a b h, apart-tags 130 11 a b h, apart-tags 1 7 a b h, apart-tags 127 11 a b h, apart-tags 9 7 a b h)
+id-apart a b h = rw (apart-tags ie.removePdr its.pdrId a b h, apart-tags ie.removeEndpoint its.endpointId a b h, apart-tags ie.createPdr its.pdrId a b h, apart-tags ie.createEndpoint its.endpointId a b h, apart-tags ie.updatePdr its.pdrId a b h)
 
 -- the ID's place in a row of this type
-module _ (a b : List ℕ) (e : word 0 a ≡ word 0 b) where
-  pub id-1 : word 0 a ≡ 1 → sameId a b ≡ eqb (word 7 a) (word 7 b)
+module _ (a b : List ℕ) (e : word its.tag a ≡ word its.tag b) where
+  pub id-1 : word its.tag a ≡ ie.createPdr → sameId a b ≡ eqb (word its.pdrId a) (word its.pdrId b)
   unfolding sameId repeats hasTag
   id-1 h = rw (← e, h) (or-false _)
 
-  pub id-9 : word 0 a ≡ 9 → sameId a b ≡ eqb (word 7 a) (word 7 b)
+  pub id-9 : word its.tag a ≡ ie.updatePdr → sameId a b ≡ eqb (word its.pdrId a) (word its.pdrId b)
   unfolding sameId repeats hasTag
   id-9 h = rw (← e, h) (or-false _)
 
-  pub id-15 : word 0 a ≡ 15 → sameId a b ≡ eqb (word 7 a) (word 7 b)
+  pub id-15 : word its.tag a ≡ ie.removePdr → sameId a b ≡ eqb (word its.pdrId a) (word its.pdrId b)
   unfolding sameId repeats hasTag
   id-15 h = rw (← e, h) (or-false _)
 
-  pub id-127 : word 0 a ≡ 127 → sameId a b ≡ eqb (word 11 a) (word 11 b)
+  pub id-127 : word its.tag a ≡ ie.createEndpoint → sameId a b ≡ eqb (word its.endpointId a) (word its.endpointId b)
   unfolding sameId repeats hasTag
   id-127 h = rw (← e, h) (or-false _)
 
-  pub id-130 : word 0 a ≡ 130 → sameId a b ≡ eqb (word 11 a) (word 11 b)
+  pub id-130 : word its.tag a ≡ ie.removeEndpoint → sameId a b ≡ eqb (word its.endpointId a) (word its.endpointId b)
   unfolding sameId repeats hasTag
   id-130 h = rw (← e, h) (or-false _)
 
 -- a row of no type that has an ID
-pub id-other : (a b : List ℕ) → (word 0 a ≡ 1 → ⊥) → (word 0 a ≡ 9 → ⊥) → (word 0 a ≡ 15 → ⊥) → (word 0 a ≡ 127 → ⊥) → (word 0 a ≡ 130 → ⊥) → sameId a b ≡ false
+pub id-other : (a b : List ℕ) → (word its.tag a ≡ ie.createPdr → ⊥) → (word its.tag a ≡ ie.updatePdr → ⊥) → (word its.tag a ≡ ie.removePdr → ⊥) → (word its.tag a ≡ ie.createEndpoint → ⊥) → (word its.tag a ≡ ie.removeEndpoint → ⊥) → sameId a b ≡ false
 unfolding sameId repeats
-id-other a b h1 h9 h15 h127 h130 = rw (tag-no a 15 h15, tag-no a 130 h130, tag-no a 1 h1, tag-no a 127 h127, tag-no a 9 h9)
+id-other a b h1 h9 h15 h127 h130 = rw (tag-no a ie.removePdr h15, tag-no a ie.removeEndpoint h130, tag-no a ie.createPdr h1, tag-no a ie.createEndpoint h127, tag-no a ie.updatePdr h9)
 
 -- ---- all rules on two rows
 
@@ -263,9 +265,9 @@ disagree-hold a b h g = rw (h, g) (or-false (otherHold a b))
 pub id-none : (row : List ℕ) → isSome (rowChoice row) ≡ false → isSome (rowChooseId row) ≡ false
 id-none row h = rw (choose-id-row row, sym (chooses-some row) ∙ h)
 
-pub id-bit : (row : List ℕ) → isSome (rowChoice row) ≡ true → isSome (rowChooseId row) ≡ bit 3 (word 12 row)
-id-bit row h = rw (choose-id-row row, sym (chooses-some row) ∙ h) (one (bit 3 (word 12 row)))
+pub id-bit : (row : List ℕ) → isSome (rowChoice row) ≡ true → isSome (rowChooseId row) ≡ bit 3 (word its.flags row)
+id-bit row h = rw (choose-id-row row, sym (chooses-some row) ∙ h) (one (bit 3 (word its.flags row)))
   where
-    one : (b : Bool) → isSome (pick b (some (word 17 row)) none) ≡ b
+    one : (b : Bool) → isSome (pick b (some (word its.chooseId row)) none) ≡ b
     one true = refl
     one false = refl

@@ -11,6 +11,8 @@ use Rattle.lists.specs.Rows.{column}
 use Rattle.rules.specs.Elements.{Fteid}
 use Rattle.rules.specs.Stages.{fteidsOf, pdrLocal, endpointLocal, newPdrId, newEndpointId, changeId, createdPdrs, createdEndpoints, updatedPdrs, wrongAllocation, invalidAllocation}
 use Rattle.plan.specs.Rows.{word, hasTag, tagged, rowFteid, rowLocal, rowPdr, rowEndpoint, rowChange, rowPdi, requestIn}
+use Rattle.rules.specs.Types as ie
+use Rattle.plan.specs.Words as its
 use Rattle.rows.specs.RowRules.{hasFteid, ofFteid}
 use Rattle.rows.proofs.ListLaws.{onSome, any-ext, any-or, any-append, any-keep, any-map, any-collect}
 use Rattle.rows.proofs.WalkLaws.{isNamed, member-column}
@@ -18,28 +20,28 @@ use Rattle.lists.proofs.Bools.{eqb-turn}
 
 -- ---- F-TEIDs
 
-rows-endpoint : (p : Fteid → Bool) (rows : List (List ℕ)) → any p (map endpointLocal (map rowEndpoint (tagged 127 rows))) ≡ any (λ row. hasTag 127 row && p (rowFteid row)) rows
+rows-endpoint : (p : Fteid → Bool) (rows : List (List ℕ)) → any p (map endpointLocal (map rowEndpoint (tagged ie.createEndpoint rows))) ≡ any (λ row. hasTag ie.createEndpoint row && p (rowFteid row)) rows
 unfolding rowEndpoint tagged
 rows-endpoint p rows =
-    any-map p endpointLocal (map rowEndpoint (keep (hasTag 127) rows))
-    ∙ any-map (λ e. p (endpointLocal e)) rowEndpoint (keep (hasTag 127) rows)
-    ∙ any-keep (λ row. p (rowFteid row)) (hasTag 127) rows
+    any-map p endpointLocal (map rowEndpoint (keep (hasTag ie.createEndpoint) rows))
+    ∙ any-map (λ e. p (endpointLocal e)) rowEndpoint (keep (hasTag ie.createEndpoint) rows)
+    ∙ any-keep (λ row. p (rowFteid row)) (hasTag ie.createEndpoint) rows
 
-rows-pdr : (p : Fteid → Bool) (rows : List (List ℕ)) → any p (collect pdrLocal (map rowPdr (tagged 1 rows))) ≡ any (λ row. hasTag 1 row && onSome p (rowLocal row)) rows
+rows-pdr : (p : Fteid → Bool) (rows : List (List ℕ)) → any p (collect pdrLocal (map rowPdr (tagged ie.createPdr rows))) ≡ any (λ row. hasTag ie.createPdr row && onSome p (rowLocal row)) rows
 unfolding rowPdr tagged
 rows-pdr p rows =
-    any-collect p pdrLocal (map rowPdr (keep (hasTag 1) rows))
-    ∙ any-map (λ x. onSome p (pdrLocal x)) rowPdr (keep (hasTag 1) rows)
-    ∙ any-keep (λ row. onSome p (rowLocal row)) (hasTag 1) rows
+    any-collect p pdrLocal (map rowPdr (keep (hasTag ie.createPdr) rows))
+    ∙ any-map (λ x. onSome p (pdrLocal x)) rowPdr (keep (hasTag ie.createPdr) rows)
+    ∙ any-keep (λ row. onSome p (rowLocal row)) (hasTag ie.createPdr) rows
 
 -- a test of some F-TEID is a test of some row
 pub any-fteids : (p : Fteid → Bool) (seid : ℕ) (restoring noted : Bool) (rows : List (List ℕ)) → any p (fteidsOf (requestIn seid restoring noted rows)) ≡ any (ofFteid p) rows
 unfolding fteidsOf requestIn onSome
 any-fteids p seid restoring noted rows =
-    any-append p (map endpointLocal (map rowEndpoint (tagged 127 rows))) (collect pdrLocal (map rowPdr (tagged 1 rows)))
+    any-append p (map endpointLocal (map rowEndpoint (tagged ie.createEndpoint rows))) (collect pdrLocal (map rowPdr (tagged ie.createPdr rows)))
     ∙ ap₂ _||_ (rows-endpoint p rows) (rows-pdr p rows)
-    ∙ any-or (λ row. hasTag 127 row && p (rowFteid row)) (λ row. hasTag 1 row && onSome p (rowLocal row)) rows
-    ∙ any-ext (λ row. (hasTag 127 row && p (rowFteid row)) || (hasTag 1 row && onSome p (rowLocal row))) (ofFteid p) (λ row. here row) rows
+    ∙ any-or (λ row. hasTag ie.createEndpoint row && p (rowFteid row)) (λ row. hasTag ie.createPdr row && onSome p (rowLocal row)) rows
+    ∙ any-ext (λ row. (hasTag ie.createEndpoint row && p (rowFteid row)) || (hasTag ie.createPdr row && onSome p (rowLocal row))) (ofFteid p) (λ row. here row) rows
   where
     one : (e t z : Bool) (v : Fteid) → ((e && p v) || (t && onSome p (pick z none (some v)))) ≡ ((e || (t && not z)) && p v)
     one true true true v = or-false (p v)
@@ -49,8 +51,8 @@ any-fteids p seid restoring noted rows =
     one false true false v = refl
     one false false z v = refl
 
-    here : (row : List ℕ) → ((hasTag 127 row && p (rowFteid row)) || (hasTag 1 row && onSome p (rowLocal row))) ≡ ofFteid p row
-    here row = unfold ofFteid hasFteid rowLocal in (one (hasTag 127 row) (hasTag 1 row) (eqb (word 12 row) 0) (rowFteid row))
+    here : (row : List ℕ) → ((hasTag ie.createEndpoint row && p (rowFteid row)) || (hasTag ie.createPdr row && onSome p (rowLocal row))) ≡ ofFteid p row
+    here row = unfold ofFteid hasFteid rowLocal in (one (hasTag ie.createEndpoint row) (hasTag ie.createPdr row) (eqb (word its.flags row) 0) (rowFteid row))
 
 pub invalid-rows : (seid : ℕ) (restoring noted : Bool) (rows : List (List ℕ)) → invalidAllocation (requestIn seid restoring noted rows) ≡ any (ofFteid (wrongAllocation restoring)) rows
 unfolding invalidAllocation requestIn
@@ -59,30 +61,30 @@ invalid-rows seid restoring noted rows = any-fteids (wrongAllocation restoring) 
 -- ---- columns
 
 module _ (seid : ℕ) (restoring noted : Bool) (rows : List (List ℕ)) where
-  pub created-pdrs : createdPdrs (requestIn seid restoring noted rows) ≡ column 1 7 rows
+  pub created-pdrs : createdPdrs (requestIn seid restoring noted rows) ≡ column ie.createPdr its.pdrId rows
   unfolding createdPdrs requestIn rowPdr tagged column hasTag
-  created-pdrs = map-map newPdrId rowPdr (keep (hasTag 1) rows)
+  created-pdrs = map-map newPdrId rowPdr (keep (hasTag ie.createPdr) rows)
 
-  pub created-endpoints : createdEndpoints (requestIn seid restoring noted rows) ≡ column 127 11 rows
+  pub created-endpoints : createdEndpoints (requestIn seid restoring noted rows) ≡ column ie.createEndpoint its.endpointId rows
   unfolding createdEndpoints requestIn rowEndpoint tagged column hasTag
-  created-endpoints = map-map newEndpointId rowEndpoint (keep (hasTag 127) rows)
+  created-endpoints = map-map newEndpointId rowEndpoint (keep (hasTag ie.createEndpoint) rows)
 
-  pub updated-pdrs : updatedPdrs (requestIn seid restoring noted rows) ≡ column 9 7 rows
+  pub updated-pdrs : updatedPdrs (requestIn seid restoring noted rows) ≡ column ie.updatePdr its.pdrId rows
   unfolding updatedPdrs requestIn rowChange tagged column hasTag
-  updated-pdrs = map-map changeId rowChange (keep (hasTag 9) rows)
+  updated-pdrs = map-map changeId rowChange (keep (hasTag ie.updatePdr) rows)
 
-  pub gone-pdrs : requestIn seid restoring noted rows .gonePdrs ≡ column 15 7 rows
+  pub gone-pdrs : requestIn seid restoring noted rows .gonePdrs ≡ column ie.removePdr its.pdrId rows
   unfolding requestIn tagged column hasTag
   gone-pdrs = refl
 
-  pub gone-endpoints : requestIn seid restoring noted rows .goneEndpoints ≡ column 130 11 rows
+  pub gone-endpoints : requestIn seid restoring noted rows .goneEndpoints ≡ column ie.removeEndpoint its.endpointId rows
   unfolding requestIn tagged column hasTag
   gone-endpoints = refl
 
-  pub unsupported-rows : requestIn seid restoring noted rows .unsupported ≡ (noted || member 1 (column 9 6 rows))
+  pub unsupported-rows : requestIn seid restoring noted rows .unsupported ≡ (noted || member 1 (column ie.updatePdr its.hasPdi rows))
   unfolding requestIn tagged
   unsupported-rows =
       ap (λ (b : Bool). noted || b)
-      (any-keep rowPdi (hasTag 9) rows
-      ∙ any-ext (λ row. hasTag 9 row && rowPdi row) (isNamed 9 6 1) (λ row. ap (λ (b : Bool). hasTag 9 row && b) (eqb-turn (word 6 row) 1)) rows
-      ∙ sym (member-column 9 6 1 rows))
+      (any-keep rowPdi (hasTag ie.updatePdr) rows
+      ∙ any-ext (λ row. hasTag ie.updatePdr row && rowPdi row) (isNamed 9 6 1) (λ row. ap (λ (b : Bool). hasTag ie.updatePdr row && b) (eqb-turn (word its.hasPdi row) 1)) rows
+      ∙ sym (member-column ie.updatePdr its.hasPdi 1 rows))

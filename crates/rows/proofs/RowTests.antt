@@ -9,31 +9,33 @@ use borrow.Author.Tests.{eq-eqb, ne-eqb}
 use Rattle.octets.specs.Octets.{bit}
 use Rattle.rules.specs.Elements.{Fteid}
 use Rattle.plan.specs.Rows.{word, hasTag, rowFteid}
+use Rattle.rules.specs.Types as ie
+use Rattle.plan.specs.Words as its
 use Rattle.rows.specs.RowRules.{hasFteid, ofFteid}
 
 -- ---- tags
 
-pub tag-yes : (row : List ℕ) (t : ℕ) → word 0 row ≡ t → hasTag t row ≡ true
+pub tag-yes : (row : List ℕ) (t : ℕ) → word its.tag row ≡ t → hasTag t row ≡ true
 unfolding hasTag
-tag-yes row t h = eq-eqb (word 0 row) t h
+tag-yes row t h = eq-eqb (word its.tag row) t h
 
-pub tag-no : (row : List ℕ) (t : ℕ) → (word 0 row ≡ t → ⊥) → hasTag t row ≡ false
+pub tag-no : (row : List ℕ) (t : ℕ) → (word its.tag row ≡ t → ⊥) → hasTag t row ≡ false
 unfolding hasTag
-tag-no row t h = ne-eqb (word 0 row) t h
+tag-no row t h = ne-eqb (word its.tag row) t h
 
 -- ---- F-TEIDs
 
-pub fteid-endpoint : (row : List ℕ) → word 0 row ≡ 127 → hasFteid row ≡ true
+pub fteid-endpoint : (row : List ℕ) → word its.tag row ≡ ie.createEndpoint → hasFteid row ≡ true
 unfolding hasFteid
-fteid-endpoint row h = rw (tag-yes row 127 h)
+fteid-endpoint row h = rw (tag-yes row ie.createEndpoint h)
 
-pub fteid-other : (row : List ℕ) → (word 0 row ≡ 127 → ⊥) → (word 0 row ≡ 1 → ⊥) → hasFteid row ≡ false
+pub fteid-other : (row : List ℕ) → (word its.tag row ≡ ie.createEndpoint → ⊥) → (word its.tag row ≡ ie.createPdr → ⊥) → hasFteid row ≡ false
 unfolding hasFteid
-fteid-other row h g = rw (tag-no row 127 h, tag-no row 1 g)
+fteid-other row h g = rw (tag-no row ie.createEndpoint h, tag-no row ie.createPdr g)
 
-pub fteid-pdr : (row : List ℕ) → (word 0 row ≡ 127 → ⊥) → word 0 row ≡ 1 → hasFteid row ≡ not (eqb (word 12 row) 0)
+pub fteid-pdr : (row : List ℕ) → (word its.tag row ≡ ie.createEndpoint → ⊥) → word its.tag row ≡ ie.createPdr → hasFteid row ≡ not (eqb (word its.flags row) 0)
 unfolding hasFteid
-fteid-pdr row h g = rw (tag-no row 127 h, tag-yes row 1 g)
+fteid-pdr row h g = rw (tag-no row ie.createEndpoint h, tag-yes row ie.createPdr g)
 
 pub of-none : (p : Fteid → Bool) (row : List ℕ) → hasFteid row ≡ false → ofFteid p row ≡ false
 unfolding ofFteid

@@ -16,6 +16,7 @@ use Rattle.rules.specs.Model.{Settings, Holding}
 use Rattle.rules.specs.Sound.{inPool, unitFamilies}
 use Rattle.rules.specs.Stages.{wrongAllocation, lacksFamily, strange, otherAddress}
 use Rattle.plan.specs.Rows.{word, rowFteid}
+use Rattle.plan.specs.Words as its
 use Rattle.pool.specs.Map.{marked}
 use Rattle.rows.specs.declared.Unit.{Unit}
 use Rattle.rows.specs.Units.{settingsOf}
@@ -26,7 +27,7 @@ use Rattle.rows.proofs.RowTests.{of-none, of-some}
 use Rattle.lists.proofs.Bools.{both-ways}
 
 -- cause 71
-pub wrong-row : (restoring : Bool) (row : List ℕ) → hasFteid row ≡ true → ofFteid (wrongAllocation restoring) row ≡ sameBool (bit 2 (word 12 row)) restoring
+pub wrong-row : (restoring : Bool) (row : List ℕ) → hasFteid row ≡ true → ofFteid (wrongAllocation restoring) row ≡ sameBool (bit 2 (word its.flags row)) restoring
 unfolding wrongAllocation
 wrong-row restoring row h = of-some (wrongAllocation restoring) row h ∙ ap (λ (b : Bool). sameBool b restoring) (chooses-row row)
 
@@ -39,7 +40,7 @@ has-no-six : (u : Unit) → u .«has_ipv6» ≡ false → isNil (settingsOf u .i
 unfolding settingsOf
 has-no-six u h = rw h
 
-lacks-is : (s : Settings) (row : List ℕ) → lacksFamily s (rowFteid row) ≡ not (not (bit 1 (word 12 row)) || not (isNil (s .ipv6)))
+lacks-is : (s : Settings) (row : List ℕ) → lacksFamily s (rowFteid row) ≡ not (not (bit 1 (word its.flags row)) || not (isNil (s .ipv6)))
 unfolding lacksFamily unitFamilies
 lacks-is s row = rw (v6-row row)
 
@@ -47,9 +48,9 @@ pub lacks-none : (u : Unit) (row : List ℕ) → u .«has_ipv6» ≡ true → of
 unfolding ofFteid
 lacks-none u row h = rw (lacks-is (settingsOf u) row, has-six u h, or-true) (and-false (hasFteid row))
 
-pub lacks-six : (u : Unit) (row : List ℕ) → u .«has_ipv6» ≡ false → hasFteid row ≡ true → ofFteid (lacksFamily (settingsOf u)) row ≡ bit 1 (word 12 row)
+pub lacks-six : (u : Unit) (row : List ℕ) → u .«has_ipv6» ≡ false → hasFteid row ≡ true → ofFteid (lacksFamily (settingsOf u)) row ≡ bit 1 (word its.flags row)
 lacks-six u row h g =
-    of-some (lacksFamily (settingsOf u)) row g ∙ lacks-is (settingsOf u) row ∙ rw (has-no-six u h) (one (bit 1 (word 12 row)))
+    of-some (lacksFamily (settingsOf u)) row g ∙ lacks-is (settingsOf u) row ∙ rw (has-no-six u h) (one (bit 1 (word its.flags row)))
   where
     one : (b : Bool) → not (not b || false) ≡ b
     one true = refl
@@ -71,17 +72,17 @@ pool-above u t h = rw (le-leb (u .first) t h) (both-ways _ _ there back)
     back k = not-T (ltb t (u .first + u .size)) (λ l. omega (arith, ltb→lt t (u .first + u .size) l, leb→le (u .size) (t - u .first) k))
 
 -- addresses
-pub four-none : (u : Unit) (row : List ℕ) → bit 0 (word 12 row) ≡ false → otherAddress (settingsOf u .ipv4) (rowIpv4 row) ≡ false
+pub four-none : (u : Unit) (row : List ℕ) → bit 0 (word its.flags row) ≡ false → otherAddress (settingsOf u .ipv4) (rowIpv4 row) ≡ false
 four-none u row h = other-none (settingsOf u .ipv4) (rowIpv4 row) (unfold rowIpv4 in (rw h))
 
-pub four-some : (u : Unit) (row : List ℕ) → bit 0 (word 12 row) ≡ true → otherAddress (settingsOf u .ipv4) (rowIpv4 row) ≡ not (eqb (word 14 row % 4294967296) (u .ipv4 % 4294967296))
+pub four-some : (u : Unit) (row : List ℕ) → bit 0 (word its.flags row) ≡ true → otherAddress (settingsOf u .ipv4) (rowIpv4 row) ≡ not (eqb (word its.ipv4 row % 4294967296) (u .ipv4 % 4294967296))
 unfolding rowIpv4 settingsOf
-four-some u row h = rw h (other-four (u .ipv4) (word 14 row))
+four-some u row h = rw h (other-four (u .ipv4) (word its.ipv4 row))
 
-pub six-none : (u : Unit) (row : List ℕ) → bit 1 (word 12 row) ≡ false → otherAddress (settingsOf u .ipv6) (rowIpv6 row) ≡ false
+pub six-none : (u : Unit) (row : List ℕ) → bit 1 (word its.flags row) ≡ false → otherAddress (settingsOf u .ipv6) (rowIpv6 row) ≡ false
 six-none u row h = other-none (settingsOf u .ipv6) (rowIpv6 row) (unfold rowIpv6 in (rw h))
 
-pub six-lacking : (u : Unit) (row : List ℕ) → bit 1 (word 12 row) ≡ true → u .«has_ipv6» ≡ false → otherAddress (settingsOf u .ipv6) (rowIpv6 row) ≡ true
+pub six-lacking : (u : Unit) (row : List ℕ) → bit 1 (word its.flags row) ≡ true → u .«has_ipv6» ≡ false → otherAddress (settingsOf u .ipv6) (rowIpv6 row) ≡ true
 unfolding rowIpv6 settingsOf otherAddress be sameOctets
 six-lacking u row h g = rw (h, g)
 
@@ -96,16 +97,16 @@ filled : (x y : ℕ) → isNil (be 8 x ++ be 8 y) ≡ false
 unfolding be
 filled x y = refl
 
-pub six-some : (u : Unit) (row : List ℕ) → bit 1 (word 12 row) ≡ true → u .«has_ipv6» ≡ true
-    → word 15 row < 2 ^ 64 → word 16 row < 2 ^ 64 → u .high < 2 ^ 64 → u .low < 2 ^ 64
-    → otherAddress (settingsOf u .ipv6) (rowIpv6 row) ≡ not (eqb (word 15 row) (u .high) && eqb (word 16 row) (u .low))
+pub six-some : (u : Unit) (row : List ℕ) → bit 1 (word its.flags row) ≡ true → u .«has_ipv6» ≡ true
+    → word its.ipv6High row < 2 ^ 64 → word its.ipv6Low row < 2 ^ 64 → u .high < 2 ^ 64 → u .low < 2 ^ 64
+    → otherAddress (settingsOf u .ipv6) (rowIpv6 row) ≡ not (eqb (word its.ipv6High row) (u .high) && eqb (word its.ipv6Low row) (u .low))
 unfolding rowIpv6 settingsOf otherAddress
 six-some u row h g p q r s =
-    rw (h, g, same-six (word 15 row) (word 16 row) (u .high) (u .low) p q r s, filled (word 15 row) (word 16 row))
+    rw (h, g, same-six (word its.ipv6High row) (word its.ipv6Low row) (u .high) (u .low) p q r s, filled (word its.ipv6High row) (word its.ipv6Low row))
 
 -- restored F-TEIDs
-restored-parts : (row : List ℕ) → isSome (rowHolding row) ≡ true → (hasFteid row ≡ true) × (bit 2 (word 12 row) ≡ false)
-restored-parts row h = one (hasFteid row) (bit 2 (word 12 row)) (sym (restores-row row) ∙ h)
+restored-parts : (row : List ℕ) → isSome (rowHolding row) ≡ true → (hasFteid row ≡ true) × (bit 2 (word its.flags row) ≡ false)
+restored-parts row h = one (hasFteid row) (bit 2 (word its.flags row)) (sym (restores-row row) ∙ h)
   where
     one : (a b : Bool) → (a && not b) ≡ true → (a ≡ true) × (b ≡ false)
     one true true e = (refl, sym e)
@@ -113,20 +114,20 @@ restored-parts row h = one (hasFteid row) (bit 2 (word 12 row)) (sym (restores-r
     one false b e = (e, absurd (false≢true e))
 
 pub strange-some : (s : Settings) (row : List ℕ) → isSome (rowHolding row) ≡ true
-    → ofFteid (strange s) row ≡ ((not (inPool s (word 13 row)) || otherAddress (s .ipv4) (rowIpv4 row)) || otherAddress (s .ipv6) (rowIpv6 row))
+    → ofFteid (strange s) row ≡ ((not (inPool s (word its.teid row)) || otherAddress (s .ipv4) (rowIpv4 row)) || otherAddress (s .ipv6) (rowIpv6 row))
 unfolding strange
 strange-some s row h =
     let k = restored-parts row h in
     of-some (strange s) row (k .0) ∙ ap (strange s) (given-row row (k .1))
 
-strange-chosen : (s : Settings) (row : List ℕ) → bit 2 (word 12 row) ≡ true → strange s (rowFteid row) ≡ false
+strange-chosen : (s : Settings) (row : List ℕ) → bit 2 (word its.flags row) ≡ true → strange s (rowFteid row) ≡ false
 unfolding strange fteidBy
 strange-chosen s row h = rw (row-is row, h)
 
 pub strange-none : (s : Settings) (row : List ℕ) → isSome (rowHolding row) ≡ false → ofFteid (strange s) row ≡ false
-strange-none s row h = one (hasFteid row) (bit 2 (word 12 row)) refl refl (sym (restores-row row) ∙ h)
+strange-none s row h = one (hasFteid row) (bit 2 (word its.flags row)) refl refl (sym (restores-row row) ∙ h)
   where
-    one : (a b : Bool) → hasFteid row ≡ a → bit 2 (word 12 row) ≡ b → (a && not b) ≡ false → ofFteid (strange s) row ≡ false
+    one : (a b : Bool) → hasFteid row ≡ a → bit 2 (word its.flags row) ≡ b → (a && not b) ≡ false → ofFteid (strange s) row ≡ false
     one true true e g k = of-some (strange s) row e ∙ strange-chosen s row g
     one true false e g k = absurd (false≢true (sym k))
     one false b e g k = of-none (strange s) row e
@@ -139,7 +140,7 @@ held-none held row h = one (rowHolding row) h
     one none e = refl
     one (some k) e = absurd (false≢true (sym e))
 
-pub held-some : (held : ℕ → Bool) (row : List ℕ) → isSome (rowHolding row) ≡ true → restores held (rowHolding row) ≡ held (word 13 row)
+pub held-some : (held : ℕ → Bool) (row : List ℕ) → isSome (rowHolding row) ≡ true → restores held (rowHolding row) ≡ held (word its.teid row)
 unfolding restores
 held-some held row h =
     let k = restored-parts row h in

@@ -16,6 +16,7 @@ use Rattle.lists.proofs.RowLaws.{rows-more, rows-none, column-nil, column-cons}
 use Rattle.lists.proofs.Loops.{left-part, width-more}
 use Rattle.lists.proofs.Questions.{member-nil, member-cons}
 use Rattle.plan.specs.Rows.{rowWidth, word, hasTag, tagged, rowsOf}
+use Rattle.plan.specs.Words as its
 
 -- ---- a row for which a test holds
 
@@ -46,7 +47,7 @@ isNamed tag field x row = hasTag tag row && eqb x (word field row)
 pub member-column : (tag field x : ℕ) (rows : List (List ℕ)) → member x (column tag field rows) ≡ any (isNamed tag field x) rows
 unfolding any hasTag
 member-column tag field x [] = rw (column-nil tag field) (member-nil x)
-member-column tag field x (row ∷ rows) = rw (column-cons tag field row rows) (one (eqb (word 0 row) tag) (member-column tag field x rows))
+member-column tag field x (row ∷ rows) = rw (column-cons tag field row rows) (one (eqb (word its.tag row) tag) (member-column tag field x rows))
   where
     one : (b : Bool) → member x (column tag field rows) ≡ any (isNamed tag field x) rows
         → member x (pick b (word field row ∷ column tag field rows) (column tag field rows)) ≡ (b && eqb x (word field row) || any (isNamed tag field x) rows)
@@ -73,19 +74,19 @@ tagged-first tag s left h = rw (rows-more rowWidth left s h) (one (hasTag tag (t
     one true = omega arith
     one false = omega arith
 
-first-word : (s : List ℕ) → word 0 (take rowWidth s) ≡ word 0 s
+first-word : (s : List ℕ) → word its.tag (take rowWidth s) ≡ word its.tag s
 first-word [] = refl
 first-word (x ∷ s) = refl
 
-pub count-hit : (tag : ℕ) (s : List ℕ) (left : ℕ) → 0 < left → word 0 s ≡ tag
+pub count-hit : (tag : ℕ) (s : List ℕ) (left : ℕ) → 0 < left → word its.tag s ≡ tag
     → 1 + length (tagged tag (rowsOf (left - 1) (take (length s - rowWidth) (drop rowWidth s)))) ≡ length (tagged tag (rowsOf left s))
 unfolding hasTag
-count-hit tag s left h e = rw (left-part s rowWidth, tagged-first tag s left h, first-word s, eq-eqb (word 0 s) tag e)
+count-hit tag s left h e = rw (left-part s rowWidth, tagged-first tag s left h, first-word s, eq-eqb (word its.tag s) tag e)
 
-pub count-miss : (tag : ℕ) (s : List ℕ) (left : ℕ) → 0 < left → (word 0 s ≡ tag → ⊥)
+pub count-miss : (tag : ℕ) (s : List ℕ) (left : ℕ) → 0 < left → (word its.tag s ≡ tag → ⊥)
     → length (tagged tag (rowsOf (left - 1) (take (length s - rowWidth) (drop rowWidth s)))) ≡ length (tagged tag (rowsOf left s))
 unfolding hasTag
-count-miss tag s left h e = rw (left-part s rowWidth, tagged-first tag s left h, first-word s, ne-eqb (word 0 s) tag e) (omega arith)
+count-miss tag s left h e = rw (left-part s rowWidth, tagged-first tag s left h, first-word s, ne-eqb (word its.tag s) tag e) (omega arith)
 
 -- ---- lengths
 

@@ -14,6 +14,8 @@ use Rattle.rules.specs.Sound.{inPool, agree}
 use Rattle.rules.specs.Stages.{choicesAgree, alikeFteids, sameChoice, endpointRestored, pdrRestored}
 use Rattle.rules.specs.Grants.{Choice, endpointChoice, pdrChoice}
 use Rattle.plan.specs.Rows.{word, hasTag, rowPdr, rowEndpoint, rowFteid, requestIn}
+use Rattle.rules.specs.Types as ie
+use Rattle.plan.specs.Words as its
 use Rattle.pool.specs.Map.{marked}
 
 -- the request that rows mean, where its SEID and element 129 do not matter
@@ -24,7 +26,7 @@ requestOf restoring rows = requestIn 0 restoring false rows
 
 -- a Create Traffic Endpoint has an F-TEID, a Create PDR if its flags say so
 unfoldable pub hasFteid : List ℕ → Bool
-hasFteid row = hasTag 127 row || (hasTag 1 row && not (eqb (word 12 row) 0))
+hasFteid row = hasTag ie.createEndpoint row || (hasTag ie.createPdr row && not (eqb (word its.flags row) 0))
 
 -- a test of a row's F-TEID
 unfoldable pub ofFteid : (Fteid → Bool) → List ℕ → Bool
@@ -32,18 +34,18 @@ ofFteid p row = hasFteid row && p (rowFteid row)
 
 -- the addresses of a row's F-TEID, where it has them
 unfoldable pub rowIpv4 : List ℕ → List ℕ
-rowIpv4 row = pick (bit 0 (word 12 row)) (be 4 (word 14 row)) []
+rowIpv4 row = pick (bit 0 (word its.flags row)) (be 4 (word its.ipv4 row)) []
 
 unfoldable pub rowIpv6 : List ℕ → List ℕ
-rowIpv6 row = pick (bit 1 (word 12 row)) (be 8 (word 15 row) ++ be 8 (word 16 row)) []
+rowIpv6 row = pick (bit 1 (word its.flags row)) (be 8 (word its.ipv6High row) ++ be 8 (word its.ipv6Low row)) []
 
 -- the hold that a restored F-TEID makes
 unfoldable pub rowHolding : List ℕ → Option Holding
-rowHolding row = pick (hasTag 127 row) (endpointRestored (rowEndpoint row)) (pick (hasTag 1 row) (pdrRestored (rowPdr row)) none)
+rowHolding row = pick (hasTag ie.createEndpoint row) (endpointRestored (rowEndpoint row)) (pick (hasTag ie.createPdr row) (pdrRestored (rowPdr row)) none)
 
 -- the CHOOSE of a row
 unfoldable pub rowChoice : List ℕ → Option Choice
-rowChoice row = pick (hasTag 127 row) (endpointChoice (rowEndpoint row)) (pick (hasTag 1 row) (pdrChoice (rowPdr row)) none)
+rowChoice row = pick (hasTag ie.createEndpoint row) (endpointChoice (rowEndpoint row)) (pick (hasTag ie.createPdr row) (pdrChoice (rowPdr row)) none)
 
 -- ---- cause 73: rules on one F-TEID
 
@@ -63,15 +65,15 @@ unfoldable pub repeats : ℕ → ℕ → List ℕ → List ℕ → Bool
 repeats tag field a b = hasTag tag a && (hasTag tag b && eqb (word field a) (word field b))
 
 unfoldable pub sameId : List ℕ → List ℕ → Bool
-sameId a b = oneOf (repeats 15 7 a b ∷ repeats 130 11 a b ∷ repeats 1 7 a b ∷ repeats 127 11 a b ∷ repeats 9 7 a b ∷ [])
+sameId a b = oneOf (repeats ie.removePdr its.pdrId a b ∷ repeats ie.removeEndpoint its.endpointId a b ∷ repeats ie.createPdr its.pdrId a b ∷ repeats ie.createEndpoint its.endpointId a b ∷ repeats ie.updatePdr its.pdrId a b ∷ [])
 
 -- equal families and source interface
 unfoldable pub alike : List ℕ → List ℕ → Bool
-alike a b = alikeFteids (rowFteid a) (rowFteid b) && eqb (word 10 a) (word 10 b)
+alike a b = alikeFteids (rowFteid a) (rowFteid b) && eqb (word its.source a) (word its.source b)
 
 -- equal CHOOSE IDs with other families or source interface
 unfoldable pub otherChoice : List ℕ → List ℕ → Bool
-otherChoice a b = hasTag 1 a && (hasTag 1 b && not (choicesAgree (rowPdr a) (rowPdr b)))
+otherChoice a b = hasTag ie.createPdr a && (hasTag ie.createPdr b && not (choicesAgree (rowPdr a) (rowPdr b)))
 
 -- two restored F-TEIDs that share a TEID against the table's rule
 unfoldable pub holdsApart : Option Holding → Option Holding → Bool

@@ -1,5 +1,7 @@
 // Questions about a request's plan, which is rows of 18 words: what the causes 71, 76, 73 and 75 ask of the rows alone.
 // A rule on one row or on two rows is a function of its own; a loop asks it of every row.
+use format::types;
+use format::words;
 ghost use mathlib.Core.Path.{_≡_};
 ghost use mathlib.Core.Bool.{false, _&&_};
 ghost use Prim.Native.Nat.{_*_, _≤_, _<_};
@@ -30,7 +32,7 @@ fn is_named(row: &[u64], tag: u64, field: usize, x: u64) -> bool
     requires { ⌜ (length (now row) ≡ rowWidth) × (field < rowWidth) ⌝ }
     ensures { λ r. ⌜ r ≡ (hasTag tag (now (row .entry)) && eqb x (word field (now (row .entry)))) ⌝ }
 {
-    if row[0] != tag {
+    if row[words::TAG] != tag {
         return false;
     }
     x == row[field]
@@ -62,7 +64,7 @@ pub fn count(plan: &[u64], n: usize, tag: u64) -> usize
     let mut left = n;
     let mut found: usize = 0;
     while 0 < left {
-        let here = rest[0];
+        let here = rest[words::TAG];
         rest = &rest[format::ROW..];
         left -= 1;
         if here == tag {
@@ -97,7 +99,7 @@ pub fn unsupported(plan: &[u64], n: usize, noted: bool) -> bool
     if noted {
         return true;
     }
-    named(plan, n, 9, 6, 1)
+    named(plan, n, types::UPDATE_PDR, words::HAS_PDI, 1)
 }
 
 // Cause 73: does a row disagree with one of the rows after it?

@@ -1,5 +1,7 @@
 // Two rows of a plan, a before b: the rules of cause 73 that speak of two elements, and CHOOSE IDs that are equal.
 use crate::tunnel;
+use format::types;
+use format::words;
 ghost use mathlib.Core.Path.{_≡_};
 ghost use lib.ListN.{length};
 ghost use Rattle.octets.specs.Choice.{isSome};
@@ -11,16 +13,16 @@ fn same_id(a: &[u64], b: &[u64]) -> bool
     requires { ⌜ (length (now a) ≡ rowWidth) × (length (now b) ≡ rowWidth) ⌝ }
     ensures { λ r. ⌜ r ≡ sameId (now (a .entry)) (now (b .entry)) ⌝ }
 {
-    let tag = a[0];
-    if tag != b[0] {
+    let tag = a[words::TAG];
+    if tag != b[words::TAG] {
         return false;
     }
     match tag {
-        1 => a[7] == b[7],
-        9 => a[7] == b[7],
-        15 => a[7] == b[7],
-        127 => a[11] == b[11],
-        130 => a[11] == b[11],
+        types::CREATE_PDR => a[words::PDR_ID] == b[words::PDR_ID],
+        types::UPDATE_PDR => a[words::PDR_ID] == b[words::PDR_ID],
+        types::REMOVE_PDR => a[words::PDR_ID] == b[words::PDR_ID],
+        types::CREATE_ENDPOINT => a[words::ENDPOINT_ID] == b[words::ENDPOINT_ID],
+        types::REMOVE_ENDPOINT => a[words::ENDPOINT_ID] == b[words::ENDPOINT_ID],
         _ => false,
     }
 }
@@ -36,7 +38,7 @@ pub fn shares_choice(a: &[u64], b: &[u64]) -> bool
     if !with_id(b) {
         return false;
     }
-    a[17] == b[17]
+    a[words::CHOOSE_ID] == b[words::CHOOSE_ID]
 }
 
 // A CHOOSE with a CHOOSE ID.
@@ -47,7 +49,7 @@ fn with_id(row: &[u64]) -> bool
     if !tunnel::chooses(row) {
         return false;
     }
-    row[12] / 8 % 2 == 1
+    row[words::FLAGS] / 8 % 2 == 1
 }
 
 // Equal families and source interface.
@@ -55,10 +57,10 @@ fn alike(a: &[u64], b: &[u64]) -> bool
     requires { ⌜ (length (now a) ≡ rowWidth) × (length (now b) ≡ rowWidth) ⌝ }
     ensures { λ r. ⌜ r ≡ alike (now (a .entry)) (now (b .entry)) ⌝ }
 {
-    if a[12] % 4 != b[12] % 4 {
+    if a[words::FLAGS] % 4 != b[words::FLAGS] % 4 {
         return false;
     }
-    a[10] == b[10]
+    a[words::SOURCE] == b[words::SOURCE]
 }
 
 // Equal CHOOSE IDs with other families or source interface.
@@ -66,10 +68,10 @@ fn other_choice(a: &[u64], b: &[u64]) -> bool
     requires { ⌜ (length (now a) ≡ rowWidth) × (length (now b) ≡ rowWidth) ⌝ }
     ensures { λ r. ⌜ r ≡ otherChoice (now (a .entry)) (now (b .entry)) ⌝ }
 {
-    if a[0] != 1 {
+    if a[words::TAG] != types::CREATE_PDR {
         return false;
     }
-    if b[0] != 1 {
+    if b[words::TAG] != types::CREATE_PDR {
         return false;
     }
     if !shares_choice(a, b) {
@@ -83,7 +85,7 @@ fn other_hold(a: &[u64], b: &[u64]) -> bool
     requires { ⌜ (length (now a) ≡ rowWidth) × (length (now b) ≡ rowWidth) ⌝ }
     ensures { λ r. ⌜ r ≡ otherHold (now (a .entry)) (now (b .entry)) ⌝ }
 {
-    if a[13] != b[13] {
+    if a[words::TEID] != b[words::TEID] {
         return false;
     }
     if !tunnel::restored(a) {
@@ -92,10 +94,10 @@ fn other_hold(a: &[u64], b: &[u64]) -> bool
     if !tunnel::restored(b) {
         return false;
     }
-    if a[0] == 127 {
+    if a[words::TAG] == types::CREATE_ENDPOINT {
         return true;
     }
-    if b[0] == 127 {
+    if b[words::TAG] == types::CREATE_ENDPOINT {
         return true;
     }
     !alike(a, b)

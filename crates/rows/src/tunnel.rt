@@ -1,5 +1,7 @@
 // The F-TEID of one row: flags at word 12 (V4 1, V6 2, CH 4, CHID 8), then TEID, IPv4 address, IPv6 address in two words, CHOOSE ID.
 use crate::Unit;
+use format::types;
+use format::words;
 ghost use mathlib.Core.Path.{_≡_};
 ghost use mathlib.Core.Bool.{not};
 ghost use Prim.Native.Nat.{_*_, _≤_};
@@ -16,13 +18,13 @@ pub fn has_fteid(row: &[u64]) -> bool
     requires { ⌜ length (now row) ≡ rowWidth ⌝ }
     ensures { λ r. ⌜ r ≡ hasFteid (now (row .entry)) ⌝ }
 {
-    if row[0] == 127 {
+    if row[words::TAG] == types::CREATE_ENDPOINT {
         return true;
     }
-    if row[0] != 1 {
+    if row[words::TAG] != types::CREATE_PDR {
         return false;
     }
-    row[12] != 0
+    row[words::FLAGS] != 0
 }
 
 // Is it a CHOOSE?
@@ -33,7 +35,7 @@ pub fn chooses(row: &[u64]) -> bool
     if !has_fteid(row) {
         return false;
     }
-    row[12] / 4 % 2 == 1
+    row[words::FLAGS] / 4 % 2 == 1
 }
 
 // Is it one with a TEID, as a restoration carries it?
@@ -44,7 +46,7 @@ pub fn restored(row: &[u64]) -> bool
     if !has_fteid(row) {
         return false;
     }
-    row[12] / 4 % 2 != 1
+    row[words::FLAGS] / 4 % 2 != 1
 }
 
 // Cause 71: without CH outside restoration, or with CH inside it.
@@ -55,7 +57,7 @@ pub fn wrong_allocation(row: &[u64], restoring: bool) -> bool
     if !has_fteid(row) {
         return false;
     }
-    if row[12] / 4 % 2 == 1 {
+    if row[words::FLAGS] / 4 % 2 == 1 {
         return restoring;
     }
     !restoring
@@ -72,7 +74,7 @@ pub fn lacks_family(row: &[u64], u: Unit) -> bool
     if !has_fteid(row) {
         return false;
     }
-    row[12] / 2 % 2 == 1
+    row[words::FLAGS] / 2 % 2 == 1
 }
 
 // Does a TEID lie outside the pool?
@@ -90,10 +92,10 @@ fn other_ipv4(row: &[u64], u: Unit) -> bool
     requires { ⌜ length (now row) ≡ rowWidth ⌝ }
     ensures { λ r. ⌜ r ≡ otherAddress (settingsOf u .ipv4) (rowIpv4 (now (row .entry))) ⌝ }
 {
-    if row[12] % 2 != 1 {
+    if row[words::FLAGS] % 2 != 1 {
         return false;
     }
-    row[14] % 4294967296 != u.ipv4 % 4294967296
+    row[words::IPV4] % 4294967296 != u.ipv4 % 4294967296
 }
 
 // The same for IPv6, of which the unit may have none.
@@ -101,16 +103,16 @@ fn other_ipv6(row: &[u64], u: Unit) -> bool
     requires { ⌜ length (now row) ≡ rowWidth ⌝ }
     ensures { λ r. ⌜ r ≡ otherAddress (settingsOf u .ipv6) (rowIpv6 (now (row .entry))) ⌝ }
 {
-    if row[12] / 2 % 2 != 1 {
+    if row[words::FLAGS] / 2 % 2 != 1 {
         return false;
     }
     if !u.has_ipv6 {
         return true;
     }
-    if row[15] != u.high {
+    if row[words::IPV6_HIGH] != u.high {
         return true;
     }
-    row[16] != u.low
+    row[words::IPV6_LOW] != u.low
 }
 
 // Cause 73: a restored F-TEID outside the pool, or with another address.
@@ -121,7 +123,7 @@ pub fn strange(row: &[u64], u: Unit) -> bool
     if !restored(row) {
         return false;
     }
-    if outside(row[13], u) {
+    if outside(row[words::TEID], u) {
         return true;
     }
     if other_ipv4(row, u) {
@@ -138,7 +140,7 @@ pub fn is_held(row: &[u64], u: Unit, taken: &[u64]) -> bool
     if !restored(row) {
         return false;
     }
-    let teid = row[13];
+    let teid = row[words::TEID];
     if outside(teid, u) {
         return false;
     }

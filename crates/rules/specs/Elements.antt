@@ -12,6 +12,7 @@ use Rattle.octets.specs.Octets.{be, number, part, numberAt, octetAt, bit, zeros
 use Rattle.octets.specs.Lists.{all}
 use Rattle.rules.specs.Model.{Settings, Tunnel}
 use Rattle.rules.specs.Limits.{nodeTypes, maxCsids, maxOperator}
+use Rattle.rules.specs.Causes as why
 
 -- why an element is refused: a required one is missing (conditional: an endpoint's F-TEID), short, or bad
 pub data Refusal : Type 0 where
@@ -19,10 +20,10 @@ pub data Refusal : Type 0 where
 
 -- 01's causes
 unfoldable pub causeOf : Refusal → ℕ
-causeOf missing = 66
-causeOf conditional = 67
-causeOf tooShort = 68
-causeOf incorrect = 69
+causeOf missing = why.mandatoryMissing
+causeOf conditional = why.conditionalMissing
+causeOf tooShort = why.wrongLength
+causeOf incorrect = why.incorrect
 
 -- what a reader answers: a value, or why it refuses
 pub data Answer (A : Type 0) : Type 0 where

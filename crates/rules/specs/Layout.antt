@@ -118,32 +118,51 @@ unfoldable pub csidFrom : List ℕ → Csid
 csidFrom vs =
     record { nodeType = getD vs 0 0; idType = getD vs 1 0; address = addressRead (getD vs 1 0) (getD vs 2 0) (getD vs 3 0); csid = getD vs 4 0 }
 
--- ---- widths
+-- ---- widths and places
 
-unfoldable pub headWidth : ℕ
-headWidth = 31
+-- the settings: IPv4 address, whether there is an IPv6 address, that address, first TEID, pool size
+abbrev pub settingsWidths : List ℕ
+settingsWidths = 4 ∷ 1 ∷ 16 ∷ 4 ∷ 4 ∷ []
 
-unfoldable pub pdrWidth : ℕ
-unfolding widthOf
+abbrev pub settingsWidth : ℕ
+settingsWidth = widthOf settingsWidths
+
+-- the settings, and the number of sessions after them
+abbrev pub headWidth : ℕ
+headWidth = settingsWidth + 2
+
+abbrev pub pdrWidth : ℕ
 pdrWidth = widthOf pdrWidths
 
-unfoldable pub endpointWidth : ℕ
-unfolding widthOf
+abbrev pub endpointWidth : ℕ
 endpointWidth = widthOf endpointWidths
 
-unfoldable pub csidWidth : ℕ
-unfolding widthOf
+abbrev pub csidWidth : ℕ
 csidWidth = widthOf csidSlotWidths
 
--- the counts and the SEID before a session's records
-unfoldable pub sessionHead : ℕ
-sessionHead = 11
+-- in a session's slot: the numbers of its records after the SEID, and the areas of its records
+abbrev pub pdrCountAt : ℕ
+pdrCountAt = 8
 
-unfoldable pub sessionWidth : ℕ
-unfolding sessionHead pdrWidth endpointWidth csidWidth
-sessionWidth = sessionHead + maxPdrs * pdrWidth + maxEndpoints * endpointWidth + nodeTypes * csidWidth
+abbrev pub endpointCountAt : ℕ
+endpointCountAt = pdrCountAt + 1
 
-unfoldable pub tableLength : ℕ → ℕ
+abbrev pub csidCountAt : ℕ
+csidCountAt = endpointCountAt + 1
+
+abbrev pub pdrsAt : ℕ
+pdrsAt = csidCountAt + 1
+
+abbrev pub endpointsAt : ℕ
+endpointsAt = pdrsAt + maxPdrs * pdrWidth
+
+abbrev pub csidsAt : ℕ
+csidsAt = endpointsAt + maxEndpoints * endpointWidth
+
+abbrev pub sessionWidth : ℕ
+sessionWidth = csidsAt + nodeTypes * csidWidth
+
+abbrev pub tableLength : ℕ → ℕ
 tableLength limit = headWidth + limit * sessionWidth
 
 -- ---- writing
@@ -193,9 +212,9 @@ unfoldable pub viewSession : List ℕ → Session
 viewSession xs =
     record {
       seid = numberAt 0 8 xs;
-      pdrs = viewArea viewPdr pdrWidth (octetAt xs 8) sessionHead xs;
-      endpoints = viewArea viewEndpoint endpointWidth (octetAt xs 9) (sessionHead + maxPdrs * pdrWidth) xs;
-      csids = viewArea viewCsid csidWidth (octetAt xs 10) (sessionHead + maxPdrs * pdrWidth + maxEndpoints * endpointWidth) xs;
+      pdrs = viewArea viewPdr pdrWidth (octetAt xs pdrCountAt) pdrsAt xs;
+      endpoints = viewArea viewEndpoint endpointWidth (octetAt xs endpointCountAt) endpointsAt xs;
+      csids = viewArea viewCsid csidWidth (octetAt xs csidCountAt) csidsAt xs;
     }
 
 unfoldable pub viewSettings : List ℕ → Settings
@@ -203,8 +222,8 @@ viewSettings xs =
     record { ipv4 = part 0 4 xs; ipv6 = pick (eqb (octetAt xs 4) 0) [] (part 5 16 xs); first = numberAt 21 4 xs; size = numberAt 25 4 xs }
 
 unfoldable pub viewSessions : List ℕ → Sessions
-viewSessions xs = viewArea viewSession sessionWidth (numberAt 29 2 xs) headWidth xs
+viewSessions xs = viewArea viewSession sessionWidth (numberAt settingsWidth 2 xs) headWidth xs
 
 unfoldable pub computing : ℕ
-unfolding widthOf fieldsAt fieldOctets optionRead families tunnelRead matchKind matchTeid matchFamilies matchEndpoint placeRead pdrNumbers pdrFrom endpointNumbers endpointFrom csidSlotNumbers addressRead csidFrom headWidth pdrWidth endpointWidth csidWidth sessionHead sessionWidth tableLength area pdrOctets endpointOctets csidOctets sessionOctets settingsOctets encode viewPdr viewEndpoint viewCsid viewArea viewSession viewSettings viewSessions
+unfolding fieldsAt fieldOctets optionRead families tunnelRead matchKind matchTeid matchFamilies matchEndpoint placeRead pdrNumbers pdrFrom endpointNumbers endpointFrom csidSlotNumbers addressRead csidFrom area pdrOctets endpointOctets csidOctets sessionOctets settingsOctets encode viewPdr viewEndpoint viewCsid viewArea viewSession viewSettings viewSessions
 computing = 0

@@ -1,6 +1,7 @@
 -- Document 01 as definitions. To be read in this order.
 pub mod Limits
 pub mod Types
+pub mod Causes
 pub mod Model
 pub mod Elements
 pub mod Layout

@@ -13,6 +13,7 @@ use Rattle.rules.specs.Message.{Element, elements, body, hasType, conten
 use Rattle.rules.specs.Reading.{readRequest}
 use Rattle.rules.specs.Grants.{Kind, ofPdr, ofEndpoint}
 use Rattle.rules.specs.Apply.{follow}
+use Rattle.rules.specs.Types as ie
 
 -- what the host sees of a call: a request with its message, the outcome and the reply space at exit; or a free count
 pub data Event : Type 0 where
@@ -29,23 +30,23 @@ unfoldable pub replyElements : List ℕ → List Element
 replyElements space = elements (body (replyIn space))
 
 unfoldable pub replyCause : List ℕ → ℕ
-replyCause space = octetAt (valueOr [] (contentOf 19 (replyElements space))) 0
+replyCause space = octetAt (valueOr [] (contentOf ie.cause (replyElements space))) 0
 
 -- the Created group of a kind, and the element that holds its ID
 unfoldable pub createdType : Kind → ℕ
 createdType ofPdr = 8
-createdType ofEndpoint = 128
+createdType ofEndpoint = ie.createdEndpoint
 
 unfoldable pub idType : Kind → ℕ
-idType ofPdr = 56
-idType ofEndpoint = 131
+idType ofPdr = ie.pdrId
+idType ofEndpoint = ie.endpointId
 
 unfoldable pub isCreated : Kind → ℕ → Element → Bool
 isCreated k i e = hasType (createdType k) e && eqb (fieldOr0 (idType k) (elements (e .content))) i
 
 -- the TEID of the F-TEID in a Created group
 unfoldable pub teidIn : List Element → ℕ
-teidIn es = numberAt 1 4 (valueOr [] (contentOf 21 es))
+teidIn es = numberAt 1 4 (valueOr [] (contentOf ie.fteid es))
 
 -- the TEID in the reply's Created group of a kind and ID
 unfoldable pub createdTeid : List ℕ → Kind → ℕ → ℕ

@@ -136,16 +136,16 @@ unfoldable pub contentOf : ℕ → List Element → Option (List ℕ)
 contentOf t es = mapOption contentIn (findBy (hasType t) es)
 
 -- PDR ID 2 octets, Precedence 4, FAR ID 4, Source Interface 1, Endpoint ID 1
-unfoldable pub widthOf : ℕ → ℕ
-widthOf t = pick (eqb t ie.pdrId) 2 (pick (eqb t ie.precedence || eqb t ie.farId) 4 1)
+unfoldable pub numberWidth : ℕ → ℕ
+numberWidth t = pick (eqb t ie.pdrId) 2 (pick (eqb t ie.precedence || eqb t ie.farId) 4 1)
 
 -- the number that the first element of a type holds
 unfoldable pub field : ℕ → List Element → Option ℕ
-field t es = mapOption (λ xs. numberAt 0 (widthOf t) xs) (contentOf t es)
+field t es = mapOption (λ xs. numberAt 0 (numberWidth t) xs) (contentOf t es)
 
 unfoldable pub fieldOr0 : ℕ → List Element → ℕ
 fieldOr0 t es = valueOr 0 (field t es)
 
 unfoldable pub computing : ℕ
-unfolding served firstOctetAllowed headerAllowed kindOf headerSeid sequenceOf body elementType elementLength elementsUpTo elements openedAtTop opened actedOn placesOf innerFault frameUpTo frame frameFault hasType contentOf widthOf field fieldOr0
+unfolding served firstOctetAllowed headerAllowed kindOf headerSeid sequenceOf body elementType elementLength elementsUpTo elements openedAtTop opened actedOn placesOf innerFault frameUpTo frame frameFault hasType contentOf numberWidth field fieldOr0
 computing = 0

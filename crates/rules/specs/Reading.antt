@@ -12,7 +12,7 @@ use Rattle.octets.specs.Octets.{numberAt, octetAt, bit}
 use Rattle.octets.specs.Lists.{member, any, keep, collect}
 use Rattle.rules.specs.Types as ie
 use Rattle.rules.specs.Elements.{Refusal, missing, conditional, tooShort, incorrect, Answer, refuse, value, Fteid, Fqcsid, sets, removal, readFteid, readFqcsid, readFseid, nodeOf}
-use Rattle.rules.specs.Message.{establishment, modification, deletion, kindOf, body, Element, elements, actedOn, placesOf, hasType, widthOf}
+use Rattle.rules.specs.Message.{establishment, modification, deletion, kindOf, body, Element, elements, actedOn, placesOf, hasType, numberWidth}
 
 -- ---- what a message asks for
 
@@ -145,7 +145,7 @@ holds t m =
 
 -- the number of a member with so many octets
 unfoldable pub numberRead : ℕ → List ℕ → Reading ℕ
-numberRead t v = pick (ltb (length v) (widthOf t)) (refusal tooShort t) (done (numberAt 0 (widthOf t) v))
+numberRead t v = pick (ltb (length v) (numberWidth t)) (refusal tooShort t) (done (numberAt 0 (numberWidth t) v))
 
 -- a FAR ID of null length takes the FAR ID away, in an Update PDR
 unfoldable pub farRead : ℕ → List ℕ → Reading (Option ℕ)

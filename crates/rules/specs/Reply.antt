@@ -12,6 +12,8 @@ use Rattle.rules.specs.Elements.{fteidOctets, unitFteid, fseidOctets}
 use Rattle.rules.specs.Message.{establishment, kindOf, headerSeid, sequenceOf}
 use Rattle.rules.specs.Grants.{Grant, ofPdr, ofEndpoint, grantsOf}
 use Rattle.rules.specs.Stages.{Verdict}
+use Rattle.rules.specs.Types as ie
+use Rattle.rules.specs.Causes as why
 
 -- type, length and value
 unfoldable pub element : ℕ → List ℕ → List ℕ
@@ -23,34 +25,34 @@ message kind seid sequence xs = 33 ∷ kind ∷ be 2 (12 + length xs) ++ (be 8 s
 
 -- an F-TEID element with the unit's addresses
 unfoldable pub unitElement : Settings → Tunnel → List ℕ
-unitElement s t = element 21 (fteidOctets (unitFteid s t))
+unitElement s t = element ie.fteid (fteidOctets (unitFteid s t))
 
 unfoldable pub createdPdrContent : Settings → Grant → List ℕ
-createdPdrContent s g = element 56 (be 2 (g .id)) ++ unitElement s (g .local)
+createdPdrContent s g = element ie.pdrId (be 2 (g .id)) ++ unitElement s (g .local)
 
 unfoldable pub createdPdr : Settings → Grant → List ℕ
-createdPdr s g = element 8 (createdPdrContent s g)
+createdPdr s g = element ie.createdPdr (createdPdrContent s g)
 
 unfoldable pub createdEndpointContent : Settings → Grant → List ℕ
-createdEndpointContent s g = element 131 (g .id ∷ []) ++ unitElement s (g .local)
+createdEndpointContent s g = element ie.endpointId (g .id ∷ []) ++ unitElement s (g .local)
 
 unfoldable pub createdEndpoint : Settings → Grant → List ℕ
-createdEndpoint s g = element 128 (createdEndpointContent s g)
+createdEndpoint s g = element ie.createdEndpoint (createdEndpointContent s g)
 
 unfoldable pub created : Settings → List Grant → List ℕ
 created s gs = concatMap (createdPdr s) (grantsOf ofPdr gs) ++ concatMap (createdEndpoint s) (grantsOf ofEndpoint gs)
 
 unfoldable pub offendingElement : Option ℕ → List ℕ
 offendingElement none = []
-offendingElement (some t) = element 40 (be 2 t)
+offendingElement (some t) = element ie.offendingIe (be 2 t)
 
 -- Node ID, in an establishment's reply only
 unfoldable pub nodeIdElement : ℕ → Settings → List ℕ
-nodeIdElement kind s = pick (eqb kind establishment) (element 60 (0 ∷ s .ipv4)) []
+nodeIdElement kind s = pick (eqb kind establishment) (element ie.nodeId (0 ∷ s .ipv4)) []
 
 -- the unit's F-SEID, in an accepted establishment's reply only: its SEID equals the peer's
 unfoldable pub unitFseid : ℕ → Settings → ℕ → List ℕ
-unitFseid kind s seid = pick (eqb kind establishment) (element 57 (fseidOctets seid (s .ipv4) [])) []
+unitFseid kind s seid = pick (eqb kind establishment) (element ie.fseid (fseidOctets seid (s .ipv4) [])) []
 
 unfoldable pub acceptedPart : ℕ → Settings → ℕ → List Grant → List ℕ
 acceptedPart kind s seid gs = unitFseid kind s seid ++ created s gs
@@ -58,11 +60,11 @@ acceptedPart kind s seid gs = unitFseid kind s seid ++ created s gs
 unfoldable pub replyBody : ℕ → Settings → ℕ → Verdict → List Grant → List ℕ
 replyBody kind s seid v gs =
     nodeIdElement kind s
-    ++ (element 19 (v .cause ∷ []) ++ (offendingElement (v .offending) ++ pick (eqb (v .cause) 1) (acceptedPart kind s seid gs) []))
+    ++ (element ie.cause (v .cause ∷ []) ++ (offendingElement (v .offending) ++ pick (eqb (v .cause) why.accepted) (acceptedPart kind s seid gs) []))
 
 -- the session's SEID, but 0 for cause 65 and refused establishments
 unfoldable pub replySeid : ℕ → ℕ → ℕ → ℕ → ℕ
-replySeid kind cause header seid = pick (eqb kind establishment) (pick (eqb cause 1) seid 0) (pick (eqb cause 65) 0 header)
+replySeid kind cause header seid = pick (eqb kind establishment) (pick (eqb cause why.accepted) seid 0) (pick (eqb cause why.noSession) 0 header)
 
 -- seid is the F-SEID's, gs are the grants of an accepted request
 unfoldable pub reply : Settings → List ℕ → ℕ → Verdict → List Grant → List ℕ

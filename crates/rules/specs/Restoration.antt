@@ -13,37 +13,38 @@ use Rattle.rules.specs.Elements.{Fqcsid, unitFteid, fqcsidOctets, sets, 
 use Rattle.rules.specs.Message.{establishment}
 use Rattle.rules.specs.Reading.{NewPdr, NewEndpoint, changed, Request}
 use Rattle.rules.specs.Reply.{element, message, unitElement}
+use Rattle.rules.specs.Types as ie
 
 unfoldable pub placeElement : Settings → Place → List ℕ
 placeElement s neither = []
 placeElement s (tunnel t) = unitElement s t
-placeElement s (endpoint e) = element 131 (e ∷ [])
+placeElement s (endpoint e) = element ie.endpointId (e ∷ [])
 
 unfoldable pub farElement : Option ℕ → List ℕ
 farElement none = []
-farElement (some n) = element 108 (be 4 n)
+farElement (some n) = element ie.farId (be 4 n)
 
 unfoldable pub pdiContent : Settings → Pdr → List ℕ
-pdiContent s p = element 20 (p .source ∷ []) ++ placeElement s (p .place)
+pdiContent s p = element ie.sourceInterface (p .source ∷ []) ++ placeElement s (p .place)
 
 unfoldable pub pdrContent : Settings → Pdr → List ℕ
-pdrContent s p = element 56 (be 2 (p .id)) ++ (element 29 (be 4 (p .precedence)) ++ (element 2 (pdiContent s p) ++ farElement (p .far)))
+pdrContent s p = element ie.pdrId (be 2 (p .id)) ++ (element ie.precedence (be 4 (p .precedence)) ++ (element ie.pdi (pdiContent s p) ++ farElement (p .far)))
 
 unfoldable pub pdrElement : Settings → Pdr → List ℕ
-pdrElement s p = element 1 (pdrContent s p)
+pdrElement s p = element ie.createPdr (pdrContent s p)
 
 unfoldable pub endpointContent : Settings → Endpoint → List ℕ
-endpointContent s e = element 131 (e .id ∷ []) ++ unitElement s (e .local)
+endpointContent s e = element ie.endpointId (e .id ∷ []) ++ unitElement s (e .local)
 
 unfoldable pub endpointElement : Settings → Endpoint → List ℕ
-endpointElement s e = element 127 (endpointContent s e)
+endpointElement s e = element ie.createEndpoint (endpointContent s e)
 
 -- the FQ-CSID of a record
 unfoldable pub recordCsid : Csid → Fqcsid
 recordCsid c = sets (c .idType) (c .address) (c .csid ∷ []) (c .nodeType)
 
 unfoldable pub csidElement : Csid → List ℕ
-csidElement c = element 65 (fqcsidOctets (recordCsid c))
+csidElement c = element ie.fqcsid (fqcsidOctets (recordCsid c))
 
 -- the records as the request has them
 unfoldable pub restoredPdr : Settings → Pdr → NewPdr
@@ -95,7 +96,7 @@ recordElements s x = concatMap (pdrElement s) (x .pdrs) ++ (concatMap (endpointE
 unfoldable pub restoration : Settings → Peer → Session → List ℕ
 restoration s p x =
     message establishment (p .header) (be 3 (p .sequence))
-    (element 57 (fseidOctets (x .seid) (p .ipv4) (p .ipv6)) ++ (element 186 (1 ∷ []) ++ recordElements s x))
+    (element ie.fseid (fseidOctets (x .seid) (p .ipv4) (p .ipv6)) ++ (element ie.sessionFlags (1 ∷ []) ++ recordElements s x))
 
 unfoldable pub computing : ℕ
 unfolding placeElement farElement pdiContent pdrContent pdrElement endpointContent endpointElement recordCsid csidElement restoredPdr restoredEndpoint restoredRequest peerTests peerAllowed recordElements restoration

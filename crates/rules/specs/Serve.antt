@@ -17,6 +17,7 @@ use Rattle.rules.specs.Stages.{Verdict, verdict}
 use Rattle.rules.specs.Apply.{follow}
 use Rattle.rules.specs.Reply.{reply}
 use Rattle.rules.specs.Limits.{maxMessage, minSpace}
+use Rattle.rules.specs.Causes as why
 
 -- outcome, reply space and table at exit
 pub record Served : Type 0 where
@@ -37,7 +38,7 @@ replyTo s m msg v = reply s msg (readRequest msg .seid) v (grants s m (readReque
 -- outcome 0: a reply, and on cause 1 a changed table
 unfoldable pub answered : ℕ → Settings → Sessions → List ℕ → List ℕ → List ℕ → Verdict → Served
 answered limit s m msg space t v =
-    record { outcome = 0; space = put 0 (replyTo s m msg v) space; table = pick (eqb (v .cause) 1) (encode limit s (sessionsAfter s m msg)) t }
+    record { outcome = 0; space = put 0 (replyTo s m msg v) space; table = pick (eqb (v .cause) why.accepted) (encode limit s (sessionsAfter s m msg)) t }
 
 unfoldable pub answer : ℕ → Settings → Sessions → List ℕ → List ℕ → List ℕ → Served
 answer limit s m msg space t = answered limit s m msg space t (verdict limit s m msg)

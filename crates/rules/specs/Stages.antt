@@ -16,6 +16,7 @@ use Rattle.rules.specs.Sound.{inPool, unitFamilies, agree}
 use Rattle.rules.specs.Message.{establishment, kindOf, headerSeid, frameFault}
 use Rattle.rules.specs.Reading.{readFault, readRequest, Fault, NewPdr, NewEndpoint, Change, Request}
 use Rattle.rules.specs.Grants.{need}
+use Rattle.rules.specs.Causes as why
 
 -- ---- the session at entry
 
@@ -223,11 +224,11 @@ plain c = record { cause = c; offending = none }
 -- stages 4 to 6, of a request without a fault
 unfoldable pub judge : ℕ → ℕ → Settings → Sessions → Session → Request → Verdict
 judge limit kind s m x r =
-    pick (eqb kind establishment && isLive (r .seid) m) (plain 64)
-    (pick (invalidAllocation r) (plain 71)
-    (pick (r .unsupported) (plain 76)
-    (pick (breaksRule s m x r) (plain 73)
-    (pick (noRoom limit kind s m x r) (plain 75) (plain 1)))))
+    pick (eqb kind establishment && isLive (r .seid) m) (plain why.rejected)
+    (pick (invalidAllocation r) (plain why.wrongAllocation)
+    (pick (r .unsupported) (plain why.notSupported)
+    (pick (breaksRule s m x r) (plain why.brokenRule)
+    (pick (noRoom limit kind s m x r) (plain why.noRoom) (plain why.accepted)))))
 
 -- the session at entry, in a request without a fault
 unfoldable pub entrySession : Sessions → List ℕ → Session
@@ -244,14 +245,14 @@ fromReading limit s m msg (some f) = record { cause = causeOf (f .cause); offend
 -- stage 2, then 3 to 6
 unfoldable pub fromFraming : ℕ → Settings → Sessions → List ℕ → Option ℕ → Verdict
 fromFraming limit s m msg none = fromReading limit s m msg (readFault msg)
-fromFraming limit s m msg (some t) = record { cause = 68; offending = some t }
+fromFraming limit s m msg (some t) = record { cause = why.wrongLength; offending = some t }
 
 -- stage 1: no such session
 unfoldable pub unknownSession : Sessions → List ℕ → Bool
 unknownSession m msg = not (eqb (kindOf msg) establishment) && not (isLive (headerSeid msg) m)
 
 unfoldable pub verdict : ℕ → Settings → Sessions → List ℕ → Verdict
-verdict limit s m msg = pick (unknownSession m msg) (plain 65) (fromFraming limit s m msg (frameFault msg))
+verdict limit s m msg = pick (unknownSession m msg) (plain why.noSession) (fromFraming limit s m msg (frameFault msg))
 
 unfoldable pub computing : ℕ
 unfolding hasSeid sessionOf isLive newSession atEntry createdPdrs createdEndpoints updatedPdrs livePdrs liveEndpoints fteidsOf wrongAllocation invalidAllocation idTwice createdLive absentId updatesRemoved namesBoth endpointIdsAfter namesAbsent staysPdr endpointInUse sameChoice alikeFteids fteidsMayShare localsMayShare choicesAgree lacksFamily otherAddress strange restoredHolding endpointRestored pdrRestored restoredHoldings clash requestRules brokenRules breaksRule tooManySessions tooManyPdrs tooManyEndpoints tooFewTeids noRoom judge entrySession judged fromReading fromFraming unknownSession verdict

@@ -52,3 +52,19 @@ fqcsid = 65
 
 abbrev pub sessionFlags : ℕ
 sessionFlags = 186
+
+-- in replies only
+abbrev pub nodeId : ℕ
+nodeId = 60
+
+abbrev pub cause : ℕ
+cause = 19
+
+abbrev pub offendingIe : ℕ
+offendingIe = 40
+
+abbrev pub createdPdr : ℕ
+createdPdr = 8
+
+abbrev pub createdEndpoint : ℕ
+createdEndpoint = 128

@@ -17,6 +17,8 @@ use Rattle.rules.specs.Reading.{cleared, changed}
 use Rattle.rules.specs.Grants.{Kind}
 use Rattle.rules.specs.Apply.{createPdr, createEndpoint, updateAll, otherNode, setCsid, setCsids, followCsids, keptPdr, keptEndpoint, pdrsAfter, endpointsAfter, apply}
 use Rattle.plan.specs.Rows.{word, hasTag, tagged, rowPdrId, rowEndpointId, rowPdr, rowEndpoint, rowChange, rowAddress, rowCsid, isNullRow, requestIn}
+use Rattle.rules.specs.Types as ie
+use Rattle.plan.specs.Words as its
 use Rattle.slots.proofs.Places.{otherThan}
 use Rattle.session.specs.Build.{passed, built}
 use Rattle.session.proofs.RowRecords.{pdrOf, endpointOf, csidOf}
@@ -45,11 +47,11 @@ byValue (some v) null cs = setCsid v cs
 
 step-by : (row : List ℕ) (cs : List Csid) → csidStep row cs ≡ byValue (rowCsid row) (isNullRow row) cs
 unfolding rowCsid csidStep isNullRow
-step-by row cs = go (eqb (word 1 row) 1) (eqb (word 1 row) 2)
+step-by row cs = go (eqb (word its.verb row) 1) (eqb (word its.verb row) 2)
   where
     go : (a b : Bool)
-        → pick a (insertBy nodeTypeOf (csidOf row) (keep (otherThan nodeTypeOf (word 7 row)) cs)) (pick b (keep (otherThan nodeTypeOf (word 7 row)) cs) (pick (eqb (word 1 row) 3) [] cs))
-        ≡ byValue (pick a (some (sets (word 8 row) (rowAddress row) (word 11 row ∷ []) (word 7 row))) (pick b (some (removal (word 7 row))) none)) (eqb (word 1 row) 3) cs
+        → pick a (insertBy nodeTypeOf (csidOf row) (keep (otherThan nodeTypeOf (word its.nodeType row)) cs)) (pick b (keep (otherThan nodeTypeOf (word its.nodeType row)) cs) (pick (eqb (word its.verb row) 3) [] cs))
+        ≡ byValue (pick a (some (sets (word its.idType row) (rowAddress row) (word its.csid row ∷ []) (word its.nodeType row))) (pick b (some (removal (word its.nodeType row))) none)) (eqb (word its.verb row) 3) cs
     go true b = unfold byValue setCsid csidOf otherNode in refl
     go false true = unfold byValue setCsid otherNode in refl
     go false false = unfold byValue in refl
@@ -96,72 +98,72 @@ csids-in-turn rows cs only = go (any isNullRow rows) refl
 
 -- what the stages before have found of the rows and the session at entry, and what was granted
 pub record Ready (teids : Kind → ℕ → ℕ) (rows : List (List ℕ)) (x : Session) : Type 0 where
-  pub endpointRows : T (all endpointRow (tagged 127 rows))
-  pub pdrRows : T (all pdrRow (tagged 1 rows))
-  pub csidRows : T (all csidRow (tagged 65 rows))
-  pub endpointRoom : length (keep (keptEndpoint (map rowEndpointId (tagged 130 rows))) (x .endpoints)) + length (tagged 127 rows) ≤ 8
-  pub pdrRoom : length (keep (keptPdr (map rowPdrId (tagged 15 rows))) (x .pdrs)) + length (tagged 1 rows) ≤ 16
-  pub endpointsOnce : T (not (hasRepeat (map endpointId (map endpointOf (tagged 127 rows)))))
-  pub endpointsNew : T (not (anyIn (map endpointId (map endpointOf (tagged 127 rows))) (map endpointId (x .endpoints))))
-  pub pdrsOnce : T (not (hasRepeat (map pdrId (map pdrOf (tagged 1 rows)))))
-  pub pdrsNew : T (not (anyIn (map pdrId (map pdrOf (tagged 1 rows))) (map pdrId (x .pdrs))))
-  pub endpointTeids : map (createEndpoint teids) (map rowEndpoint (tagged 127 rows)) ≡ map endpointOf (tagged 127 rows)
-  pub pdrTeids : map (createPdr teids) (map rowPdr (tagged 1 rows)) ≡ map pdrOf (tagged 1 rows)
-  pub onlyNull : any isNullRow (tagged 65 rows) ≡ true → collect rowCsid (tagged 65 rows) ≡ []
+  pub endpointRows : T (all endpointRow (tagged ie.createEndpoint rows))
+  pub pdrRows : T (all pdrRow (tagged ie.createPdr rows))
+  pub csidRows : T (all csidRow (tagged ie.fqcsid rows))
+  pub endpointRoom : length (keep (keptEndpoint (map rowEndpointId (tagged ie.removeEndpoint rows))) (x .endpoints)) + length (tagged ie.createEndpoint rows) ≤ 8
+  pub pdrRoom : length (keep (keptPdr (map rowPdrId (tagged ie.removePdr rows))) (x .pdrs)) + length (tagged ie.createPdr rows) ≤ 16
+  pub endpointsOnce : T (not (hasRepeat (map endpointId (map endpointOf (tagged ie.createEndpoint rows)))))
+  pub endpointsNew : T (not (anyIn (map endpointId (map endpointOf (tagged ie.createEndpoint rows))) (map endpointId (x .endpoints))))
+  pub pdrsOnce : T (not (hasRepeat (map pdrId (map pdrOf (tagged ie.createPdr rows)))))
+  pub pdrsNew : T (not (anyIn (map pdrId (map pdrOf (tagged ie.createPdr rows))) (map pdrId (x .pdrs))))
+  pub endpointTeids : map (createEndpoint teids) (map rowEndpoint (tagged ie.createEndpoint rows)) ≡ map endpointOf (tagged ie.createEndpoint rows)
+  pub pdrTeids : map (createPdr teids) (map rowPdr (tagged ie.createPdr rows)) ≡ map pdrOf (tagged ie.createPdr rows)
+  pub onlyNull : any isNullRow (tagged ie.fqcsid rows) ≡ true → collect rowCsid (tagged ie.fqcsid rows) ≡ []
 
 module _ (teids : Kind → ℕ → ℕ) (rows : List (List ℕ)) {x : Session} {s : List ℕ} (h : Slot x s) (k : Ready teids rows x) where
   abbrev q : ℕ → List (List ℕ)
   q t = tagged t rows
 
   abbrev keptPs : List Pdr
-  keptPs = keep (keptPdr (map rowPdrId (q 15))) (x .pdrs)
+  keptPs = keep (keptPdr (map rowPdrId (q ie.removePdr))) (x .pdrs)
 
   abbrev keptEs : List Endpoint
-  keptEs = keep (keptEndpoint (map rowEndpointId (q 130))) (x .endpoints)
+  keptEs = keep (keptEndpoint (map rowEndpointId (q ie.removeEndpoint))) (x .endpoints)
 
   -- a pass, by the rows of its type
   by-pass : (t : ℕ) (u : List ℕ) {y : Session} → Slot y (applied (q t) u) → Slot y (passed t rows u)
   by-pass t u {y} g = subst (λ (l : List ℕ). Slot y l) (sym (pass-tagged t rows u)) g
 
-  kept-pdrs : takeOut pdrId (map rowPdrId (q 15)) (x .pdrs) ≡ keptPs
+  kept-pdrs : takeOut pdrId (map rowPdrId (q ie.removePdr)) (x .pdrs) ≡ keptPs
   unfolding keptPdr
-  kept-pdrs = take-out pdrId (map rowPdrId (q 15)) (x .pdrs)
+  kept-pdrs = take-out pdrId (map rowPdrId (q ie.removePdr)) (x .pdrs)
 
-  kept-endpoints : takeOut endpointId (map rowEndpointId (q 130)) (x .endpoints) ≡ keptEs
+  kept-endpoints : takeOut endpointId (map rowEndpointId (q ie.removeEndpoint)) (x .endpoints) ≡ keptEs
   unfolding keptEndpoint
-  kept-endpoints = take-out endpointId (map rowEndpointId (q 130)) (x .endpoints)
+  kept-endpoints = take-out endpointId (map rowEndpointId (q ie.removeEndpoint)) (x .endpoints)
 
-  removed : Slot (setEndpoints (setPdrs x keptPs) keptEs) (passed 130 rows (passed 15 rows s))
+  removed : Slot (setEndpoints (setPdrs x keptPs) keptEs) (passed ie.removeEndpoint rows (passed ie.removePdr rows s))
   removed =
-      let a : Slot (setPdrs x keptPs) (passed 15 rows s) = subst (λ (ps : List Pdr). Slot (setPdrs x ps) (passed 15 rows s)) kept-pdrs (by-pass 15 s (pdrs-out (q 15) (tagged-tags 15 rows) h)) in
-      subst (λ (es : List Endpoint). Slot (setEndpoints (setPdrs x keptPs) es) (passed 130 rows (passed 15 rows s))) kept-endpoints
-      (by-pass 130 (passed 15 rows s) (endpoints-out (q 130) (tagged-tags 130 rows) a))
+      let a : Slot (setPdrs x keptPs) (passed ie.removePdr rows s) = subst (λ (ps : List Pdr). Slot (setPdrs x ps) (passed ie.removePdr rows s)) kept-pdrs (by-pass ie.removePdr s (pdrs-out (q ie.removePdr) (tagged-tags ie.removePdr rows) h)) in
+      subst (λ (es : List Endpoint). Slot (setEndpoints (setPdrs x keptPs) es) (passed ie.removeEndpoint rows (passed ie.removePdr rows s))) kept-endpoints
+      (by-pass ie.removeEndpoint (passed ie.removePdr rows s) (endpoints-out (q ie.removeEndpoint) (tagged-tags ie.removeEndpoint rows) a))
 
-  new-endpoints : putIn endpointId (map endpointOf (q 127)) keptEs ≡ insertAll endpointId (map (createEndpoint teids) (map rowEndpoint (q 127))) keptEs
+  new-endpoints : putIn endpointId (map endpointOf (q ie.createEndpoint)) keptEs ≡ insertAll endpointId (map (createEndpoint teids) (map rowEndpoint (q ie.createEndpoint))) keptEs
   new-endpoints =
-      put-in endpointId (map endpointOf (q 127)) keptEs (k .endpointsOnce)
-      (none-of-kept endpointId (keptEndpoint (map rowEndpointId (q 130))) (map endpointId (map endpointOf (q 127))) (x .endpoints) (k .endpointsNew))
+      put-in endpointId (map endpointOf (q ie.createEndpoint)) keptEs (k .endpointsOnce)
+      (none-of-kept endpointId (keptEndpoint (map rowEndpointId (q ie.removeEndpoint))) (map endpointId (map endpointOf (q ie.createEndpoint))) (x .endpoints) (k .endpointsNew))
       ∙ ap (λ (es : List Endpoint). insertAll endpointId es keptEs) (sym (k .endpointTeids))
 
-  new-pdrs : putIn pdrId (map pdrOf (q 1)) keptPs ≡ insertAll pdrId (map (createPdr teids) (map rowPdr (q 1))) keptPs
+  new-pdrs : putIn pdrId (map pdrOf (q ie.createPdr)) keptPs ≡ insertAll pdrId (map (createPdr teids) (map rowPdr (q ie.createPdr))) keptPs
   new-pdrs =
-      put-in pdrId (map pdrOf (q 1)) keptPs (k .pdrsOnce)
-      (none-of-kept pdrId (keptPdr (map rowPdrId (q 15))) (map pdrId (map pdrOf (q 1))) (x .pdrs) (k .pdrsNew))
+      put-in pdrId (map pdrOf (q ie.createPdr)) keptPs (k .pdrsOnce)
+      (none-of-kept pdrId (keptPdr (map rowPdrId (q ie.removePdr))) (map pdrId (map pdrOf (q ie.createPdr))) (x .pdrs) (k .pdrsNew))
       ∙ ap (λ (ps : List Pdr). insertAll pdrId ps keptPs) (sym (k .pdrTeids))
 
   -- the session that the plan builds
   pub built-session : (seid : ℕ) (restoring noted : Bool) → Slot (apply teids (requestIn seid restoring noted rows) x) (built rows s)
   unfolding built apply requestIn pdrsAfter endpointsAfter
   built-session seid restoring noted =
-      let s₂ = passed 130 rows (passed 15 rows s) in
-      let a = by-pass 127 s₂ (endpoints-in (q 127) (k .endpointRows) (k .endpointRoom) removed) in
-      let b = by-pass 1 (passed 127 rows s₂) (pdrs-in (q 1) (k .pdrRows) (k .pdrRoom) a) in
-      let c = by-pass 9 (passed 1 rows (passed 127 rows s₂)) (pdrs-updated (q 9) (tagged-tags 9 rows) b) in
-      let d = by-pass 65 (passed 9 rows (passed 1 rows (passed 127 rows s₂))) (csids-followed (q 65) (k .csidRows) c) in
-      subst (λ (y : Session). Slot y (passed 65 rows (passed 9 rows (passed 1 rows (passed 127 rows (passed 130 rows (passed 15 rows s)))))))
+      let s₂ = passed ie.removeEndpoint rows (passed ie.removePdr rows s) in
+      let a = by-pass ie.createEndpoint s₂ (endpoints-in (q ie.createEndpoint) (k .endpointRows) (k .endpointRoom) removed) in
+      let b = by-pass ie.createPdr (passed ie.createEndpoint rows s₂) (pdrs-in (q ie.createPdr) (k .pdrRows) (k .pdrRoom) a) in
+      let c = by-pass ie.updatePdr (passed ie.createPdr rows (passed ie.createEndpoint rows s₂)) (pdrs-updated (q ie.updatePdr) (tagged-tags ie.updatePdr rows) b) in
+      let d = by-pass ie.fqcsid (passed ie.updatePdr rows (passed ie.createPdr rows (passed ie.createEndpoint rows s₂))) (csids-followed (q ie.fqcsid) (k .csidRows) c) in
+      subst (λ (y : Session). Slot y (passed ie.fqcsid rows (passed ie.updatePdr rows (passed ie.createPdr rows (passed ie.createEndpoint rows (passed ie.removeEndpoint rows (passed ie.removePdr rows s)))))))
       (λ i. record {
         seid = x .seid;
-        pdrs = updateAll (map rowChange (q 9)) (new-pdrs i);
+        pdrs = updateAll (map rowChange (q ie.updatePdr)) (new-pdrs i);
         endpoints = new-endpoints i;
-        csids = csids-in-turn (q 65) (x .csids) (k .onlyNull) i;
+        csids = csids-in-turn (q ie.fqcsid) (x .csids) (k .onlyNull) i;
       }) d

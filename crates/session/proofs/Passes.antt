@@ -13,9 +13,11 @@ use Rattle.octets.specs.Octets.{be, part}
 use Rattle.octets.specs.Lists.{all, ascending, keep, findBy, insertBy}
 use Rattle.octets.proofs.Tests.{and-left, and-right, both, all-head, all-tail, is-true, is-false, pick-either}
 use Rattle.rules.specs.Model.{Pdr, neither, Endpoint, Csid, Session, pdrId, endpointId, nodeTypeOf}
-use Rattle.rules.specs.Layout.{pdrOctets, endpointOctets, csidOctets}
+use Rattle.rules.specs.Layout.{pdrOctets, endpointOctets, csidOctets, pdrWidth}
 use Rattle.plan.specs.Rows.{word, hasTag, tagged, rowPdrId, rowEndpointId, rowPdr, rowEndpoint, rowChange, rowAddress}
 use Rattle.rules.specs.Apply.{createPdr, createEndpoint, orOld, updatePdr, updateAll}
+use Rattle.rules.specs.Types as ie
+use Rattle.plan.specs.Words as its
 use Rattle.slots.specs.Records.{lookup}
 use Rattle.slots.specs.declared.Place.{Place}
 use Rattle.slots.specs.declared.Place.the-variants.{Found, Absent}
@@ -47,9 +49,9 @@ pass-tagged t (row ∷ rows) s = go (hasTag t row) (pass-tagged t rows)
     go true ih = ih (rowApplied row s)
     go false ih = ih s
 
-tag-is : (t : ℕ) (row : List ℕ) → T (hasTag t row) → word 0 row ≡ t
+tag-is : (t : ℕ) (row : List ℕ) → T (hasTag t row) → word its.tag row ≡ t
 unfolding hasTag
-tag-is t row h = eqb→eq (word 0 row) t h
+tag-is t row h = eqb→eq (word its.tag row) t h
 
 -- ---- a session with other records of one kind
 
@@ -68,30 +70,30 @@ same-slot {x} e h = subst (λ (l : List ℕ). Slot x l) e h
 
 -- ---- removals
 
-pub pdrs-out : (qs : List (List ℕ)) → T (all (hasTag 15) qs) → {x : Session} {s : List ℕ} → Slot x s → Slot (setPdrs x (takeOut pdrId (map rowPdrId qs) (x .pdrs))) (applied qs s)
+pub pdrs-out : (qs : List (List ℕ)) → T (all (hasTag ie.removePdr) qs) → {x : Session} {s : List ℕ} → Slot x s → Slot (setPdrs x (takeOut pdrId (map rowPdrId qs) (x .pdrs))) (applied qs s)
 unfolding applied takeOut
 pdrs-out [] t h = h
 pdrs-out (row ∷ qs) t {x} {s} h =
-    let one : Slot (setPdrs x (keep (otherThan pdrId (word 7 row)) (x .pdrs))) (withoutRecord pdrArea (word 7 row) s)
-    = with-pdrs h (without-held pdrOctets pdrId pdrArea pdrFits pdr-good (held-pdrs h) (word 7 row)) in
-    pdrs-out qs (all-tail (hasTag 15) row qs t) (same-slot (row-15 row s (withoutRecord pdrArea (word 7 row) s) pdrArea refl (tag-is 15 row (all-head (hasTag 15) row qs t)) refl) one)
+    let one : Slot (setPdrs x (keep (otherThan pdrId (word its.pdrId row)) (x .pdrs))) (withoutRecord pdrArea (word its.pdrId row) s)
+    = with-pdrs h (without-held pdrOctets pdrId pdrArea pdrFits pdr-good (held-pdrs h) (word its.pdrId row)) in
+    pdrs-out qs (all-tail (hasTag ie.removePdr) row qs t) (same-slot (row-15 row s (withoutRecord pdrArea (word its.pdrId row) s) pdrArea refl (tag-is ie.removePdr row (all-head (hasTag ie.removePdr) row qs t)) refl) one)
 
-pub endpoints-out : (qs : List (List ℕ)) → T (all (hasTag 130) qs) → {x : Session} {s : List ℕ} → Slot x s → Slot (setEndpoints x (takeOut endpointId (map rowEndpointId qs) (x .endpoints))) (applied qs s)
+pub endpoints-out : (qs : List (List ℕ)) → T (all (hasTag ie.removeEndpoint) qs) → {x : Session} {s : List ℕ} → Slot x s → Slot (setEndpoints x (takeOut endpointId (map rowEndpointId qs) (x .endpoints))) (applied qs s)
 unfolding applied takeOut
 endpoints-out [] t h = h
 endpoints-out (row ∷ qs) t {x} {s} h =
-    let one : Slot (setEndpoints x (keep (otherThan endpointId (word 11 row)) (x .endpoints))) (withoutRecord endpointArea (word 11 row) s)
-    = with-endpoints h (without-held endpointOctets endpointId endpointArea endpointFits endpoint-good (held-endpoints h) (word 11 row)) in
-    endpoints-out qs (all-tail (hasTag 130) row qs t) (same-slot (row-130 row s (withoutRecord endpointArea (word 11 row) s) endpointArea refl (tag-is 130 row (all-head (hasTag 130) row qs t)) refl) one)
+    let one : Slot (setEndpoints x (keep (otherThan endpointId (word its.endpointId row)) (x .endpoints))) (withoutRecord endpointArea (word its.endpointId row) s)
+    = with-endpoints h (without-held endpointOctets endpointId endpointArea endpointFits endpoint-good (held-endpoints h) (word its.endpointId row)) in
+    endpoints-out qs (all-tail (hasTag ie.removeEndpoint) row qs t) (same-slot (row-130 row s (withoutRecord endpointArea (word its.endpointId row) s) endpointArea refl (tag-is ie.removeEndpoint row (all-head (hasTag ie.removeEndpoint) row qs t)) refl) one)
 
 -- ---- endpoints and PDRs put in
 
 -- what the reading gives of a row that creates an endpoint, and a PDR
 unfoldable pub endpointRow : List ℕ → Bool
-endpointRow row = hasTag 127 row && ltb (word 11 row) 256
+endpointRow row = hasTag ie.createEndpoint row && ltb (word its.endpointId row) 256
 
 unfoldable pub pdrRow : List ℕ → Bool
-pdrRow row = hasTag 1 row && (ltb (word 7 row) 65536 && (ltb (word 10 row) 256 && ltb (ifIs (placeKind row) 2 (word 11 row)) 256))
+pdrRow row = hasTag ie.createPdr row && (ltb (word its.pdrId row) 65536 && (ltb (word its.source row) 256 && ltb (ifIs (placeKind row) 2 (word its.endpointId row)) 256))
 
 pub endpoints-in : (qs : List (List ℕ)) → T (all endpointRow qs) → {x : Session} {s : List ℕ} → length (x .endpoints) + length qs ≤ 8 → Slot x s
     → Slot (setEndpoints x (putIn endpointId (map endpointOf qs) (x .endpoints))) (applied qs s)
@@ -99,11 +101,11 @@ unfolding applied putIn endpointRow
 endpoints-in [] t room h = h
 endpoints-in (row ∷ qs) t {x} {s} room h =
     let q = all-head endpointRow row qs t in
-    let tag = tag-is 127 row (and-left (hasTag 127 row) (ltb (word 11 row) 256) q) in
-    let small = ltb→lt (word 11 row) 256 (and-right (hasTag 127 row) (ltb (word 11 row) 256) q) in
+    let tag = tag-is ie.createEndpoint row (and-left (hasTag ie.createEndpoint row) (ltb (word its.endpointId row) 256) q) in
+    let small = ltb→lt (word its.endpointId row) 256 (and-right (hasTag ie.createEndpoint row) (ltb (word its.endpointId row) 256) q) in
     let e = endpointOf row in
     let long = put-long endpointId e (x .endpoints) in
-    let fits : T (endpointFits e) = unfold endpointOf createEndpoint rowEndpoint in (lt→ltb (word 11 row) 256 small) in
+    let fits : T (endpointFits e) = unfold endpointOf createEndpoint rowEndpoint in (lt→ltb (word its.endpointId row) 256 small) in
     let one : Slot (setEndpoints x (insertBy endpointId e (keep (otherThan endpointId (e .id)) (x .endpoints)))) (withRecord endpointArea (endpointOctets e) s)
     = with-endpoints h (with-held endpointOctets endpointId endpointArea endpointFits endpoint-good (held-endpoints h) e fits (omega arith)) in
     endpoints-in qs (all-tail endpointRow row qs t) (omega arith)
@@ -115,9 +117,9 @@ unfolding applied putIn pdrRow
 pdrs-in [] t room h = h
 pdrs-in (row ∷ qs) t {x} {s} room h =
     let q = all-head pdrRow row qs t in
-    let tag = tag-is 1 row (and-left (hasTag 1 row) (ltb (word 7 row) 65536 && (ltb (word 10 row) 256 && ltb (ifIs (placeKind row) 2 (word 11 row)) 256)) q) in
-    let k = and-right (hasTag 1 row) (ltb (word 7 row) 65536 && (ltb (word 10 row) 256 && ltb (ifIs (placeKind row) 2 (word 11 row)) 256)) q in
-    let kid = and-left (ltb (word 7 row) 65536) (ltb (word 10 row) 256 && ltb (ifIs (placeKind row) 2 (word 11 row)) 256) k in
+    let tag = tag-is ie.createPdr row (and-left (hasTag ie.createPdr row) (ltb (word its.pdrId row) 65536 && (ltb (word its.source row) 256 && ltb (ifIs (placeKind row) 2 (word its.endpointId row)) 256)) q) in
+    let k = and-right (hasTag ie.createPdr row) (ltb (word its.pdrId row) 65536 && (ltb (word its.source row) 256 && ltb (ifIs (placeKind row) 2 (word its.endpointId row)) 256)) q in
+    let kid = and-left (ltb (word its.pdrId row) 65536) (ltb (word its.source row) 256 && ltb (ifIs (placeKind row) 2 (word its.endpointId row)) 256) k in
     let p = pdrOf row in
     let long = put-long pdrId p (x .pdrs) in
     let fits : T (pdrFits p) = unfold pdrOf createPdr rowPdr in kid in
@@ -138,13 +140,13 @@ find-some {A} q (y ∷ rs) r e = go (q y) refl e (λ h. find-some q rs r h)
     go false t e k = k e
 
 -- a PDR with another ID is not changed, and a change keeps the ID
-update-other : (row : List ℕ) (p : Pdr) → T (otherThan pdrId (word 7 row) p) → updatePdr (rowChange row) p ≡ p
+update-other : (row : List ℕ) (p : Pdr) → T (otherThan pdrId (word its.pdrId row) p) → updatePdr (rowChange row) p ≡ p
 unfolding updatePdr rowChange
-update-other row p h = rw (is-false (eqb (p .id) (word 7 row)) h)
+update-other row p h = rw (is-false (eqb (p .id) (word its.pdrId row)) h)
 
-update-own : (row : List ℕ) (p : Pdr) → T (eqb (p .id) (word 7 row)) → updatePdr (rowChange row) p ≡ changed row p
+update-own : (row : List ℕ) (p : Pdr) → T (eqb (p .id) (word its.pdrId row)) → updatePdr (rowChange row) p ≡ changed row p
 unfolding updatePdr rowChange changed
-update-own row p h = rw (is-true (eqb (p .id) (word 7 row)) h)
+update-own row p h = rw (is-true (eqb (p .id) (word its.pdrId row)) h)
 
 update-id : (row : List ℕ) (p : Pdr) → pdrId (updatePdr (rowChange row) p) ≡ pdrId p
 unfolding updatePdr
@@ -154,17 +156,17 @@ update-id row p = go (eqb (p .id) (rowChange row .id))
     go true = refl
     go false = refl
 
-update-none : (row : List ℕ) (ps : List Pdr) → findBy (λ p. eqb (pdrId p) (word 7 row)) ps ≡ none → map (updatePdr (rowChange row)) ps ≡ ps
+update-none : (row : List ℕ) (ps : List Pdr) → findBy (λ p. eqb (pdrId p) (word its.pdrId row)) ps ≡ none → map (updatePdr (rowChange row)) ps ≡ ps
 unfolding findBy
 update-none row [] e = refl
-update-none row (p ∷ ps) e = go (eqb (p .id) (word 7 row)) refl e (λ h. update-none row ps h)
+update-none row (p ∷ ps) e = go (eqb (p .id) (word its.pdrId row)) refl e (λ h. update-none row ps h)
   where
-    go : (b : Bool) → eqb (p .id) (word 7 row) ≡ b → pick b (some p) (findBy (λ p. eqb (pdrId p) (word 7 row)) ps) ≡ none
-        → (findBy (λ p. eqb (pdrId p) (word 7 row)) ps ≡ none → map (updatePdr (rowChange row)) ps ≡ ps) → map (updatePdr (rowChange row)) (p ∷ ps) ≡ p ∷ ps
+    go : (b : Bool) → eqb (p .id) (word its.pdrId row) ≡ b → pick b (some p) (findBy (λ p. eqb (pdrId p) (word its.pdrId row)) ps) ≡ none
+        → (findBy (λ p. eqb (pdrId p) (word its.pdrId row)) ps ≡ none → map (updatePdr (rowChange row)) ps ≡ ps) → map (updatePdr (rowChange row)) (p ∷ ps) ≡ p ∷ ps
     go true t e k = absurd (let z : _≡_ {A = ℕ} 0 1 = cc in omega arith)
     go false t e k = λ i. update-other row p (subst (λ (b : Bool). T (not b)) (sym t) tt) i ∷ k e i
 
-updated-by : (row : List ℕ) (n : ℕ) (s v : List ℕ) → updatedRecord row (part (n * 19) 19 (areaIn pdrArea s)) ≡ v → updatedAt row n s ≡ replacedIn pdrArea n v s
+updated-by : (row : List ℕ) (n : ℕ) (s v : List ℕ) → updatedRecord row (part (n * pdrWidth) pdrWidth (areaIn pdrArea s)) ≡ v → updatedAt row n s ≡ replacedIn pdrArea n v s
 unfolding updatedAt
 updated-by row n s v e = ap (λ (u : List ℕ). replacedIn pdrArea n u s) e
 
@@ -172,7 +174,7 @@ one-update : (row : List ℕ) {x : Session} {s : List ℕ} → Slot x s → Slot
 unfolding updatedPdr
 one-update row {x} {s} h =
     subst (λ (q : Place). Slot (setPdrs x (map (updatePdr (rowChange row)) (x .pdrs))) (atPlace q (λ p. updatedAt row p s) (λ p. s)))
-    (sym (place-held pdrOctets pdrId pdrArea pdrFits pdr-good k (word 7 row))) (go (lookup (word 7 row) (map pdrId (x .pdrs))) refl)
+    (sym (place-held pdrOctets pdrId pdrArea pdrFits pdr-good k (word its.pdrId row))) (go (lookup (word its.pdrId row) (map pdrId (x .pdrs))) refl)
   where
     k : HeldPdrs (pdrPre (x .seid) (x .pdrs) (x .endpoints) (x .csids)) (pdrMid (x .seid) (x .pdrs) (x .endpoints) (x .csids)) (pdrPost (x .seid) (x .pdrs) (x .endpoints) (x .csids)) (x .pdrs) s
     k = held-pdrs h
@@ -180,41 +182,41 @@ one-update row {x} {s} h =
     d : Pdr
     d = record { id = 0; precedence = 0; far = none; source = 0; place = neither }
 
-    go : (q : Place) → lookup (word 7 row) (map pdrId (x .pdrs)) ≡ q → Slot (setPdrs x (map (updatePdr (rowChange row)) (x .pdrs))) (atPlace q (λ p. updatedAt row p s) (λ p. s))
+    go : (q : Place) → lookup (word its.pdrId row) (map pdrId (x .pdrs)) ≡ q → Slot (setPdrs x (map (updatePdr (rowChange row)) (x .pdrs))) (atPlace q (λ p. updatedAt row p s) (λ p. s))
     go (Found n) e =
         let r : Pdr = getD (x .pdrs) n d in
-        let own : T (eqb (pdrId r) (word 7 row)) = find-some (λ p. eqb (pdrId p) (word 7 row)) (x .pdrs) r (found-record pdrId (word 7 row) n (x .pdrs) d e) in
-        let new : updatedRecord row (part (n * 19) 19 (areaIn pdrArea s)) ≡ pdrOctets (updatePdr (rowChange row) r)
-        = ap (updatedRecord row) (record-held pdrOctets pdrId pdrArea pdrFits pdr-good k d n (found-within pdrId (word 7 row) n (x .pdrs) e))
+        let own : T (eqb (pdrId r) (word its.pdrId row)) = find-some (λ p. eqb (pdrId p) (word its.pdrId row)) (x .pdrs) r (found-record pdrId (word its.pdrId row) n (x .pdrs) d e) in
+        let new : updatedRecord row (part (n * pdrWidth) pdrWidth (areaIn pdrArea s)) ≡ pdrOctets (updatePdr (rowChange row) r)
+        = ap (updatedRecord row) (record-held pdrOctets pdrId pdrArea pdrFits pdr-good k d n (found-within pdrId (word its.pdrId row) n (x .pdrs) e))
         ∙ record-changed row r ∙ ap pdrOctets (sym (update-own row r own)) in
         same-slot (sym (updated-by row n s (pdrOctets (updatePdr (rowChange row) r)) new))
         (with-pdrs h
-        (changed-held pdrOctets pdrId pdrArea pdrFits pdr-good k d (word 7 row) n (updatePdr (rowChange row)) (update-other row)
+        (changed-held pdrOctets pdrId pdrArea pdrFits pdr-good k d (word its.pdrId row) n (updatePdr (rowChange row)) (update-other row)
         (λ r fits. subst (λ (i : ℕ). T (ltb i 65536)) (sym (update-id row r)) fits) (update-id row) e))
     go (Absent n) e =
         subst (λ (ps : List Pdr). Slot (setPdrs x ps) s)
-        (sym (update-none row (x .pdrs) (absent-record pdrId (word 7 row) n (x .pdrs) (h .pdrsUp) e))) h
+        (sym (update-none row (x .pdrs) (absent-record pdrId (word its.pdrId row) n (x .pdrs) (h .pdrsUp) e))) h
 
-pub pdrs-updated : (qs : List (List ℕ)) → T (all (hasTag 9) qs) → {x : Session} {s : List ℕ} → Slot x s → Slot (setPdrs x (updateAll (map rowChange qs) (x .pdrs))) (applied qs s)
+pub pdrs-updated : (qs : List (List ℕ)) → T (all (hasTag ie.updatePdr) qs) → {x : Session} {s : List ℕ} → Slot x s → Slot (setPdrs x (updateAll (map rowChange qs) (x .pdrs))) (applied qs s)
 unfolding applied updateAll
 pdrs-updated [] t h = h
 pdrs-updated (row ∷ qs) t {x} {s} h =
-    pdrs-updated qs (all-tail (hasTag 9) row qs t) (same-slot (row-9 row s (updatedPdr row s) (tag-is 9 row (all-head (hasTag 9) row qs t)) refl) (one-update row h))
+    pdrs-updated qs (all-tail (hasTag ie.updatePdr) row qs t) (same-slot (row-9 row s (updatedPdr row s) (tag-is ie.updatePdr row (all-head (hasTag ie.updatePdr) row qs t)) refl) (one-update row h))
 
 -- ---- FQ-CSIDs
 
 -- one that sets a node type's has a node type that is kept, and a Node-ID type of one octet
 unfoldable pub setsFit : List ℕ → Bool
-setsFit row = ltb (word 7 row) 6 && ltb (word 8 row) 256
+setsFit row = ltb (word its.nodeType row) 6 && ltb (word its.idType row) 256
 
 unfoldable pub csidRow : List ℕ → Bool
-csidRow row = hasTag 65 row && (not (eqb (word 1 row) 1) || setsFit row)
+csidRow row = hasTag ie.fqcsid row && (not (eqb (word its.verb row) 1) || setsFit row)
 
 -- what one row makes of the FQ-CSIDs, and what rows make of them in turn
 unfoldable pub csidStep : List ℕ → List Csid → List Csid
 csidStep row cs =
-    pick (eqb (word 1 row) 1) (insertBy nodeTypeOf (csidOf row) (keep (otherThan nodeTypeOf (word 7 row)) cs))
-    (pick (eqb (word 1 row) 2) (keep (otherThan nodeTypeOf (word 7 row)) cs) (pick (eqb (word 1 row) 3) [] cs))
+    pick (eqb (word its.verb row) 1) (insertBy nodeTypeOf (csidOf row) (keep (otherThan nodeTypeOf (word its.nodeType row)) cs))
+    (pick (eqb (word its.verb row) 2) (keep (otherThan nodeTypeOf (word its.nodeType row)) cs) (pick (eqb (word its.verb row) 3) [] cs))
 
 unfoldable pub csidsFrom : List (List ℕ) → List Csid → List Csid
 csidsFrom [] cs = cs
@@ -222,7 +224,7 @@ csidsFrom (row ∷ rows) cs = csidsFrom rows (csidStep row cs)
 
 address-short : (row : List ℕ) → length (rowAddress row) ≤ 16
 unfolding rowAddress
-address-short row = pick-either (λ (l : List ℕ). length l ≤ 16) (eqb (word 8 row) 1) (be 8 (word 9 row) ++ be 8 (word 10 row)) (be 4 (word 10 row))
+address-short row = pick-either (λ (l : List ℕ). length l ≤ 16) (eqb (word its.idType row) 1) (be 8 (word its.addressHigh row) ++ be 8 (word its.addressLow row)) (be 4 (word its.addressLow row))
     (unfold be in (omega arith)) (unfold be in (omega arith))
 
 node-types : (cs : List Csid) → T (all csidFits cs) → T (all (λ n. ltb n 6) (map nodeTypeOf cs))
@@ -238,23 +240,23 @@ few-csids cs h up = subst (λ (n : ℕ). n ≤ 6) (length-map cs nodeTypeOf) (no
 csid-fits : (row : List ℕ) → T (setsFit row) → T (csidFits (csidOf row))
 unfolding setsFit csidOf
 csid-fits row h =
-    both (ltb (word 7 row) 6) (leb (length (rowAddress row)) 16) (and-left (ltb (word 7 row) 6) (ltb (word 8 row) 256) h)
+    both (ltb (word its.nodeType row) 6) (leb (length (rowAddress row)) 16) (and-left (ltb (word its.nodeType row) 6) (ltb (word its.idType row) 256) h)
     (le→leb (length (rowAddress row)) 16 (address-short row))
 
-csid-tag : (row : List ℕ) → T (csidRow row) → T (hasTag 65 row)
+csid-tag : (row : List ℕ) → T (csidRow row) → T (hasTag ie.fqcsid row)
 unfolding csidRow
-csid-tag row h = and-left (hasTag 65 row) (not (eqb (word 1 row) 1) || setsFit row) h
+csid-tag row h = and-left (hasTag ie.fqcsid row) (not (eqb (word its.verb row) 1) || setsFit row) h
 
-sets-fit : (row : List ℕ) → T (csidRow row) → eqb (word 1 row) 1 ≡ true → T (setsFit row)
+sets-fit : (row : List ℕ) → T (csidRow row) → eqb (word its.verb row) 1 ≡ true → T (setsFit row)
 unfolding csidRow
-sets-fit row h e = subst (λ (b : Bool). T (not b || setsFit row)) e (and-right (hasTag 65 row) (not (eqb (word 1 row) 1) || setsFit row) h)
+sets-fit row h e = subst (λ (b : Bool). T (not b || setsFit row)) e (and-right (hasTag ie.fqcsid row) (not (eqb (word its.verb row) 1) || setsFit row) h)
 
 one-csid : (row : List ℕ) → T (csidRow row) → {x : Session} {s : List ℕ} → Slot x s → Slot (setCsidsOf x (csidStep row (x .csids))) (followedCsid row s)
 unfolding csidStep followedCsid csidOf
-one-csid row t {x} {s} h = go (eqb (word 1 row) 1) refl (eqb (word 1 row) 2) (eqb (word 1 row) 3)
+one-csid row t {x} {s} h = go (eqb (word its.verb row) 1) refl (eqb (word its.verb row) 2) (eqb (word its.verb row) 3)
   where
     with : List Csid
-    with = insertBy nodeTypeOf (csidOf row) (keep (otherThan nodeTypeOf (word 7 row)) (x .csids))
+    with = insertBy nodeTypeOf (csidOf row) (keep (otherThan nodeTypeOf (word its.nodeType row)) (x .csids))
 
     set : T (setsFit row) → Slot (setCsidsOf x with) (withRecord csidArea (csidRecord row) s)
     set ok′ =
@@ -266,11 +268,11 @@ one-csid row t {x} {s} h = go (eqb (word 1 row) 1) refl (eqb (word 1 row) 2) (eq
         same-slot (ap (λ (v : List ℕ). withRecord csidArea v s) (sym (csid-record row)))
         (with-csids h (with-held csidOctets nodeTypeOf csidArea csidFits csid-good k (csidOf row) fits few))
 
-    go : (a : Bool) → eqb (word 1 row) 1 ≡ a → (b d : Bool)
-        → Slot (setCsidsOf x (pick a with (pick b (keep (otherThan nodeTypeOf (word 7 row)) (x .csids)) (pick d [] (x .csids)))))
-        (pick a (withRecord csidArea (csidRecord row) s) (pick b (withoutRecord csidArea (word 7 row) s) (pick d (clearedIn csidArea s) s)))
+    go : (a : Bool) → eqb (word its.verb row) 1 ≡ a → (b d : Bool)
+        → Slot (setCsidsOf x (pick a with (pick b (keep (otherThan nodeTypeOf (word its.nodeType row)) (x .csids)) (pick d [] (x .csids)))))
+        (pick a (withRecord csidArea (csidRecord row) s) (pick b (withoutRecord csidArea (word its.nodeType row) s) (pick d (clearedIn csidArea s) s)))
     go true e b d = set (sets-fit row t e)
-    go false e true d = with-csids h (without-held csidOctets nodeTypeOf csidArea csidFits csid-good (held-csids h) (word 7 row))
+    go false e true d = with-csids h (without-held csidOctets nodeTypeOf csidArea csidFits csid-good (held-csids h) (word its.nodeType row))
     go false e false true = with-csids h (cleared-held csidOctets nodeTypeOf csidArea csidFits csid-good (held-csids h))
     go false e false false = h
 
@@ -279,5 +281,5 @@ unfolding applied csidsFrom
 csids-followed [] t h = h
 csids-followed (row ∷ qs) t {x} {s} h =
     let q = all-head csidRow row qs t in
-    let tag : word 0 row ≡ 65 = tag-is 65 row (csid-tag row q) in
+    let tag : word its.tag row ≡ ie.fqcsid = tag-is ie.fqcsid row (csid-tag row q) in
     csids-followed qs (all-tail csidRow row qs t) (same-slot (row-65 row s (followedCsid row s) tag refl) (one-csid row q h))

@@ -21,6 +21,7 @@ use Rattle.rules.specs.Layout.{families, pdrWidths, matchKind, matchTeid, match
 use Rattle.rules.specs.Grants.{Kind}
 use Rattle.rules.specs.Apply.{tunnelFrom, namedPlace, placeFrom, createPdr, createEndpoint}
 use Rattle.plan.specs.Rows.{word, present, fteidFrom, rowFteid, rowLocal, rowPdr, rowEndpoint, rowAddress}
+use Rattle.plan.specs.Words as its
 use Rattle.session.specs.Records.{ifIs, placeKind, pdrValues, pdrRecord, endpointRecord, csidWidths, csidValues, csidRecord}
 
 -- a number of one octet
@@ -46,7 +47,7 @@ two-flags f =
 
 -- the tunnel of a row, its TEID given or chosen
 unfoldable pub rowTunnel : List ℕ → Tunnel
-rowTunnel row = tunnelFrom (word 13 row) (rowFteid row)
+rowTunnel row = tunnelFrom (word its.teid row) (rowFteid row)
 
 teid-families : (f t a h l c : ℕ) → tunnelFrom t (fteidFrom f t a h l c) ≡ record { teid = t; v4 = bit 0 f; v6 = bit 1 f }
 unfolding tunnelFrom fteidFrom
@@ -59,17 +60,17 @@ teid-families f t a h l c = go (bit 2 f) (bit 0 f) (bit 1 f)
     go false false true = unfold be in refl
     go false false false = refl
 
-tunnel-octets : (row : List ℕ) → (rowTunnel row .teid ≡ word 13 row) × (families (rowTunnel row) ≡ word 12 row % 4)
+tunnel-octets : (row : List ℕ) → (rowTunnel row .teid ≡ word its.teid row) × (families (rowTunnel row) ≡ word its.flags row % 4)
 unfolding rowTunnel rowFteid families
 tunnel-octets row =
-    let e = teid-families (word 12 row) (word 13 row) (word 14 row) (word 15 row) (word 16 row) (word 17 row) in
-    (ap (λ (t : Tunnel). t .teid) e, ap (λ (t : Tunnel). flag (t .v4) + 2 * flag (t .v6)) e ∙ two-flags (word 12 row))
+    let e = teid-families (word its.flags row) (word its.teid row) (word its.ipv4 row) (word its.ipv6High row) (word its.ipv6Low row) (word its.chooseId row) in
+    (ap (λ (t : Tunnel). t .teid) e, ap (λ (t : Tunnel). flag (t .v4) + 2 * flag (t .v6)) e ∙ two-flags (word its.flags row))
 
 -- ---- PDR
 
 -- the TEID of a row's CHOOSE stands in its word
 abbrev pub ofRow : List ℕ → Kind → ℕ → ℕ
-ofRow row k i = word 13 row
+ofRow row k i = word its.teid row
 
 unfoldable pub pdrOf : List ℕ → Pdr
 pdrOf row = createPdr (ofRow row) (rowPdr row)
@@ -83,16 +84,16 @@ far-numbers there v rest = go (eqb there 1)
     go false = refl
 
 place-numbers : (row rest : List ℕ)
-    → let l = placeFrom (word 13 row) (rowLocal row) (present (word 5 row) (word 11 row)) in
-    placeKind row ∷ ifIs (placeKind row) 1 (word 13 row) ∷ ifIs (placeKind row) 1 (word 12 row % 4) ∷ ifIs (placeKind row) 2 (word 11 row) ∷ rest
+    → let l = placeFrom (word its.teid row) (rowLocal row) (present (word its.hasEndpointId row) (word its.endpointId row)) in
+    placeKind row ∷ ifIs (placeKind row) 1 (word its.teid row) ∷ ifIs (placeKind row) 1 (word its.flags row % 4) ∷ ifIs (placeKind row) 2 (word its.endpointId row) ∷ rest
     ≡ matchKind l ∷ matchTeid l ∷ matchFamilies l ∷ matchEndpoint l ∷ rest
 unfolding placeKind rowLocal present ifIs
-place-numbers row rest = go (eqb (word 12 row) 0) (eqb (word 5 row) 1)
+place-numbers row rest = go (eqb (word its.flags row) 0) (eqb (word its.hasEndpointId row) 1)
   where
     go : (none? ep : Bool)
         → let k : ℕ = pick none? (pick ep 2 0) 1 in
-        let l = placeFrom (word 13 row) (pick none? none (some (rowFteid row))) (pick ep (some (word 11 row)) none) in
-        k ∷ pick (eqb k 1) (word 13 row) 0 ∷ pick (eqb k 1) (word 12 row % 4) 0 ∷ pick (eqb k 2) (word 11 row) 0 ∷ rest ≡ matchKind l ∷ matchTeid l ∷ matchFamilies l ∷ matchEndpoint l ∷ rest
+        let l = placeFrom (word its.teid row) (pick none? none (some (rowFteid row))) (pick ep (some (word its.endpointId row)) none) in
+        k ∷ pick (eqb k 1) (word its.teid row) 0 ∷ pick (eqb k 1) (word its.flags row % 4) 0 ∷ pick (eqb k 2) (word its.endpointId row) 0 ∷ rest ≡ matchKind l ∷ matchTeid l ∷ matchFamilies l ∷ matchEndpoint l ∷ rest
     go true true = unfold placeFrom namedPlace matchKind matchTeid matchFamilies matchEndpoint in refl
     go true false = unfold placeFrom namedPlace matchKind matchTeid matchFamilies matchEndpoint in refl
     go false ep = let e = tunnel-octets row in unfold placeFrom matchKind matchTeid matchFamilies matchEndpoint rowTunnel in (rw (e .1, e .0))
@@ -100,9 +101,9 @@ place-numbers row rest = go (eqb (word 12 row) 0) (eqb (word 5 row) 1)
 pub pdr-record : (row : List ℕ) → pdrRecord row ≡ pdrOctets (pdrOf row)
 unfolding pdrRecord pdrValues pdrOctets pdrNumbers pdrOf createPdr rowPdr
 pdr-record row =
-    ap (λ (l : List ℕ). fieldOctets pdrWidths (word 7 row ∷ word 8 row ∷ l))
-    (far-numbers (word 3 row) (word 9 row) _
-    ∙ ap (λ (l : List ℕ). flag (isSome (present (word 3 row) (word 9 row))) ∷ valueOr 0 (present (word 3 row) (word 9 row)) ∷ word 10 row ∷ l) (place-numbers row []))
+    ap (λ (l : List ℕ). fieldOctets pdrWidths (word its.pdrId row ∷ word its.precedence row ∷ l))
+    (far-numbers (word its.hasFarId row) (word its.farId row) _
+    ∙ ap (λ (l : List ℕ). flag (isSome (present (word its.hasFarId row) (word its.farId row))) ∷ valueOr 0 (present (word its.hasFarId row) (word its.farId row)) ∷ word its.source row ∷ l) (place-numbers row []))
 
 -- ---- endpoint
 
@@ -116,24 +117,24 @@ endpoint-record row = let e = tunnel-octets row in rw (e .1, e .0)
 -- ---- FQ-CSID
 
 unfoldable pub csidOf : List ℕ → Csid
-csidOf row = record { nodeType = word 7 row; idType = word 8 row; address = rowAddress row; csid = word 11 row }
+csidOf row = record { nodeType = word its.nodeType row; idType = word its.idType row; address = rowAddress row; csid = word its.csid row }
 
 pub csid-record : (row : List ℕ) → csidRecord row ≡ csidOctets (csidOf row)
 unfolding csidRecord csidWidths csidValues csidOctets csidSlotNumbers csidOf rowAddress fieldOctets
-csid-record row = go (eqb (word 8 row) 1)
+csid-record row = go (eqb (word its.idType row) 1)
   where
     long : List ℕ
-    long = be 8 (word 9 row) ++ be 8 (word 10 row)
+    long = be 8 (word its.addressHigh row) ++ be 8 (word its.addressLow row)
 
     go : (b : Bool)
         → fieldOctets (pick b (1 ∷ 1 ∷ 8 ∷ 8 ∷ 0 ∷ 2 ∷ []) (1 ∷ 1 ∷ 4 ∷ 8 ∷ 4 ∷ 2 ∷ []))
-        (pick b (word 7 row ∷ word 8 row ∷ word 9 row ∷ word 10 row ∷ 0 ∷ word 11 row ∷ []) (word 7 row ∷ word 8 row ∷ word 10 row ∷ 0 ∷ 0 ∷ word 11 row ∷ []))
-        ≡ (let a = pick b long (be 4 (word 10 row)) in
-        fieldOctets csidSlotWidths (word 7 row ∷ word 8 row ∷ number (take 4 a) ∷ number (drop 4 a) ∷ word 11 row ∷ []))
+        (pick b (word its.nodeType row ∷ word its.idType row ∷ word its.addressHigh row ∷ word its.addressLow row ∷ 0 ∷ word its.csid row ∷ []) (word its.nodeType row ∷ word its.idType row ∷ word its.addressLow row ∷ 0 ∷ 0 ∷ word its.csid row ∷ []))
+        ≡ (let a = pick b long (be 4 (word its.addressLow row)) in
+        fieldOctets csidSlotWidths (word its.nodeType row ∷ word its.idType row ∷ number (take 4 a) ∷ number (drop 4 a) ∷ word its.csid row ∷ []))
     go true =
-        let o = octets-append (be 8 (word 9 row)) (be 8 (word 10 row)) (bytes-be 8 (word 9 row)) (bytes-be 8 (word 10 row)) in
+        let o = octets-append (be 8 (word its.addressHigh row)) (be 8 (word its.addressLow row)) (bytes-be 8 (word its.addressHigh row)) (bytes-be 8 (word its.addressLow row)) in
         rw (be-back 4 (take 4 long) (unfold be in refl) (take-octets 4 long o), be-back 12 (drop 4 long) (unfold be in refl) (drop-octets 4 long o))
         (unfold be in refl)
     go false =
-        rw (be-back 4 (take 4 (be 4 (word 10 row))) (unfold be in refl) (take-octets 4 (be 4 (word 10 row)) (bytes-be 4 (word 10 row))))
+        rw (be-back 4 (take 4 (be 4 (word its.addressLow row))) (unfold be in refl) (take-octets 4 (be 4 (word its.addressLow row)) (bytes-be 4 (word its.addressLow row))))
         (unfold be number in refl)

@@ -15,6 +15,7 @@ use Rattle.octets.proofs.Tests.{and-left}
 use Rattle.octets.proofs.Numbers.{length-be, number-be, length-padded, length-concatMap}
 use Rattle.rules.specs.Model.{Pdr, Endpoint, Csid, Session, pdrId, endpointId, nodeTypeOf}
 use Rattle.rules.specs.Layout.{area, pdrNumbers, endpointNumbers, csidSlotNumbers, pdrWidth, endpointWidth, csidWidth, pdrOctets, endpointOctets, csidOctets, sessionOctets}
+use Rattle.rules.specs.Limits.{maxPdrs, maxEndpoints, nodeTypes}
 use Rattle.laws.proofs.LayoutLaws.{length-pdr, length-endpoint, length-csid}
 use Rattle.slots.specs.Records.{keyOf}
 use Rattle.areas.proofs.Held.{Held}
@@ -38,15 +39,15 @@ unfolding keyOf fieldOctets
 key-first w v ws vs h = ap number (take-at (be w v) (fieldOctets ws vs) w (length-be w v)) ∙ number-be w v h
 
 pub pdr-good : (p : Pdr) → T (pdrFits p) → (length (pdrOctets p) ≡ pdrArea .width) × (keyOf (pdrArea .key) (pdrOctets p) ≡ pdrId p)
-unfolding pdrOctets pdrNumbers pdrWidth
+unfolding pdrOctets pdrNumbers
 pdr-good p h = (length-pdr p, key-first 2 (p .id) _ _ (ltb→lt (p .id) 65536 h))
 
 pub endpoint-good : (e : Endpoint) → T (endpointFits e) → (length (endpointOctets e) ≡ endpointArea .width) × (keyOf (endpointArea .key) (endpointOctets e) ≡ endpointId e)
-unfolding endpointOctets endpointNumbers endpointWidth
+unfolding endpointOctets endpointNumbers
 endpoint-good e h = (length-endpoint e, key-first 1 (e .id) _ _ (ltb→lt (e .id) 256 h))
 
 pub csid-good : (c : Csid) → T (csidFits c) → (length (csidOctets c) ≡ csidArea .width) × (keyOf (csidArea .key) (csidOctets c) ≡ nodeTypeOf c)
-unfolding csidOctets csidSlotNumbers csidWidth
+unfolding csidOctets csidSlotNumbers
 csid-good c h =
     let n : c .nodeType < 6 = ltb→lt (c .nodeType) 6 (and-left (ltb (c .nodeType) 6) (leb (length (c .address)) 16) h) in
     (length-csid c, key-first 1 (c .nodeType) _ _ (omega arith))
@@ -80,10 +81,10 @@ unfoldable pub octetsBy : ℕ → List Pdr → List Endpoint → List Csid → L
 octetsBy n ps es cs =
     be 8 n
     ++ (length ps ∷ length es ∷ length cs
-    ∷ padded 304 (concatMap pdrOctets ps) ++ (padded 48 (concatMap endpointOctets es) ++ padded 120 (concatMap csidOctets cs)))
+    ∷ padded (maxPdrs * pdrWidth) (concatMap pdrOctets ps) ++ (padded (maxEndpoints * endpointWidth) (concatMap endpointOctets es) ++ padded (nodeTypes * csidWidth) (concatMap csidOctets cs)))
 
 by-octets : (x : Session) → sessionOctets x ≡ octetsBy (x .seid) (x .pdrs) (x .endpoints) (x .csids)
-unfolding sessionOctets octetsBy area pdrWidth endpointWidth csidWidth
+unfolding sessionOctets octetsBy area
 by-octets x = refl
 
 module _ (n : ℕ) (ps : List Pdr) (es : List Endpoint) (cs : List Csid) where
@@ -94,33 +95,33 @@ module _ (n : ℕ) (ps : List Pdr) (es : List Endpoint) (cs : List Csid) where
   pdrMid = length es ∷ length cs ∷ []
 
   abbrev pub pdrPost : List ℕ
-  pdrPost = padded 48 (concatMap endpointOctets es) ++ padded 120 (concatMap csidOctets cs)
+  pdrPost = padded (maxEndpoints * endpointWidth) (concatMap endpointOctets es) ++ padded (nodeTypes * csidWidth) (concatMap csidOctets cs)
 
   abbrev pub endpointPre : List ℕ
   endpointPre = be 8 n ++ (length ps ∷ [])
 
   abbrev pub endpointMid : List ℕ
-  endpointMid = length cs ∷ padded 304 (concatMap pdrOctets ps)
+  endpointMid = length cs ∷ padded (maxPdrs * pdrWidth) (concatMap pdrOctets ps)
 
   abbrev pub endpointPost : List ℕ
-  endpointPost = padded 120 (concatMap csidOctets cs)
+  endpointPost = padded (nodeTypes * csidWidth) (concatMap csidOctets cs)
 
   abbrev pub csidPre : List ℕ
   csidPre = be 8 n ++ (length ps ∷ length es ∷ [])
 
   abbrev pub csidMid : List ℕ
-  csidMid = padded 304 (concatMap pdrOctets ps) ++ padded 48 (concatMap endpointOctets es)
+  csidMid = padded (maxPdrs * pdrWidth) (concatMap pdrOctets ps) ++ padded (maxEndpoints * endpointWidth) (concatMap endpointOctets es)
 
   -- the same octets grouped round each area
-  by-pdrs : length ps ≤ 16 → octetsBy n ps es cs ≡ pdrPre ++ (be 1 (length ps) ++ (pdrMid ++ (padded (16 * 19) (concatMap pdrOctets ps) ++ pdrPost)))
+  by-pdrs : length ps ≤ 16 → octetsBy n ps es cs ≡ pdrPre ++ (be 1 (length ps) ++ (pdrMid ++ (padded (maxPdrs * pdrWidth) (concatMap pdrOctets ps) ++ pdrPost)))
   unfolding octetsBy
   by-pdrs h = rw (one-octet (length ps) (omega arith))
 
-  by-endpoints : length es ≤ 8 → octetsBy n ps es cs ≡ endpointPre ++ (be 1 (length es) ++ (endpointMid ++ (padded (8 * 6) (concatMap endpointOctets es) ++ endpointPost)))
+  by-endpoints : length es ≤ 8 → octetsBy n ps es cs ≡ endpointPre ++ (be 1 (length es) ++ (endpointMid ++ (padded (maxEndpoints * endpointWidth) (concatMap endpointOctets es) ++ endpointPost)))
   unfolding octetsBy
   by-endpoints h = rw (one-octet (length es) (omega arith)) (simp append-assoc)
 
-  by-csids : length cs ≤ 6 → octetsBy n ps es cs ≡ csidPre ++ (be 1 (length cs) ++ (csidMid ++ (padded (6 * 20) (concatMap csidOctets cs) ++ [])))
+  by-csids : length cs ≤ 6 → octetsBy n ps es cs ≡ csidPre ++ (be 1 (length cs) ++ (csidMid ++ (padded (nodeTypes * csidWidth) (concatMap csidOctets cs) ++ [])))
   unfolding octetsBy
   by-csids h = rw (one-octet (length cs) (omega arith), append-nil) (simp append-assoc)
 
@@ -130,15 +131,15 @@ all-true [] = tt
 all-true (r ∷ rs) = all-true rs
 
 -- how long an area is
-pdrs-long : (ps : List Pdr) → length ps ≤ 16 → length (padded 304 (concatMap pdrOctets ps)) ≡ 304
+pdrs-long : (ps : List Pdr) → length ps ≤ 16 → length (padded (maxPdrs * pdrWidth) (concatMap pdrOctets ps)) ≡ maxPdrs * pdrWidth
 pdrs-long ps h =
-    length-padded 304 (concatMap pdrOctets ps)
-    (let l = length-concatMap pdrOctets 19 (λ p. true) (λ p _. unfold pdrWidth in (length-pdr p)) ps (all-true ps) in omega (arith, l))
+    length-padded (maxPdrs * pdrWidth) (concatMap pdrOctets ps)
+    (let l = length-concatMap pdrOctets pdrWidth (λ p. true) (λ p _. (length-pdr p)) ps (all-true ps) in omega (arith, l))
 
-endpoints-long : (es : List Endpoint) → length es ≤ 8 → length (padded 48 (concatMap endpointOctets es)) ≡ 48
+endpoints-long : (es : List Endpoint) → length es ≤ 8 → length (padded (maxEndpoints * endpointWidth) (concatMap endpointOctets es)) ≡ maxEndpoints * endpointWidth
 endpoints-long es h =
-    length-padded 48 (concatMap endpointOctets es)
-    (let l = length-concatMap endpointOctets 6 (λ e. true) (λ e _. unfold endpointWidth in (length-endpoint e)) es (all-true es) in omega (arith, l))
+    length-padded (maxEndpoints * endpointWidth) (concatMap endpointOctets es)
+    (let l = length-concatMap endpointOctets endpointWidth (λ e. true) (λ e _. (length-endpoint e)) es (all-true es) in omega (arith, l))
 
 module _ {x : Session} {s : List ℕ} (h : Slot x s) where
   abbrev n : ℕ
@@ -185,7 +186,7 @@ module _ {x : Session} {s : List ℕ} (h : Slot x s) where
         gap =
             let l = pdrs-long ps (h .pdrsFew) in
             let m = endpoints-long es (h .endpointsFew) in
-            let k = length-append (padded 304 (concatMap pdrOctets ps)) (padded 48 (concatMap endpointOctets es)) in
+            let k = length-append (padded (maxPdrs * pdrWidth) (concatMap pdrOctets ps)) (padded (maxEndpoints * endpointWidth) (concatMap endpointOctets es)) in
             omega (arith, l, m, k);
         counted = lit< tt;
         passes = h .csidsFit;

@@ -16,7 +16,11 @@ use Rattle.octets.specs.Choice.{pick}
 use Rattle.octets.specs.Octets.{be, part, put, zeros, slices}
 use Rattle.octets.specs.Fields.{widthOf, fieldOctets}
 use Rattle.octets.proofs.FieldLaws.{length-fieldOctets}
-use Rattle.plan.specs.Rows.{word, hasTag}
+use Rattle.plan.specs.Rows.{word, hasTag, rowWidth}
+use Rattle.rules.specs.Types as ie
+use Rattle.rules.specs.Layout.{pdrWidth, csidWidth, pdrsAt, sessionWidth}
+use Rattle.rules.specs.Limits.{maxPdrs}
+use Rattle.plan.specs.Words as its
 use Rattle.slots.specs.declared.Place.{Place}
 use Rattle.slots.specs.declared.Place.the-variants.{Found, Absent}
 use Rattle.slots.proofs.Lookup.{length-slices, getD-slices}
@@ -29,17 +33,17 @@ use Rattle.session.specs.Build.{updatedAt, updatedPdr, followedCsid, row
 
 -- ---- the areas fit a slot
 
-pub pdrs-fit : (a : Area) (n : ℕ) → a ≡ pdrArea → n ≡ 483 → Fits a n
+pub pdrs-fit : (a : Area) (n : ℕ) → a ≡ pdrArea → n ≡ sessionWidth → Fits a n
 pdrs-fit a n e h = rw (e, h) (record { count = omega arith; narrow = omega arith; records = omega arith; keyed = omega arith; small = omega arith })
 
-pub endpoints-fit : (a : Area) (n : ℕ) → a ≡ endpointArea → n ≡ 483 → Fits a n
+pub endpoints-fit : (a : Area) (n : ℕ) → a ≡ endpointArea → n ≡ sessionWidth → Fits a n
 endpoints-fit a n e h = rw (e, h) (record { count = omega arith; narrow = omega arith; records = omega arith; keyed = omega arith; small = omega arith })
 
-pub csids-fit : (a : Area) (n : ℕ) → a ≡ csidArea → n ≡ 483 → Fits a n
+pub csids-fit : (a : Area) (n : ℕ) → a ≡ csidArea → n ≡ sessionWidth → Fits a n
 csids-fit a n e h = rw (e, h) (record { count = omega arith; narrow = omega arith; records = omega arith; keyed = omega arith; small = omega arith })
 
 -- a record of the area's width
-pub pdr-wide : (a : Area) (n : ℕ) → a ≡ pdrArea → n ≡ 19 → n ≡ a .width
+pub pdr-wide : (a : Area) (n : ℕ) → a ≡ pdrArea → n ≡ pdrWidth → n ≡ a .width
 pdr-wide a n e h = rw (e, h)
 
 pub pdr-room : (a : Area) (p : ℕ) → a ≡ pdrArea → p < 16 → p < a .room
@@ -48,7 +52,7 @@ pdr-room a p e h = rw e h
 pub endpoint-wide : (a : Area) (n : ℕ) → a ≡ endpointArea → n ≡ 6 → n ≡ a .width
 endpoint-wide a n e h = rw (e, h)
 
-pub csid-wide : (a : Area) (n : ℕ) → a ≡ csidArea → n ≡ 20 → n ≡ a .width
+pub csid-wide : (a : Area) (n : ℕ) → a ≡ csidArea → n ≡ csidWidth → n ≡ a .width
 csid-wide a n e h = rw (e, h)
 
 -- ---- records
@@ -61,48 +65,48 @@ put-all xs s e = ap (λ (l : List ℕ). xs ++ l) (drop-of-length-le s {i = 0 + l
 pub written-whole : (ws vs s out : List ℕ) → length vs ≡ length ws → widthOf ws ≡ length s → out ≡ put 0 (fieldOctets ws vs) s → out ≡ fieldOctets ws vs
 written-whole ws vs s out e w q = q ∙ put-all (fieldOctets ws vs) s (length-fieldOctets ws vs e ∙ w)
 
-pub pdr-written : (row s out : List ℕ) (there far kind teid families endpoint : ℕ) → 19 ≡ length s
-    → kind ≡ placeKind row → there ≡ ifIs (word 3 row) 1 1 → far ≡ ifIs (word 3 row) 1 (word 9 row) → teid ≡ ifIs kind 1 (word 13 row)
-    → families ≡ ifIs kind 1 (word 12 row % 4) → endpoint ≡ ifIs kind 2 (word 11 row)
-    → out ≡ put 0 (fieldOctets (2 ∷ 4 ∷ 1 ∷ 4 ∷ 1 ∷ 1 ∷ 4 ∷ 1 ∷ 1 ∷ []) (word 7 row ∷ word 8 row ∷ there ∷ far ∷ word 10 row ∷ kind ∷ teid ∷ families ∷ endpoint ∷ [])) s
+pub pdr-written : (row s out : List ℕ) (there far kind teid families endpoint : ℕ) → pdrWidth ≡ length s
+    → kind ≡ placeKind row → there ≡ ifIs (word its.hasFarId row) 1 1 → far ≡ ifIs (word its.hasFarId row) 1 (word its.farId row) → teid ≡ ifIs kind 1 (word its.teid row)
+    → families ≡ ifIs kind 1 (word its.flags row % 4) → endpoint ≡ ifIs kind 2 (word its.endpointId row)
+    → out ≡ put 0 (fieldOctets (2 ∷ 4 ∷ 1 ∷ 4 ∷ 1 ∷ 1 ∷ 4 ∷ 1 ∷ 1 ∷ []) (word its.pdrId row ∷ word its.precedence row ∷ there ∷ far ∷ word its.source row ∷ kind ∷ teid ∷ families ∷ endpoint ∷ [])) s
     → out ≡ pdrRecord row
-unfolding pdrRecord pdrValues widthOf
+unfolding pdrRecord pdrValues
 pdr-written row s out there far kind teid families endpoint long k a b c d e q =
     written-whole _ _ s out refl long q ∙ rw (a, b, c, d, e, k)
 
-pub endpoint-written : (row s out : List ℕ) → 6 ≡ length s → out ≡ put 0 (fieldOctets (1 ∷ 4 ∷ 1 ∷ []) (word 11 row ∷ word 13 row ∷ word 12 row % 4 ∷ [])) s → out ≡ endpointRecord row
-unfolding endpointRecord widthOf
+pub endpoint-written : (row s out : List ℕ) → 6 ≡ length s → out ≡ put 0 (fieldOctets (1 ∷ 4 ∷ 1 ∷ []) (word its.endpointId row ∷ word its.teid row ∷ word its.flags row % 4 ∷ [])) s → out ≡ endpointRecord row
+unfolding endpointRecord
 endpoint-written row s out long q = written-whole _ _ s out refl long q
 
-pub csid-long : (row s out : List ℕ) → 20 ≡ length s → word 8 row ≡ 1
-    → out ≡ put 0 (fieldOctets (1 ∷ 1 ∷ 8 ∷ 8 ∷ 0 ∷ 2 ∷ []) (word 7 row ∷ word 8 row ∷ word 9 row ∷ word 10 row ∷ 0 ∷ word 11 row ∷ [])) s → out ≡ csidRecord row
-unfolding csidRecord csidWidths csidValues widthOf
+pub csid-long : (row s out : List ℕ) → csidWidth ≡ length s → word its.idType row ≡ 1
+    → out ≡ put 0 (fieldOctets (1 ∷ 1 ∷ 8 ∷ 8 ∷ 0 ∷ 2 ∷ []) (word its.nodeType row ∷ word its.idType row ∷ word its.addressHigh row ∷ word its.addressLow row ∷ 0 ∷ word its.csid row ∷ [])) s → out ≡ csidRecord row
+unfolding csidRecord csidWidths csidValues
 csid-long row s out long e q = written-whole _ _ s out refl long q ∙ rw (eq-eqb _ _ e)
 
-pub csid-short : (row s out : List ℕ) → 20 ≡ length s → (word 8 row ≡ 1 → ⊥)
-    → out ≡ put 0 (fieldOctets (1 ∷ 1 ∷ 4 ∷ 8 ∷ 4 ∷ 2 ∷ []) (word 7 row ∷ word 8 row ∷ word 10 row ∷ 0 ∷ 0 ∷ word 11 row ∷ [])) s → out ≡ csidRecord row
-unfolding csidRecord csidWidths csidValues widthOf
+pub csid-short : (row s out : List ℕ) → csidWidth ≡ length s → (word its.idType row ≡ 1 → ⊥)
+    → out ≡ put 0 (fieldOctets (1 ∷ 1 ∷ 4 ∷ 8 ∷ 4 ∷ 2 ∷ []) (word its.nodeType row ∷ word its.idType row ∷ word its.addressLow row ∷ 0 ∷ 0 ∷ word its.csid row ∷ [])) s → out ≡ csidRecord row
+unfolding csidRecord csidWidths csidValues
 csid-short row s out long e q = written-whole _ _ s out refl long q ∙ rw (ne-eqb _ _ e)
 
 -- ---- updates
 
-pub precedence-set : (row s out : List ℕ) → word 2 row ≡ 1 → out ≡ put 2 (be 4 (word 8 row)) s → out ≡ withPrecedence row s
+pub precedence-set : (row s out : List ℕ) → word its.hasPrecedence row ≡ 1 → out ≡ put 2 (be 4 (word its.precedence row)) s → out ≡ withPrecedence row s
 unfolding withPrecedence
 precedence-set row s out e q = q ∙ rw (eq-eqb _ _ e)
 
-pub precedence-kept : (row s : List ℕ) → (word 2 row ≡ 1 → ⊥) → s ≡ withPrecedence row s
+pub precedence-kept : (row s : List ℕ) → (word its.hasPrecedence row ≡ 1 → ⊥) → s ≡ withPrecedence row s
 unfolding withPrecedence
 precedence-kept row s e = rw (ne-eqb _ _ e)
 
-pub far-set : (row s mid out : List ℕ) → word 3 row ≡ 1 → mid ≡ put 6 (be 1 1) s → out ≡ put 7 (be 4 (word 9 row)) mid → out ≡ withFar row s
+pub far-set : (row s mid out : List ℕ) → word its.hasFarId row ≡ 1 → mid ≡ put 6 (be 1 1) s → out ≡ put 7 (be 4 (word its.farId row)) mid → out ≡ withFar row s
 unfolding withFar
 far-set row s mid out e m q = q ∙ rw (m, eq-eqb _ _ e)
 
-pub far-gone : (row s out : List ℕ) → (word 3 row ≡ 1 → ⊥) → word 3 row ≡ 2 → out ≡ put 6 (zeros 5) s → out ≡ withFar row s
+pub far-gone : (row s out : List ℕ) → (word its.hasFarId row ≡ 1 → ⊥) → word its.hasFarId row ≡ 2 → out ≡ put 6 (zeros 5) s → out ≡ withFar row s
 unfolding withFar
 far-gone row s out n e q = q ∙ rw (ne-eqb _ _ n, eq-eqb _ _ e)
 
-pub far-kept : (row s : List ℕ) → (word 3 row ≡ 1 → ⊥) → (word 3 row ≡ 2 → ⊥) → s ≡ withFar row s
+pub far-kept : (row s : List ℕ) → (word its.hasFarId row ≡ 1 → ⊥) → (word its.hasFarId row ≡ 2 → ⊥) → s ≡ withFar row s
 unfolding withFar
 far-kept row s n m = rw (ne-eqb _ _ n, ne-eqb _ _ m)
 
@@ -120,74 +124,74 @@ part-part at n i k s h =
     ∙ take-take k (n - i) (drop i (drop at s)) (omega arith)
     ∙ ap (take k) (drop-drop i at s)
 
-pub updated-at : (row s fresh rec mid new done : List ℕ) (p end : ℕ) (a : Area) → length s ≡ 483 → p < 16 → a ≡ pdrArea → length fresh ≡ 19 → end ≡ 11 + p * 19 + 19
-    → rec ≡ put 0 (take (end - (11 + p * 19)) (drop (11 + p * 19) s)) fresh → mid ≡ withPrecedence row rec → new ≡ withFar row mid → done ≡ replacedIn a p new s
+pub updated-at : (row s fresh rec mid new done : List ℕ) (p end : ℕ) (a : Area) → length s ≡ sessionWidth → p < 16 → a ≡ pdrArea → length fresh ≡ pdrWidth → end ≡ 11 + p * pdrWidth + pdrWidth
+    → rec ≡ put 0 (take (end - (11 + p * pdrWidth)) (drop (11 + p * pdrWidth) s)) fresh → mid ≡ withPrecedence row rec → new ≡ withFar row mid → done ≡ replacedIn a p new s
     → done ≡ updatedAt row p s
 unfolding updatedAt updatedRecord areaIn
 updated-at row s fresh rec mid new done p end a long less ea lf ee er em en ed =
-    let e : end - (11 + p * 19) ≡ 19 = omega arith in
-    let whole : rec ≡ part (11 + p * 19) 19 s = er ∙ rw e (put-all (part (11 + p * 19) 19 s) fresh (length-part (11 + p * 19) 19 s (omega arith) ∙ sym lf)) in
-    ed ∙ rw (ea, en, em, whole, ← part-part 11 304 (p * 19) 19 s (omega arith))
+    let e : end - (11 + p * pdrWidth) ≡ pdrWidth = omega arith in
+    let whole : rec ≡ part (11 + p * pdrWidth) pdrWidth s = er ∙ rw e (put-all (part (11 + p * pdrWidth) pdrWidth s) fresh (length-part (11 + p * pdrWidth) pdrWidth s (omega arith) ∙ sym lf)) in
+    ed ∙ rw (ea, en, em, whole, ← part-part pdrsAt (maxPdrs * pdrWidth) (p * pdrWidth) pdrWidth s (omega arith))
 
-pub update-place : (row s : List ℕ) (a : Area) (place : Place) (p : ℕ) → a ≡ pdrArea → place ≡ placeIn a (word 7 row) s → place ≡ Found p → p < 16
+pub update-place : (row s : List ℕ) (a : Area) (place : Place) (p : ℕ) → a ≡ pdrArea → place ≡ placeIn a (word its.pdrId row) s → place ≡ Found p → p < 16
 update-place row s a place p ea e f =
-    let h = found-room pdrArea s (word 7 row) p (rw ea at (sym e ∙ f)) in
+    let h = found-room pdrArea s (word its.pdrId row) p (rw ea at (sym e ∙ f)) in
     omega (arith, h .0, h .1)
 
-pub update-found : (row s done : List ℕ) (a : Area) (place : Place) (p : ℕ) → a ≡ pdrArea → place ≡ placeIn a (word 7 row) s → place ≡ Found p → done ≡ updatedAt row p s → done ≡ updatedPdr row s
+pub update-found : (row s done : List ℕ) (a : Area) (place : Place) (p : ℕ) → a ≡ pdrArea → place ≡ placeIn a (word its.pdrId row) s → place ≡ Found p → done ≡ updatedAt row p s → done ≡ updatedPdr row s
 unfolding updatedPdr
 update-found row s done a place p ea e f d = d ∙ rw (← ea, ← e, f)
 
-pub update-none : (row s : List ℕ) (a : Area) (place : Place) (p : ℕ) → a ≡ pdrArea → place ≡ placeIn a (word 7 row) s → place ≡ Absent p → s ≡ updatedPdr row s
+pub update-none : (row s : List ℕ) (a : Area) (place : Place) (p : ℕ) → a ≡ pdrArea → place ≡ placeIn a (word its.pdrId row) s → place ≡ Absent p → s ≡ updatedPdr row s
 unfolding updatedPdr
 update-none row s a place p ea e f = rw (← ea, ← e, f)
 
 -- ---- FQ-CSIDs
 
-pub csid-set : (row s rec done : List ℕ) (a : Area) → a ≡ csidArea → word 1 row ≡ 1 → rec ≡ csidRecord row → done ≡ withRecord a rec s → done ≡ followedCsid row s
+pub csid-set : (row s rec done : List ℕ) (a : Area) → a ≡ csidArea → word its.verb row ≡ 1 → rec ≡ csidRecord row → done ≡ withRecord a rec s → done ≡ followedCsid row s
 unfolding followedCsid
 csid-set row s rec done a ea e r d = d ∙ rw (ea, r, eq-eqb _ _ e)
 
-pub csid-removed : (row s done : List ℕ) (a : Area) → a ≡ csidArea → (word 1 row ≡ 1 → ⊥) → word 1 row ≡ 2 → done ≡ withoutRecord a (word 7 row) s → done ≡ followedCsid row s
+pub csid-removed : (row s done : List ℕ) (a : Area) → a ≡ csidArea → (word its.verb row ≡ 1 → ⊥) → word its.verb row ≡ 2 → done ≡ withoutRecord a (word its.nodeType row) s → done ≡ followedCsid row s
 unfolding followedCsid
 csid-removed row s done a ea n e d = d ∙ rw (ea, ne-eqb _ _ n, eq-eqb _ _ e)
 
-pub csids-cleared : (row s done : List ℕ) (a : Area) → a ≡ csidArea → (word 1 row ≡ 1 → ⊥) → (word 1 row ≡ 2 → ⊥) → word 1 row ≡ 3 → done ≡ clearedIn a s → done ≡ followedCsid row s
+pub csids-cleared : (row s done : List ℕ) (a : Area) → a ≡ csidArea → (word its.verb row ≡ 1 → ⊥) → (word its.verb row ≡ 2 → ⊥) → word its.verb row ≡ 3 → done ≡ clearedIn a s → done ≡ followedCsid row s
 unfolding followedCsid
 csids-cleared row s done a ea n m e d = d ∙ rw (ea, ne-eqb _ _ n, ne-eqb _ _ m, eq-eqb _ _ e)
 
-pub csids-kept : (row s : List ℕ) → (word 1 row ≡ 1 → ⊥) → (word 1 row ≡ 2 → ⊥) → (word 1 row ≡ 3 → ⊥) → s ≡ followedCsid row s
+pub csids-kept : (row s : List ℕ) → (word its.verb row ≡ 1 → ⊥) → (word its.verb row ≡ 2 → ⊥) → (word its.verb row ≡ 3 → ⊥) → s ≡ followedCsid row s
 unfolding followedCsid
 csids-kept row s n m k = rw (ne-eqb _ _ n, ne-eqb _ _ m, ne-eqb _ _ k)
 
 -- ---- rows
 
 module _ (row s done : List ℕ) (a : Area) where
-  pub row-15 : a ≡ pdrArea → word 0 row ≡ 15 → done ≡ withoutRecord a (word 7 row) s → done ≡ rowApplied row s
+  pub row-15 : a ≡ pdrArea → word its.tag row ≡ ie.removePdr → done ≡ withoutRecord a (word its.pdrId row) s → done ≡ rowApplied row s
   unfolding rowApplied
   row-15 ea e d = d ∙ rw (ea, e)
 
-  pub row-130 : a ≡ endpointArea → word 0 row ≡ 130 → done ≡ withoutRecord a (word 11 row) s → done ≡ rowApplied row s
+  pub row-130 : a ≡ endpointArea → word its.tag row ≡ ie.removeEndpoint → done ≡ withoutRecord a (word its.endpointId row) s → done ≡ rowApplied row s
   unfolding rowApplied
   row-130 ea e d = d ∙ rw (ea, e)
 
-  pub row-127 : (rec : List ℕ) → a ≡ endpointArea → word 0 row ≡ 127 → rec ≡ endpointRecord row → done ≡ withRecord a rec s → done ≡ rowApplied row s
+  pub row-127 : (rec : List ℕ) → a ≡ endpointArea → word its.tag row ≡ ie.createEndpoint → rec ≡ endpointRecord row → done ≡ withRecord a rec s → done ≡ rowApplied row s
   unfolding rowApplied
   row-127 rec ea e r d = d ∙ rw (ea, e, r)
 
-  pub row-1 : (rec : List ℕ) → a ≡ pdrArea → word 0 row ≡ 1 → rec ≡ pdrRecord row → done ≡ withRecord a rec s → done ≡ rowApplied row s
+  pub row-1 : (rec : List ℕ) → a ≡ pdrArea → word its.tag row ≡ ie.createPdr → rec ≡ pdrRecord row → done ≡ withRecord a rec s → done ≡ rowApplied row s
   unfolding rowApplied
   row-1 rec ea e r d = d ∙ rw (ea, e, r)
 
-pub row-9 : (row s done : List ℕ) → word 0 row ≡ 9 → done ≡ updatedPdr row s → done ≡ rowApplied row s
+pub row-9 : (row s done : List ℕ) → word its.tag row ≡ ie.updatePdr → done ≡ updatedPdr row s → done ≡ rowApplied row s
 unfolding rowApplied
 row-9 row s done e d = d ∙ rw e
 
-pub row-65 : (row s done : List ℕ) → word 0 row ≡ 65 → done ≡ followedCsid row s → done ≡ rowApplied row s
+pub row-65 : (row s done : List ℕ) → word its.tag row ≡ ie.fqcsid → done ≡ followedCsid row s → done ≡ rowApplied row s
 unfolding rowApplied
 row-65 row s done e d = d ∙ rw e
 
-pub row-none : (row s : List ℕ) → (word 0 row ≡ 15 → ⊥) → (word 0 row ≡ 130 → ⊥) → (word 0 row ≡ 127 → ⊥) → (word 0 row ≡ 1 → ⊥) → (word 0 row ≡ 9 → ⊥) → (word 0 row ≡ 65 → ⊥) → s ≡ rowApplied row s
+pub row-none : (row s : List ℕ) → (word its.tag row ≡ ie.removePdr → ⊥) → (word its.tag row ≡ ie.removeEndpoint → ⊥) → (word its.tag row ≡ ie.createEndpoint → ⊥) → (word its.tag row ≡ ie.createPdr → ⊥) → (word its.tag row ≡ ie.updatePdr → ⊥) → (word its.tag row ≡ ie.fqcsid → ⊥) → s ≡ rowApplied row s
 unfolding rowApplied
 row-none row s a b c d e f = rw (ne-eqb _ _ a, ne-eqb _ _ b, ne-eqb _ _ c, ne-eqb _ _ d, ne-eqb _ _ e, ne-eqb _ _ f)
 
@@ -196,38 +200,38 @@ row-none row s a b c d e f = rw (ne-eqb _ _ a, ne-eqb _ _ b, ne-eqb _ _ c, ne-eq
 -- rows before i have been passed
 pub record Passing (kind n : ℕ) (plan s₀ s : List ℕ) (i : ℕ) : Type 0 where
   pub within : i ≤ n
-  pub rows : n * 18 ≤ length plan
-  pub size : length s₀ ≡ 483
+  pub rows : n * rowWidth ≤ length plan
+  pub size : length s₀ ≡ sessionWidth
   pub long : length s ≡ length s₀
-  pub rest : passed kind (drop i (slices 18 n plan)) s ≡ passed kind (slices 18 n plan) s₀
+  pub rest : passed kind (drop i (slices rowWidth n plan)) s ≡ passed kind (slices rowWidth n plan) s₀
 
 -- the row at i, the rows from it on, and its tag
 abbrev rowAt : ℕ → List ℕ → List ℕ
-rowAt i plan = part (i * 18) 18 plan
+rowAt i plan = part (i * rowWidth) 18 plan
 
-first-row : (n i : ℕ) (plan : List ℕ) → i < n → drop i (slices 18 n plan) ≡ rowAt i plan ∷ drop (i + 1) (slices 18 n plan)
+first-row : (n i : ℕ) (plan : List ℕ) → i < n → drop i (slices rowWidth n plan) ≡ rowAt i plan ∷ drop (i + 1) (slices rowWidth n plan)
 first-row n i plan h =
-    drop-cons (slices 18 n plan) i [] (rw length-slices h)
-    ∙ (λ j. getD-slices 18 n i plan h j ∷ drop (sym (add-one i) j) (slices 18 n plan))
+    drop-cons (slices rowWidth n plan) i [] (rw length-slices h)
+    ∙ (λ j. getD-slices rowWidth n i plan h j ∷ drop (sym (add-one i) j) (slices rowWidth n plan))
 
-tag-of : (i : ℕ) (plan : List ℕ) → word 0 (rowAt i plan) ≡ getD plan (i * 18) 0
-tag-of i plan = getD-part (i * 18) 18 0 plan (omega arith) ∙ ap (λ (k : ℕ). getD plan k 0) (let e : i * 18 + 0 ≡ i * 18 = omega arith in e)
+tag-of : (i : ℕ) (plan : List ℕ) → word its.tag (rowAt i plan) ≡ getD plan (i * rowWidth) 0
+tag-of i plan = getD-part (i * rowWidth) 18 0 plan (omega arith) ∙ ap (λ (k : ℕ). getD plan k 0) (let e : i * rowWidth + 0 ≡ i * rowWidth = omega arith in e)
 
 -- one row more, by whether it has the tag
-row-passed : (kind : ℕ) (row : List ℕ) (rows : List (List ℕ)) (s : List ℕ) (b : Bool) → eqb (word 0 row) kind ≡ b → passed kind (row ∷ rows) s ≡ passed kind rows (pick b (rowApplied row s) s)
+row-passed : (kind : ℕ) (row : List ℕ) (rows : List (List ℕ)) (s : List ℕ) (b : Bool) → eqb (word its.tag row) kind ≡ b → passed kind (row ∷ rows) s ≡ passed kind rows (pick b (rowApplied row s) s)
 unfolding passed hasTag
 row-passed kind row rows s b e = ap (λ (b : Bool). passed kind rows (pick b (rowApplied row s) s)) e
 
 module _ {kind n : ℕ} {plan s₀ : List ℕ} where
-  pub passing-none : n * 18 ≤ length plan → length s₀ ≡ 483 → Passing kind n plan s₀ s₀ 0
+  pub passing-none : n * rowWidth ≤ length plan → length s₀ ≡ sessionWidth → Passing kind n plan s₀ s₀ 0
   passing-none h e = record { within = omega arith; rows = h; size = e; long = refl; rest = refl }
 
   module _ {s : List ℕ} {i : ℕ} (p : Passing kind n plan s₀ s i) (less : i < n) where
-    pub passing-hit : (end : ℕ) (s′ : List ℕ) → end ≡ i * 18 + 18 → getD plan (i * 18) 0 ≡ kind → length s′ ≡ length s
-        → s′ ≡ rowApplied (take (end - i * 18) (drop (i * 18) plan)) s → Passing kind n plan s₀ s′ (i + 1)
+    pub passing-hit : (end : ℕ) (s′ : List ℕ) → end ≡ i * rowWidth + 18 → getD plan (i * rowWidth) 0 ≡ kind → length s′ ≡ length s
+        → s′ ≡ rowApplied (take (end - i * rowWidth) (drop (i * rowWidth) plan)) s → Passing kind n plan s₀ s′ (i + 1)
     unfolding passed hasTag
     passing-hit end s′ ee tag l e =
-        let width : end - i * 18 ≡ 18 = omega arith in
+        let width : end - i * rowWidth ≡ rowWidth = omega arith in
         let here : s′ ≡ rowApplied (rowAt i plan) s = rw width at e in
         record {
           within = omega arith;
@@ -236,10 +240,10 @@ module _ {kind n : ℕ} {plan s₀ : List ℕ} where
           long = l ∙ p .long;
           rest = rw here
               (sym (ap (λ (l : List (List ℕ)). passed kind l s) (first-row n i plan less)
-              ∙ row-passed kind (rowAt i plan) (drop (i + 1) (slices 18 n plan)) s true (eq-eqb _ _ (tag-of i plan ∙ tag))) ∙ p .rest);
+              ∙ row-passed kind (rowAt i plan) (drop (i + 1) (slices rowWidth n plan)) s true (eq-eqb _ _ (tag-of i plan ∙ tag))) ∙ p .rest);
         }
 
-    pub passing-miss : (getD plan (i * 18) 0 ≡ kind → ⊥) → Passing kind n plan s₀ s (i + 1)
+    pub passing-miss : (getD plan (i * rowWidth) 0 ≡ kind → ⊥) → Passing kind n plan s₀ s (i + 1)
     unfolding passed hasTag
     passing-miss tag =
         record {
@@ -249,16 +253,16 @@ module _ {kind n : ℕ} {plan s₀ : List ℕ} where
           long = p .long;
           rest =
               sym (ap (λ (l : List (List ℕ)). passed kind l s) (first-row n i plan less)
-              ∙ row-passed kind (rowAt i plan) (drop (i + 1) (slices 18 n plan)) s false (ne-eqb _ _ (λ e. tag (sym (tag-of i plan) ∙ e)))) ∙ p .rest;
+              ∙ row-passed kind (rowAt i plan) (drop (i + 1) (slices rowWidth n plan)) s false (ne-eqb _ _ (λ e. tag (sym (tag-of i plan) ∙ e)))) ∙ p .rest;
         }
 
-  pub passing-all : {s : List ℕ} {i : ℕ} → Passing kind n plan s₀ s i → n ≤ i → s ≡ passed kind (slices 18 n plan) s₀
+  pub passing-all : {s : List ℕ} {i : ℕ} → Passing kind n plan s₀ s i → n ≤ i → s ≡ passed kind (slices rowWidth n plan) s₀
   unfolding passed
   passing-all {s} {i} p h =
-      ap (λ (l : List (List ℕ)). passed kind l s) (sym (drop-of-length-le (slices 18 n plan) {i = i} (rw length-slices h))) ∙ p .rest
+      ap (λ (l : List (List ℕ)). passed kind l s) (sym (drop-of-length-le (slices rowWidth n plan) {i = i} (rw length-slices h))) ∙ p .rest
 
 -- ---- the passes in turn
 
-pub built-in-turn : (rows : List (List ℕ)) (s a b c d e f : List ℕ) → a ≡ passed 15 rows s → b ≡ passed 130 rows a → c ≡ passed 127 rows b → d ≡ passed 1 rows c → e ≡ passed 9 rows d → f ≡ passed 65 rows e → f ≡ built rows s
+pub built-in-turn : (rows : List (List ℕ)) (s a b c d e f : List ℕ) → a ≡ passed ie.removePdr rows s → b ≡ passed ie.removeEndpoint rows a → c ≡ passed ie.createEndpoint rows b → d ≡ passed ie.createPdr rows c → e ≡ passed ie.updatePdr rows d → f ≡ passed ie.fqcsid rows e → f ≡ built rows s
 unfolding built
 built-in-turn rows s a b c d e f pa pb pc pd pe pf = pf ∙ rw (pe, pd, pc, pb, pa)

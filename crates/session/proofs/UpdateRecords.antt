@@ -20,6 +20,7 @@ use Rattle.rules.specs.Layout.{pdrWidths, pdrNumbers, pdrOctets, pdrWidth}
 use Rattle.laws.proofs.LayoutLaws.{length-pdr}
 use Rattle.rules.specs.Apply.{orOld}
 use Rattle.plan.specs.Rows.{word, present, rowFar, rowChange}
+use Rattle.plan.specs.Words as its
 use Rattle.session.specs.Records.{withPrecedence, withFar, updatedRecord}
 
 -- a PDR with what a row names replaced
@@ -32,12 +33,12 @@ pdr-fields : ℕ → ℕ → Option ℕ → ℕ → Place → Pdr
 pdr-fields i n f s q = record { id = i; precedence = n; far = f; source = s; place = q }
 
 put-precedence : (i n m : ℕ) (f : Option ℕ) (s : ℕ) (q : Place) → put 2 (be 4 m) (pdrOctets (pdr-fields i n f s q)) ≡ pdrOctets (pdr-fields i m f s q)
-unfolding pdrOctets pdrNumbers pdr-fields widthOf
+unfolding pdrOctets pdrNumbers pdr-fields
 put-precedence i n m f s q = put-field 1 pdrWidths (pdrNumbers (pdr-fields i n f s q)) m (lit< tt) refl
 
 -- a FAR ID is two fields
 put-far : (i n : ℕ) (f g : Option ℕ) (s : ℕ) (q : Place) → put 7 (be 4 (valueOr 0 g)) (put 6 (be 1 (flag (isSome g))) (pdrOctets (pdr-fields i n f s q))) ≡ pdrOctets (pdr-fields i n g s q)
-unfolding pdrOctets pdrNumbers pdr-fields widthOf
+unfolding pdrOctets pdrNumbers pdr-fields
 put-far i n f g s q =
     ap (put 7 (be 4 (valueOr 0 g))) (put-field 2 pdrWidths (pdrNumbers (pdr-fields i n f s q)) (flag (isSome g)) (lit< tt) refl)
     ∙ put-field 3 pdrWidths (set (pdrNumbers (pdr-fields i n f s q)) 2 (flag (isSome g))) (valueOr 0 g) (lit< tt) refl
@@ -45,17 +46,16 @@ put-far i n f g s q =
 precedence-changed : (row : List ℕ) (i n : ℕ) (f : Option ℕ) (s : ℕ) (q : Place)
     → withPrecedence row (pdrOctets (pdr-fields i n f s q)) ≡ pdrOctets (pdr-fields i (orOld n (rowChange row .precedence)) f s q)
 unfolding withPrecedence rowChange present
-precedence-changed row i n f s q = go (eqb (word 2 row) 1)
+precedence-changed row i n f s q = go (eqb (word its.hasPrecedence row) 1)
   where
-    go : (b : Bool) → pick b (put 2 (be 4 (word 8 row)) (pdrOctets (pdr-fields i n f s q))) (pdrOctets (pdr-fields i n f s q)) ≡ pdrOctets (pdr-fields i (orOld n (pick b (some (word 8 row)) none)) f s q)
-    go true = unfold orOld in (put-precedence i n (word 8 row) f s q)
+    go : (b : Bool) → pick b (put 2 (be 4 (word its.precedence row)) (pdrOctets (pdr-fields i n f s q))) (pdrOctets (pdr-fields i n f s q)) ≡ pdrOctets (pdr-fields i (orOld n (pick b (some (word its.precedence row)) none)) f s q)
+    go true = unfold orOld in (put-precedence i n (word its.precedence row) f s q)
     go false = unfold orOld in refl
 
 not-both : (n : ℕ) → eqb n 1 ≡ true → eqb n 2 ≡ false
 not-both n e = let h = eqb-true n 1 e in rw h
 
 pdr-long : (p : Pdr) → 6 + 1 ≤ length (pdrOctets p)
-unfolding pdrWidth
 pdr-long p = omega (arith, length-pdr p)
 
 far-none : (t : List ℕ) → 6 + 1 ≤ length t → put 6 (zeros 5) t ≡ put 7 (be 4 0) (put 6 (be 1 0) t)
@@ -66,16 +66,16 @@ far-none t h =
 far-changed : (row : List ℕ) (i n : ℕ) (f : Option ℕ) (s : ℕ) (q : Place)
     → withFar row (pdrOctets (pdr-fields i n f s q)) ≡ pdrOctets (pdr-fields i n (orOld f (rowChange row .far)) s q)
 unfolding withFar rowChange rowFar
-far-changed row i n f s q = go (eqb (word 3 row) 1) (eqb (word 3 row) 2) (not-both (word 3 row))
+far-changed row i n f s q = go (eqb (word its.hasFarId row) 1) (eqb (word its.hasFarId row) 2) (not-both (word its.hasFarId row))
   where
     t : List ℕ
     t = pdrOctets (pdr-fields i n f s q)
 
     go : (one two : Bool) → (one ≡ true → two ≡ false)
-        → pick one (put 7 (be 4 (word 9 row)) (put 6 (be 1 1) t)) (pick two (put 6 (zeros 5) t) t)
-        ≡ pdrOctets (pdr-fields i n (orOld f (pick two (some none) (pick one (some (some (word 9 row))) none))) s q)
+        → pick one (put 7 (be 4 (word its.farId row)) (put 6 (be 1 1) t)) (pick two (put 6 (zeros 5) t) t)
+        ≡ pdrOctets (pdr-fields i n (orOld f (pick two (some none) (pick one (some (some (word its.farId row))) none))) s q)
     go true true h = absurd (false≢true (sym (h refl)))
-    go true false h = unfold orOld in (put-far i n f (some (word 9 row)) s q)
+    go true false h = unfold orOld in (put-far i n f (some (word its.farId row)) s q)
     go false true h = unfold orOld in (far-none t (pdr-long (pdr-fields i n f s q)) ∙ put-far i n f none s q)
     go false false h = unfold orOld in refl
 

@@ -1,15 +1,17 @@
 -- Where the records of a session stand in its slot, and the sessions in the table (docs/layout.md).
 -- Assumes nothing.
 use Rattle.areas.specs.declared.Area.{Area}
+use Rattle.rules.specs.Layout.{settingsWidth, headWidth, pdrWidth, csidWidth, endpointsAt, csidsAt, sessionWidth, pdrCountAt, endpointCountAt, csidCountAt, endpointWidth, pdrsAt}
+use Rattle.rules.specs.Limits.{maxSessions, maxPdrs, maxEndpoints, nodeTypes}
 
 abbrev pub pdrArea : Area
-pdrArea = record { «count_at» = 8; «count_width» = 1; at = 11; room = 16; width = 19; key = 2 }
+pdrArea = record { «count_at» = pdrCountAt; «count_width» = 1; at = pdrsAt; room = maxPdrs; width = pdrWidth; key = 2 }
 
 abbrev pub endpointArea : Area
-endpointArea = record { «count_at» = 9; «count_width» = 1; at = 315; room = 8; width = 6; key = 1 }
+endpointArea = record { «count_at» = endpointCountAt; «count_width» = 1; at = endpointsAt; room = maxEndpoints; width = endpointWidth; key = 1 }
 
 abbrev pub csidArea : Area
-csidArea = record { «count_at» = 10; «count_width» = 1; at = 363; room = 6; width = 20; key = 1 }
+csidArea = record { «count_at» = csidCountAt; «count_width» = 1; at = csidsAt; room = nodeTypes; width = csidWidth; key = 1 }
 
 abbrev pub sessionArea : Area
-sessionArea = record { «count_at» = 29; «count_width» = 2; at = 31; room = 64; width = 483; key = 8 }
+sessionArea = record { «count_at» = settingsWidth; «count_width» = 2; at = headWidth; room = maxSessions; width = sessionWidth; key = 8 }

@@ -9,6 +9,7 @@ use Rattle.octets.specs.Octets.{be, put, zeros}
 use Rattle.octets.specs.Fields.{fieldOctets}
 use Rattle.rules.specs.Layout.{pdrWidths, endpointWidths}
 use Rattle.plan.specs.Rows.{word}
+use Rattle.plan.specs.Words as its
 
 -- a word that counts if another word has a value
 unfoldable pub ifIs : ℕ → ℕ → ℕ → ℕ
@@ -18,19 +19,19 @@ ifIs there n v = pick (eqb there n) v 0
 
 -- 0 neither, 1 a local F-TEID, 2 an endpoint ID
 unfoldable pub placeKind : List ℕ → ℕ
-placeKind row = pick (eqb (word 12 row) 0) (pick (eqb (word 5 row) 1) 2 0) 1
+placeKind row = pick (eqb (word its.flags row) 0) (pick (eqb (word its.hasEndpointId row) 1) 2 0) 1
 
 unfoldable pub pdrValues : List ℕ → List ℕ
 pdrValues row =
-    word 7 row
-    ∷ word 8 row
-    ∷ ifIs (word 3 row) 1 1
-    ∷ ifIs (word 3 row) 1 (word 9 row)
-    ∷ word 10 row
+    word its.pdrId row
+    ∷ word its.precedence row
+    ∷ ifIs (word its.hasFarId row) 1 1
+    ∷ ifIs (word its.hasFarId row) 1 (word its.farId row)
+    ∷ word its.source row
     ∷ placeKind row
-    ∷ ifIs (placeKind row) 1 (word 13 row)
-    ∷ ifIs (placeKind row) 1 (word 12 row % 4)
-    ∷ ifIs (placeKind row) 2 (word 11 row)
+    ∷ ifIs (placeKind row) 1 (word its.teid row)
+    ∷ ifIs (placeKind row) 1 (word its.flags row % 4)
+    ∷ ifIs (placeKind row) 2 (word its.endpointId row)
     ∷ []
 
 unfoldable pub pdrRecord : List ℕ → List ℕ
@@ -39,7 +40,7 @@ pdrRecord row = fieldOctets pdrWidths (pdrValues row)
 -- ---- endpoint
 
 unfoldable pub endpointRecord : List ℕ → List ℕ
-endpointRecord row = fieldOctets endpointWidths (word 11 row ∷ word 13 row ∷ word 12 row % 4 ∷ [])
+endpointRecord row = fieldOctets endpointWidths (word its.endpointId row ∷ word its.teid row ∷ word its.flags row % 4 ∷ [])
 
 -- ---- FQ-CSID
 
@@ -49,21 +50,21 @@ csidWidths t = pick (eqb t 1) (1 ∷ 1 ∷ 8 ∷ 8 ∷ 0 ∷ 2 ∷ []) (1 ∷ 1 
 
 unfoldable pub csidValues : List ℕ → List ℕ
 csidValues row =
-    pick (eqb (word 8 row) 1) (word 7 row ∷ word 8 row ∷ word 9 row ∷ word 10 row ∷ 0 ∷ word 11 row ∷ [])
-    (word 7 row ∷ word 8 row ∷ word 10 row ∷ 0 ∷ 0 ∷ word 11 row ∷ [])
+    pick (eqb (word its.idType row) 1) (word its.nodeType row ∷ word its.idType row ∷ word its.addressHigh row ∷ word its.addressLow row ∷ 0 ∷ word its.csid row ∷ [])
+    (word its.nodeType row ∷ word its.idType row ∷ word its.addressLow row ∷ 0 ∷ 0 ∷ word its.csid row ∷ [])
 
 unfoldable pub csidRecord : List ℕ → List ℕ
-csidRecord row = fieldOctets (csidWidths (word 8 row)) (csidValues row)
+csidRecord row = fieldOctets (csidWidths (word its.idType row)) (csidValues row)
 
 -- ---- Update PDR
 
 unfoldable pub withPrecedence : List ℕ → List ℕ → List ℕ
-withPrecedence row s = pick (eqb (word 2 row) 1) (put 2 (be 4 (word 8 row)) s) s
+withPrecedence row s = pick (eqb (word its.hasPrecedence row) 1) (put 2 (be 4 (word its.precedence row)) s) s
 
 -- a null FAR ID takes it away
 unfoldable pub withFar : List ℕ → List ℕ → List ℕ
 withFar row s =
-    pick (eqb (word 3 row) 1) (put 7 (be 4 (word 9 row)) (put 6 (be 1 1) s)) (pick (eqb (word 3 row) 2) (put 6 (zeros 5) s) s)
+    pick (eqb (word its.hasFarId row) 1) (put 7 (be 4 (word its.farId row)) (put 6 (be 1 1) s)) (pick (eqb (word its.hasFarId row) 2) (put 6 (zeros 5) s) s)
 
 unfoldable pub updatedRecord : List ℕ → List ℕ → List ℕ
 updatedRecord row s = withFar row (withPrecedence row s)

@@ -5,7 +5,11 @@ ghost use mathlib.Core.Path.{_≡_};
 ghost use Prim.Native.Nat.{_*_, _≤_, _<_};
 ghost use lib.ListN.{length};
 ghost use Rattle.octets.specs.Octets.{slices};
+ghost use Rattle.rules.specs.Layout.{sessionWidth};
+ghost use Rattle.plan.specs.Rows.{rowWidth};
 ghost use Rattle.session.specs.Build.{updatedAt, updatedPdr, followedCsid, rowApplied, passed, built};
+use format::types;
+use format::words;
 use slots::Place;
 
 pub mod layout;
@@ -13,7 +17,7 @@ mod record;
 
 // An Update PDR's row on the record at place p.
 fn update_at(slot: &mut [u8], row: &[u64], p: usize)
-    requires { ⌜ (length (now slot) ≡ 483) × (length (now row) ≡ 18) × (p < 16) ⌝ }
+    requires { ⌜ (length (now slot) ≡ sessionWidth) × (length (now row) ≡ rowWidth) × (p < 16) ⌝ }
     ensures { λ _. ⌜ now (slot .exit) ≡ updatedAt (now (row .entry)) p (now (slot .entry)) ⌝ }
 {
     let at = format::PDRS + p * format::PDR;
@@ -27,10 +31,10 @@ fn update_at(slot: &mut [u8], row: &[u64], p: usize)
 
 // An Update PDR's row: it replaces what it names, and the rest stays.
 fn update_pdr(slot: &mut [u8], row: &[u64])
-    requires { ⌜ (length (now slot) ≡ 483) × (length (now row) ≡ 18) ⌝ }
+    requires { ⌜ (length (now slot) ≡ sessionWidth) × (length (now row) ≡ rowWidth) ⌝ }
     ensures { λ _. ⌜ now (slot .exit) ≡ updatedPdr (now (row .entry)) (now (slot .entry)) ⌝ }
 {
-    let place = areas::find(slot, layout::pdrs(), row[7]);
+    let place = areas::find(slot, layout::pdrs(), row[words::PDR_ID]);
     let Place::Found(p) = place else {
         return;
     };
@@ -39,10 +43,10 @@ fn update_pdr(slot: &mut [u8], row: &[u64])
 
 // An FQ-CSID's row: it sets or removes a node type's, or removes all.
 fn follow_csid(slot: &mut [u8], row: &[u64])
-    requires { ⌜ (length (now slot) ≡ 483) × (length (now row) ≡ 18) ⌝ }
+    requires { ⌜ (length (now slot) ≡ sessionWidth) × (length (now row) ≡ rowWidth) ⌝ }
     ensures { λ _. ⌜ now (slot .exit) ≡ followedCsid (now (row .entry)) (now (slot .entry)) ⌝ }
 {
-    let verb = row[1];
+    let verb = row[words::VERB];
     let a = layout::csids();
     if verb == 1 {
         let rec = record::csid(row);
@@ -50,7 +54,7 @@ fn follow_csid(slot: &mut [u8], row: &[u64])
         return;
     }
     if verb == 2 {
-        areas::drop_record(slot, a, row[7]);
+        areas::drop_record(slot, a, row[words::NODE_TYPE]);
         return;
     }
     if verb == 3 {
@@ -60,31 +64,35 @@ fn follow_csid(slot: &mut [u8], row: &[u64])
 
 // What one row does to the session.
 fn apply_row(slot: &mut [u8], row: &[u64])
-    requires { ⌜ (length (now slot) ≡ 483) × (length (now row) ≡ 18) ⌝ }
+    requires { ⌜ (length (now slot) ≡ sessionWidth) × (length (now row) ≡ rowWidth) ⌝ }
     ensures { λ _. ⌜ now (slot .exit) ≡ rowApplied (now (row .entry)) (now (slot .entry)) ⌝ }
 {
-    let kind = row[0];
+    let kind = row[words::TAG];
     match kind {
-        15 => areas::drop_record(slot, layout::pdrs(), row[7]),
-        130 => areas::drop_record(slot, layout::endpoints(), row[11]),
-        127 => {
+        types::REMOVE_PDR => areas::drop_record(slot, layout::pdrs(), row[words::PDR_ID]),
+        types::REMOVE_ENDPOINT => areas::drop_record(
+            slot,
+            layout::endpoints(),
+            row[words::ENDPOINT_ID],
+        ),
+        types::CREATE_ENDPOINT => {
             let rec = record::endpoint(row);
             areas::put_record(slot, layout::endpoints(), &rec);
         }
-        1 => {
+        types::CREATE_PDR => {
             let rec = record::pdr(row);
             areas::put_record(slot, layout::pdrs(), &rec);
         }
-        9 => update_pdr(slot, row),
-        65 => follow_csid(slot, row),
+        types::UPDATE_PDR => update_pdr(slot, row),
+        types::FQCSID => follow_csid(slot, row),
         _ => {}
     }
 }
 
 // What the rows of one type do, in request order.
 fn pass(slot: &mut [u8], plan: &[u64], n: usize, kind: u64)
-    requires { ⌜ (length (now slot) ≡ 483) × (n * 18 ≤ length (now plan)) ⌝ }
-    ensures { λ _. ⌜ now (slot .exit) ≡ passed kind (slices 18 n (now (plan .entry))) (now (slot .entry)) ⌝ }
+    requires { ⌜ (length (now slot) ≡ sessionWidth) × (n * rowWidth ≤ length (now plan)) ⌝ }
+    ensures { λ _. ⌜ now (slot .exit) ≡ passed kind (slices rowWidth n (now (plan .entry))) (now (slot .entry)) ⌝ }
 {
     let mut i = 0;
     while i < n {
@@ -100,13 +108,13 @@ fn pass(slot: &mut [u8], plan: &[u64], n: usize, kind: u64)
 
 // The session that the plan makes: removals first, then endpoints, PDRs, updates, FQ-CSIDs.
 pub fn build(slot: &mut [u8], plan: &[u64], n: usize)
-    requires { ⌜ (length (now slot) ≡ 483) × (n * 18 ≤ length (now plan)) ⌝ }
-    ensures { λ _. ⌜ now (slot .exit) ≡ built (slices 18 n (now (plan .entry))) (now (slot .entry)) ⌝ }
+    requires { ⌜ (length (now slot) ≡ sessionWidth) × (n * rowWidth ≤ length (now plan)) ⌝ }
+    ensures { λ _. ⌜ now (slot .exit) ≡ built (slices rowWidth n (now (plan .entry))) (now (slot .entry)) ⌝ }
 {
-    pass(slot, plan, n, 15);
-    pass(slot, plan, n, 130);
-    pass(slot, plan, n, 127);
-    pass(slot, plan, n, 1);
-    pass(slot, plan, n, 9);
-    pass(slot, plan, n, 65);
+    pass(slot, plan, n, types::REMOVE_PDR);
+    pass(slot, plan, n, types::REMOVE_ENDPOINT);
+    pass(slot, plan, n, types::CREATE_ENDPOINT);
+    pass(slot, plan, n, types::CREATE_PDR);
+    pass(slot, plan, n, types::UPDATE_PDR);
+    pass(slot, plan, n, types::FQCSID);
 }

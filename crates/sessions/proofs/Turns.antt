@@ -13,7 +13,8 @@ use lib.Dec.{leb, ltb}
 use Rattle.rules.specs.Model.{Settings}
 use Rattle.octets.specs.Octets.{part, number, numberAt, octetAt, slices, allZero}
 use Rattle.octets.specs.Lists.{all, ascending}
-use Rattle.rules.specs.Layout.{pdrWidth, endpointWidth, csidWidth}
+use Rattle.rules.specs.Layout.{pdrWidth, endpointWidth, csidWidth, pdrCountAt, endpointCountAt, csidCountAt}
+use Rattle.rules.specs.Limits.{maxPdrs, maxEndpoints, nodeTypes}
 use Rattle.slots.specs.Records.{keyOf}
 use Rattle.slots.proofs.Lookup.{keys, key-at}
 use Rattle.records.specs.Kept.{pdrSound, endpointSound, csidSound, endpointIds}
@@ -166,17 +167,17 @@ module _ (xs : List ℕ) where
   unfolding headSound numberAt
   head-seid v q h = sym (rw (← q, lt-leb 1 v h))
 
-  pub head-pdrs : (v : ℕ) → v ≡ number (part 0 8 xs) → 1 ≤ v → 16 < getD xs 8 0 → false ≡ headSound xs
+  pub head-pdrs : (v : ℕ) → v ≡ number (part 0 8 xs) → 1 ≤ v → maxPdrs < getD xs pdrCountAt 0 → false ≡ headSound xs
   unfolding headSound numberAt octetAt
-  head-pdrs v q g h = sym (rw (← q, le-leb 1 v g, lt-leb (getD xs 8 0) 16 h))
+  head-pdrs v q g h = sym (rw (← q, le-leb 1 v g, lt-leb (getD xs pdrCountAt 0) maxPdrs h))
 
-  pub head-endpoints : (v : ℕ) → v ≡ number (part 0 8 xs) → 1 ≤ v → getD xs 8 0 ≤ 16 → 8 < getD xs 9 0 → false ≡ headSound xs
+  pub head-endpoints : (v : ℕ) → v ≡ number (part 0 8 xs) → 1 ≤ v → getD xs pdrCountAt 0 ≤ maxPdrs → maxEndpoints < getD xs endpointCountAt 0 → false ≡ headSound xs
   unfolding headSound numberAt octetAt
-  head-endpoints v q g b h = sym (rw (← q, le-leb 1 v g, le-leb (getD xs 8 0) 16 b, lt-leb (getD xs 9 0) 8 h))
+  head-endpoints v q g b h = sym (rw (← q, le-leb 1 v g, le-leb (getD xs pdrCountAt 0) maxPdrs b, lt-leb (getD xs endpointCountAt 0) maxEndpoints h))
 
-  pub head-csids : (v : ℕ) → v ≡ number (part 0 8 xs) → 1 ≤ v → getD xs 8 0 ≤ 16 → getD xs 9 0 ≤ 8 → leb (getD xs 10 0) 6 ≡ headSound xs
+  pub head-csids : (v : ℕ) → v ≡ number (part 0 8 xs) → 1 ≤ v → getD xs pdrCountAt 0 ≤ maxPdrs → getD xs endpointCountAt 0 ≤ maxEndpoints → leb (getD xs csidCountAt 0) nodeTypes ≡ headSound xs
   unfolding headSound numberAt octetAt
-  head-csids v q g b c = sym (rw (← q, le-leb 1 v g, le-leb (getD xs 8 0) 16 b, le-leb (getD xs 9 0) 8 c) (and-true (leb (getD xs 10 0) 6)))
+  head-csids v q g b c = sym (rw (← q, le-leb 1 v g, le-leb (getD xs pdrCountAt 0) maxPdrs b, le-leb (getD xs endpointCountAt 0) maxEndpoints c) (and-true (leb (getD xs csidCountAt 0) nodeTypes)))
 
 pub ascends-none : (w k n : ℕ) (a : List ℕ) → n ≡ 0 → true ≡ ascending (keys w k n a)
 unfolding slices ascending
@@ -192,7 +193,7 @@ key-read w k n i r a h l q = q ∙ sym (key-at w k n i a h l)
 pub slot-areas : (s : Settings) (xs : List ℕ)
     → slotSound s xs
     ≡ (headSound xs
-    && (areaSound (pdrSound s (endpointIds (getD xs 9 0) (endpointArea xs))) 19 2 (getD xs 8 0) (pdrArea xs)
-    && (areaSound (endpointSound s) 6 1 (getD xs 9 0) (endpointArea xs) && areaSound csidSound 20 1 (getD xs 10 0) (csidArea xs))))
-unfolding slotSound slotTests octetAt pdrWidth endpointWidth csidWidth
-slot-areas s xs = rw (and-true (areaSound csidSound 20 1 (getD xs 10 0) (csidArea xs)))
+    && (areaSound (pdrSound s (endpointIds (getD xs endpointCountAt 0) (endpointArea xs))) pdrWidth 2 (getD xs pdrCountAt 0) (pdrArea xs)
+    && (areaSound (endpointSound s) endpointWidth 1 (getD xs endpointCountAt 0) (endpointArea xs) && areaSound csidSound csidWidth 1 (getD xs csidCountAt 0) (csidArea xs))))
+unfolding slotSound slotTests octetAt
+slot-areas s xs = rw (and-true (areaSound csidSound csidWidth 1 (getD xs csidCountAt 0) (csidArea xs)))

@@ -10,7 +10,7 @@ use Rattle.octets.specs.Octets.{part, numberAt, octetAt, allZero, slices}
 use Rattle.octets.specs.Lists.{all, ascending}
 use Rattle.rules.specs.Limits.{maxPdrs, maxEndpoints, nodeTypes}
 use Rattle.rules.specs.Model.{Settings, Session}
-use Rattle.rules.specs.Layout.{pdrWidth, endpointWidth, csidWidth}
+use Rattle.rules.specs.Layout.{pdrWidth, endpointWidth, csidWidth, pdrCountAt, endpointCountAt, csidCountAt, pdrsAt, endpointsAt, csidsAt}
 use Rattle.rules.specs.Sound.{sessionTests}
 use Rattle.slots.specs.Records.{keyOf}
 use Rattle.records.specs.Kept.{pdrSound, endpointSound, csidSound, endpointIds}
@@ -21,25 +21,25 @@ areaSound p w k n a = all p (slices w n a) && (ascending (map (keyOf k) (slices 
 
 -- the three areas of a slot
 abbrev pub pdrArea : List ℕ → List ℕ
-pdrArea xs = part 11 304 xs
+pdrArea xs = part pdrsAt (maxPdrs * pdrWidth) xs
 
 abbrev pub endpointArea : List ℕ → List ℕ
-endpointArea xs = part 315 48 xs
+endpointArea xs = part endpointsAt (maxEndpoints * endpointWidth) xs
 
 abbrev pub csidArea : List ℕ → List ℕ
-csidArea xs = part 363 120 xs
+csidArea xs = part csidsAt (nodeTypes * csidWidth) xs
 
 -- the SEID, and the three counts
 unfoldable pub headSound : List ℕ → Bool
-headSound xs = allOf (leb 1 (numberAt 0 8 xs) ∷ leb (octetAt xs 8) maxPdrs ∷ leb (octetAt xs 9) maxEndpoints ∷ leb (octetAt xs 10) nodeTypes ∷ [])
+headSound xs = allOf (leb 1 (numberAt 0 8 xs) ∷ leb (octetAt xs pdrCountAt) maxPdrs ∷ leb (octetAt xs endpointCountAt) maxEndpoints ∷ leb (octetAt xs csidCountAt) nodeTypes ∷ [])
 
 -- and the areas
 unfoldable pub slotTests : Settings → List ℕ → List Bool
 slotTests s xs =
     headSound xs
-    ∷ areaSound (pdrSound s (endpointIds (octetAt xs 9) (endpointArea xs))) pdrWidth 2 (octetAt xs 8) (pdrArea xs)
-    ∷ areaSound (endpointSound s) endpointWidth 1 (octetAt xs 9) (endpointArea xs)
-    ∷ areaSound csidSound csidWidth 1 (octetAt xs 10) (csidArea xs)
+    ∷ areaSound (pdrSound s (endpointIds (octetAt xs endpointCountAt) (endpointArea xs))) pdrWidth 2 (octetAt xs pdrCountAt) (pdrArea xs)
+    ∷ areaSound (endpointSound s) endpointWidth 1 (octetAt xs endpointCountAt) (endpointArea xs)
+    ∷ areaSound csidSound csidWidth 1 (octetAt xs csidCountAt) (csidArea xs)
     ∷ []
 
 unfoldable pub slotSound : Settings → List ℕ → Bool

@@ -9,6 +9,7 @@ ghost use Prim.Native.Nat.{_*_, _≤_};
 ghost use lib.ListN.{length, drop};
 ghost use Rattle.octets.specs.Octets.{allZero, slices};
 ghost use Rattle.octets.specs.Lists.{ascending};
+ghost use Rattle.rules.specs.Layout.{csidWidth, sessionWidth};
 ghost use Rattle.slots.specs.Records.{keyOf};
 ghost use Rattle.records.specs.Kept.{csidSound};
 ghost use Rattle.sessions.specs.Slot.{areaSound, headSound};
@@ -62,8 +63,8 @@ pub fn ordered(a: &[u8], w: usize, k: usize, n: usize) -> bool
 
 // The area of n FQ-CSIDs, in one walk: each is tested, their node types ascend, and the room after them is zero.
 pub fn csids_sound(a: &[u8], n: usize) -> bool
-    requires { ⌜ n * 20 ≤ length (now a) ⌝ }
-    ensures { λ r. ⌜ r ≡ areaSound csidSound 20 1 n (now (a .entry)) ⌝ }
+    requires { ⌜ n * csidWidth ≤ length (now a) ⌝ }
+    ensures { λ r. ⌜ r ≡ areaSound csidSound csidWidth 1 n (now (a .entry)) ⌝ }
 {
     let mut next: u64 = 0;
     for i in 0..n {
@@ -83,7 +84,7 @@ pub fn csids_sound(a: &[u8], n: usize) -> bool
 
 // The SEID and the numbers of records.
 pub fn head_sound(slot: &[u8]) -> bool
-    requires { ⌜ length (now slot) ≡ 483 ⌝ }
+    requires { ⌜ length (now slot) ≡ sessionWidth ⌝ }
     ensures { λ r. ⌜ r ≡ headSound (now (slot .entry)) ⌝ }
 {
     if octets::read(slot, 0, 8) < 1 {

@@ -14,6 +14,7 @@ use Rattle.rules.specs.Reading.{Request}
 use Rattle.rules.specs.Sound.{inPool, agree}
 use Rattle.rules.specs.Stages.{endpointInUse, lacksFamily, strange, restoredHoldings, clash, requestRules, brokenRules, breaksRule, livePdrs, liveEndpoints}
 use Rattle.plan.specs.Rows.{word, requestIn}
+use Rattle.plan.specs.Words as its
 use Rattle.pool.specs.Map.{marked}
 use Rattle.rows.specs.RowRules.{ofFteid, rowHolding, restores, heldIn, sameId, otherChoice, otherHold, disagree}
 use Rattle.rows.proofs.ListLaws.{onSome, any-ext, any-or, any-map, any-in, anyPair}
@@ -127,7 +128,7 @@ module _ (held other : ℕ → Bool) (s : Settings) (alike : (t : ℕ) → inPoo
 
       one : (b : Bool) → isSome (rowHolding row) ≡ b → restores held (rowHolding row) ≡ restores other (rowHolding row)
       one false e = held-none held row e ∙ sym (held-none other row e)
-      one true e = held-some held row e ∙ alike (word 13 row) (inside (inPool s (word 13 row)) _ _ (sym (strange-some s row e) ∙ h)) ∙ sym (held-some other row e)
+      one true e = held-some held row e ∙ alike (word its.teid row) (inside (inPool s (word its.teid row)) _ _ (sym (strange-some s row e) ∙ h)) ∙ sym (held-some other row e)
 
   fteid-same : (row : List ℕ) → breaksFteid held s row ≡ breaksFteid other s row
   unfolding breaksFteid

@@ -10,9 +10,10 @@ use Rattle.octets.specs.Octets.{octetAt, slices}
 use Rattle.octets.proofs.Tests.{each}
 use Rattle.rules.specs.Limits.{maxSessions, maxPdrs, maxEndpoints, maxPool, mapWords}
 use Rattle.rules.specs.Model.{Settings, Session, heldTeids, freeCount}
-use Rattle.rules.specs.Layout.{viewPdr, viewEndpoint, viewArea, viewSession, viewSettings, viewSessions, pdrWidth, endpointWidth, sessionHead, tableLength, headWidth, sessionWidth}
+use Rattle.rules.specs.Layout.{viewPdr, viewEndpoint, viewArea, viewSession, viewSettings, viewSessions, pdrWidth, endpointWidth, tableLength, headWidth, sessionWidth, pdrCountAt, endpointCountAt, pdrsAt}
 use Rattle.rules.specs.Sound.{sessionTests, sessionAllowed, poolTests, settingsTests, settingsAllowed, soundTests, sound}
 use Rattle.rules.specs.Stages.{newSession, isLive}
+use Rattle.rules.specs.Message.{establishment}
 use Rattle.plan.specs.Rows.{rowWidth}
 use Rattle.pool.proofs.TakenLaws.{Means}
 use Rattle.stages.specs.Rules.{Slot, AtEntry}
@@ -20,15 +21,15 @@ use Rattle.stages.proofs.UnitLaws.{slices-length}
 
 -- ---- the slot
 
-pub pdr-count : (slot : List ℕ) → length (viewSession slot .pdrs) ≡ getD slot 8 0
+pub pdr-count : (slot : List ℕ) → length (viewSession slot .pdrs) ≡ getD slot pdrCountAt 0
 unfolding viewSession viewArea octetAt
-pdr-count slot = length-map (slices pdrWidth (getD slot 8 0) (drop sessionHead slot)) viewPdr ∙ slices-length pdrWidth (getD slot 8 0) (drop sessionHead slot)
+pdr-count slot = length-map (slices pdrWidth (getD slot pdrCountAt 0) (drop pdrsAt slot)) viewPdr ∙ slices-length pdrWidth (getD slot pdrCountAt 0) (drop pdrsAt slot)
 
-pub endpoint-count : (slot : List ℕ) → length (viewSession slot .endpoints) ≡ getD slot 9 0
+pub endpoint-count : (slot : List ℕ) → length (viewSession slot .endpoints) ≡ getD slot endpointCountAt 0
 unfolding viewSession viewArea octetAt
-endpoint-count slot = length-map (slices endpointWidth (getD slot 9 0) _) viewEndpoint ∙ slices-length endpointWidth (getD slot 9 0) _
+endpoint-count slot = length-map (slices endpointWidth (getD slot endpointCountAt 0) _) viewEndpoint ∙ slices-length endpointWidth (getD slot endpointCountAt 0) _
 
-pub slot-of : (slot : List ℕ) (x : Session) → length slot ≡ 483 → viewSession slot ≡ x → length (x .pdrs) ≤ maxPdrs → length (x .endpoints) ≤ maxEndpoints → Slot slot
+pub slot-of : (slot : List ℕ) (x : Session) → length slot ≡ sessionWidth → viewSession slot ≡ x → length (x .pdrs) ≤ maxPdrs → length (x .endpoints) ≤ maxEndpoints → Slot slot
 slot-of slot x long e p q =
     record {
       long = long;
@@ -37,14 +38,14 @@ slot-of slot x long e p q =
     }
 
 -- of a live session
-pub slot-live : (s : Settings) (slot : List ℕ) (x : Session) → length slot ≡ 483 → viewSession slot ≡ x → T (sessionAllowed s x) → Slot slot
+pub slot-live : (s : Settings) (slot : List ℕ) (x : Session) → length slot ≡ sessionWidth → viewSession slot ≡ x → T (sessionAllowed s x) → Slot slot
 unfolding sessionAllowed sessionTests
 slot-live s slot x long e h =
     let tests = each (sessionTests s x) h in
     slot-of slot x long e (leb→le (length (x .pdrs)) maxPdrs (tests .1 .1 .0)) (leb→le (length (x .endpoints)) maxEndpoints (tests .1 .1 .1 .1 .1 .0))
 
 -- of a new one
-pub slot-new : (slot : List ℕ) (seid : ℕ) → length slot ≡ 483 → viewSession slot ≡ newSession seid → Slot slot
+pub slot-new : (slot : List ℕ) (seid : ℕ) → length slot ≡ sessionWidth → viewSession slot ≡ newSession seid → Slot slot
 unfolding newSession
 slot-new slot seid long e = slot-of slot (newSession seid) long e (omega arith) (omega arith)
 
@@ -63,12 +64,12 @@ pool-wide s words h e =
 
 pub at-entry : (t taken slot plan : List ℕ) (n free kind seid : ℕ) (live : Bool) → T (sound maxSessions t) → Slot slot → n * rowWidth ≤ length plan
     → length taken ≡ mapWords → Means (viewSettings t .first) taken (heldTeids (viewSessions t))
-    → free ≡ freeCount (viewSettings t) (viewSessions t) → (kind ≡ 50 → live ≡ isLive seid (viewSessions t))
+    → free ≡ freeCount (viewSettings t) (viewSessions t) → (kind ≡ establishment → live ≡ isLive seid (viewSessions t))
     → AtEntry t taken slot plan n free kind seid live
 unfolding sound soundTests
 at-entry t taken slot plan n free kind seid live h place rows words means count known =
     let tests = each (soundTests maxSessions t (viewSettings t) (viewSessions t)) h in
-    let size : length t ≡ 30943 = unfold tableLength headWidth sessionWidth in (eqb→eq (length t) (tableLength maxSessions) (tests .0)) in
+    let size : length t ≡ tableLength maxSessions = (eqb→eq (length t) (tableLength maxSessions) (tests .0)) in
     record {
       long = omega arith;
       place = place;

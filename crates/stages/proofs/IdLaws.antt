@@ -14,65 +14,67 @@ use Rattle.plan.specs.Rows.{word, hasTag, present, rowFteid, rowLocal, rowPdr}
 use Rattle.rows.proofs.RowTests.{tag-yes, tag-no}
 use Rattle.stages.specs.RowRules.{createsLive, namesDead, updatesGone, pdiNamesBoth, absentFrom, pdiNamesAbsent, breaksId, breaksFteid}
 use Rattle.rules.specs.Model.{Settings}
+use Rattle.rules.specs.Types as ie
+use Rattle.plan.specs.Words as its
 use Rattle.rows.specs.RowRules.{ofFteid, rowHolding, restores}
 use Rattle.lists.proofs.Questions.{member-append}
 
 -- ---- live IDs
 
 module _ (pdrs endpoints row : List ℕ) where
-  pub creates-pdr : word 0 row ≡ 1 → createsLive pdrs endpoints row ≡ member (word 7 row) pdrs
+  pub creates-pdr : word its.tag row ≡ ie.createPdr → createsLive pdrs endpoints row ≡ member (word its.pdrId row) pdrs
   unfolding createsLive hasTag
-  creates-pdr h = rw h (or-false (member (word 7 row) pdrs))
+  creates-pdr h = rw h (or-false (member (word its.pdrId row) pdrs))
 
-  pub creates-endpoint : word 0 row ≡ 127 → createsLive pdrs endpoints row ≡ member (word 11 row) endpoints
+  pub creates-endpoint : word its.tag row ≡ ie.createEndpoint → createsLive pdrs endpoints row ≡ member (word its.endpointId row) endpoints
   unfolding createsLive hasTag
   creates-endpoint h = rw h
 
-  pub creates-other : (word 0 row ≡ 1 → ⊥) → (word 0 row ≡ 127 → ⊥) → createsLive pdrs endpoints row ≡ false
+  pub creates-other : (word its.tag row ≡ ie.createPdr → ⊥) → (word its.tag row ≡ ie.createEndpoint → ⊥) → createsLive pdrs endpoints row ≡ false
   unfolding createsLive
-  creates-other h g = rw (tag-no row 1 h, tag-no row 127 g)
+  creates-other h g = rw (tag-no row ie.createPdr h, tag-no row ie.createEndpoint g)
 
-  pub dead-15 : word 0 row ≡ 15 → namesDead pdrs endpoints row ≡ not (member (word 7 row) pdrs)
+  pub dead-15 : word its.tag row ≡ ie.removePdr → namesDead pdrs endpoints row ≡ not (member (word its.pdrId row) pdrs)
   unfolding namesDead hasTag
-  dead-15 h = rw h (or-false (not (member (word 7 row) pdrs)))
+  dead-15 h = rw h (or-false (not (member (word its.pdrId row) pdrs)))
 
-  pub dead-9 : word 0 row ≡ 9 → namesDead pdrs endpoints row ≡ not (member (word 7 row) pdrs)
+  pub dead-9 : word its.tag row ≡ ie.updatePdr → namesDead pdrs endpoints row ≡ not (member (word its.pdrId row) pdrs)
   unfolding namesDead hasTag
-  dead-9 h = rw h (or-false (not (member (word 7 row) pdrs)))
+  dead-9 h = rw h (or-false (not (member (word its.pdrId row) pdrs)))
 
-  pub dead-130 : word 0 row ≡ 130 → namesDead pdrs endpoints row ≡ not (member (word 11 row) endpoints)
+  pub dead-130 : word its.tag row ≡ ie.removeEndpoint → namesDead pdrs endpoints row ≡ not (member (word its.endpointId row) endpoints)
   unfolding namesDead hasTag
-  dead-130 h = rw h (or-false (not (member (word 11 row) endpoints)))
+  dead-130 h = rw h (or-false (not (member (word its.endpointId row) endpoints)))
 
-  pub dead-other : (word 0 row ≡ 15 → ⊥) → (word 0 row ≡ 9 → ⊥) → (word 0 row ≡ 130 → ⊥) → namesDead pdrs endpoints row ≡ false
+  pub dead-other : (word its.tag row ≡ ie.removePdr → ⊥) → (word its.tag row ≡ ie.updatePdr → ⊥) → (word its.tag row ≡ ie.removeEndpoint → ⊥) → namesDead pdrs endpoints row ≡ false
   unfolding namesDead
-  dead-other h g k = rw (tag-no row 15 h, tag-no row 130 k, tag-no row 9 g)
+  dead-other h g k = rw (tag-no row ie.removePdr h, tag-no row ie.removeEndpoint k, tag-no row ie.updatePdr g)
 
 -- ---- updates
 
 module _ (rows : List (List ℕ)) (row : List ℕ) where
-  pub updates-other : (word 0 row ≡ 9 → ⊥) → updatesGone rows row ≡ false
+  pub updates-other : (word its.tag row ≡ ie.updatePdr → ⊥) → updatesGone rows row ≡ false
   unfolding updatesGone
-  updates-other h = rw (tag-no row 9 h)
+  updates-other h = rw (tag-no row ie.updatePdr h)
 
-  pub updates-9 : word 0 row ≡ 9 → updatesGone rows row ≡ member (word 7 row) (column 15 7 rows)
+  pub updates-9 : word its.tag row ≡ ie.updatePdr → updatesGone rows row ≡ member (word its.pdrId row) (column ie.removePdr its.pdrId rows)
   unfolding updatesGone
-  updates-9 h = rw (tag-yes row 9 h)
+  updates-9 h = rw (tag-yes row ie.updatePdr h)
 
 -- ---- F-TEID and endpoint ID
 
 module _ (row : List ℕ) where
-  pub both-other : (word 0 row ≡ 1 → ⊥) → pdiNamesBoth row ≡ false
+  pub both-other : (word its.tag row ≡ ie.createPdr → ⊥) → pdiNamesBoth row ≡ false
   unfolding pdiNamesBoth
-  both-other h = rw (tag-no row 1 h)
+  both-other h = rw (tag-no row ie.createPdr h)
 
-  pub both-none : word 0 row ≡ 1 → (word 5 row ≡ 1 → ⊥) → pdiNamesBoth row ≡ false
+  pub both-none : word its.tag row ≡ ie.createPdr → (word its.hasEndpointId row ≡ 1 → ⊥) → pdiNamesBoth row ≡ false
   unfolding pdiNamesBoth namesBoth rowPdr present
-  both-none h g = rw (tag-yes row 1 h, ne-eqb (word 5 row) 1 g) (and-false (isSome (rowLocal row)))
+  both-none h g = rw (tag-yes row ie.createPdr h, ne-eqb (word its.hasEndpointId row) 1 g) (and-false (isSome (rowLocal row)))
 
-  pub both-some : word 0 row ≡ 1 → word 5 row ≡ 1 → pdiNamesBoth row ≡ not (eqb (word 12 row) 0)
+  pub both-some : word its.tag row ≡ ie.createPdr → word its.hasEndpointId row ≡ 1 → pdiNamesBoth row ≡ not (eqb (word its.flags row) 0)
   unfolding pdiNamesBoth namesBoth rowPdr present rowLocal
-  both-some h g = rw (tag-yes row 1 h, eq-eqb (word 5 row) 1 g) (one (eqb (word 12 row) 0))
+  both-some h g = rw (tag-yes row ie.createPdr h, eq-eqb (word its.hasEndpointId row) 1 g) (one (eqb (word its.flags row) 0))
     where
       one : (z : Bool) → (isSome (pick z none (some (rowFteid row))) && true) ≡ not z
       one true = refl
@@ -97,31 +99,31 @@ member-without e (x ∷ xs) ys = one (member x ys) (eqb e x) refl refl (member-w
     one false false p q h = rw q h
 
 module _ (endpoints : List ℕ) (rows : List (List ℕ)) (row : List ℕ) where
-  pub absent-other : (word 0 row ≡ 1 → ⊥) → pdiNamesAbsent endpoints rows row ≡ false
+  pub absent-other : (word its.tag row ≡ ie.createPdr → ⊥) → pdiNamesAbsent endpoints rows row ≡ false
   unfolding pdiNamesAbsent
-  absent-other h = rw (tag-no row 1 h)
+  absent-other h = rw (tag-no row ie.createPdr h)
 
-  pub absent-none : word 0 row ≡ 1 → (word 5 row ≡ 1 → ⊥) → pdiNamesAbsent endpoints rows row ≡ false
+  pub absent-none : word its.tag row ≡ ie.createPdr → (word its.hasEndpointId row ≡ 1 → ⊥) → pdiNamesAbsent endpoints rows row ≡ false
   unfolding pdiNamesAbsent absentFrom rowPdr present
-  absent-none h g = rw (tag-yes row 1 h, ne-eqb (word 5 row) 1 g)
+  absent-none h g = rw (tag-yes row ie.createPdr h, ne-eqb (word its.hasEndpointId row) 1 g)
 
-  pub absent-some : word 0 row ≡ 1 → word 5 row ≡ 1
+  pub absent-some : word its.tag row ≡ ie.createPdr → word its.hasEndpointId row ≡ 1
       → pdiNamesAbsent endpoints rows row
-      ≡ not ((member (word 11 row) endpoints && not (member (word 11 row) (column 130 11 rows))) || member (word 11 row) (column 127 11 rows))
+      ≡ not ((member (word its.endpointId row) endpoints && not (member (word its.endpointId row) (column ie.removeEndpoint its.endpointId rows))) || member (word its.endpointId row) (column ie.createEndpoint its.endpointId rows))
   unfolding pdiNamesAbsent absentFrom rowPdr present
   absent-some h g =
-      rw (tag-yes row 1 h, eq-eqb (word 5 row) 1 g, member-append (word 11 row) (without endpoints (column 130 11 rows)) (column 127 11 rows), member-without (word 11 row) endpoints (column 130 11 rows))
+      rw (tag-yes row ie.createPdr h, eq-eqb (word its.hasEndpointId row) 1 g, member-append (word its.endpointId row) (without endpoints (column ie.removeEndpoint its.endpointId rows)) (column ie.createEndpoint its.endpointId rows), member-without (word its.endpointId row) endpoints (column ie.removeEndpoint its.endpointId rows))
 
-module _ (endpoints : List ℕ) (rows : List (List ℕ)) (row : List ℕ) (h : word 0 row ≡ 1) (g : word 5 row ≡ 1) where
-  pub absent-created : member (word 11 row) (column 127 11 rows) ≡ true → pdiNamesAbsent endpoints rows row ≡ false
-  absent-created k = absent-some endpoints rows row h g ∙ rw k (ap not (or-true (member (word 11 row) endpoints && not (member (word 11 row) (column 130 11 rows)))))
+module _ (endpoints : List ℕ) (rows : List (List ℕ)) (row : List ℕ) (h : word its.tag row ≡ ie.createPdr) (g : word its.hasEndpointId row ≡ 1) where
+  pub absent-created : member (word its.endpointId row) (column ie.createEndpoint its.endpointId rows) ≡ true → pdiNamesAbsent endpoints rows row ≡ false
+  absent-created k = absent-some endpoints rows row h g ∙ rw k (ap not (or-true (member (word its.endpointId row) endpoints && not (member (word its.endpointId row) (column ie.removeEndpoint its.endpointId rows)))))
 
-  pub absent-gone : member (word 11 row) (column 127 11 rows) ≡ false → member (word 11 row) (column 130 11 rows) ≡ true → pdiNamesAbsent endpoints rows row ≡ true
-  absent-gone k l = absent-some endpoints rows row h g ∙ rw (k, l) (ap (λ (b : Bool). not (b || false)) (and-false (member (word 11 row) endpoints)))
+  pub absent-gone : member (word its.endpointId row) (column ie.createEndpoint its.endpointId rows) ≡ false → member (word its.endpointId row) (column ie.removeEndpoint its.endpointId rows) ≡ true → pdiNamesAbsent endpoints rows row ≡ true
+  absent-gone k l = absent-some endpoints rows row h g ∙ rw (k, l) (ap (λ (b : Bool). not (b || false)) (and-false (member (word its.endpointId row) endpoints)))
 
-  pub absent-dead : member (word 11 row) (column 127 11 rows) ≡ false → member (word 11 row) (column 130 11 rows) ≡ false
-      → pdiNamesAbsent endpoints rows row ≡ not (member (word 11 row) endpoints)
-  absent-dead k l = absent-some endpoints rows row h g ∙ rw (k, l) (ap not (one (member (word 11 row) endpoints)))
+  pub absent-dead : member (word its.endpointId row) (column ie.createEndpoint its.endpointId rows) ≡ false → member (word its.endpointId row) (column ie.removeEndpoint its.endpointId rows) ≡ false
+      → pdiNamesAbsent endpoints rows row ≡ not (member (word its.endpointId row) endpoints)
+  absent-dead k l = absent-some endpoints rows row h g ∙ rw (k, l) (ap not (one (member (word its.endpointId row) endpoints)))
     where
       one : (b : Bool) → ((b && true) || false) ≡ b
       one true = refl

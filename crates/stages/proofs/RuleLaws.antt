@@ -16,6 +16,8 @@ use Rattle.rules.specs.Reading.{NewPdr}
 use Rattle.rules.specs.Sound.{agree, shareTests}
 use Rattle.rules.specs.Stages.{idTwice, createdLive, absentId, updatesRemoved, namesBoth, namedEndpoint, endpointIdsAfter, namesAbsent, choicesAgree, endpointRestored, pdrRestored, restoredHoldings, livePdrs, liveEndpoints}
 use Rattle.plan.specs.Rows.{word, hasTag, tagged, rowPdr, rowEndpoint, requestIn}
+use Rattle.rules.specs.Types as ie
+use Rattle.plan.specs.Words as its
 use Rattle.rows.specs.RowRules.{rowHolding, repeats, sameId, otherChoice, holdsApart, otherHold}
 use Rattle.rows.proofs.ListLaws.{onSome, any-ext, any-or, any-keep, any-map, any-collect, any-in, not-all-in, anyPair, pair-or, not-pairs, pair-keep, pair-map, repeat-pairs}
 use Rattle.rows.proofs.MergeLaws.{merged, any-merge, pair-merge}
@@ -67,9 +69,9 @@ column-repeat tag field rows =
     ∙ pair-keep (λ a b. eqb (wordAt field a) (wordAt field b)) (λ row. eqb (getD row 0 0) tag) rows
 
 -- a test of some Create PDR
-created-any : (q : NewPdr → Bool) (seid : ℕ) (restoring noted : Bool) (rows : List (List ℕ)) → any q (requestIn seid restoring noted rows .pdrs) ≡ any (λ row. hasTag 1 row && q (rowPdr row)) rows
+created-any : (q : NewPdr → Bool) (seid : ℕ) (restoring noted : Bool) (rows : List (List ℕ)) → any q (requestIn seid restoring noted rows .pdrs) ≡ any (λ row. hasTag ie.createPdr row && q (rowPdr row)) rows
 unfolding requestIn tagged
-created-any q seid restoring noted rows = any-map q rowPdr (keep (hasTag 1) rows) ∙ any-keep (λ row. q (rowPdr row)) (hasTag 1) rows
+created-any q seid restoring noted rows = any-map q rowPdr (keep (hasTag ie.createPdr) rows) ∙ any-keep (λ row. q (rowPdr row)) (hasTag ie.createPdr) rows
 
 absent-some : (ids : List ℕ) (o : Option ℕ) → onSome (λ e. not (member e ids)) o ≡ absentFrom ids o
 unfolding onSome absentFrom
@@ -82,51 +84,51 @@ module _ (x : Session) (seid : ℕ) (restoring noted : Bool) (rows : List (List 
   pub twice-rows : idTwice (requestIn seid restoring noted rows) ≡ anyPair sameId rows
   unfolding idTwice sameId
   twice-rows =
-      rw (created-pdrs seid restoring noted rows, created-endpoints seid restoring noted rows, updated-pdrs seid restoring noted rows, gone-pdrs seid restoring noted rows, gone-endpoints seid restoring noted rows, column-repeat 15 7 rows, column-repeat 130 11 rows, column-repeat 1 7 rows, column-repeat 127 11 rows, column-repeat 9 7 rows)
-      (pair-ones (repeats 15 7 ∷ repeats 130 11 ∷ repeats 1 7 ∷ repeats 127 11 ∷ repeats 9 7 ∷ []) rows)
+      rw (created-pdrs seid restoring noted rows, created-endpoints seid restoring noted rows, updated-pdrs seid restoring noted rows, gone-pdrs seid restoring noted rows, gone-endpoints seid restoring noted rows, column-repeat 15 7 rows, column-repeat ie.removeEndpoint 11 rows, column-repeat 1 7 rows, column-repeat ie.createEndpoint 11 rows, column-repeat 9 7 rows)
+      (pair-ones (repeats ie.removePdr its.pdrId ∷ repeats ie.removeEndpoint its.endpointId ∷ repeats ie.createPdr its.pdrId ∷ repeats ie.createEndpoint its.endpointId ∷ repeats ie.updatePdr its.pdrId ∷ []) rows)
 
   pub created-rows : createdLive x (requestIn seid restoring noted rows) ≡ any (createsLive (livePdrs x) (liveEndpoints x)) rows
   unfolding createdLive createsLive
   created-rows =
-      rw (created-pdrs seid restoring noted rows, created-endpoints seid restoring noted rows, column-in 1 7 rows (livePdrs x), column-in 127 11 rows (liveEndpoints x))
-      (any-or (λ row. hasTag 1 row && member (word 7 row) (livePdrs x)) (λ row. hasTag 127 row && member (word 11 row) (liveEndpoints x)) rows)
+      rw (created-pdrs seid restoring noted rows, created-endpoints seid restoring noted rows, column-in 1 7 rows (livePdrs x), column-in ie.createEndpoint 11 rows (liveEndpoints x))
+      (any-or (λ row. hasTag ie.createPdr row && member (word its.pdrId row) (livePdrs x)) (λ row. hasTag ie.createEndpoint row && member (word its.endpointId row) (liveEndpoints x)) rows)
 
   pub dead-rows : absentId x (requestIn seid restoring noted rows) ≡ any (namesDead (livePdrs x) (liveEndpoints x)) rows
   unfolding absentId namesDead
   dead-rows =
-      rw (updated-pdrs seid restoring noted rows, gone-pdrs seid restoring noted rows, gone-endpoints seid restoring noted rows, column-out 15 7 rows (livePdrs x), column-out 130 11 rows (liveEndpoints x), column-out 9 7 rows (livePdrs x))
+      rw (updated-pdrs seid restoring noted rows, gone-pdrs seid restoring noted rows, gone-endpoints seid restoring noted rows, column-out 15 7 rows (livePdrs x), column-out ie.removeEndpoint 11 rows (liveEndpoints x), column-out 9 7 rows (livePdrs x))
       (any-ones
-      ((λ row. hasTag 15 row && not (member (word 7 row) (livePdrs x))) ∷ (λ row. hasTag 130 row && not (member (word 11 row) (liveEndpoints x))) ∷ (λ row. hasTag 9 row && not (member (word 7 row) (livePdrs x))) ∷ [])
+      ((λ row. hasTag ie.removePdr row && not (member (word its.pdrId row) (livePdrs x))) ∷ (λ row. hasTag ie.removeEndpoint row && not (member (word its.endpointId row) (liveEndpoints x))) ∷ (λ row. hasTag ie.updatePdr row && not (member (word its.pdrId row) (livePdrs x))) ∷ [])
       rows)
 
   pub updates-rows : updatesRemoved (requestIn seid restoring noted rows) ≡ any (updatesGone rows) rows
   unfolding updatesRemoved updatesGone
-  updates-rows = rw (updated-pdrs seid restoring noted rows, gone-pdrs seid restoring noted rows) (column-in 9 7 rows (column 15 7 rows))
+  updates-rows = rw (updated-pdrs seid restoring noted rows, gone-pdrs seid restoring noted rows) (column-in 9 7 rows (column ie.removePdr its.pdrId rows))
 
   pub both-rows : any namesBoth (requestIn seid restoring noted rows .pdrs) ≡ any pdiNamesBoth rows
   unfolding pdiNamesBoth
   both-rows = created-any namesBoth seid restoring noted rows
 
-  after-rows : endpointIdsAfter x (requestIn seid restoring noted rows) ≡ without (liveEndpoints x) (column 130 11 rows) ++ column 127 11 rows
+  after-rows : endpointIdsAfter x (requestIn seid restoring noted rows) ≡ without (liveEndpoints x) (column ie.removeEndpoint its.endpointId rows) ++ column ie.createEndpoint its.endpointId rows
   unfolding endpointIdsAfter
   after-rows = rw (created-endpoints seid restoring noted rows, gone-endpoints seid restoring noted rows)
 
   pub absent-rows : namesAbsent x (requestIn seid restoring noted rows) ≡ any (pdiNamesAbsent (liveEndpoints x) rows) rows
   unfolding namesAbsent pdiNamesAbsent
   absent-rows =
-      let after : List ℕ = without (liveEndpoints x) (column 130 11 rows) ++ column 127 11 rows in
+      let after : List ℕ = without (liveEndpoints x) (column ie.removeEndpoint its.endpointId rows) ++ column ie.createEndpoint its.endpointId rows in
       ap (λ (l : List ℕ). not (allIn (collect namedEndpoint (requestIn seid restoring noted rows .pdrs)) l)) after-rows
       ∙ not-all-in (collect namedEndpoint (requestIn seid restoring noted rows .pdrs)) after
       ∙ any-collect (λ e. not (member e after)) namedEndpoint (requestIn seid restoring noted rows .pdrs)
       ∙ created-any (λ p. onSome (λ e. not (member e after)) (namedEndpoint p)) seid restoring noted rows
-      ∙ any-ext (λ row. hasTag 1 row && onSome (λ e. not (member e after)) (namedEndpoint (rowPdr row))) (λ row. hasTag 1 row && absentFrom after (namedEndpoint (rowPdr row))) (λ row. ap (λ (b : Bool). hasTag 1 row && b) (absent-some after (namedEndpoint (rowPdr row)))) rows
+      ∙ any-ext (λ row. hasTag ie.createPdr row && onSome (λ e. not (member e after)) (namedEndpoint (rowPdr row))) (λ row. hasTag ie.createPdr row && absentFrom after (namedEndpoint (rowPdr row))) (λ row. ap (λ (b : Bool). hasTag ie.createPdr row && b) (absent-some after (namedEndpoint (rowPdr row)))) rows
 
   pub choices-rows : not (allPairs choicesAgree (requestIn seid restoring noted rows .pdrs)) ≡ anyPair otherChoice rows
   unfolding requestIn tagged otherChoice
   choices-rows =
-      not-pairs choicesAgree (map rowPdr (keep (hasTag 1) rows))
-      ∙ pair-map (λ p q. not (choicesAgree p q)) rowPdr (keep (hasTag 1) rows)
-      ∙ pair-keep (λ a b. not (choicesAgree (rowPdr a) (rowPdr b))) (hasTag 1) rows
+      not-pairs choicesAgree (map rowPdr (keep (hasTag ie.createPdr) rows))
+      ∙ pair-map (λ p q. not (choicesAgree p q)) rowPdr (keep (hasTag ie.createPdr) rows)
+      ∙ pair-keep (λ a b. not (choicesAgree (rowPdr a) (rowPdr b))) (hasTag ie.createPdr) rows
 
 -- ---- holds
 
@@ -135,9 +137,9 @@ pub held-rows : (q : Holding → Bool) (seid : ℕ) (restoring noted : Bool) (ro
     → any q (restoredHoldings (requestIn seid restoring noted rows)) ≡ any (λ row. onSome q (rowHolding row)) rows
 unfolding restoredHoldings requestIn tagged rowHolding
 held-rows q seid restoring noted rows =
-    ap₂ (λ (a b : List Holding). any q (a ++ b)) (collect-map rowEndpoint endpointRestored (keep (hasTag 127) rows)) (collect-map rowPdr pdrRestored (keep (hasTag 1) rows))
-    ∙ any-merge q (merged (hasTag 127) (hasTag 1) (λ row. tags-apart 127 1 row (λ e. omega arith)) (λ row. endpointRestored (rowEndpoint row)) (λ row. pdrRestored (rowPdr row)) rows)
-    ∙ any-collect q (λ row. pick (hasTag 127 row) (endpointRestored (rowEndpoint row)) (pick (hasTag 1 row) (pdrRestored (rowPdr row)) none)) rows
+    ap₂ (λ (a b : List Holding). any q (a ++ b)) (collect-map rowEndpoint endpointRestored (keep (hasTag ie.createEndpoint) rows)) (collect-map rowPdr pdrRestored (keep (hasTag ie.createPdr) rows))
+    ∙ any-merge q (merged (hasTag ie.createEndpoint) (hasTag ie.createPdr) (λ row. tags-apart ie.createEndpoint 1 row (λ e. omega arith)) (λ row. endpointRestored (rowEndpoint row)) (λ row. pdrRestored (rowPdr row)) rows)
+    ∙ any-collect q (λ row. pick (hasTag ie.createEndpoint row) (endpointRestored (rowEndpoint row)) (pick (hasTag ie.createPdr row) (pdrRestored (rowPdr row)) none)) rows
 
 same-even : (a b : Bool) → sameBool a b ≡ sameBool b a
 same-even true true = refl
@@ -169,7 +171,7 @@ pair-collect f (a ∷ xs) = one (f a) (pair-collect f xs)
 pub shared-rows : (seid : ℕ) (restoring noted : Bool) (rows : List (List ℕ)) → not (allPairs agree (restoredHoldings (requestIn seid restoring noted rows))) ≡ anyPair otherHold rows
 unfolding restoredHoldings requestIn tagged rowHolding otherHold
 shared-rows seid restoring noted rows =
-    not-pairs agree (collect endpointRestored (map rowEndpoint (keep (hasTag 127) rows)) ++ collect pdrRestored (map rowPdr (keep (hasTag 1) rows)))
-    ∙ ap₂ (λ (a b : List Holding). anyPair (λ h k. not (agree h k)) (a ++ b)) (collect-map rowEndpoint endpointRestored (keep (hasTag 127) rows)) (collect-map rowPdr pdrRestored (keep (hasTag 1) rows))
-    ∙ pair-merge (λ h k. not (agree h k)) (λ h k. ap not (agree-even h k)) (merged (hasTag 127) (hasTag 1) (λ row. tags-apart 127 1 row (λ e. omega arith)) (λ row. endpointRestored (rowEndpoint row)) (λ row. pdrRestored (rowPdr row)) rows)
-    ∙ pair-collect (λ row. pick (hasTag 127 row) (endpointRestored (rowEndpoint row)) (pick (hasTag 1 row) (pdrRestored (rowPdr row)) none)) rows
+    not-pairs agree (collect endpointRestored (map rowEndpoint (keep (hasTag ie.createEndpoint) rows)) ++ collect pdrRestored (map rowPdr (keep (hasTag ie.createPdr) rows)))
+    ∙ ap₂ (λ (a b : List Holding). anyPair (λ h k. not (agree h k)) (a ++ b)) (collect-map rowEndpoint endpointRestored (keep (hasTag ie.createEndpoint) rows)) (collect-map rowPdr pdrRestored (keep (hasTag ie.createPdr) rows))
+    ∙ pair-merge (λ h k. not (agree h k)) (λ h k. ap not (agree-even h k)) (merged (hasTag ie.createEndpoint) (hasTag ie.createPdr) (λ row. tags-apart ie.createEndpoint 1 row (λ e. omega arith)) (λ row. endpointRestored (rowEndpoint row)) (λ row. pdrRestored (rowPdr row)) rows)
+    ∙ pair-collect (λ row. pick (hasTag ie.createEndpoint row) (endpointRestored (rowEndpoint row)) (pick (hasTag ie.createPdr row) (pdrRestored (rowPdr row)) none)) rows

@@ -15,11 +15,13 @@ use Rattle.octets.proofs.Put.{length-part}
 use Rattle.octets.proofs.Digits.{be-number, part-octets, octets-known}
 use Rattle.rules.specs.Limits.{maxSessions}
 use Rattle.rules.specs.Model.{Settings, Session, Sessions, freeCount}
-use Rattle.rules.specs.Layout.{viewSettings, viewSession, viewSessions, viewArea, viewPdr, viewEndpoint, pdrWidth, endpointWidth, sessionHead}
+use Rattle.rules.specs.Layout.{viewSettings, viewSession, viewSessions, viewArea, viewPdr, viewEndpoint, pdrWidth, endpointWidth, settingsWidth, pdrCountAt, endpointCountAt, pdrsAt, endpointsAt}
 use Rattle.rules.specs.Grants.{need}
 use Rattle.rules.specs.Reading.{Request}
 use Rattle.rules.specs.Stages.{tooManySessions, tooManyPdrs, tooManyEndpoints, tooFewTeids, noRoom}
 use Rattle.plan.specs.Rows.{tagged, hasTag, rowsOf, rowPdr, rowEndpoint, rowPdrId, rowEndpointId, requestIn}
+use Rattle.rules.specs.Types as ie
+use Rattle.rules.specs.Message.{establishment}
 use Rattle.rows.specs.declared.Unit.{Unit}
 use Rattle.rows.specs.Units.{settingsOf}
 
@@ -36,7 +38,7 @@ written at n s h g = ap (λ (k : ℕ). be k (number (part at n s))) (sym (length
 two-halves : (s : List ℕ) → part 5 16 s ≡ part 5 8 s ++ part 13 8 s
 two-halves s = take-add 8 8 (drop 5 s) ∙ ap (λ (l : List ℕ). part 5 8 s ++ take 8 l) (drop-drop 8 5 s)
 
-pub unit-is : (t : List ℕ) (u : Unit) → ((i : ℕ) → getD t i 0 < 256) → 29 ≤ length t
+pub unit-is : (t : List ℕ) (u : Unit) → ((i : ℕ) → getD t i 0 < 256) → settingsWidth ≤ length t
     → u .ipv4 ≡ number (part 0 4 t) → u .«has_ipv6» ≡ not (eqb (getD t 4 0) 0) → u .high ≡ number (part 5 8 t) → u .low ≡ number (part 13 8 t)
     → u .first ≡ number (part 21 4 t) → u .size ≡ number (part 25 4 t)
     → settingsOf u ≡ viewSettings t
@@ -77,15 +79,15 @@ pub tagged-length : (tag n : ℕ) (s : List ℕ) → length (tagged tag (rowsOf 
 unfolding tagged
 tagged-length tag n s = omega (arith, keep-length (hasTag tag) (rowsOf n s), slices-length 18 n s)
 
-pub session-count : (t : List ℕ) → length (viewSessions t) ≡ number (part 29 2 t)
+pub session-count : (t : List ℕ) → length (viewSessions t) ≡ number (part settingsWidth 2 t)
 unfolding viewSessions viewArea numberAt
-session-count t = length-map (slices _ (number (part 29 2 t)) _) viewSession ∙ slices-length _ (number (part 29 2 t)) _
+session-count t = length-map (slices _ (number (part settingsWidth 2 t)) _) viewSession ∙ slices-length _ (number (part settingsWidth 2 t)) _
 
-pub full-other : (kind : ℕ) (m : Sessions) → (kind ≡ 50 → ⊥) → tooManySessions maxSessions kind m ≡ false
+pub full-other : (kind : ℕ) (m : Sessions) → (kind ≡ establishment → ⊥) → tooManySessions maxSessions kind m ≡ false
 unfolding tooManySessions
-full-other kind m h = rw (ne-eqb kind 50 h)
+full-other kind m h = rw (ne-eqb kind establishment h)
 
-pub full-new : (kind : ℕ) (t : List ℕ) (n : ℕ) → kind ≡ 50 → n ≡ number (part 29 2 t) → leb 64 n ≡ tooManySessions maxSessions kind (viewSessions t)
+pub full-new : (kind : ℕ) (t : List ℕ) (n : ℕ) → kind ≡ establishment → n ≡ number (part settingsWidth 2 t) → leb maxSessions n ≡ tooManySessions maxSessions kind (viewSessions t)
 unfolding tooManySessions
 full-new kind t n h e = rw (h, e, session-count t)
 
@@ -96,15 +98,15 @@ too-many-none live limit g n h = let e : n ≡ live - g + n = omega arith in ap 
 -- ---- cause 75
 
 module _ (slot : List ℕ) (seid : ℕ) (restoring noted : Bool) (rows : List (List ℕ)) where
-  pub many-pdrs : tooManyPdrs (viewSession slot) (requestIn seid restoring noted rows) ≡ ltb 16 (getD slot 8 0 - length (tagged 15 rows) + length (tagged 1 rows))
+  pub many-pdrs : tooManyPdrs (viewSession slot) (requestIn seid restoring noted rows) ≡ ltb 16 (getD slot pdrCountAt 0 - length (tagged ie.removePdr rows) + length (tagged ie.createPdr rows))
   unfolding tooManyPdrs viewSession viewArea requestIn octetAt
   many-pdrs =
-      rw (length-map (slices pdrWidth (getD slot 8 0) (drop sessionHead slot)) viewPdr, slices-length pdrWidth (getD slot 8 0) (drop sessionHead slot), length-map (tagged 15 rows) rowPdrId, length-map (tagged 1 rows) rowPdr)
+      rw (length-map (slices pdrWidth (getD slot pdrCountAt 0) (drop pdrsAt slot)) viewPdr, slices-length pdrWidth (getD slot pdrCountAt 0) (drop pdrsAt slot), length-map (tagged ie.removePdr rows) rowPdrId, length-map (tagged ie.createPdr rows) rowPdr)
 
-  pub many-endpoints : tooManyEndpoints (viewSession slot) (requestIn seid restoring noted rows) ≡ ltb 8 (getD slot 9 0 - length (tagged 130 rows) + length (tagged 127 rows))
+  pub many-endpoints : tooManyEndpoints (viewSession slot) (requestIn seid restoring noted rows) ≡ ltb 8 (getD slot endpointCountAt 0 - length (tagged ie.removeEndpoint rows) + length (tagged ie.createEndpoint rows))
   unfolding tooManyEndpoints viewSession viewArea requestIn octetAt
   many-endpoints =
-      rw (length-map (slices endpointWidth (getD slot 9 0) (drop (sessionHead + 16 * pdrWidth) slot)) viewEndpoint, slices-length endpointWidth (getD slot 9 0) (drop (sessionHead + 16 * pdrWidth) slot), length-map (tagged 130 rows) rowEndpointId, length-map (tagged 127 rows) rowEndpoint)
+      rw (length-map (slices endpointWidth (getD slot endpointCountAt 0) (drop endpointsAt slot)) viewEndpoint, slices-length endpointWidth (getD slot endpointCountAt 0) (drop endpointsAt slot), length-map (tagged ie.removeEndpoint rows) rowEndpointId, length-map (tagged ie.createEndpoint rows) rowEndpoint)
 
 -- the tests one after the other
 module _ (limit kind : ℕ) (s : Settings) (m : Sessions) (x : Session) (r : Request) where

@@ -13,6 +13,7 @@ use Rattle.rules.specs.Reading.{Request}
 use Rattle.rules.specs.Layout.{viewSettings, viewSession, viewSessions}
 use Rattle.rules.specs.Grants.{need}
 use Rattle.rules.specs.Stages.{isLive, invalidAllocation, breaksRule, tooManySessions, tooManyPdrs, tooManyEndpoints, tooFewTeids, noRoom, judge, plain}
+use Rattle.rules.specs.Causes as why
 use Rattle.plan.specs.Rows.{rowsOf, requestIn}
 use Rattle.rows.specs.RowRules.{heldIn}
 use Rattle.rows.proofs.RequestLaws.{invalid-rows, unsupported-rows}
@@ -39,7 +40,7 @@ room-rows limit kind s m x seid restoring noted rows =
 -- ---- the causes, in 01's order
 
 unfoldable pub chain : Bool → Bool → Bool → Bool → Bool → ℕ
-chain a b c d e = pick a 64 (pick b 71 (pick c 76 (pick d 73 (pick e 75 1))))
+chain a b c d e = pick a why.rejected (pick b why.wrongAllocation (pick c why.notSupported (pick d why.brokenRule (pick e why.noRoom why.accepted))))
 
 judge-is : (limit kind : ℕ) (s : Settings) (m : Sessions) (x : Session) (r : Request) (seid : ℕ) → r .seid ≡ seid
     → judge limit kind s m x r .cause ≡ chain (eqb kind establishment && isLive seid m) (invalidAllocation r) (r .unsupported) (breaksRule s m x r) (noRoom limit kind s m x r)
@@ -48,7 +49,7 @@ judge-is limit kind s m x r seid h =
     one (eqb kind establishment && isLive (r .seid) m) (invalidAllocation r) (r .unsupported) (breaksRule s m x r) (noRoom limit kind s m x r)
     ∙ ap (λ (k : ℕ). chain (eqb kind establishment && isLive k m) (invalidAllocation r) (r .unsupported) (breaksRule s m x r) (noRoom limit kind s m x r)) h
   where
-    one : (a b c d e : Bool) → pick a (plain 64) (pick b (plain 71) (pick c (plain 76) (pick d (plain 73) (pick e (plain 75) (plain 1))))) .cause ≡ chain a b c d e
+    one : (a b c d e : Bool) → pick a (plain why.rejected) (pick b (plain why.wrongAllocation) (pick c (plain why.notSupported) (pick d (plain why.brokenRule) (pick e (plain why.noRoom) (plain why.accepted))))) .cause ≡ chain a b c d e
     one true b c d e = refl
     one false true c d e = refl
     one false false true d e = refl
@@ -87,10 +88,10 @@ module _ (a b c d e : Bool) where
 
 module _ {t taken slot plan : List ℕ} {n free kind seid : ℕ} {live : Bool} (restoring noted : Bool) (known : AtEntry t taken slot plan n free kind seid live) where
   live-same : (eqb kind establishment && live) ≡ (eqb kind establishment && isLive seid (viewSessions t))
-  live-same = one (eqb kind 50) refl
+  live-same = one (eqb kind establishment) refl
     where
-      one : (b : Bool) → eqb kind 50 ≡ b → (b && live) ≡ (b && isLive seid (viewSessions t))
-      one true e = known .known (eqb-true kind 50 e)
+      one : (b : Bool) → eqb kind establishment ≡ b → (b && live) ≡ (b && isLive seid (viewSessions t))
+      one true e = known .known (eqb-true kind establishment e)
       one false e = refl
 
   rule-same : breaksRuleBy (heldIn (viewSettings t) taken) (viewSettings t) (viewSession slot) (requestIn 0 false false (rowsOf n plan))
@@ -118,8 +119,8 @@ unfolding judge
 judge-plain limit kind s m x r = one (eqb kind establishment && isLive (r .seid) m) (invalidAllocation r) (r .unsupported) (breaksRule s m x r) (noRoom limit kind s m x r)
   where
     one : (a b c d e : Bool)
-        → pick a (plain 64) (pick b (plain 71) (pick c (plain 76) (pick d (plain 73) (pick e (plain 75) (plain 1)))))
-        ≡ plain (pick a (plain 64) (pick b (plain 71) (pick c (plain 76) (pick d (plain 73) (pick e (plain 75) (plain 1))))) .cause)
+        → pick a (plain why.rejected) (pick b (plain why.wrongAllocation) (pick c (plain why.notSupported) (pick d (plain why.brokenRule) (pick e (plain why.noRoom) (plain why.accepted)))))
+        ≡ plain (pick a (plain why.rejected) (pick b (plain why.wrongAllocation) (pick c (plain why.notSupported) (pick d (plain why.brokenRule) (pick e (plain why.noRoom) (plain why.accepted))))) .cause)
     one true b c d e = refl
     one false true c d e = refl
     one false false true d e = refl

@@ -10,24 +10,26 @@ use Rattle.lists.specs.Rows.{column}
 use Rattle.rules.specs.Model.{Settings, Pdr, pdrEndpoint}
 use Rattle.rules.specs.Stages.{namesBoth, namedEndpoint, lacksFamily, strange}
 use Rattle.plan.specs.Rows.{word, hasTag, rowPdr}
+use Rattle.rules.specs.Types as ie
+use Rattle.plan.specs.Words as its
 use Rattle.rows.specs.RowRules.{ofFteid, rowHolding, restores, disagree}
 
 -- a created ID live at entry
 unfoldable pub createsLive : List ℕ → List ℕ → List ℕ → Bool
-createsLive pdrs endpoints row = (hasTag 1 row && member (word 7 row) pdrs) || (hasTag 127 row && member (word 11 row) endpoints)
+createsLive pdrs endpoints row = (hasTag ie.createPdr row && member (word its.pdrId row) pdrs) || (hasTag ie.createEndpoint row && member (word its.endpointId row) endpoints)
 
 -- a removed or updated ID not live at entry
 unfoldable pub namesDead : List ℕ → List ℕ → List ℕ → Bool
 namesDead pdrs endpoints row =
-    oneOf ((hasTag 15 row && not (member (word 7 row) pdrs)) ∷ (hasTag 130 row && not (member (word 11 row) endpoints)) ∷ (hasTag 9 row && not (member (word 7 row) pdrs)) ∷ [])
+    oneOf ((hasTag ie.removePdr row && not (member (word its.pdrId row) pdrs)) ∷ (hasTag ie.removeEndpoint row && not (member (word its.endpointId row) endpoints)) ∷ (hasTag ie.updatePdr row && not (member (word its.pdrId row) pdrs)) ∷ [])
 
 -- an update of a removed PDR
 unfoldable pub updatesGone : List (List ℕ) → List ℕ → Bool
-updatesGone rows row = hasTag 9 row && member (word 7 row) (column 15 7 rows)
+updatesGone rows row = hasTag ie.updatePdr row && member (word its.pdrId row) (column ie.removePdr its.pdrId rows)
 
 -- F-TEID and endpoint ID in one PDI
 unfoldable pub pdiNamesBoth : List ℕ → Bool
-pdiNamesBoth row = hasTag 1 row && namesBoth (rowPdr row)
+pdiNamesBoth row = hasTag ie.createPdr row && namesBoth (rowPdr row)
 
 -- an endpoint ID that is not among those there afterwards
 unfoldable pub absentFrom : List ℕ → Option ℕ → Bool
@@ -35,7 +37,7 @@ absentFrom ids none = false
 absentFrom ids (some e) = not (member e ids)
 
 unfoldable pub pdiNamesAbsent : List ℕ → List (List ℕ) → List ℕ → Bool
-pdiNamesAbsent endpoints rows row = hasTag 1 row && absentFrom (without endpoints (column 130 11 rows) ++ column 127 11 rows) (namedEndpoint (rowPdr row))
+pdiNamesAbsent endpoints rows row = hasTag ie.createPdr row && absentFrom (without endpoints (column ie.removeEndpoint its.endpointId rows) ++ column ie.createEndpoint its.endpointId rows) (namedEndpoint (rowPdr row))
 
 -- the rules on a row's IDs
 unfoldable pub breaksId : List ℕ → List ℕ → List (List ℕ) → List ℕ → Bool
@@ -61,4 +63,4 @@ namedIn ids none = false
 namedIn ids (some e) = member e ids
 
 unfoldable pub namesGone : List (List ℕ) → Pdr → Bool
-namesGone rows p = not (member (p .id) (column 15 7 rows)) && namedIn (column 130 11 rows) (pdrEndpoint p)
+namesGone rows p = not (member (p .id) (column ie.removePdr its.pdrId rows)) && namedIn (column ie.removeEndpoint its.endpointId rows) (pdrEndpoint p)

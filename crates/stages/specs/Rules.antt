@@ -7,13 +7,14 @@ use lib.ListN.{length, getD}
 use Rattle.octets.specs.Choice.{oneOf}
 use Rattle.octets.specs.Lists.{member, any, allPairs}
 use Rattle.rules.specs.Limits.{maxPdrs, maxEndpoints}
-use Rattle.rules.specs.Layout.{viewSettings, viewSessions}
+use Rattle.rules.specs.Layout.{viewSettings, viewSessions, headWidth, pdrCountAt, endpointCountAt, sessionWidth}
 use Rattle.rules.specs.Model.{Settings, Session, teidOf, heldTeids, freeCount}
 use Rattle.plan.specs.Rows.{rowWidth}
 use Rattle.pool.specs.Map.{marked}
 use Rattle.rules.specs.Reading.{Request}
 use Rattle.rules.specs.Sound.{agree}
 use Rattle.rules.specs.Stages.{isLive, requestRules, restoredHoldings}
+use Rattle.rules.specs.Message.{establishment}
 
 -- a restored TEID that is held, or shared against the table's rule
 unfoldable pub clashBy : (ℕ → Bool) → Request → Bool
@@ -24,17 +25,17 @@ breaksRuleBy held s x r = oneOf (requestRules s x r) || clashBy held r
 
 -- the octets of a session's slot: as many as the layout has, and counts of records within the limits
 pub record Slot (slot : List ℕ) : Type 0 where
-  pub long : length slot ≡ 483
-  pub pdrs : getD slot 8 0 ≤ maxPdrs
-  pub endpoints : getD slot 9 0 ≤ maxEndpoints
+  pub long : length slot ≡ sessionWidth
+  pub pdrs : getD slot pdrCountAt 0 ≤ maxPdrs
+  pub endpoints : getD slot endpointCountAt 0 ≤ maxEndpoints
 
 -- What is known before stages 4 and 5: the table's settings and session count can be read, the map has a bit for each TEID of the pool,
 -- set where a session holds the TEID, the free count is 01's, and for an establishment (50) it is known whether the SEID is live.
 pub record AtEntry (t taken slot plan : List ℕ) (n free kind seid : ℕ) (live : Bool) : Type 0 where
-  pub long : 31 ≤ length t
+  pub long : headWidth ≤ length t
   pub place : Slot slot
   pub rows : n * rowWidth ≤ length plan
   pub wide : viewSettings t .size ≤ 64 * length taken
   pub marks : (i : ℕ) → i < viewSettings t .size → marked taken i ≡ member (viewSettings t .first + i) (heldTeids (viewSessions t))
   pub count : free ≡ freeCount (viewSettings t) (viewSessions t)
-  pub known : kind ≡ 50 → live ≡ isLive seid (viewSessions t)
+  pub known : kind ≡ establishment → live ≡ isLive seid (viewSessions t)

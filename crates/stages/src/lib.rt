@@ -7,7 +7,7 @@ ghost use lib.ListN.{length};
 ghost use Rattle.rules.specs.Limits.{maxSessions};
 ghost use Rattle.rules.specs.Message.{establishment};
 ghost use Rattle.rules.specs.Model.{freeCount};
-ghost use Rattle.rules.specs.Layout.{viewSettings, viewSession, viewSessions};
+ghost use Rattle.rules.specs.Layout.{viewSettings, viewSession, viewSessions, settingsWidth, headWidth};
 ghost use Rattle.rules.specs.Stages.{tooManySessions, noRoom, judge};
 ghost use Rattle.plan.specs.Rows.{rowWidth, rowsOf, tagged, requestIn};
 ghost use Rattle.rows.specs.RowRules.{requestOf, heldIn};
@@ -18,11 +18,14 @@ ghost use Rattle.stages.specs.Rules.{Slot, AtEntry, breaksRuleBy};
 pub mod row;
 pub mod session;
 
+use format::causes;
+use format::kinds;
+use format::types;
 use rows::Unit;
 
 // The settings at the front of a table.
 pub fn unit(t: &[u8]) -> Unit
-    requires { ⌜ 29 ≤ length (now t) ⌝ }
+    requires { ⌜ settingsWidth ≤ length (now t) ⌝ }
     ensures { λ r. ⌜ settingsOf r ≡ viewSettings (now (t .entry)) ⌝ }
 {
     let ipv4 = octets::read(t, format::IPV4, 4);
@@ -74,7 +77,7 @@ fn breaks_rows(
 
 // Cause 73: is a rule broken?
 pub fn breaks_rule(t: &[u8], taken: &[u64], slot: &[u8], plan: &[u64], n: usize) -> bool
-    requires { ⌜ (29 ≤ length (now t)) × (viewSettings (now t) .size ≤ 64 * length (now taken)) × Slot (now slot) × (n * rowWidth ≤ length (now plan)) ⌝ }
+    requires { ⌜ (settingsWidth ≤ length (now t)) × (viewSettings (now t) .size ≤ 64 * length (now taken)) × Slot (now slot) × (n * rowWidth ≤ length (now plan)) ⌝ }
     ensures { λ r. ⌜ r ≡ breaksRuleBy (heldIn (viewSettings (now (t .entry))) (now (taken .entry))) (viewSettings (now (t .entry))) (viewSession (now (slot .entry))) (requestOf false (rowsOf n (now (plan .entry)))) ⌝ }
 {
     let k = slot[format::PDR_COUNT] as usize;
@@ -111,10 +114,10 @@ fn too_many(live: usize, limit: usize, plan: &[u64], n: usize, gone: u64, new: u
 
 // Would an establishment be one session too many?
 fn full(t: &[u8], kind: u64) -> bool
-    requires { ⌜ 31 ≤ length (now t) ⌝ }
+    requires { ⌜ headWidth ≤ length (now t) ⌝ }
     ensures { λ r. ⌜ r ≡ tooManySessions maxSessions kind (viewSessions (now (t .entry))) ⌝ }
 {
-    if kind != 50 {
+    if kind != kinds::ESTABLISHMENT {
         return false;
     }
     format::MAX_SESSIONS <= octets::read(t, format::COUNT, 2)
@@ -122,7 +125,7 @@ fn full(t: &[u8], kind: u64) -> bool
 
 // Cause 75: more than 64 sessions, 16 PDRs or 8 endpoints would result, or more TEIDs are needed than are free at entry.
 pub fn no_room(t: &[u8], free: usize, kind: u64, slot: &[u8], plan: &[u64], n: usize) -> bool
-    requires { ⌜ (31 ≤ length (now t)) × (free ≡ freeCount (viewSettings (now t)) (viewSessions (now t))) × Slot (now slot) × (n * rowWidth ≤ length (now plan)) ⌝ }
+    requires { ⌜ (headWidth ≤ length (now t)) × (free ≡ freeCount (viewSettings (now t)) (viewSessions (now t))) × Slot (now slot) × (n * rowWidth ≤ length (now plan)) ⌝ }
     ensures { λ r. ⌜ r ≡ noRoom maxSessions kind (viewSettings (now (t .entry))) (viewSessions (now (t .entry))) (viewSession (now (slot .entry))) (requestOf false (rowsOf n (now (plan .entry)))) ⌝ }
 {
     if full(t, kind) {
@@ -133,8 +136,8 @@ pub fn no_room(t: &[u8], free: usize, kind: u64, slot: &[u8], plan: &[u64], n: u
         format::MAX_PDRS,
         plan,
         n,
-        15,
-        1,
+        types::REMOVE_PDR,
+        types::CREATE_PDR,
     ) {
         return true;
     }
@@ -143,8 +146,8 @@ pub fn no_room(t: &[u8], free: usize, kind: u64, slot: &[u8], plan: &[u64], n: u
         format::MAX_ENDPOINTS,
         plan,
         n,
-        130,
-        127,
+        types::REMOVE_ENDPOINT,
+        types::CREATE_ENDPOINT,
     ) {
         return true;
     }
@@ -155,7 +158,7 @@ pub fn no_room(t: &[u8], free: usize, kind: u64, slot: &[u8], plan: &[u64], n: u
 fn already_live(kind: u64, live: bool) -> bool
     ensures { λ r. ⌜ r ≡ (eqb kind establishment && live) ⌝ }
 {
-    if kind != 50 {
+    if kind != kinds::ESTABLISHMENT {
         return false;
     }
     live
@@ -179,19 +182,19 @@ pub fn judge(
     ensures { λ r. ⌜ r ≡ judge maxSessions kind (viewSettings (now (t .entry))) (viewSessions (now (t .entry))) (viewSession (now (slot .entry))) (requestIn seid restoring noted (rowsOf n (now (plan .entry)))) .cause ⌝ }
 {
     if already_live(kind, live) {
-        return 64;
+        return causes::REJECTED;
     }
     if rows::invalid_allocation(plan, n, restoring) {
-        return 71;
+        return causes::WRONG_ALLOCATION;
     }
     if rows::unsupported(plan, n, noted) {
-        return 76;
+        return causes::NOT_SUPPORTED;
     }
     if breaks_rule(t, taken, slot, plan, n) {
-        return 73;
+        return causes::BROKEN_RULE;
     }
     if no_room(t, free, kind, slot, plan, n) {
-        return 75;
+        return causes::NO_ROOM;
     }
-    1
+    causes::ACCEPTED
 }

@@ -1,4 +1,6 @@
 // The rules of cause 73 on one row: on its IDs, by the session's live IDs and the other rows, and on its F-TEID.
+use format::types;
+use format::words;
 use rows::Unit;
 ghost use mathlib.Core.Path.{_≡_};
 ghost use Prim.Native.Nat.{_*_, _≤_};
@@ -13,11 +15,11 @@ fn created_live(row: &[u64], pdrs: &[u64], endpoints: &[u64]) -> bool
     requires { ⌜ length (now row) ≡ rowWidth ⌝ }
     ensures { λ r. ⌜ r ≡ createsLive (now (pdrs .entry)) (now (endpoints .entry)) (now (row .entry)) ⌝ }
 {
-    if row[0] == 1 {
-        return lists::is_in(row[7], pdrs);
+    if row[words::TAG] == types::CREATE_PDR {
+        return lists::is_in(row[words::PDR_ID], pdrs);
     }
-    if row[0] == 127 {
-        return lists::is_in(row[11], endpoints);
+    if row[words::TAG] == types::CREATE_ENDPOINT {
+        return lists::is_in(row[words::ENDPOINT_ID], endpoints);
     }
     false
 }
@@ -27,14 +29,14 @@ fn absent_id(row: &[u64], pdrs: &[u64], endpoints: &[u64]) -> bool
     requires { ⌜ length (now row) ≡ rowWidth ⌝ }
     ensures { λ r. ⌜ r ≡ namesDead (now (pdrs .entry)) (now (endpoints .entry)) (now (row .entry)) ⌝ }
 {
-    if row[0] == 15 {
-        return !lists::is_in(row[7], pdrs);
+    if row[words::TAG] == types::REMOVE_PDR {
+        return !lists::is_in(row[words::PDR_ID], pdrs);
     }
-    if row[0] == 9 {
-        return !lists::is_in(row[7], pdrs);
+    if row[words::TAG] == types::UPDATE_PDR {
+        return !lists::is_in(row[words::PDR_ID], pdrs);
     }
-    if row[0] == 130 {
-        return !lists::is_in(row[11], endpoints);
+    if row[words::TAG] == types::REMOVE_ENDPOINT {
+        return !lists::is_in(row[words::ENDPOINT_ID], endpoints);
     }
     false
 }
@@ -44,10 +46,16 @@ fn updates_removed(row: &[u64], plan: &[u64], n: usize) -> bool
     requires { ⌜ (length (now row) ≡ rowWidth) × (n * rowWidth ≤ length (now plan)) ⌝ }
     ensures { λ r. ⌜ r ≡ updatesGone (rowsOf n (now (plan .entry))) (now (row .entry)) ⌝ }
 {
-    if row[0] != 9 {
+    if row[words::TAG] != types::UPDATE_PDR {
         return false;
     }
-    rows::named(plan, n, 15, 7, row[7])
+    rows::named(
+        plan,
+        n,
+        types::REMOVE_PDR,
+        words::PDR_ID,
+        row[words::PDR_ID],
+    )
 }
 
 // F-TEID and endpoint ID in one PDI.
@@ -55,13 +63,13 @@ fn names_both(row: &[u64]) -> bool
     requires { ⌜ length (now row) ≡ rowWidth ⌝ }
     ensures { λ r. ⌜ r ≡ pdiNamesBoth (now (row .entry)) ⌝ }
 {
-    if row[0] != 1 {
+    if row[words::TAG] != types::CREATE_PDR {
         return false;
     }
-    if row[5] != 1 {
+    if row[words::HAS_ENDPOINT_ID] != 1 {
         return false;
     }
-    row[12] != 0
+    row[words::FLAGS] != 0
 }
 
 // An endpoint ID not there afterwards: neither created nor live and not removed.
@@ -69,17 +77,17 @@ fn names_absent(row: &[u64], plan: &[u64], n: usize, endpoints: &[u64]) -> bool
     requires { ⌜ (length (now row) ≡ rowWidth) × (n * rowWidth ≤ length (now plan)) ⌝ }
     ensures { λ r. ⌜ r ≡ pdiNamesAbsent (now (endpoints .entry)) (rowsOf n (now (plan .entry))) (now (row .entry)) ⌝ }
 {
-    if row[0] != 1 {
+    if row[words::TAG] != types::CREATE_PDR {
         return false;
     }
-    if row[5] != 1 {
+    if row[words::HAS_ENDPOINT_ID] != 1 {
         return false;
     }
-    let id = row[11];
-    if rows::named(plan, n, 127, 11, id) {
+    let id = row[words::ENDPOINT_ID];
+    if rows::named(plan, n, types::CREATE_ENDPOINT, words::ENDPOINT_ID, id) {
         return false;
     }
-    if rows::named(plan, n, 130, 11, id) {
+    if rows::named(plan, n, types::REMOVE_ENDPOINT, words::ENDPOINT_ID, id) {
         return true;
     }
     !lists::is_in(id, endpoints)

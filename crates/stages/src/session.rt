@@ -1,4 +1,6 @@
 // The session at entry, in its slot: the IDs of its records, and the endpoints that its PDRs name.
+use format::types;
+use format::words;
 ghost use mathlib.Core.Path.{_≡_};
 ghost use mathlib.Core.Bool.{false};
 ghost use mathlib.Core.List.{map};
@@ -6,7 +8,7 @@ ghost use Prim.Native.Nat.{_*_, _≤_};
 ghost use lib.ListN.{length};
 ghost use lib.Seq.{sets};
 ghost use Rattle.octets.specs.Octets.{numberAt, slices};
-ghost use Rattle.rules.specs.Layout.{viewPdr, viewSession};
+ghost use Rattle.rules.specs.Layout.{viewPdr, viewSession, pdrWidth};
 ghost use Rattle.rules.specs.Stages.{endpointInUse};
 ghost use Rattle.plan.specs.Rows.{rowWidth, rowsOf};
 ghost use Rattle.rows.specs.RowRules.{requestOf};
@@ -31,17 +33,23 @@ pub fn ids(area: &[u8], n: usize, width: usize, idw: usize, out: &mut [u64])
 
 // Does a PDR that stays name an endpoint that is removed?
 fn names_removed(pdr: &[u8], plan: &[u64], n: usize) -> bool
-    requires { ⌜ (length (now pdr) ≡ 19) × (n * rowWidth ≤ length (now plan)) ⌝ }
+    requires { ⌜ (length (now pdr) ≡ pdrWidth) × (n * rowWidth ≤ length (now plan)) ⌝ }
     ensures { λ r. ⌜ r ≡ namesGone (rowsOf n (now (plan .entry))) (viewPdr (now (pdr .entry))) ⌝ }
 {
     if pdr[format::PLACE] != 2 {
         return false;
     }
-    if !rows::named(plan, n, 130, 11, pdr[format::NAMED_ENDPOINT] as u64) {
+    if !rows::named(
+        plan,
+        n,
+        types::REMOVE_ENDPOINT,
+        words::ENDPOINT_ID,
+        pdr[format::NAMED_ENDPOINT] as u64,
+    ) {
         return false;
     }
     let id = octets::read(pdr, 0, 2);
-    !rows::named(plan, n, 15, 7, id)
+    !rows::named(plan, n, types::REMOVE_PDR, words::PDR_ID, id)
 }
 
 // A removed endpoint still named by a PDR.

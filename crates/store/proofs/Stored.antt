@@ -33,8 +33,7 @@ module _ (s : Settings) (hs : T (settingsAllowed s)) where
   unfolding keyOf sessionOctets
   key-of x h = ap number (take-at (be 8 (x .seid)) _ 8 (length-be 8 (x .seid))) ∙ number-be 8 (x .seid) (seidFits s hs x h)
 
-  wide : (x : Session) → T (sessionAllowed s x) → length (sessionOctets x) ≡ 483
-  unfolding sessionWidth
+  wide : (x : Session) → T (sessionAllowed s x) → length (sessionOctets x) ≡ sessionWidth
   wide x h = length-session s hs x h
 
   pub good : (x : Session) → T (sessionAllowed s x) → (length (sessionOctets x) ≡ sessionArea .width) × (keyOf (sessionArea .key) (sessionOctets x) ≡ seidOf x)
@@ -43,8 +42,8 @@ module _ (s : Settings) (hs : T (settingsAllowed s)) where
   abbrev HeldSessions : Sessions → List ℕ → Type 0
   HeldSessions m t = Held sessionOctets seidOf sessionArea (sessionAllowed s) good (settingsOctets s) [] [] m t
 
-  grouped : (m : Sessions) → encode maxSessions s m ≡ settingsOctets s ++ (be 2 (length m) ++ ([] ++ (padded (64 * 483) (concatMap sessionOctets m) ++ [])))
-  unfolding encode area sessionWidth
+  grouped : (m : Sessions) → encode maxSessions s m ≡ settingsOctets s ++ (be 2 (length m) ++ ([] ++ (padded (maxSessions * sessionWidth) (concatMap sessionOctets m) ++ [])))
+  unfolding encode area
   grouped m = rw append-nil
 
   module _ (m : Sessions) (hm : T (sessionsAllowed maxSessions s m)) where
@@ -52,7 +51,7 @@ module _ (s : Settings) (hs : T (settingsAllowed s)) where
     unfolding sessionsAllowed
     tests = each (sessionsTests maxSessions s m) hm
 
-    few : length m ≤ 64
+    few : length m ≤ maxSessions
     unfolding sessionsTests
     few = leb→le (length m) maxSessions (tests .0)
 
@@ -77,7 +76,7 @@ module _ (s : Settings) (hs : T (settingsAllowed s)) where
         }
 
     -- a session found is the rules' session, and its slot its octets
-    pub session-found : (n p : ℕ) (d : Session) → placeIn sessionArea n (encode maxSessions s m) ≡ Found p → (p < 64) × (sessionOf n m ≡ some (getD m p d))
+    pub session-found : (n p : ℕ) (d : Session) → placeIn sessionArea n (encode maxSessions s m) ≡ Found p → (p < maxSessions) × (sessionOf n m ≡ some (getD m p d))
     unfolding sessionOf hasSeid
     session-found n p d e =
         let f = sym (place-held sessionOctets seidOf sessionArea (sessionAllowed s) good held n) ∙ e in
@@ -89,13 +88,13 @@ module _ (s : Settings) (hs : T (settingsAllowed s)) where
     session-absent n p e = absent-record seidOf n p m up (sym (place-held sessionOctets seidOf sessionArea (sessionAllowed s) good held n) ∙ e)
 
     pub session-loaded : (n p : ℕ) (d : Session) → placeIn sessionArea n (encode maxSessions s m) ≡ Found p
-        → part (p * 483) 483 (areaIn sessionArea (encode maxSessions s m)) ≡ sessionOctets (getD m p d)
+        → part (p * sessionWidth) sessionWidth (areaIn sessionArea (encode maxSessions s m)) ≡ sessionOctets (getD m p d)
     session-loaded n p d e =
         record-held sessionOctets seidOf sessionArea (sessionAllowed s) good held d p
         (found-within seidOf n p m (sym (place-held sessionOctets seidOf sessionArea (sessionAllowed s) good held n) ∙ e))
 
     -- a session put in or replaced, and one taken out
-    pub session-saved : (x : Session) → T (sessionAllowed s x) → length (putSession x m) ≤ 64 → withRecord sessionArea (sessionOctets x) (encode maxSessions s m) ≡ encode maxSessions s (putSession x m)
+    pub session-saved : (x : Session) → T (sessionAllowed s x) → length (putSession x m) ≤ maxSessions → withRecord sessionArea (sessionOctets x) (encode maxSessions s m) ≡ encode maxSessions s (putSession x m)
     unfolding putSession removeSession otherSession hasSeid
     session-saved x hx room = with-held sessionOctets seidOf sessionArea (sessionAllowed s) good held x hx room .octets ∙ sym (grouped (insertBy seidOf x (keep (otherThan seidOf (x .seid)) m)))
 
@@ -104,6 +103,6 @@ module _ (s : Settings) (hs : T (settingsAllowed s)) where
     session-removed n = without-held sessionOctets seidOf sessionArea (sessionAllowed s) good held n .octets ∙ sym (grouped (keep (otherThan seidOf n) m))
 
 -- the slot of a new session
-pub fresh-slot : (n : ℕ) → put 0 (be 8 n) (zeros 483) ≡ sessionOctets (newSession n)
-unfolding put zeros sessionOctets newSession area be padded concatMap pdrWidth endpointWidth csidWidth
+pub fresh-slot : (n : ℕ) → put 0 (be 8 n) (zeros sessionWidth) ≡ sessionOctets (newSession n)
+unfolding put zeros sessionOctets newSession area be padded concatMap
 fresh-slot n = refl

@@ -3,13 +3,15 @@ ghost use mathlib.Core.Path.{_≡_};
 ghost use Prim.Native.Nat.{_*_, _<_};
 ghost use lib.ListN.{length};
 ghost use Rattle.octets.specs.Octets.{be, part, put, zeros};
+ghost use Rattle.rules.specs.Layout.{sessionWidth, tableLength};
+ghost use Rattle.rules.specs.Limits.{maxSessions};
 ghost use Rattle.areas.specs.Counted.{areaIn, placeIn, withRecord, withoutRecord};
 ghost use Rattle.session.specs.Areas.{sessionArea};
 use slots::Place;
 
 // Where the session of a SEID stands, or has its place.
 pub fn find(t: &[u8], seid: u64) -> Place
-    requires { ⌜ length (now t) ≡ 30943 ⌝ }
+    requires { ⌜ length (now t) ≡ tableLength maxSessions ⌝ }
     ensures { λ r. ⌜ r ≡ placeIn sessionArea seid (now (t .entry)) ⌝ }
 {
     areas::find(t, session::layout::sessions(), seid)
@@ -17,8 +19,8 @@ pub fn find(t: &[u8], seid: u64) -> Place
 
 // Copies the slot at place p.
 pub fn load(t: &[u8], p: usize, slot: &mut [u8])
-    requires { ⌜ (length (now t) ≡ 30943) × (p < 64) × (length (now slot) ≡ 483) ⌝ }
-    ensures { λ _. ⌜ now (slot .exit) ≡ part (p * 483) 483 (areaIn sessionArea (now (t .entry))) ⌝ }
+    requires { ⌜ (length (now t) ≡ tableLength maxSessions) × (p < maxSessions) × (length (now slot) ≡ sessionWidth) ⌝ }
+    ensures { λ _. ⌜ now (slot .exit) ≡ part (p * sessionWidth) sessionWidth (areaIn sessionArea (now (t .entry))) ⌝ }
 {
     let at = format::HEAD + p * format::SLOT;
     let end = at + format::SLOT;
@@ -27,8 +29,8 @@ pub fn load(t: &[u8], p: usize, slot: &mut [u8])
 
 // The slot of a new session.
 pub fn fresh(slot: &mut [u8], seid: u64)
-    requires { ⌜ length (now slot) ≡ 483 ⌝ }
-    ensures { λ _. ⌜ now (slot .exit) ≡ put 0 (be 8 seid) (zeros 483) ⌝ }
+    requires { ⌜ length (now slot) ≡ sessionWidth ⌝ }
+    ensures { λ _. ⌜ now (slot .exit) ≡ put 0 (be 8 seid) (zeros sessionWidth) ⌝ }
 {
     octets::clear(slot, 0, format::SLOT);
     octets::write(slot, 0, 8, seid);
@@ -36,7 +38,7 @@ pub fn fresh(slot: &mut [u8], seid: u64)
 
 // Makes the slot that of its SEID: over the one that is there, or put in.
 pub fn save(t: &mut [u8], slot: &[u8])
-    requires { ⌜ (length (now t) ≡ 30943) × (length (now slot) ≡ 483) ⌝ }
+    requires { ⌜ (length (now t) ≡ tableLength maxSessions) × (length (now slot) ≡ sessionWidth) ⌝ }
     ensures { λ _. ⌜ now (t .exit) ≡ withRecord sessionArea (now (slot .entry)) (now (t .entry)) ⌝ }
 {
     areas::put_record(t, session::layout::sessions(), slot);
@@ -44,7 +46,7 @@ pub fn save(t: &mut [u8], slot: &[u8])
 
 // Takes the session of a SEID out, if there is one.
 pub fn remove(t: &mut [u8], seid: u64)
-    requires { ⌜ length (now t) ≡ 30943 ⌝ }
+    requires { ⌜ length (now t) ≡ tableLength maxSessions ⌝ }
     ensures { λ _. ⌜ now (t .exit) ≡ withoutRecord sessionArea seid (now (t .entry)) ⌝ }
 {
     areas::drop_record(t, session::layout::sessions(), seid);

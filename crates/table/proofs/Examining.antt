@@ -15,7 +15,7 @@ use Rattle.octets.specs.Lists.{all, ascending, distinct}
 use Rattle.octets.proofs.Tests.{each, of-true, all-head, all-tail, all-cons}
 use Rattle.rules.specs.Limits.{maxSessions, maxPool, mapWords}
 use Rattle.rules.specs.Model.{Settings, Session, heldTeids, freeCount}
-use Rattle.rules.specs.Layout.{headWidth, sessionWidth, tableLength, viewSettings, viewSessions}
+use Rattle.rules.specs.Layout.{headWidth, sessionWidth, tableLength, viewSettings, viewSessions, settingsWidth}
 use Rattle.rules.specs.Sound.{poolTests, settingsTests, settingsAllowed, inPool, soundTests, sound, takenMap, free, countFree}
 use Rattle.pool.specs.Map.{marks, newMarks, offsets}
 use Rattle.pool.proofs.TakenLaws.{pool-fits, pool-from, pool-below, new-marks-distinct, map-is}
@@ -35,36 +35,36 @@ use Rattle.table.proofs.SoundLaws.{settings-from, sessions-are, sound-l
 -- ---- the front
 
 module _ (t : List ℕ) where
-  pub front-length : (length t ≡ 30943 → ⊥) → false ≡ frontSound t
+  pub front-length : (length t ≡ tableLength maxSessions → ⊥) → false ≡ frontSound t
   unfolding frontSound frontTests
-  front-length h = sym (rw (ne-eqb (length t) 30943 h))
+  front-length h = sym (rw (ne-eqb (length t) (tableLength maxSessions) h))
 
-  module _ (long : length t ≡ 30943) where
+  module _ (long : length t ≡ tableLength maxSessions) where
     -- the slots' area as the code lends it
-    area-is : part 31 30912 t ≡ drop 31 t
-    area-is = take-all 30912 (drop 31 t) (rw length-drop (omega arith))
+    area-is : part headWidth (maxSessions * sessionWidth) t ≡ drop headWidth t
+    area-is = take-all (maxSessions * sessionWidth) (drop headWidth t) (rw length-drop (omega arith))
 
-    module _ (r : Bool) (q : r ≡ settingsSound (part 0 29 t)) where
+    module _ (r : Bool) (q : r ≡ settingsSound (part 0 settingsWidth t)) where
       pub front-settings : not r ≡ true → false ≡ frontSound t
       unfolding frontSound frontTests
-      front-settings h = sym (rw (eq-eqb (length t) 30943 long, ← q, not-true r h))
+      front-settings h = sym (rw (eq-eqb (length t) (tableLength maxSessions) long, ← q, not-true r h))
 
-      module _ (h : not r ≡ false) (n : ℕ) (e : n ≡ number (part 29 2 t)) where
-        pub front-count : 64 < n → false ≡ frontSound t
+      module _ (h : not r ≡ false) (n : ℕ) (e : n ≡ number (part settingsWidth 2 t)) where
+        pub front-count : maxSessions < n → false ≡ frontSound t
         unfolding frontSound frontTests
-        front-count l = sym (rw (eq-eqb (length t) 30943 long, ← q, not-false r h, ← e, lt-leb n 64 l))
+        front-count l = sym (rw (eq-eqb (length t) (tableLength maxSessions) long, ← q, not-false r h, ← e, lt-leb n maxSessions l))
 
-        pub front-order : (o : Bool) → n ≤ 64 → o ≡ (ascending (map (keyOf 8) (slices 483 n (part 31 30912 t))) && allZero (drop (n * 483) (part 31 30912 t))) → o ≡ frontSound t
+        pub front-order : (o : Bool) → n ≤ maxSessions → o ≡ (ascending (map (keyOf 8) (slices sessionWidth n (part headWidth (maxSessions * sessionWidth) t))) && allZero (drop (n * sessionWidth) (part headWidth (maxSessions * sessionWidth) t))) → o ≡ frontSound t
         unfolding frontSound frontTests orderSound
         front-order o l p =
-            p ∙ sym (rw (eq-eqb (length t) 30943 long, ← q, not-false r h, ← e, le-leb n 64 l, area-is) (and-true (ascending (map (keyOf 8) (slices 483 n (drop 31 t))) && allZero (drop (n * 483) (drop 31 t)))))
+            p ∙ sym (rw (eq-eqb (length t) (tableLength maxSessions) long, ← q, not-false r h, ← e, le-leb n maxSessions l, area-is) (and-true (ascending (map (keyOf 8) (slices sessionWidth n (drop headWidth t))) && allZero (drop (n * sessionWidth) (drop headWidth t)))))
 
 -- ---- what is known once the front is sound
 
 pub record Front (t : List ℕ) : Type 0 where
-  pub long : length t ≡ 30943
+  pub long : length t ≡ tableLength maxSessions
   pub settings : T (settingsAllowed (viewSettings t))
-  pub few : number (part 29 2 t) ≤ 64
+  pub few : number (part settingsWidth 2 t) ≤ maxSessions
   pub pool : number (part 21 4 t) + number (part 25 4 t) ≤ 2 ^ 32
   pub size : number (part 25 4 t) ≤ maxPool
 
@@ -72,13 +72,13 @@ pub front-facts : (t : List ℕ) → T (octets t) → (f : Bool) → f ≡ front
 unfolding frontSound frontTests settingsAllowed settingsTests poolTests viewSettings numberAt
 front-facts t o f q h =
     let e = each (frontTests t) (of-true (sym q ∙ not-false f h)) in
-    let long = eqb→eq (length t) 30943 (e .0) in
+    let long = eqb→eq (length t) (tableLength maxSessions) (e .0) in
     let hs = settings-from t long o (e .1 .0) .0 in
     let pool = each (poolTests (number (part 21 4 t)) (number (part 25 4 t))) (each (settingsTests (viewSettings t)) hs .1 .1 .1 .1 .0) in
     record {
       long = long;
       settings = hs;
-      few = leb→le (number (part 29 2 t)) 64 (e .1 .1 .0);
+      few = leb→le (number (part settingsWidth 2 t)) maxSessions (e .1 .1 .0);
       pool = leb→le (number (part 21 4 t) + number (part 25 4 t)) (2 ^ 32) (pool .1 .1 .1 .0);
       size = leb→le (number (part 25 4 t)) maxPool (pool .1 .1 .0);
     }
@@ -110,28 +110,28 @@ held-few s m h = omega (arith, free-distinct (s .first) (s .size) (heldTeids m) 
 module _ (t : List ℕ) (o : T (octets t)) (f : Bool) (q : f ≡ frontSound t) where
   pub examined-broken : (w : List ℕ) → not f ≡ true → Examined t Clash w
   examined-broken w h =
-      let no : sound 64 t ≡ false = sound-law t o ∙ ap (λ (b : Bool). b && walkSound t) (sym q ∙ not-true f h) in
+      let no : sound maxSessions t ≡ false = sound-law t o ∙ ap (λ (b : Bool). b && walkSound t) (sym q ∙ not-true f h) in
       record { answer = sym (ap (λ (b : Bool). pick b (New (distinct (heldTeids (viewSessions t)))) Clash) no); words = λ n e. absurd (let z : _≡_ {A = ℕ} 0 1 = cc in omega arith) }
 
   -- of a sound table: the walk's count and map
-  sound-facts : T (sound 64 t) → T (settingsAllowed (viewSettings t)) × T (all (inPool (viewSettings t)) (heldTeids (viewSessions t)))
+  sound-facts : T (sound maxSessions t) → T (settingsAllowed (viewSettings t)) × T (all (inPool (viewSettings t)) (heldTeids (viewSessions t)))
   unfolding sound soundTests
   sound-facts h =
-      let e = each (soundTests 64 t (viewSettings t) (viewSessions t)) h in
-      (e .1 .0, held-in-pool (viewSettings t) 64 (viewSessions t) (e .1 .1 .0))
+      let e = each (soundTests maxSessions t (viewSettings t) (viewSessions t)) h in
+      (e .1 .0, held-in-pool (viewSettings t) maxSessions (viewSessions t) (e .1 .1 .0))
 
   held-are : teidsIn (slotsOf t) ≡ heldTeids (viewSessions t)
   unfolding teidsIn
   held-are = ap heldTeids (sym (sessions-are t))
 
-  count-is : T (sound 64 t) → newMarks (replicate mapWords 0) (offsets (number (part 21 4 t)) (teidsIn (slotsOf t))) ≡ distinct (heldTeids (viewSessions t))
+  count-is : T (sound maxSessions t) → newMarks (replicate mapWords 0) (offsets (number (part 21 4 t)) (teidsIn (slotsOf t))) ≡ distinct (heldTeids (viewSessions t))
   unfolding viewSettings numberAt
   count-is h =
       let e = sound-facts h in
       ap (λ (l : List ℕ). newMarks (replicate mapWords 0) (offsets (number (part 21 4 t)) l)) held-are
       ∙ new-marks-distinct (viewSettings t) mapWords (heldTeids (viewSessions t)) (pool-fits (viewSettings t) (e .0)) (e .1)
 
-  words-are : T (sound 64 t) → marks (replicate mapWords 0) (offsets (number (part 21 4 t)) (teidsIn (slotsOf t))) ≡ takenMap (viewSettings t) (viewSessions t)
+  words-are : T (sound maxSessions t) → marks (replicate mapWords 0) (offsets (number (part 21 4 t)) (teidsIn (slotsOf t))) ≡ takenMap (viewSettings t) (viewSessions t)
   unfolding viewSettings numberAt
   words-are h =
       let e = sound-facts h in
@@ -140,36 +140,36 @@ module _ (t : List ℕ) (o : T (octets t)) (f : Bool) (q : f ≡ frontSound t) w
   walk-done : not f ≡ false → (r : Marks) (w : List ℕ) → AllAdmitted (unitOf t) (replicate mapWords 0) (slotsOf t) r w → Examined t r w
   unfolding walkSound unit
   walk-done h r w x =
-      let keeps : slotsKeep (unitOf t) (replicate mapWords 0) (slotsOf t) ≡ sound 64 t = sym (sound-law t o ∙ ap (λ (b : Bool). b && walkSound t) (sym q ∙ not-false f h)) in
+      let keeps : slotsKeep (unitOf t) (replicate mapWords 0) (slotsOf t) ≡ sound maxSessions t = sym (sound-law t o ∙ ap (λ (b : Bool). b && walkSound t) (sym q ∙ not-false f h)) in
       let n : ℕ = newMarks (replicate mapWords 0) (offsets (number (part 21 4 t)) (teidsIn (slotsOf t))) in
-      let is : r ≡ pick (sound 64 t) (New (distinct (heldTeids (viewSessions t)))) Clash = x .answer ∙ ap (λ (b : Bool). pick b (New n) Clash) keeps ∙ new-same (sound 64 t) n (distinct (heldTeids (viewSessions t))) count-is in
-      record { answer = is; words = λ k e. x .words k e ∙ words-are (new-holds (sound 64 t) (distinct (heldTeids (viewSessions t))) k (sym is ∙ e)) }
+      let is : r ≡ pick (sound maxSessions t) (New (distinct (heldTeids (viewSessions t)))) Clash = x .answer ∙ ap (λ (b : Bool). pick b (New n) Clash) keeps ∙ new-same (sound maxSessions t) n (distinct (heldTeids (viewSessions t))) count-is in
+      record { answer = is; words = λ k e. x .words k e ∙ words-are (new-holds (sound maxSessions t) (distinct (heldTeids (viewSessions t))) k (sym is ∙ e)) }
 
-  pub examined-walk : not f ≡ false → (first size n : ℕ) (ws : List ℕ) (r : Marks) (w : List ℕ) → first ≡ number (part 21 4 t) → size ≡ number (part 25 4 t) → n ≡ number (part 29 2 t) → ws ≡ replicate mapWords 0
-      → AllAdmitted (unit first size (not (eqb (getD t 4 0) 0))) ws (slices 483 n (part 31 30912 t)) r w → Examined t r w
+  pub examined-walk : not f ≡ false → (first size n : ℕ) (ws : List ℕ) (r : Marks) (w : List ℕ) → first ≡ number (part 21 4 t) → size ≡ number (part 25 4 t) → n ≡ number (part settingsWidth 2 t) → ws ≡ replicate mapWords 0
+      → AllAdmitted (unit first size (not (eqb (getD t 4 0) 0))) ws (slices sessionWidth n (part headWidth (maxSessions * sessionWidth) t)) r w → Examined t r w
   unfolding octetAt
   examined-walk h first size n ws r w ef es en ew m =
-      let a = part 31 30912 t in
+      let a = part headWidth (maxSessions * sessionWidth) t in
       let v6 = not (eqb (getD t 4 0) 0) in
-      let m₁ = subst (λ (k : ℕ). AllAdmitted (unit k size v6) ws (slices 483 n a) r w) ef m in
-      let m₂ = subst (λ (k : ℕ). AllAdmitted (unit (number (part 21 4 t)) k v6) ws (slices 483 n a) r w) es m₁ in
-      let m₃ = subst (λ (k : ℕ). AllAdmitted (unitOf t) ws (slices 483 k a) r w) en m₂ in
-      let m₄ = subst (λ (k : List ℕ). AllAdmitted (unitOf t) k (slices 483 (sessionCount t) a) r w) ew m₃ in
-      let m₅ = subst (λ (k : List ℕ). AllAdmitted (unitOf t) (replicate mapWords 0) (slices 483 (sessionCount t) k) r w) (area-is t (front-facts t o f q h .long)) m₄ in
+      let m₁ = subst (λ (k : ℕ). AllAdmitted (unit k size v6) ws (slices sessionWidth n a) r w) ef m in
+      let m₂ = subst (λ (k : ℕ). AllAdmitted (unit (number (part 21 4 t)) k v6) ws (slices sessionWidth n a) r w) es m₁ in
+      let m₃ = subst (λ (k : ℕ). AllAdmitted (unitOf t) ws (slices sessionWidth k a) r w) en m₂ in
+      let m₄ = subst (λ (k : List ℕ). AllAdmitted (unitOf t) k (slices sessionWidth (sessionCount t) a) r w) ew m₃ in
+      let m₅ = subst (λ (k : List ℕ). AllAdmitted (unitOf t) (replicate mapWords 0) (slices sessionWidth (sessionCount t) k) r w) (area-is t (front-facts t o f q h .long)) m₄ in
       walk-done h r w m₅
 
 -- ---- from the examination to the answers
 
 module _ (t : List ℕ) (r : Marks) (w : List ℕ) (x : Examined t r w) where
-  examined-no : r ≡ Clash → sound 64 t ≡ false
-  examined-no e = go (sound 64 t) (sym (x .answer) ∙ e)
+  examined-no : r ≡ Clash → sound maxSessions t ≡ false
+  examined-no e = go (sound maxSessions t) (sym (x .answer) ∙ e)
     where
       go : (b : Bool) → pick b (New (distinct (heldTeids (viewSessions t)))) Clash ≡ Clash → b ≡ false
       go true z = absurd (let u : _≡_ {A = ℕ} 0 1 = cc in omega arith)
       go false z = refl
 
-  examined-yes : (n : ℕ) → r ≡ New n → (sound 64 t ≡ true) × (n ≡ distinct (heldTeids (viewSessions t)))
-  examined-yes n e = go (sound 64 t) (sym (x .answer) ∙ e)
+  examined-yes : (n : ℕ) → r ≡ New n → (sound maxSessions t ≡ true) × (n ≡ distinct (heldTeids (viewSessions t)))
+  examined-yes n e = go (sound maxSessions t) (sym (x .answer) ∙ e)
     where
       go : (b : Bool) → pick b (New (distinct (heldTeids (viewSessions t)))) Clash ≡ New n → (b ≡ true) × (n ≡ distinct (heldTeids (viewSessions t)))
       go true z = (refl, (cc))
@@ -186,13 +186,13 @@ module _ (t : List ℕ) (r : Marks) (w : List ℕ) (x : Examined t r w) where
   count-broken e = sym (rw (examined-no e))
 
   -- the length, and that the TEIDs held are not more than the pool has
-  count-fits : (n : ℕ) → r ≡ New n → (length t ≡ 30943) × (n ≤ number (part 25 4 t))
-  unfolding sound soundTests viewSettings numberAt freeCount tableLength headWidth sessionWidth
+  count-fits : (n : ℕ) → r ≡ New n → (length t ≡ tableLength maxSessions) × (n ≤ number (part 25 4 t))
+  unfolding sound soundTests viewSettings numberAt freeCount
   count-fits n e =
       let y = examined-yes n e in
-      let h = each (soundTests 64 t (viewSettings t) (viewSessions t)) (of-true (y .0)) in
-      let p = held-in-pool (viewSettings t) 64 (viewSessions t) (h .1 .1 .0) in
-      (eqb→eq (length t) 30943 (h .0), omega (arith, y .1, held-few (viewSettings t) (viewSessions t) p))
+      let h = each (soundTests maxSessions t (viewSettings t) (viewSessions t)) (of-true (y .0)) in
+      let p = held-in-pool (viewSettings t) maxSessions (viewSessions t) (h .1 .1 .0) in
+      (eqb→eq (length t) (tableLength maxSessions) (h .0), omega (arith, y .1, held-few (viewSettings t) (viewSessions t) p))
 
   pub count-free : (n size : ℕ) → r ≡ New n → size ≡ number (part 25 4 t) → countOf (Free (size - n)) ≡ countFree maxSessions t
   unfolding countFree freeCount viewSettings numberAt
@@ -201,7 +201,7 @@ module _ (t : List ℕ) (r : Marks) (w : List ℕ) (x : Examined t r w) where
       (λ i. free (z i - y .1 i)) ∙ sym (rw (y .0))
 
   -- where the size is read, and what is taken off it
-  pub count-read : (n : ℕ) → r ≡ New n → (29 ≤ length t) × (4 ≤ 8)
+  pub count-read : (n : ℕ) → r ≡ New n → (settingsWidth ≤ length t) × (4 ≤ 8)
   count-read n e = (omega (arith, count-fits n e .0), omega arith)
 
   pub count-less : (n size : ℕ) → r ≡ New n → size ≡ number (part 25 4 t) → n ≤ size

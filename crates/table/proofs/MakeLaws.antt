@@ -1,7 +1,7 @@
 -- Making an empty table: the settings' tests, and the steps that write it.
 -- Assumes nothing.
 use mathlib.Core.Path.{_≡_, refl, sym, ap, ap₂, _∙_}
-use Prim.Native.Nat.{ℕ, _+_, _-_, _/_, _≤_}
+use Prim.Native.Nat.{ℕ, _+_, _-_, _/_, _≤_, _*_}
 use native.Mathlib.Omega.{arith}
 use mathlib.Core.Bool.{Bool, true, false, not, _&&_, _||_}
 use mathlib.Core.List.{List, [], _∷_, _++_, append-assoc, append-nil}
@@ -16,7 +16,7 @@ use Rattle.octets.proofs.Numbers.{length-be, bytes-be, length-zeros, length-pad
 use Rattle.octets.proofs.Put.{put-over}
 use Rattle.rules.specs.Limits.{maxSessions}
 use Rattle.rules.specs.Model.{Settings}
-use Rattle.rules.specs.Layout.{headWidth, sessionWidth, tableLength, area, settingsOctets, encode}
+use Rattle.rules.specs.Layout.{headWidth, sessionWidth, tableLength, area, settingsOctets, encode, settingsWidth}
 use Rattle.rules.specs.Sound.{poolTests, ipv6Allowed, settingsTests, settingsAllowed, make}
 use Rattle.laws.proofs.TableLaws.{ipv6-short}
 use Rattle.records.proofs.Cells.{and-true, and-false}
@@ -53,11 +53,11 @@ unfolding ipv6Allowed be
 flag-with [] h = refl
 flag-with (x ∷ v) h = let e : length (x ∷ v) ≡ 16 = eqb→eq (length (x ∷ v)) 16 h in rw e
 
-settings-room : zeros 29 ≡ zeros 4 ++ (zeros 1 ++ (zeros 16 ++ (zeros 4 ++ zeros 4)))
+settings-room : zeros settingsWidth ≡ zeros 4 ++ (zeros 1 ++ (zeros 16 ++ (zeros 4 ++ zeros 4)))
 unfolding zeros
 settings-room = refl
 
-pub settings-steps : (a f z : ℕ) (v s₀ s₁ s₂ s₃ s₄ s₅ : List ℕ) → s₀ ≡ zeros 29 → T (ipv6Allowed v)
+pub settings-steps : (a f z : ℕ) (v s₀ s₁ s₂ s₃ s₄ s₅ : List ℕ) → s₀ ≡ zeros settingsWidth → T (ipv6Allowed v)
     → s₁ ≡ put 0 (be 4 a) s₀ → s₂ ≡ put 4 (be 1 (length v / 16)) s₁ → s₃ ≡ put 5 v s₂ → s₄ ≡ put 21 (be 4 f) s₃ → s₅ ≡ put 25 (be 4 z) s₄
     → s₅ ≡ settingsOctets (settingsOf a v f z)
 unfolding settingsOctets
@@ -105,12 +105,12 @@ address-whole n h = sym (rw (ne-eqb n 0 h))
 -- ---- the answers
 
 module _ (a f z : ℕ) (v t : List ℕ) (o : T (octets v)) where
-  refused : (settingsAllowed (settingsOf a v f z) && eqb (length t) 30943) ≡ false → madeOf Refused t ≡ make maxSessions (settingsOf a v f z) t
-  unfolding make tableLength headWidth sessionWidth
+  refused : (settingsAllowed (settingsOf a v f z) && eqb (length t) (tableLength maxSessions)) ≡ false → madeOf Refused t ≡ make maxSessions (settingsOf a v f z) t
+  unfolding make
   refused e = sym (rw e)
 
-  pub make-length : (length t ≡ 30943 → ⊥) → madeOf Refused t ≡ make maxSessions (settingsOf a v f z) t
-  make-length h = refused (rw (ne-eqb (length t) 30943 h) (and-false (settingsAllowed (settingsOf a v f z))))
+  pub make-length : (length t ≡ tableLength maxSessions → ⊥) → madeOf Refused t ≡ make maxSessions (settingsOf a v f z) t
+  make-length h = refused (rw (ne-eqb (length t) (tableLength maxSessions) h) (and-false (settingsAllowed (settingsOf a v f z))))
 
   module _ (r : Bool) (q : r ≡ (eqb (length v) 0 || eqb (length v) 16)) where
     pub make-address : not r ≡ true → madeOf Refused t ≡ make maxSessions (settingsOf a v f z) t
@@ -123,29 +123,29 @@ module _ (a f z : ℕ) (v t : List ℕ) (o : T (octets v)) where
       pub make-pool : not p ≡ true → madeOf Refused t ≡ make maxSessions (settingsOf a v f z) t
       make-pool g = refused (rw (allowed-is a f z v o, address-is v, ← q, not-false r h, ← k, not-true p g))
 
-      pub make-made : not p ≡ false → length t ≡ 30943 → (t′ : List ℕ) → t′ ≡ encode maxSessions (settingsOf a v f z) [] → madeOf Made t′ ≡ make maxSessions (settingsOf a v f z) t
-      unfolding make tableLength headWidth sessionWidth
+      pub make-made : not p ≡ false → length t ≡ tableLength maxSessions → (t′ : List ℕ) → t′ ≡ encode maxSessions (settingsOf a v f z) [] → madeOf Made t′ ≡ make maxSessions (settingsOf a v f z) t
+      unfolding make
       make-made g l t′ e =
-          let yes′ : (settingsAllowed (settingsOf a v f z) && eqb (length t) 30943) ≡ true = rw (allowed-is a f z v o, address-is v, ← q, not-false r h, ← k, not-false p g, eq-eqb (length t) 30943 l) in
+          let yes′ : (settingsAllowed (settingsOf a v f z) && eqb (length t) (tableLength maxSessions)) ≡ true = rw (allowed-is a f z v o, address-is v, ← q, not-false r h, ← k, not-false p g, eq-eqb (length t) (tableLength maxSessions) l) in
           ap (madeOf Made) e ∙ sym (rw yes′)
 
 -- ---- the table's octets
 
-cleared : (t t′ : List ℕ) → length t ≡ 30943 → t′ ≡ put 0 (zeros 30943) t → t′ ≡ zeros 30943
+cleared : (t t′ : List ℕ) → length t ≡ tableLength maxSessions → t′ ≡ put 0 (zeros (tableLength maxSessions)) t → t′ ≡ zeros (tableLength maxSessions)
 unfolding put
 cleared t t′ l e =
-    let none : drop (0 + length (zeros 30943)) t ≡ [] = drop-of-length-le t {i = 0 + length (zeros 30943)} (omega (arith, length-zeros 30943)) in
-    e ∙ ap (λ (l : List ℕ). zeros 30943 ++ l) none ∙ append-nil (zeros 30943)
+    let none : drop (0 + length (zeros (tableLength maxSessions))) t ≡ [] = drop-of-length-le t {i = 0 + length (zeros (tableLength maxSessions))} (omega (arith, length-zeros (tableLength maxSessions))) in
+    e ∙ ap (λ (l : List ℕ). zeros (tableLength maxSessions) ++ l) none ∙ append-nil (zeros (tableLength maxSessions))
 
 -- the settings' part of it is zero
-pub front-cleared : (t t′ : List ℕ) → length t ≡ 30943 → t′ ≡ put 0 (zeros 30943) t → take 29 t′ ≡ zeros 29
-front-cleared t t′ l e = ap (take 29) (cleared t t′ l e) ∙ take-zeros 29 30914
+pub front-cleared : (t t′ : List ℕ) → length t ≡ tableLength maxSessions → t′ ≡ put 0 (zeros (tableLength maxSessions)) t → take settingsWidth t′ ≡ zeros settingsWidth
+front-cleared t t′ l e = ap (take settingsWidth) (cleared t t′ l e) ∙ take-zeros settingsWidth (2 + maxSessions * sessionWidth)
 
 two-zeros : zeros 2 ≡ 0 ∷ 0 ∷ []
 unfolding zeros
 two-zeros = refl
 
-pub encoded-empty : (s : Settings) (t t′ w : List ℕ) → length t ≡ 30943 → t′ ≡ put 0 (zeros 30943) t → w ≡ settingsOctets s → w ++ drop 29 t′ ≡ encode maxSessions s []
-unfolding encode area padded concatMap sessionWidth be
+pub encoded-empty : (s : Settings) (t t′ w : List ℕ) → length t ≡ tableLength maxSessions → t′ ≡ put 0 (zeros (tableLength maxSessions)) t → w ≡ settingsOctets s → w ++ drop settingsWidth t′ ≡ encode maxSessions s []
+unfolding encode area padded concatMap be
 encoded-empty s t t′ w l e q =
-    ap₂ _++_ q (ap (drop 29) (cleared t t′ l e) ∙ drop-zeros 29 30914 ∙ zeros-split 2 30912 ∙ ap (λ (l : List ℕ). l ++ zeros 30912) two-zeros)
+    ap₂ _++_ q (ap (drop settingsWidth) (cleared t t′ l e) ∙ drop-zeros settingsWidth (2 + maxSessions * sessionWidth) ∙ zeros-split 2 (maxSessions * sessionWidth) ∙ ap (λ (l : List ℕ). l ++ zeros (maxSessions * sessionWidth)) two-zeros)

@@ -19,7 +19,7 @@ use Rattle.octets.proofs.Digits.{be-back, part-octets, drop-octets}
 use Rattle.octets.proofs.Put.{length-part}
 use Rattle.rules.specs.Limits.{maxSessions, mapWords}
 use Rattle.rules.specs.Model.{Settings, Session, seidOf}
-use Rattle.rules.specs.Layout.{headWidth, sessionWidth, tableLength, area, sessionOctets, settingsOctets, encode, viewArea, viewSession, viewSettings, viewSessions}
+use Rattle.rules.specs.Layout.{headWidth, sessionWidth, tableLength, area, sessionOctets, settingsOctets, encode, viewArea, viewSession, viewSettings, viewSessions, settingsWidth}
 use Rattle.rules.specs.Sound.{settingsAllowed, sessionAllowed, apart, sessionsTests, sessionsAllowed, soundTests, sound}
 use Rattle.laws.proofs.LayoutLaws.{length-session}
 use Rattle.laws.proofs.TableLaws.{length-settings}
@@ -40,22 +40,22 @@ use Rattle.table.proofs.Walks.{canonical, slots-whole, slots-law}
 within : (at n k : ℕ) (t : List ℕ) → k ≤ n → part at k (take (at + n) t) ≡ part at k t
 within at n k t h = ap (take k) (drop-take at n t) ∙ take-take k n (drop at t) h
 
-settings-front : (t : List ℕ) → viewSettings (part 0 29 t) ≡ viewSettings t
+settings-front : (t : List ℕ) → viewSettings (part 0 settingsWidth t) ≡ viewSettings t
 unfolding viewSettings octetAt numberAt
 settings-front t =
     λ i. record {
-      ipv4 = within 0 29 4 t (lit≤ tt) i;
-      ipv6 = pick (eqb (getD-take 29 t 4 0 (lit< tt) i) 0) [] (within 5 24 16 t (lit≤ tt) i);
+      ipv4 = within 0 settingsWidth 4 t (lit≤ tt) i;
+      ipv6 = pick (eqb (getD-take settingsWidth t 4 0 (lit< tt) i) 0) [] (within 5 24 16 t (lit≤ tt) i);
       first = number (within 21 8 4 t (lit≤ tt) i);
       size = number (within 25 4 4 t (lit≤ tt) i);
     }
 
 pub sessions-are : (t : List ℕ) → viewSessions t ≡ map viewSession (slotsOf t)
-unfolding viewSessions viewArea numberAt sessionWidth headWidth
+unfolding viewSessions viewArea numberAt
 sessions-are t = refl
 
 count-are : (t : List ℕ) → length (viewSessions t) ≡ sessionCount t
-count-are t = ap length (sessions-are t) ∙ length-map (slotsOf t) viewSession ∙ length-slices 483 (sessionCount t) (drop 31 t)
+count-are t = ap length (sessions-are t) ∙ length-map (slotsOf t) viewSession ∙ length-slices sessionWidth (sessionCount t) (drop headWidth t)
 
 -- the part of the settings that the records' rules ask
 has-ipv6 : (b : Bool) (v : List ℕ) → length v ≡ 16 → not (isNil (pick b [] v)) ≡ not b
@@ -96,122 +96,120 @@ module _ (s : Settings) where
 
 -- ---- the octets part by part
 
-module _ (t : List ℕ) (long : length t ≡ 30943) (o : T (octets t)) where
+module _ (t : List ℕ) (long : length t ≡ tableLength maxSessions) (o : T (octets t)) where
   abbrev s : Settings
   s = viewSettings t
 
-  area-long : length (drop 31 t) ≡ 64 * 483
-  area-long = length-drop 31 t ∙ omega arith
+  area-long : length (drop headWidth t) ≡ maxSessions * sessionWidth
+  area-long = length-drop headWidth t ∙ omega arith
 
-  parts : part 0 29 t ++ (part 29 2 t ++ drop 31 t) ≡ t
+  parts : part 0 settingsWidth t ++ (part settingsWidth 2 t ++ drop headWidth t) ≡ t
   parts =
-      ap (λ (l : List ℕ). part 0 29 t ++ l) (ap (λ (l : List ℕ). part 29 2 t ++ l) (sym (drop-drop 2 29 t)) ∙ take-append-drop 2 (drop 29 t))
-      ∙ take-append-drop 29 t
+      ap (λ (l : List ℕ). part 0 settingsWidth t ++ l) (ap (λ (l : List ℕ). part settingsWidth 2 t ++ l) (sym (drop-drop 2 settingsWidth t)) ∙ take-append-drop 2 (drop settingsWidth t))
+      ∙ take-append-drop settingsWidth t
 
-  count-written : be 2 (length (viewSessions t)) ≡ part 29 2 t
-  count-written = ap (be 2) (count-are t) ∙ be-back 2 (part 29 2 t) (length-part 29 2 t (omega arith)) (part-octets 29 2 t o)
+  count-written : be 2 (length (viewSessions t)) ≡ part settingsWidth 2 t
+  count-written = ap (be 2) (count-are t) ∙ be-back 2 (part settingsWidth 2 t) (length-part settingsWidth 2 t (omega arith)) (part-octets settingsWidth 2 t o)
 
   -- the area of sessions
-  sessions-from : T (settingsAllowed s) → sessionCount t ≤ 64 → T (areaSound (kept (sessionAllowed s) sessionOctets viewSession) 483 8 (sessionCount t) (drop 31 t))
-      → T (all (sessionAllowed s) (map viewSession (slotsOf t))) × T (ascending (map seidOf (map viewSession (slotsOf t)))) × (area sessionOctets 483 64 (map viewSession (slotsOf t)) ≡ drop 31 t)
-  unfolding sessionWidth
+  sessions-from : T (settingsAllowed s) → sessionCount t ≤ maxSessions → T (areaSound (kept (sessionAllowed s) sessionOctets viewSession) sessionWidth 8 (sessionCount t) (drop headWidth t))
+      → T (all (sessionAllowed s) (map viewSession (slotsOf t))) × T (ascending (map seidOf (map viewSession (slotsOf t)))) × (area sessionOctets sessionWidth maxSessions (map viewSession (slotsOf t)) ≡ drop headWidth t)
   sessions-from hs few h =
-      area-from (sessionAllowed s) sessionOctets viewSession seidOf 483 8 (length-session s hs) key-session 64 (sessionCount t) (drop 31 t) area-long few h
+      area-from (sessionAllowed s) sessionOctets viewSession seidOf sessionWidth 8 (length-session s hs) key-session maxSessions (sessionCount t) (drop headWidth t) area-long few h
 
-  sessions-to : T (settingsAllowed s) → sessionCount t ≤ 64 → T (all (sessionAllowed s) (map viewSession (slotsOf t))) → T (ascending (map seidOf (map viewSession (slotsOf t))))
-      → area sessionOctets 483 64 (map viewSession (slotsOf t)) ≡ drop 31 t → T (areaSound (kept (sessionAllowed s) sessionOctets viewSession) 483 8 (sessionCount t) (drop 31 t))
-  unfolding sessionWidth
+  sessions-to : T (settingsAllowed s) → sessionCount t ≤ maxSessions → T (all (sessionAllowed s) (map viewSession (slotsOf t))) → T (ascending (map seidOf (map viewSession (slotsOf t))))
+      → area sessionOctets sessionWidth maxSessions (map viewSession (slotsOf t)) ≡ drop headWidth t → T (areaSound (kept (sessionAllowed s) sessionOctets viewSession) sessionWidth 8 (sessionCount t) (drop headWidth t))
   sessions-to hs few h up e =
-      area-to (sessionAllowed s) sessionOctets viewSession seidOf 483 8 (length-session s hs) key-session 64 (sessionCount t) (drop 31 t) area-long few h up e
+      area-to (sessionAllowed s) sessionOctets viewSession seidOf sessionWidth 8 (length-session s hs) key-session maxSessions (sessionCount t) (drop headWidth t) area-long few h up e
 
   -- the walk
-  walk-is : T (settingsAllowed s) → sessionCount t ≤ 64
+  walk-is : T (settingsAllowed s) → sessionCount t ≤ maxSessions
       → walkSound t ≡ ((all (sessionAllowed s) (map viewSession (slotsOf t)) && allPairs apart (map viewSession (slotsOf t))) && all canonical (slotsOf t))
   unfolding walkSound
   walk-is hs few =
-      slots-law (unitOf t) mapWords (slotsOf t) (size-of-unit t hs) (slots-whole (sessionCount t) (drop 31 t) (rw area-long (omega arith)) (drop-octets 31 t o))
+      slots-law (unitOf t) mapWords (slotsOf t) (size-of-unit t hs) (slots-whole (sessionCount t) (drop headWidth t) (rw area-long (omega arith)) (drop-octets headWidth t o))
       ∙ ap (λ (b : Bool). (b && allPairs apart (map viewSession (slotsOf t))) && all canonical (slotsOf t)) (sessions-of-unit t (omega arith) (map viewSession (slotsOf t)))
 
   -- the settings' slot
-  pub settings-from : T (settingsSound (part 0 29 t)) → T (settingsAllowed s) × (settingsOctets s ≡ part 0 29 t)
+  pub settings-from : T (settingsSound (part 0 settingsWidth t)) → T (settingsAllowed s) × (settingsOctets s ≡ part 0 settingsWidth t)
   unfolding settingsSound
   settings-from h = (
-    subst (λ (x : Settings). T (settingsAllowed x)) (settings-front t) (kept-allowed settingsAllowed settingsOctets viewSettings (part 0 29 t) h),
-    ap settingsOctets (sym (settings-front t)) ∙ kept-same settingsAllowed settingsOctets viewSettings (part 0 29 t) h,
+    subst (λ (x : Settings). T (settingsAllowed x)) (settings-front t) (kept-allowed settingsAllowed settingsOctets viewSettings (part 0 settingsWidth t) h),
+    ap settingsOctets (sym (settings-front t)) ∙ kept-same settingsAllowed settingsOctets viewSettings (part 0 settingsWidth t) h,
   )
 
-  settings-to : T (settingsAllowed s) → settingsOctets s ≡ part 0 29 t → T (settingsSound (part 0 29 t))
+  settings-to : T (settingsAllowed s) → settingsOctets s ≡ part 0 settingsWidth t → T (settingsSound (part 0 settingsWidth t))
   unfolding settingsSound kept
   settings-to h e =
-      both (settingsAllowed (viewSettings (part 0 29 t))) (sameOctets (settingsOctets (viewSettings (part 0 29 t))) (part 0 29 t))
+      both (settingsAllowed (viewSettings (part 0 settingsWidth t))) (sameOctets (settingsOctets (viewSettings (part 0 settingsWidth t))) (part 0 settingsWidth t))
       (subst (λ (x : Settings). T (settingsAllowed x)) (sym (settings-front t)) h)
-      (of-true (ap (λ (l : List ℕ). sameOctets l (part 0 29 t)) (ap settingsOctets (settings-front t) ∙ e) ∙ same-refl (part 0 29 t)))
+      (of-true (ap (λ (l : List ℕ). sameOctets l (part 0 settingsWidth t)) (ap settingsOctets (settings-front t) ∙ e) ∙ same-refl (part 0 settingsWidth t)))
 
-  encoded-is : encode 64 s (viewSessions t) ≡ settingsOctets s ++ (part 29 2 t ++ area sessionOctets 483 64 (map viewSession (slotsOf t)))
-  unfolding encode sessionWidth
-  encoded-is = λ i. settingsOctets s ++ (count-written i ++ area sessionOctets 483 64 (sessions-are t i))
+  encoded-is : encode maxSessions s (viewSessions t) ≡ settingsOctets s ++ (part settingsWidth 2 t ++ area sessionOctets sessionWidth maxSessions (map viewSession (slotsOf t)))
+  unfolding encode
+  encoded-is = λ i. settingsOctets s ++ (count-written i ++ area sessionOctets sessionWidth maxSessions (sessions-are t i))
 
   -- ---- both ways
 
-  sound-from : T (frontSound t) → T (walkSound t) → T (sound 64 t)
-  unfolding frontSound frontTests orderSound sound soundTests tableLength headWidth sessionWidth areaSound
+  sound-from : T (frontSound t) → T (walkSound t) → T (sound maxSessions t)
+  unfolding frontSound frontTests orderSound sound soundTests areaSound
   sound-from h w =
       let f = each (frontTests t) h in
       let st = settings-from (f .1 .0) in
-      let few = leb→le (sessionCount t) 64 (f .1 .1 .0) in
+      let few = leb→le (sessionCount t) maxSessions (f .1 .1 .0) in
       let wk = subst T (walk-is (st .0) few) w in
       let allowed-apart = and-left (all (sessionAllowed s) (map viewSession (slotsOf t)) && allPairs apart (map viewSession (slotsOf t))) (all canonical (slotsOf t)) wk in
       let canon = and-right (all (sessionAllowed s) (map viewSession (slotsOf t)) && allPairs apart (map viewSession (slotsOf t))) (all canonical (slotsOf t)) wk in
       let allowed = and-left (all (sessionAllowed s) (map viewSession (slotsOf t))) (allPairs apart (map viewSession (slotsOf t))) allowed-apart in
       let apart′ = and-right (all (sessionAllowed s) (map viewSession (slotsOf t))) (allPairs apart (map viewSession (slotsOf t))) allowed-apart in
       let k = kept (sessionAllowed s) sessionOctets viewSession in
-      let ar = sessions-from (st .0) few (both (all k (slotsOf t)) (ascending (map (keyOf 8) (slotsOf t)) && allZero (drop (sessionCount t * 483) (drop 31 t))) (all-kept s (slotsOf t) allowed canon) (f .1 .1 .1 .0)) in
-      let whole : encode 64 s (viewSessions t) ≡ t = encoded-is ∙ (λ i. st .1 i ++ (part 29 2 t ++ ar .2 i)) ∙ parts in
-      all-of-each (soundTests 64 t s (viewSessions t))
-      (yes-eqb long, (st .0, (subst (λ (m : List Session). T (sessionsAllowed 64 s m)) (sym (sessions-are t)) (sessions-ok s (map viewSession (slotsOf t)) (le-trans (le-of-eq (ap length (sym (sessions-are t)) ∙ count-are t)) few) (ar .1) (ar .0) apart′), (of-true (ap (λ (l : List ℕ). sameOctets l t) whole ∙ same-refl t), tt))))
+      let ar = sessions-from (st .0) few (both (all k (slotsOf t)) (ascending (map (keyOf 8) (slotsOf t)) && allZero (drop (sessionCount t * sessionWidth) (drop headWidth t))) (all-kept s (slotsOf t) allowed canon) (f .1 .1 .1 .0)) in
+      let whole : encode maxSessions s (viewSessions t) ≡ t = encoded-is ∙ (λ i. st .1 i ++ (part settingsWidth 2 t ++ ar .2 i)) ∙ parts in
+      all-of-each (soundTests maxSessions t s (viewSessions t))
+      (yes-eqb long, (st .0, (subst (λ (m : List Session). T (sessionsAllowed maxSessions s m)) (sym (sessions-are t)) (sessions-ok s (map viewSession (slotsOf t)) (le-trans (le-of-eq (ap length (sym (sessions-are t)) ∙ count-are t)) few) (ar .1) (ar .0) apart′), (of-true (ap (λ (l : List ℕ). sameOctets l t) whole ∙ same-refl t), tt))))
     where
-      sessions-ok : (x : Settings) (m : List Session) → length m ≤ 64 → T (ascending (map seidOf m)) → T (all (sessionAllowed x) m) → T (allPairs apart m) → T (sessionsAllowed 64 x m)
-      sessions-ok x m a b c d = unfold sessionsAllowed sessionsTests in all-of-each (sessionsTests 64 x m) (yes-leb a, (b, (c, (d, tt))))
+      sessions-ok : (x : Settings) (m : List Session) → length m ≤ maxSessions → T (ascending (map seidOf m)) → T (all (sessionAllowed x) m) → T (allPairs apart m) → T (sessionsAllowed maxSessions x m)
+      sessions-ok x m a b c d = unfold sessionsAllowed sessionsTests in all-of-each (sessionsTests maxSessions x m) (yes-leb a, (b, (c, (d, tt))))
 
-  sound-to : T (sound 64 t) → T (frontSound t) × T (walkSound t)
+  sound-to : T (sound maxSessions t) → T (frontSound t) × T (walkSound t)
   unfolding frontSound frontTests orderSound sound soundTests sessionsAllowed sessionsTests areaSound
   sound-to h =
-      let f = each (soundTests 64 t s (viewSessions t)) h in
+      let f = each (soundTests maxSessions t s (viewSessions t)) h in
       let hs : T (settingsAllowed s) = f .1 .0 in
-      let g = each (sessionsTests 64 s (viewSessions t)) (f .1 .1 .0) in
-      let same : encode 64 s (viewSessions t) ≡ t = same-eq (encode 64 s (viewSessions t)) t (f .1 .1 .1 .0) in
-      let few : sessionCount t ≤ 64 = le-trans (le-of-eq (sym (count-are t))) (leb→le (length (viewSessions t)) 64 (g .0)) in
+      let g = each (sessionsTests maxSessions s (viewSessions t)) (f .1 .1 .0) in
+      let same : encode maxSessions s (viewSessions t) ≡ t = same-eq (encode maxSessions s (viewSessions t)) t (f .1 .1 .1 .0) in
+      let few : sessionCount t ≤ maxSessions = le-trans (le-of-eq (sym (count-are t))) (leb→le (length (viewSessions t)) maxSessions (g .0)) in
       let m = map viewSession (slotsOf t) in
       let up : T (ascending (map seidOf m)) = subst (λ (x : List Session). T (ascending (map seidOf x))) (sessions-are t) (g .1 .0) in
       let allowed : T (all (sessionAllowed s) m) = subst (λ (x : List Session). T (all (sessionAllowed s) x)) (sessions-are t) (g .1 .1 .0) in
       let apart′ : T (allPairs apart m) = subst (λ (x : List Session). T (allPairs apart x)) (sessions-are t) (g .1 .1 .1 .0) in
-      let rest : List ℕ = part 29 2 t ++ area sessionOctets 483 64 m in
+      let rest : List ℕ = part settingsWidth 2 t ++ area sessionOctets sessionWidth maxSessions m in
       let eq : settingsOctets s ++ rest ≡ t = sym encoded-is ∙ same in
-      let se : settingsOctets s ≡ part 0 29 t = sym (take-at (settingsOctets s) rest 29 (length-settings s hs)) ∙ ap (take 29) eq in
-      let after : rest ≡ drop 29 t = sym (drop-at (settingsOctets s) rest 29 (length-settings s hs)) ∙ ap (drop 29) eq in
-      let ae : area sessionOctets 483 64 m ≡ drop 31 t = sym (drop-at (part 29 2 t) (area sessionOctets 483 64 m) 2 (length-part 29 2 t (omega arith))) ∙ ap (drop 2) after ∙ drop-drop 2 29 t in
+      let se : settingsOctets s ≡ part 0 settingsWidth t = sym (take-at (settingsOctets s) rest settingsWidth (length-settings s hs)) ∙ ap (take settingsWidth) eq in
+      let after : rest ≡ drop settingsWidth t = sym (drop-at (settingsOctets s) rest settingsWidth (length-settings s hs)) ∙ ap (drop settingsWidth) eq in
+      let ae : area sessionOctets sessionWidth maxSessions m ≡ drop headWidth t = sym (drop-at (part settingsWidth 2 t) (area sessionOctets sessionWidth maxSessions m) 2 (length-part settingsWidth 2 t (omega arith))) ∙ ap (drop 2) after ∙ drop-drop 2 settingsWidth t in
       let k = kept (sessionAllowed s) sessionOctets viewSession in
       let ar = sessions-to hs few allowed up ae in
-      let kepts = and-left (all k (slotsOf t)) (ascending (map (keyOf 8) (slotsOf t)) && allZero (drop (sessionCount t * 483) (drop 31 t))) ar in
-      let order = and-right (all k (slotsOf t)) (ascending (map (keyOf 8) (slotsOf t)) && allZero (drop (sessionCount t * 483) (drop 31 t))) ar in (
+      let kepts = and-left (all k (slotsOf t)) (ascending (map (keyOf 8) (slotsOf t)) && allZero (drop (sessionCount t * sessionWidth) (drop headWidth t))) ar in
+      let order = and-right (all k (slotsOf t)) (ascending (map (keyOf 8) (slotsOf t)) && allZero (drop (sessionCount t * sessionWidth) (drop headWidth t))) ar in (
         all-of-each (frontTests t) (yes-eqb long, (settings-to hs se, (yes-leb few, (order, tt)))),
         subst T (sym (walk-is hs few)) (both (all (sessionAllowed s) m && allPairs apart m) (all canonical (slotsOf t)) (both (all (sessionAllowed s) m) (allPairs apart m) allowed apart′) (all-canonical s (slotsOf t) kepts)),
       )
 
 -- ---- for any octets
 
-long-of : (t : List ℕ) → T (frontSound t) → length t ≡ 30943
+long-of : (t : List ℕ) → T (frontSound t) → length t ≡ tableLength maxSessions
 unfolding frontSound frontTests
-long-of t h = eqb→eq (length t) 30943 (each (frontTests t) h .0)
+long-of t h = eqb→eq (length t) (tableLength maxSessions) (each (frontTests t) h .0)
 
-long-sound : (t : List ℕ) → T (sound 64 t) → length t ≡ 30943
-unfolding sound soundTests tableLength headWidth sessionWidth
-long-sound t h = eqb→eq (length t) 30943 (each (soundTests 64 t (viewSettings t) (viewSessions t)) h .0)
+long-sound : (t : List ℕ) → T (sound maxSessions t) → length t ≡ tableLength maxSessions
+unfolding sound soundTests
+long-sound t h = eqb→eq (length t) (tableLength maxSessions) (each (soundTests maxSessions t (viewSettings t) (viewSessions t)) h .0)
 
 -- the tests on the octets say just that the table is not broken
 pub sound-law : (t : List ℕ) → T (octets t) → sound maxSessions t ≡ (frontSound t && walkSound t)
 sound-law t o =
-    same-test (sound 64 t) (frontSound t && walkSound t)
+    same-test (sound maxSessions t) (frontSound t && walkSound t)
     (λ h. let r = sound-to t (long-sound t h) o h in both (frontSound t) (walkSound t) (r .0) (r .1))
     (λ h.
     let a = and-left (frontSound t) (walkSound t) h in

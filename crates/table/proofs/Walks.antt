@@ -13,7 +13,7 @@ use Rattle.octets.specs.Octets.{slices, sameOctets, octets}
 use Rattle.octets.specs.Lists.{all, allPairs}
 use Rattle.octets.proofs.Digits.{take-octets, drop-octets}
 use Rattle.rules.specs.Model.{Settings, sessionTeids}
-use Rattle.rules.specs.Layout.{sessionOctets, viewSession}
+use Rattle.rules.specs.Layout.{sessionOctets, viewSession, sessionWidth}
 use Rattle.rules.specs.Sound.{sessionAllowed, apart}
 use Rattle.holdings.specs.Walk.{sessionMarks, tableMarks}
 use Rattle.holdings.proofs.MapWalk.{sessions-marks}
@@ -27,14 +27,14 @@ use Rattle.marking.proofs.Admitting.{records-pooled}
 -- every slot is whole, and of octets
 abbrev pub Whole : List (List ℕ) → Type 0
 Whole [] = Unit {0}
-Whole (xs ∷ xss) = (length xs ≡ 483) × T (octets xs) × Whole xss
+Whole (xs ∷ xss) = (length xs ≡ sessionWidth) × T (octets xs) × Whole xss
 
-pub slots-whole : (n : ℕ) (a : List ℕ) → n * 483 ≤ length a → T (octets a) → Whole (slices 483 n a)
+pub slots-whole : (n : ℕ) (a : List ℕ) → n * sessionWidth ≤ length a → T (octets a) → Whole (slices sessionWidth n a)
 unfolding slices
 slots-whole zero a h o = tt
 slots-whole (suc n) a h o =
-    let rows : suc n * 483 ≡ n * 483 + 483 = suc-mul n 483 in
-    (length-take-le 483 a (omega arith), take-octets 483 a o, slots-whole n (drop 483 a) (rw length-drop (omega arith)) (drop-octets 483 a o))
+    let rows : suc n * sessionWidth ≡ n * sessionWidth + sessionWidth = suc-mul n sessionWidth in
+    (length-take-le sessionWidth a (omega arith), take-octets sessionWidth a o, slots-whole n (drop sessionWidth a) (rw length-drop (omega arith)) (drop-octets sessionWidth a o))
 
 -- a slot is just what it is read as
 abbrev pub canonical : List ℕ → Bool

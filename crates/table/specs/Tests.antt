@@ -12,16 +12,17 @@ use Rattle.octets.specs.Lists.{ascending}
 use Rattle.octets.specs.Octets.{octetAt}
 use Rattle.rules.specs.Limits.{maxSessions, mapWords}
 use Rattle.rules.specs.Model.{Settings}
+use Rattle.rules.specs.Layout.{settingsWidth, headWidth, sessionWidth, tableLength}
 use Rattle.slots.specs.Records.{keyOf}
 use Rattle.records.specs.Kept.{settingsSound, unit}
 use Rattle.marking.specs.Marking.{slotsKeep}
 
 -- the number of sessions, and their slots
 abbrev pub sessionCount : List ℕ → ℕ
-sessionCount t = number (part 29 2 t)
+sessionCount t = number (part settingsWidth 2 t)
 
 abbrev pub slotsOf : List ℕ → List (List ℕ)
-slotsOf t = slices 483 (sessionCount t) (drop 31 t)
+slotsOf t = slices sessionWidth (sessionCount t) (drop headWidth t)
 
 -- the settings as far as the rules of records ask
 abbrev pub unitOf : List ℕ → Settings
@@ -29,11 +30,11 @@ unitOf t = unit (number (part 21 4 t)) (number (part 25 4 t)) (not (eqb (octetAt
 
 -- the slots stand in ascending order of SEIDs, and the room after them is zero
 unfoldable pub orderSound : List ℕ → Bool
-orderSound t = ascending (map (keyOf 8) (slotsOf t)) && allZero (drop (sessionCount t * 483) (drop 31 t))
+orderSound t = ascending (map (keyOf 8) (slotsOf t)) && allZero (drop (sessionCount t * sessionWidth) (drop headWidth t))
 
 -- the tests before the walk over the sessions
 unfoldable pub frontTests : List ℕ → List Bool
-frontTests t = eqb (length t) 30943 ∷ settingsSound (part 0 29 t) ∷ leb (sessionCount t) maxSessions ∷ orderSound t ∷ []
+frontTests t = eqb (length t) (tableLength maxSessions) ∷ settingsSound (part 0 settingsWidth t) ∷ leb (sessionCount t) maxSessions ∷ orderSound t ∷ []
 
 unfoldable pub frontSound : List ℕ → Bool
 frontSound t = allOf (frontTests t)

@@ -6,7 +6,7 @@ ghost use mathlib.Core.Bool.{_||_};
 ghost use lib.Dec.{T, eqb};
 ghost use lib.ListN.{replicate};
 ghost use Rattle.octets.specs.Octets.{zeros};
-ghost use Rattle.rules.specs.Layout.{settingsOctets};
+ghost use Rattle.rules.specs.Layout.{settingsOctets, settingsWidth};
 ghost use Rattle.rules.specs.Limits.{maxSessions, mapWords};
 ghost use Rattle.rules.specs.Sound.{sound, countFree, make, ipv6Allowed};
 ghost use Rattle.table.specs.Tests.{frontSound};
@@ -94,7 +94,7 @@ pub enum Making {
 
 // Writes the settings into their slot, which is zero.
 fn write_settings(slot: &mut [u8], ipv4: u32, ipv6: &[u8], first: u32, size: u32)
-    requires { ⌜ (now slot ≡ zeros 29) × T (ipv6Allowed (now ipv6)) ⌝ }
+    requires { ⌜ (now slot ≡ zeros settingsWidth) × T (ipv6Allowed (now ipv6)) ⌝ }
     ensures { λ _. ⌜ now (slot .exit) ≡ settingsOctets (settingsOf ipv4 (now (ipv6 .entry)) first size) ⌝ }
 {
     octets::write(slot, IPV4, 4, ipv4 as u64);

@@ -13,10 +13,12 @@ use Rattle.octets.specs.Choice.{pick, flag, isNil}
 use Rattle.octets.specs.Octets.{put, be, part, bit, octetAt}
 use Rattle.octets.proofs.Numbers.{length-be}
 use Rattle.octets.proofs.Put.{set-put, length-part}
-use Rattle.rules.specs.Layout.{viewSettings}
+use Rattle.rules.specs.Layout.{viewSettings, settingsWidth}
 use Rattle.rules.specs.Model.{Settings}
 use Rattle.rules.specs.Elements.{fteidOctets, unitFteid, fseidOctets}
 use Rattle.rules.specs.Reply.{element, nodeIdElement, offendingElement, unitFseid, unitElement}
+use Rattle.rules.specs.Types as ie
+use Rattle.rules.specs.Message.{establishment}
 use Rattle.writing.specs.Families.{unitFamilies, unitAddresses, tunnelIn}
 use Rattle.writing.specs.Placed.{Placed}
 use Rattle.writing.proofs.PlacedLaws.{next-put, four-stores, be-two, length-element, placed-none, placed-element, length-headed}
@@ -28,7 +30,7 @@ head-steps kind n at s h = rw (be-two kind, be-two n) (four-stores at (kind / 25
 -- ---- elements of fixed length
 
 module _ (at : ℕ) (s : List ℕ) {s₁ : List ℕ} where
-  pub cause-steps : (cause : ℕ) → at + 5 ≤ length s → s₁ ≡ put at (be 2 19 ++ be 2 1) s → Placed s at (element 19 (cause ∷ [])) (at + 5) (set s₁ (at + 4) cause)
+  pub cause-steps : (cause : ℕ) → at + 5 ≤ length s → s₁ ≡ put at (be 2 19 ++ be 2 1) s → Placed s at (element ie.cause (cause ∷ [])) (at + 5) (set s₁ (at + 4) cause)
   cause-steps cause h p =
       let l : length s₁ ≡ length s = length-headed at 19 1 s p (omega arith) in
       placed-element at 19 1 s p (omega arith) (at + 4) (at + 5) (cause ∷ []) (set-put (at + 4) cause s₁ (omega arith)) refl refl (omega arith)
@@ -44,15 +46,15 @@ not-nil [] n e = absurd (native.Mathlib.Nat.suc-ne-zero n (sym e))
 not-nil (x ∷ xs) n e = refl
 
 module _ (kind at : ℕ) (t s : List ℕ) where
-  pub node-not : (kind ≡ 50 → ⊥) → Placed s at (nodeIdElement kind (viewSettings t)) at s
+  pub node-not : (kind ≡ establishment → ⊥) → Placed s at (nodeIdElement kind (viewSettings t)) at s
   unfolding nodeIdElement
-  node-not k = rw (ne-eqb kind 50 k) (placed-none s at)
+  node-not k = rw (ne-eqb kind establishment k) (placed-none s at)
 
-  pub fseid-not : (seid : ℕ) → (kind ≡ 50 → ⊥) → Placed s at (unitFseid kind (viewSettings t) seid) at s
+  pub fseid-not : (seid : ℕ) → (kind ≡ establishment → ⊥) → Placed s at (unitFseid kind (viewSettings t) seid) at s
   unfolding unitFseid
-  fseid-not seid k = rw (ne-eqb kind 50 k) (placed-none s at)
+  fseid-not seid k = rw (ne-eqb kind establishment k) (placed-none s at)
 
-  module _ (long : 29 ≤ length t) (k : kind ≡ 50) where
+  module _ (long : settingsWidth ≤ length t) (k : kind ≡ establishment) where
     four : length (take 4 t) ≡ 4
     four = length-part 0 4 t (omega arith)
 
@@ -61,7 +63,7 @@ module _ (kind at : ℕ) (t s : List ℕ) where
     unfolding nodeIdElement viewSettings
     node-steps {s₁} h p q =
         let l : length s₁ ≡ length s = length-headed at 60 5 s p (omega arith) in
-        rw (eq-eqb kind 50 k)
+        rw (eq-eqb kind establishment k)
         (placed-element at 60 5 s p (omega arith) (at + 4) (at + 9) (0 ∷ take 4 t)
         (next-put (at + 4) (at + 5) (0 ∷ []) (take 4 t) s₁ (set-put (at + 4) 0 s₁ (omega arith)) q (omega arith) (omega arith))
         refl (ap suc four) (omega arith))
@@ -70,10 +72,10 @@ module _ (kind at : ℕ) (t s : List ℕ) where
         → s₃ ≡ put (at + 13) (take 4 t) s₂ → Placed s at (unitFseid kind (viewSettings t) seid) (at + 17) s₃
     unfolding unitFseid viewSettings fseidOctets
     fseid-steps seid {s₁} h p q r =
-        let l : length s₁ ≡ length s = length-headed at 57 13 s p (omega arith) in
+        let l : length s₁ ≡ length s = length-headed at ie.fseid 13 s p (omega arith) in
         let b = length-be 8 seid in
-        rw (eq-eqb kind 50 k, not-nil (take 4 t) 3 four, append-nil (take 4 t))
-        (placed-element at 57 13 s p (omega arith) (at + 4) (at + 17) ((2 ∷ be 8 seid) ++ take 4 t)
+        rw (eq-eqb kind establishment k, not-nil (take 4 t) 3 four, append-nil (take 4 t))
+        (placed-element at ie.fseid 13 s p (omega arith) (at + 4) (at + 17) ((2 ∷ be 8 seid) ++ take 4 t)
         (next-put (at + 4) (at + 13) (2 ∷ be 8 seid) (take 4 t) s₁
         (next-put (at + 4) (at + 5) (2 ∷ []) (be 8 seid) s₁ (set-put (at + 4) 2 s₁ (omega arith)) q (omega arith) (omega arith)) r (omega arith) (omega arith))
         refl (let e = length-append (be 8 seid) (take 4 t) in omega (arith, four)) (omega arith))
@@ -95,7 +97,7 @@ module _ (n : ℕ) where
   next-bit = flag-one (n / 2 % 2) (omega arith)
 
 -- with the unit's addresses: which there are, by their flags, and what the table has of them
-module _ (t : List ℕ) (long : 29 ≤ length t) (families : ℕ) where
+module _ (t : List ℕ) (long : settingsWidth ≤ length t) (families : ℕ) where
   abbrev st : Settings
   st = viewSettings t
 
@@ -197,7 +199,7 @@ module _ (t : List ℕ) (long : 29 ≤ length t) (families : ℕ) where
         refl l (let k = r .ends in let m = length-append (be 4 teid) w in omega arith))
 
 -- the addresses, one after the other
-pub addresses-steps : (t : List ℕ) (f at : ℕ) (s : List ℕ) {s₁ s₂ : List ℕ} → 29 ≤ length t → f < 4 → at + (4 * (f % 2) + 16 * (f / 2)) ≤ length s
+pub addresses-steps : (t : List ℕ) (f at : ℕ) (s : List ℕ) {s₁ s₂ : List ℕ} → settingsWidth ≤ length t → f < 4 → at + (4 * (f % 2) + 16 * (f / 2)) ≤ length s
     → s₁ ≡ put at (take (4 * (f % 2)) t) s → s₂ ≡ put (at + 4 * (f % 2)) (part 5 (5 + 16 * (f / 2) - 5) t) s₁
     → Placed s at (part 0 (4 * (f % 2)) t ++ part 5 (16 * (f / 2)) t) (at + 4 * (f % 2) + 16 * (f / 2)) s₂
 addresses-steps t f at s {s₁} {s₂} h g l p q =

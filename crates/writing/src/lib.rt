@@ -5,8 +5,9 @@ ghost use lib.ListN.{length};
 ghost use mathlib.Core.List.{[], _∷_, _++_};
 ghost use mathlib.Core.Option.{some};
 ghost use Rattle.octets.specs.Octets.{put, be, part};
-ghost use Rattle.rules.specs.Layout.{viewSettings};
+ghost use Rattle.rules.specs.Layout.{viewSettings, settingsWidth};
 ghost use Rattle.rules.specs.Reply.{element, nodeIdElement, offendingElement, unitFseid, unitElement};
+ghost use Rattle.rules.specs.Types as ie;
 ghost use Rattle.writing.specs.Families.{unitFamilies, addressOctets, unitAddresses, tunnelIn};
 ghost use Rattle.writing.specs.Placed.{Placed};
 
@@ -26,7 +27,7 @@ pub fn write_head(kind: usize, n: usize, out: &mut [u8], at: usize)
 
 // Node ID, in an establishment's reply only.
 pub fn write_node_id(t: &[u8], kind: u8, out: &mut [u8], at: usize) -> usize
-    requires { ⌜ (29 ≤ length (now t)) × (at + 9 ≤ length (now out)) ⌝ }
+    requires { ⌜ (settingsWidth ≤ length (now t)) × (at + 9 ≤ length (now out)) ⌝ }
     ensures { λ r. ⌜ Placed (now (out .entry)) at (nodeIdElement kind (viewSettings (now (t .entry)))) r (now (out .exit)) ⌝ }
 {
     if kind != ESTABLISHMENT {
@@ -41,7 +42,7 @@ pub fn write_node_id(t: &[u8], kind: u8, out: &mut [u8], at: usize) -> usize
 // Cause.
 pub fn write_cause(cause: u8, out: &mut [u8], at: usize) -> usize
     requires { ⌜ at + 5 ≤ length (now out) ⌝ }
-    ensures { λ r. ⌜ Placed (now (out .entry)) at (element 19 (cause ∷ [])) r (now (out .exit)) ⌝ }
+    ensures { λ r. ⌜ Placed (now (out .entry)) at (element ie.cause (cause ∷ [])) r (now (out .exit)) ⌝ }
 {
     write_head(19, 1, out, at);
     out[at + 4] = cause;
@@ -60,7 +61,7 @@ pub fn write_offending(t: u64, out: &mut [u8], at: usize) -> usize
 
 // The unit's F-SEID, in an accepted establishment's reply only: bit 2 says that an IPv4 address is there.
 pub fn write_fseid(t: &[u8], kind: u8, seid: u64, out: &mut [u8], at: usize) -> usize
-    requires { ⌜ (29 ≤ length (now t)) × (at + 17 ≤ length (now out)) ⌝ }
+    requires { ⌜ (settingsWidth ≤ length (now t)) × (at + 17 ≤ length (now out)) ⌝ }
     ensures { λ r. ⌜ Placed (now (out .entry)) at (unitFseid kind (viewSettings (now (t .entry))) seid) r (now (out .exit)) ⌝ }
 {
     if kind != ESTABLISHMENT {
@@ -75,7 +76,7 @@ pub fn write_fseid(t: &[u8], kind: u8, seid: u64, out: &mut [u8], at: usize) -> 
 
 // The families of an F-TEID with the unit's addresses: V4 = 1, V6 = 2 where the unit has an IPv6 address.
 pub fn unit_families(t: &[u8], families: u64) -> usize
-    requires { ⌜ 29 ≤ length (now t) ⌝ }
+    requires { ⌜ settingsWidth ≤ length (now t) ⌝ }
     ensures { λ r. ⌜ (r ≡ unitFamilies (viewSettings (now (t .entry))) families) × (r < 4) ⌝ }
 {
     if t[format::IPV6_THERE] == 0 {
@@ -86,7 +87,7 @@ pub fn unit_families(t: &[u8], families: u64) -> usize
 
 // The unit's addresses of these families, as the table has them.
 fn write_addresses(t: &[u8], families: usize, out: &mut [u8], at: usize) -> usize
-    requires { ⌜ (29 ≤ length (now t)) × (families < 4) × (at + addressOctets families ≤ length (now out)) ⌝ }
+    requires { ⌜ (settingsWidth ≤ length (now t)) × (families < 4) × (at + addressOctets families ≤ length (now out)) ⌝ }
     ensures { λ r. ⌜ Placed (now (out .entry)) at (part 0 (4 * (families % 2)) (now (t .entry)) ++ part 5 (16 * (families / 2)) (now (t .entry))) r (now (out .exit)) ⌝ }
 {
     let v4 = 4 * (families % 2);
@@ -99,7 +100,7 @@ fn write_addresses(t: &[u8], families: usize, out: &mut [u8], at: usize) -> usiz
 
 // An F-TEID with the unit's addresses.
 pub fn write_fteid(t: &[u8], teid: u64, families: u64, out: &mut [u8], at: usize) -> usize
-    requires { ⌜ (29 ≤ length (now t)) × (at + 9 + unitAddresses (viewSettings (now t)) families ≤ length (now out)) ⌝ }
+    requires { ⌜ (settingsWidth ≤ length (now t)) × (at + 9 + unitAddresses (viewSettings (now t)) families ≤ length (now out)) ⌝ }
     ensures { λ r. ⌜ Placed (now (out .entry)) at (unitElement (viewSettings (now (t .entry))) (tunnelIn teid families)) r (now (out .exit)) ⌝ }
 {
     let f = unit_families(t, families);

@@ -49,7 +49,7 @@ use Rattle.octets.specs.Octets.{put}
 use Rattle.octets.specs.Lists.{all}
 use Rattle.octets.proofs.Put.{length-put}
 use Rattle.rules.specs.Model.{Settings}
-use Rattle.rules.specs.Layout.{viewSettings}
+use Rattle.rules.specs.Layout.{viewSettings, settingsWidth}
 use Rattle.rules.specs.Reply.{created}
 use Rattle.writing.specs.Placed.{Placed}
 use Rattle.writing.proofs.PlacedLaws.{placed-then}
@@ -93,7 +93,7 @@ module _ {M : Type 1} (𝓤 : URA M) (H : Heap 𝓤) (A : Atoms 𝓤) (mem : Mem
   abbrev WriteGroups : Contract 𝓤
   WriteGroups = tripleOf 𝓤 H A write-groups.signature (write-groups.spec 𝓤 H A mem run)
 
-module _ {M : Type 1} (𝓤 : URA M) (H : Heap 𝓤) (A : Atoms 𝓤) (W : Given 𝓤 H A) (mem : Memory → SProp 𝓤) (run : Routine → Fun 𝓤) (κ₀ κ₁ κ₂ κ₃ : Lft) (q₀ q₁ q₂ q₃ : Share) (b₀ o₀ : ℕ) (γ₀ : GName) (t : List ℕ) (b₁ o₁ : ℕ) (γ₁ : GName) (plan : List ℕ) (b₂ o₂ : ℕ) (γ₂ : GName) (places : List ℕ) (b₃ o₃ : ℕ) (γ₃ : GName) (us : List ℕ) (from-place : ℕ) (from-fits : from-place < 2 ^ 64) (room₀ : Room u8 (length t)) (room₁ : Room u64 (length plan)) (room₂ : Room usize (length places)) (room₃ : Room u8 (length us)) (long : 29 ≤ length t) (few : length places ≤ maxGrants) (inside : T (within plan places)) (ids : all idFits (grantsAt plan places) ≡ true) (n-out : from-place + length (created (viewSettings t) (grantsAt plan places)) ≤ length us) where
+module _ {M : Type 1} (𝓤 : URA M) (H : Heap 𝓤) (A : Atoms 𝓤) (W : Given 𝓤 H A) (mem : Memory → SProp 𝓤) (run : Routine → Fun 𝓤) (κ₀ κ₁ κ₂ κ₃ : Lft) (q₀ q₁ q₂ q₃ : Share) (b₀ o₀ : ℕ) (γ₀ : GName) (t : List ℕ) (b₁ o₁ : ℕ) (γ₁ : GName) (plan : List ℕ) (b₂ o₂ : ℕ) (γ₂ : GName) (places : List ℕ) (b₃ o₃ : ℕ) (γ₃ : GName) (us : List ℕ) (from-place : ℕ) (from-fits : from-place < 2 ^ 64) (room₀ : Room u8 (length t)) (room₁ : Room u64 (length plan)) (room₂ : Room usize (length places)) (room₃ : Room u8 (length us)) (long : settingsWidth ≤ length t) (few : length places ≤ maxGrants) (inside : T (within plan places)) (ids : all idFits (grantsAt plan places) ≡ true) (n-out : from-place + length (created (viewSettings t) (grantsAt plan places)) ≤ length us) where
   abbrev n : ℕ
   n = length places
 

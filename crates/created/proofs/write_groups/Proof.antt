@@ -49,7 +49,7 @@ use denote.Exit.{yes}
 use Rattle.octets.specs.Octets.{put}
 use Rattle.octets.specs.Lists.{all}
 use Rattle.octets.proofs.Put.{put-nil, put-behind, length-put}
-use Rattle.rules.specs.Layout.{viewSettings}
+use Rattle.rules.specs.Layout.{viewSettings, settingsWidth}
 use Rattle.writing.specs.Placed.{Placed}
 use Rattle.created.specs.declared.Grant.{Grant as Entry}
 use Rattle.created.specs.Groups.{kindIn, groups, idFits}
@@ -92,7 +92,7 @@ lent-ref = tyRef erased mut (tyInt w8)
 abbrev WriteGrant : {M : Type 1} (𝓤 : URA M) (H : Heap 𝓤) (A : Atoms 𝓤) (mem : Memory → SProp 𝓤) (run : Routine → Fun 𝓤) → Contract 𝓤
 WriteGrant 𝓤 H A mem run = tripleOf 𝓤 H A write-grant.signature (write-grant.spec 𝓤 H A mem run)
 
-module _ {M : Type 1} (𝓤 : URA M) (H : Heap 𝓤) (A : Atoms 𝓤) (W : Given 𝓤 H A) (mem : Memory → SProp 𝓤) (run : Routine → Fun 𝓤) (κ₀ κ₁ κ₂ : Lft) (q₀ q₁ q₂ : Share) (b₀ o₀ : ℕ) (γ₀ : GName) (t : List ℕ) (b₁ o₁ : ℕ) (γ₁ : GName) (ys : List Entry) (n kind : ℕ) (b₂ o₂ : ℕ) (γ₂ : GName) (us : List ℕ) (from-place : ℕ) (n-fits : n < 2 ^ 64) (kind-fits : kind < 2 ^ 64) (from-fits : from-place < 2 ^ 64) (room₀ : Room u8 (length t)) (room₁ : Room R (length ys)) (room₂ : Room u8 (length us)) (long : 29 ≤ length t) (n-entries : n ≤ length ys) (ids : all idFits (listed n ys) ≡ true) (n-out : from-place + length (groups (kindIn kind) (viewSettings t) (listed n ys)) ≤ length us) where
+module _ {M : Type 1} (𝓤 : URA M) (H : Heap 𝓤) (A : Atoms 𝓤) (W : Given 𝓤 H A) (mem : Memory → SProp 𝓤) (run : Routine → Fun 𝓤) (κ₀ κ₁ κ₂ : Lft) (q₀ q₁ q₂ : Share) (b₀ o₀ : ℕ) (γ₀ : GName) (t : List ℕ) (b₁ o₁ : ℕ) (γ₁ : GName) (ys : List Entry) (n kind : ℕ) (b₂ o₂ : ℕ) (γ₂ : GName) (us : List ℕ) (from-place : ℕ) (n-fits : n < 2 ^ 64) (kind-fits : kind < 2 ^ 64) (from-fits : from-place < 2 ^ 64) (room₀ : Room u8 (length t)) (room₁ : Room R (length ys)) (room₂ : Room u8 (length us)) (long : settingsWidth ≤ length t) (n-entries : n ≤ length ys) (ids : all idFits (listed n ys) ≡ true) (n-out : from-place + length (groups (kindIn kind) (viewSettings t) (listed n ys)) ≤ length us) where
   abbrev x₀ : RefT (List ℕ)
   x₀ = record { ptr = (b₀, o₀); name = γ₀; now = t }
 

@@ -7,6 +7,7 @@ use lib.ListN.{replicate}
 use borrow.Author.Needs.{needs}
 use Rattle.engine.proofs.change.Statement.{statement}
 use Rattle.engine.proofs.change.Tie as tie
+use Rattle.rules.specs.Layout.{sessionWidth}
 
 refuse-requires : tie.Need-refuse-requires
 refuse-requires c κs = fault-refuses (c .before .before .before .before .before .before .before .before .before .before .before .pre .0) (c .before .before .before .before .before .before .read-request .ensures) _ _ (c .before .before .before .reading .given .1)
@@ -15,7 +16,7 @@ enter-requires : tie.Need-enter-requires
 enter-requires c κs = fetch-asks _ _ _ _ _ _ (enter-asks (c .before .before .before .before .before .before .before .before .before .before .before .pre .0) (c .before .before .before .before .before .before .read-request .ensures) (c .before .before .before .reading2 .given .1) _ (search needs) refl)
 
 settle-requires : tie.Need-settle-requires
-settle-requires c κs = (readable (c .before .before .before .before .before .before .before .before .before .before .before .before .before .before .before .before .before .pre .0) (c .before .before .before .before .before .before .before .before .before .before .before .before .read-request .ensures) (c .before .before .before .before .before .before .before .before .before .reading2 .given .1), c .before .before .before .before .before .before .before .before .before .before .before .before .before .before .before .before .before .pre .1, entered _ _ _ _ _ _ (enter-asks (c .before .before .before .before .before .before .before .before .before .before .before .before .before .before .before .before .before .pre .0) (c .before .before .before .before .before .before .before .before .before .before .before .before .read-request .ensures) (c .before .before .before .before .before .before .before .before .before .reading2 .given .1) (replicate 483 0) (search needs) refl) _ _ (c .before .before .before .before .before .enter .ensures))
+settle-requires c κs = (readable (c .before .before .before .before .before .before .before .before .before .before .before .before .before .before .before .before .before .pre .0) (c .before .before .before .before .before .before .before .before .before .before .before .before .read-request .ensures) (c .before .before .before .before .before .before .before .before .before .reading2 .given .1), c .before .before .before .before .before .before .before .before .before .before .before .before .before .before .before .before .before .pre .1, entered _ _ _ _ _ _ (enter-asks (c .before .before .before .before .before .before .before .before .before .before .before .before .before .before .before .before .before .pre .0) (c .before .before .before .before .before .before .before .before .before .before .before .before .read-request .ensures) (c .before .before .before .before .before .before .before .before .before .reading2 .given .1) (replicate sessionWidth 0) (search needs) refl) _ _ (c .before .before .before .before .before .enter .ensures))
 
 pub change-spec : {M : Type 1} → statement M
 change-spec =

@@ -1,7 +1,10 @@
 -- `marking::admit` meets its contract.
 -- Assumes nothing.
+use Prim.Native.Nat.{_*_}
 use native.Mathlib.Omega.{arith}
 use Rattle.octets.proofs.Put.{length-part}
+use Rattle.rules.specs.Layout.{pdrWidth, endpointWidth, csidWidth, pdrsAt, endpointsAt, csidsAt}
+use Rattle.rules.specs.Limits.{maxPdrs, maxEndpoints, nodeTypes}
 use Rattle.marking.proofs.Admitting.{slot-counts, ends-long, admit-broken, admit-csids, admit-ends, admit-rules, admit-few, admit-whole}
 use borrow.Author.Needs.{needs}
 use Rattle.marking.proofs.admit.Statement.{statement}
@@ -40,7 +43,7 @@ csids-sound-requires c κs =
     let xs = g .slot .now in
     let head = c .before .before .before .head-sound in
     let counts = slot-counts (g .first) (g .size) (g .v6) (g .words .now) xs (head .result) (head .ensures) (c .before .before .if1 .left) in
-    omega (arith, counts .csids, length-part 363 120 xs (omega arith))
+    omega (arith, counts .csids, length-part csidsAt (nodeTypes * csidWidth) xs (omega arith))
 
 returns-2 : tie.Need-returns-2
 returns-2 c =
@@ -72,7 +75,7 @@ admit-endpoints-requires c κs =
     let xs = g .slot .now in
     let head = c .before .before .before .before .before .before .before .before .head-sound in
     let counts = slot-counts (g .first) (g .size) (g .v6) (g .words .now) xs (head .result) (head .ensures) (c .before .before .before .before .before .before .before .if1 .left) in
-    (omega (arith, counts .endpoints, length-part 315 48 xs (omega arith)), start .pre .1, start .pre .2)
+    (omega (arith, counts .endpoints, length-part endpointsAt (maxEndpoints * endpointWidth) xs (omega arith)), start .pre .1, start .pre .2)
 
 enum-known-held : tie.Need-enum-known-held
 enum-known-held c = search needs
@@ -115,7 +118,7 @@ admit-pdrs-requires c κs =
     let counts = slot-counts (g .first) (g .size) (g .v6) (g .words .now) xs (head .result) (head .ensures) (c .before .before .before .before .before .before .before .before .before .before .before .before .before .before .before .before .if1 .left) in
     let ends = c .before .before .before .before .before .before .before .before .admit-endpoints in
     let long = ends-long (g .first) (g .size) (g .v6) (g .words .now) xs (head .result) (head .ensures) (c .before .before .before .before .before .before .before .before .before .before .before .before .before .before .before .before .if1 .left) (c .before .before .before .before .before .before .before .before .before .before .before .before .before .csids-sound .result) (c .before .before .before .before .before .before .before .before .before .before .before .before .before .csids-sound .ensures) (c .before .before .before .before .before .before .before .before .before .before .before .before .if2 .left) (ends .result) (ends .last .0) (ends .ensures) (c .before .before .before .before .held .given .0 .0) (c .before .before .before .before .held .given .1) in
-    (omega (arith, counts .pdrs, length-part 11 304 xs (omega arith)), omega (arith, counts .endpoints, length-part 315 48 xs (omega arith)), start .pre .1, omega (arith, long))
+    (omega (arith, counts .pdrs, length-part pdrsAt (maxPdrs * pdrWidth) xs (omega arith)), omega (arith, counts .endpoints, length-part endpointsAt (maxEndpoints * endpointWidth) xs (omega arith)), start .pre .1, omega (arith, long))
 
 enum-known-pdrs : tie.Need-enum-known-pdrs
 enum-known-pdrs c = search needs

@@ -9,9 +9,10 @@ use Rattle.marking.specs.Marking.{pdrHolds}
 use Rattle.marking.proofs.Walking.{Walk, walk-none, walk-low, walk-more, walk-clash, walk-room, walk-all, pdrsTo, pdrsFrom, pdr-places}
 use Rattle.marking.proofs.admit_pdrs.Statement.{statement}
 use Rattle.marking.proofs.admit_pdrs.Tie as tie
+use Rattle.rules.specs.Layout.{pdrWidth}
 
 abbrev Inv-loop : tie.InvT-loop
-Inv-loop words₀ pdrs n ends m first size v6 new₀ next₀ i₀ words new next i = Walk (pdrSound (unit first size v6) (endpointIds m ends)) 19 2 pdrs n first words₀ (pdrHolds n pdrs) (pdrsTo first words₀ pdrs n) (pdrsFrom first words₀ pdrs n) words i next new
+Inv-loop words₀ pdrs n ends m first size v6 new₀ next₀ i₀ words new next i = Walk (pdrSound (unit first size v6) (endpointIds m ends)) pdrWidth 2 pdrs n first words₀ (pdrHolds n pdrs) (pdrsTo first words₀ pdrs n) (pdrsFrom first words₀ pdrs n) words i next new
 
 abbrev μ-loop : tie.MeasureT-loop
 μ-loop words₀ pdrs n ends m first size v6 new₀ next₀ i₀ words new next i = n - i
@@ -21,7 +22,7 @@ loop-holds c =
     let g = c .before .before .before .args in
     let p = pdrSound (unit (g .first) (g .size) (g .v6)) (endpointIds (g .m) (g .ends .now)) in
     let ps = pdr-places (g .first) (g .words .now) (g .pdrs .now) (g .n) in
-    walk-none p 19 2 (g .pdrs .now) ps
+    walk-none p pdrWidth 2 (g .pdrs .now) ps
 
 mul-read : tie.Need-mul-read Inv-loop μ-loop
 mul-read c = search needs
@@ -37,7 +38,7 @@ returns c =
     let g = c .before .before .before .before .before .before .before .args in
     let p = pdrSound (unit (g .first) (g .size) (g .v6)) (endpointIds (g .m) (g .ends .now)) in
     let ps = pdr-places (g .first) (g .words .now) (g .pdrs .now) (g .n) in
-    walk-low p 19 2 (g .pdrs .now) ps (c .before .before .before .loop .inv) (c .before .before .loop-test .taken) (lit≤ tt) (c .before .read .result) (c .before .read .ensures .0) (c .before .before .before .loop .words) (c .if1 .taken)
+    walk-low p pdrWidth 2 (g .pdrs .now) ps (c .before .before .before .loop .inv) (c .before .before .loop-test .taken) (lit≤ tt) (c .before .read .result) (c .before .read .ensures .0) (c .before .before .before .loop .words) (c .if1 .taken)
 
 admit-pdr-requires : tie.Need-admit-pdr-requires Inv-loop μ-loop
 admit-pdr-requires c κs = search needs
@@ -58,7 +59,7 @@ returns-2 c =
     let ps = pdr-places (g .first) (g .words .now) (g .pdrs .now) (g .n) in
     let l = c .before .before .before .before .before .before .before .before .before .loop in
     let t = c .before .before .before .before .admit-pdr in
-    walk-clash p 19 2 (g .pdrs .now) ps (l .inv) (c .before .before .before .before .before .before .before .before .loop-test .taken) (t .result) (t .last .0) (t .ensures) (c .enum-told .given .1) (t .last .0)
+    walk-clash p pdrWidth 2 (g .pdrs .now) ps (l .inv) (c .before .before .before .before .before .before .before .before .loop-test .taken) (t .result) (t .last .0) (t .ensures) (c .enum-told .given .1) (t .last .0)
 
 add-new : tie.Need-add-new Inv-loop μ-loop
 add-new c =
@@ -68,7 +69,7 @@ add-new c =
     let l = c .before .before .before .before .before .before .before .before .before .before .loop in
     let t = c .before .before .before .before .before .admit-pdr in
     let key = c .before .before .before .before .before .before .before .before .read in
-    let more = walk-more p 19 2 (g .pdrs .now) ps (l .inv) (c .before .before .before .before .before .before .before .before .before .loop-test .taken) (lit≤ tt) (key .result) (key .ensures .0) (t .result) (t .last .0) (t .ensures) (c .before .before .before .before .before .before .before .if1 .left) (c .before .step .given .0 .0) (c .before .step .given .1) in
+    let more = walk-more p pdrWidth 2 (g .pdrs .now) ps (l .inv) (c .before .before .before .before .before .before .before .before .before .loop-test .taken) (lit≤ tt) (key .result) (key .ensures .0) (t .result) (t .last .0) (t .ensures) (c .before .before .before .before .before .before .before .if1 .left) (c .before .step .given .0 .0) (c .before .step .given .1) in
     omega (arith, more .few)
 
 add-next : tie.Need-add-next Inv-loop μ-loop
@@ -88,7 +89,7 @@ loop-again c =
     let l = c .before .before .before .before .before .before .before .before .before .before .loop in
     let t = c .before .before .before .before .before .admit-pdr in
     let key = c .before .before .before .before .before .before .before .before .read in
-    walk-more p 19 2 (g .pdrs .now) ps (l .inv) (c .before .before .before .before .before .before .before .before .before .loop-test .taken) (lit≤ tt) (key .result) (key .ensures .0) (t .result) (t .last .0) (t .ensures) (c .before .before .before .before .before .before .before .if1 .left) (c .before .step .given .0 .0) (c .before .step .given .1)
+    walk-more p pdrWidth 2 (g .pdrs .now) ps (l .inv) (c .before .before .before .before .before .before .before .before .before .loop-test .taken) (lit≤ tt) (key .result) (key .ensures .0) (t .result) (t .last .0) (t .ensures) (c .before .before .before .before .before .before .before .if1 .left) (c .before .step .given .0 .0) (c .before .step .given .1)
 
 mul-used : tie.Need-mul-used Inv-loop μ-loop
 mul-used c = search needs
@@ -107,7 +108,7 @@ returns-3 c =
     let g = c .before .before .before .before .before .before .before .args in
     let p = pdrSound (unit (g .first) (g .size) (g .v6)) (endpointIds (g .m) (g .ends .now)) in
     let ps = pdr-places (g .first) (g .words .now) (g .pdrs .now) (g .n) in
-    walk-room p 19 2 (g .pdrs .now) ps (c .before .before .before .loop .inv) (c .before .before .loop-test .left) (c .before .before .before .before .before .before .before .pre .0) (c .before .is-zero .result) (c .before .is-zero .ensures) (c .before .before .before .loop .words) (c .if2 .taken)
+    walk-room p pdrWidth 2 (g .pdrs .now) ps (c .before .before .before .loop .inv) (c .before .before .loop-test .left) (c .before .before .before .before .before .before .before .pre .0) (c .before .is-zero .result) (c .before .is-zero .ensures) (c .before .before .before .loop .words) (c .if2 .taken)
 
 same-length-4 : tie.Need-same-length-4 Inv-loop μ-loop
 same-length-4 c = search needs
@@ -117,7 +118,7 @@ returns-4 c =
     let g = c .before .before .before .before .before .before .before .args in
     let p = pdrSound (unit (g .first) (g .size) (g .v6)) (endpointIds (g .m) (g .ends .now)) in
     let ps = pdr-places (g .first) (g .words .now) (g .pdrs .now) (g .n) in
-    walk-all p 19 2 (g .pdrs .now) ps (c .before .before .before .loop .inv) (c .before .before .loop-test .left) (c .before .before .before .before .before .before .before .pre .0) (c .before .is-zero .result) (c .before .is-zero .ensures) (c .if2 .left)
+    walk-all p pdrWidth 2 (g .pdrs .now) ps (c .before .before .before .loop .inv) (c .before .before .loop-test .left) (c .before .before .before .before .before .before .before .pre .0) (c .before .is-zero .result) (c .before .is-zero .ensures) (c .if2 .left)
 
 pub admit-pdrs-spec : {M : Type 1} → statement M
 admit-pdrs-spec =

@@ -10,9 +10,10 @@ use Rattle.marking.specs.Marking.{pdrHolds, heldBy}
 use Rattle.marking.proofs.Looking.{look-here, look-later, look-none-left}
 use Rattle.marking.proofs.shares.Statement.{statement}
 use Rattle.marking.proofs.shares.Tie as tie
+use Rattle.rules.specs.Layout.{pdrWidth}
 
 abbrev Inv-loop : tie.InvT-loop
-Inv-loop pdrs n slot teid i₀ i = (i ≤ n) × (joins (pdrHolds (n - i) (drop (i * 19) pdrs)) (heldBy slot) ≡ joins (pdrHolds n pdrs) (heldBy slot))
+Inv-loop pdrs n slot teid i₀ i = (i ≤ n) × (joins (pdrHolds (n - i) (drop (i * pdrWidth) pdrs)) (heldBy slot) ≡ joins (pdrHolds n pdrs) (heldBy slot))
 
 abbrev μ-loop : tie.MeasureT-loop
 μ-loop pdrs n slot teid i₀ i = n - i

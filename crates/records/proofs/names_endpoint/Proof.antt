@@ -8,13 +8,14 @@ use native.Mathlib.Omega.{arith}
 use lib.ListN.{drop}
 use borrow.Author.Needs.{needs}
 use Rattle.octets.specs.Lists.{member}
+use Rattle.rules.specs.Layout.{endpointWidth}
 use Rattle.records.specs.Kept.{endpointIds}
 use Rattle.records.proofs.Answers.{found-here, found-later, found-all}
 use Rattle.records.proofs.names_endpoint.Statement.{statement}
 use Rattle.records.proofs.names_endpoint.Tie as tie
 
 abbrev Inv-loop : tie.InvT-loop
-Inv-loop ends n id found₀ i₀ found i = (i ≤ n) × ((found || member id (endpointIds (n - i) (drop (i * 6) ends))) ≡ member id (endpointIds n ends))
+Inv-loop ends n id found₀ i₀ found i = (i ≤ n) × ((found || member id (endpointIds (n - i) (drop (i * endpointWidth) ends))) ≡ member id (endpointIds n ends))
 
 abbrev μ-loop : tie.MeasureT-loop
 μ-loop ends n id found₀ i₀ found i = n - i
@@ -40,7 +41,7 @@ loop-again c =
     let l = c .before .before .before .loop in
     let answer = member (a .id) (endpointIds (a .n) (a .ends .now)) in
     let h = c .before .before .loop-test .taken in
-    let rest = member (a .id) (endpointIds (a .n - (l .i + 1)) (drop ((l .i + 1) * 6) (a .ends .now))) in
+    let rest = member (a .id) (endpointIds (a .n - (l .i + 1)) (drop ((l .i + 1) * endpointWidth) (a .ends .now))) in
     ⊎-elim
     (λ w. (omega arith, ap (λ (t : Bool). t || rest) (w .1) ∙ found-here (a .ends .now) (a .n) (l .i) h (a .id) (l .found) answer (l .inv .1) (w .0 .taken)))
     (λ w. (omega arith, ap (λ (t : Bool). t || rest) (w .1) ∙ found-later (a .ends .now) (a .n) (l .i) h (a .id) (l .found) answer (l .inv .1) (w .0 .left)))

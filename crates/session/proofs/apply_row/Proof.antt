@@ -4,6 +4,7 @@ use Rattle.session.proofs.Steps.{pdrs-fit, endpoints-fit, pdr-wide, end
 use borrow.Author.Needs.{needs}
 use Rattle.session.proofs.apply_row.Statement.{statement}
 use Rattle.session.proofs.apply_row.Tie as tie
+use Rattle.rules.specs.Layout.{pdrWidth}
 
 -- src/lib.rt:66:16
 -- src/lib.rt:68:40
@@ -33,7 +34,7 @@ put-record-requires c κs =
 -- src/lib.rt:76:13
 put-record-requires-2 : tie.Need-put-record-requires-2
 put-record-requires-2 c κs =
-    let n : length (c .before .before .before .pdr .result) ≡ 19 = search needs in
+    let n : length (c .before .before .before .pdr .result) ≡ pdrWidth = search needs in
     (search pdrs-fit, pdr-wide _ _ (c .before .pdrs2 .ensures) n)
 
 -- src/lib.rt:78:14

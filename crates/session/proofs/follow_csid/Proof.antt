@@ -4,6 +4,7 @@ use Rattle.session.proofs.Steps.{csids-fit, csid-set, csid-removed, csi
 use borrow.Author.Needs.{needs}
 use Rattle.session.proofs.follow_csid.Statement.{statement}
 use Rattle.session.proofs.follow_csid.Tie as tie
+use Rattle.rules.specs.Layout.{csidWidth}
 
 -- src/lib.rt:45:16
 -- src/lib.rt:46:9
@@ -12,7 +13,7 @@ use Rattle.session.proofs.follow_csid.Tie as tie
 -- src/lib.rt:49:9
 put-record-requires : tie.Need-put-record-requires
 put-record-requires c κs =
-    let n : length (c .before .before .csid .result) ≡ 20 = search needs in
+    let n : length (c .before .before .csid .result) ≡ csidWidth = search needs in
     (search csids-fit, csid-wide _ _ (c .before .before .before .before .csids .ensures) n)
 
 -- src/lib.rt:50:9

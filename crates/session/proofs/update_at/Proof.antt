@@ -4,6 +4,7 @@ use Rattle.session.proofs.Steps.{pdrs-fit, updated-at, pdr-wide, pdr-ro
 use borrow.Author.Needs.{needs}
 use Rattle.session.proofs.update_at.Statement.{statement}
 use Rattle.session.proofs.update_at.Tie as tie
+use Rattle.rules.specs.Layout.{pdrWidth}
 
 -- src/lib.rt:19:19
 -- src/lib.rt:19:14
@@ -22,7 +23,7 @@ use Rattle.session.proofs.update_at.Tie as tie
 -- src/lib.rt:25:5
 replace-requires : tie.Need-replace-requires
 replace-requires c κs =
-    let n : length (c .before .before .before .before .set-far .last .0) ≡ 19 = search needs in
+    let n : length (c .before .before .before .before .set-far .last .0) ≡ pdrWidth = search needs in
     (search pdrs-fit, search pdr-room, pdr-wide _ _ (c .before .pdrs .ensures) n)
 
 -- src/lib.rt:15:1

@@ -10,15 +10,16 @@ use Rattle.records.specs.Kept.{csidSound}
 use Rattle.sessions.proofs.Turns.{Rows, rows-none, rows-low, rows-bad, rows-more, rows-room, record-read}
 use Rattle.sessions.proofs.csids_sound.Statement.{statement}
 use Rattle.sessions.proofs.csids_sound.Tie as tie
+use Rattle.rules.specs.Layout.{csidWidth}
 
 abbrev Inv-loop : tie.InvT-loop
-Inv-loop a n next₀ i₀ next i = Rows csidSound 20 1 a n i next
+Inv-loop a n next₀ i₀ next i = Rows csidSound csidWidth 1 a n i next
 
 abbrev μ-loop : tie.MeasureT-loop
 μ-loop a n next₀ i₀ next i = n - i
 
 loop-holds : tie.Need-loop-holds Inv-loop μ-loop
-loop-holds c = let g = c .before .args in rows-none csidSound 20 1 (g .a .now) (g .n)
+loop-holds c = let g = c .before .args in rows-none csidSound csidWidth 1 (g .a .now) (g .n)
 
 mul-at : tie.Need-mul-at Inv-loop μ-loop
 mul-at c = search needs
@@ -30,7 +31,7 @@ returns : tie.Need-returns Inv-loop μ-loop
 returns c =
     let g = c .before .before .before .before .before .args in
     let l = c .before .before .before .loop in
-    sym (rows-low csidSound 20 1 (g .a .now) (g .n) (l .inv) (c .before .before .loop-test .taken) (lit≤ tt) (c .before .read .result) (c .before .read .ensures .0) (c .if1 .taken))
+    sym (rows-low csidSound csidWidth 1 (g .a .now) (g .n) (l .inv) (c .before .before .loop-test .taken) (lit≤ tt) (c .before .read .result) (c .before .read .ensures .0) (c .if1 .taken))
 
 add-csid-sound : tie.Need-add-csid-sound Inv-loop μ-loop
 add-csid-sound c = search needs
@@ -51,8 +52,8 @@ returns-2 : tie.Need-returns-2 Inv-loop μ-loop
 returns-2 c =
     let g = c .before .before .before .before .before .before .before .before .args in
     let l = c .before .before .before .before .before .before .loop in
-    let sound = record-read csidSound 20 (l .i) (g .a .now) (c .before .csid-sound .result) (c .before .csid-sound .ensures) in
-    sym (rows-bad csidSound 20 1 (g .a .now) (g .n) (l .inv) (c .before .before .before .before .before .loop-test .taken) (sym sound ∙ not-true _ (c .if2 .taken)))
+    let sound = record-read csidSound csidWidth (l .i) (g .a .now) (c .before .csid-sound .result) (c .before .csid-sound .ensures) in
+    sym (rows-bad csidSound csidWidth 1 (g .a .now) (g .n) (l .inv) (c .before .before .before .before .before .loop-test .taken) (sym sound ∙ not-true _ (c .if2 .taken)))
 
 add-next : tie.Need-add-next Inv-loop μ-loop
 add-next c = omega (arith, c .before .before .before .before .read .ensures .1)
@@ -68,8 +69,8 @@ loop-again c =
     let g = c .before .before .before .before .before .before .before .before .args in
     let l = c .before .before .before .before .before .before .loop in
     let node = c .before .before .before .before .read in
-    let sound = record-read csidSound 20 (l .i) (g .a .now) (c .before .csid-sound .result) (c .before .csid-sound .ensures) in
-    rows-more csidSound 20 1 (g .a .now) (g .n) (l .inv) (c .before .before .before .before .before .loop-test .taken) (lit≤ tt) (node .result) (node .ensures .0) (c .before .before .before .if1 .left) (sym sound ∙ not-false _ (c .if2 .left))
+    let sound = record-read csidSound csidWidth (l .i) (g .a .now) (c .before .csid-sound .result) (c .before .csid-sound .ensures) in
+    rows-more csidSound csidWidth 1 (g .a .now) (g .n) (l .inv) (c .before .before .before .before .before .loop-test .taken) (lit≤ tt) (node .result) (node .ensures .0) (c .before .before .before .if1 .left) (sym sound ∙ not-false _ (c .if2 .left))
 
 mul-used : tie.Need-mul-used Inv-loop μ-loop
 mul-used c = search needs
@@ -84,7 +85,7 @@ returns-3 : tie.Need-returns-3 Inv-loop μ-loop
 returns-3 c =
     let g = c .before .before .before .before .args in
     let l = c .before .before .loop in
-    rows-room csidSound 20 1 (g .a .now) (g .n) (l .inv) (c .before .loop-test .left) (c .before .before .before .before .pre) (c .is-zero .result) (c .is-zero .ensures)
+    rows-room csidSound csidWidth 1 (g .a .now) (g .n) (l .inv) (c .before .loop-test .left) (c .before .before .before .before .pre) (c .is-zero .result) (c .is-zero .ensures)
 
 pub csids-sound-spec : {M : Type 1} → statement M
 csids-sound-spec =

@@ -1,5 +1,6 @@
 -- `table::examine` meets its contract.
 -- Assumes nothing.
+use Prim.Native.Nat.{_*_}
 use mathlib.Core.Path.{_≡_, ap}
 use native.Mathlib.Omega.{arith}
 use lib.ListN.{length}
@@ -7,7 +8,8 @@ use lib.Dec.{T}
 use Rattle.octets.specs.Octets.{part, octets}
 use Rattle.octets.proofs.Digits.{octets-known}
 use Rattle.octets.proofs.Put.{length-part}
-use Rattle.rules.specs.Limits.{mapWords}
+use Rattle.rules.specs.Limits.{mapWords, maxSessions}
+use Rattle.rules.specs.Layout.{headWidth, sessionWidth}
 use Rattle.table.proofs.Examining.{front-facts, examined-broken, examined-walk}
 use borrow.Author.Needs.{needs}
 use Rattle.table.proofs.examine.Statement.{statement}
@@ -79,7 +81,7 @@ admit-all-requires c κs =
     let first = c .before .before .before .before .before .read .ensures .0 in
     let size = c .before .before .before .before .read2 .ensures .0 in
     let words : length (c .before .before .before .before .before .before .before .before .before .before .args .words .now) ≡ mapWords = ap length (c .before .before .before .before .before .before .before .before .before .before .pre) in
-    let room : length (part 31 30912 t) ≡ 30912 = length-part 31 30912 t (omega (arith, known .long)) in
+    let room : length (part headWidth (maxSessions * sessionWidth) t) ≡ maxSessions * sessionWidth = length-part headWidth (maxSessions * sessionWidth) t (omega (arith, known .long)) in
     (omega (arith, n, known .few, room), omega (arith, n, known .few), omega (arith, first, size, known .pool), omega (arith, size, known .size, words))
 
 same-length : tie.Need-same-length

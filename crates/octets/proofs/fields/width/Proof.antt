@@ -41,7 +41,6 @@ loop-again : tie.Need-loop-again Inv-loop μ-loop
 loop-again c = omega (arith, width-next (c .before .before .before .args .ws .now) (c .before .before .loop .i) (omega arith))
 
 returns : tie.Need-returns Inv-loop μ-loop
-unfolding widthOf
 returns c =
     let l = c .before .loop in
     let e : l .sum + widthOf [] ≡ widthOf (c .before .before .args .ws .now) = rw (drop-of-length-le _ (c .loop-test .left)) at (l .inv .1) in

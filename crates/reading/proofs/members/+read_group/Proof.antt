@@ -11,6 +11,7 @@ use borrow.Author.Needs.{needs}
 use borrow.Fn.Kinds.{In}
 use borrow.Fn.PlainCycle.{Measures, is, falls, and}
 use Rattle.octets.specs.Choice.{flag}
+use Rattle.rules.specs.Types as ie
 use Rattle.elements.proofs.Front.{Front, front, none-left, behind}
 use Rattle.reading.proofs.Places.{pdi-in-create}
 use Rattle.reading.proofs.GroupLaws.{Going, turn-refused, turn-shut, turn-inside, turn-open, turns-done}
@@ -73,7 +74,7 @@ module _ (t : ℕ) where
   read-group-requires : lts.Need-read-group-requires (claims t) (pre t) reads.Post Inv μ-loop
   read-group-requires c κs =
       let e = pdi-in-create _ _ (sym (c .before .if1 .taken) ∙ c .before .before .is-pdi .ensures) in
-      (subst (λ (n : ℕ). 0 < n) (ap (λ (g : ℕ). flag (eqb g 1)) (sym e) ∙ c .before .before .before .before .before .before .before .before .before .before .before .before .before .before .before .before .before .pre .0) (omega arith), c .before .before .before .before .before .before .before .read-own .ensures .tidy)
+      (subst (λ (n : ℕ). 0 < n) (ap (λ (g : ℕ). flag (eqb g ie.createPdr)) (sym e) ∙ c .before .before .before .before .before .before .before .before .before .before .before .before .before .before .before .before .before .pre .0) (omega arith), c .before .before .before .before .before .before .before .read-own .ensures .tidy)
 
   returns-3 : lts.Need-returns-3 (claims t) (pre t) reads.Post Inv μ-loop
   returns-3 c = turn-inside (at-front (c .before .before .before .before .before .before .before .before .before .before .before .before .before .before .before .before)) (c .before .before .before .before .before .before .before .before .before .before .before .before .before .before .before .before .before .before .before .loop .inv) (c .before .before .before .before .before .before .before .before .before .before .before .before .read-own .result) (c .before .before .before .before .before .before .before .before .before .before .before .before .read-own .last .1 .1 .1 .0) (c .before .before .before .before .before .before .before .before .before .before .before .before .read-own .ensures) (c .before .before .before .before .before .before .before .before .enum-told2 .given .1) (sym (c .before .before .before .before .before .before .if1 .taken) ∙ c .before .before .before .before .before .before .before .is-pdi .ensures) (c .before .before .before .before .read-group .result) (c .before .before .before .before .read-group .last .1 .1 .0) (c .before .before .before .before .read-group .ensures) (c .enum-told5 .given .1)

@@ -6,6 +6,7 @@ use Rattle.request.specs.declared.items.Step.the-variants.{Fault}
 use borrow.Author.Needs.{needs}
 use Rattle.request.proofs.items.refused.Statement.{statement}
 use Rattle.request.proofs.items.refused.Tie as tie
+use Rattle.rules.specs.Types as ie
 
 enum-known-answer : tie.Need-enum-known-answer
 enum-known-answer c = search needs
@@ -20,7 +21,7 @@ cause-of-requires : tie.Need-cause-of-requires
 cause-of-requires c κs = search needs
 
 returns-2 : tie.Need-returns-2
-returns-2 c = ap (λ (n : ℕ). Fault n 57) (c .cause-of .ensures) ∙ sym (ap (seidRefusal _) (c .before .before .answer .given .1))
+returns-2 c = ap (λ (n : ℕ). Fault n ie.fseid) (c .cause-of .ensures) ∙ sym (ap (seidRefusal _) (c .before .before .answer .given .1))
 
 pub refused-spec : {M : Type 1} → statement M
 refused-spec = tie.close (tie.spec enum-known-answer enum-told returns cause-of-requires returns-2)

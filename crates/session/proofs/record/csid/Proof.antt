@@ -17,7 +17,6 @@ use Rattle.session.proofs.record.csid.Tie as tie
 -- src/record.rt:72:56
 -- src/record.rt:72:9
 write-fields-requires : tie.Need-write-fields-requires
-unfolding widthOf
 write-fields-requires c κs = (omega arith, refl)
 
 -- src/record.rt:73:9
@@ -33,7 +32,6 @@ returns c = search csid-long
 -- src/record.rt:77:52
 -- src/record.rt:77:5
 write-fields-requires-2 : tie.Need-write-fields-requires-2
-unfolding widthOf
 write-fields-requires-2 c κs = (omega arith, refl)
 
 -- src/record.rt:64:1

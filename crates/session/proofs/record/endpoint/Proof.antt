@@ -14,7 +14,6 @@ use Rattle.session.proofs.record.endpoint.Tie as tie
 -- src/record.rt:59:52
 -- src/record.rt:59:5
 write-fields-requires : tie.Need-write-fields-requires
-unfolding widthOf
 write-fields-requires c κs = (omega arith, refl)
 
 -- src/record.rt:52:1

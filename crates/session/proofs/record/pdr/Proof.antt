@@ -26,7 +26,6 @@ use Rattle.session.proofs.record.pdr.Tie as tie
 -- src/record.rt:48:52
 -- src/record.rt:48:5
 write-fields-requires : tie.Need-write-fields-requires
-unfolding widthOf
 write-fields-requires c κs = (omega arith, refl)
 
 -- src/record.rt:30:1

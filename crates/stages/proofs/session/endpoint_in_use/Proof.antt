@@ -6,7 +6,7 @@ use native.Mathlib.Omega.{arith}
 use lib.ListN.{length}
 use Rattle.octets.specs.Octets.{slices}
 use Rattle.octets.specs.Lists.{any}
-use Rattle.rules.specs.Layout.{viewPdr, viewSession}
+use Rattle.rules.specs.Layout.{viewPdr, viewSession, pdrWidth}
 use Rattle.rules.specs.Stages.{endpointInUse}
 use Rattle.plan.specs.Rows.{rowsOf}
 use Rattle.rows.specs.RowRules.{requestOf}
@@ -18,7 +18,7 @@ use Rattle.stages.proofs.session.endpoint_in_use.Statement.{statement}
 use Rattle.stages.proofs.session.endpoint_in_use.Tie as tie
 
 abbrev Inv-loop : tie.InvT-loop
-Inv-loop slot plan n rest₀ left₀ rest left = (left * 19 ≤ length rest) × (any (λ xs. namesGone (rowsOf n plan) (viewPdr xs)) (slices 19 left rest) ≡ endpointInUse (viewSession slot) (requestOf false (rowsOf n plan)))
+Inv-loop slot plan n rest₀ left₀ rest left = (left * pdrWidth ≤ length rest) × (any (λ xs. namesGone (rowsOf n plan) (viewPdr xs)) (slices pdrWidth left rest) ≡ endpointInUse (viewSession slot) (requestOf false (rowsOf n plan)))
 
 abbrev μ-loop : tie.MeasureT-loop
 μ-loop slot plan n rest₀ left₀ rest left = left
@@ -35,12 +35,12 @@ loop-holds c = (pdrs-fit _ (c .before .before .before .before .pre .0), use-star
 slice-aggregate-names-removed : tie.Need-slice-aggregate-names-removed Inv-loop μ-loop
 slice-aggregate-names-removed c =
     let l = c .before .before .loop in
-    sym (row-length 19 (l .rest .now) (l .left) (c .before .loop-test .taken) (l .inv .0))
+    sym (row-length pdrWidth (l .rest .now) (l .left) (c .before .loop-test .taken) (l .inv .0))
 
 names-removed-requires : tie.Need-names-removed-requires Inv-loop μ-loop
 names-removed-requires c κs =
     let l = c .before .before .loop in
-    (row-length 19 (l .rest .now) (l .left) (c .before .loop-test .taken) (l .inv .0), search needs)
+    (row-length pdrWidth (l .rest .now) (l .left) (c .before .loop-test .taken) (l .inv .0), search needs)
 
 returns : tie.Need-returns Inv-loop μ-loop
 returns c =
@@ -54,7 +54,7 @@ loop-again : tie.Need-loop-again Inv-loop μ-loop
 loop-again c =
     let t = c .before .before .before .before in
     let l = t .before .loop in
-    (rest-length 19 (l .rest .now) (l .left) (t .loop-test .taken) (l .inv .0), any-miss _ _ _ _ (t .loop-test .taken) (sym (c .before .before .names-removed .ensures) ∙ c .before .if1 .left) ∙ l .inv .1)
+    (rest-length pdrWidth (l .rest .now) (l .left) (t .loop-test .taken) (l .inv .0), any-miss _ _ _ _ (t .loop-test .taken) (sym (c .before .before .names-removed .ensures) ∙ c .before .if1 .left) ∙ l .inv .1)
 
 returns-2 : tie.Need-returns-2 Inv-loop μ-loop
 returns-2 c = sym (any-none _ _ _ _ (c .loop-test .left)) ∙ c .before .loop .inv .1

@@ -4,6 +4,7 @@ use mathlib.Core.Path.{_≡_, _∙_}
 use native.Mathlib.Omega.{arith}
 use borrow.Author.Needs.{needs}
 use Rattle.octets.proofs.Put.{length-part}
+use Rattle.plan.specs.Rows.{rowWidth}
 use Rattle.verdicts.proofs.record.all.Statement.{statement}
 use Rattle.verdicts.proofs.record.all.Tie as tie
 
@@ -16,7 +17,7 @@ abbrev μ-loop : tie.MeasureT-loop
 one-requires : tie.Need-one-requires Inv-loop μ-loop
 one-requires c κs =
     let l = c .before .before in
-    let e : 18 * l .loop .i + 18 - 18 * l .loop .i ≡ 18 = omega arith in
+    let e : 18 * l .loop .i + 18 - 18 * l .loop .i ≡ rowWidth = omega arith in
     length-part (18 * l .loop .i) (18 * l .loop .i + 18 - 18 * l .loop .i) (l .before .before .args .words .now) (omega arith) ∙ e
 
 pub all-spec : {M : Type 1} → statement M

@@ -1,0 +1,6 @@
+// The kinds of messages, by the type in the header.
+pub const ESTABLISHMENT: u64 = 50;
+
+pub const MODIFICATION: u64 = 52;
+
+pub const DELETION: u64 = 54;
