@@ -20,7 +20,7 @@ use Rattle.rules.specs.Model.{Settings, Session, Sessions, Holding, teidOf, pdr
 use Rattle.rules.specs.Sound.{shareTests, agree, apart}
 use Rattle.rules.specs.Reading.{Request}
 use Rattle.rules.specs.Grants.{Kind, grants, grantedTeid, need}
-use Rattle.rules.specs.Stages.{invalidAllocation}
+use Rattle.rules.specs.Stages.{invalidAllocation, removedPdrs}
 use Rattle.rules.specs.Apply.{createPdr, createEndpoint, keptPdr, keptEndpoint, pdrsAfter, endpointsAfter, apply}
 use Rattle.claim.proofs.KeptRules.{shares, share-tests, SessionKept, RulesKept}
 use Rattle.claim.proofs.NewHolds.{locals, localTunnel, localHolding, newHoldings, new-locals, locals-read}
@@ -69,16 +69,16 @@ module _ {A B : Type 0} (q : A → Bool) where
 
 -- a session's holds without those of the records that go
 abbrev pub stayingHoldings : Request → Session → List Holding
-stayingHoldings r x = map endpointHolding (keep (keptKey endpointId (r .goneEndpoints)) (x .endpoints)) ++ collect pdrHolding (keep (keptKey pdrId (r .gonePdrs)) (x .pdrs))
+stayingHoldings r x = map endpointHolding (keep (keptKey endpointId (r .goneEndpoints)) (x .endpoints)) ++ collect pdrHolding (keep (keptKey pdrId (removedPdrs r (x .pdrs))) (x .pdrs))
 
 module _ (r : Request) (x : Session) where
   -- a test of all holds
   staying-all : (p : Holding → Bool) → T (all p (sessionHoldings x)) → T (all p (stayingHoldings r x))
   unfolding sessionHoldings
   staying-all p h =
-      all-append p (map endpointHolding (keep (keptKey endpointId (r .goneEndpoints)) (x .endpoints))) (collect pdrHolding (keep (keptKey pdrId (r .gonePdrs)) (x .pdrs)))
+      all-append p (map endpointHolding (keep (keptKey endpointId (r .goneEndpoints)) (x .endpoints))) (collect pdrHolding (keep (keptKey pdrId (removedPdrs r (x .pdrs))) (x .pdrs)))
       (stay-map (keptKey endpointId (r .goneEndpoints)) endpointHolding p (x .endpoints) (all-front p (map endpointHolding (x .endpoints)) (collect pdrHolding (x .pdrs)) h))
-      (stay-collect (keptKey pdrId (r .gonePdrs)) pdrHolding p (x .pdrs) (all-behind p (map endpointHolding (x .endpoints)) (collect pdrHolding (x .pdrs)) h))
+      (stay-collect (keptKey pdrId (removedPdrs r (x .pdrs))) pdrHolding p (x .pdrs) (all-behind p (map endpointHolding (x .endpoints)) (collect pdrHolding (x .pdrs)) h))
 
   -- a relation of every two
   staying-pairs : (u : Holding → Holding → Bool) → T (allPairs u (sessionHoldings x)) → T (allPairs u (stayingHoldings r x))
@@ -87,7 +87,7 @@ module _ (r : Request) (x : Session) where
       let es = map endpointHolding (x .endpoints) in
       let ps = collect pdrHolding (x .pdrs) in
       let qe = keptKey endpointId (r .goneEndpoints) in
-      let qp = keptKey pdrId (r .gonePdrs) in
+      let qp = keptKey pdrId (removedPdrs r (x .pdrs)) in
       pairs-append u (map endpointHolding (keep qe (x .endpoints))) (collect pdrHolding (keep qp (x .pdrs)))
       (stay-map-pairs qe endpointHolding u (x .endpoints) (pairs-front u es ps h))
       (stay-collect-pairs qp pdrHolding u (x .pdrs) (pairs-behind u es ps h))
@@ -101,14 +101,14 @@ changed-holds teids r x =
     let newE = map (createEndpoint teids) (r .endpoints) in
     let newP = map (createPdr teids) (r .pdrs) in
     let oldE = keep (keptKey endpointId (r .goneEndpoints)) (x .endpoints) in
-    let oldP = keep (keptKey pdrId (r .gonePdrs)) (x .pdrs) in
+    let oldP = keep (keptKey pdrId (removedPdrs r (x .pdrs))) (x .pdrs) in
     let es = after endpointId (r .goneEndpoints) newE (x .endpoints) in
-    let ps = after pdrId (r .gonePdrs) newP (x .pdrs) in
+    let ps = after pdrId (removedPdrs r (x .pdrs)) newP (x .pdrs) in
     subst (λ (l : List Holding). List·Permᴰ (map endpointHolding es ++ l) ((map endpointHolding newE ++ collect pdrHolding newP) ++ (map endpointHolding oldE ++ collect pdrHolding oldP))) (sym (update-holds (r .changes) ps))
     (List·Permᴰ·trans
     (subst (λ (l : List Holding). List·Permᴰ (map endpointHolding es ++ collect pdrHolding ps) (map endpointHolding newE ++ map endpointHolding oldE ++ l)) (collect-append pdrHolding newP oldP)
     (subst (λ (l : List Holding). List·Permᴰ (map endpointHolding es ++ collect pdrHolding ps) (l ++ collect pdrHolding (newP ++ oldP))) (map-append endpointHolding newE oldE)
-    (append-perm (map-perm endpointHolding (after-perm endpointId (r .goneEndpoints) newE (x .endpoints))) (collect-perm pdrHolding (after-perm pdrId (r .gonePdrs) newP (x .pdrs))))))
+    (append-perm (map-perm endpointHolding (after-perm endpointId (r .goneEndpoints) newE (x .endpoints))) (collect-perm pdrHolding (after-perm pdrId (removedPdrs r (x .pdrs)) newP (x .pdrs))))))
     (swap-inner (map endpointHolding newE) (map endpointHolding oldE) (collect pdrHolding newP) (collect pdrHolding oldP)))
 
 -- ---- TEIDs of the sessions

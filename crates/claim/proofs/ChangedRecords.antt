@@ -13,9 +13,8 @@ use Rattle.octets.specs.Choice.{mapOption}
 use Rattle.octets.specs.Lists.{member, anyIn, hasRepeat, without, ascending, all, keep, collect}
 use Rattle.octets.proofs.Tests.{pick-either, both, and-left, and-right}
 use Rattle.octets.proofs.Ordered.{keep-all}
-use Rattle.claim.proofs.RestoreAll.{disjoint-turn}
 use Rattle.octets.proofs.ListLaws.{Every, onSome, OnSome, all-imply, all-join, all-know, all-front, all-behind, all-map, all-collect, map-map, map-same, collect-map, collect-same}
-use Rattle.octets.proofs.MemberLaws.{none-in, all-in, keptKey, member-front, member-without}
+use Rattle.octets.proofs.MemberLaws.{all-in, keptKey, member-front, member-without}
 use Rattle.claim.proofs.RecordsAfter.{after, after-length, after-ascending, after-all, after-keys}
 use Rattle.rules.specs.Model.{Settings, Place, neither, tunnel, endpoint, Pdr, Endpoint, Session, Sessions, freeTeids, pdrId, endpointId, placeEndpoint, pdrEndpoint, pdrHolding}
 use Rattle.rules.specs.Limits.{maxPdrs, maxEndpoints}
@@ -23,9 +22,10 @@ use Rattle.rules.specs.Elements.{Fteid}
 use Rattle.rules.specs.Sound.{tunnelAllowed, placeAllowed, farAllowed, pdrAllowed, endpointAllowed}
 use Rattle.rules.specs.Reading.{Change, Request}
 use Rattle.rules.specs.Grants.{Kind, ofPdr, grants, grantedTeid, need}
-use Rattle.rules.specs.Stages.{namedEndpoint, createdPdrs, createdEndpoints, livePdrs, liveEndpoints, endpointIdsAfter, staysPdr, endpointInUse}
+use Rattle.rules.specs.Stages.{namedEndpoint, createdPdrs, createdEndpoints, livePdrs, liveEndpoints, endpointIdsAfter, removedPdrs}
 use Rattle.rules.specs.Apply.{namedPlace, placeFrom, createPdr, createEndpoint, orOld, updatePdr, updateAll, keptPdr, keptEndpoint, pdrsAfter, endpointsAfter}
 use Rattle.laws.proofs.RequestLaws.{PdrRead, EndpointRead, ChangeRead, RequestRead}
+use Rattle.claim.proofs.RemovedPdrs.{removed-live, removed-once, stays-named}
 use Rattle.claim.proofs.KeptRules.{pdr-kept, pdr-allowed, endpoint-allowed, SessionKept, RulesKept, RoomLeft}
 use Rattle.claim.proofs.NewHolds.{locals, endpointNew, pdrNew, localTunnel, locals-read}
 use Rattle.claim.proofs.NewTeids.{new-tunnels}
@@ -160,9 +160,13 @@ module _ (limit kind : ℕ) (s : Settings) (m : Sessions) (x : Session) (r : Req
 
   -- ---- PDRs
 
+  -- the IDs of the PDRs that go
+  abbrev gone : List ℕ
+  gone = removedPdrs r (x .pdrs)
+
   -- the PDRs before the updates
   abbrev basePdrs : List Pdr
-  basePdrs = after pdrId (r .gonePdrs) newPdrs (x .pdrs)
+  basePdrs = after pdrId gone newPdrs (x .pdrs)
 
   -- the updates keep the IDs
   pdr-keys : map pdrId (pdrsAfter teids r (x .pdrs)) ≡ map pdrId basePdrs
@@ -172,7 +176,7 @@ module _ (limit kind : ℕ) (s : Settings) (m : Sessions) (x : Session) (r : Req
   -- at most 16 PDRs
   pub pdrs-few : T (leb (length (pdrsAfter teids r (x .pdrs))) maxPdrs)
   pdrs-few =
-      let a = after-length pdrId (r .gonePdrs) newPdrs (x .pdrs) (rules .gonePdrsOnce) (unfold livePdrs in (rules .gonePdrsLive)) in
+      let a = after-length pdrId gone newPdrs (x .pdrs) (removed-once r (x .pdrs) (kept .pdrOrder)) (removed-live r (x .pdrs)) in
       let b = length-map (r .pdrs) (createPdr teids) in
       let c = room .pdrs in
       let e = ap length pdr-keys in
@@ -185,7 +189,7 @@ module _ (limit kind : ℕ) (s : Settings) (m : Sessions) (x : Session) (r : Req
   pub pdrs-order : T (ascending (map pdrId (pdrsAfter teids r (x .pdrs))))
   pdrs-order =
       subst (λ (l : List ℕ). T (ascending l)) (sym pdr-keys)
-      (after-ascending pdrId (r .gonePdrs) newPdrs (x .pdrs) (subst (λ (l : List ℕ). T (not (hasRepeat l))) (sym pdr-ids) (rules .createdPdrsOnce))
+      (after-ascending pdrId gone newPdrs (x .pdrs) (subst (λ (l : List ℕ). T (not (hasRepeat l))) (sym pdr-ids) (rules .createdPdrsOnce))
       (subst (λ (l : List ℕ). T (not (anyIn l (map pdrId (x .pdrs))))) (sym pdr-ids) (unfold livePdrs in (rules .createdPdrsNew))) (kept .pdrOrder))
 
   -- a new PDR keeps its rule
@@ -217,13 +221,11 @@ module _ (limit kind : ℕ) (s : Settings) (m : Sessions) (x : Session) (r : Req
       place i a none (some n) k h g = unfold placeFrom namedPlace placeAllowed in (both (ltb n 256) (member n liveAfter) k (named-live n g))
 
   -- a PDR that stays keeps its rule: its endpoint stays too
-  old-pdrs-allowed : T (all (pdrAllowed s liveAfter) (keep (keptKey pdrId (r .gonePdrs)) (x .pdrs)))
+  old-pdrs-allowed : T (all (pdrAllowed s liveAfter) (keep (keptKey pdrId gone) (x .pdrs)))
   old-pdrs-allowed =
       all-join (pdrAllowed s (map endpointId (x .endpoints))) (λ p. onSome (λ n. not (member n (r .goneEndpoints))) (pdrEndpoint p)) (pdrAllowed s liveAfter) one
-      (keep (keptKey pdrId (r .gonePdrs)) (x .pdrs)) (keep-all (keptKey pdrId (r .gonePdrs)) (pdrAllowed s (map endpointId (x .endpoints))) (x .pdrs) (kept .pdrs))
-      (subst T (all-collect pdrEndpoint (λ n. not (member n (r .goneEndpoints))) (keep (keptKey pdrId (r .gonePdrs)) (x .pdrs)))
-      (none-in (collect pdrEndpoint (keep (keptKey pdrId (r .gonePdrs)) (x .pdrs))) (r .goneEndpoints)
-      (disjoint-turn (r .goneEndpoints) (collect pdrEndpoint (keep (keptKey pdrId (r .gonePdrs)) (x .pdrs))) (unfold endpointInUse staysPdr in (rules .goneNotNamed)))))
+      (keep (keptKey pdrId gone) (x .pdrs)) (keep-all (keptKey pdrId gone) (pdrAllowed s (map endpointId (x .endpoints))) (x .pdrs) (kept .pdrs))
+      (stays-named r (x .pdrs))
     where
       place : (q : Place) → T (placeAllowed s (map endpointId (x .endpoints)) q) → T (onSome (λ n. not (member n (r .goneEndpoints))) (placeEndpoint q)) → T (placeAllowed s liveAfter q)
       place neither h g = unfold placeAllowed in tt
@@ -244,4 +246,4 @@ module _ (limit kind : ℕ) (s : Settings) (m : Sessions) (x : Session) (r : Req
   unfolding pdrsAfter keptPdr
   pdrs-allowed =
       update-allowed s liveAfter (r .changes) basePdrs (read .changes)
-      (after-all pdrId (r .gonePdrs) newPdrs (x .pdrs) (pdrAllowed s liveAfter) new-pdrs-allowed old-pdrs-allowed)
+      (after-all pdrId gone newPdrs (x .pdrs) (pdrAllowed s liveAfter) new-pdrs-allowed old-pdrs-allowed)

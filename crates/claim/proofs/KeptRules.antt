@@ -15,7 +15,7 @@ use Rattle.rules.specs.Elements.{nodeAddressAllowed, nodeTypeKept, below16}
 use Rattle.rules.specs.Sound.{inPool, unitFamilies, tunnelTests, tunnelAllowed, placeAllowed, farAllowed, pdrTests, pdrAllowed, endpointTests, endpointAllowed, csidTests, csidAllowed, shareTests, agree, sessionTests, sessionAllowed, apart, sessionsTests, sessionsAllowed}
 use Rattle.rules.specs.Reading.{Request}
 use Rattle.rules.specs.Grants.{need}
-use Rattle.rules.specs.Stages.{createdPdrs, createdEndpoints, updatedPdrs, livePdrs, liveEndpoints, fteidsOf, idTwice, createdLive, absentId, updatesRemoved, namesBoth, namedEndpoint, endpointIdsAfter, namesAbsent, endpointInUse, choicesAgree, lacksFamily, strange, restoredHoldings, clash, requestRules, brokenRules, tooManySessions, tooManyPdrs, tooManyEndpoints, tooFewTeids}
+use Rattle.rules.specs.Stages.{createdPdrs, createdEndpoints, updatedPdrs, livePdrs, liveEndpoints, fteidsOf, idTwice, createdLive, absentId, updatesRemoved, namesBoth, namedEndpoint, endpointIdsAfter, namesAbsent, removedPdrs, choicesAgree, lacksFamily, strange, restoredHoldings, clash, requestRules, brokenRules, tooManySessions, tooManyPdrs, tooManyEndpoints, tooFewTeids}
 use Rattle.claim.proofs.VerdictLaws.{NoneOf, none-hold}
 
 -- ---- records of the table
@@ -174,10 +174,9 @@ pub record RulesKept (s : Settings) (m : Sessions) (x : Session) (r : Request) :
   pub gonePdrsLive : T (allIn (r .gonePdrs) (livePdrs x))
   pub goneEndpointsLive : T (allIn (r .goneEndpoints) (liveEndpoints x))
   pub updatedLive : T (allIn (updatedPdrs r) (livePdrs x))
-  pub updatedStay : T (not (updatesRemoved r))
+  pub updatedStay : T (not (updatesRemoved x r))
   pub onePlace : T (not (any namesBoth (r .pdrs)))
   pub namedThere : T (allIn (collect namedEndpoint (r .pdrs)) (endpointIdsAfter x r))
-  pub goneNotNamed : T (not (endpointInUse x r))
   pub choicesAlike : T (allPairs choicesAgree (r .pdrs))
   pub families : T (not (any (lacksFamily s) (fteidsOf r)))
   pub restored : T (not (any (strange s) (fteidsOf r)))
@@ -192,7 +191,7 @@ rules-kept s m x r n =
     let new = or-fails (anyIn (createdPdrs r) (livePdrs x)) (anyIn (createdEndpoints r) (liveEndpoints x)) (n .1 .0) in
     let live = none-hold (not (allIn (r .gonePdrs) (livePdrs x)) ∷ not (allIn (r .goneEndpoints) (liveEndpoints x)) ∷ not (allIn (updatedPdrs r) (livePdrs x)) ∷ []) (n .1 .1 .0) in
     let later = n .1 .1 .1 in
-    let last = later .1 .1 .1 .1 in
+    let last = later .1 .1 .1 in
     let held = or-fails (anyIn (map teidOf (restoredHoldings r)) (heldTeids m)) (not (allPairs agree (restoredHoldings r))) (last .1 .1 .1 .0) in
     record {
       gonePdrsOnce = once .0;
@@ -208,7 +207,6 @@ rules-kept s m x r n =
       updatedStay = later .0;
       onePlace = later .1 .0;
       namedThere = not-not (allIn (collect namedEndpoint (r .pdrs)) (endpointIdsAfter x r)) (later .1 .1 .0);
-      goneNotNamed = later .1 .1 .1 .0;
       choicesAlike = not-not (allPairs choicesAgree (r .pdrs)) (last .0);
       families = last .1 .0;
       restored = last .1 .1 .0;
@@ -221,7 +219,7 @@ rules-kept s m x r n =
 -- Stages.noRoom, of which no test holds
 pub record RoomLeft (limit kind : ℕ) (s : Settings) (m : Sessions) (x : Session) (r : Request) : Type 0 where
   pub sessions : T (not (tooManySessions limit kind m))
-  pub pdrs : length (x .pdrs) - length (r .gonePdrs) + length (r .pdrs) ≤ maxPdrs
+  pub pdrs : length (x .pdrs) - length (removedPdrs r (x .pdrs)) + length (r .pdrs) ≤ maxPdrs
   pub endpoints : length (x .endpoints) - length (r .goneEndpoints) + length (r .endpoints) ≤ maxEndpoints
   pub teids : need r ≤ freeCount s m
 
@@ -232,7 +230,7 @@ unfolding tooManyPdrs tooManyEndpoints tooFewTeids
 room-left limit kind s m x r n =
     record {
       sessions = n .0;
-      pdrs = nltb→le maxPdrs (length (x .pdrs) - length (r .gonePdrs) + length (r .pdrs)) (n .1 .0);
+      pdrs = nltb→le maxPdrs (length (x .pdrs) - length (removedPdrs r (x .pdrs)) + length (r .pdrs)) (n .1 .0);
       endpoints = nltb→le maxEndpoints (length (x .endpoints) - length (r .goneEndpoints) + length (r .endpoints)) (n .1 .1 .0);
       teids = nltb→le (freeCount s m) (need r) (n .1 .1 .1 .0);
     }

@@ -19,6 +19,7 @@ pub mod NewTeids
 pub mod NoRoom
 pub mod PoolLaws
 pub mod RecordsAfter
+pub mod RemovedPdrs
 pub mod ReplyLength
 pub mod RestorationApply
 pub mod RestorationElements

@@ -26,13 +26,14 @@ use Rattle.rules.specs.Sound.{sessionsAllowed}
 use Rattle.rules.specs.Message.{kindOf, headerSeid, frameFault, establishment, deletion}
 use Rattle.rules.specs.Reading.{Fault, Request, readFault, readRequest}
 use Rattle.rules.specs.Grants.{Kind, grants, grantedTeid, need}
-use Rattle.rules.specs.Stages.{hasSeid, sessionOf, isLive, newSession, atEntry, livePdrs, liveEndpoints, invalidAllocation, brokenRules, breaksRule, tooManySessions, tooManyPdrs, tooManyEndpoints, tooFewTeids, noRoom, Verdict, plain, judge, entrySession, judged, fromReading, fromFraming, unknownSession, verdict}
+use Rattle.rules.specs.Stages.{hasSeid, sessionOf, isLive, newSession, atEntry, liveEndpoints, removedPdrs, invalidAllocation, brokenRules, breaksRule, tooManySessions, tooManyPdrs, tooManyEndpoints, tooFewTeids, noRoom, Verdict, plain, judge, entrySession, judged, fromReading, fromFraming, unknownSession, verdict}
 use Rattle.rules.specs.Apply.{createPdr, createEndpoint, updateAll, keptPdr, keptEndpoint, pdrsAfter, endpointsAfter, apply, otherSession, removeSession, putSession, follow}
 use Rattle.rules.specs.Serve.{sessionsAfter, serve}
 use Rattle.rules.specs.Live.{replyCause}
 use Rattle.rules.specs.Causes as why
 use Rattle.claim.proofs.VerdictLaws.{none-hold}
 use Rattle.claim.proofs.KeptRules.{sessions-kept, RulesKept, rules-kept}
+use Rattle.claim.proofs.RemovedPdrs.{removed-live, removed-once}
 use Rattle.claim.proofs.FreeTeids.{free-count}
 use Rattle.claim.proofs.ChangedRecords.{update-map, update-id}
 use Rattle.claim.proofs.After.{changed, live-any, found-seid}
@@ -216,12 +217,13 @@ module _ (limit : ℕ) (s : Settings) (m : Sessions) (msg : List ℕ) (hm : T (s
           ∙ not-above limit (suc (length (removeSession (headerSeid msg) m))) (le-trans (removed-less (headerSeid msg) (live-header e)) few)
 
   -- the number of PDRs
-  pdrs-exact : (teids : Kind → ℕ → ℕ) → length (pdrsAfter teids r (x .pdrs)) ≡ length (x .pdrs) - length (r .gonePdrs) + length (r .pdrs)
-  unfolding pdrsAfter keptPdr livePdrs
+  pdrs-exact : (teids : Kind → ℕ → ℕ) → length (pdrsAfter teids r (x .pdrs)) ≡ length (x .pdrs) - length (removedPdrs r (x .pdrs)) + length (r .pdrs)
+  unfolding pdrsAfter keptPdr
   pdrs-exact teids =
       let new = map (createPdr teids) (r .pdrs) in
-      let base = after pdrId (r .gonePdrs) new (x .pdrs) in
-      let a = after-count pdrId (r .gonePdrs) new (x .pdrs) (rules .gonePdrsOnce) (rules .gonePdrsLive) (entry .kept .pdrOrder) in
+      let gone = removedPdrs r (x .pdrs) in
+      let base = after pdrId gone new (x .pdrs) in
+      let a = after-count pdrId gone new (x .pdrs) (removed-once r (x .pdrs) (entry .kept .pdrOrder)) (removed-live r (x .pdrs)) (entry .kept .pdrOrder) in
       let b = length-map (r .pdrs) (createPdr teids) in
       let c = ap length (update-map pdrId update-id (r .changes) base) in
       let d = length-map (updateAll (r .changes) base) pdrId in

@@ -11,7 +11,7 @@ use lib.ListN.{length, length-map}
 use lib.Dec.{T, leb, ltb, eqb, ltb→lt, lt→ltb, leb·suc-zero}
 use mir.Facts.{no-ltb, no-leb}
 use Rattle.octets.specs.Choice.{pick, mapOption, bindOption, consOption, isNil, isSome}
-use Rattle.octets.specs.Lists.{collect, member, anyIn, allIn, hasRepeat, without, any, all, allPairs, ascending}
+use Rattle.octets.specs.Lists.{collect, member, anyIn, allIn, hasRepeat, without, any, all, allPairs, ascending, keep}
 use Rattle.octets.proofs.Tests.{each, both, and-right, all-head, all-tail, all-cons, neither-one, no-eqb, ascending-head, ascending-tail, is-true, is-false}
 use Rattle.octets.proofs.Numbers.{same-refl}
 use Rattle.rules.specs.Model.{Settings, Tunnel, Place, neither, tunnel, endpoint, Pdr, Endpoint, Session, Sessions, Holding, endpointId, pdrId, placeTunnel, placeEndpoint, tunnelHolding, pdrHolding, endpointHolding, sessionHoldings, teidOf, sessionTeids, heldTeids, freeCount}
@@ -21,7 +21,7 @@ use Rattle.laws.proofs.LayoutLaws.{pdrsOk, endpointsOk, fewPdrs, fewEndpoints, 
 use Rattle.laws.proofs.TableLaws.{ipv4-four}
 use Rattle.rules.specs.Reading.{Request}
 use Rattle.rules.specs.Grants.{Kind, choiceOf, endpointChoice, pdrChoice, choices, needFrom, need}
-use Rattle.rules.specs.Stages.{newSession, isLive, newPdrId, newEndpointId, namedEndpoint, pdrLocal, endpointLocal, createdPdrs, createdEndpoints, updatedPdrs, livePdrs, liveEndpoints, fteidsOf, wrongAllocation, invalidAllocation, idTwice, createdLive, absentId, updatesRemoved, namesBoth, endpointIdsAfter, namesAbsent, endpointInUse, sameChoice, fteidsMayShare, localsMayShare, choicesAgree, lacksFamily, otherAddress, strange, restoredHolding, endpointRestored, pdrRestored, restoredHoldings, clash, requestRules, brokenRules, breaksRule, tooManySessions, tooManyPdrs, tooManyEndpoints, tooFewTeids, noRoom, plain, judge}
+use Rattle.rules.specs.Stages.{newSession, isLive, newPdrId, newEndpointId, namedEndpoint, pdrLocal, endpointLocal, createdPdrs, createdEndpoints, updatedPdrs, livePdrs, liveEndpoints, fteidsOf, wrongAllocation, invalidAllocation, idTwice, createdLive, absentId, updatesRemoved, namesBoth, endpointIdsAfter, namesAbsent, removedPdrs, sameChoice, fteidsMayShare, localsMayShare, choicesAgree, lacksFamily, otherAddress, strange, restoredHolding, endpointRestored, pdrRestored, restoredHoldings, clash, requestRules, brokenRules, breaksRule, tooManySessions, tooManyPdrs, tooManyEndpoints, tooFewTeids, noRoom, plain, judge}
 use Rattle.rules.specs.Restoration.{restoredPdr, restoredEndpoint, restoredRequest}
 use Rattle.rules.specs.Causes as why
 use Rattle.rules.specs.Message.{establishment}
@@ -315,13 +315,13 @@ module _ (s : Settings) (hs : T (settingsAllowed s)) where
           ∙ (λ i. is-false (anyIn (sessionTeids x) (heldTeids m)) separate i || not (is-true (allPairs agree (sessionHoldings x)) own i))
 
       rules-kept : breaksRule s m (newSession (x .seid)) request ≡ false
-      unfolding breaksRule requestRules brokenRules updatesRemoved endpointInUse updatedPdrs anyIn request restoredRequest
+      unfolding breaksRule requestRules brokenRules updatesRemoved updatedPdrs anyIn request restoredRequest
       rules-kept =
-          λ i. once i || (not-live i || (absent i || (false || (none-both (x .pdrs) i || (names i || (false || (not (choices-agree (x .pdrs) i)
-          || (no-fteid (lacksFamily s) unit-lacks i || (no-fteid (strange s) unit-strange i || (no-clash i || false))))))))))
+          λ i. once i || (not-live i || (absent i || (false || (none-both (x .pdrs) i || (names i || (not (choices-agree (x .pdrs) i)
+          || (no-fteid (lacksFamily s) unit-lacks i || (no-fteid (strange s) unit-strange i || (no-clash i || false)))))))))
 
       enough-room : noRoom limit establishment s m (newSession (x .seid)) request ≡ false
-      unfolding noRoom tooManySessions tooManyPdrs tooManyEndpoints tooFewTeids newSession request restoredRequest
+      unfolding noRoom tooManySessions tooManyPdrs removedPdrs keep tooManyEndpoints tooFewTeids newSession request restoredRequest
       enough-room =
           λ i. sessions-fit i || (pdrs-fit i || (endpoints-fit i || (teids-fit i || false)))
         where

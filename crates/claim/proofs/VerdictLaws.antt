@@ -14,7 +14,7 @@ use Rattle.rules.specs.Model.{Settings, Sessions}
 use Rattle.rules.specs.Elements.{Refusal, missing, conditional, tooShort, incorrect, causeOf}
 use Rattle.rules.specs.Message.{kindOf, frameFault, establishment}
 use Rattle.rules.specs.Reading.{Fault, readFault, readRequest}
-use Rattle.rules.specs.Stages.{isLive, invalidAllocation, brokenRules, breaksRule, tooManySessions, tooManyPdrs, tooManyEndpoints, tooFewTeids, noRoom, Verdict, plain, judge, entrySession, judged, fromReading, fromFraming, unknownSession, verdict}
+use Rattle.rules.specs.Stages.{isLive, removedPdrs, invalidAllocation, brokenRules, breaksRule, tooManySessions, tooManyPdrs, tooManyEndpoints, tooFewTeids, noRoom, Verdict, plain, judge, entrySession, judged, fromReading, fromFraming, unknownSession, verdict}
 use Rattle.rules.specs.Causes as why
 
 -- tests that all fail
@@ -91,7 +91,7 @@ module _ (limit : ℕ) (s : Settings) (m : Sessions) (msg : List ℕ) where
 module _ {limit : ℕ} {s : Settings} {m : Sessions} {msg : List ℕ} (p : Passed limit s m msg) where
   pub few-new-pdrs : length (readRequest msg .pdrs) ≤ 16
   unfolding tooManyPdrs
-  few-new-pdrs = let h = nltb→le 16 (length (entrySession m msg .pdrs) - length (readRequest msg .gonePdrs) + length (readRequest msg .pdrs)) (p .room .1 .0) in omega arith
+  few-new-pdrs = let h = nltb→le 16 (length (entrySession m msg .pdrs) - length (removedPdrs (readRequest msg) (entrySession m msg .pdrs)) + length (readRequest msg .pdrs)) (p .room .1 .0) in omega arith
 
   pub few-new-endpoints : length (readRequest msg .endpoints) ≤ 8
   unfolding tooManyEndpoints

@@ -43,7 +43,7 @@ use Rattle.engine.proofs.Accepted.{RowsFit, TeidsStored, ready}
 use Rattle.engine.proofs.Granting.{rows-fit, teids-stored, whole-rows}
 use Rattle.engine.proofs.NewTable.{changed-table}
 
-module _ {t words msg slot plan out : List ℕ} {seid n : ℕ} (a : Accepting t words msg slot plan out seid n) where
+module _ {t words msg slot gone plan out : List ℕ} {seid n : ℕ} (a : Accepting t words msg slot gone plan out seid n) where
   abbrev s : Settings
   s = viewSettings t
 
@@ -104,8 +104,8 @@ module _ {t words msg slot plan out : List ℕ} {seid n : ℕ} (a : Accepting t 
     fit : RowsFit (rowsOf n plan′)
     fit = rows-fit seid (a .restoring) (a .noted) (rowsOf n plan′) only (subst RequestRead means′ (request-read msg (a .asked .octets)))
 
-    is-ready : Ready (grantedTeid (grants s m (readRequest msg))) (rowsOf n plan′) (entrySession m msg)
-    is-ready = ready maxSessions s m msg passes seid (a .restoring) (a .noted) (rowsOf n plan′) means′ fit only stored
+    is-ready : Ready (grantedTeid (grants s m (readRequest msg))) gone (rowsOf n plan′) (entrySession m msg)
+    is-ready = ready maxSessions s m msg passes seid (a .restoring) (a .noted) (rowsOf n plan′) means′ gone (a .removed) fit only stored
 
     same-seid : seid ≡ readRequest msg .seid
     unfolding requestIn
@@ -116,19 +116,19 @@ module _ {t words msg slot plan out : List ℕ} {seid n : ℕ} (a : Accepting t 
     same-reply = λ i. reply s msg (same-seid i) (sym (a .verdict) i) ((is-granted .reported ∙ same-grants) i)
 
     pub accepted-answers : (used : ℕ) (out′ slot′ t′ : List ℕ) → (used, out′) ≡ written (reply s msg seid (plain why.accepted) (grantsAt plan′ (take k places′))) out
-        → slot′ ≡ built (rowsOf n plan′) slot → t′ ≡ withRecord sessionArea slot′ t → Answers t msg out used out′ t′
+        → slot′ ≡ built gone (rowsOf n plan′) slot → t′ ≡ withRecord sessionArea slot′ t → Answers t msg out used out′ t′
     accepted-answers used out′ slot′ t′ w b d =
         record {
           long = ap (λ (p : ℕ × List ℕ). p .0) w ∙ ap length same-reply;
           space = ap (λ (p : ℕ × List ℕ). p .1) w ∙ ap (λ (l : List ℕ). put 0 l out) same-reply;
           table =
               d ∙ ap₂ (λ (u v : List ℕ). withRecord sessionArea u v) b (sym (kept .encoded))
-              ∙ changed-table s (kept .settings) m (kept .sessions) msg (a .asked .octets) (a .asked .kind) passes (a .other) seid (a .restoring) (a .noted) (rowsOf n plan′) slot means′ (a .entry) is-ready
+              ∙ changed-table s (kept .settings) m (kept .sessions) msg (a .asked .octets) (a .asked .kind) passes (a .other) seid (a .restoring) (a .noted) gone (rowsOf n plan′) slot means′ (a .removed) (a .entry) is-ready
               ∙ rw (a .verdict);
         }
 
 -- the same, with the pool as it was read from the table
-module _ {t words msg slot plan out : List ℕ} {seid n first size : ℕ} (a : Accepting t words msg slot plan out seid n) (f : first ≡ number (part 21 4 t)) (z : size ≡ number (part 25 4 t)) where
+module _ {t words msg slot gone plan out : List ℕ} {seid n first size : ℕ} (a : Accepting t words msg slot gone plan out seid n) (f : first ≡ number (part 21 4 t)) (z : size ≡ number (part 25 4 t)) where
   pool-fits : size ≤ maxPool
   unfolding viewSettings numberAt
   pool-fits = subst (λ (k : ℕ). k ≤ maxPool) (sym z) (a .size)
@@ -148,10 +148,10 @@ module _ {t words msg slot plan out : List ℕ} {seid n first size : ℕ} (a : A
     read-fit = grants-fit a from-settings
 
     pub read-answers : (used : ℕ) (out′ t′ : List ℕ) → (used, out′) ≡ written (reply (viewSettings t) msg seid (plain why.accepted) (grantsAt plan′ (take k places′))) out
-        → t′ ≡ withRecord sessionArea (built (rowsOf n plan′) slot) t → Answers t msg out used out′ t′
-    read-answers used out′ t′ w d = accepted-answers a from-settings used out′ (built (rowsOf n plan′) slot) t′ w refl d
+        → t′ ≡ withRecord sessionArea (built gone (rowsOf n plan′) slot) t → Answers t msg out used out′ t′
+    read-answers used out′ t′ w d = accepted-answers a from-settings used out′ (built gone (rowsOf n plan′) slot) t′ w refl d
 
 -- the session built and stored
-pub kept-session : (n : ℕ) (plan slot slot′ t t′ : List ℕ) → slot′ ≡ built (rowsOf n plan) slot → t′ ≡ withRecord sessionArea slot′ t
-    → (slot′ ≡ built (rowsOf n plan) slot) × (t′ ≡ withRecord sessionArea (built (rowsOf n plan) slot) t)
-kept-session n plan slot slot′ t t′ b d = (b, d ∙ ap (λ (u : List ℕ). withRecord sessionArea u t) b)
+pub kept-session : (n : ℕ) (gone plan slot slot′ t t′ : List ℕ) → slot′ ≡ built gone (rowsOf n plan) slot → t′ ≡ withRecord sessionArea slot′ t
+    → (slot′ ≡ built gone (rowsOf n plan) slot) × (t′ ≡ withRecord sessionArea (built gone (rowsOf n plan) slot) t)
+kept-session n gone plan slot slot′ t t′ b d = (b, d ∙ ap (λ (u : List ℕ). withRecord sessionArea u t) b)

@@ -1,6 +1,6 @@
 -- What an accepted request gives the building of its session: every check has passed, so the plan's rows and the session at entry are ready.
 -- Assumes nothing.
-use mathlib.Core.Path.{_≡_, refl, sym, ap, subst}
+use mathlib.Core.Path.{_≡_, refl, sym, ap, _∙_, subst}
 use mathlib.Core.Bool.{Bool, not}
 use mathlib.Core.List.{List, [], _∷_, map}
 use Prim.Native.Nat.{ℕ, _+_, _-_, _≤_}
@@ -12,13 +12,14 @@ use Rattle.rules.specs.Model.{Settings, Session, Sessions, pdrId, endpointId}
 use Rattle.rules.specs.Message.{kindOf}
 use Rattle.rules.specs.Reading.{Request, readRequest}
 use Rattle.rules.specs.Grants.{Kind, grants, grantedTeid}
-use Rattle.rules.specs.Stages.{entrySession, newPdrId, newEndpointId, createdPdrs, createdEndpoints, livePdrs, liveEndpoints}
+use Rattle.rules.specs.Stages.{entrySession, newPdrId, newEndpointId, createdPdrs, createdEndpoints, livePdrs, liveEndpoints, removedPdrs}
 use Rattle.rules.specs.Apply.{createPdr, createEndpoint, keptPdr, keptEndpoint}
-use Rattle.plan.specs.Rows.{tagged, rowPdrId, rowEndpointId, rowPdr, rowEndpoint, requestIn}
+use Rattle.plan.specs.Rows.{tagged, rowEndpointId, rowPdr, rowEndpoint, requestIn}
 use Rattle.rules.specs.Types as ie
 use Rattle.claim.proofs.VerdictLaws.{Passed}
 use Rattle.claim.proofs.KeptRules.{RulesKept, rules-kept, RoomLeft, room-left}
 use Rattle.claim.proofs.InsertLaws.{removed-length}
+use Rattle.claim.proofs.RemovedPdrs.{removed-few}
 use Rattle.octets.proofs.MemberLaws.{all-in}
 use Rattle.session.proofs.RowRecords.{pdrOf, endpointOf}
 use Rattle.session.proofs.Passes.{endpointRow, pdrRow, csidRow}
@@ -51,7 +52,7 @@ room-for : (old gone new a b most : ℕ) → a + gone ≤ old → old - gone + n
 room-for old gone new a b most h k e = omega arith
 
 module _ (limit : ℕ) (s : Settings) (m : Sessions) (msg : List ℕ) (p : Passed limit s m msg) (seid : ℕ) (restoring noted : Bool) (rows : List (List ℕ))
-    (means : readRequest msg ≡ requestIn seid restoring noted rows) where
+    (means : readRequest msg ≡ requestIn seid restoring noted rows) (gone : List ℕ) (away : gone ≡ removedPdrs (readRequest msg) (entrySession m msg .pdrs)) where
   abbrev x : Session
   x = entrySession m msg
 
@@ -71,15 +72,18 @@ module _ (limit : ℕ) (s : Settings) (m : Sessions) (msg : List ℕ) (p : Passe
       (removed-length endpointId (r .goneEndpoints) (x .endpoints) (rules .goneEndpointsOnce) (all-in (r .goneEndpoints) (map endpointId (x .endpoints)) (unfold liveEndpoints in (rules .goneEndpointsLive))))
       (room .endpoints) (sym (length-map (tagged ie.createEndpoint rows) rowEndpoint))
 
-  pdr-room : length (keep (keptPdr (map rowPdrId (tagged ie.removePdr rows))) (x .pdrs)) + length (tagged ie.createPdr rows) ≤ 16
+  away-rows : removedPdrs r (x .pdrs) ≡ gone
+  away-rows = ap (λ (q : Request). removedPdrs q (x .pdrs)) (sym means) ∙ sym away
+
+  pdr-room : length (keep (keptPdr gone) (x .pdrs)) + length (tagged ie.createPdr rows) ≤ 16
   unfolding keptPdr requestIn
   pdr-room =
-      room-for (length (x .pdrs)) (length (r .gonePdrs)) (length (r .pdrs)) (length (keep (keptPdr (r .gonePdrs)) (x .pdrs))) (length (tagged ie.createPdr rows)) 16
-      (removed-length pdrId (r .gonePdrs) (x .pdrs) (rules .gonePdrsOnce) (all-in (r .gonePdrs) (map pdrId (x .pdrs)) (unfold livePdrs in (rules .gonePdrsLive))))
-      (room .pdrs) (sym (length-map (tagged ie.createPdr rows) rowPdr))
+      subst (λ (g : List ℕ). length (keep (keptPdr g) (x .pdrs)) + length (tagged ie.createPdr rows) ≤ 16) away-rows
+      (room-for (length (x .pdrs)) (length (removedPdrs r (x .pdrs))) (length (r .pdrs)) (length (keep (keptPdr (removedPdrs r (x .pdrs))) (x .pdrs))) (length (tagged ie.createPdr rows)) 16
+      (removed-few r (x .pdrs)) (room .pdrs) (sym (length-map (tagged ie.createPdr rows) rowPdr)))
 
   module _ (fit : RowsFit rows) (only : OnlyNull rows) (stored : TeidsStored (grantedTeid (grants s m (readRequest msg))) rows) where
-    pub ready : Ready (grantedTeid (grants s m (readRequest msg))) rows x
+    pub ready : Ready (grantedTeid (grants s m (readRequest msg))) gone rows x
     ready =
         record {
           endpointRows = fit .endpointRows;

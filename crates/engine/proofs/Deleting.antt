@@ -1,6 +1,6 @@
 -- A deletion of a live session without a fault is accepted: it has no records of its own, so no rule can be broken and nothing be short.
 -- Assumes nothing.
-use mathlib.Core.Path.{_≡_, refl}
+use mathlib.Core.Path.{_≡_, refl, ap}
 use mathlib.Core.Bool.{Bool, true, false, not, _&&_, _||_}
 use mathlib.Core.List.{List, [], _∷_}
 use Prim.Native.Nat.{ℕ, _+_, _-_, _≤_}
@@ -18,7 +18,7 @@ use Rattle.rules.specs.Message.{Element, kindOf, body, elements, actedOn, estab
 use Rattle.rules.specs.Reading.{Request, Reading, faulty, done, refusal, andThen, named, Draft, emptyDraft, csidCountAllowed, withCsid, csidRead, actedRead, elementRead, elementsRead, requestOf, finished, aloneIn, topRead, read, askedIn, readRequest}
 use Rattle.laws.proofs.ReadLaws.{OnDone, then-done}
 use Rattle.rules.specs.Grants.{choices, needFrom, need, grantFrom, grants}
-use Rattle.rules.specs.Stages.{plain, fteidsOf, invalidAllocation, createdPdrs, createdEndpoints, updatedPdrs, idTwice, createdLive, absentId, updatesRemoved, namesAbsent, endpointInUse, restoredHoldings, clash, requestRules, brokenRules, breaksRule, tooManySessions, tooManyPdrs, tooManyEndpoints, tooFewTeids, noRoom, judge}
+use Rattle.rules.specs.Stages.{plain, fteidsOf, invalidAllocation, createdPdrs, createdEndpoints, updatedPdrs, idTwice, createdLive, absentId, removedPdrs, updatesRemoved, namesAbsent, restoredHoldings, clash, requestRules, brokenRules, breaksRule, tooManySessions, tooManyPdrs, tooManyEndpoints, tooFewTeids, noRoom, judge}
 use Rattle.rules.specs.Causes as why
 
 -- a request without records
@@ -83,7 +83,7 @@ module _ (s : Settings) (m : Sessions) (x : Session) (r : Request) (e : Empty r)
   no-holdings = rw (e .endpoints, e .pdrs)
 
   kept : breaksRule s m x r ≡ false
-  unfolding breaksRule requestRules brokenRules idTwice createdLive absentId updatesRemoved namesAbsent endpointInUse clash createdPdrs createdEndpoints updatedPdrs hasRepeat anyIn allIn any allPairs collect
+  unfolding breaksRule requestRules brokenRules idTwice createdLive absentId updatesRemoved namesAbsent clash createdPdrs createdEndpoints updatedPdrs hasRepeat anyIn allIn any allPairs collect
   kept = rw (no-fteids, no-holdings, e .pdrs, e .endpoints, e .changes, e .gonePdrs, e .goneEndpoints)
 
   needs-none : need r ≡ 0
@@ -94,13 +94,19 @@ module _ (s : Settings) (m : Sessions) (x : Session) (r : Request) (e : Empty r)
   unfolding grants grantFrom choices collect
   no-grants = rw (e .endpoints, e .pdrs)
 
+  few-pdrs : length (x .pdrs) ≤ 16 → tooManyPdrs x r ≡ false
+  unfolding tooManyPdrs
+  few-pdrs a = let n = ap length (e .pdrs) in le-ltb maxPdrs (length (x .pdrs) - length (removedPdrs r (x .pdrs)) + length (r .pdrs)) (omega arith)
+
+  few-endpoints : length (x .endpoints) ≤ 8 → tooManyEndpoints x r ≡ false
+  unfolding tooManyEndpoints
+  few-endpoints b = let n = ap length (e .endpoints) in le-ltb maxEndpoints (length (x .endpoints) - length (r .goneEndpoints) + length (r .endpoints)) (omega arith)
+
   room : (limit kind : ℕ) → eqb kind establishment ≡ false → length (x .pdrs) ≤ 16 → length (x .endpoints) ≤ 8 → noRoom limit kind s m x r ≡ false
-  unfolding noRoom tooManySessions tooManyPdrs tooManyEndpoints tooFewTeids
+  unfolding noRoom tooManySessions tooFewTeids
   room limit kind k a b =
-      let p : ltb maxPdrs (length (x .pdrs) - 0 + 0) ≡ false = le-ltb maxPdrs (length (x .pdrs) - 0 + 0) (omega arith) in
-      let q : ltb maxEndpoints (length (x .endpoints) - 0 + 0) ≡ false = le-ltb maxEndpoints (length (x .endpoints) - 0 + 0) (omega arith) in
       let f : ltb (freeCount s m) 0 ≡ false = le-ltb (freeCount s m) 0 (omega arith) in
-      rw (needs-none, f, k, e .pdrs, e .endpoints, e .gonePdrs, e .goneEndpoints, p, q)
+      rw (needs-none, f, k, few-pdrs a, few-endpoints b)
 
   pub accepted-empty : (limit kind : ℕ) → eqb kind establishment ≡ false → length (x .pdrs) ≤ 16 → length (x .endpoints) ≤ 8 → judge limit kind s m x r ≡ plain why.accepted
   unfolding judge

@@ -18,7 +18,7 @@ use Rattle.rules.specs.Sound.{settingsAllowed, sessionAllowed, sessionsAllowed,
 use Rattle.rules.specs.Message.{kindOf, headerSeid, served, deletion}
 use Rattle.rules.specs.Reading.{readRequest, Request}
 use Rattle.rules.specs.Grants.{Kind, grants, grantedTeid}
-use Rattle.rules.specs.Stages.{entrySession}
+use Rattle.rules.specs.Stages.{entrySession, removedPdrs}
 use Rattle.rules.specs.Apply.{apply, putSession, follow}
 use Rattle.rules.specs.Serve.{sessionsAfter}
 use Rattle.laws.proofs.LayoutLaws.{csid-address-length, address-short}
@@ -105,9 +105,11 @@ module _ (s : Settings) (hs : T (settingsAllowed s)) (m : Sessions) (hm : T (ses
         leb→le (length (putSession new m)) maxSessions
         (subst (λ (n : Sessions). T (leb (length n) maxSessions)) after-is (sessions-kept maxSessions s (sessionsAfter s m msg) (sound-after maxSessions (changed-sound maxSessions) s m msg hs hm ho hk p) .few))
 
-    pub changed-table : (seid : ℕ) (restoring noted : Bool) (rows : List (List ℕ)) (slot : List ℕ) → readRequest msg ≡ requestIn seid restoring noted rows → slot ≡ sessionOctets (entrySession m msg)
-        → Ready teids rows (entrySession m msg) → withRecord sessionArea (built rows slot) (encode maxSessions s m) ≡ encode maxSessions s (sessionsAfter s m msg)
-    changed-table seid restoring noted rows slot means e ready =
+    pub changed-table : (seid : ℕ) (restoring noted : Bool) (gone : List ℕ) (rows : List (List ℕ)) (slot : List ℕ) → readRequest msg ≡ requestIn seid restoring noted rows
+        → gone ≡ removedPdrs (readRequest msg) (entrySession m msg .pdrs) → slot ≡ sessionOctets (entrySession m msg)
+        → Ready teids gone rows (entrySession m msg) → withRecord sessionArea (built gone rows slot) (encode maxSessions s m) ≡ encode maxSessions s (sessionsAfter s m msg)
+    changed-table seid restoring noted gone rows slot means g e ready =
         let holds = slot-holds s (entrySession m msg) slot (entry-sound maxSessions s m msg hm ho p .kept) e in
-        let b : built rows slot ≡ sessionOctets new = built-session teids rows holds ready seid restoring noted .octets ∙ ap (λ (q : Request). sessionOctets (apply teids q (entrySession m msg))) (sym means) in
+        let g′ : gone ≡ removedPdrs (requestIn seid restoring noted rows) (entrySession m msg .pdrs) = g ∙ ap (λ (q : Request). removedPdrs q (entrySession m msg .pdrs)) means in
+        let b : built gone rows slot ≡ sessionOctets new = built-session teids gone rows holds ready seid restoring noted g′ .octets ∙ ap (λ (q : Request). sessionOctets (apply teids q (entrySession m msg))) (sym means) in
         ap (λ (l : List ℕ). withRecord sessionArea l (encode maxSessions s m)) b ∙ session-saved s hs m hm new new-allowed few-after ∙ ap (encode maxSessions s) (sym after-is)

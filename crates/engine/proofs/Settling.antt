@@ -13,15 +13,16 @@ use Rattle.rules.specs.Model.{Settings, Session, Sessions, heldTeids}
 use Rattle.rules.specs.Layout.{viewSession, viewSettings, viewSessions}
 use Rattle.rules.specs.Sound.{poolTests, settingsTests, settingsAllowed}
 use Rattle.rules.specs.Message.{establishment}
-use Rattle.rules.specs.Reading.{Request}
-use Rattle.rules.specs.Stages.{Verdict, plain, isLive, invalidAllocation, breaksRule, noRoom, judge, judged}
+use Rattle.rules.specs.Reading.{readRequest, Request}
+use Rattle.rules.specs.Stages.{removedPdrs, entrySession, Verdict, plain, isLive, invalidAllocation, breaksRule, noRoom, judge, judged}
 use Rattle.rules.specs.Causes as why
 use Rattle.claim.proofs.ServeLaws.{TableKept, table-kept}
 use Rattle.claim.proofs.FreeTeids.{held-in-pool}
 use Rattle.pool.proofs.TakenLaws.{Means, map-means}
 use Rattle.plan.specs.Rows.{rowsOf, requestIn}
 use Rattle.reply.specs.declared.Offending.the-variants.{Nothing}
-use Rattle.stages.specs.Rules.{AtEntry}
+use Rattle.stages.specs.Rules.{Gone, AtEntry}
+use Rattle.stages.proofs.SlotLaws.{removed-rows}
 use Rattle.stages.proofs.EntryLaws.{at-entry}
 use Rattle.stages.proofs.VerdictLaws.{judge-plain}
 use Rattle.engine.specs.Answers.{verdictOn, Refusing, Accepting}
@@ -47,7 +48,7 @@ pool-small s h =
     let pool = each (poolTests (s .first) (s .size)) (tests .1 .1 .1 .1 .0) in
     leb→le (s .size) maxPool (pool .1 .1 .0)
 
-module _ {t msg out plan words slot : List ℕ} {kind seid n free : ℕ} {restoring noted live : Bool} (r : Readable t msg out plan kind seid n restoring noted) (k : Counted t words free) (e : Entered t msg kind seid live slot) where
+module _ {t msg out plan words slot gone : List ℕ} {kind seid n free : ℕ} {restoring noted live : Bool} (r : Readable t msg out plan kind seid n restoring noted) (k : Counted t words free) (e : Entered t msg kind seid live slot) (g : Gone slot (rowsOf n plan) gone) where
   kept : TableKept maxSessions t
   kept = table-kept maxSessions t (r .asked .table)
 
@@ -57,8 +58,8 @@ module _ {t msg out plan words slot : List ℕ} {kind seid n free : ℕ} {restor
       (map-means (viewSettings t) (viewSessions t) (kept .settings) (held-in-pool maxSessions (viewSettings t) (viewSessions t) (kept .sessions)))
 
   -- what stages 4 to 6 ask
-  pub entry-asks : AtEntry t words slot plan n free kind seid live
-  entry-asks = at-entry t words slot plan n free kind seid live (r .asked .table) (e .place) (r .rows) (k .long) marked-held (k .count) (e .known)
+  pub entry-asks : AtEntry t words slot gone plan n free kind seid live
+  entry-asks = at-entry t words slot gone plan n free kind seid live (r .asked .table) (e .place) (r .rows) g (k .long) marked-held (k .count) (e .known)
 
   abbrev judgement : Verdict
   judgement = judge maxSessions kind (viewSettings t) (viewSessions t) (viewSession slot) (requestIn seid restoring noted (rowsOf n plan))
@@ -71,6 +72,11 @@ module _ {t msg out plan words slot : List ℕ} {kind seid n free : ℕ} {restor
   same-verdict c q =
       same-judgement ∙ judge-plain maxSessions kind (viewSettings t) (viewSessions t) (viewSession slot) (requestIn seid restoring noted (rowsOf n plan)) ∙ ap plain (sym q)
 
+  same-removed : gone ≡ removedPdrs (readRequest msg) (entrySession (viewSessions t) msg .pdrs)
+  same-removed =
+      g ∙ sym (removed-rows seid restoring noted (rowsOf n plan) (viewSession slot .pdrs))
+      ∙ (λ i. removedPdrs (sym (r .means) i) (e .viewed i .pdrs))
+
   pub settle-refuses : (c : ℕ) → c ≡ judgement .cause → (c ≡ 1 → ⊥) → Refusing t msg out c Nothing
   settle-refuses c q o =
       record {
@@ -80,7 +86,7 @@ module _ {t msg out plan words slot : List ℕ} {kind seid n free : ℕ} {restor
         other = o;
       }
 
-  pub settle-accepts : (c : ℕ) → c ≡ judgement .cause → c ≡ 1 → Accepting t words msg slot plan out seid n
+  pub settle-accepts : (c : ℕ) → c ≡ judgement .cause → c ≡ 1 → Accepting t words msg slot gone plan out seid n
   settle-accepts c q o =
       record {
         asked = r .asked;
@@ -93,6 +99,7 @@ module _ {t msg out plan words slot : List ℕ} {kind seid n free : ℕ} {restor
         onlyNull = r .onlyNull;
         entry = e .entry;
         slotLong = e .place .long;
+        removed = same-removed;
         marks = k .marks;
         mapLong = k .long;
         size = pool-small (viewSettings t) (kept .settings);

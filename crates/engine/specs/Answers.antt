@@ -14,7 +14,7 @@ use Rattle.rules.specs.Layout.{sessionOctets, encode, viewSettings, viewSession
 use Rattle.rules.specs.Sound.{sound, takenMap}
 use Rattle.rules.specs.Message.{kindOf, headerAllowed, served, deletion}
 use Rattle.rules.specs.Reading.{readRequest}
-use Rattle.rules.specs.Stages.{Verdict, plain, entrySession, unknownSession, verdict}
+use Rattle.rules.specs.Stages.{removedPdrs, Verdict, plain, entrySession, unknownSession, verdict}
 use Rattle.rules.specs.Serve.{sessionsAfter, replyTo}
 use Rattle.plan.specs.Rows.{rowWidth, rowsOf, tagged, rowCsid, isNullRow, requestIn}
 use Rattle.rules.specs.Types as ie
@@ -59,8 +59,9 @@ pub record Refusing (t msg out : List ℕ) (c : ℕ) (o : Offending) : Type 0 wh
 abbrev pub OnlyNull : List (List ℕ) → Type 0
 OnlyNull rows = any isNullRow (tagged ie.fqcsid rows) ≡ true → collect rowCsid (tagged ie.fqcsid rows) ≡ []
 
--- the verdict is acceptance: the plan is the request's, the slot holds the session at entry, and the map marks the TEIDs held
-pub record Accepting (t words msg slot plan out : List ℕ) (seid n : ℕ) : Type 0 where
+-- the verdict is acceptance: the plan is the request's, the slot holds the session at entry, those of its PDRs that go are the rules', and the
+-- map marks the TEIDs held
+pub record Accepting (t words msg slot gone plan out : List ℕ) (seid n : ℕ) : Type 0 where
   pub asked : Asked t msg out
   pub verdict : verdictOn t msg ≡ plain why.accepted
   pub other : eqb (kindOf msg) deletion ≡ false
@@ -71,6 +72,7 @@ pub record Accepting (t words msg slot plan out : List ℕ) (seid n : ℕ) : Typ
   pub onlyNull : OnlyNull (rowsOf n plan)
   pub entry : slot ≡ sessionOctets (entrySession (viewSessions t) msg)
   pub slotLong : length slot ≡ sessionWidth
+  pub removed : gone ≡ removedPdrs (readRequest msg) (entrySession (viewSessions t) msg .pdrs)
   pub marks : words ≡ takenMap (viewSettings t) (viewSessions t)
   pub mapLong : length words ≡ mapWords
   pub size : viewSettings t .size ≤ maxPool

@@ -55,11 +55,11 @@ fn delete(t: &mut [u8], msg: &[u8], seid: u64, out: &mut [u8]) -> usize
 }
 
 // The session of an accepted request: built in its slot, and the slot stored.
-fn keep(t: &mut [u8], slot: &mut [u8], plan: &[u64], n: usize)
+fn keep(t: &mut [u8], slot: &mut [u8], gone: &[u64], plan: &[u64], n: usize)
     requires { ⌜ (length (now t) ≡ tableLength maxSessions) × (length (now slot) ≡ sessionWidth) × (n * rowWidth ≤ length (now plan)) ⌝ }
-    ensures { λ _. ⌜ (now (slot .exit) ≡ built (rowsOf n (now (plan .entry))) (now (slot .entry))) × (now (t .exit) ≡ withRecord sessionArea (built (rowsOf n (now (plan .entry))) (now (slot .entry))) (now (t .entry))) ⌝ }
+    ensures { λ _. ⌜ (now (slot .exit) ≡ built (now (gone .entry)) (rowsOf n (now (plan .entry))) (now (slot .entry))) × (now (t .exit) ≡ withRecord sessionArea (built (now (gone .entry)) (rowsOf n (now (plan .entry))) (now (slot .entry))) (now (t .entry))) ⌝ }
 {
-    session::build(slot, plan, n);
+    session::build(slot, gone, plan, n);
     store::save(t, slot);
 }
 
@@ -70,11 +70,12 @@ fn accept(
     msg: &[u8],
     seid: u64,
     slot: &mut [u8],
+    gone: &[u64],
     plan: &mut [u64],
     n: usize,
     out: &mut [u8],
 ) -> usize
-    requires { ⌜ Accepting (now t) (taken .words) (now msg) (now slot) (now plan) (now out) seid n ⌝ }
+    requires { ⌜ Accepting (now t) (taken .words) (now msg) (now slot) (now gone) (now plan) (now out) seid n ⌝ }
     ensures { λ r. ⌜ Answers (now (t .entry)) (now (msg .entry)) (now (out .entry)) r (now (out .exit)) (now (t .exit)) ⌝ }
 {
     let words = taken.words;
@@ -83,7 +84,7 @@ fn accept(
     let mut places = [0usize; format::GRANTS];
     let k = grants::grant(plan, n, &words, first, size, &mut places);
     let used = reply::accepted(t, msg, seid, plan, &places[..k], out);
-    keep(t, slot, plan, n);
+    keep(t, slot, gone, plan, n);
     used
 }
 
@@ -113,7 +114,7 @@ fn enter(t: &[u8], kind: u64, seid: u64, p: usize, slot: &mut [u8]) -> bool
     false
 }
 
-// Stages 4 to 6 of a request that was read, and what follows.
+// Stages 4 to 6 of a request that was read, and what follows. The PDRs that go are named once, for the stages and for the new session.
 fn settle(
     t: &mut [u8],
     taken: Taken,
@@ -130,6 +131,8 @@ fn settle(
     ensures { λ r. ⌜ Answers (now (t .entry)) (now (msg .entry)) (now (out .entry)) r (now (out .exit)) (now (t .exit)) ⌝ }
 {
     let words = taken.words;
+    let mut gone = [0u64; format::MAX_PDRS];
+    let k = stages::session::removed(slot, plan, read.rows, &mut gone);
     let cause = stages::judge(
         t,
         &words,
@@ -138,6 +141,7 @@ fn settle(
         read.seid,
         live,
         slot,
+        &gone[..k],
         plan,
         read.rows,
         read.restoring,
@@ -152,6 +156,7 @@ fn settle(
         msg,
         read.seid,
         slot,
+        &gone[..k],
         plan,
         read.rows,
         out,

@@ -16,7 +16,7 @@ use Rattle.rules.specs.Sound.{inPool}
 use Rattle.rules.specs.Message.{deletion, kindOf}
 use Rattle.rules.specs.Reading.{readRequest, Request}
 use Rattle.rules.specs.Grants.{Kind}
-use Rattle.rules.specs.Stages.{hasSeid, newSession, entrySession}
+use Rattle.rules.specs.Stages.{hasSeid, newSession, removedPdrs, entrySession}
 use Rattle.rules.specs.Apply.{keptPdr, keptEndpoint}
 use Rattle.rules.specs.Live.{replied, accepted, createdTeid}
 use Rattle.rules.specs.Claim.{mapOf}
@@ -44,12 +44,12 @@ pub record Released (t : List ℕ) (n : ℕ) : Type 0 where
   pub unmarked : marked (mapOf t) (n - viewSettings t .first) ≡ false
   pub free : T (member n (freeTeids (viewSettings t) (viewSessions t)))
 
--- a session without the PDRs and endpoints that a request removes
+-- a session without the PDRs and endpoints that a request removes, with an endpoint the PDRs that name it
 unfoldable pub unremoved : Request → Session → Session
 unremoved r x =
     record {
       seid = x .seid;
-      pdrs = keep (keptPdr (r .gonePdrs)) (x .pdrs);
+      pdrs = keep (keptPdr (removedPdrs r (x .pdrs))) (x .pdrs);
       endpoints = keep (keptEndpoint (r .goneEndpoints)) (x .endpoints);
       csids = x .csids;
     }

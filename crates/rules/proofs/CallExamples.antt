@@ -129,7 +129,7 @@ story : ℕ
 unfolding computing calls seen ask three removed1 removed2 teids
 story = 0
 
-abbrev seenAs : ℕ → ℕ → Seen
+abbrev pub seenAs : ℕ → ℕ → Seen
 seenAs c n = record { outcome = 0; cause = c; left = free n }
 
 pub poolShared : teids three ≡ 4096 ∷ 4096 ∷ 4097 ∷ []

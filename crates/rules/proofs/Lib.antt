@@ -2,3 +2,4 @@ pub mod Computing
 pub mod ElementExamples
 pub mod CallExamples
 pub mod RestorationExamples
+pub mod EndpointExamples

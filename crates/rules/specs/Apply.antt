@@ -1,4 +1,4 @@
--- What an accepted request does to a session, and to the sessions (01, "What a request does").
+-- What an accepted request does to a session, and to the sessions (01, "What a request does"; 02 (ii)).
 -- `teids` says which TEID a record of a kind and ID got for its CHOOSE: the engine takes it from the grants, the live set from the reply.
 -- Assumes nothing.
 use Prim.Native.Nat.{ℕ}
@@ -13,7 +13,7 @@ use Rattle.rules.specs.Elements.{Fteid, given, choose, Fqcsid, sets, rem
 use Rattle.rules.specs.Message.{deletion}
 use Rattle.rules.specs.Reading.{NewPdr, NewEndpoint, Change, CsidChanges, cleared, changed, Request}
 use Rattle.rules.specs.Grants.{Kind, ofPdr, ofEndpoint}
-use Rattle.rules.specs.Stages.{hasSeid, atEntry}
+use Rattle.rules.specs.Stages.{hasSeid, atEntry, removedPdrs}
 
 -- ---- records
 
@@ -79,8 +79,9 @@ keptPdr gone p = not (member (p .id) gone)
 unfoldable pub keptEndpoint : List ℕ → Endpoint → Bool
 keptEndpoint gone e = not (member (e .id) gone)
 
+-- PDRs that name a removed endpoint go with it
 unfoldable pub pdrsAfter : (Kind → ℕ → ℕ) → Request → List Pdr → List Pdr
-pdrsAfter teids r ps = updateAll (r .changes) (insertAll pdrId (map (createPdr teids) (r .pdrs)) (keep (keptPdr (r .gonePdrs)) ps))
+pdrsAfter teids r ps = updateAll (r .changes) (insertAll pdrId (map (createPdr teids) (r .pdrs)) (keep (keptPdr (removedPdrs r ps)) ps))
 
 unfoldable pub endpointsAfter : (Kind → ℕ → ℕ) → Request → List Endpoint → List Endpoint
 endpointsAfter teids r es = insertAll endpointId (map (createEndpoint teids) (r .endpoints)) (keep (keptEndpoint (r .goneEndpoints)) es)

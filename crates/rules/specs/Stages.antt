@@ -72,7 +72,21 @@ livePdrs x = map pdrId (x .pdrs)
 unfoldable pub liveEndpoints : Session → List ℕ
 liveEndpoints x = map endpointId (x .endpoints)
 
--- every F-TEID of the request
+-- ---- the PDRs that a request removes (02 (ii)): those that Remove PDR names, and those that name a removed endpoint
+
+unfoldable pub namesOneOf : List ℕ → Option ℕ → Bool
+namesOneOf ids none = false
+namesOneOf ids (some e) = member e ids
+
+unfoldable pub goesPdr : Request → Pdr → Bool
+goesPdr r p = member (p .id) (r .gonePdrs) || namesOneOf (r .goneEndpoints) (pdrEndpoint p)
+
+-- their IDs, each once, among the session's PDRs at entry
+unfoldable pub removedPdrs : Request → List Pdr → List ℕ
+removedPdrs r ps = map pdrId (keep (goesPdr r) ps)
+
+-- ---- the F-TEIDs of a request
+
 unfoldable pub fteidsOf : Request → List Fteid
 fteidsOf r = map endpointLocal (r .endpoints) ++ collect pdrLocal (r .pdrs)
 
@@ -85,7 +99,7 @@ wrongAllocation restoring v = sameBool (chooses v) restoring
 unfoldable pub invalidAllocation : Request → Bool
 invalidAllocation r = any (wrongAllocation (r .restoring)) (fteidsOf r)
 
--- ---- stage 4, cause 73: 01's rules in their order
+-- ---- stage 4, cause 73: 01's rules in their order, without the one that 02 (ii) withdraws
 
 -- an ID removed, created or updated twice
 unfoldable pub idTwice : Request → Bool
@@ -102,8 +116,8 @@ absentId x r =
     oneOf (not (allIn (r .gonePdrs) (livePdrs x)) ∷ not (allIn (r .goneEndpoints) (liveEndpoints x)) ∷ not (allIn (updatedPdrs r) (livePdrs x)) ∷ [])
 
 -- an update of a removed PDR
-unfoldable pub updatesRemoved : Request → Bool
-updatesRemoved r = anyIn (updatedPdrs r) (r .gonePdrs)
+unfoldable pub updatesRemoved : Session → Request → Bool
+updatesRemoved x r = anyIn (updatedPdrs r) (removedPdrs r (x .pdrs))
 
 -- F-TEID and endpoint ID in one PDI
 unfoldable pub namesBoth : NewPdr → Bool
@@ -115,13 +129,6 @@ endpointIdsAfter x r = without (liveEndpoints x) (r .goneEndpoints) ++ createdEn
 
 unfoldable pub namesAbsent : Session → Request → Bool
 namesAbsent x r = not (allIn (collect namedEndpoint (r .pdrs)) (endpointIdsAfter x r))
-
--- a removed endpoint still named by a PDR
-unfoldable pub staysPdr : Request → Pdr → Bool
-staysPdr r p = not (member (p .id) (r .gonePdrs))
-
-unfoldable pub endpointInUse : Session → Request → Bool
-endpointInUse x r = anyIn (r .goneEndpoints) (collect pdrEndpoint (keep (staysPdr r) (x .pdrs)))
 
 -- equal CHOOSE IDs with other families or source interface
 unfoldable pub sameChoice : Option ℕ → Option ℕ → Bool
@@ -173,16 +180,15 @@ restoredHoldings r = collect endpointRestored (r .endpoints) ++ collect pdrResto
 unfoldable pub clash : Sessions → Request → Bool
 clash m r = anyIn (map teidOf (restoredHoldings r)) (heldTeids m) || not (allPairs agree (restoredHoldings r))
 
--- the rules of cause 73 in 01's order: those on the request and its session alone, and the one on what other sessions hold
+-- the rules of cause 73 in that order: those on the request and its session alone, and the one on what other sessions hold
 unfoldable pub requestRules : Settings → Session → Request → List Bool
 requestRules s x r =
     idTwice r
     ∷ createdLive x r
     ∷ absentId x r
-    ∷ updatesRemoved r
+    ∷ updatesRemoved x r
     ∷ any namesBoth (r .pdrs)
     ∷ namesAbsent x r
-    ∷ endpointInUse x r
     ∷ not (allPairs choicesAgree (r .pdrs))
     ∷ any (lacksFamily s) (fteidsOf r)
     ∷ any (strange s) (fteidsOf r)
@@ -200,7 +206,7 @@ unfoldable pub tooManySessions : ℕ → ℕ → Sessions → Bool
 tooManySessions limit kind m = eqb kind establishment && leb limit (length m)
 
 unfoldable pub tooManyPdrs : Session → Request → Bool
-tooManyPdrs x r = ltb maxPdrs (length (x .pdrs) - length (r .gonePdrs) + length (r .pdrs))
+tooManyPdrs x r = ltb maxPdrs (length (x .pdrs) - length (removedPdrs r (x .pdrs)) + length (r .pdrs))
 
 unfoldable pub tooManyEndpoints : Session → Request → Bool
 tooManyEndpoints x r = ltb maxEndpoints (length (x .endpoints) - length (r .goneEndpoints) + length (r .endpoints))
@@ -255,5 +261,5 @@ unfoldable pub verdict : ℕ → Settings → Sessions → List ℕ → Verdict
 verdict limit s m msg = pick (unknownSession m msg) (plain why.noSession) (fromFraming limit s m msg (frameFault msg))
 
 unfoldable pub computing : ℕ
-unfolding hasSeid sessionOf isLive newSession atEntry createdPdrs createdEndpoints updatedPdrs livePdrs liveEndpoints fteidsOf wrongAllocation invalidAllocation idTwice createdLive absentId updatesRemoved namesBoth endpointIdsAfter namesAbsent staysPdr endpointInUse sameChoice alikeFteids fteidsMayShare localsMayShare choicesAgree lacksFamily otherAddress strange restoredHolding endpointRestored pdrRestored restoredHoldings clash requestRules brokenRules breaksRule tooManySessions tooManyPdrs tooManyEndpoints tooFewTeids noRoom judge entrySession judged fromReading fromFraming unknownSession verdict
+unfolding hasSeid sessionOf isLive newSession atEntry createdPdrs createdEndpoints updatedPdrs livePdrs liveEndpoints namesOneOf goesPdr removedPdrs fteidsOf wrongAllocation invalidAllocation idTwice createdLive absentId updatesRemoved namesBoth endpointIdsAfter namesAbsent sameChoice alikeFteids fteidsMayShare localsMayShare choicesAgree lacksFamily otherAddress strange restoredHolding endpointRestored pdrRestored restoredHoldings clash requestRules brokenRules breaksRule tooManySessions tooManyPdrs tooManyEndpoints tooFewTeids noRoom judge entrySession judged fromReading fromFraming unknownSession verdict
 computing = 0

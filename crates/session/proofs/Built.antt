@@ -15,12 +15,13 @@ use Rattle.rules.specs.Model.{Pdr, Endpoint, Csid, Session, pdrId, endpointId, 
 use Rattle.rules.specs.Elements.{Fqcsid, sets, removal}
 use Rattle.rules.specs.Reading.{cleared, changed}
 use Rattle.rules.specs.Grants.{Kind}
+use Rattle.rules.specs.Stages.{removedPdrs}
 use Rattle.rules.specs.Apply.{createPdr, createEndpoint, updateAll, otherNode, setCsid, setCsids, followCsids, keptPdr, keptEndpoint, pdrsAfter, endpointsAfter, apply}
-use Rattle.plan.specs.Rows.{word, hasTag, tagged, rowPdrId, rowEndpointId, rowPdr, rowEndpoint, rowChange, rowAddress, rowCsid, isNullRow, requestIn}
+use Rattle.plan.specs.Rows.{word, hasTag, tagged, rowEndpointId, rowPdr, rowEndpoint, rowChange, rowAddress, rowCsid, isNullRow, requestIn}
 use Rattle.rules.specs.Types as ie
 use Rattle.plan.specs.Words as its
 use Rattle.slots.proofs.Places.{otherThan}
-use Rattle.session.specs.Build.{passed, built}
+use Rattle.session.specs.Build.{withoutPdrs, passed, built}
 use Rattle.session.proofs.RowRecords.{pdrOf, endpointOf, csidOf}
 use Rattle.session.proofs.Slot.{Slot}
 use Rattle.session.proofs.InTurn.{takeOut, take-out, putIn, put-in, none-of-kept}
@@ -97,12 +98,12 @@ csids-in-turn rows cs only = go (any isNullRow rows) refl
 -- ---- the session
 
 -- what the stages before have found of the rows and the session at entry, and what was granted
-pub record Ready (teids : Kind → ℕ → ℕ) (rows : List (List ℕ)) (x : Session) : Type 0 where
+pub record Ready (teids : Kind → ℕ → ℕ) (gone : List ℕ) (rows : List (List ℕ)) (x : Session) : Type 0 where
   pub endpointRows : T (all endpointRow (tagged ie.createEndpoint rows))
   pub pdrRows : T (all pdrRow (tagged ie.createPdr rows))
   pub csidRows : T (all csidRow (tagged ie.fqcsid rows))
   pub endpointRoom : length (keep (keptEndpoint (map rowEndpointId (tagged ie.removeEndpoint rows))) (x .endpoints)) + length (tagged ie.createEndpoint rows) ≤ 8
-  pub pdrRoom : length (keep (keptPdr (map rowPdrId (tagged ie.removePdr rows))) (x .pdrs)) + length (tagged ie.createPdr rows) ≤ 16
+  pub pdrRoom : length (keep (keptPdr gone) (x .pdrs)) + length (tagged ie.createPdr rows) ≤ 16
   pub endpointsOnce : T (not (hasRepeat (map endpointId (map endpointOf (tagged ie.createEndpoint rows)))))
   pub endpointsNew : T (not (anyIn (map endpointId (map endpointOf (tagged ie.createEndpoint rows))) (map endpointId (x .endpoints))))
   pub pdrsOnce : T (not (hasRepeat (map pdrId (map pdrOf (tagged ie.createPdr rows)))))
@@ -111,12 +112,12 @@ pub record Ready (teids : Kind → ℕ → ℕ) (rows : List (List ℕ)) (x : Se
   pub pdrTeids : map (createPdr teids) (map rowPdr (tagged ie.createPdr rows)) ≡ map pdrOf (tagged ie.createPdr rows)
   pub onlyNull : any isNullRow (tagged ie.fqcsid rows) ≡ true → collect rowCsid (tagged ie.fqcsid rows) ≡ []
 
-module _ (teids : Kind → ℕ → ℕ) (rows : List (List ℕ)) {x : Session} {s : List ℕ} (h : Slot x s) (k : Ready teids rows x) where
+module _ (teids : Kind → ℕ → ℕ) (gone : List ℕ) (rows : List (List ℕ)) {x : Session} {s : List ℕ} (h : Slot x s) (k : Ready teids gone rows x) where
   abbrev q : ℕ → List (List ℕ)
   q t = tagged t rows
 
   abbrev keptPs : List Pdr
-  keptPs = keep (keptPdr (map rowPdrId (q ie.removePdr))) (x .pdrs)
+  keptPs = keep (keptPdr gone) (x .pdrs)
 
   abbrev keptEs : List Endpoint
   keptEs = keep (keptEndpoint (map rowEndpointId (q ie.removeEndpoint))) (x .endpoints)
@@ -125,19 +126,19 @@ module _ (teids : Kind → ℕ → ℕ) (rows : List (List ℕ)) {x : Session} {
   by-pass : (t : ℕ) (u : List ℕ) {y : Session} → Slot y (applied (q t) u) → Slot y (passed t rows u)
   by-pass t u {y} g = subst (λ (l : List ℕ). Slot y l) (sym (pass-tagged t rows u)) g
 
-  kept-pdrs : takeOut pdrId (map rowPdrId (q ie.removePdr)) (x .pdrs) ≡ keptPs
+  kept-pdrs : takeOut pdrId gone (x .pdrs) ≡ keptPs
   unfolding keptPdr
-  kept-pdrs = take-out pdrId (map rowPdrId (q ie.removePdr)) (x .pdrs)
+  kept-pdrs = take-out pdrId gone (x .pdrs)
 
   kept-endpoints : takeOut endpointId (map rowEndpointId (q ie.removeEndpoint)) (x .endpoints) ≡ keptEs
   unfolding keptEndpoint
   kept-endpoints = take-out endpointId (map rowEndpointId (q ie.removeEndpoint)) (x .endpoints)
 
-  removed : Slot (setEndpoints (setPdrs x keptPs) keptEs) (passed ie.removeEndpoint rows (passed ie.removePdr rows s))
+  removed : Slot (setEndpoints (setPdrs x keptPs) keptEs) (passed ie.removeEndpoint rows (withoutPdrs gone s))
   removed =
-      let a : Slot (setPdrs x keptPs) (passed ie.removePdr rows s) = subst (λ (ps : List Pdr). Slot (setPdrs x ps) (passed ie.removePdr rows s)) kept-pdrs (by-pass ie.removePdr s (pdrs-out (q ie.removePdr) (tagged-tags ie.removePdr rows) h)) in
-      subst (λ (es : List Endpoint). Slot (setEndpoints (setPdrs x keptPs) es) (passed ie.removeEndpoint rows (passed ie.removePdr rows s))) kept-endpoints
-      (by-pass ie.removeEndpoint (passed ie.removePdr rows s) (endpoints-out (q ie.removeEndpoint) (tagged-tags ie.removeEndpoint rows) a))
+      let a : Slot (setPdrs x keptPs) (withoutPdrs gone s) = subst (λ (ps : List Pdr). Slot (setPdrs x ps) (withoutPdrs gone s)) kept-pdrs (pdrs-out gone h) in
+      subst (λ (es : List Endpoint). Slot (setEndpoints (setPdrs x keptPs) es) (passed ie.removeEndpoint rows (withoutPdrs gone s))) kept-endpoints
+      (by-pass ie.removeEndpoint (withoutPdrs gone s) (endpoints-out (q ie.removeEndpoint) (tagged-tags ie.removeEndpoint rows) a))
 
   new-endpoints : putIn endpointId (map endpointOf (q ie.createEndpoint)) keptEs ≡ insertAll endpointId (map (createEndpoint teids) (map rowEndpoint (q ie.createEndpoint))) keptEs
   new-endpoints =
@@ -148,22 +149,22 @@ module _ (teids : Kind → ℕ → ℕ) (rows : List (List ℕ)) {x : Session} {
   new-pdrs : putIn pdrId (map pdrOf (q ie.createPdr)) keptPs ≡ insertAll pdrId (map (createPdr teids) (map rowPdr (q ie.createPdr))) keptPs
   new-pdrs =
       put-in pdrId (map pdrOf (q ie.createPdr)) keptPs (k .pdrsOnce)
-      (none-of-kept pdrId (keptPdr (map rowPdrId (q ie.removePdr))) (map pdrId (map pdrOf (q ie.createPdr))) (x .pdrs) (k .pdrsNew))
+      (none-of-kept pdrId (keptPdr gone) (map pdrId (map pdrOf (q ie.createPdr))) (x .pdrs) (k .pdrsNew))
       ∙ ap (λ (ps : List Pdr). insertAll pdrId ps keptPs) (sym (k .pdrTeids))
 
-  -- the session that the plan builds
-  pub built-session : (seid : ℕ) (restoring noted : Bool) → Slot (apply teids (requestIn seid restoring noted rows) x) (built rows s)
+  -- the session that the plan builds, where those that go are the rules'
+  pub built-session : (seid : ℕ) (restoring noted : Bool) → gone ≡ removedPdrs (requestIn seid restoring noted rows) (x .pdrs) → Slot (apply teids (requestIn seid restoring noted rows) x) (built gone rows s)
   unfolding built apply requestIn pdrsAfter endpointsAfter
-  built-session seid restoring noted =
-      let s₂ = passed ie.removeEndpoint rows (passed ie.removePdr rows s) in
+  built-session seid restoring noted e =
+      let s₂ = passed ie.removeEndpoint rows (withoutPdrs gone s) in
       let a = by-pass ie.createEndpoint s₂ (endpoints-in (q ie.createEndpoint) (k .endpointRows) (k .endpointRoom) removed) in
       let b = by-pass ie.createPdr (passed ie.createEndpoint rows s₂) (pdrs-in (q ie.createPdr) (k .pdrRows) (k .pdrRoom) a) in
       let c = by-pass ie.updatePdr (passed ie.createPdr rows (passed ie.createEndpoint rows s₂)) (pdrs-updated (q ie.updatePdr) (tagged-tags ie.updatePdr rows) b) in
       let d = by-pass ie.fqcsid (passed ie.updatePdr rows (passed ie.createPdr rows (passed ie.createEndpoint rows s₂))) (csids-followed (q ie.fqcsid) (k .csidRows) c) in
-      subst (λ (y : Session). Slot y (passed ie.fqcsid rows (passed ie.updatePdr rows (passed ie.createPdr rows (passed ie.createEndpoint rows (passed ie.removeEndpoint rows (passed ie.removePdr rows s)))))))
+      subst (λ (y : Session). Slot y (passed ie.fqcsid rows (passed ie.updatePdr rows (passed ie.createPdr rows (passed ie.createEndpoint rows (passed ie.removeEndpoint rows (withoutPdrs gone s)))))))
       (λ i. record {
         seid = x .seid;
-        pdrs = updateAll (map rowChange (q ie.updatePdr)) (new-pdrs i);
+        pdrs = updateAll (map rowChange (q ie.updatePdr)) ((new-pdrs ∙ ap (λ (g : List ℕ). insertAll pdrId (map (createPdr teids) (map rowPdr (q ie.createPdr))) (keep (keptPdr g) (x .pdrs))) e) i);
         endpoints = new-endpoints i;
         csids = csids-in-turn (q ie.fqcsid) (x .csids) (k .onlyNull) i;
       }) d

@@ -14,7 +14,7 @@ use Rattle.octets.specs.Lists.{all, ascending, keep, findBy, insertBy}
 use Rattle.octets.proofs.Tests.{and-left, and-right, both, all-head, all-tail, is-true, is-false, pick-either}
 use Rattle.rules.specs.Model.{Pdr, neither, Endpoint, Csid, Session, pdrId, endpointId, nodeTypeOf}
 use Rattle.rules.specs.Layout.{pdrOctets, endpointOctets, csidOctets, pdrWidth}
-use Rattle.plan.specs.Rows.{word, hasTag, tagged, rowPdrId, rowEndpointId, rowPdr, rowEndpoint, rowChange, rowAddress}
+use Rattle.plan.specs.Rows.{word, hasTag, tagged, rowEndpointId, rowPdr, rowEndpoint, rowChange, rowAddress}
 use Rattle.rules.specs.Apply.{createPdr, createEndpoint, orOld, updatePdr, updateAll}
 use Rattle.rules.specs.Types as ie
 use Rattle.plan.specs.Words as its
@@ -26,8 +26,8 @@ use Rattle.areas.specs.Counted.{areaIn, replacedIn, atPlace, withRecord, withou
 use Rattle.areas.proofs.Held.{place-held, record-held, with-passes, with-up, with-held, without-held, cleared-held, changed-held}
 use Rattle.session.specs.Areas.{pdrArea, endpointArea, csidArea}
 use Rattle.session.specs.Records.{ifIs, placeKind, csidRecord, updatedRecord}
-use Rattle.session.specs.Build.{updatedAt, updatedPdr, followedCsid, rowApplied, passed}
-use Rattle.session.proofs.Steps.{row-15, row-130, row-127, row-1, row-9, row-65}
+use Rattle.session.specs.Build.{withoutPdrs, updatedAt, updatedPdr, followedCsid, rowApplied, passed}
+use Rattle.session.proofs.Steps.{row-130, row-127, row-1, row-9, row-65}
 use Rattle.session.proofs.RowRecords.{pdrOf, pdr-record, endpointOf, endpoint-record, csidOf, csid-record}
 use Rattle.session.proofs.Slot.{Slot, HeldPdrs, pdrPre, pdrMid, pdrPost, pdrFits, endpointFits, csidFits, pdr-good, endpoint-good, csid-good, held-pdrs, held-endpoints, held-csids, with-pdrs, with-endpoints, with-csids}
 use Rattle.session.proofs.UpdateRecords.{changed, record-changed}
@@ -70,13 +70,10 @@ same-slot {x} e h = subst (λ (l : List ℕ). Slot x l) e h
 
 -- ---- removals
 
-pub pdrs-out : (qs : List (List ℕ)) → T (all (hasTag ie.removePdr) qs) → {x : Session} {s : List ℕ} → Slot x s → Slot (setPdrs x (takeOut pdrId (map rowPdrId qs) (x .pdrs))) (applied qs s)
-unfolding applied takeOut
-pdrs-out [] t h = h
-pdrs-out (row ∷ qs) t {x} {s} h =
-    let one : Slot (setPdrs x (keep (otherThan pdrId (word its.pdrId row)) (x .pdrs))) (withoutRecord pdrArea (word its.pdrId row) s)
-    = with-pdrs h (without-held pdrOctets pdrId pdrArea pdrFits pdr-good (held-pdrs h) (word its.pdrId row)) in
-    pdrs-out qs (all-tail (hasTag ie.removePdr) row qs t) (same-slot (row-15 row s (withoutRecord pdrArea (word its.pdrId row) s) pdrArea refl (tag-is ie.removePdr row (all-head (hasTag ie.removePdr) row qs t)) refl) one)
+pub pdrs-out : (is : List ℕ) {x : Session} {s : List ℕ} → Slot x s → Slot (setPdrs x (takeOut pdrId is (x .pdrs))) (withoutPdrs is s)
+unfolding withoutPdrs takeOut
+pdrs-out [] h = h
+pdrs-out (i ∷ is) h = pdrs-out is (with-pdrs h (without-held pdrOctets pdrId pdrArea pdrFits pdr-good (held-pdrs h) i))
 
 pub endpoints-out : (qs : List (List ℕ)) → T (all (hasTag ie.removeEndpoint) qs) → {x : Session} {s : List ℕ} → Slot x s → Slot (setEndpoints x (takeOut endpointId (map rowEndpointId qs) (x .endpoints))) (applied qs s)
 unfolding applied takeOut

@@ -29,7 +29,7 @@ use Rattle.areas.specs.Counted.{Fits, areaIn, placeIn, replacedIn, clearedIn, w
 use Rattle.areas.proofs.Steps.{found-room}
 use Rattle.session.specs.Areas.{pdrArea, endpointArea, csidArea}
 use Rattle.session.specs.Records.{ifIs, placeKind, pdrValues, pdrRecord, endpointRecord, csidWidths, csidValues, csidRecord, withPrecedence, withFar, updatedRecord}
-use Rattle.session.specs.Build.{updatedAt, updatedPdr, followedCsid, rowApplied, passed, built}
+use Rattle.session.specs.Build.{withoutPdrs, updatedAt, updatedPdr, followedCsid, rowApplied, passed, built}
 
 -- ---- the areas fit a slot
 
@@ -167,10 +167,6 @@ csids-kept row s n m k = rw (ne-eqb _ _ n, ne-eqb _ _ m, ne-eqb _ _ k)
 -- ---- rows
 
 module _ (row s done : List ℕ) (a : Area) where
-  pub row-15 : a ≡ pdrArea → word its.tag row ≡ ie.removePdr → done ≡ withoutRecord a (word its.pdrId row) s → done ≡ rowApplied row s
-  unfolding rowApplied
-  row-15 ea e d = d ∙ rw (ea, e)
-
   pub row-130 : a ≡ endpointArea → word its.tag row ≡ ie.removeEndpoint → done ≡ withoutRecord a (word its.endpointId row) s → done ≡ rowApplied row s
   unfolding rowApplied
   row-130 ea e d = d ∙ rw (ea, e)
@@ -191,9 +187,37 @@ pub row-65 : (row s done : List ℕ) → word its.tag row ≡ ie.fqcsid → done
 unfolding rowApplied
 row-65 row s done e d = d ∙ rw e
 
-pub row-none : (row s : List ℕ) → (word its.tag row ≡ ie.removePdr → ⊥) → (word its.tag row ≡ ie.removeEndpoint → ⊥) → (word its.tag row ≡ ie.createEndpoint → ⊥) → (word its.tag row ≡ ie.createPdr → ⊥) → (word its.tag row ≡ ie.updatePdr → ⊥) → (word its.tag row ≡ ie.fqcsid → ⊥) → s ≡ rowApplied row s
+pub row-none : (row s : List ℕ) → (word its.tag row ≡ ie.removeEndpoint → ⊥) → (word its.tag row ≡ ie.createEndpoint → ⊥) → (word its.tag row ≡ ie.createPdr → ⊥) → (word its.tag row ≡ ie.updatePdr → ⊥) → (word its.tag row ≡ ie.fqcsid → ⊥) → s ≡ rowApplied row s
 unfolding rowApplied
-row-none row s a b c d e f = rw (ne-eqb _ _ a, ne-eqb _ _ b, ne-eqb _ _ c, ne-eqb _ _ d, ne-eqb _ _ e, ne-eqb _ _ f)
+row-none row s b c d e f = rw (ne-eqb _ _ b, ne-eqb _ _ c, ne-eqb _ _ d, ne-eqb _ _ e, ne-eqb _ _ f)
+
+-- ---- PDRs taken out
+
+-- those of the IDs before i are out
+pub record Dropping (ids s₀ s : List ℕ) (i : ℕ) : Type 0 where
+  pub within : i ≤ length ids
+  pub size : length s₀ ≡ sessionWidth
+  pub long : length s ≡ length s₀
+  pub rest : withoutPdrs (drop i ids) s ≡ withoutPdrs ids s₀
+
+module _ {ids s₀ : List ℕ} where
+  pub dropping-none : length s₀ ≡ sessionWidth → Dropping ids s₀ s₀ 0
+  dropping-none e = record { within = omega arith; size = e; long = refl; rest = refl }
+
+  pub dropping-more : {s : List ℕ} {i : ℕ} → Dropping ids s₀ s i → i < length ids → (a : Area) (s′ : List ℕ) → a ≡ pdrArea → length s′ ≡ length s → s′ ≡ withoutRecord a (getD ids i 0) s
+      → Dropping ids s₀ s′ (i + 1)
+  unfolding withoutPdrs
+  dropping-more {s} {i} p less a s′ ea l e =
+      record {
+        within = omega arith;
+        size = p .size;
+        long = l ∙ p .long;
+        rest = rw (e, ea, add-one i) (sym (ap (λ (is : List ℕ). withoutPdrs is s) (drop-cons ids i 0 less)) ∙ p .rest);
+      }
+
+  pub dropping-all : {s : List ℕ} {i : ℕ} → Dropping ids s₀ s i → length ids ≤ i → s ≡ withoutPdrs ids s₀
+  unfolding withoutPdrs
+  dropping-all {s} {i} p h = ap (λ (is : List ℕ). withoutPdrs is s) (sym (drop-of-length-le ids {i = i} h)) ∙ p .rest
 
 -- ---- a pass over the rows
 
@@ -263,6 +287,6 @@ module _ {kind n : ℕ} {plan s₀ : List ℕ} where
 
 -- ---- the passes in turn
 
-pub built-in-turn : (rows : List (List ℕ)) (s a b c d e f : List ℕ) → a ≡ passed ie.removePdr rows s → b ≡ passed ie.removeEndpoint rows a → c ≡ passed ie.createEndpoint rows b → d ≡ passed ie.createPdr rows c → e ≡ passed ie.updatePdr rows d → f ≡ passed ie.fqcsid rows e → f ≡ built rows s
+pub built-in-turn : (gone : List ℕ) (rows : List (List ℕ)) (s a b c d e f : List ℕ) → a ≡ withoutPdrs gone s → b ≡ passed ie.removeEndpoint rows a → c ≡ passed ie.createEndpoint rows b → d ≡ passed ie.createPdr rows c → e ≡ passed ie.updatePdr rows d → f ≡ passed ie.fqcsid rows e → f ≡ built gone rows s
 unfolding built
-built-in-turn rows s a b c d e f pa pb pc pd pe pf = pf ∙ rw (pe, pd, pc, pb, pa)
+built-in-turn gone rows s a b c d e f pa pb pc pd pe pf = pf ∙ rw (pe, pd, pc, pb, pa)

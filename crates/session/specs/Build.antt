@@ -1,4 +1,4 @@
--- What the rows of a plan make of a session slot, pass by pass: removals first, then endpoints, PDRs, updates, FQ-CSIDs (01, "What a request
+-- What the IDs of the PDRs that go and the rows of a plan make of a session slot, pass by pass: removals first, then endpoints, PDRs, updates, FQ-CSIDs (01, "What a request
 -- does"). proofs/ says that these octets are the rules' session.
 -- Assumes nothing.
 use Prim.Native.Nat.{ℕ, _*_}
@@ -13,6 +13,11 @@ use Rattle.plan.specs.Words as its
 use Rattle.areas.specs.Counted.{areaIn, placeIn, replacedIn, clearedIn, atPlace, withRecord, withoutRecord}
 use Rattle.session.specs.Areas.{pdrArea, endpointArea, csidArea}
 use Rattle.session.specs.Records.{pdrRecord, endpointRecord, csidRecord, updatedRecord}
+
+-- the PDRs of some IDs taken out
+unfoldable pub withoutPdrs : List ℕ → List ℕ → List ℕ
+withoutPdrs [] s = s
+withoutPdrs (i ∷ is) s = withoutPdrs is (withoutRecord pdrArea i s)
 
 -- the record at a place of the PDR area, updated
 unfoldable pub updatedAt : List ℕ → ℕ → List ℕ → List ℕ
@@ -30,16 +35,15 @@ followedCsid row s =
 -- what one row does
 unfoldable pub rowApplied : List ℕ → List ℕ → List ℕ
 rowApplied row s =
-    pick (eqb (word its.tag row) ie.removePdr) (withoutRecord pdrArea (word its.pdrId row) s)
-    (pick (eqb (word its.tag row) ie.removeEndpoint) (withoutRecord endpointArea (word its.endpointId row) s)
+    pick (eqb (word its.tag row) ie.removeEndpoint) (withoutRecord endpointArea (word its.endpointId row) s)
     (pick (eqb (word its.tag row) ie.createEndpoint) (withRecord endpointArea (endpointRecord row) s)
     (pick (eqb (word its.tag row) ie.createPdr) (withRecord pdrArea (pdrRecord row) s)
-    (pick (eqb (word its.tag row) ie.updatePdr) (updatedPdr row s) (pick (eqb (word its.tag row) ie.fqcsid) (followedCsid row s) s)))))
+    (pick (eqb (word its.tag row) ie.updatePdr) (updatedPdr row s) (pick (eqb (word its.tag row) ie.fqcsid) (followedCsid row s) s))))
 
 -- what the rows of one type do, in turn
 unfoldable pub passed : ℕ → List (List ℕ) → List ℕ → List ℕ
 passed t [] s = s
 passed t (row ∷ rows) s = passed t rows (pick (hasTag t row) (rowApplied row s) s)
 
-unfoldable pub built : List (List ℕ) → List ℕ → List ℕ
-built rows s = passed ie.fqcsid rows (passed ie.updatePdr rows (passed ie.createPdr rows (passed ie.createEndpoint rows (passed ie.removeEndpoint rows (passed ie.removePdr rows s)))))
+unfoldable pub built : List ℕ → List (List ℕ) → List ℕ → List ℕ
+built gone rows s = passed ie.fqcsid rows (passed ie.updatePdr rows (passed ie.createPdr rows (passed ie.createEndpoint rows (passed ie.removeEndpoint rows (withoutPdrs gone s)))))

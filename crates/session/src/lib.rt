@@ -1,4 +1,4 @@
-// Building a session in its slot of 483 octets from the rows of a plan, after every check has passed.
+// Building a session in its slot of 483 octets from the IDs of the PDRs that go and the rows of a plan, after every check has passed.
 //
 // The functions work on any octets of the slot's length; proofs/ says that on a session's octets they make the rules' session.
 ghost use mathlib.Core.Path.{_≡_};
@@ -7,13 +7,25 @@ ghost use lib.ListN.{length};
 ghost use Rattle.octets.specs.Octets.{slices};
 ghost use Rattle.rules.specs.Layout.{sessionWidth};
 ghost use Rattle.plan.specs.Rows.{rowWidth};
-ghost use Rattle.session.specs.Build.{updatedAt, updatedPdr, followedCsid, rowApplied, passed, built};
+ghost use Rattle.session.specs.Build.{withoutPdrs, updatedAt, updatedPdr, followedCsid, rowApplied, passed, built};
 use format::types;
 use format::words;
 use slots::Place;
 
 pub mod layout;
 mod record;
+
+// Takes the PDRs of some IDs out.
+fn drop_pdrs(slot: &mut [u8], ids: &[u64])
+    requires { ⌜ length (now slot) ≡ sessionWidth ⌝ }
+    ensures { λ _. ⌜ now (slot .exit) ≡ withoutPdrs (now (ids .entry)) (now (slot .entry)) ⌝ }
+{
+    let mut i = 0;
+    while i < ids.len() {
+        areas::drop_record(slot, layout::pdrs(), ids[i]);
+        i += 1;
+    }
+}
 
 // An Update PDR's row on the record at place p.
 fn update_at(slot: &mut [u8], row: &[u64], p: usize)
@@ -69,7 +81,6 @@ fn apply_row(slot: &mut [u8], row: &[u64])
 {
     let kind = row[words::TAG];
     match kind {
-        types::REMOVE_PDR => areas::drop_record(slot, layout::pdrs(), row[words::PDR_ID]),
         types::REMOVE_ENDPOINT => areas::drop_record(
             slot,
             layout::endpoints(),
@@ -106,12 +117,12 @@ fn pass(slot: &mut [u8], plan: &[u64], n: usize, kind: u64)
     }
 }
 
-// The session that the plan makes: removals first, then endpoints, PDRs, updates, FQ-CSIDs.
-pub fn build(slot: &mut [u8], plan: &[u64], n: usize)
+// The session that the plan makes: removals first, of the PDRs with the IDs `gone` and of endpoints, then endpoints, PDRs, updates, FQ-CSIDs.
+pub fn build(slot: &mut [u8], gone: &[u64], plan: &[u64], n: usize)
     requires { ⌜ (length (now slot) ≡ sessionWidth) × (n * rowWidth ≤ length (now plan)) ⌝ }
-    ensures { λ _. ⌜ now (slot .exit) ≡ built (slices rowWidth n (now (plan .entry))) (now (slot .entry)) ⌝ }
+    ensures { λ _. ⌜ now (slot .exit) ≡ built (now (gone .entry)) (slices rowWidth n (now (plan .entry))) (now (slot .entry)) ⌝ }
 {
-    pass(slot, plan, n, types::REMOVE_PDR);
+    drop_pdrs(slot, gone);
     pass(slot, plan, n, types::REMOVE_ENDPOINT);
     pass(slot, plan, n, types::CREATE_ENDPOINT);
     pass(slot, plan, n, types::CREATE_PDR);

@@ -18,9 +18,9 @@ use Rattle.stages.specs.RowRules.{breaksId, breaksFteid, breaksRow, some
 abbrev rest : List ℕ → List ℕ
 rest s = take (length s - rowWidth) (drop rowWidth s)
 
-module _ (held : ℕ → Bool) (set′ : Settings) (pdrs endpoints : List ℕ) (rows : List (List ℕ)) where
+module _ (held : ℕ → Bool) (set′ : Settings) (pdrs endpoints gone : List ℕ) (rows : List (List ℕ)) where
   abbrev p : List ℕ → Bool
-  p = breaksRow held set′ pdrs endpoints rows
+  p = breaksRow held set′ pdrs endpoints gone rows
 
   pub some-none : (s : List ℕ) (left : ℕ) → left ≤ 0 → someRow p (rowsOf left s) ≡ false
   unfolding someRow
@@ -33,11 +33,11 @@ module _ (held : ℕ → Bool) (set′ : Settings) (pdrs endpoints : List ℕ) (
     unfolding someRow
     first = rw (rows-more rowWidth left s h, left-part s rowWidth)
 
-    pub some-id : breaksId pdrs endpoints rows (take rowWidth s) ≡ true → someRow p (rowsOf left s) ≡ true
+    pub some-id : breaksId pdrs endpoints gone rows (take rowWidth s) ≡ true → someRow p (rowsOf left s) ≡ true
     unfolding breaksRow
     some-id a = first ∙ rw a
 
-    module _ (a : breaksId pdrs endpoints rows (take rowWidth s) ≡ false) where
+    module _ (a : breaksId pdrs endpoints gone rows (take rowWidth s) ≡ false) where
       pub some-fteid : breaksFteid held set′ (take rowWidth s) ≡ true → someRow p (rowsOf left s) ≡ true
       unfolding breaksRow
       some-fteid b = first ∙ rw (a, b)

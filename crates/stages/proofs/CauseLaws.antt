@@ -12,17 +12,16 @@ use Rattle.octets.proofs.Tests.{and-left, and-right, of-true}
 use Rattle.rules.specs.Model.{Settings, Session, Sessions, Holding, teidOf, heldTeids}
 use Rattle.rules.specs.Reading.{Request}
 use Rattle.rules.specs.Sound.{inPool, agree}
-use Rattle.rules.specs.Stages.{endpointInUse, lacksFamily, strange, restoredHoldings, clash, requestRules, brokenRules, breaksRule, livePdrs, liveEndpoints}
+use Rattle.rules.specs.Stages.{removedPdrs, lacksFamily, strange, restoredHoldings, clash, requestRules, brokenRules, breaksRule, livePdrs, liveEndpoints}
 use Rattle.plan.specs.Rows.{word, requestIn}
 use Rattle.plan.specs.Words as its
 use Rattle.pool.specs.Map.{marked}
-use Rattle.rows.specs.RowRules.{ofFteid, rowHolding, restores, heldIn, sameId, otherChoice, otherHold, disagree}
+use Rattle.rows.specs.RowRules.{requestOf, ofFteid, rowHolding, restores, heldIn, sameId, otherChoice, otherHold, disagree}
 use Rattle.rows.proofs.ListLaws.{onSome, any-ext, any-or, any-map, any-in, anyPair}
 use Rattle.rows.proofs.RequestLaws.{any-fteids}
 use Rattle.rows.proofs.TunnelLaws.{held-none, held-some, strange-some}
 use Rattle.stages.specs.RowRules.{createsLive, namesDead, updatesGone, pdiNamesBoth, pdiNamesAbsent, breaksId, breaksFteid, breaksRow, someRow}
 use Rattle.stages.specs.Rules.{clashBy, breaksRuleBy}
-use Rattle.stages.proofs.SlotLaws.{use-pdrs}
 use Rattle.stages.proofs.RuleLaws.{any-ones, pair-ones, twice-rows, created-rows, dead-rows, updates-rows, both-rows, absent-rows, choices-rows, held-rows, shared-rows}
 
 -- ---- rows
@@ -49,28 +48,31 @@ holds-some held none = refl
 holds-some held (some h) = refl
 
 -- the tests in 01's order, and in the rows' order
-shuffle : (q1 p1 p2 p3 p4 p5 u q2 p6 p7 p8 q3 : Bool)
-    → (oneOf (q1 ∷ p1 ∷ p2 ∷ p3 ∷ p4 ∷ p5 ∷ u ∷ q2 ∷ p6 ∷ p7 ∷ []) || (p8 || q3))
-    ≡ (((oneOf (p1 ∷ p2 ∷ p3 ∷ p4 ∷ p5 ∷ []) || oneOf (p6 ∷ p7 ∷ p8 ∷ [])) || oneOf (q1 ∷ q2 ∷ q3 ∷ [])) || u)
-shuffle q1 true p2 p3 p4 p5 u q2 p6 p7 p8 q3 = simp or-true
-shuffle q1 false true p3 p4 p5 u q2 p6 p7 p8 q3 = simp or-true
-shuffle q1 false false true p4 p5 u q2 p6 p7 p8 q3 = simp or-true
-shuffle q1 false false false true p5 u q2 p6 p7 p8 q3 = simp or-true
-shuffle q1 false false false false true u q2 p6 p7 p8 q3 = simp or-true
-shuffle q1 false false false false false u q2 true p7 p8 q3 = simp or-true
-shuffle q1 false false false false false u q2 false true p8 q3 = simp or-true
-shuffle q1 false false false false false u q2 false false true q3 = simp or-true
-shuffle true false false false false false u q2 false false false q3 = refl
-shuffle false false false false false false true q2 false false false q3 = simp or-true
-shuffle false false false false false false false true false false false q3 = refl
-shuffle false false false false false false false false false false false true = refl
-shuffle false false false false false false false false false false false false = refl
+shuffle : (q1 p1 p2 p3 p4 p5 q2 p6 p7 p8 q3 : Bool)
+    → (oneOf (q1 ∷ p1 ∷ p2 ∷ p3 ∷ p4 ∷ p5 ∷ q2 ∷ p6 ∷ p7 ∷ []) || (p8 || q3))
+    ≡ ((oneOf (p1 ∷ p2 ∷ p3 ∷ p4 ∷ p5 ∷ []) || oneOf (p6 ∷ p7 ∷ p8 ∷ [])) || oneOf (q1 ∷ q2 ∷ q3 ∷ []))
+shuffle q1 true p2 p3 p4 p5 q2 p6 p7 p8 q3 = simp or-true
+shuffle q1 false true p3 p4 p5 q2 p6 p7 p8 q3 = simp or-true
+shuffle q1 false false true p4 p5 q2 p6 p7 p8 q3 = simp or-true
+shuffle q1 false false false true p5 q2 p6 p7 p8 q3 = simp or-true
+shuffle q1 false false false false true q2 p6 p7 p8 q3 = simp or-true
+shuffle q1 false false false false false q2 true p7 p8 q3 = simp or-true
+shuffle q1 false false false false false q2 false true p8 q3 = simp or-true
+shuffle q1 false false false false false q2 false false true q3 = simp or-true
+shuffle true false false false false false q2 false false false q3 = refl
+shuffle false false false false false false true false false false q3 = refl
+shuffle false false false false false false false false false false true = refl
+shuffle false false false false false false false false false false false = refl
+
+-- the IDs of the PDRs that go
+abbrev gone : Session → List (List ℕ) → List ℕ
+gone x rows = removedPdrs (requestOf false rows) (x .pdrs)
 
 module _ (held : ℕ → Bool) (s : Settings) (x : Session) (seid : ℕ) (restoring noted : Bool) (rows : List (List ℕ)) where
-  ids-rows : any (breaksId (livePdrs x) (liveEndpoints x) rows) rows
-      ≡ oneOf (any (createsLive (livePdrs x) (liveEndpoints x)) rows ∷ any (namesDead (livePdrs x) (liveEndpoints x)) rows ∷ any (updatesGone rows) rows ∷ any pdiNamesBoth rows ∷ any (pdiNamesAbsent (liveEndpoints x) rows) rows ∷ [])
+  ids-rows : any (breaksId (livePdrs x) (liveEndpoints x) (gone x rows) rows) rows
+      ≡ oneOf (any (createsLive (livePdrs x) (liveEndpoints x)) rows ∷ any (namesDead (livePdrs x) (liveEndpoints x)) rows ∷ any (updatesGone (gone x rows)) rows ∷ any pdiNamesBoth rows ∷ any (pdiNamesAbsent (liveEndpoints x) rows) rows ∷ [])
   unfolding breaksId
-  ids-rows = sym (any-ones (createsLive (livePdrs x) (liveEndpoints x) ∷ namesDead (livePdrs x) (liveEndpoints x) ∷ updatesGone rows ∷ pdiNamesBoth ∷ pdiNamesAbsent (liveEndpoints x) rows ∷ []) rows)
+  ids-rows = sym (any-ones (createsLive (livePdrs x) (liveEndpoints x) ∷ namesDead (livePdrs x) (liveEndpoints x) ∷ updatesGone (gone x rows) ∷ pdiNamesBoth ∷ pdiNamesAbsent (liveEndpoints x) rows ∷ []) rows)
 
   fteid-rows : any (breaksFteid held s) rows ≡ oneOf (any (ofFteid (lacksFamily s)) rows ∷ any (ofFteid (strange s)) rows ∷ any (λ row. restores held (rowHolding row)) rows ∷ [])
   unfolding breaksFteid
@@ -80,11 +82,11 @@ module _ (held : ℕ → Bool) (s : Settings) (x : Session) (seid : ℕ) (restor
   unfolding disagree
   pair-rows = sym (pair-ones (sameId ∷ otherChoice ∷ otherHold ∷ []) rows)
 
-  rows-is : someRow (breaksRow held s (livePdrs x) (liveEndpoints x) rows) rows ≡ ((any (breaksId (livePdrs x) (liveEndpoints x) rows) rows || any (breaksFteid held s) rows) || anyPair disagree rows)
+  rows-is : someRow (breaksRow held s (livePdrs x) (liveEndpoints x) (gone x rows) rows) rows ≡ ((any (breaksId (livePdrs x) (liveEndpoints x) (gone x rows) rows) rows || any (breaksFteid held s) rows) || anyPair disagree rows)
   unfolding breaksRow
   rows-is =
-      some-is (breaksRow held s (livePdrs x) (liveEndpoints x) rows) rows
-      ∙ ap (λ (b : Bool). b || anyPair disagree rows) (sym (any-or (breaksId (livePdrs x) (liveEndpoints x) rows) (breaksFteid held s) rows))
+      some-is (breaksRow held s (livePdrs x) (liveEndpoints x) (gone x rows) rows) rows
+      ∙ ap (λ (b : Bool). b || anyPair disagree rows) (sym (any-or (breaksId (livePdrs x) (liveEndpoints x) (gone x rows) rows) (breaksFteid held s) rows))
 
   clash-rows : clashBy held (requestIn seid restoring noted rows) ≡ (any (λ row. restores held (rowHolding row)) rows || anyPair otherHold rows)
   unfolding clashBy
@@ -95,12 +97,12 @@ module _ (held : ℕ → Bool) (s : Settings) (x : Session) (seid : ℕ) (restor
 
   -- cause 73 by the rows
   pub breaks-rows : breaksRuleBy held s x (requestIn seid restoring noted rows)
-      ≡ (someRow (breaksRow held s (livePdrs x) (liveEndpoints x) rows) rows || endpointInUse x (requestIn seid restoring noted rows))
+      ≡ someRow (breaksRow held s (livePdrs x) (liveEndpoints x) (gone x rows) rows) rows
   unfolding breaksRuleBy requestRules
   breaks-rows =
       rw (twice-rows x seid restoring noted rows, created-rows x seid restoring noted rows, dead-rows x seid restoring noted rows, updates-rows x seid restoring noted rows, both-rows x seid restoring noted rows, absent-rows x seid restoring noted rows, choices-rows x seid restoring noted rows, any-fteids (lacksFamily s) seid restoring noted rows, any-fteids (strange s) seid restoring noted rows, clash-rows, rows-is, ids-rows, fteid-rows, pair-rows)
-      (shuffle (anyPair sameId rows) (any (createsLive (livePdrs x) (liveEndpoints x)) rows) (any (namesDead (livePdrs x) (liveEndpoints x)) rows) (any (updatesGone rows) rows) (any pdiNamesBoth rows)
-      (any (pdiNamesAbsent (liveEndpoints x) rows) rows) (endpointInUse x (requestIn seid restoring noted rows)) (anyPair otherChoice rows) (any (ofFteid (lacksFamily s)) rows) (any (ofFteid (strange s)) rows)
+      (shuffle (anyPair sameId rows) (any (createsLive (livePdrs x) (liveEndpoints x)) rows) (any (namesDead (livePdrs x) (liveEndpoints x)) rows) (any (updatesGone (gone x rows)) rows) (any pdiNamesBoth rows)
+      (any (pdiNamesAbsent (liveEndpoints x) rows) rows) (anyPair otherChoice rows) (any (ofFteid (lacksFamily s)) rows) (any (ofFteid (strange s)) rows)
       (any (λ row. restores held (rowHolding row)) rows) (anyPair otherHold rows))
 
 -- ---- the map in place of the records
@@ -143,8 +145,7 @@ module _ (held other : ℕ → Bool) (s : Settings) (alike : (t : ℕ) → inPoo
   unfolding breaksRow
   same-rule x seid restoring noted rows =
       breaks-rows held s x seid restoring noted rows
-      ∙ ap (λ (b : Bool). b || endpointInUse x (requestIn seid restoring noted rows))
-      (some-ext (breaksRow held s (livePdrs x) (liveEndpoints x) rows) (breaksRow other s (livePdrs x) (liveEndpoints x) rows) (λ row. ap (λ (b : Bool). breaksId (livePdrs x) (liveEndpoints x) rows row || b) (fteid-same row)) rows)
+      ∙ some-ext (breaksRow held s (livePdrs x) (liveEndpoints x) (gone x rows) rows) (breaksRow other s (livePdrs x) (liveEndpoints x) (gone x rows) rows) (λ row. ap (λ (b : Bool). breaksId (livePdrs x) (liveEndpoints x) (gone x rows) rows row || b) (fteid-same row)) rows
       ∙ sym (breaks-rows other s x seid restoring noted rows)
 
 -- A test that agrees with the records on the TEIDs of the pool gives 01's rules.
@@ -166,21 +167,12 @@ map-agrees s m words h t e =
 
 -- ---- what the code has found
 
-module _ (s′ s : Settings) (words : List ℕ) (pdrs endpoints : List ℕ) (x : Session) (rows : List (List ℕ)) (r : Bool)
-    (e : s′ ≡ s) (p : pdrs ≡ livePdrs x) (q : endpoints ≡ liveEndpoints x) (a : r ≡ someRow (breaksRow (heldIn s′ words) s′ pdrs endpoints rows) rows) where
-  found : r ≡ someRow (breaksRow (heldIn s words) s (livePdrs x) (liveEndpoints x) rows) rows
-  found = a ∙ (λ i. someRow (breaksRow (heldIn (e i) words) (e i) (p i) (q i) rows) rows)
-
-  pub rule-yes : r ≡ true → breaksRuleBy (heldIn s words) s x (requestIn 0 false false rows) ≡ true
-  rule-yes h = breaks-rows (heldIn s words) s x 0 false false rows ∙ rw (sym found ∙ h)
-
-  pub rule-rest : r ≡ false → breaksRuleBy (heldIn s words) s x (requestIn 0 false false rows) ≡ endpointInUse x (requestIn 0 false false rows)
-  rule-rest h = breaks-rows (heldIn s words) s x 0 false false rows ∙ rw (sym found ∙ h)
+pub rule-found : (s′ s : Settings) (words pdrs endpoints away : List ℕ) (x : Session) (rows : List (List ℕ)) (r : Bool) → s′ ≡ s → pdrs ≡ livePdrs x → endpoints ≡ liveEndpoints x → away ≡ gone x rows
+    → r ≡ someRow (breaksRow (heldIn s′ words) s′ pdrs endpoints away rows) rows → r ≡ breaksRuleBy (heldIn s words) s x (requestOf false rows)
+rule-found s′ s words pdrs endpoints away x rows r e p q g a =
+    a ∙ (λ i. someRow (breaksRow (heldIn (e i) words) (e i) (p i) (q i) (g i) rows) rows) ∙ sym (breaks-rows (heldIn s words) s x 0 false false rows)
 
 -- the request's SEID, restoration and element 129 do not matter
 pub rule-rows : (held : ℕ → Bool) (s : Settings) (x : Session) (seid : ℕ) (restoring noted : Bool) (rows : List (List ℕ))
     → breaksRuleBy held s x (requestIn 0 false false rows) ≡ breaksRuleBy held s x (requestIn seid restoring noted rows)
-rule-rows held s x seid restoring noted rows =
-    breaks-rows held s x 0 false false rows
-    ∙ ap (λ (b : Bool). someRow (breaksRow held s (livePdrs x) (liveEndpoints x) rows) rows || b) (use-pdrs x 0 false false rows ∙ sym (use-pdrs x seid restoring noted rows))
-    ∙ sym (breaks-rows held s x seid restoring noted rows)
+rule-rows held s x seid restoring noted rows = breaks-rows held s x 0 false false rows ∙ sym (breaks-rows held s x seid restoring noted rows)

@@ -1,22 +1,28 @@
 -- What a caller knows of the session at entry and of the settings gives what stages 4 and 5 ask. Assumes nothing.
 use mathlib.Core.Path.{_≡_, ap, _∙_}
-use mathlib.Core.Bool.{Bool}
+use mathlib.Core.Bool.{Bool, false}
 use mathlib.Core.List.{List}
 use Prim.Native.Nat.{ℕ, _*_, _≤_}
 use native.Mathlib.Omega.{arith}
 use lib.Dec.{T, leb→le, eqb→eq}
-use lib.ListN.{length, drop, getD, length-map}
+use lib.ListN.{length, take, drop, getD, replicate, length-map}
+use lib.Seq.{sets}
 use Rattle.octets.specs.Octets.{octetAt, slices}
+use Rattle.octets.specs.Lists.{keep}
 use Rattle.octets.proofs.Tests.{each}
+use Rattle.octets.proofs.Ordered.{keep-length}
+use Rattle.lists.proofs.Loops.{stored}
 use Rattle.rules.specs.Limits.{maxSessions, maxPdrs, maxEndpoints, maxPool, mapWords}
-use Rattle.rules.specs.Model.{Settings, Session, heldTeids, freeCount}
+use Rattle.rules.specs.Model.{Settings, Session, pdrId, heldTeids, freeCount}
+use Rattle.rules.specs.Reading.{Request}
 use Rattle.rules.specs.Layout.{viewPdr, viewEndpoint, viewArea, viewSession, viewSettings, viewSessions, pdrWidth, endpointWidth, tableLength, headWidth, sessionWidth, pdrCountAt, endpointCountAt, pdrsAt}
 use Rattle.rules.specs.Sound.{sessionTests, sessionAllowed, poolTests, settingsTests, settingsAllowed, soundTests, sound}
-use Rattle.rules.specs.Stages.{newSession, isLive}
+use Rattle.rules.specs.Stages.{newSession, isLive, goesPdr, removedPdrs}
 use Rattle.rules.specs.Message.{establishment}
-use Rattle.plan.specs.Rows.{rowWidth}
+use Rattle.plan.specs.Rows.{rowWidth, rowsOf}
+use Rattle.rows.specs.RowRules.{requestOf}
 use Rattle.pool.proofs.TakenLaws.{Means}
-use Rattle.stages.specs.Rules.{Slot, AtEntry}
+use Rattle.stages.specs.Rules.{Slot, Gone, AtEntry}
 use Rattle.stages.proofs.UnitLaws.{slices-length}
 
 -- ---- the slot
@@ -49,6 +55,20 @@ pub slot-new : (slot : List ℕ) (seid : ℕ) → length slot ≡ sessionWidth �
 unfolding newSession
 slot-new slot seid long e = slot-of slot (newSession seid) long e (omega arith) (omega arith)
 
+-- ---- the PDRs that go, as they were stored in an array
+
+pub gone-few : (r : Request) (slot : List ℕ) → Slot slot → length (removedPdrs r (viewSession slot .pdrs)) ≤ maxPdrs
+unfolding removedPdrs
+gone-few r slot h =
+    let a = length-map (keep (goesPdr r) (viewSession slot .pdrs)) pdrId in
+    let b = keep-length (goesPdr r) (viewSession slot .pdrs) in
+    let c = pdr-count slot in
+    omega (arith, h .pdrs)
+
+pub gone-stored : (slot out : List ℕ) (rows : List (List ℕ)) (k : ℕ) → Slot slot → k ≡ length (removedPdrs (requestOf false rows) (viewSession slot .pdrs))
+    → out ≡ sets (replicate 16 0) 0 (removedPdrs (requestOf false rows) (viewSession slot .pdrs)) → Gone slot rows (take k out)
+gone-stored slot out rows k h e f = stored (replicate 16 0) (removedPdrs (requestOf false rows) (viewSession slot .pdrs)) out k e f (gone-few (requestOf false rows) slot h)
+
 -- ---- the map
 
 -- the map has a bit for each TEID of the pool
@@ -62,18 +82,19 @@ pool-wide s words h e =
 
 -- ---- a sound table, with its map and free count
 
-pub at-entry : (t taken slot plan : List ℕ) (n free kind seid : ℕ) (live : Bool) → T (sound maxSessions t) → Slot slot → n * rowWidth ≤ length plan
+pub at-entry : (t taken slot gone plan : List ℕ) (n free kind seid : ℕ) (live : Bool) → T (sound maxSessions t) → Slot slot → n * rowWidth ≤ length plan → Gone slot (rowsOf n plan) gone
     → length taken ≡ mapWords → Means (viewSettings t .first) taken (heldTeids (viewSessions t))
     → free ≡ freeCount (viewSettings t) (viewSessions t) → (kind ≡ establishment → live ≡ isLive seid (viewSessions t))
-    → AtEntry t taken slot plan n free kind seid live
+    → AtEntry t taken slot gone plan n free kind seid live
 unfolding sound soundTests
-at-entry t taken slot plan n free kind seid live h place rows words means count known =
+at-entry t taken slot gone plan n free kind seid live h place rows removed words means count known =
     let tests = each (soundTests maxSessions t (viewSettings t) (viewSessions t)) h in
     let size : length t ≡ tableLength maxSessions = (eqb→eq (length t) (tableLength maxSessions) (tests .0)) in
     record {
       long = omega arith;
       place = place;
       rows = rows;
+      removed = removed;
       wide = pool-wide (viewSettings t) taken (tests .1 .0) words;
       marks = λ i below. means i;
       count = count;

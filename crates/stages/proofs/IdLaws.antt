@@ -52,12 +52,12 @@ module _ (pdrs endpoints row : List ℕ) where
 
 -- ---- updates
 
-module _ (rows : List (List ℕ)) (row : List ℕ) where
-  pub updates-other : (word its.tag row ≡ ie.updatePdr → ⊥) → updatesGone rows row ≡ false
+module _ (gone row : List ℕ) where
+  pub updates-other : (word its.tag row ≡ ie.updatePdr → ⊥) → updatesGone gone row ≡ false
   unfolding updatesGone
   updates-other h = rw (tag-no row ie.updatePdr h)
 
-  pub updates-9 : word its.tag row ≡ ie.updatePdr → updatesGone rows row ≡ member (word its.pdrId row) (column ie.removePdr its.pdrId rows)
+  pub updates-9 : word its.tag row ≡ ie.updatePdr → updatesGone gone row ≡ member (word its.pdrId row) gone
   unfolding updatesGone
   updates-9 h = rw (tag-yes row ie.updatePdr h)
 
@@ -131,27 +131,27 @@ module _ (endpoints : List ℕ) (rows : List (List ℕ)) (row : List ℕ) (h : w
 
 -- ---- all rules on one row
 
-module _ (pdrs endpoints : List ℕ) (rows : List (List ℕ)) (row : List ℕ) where
-  pub breaks-1 : createsLive pdrs endpoints row ≡ true → breaksId pdrs endpoints rows row ≡ true
+module _ (pdrs endpoints gone : List ℕ) (rows : List (List ℕ)) (row : List ℕ) where
+  pub breaks-1 : createsLive pdrs endpoints row ≡ true → breaksId pdrs endpoints gone rows row ≡ true
   unfolding breaksId
   breaks-1 h = rw h
 
   module _ (a : createsLive pdrs endpoints row ≡ false) where
-    pub breaks-2 : namesDead pdrs endpoints row ≡ true → breaksId pdrs endpoints rows row ≡ true
+    pub breaks-2 : namesDead pdrs endpoints row ≡ true → breaksId pdrs endpoints gone rows row ≡ true
     unfolding breaksId
     breaks-2 h = rw (a, h)
 
     module _ (b : namesDead pdrs endpoints row ≡ false) where
-      pub breaks-3 : updatesGone rows row ≡ true → breaksId pdrs endpoints rows row ≡ true
+      pub breaks-3 : updatesGone gone row ≡ true → breaksId pdrs endpoints gone rows row ≡ true
       unfolding breaksId
       breaks-3 h = rw (a, b, h)
 
-      module _ (d : updatesGone rows row ≡ false) where
-        pub breaks-4 : pdiNamesBoth row ≡ true → breaksId pdrs endpoints rows row ≡ true
+      module _ (d : updatesGone gone row ≡ false) where
+        pub breaks-4 : pdiNamesBoth row ≡ true → breaksId pdrs endpoints gone rows row ≡ true
         unfolding breaksId
         breaks-4 h = rw (a, b, d, h)
 
-        pub breaks-5 : pdiNamesBoth row ≡ false → breaksId pdrs endpoints rows row ≡ pdiNamesAbsent endpoints rows row
+        pub breaks-5 : pdiNamesBoth row ≡ false → breaksId pdrs endpoints gone rows row ≡ pdiNamesAbsent endpoints rows row
         unfolding breaksId
         breaks-5 h = rw (a, b, d, h) (or-false (pdiNamesAbsent endpoints rows row))
 

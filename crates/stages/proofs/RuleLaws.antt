@@ -14,15 +14,16 @@ use Rattle.lists.specs.Rows.{column, wordAt}
 use Rattle.rules.specs.Model.{Session, Holding}
 use Rattle.rules.specs.Reading.{NewPdr}
 use Rattle.rules.specs.Sound.{agree, shareTests}
-use Rattle.rules.specs.Stages.{idTwice, createdLive, absentId, updatesRemoved, namesBoth, namedEndpoint, endpointIdsAfter, namesAbsent, choicesAgree, endpointRestored, pdrRestored, restoredHoldings, livePdrs, liveEndpoints}
+use Rattle.rules.specs.Stages.{idTwice, createdLive, absentId, removedPdrs, updatesRemoved, namesBoth, namedEndpoint, endpointIdsAfter, namesAbsent, choicesAgree, endpointRestored, pdrRestored, restoredHoldings, livePdrs, liveEndpoints}
 use Rattle.plan.specs.Rows.{word, hasTag, tagged, rowPdr, rowEndpoint, requestIn}
 use Rattle.rules.specs.Types as ie
 use Rattle.plan.specs.Words as its
-use Rattle.rows.specs.RowRules.{rowHolding, repeats, sameId, otherChoice, holdsApart, otherHold}
+use Rattle.rows.specs.RowRules.{requestOf, rowHolding, repeats, sameId, otherChoice, holdsApart, otherHold}
 use Rattle.rows.proofs.ListLaws.{onSome, any-ext, any-or, any-keep, any-map, any-collect, any-in, not-all-in, anyPair, pair-or, not-pairs, pair-keep, pair-map, repeat-pairs}
 use Rattle.rows.proofs.MergeLaws.{merged, any-merge, pair-merge}
 use Rattle.rows.proofs.RequestLaws.{created-pdrs, created-endpoints, updated-pdrs, gone-pdrs, gone-endpoints}
 use Rattle.rows.proofs.PairLaws.{tags-apart}
+use Rattle.stages.proofs.SlotLaws.{removed-rows}
 use Rattle.stages.specs.RowRules.{createsLive, namesDead, updatesGone, pdiNamesBoth, absentFrom, pdiNamesAbsent}
 use Rattle.lists.proofs.Bools.{eqb-turn, and-swap}
 
@@ -101,9 +102,9 @@ module _ (x : Session) (seid : ℕ) (restoring noted : Bool) (rows : List (List 
       ((λ row. hasTag ie.removePdr row && not (member (word its.pdrId row) (livePdrs x))) ∷ (λ row. hasTag ie.removeEndpoint row && not (member (word its.endpointId row) (liveEndpoints x))) ∷ (λ row. hasTag ie.updatePdr row && not (member (word its.pdrId row) (livePdrs x))) ∷ [])
       rows)
 
-  pub updates-rows : updatesRemoved (requestIn seid restoring noted rows) ≡ any (updatesGone rows) rows
+  pub updates-rows : updatesRemoved x (requestIn seid restoring noted rows) ≡ any (updatesGone (removedPdrs (requestOf false rows) (x .pdrs))) rows
   unfolding updatesRemoved updatesGone
-  updates-rows = rw (updated-pdrs seid restoring noted rows, gone-pdrs seid restoring noted rows) (column-in 9 7 rows (column ie.removePdr its.pdrId rows))
+  updates-rows = rw (updated-pdrs seid restoring noted rows, removed-rows seid restoring noted rows (x .pdrs)) (column-in 9 7 rows (removedPdrs (requestOf false rows) (x .pdrs)))
 
   pub both-rows : any namesBoth (requestIn seid restoring noted rows .pdrs) ≡ any pdiNamesBoth rows
   unfolding pdiNamesBoth

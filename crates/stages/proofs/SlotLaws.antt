@@ -1,6 +1,6 @@
--- The session at entry by its slot's octets: the IDs of its records, and the endpoints that its PDRs name. Assumes nothing.
-use mathlib.Core.Path.{_≡_, refl, sym, ap, _∙_}
-use mathlib.Core.Bool.{Bool, true, false, not, _&&_, and-true, and-false}
+-- The session at entry by its slot's octets: the IDs of its records, and of the PDRs that go. Assumes nothing.
+use mathlib.Core.Path.{_≡_, refl, sym, ap, ap₂, _∙_}
+use mathlib.Core.Bool.{Bool, true, false, _||_}
 use mathlib.Core.Option.{Option, none, some}
 use mathlib.Core.List.{List, [], _∷_, map, map-map}
 use Prim.Native.Nat.{ℕ, _-_, _*_, _≤_, _<_}
@@ -12,23 +12,21 @@ use borrow.Author.Tests.{ne-eqb}
 use Rattle.octets.specs.Choice.{pick}
 use Rattle.octets.specs.Octets.{number, numberAt, part, octetAt, slices}
 use Rattle.octets.specs.Fields.{fieldsAt}
-use Rattle.octets.specs.Lists.{member, anyIn, any, keep, collect}
+use Rattle.octets.specs.Lists.{member, keep}
 use Rattle.lists.specs.Rows.{column}
 use Rattle.lists.proofs.RowLaws.{rows-more, rows-none}
 use Rattle.lists.proofs.Loops.{left-part, stored}
 use Rattle.stages.proofs.UnitLaws.{slices-length}
-use Rattle.rules.specs.Model.{Pdr, Session, neither, tunnel, endpoint, pdrId, endpointId, pdrEndpoint, placeEndpoint}
+use Rattle.rules.specs.Model.{Pdr, neither, tunnel, endpoint, pdrId, endpointId, pdrEndpoint, placeEndpoint}
 use Rattle.rules.specs.Layout.{tunnelRead, placeRead, pdrFrom, endpointFrom, viewPdr, viewEndpoint, viewArea, viewSession, pdrWidth, endpointWidth, pdrCountAt, endpointCountAt, pdrsAt, endpointsAt}
 use Rattle.laws.proofs.LayoutLaws.{pdr-view}
-use Rattle.rules.specs.Stages.{livePdrs, liveEndpoints, staysPdr, endpointInUse}
+use Rattle.rules.specs.Stages.{livePdrs, liveEndpoints, namesOneOf, goesPdr, removedPdrs}
 use Rattle.plan.specs.Rows.{requestIn}
 use Rattle.rules.specs.Types as ie
 use Rattle.plan.specs.Words as its
-use Rattle.rows.proofs.ListLaws.{onSome, any-in, any-ext, any-map, any-keep, any-collect}
+use Rattle.rows.specs.RowRules.{requestOf}
 use Rattle.rows.proofs.RequestLaws.{gone-pdrs, gone-endpoints}
-use Rattle.stages.specs.RowRules.{namedIn, namesGone}
 use Rattle.stages.specs.Rules.{Slot}
-use Rattle.lists.proofs.Questions.{any-turn}
 
 -- ---- IDs
 
@@ -54,38 +52,15 @@ pub live-endpoints : (slot : List ℕ) → liveEndpoints (viewSession slot) ≡ 
 unfolding liveEndpoints viewSession viewArea viewEndpoint endpointFrom fieldsAt numberAt octetAt
 live-endpoints slot = map-map endpointId viewEndpoint (slices endpointWidth (getD slot endpointCountAt 0) (drop endpointsAt slot))
 
--- ---- endpoints that PDRs name
-
-named-some : (ids : List ℕ) (o : Option ℕ) → onSome (λ e. member e ids) o ≡ namedIn ids o
-unfolding onSome namedIn
-named-some ids none = refl
-named-some ids (some e) = refl
-
-pub use-pdrs : (x : Session) (seid : ℕ) (restoring noted : Bool) (rows : List (List ℕ))
-    → endpointInUse x (requestIn seid restoring noted rows) ≡ any (namesGone rows) (x .pdrs)
-unfolding endpointInUse
-use-pdrs x seid restoring noted rows =
-    ap (λ (l : List ℕ). anyIn l (collect pdrEndpoint (keep (staysPdr (requestIn seid restoring noted rows)) (x .pdrs)))) (gone-endpoints seid restoring noted rows)
-    ∙ any-turn (column ie.removeEndpoint its.endpointId rows) (collect pdrEndpoint (keep (staysPdr (requestIn seid restoring noted rows)) (x .pdrs)))
-    ∙ any-in (collect pdrEndpoint (keep (staysPdr (requestIn seid restoring noted rows)) (x .pdrs))) (column ie.removeEndpoint its.endpointId rows)
-    ∙ any-collect (λ e. member e (column ie.removeEndpoint its.endpointId rows)) pdrEndpoint (keep (staysPdr (requestIn seid restoring noted rows)) (x .pdrs))
-    ∙ any-keep (λ p. onSome (λ e. member e (column ie.removeEndpoint its.endpointId rows)) (pdrEndpoint p)) (staysPdr (requestIn seid restoring noted rows)) (x .pdrs)
-    ∙ any-ext (λ p. staysPdr (requestIn seid restoring noted rows) p && onSome (λ e. member e (column ie.removeEndpoint its.endpointId rows)) (pdrEndpoint p)) (namesGone rows) here (x .pdrs)
-  where
-    here : (p : Pdr) → (staysPdr (requestIn seid restoring noted rows) p && onSome (λ e. member e (column ie.removeEndpoint its.endpointId rows)) (pdrEndpoint p)) ≡ namesGone rows p
-    here p = unfold staysPdr namesGone in (rw (gone-pdrs seid restoring noted rows, named-some (column ie.removeEndpoint its.endpointId rows) (pdrEndpoint p)))
-
-pub use-slot : (slot : List ℕ) (seid : ℕ) (restoring noted : Bool) (rows : List (List ℕ))
-    → endpointInUse (viewSession slot) (requestIn seid restoring noted rows) ≡ any (λ xs. namesGone rows (viewPdr xs)) (slices pdrWidth (getD slot pdrCountAt 0) (drop pdrsAt slot))
-unfolding viewSession viewArea octetAt
-use-slot slot seid restoring noted rows =
-    use-pdrs (viewSession slot) seid restoring noted rows ∙ any-map (namesGone rows) viewPdr (slices pdrWidth (getD slot pdrCountAt 0) (drop pdrsAt slot))
-
--- ---- a PDR's octets
+-- ---- a PDR's octets, and whether it goes
 
 none-none : (b : Bool) → pick {X = Option ℕ} b none none ≡ none
 none-none true = refl
 none-none false = refl
+
+id-is : (pdr : List ℕ) → pdrId (viewPdr pdr) ≡ number (part 0 2 pdr)
+unfolding viewPdr pdrFrom fieldsAt
+id-is pdr = refl
 
 module _ (rows : List (List ℕ)) (pdr : List ℕ) where
   place-is : pdrEndpoint (viewPdr pdr) ≡ pick (eqb (getD pdr 12 0) 1) none (pick (eqb (getD pdr 12 0) 2) (some (getD pdr 18 0)) none)
@@ -99,29 +74,63 @@ module _ (rows : List (List ℕ)) (pdr : List ℕ) where
       one false true = refl
       one false false = refl
 
-  pub gone-other : (getD pdr 12 0 ≡ 2 → ⊥) → namesGone rows (viewPdr pdr) ≡ false
-  unfolding namesGone namedIn
-  gone-other h = rw (place-is, ne-eqb (getD pdr 12 0) 2 h, none-none (eqb (getD pdr 12 0) 1)) (and-false (not (member (viewPdr pdr .id) (column ie.removePdr its.pdrId rows))))
+  goes-is : goesPdr (requestOf false rows) (viewPdr pdr) ≡ (member (number (part 0 2 pdr)) (column ie.removePdr its.pdrId rows) || namesOneOf (column ie.removeEndpoint its.endpointId rows) (pdrEndpoint (viewPdr pdr)))
+  unfolding goesPdr
+  goes-is =
+      ap₂ (λ (g e : List ℕ). member (viewPdr pdr .id) g || namesOneOf e (pdrEndpoint (viewPdr pdr))) (gone-pdrs 0 false false rows) (gone-endpoints 0 false false rows)
+      ∙ ap (λ (k : ℕ). member k (column ie.removePdr its.pdrId rows) || namesOneOf (column ie.removeEndpoint its.endpointId rows) (pdrEndpoint (viewPdr pdr))) (id-is pdr)
 
-  pub gone-endpoint : getD pdr 12 0 ≡ 2 → namesGone rows (viewPdr pdr) ≡ (not (member (number (part 0 2 pdr)) (column ie.removePdr its.pdrId rows)) && member (getD pdr 18 0) (column ie.removeEndpoint its.endpointId rows))
-  unfolding namesGone namedIn
-  gone-endpoint h = rw (place-is, h) (unfold viewPdr pdrFrom fieldsAt in refl)
+  module _ (id : ℕ) (e : id ≡ number (part 0 2 pdr)) where
+    pub goes-named : member id (column ie.removePdr its.pdrId rows) ≡ true → goesPdr (requestOf false rows) (viewPdr pdr) ≡ true
+    goes-named h = goes-is ∙ rw (← e, h)
 
-  pub gone-not : getD pdr 12 0 ≡ 2 → member (getD pdr 18 0) (column ie.removeEndpoint its.endpointId rows) ≡ false → namesGone rows (viewPdr pdr) ≡ false
-  gone-not h g = gone-endpoint h ∙ rw g (and-false (not (member (number (part 0 2 pdr)) (column ie.removePdr its.pdrId rows))))
+    module _ (h : member id (column ie.removePdr its.pdrId rows) ≡ false) where
+      pub goes-not : (getD pdr 12 0 ≡ 2 → ⊥) → goesPdr (requestOf false rows) (viewPdr pdr) ≡ false
+      unfolding namesOneOf
+      goes-not g = goes-is ∙ rw (← e, h, place-is, ne-eqb (getD pdr 12 0) 2 g, none-none (eqb (getD pdr 12 0) 1))
 
-  pub gone-stays : (id : ℕ) → getD pdr 12 0 ≡ 2 → member (getD pdr 18 0) (column ie.removeEndpoint its.endpointId rows) ≡ true → id ≡ number (part 0 2 pdr)
-      → not (member id (column ie.removePdr its.pdrId rows)) ≡ namesGone rows (viewPdr pdr)
-  gone-stays id h g e = sym (gone-endpoint h ∙ rw (g, ← e) (and-true (not (member id (column ie.removePdr its.pdrId rows)))))
+      pub goes-along : getD pdr 12 0 ≡ 2 → goesPdr (requestOf false rows) (viewPdr pdr) ≡ member (getD pdr 18 0) (column ie.removeEndpoint its.endpointId rows)
+      unfolding namesOneOf
+      goes-along g = goes-is ∙ rw (← e, h, place-is, g)
 
--- ---- the walk over a slot's PDRs
+-- ---- the IDs of the PDRs that go
+
+-- the request's SEID, restoration and element 129 do not matter
+pub removed-rows : (seid : ℕ) (restoring noted : Bool) (rows : List (List ℕ)) (ps : List Pdr) → removedPdrs (requestIn seid restoring noted rows) ps ≡ removedPdrs (requestOf false rows) ps
+unfolding removedPdrs goesPdr requestIn
+removed-rows seid restoring noted rows ps = refl
+
+module _ (rows : List (List ℕ)) where
+  -- among the PDRs of an area's octets
+  abbrev pub goneIn : ℕ → List ℕ → List ℕ
+  goneIn n area = removedPdrs (requestOf false rows) (map viewPdr (slices pdrWidth n area))
+
+  pub gone-none : (s : List ℕ) (left : ℕ) → left ≤ 0 → goneIn left s ≡ []
+  unfolding removedPdrs keep
+  gone-none s left h =
+      let e : left ≡ 0 = omega arith in
+      rw (e, rows-none pdrWidth s)
+
+  gone-first : (s : List ℕ) (left : ℕ) → 0 < left
+      → goneIn left s ≡ map pdrId (pick (goesPdr (requestOf false rows) (viewPdr (take pdrWidth s))) (viewPdr (take pdrWidth s) ∷ keep (goesPdr (requestOf false rows)) (map viewPdr (slices pdrWidth (left - 1) (drop pdrWidth s)))) (keep (goesPdr (requestOf false rows)) (map viewPdr (slices pdrWidth (left - 1) (drop pdrWidth s)))))
+  unfolding removedPdrs keep
+  gone-first s left h = rw (rows-more pdrWidth left s h)
+
+  module _ (s : List ℕ) (left : ℕ) (h : 0 < left) where
+    pub gone-hit : goesPdr (requestOf false rows) (viewPdr (take pdrWidth s)) ≡ true → goneIn left s ≡ number (part 0 2 (take pdrWidth s)) ∷ goneIn (left - 1) (take (length s - pdrWidth) (drop pdrWidth s))
+    unfolding removedPdrs
+    gone-hit e = gone-first s left h ∙ rw (e, left-part s pdrWidth, ← id-is (take pdrWidth s))
+
+    pub gone-miss : goesPdr (requestOf false rows) (viewPdr (take pdrWidth s)) ≡ false → goneIn left s ≡ goneIn (left - 1) (take (length s - pdrWidth) (drop pdrWidth s))
+    unfolding removedPdrs
+    gone-miss e = gone-first s left h ∙ rw (e, left-part s pdrWidth)
+
+  pub gone-slot : (slot : List ℕ) → goneIn (getD slot pdrCountAt 0) (take (length slot - pdrsAt) (drop pdrsAt slot)) ≡ removedPdrs (requestOf false rows) (viewSession slot .pdrs)
+  unfolding viewSession viewArea octetAt
+  gone-slot slot = rw (left-part slot pdrsAt)
 
 pub pdrs-fit : (slot : List ℕ) → Slot slot → getD slot pdrCountAt 0 * pdrWidth ≤ length (take (length slot - pdrsAt) (drop pdrsAt slot))
 pdrs-fit slot h = rw (left-part slot 11, length-drop pdrsAt slot) (omega arith)
-
-pub use-start : (slot : List ℕ) (seid : ℕ) (restoring noted : Bool) (rows : List (List ℕ))
-    → any (λ xs. namesGone rows (viewPdr xs)) (slices pdrWidth (getD slot pdrCountAt 0) (take (length slot - pdrsAt) (drop pdrsAt slot))) ≡ endpointInUse (viewSession slot) (requestIn seid restoring noted rows)
-use-start slot seid restoring noted rows = rw (left-part slot pdrsAt) (sym (use-slot slot seid restoring noted rows))
 
 -- ---- live IDs as they were stored in an array
 

@@ -18,8 +18,8 @@ use Rattle.rules.specs.Model.{Settings, Session, Sessions, freeCount}
 use Rattle.rules.specs.Layout.{viewSettings, viewSession, viewSessions, viewArea, viewPdr, viewEndpoint, pdrWidth, endpointWidth, settingsWidth, pdrCountAt, endpointCountAt, pdrsAt, endpointsAt}
 use Rattle.rules.specs.Grants.{need}
 use Rattle.rules.specs.Reading.{Request}
-use Rattle.rules.specs.Stages.{tooManySessions, tooManyPdrs, tooManyEndpoints, tooFewTeids, noRoom}
-use Rattle.plan.specs.Rows.{tagged, hasTag, rowsOf, rowPdr, rowEndpoint, rowPdrId, rowEndpointId, requestIn}
+use Rattle.rules.specs.Stages.{removedPdrs, tooManySessions, tooManyPdrs, tooManyEndpoints, tooFewTeids, noRoom}
+use Rattle.plan.specs.Rows.{tagged, hasTag, rowsOf, rowPdr, rowEndpoint, rowEndpointId, requestIn}
 use Rattle.rules.specs.Types as ie
 use Rattle.rules.specs.Message.{establishment}
 use Rattle.rows.specs.declared.Unit.{Unit}
@@ -98,15 +98,17 @@ too-many-none live limit g n h = let e : n ≡ live - g + n = omega arith in ap 
 -- ---- cause 75
 
 module _ (slot : List ℕ) (seid : ℕ) (restoring noted : Bool) (rows : List (List ℕ)) where
-  pub many-pdrs : tooManyPdrs (viewSession slot) (requestIn seid restoring noted rows) ≡ ltb 16 (getD slot pdrCountAt 0 - length (tagged ie.removePdr rows) + length (tagged ie.createPdr rows))
+  pub many-pdrs : (gone : List ℕ) → gone ≡ removedPdrs (requestIn seid restoring noted rows) (viewSession slot .pdrs)
+      → tooManyPdrs (viewSession slot) (requestIn seid restoring noted rows) ≡ ltb 16 (getD slot pdrCountAt 0 - length gone + length (tagged ie.createPdr rows))
   unfolding tooManyPdrs viewSession viewArea requestIn octetAt
-  many-pdrs =
-      rw (length-map (slices pdrWidth (getD slot pdrCountAt 0) (drop pdrsAt slot)) viewPdr, slices-length pdrWidth (getD slot pdrCountAt 0) (drop pdrsAt slot), length-map (tagged ie.removePdr rows) rowPdrId, length-map (tagged ie.createPdr rows) rowPdr)
+  many-pdrs gone e =
+      rw (e, length-map (slices pdrWidth (getD slot pdrCountAt 0) (drop pdrsAt slot)) viewPdr, slices-length pdrWidth (getD slot pdrCountAt 0) (drop pdrsAt slot), length-map (tagged ie.createPdr rows) rowPdr)
 
-  pub many-endpoints : tooManyEndpoints (viewSession slot) (requestIn seid restoring noted rows) ≡ ltb 8 (getD slot endpointCountAt 0 - length (tagged ie.removeEndpoint rows) + length (tagged ie.createEndpoint rows))
+  pub many-endpoints : (gone : ℕ) → gone ≡ length (tagged ie.removeEndpoint rows)
+      → tooManyEndpoints (viewSession slot) (requestIn seid restoring noted rows) ≡ ltb 8 (getD slot endpointCountAt 0 - gone + length (tagged ie.createEndpoint rows))
   unfolding tooManyEndpoints viewSession viewArea requestIn octetAt
-  many-endpoints =
-      rw (length-map (slices endpointWidth (getD slot endpointCountAt 0) (drop endpointsAt slot)) viewEndpoint, slices-length endpointWidth (getD slot endpointCountAt 0) (drop endpointsAt slot), length-map (tagged ie.removeEndpoint rows) rowEndpointId, length-map (tagged ie.createEndpoint rows) rowEndpoint)
+  many-endpoints gone e =
+      rw (e, length-map (slices endpointWidth (getD slot endpointCountAt 0) (drop endpointsAt slot)) viewEndpoint, slices-length endpointWidth (getD slot endpointCountAt 0) (drop endpointsAt slot), length-map (tagged ie.removeEndpoint rows) rowEndpointId, length-map (tagged ie.createEndpoint rows) rowEndpoint)
 
 -- the tests one after the other
 module _ (limit kind : ℕ) (s : Settings) (m : Sessions) (x : Session) (r : Request) where

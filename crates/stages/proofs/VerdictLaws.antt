@@ -12,7 +12,7 @@ use Rattle.rules.specs.Message.{establishment}
 use Rattle.rules.specs.Reading.{Request}
 use Rattle.rules.specs.Layout.{viewSettings, viewSession, viewSessions}
 use Rattle.rules.specs.Grants.{need}
-use Rattle.rules.specs.Stages.{isLive, invalidAllocation, breaksRule, tooManySessions, tooManyPdrs, tooManyEndpoints, tooFewTeids, noRoom, judge, plain}
+use Rattle.rules.specs.Stages.{isLive, goesPdr, removedPdrs, invalidAllocation, breaksRule, tooManySessions, tooManyPdrs, tooManyEndpoints, tooFewTeids, noRoom, judge, plain}
 use Rattle.rules.specs.Causes as why
 use Rattle.plan.specs.Rows.{rowsOf, requestIn}
 use Rattle.rows.specs.RowRules.{heldIn}
@@ -23,7 +23,7 @@ use Rattle.stages.proofs.CauseLaws.{breaks-by, map-agrees, rule-rows}
 
 -- the request's SEID, restoration and element 129 do not matter to cause 75
 pdrs-same : (x : Session) (seid : ℕ) (restoring noted : Bool) (rows : List (List ℕ)) → tooManyPdrs x (requestIn 0 false false rows) ≡ tooManyPdrs x (requestIn seid restoring noted rows)
-unfolding tooManyPdrs requestIn
+unfolding tooManyPdrs removedPdrs goesPdr requestIn
 pdrs-same x seid restoring noted rows = refl
 
 endpoints-same : (x : Session) (seid : ℕ) (restoring noted : Bool) (rows : List (List ℕ)) → tooManyEndpoints x (requestIn 0 false false rows) ≡ tooManyEndpoints x (requestIn seid restoring noted rows)
@@ -86,7 +86,7 @@ module _ (a b c d e : Bool) where
           unfolding chain
           is-1 h = rw (p, q, r, s, h)
 
-module _ {t taken slot plan : List ℕ} {n free kind seid : ℕ} {live : Bool} (restoring noted : Bool) (known : AtEntry t taken slot plan n free kind seid live) where
+module _ {t taken slot gone plan : List ℕ} {n free kind seid : ℕ} {live : Bool} (restoring noted : Bool) (known : AtEntry t taken slot gone plan n free kind seid live) where
   live-same : (eqb kind establishment && live) ≡ (eqb kind establishment && isLive seid (viewSessions t))
   live-same = one (eqb kind establishment) refl
     where

@@ -1,4 +1,5 @@
--- The rules of cause 73 as they meet one row of a plan, given the IDs of the session's live PDRs and endpoints, and all rows.
+-- The rules of cause 73 as they meet one row of a plan, given the IDs of the session's live PDRs and endpoints, those of its PDRs that go, and
+-- all rows.
 -- Assumes nothing.
 use Prim.Native.Nat.{ℕ}
 use mathlib.Core.Bool.{Bool, false, not, _&&_, _||_}
@@ -7,7 +8,7 @@ use mathlib.Core.List.{List, [], _∷_, _++_}
 use Rattle.octets.specs.Choice.{oneOf}
 use Rattle.octets.specs.Lists.{member, any, without}
 use Rattle.lists.specs.Rows.{column}
-use Rattle.rules.specs.Model.{Settings, Pdr, pdrEndpoint}
+use Rattle.rules.specs.Model.{Settings}
 use Rattle.rules.specs.Stages.{namesBoth, namedEndpoint, lacksFamily, strange}
 use Rattle.plan.specs.Rows.{word, hasTag, rowPdr}
 use Rattle.rules.specs.Types as ie
@@ -24,8 +25,8 @@ namesDead pdrs endpoints row =
     oneOf ((hasTag ie.removePdr row && not (member (word its.pdrId row) pdrs)) ∷ (hasTag ie.removeEndpoint row && not (member (word its.endpointId row) endpoints)) ∷ (hasTag ie.updatePdr row && not (member (word its.pdrId row) pdrs)) ∷ [])
 
 -- an update of a removed PDR
-unfoldable pub updatesGone : List (List ℕ) → List ℕ → Bool
-updatesGone rows row = hasTag ie.updatePdr row && member (word its.pdrId row) (column ie.removePdr its.pdrId rows)
+unfoldable pub updatesGone : List ℕ → List ℕ → Bool
+updatesGone gone row = hasTag ie.updatePdr row && member (word its.pdrId row) gone
 
 -- F-TEID and endpoint ID in one PDI
 unfoldable pub pdiNamesBoth : List ℕ → Bool
@@ -40,9 +41,9 @@ unfoldable pub pdiNamesAbsent : List ℕ → List (List ℕ) → List ℕ → Bo
 pdiNamesAbsent endpoints rows row = hasTag ie.createPdr row && absentFrom (without endpoints (column ie.removeEndpoint its.endpointId rows) ++ column ie.createEndpoint its.endpointId rows) (namedEndpoint (rowPdr row))
 
 -- the rules on a row's IDs
-unfoldable pub breaksId : List ℕ → List ℕ → List (List ℕ) → List ℕ → Bool
-breaksId pdrs endpoints rows row =
-    oneOf (createsLive pdrs endpoints row ∷ namesDead pdrs endpoints row ∷ updatesGone rows row ∷ pdiNamesBoth row ∷ pdiNamesAbsent endpoints rows row ∷ [])
+unfoldable pub breaksId : List ℕ → List ℕ → List ℕ → List (List ℕ) → List ℕ → Bool
+breaksId pdrs endpoints gone rows row =
+    oneOf (createsLive pdrs endpoints row ∷ namesDead pdrs endpoints row ∷ updatesGone gone row ∷ pdiNamesBoth row ∷ pdiNamesAbsent endpoints rows row ∷ [])
 
 -- the rules on a row's F-TEID, with a test of the TEIDs that are held
 unfoldable pub breaksFteid : (ℕ → Bool) → Settings → List ℕ → Bool
@@ -54,13 +55,5 @@ someRow p [] = false
 someRow p (row ∷ later) = oneOf (p row ∷ any (disagree row) later ∷ someRow p later ∷ [])
 
 -- the rules on rows
-unfoldable pub breaksRow : (ℕ → Bool) → Settings → List ℕ → List ℕ → List (List ℕ) → List ℕ → Bool
-breaksRow held s pdrs endpoints rows row = breaksId pdrs endpoints rows row || breaksFteid held s row
-
--- a live PDR that stays and names an endpoint that is removed
-unfoldable pub namedIn : List ℕ → Option ℕ → Bool
-namedIn ids none = false
-namedIn ids (some e) = member e ids
-
-unfoldable pub namesGone : List (List ℕ) → Pdr → Bool
-namesGone rows p = not (member (p .id) (column ie.removePdr its.pdrId rows)) && namedIn (column ie.removeEndpoint its.endpointId rows) (pdrEndpoint p)
+unfoldable pub breaksRow : (ℕ → Bool) → Settings → List ℕ → List ℕ → List ℕ → List (List ℕ) → List ℕ → Bool
+breaksRow held s pdrs endpoints gone rows row = breaksId pdrs endpoints gone rows row || breaksFteid held s row

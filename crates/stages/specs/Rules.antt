@@ -1,19 +1,20 @@
 -- Cause 73 with a test in place of the list of held TEIDs, and what is known of table, map and slot before stages 4 and 5. Assumes nothing.
 use Prim.Native.Nat.{ℕ, _+_, _*_, _≤_, _<_}
 use mathlib.Core.Path.{_≡_}
-use mathlib.Core.Bool.{Bool, not, _||_}
+use mathlib.Core.Bool.{Bool, false, not, _||_}
 use mathlib.Core.List.{List}
 use lib.ListN.{length, getD}
 use Rattle.octets.specs.Choice.{oneOf}
 use Rattle.octets.specs.Lists.{member, any, allPairs}
 use Rattle.rules.specs.Limits.{maxPdrs, maxEndpoints}
-use Rattle.rules.specs.Layout.{viewSettings, viewSessions, headWidth, pdrCountAt, endpointCountAt, sessionWidth}
+use Rattle.rules.specs.Layout.{viewSettings, viewSession, viewSessions, headWidth, pdrCountAt, endpointCountAt, sessionWidth}
 use Rattle.rules.specs.Model.{Settings, Session, teidOf, heldTeids, freeCount}
-use Rattle.plan.specs.Rows.{rowWidth}
+use Rattle.plan.specs.Rows.{rowWidth, rowsOf}
+use Rattle.rows.specs.RowRules.{requestOf}
 use Rattle.pool.specs.Map.{marked}
 use Rattle.rules.specs.Reading.{Request}
 use Rattle.rules.specs.Sound.{agree}
-use Rattle.rules.specs.Stages.{isLive, requestRules, restoredHoldings}
+use Rattle.rules.specs.Stages.{isLive, removedPdrs, requestRules, restoredHoldings}
 use Rattle.rules.specs.Message.{establishment}
 
 -- a restored TEID that is held, or shared against the table's rule
@@ -29,12 +30,17 @@ pub record Slot (slot : List ℕ) : Type 0 where
   pub pdrs : getD slot pdrCountAt 0 ≤ maxPdrs
   pub endpoints : getD slot endpointCountAt 0 ≤ maxEndpoints
 
+-- the IDs of the PDRs in the slot that the request of some rows removes
+abbrev pub Gone : List ℕ → List (List ℕ) → List ℕ → Type 0
+Gone slot rows gone = gone ≡ removedPdrs (requestOf false rows) (viewSession slot .pdrs)
+
 -- What is known before stages 4 and 5: the table's settings and session count can be read, the map has a bit for each TEID of the pool,
--- set where a session holds the TEID, the free count is 01's, and for an establishment (50) it is known whether the SEID is live.
-pub record AtEntry (t taken slot plan : List ℕ) (n free kind seid : ℕ) (live : Bool) : Type 0 where
+-- set where a session holds the TEID, the removed PDRs are the rules', the free count is 01's, and for an establishment (50) it is known whether the SEID is live.
+pub record AtEntry (t taken slot gone plan : List ℕ) (n free kind seid : ℕ) (live : Bool) : Type 0 where
   pub long : headWidth ≤ length t
   pub place : Slot slot
   pub rows : n * rowWidth ≤ length plan
+  pub removed : Gone slot (rowsOf n plan) gone
   pub wide : viewSettings t .size ≤ 64 * length taken
   pub marks : (i : ℕ) → i < viewSettings t .size → marked taken i ≡ member (viewSettings t .first + i) (heldTeids (viewSessions t))
   pub count : free ≡ freeCount (viewSettings t) (viewSessions t)

@@ -1,4 +1,5 @@
-// Stages 4 and 5 of a request: the causes 64, 71, 76, 73 and 75, judged on the plan's rows and the session's slot at entry. Nothing is written here.
+// Stages 4 and 5 of a request: the causes 64, 71, 76, 73 and 75, judged on the plan's rows, the session's slot at entry and the IDs of its PDRs
+// that go. Nothing is written here.
 ghost use mathlib.Core.Path.{_≡_};
 ghost use mathlib.Core.Bool.{false, _&&_};
 ghost use Prim.Native.Nat.{_*_, _+_, _-_, _≤_};
@@ -13,7 +14,7 @@ ghost use Rattle.plan.specs.Rows.{rowWidth, rowsOf, tagged, requestIn};
 ghost use Rattle.rows.specs.RowRules.{requestOf, heldIn};
 ghost use Rattle.rows.specs.Units.{settingsOf};
 ghost use Rattle.stages.specs.RowRules.{breaksRow, someRow};
-ghost use Rattle.stages.specs.Rules.{Slot, AtEntry, breaksRuleBy};
+ghost use Rattle.stages.specs.Rules.{Slot, Gone, AtEntry, breaksRuleBy};
 
 pub mod row;
 pub mod session;
@@ -50,11 +51,12 @@ fn breaks_rows(
     n: usize,
     pdrs: &[u64],
     endpoints: &[u64],
+    gone: &[u64],
     u: Unit,
     taken: &[u64],
 ) -> bool
     requires { ⌜ (n * rowWidth ≤ length (now plan)) × (u .size ≤ 64 * length (now taken)) ⌝ }
-    ensures { λ r. ⌜ r ≡ someRow (breaksRow (heldIn (settingsOf u) (now (taken .entry))) (settingsOf u) (now (pdrs .entry)) (now (endpoints .entry)) (rowsOf n (now (plan .entry)))) (rowsOf n (now (plan .entry))) ⌝ }
+    ensures { λ r. ⌜ r ≡ someRow (breaksRow (heldIn (settingsOf u) (now (taken .entry))) (settingsOf u) (now (pdrs .entry)) (now (endpoints .entry)) (now (gone .entry)) (rowsOf n (now (plan .entry)))) (rowsOf n (now (plan .entry))) ⌝ }
 {
     let mut rest = plan;
     let mut left = n;
@@ -62,7 +64,7 @@ fn breaks_rows(
         let row = &rest[..format::ROW];
         rest = &rest[format::ROW..];
         left -= 1;
-        if row::breaks_id(row, plan, n, pdrs, endpoints) {
+        if row::breaks_id(row, plan, n, pdrs, endpoints, gone) {
             return true;
         }
         if row::breaks_fteid(row, u, taken) {
@@ -76,8 +78,15 @@ fn breaks_rows(
 }
 
 // Cause 73: is a rule broken?
-pub fn breaks_rule(t: &[u8], taken: &[u64], slot: &[u8], plan: &[u64], n: usize) -> bool
-    requires { ⌜ (settingsWidth ≤ length (now t)) × (viewSettings (now t) .size ≤ 64 * length (now taken)) × Slot (now slot) × (n * rowWidth ≤ length (now plan)) ⌝ }
+pub fn breaks_rule(
+    t: &[u8],
+    taken: &[u64],
+    slot: &[u8],
+    gone: &[u64],
+    plan: &[u64],
+    n: usize,
+) -> bool
+    requires { ⌜ (settingsWidth ≤ length (now t)) × (viewSettings (now t) .size ≤ 64 * length (now taken)) × Slot (now slot) × (n * rowWidth ≤ length (now plan)) × Gone (now slot) (rowsOf n (now plan)) (now gone) ⌝ }
     ensures { λ r. ⌜ r ≡ breaksRuleBy (heldIn (viewSettings (now (t .entry))) (now (taken .entry))) (viewSettings (now (t .entry))) (viewSession (now (slot .entry))) (requestOf false (rowsOf n (now (plan .entry)))) ⌝ }
 {
     let k = slot[format::PDR_COUNT] as usize;
@@ -93,18 +102,14 @@ pub fn breaks_rule(t: &[u8], taken: &[u64], slot: &[u8], plan: &[u64], n: usize)
         &mut endpoints,
     );
     let u = unit(t);
-    if breaks_rows(plan, n, &pdrs[..k], &endpoints[..j], u, taken) {
-        return true;
-    }
-    session::endpoint_in_use(slot, plan, n)
+    breaks_rows(plan, n, &pdrs[..k], &endpoints[..j], gone, u, taken)
 }
 
 // Would more records result than there is room for? Live ones less those removed, plus those created.
-fn too_many(live: usize, limit: usize, plan: &[u64], n: usize, gone: u64, new: u64) -> bool
+fn too_many(live: usize, limit: usize, removed: usize, plan: &[u64], n: usize, new: u64) -> bool
     requires { ⌜ (live ≤ 255) × (n * rowWidth ≤ length (now plan)) ⌝ }
-    ensures { λ r. ⌜ r ≡ ltb limit (live - length (tagged gone (rowsOf n (now (plan .entry)))) + length (tagged new (rowsOf n (now (plan .entry))))) ⌝ }
+    ensures { λ r. ⌜ r ≡ ltb limit (live - removed + length (tagged new (rowsOf n (now (plan .entry))))) ⌝ }
 {
-    let removed = rows::count(plan, n, gone);
     let created = rows::count(plan, n, new);
     if live < removed {
         return limit < created;
@@ -124,8 +129,16 @@ fn full(t: &[u8], kind: u64) -> bool
 }
 
 // Cause 75: more than 64 sessions, 16 PDRs or 8 endpoints would result, or more TEIDs are needed than are free at entry.
-pub fn no_room(t: &[u8], free: usize, kind: u64, slot: &[u8], plan: &[u64], n: usize) -> bool
-    requires { ⌜ (headWidth ≤ length (now t)) × (free ≡ freeCount (viewSettings (now t)) (viewSessions (now t))) × Slot (now slot) × (n * rowWidth ≤ length (now plan)) ⌝ }
+pub fn no_room(
+    t: &[u8],
+    free: usize,
+    kind: u64,
+    slot: &[u8],
+    gone: &[u64],
+    plan: &[u64],
+    n: usize,
+) -> bool
+    requires { ⌜ (headWidth ≤ length (now t)) × (free ≡ freeCount (viewSettings (now t)) (viewSessions (now t))) × Slot (now slot) × (n * rowWidth ≤ length (now plan)) × Gone (now slot) (rowsOf n (now plan)) (now gone) ⌝ }
     ensures { λ r. ⌜ r ≡ noRoom maxSessions kind (viewSettings (now (t .entry))) (viewSessions (now (t .entry))) (viewSession (now (slot .entry))) (requestOf false (rowsOf n (now (plan .entry)))) ⌝ }
 {
     if full(t, kind) {
@@ -134,20 +147,20 @@ pub fn no_room(t: &[u8], free: usize, kind: u64, slot: &[u8], plan: &[u64], n: u
     if too_many(
         slot[format::PDR_COUNT] as usize,
         format::MAX_PDRS,
+        gone.len(),
         plan,
         n,
-        types::REMOVE_PDR,
-        types::CREATE_PDR,
+        1,
     ) {
         return true;
     }
     if too_many(
         slot[format::ENDPOINT_COUNT] as usize,
         format::MAX_ENDPOINTS,
+        rows::count(plan, n, types::REMOVE_ENDPOINT),
         plan,
         n,
-        types::REMOVE_ENDPOINT,
-        types::CREATE_ENDPOINT,
+        127,
     ) {
         return true;
     }
@@ -173,12 +186,13 @@ pub fn judge(
     seid: u64,
     live: bool,
     slot: &[u8],
+    gone: &[u64],
     plan: &[u64],
     n: usize,
     restoring: bool,
     noted: bool,
 ) -> u64
-    requires { ⌜ AtEntry (now t) (now taken) (now slot) (now plan) n free kind seid live ⌝ }
+    requires { ⌜ AtEntry (now t) (now taken) (now slot) (now gone) (now plan) n free kind seid live ⌝ }
     ensures { λ r. ⌜ r ≡ judge maxSessions kind (viewSettings (now (t .entry))) (viewSessions (now (t .entry))) (viewSession (now (slot .entry))) (requestIn seid restoring noted (rowsOf n (now (plan .entry)))) .cause ⌝ }
 {
     if already_live(kind, live) {
@@ -190,10 +204,10 @@ pub fn judge(
     if rows::unsupported(plan, n, noted) {
         return causes::NOT_SUPPORTED;
     }
-    if breaks_rule(t, taken, slot, plan, n) {
+    if breaks_rule(t, taken, slot, gone, plan, n) {
         return causes::BROKEN_RULE;
     }
-    if no_room(t, free, kind, slot, plan, n) {
+    if no_room(t, free, kind, slot, gone, plan, n) {
         return causes::NO_ROOM;
     }
     causes::ACCEPTED

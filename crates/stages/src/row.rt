@@ -1,4 +1,4 @@
-// The rules of cause 73 on one row: on its IDs, by the session's live IDs and the other rows, and on its F-TEID.
+// The rules of cause 73 on one row: on its IDs, by the session's live IDs, those of its PDRs that go and the other rows; and on its F-TEID.
 use format::types;
 use format::words;
 use rows::Unit;
@@ -42,20 +42,14 @@ fn absent_id(row: &[u64], pdrs: &[u64], endpoints: &[u64]) -> bool
 }
 
 // An update of a removed PDR.
-fn updates_removed(row: &[u64], plan: &[u64], n: usize) -> bool
-    requires { ⌜ (length (now row) ≡ rowWidth) × (n * rowWidth ≤ length (now plan)) ⌝ }
-    ensures { λ r. ⌜ r ≡ updatesGone (rowsOf n (now (plan .entry))) (now (row .entry)) ⌝ }
+fn updates_removed(row: &[u64], gone: &[u64]) -> bool
+    requires { ⌜ length (now row) ≡ rowWidth ⌝ }
+    ensures { λ r. ⌜ r ≡ updatesGone (now (gone .entry)) (now (row .entry)) ⌝ }
 {
     if row[words::TAG] != types::UPDATE_PDR {
         return false;
     }
-    rows::named(
-        plan,
-        n,
-        types::REMOVE_PDR,
-        words::PDR_ID,
-        row[words::PDR_ID],
-    )
+    lists::is_in(row[words::PDR_ID], gone)
 }
 
 // F-TEID and endpoint ID in one PDI.
@@ -94,9 +88,16 @@ fn names_absent(row: &[u64], plan: &[u64], n: usize, endpoints: &[u64]) -> bool
 }
 
 // The rules on a row's IDs.
-pub fn breaks_id(row: &[u64], plan: &[u64], n: usize, pdrs: &[u64], endpoints: &[u64]) -> bool
+pub fn breaks_id(
+    row: &[u64],
+    plan: &[u64],
+    n: usize,
+    pdrs: &[u64],
+    endpoints: &[u64],
+    gone: &[u64],
+) -> bool
     requires { ⌜ (length (now row) ≡ rowWidth) × (n * rowWidth ≤ length (now plan)) ⌝ }
-    ensures { λ r. ⌜ r ≡ breaksId (now (pdrs .entry)) (now (endpoints .entry)) (rowsOf n (now (plan .entry))) (now (row .entry)) ⌝ }
+    ensures { λ r. ⌜ r ≡ breaksId (now (pdrs .entry)) (now (endpoints .entry)) (now (gone .entry)) (rowsOf n (now (plan .entry))) (now (row .entry)) ⌝ }
 {
     if created_live(row, pdrs, endpoints) {
         return true;
@@ -104,7 +105,7 @@ pub fn breaks_id(row: &[u64], plan: &[u64], n: usize, pdrs: &[u64], endpoints: &
     if absent_id(row, pdrs, endpoints) {
         return true;
     }
-    if updates_removed(row, plan, n) {
+    if updates_removed(row, gone) {
         return true;
     }
     if names_both(row) {

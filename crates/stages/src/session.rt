@@ -1,4 +1,4 @@
-// The session at entry, in its slot: the IDs of its records, and the endpoints that its PDRs name.
+// The session at entry, in its slot: the IDs of its records, and of the PDRs that a request removes.
 use format::types;
 use format::words;
 ghost use mathlib.Core.Path.{_≡_};
@@ -8,11 +8,11 @@ ghost use Prim.Native.Nat.{_*_, _≤_};
 ghost use lib.ListN.{length};
 ghost use lib.Seq.{sets};
 ghost use Rattle.octets.specs.Octets.{numberAt, slices};
+ghost use Rattle.rules.specs.Limits.{maxPdrs};
 ghost use Rattle.rules.specs.Layout.{viewPdr, viewSession, pdrWidth};
-ghost use Rattle.rules.specs.Stages.{endpointInUse};
+ghost use Rattle.rules.specs.Stages.{goesPdr, removedPdrs};
 ghost use Rattle.plan.specs.Rows.{rowWidth, rowsOf};
 ghost use Rattle.rows.specs.RowRules.{requestOf};
-ghost use Rattle.stages.specs.RowRules.{namesGone};
 ghost use Rattle.stages.specs.Rules.{Slot};
 
 // Writes to out the ID of each of the n records of an area, which is the first idw of a record's octets.
@@ -31,40 +31,44 @@ pub fn ids(area: &[u8], n: usize, width: usize, idw: usize, out: &mut [u64])
     }
 }
 
-// Does a PDR that stays name an endpoint that is removed?
-fn names_removed(pdr: &[u8], plan: &[u64], n: usize) -> bool
+// Does a PDR go: is it named by Remove PDR, or its endpoint removed?
+fn goes(pdr: &[u8], plan: &[u64], n: usize) -> bool
     requires { ⌜ (length (now pdr) ≡ pdrWidth) × (n * rowWidth ≤ length (now plan)) ⌝ }
-    ensures { λ r. ⌜ r ≡ namesGone (rowsOf n (now (plan .entry))) (viewPdr (now (pdr .entry))) ⌝ }
+    ensures { λ r. ⌜ r ≡ goesPdr (requestOf false (rowsOf n (now (plan .entry)))) (viewPdr (now (pdr .entry))) ⌝ }
 {
+    let id = octets::read(pdr, 0, 2);
+    if rows::named(plan, n, types::REMOVE_PDR, words::PDR_ID, id) {
+        return true;
+    }
     if pdr[format::PLACE] != 2 {
         return false;
     }
-    if !rows::named(
+    rows::named(
         plan,
         n,
         types::REMOVE_ENDPOINT,
         words::ENDPOINT_ID,
         pdr[format::NAMED_ENDPOINT] as u64,
-    ) {
-        return false;
-    }
-    let id = octets::read(pdr, 0, 2);
-    !rows::named(plan, n, types::REMOVE_PDR, words::PDR_ID, id)
+    )
 }
 
-// A removed endpoint still named by a PDR.
-pub fn endpoint_in_use(slot: &[u8], plan: &[u64], n: usize) -> bool
-    requires { ⌜ Slot (now slot) × (n * rowWidth ≤ length (now plan)) ⌝ }
-    ensures { λ r. ⌜ r ≡ endpointInUse (viewSession (now (slot .entry))) (requestOf false (rowsOf n (now (plan .entry)))) ⌝ }
+// Writes to out the IDs of the PDRs that go, and says how many there are.
+pub fn removed(slot: &[u8], plan: &[u64], n: usize, out: &mut [u64]) -> usize
+    requires { ⌜ Slot (now slot) × (n * rowWidth ≤ length (now plan)) × (maxPdrs ≤ length (now out)) ⌝ }
+    ensures { λ r. ⌜ (r ≡ length (removedPdrs (requestOf false (rowsOf n (now (plan .entry)))) (viewSession (now (slot .entry)) .pdrs))) × (now (out .exit) ≡ sets (now (out .entry)) 0 (removedPdrs (requestOf false (rowsOf n (now (plan .entry)))) (viewSession (now (slot .entry)) .pdrs))) ⌝ }
 {
     let mut rest = &slot[format::PDRS..];
     let mut left = slot[format::PDR_COUNT] as usize;
+    let mut k: usize = 0;
     while 0 < left {
-        if names_removed(&rest[..format::PDR], plan, n) {
-            return true;
-        }
+        let pdr = &rest[..format::PDR];
         rest = &rest[format::PDR..];
         left -= 1;
+        if !goes(pdr, plan, n) {
+            continue;
+        }
+        out[k] = octets::read(pdr, 0, 2);
+        k += 1;
     }
-    false
+    k
 }

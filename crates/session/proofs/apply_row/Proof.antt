@@ -1,77 +1,41 @@
 use mathlib.Core.Path.{_≡_}
 use lib.ListN.{length}
-use Rattle.session.proofs.Steps.{pdrs-fit, endpoints-fit, pdr-wide, endpoint-wide, row-15, row-130, row-127, row-1, row-9, row-65, row-none}
+use Rattle.session.proofs.Steps.{pdrs-fit, endpoints-fit, pdr-wide, endpoint-wide, row-130, row-127, row-1, row-9, row-65, row-none}
 use borrow.Author.Needs.{needs}
 use Rattle.session.proofs.apply_row.Statement.{statement}
 use Rattle.session.proofs.apply_row.Tie as tie
 use Rattle.rules.specs.Layout.{pdrWidth}
 
--- src/lib.rt:66:16
--- src/lib.rt:68:40
--- src/lib.rt:68:56
--- src/lib.rt:68:15
 drop-record-requires : tie.Need-drop-record-requires
-drop-record-requires c κs = search pdrs-fit
+drop-record-requires c κs = search endpoints-fit
 
--- src/lib.rt:69:41
--- src/lib.rt:69:62
--- src/lib.rt:69:16
-drop-record-requires-2 : tie.Need-drop-record-requires-2
-drop-record-requires-2 c κs = search endpoints-fit
-
--- src/lib.rt:71:23
--- src/lib.rt:72:37
--- src/lib.rt:72:58
--- src/lib.rt:72:13
 put-record-requires : tie.Need-put-record-requires
 put-record-requires c κs =
     let n : length (c .before .before .before .endpoint .result) ≡ 6 = search needs in
     (search endpoints-fit, endpoint-wide _ _ (c .before .endpoints2 .ensures) n)
 
--- src/lib.rt:75:23
--- src/lib.rt:76:37
--- src/lib.rt:76:53
--- src/lib.rt:76:13
 put-record-requires-2 : tie.Need-put-record-requires-2
 put-record-requires-2 c κs =
     let n : length (c .before .before .before .pdr .result) ≡ pdrWidth = search needs in
-    (search pdrs-fit, pdr-wide _ _ (c .before .pdrs2 .ensures) n)
+    (search pdrs-fit, pdr-wide _ _ (c .before .pdrs .ensures) n)
 
--- src/lib.rt:78:14
--- src/lib.rt:79:15
--- src/lib.rt:62:1
--- src/lib.rt:62:1
 returns : tie.Need-returns
-returns c = search row-15
+returns c = search row-130
 
--- src/lib.rt:62:1
--- src/lib.rt:62:1
 returns-2 : tie.Need-returns-2
-returns-2 c = search row-130
+returns-2 c = search row-127
 
--- src/lib.rt:62:1
--- src/lib.rt:62:1
 returns-3 : tie.Need-returns-3
-returns-3 c = search row-127
+returns-3 c = search row-1
 
--- src/lib.rt:62:1
--- src/lib.rt:62:1
 returns-4 : tie.Need-returns-4
-returns-4 c = search row-1
+returns-4 c = search row-9
 
--- src/lib.rt:62:1
--- src/lib.rt:62:1
 returns-5 : tie.Need-returns-5
-returns-5 c = search row-9
+returns-5 c = search row-65
 
--- src/lib.rt:62:1
--- src/lib.rt:62:1
 returns-6 : tie.Need-returns-6
-returns-6 c = search row-65
-
--- src/lib.rt:62:1
-returns-7 : tie.Need-returns-7
-returns-7 c = row-none _ _ (c .match .rest .0 .0 .0 .0 .0 .1) (c .match .rest .0 .0 .0 .0 .1) (c .match .rest .0 .0 .0 .1) (c .match .rest .0 .0 .1) (c .match .rest .0 .1) (c .match .rest .1)
+returns-6 c = row-none _ _ (c .match .rest .0 .0 .0 .0 .1) (c .match .rest .0 .0 .0 .1) (c .match .rest .0 .0 .1) (c .match .rest .0 .1) (c .match .rest .1)
 
 pub apply-row-spec : {M : Type 1} → statement M
 apply-row-spec =
@@ -81,9 +45,6 @@ apply-row-spec =
     (λ c κs. search needs)
     (λ c. search needs)
     drop-record-requires
-    (λ c κs. search needs)
-    (λ c. search needs)
-    drop-record-requires-2
     (λ c κs. search needs)
     (λ c κs. search needs)
     (λ c. search needs)
@@ -104,6 +65,4 @@ apply-row-spec =
     returns-4
     (λ c. search needs)
     returns-5
-    (λ c. search needs)
-    returns-6
-    returns-7)
+    returns-6)

@@ -3,14 +3,6 @@ use borrow.Author.Needs.{needs}
 use Rattle.session.proofs.build.Statement.{statement}
 use Rattle.session.proofs.build.Tie as tie
 
--- src/lib.rt:106:5
--- src/lib.rt:107:5
--- src/lib.rt:108:5
--- src/lib.rt:109:5
--- src/lib.rt:110:5
--- src/lib.rt:111:5
--- src/lib.rt:102:1
--- src/lib.rt:102:1
 returns : tie.Need-returns
 returns c = search built-in-turn
 

@@ -6,41 +6,26 @@ use Rattle.session.proofs.follow_csid.Statement.{statement}
 use Rattle.session.proofs.follow_csid.Tie as tie
 use Rattle.rules.specs.Layout.{csidWidth}
 
--- src/lib.rt:45:16
--- src/lib.rt:46:9
--- src/lib.rt:48:19
--- src/lib.rt:49:36
--- src/lib.rt:49:9
 put-record-requires : tie.Need-put-record-requires
 put-record-requires c κs =
     let n : length (c .before .before .csid .result) ≡ csidWidth = search needs in
     (search csids-fit, csid-wide _ _ (c .before .before .before .before .csids .ensures) n)
 
--- src/lib.rt:50:9
--- src/lib.rt:50:9
 returns : tie.Need-returns
 returns c = search csid-set
 
--- src/lib.rt:53:37
--- src/lib.rt:53:9
 drop-record-requires : tie.Need-drop-record-requires
 drop-record-requires c κs = search csids-fit
 
--- src/lib.rt:54:9
--- src/lib.rt:54:9
 returns-2 : tie.Need-returns-2
 returns-2 c = search csid-removed
 
--- src/lib.rt:57:9
 clear-requires : tie.Need-clear-requires
 clear-requires c κs = search csids-fit
 
--- src/lib.rt:41:1
--- src/lib.rt:41:1
 returns-3 : tie.Need-returns-3
 returns-3 c = search csids-cleared
 
--- src/lib.rt:41:1
 returns-4 : tie.Need-returns-4
 returns-4 c = search csids-kept
 

@@ -11,72 +11,55 @@ Inv-loop slot₀ plan n kind i₀ slot i = Passing kind n plan slot₀ slot i
 abbrev μ-loop : tie.MeasureT-loop
 μ-loop slot₀ plan n kind i₀ slot i = n - i
 
--- src/lib.rt:90:5
 loop-holds : tie.Need-loop-holds Inv-loop μ-loop
 loop-holds c = search passing-none
 
--- src/lib.rt:91:18
 mul-at : tie.Need-mul-at Inv-loop μ-loop
 mul-at c = omega arith
 
--- src/lib.rt:92:19
 add-end : tie.Need-add-end Inv-loop μ-loop
 add-end c = omega arith
 
--- src/lib.rt:93:9
 add-i : tie.Need-add-i Inv-loop μ-loop
 add-i c = omega arith
 
--- src/lib.rt:94:12
 mul-if1 : tie.Need-mul-if1 Inv-loop μ-loop
 mul-if1 c = omega arith
 
--- src/lib.rt:94:12
 shared-slice-read-if1 : tie.Need-shared-slice-read-if1 Inv-loop μ-loop
 shared-slice-read-if1 c = omega arith
 
--- src/lib.rt:90:5
 loop-less : tie.Need-loop-less Inv-loop μ-loop
 loop-less c = omega arith
 
--- src/lib.rt:90:5
 loop-again : tie.Need-loop-again Inv-loop μ-loop
 loop-again c = passing-miss (c .before .before .before .loop .inv) (c .before .before .loop-test .taken) (c .if1 .taken)
 
--- src/lib.rt:97:25
 mul-apply-row : tie.Need-mul-apply-row Inv-loop μ-loop
 mul-apply-row c = omega arith
 
--- src/lib.rt:97:25
 sub-apply-row : tie.Need-sub-apply-row Inv-loop μ-loop
 sub-apply-row c = omega arith
 
--- src/lib.rt:97:25
 part-apply-row-start : tie.Need-part-apply-row-start Inv-loop μ-loop
 part-apply-row-start c = omega arith
 
--- src/lib.rt:97:25
 part-apply-row-end : tie.Need-part-apply-row-end Inv-loop μ-loop
 part-apply-row-end c = omega arith
 
--- src/lib.rt:97:9
 apply-row-requires : tie.Need-apply-row-requires Inv-loop μ-loop
 apply-row-requires c κs = omega arith
 
--- src/lib.rt:90:5
 loop-less-2 : tie.Need-loop-less-2 Inv-loop μ-loop
 loop-less-2 c = omega arith
 
--- src/lib.rt:90:5
 loop-again-2 : tie.Need-loop-again-2 Inv-loop μ-loop
 loop-again-2 c =
     passing-hit (c .before .before .before .before .before .before .before .before .loop .inv) (c .before .before .before .before .before .before .before .loop-test .taken) _ _ refl (c .before .before .before .before .before .if1 .left) (c .before .before .apply-row .kept .0) (c .before .before .apply-row .ensures)
 
--- src/lib.rt:85:1
 same-length : tie.Need-same-length Inv-loop μ-loop
 same-length c = omega arith
 
--- src/lib.rt:85:1
 returns : tie.Need-returns Inv-loop μ-loop
 returns c = passing-all (c .before .loop .inv) (c .loop-test .left)
 

@@ -6,28 +6,11 @@ use Rattle.session.proofs.update_at.Statement.{statement}
 use Rattle.session.proofs.update_at.Tie as tie
 use Rattle.rules.specs.Layout.{pdrWidth}
 
--- src/lib.rt:19:19
--- src/lib.rt:19:14
--- src/lib.rt:20:15
--- src/lib.rt:22:18
--- src/lib.rt:22:31
--- src/lib.rt:22:31
--- src/lib.rt:22:31
--- src/lib.rt:22:5
--- src/lib.rt:23:28
--- src/lib.rt:23:5
--- src/lib.rt:24:21
--- src/lib.rt:24:5
--- src/lib.rt:25:26
--- src/lib.rt:25:45
--- src/lib.rt:25:5
 replace-requires : tie.Need-replace-requires
 replace-requires c κs =
     let n : length (c .before .before .before .before .set-far .last .0) ≡ pdrWidth = search needs in
     (search pdrs-fit, search pdr-room, pdr-wide _ _ (c .before .pdrs .ensures) n)
 
--- src/lib.rt:15:1
--- src/lib.rt:15:1
 returns : tie.Need-returns
 returns c =
     let s = c .before .before .before .before .before .before .before .before .before .before .before .before .before .before .before .before .before .before .before in

@@ -3,25 +3,15 @@ use borrow.Author.Needs.{needs}
 use Rattle.session.proofs.update_pdr.Statement.{statement}
 use Rattle.session.proofs.update_pdr.Tie as tie
 
--- src/lib.rt:33:35
--- src/lib.rt:33:51
--- src/lib.rt:33:9
 find-requires : tie.Need-find-requires
 find-requires c κs = search pdrs-fit
 
--- src/lib.rt:34:22
--- src/lib.rt:35:9
--- src/lib.rt:35:9
--- src/lib.rt:35:9
 returns : tie.Need-returns
 returns c = search update-none
 
--- src/lib.rt:37:5
 update-at-requires : tie.Need-update-at-requires
 update-at-requires c κs = (search needs, search needs, search update-place)
 
--- src/lib.rt:29:1
--- src/lib.rt:29:1
 returns-2 : tie.Need-returns-2
 returns-2 c = search update-found
 

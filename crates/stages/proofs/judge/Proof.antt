@@ -8,13 +8,13 @@ use Rattle.stages.proofs.judge.Tie as tie
 
 returns : tie.Need-returns
 returns c =
-    let b = c .before .before .before .before .before .before in
+    let b = c .before .before .before .before .before .before .before in
     sym (verdict-is (b .args .restoring) (b .args .noted) (b .pre) ∙ is-64 _ _ _ _ _ (sym (c .before .already-live .ensures) ∙ c .if1 .taken))
 
 returns-2 : tie.Need-returns-2
 returns-2 c =
     let e = c .before .before in
-    let b = e .before .before .before .before .before .before in
+    let b = e .before .before .before .before .before .before .before in
     sym
     (verdict-is (b .args .restoring) (b .args .noted) (b .pre)
     ∙ is-71 _ _ _ _ _ (sym (e .before .already-live .ensures) ∙ e .if1 .left) (sym (c .before .invalid-allocation .ensures) ∙ c .if2 .taken))
@@ -23,22 +23,22 @@ returns-3 : tie.Need-returns-3
 returns-3 c =
     let f = c .before .before in
     let e = f .before .before in
-    let b = e .before .before .before .before .before .before in
+    let b = e .before .before .before .before .before .before .before in
     sym
     (verdict-is (b .args .restoring) (b .args .noted) (b .pre)
     ∙ is-76 _ _ _ _ _ (sym (e .before .already-live .ensures) ∙ e .if1 .left) (sym (f .before .invalid-allocation .ensures) ∙ f .if2 .left) (sym (c .before .unsupported .ensures) ∙ c .if3 .taken))
 
 breaks-rule-requires : tie.Need-breaks-rule-requires
 breaks-rule-requires c κs =
-    let b = c .before .before .before .before .before .before .before .before .before .before in
-    (omega arith, b .pre .wide, b .pre .place, b .pre .rows)
+    let b = c .before .before .before .before .before .before .before .before .before .before .before in
+    (omega arith, b .pre .wide, b .pre .place, b .pre .rows, b .pre .removed)
 
 returns-4 : tie.Need-returns-4
 returns-4 c =
     let g = c .before .before in
     let f = g .before .before in
     let e = f .before .before in
-    let b = e .before .before .before .before .before .before in
+    let b = e .before .before .before .before .before .before .before in
     sym
     (verdict-is (b .args .restoring) (b .args .noted) (b .pre)
     ∙ is-73 _ _ _ _ _ (sym (e .before .already-live .ensures) ∙ e .if1 .left) (sym (f .before .invalid-allocation .ensures) ∙ f .if2 .left) (sym (g .before .unsupported .ensures) ∙ g .if3 .left)
@@ -46,8 +46,8 @@ returns-4 c =
 
 no-room-requires : tie.Need-no-room-requires
 no-room-requires c κs =
-    let b = c .before .before .before .before .before .before .before .before .before .before .before .before in
-    (b .pre .long, b .pre .count, b .pre .place, b .pre .rows)
+    let b = c .before .before .before .before .before .before .before .before .before .before .before .before .before in
+    (b .pre .long, b .pre .count, b .pre .place, b .pre .rows, b .pre .removed)
 
 returns-5 : tie.Need-returns-5
 returns-5 c =
@@ -55,7 +55,7 @@ returns-5 c =
     let g = h .before .before in
     let f = g .before .before in
     let e = f .before .before in
-    let b = e .before .before .before .before .before .before in
+    let b = e .before .before .before .before .before .before .before in
     sym
     (verdict-is (b .args .restoring) (b .args .noted) (b .pre)
     ∙ is-75 _ _ _ _ _ (sym (e .before .already-live .ensures) ∙ e .if1 .left) (sym (f .before .invalid-allocation .ensures) ∙ f .if2 .left) (sym (g .before .unsupported .ensures) ∙ g .if3 .left)
@@ -67,7 +67,7 @@ returns-6 c =
     let g = h .before .before in
     let f = g .before .before in
     let e = f .before .before in
-    let b = e .before .before .before .before .before .before in
+    let b = e .before .before .before .before .before .before .before in
     sym
     (verdict-is (b .args .restoring) (b .args .noted) (b .pre)
     ∙ is-1 _ _ _ _ _ (sym (e .before .already-live .ensures) ∙ e .if1 .left) (sym (f .before .invalid-allocation .ensures) ∙ f .if2 .left) (sym (g .before .unsupported .ensures) ∙ g .if3 .left)

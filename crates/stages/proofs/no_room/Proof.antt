@@ -13,7 +13,7 @@ shared-slice-read-too-many : tie.Need-shared-slice-read-too-many
 shared-slice-read-too-many c = omega arith
 
 cast-too-many : tie.Need-cast-too-many
-cast-too-many c = omega (arith, c .shared-slice-known4 .given 8)
+cast-too-many c = omega (arith, c .shared-slice-known5 .given 8)
 
 too-many-requires : tie.Need-too-many-requires
 too-many-requires c κs = (omega arith, search needs)
@@ -21,34 +21,39 @@ too-many-requires c κs = (omega arith, search needs)
 returns-2 : tie.Need-returns-2
 returns-2 c =
     let e = c .before .before .before in
-    sym (room-2 _ _ _ _ _ _ (sym (e .before .full .ensures) ∙ e .if1 .left) (many-pdrs _ _ _ _ _ ∙ sym (c .before .too-many .ensures) ∙ c .if2 .taken))
+    let b = e .before .before .before .before .before .before in
+    sym (room-2 _ _ _ _ _ _ (sym (e .before .full .ensures) ∙ e .if1 .left) (many-pdrs _ _ _ _ _ _ (b .pre .4) ∙ sym (c .before .too-many .ensures) ∙ c .if2 .taken))
 
 shared-slice-read-too-many-2 : tie.Need-shared-slice-read-too-many-2
 shared-slice-read-too-many-2 c = omega arith
 
 cast-too-many-2 : tie.Need-cast-too-many-2
-cast-too-many-2 c = omega (arith, c .shared-slice-known5 .given 9)
+cast-too-many-2 c = omega (arith, c .shared-slice-known6 .given 9)
 
 too-many-requires-2 : tie.Need-too-many-requires-2
 too-many-requires-2 c κs = (omega arith, search needs)
 
 returns-3 : tie.Need-returns-3
 returns-3 c =
-    let f = c .before .before .before in
+    let k = c .before .before in
+    let f = k .before .before in
     let e = f .before .before .before in
+    let b = e .before .before .before .before .before .before in
     sym
-    (room-3 _ _ _ _ _ _ (sym (e .before .full .ensures) ∙ e .if1 .left) (many-pdrs _ _ _ _ _ ∙ sym (f .before .too-many .ensures) ∙ f .if2 .left)
-    (many-endpoints _ _ _ _ _ ∙ sym (c .before .too-many2 .ensures) ∙ c .if3 .taken))
+    (room-3 _ _ _ _ _ _ (sym (e .before .full .ensures) ∙ e .if1 .left) (many-pdrs _ _ _ _ _ _ (b .pre .4) ∙ sym (f .before .too-many .ensures) ∙ f .if2 .left)
+    (many-endpoints _ _ _ _ _ _ (k .count .ensures) ∙ sym (c .before .too-many2 .ensures) ∙ c .if3 .taken))
 
 returns-4 : tie.Need-returns-4
 returns-4 c =
     let g = c .before in
-    let f = g .before .before .before in
+    let k = g .before .before in
+    let f = k .before .before in
     let e = f .before .before .before in
-    room-4 _ _ _ _ _ _ (sym (e .before .full .ensures) ∙ e .if1 .left) (many-pdrs _ _ _ _ _ ∙ sym (f .before .too-many .ensures) ∙ f .if2 .left) _ _
-    (many-endpoints _ _ _ _ _ ∙ sym (g .before .too-many2 .ensures) ∙ g .if3 .left)
-    (e .before .before .before .before .before .pre .1)
+    let b = e .before .before .before .before .before .before in
+    room-4 _ _ _ _ _ _ (sym (e .before .full .ensures) ∙ e .if1 .left) (many-pdrs _ _ _ _ _ _ (b .pre .4) ∙ sym (f .before .too-many .ensures) ∙ f .if2 .left) _ _
+    (many-endpoints _ _ _ _ _ _ (k .count .ensures) ∙ sym (g .before .too-many2 .ensures) ∙ g .if3 .left)
+    (b .pre .1)
     (c .need .ensures)
 
 pub no-room-spec : {M : Type 1} → statement M
-no-room-spec = tie.close (tie.spec (λ c κs. search needs) returns shared-slice-read-too-many cast-too-many too-many-requires returns-2 shared-slice-read-too-many-2 cast-too-many-2 too-many-requires-2 returns-3 (λ c κs. search needs) returns-4)
+no-room-spec = tie.close (tie.spec (λ c κs. search needs) returns shared-slice-read-too-many cast-too-many too-many-requires returns-2 shared-slice-read-too-many-2 cast-too-many-2 (λ c κs. search needs) too-many-requires-2 returns-3 (λ c κs. search needs) returns-4)

@@ -9,7 +9,7 @@ returns : tie.Need-returns
 returns c = sym (updates-other _ _ (c .if1 .taken))
 
 returns-2 : tie.Need-returns-2
-returns-2 c = c .named .ensures ∙ sym (updates-9 _ _ (c .before .before .if1 .left))
+returns-2 c = c .is-in .ensures ∙ sym (updates-9 _ _ (c .before .before .if1 .left))
 
 pub updates-removed-spec : {M : Type 1} → statement M
 updates-removed-spec = tie.close (tie.spec (λ c. search needs) returns (λ c. search needs) (λ c κs. search needs) returns-2)
