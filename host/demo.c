@@ -150,10 +150,22 @@ static bool refusals(struct exchange *x)
         return false;
     message_start(&m, MODIFICATION, 1, 8);
     remove_endpoint(&m, 1);
-    if (!send_message(x, "Removal of an endpoint that a PDR still names", &m))
+    group_start(&m, IE_UPDATE_PDR);
+    put_number(&m, IE_PDR_ID, 3, 2);
+    group_end(&m);
+    if (!send_message(x, "Removal of endpoint 1, and an update of PDR 3, which goes with it", &m))
         return false;
     return send_octets(x, "A heartbeat: not a session's message, so there is no reply", heartbeat,
                        sizeof heartbeat);
+}
+
+static bool remove_alone(struct exchange *x)
+{
+    struct message m;
+
+    message_start(&m, MODIFICATION, 1, 9);
+    remove_endpoint(&m, 1);
+    return send_message(x, "Session 1 loses endpoint 1, and with it PDR 3, which names it", &m);
 }
 
 static bool delete_and_restore(struct exchange *x)
@@ -164,21 +176,21 @@ static bool delete_and_restore(struct exchange *x)
                       (uint8_t)ipv4};
     struct tunnel existing = {.flags = V4, .ipv4 = own};
 
-    message_start(&m, DELETION, 1, 9);
+    message_start(&m, DELETION, 1, 10);
     if (!send_message(x, "Deletion of session 1", &m))
         return false;
     existing.teid = x->unit->options->first_teid + 1;
-    message_start(&m, ESTABLISHMENT, 0, 10);
+    message_start(&m, ESTABLISHMENT, 0, 11);
     put_f_seid(&m, 7);
     put_number(&m, IE_FLAGS, 1, 1);
     create_pdr(&m, 1, &existing);
     create_pdr(&m, 2, &existing);
     if (!send_message(x, "Restoration of a session 7 that brings its TEID along", &m))
         return false;
-    message_start(&m, DELETION, 2, 11);
+    message_start(&m, DELETION, 2, 12);
     if (!send_message(x, "Deletion of session 2", &m))
         return false;
-    message_start(&m, DELETION, 7, 12);
+    message_start(&m, DELETION, 7, 13);
     return send_message(x, "Deletion of session 7", &m);
 }
 
@@ -214,7 +226,7 @@ int run_demo(struct unit *unit)
     print_sessions(unit);
     bool done = establish_first(&x) && establish(&x, "Session 2: the next free TEID", 2, 2) &&
                 establish(&x, "Session 3: one TEID more", 3, 3) && modify(&x) && refusals(&x) &&
-                delete_and_restore(&x);
+                remove_alone(&x) && delete_and_restore(&x);
     close(x.peer);
     if (done)
         printf("\nend; requests answered: %lu, messages without a reply: %lu\n",

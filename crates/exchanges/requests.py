@@ -1,9 +1,9 @@
 #!/usr/bin/env python3
-"""The exchanges of document 01's worked examples and of the errors it has seen.
+"""The exchanges of document 01's worked examples, of the errors it has seen, and of document 02's (ii).
 
   requests.py FOLDER          writes FOLDER/stdin: tables and requests, each after its length in two octets. FOLDER/stdout is what
                               second's program `exchanges` writes for it
-  requests.py --paper < LINES holds such lines to what 01 says of each exchange, where it says something
+  requests.py --paper < LINES holds such lines to what they say of each exchange, where they say something
 
 On paper are the cause, the TEIDs of the created PDRs, the free count after the call, and sometimes the whole reply.
 """
@@ -34,8 +34,20 @@ def endpoint(number, f_teid):
     return ie(127, ie(131, bytes([number])) + ie(21, H(f_teid)))
 
 
+def naming(pdr, number):
+    return ie(1, ie(56, u16(pdr)) + ie(29, u32(10)) + ie(2, ie(20, b"\0") + ie(131, bytes([number]))))
+
+
+def update(pdr):
+    return ie(9, ie(56, u16(pdr)) + ie(29, u32(20)))
+
+
 def remove(pdr):
     return ie(15, ie(56, u16(pdr)))
+
+
+def remove_endpoint(number):
+    return ie(130, ie(131, bytes([number])))
 
 
 def table(size, first=4096):
@@ -122,9 +134,28 @@ establish(2, create(1, "05"), create(2, "05"), cause=FULL, free=1)
 delete(2, cause=UNKNOWN, free=1)
 modify(1, remove(1), create(2, "05"), endpoint(3, "05"), cause=FULL, free=1)
 modify(1, remove(2), cause=RULE, free=1)
-modify(1, ie(130, ie(131, b"\3")), cause=RULE, free=1)
+modify(1, remove_endpoint(3), cause=RULE, free=1)
 modify(1, create(2, "05"), free=0, teids=[4097])
 modify(1, remove(1), free=1)
+delete(1, free=2)
+
+# 02 (ii): "PDRs which name the removed endpoint are removed with it." Endpoint 1 with PDRs 1 and 2, endpoint 2 with PDR 3.
+table(2)
+establish(1, endpoint(1, "05"), endpoint(2, "05"), naming(1, 1), naming(2, 1), naming(3, 2), free=0)
+# "updating one, or creating a PDR that names the endpoint, is 73"
+modify(1, remove_endpoint(1), update(2), cause=RULE, free=0)
+modify(1, remove_endpoint(1), naming(4, 1), cause=RULE, free=0)
+# A created ID that was live at entry is 73 as before, and a TEID that is freed is not free in the same request.
+modify(1, remove_endpoint(1), naming(1, 2), cause=RULE, free=0)
+modify(1, remove_endpoint(1), create(4, "05"), cause=FULL, free=0)
+# Removed alone, "Naming one in Remove PDR as well is allowed": PDRs 1 and 2 are gone, PDR 3 stays.
+modify(1, remove_endpoint(1), remove(2), free=1)
+modify(1, update(1), cause=RULE, free=1)
+modify(1, remove(2), cause=RULE, free=1)
+modify(1, update(3), free=1)
+modify(1, create(1, "05"), free=0, teids=[4096])
+modify(1, remove_endpoint(2), free=1)
+modify(1, remove(3), cause=RULE, free=1)
 delete(1, free=2)
 
 

@@ -99,18 +99,19 @@ fn created_teid(group: &[u8]) -> Result<u32, String> {
 }
 
 /// A session after an accepted request: "takes out what it removes, adds what it creates, then
-/// makes its updates and follows its FQ-CSIDs".
+/// makes its updates and follows its FQ-CSIDs". A removed endpoint takes out the PDRs that name it,
+/// after those that the request names itself.
 fn changed(mut session: Session, request: &Request, said: &Said) -> Result<Session, String> {
     for record in &request.records {
-        match record {
-            Record::RemovePdr { id } => {
-                session.pdrs.remove(id).ok_or(format!("removed PDR {id} was not live"))?;
-            }
-            Record::RemoveEndpoint { id } => {
-                let was = session.endpoints.remove(id);
-                was.ok_or(format!("removed endpoint {id} was not live"))?;
-            }
-            _ => {}
+        if let Record::RemovePdr { id } = record {
+            session.pdrs.remove(id).ok_or(format!("removed PDR {id} was not live"))?;
+        }
+    }
+    for record in &request.records {
+        if let Record::RemoveEndpoint { id } = record {
+            let was = session.endpoints.remove(id);
+            was.ok_or(format!("removed endpoint {id} was not live"))?;
+            session.pdrs.retain(|_, pdr| pdr.local != Local::Endpoint(*id));
         }
     }
     for record in &request.records {

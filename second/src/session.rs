@@ -4,6 +4,7 @@
 use std::collections::{BTreeMap, BTreeSet};
 
 use crate::element::fq_csid::{NodeId, LAST_NODE_TYPE};
+use crate::request::{Record, Request};
 use crate::settings::Settings;
 
 /// "At most 64 sessions, each with 16 PDRs, 8 traffic endpoints and one FQ-CSID per node type."
@@ -73,6 +74,19 @@ impl Session {
             _ => None,
         });
         self.endpoints.values().map(|tunnel| tunnel.teid).chain(of_pdrs)
+    }
+
+    /// The PDRs that a request removes: those that a Remove PDR names, and "PDRs which name the
+    /// removed endpoint are removed with it".
+    pub fn removed_by(&self, request: &Request) -> BTreeSet<u16> {
+        let goes = |id: u16, pdr: &Pdr| {
+            request.records.iter().any(|record| match record {
+                Record::RemovePdr { id: gone } => *gone == id,
+                Record::RemoveEndpoint { id: gone } => pdr.local == Local::Endpoint(*gone),
+                _ => false,
+            })
+        };
+        self.pdrs.iter().filter(|(id, pdr)| goes(**id, pdr)).map(|(id, _)| *id).collect()
     }
 
     /// Whether a PDR names this endpoint.

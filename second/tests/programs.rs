@@ -118,5 +118,5 @@ fn exchanges_of_the_worked_examples() {
     let output = run(env!("CARGO_BIN_EXE_exchanges"), &[], input);
     assert_eq!(output.status.code(), Some(0));
     assert_eq!(String::from_utf8(output.stdout).unwrap(), expected);
-    assert_eq!(expected.lines().count(), 47);
+    assert_eq!(expected.lines().count(), 61);
 }

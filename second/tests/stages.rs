@@ -99,7 +99,7 @@ fn cause_76_in_modifications_only() {
 
 #[test]
 fn cause_73_for_ids() {
-    let refused: [&[Vec<u8>]; 17] = [
+    let refused: [&[Vec<u8>]; 18] = [
         // twice
         &[remove_pdr(3), remove_pdr(3)],
         &[create_pdr(9, &[]), create_pdr(9, &[])],
@@ -109,6 +109,7 @@ fn cause_73_for_ids() {
         // a created ID live at entry, removed or not
         &[create_pdr(3, &[])],
         &[create_pdr(3, &[]), remove_pdr(3)],
+        &[create_pdr(1, &[]), remove_endpoint(1)],
         &[create_endpoint(2, &[5])],
         &[remove_endpoint(2), create_endpoint(2, &[5])],
         // a removed or updated ID not live at entry, created or not
@@ -135,8 +136,6 @@ fn cause_73_for_endpoints() {
     assert_eq!(modified(&[create_pdr(9, &[endpoint_id(2)]), remove_endpoint(2)]), 73);
     assert_eq!(modified(&[create_pdr(9, &[endpoint_id(9)]), create_endpoint(9, &[5])]), 1);
     assert_eq!(modified(&[create_pdr(9, &[endpoint_id(2)])]), 1);
-    assert_eq!(modified(&[remove_endpoint(1)]), 73);
-    assert_eq!(modified(&[remove_endpoint(1), remove_pdr(1)]), 1);
     assert_eq!(modified(&[remove_endpoint(2)]), 1);
     // Endpoints of another session are not there.
     assert_eq!(established(&[create_pdr(9, &[endpoint_id(1)])]), 73);

@@ -104,8 +104,8 @@ fn decide<'a>(
     {
         return Err(cause(73));
     }
-    // Removed IDs are live and different by now.
-    let pdrs = own.pdrs.len() - request.removed_pdrs.len() + request.new_pdrs.len();
+    // Removed IDs are live and different by now; a PDR that is named and goes along counts once.
+    let pdrs = own.pdrs.iter().filter(|pdr| !goes(request, pdr)).count() + request.new_pdrs.len();
     let endpoints =
         own.endpoints.len() - request.removed_endpoints.len() + request.new_endpoints.len();
     if (establishment && checked.sessions == MOST_SESSIONS)
@@ -128,18 +128,28 @@ fn has_repeat<T: PartialEq>(ids: impl Iterator<Item = T> + Clone) -> bool {
     false
 }
 
+/// Whether a PDR goes: named by Remove PDR, or with its endpoint.
+fn goes(request: &Request, pdr: &PdrSlot) -> bool {
+    request.removed_pdrs.contains(&pdr_id(pdr))
+        || (pdr[12] == ENDPOINT && request.removed_endpoints.contains(&pdr[18]))
+}
+
 /// What is removed, created and updated, against what is live at entry.
 fn verbs_conflict(own: &Records, request: &Request) -> bool {
     let new_pdrs = request.new_pdrs.iter().map(|pdr| pdr_id(&pdr.slot));
     let new_endpoints = request.new_endpoints.iter().map(|endpoint| endpoint.slot[0]);
     let updated = request.updates.iter().map(|update| update.id);
     let pdr_lives = |id: u16| own.pdrs.binary_search_by_key(&id, pdr_id).is_ok();
+    let pdr_stays = |id: u16| match own.pdrs.binary_search_by_key(&id, pdr_id) {
+        Ok(at) => !goes(request, &own.pdrs[at]),
+        Err(_) => false,
+    };
     let endpoint_lives = |id: u8| own.endpoints.iter().any(|endpoint| endpoint[0] == id);
     new_pdrs.clone().any(pdr_lives)
         || new_endpoints.clone().any(endpoint_lives)
         || !request.removed_pdrs.iter().all(|id| pdr_lives(*id))
         || !request.removed_endpoints.iter().all(|id| endpoint_lives(*id))
-        || updated.clone().any(|id| !pdr_lives(id) || request.removed_pdrs.contains(&id))
+        || !updated.clone().all(pdr_stays)
         || has_repeat(new_pdrs)
         || has_repeat(new_endpoints)
         || has_repeat(updated)
@@ -147,7 +157,7 @@ fn verbs_conflict(own: &Records, request: &Request) -> bool {
         || has_repeat(request.removed_endpoints.iter())
 }
 
-/// The endpoints that PDRs name.
+/// The endpoints that created PDRs name.
 fn names_conflict(own: &Records, request: &Request) -> bool {
     let removed = |id: u8| request.removed_endpoints.contains(&id);
     let there = |id: u8| {
@@ -157,8 +167,6 @@ fn names_conflict(own: &Records, request: &Request) -> bool {
     request.new_pdrs.iter().any(|pdr| match pdr.endpoint {
         Some(id) => pdr.tunnel.is_some() || !there(id),
         None => false,
-    }) || own.pdrs.iter().any(|pdr| {
-        pdr[12] == ENDPOINT && removed(pdr[18]) && !request.removed_pdrs.contains(&pdr_id(pdr))
     })
 }
 
@@ -254,8 +262,8 @@ fn change(
 
 fn change_session(slot: &mut Slot, request: &Request, teids: &Teids) {
     let (mut pdrs, mut endpoints, mut fq_csids) = areas_mut(slot);
-    if !request.removed_pdrs.is_empty() {
-        pdrs.retain(|pdr| !request.removed_pdrs.contains(&pdr_id(pdr)));
+    if !request.removed_pdrs.is_empty() || !request.removed_endpoints.is_empty() {
+        pdrs.retain(|pdr| !goes(request, pdr));
     }
     if !request.removed_endpoints.is_empty() {
         endpoints.retain(|endpoint| !request.removed_endpoints.contains(&endpoint[0]));

@@ -37,7 +37,8 @@ pub enum Done {
     TunnelFreed,
     TunnelKeptBySharing,
     EndpointRemoved,
-    EndpointRemovedWithItsPdrs,
+    PdrWentAlong,
+    PdrWentAlongAndNamed,
     PrecedenceUpdated,
     FarUpdated,
     FarTakenAway,
@@ -57,7 +58,7 @@ pub enum Done {
     LargestSession,
 }
 
-pub const ALL_DONE: [Done; 45] = [
+pub const ALL_DONE: [Done; 46] = [
     Done::Establishment,
     Done::Restoration,
     Done::Modification,
@@ -85,7 +86,8 @@ pub const ALL_DONE: [Done; 45] = [
     Done::TunnelFreed,
     Done::TunnelKeptBySharing,
     Done::EndpointRemoved,
-    Done::EndpointRemovedWithItsPdrs,
+    Done::PdrWentAlong,
+    Done::PdrWentAlongAndNamed,
     Done::PrecedenceUpdated,
     Done::FarUpdated,
     Done::FarTakenAway,
@@ -243,11 +245,14 @@ fn deeds_of_restoration(request: &Request, done: &mut BTreeSet<Done>) {
 }
 
 fn deeds_of_removal(request: &Request, own: &Session, done: &mut BTreeSet<Done>) {
+    let removed = own.removed_by(request);
     let mut after = own.clone();
+    after.pdrs.retain(|id, _| !removed.contains(id));
+    let mut named: BTreeSet<u16> = BTreeSet::new();
     for record in &request.records {
         match record {
             Record::RemovePdr { id } => {
-                after.pdrs.remove(id);
+                named.insert(*id);
             }
             Record::RemoveEndpoint { id } => {
                 after.endpoints.remove(id);
@@ -268,10 +273,17 @@ fn deeds_of_removal(request: &Request, own: &Session, done: &mut BTreeSet<Done>)
                 }
             }
             Record::RemoveEndpoint { id } => {
-                done.insert(match own.is_named(*id) {
-                    true => Done::EndpointRemovedWithItsPdrs,
-                    false => Done::EndpointRemoved,
-                });
+                if !own.is_named(*id) {
+                    done.insert(Done::EndpointRemoved);
+                }
+                for (pdr_id, _) in
+                    own.pdrs.iter().filter(|(_, pdr)| pdr.local == Local::Endpoint(*id))
+                {
+                    done.insert(match named.contains(pdr_id) {
+                        true => Done::PdrWentAlongAndNamed,
+                        false => Done::PdrWentAlong,
+                    });
+                }
             }
             _ => {}
         }

@@ -159,7 +159,7 @@ fn expected_of_stage_5() -> BTreeSet<Counter> {
     all
 }
 
-const ALL_RULES: [Rule; 30] = [
+const ALL_RULES: [Rule; 31] = [
     Rule::PdrRemovedTwice,
     Rule::PdrCreatedTwice,
     Rule::PdrUpdatedTwice,
@@ -167,16 +167,17 @@ const ALL_RULES: [Rule; 30] = [
     Rule::EndpointCreatedTwice,
     Rule::CreatedPdrLive,
     Rule::CreatedPdrLiveButRemoved,
+    Rule::CreatedPdrLiveButGoesAlong,
     Rule::CreatedEndpointLive,
     Rule::CreatedEndpointLiveButRemoved,
     Rule::RemovedPdrNotLive,
     Rule::RemovedEndpointNotLive,
     Rule::UpdatedPdrNotLive,
     Rule::UpdateOfRemovedPdr,
+    Rule::UpdateOfPdrThatGoesAlong,
     Rule::TunnelAndEndpointInPdi,
     Rule::EndpointNotThere,
     Rule::EndpointNotThereForItIsRemoved,
-    Rule::RemovedEndpointNamed,
     Rule::ChooseIdWithOtherFamilies,
     Rule::ChooseIdWithOtherSourceInterface,
     Rule::PdrFamilyLacking,

@@ -306,16 +306,29 @@ impl Planner<'_> {
                     }
                 }
             }
-            (9 | 10, _) => {
-                // A removed endpoint that a live PDR still names.
-                if let Some(id) = endpoints.iter().copied().find(|id| own.is_named(*id)) {
-                    plan.items.push(Item::RemoveEndpoint(id));
-                    let names_it = |item: &Item| match item {
-                        Item::CreatePdr(new) => new.endpoint == Some(id),
-                        _ => false,
-                    };
-                    plan.items.retain(|item| !names_it(item));
-                }
+            (flaw @ (9 | 10), _) => {
+                // A PDR that goes with its endpoint, and is updated or created again.
+                let mut along = pdrs.iter().filter_map(|id| match own.pdrs[id].local {
+                    Local::Endpoint(endpoint) => Some((*id, endpoint)),
+                    _ => None,
+                });
+                let Some((id, endpoint)) = along.find(|(_, e)| endpoints.contains(e)) else {
+                    return;
+                };
+                let names_it = |item: &Item| match item {
+                    Item::CreatePdr(new) => new.endpoint == Some(endpoint),
+                    Item::UpdatePdr { id, .. } => {
+                        own.pdrs.get(id).is_some_and(|p| p.local == Local::Endpoint(endpoint))
+                    }
+                    _ => false,
+                };
+                plan.items.retain(|item| !names_it(item));
+                plan.items.push(Item::RemoveEndpoint(endpoint));
+                let item = match flaw {
+                    9 => self.update(id),
+                    _ => Item::CreatePdr(self.plain_pdr(id)),
+                };
+                plan.items.push(item);
             }
             (11, _) => {
                 // A created PDR that names an endpoint which the request removes.

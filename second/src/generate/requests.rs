@@ -180,23 +180,23 @@ impl Planner<'_> {
         }
         let removes = self.random.pick(&[0, 0, 20, 50]);
         let updates = self.random.pick(&[0, 20, 50]);
-        let mut named: BTreeSet<u8> = BTreeSet::new();
-        for (&id, pdr) in &own.pdrs {
-            if self.random.percent(removes) {
-                plan.items.push(Item::RemovePdr(id));
-                continue;
-            }
-            if let Local::Endpoint(endpoint) = pdr.local {
-                named.insert(endpoint);
-            }
-            if self.random.percent(updates) {
-                let item = self.update(id);
-                plan.items.push(item);
+        let ends = self.random.pick(&[0, 0, 20, 50]);
+        let mut gone: BTreeSet<u8> = BTreeSet::new();
+        for &id in own.endpoints.keys() {
+            if self.random.percent(ends) {
+                plan.items.push(Item::RemoveEndpoint(id));
+                gone.insert(id);
             }
         }
-        for &id in own.endpoints.keys() {
-            if !named.contains(&id) && self.random.percent(30) {
-                plan.items.push(Item::RemoveEndpoint(id));
+        for (&id, pdr) in &own.pdrs {
+            // One that goes with its endpoint may be named too, and may not be updated.
+            let goes_along =
+                matches!(pdr.local, Local::Endpoint(endpoint) if gone.contains(&endpoint));
+            if self.random.percent(removes) {
+                plan.items.push(Item::RemovePdr(id));
+            } else if !goes_along && self.random.percent(updates) {
+                let item = self.update(id);
+                plan.items.push(item);
             }
         }
         let most = if self.flavour == Flavour::Full { 5 } else { 2 };

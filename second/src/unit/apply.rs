@@ -17,9 +17,7 @@ pub fn apply(sessions: &mut Sessions, request: &Request, grants: &[Grant]) {
         (None, _) => request.header.seid,
     };
     let session = sessions.entry(seid).or_default();
-    for record in &request.records {
-        remove(session, record);
-    }
+    remove(session, request);
     for record in &request.records {
         create_endpoint(session, record, grants);
     }
@@ -34,15 +32,14 @@ pub fn apply(sessions: &mut Sessions, request: &Request, grants: &[Grant]) {
     }
 }
 
-fn remove(session: &mut Session, record: &Record) {
-    match record {
-        Record::RemovePdr { id } => {
-            session.pdrs.remove(id);
-        }
-        Record::RemoveEndpoint { id } => {
+fn remove(session: &mut Session, request: &Request) {
+    for id in session.removed_by(request) {
+        session.pdrs.remove(&id);
+    }
+    for record in &request.records {
+        if let Record::RemoveEndpoint { id } = record {
             session.endpoints.remove(id);
         }
-        _ => {}
     }
 }
 

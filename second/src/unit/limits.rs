@@ -29,16 +29,18 @@ pub fn passed(settings: &Settings, sessions: &Sessions, request: &Request) -> Ve
         Kind::Establishment => None,
         _ => sessions.get(&request.header.seid),
     };
-    // The limits count live minus removed plus created.
+    // The limits count live minus removed plus created; a PDR that goes with its endpoint is
+    // removed.
     let mut pdrs: BTreeSet<u16> = own.map_or(BTreeSet::new(), |s| s.pdrs.keys().copied().collect());
+    for id in own.map_or(BTreeSet::new(), |s| s.removed_by(request)) {
+        pdrs.remove(&id);
+    }
     let mut endpoints: BTreeSet<u8> =
         own.map_or(BTreeSet::new(), |s| s.endpoints.keys().copied().collect());
     for record in &request.records {
-        match record {
-            Record::RemovePdr { id } => pdrs.remove(id),
-            Record::RemoveEndpoint { id } => endpoints.remove(id),
-            _ => false,
-        };
+        if let Record::RemoveEndpoint { id } = record {
+            endpoints.remove(id);
+        }
     }
     for record in &request.records {
         match record {

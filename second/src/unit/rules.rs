@@ -6,7 +6,7 @@ use std::collections::{BTreeMap, BTreeSet};
 use super::Reason;
 use crate::element::f_teid::FTeid;
 use crate::request::{Kind, Pdi, Record, Request};
-use crate::session::{distinct_teids, Families, Local, Session, Sessions};
+use crate::session::{distinct_teids, Families, Session, Sessions};
 use crate::settings::Settings;
 
 /// 71: "F-TEID without CH outside restoration, or with CH inside it".
@@ -34,24 +34,24 @@ pub enum Rule {
     PdrUpdatedTwice,
     EndpointRemovedTwice,
     EndpointCreatedTwice,
-    // "a created ID live at entry"; also where the same request removes it
+    // "a created ID live at entry"; also where the same request removes it, or its endpoint
     CreatedPdrLive,
     CreatedPdrLiveButRemoved,
+    CreatedPdrLiveButGoesAlong,
     CreatedEndpointLive,
     CreatedEndpointLiveButRemoved,
     // "a removed or updated ID not live at entry"
     RemovedPdrNotLive,
     RemovedEndpointNotLive,
     UpdatedPdrNotLive,
-    // "an update of a removed PDR"
+    // "an update of a removed PDR"; of one that goes with its endpoint too
     UpdateOfRemovedPdr,
+    UpdateOfPdrThatGoesAlong,
     // "F-TEID and endpoint ID in one PDI"
     TunnelAndEndpointInPdi,
-    // "an endpoint ID not there afterwards"
+    // "an endpoint ID not there afterwards"; "creating a PDR that names the endpoint"
     EndpointNotThere,
     EndpointNotThereForItIsRemoved,
-    // "a removed endpoint still named by a PDR (H)"
-    RemovedEndpointNamed,
     // "equal CHOOSE IDs with other families or source interface"
     ChooseIdWithOtherFamilies,
     ChooseIdWithOtherSourceInterface,
@@ -155,7 +155,7 @@ fn conflicts(settings: &Settings, sessions: &Sessions, request: &Request) -> BTr
     };
     let named = Named::of(request);
     let mut found = BTreeSet::new();
-    found.extend(verbs(own, &named));
+    found.extend(verbs(own, &named, &own.removed_by(request)));
     found.extend(names_of_endpoints(own, &named, request));
     found.extend(choose_ids(request));
     found.extend(families(settings, request));
@@ -165,8 +165,9 @@ fn conflicts(settings: &Settings, sessions: &Sessions, request: &Request) -> BTr
     found
 }
 
-/// What is removed, created and updated, against what is live at entry.
-fn verbs(own: &Session, named: &Named) -> Vec<Rule> {
+/// What is removed, created and updated, against what is live at entry. `removed` are the PDRs
+/// that go, by name or with their endpoint.
+fn verbs(own: &Session, named: &Named, removed: &BTreeSet<u16>) -> Vec<Rule> {
     let mut found = Vec::new();
     let twice = [
         (has_repeat(&named.pdrs_removed), Rule::PdrRemovedTwice),
@@ -177,9 +178,10 @@ fn verbs(own: &Session, named: &Named) -> Vec<Rule> {
     ];
     found.extend(twice.iter().filter(|(holds, _)| *holds).map(|(_, rule)| *rule));
     for id in named.pdrs_created.iter().filter(|id| own.pdrs.contains_key(id)) {
-        found.push(match named.pdrs_removed.contains(id) {
-            true => Rule::CreatedPdrLiveButRemoved,
-            false => Rule::CreatedPdrLive,
+        found.push(match (named.pdrs_removed.contains(id), removed.contains(id)) {
+            (true, _) => Rule::CreatedPdrLiveButRemoved,
+            (false, true) => Rule::CreatedPdrLiveButGoesAlong,
+            (false, false) => Rule::CreatedPdrLive,
         });
     }
     for id in named.endpoints_created.iter().filter(|id| own.endpoints.contains_key(id)) {
@@ -197,8 +199,11 @@ fn verbs(own: &Session, named: &Named) -> Vec<Rule> {
     if named.pdrs_updated.iter().any(|id| !own.pdrs.contains_key(id)) {
         found.push(Rule::UpdatedPdrNotLive);
     }
-    if named.pdrs_updated.iter().any(|id| named.pdrs_removed.contains(id)) {
-        found.push(Rule::UpdateOfRemovedPdr);
+    for id in named.pdrs_updated.iter().filter(|id| removed.contains(id)) {
+        found.push(match named.pdrs_removed.contains(id) {
+            true => Rule::UpdateOfRemovedPdr,
+            false => Rule::UpdateOfPdrThatGoesAlong,
+        });
     }
     found
 }
@@ -210,7 +215,7 @@ fn created_pdis(request: &Request) -> impl Iterator<Item = &Pdi> {
     })
 }
 
-/// The endpoints that PDRs name, before and after.
+/// The endpoints that created PDRs name.
 fn names_of_endpoints(own: &Session, named: &Named, request: &Request) -> Vec<Rule> {
     let mut found = Vec::new();
     for pdi in created_pdis(request) {
@@ -225,13 +230,6 @@ fn names_of_endpoints(own: &Session, named: &Named, request: &Request) -> Vec<Ru
                 true => Rule::EndpointNotThereForItIsRemoved,
                 false => Rule::EndpointNotThere,
             });
-        }
-    }
-    for (id, pdr) in &own.pdrs {
-        if let Local::Endpoint(endpoint) = pdr.local {
-            if named.endpoints_removed.contains(&endpoint) && !named.pdrs_removed.contains(id) {
-                found.push(Rule::RemovedEndpointNamed);
-            }
         }
     }
     found
