@@ -1,9 +1,12 @@
 -- 02 (ii) worked: removing an endpoint takes the PDRs that name it along, by computation.
 -- Assumes nothing.
 use mathlib.Core.Path.{_≡_, refl}
-use Prim.Native.Nat.{ℕ}
+use Prim.Native.Nat.{ℕ, zero, suc, _+_}
+use mathlib.Core.Bool.{true, false}
+use mathlib.Core.Option.{some}
 use mathlib.Core.List.{List, [], _∷_, _++_, map}
-use Rattle.rules.specs.Model.{Session, pdrId, endpointId}
+use Rattle.octets.specs.Octets.{sameOctets}
+use Rattle.rules.specs.Model.{endpoint, Pdr, Endpoint, Session, Sessions, pdrId, endpointId}
 use Rattle.rules.specs.Layout.{encode, viewSessions}
 use Rattle.rules.specs.Grants.{ofPdr}
 use Rattle.rules.specs.Reply.{element}
@@ -16,13 +19,23 @@ use Rattle.rules.proofs.RestorationExamples.{endpointOf, naming, update
 unfoldable pub removeEndpoint : ℕ → List ℕ
 removeEndpoint e = element 130 (element 131 (e ∷ []))
 
--- endpoint 3 with the PDRs 1 and 2, endpoint 4 with the PDR 5; the pool of two is then full
-unfoldable pub two : Served
-two = ask (encode 2 (unit 2) []) (establish 1 (endpointOf 3 own ++ endpointOf 4 own ++ naming 1 3 ++ naming 2 3 ++ naming 5 4))
+-- a session 1 with the endpoints 3 and 4, which hold the pool of two, and PDRs that name one of them
+unfoldable pub holder : ℕ → ℕ → Endpoint
+holder i n = record { id = i; local = record { teid = n; v4 = true; v6 = false } }
+
+unfoldable pub named : ℕ → ℕ → Pdr
+named i e = record { id = i; precedence = 7; far = some 8; source = 1; place = endpoint e }
+
+unfoldable pub session : List Pdr → Sessions
+session ps = record { seid = 1; pdrs = ps; endpoints = holder 3 4096 ∷ holder 4 4097 ∷ []; csids = [] } ∷ []
+
+-- PDRs 1 and 2 name endpoint 3, PDR 5 names endpoint 4
+unfoldable pub two : List ℕ
+two = encode 2 (unit 2) (session (named 1 3 ∷ named 2 3 ∷ named 5 4 ∷ []))
 
 -- a modification of it
 unfoldable pub then : List ℕ → Served
-then xs = ask (two .table) (modify 1 xs)
+then xs = ask two (modify 1 xs)
 
 unfoldable pub alone : Served
 alone = then (removeEndpoint 3)
@@ -39,15 +52,21 @@ unfoldable pub namings : ℕ → List ℕ → List ℕ
 namings e [] = []
 namings e (i ∷ is) = naming i e ++ namings e is
 
+-- PDRs from an ID on, so many, that name an endpoint
+unfoldable pub namedFrom : ℕ → ℕ → ℕ → List Pdr
+namedFrom e i zero = []
+namedFrom e i (suc n) = named i e ∷ namedFrom e (i + 1) n
+
 -- 16 PDRs, of which 1 to 4 name endpoint 3
-unfoldable pub sixteen : Served
-sixteen = ask (encode 2 (unit 2) []) (establish 1 (endpointOf 3 own ++ endpointOf 4 own ++ namings 3 (1 ∷ 2 ∷ 3 ∷ 4 ∷ []) ++ namings 4 (5 ∷ 6 ∷ 7 ∷ 8 ∷ 9 ∷ 10 ∷ 11 ∷ 12 ∷ 13 ∷ 14 ∷ 15 ∷ 16 ∷ [])))
+unfoldable pub sixteen : List ℕ
+sixteen = encode 2 (unit 2) (session (namedFrom 3 1 4 ++ namedFrom 4 5 12))
 
 story : ℕ
-unfolding computing calls seen ask endpointOf naming update removeEndpoint two then alone pdrsLeft endpointsLeft namings sixteen
+unfolding computing calls seen ask endpointOf naming update removeEndpoint holder named session two then alone pdrsLeft endpointsLeft namings namedFrom sixteen
 story = 0
 
-pub endpointsTwo : seen two ≡ seenAs 1 0
+-- an establishment makes it
+pub endpointsTwo : sameOctets (ask (encode 2 (unit 2) []) (establish 1 (endpointOf 3 own ++ endpointOf 4 own ++ naming 1 3 ++ naming 2 3 ++ naming 5 4)) .table) two ≡ true
 unfolding story
 endpointsTwo = refl
 
@@ -100,10 +119,10 @@ unfolding story
 removedCreated = refl
 
 -- 16 live PDRs, of which four go, leave room for four
-pub removedRoom : seen (ask (sixteen .table) (modify 1 (removeEndpoint 3 ++ namings 4 (21 ∷ 22 ∷ 23 ∷ 24 ∷ [])))) ≡ seenAs 1 1
+pub removedRoom : seen (ask sixteen (modify 1 (removeEndpoint 3 ++ namings 4 (21 ∷ 22 ∷ 23 ∷ 24 ∷ [])))) ≡ seenAs 1 1
 unfolding story
 removedRoom = refl
 
-pub removedNoRoom : seen (ask (sixteen .table) (modify 1 (removeEndpoint 3 ++ remove 1 ++ namings 4 (21 ∷ 22 ∷ 23 ∷ 24 ∷ 25 ∷ [])))) ≡ seenAs 75 0
+pub removedNoRoom : seen (ask sixteen (modify 1 (removeEndpoint 3 ++ remove 1 ++ namings 4 (21 ∷ 22 ∷ 23 ∷ 24 ∷ 25 ∷ [])))) ≡ seenAs 75 0
 unfolding story
 removedNoRoom = refl
