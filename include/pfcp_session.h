@@ -14,7 +14,7 @@
  * Pointers. Every pair of a pointer and a length is a slice: the pointer is valid for that many
  * octets, for reading where it is const and for reading and writing where it is not. A slice of
  * length 0 may have any pointer, also NULL. The slices of one call do not overlap, and neither do
- * they overlap the number that a call writes (count, reply_used). The pointer to that number is
+ * they overlap the number that a call writes (count, reply_used, used). The pointer to that number is
  * never NULL and is aligned for its type. While a call runs, nothing else reads or writes what it
  * may write, and nothing else writes what it reads.
  *
@@ -44,9 +44,9 @@ extern "C" {
 
 /* The version of this header and its archive: as numbers and as text. */
 #define PFCP_VERSION_MAJOR 0
-#define PFCP_VERSION_MINOR 1
+#define PFCP_VERSION_MINOR 2
 #define PFCP_VERSION_PATCH 0
-#define PFCP_VERSION "0.1.0"
+#define PFCP_VERSION "0.2.0"
 
 /* The length of a table, the same as pfcp_table_length() gives. */
 #define PFCP_TABLE_LENGTH 30943
@@ -57,6 +57,9 @@ extern "C" {
 /* ... and is at most this long. */
 #define PFCP_LONGEST_REQUEST 2048
 
+/* A restoration request is at most this long. */
+#define PFCP_LONGEST_RESTORATION 1526
+
 /* Host outcomes of pfcp_request; pfcp_free_count has the first two. */
 #define PFCP_ANSWERED 0          /* a reply was written */
 #define PFCP_BROKEN_TABLE 1      /* the table is broken or of another length */
@@ -64,6 +67,13 @@ extern "C" {
 #define PFCP_LONG_MESSAGE 3      /* message_len is over 2,048 */
 #define PFCP_WRONG_HEADER 4      /* under 16 octets, or version, S, FO or length wrong */
 #define PFCP_NOT_SERVED 5        /* another message type than 50, 52, 54 */
+
+/* Outcomes of pfcp_write_restoration. */
+#define PFCP_WRITTEN 0            /* a restoration request was written */
+                                  /* 1: PFCP_BROKEN_TABLE */
+#define PFCP_PAST_LAST_SESSION 2  /* place is not below the number of sessions */
+#define PFCP_NO_PLANE_ADDRESS 3   /* no control-plane address, or one of another length */
+#define PFCP_SMALL_SPACE 4        /* space_len is under the request's length */
 
 /* The number of octets that a table has: 30,943. */
 size_t pfcp_table_length(void);
@@ -99,6 +109,28 @@ uint32_t pfcp_free_count(const uint8_t *table, size_t table_len, uint32_t *count
  */
 uint32_t pfcp_request(uint8_t *table, size_t table_len, const uint8_t *message, size_t message_len,
                       uint8_t *reply, size_t reply_len, size_t *reply_used);
+
+/*
+ * Writes the restoration request of one session: the establishment, with the restoration flag, that
+ * makes the session again. Sessions stand in the table in ascending order of SEID; place counts them
+ * from 0. The header's SEID is 0 and its sequence number place + 1.
+ *
+ * cp_ipv4     the control plane's IPv4 address for the F-SEID: cp_ipv4_len is 4, or 0 for none
+ * cp_ipv6     its IPv6 address: cp_ipv6_len is 16, or 0 for none; one of the two is there at least
+ *
+ * Gives 0 if the request was written: it stands at the front of the space, *used is its length, and
+ * the octets after it are unchanged. Else nothing is written but *used, which is 0, and what is given
+ * is, tested in this order: 1 the table is broken or of another length, 2 place is not below the
+ * number of sessions, 3 there is no address or one of another length, 4 space_len is under the
+ * request's own length. A space of PFCP_LONGEST_RESTORATION octets is always enough.
+ *
+ * Each request is accepted by an empty table with the same settings. Those of all places, from 0 until
+ * 2 is given, run in turn by pfcp_request on an empty table with the same settings, make the same
+ * table octet for octet.
+ */
+uint32_t pfcp_write_restoration(const uint8_t *table, size_t table_len, size_t place,
+                                const uint8_t *cp_ipv4, size_t cp_ipv4_len, const uint8_t *cp_ipv6,
+                                size_t cp_ipv6_len, uint8_t *space, size_t space_len, size_t *used);
 
 #ifdef __cplusplus
 }

@@ -3,7 +3,7 @@
 -- Assumes nothing.
 use mathlib.Core.Path.{_≡_, refl, sym, ap, ap₂, _∙_, subst}
 use Prim.Native.Nat.{ℕ, _-_, _^_, _<_}
-use mathlib.Core.List.{List, [], _∷_, map}
+use mathlib.Core.List.{List, [], _∷_, map, List·Permᴰ}
 use lib.Dec.{T}
 use Rattle.octets.specs.Lists.{all}
 use Rattle.octets.proofs.Tests.{all-head, all-tail, all-cons, pick-yes}
@@ -13,7 +13,7 @@ use Rattle.rules.specs.Sound.{settingsAllowed, sessionsAllowed, sound, make, fr
 use Rattle.rules.specs.Serve.{Served}
 use Rattle.rules.specs.Live.{Event, replied, accepted, live, liveFrom}
 use Rattle.rules.specs.Calls.{Call, callAllowed, tableAfter, eventOf, tableAfterAll, eventsOf}
-use Rattle.rules.specs.Claim.{Step, asked, told, stepAllowed, Ran, lastTable, eventIn, liveSet, callIn, mapOf, Holds, Claim}
+use Rattle.rules.specs.Claim.{Step, asked, told, stepAllowed, Ran, lastTable, eventIn, liveSet, Restore, restored, restoreAllowed, restoreCalls, callIn, mapOf, Holds, Restores, Claim}
 use Rattle.laws.proofs.TableLaws.{sessions-back, encoded-settings, sound-encode}
 use Rattle.claim.proofs.RestoreAll.{empty-allowed, restored-table, restored-accepted}
 use Rattle.claim.proofs.Sequence.{Keeps, kept-all, made-empty, made-settings}
@@ -45,6 +45,30 @@ run-allowed (asked msg space r ∷ steps) h =
     all-cons callAllowed (callIn (asked msg space r)) (calls steps) (all-head stepAllowed (asked msg space r) steps h) (run-allowed steps (all-tail stepAllowed (asked msg space r) steps h))
 run-allowed (told c ∷ steps) h =
     all-cons callAllowed (callIn (told c)) (calls steps) tt (run-allowed steps (all-tail stepAllowed (told c) steps h))
+
+-- ---- restorations of the sessions that a table encodes
+
+module _ (limit : ℕ) (small : limit < 256 ^ 2) (s : Settings) (hs : T (settingsAllowed s)) (m : Sessions) (hm : T (sessionsAllowed limit s m)) (t : List ℕ) (encoded : t ≡ encode limit s m) where
+  -- run on an empty table in any order, they leave that table
+  pub restores-table : (b : List ℕ) (rs : List Restore) (again : List Step) → T (make limit s b .made) → T (all restoreAllowed rs)
+      → Ran limit (make limit s b .table) again → calls again ≡ restoreCalls s rs → List·Permᴰ m (map restored rs)
+      → Restores limit t (make limit s b .table) again
+  restores-table b rs again hb ok ran are order =
+      let e : make limit s b .table ≡ encode limit s [] = made-empty limit s b hb in
+      let same : lastTable (make limit s b .table) again ≡ t =
+      run-table limit (make limit s b .table) again ran
+      ∙ ap₂ (λ (u : List ℕ) (cs : List Call). tableAfterAll limit u cs) e are
+      ∙ restored-table s hs limit small m hm rs ok order
+      ∙ sym encoded in
+      record {
+        each =
+            subst (λ (es : List Event). T (all accepted es))
+            (sym (run-events limit (make limit s b .table) again ran ∙ ap₂ (λ (u : List ℕ) (cs : List Call). eventsOf limit u cs) e are))
+            (restored-accepted s hs limit small m hm rs ok order);
+        octetsEqual = same;
+        countEqual = ap (countFree limit) same;
+        mapEqual = ap mapOf same;
+      }
 
 -- ---- the claim
 
@@ -97,22 +121,7 @@ claim limit small keeps s a steps ha ho hr =
     let t = lastTable (make limit s a .table) steps in
     record {
       holds = held limit small keeps s (l .settings) m (l .sessions) t (l .table);
-      restores = λ b rs again hb ha′ ran are order.
-          let e : make limit s b .table ≡ encode limit s [] = made-empty limit s b hb in
-          let same : lastTable (make limit s b .table) again ≡ t =
-          run-table limit (make limit s b .table) again ran
-          ∙ ap₂ (λ (u : List ℕ) (cs : List Call). tableAfterAll limit u cs) e are
-          ∙ restored-table s (l .settings) limit small m (l .sessions) rs ha′ order
-          ∙ sym (l .table) in
-          record {
-            each =
-                subst (λ (es : List Event). T (all accepted es))
-                (sym (run-events limit (make limit s b .table) again ran ∙ ap₂ (λ (u : List ℕ) (cs : List Call). eventsOf limit u cs) e are))
-                (restored-accepted s (l .settings) limit small m (l .sessions) rs ha′ order);
-            octetsEqual = same;
-            countEqual = ap (countFree limit) same;
-            mapEqual = ap mapOf same;
-          };
+      restores = restores-table limit small s (l .settings) m (l .sessions) t (l .table);
       noHistory = λ b again hb hc ran lives.
           let k = left limit small keeps s b again hb hc ran in
           k .table ∙ ap (encode limit s) lives ∙ sym (l .table);

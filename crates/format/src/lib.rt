@@ -76,10 +76,12 @@ pub const HEAD: usize = COUNT + 2;
 
 pub const LENGTH: usize = HEAD + MAX_SESSIONS as usize * SLOT;
 
-// The longest message, the least reply space, and the grants of a request at most.
+// The longest message, the least reply space, the longest restoration request, and the grants of a request at most.
 pub const MESSAGE: usize = 2048;
 
 pub const SPACE: usize = 1024;
+
+pub const RESTORATION: usize = 1526;
 
 pub const GRANTS: usize = MAX_PDRS + MAX_ENDPOINTS;
 

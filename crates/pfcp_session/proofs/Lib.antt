@@ -1,4 +1,6 @@
--- `CallLaws`: the calls' answers as numbers; `RunLaws`: demand 3 of the calls; `AccidentLaws`: the accident does not happen.
+-- `CallLaws`: the calls' answers as numbers; `RunLaws`: demand 3 of the calls; `AccidentLaws`: the accident does not happen;
+-- `RestorationLaws`: what was written restores the table.
 pub mod CallLaws
 pub mod RunLaws
 pub mod AccidentLaws
+pub mod RestorationLaws

@@ -31,14 +31,14 @@ count-step : (t : List ℕ) (c : CountCall) → c ≡ countCall t → countOf c 
 unfolding countCall
 count-step t c e = ap countOf e ∙ count-back (countFree maxSessions t)
 
-ran : (t : List ℕ) (hs : List HostStep) → HostRan t hs → Ran maxSessions t (stepsOf hs)
+pub ran : (t : List ℕ) (hs : List HostStep) → HostRan t hs → Ran maxSessions t (stepsOf hs)
 unfolding stepOf
 ran t [] h = tt
 ran t (requested msg space r ∷ hs) h = (request-step t msg space r (h .0), ran (r .table) hs (h .1))
 ran t (counted c ∷ hs) h = (count-step t c (h .0), ran t hs (h .1))
 
 -- a table was made where the call says 0
-is-made : (m : Made) → makeAnswer m .outcome ≡ 0 → T (m .made)
+pub is-made : (m : Made) → makeAnswer m .outcome ≡ 0 → T (m .made)
 is-made m e = go (m .made) e
   where
     go : (b : Bool) → _≡_ {A = ℕ} (pick b 0 1) 0 → T b

@@ -11,6 +11,7 @@ use Rattle.rules.specs.Layout.{viewSettings, viewSessions}
 use Rattle.rules.specs.Sound.{Made, make, Count, broken, free, countFree}
 use Rattle.rules.specs.Stages.{verdict}
 use Rattle.rules.specs.Serve.{Served, replyTo, serve}
+use Rattle.rules.specs.Restoring.{Writing, writeRestoration}
 
 -- making: 0 made, 1 refused; and the table at exit
 pub record MakeCall : Type 0 where
@@ -51,3 +52,8 @@ requestAnswer answer s = record { outcome = s .outcome; used = pick (eqb (s .out
 
 unfoldable pub requestCall : List ℕ → List ℕ → List ℕ → RequestCall
 requestCall t msg space = requestAnswer (replyOf t msg) (serve maxSessions t msg space)
+
+-- a restoration request of the session at a place, with the control plane's addresses: the outcome, the request's length (0 where there is
+-- none), and the space at exit
+unfoldable pub restorationCall : List ℕ → ℕ → List ℕ → List ℕ → List ℕ → Writing
+restorationCall t place ipv4 ipv6 space = writeRestoration maxSessions t place ipv4 ipv6 space

@@ -1,4 +1,6 @@
--- `Calls`: what the host's calls answer and leave; `Runs`: calls one after the other; `Accident`: what must not happen in any run.
+-- `Calls`: what the host's calls answer and leave; `Runs`: calls one after the other; `Accident`: what must not happen in any run;
+-- `Restorations`: what the requests that restore a table are good for.
 pub mod Calls
 pub mod Runs
 pub mod Accident
+pub mod Restorations

@@ -5,7 +5,7 @@ ghost use mathlib.Core.Path.{_≡_};
 ghost use Rattle.rules.specs.Limits.{maxSessions};
 ghost use Rattle.rules.specs.Layout.{tableLength};
 ghost use Rattle.table.specs.Answers.{settingsOf};
-ghost use Rattle.pfcp_session.specs.Calls.{makeCall, countCall, requestCall};
+ghost use Rattle.pfcp_session.specs.Calls.{makeCall, countCall, requestCall, restorationCall};
 
 // Outcomes of making a table.
 const MADE: u32 = 0;
@@ -79,4 +79,24 @@ pub extern "C" fn pfcp_request(
     let served = engine::serve(table, message, reply);
     *used = served.used;
     served.outcome
+}
+
+// Writes the restoration request of the session at a place, from 0, with the control plane's addresses (4 octets or none, 16 octets or
+// none): outcome 0, and used is the request's length. A refusal, 1 to 4, writes nothing but 0 there.
+#[no_mangle]
+pub extern "C" fn pfcp_write_restoration(
+    table: &[u8],
+    place: usize,
+    ipv4: &[u8],
+    ipv6: &[u8],
+    space: &mut [u8],
+    used: &mut usize,
+) -> u32
+    ensures { λ r.
+        ⌜ record { outcome = r; used = now (used .exit); space = now (space .exit) }
+        ≡ restorationCall (now (table .entry)) place (now (ipv4 .entry)) (now (ipv6 .entry)) (now (space .entry)) ⌝ }
+{
+    let answer = restoration::write_restoration(table, place, ipv4, ipv6, space);
+    *used = answer.used;
+    answer.outcome
 }

@@ -1,27 +1,28 @@
 -- The header before the elements, and the whole replies: from what the calls leave. Assumes nothing.
-use mathlib.Core.Path.{_≡_, refl, sym, ap, ap₂, _∙_}
+use mathlib.Core.Path.{_≡_, ap₂, _∙_}
 use mathlib.Core.Option.{Option}
 use mathlib.Core.List.{List, [], _∷_, _++_, append-assoc, append-nil}
-use Prim.Native.Nat.{ℕ, _+_, _-_, _/_, _%_, _≤_}
+use Prim.Native.Nat.{ℕ, _+_, _-_, _≤_}
+use native.Mathlib.Nat.{zero-add}
 use native.Mathlib.Omega.{arith}
 use borrow.Author.Tests.{eq-eqb, ne-eqb}
-use lib.ListN.{length, set, getD, take, drop, length-append}
-use Rattle.octets.specs.Octets.{put, be, part, number, numberAt, octetAt}
-use Rattle.octets.proofs.Numbers.{length-be}
-use Rattle.octets.proofs.Put.{put-front, length-part}
+use lib.ListN.{length, getD, take, drop}
+use Rattle.octets.specs.Octets.{put, part, number, numberAt, octetAt}
 use Rattle.laws.proofs.ReplyLaws.{sequence-three}
 use Rattle.rules.specs.Model.{Settings}
 use Rattle.rules.specs.Layout.{viewSettings}
 use Rattle.rules.specs.Message.{kindOf, headerSeid, sequenceOf, establishment}
 use Rattle.rules.specs.Grants.{Grant}
 use Rattle.rules.specs.Stages.{Verdict, plain}
-use Rattle.rules.specs.Reply.{element, message, created, offendingElement, nodeIdElement, unitFseid, acceptedPart, replyBody, replySeid, reply}
+use Rattle.rules.specs.Reply.{element, created, offendingElement, nodeIdElement, unitFseid, acceptedPart, replyBody, replySeid, reply}
 use Rattle.rules.specs.Types as ie
 use Rattle.rules.specs.Causes as why
 use Rattle.writing.specs.Placed.{Placed, written}
-use Rattle.reply.specs.Parts.{messageHead, replyHead, bodyFront}
+use Rattle.reply.specs.Parts.{replyHead, bodyFront}
 use Rattle.reply.proofs.LengthLaws.{view-ipv4, view-ipv6, length-node, length-front, length-fseid, length-created-most, length-body}
-use Rattle.writing.proofs.PlacedLaws.{next-put, next-set, four-stores, be-two, placed-then}
+use Rattle.writing.specs.Heads.{messageHead}
+use Rattle.writing.proofs.PlacedLaws.{placed-then}
+use Rattle.writing.proofs.ElementSteps.{placed-message}
 
 -- ---- the first elements
 
@@ -35,24 +36,10 @@ module _ (t : List ℕ) (kind cause : ℕ) (out : List ℕ) (room : 30 ≤ lengt
 
 -- ---- the header
 
-pub header-steps : (msg out : List ℕ) (seid n : ℕ) {out₁ out₂ : List ℕ} → 16 ≤ length msg → n ≤ 1008 → 16 ≤ length out
-    → out₁ ≡ put 4 (be 8 seid) (set (set (set (set out 0 33) 1 (getD msg 1 0 + 1)) 2 ((12 + n) / 256)) 3 ((12 + n) % 256))
-    → out₂ ≡ put 12 (take 3 (drop 12 msg)) out₁
-    → set out₂ 15 0 ≡ put 0 (messageHead (kindOf msg + 1) seid (sequenceOf msg) n) out
-unfolding messageHead kindOf octetAt sequenceOf
-header-steps msg out seid n h small room p q =
-    let k : ℕ = getD msg 1 0 + 1 in
-    let e : (12 + n) / 256 % 256 ≡ (12 + n) / 256 = omega arith in
-    let two : be 2 (12 + n) ≡ (12 + n) / 256 ∷ (12 + n) % 256 ∷ [] = be-two (12 + n) ∙ ap (λ (x : ℕ). x ∷ (12 + n) % 256 ∷ []) e in
-    let a : List ℕ = 33 ∷ k ∷ (12 + n) / 256 ∷ (12 + n) % 256 ∷ [] in
-    let three : length (part 12 3 msg) ≡ 3 = length-part 12 3 msg (omega arith) in
-    let eight = length-be 8 seid in
-    let first = next-put 0 4 a (be 8 seid) out (four-stores 0 33 k ((12 + n) / 256) ((12 + n) % 256) out (omega arith)) p refl (omega arith) in
-    let l : length (a ++ be 8 seid) ≡ 12 = length-append a (be 8 seid) ∙ omega arith in
-    let second = next-put 0 12 (a ++ be 8 seid) (part 12 3 msg) out first q (omega arith) (omega arith) in
-    let m : length ((a ++ be 8 seid) ++ part 12 3 msg) ≡ 15 = length-append (a ++ be 8 seid) (part 12 3 msg) ∙ omega arith in
-    next-set 0 15 ((a ++ be 8 seid) ++ part 12 3 msg) 0 out second (omega arith) (omega arith)
-    ∙ rw two (ap (λ (xs : List ℕ). put 0 xs out) (simp append-assoc))
+pub finish-steps : (msg out : List ℕ) (cause seid s end : ℕ) {out₁ : List ℕ} → s ≡ replySeid (kindOf msg) cause (headerSeid msg) seid
+    → out₁ ≡ put 0 (messageHead (getD msg 1 0 + 1) s (take 3 (drop 12 msg)) (end - 16)) out → out₁ ≡ put 0 (replyHead msg seid cause (end - 16)) out
+unfolding replyHead kindOf octetAt sequenceOf
+finish-steps msg out cause seid s end e p = rw (← e) p
 
 -- ---- the reply's SEID
 
@@ -78,36 +65,15 @@ module _ (msg : List ℕ) (cause seid : ℕ) where
 
 -- ---- the whole
 
--- a message is its header and its elements
-message-headed : (kind seid : ℕ) (q xs : List ℕ) → message kind seid q xs ≡ messageHead kind seid q (length xs) ++ xs
-unfolding message messageHead
-message-headed kind seid q xs = simp append-assoc
-
-length-head : (kind seid : ℕ) (q : List ℕ) (n : ℕ) → length q ≡ 3 → length (messageHead kind seid q n) ≡ 16
-unfolding messageHead
-length-head kind seid q n e =
-    omega (arith, length-append (be 2 (12 + n)) (be 8 seid ++ (q ++ 0 ∷ [])), length-append (be 8 seid) (q ++ 0 ∷ []), length-append q (0 ∷ []), length-be 2 (12 + n), length-be 8 seid)
-
 -- elements from octet 16 on with the header before them are the reply
 pub whole : (s : Settings) (msg : List ℕ) (seid : ℕ) (v : Verdict) (gs : List Grant) (out : List ℕ) {out₁ out₂ : List ℕ} {end : ℕ}
     → 16 ≤ length msg → 16 + length (replyBody (kindOf msg) s seid v gs) ≤ length out
     → Placed out 16 (replyBody (kindOf msg) s seid v gs) end out₁ → out₂ ≡ put 0 (replyHead msg seid (v .cause) (end - 16)) out₁
     → (end, out₂) ≡ written (reply s msg seid v gs) out
 unfolding reply replyHead
-whole s msg seid v gs out {out₁} {out₂} {end} h room p q =
-    let xs : List ℕ = replyBody (kindOf msg) s seid v gs in
-    let k : ℕ = replySeid (kindOf msg) (v .cause) (headerSeid msg) seid in
-    let ends = p .ends in
-    let n : end - 16 ≡ length xs = omega arith in
-    let head : List ℕ = messageHead (kindOf msg + 1) k (sequenceOf msg) (length xs) in
-    let l : length head ≡ 16 = length-head (kindOf msg + 1) k (sequenceOf msg) (length xs) (sequence-three msg h) in
-    let place : 16 ≡ 0 + length head = omega arith in
-    let both : out₂ ≡ put 0 (head ++ xs) out =
-    q ∙ ap₂ (λ (m : ℕ) (o : List ℕ). put 0 (messageHead (kindOf msg + 1) k (sequenceOf msg) m) o) n (p .holds ∙ ap (λ (m : ℕ). put m xs out) place)
-    ∙ put-front 0 head xs out (omega arith) in
-    ap₂ (λ (m : ℕ) (o : List ℕ). (m, o))
-    (p .ends ∙ ap (λ (m : ℕ). m + length xs) (sym l) ∙ sym (length-append head xs) ∙ ap length (sym (message-headed (kindOf msg + 1) k (sequenceOf msg) xs)))
-    (both ∙ ap (λ (ys : List ℕ). put 0 ys out) (sym (message-headed (kindOf msg + 1) k (sequenceOf msg) xs)))
+whole s msg seid v gs out h room p q =
+    let w = placed-message (kindOf msg + 1) (replySeid (kindOf msg) (v .cause) (headerSeid msg) seid) (sequenceOf msg) (replyBody (kindOf msg) s seid v gs) out (sequence-three msg h) room p q in
+    ap₂ (λ (m : ℕ) (o : List ℕ). (m, o)) (w .ends ∙ zero-add (length (reply s msg seid v gs))) (w .holds)
 
 module _ (s : Settings) (kind : ℕ) where
   pub refused-body : (cause : ℕ) (o : Option ℕ) → (cause ≡ why.accepted → ⊥)

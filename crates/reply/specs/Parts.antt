@@ -2,15 +2,11 @@
 -- Assumes nothing.
 use Prim.Native.Nat.{ℕ, _+_}
 use mathlib.Core.List.{List, [], _∷_, _++_}
-use Rattle.octets.specs.Octets.{be}
 use Rattle.rules.specs.Model.{Settings}
 use Rattle.rules.specs.Message.{kindOf, headerSeid, sequenceOf}
 use Rattle.rules.specs.Reply.{element, nodeIdElement, replySeid}
 use Rattle.rules.specs.Types as ie
-
--- a message's header, before elements of n octets
-unfoldable pub messageHead : ℕ → ℕ → List ℕ → ℕ → List ℕ
-messageHead kind seid sequence n = 33 ∷ kind ∷ be 2 (12 + n) ++ (be 8 seid ++ (sequence ++ 0 ∷ []))
+use Rattle.writing.specs.Heads.{messageHead}
 
 -- a reply's header
 unfoldable pub replyHead : List ℕ → ℕ → ℕ → ℕ → List ℕ

@@ -8,12 +8,12 @@ ghost use lib.ListN.{length};
 ghost use Rattle.octets.specs.Octets.{put};
 ghost use Rattle.octets.specs.Lists.{all};
 ghost use Rattle.rules.specs.Layout.{viewSettings, settingsWidth};
-ghost use Rattle.rules.specs.Message.{kindOf, headerSeid, sequenceOf};
+ghost use Rattle.rules.specs.Message.{kindOf, headerSeid};
 ghost use Rattle.rules.specs.Stages.{plain};
 ghost use Rattle.rules.specs.Reply.{replySeid, offendingElement, reply};
 ghost use Rattle.rules.specs.Causes as why;
 ghost use Rattle.writing.specs.Placed.{Placed, written};
-ghost use Rattle.reply.specs.Parts.{messageHead, replyHead, bodyFront};
+ghost use Rattle.reply.specs.Parts.{replyHead, bodyFront};
 ghost use Rattle.reply.specs.Naming.{offendingIn, refusal};
 ghost use Rattle.created.specs.Groups.{idFits};
 ghost use Rattle.created.specs.Entries.{maxGrants, grantsAt, within};
@@ -41,21 +41,6 @@ fn reply_seid(msg: &[u8], cause: u8, seid: u64) -> u64
     octets::read(msg, 4, 8)
 }
 
-// The header, for elements of n octets: the type after the request's, the request's sequence number.
-fn write_header(msg: &[u8], seid: u64, n: usize, out: &mut [u8])
-    requires { ⌜ (16 ≤ length (now msg)) × (kindOf (now msg) < 255) × (n ≤ 1008) × (16 ≤ length (now out)) ⌝ }
-    ensures { λ _. ⌜ now (out .exit) ≡ put 0 (messageHead (kindOf (now (msg .entry)) + 1) seid (sequenceOf (now (msg .entry))) n) (now (out .entry)) ⌝ }
-{
-    let total = 12 + n;
-    out[0] = 33;
-    out[1] = msg[1] + 1;
-    out[2] = (total / 256) as u8;
-    out[3] = (total % 256) as u8;
-    octets::write(out, 4, 8, seid);
-    octets::copy(out, 12, &msg[12..15]);
-    out[15] = 0;
-}
-
 // What every reply has from octet 16 on: the Node ID in an establishment's, and the cause.
 fn write_front(t: &[u8], kind: u8, cause: u8, out: &mut [u8]) -> usize
     requires { ⌜ (settingsWidth ≤ length (now t)) × (30 ≤ length (now out)) ⌝ }
@@ -76,13 +61,13 @@ fn write_offending(offending: Offending, out: &mut [u8], at: usize) -> usize
     }
 }
 
-// The header before elements that end at a place.
+// The header before elements that end at a place: the type after the request's, the request's sequence number.
 fn finish(msg: &[u8], cause: u8, seid: u64, end: usize, out: &mut [u8])
     requires { ⌜ (16 ≤ length (now msg)) × (kindOf (now msg) < 255) × (16 ≤ end) × (end ≤ 1024) × (16 ≤ length (now out)) ⌝ }
     ensures { λ _. ⌜ now (out .exit) ≡ put 0 (replyHead (now (msg .entry)) seid cause (end - 16)) (now (out .entry)) ⌝ }
 {
     let s = reply_seid(msg, cause, seid);
-    write_header(msg, s, end - 16, out);
+    writing::write_header(msg[1] + 1, s, &msg[12..15], end - 16, out);
 }
 
 // The whole reply of a refusal, at the front of out; the answer is its length.
@@ -110,7 +95,7 @@ pub fn accepted(
     ensures { λ r. ⌜ (r, now (out .exit)) ≡ written (reply (viewSettings (now (t .entry))) (now (msg .entry)) seid (plain why.accepted) (grantsAt (now (plan .entry)) (now (places .entry)))) (now (out .entry)) ⌝ }
 {
     let next = write_front(t, msg[1], 1, out);
-    let own = writing::write_fseid(t, msg[1], seid, out, next);
+    let own = writing::write_own_fseid(t, msg[1], seid, out, next);
     let end = created::write_created(t, plan, places, out, own);
     finish(msg, 1, seid, end, out);
     end

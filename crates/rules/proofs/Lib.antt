@@ -3,3 +3,4 @@ pub mod ElementExamples
 pub mod CallExamples
 pub mod RestorationExamples
 pub mod EndpointExamples
+pub mod WriterExamples

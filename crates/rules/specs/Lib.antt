@@ -15,5 +15,6 @@ pub mod Reply
 pub mod Serve
 pub mod Live
 pub mod Restoration
+pub mod Restoring
 pub mod Calls
 pub mod Claim

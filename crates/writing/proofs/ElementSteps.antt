@@ -1,8 +1,8 @@
 -- What the writers of single elements leave: for each, from what its calls and stores leave. Assumes nothing.
-use mathlib.Core.Path.{_≡_, refl, sym, ap, _∙_}
+use mathlib.Core.Path.{_≡_, refl, sym, ap, ap₂, _∙_}
 use mathlib.Core.Bool.{Bool, true, false, not, _&&_}
 use mathlib.Core.Option.{some}
-use mathlib.Core.List.{List, [], _∷_, _++_, append-nil}
+use mathlib.Core.List.{List, [], _∷_, _++_, append-assoc}
 use Prim.Native.Nat.{ℕ, zero, suc, _+_, _-_, _*_, _/_, _%_, _≤_, _<_}
 use native.Mathlib.Nat.{div-one}
 use native.Mathlib.Omega.{arith}
@@ -12,22 +12,34 @@ use lib.ListN.{length, set, getD, take, length-append}
 use Rattle.octets.specs.Choice.{pick, flag, isNil}
 use Rattle.octets.specs.Octets.{put, be, part, bit, octetAt}
 use Rattle.octets.proofs.Numbers.{length-be}
-use Rattle.octets.proofs.Put.{set-put, length-part}
+use Rattle.octets.proofs.Put.{set-put, put-front, length-part}
 use Rattle.rules.specs.Layout.{viewSettings, settingsWidth}
 use Rattle.rules.specs.Model.{Settings}
 use Rattle.rules.specs.Elements.{fteidOctets, unitFteid, fseidOctets}
-use Rattle.rules.specs.Reply.{element, nodeIdElement, offendingElement, unitFseid, unitElement}
+use Rattle.rules.specs.Reply.{element, message, nodeIdElement, offendingElement, unitFseid, unitElement}
 use Rattle.rules.specs.Types as ie
 use Rattle.rules.specs.Message.{establishment}
 use Rattle.writing.specs.Families.{unitFamilies, unitAddresses, tunnelIn}
 use Rattle.writing.specs.Placed.{Placed}
-use Rattle.writing.proofs.PlacedLaws.{next-put, four-stores, be-two, length-element, placed-none, placed-element, length-headed}
+use Rattle.writing.specs.Heads.{fseidFlags, messageHead}
+use Rattle.writing.proofs.PlacedLaws.{next-put, next-set, four-stores, be-two, length-element, placed-none, placed-element, length-headed}
 
 pub head-steps : (kind n at : ℕ) (s : List ℕ) → at + 4 ≤ length s
     → set (set (set (set s at (kind / 256 % 256)) (at + 1) (kind % 256)) (at + 2) (n / 256 % 256)) (at + 3) (n % 256) ≡ put at (be 2 kind ++ be 2 n) s
 head-steps kind n at s h = rw (be-two kind, be-two n) (four-stores at (kind / 256 % 256) (kind % 256) (n / 256 % 256) (n % 256) s h)
 
--- ---- elements of fixed length
+is-nil : (xs : List ℕ) → length xs ≡ 0 → isNil xs ≡ true
+is-nil [] e = refl
+is-nil (x ∷ xs) e = absurd (native.Mathlib.Nat.suc-ne-zero (length xs) e)
+
+non-nil : (xs : List ℕ) → (length xs ≡ 0 → ⊥) → isNil xs ≡ false
+non-nil [] e = absurd (e refl)
+non-nil (x ∷ xs) e = refl
+
+not-nil : (xs : List ℕ) (n : ℕ) → length xs ≡ suc n → isNil xs ≡ false
+not-nil xs n e = non-nil xs (λ z. native.Mathlib.Nat.suc-ne-zero n (sym e ∙ z))
+
+-- ---- elements of fixed length, and of given octets
 
 module _ (at : ℕ) (s : List ℕ) {s₁ : List ℕ} where
   pub cause-steps : (cause : ℕ) → at + 5 ≤ length s → s₁ ≡ put at (be 2 19 ++ be 2 1) s → Placed s at (element ie.cause (cause ∷ [])) (at + 5) (set s₁ (at + 4) cause)
@@ -39,20 +51,52 @@ module _ (at : ℕ) (s : List ℕ) {s₁ : List ℕ} where
   unfolding offendingElement
   offending-steps t h p q = placed-element at 40 2 s p (omega arith) (at + 4) (at + 6) (be 2 t) q refl (length-be 2 t) (omega arith)
 
--- ---- elements with the unit's IPv4 address
+  pub value-steps : (kind : ℕ) (v : List ℕ) {s₂ : List ℕ} → at + 4 + length v ≤ length s → s₁ ≡ put at (be 2 kind ++ be 2 (length v)) s → s₂ ≡ put (at + 4) v s₁
+      → Placed s at (element kind v) (at + 4 + length v) s₂
+  value-steps kind v h p q = placed-element at kind (length v) s p (omega arith) (at + 4) (at + 4 + length v) v q refl refl refl
 
-not-nil : (xs : List ℕ) (n : ℕ) → length xs ≡ suc n → isNil xs ≡ false
-not-nil [] n e = absurd (native.Mathlib.Nat.suc-ne-zero n (sym e))
-not-nil (x ∷ xs) n e = refl
+-- ---- F-SEID
+
+module _ (a b : List ℕ) where
+  pub flags-none : length a ≡ 0 → length b ≡ 0 → 0 ≡ fseidFlags a b
+  flags-none e f = rw (is-nil a e, is-nil b f)
+
+  pub flags-v6 : length a ≡ 0 → (length b ≡ 0 → ⊥) → 1 ≡ fseidFlags a b
+  flags-v6 e f = rw (is-nil a e, non-nil b f)
+
+  pub flags-v4 : (length a ≡ 0 → ⊥) → length b ≡ 0 → 2 ≡ fseidFlags a b
+  flags-v4 e f = rw (non-nil a e, is-nil b f)
+
+  pub flags-both : (length a ≡ 0 → ⊥) → (length b ≡ 0 → ⊥) → 3 ≡ fseidFlags a b
+  flags-both e f = rw (non-nil a e, non-nil b f)
+
+pub fseid-steps : (seid at f : ℕ) (a b s : List ℕ) {s₁ s₂ s₃ s₄ : List ℕ} → at + 13 + length a + length b ≤ length s
+    → s₁ ≡ put at (be 2 57 ++ be 2 (at + 13 + length a + length b - at - 4)) s → f ≡ fseidFlags a b → s₂ ≡ put (at + 5) (be 8 seid) (set s₁ (at + 4) f)
+    → s₃ ≡ put (at + 13) a s₂ → s₄ ≡ put (at + 13 + length a) b s₃
+    → Placed s at (element ie.fseid (fseidOctets seid a b)) (at + 13 + length a + length b) s₄
+unfolding fseidOctets
+fseid-steps seid at f a b s {s₁} h p flags q r u =
+    let n : ℕ = at + 13 + length a + length b - at - 4 in
+    let l : length s₁ ≡ length s = length-headed at ie.fseid n s p (omega arith) in
+    let e = length-be 8 seid in
+    let one = next-put (at + 4) (at + 5) (f ∷ []) (be 8 seid) s₁ (set-put (at + 4) f s₁ (omega arith)) q (omega arith) (omega arith) in
+    let two = next-put (at + 4) (at + 13) (f ∷ be 8 seid) a s₁ one r (omega arith) (omega arith) in
+    let m : length ((f ∷ be 8 seid) ++ a) ≡ 9 + length a = ap suc (length-append (be 8 seid) a) ∙ omega arith in
+    let three = next-put (at + 4) (at + 13 + length a) ((f ∷ be 8 seid) ++ a) b s₁ two u (omega arith) (omega arith) in
+    let whole : List ℕ = f ∷ (be 8 seid ++ a) ++ b in
+    let k : length whole ≡ n = length-append (f ∷ be 8 seid ++ a) b ∙ omega arith in
+    rw (← flags, ← append-assoc (be 8 seid) a b) (placed-element at ie.fseid n s p (omega arith) (at + 4) (at + 13 + length a + length b) whole three refl k (omega arith))
+
+-- ---- elements with the unit's IPv4 address
 
 module _ (kind at : ℕ) (t s : List ℕ) where
   pub node-not : (kind ≡ establishment → ⊥) → Placed s at (nodeIdElement kind (viewSettings t)) at s
   unfolding nodeIdElement
   node-not k = rw (ne-eqb kind establishment k) (placed-none s at)
 
-  pub fseid-not : (seid : ℕ) → (kind ≡ establishment → ⊥) → Placed s at (unitFseid kind (viewSettings t) seid) at s
+  pub own-not : (seid : ℕ) → (kind ≡ establishment → ⊥) → Placed s at (unitFseid kind (viewSettings t) seid) at s
   unfolding unitFseid
-  fseid-not seid k = rw (ne-eqb kind establishment k) (placed-none s at)
+  own-not seid k = rw (ne-eqb kind establishment k) (placed-none s at)
 
   module _ (long : settingsWidth ≤ length t) (k : kind ≡ establishment) where
     four : length (take 4 t) ≡ 4
@@ -68,17 +112,9 @@ module _ (kind at : ℕ) (t s : List ℕ) where
         (next-put (at + 4) (at + 5) (0 ∷ []) (take 4 t) s₁ (set-put (at + 4) 0 s₁ (omega arith)) q (omega arith) (omega arith))
         refl (ap suc four) (omega arith))
 
-    pub fseid-steps : (seid : ℕ) {s₁ s₂ s₃ : List ℕ} → at + 17 ≤ length s → s₁ ≡ put at (be 2 57 ++ be 2 13) s → s₂ ≡ put (at + 5) (be 8 seid) (set s₁ (at + 4) 2)
-        → s₃ ≡ put (at + 13) (take 4 t) s₂ → Placed s at (unitFseid kind (viewSettings t) seid) (at + 17) s₃
-    unfolding unitFseid viewSettings fseidOctets
-    fseid-steps seid {s₁} h p q r =
-        let l : length s₁ ≡ length s = length-headed at ie.fseid 13 s p (omega arith) in
-        let b = length-be 8 seid in
-        rw (eq-eqb kind establishment k, not-nil (take 4 t) 3 four, append-nil (take 4 t))
-        (placed-element at ie.fseid 13 s p (omega arith) (at + 4) (at + 17) ((2 ∷ be 8 seid) ++ take 4 t)
-        (next-put (at + 4) (at + 13) (2 ∷ be 8 seid) (take 4 t) s₁
-        (next-put (at + 4) (at + 5) (2 ∷ []) (be 8 seid) s₁ (set-put (at + 4) 2 s₁ (omega arith)) q (omega arith) (omega arith)) r (omega arith) (omega arith))
-        refl (let e = length-append (be 8 seid) (take 4 t) in omega (arith, four)) (omega arith))
+    pub own-steps : (seid : ℕ) {e : ℕ} {s₁ : List ℕ} → Placed s at (element ie.fseid (fseidOctets seid (take 4 t) [])) e s₁ → Placed s at (unitFseid kind (viewSettings t) seid) e s₁
+    unfolding unitFseid viewSettings
+    own-steps seid p = rw (eq-eqb kind establishment k) p
 
 -- ---- F-TEID
 
@@ -212,3 +248,49 @@ addresses-steps t f at s {s₁} {s₂} h g l p q =
       ends = rw (length-append a b, la, lb) (omega arith);
       holds = next-put at (at + 4 * (f % 2)) a b s p (rw k at q) (omega arith) (omega arith);
     }
+
+-- ---- a message's header
+
+pub header-steps : (kind seid n : ℕ) (q out : List ℕ) {out₁ out₂ : List ℕ} → length q ≡ 3 → n ≤ 2032 → 16 ≤ length out
+    → out₁ ≡ put 4 (be 8 seid) (set (set (set (set out 0 33) 1 kind) 2 ((12 + n) / 256)) 3 ((12 + n) % 256))
+    → out₂ ≡ put 12 q out₁
+    → set out₂ 15 0 ≡ put 0 (messageHead kind seid q n) out
+unfolding messageHead
+header-steps kind seid n q out three small room p r =
+    let e : (12 + n) / 256 % 256 ≡ (12 + n) / 256 = omega arith in
+    let two : be 2 (12 + n) ≡ (12 + n) / 256 ∷ (12 + n) % 256 ∷ [] = be-two (12 + n) ∙ ap (λ (x : ℕ). x ∷ (12 + n) % 256 ∷ []) e in
+    let a : List ℕ = 33 ∷ kind ∷ (12 + n) / 256 ∷ (12 + n) % 256 ∷ [] in
+    let eight = length-be 8 seid in
+    let first = next-put 0 4 a (be 8 seid) out (four-stores 0 33 kind ((12 + n) / 256) ((12 + n) % 256) out (omega arith)) p refl (omega arith) in
+    let l : length (a ++ be 8 seid) ≡ 12 = length-append a (be 8 seid) ∙ omega arith in
+    let second = next-put 0 12 (a ++ be 8 seid) q out first r (omega arith) (omega arith) in
+    let m : length ((a ++ be 8 seid) ++ q) ≡ 15 = length-append (a ++ be 8 seid) q ∙ omega arith in
+    next-set 0 15 ((a ++ be 8 seid) ++ q) 0 out second (omega arith) (omega arith)
+    ∙ rw two (ap (λ (xs : List ℕ). put 0 xs out) (simp append-assoc))
+
+-- a message is its header and its elements
+pub message-headed : (kind seid : ℕ) (q xs : List ℕ) → message kind seid q xs ≡ messageHead kind seid q (length xs) ++ xs
+unfolding message messageHead
+message-headed kind seid q xs = simp append-assoc
+
+pub length-head : (kind seid : ℕ) (q : List ℕ) (n : ℕ) → length q ≡ 3 → length (messageHead kind seid q n) ≡ 16
+unfolding messageHead
+length-head kind seid q n e =
+    omega (arith, length-append (be 2 (12 + n)) (be 8 seid ++ (q ++ 0 ∷ [])), length-append (be 8 seid) (q ++ 0 ∷ []), length-append q (0 ∷ []), length-be 2 (12 + n), length-be 8 seid)
+
+-- elements from octet 16 on with the header before them are the message
+pub placed-message : (kind seid : ℕ) (q xs out : List ℕ) {out₁ out₂ : List ℕ} {end : ℕ} → length q ≡ 3 → 16 + length xs ≤ length out
+    → Placed out 16 xs end out₁ → out₂ ≡ put 0 (messageHead kind seid q (end - 16)) out₁ → Placed out 0 (message kind seid q xs) end out₂
+placed-message kind seid q xs out {out₁} {out₂} {end} three room p r =
+    let ends = p .ends in
+    let n : end - 16 ≡ length xs = omega arith in
+    let head : List ℕ = messageHead kind seid q (length xs) in
+    let l : length head ≡ 16 = length-head kind seid q (length xs) three in
+    let place : 16 ≡ 0 + length head = omega arith in
+    rw (message-headed kind seid q xs)
+    (record {
+      ends = let k = length-append head xs in omega arith;
+      holds =
+          r ∙ ap₂ (λ (m : ℕ) (o : List ℕ). put 0 (messageHead kind seid q m) o) n (p .holds ∙ ap (λ (m : ℕ). put m xs out) place)
+          ∙ put-front 0 head xs out (omega arith);
+    })

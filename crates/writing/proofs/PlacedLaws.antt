@@ -1,14 +1,14 @@
 -- What is written one piece after the other is written at once: for every writer of a reply. Of general use.
 -- Assumes nothing.
 use mathlib.Core.Path.{_≡_, refl, sym, ap, _∙_}
-use Prim.Native.Nat.{ℕ, _+_, _/_, _%_, _≤_, _<_}
+use Prim.Native.Nat.{ℕ, _+_, _-_, _/_, _%_, _≤_, _<_}
 use native.Mathlib.Nat.{add-assoc, add-zero, div-one}
 use native.Mathlib.Omega.{arith}
 use mathlib.Core.List.{List, [], _∷_, _++_, append-assoc}
 use lib.ListN.{length, set, length-append}
 use Rattle.octets.specs.Octets.{put, be}
 use Rattle.octets.proofs.Numbers.{length-be}
-use Rattle.octets.proofs.Put.{put-nil, length-put, put-behind, set-put}
+use Rattle.octets.proofs.Put.{put-nil, length-put, put-front, put-behind, set-put}
 use Rattle.rules.specs.Reply.{element}
 use Rattle.writing.specs.Placed.{Placed}
 
@@ -62,3 +62,19 @@ module _ (at kind n : ℕ) (s : List ℕ) {s₁ : List ℕ} (p : s₁ ≡ put at
         next-put at q (be 2 kind ++ be 2 n) v s p f (omega (arith, four)) (omega arith)
         ∙ ap (λ (xs : List ℕ). put at xs s) (append-assoc (be 2 kind) (be 2 n) v ∙ ap (λ (k : ℕ). be 2 kind ++ (be 2 k ++ v)) (sym l));
   }
+
+-- a group: its content first, then its type and length in front of it
+pub placed-group : (kind at front : ℕ) (xs s : List ℕ) {s₁ s₂ : List ℕ} {e : ℕ} → front ≡ at + 4 → front ≤ length s
+    → Placed s front xs e s₁ → s₂ ≡ put at (be 2 kind ++ be 2 (e - front)) s₁ → Placed s at (element kind xs) e s₂
+unfolding element
+placed-group kind at front xs s {s₁} {s₂} {e} f h p q =
+    let n : e - front ≡ length xs = let k = p .ends in omega arith in
+    let head : List ℕ = be 2 kind ++ be 2 (length xs) in
+    let l : length head ≡ 4 = simp (length-append, length-be) in
+    let g : front ≡ at + length head = omega arith in
+    record {
+      ends = let k = length-element kind xs in let m = p .ends in omega arith;
+      holds =
+          q ∙ ap (λ (k : ℕ). put at (be 2 kind ++ be 2 k) s₁) n ∙ ap (put at head) (p .holds ∙ ap (λ (k : ℕ). put k xs s) g)
+          ∙ put-front at head xs s (omega arith) ∙ ap (λ (ys : List ℕ). put at ys s) (append-assoc (be 2 kind) (be 2 (length xs)) xs);
+    }

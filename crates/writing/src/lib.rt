@@ -1,4 +1,4 @@
-// The reply's elements, each written from a place on; the answer is the place after it.
+// The elements of replies and restorations, each written from a place on, with the place after it as the answer; and a message's header.
 ghost use mathlib.Core.Path.{_≡_};
 ghost use Prim.Native.Nat.{_+_, _*_, _/_, _%_, _≤_, _<_};
 ghost use lib.ListN.{length};
@@ -6,10 +6,12 @@ ghost use mathlib.Core.List.{[], _∷_, _++_};
 ghost use mathlib.Core.Option.{some};
 ghost use Rattle.octets.specs.Octets.{put, be, part};
 ghost use Rattle.rules.specs.Layout.{viewSettings, settingsWidth};
+ghost use Rattle.rules.specs.Elements.{fseidOctets};
 ghost use Rattle.rules.specs.Reply.{element, nodeIdElement, offendingElement, unitFseid, unitElement};
 ghost use Rattle.rules.specs.Types as ie;
 ghost use Rattle.writing.specs.Families.{unitFamilies, addressOctets, unitAddresses, tunnelIn};
 ghost use Rattle.writing.specs.Placed.{Placed};
+ghost use Rattle.writing.specs.Heads.{fseidFlags, messageHead};
 
 // The type of a Session Establishment Request.
 pub const ESTABLISHMENT: u8 = 50;
@@ -59,19 +61,62 @@ pub fn write_offending(t: u64, out: &mut [u8], at: usize) -> usize
     at + 6
 }
 
-// The unit's F-SEID, in an accepted establishment's reply only: bit 2 says that an IPv4 address is there.
-pub fn write_fseid(t: &[u8], kind: u8, seid: u64, out: &mut [u8], at: usize) -> usize
+// An element of the octets v.
+pub fn write_value(kind: usize, v: &[u8], out: &mut [u8], at: usize) -> usize
+    requires { ⌜ at + 4 + length (now v) ≤ length (now out) ⌝ }
+    ensures { λ r. ⌜ Placed (now (out .entry)) at (element kind (now (v .entry))) r (now (out .exit)) ⌝ }
+{
+    write_head(kind, v.len(), out, at);
+    octets::copy(out, at + 4, v);
+    at + 4 + v.len()
+}
+
+// The flags octet of an F-SEID: bit 2 says that an IPv4 address is there, bit 1 an IPv6 address.
+fn fseid_flags(ipv4: &[u8], ipv6: &[u8]) -> u8
+    ensures { λ r. ⌜ r ≡ fseidFlags (now (ipv4 .entry)) (now (ipv6 .entry)) ⌝ }
+{
+    if ipv4.len() == 0 {
+        if ipv6.len() == 0 {
+            return 0;
+        }
+        return 1;
+    }
+    if ipv6.len() == 0 {
+        return 2;
+    }
+    3
+}
+
+// An F-SEID; an address of no octets is not there.
+pub fn write_fseid(seid: u64, ipv4: &[u8], ipv6: &[u8], out: &mut [u8], at: usize) -> usize
+    requires { ⌜ at + 13 + length (now ipv4) + length (now ipv6) ≤ length (now out) ⌝ }
+    ensures { λ r. ⌜ Placed (now (out .entry)) at (element ie.fseid (fseidOctets seid (now (ipv4 .entry)) (now (ipv6 .entry)))) r (now (out .exit)) ⌝ }
+{
+    let next = at + 13 + ipv4.len();
+    let end = next + ipv6.len();
+    write_head(57, end - at - 4, out, at);
+    out[at + 4] = fseid_flags(ipv4, ipv6);
+    octets::write(out, at + 5, 8, seid);
+    octets::copy(out, at + 13, ipv4);
+    octets::copy(out, next, ipv6);
+    end
+}
+
+// The unit's F-SEID, in an accepted establishment's reply only.
+pub fn write_own_fseid(t: &[u8], kind: u8, seid: u64, out: &mut [u8], at: usize) -> usize
     requires { ⌜ (settingsWidth ≤ length (now t)) × (at + 17 ≤ length (now out)) ⌝ }
     ensures { λ r. ⌜ Placed (now (out .entry)) at (unitFseid kind (viewSettings (now (t .entry))) seid) r (now (out .exit)) ⌝ }
 {
     if kind != ESTABLISHMENT {
         return at;
     }
-    write_head(57, 13, out, at);
-    out[at + 4] = 2;
-    octets::write(out, at + 5, 8, seid);
-    octets::copy(out, at + 13, &t[format::IPV4..format::IPV6_THERE]);
-    at + 17
+    write_fseid(
+        seid,
+        &t[format::IPV4..format::IPV6_THERE],
+        &t[0..0],
+        out,
+        at,
+    )
 }
 
 // The families of an F-TEID with the unit's addresses: V4 = 1, V6 = 2 where the unit has an IPv6 address.
@@ -108,4 +153,19 @@ pub fn write_fteid(t: &[u8], teid: u64, families: u64, out: &mut [u8], at: usize
     out[at + 4] = f as u8;
     octets::write(out, at + 5, 4, teid);
     write_addresses(t, f, out, at + 9)
+}
+
+// A message's header, for elements of n octets: type, SEID and sequence number.
+pub fn write_header(kind: u8, seid: u64, sequence: &[u8], n: usize, out: &mut [u8])
+    requires { ⌜ (length (now sequence) ≡ 3) × (n ≤ 2032) × (16 ≤ length (now out)) ⌝ }
+    ensures { λ _. ⌜ now (out .exit) ≡ put 0 (messageHead kind seid (now (sequence .entry)) n) (now (out .entry)) ⌝ }
+{
+    let total = 12 + n;
+    out[0] = 33;
+    out[1] = kind;
+    out[2] = (total / 256) as u8;
+    out[3] = (total % 256) as u8;
+    octets::write(out, 4, 8, seid);
+    octets::copy(out, 12, sequence);
+    out[15] = 0;
 }

@@ -20,8 +20,8 @@ grants s = grantsAt (s .args .plan .now) (s .args .places .now)
 few : (s : tie.Start) → length (grants s) ≤ maxGrants
 few s = omega (arith, s .pre .3, length-map (s .args .places .now) (grantAt (s .args .plan .now)))
 
-write-fseid-requires : tie.Need-write-fseid-requires
-write-fseid-requires c κs =
+write-own-fseid-requires : tie.Need-write-own-fseid-requires
+write-own-fseid-requires c κs =
     let s = c .before .before .before .before .before .before .before .before .before .before .before .before in
     let a = s .args in
     let p = s .pre in
@@ -34,7 +34,7 @@ write-created-requires c κs =
     let a = s .args in
     let p = s .pre in
     let f = c .before .before .before .before .before .before .before .before .write-front in
-    let o = c .before .before .before .write-fseid in
+    let o = c .before .before .before .write-own-fseid in
     (p .0, p .3, p .4, p .5, omega (arith, p .6, f .ensures .ends, o .ensures .ends, f .kept .1 .1 .1 .0, o .kept .1 .1 .1 .0, accepted-room (a .t .now) (a .msg .now) (a .out .now) (p .1) (p .6) (grants s) (few s) (a .seid)))
 
 finish-requires : tie.Need-finish-requires
@@ -43,7 +43,7 @@ finish-requires c κs =
     let a = s .args in
     let p = s .pre in
     let f = c .before .before .before .before .before .before .before .before .before .before .before .before .write-front in
-    let o = c .before .before .before .before .before .before .before .write-fseid in
+    let o = c .before .before .before .before .before .before .before .write-own-fseid in
     let w = c .before .before .before .write-created in (
       p .1,
       p .2,
@@ -58,7 +58,7 @@ returns c =
     let a = s .args in
     let f = c .before .before .before .before .before .before .before .before .before .before .before .before .before .before .before .write-front in
     let w = c .before .before .before .before .before .before .write-created in
-    accepted-steps (a .t .now) (a .msg .now) (a .out .now) (s .pre .1) (s .pre .6) (grants s) (few s) (a .seid) (f .ensures) (c .before .before .before .before .before .before .before .before .before .before .write-fseid .ensures) (w .ensures) (f .kept .1 .1 .1 .0) (c .before .before .finish .ensures)
+    accepted-steps (a .t .now) (a .msg .now) (a .out .now) (s .pre .1) (s .pre .6) (grants s) (few s) (a .seid) (f .ensures) (c .before .before .before .before .before .before .before .before .before .before .write-own-fseid .ensures) (w .ensures) (f .kept .1 .1 .1 .0) (c .before .before .finish .ensures)
 
 pub accepted-spec : {M : Type 1} → statement M
 accepted-spec =
@@ -67,7 +67,7 @@ accepted-spec =
     (λ c. search needs)
     (λ c κs. search needs)
     (λ c. search needs)
-    write-fseid-requires
+    write-own-fseid-requires
     write-created-requires
     finish-requires
     (λ c. search needs)

@@ -1,0 +1,218 @@
+-- The requests of pfcp_write_restoration are short and accepted, give the table back, and leave nothing out.
+-- Assumes nothing.
+use mathlib.Core.Path.{_≡_, refl, sym, ap, ap₂, _∙_, subst}
+use Prim.Native.Nat.{ℕ, _+_, _^_, _≤_, _<_}
+use native.Mathlib.Numerals.{add-one}
+use native.Mathlib.Omega.{arith}
+use mathlib.Core.Bool.{Bool, true, false, not, _&&_}
+use mathlib.Core.List.{List, [], _∷_, map, List·Permᴰ, Permᴰ·refl}
+use borrow.Author.Tests.{leb-false}
+use lib.Dec.{T, leb, ltb, eqb, leb→le}
+use lib.ListN.{length, take, drop, drop-of-length-le}
+use lib.Seq.{drop-cons}
+use Rattle.octets.specs.Choice.{pick}
+use Rattle.octets.specs.Octets.{octets, put, zeros}
+use Rattle.octets.specs.Lists.{all, findBy}
+use Rattle.octets.proofs.Tests.{of-true, all-of-each, all-cons, all-head, all-tail, and-left, and-right}
+use Rattle.rules.specs.Limits.{maxSessions, minSpace, maxRestoration}
+use Rattle.rules.specs.Model.{Settings, Sessions}
+use Rattle.rules.specs.Layout.{encode, viewSettings, viewSessions}
+use Rattle.rules.specs.Sound.{sound, make}
+use Rattle.rules.specs.Stages.{newSession, sessionOf, isLive, plain}
+use Rattle.rules.specs.Apply.{putSession}
+use Rattle.rules.specs.Serve.{Served, replyTo, serve}
+use Rattle.rules.specs.Live.{accepted, replyCause}
+use Rattle.rules.specs.Calls.{Call, request, tableAfterAll}
+use Rattle.rules.specs.Restoration.{peerAllowed, restoration}
+use Rattle.rules.specs.Restoring.{sessionAt, addressed, peerAt, restorationAt, Writing, unwritten, writeInto, writeRestoration}
+use Rattle.rules.specs.Claim.{Step, Ran, Restore, restored, restoreAllowed, restoreCall, restoreCalls, callIn, Restores}
+use Rattle.rules.specs.Causes as why
+use Rattle.claim.proofs.RestorationApply.{restored-call}
+use Rattle.claim.proofs.RestoreAll.{separate-all, empty-allowed, restored-cause, restored-table}
+use Rattle.claim.proofs.Sequence.{made-empty}
+use Rattle.claim.proofs.Runs.{restores-table}
+use Rattle.table.proofs.Encoded.{Encoded, sound-encoded}
+use Rattle.restoration.proofs.RequestSteps.{take-put}
+use Rattle.restoration.proofs.SoundSlots.{session-kept, peer-kept, request-short}
+use Rattle.pfcp_session.specs.Calls.{MakeCall, makeCall, restorationCall}
+use Rattle.pfcp_session.specs.Runs.{stepsOf}
+use Rattle.pfcp_session.specs.Restorations.{Wrote, Past, WroteAll, Emptied, RestorationShort, RestorationAccepted, Asking, messageOf, askingCall, askingAllowed, RestorationsGiveBack, RestorationsTellAll}
+use Rattle.pfcp_session.proofs.RunLaws.{request-step, ran, is-made}
+
+-- ---- what an outcome says
+
+-- the tests that a request passed, and its octets
+record Written (t : List ℕ) (place : ℕ) (ipv4 ipv6 r : List ℕ) : Type 0 where
+  sound : T (sound maxSessions t)
+  live : place < length (viewSessions t)
+  address : T (addressed ipv4 ipv6)
+  is : r ≡ restorationAt t place ipv4 ipv6
+
+module _ (t : List ℕ) (place : ℕ) (ipv4 ipv6 space : List ℕ) where
+  abbrev whole : List ℕ
+  whole = restorationAt t place ipv4 ipv6
+
+  abbrev chain : (b c d e : Bool) → Writing
+  chain b c d e = pick (not b) (unwritten 1 space) (pick c (unwritten 2 space) (pick (not d) (unwritten 3 space) (pick e (unwritten 4 space) (record { outcome = 0; used = length whole; space = put 0 whole space }))))
+
+  by-outcome : (b c d e : Bool) (w : Writing) → w ≡ chain b c d e → w .outcome ≡ 0 → T b × (c ≡ false) × T d × (take (w .used) (w .space) ≡ whole)
+  by-outcome false c d e w p z = absurd (let n = ap (λ (x : Writing). x .outcome) p in omega arith)
+  by-outcome true true d e w p z = absurd (let n = ap (λ (x : Writing). x .outcome) p in omega arith)
+  by-outcome true false false e w p z = absurd (let n = ap (λ (x : Writing). x .outcome) p in omega arith)
+  by-outcome true false true true w p z = absurd (let n = ap (λ (x : Writing). x .outcome) p in omega arith)
+  by-outcome true false true false w p z = (tt, refl, tt, ap (λ (x : Writing). take (x .used) (x .space)) p ∙ take-put whole space)
+
+  past-outcome : (b c d e : Bool) → chain b c d e .outcome ≡ 2 → T b × T c
+  past-outcome false c d e z = absurd (omega arith)
+  past-outcome true true d e z = (tt, tt)
+  past-outcome true false false e z = absurd (omega arith)
+  past-outcome true false true true z = absurd (omega arith)
+  past-outcome true false true false z = absurd (omega arith)
+
+module _ (t : List ℕ) (place : ℕ) where
+  wrote : (r : List ℕ) (w : Wrote t place r) → Written t place (w .ipv4) (w .ipv6) r
+  unfolding restorationCall writeRestoration writeInto
+  wrote r w =
+      let c = leb (length (viewSessions t)) place in
+      let f = by-outcome t place (w .ipv4) (w .ipv6) (w .space) (sound maxSessions t) c (addressed (w .ipv4) (w .ipv6)) (ltb (length (w .space)) (length (restorationAt t place (w .ipv4) (w .ipv6)))) (w .answer) (w .call) (w .success) in
+      record { sound = f .0; live = leb-false (length (viewSessions t)) place (f .1); address = f .2; is = w .octetsOf ∙ f .3 }
+
+  past : Past t place → T (sound maxSessions t) × (length (viewSessions t) ≤ place)
+  unfolding restorationCall writeRestoration writeInto
+  past p =
+      let f = past-outcome t place (p .ipv4) (p .ipv6) (p .space) (sound maxSessions t) (leb (length (viewSessions t)) place) (addressed (p .ipv4) (p .ipv6)) (ltb (length (p .space)) (length (restorationAt t place (p .ipv4) (p .ipv6)))) (p .outcome) in
+      (f .0, leb→le (length (viewSessions t)) place (f .1))
+
+-- ---- short
+
+pub restoration-short : RestorationShort
+unfolding RestorationShort
+restoration-short t place r w =
+    let k = wrote t place r w in
+    subst (λ (l : List ℕ). length l ≤ maxRestoration) (sym (k .is)) (request-short t (k .sound) place (k .live) (w .ipv4) (w .ipv6) (k .address))
+
+-- ---- accepted by an empty table
+
+emptied : (t : List ℕ) (made : MakeCall) (e : Emptied t made) → T (make maxSessions (viewSettings t) (e .found) .made) × (made .table ≡ make maxSessions (viewSettings t) (e .found) .table)
+unfolding makeCall
+emptied t made e =
+    (is-made (make maxSessions (viewSettings t) (e .found)) (sym (ap (λ (x : MakeCall). x .outcome) (e .making)) ∙ e .success), ap (λ (x : MakeCall). x .table) (e .making))
+
+small : maxSessions < 256 ^ 2
+small = omega arith
+
+pub restoration-accepted : RestorationAccepted
+unfolding RestorationAccepted accepted restorationAt
+restoration-accepted t place r made space answer w e long call =
+    let k = wrote t place r w in
+    let s = viewSettings t in
+    let hs = sound-encoded maxSessions t (k .sound) .settings in
+    let x = sessionAt (viewSessions t) place in
+    let hx = session-kept t (k .sound) place (k .live) in
+    let p = peerAt place (w .ipv4) (w .ipv6) in
+    let hp = peer-kept t (k .sound) place (k .live) (w .ipv4) (w .ipv6) (k .address) in
+    let m = emptied t made e in
+    let empty : made .table ≡ encode maxSessions s [] = m .1 ∙ made-empty maxSessions s (e .found) (m .0) in
+    let served : _≡_ {A = Served} (record { outcome = answer .outcome; space = answer .space; table = answer .table })
+    (record { outcome = 0; space = put 0 (replyTo s [] (restoration s p x) (plain why.accepted)) space; table = encode maxSessions s (putSession x []) }) =
+    request-step (made .table) r space answer call
+    ∙ ap₂ (λ (u v : List ℕ). serve maxSessions u v space) empty (k .is)
+    ∙ restored-call s hs x hx maxSessions [] (unfold isLive sessionOf findBy in refl) (omega arith) (separate-all x [] (unfold all in tt)) p hp small (empty-allowed maxSessions s) space long in
+    of-true
+    (ap₂ (λ (o : ℕ) (l : List ℕ). eqb o 0 && eqb (replyCause l) 1) (ap (λ (v : Served). v .outcome) served) (ap (λ (v : Served). v .space) served)
+    ∙ ap (λ (c : ℕ). eqb c 1) (restored-cause s hs x hx p hp [] space))
+
+-- ---- all in turn
+
+-- what was asked, in the words of the claim
+restoresFrom : (t : List ℕ) (place : ℕ) (asked : List Asking) → WroteAll t place (map messageOf asked) → List Restore
+restoresFrom t place [] w = []
+restoresFrom t place (a ∷ asked) w =
+    record { session = sessionAt (viewSessions t) place; peer = peerAt place (w .0 .ipv4) (w .0 .ipv6); space = a .reply } ∷ restoresFrom t (place + 1) asked (w .1)
+
+-- the table is not broken
+all-sound : (t : List ℕ) (place : ℕ) (rs : List (List ℕ)) → WroteAll t place rs → T (sound maxSessions t)
+all-sound t place [] w = past t place w .0
+all-sound t place (r ∷ rs) w = wrote t place r (w .0) .sound
+
+-- the sessions are the table's from the place on
+all-sessions : (t : List ℕ) (place : ℕ) (asked : List Asking) (w : WroteAll t place (map messageOf asked)) → drop place (viewSessions t) ≡ map restored (restoresFrom t place asked w)
+unfolding sessionAt restoresFrom
+all-sessions t place [] w = drop-of-length-le (viewSessions t) {i = place} (past t place w .1)
+all-sessions t place (a ∷ asked) w =
+    drop-cons (viewSessions t) place (newSession 0) (wrote t place (a .message) (w .0) .live)
+    ∙ ap (λ (m : Sessions). sessionAt (viewSessions t) place ∷ m) (ap (λ (n : ℕ). drop n (viewSessions t)) (sym (add-one place)) ∙ all-sessions t (place + 1) asked (w .1))
+
+all-allowed : (t : List ℕ) (place : ℕ) (asked : List Asking) (w : WroteAll t place (map messageOf asked)) → T (all askingAllowed asked) → T (all restoreAllowed (restoresFrom t place asked w))
+unfolding restoreAllowed askingAllowed all restoresFrom
+all-allowed t place [] w h = tt
+all-allowed t place (a ∷ asked) w h =
+    let k = wrote t place (a .message) (w .0) in
+    let f = all-head askingAllowed a asked h in
+    let p = peerAt place (w .0 .ipv4) (w .0 .ipv6) in
+    all-cons restoreAllowed (record { session = sessionAt (viewSessions t) place; peer = p; space = a .reply }) (restoresFrom t (place + 1) asked (w .1))
+    (all-of-each (peerAllowed p ∷ octets (a .reply) ∷ leb minSpace (length (a .reply)) ∷ []) (peer-kept t (k .sound) place (k .live) (w .0 .ipv4) (w .0 .ipv6) (k .address), (and-left (octets (a .reply)) (leb minSpace (length (a .reply))) f, (and-right (octets (a .reply)) (leb minSpace (length (a .reply))) f, tt))))
+    (all-allowed t (place + 1) asked (w .1) (all-tail askingAllowed a asked h))
+
+all-calls : (t : List ℕ) (place : ℕ) (asked : List Asking) (w : WroteAll t place (map messageOf asked)) → map askingCall asked ≡ restoreCalls (viewSettings t) (restoresFrom t place asked w)
+unfolding askingCall restoreCalls restoreCall restorationAt restoresFrom
+all-calls t place [] w = refl
+all-calls t place (a ∷ asked) w = ap₂ (λ (r : List ℕ) (cs : List Call). request r (a .reply) ∷ cs) (wrote t place (a .message) (w .0) .is) (all-calls t (place + 1) asked (w .1))
+
+module _ (t : List ℕ) (asked : List Asking) (w : WroteAll t 0 (map messageOf asked)) (ok : T (all askingAllowed asked)) where
+  abbrev s : Settings
+  s = viewSettings t
+
+  abbrev m : Sessions
+  m = viewSessions t
+
+  encoded : Encoded maxSessions t s m
+  encoded = sound-encoded maxSessions t (all-sound t 0 (map messageOf asked) w)
+
+  order : List·Permᴰ m (map restored (restoresFrom t 0 asked w))
+  order = subst (λ (n : Sessions). List·Permᴰ m n) (all-sessions t 0 asked w) (Permᴰ·refl m)
+
+  -- the requests, computed from an empty table on, make the table
+  computed : tableAfterAll maxSessions (encode maxSessions s []) (map askingCall asked) ≡ t
+  computed =
+      ap (tableAfterAll maxSessions (encode maxSessions s [])) (all-calls t 0 asked w)
+      ∙ restored-table s (encoded .settings) maxSessions small m (encoded .sessions) (restoresFrom t 0 asked w) (all-allowed t 0 asked w ok) order
+      ∙ sym (encoded .whole)
+
+  given-back : (b : List ℕ) (again : List Step) → T (make maxSessions s b .made) → Ran maxSessions (make maxSessions s b .table) again → map callIn again ≡ map askingCall asked
+      → Restores maxSessions t (make maxSessions s b .table) again
+  given-back b again made went are =
+      restores-table maxSessions small s (encoded .settings) m (encoded .sessions) t (encoded .whole) b (restoresFrom t 0 asked w) again made (all-allowed t 0 asked w ok) went
+      (are ∙ all-calls t 0 asked w) order
+
+pub restorations-give-back : RestorationsGiveBack
+unfolding RestorationsGiveBack
+restorations-give-back t made asked steps w ok e went are =
+    let k = emptied t made e in
+    let back = given-back t asked w ok (e .found) (stepsOf steps) (k .0) (subst (λ (u : List ℕ). Ran maxSessions u (stepsOf steps)) (k .1) (ran (made .table) steps went)) are in
+    subst (λ (u : List ℕ). Restores maxSessions t u (stepsOf steps)) (sym (k .1)) back
+
+-- ---- nothing left out
+
+-- each request with a reply space of zeros
+abbrev withSpace : List ℕ → Asking
+withSpace r = record { message = r; reply = zeros 1024 }
+
+same-messages : (rs : List (List ℕ)) → rs ≡ map messageOf (map withSpace rs)
+same-messages [] = refl
+same-messages (r ∷ rs) = ap (λ (l : List (List ℕ)). r ∷ l) (same-messages rs)
+
+spaces-allowed : (rs : List (List ℕ)) → T (all askingAllowed (map withSpace rs))
+unfolding all askingAllowed zeros
+spaces-allowed [] = tt
+spaces-allowed (r ∷ rs) = all-cons askingAllowed (withSpace r) (map withSpace rs) tt (spaces-allowed rs)
+
+pub restorations-tell-all : RestorationsTellAll
+unfolding RestorationsTellAll
+restorations-tell-all t u rs e v w =
+    let asked = map withSpace rs in
+    let v′ = subst (WroteAll t 0) (same-messages rs) v in
+    let w′ = subst (WroteAll u 0) (same-messages rs) w in
+    sym (computed t asked v′ (spaces-allowed rs))
+    ∙ ap (λ (s : Settings). tableAfterAll maxSessions (encode maxSessions s []) (map askingCall asked)) e
+    ∙ computed u asked w′ (spaces-allowed rs)

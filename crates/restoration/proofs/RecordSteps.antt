@@ -1,0 +1,235 @@
+-- What the writers of records leave: for each, from what its calls leave. Assumes nothing.
+use mathlib.Core.Path.{_≡_, refl, sym, ap, ap₂, _∙_}
+use Prim.Native.Nat.{ℕ, _+_, _-_, _*_, _≤_, _<_}
+use native.Mathlib.Omega.{arith}
+use mathlib.Core.Bool.{Bool, true, false}
+use mathlib.Core.List.{List, [], _∷_, _++_, append-assoc, append-nil}
+use borrow.Author.Tests.{eq-eqb, ne-eqb}
+use lib.Dec.{T, eqb}
+use lib.ListN.{length, set, getD, take, drop, length-append}
+use lib.Seq.{drop-cons, take-add, drop-drop, take-take}
+use Rattle.octets.specs.Choice.{pick}
+use Rattle.octets.specs.Octets.{put, be, part, number, octets, concatMap}
+use Rattle.octets.specs.Fields.{fieldsAt}
+use Rattle.octets.proofs.Numbers.{length-be}
+use Rattle.octets.proofs.Put.{set-put, length-part}
+use Rattle.octets.proofs.Digits.{number-one, be-back, part-octets}
+use Rattle.rules.specs.Model.{Settings, endpoint, Pdr, Endpoint}
+use Rattle.rules.specs.Elements.{addressLength, fqcsidOctets}
+use Rattle.rules.specs.Layout.{optionRead, tunnelRead, placeRead, pdrFrom, endpointFrom, addressRead, csidFrom, viewPdr, viewEndpoint, viewCsid, viewSettings, settingsWidth, pdrWidth, csidWidth, pdrsAt, endpointWidth}
+use Rattle.rules.specs.Reply.{element, unitElement}
+use Rattle.rules.specs.Restoration.{placeElement, farElement, pdiContent, pdrContent, pdrElement, endpointContent, endpointElement, recordCsid, csidElement}
+use Rattle.rules.specs.Types as ie
+use Rattle.writing.specs.Placed.{Placed}
+use Rattle.writing.specs.Families.{tunnelIn}
+use Rattle.writing.proofs.PlacedLaws.{next-put, next-set, length-element, length-headed, placed-none, placed-then, placed-element, placed-group}
+
+-- ---- fields
+
+-- a field of one octet is that octet
+octet-is : (at : ℕ) (xs : List ℕ) → at < length xs → part at 1 xs ≡ getD xs at 0 ∷ []
+octet-is at xs h = rw (drop-cons xs at 0 h)
+
+pub octet-read : (at : ℕ) (xs : List ℕ) → at < length xs → number (part at 1 xs) ≡ getD xs at 0
+octet-read at xs h = ap number (octet-is at xs h) ∙ number-one (getD xs at 0)
+
+octet-part : (at : ℕ) (xs : List ℕ) → at < length xs → number (part at 1 xs) ∷ [] ≡ part at 1 xs
+octet-part at xs h = ap (λ (x : ℕ). x ∷ []) (octet-read at xs h) ∙ sym (octet-is at xs h)
+
+-- a field's number is written back as its octets
+be-part : (at w : ℕ) (xs : List ℕ) → T (octets xs) → at + w ≤ length xs → be w (number (part at w xs)) ≡ part at w xs
+be-part at w xs o h = be-back w (part at w xs) (length-part at w xs h) (part-octets at w xs o)
+
+-- ---- PDR
+
+module _ (s : Settings) (p : Pdr) where
+  pub length-pdi : length (element ie.pdi (pdiContent s p)) ≡ 9 + length (placeElement s (p .place))
+  unfolding pdiContent
+  length-pdi =
+      rw (length-element) (omega (arith, length-append (element ie.sourceInterface (p .source ∷ [])) (placeElement s (p .place)), length-element ie.sourceInterface (p .source ∷ [])))
+
+  pub length-pdr : length (pdrElement s p) ≡ 18 + (length (element ie.pdi (pdiContent s p)) + length (farElement (p .far)))
+  unfolding pdrElement pdrContent
+  length-pdr =
+      let a = element ie.pdrId (be 2 (p .id)) in
+      let b = element settingsWidth (be 4 (p .precedence)) in
+      let c = element ie.pdi (pdiContent s p) in
+      let d = farElement (p .far) in
+      rw (length-element 1 (a ++ (b ++ (c ++ d))))
+      (omega (arith, length-append a (b ++ (c ++ d)), length-append b (c ++ d), length-append c d, length-element ie.pdrId (be 2 (p .id)), length-be 2 (p .id), length-element settingsWidth (be 4 (p .precedence)), length-be 4 (p .precedence)))
+
+module _ (xs : List ℕ) (long : length xs ≡ pdrWidth) where
+  abbrev pdr : Pdr
+  pdr = viewPdr xs
+
+  module _ (t : List ℕ) where
+    abbrev st : Settings
+    st = viewSettings t
+
+    place-is : placeElement st (pdr .place) ≡ placeElement st (placeRead (getD xs 12 0) (number (part 13 4 xs)) (getD xs 17 0) (number (part 18 1 xs)))
+    unfolding viewPdr pdrFrom fieldsAt
+    place-is =
+        ap₂ (λ (k f : ℕ). placeElement st (placeRead k (number (part 13 4 xs)) f (number (part 18 1 xs)))) (octet-read 12 xs (omega arith)) (octet-read 17 xs (omega arith))
+
+    pub place-tunnel : getD xs 12 0 ≡ 1 → placeElement st (pdr .place) ≡ unitElement st (tunnelIn (number (part 13 4 xs)) (getD xs 17 0))
+    unfolding placeElement placeRead tunnelRead tunnelIn
+    place-tunnel k = place-is ∙ rw (eq-eqb (getD xs 12 0) 1 k)
+
+    pub place-endpoint : getD xs 12 0 ≡ 2 → placeElement st (pdr .place) ≡ element ie.endpointId (part 18 1 xs)
+    unfolding placeElement placeRead
+    place-endpoint k =
+        let one : getD xs 12 0 ≡ 1 → ⊥ = λ e. absurd (omega arith) in
+        place-is ∙ rw (ne-eqb (getD xs 12 0) 1 one, eq-eqb (getD xs 12 0) 2 k) (ap (element ie.endpointId) (octet-part 18 xs (omega arith)))
+
+    pub place-neither : (getD xs 12 0 ≡ 1 → ⊥) → (getD xs 12 0 ≡ 2 → ⊥) → placeElement st (pdr .place) ≡ []
+    unfolding placeElement placeRead
+    place-neither k l = place-is ∙ rw (ne-eqb (getD xs 12 0) 1 k, ne-eqb (getD xs 12 0) 2 l)
+
+    module _ (at : ℕ) (out : List ℕ) where
+      pub place-tunnel-steps : (teid : ℕ) {e : ℕ} {out′ : List ℕ} → getD xs 12 0 ≡ 1 → teid ≡ number (part 13 4 xs)
+          → Placed out at (unitElement st (tunnelIn teid (getD xs 17 0))) e out′ → Placed out at (placeElement st (pdr .place)) e out′
+      place-tunnel-steps teid k e p = rw (place-tunnel k, ← e) p
+
+      pub place-endpoint-steps : {e : ℕ} {out′ : List ℕ} → getD xs 12 0 ≡ 2
+          → Placed out at (element ie.endpointId (part 18 1 xs)) e out′ → Placed out at (placeElement st (pdr .place)) e out′
+      place-endpoint-steps k p = rw (place-endpoint k) p
+
+      pub place-neither-steps : (getD xs 12 0 ≡ 1 → ⊥) → (getD xs 12 0 ≡ 2 → ⊥) → Placed out at (placeElement st (pdr .place)) at out
+      place-neither-steps k l = rw (place-neither k l) (placed-none out at)
+
+      pub pdi-steps : {m e : ℕ} {out₁ out₂ out₃ : List ℕ} → at + length (element ie.pdi (pdiContent st pdr)) ≤ length out
+          → Placed out (at + 4) (element ie.sourceInterface (part 11 1 xs)) m out₁ → Placed out₁ m (placeElement st (pdr .place)) e out₂
+          → out₃ ≡ put at (be 2 2 ++ be 2 (e - (at + 4))) out₂ → Placed out at (element ie.pdi (pdiContent st pdr)) e out₃
+      unfolding pdiContent viewPdr pdrFrom fieldsAt
+      pdi-steps {m} {e} {out₁} {out₂} h p q r =
+          let l = length-pdi st pdr in
+          let k : length (element ie.sourceInterface (part 11 1 xs)) ≡ 5 = length-element ie.sourceInterface (part 11 1 xs) ∙ ap (λ (n : ℕ). 4 + n) (length-part 11 1 xs (omega arith)) in
+          let both : Placed out (at + 4) (element ie.sourceInterface (pdr .source ∷ []) ++ placeElement st (pdr .place)) e out₂ = rw (octet-part pdrsAt xs (omega arith)) (placed-then p q (omega arith)) in
+          placed-group 2 at (at + 4) (element ie.sourceInterface (pdr .source ∷ []) ++ placeElement st (pdr .place)) out refl (omega arith) both r
+
+      pub pdr-steps : {a b c e : ℕ} {out₁ out₂ out₃ out₄ out₅ : List ℕ} → T (octets xs) → at + length (pdrElement st pdr) ≤ length out
+          → Placed out (at + 4) (element ie.pdrId (take 2 xs)) a out₁ → Placed out₁ a (element settingsWidth (part 2 4 xs)) b out₂
+          → Placed out₂ b (element ie.pdi (pdiContent st pdr)) c out₃ → Placed out₃ c (farElement (pdr .far)) e out₄
+          → length out₁ ≡ length out → length out₂ ≡ length out
+          → out₅ ≡ put at (be 2 1 ++ be 2 (e - (at + 4))) out₄ → Placed out at (pdrElement st pdr) e out₅
+      unfolding pdrElement pdrContent viewPdr pdrFrom fieldsAt
+      pdr-steps {a} {b} {c} {e} {out₁} {out₂} {out₃} {out₄} o h p q r u same₁ same₂ v =
+          let l = length-pdr st pdr in
+          let j = length-element ie.pdrId (take 2 xs) in
+          let j′ = length-part 0 2 xs (omega arith) in
+          let k = length-element settingsWidth (part 2 4 xs) in
+          let k′ = length-part 2 4 xs (omega arith) in
+          let m = p .ends in
+          let n = q .ends in
+          let last = placed-then r u (omega arith) in
+          let later = placed-then q last (omega arith) in
+          let all = placed-then p later (omega arith) in
+          rw (be-part 0 2 xs o (omega arith), be-part 2 4 xs o (omega arith))
+          (placed-group 1 at (at + 4) (element ie.pdrId (take 2 xs) ++ (element settingsWidth (part 2 4 xs) ++ (element ie.pdi (pdiContent st pdr) ++ farElement (pdr .far)))) out refl (omega arith) all v)
+
+  module _ (at : ℕ) (out : List ℕ) where
+    pub far-none : getD xs 6 0 ≡ 0 → farElement (pdr .far) ≡ []
+    unfolding farElement viewPdr pdrFrom fieldsAt optionRead
+    far-none z = rw (octet-read 6 xs (omega arith), eq-eqb (getD xs 6 0) 0 z)
+
+    pub far-some : T (octets xs) → (getD xs 6 0 ≡ 0 → ⊥) → farElement (pdr .far) ≡ element ie.farId (part 7 4 xs)
+    unfolding farElement viewPdr pdrFrom fieldsAt optionRead
+    far-some o z = rw (octet-read 6 xs (omega arith), ne-eqb (getD xs 6 0) 0 z) (ap (element ie.farId) (be-part 7 4 xs o (omega arith)))
+
+    pub far-none-steps : getD xs 6 0 ≡ 0 → Placed out at (farElement (pdr .far)) at out
+    far-none-steps z = rw (far-none z) (placed-none out at)
+
+    pub far-some-steps : {e : ℕ} {out′ : List ℕ} → T (octets xs) → (getD xs 6 0 ≡ 0 → ⊥) → Placed out at (element ie.farId (part 7 4 xs)) e out′ → Placed out at (farElement (pdr .far)) e out′
+    far-some-steps o z p = rw (far-some o z) p
+
+-- ---- endpoint
+
+pub length-endpoint : (s : Settings) (e : Endpoint) → length (endpointElement s e) ≡ 9 + length (unitElement s (e .local))
+unfolding endpointElement endpointContent
+length-endpoint s e =
+    rw (length-element) (omega (arith, length-append (element ie.endpointId (e .id ∷ [])) (unitElement s (e .local)), length-element ie.endpointId (e .id ∷ [])))
+
+module _ (xs : List ℕ) (long : length xs ≡ endpointWidth) (t : List ℕ) where
+  pub endpoint-local : unitElement (viewSettings t) (viewEndpoint xs .local) ≡ unitElement (viewSettings t) (tunnelIn (number (part 1 4 xs)) (getD xs 5 0))
+  unfolding viewEndpoint endpointFrom fieldsAt tunnelRead tunnelIn
+  endpoint-local = rw (octet-read 5 xs (omega arith))
+
+  pub endpoint-steps : (at teid : ℕ) (out : List ℕ) {a e : ℕ} {out₁ out₂ out₃ : List ℕ} → at + length (endpointElement (viewSettings t) (viewEndpoint xs)) ≤ length out
+      → Placed out (at + 4) (element ie.endpointId (take 1 xs)) a out₁ → teid ≡ number (part 1 4 xs)
+      → Placed out₁ a (unitElement (viewSettings t) (tunnelIn teid (getD xs 5 0))) e out₂
+      → out₃ ≡ put at (be 2 ie.createEndpoint ++ be 2 (e - (at + 4))) out₂ → Placed out at (endpointElement (viewSettings t) (viewEndpoint xs)) e out₃
+  unfolding endpointElement endpointContent
+  endpoint-steps at teid out {a} {e} {out₁} {out₂} h p w q r =
+      let l = length-endpoint (viewSettings t) (viewEndpoint xs) in
+      let k = length-element ie.endpointId (take 1 xs) in
+      let k′ = length-part 0 1 xs (omega arith) in
+      let i : viewEndpoint xs .id ∷ [] ≡ take 1 xs = unfold viewEndpoint endpointFrom fieldsAt in octet-part 0 xs (omega arith) in
+      let both = placed-then p q (omega arith) in
+      rw (i, endpoint-local, ← w)
+      (placed-group ie.createEndpoint at (at + 4) (element ie.endpointId (take 1 xs) ++ unitElement (viewSettings t) (tunnelIn teid (getD xs 5 0))) out refl (omega arith) both r)
+
+-- ---- FQ-CSID
+
+pub address-most : (k : ℕ) → addressLength k ≤ 16
+unfolding addressLength
+address-most k = go (eqb k 1)
+  where
+    go : (b : Bool) → pick b 16 4 ≤ 16
+    go true = omega arith
+    go false = omega arith
+
+pub address-long : (k : ℕ) → k ≡ 1 → (16 ≡ addressLength k) × (16 ≤ 16)
+unfolding addressLength
+address-long k e = (rw (eq-eqb k 1 e), omega arith)
+
+pub address-short : (k : ℕ) → (k ≡ 1 → ⊥) → (4 ≡ addressLength k) × (4 ≤ 16)
+unfolding addressLength
+address-short k e = (rw (ne-eqb k 1 e), omega arith)
+
+module _ (xs : List ℕ) (long : length xs ≡ csidWidth) (o : T (octets xs)) where
+  abbrev width : ℕ
+  width = addressLength (getD xs 1 0)
+
+  -- the address as the slot has it
+  csid-address : addressRead (number (part 1 1 xs)) (number (part 2 4 xs)) (number (part 6 12 xs)) ≡ part 2 width xs
+  unfolding addressRead
+  csid-address =
+      rw (octet-read 1 xs (omega arith), be-part 2 4 xs o (omega arith), be-part 6 12 xs o (omega arith))
+      (ap (take width) (ap (λ (l : List ℕ). take 4 (drop 2 xs) ++ take 12 l) (sym (drop-drop 4 2 xs)) ∙ sym (take-add 4 12 (drop 2 xs)))
+      ∙ take-take width 16 (drop 2 xs) (address-most (getD xs 1 0)))
+
+  pub csid-value : csidElement (viewCsid xs) ≡ element ie.fqcsid ((getD xs 1 0 * 16 + 1) ∷ part 2 width xs ++ (part 18 2 xs ++ getD xs 0 0 ∷ []))
+  unfolding csidElement recordCsid fqcsidOctets viewCsid csidFrom fieldsAt concatMap
+  csid-value =
+      rw (csid-address, octet-read 1 xs (omega arith), octet-read 0 xs (omega arith), be-part 18 2 xs o (omega arith), append-nil (part 18 2 xs))
+
+  pub length-csid : length (csidElement (viewCsid xs)) ≡ 8 + width
+  length-csid =
+      let a = part 2 width xs in
+      let b = part 18 2 xs in
+      let n = getD xs 0 0 ∷ [] in
+      let la : length a ≡ width = length-part 2 width xs (omega (arith, address-most (getD xs 1 0))) in
+      let lb : length b ≡ 2 = length-part 18 2 xs (omega arith) in
+      rw csid-value (omega (arith, length-element ie.fqcsid ((getD xs 1 0 * 16 + 1) ∷ a ++ (b ++ n)), length-append a (b ++ n), length-append b n))
+
+  pub csid-steps : (at n : ℕ) (out : List ℕ) {out₁ out₂ out₃ : List ℕ} → at + length (csidElement (viewCsid xs)) ≤ length out → n ≡ width
+      → out₁ ≡ put at (be 2 ie.fqcsid ++ be 2 (n + 4)) out → out₂ ≡ put (at + 5) (part 2 (2 + n - 2) xs) (set out₁ (at + 4) (getD xs 1 0 * 16 + 1))
+      → out₃ ≡ put (at + 5 + n) (part 18 2 xs) out₂ → Placed out at (csidElement (viewCsid xs)) (at + 8 + n) (set out₃ (at + 7 + n) (getD xs 0 0))
+  csid-steps at n out {out₁} {out₂} {out₃} h e p q r =
+      let first : ℕ = getD xs 1 0 * 16 + 1 in
+      let a = part 2 n xs in
+      let b = part 18 2 xs in
+      let l = length-csid in
+      let most = address-most (getD xs 1 0) in
+      let la : length a ≡ n = length-part 2 n xs (omega arith) in
+      let lb : length b ≡ 2 = length-part 18 2 xs (omega arith) in
+      let w : 2 + n - 2 ≡ n = omega arith in
+      let long₁ : length out₁ ≡ length out = length-headed at ie.fqcsid (n + 4) out p (omega arith) in
+      let one = next-put (at + 4) (at + 5) (first ∷ []) a out₁ (set-put (at + 4) first out₁ (omega arith)) (rw w at q) (omega arith) (omega arith) in
+      let two = next-put (at + 4) (at + 5 + n) (first ∷ a) b out₁ one r (omega arith) (omega arith) in
+      let m : length (first ∷ a ++ b) ≡ 3 + n = length-append (first ∷ a) b ∙ omega arith in
+      let three = next-set (at + 4) (at + 7 + n) (first ∷ a ++ b) (getD xs 0 0) out₁ two (omega arith) (omega arith) in
+      let whole : List ℕ = first ∷ (a ++ b) ++ getD xs 0 0 ∷ [] in
+      let k : length whole ≡ n + 4 = length-append (first ∷ a ++ b) (getD xs 0 0 ∷ []) ∙ omega arith in
+      rw (csid-value, ← e, ← append-assoc a b (getD xs 0 0 ∷ []))
+      (placed-element at ie.fqcsid (n + 4) out p (omega arith) (at + 4) (at + 8 + n) whole three refl k (omega arith))

@@ -1,0 +1,58 @@
+-- `restoration::write_endpoint` meets its contract: the ID and the F-TEID, with the head before them.
+-- Assumes nothing.
+use native.Mathlib.Omega.{arith}
+use lib.ListN.{getD, take}
+use Rattle.octets.specs.Octets.{number, part}
+use Rattle.rules.specs.Layout.{viewSettings, viewEndpoint}
+use Rattle.rules.specs.Types as ie
+use Rattle.octets.proofs.Put.{length-part}
+use Rattle.writing.proofs.PlacedLaws.{length-element}
+use Rattle.writing.proofs.ElementSteps.{length-unit}
+use Rattle.restoration.proofs.RecordSteps.{length-endpoint, endpoint-local, endpoint-steps}
+use borrow.Author.Needs.{needs}
+use Rattle.restoration.proofs.write_endpoint.Statement.{statement}
+use Rattle.restoration.proofs.write_endpoint.Tie as tie
+
+write-value-requires : tie.Need-write-value-requires
+write-value-requires c κs =
+    let s = c .before .before .before .before .before in
+    omega (arith, s .pre, length-endpoint (viewSettings (s .args .t .now)) (viewEndpoint (s .args .endpoint .now)), length-part 0 1 (s .args .endpoint .now) (omega arith))
+
+cast-write-fteid : tie.Need-cast-write-fteid
+cast-write-fteid c = omega (arith, c .shared-slice-known3 .given 5)
+
+write-fteid-requires : tie.Need-write-fteid-requires
+write-fteid-requires c κs =
+    let s = c .before .before .before .before .before .before .before .before .before .before .before in
+    let xs = s .args .endpoint .now in
+    let t = s .args .t .now in
+    let w = c .before .before .before .before .before .write-value in (
+      s .pre .0,
+      omega (arith, s .pre .2, w .ensures .ends, w .kept .1 .1 .0, rw (endpoint-local xs (s .pre .1) t) at (length-endpoint (viewSettings t) (viewEndpoint xs)), length-unit t (s .pre .0) (getD xs 5 0) (number (part 1 4 xs)), length-element ie.endpointId (take 1 xs), length-part 0 1 xs (omega (arith, s .pre .1))),
+    )
+
+write-head-requires : tie.Need-write-head-requires
+write-head-requires c κs =
+    let s = c .before .before .before .before .before .before .before .before .before .before .before .before .before .before .before in
+    omega (arith, s .pre .2, c .before .before .before .before .before .before .before .before .before .write-value .kept .1 .1 .0, c .before .before .before .write-fteid .kept .1 .1 .1 .0, length-endpoint (viewSettings (s .args .t .now)) (viewEndpoint (s .args .endpoint .now)))
+
+returns : tie.Need-returns
+returns c = search endpoint-steps
+
+pub write-endpoint-spec : {M : Type 1} → statement M
+write-endpoint-spec =
+    tie.close
+    (tie.spec
+    (λ c. search needs)
+    (λ c. search needs)
+    (λ c. search needs)
+    (λ c. search needs)
+    write-value-requires
+    (λ c κs. search needs)
+    (λ c. search needs)
+    cast-write-fteid
+    write-fteid-requires
+    (λ c. search needs)
+    write-head-requires
+    (λ c. search needs)
+    returns)

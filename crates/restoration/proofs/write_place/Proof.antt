@@ -1,0 +1,58 @@
+-- `restoration::write_place` meets its contract: by what the slot says that the PDR matches on.
+-- Assumes nothing.
+use native.Mathlib.Omega.{arith}
+use lib.ListN.{getD}
+use Rattle.octets.specs.Octets.{number, part}
+use Rattle.rules.specs.Types as ie
+use Rattle.writing.proofs.PlacedLaws.{length-element}
+use Rattle.writing.proofs.ElementSteps.{length-unit}
+use Rattle.restoration.proofs.RecordSteps.{place-tunnel, place-endpoint, place-tunnel-steps, place-endpoint-steps, place-neither-steps}
+use borrow.Author.Needs.{needs}
+use Rattle.restoration.proofs.write_place.Statement.{statement}
+use Rattle.restoration.proofs.write_place.Tie as tie
+
+cast-write-fteid : tie.Need-cast-write-fteid
+cast-write-fteid c = omega (arith, c .shared-slice-known4 .given 17)
+
+write-fteid-requires : tie.Need-write-fteid-requires
+write-fteid-requires c κs =
+    let s = c .before .before .before .before .before .before .before .before in
+    let xs = s .args .pdr .now in
+    let t = s .args .t .now in
+    let e = place-tunnel xs (s .pre .1) t (c .before .before .before .if1 .taken) in
+    (s .pre .0, omega (arith, s .pre .2, rw e at (s .pre .2), length-unit t (s .pre .0) (getD xs 17 0) (number (part 13 4 xs))))
+
+returns : tie.Need-returns
+returns c = search place-tunnel-steps
+
+write-value-requires : tie.Need-write-value-requires
+write-value-requires c κs =
+    let s = c .before .before .before .before .before .before .before .before .before in
+    let xs = s .args .pdr .now in
+    omega (arith, rw (place-endpoint xs (s .pre .1) (s .args .t .now) (c .before .before .if2 .taken)) at (s .pre .2), length-element ie.endpointId (part 18 1 xs))
+
+returns-2 : tie.Need-returns-2
+returns-2 c = search place-endpoint-steps
+
+returns-3 : tie.Need-returns-3
+returns-3 c = search place-neither-steps
+
+pub write-place-spec : {M : Type 1} → statement M
+write-place-spec =
+    tie.close
+    (tie.spec
+    (λ c. search needs)
+    (λ c κs. search needs)
+    (λ c. search needs)
+    cast-write-fteid
+    write-fteid-requires
+    (λ c. search needs)
+    returns
+    (λ c. search needs)
+    (λ c. search needs)
+    (λ c. search needs)
+    (λ c. search needs)
+    write-value-requires
+    (λ c. search needs)
+    returns-2
+    returns-3)

@@ -1,0 +1,43 @@
+-- The elements of records, from the octets of their slots: what the writers leave, and what they ask of a slot.
+-- Assumes nothing.
+use Prim.Native.Nat.{ℕ}
+use mathlib.Core.Path.{_≡_}
+use mathlib.Core.Bool.{Bool, _&&_}
+use mathlib.Core.List.{List, [], _∷_, _++_}
+use lib.Dec.{T, eqb, ltb}
+use lib.ListN.{length, drop}
+use Rattle.octets.specs.Choice.{pick}
+use Rattle.octets.specs.Octets.{octetAt, slices}
+use Rattle.octets.specs.Lists.{all}
+use Rattle.rules.specs.Model.{Settings, Session}
+use Rattle.rules.specs.Elements.{fseidOctets}
+use Rattle.rules.specs.Layout.{viewPdr, viewEndpoint, viewCsid, pdrWidth, csidWidth, pdrCountAt, endpointCountAt, csidCountAt, endpointsAt, csidsAt, sessionWidth, endpointWidth}
+use Rattle.rules.specs.Reply.{element}
+use Rattle.rules.specs.Restoration.{pdrElement, endpointElement, csidElement, recordElements}
+use Rattle.rules.specs.Types as ie
+
+-- a kind of record is named by the type of its element: 1 PDRs, 127 endpoints, any other FQ-CSIDs
+unfoldable pub recordWidth : ℕ → ℕ
+recordWidth k = pick (eqb k 1) pdrWidth (pick (eqb k ie.createEndpoint) 6 csidWidth)
+
+unfoldable pub recordElement : ℕ → Settings → List ℕ → List ℕ
+recordElement k s xs = pick (eqb k 1) (pdrElement s (viewPdr xs)) (pick (eqb k ie.createEndpoint) (endpointElement s (viewEndpoint xs)) (csidElement (viewCsid xs)))
+
+-- a slot that a record can be written from: of its kind's width, and the Node-ID type of an FQ-CSID has four bits
+unfoldable pub recordFits : ℕ → List ℕ → Bool
+recordFits k xs = pick (eqb k 1) (eqb (length xs) pdrWidth) (pick (eqb k ie.createEndpoint) (eqb (length xs) endpointWidth) (eqb (length xs) csidWidth && ltb (octetAt xs 1) 16))
+
+-- n records of a kind, from a place of a session's slot on
+unfoldable pub areaFits : ℕ → ℕ → ℕ → List ℕ → Bool
+areaFits k n at slot = all (recordFits k) (slices (recordWidth k) n (drop at slot))
+
+-- a session's slot that its records can be written from
+pub record SlotFits (slot : List ℕ) : Type 0 where
+  pub long : length slot ≡ sessionWidth
+  pub pdrs : T (areaFits 1 (octetAt slot pdrCountAt) 11 slot)
+  pub endpoints : T (areaFits ie.createEndpoint (octetAt slot endpointCountAt) endpointsAt slot)
+  pub csids : T (areaFits 65 (octetAt slot csidCountAt) csidsAt slot)
+
+-- a restoration's elements: F-SEID, flags, records
+unfoldable pub content : Settings → Session → List ℕ → List ℕ → List ℕ
+content s x ipv4 ipv6 = element ie.fseid (fseidOctets (x .seid) ipv4 ipv6) ++ (element ie.sessionFlags (1 ∷ []) ++ recordElements s x)

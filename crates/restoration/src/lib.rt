@@ -1,0 +1,294 @@
+// The writer of restoration requests (02 (i)): a session's slot as the request that makes it again. Each element is written from what it
+// holds outwards, the content first and then type and length before it. The writers of records take the octets of a record's slot and of
+// the table's settings, and know nothing of the message around them.
+ghost use mathlib.Core.Path.{_≡_};
+ghost use Prim.Native.Nat.{_+_, _*_, _≤_, _<_};
+ghost use mathlib.Core.Bool.{_||_};
+ghost use lib.Dec.{T, eqb};
+ghost use lib.ListN.{length, getD};
+ghost use Rattle.octets.specs.Octets.{slices, concatMap};
+ghost use Rattle.octets.specs.Lists.{all};
+ghost use Rattle.rules.specs.Limits.{maxSessions, maxRestoration};
+ghost use Rattle.rules.specs.Layout.{viewSettings, viewSession, viewPdr, viewEndpoint, viewCsid, settingsWidth, pdrWidth, csidWidth, endpointWidth};
+ghost use Rattle.rules.specs.Elements.{addressLength};
+ghost use Rattle.rules.specs.Reply.{element};
+ghost use Rattle.rules.specs.Restoration.{placeElement, farElement, pdiContent, pdrElement, endpointElement, csidElement, recordElements, restoration};
+ghost use Rattle.rules.specs.Restoring.{addressed, restorationAt, writeInto, writeRestoration};
+ghost use Rattle.rules.specs.Types as ie;
+ghost use Rattle.writing.specs.Placed.{Placed};
+ghost use Rattle.restoration.specs.Records.{recordWidth, recordElement, recordFits, SlotFits, content};
+ghost use Rattle.restoration.specs.Answers.{writingOf, Ready};
+
+// The kinds of records, by the type of their element.
+pub const PDR: usize = 1;
+
+pub const ENDPOINT: usize = 127;
+
+pub const CSID: usize = 65;
+
+// What a PDR matches on: its F-TEID with the unit's addresses, its endpoint's ID, or nothing.
+fn write_place(t: &[u8], pdr: &[u8], out: &mut [u8], at: usize) -> usize
+    requires { ⌜ (settingsWidth ≤ length (now t)) × (length (now pdr) ≡ pdrWidth) × (at + length (placeElement (viewSettings (now t)) (viewPdr (now pdr) .place)) ≤ length (now out)) ⌝ }
+    ensures { λ r. ⌜ Placed (now (out .entry)) at (placeElement (viewSettings (now (t .entry))) (viewPdr (now (pdr .entry)) .place)) r (now (out .exit)) ⌝ }
+{
+    if pdr[format::PLACE] == 1 {
+        let teid = octets::read(pdr, format::TEID, 4);
+        return writing::write_fteid(t, teid, pdr[format::FAMILIES] as u64, out, at);
+    }
+    if pdr[format::PLACE] == 2 {
+        return writing::write_value(131, &pdr[format::NAMED_ENDPOINT..format::PDR], out, at);
+    }
+    at
+}
+
+// The PDI: the source interface, and what the PDR matches on.
+fn write_pdi(t: &[u8], pdr: &[u8], out: &mut [u8], at: usize) -> usize
+    requires { ⌜ (settingsWidth ≤ length (now t)) × (length (now pdr) ≡ pdrWidth) × (at + length (element ie.pdi (pdiContent (viewSettings (now t)) (viewPdr (now pdr)))) ≤ length (now out)) ⌝ }
+    ensures { λ r. ⌜ Placed (now (out .entry)) at (element ie.pdi (pdiContent (viewSettings (now (t .entry))) (viewPdr (now (pdr .entry))))) r (now (out .exit)) ⌝ }
+{
+    let front = at + 4;
+    let source = writing::write_value(20, &pdr[format::SOURCE..format::PLACE], out, front);
+    let end = write_place(t, pdr, out, source);
+    writing::write_head(2, end - front, out, at);
+    end
+}
+
+// The FAR ID, where there is one.
+fn write_far(pdr: &[u8], out: &mut [u8], at: usize) -> usize
+    requires { ⌜ (length (now pdr) ≡ pdrWidth) × (at + length (farElement (viewPdr (now pdr) .far)) ≤ length (now out)) ⌝ }
+    ensures { λ r. ⌜ Placed (now (out .entry)) at (farElement (viewPdr (now (pdr .entry)) .far)) r (now (out .exit)) ⌝ }
+{
+    if pdr[format::FAR] == 0 {
+        return at;
+    }
+    writing::write_value(108, &pdr[format::FAR_ID..format::SOURCE], out, at)
+}
+
+// Create PDR.
+fn write_pdr(t: &[u8], pdr: &[u8], out: &mut [u8], at: usize) -> usize
+    requires { ⌜ (settingsWidth ≤ length (now t)) × (length (now pdr) ≡ pdrWidth) × (at + length (pdrElement (viewSettings (now t)) (viewPdr (now pdr))) ≤ length (now out)) ⌝ }
+    ensures { λ r. ⌜ Placed (now (out .entry)) at (pdrElement (viewSettings (now (t .entry))) (viewPdr (now (pdr .entry)))) r (now (out .exit)) ⌝ }
+{
+    let front = at + 4;
+    let id = writing::write_value(56, &pdr[0..format::PRECEDENCE], out, front);
+    let precedence = writing::write_value(29, &pdr[format::PRECEDENCE..format::FAR], out, id);
+    let pdi = write_pdi(t, pdr, out, precedence);
+    let end = write_far(pdr, out, pdi);
+    writing::write_head(PDR, end - front, out, at);
+    end
+}
+
+// Create Traffic Endpoint.
+fn write_endpoint(t: &[u8], endpoint: &[u8], out: &mut [u8], at: usize) -> usize
+    requires { ⌜ (settingsWidth ≤ length (now t)) × (length (now endpoint) ≡ endpointWidth) × (at + length (endpointElement (viewSettings (now t)) (viewEndpoint (now endpoint))) ≤ length (now out)) ⌝ }
+    ensures { λ r. ⌜ Placed (now (out .entry)) at (endpointElement (viewSettings (now (t .entry))) (viewEndpoint (now (endpoint .entry)))) r (now (out .exit)) ⌝ }
+{
+    let front = at + 4;
+    let id = writing::write_value(131, &endpoint[0..1], out, front);
+    let teid = octets::read(endpoint, 1, 4);
+    let end = writing::write_fteid(t, teid, endpoint[5] as u64, out, id);
+    writing::write_head(ENDPOINT, end - front, out, at);
+    end
+}
+
+// How many octets the address of a Node-ID type has.
+fn address_length(kind: u8) -> usize
+    ensures { λ r. ⌜ (r ≡ addressLength kind) × (r ≤ 16) ⌝ }
+{
+    if kind == 1 {
+        return 16;
+    }
+    4
+}
+
+// FQ-CSID: Node-ID type and one CSID, address, CSID, node type.
+fn write_csid(csid: &[u8], out: &mut [u8], at: usize) -> usize
+    requires { ⌜ (length (now csid) ≡ csidWidth) × (getD (now csid) 1 0 < 16) × (at + length (csidElement (viewCsid (now csid))) ≤ length (now out)) ⌝ }
+    ensures { λ r. ⌜ Placed (now (out .entry)) at (csidElement (viewCsid (now (csid .entry)))) r (now (out .exit)) ⌝ }
+{
+    let n = address_length(csid[1]);
+    writing::write_head(CSID, n + 4, out, at);
+    out[at + 4] = csid[1] * 16 + 1;
+    octets::copy(out, at + 5, &csid[2..2 + n]);
+    octets::copy(out, at + 5 + n, &csid[18..20]);
+    out[at + 7 + n] = csid[0];
+    at + 8 + n
+}
+
+// The width of a kind's records.
+fn record_width(kind: usize) -> usize
+    ensures { λ r. ⌜ r ≡ recordWidth kind ⌝ }
+{
+    if kind == PDR {
+        return format::PDR;
+    }
+    if kind == ENDPOINT {
+        return format::ENDPOINT;
+    }
+    format::CSID
+}
+
+// A record's element.
+pub fn write_record(t: &[u8], kind: usize, slot: &[u8], out: &mut [u8], at: usize) -> usize
+    requires { ⌜ (settingsWidth ≤ length (now t)) × T (recordFits kind (now slot)) × (at + length (recordElement kind (viewSettings (now t)) (now slot)) ≤ length (now out)) ⌝ }
+    ensures { λ r. ⌜ Placed (now (out .entry)) at (recordElement kind (viewSettings (now (t .entry))) (now (slot .entry))) r (now (out .exit)) ⌝ }
+{
+    if kind == PDR {
+        return write_pdr(t, slot, out, at);
+    }
+    if kind == ENDPOINT {
+        return write_endpoint(t, slot, out, at);
+    }
+    write_csid(slot, out, at)
+}
+
+// The elements of the first n records of an area.
+fn write_area(t: &[u8], kind: usize, area: &[u8], n: usize, out: &mut [u8], at: usize) -> usize
+    requires { ⌜ (settingsWidth ≤ length (now t)) × T (all (recordFits kind) (slices (recordWidth kind) n (now area))) × (at + length (concatMap (recordElement kind (viewSettings (now t))) (slices (recordWidth kind) n (now area))) ≤ length (now out)) ⌝ }
+    ensures { λ r. ⌜ Placed (now (out .entry)) at (concatMap (recordElement kind (viewSettings (now (t .entry)))) (slices (recordWidth kind) n (now (area .entry)))) r (now (out .exit)) ⌝ }
+{
+    let w = record_width(kind);
+    let mut rest = area;
+    let mut left = n;
+    let mut next = at;
+    while 0 < left {
+        next = write_record(t, kind, &rest[..w], out, next);
+        rest = &rest[w..];
+        left -= 1;
+    }
+    next
+}
+
+// The elements of a session's records: PDRs, endpoints, FQ-CSIDs.
+fn write_records(t: &[u8], slot: &[u8], out: &mut [u8], at: usize) -> usize
+    requires { ⌜ (settingsWidth ≤ length (now t)) × SlotFits (now slot) × (at + length (recordElements (viewSettings (now t)) (viewSession (now slot))) ≤ length (now out)) ⌝ }
+    ensures { λ r. ⌜ Placed (now (out .entry)) at (recordElements (viewSettings (now (t .entry))) (viewSession (now (slot .entry)))) r (now (out .exit)) ⌝ }
+{
+    let pdrs = write_area(
+        t,
+        PDR,
+        &slot[format::PDRS..],
+        slot[format::PDR_COUNT] as usize,
+        out,
+        at,
+    );
+    let endpoints = write_area(
+        t,
+        ENDPOINT,
+        &slot[format::ENDPOINTS..],
+        slot[format::ENDPOINT_COUNT] as usize,
+        out,
+        pdrs,
+    );
+    write_area(
+        t,
+        CSID,
+        &slot[format::CSIDS..],
+        slot[format::CSID_COUNT] as usize,
+        out,
+        endpoints,
+    )
+}
+
+// The request's elements from octet 16 on: the F-SEID, the restoration flag, the records.
+fn write_elements(t: &[u8], slot: &[u8], ipv4: &[u8], ipv6: &[u8], out: &mut [u8]) -> usize
+    requires { ⌜ (settingsWidth ≤ length (now t)) × SlotFits (now slot) × (16 + length (content (viewSettings (now t)) (viewSession (now slot)) (now ipv4) (now ipv6)) ≤ length (now out)) ⌝ }
+    ensures { λ r. ⌜ Placed (now (out .entry)) 16 (content (viewSettings (now (t .entry))) (viewSession (now (slot .entry))) (now (ipv4 .entry)) (now (ipv6 .entry))) r (now (out .exit)) ⌝ }
+{
+    let seid = octets::read(slot, 0, 8);
+    let flags = [1u8; 1];
+    let own = writing::write_fseid(seid, ipv4, ipv6, out, 16);
+    let next = writing::write_value(186, &flags, out, own);
+    write_records(t, slot, out, next)
+}
+
+// The whole request, at the front of out; the answer is its length.
+fn write_request(t: &[u8], place: usize, ipv4: &[u8], ipv6: &[u8], out: &mut [u8]) -> usize
+    requires { ⌜ Ready (now t) place (now ipv4) (now ipv6) × (length (now out) ≡ maxRestoration) ⌝ }
+    ensures { λ r. ⌜ Placed (now (out .entry)) 0 (restorationAt (now (t .entry)) place (now (ipv4 .entry)) (now (ipv6 .entry))) r (now (out .exit)) ⌝ }
+{
+    let at = format::HEAD + place * format::SLOT;
+    let end = write_elements(t, &t[at..at + format::SLOT], ipv4, ipv6, out);
+    let mut sequence = [0u8; 3];
+    octets::write(&mut sequence, 0, 3, place as u64 + 1);
+    writing::write_header(writing::ESTABLISHMENT, 0, &sequence, end - 16, out);
+    end
+}
+
+// Whether an address of n octets is whole, or not there.
+fn address_fits(n: usize, whole: usize) -> bool
+    ensures { λ r. ⌜ r ≡ (eqb n 0 || eqb n whole) ⌝ }
+{
+    if n == 0 {
+        return true;
+    }
+    n == whole
+}
+
+// Whether the control plane has an address: whole ones, and one at least.
+fn has_address(ipv4: &[u8], ipv6: &[u8]) -> bool
+    ensures { λ r. ⌜ r ≡ addressed (now (ipv4 .entry)) (now (ipv6 .entry)) ⌝ }
+{
+    if !address_fits(ipv4.len(), 4) {
+        return false;
+    }
+    if !address_fits(ipv6.len(), 16) {
+        return false;
+    }
+    0 < ipv4.len() + ipv6.len()
+}
+
+// What the host gets: the outcome, and how many octets of the space hold the request.
+pub struct Answer {
+    pub outcome: u32,
+    pub used: usize,
+}
+
+// A refusal.
+fn refused(outcome: u32) -> Answer
+    ensures { λ r. ⌜ (r .outcome ≡ outcome) × (r .used ≡ 0) ⌝ }
+{
+    Answer {
+        outcome: outcome,
+        used: 0,
+    }
+}
+
+// The restoration request of the session at a place, in a space that is lent.
+fn write_at(t: &[u8], place: usize, ipv4: &[u8], ipv6: &[u8], space: &mut [u8]) -> Answer
+    requires { ⌜ Ready (now t) place (now ipv4) (now ipv6) ⌝ }
+    ensures { λ r. ⌜ writingOf r (now (space .exit)) ≡ writeInto (restorationAt (now (t .entry)) place (now (ipv4 .entry)) (now (ipv6 .entry))) (now (space .entry)) ⌝ }
+{
+    let mut request = [0u8; format::RESTORATION];
+    let used = write_request(t, place, ipv4, ipv6, &mut request);
+    if space.len() < used {
+        return refused(4);
+    }
+    octets::copy(space, 0, &request[..used]);
+    Answer {
+        outcome: 0,
+        used: used,
+    }
+}
+
+// Writes the restoration request of the session at a place, of any octets and any place; a refusal writes nothing.
+pub fn write_restoration(
+    t: &[u8],
+    place: usize,
+    ipv4: &[u8],
+    ipv6: &[u8],
+    space: &mut [u8],
+) -> Answer
+    ensures { λ r. ⌜ writingOf r (now (space .exit)) ≡ writeRestoration maxSessions (now (t .entry)) place (now (ipv4 .entry)) (now (ipv6 .entry)) (now (space .entry)) ⌝ }
+{
+    if !table::is_sound(t) {
+        return refused(1);
+    }
+    if octets::read(t, format::COUNT, 2) as usize <= place {
+        return refused(2);
+    }
+    if !has_address(ipv4, ipv6) {
+        return refused(3);
+    }
+    write_at(t, place, ipv4, ipv6, space)
+}

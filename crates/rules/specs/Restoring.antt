@@ -1,0 +1,61 @@
+-- The writer of restoration requests (02 (i), "Write the restoration for us"): what it refuses, in the order of the sentence, and what it writes.
+-- Assumes nothing.
+use Prim.Native.Nat.{ℕ, _+_}
+use mathlib.Core.Bool.{Bool, not, _&&_}
+use mathlib.Core.List.{List, [], _∷_}
+use lib.ListN.{length, getD}
+use lib.Dec.{leb, ltb}
+use Rattle.octets.specs.Choice.{pick, allOf, isNil}
+use Rattle.octets.specs.Octets.{put}
+use Rattle.rules.specs.Model.{Session, Sessions}
+use Rattle.rules.specs.Elements.{addressOf}
+use Rattle.rules.specs.Layout.{viewSettings, viewSessions}
+use Rattle.rules.specs.Sound.{sound}
+use Rattle.rules.specs.Stages.{newSession}
+use Rattle.rules.specs.Restoration.{Peer, restoration}
+
+-- the session at a place, from 0
+unfoldable pub sessionAt : Sessions → ℕ → Session
+sessionAt m place = getD m place (newSession 0)
+
+-- the control plane's addresses: 4 octets or none, 16 octets or none, and one of them at least
+unfoldable pub addressTests : List ℕ → List ℕ → List Bool
+addressTests ipv4 ipv6 = addressOf 4 ipv4 ∷ addressOf 16 ipv6 ∷ not (isNil ipv4 && isNil ipv6) ∷ []
+
+unfoldable pub addressed : List ℕ → List ℕ → Bool
+addressed ipv4 ipv6 = allOf (addressTests ipv4 ipv6)
+
+-- header SEID 0, and the place plus 1 as the sequence number
+unfoldable pub peerAt : ℕ → List ℕ → List ℕ → Peer
+peerAt place ipv4 ipv6 = record { header = 0; sequence = place + 1; ipv4 = ipv4; ipv6 = ipv6 }
+
+-- the restoration request of the session at a place of the table t
+unfoldable pub restorationAt : List ℕ → ℕ → List ℕ → List ℕ → List ℕ
+restorationAt t place ipv4 ipv6 = restoration (viewSettings t) (peerAt place ipv4 ipv6) (sessionAt (viewSessions t) place)
+
+-- the outcome, how many octets of the space hold the request, and the space at exit
+pub record Writing : Type 0 where
+  pub outcome : ℕ
+  pub used : ℕ
+  pub space : List ℕ
+
+-- a refusal writes nothing
+abbrev pub unwritten : ℕ → List ℕ → Writing
+unwritten n space = record { outcome = n; used = 0; space = space }
+
+-- the request at the front of the space; what stands past it stays
+unfoldable pub writeInto : List ℕ → List ℕ → Writing
+writeInto request space =
+    pick (ltb (length space) (length request)) (unwritten 4 space) (record { outcome = 0; used = length request; space = put 0 request space })
+
+-- a broken table 1, a place past the last session 2, no control-plane address 3, too little space 4; tested in this order
+unfoldable pub writeRestoration : ℕ → List ℕ → ℕ → List ℕ → List ℕ → List ℕ → Writing
+writeRestoration limit t place ipv4 ipv6 space =
+    pick (not (sound limit t)) (unwritten 1 space)
+    (pick (leb (length (viewSessions t)) place) (unwritten 2 space)
+    (pick (not (addressed ipv4 ipv6)) (unwritten 3 space)
+    (writeInto (restorationAt t place ipv4 ipv6) space)))
+
+unfoldable pub computing : ℕ
+unfolding sessionAt addressTests addressed peerAt restorationAt writeInto writeRestoration
+computing = 0
