@@ -3,11 +3,11 @@
 PREFIX = /usr/local
 DESTDIR =
 
-# the archive, the unit and pfcp-list; only what has changed since
+# the archive, the unit, pfcp-list and restore; only what has changed since
 all:
 	@scripts/build
 
-# the archive and a shared object
+# what is proved: the archive, a shared object of it, and the program restore
 lib:
 	@scripts/build lib
 

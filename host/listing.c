@@ -173,14 +173,14 @@ void listing_all(struct listing *listing, const struct unit *unit, unsigned long
     start(listing, unit, form);
     listing->lines_dropped = lines_dropped;
     listing->whole = true;
-    listing->end = sessions_count(listing->table);
+    listing->end = unit->live_sessions;
 }
 
 bool listing_one(struct listing *listing, const struct unit *unit, uint64_t seid, unsigned form)
 {
-    size_t place = sessions_find(unit->table, seid);
+    size_t place = sessions_find(unit->table, unit->live_sessions, seid);
 
-    if (place == sessions_count(unit->table))
+    if (place == unit->live_sessions)
         return false;
     start(listing, unit, form);
     listing->first = place;
@@ -204,7 +204,8 @@ static void add_session(struct text *text, const struct listing *listing)
 {
     struct session session;
 
-    sessions_read(listing->table, listing->next, &session);
+    if (!sessions_read(listing->table, listing->next, &session))
+        return;
     if (listing->form & LIST_JSON) {
         text_add(text, listing->next > listing->first ? ",\n" : "");
         session_json(text, &session);

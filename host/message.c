@@ -12,20 +12,48 @@ uint64_t number_at(const uint8_t *octets, size_t count)
     return number;
 }
 
+struct elements elements_of(const uint8_t *message, size_t length)
+{
+    size_t header = length < 16 ? length : 16;
+
+    return (struct elements){.octets = message + header, .length = length - header};
+}
+
+struct elements members_of(const struct element *group)
+{
+    return (struct elements){.octets = group->value, .length = group->length};
+}
+
+bool next_element(struct elements *rest, struct element *element)
+{
+    if (rest->length < 4)
+        return false;
+    element->type = (unsigned)number_at(rest->octets, 2);
+    element->length = (size_t)number_at(rest->octets + 2, 2);
+    if (element->length > rest->length - 4)
+        return false;
+    element->value = rest->octets + 4;
+    rest->octets += 4 + element->length;
+    rest->length -= 4 + element->length;
+    return true;
+}
+
 struct element element_of(const uint8_t *message, size_t length, unsigned type)
 {
-    size_t at = 16;
+    struct elements rest = elements_of(message, length);
+    struct element element;
 
-    while (length >= at + 4) {
-        size_t claimed = (size_t)number_at(message + at + 2, 2);
+    while (next_element(&rest, &element))
+        if (element.type == type)
+            return element;
+    return (struct element){.type = type, .value = NULL, .length = 0};
+}
 
-        if (claimed > length - at - 4)
-            break;
-        if (number_at(message + at, 2) == type)
-            return (struct element){.value = message + at + 4, .length = claimed};
-        at += 4 + claimed;
-    }
-    return (struct element){.value = NULL, .length = 0};
+uint64_t number_in(const struct element *element, size_t at, size_t count)
+{
+    if (element->length < at + count)
+        return 0;
+    return number_at(element->value + at, count);
 }
 
 static void write_number(uint8_t *octets, uint64_t number, size_t count)

@@ -2,6 +2,7 @@
 #ifndef MESSAGE_H
 #define MESSAGE_H
 
+#include <stdbool.h>
 #include <stddef.h>
 #include <stdint.h>
 
@@ -88,14 +89,32 @@ void create_endpoint(struct message *m, uint8_t id, const struct tunnel *tunnel)
 void remove_pdr(struct message *m, uint16_t id);
 void remove_endpoint(struct message *m, uint8_t id);
 
-/* The first element of a type at the top of a request or reply that is sound; its value is NULL and
-   its length 0 where there is none, or where the frame breaks before it. */
+/* An element: its value is a part of the octets that it was found in. */
 struct element {
+    unsigned type;
     const uint8_t *value;
     size_t length;
 };
 
+/* Elements one after the other. */
+struct elements {
+    const uint8_t *octets;
+    size_t length;
+};
+
+/* The elements of a request or reply, and those in a group. */
+struct elements elements_of(const uint8_t *message, size_t length);
+struct elements members_of(const struct element *group);
+
+/* Takes the first element off; gives false at the end, and where the frame breaks. */
+bool next_element(struct elements *rest, struct element *element);
+
+/* The first element of a type at the top of a request or reply that is sound; its value is NULL and
+   its length 0 where there is none, or where the frame breaks before it. */
 struct element element_of(const uint8_t *message, size_t length, unsigned type);
+
+/* The number in some octets of an element's value; 0 where it has fewer. */
+uint64_t number_in(const struct element *element, size_t at, size_t count);
 
 /* Numbers in octets, the first one on top. */
 uint64_t number_at(const uint8_t *octets, size_t count);

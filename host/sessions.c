@@ -3,75 +3,166 @@
 #include <string.h>
 
 #include "message.h"
+#include "pfcp_session.h"
 
-/* docs/layout.md */
-enum {
-    COUNT = 29,
-    SLOTS = 31,
-    SLOT = 483,
-    PDRS = 11,
-    PDR = 19,
-    ENDPOINTS = 315,
-    ENDPOINT = 6,
-    FQ_CSIDS = 363,
-    FQ_CSID = 20
-};
+/* The control plane's address is in each request and in no list. */
+static const uint8_t nobody[4] = {0, 0, 0, 0};
 
-static void read_pdr(struct pdr *pdr, const uint8_t *octets)
+static void read_f_teid(const struct element *element, uint32_t *teid, uint8_t *families)
 {
-    pdr->id = (uint16_t)number_at(octets, 2);
-    pdr->precedence = (uint32_t)number_at(octets + 2, 4);
-    pdr->has_far = octets[6] == 1;
-    pdr->far_id = (uint32_t)number_at(octets + 7, 4);
-    pdr->source_interface = octets[11];
-    pdr->place = octets[12];
-    pdr->teid = (uint32_t)number_at(octets + 13, 4);
-    pdr->families = octets[17];
-    pdr->endpoint_id = octets[18];
+    *families = (uint8_t)(number_in(element, 0, 1) & (V4 | V6));
+    *teid = (uint32_t)number_in(element, 1, 4);
 }
 
-static void read_endpoint(struct endpoint *endpoint, const uint8_t *octets)
+static void read_pdi(struct pdr *pdr, const struct element *pdi)
 {
-    endpoint->id = octets[0];
-    endpoint->teid = (uint32_t)number_at(octets + 1, 4);
-    endpoint->families = octets[5];
+    struct elements rest = members_of(pdi);
+    struct element member;
+
+    while (next_element(&rest, &member)) {
+        switch (member.type) {
+        case IE_SOURCE_INTERFACE:
+            pdr->source_interface = (uint8_t)number_in(&member, 0, 1);
+            break;
+        case IE_F_TEID:
+            pdr->place = LOCAL_F_TEID;
+            read_f_teid(&member, &pdr->teid, &pdr->families);
+            break;
+        case IE_ENDPOINT_ID:
+            pdr->place = NAMED_ENDPOINT;
+            pdr->endpoint_id = (uint8_t)number_in(&member, 0, 1);
+            break;
+        }
+    }
 }
 
-static void read_fq_csid(struct fq_csid *fq_csid, const uint8_t *octets)
+static void read_pdr(struct pdr *pdr, const struct element *group)
 {
-    fq_csid->node_type = octets[0];
-    fq_csid->node_id_type = octets[1];
-    memcpy(fq_csid->address, octets + 2, sizeof fq_csid->address);
-    fq_csid->csid = (uint16_t)number_at(octets + 18, 2);
+    struct elements rest = members_of(group);
+    struct element member;
+
+    while (next_element(&rest, &member)) {
+        switch (member.type) {
+        case IE_PDR_ID:
+            pdr->id = (uint16_t)number_in(&member, 0, 2);
+            break;
+        case IE_PRECEDENCE:
+            pdr->precedence = (uint32_t)number_in(&member, 0, 4);
+            break;
+        case IE_PDI:
+            read_pdi(pdr, &member);
+            break;
+        case IE_FAR_ID:
+            pdr->has_far = true;
+            pdr->far_id = (uint32_t)number_in(&member, 0, 4);
+            break;
+        }
+    }
 }
 
-size_t sessions_count(const uint8_t *table)
+static void read_endpoint(struct endpoint *endpoint, const struct element *group)
 {
-    return (size_t)number_at(table + COUNT, 2);
+    struct elements rest = members_of(group);
+    struct element member;
+
+    while (next_element(&rest, &member)) {
+        if (member.type == IE_ENDPOINT_ID)
+            endpoint->id = (uint8_t)number_in(&member, 0, 1);
+        else if (member.type == IE_F_TEID)
+            read_f_teid(&member, &endpoint->teid, &endpoint->families);
+    }
 }
 
-void sessions_read(const uint8_t *table, size_t place, struct session *session)
+/* The Node-ID type and the number of CSIDs, which is 1; the address; the CSID; the node type. */
+static void read_fq_csid(struct fq_csid *fq_csid, const struct element *element)
 {
-    const uint8_t *slot = table + SLOTS + SLOT * place;
+    size_t octets;
 
-    session->seid = number_at(slot, 8);
-    session->pdr_count = slot[8];
-    session->endpoint_count = slot[9];
-    session->fq_csid_count = slot[10];
-    for (size_t i = 0; i < session->pdr_count; i++)
-        read_pdr(&session->pdrs[i], slot + PDRS + PDR * i);
-    for (size_t i = 0; i < session->endpoint_count; i++)
-        read_endpoint(&session->endpoints[i], slot + ENDPOINTS + ENDPOINT * i);
-    for (size_t i = 0; i < session->fq_csid_count; i++)
-        read_fq_csid(&session->fq_csids[i], slot + FQ_CSIDS + FQ_CSID * i);
+    fq_csid->node_id_type = (uint8_t)(number_in(element, 0, 1) >> 4);
+    octets = fq_csid->node_id_type == 1 ? 16 : 4;
+    if (element->length < 1 + octets + 3)
+        return;
+    memcpy(fq_csid->address, element->value + 1, octets);
+    fq_csid->csid = (uint16_t)number_in(element, 1 + octets, 2);
+    fq_csid->node_type = (uint8_t)(number_in(element, 1 + octets + 2, 1) & 0x0F);
 }
 
-size_t sessions_find(const uint8_t *table, uint64_t seid)
+static void read_request(struct session *session, struct elements rest)
 {
-    size_t count = sessions_count(table);
-    size_t place = 0;
+    struct element element;
 
-    while (place < count && number_at(table + SLOTS + SLOT * place, 8) != seid)
-        place++;
-    return place;
+    memset(session, 0, sizeof *session);
+    while (next_element(&rest, &element)) {
+        switch (element.type) {
+        case IE_F_SEID:
+            session->seid = number_in(&element, 1, 8);
+            break;
+        case IE_CREATE_PDR:
+            if (session->pdr_count < MOST_PDRS)
+                read_pdr(&session->pdrs[session->pdr_count++], &element);
+            break;
+        case IE_CREATE_ENDPOINT:
+            if (session->endpoint_count < MOST_ENDPOINTS)
+                read_endpoint(&session->endpoints[session->endpoint_count++], &element);
+            break;
+        case IE_FQ_CSID:
+            if (session->fq_csid_count < MOST_FQ_CSIDS)
+                read_fq_csid(&session->fq_csids[session->fq_csid_count++], &element);
+            break;
+        }
+    }
+}
+
+bool sessions_read(const uint8_t *table, size_t place, struct session *session)
+{
+    uint8_t request[PFCP_LONGEST_RESTORATION];
+    size_t used;
+
+    if (pfcp_write_restoration(table, PFCP_TABLE_LENGTH, place, nobody, sizeof nobody, NULL, 0,
+                               request, sizeof request, &used) != PFCP_WRITTEN)
+        return false;
+    read_request(session, elements_of(request, used));
+    return true;
+}
+
+/* Without an address nothing is written, and the outcome tells whether the place is one. */
+static bool is_session(const uint8_t *table, size_t place)
+{
+    size_t used;
+
+    return pfcp_write_restoration(table, PFCP_TABLE_LENGTH, place, NULL, 0, NULL, 0, NULL, 0,
+                                  &used) == PFCP_NO_PLANE_ADDRESS;
+}
+
+size_t sessions_count(const uint8_t *table, size_t guess)
+{
+    size_t count = guess;
+
+    while (is_session(table, count))
+        count++;
+    while (count > 0 && !is_session(table, count - 1))
+        count--;
+    return count;
+}
+
+/* The sessions stand in ascending order of SEID, so half of them are left after each call. */
+size_t sessions_find(const uint8_t *table, size_t count, uint64_t seid)
+{
+    size_t first = 0;
+    size_t end = count;
+    struct session session;
+
+    while (first < end) {
+        size_t middle = first + (end - first) / 2;
+
+        if (!sessions_read(table, middle, &session))
+            return count;
+        if (session.seid == seid)
+            return middle;
+        if (session.seid < seid)
+            first = middle + 1;
+        else
+            end = middle;
+    }
+    return count;
 }

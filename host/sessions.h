@@ -1,4 +1,5 @@
-/* The live sessions, read from the table. Nothing else in this directory knows where they stand. */
+/* The live sessions. They are read from the restoration requests that the archive writes of them, so
+   nothing in this directory knows where they stand in the table. */
 #ifndef SESSIONS_H
 #define SESSIONS_H
 
@@ -44,10 +45,14 @@ struct session {
     struct fq_csid fq_csids[MOST_FQ_CSIDS];
 };
 
-/* Of a sound table: how many sessions there are, the one at a place from 0 on, and the place of a
-   SEID, which is the number of sessions if it is not live. */
-size_t sessions_count(const uint8_t *table);
-void sessions_read(const uint8_t *table, size_t place, struct session *session);
-size_t sessions_find(const uint8_t *table, uint64_t seid);
+/* The session at a place of a sound table, from 0 on; gives false where there is none. */
+bool sessions_read(const uint8_t *table, size_t place, struct session *session);
+
+/* How many sessions a sound table has. A guess that is near makes it fast: there are few calls of the
+   archive for each session that it is off. */
+size_t sessions_count(const uint8_t *table, size_t guess);
+
+/* The place of a SEID among so many sessions, which is their number if it is not live. */
+size_t sessions_find(const uint8_t *table, size_t count, uint64_t seid);
 
 #endif

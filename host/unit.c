@@ -9,8 +9,10 @@
 #include "message.h"
 #include "sessions.h"
 
-static bool count_free(struct unit *unit)
+/* The sessions and the free TEIDs, after a request that may have changed them. */
+static bool count_table(struct unit *unit)
 {
+    unit->live_sessions = sessions_count(unit->table, unit->live_sessions);
     return pfcp_free_count(unit->table, sizeof unit->table, &unit->free_teids) == PFCP_ANSWERED;
 }
 
@@ -21,7 +23,7 @@ bool unit_start(struct unit *unit, const struct options *options)
     unit->options = options;
     if (pfcp_make_table(unit->table, sizeof unit->table, options->ipv4, options->ipv6,
                         options->ipv6_length, options->first_teid, options->pool_size) != 0 ||
-        !count_free(unit)) {
+        !count_table(unit)) {
         fputs("pfcp_unit: these settings are refused\n", stderr);
         return false;
     }
@@ -118,7 +120,7 @@ static void answer(struct unit *unit, struct served *served, struct datagram *fr
         return;
     served->send_error = datagrams_answer(unit->socket, from, reply, used);
     read_reply(served, reply, used);
-    if (served->cause == ACCEPTED && !count_free(unit))
+    if (served->cause == ACCEPTED && !count_table(unit))
         served->outcome = PFCP_BROKEN_TABLE;
 }
 
@@ -142,7 +144,7 @@ enum turn unit_serve(struct unit *unit, struct served *served)
     }
     read_head(served, message, (size_t)length);
     answer(unit, served, &from, message);
-    served->live_sessions = sessions_count(unit->table);
+    served->live_sessions = unit->live_sessions;
     served->free_teids = unit->free_teids;
     count(&unit->counters, served);
     if (served->outcome == PFCP_ANSWERED)

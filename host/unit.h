@@ -27,6 +27,7 @@ struct unit {
     size_t receive_buffer; /* octets that the system gave */
     const struct options *options;
     uint8_t table[PFCP_TABLE_LENGTH];
+    size_t live_sessions;
     uint32_t free_teids;
     uint32_t system_dropped; /* what the system told last; it may wrap */
     struct counters counters;

@@ -42,23 +42,27 @@ stand_in_archive() {
     archive_name=ordinary
 }
 
-# archive_origin: a line that changes with the archive and with what it is made from
-archive_origin() {
+# library_origin NAME: a line that changes with the library that rt writes of this crate and with what it is made from
+library_origin() {
     {
         rt version
         find crates.txt crates -type f \( -name '*.rt' -o -name '*.antt' \) -print0 | sort -z | xargs -0 sha256sum
-        sha256sum target/staticlib/libpfcp_session.a
+        sha256sum "target/staticlib/lib$1.a"
     } 2>/dev/null | sha256sum
 }
 
-# proved_archive HOW: has rt prove what has changed and write the archive, unless nothing has changed since it was written. HOW is
-# quietly or aloud.
-proved_archive() {
+# proved_library HOW NAME: has rt prove what has changed and write target/staticlib/libNAME.a, unless nothing has changed since it was
+# written. HOW is quietly or aloud.
+proved_library() {
     need_rt || return 1
-    if [ "$(cat target/staticlib/origin 2>/dev/null)" != "$(archive_origin)" ]; then
-        "$1" rt staticlib pfcp_session || return 1
-        archive_origin >target/staticlib/origin
-    fi
+    [ "$(cat "target/staticlib/$2.origin" 2>/dev/null)" = "$(library_origin "$2")" ] && return
+    "$1" rt staticlib "$2" || return 1
+    library_origin "$2" >"target/staticlib/$2.origin"
+}
+
+# proved_archive HOW: the library that C links
+proved_archive() {
+    proved_library "$1" pfcp_session || return 1
     archive_dir=$PWD/target/staticlib
     archive_name=pfcp_session
 }
@@ -95,6 +99,9 @@ bench_sources=(-O2 -Ibench bench/workload.c bench/sides.c bench/measure.c host/m
 unit_sources=(host/main.c host/options.c host/number.c host/service.c host/unit.c host/datagrams.c host/address.c host/line.c
     host/sessions.c host/listing.c host/control.c host/output.c host/text.c host/words.c host/message.c host/demo.c -pthread)
 list_sources=(host/pfcp_list.c host/number.c)
+# the program restore, which adds to its C file a proved library and the kit's C code for it, and the unit's list of a stored table
+restore_sources=(host/restore.c)
+list_table_sources=(tests/c/list_table.c host/sessions.c host/listing.c host/text.c host/words.c host/message.c)
 checked_by_valgrind=(valgrind -q --error-exitcode=9 --leak-check=full --errors-for-leak-kinds=all)
 
 # compile OUTPUT WORDS..: compiles C files to target/c/OUTPUT
@@ -136,12 +143,25 @@ compile_changed() {
     done
 }
 
-# build_unit: builds what has changed of the archive, the unit and pfcp-list
+# compile_restore OUTPUT WORDS..: compiles what has changed of the program restore
+compile_restore() {
+    local kit
+    kit=$(rt doc) || return 1
+    compile_changed "$@" "${restore_sources[@]}" target/staticlib/librestoring.a "${kit%/docs/*}/lib/libos_c.a"
+}
+
+# build_restore [HOW]: builds what has changed of the program restore and its proved library
+build_restore() {
+    { need_gcc && need_rt; } || return 1
+    proved_library "${1:-quietly}" restoring && compile_restore restore -g -O2
+}
+
+# build_unit: builds what has changed of the archive, the unit, pfcp-list and restore
 build_unit() {
     { need_gcc && need_rt; } || return 1
     find_archive aloud || return 1
     compile_changed pfcp_unit -g -O2 "${unit_sources[@]}" "$archive_file" &&
-        compile_changed pfcp-list -g -O2 "${list_sources[@]}"
+        compile_changed pfcp-list -g -O2 "${list_sources[@]}" && build_restore aloud
 }
 
 # version: the version, which stands in the header; soname: the name that a program asks the dynamic linker for. Before version 1 every

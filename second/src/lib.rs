@@ -7,6 +7,8 @@
 //! * `unit`: the live sessions, all stages and causes, grants, application and reply.
 //! * `live`: the live set, folded from messages, outcomes and replies alone.
 //! * `restoration`: the restoration request of a live session.
+//! * `layout`: a table's octets, written and read as docs/layout.md says.
+//! * `list`: the list of live sessions, as the unit's operators see it.
 //! * `coverage`: what a run of calls has met, and what it should meet.
 //! * `generate`: seeded sequences of calls; it uses none of the readers and writers above.
 //! * `selfcheck`: drives the unit over generated sequences and checks what 01 promises.
@@ -16,6 +18,8 @@ pub mod coverage;
 pub mod element;
 pub mod generate;
 pub mod ie;
+pub mod layout;
+pub mod list;
 pub mod live;
 pub mod program;
 pub mod request;

@@ -120,3 +120,14 @@ fn exchanges_of_the_worked_examples() {
     assert_eq!(String::from_utf8(output.stdout).unwrap(), expected);
     assert_eq!(expected.lines().count(), 61);
 }
+
+#[test]
+fn tables_refuses_bad_arguments() {
+    for arguments in [&[][..], &["."], &[".", "1"], &[".", "x", "1"], &[".", "1", "1", "1"]] {
+        let output = run(env!("CARGO_BIN_EXE_tables"), arguments, "");
+        assert_eq!(output.status.code(), Some(2), "{arguments:?}");
+        assert!(output.stdout.is_empty() && !output.stderr.is_empty(), "{arguments:?}");
+    }
+    let output = run(env!("CARGO_BIN_EXE_tables"), &["/nonexistent", "1", "1"], "");
+    assert_eq!(output.status.code(), Some(1));
+}

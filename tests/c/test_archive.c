@@ -1,6 +1,6 @@
 /*
  * The archive from C: document 01's whole replies, its story of a pool of two, the errors that were
- * seen before, empty slices, lengths and broken tables. The last line is "N passed, M failed".
+ * seen before, empty slices, lengths, broken tables and restorations. The last line is "N passed, M failed".
  *
  * Every slice is lent from a block of its own and of exactly its length, so that a memory checker
  * sees an octet read or written outside.
@@ -591,6 +591,189 @@ static void restoration(void)
     free(table);
 }
 
+/* What was written last. */
+static struct {
+    uint8_t octets[PFCP_LONGEST_RESTORATION];
+    size_t used;
+} written;
+
+static const uint8_t plane_ipv4[4] = {198, 51, 100, 1};
+static const uint8_t plane_ipv6[16] = {0x20, 0x01, 0x0D, 0xB8, [15] = 1};
+
+/* The writer with a space of exactly this length and addresses of these lengths; checks what holds of
+   every answer. */
+static uint32_t write_octets(const uint8_t *octets, size_t length, size_t place, size_t ipv4_length,
+                             size_t ipv6_length, size_t space_length)
+{
+    uint8_t *table = copy_of(octets, length);
+    uint8_t *ipv4 = ipv4_length > 0 ? block(ipv4_length, 9) : NULL;
+    uint8_t *ipv6 = ipv6_length > 0 ? block(ipv6_length, 9) : NULL;
+    uint8_t *space = space_length > 0 ? block(space_length, FILLING) : NULL;
+
+    if (ipv4_length == 4)
+        memcpy(ipv4, plane_ipv4, 4);
+    if (ipv6_length == 16)
+        memcpy(ipv6, plane_ipv6, 16);
+    written.used = SIZE_MAX;
+    uint32_t outcome = pfcp_write_restoration(table, length, place, ipv4, ipv4_length, ipv6,
+                                              ipv6_length, space, space_length, &written.used);
+    CHECK((outcome == PFCP_WRITTEN) == (written.used >= 16));
+    if (CHECK(written.used <= PFCP_LONGEST_RESTORATION && written.used <= space_length)) {
+        CHECK(all_are(space + written.used, space_length - written.used, FILLING));
+        if (written.used > 0)
+            memcpy(written.octets, space, written.used);
+    }
+    CHECK(length == 0 || memcmp(table, octets, length) == 0);
+    free(table);
+    free(ipv4);
+    free(ipv6);
+    free(space);
+    return outcome;
+}
+
+static uint32_t write_place(const uint8_t *table, size_t place, size_t space_length)
+{
+    return write_octets(table, PFCP_TABLE_LENGTH, place, 4, 0, space_length);
+}
+
+/* The writer of restorations: a whole request, its refusals in their order, and all requests run
+   back. */
+static void written_restorations(void)
+{
+    static const uint8_t whole[] = {
+        0x21, 0x32, 0x00, 0x80, 0x00, 0x00, 0x00, 0x00, 0x00, 0x00, 0x00, 0x00, 0x00, 0x00, 0x01,
+        0x00, 0x00, 0x39, 0x00, 0x0D, 0x02, 0x00, 0x00, 0x00, 0x00, 0x00, 0x00, 0x00, 0x04, 0xC6,
+        0x33, 0x64, 0x01, 0x00, 0xBA, 0x00, 0x01, 0x01, 0x00, 0x01, 0x00, 0x24, 0x00, 0x38, 0x00,
+        0x02, 0x00, 0x05, 0x00, 0x1D, 0x00, 0x04, 0x00, 0x00, 0x00, 0x07, 0x00, 0x02, 0x00, 0x0A,
+        0x00, 0x14, 0x00, 0x01, 0x01, 0x00, 0x83, 0x00, 0x01, 0x03, 0x00, 0x6C, 0x00, 0x04, 0x00,
+        0x00, 0x00, 0x08, 0x00, 0x01, 0x00, 0x1C, 0x00, 0x38, 0x00, 0x02, 0x00, 0x06, 0x00, 0x1D,
+        0x00, 0x04, 0x00, 0x00, 0x00, 0x07, 0x00, 0x02, 0x00, 0x0A, 0x00, 0x14, 0x00, 0x01, 0x01,
+        0x00, 0x83, 0x00, 0x01, 0x03, 0x00, 0x7F, 0x00, 0x12, 0x00, 0x83, 0x00, 0x01, 0x03, 0x00,
+        0x15, 0x00, 0x09, 0x01, 0x00, 0x00, 0x10, 0x01, 0xC0, 0x00, 0x02, 0x01};
+    uint8_t *table = new_table(4096, 10);
+    uint8_t *fresh = new_table(4096, 10);
+    struct message m;
+
+    CHECK(write_place(table, 0, PFCP_LONGEST_RESTORATION) == PFCP_PAST_LAST_SESSION);
+    CHECK(establish_one_pdr(table, 9, &choose) == 1);
+    start_establishment(&m, 4);
+    for (uint16_t id = 6; id >= 5; id--) {
+        create_pdr_start(&m, id, 7, 1);
+        put_number(&m, IE_ENDPOINT_ID, 3, 1);
+        create_pdr_end(&m, id == 5 ? 8 : -1);
+    }
+    create_endpoint(&m, 3, &choose);
+    CHECK(ask(table, &m) == 1);
+    start_establishment(&m, 12);
+    create_pdr(&m, 2, NULL);
+    put_fq_csid(&m, 5, 77);
+    put_fq_csid(&m, 1, 78);
+    CHECK(ask(table, &m) == 1);
+
+    /* Each refusal where the later ones are due too. */
+    CHECK(write_octets(table, PFCP_TABLE_LENGTH - 1, 3, 0, 0, 0) == PFCP_BROKEN_TABLE);
+    CHECK(write_octets(NULL, 0, 3, 0, 0, 0) == PFCP_BROKEN_TABLE);
+    table[PFCP_TABLE_LENGTH - 1] = 1;
+    CHECK(write_octets(table, PFCP_TABLE_LENGTH, 3, 0, 0, 0) == PFCP_BROKEN_TABLE);
+    table[PFCP_TABLE_LENGTH - 1] = 0;
+    CHECK(write_octets(table, PFCP_TABLE_LENGTH, 3, 0, 0, 0) == PFCP_PAST_LAST_SESSION);
+    CHECK(write_octets(table, PFCP_TABLE_LENGTH, SIZE_MAX, 0, 0, 0) == PFCP_PAST_LAST_SESSION);
+    CHECK(write_octets(table, PFCP_TABLE_LENGTH, 2, 0, 0, 0) == PFCP_NO_PLANE_ADDRESS);
+    CHECK(write_octets(table, PFCP_TABLE_LENGTH, 2, 3, 16, 0) == PFCP_NO_PLANE_ADDRESS);
+    CHECK(write_octets(table, PFCP_TABLE_LENGTH, 2, 4, 15, 0) == PFCP_NO_PLANE_ADDRESS);
+    CHECK(write_octets(table, PFCP_TABLE_LENGTH, 2, 16, 4, 0) == PFCP_NO_PLANE_ADDRESS);
+    CHECK(write_octets(table, PFCP_TABLE_LENGTH, 2, 4, 16, 0) == PFCP_SMALL_SPACE);
+    CHECK(write_place(table, 0, sizeof whole - 1) == PFCP_SMALL_SPACE);
+
+    /* A whole request, in just its room and in more; with other addresses it is as much longer. */
+    CHECK(write_place(table, 0, sizeof whole) == PFCP_WRITTEN);
+    CHECK(written.used == sizeof whole && memcmp(written.octets, whole, sizeof whole) == 0);
+    CHECK(write_place(table, 0, PFCP_LONGEST_RESTORATION) == PFCP_WRITTEN);
+    CHECK(written.used == sizeof whole && memcmp(written.octets, whole, sizeof whole) == 0);
+    CHECK(write_octets(table, PFCP_TABLE_LENGTH, 0, 0, 16, 2000) == PFCP_WRITTEN);
+    CHECK(written.used == sizeof whole + 12 && written.octets[20] == 1);
+    CHECK(memcmp(written.octets + 29, plane_ipv6, 16) == 0);
+    CHECK(write_octets(table, PFCP_TABLE_LENGTH, 0, 4, 16, 2000) == PFCP_WRITTEN);
+    CHECK(written.used == sizeof whole + 16 && written.octets[20] == 3);
+    CHECK(memcmp(written.octets + 29, plane_ipv4, 4) == 0);
+    CHECK(memcmp(written.octets + 33, plane_ipv6, 16) == 0);
+
+    /* All of them in turn on an empty table. */
+    size_t place = 0;
+    while (write_place(table, place, PFCP_LONGEST_RESTORATION) == PFCP_WRITTEN) {
+        place++;
+        CHECK(number_at(written.octets + 4, 8) == 0);
+        CHECK(number_at(written.octets + 12, 3) == place);
+        CHECK(ask_octets(fresh, written.octets, written.used) == 0);
+        CHECK(answer.octets[29] == 1);
+    }
+    CHECK(place == 3);
+    CHECK(memcmp(table, fresh, PFCP_TABLE_LENGTH) == 0);
+    free(fresh);
+    free(table);
+}
+
+/* The refusals in their order: every table with every place, pair of addresses and space. */
+static void refused_restorations(void)
+{
+    static const struct {
+        size_t ipv4_len, ipv6_len;
+    } addresses[] = {{0, 0}, {4, 0},  {0, 16}, {4, 16}, {3, 0},  {5, 0}, {0, 15}, {0, 17},
+                     {4, 1}, {1, 16}, {16, 4}, {4, 15}, {5, 16}, {0, 4}, {16, 0}, {8, 16}};
+    static const size_t places[] = {0, 1, 2, 3, 63, 64, 65, 65536, SIZE_MAX};
+    uint8_t *sound = new_table(4096, 10);
+    uint8_t *empty = new_table(4096, 10);
+    uint8_t *longer = block(PFCP_TABLE_LENGTH + 1, 0);
+    struct message m;
+
+    /* Without the addresses of its F-SEID the request of session 5 takes 82 octets, that of 9 takes
+       74: header 16, F-SEID 13, flags 5, and the group 48 (with a FAR) or 40. */
+    CHECK(establish_one_pdr(sound, 9, &choose) == 1);
+    start_establishment(&m, 5);
+    create_pdr_start(&m, 1, 100, 0);
+    put_f_teid(&m, &choose);
+    create_pdr_end(&m, 8);
+    CHECK(ask(sound, &m) == 1);
+    uint8_t *broken = copy_of(sound, PFCP_TABLE_LENGTH);
+    broken[PFCP_TABLE_LENGTH - 1] = 1;
+    memcpy(longer, sound, PFCP_TABLE_LENGTH);
+    const struct {
+        const uint8_t *octets;
+        size_t length, sessions;
+        int broken;
+    } tables[] = {{sound, PFCP_TABLE_LENGTH, 2, 0},      {empty, PFCP_TABLE_LENGTH, 0, 0},
+                  {broken, PFCP_TABLE_LENGTH, 2, 1},     {sound, PFCP_TABLE_LENGTH - 1, 2, 1},
+                  {longer, PFCP_TABLE_LENGTH + 1, 2, 1}, {sound, 0, 0, 1}};
+
+    for (size_t t = 0; t < sizeof tables / sizeof tables[0]; t++)
+        for (size_t p = 0; p < sizeof places / sizeof places[0]; p++)
+            for (size_t a = 0; a < sizeof addresses / sizeof addresses[0]; a++) {
+                size_t v4 = addresses[a].ipv4_len;
+                size_t v6 = addresses[a].ipv6_len;
+                int given = (v4 == 4 && v6 == 0) || (v4 == 0 && v6 == 16) || (v4 == 4 && v6 == 16);
+                size_t whole = (places[p] == 0 ? 82 : 74) + v4 + v6;
+                uint32_t small = tables[t].broken                  ? PFCP_BROKEN_TABLE
+                                 : places[p] >= tables[t].sessions ? PFCP_PAST_LAST_SESSION
+                                 : !given                          ? PFCP_NO_PLANE_ADDRESS
+                                                                   : PFCP_SMALL_SPACE;
+                uint32_t enough = small == PFCP_SMALL_SPACE ? PFCP_WRITTEN : small;
+                const uint8_t *table = tables[t].octets;
+                size_t length = tables[t].length;
+
+                CHECK(write_octets(table, length, places[p], v4, v6, 0) == small);
+                CHECK(write_octets(table, length, places[p], v4, v6, whole - 1) == small);
+                CHECK(written.used == 0);
+                CHECK(write_octets(table, length, places[p], v4, v6, whole) == enough);
+                CHECK(written.used == (enough == PFCP_WRITTEN ? whole : 0));
+                CHECK(write_octets(table, length, places[p], v4, v6, PFCP_LONGEST_RESTORATION) ==
+                      enough);
+            }
+    free(broken);
+    free(longer);
+    free(empty);
+    free(sound);
+}
+
 int main(void)
 {
     whole_replies();
@@ -604,6 +787,8 @@ int main(void)
     settings();
     broken_tables();
     restoration();
+    written_restorations();
+    refused_restorations();
     printf("%lu passed, %lu failed\n", passed, failed);
     return failed == 0 ? EXIT_SUCCESS : EXIT_FAILURE;
 }

@@ -5,10 +5,12 @@
 pub mod damage;
 pub mod draft;
 pub mod flaws;
+pub mod largest;
 pub mod plan;
 pub mod planner;
 pub mod random;
 pub mod requests;
+pub mod tables;
 
 use crate::session::{Session, Sessions};
 use crate::settings::Settings;

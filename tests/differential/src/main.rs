@@ -3,7 +3,7 @@
 
 use std::process::ExitCode;
 
-use differential::product::Product;
+use differential::product::{Product, WriteRestoration};
 use differential::run::{run, Report, CALLS_FOR_WHOLE_COVERAGE};
 use second::coverage;
 use second::program;
@@ -32,7 +32,26 @@ extern "C" {
         reply_len: usize,
         reply_used: *mut usize,
     ) -> u32;
+    #[cfg(feature = "restoration")]
+    fn pfcp_write_restoration(
+        table: *const u8,
+        table_len: usize,
+        place: usize,
+        cp_ipv4: *const u8,
+        cp_ipv4_len: usize,
+        cp_ipv6: *const u8,
+        cp_ipv6_len: usize,
+        space: *mut u8,
+        space_len: usize,
+        used: *mut usize,
+    ) -> u32;
 }
+
+#[cfg(feature = "restoration")]
+const WRITE_RESTORATION: Option<WriteRestoration> = Some(pfcp_write_restoration);
+
+#[cfg(not(feature = "restoration"))]
+const WRITE_RESTORATION: Option<WriteRestoration> = None;
 
 fn main() -> ExitCode {
     program::run("differential", DEFAULT_CALLS, compare)
@@ -44,6 +63,7 @@ fn compare(seed: u64, calls: usize) -> bool {
         make_table: pfcp_make_table,
         free_count: pfcp_free_count,
         request: pfcp_request,
+        write_restoration: WRITE_RESTORATION,
     };
     let report = run(&product, seed, calls);
     print(&report, calls);
@@ -52,7 +72,7 @@ fn compare(seed: u64, calls: usize) -> bool {
 
 fn print(report: &Report, calls: usize) {
     println!("outcomes 0 to 5: {:?}", report.outcomes);
-    println!("restored sessions {}", report.restored);
+    println!("restored sessions {}, requests written {}", report.restored, report.written);
     println!("damaged tables {}, of these sound {}", report.damaged, report.still_sound);
     for (reason, count) in &report.reasons {
         println!("broken by {reason}: {count}");

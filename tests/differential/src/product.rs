@@ -1,10 +1,14 @@
-//! The four calls of a product. Empty slices are passed as null.
+//! The calls of a product. Empty slices are passed as null.
 
 pub type TableLength = unsafe extern "C" fn() -> usize;
 pub type MakeTable = unsafe extern "C" fn(*mut u8, usize, u32, *const u8, usize, u32, u32) -> u32;
 pub type FreeCount = unsafe extern "C" fn(*const u8, usize, *mut u32) -> u32;
 pub type Request =
     unsafe extern "C" fn(*mut u8, usize, *const u8, usize, *mut u8, usize, *mut usize) -> u32;
+#[rustfmt::skip]
+pub type WriteRestoration = unsafe extern "C" fn(
+    *const u8, usize, usize, *const u8, usize, *const u8, usize, *mut u8, usize, *mut usize,
+) -> u32;
 
 #[derive(Clone, Copy)]
 pub struct Product {
@@ -12,6 +16,8 @@ pub struct Product {
     pub make_table: MakeTable,
     pub free_count: FreeCount,
     pub request: Request,
+    /// Nothing where the product has no such call.
+    pub write_restoration: Option<WriteRestoration>,
 }
 
 impl Product {
@@ -50,6 +56,35 @@ impl Product {
                 table.len(),
                 pointer(message),
                 message.len(),
+                pointer_mut(space),
+                space.len(),
+                &mut used,
+            )
+        };
+        (outcome, used)
+    }
+
+    /// The outcome and the length of the request; a product without the call gives another outcome
+    /// than any of its.
+    pub fn write_restoration(
+        &self,
+        table: &[u8],
+        place: usize,
+        ipv4: &[u8],
+        ipv6: &[u8],
+        space: &mut [u8],
+    ) -> (u32, usize) {
+        let Some(write) = self.write_restoration else { return (u32::MAX, 0) };
+        let mut used = usize::MAX;
+        let outcome = unsafe {
+            write(
+                pointer(table),
+                table.len(),
+                place,
+                pointer(ipv4),
+                ipv4.len(),
+                pointer(ipv6),
+                ipv6.len(),
                 pointer_mut(space),
                 space.len(),
                 &mut used,

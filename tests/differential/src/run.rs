@@ -3,8 +3,10 @@
 use std::collections::BTreeMap;
 
 use second::coverage::Coverage;
+use second::generate::largest;
 use second::generate::random::Random;
 use second::generate::{Call, Flavour, Generator};
+use second::layout::{self, TABLE};
 use second::live::LiveSet;
 use second::restoration::{self, Envelope};
 use second::session::Sessions;
@@ -12,8 +14,6 @@ use second::settings::Settings;
 use second::unit::{Decision, Unit};
 
 use crate::crowded;
-use crate::largest;
-use crate::layout::{self, TABLE};
 use crate::product::Product;
 use crate::spoil::{self, REASONS};
 
@@ -28,32 +28,39 @@ const FILLING: u8 = 0xA5;
 const GUARD: usize = 64;
 
 /// Octets to lend, with guards before and after them.
-struct Lent {
+pub(crate) struct Lent {
     octets: Vec<u8>,
 }
 
 impl Lent {
-    fn new(content: &[u8]) -> Lent {
+    pub(crate) fn new(content: &[u8]) -> Lent {
         let mut octets = vec![FILLING; GUARD];
         octets.extend(content);
         octets.extend([FILLING; GUARD]);
         Lent { octets }
     }
 
-    fn filled(length: usize) -> Lent {
+    pub(crate) fn filled(length: usize) -> Lent {
         Lent { octets: vec![FILLING; GUARD + length + GUARD] }
     }
 
-    fn lend(&mut self) -> &mut [u8] {
+    pub(crate) fn lend(&mut self) -> &mut [u8] {
         let end = self.octets.len() - GUARD;
         &mut self.octets[GUARD..end]
     }
 
-    fn content(&self) -> &[u8] {
+    pub(crate) fn content(&self) -> &[u8] {
         &self.octets[GUARD..self.octets.len() - GUARD]
     }
 
-    fn guards_hold(&self) -> bool {
+    /// Whether nothing was written from a place on, nor around it.
+    pub(crate) fn is_filled_from(&self, start: usize) -> bool {
+        let content = self.content();
+        content[start.min(content.len())..].iter().all(|octet| *octet == FILLING)
+            && self.guards_hold()
+    }
+
+    pub(crate) fn guards_hold(&self) -> bool {
         let (first, last) = (&self.octets[..GUARD], &self.octets[self.octets.len() - GUARD..]);
         first.iter().chain(last).all(|octet| *octet == FILLING)
     }
@@ -73,9 +80,7 @@ impl Answer {
     }
 
     fn rest_is_unchanged(&self) -> bool {
-        let space = self.space.content();
-        space[self.used.min(space.len())..].iter().all(|octet| *octet == FILLING)
-            && self.space.guards_hold()
+        self.space.is_filled_from(self.used)
     }
 }
 
@@ -89,6 +94,8 @@ struct State {
 pub struct Report {
     pub calls: usize,
     pub restored: usize,
+    /// Restoration requests that the product wrote.
+    pub written: usize,
     pub damaged: usize,
     /// Damaged tables that were sound all the same.
     pub still_sound: usize,
@@ -106,6 +113,7 @@ impl Report {
         Report {
             calls: 0,
             restored: 0,
+            written: 0,
             damaged: 0,
             still_sound: 0,
             passed: 0,
@@ -117,7 +125,7 @@ impl Report {
     }
 
     /// Notes a check; gives back whether it held.
-    fn check(&mut self, holds: bool, what: impl FnOnce() -> String) -> bool {
+    pub(crate) fn check(&mut self, holds: bool, what: impl FnOnce() -> String) -> bool {
         match holds {
             true => self.passed += 1,
             false => self.failures.push(format!("call {}: {}", self.calls, what())),
@@ -152,6 +160,7 @@ pub fn run(product: &Product, seed: u64, calls: usize) -> Report {
     run.fixed_settings();
     run.largest_table(&mut Generator::new(!seed));
     run.crowded_messages();
+    run.written_of_random_tables();
     let mut generator = Generator::new(seed);
     while run.report.calls < calls && run.report.failures.len() < 20 {
         run.sequence(&mut generator, calls);
@@ -166,10 +175,10 @@ pub fn run(product: &Product, seed: u64, calls: usize) -> Report {
     run.report
 }
 
-struct Run<'a> {
-    product: &'a Product,
-    report: Report,
-    random: Random,
+pub(crate) struct Run<'a> {
+    pub(crate) product: &'a Product,
+    pub(crate) report: Report,
+    pub(crate) random: Random,
 }
 
 impl Run<'_> {
@@ -300,9 +309,11 @@ impl Run<'_> {
                 let unchanged = table.content() == content && table.guards_hold();
                 report.check(unchanged, || format!("a table with {reason} was changed"));
                 report.check(answer.rest_is_unchanged(), || format!("a reply for {reason}"));
+                self.nothing_written(&content);
             }
             Ok((settings, sessions)) => {
                 self.report.still_sound += 1;
+                self.written_requests(&settings, &sessions);
                 let Some(mut unit) = self.unit_with(&settings, &sessions) else { return };
                 let count = unit.free_count();
                 let mut expected = vec![FILLING; call.reply_space];
@@ -395,6 +406,7 @@ impl Run<'_> {
         }
         let same = table.content() == state.table.content() && table.guards_hold();
         self.report.check(same, || "the restored table differs".into());
+        self.written_requests(settings, live);
     }
 
     /// A table with everything that it has room for, brought about by restorations: damaged, then

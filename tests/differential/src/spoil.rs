@@ -5,7 +5,7 @@ use second::generate::random::Random;
 use second::session::{Families, Local, Session, Tunnel};
 use second::settings::Settings;
 
-use crate::layout::*;
+use second::layout::*;
 
 /// One piece of damage. The length may change.
 pub fn spoil(table: &mut Vec<u8>, random: &mut Random) {

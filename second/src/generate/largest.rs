@@ -1,9 +1,9 @@
 //! A table with everything that it has room for: 64 sessions of 16 PDRs, 8 endpoints and 6
 //! FQ-CSIDs, each record with a TEID of its own.
 
-use second::element::fq_csid::NodeId;
-use second::session::{Families, HeldCsid, Local, Pdr, Session, Sessions, Tunnel};
-use second::settings::Settings;
+use crate::element::fq_csid::NodeId;
+use crate::session::{Families, HeldCsid, Local, Pdr, Session, Sessions, Tunnel};
+use crate::settings::Settings;
 
 pub fn settings() -> Settings {
     let ipv6 = [0x20, 1, 0x0D, 0xB8, 0, 0, 0, 0, 0, 0, 0, 0, 0, 0, 0, 1];

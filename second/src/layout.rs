@@ -1,8 +1,8 @@
 //! The table's octets as `docs/layout.md` gives them: written from records, and read into them.
 
-use second::element::fq_csid::NodeId;
-use second::session::{records_hold, Families, HeldCsid, Local, Pdr, Session, Sessions, Tunnel};
-use second::settings::Settings;
+use crate::element::fq_csid::NodeId;
+use crate::session::{records_hold, Families, HeldCsid, Local, Pdr, Session, Sessions, Tunnel};
+use crate::settings::Settings;
 
 pub const TABLE: usize = 30_943;
 pub const SLOTS: usize = 31;

@@ -1,0 +1,113 @@
+//! `tables FOLDER SEED COUNT`: writes sound tables with what the rules and docs/layout.md make of
+//! them: ones of one and of three sessions, empty ones, full ones without and with an IPv6 address, the largest,
+//! and COUNT drawn at random from the seed. For each NAME, which it prints with the control plane's
+//! addresses to give:
+//!
+//! * NAME.table: the table's octets,
+//! * NAME.requests: its sessions' restoration requests, in its order, nothing between,
+//! * NAME.text and NAME.json: the list of its sessions,
+//! * NAME.options: what gives a unit its settings.
+
+use std::fs;
+use std::net::{Ipv4Addr, Ipv6Addr};
+use std::path::Path;
+use std::process::ExitCode;
+
+use second::generate::largest;
+use second::generate::random::Random;
+use second::generate::tables::{self, Filling};
+use second::layout;
+use second::list;
+use second::restoration::{self, Envelope};
+use second::session::Sessions;
+use second::settings::Settings;
+
+const IPV4: [u8; 4] = [192, 0, 2, 50];
+const IPV6: [u8; 16] = [0x20, 1, 0x0D, 0xB8, 0, 0, 0, 0, 0, 0, 0, 0, 0, 0, 0, 0x50];
+
+fn main() -> ExitCode {
+    let arguments: Vec<String> = std::env::args().skip(1).collect();
+    let read = match arguments.as_slice() {
+        [folder, seed, count] => seed.parse().ok().zip(count.parse().ok()).map(|n| (folder, n)),
+        _ => None,
+    };
+    let Some((folder, (seed, count))) = read else {
+        eprintln!("usage: tables FOLDER SEED COUNT");
+        return ExitCode::from(2);
+    };
+    match write_all(Path::new(folder), seed, count) {
+        Ok(()) => ExitCode::SUCCESS,
+        Err(error) => {
+            eprintln!("tables: {error}");
+            ExitCode::FAILURE
+        }
+    }
+}
+
+fn write_all(folder: &Path, seed: u64, count: usize) -> std::io::Result<()> {
+    let mut random = Random::new(seed);
+    let settings = tables::settings(&mut random, true);
+    let sessions = tables::sessions(&mut random, &settings, Filling::Some);
+    write(folder, "one", &settings, &sessions.clone().into_iter().take(1).collect(), 2)?;
+    write(folder, "few", &settings, &sessions.into_iter().take(3).collect(), 2)?;
+    let plain = Settings::make([192, 0, 2, 1], &[], 4096, 4096).expect("these are allowed");
+    write(folder, "empty", &plain, &Sessions::new(), 0)?;
+    let settings = tables::settings(&mut random, true);
+    write(folder, "empty6", &settings, &Sessions::new(), 1)?;
+    for (place, (name, ipv6)) in [("full", false), ("full6", true)].into_iter().enumerate() {
+        let settings = tables::settings(&mut random, ipv6);
+        let sessions = tables::sessions(&mut random, &settings, Filling::Full);
+        write(folder, name, &settings, &sessions, place)?;
+    }
+    write(folder, "largest", &largest::settings(), &largest::sessions(), 2)?;
+    for number in 0..count {
+        let ipv6 = random.percent(70);
+        let settings = tables::settings(&mut random, ipv6);
+        let sessions = tables::sessions(&mut random, &settings, Filling::Some);
+        write(folder, &format!("random{number}"), &settings, &sessions, number)?;
+    }
+    Ok(())
+}
+
+/// Writes the files of one table. Which of the control plane's addresses are given goes by a number.
+fn write(
+    folder: &Path,
+    name: &str,
+    settings: &Settings,
+    sessions: &Sessions,
+    which: usize,
+) -> std::io::Result<()> {
+    let (v4, v6) = [(true, false), (false, true), (true, true)][which % 3];
+    let mut requests = Vec::new();
+    for (place, (seid, session)) in sessions.iter().enumerate() {
+        let envelope = Envelope {
+            header_seid: 0,
+            sequence: place as u32 + 1,
+            ipv4: v4.then_some(IPV4),
+            ipv6: v6.then_some(IPV6),
+        };
+        let request = restoration::request(settings, *seid, session, &envelope);
+        requests.extend(request.expect("a live session has a request"));
+    }
+    let file = |ending: &str| folder.join(format!("{name}.{ending}"));
+    fs::write(file("table"), layout::encode(settings, sessions))?;
+    fs::write(file("requests"), requests)?;
+    fs::write(file("text"), list::text(settings, sessions))?;
+    fs::write(file("json"), list::json(settings, sessions))?;
+    fs::write(file("options"), options(settings))?;
+    let addresses = match (v4, v6) {
+        (true, false) => "192.0.2.50",
+        (false, _) => "2001:db8::50",
+        (true, true) => "192.0.2.50 2001:db8::50",
+    };
+    println!("{name} {addresses}");
+    Ok(())
+}
+
+fn options(settings: &Settings) -> String {
+    let ipv4 = Ipv4Addr::from(settings.ipv4);
+    let ipv6 =
+        settings.ipv6.map_or(String::new(), |octets| format!(" --ipv6 {}", Ipv6Addr::from(octets)));
+    let Settings { first, size, .. } = settings;
+    format!("--ipv4 {ipv4}{ipv6} --first-teid {first} --pool {size}\n")
+}

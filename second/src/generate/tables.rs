@@ -1,0 +1,152 @@
+//! Sound tables drawn at random, as settings and sessions. They are built from the rules for records
+//! alone, so they hold what no sequence of a few hundred calls is likely to bring about: numbers at
+//! their edges, every kind of record in every place, tables that are full.
+
+use std::collections::BTreeSet;
+
+use super::random::Random;
+use crate::element::fq_csid::{NodeId, LARGEST_COUNTRY_AND_NETWORK, LAST_NODE_TYPE};
+use crate::session::{
+    records_hold, Families, HeldCsid, Local, Pdr, Session, Sessions, Tunnel, MOST_ENDPOINTS,
+    MOST_PDRS, MOST_SESSIONS,
+};
+use crate::settings::{Settings, LARGEST_POOL};
+
+/// How many sessions and records a table has.
+#[derive(Clone, Copy, PartialEq, Eq, Debug)]
+pub enum Filling {
+    /// Any number of each.
+    Some,
+    /// As many of each as there is room for.
+    Full,
+}
+
+/// Settings with room for everything: the pool has as many TEIDs as a table can hold, or more.
+pub fn settings(random: &mut Random, ipv6: bool) -> Settings {
+    let size = random.pick(&[1536, 1537, LARGEST_POOL]);
+    let first = random.pick(&[1, 4096, u32::MAX - (size - 1)]);
+    let ipv4 = std::array::from_fn(|_| random.octet());
+    let ipv6 = ipv6.then(|| std::array::from_fn(|_| random.octet()));
+    Settings { ipv4, ipv6, first, size }
+}
+
+/// Sessions that a table with these settings can hold.
+pub fn sessions(random: &mut Random, settings: &Settings, filling: Filling) -> Sessions {
+    let mut free: Vec<u32> = settings.pool().collect();
+    random.shuffle(&mut free);
+    let mut sessions = Sessions::new();
+    let many = match filling {
+        Filling::Some => random.between(1, MOST_SESSIONS),
+        Filling::Full => MOST_SESSIONS,
+    };
+    while sessions.len() < many {
+        let seid = any_of(random, u64::MAX).max(1);
+        let session = session(random, settings, filling, &mut free);
+        sessions.entry(seid).or_insert(session);
+    }
+    assert_eq!(records_hold(settings, &sessions), Ok(()));
+    sessions
+}
+
+fn session(
+    random: &mut Random,
+    settings: &Settings,
+    filling: Filling,
+    free: &mut Vec<u32>,
+) -> Session {
+    let mut session = Session::default();
+    let node_types = usize::from(LAST_NODE_TYPE) + 1;
+    let mut many = |most| match filling {
+        Filling::Some => random.between(0, most),
+        Filling::Full => most,
+    };
+    let (pdrs, endpoints, fq_csids) = (many(MOST_PDRS), many(MOST_ENDPOINTS), many(node_types));
+    while session.endpoints.len() < endpoints {
+        let id = random.octet();
+        if !session.endpoints.contains_key(&id) {
+            session.endpoints.insert(id, tunnel(random, settings, free));
+        }
+    }
+    for id in ids(random, pdrs) {
+        let pdr = pdr(random, settings, &session, free);
+        session.pdrs.insert(id, pdr);
+    }
+    while session.fq_csids.len() < fq_csids {
+        let csid = any_of(random, u64::from(u16::MAX)) as u16;
+        let held = HeldCsid { node: node(random), csid };
+        session.fq_csids.insert(random.below(node_types) as u8, held);
+    }
+    session
+}
+
+fn ids(random: &mut Random, many: usize) -> BTreeSet<u16> {
+    let mut ids = BTreeSet::new();
+    while ids.len() < many {
+        ids.insert(any_of(random, u64::from(u16::MAX)) as u16);
+    }
+    ids
+}
+
+/// A tunnel with a TEID that nobody holds.
+fn tunnel(random: &mut Random, settings: &Settings, free: &mut Vec<u32>) -> Tunnel {
+    let teid = free.pop().expect("the pool has a TEID for each record");
+    let (v4, v6) = match settings.ipv6 {
+        Some(_) => random.pick(&[(true, false), (false, true), (true, true)]),
+        None => (true, false),
+    };
+    Tunnel { teid, families: Families { v4, v6 } }
+}
+
+fn pdr(random: &mut Random, settings: &Settings, session: &Session, free: &mut Vec<u32>) -> Pdr {
+    let precedence = any_of(random, u64::from(u32::MAX)) as u32;
+    let far_id = random.percent(60).then(|| any_of(random, u64::from(u32::MAX)) as u32);
+    let source_interface = random.below(16) as u8;
+    let endpoints: Vec<u8> = session.endpoints.keys().copied().collect();
+    let tunnels: Vec<Pdr> = session
+        .pdrs
+        .values()
+        .filter(|pdr| matches!(pdr.local, Local::Tunnel(_)))
+        .cloned()
+        .collect();
+    match random.below(10) {
+        0..=1 => Pdr { precedence, far_id, source_interface, local: Local::Neither },
+        2..=4 if !endpoints.is_empty() => {
+            let local = Local::Endpoint(random.pick(&endpoints));
+            Pdr { precedence, far_id, source_interface, local }
+        }
+        // PDRs of one session may share a TEID, with the same families and source interface.
+        5..=6 if !tunnels.is_empty() => Pdr { precedence, far_id, ..random.pick(&tunnels) },
+        _ => {
+            let local = Local::Tunnel(tunnel(random, settings, free));
+            Pdr { precedence, far_id, source_interface, local }
+        }
+    }
+}
+
+fn node(random: &mut Random) -> NodeId {
+    match random.below(3) {
+        0 => NodeId::Ipv4(std::array::from_fn(|_| random.octet())),
+        1 => NodeId::Ipv6(std::array::from_fn(|_| {
+            let octet = random.octet();
+            random.pick(&[0, octet])
+        })),
+        _ => {
+            let largest = u64::from(LARGEST_COUNTRY_AND_NETWORK);
+            let country_and_network = any_of(random, largest) as u32;
+            NodeId::Operator { country_and_network, number: any_of(random, 0xFFF) as u16 }
+        }
+    }
+}
+
+/// A number up to the largest: an edge, a small one or any.
+fn any_of(random: &mut Random, largest: u64) -> u64 {
+    match random.below(5) {
+        0 => random.pick(&[0, 1, largest - 1, largest]),
+        1 => random.below(10) as u64,
+        2 => random.number() % (largest / 2 + 1),
+        _ => match largest {
+            u64::MAX => random.number(),
+            _ => random.number() % (largest + 1),
+        },
+    }
+}

@@ -1,0 +1,129 @@
+//! The list of live sessions as the unit's operators see it, as text and as JSON, from settings and
+//! sessions alone. It shares nothing with the unit's printer, which it is compared with.
+
+use std::fmt::Write;
+use std::net::{Ipv4Addr, Ipv6Addr};
+
+use crate::element::fq_csid::NodeId;
+use crate::session::{distinct_teids, Families, Local, Pdr, Session, Sessions, Tunnel};
+use crate::settings::Settings;
+
+/// The whole list as text.
+pub fn text(settings: &Settings, sessions: &Sessions) -> String {
+    let free = settings.size as usize - distinct_teids(sessions).len();
+    let mut list =
+        format!("live sessions: {}; free TEIDs: {free} of {}\n", sessions.len(), settings.size);
+    for (seid, session) in sessions {
+        add_text(&mut list, *seid, session);
+    }
+    list
+}
+
+fn add_text(list: &mut String, seid: u64, session: &Session) {
+    let mut line = |text: String| writeln!(list, "{text}").expect("a string takes any text");
+    line(format!("  session {seid}"));
+    for (id, pdr) in &session.pdrs {
+        let far = pdr.far_id.map_or("no FAR".to_string(), |far_id| format!("FAR {far_id}"));
+        let local = match &pdr.local {
+            Local::Neither => String::new(),
+            Local::Tunnel(tunnel) => format!(", {}", tunnel_text(tunnel)),
+            Local::Endpoint(id) => format!(", endpoint {id}"),
+        };
+        let (precedence, source) = (pdr.precedence, pdr.source_interface);
+        line(format!(
+            "    PDR {id}: precedence {precedence}, {far}, source interface {source}{local}"
+        ));
+    }
+    for (id, tunnel) in &session.endpoints {
+        line(format!("    endpoint {id}: {}", tunnel_text(tunnel)));
+    }
+    for (node_type, held) in &session.fq_csids {
+        let kind = match held.node {
+            NodeId::Operator { .. } => "operator node ",
+            _ => "",
+        };
+        let (csid, node) = (held.csid, node_text(&held.node));
+        line(format!("    FQ-CSID of node type {node_type}: CSID {csid} of {kind}{node}"));
+    }
+}
+
+fn tunnel_text(tunnel: &Tunnel) -> String {
+    let families = match tunnel.families {
+        Families { v4: true, v6: true } => "IPv4 and IPv6",
+        Families { v4: true, v6: false } => "IPv4",
+        Families { v4: false, v6: true } => "IPv6",
+        Families { v4: false, v6: false } => "no family",
+    };
+    format!("TEID {} ({families})", tunnel.teid)
+}
+
+fn node_text(node: &NodeId) -> String {
+    match node {
+        NodeId::Ipv4(address) => Ipv4Addr::from(*address).to_string(),
+        NodeId::Ipv6(address) => ipv6_text(address),
+        NodeId::Operator { country_and_network, number } => {
+            format!("{:08X}", country_and_network << 12 | u32::from(*number))
+        }
+    }
+}
+
+/// As the C library writes it: an address of which only the last four octets are used ends as an
+/// IPv4 address.
+fn ipv6_text(address: &[u8; 16]) -> String {
+    let last: [u8; 4] = address[12..].try_into().expect("four octets");
+    match address[..12].iter().all(|octet| *octet == 0) && last[..2] != [0, 0] {
+        true => format!("::{}", Ipv4Addr::from(last)),
+        false => Ipv6Addr::from(*address).to_string(),
+    }
+}
+
+/// The whole list as JSON, without counters.
+pub fn json(settings: &Settings, sessions: &Sessions) -> String {
+    let free = settings.size as usize - distinct_teids(sessions).len();
+    let (live, size) = (sessions.len(), settings.size);
+    let sessions: Vec<String> =
+        sessions.iter().map(|(seid, session)| session_json(*seid, session)).collect();
+    format!(
+        "{{\"live_sessions\":{live},\"free_teids\":{free},\"pool_size\":{size},\"sessions\":[{}]}}\n",
+        sessions.join(",\n")
+    )
+}
+
+fn session_json(seid: u64, session: &Session) -> String {
+    let pdrs: Vec<String> = session.pdrs.iter().map(|(id, pdr)| pdr_json(*id, pdr)).collect();
+    let endpoints: Vec<String> = session
+        .endpoints
+        .iter()
+        .map(|(id, tunnel)| format!("{{\"id\":{id}{}}}", tunnel_json(tunnel)))
+        .collect();
+    let fq_csids: Vec<String> = session
+        .fq_csids
+        .iter()
+        .map(|(node_type, held)| {
+            let (node, csid) = (node_text(&held.node), held.csid);
+            format!("{{\"node_type\":{node_type},\"node\":\"{node}\",\"csid\":{csid}}}")
+        })
+        .collect();
+    format!(
+        "{{\"seid\":\"{seid}\",\"pdrs\":[{}],\"endpoints\":[{}],\"fq_csids\":[{}]}}",
+        pdrs.join(","),
+        endpoints.join(","),
+        fq_csids.join(",")
+    )
+}
+
+fn pdr_json(id: u16, pdr: &Pdr) -> String {
+    let far = pdr.far_id.map_or(String::new(), |far_id| format!(",\"far_id\":{far_id}"));
+    let local = match &pdr.local {
+        Local::Neither => String::new(),
+        Local::Tunnel(tunnel) => tunnel_json(tunnel),
+        Local::Endpoint(id) => format!(",\"endpoint_id\":{id}"),
+    };
+    let (precedence, source) = (pdr.precedence, pdr.source_interface);
+    format!("{{\"id\":{id},\"precedence\":{precedence}{far},\"source_interface\":{source}{local}}}")
+}
+
+fn tunnel_json(tunnel: &Tunnel) -> String {
+    let Families { v4, v6 } = tunnel.families;
+    format!(",\"teid\":{},\"ipv4\":{v4},\"ipv6\":{v6}", tunnel.teid)
+}

@@ -1,0 +1,108 @@
+//! Random tables are sound and cover what a table can hold; the list of a table, by example.
+
+use second::element::fq_csid::NodeId;
+use second::generate::random::Random;
+use second::generate::tables::{self, Filling};
+use second::layout;
+use second::list;
+use second::session::{Families, HeldCsid, Local, Pdr, Session, Sessions, Tunnel};
+use second::settings::Settings;
+
+#[test]
+fn random_tables_are_sound_and_read_back() {
+    let mut random = Random::new(7);
+    for number in 0..60 {
+        let settings = tables::settings(&mut random, number % 2 == 1);
+        let filling = if number % 10 == 0 { Filling::Full } else { Filling::Some };
+        let sessions = tables::sessions(&mut random, &settings, filling);
+        let octets = layout::encode(&settings, &sessions);
+        assert_eq!(layout::sound(&octets), Ok((settings, sessions)));
+    }
+}
+
+#[test]
+fn random_tables_hold_every_kind_of_record() {
+    let mut random = Random::new(8);
+    let settings = tables::settings(&mut random, true);
+    let sessions = tables::sessions(&mut random, &settings, Filling::Full);
+    let pdrs: Vec<&Pdr> = sessions.values().flat_map(|session| session.pdrs.values()).collect();
+    assert_eq!(pdrs.len(), 64 * 16);
+    let any = |holds: &dyn Fn(&Pdr) -> bool| pdrs.iter().any(|pdr| holds(pdr));
+    assert!(any(&|pdr| pdr.local == Local::Neither));
+    assert!(any(&|pdr| matches!(pdr.local, Local::Endpoint(_))));
+    for (v4, v6) in [(true, false), (false, true), (true, true)] {
+        let families = Families { v4, v6 };
+        assert!(any(&|pdr| matches!(pdr.local, Local::Tunnel(t) if t.families == families)));
+    }
+    assert!(any(&|pdr| pdr.far_id.is_none()));
+    assert!(any(&|pdr| pdr.far_id == Some(0)));
+    assert!(any(&|pdr| pdr.far_id == Some(u32::MAX)));
+    assert!(any(&|pdr| pdr.precedence == u32::MAX));
+    let nodes: Vec<NodeId> =
+        sessions.values().flat_map(|s| s.fq_csids.values().map(|held| held.node)).collect();
+    assert_eq!(nodes.len(), 64 * 6);
+    assert!(nodes.iter().any(|node| matches!(node, NodeId::Ipv4(_))));
+    assert!(nodes.iter().any(|node| matches!(node, NodeId::Ipv6(_))));
+    assert!(nodes.iter().any(|node| matches!(node, NodeId::Operator { .. })));
+}
+
+fn example() -> (Settings, Sessions) {
+    let settings = Settings::make([192, 0, 2, 1], &[9; 16], 4096, 10).expect("these are allowed");
+    let tunnel = |teid, v4, v6| Tunnel { teid, families: Families { v4, v6 } };
+    let mut session = Session::default();
+    let pdr = |local| Pdr { precedence: 4_294_967_295, far_id: None, source_interface: 15, local };
+    session.pdrs.insert(1, pdr(Local::Neither));
+    session.pdrs.insert(2, Pdr { far_id: Some(0), ..pdr(Local::Endpoint(255)) });
+    session.pdrs.insert(65535, pdr(Local::Tunnel(tunnel(4096, true, true))));
+    session.endpoints.insert(255, tunnel(4097, false, true));
+    let mut address = [0; 16];
+    address[15] = 1;
+    let held = |node| HeldCsid { node, csid: 65535 };
+    session.fq_csids.insert(0, held(NodeId::Ipv6(address)));
+    session.fq_csids.insert(4, held(NodeId::Ipv4([10, 0, 0, 1])));
+    address[12] = 10;
+    session.fq_csids.insert(3, held(NodeId::Ipv6(address)));
+    let node = NodeId::Operator { country_and_network: 262_001, number: 5 };
+    session.fq_csids.insert(5, held(node));
+    (settings, Sessions::from([(u64::MAX, session), (1, Session::default())]))
+}
+
+#[test]
+fn the_list_as_text() {
+    let (settings, sessions) = example();
+    let expected = "live sessions: 2; free TEIDs: 8 of 10
+  session 1
+  session 18446744073709551615
+    PDR 1: precedence 4294967295, no FAR, source interface 15
+    PDR 2: precedence 4294967295, FAR 0, source interface 15, endpoint 255
+    PDR 65535: precedence 4294967295, no FAR, source interface 15, TEID 4096 (IPv4 and IPv6)
+    endpoint 255: TEID 4097 (IPv6)
+    FQ-CSID of node type 0: CSID 65535 of ::1
+    FQ-CSID of node type 3: CSID 65535 of ::10.0.0.1
+    FQ-CSID of node type 4: CSID 65535 of 10.0.0.1
+    FQ-CSID of node type 5: CSID 65535 of operator node 3FF71005
+";
+    assert_eq!(list::text(&settings, &sessions), expected);
+}
+
+#[test]
+fn the_list_as_json() {
+    let (settings, sessions) = example();
+    let expected = concat!(
+        r#"{"live_sessions":2,"free_teids":8,"pool_size":10,"sessions":["#,
+        r#"{"seid":"1","pdrs":[],"endpoints":[],"fq_csids":[]},"#,
+        "\n",
+        r#"{"seid":"18446744073709551615","pdrs":["#,
+        r#"{"id":1,"precedence":4294967295,"source_interface":15},"#,
+        r#"{"id":2,"precedence":4294967295,"far_id":0,"source_interface":15,"endpoint_id":255},"#,
+        r#"{"id":65535,"precedence":4294967295,"source_interface":15,"#,
+        r#""teid":4096,"ipv4":true,"ipv6":true}],"#,
+        r#""endpoints":[{"id":255,"teid":4097,"ipv4":false,"ipv6":true}],"#,
+        r#""fq_csids":[{"node_type":0,"node":"::1","csid":65535},"#,
+        r#"{"node_type":3,"node":"::10.0.0.1","csid":65535},"#,
+        r#"{"node_type":4,"node":"10.0.0.1","csid":65535},"#,
+        r#"{"node_type":5,"node":"3FF71005","csid":65535}]}]}"#,
+        "\n"
+    );
+    assert_eq!(list::json(&settings, &sessions), expected);
+}

@@ -1,0 +1,50 @@
+/* Prints the list of a stored table's sessions as the unit does, without counters: list_table TABLE
+   text|json; list_table TABLE text|json SEID prints one session. */
+#include <inttypes.h>
+#include <stdio.h>
+#include <stdlib.h>
+#include <string.h>
+
+#include "listing.h"
+#include "message.h"
+#include "sessions.h"
+#include "unit.h"
+
+static struct options options;
+static struct unit unit;
+static struct listing listing;
+static struct text piece;
+
+/* The pool's size stands in the settings (docs/layout.md). */
+static bool read_unit(const char *path)
+{
+    FILE *file = fopen(path, "rb");
+    bool whole;
+
+    if (!file)
+        return false;
+    whole = fread(unit.table, 1, sizeof unit.table, file) == sizeof unit.table;
+    fclose(file);
+    options.pool_size = (uint32_t)number_at(unit.table + 25, 4);
+    unit.options = &options;
+    unit.live_sessions = sessions_count(unit.table, 0);
+    return whole && pfcp_free_count(unit.table, sizeof unit.table, &unit.free_teids) == 0;
+}
+
+int main(int argc, char **argv)
+{
+    if (argc < 3 || argc > 4 || !read_unit(argv[1])) {
+        fputs("usage: list_table TABLE text|json [SEID], with a sound table\n", stderr);
+        return 2;
+    }
+    unsigned form = strcmp(argv[2], "json") == 0 ? LIST_JSON : 0;
+    if (argc == 3)
+        listing_all(&listing, &unit, 0, form);
+    else if (!listing_one(&listing, &unit, strtoull(argv[3], NULL, 10), form))
+        return 1;
+    while (listing_next(&listing, &piece)) {
+        fwrite(piece.octets, 1, piece.length, stdout);
+        piece.length = 0;
+    }
+    return fflush(stdout) == 0 ? 0 : 1;
+}
