@@ -14,9 +14,9 @@
  * Pointers. Every pair of a pointer and a length is a slice: the pointer is valid for that many
  * octets, for reading where it is const and for reading and writing where it is not. A slice of
  * length 0 may have any pointer, also NULL. The slices of one call do not overlap, and neither do
- * they overlap the number that a call writes (count, reply_used, used). The pointer to that number is
- * never NULL and is aligned for its type. While a call runs, nothing else reads or writes what it
- * may write, and nothing else writes what it reads.
+ * they overlap the numbers that a call writes (count, reply_used, place, used), which do not overlap
+ * each other. The pointer to such a number is never NULL and is aligned for its type. While a call
+ * runs, nothing else reads or writes what it may write, and nothing else writes what it reads.
  *
  * Threads. The calls have no state of their own: any thread may make them, and calls on different
  * tables may run at the same time. A table is whole between calls only. A thread that wants to read
@@ -24,7 +24,7 @@
  * the table, and reads the copy. A copy that was made without the lock may mix two states, and need
  * not be a broken table for that.
  *
- * Stack. A request takes 39,208 octets of stack (docs/benchmarks.md has how it was measured), the
+ * Stack. A request takes 39,256 octets of stack (docs/benchmarks.md has how it was measured), the
  * other calls take less. There is no heap. A thread of 64 KiB is large enough.
  *
  * Architecture. The archive is for x86-64 Linux, any processor of that kind. It needs memcpy, memmove
@@ -105,10 +105,16 @@ uint32_t pfcp_free_count(const uint8_t *table, size_t table_len, uint32_t *count
  * Gives a host outcome. With outcome 0 the reply stands at the front of the reply space and
  * *reply_used is its length; the octets after it are unchanged. The reply says whether the request
  * was accepted (cause 1); only then the table may have changed. With any other outcome nothing is
- * written but *reply_used, which is 0. The outcomes are tested in the order 1 to 5.
+ * written but *reply_used and *place, which are 0. The outcomes are tested in the order 1 to 5.
+ *
+ * *place says where a fault is that a reply names with the causes 66 to 69 and Offending IE: the index
+ * in the message, from 0, of the first octet of the element at fault, which is its type's. Where a
+ * member is missing, or under 4 octets are left in a group, it is the place of that group, and 0 where
+ * the message itself lacks an element or has under 4 octets left. For a repeated element it is the
+ * place of the second one. With every other cause, and with the outcomes 1 to 5, it is 0.
  */
 uint32_t pfcp_request(uint8_t *table, size_t table_len, const uint8_t *message, size_t message_len,
-                      uint8_t *reply, size_t reply_len, size_t *reply_used);
+                      uint8_t *reply, size_t reply_len, size_t *reply_used, size_t *place);
 
 /*
  * Writes the restoration request of one session: the establishment, with the restoration flag, that

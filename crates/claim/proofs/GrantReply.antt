@@ -1,6 +1,6 @@
 -- The TEIDs that the live set reads from an accepted reply are the grants.
 -- Assumes nothing.
-use mathlib.Core.Path.{_≡_, refl, sym, ap, _∙_}
+use mathlib.Core.Path.{_≡_, refl, sym, ap, _∙_, subst}
 use Prim.Native.Nat.{ℕ, suc, _+_, _-_, _*_, _^_, _≤_, _<_, zero-le, suc-le-suc}
 use native.Mathlib.Nat.{le-trans, le-of-eq, mul-le-mul-right}
 use native.Mathlib.Omega.{arith}
@@ -19,7 +19,7 @@ use Rattle.rules.specs.Elements.{fteidOctets, unitFteid, fseidOctets}
 use Rattle.rules.specs.Sound.{settingsAllowed}
 use Rattle.laws.proofs.TableLaws.{ipv4-four}
 use Rattle.rules.specs.Message.{Element, elements, hasType, contentIn, contentOf, numberWidth, field, fieldOr0, kindOf, headerSeid, sequenceOf, establishment}
-use Rattle.laws.proofs.MessageLaws.{Fits, el, elements-cons, elements-nil, elements-last, length-one, written, asElement, elements-map, short-map}
+use Rattle.laws.proofs.MessageLaws.{Fits, el, after, elements-cons, elements-nil, elements-last, length-one, written, asElement, asElements, afterAll, elements-map, short-map}
 use Rattle.rules.specs.Grants.{Kind, ofPdr, ofEndpoint, sameKind, Grant, grantTeid, isGrantFor, grantedTeid, isKind, grantsOf}
 use Rattle.rules.specs.Stages.{Verdict}
 use Rattle.rules.specs.Reply.{element, unitElement, createdPdrContent, createdPdr, createdEndpointContent, createdEndpoint, created, offendingElement, nodeIdElement, unitFseid, acceptedPart, replyBody, replySeid, reply}
@@ -32,7 +32,7 @@ use Rattle.laws.proofs.GrantLaws.{grantFits}
 
 -- the TEID of what was found
 abbrev valueOf : Option Element → ℕ
-valueOf o = teidIn (elements (valueOr [] (mapOption contentIn o)))
+valueOf o = teidIn (elements 0 (valueOr [] (mapOption contentIn o)))
 
 -- a grant by its ID
 hasId : ℕ → Grant → Bool
@@ -66,109 +66,117 @@ keep-fits p (g ∷ gs) h =
 module _ (s : Settings) (hs : T (settingsAllowed s)) where
   -- ---- one Created group
 
-  pdr-group : (g : Grant) → elements (createdPdrContent s g) ≡ el ie.pdrId (be 2 (g .id)) ∷ el ie.fteid (fteidOctets (unitFteid s (g .local))) ∷ []
+  pdr-group : (g : Grant) → elements 0 (createdPdrContent s g) ≡ el 0 ie.pdrId (be 2 (g .id)) ∷ el (after 0 (be 2 (g .id))) ie.fteid (fteidOctets (unitFteid s (g .local))) ∷ []
   unfolding createdPdrContent unitElement
   pdr-group g =
-      elements-cons ie.pdrId (be 2 (g .id)) _ (be-fits s hs ie.pdrId 2 (g .id) (lit< tt) (lit≤ tt))
-      ∙ ap (λ (es : List Element). el ie.pdrId (be 2 (g .id)) ∷ es) (elements-last ie.fteid (fteidOctets (unitFteid s (g .local))) (unit-fits s hs (g .local)))
+      elements-cons ie.pdrId (be 2 (g .id)) _ (be-fits s hs ie.pdrId 2 (g .id) (lit< tt) (lit≤ tt)) 0
+      ∙ ap (λ (es : List Element). el 0 ie.pdrId (be 2 (g .id)) ∷ es) (elements-last _ ie.fteid (fteidOctets (unitFteid s (g .local))) (unit-fits s hs (g .local)))
 
-  endpoint-group : (g : Grant) → elements (createdEndpointContent s g) ≡ el ie.endpointId (g .id ∷ []) ∷ el ie.fteid (fteidOctets (unitFteid s (g .local))) ∷ []
+  endpoint-group : (g : Grant) → elements 0 (createdEndpointContent s g) ≡ el 0 ie.endpointId (g .id ∷ []) ∷ el (after 0 (g .id ∷ [])) ie.fteid (fteidOctets (unitFteid s (g .local))) ∷ []
   unfolding createdEndpointContent unitElement
   endpoint-group g =
-      elements-cons ie.endpointId (g .id ∷ []) _ (one-fits s hs ie.endpointId (lit< tt) (g .id))
-      ∙ ap (λ (es : List Element). el ie.endpointId (g .id ∷ []) ∷ es) (elements-last ie.fteid (fteidOctets (unitFteid s (g .local))) (unit-fits s hs (g .local)))
+      elements-cons ie.endpointId (g .id ∷ []) _ (one-fits s hs ie.endpointId (lit< tt) (g .id)) 0
+      ∙ ap (λ (es : List Element). el 0 ie.endpointId (g .id ∷ []) ∷ es) (elements-last _ ie.fteid (fteidOctets (unitFteid s (g .local))) (unit-fits s hs (g .local)))
 
   teid-there : (g : Grant) → T (grantFits g) → numberAt 1 4 (fteidOctets (unitFteid s (g .local))) ≡ g .local .teid
   unfolding fteidOctets unitFteid numberAt be
   teid-there g h = number-be 4 (g .local .teid) (ltb→lt (g .local .teid) (256 ^ 4) (and-right (ltb (g .id) (256 ^ 2)) (ltb (g .local .teid) (256 ^ 4)) h))
 
-  pdr-id : (g : Grant) → T (grantFits g) → fieldOr0 ie.pdrId (elements (createdPdrContent s g)) ≡ g .id
+  pdr-id : (g : Grant) → T (grantFits g) → fieldOr0 ie.pdrId (elements 0 (createdPdrContent s g)) ≡ g .id
   unfolding fieldOr0 field contentOf findBy hasType numberAt numberWidth be
   pdr-id g h = ap (fieldOr0 ie.pdrId) (pdr-group g) ∙ number-be 2 (g .id) (ltb→lt (g .id) (256 ^ 2) (and-left (ltb (g .id) (256 ^ 2)) (ltb (g .local .teid) (256 ^ 4)) h))
 
-  endpoint-id : (g : Grant) → fieldOr0 ie.endpointId (elements (createdEndpointContent s g)) ≡ g .id
+  endpoint-id : (g : Grant) → fieldOr0 ie.endpointId (elements 0 (createdEndpointContent s g)) ≡ g .id
   unfolding fieldOr0 field contentOf findBy hasType numberAt numberWidth
   endpoint-id g = ap (fieldOr0 ie.endpointId) (endpoint-group g) ∙ number-one s hs (g .id)
 
-  pdr-teid : (g : Grant) → T (grantFits g) → teidIn (elements (createdPdrContent s g)) ≡ g .local .teid
+  pdr-teid : (g : Grant) → T (grantFits g) → teidIn (elements 0 (createdPdrContent s g)) ≡ g .local .teid
   unfolding teidIn contentOf findBy hasType
   pdr-teid g h = ap teidIn (pdr-group g) ∙ teid-there g h
 
-  endpoint-teid : (g : Grant) → T (grantFits g) → teidIn (elements (createdEndpointContent s g)) ≡ g .local .teid
+  endpoint-teid : (g : Grant) → T (grantFits g) → teidIn (elements 0 (createdEndpointContent s g)) ≡ g .local .teid
   unfolding teidIn contentOf findBy hasType
   endpoint-teid g h = ap teidIn (endpoint-group g) ∙ teid-there g h
 
   -- ---- the Created groups
 
-  abbrev asPdr : Grant → Element
-  asPdr = asElement ie.createdPdr (createdPdrContent s) grantFits
+  abbrev asPdrs : ℕ → List Grant → List Element
+  asPdrs = asElements ie.createdPdr (createdPdrContent s) grantFits
 
-  abbrev asEndpoint : Grant → Element
-  asEndpoint = asElement ie.createdEndpoint (createdEndpointContent s) grantFits
+  abbrev asEndpoints : ℕ → List Grant → List Element
+  asEndpoints = asElements ie.createdEndpoint (createdEndpointContent s) grantFits
 
   value-none : valueOf none ≡ 0
   unfolding teidIn contentOf findBy numberAt number
-  value-none = ap (λ (es : List Element). numberAt 1 4 (valueOr [] (contentOf ie.fteid es))) elements-nil
+  value-none = ap (λ (es : List Element). numberAt 1 4 (valueOr [] (contentOf ie.fteid es))) (elements-nil 0)
 
-  no-pdr-here : (i : ℕ) (gs : List Grant) → findBy (isCreated ofPdr i) (map asEndpoint gs) ≡ none
-  unfolding findBy isCreated createdType hasType asElement
-  no-pdr-here i [] = refl
-  no-pdr-here i (g ∷ gs) = no-pdr-here i gs
+  no-pdr-here : (i at : ℕ) (gs : List Grant) → findBy (isCreated ofPdr i) (asEndpoints at gs) ≡ none
+  unfolding findBy isCreated createdType hasType asElement asElements
+  no-pdr-here i at [] = refl
+  no-pdr-here i at (g ∷ gs) = no-pdr-here i _ gs
 
-  skip-pdrs : (i : ℕ) (gs : List Grant) (es : List Element) → findBy (isCreated ofEndpoint i) (map asPdr gs ++ es) ≡ findBy (isCreated ofEndpoint i) es
-  unfolding findBy isCreated createdType hasType asElement
-  skip-pdrs i [] es = refl
-  skip-pdrs i (g ∷ gs) es = skip-pdrs i gs es
+  skip-pdrs : (i at : ℕ) (gs : List Grant) (es : List Element) → findBy (isCreated ofEndpoint i) (asPdrs at gs ++ es) ≡ findBy (isCreated ofEndpoint i) es
+  unfolding findBy isCreated createdType hasType asElement asElements
+  skip-pdrs i at [] es = refl
+  skip-pdrs i at (g ∷ gs) es = skip-pdrs i _ gs es
 
-  found-pdr : (i : ℕ) (gs : List Grant) → T (all grantFits gs) → (es : List Element) → findBy (isCreated ofPdr i) es ≡ none
-      → valueOf (findBy (isCreated ofPdr i) (map asPdr gs ++ es)) ≡ valueOr 0 (mapOption grantTeid (findBy (hasId i) gs))
-  unfolding findBy isCreated createdType idType hasType asElement hasId
-  found-pdr i [] h es e = ap valueOf e ∙ value-none
-  found-pdr i (g ∷ gs) h es e =
+  found-pdr : (i at : ℕ) (gs : List Grant) → T (all grantFits gs) → (es : List Element) → findBy (isCreated ofPdr i) es ≡ none
+      → valueOf (findBy (isCreated ofPdr i) (asPdrs at gs ++ es)) ≡ valueOr 0 (mapOption grantTeid (findBy (hasId i) gs))
+  unfolding findBy isCreated createdType idType hasType asElement asElements hasId
+  found-pdr i at [] h es e = ap valueOf e ∙ value-none
+  found-pdr i at (g ∷ gs) h es e =
       let ok = all-head grantFits g gs h in
-      ap (λ (n : ℕ). valueOf (pick (eqb n i) (some (el ie.createdPdr (createdPdrContent s g))) (findBy (isCreated ofPdr i) (map asPdr gs ++ es)))) (pdr-id g ok)
-      ∙ one (eqb (g .id) i) (findBy (isCreated ofPdr i) (map asPdr gs ++ es)) (findBy (hasId i) gs) (pdr-teid g ok) (found-pdr i gs (all-tail grantFits g gs h) es e)
+      let next = after at (createdPdrContent s g) in
+      ap (λ (n : ℕ). valueOf (pick (eqb n i) (some (el at ie.createdPdr (createdPdrContent s g))) (findBy (isCreated ofPdr i) (asPdrs next gs ++ es)))) (pdr-id g ok)
+      ∙ one (eqb (g .id) i) (findBy (isCreated ofPdr i) (asPdrs next gs ++ es)) (findBy (hasId i) gs) (pdr-teid g ok) (found-pdr i next gs (all-tail grantFits g gs h) es e)
     where
-      one : (b : Bool) (o : Option Element) (p : Option Grant) → teidIn (elements (createdPdrContent s g)) ≡ g .local .teid → valueOf o ≡ valueOr 0 (mapOption grantTeid p)
-          → valueOf (pick b (some (el ie.createdPdr (createdPdrContent s g))) o) ≡ valueOr 0 (mapOption grantTeid (pick b (some g) p))
+      one : (b : Bool) (o : Option Element) (p : Option Grant) → teidIn (elements 0 (createdPdrContent s g)) ≡ g .local .teid → valueOf o ≡ valueOr 0 (mapOption grantTeid p)
+          → valueOf (pick b (some (el at ie.createdPdr (createdPdrContent s g))) o) ≡ valueOr 0 (mapOption grantTeid (pick b (some g) p))
       one true o p a c = a
       one false o p a c = c
 
-  found-endpoint : (i : ℕ) (gs : List Grant) → T (all grantFits gs)
-      → valueOf (findBy (isCreated ofEndpoint i) (map asEndpoint gs)) ≡ valueOr 0 (mapOption grantTeid (findBy (hasId i) gs))
-  unfolding findBy isCreated createdType idType hasType asElement hasId
-  found-endpoint i [] h = value-none
-  found-endpoint i (g ∷ gs) h =
+  found-endpoint : (i at : ℕ) (gs : List Grant) → T (all grantFits gs)
+      → valueOf (findBy (isCreated ofEndpoint i) (asEndpoints at gs)) ≡ valueOr 0 (mapOption grantTeid (findBy (hasId i) gs))
+  unfolding findBy isCreated createdType idType hasType asElement asElements hasId
+  found-endpoint i at [] h = value-none
+  found-endpoint i at (g ∷ gs) h =
       let ok = all-head grantFits g gs h in
-      ap (λ (n : ℕ). valueOf (pick (eqb n i) (some (el ie.createdEndpoint (createdEndpointContent s g))) (findBy (isCreated ofEndpoint i) (map asEndpoint gs)))) (endpoint-id g)
-      ∙ one (eqb (g .id) i) (findBy (isCreated ofEndpoint i) (map asEndpoint gs)) (findBy (hasId i) gs) (endpoint-teid g ok) (found-endpoint i gs (all-tail grantFits g gs h))
+      let next = after at (createdEndpointContent s g) in
+      ap (λ (n : ℕ). valueOf (pick (eqb n i) (some (el at ie.createdEndpoint (createdEndpointContent s g))) (findBy (isCreated ofEndpoint i) (asEndpoints next gs)))) (endpoint-id g)
+      ∙ one (eqb (g .id) i) (findBy (isCreated ofEndpoint i) (asEndpoints next gs)) (findBy (hasId i) gs) (endpoint-teid g ok) (found-endpoint i next gs (all-tail grantFits g gs h))
     where
-      one : (b : Bool) (o : Option Element) (p : Option Grant) → teidIn (elements (createdEndpointContent s g)) ≡ g .local .teid → valueOf o ≡ valueOr 0 (mapOption grantTeid p)
-          → valueOf (pick b (some (el ie.createdEndpoint (createdEndpointContent s g))) o) ≡ valueOr 0 (mapOption grantTeid (pick b (some g) p))
+      one : (b : Bool) (o : Option Element) (p : Option Grant) → teidIn (elements 0 (createdEndpointContent s g)) ≡ g .local .teid → valueOf o ≡ valueOr 0 (mapOption grantTeid p)
+          → valueOf (pick b (some (el at ie.createdEndpoint (createdEndpointContent s g))) o) ≡ valueOr 0 (mapOption grantTeid (pick b (some g) p))
       one true o p a c = a
       one false o p a c = c
 
   -- ---- the whole reply
 
-  skip-one : (k : Kind) (i t : ℕ) (v more : List ℕ) → Fits t v → eqb t ie.createdPdr ≡ false → eqb t ie.createdEndpoint ≡ false
-      → findBy (isCreated k i) (elements (element t v ++ more)) ≡ findBy (isCreated k i) (elements more)
+  -- the TEID that is found in octets for a kind and ID, wherever they stand
+  abbrev Gives : Kind → ℕ → ℕ → List ℕ → Type 0
+  Gives k i n xs = (at : ℕ) → valueOf (findBy (isCreated k i) (elements at xs)) ≡ n
+
+  skip-one : (k : Kind) (i n t : ℕ) (v more : List ℕ) → Fits t v → eqb t ie.createdPdr ≡ false → eqb t ie.createdEndpoint ≡ false
+      → Gives k i n more → Gives k i n (element t v ++ more)
   unfolding findBy isCreated hasType createdType
-  skip-one ofPdr i t v more fits e8 e128 =
-      ap (findBy (isCreated ofPdr i)) (elements-cons t v more fits)
-      ∙ ap (λ (b : Bool). pick (b && eqb (fieldOr0 (idType ofPdr) (elements v)) i) (some (el t v)) (findBy (isCreated ofPdr i) (elements more))) e8
-  skip-one ofEndpoint i t v more fits e8 e128 =
-      ap (findBy (isCreated ofEndpoint i)) (elements-cons t v more fits)
-      ∙ ap (λ (b : Bool). pick (b && eqb (fieldOr0 (idType ofEndpoint) (elements v)) i) (some (el t v)) (findBy (isCreated ofEndpoint i) (elements more))) e128
+  skip-one ofPdr i n t v more fits e8 e128 h at =
+      ap (λ (es : List Element). valueOf (findBy (isCreated ofPdr i) es)) (elements-cons t v more fits at)
+      ∙ ap (λ (b : Bool). valueOf (pick (b && eqb (fieldOr0 (idType ofPdr) (elements 0 v)) i) (some (el at t v)) (findBy (isCreated ofPdr i) (elements (after at v) more)))) e8
+      ∙ h (after at v)
+  skip-one ofEndpoint i n t v more fits e8 e128 h at =
+      ap (λ (es : List Element). valueOf (findBy (isCreated ofEndpoint i) es)) (elements-cons t v more fits at)
+      ∙ ap (λ (b : Bool). valueOf (pick (b && eqb (fieldOr0 (idType ofEndpoint) (elements 0 v)) i) (some (el at t v)) (findBy (isCreated ofEndpoint i) (elements (after at v) more)))) e128
+      ∙ h (after at v)
 
-  skip-if : (k : Kind) (i : ℕ) (b : Bool) (t : ℕ) (v more : List ℕ) → Fits t v → eqb t ie.createdPdr ≡ false → eqb t ie.createdEndpoint ≡ false
-      → findBy (isCreated k i) (elements (pick b (element t v) [] ++ more)) ≡ findBy (isCreated k i) (elements more)
-  skip-if k i true t v more fits e8 e128 = skip-one k i t v more fits e8 e128
-  skip-if k i false t v more fits e8 e128 = refl
+  skip-if : (k : Kind) (i n : ℕ) (b : Bool) (t : ℕ) (v more : List ℕ) → Fits t v → eqb t ie.createdPdr ≡ false → eqb t ie.createdEndpoint ≡ false
+      → Gives k i n more → Gives k i n (pick b (element t v) [] ++ more)
+  skip-if k i n true t v more fits e8 e128 h = skip-one k i n t v more fits e8 e128 h
+  skip-if k i n false t v more fits e8 e128 h = h
 
-  skip-offending : (k : Kind) (i : ℕ) (o : Option ℕ) (more : List ℕ) → findBy (isCreated k i) (elements (offendingElement o ++ more)) ≡ findBy (isCreated k i) (elements more)
+  skip-offending : (k : Kind) (i n : ℕ) (o : Option ℕ) (more : List ℕ) → Gives k i n more → Gives k i n (offendingElement o ++ more)
   unfolding offendingElement
-  skip-offending k i none more = refl
-  skip-offending k i (some t) more = skip-one k i ie.offendingIe (be 2 t) more (be-fits s hs ie.offendingIe 2 t (lit< tt) (lit≤ tt)) refl refl
+  skip-offending k i n none more h = h
+  skip-offending k i n (some t) more h = skip-one k i n ie.offendingIe (be 2 t) more (be-fits s hs ie.offendingIe 2 t (lit< tt) (lit≤ tt)) refl refl h
 
   node-fits : Fits ie.nodeId (0 ∷ s .ipv4)
   unfolding Fits
@@ -216,38 +224,43 @@ module _ (s : Settings) (hs : T (settingsAllowed s)) where
     endpointGrants : List Grant
     endpointGrants = keep (isKind ofEndpoint) gs
 
-    created-elements : elements (created s gs) ≡ map asPdr pdrGrants ++ map asEndpoint endpointGrants
-    unfolding created grantsOf pdrGrants endpointGrants createdPdr createdEndpoint written
-    created-elements =
-        elements-map ie.createdPdr (createdPdrContent s) grantFits pdr-content-fits (keep (isKind ofPdr) gs) (keep-fits (isKind ofPdr) gs fits) (concatMap (createdEndpoint s) (keep (isKind ofEndpoint) gs))
-        ∙ ap (λ (es : List Element). map asPdr (keep (isKind ofPdr) gs) ++ es)
-        (ap elements (sym (append-nil (concatMap (createdEndpoint s) (keep (isKind ofEndpoint) gs))))
-        ∙ elements-map ie.createdEndpoint (createdEndpointContent s) grantFits endpoint-content-fits (keep (isKind ofEndpoint) gs) (keep-fits (isKind ofEndpoint) gs fits) []
-        ∙ ap (λ (es : List Element). map asEndpoint (keep (isKind ofEndpoint) gs) ++ es) elements-nil
-        ∙ append-nil (map asEndpoint (keep (isKind ofEndpoint) gs)))
+    -- the place after the Created PDRs
+    endpointsFrom : ℕ → ℕ
+    endpointsFrom at = afterAll ie.createdPdr (createdPdrContent s) grantFits at pdrGrants
+
+    created-elements : (at : ℕ) → elements at (created s gs) ≡ asPdrs at pdrGrants ++ asEndpoints (endpointsFrom at) endpointGrants
+    unfolding created grantsOf pdrGrants endpointGrants endpointsFrom createdPdr createdEndpoint written
+    created-elements at =
+        elements-map ie.createdPdr (createdPdrContent s) grantFits pdr-content-fits (keep (isKind ofPdr) gs) (keep-fits (isKind ofPdr) gs fits) at (concatMap (createdEndpoint s) (keep (isKind ofEndpoint) gs))
+        ∙ ap (λ (es : List Element). asPdrs at (keep (isKind ofPdr) gs) ++ es)
+        (ap (elements (endpointsFrom at)) (sym (append-nil (concatMap (createdEndpoint s) (keep (isKind ofEndpoint) gs))))
+        ∙ elements-map ie.createdEndpoint (createdEndpointContent s) grantFits endpoint-content-fits (keep (isKind ofEndpoint) gs) (keep-fits (isKind ofEndpoint) gs fits) (endpointsFrom at) []
+        ∙ ap (λ (es : List Element). asEndpoints (endpointsFrom at) (keep (isKind ofEndpoint) gs) ++ es) (elements-nil _)
+        ∙ append-nil (asEndpoints (endpointsFrom at) (keep (isKind ofEndpoint) gs)))
 
     -- what is read of the Created groups is what was granted
-    created-value : (k : Kind) (i : ℕ) → valueOf (findBy (isCreated k i) (elements (created s gs))) ≡ grantedTeid gs k i
+    created-value : (k : Kind) (i : ℕ) → Gives k i (grantedTeid gs k i) (created s gs)
     unfolding grantedTeid pdrGrants endpointGrants
-    created-value ofPdr i =
-        ap (λ (es : List Element). valueOf (findBy (isCreated ofPdr i) es)) created-elements
-        ∙ found-pdr i pdrGrants (keep-fits (isKind ofPdr) gs fits) (map asEndpoint endpointGrants) (no-pdr-here i endpointGrants)
+    created-value ofPdr i at =
+        ap (λ (es : List Element). valueOf (findBy (isCreated ofPdr i) es)) (created-elements at)
+        ∙ found-pdr i at pdrGrants (keep-fits (isKind ofPdr) gs fits) (asEndpoints (endpointsFrom at) endpointGrants) (no-pdr-here i (endpointsFrom at) endpointGrants)
         ∙ ap (λ (o : Option Grant). valueOr 0 (mapOption grantTeid o)) (find-kind ofPdr i gs)
-    created-value ofEndpoint i =
-        ap (λ (es : List Element). valueOf (findBy (isCreated ofEndpoint i) es)) created-elements
-        ∙ ap valueOf (skip-pdrs i pdrGrants (map asEndpoint endpointGrants))
-        ∙ found-endpoint i endpointGrants (keep-fits (isKind ofEndpoint) gs fits)
+    created-value ofEndpoint i at =
+        ap (λ (es : List Element). valueOf (findBy (isCreated ofEndpoint i) es)) (created-elements at)
+        ∙ ap valueOf (skip-pdrs i at pdrGrants (asEndpoints (endpointsFrom at) endpointGrants))
+        ∙ found-endpoint i (endpointsFrom at) endpointGrants (keep-fits (isKind ofEndpoint) gs fits)
         ∙ ap (λ (o : Option Grant). valueOr 0 (mapOption grantTeid o)) (find-kind ofEndpoint i gs)
 
     module _ (kind n : ℕ) (v : Verdict) (yes′ : v .cause ≡ why.accepted) where
-      body-found : (k : Kind) (i : ℕ) → findBy (isCreated k i) (elements (replyBody kind s n v gs)) ≡ findBy (isCreated k i) (elements (created s gs))
+      body-found : (k : Kind) (i : ℕ) → Gives k i (grantedTeid gs k i) (replyBody kind s n v gs)
       unfolding replyBody nodeIdElement acceptedPart unitFseid
       body-found k i =
-          skip-if k i (eqb kind establishment) ie.nodeId (0 ∷ s .ipv4) _ node-fits refl refl
-          ∙ skip-one k i ie.cause (v .cause ∷ []) _ (one-fits s hs ie.cause (lit< tt) (v .cause)) refl refl
-          ∙ skip-offending k i (v .offending) _
-          ∙ ap (λ (c : ℕ). findBy (isCreated k i) (elements (pick (eqb c 1) (acceptedPart kind s n gs) []))) yes′
-          ∙ skip-if k i (eqb kind establishment) ie.fseid (fseidOctets n (s .ipv4) []) (created s gs) (fseid-fits n) refl refl
+          let t = grantedTeid gs k i in
+          skip-if k i t (eqb kind establishment) ie.nodeId (0 ∷ s .ipv4) _ node-fits refl refl
+          (skip-one k i t ie.cause (v .cause ∷ []) _ (one-fits s hs ie.cause (lit< tt) (v .cause)) refl refl
+          (skip-offending k i t (v .offending) _
+          (subst (λ (c : ℕ). Gives k i t (pick (eqb c 1) (acceptedPart kind s n gs) [])) (sym yes′)
+          (skip-if k i t (eqb kind establishment) ie.fseid (fseidOctets n (s .ipv4) []) (created s gs) (fseid-fits n) refl refl (created-value k i)))))
 
       created-short : length gs ≤ 24 → length (created s gs) ≤ 1872
       unfolding created grantsOf createdPdr createdEndpoint written
@@ -304,5 +317,4 @@ module _ (s : Settings) (hs : T (settingsAllowed s)) (msg : List ℕ) (long : 16
       ap (λ (es : List Element). valueOf (findBy (isCreated k i) es))
       (elements-there (kindOf msg + 1) (replySeid (kindOf msg) (v .cause) (headerSeid msg) n) (sequenceOf msg) (replyBody (kindOf msg) s n v gs) space (sequence-three msg long)
       (body-short s hs gs fits (kindOf msg) n v yes′ few))
-      ∙ ap valueOf (body-found s hs gs fits (kindOf msg) n v yes′ k i)
-      ∙ created-value s hs gs fits k i
+      ∙ body-found s hs gs fits (kindOf msg) n v yes′ k i 0

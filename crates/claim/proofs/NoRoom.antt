@@ -23,7 +23,7 @@ use Rattle.rules.specs.Limits.{maxPdrs, maxEndpoints}
 use Rattle.rules.specs.Layout.{viewSettings, viewSessions}
 use Rattle.rules.specs.Elements.{Refusal, missing, conditional, tooShort, incorrect, causeOf}
 use Rattle.rules.specs.Sound.{sessionsAllowed}
-use Rattle.rules.specs.Message.{kindOf, headerSeid, frameFault, establishment, deletion}
+use Rattle.rules.specs.Message.{kindOf, headerSeid, Spot, frameFault, establishment, deletion}
 use Rattle.rules.specs.Reading.{Fault, Request, readFault, readRequest}
 use Rattle.rules.specs.Grants.{Kind, grants, grantedTeid, need}
 use Rattle.rules.specs.Stages.{hasSeid, sessionOf, isLive, newSession, atEntry, liveEndpoints, removedPdrs, invalidAllocation, brokenRules, breaksRule, tooManySessions, tooManyPdrs, tooManyEndpoints, tooFewTeids, noRoom, Verdict, plain, judge, entrySession, judged, fromReading, fromFraming, unknownSession, verdict}
@@ -72,7 +72,7 @@ module _ (limit : ℕ) (s : Settings) (m : Sessions) (msg : List ℕ) where
   Full = T (noRoom limit (kindOf msg) s m (entrySession m msg) (readRequest msg))
 
   -- stage 2
-  past-framing : (o : Option ℕ) → fromFraming limit s m msg o .cause ≡ why.noRoom → (o ≡ none) × (fromReading limit s m msg (readFault msg) .cause ≡ why.noRoom)
+  past-framing : (o : Option Spot) → fromFraming limit s m msg o .cause ≡ why.noRoom → (o ≡ none) × (fromReading limit s m msg (readFault msg) .cause ≡ why.noRoom)
   unfolding fromFraming
   past-framing none e = (refl, e)
   past-framing (some t) e = absurd (omega arith)

@@ -168,7 +168,7 @@ module _ (s : Settings) (hs : T (settingsAllowed s)) where
 
       -- a restoration into a table of other sessions is accepted, and puts its session in
       pub restored-call : limit < 256 ^ 2 → T (sessionsAllowed limit s m) → (space : List ℕ) → 1024 ≤ length space
-          → serve limit (encode limit s m) msg space ≡ record { outcome = 0; space = put 0 (replyTo s m msg (plain why.accepted)) space; table = encode limit s (putSession x m) }
+          → serve limit (encode limit s m) msg space ≡ record { outcome = 0; place = 0; space = put 0 (replyTo s m msg (plain why.accepted)) space; table = encode limit s (putSession x m) }
       unfolding serve serveSound answer answered served
       restored-call small hm space long =
           let t = encode limit s m in
@@ -180,7 +180,7 @@ module _ (s : Settings) (hs : T (settingsAllowed s)) where
           ∙ pick-no (not (headerAllowed msg)) _ _ (twice (headerAllowed msg) (msg-allowed s hs p hp x hx))
           ∙ ap (λ (k : ℕ). pick (not (eqb k establishment || eqb k modification || eqb k deletion)) (unserved 5 space t) (answer limit s m msg space t)) (msg-kind s hs p hp x hx)
           ∙ ap (answered limit s m msg space t) msg-verdict
-          ∙ ap (λ (m′ : Sessions). record { outcome = 0; space = put 0 (replyTo s m msg (plain why.accepted)) space; table = encode limit s m′ }) msg-after
+          ∙ ap (λ (m′ : Sessions). record { outcome = 0; place = 0; space = put 0 (replyTo s m msg (plain why.accepted)) space; table = encode limit s m′ }) msg-after
         where
           twice : (b : Bool) → T b → T (not (not b))
           twice true h = tt

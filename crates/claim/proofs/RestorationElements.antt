@@ -21,9 +21,9 @@ use Rattle.laws.proofs.ElementLaws.{fteid-back, fqcsid-back}
 use Rattle.rules.specs.Sound.{ipv6Allowed, settingsTests, settingsAllowed, unitFamilies, tunnelTests, tunnelAllowed, placeAllowed, farAllowed, pdrTests, pdrAllowed, csidTests, csidAllowed}
 use Rattle.laws.proofs.LayoutLaws.{csid-address-length, address-short, teid-fits}
 use Rattle.laws.proofs.TableLaws.{settingsFacts, ipv4-four, ipv6-ok, ipv6-short}
-use Rattle.rules.specs.Message.{Element, elements, placesOf, opened, numberWidth, frame, establishment}
+use Rattle.rules.specs.Message.{inside, Element, elements, placesOf, opened, numberWidth, establishment}
 use Rattle.rules.specs.Reading.{createsPdr, createsEndpoint, done, andThen, Members, noMembers, holds, numberRead, farRead, pdiIn, valueRead, memberRead, membersRead, unopened, pdiEnd, pdiRead, pdrFrom, endpointFrom, itemFrom, groupRead}
-use Rattle.laws.proofs.MessageLaws.{Fits, el, elements-cons, elements-nil, elements-last, Inside, framed-nil, framed-cons, framed-last, length-one}
+use Rattle.laws.proofs.MessageLaws.{Fits, el, after, elements-cons, elements-nil, elements-last, Framed, Inside, framed-nil, framed-cons, framed-last, length-one}
 use Rattle.rules.specs.Reply.{element, unitElement}
 use Rattle.rules.specs.Restoration.{placeElement, farElement, pdiContent, pdrContent, endpointContent, recordCsid, restoredPdr, restoredEndpoint}
 use Rattle.rules.specs.Types as ie
@@ -104,20 +104,20 @@ module _ (s : Settings) (hs : T (settingsAllowed s)) where
 
   -- ---- a PDI: source interface c and place l
 
-  placeElements : Place → List Element
-  placeElements neither = []
-  placeElements (tunnel t) = el ie.fteid (fteidOctets (unitFteid s t)) ∷ []
-  placeElements (endpoint e) = el ie.endpointId (e ∷ []) ∷ []
+  placeElements : ℕ → Place → List Element
+  placeElements at neither = []
+  placeElements at (tunnel t) = el at ie.fteid (fteidOctets (unitFteid s t)) ∷ []
+  placeElements at (endpoint e) = el at ie.endpointId (e ∷ []) ∷ []
 
   pub one-fits : (t : ℕ) → t < 256 ^ 2 → (c : ℕ) → Fits t (c ∷ [])
   unfolding Fits
   one-fits t h c = (h, lit< tt)
 
-  place-elements : (l : Place) → elements (placeElement s l) ≡ placeElements l
+  place-elements : (at : ℕ) (l : Place) → elements at (placeElement s l) ≡ placeElements at l
   unfolding placeElement placeElements unitElement
-  place-elements neither = elements-nil
-  place-elements (tunnel t) = elements-last ie.fteid (fteidOctets (unitFteid s t)) (unit-fits t)
-  place-elements (endpoint e) = elements-last ie.endpointId (e ∷ []) (one-fits ie.endpointId (lit< tt) e)
+  place-elements at neither = elements-nil at
+  place-elements at (tunnel t) = elements-last at ie.fteid (fteidOctets (unitFteid s t)) (unit-fits t)
+  place-elements at (endpoint e) = elements-last at ie.endpointId (e ∷ []) (one-fits ie.endpointId (lit< tt) e)
 
   place-short : (l : Place) → length (placeElement s l) ≤ 29
   unfolding placeElement unitElement
@@ -125,11 +125,11 @@ module _ (s : Settings) (hs : T (settingsAllowed s)) where
   place-short (tunnel t) = le-trans (le-of-eq (length-one ie.fteid (fteidOctets (unitFteid s t)))) (let h = unit-short t in omega arith)
   place-short (endpoint e) = le-trans (le-of-eq (length-one ie.endpointId (e ∷ []))) (lit≤ tt)
 
-  pdi-elements : (p : Pdr) → elements (pdiContent s p) ≡ el ie.sourceInterface (p .source ∷ []) ∷ placeElements (p .place)
+  pdi-elements : (at : ℕ) (p : Pdr) → elements at (pdiContent s p) ≡ el at ie.sourceInterface (p .source ∷ []) ∷ placeElements (after at (p .source ∷ [])) (p .place)
   unfolding pdiContent
-  pdi-elements p =
-      elements-cons ie.sourceInterface (p .source ∷ []) (placeElement s (p .place)) (one-fits ie.sourceInterface (lit< tt) (p .source))
-      ∙ ap (λ (es : List Element). el ie.sourceInterface (p .source ∷ []) ∷ es) (place-elements (p .place))
+  pdi-elements at p =
+      elements-cons ie.sourceInterface (p .source ∷ []) (placeElement s (p .place)) (one-fits ie.sourceInterface (lit< tt) (p .source)) at
+      ∙ ap (λ (es : List Element). el at ie.sourceInterface (p .source ∷ []) ∷ es) (place-elements _ (p .place))
 
   pdi-short : (p : Pdr) → length (pdiContent s p) ≤ 34
   unfolding pdiContent
@@ -149,49 +149,60 @@ module _ (s : Settings) (hs : T (settingsAllowed s)) where
   abbrev placed : ℕ → ℕ → ℕ → Option Fteid → Option ℕ → Members
   placed i n c o e = record { pdrId = some i; precedence = some n; far = none; pdi = true; source = some c; local = o; endpointId = e }
 
-  pdi-members : (i n c : ℕ) (l : Place) (live : List ℕ) → c < 16 → T (placeAllowed s live l)
-      → andThen (membersRead unopened 2 (el ie.sourceInterface (c ∷ []) ∷ placeElements l) (begun i n)) pdiEnd ≡ done (placed i n c (mapOption (unitFteid s) (placeTunnel l)) (placeEndpoint l))
+  pdi-members : (a at q i n c : ℕ) (l : Place) (live : List ℕ) → c < 16 → T (placeAllowed s live l)
+      → andThen (membersRead unopened 2 (el a ie.sourceInterface (c ∷ []) ∷ placeElements at l) (begun i n)) (pdiEnd q) ≡ done (placed i n c (mapOption (unitFteid s) (placeTunnel l)) (placeEndpoint l))
   unfolding membersRead memberRead valueRead holds numberRead numberAt numberWidth placesOf member pdiEnd placeElements placeTunnel placeEndpoint placeAllowed
-  pdi-members i n c neither live h k = λ j. done (placed i n (source-back c h j) none none)
-  pdi-members i n c (tunnel t) live h k = rw (unit-back false t k) (λ j. done (placed i n (source-back c h j) (some (unitFteid s t)) none))
-  pdi-members i n c (endpoint e) live h k = λ j. done (placed i n (source-back c h j) none (some (number-one e j)))
+  pdi-members a at q i n c neither live h k = λ j. done (placed i n (source-back c h j) none none)
+  pdi-members a at q i n c (tunnel t) live h k = rw (unit-back false t k) (λ j. done (placed i n (source-back c h j) (some (unitFteid s t)) none))
+  pdi-members a at q i n c (endpoint e) live h k = λ j. done (placed i n (source-back c h j) none (some (number-one e j)))
 
-  pdi-read : (p : Pdr) (live : List ℕ) → p .source < 16 → T (placeAllowed s live (p .place)) → (i n : ℕ)
-      → pdiRead (pdiContent s p) (begun i n) ≡ done (placed i n (p .source) (mapOption (unitFteid s) (placeTunnel (p .place))) (placeEndpoint (p .place)))
+  pdi-read : (p : Pdr) (live : List ℕ) → p .source < 16 → T (placeAllowed s live (p .place)) → (q i n : ℕ)
+      → pdiRead q (pdiContent s p) (begun i n) ≡ done (placed i n (p .source) (mapOption (unitFteid s) (placeTunnel (p .place))) (placeEndpoint (p .place)))
   unfolding pdiRead
-  pdi-read p live h k i n = rw (pdi-elements p) (pdi-members i n (p .source) (p .place) live h k)
+  pdi-read p live h k q i n = rw (pdi-elements (inside q) p) (pdi-members _ _ q i n (p .source) (p .place) live h k)
 
   -- ---- a Create PDR
 
-  farElements : Option ℕ → List Element
-  farElements none = []
-  farElements (some n) = el ie.farId (be 4 n) ∷ []
+  farElements : ℕ → Option ℕ → List Element
+  farElements at none = []
+  farElements at (some n) = el at ie.farId (be 4 n) ∷ []
 
   pub be-fits : (t w n : ℕ) → t < 256 ^ 2 → w ≤ 2048 → Fits t (be w n)
   unfolding Fits
   be-fits t w n h g = (h, small (le-trans (le-of-eq (length-be w n)) g))
 
-  far-elements : (f : Option ℕ) → elements (farElement f) ≡ farElements f
+  far-elements : (at : ℕ) (f : Option ℕ) → elements at (farElement f) ≡ farElements at f
   unfolding farElement farElements
-  far-elements none = elements-nil
-  far-elements (some n) = elements-last ie.farId (be 4 n) (be-fits ie.farId 4 n (lit< tt) (lit≤ tt))
+  far-elements at none = elements-nil at
+  far-elements at (some n) = elements-last at ie.farId (be 4 n) (be-fits ie.farId 4 n (lit< tt) (lit≤ tt))
 
   pdi-fits : (p : Pdr) → Fits ie.pdi (pdiContent s p)
   unfolding Fits
   pdi-fits p = (lit< tt, small (le-trans (pdi-short p) (lit≤ tt)))
 
-  pdrElements : Pdr → List Element
-  pdrElements p = el ie.pdrId (be 2 (p .id)) ∷ el ie.precedence (be 4 (p .precedence)) ∷ el ie.pdi (pdiContent s p) ∷ farElements (p .far)
+  -- the places of a Create PDR's members, from the first one's on
+  precedenceAt : ℕ → Pdr → ℕ
+  precedenceAt at p = after at (be 2 (p .id))
 
-  pdr-elements : (p : Pdr) → elements (pdrContent s p) ≡ pdrElements p
-  unfolding pdrContent pdrElements
-  pdr-elements p =
-      elements-cons ie.pdrId (be 2 (p .id)) _ (be-fits ie.pdrId 2 (p .id) (lit< tt) (lit≤ tt))
-      ∙ ap (λ (es : List Element). el ie.pdrId (be 2 (p .id)) ∷ es)
-      (elements-cons ie.precedence (be 4 (p .precedence)) _ (be-fits ie.precedence 4 (p .precedence) (lit< tt) (lit≤ tt))
-      ∙ ap (λ (es : List Element). el ie.precedence (be 4 (p .precedence)) ∷ es)
-      (elements-cons ie.pdi (pdiContent s p) (farElement (p .far)) (pdi-fits p)
-      ∙ ap (λ (es : List Element). el ie.pdi (pdiContent s p) ∷ es) (far-elements (p .far))))
+  pdiAt : ℕ → Pdr → ℕ
+  pdiAt at p = after (precedenceAt at p) (be 4 (p .precedence))
+
+  farAt : ℕ → Pdr → ℕ
+  farAt at p = after (pdiAt at p) (pdiContent s p)
+
+  pdrElements : ℕ → Pdr → List Element
+  pdrElements at p =
+      el at ie.pdrId (be 2 (p .id)) ∷ el (precedenceAt at p) ie.precedence (be 4 (p .precedence)) ∷ el (pdiAt at p) ie.pdi (pdiContent s p) ∷ farElements (farAt at p) (p .far)
+
+  pdr-elements : (at : ℕ) (p : Pdr) → elements at (pdrContent s p) ≡ pdrElements at p
+  unfolding pdrContent pdrElements precedenceAt pdiAt farAt
+  pdr-elements at p =
+      elements-cons ie.pdrId (be 2 (p .id)) _ (be-fits ie.pdrId 2 (p .id) (lit< tt) (lit≤ tt)) at
+      ∙ ap (λ (es : List Element). el at ie.pdrId (be 2 (p .id)) ∷ es)
+      (elements-cons ie.precedence (be 4 (p .precedence)) _ (be-fits ie.precedence 4 (p .precedence) (lit< tt) (lit≤ tt)) (precedenceAt at p)
+      ∙ ap (λ (es : List Element). el (precedenceAt at p) ie.precedence (be 4 (p .precedence)) ∷ es)
+      (elements-cons ie.pdi (pdiContent s p) (farElement (p .far)) (pdi-fits p) (pdiAt at p)
+      ∙ ap (λ (es : List Element). el (pdiAt at p) ie.pdi (pdiContent s p) ∷ es) (far-elements (farAt at p) (p .far))))
 
   far-short : (f : Option ℕ) → length (farElement f) ≤ 8
   unfolding farElement
@@ -213,59 +224,59 @@ module _ (s : Settings) (hs : T (settingsAllowed s)) where
       let h = far-short (p .far) in
       omega arith
 
-  pdr-members : (i n : ℕ) (v : List ℕ) (f : Option ℕ) (c : ℕ) (o : Option Fteid) (e : Option ℕ) → i < 256 ^ 2 → n < 256 ^ 4 → T (farAllowed f)
-      → ((j k : ℕ) → pdiRead v (begun j k) ≡ done (placed j k c o e))
-      → andThen (membersRead pdiRead 1 (el ie.pdrId (be 2 i) ∷ el ie.precedence (be 4 n) ∷ el ie.pdi v ∷ farElements f) noMembers) (itemFrom 1)
+  pdr-members : (a b d at q i n : ℕ) (v : List ℕ) (f : Option ℕ) (c : ℕ) (o : Option Fteid) (e : Option ℕ) → i < 256 ^ 2 → n < 256 ^ 4 → T (farAllowed f)
+      → ((j k : ℕ) → pdiRead d v (begun j k) ≡ done (placed j k c o e))
+      → andThen (membersRead pdiRead 1 (el a ie.pdrId (be 2 i) ∷ el b ie.precedence (be 4 n) ∷ el d ie.pdi v ∷ farElements at f) noMembers) (itemFrom 1 q)
       ≡ done (createsPdr (record { id = i; precedence = n; far = f; source = c; local = o; endpoint = e }))
   unfolding membersRead memberRead valueRead holds numberRead farRead pdiIn numberAt numberWidth placesOf member farElements farAllowed be itemFrom pdrFrom
-  pdr-members i n v none c o e hi hn hf h =
+  pdr-members a b d at q i n v none c o e hi hn hf h =
       rw h (λ j. done (createsPdr (record { id = number-be 2 i hi j; precedence = number-be 4 n hn j; far = none; source = c; local = o; endpoint = e })))
-  pdr-members i n v (some f) c o e hi hn hf h =
+  pdr-members a b d at q i n v (some f) c o e hi hn hf h =
       rw h (λ j. done (createsPdr (record { id = number-be 2 i hi j; precedence = number-be 4 n hn j; far = some (number-be 4 f (ltb→lt f (2 ^ 32) hf) j); source = c; local = o; endpoint = e })))
 
   -- a Create PDR is read as the record
-  pub pdr-read : (p : Pdr) (live : List ℕ) → T (pdrAllowed s live p) → groupRead 1 (pdrContent s p) ≡ done (createsPdr (restoredPdr s p))
+  pub pdr-read : (p : Pdr) (live : List ℕ) → T (pdrAllowed s live p) → (q : ℕ) → groupRead 1 q (pdrContent s p) ≡ done (createsPdr (restoredPdr s p))
   unfolding groupRead restoredPdr pdrElements pdrAllowed pdrTests
-  pdr-read p live h =
+  pdr-read p live h q =
       let e = each (pdrTests s live p) h in
-      ap (λ (es : List Element). andThen (membersRead pdiRead 1 es noMembers) (itemFrom 1)) (pdr-elements p)
-      ∙ pdr-members (p .id) (p .precedence) (pdiContent s p) (p .far) (p .source) (mapOption (unitFteid s) (placeTunnel (p .place))) (placeEndpoint (p .place))
-      (ltb→lt (p .id) (2 ^ 16) (e .0)) (ltb→lt (p .precedence) (2 ^ 32) (e .1 .0)) (e .1 .1 .0) (pdi-read p live (ltb→lt (p .source) 16 (e .1 .1 .1 .0)) (e .1 .1 .1 .1 .0))
+      ap (λ (es : List Element). andThen (membersRead pdiRead 1 es noMembers) (itemFrom 1 q)) (pdr-elements (inside q) p)
+      ∙ pdr-members _ _ (pdiAt (inside q) p) _ q (p .id) (p .precedence) (pdiContent s p) (p .far) (p .source) (mapOption (unitFteid s) (placeTunnel (p .place))) (placeEndpoint (p .place))
+      (ltb→lt (p .id) (2 ^ 16) (e .0)) (ltb→lt (p .precedence) (2 ^ 32) (e .1 .0)) (e .1 .1 .0) (pdi-read p live (ltb→lt (p .source) 16 (e .1 .1 .1 .0)) (e .1 .1 .1 .1 .0) (pdiAt (inside q) p))
 
   -- ---- framing a Create PDR, at depth 2 in an establishment
 
-  place-framed : (l : Place) → frame 1 establishment 2 (placeElement s l) ≡ none
+  place-framed : (l : Place) → Framed 1 establishment 2 (placeElement s l)
   unfolding placeElement unitElement Inside opened member
   place-framed neither = framed-nil 0 establishment 2
-  place-framed (tunnel t) = framed-last 0 establishment ie.pdi ie.fteid (fteidOctets (unitFteid s t)) (unit-fits t) refl
-  place-framed (endpoint e) = framed-last 0 establishment ie.pdi ie.endpointId (e ∷ []) (one-fits ie.endpointId (lit< tt) e) refl
+  place-framed (tunnel t) = framed-last 0 establishment ie.pdi ie.fteid (fteidOctets (unitFteid s t)) (unit-fits t) (λ _ _. refl)
+  place-framed (endpoint e) = framed-last 0 establishment ie.pdi ie.endpointId (e ∷ []) (one-fits ie.endpointId (lit< tt) e) (λ _ _. refl)
 
-  pdi-framed : (p : Pdr) → frame 1 establishment 2 (pdiContent s p) ≡ none
+  pdi-framed : (p : Pdr) → Framed 1 establishment 2 (pdiContent s p)
   unfolding pdiContent Inside opened member
-  pdi-framed p = framed-cons 0 establishment ie.pdi ie.sourceInterface (p .source ∷ []) (placeElement s (p .place)) (one-fits ie.sourceInterface (lit< tt) (p .source)) refl (place-framed (p .place))
+  pdi-framed p = framed-cons 0 establishment ie.pdi ie.sourceInterface (p .source ∷ []) (placeElement s (p .place)) (one-fits ie.sourceInterface (lit< tt) (p .source)) (λ _ _. refl) (place-framed (p .place))
 
-  far-framed : (f : Option ℕ) → frame 2 establishment 1 (farElement f) ≡ none
+  far-framed : (f : Option ℕ) → Framed 2 establishment 1 (farElement f)
   unfolding farElement Inside opened member
   far-framed none = framed-nil 1 establishment 1
-  far-framed (some n) = framed-last 1 establishment ie.createPdr ie.farId (be 4 n) (be-fits ie.farId 4 n (lit< tt) (lit≤ tt)) refl
+  far-framed (some n) = framed-last 1 establishment ie.createPdr ie.farId (be 4 n) (be-fits ie.farId 4 n (lit< tt) (lit≤ tt)) (λ _ _. refl)
 
-  pub pdr-framed : (p : Pdr) → frame 2 establishment 1 (pdrContent s p) ≡ none
-  unfolding pdrContent Inside opened member
+  pub pdr-framed : (p : Pdr) → Framed 2 establishment 1 (pdrContent s p)
+  unfolding pdrContent Framed Inside opened member
   pdr-framed p =
-      framed-cons 1 establishment ie.createPdr ie.pdrId (be 2 (p .id)) _ (be-fits ie.pdrId 2 (p .id) (lit< tt) (lit≤ tt)) refl
-      (framed-cons 1 establishment ie.createPdr ie.precedence (be 4 (p .precedence)) _ (be-fits ie.precedence 4 (p .precedence) (lit< tt) (lit≤ tt)) refl
+      framed-cons 1 establishment ie.createPdr ie.pdrId (be 2 (p .id)) _ (be-fits ie.pdrId 2 (p .id) (lit< tt) (lit≤ tt)) (λ _ _. refl)
+      (framed-cons 1 establishment ie.createPdr ie.precedence (be 4 (p .precedence)) _ (be-fits ie.precedence 4 (p .precedence) (lit< tt) (lit≤ tt)) (λ _ _. refl)
       (framed-cons 1 establishment ie.createPdr ie.pdi (pdiContent s p) (farElement (p .far)) (pdi-fits p) (pdi-framed p) (far-framed (p .far))))
 
   -- ---- a Create Traffic Endpoint
 
-  endpointElements : Endpoint → List Element
-  endpointElements e = el ie.endpointId (e .id ∷ []) ∷ el ie.fteid (fteidOctets (unitFteid s (e .local))) ∷ []
+  endpointElements : ℕ → Endpoint → List Element
+  endpointElements at e = el at ie.endpointId (e .id ∷ []) ∷ el (after at (e .id ∷ [])) ie.fteid (fteidOctets (unitFteid s (e .local))) ∷ []
 
-  endpoint-elements : (e : Endpoint) → elements (endpointContent s e) ≡ endpointElements e
+  endpoint-elements : (at : ℕ) (e : Endpoint) → elements at (endpointContent s e) ≡ endpointElements at e
   unfolding endpointContent endpointElements unitElement
-  endpoint-elements e =
-      elements-cons ie.endpointId (e .id ∷ []) (element ie.fteid (fteidOctets (unitFteid s (e .local)))) (one-fits ie.endpointId (lit< tt) (e .id))
-      ∙ ap (λ (es : List Element). el ie.endpointId (e .id ∷ []) ∷ es) (elements-last ie.fteid (fteidOctets (unitFteid s (e .local))) (unit-fits (e .local)))
+  endpoint-elements at e =
+      elements-cons ie.endpointId (e .id ∷ []) (element ie.fteid (fteidOctets (unitFteid s (e .local)))) (one-fits ie.endpointId (lit< tt) (e .id)) at
+      ∙ ap (λ (es : List Element). el at ie.endpointId (e .id ∷ []) ∷ es) (elements-last _ ie.fteid (fteidOctets (unitFteid s (e .local))) (unit-fits (e .local)))
 
   pub endpoint-short : (e : Endpoint) → length (endpointContent s e) ≤ 34
   unfolding endpointContent unitElement
@@ -276,17 +287,17 @@ module _ (s : Settings) (hs : T (settingsAllowed s)) where
       let h = unit-short (e .local) in
       omega arith
 
-  pub endpoint-read : (e : Endpoint) → T (tunnelAllowed s (e .local)) → groupRead ie.createEndpoint (endpointContent s e) ≡ done (createsEndpoint (restoredEndpoint s e))
+  pub endpoint-read : (e : Endpoint) → T (tunnelAllowed s (e .local)) → (q : ℕ) → groupRead ie.createEndpoint q (endpointContent s e) ≡ done (createsEndpoint (restoredEndpoint s e))
   unfolding groupRead restoredEndpoint endpointElements membersRead memberRead valueRead holds numberRead numberAt numberWidth placesOf member itemFrom endpointFrom
-  endpoint-read e h =
-      ap (λ (es : List Element). andThen (membersRead pdiRead ie.createEndpoint es noMembers) (itemFrom ie.createEndpoint)) (endpoint-elements e)
+  endpoint-read e h q =
+      ap (λ (es : List Element). andThen (membersRead pdiRead ie.createEndpoint es noMembers) (itemFrom ie.createEndpoint q)) (endpoint-elements (inside q) e)
       ∙ rw (unit-back true (e .local) h) (λ j. done (createsEndpoint (record { id = number-one (e .id) j; local = unitFteid s (e .local) })))
 
-  pub endpoint-framed : (e : Endpoint) → frame 2 establishment ie.createEndpoint (endpointContent s e) ≡ none
+  pub endpoint-framed : (e : Endpoint) → Framed 2 establishment ie.createEndpoint (endpointContent s e)
   unfolding endpointContent unitElement Inside opened member
   endpoint-framed e =
-      framed-cons 1 establishment ie.createEndpoint ie.endpointId (e .id ∷ []) _ (one-fits ie.endpointId (lit< tt) (e .id)) refl
-      (framed-last 1 establishment ie.createEndpoint ie.fteid (fteidOctets (unitFteid s (e .local))) (unit-fits (e .local)) refl)
+      framed-cons 1 establishment ie.createEndpoint ie.endpointId (e .id ∷ []) _ (one-fits ie.endpointId (lit< tt) (e .id)) (λ _ _. refl)
+      (framed-last 1 establishment ie.createEndpoint ie.fteid (fteidOctets (unitFteid s (e .local))) (unit-fits (e .local)) (λ _ _. refl))
 
 -- ---- an FQ-CSID
 

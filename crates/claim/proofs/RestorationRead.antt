@@ -1,6 +1,6 @@
 -- A whole restoration request: its header passes, it is framed, and it is read as the session's records.
 -- Assumes nothing.
-use mathlib.Core.Path.{_≡_, refl, sym, ap, ap₂, _∙_}
+use mathlib.Core.Path.{_≡_, refl, sym, ap, ap₂, _∙_, subst}
 use Prim.Native.Nat.{ℕ, _*_, _≤_, zero-le}
 use native.Mathlib.Nat.{le-trans, le-of-eq, mul-le-mul-right, le-of-lt}
 use native.Mathlib.Omega.{arith}
@@ -20,9 +20,9 @@ use Rattle.rules.specs.Elements.{incorrect, Answer, value, Fqcsid, readFseid, a
 use Rattle.laws.proofs.ElementLaws.{fseid-back}
 use Rattle.rules.specs.Sound.{settingsAllowed, pdrAllowed, endpointTests, endpointAllowed, csidAllowed, sessionTests, sessionAllowed}
 use Rattle.laws.proofs.LayoutLaws.{pdrsOk, endpointsOk, csidsOk, fewPdrs, fewEndpoints, fewCsids, seidFits, tests}
-use Rattle.rules.specs.Message.{Element, elements, body, kindOf, headerAllowed, frame, frameFault, opened, openedAtTop, actedOn, establishment}
+use Rattle.rules.specs.Message.{Element, elements, body, bodyPlace, kindOf, headerAllowed, atMessage, frame, frameFault, opened, openedAtTop, actedOn, establishment}
 use Rattle.rules.specs.Reading.{NewPdr, NewEndpoint, Item, createsPdr, createsEndpoint, setsCsid, cleared, changed, Reading, done, refusal, andThen, named, Draft, emptyDraft, withNode, withItem, seidRead, flagsRead, csidCountAllowed, withCsid, csidRead, actedRead, elementRead, elementsRead, pdrIn, endpointIn, changeIn, gonePdrIn, goneEndpointIn, csidIn, clears, isUnsupported, restoringIn, requestOf, finished, aloneIn, topRead, read, faultIn, readFault, askedIn, readRequest}
-use Rattle.laws.proofs.MessageLaws.{Fits, el, elements-cons, elements-nil, Inside, framed-nil, framed-cons, length-one, written, asElement, elements-map, framed-map, short-map}
+use Rattle.laws.proofs.MessageLaws.{Fits, el, after, elements-cons, elements-nil, Framed, Inside, framed-nil, framed-cons, length-one, written, asElement, asElements, afterAll, elements-map, framed-map, short-map}
 use Rattle.rules.specs.Reply.{element, message}
 use Rattle.rules.specs.Restoration.{pdrContent, pdrElement, endpointContent, endpointElement, recordCsid, csidElement, Peer, peerTests, peerAllowed, recordElements, restoration, restoredPdr, restoredEndpoint, restoredRequest}
 use Rattle.rules.specs.Types as ie
@@ -38,14 +38,14 @@ withItems is d = having (d .items ++ is) d
 
 -- the elements of a list of records, each of which is read as an item
 items-read : {A : Type 0} (t : ℕ) (g : A → List ℕ) (p : A → Bool) (f : A → Item) (alone : Bool)
-    → ((a : A) → T (p a) → (d : Draft) → elementRead establishment alone (el t (g a)) d ≡ done (withItem (f a) d))
-    → (rs : List A) → T (all p rs) → (rest : List Element) (d : Draft)
-    → elementsRead establishment alone (map (asElement t g p) rs ++ rest) d ≡ elementsRead establishment alone rest (withItems (map f rs) d)
-unfolding elementsRead asElement
-items-read t g p f alone one [] h rest d = ap (λ (is : List Item). elementsRead establishment alone rest (having is d)) (sym (append-nil (d .items)))
-items-read t g p f alone one (r ∷ rs) h rest d =
-    rw (one r (all-head p r rs h) d)
-    (items-read t g p f alone one rs (all-tail p r rs h) rest (withItem (f r) d)
+    → ((a : A) → T (p a) → (q : ℕ) (d : Draft) → elementRead establishment alone (el q t (g a)) d ≡ done (withItem (f a) d))
+    → (rs : List A) → T (all p rs) → (at : ℕ) (rest : List Element) (d : Draft)
+    → elementsRead establishment alone (asElements t g p at rs ++ rest) d ≡ elementsRead establishment alone rest (withItems (map f rs) d)
+unfolding elementsRead asElement asElements
+items-read t g p f alone one [] h at rest d = ap (λ (is : List Item). elementsRead establishment alone rest (having is d)) (sym (append-nil (d .items)))
+items-read t g p f alone one (r ∷ rs) h at rest d =
+    rw (one r (all-head p r rs h) at d)
+    (items-read t g p f alone one rs (all-tail p r rs h) (after at (g r)) rest (withItem (f r) d)
     ∙ ap (λ (is : List Item). elementsRead establishment alone rest (having is d)) (append-assoc (d .items) (f r ∷ []) (map f rs)))
 
 -- what is collected where each has it, and where none has
@@ -128,52 +128,65 @@ module _ (s : Settings) (hs : T (settingsAllowed s)) (p : Peer) (hp : T (peerAll
   csidOctets : List ℕ
   csidOctets = concatMap (written 65 csidContent csidAllowed) (x .csids)
 
+  -- the places of the flags, and of the first record of each kind
+  flagsAt : ℕ
+  flagsAt = after bodyPlace fseid
+
+  pdrsAt : ℕ
+  pdrsAt = after flagsAt (1 ∷ [])
+
+  endpointsAt : ℕ
+  endpointsAt = afterAll ie.createPdr (pdrContent s) (pdrAllowed s live) pdrsAt (x .pdrs)
+
+  csidsAt : ℕ
+  csidsAt = afterAll ie.createEndpoint (endpointContent s) (endpointAllowed s) endpointsAt (x .endpoints)
+
   pdrEls : List Element
-  pdrEls = map (asElement ie.createPdr (pdrContent s) (pdrAllowed s live)) (x .pdrs)
+  pdrEls = asElements ie.createPdr (pdrContent s) (pdrAllowed s live) pdrsAt (x .pdrs)
 
   endpointEls : List Element
-  endpointEls = map (asElement ie.createEndpoint (endpointContent s) (endpointAllowed s)) (x .endpoints)
+  endpointEls = asElements ie.createEndpoint (endpointContent s) (endpointAllowed s) endpointsAt (x .endpoints)
 
   csidEls : List Element
-  csidEls = map (asElement ie.fqcsid csidContent csidAllowed) (x .csids)
+  csidEls = asElements ie.fqcsid csidContent csidAllowed csidsAt (x .csids)
 
   content : List ℕ
   content = element ie.fseid fseid ++ (element ie.sessionFlags (1 ∷ []) ++ (pdrOctets ++ (endpointOctets ++ csidOctets)))
 
   tops : List Element
-  tops = el ie.fseid fseid ∷ el ie.sessionFlags (1 ∷ []) ∷ (pdrEls ++ (endpointEls ++ csidEls))
+  tops = el bodyPlace ie.fseid fseid ∷ el flagsAt ie.sessionFlags (1 ∷ []) ∷ (pdrEls ++ (endpointEls ++ csidEls))
 
   pdrs-ok : T (all (pdrAllowed s live) (x .pdrs))
   unfolding live
   pdrs-ok = pdrsOk s hs x hx
 
-  content-elements : elements content ≡ tops
-  unfolding content tops pdrOctets endpointOctets csidOctets pdrEls endpointEls csidEls
+  content-elements : elements bodyPlace content ≡ tops
+  unfolding content tops pdrOctets endpointOctets csidOctets flagsAt pdrsAt endpointsAt csidsAt pdrEls endpointEls csidEls
   content-elements =
-      elements-cons ie.fseid fseid _ fseid-fits
-      ∙ ap (λ (es : List Element). el ie.fseid fseid ∷ es)
-      (elements-cons ie.sessionFlags (1 ∷ []) _ (one-fits s hs ie.sessionFlags (lit< tt) 1)
-      ∙ ap (λ (es : List Element). el ie.sessionFlags (1 ∷ []) ∷ es)
-      (elements-map ie.createPdr (pdrContent s) (pdrAllowed s live) pdr-fits (x .pdrs) pdrs-ok (endpointOctets ++ csidOctets)
+      elements-cons ie.fseid fseid _ fseid-fits bodyPlace
+      ∙ ap (λ (es : List Element). el bodyPlace ie.fseid fseid ∷ es)
+      (elements-cons ie.sessionFlags (1 ∷ []) _ (one-fits s hs ie.sessionFlags (lit< tt) 1) flagsAt
+      ∙ ap (λ (es : List Element). el flagsAt ie.sessionFlags (1 ∷ []) ∷ es)
+      (elements-map ie.createPdr (pdrContent s) (pdrAllowed s live) pdr-fits (x .pdrs) pdrs-ok pdrsAt (endpointOctets ++ csidOctets)
       ∙ ap (λ (es : List Element). pdrEls ++ es)
-      (elements-map ie.createEndpoint (endpointContent s) (endpointAllowed s) endpoint-fits (x .endpoints) (endpointsOk s hs x hx) csidOctets
+      (elements-map ie.createEndpoint (endpointContent s) (endpointAllowed s) endpoint-fits (x .endpoints) (endpointsOk s hs x hx) endpointsAt csidOctets
       ∙ ap (λ (es : List Element). endpointEls ++ es)
-      (ap elements (sym (append-nil csidOctets))
-      ∙ elements-map ie.fqcsid csidContent csidAllowed csid-fits (x .csids) (csidsOk s hs x hx) []
-      ∙ ap (λ (es : List Element). csidEls ++ es) elements-nil
+      (ap (elements csidsAt) (sym (append-nil csidOctets))
+      ∙ elements-map ie.fqcsid csidContent csidAllowed csid-fits (x .csids) (csidsOk s hs x hx) csidsAt []
+      ∙ ap (λ (es : List Element). csidEls ++ es) (elements-nil _)
       ∙ append-nil csidEls))))
 
   -- ---- framing
 
-  content-framed : frame 3 establishment 0 content ≡ none
-  unfolding content pdrOctets endpointOctets csidOctets Inside opened openedAtTop member
+  content-framed : Framed 3 establishment 0 content
+  unfolding content pdrOctets endpointOctets csidOctets Framed Inside opened openedAtTop member
   content-framed =
-      framed-cons 2 establishment 0 ie.fseid fseid _ fseid-fits refl
-      (framed-cons 2 establishment 0 ie.sessionFlags (1 ∷ []) _ (one-fits s hs ie.sessionFlags (lit< tt) 1) refl
+      framed-cons 2 establishment 0 ie.fseid fseid _ fseid-fits (λ _ _. refl)
+      (framed-cons 2 establishment 0 ie.sessionFlags (1 ∷ []) _ (one-fits s hs ie.sessionFlags (lit< tt) 1) (λ _ _. refl)
       (framed-map ie.createPdr (pdrContent s) (pdrAllowed s live) 2 establishment 0 pdr-fits (λ q h. pdr-framed s hs q) (x .pdrs) pdrs-ok (endpointOctets ++ csidOctets)
       (framed-map ie.createEndpoint (endpointContent s) (endpointAllowed s) 2 establishment 0 endpoint-fits (λ e h. endpoint-framed s hs e) (x .endpoints) (endpointsOk s hs x hx) csidOctets
-      (ap (frame 3 establishment 0) (sym (append-nil csidOctets))
-      ∙ framed-map ie.fqcsid csidContent csidAllowed 2 establishment 0 csid-fits (λ c h. refl) (x .csids) (csidsOk s hs x hx) [] (framed-nil 2 establishment 0)))))
+      (subst (Framed 3 establishment 0) (append-nil csidOctets)
+      (framed-map ie.fqcsid csidContent csidAllowed 2 establishment 0 csid-fits (λ c h _ _. refl) (x .csids) (csidsOk s hs x hx) [] (framed-nil 2 establishment 0))))))
 
   -- ---- the length: at most 1,526 octets with the header
 
@@ -233,8 +246,8 @@ module _ (s : Settings) (hs : T (settingsAllowed s)) (p : Peer) (hp : T (peerAll
   msg-short = let e = ap length msg-content ∙ message-length establishment (p .header) (p .sequence) content in let h = content-short in omega arith
 
   pub msg-framed : frameFault msg ≡ none
-  unfolding frameFault
-  msg-framed = ap₂ (λ (k : ℕ) (xs : List ℕ). frame 3 k 0 xs) msg-kind msg-body ∙ content-framed
+  unfolding frameFault Framed
+  msg-framed = ap₂ (λ (k : ℕ) (xs : List ℕ). frame 3 k atMessage bodyPlace xs) msg-kind msg-body ∙ content-framed 0 bodyPlace
 
   -- ---- the reading
 
@@ -256,19 +269,19 @@ module _ (s : Settings) (hs : T (settingsAllowed s)) (p : Peer) (hp : T (peerAll
   nodes-up = tests s hs x hx .1 .1 .1 .1 .1 .1 .1 .1 .1 .0
 
   module _ (alone : Bool) where
-    pdr-item : (q : Pdr) → T (pdrAllowed s live q) → (d : Draft) → elementRead establishment alone (el ie.createPdr (pdrContent s q)) d ≡ done (withItem (pdrItem q) d)
+    pdr-item : (q : Pdr) → T (pdrAllowed s live q) → (at : ℕ) (d : Draft) → elementRead establishment alone (el at ie.createPdr (pdrContent s q)) d ≡ done (withItem (pdrItem q) d)
     unfolding elementRead actedRead actedOn member
-    pdr-item q h d = rw (pdr-read s hs q live h)
+    pdr-item q h at d = rw (pdr-read s hs q live h at)
 
-    endpoint-item : (e : Endpoint) → T (endpointAllowed s e) → (d : Draft) → elementRead establishment alone (el ie.createEndpoint (endpointContent s e)) d ≡ done (withItem (endpointItem e) d)
+    endpoint-item : (e : Endpoint) → T (endpointAllowed s e) → (at : ℕ) (d : Draft) → elementRead establishment alone (el at ie.createEndpoint (endpointContent s e)) d ≡ done (withItem (endpointItem e) d)
     unfolding elementRead actedRead actedOn member endpointAllowed endpointTests
-    endpoint-item e h d = rw (endpoint-read s hs e (each (endpointTests s e) h .1 .0))
+    endpoint-item e h at d = rw (endpoint-read s hs e (each (endpointTests s e) h .1 .0) at)
 
-    csid-item : (c : Csid) → T (csidAllowed c) → (d : Draft) → T (not (member (c .nodeType) (d .nodes)))
-        → elementRead establishment alone (el ie.fqcsid (csidContent c)) d ≡ done (withNode (c .nodeType) (withItem (csidItem c) d))
+    csid-item : (c : Csid) → T (csidAllowed c) → (at : ℕ) (d : Draft) → T (not (member (c .nodeType) (d .nodes)))
+        → elementRead establishment alone (el at ie.fqcsid (csidContent c)) d ≡ done (withNode (c .nodeType) (withItem (csidItem c) d))
     unfolding elementRead actedRead actedOn member csidRead csidCountAllowed withCsid csidContent fqcsidOctets recordCsid nodeOf
-    csid-item c h d fresh =
-        ap (λ (a : Answer Fqcsid). andThen (named 65 a) (λ v. pick (csidCountAllowed establishment v && not (member (nodeOf v) (d .nodes))) (done (withCsid establishment v d)) (refusal incorrect 65))) (csid-read c h)
+    csid-item c h at d fresh =
+        ap (λ (a : Answer Fqcsid). andThen (named 65 at a) (λ v. pick (csidCountAllowed establishment v && not (member (nodeOf v) (d .nodes))) (done (withCsid establishment v d)) (refusal incorrect 65 at))) (csid-read c h)
         ∙ pick-yes (true && not (member (c .nodeType) (d .nodes))) _ _ fresh
 
     -- the node types ascend, so none is met twice: every one met before is below the next
@@ -282,13 +295,13 @@ module _ (s : Settings) (hs : T (settingsAllowed s)) (p : Peer) (hp : T (peerAll
         let up = ascending-head (c .nodeType) (d .nodeType) (map nodeTypeOf cs) h in
         all-cons (λ n. ltb n (d .nodeType)) (c .nodeType) ns (lt→ltb (c .nodeType) (d .nodeType) up) (below-mono (c .nodeType) (d .nodeType) ns (le-of-lt up) g)
 
-    csids-read : (cs : List Csid) → T (all csidAllowed cs) → T (ascending (map nodeTypeOf cs)) → (d : Draft) → Below (d .nodes) cs
-        → andThen (elementsRead establishment alone (map (asElement ie.fqcsid csidContent csidAllowed) cs) d) (finished establishment) ≡ finished establishment (withItems (map csidItem cs) d)
-    unfolding elementsRead asElement finished requestOf restoringIn
-    csids-read [] h up d below = ap (λ (is : List Item). finished establishment (having is d)) (sym (append-nil (d .items)))
-    csids-read (c ∷ cs) h up d below =
-        rw (csid-item c (all-head csidAllowed c cs h) d (below-not-member (c .nodeType) (d .nodes) below))
-        (csids-read cs (all-tail csidAllowed c cs h) (ascending-tail (c .nodeType) (map nodeTypeOf cs) up) (withNode (c .nodeType) (withItem (csidItem c) d)) (below-next (d .nodes) c cs up below)
+    csids-read : (cs : List Csid) → T (all csidAllowed cs) → T (ascending (map nodeTypeOf cs)) → (at : ℕ) (d : Draft) → Below (d .nodes) cs
+        → andThen (elementsRead establishment alone (asElements ie.fqcsid csidContent csidAllowed at cs) d) (finished establishment) ≡ finished establishment (withItems (map csidItem cs) d)
+    unfolding elementsRead asElement asElements finished requestOf restoringIn
+    csids-read [] h up at d below = ap (λ (is : List Item). finished establishment (having is d)) (sym (append-nil (d .items)))
+    csids-read (c ∷ cs) h up at d below =
+        rw (csid-item c (all-head csidAllowed c cs h) at d (below-not-member (c .nodeType) (d .nodes) below))
+        (csids-read cs (all-tail csidAllowed c cs h) (ascending-tail (c .nodeType) (map nodeTypeOf cs) up) (after at (csidContent c)) (withNode (c .nodeType) (withItem (csidItem c) d)) (below-next (d .nodes) c cs up below)
         ∙ ap (λ (is : List Item). finished establishment (having is d)) (append-assoc (d .items) (csidItem c ∷ []) (map csidItem cs)))
 
     below-none : (cs : List Csid) → Below [] cs
@@ -306,9 +319,9 @@ module _ (s : Settings) (hs : T (settingsAllowed s)) (p : Peer) (hp : T (peerAll
     tops-read =
         ap (λ (r : Reading Draft). andThen r (finished establishment))
         (front-read
-        ∙ items-read 1 (pdrContent s) (pdrAllowed s live) pdrItem alone pdr-item (x .pdrs) pdrs-ok (endpointEls ++ csidEls) started
-        ∙ items-read ie.createEndpoint (endpointContent s) (endpointAllowed s) endpointItem alone endpoint-item (x .endpoints) (endpointsOk s hs x hx) csidEls (withItems (map pdrItem (x .pdrs)) started))
-        ∙ csids-read (x .csids) (csidsOk s hs x hx) nodes-up (withItems (map endpointItem (x .endpoints)) (withItems (map pdrItem (x .pdrs)) started)) (below-none (x .csids))
+        ∙ items-read 1 (pdrContent s) (pdrAllowed s live) pdrItem alone pdr-item (x .pdrs) pdrs-ok pdrsAt (endpointEls ++ csidEls) started
+        ∙ items-read ie.createEndpoint (endpointContent s) (endpointAllowed s) endpointItem alone endpoint-item (x .endpoints) (endpointsOk s hs x hx) endpointsAt csidEls (withItems (map pdrItem (x .pdrs)) started))
+        ∙ csids-read (x .csids) (csidsOk s hs x hx) nodes-up csidsAt (withItems (map endpointItem (x .endpoints)) (withItems (map pdrItem (x .pdrs)) started)) (below-none (x .csids))
 
   -- ---- the request
 
@@ -352,7 +365,7 @@ module _ (s : Settings) (hs : T (settingsAllowed s)) (p : Peer) (hp : T (peerAll
   msg-read : read msg ≡ done (restoredRequest s x)
   unfolding read topRead finished restoringIn items
   msg-read =
-      ap₂ (λ (k : ℕ) (xs : List ℕ). topRead k (elements xs)) msg-kind msg-body
+      ap₂ (λ (k : ℕ) (xs : List ℕ). topRead k (elements bodyPlace xs)) msg-kind msg-body
       ∙ ap (topRead establishment) content-elements
       ∙ tops-read (aloneIn tops)
       ∙ ap (λ (is : List Item). done (requestOf (x .seid) (having is started)))

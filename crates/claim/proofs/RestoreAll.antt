@@ -258,7 +258,7 @@ module _ (s : Settings) (hs : T (settingsAllowed s)) (limit : ℕ) (small : limi
         fit a b c h = omega arith
 
     call : serve limit (encode limit s m) (restoration s (r .peer) x) (r .space)
-        ≡ record { outcome = 0; space = put 0 (replyTo s m (restoration s (r .peer) x) (plain why.accepted)) (r .space); table = encode limit s (putSession x m) }
+        ≡ record { outcome = 0; place = 0; space = put 0 (replyTo s m (restoration s (r .peer) x) (plain why.accepted)) (r .space); table = encode limit s (putSession x m) }
     call =
         restored-call s hs x hx limit m (fresh-seid x m other) fits (separate-all x m (all-head (λ y. all (apart y) m) x xs (ready .newTeids))) (r .peer) (okFacts .0)
         small (ready .sound) (r .space) (leb→le 1024 (length (r .space)) (okFacts .1 .1 .0))

@@ -12,7 +12,7 @@ use lib.Dec.{T, eqb, nltb→le}
 use Rattle.octets.specs.Choice.{pick, oneOf}
 use Rattle.rules.specs.Model.{Settings, Sessions}
 use Rattle.rules.specs.Elements.{Refusal, missing, conditional, tooShort, incorrect, causeOf}
-use Rattle.rules.specs.Message.{kindOf, frameFault, establishment}
+use Rattle.rules.specs.Message.{kindOf, Spot, frameFault, establishment}
 use Rattle.rules.specs.Reading.{Fault, readFault, readRequest}
 use Rattle.rules.specs.Stages.{isLive, removedPdrs, invalidAllocation, brokenRules, breaksRule, tooManySessions, tooManyPdrs, tooManyEndpoints, tooFewTeids, noRoom, Verdict, plain, judge, entrySession, judged, fromReading, fromFraming, unknownSession, verdict}
 use Rattle.rules.specs.Causes as why
@@ -52,7 +52,7 @@ not-one incorrect e = omega arith
 
 module _ (limit : ℕ) (s : Settings) (m : Sessions) (msg : List ℕ) where
   -- the faults of stages 2 and 3 have other causes
-  unframed : (o : Option ℕ) → fromFraming limit s m msg o .cause ≡ why.accepted → (o ≡ none) × (fromReading limit s m msg (readFault msg) .cause ≡ why.accepted)
+  unframed : (o : Option Spot) → fromFraming limit s m msg o .cause ≡ why.accepted → (o ≡ none) × (fromReading limit s m msg (readFault msg) .cause ≡ why.accepted)
   unfolding fromFraming
   unframed none e = (refl, e)
   unframed (some t) e = absurd (omega arith)

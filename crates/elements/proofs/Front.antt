@@ -13,51 +13,53 @@ use Rattle.octets.specs.Choice.{pick}
 use Rattle.octets.specs.Octets.{part, number, numberAt}
 use Rattle.octets.specs.Lists.{keep}
 use Rattle.rules.specs.Message.{Element, elementType, elementLength, elementsUpTo, elements, hasType}
-use Rattle.laws.proofs.MessageLaws.{shorter, elements-enough}
+use Rattle.laws.proofs.MessageLaws.{el, elements-nil, shorter, elements-enough, counts-alike}
 use Rattle.frame.proofs.Walk.{part-from}
 use Rattle.elements.specs.FirstOf.{firstOf}
 use Rattle.elements.specs.declared.First.the-variants as first
 
-abbrev pub el : ℕ → List ℕ → Element
-el t v = record { type = t; content = v }
-
-by-front : (s : List ℕ) → elements s ≡ pick (ltb (length s) 4) [] (el (elementType s) (part 4 (elementLength s) s) ∷ elements (drop (4 + elementLength s) s))
+by-front : (at : ℕ) (s : List ℕ)
+    → elements at s ≡ pick (ltb (length s) 4) [] (el at (elementType s) (part 4 (elementLength s) s) ∷ elements (at + (4 + elementLength s)) (drop (4 + elementLength s) s))
 unfolding elements elementsUpTo
-by-front [] = refl
-by-front (x ∷ xs) =
-    ap (λ (more : List Element). pick (ltb (length (x ∷ xs)) 4) [] (el (elementType (x ∷ xs)) (part 4 (elementLength (x ∷ xs)) (x ∷ xs)) ∷ more))
-    (elements-enough (length xs) _ _ (shorter (elementLength (x ∷ xs)) (length xs) (x ∷ xs) (le-refl _)) (le-refl _))
+by-front at [] = refl
+by-front at (x ∷ xs) =
+    ap (λ (more : List Element). pick (ltb (length (x ∷ xs)) 4) [] (el at (elementType (x ∷ xs)) (part 4 (elementLength (x ∷ xs)) (x ∷ xs)) ∷ more))
+    (elements-enough (length xs) _ _ _ (shorter (elementLength (x ∷ xs)) (length xs) (x ∷ xs) (le-refl _)) (le-refl _))
 
 -- ---- the element at the front
 
--- the element takes 4 octets at least, lies within the octets, and is the first of their elements
+-- the element takes 4 octets at least, lies within the octets, and is the first of their elements, at the place of their first octet
 pub record Front (s : List ℕ) (t e : ℕ) : Type 0 where
   pub low : 4 ≤ e
   pub high : e ≤ length s
   pub less : length (take (length s - e) (drop e s)) < length s
-  pub cons : elements s ≡ el t (take (e - 4) (drop 4 s)) ∷ elements (take (length s - e) (drop e s))
+  pub cons : (at : ℕ) → elements at s ≡ el at t (take (e - 4) (drop 4 s)) ∷ elements (at + e) (take (length s - e) (drop e s))
 
-pub none-left : (s : List ℕ) → first.Done ≡ firstOf s → elements s ≡ []
+pub none-left : (at : ℕ) (s : List ℕ) → first.Done ≡ firstOf s → elements at s ≡ []
 unfolding firstOf
-none-left s = go (ltb (length s) 4) (ltb (length s) (4 + elementLength s)) refl
+none-left at s = go (ltb (length s) 4) (ltb (length s) (4 + elementLength s)) refl
   where
-    go : (a b : Bool) → ltb (length s) 4 ≡ a → first.Done ≡ pick a first.Done (pick b (first.Element (elementType s) (length s)) (first.Element (elementType s) (4 + elementLength s))) → elements s ≡ []
-    go true b p h = by-front s ∙ rw p
+    go : (a b : Bool) → ltb (length s) 4 ≡ a → first.Done ≡ pick a first.Done (pick b (first.Element (elementType s) (length s)) (first.Element (elementType s) (4 + elementLength s))) → elements at s ≡ []
+    go true b p h = by-front at s ∙ rw p
     go false true p h = let z : _≡_ {A = ℕ} 0 1 = cc in absurd (omega arith)
     go false false p h = let z : _≡_ {A = ℕ} 0 1 = cc in absurd (omega arith)
 
-front-at : (s : List ℕ) (t e : ℕ) → 4 ≤ e → e ≤ length s → t ≡ elementType s → part 4 (elementLength s) s ≡ take (e - 4) (drop 4 s) → drop (4 + elementLength s) s ≡ drop e s → Front s t e
+front-at : (s : List ℕ) (t e : ℕ) → 4 ≤ e → e ≤ length s → t ≡ elementType s → part 4 (elementLength s) s ≡ take (e - 4) (drop 4 s)
+    → ((at : ℕ) → elements (at + (4 + elementLength s)) (drop (4 + elementLength s) s) ≡ elements (at + e) (drop e s)) → Front s t e
 front-at s t e low high p q r = record {
   low = low;
   high = high;
   less = rw (part-from e s, length-drop) (omega arith);
-  cons = by-front s ∙ rw (le-ltb (length s) 4 (omega arith), q, r, ← p, part-from e s);
+  cons = λ at. by-front at s ∙ rw (le-ltb (length s) 4 (omega arith), q, r at, ← p, part-from e s);
 }
 
 pub front : (s : List ℕ) (t e : ℕ) → first.Element t e ≡ firstOf s → Front s t e
 unfolding firstOf
 front s t e = go (ltb (length s) 4) (ltb (length s) (4 + elementLength s)) refl refl
   where
+    none-after : (at i : ℕ) → length s ≤ i → elements at (drop i s) ≡ []
+    none-after at i h = ap (elements at) (drop-of-length-le s {i = i} h) ∙ elements-nil at
+
     go : (a b : Bool) → ltb (length s) 4 ≡ a → ltb (length s) (4 + elementLength s) ≡ b
         → first.Element t e ≡ pick a first.Done (pick b (first.Element (elementType s) (length s)) (first.Element (elementType s) (4 + elementLength s))) → Front s t e
     go true b p q h = let z : _≡_ {A = ℕ} 0 1 = cc in absurd (omega arith)
@@ -68,14 +70,14 @@ front s t e = go (ltb (length s) 4) (ltb (length s) (4 + elementLength s)) refl 
         let over : length s < 4 + elementLength s = ltb-true (length s) (4 + elementLength s) q in
         front-at s t e (omega arith) (omega arith) m
         (take-all (elementLength s) (drop 4 s) (rw length-drop (omega arith)) ∙ sym (take-all (e - 4) (drop 4 s) (rw length-drop (omega arith))))
-        (drop-of-length-le s {i = 4 + elementLength s} (omega arith) ∙ sym (drop-of-length-le s {i = e} (omega arith)))
+        (λ at. none-after (at + (4 + elementLength s)) (4 + elementLength s) (omega arith) ∙ sym (none-after (at + e) e (omega arith)))
     go false false p q h =
         let m : t ≡ elementType s = cc in
         let n : e ≡ 4 + elementLength s = cc in
         let low : 4 ≤ length s = ltb-false (length s) 4 p in
         let whole : 4 + elementLength s ≤ length s = ltb-false (length s) (4 + elementLength s) q in
         let k : elementLength s ≡ e - 4 = omega arith in
-        front-at s t e (omega arith) (omega arith) m (ap (λ (i : ℕ). take i (drop 4 s)) k) (ap (λ (i : ℕ). drop i s) (sym n))
+        front-at s t e (omega arith) (omega arith) m (ap (λ (i : ℕ). take i (drop 4 s)) k) (λ at. ap (λ (i : ℕ). elements (at + i) (drop i s)) (sym n))
 
 -- the octets after the element at the front
 abbrev pub behind : List ℕ → ℕ → List ℕ
@@ -101,12 +103,12 @@ pub count-none : (p : Element → Bool) → countBy p [] ≡ 0
 unfolding keep
 count-none p = refl
 
-module _ (kind t : ℕ) (v : List ℕ) where
-  pub type-same : t ≡ kind → hasType kind (el t v) ≡ true
+module _ (kind at t : ℕ) (v : List ℕ) where
+  type-same : t ≡ kind → hasType kind (el at t v) ≡ true
   unfolding hasType
   type-same h = eq-eqb t kind h
 
-  pub type-other : (t ≡ kind → ⊥) → hasType kind (el t v) ≡ false
+  type-other : (t ≡ kind → ⊥) → hasType kind (el at t v) ≡ false
   unfolding hasType
   type-other h = ne-eqb t kind h
 
@@ -125,14 +127,19 @@ module _ (s : List ℕ) (long : 4 ≤ length s) (t n : ℕ) (type : t ≡ number
   unfolding firstOf elementType elementLength numberAt
   first-whole h = rw (le-ltb (length s) 4 long, ← size, le-ltb (length s) (4 + n) h, type)
 
--- a turn of a loop over the elements
-module _ {s : List ℕ} {t e : ℕ} (f : Front s t e) (p : Element → Bool) where
-  pub counted : {a : ℕ} (n : ℕ) → a ≡ n + countBy p (elements s) → p (el t (take (e - 4) (drop 4 s))) ≡ true → a ≡ n + 1 + countBy p (elements (behind s e))
+-- a turn of a loop over the elements, wherever they stand
+module _ {s : List ℕ} {t e : ℕ} (f : Front s t e) (kind : ℕ) where
+  turn : countOf kind (elements 0 s) ≡ countOf kind (el 0 t (take (e - 4) (drop 4 s)) ∷ elements (0 + e) (behind s e))
+  turn = ap (countOf kind) (f .cons 0)
+
+  pub counted : {a : ℕ} (n : ℕ) → a ≡ n + countOf kind (elements 0 s) → t ≡ kind → a ≡ n + 1 + countOf kind (elements 0 (behind s e))
   counted {a} n h q =
-      let k : countBy p (elements s) ≡ countBy p (elements (behind s e)) + 1 = ap (countBy p) (f .cons) ∙ count-yes p _ _ q in
+      let k : countOf kind (elements 0 s) ≡ countOf kind (elements (0 + e) (behind s e)) + 1 = turn ∙ count-yes (hasType kind) _ _ (type-same kind 0 t _ q) in
+      let l = counts-alike kind (0 + e) 0 (behind s e) in
       omega arith
 
-  pub uncounted : {a : ℕ} (n : ℕ) → a ≡ n + countBy p (elements s) → p (el t (take (e - 4) (drop 4 s))) ≡ false → a ≡ n + countBy p (elements (behind s e))
+  pub uncounted : {a : ℕ} (n : ℕ) → a ≡ n + countOf kind (elements 0 s) → (t ≡ kind → ⊥) → a ≡ n + countOf kind (elements 0 (behind s e))
   uncounted {a} n h q =
-      let k : countBy p (elements s) ≡ countBy p (elements (behind s e)) = ap (countBy p) (f .cons) ∙ count-no p _ _ q in
+      let k : countOf kind (elements 0 s) ≡ countOf kind (elements (0 + e) (behind s e)) = turn ∙ count-no (hasType kind) _ _ (type-other kind 0 t _ q) in
+      let l = counts-alike kind (0 + e) 0 (behind s e) in
       omega arith

@@ -31,9 +31,9 @@ pub fn first_of(s: &[u8]) -> First
     First::Element(kind, end)
 }
 
-// How many elements of s have the type kind.
+// How many elements of s have the type kind; their places do not matter.
 pub fn count(s: &[u8], kind: u64) -> usize
-    ensures { λ r. ⌜ r ≡ length (keep (hasType kind) (elements (now (s .entry)))) ⌝ }
+    ensures { λ r. ⌜ r ≡ length (keep (hasType kind) (elements 0 (now (s .entry)))) ⌝ }
 {
     let mut rest = s;
     let mut n = 0;

@@ -10,14 +10,14 @@ use Rattle.rules.specs.Limits.{maxSessions}
 use Rattle.rules.specs.Layout.{viewSettings, viewSessions}
 use Rattle.rules.specs.Model.{Sessions}
 use Rattle.rules.specs.Message.{kindOf, headerSeid, establishment, deletion}
-use Rattle.rules.specs.Stages.{isLive, unknownSession}
+use Rattle.rules.specs.Stages.{Verdict, isLive, unknownSession}
 use Rattle.rules.specs.Causes as why
 use Rattle.areas.specs.Counted.{placeIn}
 use Rattle.session.specs.Areas.{sessionArea}
 use Rattle.slots.specs.declared.Place.{Place}
 use Rattle.slots.specs.declared.Place.the-variants.{Found, Absent}
 use Rattle.reply.specs.declared.Offending.the-variants.{Nothing}
-use Rattle.engine.specs.Answers.{Asked, Live, Refusing}
+use Rattle.engine.specs.Answers.{Asked, Live, Answers, Replies, Refusing}
 use Rattle.engine.specs.Steps.{Changing}
 use Rattle.engine.proofs.VerdictSteps.{no-session}
 use Rattle.engine.proofs.Entering.{live-found, live-absent, other-than}
@@ -46,11 +46,23 @@ module _ {t msg out : List ℕ} {kind : ℕ} (a : Asked t msg out) (is : kind �
     absent-refuses p e =
         record {
           asked = a;
+          place = 0;
           verdict =
               no-session maxSessions (viewSettings t) (viewSessions t) msg
               (unknown-is (viewSessions t) msg false (λ z. o (is ∙ z)) (live-absent t (a .table) (headerSeid msg) p r at-header e));
           small = omega arith;
           other = λ z. omega arith;
+        }
+
+    -- the cause of stage 1 has no place
+    pub absent-replies : (p : ℕ) → r ≡ Absent p → {used : ℕ} {out′ : List ℕ} → Answers t msg out used out′ t → Replies t msg out used 0 out′ t
+    absent-replies p e x =
+        record {
+          answers = x;
+          placed =
+              sym (ap (λ (v : Verdict). v .place)
+              (no-session maxSessions (viewSettings t) (viewSessions t) msg
+              (unknown-is (viewSessions t) msg false (λ z. o (is ∙ z)) (live-absent t (a .table) (headerSeid msg) p r at-header e))));
         }
 
     module _ {p : ℕ} (e : r ≡ Found p) where

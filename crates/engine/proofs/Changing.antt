@@ -1,6 +1,7 @@
 -- An establishment or a modification from its reading on.
 -- Assumes nothing.
 use mathlib.Core.Path.{_≡_, refl, sym, ap, _∙_, subst}
+use mathlib.Core.Bool.{Bool}
 use mathlib.Core.Option.{Option, none, some}
 use mathlib.Core.List.{List}
 use Prim.Native.Nat.{ℕ, _*_, _≤_, _<_, _^_}
@@ -9,19 +10,20 @@ use lib.ListN.{length}
 use Rattle.rules.specs.Limits.{maxSessions}
 use Rattle.rules.specs.Layout.{viewSettings, viewSessions, sessionWidth}
 use Rattle.rules.specs.Elements.{causeOf}
-use Rattle.rules.specs.Message.{frameFault}
+use Rattle.rules.specs.Message.{Spot, frameFault, kindOf}
+use Rattle.rules.specs.Stages.{Verdict, entrySession, judged}
 use Rattle.rules.specs.Reading as rules
 use Rattle.rules.specs.Reading.{Request, faulty, done, read, faultIn, readFault, askedIn, readRequest}
 use Rattle.plan.specs.Rows.{rowWidth, rowsOf, requestIn}
+use Rattle.stages.proofs.VerdictLaws.{judge-plain}
 use Rattle.request.specs.Requests.{refused, whole, resultOf, fromFraming, readingOf, meant, rowsLeft, Read}
 use Rattle.request.specs.declared.Plan.{Plan}
 use Rattle.request.specs.declared.Reading.{Reading}
 use Rattle.request.specs.declared.Reading.the-variants as reading
-use Rattle.reply.specs.declared.Offending.the-variants.{Element}
-use Rattle.engine.specs.Answers.{OnlyNull, Refusing}
+use Rattle.engine.specs.Answers.{OnlyNull, verdictOn, Answers, Replies}
 use Rattle.engine.specs.Steps.{Changing, Readable}
 use Rattle.engine.proofs.Entering.{Entering}
-use Rattle.engine.proofs.Faults.{not-framed-refuses, not-read-refuses}
+use Rattle.engine.proofs.Faults.{Faulted, not-framed-refuses, not-read-refuses}
 use Rattle.engine.proofs.VerdictSteps.{read-through}
 
 -- a request that was read whole has no fault
@@ -37,25 +39,31 @@ faultless msg r = by-frame (frameFault msg) refl
     by-read (done q) h = cc
     by-read (faulty x) h = let z : _≡_ {A = ℕ} 0 1 = cc in absurd (omega arith)
 
-    by-frame : (f : Option ℕ) → frameFault msg ≡ f → whole r ≡ fromFraming msg f → Faultless msg r
+    by-frame : (f : Option Spot) → frameFault msg ≡ f → whole r ≡ fromFraming msg f → Faultless msg r
     by-frame none e h = record { framed = e; fine = by-read (read msg) h }
     by-frame (some u) e h = let z : _≡_ {A = ℕ} 0 1 = cc in absurd (omega arith)
 
-module _ {t msg out : List ℕ} {kind p : ℕ} (ch : Changing t msg out kind p) where
+module _ {t msg out : List ℕ} {kind at : ℕ} (ch : Changing t msg out kind at) where
   module _ {r : Reading} {plan : List ℕ} (given : Read msg r plan) where
-    pub fault-refuses : (c k : ℕ) → r ≡ reading.Fault c k → Refusing t msg out c (Element k)
+    pub fault-refuses : (c k p : ℕ) → r ≡ reading.Fault c k p → Faulted t msg out c k p
     unfolding readingOf fromFraming
-    fault-refuses c k q = by-frame (frameFault msg) refl (sym (ap (λ (x : Reading). meant x plan) q) ∙ given .result)
+    fault-refuses c k p q = by-frame (frameFault msg) refl (sym (ap (λ (x : Reading). meant x plan) q) ∙ given .result)
       where
-        by-read : (g : rules.Reading Request) → read msg ≡ g → frameFault msg ≡ none → refused c k ≡ resultOf g → Refusing t msg out c (Element k)
+        by-read : (g : rules.Reading Request) → read msg ≡ g → frameFault msg ≡ none → refused c k p ≡ resultOf g → Faulted t msg out c k p
         by-read (done y) e f h = let z : _≡_ {A = ℕ} 0 1 = cc in absurd (omega arith)
         by-read (faulty x) e f h =
-            let ec : causeOf (x .cause) ≡ c = cc in let ek : x .type ≡ k = cc in not-read-refuses t msg out (ch .asked) (ch .live) f x e c k ec ek
+            let ec : causeOf (x .cause) ≡ c = cc in
+            let ek : x .type ≡ k = cc in
+            let ep : x .place ≡ p = cc in
+            not-read-refuses t msg out (ch .asked) (ch .live) f x e c k p ec ek ep
 
-        by-frame : (f : Option ℕ) → frameFault msg ≡ f → refused c k ≡ fromFraming msg f → Refusing t msg out c (Element k)
+        by-frame : (f : Option Spot) → frameFault msg ≡ f → refused c k p ≡ fromFraming msg f → Faulted t msg out c k p
         by-frame none e h = by-read (read msg) refl e h
         by-frame (some u) e h =
-            let ec : c ≡ 68 = cc in let ek : k ≡ u = cc in rw (ec, ek) (not-framed-refuses t msg out (ch .asked) (ch .live) u e)
+            let ec : c ≡ 68 = cc in
+            let ek : k ≡ u .type = cc in
+            let ep : p ≡ u .place = cc in
+            rw (ec, ek, ep) (not-framed-refuses t msg out (ch .asked) (ch .live) u e)
 
     module _ {w : Plan} (q : r ≡ reading.Whole w) where
       is-whole : whole (requestIn (w .seid) (w .restoring) (w .noted) (rowsOf (w .rows) plan)) ≡ readingOf msg
@@ -87,7 +95,16 @@ module _ {t msg out : List ℕ} {kind p : ℕ} (ch : Changing t msg out kind p) 
             onlyNull = subst (λ (x : Reading). OnlyNull (rowsOf (rowsLeft x) plan)) q (given .onlyNull);
           }
 
-      pub enter-asks : (slot : List ℕ) → w .seid < 2 ^ 64 → length slot ≡ sessionWidth → Entering t msg slot kind (w .seid) p
+      pub enter-asks : (slot : List ℕ) → w .seid < 2 ^ 64 → length slot ≡ sessionWidth → Entering t msg slot kind (w .seid) at
       unfolding requestIn
       enter-asks slot f l =
           record { table = ch .asked .table; tableLong = ch .asked .tableLong; kindIs = ch .kindIs; new = λ e. sym (ap (λ (x : Request). x .seid) is-read); fits = f; found = ch .found; long = l }
+
+-- stages 4 to 6 have no place
+pub replies-judged : {t msg out plan : List ℕ} {kind seid n used : ℕ} {restoring noted : Bool} {out′ t′ : List ℕ} → Readable t msg out plan kind seid n restoring noted → Answers t msg out used out′ t′ → Replies t msg out used 0 out′ t′
+unfolding judged
+replies-judged {t} {msg} r a =
+    record {
+      answers = a;
+      placed = sym (ap (λ (v : Verdict). v .place) (r .verdict ∙ judge-plain maxSessions (kindOf msg) (viewSettings t) (viewSessions t) (entrySession (viewSessions t) msg) (readRequest msg)));
+    }

@@ -32,7 +32,7 @@ use Rattle.reading.specs.Verdicts.{numbered, outcome}
 use Rattle.reading.specs.declared.Verdict as read
 use Rattle.reading.specs.declared.Verdict.the-variants.{Fine}
 use Rattle.engine.proofs.Faults.{framed, read-fine}
-use Rattle.engine.specs.Answers.{Asked, Live, verdictOn, Answers}
+use Rattle.engine.specs.Answers.{Asked, Live, verdictOn, Answers, Replies}
 use Rattle.engine.proofs.VerdictSteps.{read-through}
 use Rattle.engine.proofs.Deleting.{deletion-empty, no-grants, accepted-empty}
 use Rattle.engine.proofs.NewTable.{deleted-table}
@@ -79,6 +79,8 @@ module _ (t msg out : List ℕ) (a : Asked t msg out) (live : Live t msg) (fr : 
 -- from what the code's readers answer
 pub deleted-through : (t msg out : List ℕ) (f : Framing) (v : read.Verdict) (seid used : ℕ) (out′ t′ : List ℕ) → Asked t msg out → Live t msg → kindOf msg ≡ deletion → seid ≡ headerSeid msg
     → faultIn f ≡ frameFault msg → f ≡ framings.Framed → outcome v (readRequest msg) ≡ numbered (reading.read msg) → v ≡ Fine
-    → (used, out′) ≡ written (reply (viewSettings t) msg 0 (plain why.accepted) []) out → t′ ≡ withoutRecord sessionArea seid t → Answers t msg out used out′ t′
+    → (used, out′) ≡ written (reply (viewSettings t) msg 0 (plain why.accepted) []) out → t′ ≡ withoutRecord sessionArea seid t → Replies t msg out used 0 out′ t′
 deleted-through t msg out f v seid used out′ t′ a live del es fe fq ve vq w d =
-    deleted-answers t msg out a live (framed t msg out a live f fe fq) (read-fine t msg out a live v ve vq) del seid used out′ t′ es w d
+    let fr = framed t msg out a live f fe fq in
+    let rd = read-fine t msg out a live v ve vq in
+    record { answers = deleted-answers t msg out a live fr rd del seid used out′ t′ es w d; placed = sym (ap (λ (x : Verdict). x .place) (accepts t msg out a live fr rd del)) }

@@ -14,7 +14,7 @@ use Rattle.octets.proofs.Tests.{pick-either}
 use Rattle.rules.specs.Limits.{maxPdrs, maxEndpoints}
 use Rattle.rules.specs.Model.{Settings, Session, Sessions, freeCount}
 use Rattle.rules.specs.Elements.{incorrect, Fqcsid, readFqcsid, nodeOf}
-use Rattle.rules.specs.Message.{Element, kindOf, body, elements, actedOn, establishment, deletion}
+use Rattle.rules.specs.Message.{Element, kindOf, body, bodyPlace, elements, actedOn, establishment, deletion}
 use Rattle.rules.specs.Reading.{Request, Reading, faulty, done, refusal, andThen, named, Draft, emptyDraft, csidCountAllowed, withCsid, csidRead, actedRead, elementRead, elementsRead, requestOf, finished, aloneIn, topRead, read, askedIn, readRequest}
 use Rattle.laws.proofs.ReadLaws.{OnDone, then-done}
 use Rattle.rules.specs.Grants.{choices, needFrom, need, grantFrom, grants}
@@ -35,14 +35,14 @@ pub record Empty (r : Request) : Type 0 where
 abbrev NoItems : Draft → Type 0
 NoItems d = d .items ≡ []
 
-csid-unused : (alone : Bool) (v : List ℕ) (d : Draft) → NoItems d → OnDone NoItems (csidRead deletion alone v d)
+csid-unused : (alone : Bool) (p : ℕ) (v : List ℕ) (d : Draft) → NoItems d → OnDone NoItems (csidRead deletion alone p v d)
 unfolding csidRead withCsid readFqcsid
-csid-unused alone [] d h = tt
-csid-unused alone (x ∷ xs) d h = one (named 65 (readFqcsid (x ∷ xs)))
+csid-unused alone p [] d h = tt
+csid-unused alone p (x ∷ xs) d h = one (named 65 p (readFqcsid (x ∷ xs)))
   where
-    one : (r : Reading Fqcsid) → OnDone NoItems (andThen r (λ c. pick (csidCountAllowed deletion c && not (member (nodeOf c) (d .nodes))) (done (withCsid deletion c d)) (refusal incorrect 65)))
+    one : (r : Reading Fqcsid) → OnDone NoItems (andThen r (λ c. pick (csidCountAllowed deletion c && not (member (nodeOf c) (d .nodes))) (done (withCsid deletion c d)) (refusal incorrect 65 p)))
     one (faulty f) = tt
-    one (done c) = pick-either (OnDone NoItems) (csidCountAllowed deletion c && not (member (nodeOf c) (d .nodes))) (done (withCsid deletion c d)) (refusal incorrect 65) h tt
+    one (done c) = pick-either (OnDone NoItems) (csidCountAllowed deletion c && not (member (nodeOf c) (d .nodes))) (done (withCsid deletion c d)) (refusal incorrect 65 p) h tt
 
 unused : (alone : Bool) (es : List Element) (d : Draft) → NoItems d → OnDone NoItems (elementsRead deletion alone es d)
 unfolding elementsRead elementRead actedOn member actedRead
@@ -50,8 +50,8 @@ unused alone [] d h = h
 unused alone (e ∷ es) d h =
     then-done NoItems NoItems (elementRead deletion alone e d) (elementsRead deletion alone es) (one (eqb (e .type) 65) refl) (λ d′ h′. unused alone es d′ h′)
   where
-    one : (b : Bool) → eqb (e .type) 65 ≡ b → OnDone NoItems (pick (b || false) (actedRead deletion alone (e .type) (e .content) d) (done d))
-    one true q = rw (eqb-true (e .type) 65 q) (csid-unused alone (e .content) d h)
+    one : (b : Bool) → eqb (e .type) 65 ≡ b → OnDone NoItems (pick (b || false) (actedRead deletion alone (e .type) (e .place) (e .content) d) (done d))
+    one true q = rw (eqb-true (e .type) 65 q) (csid-unused alone (e .place) (e .content) d h)
     one false q = h
 
 empty-of : (d : Draft) → NoItems d → Empty (requestOf 0 d)
@@ -66,7 +66,7 @@ asked-empty (done d) h = empty-of d h
 
 pub deletion-empty : (msg : List ℕ) → kindOf msg ≡ deletion → Empty (readRequest msg)
 unfolding readRequest read topRead
-deletion-empty msg e = let es = elements (body msg) in rw e (asked-empty (elementsRead deletion (aloneIn es) es emptyDraft) (unused (aloneIn es) es emptyDraft refl))
+deletion-empty msg e = let es = elements bodyPlace (body msg) in rw e (asked-empty (elementsRead deletion (aloneIn es) es emptyDraft) (unused (aloneIn es) es emptyDraft refl))
 
 -- with no records no rule is broken and nothing is short
 module _ (s : Settings) (m : Sessions) (x : Session) (r : Request) (e : Empty r) where

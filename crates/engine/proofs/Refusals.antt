@@ -1,4 +1,4 @@
--- A refusal: its reply does not depend on grants or on the F-SEID, and the table stays.
+-- A refusal: its reply does not depend on grants, on the F-SEID or on the place of the fault, and the table stays.
 -- Assumes nothing.
 use mathlib.Core.Path.{_≡_, sym, ap, _∙_}
 use mathlib.Core.List.{List, []}
@@ -10,19 +10,19 @@ use Rattle.rules.specs.Layout.{viewSettings, viewSessions}
 use Rattle.rules.specs.Reading.{readRequest}
 use Rattle.rules.specs.Grants.{grants}
 use Rattle.rules.specs.Stages.{Verdict}
-use Rattle.rules.specs.Reply.{reply}
+use Rattle.rules.specs.Reply.{replyBody, reply}
 use Rattle.rules.specs.Serve.{replyTo}
 use Rattle.writing.specs.Placed.{written}
 use Rattle.reply.specs.declared.Offending.{Offending}
 use Rattle.reply.specs.Naming.{refusal}
 use Rattle.reply.proofs.CallerLaws.{refusal-alone}
-use Rattle.engine.specs.Answers.{verdictOn, Answers, Refusing}
+use Rattle.engine.specs.Answers.{verdictOn, placedAt, Answers, Refusing}
 
 module _ (t msg out : List ℕ) where
   -- the reply of a refusal, whatever was read
-  alone : (c : ℕ) (o : Offending) → (c ≡ 1 → ⊥) → verdictOn t msg ≡ refusal c o → reply (viewSettings t) msg 0 (refusal c o) [] ≡ replyTo (viewSettings t) (viewSessions t) msg (verdictOn t msg)
-  unfolding replyTo
-  alone c o h e =
+  alone : (c : ℕ) (o : Offending) (p : ℕ) → (c ≡ 1 → ⊥) → verdictOn t msg ≡ placedAt p (refusal c o) → reply (viewSettings t) msg 0 (refusal c o) [] ≡ replyTo (viewSettings t) (viewSessions t) msg (verdictOn t msg)
+  unfolding replyTo reply replyBody
+  alone c o p h e =
       refusal-alone (viewSettings t) msg 0 (readRequest msg .seid) (refusal c o) [] (grants (viewSettings t) (viewSessions t) (readRequest msg)) h
       ∙ ap (λ (v : Verdict). reply (viewSettings t) msg (readRequest msg .seid) v (grants (viewSettings t) (viewSessions t) (readRequest msg))) (sym e)
 
@@ -30,7 +30,7 @@ module _ (t msg out : List ℕ) where
   refused-answers c o used out′ k w =
       let e = k .verdict in
       let h = k .other in
-      let same = alone c o h e in
+      let same = alone c o (k .place) h e in
       record {
         long = ap (λ (p : ℕ × List ℕ). p .0) w ∙ ap length same;
         space = ap (λ (p : ℕ × List ℕ). p .1) w ∙ ap (λ (l : List ℕ). put 0 l out) same;

@@ -28,7 +28,7 @@ use Rattle.marking.specs.declared.Marks.{Marks}
 use Rattle.marking.specs.declared.Marks.the-variants.{Clash, New}
 use Rattle.table.specs.Answers.{Examined}
 use Rattle.table.proofs.Examining.{sound-no, sound-yes}
-use Rattle.engine.specs.Answers.{Asked, Answers, verdictOn}
+use Rattle.engine.specs.Answers.{Asked, Replies, verdictOn}
 use Rattle.engine.specs.Steps.{Counted, Serves}
 
 -- the header of a request is allowed
@@ -53,15 +53,15 @@ small-kind k = go (eqb k establishment) (eqb k modification) (eqb k deletion) re
 
 -- an outcome without a reply
 module _ (t msg out : List ℕ) where
-  without-reply : {o u : ℕ} (n : ℕ) → eqb n 0 ≡ false → serve maxSessions t msg out ≡ unserved n out t → (o ≡ n) × (u ≡ 0) → Serves t msg out o u out t
-  without-reply {o} {u} n z e a =
+  without-reply : {o u p : ℕ} (n : ℕ) → eqb n 0 ≡ false → serve maxSessions t msg out ≡ unserved n out t → (o ≡ n) × (u ≡ 0) × (p ≡ 0) → Serves t msg out o u p out t
+  without-reply {o} {u} {p} n z e a =
       record {
-        served = ap (λ (k : ℕ). unserved k out t) (a .0) ∙ sym e;
+        served = (λ i. record { outcome = a .0 i; place = a .2 i; space = out; table = t }) ∙ sym e;
         long = a .1 ∙ sym (ap (λ (b : Bool). pick b (length (replyTo (viewSettings t) (viewSessions t) msg (verdictOn t msg))) 0) (ap (λ (k : ℕ). eqb k 0) (a .0) ∙ z));
       }
 
   module _ {r : Marks} {w : List ℕ} (x : Examined t r w) where
-    pub serves-broken : {o u : ℕ} → r ≡ Clash → (o ≡ 1) × (u ≡ 0) → Serves t msg out o u out t
+    pub serves-broken : {o u p : ℕ} → r ≡ Clash → (o ≡ 1) × (u ≡ 0) × (p ≡ 0) → Serves t msg out o u p out t
     unfolding serve
     serves-broken e a = without-reply 1 refl (rw (sym (sound-no t r w x e))) a
 
@@ -80,13 +80,13 @@ module _ (t msg out : List ℕ) where
           go true z = cc
           go false z = absurd (let u : _≡_ {A = ℕ} 0 1 = cc in omega arith)
 
-      pub serves-small : {o u : ℕ} → length out < 1024 → (o ≡ 2) × (u ≡ 0) → Serves t msg out o u out t
+      pub serves-small : {o u p : ℕ} → length out < 1024 → (o ≡ 2) × (u ≡ 0) × (p ≡ 0) → Serves t msg out o u p out t
       unfolding serveSound
       serves-small l a = without-reply 2 refl (after-sound ∙ rw (lt-ltb (length out) minSpace l)) a
 
       module _ (room : 1024 ≤ length out) {h : Header} (is : opened h ≡ headerOf msg) where
         -- outcomes 3, 4 and 5
-        pub serves-outcome : {o u : ℕ} (g : Header) (n : ℕ) → eqb n 0 ≡ false → opened g ≡ outcome n → h ≡ g → (o ≡ n) × (u ≡ 0) → Serves t msg out o u out t
+        pub serves-outcome : {o u p : ℕ} (g : Header) (n : ℕ) → eqb n 0 ≡ false → opened g ≡ outcome n → h ≡ g → (o ≡ n) × (u ≡ 0) × (p ≡ 0) → Serves t msg out o u p out t
         serves-outcome g n z q d a =
             without-reply n z (after-sound ∙ header-outcome msg maxSessions (viewSettings t) (viewSessions t) t out room n (sym q ∙ sym (ap opened d) ∙ is)) a
 
@@ -116,11 +116,12 @@ module _ (t msg out : List ℕ) where
           pub seid-is : seid ≡ headerSeid msg
           seid-is = request-is msg kind seid is-request .1
 
-          pub serves-answer : {used : ℕ} {out′ t′ : List ℕ} → Answers t msg out used out′ t′ → Serves t msg out 0 used out′ t′
+          pub serves-answer : {used place : ℕ} {out′ t′ : List ℕ} → Replies t msg out used place out′ t′ → Serves t msg out 0 used place out′ t′
           unfolding answer answered
-          serves-answer a =
+          serves-answer r =
+              let a = r .answers in
               record {
-                served = (λ i. record { outcome = 0; space = a .space i; table = a .table i }) ∙ sym (after-sound ∙ header-request msg maxSessions (viewSettings t) (viewSessions t) t out room kind seid is-request);
+                served = (λ i. record { outcome = 0; place = r .placed i; space = a .space i; table = a .table i }) ∙ sym (after-sound ∙ header-request msg maxSessions (viewSettings t) (viewSessions t) t out room kind seid is-request);
                 long = a .long;
               }
 

@@ -81,6 +81,7 @@ module _ {t msg out plan words slot gone : List ℕ} {kind seid n free : ℕ} {r
   settle-refuses c q o =
       record {
         asked = r .asked;
+        place = 0;
         verdict = same-verdict c q;
         small = subst (λ (z : ℕ). z < 256) (sym q) (judge-small maxSessions kind (viewSettings t) (viewSessions t) (viewSession slot) (requestIn seid restoring noted (rowsOf n plan)));
         other = o;

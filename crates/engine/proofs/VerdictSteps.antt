@@ -7,7 +7,7 @@ use mathlib.Core.List.{List}
 use Prim.Native.Nat.{ℕ}
 use Rattle.rules.specs.Model.{Settings, Sessions}
 use Rattle.rules.specs.Elements.{causeOf}
-use Rattle.rules.specs.Message.{frameFault}
+use Rattle.rules.specs.Message.{Spot, frameFault}
 use Rattle.rules.specs.Reading.{Fault, readFault}
 use Rattle.rules.specs.Stages.{plain, judged, fromReading, fromFraming, unknownSession, verdict}
 use Rattle.rules.specs.Causes as why
@@ -20,13 +20,13 @@ module _ (limit : ℕ) (s : Settings) (m : Sessions) (msg : List ℕ) where
 
   module _ (known : unknownSession m msg ≡ false) where
     -- stage 2
-    pub not-framed : (t : ℕ) → frameFault msg ≡ some t → verdict limit s m msg ≡ record { cause = why.wrongLength; offending = some t }
+    pub not-framed : (f : Spot) → frameFault msg ≡ some f → verdict limit s m msg ≡ record { cause = why.wrongLength; offending = some (f .type); place = f .place }
     unfolding verdict fromFraming
-    not-framed t e = rw (known, e)
+    not-framed f e = rw (known, e)
 
     module _ (framed : frameFault msg ≡ none) where
       -- stage 3
-      pub not-read : (f : Fault) → readFault msg ≡ some f → verdict limit s m msg ≡ record { cause = causeOf (f .cause); offending = some (f .type) }
+      pub not-read : (f : Fault) → readFault msg ≡ some f → verdict limit s m msg ≡ record { cause = causeOf (f .cause); offending = some (f .type); place = f .place }
       unfolding verdict fromFraming fromReading
       not-read f e = rw (known, framed, e)
 

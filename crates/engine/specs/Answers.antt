@@ -48,10 +48,20 @@ pub record Answers (t msg out : List ℕ) (used : ℕ) (out′ t′ : List ℕ) 
   pub space : out′ ≡ put 0 (replyTo (viewSettings t) (viewSessions t) msg (verdictOn t msg)) out
   pub table : t′ ≡ pick (eqb (verdictOn t msg .cause) why.accepted) (encode maxSessions (viewSettings t) (sessionsAfter (viewSettings t) (viewSessions t) msg)) t
 
--- the verdict is a refusal, by its cause and the element that it names
+-- and the place told beside it is the verdict's
+pub record Replies (t msg out : List ℕ) (used place : ℕ) (out′ t′ : List ℕ) : Type 0 where
+  pub answers : Answers t msg out used out′ t′
+  pub placed : place ≡ verdictOn t msg .place
+
+-- a verdict with another place
+abbrev pub placedAt : ℕ → Verdict → Verdict
+placedAt p v = record { cause = v .cause; offending = v .offending; place = p }
+
+-- the verdict is a refusal, by its cause and the element that it names, at any place
 pub record Refusing (t msg out : List ℕ) (c : ℕ) (o : Offending) : Type 0 where
   pub asked : Asked t msg out
-  pub verdict : verdictOn t msg ≡ refusal c o
+  pub place : ℕ
+  pub verdict : verdictOn t msg ≡ placedAt place (refusal c o)
   pub small : c < 256
   pub other : c ≡ 1 → ⊥
 

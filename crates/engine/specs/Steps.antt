@@ -69,7 +69,7 @@ pub record Changing (t msg out : List ℕ) (kind p : ℕ) : Type 0 where
   pub other : eqb (kindOf msg) deletion ≡ false
   pub found : (kind ≡ establishment → ⊥) → placeIn sessionArea (headerSeid msg) t ≡ Found p
 
--- the whole call: outcome, reply space and table are the rules', and `used` is the length of the reply, 0 where there is none
-pub record Serves (t msg out : List ℕ) (outcome used : ℕ) (out′ t′ : List ℕ) : Type 0 where
-  pub served : record { outcome = outcome; space = out′; table = t′ } ≡ serve maxSessions t msg out
+-- the whole call: outcome, place of a fault, reply space and table are the rules', and `used` is the length of the reply, 0 where there is none
+pub record Serves (t msg out : List ℕ) (outcome used place : ℕ) (out′ t′ : List ℕ) : Type 0 where
+  pub served : record { outcome = outcome; place = place; space = out′; table = t′ } ≡ serve maxSessions t msg out
   pub long : used ≡ pick (eqb outcome 0) (length (replyTo (viewSettings t) (viewSessions t) msg (verdictOn t msg))) 0

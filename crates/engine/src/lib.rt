@@ -8,7 +8,7 @@ ghost use Rattle.plan.specs.Rows.{rowWidth, rowsOf};
 ghost use Rattle.areas.specs.Counted.{withRecord};
 ghost use Rattle.session.specs.Areas.{sessionArea};
 ghost use Rattle.session.specs.Build.{built};
-ghost use Rattle.engine.specs.Answers.{Asked, Live, Answers, Refusing, Accepting};
+ghost use Rattle.engine.specs.Answers.{Asked, Live, Answers, Replies, Refusing, Accepting};
 ghost use Rattle.engine.specs.Steps.{Counted, Fetching, Fetched, Entered, Readable, Changing, Serves};
 ghost use lib.Dec.{T};
 ghost use Rattle.rules.specs.Limits.{maxSessions};
@@ -26,6 +26,12 @@ use request::Plan;
 use request::Reading;
 use slots::Place;
 
+// A reply: how many octets of the reply space hold it, and the place in the message of a fault of stages 2 and 3, else 0.
+pub struct Replied {
+    pub used: usize,
+    pub place: usize,
+}
+
 // The reply of a refusal; the table stays.
 fn refuse(t: &[u8], msg: &[u8], cause: u64, offending: Offending, out: &mut [u8]) -> usize
     requires { ⌜ Refusing (now t) (now msg) (now out) cause offending ⌝ }
@@ -35,23 +41,34 @@ fn refuse(t: &[u8], msg: &[u8], cause: u64, offending: Offending, out: &mut [u8]
 }
 
 // A deletion of a live session.
-fn delete(t: &mut [u8], msg: &[u8], seid: u64, out: &mut [u8]) -> usize
+fn delete(t: &mut [u8], msg: &[u8], seid: u64, out: &mut [u8]) -> Replied
     requires { ⌜ Asked (now t) (now msg) (now out) × Live (now t) (now msg) × (kindOf (now msg) ≡ deletion) × (seid ≡ headerSeid (now msg)) ⌝ }
-    ensures { λ r. ⌜ Answers (now (t .entry)) (now (msg .entry)) (now (out .entry)) r (now (out .exit)) (now (t .exit)) ⌝ }
+    ensures { λ r. ⌜ Replies (now (t .entry)) (now (msg .entry)) (now (out .entry)) (r .used) (r .place) (now (out .exit)) (now (t .exit)) ⌝ }
 {
     let framing = frame::frame_fault(msg);
-    if let Framing::Fault(kind) = framing {
-        return refuse(t, msg, causes::WRONG_LENGTH, Offending::Element(kind), out);
+    if let Framing::Fault(kind, place) = framing {
+        let used = refuse(t, msg, causes::WRONG_LENGTH, Offending::Element(kind), out);
+        return Replied {
+            used: used,
+            place: place,
+        };
     }
     let verdict = request::read_deletion(msg);
-    if let Verdict::Refused(cause, kind) = verdict {
-        return refuse(t, msg, cause, Offending::Element(kind), out);
+    if let Verdict::Refused(cause, kind, place) = verdict {
+        let used = refuse(t, msg, cause, Offending::Element(kind), out);
+        return Replied {
+            used: used,
+            place: place,
+        };
     }
     let plan = [0u64; 1];
     let places = [0usize; 1];
     let used = reply::accepted(t, msg, 0, &plan[0..0], &places[0..0], out);
     store::remove(t, seid);
-    used
+    Replied {
+        used: used,
+        place: 0,
+    }
 }
 
 // The session of an accepted request: built in its slot, and the slot stored.
@@ -172,20 +189,24 @@ fn change(
     kind: u64,
     p: usize,
     out: &mut [u8],
-) -> usize
+) -> Replied
     requires { ⌜ Changing (now t) (now msg) (now out) kind p × Counted (now t) (taken .words) free ⌝ }
-    ensures { λ r. ⌜ Answers (now (t .entry)) (now (msg .entry)) (now (out .entry)) r (now (out .exit)) (now (t .exit)) ⌝ }
+    ensures { λ r. ⌜ Replies (now (t .entry)) (now (msg .entry)) (now (out .entry)) (r .used) (r .place) (now (out .exit)) (now (t .exit)) ⌝ }
 {
     let mut plan = [0u64; format::PLAN];
     let reading = request::read_request(msg, &mut plan);
     match reading {
-        Reading::Fault(cause, element) => {
-            return refuse(t, msg, cause, Offending::Element(element), out);
+        Reading::Fault(cause, element, place) => {
+            let used = refuse(t, msg, cause, Offending::Element(element), out);
+            return Replied {
+                used: used,
+                place: place,
+            };
         }
         Reading::Whole(read) => {
             let mut slot = [0u8; format::SLOT];
             let live = enter(t, kind, read.seid, p, &mut slot);
-            return settle(
+            let used = settle(
                 t,
                 taken,
                 free,
@@ -197,6 +218,10 @@ fn change(
                 read,
                 out,
             );
+            return Replied {
+                used: used,
+                place: 0,
+            };
         }
     }
 }
@@ -210,16 +235,22 @@ fn answer(
     kind: u64,
     seid: u64,
     out: &mut [u8],
-) -> usize
+) -> Replied
     requires { ⌜ Asked (now t) (now msg) (now out) × Counted (now t) (taken .words) free × (kind ≡ kindOf (now msg)) × (seid ≡ headerSeid (now msg)) ⌝ }
-    ensures { λ r. ⌜ Answers (now (t .entry)) (now (msg .entry)) (now (out .entry)) r (now (out .exit)) (now (t .exit)) ⌝ }
+    ensures { λ r. ⌜ Replies (now (t .entry)) (now (msg .entry)) (now (out .entry)) (r .used) (r .place) (now (out .exit)) (now (t .exit)) ⌝ }
 {
     if kind == kinds::ESTABLISHMENT {
         return change(t, taken, free, msg, kind, 0, out);
     }
     let place = store::find(t, seid);
     match place {
-        Place::Absent(p) => return refuse(t, msg, causes::NO_SESSION, Offending::Nothing, out),
+        Place::Absent(p) => {
+            let used = refuse(t, msg, causes::NO_SESSION, Offending::Nothing, out);
+            return Replied {
+                used: used,
+                place: 0,
+            };
+        }
         Place::Found(p) => {
             if kind == kinds::DELETION {
                 return delete(t, msg, seid, out);
@@ -229,25 +260,28 @@ fn answer(
     }
 }
 
-// What the host gets: 01's outcome, and how many octets of the reply space hold the reply.
+// What the host gets: 01's outcome, how many octets of the reply space hold the reply, and the place in the message of a fault of stages 2
+// and 3, else 0.
 pub struct Served {
     pub outcome: u32,
     pub used: usize,
+    pub place: usize,
 }
 
 // An outcome without a reply.
 fn unserved(outcome: u32) -> Served
-    ensures { λ r. ⌜ (r .outcome ≡ outcome) × (r .used ≡ 0) ⌝ }
+    ensures { λ r. ⌜ (r .outcome ≡ outcome) × (r .used ≡ 0) × (r .place ≡ 0) ⌝ }
 {
     Served {
         outcome: outcome,
         used: 0,
+        place: 0,
     }
 }
 
 // One request on any octets: the table, the message and the reply space.
 pub fn serve(t: &mut [u8], msg: &[u8], out: &mut [u8]) -> Served
-    ensures { λ r. ⌜ Serves (now (t .entry)) (now (msg .entry)) (now (out .entry)) (r .outcome) (r .used) (now (out .exit)) (now (t .exit)) ⌝ }
+    ensures { λ r. ⌜ Serves (now (t .entry)) (now (msg .entry)) (now (out .entry)) (r .outcome) (r .used) (r .place) (now (out .exit)) (now (t .exit)) ⌝ }
 {
     let mut words = [0u64; pool::WORDS];
     let seen = table::examine(t, &mut words);
@@ -264,10 +298,11 @@ pub fn serve(t: &mut [u8], msg: &[u8], out: &mut [u8]) -> Served
         Header::NotServed => return unserved(5),
         Header::Request(kind, seid) => {
             let free = octets::read(t, format::SIZE, 4) as usize - held;
-            let used = answer(t, Taken { words: words }, free, msg, kind, seid, out);
+            let replied = answer(t, Taken { words: words }, free, msg, kind, seid, out);
             return Served {
                 outcome: 0,
-                used: used,
+                used: replied.used,
+                place: replied.place,
             };
         }
     }

@@ -1,7 +1,7 @@
 // Runs 01's worked examples and the errors seen. Reads parts from standard input, each after its length in two octets. A part of 12 octets
 // (too short for a message) makes an empty table: the unit's IPv4 address, the first TEID and the pool size. Any other is a request on the
 // table as it then stands. Writes a line for each: `table` or `outcome` and the call's outcome, the free count after it (`broken` where
-// there is none), and the reply's octets where there is one. The lines in `stdout` are the second implementation's.
+// there is none), and the place of a fault and the reply's octets where there is a reply. The lines in `stdout` are the second implementation's.
 ghost use mathlib.Core.Path.{_≡_};
 ghost use lib.ListN.{length};
 use libc::STDOUT_FILENO;
@@ -47,6 +47,8 @@ fn request(t: &mut [u8], msg: &[u8]) {
     let served = engine::serve(t, msg, &mut reply);
     outcome(t, b"outcome ", served.outcome as u64);
     if served.outcome == 0 {
+        text(b" place ");
+        io::print_decimal(STDOUT_FILENO, served.place as u64);
         text(b" reply ");
         output::hex(&reply, served.used);
     }

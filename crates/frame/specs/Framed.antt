@@ -1,11 +1,11 @@
--- The answer of stage 2: the type at fault, if there is a fault.
+-- The answer of stage 2: the type at fault and its place, if there is a fault.
 -- Assumes nothing.
-use Prim.Native.Nat.{ℕ}
 use mathlib.Core.Option.{Option, none, some}
+use Rattle.rules.specs.Message.{Spot, spot}
 use Rattle.frame.specs.declared.Framing.{Framing}
 use Rattle.frame.specs.declared.Framing.the-variants.{Framed, Fault}
 
 -- 01's cause is 68 for each fault of stage 2; Offending IE names the type
-abbrev pub faultIn : Framing → Option ℕ
+abbrev pub faultIn : Framing → Option Spot
 faultIn Framed = none
-faultIn (Fault t) = some t
+faultIn (Fault t p) = some (spot t p)

@@ -3,7 +3,9 @@ use format::kinds;
 use format::types;
 ghost use mathlib.Core.Path.{_≡_};
 ghost use Rattle.octets.specs.Lists.{member};
-ghost use Rattle.rules.specs.Message.{opened, frame, frameFault};
+ghost use Prim.Native.Nat.{_+_, _<_, _^_};
+ghost use lib.ListN.{length};
+ghost use Rattle.rules.specs.Message.{opened, spot, frame, frameFault};
 ghost use Rattle.frame.specs.Framed.{faultIn};
 
 pub mod header;
@@ -11,8 +13,9 @@ pub mod header;
 // What the framing of a message or of a group finds.
 pub enum Framing {
     Framed,
-    // The type at fault: of an element that runs past its end, or of the group (0: the message) where under 4 octets are left.
-    Fault(u64),
+    // The type at fault and its place in the message: of an element that runs past its end, or of the group (0 at 0: the message) where under
+    // 4 octets are left.
+    Fault(u64, usize),
 }
 
 // Whether an element of type kind is a group that is opened at the place group (0: the message) of a message of type message.
@@ -44,31 +47,34 @@ fn opens(message: u64, group: u64, kind: u64) -> bool
     }
 }
 
-// The first fault in the framing of s, the value of the group or (group 0) the elements of the message, with so many depths left.
-// A group's value is handed on as a part of s.
-fn first_fault(s: &[u8], message: u64, group: u64, depth: u64) -> Framing
-    ensures { λ r. ⌜ faultIn r ≡ frame depth message group (now (s .entry)) ⌝ }
+// The first fault in the framing of s, the value of the group at a place or (group 0) the elements of the message, with so many depths left.
+// The first octet of s stands at base. A group's value is handed on as a part of s.
+fn first_fault(s: &[u8], message: u64, group: u64, place: usize, base: usize, depth: u64) -> Framing
+    requires { ⌜ base + length (now s) < 2 ^ 64 ⌝ }
+    ensures { λ r. ⌜ faultIn r ≡ frame depth message (spot group place) base (now (s .entry)) ⌝ }
 {
     if depth == 0 {
         return Framing::Framed;
     }
     let mut rest = s;
+    let mut at = base;
     while 0 < rest.len() {
         if rest.len() < 4 {
-            return Framing::Fault(group);
+            return Framing::Fault(group, place);
         }
         let kind = octets::read(rest, 0, 2);
         let end = 4 + octets::read(rest, 2, 2) as usize;
         if rest.len() < end {
-            return Framing::Fault(kind);
+            return Framing::Fault(kind, at);
         }
         if opens(message, group, kind) {
-            let inner = first_fault(&rest[4..end], message, kind, depth - 1);
+            let inner = first_fault(&rest[4..end], message, kind, at, at + 4, depth - 1);
             let Framing::Framed = inner else {
                 return inner;
             };
         }
         rest = &rest[end..];
+        at += end;
     }
     Framing::Framed
 }
@@ -80,5 +86,5 @@ pub fn frame_fault(msg: &[u8]) -> Framing
     if msg.len() < 16 {
         return Framing::Framed;
     }
-    first_fault(&msg[16..], octets::read(msg, 1, 1), 0, 3)
+    first_fault(&msg[16..], octets::read(msg, 1, 1), 0, 0, 16, 3)
 }

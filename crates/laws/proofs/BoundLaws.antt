@@ -12,7 +12,7 @@ use lib.Pow.{areBytes}
 use Rattle.octets.specs.Octets.{number, numberAt}
 use Rattle.octets.specs.Lists.{all}
 use Rattle.octets.proofs.Tests.{pick-either, and-left, and-right, both}
-use Rattle.rules.specs.Message.{Element, elementLength, elementsUpTo, elements, body}
+use Rattle.rules.specs.Message.{Element, elementLength, elementsUpTo, elements, bodyPlace, body}
 
 -- ---- octets
 
@@ -44,18 +44,19 @@ field-bound w xs h =
 abbrev pub clean : Element → Bool
 clean e = areBytes (e .content)
 
-clean-upTo : (n : ℕ) (xs : List ℕ) → T (areBytes xs) → T (all clean (elementsUpTo n xs))
+clean-upTo : (n at : ℕ) (xs : List ℕ) → T (areBytes xs) → T (all clean (elementsUpTo n at xs))
 unfolding elementsUpTo all
-clean-upTo zero xs h = tt
-clean-upTo (suc n) xs h =
+clean-upTo zero at xs h = tt
+clean-upTo (suc n) at xs h =
     pick-either (λ (es : List Element). T (all clean es)) (ltb (length xs) 4) [] _ tt
-    (both (areBytes (take (elementLength xs) (drop 4 xs))) (all clean (elementsUpTo n (drop (4 + elementLength xs) xs)))
-    (bytes-take (elementLength xs) (drop 4 xs) (bytes-drop 4 xs h)) (clean-upTo n (drop (4 + elementLength xs) xs) (bytes-drop (4 + elementLength xs) xs h)))
+    (both (areBytes (take (elementLength xs) (drop 4 xs))) (all clean (elementsUpTo n (at + (4 + elementLength xs)) (drop (4 + elementLength xs) xs)))
+    (bytes-take (elementLength xs) (drop 4 xs) (bytes-drop 4 xs h))
+    (clean-upTo n (at + (4 + elementLength xs)) (drop (4 + elementLength xs) xs) (bytes-drop (4 + elementLength xs) xs h)))
 
-pub clean-elements : (xs : List ℕ) → T (areBytes xs) → T (all clean (elements xs))
+pub clean-elements : (at : ℕ) (xs : List ℕ) → T (areBytes xs) → T (all clean (elements at xs))
 unfolding elements
-clean-elements xs h = clean-upTo (length xs) xs h
+clean-elements at xs h = clean-upTo (length xs) at xs h
 
-pub clean-body : (msg : List ℕ) → T (areBytes msg) → T (all clean (elements (body msg)))
+pub clean-body : (msg : List ℕ) → T (areBytes msg) → T (all clean (elements bodyPlace (body msg)))
 unfolding body
-clean-body msg h = clean-elements (drop 16 msg) (bytes-drop 16 msg h)
+clean-body msg h = clean-elements bodyPlace (drop 16 msg) (bytes-drop 16 msg h)

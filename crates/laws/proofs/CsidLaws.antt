@@ -14,7 +14,7 @@ use Rattle.octets.proofs.Tests.{pick-either}
 use Rattle.octets.proofs.ListLaws.{collect-append}
 use Rattle.rules.specs.Elements.{Fqcsid, readFseid, readFqcsid}
 use Rattle.rules.specs.Types as ie
-use Rattle.rules.specs.Message.{Element, hasType, elements}
+use Rattle.rules.specs.Message.{inside, Element, hasType, elements}
 use Rattle.rules.specs.Reading.{Item, clearsCsids, setsCsid, updatesEndpoint, done, Members, pdiRead, noMembers, membersRead, pdrFrom, endpointFrom, changeFrom, itemFrom, groupRead, Draft, emptyDraft, elementRead, elementsRead, csidIn, clears, aloneIn}
 use Rattle.laws.proofs.ReadLaws.{OnDone, anything, any-value, then-done, need-any}
 use Rattle.laws.proofs.RequestLaws.{element-step}
@@ -28,18 +28,20 @@ weight i = length (collect csidIn (i ∷ [])) + flag (clears i)
 abbrev Other : Item → Type 0
 Other i = weight i ≤ 0
 
-item-other : (g : ℕ) (m : Members) → OnDone Other (itemFrom g m)
+item-other : (g p : ℕ) (m : Members) → OnDone Other (itemFrom g p m)
 unfolding itemFrom pdrFrom endpointFrom changeFrom collect csidIn clears
-item-other g m =
+item-other g p m =
     pick-either (OnDone Other) (eqb g ie.createPdr) _ _
-    (pick-either (OnDone Other) (m .pdi) _ _ (need-any Other _ _ (m .precedence) _ (λ _. need-any Other _ _ (m .pdrId) _ (λ _. need-any Other _ _ (m .source) _ (λ _. zero-le)))) tt)
-    (pick-either (OnDone Other) (eqb g ie.createEndpoint) _ _ (need-any Other _ _ (m .local) _ (λ _. need-any Other _ _ (m .endpointId) _ (λ _. zero-le)))
-    (pick-either (OnDone Other) (eqb g ie.updatePdr) _ _ (need-any Other _ _ (m .pdrId) _ (λ _. zero-le))
-    (pick-either (OnDone Other) (eqb g ie.removePdr) _ _ (need-any Other _ _ (m .pdrId) _ (λ _. zero-le)) (need-any Other _ _ (m .endpointId) _ (λ _. zero-le)))))
+    (pick-either (OnDone Other) (m .pdi) _ _ (need-any Other _ _ p (m .precedence) _ (λ _. need-any Other _ _ p (m .pdrId) _ (λ _. need-any Other _ _ p (m .source) _ (λ _. zero-le)))) tt)
+    (pick-either (OnDone Other) (eqb g ie.createEndpoint) _ _ (need-any Other _ _ p (m .local) _ (λ _. need-any Other _ _ p (m .endpointId) _ (λ _. zero-le)))
+    (pick-either (OnDone Other) (eqb g ie.updatePdr) _ _ (need-any Other _ _ p (m .pdrId) _ (λ _. zero-le))
+    (pick-either (OnDone Other) (eqb g ie.removePdr) _ _ (need-any Other _ _ p (m .pdrId) _ (λ _. zero-le)) (need-any Other _ _ p (m .endpointId) _ (λ _. zero-le)))))
 
-group-other : (g : ℕ) (v : List ℕ) → OnDone Other (groupRead g v)
+group-other : (g p : ℕ) (v : List ℕ) → OnDone Other (groupRead g p v)
 unfolding groupRead
-group-other g v = then-done (λ _. Unit {0}) Other (membersRead pdiRead g (elements v) noMembers) (itemFrom g) (anything (membersRead pdiRead g (elements v) noMembers)) (λ m _. item-other g m)
+group-other g p v =
+    then-done (λ _. Unit {0}) Other (membersRead pdiRead g (elements (inside p) v) noMembers) (itemFrom g p)
+    (anything (membersRead pdiRead g (elements (inside p) v) noMembers)) (λ m _. item-other g p m)
 
 -- ---- FQ-CSIDs read, and n more to come
 
@@ -85,7 +87,7 @@ counted e es = one (eqb (e .type) ie.fqcsid)
 
 pub element-few : (kind : ℕ) (alone : Bool) (n : ℕ) (e : Element) (d : Draft) → Few alone (flag (eqb (e .type) ie.fqcsid) + n) (d .items) → OnDone (λ d′. Few alone n (d′ .items)) (elementRead kind alone e d)
 element-few kind alone n e d h =
-    element-step (λ _. Unit {0}) (λ _. Unit {0}) Other kind alone e d (λ d′. Few alone n (d′ .items)) (any-value (readFseid (e .content))) (any-value (readFqcsid (e .content))) (group-other (e .type) (e .content))
+    element-step (λ _. Unit {0}) (λ _. Unit {0}) Other kind alone e d (λ d′. Few alone n (d′ .items)) (any-value (readFseid (e .content))) (any-value (readFqcsid (e .content))) (group-other (e .type) (e .place) (e .content))
     (record {
       skips = same alone h;
       seid = λ _ _. same alone h;

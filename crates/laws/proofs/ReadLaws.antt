@@ -42,27 +42,27 @@ any-value (refuse c) = tt
 any-value (value a) = tt
 
 -- what is required, and whatever it is
-pub need-any : {A B : Type 0} (Q : B → Type 0) (c : Refusal) (t : ℕ) (o : Option A) (next : A → Reading B) → ((a : A) → OnDone Q (next a)) → OnDone Q (need c t o next)
-need-any Q c t none next k = tt
-need-any Q c t (some a) next k = k a
+pub need-any : {A B : Type 0} (Q : B → Type 0) (c : Refusal) (t p : ℕ) (o : Option A) (next : A → Reading B) → ((a : A) → OnDone Q (next a)) → OnDone Q (need c t p o next)
+need-any Q c t p none next k = tt
+need-any Q c t p (some a) next k = k a
 
 module _ {A : Type 0} (P : A → Type 0) where
-  pub named-done : (t : ℕ) (a : Answer A) → OnValue P a → OnDone P (named t a)
-  named-done t (refuse c) h = tt
-  named-done t (value a) h = h
+  pub named-done : (t p : ℕ) (a : Answer A) → OnValue P a → OnDone P (named t p a)
+  named-done t p (refuse c) h = tt
+  named-done t p (value a) h = h
 
-  pub once-done : {B : Type 0} (o : Option B) (t : ℕ) (r : Reading A) → OnDone P r → OnDone P (once o t r)
-  once-done none t r h = h
-  once-done (some b) t r h = tt
+  pub once-done : {B : Type 0} (o : Option B) (t p : ℕ) (r : Reading A) → OnDone P r → OnDone P (once o t p r)
+  once-done none t p r h = h
+  once-done (some b) t p r h = tt
 
   module _ {B : Type 0} (Q : B → Type 0) where
     pub then-done : (r : Reading A) (next : A → Reading B) → OnDone P r → ((a : A) → P a → OnDone Q (next a)) → OnDone Q (andThen r next)
     then-done (faulty f) next h k = tt
     then-done (done a) next h k = k a h
 
-    pub need-done : (c : Refusal) (t : ℕ) (o : Option A) (next : A → Reading B) → OnSome P o → ((a : A) → P a → OnDone Q (next a)) → OnDone Q (need c t o next)
-    need-done c t none next h k = tt
-    need-done c t (some a) next h k = k a h
+    pub need-done : (c : Refusal) (t p : ℕ) (o : Option A) (next : A → Reading B) → OnSome P o → ((a : A) → P a → OnDone Q (next a)) → OnDone Q (need c t p o next)
+    need-done c t p none next h k = tt
+    need-done c t p (some a) next h k = k a h
 
 -- ---- F-TEID
 

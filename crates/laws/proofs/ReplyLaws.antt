@@ -55,9 +55,9 @@ module _ (kind seid : ℕ) (q xs space : List ℕ) (three : length q ≡ 3) (sho
   unfolding body message be
   body-there = sym (drop-drop 1 3 (q ++ 0 ∷ xs)) ∙ ap (drop 1) (drop-at q (0 ∷ xs) 3 three)
 
-  pub elements-there : replyElements (put 0 msg space) ≡ elements xs
+  pub elements-there : replyElements (put 0 msg space) ≡ elements 0 xs
   unfolding replyElements
-  elements-there = ap (λ (l : List ℕ). elements (body l)) found ∙ ap elements body-there
+  elements-there = ap (λ (l : List ℕ). elements 0 (body l)) found ∙ ap (elements 0) body-there
 
 -- ---- the cause
 
@@ -67,15 +67,15 @@ one-fits t h c = (h, lit< tt)
 
 -- Node ID where there is one, then the cause
 cause-first : (establishing : Bool) (s : Settings) (c : ℕ) (rest : List ℕ) → length (s .ipv4) ≡ 4
-    → contentOf ie.cause (elements (pick establishing (element ie.nodeId (0 ∷ s .ipv4)) [] ++ (element ie.cause (c ∷ []) ++ rest))) ≡ some (c ∷ [])
+    → contentOf ie.cause (elements 0 (pick establishing (element ie.nodeId (0 ∷ s .ipv4)) [] ++ (element ie.cause (c ∷ []) ++ rest))) ≡ some (c ∷ [])
 unfolding contentOf findBy hasType
 cause-first true s c rest four =
     ap (λ (es : List Element). mapOption contentIn (findBy (hasType ie.cause) es))
-    (elements-cons ie.nodeId (0 ∷ s .ipv4) (element ie.cause (c ∷ []) ++ rest) node-fits ∙ ap (λ (es : List Element). el ie.nodeId (0 ∷ s .ipv4) ∷ es) (elements-cons ie.cause (c ∷ []) rest (one-fits ie.cause (lit< tt) c)))
+    (elements-cons ie.nodeId (0 ∷ s .ipv4) (element ie.cause (c ∷ []) ++ rest) node-fits 0 ∙ ap (λ (es : List Element). el 0 ie.nodeId (0 ∷ s .ipv4) ∷ es) (elements-cons ie.cause (c ∷ []) rest (one-fits ie.cause (lit< tt) c) _))
   where
     node-fits : Fits ie.nodeId (0 ∷ s .ipv4)
     node-fits = unfold Fits in (lit< tt, small (le-trans (le-of-eq (ap suc four)) (lit≤ tt)))
-cause-first false s c rest four = ap (λ (es : List Element). mapOption contentIn (findBy (hasType ie.cause) es)) (elements-cons ie.cause (c ∷ []) rest (one-fits ie.cause (lit< tt) c))
+cause-first false s c rest four = ap (λ (es : List Element). mapOption contentIn (findBy (hasType ie.cause) es)) (elements-cons ie.cause (c ∷ []) rest (one-fits ie.cause (lit< tt) c) 0)
 
 -- the reply's cause is the verdict's
 pub reply-cause : (s : Settings) (msg : List ℕ) (seid : ℕ) (v : Verdict) (gs : List Grant) (space : List ℕ)

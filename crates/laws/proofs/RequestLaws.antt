@@ -20,7 +20,7 @@ use Rattle.laws.proofs.ReadLaws.{OnValue, OnDone, named-done, once-done
 use Rattle.rules.specs.Elements.{missing, conditional, incorrect, Fteid, Fqcsid, readFteid, readFqcsid, readFseid, nodeOf}
 use Rattle.rules.specs.Sound.{farAllowed}
 use Rattle.rules.specs.Types as ie
-use Rattle.rules.specs.Message.{establishment, modification, deletion, kindOf, body, Element, elements, actedOn, placesOf, numberWidth}
+use Rattle.rules.specs.Message.{establishment, modification, deletion, kindOf, body, bodyPlace, inside, Element, elements, actedOn, placesOf, numberWidth}
 use Rattle.rules.specs.Reading.{NewPdr, NewEndpoint, Change, Item, createsPdr, createsEndpoint, updatesPdr, removesPdr, removesEndpoint, setsCsid, clearsCsids, updatesEndpoint, CsidChanges, cleared, changed, Request, Reading, faulty, done, refusal, named, Members, noMembers, withPdi, withLocal, holds, numberRead, farRead, pdiIn, valueRead, memberRead, membersRead, unopened, pdiEnd, pdiRead, pdrFrom, endpointFrom, changeFrom, itemFrom, groupRead, Draft, emptyDraft, withSeid, withRestores, withNode, withItem, seidRead, flagsRead, csidCountAllowed, withCsid, csidRead, actedRead, elementRead, elementsRead, pdrIn, endpointIn, changeIn, csidIn, clears, restoringIn, requestOf, createsAny, finished, aloneIn, topRead, read, faultIn, readFault, askedIn, readRequest}
 
 -- ---- the records
@@ -67,9 +67,9 @@ record MembersRead (e : Bool) (m : Members) : Type 0 where
   endpointId : OnSome (λ n. T (ltb n 256)) (m .endpointId)
 
 -- a number is below 256 to its width
-number-read : (t w : ℕ) (v : List ℕ) → numberWidth t ≡ w → T (areBytes v) → OnDone (λ n. T (ltb n (256 ^ w))) (numberRead t v)
+number-read : (t w p : ℕ) (v : List ℕ) → numberWidth t ≡ w → T (areBytes v) → OnDone (λ n. T (ltb n (256 ^ w))) (numberRead t p v)
 unfolding numberRead
-number-read t w v e h =
+number-read t w p v e h =
     pick-either (OnDone (λ n. T (ltb n (256 ^ w)))) (ltb (length v) (numberWidth t)) _ _ tt
     (lt→ltb (numberAt 0 (numberWidth t) v) (256 ^ w) (subst (λ (k : ℕ). numberAt 0 (numberWidth t) v < 256 ^ k) e (field-bound (numberWidth t) v h)))
 
@@ -83,57 +83,57 @@ other-width true b c x y z = absurd x
 other-width false true c x y z = absurd y
 other-width false false true x y z = absurd z
 
-far-read : (g : ℕ) (v : List ℕ) → T (areBytes v) → OnDone (λ f. T (farAllowed f)) (farRead g v)
+far-read : (g p : ℕ) (v : List ℕ) → T (areBytes v) → OnDone (λ f. T (farAllowed f)) (farRead g p v)
 unfolding farRead farAllowed numberWidth
-far-read g v h =
+far-read g p v h =
     pick-either (OnDone (λ f. T (farAllowed f))) (eqb g ie.updatePdr && isNil v) _ _ tt
-    (then-done (λ n. T (ltb n (2 ^ 32))) (λ f. T (farAllowed f)) (numberRead ie.farId v) _ (number-read ie.farId 4 v refl h) (λ n k. k))
+    (then-done (λ n. T (ltb n (2 ^ 32))) (λ f. T (farAllowed f)) (numberRead ie.farId p v) _ (number-read ie.farId 4 p v refl h) (λ n k. k))
 
 -- a reader of the PDI's octets keeps the bounds
-abbrev Keeps : (List ℕ → Members → Reading Members) → Type 0
-Keeps inner = (v : List ℕ) (m : Members) → T (areBytes v) → MembersRead false m → OnDone (MembersRead false) (inner v m)
+abbrev Keeps : (ℕ → List ℕ → Members → Reading Members) → Type 0
+Keeps inner = (p : ℕ) (v : List ℕ) (m : Members) → T (areBytes v) → MembersRead false m → OnDone (MembersRead false) (inner p v m)
 
-module _ (inner : List ℕ → Members → Reading Members) (keeps : Keeps inner) (g : ℕ) where
+module _ (inner : ℕ → List ℕ → Members → Reading Members) (keeps : Keeps inner) (g : ℕ) where
   abbrev Kept : Members → Type 0
   Kept m = MembersRead (eqb g ie.createEndpoint) m
 
   with-pdi : (e : Bool) (m : Members) → MembersRead e m → MembersRead e (withPdi m)
   with-pdi e m b = record { pdrId = b .pdrId; precedence = b .precedence; far = b .far; source = b .source; local = b .local; endpointId = b .endpointId }
 
-  pdi-in : (v : List ℕ) (m : Members) → T (areBytes v) → Kept m → OnDone Kept (pdiIn inner g v m)
+  pdi-in : (p : ℕ) (v : List ℕ) (m : Members) → T (areBytes v) → Kept m → OnDone Kept (pdiIn inner g p v m)
   unfolding pdiIn
-  pdi-in v m h b =
+  pdi-in p v m h b =
       pick-cases (OnDone Kept) (eqb g ie.createPdr) _ _
-      (λ c. subst (λ (k : ℕ). MembersRead (eqb k ie.createEndpoint) m → OnDone (MembersRead (eqb k ie.createEndpoint)) (inner v (withPdi m))) (sym (eqb→eq g ie.createPdr c))
-      (λ b′. keeps v (withPdi m) h (with-pdi false m b′)) b)
+      (λ c. subst (λ (k : ℕ). MembersRead (eqb k ie.createEndpoint) m → OnDone (MembersRead (eqb k ie.createEndpoint)) (inner p v (withPdi m))) (sym (eqb→eq g ie.createPdr c))
+      (λ b′. keeps p v (withPdi m) h (with-pdi false m b′)) b)
       (λ _. with-pdi (eqb g ie.createEndpoint) m b)
 
-  value-read : (t : ℕ) (v : List ℕ) (m : Members) → T (areBytes v) → Kept m → OnDone Kept (valueRead inner g t v m)
+  value-read : (t p : ℕ) (v : List ℕ) (m : Members) → T (areBytes v) → Kept m → OnDone Kept (valueRead inner g t p v m)
   unfolding valueRead numberWidth
-  value-read t v m h b =
+  value-read t p v m h b =
       pick-cases (OnDone Kept) (eqb t ie.pdrId) _ _
-      (λ c. then-done (λ n. T (ltb n (2 ^ 16))) Kept (numberRead t v) _ (number-read t 2 v (width-of t ie.pdrId c) h)
+      (λ c. then-done (λ n. T (ltb n (2 ^ 16))) Kept (numberRead t p v) _ (number-read t 2 p v (width-of t ie.pdrId c) h)
       (λ n k. record { pdrId = k; precedence = b .precedence; far = b .far; source = b .source; local = b .local; endpointId = b .endpointId }))
       (λ c₁. pick-cases (OnDone Kept) (eqb t ie.precedence) _ _
-      (λ c. then-done (λ n. T (ltb n (2 ^ 32))) Kept (numberRead t v) _ (number-read t 4 v (width-of t ie.precedence c) h)
+      (λ c. then-done (λ n. T (ltb n (2 ^ 32))) Kept (numberRead t p v) _ (number-read t 4 p v (width-of t ie.precedence c) h)
       (λ n k. record { pdrId = b .pdrId; precedence = k; far = b .far; source = b .source; local = b .local; endpointId = b .endpointId }))
       (λ c₂. pick-cases (OnDone Kept) (eqb t ie.farId) _ _
-      (λ _. then-done (λ f. T (farAllowed f)) Kept (farRead g v) _ (far-read g v h)
+      (λ _. then-done (λ f. T (farAllowed f)) Kept (farRead g p v) _ (far-read g p v h)
       (λ f k. record { pdrId = b .pdrId; precedence = b .precedence; far = k; source = b .source; local = b .local; endpointId = b .endpointId }))
-      (λ c₃. pick-either (OnDone Kept) (eqb t ie.pdi) _ _ (pdi-in v m h b)
+      (λ c₃. pick-either (OnDone Kept) (eqb t ie.pdi) _ _ (pdi-in p v m h b)
       (pick-cases (OnDone Kept) (eqb t ie.sourceInterface) _ _
-      (λ c. then-done (λ n. T (ltb n 256)) Kept (numberRead t v) _ (number-read t 1 v (width-of t ie.sourceInterface c) h)
+      (λ c. then-done (λ n. T (ltb n 256)) Kept (numberRead t p v) _ (number-read t 1 p v (width-of t ie.sourceInterface c) h)
       (λ n _. record { pdrId = b .pdrId; precedence = b .precedence; far = b .far; source = lt→ltb (n % 16) 16 (mod-lt n (zero-lt-suc 15)); local = b .local; endpointId = b .endpointId }))
       (λ _. pick-either (OnDone Kept) (eqb t ie.fteid) _ _
-      (then-done (FteidRead (eqb g ie.createEndpoint)) Kept (named t (readFteid (eqb g ie.createEndpoint) v)) (λ y. done (withLocal y m)) (named-done (FteidRead (eqb g ie.createEndpoint)) t (readFteid (eqb g ie.createEndpoint) v) (fteid-read (eqb g ie.createEndpoint) v h))
+      (then-done (FteidRead (eqb g ie.createEndpoint)) Kept (named t p (readFteid (eqb g ie.createEndpoint) v)) (λ y. done (withLocal y m)) (named-done (FteidRead (eqb g ie.createEndpoint)) t p (readFteid (eqb g ie.createEndpoint) v) (fteid-read (eqb g ie.createEndpoint) v h))
       (λ y k. record { pdrId = b .pdrId; precedence = b .precedence; far = b .far; source = b .source; local = k; endpointId = b .endpointId }))
-      (then-done (λ n. T (ltb n 256)) Kept (numberRead t v) _ (number-read t 1 v (other-width (eqb t ie.pdrId) (eqb t ie.precedence) (eqb t ie.farId) c₁ c₂ c₃) h)
+      (then-done (λ n. T (ltb n 256)) Kept (numberRead t p v) _ (number-read t 1 p v (other-width (eqb t ie.pdrId) (eqb t ie.precedence) (eqb t ie.farId) c₁ c₂ c₃) h)
       (λ n k. record { pdrId = b .pdrId; precedence = b .precedence; far = b .far; source = b .source; local = b .local; endpointId = k })))))))
 
   member-read : (e : Element) (m : Members) → T (clean e) → Kept m → OnDone Kept (memberRead inner g e m)
   unfolding memberRead
   member-read e m h b =
-      pick-either (OnDone Kept) (member (e .type) (placesOf g)) _ _ (pick-either (OnDone Kept) (holds (e .type) m) _ _ tt (value-read (e .type) (e .content) m h b)) b
+      pick-either (OnDone Kept) (member (e .type) (placesOf g)) _ _ (pick-either (OnDone Kept) (holds (e .type) m) _ _ tt (value-read (e .type) (e .place) (e .content) m h b)) b
 
   members-read : (es : List Element) (m : Members) → T (all clean es) → Kept m → OnDone Kept (membersRead inner g es m)
   unfolding membersRead
@@ -144,21 +144,21 @@ module _ (inner : List ℕ → Members → Reading Members) (keeps : Keeps inner
 -- a PDI's members
 pdi-read : Keeps pdiRead
 unfolding pdiRead pdiEnd
-pdi-read v m h b =
-    then-done (MembersRead false) (MembersRead false) (membersRead unopened ie.pdi (elements v) m) pdiEnd
-    (members-read unopened (λ _ m′ _ b′. b′) ie.pdi (elements v) m (clean-elements v h) b)
-    (λ m′ b′. need-done (λ n. T (ltb n 16)) (MembersRead false) missing ie.sourceInterface (m′ .source) _ (b′ .source) (λ _ _. b′))
+pdi-read p v m h b =
+    then-done (MembersRead false) (MembersRead false) (membersRead unopened ie.pdi (elements (inside p) v) m) (pdiEnd p)
+    (members-read unopened (λ _ _ m′ _ b′. b′) ie.pdi (elements (inside p) v) m (clean-elements (inside p) v h) b)
+    (λ m′ b′. need-done (λ n. T (ltb n 16)) (MembersRead false) missing ie.sourceInterface p (m′ .source) _ (b′ .source) (λ _ _. b′))
 
 -- ---- what a group makes
 
-module _ (e : Bool) (m : Members) (b : MembersRead e m) where
-  pdr-from : OnDone ItemRead (pdrFrom m)
+module _ (e : Bool) (p : ℕ) (m : Members) (b : MembersRead e m) where
+  pdr-from : OnDone ItemRead (pdrFrom p m)
   unfolding pdrFrom
   pdr-from =
       pick-either (OnDone ItemRead) (m .pdi) _ _
-      (need-done (λ n. T (ltb n (2 ^ 32))) ItemRead missing ie.precedence (m .precedence) _ (b .precedence)
-      (λ n hn. need-done (λ i. T (ltb i (2 ^ 16))) ItemRead missing ie.pdrId (m .pdrId) _ (b .pdrId)
-      (λ i hi. need-done (λ c. T (ltb c 16)) ItemRead missing ie.sourceInterface (m .source) _ (b .source)
+      (need-done (λ n. T (ltb n (2 ^ 32))) ItemRead missing ie.precedence p (m .precedence) _ (b .precedence)
+      (λ n hn. need-done (λ i. T (ltb i (2 ^ 16))) ItemRead missing ie.pdrId p (m .pdrId) _ (b .pdrId)
+      (λ i hi. need-done (λ c. T (ltb c 16)) ItemRead missing ie.sourceInterface p (m .source) _ (b .source)
       (λ c hc. record { id = hi; precedence = hn; far = flat (m .far) (b .far); source = hc; local = weaker (m .local) (b .local); endpoint = b .endpointId }))))
       tt
     where
@@ -170,33 +170,33 @@ module _ (e : Bool) (m : Members) (b : MembersRead e m) where
       weaker none h = tt
       weaker (some v) h = record { family = h .family; octet = h .octet; noChooseId = λ k. absurd k }
 
-  endpoint-from : T e → OnDone ItemRead (endpointFrom m)
+  endpoint-from : T e → OnDone ItemRead (endpointFrom p m)
   unfolding endpointFrom
   endpoint-from c =
-      need-done (FteidRead true) ItemRead conditional ie.fteid (m .local) _ (subst (λ (x : Bool). OnSome (FteidRead x) (m .local)) (is-true e c) (b .local))
-      (λ v hv. need-done (λ i. T (ltb i 256)) ItemRead missing ie.endpointId (m .endpointId) _ (b .endpointId) (λ i hi. record { id = hi; local = hv }))
+      need-done (FteidRead true) ItemRead conditional ie.fteid p (m .local) _ (subst (λ (x : Bool). OnSome (FteidRead x) (m .local)) (is-true e c) (b .local))
+      (λ v hv. need-done (λ i. T (ltb i 256)) ItemRead missing ie.endpointId p (m .endpointId) _ (b .endpointId) (λ i hi. record { id = hi; local = hv }))
 
-  change-from : OnDone ItemRead (changeFrom m)
+  change-from : OnDone ItemRead (changeFrom p m)
   unfolding changeFrom
-  change-from = need-done (λ i. T (ltb i (2 ^ 16))) ItemRead missing ie.pdrId (m .pdrId) _ (b .pdrId) (λ i hi. record { precedence = b .precedence; far = b .far })
+  change-from = need-done (λ i. T (ltb i (2 ^ 16))) ItemRead missing ie.pdrId p (m .pdrId) _ (b .pdrId) (λ i hi. record { precedence = b .precedence; far = b .far })
 
-item-from : (g : ℕ) (m : Members) → MembersRead (eqb g ie.createEndpoint) m → OnDone ItemRead (itemFrom g m)
+item-from : (g p : ℕ) (m : Members) → MembersRead (eqb g ie.createEndpoint) m → OnDone ItemRead (itemFrom g p m)
 unfolding itemFrom
-item-from g m b =
+item-from g p m b =
     let e = eqb g ie.createEndpoint in
-    pick-either (OnDone ItemRead) (eqb g ie.createPdr) _ _ (pdr-from e m b)
-    (pick-cases (OnDone ItemRead) e _ _ (endpoint-from e m b)
-    (λ _. pick-either (OnDone ItemRead) (eqb g ie.updatePdr) _ _ (change-from e m b)
+    pick-either (OnDone ItemRead) (eqb g ie.createPdr) _ _ (pdr-from e p m b)
+    (pick-cases (OnDone ItemRead) e _ _ (endpoint-from e p m b)
+    (λ _. pick-either (OnDone ItemRead) (eqb g ie.updatePdr) _ _ (change-from e p m b)
     (pick-either (OnDone ItemRead) (eqb g ie.removePdr) _ _
-    (need-done (λ i. T (ltb i (2 ^ 16))) ItemRead missing ie.pdrId (m .pdrId) _ (b .pdrId) (λ i hi. tt))
-    (need-done (λ i. T (ltb i 256)) ItemRead missing ie.endpointId (m .endpointId) _ (b .endpointId) (λ i hi. tt)))))
+    (need-done (λ i. T (ltb i (2 ^ 16))) ItemRead missing ie.pdrId p (m .pdrId) _ (b .pdrId) (λ i hi. tt))
+    (need-done (λ i. T (ltb i 256)) ItemRead missing ie.endpointId p (m .endpointId) _ (b .endpointId) (λ i hi. tt)))))
 
-group-read : (g : ℕ) (v : List ℕ) → T (areBytes v) → OnDone ItemRead (groupRead g v)
+group-read : (g p : ℕ) (v : List ℕ) → T (areBytes v) → OnDone ItemRead (groupRead g p v)
 unfolding groupRead
-group-read g v h =
-    then-done (MembersRead (eqb g ie.createEndpoint)) ItemRead (membersRead pdiRead g (elements v) noMembers) (itemFrom g)
-    (members-read pdiRead pdi-read g (elements v) noMembers (clean-elements v h) (record { pdrId = tt; precedence = tt; far = tt; source = tt; local = tt; endpointId = tt }))
-    (item-from g)
+group-read g p v h =
+    then-done (MembersRead (eqb g ie.createEndpoint)) ItemRead (membersRead pdiRead g (elements (inside p) v) noMembers) (itemFrom g p)
+    (members-read pdiRead pdi-read g (elements (inside p) v) noMembers (clean-elements (inside p) v h) (record { pdrId = tt; precedence = tt; far = tt; source = tt; local = tt; endpointId = tt }))
+    (item-from g p)
 
 -- ---- the top of a message
 
@@ -212,22 +212,22 @@ pub record Steps (S : ℕ → Type 0) (C : Fqcsid → Type 0) (I : Item → Type
   pub makes : (i : Item) → I i → Q (withItem i d)
 
 pub element-step : (S : ℕ → Type 0) (C : Fqcsid → Type 0) (I : Item → Type 0) (kind : ℕ) (alone : Bool) (e : Element) (d : Draft) (Q : Draft → Type 0)
-    → OnValue S (readFseid (e .content)) → OnValue C (readFqcsid (e .content)) → OnDone I (groupRead (e .type) (e .content)) → Steps S C I alone (e .type) d Q
+    → OnValue S (readFseid (e .content)) → OnValue C (readFqcsid (e .content)) → OnDone I (groupRead (e .type) (e .place) (e .content)) → Steps S C I alone (e .type) d Q
     → OnDone Q (elementRead kind alone e d)
 unfolding elementRead actedRead seidRead flagsRead csidRead withCsid
 element-step S C I kind alone e d Q hs hc hi k =
     pick-either (OnDone Q) (member (e .type) (actedOn kind)) _ _
     (pick-either (OnDone Q) (eqb (e .type) ie.fseid) _ _
-    (once-done Q (d .seid) ie.fseid _ (then-done S Q (named ie.fseid (readFseid (e .content))) (λ n. done (withSeid n d)) (named-done S ie.fseid (readFseid (e .content)) hs) (k .seid)))
+    (once-done Q (d .seid) ie.fseid (e .place) _ (then-done S Q (named ie.fseid (e .place) (readFseid (e .content))) (λ n. done (withSeid n d)) (named-done S ie.fseid (e .place) (readFseid (e .content)) hs) (k .seid)))
     (pick-either (OnDone Q) (eqb (e .type) ie.sessionFlags) _ _
-    (once-done Q (d .restores) ie.sessionFlags _ (pick-either (OnDone Q) (ltb (length (e .content)) 1) _ _ tt (k .restores (bit 0 (octetAt (e .content) 0)))))
+    (once-done Q (d .restores) ie.sessionFlags (e .place) _ (pick-either (OnDone Q) (ltb (length (e .content)) 1) _ _ tt (k .restores (bit 0 (octetAt (e .content) 0)))))
     (pick-cases (OnDone Q) (eqb (e .type) ie.fqcsid) _ _
     (λ t. pick-cases (OnDone Q) (isNil (e .content) && eqb kind modification && alone) _ _
     (λ c. k .clears t (last (isNil (e .content)) (eqb kind modification) c))
-    (λ _. then-done C Q (named ie.fqcsid (readFqcsid (e .content))) (λ c. pick (csidCountAllowed kind c && not (member (nodeOf c) (d .nodes))) (done (withCsid kind c d)) (refusal incorrect ie.fqcsid)) (named-done C ie.fqcsid (readFqcsid (e .content)) hc)
-    (λ c g. pick-either (OnDone Q) (csidCountAllowed kind c && not (member (nodeOf c) (d .nodes))) (done (withCsid kind c d)) (refusal incorrect ie.fqcsid)
+    (λ _. then-done C Q (named ie.fqcsid (e .place) (readFqcsid (e .content))) (λ c. pick (csidCountAllowed kind c && not (member (nodeOf c) (d .nodes))) (done (withCsid kind c d)) (refusal incorrect ie.fqcsid (e .place))) (named-done C ie.fqcsid (e .place) (readFqcsid (e .content)) hc)
+    (λ c g. pick-either (OnDone Q) (csidCountAllowed kind c && not (member (nodeOf c) (d .nodes))) (done (withCsid kind c d)) (refusal incorrect ie.fqcsid (e .place))
     (pick-either (λ (x : Draft). Q (withNode (nodeOf c) x)) (eqb kind deletion) d (withItem (setsCsid c) d) (k .checks (nodeOf c)) (k .sets t c g)) tt)))
-    (λ _. pick-either (OnDone Q) (eqb (e .type) ie.updateEndpoint) _ _ (k .updates) (then-done I Q (groupRead (e .type) (e .content)) (λ i. done (withItem i d)) hi (k .makes))))))
+    (λ _. pick-either (OnDone Q) (eqb (e .type) ie.updateEndpoint) _ _ (k .updates) (then-done I Q (groupRead (e .type) (e .place) (e .content)) (λ i. done (withItem i d)) hi (k .makes))))))
     (k .skips)
   where
     last : (a b : Bool) → T (a && b && alone) → T alone
@@ -241,7 +241,7 @@ DraftRead d = OnSome SeidRead (d .seid) × Every ItemRead (d .items)
 
 element-read : (kind : ℕ) (alone : Bool) (e : Element) (d : Draft) → T (clean e) → DraftRead d → OnDone DraftRead (elementRead kind alone e d)
 element-read kind alone e d h b =
-    element-step SeidRead CsidRead ItemRead kind alone e d DraftRead (fseid-read (e .content) h) (fqcsid-read (e .content) h) (group-read (e .type) (e .content) h)
+    element-step SeidRead CsidRead ItemRead kind alone e d DraftRead (fseid-read (e .content) h) (fqcsid-read (e .content) h) (group-read (e .type) (e .place) (e .content) h)
     (record {
       skips = b;
       seid = λ n k. (k, b .1);
@@ -307,14 +307,14 @@ unfolding finished requestOf
 finished-read kind d b =
     pick-cases (OnDone (Finished kind)) (eqb kind establishment) _ _
     (λ _. pick-either (OnDone (Finished kind)) (restoringIn d || createsAny (d .items)) _ _
-    (need-done SeidRead (Finished kind) missing ie.fseid (d .seid) _ (b .0) (λ n hn. (request-of n d (b .1), λ _. hn))) tt)
+    (need-done SeidRead (Finished kind) missing ie.fseid 0 (d .seid) _ (b .0) (λ n hn. (request-of n d (b .1), λ _. hn))) tt)
     (λ no-est. (request-of 0 d (b .1), λ est. absurd (T-not (eqb kind establishment) no-est est)))
 
 module _ (msg : List ℕ) (h : T (areBytes msg)) where
   message-read : OnDone (Finished (kindOf msg)) (read msg)
   unfolding read topRead
   message-read =
-      let es = elements (body msg) in
+      let es = elements bodyPlace (body msg) in
       then-done DraftRead (Finished (kindOf msg)) (elementsRead (kindOf msg) (aloneIn es) es emptyDraft) (finished (kindOf msg))
       (elements-read (kindOf msg) (aloneIn es) es emptyDraft (clean-body msg h) (tt, tt)) (finished-read (kindOf msg))
 

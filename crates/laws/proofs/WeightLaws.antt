@@ -14,10 +14,11 @@ use Rattle.octets.proofs.Tests.{pick-either}
 use Rattle.octets.proofs.ListLaws.{Every, OnSome, pick-cases}
 use Rattle.rules.specs.Elements.{Answer, refuse, value, missing, tooShort, incorrect, Fqcsid, addressLength, csidRest, readFseid, readFqcsid, readFteid}
 use Rattle.rules.specs.Types as ie
-use Rattle.rules.specs.Message.{Element, elementLength, elementsUpTo, elements, hasType, placesOf, numberWidth}
+use Rattle.rules.specs.Message.{inside, Element, elementLength, elementsUpTo, elements, hasType, placesOf, numberWidth}
 use Rattle.rules.specs.Reading.{Item, clearsCsids, setsCsid, updatesEndpoint, Reading, done, andThen, named, need, Members, noMembers, withPdi, holds, numberRead, farRead, pdiIn, valueRead, memberRead, membersRead, unopened, pdiEnd, pdiRead, pdrFrom, endpointFrom, changeFrom, itemFrom, groupRead, Draft, emptyDraft, elementRead, clears, aloneIn}
 use Rattle.laws.proofs.ReadLaws.{OnValue, OnDone, anything, any-value, then-done, need-done, need-any}
 use Rattle.laws.proofs.RequestLaws.{element-step}
+use Rattle.laws.proofs.MessageLaws.{el, counts-alike}
 use Rattle.laws.proofs.CsidLaws.{Few, any-more, flagged, counted, element-few, few-none}
 
 -- ---- the weight of rows
@@ -28,7 +29,7 @@ Weighs hasRow s rest is = 9 * length (keep hasRow is) + rest ≤ s + 5 * flag (a
 
 -- s the octets after the header, rest those not read yet, d what was read; `alone` as in elementsRead
 pub record Light (hasRow : Item → Bool) (alone : Bool) (s rest : List ℕ) (d : Draft) : Type 0 where
-  pub few : Few alone (length (keep (hasType ie.fqcsid) (elements rest))) (d .items)
+  pub few : Few alone (length (keep (hasType ie.fqcsid) (elements 0 rest))) (d .items)
   pub weight : Weighs hasRow (length s) (length rest) (d .items)
 
 -- ---- elements lie within their octets
@@ -36,26 +37,26 @@ pub record Light (hasRow : Item → Bool) (alone : Bool) (s rest : List ℕ) (d 
 abbrev Within : ℕ → Element → Type 0
 Within n e = 4 + length (e .content) ≤ n
 
-within-upTo : (n k : ℕ) (xs : List ℕ) → length xs ≤ k → Every (Within k) (elementsUpTo n xs)
+within-upTo : (n k at : ℕ) (xs : List ℕ) → length xs ≤ k → Every (Within k) (elementsUpTo n at xs)
 unfolding elementsUpTo
-within-upTo zero k xs h = tt
-within-upTo (suc n) k xs h =
+within-upTo zero k at xs h = tt
+within-upTo (suc n) k at xs h =
     pick-cases (Every (Within k)) (ltb (length xs) 4) [] _ (λ _. tt)
     (λ long. let l = nltb→le (length xs) 4 long in
     let a = length-drop 4 xs in
     let b = length-take (elementLength xs) (drop 4 xs) in
     let c = length-drop (4 + elementLength xs) xs in
-    (omega arith, within-upTo n k (drop (4 + elementLength xs) xs) (omega arith)))
+    (omega arith, within-upTo n k (at + (4 + elementLength xs)) (drop (4 + elementLength xs) xs) (omega arith)))
 
-within : (k : ℕ) (xs : List ℕ) → length xs ≤ k → Every (Within k) (elements xs)
+within : (k at : ℕ) (xs : List ℕ) → length xs ≤ k → Every (Within k) (elements at xs)
 unfolding elements
-within k xs h = within-upTo (length xs) k xs h
+within k at xs h = within-upTo (length xs) k at xs h
 
 -- ---- a group has an ID, of an octet at least
 
-some-octets : (t : ℕ) (v : List ℕ) → OnDone (λ _. 1 ≤ length v) (numberRead t v)
+some-octets : (t p : ℕ) (v : List ℕ) → OnDone (λ _. 1 ≤ length v) (numberRead t p v)
 unfolding numberRead numberWidth
-some-octets t v =
+some-octets t p v =
     pick-cases (OnDone (λ _. 1 ≤ length v)) (ltb (length v) (numberWidth t)) _ _ (λ _. tt)
     (λ long. le-trans (pick-either (λ (w : ℕ). 1 ≤ w) (eqb t ie.pdrId) _ _ (omega arith) (pick-either (λ (w : ℕ). 1 ≤ w) (eqb t ie.precedence || eqb t ie.farId) _ _ (omega arith) (omega arith))) (nltb→le (length v) (numberWidth t) long))
 
@@ -64,17 +65,17 @@ module _ (n : ℕ) where
   abbrev Heavy : Members → Type 0
   Heavy m = OnSome (λ _. 5 ≤ n) (m .pdrId) × OnSome (λ _. 5 ≤ n) (m .endpointId)
 
-  module _ (inner : List ℕ → Members → Reading Members) (keeps : (v : List ℕ) (m : Members) → length v ≤ n → Heavy m → OnDone Heavy (inner v m)) (g : ℕ) where
-    value-heavy : (t : ℕ) (v : List ℕ) (m : Members) → 4 + length v ≤ n → Heavy m → OnDone Heavy (valueRead inner g t v m)
+  module _ (inner : ℕ → List ℕ → Members → Reading Members) (keeps : (p : ℕ) (v : List ℕ) (m : Members) → length v ≤ n → Heavy m → OnDone Heavy (inner p v m)) (g : ℕ) where
+    value-heavy : (t p : ℕ) (v : List ℕ) (m : Members) → 4 + length v ≤ n → Heavy m → OnDone Heavy (valueRead inner g t p v m)
     unfolding valueRead pdiIn
-    value-heavy t v m h b =
-        pick-either (OnDone Heavy) (eqb t ie.pdrId) _ _ (then-done (λ _. 1 ≤ length v) Heavy (numberRead t v) _ (some-octets t v) (λ _ k. (omega arith, b .1)))
-        (pick-either (OnDone Heavy) (eqb t ie.precedence) _ _ (other (numberRead t v) _ (λ _. b))
-        (pick-either (OnDone Heavy) (eqb t ie.farId) _ _ (other (farRead g v) _ (λ _. b))
-        (pick-either (OnDone Heavy) (eqb t ie.pdi) _ _ (pick-either (OnDone Heavy) (eqb g ie.createPdr) _ _ (keeps v (withPdi m) (omega arith) b) b)
-        (pick-either (OnDone Heavy) (eqb t ie.sourceInterface) _ _ (other (numberRead t v) _ (λ _. b))
-        (pick-either (OnDone Heavy) (eqb t ie.fteid) _ _ (other (named t (readFteid (eqb g ie.createEndpoint) v)) _ (λ _. b))
-        (then-done (λ _. 1 ≤ length v) Heavy (numberRead t v) _ (some-octets t v) (λ _ k. (b .0, omega arith))))))))
+    value-heavy t p v m h b =
+        pick-either (OnDone Heavy) (eqb t ie.pdrId) _ _ (then-done (λ _. 1 ≤ length v) Heavy (numberRead t p v) _ (some-octets t p v) (λ _ k. (omega arith, b .1)))
+        (pick-either (OnDone Heavy) (eqb t ie.precedence) _ _ (other (numberRead t p v) _ (λ _. b))
+        (pick-either (OnDone Heavy) (eqb t ie.farId) _ _ (other (farRead g p v) _ (λ _. b))
+        (pick-either (OnDone Heavy) (eqb t ie.pdi) _ _ (pick-either (OnDone Heavy) (eqb g ie.createPdr) _ _ (keeps p v (withPdi m) (omega arith) b) b)
+        (pick-either (OnDone Heavy) (eqb t ie.sourceInterface) _ _ (other (numberRead t p v) _ (λ _. b))
+        (pick-either (OnDone Heavy) (eqb t ie.fteid) _ _ (other (named t p (readFteid (eqb g ie.createEndpoint) v)) _ (λ _. b))
+        (then-done (λ _. 1 ≤ length v) Heavy (numberRead t p v) _ (some-octets t p v) (λ _ k. (b .0, omega arith))))))))
       where
         other : {A : Type 0} (r : Reading A) (next : A → Members) → ((a : A) → Heavy (next a)) → OnDone Heavy (andThen r (λ a. done (next a)))
         other r next k = then-done (λ _. Unit {0}) Heavy r (λ a. done (next a)) (anything r) (λ a _. k a)
@@ -84,37 +85,37 @@ module _ (n : ℕ) where
     members-heavy [] m h b = b
     members-heavy (e ∷ es) m h b =
         then-done Heavy Heavy (memberRead inner g e m) _
-        (pick-either (OnDone Heavy) (member (e .type) (placesOf g)) _ _ (pick-either (OnDone Heavy) (holds (e .type) m) _ _ tt (value-heavy (e .type) (e .content) m (h .0) b)) b)
+        (pick-either (OnDone Heavy) (member (e .type) (placesOf g)) _ _ (pick-either (OnDone Heavy) (holds (e .type) m) _ _ tt (value-heavy (e .type) (e .place) (e .content) m (h .0) b)) b)
         (λ m′ b′. members-heavy es m′ (h .1) b′)
 
-  pdi-heavy : (v : List ℕ) (m : Members) → length v ≤ n → Heavy m → OnDone Heavy (pdiRead v m)
+  pdi-heavy : (p : ℕ) (v : List ℕ) (m : Members) → length v ≤ n → Heavy m → OnDone Heavy (pdiRead p v m)
   unfolding pdiRead pdiEnd
-  pdi-heavy v m h b =
-      then-done Heavy Heavy (membersRead unopened ie.pdi (elements v) m) pdiEnd (members-heavy unopened (λ _ _ _ b′. b′) ie.pdi (elements v) m (within n v h) b)
-      (λ m′ b′. need-any Heavy missing ie.sourceInterface (m′ .source) (λ _. done m′) (λ _. b′))
+  pdi-heavy p v m h b =
+      then-done Heavy Heavy (membersRead unopened ie.pdi (elements (inside p) v) m) (pdiEnd p) (members-heavy unopened (λ _ _ _ _ b′. b′) ie.pdi (elements (inside p) v) m (within n (inside p) v h) b)
+      (λ m′ b′. need-any Heavy missing ie.sourceInterface p (m′ .source) (λ _. done m′) (λ _. b′))
 
   abbrev Enough : Item → Type 0
   Enough _ = 5 ≤ n
 
-  item-heavy : (g : ℕ) (m : Members) → Heavy m → OnDone Enough (itemFrom g m)
+  item-heavy : (g p : ℕ) (m : Members) → Heavy m → OnDone Enough (itemFrom g p m)
   unfolding itemFrom pdrFrom endpointFrom changeFrom
-  item-heavy g m b =
+  item-heavy g p m b =
       pick-either (OnDone Enough) (eqb g ie.createPdr) _ _
-      (pick-either (OnDone Enough) (m .pdi) _ _ (need-any Enough _ _ (m .precedence) _ (λ _. of-pdr _ (λ i h. need-any Enough _ _ (m .source) _ (λ _. h)))) tt)
-      (pick-either (OnDone Enough) (eqb g ie.createEndpoint) _ _ (need-any Enough _ _ (m .local) _ (λ _. of-endpoint _ (λ _ h. h)))
+      (pick-either (OnDone Enough) (m .pdi) _ _ (need-any Enough _ _ p (m .precedence) _ (λ _. of-pdr _ (λ i h. need-any Enough _ _ p (m .source) _ (λ _. h)))) tt)
+      (pick-either (OnDone Enough) (eqb g ie.createEndpoint) _ _ (need-any Enough _ _ p (m .local) _ (λ _. of-endpoint _ (λ _ h. h)))
       (pick-either (OnDone Enough) (eqb g ie.updatePdr) _ _ (of-pdr _ (λ _ h. h)) (pick-either (OnDone Enough) (eqb g ie.removePdr) _ _ (of-pdr _ (λ _ h. h)) (of-endpoint _ (λ _ h. h)))))
     where
-      of-pdr : (next : ℕ → Reading Item) → ((i : ℕ) → 5 ≤ n → OnDone Enough (next i)) → OnDone Enough (need missing ie.pdrId (m .pdrId) next)
-      of-pdr next k = need-done (λ _. 5 ≤ n) Enough missing ie.pdrId (m .pdrId) next (b .0) k
+      of-pdr : (next : ℕ → Reading Item) → ((i : ℕ) → 5 ≤ n → OnDone Enough (next i)) → OnDone Enough (need missing ie.pdrId p (m .pdrId) next)
+      of-pdr next k = need-done (λ _. 5 ≤ n) Enough missing ie.pdrId p (m .pdrId) next (b .0) k
 
-      of-endpoint : (next : ℕ → Reading Item) → ((i : ℕ) → 5 ≤ n → OnDone Enough (next i)) → OnDone Enough (need missing ie.endpointId (m .endpointId) next)
-      of-endpoint next k = need-done (λ _. 5 ≤ n) Enough missing ie.endpointId (m .endpointId) next (b .1) k
+      of-endpoint : (next : ℕ → Reading Item) → ((i : ℕ) → 5 ≤ n → OnDone Enough (next i)) → OnDone Enough (need missing ie.endpointId p (m .endpointId) next)
+      of-endpoint next k = need-done (λ _. 5 ≤ n) Enough missing ie.endpointId p (m .endpointId) next (b .1) k
 
-group-heavy : (g : ℕ) (v : List ℕ) → OnDone (λ _. 5 ≤ length v) (groupRead g v)
+group-heavy : (g p : ℕ) (v : List ℕ) → OnDone (λ _. 5 ≤ length v) (groupRead g p v)
 unfolding groupRead
-group-heavy g v =
+group-heavy g p v =
     let n = length v in
-    then-done (Heavy n) (Enough n) (membersRead pdiRead g (elements v) noMembers) (itemFrom g) (members-heavy n pdiRead (pdi-heavy n) g (elements v) noMembers (within n v (omega arith)) (tt, tt)) (item-heavy n g)
+    then-done (Heavy n) (Enough n) (membersRead pdiRead g (elements (inside p) v) noMembers) (itemFrom g p) (members-heavy n pdiRead (pdi-heavy n) g (elements (inside p) v) noMembers (within n (inside p) v (omega arith)) (tt, tt)) (item-heavy n g p)
 
 -- ---- an FQ-CSID that is read has an address
 
@@ -166,13 +167,13 @@ none-cleared false n is l h = h
 -- ---- a message's elements, one by one
 
 module _ (hasRow : Item → Bool) (no : hasRow updatesEndpoint ≡ false) where
-  pub light-none : (s : List ℕ) → Light hasRow (aloneIn (elements s)) s s emptyDraft
-  light-none s = record { few = few-none (elements s); weight = unfold keep any in (omega arith) }
+  pub light-none : (at : ℕ) (s : List ℕ) → Light hasRow (aloneIn (elements at s)) s s emptyDraft
+  light-none at s = record { few = subst (λ (n : ℕ). Few (aloneIn (elements at s)) n []) (counts-alike ie.fqcsid at 0 s) (few-none (elements at s)); weight = unfold keep any in (omega arith) }
 
   element-light : (kind : ℕ) (alone : Bool) (s rest after n : ℕ) (e : Element) (d : Draft) → 4 + length (e .content) + after ≤ rest → Few alone (flag (eqb (e .type) ie.fqcsid) + n) (d .items)
       → Weighs hasRow s rest (d .items) → OnDone (λ d′. Weighs hasRow s after (d′ .items)) (elementRead kind alone e d)
   element-light kind alone s rest after n e d l f w =
-      element-step (λ _. Unit {0}) Long Long kind alone e d (λ d′. Weighs hasRow s after (d′ .items)) (any-value (readFseid (e .content))) (csid-heavy (e .content)) (group-heavy (e .type) (e .content))
+      element-step (λ _. Unit {0}) Long Long kind alone e d (λ d′. Weighs hasRow s after (d′ .items)) (any-value (readFseid (e .content))) (csid-heavy (e .content)) (group-heavy (e .type) (e .place) (e .content))
       (record {
         skips = same;
         seid = λ _ _. same;
@@ -202,23 +203,27 @@ module _ (hasRow : Item → Bool) (no : hasRow updatesEndpoint ≡ false) where
       more : (i : Item) → 5 ≤ length (e .content) → Weighs hasRow s after (d .items ++ (i ∷ []))
       more i k = omega (arith, row i, marked i .0)
 
-  pub light-next : (kind : ℕ) {alone : Bool} {s rest after : List ℕ} {t : ℕ} {v : List ℕ} {d d′ : Draft}
-      → elements rest ≡ record { type = t; content = v } ∷ elements after → 4 + length v + length after ≤ length rest
-      → Light hasRow alone s rest d → elementRead kind alone (record { type = t; content = v }) d ≡ done d′ → Light hasRow alone s after d′
-  light-next kind {alone} {s} {rest} {after} {t} {v} {d} {d′} es l h q =
+  pub light-next : (kind q : ℕ) {alone : Bool} {s rest after : List ℕ} {t p : ℕ} {v : List ℕ} {d d′ : Draft}
+      → elements p rest ≡ el p t v ∷ elements q after → 4 + length v + length after ≤ length rest
+      → Light hasRow alone s rest d → elementRead kind alone (el p t v) d ≡ done d′ → Light hasRow alone s after d′
+  light-next kind q {alone} {s} {rest} {after} {t} {p} {v} {d} {d′} es l h r =
       record {
-        few = subst (OnDone (λ x. Few alone n (x .items))) q (element-few kind alone n e d here);
-        weight = subst (OnDone (λ x. Weighs hasRow (length s) (length after) (x .items))) q (element-light kind alone (length s) (length rest) (length after) n e d l here (h .weight));
+        few = subst (OnDone (λ x. Few alone n (x .items))) r (element-few kind alone n e d here);
+        weight = subst (OnDone (λ x. Weighs hasRow (length s) (length after) (x .items))) r (element-light kind alone (length s) (length rest) (length after) n e d l here (h .weight));
       }
     where
       e : Element
-      e = record { type = t; content = v }
+      e = el p t v
 
       n : ℕ
-      n = length (keep (hasType ie.fqcsid) (elements after))
+      n = length (keep (hasType ie.fqcsid) (elements 0 after))
 
       here : Few alone (flag (eqb t ie.fqcsid) + n) (d .items)
-      here = subst (λ (k : ℕ). Few alone k (d .items)) (ap (λ (x : List Element). length (keep (hasType ie.fqcsid) x)) es ∙ counted e (elements after)) (h .few)
+      here =
+          subst (λ (k : ℕ). Few alone k (d .items))
+          (counts-alike ie.fqcsid 0 p rest ∙ ap (λ (x : List Element). length (keep (hasType ie.fqcsid) x)) es ∙ counted e (elements q after)
+          ∙ ap (λ (k : ℕ). flag (eqb t ie.fqcsid) + k) (counts-alike ie.fqcsid q 0 after))
+          (h .few)
 
   -- there is room for one more row among 226
   pub light-room : {alone : Bool} {s rest : List ℕ} {d : Draft} → 4 ≤ length rest → length s ≤ 2032 → Light hasRow alone s rest d → length (keep hasRow (d .items)) ≤ 225

@@ -117,7 +117,7 @@ module _ (run : Run) (msg space : List ℕ) (r : RequestCall) (a : Accepted run 
   abbrev out : Served
   out = serve maxSessions t msg space
 
-  same : _≡_ {A = Served} (record { outcome = r .outcome; space = r .space; table = r .table }) out
+  same : _≡_ {A = Served} (record { outcome = r .outcome; place = r .place; space = r .space; table = r .table }) out
   same = request-step t msg space r (a .call)
 
   call : AcceptedCall maxSessions t msg space

@@ -61,8 +61,8 @@ pub length-is : 30943 ≡ tableLength maxSessions
 length-is = refl
 
 -- the request call
-pub call-request : {t msg out : List ℕ} {outcome used : ℕ} {out′ t′ : List ℕ} → Serves t msg out outcome used out′ t′
-    → _≡_ {A = RequestCall} (record { outcome = outcome; used = used; space = out′; table = t′ }) (requestCall t msg out)
+pub call-request : {t msg out : List ℕ} {outcome used place : ℕ} {out′ t′ : List ℕ} → Serves t msg out outcome used place out′ t′
+    → _≡_ {A = RequestCall} (record { outcome = outcome; used = used; place = place; space = out′; table = t′ }) (requestCall t msg out)
 unfolding requestCall requestAnswer replyOf
-call-request {t} {msg} {out} {outcome} {used} {out′} {t′} s =
-    (λ i. record { outcome = outcome; used = s .long i; space = out′; table = t′ }) ∙ ap (requestAnswer (replyOf t msg)) (s .served)
+call-request {t} {msg} {out} {outcome} {used} {place} {out′} {t′} s =
+    (λ i. record { outcome = outcome; used = s .long i; place = place; space = out′; table = t′ }) ∙ ap (requestAnswer (replyOf t msg)) (s .served)

@@ -113,8 +113,8 @@ restoration-accepted t place r made space answer w e long call =
     let hp = peer-kept t (k .sound) place (k .live) (w .ipv4) (w .ipv6) (k .address) in
     let m = emptied t made e in
     let empty : made .table ≡ encode maxSessions s [] = m .1 ∙ made-empty maxSessions s (e .found) (m .0) in
-    let served : _≡_ {A = Served} (record { outcome = answer .outcome; space = answer .space; table = answer .table })
-    (record { outcome = 0; space = put 0 (replyTo s [] (restoration s p x) (plain why.accepted)) space; table = encode maxSessions s (putSession x []) }) =
+    let served : _≡_ {A = Served} (record { outcome = answer .outcome; place = answer .place; space = answer .space; table = answer .table })
+    (record { outcome = 0; place = 0; space = put 0 (replyTo s [] (restoration s p x) (plain why.accepted)) space; table = encode maxSessions s (putSession x []) }) =
     request-step (made .table) r space answer call
     ∙ ap₂ (λ (u v : List ℕ). serve maxSessions u v space) empty (k .is)
     ∙ restored-call s hs x hx maxSessions [] (unfold isLive sessionOf findBy in refl) (omega arith) (separate-all x [] (unfold all in tt)) p hp small (empty-allowed maxSessions s) space long in

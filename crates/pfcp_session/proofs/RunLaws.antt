@@ -15,11 +15,11 @@ use Rattle.claim.proofs.Changed.{demand3}
 use Rattle.pfcp_session.specs.Calls.{MakeCall, makeAnswer, makeCall, CountCall, countAnswer, countCall, RequestCall, requestAnswer, requestCall}
 use Rattle.pfcp_session.specs.Runs.{HostStep, requested, counted, HostRan, countOf, stepOf, stepsOf, liveAfter, tableAfter, HostClaim}
 
--- a request's outcome, space and table are those of `serve`
+-- a request's outcome, place, space and table are those of `serve`
 pub request-step : (t msg space : List ℕ) (r : RequestCall) → r ≡ requestCall t msg space
-    → _≡_ {A = Served} (record { outcome = r .outcome; space = r .space; table = r .table }) (serve maxSessions t msg space)
+    → _≡_ {A = Served} (record { outcome = r .outcome; place = r .place; space = r .space; table = r .table }) (serve maxSessions t msg space)
 unfolding requestCall requestAnswer
-request-step t msg space r e = ap (λ (x : RequestCall). record { outcome = x .outcome; space = x .space; table = x .table }) e
+request-step t msg space r e = ap (λ (x : RequestCall). record { outcome = x .outcome; place = x .place; space = x .space; table = x .table }) e
 
 -- a count is that of `countFree`
 count-back : (c : Count) → countOf (countAnswer c) ≡ c

@@ -36,10 +36,12 @@ countAnswer (free n) = record { outcome = 0; count = n }
 unfoldable pub countCall : List ℕ → CountCall
 countCall t = countAnswer (countFree maxSessions t)
 
--- a request: 01's outcome, the length of the reply (0 where there is none), the reply space and the table at exit
+-- a request: 01's outcome, the length of the reply (0 where there is none), the place of a fault of stages 2 and 3 (else 0), the reply space and
+-- the table at exit
 pub record RequestCall : Type 0 where
   pub outcome : ℕ
   pub used : ℕ
+  pub place : ℕ
   pub space : List ℕ
   pub table : List ℕ
 
@@ -48,7 +50,7 @@ unfoldable pub replyOf : List ℕ → List ℕ → List ℕ
 replyOf t msg = replyTo (viewSettings t) (viewSessions t) msg (verdict maxSessions (viewSettings t) (viewSessions t) msg)
 
 unfoldable pub requestAnswer : List ℕ → Served → RequestCall
-requestAnswer answer s = record { outcome = s .outcome; used = pick (eqb (s .outcome) 0) (length answer) 0; space = s .space; table = s .table }
+requestAnswer answer s = record { outcome = s .outcome; used = pick (eqb (s .outcome) 0) (length answer) 0; place = s .place; space = s .space; table = s .table }
 
 unfoldable pub requestCall : List ℕ → List ℕ → List ℕ → RequestCall
 requestCall t msg space = requestAnswer (replyOf t msg) (serve maxSessions t msg space)

@@ -28,7 +28,7 @@ unfoldable pub countOf : CountCall → Count
 countOf c = pick (eqb (c .outcome) 0) (free (c .count)) broken
 
 unfoldable pub stepOf : HostStep → Step
-stepOf (requested msg space r) = asked msg space (record { outcome = r .outcome; space = r .space; table = r .table })
+stepOf (requested msg space r) = asked msg space (record { outcome = r .outcome; place = r .place; space = r .space; table = r .table })
 stepOf (counted c) = told (countOf c)
 
 abbrev pub stepsOf : List HostStep → List Step

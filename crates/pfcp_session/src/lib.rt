@@ -64,20 +64,24 @@ pub extern "C" fn pfcp_free_count(table: &[u8], count: &mut u32) -> u32
 }
 
 // Handles one request: 01's outcome. With outcome 0 the reply stands at the front of the reply space, and used is its length; any other
-// outcome writes nothing but 0 there.
+// outcome writes nothing but 0 there. The place is that of a fault found in stages 2 and 3: the index in the message, from 0, of the type's
+// first octet of the element at fault, or of the group that lacks a member or has under 4 octets left; 0 for the message, and where there is
+// no such fault.
 #[no_mangle]
 pub extern "C" fn pfcp_request(
     table: &mut [u8],
     message: &[u8],
     reply: &mut [u8],
     used: &mut usize,
+    place: &mut usize,
 ) -> u32
     ensures { λ r.
-        ⌜ record { outcome = r; used = now (used .exit); space = now (reply .exit); table = now (table .exit) }
+        ⌜ record { outcome = r; used = now (used .exit); place = now (place .exit); space = now (reply .exit); table = now (table .exit) }
         ≡ requestCall (now (table .entry)) (now (message .entry)) (now (reply .entry)) ⌝ }
 {
     let served = engine::serve(table, message, reply);
     *used = served.used;
+    *place = served.place;
     served.outcome
 }
 

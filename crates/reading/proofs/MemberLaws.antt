@@ -33,7 +33,7 @@ use Rattle.reading.proofs.RowLaws.{Holding, by-plain, by-member, plainP
 
 module _ {A B : Type 0} where
   -- a fault stops what comes after it
-  pub stops : (x : Reading A) (k : A → Reading B) {c t : ℕ} → numbered x ≡ stopped c t → numbered (andThen x k) ≡ stopped c t
+  pub stops : (x : Reading A) (k : A → Reading B) {c t p : ℕ} → numbered x ≡ stopped c t p → numbered (andThen x k) ≡ stopped c t p
   stops (faulty f) k h = cc
   stops (done a) k h = let z : _≡_ {A = ℕ} 0 1 = cc in absurd (omega arith)
 
@@ -63,38 +63,38 @@ module _ (t : ℕ) (v : List ℕ) where
   unfolding plainNumber numberAt
   number-other e h k = k ∙ ap (λ (w : ℕ). number (part 0 w v)) e ∙ sym (rw (ne-eqb t ie.sourceInterface h))
 
-then-pick : {A B : Type 0} (b : Bool) (c : Refusal) (t : ℕ) (a : A) (k : A → Reading B) → andThen (pick b (refusal c t) (done a)) k ≡ pick b (refusal c t) (k a)
-then-pick true c t a k = refl
-then-pick false c t a k = refl
+then-pick : {A B : Type 0} (b : Bool) (c : Refusal) (t p : ℕ) (a : A) (k : A → Reading B) → andThen (pick b (refusal c t p) (done a)) k ≡ pick b (refusal c t p) (k a)
+then-pick true c t p a k = refl
+then-pick false c t p a k = refl
 
-then-twice : {A B C : Type 0} (b : Bool) (c : Refusal) (t : ℕ) (a : A) (j : A → B) (k : B → Reading C)
-    → andThen (andThen (pick b (refusal c t) (done a)) (λ x. done (j x))) k ≡ pick b (refusal c t) (k (j a))
-then-twice true c t a j k = refl
-then-twice false c t a j k = refl
+then-twice : {A B C : Type 0} (b : Bool) (c : Refusal) (t p : ℕ) (a : A) (j : A → B) (k : B → Reading C)
+    → andThen (andThen (pick b (refusal c t p) (done a)) (λ x. done (j x))) k ≡ pick b (refusal c t p) (k (j a))
+then-twice true c t p a j k = refl
+then-twice false c t p a j k = refl
 
 -- a plain member, short or read
-module _ (v : List ℕ) (m : Members) where
-  plain-is : (t : ℕ) → member t plainTypes ≡ true → plainRead t v m ≡ pick (ltb (length v) (numberWidth t)) (refusal tooShort t) (done (plainPut t (plainNumber t v) m))
+module _ (p : ℕ) (v : List ℕ) (m : Members) where
+  plain-is : (t : ℕ) → member t plainTypes ≡ true → plainRead t p v m ≡ pick (ltb (length v) (numberWidth t)) (refusal tooShort t p) (done (plainPut t (plainNumber t v) m))
   unfolding plainRead valueRead numberRead farRead plainPut plainNumber numberWidth
   plain-is =
-      by-plain (λ t. plainRead t v m ≡ pick (ltb (length v) (numberWidth t)) (refusal tooShort t) (done (plainPut t (plainNumber t v) m)))
-      (then-pick (ltb (length v) 2) tooShort ie.pdrId (numberAt 0 2 v) (λ n. done (withPdrId n m)))
-      (then-pick (ltb (length v) 4) tooShort ie.precedence (numberAt 0 4 v) (λ n. done (withPrecedence n m)))
-      (then-twice (ltb (length v) 4) tooShort ie.farId (numberAt 0 4 v) some (λ f. done (withFar f m)))
-      (then-pick (ltb (length v) 1) tooShort ie.sourceInterface (numberAt 0 1 v) (λ n. done (withSource (n % 16) m)))
-      (then-pick (ltb (length v) 1) tooShort ie.endpointId (numberAt 0 1 v) (λ n. done (withEndpointId n m)))
+      by-plain (λ t. plainRead t p v m ≡ pick (ltb (length v) (numberWidth t)) (refusal tooShort t p) (done (plainPut t (plainNumber t v) m)))
+      (then-pick (ltb (length v) 2) tooShort ie.pdrId p (numberAt 0 2 v) (λ n. done (withPdrId n m)))
+      (then-pick (ltb (length v) 4) tooShort ie.precedence p (numberAt 0 4 v) (λ n. done (withPrecedence n m)))
+      (then-twice (ltb (length v) 4) tooShort ie.farId p (numberAt 0 4 v) some (λ f. done (withFar f m)))
+      (then-pick (ltb (length v) 1) tooShort ie.sourceInterface p (numberAt 0 1 v) (λ n. done (withSource (n % 16) m)))
+      (then-pick (ltb (length v) 1) tooShort ie.endpointId p (numberAt 0 1 v) (λ n. done (withEndpointId n m)))
 
-module _ (t : ℕ) (v row : List ℕ) (k : member t plainTypes ≡ true) (z : Tidy row) where
-  pub plain-short : {w : ℕ} → w ≡ numberWidth t → length v < w → Reads (plainRead t v (rowMembers row)) row (Refused why.wrongLength t)
+module _ (t p : ℕ) (v row : List ℕ) (k : member t plainTypes ≡ true) (z : Tidy row) where
+  pub plain-short : {w : ℕ} → w ≡ numberWidth t → length v < w → Reads (plainRead t p v (rowMembers row)) row (Refused why.wrongLength t p)
   unfolding causeOf
   plain-short e h =
-      let q : plainRead t v (rowMembers row) ≡ refusal tooShort t = plain-is v (rowMembers row) t k ∙ rw (← e, lt-ltb _ _ h) in
+      let q : plainRead t p v (rowMembers row) ≡ refusal tooShort t p = plain-is p v (rowMembers row) t k ∙ rw (← e, lt-ltb _ _ h) in
       record { told = sym (ap (λ (x : Reading Members). numbered x) q); tidy = z }
 
   pub plain-long : {w n at : ℕ} → w ≡ numberWidth t → w ≤ length v → n ≡ plainNumber t v → at ≡ column t
-      → Reads (plainRead t v (rowMembers row)) (set (set row at 1) (at + 6) n) Fine
+      → Reads (plainRead t p v (rowMembers row)) (set (set row at 1) (at + 6) n) Fine
   plain-long e h q a =
-      rw (a, q) (holding (put-plain row t (plainNumber t v) k z) (plain-is v (rowMembers row) t k ∙ rw (← e, le-ltb _ _ h)))
+      rw (a, q) (holding (put-plain row t (plainNumber t v) k z) (plain-is p v (rowMembers row) t k ∙ rw (← e, le-ltb _ _ h)))
 
 -- ---- an F-TEID
 
@@ -130,21 +130,21 @@ no-families e (f ∷ xs) t h = by-tests (wrongFlags e f) (ltb (length xs) (fteid
         let k : fteidFields f xs ≡ given t [] [] = cc in
         no-family e f xs t p (ltb-false (length xs) (fteidLength f) q) k
 
-pub fteid-refused : (a : rules.Answer Fteid) (c : Refusal) (row : List ℕ) {r : Verdict} → Tidy row → some (refuse c) ≡ some a → r ≡ Refused (causeOf c) ie.fteid → Reads (fteidRead a (rowMembers row)) row r
+pub fteid-refused : (p : ℕ) (a : rules.Answer Fteid) (c : Refusal) (row : List ℕ) {r : Verdict} → Tidy row → some (refuse c) ≡ some a → r ≡ Refused (causeOf c) ie.fteid p → Reads (fteidRead p a (rowMembers row)) row r
 unfolding fteidRead
-fteid-refused a c row z h e = let k : refuse c ≡ a = cc in record { told = rw (← k, e); tidy = z }
+fteid-refused p a c row z h e = let k : refuse c ≡ a = cc in record { told = rw (← k, e); tidy = z }
 
 no-flags : (x : FTeid) → x .flags ≡ 0 → fteidMeant x ≡ given (x .teid) [] []
 unfolding bit be
 no-flags x h = rw h
 
-pub fteid-value : (x : FTeid) (e : Bool) (v row : List ℕ) → Tidy row → mapOption value (fteidOf x) ≡ some (readFteid e v)
-    → Reads (fteidRead (readFteid e v) (rowMembers row)) (sixSet row (x .flags) (x .teid) (x .ipv4) (x .«ipv6_high») (x .«ipv6_low») (x .«choose_id») row) Fine
+pub fteid-value : (x : FTeid) (p : ℕ) (e : Bool) (v row : List ℕ) → Tidy row → mapOption value (fteidOf x) ≡ some (readFteid e v)
+    → Reads (fteidRead p (readFteid e v) (rowMembers row)) (sixSet row (x .flags) (x .teid) (x .ipv4) (x .«ipv6_high») (x .«ipv6_low») (x .«choose_id») row) Fine
 unfolding fteidRead
-fteid-value x e v row z = by-option (fteidOf x) refl
+fteid-value x p e v row z = by-option (fteidOf x) refl
   where
     by-option : (o : Option Fteid) → fteidOf x ≡ o → mapOption value o ≡ some (readFteid e v)
-        → Reads (fteidRead (readFteid e v) (rowMembers row)) (sixSet row (x .flags) (x .teid) (x .ipv4) (x .«ipv6_high») (x .«ipv6_low») (x .«choose_id») row) Fine
+        → Reads (fteidRead p (readFteid e v) (rowMembers row)) (sixSet row (x .flags) (x .teid) (x .ipv4) (x .«ipv6_high») (x .«ipv6_low») (x .«choose_id») row) Fine
     by-option none q h = let y : _≡_ {A = ℕ} 0 1 = cc in absurd (omega arith)
     by-option (some y) q h =
         let k : readFteid e v ≡ value y = cc in
@@ -176,10 +176,10 @@ module _ (g t : ℕ) (v : List ℕ) where
   a-far h k = sym (rw (h, k) (sym (nil-length v)))
 
 -- without a null FAR ID a plain member is read alike in every group
-plain-alike : (g : ℕ) (v : List ℕ) (m : Members) (t : ℕ) → member t plainTypes ≡ true → false ≡ isNullFar g t v → plainRead t v m ≡ valueRead unopened g t v m
+plain-alike : (g p : ℕ) (v : List ℕ) (m : Members) (t : ℕ) → member t plainTypes ≡ true → false ≡ isNullFar g t v → plainRead t p v m ≡ valueRead unopened g t p v m
 unfolding plainRead valueRead isNullFar farRead
-plain-alike g v m =
-    by-plain (λ t. false ≡ isNullFar g t v → plainRead t v m ≡ valueRead unopened g t v m)
+plain-alike g p v m =
+    by-plain (λ t. false ≡ isNullFar g t v → plainRead t p v m ≡ valueRead unopened g t p v m)
     (λ h. refl) (λ h. refl) (λ h. rw (← h)) (λ h. refl) (λ h. refl)
 
 -- a type that holds a number is one that is neither an F-TEID nor a PDI
@@ -189,12 +189,12 @@ is-plain =
     by-member (λ t. (t ≡ ie.fteid → ⊥) → (t ≡ ie.pdi → ⊥) → member t plainTypes ≡ true)
     (λ a b. refl) (λ a b. refl) (λ a b. refl) (λ a b. absurd (b refl)) (λ a b. refl) (λ a b. absurd (a refl)) (λ a b. refl)
 
-module _ (g t : ℕ) (v row : List ℕ) where
-  pub value-fteid : {row′ : List ℕ} {r : Verdict} → t ≡ ie.fteid → Reads (fteidRead (readFteid (eqb g ie.createEndpoint) v) (rowMembers row)) row′ r → Reads (valueRead unopened g t v (rowMembers row)) row′ r
+module _ (g t p : ℕ) (v row : List ℕ) where
+  pub value-fteid : {row′ : List ℕ} {r : Verdict} → t ≡ ie.fteid → Reads (fteidRead p (readFteid (eqb g ie.createEndpoint) v) (rowMembers row)) row′ r → Reads (valueRead unopened g t p v (rowMembers row)) row′ r
   unfolding valueRead fteidRead
   value-fteid h e = rw h e
 
-  pub value-pdi : t ≡ ie.pdi → Tidy row → Reads (valueRead unopened g t v (rowMembers row)) (set row 6 1) Fine
+  pub value-pdi : t ≡ ie.pdi → Tidy row → Reads (valueRead unopened g t p v (rowMembers row)) (set row 6 1) Fine
   unfolding valueRead pdiIn
   value-pdi h z = rw h (holding (put-pdi row z) (pick-same (eqb g ie.createPdr) (done (withPdi (rowMembers row)))))
     where
@@ -202,20 +202,20 @@ module _ (g t : ℕ) (v row : List ℕ) where
       pick-same true a = refl
       pick-same false a = refl
 
-  pub value-null : member t memberTypes ≡ true → true ≡ isNullFar g t v → Tidy row → Reads (valueRead unopened g t v (rowMembers row)) (set row 3 2) Fine
+  pub value-null : member t memberTypes ≡ true → true ≡ isNullFar g t v → Tidy row → Reads (valueRead unopened g t p v (rowMembers row)) (set row 3 2) Fine
   unfolding valueRead farRead isNullFar
   value-null k h z = holding (put-null-far row z) (null-is t k h)
     where
-      null-is : (t : ℕ) → member t memberTypes ≡ true → true ≡ (eqb g ie.updatePdr && (eqb t ie.farId && isNil v)) → valueRead unopened g t v (rowMembers row) ≡ done (withFar none (rowMembers row))
+      null-is : (t : ℕ) → member t memberTypes ≡ true → true ≡ (eqb g ie.updatePdr && (eqb t ie.farId && isNil v)) → valueRead unopened g t p v (rowMembers row) ≡ done (withFar none (rowMembers row))
       null-is =
-          by-member (λ t. true ≡ (eqb g ie.updatePdr && (eqb t ie.farId && isNil v)) → valueRead unopened g t v (rowMembers row) ≡ done (withFar none (rowMembers row)))
+          by-member (λ t. true ≡ (eqb g ie.updatePdr && (eqb t ie.farId && isNil v)) → valueRead unopened g t p v (rowMembers row) ≡ done (withFar none (rowMembers row)))
           never never (λ q. rw (← q)) never never never never
         where
           never : {X : Type 0} → true ≡ (eqb g ie.updatePdr && false) → X
           never q = let y : true ≡ false = q ∙ and-false (eqb g ie.updatePdr) in let n : _≡_ {A = ℕ} 0 1 = cc in absurd (omega arith)
 
-  pub value-plain : {row′ : List ℕ} {r : Verdict} → member t plainTypes ≡ true → false ≡ isNullFar g t v → Reads (plainRead t v (rowMembers row)) row′ r → Reads (valueRead unopened g t v (rowMembers row)) row′ r
-  value-plain k h e = record { told = e .told ∙ ap numbered (plain-alike g v (rowMembers row) t k h); tidy = e .tidy }
+  pub value-plain : {row′ : List ℕ} {r : Verdict} → member t plainTypes ≡ true → false ≡ isNullFar g t v → Reads (plainRead t p v (rowMembers row)) row′ r → Reads (valueRead unopened g t p v (rowMembers row)) row′ r
+  value-plain k h e = record { told = e .told ∙ ap numbered (plain-alike g p v (rowMembers row) t k h); tidy = e .tidy }
 
 -- every member with a place has words
 pub has-words : (g t : ℕ) → true ≡ member t (placesOf g) → member t memberTypes ≡ true
@@ -232,16 +232,16 @@ has-words g t h = go (eqb g ie.createPdr || eqb g ie.updatePdr) (eqb g ie.pdi) (
     go false false false true q = in-list ie.pdrId [] tt q
     go false false false false q = in-list ie.endpointId [] tt q
 
-module _ (g t : ℕ) (v row : List ℕ) (z : Tidy row) where
-  pub own-skipped : false ≡ member t (placesOf g) → Reads (ownRead g t v (rowMembers row)) row Fine
+module _ (g t p : ℕ) (v row : List ℕ) (z : Tidy row) where
+  pub own-skipped : false ≡ member t (placesOf g) → Reads (ownRead g t p v (rowMembers row)) row Fine
   unfolding ownRead memberRead
   own-skipped h = record { told = sym (rw (← h)); tidy = z }
 
-  pub own-repeat : {at : ℕ} → true ≡ member t (placesOf g) → at ≡ column t → (getD row at 0 ≡ 0 → ⊥) → Reads (ownRead g t v (rowMembers row)) row (Refused why.incorrect t)
+  pub own-repeat : {at : ℕ} → true ≡ member t (placesOf g) → at ≡ column t → (getD row at 0 ≡ 0 → ⊥) → Reads (ownRead g t p v (rowMembers row)) row (Refused why.incorrect t p)
   unfolding ownRead memberRead causeOf
   own-repeat h a k = record { told = sym (rw (← h, held row z t (has-words g t h) (λ q. k (ap (λ (i : ℕ). getD row i 0) a ∙ q)))); tidy = z }
 
   pub own-value : {at : ℕ} {row′ : List ℕ} {r : Verdict} → true ≡ member t (placesOf g) → at ≡ column t → getD row at 0 ≡ 0
-      → Reads (valueRead unopened g t v (rowMembers row)) row′ r → Reads (ownRead g t v (rowMembers row)) row′ r
+      → Reads (valueRead unopened g t p v (rowMembers row)) row′ r → Reads (ownRead g t p v (rowMembers row)) row′ r
   unfolding ownRead memberRead
   own-value h a k e = record { told = e .told ∙ sym (rw (← h, unheld row z t (has-words g t h) (ap (λ (i : ℕ). getD row i 0) (sym a) ∙ k))); tidy = e .tidy }

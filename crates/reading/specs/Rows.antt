@@ -9,7 +9,7 @@ use lib.Dec.{eqb}
 use Rattle.octets.specs.Choice.{pick, isNil}
 use Rattle.octets.specs.Octets.{numberAt}
 use Rattle.rules.specs.Types as ie
-use Rattle.rules.specs.Message.{Element, numberWidth}
+use Rattle.rules.specs.Message.{inside, elements, numberWidth}
 use Rattle.rules.specs.Elements.{Answer, Fteid, causeOf}
 use Rattle.rules.specs.Reading.{Reading, done, andThen, named, Members, withLocal, valueRead, memberRead, membersRead, unopened, pdiRead, pdiEnd, itemFrom}
 use Rattle.plan.specs.Rows.{rowWidth, word, present, rowFar, rowLocal}
@@ -73,16 +73,16 @@ unfoldable pub plainNumber : ℕ → List ℕ → ℕ
 plainNumber t v = pick (eqb t ie.sourceInterface) (numberAt 0 (numberWidth t) v % 16) (numberAt 0 (numberWidth t) v)
 
 -- a plain member, as in a Create PDR, where a null FAR ID is short
-unfoldable pub plainRead : ℕ → List ℕ → Members → Reading Members
-plainRead t v m = valueRead unopened ie.createPdr t v m
+unfoldable pub plainRead : ℕ → ℕ → List ℕ → Members → Reading Members
+plainRead t p v m = valueRead unopened ie.createPdr t p v m
 
 -- the answer on an F-TEID
-unfoldable pub fteidRead : Answer Fteid → Members → Reading Members
-fteidRead a m = andThen (named ie.fteid a) (λ y. done (withLocal y m))
+unfoldable pub fteidRead : ℕ → Answer Fteid → Members → Reading Members
+fteidRead p a m = andThen (named ie.fteid p a) (λ y. done (withLocal y m))
 
 -- an element by itself: a PDI is noted and not opened
-unfoldable pub ownRead : ℕ → ℕ → List ℕ → Members → Reading Members
-ownRead g t v m = memberRead unopened g (record { type = t; content = v }) m
+unfoldable pub ownRead : ℕ → ℕ → ℕ → List ℕ → Members → Reading Members
+ownRead g t p v m = memberRead unopened g (record { type = t; content = v; place = p }) m
 
 -- a null FAR ID in an Update PDR
 unfoldable pub isNullFar : ℕ → ℕ → List ℕ → Bool
@@ -92,15 +92,15 @@ isNullFar g t v = eqb g ie.updatePdr && (eqb t ie.farId && isNil v)
 unfoldable pub isPdi : ℕ → ℕ → Bool
 isPdi g t = eqb g ie.createPdr && eqb t ie.pdi
 
--- a group's end: its members, if none that is required is missing
-unfoldable pub closing : ℕ → Members → Reading Members
-closing g m = pick (eqb g ie.pdi) (pdiEnd m) (andThen (itemFrom g m) (λ i. done m))
+-- the end of a group at a place: its members, if none that is required is missing
+unfoldable pub closing : ℕ → ℕ → Members → Reading Members
+closing g p m = pick (eqb g ie.pdi) (pdiEnd p m) (andThen (itemFrom g p m) (λ i. done m))
 
--- the members of a group, read into those that were there before
-unfoldable pub closedRead : ℕ → List Element → Members → Reading Members
-closedRead g es m = andThen (membersRead pdiRead g es m) (closing g)
+-- the members of a group at a place with the value v, read into those that were there before
+unfoldable pub closedRead : ℕ → ℕ → List ℕ → Members → Reading Members
+closedRead g p v m = andThen (membersRead pdiRead g (elements (inside p) v) m) (closing g p)
 
 -- what a reader's refusal tells
-abbrev pub fteidRefusal : code.Answer → Verdict
-fteidRefusal (code-case.Value x) = Fine
-fteidRefusal (code-case.Refused r) = Refused (causeOf (refusalOf r)) ie.fteid
+abbrev pub fteidRefusal : ℕ → code.Answer → Verdict
+fteidRefusal p (code-case.Value x) = Fine
+fteidRefusal p (code-case.Refused r) = Refused (causeOf (refusalOf r)) ie.fteid p

@@ -6,10 +6,10 @@ ghost use Rattle.rules.specs.Message.{placesOf, numberWidth};
 ghost use Rattle.reading.specs.Rows.{isPdi};
 
 // Whether an element of type kind has a place in the group.
-pub(crate) fn is_member(place: u64, kind: u64) -> bool
-    ensures { λ r. ⌜ r ≡ member kind (placesOf place) ⌝ }
+pub(crate) fn is_member(group: u64, kind: u64) -> bool
+    ensures { λ r. ⌜ r ≡ member kind (placesOf group) ⌝ }
 {
-    match place {
+    match group {
         types::CREATE_PDR | types::UPDATE_PDR => match kind {
             types::PDR_ID | types::PRECEDENCE | types::PDI | types::FAR_ID => true,
             _ => false,
@@ -46,10 +46,10 @@ pub fn width_of(kind: u64) -> usize
 }
 
 // Whether an element of type kind in the group is a PDI whose members are read.
-pub(crate) fn is_pdi(place: u64, kind: u64) -> bool
-    ensures { λ r. ⌜ r ≡ isPdi place kind ⌝ }
+pub(crate) fn is_pdi(group: u64, kind: u64) -> bool
+    ensures { λ r. ⌜ r ≡ isPdi group kind ⌝ }
 {
-    if place != types::CREATE_PDR {
+    if group != types::CREATE_PDR {
         return false;
     }
     kind == types::PDI

@@ -5,6 +5,6 @@ pub mod members;
 // What stage 3 finds.
 pub enum Verdict {
     Fine,
-    // The cause, and the type at fault.
-    Refused(u64, u64),
+    // The cause, the type at fault, and its place in the message: the element's own, or where one is missing that of the group that lacks it.
+    Refused(u64, u64, usize),
 }

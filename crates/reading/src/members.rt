@@ -7,14 +7,14 @@ use format::causes;
 use format::types;
 use format::words;
 ghost use mathlib.Core.Path.{_≡_};
-ghost use Prim.Native.Nat.{_≤_, _<_};
+ghost use Prim.Native.Nat.{_+_, _≤_, _<_, _^_};
 ghost use lib.Dec.{eqb};
 ghost use lib.ListN.{length};
 ghost use mathlib.Core.Bool.{true};
 ghost use Rattle.octets.specs.Choice.{pick};
 ghost use Rattle.octets.specs.Lists.{member};
 ghost use Rattle.rules.specs.Elements.{readFteid};
-ghost use Rattle.rules.specs.Message.{elements, numberWidth};
+ghost use Rattle.rules.specs.Message.{numberWidth};
 ghost use Rattle.rules.specs.Reading.{unopened, valueRead};
 ghost use Rattle.plan.specs.Rows.{word, rowWidth};
 ghost use Rattle.reading.specs.Verdicts.{outcome, numbered};
@@ -49,14 +49,14 @@ fn number_of(v: &[u8], kind: u64, width: usize) -> u64
     n
 }
 
-// A plain member: its presence word, and its number six words on.
-fn read_plain(v: &[u8], kind: u64, row: &mut [u64]) -> Verdict
+// A plain member at a place: its presence word, and its number six words on.
+fn read_plain(v: &[u8], kind: u64, place: usize, row: &mut [u64]) -> Verdict
     requires { ⌜ Tidy (now row) × (member kind plainTypes ≡ true) ⌝ }
-    ensures { λ r. ⌜ Reads (plainRead kind (now (v .entry)) (rowMembers (now (row .entry)))) (now (row .exit)) r ⌝ }
+    ensures { λ r. ⌜ Reads (plainRead kind place (now (v .entry)) (rowMembers (now (row .entry)))) (now (row .exit)) r ⌝ }
 {
     let width = crate::group::width_of(kind);
     if v.len() < width {
-        return Verdict::Refused(causes::WRONG_LENGTH, kind);
+        return Verdict::Refused(causes::WRONG_LENGTH, kind, place);
     }
     let n = number_of(v, kind, width);
     let at = column_of(kind);
@@ -65,24 +65,24 @@ fn read_plain(v: &[u8], kind: u64, row: &mut [u64]) -> Verdict
     Verdict::Fine
 }
 
-// The refusal in an answer on an F-TEID, if it is one.
-fn refused(answer: Answer) -> Verdict
-    ensures { λ r. ⌜ r ≡ fteidRefusal answer ⌝ }
+// The refusal in an answer on an F-TEID at a place, if it is one.
+fn refused(answer: Answer, place: usize) -> Verdict
+    ensures { λ r. ⌜ r ≡ fteidRefusal place answer ⌝ }
 {
     let Answer::Refused(refusal) = answer else {
         return Verdict::Fine;
     };
-    Verdict::Refused(element::cause_of(refusal), types::FTEID)
+    Verdict::Refused(element::cause_of(refusal), types::FTEID, place)
 }
 
-// An F-TEID: in a traffic endpoint (endpoint) or in a PDI.
-fn read_fteid(v: &[u8], endpoint: bool, row: &mut [u64]) -> Verdict
+// An F-TEID at a place: in a traffic endpoint (endpoint) or in a PDI.
+fn read_fteid(v: &[u8], endpoint: bool, place: usize, row: &mut [u64]) -> Verdict
     requires { ⌜ Tidy (now row) ⌝ }
-    ensures { λ r. ⌜ Reads (fteidRead (readFteid endpoint (now (v .entry))) (rowMembers (now (row .entry)))) (now (row .exit)) r ⌝ }
+    ensures { λ r. ⌜ Reads (fteidRead place (readFteid endpoint (now (v .entry))) (rowMembers (now (row .entry)))) (now (row .exit)) r ⌝ }
 {
     let answer = element::fteid::read(v, endpoint);
     let Answer::Value(x) = answer else {
-        return refused(answer);
+        return refused(answer, place);
     };
     row[words::FLAGS] = x.flags;
     row[words::TEID] = x.teid;
@@ -94,10 +94,10 @@ fn read_fteid(v: &[u8], endpoint: bool, row: &mut [u64]) -> Verdict
 }
 
 // Whether this is a FAR ID of null length in an Update PDR.
-fn is_null_far(v: &[u8], place: u64, kind: u64) -> bool
-    ensures { λ r. ⌜ r ≡ isNullFar place kind (now (v .entry)) ⌝ }
+fn is_null_far(v: &[u8], group: u64, kind: u64) -> bool
+    ensures { λ r. ⌜ r ≡ isNullFar group kind (now (v .entry)) ⌝ }
 {
-    if place != types::UPDATE_PDR {
+    if group != types::UPDATE_PDR {
         return false;
     }
     if kind != types::FAR_ID {
@@ -106,75 +106,79 @@ fn is_null_far(v: &[u8], place: u64, kind: u64) -> bool
     v.len() == 0
 }
 
-// The value of a member of type kind in the group. The members of a PDI are read apart in a Create PDR, and not at all in an Update
+// The value of a member of type kind at a place, in the group. The members of a PDI are read apart in a Create PDR, and not at all in an Update
 // PDR, where a FAR ID of null length takes the FAR ID away.
-fn read_value(v: &[u8], place: u64, kind: u64, row: &mut [u64]) -> Verdict
+fn read_value(v: &[u8], group: u64, kind: u64, place: usize, row: &mut [u64]) -> Verdict
     requires { ⌜ Tidy (now row) × (member kind memberTypes ≡ true) ⌝ }
-    ensures { λ r. ⌜ Reads (valueRead unopened place kind (now (v .entry)) (rowMembers (now (row .entry)))) (now (row .exit)) r ⌝ }
+    ensures { λ r. ⌜ Reads (valueRead unopened group kind place (now (v .entry)) (rowMembers (now (row .entry)))) (now (row .exit)) r ⌝ }
 {
     if kind == types::FTEID {
-        return read_fteid(v, place == types::CREATE_ENDPOINT, row);
+        return read_fteid(v, group == types::CREATE_ENDPOINT, place, row);
     }
     if kind == types::PDI {
         row[words::HAS_PDI] = 1;
         return Verdict::Fine;
     }
-    if is_null_far(v, place, kind) {
+    if is_null_far(v, group, kind) {
         row[words::HAS_FAR_ID] = 2;
         return Verdict::Fine;
     }
-    read_plain(v, kind, row)
+    read_plain(v, kind, place, row)
 }
 
-// An element of type kind and value v in the group, by itself: skipped where it has no place, a repeat where its word is set.
-fn read_own(v: &[u8], place: u64, kind: u64, row: &mut [u64]) -> Verdict
+// An element of type kind and value v at a place in the group, by itself: skipped where it has no place, a repeat where its word is set.
+fn read_own(v: &[u8], group: u64, kind: u64, place: usize, row: &mut [u64]) -> Verdict
     requires { ⌜ Tidy (now row) ⌝ }
-    ensures { λ r. ⌜ Reads (ownRead place kind (now (v .entry)) (rowMembers (now (row .entry)))) (now (row .exit)) r ⌝ }
+    ensures { λ r. ⌜ Reads (ownRead group kind place (now (v .entry)) (rowMembers (now (row .entry)))) (now (row .exit)) r ⌝ }
 {
-    if !crate::group::is_member(place, kind) {
+    if !crate::group::is_member(group, kind) {
         return Verdict::Fine;
     }
     let at = column_of(kind);
     if row[at] != 0 {
-        return Verdict::Refused(causes::INCORRECT, kind);
+        return Verdict::Refused(causes::INCORRECT, kind, place);
     }
-    read_value(v, place, kind, row)
+    read_value(v, group, kind, place, row)
 }
 
-// Refuses a row without a member of type kind, and else goes by next.
-fn require(row: &[u64], cause: u64, kind: u64, next: Verdict) -> Verdict
+// Refuses the row of a group at a place without a member of type kind, and else goes by next.
+fn require(row: &[u64], cause: u64, kind: u64, place: usize, next: Verdict) -> Verdict
     requires { ⌜ length (now row) ≡ rowWidth ⌝ }
-    ensures { λ r. ⌜ r ≡ pick (eqb (word (column kind) (now (row .entry))) 0) (Refused cause kind) next ⌝ }
+    ensures { λ r. ⌜ r ≡ pick (eqb (word (column kind) (now (row .entry))) 0) (Refused cause kind place) next ⌝ }
 {
     let at = column_of(kind);
     if row[at] == 0 {
-        return Verdict::Refused(cause, kind);
+        return Verdict::Refused(cause, kind, place);
     }
     next
 }
 
-// The first member that the row of a group lacks, the lowest type first.
-fn lacking(row: &[u64], place: u64) -> Verdict
+// The first member that the row of a group at a place lacks, the lowest type first.
+fn lacking(row: &[u64], group: u64, place: usize) -> Verdict
     requires { ⌜ Tidy (now row) ⌝ }
-    ensures { λ r. ⌜ outcome r (rowMembers (now (row .entry))) ≡ numbered (closing place (rowMembers (now (row .entry)))) ⌝ }
+    ensures { λ r. ⌜ outcome r (rowMembers (now (row .entry))) ≡ numbered (closing group place (rowMembers (now (row .entry)))) ⌝ }
 {
-    match place {
+    match group {
         types::CREATE_PDR => require(
             row,
             causes::MANDATORY_MISSING,
             types::PDI,
+            place,
             require(
                 row,
                 causes::MANDATORY_MISSING,
                 types::PRECEDENCE,
+                place,
                 require(
                     row,
                     causes::MANDATORY_MISSING,
                     types::PDR_ID,
+                    place,
                     require(
                         row,
                         causes::MANDATORY_MISSING,
                         types::SOURCE_INTERFACE,
+                        place,
                         Verdict::Fine,
                     ),
                 ),
@@ -184,16 +188,19 @@ fn lacking(row: &[u64], place: u64) -> Verdict
             row,
             causes::MANDATORY_MISSING,
             types::SOURCE_INTERFACE,
+            place,
             Verdict::Fine,
         ),
         types::CREATE_ENDPOINT => require(
             row,
             causes::CONDITIONAL_MISSING,
             types::FTEID,
+            place,
             require(
                 row,
                 causes::MANDATORY_MISSING,
                 types::ENDPOINT_ID,
+                place,
                 Verdict::Fine,
             ),
         ),
@@ -201,38 +208,42 @@ fn lacking(row: &[u64], place: u64) -> Verdict
             row,
             causes::MANDATORY_MISSING,
             types::PDR_ID,
+            place,
             Verdict::Fine,
         ),
         _ => require(
             row,
             causes::MANDATORY_MISSING,
             types::ENDPOINT_ID,
+            place,
             Verdict::Fine,
         ),
     }
 }
 
-// Reads the group s into its row, up to the first fault.
-pub fn read_group(s: &[u8], place: u64, row: &mut [u64]) -> Verdict
-    requires { ⌜ Tidy (now row) ⌝ }
-    ensures { λ r. ⌜ Reads (closedRead place (elements (now (s .entry))) (rowMembers (now (row .entry)))) (now (row .exit)) r ⌝ }
+// Reads the group s at a place into its row, up to the first fault. The members stand from the place plus 4 on.
+pub fn read_group(s: &[u8], group: u64, place: usize, row: &mut [u64]) -> Verdict
+    requires { ⌜ Tidy (now row) × (place + 4 + length (now s) < 2 ^ 64) ⌝ }
+    ensures { λ r. ⌜ Reads (closedRead group place (now (s .entry)) (rowMembers (now (row .entry)))) (now (row .exit)) r ⌝ }
 {
     let mut rest = s;
+    let mut at = place + 4;
     loop {
         let First::Element(kind, end) = elements::first_of(rest) else {
-            return lacking(row, place);
+            return lacking(row, group, place);
         };
         let v = &rest[4..end];
-        let own = read_own(v, place, kind, row);
+        let own = read_own(v, group, kind, at, row);
         let Verdict::Fine = own else {
             return own;
         };
-        if crate::group::is_pdi(place, kind) {
-            let inner = read_group(v, types::PDI, row);
+        if crate::group::is_pdi(group, kind) {
+            let inner = read_group(v, types::PDI, at, row);
             let Verdict::Fine = inner else {
                 return inner;
             };
         }
         rest = &rest[end..];
+        at += end;
     }
 }

@@ -77,7 +77,7 @@ whole s msg seid v gs out h room p q =
 
 module _ (s : Settings) (kind : ℕ) where
   pub refused-body : (cause : ℕ) (o : Option ℕ) → (cause ≡ why.accepted → ⊥)
-      → bodyFront kind s cause ++ offendingElement o ≡ replyBody kind s 0 (record { cause = cause; offending = o }) []
+      → bodyFront kind s cause ++ offendingElement o ≡ replyBody kind s 0 (record { cause = cause; offending = o; place = 0 }) []
   unfolding bodyFront replyBody
   refused-body cause o n = rw (ne-eqb cause why.accepted n, append-nil) (append-assoc (nodeIdElement kind s) (element ie.cause (cause ∷ [])) (offendingElement o))
 
@@ -96,10 +96,10 @@ module _ (t msg out : List ℕ) (header : 16 ≤ length msg) (space : 1024 ≤ l
 
   pub refused-steps : (cause : ℕ) (o : Option ℕ) {out₁ out₂ out₃ : List ℕ} {next end : ℕ} → (cause ≡ why.accepted → ⊥)
       → Placed out 16 (bodyFront kind st cause) next out₁ → Placed out₁ next (offendingElement o) end out₂ → out₃ ≡ put 0 (replyHead msg 0 cause (end - 16)) out₂
-      → (end, out₃) ≡ written (reply st msg 0 (record { cause = cause; offending = o }) []) out
+      → (end, out₃) ≡ written (reply st msg 0 (record { cause = cause; offending = o; place = 0 }) []) out
   unfolding kindOf octetAt
   refused-steps cause o n p q r =
-      let v : Verdict = record { cause = cause; offending = o } in
+      let v : Verdict = record { cause = cause; offending = o; place = 0 } in
       whole st msg 0 v [] out header (omega (arith, length-body st (view-ipv4 t) (view-ipv6 t) kind 0 v [] (omega arith)))
       (rw (refused-body st kind cause o n) at (placed-then p q (omega (arith, length-front st (view-ipv4 t) kind cause)))) r
 

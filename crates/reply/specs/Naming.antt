@@ -11,6 +11,6 @@ abbrev pub offendingIn : Offending → Option ℕ
 offendingIn Nothing = none
 offendingIn (Element t) = some t
 
--- the verdict of a refusal
+-- the verdict of a refusal; the reply does not say the place of a fault
 abbrev pub refusal : ℕ → Offending → Verdict
-refusal c o = record { cause = c; offending = offendingIn o }
+refusal c o = record { cause = c; offending = offendingIn o; place = 0 }

@@ -12,11 +12,12 @@ use Rattle.octets.specs.Choice.{pick, isNil, mapOption}
 use Rattle.octets.specs.Octets.{put}
 use Rattle.octets.specs.Lists.{member, keep}
 use Rattle.rules.specs.Elements.{Refusal, incorrect, causeOf, refuse, value, readFqcsid, Fqcsid}
-use Rattle.rules.specs.Message.{elements, hasType, modification, deletion}
+use Rattle.rules.specs.Message.{bodyPlace, elements, hasType, modification, deletion}
 use Rattle.rules.specs.Reading as rules
 use Rattle.rules.specs.Reading.{setsCsid, clearsCsids, Reading, done, refusal, withItem, withNode, withCsid, csidRead, pdrIn, aloneIn}
 use Rattle.rules.specs.Types as ie
 use Rattle.rules.specs.Causes as why
+use Rattle.laws.proofs.MessageLaws.{counts-alike}
 use Rattle.reading.specs.Verdicts.{numbered}
 use Rattle.request.specs.Items.{isUpdate, hasRow, met, Means, Follows, withRow}
 use Rattle.request.specs.declared.row.Csid.{Csid}
@@ -31,18 +32,18 @@ use Rattle.request.proofs.DraftLaws.{step-fault, went, row-added, node-
 
 -- ---- FQ-CSIDs
 
-module _ (kind : ℕ) (alone : Bool) (v nodes words : List ℕ) (c : Draft) where
+module _ (kind : ℕ) (alone : Bool) (p : ℕ) (v nodes words : List ℕ) (c : Draft) where
   abbrev clearing : Bool
   clearing = isNil v && eqb kind modification && alone
 
   pub csid-clears : true ≡ clearing → 18 * c .rows + 18 ≤ length words → {x : Csid} {b : Draft} {words′ : List ℕ} → x ≡ bareCsid 3 0 → (b ≡ withRow false c) × (words′ ≡ put (18 * c .rows) (csidWords x) words)
-      → Follows (csidRead kind alone v) c nodes words (Next b) nodes words′
+      → Follows (csidRead kind alone p v) c nodes words (Next b) nodes words′
   unfolding csidRead
   csid-clears h room e to =
       rw (to .0, to .1, e) (record { follows = λ d m. went (withItem clearsCsids d) (rw (← h)) (row-added m clearsCsids (csidWords (bareCsid 3 0)) false null-row (unfold hasRow isUpdate in refl) (unfold pdrIn in refl) refl room) })
 
   module _ (other : false ≡ clearing) where
-    pub csid-refused : (q : Refusal) {s : Step} → some (refuse q) ≡ some (readFqcsid v) → s ≡ Fault (causeOf q) 65 → Follows (csidRead kind alone v) c nodes words s nodes words
+    pub csid-refused : (q : Refusal) {s : Step} → some (refuse q) ≡ some (readFqcsid v) → s ≡ Fault (causeOf q) 65 p → Follows (csidRead kind alone p v) c nodes words s nodes words
     unfolding csidRead
     csid-refused q h e = let k : refuse q ≡ readFqcsid v = cc in rw e (record { follows = λ d m. step-fault (rw (← other, ← k)) })
 
@@ -63,38 +64,38 @@ module _ (kind : ℕ) (alone : Bool) (v nodes words : List ℕ) (c : Draft) wher
 
       -- the rules' step, by what the code tests
       value-is : (y : Fqcsid) → fqcsidOf x ≡ some y → readFqcsid v ≡ value y → {d : rules.Draft} → Means d c nodes words
-          → csidRead kind alone v d ≡ pick (countIn kind (x .count) && not (met (x .«node_type») nodes)) (done (withCsid kind y d)) (refusal incorrect ie.fqcsid)
+          → csidRead kind alone p v d ≡ pick (countIn kind (x .count) && not (met (x .«node_type») nodes)) (done (withCsid kind y d)) (refusal incorrect ie.fqcsid p)
       unfolding csidRead
       value-is y q h {d} m =
           rw (← other, h)
-          (ap₂ (λ (a b : Bool). pick (a && not b) (done (withCsid kind y d)) (refusal incorrect ie.fqcsid)) (meant-count x y q kind) (ap (λ (n : ℕ). member n (d .nodes)) (meant-node x y q) ∙ sym (m .seen (x .«node_type»))))
+          (ap₂ (λ (a b : Bool). pick (a && not b) (done (withCsid kind y d)) (refusal incorrect ie.fqcsid p)) (meant-count x y q kind) (ap (λ (n : ℕ). member n (d .nodes)) (meant-node x y q) ∙ sym (m .seen (x .«node_type»))))
 
-      pub csid-count : false ≡ countIn kind (x .count) → Follows (csidRead kind alone v) c nodes words (Fault why.incorrect ie.fqcsid) nodes words
+      pub csid-count : false ≡ countIn kind (x .count) → Follows (csidRead kind alone p v) c nodes words (Fault why.incorrect ie.fqcsid p) nodes words
       unfolding causeOf
       csid-count h =
           with-value _ (λ y q e. record {
             follows = λ d m.
-                let w : csidRead kind alone v d ≡ refusal incorrect ie.fqcsid = value-is y q e m ∙ rw (← h) in
+                let w : csidRead kind alone p v d ≡ refusal incorrect ie.fqcsid p = value-is y q e m ∙ rw (← h) in
                 step-fault (ap (λ (z : Reading rules.Draft). numbered z) w);
           })
 
-      pub csid-repeat : true ≡ countIn kind (x .count) → (getD nodes (x .«node_type») 0 ≡ 0 → ⊥) → Follows (csidRead kind alone v) c nodes words (Fault why.incorrect ie.fqcsid) nodes words
+      pub csid-repeat : true ≡ countIn kind (x .count) → (getD nodes (x .«node_type») 0 ≡ 0 → ⊥) → Follows (csidRead kind alone p v) c nodes words (Fault why.incorrect ie.fqcsid p) nodes words
       unfolding causeOf
       csid-repeat h n =
           with-value _ (λ y q e. record {
             follows = λ d m.
-                let w : csidRead kind alone v d ≡ refusal incorrect ie.fqcsid = value-is y q e m ∙ rw (← h, ne-eqb _ 0 n) in
+                let w : csidRead kind alone p v d ≡ refusal incorrect ie.fqcsid p = value-is y q e m ∙ rw (← h, ne-eqb _ 0 n) in
                 step-fault (ap (λ (z : Reading rules.Draft). numbered z) w);
           })
 
       module _ (h : true ≡ countIn kind (x .count)) (n : getD nodes (x .«node_type») 0 ≡ 0) (wide : length nodes ≡ 16) where
-        went-on : (y : Fqcsid) → fqcsidOf x ≡ some y → readFqcsid v ≡ value y → {d : rules.Draft} → Means d c nodes words → csidRead kind alone v d ≡ done (withCsid kind y d)
+        went-on : (y : Fqcsid) → fqcsidOf x ≡ some y → readFqcsid v ≡ value y → {d : rules.Draft} → Means d c nodes words → csidRead kind alone p v d ≡ done (withCsid kind y d)
         went-on y q e m = value-is y q e m ∙ rw (← h, n)
 
         low : x .«node_type» < length nodes
         low = let l = node-small in omega arith
 
-        pub csid-checked : kind ≡ deletion → Follows (csidRead kind alone v) c nodes words (Next c) (set nodes (x .«node_type») 1) words
+        pub csid-checked : kind ≡ deletion → Follows (csidRead kind alone p v) c nodes words (Next c) (set nodes (x .«node_type») 1) words
         csid-checked is =
             with-value _ (λ y q e. record {
               follows = λ d m.
@@ -102,7 +103,7 @@ module _ (kind : ℕ) (alone : Bool) (v nodes words : List ℕ) (c : Draft) wher
             })
 
         pub csid-taken : (kind ≡ deletion → ⊥) → 18 * c .rows + 18 ≤ length words → {z : Csid} {b : Draft} {words′ : List ℕ} → z ≡ csidFrom x → (b ≡ withRow false c) × (words′ ≡ put (18 * c .rows) (csidWords z) words)
-            → Follows (csidRead kind alone v) c nodes words (Next b) (set nodes (x .«node_type») 1) words′
+            → Follows (csidRead kind alone p v) c nodes words (Next b) (set nodes (x .«node_type») 1) words′
         csid-taken not-54 room i to =
             rw (to .0, to .1, i)
             (with-value _ (λ y q e. record {
@@ -114,26 +115,26 @@ module _ (kind : ℕ) (alone : Bool) (v nodes words : List ℕ) (c : Draft) wher
 -- ---- a null FQ-CSID that stands alone
 
 module _ (s v : List ℕ) (kind : ℕ) where
-  pub clear-long : (length v ≡ 0 → ⊥) → false ≡ (isNil v && eqb kind modification && aloneIn (elements s))
+  pub clear-long : (length v ≡ 0 → ⊥) → false ≡ (isNil v && eqb kind modification && aloneIn (elements bodyPlace s))
   clear-long = go v
     where
-      go : (xs : List ℕ) → (length xs ≡ 0 → ⊥) → false ≡ (isNil xs && eqb kind modification && aloneIn (elements s))
+      go : (xs : List ℕ) → (length xs ≡ 0 → ⊥) → false ≡ (isNil xs && eqb kind modification && aloneIn (elements bodyPlace s))
       go [] h = absurd (h refl)
       go (x ∷ xs) h = refl
 
-  pub clear-other : (kind ≡ modification → ⊥) → false ≡ (isNil v && eqb kind modification && aloneIn (elements s))
+  pub clear-other : (kind ≡ modification → ⊥) → false ≡ (isNil v && eqb kind modification && aloneIn (elements bodyPlace s))
   clear-other h = sym (rw (ne-eqb kind modification h) (none (isNil v)))
     where
-      none : (b : Bool) → (b && false && aloneIn (elements s)) ≡ false
+      none : (b : Bool) → (b && false && aloneIn (elements bodyPlace s)) ≡ false
       none true = refl
       none false = refl
 
-  pub clear-alone : {n : ℕ} → length v ≡ 0 → kind ≡ modification → n ≡ length (keep (hasType ie.fqcsid) (elements s)) → eqb n 1 ≡ (isNil v && eqb kind modification && aloneIn (elements s))
+  pub clear-alone : {n : ℕ} → length v ≡ 0 → kind ≡ modification → n ≡ length (keep (hasType ie.fqcsid) (elements 0 s)) → eqb n 1 ≡ (isNil v && eqb kind modification && aloneIn (elements bodyPlace s))
   unfolding aloneIn
   clear-alone {n} l k e = go v l
     where
-      go : (xs : List ℕ) → length xs ≡ 0 → eqb n 1 ≡ (isNil xs && eqb kind modification && eqb (length (keep (hasType ie.fqcsid) (elements s))) 1)
-      go [] h = rw (k, e)
+      go : (xs : List ℕ) → length xs ≡ 0 → eqb n 1 ≡ (isNil xs && eqb kind modification && eqb (length (keep (hasType ie.fqcsid) (elements bodyPlace s))) 1)
+      go [] h = rw (k, e, counts-alike ie.fqcsid 0 bodyPlace s)
       go (x ∷ xs) h = absurd (omega arith)
 
 -- it is a modification's, so that it has a row

@@ -25,22 +25,22 @@ use Rattle.request.specs.declared.items.Step.the-variants.{Fault, Next}
 
 -- ---- steps
 
-pub step-fault : {x : Reading rules.Draft} {c t : ℕ} {nodes words : List ℕ} → numbered x ≡ stopped c t → Steps x (Fault c t) nodes words
-step-fault {x} {c} {t} e = record { fault = λ c′ t′ q. e ∙ same q; next = λ d q. other q }
+pub step-fault : {x : Reading rules.Draft} {c t p : ℕ} {nodes words : List ℕ} → numbered x ≡ stopped c t p → Steps x (Fault c t p) nodes words
+step-fault {x} {c} {t} {p} e = record { fault = λ c′ t′ p′ q. e ∙ same q; next = λ d q. other q }
   where
-    same : {c′ t′ : ℕ} → Fault c t ≡ Fault c′ t′ → _≡_ {A = Outcome rules.Draft} (stopped c t) (stopped c′ t′)
+    same : {c′ t′ p′ : ℕ} → Fault c t p ≡ Fault c′ t′ p′ → _≡_ {A = Outcome rules.Draft} (stopped c t p) (stopped c′ t′ p′)
     same q = cc
 
-    other : {d : Draft} {X : Type 0} → Fault c t ≡ Next d → X
+    other : {d : Draft} {X : Type 0} → Fault c t p ≡ Next d → X
     other q = let z : _≡_ {A = ℕ} 0 1 = cc in absurd (omega arith)
 
 pub step-next : {x : Reading rules.Draft} {c : Draft} {nodes words : List ℕ} → Read x c nodes words → Steps x (Next c) nodes words
-step-next {x} {c} {nodes} {words} h = record { fault = λ n t q. other q; next = λ k q. subst (λ (j : Draft). Read x j nodes words) (same q) h }
+step-next {x} {c} {nodes} {words} h = record { fault = λ n t p q. other q; next = λ k q. subst (λ (j : Draft). Read x j nodes words) (same q) h }
   where
     same : {k : Draft} → Next c ≡ Next k → c ≡ k
     same q = cc
 
-    other : {n t : ℕ} {X : Type 0} → Next c ≡ Fault n t → X
+    other : {n t p : ℕ} {X : Type 0} → Next c ≡ Fault n t p → X
     other q = let z : _≡_ {A = ℕ} 0 1 = cc in absurd (omega arith)
 
 -- a step that went well

@@ -14,7 +14,7 @@ use Rattle.octets.specs.Octets.{put}
 use Rattle.octets.specs.Lists.{member}
 use Rattle.octets.proofs.Tests.{of-true}
 use Rattle.rules.specs.Elements.{missing, conditional}
-use Rattle.rules.specs.Message.{elements}
+use Rattle.rules.specs.Message.{inside, elements}
 use Rattle.rules.specs.Reading as rules
 use Rattle.rules.specs.Reading.{Item, createsPdr, createsEndpoint, updatesPdr, removesPdr, removesEndpoint, Reading, faulty, done, refusal, andThen, need, Members, noMembers, withItem, membersRead, pdiRead, pdrFrom, endpointFrom, changeFrom, itemFrom, groupRead, pdrIn}
 use Rattle.rules.specs.Types as ie
@@ -48,21 +48,21 @@ module _ (t : ℕ) (k : member t groupTypes ≡ true) where
       go (inr (inr (inr (inl q)))) = subst P (sym q) d
       go (inr (inr (inr (inr q)))) = subst P (sym q) e
 
-  closing-is : (m : Members) → closing t m ≡ andThen (itemFrom t m) (λ i. done m)
+  closing-is : (p : ℕ) (m : Members) → closing t p m ≡ andThen (itemFrom t p m) (λ i. done m)
   unfolding closing
-  closing-is m = by-group (λ t. closing t m ≡ andThen (itemFrom t m) (λ i. done m)) refl refl refl refl refl
+  closing-is p m = by-group (λ t. closing t p m ≡ andThen (itemFrom t p m) (λ i. done m)) refl refl refl refl refl
 
-  then-fault : {A B : Type 0} (x : Reading A) (b : B) {c n : ℕ} → numbered (andThen x (λ i. done b)) ≡ stopped c n → numbered x ≡ stopped c n
+  then-fault : {A B : Type 0} (x : Reading A) (b : B) {c n q : ℕ} → numbered (andThen x (λ i. done b)) ≡ stopped c n q → numbered x ≡ stopped c n q
   then-fault (faulty f) b h = cc
   then-fault (done a) b h = let z : _≡_ {A = ℕ} 0 1 = cc in absurd (omega arith)
 
-  group-fault : (v : List ℕ) {c n : ℕ} → numbered (closedRead t (elements v) noMembers) ≡ stopped c n → numbered (groupRead t v) ≡ stopped c n
+  group-fault : (p : ℕ) (v : List ℕ) {c n q : ℕ} → numbered (closedRead t p v noMembers) ≡ stopped c n q → numbered (groupRead t p v) ≡ stopped c n q
   unfolding closedRead groupRead
-  group-fault v {c} {n} h = go (membersRead pdiRead t (elements v) noMembers) h
+  group-fault p v {c} {n} {q} h = go (membersRead pdiRead t (elements (inside p) v) noMembers) h
     where
-      go : (x : Reading Members) → numbered (andThen x (closing t)) ≡ stopped c n → numbered (andThen x (itemFrom t)) ≡ stopped c n
+      go : (x : Reading Members) → numbered (andThen x (closing t p)) ≡ stopped c n q → numbered (andThen x (itemFrom t p)) ≡ stopped c n q
       go (faulty f) e = cc
-      go (done m) e = then-fault (itemFrom t m) m (ap (λ (y : Reading Members). numbered y) (sym (closing-is m)) ∙ e)
+      go (done m) e = then-fault (itemFrom t p m) m (ap (λ (y : Reading Members). numbered y) (sym (closing-is p m)) ∙ e)
 
 -- the item that a row makes
 module _ (row : List ℕ) where
@@ -79,9 +79,9 @@ module _ (row : List ℕ) where
   abbrev made : ℕ → ℕ → ℕ → Item
   made n k s = createsPdr (record { id = k; precedence = n; far = bindOption (rowFar row) (λ f. f); source = s; local = rowLocal row; endpoint = present (word its.hasEndpointId row) (word its.endpointId row) })
 
-  pdr-is : (i : Item) → pdrFrom (rowMembers row) ≡ done i → i ≡ createsPdr (rowPdr row)
+  pdr-is : (p : ℕ) (i : Item) → pdrFrom p (rowMembers row) ≡ done i → i ≡ createsPdr (rowPdr row)
   unfolding pdrFrom rowMembers present rowPdr
-  pdr-is i h =
+  pdr-is p i h =
       go (eqb (word its.hasPdi row) 1) (eqb (word its.hasPrecedence row) 1) (eqb (word its.hasPdrId row) 1) (eqb (word its.hasSource row) 1) h
       ∙ ap (λ (f : Option ℕ). createsPdr (record { id = word its.pdrId row; precedence = word its.precedence row; far = f; source = word its.source row; local = rowLocal row; endpoint = present (word its.hasEndpointId row) (word its.endpointId row) })) far-same
     where
@@ -89,7 +89,7 @@ module _ (row : List ℕ) where
       never q = let z : _≡_ {A = ℕ} 0 1 = cc in absurd (omega arith)
 
       go : (a b c e : Bool)
-          → pick a (need missing ie.precedence (pick b (some (word its.precedence row)) none) (λ n. need missing ie.pdrId (pick c (some (word its.pdrId row)) none) (λ k. need missing ie.sourceInterface (pick e (some (word its.source row)) none) (λ s. done (made n k s))))) (refusal missing ie.pdi) ≡ done i
+          → pick a (need missing ie.precedence p (pick b (some (word its.precedence row)) none) (λ n. need missing ie.pdrId p (pick c (some (word its.pdrId row)) none) (λ k. need missing ie.sourceInterface p (pick e (some (word its.source row)) none) (λ s. done (made n k s))))) (refusal missing ie.pdi p) ≡ done i
           → i ≡ made (word its.precedence row) (word its.pdrId row) (word its.source row)
       go true true true true q = cc
       go true true true false q = never q
@@ -97,29 +97,29 @@ module _ (row : List ℕ) where
       go true false c e q = never q
       go false b c e q = never q
 
-  endpoint-is : (i : Item) → endpointFrom (rowMembers row) ≡ done i → i ≡ createsEndpoint (rowEndpoint row)
+  endpoint-is : (p : ℕ) (i : Item) → endpointFrom p (rowMembers row) ≡ done i → i ≡ createsEndpoint (rowEndpoint row)
   unfolding endpointFrom rowMembers present rowLocal rowEndpoint
-  endpoint-is i h = go (eqb (word its.flags row) 0) (eqb (word its.hasEndpointId row) 1) h
+  endpoint-is p i h = go (eqb (word its.flags row) 0) (eqb (word its.hasEndpointId row) 1) h
     where
-      go : (a b : Bool) → need conditional ie.fteid (pick a none (some (rowFteid row))) (λ v. need missing ie.endpointId (pick b (some (word its.endpointId row)) none) (λ k. done (createsEndpoint (record { id = k; local = v })))) ≡ done i
+      go : (a b : Bool) → need conditional ie.fteid p (pick a none (some (rowFteid row))) (λ v. need missing ie.endpointId p (pick b (some (word its.endpointId row)) none) (λ k. done (createsEndpoint (record { id = k; local = v })))) ≡ done i
           → i ≡ createsEndpoint (record { id = word its.endpointId row; local = rowFteid row })
       go true b q = let z : _≡_ {A = ℕ} 0 1 = cc in absurd (omega arith)
       go false true q = cc
       go false false q = let z : _≡_ {A = ℕ} 0 1 = cc in absurd (omega arith)
 
   -- one with a number alone
-  one-is : (make : ℕ → Item) (t a n : ℕ) (i : Item) → need missing t (present a n) (λ k. done (make k)) ≡ done i → i ≡ make n
+  one-is : (make : ℕ → Item) (t a n p : ℕ) (i : Item) → need missing t p (present a n) (λ k. done (make k)) ≡ done i → i ≡ make n
   unfolding present
-  one-is make t a n i h = go (eqb a 1) h
+  one-is make t a n p i h = go (eqb a 1) h
     where
-      go : (b : Bool) → need missing t (pick b (some n) none) (λ k. done (make k)) ≡ done i → i ≡ make n
+      go : (b : Bool) → need missing t p (pick b (some n) none) (λ k. done (make k)) ≡ done i → i ≡ make n
       go true q = cc
       go false q = let z : _≡_ {A = ℕ} 0 1 = cc in absurd (omega arith)
 
-  pub item-is : (t : ℕ) → member t groupTypes ≡ true → (i : Item) → itemFrom t (rowMembers row) ≡ done i → i ≡ itemOf t row
+  pub item-is : (t : ℕ) → member t groupTypes ≡ true → (p : ℕ) (i : Item) → itemFrom t p (rowMembers row) ≡ done i → i ≡ itemOf t row
   unfolding itemFrom itemOf changeFrom rowMembers rowChange
   item-is t k =
-      by-group t k (λ t. (i : Item) → itemFrom t (rowMembers row) ≡ done i → i ≡ itemOf t row)
+      by-group t k (λ t. (p : ℕ) (i : Item) → itemFrom t p (rowMembers row) ≡ done i → i ≡ itemOf t row)
       pdr-is endpoint-is
       (one-is (λ n. updatesPdr (record { id = n; precedence = present (word its.hasPrecedence row) (word its.precedence row); far = rowFar row; pdi = eqb (word its.hasPdi row) 1 })) ie.pdrId (word its.hasPdrId row) (word its.pdrId row))
       (one-is removesPdr ie.pdrId (word its.hasPdrId row) (word its.pdrId row))
@@ -139,19 +139,19 @@ module _ (row : List ℕ) where
   unfolding rowItem itemOf csidItem rowPdr rowEndpoint rowChange rowAddress present rowFar rowLocal rowFteid
   tagged-row t = apart (λ x. rowItem (set x 0 t) ≡ itemOf t x) (λ a b c d e f g h i j k l m n o p q r. refl) row
 
-  pub group-item : (t : ℕ) → member t groupTypes ≡ true → (v : List ℕ) → closedRead t (elements v) noMembers ≡ done (rowMembers row) → groupRead t v ≡ done (itemOf t row)
+  pub group-item : (t : ℕ) → member t groupTypes ≡ true → (p : ℕ) (v : List ℕ) → closedRead t p v noMembers ≡ done (rowMembers row) → groupRead t p v ≡ done (itemOf t row)
   unfolding closedRead groupRead
-  group-item t k v h = go (membersRead pdiRead t (elements v) noMembers) h
+  group-item t k p v h = go (membersRead pdiRead t (elements (inside p) v) noMembers) h
     where
-      end : (n : Members) (x : Reading Item) → itemFrom t n ≡ x → andThen x (λ j. done n) ≡ done (rowMembers row) → itemFrom t n ≡ done (itemOf t row)
+      end : (n : Members) (x : Reading Item) → itemFrom t p n ≡ x → andThen x (λ j. done n) ≡ done (rowMembers row) → itemFrom t p n ≡ done (itemOf t row)
       end n (faulty f) e q = let z : _≡_ {A = ℕ} 0 1 = cc in absurd (omega arith)
       end n (done j) e q =
           let same : n ≡ rowMembers row = cc in
-          e ∙ ap done (item-is t k j (ap (itemFrom t) (sym same) ∙ e))
+          e ∙ ap done (item-is t k p j (ap (itemFrom t p) (sym same) ∙ e))
 
-      go : (x : Reading Members) → andThen x (closing t) ≡ done (rowMembers row) → andThen x (itemFrom t) ≡ done (itemOf t row)
+      go : (x : Reading Members) → andThen x (closing t p) ≡ done (rowMembers row) → andThen x (itemFrom t p) ≡ done (itemOf t row)
       go (faulty f) q = let z : _≡_ {A = ℕ} 0 1 = cc in absurd (omega arith)
-      go (done n) q = end n (itemFrom t n) refl (sym (closing-is t k n) ∙ q)
+      go (done n) q = end n (itemFrom t p n) refl (sym (closing-is t k p n) ∙ q)
 
 -- a row of zeros has no members
 pub no-members : rowMembers (replicate 18 0) ≡ noMembers
@@ -161,19 +161,19 @@ no-members = refl
 pub tidy-start : Tidy (replicate 18 0)
 tidy-start = record { wide = refl; pdrId = zero-le; precedence = zero-le; far = zero-le; source = zero-le; endpointId = zero-le; pdi = zero-le }
 
-module _ (t : ℕ) (k : member t groupTypes ≡ true) (v row : List ℕ) (r : Verdict) (c : Draft) (words : List ℕ) (read : Reads (closedRead t (elements v) (rowMembers (replicate 18 0))) row r) where
-  pub group-refused : {n x : ℕ} {s : Step} → r ≡ verdict.Refused n x → s ≡ Fault n x → Puts (groupAt t v) c words s words
-  group-refused {n} {x} q e =
-      let h : numbered (closedRead t (elements v) noMembers) ≡ stopped n x = ap (λ (m : Members). numbered (closedRead t (elements v) m)) (sym no-members) ∙ sym (read .told) ∙ ap (λ (y : Verdict). outcome y (rowMembers row)) q in
-      rw e (record { puts = λ nodes. record { follows = λ d m. step-fault (stops (groupRead t v) _ (group-fault t k v h)) } })
+module _ (t : ℕ) (k : member t groupTypes ≡ true) (p : ℕ) (v row : List ℕ) (r : Verdict) (c : Draft) (words : List ℕ) (read : Reads (closedRead t p v (rowMembers (replicate 18 0))) row r) where
+  pub group-refused : {n x y : ℕ} {s : Step} → r ≡ verdict.Refused n x y → s ≡ Fault n x y → Puts (groupAt t p v) c words s words
+  group-refused {n} {x} {y} q e =
+      let h : numbered (closedRead t p v noMembers) ≡ stopped n x y = ap (λ (m : Members). numbered (closedRead t p v m)) (sym no-members) ∙ sym (read .told) ∙ ap (λ (z : Verdict). outcome z (rowMembers row)) q in
+      rw e (record { puts = λ nodes. record { follows = λ d m. step-fault (stops (groupRead t p v) _ (group-fault t k p v h)) } })
 
   pub group-taken : r ≡ verdict.Fine → 18 * c .rows + 18 ≤ length words → {b : Draft} {words′ : List ℕ} → b ≡ withRow (eqb t ie.createPdr) c → words′ ≡ put (18 * c .rows) (set row 0 t) words
-      → Puts (groupAt t v) c words (Next b) words′
+      → Puts (groupAt t p v) c words (Next b) words′
   group-taken q room to stored =
-      let h : closedRead t (elements v) noMembers ≡ done (rowMembers row) =
-      is-done _ _ (ap (λ (m : Members). numbered (closedRead t (elements v) m)) (sym no-members) ∙ sym (read .told) ∙ ap (λ (y : Verdict). outcome y (rowMembers row)) q) in
+      let h : closedRead t p v noMembers ≡ done (rowMembers row) =
+      is-done _ _ (ap (λ (m : Members). numbered (closedRead t p v m)) (sym no-members) ∙ sym (read .told) ∙ ap (λ (y : Verdict). outcome y (rowMembers row)) q) in
       let i = itemOf t row in
-      let g : groupRead t v ≡ done i = group-item row t k v h in
+      let g : groupRead t p v ≡ done i = group-item row t k p v h in
       let wide = read .tidy .wide in
       rw (to, stored)
       record {

@@ -25,7 +25,7 @@ use Rattle.request.proofs.DraftLaws.{step-fault, went}
 
 -- ---- the F-SEID
 
-module _ (v : List ℕ) where
+module _ (p : ℕ) (v : List ℕ) where
   seid-nonzero : (n : ℕ) → readFseid v ≡ value n → n ≡ 0 → ⊥
   seid-nonzero n = go v
     where
@@ -54,20 +54,20 @@ module _ (v : List ℕ) where
       go none e t = refl
       go (some n) e t = absurd (t e)
 
-  pub seid-repeat : (c : Draft) → (c .seid ≡ 0 → ⊥) → Passes (seidRead v) c (Fault why.incorrect ie.fseid)
+  pub seid-repeat : (c : Draft) → (c .seid ≡ 0 → ⊥) → Passes (seidRead p v) c (Fault why.incorrect ie.fseid p)
   unfolding seidRead causeOf
   seid-repeat c h = record { passes = λ nodes words. record { follows = λ d m. step-fault (go d (d .seid) (m .seid)) } }
     where
-      go : (d : rules.Draft) (o : Option ℕ) → c .seid ≡ valueOr 0 o → numbered (once o ie.fseid (andThen (named ie.fseid (readFseid v)) (λ n. done (withSeid n d)))) ≡ stopped why.incorrect ie.fseid
+      go : (d : rules.Draft) (o : Option ℕ) → c .seid ≡ valueOr 0 o → numbered (once o ie.fseid p (andThen (named ie.fseid p (readFseid v)) (λ n. done (withSeid n d)))) ≡ stopped why.incorrect ie.fseid p
       go d none e = absurd (h e)
       go d (some n) e = unfold causeOf in refl
 
-  pub seid-refused : (c : Draft) (q : Refusal) {r : Step} → c .seid ≡ 0 → refuse q ≡ readFseid v → r ≡ Fault (causeOf q) ie.fseid → Passes (seidRead v) c r
+  pub seid-refused : (c : Draft) (q : Refusal) {r : Step} → c .seid ≡ 0 → refuse q ≡ readFseid v → r ≡ Fault (causeOf q) ie.fseid p → Passes (seidRead p v) c r
   unfolding seidRead
   seid-refused c q h e s = rw s (record { passes = λ nodes words. record { follows = λ d m. step-fault (rw (seid-none m h, ← e)) } })
 
   pub seid-value : (c : Draft) (n : ℕ) → c .seid ≡ 0 → value n ≡ readFseid v
-      → Passes (seidRead v) c (Next (record { rows = c .rows; seid = n; flags = c .flags; noted = c .noted; creates = c .creates }))
+      → Passes (seidRead p v) c (Next (record { rows = c .rows; seid = n; flags = c .flags; noted = c .noted; creates = c .creates }))
   unfolding seidRead
   seid-value c n h e =
       record {
@@ -79,7 +79,7 @@ module _ (v : List ℕ) where
 
 -- ---- the flags 186
 
-module _ (v : List ℕ) (c : Draft) where
+module _ (p : ℕ) (v : List ℕ) (c : Draft) where
   flags-none : {d : rules.Draft} {nodes words : List ℕ} → Means d c nodes words → c .flags ≡ 0 → d .restores ≡ none
   flags-none {d} m h = go (d .restores) (sym (m .flags) ∙ h)
     where
@@ -87,20 +87,20 @@ module _ (v : List ℕ) (c : Draft) where
       go none e = refl
       go (some b) e = absurd (omega arith)
 
-  pub flags-repeat : (c .flags ≡ 0 → ⊥) → Passes (flagsRead v) c (Fault why.incorrect ie.sessionFlags)
+  pub flags-repeat : (c .flags ≡ 0 → ⊥) → Passes (flagsRead p v) c (Fault why.incorrect ie.sessionFlags p)
   unfolding flagsRead
   flags-repeat h = record { passes = λ nodes words. record { follows = λ d m. step-fault (go _ (d .restores) (m .flags)) } }
     where
-      go : (x : Reading rules.Draft) (o : Option Bool) → c .flags ≡ flagsOf o → numbered (once o ie.sessionFlags x) ≡ stopped why.incorrect ie.sessionFlags
+      go : (x : Reading rules.Draft) (o : Option Bool) → c .flags ≡ flagsOf o → numbered (once o ie.sessionFlags p x) ≡ stopped why.incorrect ie.sessionFlags p
       go x none e = absurd (h e)
       go x (some b) e = unfold causeOf in refl
 
-  pub flags-short : c .flags ≡ 0 → length v < 1 → Passes (flagsRead v) c (Fault why.wrongLength ie.sessionFlags)
+  pub flags-short : c .flags ≡ 0 → length v < 1 → Passes (flagsRead p v) c (Fault why.wrongLength ie.sessionFlags p)
   unfolding flagsRead causeOf
   flags-short h l = record { passes = λ nodes words. record { follows = λ d m. step-fault (rw (flags-none m h, lt-ltb _ _ l)) } }
 
   pub flags-value : c .flags ≡ 0 → 1 ≤ length v
-      → Passes (flagsRead v) c (Next (record { rows = c .rows; seid = c .seid; flags = 1 + getD v 0 0 % 2; noted = c .noted; creates = c .creates }))
+      → Passes (flagsRead p v) c (Next (record { rows = c .rows; seid = c .seid; flags = 1 + getD v 0 0 % 2; noted = c .noted; creates = c .creates }))
   unfolding flagsRead octetAt
   flags-value h l =
       record {

@@ -11,7 +11,7 @@ use lib.Dec.{eqb}
 use Rattle.octets.specs.Choice.{pick}
 use Rattle.octets.specs.Octets.{slices}
 use Rattle.octets.specs.Lists.{any, keep, collect}
-use Rattle.rules.specs.Message.{elements, body, kindOf, frameFault, establishment, deletion}
+use Rattle.rules.specs.Message.{bodyPlace, elements, body, kindOf, frameFault, establishment, deletion}
 use Rattle.rules.specs.Reading as rules
 use Rattle.rules.specs.Reading.{Reading, faulty, done, andThen, Request, aloneIn, emptyDraft, elementsRead, finished, requestOf, topRead, read, askedIn, readRequest}
 use Rattle.laws.proofs.CsidLaws.{only-clear}
@@ -40,12 +40,12 @@ unfolding any tagged keep slices
 no-rows words h = let z : _≡_ {A = ℕ} 0 1 = cc in absurd (omega arith)
 
 -- a refusal leaves no rows
-refused-whole : {msg words : List ℕ} {c t : ℕ} → refused c t ≡ readingOf msg → Read msg (reading.Fault c t) words
+refused-whole : {msg words : List ℕ} {c t p : ℕ} → refused c t p ≡ readingOf msg → Read msg (reading.Fault c t p) words
 refused-whole {words = words} h = record { result = h; room = omega arith; onlyNull = λ e. no-rows words e }
 
-pub not-framed : (msg : List ℕ) {words : List ℕ} (f : Framing) → faultIn f ≡ frameFault msg → (t : ℕ) → f ≡ framing.Fault t → Read msg (reading.Fault why.wrongLength t) words
+pub not-framed : (msg : List ℕ) {words : List ℕ} (f : Framing) → faultIn f ≡ frameFault msg → (t p : ℕ) → f ≡ framing.Fault t p → Read msg (reading.Fault why.wrongLength t p) words
 unfolding readingOf fromFraming
-not-framed msg f framed t h = refused-whole (ap (fromFraming msg) (sym (ap faultIn h) ∙ framed))
+not-framed msg f framed t p h = refused-whole (ap (fromFraming msg) (sym (ap faultIn h) ∙ framed))
 
 module _ (msg : List ℕ) (long : 16 ≤ length msg) where
   abbrev tail : List ℕ
@@ -62,17 +62,17 @@ module _ (msg : List ℕ) (long : 16 ≤ length msg) where
 
   module _ {k : ℕ} (kind : k ≡ kindOf msg) where
     abbrev drafted : Reading rules.Draft
-    drafted = elementsRead k (aloneIn (elements tail)) (elements tail) emptyDraft
+    drafted = elementsRead k (aloneIn (elements bodyPlace tail)) (elements bodyPlace tail) emptyDraft
 
     read-is : read msg ≡ andThen drafted (finished k)
     unfolding read topRead body
-    read-is = ap₂ (λ (j : ℕ) (s : List ℕ). topRead j (elements s)) (sym kind) (sym (part-from 16 msg))
+    read-is = ap₂ (λ (j : ℕ) (s : List ℕ). topRead j (elements bodyPlace s)) (sym kind) (sym (part-from 16 msg))
 
-    module _ {words : List ℕ} (r : Step) (all : AllRead (elementsRead k (aloneIn (elements (take (length msg - 16) (drop 16 msg)))) (elements (take (length msg - 16) (drop 16 msg))) emptyDraft) r words) where
-      stopped-read : (c t : ℕ) → r ≡ Fault c t → refused c t ≡ resultOf (read msg)
-      stopped-read c t q = go drafted (all .fault c t q) ∙ sym (ap (λ (x : Reading Request). resultOf x) read-is)
+    module _ {words : List ℕ} (r : Step) (all : AllRead (elementsRead k (aloneIn (elements bodyPlace (take (length msg - 16) (drop 16 msg)))) (elements bodyPlace (take (length msg - 16) (drop 16 msg))) emptyDraft) r words) where
+      stopped-read : (c t p : ℕ) → r ≡ Fault c t p → refused c t p ≡ resultOf (read msg)
+      stopped-read c t p q = go drafted (all .fault c t p q) ∙ sym (ap (λ (x : Reading Request). resultOf x) read-is)
         where
-          go : (x : Reading rules.Draft) → numbered x ≡ stopped c t → refused c t ≡ resultOf (andThen x (finished k))
+          go : (x : Reading rules.Draft) → numbered x ≡ stopped c t p → refused c t p ≡ resultOf (andThen x (finished k))
           go (faulty f) h = sym cc
           go (done d) h = let z : _≡_ {A = ℕ} 0 1 = cc in absurd (omega arith)
 
@@ -81,8 +81,8 @@ module _ (msg : List ℕ) (long : 16 ≤ length msg) where
         unfolding readingOf fromFraming
         by-reading = ap (fromFraming msg) (sym (sym (ap faultIn fine) ∙ framed))
 
-        pub read-refused : {exit : List ℕ} (c t : ℕ) → r ≡ Fault c t → Read msg (reading.Fault c t) exit
-        read-refused c t q = refused-whole (stopped-read c t q ∙ sym by-reading)
+        pub read-refused : {exit : List ℕ} (c t p : ℕ) → r ≡ Fault c t p → Read msg (reading.Fault c t p) exit
+        read-refused c t p q = refused-whole (stopped-read c t p q ∙ sym by-reading)
 
         pub read-whole : 4068 ≤ length words → (d : Draft) → r ≡ Next d → {q : code.Reading} → q ≡ concluded k d → Read msg q words
         read-whole room d e {q} h =
@@ -91,15 +91,15 @@ module _ (msg : List ℕ) (long : 16 ≤ length msg) where
             let same : meant (concluded k d) words ≡ readingOf msg =
             concluded-same m k ∙ ap (λ (x : Reading rules.Draft). resultOf (andThen x (finished k))) (sym (w .read .is)) ∙ sym (ap (λ (x : Reading Request). resultOf x) read-is) ∙ sym by-reading in
             let alone : any isNullRow (tagged ie.fqcsid (rowsOf (d .rows) words)) ≡ true → collect rowCsid (tagged ie.fqcsid (rowsOf (d .rows) words)) ≡ [] =
-            λ n. csids-same m ∙ only-clear k (elements tail) (w .read .draft) (w .read .is) (sym (nulls-same m) ∙ n) in
+            λ n. csids-same m ∙ only-clear k (elements bodyPlace tail) (w .read .draft) (w .read .is) (sym (nulls-same m) ∙ n) in
             rw h (by-plan d (w .few) room alone (concluded k d) (planned d) same)
           where
             -- all of the rows, or none
             planned : (d : Draft) → (rowsLeft (concluded k d) ≡ d .rows) ⊎ (rowsLeft (concluded k d) ≡ 0)
             planned d = unfold concluded in (go (eqb k establishment) (eqb (d .flags) 2 || d .creates) (eqb (d .seid) 0))
               where
-                go : (a b e : Bool) → (rowsLeft (pick a (pick b (pick e (reading.Fault why.mandatoryMissing ie.fseid) (reading.Whole (planOf d (d .seid)))) (reading.Fault why.mandatoryMissing ie.createPdr)) (reading.Whole (planOf d 0))) ≡ d .rows)
-                    ⊎ (rowsLeft (pick a (pick b (pick e (reading.Fault why.mandatoryMissing ie.fseid) (reading.Whole (planOf d (d .seid)))) (reading.Fault why.mandatoryMissing ie.createPdr)) (reading.Whole (planOf d 0))) ≡ 0)
+                go : (a b e : Bool) → (rowsLeft (pick a (pick b (pick e (reading.Fault why.mandatoryMissing ie.fseid 0) (reading.Whole (planOf d (d .seid)))) (reading.Fault why.mandatoryMissing ie.createPdr 0)) (reading.Whole (planOf d 0))) ≡ d .rows)
+                    ⊎ (rowsLeft (pick a (pick b (pick e (reading.Fault why.mandatoryMissing ie.fseid 0) (reading.Whole (planOf d (d .seid)))) (reading.Fault why.mandatoryMissing ie.createPdr 0)) (reading.Whole (planOf d 0))) ≡ 0)
                 go true true true = inr refl
                 go true true false = inl refl
                 go true false e = inr refl
@@ -113,11 +113,11 @@ module _ (msg : List ℕ) (long : 16 ≤ length msg) where
 -- ---- deletions
 
 module _ (msg : List ℕ) (long : 16 ≤ length msg) (kind : kindOf msg ≡ deletion) {words : List ℕ} (r : Step)
-    (all : AllRead (elementsRead deletion (aloneIn (elements (take (length msg - 16) (drop 16 msg)))) (elements (take (length msg - 16) (drop 16 msg))) emptyDraft) r words) where
-  pub deletion-refused : (c t : ℕ) → r ≡ Fault c t → outcome (verdict.Refused c t) (readRequest msg) ≡ numbered (read msg)
-  deletion-refused c t q = go (read msg) (stopped-read msg long (sym kind) r all c t q)
+    (all : AllRead (elementsRead deletion (aloneIn (elements bodyPlace (take (length msg - 16) (drop 16 msg)))) (elements bodyPlace (take (length msg - 16) (drop 16 msg))) emptyDraft) r words) where
+  pub deletion-refused : (c t p : ℕ) → r ≡ Fault c t p → outcome (verdict.Refused c t p) (readRequest msg) ≡ numbered (read msg)
+  deletion-refused c t p q = go (read msg) (stopped-read msg long (sym kind) r all c t p q)
     where
-      go : (x : Reading Request) → refused c t ≡ resultOf x → stopped c t ≡ numbered x
+      go : (x : Reading Request) → refused c t p ≡ resultOf x → stopped c t p ≡ numbered x
       go (faulty f) h = cc
       go (done d) h = let z : _≡_ {A = ℕ} 0 1 = cc in absurd (omega arith)
 

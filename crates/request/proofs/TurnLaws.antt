@@ -1,6 +1,6 @@
 -- The elements of a message in turn: a turn of the loop, and the plan at its end. Assumes nothing.
 use mathlib.Core.Path.{_≡_, refl, sym, ap, ap₂, subst, _∙_}
-use Prim.Native.Nat.{ℕ, zero, suc, _-_}
+use Prim.Native.Nat.{ℕ, zero, suc, _+_, _-_, _^_, _≤_, _<_}
 use native.Mathlib.Omega.{arith}
 use mathlib.Core.Bool.{Bool, true, false, not, _||_}
 use mathlib.Core.Option.{Option, none, some}
@@ -13,14 +13,14 @@ use Rattle.octets.specs.Choice.{pick, valueOr}
 use Rattle.octets.specs.Octets.{slices}
 use Rattle.octets.specs.Lists.{member, any, keep, collect}
 use Rattle.rules.specs.Elements.{causeOf, missing}
-use Rattle.rules.specs.Message.{Element, elements, establishment}
+use Rattle.rules.specs.Message.{bodyPlace, Element, elements, establishment}
 use Rattle.rules.specs.Reading as rules
 use Rattle.rules.specs.Reading.{Reading, done, andThen, need, aloneIn, emptyDraft, elementsRead, finished, restoringIn, createsAny, requestOf, read}
 use Rattle.rules.specs.Types as ie
 use Rattle.rules.specs.Causes as why
 use Rattle.plan.specs.Rows.{rowWidth}
 use Rattle.laws.proofs.WeightLaws.{Light, light-none, light-next, light-room, light-end}
-use Rattle.frame.proofs.Walk.{part-from}
+use Rattle.frame.proofs.Walk.{part-from, value-places}
 use Rattle.elements.proofs.Front.{Front, behind}
 use Rattle.reading.specs.Verdicts.{Outcome, stopped, numbered}
 use Rattle.reading.proofs.MemberLaws.{stops}
@@ -35,12 +35,13 @@ use Rattle.request.proofs.PlanLaws.{no-row, restoring-same, request-sam
 
 -- ---- the loop
 
--- what is left gives the same draft from this one as the whole from the first
-pub record Going (kind : ℕ) (s rest words₀ words nodes : List ℕ) (c : Draft) : Type 0 where
+-- what is left, from its place on, gives the same draft from this one as the whole from the first
+pub record Going (kind : ℕ) (s words₀ : List ℕ) (at : ℕ) (rest words nodes : List ℕ) (c : Draft) : Type 0 where
   pub draft : rules.Draft
   pub means : Means draft c nodes words
-  pub same : elementsRead kind (aloneIn (elements s)) (elements s) emptyDraft ≡ elementsRead kind (aloneIn (elements s)) (elements rest) draft
-  pub light : Light hasRow (aloneIn (elements s)) s rest draft
+  pub same : elementsRead kind (aloneIn (elements bodyPlace s)) (elements bodyPlace s) emptyDraft ≡ elementsRead kind (aloneIn (elements bodyPlace s)) (elements at rest) draft
+  pub placed : at + length rest ≤ bodyPlace + length s
+  pub light : Light hasRow (aloneIn (elements bodyPlace s)) s rest draft
   pub long : length words ≡ length words₀
   pub wide : length nodes ≡ 16
 
@@ -53,8 +54,8 @@ start-means words = record { seid = refl; seidThere = tt; flags = refl; noted = 
     none-seen (suc n) zero = refl
     none-seen (suc n) (suc k) = none-seen n k
 
-pub going-none : (kind : ℕ) (s words : List ℕ) → Going kind s s words words (replicate 16 0) (record { rows = 0; seid = 0; flags = 0; noted = false; creates = false })
-going-none kind s words = record { draft = emptyDraft; means = start-means words; same = refl; light = light-none hasRow no-row s; long = refl; wide = refl }
+pub going-none : (kind : ℕ) (s words : List ℕ) → Going kind s words bodyPlace s words (replicate 16 0) (record { rows = 0; seid = 0; flags = 0; noted = false; creates = false })
+going-none kind s words = record { draft = emptyDraft; means = start-means words; same = refl; placed = omega arith; light = light-none hasRow no-row bodyPlace s; long = refl; wide = refl }
 
 -- as many rows as items that have one
 slices-length : (n : ℕ) (xs : List ℕ) → length (slices rowWidth n xs) ≡ n
@@ -66,7 +67,7 @@ map-length : {A B : Type 0} (f : A → B) (xs : List A) → length (map f xs) �
 map-length f [] = refl
 map-length f (x ∷ xs) = let h = map-length f xs in omega arith
 
-module _ {kind : ℕ} {s rest words₀ words nodes : List ℕ} {c : Draft} (g : Going kind s rest words₀ words nodes c) where
+module _ {kind : ℕ} {s words₀ : List ℕ} {at : ℕ} {rest words nodes : List ℕ} {c : Draft} (g : Going kind s words₀ at rest words nodes c) where
   rows-are : c .rows ≡ length (keep hasRow (g .draft .items))
   rows-are = sym (map-length rowItem (slices rowWidth (c .rows) words) ∙ slices-length (c .rows) words) ∙ ap length (g .means .rows)
 
@@ -81,25 +82,29 @@ module _ {kind : ℕ} {s rest words₀ words nodes : List ℕ} {c : Draft} (g : 
         let l = g .long in
         record { wide = g .wide; row = λ k. let r = enough .row k in omega arith; few = omega arith }
 
-    ahead : elementsRead kind (aloneIn (elements s)) (elements s) emptyDraft ≡ andThen (elementAt kind (aloneIn (elements s)) t v (g .draft)) (elementsRead kind (aloneIn (elements s)) (elements (behind rest e)))
-    unfolding elementsRead
-    ahead = g .same ∙ ap (λ (es : List Element). elementsRead kind (aloneIn (elements s)) es (g .draft)) (f .cons)
+    -- the places of the element's value
+    pub turn-fits : at + 4 + length v < 2 ^ 64
+    turn-fits = value-places at e rest (let l = f .low in let h = f .high in omega arith) (f .high) (let p = g .placed in let q = enough .short in omega arith)
 
-    module _ {r : Step} {nodes′ words′ : List ℕ} (step : Follows (elementAt kind (aloneIn (elements s)) t v) c nodes words r nodes′ words′) where
-      pub turn-fault : {n x : ℕ} {exit : List ℕ} → r ≡ Fault n x → AllRead (elementsRead kind (aloneIn (elements s)) (elements s) emptyDraft) r exit
-      turn-fault {n} {x} q =
-          let o = step .follows (g .draft) (g .means) .fault n x q in
-          let all : numbered (elementsRead kind (aloneIn (elements s)) (elements s) emptyDraft) ≡ stopped n x =
-          ap (λ (y : Reading rules.Draft). numbered y) ahead ∙ stops (elementAt kind (aloneIn (elements s)) t v (g .draft)) (elementsRead kind (aloneIn (elements s)) (elements (behind rest e))) o in
-          record { fault = λ m y h. all ∙ same-fault (sym q ∙ h); next = λ d h. no-next (sym q ∙ h) }
+    ahead : elementsRead kind (aloneIn (elements bodyPlace s)) (elements bodyPlace s) emptyDraft ≡ andThen (elementAt kind (aloneIn (elements bodyPlace s)) t at v (g .draft)) (elementsRead kind (aloneIn (elements bodyPlace s)) (elements (at + e) (behind rest e)))
+    unfolding elementsRead
+    ahead = g .same ∙ ap (λ (es : List Element). elementsRead kind (aloneIn (elements bodyPlace s)) es (g .draft)) (f .cons at)
+
+    module _ {r : Step} {nodes′ words′ : List ℕ} (step : Follows (elementAt kind (aloneIn (elements bodyPlace s)) t at v) c nodes words r nodes′ words′) where
+      pub turn-fault : {n x y : ℕ} {exit : List ℕ} → r ≡ Fault n x y → AllRead (elementsRead kind (aloneIn (elements bodyPlace s)) (elements bodyPlace s) emptyDraft) r exit
+      turn-fault {n} {x} {y} q =
+          let o = step .follows (g .draft) (g .means) .fault n x y q in
+          let all : numbered (elementsRead kind (aloneIn (elements bodyPlace s)) (elements bodyPlace s) emptyDraft) ≡ stopped n x y =
+          ap (λ (z : Reading rules.Draft). numbered z) ahead ∙ stops (elementAt kind (aloneIn (elements bodyPlace s)) t at v (g .draft)) (elementsRead kind (aloneIn (elements bodyPlace s)) (elements (at + e) (behind rest e))) o in
+          record { fault = λ m k p h. all ∙ same-fault (sym q ∙ h); next = λ d h. no-next (sym q ∙ h) }
         where
-          same-fault : {m y : ℕ} → Fault n x ≡ Fault m y → _≡_ {A = Outcome rules.Draft} (stopped n x) (stopped m y)
+          same-fault : {m k p : ℕ} → Fault n x y ≡ Fault m k p → _≡_ {A = Outcome rules.Draft} (stopped n x y) (stopped m k p)
           same-fault h = cc
 
-          no-next : {d : Draft} {X : Type 0} → Fault n x ≡ Next d → X
+          no-next : {d : Draft} {X : Type 0} → Fault n x y ≡ Next d → X
           no-next h = let z : _≡_ {A = ℕ} 0 1 = cc in absurd (omega arith)
 
-      pub turn-next : {b : Draft} → r ≡ Next b → length words′ ≡ length words → length nodes′ ≡ 16 → Going kind s (behind rest e) words₀ words′ nodes′ b
+      pub turn-next : {b : Draft} → r ≡ Next b → length words′ ≡ length words → length nodes′ ≡ 16 → Going kind s words₀ (at + e) (behind rest e) words′ nodes′ b
       turn-next {b} q long wide =
           let w = step .follows (g .draft) (g .means) .next b q in
           let l = f .low in
@@ -109,22 +114,23 @@ module _ {kind : ℕ} {s rest words₀ words nodes : List ℕ} {c : Draft} (g : 
           record {
             draft = w .draft;
             means = w .means;
-            same = ahead ∙ ap (λ (x : Reading rules.Draft). andThen x (elementsRead kind (aloneIn (elements s)) (elements (behind rest e)))) (w .is);
-            light = light-next hasRow no-row kind (f .cons) (omega arith) (g .light) (w .is);
+            same = ahead ∙ ap (λ (x : Reading rules.Draft). andThen x (elementsRead kind (aloneIn (elements bodyPlace s)) (elements (at + e) (behind rest e)))) (w .is);
+            placed = let p = g .placed in omega arith;
+            light = light-next hasRow no-row kind (at + e) (f .cons at) (omega arith) (g .light) (w .is);
             long = long ∙ g .long;
             wide = wide;
           }
 
-  pub turns-end : elements rest ≡ [] → Enough kind s words₀ → AllRead (elementsRead kind (aloneIn (elements s)) (elements s) emptyDraft) (Next c) words
+  pub turns-end : elements at rest ≡ [] → Enough kind s words₀ → AllRead (elementsRead kind (aloneIn (elements bodyPlace s)) (elements bodyPlace s) emptyDraft) (Next c) words
   unfolding elementsRead
   turns-end e enough =
-      let whole : elementsRead kind (aloneIn (elements s)) (elements s) emptyDraft ≡ done (g .draft) = g .same ∙ ap (λ (es : List Element). elementsRead kind (aloneIn (elements s)) es (g .draft)) e in
+      let whole : elementsRead kind (aloneIn (elements bodyPlace s)) (elements bodyPlace s) emptyDraft ≡ done (g .draft) = g .same ∙ ap (λ (es : List Element). elementsRead kind (aloneIn (elements bodyPlace s)) es (g .draft)) e in
       let few = light-end hasRow no-row (enough .short) (g .light) in
       let n = rows-are in
-      let ended : Ended (elementsRead kind (aloneIn (elements s)) (elements s) emptyDraft) c words = record { nodes = nodes; read = record { draft = g .draft; is = whole; means = g .means }; few = omega arith } in
-      record { fault = λ m x h. no-fault h; next = λ b h. subst (λ (k : Draft). Ended (elementsRead kind (aloneIn (elements s)) (elements s) emptyDraft) k words) (same-draft h) ended }
+      let ended : Ended (elementsRead kind (aloneIn (elements bodyPlace s)) (elements bodyPlace s) emptyDraft) c words = record { nodes = nodes; read = record { draft = g .draft; is = whole; means = g .means }; few = omega arith } in
+      record { fault = λ m x y h. no-fault h; next = λ b h. subst (λ (k : Draft). Ended (elementsRead kind (aloneIn (elements bodyPlace s)) (elements bodyPlace s) emptyDraft) k words) (same-draft h) ended }
     where
-      no-fault : {m x : ℕ} {X : Type 0} → Next c ≡ Fault m x → X
+      no-fault : {m x y : ℕ} {X : Type 0} → Next c ≡ Fault m x y → X
       no-fault h = let z : _≡_ {A = ℕ} 0 1 = cc in absurd (omega arith)
 
       same-draft : {b : Draft} → Next c ≡ Next b → c ≡ b
@@ -138,17 +144,17 @@ module _ {d : rules.Draft} {c : Draft} {nodes words : List ℕ} (m : Means d c n
   concluded-same kind = go (eqb kind establishment)
     where
       by-seid : (o : Option ℕ) → valueOr 0 o ≡ c .seid → SeidThere o
-          → meant (pick (eqb (c .seid) 0) (reading.Fault why.mandatoryMissing ie.fseid) (reading.Whole (planOf c (c .seid)))) words ≡ resultOf (need missing ie.fseid o (λ n. done (requestOf n d)))
+          → meant (pick (eqb (c .seid) 0) (reading.Fault why.mandatoryMissing ie.fseid 0) (reading.Whole (planOf c (c .seid)))) words ≡ resultOf (need missing ie.fseid 0 o (λ n. done (requestOf n d)))
       by-seid none e t = rw (sym e)
       by-seid (some n) e t = rw (← e, ne-eqb n 0 t) (ap whole (request-same m n))
 
-      go : (b : Bool) → meant (pick b (pick (eqb (c .flags) 2 || c .creates) (pick (eqb (c .seid) 0) (reading.Fault why.mandatoryMissing ie.fseid) (reading.Whole (planOf c (c .seid)))) (reading.Fault why.mandatoryMissing ie.createPdr)) (reading.Whole (planOf c 0))) words
-          ≡ resultOf (pick b (pick (restoringIn d || createsAny (d .items)) (need missing ie.fseid (d .seid) (λ n. done (requestOf n d))) (rules.refusal missing ie.createPdr)) (done (requestOf 0 d)))
+      go : (b : Bool) → meant (pick b (pick (eqb (c .flags) 2 || c .creates) (pick (eqb (c .seid) 0) (reading.Fault why.mandatoryMissing ie.fseid 0) (reading.Whole (planOf c (c .seid)))) (reading.Fault why.mandatoryMissing ie.createPdr 0)) (reading.Whole (planOf c 0))) words
+          ≡ resultOf (pick b (pick (restoringIn d || createsAny (d .items)) (need missing ie.fseid 0 (d .seid) (λ n. done (requestOf n d))) (rules.refusal missing ie.createPdr 0)) (done (requestOf 0 d)))
       go false = ap whole (request-same m 0)
-      go true = ap₂ (λ (x y : Bool). meant (pick (x || y) (pick (eqb (c .seid) 0) (reading.Fault why.mandatoryMissing ie.fseid) (reading.Whole (planOf c (c .seid)))) (reading.Fault why.mandatoryMissing ie.createPdr)) words) (restoring-same m) (m .creates) ∙ by-test (restoringIn d || createsAny (d .items))
+      go true = ap₂ (λ (x y : Bool). meant (pick (x || y) (pick (eqb (c .seid) 0) (reading.Fault why.mandatoryMissing ie.fseid 0) (reading.Whole (planOf c (c .seid)))) (reading.Fault why.mandatoryMissing ie.createPdr 0)) words) (restoring-same m) (m .creates) ∙ by-test (restoringIn d || createsAny (d .items))
         where
-          by-test : (x : Bool) → meant (pick x (pick (eqb (c .seid) 0) (reading.Fault why.mandatoryMissing ie.fseid) (reading.Whole (planOf c (c .seid)))) (reading.Fault why.mandatoryMissing ie.createPdr)) words
-              ≡ resultOf (pick x (need missing ie.fseid (d .seid) (λ n. done (requestOf n d))) (rules.refusal missing ie.createPdr))
+          by-test : (x : Bool) → meant (pick x (pick (eqb (c .seid) 0) (reading.Fault why.mandatoryMissing ie.fseid 0) (reading.Whole (planOf c (c .seid)))) (reading.Fault why.mandatoryMissing ie.createPdr 0)) words
+              ≡ resultOf (pick x (need missing ie.fseid 0 (d .seid) (λ n. done (requestOf n d))) (rules.refusal missing ie.createPdr 0))
           by-test true = by-seid (d .seid) (sym (m .seid)) (m .seidThere)
           by-test false = unfold causeOf in refl
 
@@ -167,12 +173,12 @@ module _ (c : Draft) (kind : ℕ) where
   end-other h e = rw e (sym (rw (ne-eqb kind establishment h)))
 
   module _ (first : kind ≡ establishment) where
-    pub end-no-pdr : true ≡ not (eqb (c .flags) 2 || c .creates) → reading.Fault why.mandatoryMissing ie.createPdr ≡ concluded kind c
+    pub end-no-pdr : true ≡ not (eqb (c .flags) 2 || c .creates) → reading.Fault why.mandatoryMissing ie.createPdr 0 ≡ concluded kind c
     unfolding concluded
     end-no-pdr h = sym (rw (first, lacks-yes (eqb (c .flags) 2 || c .creates) h))
 
     module _ (some-pdr : false ≡ not (eqb (c .flags) 2 || c .creates)) where
-      pub end-no-seid : c .seid ≡ 0 → reading.Fault why.mandatoryMissing ie.fseid ≡ concluded kind c
+      pub end-no-seid : c .seid ≡ 0 → reading.Fault why.mandatoryMissing ie.fseid 0 ≡ concluded kind c
       unfolding concluded
       end-no-seid h = sym (rw (first, lacks-no (eqb (c .flags) 2 || c .creates) some-pdr, h))
 

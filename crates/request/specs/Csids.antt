@@ -37,11 +37,11 @@ csidFrom x =
     pick (eqb (x .count) 0) (bareCsid 2 (x .«node_type»))
     (record { state = 1; node = x .«node_type»; «id_type» = x .«id_type»; high = x .«address_high»; low = x .«address_low»; csid = x .«csids_1» })
 
--- what a reader's refusal leads to, else the draft as it was
-abbrev pub csidRefusal : Draft → answer.Answer → Step
-csidRefusal d (answer-case.Value x) = Next d
-csidRefusal d (answer-case.Refused r) = Fault (causeOf (refusalOf r)) ie.fqcsid
+-- what a reader's refusal of an element at a place leads to, else the draft as it was
+abbrev pub csidRefusal : ℕ → Draft → answer.Answer → Step
+csidRefusal p d (answer-case.Value x) = Next d
+csidRefusal p d (answer-case.Refused r) = Fault (causeOf (refusalOf r)) ie.fqcsid p
 
-abbrev pub seidRefusal : Draft → seid.Answer → Step
-seidRefusal d (seid-case.Value n) = Next d
-seidRefusal d (seid-case.Refused r) = Fault (causeOf (refusalOf r)) ie.fseid
+abbrev pub seidRefusal : ℕ → Draft → seid.Answer → Step
+seidRefusal p d (seid-case.Value n) = Next d
+seidRefusal p d (seid-case.Refused r) = Fault (causeOf (refusalOf r)) ie.fseid p

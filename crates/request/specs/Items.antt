@@ -93,7 +93,7 @@ pub record Read (result : Reading rules.Draft) (c : Draft) (nodes words : List �
 
 -- a step of the reading: the fault that the rules find, or a draft
 pub record Steps (result : Reading rules.Draft) (r : Step) (nodes words : List ℕ) : Type 0 where
-  pub fault : (c t : ℕ) → r ≡ Fault c t → numbered result ≡ stopped c t
+  pub fault : (c t p : ℕ) → r ≡ Fault c t p → numbered result ≡ stopped c t p
   pub next : (c : Draft) → r ≡ Next c → Read result c nodes words
 
 -- it is the rules' step from any draft that the code's means
@@ -124,18 +124,18 @@ withRow b c = record { rows = c .rows + 1; seid = c .seid; flags = c .flags; not
 -- a verdict that is a refusal
 abbrev pub verdictStep : Draft → Verdict → Step
 verdictStep c Fine = Next c
-verdictStep c (Refused n t) = Fault n t
+verdictStep c (Refused n t p) = Fault n t p
 
 -- the groups at the top of a message
 abbrev pub groupTypes : List ℕ
 groupTypes = ie.createPdr ∷ ie.createEndpoint ∷ ie.updatePdr ∷ ie.removePdr ∷ ie.removeEndpoint ∷ []
 
--- the rules' step on a group, and on any element
-abbrev pub groupAt : ℕ → List ℕ → rules.Draft → Reading rules.Draft
-groupAt t v d = andThen (groupRead t v) (λ i. done (withItem i d))
+-- the rules' step on a group, and on any element, at a place
+abbrev pub groupAt : ℕ → ℕ → List ℕ → rules.Draft → Reading rules.Draft
+groupAt t p v d = andThen (groupRead t p v) (λ i. done (withItem i d))
 
-abbrev pub elementAt : ℕ → Bool → ℕ → List ℕ → rules.Draft → Reading rules.Draft
-elementAt kind alone t v d = elementRead kind alone (record { type = t; content = v }) d
+abbrev pub elementAt : ℕ → Bool → ℕ → ℕ → List ℕ → rules.Draft → Reading rules.Draft
+elementAt kind alone t p v d = elementRead kind alone (record { type = t; content = v; place = p }) d
 
 -- octets that fit a message, and room for their rows, where there are rows
 pub record Enough (kind : ℕ) (s words : List ℕ) : Type 0 where
@@ -149,7 +149,7 @@ pub record Ended (result : Reading rules.Draft) (c : Draft) (words : List ℕ) :
   pub few : c .rows ≤ 226
 
 pub record AllRead (result : Reading rules.Draft) (r : Step) (words : List ℕ) : Type 0 where
-  pub fault : (c t : ℕ) → r ≡ Fault c t → numbered result ≡ stopped c t
+  pub fault : (c t p : ℕ) → r ≡ Fault c t p → numbered result ≡ stopped c t p
   pub next : (c : Draft) → r ≡ Next c → Ended result c words
 
 -- ---- the plan
@@ -162,6 +162,6 @@ unfoldable pub concluded : ℕ → Draft → code.Reading
 concluded kind c =
     pick (eqb kind establishment)
     (pick (eqb (c .flags) 2 || c .creates)
-    (pick (eqb (c .seid) 0) (reading.Fault why.mandatoryMissing ie.fseid) (reading.Whole (planOf c (c .seid))))
-    (reading.Fault why.mandatoryMissing ie.createPdr))
+    (pick (eqb (c .seid) 0) (reading.Fault why.mandatoryMissing ie.fseid 0) (reading.Whole (planOf c (c .seid))))
+    (reading.Fault why.mandatoryMissing ie.createPdr 0))
     (reading.Whole (planOf c 0))

@@ -8,7 +8,7 @@ use mathlib.Core.List.{List, []}
 use lib.ListN.{length}
 use Rattle.octets.specs.Lists.{any, collect}
 use Rattle.rules.specs.Elements.{causeOf}
-use Rattle.rules.specs.Message.{frameFault}
+use Rattle.rules.specs.Message.{Spot, frameFault}
 use Rattle.rules.specs.Reading as rules
 use Rattle.rules.specs.Reading.{Request, faulty, done, read}
 use Rattle.plan.specs.Rows.{rowWidth, rowsOf, tagged, rowCsid, isNullRow, requestIn}
@@ -25,32 +25,32 @@ maxItems = 226
 abbrev pub maxWords : ℕ
 maxWords = rowWidth * maxItems
 
--- a cause with the type at fault, or a request
+-- a cause with the type at fault and its place, or a request
 pub data Result : Type 0 where
-  refused : ℕ → ℕ → Result
+  refused : ℕ → ℕ → ℕ → Result
   whole : Request → Result
 
 -- stage 3, of a message that is framed
 abbrev pub resultOf : rules.Reading Request → Result
-resultOf (faulty f) = refused (causeOf (f .cause)) (f .type)
+resultOf (faulty f) = refused (causeOf (f .cause)) (f .type) (f .place)
 resultOf (done r) = whole r
 
 -- stage 2, and then stage 3
-unfoldable pub fromFraming : List ℕ → Option ℕ → Result
+unfoldable pub fromFraming : List ℕ → Option Spot → Result
 fromFraming msg none = resultOf (read msg)
-fromFraming msg (some t) = refused why.wrongLength t
+fromFraming msg (some f) = refused why.wrongLength (f .type) (f .place)
 
 unfoldable pub readingOf : List ℕ → Result
 readingOf msg = fromFraming msg (frameFault msg)
 
 -- what an answer means, with the words that it leaves
 abbrev pub meant : Reading → List ℕ → Result
-meant (reading.Fault c t) words = refused c t
+meant (reading.Fault c t p) words = refused c t p
 meant (reading.Whole p) words = whole (requestIn (p .seid) (p .restoring) (p .noted) (rowsOf (p .rows) words))
 
 -- how many rows it leaves
 abbrev pub rowsLeft : Reading → ℕ
-rowsLeft (reading.Fault c t) = 0
+rowsLeft (reading.Fault c t p) = 0
 rowsLeft (reading.Whole p) = p .rows
 
 -- what an answer has to mean, and that its rows lie within the words

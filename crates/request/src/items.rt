@@ -5,9 +5,10 @@ use format::causes;
 use format::kinds;
 use format::types;
 ghost use mathlib.Core.Path.{_≡_};
-ghost use Prim.Native.Nat.{_≤_};
+ghost use Prim.Native.Nat.{_+_, _≤_, _<_, _^_};
+ghost use lib.ListN.{length};
 ghost use Rattle.octets.specs.Lists.{member};
-ghost use Rattle.rules.specs.Message.{elements, actedOn};
+ghost use Rattle.rules.specs.Message.{bodyPlace, elements, actedOn};
 ghost use Rattle.rules.specs.Reading.{aloneIn, seidRead, flagsRead, emptyDraft, elementsRead};
 ghost use Rattle.request.specs.Items.{Passes, Follows, Roomy, Enough, AllRead, elementAt, withNote};
 ghost use Rattle.request.specs.Csids.{seidRefusal};
@@ -22,32 +23,32 @@ pub struct Draft {
     pub creates: bool,
 }
 
-// What reading an element leads to: a fault, its cause and the type at fault; or what was read with it.
+// What reading an element leads to: a fault, its cause, the type at fault and its place in the message; or what was read with it.
 pub enum Step {
-    Fault(u64, u64),
+    Fault(u64, u64, usize),
     Next(Draft),
 }
 
-// The refusal in an answer on an F-SEID, if it is one.
-fn refused(answer: Answer, d: Draft) -> Step
-    ensures { λ r. ⌜ r ≡ seidRefusal d answer ⌝ }
+// The refusal in an answer on an F-SEID at a place, if it is one.
+fn refused(answer: Answer, place: usize, d: Draft) -> Step
+    ensures { λ r. ⌜ r ≡ seidRefusal place d answer ⌝ }
 {
     let Answer::Refused(refusal) = answer else {
         return Step::Next(d);
     };
-    Step::Fault(element::cause_of(refusal), types::FSEID)
+    Step::Fault(element::cause_of(refusal), types::FSEID, place)
 }
 
-// An F-SEID, which may come once.
-fn read_seid(v: &[u8], d: Draft) -> Step
-    ensures { λ r. ⌜ Passes (seidRead (now (v .entry))) d r ⌝ }
+// An F-SEID at a place, which may come once.
+fn read_seid(v: &[u8], place: usize, d: Draft) -> Step
+    ensures { λ r. ⌜ Passes (seidRead place (now (v .entry))) d r ⌝ }
 {
     if d.seid != 0 {
-        return Step::Fault(causes::INCORRECT, types::FSEID);
+        return Step::Fault(causes::INCORRECT, types::FSEID, place);
     }
     let answer = element::fseid::read(v);
     let Answer::Value(seid) = answer else {
-        return refused(answer, d);
+        return refused(answer, place, d);
     };
     Step::Next(Draft {
         rows: d.rows,
@@ -58,15 +59,15 @@ fn read_seid(v: &[u8], d: Draft) -> Step
     })
 }
 
-// The flags 186, which may come once.
-fn read_flags(v: &[u8], d: Draft) -> Step
-    ensures { λ r. ⌜ Passes (flagsRead (now (v .entry))) d r ⌝ }
+// The flags 186 at a place, which may come once.
+fn read_flags(v: &[u8], place: usize, d: Draft) -> Step
+    ensures { λ r. ⌜ Passes (flagsRead place (now (v .entry))) d r ⌝ }
 {
     if d.flags != 0 {
-        return Step::Fault(causes::INCORRECT, types::SESSION_FLAGS);
+        return Step::Fault(causes::INCORRECT, types::SESSION_FLAGS, place);
     }
     if v.len() < 1 {
-        return Step::Fault(causes::WRONG_LENGTH, types::SESSION_FLAGS);
+        return Step::Fault(causes::WRONG_LENGTH, types::SESSION_FLAGS, place);
     }
     Step::Next(Draft {
         rows: d.rows,
@@ -120,35 +121,36 @@ fn note(d: Draft) -> Draft
     }
 }
 
-// The element of type kind and value v of the message s; nodes are the node types met.
+// The element of type kind and value v at a place of the message, whose elements are s; nodes are the node types met.
 fn read_element(
     s: &[u8],
     v: &[u8],
     message: u64,
     kind: u64,
+    place: usize,
     nodes: &mut [u64],
     words: &mut [u64],
     d: Draft,
 ) -> Step
-    requires { ⌜ Roomy message d (now nodes) (now words) ⌝ }
-    ensures { λ r. ⌜ Follows (elementAt message (aloneIn (elements (now (s .entry)))) kind (now (v .entry))) d (now (nodes .entry)) (now (words .entry)) r (now (nodes .exit)) (now (words .exit)) ⌝ }
+    requires { ⌜ Roomy message d (now nodes) (now words) × (place + 4 + length (now v) < 2 ^ 64) ⌝ }
+    ensures { λ r. ⌜ Follows (elementAt message (aloneIn (elements bodyPlace (now (s .entry)))) kind place (now (v .entry))) d (now (nodes .entry)) (now (words .entry)) r (now (nodes .exit)) (now (words .exit)) ⌝ }
 {
     if !is_acted(message, kind) {
         return Step::Next(d);
     }
     match kind {
-        types::FSEID => read_seid(v, d),
-        types::SESSION_FLAGS => read_flags(v, d),
-        types::FQCSID => crate::row::read_csid(s, v, message, nodes, words, d),
+        types::FSEID => read_seid(v, place, d),
+        types::SESSION_FLAGS => read_flags(v, place, d),
+        types::FQCSID => crate::row::read_csid(s, v, message, place, nodes, words, d),
         types::UPDATE_ENDPOINT => Step::Next(note(d)),
-        _ => crate::row::read_group(v, kind, words, d),
+        _ => crate::row::read_group(v, kind, place, words, d),
     }
 }
 
-// Reads the elements s of a message: the first fault, or what they ask for.
+// Reads the elements s of a message, which start at octet 16: the first fault, or what they ask for.
 pub(crate) fn read_elements(s: &[u8], message: u64, words: &mut [u64]) -> Step
     requires { ⌜ Enough message (now s) (now words) ⌝ }
-    ensures { λ r. ⌜ AllRead (elementsRead message (aloneIn (elements (now (s .entry)))) (elements (now (s .entry))) emptyDraft) r (now (words .exit)) ⌝ }
+    ensures { λ r. ⌜ AllRead (elementsRead message (aloneIn (elements bodyPlace (now (s .entry)))) (elements bodyPlace (now (s .entry))) emptyDraft) r (now (words .exit)) ⌝ }
 {
     let mut nodes = [0u64; 16];
     let mut d = Draft {
@@ -159,15 +161,17 @@ pub(crate) fn read_elements(s: &[u8], message: u64, words: &mut [u64]) -> Step
         creates: false,
     };
     let mut rest = s;
+    let mut at = 16;
     loop {
         let First::Element(kind, end) = elements::first_of(rest) else {
             return Step::Next(d);
         };
-        let step = read_element(s, &rest[4..end], message, kind, &mut nodes, words, d);
+        let step = read_element(s, &rest[4..end], message, kind, at, &mut nodes, words, d);
         let Step::Next(next) = step else {
             return step;
         };
         d = next;
         rest = &rest[end..];
+        at += end;
     }
 }

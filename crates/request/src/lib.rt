@@ -33,8 +33,8 @@ pub struct Plan {
 
 // What reading a request gives.
 pub enum Reading {
-    // The first fault of stages 2 and 3: the cause, and the type at fault.
-    Fault(u64, u64),
+    // The first fault of stages 2 and 3: the cause, the type at fault, and its place in the message.
+    Fault(u64, u64, usize),
     Whole(Plan),
 }
 
@@ -68,10 +68,10 @@ fn conclude(message: u64, d: Draft) -> Reading
         return Reading::Whole(plan_of(d, 0));
     }
     if lacks_pdr(d) {
-        return Reading::Fault(causes::MANDATORY_MISSING, types::CREATE_PDR);
+        return Reading::Fault(causes::MANDATORY_MISSING, types::CREATE_PDR, 0);
     }
     if d.seid == 0 {
-        return Reading::Fault(causes::MANDATORY_MISSING, types::FSEID);
+        return Reading::Fault(causes::MANDATORY_MISSING, types::FSEID, 0);
     }
     Reading::Whole(plan_of(d, d.seid))
 }
@@ -81,13 +81,13 @@ pub fn read_request(msg: &[u8], words: &mut [u64]) -> Reading
     requires { ⌜ (16 ≤ length (now msg)) × (length (now msg) ≤ maxMessage) × (maxWords ≤ length (now words)) ⌝ }
     ensures { λ r. ⌜ Read (now (msg .entry)) r (now (words .exit)) ⌝ }
 {
-    if let Framing::Fault(kind) = frame::frame_fault(msg) {
-        return Reading::Fault(causes::WRONG_LENGTH, kind);
+    if let Framing::Fault(kind, place) = frame::frame_fault(msg) {
+        return Reading::Fault(causes::WRONG_LENGTH, kind, place);
     }
     let message = octets::read(msg, 1, 1);
     let step = items::read_elements(&msg[16..], message, words);
     match step {
-        Step::Fault(cause, kind) => Reading::Fault(cause, kind),
+        Step::Fault(cause, kind, place) => Reading::Fault(cause, kind, place),
         Step::Next(d) => conclude(message, d),
     }
 }
@@ -98,9 +98,12 @@ pub fn read_deletion(msg: &[u8]) -> Verdict
     ensures { λ r. ⌜ outcome r (readRequest (now (msg .entry))) ≡ numbered (read (now (msg .entry))) ⌝ }
 {
     let mut words = [0u64; 1];
-    let Step::Fault(cause, kind) = items::read_elements(&msg[16..], kinds::DELETION, &mut words)
-    else {
+    let Step::Fault(cause, kind, place) = items::read_elements(
+        &msg[16..],
+        kinds::DELETION,
+        &mut words,
+    ) else {
         return Verdict::Fine;
     };
-    Verdict::Refused(cause, kind)
+    Verdict::Refused(cause, kind, place)
 }

@@ -10,13 +10,13 @@ use format::words;
 use reading::Verdict;
 ghost use mathlib.Core.Path.{_≡_};
 ghost use mathlib.Core.Bool.{true, false, _&&_};
-ghost use Prim.Native.Nat.{_+_, _*_, _≤_};
+ghost use Prim.Native.Nat.{_+_, _*_, _≤_, _<_, _^_};
 ghost use lib.Dec.{eqb};
 ghost use lib.ListN.{length};
 ghost use Rattle.octets.specs.Choice.{isNil};
 ghost use Rattle.octets.specs.Octets.{put};
 ghost use Rattle.octets.specs.Lists.{member};
-ghost use Rattle.rules.specs.Message.{modification, elements};
+ghost use Rattle.rules.specs.Message.{modification, bodyPlace, elements};
 ghost use Rattle.rules.specs.Reading.{aloneIn, csidRead};
 ghost use Rattle.plan.specs.Rows.{rowWidth};
 ghost use Rattle.request.specs.Items.{groupTypes, groupAt, Puts, Follows, Roomy, withRow, verdictStep};
@@ -57,13 +57,13 @@ fn with_row(d: Draft, creates: bool) -> Draft
     }
 }
 
-// A group of type kind with the value v, read once into its row.
-pub(crate) fn read_group(v: &[u8], kind: u64, words: &mut [u64], d: Draft) -> Step
-    requires { ⌜ (member kind groupTypes ≡ true) × (rowWidth * d .rows + rowWidth ≤ length (now words)) × (d .rows ≤ 225) ⌝ }
-    ensures { λ r. ⌜ Puts (groupAt kind (now (v .entry))) d (now (words .entry)) r (now (words .exit)) ⌝ }
+// A group of type kind with the value v at a place, read once into its row.
+pub(crate) fn read_group(v: &[u8], kind: u64, place: usize, words: &mut [u64], d: Draft) -> Step
+    requires { ⌜ (member kind groupTypes ≡ true) × (rowWidth * d .rows + rowWidth ≤ length (now words)) × (d .rows ≤ 225) × (place + 4 + length (now v) < 2 ^ 64) ⌝ }
+    ensures { λ r. ⌜ Puts (groupAt kind place (now (v .entry))) d (now (words .entry)) r (now (words .exit)) ⌝ }
 {
     let mut row = [0u64; format::ROW];
-    let read = reading::members::read_group(v, kind, &mut row);
+    let read = reading::members::read_group(v, kind, place, &mut row);
     let Verdict::Fine = read else {
         return refused(read, d);
     };
@@ -76,10 +76,10 @@ pub(crate) fn read_group(v: &[u8], kind: u64, words: &mut [u64], d: Draft) -> St
 fn refused(verdict: Verdict, d: Draft) -> Step
     ensures { λ r. ⌜ r ≡ verdictStep d verdict ⌝ }
 {
-    let Verdict::Refused(cause, kind) = verdict else {
+    let Verdict::Refused(cause, kind, place) = verdict else {
         return Step::Next(d);
     };
-    Step::Fault(cause, kind)
+    Step::Fault(cause, kind, place)
 }
 
 // An FQ-CSID as the words of a row: 1 sets a node type's, 2 removes it, 3 is of null length.
@@ -154,7 +154,7 @@ fn put_csid(x: Csid, words: &mut [u64], d: Draft) -> Draft
 
 // Whether v is the null FQ-CSID of a modification whose elements s have no other.
 fn is_clearing(s: &[u8], v: &[u8], message: u64) -> bool
-    ensures { λ r. ⌜ r ≡ (isNil (now (v .entry)) && eqb message modification && aloneIn (elements (now (s .entry)))) ⌝ }
+    ensures { λ r. ⌜ r ≡ (isNil (now (v .entry)) && eqb message modification && aloneIn (elements bodyPlace (now (s .entry)))) ⌝ }
 {
     if v.len() != 0 {
         return false;
@@ -176,41 +176,42 @@ fn is_count_allowed(message: u64, count: u64) -> bool
     }
 }
 
-// The refusal in an answer on an FQ-CSID, if it is one.
-fn csid_refused(answer: Answer, d: Draft) -> Step
-    ensures { λ r. ⌜ r ≡ csidRefusal d answer ⌝ }
+// The refusal in an answer on an FQ-CSID at a place, if it is one.
+fn csid_refused(answer: Answer, place: usize, d: Draft) -> Step
+    ensures { λ r. ⌜ r ≡ csidRefusal place d answer ⌝ }
 {
     let Answer::Refused(refusal) = answer else {
         return Step::Next(d);
     };
-    Step::Fault(element::cause_of(refusal), types::FQCSID)
+    Step::Fault(element::cause_of(refusal), types::FQCSID, place)
 }
 
-// An FQ-CSID of value v of the message s, read once: into its row, and its node type into those that were met. A deletion's has no row.
+// An FQ-CSID of value v at a place of the message, whose elements are s, read once: into its row, and its node type into those that were met. A deletion's has no row.
 pub(crate) fn read_csid(
     s: &[u8],
     v: &[u8],
     message: u64,
+    place: usize,
     nodes: &mut [u64],
     words: &mut [u64],
     d: Draft,
 ) -> Step
     requires { ⌜ Roomy message d (now nodes) (now words) ⌝ }
-    ensures { λ r. ⌜ Follows (csidRead message (aloneIn (elements (now (s .entry)))) (now (v .entry))) d (now (nodes .entry)) (now (words .entry)) r (now (nodes .exit)) (now (words .exit)) ⌝ }
+    ensures { λ r. ⌜ Follows (csidRead message (aloneIn (elements bodyPlace (now (s .entry)))) place (now (v .entry))) d (now (nodes .entry)) (now (words .entry)) r (now (nodes .exit)) (now (words .exit)) ⌝ }
 {
     if is_clearing(s, v, message) {
         return Step::Next(put_csid(bare(3, 0), words, d));
     }
     let answer = element::fqcsid::read(v);
     let Answer::Value(x) = answer else {
-        return csid_refused(answer, d);
+        return csid_refused(answer, place, d);
     };
     let node = x.node_type as usize;
     if !is_count_allowed(message, x.count) {
-        return Step::Fault(causes::INCORRECT, types::FQCSID);
+        return Step::Fault(causes::INCORRECT, types::FQCSID, place);
     }
     if nodes[node] != 0 {
-        return Step::Fault(causes::INCORRECT, types::FQCSID);
+        return Step::Fault(causes::INCORRECT, types::FQCSID, place);
     }
     nodes[node] = 1;
     if message == kinds::DELETION {

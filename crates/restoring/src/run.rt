@@ -43,7 +43,8 @@ fn cause(reply: &[u8]) -> u8
 fn serve(new: &mut [u8], message: &[u8], path: &[u8], number: u64) -> u8 {
     let mut reply = [0u8; format::SPACE];
     let mut used = 0usize;
-    let outcome = pfcp_session::pfcp_request(new, message, &mut reply, &mut used);
+    let mut place = 0usize;
+    let outcome = pfcp_session::pfcp_request(new, message, &mut reply, &mut used, &mut place);
     if outcome != 0 {
         say::refused_request(
             path,

@@ -59,6 +59,7 @@ pub unknownDeletion :
     serve 64 (encode 64 (unit 2) []) (delete 9) space
     ≡ record {
       outcome = 0;
+      place = 0;
       space =
           0x21 ∷ 0x37 ∷ 0x00 ∷ 0x11 ∷ 0x00 ∷ 0x00 ∷ 0x00 ∷ 0x00 ∷ 0x00 ∷ 0x00 ∷ 0x00 ∷ 0x00 ∷ 0x00 ∷ 0x00 ∷ 0x01 ∷ 0x00 ∷ 0x00 ∷ 0x13 ∷ 0x00 ∷ 0x01
           ∷ 0x41 ∷ zeros 1003;
@@ -172,3 +173,49 @@ first9 = ask (encode 2 (unit 3) []) (establish 1 (create 1 (withId 9)))
 pub chooseIdForgotten : createdTeid (ask (first9 .table) (modify 1 (create 2 (withId 9))) .space) ofPdr 2 ≡ 4097
 unfolding story first9
 chooseIdForgotten = refl
+
+-- ---- where the fault is (02 iv)
+
+-- the reply's cause, and the place beside the outcome
+pub record Told : Type 0 where
+  pub cause : ℕ
+  pub place : ℕ
+
+unfoldable pub told : Served → Told
+told r = record { cause = replyCause (r .space); place = r .place }
+
+-- a Create PDR: its PDR ID and precedence, and then a PDI with this value
+unfoldable pub createWith : List ℕ → List ℕ
+createWith v = element 1 (element 56 (be 2 1) ++ element 29 (be 4 100) ++ element 2 v)
+
+-- an establishment's F-SEID takes octets 16 to 32, its Create PDR starts at 33, that PDR's PDI at 51
+unfoldable pub establishing : List ℕ → Told
+establishing v = told (ask (encode 2 (unit 2) []) (establish 1 (createWith v)))
+
+abbrev pub toldAs : ℕ → ℕ → Told
+toldAs c p = record { cause = c; place = p }
+
+pub placesOfFaults :
+    map establishing
+    (element 20 (0 ∷ [])  -- no fault
+    ∷ (element 20 (0 ∷ []) ++ element 21 (0x04 ∷ []))  -- wrong flags of the F-TEID in the PDI: its own place
+    ∷ (element 20 (0 ∷ []) ++ element 20 (0 ∷ []))  -- a repeat: the second one
+    ∷ element 21 own  -- a PDI without its Source Interface: the PDI's place
+    ∷ (element 20 (0 ∷ []) ++ (0 ∷ 21 ∷ 0 ∷ []))  -- under 4 octets left in the PDI: the PDI's place
+    ∷ (element 20 (0 ∷ []) ++ (0 ∷ 21 ∷ 0 ∷ 9 ∷ 1 ∷ []))  -- an overrun in the PDI: the element's place
+    ∷ [])
+    ≡ toldAs 1 0 ∷ toldAs 69 60 ∷ toldAs 69 60 ∷ toldAs 66 51 ∷ toldAs 68 51 ∷ toldAs 68 60 ∷ []
+unfolding computing calls ask told createWith establishing
+placesOfFaults = refl
+
+-- what the message itself lacks is at place 0, what a group lacks at the group's
+pub placesOfMissing :
+    map told
+    (ask (encode 2 (unit 2) []) (establish 1 [])
+    ∷ ask (encode 2 (unit 2) []) (establish 1 (element 1 (element 56 (be 2 1))))
+    ∷ ask (encode 2 (unit 2) []) (establish 1 (0 ∷ 1 ∷ 0 ∷ []))
+    ∷ ask (encode 2 (unit 2) []) (delete 9)
+    ∷ [])
+    ≡ toldAs 66 0 ∷ toldAs 66 33 ∷ toldAs 68 0 ∷ toldAs 65 0 ∷ []
+unfolding computing calls ask told
+placesOfMissing = refl

@@ -22,12 +22,12 @@ pub data Event : Type 0 where
 
 -- ---- reading a reply
 
--- the reply in its space: as long as its header says
+-- the reply in its space: as long as its header says; where its elements stand is of no use here
 unfoldable pub replyIn : List ℕ → List ℕ
 replyIn space = take (4 + numberAt 2 2 space) space
 
 unfoldable pub replyElements : List ℕ → List Element
-replyElements space = elements (body (replyIn space))
+replyElements space = elements 0 (body (replyIn space))
 
 unfoldable pub replyCause : List ℕ → ℕ
 replyCause space = octetAt (valueOr [] (contentOf ie.cause (replyElements space))) 0
@@ -42,7 +42,7 @@ idType ofPdr = ie.pdrId
 idType ofEndpoint = ie.endpointId
 
 unfoldable pub isCreated : Kind → ℕ → Element → Bool
-isCreated k i e = hasType (createdType k) e && eqb (fieldOr0 (idType k) (elements (e .content))) i
+isCreated k i e = hasType (createdType k) e && eqb (fieldOr0 (idType k) (elements 0 (e .content))) i
 
 -- the TEID of the F-TEID in a Created group
 unfoldable pub teidIn : List Element → ℕ
@@ -50,7 +50,7 @@ teidIn es = numberAt 1 4 (valueOr [] (contentOf ie.fteid es))
 
 -- the TEID in the reply's Created group of a kind and ID
 unfoldable pub createdTeid : List ℕ → Kind → ℕ → ℕ
-createdTeid space k i = teidIn (elements (valueOr [] (mapOption contentIn (findBy (isCreated k i) (replyElements space)))))
+createdTeid space k i = teidIn (elements 0 (valueOr [] (mapOption contentIn (findBy (isCreated k i) (replyElements space)))))
 
 -- ---- the live set
 

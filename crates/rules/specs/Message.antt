@@ -48,12 +48,20 @@ sequenceOf msg = part 12 3 msg
 unfoldable pub body : List ℕ → List ℕ
 body msg = drop 16 msg
 
+-- the place of a body's first octet, and of the first octet of the value of an element at place p
+abbrev pub bodyPlace : ℕ
+bodyPlace = 16
+
+abbrev pub inside : ℕ → ℕ
+inside p = p + 4
+
 -- ---- elements
 
--- an element (01's IE): type and value
+-- an element (01's IE): type and value, and its place: the index in the message, from 0, of its type's first octet (02 iv)
 pub record Element : Type 0 where
   pub type : ℕ
   pub content : List ℕ
+  pub place : ℕ
 
 unfoldable pub elementType : List ℕ → ℕ
 elementType xs = numberAt 0 2 xs
@@ -61,15 +69,15 @@ elementType xs = numberAt 0 2 xs
 unfoldable pub elementLength : List ℕ → ℕ
 elementLength xs = numberAt 2 2 xs
 
--- the elements of framed octets, at most n of them
-unfoldable pub elementsUpTo : ℕ → List ℕ → List Element
-elementsUpTo zero xs = []
-elementsUpTo (suc n) xs =
-    let more = elementsUpTo n (drop (4 + elementLength xs) xs) in
-    pick (ltb (length xs) 4) [] (record { type = elementType xs; content = part 4 (elementLength xs) xs } ∷ more)
+-- the elements of framed octets, the first of which stands at a place, at most n of them
+unfoldable pub elementsUpTo : ℕ → ℕ → List ℕ → List Element
+elementsUpTo zero at xs = []
+elementsUpTo (suc n) at xs =
+    let more = elementsUpTo n (at + (4 + elementLength xs)) (drop (4 + elementLength xs) xs) in
+    pick (ltb (length xs) 4) [] (record { type = elementType xs; content = part 4 (elementLength xs) xs; place = at } ∷ more)
 
-unfoldable pub elements : List ℕ → List Element
-elements xs = elementsUpTo (length xs) xs
+unfoldable pub elements : ℕ → List ℕ → List Element
+elements at xs = elementsUpTo (length xs) at xs
 
 -- ---- places
 
@@ -100,28 +108,40 @@ placesOf group =
 
 -- ---- stage 2: framing
 
--- the fault inside the first element, if it is a group that is opened here; `inner` frames its value
-unfoldable pub innerFault : (ℕ → List ℕ → Option ℕ) → ℕ → ℕ → List ℕ → Option ℕ
-innerFault inner kind group xs =
-    let f = inner (elementType xs) (part 4 (elementLength xs) xs) in
-    pick (member (elementType xs) (opened kind group)) f none
+-- what is at fault: a type and its place; the message is type 0 at place 0
+pub record Spot : Type 0 where
+  pub type : ℕ
+  pub place : ℕ
 
--- The first fault in the elements of a group (0: the message), at most n of them: the type at fault, or the group where under 4 octets are left.
-unfoldable pub frameUpTo : (ℕ → List ℕ → Option ℕ) → ℕ → ℕ → ℕ → List ℕ → Option ℕ
-frameUpTo inner kind group zero xs = none
-frameUpTo inner kind group (suc n) xs =
-    let more = frameUpTo inner kind group n (drop (4 + elementLength xs) xs) in
+abbrev pub spot : ℕ → ℕ → Spot
+spot t p = record { type = t; place = p }
+
+abbrev pub atMessage : Spot
+atMessage = spot 0 0
+
+-- the fault inside the first element, at a place, if it is a group that is opened here; `inner` frames its value
+unfoldable pub innerFault : (Spot → ℕ → List ℕ → Option Spot) → ℕ → Spot → ℕ → List ℕ → Option Spot
+innerFault inner kind group at xs =
+    let f = inner (spot (elementType xs) at) (inside at) (part 4 (elementLength xs) xs) in
+    pick (member (elementType xs) (opened kind (group .type))) f none
+
+-- The first fault in the elements of a group, the first of which stands at a place, at most n of them: the element that runs over, or the
+-- group where under 4 octets are left.
+unfoldable pub frameUpTo : (Spot → ℕ → List ℕ → Option Spot) → ℕ → Spot → ℕ → ℕ → List ℕ → Option Spot
+frameUpTo inner kind group zero at xs = none
+frameUpTo inner kind group (suc n) at xs =
+    let more = frameUpTo inner kind group n (at + (4 + elementLength xs)) (drop (4 + elementLength xs) xs) in
     pick (isNil xs) none
     (pick (ltb (length xs) 4) (some group)
-    (pick (ltb (length xs) (4 + elementLength xs)) (some (elementType xs)) (orElse (innerFault inner kind group xs) more)))
+    (pick (ltb (length xs) (4 + elementLength xs)) (some (spot (elementType xs) at)) (orElse (innerFault inner kind group at xs) more)))
 
 -- with a depth left, the message counted
-unfoldable pub frame : ℕ → ℕ → ℕ → List ℕ → Option ℕ
-frame zero kind group xs = none
-frame (suc depth) kind group xs = frameUpTo (frame depth kind) kind group (length xs) xs
+unfoldable pub frame : ℕ → ℕ → Spot → ℕ → List ℕ → Option Spot
+frame zero kind group at xs = none
+frame (suc depth) kind group at xs = frameUpTo (frame depth kind) kind group (length xs) at xs
 
-unfoldable pub frameFault : List ℕ → Option ℕ
-frameFault msg = frame maxDepth (kindOf msg) 0 (body msg)
+unfoldable pub frameFault : List ℕ → Option Spot
+frameFault msg = frame maxDepth (kindOf msg) atMessage bodyPlace (body msg)
 
 -- ---- looking an element up
 

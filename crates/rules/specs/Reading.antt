@@ -1,7 +1,7 @@
 -- Stage 3: a framed message read, each element once and in order: the first fault, or the request.
 -- 01, "Message frame", "FQ-CSID" and the causes of stage 3.
 -- Assumes nothing.
-use Prim.Native.Nat.{ℕ, _%_}
+use Prim.Native.Nat.{ℕ, _+_, _%_}
 use mathlib.Core.Bool.{Bool, true, false, not, _&&_, _||_}
 use mathlib.Core.Option.{Option, none, some}
 use mathlib.Core.List.{List, [], _∷_, _++_}
@@ -12,7 +12,7 @@ use Rattle.octets.specs.Octets.{numberAt, octetAt, bit}
 use Rattle.octets.specs.Lists.{member, any, keep, collect}
 use Rattle.rules.specs.Types as ie
 use Rattle.rules.specs.Elements.{Refusal, missing, conditional, tooShort, incorrect, Answer, refuse, value, Fteid, Fqcsid, sets, removal, readFteid, readFqcsid, readFseid, nodeOf}
-use Rattle.rules.specs.Message.{establishment, modification, deletion, kindOf, body, Element, elements, actedOn, placesOf, hasType, numberWidth}
+use Rattle.rules.specs.Message.{establishment, modification, deletion, kindOf, body, bodyPlace, inside, Element, elements, actedOn, placesOf, hasType, numberWidth}
 
 -- ---- what a message asks for
 
@@ -67,33 +67,34 @@ pub record Request : Type 0 where
 
 -- ---- what reading gives
 
--- a refusal with the type at fault
+-- a refusal with the type at fault and its place: that of the element, or where one is missing of the group that lacks it, 0 for the message
 pub record Fault : Type 0 where
   pub cause : Refusal
   pub type : ℕ
+  pub place : ℕ
 
 -- the first fault, or what was read
 pub data Reading (A : Type 0) : Type 0 where
   faulty : Fault → Reading A
   done : A → Reading A
 
-abbrev pub refusal : {A : Type 0} → Refusal → ℕ → Reading A
-refusal c t = faulty (record { cause = c; type = t })
+abbrev pub refusal : {A : Type 0} → Refusal → ℕ → ℕ → Reading A
+refusal c t p = faulty (record { cause = c; type = t; place = p })
 
 -- a value read, and what is read after it
 abbrev pub andThen : {A B : Type 0} → Reading A → (A → Reading B) → Reading B
 andThen (faulty f) next = faulty f
 andThen (done a) next = next a
 
--- the answer on the value of an element of type t
-abbrev pub named : {A : Type 0} → ℕ → Answer A → Reading A
-named t (refuse c) = refusal c t
-named t (value a) = done a
+-- the answer on the value of an element of type t at place p
+abbrev pub named : {A : Type 0} → ℕ → ℕ → Answer A → Reading A
+named t p (refuse c) = refusal c t p
+named t p (value a) = done a
 
--- what is required, and what is read of it
-abbrev pub need : {A B : Type 0} → Refusal → ℕ → Option A → (A → Reading B) → Reading B
-need c t none next = refusal c t
-need c t (some a) next = next a
+-- what a group at place p requires, and what is read of it
+abbrev pub need : {A B : Type 0} → Refusal → ℕ → ℕ → Option A → (A → Reading B) → Reading B
+need c t p none next = refusal c t p
+need c t p (some a) next = next a
 
 -- ---- groups
 
@@ -144,76 +145,79 @@ holds t m =
     (pick (eqb t ie.fteid) (isSome (m .local)) (isSome (m .endpointId)))))))
 
 -- the number of a member with so many octets
-unfoldable pub numberRead : ℕ → List ℕ → Reading ℕ
-numberRead t v = pick (ltb (length v) (numberWidth t)) (refusal tooShort t) (done (numberAt 0 (numberWidth t) v))
+unfoldable pub numberRead : ℕ → ℕ → List ℕ → Reading ℕ
+numberRead t p v = pick (ltb (length v) (numberWidth t)) (refusal tooShort t p) (done (numberAt 0 (numberWidth t) v))
 
 -- a FAR ID of null length takes the FAR ID away, in an Update PDR
-unfoldable pub farRead : ℕ → List ℕ → Reading (Option ℕ)
-farRead g v = pick (eqb g ie.updatePdr && isNil v) (done none) (andThen (numberRead ie.farId v) (λ n. done (some n)))
+unfoldable pub farRead : ℕ → ℕ → List ℕ → Reading (Option ℕ)
+farRead g p v = pick (eqb g ie.updatePdr && isNil v) (done none) (andThen (numberRead ie.farId p v) (λ n. done (some n)))
 
--- the PDI of a Create PDR is read by `inner`; that of an Update PDR is not
-unfoldable pub pdiIn : (List ℕ → Members → Reading Members) → ℕ → List ℕ → Members → Reading Members
-pdiIn inner g v m = pick (eqb g ie.createPdr) (inner v (withPdi m)) (done (withPdi m))
+-- the PDI of a Create PDR, at place p, is read by `inner`; that of an Update PDR is not
+unfoldable pub pdiIn : (ℕ → List ℕ → Members → Reading Members) → ℕ → ℕ → List ℕ → Members → Reading Members
+pdiIn inner g p v m = pick (eqb g ie.createPdr) (inner p v (withPdi m)) (done (withPdi m))
 
--- the value v of a member of type t in a group of type g
-unfoldable pub valueRead : (List ℕ → Members → Reading Members) → ℕ → ℕ → List ℕ → Members → Reading Members
-valueRead inner g t v m =
-    pick (eqb t ie.pdrId) (andThen (numberRead t v) (λ n. done (withPdrId n m)))
-    (pick (eqb t ie.precedence) (andThen (numberRead t v) (λ n. done (withPrecedence n m)))
-    (pick (eqb t ie.farId) (andThen (farRead g v) (λ f. done (withFar f m)))
-    (pick (eqb t ie.pdi) (pdiIn inner g v m)
-    (pick (eqb t ie.sourceInterface) (andThen (numberRead t v) (λ n. done (withSource (n % 16) m)))
-    (pick (eqb t ie.fteid) (andThen (named t (readFteid (eqb g ie.createEndpoint) v)) (λ y. done (withLocal y m)))
-    (andThen (numberRead t v) (λ n. done (withEndpointId n m))))))))
+-- the value v of a member of type t at place p, in a group of type g
+unfoldable pub valueRead : (ℕ → List ℕ → Members → Reading Members) → ℕ → ℕ → ℕ → List ℕ → Members → Reading Members
+valueRead inner g t p v m =
+    pick (eqb t ie.pdrId) (andThen (numberRead t p v) (λ n. done (withPdrId n m)))
+    (pick (eqb t ie.precedence) (andThen (numberRead t p v) (λ n. done (withPrecedence n m)))
+    (pick (eqb t ie.farId) (andThen (farRead g p v) (λ f. done (withFar f m)))
+    (pick (eqb t ie.pdi) (pdiIn inner g p v m)
+    (pick (eqb t ie.sourceInterface) (andThen (numberRead t p v) (λ n. done (withSource (n % 16) m)))
+    (pick (eqb t ie.fteid) (andThen (named t p (readFteid (eqb g ie.createEndpoint) v)) (λ y. done (withLocal y m)))
+    (andThen (numberRead t p v) (λ n. done (withEndpointId n m))))))))
 
 -- an element of a group: skipped where it has no place; met again it is 69 before its value is read
-unfoldable pub memberRead : (List ℕ → Members → Reading Members) → ℕ → Element → Members → Reading Members
+unfoldable pub memberRead : (ℕ → List ℕ → Members → Reading Members) → ℕ → Element → Members → Reading Members
 memberRead inner g e m =
-    pick (member (e .type) (placesOf g)) (pick (holds (e .type) m) (refusal incorrect (e .type)) (valueRead inner g (e .type) (e .content) m)) (done m)
+    pick (member (e .type) (placesOf g))
+    (pick (holds (e .type) m) (refusal incorrect (e .type) (e .place)) (valueRead inner g (e .type) (e .place) (e .content) m))
+    (done m)
 
-unfoldable pub membersRead : (List ℕ → Members → Reading Members) → ℕ → List Element → Members → Reading Members
+unfoldable pub membersRead : (ℕ → List ℕ → Members → Reading Members) → ℕ → List Element → Members → Reading Members
 membersRead inner g [] m = done m
 membersRead inner g (e ∷ es) m = andThen (memberRead inner g e m) (membersRead inner g es)
 
 -- a PDI opens no group
-abbrev pub unopened : List ℕ → Members → Reading Members
-unopened v m = done m
+abbrev pub unopened : ℕ → List ℕ → Members → Reading Members
+unopened p v m = done m
 
--- a PDI requires its Source Interface
-unfoldable pub pdiEnd : Members → Reading Members
-pdiEnd m = need missing ie.sourceInterface (m .source) (λ n. done m)
+-- a PDI, at place p, requires its Source Interface
+unfoldable pub pdiEnd : ℕ → Members → Reading Members
+pdiEnd p m = need missing ie.sourceInterface p (m .source) (λ n. done m)
 
-unfoldable pub pdiRead : List ℕ → Members → Reading Members
-pdiRead v m = andThen (membersRead unopened ie.pdi (elements v) m) pdiEnd
+unfoldable pub pdiRead : ℕ → List ℕ → Members → Reading Members
+pdiRead p v m = andThen (membersRead unopened ie.pdi (elements (inside p) v) m) (pdiEnd p)
 
--- what a group's members make, the required ones asked for from the lowest type up
+-- what the members of a group at place p make, the required ones asked for from the lowest type up
 
 -- a PDI that is there has its Source Interface
-unfoldable pub pdrFrom : Members → Reading Item
-pdrFrom m =
+unfoldable pub pdrFrom : ℕ → Members → Reading Item
+pdrFrom p m =
     pick (m .pdi)
-    (need missing ie.precedence (m .precedence) (λ n. need missing ie.pdrId (m .pdrId) (λ i. need missing ie.sourceInterface (m .source) (λ c.
+    (need missing ie.precedence p (m .precedence) (λ n. need missing ie.pdrId p (m .pdrId) (λ i. need missing ie.sourceInterface p (m .source) (λ c.
     done (createsPdr (record { id = i; precedence = n; far = bindOption (m .far) (λ f. f); source = c; local = m .local; endpoint = m .endpointId }))))))
-    (refusal missing ie.pdi)
+    (refusal missing ie.pdi p)
 
-unfoldable pub endpointFrom : Members → Reading Item
-endpointFrom m =
-    need conditional ie.fteid (m .local) (λ v. need missing ie.endpointId (m .endpointId) (λ i. done (createsEndpoint (record { id = i; local = v }))))
+unfoldable pub endpointFrom : ℕ → Members → Reading Item
+endpointFrom p m =
+    need conditional ie.fteid p (m .local) (λ v. need missing ie.endpointId p (m .endpointId) (λ i. done (createsEndpoint (record { id = i; local = v }))))
 
-unfoldable pub changeFrom : Members → Reading Item
-changeFrom m =
-    need missing ie.pdrId (m .pdrId) (λ i. done (updatesPdr (record { id = i; precedence = m .precedence; far = m .far; pdi = m .pdi })))
+unfoldable pub changeFrom : ℕ → Members → Reading Item
+changeFrom p m =
+    need missing ie.pdrId p (m .pdrId) (λ i. done (updatesPdr (record { id = i; precedence = m .precedence; far = m .far; pdi = m .pdi })))
 
-unfoldable pub itemFrom : ℕ → Members → Reading Item
-itemFrom g m =
-    pick (eqb g ie.createPdr) (pdrFrom m)
-    (pick (eqb g ie.createEndpoint) (endpointFrom m)
-    (pick (eqb g ie.updatePdr) (changeFrom m)
-    (pick (eqb g ie.removePdr) (need missing ie.pdrId (m .pdrId) (λ i. done (removesPdr i)))
-    (need missing ie.endpointId (m .endpointId) (λ i. done (removesEndpoint i))))))
+unfoldable pub itemFrom : ℕ → ℕ → Members → Reading Item
+itemFrom g p m =
+    pick (eqb g ie.createPdr) (pdrFrom p m)
+    (pick (eqb g ie.createEndpoint) (endpointFrom p m)
+    (pick (eqb g ie.updatePdr) (changeFrom p m)
+    (pick (eqb g ie.removePdr) (need missing ie.pdrId p (m .pdrId) (λ i. done (removesPdr i)))
+    (need missing ie.endpointId p (m .endpointId) (λ i. done (removesEndpoint i))))))
 
-unfoldable pub groupRead : ℕ → List ℕ → Reading Item
-groupRead g v = andThen (membersRead pdiRead g (elements v) noMembers) (itemFrom g)
+-- a group of type g at place p, of value v
+unfoldable pub groupRead : ℕ → ℕ → List ℕ → Reading Item
+groupRead g p v = andThen (membersRead pdiRead g (elements (inside p) v) noMembers) (itemFrom g p)
 
 -- ---- the top of a message
 
@@ -239,18 +243,18 @@ withNode n d = record { seid = d .seid; restores = d .restores; nodes = n ∷ d 
 abbrev pub withItem : Item → Draft → Draft
 withItem i d = record { seid = d .seid; restores = d .restores; nodes = d .nodes; items = d .items ++ (i ∷ []) }
 
--- 57 and 186 may come once
-abbrev pub once : {A B : Type 0} → Option A → ℕ → Reading B → Reading B
-once none t r = r
-once (some a) t r = refusal incorrect t
+-- 57 and 186 may come once; a second one stands at place p
+abbrev pub once : {A B : Type 0} → Option A → ℕ → ℕ → Reading B → Reading B
+once none t p r = r
+once (some a) t p r = refusal incorrect t p
 
-unfoldable pub seidRead : List ℕ → Draft → Reading Draft
-seidRead v d = once (d .seid) ie.fseid (andThen (named ie.fseid (readFseid v)) (λ n. done (withSeid n d)))
+unfoldable pub seidRead : ℕ → List ℕ → Draft → Reading Draft
+seidRead p v d = once (d .seid) ie.fseid p (andThen (named ie.fseid p (readFseid v)) (λ n. done (withSeid n d)))
 
 -- bit 1 of the flags' octet
-unfoldable pub flagsRead : List ℕ → Draft → Reading Draft
-flagsRead v d =
-    once (d .restores) ie.sessionFlags (pick (ltb (length v) 1) (refusal tooShort ie.sessionFlags) (done (withRestores (bit 0 (octetAt v 0)) d)))
+unfoldable pub flagsRead : ℕ → List ℕ → Draft → Reading Draft
+flagsRead p v d =
+    once (d .restores) ie.sessionFlags p (pick (ltb (length v) 1) (refusal tooShort ie.sessionFlags p) (done (withRestores (bit 0 (octetAt v 0)) d)))
 
 -- m = 1 in an establishment, 1 or the removal in a modification, at least 1 in a deletion
 unfoldable pub csidCountAllowed : ℕ → Fqcsid → Bool
@@ -262,23 +266,23 @@ unfoldable pub withCsid : ℕ → Fqcsid → Draft → Draft
 withCsid kind c d = withNode (nodeOf c) (pick (eqb kind deletion) d (withItem (setsCsid c) d))
 
 -- null length in a modification, with no other FQ-CSID there (alone), removes all
-unfoldable pub csidRead : ℕ → Bool → List ℕ → Draft → Reading Draft
-csidRead kind alone v d =
+unfoldable pub csidRead : ℕ → Bool → ℕ → List ℕ → Draft → Reading Draft
+csidRead kind alone p v d =
     pick (isNil v && eqb kind modification && alone) (done (withItem clearsCsids d))
-    (andThen (named ie.fqcsid (readFqcsid v)) (λ c.
-    pick (csidCountAllowed kind c && not (member (nodeOf c) (d .nodes))) (done (withCsid kind c d)) (refusal incorrect ie.fqcsid)))
+    (andThen (named ie.fqcsid p (readFqcsid v)) (λ c.
+    pick (csidCountAllowed kind c && not (member (nodeOf c) (d .nodes))) (done (withCsid kind c d)) (refusal incorrect ie.fqcsid p)))
 
--- an element that is acted on, of type t and value v
-unfoldable pub actedRead : ℕ → Bool → ℕ → List ℕ → Draft → Reading Draft
-actedRead kind alone t v d =
-    pick (eqb t ie.fseid) (seidRead v d)
-    (pick (eqb t ie.sessionFlags) (flagsRead v d)
-    (pick (eqb t ie.fqcsid) (csidRead kind alone v d)
-    (pick (eqb t ie.updateEndpoint) (done (withItem updatesEndpoint d)) (andThen (groupRead t v) (λ i. done (withItem i d))))))
+-- an element that is acted on, of type t and value v, at place p
+unfoldable pub actedRead : ℕ → Bool → ℕ → ℕ → List ℕ → Draft → Reading Draft
+actedRead kind alone t p v d =
+    pick (eqb t ie.fseid) (seidRead p v d)
+    (pick (eqb t ie.sessionFlags) (flagsRead p v d)
+    (pick (eqb t ie.fqcsid) (csidRead kind alone p v d)
+    (pick (eqb t ie.updateEndpoint) (done (withItem updatesEndpoint d)) (andThen (groupRead t p v) (λ i. done (withItem i d))))))
 
 -- any other is skipped
 unfoldable pub elementRead : ℕ → Bool → Element → Draft → Reading Draft
-elementRead kind alone e d = pick (member (e .type) (actedOn kind)) (actedRead kind alone (e .type) (e .content) d) (done d)
+elementRead kind alone e d = pick (member (e .type) (actedOn kind)) (actedRead kind alone (e .type) (e .place) (e .content) d) (done d)
 
 unfoldable pub elementsRead : ℕ → Bool → List Element → Draft → Reading Draft
 elementsRead kind alone [] d = done d
@@ -387,11 +391,11 @@ requestOf n d =
 unfoldable pub createsAny : List Item → Bool
 createsAny is = not (isNil (collect pdrIn is))
 
--- an establishment needs a Create PDR unless it is a restoration, and its F-SEID
+-- an establishment needs a Create PDR unless it is a restoration, and its F-SEID; what the message lacks is at place 0
 unfoldable pub finished : ℕ → Draft → Reading Request
 finished kind d =
     pick (eqb kind establishment)
-    (pick (restoringIn d || createsAny (d .items)) (need missing ie.fseid (d .seid) (λ n. done (requestOf n d))) (refusal missing ie.createPdr))
+    (pick (restoringIn d || createsAny (d .items)) (need missing ie.fseid 0 (d .seid) (λ n. done (requestOf n d))) (refusal missing ie.createPdr 0))
     (done (requestOf 0 d))
 
 -- is there one FQ-CSID alone
@@ -403,7 +407,7 @@ topRead kind es = andThen (elementsRead kind (aloneIn es) es emptyDraft) (finish
 
 -- a framed message
 unfoldable pub read : List ℕ → Reading Request
-read msg = topRead (kindOf msg) (elements (body msg))
+read msg = topRead (kindOf msg) (elements bodyPlace (body msg))
 
 -- its first fault
 unfoldable pub faultIn : {A : Type 0} → Reading A → Option Fault

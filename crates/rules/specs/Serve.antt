@@ -1,4 +1,4 @@
--- One request: the host outcome, the reply space and the table at exit (01, "What comes back").
+-- One request: the host outcome, the place of a fault, the reply space and the table at exit (01, "What comes back"; 02 iv).
 -- Assumes nothing.
 use Prim.Native.Nat.{ℕ}
 use mathlib.Core.Bool.{not}
@@ -19,14 +19,15 @@ use Rattle.rules.specs.Reply.{reply}
 use Rattle.rules.specs.Limits.{maxMessage, minSpace}
 use Rattle.rules.specs.Causes as why
 
--- outcome, reply space and table at exit
+-- outcome, reply space and table at exit; the place of a fault of stages 2 and 3 in the message, else 0
 pub record Served : Type 0 where
   pub outcome : ℕ
+  pub place : ℕ
   pub space : List ℕ
   pub table : List ℕ
 
 abbrev pub unserved : ℕ → List ℕ → List ℕ → Served
-unserved n space t = record { outcome = n; space = space; table = t }
+unserved n space t = record { outcome = n; place = 0; space = space; table = t }
 
 -- the sessions after an accepted request
 unfoldable pub sessionsAfter : Settings → Sessions → List ℕ → Sessions
@@ -38,7 +39,7 @@ replyTo s m msg v = reply s msg (readRequest msg .seid) v (grants s m (readReque
 -- outcome 0: a reply, and on cause 1 a changed table
 unfoldable pub answered : ℕ → Settings → Sessions → List ℕ → List ℕ → List ℕ → Verdict → Served
 answered limit s m msg space t v =
-    record { outcome = 0; space = put 0 (replyTo s m msg v) space; table = pick (eqb (v .cause) why.accepted) (encode limit s (sessionsAfter s m msg)) t }
+    record { outcome = 0; place = v .place; space = put 0 (replyTo s m msg v) space; table = pick (eqb (v .cause) why.accepted) (encode limit s (sessionsAfter s m msg)) t }
 
 unfoldable pub answer : ℕ → Settings → Sessions → List ℕ → List ℕ → List ℕ → Served
 answer limit s m msg space t = answered limit s m msg space t (verdict limit s m msg)

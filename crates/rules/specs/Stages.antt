@@ -13,7 +13,7 @@ use Rattle.rules.specs.Model.{Settings, Pdr, Session, Sessions, Holding,
 use Rattle.rules.specs.Limits.{maxPdrs, maxEndpoints}
 use Rattle.rules.specs.Elements.{causeOf, Fteid, given, choose, hasV4, hasV6, chooses, chooseId}
 use Rattle.rules.specs.Sound.{inPool, unitFamilies, agree}
-use Rattle.rules.specs.Message.{establishment, kindOf, headerSeid, frameFault}
+use Rattle.rules.specs.Message.{establishment, kindOf, headerSeid, Spot, frameFault}
 use Rattle.rules.specs.Reading.{readFault, readRequest, Fault, NewPdr, NewEndpoint, Change, Request}
 use Rattle.rules.specs.Grants.{need}
 use Rattle.rules.specs.Causes as why
@@ -219,13 +219,14 @@ noRoom limit kind s m x r = oneOf (tooManySessions limit kind m ∷ tooManyPdrs 
 
 -- ---- the verdict
 
--- the cause, and the type that Offending IE names
+-- the cause, the type that Offending IE names, and the place of a fault of stages 2 and 3, else 0
 pub record Verdict : Type 0 where
   pub cause : ℕ
   pub offending : Option ℕ
+  pub place : ℕ
 
 abbrev pub plain : ℕ → Verdict
-plain c = record { cause = c; offending = none }
+plain c = record { cause = c; offending = none; place = 0 }
 
 -- stages 4 to 6, of a request without a fault
 unfoldable pub judge : ℕ → ℕ → Settings → Sessions → Session → Request → Verdict
@@ -246,12 +247,12 @@ judged limit s m msg = judge limit (kindOf msg) s m (entrySession m msg) (readRe
 -- stage 3, then 4 to 6
 unfoldable pub fromReading : ℕ → Settings → Sessions → List ℕ → Option Fault → Verdict
 fromReading limit s m msg none = judged limit s m msg
-fromReading limit s m msg (some f) = record { cause = causeOf (f .cause); offending = some (f .type) }
+fromReading limit s m msg (some f) = record { cause = causeOf (f .cause); offending = some (f .type); place = f .place }
 
 -- stage 2, then 3 to 6
-unfoldable pub fromFraming : ℕ → Settings → Sessions → List ℕ → Option ℕ → Verdict
+unfoldable pub fromFraming : ℕ → Settings → Sessions → List ℕ → Option Spot → Verdict
 fromFraming limit s m msg none = fromReading limit s m msg (readFault msg)
-fromFraming limit s m msg (some t) = record { cause = why.wrongLength; offending = some t }
+fromFraming limit s m msg (some f) = record { cause = why.wrongLength; offending = some (f .type); place = f .place }
 
 -- stage 1: no such session
 unfoldable pub unknownSession : Sessions → List ℕ → Bool

@@ -1,5 +1,5 @@
 // Reads requests from standard input, each after its length in two octets, and writes a line for each: `outcome` and the host outcome
-// (3 to 5), `cause` and `type` of the first fault of stages 2 and 3, or `read` and the request from the rows of its plan. The lines are those
+// (3 to 5), `cause`, `type` and `place` of the first fault of stages 2 and 3, or `read` and the request from the rows of its plan. The lines are those
 // that the independent second reader writes, but for what a plan does not keep: the F-SEID's addresses, a deletion's FQ-CSIDs, and
 // where an element 129 stands, which is said at the end.
 mod record;
@@ -20,11 +20,13 @@ fn outcome(n: u64) {
     text(b"\n");
 }
 
-fn fault(cause: u64, kind: u64) {
+fn fault(cause: u64, kind: u64, place: u64) {
     text(b"cause ");
     io::print_decimal(1, cause);
     text(b" type ");
     io::print_decimal(1, kind);
+    text(b" place ");
+    io::print_decimal(1, place);
     text(b"\n");
 }
 
@@ -66,7 +68,7 @@ fn message(msg: &[u8], kind: u64, header: u64)
     let mut words = [0u64; 4068];
     let sequence = octets::read(msg, 12, 3);
     match request::read_request(msg, &mut words) {
-        Reading::Fault(cause, at) => fault(cause, at),
+        Reading::Fault(cause, kind, place) => fault(cause, kind, place as u64),
         Reading::Whole(plan) => {
             head(kind, header, sequence, plan);
             record::all(&words, plan.rows);

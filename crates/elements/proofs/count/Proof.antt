@@ -6,12 +6,12 @@ use native.Mathlib.Omega.{arith}
 use lib.ListN.{length}
 use borrow.Author.Needs.{needs}
 use Rattle.rules.specs.Message.{elements}
-use Rattle.elements.proofs.Front.{Front, front, none-left, behind, countOf, count-none, type-same, type-other, counted, uncounted}
+use Rattle.elements.proofs.Front.{Front, front, none-left, behind, countOf, count-none, counted, uncounted}
 use Rattle.elements.proofs.count.Statement.{statement}
 use Rattle.elements.proofs.count.Tie as tie
 
 abbrev Inv-loop : tie.InvT-loop
-Inv-loop s kind rest₀ n₀ rest n = (n + length rest ≤ length s) × (countOf kind (elements s) ≡ n + countOf kind (elements rest))
+Inv-loop s kind rest₀ n₀ rest n = (n + length rest ≤ length s) × (countOf kind (elements 0 s) ≡ n + countOf kind (elements 0 rest))
 
 abbrev μ-loop : tie.MeasureT-loop
 μ-loop s kind rest₀ n₀ rest n = length rest
@@ -25,7 +25,7 @@ loop-holds c = (omega arith, omega arith)
 returns : tie.Need-returns Inv-loop μ-loop
 returns c =
     let l = c .before .before .before in
-    let none : elements (l .loop .rest .now) ≡ _ = none-left _ (sym (c .enum-told .given .1) ∙ c .before .before .first-of .ensures) in
+    let none : elements 0 (l .loop .rest .now) ≡ _ = none-left 0 _ (sym (c .enum-told .given .1) ∙ c .before .before .first-of .ensures) in
     let e = ap (countOf (l .before .before .args .kind)) none ∙ count-none _ in
     omega (arith, l .loop .inv .1)
 
@@ -51,9 +51,9 @@ loop-again c =
     let r = behind (l .loop .rest .now) (c .before .before .before .found .given .0 .1 .0) in
     let room : c .before .if1 .n + length r ≤ length (l .before .before .args .s .now) =
     ⊎-elim (λ w. let q = w .1 in omega (arith, f .less)) (λ w. let q = w .1 in omega (arith, f .less)) (c .before .if1 .came) in
-    let same : countOf (l .before .before .args .kind) (elements (l .before .before .args .s .now)) ≡ c .before .if1 .n + countOf (l .before .before .args .kind) (elements r) =
-    ⊎-elim (λ w. counted f _ _ (l .loop .inv .1) (type-same _ _ _ (w .0 .taken)) ∙ ap (λ (n : ℕ). n + countOf (l .before .before .args .kind) (elements r)) (sym (w .1)))
-    (λ w. uncounted f _ _ (l .loop .inv .1) (type-other _ _ _ (w .0 .left)) ∙ ap (λ (n : ℕ). n + countOf (l .before .before .args .kind) (elements r)) (sym (w .1))) (c .before .if1 .came) in
+    let same : countOf (l .before .before .args .kind) (elements 0 (l .before .before .args .s .now)) ≡ c .before .if1 .n + countOf (l .before .before .args .kind) (elements 0 r) =
+    ⊎-elim (λ w. counted f _ _ (l .loop .inv .1) (w .0 .taken) ∙ ap (λ (n : ℕ). n + countOf (l .before .before .args .kind) (elements 0 r)) (sym (w .1)))
+    (λ w. uncounted f _ _ (l .loop .inv .1) (w .0 .left) ∙ ap (λ (n : ℕ). n + countOf (l .before .before .args .kind) (elements 0 r)) (sym (w .1))) (c .before .if1 .came) in
     (room, same)
 
 pub count-spec : {M : Type 1} → statement M

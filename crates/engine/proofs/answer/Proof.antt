@@ -1,6 +1,6 @@
 -- `engine::answer` meets its contract.
 -- Assumes nothing.
-use Rattle.engine.proofs.Answering.{establishes, absent-refuses, named-live, modifies}
+use Rattle.engine.proofs.Answering.{establishes, absent-refuses, absent-replies, named-live, modifies}
 use mathlib.Core.Path.{sym, _∙_}
 use borrow.Author.Needs.{needs}
 use Rattle.engine.proofs.answer.Statement.{statement}
@@ -18,6 +18,9 @@ delete-requires c κs = (c .before .before .before .before .before .before .befo
 change-requires-2 : tie.Need-change-requires-2
 change-requires-2 c κs = (modifies (c .before .before .before .before .before .before .before .before .before .before .before .before .pre .0) (c .before .before .before .before .before .before .before .before .before .before .before .before .pre .2) (c .before .before .before .before .before .before .before .before .if1 .left) (c .before .before .before .before .before .before .before .before .before .before .before .before .pre .3) (c .before .before .before .before .before .before .find .ensures) (c .before .before .before .before .place2 .given .1) (c .before .before .if2 .left), c .before .before .before .before .before .before .before .before .before .before .before .before .pre .1)
 
+returns-2 : tie.Need-returns-2
+returns-2 c = absent-replies (c .before .before .before .before .before .before .before .before .before .before .before .before .before .before .pre .0) (c .before .before .before .before .before .before .before .before .before .before .before .before .before .before .pre .2) (c .before .before .before .before .before .before .before .before .before .before .if1 .left) (c .before .before .before .before .before .before .before .before .before .before .before .before .before .before .pre .3) (c .before .before .before .before .before .before .before .before .find .ensures) _ (c .before .before .before .before .before .before .place .given .1) (c .before .before .refuse .ensures)
+
 pub answer-spec : {M : Type 1} → statement M
 answer-spec =
     tie.close
@@ -31,7 +34,7 @@ answer-spec =
     refuse-requires
     (λ c. search needs)
     (λ c. search needs)
-    (λ c. search needs)
+    returns-2
     (λ c. search needs)
     delete-requires
     (λ c. search needs)

@@ -1,6 +1,7 @@
 -- `engine::change` meets its contract.
 -- Assumes nothing.
-use Rattle.engine.proofs.Changing.{fault-refuses, readable, enter-asks}
+use Rattle.engine.proofs.Changing.{fault-refuses, readable, replies-judged, enter-asks}
+use Rattle.engine.proofs.Faults.{replies-fault}
 use Rattle.engine.proofs.Entering.{fetch-asks, entered}
 use mathlib.Core.Path.{refl}
 use lib.ListN.{replicate}
@@ -10,13 +11,19 @@ use Rattle.engine.proofs.change.Tie as tie
 use Rattle.rules.specs.Layout.{sessionWidth}
 
 refuse-requires : tie.Need-refuse-requires
-refuse-requires c κs = fault-refuses (c .before .before .before .before .before .before .before .before .before .before .before .pre .0) (c .before .before .before .before .before .before .read-request .ensures) _ _ (c .before .before .before .reading .given .1)
+refuse-requires c κs = fault-refuses (c .before .before .before .before .before .before .before .before .before .before .before .pre .0) (c .before .before .before .before .before .before .read-request .ensures) _ _ _ (c .before .before .before .reading .given .1) .refusing
 
 enter-requires : tie.Need-enter-requires
 enter-requires c κs = fetch-asks _ _ _ _ _ _ (enter-asks (c .before .before .before .before .before .before .before .before .before .before .before .pre .0) (c .before .before .before .before .before .before .read-request .ensures) (c .before .before .before .reading2 .given .1) _ (search needs) refl)
 
 settle-requires : tie.Need-settle-requires
 settle-requires c κs = (readable (c .before .before .before .before .before .before .before .before .before .before .before .before .before .before .before .before .before .pre .0) (c .before .before .before .before .before .before .before .before .before .before .before .before .read-request .ensures) (c .before .before .before .before .before .before .before .before .before .reading2 .given .1), c .before .before .before .before .before .before .before .before .before .before .before .before .before .before .before .before .before .pre .1, entered _ _ _ _ _ _ (enter-asks (c .before .before .before .before .before .before .before .before .before .before .before .before .before .before .before .before .before .pre .0) (c .before .before .before .before .before .before .before .before .before .before .before .before .read-request .ensures) (c .before .before .before .before .before .before .before .before .before .reading2 .given .1) (replicate sessionWidth 0) (search needs) refl) _ _ (c .before .before .before .before .before .enter .ensures))
+
+returns : tie.Need-returns
+returns c = replies-fault (fault-refuses (c .before .before .before .before .before .before .before .before .before .before .before .before .before .before .pre .0) (c .before .before .before .before .before .before .before .before .before .read-request .ensures) _ _ _ (c .before .before .before .before .before .before .reading .given .1)) (c .before .before .refuse .ensures)
+
+returns-2 : tie.Need-returns-2
+returns-2 c = replies-judged (readable (c .before .before .before .before .before .before .before .before .before .before .before .before .before .before .before .before .before .before .before .before .before .before .before .before .pre .0) (c .before .before .before .before .before .before .before .before .before .before .before .before .before .before .before .before .before .before .before .read-request .ensures) (c .before .before .before .before .before .before .before .before .before .before .before .before .before .before .before .before .reading2 .given .1)) (c .before .before .before .before .before .before .settle .ensures)
 
 pub change-spec : {M : Type 1} → statement M
 change-spec =
@@ -28,7 +35,7 @@ change-spec =
     refuse-requires
     (λ c. search needs)
     (λ c. search needs)
-    (λ c. search needs)
+    returns
     (λ c. search needs)
     (λ c. search needs)
     enter-requires
@@ -37,4 +44,4 @@ change-spec =
     settle-requires
     (λ c. search needs)
     (λ c. search needs)
-    (λ c. search needs))
+    returns-2)

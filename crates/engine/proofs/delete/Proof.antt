@@ -4,16 +4,22 @@ use Rattle.octets.specs.Lists.{all}
 use mathlib.Core.Path.{refl}
 use native.Mathlib.Omega.{arith}
 use Rattle.engine.proofs.Deleted.{deleted-through}
-use Rattle.engine.proofs.Faults.{frame-refuses, then-refuses}
+use Rattle.engine.proofs.Faults.{frame-asks, frame-replies, then-asks, then-replies}
 use borrow.Author.Needs.{needs}
 use Rattle.engine.proofs.delete.Statement.{statement}
 use Rattle.engine.proofs.delete.Tie as tie
 
 refuse-requires : tie.Need-refuse-requires
-refuse-requires c κs = search frame-refuses
+refuse-requires c κs = search frame-asks
 
 refuse-requires-2 : tie.Need-refuse-requires-2
-refuse-requires-2 c κs = search then-refuses
+refuse-requires-2 c κs = search then-asks
+
+returns : tie.Need-returns
+returns c = search frame-replies
+
+returns-2 : tie.Need-returns-2
+returns-2 c = search then-replies
 
 accepted-requires : tie.Need-accepted-requires
 unfolding all
@@ -31,14 +37,14 @@ delete-spec =
     refuse-requires
     (λ c. search needs)
     (λ c. search needs)
-    (λ c. search needs)
+    returns
     (λ c. search needs)
     (λ c κs. search needs)
     (λ c. search needs)
     refuse-requires-2
     (λ c. search needs)
     (λ c. search needs)
-    (λ c. search needs)
+    returns-2
     (λ c. search needs)
     (λ c. search needs)
     (λ c. search needs)

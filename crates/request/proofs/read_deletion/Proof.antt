@@ -29,7 +29,7 @@ returns : tie.Need-returns
 returns c = let p = c .before .before .before .before .before .before .before .pre in deletion-fine _ (p .0) (p .2) _ (c .before .before .before .read-elements .ensures) _ (c .enum-told .given .1)
 
 returns-2 : tie.Need-returns-2
-returns-2 c = let p = c .before .before .before .before .before .before .before .before .pre in deletion-refused _ (p .0) (p .2) _ (c .before .before .before .before .read-elements .ensures) _ _ (c .before .cause .given .1)
+returns-2 c = let p = c .before .before .before .before .before .before .before .before .pre in deletion-refused _ (p .0) (p .2) _ (c .before .before .before .before .read-elements .ensures) _ _ _ (c .before .cause .given .1)
 
 pub read-deletion-spec : {M : Type 1} → statement M
 read-deletion-spec =

@@ -1,6 +1,6 @@
 -- The proof of the cycle of calls {read_group}. The measure: a Create PDR, in which PDIs are read, and any other group. The loop's
 -- invariant: what is left gives the same outcome from this row as the whole from the first. Assumes nothing.
-use Prim.Native.Nat.{ℕ, _-_, _<_}
+use Prim.Native.Nat.{ℕ, _+_, _-_, _<_}
 use mathlib.Core.Path.{refl, ap, subst, sym, _∙_}
 use mathlib.Core.Logic.{⊎-elim}
 use mathlib.Core.List.{List}
@@ -14,7 +14,7 @@ use Rattle.octets.specs.Choice.{flag}
 use Rattle.rules.specs.Types as ie
 use Rattle.elements.proofs.Front.{Front, front, none-left, behind}
 use Rattle.reading.proofs.Places.{pdi-in-create}
-use Rattle.reading.proofs.GroupLaws.{Going, turn-refused, turn-shut, turn-inside, turn-open, turns-done}
+use Rattle.reading.proofs.GroupLaws.{Going, value-fits, turn-refused, turn-shut, turn-inside, turn-open, turns-done}
 use Rattle.reading.proofs.members.read_group.Reads as reads
 use Rattle.reading.proofs.members.read_group.Kinds as kinds
 use Rattle.reading.proofs.members.+read_group.Lts-read_group as lts
@@ -46,10 +46,10 @@ claims t = (
 )
 
 abbrev Inv : lts.InvT-loop
-Inv s place row₀ rest₀ row rest = Going place s row₀ rest row
+Inv s group place row₀ rest₀ at₀ row rest at = Going group place s row₀ at rest row
 
 abbrev μ-loop : lts.MeasureT-loop
-μ-loop s place row₀ rest₀ row rest = length rest
+μ-loop s group place row₀ rest₀ at₀ row rest at = length rest
 
 module _ (t : ℕ) where
   at-front : (k : lts.After-kind (claims t) (pre t) reads.Post Inv μ-loop)
@@ -57,7 +57,7 @@ module _ (t : ℕ) where
   at-front k = front _ _ _ (sym (k .kind .given .1) ∙ k .before .before .first-of .ensures)
 
   returns : lts.Need-returns (claims t) (pre t) reads.Post Inv μ-loop
-  returns c = turns-done (c .before .before .before .before .before .loop .inv) (none-left _ (sym (c .before .before .enum-told .given .1) ∙ c .before .before .before .before .first-of .ensures)) (c .lacking .ensures)
+  returns c = turns-done (c .before .before .before .before .before .loop .inv) (none-left _ _ (sym (c .before .before .enum-told .given .1) ∙ c .before .before .before .before .first-of .ensures)) (c .lacking .ensures)
 
   sub-v : lts.Need-sub-v (claims t) (pre t) reads.Post Inv μ-loop
   sub-v c = let f = at-front (c .before) in omega arith
@@ -69,15 +69,20 @@ module _ (t : ℕ) where
   part-v-end c = let f = at-front (c .before) in omega arith
 
   returns-2 : lts.Need-returns-2 (claims t) (pre t) reads.Post Inv μ-loop
-  returns-2 c = turn-refused (at-front (c .before .before .before .before .before .before .before .before)) (c .before .before .before .before .before .before .before .before .before .before .before .loop .inv) (c .before .before .before .before .read-own .result) (c .before .before .before .before .read-own .last .1 .1 .1 .0) (c .before .before .before .before .read-own .ensures) (c .enum-told3 .given .1)
+  returns-2 c = turn-refused (at-front (c .before .before .before .before .before .before .before .before)) (c .before .before .before .before .before .before .before .before .before .before .before .loop .inv) (c .before .before .before .before .read-own .result) (c .before .before .before .before .read-own .last .1 .1 .1 .1 .0) (c .before .before .before .before .read-own .ensures) (c .enum-told3 .given .1)
 
   read-group-requires : lts.Need-read-group-requires (claims t) (pre t) reads.Post Inv μ-loop
   read-group-requires c κs =
-      let e = pdi-in-create _ _ (sym (c .before .if1 .taken) ∙ c .before .before .is-pdi .ensures) in
-      (subst (λ (n : ℕ). 0 < n) (ap (λ (g : ℕ). flag (eqb g ie.createPdr)) (sym e) ∙ c .before .before .before .before .before .before .before .before .before .before .before .before .before .before .before .before .before .pre .0) (omega arith), c .before .before .before .before .before .before .before .read-own .ensures .tidy)
+      let e = pdi-in-create _ _ (sym (c .before .if1 .taken) ∙ c .before .before .is-pdi .ensures) in (
+        subst (λ (n : ℕ). 0 < n) (ap (λ (g : ℕ). flag (eqb g ie.createPdr)) (sym e) ∙ c .before .before .before .before .before .before .before .before .before .before .before .before .before .before .before .before .before .pre .0) (omega arith),
+        (
+          c .before .before .before .before .before .before .before .read-own .ensures .tidy,
+          value-fits (at-front (c .before .before .before .before .before .before .before .before .before .before .before)) (c .before .before .before .before .before .before .before .before .before .before .before .before .before .before .loop .inv),
+        ),
+      )
 
   returns-3 : lts.Need-returns-3 (claims t) (pre t) reads.Post Inv μ-loop
-  returns-3 c = turn-inside (at-front (c .before .before .before .before .before .before .before .before .before .before .before .before .before .before .before .before)) (c .before .before .before .before .before .before .before .before .before .before .before .before .before .before .before .before .before .before .before .loop .inv) (c .before .before .before .before .before .before .before .before .before .before .before .before .read-own .result) (c .before .before .before .before .before .before .before .before .before .before .before .before .read-own .last .1 .1 .1 .0) (c .before .before .before .before .before .before .before .before .before .before .before .before .read-own .ensures) (c .before .before .before .before .before .before .before .before .enum-told2 .given .1) (sym (c .before .before .before .before .before .before .if1 .taken) ∙ c .before .before .before .before .before .before .before .is-pdi .ensures) (c .before .before .before .before .read-group .result) (c .before .before .before .before .read-group .last .1 .1 .0) (c .before .before .before .before .read-group .ensures) (c .enum-told5 .given .1)
+  returns-3 c = turn-inside (at-front (c .before .before .before .before .before .before .before .before .before .before .before .before .before .before .before .before)) (c .before .before .before .before .before .before .before .before .before .before .before .before .before .before .before .before .before .before .before .loop .inv) (c .before .before .before .before .before .before .before .before .before .before .before .before .read-own .result) (c .before .before .before .before .before .before .before .before .before .before .before .before .read-own .last .1 .1 .1 .1 .0) (c .before .before .before .before .before .before .before .before .before .before .before .before .read-own .ensures) (c .before .before .before .before .before .before .before .before .enum-told2 .given .1) (sym (c .before .before .before .before .before .before .if1 .taken) ∙ c .before .before .before .before .before .before .before .is-pdi .ensures) (c .before .before .before .before .read-group .result) (c .before .before .before .before .read-group .last .1 .1 .1 .0) (c .before .before .before .before .read-group .ensures) (c .enum-told5 .given .1)
 
   sub-rest : lts.Need-sub-rest (claims t) (pre t) reads.Post Inv μ-loop
   sub-rest c = let f = at-front (c .before .before .before .before .before .before .before .before .before .before) in omega arith
@@ -87,6 +92,9 @@ module _ (t : ℕ) where
 
   part-rest-end : lts.Need-part-rest-end (claims t) (pre t) reads.Post Inv μ-loop
   part-rest-end c = let f = at-front (c .before .before .before .before .before .before .before .before .before .before) in omega arith
+
+  add-at : lts.Need-add-at-2 (claims t) (pre t) reads.Post Inv μ-loop
+  add-at c = let f = at-front (c .before .before .before .before .before .before .before .before .before .before .before) in let h = c .before .before .before .before .before .before .before .before .before .before .before .before .before .before .loop .inv .fits in omega arith
 
   loop-less : lts.Need-loop-less (claims t) (pre t) reads.Post Inv μ-loop
   loop-less c = at-front (c .before .before .before .before .before .before .before .before .before .before .before) .less
@@ -98,23 +106,24 @@ module _ (t : ℕ) where
       let a = c .before .before .before .before .before .before .before .before .before .before .before .before .before .before .before .before .before .args in
       let o = c .before .before .before .before .before .before .before in
       let fine = c .before .before .before .enum-told2 .given .1 in
-      ⊎-elim {C = Going (a .place) (a .s .now) (a .row .now) (behind (l .loop .rest .now) (k .kind .given .0 .1 .0)) (c .before .if1 .row)}
-      (λ w. subst (λ (row : List ℕ). Going (a .place) (a .s .now) (a .row .now) (behind (l .loop .rest .now) (k .kind .given .0 .1 .0)) row) (sym (w .7))
-      (turn-open (at-front k) (l .loop .inv) (o .read-own .result) (o .read-own .last .1 .1 .1 .0) (o .read-own .ensures) fine (sym (w .0 .taken) ∙ c .before .before .is-pdi .ensures)
-      (w .2 .result) (w .2 .last .1 .1 .0) (w .2 .ensures) (w .6 .given .1)))
-      (λ w. subst (λ (row : List ℕ). Going (a .place) (a .s .now) (a .row .now) (behind (l .loop .rest .now) (k .kind .given .0 .1 .0)) row) (sym (w .1))
-      (turn-shut (at-front k) (l .loop .inv) (o .read-own .result) (o .read-own .last .1 .1 .1 .0) (o .read-own .ensures) fine (sym (w .0 .left) ∙ c .before .before .is-pdi .ensures))) (c .before .if1 .came)
+      ⊎-elim {C = Going (a .group) (a .place) (a .s .now) (a .row .now) (l .loop .at + k .kind .given .0 .1 .0) (behind (l .loop .rest .now) (k .kind .given .0 .1 .0)) (c .before .if1 .row)}
+      (λ w. subst (λ (row : List ℕ). Going (a .group) (a .place) (a .s .now) (a .row .now) (l .loop .at + k .kind .given .0 .1 .0) (behind (l .loop .rest .now) (k .kind .given .0 .1 .0)) row) (sym (w .7))
+      (turn-open (at-front k) (l .loop .inv) (o .read-own .result) (o .read-own .last .1 .1 .1 .1 .0) (o .read-own .ensures) fine (sym (w .0 .taken) ∙ c .before .before .is-pdi .ensures)
+      (w .2 .result) (w .2 .last .1 .1 .1 .0) (w .2 .ensures) (w .6 .given .1)))
+      (λ w. subst (λ (row : List ℕ). Going (a .group) (a .place) (a .s .now) (a .row .now) (l .loop .at + k .kind .given .0 .1 .0) (behind (l .loop .rest .now) (k .kind .given .0 .1 .0)) row) (sym (w .1))
+      (turn-shut (at-front k) (l .loop .inv) (o .read-own .result) (o .read-own .last .1 .1 .1 .1 .0) (o .read-own .ensures) fine (sym (w .0 .left) ∙ c .before .before .is-pdi .ensures))) (c .before .if1 .came)
 
 pub +read-group-spec : {M : Type 1} → statement M
 +read-group-spec =
     close μ
     λ t. lts.spec (claims t) (pre t) reads.Post Inv μ-loop
-    (λ c. record { tidy = search needs; same = refl })
+    (λ c. search needs)
+    (λ c. record { tidy = search needs; same = refl; fits = search needs })
     (λ c κs. search needs)
     (λ c. search needs)
     (λ c. search needs)
     (λ c κs. c .before .before .before .before .loop .inv .tidy)
-    (λ c. c .before .before .before .before .before .loop .inv .tidy .wide ∙ sym (c .before .before .before .before .before .before .before .before .pre .1 .wide))
+    (λ c. c .before .before .before .before .before .loop .inv .tidy .wide ∙ sym (c .before .before .before .before .before .before .before .before .pre .1 .0 .wide))
     (returns t)
     (sub-v t)
     (part-v-start t)
@@ -122,16 +131,17 @@ pub +read-group-spec : {M : Type 1} → statement M
     (λ c κs. c .before .before .before .before .before .before .loop .inv .tidy)
     (λ c. search needs)
     (λ c. search needs)
-    (λ c. c .before .before .before .before .read-own .kept .1 .1 .1 .0 ∙ c .before .before .before .before .before .before .before .before .before .before .before .loop .inv .tidy .wide ∙ sym (c .before .before .before .before .before .before .before .before .before .before .before .before .before .before .pre .1 .wide))
+    (λ c. c .before .before .before .before .read-own .kept .1 .1 .1 .1 .0 ∙ c .before .before .before .before .before .before .before .before .before .before .before .loop .inv .tidy .wide ∙ sym (c .before .before .before .before .before .before .before .before .before .before .before .before .before .before .pre .1 .0 .wide))
     (returns-2 t)
     (λ c κs. search needs)
     (read-group-requires t)
     (λ c. search needs)
     (λ c. search needs)
-    (λ c. c .before .before .before .before .read-group .kept .1 .1 .0 ∙ c .before .before .before .before .before .before .before .before .before .before .before .before .read-own .kept .1 .1 .1 .0 ∙ c .before .before .before .before .before .before .before .before .before .before .before .before .before .before .before .before .before .before .before .loop .inv .tidy .wide ∙ sym (c .before .before .before .before .before .before .before .before .before .before .before .before .before .before .before .before .before .before .before .before .before .before .pre .1 .wide))
+    (λ c. c .before .before .before .before .read-group .kept .1 .1 .1 .0 ∙ c .before .before .before .before .before .before .before .before .before .before .before .before .read-own .kept .1 .1 .1 .1 .0 ∙ c .before .before .before .before .before .before .before .before .before .before .before .before .before .before .before .before .before .before .before .loop .inv .tidy .wide ∙ sym (c .before .before .before .before .before .before .before .before .before .before .before .before .before .before .before .before .before .before .before .before .before .before .pre .1 .0 .wide))
     (returns-3 t)
     (sub-rest t)
     (part-rest-start t)
     (part-rest-end t)
+    (add-at t)
     (loop-less t)
     (loop-again t)

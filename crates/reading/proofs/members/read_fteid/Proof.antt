@@ -12,10 +12,10 @@ use Rattle.reading.proofs.members.read_fteid.Tie as tie
 returns : tie.Need-returns
 returns c =
     let p = c .before .before .before .before .before .before .pre in
-    fteid-refused _ _ _ p (ap answerOf (sym (c .before .enum-told .given .1)) ∙ c .before .before .before .read .ensures) (c .refused .ensures ∙ ap fteidRefusal (c .before .enum-told .given .1))
+    fteid-refused _ _ _ _ p (ap answerOf (sym (c .before .enum-told .given .1)) ∙ c .before .before .before .read .ensures) (c .refused .ensures ∙ ap (fteidRefusal _) (c .before .enum-told .given .1))
 
 returns-2 : tie.Need-returns-2
-returns-2 c = fteid-value _ _ _ _ (c .before .before .before .before .before .before .pre) (ap answerOf (sym (c .before .answer .given .1)) ∙ c .before .before .before .read .ensures)
+returns-2 c = fteid-value _ _ _ _ _ (c .before .before .before .before .before .before .pre) (ap answerOf (sym (c .before .answer .given .1)) ∙ c .before .before .before .read .ensures)
 
 pub read-fteid-spec : {M : Type 1} → statement M
 read-fteid-spec =

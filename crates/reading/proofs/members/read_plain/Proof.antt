@@ -9,7 +9,7 @@ use Rattle.reading.proofs.members.read_plain.Statement.{statement}
 use Rattle.reading.proofs.members.read_plain.Tie as tie
 
 returns : tie.Need-returns
-returns c = let p = c .before .before .before .before .pre in plain-short _ _ _ (p .1) (p .0) (c .before .width-of .ensures) (c .if1 .taken)
+returns c = let p = c .before .before .before .before .pre in plain-short _ _ _ _ (p .1) (p .0) (c .before .width-of .ensures) (c .if1 .taken)
 
 -- the number's word lies within the row
 low : (k : tie.After-column-of) → k .column-of .result ≤ 5
@@ -19,7 +19,7 @@ slice-write-row-2 : tie.Need-slice-write-row-2
 slice-write-row-2 c = let h = low c in simp length-set (omega arith)
 
 returns-2 : tie.Need-returns-2
-returns-2 c = let p = c .before .before .before .before .before .before .pre in plain-long _ _ _ (p .1) (p .0) (c .before .before .before .width-of .ensures) (c .before .before .if1 .left) (c .before .number-of .ensures) (c .column-of .ensures .0)
+returns-2 c = let p = c .before .before .before .before .before .before .pre in plain-long _ _ _ _ (p .1) (p .0) (c .before .before .before .width-of .ensures) (c .before .before .if1 .left) (c .before .number-of .ensures) (c .column-of .ensures .0)
 
 pub read-plain-spec : {M : Type 1} → statement M
 read-plain-spec =

@@ -6,13 +6,13 @@ use Rattle.reading.proofs.members.read_value.Statement.{statement}
 use Rattle.reading.proofs.members.read_value.Tie as tie
 
 returns : tie.Need-returns
-returns c = value-fteid _ _ _ _ (c .before .before .before .before .if1 .taken) (c .before .before .read-fteid .ensures)
+returns c = value-fteid _ _ _ _ _ (c .before .before .before .before .if1 .taken) (c .before .before .read-fteid .ensures)
 
 returns-2 : tie.Need-returns-2
-returns-2 c = value-pdi _ _ _ _ (c .if2 .taken) (c .before .before .before .before .pre .0)
+returns-2 c = value-pdi _ _ _ _ _ (c .if2 .taken) (c .before .before .before .before .pre .0)
 
 returns-3 : tie.Need-returns-3
-returns-3 c = value-null _ _ _ _ (c .before .before .before .before .before .before .pre .1) (sym (c .if3 .taken) ∙ c .before .is-null-far .ensures) (c .before .before .before .before .before .before .pre .0)
+returns-3 c = value-null _ _ _ _ _ (c .before .before .before .before .before .before .pre .1) (sym (c .if3 .taken) ∙ c .before .is-null-far .ensures) (c .before .before .before .before .before .before .pre .0)
 
 read-plain-requires : tie.Need-read-plain-requires
 read-plain-requires c κs = let p = c .before .before .before .before .before .before .before .pre in (p .0, is-plain _ (p .1) (c .before .before .before .before .if1 .left) (c .before .before .before .if2 .left))
@@ -20,7 +20,7 @@ read-plain-requires c κs = let p = c .before .before .before .before .before .b
 returns-4 : tie.Need-returns-4
 returns-4 c =
     let p = c .before .before .before .before .before .before .before .before .before .before .pre in
-    value-plain _ _ _ _ (is-plain _ (p .1) (c .before .before .before .before .before .before .before .if1 .left) (c .before .before .before .before .before .before .if2 .left)) (sym (c .before .before .before .before .if3 .left) ∙ c .before .before .before .before .before .is-null-far .ensures) (c .before .before .read-plain .ensures)
+    value-plain _ _ _ _ _ (is-plain _ (p .1) (c .before .before .before .before .before .before .before .if1 .left) (c .before .before .before .before .before .before .if2 .left)) (sym (c .before .before .before .before .if3 .left) ∙ c .before .before .before .before .before .is-null-far .ensures) (c .before .before .read-plain .ensures)
 
 pub read-value-spec : {M : Type 1} → statement M
 read-value-spec =

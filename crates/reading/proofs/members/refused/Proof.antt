@@ -9,10 +9,10 @@ use Rattle.reading.proofs.members.refused.Tie as tie
 use Rattle.rules.specs.Types as ie
 
 returns : tie.Need-returns
-returns c = sym (ap fteidRefusal (c .enum-told .given .1))
+returns c = sym (ap (fteidRefusal _) (c .enum-told .given .1))
 
 returns-2 : tie.Need-returns-2
-returns-2 c = ap (λ (n : ℕ). Refused n ie.fteid) (c .cause-of .ensures) ∙ sym (ap fteidRefusal (c .before .before .answer .given .1))
+returns-2 c = let p = c .before .before .before .before .args .place in ap (λ (n : ℕ). Refused n ie.fteid p) (c .cause-of .ensures) ∙ sym (ap (fteidRefusal p) (c .before .before .answer .given .1))
 
 pub refused-spec : {M : Type 1} → statement M
 refused-spec = tie.close (tie.spec (λ c. search needs) (λ c. search needs) returns (λ c κs. search needs) returns-2)

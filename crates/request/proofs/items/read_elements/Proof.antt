@@ -4,21 +4,21 @@ use native.Mathlib.Omega.{arith}
 use lib.ListN.{length}
 use borrow.Author.Needs.{needs}
 use Rattle.elements.proofs.Front.{Front, front, none-left}
-use Rattle.request.proofs.TurnLaws.{Going, going-none, turn-room, turn-fault, turn-next, turns-end}
+use Rattle.request.proofs.TurnLaws.{Going, going-none, turn-room, turn-fits, turn-fault, turn-next, turns-end}
 use Rattle.request.proofs.items.read_elements.Statement.{statement}
 use Rattle.request.proofs.items.read_elements.Tie as tie
 
 abbrev Inv-loop : tie.InvT-loop
-Inv-loop s message words₀ nodes₀ d₀ rest₀ words nodes d rest = Going message s rest words₀ words nodes d
+Inv-loop s message words₀ nodes₀ d₀ rest₀ at₀ words nodes d rest at = Going message s words₀ at rest words nodes d
 
 abbrev μ-loop : tie.MeasureT-loop
-μ-loop s message words₀ nodes₀ d₀ rest₀ words nodes d rest = length rest
+μ-loop s message words₀ nodes₀ d₀ rest₀ at₀ words nodes d rest at = length rest
 
 at-front : (k : tie.After-kind Inv-loop μ-loop) → Front (k .before .before .before .loop .rest .now) (k .kind .given .0 .0) (k .kind .given .0 .1 .0)
 at-front k = front _ _ _ (sym (k .kind .given .1) ∙ k .before .before .first-of .ensures)
 
 returns : tie.Need-returns Inv-loop μ-loop
-returns c = turns-end (c .before .before .before .loop .inv) (none-left _ (sym (c .enum-told .given .1) ∙ c .before .before .first-of .ensures)) (c .before .before .before .before .before .before .pre)
+returns c = turns-end (c .before .before .before .loop .inv) (none-left _ _ (sym (c .enum-told .given .1) ∙ c .before .before .first-of .ensures)) (c .before .before .before .before .before .before .pre)
 
 sub-read-element : tie.Need-sub-read-element Inv-loop μ-loop
 sub-read-element c = let f = at-front (c .before) in omega arith
@@ -30,10 +30,14 @@ part-read-element-end : tie.Need-part-read-element-end Inv-loop μ-loop
 part-read-element-end c = let f = at-front (c .before) in omega arith
 
 read-element-requires : tie.Need-read-element-requires Inv-loop μ-loop
-read-element-requires c κs = turn-room (c .before .before .before .before .before .before .before .loop .inv) (at-front (c .before .before .before .before)) (c .before .before .before .before .before .before .before .before .before .before .pre)
+read-element-requires c κs =
+    let g = c .before .before .before .before .before .before .before .loop .inv in
+    let f = at-front (c .before .before .before .before) in
+    let e = c .before .before .before .before .before .before .before .before .before .before .pre in
+    (turn-room g f e, turn-fits g f e)
 
 same-length-2 : tie.Need-same-length-2 Inv-loop μ-loop
-same-length-2 c = c .before .before .before .before .before .read-element .kept .1 .1 .1 .1 .1 .0 ∙ c .before .before .before .before .before .before .before .before .before .before .before .before .before .loop .inv .long
+same-length-2 c = c .before .before .before .before .before .read-element .kept .1 .1 .1 .1 .1 .1 .0 ∙ c .before .before .before .before .before .before .before .before .before .before .before .before .before .loop .inv .long
 
 returns-2 : tie.Need-returns-2 Inv-loop μ-loop
 returns-2 c = turn-fault (c .before .before .before .before .before .before .before .before .before .before .before .before .before .loop .inv) (at-front (c .before .before .before .before .before .before .before .before .before .before)) (c .before .before .before .before .before .before .before .before .before .before .before .before .before .before .before .before .pre) (c .before .before .before .before .before .read-element .ensures) (c .enum-told2 .given .1)
@@ -47,11 +51,18 @@ part-rest-start c = let f = at-front (c .before .before .before .before .before 
 part-rest-end : tie.Need-part-rest-end Inv-loop μ-loop
 part-rest-end c = let f = at-front (c .before .before .before .before .before .before .before .before .before .before .before) in omega arith
 
+add-at : tie.Need-add-at Inv-loop μ-loop
+add-at c =
+    let f = at-front (c .before .before .before .before .before .before .before .before .before .before .before .before) in
+    let p = c .before .before .before .before .before .before .before .before .before .before .before .before .before .before .before .loop .inv .placed in
+    let q = c .before .before .before .before .before .before .before .before .before .before .before .before .before .before .before .before .before .before .pre .short in
+    omega arith
+
 loop-less : tie.Need-loop-less Inv-loop μ-loop
 loop-less c = at-front (c .before .before .before .before .before .before .before .before .before .before .before .before) .less
 
 loop-again : tie.Need-loop-again Inv-loop μ-loop
-loop-again c = turn-next (c .before .before .before .before .before .before .before .before .before .before .before .before .before .before .before .loop .inv) (at-front (c .before .before .before .before .before .before .before .before .before .before .before .before)) (c .before .before .before .before .before .before .before .before .before .before .before .before .before .before .before .before .before .before .pre) (c .before .before .before .before .before .before .before .read-element .ensures) (c .before .before .step .given .1) (c .before .before .before .before .before .before .before .read-element .kept .1 .1 .1 .1 .1 .0) (c .before .before .before .before .before .before .before .read-element .kept .1 .1 .1 .1 .0 ∙ c .before .before .before .before .before .before .before .before .before .before .before .before .before .before .before .loop .inv .wide)
+loop-again c = turn-next (c .before .before .before .before .before .before .before .before .before .before .before .before .before .before .before .loop .inv) (at-front (c .before .before .before .before .before .before .before .before .before .before .before .before)) (c .before .before .before .before .before .before .before .before .before .before .before .before .before .before .before .before .before .before .pre) (c .before .before .before .before .before .before .before .read-element .ensures) (c .before .before .step .given .1) (c .before .before .before .before .before .before .before .read-element .kept .1 .1 .1 .1 .1 .1 .0) (c .before .before .before .before .before .before .before .read-element .kept .1 .1 .1 .1 .1 .0 ∙ c .before .before .before .before .before .before .before .before .before .before .before .before .before .before .before .loop .inv .wide)
 
 pub read-elements-spec : {M : Type 1} → statement M
 read-elements-spec =
@@ -77,5 +88,6 @@ read-elements-spec =
     sub-rest
     part-rest-start
     part-rest-end
+    add-at
     loop-less
     loop-again)

@@ -8,7 +8,7 @@ use Rattle.request.proofs.items.read_seid.Statement.{statement}
 use Rattle.request.proofs.items.read_seid.Tie as tie
 
 returns : tie.Need-returns
-returns c = seid-repeat _ _ (c .if1 .taken)
+returns c = seid-repeat _ _ _ (c .if1 .taken)
 
 read-requires : tie.Need-read-requires
 read-requires c κs = search needs
@@ -23,10 +23,10 @@ refused-requires : tie.Need-refused-requires
 refused-requires c κs = search needs
 
 returns-2 : tie.Need-returns-2
-returns-2 c = seid-refused _ _ _ (c .before .before .before .before .if1 .left) (ap answerOf (sym (c .before .enum-told .given .1)) ∙ c .before .before .before .read .ensures) (c .refused .ensures ∙ ap (seidRefusal _) (c .before .enum-told .given .1))
+returns-2 c = seid-refused _ _ _ _ (c .before .before .before .before .if1 .left) (ap answerOf (sym (c .before .enum-told .given .1)) ∙ c .before .before .before .read .ensures) (c .refused .ensures ∙ ap (seidRefusal _ _) (c .before .enum-told .given .1))
 
 returns-3 : tie.Need-returns-3
-returns-3 c = seid-value _ _ _ (c .before .before .before .before .if1 .left) (ap answerOf (sym (c .before .answer .given .1)) ∙ c .before .before .before .read .ensures)
+returns-3 c = seid-value _ _ _ _ (c .before .before .before .before .if1 .left) (ap answerOf (sym (c .before .answer .given .1)) ∙ c .before .before .before .read .ensures)
 
 pub read-seid-spec : {M : Type 1} → statement M
 read-seid-spec =

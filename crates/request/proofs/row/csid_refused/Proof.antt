@@ -14,13 +14,13 @@ enum-told : tie.Need-enum-told
 enum-told c = search needs
 
 returns : tie.Need-returns
-returns c = sym (ap (csidRefusal _) (c .enum-told .given .1))
+returns c = sym (ap (csidRefusal _ _) (c .enum-told .given .1))
 
 cause-of-requires : tie.Need-cause-of-requires
 cause-of-requires c κs = search needs
 
 returns-2 : tie.Need-returns-2
-returns-2 c = ap (λ (n : ℕ). Fault n 65) (c .cause-of .ensures) ∙ sym (ap (csidRefusal _) (c .before .before .answer .given .1))
+returns-2 c = let p = c .before .before .before .before .args .place in ap (λ (n : ℕ). Fault n 65 p) (c .cause-of .ensures) ∙ sym (ap (csidRefusal p _) (c .before .before .answer .given .1))
 
 pub csid-refused-spec : {M : Type 1} → statement M
 csid-refused-spec =
