@@ -10,6 +10,7 @@ uint32_t ordinary_make_table(uint8_t *table, size_t table_len, uint32_t ipv4, co
                              size_t ipv6_len, uint32_t first_teid, uint32_t pool_size);
 uint32_t ordinary_free_count(const uint8_t *table, size_t table_len, uint32_t *count);
 uint32_t ordinary_request(uint8_t *table, size_t table_len, const uint8_t *message,
-                          size_t message_len, uint8_t *reply, size_t reply_len, size_t *reply_used);
+                          size_t message_len, uint8_t *reply, size_t reply_len, size_t *reply_used,
+                          size_t *place);
 
 #endif

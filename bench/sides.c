@@ -45,8 +45,9 @@ void make_both_empty(struct pair *pair, uint32_t pool)
 
 void ask(struct place *place, const struct message *m)
 {
-    place->outcome = place->side->request(place->table, sizeof place->table, m->octets, m->length,
-                                          place->reply, sizeof place->reply, &place->used);
+    place->outcome =
+        place->side->request(place->table, sizeof place->table, m->octets, m->length, place->reply,
+                             sizeof place->reply, &place->used, &place->fault);
 }
 
 uint8_t cause_of(const struct place *place)
@@ -70,6 +71,7 @@ void ask_both(struct pair *pair, const struct message *m)
     ask(&pair->ours, m);
     ask(&pair->theirs, m);
     if (pair->ours.outcome != pair->theirs.outcome || pair->ours.used != pair->theirs.used ||
+        pair->ours.fault != pair->theirs.fault ||
         memcmp(pair->ours.reply, pair->theirs.reply, pair->ours.used) != 0)
         give_up("the sides answer a request of type %d differently", m->octets[1]);
     compared += pair->ours.used;

@@ -17,7 +17,8 @@ struct side {
     uint32_t (*make_table)(uint8_t *, size_t, uint32_t, const uint8_t *, size_t, uint32_t,
                            uint32_t);
     uint32_t (*free_count)(const uint8_t *, size_t, uint32_t *);
-    uint32_t (*request)(uint8_t *, size_t, const uint8_t *, size_t, uint8_t *, size_t, size_t *);
+    uint32_t (*request)(uint8_t *, size_t, const uint8_t *, size_t, uint8_t *, size_t, size_t *,
+                        size_t *);
 };
 
 extern const struct side archive;
@@ -28,6 +29,7 @@ struct place {
     const struct side *side;
     uint32_t outcome;
     size_t used;
+    size_t fault; /* the place of a fault in the message */
     _Alignas(64) uint8_t table[PFCP_TABLE_LENGTH];
     _Alignas(64) uint8_t reply[PFCP_REPLY_SPACE];
 };

@@ -5,6 +5,15 @@
 #include "unit.h"
 #include "words.h"
 
+/* Which element is at fault, where it stands in the message, and the octets there. */
+static void add_fault(struct text *text, const struct served *served)
+{
+    text_add(text, ", Offending IE %u (%s), place %zu, octets", served->offending,
+             element_in_words(served->offending), served->place);
+    for (size_t i = 0; i < served->there_length; i++)
+        text_add(text, " %02X", served->there[i]);
+}
+
 void served_facts(struct text *text, const struct served *served)
 {
     if (served->has_type)
@@ -22,8 +31,7 @@ void served_facts(struct text *text, const struct served *served)
     if (served->cause != 0)
         text_add(text, ", cause %u (%s)", served->cause, cause_in_words(served->cause));
     if (served->has_offending)
-        text_add(text, ", Offending IE %u (%s)", served->offending,
-                 element_in_words(served->offending));
+        add_fault(text, served);
     if (served->send_error != 0)
         text_add(text, ", reply not sent (%s)", strerror(served->send_error));
     text_add(text, ", live sessions %zu, free TEIDs %" PRIu32 "\n", served->live_sessions,

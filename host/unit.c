@@ -79,6 +79,15 @@ static void read_reply(struct served *served, const uint8_t *reply, size_t lengt
         served->offending = (uint16_t)number_at(offending.value, 2);
 }
 
+/* The octets at the place of a fault. */
+static void keep_octets(struct served *served, const uint8_t *message)
+{
+    size_t left = served->length - served->place;
+
+    served->there_length = left < OCTETS_THERE ? left : OCTETS_THERE;
+    memcpy(served->there, message + served->place, served->there_length);
+}
+
 static void count(struct counters *counters, const struct served *served)
 {
     if (served->has_type)
@@ -115,11 +124,13 @@ static void answer(struct unit *unit, struct served *served, struct datagram *fr
     size_t used;
 
     served->outcome = pfcp_request(unit->table, sizeof unit->table, message, served->length, reply,
-                                   sizeof reply, &used);
+                                   sizeof reply, &used, &served->place);
     if (served->outcome != PFCP_ANSWERED)
         return;
     served->send_error = datagrams_answer(unit->socket, from, reply, used);
     read_reply(served, reply, used);
+    if (served->has_offending)
+        keep_octets(served, message);
     if (served->cause == ACCEPTED && !count_table(unit))
         served->outcome = PFCP_BROKEN_TABLE;
 }

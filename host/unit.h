@@ -33,6 +33,9 @@ struct unit {
     struct counters counters;
 };
 
+/* So many octets at the place of a fault are shown. */
+enum { OCTETS_THERE = 8 };
+
 /* A message that was taken from the socket, and what became of it. */
 struct served {
     struct timespec time;
@@ -48,6 +51,9 @@ struct served {
     uint8_t cause; /* 0: there is no reply */
     bool has_offending;
     uint16_t offending;
+    size_t place; /* of the fault that Offending IE names, in the message; 0: the message itself */
+    uint8_t there[OCTETS_THERE]; /* the octets at the place */
+    size_t there_length;
     int send_error; /* 0: the reply was sent, or there is none */
     size_t live_sessions;
     uint32_t free_teids;

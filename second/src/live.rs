@@ -5,7 +5,7 @@ use std::collections::BTreeMap;
 
 use crate::element::f_teid::{self, FTeid};
 use crate::ie;
-use crate::request::framing::elements;
+use crate::request::framing::{elements, Part};
 use crate::request::{self, FarChange, Kind, Record, Request};
 use crate::session::{HeldCsid, Local, Pdr, Session, Sessions, Tunnel};
 
@@ -65,7 +65,7 @@ impl LiveSet {
 fn hear(reply: &[u8]) -> Result<Said, String> {
     let body = reply.get(ie::HEADER_OCTETS..).ok_or("a reply under 16 octets")?;
     let mut said = Said { cause: None, pdrs: BTreeMap::new(), endpoints: BTreeMap::new() };
-    for element in elements(body) {
+    for element in elements(Part::of(body)) {
         match element.ie_type {
             ie::CAUSE => said.cause = element.value.first().copied(),
             ie::CREATED_PDR => {
@@ -87,7 +87,7 @@ fn hear(reply: &[u8]) -> Result<Said, String> {
 }
 
 fn member(group: &[u8], ie_type: u16) -> Result<&[u8], String> {
-    let found = elements(group).find(|element| element.ie_type == ie_type);
+    let found = elements(Part::of(group)).find(|element| element.ie_type == ie_type);
     found.map(|element| element.value).ok_or(format!("a Created group without {ie_type}"))
 }
 

@@ -7,7 +7,7 @@ use crate::generate::random::Random;
 use crate::generate::{Call, Generator};
 use crate::ie;
 use crate::live::LiveSet;
-use crate::request::framing::elements;
+use crate::request::framing::{elements, Part};
 use crate::restoration::{self, Envelope, LONGEST};
 use crate::session::{records_hold, Sessions};
 use crate::settings::Settings;
@@ -129,12 +129,12 @@ fn cause_of(message: &[u8], reply: &[u8]) -> Result<u8, String> {
         return Err("sequence or spare".into());
     }
     let body = &reply[ie::HEADER_OCTETS..];
-    let types: Vec<u16> = elements(body).map(|element| element.ie_type).collect();
-    let octets: usize = elements(body).map(|element| 4 + element.value.len()).sum();
+    let types: Vec<u16> = elements(Part::of(body)).map(|element| element.ie_type).collect();
+    let octets: usize = elements(Part::of(body)).map(|element| 4 + element.value.len()).sum();
     if octets != body.len() {
         return Err("elements".into());
     }
-    let cause = elements(body).find(|e| e.ie_type == ie::CAUSE && e.value.len() == 1);
+    let cause = elements(Part::of(body)).find(|e| e.ie_type == ie::CAUSE && e.value.len() == 1);
     let cause = cause.ok_or("no cause")?.value[0];
     // The order of the reply's elements.
     let mut expected = vec![];

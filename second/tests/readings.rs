@@ -4,7 +4,7 @@
 mod common;
 
 use common::*;
-use second::request::{first_fault, header, read, Record};
+use second::request::{first_fault, first_place, header, read, Record};
 
 /// A sound Create PDR.
 fn sound() -> Vec<u8> {
@@ -288,4 +288,32 @@ fn header_of_a_message() {
     // Over 2,048 comes before a wrong header.
     assert_eq!(outcome(&[0; 2049]), Some(3));
     assert_eq!(outcome(&[0; 2048]), Some(4));
+}
+
+/// Document 02 (iv), on a modification: its first element starts at octet 16.
+#[test]
+fn the_place_of_a_fault() {
+    let place = |parts: &[Vec<u8>]| first_place(&modification(1, parts));
+    // A member has its own place: a Create PDR at 16, its members from 20 on, a PDI's from there.
+    let (id, bad) = (ie(56, &[0, 1]), ie(21, &[4]));
+    assert_eq!(place(&[group(1, &[id.clone(), group(2, &[bad.clone()])])]), Some(30));
+    assert_eq!(place(&[ie(40000, &[0; 5]), group(127, &[bad])]), Some(29));
+    // A repeat is the second one, before its value is read.
+    assert_eq!(place(&[group(15, &[id.clone(), ie(56, &[])])]), Some(26));
+    // What is missing is at the group that lacks it.
+    assert_eq!(place(&[group(1, &[id.clone(), group(2, &[])])]), Some(26));
+    assert_eq!(place(&[group(1, &[id.clone()])]), Some(16));
+    assert_eq!(first_place(&message(50, 0, 1, &[])), Some(0));
+    // Under 4 octets left: the group that they stand in; an overrun: the element.
+    assert_eq!(place(&[group(1, &[group(2, &[vec![0, 20, 0]])])]), Some(20));
+    assert_eq!(place(&[vec![0, 1]]), Some(0));
+    assert_eq!(place(&[group(1, &[group(2, &[vec![0, 20, 0, 2, 0]])])]), Some(24));
+    assert_eq!(place(&[id, vec![0, 1, 0, 1]]), Some(22));
+    // A null FQ-CSID that is not the only one, as the first and as the second.
+    let csid = fq_csid(5, 1);
+    assert_eq!(place(&[ie(65, &[]), csid.clone()]), Some(16));
+    assert_eq!(place(&[csid.clone(), ie(65, &[])]), Some(16 + csid.len()));
+    assert_eq!(place(&[csid.clone(), csid.clone()]), Some(16 + csid.len()));
+    // No fault of these stages.
+    assert_eq!(place(&[csid]), None);
 }

@@ -75,6 +75,7 @@ static struct {
     uint32_t outcome;
     uint8_t octets[PFCP_REPLY_SPACE];
     size_t used;
+    size_t place;
 } answer;
 
 /* One request with a reply space of 1,024; checks what holds of every answer. */
@@ -84,8 +85,10 @@ static uint32_t ask_octets(uint8_t *table, const uint8_t *octets, size_t length)
     uint8_t *reply = block(PFCP_REPLY_SPACE, FILLING);
 
     answer.used = SIZE_MAX;
+    answer.place = SIZE_MAX;
     answer.outcome = pfcp_request(table, PFCP_TABLE_LENGTH, message, length, reply,
-                                  PFCP_REPLY_SPACE, &answer.used);
+                                  PFCP_REPLY_SPACE, &answer.used, &answer.place);
+    CHECK(answer.place == 0 || (answer.outcome == 0 && answer.place < length));
     if (CHECK(answer.used <= PFCP_REPLY_SPACE)) {
         CHECK((answer.outcome == 0) == (answer.used >= 16));
         CHECK(all_are(reply + answer.used, PFCP_REPLY_SPACE - answer.used, FILLING));
@@ -357,21 +360,64 @@ static void empty_slices(void)
     uint8_t octet[16] = {0};
     uint32_t count = 7;
     size_t used = 7;
+    size_t place = 7;
 
     CHECK(pfcp_make_table(NULL, 0, 0, NULL, 0, 1, 1) == 1);
     CHECK(pfcp_make_table(NULL, 0, 0, octet, 16, 1, 1) == 1);
     CHECK(pfcp_free_count(NULL, 0, &count) == 1 && count == 0);
-    CHECK(pfcp_request(NULL, 0, NULL, 0, NULL, 0, &used) == 1 && used == 0);
+    CHECK(pfcp_request(NULL, 0, NULL, 0, NULL, 0, &used, &place) == 1 && used == 0);
+    CHECK(place == 0);
     used = 7;
-    CHECK(pfcp_request(table, PFCP_TABLE_LENGTH, NULL, 0, NULL, 0, &used) == 2 && used == 0);
+    CHECK(pfcp_request(table, PFCP_TABLE_LENGTH, NULL, 0, NULL, 0, &used, &place) == 2);
+    CHECK(used == 0 && place == 0);
     used = 7;
-    CHECK(pfcp_request(table, PFCP_TABLE_LENGTH, NULL, 0, reply, PFCP_REPLY_SPACE, &used) == 4);
+    CHECK(pfcp_request(table, PFCP_TABLE_LENGTH, NULL, 0, reply, PFCP_REPLY_SPACE, &used, &place) ==
+          4);
     CHECK(used == 0 && all_are(reply, PFCP_REPLY_SPACE, FILLING));
     used = 7;
-    CHECK(pfcp_request(NULL, 0, octet, 16, reply, PFCP_REPLY_SPACE, &used) == 1 && used == 0);
+    CHECK(pfcp_request(NULL, 0, octet, 16, reply, PFCP_REPLY_SPACE, &used, &place) == 1);
+    CHECK(used == 0 && place == 0);
     CHECK(all_are(reply, PFCP_REPLY_SPACE, FILLING));
     CHECK(free_teids(table) == 10);
     free(reply);
+    free(table);
+}
+
+/* The place of a fault: an F-TEID in the PDI of a Create PDR, a Create PDR that lacks its PDI, octets
+   left over in a group and at the end, an overrun; and none where there is no fault of these kinds. */
+static void places(void)
+{
+    static const struct {
+        uint8_t octets[40];
+        size_t length;
+        unsigned cause, offending;
+        size_t place;
+    } faults[] = {
+        {{0, 1, 0, 19, 0, 56, 0, 2, 0, 1, 0, 2, 0, 9, 0, 20, 0, 0, 0, 21, 0, 1, 4}, 23, 68, 20, 30},
+        {{0, 1, 0, 20, 0, 56, 0, 2, 0, 1, 0, 2, 0, 10, 0, 20, 0, 1, 0, 0, 21, 0, 1, 4},
+         24,
+         69,
+         21,
+         35},
+        {{0, 1, 0, 6, 0, 56, 0, 2, 0, 1}, 10, 66, 2, 16},
+        {{0, 1, 0, 13, 0, 56, 0, 2, 0, 1, 0, 2, 0, 3, 0, 20, 0}, 17, 68, 2, 26},
+        {{0, 15, 0, 12, 0, 56, 0, 2, 0, 1, 0, 56, 0, 2, 0, 1}, 16, 69, 56, 26},
+        {{0, 15, 0, 6, 0, 56, 0, 2, 0, 1, 0, 1}, 12, 68, 0, 0},
+        {{0, 15, 0, 6, 0, 56, 0, 3, 0, 1}, 10, 68, 56, 20},
+        {{0, 15, 0, 6, 0, 56, 0, 2, 0, 9}, 10, 73, 65536, 0},
+    };
+    uint8_t *table = new_table(4096, 10);
+    struct message m;
+
+    CHECK(establish_one_pdr(table, 1, &choose) == 1 && answer.place == 0);
+    for (size_t i = 0; i < sizeof faults / sizeof faults[0]; i++) {
+        message_start(&m, MODIFICATION, 1, 1);
+        memcpy(m.octets + m.length, faults[i].octets, faults[i].length);
+        m.length += faults[i].length;
+        CHECK(ask(table, &m) == faults[i].cause);
+        CHECK(offending() == faults[i].offending);
+        CHECK(answer.place == faults[i].place);
+    }
     free(table);
 }
 
@@ -380,6 +426,7 @@ static void lengths(void)
 {
     struct message m;
     size_t used;
+    size_t place;
 
     CHECK(pfcp_table_length() == PFCP_TABLE_LENGTH);
     for (size_t length = PFCP_TABLE_LENGTH - 1; length <= PFCP_TABLE_LENGTH + 1; length += 2) {
@@ -393,7 +440,8 @@ static void lengths(void)
         message_start(&m, DELETION, 1, 1);
         message_end(&m);
         used = 7;
-        CHECK(pfcp_request(table, length, m.octets, m.length, reply, PFCP_REPLY_SPACE, &used) == 1);
+        CHECK(pfcp_request(table, length, m.octets, m.length, reply, PFCP_REPLY_SPACE, &used,
+                           &place) == 1);
         CHECK(used == 0 && all_are(reply, PFCP_REPLY_SPACE, FILLING));
         free(reply);
         free(table);
@@ -408,7 +456,7 @@ static void lengths(void)
     message_end(&m);
     used = 7;
     CHECK(pfcp_request(table, PFCP_TABLE_LENGTH, m.octets, m.length, small, PFCP_REPLY_SPACE - 1,
-                       &used) == 2);
+                       &used, &place) == 2);
     CHECK(used == 0 && all_are(small, PFCP_REPLY_SPACE - 1, FILLING));
     free(small);
 
@@ -529,17 +577,18 @@ static void broken_tables(void)
     for (size_t i = 0; i < sizeof damage / sizeof damage[0]; i++) {
         uint32_t count = 7;
         size_t used = 7;
+        size_t place = 7;
         uint8_t was = table[damage[i].at];
 
         table[damage[i].at] = damage[i].octet;
         uint8_t *damaged = copy_of(table, PFCP_TABLE_LENGTH);
         CHECK(pfcp_free_count(table, PFCP_TABLE_LENGTH, &count) == 1 && count == 0);
         CHECK(pfcp_request(table, PFCP_TABLE_LENGTH, m.octets, m.length, reply, PFCP_REPLY_SPACE,
-                           &used) == 1);
+                           &used, &place) == 1);
         CHECK(used == 0 && all_are(reply, PFCP_REPLY_SPACE, FILLING));
         used = 7;
-        CHECK(pfcp_request(table, PFCP_TABLE_LENGTH, m.octets, 3, reply, 5, &used) == 1 &&
-              used == 0);
+        CHECK(pfcp_request(table, PFCP_TABLE_LENGTH, m.octets, 3, reply, 5, &used, &place) == 1 &&
+              used == 0 && place == 0);
         CHECK(memcmp(table, damaged, PFCP_TABLE_LENGTH) == 0);
         free(damaged);
         table[damage[i].at] = was;
@@ -783,6 +832,7 @@ int main(void)
     f_seid_families();
     nothing_half_made();
     empty_slices();
+    places();
     lengths();
     settings();
     broken_tables();

@@ -76,10 +76,12 @@ pub unsafe extern "C" fn request(
     reply: *mut u8,
     reply_len: usize,
     reply_used: *mut usize,
+    place: *mut usize,
 ) -> u32 {
     let table = unsafe { lent_mut(table, table_len) };
     let (message, space) = unsafe { (lent(message, message_len), lent_mut(reply, reply_len)) };
     let answer = handle(table, message, space);
-    unsafe { *reply_used = answer.unwrap_or(0) };
+    let (used, at) = answer.unwrap_or((0, 0));
+    unsafe { (*reply_used, *place) = (used, at) };
     answer.err().unwrap_or(0)
 }

@@ -25,7 +25,7 @@ pub const REMOVE_ENDPOINT: u16 = 130;
 pub const ENDPOINT_ID: u16 = 131;
 pub const FLAGS: u16 = 186;
 
-const HEADER_OCTETS: usize = 16;
+pub const HEADER_OCTETS: usize = 16;
 const LARGEST_MESSAGE: usize = 2048;
 
 const MISSING: u8 = 66;
@@ -68,28 +68,39 @@ pub fn header(message: &[u8]) -> Result<(Header, &[u8]), u32> {
     Ok((Header { kind, seid: u64_at(header, 4), sequence }, body))
 }
 
-/// A refusal: the cause, and the offending type for causes 66 to 69.
+/// A refusal: the cause, and for causes 66 to 69 the offending type and its place in the message,
+/// once the element or group that is read has told it.
 #[derive(Clone, Copy)]
 pub struct Refusal {
     pub cause: u8,
     pub offending: Option<u16>,
+    pub place: Option<usize>,
+}
+
+impl Refusal {
+    /// What was found in the element or group at this place, unless an inner one has told its own.
+    fn at(self, place: usize) -> Refusal {
+        Refusal { place: self.place.or(Some(place)), ..self }
+    }
 }
 
 fn fault(cause: u8, offending: u16) -> Refusal {
-    Refusal { cause, offending: Some(offending) }
+    Refusal { cause, offending: Some(offending), place: None }
 }
 
 /// Stage 2, depth first. Only groups that this message acts on at this place are opened.
-pub fn frame(kind: Kind, group: u16, part: &[u8]) -> Result<(), Refusal> {
+/// The part's first octet stands at this place of the message.
+pub fn frame(kind: Kind, group: u16, first: usize, part: &[u8]) -> Result<(), Refusal> {
     let mut rest = part;
     while !rest.is_empty() {
+        let place = first + (part.len() - rest.len());
         if rest.len() < 4 {
             return Err(fault(LENGTH, group));
         }
         let (ie_type, length) = (u16_at(rest, 0), usize::from(u16_at(rest, 2)));
         let after = &rest[4..];
         if after.len() < length {
-            return Err(fault(LENGTH, ie_type));
+            return Err(fault(LENGTH, ie_type).at(place));
         }
         let opened = match (group, ie_type) {
             (0, CREATE_PDR | CREATE_ENDPOINT) => kind != Kind::Deletion,
@@ -98,31 +109,41 @@ pub fn frame(kind: Kind, group: u16, part: &[u8]) -> Result<(), Refusal> {
             _ => false,
         };
         if opened {
-            frame(kind, ie_type, &after[..length])?;
+            let inner = frame(kind, ie_type, place + 4, &after[..length]);
+            inner.map_err(|refusal| refusal.at(place))?;
         }
         rest = &after[length..];
     }
     Ok(())
 }
 
-/// The elements of a framed part: type and value.
+/// The elements of a framed part: type, place in the message, and value.
 struct Elements<'a> {
     rest: &'a [u8],
+    place: usize,
 }
 
 impl<'a> Iterator for Elements<'a> {
-    type Item = (u16, &'a [u8]);
+    type Item = (u16, usize, &'a [u8]);
 
     fn next(&mut self) -> Option<Self::Item> {
         let (frame, after) = self.rest.split_first_chunk::<4>()?;
         let (value, rest) = after.split_at_checked(usize::from(u16_at(frame, 2)))?;
+        let place = self.place;
         self.rest = rest;
-        Some((u16_at(frame, 0), value))
+        self.place += 4 + value.len();
+        Some((u16_at(frame, 0), place, value))
     }
 }
 
-fn elements(part: &[u8]) -> Elements<'_> {
-    Elements { rest: part }
+/// Those of a part whose first octet stands at this place.
+fn elements(first: usize, part: &[u8]) -> Elements<'_> {
+    Elements { rest: part, place: first }
+}
+
+/// Those of a group at this place.
+fn members(group: usize, part: &[u8]) -> Elements<'_> {
+    elements(group + 4, part)
 }
 
 #[derive(Clone, Copy, PartialEq, Eq)]
@@ -202,58 +223,79 @@ impl Request<'_> {
     }
 }
 
+/// What was read at the top of a message beside its records.
+#[derive(Default)]
+struct Top {
+    f_seid: Option<u64>,
+    flags: Option<u8>,
+    node_types: u8,
+}
+
 /// Stage 3 on a framed body: adds its records to a new request.
 pub fn read<'a>(header: &Header, body: &'a [u8], request: &mut Request<'a>) -> Result<(), Refusal> {
-    use Kind::*;
-    let (mut f_seid, mut flags) = (None, None);
-    let mut node_types = 0_u8;
-    for (ie_type, value) in elements(body) {
-        match (header.kind, ie_type) {
-            (Establishment, F_SEID) => once(&mut f_seid, F_SEID, || read_f_seid(value))?,
-            (Establishment, FLAGS) => once(&mut flags, FLAGS, || one(FLAGS, value))?,
-            (Establishment | Modification, CREATE_PDR) => {
-                request.new_pdrs.push(read_create_pdr(value)?)
-            }
-            (Establishment | Modification, CREATE_ENDPOINT) => {
-                request.new_endpoints.push(read_create_endpoint(value)?)
-            }
-            (Modification, UPDATE_PDR) => {
-                let (update, with_pdi) = read_update_pdr(value)?;
-                request.unsupported |= with_pdi;
-                request.updates.push(update);
-            }
-            (Modification, UPDATE_ENDPOINT) => request.unsupported = true,
-            (Modification, REMOVE_PDR) => {
-                let id = only_member(value, PDR_ID, |value| two(PDR_ID, value))?;
-                request.removed_pdrs.push(id);
-            }
-            (Modification, REMOVE_ENDPOINT) => {
-                let id = only_member(value, ENDPOINT_ID, |value| one(ENDPOINT_ID, value))?;
-                request.removed_endpoints.push(id);
-            }
-            (Modification, FQ_CSID) if value.is_empty() => {
-                if elements(body).filter(|(other, _)| *other == FQ_CSID).count() > 1 {
-                    return Err(fault(LENGTH, FQ_CSID));
-                }
-                request.removes_all_fq_csids = true;
-            }
-            (_, FQ_CSID) => {
-                let (node_type, change) = read_fq_csid(header.kind, value)?;
-                if node_types >> node_type & 1 == 1 {
-                    return Err(fault(INCORRECT, FQ_CSID));
-                }
-                node_types |= 1 << node_type;
-                request.fq_csids.push(change);
-            }
-            _ => {}
-        }
+    let mut top = Top::default();
+    for (ie_type, place, value) in elements(HEADER_OCTETS, body) {
+        let element = (ie_type, place, value);
+        read_element(header.kind, body, element, &mut top, request)
+            .map_err(|refusal| refusal.at(place))?;
     }
-    if header.kind == Establishment {
-        request.restoration = flags.is_some_and(|flags| flags & 1 == 1);
+    if header.kind == Kind::Establishment {
+        request.restoration = top.flags.is_some_and(|flags| flags & 1 == 1);
         if request.new_pdrs.is_empty() && !request.restoration {
             return Err(fault(MISSING, CREATE_PDR));
         }
-        request.seid = f_seid.ok_or(fault(MISSING, F_SEID))?;
+        request.seid = top.f_seid.ok_or(fault(MISSING, F_SEID))?;
+    }
+    Ok(())
+}
+
+/// One element at the top of a message.
+fn read_element<'a>(
+    kind: Kind,
+    body: &'a [u8],
+    (ie_type, place, value): (u16, usize, &'a [u8]),
+    top: &mut Top,
+    request: &mut Request<'a>,
+) -> Result<(), Refusal> {
+    use Kind::*;
+    match (kind, ie_type) {
+        (Establishment, F_SEID) => once(&mut top.f_seid, F_SEID, || read_f_seid(value))?,
+        (Establishment, FLAGS) => once(&mut top.flags, FLAGS, || one(FLAGS, value))?,
+        (Establishment | Modification, CREATE_PDR) => {
+            request.new_pdrs.push(read_create_pdr(place, value)?)
+        }
+        (Establishment | Modification, CREATE_ENDPOINT) => {
+            request.new_endpoints.push(read_create_endpoint(place, value)?)
+        }
+        (Modification, UPDATE_PDR) => {
+            let (update, with_pdi) = read_update_pdr(place, value)?;
+            request.unsupported |= with_pdi;
+            request.updates.push(update);
+        }
+        (Modification, UPDATE_ENDPOINT) => request.unsupported = true,
+        (Modification, REMOVE_PDR) => {
+            let id = only_member(place, value, PDR_ID, |value| two(PDR_ID, value))?;
+            request.removed_pdrs.push(id);
+        }
+        (Modification, REMOVE_ENDPOINT) => {
+            let id = only_member(place, value, ENDPOINT_ID, |value| one(ENDPOINT_ID, value))?;
+            request.removed_endpoints.push(id);
+        }
+        (Modification, FQ_CSID) if value.is_empty() => {
+            if elements(0, body).filter(|(other, ..)| *other == FQ_CSID).count() > 1 {
+                return Err(fault(LENGTH, FQ_CSID));
+            }
+            request.removes_all_fq_csids = true;
+        }
+        (_, FQ_CSID) => {
+            let (node_type, change) = read_fq_csid(kind, value)?;
+            if top.node_types >> node_type & 1 == 1 {
+                return Err(fault(INCORRECT, FQ_CSID));
+            }
+            top.node_types |= 1 << node_type;
+            request.fq_csids.push(change);
+        }
+        _ => {}
     }
     Ok(())
 }
@@ -323,16 +365,17 @@ fn read_f_teid(value: &[u8], in_endpoint: bool) -> Result<Tunnel<'_>, Refusal> {
     Ok(Tunnel { teid, families, addresses: &rest[4..4 + addresses] })
 }
 
-fn read_create_pdr(part: &[u8]) -> Result<NewPdr<'_>, Refusal> {
+fn read_create_pdr(group: usize, part: &[u8]) -> Result<NewPdr<'_>, Refusal> {
     let (mut id, mut precedence, mut pdi, mut far) = (None, None, None, None);
-    for (ie_type, value) in elements(part) {
-        match ie_type {
-            PDR_ID => once(&mut id, PDR_ID, || two(PDR_ID, value))?,
-            PRECEDENCE => once(&mut precedence, PRECEDENCE, || four(PRECEDENCE, value))?,
-            PDI => once(&mut pdi, PDI, || read_pdi(value))?,
-            FAR_ID => once(&mut far, FAR_ID, || four(FAR_ID, value))?,
-            _ => {}
-        }
+    for (ie_type, place, value) in members(group, part) {
+        let read = match ie_type {
+            PDR_ID => once(&mut id, PDR_ID, || two(PDR_ID, value)),
+            PRECEDENCE => once(&mut precedence, PRECEDENCE, || four(PRECEDENCE, value)),
+            PDI => once(&mut pdi, PDI, || read_pdi(place, value)),
+            FAR_ID => once(&mut far, FAR_ID, || four(FAR_ID, value)),
+            _ => Ok(()),
+        };
+        read.map_err(|refusal| refusal.at(place))?;
     }
     let (source_interface, tunnel, endpoint) = pdi.ok_or(fault(MISSING, PDI))?;
     let precedence = precedence.ok_or(fault(MISSING, PRECEDENCE))?;
@@ -355,45 +398,48 @@ fn read_create_pdr(part: &[u8]) -> Result<NewPdr<'_>, Refusal> {
 
 type Pdi<'a> = (u8, Option<Tunnel<'a>>, Option<u8>);
 
-fn read_pdi(part: &[u8]) -> Result<Pdi<'_>, Refusal> {
+fn read_pdi(group: usize, part: &[u8]) -> Result<Pdi<'_>, Refusal> {
     let (mut source, mut tunnel, mut endpoint) = (None, None, None);
-    for (ie_type, value) in elements(part) {
-        match ie_type {
-            SOURCE_INTERFACE => once(&mut source, ie_type, || one(SOURCE_INTERFACE, value))?,
-            F_TEID => once(&mut tunnel, F_TEID, || read_f_teid(value, false))?,
-            ENDPOINT_ID => once(&mut endpoint, ENDPOINT_ID, || one(ENDPOINT_ID, value))?,
-            _ => {}
-        }
+    for (ie_type, place, value) in members(group, part) {
+        let read = match ie_type {
+            SOURCE_INTERFACE => once(&mut source, ie_type, || one(SOURCE_INTERFACE, value)),
+            F_TEID => once(&mut tunnel, F_TEID, || read_f_teid(value, false)),
+            ENDPOINT_ID => once(&mut endpoint, ENDPOINT_ID, || one(ENDPOINT_ID, value)),
+            _ => Ok(()),
+        };
+        read.map_err(|refusal| refusal.at(place))?;
     }
     let source = source.ok_or(fault(MISSING, SOURCE_INTERFACE))?;
     Ok((source & 0x0F, tunnel, endpoint))
 }
 
-fn read_create_endpoint(part: &[u8]) -> Result<NewEndpoint<'_>, Refusal> {
+fn read_create_endpoint(group: usize, part: &[u8]) -> Result<NewEndpoint<'_>, Refusal> {
     let (mut id, mut tunnel) = (None, None);
-    for (ie_type, value) in elements(part) {
-        match ie_type {
-            ENDPOINT_ID => once(&mut id, ENDPOINT_ID, || one(ENDPOINT_ID, value))?,
-            F_TEID => once(&mut tunnel, F_TEID, || read_f_teid(value, true))?,
-            _ => {}
-        }
+    for (ie_type, place, value) in members(group, part) {
+        let read = match ie_type {
+            ENDPOINT_ID => once(&mut id, ENDPOINT_ID, || one(ENDPOINT_ID, value)),
+            F_TEID => once(&mut tunnel, F_TEID, || read_f_teid(value, true)),
+            _ => Ok(()),
+        };
+        read.map_err(|refusal| refusal.at(place))?;
     }
     let tunnel = tunnel.ok_or(fault(CONDITIONAL_MISSING, F_TEID))?;
     let id = id.ok_or(fault(MISSING, ENDPOINT_ID))?;
     Ok(NewEndpoint { slot: [id, 0, 0, 0, 0, tunnel.families], tunnel })
 }
 
-fn read_update_pdr(part: &[u8]) -> Result<(Update, bool), Refusal> {
+fn read_update_pdr(group: usize, part: &[u8]) -> Result<(Update, bool), Refusal> {
     let (mut id, mut precedence, mut pdi, mut far) = (None, None, None, None);
-    for (ie_type, value) in elements(part) {
-        match ie_type {
-            PDR_ID => once(&mut id, PDR_ID, || two(PDR_ID, value))?,
-            PRECEDENCE => once(&mut precedence, PRECEDENCE, || four(PRECEDENCE, value))?,
-            PDI => once(&mut pdi, PDI, || Ok(()))?,
-            FAR_ID if value.is_empty() => once(&mut far, FAR_ID, || Ok(None))?,
-            FAR_ID => once(&mut far, FAR_ID, || four(FAR_ID, value).map(Some))?,
-            _ => {}
-        }
+    for (ie_type, place, value) in members(group, part) {
+        let read = match ie_type {
+            PDR_ID => once(&mut id, PDR_ID, || two(PDR_ID, value)),
+            PRECEDENCE => once(&mut precedence, PRECEDENCE, || four(PRECEDENCE, value)),
+            PDI => once(&mut pdi, PDI, || Ok(())),
+            FAR_ID if value.is_empty() => once(&mut far, FAR_ID, || Ok(None)),
+            FAR_ID => once(&mut far, FAR_ID, || four(FAR_ID, value).map(Some)),
+            _ => Ok(()),
+        };
+        read.map_err(|refusal| refusal.at(place))?;
     }
     let id = id.ok_or(fault(MISSING, PDR_ID))?;
     Ok((Update { id, precedence, far }, pdi.is_some()))
@@ -401,14 +447,16 @@ fn read_update_pdr(part: &[u8]) -> Result<(Update, bool), Refusal> {
 
 /// The one member of a removal.
 fn only_member<T>(
+    group: usize,
     part: &[u8],
     wanted: u16,
     read: impl Fn(&[u8]) -> Result<T, Refusal>,
 ) -> Result<T, Refusal> {
     let mut found = None;
-    for (ie_type, value) in elements(part) {
+    for (ie_type, place, value) in members(group, part) {
         if ie_type == wanted {
-            once(&mut found, wanted, || read(value))?;
+            let read = once(&mut found, wanted, || read(value));
+            read.map_err(|refusal| refusal.at(place))?;
         }
     }
     found.ok_or(fault(MISSING, wanted))

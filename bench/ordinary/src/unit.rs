@@ -30,8 +30,9 @@ pub fn free_count(table: &[u8]) -> Option<u32> {
     Some(checked.settings.size - checked.taken.count())
 }
 
-/// One request: the length of the reply, or the host outcome 1 to 5.
-pub fn handle(table: &mut [u8], message: &[u8], space: &mut [u8]) -> Result<usize, u32> {
+/// One request: the length of the reply and the place of a fault of stages 2 and 3 (0 without one),
+/// or the host outcome 1 to 5.
+pub fn handle(table: &mut [u8], message: &[u8], space: &mut [u8]) -> Result<(usize, usize), u32> {
     let Ok(table) = <&mut [u8; TABLE_OCTETS]>::try_from(table) else { return Err(1) };
     let checked = check(table).ok_or(1_u32)?;
     if space.len() < LEAST_REPLY_SPACE {
@@ -42,14 +43,17 @@ pub fn handle(table: &mut [u8], message: &[u8], space: &mut [u8]) -> Result<usiz
     match decide(table, &checked, &header, body, &mut request) {
         Ok((at, teids)) => {
             change(table, checked.sessions, &header, &request, at, &teids);
-            Ok(reply::accepted(space, &checked.settings, &header, &request, &teids))
+            Ok((reply::accepted(space, &checked.settings, &header, &request, &teids), 0))
         }
-        Err(refusal) => Ok(reply::refused(space, &checked.settings, &header, &refusal)),
+        Err(refusal) => {
+            let used = reply::refused(space, &checked.settings, &header, &refusal);
+            Ok((used, refusal.place.unwrap_or(0)))
+        }
     }
 }
 
 fn cause(cause: u8) -> Refusal {
-    Refusal { cause, offending: None }
+    Refusal { cause, offending: None, place: None }
 }
 
 /// The TEIDs of the created records in request order.
@@ -73,7 +77,7 @@ fn decide<'a>(
     if !establishment && found.is_err() {
         return Err(cause(65));
     }
-    request::frame(header.kind, 0, body)?;
+    request::frame(header.kind, 0, request::HEADER_OCTETS, body)?;
     request::read(header, body, request)?;
     let request = &*request;
     if establishment {

@@ -1,7 +1,8 @@
 //! `exchanges`: reads parts from standard input, each after its length in two octets. A part of 12
 //! octets makes an empty unit: its IPv4 address, the first TEID and the pool size. Any other is a
 //! request. Prints a line for each: `table` or `outcome` and the number, `free` and the free count
-//! after it, and `reply` and the reply's octets in hexadecimal digits where there is one.
+//! after it, and where there is a reply `place` and the place of a fault, and `reply` and the reply's
+//! octets in hexadecimal digits.
 
 use std::io::{self, Read};
 use std::process::ExitCode;
@@ -31,8 +32,8 @@ fn next_part(octets: &[u8]) -> Option<(&[u8], &[u8])> {
 }
 
 fn line(unit: &mut Option<Unit>, part: &[u8]) -> String {
-    let (word, number, reply) = match part.len() {
-        12 => ("table", make(unit, part), Vec::new()),
+    let (word, number, place, reply) = match part.len() {
+        12 => ("table", make(unit, part), 0, Vec::new()),
         _ => request(unit, part),
     };
     // Only a unit that was never made stands for a broken table.
@@ -42,7 +43,7 @@ fn line(unit: &mut Option<Unit>, part: &[u8]) -> String {
         return start;
     }
     let digits: String = reply.iter().map(|octet| format!("{octet:02x}")).collect();
-    format!("{start} reply {digits}")
+    format!("{start} place {place} reply {digits}")
 }
 
 /// Refused settings leave the unit as it was.
@@ -58,11 +59,11 @@ fn make(unit: &mut Option<Unit>, part: &[u8]) -> u8 {
     }
 }
 
-fn request(unit: &mut Option<Unit>, message: &[u8]) -> (&'static str, u8, Vec<u8>) {
+fn request(unit: &mut Option<Unit>, message: &[u8]) -> (&'static str, u8, usize, Vec<u8>) {
     let mut space = [0; 1024];
     let Some(unit) = unit else {
-        return ("outcome", 1, Vec::new());
+        return ("outcome", 1, 0, Vec::new());
     };
     let outcome = unit.request(message, &mut space);
-    ("outcome", outcome.number, space[..outcome.reply_length].to_vec())
+    ("outcome", outcome.number, outcome.place, space[..outcome.reply_length].to_vec())
 }

@@ -1,5 +1,5 @@
 //! `verdicts`: reads lines of hexadecimal messages from standard input and prints one line for
-//! each: `outcome N` (3 to 5), `cause C type T` (the first fault of stages 2 and 3), or `read` and
+//! each: `outcome N` (3 to 5), `cause C type T place P` (the first fault of stages 2 and 3), or `read` and
 //! the rendering of the request that `request::render` describes. Spaces between the octets are
 //! allowed; an empty line is a message without octets.
 
@@ -40,7 +40,9 @@ fn verdict(message: &[u8]) -> String {
         Err(outcome) => return format!("outcome {outcome}"),
     };
     match request::read(&header, message) {
-        Err(fault) => format!("cause {} type {}", fault.cause, fault.offending),
+        Err(fault) => {
+            format!("cause {} type {} place {}", fault.cause, fault.offending, fault.octet)
+        }
         Ok(request) => format!("read {}", render::render(&request)),
     }
 }

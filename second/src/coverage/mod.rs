@@ -9,7 +9,7 @@ use std::fmt;
 
 use crate::ie;
 use crate::request::fault::Place;
-use crate::request::framing::{elements, opens};
+use crate::request::framing::{elements, opens, Part};
 use crate::request::{reading, Fault, FaultKind, Header, Kind, Record};
 use crate::session::Sessions;
 use crate::unit::limits::Limit;
@@ -131,9 +131,8 @@ impl Coverage {
                 let kind = refused.header.kind;
                 self.met(Counter::Cause(kind, refused.cause()));
                 self.refused(kind, &refused.reasons);
-                let body = &message[ie::HEADER_OCTETS..];
                 if let Reason::Fault(fault) = &refused.reasons[0] {
-                    if is_framing(fault) && passed_over(&refused.header, body) {
+                    if is_framing(fault) && passed_over(&refused.header, message) {
                         self.met(Counter::FramingBeforeReading);
                     }
                 }
@@ -172,7 +171,7 @@ impl Coverage {
     }
 
     fn skipped(&mut self, kind: Kind, place: Place, part: &[u8]) {
-        for element in elements(part) {
+        for element in elements(Part::of(part)) {
             match class(kind, place, element.ie_type) {
                 Class::ActedOn => {}
                 class => self.met(Counter::Skipped(kind, place, class)),
@@ -189,8 +188,8 @@ fn is_framing(fault: &Fault) -> bool {
 }
 
 /// Whether reading what stands before a broken frame finds a fault other than a missing element.
-fn passed_over(header: &Header, body: &[u8]) -> bool {
-    let fault = reading::read(header, body).err();
+fn passed_over(header: &Header, message: &[u8]) -> bool {
+    let fault = reading::read(header, message).err();
     fault.is_some_and(|fault| fault.kind != FaultKind::Missing)
 }
 

@@ -1,6 +1,7 @@
 //! What stages 2 and 3 report: a cause and the offending type, and for the tests also which fault
 //! it was and where.
 
+use super::framing::Element;
 use super::Kind;
 use crate::element::{Bad, Refusal, CAUSE_INCORRECT, CAUSE_LENGTH};
 use crate::ie;
@@ -55,6 +56,9 @@ pub struct Fault {
     pub message: Kind,
     pub place: Place,
     pub kind: FaultKind,
+    /// Document 02 (iv): "the place of the element at fault within the message, from 0, or of the
+    /// enclosing group if a member is missing or under 4 octets are left (0 for the message)".
+    pub octet: usize,
 }
 
 /// Where a fault is found; makes the faults of that part.
@@ -62,39 +66,52 @@ pub struct Fault {
 pub struct At {
     pub message: Kind,
     pub place: Place,
+    /// Where the group whose members stand here starts in the message, 0 at top.
+    pub octet: usize,
 }
 
 impl At {
-    fn fault(&self, cause: u8, offending: u16, kind: FaultKind) -> Fault {
-        Fault { cause, offending, message: self.message, place: self.place, kind }
+    /// The top of a message.
+    pub fn top(message: Kind) -> At {
+        At { message, place: Place::Top, octet: 0 }
+    }
+
+    /// The part behind a group.
+    pub fn inside(message: Kind, place: Place, group: &Element) -> At {
+        At { message, place, octet: group.octet }
+    }
+
+    fn fault(&self, cause: u8, offending: u16, kind: FaultKind, octet: usize) -> Fault {
+        Fault { cause, offending, message: self.message, place: self.place, kind, octet }
     }
 
     /// An overrun is 68 and names the element itself.
-    pub fn overrun(&self, element: u16) -> Fault {
-        self.fault(CAUSE_LENGTH, element, FaultKind::Overrun)
+    pub fn overrun(&self, element: u16, octet: usize) -> Fault {
+        self.fault(CAUSE_LENGTH, element, FaultKind::Overrun, octet)
     }
 
     /// "the enclosing group (0 at top) where under 4 octets are left"
     pub fn few_octets_left(&self) -> Fault {
-        self.fault(CAUSE_LENGTH, self.place.group(), FaultKind::FewOctetsLeft)
+        self.fault(CAUSE_LENGTH, self.place.group(), FaultKind::FewOctetsLeft, self.octet)
     }
 
     /// "a required one missing 66 (F-TEID of an endpoint 67)"
     pub fn missing(&self, element: u16) -> Fault {
         let conditional = self.place == Place::CreateEndpoint && element == ie::F_TEID;
-        self.fault(if conditional { 67 } else { 66 }, element, FaultKind::Missing)
+        let cause = if conditional { 67 } else { 66 };
+        self.fault(cause, element, FaultKind::Missing, self.octet)
     }
 
-    pub fn repeated(&self, element: u16) -> Fault {
-        self.fault(CAUSE_INCORRECT, element, FaultKind::Repeated)
+    pub fn repeated(&self, element: &Element) -> Fault {
+        self.fault(CAUSE_INCORRECT, element.ie_type, FaultKind::Repeated, element.octet)
     }
 
-    pub fn refused(&self, element: u16, refusal: Refusal) -> Fault {
+    pub fn refused(&self, element: &Element, refusal: Refusal) -> Fault {
         let kind = match refusal {
             Refusal::Empty => FaultKind::Empty,
             Refusal::Short => FaultKind::Short,
             Refusal::Bad(bad) => FaultKind::Bad(bad),
         };
-        self.fault(refusal.cause(), element, kind)
+        self.fault(refusal.cause(), element.ie_type, kind, element.octet)
     }
 }

@@ -9,33 +9,67 @@ use crate::ie;
 pub struct Element<'a> {
     pub ie_type: u16,
     pub value: &'a [u8],
+    /// Where it starts in the message, from 0.
+    pub octet: usize,
 }
+
+/// A part of a message in which elements stand, and where it starts in the message.
+#[derive(Clone, Copy)]
+pub struct Part<'a> {
+    octets: &'a [u8],
+    octet: usize,
+}
+
+impl<'a> Part<'a> {
+    /// What stands behind the header.
+    pub fn body(message: &'a [u8]) -> Part<'a> {
+        Part { octets: &message[ie::HEADER_OCTETS..], octet: ie::HEADER_OCTETS }
+    }
+
+    /// Octets by themselves, counted from their first one.
+    pub fn of(octets: &'a [u8]) -> Part<'a> {
+        Part { octets, octet: 0 }
+    }
+
+    /// The members of a group, behind its type and length.
+    pub fn inside(group: &Element<'a>) -> Part<'a> {
+        Part { octets: group.value, octet: group.octet + FRAME_OCTETS }
+    }
+
+    fn skip(&mut self, count: usize) {
+        self.octets = &self.octets[count..];
+        self.octet += count;
+    }
+}
+
+/// Type and length.
+const FRAME_OCTETS: usize = 4;
 
 /// Why the next element of a part cannot be cut out.
 #[derive(Clone, Copy, PartialEq, Eq, Debug)]
 pub enum Broken {
     FewOctetsLeft,
-    Overrun(u16),
+    /// Of this type, starting there.
+    Overrun(u16, usize),
 }
 
 /// Cuts the next element off the front of a part; nothing at the part's end.
-pub fn next<'a>(part: &mut &'a [u8]) -> Result<Option<Element<'a>>, Broken> {
-    if part.is_empty() {
+pub fn next<'a>(part: &mut Part<'a>) -> Result<Option<Element<'a>>, Broken> {
+    if part.octets.is_empty() {
         return Ok(None);
     }
-    let (frame, rest) = part.split_first_chunk::<4>().ok_or(Broken::FewOctetsLeft)?;
+    let octet = part.octet;
+    let (frame, rest) =
+        part.octets.split_first_chunk::<FRAME_OCTETS>().ok_or(Broken::FewOctetsLeft)?;
     let ie_type = u16::from_be_bytes([frame[0], frame[1]]);
     let length = usize::from(u16::from_be_bytes([frame[2], frame[3]]));
-    if rest.len() < length {
-        return Err(Broken::Overrun(ie_type));
-    }
-    let (value, rest) = rest.split_at(length);
-    *part = rest;
-    Ok(Some(Element { ie_type, value }))
+    let value = rest.get(..length).ok_or(Broken::Overrun(ie_type, octet))?;
+    part.skip(FRAME_OCTETS + length);
+    Ok(Some(Element { ie_type, value, octet }))
 }
 
 /// The elements of a part. It ends at a broken frame, which stage 2 has shut out before.
-pub fn elements(part: &[u8]) -> impl Iterator<Item = Element<'_>> {
+pub fn elements(part: Part<'_>) -> impl Iterator<Item = Element<'_>> {
     let mut rest = part;
     std::iter::from_fn(move || next(&mut rest).ok().flatten())
 }
@@ -59,23 +93,22 @@ pub fn opens(message: Kind, place: Place, ie_type: u16) -> Option<Place> {
 
 /// The framing walk, depth first and in octet order: an element's own frame, then its members, then
 /// the next element.
-pub fn frame(message: Kind, body: &[u8]) -> Result<(), Fault> {
-    frame_part(message, Place::Top, body)
+pub fn frame(kind: Kind, message: &[u8]) -> Result<(), Fault> {
+    frame_part(At::top(kind), Part::body(message))
 }
 
-fn frame_part(message: Kind, place: Place, part: &[u8]) -> Result<(), Fault> {
-    let at = At { message, place };
+fn frame_part(at: At, part: Part) -> Result<(), Fault> {
     let mut rest = part;
     loop {
         match next(&mut rest) {
             Ok(None) => return Ok(()),
             Ok(Some(element)) => {
-                if let Some(inner) = opens(message, place, element.ie_type) {
-                    frame_part(message, inner, element.value)?;
+                if let Some(place) = opens(at.message, at.place, element.ie_type) {
+                    frame_part(At::inside(at.message, place, &element), Part::inside(&element))?;
                 }
             }
             Err(Broken::FewOctetsLeft) => return Err(at.few_octets_left()),
-            Err(Broken::Overrun(ie_type)) => return Err(at.overrun(ie_type)),
+            Err(Broken::Overrun(ie_type, octet)) => return Err(at.overrun(ie_type, octet)),
         }
     }
 }

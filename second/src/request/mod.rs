@@ -33,14 +33,22 @@ impl Kind {
 
 /// Stages 2 and 3 on a message that has passed the header test.
 pub fn read(header: &Header, message: &[u8]) -> Result<Request, Fault> {
-    let body = &message[crate::ie::HEADER_OCTETS..];
-    framing::frame(header.kind, body)?;
-    reading::read(header, body)
+    framing::frame(header.kind, message)?;
+    reading::read(header, message)
 }
 
 /// The first fault of stages 2 and 3 as (cause, offending type). A message that fails the header
 /// test has no stages, so it has no fault either.
 pub fn first_fault(message: &[u8]) -> Option<(u8, u16)> {
+    fault_in(message).map(|fault| (fault.cause, fault.offending))
+}
+
+/// Where that fault is in the message, from 0.
+pub fn first_place(message: &[u8]) -> Option<usize> {
+    fault_in(message).map(|fault| fault.octet)
+}
+
+fn fault_in(message: &[u8]) -> Option<Fault> {
     let header = header::test(message).ok()?;
-    read(&header, message).err().map(|fault| (fault.cause, fault.offending))
+    read(&header, message).err()
 }

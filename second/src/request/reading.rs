@@ -4,22 +4,22 @@
 use std::collections::BTreeSet;
 
 use super::fault::{At, Fault, Place};
-use super::framing::{elements, Element};
+use super::framing::{elements, Element, Part};
 use super::{FarChange, Header, Kind, Pdi, Record, Request};
 use crate::element::{f_seid, f_teid, fq_csid, front_u32, Bad, Refusal};
 use crate::ie;
 
 /// Reads the body of a framed message.
-pub fn read(header: &Header, body: &[u8]) -> Result<Request, Fault> {
+pub fn read(header: &Header, message: &[u8]) -> Result<Request, Fault> {
     let kind = header.kind;
-    let at = At { message: kind, place: Place::Top };
+    let at = At::top(kind);
+    let body = Part::body(message);
     let mut once = Once::new(at);
     let mut node_types = BTreeSet::new();
     let mut f_seid = None;
     let mut restoration = false;
     let mut records = Vec::new();
     for element in elements(body) {
-        let value = element.value;
         match (kind, element.ie_type) {
             (Kind::Establishment, ie::F_SEID) => {
                 f_seid = Some(once.read(&element, f_seid::read)?);
@@ -30,21 +30,21 @@ pub fn read(header: &Header, body: &[u8]) -> Result<Request, Fault> {
             }
             (Kind::Establishment | Kind::Modification, ie::CREATE_PDR) => {
                 once.see(ie::CREATE_PDR);
-                records.push(create_pdr(kind, value)?);
+                records.push(create_pdr(kind, &element)?);
             }
             (Kind::Establishment | Kind::Modification, ie::CREATE_ENDPOINT) => {
-                records.push(create_endpoint(kind, value)?);
+                records.push(create_endpoint(kind, &element)?);
             }
-            (Kind::Modification, ie::UPDATE_PDR) => records.push(update_pdr(value)?),
-            (Kind::Modification, ie::REMOVE_PDR) => records.push(remove_pdr(value)?),
-            (Kind::Modification, ie::REMOVE_ENDPOINT) => records.push(remove_endpoint(value)?),
+            (Kind::Modification, ie::UPDATE_PDR) => records.push(update_pdr(&element)?),
+            (Kind::Modification, ie::REMOVE_PDR) => records.push(remove_pdr(&element)?),
+            (Kind::Modification, ie::REMOVE_ENDPOINT) => records.push(remove_endpoint(&element)?),
             (Kind::Modification, ie::UPDATE_ENDPOINT) => records.push(Record::UpdateEndpoint),
             (_, ie::FQ_CSID) => {
-                let record = fq_csid_record(at, body, value)?;
+                let record = fq_csid_record(at, body, &element)?;
                 if let Record::FqCsid(read) = &record {
                     // "a node type repeated in one request, 69"
                     if !node_types.insert(read.node_type) {
-                        return Err(at.repeated(ie::FQ_CSID));
+                        return Err(at.repeated(&element));
                     }
                 }
                 records.push(record);
@@ -78,17 +78,17 @@ impl Once {
     }
 
     /// "A repeat of 57, 186 or a member within its group is 69 before its value is read."
-    fn mark(&mut self, ie_type: u16) -> Result<(), Fault> {
-        match self.met.insert(ie_type) {
+    fn mark(&mut self, element: &Element) -> Result<(), Fault> {
+        match self.met.insert(element.ie_type) {
             true => Ok(()),
-            false => Err(self.at.repeated(ie_type)),
+            false => Err(self.at.repeated(element)),
         }
     }
 
     /// The value of an element that may stand there once.
     fn read<T>(&mut self, element: &Element, value: ValueReader<T>) -> Result<T, Fault> {
-        self.mark(element.ie_type)?;
-        value(element.value).map_err(|refusal| self.at.refused(element.ie_type, refusal))
+        self.mark(element)?;
+        value(element.value).map_err(|refusal| self.at.refused(element, refusal))
     }
 
     /// Notes an element that may stand there several times.
@@ -109,16 +109,16 @@ impl Once {
 }
 
 /// An FQ-CSID of this message, with the m that the message allows.
-fn fq_csid_record(at: At, body: &[u8], value: &[u8]) -> Result<Record, Fault> {
+fn fq_csid_record(at: At, body: Part, element: &Element) -> Result<Record, Fault> {
     // "Null length in a modification removes all if it is the only FQ-CSID there, and is 68
     // otherwise." All elements 65 at top are counted, later and faulty ones too.
-    if value.is_empty() && at.message == Kind::Modification {
+    if element.value.is_empty() && at.message == Kind::Modification {
         let count = elements(body).filter(|element| element.ie_type == ie::FQ_CSID).count();
         if count == 1 {
             return Ok(Record::RemoveAllFqCsids);
         }
     }
-    let read = fq_csid::read(value).map_err(|r| at.refused(ie::FQ_CSID, r))?;
+    let read = fq_csid::read(element.value).map_err(|r| at.refused(element, r))?;
     let m = read.csids.len();
     // "Establishment m = 1; modification m = 1 sets that node type, m = 0 [..] removes it;
     // deletion m at least 1."
@@ -129,22 +129,22 @@ fn fq_csid_record(at: At, body: &[u8], value: &[u8]) -> Result<Record, Fault> {
     };
     match allowed {
         true => Ok(Record::FqCsid(read)),
-        false => Err(at.refused(ie::FQ_CSID, Refusal::Bad(Bad::NumberOfCsids))),
+        false => Err(at.refused(element, Refusal::Bad(Bad::NumberOfCsids))),
     }
 }
 
 /// "Create and Update PDR 56, 29, 2, 108"; "Required: Create PDR 56, 29, 2".
-fn create_pdr(message: Kind, part: &[u8]) -> Result<Record, Fault> {
-    let at = At { message, place: Place::CreatePdr };
+fn create_pdr(message: Kind, group: &Element) -> Result<Record, Fault> {
+    let at = At::inside(message, Place::CreatePdr, group);
     let mut once = Once::new(at);
     let (mut id, mut precedence, mut pdi, mut far_id) = (None, None, None, None);
-    for element in elements(part) {
+    for element in elements(Part::inside(group)) {
         match element.ie_type {
             ie::PDR_ID => id = Some(once.read(&element, two_octets)?),
             ie::PRECEDENCE => precedence = Some(once.read(&element, four_octets)?),
             ie::PDI => {
-                once.mark(ie::PDI)?;
-                pdi = Some(read_pdi(message, element.value)?);
+                once.mark(&element)?;
+                pdi = Some(read_pdi(message, &element)?);
             }
             ie::FAR_ID => far_id = Some(once.read(&element, four_octets)?),
             _ => {}
@@ -160,11 +160,11 @@ fn create_pdr(message: Kind, part: &[u8]) -> Result<Record, Fault> {
 }
 
 /// "PDI 20, 21, 131"; "Required: [..] PDI 20".
-fn read_pdi(message: Kind, part: &[u8]) -> Result<Pdi, Fault> {
-    let at = At { message, place: Place::PdiOfCreatePdr };
+fn read_pdi(message: Kind, group: &Element) -> Result<Pdi, Fault> {
+    let at = At::inside(message, Place::PdiOfCreatePdr, group);
     let mut once = Once::new(at);
     let (mut source_interface, mut tunnel, mut endpoint) = (None, None, None);
-    for element in elements(part) {
+    for element in elements(Part::inside(group)) {
         match element.ie_type {
             ie::SOURCE_INTERFACE => {
                 // "Source Interface 20 (low 4 bits of 1)"
@@ -180,11 +180,11 @@ fn read_pdi(message: Kind, part: &[u8]) -> Result<Pdi, Fault> {
 }
 
 /// "Create Endpoint 131, 21", both required.
-fn create_endpoint(message: Kind, part: &[u8]) -> Result<Record, Fault> {
-    let at = At { message, place: Place::CreateEndpoint };
+fn create_endpoint(message: Kind, group: &Element) -> Result<Record, Fault> {
+    let at = At::inside(message, Place::CreateEndpoint, group);
     let mut once = Once::new(at);
     let (mut id, mut tunnel) = (None, None);
-    for element in elements(part) {
+    for element in elements(Part::inside(group)) {
         match element.ie_type {
             ie::ENDPOINT_ID => id = Some(once.read(&element, one_octet)?),
             ie::F_TEID => tunnel = Some(once.read(&element, f_teid::read_in_endpoint)?),
@@ -198,16 +198,16 @@ fn create_endpoint(message: Kind, part: &[u8]) -> Result<Record, Fault> {
 }
 
 /// "updates and removals their ID"
-fn update_pdr(part: &[u8]) -> Result<Record, Fault> {
-    let at = At { message: Kind::Modification, place: Place::UpdatePdr };
+fn update_pdr(group: &Element) -> Result<Record, Fault> {
+    let at = At::inside(Kind::Modification, Place::UpdatePdr, group);
     let mut once = Once::new(at);
     let (mut id, mut precedence, mut far) = (None, None, FarChange::Stays);
-    for element in elements(part) {
+    for element in elements(Part::inside(group)) {
         match element.ie_type {
             ie::PDR_ID => id = Some(once.read(&element, two_octets)?),
             ie::PRECEDENCE => precedence = Some(once.read(&element, four_octets)?),
             // "PDI in Update PDR (framed in stage 2, its members not read)"
-            ie::PDI => once.mark(ie::PDI)?,
+            ie::PDI => once.mark(&element)?,
             ie::FAR_ID => far = once.read(&element, far_change)?,
             _ => {}
         }
@@ -216,22 +216,27 @@ fn update_pdr(part: &[u8]) -> Result<Record, Fault> {
     Ok(Record::UpdatePdr { id, precedence, far, with_pdi: once.has(ie::PDI) })
 }
 
-fn remove_pdr(part: &[u8]) -> Result<Record, Fault> {
-    let id = removed(Place::RemovePdr, part, ie::PDR_ID, two_octets)?;
+fn remove_pdr(group: &Element) -> Result<Record, Fault> {
+    let id = removed(Place::RemovePdr, group, ie::PDR_ID, two_octets)?;
     Ok(Record::RemovePdr { id })
 }
 
-fn remove_endpoint(part: &[u8]) -> Result<Record, Fault> {
-    let id = removed(Place::RemoveEndpoint, part, ie::ENDPOINT_ID, one_octet)?;
+fn remove_endpoint(group: &Element) -> Result<Record, Fault> {
+    let id = removed(Place::RemoveEndpoint, group, ie::ENDPOINT_ID, one_octet)?;
     Ok(Record::RemoveEndpoint { id })
 }
 
 /// The ID in a removal, its only member.
-fn removed<T>(place: Place, part: &[u8], ie_type: u16, value: ValueReader<T>) -> Result<T, Fault> {
-    let at = At { message: Kind::Modification, place };
+fn removed<T>(
+    place: Place,
+    group: &Element,
+    ie_type: u16,
+    value: ValueReader<T>,
+) -> Result<T, Fault> {
+    let at = At::inside(Kind::Modification, place, group);
     let mut once = Once::new(at);
     let mut id = None;
-    for element in elements(part).filter(|element| element.ie_type == ie_type) {
+    for element in elements(Part::inside(group)).filter(|element| element.ie_type == ie_type) {
         id = Some(once.read(&element, value)?);
     }
     id.ok_or(at.missing(ie_type))

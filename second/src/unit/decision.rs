@@ -48,6 +48,14 @@ impl Reason {
 }
 
 impl Refused {
+    /// Where the fault is, "0 for the message, or no fault of these stages".
+    pub fn place(&self) -> usize {
+        match &self.reasons[0] {
+            Reason::Fault(fault) => fault.octet,
+            _ => 0,
+        }
+    }
+
     pub fn cause(&self) -> u8 {
         self.reasons[0].cause()
     }

@@ -14,12 +14,14 @@ use crate::settings::Settings;
 pub use decision::{Decision, Reason, Refused};
 pub use grants::{Grant, Owner};
 
-/// What a call gives back: the host outcome, and the reply's length (0 unless the outcome is 0).
+/// What a call gives back: the host outcome, the reply's length (0 unless the outcome is 0), and the
+/// place of a fault of stages 2 and 3 in the message, 0 where the reply has no such fault.
 /// Outcome 1 (a broken table) has no counterpart here: this unit keeps no octets of a table.
 #[derive(Clone, Copy, PartialEq, Eq, Debug)]
 pub struct Outcome {
     pub number: u8,
     pub reply_length: usize,
+    pub place: usize,
 }
 
 #[derive(Clone, PartialEq, Eq, Debug)]
@@ -93,15 +95,17 @@ impl Unit {
     /// One request: the reply is written at the front of the space, and the space after it stays.
     /// "Any cause but 1 leaves the table unchanged."
     pub fn request(&mut self, message: &[u8], reply_space: &mut [u8]) -> Outcome {
-        let reply = match self.decide(message, reply_space.len()) {
-            Decision::Outcome(number) => return Outcome { number, reply_length: 0 },
-            Decision::Refused(refused) => reply::refusal(&self.settings, &refused),
+        let (reply, place) = match self.decide(message, reply_space.len()) {
+            Decision::Outcome(number) => return Outcome { number, reply_length: 0, place: 0 },
+            Decision::Refused(refused) => {
+                (reply::refusal(&self.settings, &refused), refused.place())
+            }
             Decision::Accepted { request, grants } => {
                 apply::apply(&mut self.sessions, &request, &grants);
-                reply::acceptance(&self.settings, &request, &grants)
+                (reply::acceptance(&self.settings, &request, &grants), 0)
             }
         };
         reply_space[..reply.len()].copy_from_slice(&reply);
-        Outcome { number: 0, reply_length: reply.len() }
+        Outcome { number: 0, reply_length: reply.len(), place }
     }
 }

@@ -161,7 +161,7 @@ pub fn dual_unit(first: u32, size: u32) -> Unit {
 /// A call with a reply space of 1,024 octets; the outcome must be 0.
 pub fn reply(unit: &mut Unit, message: &[u8]) -> Vec<u8> {
     let mut space = vec![0xEE; 1024];
-    let Outcome { number, reply_length } = unit.request(message, &mut space);
+    let Outcome { number, reply_length, .. } = unit.request(message, &mut space);
     assert_eq!(number, 0, "outcome");
     assert!(space[reply_length..].iter().all(|octet| *octet == 0xEE), "space after the reply");
     space.truncate(reply_length);

@@ -31,6 +31,7 @@ extern "C" {
         reply: *mut u8,
         reply_len: usize,
         reply_used: *mut usize,
+        place: *mut usize,
     ) -> u32;
     #[cfg(feature = "restoration")]
     fn pfcp_write_restoration(

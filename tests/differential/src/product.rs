@@ -3,8 +3,16 @@
 pub type TableLength = unsafe extern "C" fn() -> usize;
 pub type MakeTable = unsafe extern "C" fn(*mut u8, usize, u32, *const u8, usize, u32, u32) -> u32;
 pub type FreeCount = unsafe extern "C" fn(*const u8, usize, *mut u32) -> u32;
-pub type Request =
-    unsafe extern "C" fn(*mut u8, usize, *const u8, usize, *mut u8, usize, *mut usize) -> u32;
+pub type Request = unsafe extern "C" fn(
+    *mut u8,
+    usize,
+    *const u8,
+    usize,
+    *mut u8,
+    usize,
+    *mut usize,
+    *mut usize,
+) -> u32;
 #[rustfmt::skip]
 pub type WriteRestoration = unsafe extern "C" fn(
     *const u8, usize, usize, *const u8, usize, *const u8, usize, *mut u8, usize, *mut usize,
@@ -47,9 +55,14 @@ impl Product {
         (outcome, count)
     }
 
-    /// The outcome and the length of the reply.
-    pub fn request(&self, table: &mut [u8], message: &[u8], space: &mut [u8]) -> (u32, usize) {
-        let mut used = usize::MAX;
+    /// The outcome, the length of the reply, and the place of a fault.
+    pub fn request(
+        &self,
+        table: &mut [u8],
+        message: &[u8],
+        space: &mut [u8],
+    ) -> (u32, usize, usize) {
+        let (mut used, mut place) = (usize::MAX, usize::MAX);
         let outcome = unsafe {
             (self.request)(
                 pointer_mut(table),
@@ -59,9 +72,10 @@ impl Product {
                 pointer_mut(space),
                 space.len(),
                 &mut used,
+                &mut place,
             )
         };
-        (outcome, used)
+        (outcome, used, place)
     }
 
     /// The outcome and the length of the request; a product without the call gives another outcome

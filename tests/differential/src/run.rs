@@ -66,10 +66,11 @@ impl Lent {
     }
 }
 
-/// What a call of the product gave: outcome, reply and the reply space after it.
+/// What a call of the product gave: outcome, reply, place and the reply space after it.
 struct Answer {
     outcome: u32,
     used: usize,
+    place: usize,
     space: Lent,
 }
 
@@ -233,11 +234,11 @@ impl Run<'_> {
 
     fn ask(&mut self, table: &mut Lent, message: &[u8], space: usize) -> Answer {
         let mut space = Lent::filled(space);
-        let (outcome, used) = self.product.request(table.lend(), message, space.lend());
+        let (outcome, used, place) = self.product.request(table.lend(), message, space.lend());
         if let Some(count) = self.report.outcomes.get_mut(outcome as usize) {
             *count += 1;
         }
-        Answer { outcome, used, space }
+        Answer { outcome, used, place, space }
     }
 
     /// One call on both sides; whether all was the same.
@@ -257,6 +258,9 @@ impl Run<'_> {
             what(&format!("outcome {} instead of {}", answer.outcome, outcome.number))
         });
         same &= report.check(answer.used == outcome.reply_length, || what("another reply length"));
+        same &= report.check(answer.place == outcome.place, || {
+            what(&format!("place {} instead of {}", answer.place, outcome.place))
+        });
         same &= report.check(answer.reply() == expected, || {
             what(&format!(
                 "reply {} instead of {}",
@@ -304,7 +308,8 @@ impl Run<'_> {
             Err(reason) => {
                 self.broken(&reason);
                 let report = &mut self.report;
-                let right = free == (1, 0) && answer.outcome == 1 && answer.used == 0;
+                let right =
+                    free == (1, 0) && (answer.outcome, answer.used, answer.place) == (1, 0, 0);
                 report.check(right, || format!("outcome {} for {reason}", answer.outcome));
                 let unchanged = table.content() == content && table.guards_hold();
                 report.check(unchanged, || format!("a table with {reason} was changed"));
@@ -322,6 +327,7 @@ impl Run<'_> {
                 let report = &mut self.report;
                 report.check(free == (0, count), || "the free count of a changed table".into());
                 let same = answer.outcome == u32::from(outcome.number)
+                    && answer.place == outcome.place
                     && answer.reply() == expected
                     && answer.rest_is_unchanged();
                 report.check(same, || "another answer on a changed table".into());
@@ -399,8 +405,9 @@ impl Run<'_> {
             self.report.check(longest, || format!("a restoration of {} octets", message.len()));
             let answer = self.ask(&mut table, &message, space);
             let expected = restored_reply(settings, seid, envelope.sequence);
-            let right =
-                answer.outcome == 0 && answer.reply() == expected && answer.rest_is_unchanged();
+            let right = (answer.outcome, answer.place) == (0, 0)
+                && answer.reply() == expected
+                && answer.rest_is_unchanged();
             self.report.check(right, || format!("restoration of session {seid}"));
             self.report.restored += 1;
         }
