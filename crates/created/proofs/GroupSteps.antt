@@ -13,9 +13,10 @@ use Rattle.octets.specs.Octets.{put, be, concatMap}
 use Rattle.octets.specs.Lists.{keep}
 use Rattle.octets.proofs.Numbers.{length-be}
 use Rattle.rules.specs.Model.{Settings}
-use Rattle.rules.specs.Layout.{viewSettings, settingsWidth}
 use Rattle.rules.specs.Grants.{Kind, Grant, sameKind, isKind, grantsOf}
 use Rattle.rules.specs.Reply.{element, unitElement, createdPdr, createdPdrContent, createdEndpoint, createdEndpointContent, created}
+use Rattle.unit.specs.declared.Settings.{Settings as Unit}
+use Rattle.unit.specs.Meaning.{settingsOf}
 use Rattle.created.specs.declared.Grant.{Grant as Entry}
 use Rattle.writing.specs.Placed.{Placed}
 use Rattle.writing.specs.Families.{tunnelIn, unitFamilies, addressOctets, unitAddresses}
@@ -26,17 +27,17 @@ use Rattle.writing.proofs.ElementSteps.{length-unit}
 
 -- ---- one group
 
-module _ (t : List ℕ) (long : settingsWidth ≤ length t) (teid families : ℕ) where
+module _ (v : Unit) (teid families : ℕ) where
   abbrev unit : List ℕ
-  unit = unitElement (viewSettings t) (tunnelIn teid families)
+  unit = unitElement (settingsOf v) (tunnelIn teid families)
 
-  pub length-group : (kind member width id : ℕ) → length (element kind (element member (be width id) ++ unit)) ≡ 17 + width + unitAddresses (viewSettings t) families
+  pub length-group : (kind member width id : ℕ) → length (element kind (element member (be width id) ++ unit)) ≡ 17 + width + unitAddresses (settingsOf v) families
   length-group kind member width id =
       let a : List ℕ = element member (be width id) in
-      rw length-element (omega (arith, length-append a unit, length-element member (be width id), length-be width id, length-unit t long families teid))
+      rw length-element (omega (arith, length-append a unit, length-element member (be width id), length-be width id, length-unit v families teid))
 
   pub group-steps : (kind member width id f at : ℕ) (s : List ℕ) {s₁ s₂ s₃ s₄ : List ℕ} {e : ℕ}
-      → at + 17 + width + unitAddresses (viewSettings t) families ≤ length s → f ≡ unitFamilies (viewSettings t) families
+      → at + 17 + width + unitAddresses (settingsOf v) families ≤ length s → f ≡ unitFamilies (settingsOf v) families
       → s₁ ≡ put at (be 2 kind ++ be 2 (13 + width + addressOctets f)) s
       → s₂ ≡ put (at + 4) (be 2 member ++ be 2 width) s₁
       → s₃ ≡ put (at + 8) (be width id) s₂
@@ -47,7 +48,7 @@ module _ (t : List ℕ) (long : settingsWidth ≤ length t) (teid families : ℕ
       let a : List ℕ = element member (be width id) in
       let same : length s₁ ≡ length s = length-headed at kind n s p (omega arith) in
       let la : length a ≡ 4 + width = length-element member (be width id) ∙ ap (λ (k : ℕ). 4 + k) (length-be width id) in
-      let lu : length unit ≡ 9 + addressOctets f = rw g (length-unit t long families teid) in
+      let lu : length unit ≡ 9 + addressOctets f = rw g (length-unit v families teid) in
       let first : Placed s₁ (at + 4) a (at + 8 + width) s₃ =
       placed-element (at + 4) member width s₁ q (omega arith) (at + 8) (at + 8 + width) (be width id) r (omega arith) (length-be width id) refl in
       let all-of : Placed s₁ (at + 4) (a ++ unit) e s₄ = placed-then first u (omega arith) in
@@ -60,9 +61,9 @@ one-octet : (i : ℕ) → i < 256 → be 1 i ≡ i ∷ []
 unfolding be
 one-octet i h = rw (div-one, mod-eq-of-lt h)
 
-module _ (t : List ℕ) (kind : ℕ) (g : Entry) where
+module _ (v : Unit) (kind : ℕ) (g : Entry) where
   abbrev st : Settings
-  st = viewSettings t
+  st = settingsOf v
 
   abbrev of-kind : List ℕ
   of-kind = groups (kindIn kind) st (grantOf g ∷ [])
@@ -98,12 +99,12 @@ module _ (t : List ℕ) (kind : ℕ) (g : Entry) where
   endpoint-steps e k f p = rw (endpoint-group e k f) p
 
   -- and the room that it wants
-  module _ (at n : ℕ) (long : settingsWidth ≤ length t) (room : at + length of-kind ≤ n) where
+  module _ (at n : ℕ) (room : at + length of-kind ≤ n) where
     pub pdr-room : kind ≡ 1 → g .kind ≡ 1 → at + 17 + 2 + unitAddresses st (g .families) ≤ n
-    pdr-room e k = omega (arith, ap length (pdr-group e k), length-group t long (g .teid) (g .families) 8 56 2 (g .id))
+    pdr-room e k = omega (arith, ap length (pdr-group e k), length-group v (g .teid) (g .families) 8 56 2 (g .id))
 
     pub endpoint-room : (kind ≡ 1 → ⊥) → (g .kind ≡ 1 → ⊥) → idFits (grantOf g) ≡ true → at + 17 + 1 + unitAddresses st (g .families) ≤ n
-    endpoint-room e k f = omega (arith, ap length (endpoint-group e k f), length-group t long (g .teid) (g .families) 128 131 1 (g .id))
+    endpoint-room e k f = omega (arith, ap length (endpoint-group e k f), length-group v (g .teid) (g .families) 128 131 1 (g .id))
 
 -- ---- the groups of one kind
 

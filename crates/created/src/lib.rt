@@ -2,6 +2,7 @@
 // The list is made for each request: an array of 24 entries, lent as a slice to be filled and then lent to the writer of the groups.
 // `fill`, `write_groups` and `write_created` are proved by a walk of their steps, by hand; whoever calls `write_created` names no list.
 use format::words;
+use unit::Settings;
 ghost use mathlib.Core.Path.{_≡_};
 ghost use mathlib.Core.Bool.{true};
 ghost use mathlib.Core.List.{[], _∷_, _++_};
@@ -10,9 +11,9 @@ ghost use lib.Dec.{T};
 ghost use lib.ListN.{length};
 ghost use Rattle.octets.specs.Octets.{be};
 ghost use Rattle.octets.specs.Lists.{all};
-ghost use Rattle.rules.specs.Layout.{viewSettings, settingsWidth};
 ghost use Rattle.rules.specs.Reply.{element, unitElement, created};
 ghost use Rattle.plan.specs.Rows.{rowWidth};
+ghost use Rattle.unit.specs.Meaning.{settingsOf};
 ghost use Rattle.writing.specs.Placed.{Placed};
 ghost use Rattle.writing.specs.Families.{tunnelIn, unitAddresses};
 ghost use Rattle.created.specs.Groups.{kindIn, groups, idFits};
@@ -33,7 +34,7 @@ const ENDPOINT: u64 = 127;
 
 // A group: the ID in an element of its own, then the F-TEID with the unit's addresses.
 fn write_group(
-    t: &[u8],
+    u: Settings,
     group: usize,
     member: usize,
     width: usize,
@@ -41,32 +42,32 @@ fn write_group(
     out: &mut [u8],
     at: usize,
 ) -> usize
-    requires { ⌜ (settingsWidth ≤ length (now t)) × (width ≤ 8) × (at + 17 + width + unitAddresses (viewSettings (now t)) (g .families) ≤ length (now out)) ⌝ }
-    ensures { λ r. ⌜ Placed (now (out .entry)) at (element group (element member (be width (g .id)) ++ unitElement (viewSettings (now (t .entry))) (tunnelIn (g .teid) (g .families)))) r (now (out .exit)) ⌝ }
+    requires { ⌜ (width ≤ 8) × (at + 17 + width + unitAddresses (settingsOf u) (g .families) ≤ length (now out)) ⌝ }
+    ensures { λ r. ⌜ Placed (now (out .entry)) at (element group (element member (be width (g .id)) ++ unitElement (settingsOf u) (tunnelIn (g .teid) (g .families)))) r (now (out .exit)) ⌝ }
 {
-    let f = writing::unit_families(t, g.families);
+    let f = writing::unit_families(u, g.families);
     let n = 4 * (f % 2) + 16 * (f / 2);
     writing::write_head(group, 13 + width + n, out, at);
     writing::write_head(member, width, out, at + 4);
     octets::write(out, at + 8, width, g.id);
-    writing::write_fteid(t, g.teid, g.families, out, at + 8 + width)
+    writing::write_fteid(u, g.teid, g.families, out, at + 8 + width)
 }
 
 // The group of a grant of one kind; nothing for a grant of the other.
-fn write_grant(t: &[u8], kind: u64, g: Grant, out: &mut [u8], at: usize) -> usize
-    requires { ⌜ (settingsWidth ≤ length (now t)) × (idFits (grantOf g) ≡ true) × (at + length (groups (kindIn kind) (viewSettings (now t)) (grantOf g ∷ [])) ≤ length (now out)) ⌝ }
-    ensures { λ r. ⌜ Placed (now (out .entry)) at (groups (kindIn kind) (viewSettings (now (t .entry))) (grantOf g ∷ [])) r (now (out .exit)) ⌝ }
+fn write_grant(u: Settings, kind: u64, g: Grant, out: &mut [u8], at: usize) -> usize
+    requires { ⌜ (idFits (grantOf g) ≡ true) × (at + length (groups (kindIn kind) (settingsOf u) (grantOf g ∷ [])) ≤ length (now out)) ⌝ }
+    ensures { λ r. ⌜ Placed (now (out .entry)) at (groups (kindIn kind) (settingsOf u) (grantOf g ∷ [])) r (now (out .exit)) ⌝ }
 {
     if kind == PDR {
         if g.kind != PDR {
             return at;
         }
-        return write_group(t, 8, 56, 2, g, out, at);
+        return write_group(u, 8, 56, 2, g, out, at);
     }
     if g.kind == PDR {
         return at;
     }
-    write_group(t, 128, 131, 1, g, out, at)
+    write_group(u, 128, 131, 1, g, out, at)
 }
 
 // The ID of the row's record.
@@ -108,23 +109,36 @@ fn fill(grants: &mut [Grant], plan: &[u64], places: &[usize], n: usize)
 }
 
 // The groups of the grants of one kind among the first n entries, in their order.
-fn write_groups(t: &[u8], grants: &[Grant], n: usize, kind: u64, out: &mut [u8], at: usize) -> usize
-    requires { ⌜ (settingsWidth ≤ length (now t)) × (n ≤ length (now grants)) × (all idFits (listed n (now grants)) ≡ true) × (at + length (groups (kindIn kind) (viewSettings (now t)) (listed n (now grants))) ≤ length (now out)) ⌝ }
-    ensures { λ r. ⌜ Placed (now (out .entry)) at (groups (kindIn kind) (viewSettings (now (t .entry))) (listed n (now (grants .entry)))) r (now (out .exit)) ⌝ }
+fn write_groups(
+    u: Settings,
+    grants: &[Grant],
+    n: usize,
+    kind: u64,
+    out: &mut [u8],
+    at: usize,
+) -> usize
+    requires { ⌜ (n ≤ length (now grants)) × (all idFits (listed n (now grants)) ≡ true) × (at + length (groups (kindIn kind) (settingsOf u) (listed n (now grants))) ≤ length (now out)) ⌝ }
+    ensures { λ r. ⌜ Placed (now (out .entry)) at (groups (kindIn kind) (settingsOf u) (listed n (now (grants .entry)))) r (now (out .exit)) ⌝ }
 {
     let mut next = at;
     let mut i = 0;
     while i < n {
-        next = write_grant(t, kind, grants[i], out, next);
+        next = write_grant(u, kind, grants[i], out, next);
         i += 1;
     }
     next
 }
 
 // Created PDRs, then Created Traffic Endpoints, of the grants of the plan's rows at places.
-pub fn write_created(t: &[u8], plan: &[u64], places: &[usize], out: &mut [u8], at: usize) -> usize
-    requires { ⌜ (settingsWidth ≤ length (now t)) × (length (now places) ≤ maxGrants) × T (within (now plan) (now places)) × (all idFits (grantsAt (now plan) (now places)) ≡ true) × (at + length (created (viewSettings (now t)) (grantsAt (now plan) (now places))) ≤ length (now out)) ⌝ }
-    ensures { λ r. ⌜ Placed (now (out .entry)) at (created (viewSettings (now (t .entry))) (grantsAt (now (plan .entry)) (now (places .entry)))) r (now (out .exit)) ⌝ }
+pub fn write_created(
+    u: Settings,
+    plan: &[u64],
+    places: &[usize],
+    out: &mut [u8],
+    at: usize,
+) -> usize
+    requires { ⌜ (length (now places) ≤ maxGrants) × T (within (now plan) (now places)) × (all idFits (grantsAt (now plan) (now places)) ≡ true) × (at + length (created (settingsOf u) (grantsAt (now plan) (now places))) ≤ length (now out)) ⌝ }
+    ensures { λ r. ⌜ Placed (now (out .entry)) at (created (settingsOf u) (grantsAt (now (plan .entry)) (now (places .entry)))) r (now (out .exit)) ⌝ }
 {
     let n = places.len();
     let mut grants = [Grant {
@@ -134,6 +148,6 @@ pub fn write_created(t: &[u8], plan: &[u64], places: &[usize], out: &mut [u8], a
         families: 0,
     }; format::GRANTS];
     fill(&mut grants, plan, places, n);
-    let next = write_groups(t, &grants, n, PDR, out, at);
-    write_groups(t, &grants, n, ENDPOINT, out, next)
+    let next = write_groups(u, &grants, n, PDR, out, at);
+    write_groups(u, &grants, n, ENDPOINT, out, next)
 }

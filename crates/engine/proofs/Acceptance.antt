@@ -38,12 +38,15 @@ use Rattle.areas.specs.Counted.{withRecord}
 use Rattle.session.specs.Areas.{sessionArea}
 use Rattle.session.specs.Build.{built}
 use Rattle.session.proofs.Built.{Ready}
+use Rattle.unit.specs.declared.Settings.{Settings as Unit}
+use Rattle.unit.specs.Meaning.{settingsOf}
+use Rattle.unit.proofs.FieldLaws.{first-is, size-is}
 use Rattle.engine.specs.Answers.{verdictOn, Answers, OnlyNull, Accepting}
 use Rattle.engine.proofs.Accepted.{RowsFit, TeidsStored, ready}
 use Rattle.engine.proofs.Granting.{rows-fit, teids-stored, whole-rows}
 use Rattle.engine.proofs.NewTable.{changed-table}
 
-module _ {t words msg slot gone plan out : List ℕ} {seid n : ℕ} (a : Accepting t words msg slot gone plan out seid n) where
+module _ {u : Unit} {t words msg slot gone plan out : List ℕ} {seid n : ℕ} (a : Accepting u t words msg slot gone plan out seid n) where
   abbrev s : Settings
   s = viewSettings t
 
@@ -127,19 +130,26 @@ module _ {t words msg slot gone plan out : List ℕ} {seid n : ℕ} (a : Accepti
               ∙ rw (a .verdict);
         }
 
--- the same, with the pool as it was read from the table
-module _ {t words msg slot gone plan out : List ℕ} {seid n first size : ℕ} (a : Accepting t words msg slot gone plan out seid n) (f : first ≡ number (part 21 4 t)) (z : size ≡ number (part 25 4 t)) where
-  pool-fits : size ≤ maxPool
-  unfolding viewSettings numberAt
-  pool-fits = subst (λ (k : ℕ). k ≤ maxPool) (sym z) (a .size)
+-- the same, with the settings as they were read from the table
+module _ {u : Unit} {t words msg slot gone plan out : List ℕ} {seid n : ℕ} (a : Accepting u t words msg slot gone plan out seid n) where
+  abbrev first-same : u .first ≡ viewSettings t .first
+  first-same = first-is u (viewSettings t) (a .settings)
 
-  pub grant-asks : first < 256 ^ 4 → (n * rowWidth ≤ length plan) × (size ≤ 64 * length words) × (size ≤ maxPool) × (first < 2 ^ 32) × (24 ≡ maxGrants)
-  grant-asks b = (a .rows, let h = pool-fits in let l = a .mapLong in omega arith, pool-fits, omega arith, refl)
+  abbrev size-same : u .size ≡ viewSettings t .size
+  size-same = size-is u (viewSettings t) (a .settings)
 
-  module _ {k : ℕ} {plan′ places′ : List ℕ} (g : Granted n first words size plan k plan′ places′) where
+  pub grant-asks : (n * rowWidth ≤ length plan) × (u .size ≤ 64 * length words) × (u .size ≤ maxPool) × (u .first < 2 ^ 32) × (24 ≡ maxGrants)
+  grant-asks =
+      let f = first-same in
+      let z = size-same in
+      let l = a .mapLong in
+      let small = a .size in
+      let below = a .first in
+      (a .rows, omega arith, omega arith, omega arith, refl)
+
+  module _ {k : ℕ} {plan′ places′ : List ℕ} (g : Granted n (u .first) words (u .size) plan k plan′ places′) where
     from-settings : Granted n (viewSettings t .first) words (viewSettings t .size) plan k plan′ places′
-    unfolding viewSettings numberAt
-    from-settings = subst (λ (u : ℕ). Granted n u words (number (part 25 4 t)) plan k plan′ places′) f (subst (λ (v : ℕ). Granted n first words v plan k plan′ places′) z g)
+    from-settings = subst (λ (x : ℕ). Granted n x words (viewSettings t .size) plan k plan′ places′) first-same (subst (λ (y : ℕ). Granted n (u .first) words y plan k plan′ places′) size-same g)
 
     pub read-few : k ≤ maxGrants
     read-few = few-grants a from-settings
@@ -147,9 +157,9 @@ module _ {t words msg slot gone plan out : List ℕ} {seid n first size : ℕ} (
     pub read-fit : fits.RowsFit plan′ (take k places′)
     read-fit = grants-fit a from-settings
 
-    pub read-answers : (used : ℕ) (out′ t′ : List ℕ) → (used, out′) ≡ written (reply (viewSettings t) msg seid (plain why.accepted) (grantsAt plan′ (take k places′))) out
+    pub read-answers : (used : ℕ) (out′ t′ : List ℕ) → (used, out′) ≡ written (reply (settingsOf u) msg seid (plain why.accepted) (grantsAt plan′ (take k places′))) out
         → t′ ≡ withRecord sessionArea (built gone (rowsOf n plan′) slot) t → Answers t msg out used out′ t′
-    read-answers used out′ t′ w d = accepted-answers a from-settings used out′ (built gone (rowsOf n plan′) slot) t′ w refl d
+    read-answers used out′ t′ w d = accepted-answers a from-settings used out′ (built gone (rowsOf n plan′) slot) t′ (rw (a .settings) at w) refl d
 
 -- the session built and stored
 pub kept-session : (n : ℕ) (gone plan slot slot′ t t′ : List ℕ) → slot′ ≡ built gone (rowsOf n plan) slot → t′ ≡ withRecord sessionArea slot′ t

@@ -77,10 +77,10 @@ module _ (t msg out : List ℕ) (a : Asked t msg out) (live : Live t msg) (fr : 
         }
 
 -- from what the code's readers answer
-pub deleted-through : (t msg out : List ℕ) (f : Framing) (v : read.Verdict) (seid used : ℕ) (out′ t′ : List ℕ) → Asked t msg out → Live t msg → kindOf msg ≡ deletion → seid ≡ headerSeid msg
+pub deleted-through : (s : Settings) (t msg out : List ℕ) (f : Framing) (v : read.Verdict) (seid used : ℕ) (out′ t′ : List ℕ) → Asked t msg out → Live t msg → kindOf msg ≡ deletion → seid ≡ headerSeid msg → s ≡ viewSettings t
     → faultIn f ≡ frameFault msg → f ≡ framings.Framed → outcome v (readRequest msg) ≡ numbered (reading.read msg) → v ≡ Fine
-    → (used, out′) ≡ written (reply (viewSettings t) msg 0 (plain why.accepted) []) out → t′ ≡ withoutRecord sessionArea seid t → Replies t msg out used 0 out′ t′
-deleted-through t msg out f v seid used out′ t′ a live del es fe fq ve vq w d =
+    → (used, out′) ≡ written (reply s msg 0 (plain why.accepted) []) out → t′ ≡ withoutRecord sessionArea seid t → Replies t msg out used 0 out′ t′
+deleted-through s t msg out f v seid used out′ t′ a live del es is fe fq ve vq w d =
     let fr = framed t msg out a live f fe fq in
     let rd = read-fine t msg out a live v ve vq in
-    record { answers = deleted-answers t msg out a live fr rd del seid used out′ t′ es w d; placed = sym (ap (λ (x : Verdict). x .place) (accepts t msg out a live fr rd del)) }
+    record { answers = deleted-answers t msg out a live fr rd del seid used out′ t′ es (rw is at w) d; placed = sym (ap (λ (x : Verdict). x .place) (accepts t msg out a live fr rd del)) }

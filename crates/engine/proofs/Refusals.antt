@@ -7,6 +7,7 @@ use borrow.Author.Tests.{ne-eqb}
 use lib.ListN.{length}
 use Rattle.octets.specs.Octets.{put}
 use Rattle.rules.specs.Layout.{viewSettings, viewSessions}
+use Rattle.rules.specs.Model.{Settings}
 use Rattle.rules.specs.Reading.{readRequest}
 use Rattle.rules.specs.Grants.{grants}
 use Rattle.rules.specs.Stages.{Verdict}
@@ -26,8 +27,9 @@ module _ (t msg out : List ℕ) where
       refusal-alone (viewSettings t) msg 0 (readRequest msg .seid) (refusal c o) [] (grants (viewSettings t) (viewSessions t) (readRequest msg)) h
       ∙ ap (λ (v : Verdict). reply (viewSettings t) msg (readRequest msg .seid) v (grants (viewSettings t) (viewSessions t) (readRequest msg))) (sym e)
 
-  pub refused-answers : (c : ℕ) (o : Offending) (used : ℕ) (out′ : List ℕ) → Refusing t msg out c o → (used, out′) ≡ written (reply (viewSettings t) msg 0 (refusal c o) []) out → Answers t msg out used out′ t
-  refused-answers c o used out′ k w =
+  pub refused-answers : (s : Settings) (c : ℕ) (o : Offending) (used : ℕ) (out′ : List ℕ) → Refusing t msg out c o → s ≡ viewSettings t → (used, out′) ≡ written (reply s msg 0 (refusal c o) []) out → Answers t msg out used out′ t
+  refused-answers s c o used out′ k is w′ =
+      let w : (used, out′) ≡ written (reply (viewSettings t) msg 0 (refusal c o) []) out = rw is at w′ in
       let e = k .verdict in
       let h = k .other in
       let same = alone c o (k .place) h e in

@@ -28,6 +28,9 @@ use Rattle.marking.specs.declared.Marks.{Marks}
 use Rattle.marking.specs.declared.Marks.the-variants.{Clash, New}
 use Rattle.table.specs.Answers.{Examined}
 use Rattle.table.proofs.Examining.{sound-no, sound-yes}
+use Rattle.unit.specs.declared.Settings.{Settings as Unit}
+use Rattle.unit.specs.Meaning.{settingsOf}
+use Rattle.unit.proofs.FieldLaws.{size-is}
 use Rattle.engine.specs.Answers.{Asked, Replies, verdictOn}
 use Rattle.engine.specs.Steps.{Counted, Serves}
 
@@ -125,6 +128,11 @@ module _ (t msg out : List ℕ) where
                 long = a .long;
               }
 
-      pub counts : {size : ℕ} → length w ≡ mapWords → size ≡ number (part 25 4 t) → Counted t w (size - held)
-      unfolding freeCount viewSettings numberAt
-      counts l z = record { marks = x .words held e; long = l; count = ap₂ (λ (a b : ℕ). a - b) z is-held }
+      pub counts : {u : Unit} → length w ≡ mapWords → settingsOf u ≡ viewSettings t → Counted u t w (u .size - held)
+      unfolding freeCount
+      counts {u} l z = record { settings = z; marks = x .words held e; long = l; count = ap₂ (λ (a b : ℕ). a - b) (size-is u (viewSettings t) z) is-held }
+
+-- the size is at its place in the table
+pub size-read : (t : List ℕ) (u : Unit) → settingsOf u ≡ viewSettings t → u .size ≡ number (part 25 4 t)
+unfolding viewSettings numberAt
+size-read t u e = size-is u (viewSettings t) e

@@ -3,7 +3,7 @@
 use mathlib.Core.Path.{_≡_, sym, ap, _∙_, subst}
 use mathlib.Core.Bool.{Bool, true, false, _&&_}
 use mathlib.Core.List.{List}
-use Prim.Native.Nat.{ℕ, _≤_, _<_}
+use Prim.Native.Nat.{ℕ, _+_, _≤_, _<_, _^_}
 use native.Mathlib.Omega.{arith}
 use lib.Dec.{T, eqb, leb→le}
 use Rattle.octets.specs.Choice.{pick}
@@ -20,6 +20,8 @@ use Rattle.claim.proofs.ServeLaws.{TableKept, table-kept}
 use Rattle.claim.proofs.FreeTeids.{held-in-pool}
 use Rattle.pool.proofs.TakenLaws.{Means, map-means}
 use Rattle.plan.specs.Rows.{rowsOf, requestIn}
+use Rattle.unit.specs.declared.Settings.{Settings as Unit}
+use Rattle.unit.specs.Meaning.{settingsOf}
 use Rattle.reply.specs.declared.Offending.the-variants.{Nothing}
 use Rattle.stages.specs.Rules.{Gone, AtEntry}
 use Rattle.stages.proofs.SlotLaws.{removed-rows}
@@ -48,7 +50,16 @@ pool-small s h =
     let pool = each (poolTests (s .first) (s .size)) (tests .1 .1 .1 .1 .0) in
     leb→le (s .size) maxPool (pool .1 .1 .0)
 
-module _ {t msg out plan words slot gone : List ℕ} {kind seid n free : ℕ} {restoring noted live : Bool} (r : Readable t msg out plan kind seid n restoring noted) (k : Counted t words free) (e : Entered t msg kind seid live slot) (g : Gone slot (rowsOf n plan) gone) where
+pool-below : (s : Settings) → T (settingsAllowed s) → s .first < 2 ^ 32
+unfolding settingsAllowed settingsTests poolTests
+pool-below s h =
+    let tests = each (settingsTests s) h in
+    let pool = each (poolTests (s .first) (s .size)) (tests .1 .1 .1 .1 .0) in
+    let some = leb→le 1 (s .size) (pool .1 .0) in
+    let last = leb→le (s .first + s .size) (2 ^ 32) (pool .1 .1 .1 .0) in
+    omega arith
+
+module _ {u : Unit} {t msg out plan words slot gone : List ℕ} {kind seid n free : ℕ} {restoring noted live : Bool} (r : Readable t msg out plan kind seid n restoring noted) (k : Counted u t words free) (e : Entered t msg kind seid live slot) (g : Gone slot (rowsOf n plan) gone) where
   kept : TableKept maxSessions t
   kept = table-kept maxSessions t (r .asked .table)
 
@@ -58,19 +69,19 @@ module _ {t msg out plan words slot gone : List ℕ} {kind seid n free : ℕ} {r
       (map-means (viewSettings t) (viewSessions t) (kept .settings) (held-in-pool maxSessions (viewSettings t) (viewSessions t) (kept .sessions)))
 
   -- what stages 4 to 6 ask
-  pub entry-asks : AtEntry t words slot gone plan n free kind seid live
-  entry-asks = at-entry t words slot gone plan n free kind seid live (r .asked .table) (e .place) (r .rows) g (k .long) marked-held (k .count) (e .known)
+  pub entry-asks : AtEntry (settingsOf u) t words slot gone plan n free kind seid live
+  entry-asks = at-entry (settingsOf u) t words slot gone plan n free kind seid live (k .settings) (r .asked .table) (e .place) (r .rows) g (k .long) marked-held (k .count) (e .known)
 
   abbrev judgement : Verdict
-  judgement = judge maxSessions kind (viewSettings t) (viewSessions t) (viewSession slot) (requestIn seid restoring noted (rowsOf n plan))
+  judgement = judge maxSessions kind (settingsOf u) (viewSessions t) (viewSession slot) (requestIn seid restoring noted (rowsOf n plan))
 
   same-judgement : verdictOn t msg ≡ judgement
   unfolding judged
-  same-judgement = r .verdict ∙ (λ i. judge maxSessions (sym (r .kindIs) i) (viewSettings t) (viewSessions t) (sym (e .viewed) i) (r .means i))
+  same-judgement = r .verdict ∙ (λ i. judge maxSessions (sym (r .kindIs) i) (sym (k .settings) i) (viewSessions t) (sym (e .viewed) i) (r .means i))
 
   same-verdict : (c : ℕ) → c ≡ judgement .cause → verdictOn t msg ≡ plain c
   same-verdict c q =
-      same-judgement ∙ judge-plain maxSessions kind (viewSettings t) (viewSessions t) (viewSession slot) (requestIn seid restoring noted (rowsOf n plan)) ∙ ap plain (sym q)
+      same-judgement ∙ judge-plain maxSessions kind (settingsOf u) (viewSessions t) (viewSession slot) (requestIn seid restoring noted (rowsOf n plan)) ∙ ap plain (sym q)
 
   same-removed : gone ≡ removedPdrs (readRequest msg) (entrySession (viewSessions t) msg .pdrs)
   same-removed =
@@ -83,11 +94,11 @@ module _ {t msg out plan words slot gone : List ℕ} {kind seid n free : ℕ} {r
         asked = r .asked;
         place = 0;
         verdict = same-verdict c q;
-        small = subst (λ (z : ℕ). z < 256) (sym q) (judge-small maxSessions kind (viewSettings t) (viewSessions t) (viewSession slot) (requestIn seid restoring noted (rowsOf n plan)));
+        small = subst (λ (z : ℕ). z < 256) (sym q) (judge-small maxSessions kind (settingsOf u) (viewSessions t) (viewSession slot) (requestIn seid restoring noted (rowsOf n plan)));
         other = o;
       }
 
-  pub settle-accepts : (c : ℕ) → c ≡ judgement .cause → c ≡ 1 → Accepting t words msg slot gone plan out seid n
+  pub settle-accepts : (c : ℕ) → c ≡ judgement .cause → c ≡ 1 → Accepting u t words msg slot gone plan out seid n
   settle-accepts c q o =
       record {
         asked = r .asked;
@@ -103,5 +114,7 @@ module _ {t msg out plan words slot gone : List ℕ} {kind seid n free : ℕ} {r
         removed = same-removed;
         marks = k .marks;
         mapLong = k .long;
+        settings = k .settings;
+        first = pool-below (viewSettings t) (kept .settings);
         size = pool-small (viewSettings t) (kept .settings);
       }

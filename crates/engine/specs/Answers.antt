@@ -1,6 +1,6 @@
 -- What the functions that answer a request know at entry, and what they leave: the reply and the table of the rules' verdict.
 -- Assumes nothing.
-use Prim.Native.Nat.{ℕ, _*_, _≤_, _<_}
+use Prim.Native.Nat.{ℕ, _*_, _≤_, _<_, _^_}
 use mathlib.Core.Path.{_≡_}
 use mathlib.Core.Bool.{Bool, true, false}
 use mathlib.Core.List.{List, []}
@@ -19,6 +19,8 @@ use Rattle.rules.specs.Serve.{sessionsAfter, replyTo}
 use Rattle.plan.specs.Rows.{rowWidth, rowsOf, tagged, rowCsid, isNullRow, requestIn}
 use Rattle.rules.specs.Types as ie
 use Rattle.rules.specs.Causes as why
+use Rattle.unit.specs.declared.Settings.{Settings as Unit}
+use Rattle.unit.specs.Meaning.{settingsOf}
 use Rattle.reply.specs.declared.Offending.{Offending}
 use Rattle.reply.specs.Naming.{refusal}
 
@@ -71,7 +73,7 @@ OnlyNull rows = any isNullRow (tagged ie.fqcsid rows) ≡ true → collect rowCs
 
 -- the verdict is acceptance: the plan is the request's, the slot holds the session at entry, those of its PDRs that go are the rules', and the
 -- map marks the TEIDs held
-pub record Accepting (t words msg slot gone plan out : List ℕ) (seid n : ℕ) : Type 0 where
+pub record Accepting (u : Unit) (t words msg slot gone plan out : List ℕ) (seid n : ℕ) : Type 0 where
   pub asked : Asked t msg out
   pub verdict : verdictOn t msg ≡ plain why.accepted
   pub other : eqb (kindOf msg) deletion ≡ false
@@ -85,4 +87,6 @@ pub record Accepting (t words msg slot gone plan out : List ℕ) (seid n : ℕ) 
   pub removed : gone ≡ removedPdrs (readRequest msg) (entrySession (viewSessions t) msg .pdrs)
   pub marks : words ≡ takenMap (viewSettings t) (viewSessions t)
   pub mapLong : length words ≡ mapWords
+  pub settings : settingsOf u ≡ viewSettings t
+  pub first : viewSettings t .first < 2 ^ 32
   pub size : viewSettings t .size ≤ maxPool

@@ -19,12 +19,15 @@ use Rattle.rules.specs.Serve.{replyTo, serve}
 use Rattle.plan.specs.Rows.{rowWidth, rowsOf, requestIn}
 use Rattle.areas.specs.Counted.{areaIn, placeIn}
 use Rattle.session.specs.Areas.{sessionArea}
+use Rattle.unit.specs.declared.Settings.{Settings as Unit}
+use Rattle.unit.specs.Meaning.{settingsOf}
 use Rattle.slots.specs.declared.Place.the-variants.{Found}
 use Rattle.stages.specs.Rules.{Slot}
 use Rattle.engine.specs.Answers.{Asked, Live, verdictOn, OnlyNull}
 
--- the map of taken TEIDs and the free count are the table's
-pub record Counted (t words : List ℕ) (free : ℕ) : Type 0 where
+-- the settings, the map of taken TEIDs and the free count are the table's
+pub record Counted (u : Unit) (t words : List ℕ) (free : ℕ) : Type 0 where
+  pub settings : settingsOf u ≡ viewSettings t
   pub marks : words ≡ takenMap (viewSettings t) (viewSessions t)
   pub long : length words ≡ mapWords
   pub count : free ≡ freeCount (viewSettings t) (viewSessions t)

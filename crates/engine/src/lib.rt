@@ -5,6 +5,7 @@ ghost use Prim.Native.Nat.{_*_, _≤_};
 ghost use lib.ListN.{length};
 ghost use Rattle.rules.specs.Message.{kindOf, headerSeid, deletion};
 ghost use Rattle.plan.specs.Rows.{rowWidth, rowsOf};
+ghost use Rattle.unit.specs.Meaning.{settingsOf};
 ghost use Rattle.areas.specs.Counted.{withRecord};
 ghost use Rattle.session.specs.Areas.{sessionArea};
 ghost use Rattle.session.specs.Build.{built};
@@ -12,7 +13,7 @@ ghost use Rattle.engine.specs.Answers.{Asked, Live, Answers, Replies, Re
 ghost use Rattle.engine.specs.Steps.{Counted, Fetching, Fetched, Entered, Readable, Changing, Serves};
 ghost use lib.Dec.{T};
 ghost use Rattle.rules.specs.Limits.{maxSessions};
-ghost use Rattle.rules.specs.Layout.{viewSessions, sessionWidth, tableLength};
+ghost use Rattle.rules.specs.Layout.{viewSettings, viewSessions, sessionWidth, tableLength};
 ghost use Rattle.rules.specs.Sound.{sound};
 ghost use Rattle.rules.specs.Stages.{isLive};
 use format::causes;
@@ -25,6 +26,7 @@ use reply::Offending;
 use request::Plan;
 use request::Reading;
 use slots::Place;
+use unit::Settings;
 
 // A reply: how many octets of the reply space hold it, and the place in the message of a fault of stages 2 and 3, else 0.
 pub struct Replied {
@@ -33,21 +35,35 @@ pub struct Replied {
 }
 
 // The reply of a refusal; the table stays.
-fn refuse(t: &[u8], msg: &[u8], cause: u64, offending: Offending, out: &mut [u8]) -> usize
-    requires { ⌜ Refusing (now t) (now msg) (now out) cause offending ⌝ }
+fn refuse(
+    t: &[u8],
+    u: Settings,
+    msg: &[u8],
+    cause: u64,
+    offending: Offending,
+    out: &mut [u8],
+) -> usize
+    requires { ⌜ Refusing (now t) (now msg) (now out) cause offending × (settingsOf u ≡ viewSettings (now t)) ⌝ }
     ensures { λ r. ⌜ Answers (now (t .entry)) (now (msg .entry)) (now (out .entry)) r (now (out .exit)) (now (t .entry)) ⌝ }
 {
-    reply::refused(t, msg, cause as u8, offending, out)
+    reply::refused(u, msg, cause as u8, offending, out)
 }
 
 // A deletion of a live session.
-fn delete(t: &mut [u8], msg: &[u8], seid: u64, out: &mut [u8]) -> Replied
-    requires { ⌜ Asked (now t) (now msg) (now out) × Live (now t) (now msg) × (kindOf (now msg) ≡ deletion) × (seid ≡ headerSeid (now msg)) ⌝ }
+fn delete(t: &mut [u8], u: Settings, msg: &[u8], seid: u64, out: &mut [u8]) -> Replied
+    requires { ⌜ Asked (now t) (now msg) (now out) × Live (now t) (now msg) × (kindOf (now msg) ≡ deletion) × (seid ≡ headerSeid (now msg)) × (settingsOf u ≡ viewSettings (now t)) ⌝ }
     ensures { λ r. ⌜ Replies (now (t .entry)) (now (msg .entry)) (now (out .entry)) (r .used) (r .place) (now (out .exit)) (now (t .exit)) ⌝ }
 {
     let framing = frame::frame_fault(msg);
     if let Framing::Fault(kind, place) = framing {
-        let used = refuse(t, msg, causes::WRONG_LENGTH, Offending::Element(kind), out);
+        let used = refuse(
+            t,
+            u,
+            msg,
+            causes::WRONG_LENGTH,
+            Offending::Element(kind),
+            out,
+        );
         return Replied {
             used: used,
             place: place,
@@ -55,7 +71,7 @@ fn delete(t: &mut [u8], msg: &[u8], seid: u64, out: &mut [u8]) -> Replied
     }
     let verdict = request::read_deletion(msg);
     if let Verdict::Refused(cause, kind, place) = verdict {
-        let used = refuse(t, msg, cause, Offending::Element(kind), out);
+        let used = refuse(t, u, msg, cause, Offending::Element(kind), out);
         return Replied {
             used: used,
             place: place,
@@ -63,7 +79,7 @@ fn delete(t: &mut [u8], msg: &[u8], seid: u64, out: &mut [u8]) -> Replied
     }
     let plan = [0u64; 1];
     let places = [0usize; 1];
-    let used = reply::accepted(t, msg, 0, &plan[0..0], &places[0..0], out);
+    let used = reply::accepted(u, msg, 0, &plan[0..0], &places[0..0], out);
     store::remove(t, seid);
     Replied {
         used: used,
@@ -83,6 +99,7 @@ fn keep(t: &mut [u8], slot: &mut [u8], gone: &[u64], plan: &[u64], n: usize)
 // An accepted establishment or modification: the TEIDs, the reply, the session in its slot, and the slot in the table.
 fn accept(
     t: &mut [u8],
+    u: Settings,
     taken: Taken,
     msg: &[u8],
     seid: u64,
@@ -92,15 +109,13 @@ fn accept(
     n: usize,
     out: &mut [u8],
 ) -> usize
-    requires { ⌜ Accepting (now t) (taken .words) (now msg) (now slot) (now gone) (now plan) (now out) seid n ⌝ }
+    requires { ⌜ Accepting u (now t) (taken .words) (now msg) (now slot) (now gone) (now plan) (now out) seid n ⌝ }
     ensures { λ r. ⌜ Answers (now (t .entry)) (now (msg .entry)) (now (out .entry)) r (now (out .exit)) (now (t .exit)) ⌝ }
 {
     let words = taken.words;
-    let first = octets::read(t, format::FIRST, 4);
-    let size = octets::read(t, format::SIZE, 4) as usize;
     let mut places = [0usize; format::GRANTS];
-    let k = grants::grant(plan, n, &words, first, size, &mut places);
-    let used = reply::accepted(t, msg, seid, plan, &places[..k], out);
+    let k = grants::grant(plan, n, &words, u, &mut places);
+    let used = reply::accepted(u, msg, seid, plan, &places[..k], out);
     keep(t, slot, gone, plan, n);
     used
 }
@@ -134,6 +149,7 @@ fn enter(t: &[u8], kind: u64, seid: u64, p: usize, slot: &mut [u8]) -> bool
 // Stages 4 to 6 of a request that was read, and what follows. The PDRs that go are named once, for the stages and for the new session.
 fn settle(
     t: &mut [u8],
+    u: Settings,
     taken: Taken,
     free: usize,
     msg: &[u8],
@@ -144,7 +160,7 @@ fn settle(
     read: Plan,
     out: &mut [u8],
 ) -> usize
-    requires { ⌜ Readable (now t) (now msg) (now out) (now plan) kind (read .seid) (read .rows) (read .restoring) (read .noted) × Counted (now t) (taken .words) free × Entered (now t) (now msg) kind (read .seid) live (now slot) ⌝ }
+    requires { ⌜ Readable (now t) (now msg) (now out) (now plan) kind (read .seid) (read .rows) (read .restoring) (read .noted) × Counted u (now t) (taken .words) free × Entered (now t) (now msg) kind (read .seid) live (now slot) ⌝ }
     ensures { λ r. ⌜ Answers (now (t .entry)) (now (msg .entry)) (now (out .entry)) r (now (out .exit)) (now (t .exit)) ⌝ }
 {
     let words = taken.words;
@@ -152,6 +168,7 @@ fn settle(
     let k = stages::session::removed(slot, plan, read.rows, &mut gone);
     let cause = stages::judge(
         t,
+        u,
         &words,
         free,
         kind,
@@ -165,10 +182,11 @@ fn settle(
         read.noted,
     );
     if cause != causes::ACCEPTED {
-        return refuse(t, msg, cause, Offending::Nothing, out);
+        return refuse(t, u, msg, cause, Offending::Nothing, out);
     }
     accept(
         t,
+        u,
         Taken { words: words },
         msg,
         read.seid,
@@ -183,6 +201,7 @@ fn settle(
 // An establishment, or the modification of the session at the place p.
 fn change(
     t: &mut [u8],
+    u: Settings,
     taken: Taken,
     free: usize,
     msg: &[u8],
@@ -190,14 +209,14 @@ fn change(
     p: usize,
     out: &mut [u8],
 ) -> Replied
-    requires { ⌜ Changing (now t) (now msg) (now out) kind p × Counted (now t) (taken .words) free ⌝ }
+    requires { ⌜ Changing (now t) (now msg) (now out) kind p × Counted u (now t) (taken .words) free ⌝ }
     ensures { λ r. ⌜ Replies (now (t .entry)) (now (msg .entry)) (now (out .entry)) (r .used) (r .place) (now (out .exit)) (now (t .exit)) ⌝ }
 {
     let mut plan = [0u64; format::PLAN];
     let reading = request::read_request(msg, &mut plan);
     match reading {
         Reading::Fault(cause, element, place) => {
-            let used = refuse(t, msg, cause, Offending::Element(element), out);
+            let used = refuse(t, u, msg, cause, Offending::Element(element), out);
             return Replied {
                 used: used,
                 place: place,
@@ -208,6 +227,7 @@ fn change(
             let live = enter(t, kind, read.seid, p, &mut slot);
             let used = settle(
                 t,
+                u,
                 taken,
                 free,
                 msg,
@@ -229,6 +249,7 @@ fn change(
 // A request whose header is allowed.
 fn answer(
     t: &mut [u8],
+    u: Settings,
     taken: Taken,
     free: usize,
     msg: &[u8],
@@ -236,16 +257,16 @@ fn answer(
     seid: u64,
     out: &mut [u8],
 ) -> Replied
-    requires { ⌜ Asked (now t) (now msg) (now out) × Counted (now t) (taken .words) free × (kind ≡ kindOf (now msg)) × (seid ≡ headerSeid (now msg)) ⌝ }
+    requires { ⌜ Asked (now t) (now msg) (now out) × Counted u (now t) (taken .words) free × (kind ≡ kindOf (now msg)) × (seid ≡ headerSeid (now msg)) ⌝ }
     ensures { λ r. ⌜ Replies (now (t .entry)) (now (msg .entry)) (now (out .entry)) (r .used) (r .place) (now (out .exit)) (now (t .exit)) ⌝ }
 {
     if kind == kinds::ESTABLISHMENT {
-        return change(t, taken, free, msg, kind, 0, out);
+        return change(t, u, taken, free, msg, kind, 0, out);
     }
     let place = store::find(t, seid);
     match place {
         Place::Absent(p) => {
-            let used = refuse(t, msg, causes::NO_SESSION, Offending::Nothing, out);
+            let used = refuse(t, u, msg, causes::NO_SESSION, Offending::Nothing, out);
             return Replied {
                 used: used,
                 place: 0,
@@ -253,9 +274,9 @@ fn answer(
         }
         Place::Found(p) => {
             if kind == kinds::DELETION {
-                return delete(t, msg, seid, out);
+                return delete(t, u, msg, seid, out);
             }
-            return change(t, taken, free, msg, kind, p, out);
+            return change(t, u, taken, free, msg, kind, p, out);
         }
     }
 }
@@ -297,8 +318,9 @@ pub fn serve(t: &mut [u8], msg: &[u8], out: &mut [u8]) -> Served
         Header::Malformed => return unserved(4),
         Header::NotServed => return unserved(5),
         Header::Request(kind, seid) => {
-            let free = octets::read(t, format::SIZE, 4) as usize - held;
-            let replied = answer(t, Taken { words: words }, free, msg, kind, seid, out);
+            let u = unit::read(t);
+            let free = u.size as usize - held;
+            let replied = answer(t, u, Taken { words: words }, free, msg, kind, seid, out);
             return Served {
                 outcome: 0,
                 used: replied.used,

@@ -2,6 +2,7 @@
 // A plan has rows of 18 words. A TEID goes into its row, where crate `created` reads it for the list of grants.
 use format::types;
 use format::words;
+use unit::Settings;
 ghost use mathlib.Core.Path.{_≡_};
 ghost use mathlib.Core.List.{_++_};
 ghost use Prim.Native.Nat.{_+_, _*_, _^_, _≤_, _<_};
@@ -126,9 +127,9 @@ fn teid_for(
 }
 
 // The TEIDs of the plan's rows at these places, one for each.
-fn fill(plan: &[u64], places: &[usize], words: &[u64], first: u64, size: usize, teids: &mut [u64])
-    requires { ⌜ T (within (now plan) (now places)) × (size ≤ 64 * length (now words)) × (size ≤ maxPool) × (first < 2 ^ 32) × (length (now places) ≤ length (now teids)) ⌝ }
-    ensures { λ _. ⌜ now (teids .exit) ≡ sets (now (teids .entry)) 0 (teidsAt first (now (words .entry)) size (now (plan .entry)) (now (places .entry))) ⌝ }
+fn fill(plan: &[u64], places: &[usize], words: &[u64], u: Settings, teids: &mut [u64])
+    requires { ⌜ T (within (now plan) (now places)) × (u .size ≤ 64 * length (now words)) × (u .size ≤ maxPool) × (u .first < 2 ^ 32) × (length (now places) ≤ length (now teids)) ⌝ }
+    ensures { λ _. ⌜ now (teids .exit) ≡ sets (now (teids .entry)) 0 (teidsAt (u .first) (now (words .entry)) (u .size) (now (plan .entry)) (now (places .entry))) ⌝ }
 {
     let mut known = [0u64; IDS];
     let mut from: usize = 0;
@@ -136,7 +137,14 @@ fn fill(plan: &[u64], places: &[usize], words: &[u64], first: u64, size: usize, 
     while i < places.len() {
         let p = places[i];
         let row = &plan[p..p + format::ROW];
-        let g = teid_for(&mut known, choose_id(row), words, first, from, size);
+        let g = teid_for(
+            &mut known,
+            choose_id(row),
+            words,
+            u.first,
+            from,
+            u.size as usize,
+        );
         teids[i] = g.teid;
         from = g.next;
         i += 1;
@@ -157,21 +165,14 @@ fn store(plan: &mut [u64], places: &[usize], teids: &[u64])
 
 // Grants a TEID to each row that chooses, at most 24, and writes it into the row. `places` gets where those rows begin, in the order
 // in which the TEIDs are given; the answer is how many there are. `words` is the map of taken TEIDs.
-pub fn grant(
-    plan: &mut [u64],
-    n: usize,
-    words: &[u64],
-    first: u64,
-    size: usize,
-    places: &mut [usize],
-) -> usize
-    requires { ⌜ (n * rowWidth ≤ length (now plan)) × (size ≤ 64 * length (now words)) × (size ≤ maxPool) × (first < 2 ^ 32) × (length (now places) ≡ maxGrants) ⌝ }
-    ensures { λ r. ⌜ Granted n first (now (words .entry)) size (now (plan .entry)) r (now (plan .exit)) (now (places .exit)) ⌝ }
+pub fn grant(plan: &mut [u64], n: usize, words: &[u64], u: Settings, places: &mut [usize]) -> usize
+    requires { ⌜ (n * rowWidth ≤ length (now plan)) × (u .size ≤ 64 * length (now words)) × (u .size ≤ maxPool) × (u .first < 2 ^ 32) × (length (now places) ≡ maxGrants) ⌝ }
+    ensures { λ r. ⌜ Granted n (u .first) (now (words .entry)) (u .size) (now (plan .entry)) r (now (plan .exit)) (now (places .exit)) ⌝ }
 {
     let mut teids = [0u64; format::GRANTS];
     let k = find_places(plan, n, types::CREATE_ENDPOINT, places, 0);
     let m = find_places(plan, n, types::CREATE_PDR, places, k);
-    fill(plan, &places[..m], words, first, size, &mut teids);
+    fill(plan, &places[..m], words, u, &mut teids);
     store(plan, &places[..m], &teids);
     m
 }

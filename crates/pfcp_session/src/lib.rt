@@ -4,7 +4,7 @@
 ghost use mathlib.Core.Path.{_≡_};
 ghost use Rattle.rules.specs.Limits.{maxSessions};
 ghost use Rattle.rules.specs.Layout.{tableLength};
-ghost use Rattle.table.specs.Answers.{settingsOf};
+ghost use Rattle.unit.specs.Meaning.{settingsGiven};
 ghost use Rattle.pfcp_session.specs.Calls.{makeCall, countCall, requestCall, restorationCall};
 
 // Outcomes of making a table.
@@ -36,7 +36,7 @@ pub extern "C" fn pfcp_make_table(
 ) -> u32
     ensures { λ r.
         ⌜ record { outcome = r; table = now (table .exit) }
-        ≡ makeCall (settingsOf ipv4 (now (ipv6 .entry)) first size) (now (table .entry)) ⌝ }
+        ≡ makeCall (settingsGiven ipv4 (now (ipv6 .entry)) first size) (now (table .entry)) ⌝ }
 {
     let answer = table::make(table, ipv4, ipv6, first, size);
     match answer {

@@ -12,7 +12,8 @@ use Rattle.octets.specs.Lists.{keep}
 use Rattle.octets.proofs.Numbers.{length-be}
 use Rattle.octets.proofs.Tests.{pick-either}
 use Rattle.rules.specs.Model.{Settings, Tunnel}
-use Rattle.rules.specs.Layout.{viewSettings}
+use Rattle.unit.specs.declared.Settings.{Settings as Unit}
+use Rattle.unit.specs.Meaning.{settingsOf}
 use Rattle.rules.specs.Elements.{fteidOctets, unitFteid, fseidOctets}
 use Rattle.rules.specs.Grants.{Kind, ofPdr, ofEndpoint, Grant, sameKind, isKind, grantsOf}
 use Rattle.rules.specs.Stages.{Verdict}
@@ -35,13 +36,14 @@ grant k i t = record { kind = k; id = i; local = t }
 length-part-most : (at n : ℕ) (xs : List ℕ) → length (part at n xs) ≤ n
 length-part-most at n xs = le-trans (le-of-eq (length-take n (drop at xs))) (min-le-left n (length (drop at xs)))
 
-pub view-ipv4 : (t : List ℕ) → length (viewSettings t .ipv4) ≤ 4
-unfolding viewSettings
-view-ipv4 t = length-part-most 0 4 t
+pub unit-ipv4 : (u : Unit) → length (settingsOf u .ipv4) ≤ 4
+unfolding settingsOf
+unit-ipv4 u = omega (arith, length-be 4 (u .ipv4))
 
-pub view-ipv6 : (t : List ℕ) → length (viewSettings t .ipv6) ≤ 16
-unfolding viewSettings
-view-ipv6 t = pick-either (atMost 16) (eqb (octetAt t 4) 0) [] (part 5 16 t) (omega arith) (length-part-most 5 16 t)
+pub unit-ipv6 : (u : Unit) → length (settingsOf u .ipv6) ≤ 16
+unfolding settingsOf
+unit-ipv6 u =
+    pick-either (atMost 16) (u .«has_ipv6») (be 8 (u .high) ++ be 8 (u .low)) [] (omega (arith, length-append (be 8 (u .high)) (be 8 (u .low)), length-be 8 (u .high), length-be 8 (u .low))) (omega arith)
 
 pub length-offending : (o : Option ℕ) → length (offendingElement o) ≤ 6
 unfolding offendingElement

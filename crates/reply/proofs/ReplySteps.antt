@@ -10,7 +10,8 @@ use lib.ListN.{length, getD, take, drop}
 use Rattle.octets.specs.Octets.{put, part, number, numberAt, octetAt}
 use Rattle.laws.proofs.ReplyLaws.{sequence-three}
 use Rattle.rules.specs.Model.{Settings}
-use Rattle.rules.specs.Layout.{viewSettings}
+use Rattle.unit.specs.declared.Settings.{Settings as Unit}
+use Rattle.unit.specs.Meaning.{settingsOf}
 use Rattle.rules.specs.Message.{kindOf, headerSeid, sequenceOf, establishment}
 use Rattle.rules.specs.Grants.{Grant}
 use Rattle.rules.specs.Stages.{Verdict, plain}
@@ -19,20 +20,20 @@ use Rattle.rules.specs.Types as ie
 use Rattle.rules.specs.Causes as why
 use Rattle.writing.specs.Placed.{Placed, written}
 use Rattle.reply.specs.Parts.{replyHead, bodyFront}
-use Rattle.reply.proofs.LengthLaws.{view-ipv4, view-ipv6, length-node, length-front, length-fseid, length-created-most, length-body}
+use Rattle.reply.proofs.LengthLaws.{unit-ipv4, unit-ipv6, length-node, length-front, length-fseid, length-created-most, length-body}
 use Rattle.writing.specs.Heads.{messageHead}
 use Rattle.writing.proofs.PlacedLaws.{placed-then}
 use Rattle.writing.proofs.ElementSteps.{placed-message}
 
 -- ---- the first elements
 
-module _ (t : List ℕ) (kind cause : ℕ) (out : List ℕ) (room : 30 ≤ length out) {next : ℕ} {out₁ : List ℕ} (p : Placed out 16 (nodeIdElement kind (viewSettings t)) next out₁) where
+module _ (u : Unit) (kind cause : ℕ) (out : List ℕ) (room : 30 ≤ length out) {next : ℕ} {out₁ : List ℕ} (p : Placed out 16 (nodeIdElement kind (settingsOf u)) next out₁) where
   pub front-room : length out₁ ≡ length out → next + 5 ≤ length out₁
-  front-room l = let e = p .ends in omega (arith, length-node (viewSettings t) (view-ipv4 t) kind)
+  front-room l = let e = p .ends in omega (arith, length-node (settingsOf u) (unit-ipv4 u) kind)
 
-  pub front-steps : {end : ℕ} {out₂ : List ℕ} → Placed out₁ next (element ie.cause (cause ∷ [])) end out₂ → Placed out 16 (bodyFront kind (viewSettings t) cause) end out₂
+  pub front-steps : {end : ℕ} {out₂ : List ℕ} → Placed out₁ next (element ie.cause (cause ∷ [])) end out₂ → Placed out 16 (bodyFront kind (settingsOf u) cause) end out₂
   unfolding bodyFront
-  front-steps q = placed-then p q (omega (arith, length-node (viewSettings t) (view-ipv4 t) kind))
+  front-steps q = placed-then p q (omega (arith, length-node (settingsOf u) (unit-ipv4 u) kind))
 
 -- ---- the header
 
@@ -87,9 +88,9 @@ module _ (s : Settings) (kind : ℕ) where
 
 -- ---- what a refusal and an acceptance write
 
-module _ (t msg out : List ℕ) (header : 16 ≤ length msg) (space : 1024 ≤ length out) where
+module _ (u : Unit) (msg out : List ℕ) (header : 16 ≤ length msg) (space : 1024 ≤ length out) where
   abbrev st : Settings
-  st = viewSettings t
+  st = settingsOf u
 
   abbrev kind : ℕ
   kind = getD msg 1 0
@@ -100,22 +101,22 @@ module _ (t msg out : List ℕ) (header : 16 ≤ length msg) (space : 1024 ≤ l
   unfolding kindOf octetAt
   refused-steps cause o n p q r =
       let v : Verdict = record { cause = cause; offending = o; place = 0 } in
-      whole st msg 0 v [] out header (omega (arith, length-body st (view-ipv4 t) (view-ipv6 t) kind 0 v [] (omega arith)))
-      (rw (refused-body st kind cause o n) at (placed-then p q (omega (arith, length-front st (view-ipv4 t) kind cause)))) r
+      whole st msg 0 v [] out header (omega (arith, length-body st (unit-ipv4 u) (unit-ipv6 u) kind 0 v [] (omega arith)))
+      (rw (refused-body st kind cause o n) at (placed-then p q (omega (arith, length-front st (unit-ipv4 u) kind cause)))) r
 
   module _ (gs : List Grant) (few : length gs ≤ 24) (seid : ℕ) where
     -- how long the elements are at most
     pub accepted-room : length (bodyFront kind st 1) + (length (unitFseid kind st seid) + length (created st gs)) ≤ 967
     accepted-room =
-        omega (arith, length-front st (view-ipv4 t) kind 1, length-fseid st (view-ipv4 t) kind seid, length-created-most st (view-ipv4 t) (view-ipv6 t) gs)
+        omega (arith, length-front st (unit-ipv4 u) kind 1, length-fseid st (unit-ipv4 u) kind seid, length-created-most st (unit-ipv4 u) (unit-ipv6 u) gs)
 
     pub accepted-steps : {out₁ out₂ out₃ out₄ : List ℕ} {next own end : ℕ}
         → Placed out 16 (bodyFront kind st 1) next out₁ → Placed out₁ next (unitFseid kind st seid) own out₂ → Placed out₂ own (created st gs) end out₃
         → length out₁ ≡ length out → out₄ ≡ put 0 (replyHead msg seid 1 (end - 16)) out₃
         → (end, out₄) ≡ written (reply st msg seid (plain why.accepted) gs) out
     unfolding kindOf octetAt
-    accepted-steps {next = next} p q u same r =
+    accepted-steps {next = next} p q w same r =
         let ends = p .ends in
-        let rest = placed-then q u (omega (arith, accepted-room)) in
-        whole st msg seid (plain why.accepted) gs out header (omega (arith, length-body st (view-ipv4 t) (view-ipv6 t) kind seid (plain why.accepted) gs few))
+        let rest = placed-then q w (omega (arith, accepted-room)) in
+        whole st msg seid (plain why.accepted) gs out header (omega (arith, length-body st (unit-ipv4 u) (unit-ipv6 u) kind seid (plain why.accepted) gs few))
         (rw (accepted-body st kind seid gs) at (placed-then p rest (omega (arith, accepted-room)))) r

@@ -7,16 +7,17 @@ ghost use lib.Dec.{T};
 ghost use lib.ListN.{length};
 ghost use Rattle.octets.specs.Octets.{put};
 ghost use Rattle.octets.specs.Lists.{all};
-ghost use Rattle.rules.specs.Layout.{viewSettings, settingsWidth};
 ghost use Rattle.rules.specs.Message.{kindOf, headerSeid};
 ghost use Rattle.rules.specs.Stages.{plain};
 ghost use Rattle.rules.specs.Reply.{replySeid, offendingElement, reply};
 ghost use Rattle.rules.specs.Causes as why;
+ghost use Rattle.unit.specs.Meaning.{settingsOf};
 ghost use Rattle.writing.specs.Placed.{Placed, written};
 ghost use Rattle.reply.specs.Parts.{replyHead, bodyFront};
 ghost use Rattle.reply.specs.Naming.{offendingIn, refusal};
 ghost use Rattle.created.specs.Groups.{idFits};
 ghost use Rattle.created.specs.Entries.{maxGrants, grantsAt, within};
+use unit::Settings;
 
 // The element at fault, by its type, where the refusal names one.
 pub enum Offending {
@@ -42,11 +43,11 @@ fn reply_seid(msg: &[u8], cause: u8, seid: u64) -> u64
 }
 
 // What every reply has from octet 16 on: the Node ID in an establishment's, and the cause.
-fn write_front(t: &[u8], kind: u8, cause: u8, out: &mut [u8]) -> usize
-    requires { ⌜ (settingsWidth ≤ length (now t)) × (30 ≤ length (now out)) ⌝ }
-    ensures { λ r. ⌜ Placed (now (out .entry)) 16 (bodyFront kind (viewSettings (now (t .entry))) cause) r (now (out .exit)) ⌝ }
+fn write_front(u: Settings, kind: u8, cause: u8, out: &mut [u8]) -> usize
+    requires { ⌜ 30 ≤ length (now out) ⌝ }
+    ensures { λ r. ⌜ Placed (now (out .entry)) 16 (bodyFront kind (settingsOf u) cause) r (now (out .exit)) ⌝ }
 {
-    let next = writing::write_node_id(t, kind, out, 16);
+    let next = writing::write_node_id(u, kind, out, 16);
     writing::write_cause(cause, out, next)
 }
 
@@ -71,11 +72,11 @@ fn finish(msg: &[u8], cause: u8, seid: u64, end: usize, out: &mut [u8])
 }
 
 // The whole reply of a refusal, at the front of out; the answer is its length.
-pub fn refused(t: &[u8], msg: &[u8], cause: u8, offending: Offending, out: &mut [u8]) -> usize
-    requires { ⌜ (settingsWidth ≤ length (now t)) × (16 ≤ length (now msg)) × (kindOf (now msg) < 255) × (cause ≡ why.accepted → ⊥) × (1024 ≤ length (now out)) ⌝ }
-    ensures { λ r. ⌜ (r, now (out .exit)) ≡ written (reply (viewSettings (now (t .entry))) (now (msg .entry)) 0 (refusal cause offending) []) (now (out .entry)) ⌝ }
+pub fn refused(u: Settings, msg: &[u8], cause: u8, offending: Offending, out: &mut [u8]) -> usize
+    requires { ⌜ (16 ≤ length (now msg)) × (kindOf (now msg) < 255) × (cause ≡ why.accepted → ⊥) × (1024 ≤ length (now out)) ⌝ }
+    ensures { λ r. ⌜ (r, now (out .exit)) ≡ written (reply (settingsOf u) (now (msg .entry)) 0 (refusal cause offending) []) (now (out .entry)) ⌝ }
 {
-    let next = write_front(t, msg[1], cause, out);
+    let next = write_front(u, msg[1], cause, out);
     let end = write_offending(offending, out, next);
     finish(msg, cause, 0, end, out);
     end
@@ -84,19 +85,19 @@ pub fn refused(t: &[u8], msg: &[u8], cause: u8, offending: Offending, out: &mut 
 // The whole reply of an accepted request, at the front of out; the answer is its length. The grants are those of the plan's rows at the
 // places, in the order in which the TEIDs were given.
 pub fn accepted(
-    t: &[u8],
+    u: Settings,
     msg: &[u8],
     seid: u64,
     plan: &[u64],
     places: &[usize],
     out: &mut [u8],
 ) -> usize
-    requires { ⌜ (settingsWidth ≤ length (now t)) × (16 ≤ length (now msg)) × (kindOf (now msg) < 255) × (length (now places) ≤ maxGrants) × T (within (now plan) (now places)) × (all idFits (grantsAt (now plan) (now places)) ≡ true) × (1024 ≤ length (now out)) ⌝ }
-    ensures { λ r. ⌜ (r, now (out .exit)) ≡ written (reply (viewSettings (now (t .entry))) (now (msg .entry)) seid (plain why.accepted) (grantsAt (now (plan .entry)) (now (places .entry)))) (now (out .entry)) ⌝ }
+    requires { ⌜ (16 ≤ length (now msg)) × (kindOf (now msg) < 255) × (length (now places) ≤ maxGrants) × T (within (now plan) (now places)) × (all idFits (grantsAt (now plan) (now places)) ≡ true) × (1024 ≤ length (now out)) ⌝ }
+    ensures { λ r. ⌜ (r, now (out .exit)) ≡ written (reply (settingsOf u) (now (msg .entry)) seid (plain why.accepted) (grantsAt (now (plan .entry)) (now (places .entry)))) (now (out .entry)) ⌝ }
 {
-    let next = write_front(t, msg[1], 1, out);
-    let own = writing::write_own_fseid(t, msg[1], seid, out, next);
-    let end = created::write_created(t, plan, places, out, own);
+    let next = write_front(u, msg[1], 1, out);
+    let own = writing::write_own_fseid(u, msg[1], seid, out, next);
+    let end = created::write_created(u, plan, places, out, own);
     finish(msg, 1, seid, end, out);
     end
 }

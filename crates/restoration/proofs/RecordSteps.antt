@@ -16,10 +16,12 @@ use Rattle.octets.proofs.Put.{set-put, length-part}
 use Rattle.octets.proofs.Digits.{number-one, be-back, part-octets}
 use Rattle.rules.specs.Model.{Settings, endpoint, Pdr, Endpoint}
 use Rattle.rules.specs.Elements.{addressLength, fqcsidOctets}
-use Rattle.rules.specs.Layout.{optionRead, tunnelRead, placeRead, pdrFrom, endpointFrom, addressRead, csidFrom, viewPdr, viewEndpoint, viewCsid, viewSettings, settingsWidth, pdrWidth, csidWidth, pdrsAt, endpointWidth}
+use Rattle.rules.specs.Layout.{optionRead, tunnelRead, placeRead, pdrFrom, endpointFrom, addressRead, csidFrom, viewPdr, viewEndpoint, viewCsid, settingsWidth, pdrWidth, csidWidth, pdrsAt, endpointWidth}
 use Rattle.rules.specs.Reply.{element, unitElement}
 use Rattle.rules.specs.Restoration.{placeElement, farElement, pdiContent, pdrContent, pdrElement, endpointContent, endpointElement, recordCsid, csidElement}
 use Rattle.rules.specs.Types as ie
+use Rattle.unit.specs.declared.Settings.{Settings as Unit}
+use Rattle.unit.specs.Meaning.{settingsOf}
 use Rattle.writing.specs.Placed.{Placed}
 use Rattle.writing.specs.Families.{tunnelIn}
 use Rattle.writing.proofs.PlacedLaws.{next-put, next-set, length-element, length-headed, placed-none, placed-then, placed-element, placed-group}
@@ -62,9 +64,9 @@ module _ (xs : List ℕ) (long : length xs ≡ pdrWidth) where
   abbrev pdr : Pdr
   pdr = viewPdr xs
 
-  module _ (t : List ℕ) where
+  module _ (u : Unit) where
     abbrev st : Settings
-    st = viewSettings t
+    st = settingsOf u
 
     place-is : placeElement st (pdr .place) ≡ placeElement st (placeRead (getD xs 12 0) (number (part 13 4 xs)) (getD xs 17 0) (number (part 18 1 xs)))
     unfolding viewPdr pdrFrom fieldsAt
@@ -149,24 +151,24 @@ unfolding endpointElement endpointContent
 length-endpoint s e =
     rw (length-element) (omega (arith, length-append (element ie.endpointId (e .id ∷ [])) (unitElement s (e .local)), length-element ie.endpointId (e .id ∷ [])))
 
-module _ (xs : List ℕ) (long : length xs ≡ endpointWidth) (t : List ℕ) where
-  pub endpoint-local : unitElement (viewSettings t) (viewEndpoint xs .local) ≡ unitElement (viewSettings t) (tunnelIn (number (part 1 4 xs)) (getD xs 5 0))
+module _ (xs : List ℕ) (long : length xs ≡ endpointWidth) (u : Unit) where
+  pub endpoint-local : unitElement (settingsOf u) (viewEndpoint xs .local) ≡ unitElement (settingsOf u) (tunnelIn (number (part 1 4 xs)) (getD xs 5 0))
   unfolding viewEndpoint endpointFrom fieldsAt tunnelRead tunnelIn
   endpoint-local = rw (octet-read 5 xs (omega arith))
 
-  pub endpoint-steps : (at teid : ℕ) (out : List ℕ) {a e : ℕ} {out₁ out₂ out₃ : List ℕ} → at + length (endpointElement (viewSettings t) (viewEndpoint xs)) ≤ length out
+  pub endpoint-steps : (at teid : ℕ) (out : List ℕ) {a e : ℕ} {out₁ out₂ out₃ : List ℕ} → at + length (endpointElement (settingsOf u) (viewEndpoint xs)) ≤ length out
       → Placed out (at + 4) (element ie.endpointId (take 1 xs)) a out₁ → teid ≡ number (part 1 4 xs)
-      → Placed out₁ a (unitElement (viewSettings t) (tunnelIn teid (getD xs 5 0))) e out₂
-      → out₃ ≡ put at (be 2 ie.createEndpoint ++ be 2 (e - (at + 4))) out₂ → Placed out at (endpointElement (viewSettings t) (viewEndpoint xs)) e out₃
+      → Placed out₁ a (unitElement (settingsOf u) (tunnelIn teid (getD xs 5 0))) e out₂
+      → out₃ ≡ put at (be 2 ie.createEndpoint ++ be 2 (e - (at + 4))) out₂ → Placed out at (endpointElement (settingsOf u) (viewEndpoint xs)) e out₃
   unfolding endpointElement endpointContent
   endpoint-steps at teid out {a} {e} {out₁} {out₂} h p w q r =
-      let l = length-endpoint (viewSettings t) (viewEndpoint xs) in
+      let l = length-endpoint (settingsOf u) (viewEndpoint xs) in
       let k = length-element ie.endpointId (take 1 xs) in
       let k′ = length-part 0 1 xs (omega arith) in
       let i : viewEndpoint xs .id ∷ [] ≡ take 1 xs = unfold viewEndpoint endpointFrom fieldsAt in octet-part 0 xs (omega arith) in
       let both = placed-then p q (omega arith) in
       rw (i, endpoint-local, ← w)
-      (placed-group ie.createEndpoint at (at + 4) (element ie.endpointId (take 1 xs) ++ unitElement (viewSettings t) (tunnelIn teid (getD xs 5 0))) out refl (omega arith) both r)
+      (placed-group ie.createEndpoint at (at + 4) (element ie.endpointId (take 1 xs) ++ unitElement (settingsOf u) (tunnelIn teid (getD xs 5 0))) out refl (omega arith) both r)
 
 -- ---- FQ-CSID
 

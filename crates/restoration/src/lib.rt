@@ -1,6 +1,6 @@
 // The writer of restoration requests (02 (i)): a session's slot as the request that makes it again. Each element is written from what it
-// holds outwards, the content first and then type and length before it. The writers of records take the octets of a record's slot and of
-// the table's settings, and know nothing of the message around them.
+// holds outwards, the content first and then type and length before it. The writers of records take the octets of a record's slot and the
+// unit's settings, and know nothing of the message around them.
 ghost use mathlib.Core.Path.{_≡_};
 ghost use Prim.Native.Nat.{_+_, _*_, _≤_, _<_};
 ghost use mathlib.Core.Bool.{_||_};
@@ -9,15 +9,17 @@ ghost use lib.ListN.{length, getD};
 ghost use Rattle.octets.specs.Octets.{slices, concatMap};
 ghost use Rattle.octets.specs.Lists.{all};
 ghost use Rattle.rules.specs.Limits.{maxSessions, maxRestoration};
-ghost use Rattle.rules.specs.Layout.{viewSettings, viewSession, viewPdr, viewEndpoint, viewCsid, settingsWidth, pdrWidth, csidWidth, endpointWidth};
+ghost use Rattle.rules.specs.Layout.{viewSession, viewPdr, viewEndpoint, viewCsid, pdrWidth, csidWidth, endpointWidth};
 ghost use Rattle.rules.specs.Elements.{addressLength};
 ghost use Rattle.rules.specs.Reply.{element};
 ghost use Rattle.rules.specs.Restoration.{placeElement, farElement, pdiContent, pdrElement, endpointElement, csidElement, recordElements, restoration};
 ghost use Rattle.rules.specs.Restoring.{addressed, restorationAt, writeInto, writeRestoration};
 ghost use Rattle.rules.specs.Types as ie;
+ghost use Rattle.unit.specs.Meaning.{settingsOf};
 ghost use Rattle.writing.specs.Placed.{Placed};
 ghost use Rattle.restoration.specs.Records.{recordWidth, recordElement, recordFits, SlotFits, content};
 ghost use Rattle.restoration.specs.Answers.{writingOf, Ready};
+use unit::Settings;
 
 // The kinds of records, by the type of their element.
 pub const PDR: usize = 1;
@@ -27,13 +29,13 @@ pub const ENDPOINT: usize = 127;
 pub const CSID: usize = 65;
 
 // What a PDR matches on: its F-TEID with the unit's addresses, its endpoint's ID, or nothing.
-fn write_place(t: &[u8], pdr: &[u8], out: &mut [u8], at: usize) -> usize
-    requires { ⌜ (settingsWidth ≤ length (now t)) × (length (now pdr) ≡ pdrWidth) × (at + length (placeElement (viewSettings (now t)) (viewPdr (now pdr) .place)) ≤ length (now out)) ⌝ }
-    ensures { λ r. ⌜ Placed (now (out .entry)) at (placeElement (viewSettings (now (t .entry))) (viewPdr (now (pdr .entry)) .place)) r (now (out .exit)) ⌝ }
+fn write_place(u: Settings, pdr: &[u8], out: &mut [u8], at: usize) -> usize
+    requires { ⌜ (length (now pdr) ≡ pdrWidth) × (at + length (placeElement (settingsOf u) (viewPdr (now pdr) .place)) ≤ length (now out)) ⌝ }
+    ensures { λ r. ⌜ Placed (now (out .entry)) at (placeElement (settingsOf u) (viewPdr (now (pdr .entry)) .place)) r (now (out .exit)) ⌝ }
 {
     if pdr[format::PLACE] == 1 {
         let teid = octets::read(pdr, format::TEID, 4);
-        return writing::write_fteid(t, teid, pdr[format::FAMILIES] as u64, out, at);
+        return writing::write_fteid(u, teid, pdr[format::FAMILIES] as u64, out, at);
     }
     if pdr[format::PLACE] == 2 {
         return writing::write_value(131, &pdr[format::NAMED_ENDPOINT..format::PDR], out, at);
@@ -42,13 +44,13 @@ fn write_place(t: &[u8], pdr: &[u8], out: &mut [u8], at: usize) -> usize
 }
 
 // The PDI: the source interface, and what the PDR matches on.
-fn write_pdi(t: &[u8], pdr: &[u8], out: &mut [u8], at: usize) -> usize
-    requires { ⌜ (settingsWidth ≤ length (now t)) × (length (now pdr) ≡ pdrWidth) × (at + length (element ie.pdi (pdiContent (viewSettings (now t)) (viewPdr (now pdr)))) ≤ length (now out)) ⌝ }
-    ensures { λ r. ⌜ Placed (now (out .entry)) at (element ie.pdi (pdiContent (viewSettings (now (t .entry))) (viewPdr (now (pdr .entry))))) r (now (out .exit)) ⌝ }
+fn write_pdi(u: Settings, pdr: &[u8], out: &mut [u8], at: usize) -> usize
+    requires { ⌜ (length (now pdr) ≡ pdrWidth) × (at + length (element ie.pdi (pdiContent (settingsOf u) (viewPdr (now pdr)))) ≤ length (now out)) ⌝ }
+    ensures { λ r. ⌜ Placed (now (out .entry)) at (element ie.pdi (pdiContent (settingsOf u) (viewPdr (now (pdr .entry))))) r (now (out .exit)) ⌝ }
 {
     let front = at + 4;
     let source = writing::write_value(20, &pdr[format::SOURCE..format::PLACE], out, front);
-    let end = write_place(t, pdr, out, source);
+    let end = write_place(u, pdr, out, source);
     writing::write_head(2, end - front, out, at);
     end
 }
@@ -65,28 +67,28 @@ fn write_far(pdr: &[u8], out: &mut [u8], at: usize) -> usize
 }
 
 // Create PDR.
-fn write_pdr(t: &[u8], pdr: &[u8], out: &mut [u8], at: usize) -> usize
-    requires { ⌜ (settingsWidth ≤ length (now t)) × (length (now pdr) ≡ pdrWidth) × (at + length (pdrElement (viewSettings (now t)) (viewPdr (now pdr))) ≤ length (now out)) ⌝ }
-    ensures { λ r. ⌜ Placed (now (out .entry)) at (pdrElement (viewSettings (now (t .entry))) (viewPdr (now (pdr .entry)))) r (now (out .exit)) ⌝ }
+fn write_pdr(u: Settings, pdr: &[u8], out: &mut [u8], at: usize) -> usize
+    requires { ⌜ (length (now pdr) ≡ pdrWidth) × (at + length (pdrElement (settingsOf u) (viewPdr (now pdr))) ≤ length (now out)) ⌝ }
+    ensures { λ r. ⌜ Placed (now (out .entry)) at (pdrElement (settingsOf u) (viewPdr (now (pdr .entry)))) r (now (out .exit)) ⌝ }
 {
     let front = at + 4;
     let id = writing::write_value(56, &pdr[0..format::PRECEDENCE], out, front);
     let precedence = writing::write_value(29, &pdr[format::PRECEDENCE..format::FAR], out, id);
-    let pdi = write_pdi(t, pdr, out, precedence);
+    let pdi = write_pdi(u, pdr, out, precedence);
     let end = write_far(pdr, out, pdi);
     writing::write_head(PDR, end - front, out, at);
     end
 }
 
 // Create Traffic Endpoint.
-fn write_endpoint(t: &[u8], endpoint: &[u8], out: &mut [u8], at: usize) -> usize
-    requires { ⌜ (settingsWidth ≤ length (now t)) × (length (now endpoint) ≡ endpointWidth) × (at + length (endpointElement (viewSettings (now t)) (viewEndpoint (now endpoint))) ≤ length (now out)) ⌝ }
-    ensures { λ r. ⌜ Placed (now (out .entry)) at (endpointElement (viewSettings (now (t .entry))) (viewEndpoint (now (endpoint .entry)))) r (now (out .exit)) ⌝ }
+fn write_endpoint(u: Settings, endpoint: &[u8], out: &mut [u8], at: usize) -> usize
+    requires { ⌜ (length (now endpoint) ≡ endpointWidth) × (at + length (endpointElement (settingsOf u) (viewEndpoint (now endpoint))) ≤ length (now out)) ⌝ }
+    ensures { λ r. ⌜ Placed (now (out .entry)) at (endpointElement (settingsOf u) (viewEndpoint (now (endpoint .entry)))) r (now (out .exit)) ⌝ }
 {
     let front = at + 4;
     let id = writing::write_value(131, &endpoint[0..1], out, front);
     let teid = octets::read(endpoint, 1, 4);
-    let end = writing::write_fteid(t, teid, endpoint[5] as u64, out, id);
+    let end = writing::write_fteid(u, teid, endpoint[5] as u64, out, id);
     writing::write_head(ENDPOINT, end - front, out, at);
     end
 }
@@ -129,30 +131,30 @@ fn record_width(kind: usize) -> usize
 }
 
 // A record's element.
-pub fn write_record(t: &[u8], kind: usize, slot: &[u8], out: &mut [u8], at: usize) -> usize
-    requires { ⌜ (settingsWidth ≤ length (now t)) × T (recordFits kind (now slot)) × (at + length (recordElement kind (viewSettings (now t)) (now slot)) ≤ length (now out)) ⌝ }
-    ensures { λ r. ⌜ Placed (now (out .entry)) at (recordElement kind (viewSettings (now (t .entry))) (now (slot .entry))) r (now (out .exit)) ⌝ }
+pub fn write_record(u: Settings, kind: usize, slot: &[u8], out: &mut [u8], at: usize) -> usize
+    requires { ⌜ T (recordFits kind (now slot)) × (at + length (recordElement kind (settingsOf u) (now slot)) ≤ length (now out)) ⌝ }
+    ensures { λ r. ⌜ Placed (now (out .entry)) at (recordElement kind (settingsOf u) (now (slot .entry))) r (now (out .exit)) ⌝ }
 {
     if kind == PDR {
-        return write_pdr(t, slot, out, at);
+        return write_pdr(u, slot, out, at);
     }
     if kind == ENDPOINT {
-        return write_endpoint(t, slot, out, at);
+        return write_endpoint(u, slot, out, at);
     }
     write_csid(slot, out, at)
 }
 
 // The elements of the first n records of an area.
-fn write_area(t: &[u8], kind: usize, area: &[u8], n: usize, out: &mut [u8], at: usize) -> usize
-    requires { ⌜ (settingsWidth ≤ length (now t)) × T (all (recordFits kind) (slices (recordWidth kind) n (now area))) × (at + length (concatMap (recordElement kind (viewSettings (now t))) (slices (recordWidth kind) n (now area))) ≤ length (now out)) ⌝ }
-    ensures { λ r. ⌜ Placed (now (out .entry)) at (concatMap (recordElement kind (viewSettings (now (t .entry)))) (slices (recordWidth kind) n (now (area .entry)))) r (now (out .exit)) ⌝ }
+fn write_area(u: Settings, kind: usize, area: &[u8], n: usize, out: &mut [u8], at: usize) -> usize
+    requires { ⌜ T (all (recordFits kind) (slices (recordWidth kind) n (now area))) × (at + length (concatMap (recordElement kind (settingsOf u)) (slices (recordWidth kind) n (now area))) ≤ length (now out)) ⌝ }
+    ensures { λ r. ⌜ Placed (now (out .entry)) at (concatMap (recordElement kind (settingsOf u)) (slices (recordWidth kind) n (now (area .entry)))) r (now (out .exit)) ⌝ }
 {
     let w = record_width(kind);
     let mut rest = area;
     let mut left = n;
     let mut next = at;
     while 0 < left {
-        next = write_record(t, kind, &rest[..w], out, next);
+        next = write_record(u, kind, &rest[..w], out, next);
         rest = &rest[w..];
         left -= 1;
     }
@@ -160,12 +162,12 @@ fn write_area(t: &[u8], kind: usize, area: &[u8], n: usize, out: &mut [u8], at: 
 }
 
 // The elements of a session's records: PDRs, endpoints, FQ-CSIDs.
-fn write_records(t: &[u8], slot: &[u8], out: &mut [u8], at: usize) -> usize
-    requires { ⌜ (settingsWidth ≤ length (now t)) × SlotFits (now slot) × (at + length (recordElements (viewSettings (now t)) (viewSession (now slot))) ≤ length (now out)) ⌝ }
-    ensures { λ r. ⌜ Placed (now (out .entry)) at (recordElements (viewSettings (now (t .entry))) (viewSession (now (slot .entry)))) r (now (out .exit)) ⌝ }
+fn write_records(u: Settings, slot: &[u8], out: &mut [u8], at: usize) -> usize
+    requires { ⌜ SlotFits (now slot) × (at + length (recordElements (settingsOf u) (viewSession (now slot))) ≤ length (now out)) ⌝ }
+    ensures { λ r. ⌜ Placed (now (out .entry)) at (recordElements (settingsOf u) (viewSession (now (slot .entry)))) r (now (out .exit)) ⌝ }
 {
     let pdrs = write_area(
-        t,
+        u,
         PDR,
         &slot[format::PDRS..],
         slot[format::PDR_COUNT] as usize,
@@ -173,7 +175,7 @@ fn write_records(t: &[u8], slot: &[u8], out: &mut [u8], at: usize) -> usize
         at,
     );
     let endpoints = write_area(
-        t,
+        u,
         ENDPOINT,
         &slot[format::ENDPOINTS..],
         slot[format::ENDPOINT_COUNT] as usize,
@@ -181,7 +183,7 @@ fn write_records(t: &[u8], slot: &[u8], out: &mut [u8], at: usize) -> usize
         pdrs,
     );
     write_area(
-        t,
+        u,
         CSID,
         &slot[format::CSIDS..],
         slot[format::CSID_COUNT] as usize,
@@ -191,15 +193,15 @@ fn write_records(t: &[u8], slot: &[u8], out: &mut [u8], at: usize) -> usize
 }
 
 // The request's elements from octet 16 on: the F-SEID, the restoration flag, the records.
-fn write_elements(t: &[u8], slot: &[u8], ipv4: &[u8], ipv6: &[u8], out: &mut [u8]) -> usize
-    requires { ⌜ (settingsWidth ≤ length (now t)) × SlotFits (now slot) × (16 + length (content (viewSettings (now t)) (viewSession (now slot)) (now ipv4) (now ipv6)) ≤ length (now out)) ⌝ }
-    ensures { λ r. ⌜ Placed (now (out .entry)) 16 (content (viewSettings (now (t .entry))) (viewSession (now (slot .entry))) (now (ipv4 .entry)) (now (ipv6 .entry))) r (now (out .exit)) ⌝ }
+fn write_elements(u: Settings, slot: &[u8], ipv4: &[u8], ipv6: &[u8], out: &mut [u8]) -> usize
+    requires { ⌜ SlotFits (now slot) × (16 + length (content (settingsOf u) (viewSession (now slot)) (now ipv4) (now ipv6)) ≤ length (now out)) ⌝ }
+    ensures { λ r. ⌜ Placed (now (out .entry)) 16 (content (settingsOf u) (viewSession (now (slot .entry))) (now (ipv4 .entry)) (now (ipv6 .entry))) r (now (out .exit)) ⌝ }
 {
     let seid = octets::read(slot, 0, 8);
     let flags = [1u8; 1];
     let own = writing::write_fseid(seid, ipv4, ipv6, out, 16);
     let next = writing::write_value(186, &flags, out, own);
-    write_records(t, slot, out, next)
+    write_records(u, slot, out, next)
 }
 
 // The whole request, at the front of out; the answer is its length.
@@ -207,8 +209,9 @@ fn write_request(t: &[u8], place: usize, ipv4: &[u8], ipv6: &[u8], out: &mut [u8
     requires { ⌜ Ready (now t) place (now ipv4) (now ipv6) × (length (now out) ≡ maxRestoration) ⌝ }
     ensures { λ r. ⌜ Placed (now (out .entry)) 0 (restorationAt (now (t .entry)) place (now (ipv4 .entry)) (now (ipv6 .entry))) r (now (out .exit)) ⌝ }
 {
+    let u = unit::read(t);
     let at = format::HEAD + place * format::SLOT;
-    let end = write_elements(t, &t[at..at + format::SLOT], ipv4, ipv6, out);
+    let end = write_elements(u, &t[at..at + format::SLOT], ipv4, ipv6, out);
     let mut sequence = [0u8; 3];
     octets::write(&mut sequence, 0, 3, place as u64 + 1);
     writing::write_header(writing::ESTABLISHMENT, 0, &sequence, end - 16, out);

@@ -18,8 +18,8 @@ use Rattle.rules.specs.Stages.{wrongAllocation, lacksFamily, strange, otherAddr
 use Rattle.plan.specs.Rows.{word, rowFteid}
 use Rattle.plan.specs.Words as its
 use Rattle.pool.specs.Map.{marked}
-use Rattle.rows.specs.declared.Unit.{Unit}
-use Rattle.rows.specs.Units.{settingsOf}
+use Rattle.unit.specs.declared.Settings.{Settings as Unit}
+use Rattle.unit.specs.Meaning.{settingsOf}
 use Rattle.rows.specs.RowRules.{hasFteid, ofFteid, rowHolding, rowIpv4, rowIpv6, restores, heldIn}
 use Rattle.rows.proofs.AddressLaws.{other-none, other-four, same-be, same-append}
 use Rattle.rows.proofs.FteidLaws.{chooses-row, v6-row, given-row, row-is, fteidBy, holding-row, restores-row}

@@ -1,2 +1,1 @@
 pub mod RowRules
-pub mod Units

@@ -17,16 +17,6 @@ ghost use Rattle.rows.specs.RowRules.{requestOf, disagree, sharesChoice}
 pub mod pair;
 pub mod tunnel;
 
-// The unit's settings: its IPv4 address, whether it has an IPv6 address and that address in two halves, the first TEID and the pool's size.
-pub struct Unit {
-    pub ipv4: u64,
-    pub has_ipv6: bool,
-    pub high: u64,
-    pub low: u64,
-    pub first: u64,
-    pub size: u64,
-}
-
 // Does a row have this tag, and x at place field?
 fn is_named(row: &[u64], tag: u64, field: usize, x: u64) -> bool
     requires { ⌜ (length (now row) ≡ rowWidth) × (field < rowWidth) ⌝ }

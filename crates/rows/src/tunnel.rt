@@ -1,7 +1,7 @@
 // The F-TEID of one row: flags at word 12 (V4 1, V6 2, CH 4, CHID 8), then TEID, IPv4 address, IPv6 address in two words, CHOOSE ID.
-use crate::Unit;
 use format::types;
 use format::words;
+use unit::Settings;
 ghost use mathlib.Core.Path.{_≡_};
 ghost use mathlib.Core.Bool.{not};
 ghost use Prim.Native.Nat.{_*_, _≤_};
@@ -11,7 +11,7 @@ ghost use Rattle.rules.specs.Sound.{inPool};
 ghost use Rattle.rules.specs.Stages.{wrongAllocation, lacksFamily, strange, otherAddress};
 ghost use Rattle.plan.specs.Rows.{rowWidth};
 ghost use Rattle.rows.specs.RowRules.{hasFteid, ofFteid, rowIpv4, rowIpv6, rowHolding, rowChoice, restores, heldIn};
-ghost use Rattle.rows.specs.Units.{settingsOf};
+ghost use Rattle.unit.specs.Meaning.{settingsOf};
 
 // Has the row an F-TEID? A Create Traffic Endpoint has one, a Create PDR if its flags say so.
 pub fn has_fteid(row: &[u64]) -> bool
@@ -64,7 +64,7 @@ pub fn wrong_allocation(row: &[u64], restoring: bool) -> bool
 }
 
 // Cause 73: a family that the unit lacks.
-pub fn lacks_family(row: &[u64], u: Unit) -> bool
+pub fn lacks_family(row: &[u64], u: Settings) -> bool
     requires { ⌜ length (now row) ≡ rowWidth ⌝ }
     ensures { λ r. ⌜ r ≡ ofFteid (lacksFamily (settingsOf u)) (now (row .entry)) ⌝ }
 {
@@ -78,7 +78,7 @@ pub fn lacks_family(row: &[u64], u: Unit) -> bool
 }
 
 // Does a TEID lie outside the pool?
-fn outside(teid: u64, u: Unit) -> bool
+fn outside(teid: u64, u: Settings) -> bool
     ensures { λ r. ⌜ r ≡ not (inPool (settingsOf u) teid) ⌝ }
 {
     if teid < u.first {
@@ -88,7 +88,7 @@ fn outside(teid: u64, u: Unit) -> bool
 }
 
 // Is there an IPv4 address, and another one than the unit's?
-fn other_ipv4(row: &[u64], u: Unit) -> bool
+fn other_ipv4(row: &[u64], u: Settings) -> bool
     requires { ⌜ length (now row) ≡ rowWidth ⌝ }
     ensures { λ r. ⌜ r ≡ otherAddress (settingsOf u .ipv4) (rowIpv4 (now (row .entry))) ⌝ }
 {
@@ -99,7 +99,7 @@ fn other_ipv4(row: &[u64], u: Unit) -> bool
 }
 
 // The same for IPv6, of which the unit may have none.
-fn other_ipv6(row: &[u64], u: Unit) -> bool
+fn other_ipv6(row: &[u64], u: Settings) -> bool
     requires { ⌜ length (now row) ≡ rowWidth ⌝ }
     ensures { λ r. ⌜ r ≡ otherAddress (settingsOf u .ipv6) (rowIpv6 (now (row .entry))) ⌝ }
 {
@@ -116,7 +116,7 @@ fn other_ipv6(row: &[u64], u: Unit) -> bool
 }
 
 // Cause 73: a restored F-TEID outside the pool, or with another address.
-pub fn strange(row: &[u64], u: Unit) -> bool
+pub fn strange(row: &[u64], u: Settings) -> bool
     requires { ⌜ length (now row) ≡ rowWidth ⌝ }
     ensures { λ r. ⌜ r ≡ ofFteid (strange (settingsOf u)) (now (row .entry)) ⌝ }
 {
@@ -133,7 +133,7 @@ pub fn strange(row: &[u64], u: Unit) -> bool
 }
 
 // Cause 73: a restored TEID that a session holds. The map says so of the TEIDs in the pool.
-pub fn is_held(row: &[u64], u: Unit, taken: &[u64]) -> bool
+pub fn is_held(row: &[u64], u: Settings, taken: &[u64]) -> bool
     requires { ⌜ (length (now row) ≡ rowWidth) × (u .size ≤ 64 * length (now taken)) ⌝ }
     ensures { λ r. ⌜ r ≡ restores (heldIn (settingsOf u) (now (taken .entry))) (rowHolding (now (row .entry))) ⌝ }
 {

@@ -1,5 +1,5 @@
 -- What a caller knows of the session at entry and of the settings gives what stages 4 and 5 ask. Assumes nothing.
-use mathlib.Core.Path.{_≡_, ap, _∙_}
+use mathlib.Core.Path.{_≡_, sym, ap, _∙_, subst}
 use mathlib.Core.Bool.{Bool, false}
 use mathlib.Core.List.{List}
 use Prim.Native.Nat.{ℕ, _*_, _≤_}
@@ -23,7 +23,7 @@ use Rattle.plan.specs.Rows.{rowWidth, rowsOf}
 use Rattle.rows.specs.RowRules.{requestOf}
 use Rattle.pool.proofs.TakenLaws.{Means}
 use Rattle.stages.specs.Rules.{Slot, Gone, AtEntry}
-use Rattle.stages.proofs.UnitLaws.{slices-length}
+use Rattle.stages.proofs.CountLaws.{slices-length}
 
 -- ---- the slot
 
@@ -82,15 +82,16 @@ pool-wide s words h e =
 
 -- ---- a sound table, with its map and free count
 
-pub at-entry : (t taken slot gone plan : List ℕ) (n free kind seid : ℕ) (live : Bool) → T (sound maxSessions t) → Slot slot → n * rowWidth ≤ length plan → Gone slot (rowsOf n plan) gone
+pub at-entry : (s : Settings) (t taken slot gone plan : List ℕ) (n free kind seid : ℕ) (live : Bool) → s ≡ viewSettings t → T (sound maxSessions t) → Slot slot → n * rowWidth ≤ length plan → Gone slot (rowsOf n plan) gone
     → length taken ≡ mapWords → Means (viewSettings t .first) taken (heldTeids (viewSessions t))
     → free ≡ freeCount (viewSettings t) (viewSessions t) → (kind ≡ establishment → live ≡ isLive seid (viewSessions t))
-    → AtEntry t taken slot gone plan n free kind seid live
+    → AtEntry s t taken slot gone plan n free kind seid live
 unfolding sound soundTests
-at-entry t taken slot gone plan n free kind seid live h place rows removed words means count known =
+at-entry s t taken slot gone plan n free kind seid live same h place rows removed words means count known =
     let tests = each (soundTests maxSessions t (viewSettings t) (viewSessions t)) h in
     let size : length t ≡ tableLength maxSessions = (eqb→eq (length t) (tableLength maxSessions) (tests .0)) in
-    record {
+    subst (λ (x : Settings). AtEntry x t taken slot gone plan n free kind seid live) (sym same)
+    (record {
       long = omega arith;
       place = place;
       rows = rows;
@@ -99,4 +100,4 @@ at-entry t taken slot gone plan n free kind seid live h place rows removed words
       marks = λ i below. means i;
       count = count;
       known = known;
-    }
+    })

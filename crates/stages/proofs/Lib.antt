@@ -1,7 +1,7 @@
 pub mod IdLaws
 pub mod SlotLaws
 pub mod BreakLaws
-pub mod UnitLaws
+pub mod CountLaws
 pub mod RuleLaws
 pub mod CauseLaws
 pub mod VerdictLaws

@@ -16,7 +16,7 @@ use Rattle.octets.specs.Lists.{member, keep}
 use Rattle.lists.specs.Rows.{column}
 use Rattle.lists.proofs.RowLaws.{rows-more, rows-none}
 use Rattle.lists.proofs.Loops.{left-part, stored}
-use Rattle.stages.proofs.UnitLaws.{slices-length}
+use Rattle.stages.proofs.CountLaws.{slices-length}
 use Rattle.rules.specs.Model.{Pdr, neither, tunnel, endpoint, pdrId, endpointId, pdrEndpoint, placeEndpoint}
 use Rattle.rules.specs.Layout.{tunnelRead, placeRead, pdrFrom, endpointFrom, viewPdr, viewEndpoint, viewArea, viewSession, pdrWidth, endpointWidth, pdrCountAt, endpointCountAt, pdrsAt, endpointsAt}
 use Rattle.laws.proofs.LayoutLaws.{pdr-view}

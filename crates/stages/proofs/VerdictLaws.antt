@@ -10,7 +10,7 @@ use Rattle.rules.specs.Model.{Settings, Session, Sessions, freeCount}
 use Rattle.rules.specs.Limits.{maxSessions}
 use Rattle.rules.specs.Message.{establishment}
 use Rattle.rules.specs.Reading.{Request}
-use Rattle.rules.specs.Layout.{viewSettings, viewSession, viewSessions}
+use Rattle.rules.specs.Layout.{viewSession, viewSessions}
 use Rattle.rules.specs.Grants.{need}
 use Rattle.rules.specs.Stages.{isLive, goesPdr, removedPdrs, invalidAllocation, breaksRule, tooManySessions, tooManyPdrs, tooManyEndpoints, tooFewTeids, noRoom, judge, plain}
 use Rattle.rules.specs.Causes as why
@@ -86,7 +86,7 @@ module _ (a b c d e : Bool) where
           unfolding chain
           is-1 h = rw (p, q, r, s, h)
 
-module _ {t taken slot gone plan : List ℕ} {n free kind seid : ℕ} {live : Bool} (restoring noted : Bool) (known : AtEntry t taken slot gone plan n free kind seid live) where
+module _ {s : Settings} {t taken slot gone plan : List ℕ} {n free kind seid : ℕ} {live : Bool} (restoring noted : Bool) (known : AtEntry s t taken slot gone plan n free kind seid live) where
   live-same : (eqb kind establishment && live) ≡ (eqb kind establishment && isLive seid (viewSessions t))
   live-same = one (eqb kind establishment) refl
     where
@@ -94,23 +94,23 @@ module _ {t taken slot gone plan : List ℕ} {n free kind seid : ℕ} {live : Bo
       one true e = known .known (eqb-true kind establishment e)
       one false e = refl
 
-  rule-same : breaksRuleBy (heldIn (viewSettings t) taken) (viewSettings t) (viewSession slot) (requestIn 0 false false (rowsOf n plan))
-      ≡ breaksRule (viewSettings t) (viewSessions t) (viewSession slot) (requestIn seid restoring noted (rowsOf n plan))
+  rule-same : breaksRuleBy (heldIn s taken) s (viewSession slot) (requestIn 0 false false (rowsOf n plan))
+      ≡ breaksRule s (viewSessions t) (viewSession slot) (requestIn seid restoring noted (rowsOf n plan))
   rule-same =
-      rule-rows (heldIn (viewSettings t) taken) (viewSettings t) (viewSession slot) seid restoring noted (rowsOf n plan)
-      ∙ breaks-by (heldIn (viewSettings t) taken) (viewSettings t) (viewSessions t) (viewSession slot) seid restoring noted (rowsOf n plan) (map-agrees (viewSettings t) (viewSessions t) taken (known .marks))
+      rule-rows (heldIn s taken) s (viewSession slot) seid restoring noted (rowsOf n plan)
+      ∙ breaks-by (heldIn s taken) s (viewSessions t) (viewSession slot) seid restoring noted (rowsOf n plan) (map-agrees s (viewSessions t) taken (known .marks))
 
   -- the verdict by five tests, as code makes them
-  pub verdict-is : judge maxSessions kind (viewSettings t) (viewSessions t) (viewSession slot) (requestIn seid restoring noted (rowsOf n plan)) .cause
+  pub verdict-is : judge maxSessions kind s (viewSessions t) (viewSession slot) (requestIn seid restoring noted (rowsOf n plan)) .cause
       ≡ chain (eqb kind establishment && live) (invalidAllocation (requestIn 0 restoring false (rowsOf n plan))) (requestIn 0 false noted (rowsOf n plan) .unsupported)
-      (breaksRuleBy (heldIn (viewSettings t) taken) (viewSettings t) (viewSession slot) (requestIn 0 false false (rowsOf n plan)))
-      (noRoom maxSessions kind (viewSettings t) (viewSessions t) (viewSession slot) (requestIn 0 false false (rowsOf n plan)))
+      (breaksRuleBy (heldIn s taken) s (viewSession slot) (requestIn 0 false false (rowsOf n plan)))
+      (noRoom maxSessions kind s (viewSessions t) (viewSession slot) (requestIn 0 false false (rowsOf n plan)))
   verdict-is =
       let a = live-same in
       let b : invalidAllocation (requestIn 0 restoring false (rowsOf n plan)) ≡ invalidAllocation (requestIn seid restoring noted (rowsOf n plan)) = invalid-rows 0 restoring false (rowsOf n plan) ∙ sym (invalid-rows seid restoring noted (rowsOf n plan)) in
       let c : requestIn 0 false noted (rowsOf n plan) .unsupported ≡ requestIn seid restoring noted (rowsOf n plan) .unsupported = unsupported-rows 0 false noted (rowsOf n plan) ∙ sym (unsupported-rows seid restoring noted (rowsOf n plan)) in
-      let e = room-rows maxSessions kind (viewSettings t) (viewSessions t) (viewSession slot) seid restoring noted (rowsOf n plan) in
-      judge-is maxSessions kind (viewSettings t) (viewSessions t) (viewSession slot) (requestIn seid restoring noted (rowsOf n plan)) seid (unfold requestIn in refl)
+      let e = room-rows maxSessions kind s (viewSessions t) (viewSession slot) seid restoring noted (rowsOf n plan) in
+      judge-is maxSessions kind s (viewSessions t) (viewSession slot) (requestIn seid restoring noted (rowsOf n plan)) seid (unfold requestIn in refl)
       ∙ sym (λ i. chain (a i) (b i) (c i) (rule-same i) (e i))
 
 -- these causes name no element

@@ -7,7 +7,7 @@ use lib.ListN.{length, getD}
 use Rattle.octets.specs.Choice.{oneOf}
 use Rattle.octets.specs.Lists.{member, any, allPairs}
 use Rattle.rules.specs.Limits.{maxPdrs, maxEndpoints}
-use Rattle.rules.specs.Layout.{viewSettings, viewSession, viewSessions, headWidth, pdrCountAt, endpointCountAt, sessionWidth}
+use Rattle.rules.specs.Layout.{viewSession, viewSessions, headWidth, pdrCountAt, endpointCountAt, sessionWidth}
 use Rattle.rules.specs.Model.{Settings, Session, teidOf, heldTeids, freeCount}
 use Rattle.plan.specs.Rows.{rowWidth, rowsOf}
 use Rattle.rows.specs.RowRules.{requestOf}
@@ -34,14 +34,14 @@ pub record Slot (slot : List ℕ) : Type 0 where
 abbrev pub Gone : List ℕ → List (List ℕ) → List ℕ → Type 0
 Gone slot rows gone = gone ≡ removedPdrs (requestOf false rows) (viewSession slot .pdrs)
 
--- What is known before stages 4 and 5: the table's settings and session count can be read, the map has a bit for each TEID of the pool,
+-- What is known before stages 4 and 5, s being the settings: the table's session count can be read, the map has a bit for each TEID of the pool,
 -- set where a session holds the TEID, the removed PDRs are the rules', the free count is 01's, and for an establishment (50) it is known whether the SEID is live.
-pub record AtEntry (t taken slot gone plan : List ℕ) (n free kind seid : ℕ) (live : Bool) : Type 0 where
+pub record AtEntry (s : Settings) (t taken slot gone plan : List ℕ) (n free kind seid : ℕ) (live : Bool) : Type 0 where
   pub long : headWidth ≤ length t
   pub place : Slot slot
   pub rows : n * rowWidth ≤ length plan
   pub removed : Gone slot (rowsOf n plan) gone
-  pub wide : viewSettings t .size ≤ 64 * length taken
-  pub marks : (i : ℕ) → i < viewSettings t .size → marked taken i ≡ member (viewSettings t .first + i) (heldTeids (viewSessions t))
-  pub count : free ≡ freeCount (viewSettings t) (viewSessions t)
+  pub wide : s .size ≤ 64 * length taken
+  pub marks : (i : ℕ) → i < s .size → marked taken i ≡ member (s .first + i) (heldTeids (viewSessions t))
+  pub count : free ≡ freeCount s (viewSessions t)
   pub known : kind ≡ establishment → live ≡ isLive seid (viewSessions t)

@@ -8,11 +8,11 @@ ghost use lib.ListN.{length};
 ghost use Rattle.rules.specs.Limits.{maxSessions};
 ghost use Rattle.rules.specs.Message.{establishment};
 ghost use Rattle.rules.specs.Model.{freeCount};
-ghost use Rattle.rules.specs.Layout.{viewSettings, viewSession, viewSessions, settingsWidth, headWidth};
+ghost use Rattle.rules.specs.Layout.{viewSession, viewSessions, headWidth};
 ghost use Rattle.rules.specs.Stages.{tooManySessions, noRoom, judge};
 ghost use Rattle.plan.specs.Rows.{rowWidth, rowsOf, tagged, requestIn};
 ghost use Rattle.rows.specs.RowRules.{requestOf, heldIn};
-ghost use Rattle.rows.specs.Units.{settingsOf};
+ghost use Rattle.unit.specs.Meaning.{settingsOf};
 ghost use Rattle.stages.specs.RowRules.{breaksRow, someRow};
 ghost use Rattle.stages.specs.Rules.{Slot, Gone, AtEntry, breaksRuleBy};
 
@@ -22,28 +22,7 @@ pub mod session;
 use format::causes;
 use format::kinds;
 use format::types;
-use rows::Unit;
-
-// The settings at the front of a table.
-pub fn unit(t: &[u8]) -> Unit
-    requires { ⌜ settingsWidth ≤ length (now t) ⌝ }
-    ensures { λ r. ⌜ settingsOf r ≡ viewSettings (now (t .entry)) ⌝ }
-{
-    let ipv4 = octets::read(t, format::IPV4, 4);
-    let has_ipv6 = t[format::IPV6_THERE] != 0;
-    let high = octets::read(t, format::IPV6, 8);
-    let low = octets::read(t, format::IPV6_LOW, 8);
-    let first = octets::read(t, format::FIRST, 4);
-    let size = octets::read(t, format::SIZE, 4);
-    Unit {
-        ipv4,
-        has_ipv6,
-        high,
-        low,
-        first,
-        size,
-    }
-}
+use unit::Settings;
 
 // Cause 73: does one of the n rows break a rule?
 fn breaks_rows(
@@ -52,7 +31,7 @@ fn breaks_rows(
     pdrs: &[u64],
     endpoints: &[u64],
     gone: &[u64],
-    u: Unit,
+    u: Settings,
     taken: &[u64],
 ) -> bool
     requires { ⌜ (n * rowWidth ≤ length (now plan)) × (u .size ≤ 64 * length (now taken)) ⌝ }
@@ -79,15 +58,15 @@ fn breaks_rows(
 
 // Cause 73: is a rule broken?
 pub fn breaks_rule(
-    t: &[u8],
+    u: Settings,
     taken: &[u64],
     slot: &[u8],
     gone: &[u64],
     plan: &[u64],
     n: usize,
 ) -> bool
-    requires { ⌜ (settingsWidth ≤ length (now t)) × (viewSettings (now t) .size ≤ 64 * length (now taken)) × Slot (now slot) × (n * rowWidth ≤ length (now plan)) × Gone (now slot) (rowsOf n (now plan)) (now gone) ⌝ }
-    ensures { λ r. ⌜ r ≡ breaksRuleBy (heldIn (viewSettings (now (t .entry))) (now (taken .entry))) (viewSettings (now (t .entry))) (viewSession (now (slot .entry))) (requestOf false (rowsOf n (now (plan .entry)))) ⌝ }
+    requires { ⌜ (u .size ≤ 64 * length (now taken)) × Slot (now slot) × (n * rowWidth ≤ length (now plan)) × Gone (now slot) (rowsOf n (now plan)) (now gone) ⌝ }
+    ensures { λ r. ⌜ r ≡ breaksRuleBy (heldIn (settingsOf u) (now (taken .entry))) (settingsOf u) (viewSession (now (slot .entry))) (requestOf false (rowsOf n (now (plan .entry)))) ⌝ }
 {
     let k = slot[format::PDR_COUNT] as usize;
     let j = slot[format::ENDPOINT_COUNT] as usize;
@@ -101,7 +80,6 @@ pub fn breaks_rule(
         1,
         &mut endpoints,
     );
-    let u = unit(t);
     breaks_rows(plan, n, &pdrs[..k], &endpoints[..j], gone, u, taken)
 }
 
@@ -131,6 +109,7 @@ fn full(t: &[u8], kind: u64) -> bool
 // Cause 75: more than 64 sessions, 16 PDRs or 8 endpoints would result, or more TEIDs are needed than are free at entry.
 pub fn no_room(
     t: &[u8],
+    u: Settings,
     free: usize,
     kind: u64,
     slot: &[u8],
@@ -138,8 +117,8 @@ pub fn no_room(
     plan: &[u64],
     n: usize,
 ) -> bool
-    requires { ⌜ (headWidth ≤ length (now t)) × (free ≡ freeCount (viewSettings (now t)) (viewSessions (now t))) × Slot (now slot) × (n * rowWidth ≤ length (now plan)) × Gone (now slot) (rowsOf n (now plan)) (now gone) ⌝ }
-    ensures { λ r. ⌜ r ≡ noRoom maxSessions kind (viewSettings (now (t .entry))) (viewSessions (now (t .entry))) (viewSession (now (slot .entry))) (requestOf false (rowsOf n (now (plan .entry)))) ⌝ }
+    requires { ⌜ (headWidth ≤ length (now t)) × (free ≡ freeCount (settingsOf u) (viewSessions (now t))) × Slot (now slot) × (n * rowWidth ≤ length (now plan)) × Gone (now slot) (rowsOf n (now plan)) (now gone) ⌝ }
+    ensures { λ r. ⌜ r ≡ noRoom maxSessions kind (settingsOf u) (viewSessions (now (t .entry))) (viewSession (now (slot .entry))) (requestOf false (rowsOf n (now (plan .entry)))) ⌝ }
 {
     if full(t, kind) {
         return true;
@@ -180,6 +159,7 @@ fn already_live(kind: u64, live: bool) -> bool
 // The cause of stages 4 to 6, 1 where there is none. seid is the F-SEID's, and live says whether its session is: for an establishment.
 pub fn judge(
     t: &[u8],
+    u: Settings,
     taken: &[u64],
     free: usize,
     kind: u64,
@@ -192,8 +172,8 @@ pub fn judge(
     restoring: bool,
     noted: bool,
 ) -> u64
-    requires { ⌜ AtEntry (now t) (now taken) (now slot) (now gone) (now plan) n free kind seid live ⌝ }
-    ensures { λ r. ⌜ r ≡ judge maxSessions kind (viewSettings (now (t .entry))) (viewSessions (now (t .entry))) (viewSession (now (slot .entry))) (requestIn seid restoring noted (rowsOf n (now (plan .entry)))) .cause ⌝ }
+    requires { ⌜ AtEntry (settingsOf u) (now t) (now taken) (now slot) (now gone) (now plan) n free kind seid live ⌝ }
+    ensures { λ r. ⌜ r ≡ judge maxSessions kind (settingsOf u) (viewSessions (now (t .entry))) (viewSession (now (slot .entry))) (requestIn seid restoring noted (rowsOf n (now (plan .entry)))) .cause ⌝ }
 {
     if already_live(kind, live) {
         return causes::REJECTED;
@@ -204,10 +184,10 @@ pub fn judge(
     if rows::unsupported(plan, n, noted) {
         return causes::NOT_SUPPORTED;
     }
-    if breaks_rule(t, taken, slot, gone, plan, n) {
+    if breaks_rule(u, taken, slot, gone, plan, n) {
         return causes::BROKEN_RULE;
     }
-    if no_room(t, free, kind, slot, gone, plan, n) {
+    if no_room(t, u, free, kind, slot, gone, plan, n) {
         return causes::NO_ROOM;
     }
     causes::ACCEPTED

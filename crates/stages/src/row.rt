@@ -1,13 +1,13 @@
 // The rules of cause 73 on one row: on its IDs, by the session's live IDs, those of its PDRs that go and the other rows; and on its F-TEID.
 use format::types;
 use format::words;
-use rows::Unit;
+use unit::Settings;
 ghost use mathlib.Core.Path.{_≡_};
 ghost use Prim.Native.Nat.{_*_, _≤_};
 ghost use lib.ListN.{length};
 ghost use Rattle.plan.specs.Rows.{rowWidth, rowsOf};
 ghost use Rattle.rows.specs.RowRules.{heldIn};
-ghost use Rattle.rows.specs.Units.{settingsOf};
+ghost use Rattle.unit.specs.Meaning.{settingsOf};
 ghost use Rattle.stages.specs.RowRules.{createsLive, namesDead, updatesGone, pdiNamesBoth, pdiNamesAbsent, breaksId, breaksFteid};
 
 // A created ID live at entry.
@@ -115,7 +115,7 @@ pub fn breaks_id(
 }
 
 // The rules on a row's F-TEID. Only a TEID of the pool is looked up in the map.
-pub fn breaks_fteid(row: &[u64], u: Unit, taken: &[u64]) -> bool
+pub fn breaks_fteid(row: &[u64], u: Settings, taken: &[u64]) -> bool
     requires { ⌜ (length (now row) ≡ rowWidth) × (u .size ≤ 64 * length (now taken)) ⌝ }
     ensures { λ r. ⌜ r ≡ breaksFteid (heldIn (settingsOf u) (now (taken .entry))) (settingsOf u) (now (row .entry)) ⌝ }
 {

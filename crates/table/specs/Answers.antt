@@ -5,10 +5,9 @@ use mathlib.Core.Path.{_≡_}
 use mathlib.Core.List.{List}
 use Rattle.octets.specs.Choice.{pick}
 use mathlib.Core.Bool.{true, false}
-use Rattle.octets.specs.Octets.{be}
 use Rattle.octets.specs.Lists.{distinct}
 use Rattle.rules.specs.Limits.{maxSessions}
-use Rattle.rules.specs.Model.{Settings, heldTeids}
+use Rattle.rules.specs.Model.{heldTeids}
 use Rattle.rules.specs.Layout.{viewSettings, viewSessions}
 use Rattle.rules.specs.Sound.{sound, takenMap, Count, broken, free, Made}
 use Rattle.marking.specs.declared.Marks.{Marks}
@@ -27,10 +26,6 @@ pub record Examined (t : List ℕ) (r : Marks) (words′ : List ℕ) : Type 0 wh
 abbrev pub countOf : codeCount.Count → Count
 countOf Broken = broken
 countOf (Free n) = free n
-
--- the settings that the parameters of a call name: the IPv4 address as a number, the IPv6 address as octets, empty where there is none
-abbrev pub settingsOf : ℕ → List ℕ → ℕ → ℕ → Settings
-settingsOf ipv4 ipv6 first size = record { ipv4 = be 4 ipv4; ipv6 = ipv6; first = first; size = size }
 
 -- made or refused, with the table at exit
 abbrev pub madeOf : Making → List ℕ → Made

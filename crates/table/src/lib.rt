@@ -3,19 +3,16 @@
 // A table is the settings (29 octets), the number of sessions (2) and 64 slots of 483 octets; docs/ has the layout.
 ghost use mathlib.Core.Path.{_≡_};
 ghost use mathlib.Core.Bool.{_||_};
-ghost use lib.Dec.{T, eqb};
+ghost use lib.Dec.{eqb};
 ghost use lib.ListN.{replicate};
-ghost use Rattle.octets.specs.Octets.{zeros};
-ghost use Rattle.rules.specs.Layout.{settingsOctets, settingsWidth};
 ghost use Rattle.rules.specs.Limits.{maxSessions, mapWords};
-ghost use Rattle.rules.specs.Sound.{sound, countFree, make, ipv6Allowed};
+ghost use Rattle.rules.specs.Sound.{sound, countFree, make};
+ghost use Rattle.unit.specs.Meaning.{settingsGiven};
 ghost use Rattle.table.specs.Tests.{frontSound};
-ghost use Rattle.table.specs.Answers.{Examined, countOf, settingsOf, madeOf};
+ghost use Rattle.table.specs.Answers.{Examined, countOf, madeOf};
 use format::COUNT;
 use format::FIRST;
 use format::HEAD;
-use format::IPV4;
-use format::IPV6;
 use format::IPV6_THERE;
 use format::LENGTH;
 use format::MAX_SESSIONS;
@@ -92,18 +89,6 @@ pub enum Making {
     Refused,
 }
 
-// Writes the settings into their slot, which is zero.
-fn write_settings(slot: &mut [u8], ipv4: u32, ipv6: &[u8], first: u32, size: u32)
-    requires { ⌜ (now slot ≡ zeros settingsWidth) × T (ipv6Allowed (now ipv6)) ⌝ }
-    ensures { λ _. ⌜ now (slot .exit) ≡ settingsOctets (settingsOf ipv4 (now (ipv6 .entry)) first size) ⌝ }
-{
-    octets::write(slot, IPV4, 4, ipv4 as u64);
-    octets::write(slot, IPV6_THERE, 1, (ipv6.len() / 16) as u64);
-    octets::copy(slot, IPV6, ipv6);
-    octets::write(slot, FIRST, 4, first as u64);
-    octets::write(slot, SIZE, 4, size as u64);
-}
-
 // Whether there is no IPv6 address, or a whole one.
 fn address_fits(n: usize) -> bool
     ensures { λ r. ⌜ r ≡ (eqb n 0 || eqb n 16) ⌝ }
@@ -118,7 +103,7 @@ fn address_fits(n: usize) -> bool
 // where it is refused.
 pub fn make(t: &mut [u8], ipv4: u32, ipv6: &[u8], first: u32, size: u32) -> Making
     ensures { λ r.
-        ⌜ madeOf r (now (t .exit)) ≡ make maxSessions (settingsOf ipv4 (now (ipv6 .entry)) first size) (now (t .entry)) ⌝ }
+        ⌜ madeOf r (now (t .exit)) ≡ make maxSessions (settingsGiven ipv4 (now (ipv6 .entry)) first size) (now (t .entry)) ⌝ }
 {
     if t.len() != LENGTH {
         return Making::Refused;
@@ -126,10 +111,11 @@ pub fn make(t: &mut [u8], ipv4: u32, ipv6: &[u8], first: u32, size: u32) -> Maki
     if !address_fits(ipv6.len()) {
         return Making::Refused;
     }
-    if !records::pool_sound(first as u64, size as u64) {
+    let u = unit::given(ipv4, ipv6, first, size);
+    if !unit::allowed(u) {
         return Making::Refused;
     }
     octets::clear(t, 0, LENGTH);
-    write_settings(&mut t[0..SETTINGS], ipv4, ipv6, first, size);
+    unit::write(&mut t[0..SETTINGS], u);
     Making::Made
 }

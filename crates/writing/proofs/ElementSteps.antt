@@ -2,24 +2,25 @@
 use mathlib.Core.Path.{_≡_, refl, sym, ap, ap₂, _∙_}
 use mathlib.Core.Bool.{Bool, true, false, not, _&&_}
 use mathlib.Core.Option.{some}
-use mathlib.Core.List.{List, [], _∷_, _++_, append-assoc}
+use mathlib.Core.List.{List, [], _∷_, _++_, append-assoc, append-nil}
 use Prim.Native.Nat.{ℕ, zero, suc, _+_, _-_, _*_, _/_, _%_, _≤_, _<_}
 use native.Mathlib.Nat.{div-one}
 use native.Mathlib.Omega.{arith}
 use borrow.Author.Tests.{eq-eqb, ne-eqb}
 use lib.Dec.{eqb}
-use lib.ListN.{length, set, getD, take, length-append}
+use lib.ListN.{length, set, length-append, drop-of-length-le}
 use Rattle.octets.specs.Choice.{pick, flag, isNil}
-use Rattle.octets.specs.Octets.{put, be, part, bit, octetAt}
+use Rattle.octets.specs.Octets.{put, be, part, bit}
 use Rattle.octets.proofs.Numbers.{length-be}
-use Rattle.octets.proofs.Put.{set-put, put-front, length-part}
-use Rattle.rules.specs.Layout.{viewSettings, settingsWidth}
+use Rattle.octets.proofs.Put.{set-put, put-front}
 use Rattle.rules.specs.Model.{Settings}
 use Rattle.rules.specs.Elements.{fteidOctets, unitFteid, fseidOctets}
 use Rattle.rules.specs.Reply.{element, message, nodeIdElement, offendingElement, unitFseid, unitElement}
 use Rattle.rules.specs.Types as ie
 use Rattle.rules.specs.Message.{establishment}
-use Rattle.writing.specs.Families.{unitFamilies, unitAddresses, tunnelIn}
+use Rattle.unit.specs.declared.Settings.{Settings as Unit}
+use Rattle.unit.specs.Meaning.{settingsOf}
+use Rattle.writing.specs.Families.{unitFamilies, addressesIn, unitAddresses, tunnelIn}
 use Rattle.writing.specs.Placed.{Placed}
 use Rattle.writing.specs.Heads.{fseidFlags, messageHead}
 use Rattle.writing.proofs.PlacedLaws.{next-put, next-set, four-stores, be-two, length-element, placed-none, placed-element, length-headed}
@@ -89,32 +90,37 @@ fseid-steps seid at f a b s {s₁} h p flags q r u =
 
 -- ---- elements with the unit's IPv4 address
 
-module _ (kind at : ℕ) (t s : List ℕ) where
-  pub node-not : (kind ≡ establishment → ⊥) → Placed s at (nodeIdElement kind (viewSettings t)) at s
+-- octets over a whole list
+put-whole : (a s : List ℕ) → length a ≡ length s → put 0 a s ≡ a
+unfolding put
+put-whole a s e = ap (λ (l : List ℕ). a ++ l) (drop-of-length-le s {i = 0 + length a} (omega arith)) ∙ append-nil a
+
+module _ (kind at : ℕ) (v : Unit) (s : List ℕ) where
+  pub node-not : (kind ≡ establishment → ⊥) → Placed s at (nodeIdElement kind (settingsOf v)) at s
   unfolding nodeIdElement
   node-not k = rw (ne-eqb kind establishment k) (placed-none s at)
 
-  pub own-not : (seid : ℕ) → (kind ≡ establishment → ⊥) → Placed s at (unitFseid kind (viewSettings t) seid) at s
+  pub own-not : (seid : ℕ) → (kind ≡ establishment → ⊥) → Placed s at (unitFseid kind (settingsOf v) seid) at s
   unfolding unitFseid
   own-not seid k = rw (ne-eqb kind establishment k) (placed-none s at)
 
-  module _ (long : settingsWidth ≤ length t) (k : kind ≡ establishment) where
-    four : length (take 4 t) ≡ 4
-    four = length-part 0 4 t (omega arith)
+  module _ (k : kind ≡ establishment) where
+    abbrev ipv4 : List ℕ
+    ipv4 = be 4 (v .ipv4)
 
-    pub node-steps : {s₁ s₂ : List ℕ} → at + 9 ≤ length s → s₁ ≡ put at (be 2 60 ++ be 2 5) s → s₂ ≡ put (at + 5) (take 4 t) (set s₁ (at + 4) 0)
-        → Placed s at (nodeIdElement kind (viewSettings t)) (at + 9) s₂
-    unfolding nodeIdElement viewSettings
+    pub node-steps : {s₁ s₂ : List ℕ} → at + 9 ≤ length s → s₁ ≡ put at (be 2 60 ++ be 2 5) s → s₂ ≡ put (at + 5) ipv4 (set s₁ (at + 4) 0)
+        → Placed s at (nodeIdElement kind (settingsOf v)) (at + 9) s₂
+    unfolding nodeIdElement settingsOf
     node-steps {s₁} h p q =
         let l : length s₁ ≡ length s = length-headed at 60 5 s p (omega arith) in
         rw (eq-eqb kind establishment k)
-        (placed-element at 60 5 s p (omega arith) (at + 4) (at + 9) (0 ∷ take 4 t)
-        (next-put (at + 4) (at + 5) (0 ∷ []) (take 4 t) s₁ (set-put (at + 4) 0 s₁ (omega arith)) q (omega arith) (omega arith))
-        refl (ap suc four) (omega arith))
+        (placed-element at 60 5 s p (omega arith) (at + 4) (at + 9) (0 ∷ ipv4)
+        (next-put (at + 4) (at + 5) (0 ∷ []) ipv4 s₁ (set-put (at + 4) 0 s₁ (omega arith)) q (omega arith) (omega arith))
+        refl (ap suc (length-be 4 (v .ipv4))) (omega arith))
 
-    pub own-steps : (seid : ℕ) {e : ℕ} {s₁ : List ℕ} → Placed s at (element ie.fseid (fseidOctets seid (take 4 t) [])) e s₁ → Placed s at (unitFseid kind (viewSettings t) seid) e s₁
-    unfolding unitFseid viewSettings
-    own-steps seid p = rw (eq-eqb kind establishment k) p
+    pub own-steps : (seid : ℕ) (a₀ a : List ℕ) {e : ℕ} {s₁ : List ℕ} → length a₀ ≡ 4 → a ≡ put 0 ipv4 a₀ → Placed s at (element ie.fseid (fseidOctets seid a [])) e s₁ → Placed s at (unitFseid kind (settingsOf v) seid) e s₁
+    unfolding unitFseid settingsOf
+    own-steps seid a₀ a l q p = rw (eq-eqb kind establishment k, ← put-whole ipv4 a₀ (omega (arith, length-be 4 (v .ipv4))), ← q) p
 
 -- ---- F-TEID
 
@@ -132,20 +138,20 @@ module _ (n : ℕ) where
   unfolding bit
   next-bit = flag-one (n / 2 % 2) (omega arith)
 
--- with the unit's addresses: which there are, by their flags, and what the table has of them
-module _ (t : List ℕ) (long : settingsWidth ≤ length t) (families : ℕ) where
+length-addresses : (v : Unit) (f : ℕ) → length (addressesIn v f) ≡ 4 * (f % 2) + 16 * (f / 2)
+length-addresses v f =
+    let b : List ℕ = be (8 * (f / 2)) (v .high) in
+    let c : List ℕ = be (8 * (f / 2)) (v .low) in
+    omega (arith, length-append (be (4 * (f % 2)) (v .ipv4)) (b ++ c), length-append b c, length-be (4 * (f % 2)) (v .ipv4), length-be (8 * (f / 2)) (v .high), length-be (8 * (f / 2)) (v .low))
+
+-- with the unit's addresses: which there are, by their flags
+module _ (v : Unit) (families : ℕ) where
   abbrev st : Settings
-  st = viewSettings t
+  st = settingsOf v
 
-  x4 : isNil (take 4 t) ≡ false
-  x4 = not-nil (take 4 t) 3 (length-part 0 4 t (omega arith))
-
-  x6 : isNil (part 5 16 t) ≡ false
-  x6 = not-nil (part 5 16 t) 15 (length-part 5 16 t (omega arith))
-
-  pub families-without : getD t 4 0 ≡ 0 → (families % 2 ≡ unitFamilies st families) × (families % 2 < 4)
-  unfolding unitFamilies viewSettings octetAt
-  families-without z = (rw (eq-eqb (getD t 4 0) 0 z, x4) (plain (bit 0 families) (bit 1 families) (low-bit families)), omega arith)
+  pub families-without : v .«has_ipv6» ≡ false → (families % 2 ≡ unitFamilies st families) × (families % 2 < 4)
+  unfolding unitFamilies settingsOf be
+  families-without z = (rw z (plain (bit 0 families) (bit 1 families) (low-bit families)), omega arith)
     where
       plain : (p q : Bool) → flag p ≡ families % 2 → families % 2 ≡ flag (p && true) + 2 * flag (q && false)
       plain true true e = sym e
@@ -153,9 +159,9 @@ module _ (t : List ℕ) (long : settingsWidth ≤ length t) (families : ℕ) whe
       plain false true e = sym e
       plain false false e = sym e
 
-  pub families-with : (getD t 4 0 ≡ 0 → ⊥) → (families % 4 ≡ unitFamilies st families) × (families % 4 < 4)
-  unfolding unitFamilies viewSettings octetAt
-  families-with z = (rw (ne-eqb (getD t 4 0) 0 z, x4, x6) (plain (bit 0 families) (bit 1 families) (low-bit families) (next-bit families)), omega arith)
+  pub families-with : v .«has_ipv6» ≡ true → (families % 4 ≡ unitFamilies st families) × (families % 4 < 4)
+  unfolding unitFamilies settingsOf be
+  families-with z = (rw z (plain (bit 0 families) (bit 1 families) (low-bit families) (next-bit families)), omega arith)
     where
       plain : (p q : Bool) → flag p ≡ families % 2 → flag q ≡ families / 2 % 2 → families % 4 ≡ flag (p && true) + 2 * flag (q && true)
       plain true true e g = omega arith
@@ -163,53 +169,35 @@ module _ (t : List ℕ) (long : settingsWidth ≤ length t) (families : ℕ) whe
       plain false true e g = omega arith
       plain false false e g = omega arith
 
-  -- for the families f: the flags octet, and the addresses as parts of the table
+  -- for the families f: the flags octet, and the addresses
   record Held (a b : List ℕ) (f : ℕ) : Type 0 where
     flags : f ≡ flag (not (isNil a)) + 2 * flag (not (isNil b))
     small : f < 4
-    first : part 0 (4 * (f % 2)) t ≡ a
-    second : part 5 (16 * (f / 2)) t ≡ b
+    whole : addressesIn v f ≡ a ++ b
 
   held : Held (pick (bit 0 families) (st .ipv4) []) (pick (bit 1 families) (st .ipv6) []) (unitFamilies st families)
-  unfolding unitFamilies viewSettings
-  held = rw x4 (by (bit 0 families) (bit 1 families) (eqb (octetAt t 4) 0))
+  unfolding unitFamilies settingsOf be
+  held = by (bit 0 families) (bit 1 families) (v .«has_ipv6»)
     where
-      none : Held [] [] 0
-      none = record { flags = refl; small = omega arith; first = refl; second = refl }
-
-      one : Held (take 4 t) [] 1
-      one = record { flags = rw x4; small = omega arith; first = refl; second = refl }
-
-      other : Held [] (part 5 16 t) 2
-      other = record { flags = rw x6; small = omega arith; first = refl; second = refl }
-
-      two : Held (take 4 t) (part 5 16 t) 3
-      two = record { flags = rw (x4, x6); small = omega arith; first = refl; second = refl }
-
-      by : (p q z : Bool) → Held (pick p (take 4 t) []) (pick q (pick z [] (part 5 16 t)) []) (flag (p && true) + 2 * flag (q && not (isNil (pick z [] (part 5 16 t)))))
-      by true true true = one
-      by true true false = rw x6 two
-      by true false z = one
-      by false true true = none
-      by false true false = rw x6 other
-      by false false z = none
+      by : (p q z : Bool) → Held (pick p (be 4 (v .ipv4)) []) (pick q (pick z (be 8 (v .high) ++ be 8 (v .low)) []) []) (flag (p && true) + 2 * flag (q && not (isNil (pick z (be 8 (v .high) ++ be 8 (v .low)) []))))
+      by true true true = record { flags = refl; small = omega arith; whole = refl }
+      by true true false = record { flags = refl; small = omega arith; whole = refl }
+      by true false z = record { flags = refl; small = omega arith; whole = refl }
+      by false true true = record { flags = refl; small = omega arith; whole = refl }
+      by false true false = record { flags = refl; small = omega arith; whole = refl }
+      by false false z = record { flags = refl; small = omega arith; whole = refl }
 
   abbrev has : ℕ
   has = unitFamilies st families
 
   module _ (teid : ℕ) where
-    -- the value's octets after the first five are those parts
-    unit-value : fteidOctets (unitFteid st (tunnelIn teid families)) ≡ has ∷ be 4 teid ++ (part 0 (4 * (has % 2)) t ++ part 5 (16 * (has / 2)) t)
+    -- the value's octets after the first five are those addresses
+    unit-value : fteidOctets (unitFteid st (tunnelIn teid families)) ≡ has ∷ be 4 teid ++ addressesIn v has
     unfolding unitFteid fteidOctets tunnelIn
-    unit-value = rw (held .first, held .second) (ap (λ (x : ℕ). x ∷ be 4 teid ++ (pick (bit 0 families) (st .ipv4) [] ++ pick (bit 1 families) (st .ipv6) [])) (sym (held .flags)))
+    unit-value = rw (held .whole) (ap (λ (x : ℕ). x ∷ be 4 teid ++ (pick (bit 0 families) (st .ipv4) [] ++ pick (bit 1 families) (st .ipv6) [])) (sym (held .flags)))
 
     length-value : length (fteidOctets (unitFteid st (tunnelIn teid families))) ≡ 5 + unitAddresses st families
-    length-value =
-        let a = part 0 (4 * (has % 2)) t in
-        let b = part 5 (16 * (has / 2)) t in
-        let la : length a ≡ 4 * (has % 2) = length-part 0 (4 * (has % 2)) t (omega arith) in
-        let lb : length b ≡ 16 * (has / 2) = length-part 5 (16 * (has / 2)) t (omega (arith, held .small)) in
-        rw unit-value (omega (arith, length-append (be 4 teid) (a ++ b), length-append a b, length-be 4 teid, la, lb))
+    length-value = rw unit-value (omega (arith, length-append (be 4 teid) (addressesIn v has), length-addresses v has, length-be 4 teid, held .small))
 
     pub length-unit : length (unitElement st (tunnelIn teid families)) ≡ 9 + unitAddresses st families
     unfolding unitElement
@@ -217,17 +205,17 @@ module _ (t : List ℕ) (long : settingsWidth ≤ length t) (families : ℕ) whe
 
     pub fteid-steps : (at f : ℕ) (s : List ℕ) {s₁ s₂ s₃ : List ℕ} {e : ℕ} → at + 9 + unitAddresses st families ≤ length s → f ≡ has
         → s₁ ≡ put at (be 2 21 ++ be 2 (5 + (4 * (f % 2) + 16 * (f / 2)))) s → s₂ ≡ put (at + 5) (be 4 teid) (set s₁ (at + 4) f)
-        → Placed s₂ (at + 9) (part 0 (4 * (f % 2)) t ++ part 5 (16 * (f / 2)) t) e s₃
+        → Placed s₂ (at + 9) (addressesIn v f) e s₃
         → Placed s at (unitElement st (tunnelIn teid families)) e s₃
     unfolding unitElement
     fteid-steps at f s {s₁} {s₂} {s₃} {e} h g p q r =
         let n : ℕ = 5 + (4 * (f % 2) + 16 * (f / 2)) in
         let long-one : length s₁ ≡ length s = length-headed at 21 n s p (omega arith) in
         let b = length-be 4 teid in
-        let w : List ℕ = part 0 (4 * (f % 2)) t ++ part 5 (16 * (f / 2)) t in
-        let v : fteidOctets (unitFteid st (tunnelIn teid families)) ≡ f ∷ be 4 teid ++ w = rw g unit-value in
-        let l : length (f ∷ be 4 teid ++ w) ≡ n = sym (ap length v) ∙ rw g length-value in
-        rw v
+        let w : List ℕ = addressesIn v f in
+        let value : fteidOctets (unitFteid st (tunnelIn teid families)) ≡ f ∷ be 4 teid ++ w = rw g unit-value in
+        let l : length (f ∷ be 4 teid ++ w) ≡ n = sym (ap length value) ∙ rw g length-value in
+        rw value
         (placed-element at 21 n s p (omega arith) (at + 4) e (f ∷ be 4 teid ++ w)
         (next-put (at + 4) (at + 9) (f ∷ be 4 teid) w s₁
         (next-put (at + 4) (at + 5) (f ∷ []) (be 4 teid) s₁ (set-put (at + 4) f s₁ (omega arith)) q (omega arith) (omega arith))
@@ -235,18 +223,20 @@ module _ (t : List ℕ) (long : settingsWidth ≤ length t) (families : ℕ) whe
         refl l (let k = r .ends in let m = length-append (be 4 teid) w in omega arith))
 
 -- the addresses, one after the other
-pub addresses-steps : (t : List ℕ) (f at : ℕ) (s : List ℕ) {s₁ s₂ : List ℕ} → settingsWidth ≤ length t → f < 4 → at + (4 * (f % 2) + 16 * (f / 2)) ≤ length s
-    → s₁ ≡ put at (take (4 * (f % 2)) t) s → s₂ ≡ put (at + 4 * (f % 2)) (part 5 (5 + 16 * (f / 2) - 5) t) s₁
-    → Placed s at (part 0 (4 * (f % 2)) t ++ part 5 (16 * (f / 2)) t) (at + 4 * (f % 2) + 16 * (f / 2)) s₂
-addresses-steps t f at s {s₁} {s₂} h g l p q =
-    let a : List ℕ = take (4 * (f % 2)) t in
-    let b : List ℕ = part 5 (16 * (f / 2)) t in
-    let la : length a ≡ 4 * (f % 2) = length-part 0 (4 * (f % 2)) t (omega arith) in
-    let lb : length b ≡ 16 * (f / 2) = length-part 5 (16 * (f / 2)) t (omega arith) in
-    let k : 5 + 16 * (f / 2) - 5 ≡ 16 * (f / 2) = omega arith in
+pub addresses-steps : (v : Unit) (f at : ℕ) (s : List ℕ) {s₁ s₂ s₃ : List ℕ} → f < 4 → at + (4 * (f % 2) + 16 * (f / 2)) ≤ length s
+    → s₁ ≡ put at (be (4 * (f % 2)) (v .ipv4)) s → s₂ ≡ put (at + 4 * (f % 2)) (be (8 * (f / 2)) (v .high)) s₁ → s₃ ≡ put (at + 4 * (f % 2) + 8 * (f / 2)) (be (8 * (f / 2)) (v .low)) s₂
+    → Placed s at (addressesIn v f) (at + 4 * (f % 2) + 8 * (f / 2) + 8 * (f / 2)) s₃
+addresses-steps v f at s {s₁} {s₂} {s₃} g l p q r =
+    let a : List ℕ = be (4 * (f % 2)) (v .ipv4) in
+    let b : List ℕ = be (8 * (f / 2)) (v .high) in
+    let c : List ℕ = be (8 * (f / 2)) (v .low) in
+    let la = length-be (4 * (f % 2)) (v .ipv4) in
+    let lb = length-be (8 * (f / 2)) (v .high) in
+    let lab : length (a ++ b) ≡ 4 * (f % 2) + 8 * (f / 2) = length-append a b ∙ omega arith in
+    let one = next-put at (at + 4 * (f % 2)) a b s p q (omega arith) (omega arith) in
     record {
-      ends = rw (length-append a b, la, lb) (omega arith);
-      holds = next-put at (at + 4 * (f % 2)) a b s p (rw k at q) (omega arith) (omega arith);
+      ends = omega (arith, length-addresses v f);
+      holds = next-put at (at + 4 * (f % 2) + 8 * (f / 2)) (a ++ b) c s one r (omega arith) (omega arith) ∙ ap (λ (xs : List ℕ). put at xs s) (append-assoc a b c);
     }
 
 -- ---- a message's header

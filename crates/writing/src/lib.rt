@@ -4,14 +4,15 @@ ghost use Prim.Native.Nat.{_+_, _*_, _/_, _%_, _≤_, _<_};
 ghost use lib.ListN.{length};
 ghost use mathlib.Core.List.{[], _∷_, _++_};
 ghost use mathlib.Core.Option.{some};
-ghost use Rattle.octets.specs.Octets.{put, be, part};
-ghost use Rattle.rules.specs.Layout.{viewSettings, settingsWidth};
+ghost use Rattle.octets.specs.Octets.{put, be};
 ghost use Rattle.rules.specs.Elements.{fseidOctets};
 ghost use Rattle.rules.specs.Reply.{element, nodeIdElement, offendingElement, unitFseid, unitElement};
 ghost use Rattle.rules.specs.Types as ie;
-ghost use Rattle.writing.specs.Families.{unitFamilies, addressOctets, unitAddresses, tunnelIn};
+ghost use Rattle.unit.specs.Meaning.{settingsOf};
+ghost use Rattle.writing.specs.Families.{unitFamilies, addressOctets, addressesIn, unitAddresses, tunnelIn};
 ghost use Rattle.writing.specs.Placed.{Placed};
 ghost use Rattle.writing.specs.Heads.{fseidFlags, messageHead};
+use unit::Settings;
 
 // The type of a Session Establishment Request.
 pub const ESTABLISHMENT: u8 = 50;
@@ -28,16 +29,16 @@ pub fn write_head(kind: usize, n: usize, out: &mut [u8], at: usize)
 }
 
 // Node ID, in an establishment's reply only.
-pub fn write_node_id(t: &[u8], kind: u8, out: &mut [u8], at: usize) -> usize
-    requires { ⌜ (settingsWidth ≤ length (now t)) × (at + 9 ≤ length (now out)) ⌝ }
-    ensures { λ r. ⌜ Placed (now (out .entry)) at (nodeIdElement kind (viewSettings (now (t .entry)))) r (now (out .exit)) ⌝ }
+pub fn write_node_id(u: Settings, kind: u8, out: &mut [u8], at: usize) -> usize
+    requires { ⌜ at + 9 ≤ length (now out) ⌝ }
+    ensures { λ r. ⌜ Placed (now (out .entry)) at (nodeIdElement kind (settingsOf u)) r (now (out .exit)) ⌝ }
 {
     if kind != ESTABLISHMENT {
         return at;
     }
     write_head(60, 5, out, at);
     out[at + 4] = 0;
-    octets::copy(out, at + 5, &t[format::IPV4..format::IPV6_THERE]);
+    octets::write(out, at + 5, 4, u.ipv4);
     at + 9
 }
 
@@ -103,56 +104,54 @@ pub fn write_fseid(seid: u64, ipv4: &[u8], ipv6: &[u8], out: &mut [u8], at: usiz
 }
 
 // The unit's F-SEID, in an accepted establishment's reply only.
-pub fn write_own_fseid(t: &[u8], kind: u8, seid: u64, out: &mut [u8], at: usize) -> usize
-    requires { ⌜ (settingsWidth ≤ length (now t)) × (at + 17 ≤ length (now out)) ⌝ }
-    ensures { λ r. ⌜ Placed (now (out .entry)) at (unitFseid kind (viewSettings (now (t .entry))) seid) r (now (out .exit)) ⌝ }
+pub fn write_own_fseid(u: Settings, kind: u8, seid: u64, out: &mut [u8], at: usize) -> usize
+    requires { ⌜ at + 17 ≤ length (now out) ⌝ }
+    ensures { λ r. ⌜ Placed (now (out .entry)) at (unitFseid kind (settingsOf u) seid) r (now (out .exit)) ⌝ }
 {
     if kind != ESTABLISHMENT {
         return at;
     }
-    write_fseid(
-        seid,
-        &t[format::IPV4..format::IPV6_THERE],
-        &t[0..0],
-        out,
-        at,
-    )
+    let mut ipv4 = [0u8; 4];
+    octets::write(&mut ipv4, 0, 4, u.ipv4);
+    let none = [0u8; 1];
+    write_fseid(seid, &ipv4, &none[0..0], out, at)
 }
 
 // The families of an F-TEID with the unit's addresses: V4 = 1, V6 = 2 where the unit has an IPv6 address.
-pub fn unit_families(t: &[u8], families: u64) -> usize
-    requires { ⌜ settingsWidth ≤ length (now t) ⌝ }
-    ensures { λ r. ⌜ (r ≡ unitFamilies (viewSettings (now (t .entry))) families) × (r < 4) ⌝ }
+pub fn unit_families(u: Settings, families: u64) -> usize
+    ensures { λ r. ⌜ (r ≡ unitFamilies (settingsOf u) families) × (r < 4) ⌝ }
 {
-    if t[format::IPV6_THERE] == 0 {
-        return (families % 2) as usize;
+    if u.has_ipv6 {
+        return (families % 4) as usize;
     }
-    (families % 4) as usize
+    (families % 2) as usize
 }
 
-// The unit's addresses of these families, as the table has them.
-fn write_addresses(t: &[u8], families: usize, out: &mut [u8], at: usize) -> usize
-    requires { ⌜ (settingsWidth ≤ length (now t)) × (families < 4) × (at + addressOctets families ≤ length (now out)) ⌝ }
-    ensures { λ r. ⌜ Placed (now (out .entry)) at (part 0 (4 * (families % 2)) (now (t .entry)) ++ part 5 (16 * (families / 2)) (now (t .entry))) r (now (out .exit)) ⌝ }
+// The unit's addresses of these families.
+fn write_addresses(u: Settings, families: usize, out: &mut [u8], at: usize) -> usize
+    requires { ⌜ (families < 4) × (at + addressOctets families ≤ length (now out)) ⌝ }
+    ensures { λ r. ⌜ Placed (now (out .entry)) at (addressesIn u families) r (now (out .exit)) ⌝ }
 {
     let v4 = 4 * (families % 2);
-    let v6 = 16 * (families / 2);
-    octets::copy(out, at, &t[..v4]);
-    let next = at + v4;
-    octets::copy(out, next, &t[format::IPV6..format::IPV6 + v6]);
-    next + v6
+    let half = 8 * (families / 2);
+    octets::write(out, at, v4, u.ipv4);
+    let high = at + v4;
+    octets::write(out, high, half, u.high);
+    let low = high + half;
+    octets::write(out, low, half, u.low);
+    low + half
 }
 
 // An F-TEID with the unit's addresses.
-pub fn write_fteid(t: &[u8], teid: u64, families: u64, out: &mut [u8], at: usize) -> usize
-    requires { ⌜ (settingsWidth ≤ length (now t)) × (at + 9 + unitAddresses (viewSettings (now t)) families ≤ length (now out)) ⌝ }
-    ensures { λ r. ⌜ Placed (now (out .entry)) at (unitElement (viewSettings (now (t .entry))) (tunnelIn teid families)) r (now (out .exit)) ⌝ }
+pub fn write_fteid(u: Settings, teid: u64, families: u64, out: &mut [u8], at: usize) -> usize
+    requires { ⌜ at + 9 + unitAddresses (settingsOf u) families ≤ length (now out) ⌝ }
+    ensures { λ r. ⌜ Placed (now (out .entry)) at (unitElement (settingsOf u) (tunnelIn teid families)) r (now (out .exit)) ⌝ }
 {
-    let f = unit_families(t, families);
+    let f = unit_families(u, families);
     write_head(21, 5 + (4 * (f % 2) + 16 * (f / 2)), out, at);
     out[at + 4] = f as u8;
     octets::write(out, at + 5, 4, teid);
-    write_addresses(t, f, out, at + 9)
+    write_addresses(u, f, out, at + 9)
 }
 
 // A message's header, for elements of n octets: type, SEID and sequence number.

@@ -10,7 +10,7 @@ returns : tie.Need-returns
 returns c = search pdr-not
 
 write-group-requires : tie.Need-write-group-requires
-write-group-requires c κs = let p = c .before .before .before .before .before .before .pre in (p .0, lit≤ tt, search pdr-room)
+write-group-requires c κs = (lit≤ tt, search pdr-room)
 
 returns-2 : tie.Need-returns-2
 returns-2 c = search pdr-steps
@@ -19,7 +19,7 @@ returns-3 : tie.Need-returns-3
 returns-3 c = search endpoint-not
 
 write-group-requires-2 : tie.Need-write-group-requires-2
-write-group-requires-2 c κs = let p = c .before .before .before .before .before .before .pre in (p .0, lit≤ tt, search endpoint-room)
+write-group-requires-2 c κs = (lit≤ tt, search endpoint-room)
 
 returns-4 : tie.Need-returns-4
 returns-4 c = search endpoint-steps

@@ -12,36 +12,33 @@ use Rattle.engine.proofs.accept.Statement.{statement}
 use Rattle.engine.proofs.accept.Tie as tie
 
 grant-requires : tie.Need-grant-requires
-grant-requires c κs = grant-asks (c .before .before .before .before .before .before .before .before .before .before .before .before .before .before .pre) (c .before .before .before .before .before .read .ensures .0) (c .before .before .before .read2 .ensures .0) (c .before .before .before .before .before .read .ensures .1)
+grant-requires c κs = search grant-asks
 
 -- the places found, which are no more than there is room for
-found : (c : tie.After-accepted-arg2) → c .before .before .before .before .before .grant .result ≤ length (c .before .before .before .before .before .grant .last .1 .1 .1 .1 .1 .0)
-found c = let h : c .before .before .before .before .before .grant .result ≤ maxGrants = search read-few in omega (arith, c .before .before .before .before .before .grant .kept .1 .1 .1 .1 .1 .0)
+found : (c : tie.After-accepted-arg) → c .before .before .before .before .grant .result ≤ length (c .before .before .before .before .grant .last .1 .1 .1 .1 .0)
+found c = let h : c .before .before .before .before .grant .result ≤ maxGrants = search read-few in omega (arith, c .before .before .before .before .grant .kept .1 .1 .1 .1 .0)
 
 slice-aggregate-accepted : tie.Need-slice-aggregate-accepted
 slice-aggregate-accepted c = sym (length-take-le _ _ (found (c .before)))
 
 accepted-requires : tie.Need-accepted-requires
 accepted-requires c κs =
-    let s = c .before .before .before .before .before .before .before .before .before .before .before .before .before .before .before .before .before .before .before .before .before .before in
-    let f = read-fit (s .pre) (c .before .before .before .before .before .before .before .before .before .before .before .before .before .read .ensures .0) (c .before .before .before .before .before .before .before .before .before .before .before .read2 .ensures .0) (c .before .before .before .before .before .before .before .grant .ensures) in
-    (search needs, search needs, search needs, f .few, f .inside, f .ids, search needs)
+    let s = c .before .before .before .before .before .before .before .before .before .before .before .before .before .before .before .before .before in
+    let f = read-fit (s .pre) (c .before .before .before .before .before .before .grant .ensures) in
+    (search needs, search needs, f .few, f .inside, f .ids, search needs)
 
 keep-requires : tie.Need-keep-requires
 keep-requires c κs =
-    let p = c .before .before .before .before .before .before .before .before .before .before .before .before .before .before .before .before .before .before .before .before .before .before .before .before .before .before .before .before .pre in
-    (p .asked .tableLong, p .slotLong, omega (arith, p .rows, c .before .before .before .before .before .before .before .before .before .before .before .before .before .grant .kept .0))
+    let p = c .before .before .before .before .before .before .before .before .before .before .before .before .before .before .before .before .before .before .before .before .before .before .before .pre in
+    (p .asked .tableLong, p .slotLong, omega (arith, p .rows, c .before .before .before .before .before .before .before .before .before .before .before .before .grant .kept .0))
 
 returns : tie.Need-returns
-returns c =
-    read-answers (c .before .before .before .before .before .before .before .before .before .before .before .before .before .before .before .before .before .before .before .before .before .before .before .before .before .before .before .before .before .before .before .before .before .pre) (c .before .before .before .before .before .before .before .before .before .before .before .before .before .before .before .before .before .before .before .before .before .before .before .before .read .ensures .0) (c .before .before .before .before .before .before .before .before .before .before .before .before .before .before .before .before .before .before .before .before .before .before .read2 .ensures .0) (c .before .before .before .before .before .before .before .before .before .before .before .before .before .before .before .before .before .before .grant .ensures) _ _ _ (c .before .before .before .before .before .before .before .before .before .before .accepted .ensures) (c .before .before .before .before .keep .ensures .1)
+returns c = read-answers (c .before .before .before .before .before .before .before .before .before .before .before .before .before .before .before .before .before .before .before .before .before .before .before .before .before .before .before .before .pre) (c .before .before .before .before .before .before .before .before .before .before .before .before .before .before .before .before .before .grant .ensures) _ _ _ (c .before .before .before .before .before .before .before .before .before .before .accepted .ensures) (c .before .before .before .before .keep .ensures .1)
 
 pub accept-spec : {M : Type 1} → statement M
 accept-spec =
     tie.close
     (tie.spec
-    (λ c κs. search needs)
-    (λ c κs. search needs)
     (λ c. search needs)
     (λ c. search needs)
     grant-requires

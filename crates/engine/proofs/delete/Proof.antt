@@ -10,10 +10,10 @@ use Rattle.engine.proofs.delete.Statement.{statement}
 use Rattle.engine.proofs.delete.Tie as tie
 
 refuse-requires : tie.Need-refuse-requires
-refuse-requires c κs = search frame-asks
+refuse-requires c κs = (search frame-asks, search needs)
 
 refuse-requires-2 : tie.Need-refuse-requires-2
-refuse-requires-2 c κs = search then-asks
+refuse-requires-2 c κs = (search then-asks, search needs)
 
 returns : tie.Need-returns
 returns c = search frame-replies
@@ -23,7 +23,7 @@ returns-2 c = search then-replies
 
 accepted-requires : tie.Need-accepted-requires
 unfolding all
-accepted-requires c κs = (search needs, search needs, search needs, omega arith, tt, refl, search needs)
+accepted-requires c κs = (search needs, search needs, omega arith, tt, refl, search needs)
 
 returns-3 : tie.Need-returns-3
 returns-3 c = search deleted-through

@@ -1,7 +1,7 @@
 -- `engine::serve` meets its contract.
 -- Assumes nothing.
 use Rattle.frame.specs.declared.header.Header.the-variants.{TooLong, Malformed, NotServed}
-use Rattle.engine.proofs.Serving.{serves-broken, serves-small, serves-outcome, asks, counts, kind-is, seid-is, serves-answer}
+use Rattle.engine.proofs.Serving.{serves-broken, serves-small, serves-outcome, asks, counts, size-read, kind-is, seid-is, serves-answer}
 use Rattle.table.proofs.Examining.{count-read, count-less}
 use Rattle.octets.proofs.Digits.{octets-known}
 use Rattle.octets.specs.Octets.{octets}
@@ -27,10 +27,10 @@ returns-5 : tie.Need-returns-5
 returns-5 c = serves-outcome (c .before .before .before .before .before .before .before .before .before .before .before .before .before .before .before .args .t .now) (c .before .before .before .before .before .before .before .before .before .before .before .before .before .before .before .args .msg .now) (c .before .before .before .before .before .before .before .before .before .before .before .before .before .before .before .args .out .now) (c .before .before .before .before .before .before .before .before .before .examine .ensures) (c .before .before .before .before .before .before .seen .given .1) (c .before .before .before .before .if1 .left) (c .before .before .before .read-header .ensures) NotServed 5 refl refl (c .before .enum-told4 .given .1) (c .unserved5 .ensures)
 
 read-requires : tie.Need-read-requires
-read-requires c κs = count-read _ _ _ (c .before .before .before .before .before .before .before .before .before .before .examine .ensures) _ (c .before .before .before .before .before .before .before .seen .given .1)
+read-requires c κs = count-read _ _ _ (c .before .before .before .before .before .before .before .before .before .before .examine .ensures) _ (c .before .before .before .before .before .before .before .seen .given .1) .0
 
 sub-free : tie.Need-sub-free
-sub-free c = count-less _ _ _ (c .before .before .before .before .before .before .before .before .before .before .before .examine .ensures) _ _ (c .before .before .before .before .before .before .before .before .seen .given .1) (c .read .ensures .0)
+sub-free c = count-less _ _ _ (c .before .before .before .before .before .before .before .before .before .before .before .examine .ensures) _ _ (c .before .before .before .before .before .before .before .before .seen .given .1) (size-read _ _ (c .read .ensures))
 
 answer-requires : tie.Need-answer-requires
 answer-requires c κs =
@@ -42,7 +42,7 @@ answer-requires c κs =
     let h = c .before .before .before .before .before .before .before .read-header .ensures in
     let d = c .before .before .before .before .before .header .given .1 in (
       asks (s .args .t .now) (s .args .msg .now) (s .args .out .now) x e l h d o,
-      counts (s .args .t .now) (s .args .msg .now) (s .args .out .now) x e (search needs) (c .before .before .read .ensures .0),
+      counts (s .args .t .now) (s .args .msg .now) (s .args .out .now) x e (search needs) (c .before .before .read .ensures),
       kind-is (s .args .t .now) (s .args .msg .now) (s .args .out .now) x e l h d,
       seid-is (s .args .t .now) (s .args .msg .now) (s .args .out .now) x e l h d,
     )

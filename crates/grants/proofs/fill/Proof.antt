@@ -10,13 +10,13 @@ use Rattle.grants.proofs.fill.Statement.{statement}
 use Rattle.grants.proofs.fill.Tie as tie
 
 abbrev Inv-loop : tie.InvT-loop
-Inv-loop plan places words first size teids₀ known₀ from₀ i₀ teids known from i = Filling plan places words first size teids₀ teids known from i
+Inv-loop plan places words u teids₀ known₀ from₀ i₀ teids known from i = Filling plan places words (u .first) (u .size) teids₀ teids known from i
 
 abbrev μ-loop : tie.MeasureT-loop
-μ-loop plan places words first size teids₀ known₀ from₀ i₀ teids known from i = length places - i
+μ-loop plan places words u teids₀ known₀ from₀ i₀ teids known from i = length places - i
 
 loop-holds : tie.Need-loop-holds Inv-loop μ-loop
-loop-holds c = let s = c .before .before .before .before .args in filling-none (s .plan .now) (s .places .now) (s .words .now) (s .first) (s .size) (s .teids .now)
+loop-holds c = let s = c .before .before .before .before .args in filling-none (s .plan .now) (s .places .now) (s .words .now) (s .u .first) (s .u .size) (s .teids .now)
 
 -- the next row
 inside : (c : tie.After-shared-slice-known4 Inv-loop μ-loop) → getD (c .before .before .before .before .before .before .before .args .places .now) (c .before .before .loop .i) 0 + rowWidth ≤ length (c .before .before .before .before .before .before .before .args .plan .now)
@@ -54,13 +54,13 @@ slice-write-teids c =
 loop-again : tie.Need-loop-again Inv-loop μ-loop
 loop-again c =
     let s = c .before .before .before .before .before .before .before .before .before .before .before .before .args in
-    filling-turn (s .plan .now) (s .places .now) (s .words .now) (s .first) (s .size) (s .teids .now) (c .before .before .before .before .before .before .before .loop .inv) (c .before .before .before .before .before .before .loop-test .taken) (c .before .before .choose-id .ensures) (c .before .teid-for .ensures)
+    filling-turn (s .plan .now) (s .places .now) (s .words .now) (s .u .first) (s .u .size) (s .teids .now) (c .before .before .before .before .before .before .before .loop .inv) (c .before .before .before .before .before .before .loop-test .taken) (c .before .before .choose-id .ensures) (c .before .teid-for .ensures)
 
 same-length : tie.Need-same-length Inv-loop μ-loop
 same-length c = c .before .loop .inv .long
 
 returns : tie.Need-returns Inv-loop μ-loop
-returns c = let s = c .before .before .before .before .before .before .args in filling-all (s .plan .now) (s .places .now) (s .words .now) (s .first) (s .size) (s .teids .now) (c .before .loop .inv) (c .loop-test .left)
+returns c = let s = c .before .before .before .before .before .before .args in filling-all (s .plan .now) (s .places .now) (s .words .now) (s .u .first) (s .u .size) (s .teids .now) (c .before .loop .inv) (c .loop-test .left)
 
 pub fill-spec : {M : Type 1} → statement M
 fill-spec =

@@ -51,7 +51,7 @@ slice-aggregate-store : tie.Need-slice-aggregate-store
 slice-aggregate-store c = sym (found-length (c .before .before .before .before .before .before .before .before .before))
 
 -- as many TEIDs as there were
-teids-length : (c : tie.After-teids3) → length (c .before .before .before .before .fill .last .1 .1 .1 .1 .1 .0) ≡ 24
+teids-length : (c : tie.After-teids3) → length (c .before .before .before .before .fill .last .1 .1 .1 .1 .0) ≡ 24
 teids-length c = search needs
 
 store-requires : tie.Need-store-requires
@@ -64,7 +64,7 @@ returns : tie.Need-returns
 returns c =
     let f = c .before .before .before .before .before .before .before .before .before .before .before .before .before in
     let s = f .before .before .before .before .before .before .before .before .before .before .before in
-    granted-steps (s .args .n) (s .args .first) (s .args .words .now) (s .args .size) (s .args .plan .now) _
+    granted-steps (s .args .n) (s .args .u .first) (s .args .words .now) (s .args .u .size) (s .args .plan .now) _
     (found f) (found-length f) (few f) (c .before .before .before .before .before .before .before .fill .ensures) (c .before .before .store .ensures)
 
 pub grant-spec : {M : Type 1} → statement M

@@ -4,7 +4,7 @@ use Prim.Native.Nat.{_≤_}
 use native.Mathlib.Omega.{arith}
 use lib.ListN.{length, length-take}
 use Rattle.octets.specs.Octets.{slices}
-use Rattle.rules.specs.Layout.{viewSettings}
+use Rattle.unit.specs.Meaning.{settingsOf}
 use Rattle.restoration.specs.Records.{recordWidth}
 use Rattle.restoration.proofs.AreaLaws.{Walk, walk-none, walk-fits, walk-wide, walk-room, walk-more, walk-all}
 use borrow.Author.Needs.{needs}
@@ -12,10 +12,10 @@ use Rattle.restoration.proofs.write_area.Statement.{statement}
 use Rattle.restoration.proofs.write_area.Tie as tie
 
 abbrev Inv-loop : tie.InvT-loop
-Inv-loop t kind area n out₀ at w rest₀ left₀ next₀ out rest left next = Walk kind w (viewSettings t) (slices (recordWidth kind) n area) at out₀ rest left next out
+Inv-loop u kind area n out₀ at w rest₀ left₀ next₀ out rest left next = Walk kind w (settingsOf u) (slices (recordWidth kind) n area) at out₀ rest left next out
 
 abbrev μ-loop : tie.MeasureT-loop
-μ-loop t kind area n out₀ at w rest₀ left₀ next₀ out rest left next = left
+μ-loop u kind area n out₀ at w rest₀ left₀ next₀ out rest left next = left
 
 wide : (k : tie.In-loop Inv-loop μ-loop) → k .before .before .record-width .result ≤ length (k .before .loop .rest .now)
 wide k = walk-wide (k .before .loop .inv) (omega arith)
@@ -29,7 +29,7 @@ slice-aggregate-write-record c = omega (arith, wide (c .before), length-take (c 
 write-record-requires : tie.Need-write-record-requires Inv-loop μ-loop
 write-record-requires c κs =
     let l = c .before .before .before in
-    (c .before .before .before .before .before .before .before .before .pre .0, walk-fits (l .loop .inv) (omega arith), walk-room (l .loop .inv) (omega arith))
+    (walk-fits (l .loop .inv) (omega arith), walk-room (l .loop .inv) (omega arith))
 
 sub-rest : tie.Need-sub-rest Inv-loop μ-loop
 sub-rest c = wide (c .before .before .before .before .before)

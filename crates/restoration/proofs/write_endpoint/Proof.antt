@@ -3,7 +3,8 @@
 use native.Mathlib.Omega.{arith}
 use lib.ListN.{getD, take}
 use Rattle.octets.specs.Octets.{number, part}
-use Rattle.rules.specs.Layout.{viewSettings, viewEndpoint}
+use Rattle.rules.specs.Layout.{viewEndpoint}
+use Rattle.unit.specs.Meaning.{settingsOf}
 use Rattle.rules.specs.Types as ie
 use Rattle.octets.proofs.Put.{length-part}
 use Rattle.writing.proofs.PlacedLaws.{length-element}
@@ -15,26 +16,24 @@ use Rattle.restoration.proofs.write_endpoint.Tie as tie
 
 write-value-requires : tie.Need-write-value-requires
 write-value-requires c κs =
-    let s = c .before .before .before .before .before in
-    omega (arith, s .pre, length-endpoint (viewSettings (s .args .t .now)) (viewEndpoint (s .args .endpoint .now)), length-part 0 1 (s .args .endpoint .now) (omega arith))
+    let s = c .before .before .before .before in
+    omega (arith, s .pre, length-endpoint (settingsOf (s .args .u)) (viewEndpoint (s .args .endpoint .now)), length-part 0 1 (s .args .endpoint .now) (omega arith))
 
 cast-write-fteid : tie.Need-cast-write-fteid
-cast-write-fteid c = omega (arith, c .shared-slice-known3 .given 5)
+cast-write-fteid c = omega (arith, c .shared-slice-known2 .given 5)
 
 write-fteid-requires : tie.Need-write-fteid-requires
 write-fteid-requires c κs =
-    let s = c .before .before .before .before .before .before .before .before .before .before .before in
+    let s = c .before .before .before .before .before .before .before .before .before .before in
     let xs = s .args .endpoint .now in
-    let t = s .args .t .now in
-    let w = c .before .before .before .before .before .write-value in (
-      s .pre .0,
-      omega (arith, s .pre .2, w .ensures .ends, w .kept .1 .1 .0, rw (endpoint-local xs (s .pre .1) t) at (length-endpoint (viewSettings t) (viewEndpoint xs)), length-unit t (s .pre .0) (getD xs 5 0) (number (part 1 4 xs)), length-element ie.endpointId (take 1 xs), length-part 0 1 xs (omega (arith, s .pre .1))),
-    )
+    let u = s .args .u in
+    let w = c .before .before .before .before .before .write-value in
+    omega (arith, s .pre .1, w .ensures .ends, w .kept .1 .1 .0, rw (endpoint-local xs (s .pre .0) u) at (length-endpoint (settingsOf u) (viewEndpoint xs)), length-unit u (getD xs 5 0) (number (part 1 4 xs)), length-element ie.endpointId (take 1 xs), length-part 0 1 xs (omega (arith, s .pre .0)))
 
 write-head-requires : tie.Need-write-head-requires
 write-head-requires c κs =
-    let s = c .before .before .before .before .before .before .before .before .before .before .before .before .before .before .before in
-    omega (arith, s .pre .2, c .before .before .before .before .before .before .before .before .before .write-value .kept .1 .1 .0, c .before .before .before .write-fteid .kept .1 .1 .1 .0, length-endpoint (viewSettings (s .args .t .now)) (viewEndpoint (s .args .endpoint .now)))
+    let s = c .before .before .before .before .before .before .before .before .before .before .before .before .before .before in
+    omega (arith, s .pre .1, c .before .before .before .before .before .before .before .before .before .write-value .kept .1 .1 .0, c .before .before .before .write-fteid .kept .1 .1 .1 .0, length-endpoint (settingsOf (s .args .u)) (viewEndpoint (s .args .endpoint .now)))
 
 returns : tie.Need-returns
 returns c = search endpoint-steps

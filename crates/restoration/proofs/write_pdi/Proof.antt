@@ -1,7 +1,8 @@
 -- `restoration::write_pdi` meets its contract: the source interface and what the PDR matches on, with the head before them.
 -- Assumes nothing.
 use native.Mathlib.Omega.{arith}
-use Rattle.rules.specs.Layout.{viewSettings, viewPdr}
+use Rattle.rules.specs.Layout.{viewPdr}
+use Rattle.unit.specs.Meaning.{settingsOf}
 use Rattle.rules.specs.Types as ie
 use Rattle.octets.proofs.Put.{length-part}
 use Rattle.restoration.proofs.RecordSteps.{length-pdi, pdi-steps}
@@ -13,22 +14,21 @@ use Rattle.restoration.proofs.write_pdi.Tie as tie
 
 write-value-requires : tie.Need-write-value-requires
 write-value-requires c κs =
-    let s = c .before .before .before .before .before in
-    omega (arith, s .pre, length-pdi (viewSettings (s .args .t .now)) (viewPdr (s .args .pdr .now)), length-part 11 1 (s .args .pdr .now) (omega arith))
+    let s = c .before .before .before .before in
+    omega (arith, s .pre, length-pdi (settingsOf (s .args .u)) (viewPdr (s .args .pdr .now)), length-part 11 1 (s .args .pdr .now) (omega arith))
 
 write-place-requires : tie.Need-write-place-requires
 write-place-requires c κs =
-    let s = c .before .before .before .before .before .before .before .before .before in
+    let s = c .before .before .before .before .before .before .before .before in
     let w = c .before .before .before .write-value in (
       s .pre .0,
-      s .pre .1,
-      omega (arith, s .pre .2, w .ensures .ends, w .kept .1 .1 .0, length-pdi (viewSettings (s .args .t .now)) (viewPdr (s .args .pdr .now)), length-element ie.sourceInterface (part 11 1 (s .args .pdr .now)), length-part 11 1 (s .args .pdr .now) (omega (arith, s .pre .1))),
+      omega (arith, s .pre .1, w .ensures .ends, w .kept .1 .1 .0, length-pdi (settingsOf (s .args .u)) (viewPdr (s .args .pdr .now)), length-element ie.sourceInterface (part 11 1 (s .args .pdr .now)), length-part 11 1 (s .args .pdr .now) (omega (arith, s .pre .0))),
     )
 
 write-head-requires : tie.Need-write-head-requires
 write-head-requires c κs =
-    let s = c .before .before .before .before .before .before .before .before .before .before .before .before .before in
-    omega (arith, s .pre .2, c .before .before .before .before .before .before .before .write-value .kept .1 .1 .0, c .before .before .before .write-place .kept .1 .1 .0, length-pdi (viewSettings (s .args .t .now)) (viewPdr (s .args .pdr .now)))
+    let s = c .before .before .before .before .before .before .before .before .before .before .before .before in
+    omega (arith, s .pre .1, c .before .before .before .before .before .before .before .write-value .kept .1 .1 .0, c .before .before .before .write-place .kept .1 .1 .0, length-pdi (settingsOf (s .args .u)) (viewPdr (s .args .pdr .now)))
 
 returns : tie.Need-returns
 returns c = search pdi-steps

@@ -12,24 +12,24 @@ use Rattle.restoration.proofs.write_place.Statement.{statement}
 use Rattle.restoration.proofs.write_place.Tie as tie
 
 cast-write-fteid : tie.Need-cast-write-fteid
-cast-write-fteid c = omega (arith, c .shared-slice-known4 .given 17)
+cast-write-fteid c = omega (arith, c .shared-slice-known3 .given 17)
 
 write-fteid-requires : tie.Need-write-fteid-requires
 write-fteid-requires c κs =
-    let s = c .before .before .before .before .before .before .before .before in
+    let s = c .before .before .before .before .before .before .before in
     let xs = s .args .pdr .now in
-    let t = s .args .t .now in
-    let e = place-tunnel xs (s .pre .1) t (c .before .before .before .if1 .taken) in
-    (s .pre .0, omega (arith, s .pre .2, rw e at (s .pre .2), length-unit t (s .pre .0) (getD xs 17 0) (number (part 13 4 xs))))
+    let u = s .args .u in
+    let e = place-tunnel xs (s .pre .0) u (c .before .before .before .if1 .taken) in
+    (omega (arith, s .pre .1, rw e at (s .pre .1), length-unit u (getD xs 17 0) (number (part 13 4 xs))))
 
 returns : tie.Need-returns
 returns c = search place-tunnel-steps
 
 write-value-requires : tie.Need-write-value-requires
 write-value-requires c κs =
-    let s = c .before .before .before .before .before .before .before .before .before in
+    let s = c .before .before .before .before .before .before .before .before in
     let xs = s .args .pdr .now in
-    omega (arith, rw (place-endpoint xs (s .pre .1) (s .args .t .now) (c .before .before .if2 .taken)) at (s .pre .2), length-element ie.endpointId (part 18 1 xs))
+    omega (arith, rw (place-endpoint xs (s .pre .0) (s .args .u) (c .before .before .if2 .taken)) at (s .pre .1), length-element ie.endpointId (part 18 1 xs))
 
 returns-2 : tie.Need-returns-2
 returns-2 c = search place-endpoint-steps

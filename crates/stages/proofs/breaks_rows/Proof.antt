@@ -5,7 +5,7 @@ use native.Mathlib.Omega.{arith}
 use lib.ListN.{length}
 use Rattle.plan.specs.Rows.{rowWidth, rowsOf}
 use Rattle.rows.specs.RowRules.{heldIn}
-use Rattle.rows.specs.Units.{settingsOf}
+use Rattle.unit.specs.Meaning.{settingsOf}
 use Rattle.rows.proofs.WalkLaws.{row-length, rest-length}
 use Rattle.stages.specs.RowRules.{breaksRow, someRow}
 use Rattle.stages.proofs.BreakLaws.{some-none, some-id, some-fteid, some-pair, some-rest}

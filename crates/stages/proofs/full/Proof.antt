@@ -1,6 +1,6 @@
 -- `stages::full` meets its contract. Assumes nothing.
 use mathlib.Core.Path.{sym}
-use Rattle.stages.proofs.UnitLaws.{full-other, full-new}
+use Rattle.stages.proofs.CountLaws.{full-other, full-new}
 use borrow.Author.Needs.{needs}
 use Rattle.stages.proofs.full.Statement.{statement}
 use Rattle.stages.proofs.full.Tie as tie

@@ -1,7 +1,8 @@
 -- `stages::judge` meets its contract. Assumes nothing.
-use mathlib.Core.Path.{sym, _∙_}
+use mathlib.Core.Path.{refl, sym, _∙_}
 use native.Mathlib.Omega.{arith}
 use Rattle.stages.proofs.VerdictLaws.{verdict-is, is-64, is-71, is-76, is-73, is-75, is-1}
+use Rattle.unit.proofs.FieldLaws.{size-is}
 use borrow.Author.Needs.{needs}
 use Rattle.stages.proofs.judge.Statement.{statement}
 use Rattle.stages.proofs.judge.Tie as tie
@@ -31,7 +32,7 @@ returns-3 c =
 breaks-rule-requires : tie.Need-breaks-rule-requires
 breaks-rule-requires c κs =
     let b = c .before .before .before .before .before .before .before .before .before .before .before in
-    (omega arith, b .pre .wide, b .pre .place, b .pre .rows, b .pre .removed)
+    (omega (arith, b .pre .wide, size-is (b .args .u) _ refl), b .pre .place, b .pre .rows, b .pre .removed)
 
 returns-4 : tie.Need-returns-4
 returns-4 c =

@@ -1,7 +1,7 @@
 -- `stages::no_room` meets its contract. Assumes nothing.
 use mathlib.Core.Path.{sym, _∙_}
 use native.Mathlib.Omega.{arith}
-use Rattle.stages.proofs.UnitLaws.{many-pdrs, many-endpoints, room-1, room-2, room-3, room-4}
+use Rattle.stages.proofs.CountLaws.{many-pdrs, many-endpoints, room-1, room-2, room-3, room-4}
 use borrow.Author.Needs.{needs}
 use Rattle.stages.proofs.no_room.Statement.{statement}
 use Rattle.stages.proofs.no_room.Tie as tie

@@ -1,6 +1,6 @@
 -- `stages::too_many` meets its contract. Assumes nothing.
 use native.Mathlib.Omega.{arith}
-use Rattle.stages.proofs.UnitLaws.{tagged-length, too-many-none}
+use Rattle.stages.proofs.CountLaws.{tagged-length, too-many-none}
 use borrow.Author.Needs.{needs}
 use Rattle.stages.proofs.too_many.Statement.{statement}
 use Rattle.stages.proofs.too_many.Tie as tie

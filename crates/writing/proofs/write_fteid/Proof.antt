@@ -14,8 +14,7 @@ write-requires c κs = simp length-set (omega arith)
 write-addresses-requires : tie.Need-write-addresses-requires
 write-addresses-requires c κs =
     let f = c .before .before .before .before .before .before .before .before .before .unit-families in
-    let p = c .before .before .before .before .before .before .before .before .before .before .before .before .pre in
-    (p .0, f .ensures .1, omega (arith, p, f .ensures, simp length-set at (c .before .before .before .write .kept .0), c .before .before .before .before .before .before .before .write-head .kept .1 .1 .0))
+    (f .ensures .1, omega (arith, f .ensures, simp length-set at (c .before .before .before .write .kept .0), c .before .before .before .before .before .before .before .write-head .kept .1 .1 .0))
 
 same-length : tie.Need-same-length
 same-length c =

@@ -1,10 +1,9 @@
--- `writing::write_node_id` meets its contract: nothing but in an establishment's reply; there the head, a store and a copy are one element.
+-- `writing::write_node_id` meets its contract: nothing but in an establishment's reply; there the head, a store and the address are one element.
 -- Assumes nothing.
 use mathlib.Core.Path.{_∙_}
 use native.Mathlib.Omega.{arith}
 use borrow.Author.Needs.{needs}
 use lib.ListN.{length-set}
-use Rattle.octets.proofs.Put.{length-part}
 use Rattle.writing.proofs.ElementSteps.{node-not, node-steps}
 use Rattle.writing.proofs.write_node_id.Statement.{statement}
 use Rattle.writing.proofs.write_node_id.Tie as tie
@@ -12,13 +11,11 @@ use Rattle.writing.proofs.write_node_id.Tie as tie
 returns : tie.Need-returns
 returns c = search node-not
 
-copy-requires : tie.Need-copy-requires
-copy-requires c κs =
-    let a = c .before .before .before .before .before .before .before .before .before .args in
-    simp length-set (omega (arith, length-part 0 4 (a .t .now) (omega arith)))
+write-requires : tie.Need-write-requires
+write-requires c κs = simp length-set (omega arith)
 
 same-length : tie.Need-same-length
-same-length c = (simp length-set at (c .before .before .copy .kept .0)) ∙ c .before .before .before .before .before .before .before .write-head .kept .1 .1 .0
+same-length c = (simp length-set at (c .before .before .write .kept .0)) ∙ c .before .before .before .before .before .before .write-head .kept .1 .1 .0
 
 returns-2 : tie.Need-returns-2
 returns-2 c = search node-steps
@@ -32,10 +29,7 @@ write-node-id-spec =
     (λ c. search needs)
     (λ c. search needs)
     (λ c. search needs)
-    (λ c. search needs)
-    (λ c. search needs)
-    (λ c. search needs)
-    copy-requires
+    write-requires
     (λ c. search needs)
     same-length
     returns-2)

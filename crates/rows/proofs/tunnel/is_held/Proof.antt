@@ -2,7 +2,7 @@
 use mathlib.Core.Path.{sym, _∙_}
 use native.Mathlib.Omega.{arith}
 use borrow.Author.Tests.{not-true, not-false}
-use Rattle.rows.specs.Units.{settingsOf}
+use Rattle.unit.specs.Meaning.{settingsOf}
 use Rattle.rows.specs.RowRules.{heldIn}
 use Rattle.rows.proofs.TunnelLaws.{held-none, held-some, held-outside, held-inside, pool-inside}
 use borrow.Author.Needs.{needs}

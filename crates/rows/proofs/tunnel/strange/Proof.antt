@@ -1,7 +1,7 @@
 -- `rows::tunnel::strange` meets its contract. Assumes nothing.
 use mathlib.Core.Path.{sym, _∙_}
 use borrow.Author.Tests.{not-true, not-false}
-use Rattle.rows.specs.Units.{settingsOf}
+use Rattle.unit.specs.Meaning.{settingsOf}
 use Rattle.rows.proofs.TunnelLaws.{strange-none, strange-some}
 use borrow.Author.Needs.{needs}
 use Rattle.rows.proofs.tunnel.strange.Statement.{statement}

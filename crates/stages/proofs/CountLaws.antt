@@ -1,63 +1,24 @@
--- The settings at the front of a table, and how many records a request leaves. Assumes nothing.
+-- How many records a request leaves, and whether there is room for them. Assumes nothing.
 use mathlib.Core.Path.{_≡_, refl, sym, ap, _∙_}
-use mathlib.Core.Bool.{Bool, true, false, not, or-false}
-use mathlib.Core.List.{List, [], _∷_, _++_}
+use mathlib.Core.Bool.{Bool, true, false, or-false}
+use mathlib.Core.List.{List, [], _∷_}
 use Prim.Native.Nat.{ℕ, zero, suc, _+_, _-_, _*_, _≤_, _<_}
 use native.Mathlib.Omega.{arith}
-use lib.Dec.{T, eqb, ltb, leb}
-use lib.ListN.{length, take, drop, getD, length-map}
-use lib.Seq.{take-add, drop-drop}
+use lib.Dec.{ltb, leb}
+use lib.ListN.{length, drop, getD, length-map}
 use borrow.Author.Tests.{ne-eqb}
 use Rattle.octets.specs.Choice.{pick}
-use Rattle.octets.specs.Octets.{be, number, numberAt, octetAt, part, octets, slices}
+use Rattle.octets.specs.Octets.{number, numberAt, octetAt, part, slices}
 use Rattle.octets.specs.Lists.{keep}
-use Rattle.octets.proofs.Put.{length-part}
-use Rattle.octets.proofs.Digits.{be-number, part-octets, octets-known}
 use Rattle.rules.specs.Limits.{maxSessions}
 use Rattle.rules.specs.Model.{Settings, Session, Sessions, freeCount}
-use Rattle.rules.specs.Layout.{viewSettings, viewSession, viewSessions, viewArea, viewPdr, viewEndpoint, pdrWidth, endpointWidth, settingsWidth, pdrCountAt, endpointCountAt, pdrsAt, endpointsAt}
+use Rattle.rules.specs.Layout.{viewSession, viewSessions, viewArea, viewPdr, viewEndpoint, pdrWidth, endpointWidth, settingsWidth, pdrCountAt, endpointCountAt, pdrsAt, endpointsAt}
 use Rattle.rules.specs.Grants.{need}
 use Rattle.rules.specs.Reading.{Request}
 use Rattle.rules.specs.Stages.{removedPdrs, tooManySessions, tooManyPdrs, tooManyEndpoints, tooFewTeids, noRoom}
 use Rattle.plan.specs.Rows.{tagged, hasTag, rowsOf, rowPdr, rowEndpoint, rowEndpointId, requestIn}
 use Rattle.rules.specs.Types as ie
 use Rattle.rules.specs.Message.{establishment}
-use Rattle.rows.specs.declared.Unit.{Unit}
-use Rattle.rows.specs.Units.{settingsOf}
-
--- ---- settings
-
-settings-eq : {a a′ b b′ : List ℕ} {f f′ n n′ : ℕ} → a ≡ a′ → b ≡ b′ → f ≡ f′ → n ≡ n′
-    → _≡_ {A = Settings} (record { ipv4 = a; ipv6 = b; first = f; size = n }) (record { ipv4 = a′; ipv6 = b′; first = f′; size = n′ })
-settings-eq p q r s = λ i. record { ipv4 = p i; ipv6 = q i; first = r i; size = s i }
-
--- octets of a list read as a number and written again
-written : (at n : ℕ) (s : List ℕ) → T (octets s) → at + n ≤ length s → be n (number (part at n s)) ≡ part at n s
-written at n s h g = ap (λ (k : ℕ). be k (number (part at n s))) (sym (length-part at n s g)) ∙ be-number (part at n s) (part-octets at n s h)
-
-two-halves : (s : List ℕ) → part 5 16 s ≡ part 5 8 s ++ part 13 8 s
-two-halves s = take-add 8 8 (drop 5 s) ∙ ap (λ (l : List ℕ). part 5 8 s ++ take 8 l) (drop-drop 8 5 s)
-
-pub unit-is : (t : List ℕ) (u : Unit) → ((i : ℕ) → getD t i 0 < 256) → settingsWidth ≤ length t
-    → u .ipv4 ≡ number (part 0 4 t) → u .«has_ipv6» ≡ not (eqb (getD t 4 0) 0) → u .high ≡ number (part 5 8 t) → u .low ≡ number (part 13 8 t)
-    → u .first ≡ number (part 21 4 t) → u .size ≡ number (part 25 4 t)
-    → settingsOf u ≡ viewSettings t
-unfolding settingsOf viewSettings octetAt numberAt
-unit-is t u k long a b h l f n =
-    let bytes = octets-known t k in
-    settings-eq
-    (rw a (written 0 4 t bytes (omega arith)))
-    (rw (b, h, l, written 5 8 t bytes (omega arith), written 13 8 t bytes (omega arith), ← two-halves t) (one (eqb (getD t 4 0) 0)))
-    f
-    n
-  where
-    one : (z : Bool) → pick (not z) (part 5 16 t) [] ≡ pick z [] (part 5 16 t)
-    one true = refl
-    one false = refl
-
-pub unit-size : (u : Unit) (s : Settings) → settingsOf u ≡ s → u .size ≡ s .size
-unfolding settingsOf
-unit-size u s e = ap (λ (x : Settings). x .size) e
 
 -- ---- counts
 

@@ -1,0 +1,64 @@
+-- The settings read from a table's front, and from a call's parameters. Assumes nothing.
+use mathlib.Core.Path.{_≡_, refl, sym, ap, _∙_}
+use mathlib.Core.Bool.{Bool, true, false, not}
+use mathlib.Core.List.{List, [], _∷_, _++_}
+use Prim.Native.Nat.{ℕ, zero, suc, _+_, _/_, _≤_, _<_}
+use native.Mathlib.Omega.{arith}
+use lib.Dec.{T, eqb, ltb, eqb→eq}
+use lib.ListN.{length, take, drop, getD}
+use lib.Seq.{take-add, drop-drop, take-all}
+use Rattle.octets.specs.Choice.{pick, isNil}
+use Rattle.octets.specs.Octets.{be, number, numberAt, octetAt, part, octets}
+use Rattle.octets.proofs.Put.{length-part}
+use Rattle.octets.proofs.Digits.{be-back, part-octets, octets-known}
+use Rattle.rules.specs.Model.{Settings}
+use Rattle.rules.specs.Layout.{viewSettings, settingsWidth}
+use Rattle.rules.specs.Sound.{ipv6Allowed}
+use Rattle.unit.specs.declared.Settings.{Settings as Unit}
+use Rattle.unit.specs.Meaning.{settingsOf, settingsGiven}
+
+settings-eq : {a a′ b b′ : List ℕ} {f f′ n n′ : ℕ} → a ≡ a′ → b ≡ b′ → f ≡ f′ → n ≡ n′
+    → _≡_ {A = Settings} (record { ipv4 = a; ipv6 = b; first = f; size = n }) (record { ipv4 = a′; ipv6 = b′; first = f′; size = n′ })
+settings-eq p q r s = λ i. record { ipv4 = p i; ipv6 = q i; first = r i; size = s i }
+
+-- octets of a list read as a number and written again
+again : (at n : ℕ) (s : List ℕ) → T (octets s) → at + n ≤ length s → be n (number (part at n s)) ≡ part at n s
+again at n s h g = be-back n (part at n s) (length-part at n s g) (part-octets at n s h)
+
+two-halves : (at : ℕ) (s : List ℕ) → part at 16 s ≡ part at 8 s ++ part (at + 8) 8 s
+two-halves at s = take-add 8 8 (drop at s) ∙ ap (λ (l : List ℕ). part at 8 s ++ take 8 l) (drop-drop 8 at s)
+
+pub read-is : (t : List ℕ) (u : Unit) → ((i : ℕ) → getD t i 0 < 256) → settingsWidth ≤ length t
+    → u .ipv4 ≡ number (part 0 4 t) → u .«has_ipv6» ≡ not (eqb (getD t 4 0) 0) → u .high ≡ number (part 5 8 t) → u .low ≡ number (part 13 8 t)
+    → u .first ≡ number (part 21 4 t) → u .size ≡ number (part 25 4 t)
+    → settingsOf u ≡ viewSettings t
+unfolding settingsOf viewSettings octetAt numberAt
+read-is t u k long a b h l f n =
+    let bytes = octets-known t k in
+    settings-eq
+    (rw a (again 0 4 t bytes (omega arith)))
+    (rw (b, h, l, again 5 8 t bytes (omega arith), again 13 8 t bytes (omega arith), ← two-halves 5 t) (one (eqb (getD t 4 0) 0)))
+    f
+    n
+  where
+    one : (z : Bool) → pick (not z) (part 5 16 t) [] ≡ pick z [] (part 5 16 t)
+    one true = refl
+    one false = refl
+
+-- ---- a call's parameters
+
+-- no octets, or sixteen
+six-given : (v : List ℕ) → T (octets v) → T (ipv6Allowed v) → pick (ltb 0 (length v / 2)) (be 8 (number (part 0 (length v / 2) v)) ++ be 8 (number (part (length v / 2) (length v / 2) v))) [] ≡ v
+unfolding ipv6Allowed
+six-given [] o h = refl
+six-given (x ∷ v) o h =
+    let xs : List ℕ = x ∷ v in
+    let e : length xs ≡ 16 = eqb→eq (length xs) 16 h in
+    rw (e, again 0 8 xs o (omega arith), again 8 8 xs o (omega arith)) (sym (two-halves 0 xs) ∙ take-all 16 xs (omega arith))
+
+pub given-is : (a f z : ℕ) (v : List ℕ) (u : Unit) → ((i : ℕ) → getD v i 0 < 256) → T (ipv6Allowed v)
+    → u .ipv4 ≡ a → u .«has_ipv6» ≡ ltb 0 (length v / 2) → u .high ≡ number (part 0 (length v / 2) v) → u .low ≡ number (part (length v / 2) (length v / 2) v)
+    → u .first ≡ f → u .size ≡ z
+    → settingsOf u ≡ settingsGiven a v f z
+unfolding settingsOf
+given-is a f z v u k h ea eb eh el ef ez = settings-eq (ap (be 4) ea) (rw (eb, eh, el) (six-given v (octets-known v k) h)) ef ez

@@ -1,0 +1,90 @@
+-- What the writer of settings leaves in a slot of zeros. Assumes nothing.
+use mathlib.Core.Path.{_≡_, refl, sym, ap, ap₂, _∙_}
+use mathlib.Core.Bool.{Bool, true, false, not}
+use mathlib.Core.List.{List, [], _∷_, _++_, append-assoc, append-nil}
+use Prim.Native.Nat.{ℕ, _+_, _-_, _*_, _≤_}
+use native.Mathlib.Omega.{arith}
+use lib.ListN.{length, take, drop, length-append, replicate-append-replicate}
+use Rattle.octets.specs.Choice.{pick, flag, isNil}
+use Rattle.octets.specs.Octets.{put, be, zeros, padded}
+use Rattle.octets.proofs.Numbers.{length-be, length-zeros, length-padded}
+use Rattle.octets.proofs.Put.{put-over, put-put}
+use Rattle.rules.specs.Layout.{settingsOctets, settingsWidth}
+use Rattle.unit.specs.declared.Settings.{Settings as Unit}
+use Rattle.unit.specs.Meaning.{settingsOf}
+
+zeros-split : (n m : ℕ) → zeros (n + m) ≡ zeros n ++ zeros m
+unfolding zeros
+zeros-split n m = sym (replicate-append-replicate n m 0)
+
+-- octets over the front of zeros
+over-zeros : (at : ℕ) (p v z : List ℕ) → length p ≡ at → length v ≤ 16 → put at v (p ++ (zeros 16 ++ z)) ≡ p ++ (padded 16 v ++ z)
+unfolding padded
+over-zeros at p v z e h =
+    let n : ℕ = 16 - length v in
+    let sum : length v + n ≡ 16 = omega arith in
+    let split : zeros 16 ≡ zeros (length v) ++ zeros n = ap zeros (sym sum) ∙ zeros-split (length v) n in
+    ap (λ (l : List ℕ). put at v (p ++ l)) (ap (λ (l : List ℕ). l ++ z) split ∙ append-assoc (zeros (length v)) (zeros n) z)
+    ∙ put-over p (zeros (length v)) (zeros n ++ z) v at e (sym (length-zeros (length v)))
+    ∙ ap (λ (l : List ℕ). p ++ l) (sym (append-assoc v (zeros n) z))
+
+settings-room : zeros settingsWidth ≡ zeros 4 ++ (zeros 1 ++ (zeros 16 ++ (zeros 4 ++ zeros 4)))
+unfolding zeros
+settings-room = refl
+
+-- the address in its halves, of no octets where there is none
+module _ (a b : ℕ) where
+  abbrev six : Bool → List ℕ
+  six z = pick z (be 8 a ++ be 8 b) []
+
+  halves : (z : Bool) → be (8 * flag z) a ++ be (8 * flag z) b ≡ six z
+  unfolding be
+  halves true = refl
+  halves false = refl
+
+  six-flag : (z : Bool) → be 1 (flag z) ≡ flag (not (isNil (six z))) ∷ []
+  unfolding be
+  six-flag true = refl
+  six-flag false = refl
+
+  six-short : (z : Bool) → length (six z) ≤ 16
+  six-short true = omega (arith, length-append (be 8 a) (be 8 b), length-be 8 a, length-be 8 b)
+  six-short false = omega arith
+
+pub flag-small : (z : Bool) → flag z ≤ 1
+flag-small true = omega arith
+flag-small false = omega arith
+
+pub write-steps : (u : Unit) (n : ℕ) (s₀ s₁ s₂ s₃ s₄ s₅ s₆ : List ℕ) → s₀ ≡ zeros settingsWidth → n ≡ flag (u .«has_ipv6»)
+    → s₁ ≡ put 0 (be 4 (u .ipv4)) s₀ → s₂ ≡ put 4 (be 1 n) s₁ → s₃ ≡ put 5 (be (8 * n) (u .high)) s₂ → s₄ ≡ put (5 + 8 * n) (be (8 * n) (u .low)) s₃
+    → s₅ ≡ put 21 (be 4 (u .first)) s₄ → s₆ ≡ put 25 (be 4 (u .size)) s₅
+    → s₆ ≡ settingsOctets (settingsOf u)
+unfolding settingsOctets settingsOf
+write-steps u n s₀ s₁ s₂ s₃ s₄ s₅ s₆ e₀ en e₁ e₂ e₃ e₄ e₅ e₆ =
+    let z : Bool = u .«has_ipv6» in
+    let f : ℕ = u .first in
+    let four = be 4 (u .ipv4) in
+    let v : List ℕ = six (u .high) (u .low) z in
+    let there = flag (not (isNil v)) ∷ [] in
+    let pad = padded 16 v in
+    let small = flag-small z in
+    let short : length v ≤ 16 = six-short (u .high) (u .low) z in
+    let lv : length pad ≡ 16 = length-padded 16 v short in
+    let one : be 1 n ≡ there = ap (be 1) en ∙ six-flag (u .high) (u .low) z in
+    let r₁ : s₁ ≡ four ++ (zeros 1 ++ (zeros 16 ++ (zeros 4 ++ zeros 4))) =
+    e₁ ∙ ap (put 0 four) (e₀ ∙ settings-room) ∙ put-over [] (zeros 4) (zeros 1 ++ (zeros 16 ++ (zeros 4 ++ zeros 4))) four 0 refl (length-be 4 (u .ipv4) ∙ sym (length-zeros 4)) in
+    let r₂ : s₂ ≡ (four ++ there) ++ (zeros 16 ++ (zeros 4 ++ zeros 4)) =
+    e₂ ∙ (λ i. put 4 (one i) (r₁ i)) ∙ put-over four (zeros 1) (zeros 16 ++ (zeros 4 ++ zeros 4)) there 4 (length-be 4 (u .ipv4)) (sym (length-zeros 1)) ∙ sym (append-assoc four there _) in
+    let l₂ : length (four ++ there) ≡ 5 = length-append four there ∙ ap (λ (n : ℕ). n + 1) (length-be 4 (u .ipv4)) in
+    let long : length s₂ ≡ 29 = ap length r₂ ∙ omega (arith, length-append (four ++ there) (zeros 16 ++ (zeros 4 ++ zeros 4)), length-append (zeros 16) (zeros 4 ++ zeros 4), length-append (zeros 4) (zeros 4), length-zeros 16, length-zeros 4) in
+    let both : s₄ ≡ put 5 v s₂ =
+    e₄ ∙ ap (put (5 + 8 * n) (be (8 * n) (u .low))) e₃ ∙ put-put 5 (8 * n) (be (8 * n) (u .high)) (be (8 * n) (u .low)) s₂ (length-be (8 * n) (u .high)) (omega arith)
+    ∙ ap (λ (xs : List ℕ). put 5 xs s₂) (ap (λ (k : ℕ). be (8 * k) (u .high) ++ be (8 * k) (u .low)) en ∙ halves (u .high) (u .low) z) in
+    let r₃ : s₄ ≡ ((four ++ there) ++ pad) ++ (zeros 4 ++ zeros 4) =
+    both ∙ ap (put 5 v) r₂ ∙ over-zeros 5 (four ++ there) v (zeros 4 ++ zeros 4) l₂ short ∙ sym (append-assoc (four ++ there) pad _) in
+    let l₃ : length ((four ++ there) ++ pad) ≡ 21 = length-append (four ++ there) pad ∙ ap₂ _+_ l₂ lv in
+    let r₄ : s₅ ≡ (((four ++ there) ++ pad) ++ be 4 f) ++ (zeros 4 ++ []) =
+    e₅ ∙ ap (put 21 (be 4 f)) r₃ ∙ put-over ((four ++ there) ++ pad) (zeros 4) (zeros 4) (be 4 f) 21 l₃ (length-be 4 f ∙ sym (length-zeros 4)) ∙ sym (append-assoc ((four ++ there) ++ pad) (be 4 f) (zeros 4)) ∙ ap (λ (l : List ℕ). (((four ++ there) ++ pad) ++ be 4 f) ++ l) (sym (append-nil (zeros 4))) in
+    let l₄ : length (((four ++ there) ++ pad) ++ be 4 f) ≡ 25 = length-append ((four ++ there) ++ pad) (be 4 f) ∙ ap₂ _+_ l₃ (length-be 4 f) in
+    e₆ ∙ ap (put 25 (be 4 (u .size))) r₄ ∙ put-over (((four ++ there) ++ pad) ++ be 4 f) (zeros 4) [] (be 4 (u .size)) 25 l₄ (length-be 4 (u .size) ∙ sym (length-zeros 4))
+    ∙ simp (append-assoc, append-nil)

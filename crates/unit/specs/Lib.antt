@@ -1,0 +1,2 @@
+-- `Meaning`: which of the rules' settings a value of the code stands for.
+pub mod Meaning
