@@ -35,7 +35,7 @@ use Rattle.grants.proofs.ChoiceLaws.{choiceFits}
 use Rattle.writing.specs.Placed.{written}
 use Rattle.created.specs.Entries.{maxGrants, grantsAt}
 use Rattle.areas.specs.Counted.{withRecord}
-use Rattle.session.specs.Areas.{sessionArea}
+use Rattle.session.specs.Areas.{tableArea}
 use Rattle.session.specs.Build.{built}
 use Rattle.session.proofs.Built.{Ready}
 use Rattle.unit.specs.declared.Settings.{Settings as Unit}
@@ -119,13 +119,13 @@ module _ {u : Unit} {t words msg slot gone plan out : List ℕ} {seid n : ℕ} (
     same-reply = λ i. reply s msg (same-seid i) (sym (a .verdict) i) ((is-granted .reported ∙ same-grants) i)
 
     pub accepted-answers : (used : ℕ) (out′ slot′ t′ : List ℕ) → (used, out′) ≡ written (reply s msg seid (plain why.accepted) (grantsAt plan′ (take k places′))) out
-        → slot′ ≡ built gone (rowsOf n plan′) slot → t′ ≡ withRecord sessionArea slot′ t → Answers t msg out used out′ t′
+        → slot′ ≡ built gone (rowsOf n plan′) slot → t′ ≡ withRecord tableArea slot′ t → Answers t msg out used out′ t′
     accepted-answers used out′ slot′ t′ w b d =
         record {
           long = ap (λ (p : ℕ × List ℕ). p .0) w ∙ ap length same-reply;
           space = ap (λ (p : ℕ × List ℕ). p .1) w ∙ ap (λ (l : List ℕ). put 0 l out) same-reply;
           table =
-              d ∙ ap₂ (λ (u v : List ℕ). withRecord sessionArea u v) b (sym (kept .encoded))
+              d ∙ ap₂ (λ (u v : List ℕ). withRecord tableArea u v) b (sym (kept .encoded))
               ∙ changed-table s (kept .settings) m (kept .sessions) msg (a .asked .octets) (a .asked .kind) passes (a .other) seid (a .restoring) (a .noted) gone (rowsOf n plan′) slot means′ (a .removed) (a .entry) is-ready
               ∙ rw (a .verdict);
         }
@@ -158,10 +158,10 @@ module _ {u : Unit} {t words msg slot gone plan out : List ℕ} {seid n : ℕ} (
     read-fit = grants-fit a from-settings
 
     pub read-answers : (used : ℕ) (out′ t′ : List ℕ) → (used, out′) ≡ written (reply (settingsOf u) msg seid (plain why.accepted) (grantsAt plan′ (take k places′))) out
-        → t′ ≡ withRecord sessionArea (built gone (rowsOf n plan′) slot) t → Answers t msg out used out′ t′
+        → t′ ≡ withRecord tableArea (built gone (rowsOf n plan′) slot) t → Answers t msg out used out′ t′
     read-answers used out′ t′ w d = accepted-answers a from-settings used out′ (built gone (rowsOf n plan′) slot) t′ (rw (a .settings) at w) refl d
 
 -- the session built and stored
-pub kept-session : (n : ℕ) (gone plan slot slot′ t t′ : List ℕ) → slot′ ≡ built gone (rowsOf n plan) slot → t′ ≡ withRecord sessionArea slot′ t
-    → (slot′ ≡ built gone (rowsOf n plan) slot) × (t′ ≡ withRecord sessionArea (built gone (rowsOf n plan) slot) t)
-kept-session n gone plan slot slot′ t t′ b d = (b, d ∙ ap (λ (u : List ℕ). withRecord sessionArea u t) b)
+pub kept-session : (n : ℕ) (gone plan slot slot′ t t′ : List ℕ) → slot′ ≡ built gone (rowsOf n plan) slot → t′ ≡ withRecord tableArea slot′ t
+    → (slot′ ≡ built gone (rowsOf n plan) slot) × (t′ ≡ withRecord tableArea (built gone (rowsOf n plan) slot) t)
+kept-session n gone plan slot slot′ t t′ b d = (b, d ∙ ap (λ (u : List ℕ). withRecord tableArea u t) b)

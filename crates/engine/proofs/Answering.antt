@@ -13,7 +13,7 @@ use Rattle.rules.specs.Message.{kindOf, headerSeid, establishment, deletion}
 use Rattle.rules.specs.Stages.{Verdict, isLive, unknownSession}
 use Rattle.rules.specs.Causes as why
 use Rattle.areas.specs.Counted.{placeIn}
-use Rattle.session.specs.Areas.{sessionArea}
+use Rattle.session.specs.Areas.{tableArea}
 use Rattle.slots.specs.declared.Place.{Place}
 use Rattle.slots.specs.declared.Place.the-variants.{Found, Absent}
 use Rattle.reply.specs.declared.Offending.the-variants.{Nothing}
@@ -37,9 +37,9 @@ module _ {t msg out : List ℕ} {kind : ℕ} (a : Asked t msg out) (is : kind �
       let k : kindOf msg ≡ establishment = sym is ∙ e in
       record { asked = a; live = new-known (viewSessions t) msg k; kindIs = is; other = ap (λ (n : ℕ). eqb n deletion) k; found = λ o. absurd (o e) }
 
-  module _ {seid : ℕ} (o : kind ≡ establishment → ⊥) (seidIs : seid ≡ headerSeid msg) {r : Place} (at : r ≡ placeIn sessionArea seid t) where
-    at-header : r ≡ placeIn sessionArea (headerSeid msg) t
-    at-header = at ∙ ap (λ (n : ℕ). placeIn sessionArea n t) seidIs
+  module _ {seid : ℕ} (o : kind ≡ establishment → ⊥) (seidIs : seid ≡ headerSeid msg) {r : Place} (at : r ≡ placeIn tableArea seid t) where
+    at-header : r ≡ placeIn tableArea (headerSeid msg) t
+    at-header = at ∙ ap (λ (n : ℕ). placeIn tableArea n t) seidIs
 
     -- no such session: cause 65
     pub absent-refuses : (p : ℕ) → r ≡ Absent p → Refusing t msg out why.noSession Nothing

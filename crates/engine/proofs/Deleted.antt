@@ -23,7 +23,7 @@ use Rattle.claim.proofs.ServeLaws.{TableKept, table-kept}
 use Rattle.claim.proofs.VerdictLaws.{passed}
 use Rattle.claim.proofs.Changed.{entry-known}
 use Rattle.areas.specs.Counted.{withoutRecord}
-use Rattle.session.specs.Areas.{sessionArea}
+use Rattle.session.specs.Areas.{tableArea}
 use Rattle.writing.specs.Placed.{written}
 use Rattle.frame.specs.Framed.{faultIn}
 use Rattle.frame.specs.declared.Framing.{Framing}
@@ -65,13 +65,13 @@ module _ (t msg out : List ℕ) (a : Asked t msg out) (live : Live t msg) (fr : 
         let e = deletion-empty msg del in
         λ i. reply s msg (sym (e .seid) i) (sym accepts i) (sym (no-grants s m (entrySession m msg) (readRequest msg) e) i)
 
-    pub deleted-answers : (seid used : ℕ) (out′ t′ : List ℕ) → seid ≡ headerSeid msg → (used, out′) ≡ written (reply s msg 0 (plain why.accepted) []) out → t′ ≡ withoutRecord sessionArea seid t
+    pub deleted-answers : (seid used : ℕ) (out′ t′ : List ℕ) → seid ≡ headerSeid msg → (used, out′) ≡ written (reply s msg 0 (plain why.accepted) []) out → t′ ≡ withoutRecord tableArea seid t
         → Answers t msg out used out′ t′
     deleted-answers seid used out′ t′ es w d =
         record {
           long = ap (λ (p : ℕ × List ℕ). p .0) w ∙ ap length same-reply;
           space = ap (λ (p : ℕ × List ℕ). p .1) w ∙ ap (λ (l : List ℕ). put 0 l out) same-reply;
-          table = d ∙ ap₂ (λ (n : ℕ) (l : List ℕ). withoutRecord sessionArea n l) es (sym (kept .encoded))
+          table = d ∙ ap₂ (λ (n : ℕ) (l : List ℕ). withoutRecord tableArea n l) es (sym (kept .encoded))
               ∙ deleted-table s (kept .settings) m (kept .sessions) msg (a .octets) (a .kind) (passed maxSessions s m msg (ap (λ (v : Verdict). v .cause) accepts)) (eq-eqb (kindOf msg) deletion del)
               ∙ rw accepts;
         }
@@ -79,7 +79,7 @@ module _ (t msg out : List ℕ) (a : Asked t msg out) (live : Live t msg) (fr : 
 -- from what the code's readers answer
 pub deleted-through : (s : Settings) (t msg out : List ℕ) (f : Framing) (v : read.Verdict) (seid used : ℕ) (out′ t′ : List ℕ) → Asked t msg out → Live t msg → kindOf msg ≡ deletion → seid ≡ headerSeid msg → s ≡ viewSettings t
     → faultIn f ≡ frameFault msg → f ≡ framings.Framed → outcome v (readRequest msg) ≡ numbered (reading.read msg) → v ≡ Fine
-    → (used, out′) ≡ written (reply s msg 0 (plain why.accepted) []) out → t′ ≡ withoutRecord sessionArea seid t → Replies t msg out used 0 out′ t′
+    → (used, out′) ≡ written (reply s msg 0 (plain why.accepted) []) out → t′ ≡ withoutRecord tableArea seid t → Replies t msg out used 0 out′ t′
 deleted-through s t msg out f v seid used out′ t′ a live del es is fe fq ve vq w d =
     let fr = framed t msg out a live f fe fq in
     let rd = read-fine t msg out a live v ve vq in

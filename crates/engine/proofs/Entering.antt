@@ -27,7 +27,7 @@ use Rattle.claim.proofs.ServeLaws.{TableKept, table-kept}
 use Rattle.slots.specs.declared.Place.{Place}
 use Rattle.slots.specs.declared.Place.the-variants.{Found, Absent}
 use Rattle.areas.specs.Counted.{areaIn, placeIn}
-use Rattle.session.specs.Areas.{sessionArea}
+use Rattle.session.specs.Areas.{tableArea}
 use Rattle.store.proofs.Stored.{session-found, session-absent, session-loaded, fresh-slot}
 use Rattle.stages.proofs.EntryLaws.{slot-live, slot-new}
 use Rattle.engine.specs.Steps.{Fetching, Fetched, Entered}
@@ -39,7 +39,7 @@ pub record Entering (t msg slot : List ℕ) (kind seid p : ℕ) : Type 0 where
   pub kindIs : kind ≡ kindOf msg
   pub new : kind ≡ establishment → seid ≡ readRequest msg .seid
   pub fits : seid < 2 ^ 64
-  pub found : (kind ≡ establishment → ⊥) → placeIn sessionArea (headerSeid msg) t ≡ Found p
+  pub found : (kind ≡ establishment → ⊥) → placeIn tableArea (headerSeid msg) t ≡ Found p
   pub long : length slot ≡ sessionWidth
 
 module _ (t : List ℕ) (h : T (sound maxSessions t)) where
@@ -52,14 +52,14 @@ module _ (t : List ℕ) (h : T (sound maxSessions t)) where
   kept : TableKept maxSessions t
   kept = table-kept maxSessions t h
 
-  at-place : (n : ℕ) (r q : Place) → r ≡ placeIn sessionArea n t → r ≡ q → placeIn sessionArea n (encode maxSessions s m) ≡ q
-  at-place n r q e d = ap (placeIn sessionArea n) (kept .encoded) ∙ sym e ∙ d
+  at-place : (n : ℕ) (r q : Place) → r ≡ placeIn tableArea n t → r ≡ q → placeIn tableArea n (encode maxSessions s m) ≡ q
+  at-place n r q e d = ap (placeIn tableArea n) (kept .encoded) ∙ sym e ∙ d
 
-  pub live-found : (n p : ℕ) (r : Place) → r ≡ placeIn sessionArea n t → r ≡ Found p → true ≡ isLive n (viewSessions t)
+  pub live-found : (n p : ℕ) (r : Place) → r ≡ placeIn tableArea n t → r ≡ Found p → true ≡ isLive n (viewSessions t)
   unfolding isLive
   live-found n p r e d = sym (ap isSome (session-found s (kept .settings) m (kept .sessions) n p (newSession 0) (at-place n r (Found p) e d) .1))
 
-  pub live-absent : (n p : ℕ) (r : Place) → r ≡ placeIn sessionArea n t → r ≡ Absent p → false ≡ isLive n (viewSessions t)
+  pub live-absent : (n p : ℕ) (r : Place) → r ≡ placeIn tableArea n t → r ≡ Absent p → false ≡ isLive n (viewSessions t)
   unfolding isLive
   live-absent n p r e d = sym (ap isSome (session-absent s (kept .settings) m (kept .sessions) n p (at-place n r (Absent p) e d)))
 
@@ -110,8 +110,8 @@ module _ (t msg slot : List ℕ) (kind seid p : ℕ) (a : Entering t msg slot ki
   x : Session
   x = getD (viewSessions t) p (newSession 0)
 
-  there : placeIn sessionArea (headerSeid msg) (encode maxSessions (viewSettings t) (viewSessions t)) ≡ Found p
-  there = ap (placeIn sessionArea (headerSeid msg)) (k .encoded) ∙ a .found other
+  there : placeIn tableArea (headerSeid msg) (encode maxSessions (viewSettings t) (viewSessions t)) ≡ Found p
+  there = ap (placeIn tableArea (headerSeid msg)) (k .encoded) ∙ a .found other
 
   found : (p < maxSessions) × (sessionOf (headerSeid msg) (viewSessions t) ≡ some x)
   unfolding x
@@ -126,10 +126,10 @@ module _ (t msg slot : List ℕ) (kind seid p : ℕ) (a : Entering t msg slot ki
   is-entry : x ≡ entrySession (viewSessions t) msg
   is-entry = sym (live-entry (viewSessions t) msg x (λ e. other (a .kindIs ∙ e)) (found .1))
 
-  entered-live : (live : Bool) (slot′ : List ℕ) → slot′ ≡ part (p * sessionWidth) sessionWidth (areaIn sessionArea t) → length slot′ ≡ sessionWidth → Entered t msg kind seid live slot′
+  entered-live : (live : Bool) (slot′ : List ℕ) → slot′ ≡ part (p * sessionWidth) sessionWidth (areaIn tableArea t) → length slot′ ≡ sessionWidth → Entered t msg kind seid live slot′
   unfolding x
   entered-live live slot′ e long =
-      let loaded : slot′ ≡ sessionOctets x = e ∙ ap (λ (u : List ℕ). part (p * sessionWidth) sessionWidth (areaIn sessionArea u)) (sym (k .encoded)) ∙ session-loaded (viewSettings t) (k .settings) (viewSessions t) (k .sessions) (headerSeid msg) p (newSession 0) there in
+      let loaded : slot′ ≡ sessionOctets x = e ∙ ap (λ (u : List ℕ). part (p * sessionWidth) sessionWidth (areaIn tableArea u)) (sym (k .encoded)) ∙ session-loaded (viewSettings t) (k .settings) (viewSessions t) (k .sessions) (headerSeid msg) p (newSession 0) there in
       let viewed : viewSession slot′ ≡ x = ap viewSession loaded ∙ session-back (viewSettings t) (k .settings) x allowed in
       record { entry = loaded ∙ ap sessionOctets is-entry; viewed = viewed ∙ is-entry; place = slot-live (viewSettings t) slot′ x long viewed allowed; known = λ z. absurd (other z) }
 

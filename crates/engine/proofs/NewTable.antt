@@ -29,7 +29,7 @@ use Rattle.claim.proofs.After.{changed, ChangedSound, sound-after}
 use Rattle.claim.proofs.Accepting.{SoundAfter}
 use Rattle.plan.specs.Rows.{requestIn}
 use Rattle.areas.specs.Counted.{withRecord, withoutRecord}
-use Rattle.session.specs.Areas.{sessionArea}
+use Rattle.session.specs.Areas.{tableArea}
 use Rattle.session.specs.Build.{built}
 use Rattle.session.proofs.Slot.{Slot, pdrFits, endpointFits, csidFits}
 use Rattle.session.proofs.Built.{Ready, built-session}
@@ -76,7 +76,7 @@ slot-holds s x slot k e =
 module _ (s : Settings) (hs : T (settingsAllowed s)) (m : Sessions) (hm : T (sessionsAllowed maxSessions s m)) (msg : List ℕ) (ho : T (octets msg)) (hk : T (served (kindOf msg)))
     (p : Passed maxSessions s m msg) where
   -- a deletion
-  pub deleted-table : eqb (kindOf msg) deletion ≡ true → withoutRecord sessionArea (headerSeid msg) (encode maxSessions s m) ≡ encode maxSessions s (sessionsAfter s m msg)
+  pub deleted-table : eqb (kindOf msg) deletion ≡ true → withoutRecord tableArea (headerSeid msg) (encode maxSessions s m) ≡ encode maxSessions s (sessionsAfter s m msg)
   unfolding sessionsAfter follow
   deleted-table e = session-removed s hs m hm (headerSeid msg) ∙ ap (encode maxSessions s) (rw e)
 
@@ -107,9 +107,9 @@ module _ (s : Settings) (hs : T (settingsAllowed s)) (m : Sessions) (hm : T (ses
 
     pub changed-table : (seid : ℕ) (restoring noted : Bool) (gone : List ℕ) (rows : List (List ℕ)) (slot : List ℕ) → readRequest msg ≡ requestIn seid restoring noted rows
         → gone ≡ removedPdrs (readRequest msg) (entrySession m msg .pdrs) → slot ≡ sessionOctets (entrySession m msg)
-        → Ready teids gone rows (entrySession m msg) → withRecord sessionArea (built gone rows slot) (encode maxSessions s m) ≡ encode maxSessions s (sessionsAfter s m msg)
+        → Ready teids gone rows (entrySession m msg) → withRecord tableArea (built gone rows slot) (encode maxSessions s m) ≡ encode maxSessions s (sessionsAfter s m msg)
     changed-table seid restoring noted gone rows slot means g e ready =
         let holds = slot-holds s (entrySession m msg) slot (entry-sound maxSessions s m msg hm ho p .kept) e in
         let g′ : gone ≡ removedPdrs (requestIn seid restoring noted rows) (entrySession m msg .pdrs) = g ∙ ap (λ (q : Request). removedPdrs q (entrySession m msg .pdrs)) means in
         let b : built gone rows slot ≡ sessionOctets new = built-session teids gone rows holds ready seid restoring noted g′ .octets ∙ ap (λ (q : Request). sessionOctets (apply teids q (entrySession m msg))) (sym means) in
-        ap (λ (l : List ℕ). withRecord sessionArea l (encode maxSessions s m)) b ∙ session-saved s hs m hm new new-allowed few-after ∙ ap (encode maxSessions s) (sym after-is)
+        ap (λ (l : List ℕ). withRecord tableArea l (encode maxSessions s m)) b ∙ session-saved s hs m hm new new-allowed few-after ∙ ap (encode maxSessions s) (sym after-is)

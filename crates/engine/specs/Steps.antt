@@ -18,7 +18,7 @@ use Rattle.rules.specs.Stages.{isLive, entrySession, judged}
 use Rattle.rules.specs.Serve.{replyTo, serve}
 use Rattle.plan.specs.Rows.{rowWidth, rowsOf, requestIn}
 use Rattle.areas.specs.Counted.{areaIn, placeIn}
-use Rattle.session.specs.Areas.{sessionArea}
+use Rattle.session.specs.Areas.{tableArea}
 use Rattle.unit.specs.declared.Settings.{Settings as Unit}
 use Rattle.unit.specs.Meaning.{settingsOf}
 use Rattle.slots.specs.declared.Place.the-variants.{Found}
@@ -45,7 +45,7 @@ pub record Fetched (t : List ℕ) (kind seid p : ℕ) (live : Bool) (slot : List
   pub long : length slot ≡ sessionWidth
   pub new : kind ≡ establishment → slot ≡ put 0 (be 8 seid) (zeros sessionWidth)
   pub known : kind ≡ establishment → live ≡ isLive seid (viewSessions t)
-  pub old : (kind ≡ establishment → ⊥) → slot ≡ part (p * sessionWidth) sessionWidth (areaIn sessionArea t)
+  pub old : (kind ≡ establishment → ⊥) → slot ≡ part (p * sessionWidth) sessionWidth (areaIn tableArea t)
 
 -- the session at entry in its slot, and whether the SEID of an establishment is live
 pub record Entered (t msg : List ℕ) (kind seid : ℕ) (live : Bool) (slot : List ℕ) : Type 0 where
@@ -70,7 +70,7 @@ pub record Changing (t msg out : List ℕ) (kind p : ℕ) : Type 0 where
   pub live : Live t msg
   pub kindIs : kind ≡ kindOf msg
   pub other : eqb (kindOf msg) deletion ≡ false
-  pub found : (kind ≡ establishment → ⊥) → placeIn sessionArea (headerSeid msg) t ≡ Found p
+  pub found : (kind ≡ establishment → ⊥) → placeIn tableArea (headerSeid msg) t ≡ Found p
 
 -- the whole call: outcome, place of a fault, reply space and table are the rules', and `used` is the length of the reply, 0 where there is none
 pub record Serves (t msg out : List ℕ) (outcome used place : ℕ) (out′ t′ : List ℕ) : Type 0 where

@@ -7,7 +7,7 @@ ghost use Rattle.rules.specs.Message.{kindOf, headerSeid, deletion};
 ghost use Rattle.plan.specs.Rows.{rowWidth, rowsOf};
 ghost use Rattle.unit.specs.Meaning.{settingsOf};
 ghost use Rattle.areas.specs.Counted.{withRecord};
-ghost use Rattle.session.specs.Areas.{sessionArea};
+ghost use Rattle.session.specs.Areas.{tableArea};
 ghost use Rattle.session.specs.Build.{built};
 ghost use Rattle.engine.specs.Answers.{Asked, Live, Answers, Replies, Refusing, Accepting};
 ghost use Rattle.engine.specs.Steps.{Counted, Fetching, Fetched, Entered, Readable, Changing, Serves};
@@ -27,6 +27,9 @@ use request::Plan;
 use request::Reading;
 use slots::Place;
 use unit::Settings;
+
+// The sessions of a table at most, as the room of their area, which begins at COUNT.
+const SESSIONS: usize = format::MAX_SESSIONS as usize;
 
 // A reply: how many octets of the reply space hold it, and the place in the message of a fault of stages 2 and 3, else 0.
 pub struct Replied {
@@ -80,7 +83,7 @@ fn delete(t: &mut [u8], u: Settings, msg: &[u8], seid: u64, out: &mut [u8]) -> R
     let plan = [0u64; 1];
     let places = [0usize; 1];
     let used = reply::accepted(u, msg, 0, &plan[0..0], &places[0..0], out);
-    store::remove(t, seid);
+    store::remove(t, SESSIONS, format::COUNT, seid);
     Replied {
         used: used,
         place: 0,
@@ -90,10 +93,10 @@ fn delete(t: &mut [u8], u: Settings, msg: &[u8], seid: u64, out: &mut [u8]) -> R
 // The session of an accepted request: built in its slot, and the slot stored.
 fn keep(t: &mut [u8], slot: &mut [u8], gone: &[u64], plan: &[u64], n: usize)
     requires { ⌜ (length (now t) ≡ tableLength maxSessions) × (length (now slot) ≡ sessionWidth) × (n * rowWidth ≤ length (now plan)) ⌝ }
-    ensures { λ _. ⌜ (now (slot .exit) ≡ built (now (gone .entry)) (rowsOf n (now (plan .entry))) (now (slot .entry))) × (now (t .exit) ≡ withRecord sessionArea (built (now (gone .entry)) (rowsOf n (now (plan .entry))) (now (slot .entry))) (now (t .entry))) ⌝ }
+    ensures { λ _. ⌜ (now (slot .exit) ≡ built (now (gone .entry)) (rowsOf n (now (plan .entry))) (now (slot .entry))) × (now (t .exit) ≡ withRecord tableArea (built (now (gone .entry)) (rowsOf n (now (plan .entry))) (now (slot .entry))) (now (t .entry))) ⌝ }
 {
     session::build(slot, gone, plan, n);
-    store::save(t, slot);
+    store::save(t, SESSIONS, format::COUNT, slot);
 }
 
 // An accepted establishment or modification: the TEIDs, the reply, the session in its slot, and the slot in the table.
@@ -125,7 +128,7 @@ fn is_live(t: &[u8], seid: u64) -> bool
     requires { ⌜ T (sound maxSessions (now t)) × (length (now t) ≡ tableLength maxSessions) ⌝ }
     ensures { λ r. ⌜ r ≡ isLive seid (viewSessions (now (t .entry))) ⌝ }
 {
-    let place = store::find(t, seid);
+    let place = store::find(t, SESSIONS, format::COUNT, seid);
     match place {
         Place::Found(p) => return true,
         Place::Absent(p) => return false,
@@ -142,7 +145,7 @@ fn enter(t: &[u8], kind: u64, seid: u64, p: usize, slot: &mut [u8]) -> bool
         store::fresh(slot, seid);
         return is_live(t, seid);
     }
-    store::load(t, p, slot);
+    store::load(t, SESSIONS, format::COUNT, p, slot);
     false
 }
 
@@ -263,7 +266,7 @@ fn answer(
     if kind == kinds::ESTABLISHMENT {
         return change(t, u, taken, free, msg, kind, 0, out);
     }
-    let place = store::find(t, seid);
+    let place = store::find(t, SESSIONS, format::COUNT, seid);
     match place {
         Place::Absent(p) => {
             let used = refuse(t, u, msg, causes::NO_SESSION, Offending::Nothing, out);

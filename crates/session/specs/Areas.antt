@@ -1,7 +1,8 @@
 -- Where the records of a session stand in its slot, and the sessions in the table (docs/layout.md).
 -- Assumes nothing.
+use Prim.Native.Nat.{ℕ, _+_}
 use Rattle.areas.specs.declared.Area.{Area}
-use Rattle.rules.specs.Layout.{settingsWidth, headWidth, pdrWidth, csidWidth, endpointsAt, csidsAt, sessionWidth, pdrCountAt, endpointCountAt, csidCountAt, endpointWidth, pdrsAt}
+use Rattle.rules.specs.Layout.{settingsWidth, pdrWidth, csidWidth, endpointsAt, csidsAt, sessionWidth, pdrCountAt, endpointCountAt, csidCountAt, endpointWidth, pdrsAt}
 use Rattle.rules.specs.Limits.{maxSessions, maxPdrs, maxEndpoints, nodeTypes}
 
 abbrev pub pdrArea : Area
@@ -13,5 +14,10 @@ endpointArea = record { «count_at» = endpointCountAt; «count_width» = 1; at 
 abbrev pub csidArea : Area
 csidArea = record { «count_at» = csidCountAt; «count_width» = 1; at = csidsAt; room = nodeTypes; width = csidWidth; key = 1 }
 
-abbrev pub sessionArea : Area
-sessionArea = record { «count_at» = settingsWidth; «count_width» = 2; at = headWidth; room = maxSessions; width = sessionWidth; key = 8 }
+-- sessions: their number at the base, and room for so many after it
+abbrev pub sessionArea : ℕ → ℕ → Area
+sessionArea room base = record { «count_at» = base; «count_width» = 2; at = base + 2; room = room; width = sessionWidth; key = 8 }
+
+-- the table's sessions stand after the settings
+abbrev pub tableArea : Area
+tableArea = sessionArea maxSessions settingsWidth

@@ -1,10 +1,8 @@
 // Where records stand (docs/layout.md): the areas of a session slot, and the table's sessions.
 use areas::Area;
 ghost use mathlib.Core.Path.{_≡_};
+ghost use Prim.Native.Nat.{_+_, _^_, _<_};
 ghost use Rattle.session.specs.Areas.{pdrArea, endpointArea, csidArea, sessionArea};
-
-// The sessions of a table at most, as the room of an area.
-const SESSIONS: usize = format::MAX_SESSIONS as usize;
 
 pub fn pdrs() -> Area
     ensures { λ r. ⌜ r ≡ pdrArea ⌝ }
@@ -45,14 +43,16 @@ pub fn csids() -> Area
     }
 }
 
-pub fn sessions() -> Area
-    ensures { λ r. ⌜ r ≡ sessionArea ⌝ }
+// Sessions: their number at the base, and room for so many after it.
+pub fn sessions(room: usize, base: usize) -> Area
+    requires { ⌜ base + 2 < 2 ^ 64 ⌝ }
+    ensures { λ r. ⌜ r ≡ sessionArea room base ⌝ }
 {
     Area {
-        count_at: format::COUNT,
+        count_at: base,
         count_width: 2,
-        at: format::HEAD,
-        room: SESSIONS,
+        at: base + 2,
+        room: room,
         width: format::SLOT,
         key: 8,
     }

@@ -2,41 +2,44 @@
 -- Assumes nothing.
 use mathlib.Core.Path.{_≡_, sym, ap, _∙_}
 use mathlib.Core.List.{List}
-use Prim.Native.Nat.{ℕ, _+_, _-_, _*_, _<_}
+use Prim.Native.Nat.{ℕ, _+_, _-_, _*_, _≤_, _<_}
 use native.Mathlib.Omega.{arith}
 use lib.ListN.{length, take, drop}
 use Rattle.octets.specs.Octets.{be, part, put, zeros}
 use Rattle.octets.proofs.Put.{length-part}
 use Rattle.octets.proofs.Numbers.{length-zeros}
-use Rattle.rules.specs.Layout.{headWidth, sessionWidth, tableLength}
-use Rattle.rules.specs.Limits.{maxSessions}
+use Rattle.rules.specs.Layout.{sessionWidth}
 use Rattle.areas.specs.declared.Area.{Area}
 use Rattle.areas.specs.Counted.{Fits, areaIn, placeIn, withRecord, withoutRecord}
 use Rattle.slots.specs.declared.Place.{Place}
 use Rattle.session.specs.Areas.{sessionArea}
 use Rattle.session.proofs.Steps.{put-all, part-part}
 
-pub sessions-fit : (a : Area) (n : ℕ) → a ≡ sessionArea → n ≡ tableLength maxSessions → Fits a n
-sessions-fit a n e h = rw (e, h) (record { count = omega arith; narrow = omega arith; records = omega arith; keyed = omega arith; small = omega arith })
+module _ (room base : ℕ) where
+  abbrev sessions : Area
+  sessions = sessionArea room base
 
-pub session-wide : (a : Area) (n : ℕ) → a ≡ sessionArea → n ≡ sessionWidth → n ≡ a .width
-session-wide a n e h = rw (e, h)
+  pub sessions-fit : (a : Area) (n : ℕ) → a ≡ sessions → base + 2 + room * sessionWidth ≤ n → Fits a n
+  sessions-fit a n e h = rw e (record { count = omega arith; narrow = omega arith; records = omega arith; keyed = omega arith; small = omega arith })
 
-pub found-there : (a : Area) (x : ℕ) (t : List ℕ) (p : Place) → a ≡ sessionArea → p ≡ placeIn a x t → p ≡ placeIn sessionArea x t
-found-there a x t p e q = q ∙ ap (λ (b : Area). placeIn b x t) e
+  pub session-wide : (a : Area) (n : ℕ) → a ≡ sessions → n ≡ sessionWidth → n ≡ a .width
+  session-wide a n e h = rw (e, h)
 
-pub saved-there : (a : Area) (r t done : List ℕ) → a ≡ sessionArea → done ≡ withRecord a r t → done ≡ withRecord sessionArea r t
-saved-there a r t done e q = q ∙ ap (λ (b : Area). withRecord b r t) e
+  pub found-there : (a : Area) (x : ℕ) (t : List ℕ) (p : Place) → a ≡ sessions → p ≡ placeIn a x t → p ≡ placeIn sessions x t
+  found-there a x t p e q = q ∙ ap (λ (b : Area). placeIn b x t) e
 
-pub removed-there : (a : Area) (x : ℕ) (t done : List ℕ) → a ≡ sessionArea → done ≡ withoutRecord a x t → done ≡ withoutRecord sessionArea x t
-removed-there a x t done e q = q ∙ ap (λ (b : Area). withoutRecord b x t) e
+  pub saved-there : (a : Area) (r t done : List ℕ) → a ≡ sessions → done ≡ withRecord a r t → done ≡ withRecord sessions r t
+  saved-there a r t done e q = q ∙ ap (λ (b : Area). withRecord b r t) e
 
-pub loaded : (p end : ℕ) (t slot done : List ℕ) → length t ≡ tableLength maxSessions → p < maxSessions → length slot ≡ sessionWidth → end ≡ headWidth + p * sessionWidth + sessionWidth
-    → done ≡ put 0 (take (end - (headWidth + p * sessionWidth)) (drop (headWidth + p * sessionWidth) t)) slot → done ≡ part (p * sessionWidth) sessionWidth (areaIn sessionArea t)
-unfolding areaIn
-loaded p end t slot done long less size ee q =
-    let e : end - (headWidth + p * sessionWidth) ≡ sessionWidth = omega arith in
-    q ∙ rw e (put-all (part (headWidth + p * sessionWidth) sessionWidth t) slot (length-part (headWidth + p * sessionWidth) sessionWidth t (omega arith) ∙ sym size)) ∙ sym (part-part headWidth (maxSessions * sessionWidth) (p * sessionWidth) sessionWidth t (omega arith))
+  pub removed-there : (a : Area) (x : ℕ) (t done : List ℕ) → a ≡ sessions → done ≡ withoutRecord a x t → done ≡ withoutRecord sessions x t
+  removed-there a x t done e q = q ∙ ap (λ (b : Area). withoutRecord b x t) e
+
+  pub loaded : (p end : ℕ) (t slot done : List ℕ) → base + 2 + room * sessionWidth ≤ length t → p < room → length slot ≡ sessionWidth → end ≡ base + 2 + p * sessionWidth + sessionWidth
+      → done ≡ put 0 (take (end - (base + 2 + p * sessionWidth)) (drop (base + 2 + p * sessionWidth) t)) slot → done ≡ part (p * sessionWidth) sessionWidth (areaIn sessions t)
+  unfolding areaIn
+  loaded p end t slot done long less size ee q =
+      let e : end - (base + 2 + p * sessionWidth) ≡ sessionWidth = omega arith in
+      q ∙ rw e (put-all (part (base + 2 + p * sessionWidth) sessionWidth t) slot (length-part (base + 2 + p * sessionWidth) sessionWidth t (omega arith) ∙ sym size)) ∙ sym (part-part (base + 2) (room * sessionWidth) (p * sessionWidth) sessionWidth t (omega arith))
 
 pub fresh-made : (seid : ℕ) (slot mid done : List ℕ) → length slot ≡ sessionWidth → mid ≡ put 0 (zeros sessionWidth) slot → done ≡ put 0 (be 8 seid) mid → done ≡ put 0 (be 8 seid) (zeros sessionWidth)
 fresh-made seid slot mid done size m d = d ∙ ap (put 0 (be 8 seid)) (m ∙ put-all (zeros sessionWidth) slot (length-zeros sessionWidth ∙ sym size))

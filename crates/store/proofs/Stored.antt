@@ -26,7 +26,7 @@ use Rattle.slots.specs.declared.Place.the-variants.{Found, Absent}
 use Rattle.slots.proofs.Places.{otherThan, found-within, found-record, absent-record}
 use Rattle.areas.specs.Counted.{areaIn, placeIn, withRecord, withoutRecord}
 use Rattle.areas.proofs.Held.{Held, place-held, record-held, with-held, without-held}
-use Rattle.session.specs.Areas.{sessionArea}
+use Rattle.session.specs.Areas.{tableArea}
 
 module _ (s : Settings) (hs : T (settingsAllowed s)) where
   key-of : (x : Session) → T (sessionAllowed s x) → keyOf 8 (sessionOctets x) ≡ x .seid
@@ -36,11 +36,11 @@ module _ (s : Settings) (hs : T (settingsAllowed s)) where
   wide : (x : Session) → T (sessionAllowed s x) → length (sessionOctets x) ≡ sessionWidth
   wide x h = length-session s hs x h
 
-  pub good : (x : Session) → T (sessionAllowed s x) → (length (sessionOctets x) ≡ sessionArea .width) × (keyOf (sessionArea .key) (sessionOctets x) ≡ seidOf x)
+  pub good : (x : Session) → T (sessionAllowed s x) → (length (sessionOctets x) ≡ tableArea .width) × (keyOf (tableArea .key) (sessionOctets x) ≡ seidOf x)
   good x h = (wide x h, key-of x h)
 
   abbrev HeldSessions : Sessions → List ℕ → Type 0
-  HeldSessions m t = Held sessionOctets seidOf sessionArea (sessionAllowed s) good (settingsOctets s) [] [] m t
+  HeldSessions m t = Held sessionOctets seidOf tableArea (sessionAllowed s) good (settingsOctets s) [] [] m t
 
   grouped : (m : Sessions) → encode maxSessions s m ≡ settingsOctets s ++ (be 2 (length m) ++ ([] ++ (padded (maxSessions * sessionWidth) (concatMap sessionOctets m) ++ [])))
   unfolding encode area
@@ -76,31 +76,31 @@ module _ (s : Settings) (hs : T (settingsAllowed s)) where
         }
 
     -- a session found is the rules' session, and its slot its octets
-    pub session-found : (n p : ℕ) (d : Session) → placeIn sessionArea n (encode maxSessions s m) ≡ Found p → (p < maxSessions) × (sessionOf n m ≡ some (getD m p d))
+    pub session-found : (n p : ℕ) (d : Session) → placeIn tableArea n (encode maxSessions s m) ≡ Found p → (p < maxSessions) × (sessionOf n m ≡ some (getD m p d))
     unfolding sessionOf hasSeid
     session-found n p d e =
-        let f = sym (place-held sessionOctets seidOf sessionArea (sessionAllowed s) good held n) ∙ e in
+        let f = sym (place-held sessionOctets seidOf tableArea (sessionAllowed s) good held n) ∙ e in
         let l = found-within seidOf n p m f in
         (omega (arith, few, l), found-record seidOf n p m d f)
 
-    pub session-absent : (n p : ℕ) → placeIn sessionArea n (encode maxSessions s m) ≡ Absent p → sessionOf n m ≡ none
+    pub session-absent : (n p : ℕ) → placeIn tableArea n (encode maxSessions s m) ≡ Absent p → sessionOf n m ≡ none
     unfolding sessionOf hasSeid
-    session-absent n p e = absent-record seidOf n p m up (sym (place-held sessionOctets seidOf sessionArea (sessionAllowed s) good held n) ∙ e)
+    session-absent n p e = absent-record seidOf n p m up (sym (place-held sessionOctets seidOf tableArea (sessionAllowed s) good held n) ∙ e)
 
-    pub session-loaded : (n p : ℕ) (d : Session) → placeIn sessionArea n (encode maxSessions s m) ≡ Found p
-        → part (p * sessionWidth) sessionWidth (areaIn sessionArea (encode maxSessions s m)) ≡ sessionOctets (getD m p d)
+    pub session-loaded : (n p : ℕ) (d : Session) → placeIn tableArea n (encode maxSessions s m) ≡ Found p
+        → part (p * sessionWidth) sessionWidth (areaIn tableArea (encode maxSessions s m)) ≡ sessionOctets (getD m p d)
     session-loaded n p d e =
-        record-held sessionOctets seidOf sessionArea (sessionAllowed s) good held d p
-        (found-within seidOf n p m (sym (place-held sessionOctets seidOf sessionArea (sessionAllowed s) good held n) ∙ e))
+        record-held sessionOctets seidOf tableArea (sessionAllowed s) good held d p
+        (found-within seidOf n p m (sym (place-held sessionOctets seidOf tableArea (sessionAllowed s) good held n) ∙ e))
 
     -- a session put in or replaced, and one taken out
-    pub session-saved : (x : Session) → T (sessionAllowed s x) → length (putSession x m) ≤ maxSessions → withRecord sessionArea (sessionOctets x) (encode maxSessions s m) ≡ encode maxSessions s (putSession x m)
+    pub session-saved : (x : Session) → T (sessionAllowed s x) → length (putSession x m) ≤ maxSessions → withRecord tableArea (sessionOctets x) (encode maxSessions s m) ≡ encode maxSessions s (putSession x m)
     unfolding putSession removeSession otherSession hasSeid
-    session-saved x hx room = with-held sessionOctets seidOf sessionArea (sessionAllowed s) good held x hx room .octets ∙ sym (grouped (insertBy seidOf x (keep (otherThan seidOf (x .seid)) m)))
+    session-saved x hx room = with-held sessionOctets seidOf tableArea (sessionAllowed s) good held x hx room .octets ∙ sym (grouped (insertBy seidOf x (keep (otherThan seidOf (x .seid)) m)))
 
-    pub session-removed : (n : ℕ) → withoutRecord sessionArea n (encode maxSessions s m) ≡ encode maxSessions s (removeSession n m)
+    pub session-removed : (n : ℕ) → withoutRecord tableArea n (encode maxSessions s m) ≡ encode maxSessions s (removeSession n m)
     unfolding removeSession otherSession hasSeid
-    session-removed n = without-held sessionOctets seidOf sessionArea (sessionAllowed s) good held n .octets ∙ sym (grouped (keep (otherThan seidOf n) m))
+    session-removed n = without-held sessionOctets seidOf tableArea (sessionAllowed s) good held n .octets ∙ sym (grouped (keep (otherThan seidOf n) m))
 
 -- the slot of a new session
 pub fresh-slot : (n : ℕ) → put 0 (be 8 n) (zeros sessionWidth) ≡ sessionOctets (newSession n)

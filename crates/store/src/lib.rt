@@ -1,28 +1,28 @@
-// A session's slot in the table: found by its SEID, copied out, put back, taken out; and the slot of a new session.
+// A session's slot in an area of sessions, which has its room and its base: found by its SEID, copied out, put back, taken out; and the
+// slot of a new session.
 ghost use mathlib.Core.Path.{_≡_};
-ghost use Prim.Native.Nat.{_*_, _<_};
+ghost use Prim.Native.Nat.{_+_, _*_, _≤_, _<_};
 ghost use lib.ListN.{length};
 ghost use Rattle.octets.specs.Octets.{be, part, put, zeros};
-ghost use Rattle.rules.specs.Layout.{sessionWidth, tableLength};
-ghost use Rattle.rules.specs.Limits.{maxSessions};
+ghost use Rattle.rules.specs.Layout.{sessionWidth};
 ghost use Rattle.areas.specs.Counted.{areaIn, placeIn, withRecord, withoutRecord};
 ghost use Rattle.session.specs.Areas.{sessionArea};
 use slots::Place;
 
 // Where the session of a SEID stands, or has its place.
-pub fn find(t: &[u8], seid: u64) -> Place
-    requires { ⌜ length (now t) ≡ tableLength maxSessions ⌝ }
-    ensures { λ r. ⌜ r ≡ placeIn sessionArea seid (now (t .entry)) ⌝ }
+pub fn find(t: &[u8], room: usize, base: usize, seid: u64) -> Place
+    requires { ⌜ base + 2 + room * sessionWidth ≤ length (now t) ⌝ }
+    ensures { λ r. ⌜ r ≡ placeIn (sessionArea room base) seid (now (t .entry)) ⌝ }
 {
-    areas::find(t, session::layout::sessions(), seid)
+    areas::find(t, session::layout::sessions(room, base), seid)
 }
 
 // Copies the slot at place p.
-pub fn load(t: &[u8], p: usize, slot: &mut [u8])
-    requires { ⌜ (length (now t) ≡ tableLength maxSessions) × (p < maxSessions) × (length (now slot) ≡ sessionWidth) ⌝ }
-    ensures { λ _. ⌜ now (slot .exit) ≡ part (p * sessionWidth) sessionWidth (areaIn sessionArea (now (t .entry))) ⌝ }
+pub fn load(t: &[u8], room: usize, base: usize, p: usize, slot: &mut [u8])
+    requires { ⌜ (base + 2 + room * sessionWidth ≤ length (now t)) × (p < room) × (length (now slot) ≡ sessionWidth) ⌝ }
+    ensures { λ _. ⌜ now (slot .exit) ≡ part (p * sessionWidth) sessionWidth (areaIn (sessionArea room base) (now (t .entry))) ⌝ }
 {
-    let at = format::HEAD + p * format::SLOT;
+    let at = base + 2 + p * format::SLOT;
     let end = at + format::SLOT;
     octets::copy(slot, 0, &t[at..end]);
 }
@@ -37,17 +37,17 @@ pub fn fresh(slot: &mut [u8], seid: u64)
 }
 
 // Makes the slot that of its SEID: over the one that is there, or put in.
-pub fn save(t: &mut [u8], slot: &[u8])
-    requires { ⌜ (length (now t) ≡ tableLength maxSessions) × (length (now slot) ≡ sessionWidth) ⌝ }
-    ensures { λ _. ⌜ now (t .exit) ≡ withRecord sessionArea (now (slot .entry)) (now (t .entry)) ⌝ }
+pub fn save(t: &mut [u8], room: usize, base: usize, slot: &[u8])
+    requires { ⌜ (base + 2 + room * sessionWidth ≤ length (now t)) × (length (now slot) ≡ sessionWidth) ⌝ }
+    ensures { λ _. ⌜ now (t .exit) ≡ withRecord (sessionArea room base) (now (slot .entry)) (now (t .entry)) ⌝ }
 {
-    areas::put_record(t, session::layout::sessions(), slot);
+    areas::put_record(t, session::layout::sessions(room, base), slot);
 }
 
 // Takes the session of a SEID out, if there is one.
-pub fn remove(t: &mut [u8], seid: u64)
-    requires { ⌜ length (now t) ≡ tableLength maxSessions ⌝ }
-    ensures { λ _. ⌜ now (t .exit) ≡ withoutRecord sessionArea seid (now (t .entry)) ⌝ }
+pub fn remove(t: &mut [u8], room: usize, base: usize, seid: u64)
+    requires { ⌜ base + 2 + room * sessionWidth ≤ length (now t) ⌝ }
+    ensures { λ _. ⌜ now (t .exit) ≡ withoutRecord (sessionArea room base) seid (now (t .entry)) ⌝ }
 {
-    areas::drop_record(t, session::layout::sessions(), seid);
+    areas::drop_record(t, session::layout::sessions(room, base), seid);
 }

@@ -16,12 +16,13 @@ use Rattle.store.proofs.load.Tie as tie
 returns : tie.Need-returns
 returns c =
     let s = c .before .before .before .before .before .before .before in
-    loaded (s .args .p) _ (s .args .t .now) (s .args .slot .now) _ (s .pre .0) (s .pre .1) (s .pre .2) refl (c .before .before .copy .ensures)
+    loaded (s .args .room) (s .args .base) (s .args .p) _ (s .args .t .now) (s .args .slot .now) _ (s .pre .0) (s .pre .1) (s .pre .2) refl (c .before .before .copy .ensures)
 
 pub load-spec : {M : Type 1} → statement M
 load-spec =
     tie.close
     (tie.spec
+    (λ c. search needs)
     (λ c. search needs)
     (λ c. search needs)
     (λ c. search needs)
