@@ -34,7 +34,7 @@ void served_facts(struct text *text, const struct served *served)
         add_fault(text, served);
     if (served->send_error != 0)
         text_add(text, ", reply not sent (%s)", strerror(served->send_error));
-    text_add(text, ", live sessions %zu, free TEIDs %" PRIu32 "\n", served->live_sessions,
+    text_add(text, ", live sessions %" PRIu32 ", free TEIDs %" PRIu32 "\n", served->live_sessions,
              served->free_teids);
 }
 

@@ -178,9 +178,9 @@ void listing_all(struct listing *listing, const struct unit *unit, unsigned long
 
 bool listing_one(struct listing *listing, const struct unit *unit, uint64_t seid, unsigned form)
 {
-    size_t place = sessions_find(unit->table, unit->live_sessions, seid);
+    size_t place;
 
-    if (place == unit->live_sessions)
+    if (pfcp_find_session(unit->table, sizeof unit->table, seid, &place) != PFCP_FOUND)
         return false;
     start(listing, unit, form);
     listing->first = place;

@@ -48,11 +48,4 @@ struct session {
 /* The session at a place of a sound table, from 0 on; gives false where there is none. */
 bool sessions_read(const uint8_t *table, size_t place, struct session *session);
 
-/* How many sessions a sound table has. A guess that is near makes it fast: there are few calls of the
-   archive for each session that it is off. */
-size_t sessions_count(const uint8_t *table, size_t guess);
-
-/* The place of a SEID among so many sessions, which is their number if it is not live. */
-size_t sessions_find(const uint8_t *table, size_t count, uint64_t seid);
-
 #endif

@@ -7,12 +7,12 @@
 
 #include "datagrams.h"
 #include "message.h"
-#include "sessions.h"
 
 /* The sessions and the free TEIDs, after a request that may have changed them. */
 static bool count_table(struct unit *unit)
 {
-    unit->live_sessions = sessions_count(unit->table, unit->live_sessions);
+    if (pfcp_session_count(unit->table, sizeof unit->table, &unit->live_sessions) != PFCP_FOUND)
+        return false;
     return pfcp_free_count(unit->table, sizeof unit->table, &unit->free_teids) == PFCP_ANSWERED;
 }
 

@@ -27,7 +27,7 @@ struct unit {
     size_t receive_buffer; /* octets that the system gave */
     const struct options *options;
     uint8_t table[PFCP_TABLE_LENGTH];
-    size_t live_sessions;
+    uint32_t live_sessions;
     uint32_t free_teids;
     uint32_t system_dropped; /* what the system told last; it may wrap */
     struct counters counters;
@@ -55,7 +55,7 @@ struct served {
     uint8_t there[OCTETS_THERE]; /* the octets at the place */
     size_t there_length;
     int send_error; /* 0: the reply was sent, or there is none */
-    size_t live_sessions;
+    uint32_t live_sessions;
     uint32_t free_teids;
 };
 

@@ -44,9 +44,9 @@ extern "C" {
 
 /* The version of this header and its archive: as numbers and as text. */
 #define PFCP_VERSION_MAJOR 0
-#define PFCP_VERSION_MINOR 2
+#define PFCP_VERSION_MINOR 3
 #define PFCP_VERSION_PATCH 0
-#define PFCP_VERSION "0.2.0"
+#define PFCP_VERSION "0.3.0"
 
 /* The length of a table, the same as pfcp_table_length() gives. */
 #define PFCP_TABLE_LENGTH 30943
@@ -74,6 +74,11 @@ extern "C" {
 #define PFCP_PAST_LAST_SESSION 2  /* place is not below the number of sessions */
 #define PFCP_NO_PLANE_ADDRESS 3   /* no control-plane address, or one of another length */
 #define PFCP_SMALL_SPACE 4        /* space_len is under the request's length */
+
+/* Outcomes of pfcp_session_count, pfcp_find_session and pfcp_find_teid. */
+#define PFCP_FOUND 0 /* the number was written */
+                     /* 1: PFCP_BROKEN_TABLE */
+#define PFCP_NONE 2  /* no session has the SEID, or none holds the TEID */
 
 /* The number of octets that a table has: 30,943. */
 size_t pfcp_table_length(void);
@@ -137,6 +142,27 @@ uint32_t pfcp_request(uint8_t *table, size_t table_len, const uint8_t *message, 
 uint32_t pfcp_write_restoration(const uint8_t *table, size_t table_len, size_t place,
                                 const uint8_t *cp_ipv4, size_t cp_ipv4_len, const uint8_t *cp_ipv6,
                                 size_t cp_ipv6_len, uint8_t *space, size_t space_len, size_t *used);
+
+/*
+ * The three calls below read a table. A place counts its sessions from 0 in ascending order of SEID, as
+ * pfcp_write_restoration does. It is good until the next request that is accepted.
+ *
+ * Each gives 0 (PFCP_FOUND) and writes the number. It gives 1 (PFCP_BROKEN_TABLE) where the table is
+ * broken or of another length, and 2 (PFCP_NONE) where there is no such session, and writes 0 then.
+ * Each checks the whole table first, as a request does.
+ */
+
+/* The number of sessions. It gives 0 or 1. */
+uint32_t pfcp_session_count(const uint8_t *table, size_t table_len, uint32_t *count);
+
+/* The place of the session with this SEID. */
+uint32_t pfcp_find_session(const uint8_t *table, size_t table_len, uint64_t seid, size_t *place);
+
+/*
+ * The place of the session that holds this TEID, in the local F-TEID of a PDR or of an endpoint. There
+ * are not two: no TEID is held by two sessions.
+ */
+uint32_t pfcp_find_teid(const uint8_t *table, size_t table_len, uint32_t teid, size_t *place);
 
 #ifdef __cplusplus
 }

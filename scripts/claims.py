@@ -19,7 +19,7 @@ wrong program that the prover must refuse. A statement is shown once, where it i
 |---|---|
 | `a ≡ b` | a and b are equal |
 | `T b` | the test b holds |
-| `(x : A) → B`, `{x : A} → B` | for every x of the type A: B; `A → B` also says: from A follows B |
+| `(x : A) → B`, `{x : A} → B` | for every x of the type A: B; `A → B` also says: from A follows B; `A → ⊥`: A does not hold |
 | `A × B`; `(x : A) × B` | A and B; there is an x with B |
 | `f a b`; `x .f` | the function f of a and b; the field f of x |
 | `unfoldable`, `abbrev`, `pub` | marks of a definition; they change nothing of what it says |

@@ -100,6 +100,16 @@ pub fn distinct_teids(sessions: &Sessions) -> BTreeSet<u32> {
     sessions.values().flat_map(|session| session.teids()).collect()
 }
 
+/// The place of a session: from 0, in ascending order of SEID.
+pub fn place_of(sessions: &Sessions, seid: u64) -> Option<usize> {
+    sessions.keys().position(|key| *key == seid)
+}
+
+/// The place of the session that holds a TEID.
+pub fn place_of_holder(sessions: &Sessions, teid: u32) -> Option<usize> {
+    sessions.values().position(|session| session.teids().any(|held| held == teid))
+}
+
 /// The rules for the records of a table, as 01 lists them. The answer names the first broken rule.
 pub fn records_hold(settings: &Settings, sessions: &Sessions) -> Result<(), String> {
     if sessions.len() > MOST_SESSIONS {

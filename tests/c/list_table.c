@@ -7,7 +7,6 @@
 
 #include "listing.h"
 #include "message.h"
-#include "sessions.h"
 #include "unit.h"
 
 static struct options options;
@@ -27,8 +26,9 @@ static bool read_unit(const char *path)
     fclose(file);
     options.pool_size = (uint32_t)number_at(unit.table + 25, 4);
     unit.options = &options;
-    unit.live_sessions = sessions_count(unit.table, 0);
-    return whole && pfcp_free_count(unit.table, sizeof unit.table, &unit.free_teids) == 0;
+    return whole &&
+           pfcp_session_count(unit.table, sizeof unit.table, &unit.live_sessions) == PFCP_FOUND &&
+           pfcp_free_count(unit.table, sizeof unit.table, &unit.free_teids) == PFCP_ANSWERED;
 }
 
 int main(int argc, char **argv)

@@ -1,6 +1,7 @@
 /*
  * The archive from C: document 01's whole replies, its story of a pool of two, the errors that were
- * seen before, empty slices, lengths, broken tables and restorations. The last line is "N passed, M failed".
+ * seen before, empty slices, lengths, broken tables, restorations and the calls that read a table. The
+ * last line is "N passed, M failed".
  *
  * Every slice is lent from a block of its own and of exactly its length, so that a memory checker
  * sees an octet read or written outside.
@@ -640,6 +641,120 @@ static void restoration(void)
     free(table);
 }
 
+/* The last answer of a call that reads a table. */
+static struct {
+    uint32_t count;
+    size_t place;
+} told;
+
+/* The three calls on a table of exactly this length; the table stays as it is. */
+static uint32_t count_in(const uint8_t *octets, size_t length)
+{
+    uint8_t *table = length > 0 ? copy_of(octets, length) : NULL;
+
+    told.count = 0xA5A5A5A5;
+    uint32_t outcome = pfcp_session_count(table, length, &told.count);
+    CHECK(length == 0 || memcmp(table, octets, length) == 0);
+    free(table);
+    return outcome;
+}
+
+static uint32_t find_seid_in(const uint8_t *octets, size_t length, uint64_t seid)
+{
+    uint8_t *table = length > 0 ? copy_of(octets, length) : NULL;
+
+    told.place = SIZE_MAX;
+    uint32_t outcome = pfcp_find_session(table, length, seid, &told.place);
+    CHECK(length == 0 || memcmp(table, octets, length) == 0);
+    free(table);
+    return outcome;
+}
+
+static uint32_t find_teid_in(const uint8_t *octets, size_t length, uint32_t teid)
+{
+    uint8_t *table = length > 0 ? copy_of(octets, length) : NULL;
+
+    told.place = SIZE_MAX;
+    uint32_t outcome = pfcp_find_teid(table, length, teid, &told.place);
+    CHECK(length == 0 || memcmp(table, octets, length) == 0);
+    free(table);
+    return outcome;
+}
+
+/* All three say that there is no table. */
+static void nothing_told(const uint8_t *octets, size_t length)
+{
+    CHECK(count_in(octets, length) == PFCP_BROKEN_TABLE && told.count == 0);
+    CHECK(find_seid_in(octets, length, 4) == PFCP_BROKEN_TABLE && told.place == 0);
+    CHECK(find_teid_in(octets, length, 4096) == PFCP_BROKEN_TABLE && told.place == 0);
+}
+
+/* How many sessions, the place of a SEID, and that of a TEID's holder: an endpoint's TEID, a TEID that
+   two PDRs share, and numbers that are in no record or in another field of one. */
+static void read_tables(void)
+{
+    static const struct {
+        uint64_t seid;
+        uint32_t outcome;
+        size_t place;
+    } seids[] = {
+        {4, 0, 0}, {9, 0, 1},    {0xFFFFFFFFFFFFFFFF, 0, 2}, {0, 2, 0},  {3, 2, 0},
+        {5, 2, 0}, {4096, 2, 0}, {0xFFFFFFFFFFFFFFFE, 2, 0}, {10, 2, 0}, {0x100000004, 2, 0}};
+    static const struct {
+        uint32_t teid;
+        uint32_t outcome;
+        size_t place;
+    } teids[] = {{4096, 0, 1}, {4097, 0, 0}, {4098, 0, 2}, {4099, 2, 0},
+                 {4095, 2, 0}, {0, 2, 0},    {100, 2, 0},  {0xFFFFFFFF, 2, 0}};
+    const size_t length = PFCP_TABLE_LENGTH;
+    uint8_t *table = new_table(4096, 10);
+    struct message m;
+
+    CHECK(count_in(table, length) == PFCP_FOUND && told.count == 0);
+    CHECK(find_seid_in(table, length, 4) == PFCP_NONE && told.place == 0);
+    CHECK(find_teid_in(table, length, 4096) == PFCP_NONE && told.place == 0);
+    start_establishment(&m, 9);
+    create_pdr(&m, 1, &choose_7);
+    create_pdr(&m, 2, &choose_7);
+    create_pdr(&m, 3, NULL);
+    CHECK(ask(table, &m) == 1);
+    start_establishment(&m, 4);
+    create_pdr_start(&m, 6, 7, 1);
+    put_number(&m, IE_ENDPOINT_ID, 3, 1);
+    create_pdr_end(&m, 4099);
+    create_endpoint(&m, 3, &choose);
+    CHECK(ask(table, &m) == 1);
+    CHECK(establish_one_pdr(table, 0xFFFFFFFFFFFFFFFF, &choose) == 1);
+    CHECK(count_in(table, length) == PFCP_FOUND && told.count == 3);
+    for (size_t i = 0; i < sizeof seids / sizeof seids[0]; i++) {
+        CHECK(find_seid_in(table, length, seids[i].seid) == seids[i].outcome);
+        CHECK(told.place == seids[i].place);
+    }
+    for (size_t i = 0; i < sizeof teids / sizeof teids[0]; i++) {
+        CHECK(find_teid_in(table, length, teids[i].teid) == teids[i].outcome);
+        CHECK(told.place == teids[i].place);
+    }
+    nothing_told(table, length - 1);
+    nothing_told(NULL, 0);
+    table[length - 1] = 1;
+    nothing_told(table, length);
+    table[length - 1] = 0;
+
+    /* A TEID is held until the last of the PDRs that share it is gone; then it is another's. */
+    CHECK(modify_remove_pdr(table, 9, 1) == 1);
+    CHECK(find_teid_in(table, length, 4096) == PFCP_FOUND && told.place == 1);
+    CHECK(modify_remove_pdr(table, 9, 2) == 1);
+    CHECK(find_teid_in(table, length, 4096) == PFCP_NONE && told.place == 0);
+    CHECK(establish_one_pdr(table, 1, &choose) == 1);
+    CHECK(find_teid_in(table, length, 4096) == PFCP_FOUND && told.place == 0);
+    CHECK(find_teid_in(table, length, 4097) == PFCP_FOUND && told.place == 1);
+    CHECK(delete_session(table, 4) == 1);
+    CHECK(find_teid_in(table, length, 4097) == PFCP_NONE && told.place == 0);
+    CHECK(find_seid_in(table, length, 9) == PFCP_FOUND && told.place == 1);
+    CHECK(count_in(table, length) == PFCP_FOUND && told.count == 3);
+    free(table);
+}
+
 /* What was written last. */
 static struct {
     uint8_t octets[PFCP_LONGEST_RESTORATION];
@@ -837,6 +952,7 @@ int main(void)
     settings();
     broken_tables();
     restoration();
+    read_tables();
     written_restorations();
     refused_restorations();
     printf("%lu passed, %lu failed\n", passed, failed);

@@ -36,7 +36,7 @@ pub enum Marks {
 }
 
 // Whether a PDR's slot holds a TEID.
-fn holds(slot: &[u8], teid: u64) -> bool
+pub fn holds(slot: &[u8], teid: u64) -> bool
     requires { ⌜ length (now slot) ≡ pdrWidth ⌝ }
     ensures { λ r. ⌜ r ≡ holdsTeid (now (slot .entry)) teid ⌝ }
 {

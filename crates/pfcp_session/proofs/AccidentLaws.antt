@@ -44,7 +44,7 @@ use Rattle.pfcp_session.proofs.RunLaws.{request-step, host-claim}
 -- ---- what a run leaves
 
 -- a table whose TEIDs are counted is not broken
-counted-sound : (t : List ℕ) (n : ℕ) → countFree maxSessions t ≡ free n → T (sound maxSessions t)
+pub counted-sound : (t : List ℕ) (n : ℕ) → countFree maxSessions t ≡ free n → T (sound maxSessions t)
 unfolding countFree
 counted-sound t n e = one (sound maxSessions t) (freeCount (viewSettings t) (viewSessions t)) e
   where
@@ -54,7 +54,7 @@ counted-sound t n e = one (sound maxSessions t) (freeCount (viewSettings t) (vie
 
 module _ (run : Run) where
   -- the host's claim of it
-  left : Holds maxSessions (run .settings) (liveAfter run) (tableAfter run)
+  pub left : Holds maxSessions (run .settings) (liveAfter run) (tableAfter run)
   unfolding HostClaim
   left = host-claim run .holds
 

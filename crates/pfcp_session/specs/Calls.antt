@@ -12,6 +12,7 @@ use Rattle.rules.specs.Sound.{Made, make, Count, broken, free, countFree}
 use Rattle.rules.specs.Stages.{verdict}
 use Rattle.rules.specs.Serve.{Served, replyTo, serve}
 use Rattle.rules.specs.Restoring.{Writing, writeRestoration}
+use Rattle.rules.specs.Finding.{Finding, countSessions, findSession, findHolder}
 
 -- making: 0 made, 1 refused; and the table at exit
 pub record MakeCall : Type 0 where
@@ -59,3 +60,14 @@ requestCall t msg space = requestAnswer (replyOf t msg) (serve maxSessions t msg
 -- none), and the space at exit
 unfoldable pub restorationCall : List ℕ → ℕ → List ℕ → List ℕ → List ℕ → Writing
 restorationCall t place ipv4 ipv6 space = writeRestoration maxSessions t place ipv4 ipv6 space
+
+-- the reading calls: 0 and the number of sessions, the place of a SEID's session or that of the session that holds a TEID; 1 a broken table,
+-- 2 none, and the number 0
+unfoldable pub sessionCountCall : List ℕ → Finding
+sessionCountCall t = countSessions maxSessions t
+
+unfoldable pub findSessionCall : List ℕ → ℕ → Finding
+findSessionCall t seid = findSession maxSessions t seid
+
+unfoldable pub findTeidCall : List ℕ → ℕ → Finding
+findTeidCall t teid = findHolder maxSessions t teid

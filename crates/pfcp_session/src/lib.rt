@@ -5,7 +5,7 @@ ghost use mathlib.Core.Path.{_≡_};
 ghost use Rattle.rules.specs.Limits.{maxSessions};
 ghost use Rattle.rules.specs.Layout.{tableLength};
 ghost use Rattle.unit.specs.Meaning.{settingsGiven};
-ghost use Rattle.pfcp_session.specs.Calls.{makeCall, countCall, requestCall, restorationCall};
+ghost use Rattle.pfcp_session.specs.Calls.{makeCall, countCall, requestCall, restorationCall, sessionCountCall, findSessionCall, findTeidCall};
 
 // Outcomes of making a table.
 const MADE: u32 = 0;
@@ -103,4 +103,36 @@ pub extern "C" fn pfcp_write_restoration(
     let answer = restoration::write_restoration(table, place, ipv4, ipv6, space);
     *used = answer.used;
     answer.outcome
+}
+
+// Writes the number of sessions to count: outcome 0, or 1 and 0 where the table is broken or of wrong length.
+#[no_mangle]
+pub extern "C" fn pfcp_session_count(table: &[u8], count: &mut u32) -> u32
+    ensures { λ r. ⌜ record { outcome = r; number = now (count .exit) } ≡ sessionCountCall (now (table .entry)) ⌝ }
+{
+    let counted = finding::session_count(table);
+    *count = counted.number as u32;
+    counted.outcome
+}
+
+// Writes the place, from 0, of the session of a SEID: outcome 0, or 1 where the table is broken or of wrong length, 2 where no session has
+// it, and 0 there.
+#[no_mangle]
+pub extern "C" fn pfcp_find_session(table: &[u8], seid: u64, place: &mut usize) -> u32
+    ensures { λ r. ⌜ record { outcome = r; number = now (place .exit) } ≡ findSessionCall (now (table .entry)) seid ⌝ }
+{
+    let found = finding::find_session(table, seid);
+    *place = found.number;
+    found.outcome
+}
+
+// Writes the place, from 0, of the session that holds a TEID: outcome 0, or 1 where the table is broken or of wrong length, 2 where no
+// session holds it, and 0 there. No two sessions hold one TEID.
+#[no_mangle]
+pub extern "C" fn pfcp_find_teid(table: &[u8], teid: u32, place: &mut usize) -> u32
+    ensures { λ r. ⌜ record { outcome = r; number = now (place .exit) } ≡ findTeidCall (now (table .entry)) teid ⌝ }
+{
+    let holder = finding::find_holder(table, teid as u64);
+    *place = holder.number;
+    holder.outcome
 }

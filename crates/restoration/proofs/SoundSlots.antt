@@ -36,7 +36,7 @@ use Rattle.restoration.proofs.RecordSteps.{octet-read}
 
 -- ---- the records of an area
 
-all-at : {A : Type 0} (p : A → Bool) (d : A) (rs : List A) (n : ℕ) → n < length rs → T (all p rs) → T (p (getD rs n d))
+pub all-at : {A : Type 0} (p : A → Bool) (d : A) (rs : List A) (n : ℕ) → n < length rs → T (all p rs) → T (p (getD rs n d))
 all-at p d [] n l h = absurd (omega arith)
 all-at p d (r ∷ rs) zero l h = all-head p r rs h
 all-at p d (r ∷ rs) (suc n) l h = all-at p d rs n (omega arith) (all-tail p r rs h)
@@ -68,7 +68,7 @@ module _ (s : Settings) (slot : List ℕ) (long : length slot ≡ sessionWidth) 
   unfolding viewSession viewArea octetAt
   count-pdrs = length-map (slices pdrWidth (getD slot pdrCountAt 0) (drop pdrsAt slot)) viewPdr ∙ length-slices pdrWidth (getD slot pdrCountAt 0) (drop pdrsAt slot)
 
-  few-pdrs : getD slot pdrCountAt 0 ≤ maxPdrs
+  pub few-pdrs : getD slot pdrCountAt 0 ≤ maxPdrs
   unfolding sessionTests
   few-pdrs = let g = leb→le (length (viewSession slot .pdrs)) 16 (facts .1 .1 .0) in let e = count-pdrs in omega arith
 
@@ -76,7 +76,7 @@ module _ (s : Settings) (slot : List ℕ) (long : length slot ≡ sessionWidth) 
   unfolding viewSession viewArea octetAt
   count-endpoints = length-map (slices endpointWidth (getD slot endpointCountAt 0) (drop endpointsAt slot)) viewEndpoint ∙ length-slices endpointWidth (getD slot endpointCountAt 0) (drop endpointsAt slot)
 
-  few-endpoints : getD slot endpointCountAt 0 ≤ maxEndpoints
+  pub few-endpoints : getD slot endpointCountAt 0 ≤ maxEndpoints
   unfolding sessionTests
   few-endpoints = let g = leb→le (length (viewSession slot .endpoints)) 8 (facts .1 .1 .1 .1 .1 .0) in let e = count-endpoints in omega arith
 
@@ -143,7 +143,7 @@ module _ (t : List ℕ) (h : T (sound maxSessions t)) where
     width : headWidth + place * sessionWidth + sessionWidth - (headWidth + place * sessionWidth) ≡ sessionWidth
     width = omega arith
 
-    slot-long : length slot ≡ sessionWidth
+    pub slot-long : length slot ≡ sessionWidth
     slot-long = rw width (length-part (headWidth + place * sessionWidth) sessionWidth t (let e = table-long in let f = few-sessions in omega arith))
 
     pub slot-session : viewSession slot ≡ sessionAt (viewSessions t) place

@@ -17,9 +17,10 @@ use Rattle.rules.specs.Serve
 use Rattle.rules.specs.Live
 use Rattle.rules.specs.Restoration
 use Rattle.rules.specs.Restoring
+use Rattle.rules.specs.Finding
 use Rattle.rules.specs.Calls
 use Rattle.rules.specs.Claim
 
 unfoldable pub computing : ℕ
-unfolding Octets.computing Lists.computing Model.computing Elements.computing Layout.computing Sound.computing Message.computing Reading.computing Grants.computing Stages.computing Apply.computing Reply.computing Serve.computing Live.computing Restoration.computing Restoring.computing Calls.computing Claim.computing
+unfolding Octets.computing Lists.computing Model.computing Elements.computing Layout.computing Sound.computing Message.computing Reading.computing Grants.computing Stages.computing Apply.computing Reply.computing Serve.computing Live.computing Restoration.computing Restoring.computing Finding.computing Calls.computing Claim.computing
 computing = 0

@@ -4,3 +4,4 @@ pub mod CallExamples
 pub mod RestorationExamples
 pub mod EndpointExamples
 pub mod WriterExamples
+pub mod FindingExamples

@@ -16,5 +16,6 @@ pub mod Serve
 pub mod Live
 pub mod Restoration
 pub mod Restoring
+pub mod Finding
 pub mod Calls
 pub mod Claim

@@ -21,7 +21,7 @@ use Rattle.rules.specs.Stages.{hasSeid, sessionOf, newSession}
 use Rattle.rules.specs.Apply.{otherSession, removeSession, putSession}
 use Rattle.laws.proofs.LayoutLaws.{length-session, seidFits}
 use Rattle.laws.proofs.TableLaws.{length-settings}
-use Rattle.slots.specs.Records.{keyOf}
+use Rattle.slots.specs.Records.{keyOf, lookup}
 use Rattle.slots.specs.declared.Place.the-variants.{Found, Absent}
 use Rattle.slots.proofs.Places.{otherThan, found-within, found-record, absent-record}
 use Rattle.areas.specs.Counted.{areaIn, placeIn, withRecord, withoutRecord}
@@ -75,23 +75,27 @@ module _ (s : Settings) (hs : T (settingsAllowed s)) where
           up = up;
         }
 
+    -- a SEID's place in the area is its place among the sessions
+    pub session-place : (n : ℕ) → placeIn tableArea n (encode maxSessions s m) ≡ lookup n (map seidOf m)
+    session-place n = place-held sessionOctets seidOf tableArea (sessionAllowed s) good held n
+
     -- a session found is the rules' session, and its slot its octets
     pub session-found : (n p : ℕ) (d : Session) → placeIn tableArea n (encode maxSessions s m) ≡ Found p → (p < maxSessions) × (sessionOf n m ≡ some (getD m p d))
     unfolding sessionOf hasSeid
     session-found n p d e =
-        let f = sym (place-held sessionOctets seidOf tableArea (sessionAllowed s) good held n) ∙ e in
+        let f = sym (session-place n) ∙ e in
         let l = found-within seidOf n p m f in
         (omega (arith, few, l), found-record seidOf n p m d f)
 
     pub session-absent : (n p : ℕ) → placeIn tableArea n (encode maxSessions s m) ≡ Absent p → sessionOf n m ≡ none
     unfolding sessionOf hasSeid
-    session-absent n p e = absent-record seidOf n p m up (sym (place-held sessionOctets seidOf tableArea (sessionAllowed s) good held n) ∙ e)
+    session-absent n p e = absent-record seidOf n p m up (sym (session-place n) ∙ e)
 
     pub session-loaded : (n p : ℕ) (d : Session) → placeIn tableArea n (encode maxSessions s m) ≡ Found p
         → part (p * sessionWidth) sessionWidth (areaIn tableArea (encode maxSessions s m)) ≡ sessionOctets (getD m p d)
     session-loaded n p d e =
         record-held sessionOctets seidOf tableArea (sessionAllowed s) good held d p
-        (found-within seidOf n p m (sym (place-held sessionOctets seidOf tableArea (sessionAllowed s) good held n) ∙ e))
+        (found-within seidOf n p m (sym (session-place n) ∙ e))
 
     -- a session put in or replaced, and one taken out
     pub session-saved : (x : Session) → T (sessionAllowed s x) → length (putSession x m) ≤ maxSessions → withRecord tableArea (sessionOctets x) (encode maxSessions s m) ≡ encode maxSessions s (putSession x m)

@@ -5,10 +5,12 @@
 //! * `spoil`: damage to tables.
 //! * `run`: the comparison.
 //! * `written`: the comparison of restoration requests.
+//! * `reading`: the comparison of the calls that read a table.
 //! * `crowded`: messages with as many records as fit.
 
 pub mod crowded;
 pub mod product;
+mod reading;
 pub mod run;
 pub mod spoil;
 mod written;

@@ -3,7 +3,7 @@
 
 use std::process::ExitCode;
 
-use differential::product::{Product, WriteRestoration};
+use differential::product::{Product, Reading, WriteRestoration};
 use differential::run::{run, Report, CALLS_FOR_WHOLE_COVERAGE};
 use second::coverage;
 use second::program;
@@ -46,6 +46,12 @@ extern "C" {
         space_len: usize,
         used: *mut usize,
     ) -> u32;
+    #[cfg(feature = "reading")]
+    fn pfcp_session_count(table: *const u8, table_len: usize, count: *mut u32) -> u32;
+    #[cfg(feature = "reading")]
+    fn pfcp_find_session(table: *const u8, table_len: usize, seid: u64, place: *mut usize) -> u32;
+    #[cfg(feature = "reading")]
+    fn pfcp_find_teid(table: *const u8, table_len: usize, teid: u32, place: *mut usize) -> u32;
 }
 
 #[cfg(feature = "restoration")]
@@ -53,6 +59,16 @@ const WRITE_RESTORATION: Option<WriteRestoration> = Some(pfcp_write_restoration)
 
 #[cfg(not(feature = "restoration"))]
 const WRITE_RESTORATION: Option<WriteRestoration> = None;
+
+#[cfg(feature = "reading")]
+const READING: Option<Reading> = Some(Reading {
+    session_count: pfcp_session_count,
+    find_session: pfcp_find_session,
+    find_teid: pfcp_find_teid,
+});
+
+#[cfg(not(feature = "reading"))]
+const READING: Option<Reading> = None;
 
 fn main() -> ExitCode {
     program::run("differential", DEFAULT_CALLS, compare)
@@ -65,6 +81,7 @@ fn compare(seed: u64, calls: usize) -> bool {
         free_count: pfcp_free_count,
         request: pfcp_request,
         write_restoration: WRITE_RESTORATION,
+        reading: READING,
     };
     let report = run(&product, seed, calls);
     print(&report, calls);
@@ -74,6 +91,7 @@ fn compare(seed: u64, calls: usize) -> bool {
 fn print(report: &Report, calls: usize) {
     println!("outcomes 0 to 5: {:?}", report.outcomes);
     println!("restored sessions {}, requests written {}", report.restored, report.written);
+    println!("SEIDs and TEIDs asked for {}, of these found {}", report.asked, report.found);
     println!("damaged tables {}, of these sound {}", report.damaged, report.still_sound);
     for (reason, count) in &report.reasons {
         println!("broken by {reason}: {count}");

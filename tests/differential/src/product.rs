@@ -18,6 +18,40 @@ pub type WriteRestoration = unsafe extern "C" fn(
     *const u8, usize, usize, *const u8, usize, *const u8, usize, *mut u8, usize, *mut usize,
 ) -> u32;
 
+pub type FindSession = unsafe extern "C" fn(*const u8, usize, u64, *mut usize) -> u32;
+pub type FindTeid = unsafe extern "C" fn(*const u8, usize, u32, *mut usize) -> u32;
+
+/// The calls that read a table. The first has the same form as the free count.
+#[derive(Clone, Copy)]
+pub struct Reading {
+    pub session_count: FreeCount,
+    pub find_session: FindSession,
+    pub find_teid: FindTeid,
+}
+
+impl Reading {
+    /// The outcome and the number of sessions.
+    pub fn session_count(&self, table: &[u8]) -> (u32, usize) {
+        let mut count = 0xA5A5_A5A5;
+        let outcome = unsafe { (self.session_count)(pointer(table), table.len(), &mut count) };
+        (outcome, count as usize)
+    }
+
+    /// The outcome and the place of a SEID.
+    pub fn find_session(&self, table: &[u8], seid: u64) -> (u32, usize) {
+        let mut place = usize::MAX;
+        let outcome = unsafe { (self.find_session)(pointer(table), table.len(), seid, &mut place) };
+        (outcome, place)
+    }
+
+    /// The outcome and the place of the session that holds a TEID.
+    pub fn find_teid(&self, table: &[u8], teid: u32) -> (u32, usize) {
+        let mut place = usize::MAX;
+        let outcome = unsafe { (self.find_teid)(pointer(table), table.len(), teid, &mut place) };
+        (outcome, place)
+    }
+}
+
 #[derive(Clone, Copy)]
 pub struct Product {
     pub table_length: TableLength,
@@ -26,6 +60,8 @@ pub struct Product {
     pub request: Request,
     /// Nothing where the product has no such call.
     pub write_restoration: Option<WriteRestoration>,
+    /// Nothing where the product has no such calls.
+    pub reading: Option<Reading>,
 }
 
 impl Product {

@@ -97,6 +97,9 @@ pub struct Report {
     pub restored: usize,
     /// Restoration requests that the product wrote.
     pub written: usize,
+    /// SEIDs and TEIDs that were asked for in sound tables, and those of them that were found.
+    pub asked: usize,
+    pub found: usize,
     pub damaged: usize,
     /// Damaged tables that were sound all the same.
     pub still_sound: usize,
@@ -115,6 +118,8 @@ impl Report {
             calls: 0,
             restored: 0,
             written: 0,
+            asked: 0,
+            found: 0,
             damaged: 0,
             still_sound: 0,
             passed: 0,
@@ -162,6 +167,7 @@ pub fn run(product: &Product, seed: u64, calls: usize) -> Report {
     run.largest_table(&mut Generator::new(!seed));
     run.crowded_messages();
     run.written_of_random_tables();
+    run.found_in_random_tables();
     let mut generator = Generator::new(seed);
     while run.report.calls < calls && run.report.failures.len() < 20 {
         run.sequence(&mut generator, calls);
@@ -315,10 +321,12 @@ impl Run<'_> {
                 report.check(unchanged, || format!("a table with {reason} was changed"));
                 report.check(answer.rest_is_unchanged(), || format!("a reply for {reason}"));
                 self.nothing_written(&content);
+                self.nothing_found(&content);
             }
             Ok((settings, sessions)) => {
                 self.report.still_sound += 1;
                 self.written_requests(&settings, &sessions);
+                self.found_places(&settings, &sessions);
                 let Some(mut unit) = self.unit_with(&settings, &sessions) else { return };
                 let count = unit.free_count();
                 let mut expected = vec![FILLING; call.reply_space];
@@ -414,6 +422,7 @@ impl Run<'_> {
         let same = table.content() == state.table.content() && table.guards_hold();
         self.report.check(same, || "the restored table differs".into());
         self.written_requests(settings, live);
+        self.found_places(settings, live);
     }
 
     /// A table with everything that it has room for, brought about by restorations: damaged, then

@@ -1,0 +1,3 @@
+-- `Holds`: who holds a TEID, by the octets of a slot; `Answers`: the code's answer as the rules have it.
+pub mod Holds
+pub mod Answers

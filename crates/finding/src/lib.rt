@@ -1,0 +1,145 @@
+// What a table tells beside its requests: how many sessions there are, the place of a SEID, and for a TEID the place of the session that
+// holds it. Each is asked of any octets; a broken table is told first.
+ghost use mathlib.Core.Path.{_≡_};
+ghost use Prim.Native.Nat.{_*_, _≤_};
+ghost use lib.Dec.{T};
+ghost use lib.ListN.{length};
+ghost use Rattle.rules.specs.Limits.{maxSessions};
+ghost use Rattle.rules.specs.Layout.{viewSession, viewSessions, pdrWidth, endpointWidth};
+ghost use Rattle.rules.specs.Sound.{sound};
+ghost use Rattle.rules.specs.Finding.{isHolder, holderPlace, findingOf, countSessions, findSession, findHolder};
+ghost use Rattle.finding.specs.Holds.{endpointsHold, pdrsHold, Counted};
+ghost use Rattle.finding.specs.Answers.{answerOf};
+use format::ENDPOINT;
+use format::ENDPOINT_COUNT;
+use format::ENDPOINTS;
+use format::HEAD;
+use format::PDR;
+use format::PDR_COUNT;
+use format::PDRS;
+use format::SLOT;
+
+// The outcomes: 0 and a number, or that there is none, or that the table is broken (01's outcome 1); the number is then 0.
+const FOUND: u32 = 0;
+
+const BROKEN: u32 = 1;
+
+const NONE: u32 = 2;
+
+pub struct Answer {
+    pub outcome: u32,
+    pub number: usize,
+}
+
+// Whether one of n endpoints holds a TEID, which stands after the ID.
+fn endpoints_hold(ends: &[u8], n: usize, teid: u64) -> bool
+    requires { ⌜ n * endpointWidth ≤ length (now ends) ⌝ }
+    ensures { λ r. ⌜ r ≡ endpointsHold teid n (now (ends .entry)) ⌝ }
+{
+    for i in 0..n {
+        if octets::read(ends, i * ENDPOINT + 1, 4) == teid {
+            return true;
+        }
+    }
+    false
+}
+
+// Whether one of n PDRs holds a TEID.
+fn pdrs_hold(pdrs: &[u8], n: usize, teid: u64) -> bool
+    requires { ⌜ n * pdrWidth ≤ length (now pdrs) ⌝ }
+    ensures { λ r. ⌜ r ≡ pdrsHold teid n (now (pdrs .entry)) ⌝ }
+{
+    for i in 0..n {
+        let at = i * PDR;
+        if marking::holds(&pdrs[at..at + PDR], teid) {
+            return true;
+        }
+    }
+    false
+}
+
+// Whether a record of the session in a slot holds a TEID.
+fn slot_holds(slot: &[u8], teid: u64) -> bool
+    requires { ⌜ Counted (now slot) ⌝ }
+    ensures { λ r. ⌜ r ≡ isHolder teid (viewSession (now (slot .entry))) ⌝ }
+{
+    let endpoints = slot[ENDPOINT_COUNT] as usize;
+    if endpoints_hold(&slot[ENDPOINTS..], endpoints, teid) {
+        return true;
+    }
+    let pdrs = slot[PDR_COUNT] as usize;
+    pdrs_hold(&slot[PDRS..], pdrs, teid)
+}
+
+// The first of the n sessions that holds a TEID.
+fn holder(t: &[u8], n: usize, teid: u64) -> Answer
+    requires { ⌜ T (sound maxSessions (now t)) × (n ≡ length (viewSessions (now t))) ⌝ }
+    ensures { λ r. ⌜ answerOf r ≡ findingOf (holderPlace teid (viewSessions (now (t .entry)))) ⌝ }
+{
+    for i in 0..n {
+        let at = HEAD + i * SLOT;
+        if slot_holds(&t[at..at + SLOT], teid) {
+            return Answer {
+                outcome: FOUND,
+                number: i,
+            };
+        }
+    }
+    Answer {
+        outcome: NONE,
+        number: 0,
+    }
+}
+
+// How many sessions there are.
+pub fn session_count(t: &[u8]) -> Answer
+    ensures { λ r. ⌜ answerOf r ≡ countSessions maxSessions (now (t .entry)) ⌝ }
+{
+    if !table::is_sound(t) {
+        return Answer {
+            outcome: BROKEN,
+            number: 0,
+        };
+    }
+    Answer {
+        outcome: FOUND,
+        number: octets::read(t, format::COUNT, 2) as usize,
+    }
+}
+
+// The place of the session of a SEID.
+pub fn find_session(t: &[u8], seid: u64) -> Answer
+    ensures { λ r. ⌜ answerOf r ≡ findSession maxSessions (now (t .entry)) seid ⌝ }
+{
+    if !table::is_sound(t) {
+        return Answer {
+            outcome: BROKEN,
+            number: 0,
+        };
+    }
+    let place = store::find(t, format::MAX_SESSIONS as usize, format::COUNT, seid);
+    match place {
+        slots::Place::Found(p) => Answer {
+            outcome: FOUND,
+            number: p,
+        },
+        slots::Place::Absent(p) => Answer {
+            outcome: NONE,
+            number: 0,
+        },
+    }
+}
+
+// The place of the session that holds a TEID; no two do.
+pub fn find_holder(t: &[u8], teid: u64) -> Answer
+    ensures { λ r. ⌜ answerOf r ≡ findHolder maxSessions (now (t .entry)) teid ⌝ }
+{
+    if !table::is_sound(t) {
+        return Answer {
+            outcome: BROKEN,
+            number: 0,
+        };
+    }
+    let n = octets::read(t, format::COUNT, 2) as usize;
+    holder(t, n, teid)
+}

@@ -1,0 +1,135 @@
+-- What the reading calls answer: as numbers, and that a place found is the one place there is, of the table and of the live set after any run.
+-- Assumes nothing.
+use mathlib.Core.Path.{_≡_, refl, sym, ap, subst, _∙_}
+use Prim.Native.Nat.{ℕ, _-_, _≤_, _<_}
+use native.Mathlib.Omega.{arith}
+use mathlib.Core.Bool.{Bool, true, false, not}
+use mathlib.Core.Option.{Option, none, some}
+use mathlib.Core.List.{List}
+use lib.Dec.{T, T-not, eqb→eq, ltb→lt}
+use lib.ListN.{length}
+use Rattle.octets.specs.Choice.{pick}
+use Rattle.octets.specs.Lists.{member}
+use Rattle.octets.proofs.Tests.{is-true}
+use Rattle.octets.proofs.Ordered.{up-pairs, belowKey}
+use Rattle.octets.proofs.MemberLaws.{member-passes, none-in}
+use Rattle.rules.specs.Limits.{maxSessions}
+use Rattle.rules.specs.Model.{Session, Sessions, seidOf, sessionTeids}
+use Rattle.rules.specs.Layout.{viewSettings, viewSessions}
+use Rattle.rules.specs.Sound.{apart, sound}
+use Rattle.rules.specs.Stages.{hasSeid}
+use Rattle.rules.specs.Restoring.{sessionAt}
+use Rattle.rules.specs.Finding.{Finding, findingOf, placeFrom, sessionPlace, isHolder, holderPlace, findIn, countSessions, findSession, findHolder}
+use Rattle.claim.proofs.KeptRules.{SessionsKept, sessions-kept}
+use Rattle.claim.proofs.ServeLaws.{table-kept}
+use Rattle.restoration.proofs.SoundSlots.{few-sessions}
+use Rattle.finding.proofs.PlaceLaws.{place-says, none-says, place-only}
+use Rattle.pfcp_session.specs.Calls.{sessionCountCall, findSessionCall, findTeidCall}
+use Rattle.pfcp_session.specs.Runs.{Run, tableAfter}
+use Rattle.pfcp_session.specs.Findings.{At, foundAt, nowhere, TheOne, SessionFound, HolderFound, LiveFound}
+use Rattle.pfcp_session.proofs.AccidentLaws.{left, counted-sound}
+
+-- ---- the number of sessions fits its width
+
+pub count-fits : (t : List ℕ) (r : Finding) → r ≡ countSessions maxSessions t → r .number ≤ maxSessions
+unfolding countSessions findIn
+count-fits t r e = let f = ap (λ (x : Finding). x .number) e in go (sound maxSessions t) refl f
+  where
+    go : (b : Bool) → sound maxSessions t ≡ b → r .number ≡ pick b (foundAt (length (viewSessions t))) (record { outcome = 1; number = 0 }) .number → r .number ≤ maxSessions
+    go true s f = let few = few-sessions t (subst T (sym s) tt) in omega arith
+    go false s f = omega arith
+
+-- ---- one place, by a test
+
+-- the answer where the table is not broken
+told : (t : List ℕ) (o : Option ℕ) → T (sound maxSessions t) → findIn maxSessions t o ≡ findingOf o
+unfolding findIn
+told t o h = rw (is-true (sound maxSessions t) h)
+
+module _ (p : Session → Bool) (m : Sessions) (only : (i j : ℕ) → i < length m → j < length m → T (p (sessionAt m i)) → T (p (sessionAt m j)) → i ≡ j) where
+  said : (place : ℕ) → placeFrom 0 p m ≡ some place → At p m place
+  said place e =
+      let k = place-says 0 place p m e in
+      let whole : place - 0 ≡ place = omega arith in
+      record { live = omega (arith, k .1); passes = rw whole at (k .2) }
+
+  the-one : TheOne (At p m) (findingOf (placeFrom 0 p m))
+  the-one =
+      record {
+        unique = λ i j a b. only i j (a .live) (b .live) (a .passes) (b .passes);
+        found = λ place e. found (placeFrom 0 p m) refl place e;
+        tells = λ place a. tells (placeFrom 0 p m) refl place a;
+        none = λ e place a. nothing (placeFrom 0 p m) refl e place a;
+        absent = λ f. absent (placeFrom 0 p m) refl f;
+      }
+    where
+      found : (o : Option ℕ) → placeFrom 0 p m ≡ o → (place : ℕ) → findingOf o ≡ foundAt place → At p m place
+      found none e place f = absurd (let z = ap (λ (x : Finding). x .outcome) f in omega arith)
+      found (some q) e place f = said place (e ∙ ap some (ap (λ (x : Finding). x .number) f))
+
+      tells : (o : Option ℕ) → placeFrom 0 p m ≡ o → (place : ℕ) → At p m place → findingOf o ≡ foundAt place
+      tells none e place a = absurd (none-says 0 p m e place (a .live) (a .passes))
+      tells (some q) e place a = let b = said q e in ap foundAt (only q place (b .live) (a .live) (b .passes) (a .passes))
+
+      nothing : (o : Option ℕ) → placeFrom 0 p m ≡ o → findingOf o ≡ nowhere → (place : ℕ) → At p m place → ⊥
+      nothing none e f place a = none-says 0 p m e place (a .live) (a .passes)
+      nothing (some q) e f place a = let z = ap (λ (x : Finding). x .outcome) f in omega arith
+
+      absent : (o : Option ℕ) → placeFrom 0 p m ≡ o → ((place : ℕ) → At p m place → ⊥) → findingOf o ≡ nowhere
+      absent none e f = refl
+      absent (some q) e f = absurd (f q (said q e))
+
+-- ---- SEIDs and TEIDs
+
+-- SEIDs ascend, so no two sessions have one
+seid-clash : (seid : ℕ) (x y : Session) → T (belowKey seidOf x y) → T (hasSeid seid x) → T (hasSeid seid y) → ⊥
+unfolding hasSeid
+seid-clash seid x y l a b =
+    let below = ltb→lt (x .seid) (y .seid) l in
+    let one = eqb→eq (x .seid) seid a in
+    let other = eqb→eq (y .seid) seid b in
+    omega arith
+
+-- sessions are apart, so no two hold one TEID
+teid-clash : (teid : ℕ) (x y : Session) → T (apart x y) → T (isHolder teid x) → T (isHolder teid y) → ⊥
+unfolding apart isHolder
+teid-clash teid x y far a b =
+    T-not (member teid (sessionTeids y)) (member-passes (λ n. not (member n (sessionTeids y))) teid (sessionTeids x) a (none-in (sessionTeids x) (sessionTeids y) far)) b
+
+module _ (t : List ℕ) (h : T (sound maxSessions t)) where
+  rules : SessionsKept maxSessions (viewSettings t) (viewSessions t)
+  rules = sessions-kept maxSessions (viewSettings t) (viewSessions t) (table-kept maxSessions t h .sessions)
+
+  seid-one : (seid : ℕ) → TheOne (At (hasSeid seid) (viewSessions t)) (findSessionCall t seid)
+  unfolding findSessionCall findSession sessionPlace
+  seid-one seid =
+      subst (TheOne (At (hasSeid seid) (viewSessions t))) (sym (told t (sessionPlace seid (viewSessions t)) h))
+      (the-one (hasSeid seid) (viewSessions t) (place-only (hasSeid seid) (belowKey seidOf) (seid-clash seid) (viewSessions t) (up-pairs seidOf (viewSessions t) (rules .order))))
+
+  teid-one : (teid : ℕ) → TheOne (At (isHolder teid) (viewSessions t)) (findTeidCall t teid)
+  unfolding findTeidCall findHolder holderPlace
+  teid-one teid =
+      subst (TheOne (At (isHolder teid) (viewSessions t))) (sym (told t (holderPlace teid (viewSessions t)) h))
+      (the-one (isHolder teid) (viewSessions t) (place-only (isHolder teid) apart (teid-clash teid) (viewSessions t) (rules .separate)))
+
+pub session-found : SessionFound
+unfolding SessionFound
+session-found t seid h = seid-one t h seid
+
+pub holder-found : HolderFound
+unfolding HolderFound
+holder-found t teid h = teid-one t h teid
+
+-- ---- after any run
+
+pub live-found : (run : Run) → LiveFound run
+unfolding sessionCountCall countSessions SessionFound HolderFound
+live-found run =
+    let t = tableAfter run in
+    let l = left run in
+    let h = counted-sound t _ (l .count) in
+    record {
+      count = told t (some (length (viewSessions t))) h ∙ ap (λ (m : Sessions). foundAt (length m)) (l .records);
+      seids = λ seid. subst (λ (m : Sessions). TheOne (At (hasSeid seid) m) (findSessionCall t seid)) (l .records) (session-found t seid h);
+      teids = λ teid. subst (λ (m : Sessions). TheOne (At (isHolder teid) m) (findTeidCall t teid)) (l .records) (holder-found t teid h);
+    }

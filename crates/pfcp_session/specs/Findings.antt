@@ -1,0 +1,51 @@
+-- What the places of pfcp_find_session and pfcp_find_teid say: the answer is about the one session that has the SEID or holds the TEID, of the table
+-- and, after any run of the exported calls, of the live set. The reading calls change nothing, so a run with them is the run without them.
+-- Assumes nothing.
+use Prim.Native.Nat.{ℕ, _<_}
+use mathlib.Core.Path.{_≡_}
+use mathlib.Core.Bool.{Bool}
+use mathlib.Core.List.{List}
+use lib.Dec.{T}
+use lib.ListN.{length}
+use Rattle.rules.specs.Limits.{maxSessions}
+use Rattle.rules.specs.Model.{Session, Sessions}
+use Rattle.rules.specs.Layout.{viewSessions}
+use Rattle.rules.specs.Sound.{sound}
+use Rattle.rules.specs.Stages.{hasSeid}
+use Rattle.rules.specs.Restoring.{sessionAt}
+use Rattle.rules.specs.Finding.{Finding, isHolder}
+use Rattle.pfcp_session.specs.Calls.{sessionCountCall, findSessionCall, findTeidCall}
+use Rattle.pfcp_session.specs.Runs.{Run, liveAfter, tableAfter}
+
+-- there is a session at the place, and it passes the test
+pub record At (test : Session → Bool) (m : Sessions) (place : ℕ) : Type 0 where
+  pub live : place < length m
+  pub passes : T (test (sessionAt m place))
+
+-- the two answers on a table that is not broken
+abbrev pub foundAt : ℕ → Finding
+foundAt place = record { outcome = 0; number = place }
+
+abbrev pub nowhere : Finding
+nowhere = record { outcome = 2; number = 0 }
+
+-- there is one such place at most, and the answer is that place, exactly, or none, exactly where there is none
+pub record TheOne (at : ℕ → Type 0) (answer : Finding) : Type 0 where
+  pub unique : (one other : ℕ) → at one → at other → one ≡ other
+  pub found : (place : ℕ) → answer ≡ foundAt place → at place
+  pub tells : (place : ℕ) → at place → answer ≡ foundAt place
+  pub none : answer ≡ nowhere → (place : ℕ) → at place → ⊥
+  pub absent : ((place : ℕ) → at place → ⊥) → answer ≡ nowhere
+
+-- of any table that is not broken
+unfoldable pub SessionFound : Type 0
+SessionFound = (t : List ℕ) (seid : ℕ) → T (sound maxSessions t) → TheOne (At (hasSeid seid) (viewSessions t)) (findSessionCall t seid)
+
+unfoldable pub HolderFound : Type 0
+HolderFound = (t : List ℕ) (teid : ℕ) → T (sound maxSessions t) → TheOne (At (isHolder teid) (viewSessions t)) (findTeidCall t teid)
+
+-- after any run: the number of live sessions, the live session of a SEID, and the live session that holds a TEID
+pub record LiveFound (run : Run) : Type 0 where
+  pub count : sessionCountCall (tableAfter run) ≡ foundAt (length (liveAfter run))
+  pub seids : (seid : ℕ) → TheOne (At (hasSeid seid) (liveAfter run)) (findSessionCall (tableAfter run) seid)
+  pub teids : (teid : ℕ) → TheOne (At (isHolder teid) (liveAfter run)) (findTeidCall (tableAfter run) teid)

@@ -1,0 +1,93 @@
+//! The calls that read a table: how many sessions, the place of a SEID, the place of a TEID's holder,
+//! each compared with the second implementation's answer.
+
+use second::generate::tables::{self, Filling};
+use second::layout;
+use second::session::{self, Sessions};
+use second::settings::Settings;
+
+use crate::product::Reading;
+use crate::run::{Lent, Run};
+
+/// Tables drawn at random, before the sequences; every TEID of the pool is asked for in them.
+const TABLES: usize = 40;
+
+/// The outcomes for a number and for none.
+fn told(place: Option<usize>) -> (u32, usize) {
+    place.map_or((2, 0), |place| (0, place))
+}
+
+impl Run<'_> {
+    /// Tables drawn at random: each SEID and its neighbours, each TEID of the pool and around it.
+    pub(crate) fn found_in_random_tables(&mut self) {
+        for number in 0..TABLES {
+            let settings = tables::settings(&mut self.random, number % 3 > 0);
+            let filling = if number % 20 == 0 { Filling::Full } else { Filling::Some };
+            let sessions = tables::sessions(&mut self.random, &settings, filling);
+            self.found_places(&settings, &sessions);
+            let Some(reading) = self.product.reading else { return };
+            let table = Lent::new(&layout::encode(&settings, &sessions));
+            let before = settings.first.saturating_sub(3);
+            for teid in before..=settings.first.saturating_add(settings.size).saturating_add(2) {
+                self.one_teid(reading, &table, &sessions, teid);
+            }
+        }
+    }
+
+    /// The number of sessions of a sound table; each SEID and TEID in it and its neighbours, and
+    /// numbers at the edges.
+    pub(crate) fn found_places(&mut self, settings: &Settings, sessions: &Sessions) {
+        let Some(reading) = self.product.reading else { return };
+        let table = Lent::new(&layout::encode(settings, sessions));
+        let count = reading.session_count(table.content());
+        let right = count == (0, sessions.len());
+        self.report.check(right, || format!("{count:?} for {} sessions", sessions.len()));
+        for seid in sessions.keys().flat_map(|seid| [*seid, seid.wrapping_add(1), seid ^ 1 << 32]) {
+            self.one_seid(reading, &table, sessions, seid);
+        }
+        for seid in [0, 1, u64::from(settings.first), u64::MAX] {
+            self.one_seid(reading, &table, sessions, seid);
+        }
+        for teid in session::distinct_teids(sessions) {
+            self.one_teid(reading, &table, sessions, teid);
+            self.one_teid(reading, &table, sessions, teid.wrapping_add(1));
+        }
+        let any = settings.first.wrapping_add(self.random.below(settings.size as usize) as u32);
+        for teid in [0, 1, settings.first, any, settings.first.wrapping_sub(1), u32::MAX] {
+            self.one_teid(reading, &table, sessions, teid);
+        }
+        let guarded = table.guards_hold() && table.content() == layout::encode(settings, sessions);
+        self.report.check(guarded, || "a table that was read is written to".into());
+    }
+
+    /// Any numbers in a broken table.
+    pub(crate) fn nothing_found(&mut self, content: &[u8]) {
+        let Some(reading) = self.product.reading else { return };
+        let table = Lent::new(content);
+        let count = reading.session_count(table.content());
+        let seid = self.random.number();
+        let by_seid = reading.find_session(table.content(), self.random.pick(&[0, 1, seid]));
+        let teid = self.random.number() as u32;
+        let by_teid = reading.find_teid(table.content(), self.random.pick(&[0, 1, 4096, teid]));
+        let right = [count, by_seid, by_teid] == [(1, 0); 3];
+        self.report.check(right, || format!("{count:?} {by_seid:?} {by_teid:?}: a broken table"));
+    }
+
+    fn one_seid(&mut self, reading: Reading, table: &Lent, sessions: &Sessions, seid: u64) {
+        let expected = told(session::place_of(sessions, seid));
+        let given = reading.find_session(table.content(), seid);
+        self.report.asked += 1;
+        self.report.found += usize::from(expected.0 == 0);
+        self.report
+            .check(given == expected, || format!("SEID {seid}: {given:?} instead of {expected:?}"));
+    }
+
+    fn one_teid(&mut self, reading: Reading, table: &Lent, sessions: &Sessions, teid: u32) {
+        let expected = told(session::place_of_holder(sessions, teid));
+        let given = reading.find_teid(table.content(), teid);
+        self.report.asked += 1;
+        self.report.found += usize::from(expected.0 == 0);
+        self.report
+            .check(given == expected, || format!("TEID {teid}: {given:?} instead of {expected:?}"));
+    }
+}
