@@ -1,5 +1,5 @@
 # The commands that README.md names.
-.PHONY: all lib install test check fmt run demo bench trust docs accident
+.PHONY: all lib install test check fmt run demo bench bench-table trust docs accident
 PREFIX = /usr/local
 DESTDIR =
 
@@ -38,6 +38,10 @@ demo:
 # make bench ARGS='--picture docs/benchmarks.svg' also writes the picture
 bench:
 	@scripts/bench $(ARGS)
+
+# what keeping the table on the disk costs; make bench-table ARGS=FOLDER has the file there
+bench-table:
+	@scripts/bench-table $(ARGS)
 
 # which definitions have to be believed, from the sources
 trust:

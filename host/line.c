@@ -26,8 +26,12 @@ void served_facts(struct text *text, const struct served *served)
         text_add(text, ", sequence %" PRIu32, served->sequence);
     if (served->outcome != PFCP_ANSWERED)
         text_add(text, ", %zu octets", served->length);
-    text_add(text, ", outcome %" PRIu32 " (%s)", served->outcome,
-             outcome_in_words(served->outcome, served->has_type, served->type));
+    if (served->undone)
+        text_add(text, ", undone and not answered: the table is not on the disk (%s)",
+                 served->undone);
+    else
+        text_add(text, ", outcome %" PRIu32 " (%s)", served->outcome,
+                 outcome_in_words(served->outcome, served->has_type, served->type));
     if (served->cause != 0)
         text_add(text, ", cause %u (%s)", served->cause, cause_in_words(served->cause));
     if (served->has_offending)

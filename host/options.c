@@ -13,6 +13,9 @@ const char usage[] =
     "  --port PORT         the UDP port, 1 to 65535 (8805)\n"
     "  --peer ADDRESS      the control plane: nobody else is answered (anybody is)\n"
     "  --control PATH      a Unix socket on which pfcp-list asks for the live sessions (none)\n"
+    "  --table FILE        keep the table in FILE: it is there before a reply is sent, and the\n"
+    "                      next start restores it (the table is in memory only)\n"
+    "  --table-sync yes|no whether a reply waits until the disk has the table (yes)\n"
     "  --ipv4 ADDRESS      the unit's own IPv4 address (192.0.2.1)\n"
     "  --ipv6 ADDRESS      the unit's own IPv6 address (none)\n"
     "  --first-teid TEID   the first TEID of the pool, from 1 on (4096)\n"
@@ -22,8 +25,8 @@ const char usage[] =
     "  --version           print the version\n"
     "  --help              print this\n"
     "SIGINT and SIGTERM stop it; SIGUSR1 has it print the live sessions and the counters.\n"
-    "Exit status: 0; 1 if it could not go on; 2 for a bad option, or a port or socket that cannot "
-    "be had.\n";
+    "Exit status: 0; 1 if it could not go on; 2 for a bad option, or a port, socket or table's "
+    "file that cannot be had.\n";
 
 static bool complain(const char *option, const char *value, const char *wanted)
 {
@@ -50,6 +53,12 @@ static bool read_option(struct options *options, const char *name, const char *v
         options->has_peer = true;
     } else if (strcmp(name, "--control") == 0) {
         options->control = value;
+    } else if (strcmp(name, "--table") == 0) {
+        options->table = value;
+    } else if (strcmp(name, "--table-sync") == 0) {
+        if (strcmp(value, "yes") != 0 && strcmp(value, "no") != 0)
+            return complain(name, value, "neither yes nor no");
+        options->table_sync = value[0] == 'y';
     } else if (strcmp(name, "--ipv4") == 0) {
         if (inet_pton(AF_INET, value, ipv4) != 1)
             return complain(name, value, "not an IPv4 address");
@@ -73,8 +82,9 @@ static bool read_option(struct options *options, const char *name, const char *v
 
 static bool takes_value(const char *name)
 {
-    static const char *const names[] = {"--address", "--port", "--peer",       "--control",
-                                        "--ipv4",    "--ipv6", "--first-teid", "--pool"};
+    static const char *const names[] = {"--address",    "--port",       "--peer", "--control",
+                                        "--table",      "--table-sync", "--ipv4", "--ipv6",
+                                        "--first-teid", "--pool"};
 
     for (size_t i = 0; i < sizeof names / sizeof names[0]; i++)
         if (strcmp(name, names[i]) == 0)
@@ -113,6 +123,10 @@ static bool is_possible(const struct options *options)
                 options->listen_text);
         return false;
     }
+    if (options->demo && options->table) {
+        fputs("pfcp_unit: the demonstration keeps no table\n", stderr);
+        return false;
+    }
     return true;
 }
 
@@ -122,6 +136,7 @@ bool read_options(struct options *options, int argc, char **argv)
     options->listen_text = "127.0.0.1";
     options->ipv4 = 0xC0000201;
     options->first_teid = 4096;
+    options->table_sync = true;
     for (int i = 1; i < argc; i++) {
         if (strcmp(argv[i], "--demo") == 0) {
             options->demo = true;

@@ -15,6 +15,8 @@ struct options {
     bool has_peer; /* only this address is answered */
     struct address peer;
     const char *control; /* the control socket's path, or NULL */
+    const char *table;   /* the table's file, or NULL */
+    bool table_sync;     /* replies wait until the disk has the table */
     uint32_t ipv4;       /* the unit's own addresses and its pool */
     uint8_t ipv6[16];
     size_t ipv6_length; /* 0 or 16 */

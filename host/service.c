@@ -27,6 +27,7 @@ struct service {
     struct output complaints;
     struct listing listing;
     int signals;
+    bool disk_failing;    /* it was said that the table cannot be kept on the disk */
     time_t stranger_said; /* the second in which a stranger was last spoken of */
     const char *end;      /* why it ends, or NULL */
     int status;
@@ -114,12 +115,34 @@ static void say_stranger(struct service *service, const struct served *served)
     say(service, words);
 }
 
+/* Says when the table cannot be kept on the disk any more, and when it can be again. */
+static void say_disk(struct service *service)
+{
+    const struct unit *unit = &service->unit;
+    char words[TROUBLE_ROOM + 160];
+
+    if (unit->disk.failing == service->disk_failing)
+        return;
+    service->disk_failing = unit->disk.failing;
+    if (unit->disk.failing)
+        snprintf(words, sizeof words,
+                 "the table cannot be kept on the disk (%s): requests that change it are undone "
+                 "and not answered",
+                 unit->disk.trouble);
+    else
+        snprintf(words, sizeof words, "the table is kept on the disk again; requests undone: %lu",
+                 unit->counters.undone);
+    warn(service, words);
+}
+
+/* A disk may be slow: where the table is kept on one, each message may be the last of its batch. */
 static void serve_batch(struct service *service)
 {
+    int batch = service->unit.disk.path ? 1 : BATCH;
     struct served served;
     struct text line;
 
-    for (int i = 0; i < BATCH; i++) {
+    for (int i = 0; i < batch; i++) {
         enum turn turn = unit_serve(&service->unit, &served);
 
         if (turn == TURN_NOTHING)
@@ -131,6 +154,7 @@ static void serve_batch(struct service *service)
         line.length = 0;
         served_line(&line, &served);
         output_say(&service->out, line.octets, line.length);
+        say_disk(service);
         if (turn == TURN_BROKEN) {
             service->end = "a broken table";
             service->status = EXIT_FAILURE;
@@ -161,6 +185,30 @@ static void serve(struct service *service)
     }
 }
 
+/* Where the table comes from. */
+static void say_table(struct service *service)
+{
+    const struct disk *disk = &service->unit.disk;
+    char words[PATH_MAX + 128];
+
+    if (!disk->path)
+        return;
+    if (disk->unfinished) {
+        snprintf(words, sizeof words, "%s is of a write that did not end, and is not used",
+                 disk->beside);
+        say(service, words);
+    }
+    if (disk->made)
+        snprintf(words, sizeof words, "the table is kept in %s, which was not there", disk->path);
+    else
+        snprintf(words, sizeof words, "the table is kept in %s; sessions restored from it: %zu",
+                 disk->path, disk->restored);
+    say(service, words);
+    if (!disk->sync)
+        warn(service, "warning: --table-sync no: after a power failure the table's file may lack "
+                      "what was answered, or be broken");
+}
+
 static void say_start(struct service *service)
 {
     const struct options *options = service->unit.options;
@@ -168,9 +216,11 @@ static void say_start(struct service *service)
     char listen[ADDRESS_ROOM];
     char words[256];
 
-    snprintf(
-        words, sizeof words, "serving PFCP session requests on %s, live sessions 0, free TEIDs %u",
-        address_text(&options->listen, listen, sizeof listen), (unsigned)service->unit.free_teids);
+    say_table(service);
+    snprintf(words, sizeof words,
+             "serving PFCP session requests on %s, live sessions %zu, free TEIDs %u",
+             address_text(&options->listen, listen, sizeof listen), service->unit.live_sessions,
+             (unsigned)service->unit.free_teids);
     say(service, words);
     if (!options->has_peer)
         warn(service, "warning: no --peer is given, so requests from any address are answered");

@@ -20,11 +20,17 @@ bool unit_start(struct unit *unit, const struct options *options)
 {
     memset(unit, 0, sizeof *unit);
     unit->socket = -1;
+    unit->disk.lock = -1;
     unit->options = options;
     if (pfcp_make_table(unit->table, sizeof unit->table, options->ipv4, options->ipv6,
-                        options->ipv6_length, options->first_teid, options->pool_size) != 0 ||
-        !count_table(unit)) {
+                        options->ipv6_length, options->first_teid, options->pool_size) != 0) {
         fputs("pfcp_unit: these settings are refused\n", stderr);
+        return false;
+    }
+    if (!disk_start(&unit->disk, options, unit->table))
+        return false;
+    if (!count_table(unit)) {
+        fputs("pfcp_unit: the table is broken\n", stderr);
         return false;
     }
     unit->socket = datagrams_open(&options->listen, &unit->receive_buffer);
@@ -41,6 +47,7 @@ void unit_stop(struct unit *unit)
     if (unit->socket >= 0)
         close(unit->socket);
     unit->socket = -1;
+    disk_stop(&unit->disk);
 }
 
 /* What the octets tell of the message. A header without S has no SEID. */
@@ -94,6 +101,10 @@ static void count(struct counters *counters, const struct served *served)
         counters->messages[served->type]++;
     else
         counters->untyped++;
+    if (served->undone) {
+        counters->undone++;
+        return;
+    }
     if (served->outcome <= PFCP_NOT_SERVED)
         counters->outcomes[served->outcome]++;
     if (served->cause != 0)
@@ -109,24 +120,29 @@ unsigned long unit_answered(const struct unit *unit)
 
 unsigned long unit_unanswered(const struct unit *unit)
 {
-    unsigned long sum = 0;
+    unsigned long sum = unit->counters.undone;
 
     for (size_t i = PFCP_ANSWERED + 1; i <= PFCP_NOT_SERVED; i++)
         sum += unit->counters.outcomes[i];
     return sum;
 }
 
-/* Hands the message on and sends the reply. */
+/* Hands the message on, has the table on the disk if it has changed, and sends the reply. */
 static void answer(struct unit *unit, struct served *served, struct datagram *from,
                    const uint8_t *message)
 {
     uint8_t reply[PFCP_REPLY_SPACE];
     size_t used;
 
+    disk_remember(&unit->disk, unit->table);
     served->outcome = pfcp_request(unit->table, sizeof unit->table, message, served->length, reply,
                                    sizeof reply, &used, &served->place);
     if (served->outcome != PFCP_ANSWERED)
         return;
+    if (!disk_keep(&unit->disk, unit->table)) {
+        served->undone = unit->disk.trouble;
+        return;
+    }
     served->send_error = datagrams_answer(unit->socket, from, reply, used);
     read_reply(served, reply, used);
     if (served->has_offending)
@@ -159,6 +175,6 @@ enum turn unit_serve(struct unit *unit, struct served *served)
     served->free_teids = unit->free_teids;
     count(&unit->counters, served);
     if (served->outcome == PFCP_ANSWERED)
-        return TURN_REPLY;
+        return served->undone ? TURN_NO_REPLY : TURN_REPLY;
     return served->outcome == PFCP_BROKEN_TABLE ? TURN_BROKEN : TURN_NO_REPLY;
 }

@@ -7,6 +7,7 @@
 #include <time.h>
 
 #include "address.h"
+#include "disk.h"
 #include "options.h"
 #include "pfcp_session.h"
 #include "text.h"
@@ -17,6 +18,7 @@ struct counters {
     unsigned long untyped;       /* too short for a type, or not PFCP version 1 */
     unsigned long outcomes[PFCP_NOT_SERVED + 1];
     unsigned long causes[256];
+    unsigned long undone;    /* requests undone since the table could not be kept on the disk */
     unsigned long unsent;    /* replies that could not be sent */
     unsigned long strangers; /* datagrams from elsewhere than the control plane */
     unsigned long dropped;   /* datagrams that the system dropped */
@@ -27,6 +29,7 @@ struct unit {
     size_t receive_buffer; /* octets that the system gave */
     const struct options *options;
     uint8_t table[PFCP_TABLE_LENGTH];
+    struct disk disk;
     uint32_t live_sessions;
     uint32_t free_teids;
     uint32_t system_dropped; /* what the system told last; it may wrap */
@@ -54,14 +57,16 @@ struct served {
     size_t place; /* of the fault that Offending IE names, in the message; 0: the message itself */
     uint8_t there[OCTETS_THERE]; /* the octets at the place */
     size_t there_length;
-    int send_error; /* 0: the reply was sent, or there is none */
+    const char *undone; /* why the table could not be kept: the request is undone; or NULL */
+    int send_error;     /* 0: the reply was sent, or there is none */
     uint32_t live_sessions;
     uint32_t free_teids;
 };
 
 enum turn { TURN_REPLY, TURN_NO_REPLY, TURN_STRANGER, TURN_NOTHING, TURN_BROKEN };
 
-/* Makes the table and binds the socket; says on standard error what failed and gives false. */
+/* Makes or restores the table and binds the socket; says on standard error what failed and gives
+   false. */
 bool unit_start(struct unit *unit, const struct options *options);
 void unit_stop(struct unit *unit);
 

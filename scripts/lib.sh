@@ -96,7 +96,7 @@ find_archive() {
 strict=(-std=c11 -D_POSIX_C_SOURCE=200809L -Wall -Wextra -Werror -pedantic -Iinclude -Ihost)
 sanitizers=(-g -O1 -fsanitize=address,undefined -fno-sanitize-recover=all -fno-omit-frame-pointer)
 bench_sources=(-O2 -Ibench bench/workload.c bench/sides.c bench/measure.c host/message.c)
-unit_sources=(host/main.c host/options.c host/number.c host/service.c host/unit.c host/datagrams.c host/address.c host/line.c
+unit_sources=(host/main.c host/options.c host/number.c host/service.c host/unit.c host/disk.c host/datagrams.c host/address.c host/line.c
     host/sessions.c host/listing.c host/control.c host/output.c host/text.c host/words.c host/message.c host/demo.c -pthread)
 list_sources=(host/pfcp_list.c host/number.c)
 # the program restore, which adds to its C file a proved library and the kit's C code for it, and the unit's list of a stored table

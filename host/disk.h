@@ -1,0 +1,48 @@
+/*
+ * The table's file. It is on the disk before a reply is sent, and the unit starts from it. It holds
+ * the table's octets and nothing else.
+ *
+ * A table is written to FILE.new, which is then renamed, so FILE is always a whole table: the one
+ * before a request or the one after it. FILE.lock is locked by the unit that keeps its table there.
+ */
+#ifndef DISK_H
+#define DISK_H
+
+#include <limits.h>
+#include <stdbool.h>
+#include <stddef.h>
+#include <stdint.h>
+
+#include "options.h"
+#include "pfcp_session.h"
+
+enum { TROUBLE_ROOM = PATH_MAX + 128 };
+
+struct disk {
+    const char *path; /* FILE; NULL: the table is kept in memory only */
+    bool sync;        /* wait until the disk has what is written */
+    char beside[PATH_MAX];
+    char locked[PATH_MAX];
+    char folder[PATH_MAX];
+    int lock;                          /* -1: FILE.lock is not held */
+    uint8_t before[PFCP_TABLE_LENGTH]; /* the table before the request */
+    bool unsure;                       /* renamed, but the disk did not confirm it */
+    bool failing;                      /* the last write failed */
+    char trouble[TROUBLE_ROOM];        /* why */
+    bool made;                         /* at the start there was no FILE */
+    bool unfinished;                   /* at the start there was a FILE.new */
+    size_t restored;                   /* sessions that FILE had at the start */
+};
+
+/* Locks the file and has the table, which is empty, become the one that is stored there, through the
+   restoration requests of its sessions; writes the table where there is no file. Says on standard
+   error what is wrong, leaves the file as it is and gives false. */
+bool disk_start(struct disk *disk, const struct options *options, uint8_t *table);
+void disk_stop(struct disk *disk);
+
+/* Before a request: remembers the table. After it, and before its reply is sent: writes the table if
+   it has changed. Where that fails the table becomes what it was, and false is given. */
+void disk_remember(struct disk *disk, const uint8_t *table);
+bool disk_keep(struct disk *disk, uint8_t *table);
+
+#endif
