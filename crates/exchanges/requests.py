@@ -1,5 +1,5 @@
 #!/usr/bin/env python3
-"""The exchanges of document 01's worked examples, of the errors it has seen, and of document 02's (ii).
+"""The exchanges of document 01's worked examples, of the errors it has seen, and of document 02's (ii) and (vii).
 
   requests.py FOLDER          writes FOLDER/stdin: tables and requests, each after its length in two octets. FOLDER/stdout is what
                               second's program `exchanges` writes for it
@@ -14,7 +14,7 @@ H = bytes.fromhex
 u16 = lambda n: struct.pack(">H", n)
 u32 = lambda n: struct.pack(">I", n)
 u64 = lambda n: struct.pack(">Q", n)
-ACCEPTED, UNKNOWN, LENGTH, RULE, FULL = 1, 65, 68, 73, 75
+ACCEPTED, UNKNOWN, LENGTH, INCORRECT, RULE, FULL = 1, 65, 68, 69, 73, 75
 parts = []
 
 
@@ -67,8 +67,18 @@ def modify(seid, *body, cause=ACCEPTED, free, teids=None):
     call(52, seid, b"".join(body), cause, free, teids)
 
 
-def delete(seid, cause=ACCEPTED, *, free, whole=None):
-    call(54, seid, b"", cause, free, None, whole)
+def delete(seid, *body, cause=ACCEPTED, free, whole=None):
+    call(54, seid, b"".join(body), cause, free, None, whole)
+
+
+# A part of 12 octets would make a table: no set deletion here has 4 octets of elements.
+def delete_sets(*body, cause=ACCEPTED, free, whole=None):
+    elements = b"".join(body)
+    parts.append((H("200E") + u16(4 + len(elements)) + H("00000100") + elements, [cause, None], whole and H(whole), free))
+
+
+def card(node_type, *csids, address="C000020A", id_type=0):
+    return ie(65, bytes([id_type << 4 | len(csids)]) + H(address) + b"".join(map(u16, csids)) + bytes([node_type]))
 
 
 # "Deletion of an unknown session, sequence 1, whole reply"
@@ -159,8 +169,41 @@ modify(1, remove(3), cause=RULE, free=1)
 delete(1, free=2)
 
 
+# 02 (vii): "All sessions that hold an FQ-CSID equal in node type, Node-ID type, address and any one listed CSID are removed."
+# Sessions 1 and 3 are of one card, 2 has its CSID on another node type, 4 on another node, 5 as an operator's node, 6 another CSID.
+table(6)
+establish(1, create(1, "05"), card(1, 5), free=5, teids=[4096])
+establish(2, create(1, "05"), card(2, 5), free=4, teids=[4097])
+establish(3, create(1, "05"), card(0, 9), card(1, 5), free=3, teids=[4098])
+establish(4, create(1, "05"), card(1, 5, address="C000020B"), free=2, teids=[4099])
+establish(5, create(1, "05"), card(1, 5, id_type=2), free=1, teids=[4100])
+establish(6, create(1, "05"), card(1, 6), free=0, teids=[4101])
+# "No match, or no FQ-CSID at all, is accepted; m = 0 is 69"
+delete_sets(card(1, 7), free=0)
+delete_sets(free=0, whole="200F0012 00000100 003C000500C0000201 0013000101")
+delete_sets(ie(60, H("00C0000232")), card(1, 5), card(1), cause=INCORRECT, free=0)
+delete_sets(ie(65, H("000000000001")), cause=INCORRECT, free=0,
+    whole="200F0018 00000100 003C000500C0000201 0013000145 002800020041")
+delete_sets(card(1, 5), ie(65, b""), cause=LENGTH, free=0)
+delete_sets(card(1, 5), H("004100"), cause=LENGTH, free=0)
+# Two go, and their TEIDs are free; the others stay.
+delete_sets(ie(60, H("00C0000232")), card(1, 4, 5), free=2)
+delete(1, cause=UNKNOWN, free=2)
+delete(3, cause=UNKNOWN, free=2)
+modify(2, create(2, "05"), free=1, teids=[4096])
+# "a node type may come twice", and a group is not opened
+delete_sets(card(1, 6), ie(1, H("0001")), card(1, 5, id_type=2), free=3)
+# All that are left, by FQ-CSIDs of 15 CSIDs.
+delete_sets(card(2, *[0] * 14, 5), card(1, 5, *[0] * 14, address="C000020B"), free=6)
+delete_sets(card(1, 5), free=6)
+# "an FQ-CSID there is skipped like an unknown element", but framed
+establish(1, create(1, "05"), card(1, 5), free=5, teids=[4096])
+delete(1, H("00410009") + bytes(8), cause=LENGTH, free=5)
+delete(1, ie(65, b""), ie(65, H("31")), card(1, 5, 6), card(1, 5), free=6)
+
+
 def cause_and_teids(reply):
-    cause, teids, at = None, [], 16
+    cause, teids, at = None, [], 16 if reply[0] & 1 else 8
     while at < len(reply):
         kind, n = struct.unpack(">HH", reply[at : at + 4])
         value = reply[at + 4 : at + 4 + n]
@@ -177,6 +220,7 @@ def paper(lines):
         sys.exit(f"{len(lines)} lines for {len(parts)} parts")
     for number, (line, (_, answer, whole, free)) in enumerate(zip(lines, parts), 1):
         start, _, reply = line.partition(" reply ")
+        start = start.partition(" place ")[0]
         word = "table" if answer is None else "outcome"
         if start != f"{word} 0 free {free}":
             sys.exit(f"line {number}: {line}: not free {free}")

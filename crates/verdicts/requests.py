@@ -4,7 +4,7 @@
   requests.py FOLDER           writes FOLDER/stdin (each request after its length in two octets), and the requests to
                                standard output, a line of hexadecimal digits each
   requests.py --plan < LINES   turns the lines of the second reader into what a plan keeps: without the F-SEID's addresses and a
-                               deletion's FQ-CSIDs, and an element 129 at the end; FOLDER/stdout holds the result
+                               set deletion's FQ-CSIDs, and an element 129 at the end; FOLDER/stdout holds the result
 """
 import re
 import struct
@@ -14,7 +14,7 @@ import sys
 def plan(line):
     line = re.sub(r" v4=\S+ v6=\S+", "", line)
     line = re.sub(r"[A-F]", lambda m: m.group(0).lower(), line)
-    if line.startswith("read deletion"):
+    if line.startswith(("read deletion", "read set-deletion")):
         line = line.split(" | ")[0]
     if "update-endpoint" in line:
         line = line.replace(" | update-endpoint", "") + " | update-endpoint"
@@ -49,6 +49,9 @@ def add(m): msgs.append(m)
 def est(*b,**k): add(hdr(50,b''.join(b),**k))
 def mod(*b,**k): add(hdr(52,b''.join(b),**k))
 def dele(*b,**k): add(hdr(54,b''.join(b),**k))
+def sets(*b,first=0x20,seq=1,length=None):
+    body=b''.join(b); n=4+len(body) if length is None else length
+    add(bytes([first,14])+u16(n&0xffff)+u32(seq)[1:]+b'\0'+body)
 # header: outcomes
 add(b''); add(H('21')); add(hdr(50,b'')[:15]); est(); mod(); dele()
 for first in (0x01,0x41,0x20,0x25,0x2F,0x3B,0xA1,0x23,0x29,0x31): mod(first=first)
@@ -94,7 +97,7 @@ mod(ie(129,b'')); mod(ie(129,b'\0'),rem(pid(1)),ie(129,b''))
 mod(good,upd(pid(1)),rem(pid(2)),rep(eid(3)),cep(eid(4),ft('06'))); mod(*[rep(eid(i%256)) for i in range(225)]); mod(*[rep(eid(i%256)) for i in range(225)]+[ie(65,b'')]); mod(*[rem(pid(i)) for i in range(203)])
 # FQ-CSIDs
 cs=lambda h: ie(65,H(h))
-for k in (est,mod,dele):
+for k in (est,mod,dele,sets):
     pre=(fs,good) if k is est else ()
     for h in ('','01C000020A000501','000000000002','00000000000201','213FF710050009'+'05','31000000000000','3','F0','0','01','01C000020A0005','00','0000000000','01C000020A000506','01C000020A00050F','01C000020A0005F5','02C000020A0001000201','0F'+'C000020A'+'0001'*15+'03','0F'+'C000020A'+'0001'*14+'03','11'+'20010DB8'+'00'*12+'000704','11'+'00'*18,'10'+'00'*17,'2000000000'+'01','0000000001'+'01','21'+'F423F000'+'000101','21'+'F4240000'+'000101','21F423FFFF000105','22F423FFFF0001000205','000000000006','0000000000F3'):
         if len(h)%2: h='0'+h
@@ -103,6 +106,13 @@ for k in (est,mod,dele):
     k(*pre,a,b_); k(*pre,a,a); k(*pre,a,cs('000000000001')); k(*pre,cs('000000000002'),b_); k(*pre,a,cs('')); k(*pre,cs(''),a); k(*pre,cs(''),cs('')); k(*pre,a,cs('31'),a); k(*pre,a,cs('02C000020A0001000201')); k(*pre,a,b_,cs('01C000020A000503'),cs('01C000020A000504'),cs('01C000020A000505'),cs('01C000020A000500')); k(*pre,cs('01C000020A000506'),cs('01C000020A000506'))
 mod(cs(''),good,ie(129,b'')); mod(cs(''),ie(1,cs(''))); mod(rem(pid(1)),cs(''),upd(pid(2)))
 dele(fs,good,ie(129,b'')); dele(cpdr()); dele(ie(186,b''))
+
+# set deletions: the header, what is skipped, framing at the top level only
+sets(); sets(seq=0xABCDEF); add(hdr(14,b'')); add(H('200E0003000001')); add(H('200F000400000100'))
+for first in (0x00,0x40,0x24,0x2E,0x3A,0x22,0x28,0x30): sets(first=first)
+for length in (0,3,5,65535): sets(length=length)
+sets(ie(60,b'\0'),cs('01C000020A000501'),fs,good,ie(129,b'')); sets(ie(1,b'\1'),ie(127,b'\0\1')); sets(b'\0'); sets(H('0041000901')); sets(cs('01C000020A000501'),b'\0\0\0')
+sets(ie(40000,b'x'*2036)); sets(ie(40000,b'x'*2037))
 
 with open(sys.argv[1] + "/stdin", "wb") as f:
     f.write(b"".join(u16(len(m)) + m for m in msgs))

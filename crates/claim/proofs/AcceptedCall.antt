@@ -7,14 +7,14 @@ use mathlib.Core.List.{List, map}
 use lib.Dec.{T, eqb, eqb→eq}
 use Rattle.octets.specs.Choice.{pick}
 use Rattle.octets.specs.Octets.{octets}
-use Rattle.octets.specs.Lists.{member, allPairs}
+use Rattle.octets.specs.Lists.{member, allPairs, keep}
 use Rattle.octets.proofs.Tests.{and-left, and-right}
 use Rattle.octets.proofs.ListLaws.{Every, every-imply, pairs-imply}
 use Rattle.rules.specs.Model.{Settings, Session, Sessions, teidOf, sessionTeids, heldTeids, freeTeids}
 use Rattle.rules.specs.Layout.{encode, viewSettings, viewSessions}
 use Rattle.laws.proofs.TableLaws.{sessions-back, encoded-settings}
 use Rattle.rules.specs.Sound.{sessionsAllowed, inPool}
-use Rattle.rules.specs.Message.{kindOf, deletion}
+use Rattle.rules.specs.Message.{kindOf, deletion, setDeletion}
 use Rattle.rules.specs.Reading.{readRequest, Request}
 use Rattle.rules.specs.Grants.{Kind, ofPdr, grants, grantedTeid}
 use Rattle.rules.specs.Stages.{sameChoice, verdict, entrySession}
@@ -25,15 +25,16 @@ use Rattle.claim.proofs.VerdictLaws.{Passed, passed, few-new-pdrs, few-
 use Rattle.claim.proofs.GrantLaws.{enough}
 use Rattle.laws.proofs.GrantLaws.{grants-fit, grants-few}
 use Rattle.claim.proofs.GrantReply.{accepted-teids}
-use Rattle.claim.proofs.Steps.{header-long}
+use Rattle.laws.proofs.HeaderLaws.{header-long}
 use Rattle.claim.proofs.Accepting.{SoundAfter}
 use Rattle.claim.proofs.KeptRules.{rules-kept}
 use Rattle.claim.proofs.FreeTeids.{free-there}
 use Rattle.claim.proofs.NewHolds.{choices-other}
 use Rattle.claim.proofs.ChangedHolds.{stayingHoldings}
 use Rattle.claim.proofs.Allocation.{pdrChooseId, pdrs-share, Allocates, allocates}
-use Rattle.claim.proofs.FreedTeids.{removed-free, deleted-free}
+use Rattle.claim.proofs.FreedTeids.{removed-free, deleted-free, listed-free}
 use Rattle.claim.proofs.ServeLaws.{Answers, answers, answered-zero, table-kept, served-cause, sessions-after}
+use Rattle.rules.specs.Apply.{goesSession}
 
 -- an accepted request's TEIDs are given by 01's rules
 pub passed-allocates : (limit : ℕ) (s : Settings) (m : Sessions) (msg : List ℕ) → Passed limit s m msg → Allocates s m (readRequest msg)
@@ -149,12 +150,19 @@ module _ (limit : ℕ) (t msg space : List ℕ) where
     at-next n h = subst (λ (z : Settings). T (member n (freeTeids z (viewSessions (out .table))))) (sym (c .settings)) (subst (λ (l : Sessions). T (member n (freeTeids s l))) (sym (c .sessions)) h)
 
     -- a TEID of the session at entry that none of its staying records holds, after an establishment or a modification
-    pub next-removed : T (not (eqb (kindOf msg) deletion)) → (n : ℕ) → T (member n (sessionTeids x))
+    pub next-removed : T (not (eqb (kindOf msg) setDeletion)) → T (not (eqb (kindOf msg) deletion)) → (n : ℕ) → T (member n (sessionTeids x))
         → T (not (member n (map teidOf (stayingHoldings r x))))
         → T (member n freeNext)
-    next-removed nd n h gone = at-next n (removed-free limit s m msg (table-kept limit t (c .answered .table) .sessions) ho (c .passed) nd n h gone)
+    next-removed ns nd n h gone = at-next n (removed-free limit s m msg (table-kept limit t (c .answered .table) .sessions) ho ns (c .passed) nd n h gone)
 
     -- every TEID of the session at entry, after a deletion
     pub next-deleted : T (eqb (kindOf msg) deletion) → (n : ℕ) → T (member n (sessionTeids x))
         → T (member n freeNext)
-    next-deleted d n h = at-next n (deleted-free limit s m msg (table-kept limit t (c .answered .table) .sessions) ho (c .passed) d n h)
+    next-deleted d n h =
+        let ns = subst (λ (k : ℕ). T (not (eqb k setDeletion))) (sym (eqb→eq (kindOf msg) deletion d)) tt in
+        at-next n (deleted-free limit s m msg (table-kept limit t (c .answered .table) .sessions) ho ns (c .passed) d n h)
+
+    -- every TEID of the sessions that a set deletion takes out
+    pub next-listed : T (eqb (kindOf msg) setDeletion) → (n : ℕ) → T (member n (heldTeids (keep (goesSession (r .listed)) m)))
+        → T (member n freeNext)
+    next-listed d n h = at-next n (listed-free limit s m msg (table-kept limit t (c .answered .table) .sessions) d n h)

@@ -17,7 +17,8 @@ use Rattle.rules.specs.Serve.{sessionsAfter, replyTo}
 use Rattle.claim.proofs.VerdictLaws.{Passed, passed, few-new-pdrs, few-new-endpoints}
 use Rattle.laws.proofs.GrantLaws.{grants-fit, grants-few}
 use Rattle.claim.proofs.GrantReply.{accepted-cause, accepted-teids}
-use Rattle.claim.proofs.Steps.{AcceptedKeeps, keeps, header-long}
+use Rattle.laws.proofs.HeaderLaws.{header-long}
+use Rattle.claim.proofs.Steps.{AcceptedKeeps, keeps}
 use Rattle.claim.proofs.Runs.{claim}
 use Rattle.rules.specs.Claim.{Demand3}
 

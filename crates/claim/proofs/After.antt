@@ -17,24 +17,25 @@ use Rattle.octets.proofs.Ordered.{otherKey, keep-all, keep-pairs, keep-length, 
 use Rattle.rules.specs.Model.{Settings, Session, Sessions, seidOf}
 use Rattle.rules.specs.Limits.{maxSessions}
 use Rattle.rules.specs.Sound.{settingsAllowed, sessionAllowed, apart, sessionsTests, sessionsAllowed}
-use Rattle.rules.specs.Message.{kindOf, headerSeid, served, establishment, deletion}
+use Rattle.rules.specs.Message.{kindOf, headerSeid, served, establishment, deletion, setDeletion}
 use Rattle.rules.specs.Reading.{readRequest}
 use Rattle.rules.specs.Grants.{grants, grantedTeid}
-use Rattle.rules.specs.Stages.{hasSeid, sessionOf, isLive, newSession, atEntry, entrySession, unknownSession, tooManySessions}
-use Rattle.rules.specs.Apply.{apply, otherSession, removeSession, putSession, follow}
+use Rattle.rules.specs.Stages.{hasSeid, sessionOf, isLive, newSession, atEntry, entrySession, unknownSession, tooManySessions, unnamed}
+use Rattle.rules.specs.Apply.{apply, otherSession, removeSession, putSession, follow, staysSession}
 use Rattle.rules.specs.Serve.{sessionsAfter}
 use Rattle.claim.proofs.VerdictLaws.{Passed}
 use Rattle.claim.proofs.RestoreAll.{insert-allowed}
 use Rattle.claim.proofs.Accepting.{SoundAfter, demand3-from}
 use Rattle.rules.specs.Claim.{Demand3}
+use Rattle.laws.proofs.HeaderLaws.{unnamed-new}
 
 -- ---- taking a session out
 
-pub remove-allowed : (limit : ℕ) (s : Settings) (n : ℕ) (m : Sessions) → T (sessionsAllowed limit s m) → T (sessionsAllowed limit s (removeSession n m))
-unfolding sessionsAllowed sessionsTests removeSession
-remove-allowed limit s n m h =
+-- any of the sessions
+pub keep-allowed : (limit : ℕ) (s : Settings) (q : Session → Bool) (m : Sessions) → T (sessionsAllowed limit s m) → T (sessionsAllowed limit s (keep q m))
+unfolding sessionsAllowed sessionsTests
+keep-allowed limit s q m h =
     let e = each (sessionsTests limit s m) h in
-    let q = otherSession n in
     all-of-each (sessionsTests limit s (keep q m)) (
       yes-leb (le-trans (keep-length q m) (leb→le (length m) limit (e .0))),
       (
@@ -45,6 +46,10 @@ remove-allowed limit s n m h =
         ),
       ),
     )
+
+pub remove-allowed : (limit : ℕ) (s : Settings) (n : ℕ) (m : Sessions) → T (sessionsAllowed limit s m) → T (sessionsAllowed limit s (removeSession n m))
+unfolding removeSession
+remove-allowed limit s n m h = keep-allowed limit s (otherSession n) m h
 
 -- the others have other SEIDs
 others : (x : Session) (m : Sessions) → T (all (otherSession (x .seid)) m) → T (all (otherKey seidOf x) m)
@@ -84,10 +89,10 @@ found-seid n (y ∷ m) h = one (eqb (y .seid) n) refl (λ g. found-seid n m g) h
     one false e f g = f g
 
 -- a new session has room by the limit, a changed one has its own place
-room-beside : (limit : ℕ) (s : Settings) (m : Sessions) (msg : List ℕ) → T (sessionsAllowed limit s m) → Passed limit s m msg
+room-beside : (limit : ℕ) (s : Settings) (m : Sessions) (msg : List ℕ) → T (sessionsAllowed limit s m) → T (not (eqb (kindOf msg) setDeletion)) → Passed limit s m msg
     → length (removeSession (entrySession m msg .seid) m) < limit
 unfolding entrySession atEntry tooManySessions unknownSession sessionsAllowed sessionsTests
-room-beside limit s m msg hm p = one (eqb (kindOf msg) establishment) (p .known) (p .room .0)
+room-beside limit s m msg hm ns p = one (unnamed (kindOf msg)) (p .known) (subst (λ (b : Bool). T (not (b && leb limit (length m)))) (sym (unnamed-new (kindOf msg) ns)) (p .room .0))
   where
     few : length m ≤ limit
     few = leb→le (length m) limit (each (leb (length m) limit ∷ ascending (map seidOf m) ∷ all (sessionAllowed s) m ∷ allPairs apart m ∷ []) hm .0)
@@ -114,25 +119,31 @@ pub record OwnSound (s : Settings) (m : Sessions) (msg : List ℕ) : Type 0 wher
 unfoldable pub ChangedSound : ℕ → Type 0
 ChangedSound limit =
     (s : Settings) (m : Sessions) (msg : List ℕ) → T (settingsAllowed s) → T (sessionsAllowed limit s m) → T (octets msg) → T (served (kindOf msg))
-    → T (not (eqb (kindOf msg) deletion)) → Passed limit s m msg → OwnSound s m msg
+    → T (not (eqb (kindOf msg) setDeletion)) → T (not (eqb (kindOf msg) deletion)) → Passed limit s m msg → OwnSound s m msg
 
 pub sound-after : (limit : ℕ) → ChangedSound limit → SoundAfter limit
 unfolding ChangedSound SoundAfter sessionsAfter follow changed entrySession apply atEntry
-sound-after limit changes s m msg hs hm ho hk p = go (eqb (kindOf msg) deletion) refl
+sound-after limit changes s m msg hs hm ho hk p = sets (eqb (kindOf msg) setDeletion) refl
   where
-    put : T (not (eqb (kindOf msg) deletion)) → T (sessionsAllowed limit s (putSession (changed s m msg) m))
-    put nd = unfold putSession ChangedSound in (
-        let c = changes s m msg hs hm ho hk nd p in
+    put : T (not (eqb (kindOf msg) setDeletion)) → T (not (eqb (kindOf msg) deletion)) → T (sessionsAllowed limit s (putSession (changed s m msg) m))
+    put ns nd = unfold putSession ChangedSound in (
+        let c = changes s m msg hs hm ho hk ns nd p in
         let x = changed s m msg in
         let n = x .seid in
         insert-allowed limit s x (removeSession n m) (remove-allowed limit s n m hm) (c .sound)
-        (others x (removeSession n m) (unfold removeSession in (keep-passes (otherSession n) m))) (c .separate) (room-beside limit s m msg hm p))
+        (others x (removeSession n m) (unfold removeSession in (keep-passes (otherSession n) m))) (c .separate) (room-beside limit s m msg hm ns p))
 
-    go : (b : Bool) → eqb (kindOf msg) deletion ≡ b
+    go : T (not (eqb (kindOf msg) setDeletion)) → (b : Bool) → eqb (kindOf msg) deletion ≡ b
         → T (sessionsAllowed limit s (pick b (removeSession (headerSeid msg) m)
         (putSession (apply (grantedTeid (grants s m (readRequest msg))) (readRequest msg) (atEntry (kindOf msg) (headerSeid msg) (readRequest msg) m)) m)))
-    go true e = remove-allowed limit s (headerSeid msg) m hm
-    go false e = unfold changed entrySession in (put (subst (λ (b : Bool). T (not b)) (sym e) tt))
+    go ns true e = remove-allowed limit s (headerSeid msg) m hm
+    go ns false e = unfold changed entrySession in (put ns (subst (λ (b : Bool). T (not b)) (sym e) tt))
+
+    sets : (b : Bool) → eqb (kindOf msg) setDeletion ≡ b
+        → T (sessionsAllowed limit s (pick b (keep (staysSession (readRequest msg .listed)) m) (pick (eqb (kindOf msg) deletion) (removeSession (headerSeid msg) m)
+        (putSession (apply (grantedTeid (grants s m (readRequest msg))) (readRequest msg) (atEntry (kindOf msg) (headerSeid msg) (readRequest msg) m)) m))))
+    sets true e = keep-allowed limit s (staysSession (readRequest msg .listed)) m hm
+    sets false e = go (subst (λ (b : Bool). T (not b)) (sym e) tt) (eqb (kindOf msg) deletion) refl
 
 -- demand 3 from that
 pub demand3-from-changed : ChangedSound maxSessions → Demand3

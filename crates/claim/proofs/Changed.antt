@@ -1,6 +1,6 @@
 -- The session that an accepted establishment or modification makes or changes keeps the rules and shares no TEID with another; and so demand 3.
 -- Assumes nothing.
-use mathlib.Core.Path.{_≡_, refl, sym, subst}
+use mathlib.Core.Path.{_≡_, refl, sym, subst, _∙_}
 use Prim.Native.Nat.{ℕ, _≤_}
 use mathlib.Core.Bool.{Bool, true, false, not, _&&_}
 use mathlib.Core.Option.{Option, none, some}
@@ -14,10 +14,10 @@ use Rattle.octets.proofs.ListLaws.{not-not, all-every, all-always, found-passes
 use Rattle.rules.specs.Model.{Settings, Session, Sessions, sessionHoldings, sessionTeids, heldTeids, freeTeids}
 use Rattle.rules.specs.Limits.{maxSessions}
 use Rattle.rules.specs.Sound.{sessionAllowed, sessionsAllowed, apart}
-use Rattle.rules.specs.Message.{kindOf, headerSeid, establishment}
+use Rattle.rules.specs.Message.{kindOf, headerSeid, establishment, setDeletion}
 use Rattle.rules.specs.Reading.{readFault, readRequest, Request}
 use Rattle.rules.specs.Grants.{Kind, grants, grantedTeid, need}
-use Rattle.rules.specs.Stages.{hasSeid, sessionOf, isLive, newSession, atEntry, entrySession, unknownSession, invalidAllocation}
+use Rattle.rules.specs.Stages.{hasSeid, sessionOf, isLive, newSession, atEntry, entrySession, unknownSession, invalidAllocation, unnamed}
 use Rattle.rules.specs.Apply.{apply, otherSession, removeSession}
 use Rattle.claim.proofs.RestoreAll.{apart-turn}
 use Rattle.claim.proofs.VerdictLaws.{Passed}
@@ -30,6 +30,7 @@ use Rattle.claim.proofs.ChangedRecords.{endpoints-few, endpoints-order,
 use Rattle.claim.proofs.ChangedHolds.{all-held, changed-agree, changed-apart}
 use Rattle.claim.proofs.After.{changed, ChangedSound, demand3-from-changed}
 use Rattle.rules.specs.Claim.{Demand3}
+use Rattle.laws.proofs.HeaderLaws.{unnamed-new}
 
 -- ---- the session at entry
 
@@ -88,18 +89,18 @@ found-entry limit s m n hm live = one (findBy (hasSeid n) m) refl live
         }
 
 -- the one that a request without a fault is about
-pub entry-known : (limit : ℕ) (s : Settings) (m : Sessions) (msg : List ℕ) → T (sessionsAllowed limit s m) → T (octets msg) → T (not (unknownSession m msg)) → readFault msg ≡ none → Entry s m (entrySession m msg)
+pub entry-known : (limit : ℕ) (s : Settings) (m : Sessions) (msg : List ℕ) → T (sessionsAllowed limit s m) → T (octets msg) → T (not (eqb (kindOf msg) setDeletion)) → T (not (unknownSession m msg)) → readFault msg ≡ none → Entry s m (entrySession m msg)
 unfolding entrySession atEntry unknownSession
-entry-known limit s m msg hm ho known read = one (eqb (kindOf msg) establishment) refl known
+entry-known limit s m msg hm ho ns known read = one (unnamed (kindOf msg)) refl known
   where
-    one : (b : Bool) → eqb (kindOf msg) establishment ≡ b → T (not (not b && not (isLive (headerSeid msg) m)))
+    one : (b : Bool) → unnamed (kindOf msg) ≡ b → T (not (not b && not (isLive (headerSeid msg) m)))
         → Entry s m (pick b (newSession (readRequest msg .seid)) (valueOr (newSession (headerSeid msg)) (sessionOf (headerSeid msg) m)))
-    one true e k = new-entry s m (readRequest msg .seid) (seid-read msg ho (subst T (sym e) tt) read)
+    one true e k = new-entry s m (readRequest msg .seid) (seid-read msg ho (subst T (sym e ∙ unnamed-new (kindOf msg) ns) tt) read)
     one false e k = found-entry limit s m (headerSeid msg) hm (not-not (isLive (headerSeid msg) m) k)
 
 -- the one that an accepted request is about
-pub entry-sound : (limit : ℕ) (s : Settings) (m : Sessions) (msg : List ℕ) → T (sessionsAllowed limit s m) → T (octets msg) → Passed limit s m msg → Entry s m (entrySession m msg)
-entry-sound limit s m msg hm ho p = entry-known limit s m msg hm ho (p .known) (p .read)
+pub entry-sound : (limit : ℕ) (s : Settings) (m : Sessions) (msg : List ℕ) → T (sessionsAllowed limit s m) → T (octets msg) → T (not (eqb (kindOf msg) setDeletion)) → Passed limit s m msg → Entry s m (entrySession m msg)
+entry-sound limit s m msg hm ho ns p = entry-known limit s m msg hm ho ns (p .known) (p .read)
 
 -- ---- the session afterwards
 
@@ -141,10 +142,10 @@ module _ (limit kind : ℕ) (s : Settings) (m : Sessions) (x : Session) (r : Req
 -- the open fact of the sequence claim, for any number of session slots
 pub changed-sound : (limit : ℕ) → ChangedSound limit
 unfolding ChangedSound changed
-changed-sound limit s m msg hs hm ho hk nd p =
+changed-sound limit s m msg hs hm ho hk ns nd p =
     let x = entrySession m msg in
     let r = readRequest msg in
-    let entry = entry-sound limit s m msg hm ho p in
+    let entry = entry-sound limit s m msg hm ho ns p in
     let rules = rules-kept s m x r (p .rules) in
     let room = room-left limit (kindOf msg) s m x r (p .room) in
     record {

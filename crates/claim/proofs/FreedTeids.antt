@@ -1,34 +1,36 @@
--- A TEID of a session that an accepted request's removals leave unheld is free in the sessions afterwards.
+-- A TEID of a session that an accepted request's removals leave unheld is free in the sessions afterwards, and so is every one of a session that a
+-- set deletion takes out.
 -- Assumes nothing.
 use mathlib.Core.Path.{_≡_, sym, ap, _∙_, subst}
 use Prim.Native.Nat.{ℕ}
-use mathlib.Core.Bool.{Bool, false, not, _&&_}
+use mathlib.Core.Bool.{Bool, false, not, _&&_, _||_, true}
 use mathlib.Core.List.{List, [], _∷_, _++_, map, Permᴰ·symm}
 use lib.Dec.{T, T-not, not-T, eqb, eqb→eq}
 use Rattle.octets.specs.Choice.{pick, valueOr}
 use Rattle.octets.specs.Octets.{octets}
-use Rattle.octets.specs.Lists.{member, all, insertBy}
+use Rattle.octets.specs.Lists.{member, all, insertBy, keep, allPairs}
 use Rattle.octets.proofs.Tests.{pick-yes, pick-no, all-head, all-tail}
-use Rattle.octets.proofs.Ordered.{all-perm, insert-all}
-use Rattle.octets.proofs.ListLaws.{not-not, all-imply, all-append, all-map}
-use Rattle.octets.proofs.MemberLaws.{absent-each, each-absent, member-passes, none-in}
+use Rattle.octets.proofs.Ordered.{all-perm, insert-all, keep-all, pairs-head, pairs-tail}
+use Rattle.octets.proofs.ListLaws.{not-not, all-imply, all-append, all-map, all-join}
+use Rattle.octets.proofs.MemberLaws.{absent-each, each-absent, member-passes, none-in, all-members}
 use Rattle.rules.specs.Model.{Settings, Session, Sessions, teidOf, seidOf, sessionHoldings, sessionTeids, heldTeids, freeTeids}
 use Rattle.rules.specs.Sound.{sessionsAllowed, apart, inPool}
-use Rattle.rules.specs.Message.{kindOf, headerSeid, establishment, deletion}
+use Rattle.rules.specs.Message.{kindOf, headerSeid, establishment, deletion, setDeletion}
 use Rattle.rules.specs.Reading.{readRequest, Request}
 use Rattle.rules.specs.Grants.{grants, grantedTeid}
-use Rattle.rules.specs.Stages.{entrySession, atEntry, newSession, isLive, unknownSession, sessionOf}
-use Rattle.rules.specs.Apply.{apply, removeSession, putSession, follow}
+use Rattle.rules.specs.Stages.{entrySession, atEntry, newSession, isLive, unknownSession, sessionOf, unnamed}
+use Rattle.rules.specs.Apply.{apply, removeSession, putSession, follow, goesSession, staysSession}
 use Rattle.rules.specs.Serve.{sessionsAfter}
 use Rattle.claim.proofs.VerdictLaws.{Passed}
 use Rattle.claim.proofs.GrantLaws.{enough}
-use Rattle.claim.proofs.After.{changed, found-seid}
-use Rattle.claim.proofs.KeptRules.{rules-kept}
+use Rattle.claim.proofs.After.{changed, found-seid, keep-allowed}
+use Rattle.claim.proofs.KeptRules.{rules-kept, sessions-kept}
 use Rattle.claim.proofs.FreeTeids.{free-there, held-in-pool}
 use Rattle.claim.proofs.NewHolds.{newHoldings}
 use Rattle.claim.proofs.ChangedHolds.{stayingHoldings, changed-holds, new-free}
 use Rattle.laws.proofs.RequestLaws.{request-read}
 use Rattle.claim.proofs.Changed.{Entry, entry-sound}
+use Rattle.claim.proofs.RestoreAll.{apart-turn}
 
 -- ---- TEIDs that an accepted request leaves unheld
 
@@ -45,7 +47,8 @@ others-not : (n : ℕ) (x : Session) (l : Sessions) → T (member n (sessionTeid
 others-not n x l h far =
     all-imply (apart x) (λ z. not (member n (sessionTeids z))) (λ z g. member-passes (λ k. not (member k (sessionTeids z))) n (sessionTeids x) h (none-in (sessionTeids x) (sessionTeids z) (unfold apart in g))) l far
 
-module _ (limit : ℕ) (s : Settings) (m : Sessions) (msg : List ℕ) (hm : T (sessionsAllowed limit s m)) (ho : T (octets msg)) (p : Passed limit s m msg) where
+module _ (limit : ℕ) (s : Settings) (m : Sessions) (msg : List ℕ) (hm : T (sessionsAllowed limit s m)) (ho : T (octets msg)) (ns : T (not (eqb (kindOf msg) setDeletion)))
+    (p : Passed limit s m msg) where
   -- the session at entry
   abbrev x : Session
   x = entrySession m msg
@@ -56,7 +59,7 @@ module _ (limit : ℕ) (s : Settings) (m : Sessions) (msg : List ℕ) (hm : T (s
 
   -- what is known of the session at entry
   entry : Entry s m x
-  entry = entry-sound limit s m msg hm ho p
+  entry = entry-sound limit s m msg hm ho ns p
 
   -- a TEID of the session at entry that none of the records that stay holds is held by nobody afterwards
   changed-unheld : (n : ℕ) → T (member n (sessionTeids x)) → T (not (member n (map teidOf (stayingHoldings r x)))) → T (not (member n (heldTeids (putSession (changed s m msg) m))))
@@ -94,7 +97,7 @@ module _ (limit : ℕ) (s : Settings) (m : Sessions) (msg : List ℕ) (hm : T (s
       free-there s (sessionsAfter s m msg) n (entry-pool n h) (subst (λ (l : Sessions). T (not (member n (heldTeids l)))) (sym put) (changed-unheld n h gone))
     where
       put : sessionsAfter s m msg ≡ putSession (changed s m msg) m
-      put = unfold sessionsAfter follow changed entrySession in (pick-no (eqb (kindOf msg) deletion) (removeSession (headerSeid msg) m) _ nd)
+      put = unfold sessionsAfter follow changed entrySession in (pick-no (eqb (kindOf msg) setDeletion) _ _ ns ∙ pick-no (eqb (kindOf msg) deletion) (removeSession (headerSeid msg) m) _ nd)
 
   -- a deletion's: every TEID of its session
   pub deleted-free : T (eqb (kindOf msg) deletion) → (n : ℕ) → T (member n (sessionTeids x)) → T (member n (freeTeids s (sessionsAfter s m msg)))
@@ -105,8 +108,8 @@ module _ (limit : ℕ) (s : Settings) (m : Sessions) (msg : List ℕ) (hm : T (s
       kind : kindOf msg ≡ deletion
       kind = eqb→eq (kindOf msg) deletion d
 
-      not-new : eqb (kindOf msg) establishment ≡ false
-      not-new = ap (λ (k : ℕ). eqb k establishment) kind
+      not-new : unnamed (kindOf msg) ≡ false
+      not-new = unfold unnamed in (ap (λ (k : ℕ). eqb k establishment || eqb k setDeletion) kind)
 
       live : T (isLive (headerSeid msg) m)
       live = unfold unknownSession in (not-not (isLive (headerSeid msg) m) (subst (λ (b : Bool). T (not (not b && not (isLive (headerSeid msg) m)))) not-new (p .known)))
@@ -116,4 +119,54 @@ module _ (limit : ℕ) (s : Settings) (m : Sessions) (msg : List ℕ) (hm : T (s
           ap {B = ℕ} (λ (b : Bool). pick b (newSession (readRequest msg .seid)) (valueOr (newSession (headerSeid msg)) (sessionOf (headerSeid msg) m)) .seid) not-new ∙ found-seid (headerSeid msg) m live)
 
       gone : sessionsAfter s m msg ≡ removeSession (entrySession m msg .seid) m
-      gone = unfold sessionsAfter follow in (pick-yes (eqb (kindOf msg) deletion) (removeSession (headerSeid msg) m) _ d ∙ ap (λ (k : ℕ). removeSession k m) (sym seid))
+      gone = unfold sessionsAfter follow in (pick-no (eqb (kindOf msg) setDeletion) _ _ ns ∙ pick-yes (eqb (kindOf msg) deletion) (removeSession (headerSeid msg) m) _ d ∙ ap (λ (k : ℕ). removeSession k m) (sym seid))
+
+-- ---- set deletions
+
+-- the TEIDs of a session are none of those of sessions apart from it, nor the other way round
+far-unheld : (x : Session) (l : Sessions) → T (all (apart x) l) → T (all (λ n. not (member n (heldTeids l))) (sessionTeids x))
+far-unheld x l far =
+    all-imply (λ n. member n (sessionTeids x)) (λ n. not (member n (heldTeids l))) (λ n h. absent-held n l (others-not n x l h far)) (sessionTeids x) (all-members (sessionTeids x))
+
+near-unheld : (x : Session) (l : Sessions) → T (all (apart x) l) → T (all (λ n. not (member n (sessionTeids x))) (heldTeids l))
+unfolding heldTeids all
+near-unheld x [] far = tt
+near-unheld x (z ∷ l) far =
+    all-append (λ n. not (member n (sessionTeids x))) (sessionTeids z) (heldTeids l)
+    (none-in (sessionTeids z) (sessionTeids x) (unfold apart in (apart-turn x z (all-head (apart x) z l far))))
+    (near-unheld x l (all-tail (apart x) z l far))
+
+-- of sessions that share no TEID, those that go and those that stay hold none in common
+gone-unheld : (q : Session → Bool) (m : Sessions) → T (allPairs apart m) → T (all (λ n. not (member n (heldTeids (keep (λ z. not (q z)) m)))) (heldTeids (keep q m)))
+unfolding keep heldTeids all
+gone-unheld q [] h = tt
+gone-unheld q (x ∷ m) h = one (gone-unheld q m (pairs-tail apart x m h)) (q x)
+  where
+    go : Sessions
+    go = keep q m
+
+    stay : Sessions
+    stay = keep (λ z. not (q z)) m
+
+    one : T (all (λ n. not (member n (heldTeids stay))) (heldTeids go)) → (b : Bool) → T (all (λ n. not (member n (heldTeids (pick (not b) (x ∷ stay) stay)))) (heldTeids (pick b (x ∷ go) go)))
+    one more true =
+        all-append (λ n. not (member n (heldTeids stay))) (sessionTeids x) (heldTeids go)
+        (far-unheld x stay (keep-all (λ z. not (q z)) (apart x) m (pairs-head apart x m h))) more
+    one more false =
+        all-join (λ n. not (member n (sessionTeids x))) (λ n. not (member n (heldTeids stay))) (λ n. not (member n (sessionTeids x ++ heldTeids stay)))
+        (λ n a b. each-absent n (sessionTeids x ++ heldTeids stay) (all-append (λ k. not (eqb n k)) (sessionTeids x) (heldTeids stay) (absent-each n (sessionTeids x) a) (absent-each n (heldTeids stay) b)))
+        (heldTeids go) (near-unheld x go (keep-all q (apart x) m (pairs-head apart x m h))) more
+
+-- so every TEID of a session that a set deletion takes out is free afterwards
+pub listed-free : (limit : ℕ) (s : Settings) (m : Sessions) (msg : List ℕ) → T (sessionsAllowed limit s m) → T (eqb (kindOf msg) setDeletion)
+    → (n : ℕ) → T (member n (heldTeids (keep (goesSession (readRequest msg .listed)) m))) → T (member n (freeTeids s (sessionsAfter s m msg)))
+listed-free limit s m msg hm d n h =
+    free-there s (sessionsAfter s m msg) n (member-passes (inPool s) n (heldTeids (keep goes m)) h (held-in-pool limit s (keep goes m) (keep-allowed limit s goes m hm)))
+    (subst (λ (l : Sessions). T (not (member n (heldTeids l)))) (sym left)
+    (member-passes (λ k. not (member k (heldTeids (keep (λ z. not (goes z)) m)))) n (heldTeids (keep goes m)) h (gone-unheld goes m (sessions-kept limit s m hm .separate))))
+  where
+    goes : Session → Bool
+    goes = goesSession (readRequest msg .listed)
+
+    left : sessionsAfter s m msg ≡ keep (λ z. not (goes z)) m
+    left = unfold sessionsAfter follow staysSession in (pick-yes (eqb (kindOf msg) setDeletion) (keep (λ z. not (goes z)) m) _ d)

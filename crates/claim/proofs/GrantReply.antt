@@ -4,7 +4,7 @@ use mathlib.Core.Path.{_≡_, refl, sym, ap, _∙_, subst}
 use Prim.Native.Nat.{ℕ, suc, _+_, _-_, _*_, _^_, _≤_, _<_, zero-le, suc-le-suc}
 use native.Mathlib.Nat.{le-trans, le-of-eq, mul-le-mul-right}
 use native.Mathlib.Omega.{arith}
-use mathlib.Core.Bool.{Bool, true, false, _&&_}
+use mathlib.Core.Bool.{Bool, true, false, _&&_, _||_}
 use mathlib.Core.Option.{Option, none, some}
 use mathlib.Core.List.{List, [], _∷_, _++_, map, append-nil}
 use lib.ListN.{length, length-append}
@@ -18,12 +18,12 @@ use Rattle.rules.specs.Model.{Settings}
 use Rattle.rules.specs.Elements.{fteidOctets, unitFteid, fseidOctets}
 use Rattle.rules.specs.Sound.{settingsAllowed}
 use Rattle.laws.proofs.TableLaws.{ipv4-four}
-use Rattle.rules.specs.Message.{Element, elements, hasType, contentIn, contentOf, numberWidth, field, fieldOr0, kindOf, headerSeid, sequenceOf, establishment}
+use Rattle.rules.specs.Message.{Element, elements, hasType, contentIn, contentOf, numberWidth, field, fieldOr0, kindOf, headerSeid, sequenceOf, establishment, headerLength, setDeletion}
 use Rattle.laws.proofs.MessageLaws.{Fits, el, after, elements-cons, elements-nil, elements-last, length-one, written, asElement, asElements, afterAll, elements-map, short-map}
 use Rattle.rules.specs.Grants.{Kind, ofPdr, ofEndpoint, sameKind, Grant, grantTeid, isGrantFor, grantedTeid, isKind, grantsOf}
 use Rattle.rules.specs.Stages.{Verdict}
 use Rattle.rules.specs.Reply.{element, unitElement, createdPdrContent, createdPdr, createdEndpointContent, createdEndpoint, created, offendingElement, nodeIdElement, unitFseid, acceptedPart, replyBody, replySeid, reply}
-use Rattle.laws.proofs.ReplyLaws.{elements-there, sequence-three, reply-cause}
+use Rattle.laws.proofs.ReplyLaws.{reply-elements, sequence-three, reply-cause}
 use Rattle.rules.specs.Live.{replyCause, createdType, idType, isCreated, teidIn, createdTeid}
 use Rattle.rules.specs.Types as ie
 use Rattle.rules.specs.Causes as why
@@ -256,7 +256,7 @@ module _ (s : Settings) (hs : T (settingsAllowed s)) where
       unfolding replyBody nodeIdElement acceptedPart unitFseid
       body-found k i =
           let t = grantedTeid gs k i in
-          skip-if k i t (eqb kind establishment) ie.nodeId (0 ∷ s .ipv4) _ node-fits refl refl
+          skip-if k i t (eqb kind establishment || eqb kind setDeletion) ie.nodeId (0 ∷ s .ipv4) _ node-fits refl refl
           (skip-one k i t ie.cause (v .cause ∷ []) _ (one-fits s hs ie.cause (lit< tt) (v .cause)) refl refl
           (skip-offending k i t (v .offending) _
           (subst (λ (c : ℕ). Gives k i t (pick (eqb c 1) (acceptedPart kind s n gs) [])) (sym yes′)
@@ -284,7 +284,7 @@ module _ (s : Settings) (hs : T (settingsAllowed s)) where
       body-short : length gs ≤ 24 → length (replyBody kind s n v gs) ≤ 2000
       unfolding replyBody nodeIdElement acceptedPart unitFseid
       body-short few =
-          let node = pick (eqb kind establishment) (element ie.nodeId (0 ∷ s .ipv4)) [] in
+          let node = pick (eqb kind establishment || eqb kind setDeletion) (element ie.nodeId (0 ∷ s .ipv4)) [] in
           let cause = element ie.cause (v .cause ∷ []) in
           let named = offendingElement (v .offending) in
           let fseid = pick (eqb kind establishment) (element ie.fseid (fseidOctets n (s .ipv4) [])) [] in
@@ -298,7 +298,7 @@ module _ (s : Settings) (hs : T (settingsAllowed s)) where
           let e19 = length-one ie.cause (v .cause ∷ []) in
           let e57 = length-one ie.fseid (fseidOctets n (s .ipv4) []) in
           let f = fseid-length n in
-          let h1 : length node ≤ 9 = if-short (eqb kind establishment) (element ie.nodeId (0 ∷ s .ipv4)) 9 (omega arith) in
+          let h1 : length node ≤ 9 = if-short (eqb kind establishment || eqb kind setDeletion) (element ie.nodeId (0 ∷ s .ipv4)) 9 (omega arith) in
           let h2 : length fseid ≤ 17 = if-short (eqb kind establishment) (element ie.fseid (fseidOctets n (s .ipv4) [])) 17 (omega arith) in
           let h3 : length part′ ≤ 1889 = if-short (eqb (v .cause) why.accepted) (fseid ++ created s gs) 1889 (let h = created-short few in omega arith) in
           let h4 : length named ≤ 6 = offending-short (v .offending) in
@@ -306,15 +306,14 @@ module _ (s : Settings) (hs : T (settingsAllowed s)) where
 
 -- ---- what the live set reads
 
-module _ (s : Settings) (hs : T (settingsAllowed s)) (msg : List ℕ) (long : 16 ≤ length msg) (n : ℕ) (v : Verdict) (yes′ : v .cause ≡ why.accepted) (gs : List Grant)
+module _ (s : Settings) (hs : T (settingsAllowed s)) (msg : List ℕ) (long : headerLength msg ≤ length msg) (n : ℕ) (v : Verdict) (yes′ : v .cause ≡ why.accepted) (gs : List Grant)
     (fits : T (all grantFits gs)) (few : length gs ≤ 24) (space : List ℕ) where
   pub accepted-cause : replyCause (put 0 (reply s msg n v gs) space) ≡ 1
   accepted-cause = reply-cause s msg n v gs space (ipv4-four s hs) (sequence-three msg long) (body-short s hs gs fits (kindOf msg) n v yes′ few) ∙ yes′
 
   pub accepted-teids : (k : Kind) (i : ℕ) → createdTeid (put 0 (reply s msg n v gs) space) k i ≡ grantedTeid gs k i
-  unfolding createdTeid reply
+  unfolding createdTeid
   accepted-teids k i =
       ap (λ (es : List Element). valueOf (findBy (isCreated k i) es))
-      (elements-there (kindOf msg + 1) (replySeid (kindOf msg) (v .cause) (headerSeid msg) n) (sequenceOf msg) (replyBody (kindOf msg) s n v gs) space (sequence-three msg long)
-      (body-short s hs gs fits (kindOf msg) n v yes′ few))
+      (reply-elements s msg n v gs space (sequence-three msg long) (body-short s hs gs fits (kindOf msg) n v yes′ few))
       ∙ body-found s hs gs fits (kindOf msg) n v yes′ k i 0

@@ -1,16 +1,17 @@
 -- A message as it is written, header and elements: its length, and that it is read back. Assumes nothing.
-use mathlib.Core.Path.{_≡_, refl}
-use mathlib.Core.Bool.{_&&_}
+use mathlib.Core.Path.{_≡_, refl, sym, subst}
+use mathlib.Core.Bool.{Bool, true, false, not, _&&_}
 use mathlib.Core.List.{List, _∷_}
 use Prim.Native.Nat.{ℕ, _+_, _^_, _≤_, _<_}
 use native.Mathlib.Omega.{arith}
 use lib.ListN.{length, length-append}
 use lib.Dec.{T, leb, eqb}
 use mir.Facts.{yes-eqb, yes-leb}
+use Rattle.octets.specs.Choice.{pick}
 use Rattle.octets.specs.Octets.{be, numberAt, octetAt, bit}
 use Rattle.octets.proofs.Tests.{both}
 use Rattle.octets.proofs.Numbers.{number-be, length-be}
-use Rattle.rules.specs.Message.{body, kindOf, headerAllowed, firstOctetAllowed}
+use Rattle.rules.specs.Message.{setDeletion, body, kindOf, seidThere, headerLength, headerAllowed, firstOctetAllowed}
 use Rattle.rules.specs.Reply.{message}
 
 -- the header's 16 octets
@@ -21,7 +22,7 @@ length-header kind seid q xs three = let e = length-append q (0 ∷ xs) in omega
 -- with the SEID h and the sequence number q
 module _ (kind h q : ℕ) (xs : List ℕ) where
   pub message-body : body (message kind h (be 3 q) xs) ≡ xs
-  unfolding body message be
+  unfolding body headerLength seidThere octetAt bit message be
   message-body = refl
 
   pub message-kind : kindOf (message kind h (be 3 q) xs) ≡ kind
@@ -35,17 +36,21 @@ module _ (kind h q : ℕ) (xs : List ℕ) where
   unfolding numberAt message be
   message-number small = number-be 2 (12 + length xs) small
 
-  pub message-allowed : length xs ≤ 2000 → T (headerAllowed (message kind h (be 3 q) xs))
-  unfolding headerAllowed
-  message-allowed short =
+  pub message-seid : seidThere (message kind h (be 3 q) xs) ≡ true
+  unfolding seidThere octetAt bit message
+  message-seid = refl
+
+  pub message-allowed : eqb kind setDeletion ≡ false → length xs ≤ 2000 → T (headerAllowed (message kind h (be 3 q) xs))
+  unfolding headerAllowed headerLength
+  message-allowed other short =
       let m = message kind h (be 3 q) xs in
       let e = message-length in
       let n = message-number (omega arith) in
       let long : 16 ≤ length m = omega arith in
       let exact : 4 + numberAt 2 2 m ≡ length m = omega arith in
-      both (leb 16 (length m) && firstOctetAllowed (octetAt m 0)) (eqb (4 + numberAt 2 2 m) (length m))
-      (both (leb 16 (length m)) (firstOctetAllowed (octetAt m 0)) (yes-leb long) first)
+      both (leb (headerLength m) (length m) && firstOctetAllowed (kindOf m) (octetAt m 0)) (eqb (4 + numberAt 2 2 m) (length m))
+      (both (leb (headerLength m) (length m)) (firstOctetAllowed (kindOf m) (octetAt m 0)) (subst (λ (b : Bool). T (leb (pick b 16 8) (length m))) (sym message-seid) (yes-leb long)) first)
       (yes-eqb exact)
     where
-      first : T (firstOctetAllowed (octetAt (message kind h (be 3 q) xs) 0))
-      first = unfold firstOctetAllowed octetAt message bit in tt
+      first : T (firstOctetAllowed (kindOf (message kind h (be 3 q) xs)) (octetAt (message kind h (be 3 q) xs) 0))
+      first = unfold firstOctetAllowed kindOf octetAt message bit in (subst (λ (b : Bool). T (not b)) (sym other) tt)

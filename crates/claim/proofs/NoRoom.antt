@@ -13,9 +13,9 @@ use lib.Dec.{T, leb, ltb, eqb, eqb→eq, leb→le, leb·suc-suc}
 use mir.Facts.{no-ltb}
 use Rattle.octets.specs.Choice.{pick, oneOf, valueOr}
 use Rattle.octets.specs.Octets.{octets}
-use Rattle.octets.proofs.Tests.{pick-no, pick-yes, is-false}
+use Rattle.octets.proofs.Tests.{pick-no, pick-yes, is-false, of-true}
 use Rattle.octets.proofs.Ordered.{insert-length, keep-length, keep-less}
-use Rattle.octets.proofs.ListLaws.{not-not, none-found}
+use Rattle.octets.proofs.ListLaws.{not-not, none-found, by-test}
 use Rattle.claim.proofs.InsertLaws.{keep-everything}
 use Rattle.claim.proofs.RecordsAfter.{after, after-count}
 use Rattle.rules.specs.Model.{Settings, Session, Sessions, freeTeids, pdrId, endpointId, seidOf}
@@ -23,11 +23,11 @@ use Rattle.rules.specs.Limits.{maxPdrs, maxEndpoints}
 use Rattle.rules.specs.Layout.{viewSettings, viewSessions}
 use Rattle.rules.specs.Elements.{Refusal, missing, conditional, tooShort, incorrect, causeOf}
 use Rattle.rules.specs.Sound.{sessionsAllowed}
-use Rattle.rules.specs.Message.{kindOf, headerSeid, Spot, frameFault, establishment, deletion}
+use Rattle.rules.specs.Message.{kindOf, headerSeid, Spot, frameFault, establishment, deletion, setDeletion}
 use Rattle.rules.specs.Reading.{Fault, Request, readFault, readRequest}
 use Rattle.rules.specs.Grants.{Kind, grants, grantedTeid, need}
-use Rattle.rules.specs.Stages.{hasSeid, sessionOf, isLive, newSession, atEntry, liveEndpoints, removedPdrs, invalidAllocation, brokenRules, breaksRule, tooManySessions, tooManyPdrs, tooManyEndpoints, tooFewTeids, noRoom, Verdict, plain, judge, entrySession, judged, fromReading, fromFraming, unknownSession, verdict}
-use Rattle.rules.specs.Apply.{createPdr, createEndpoint, updateAll, keptPdr, keptEndpoint, pdrsAfter, endpointsAfter, apply, otherSession, removeSession, putSession, follow}
+use Rattle.rules.specs.Stages.{hasSeid, sessionOf, isLive, newSession, atEntry, liveEndpoints, removedPdrs, invalidAllocation, brokenRules, breaksRule, tooManySessions, tooManyPdrs, tooManyEndpoints, tooFewTeids, noRoom, Verdict, plain, judge, entrySession, judged, fromReading, fromFraming, unknownSession, verdict, unnamed}
+use Rattle.rules.specs.Apply.{createPdr, createEndpoint, updateAll, keptPdr, keptEndpoint, pdrsAfter, endpointsAfter, apply, otherSession, removeSession, putSession, follow, staysSession}
 use Rattle.rules.specs.Serve.{sessionsAfter, serve}
 use Rattle.rules.specs.Live.{replyCause}
 use Rattle.rules.specs.Causes as why
@@ -37,8 +37,10 @@ use Rattle.claim.proofs.RemovedPdrs.{removed-live, removed-once}
 use Rattle.claim.proofs.FreeTeids.{free-count}
 use Rattle.claim.proofs.ChangedRecords.{update-map, update-id}
 use Rattle.claim.proofs.After.{changed, live-any, found-seid}
-use Rattle.claim.proofs.Changed.{Entry, entry-known}
+use Rattle.claim.proofs.Changed.{entry-known}
 use Rattle.claim.proofs.ServeLaws.{answers, table-kept, served-cause}
+use Rattle.laws.proofs.HeaderLaws.{unnamed-new, unnamed-sets}
+use Rattle.octets.specs.Lists.{ascending, keep}
 
 -- no fault of stages 1 to 4 stands
 pub record Reached (s : Settings) (m : Sessions) (msg : List ℕ) : Type 0 where
@@ -165,9 +167,21 @@ module _ (limit : ℕ) (s : Settings) (m : Sessions) (msg : List ℕ) (hm : T (s
   abbrev r : Request
   r = readRequest msg
 
+  -- a set deletion is about a session without records
+  sets-entry : T (eqb (kindOf msg) setDeletion) → x ≡ newSession (r .seid)
+  unfolding entrySession atEntry
+  sets-entry d = pick-yes (unnamed (kindOf msg)) (newSession (r .seid)) _ (of-true (unnamed-sets (kindOf msg) (eqb→eq (kindOf msg) setDeletion d)))
+
   -- what is known of the session at entry
-  entry : Entry s m x
-  entry = entry-known limit s m msg hm ho (p .known) (p .read)
+  pdr-order : T (ascending (map pdrId (x .pdrs)))
+  pdr-order =
+      by-test (eqb (kindOf msg) setDeletion) (λ d. subst (λ (y : Session). T (ascending (map pdrId (y .pdrs)))) (sym (sets-entry d)) (unfold newSession ascending in tt))
+      (λ ns. entry-known limit s m msg hm ho ns (p .known) (p .read) .kept .pdrOrder)
+
+  endpoint-order : T (ascending (map endpointId (x .endpoints)))
+  endpoint-order =
+      by-test (eqb (kindOf msg) setDeletion) (λ d. subst (λ (y : Session). T (ascending (map endpointId (y .endpoints)))) (sym (sets-entry d)) (unfold newSession ascending in tt))
+      (λ ns. entry-known limit s m msg hm ho ns (p .known) (p .read) .kept .endpointOrder)
 
   -- the rules that the request keeps
   rules : RulesKept s m x r
@@ -181,15 +195,15 @@ module _ (limit : ℕ) (s : Settings) (m : Sessions) (msg : List ℕ) (hm : T (s
   -- the number of sessions
   sessions-exact : ltb limit (length (sessionsAfter s m msg)) ≡ tooManySessions limit (kindOf msg) m
   unfolding sessionsAfter follow tooManySessions
-  sessions-exact = go (eqb (kindOf msg) deletion) refl (eqb (kindOf msg) establishment) refl
+  sessions-exact = sets (eqb (kindOf msg) setDeletion) refl
     where
-      seid-new : eqb (kindOf msg) establishment ≡ true → apply (grantedTeid (grants s m r)) r (atEntry (kindOf msg) (headerSeid msg) r m) .seid ≡ r .seid
+      seid-new : unnamed (kindOf msg) ≡ true → apply (grantedTeid (grants s m r)) r (atEntry (kindOf msg) (headerSeid msg) r m) .seid ≡ r .seid
       seid-new e = unfold apply atEntry newSession in (ap {B = ℕ} (λ (b : Bool). pick b (newSession (r .seid)) (valueOr (newSession (headerSeid msg)) (sessionOf (headerSeid msg) m)) .seid) e)
 
-      seid-old : eqb (kindOf msg) establishment ≡ false → T (isLive (headerSeid msg) m) → apply (grantedTeid (grants s m r)) r (atEntry (kindOf msg) (headerSeid msg) r m) .seid ≡ headerSeid msg
+      seid-old : unnamed (kindOf msg) ≡ false → T (isLive (headerSeid msg) m) → apply (grantedTeid (grants s m r)) r (atEntry (kindOf msg) (headerSeid msg) r m) .seid ≡ headerSeid msg
       seid-old e live = unfold apply atEntry in (ap {B = ℕ} (λ (b : Bool). pick b (newSession (r .seid)) (valueOr (newSession (headerSeid msg)) (sessionOf (headerSeid msg) m)) .seid) e ∙ found-seid (headerSeid msg) m live)
 
-      live-header : eqb (kindOf msg) establishment ≡ false → T (isLive (headerSeid msg) m)
+      live-header : unnamed (kindOf msg) ≡ false → T (isLive (headerSeid msg) m)
       live-header e = unfold unknownSession in (not-not (isLive (headerSeid msg) m) (subst (λ (b : Bool). T (not (not b && not (isLive (headerSeid msg) m)))) e (p .known)))
 
       new-seid : eqb (kindOf msg) establishment ≡ true → T (not (isLive (r .seid) m))
@@ -201,20 +215,29 @@ module _ (limit : ℕ) (s : Settings) (m : Sessions) (msg : List ℕ) (hm : T (s
       removed-less : (n : ℕ) → T (isLive n m) → length (removeSession n m) < length m
       removed-less n live = unfold removeSession in (keep-less (otherSession n) m (live-any n m live))
 
-      go : (a : Bool) → eqb (kindOf msg) deletion ≡ a → (b : Bool) → eqb (kindOf msg) establishment ≡ b
+      go : T (not (eqb (kindOf msg) setDeletion)) → (a : Bool) → eqb (kindOf msg) deletion ≡ a → (b : Bool) → eqb (kindOf msg) establishment ≡ b
           → ltb limit (length (pick a (removeSession (headerSeid msg) m) (putSession (apply (grantedTeid (grants s m r)) r (atEntry (kindOf msg) (headerSeid msg) r m)) m))) ≡ (b && leb limit (length m))
-      go true d true e =
+      go ns true d true e =
           let k : kindOf msg ≡ deletion = eqb→eq (kindOf msg) deletion (subst T (sym d) tt) in
           let l : kindOf msg ≡ establishment = eqb→eq (kindOf msg) establishment (subst T (sym e) tt) in
           absurd (omega arith)
-      go true d false e = not-above limit (length (removeSession (headerSeid msg) m)) (le-trans (removed-few (headerSeid msg)) few)
-      go false d true e =
+      go ns true d false e = not-above limit (length (removeSession (headerSeid msg) m)) (le-trans (removed-few (headerSeid msg)) few)
+      go ns false d true e =
           ap (ltb limit) (put-count (apply (grantedTeid (grants s m r)) r (atEntry (kindOf msg) (headerSeid msg) r m)) m
-          ∙ ap (λ (n : ℕ). suc (length (removeSession n m))) (seid-new e) ∙ ap (λ (l : Sessions). suc (length l)) (absent-stays (r .seid) m (new-seid e)))
+          ∙ ap (λ (n : ℕ). suc (length (removeSession n m))) (seid-new (unnamed-new (kindOf msg) ns ∙ e)) ∙ ap (λ (l : Sessions). suc (length l)) (absent-stays (r .seid) m (new-seid e)))
           ∙ leb·suc-suc limit (length m)
-      go false d false e =
-          ap (ltb limit) (put-count (apply (grantedTeid (grants s m r)) r (atEntry (kindOf msg) (headerSeid msg) r m)) m ∙ ap (λ (n : ℕ). suc (length (removeSession n m))) (seid-old e (live-header e)))
-          ∙ not-above limit (suc (length (removeSession (headerSeid msg) m))) (le-trans (removed-less (headerSeid msg) (live-header e)) few)
+      go ns false d false e =
+          let e′ = unnamed-new (kindOf msg) ns ∙ e in
+          ap (ltb limit) (put-count (apply (grantedTeid (grants s m r)) r (atEntry (kindOf msg) (headerSeid msg) r m)) m ∙ ap (λ (n : ℕ). suc (length (removeSession n m))) (seid-old e′ (live-header e′)))
+          ∙ not-above limit (suc (length (removeSession (headerSeid msg) m))) (le-trans (removed-less (headerSeid msg) (live-header e′)) few)
+
+      sets : (a : Bool) → eqb (kindOf msg) setDeletion ≡ a
+          → ltb limit (length (pick a (keep (staysSession (r .listed)) m) (pick (eqb (kindOf msg) deletion) (removeSession (headerSeid msg) m) (putSession (apply (grantedTeid (grants s m r)) r (atEntry (kindOf msg) (headerSeid msg) r m)) m))))
+          ≡ (eqb (kindOf msg) establishment && leb limit (length m))
+      sets true d =
+          not-above limit (length (keep (staysSession (r .listed)) m)) (le-trans (keep-length (staysSession (r .listed)) m) few)
+          ∙ sym (ap (λ (k : ℕ). eqb k establishment && leb limit (length m)) (eqb→eq (kindOf msg) setDeletion (subst T (sym d) tt)))
+      sets false d = go (subst (λ (b : Bool). T (not b)) (sym d) tt) (eqb (kindOf msg) deletion) refl (eqb (kindOf msg) establishment) refl
 
   -- the number of PDRs
   pdrs-exact : (teids : Kind → ℕ → ℕ) → length (pdrsAfter teids r (x .pdrs)) ≡ length (x .pdrs) - length (removedPdrs r (x .pdrs)) + length (r .pdrs)
@@ -223,7 +246,7 @@ module _ (limit : ℕ) (s : Settings) (m : Sessions) (msg : List ℕ) (hm : T (s
       let new = map (createPdr teids) (r .pdrs) in
       let gone = removedPdrs r (x .pdrs) in
       let base = after pdrId gone new (x .pdrs) in
-      let a = after-count pdrId gone new (x .pdrs) (removed-once r (x .pdrs) (entry .kept .pdrOrder)) (removed-live r (x .pdrs)) (entry .kept .pdrOrder) in
+      let a = after-count pdrId gone new (x .pdrs) (removed-once r (x .pdrs) pdr-order) (removed-live r (x .pdrs)) pdr-order in
       let b = length-map (r .pdrs) (createPdr teids) in
       let c = ap length (update-map pdrId update-id (r .changes) base) in
       let d = length-map (updateAll (r .changes) base) pdrId in
@@ -235,7 +258,7 @@ module _ (limit : ℕ) (s : Settings) (m : Sessions) (msg : List ℕ) (hm : T (s
   unfolding endpointsAfter keptEndpoint liveEndpoints
   endpoints-exact teids =
       let new = map (createEndpoint teids) (r .endpoints) in
-      let a = after-count endpointId (r .goneEndpoints) new (x .endpoints) (rules .goneEndpointsOnce) (rules .goneEndpointsLive) (entry .kept .endpointOrder) in
+      let a = after-count endpointId (r .goneEndpoints) new (x .endpoints) (rules .goneEndpointsOnce) (rules .goneEndpointsLive) endpoint-order in
       let b = length-map (r .endpoints) (createEndpoint teids) in
       omega arith
 

@@ -4,7 +4,7 @@ use mathlib.Core.Path.{_≡_, refl, ap, _∙_}
 use Prim.Native.Nat.{ℕ, suc, _+_, _*_, _≤_, zero-le}
 use native.Mathlib.Nat.{le-of-eq, mul-le-mul-right}
 use native.Mathlib.Omega.{arith}
-use mathlib.Core.Bool.{Bool, true, false}
+use mathlib.Core.Bool.{Bool, true, false, _||_}
 use mathlib.Core.Option.{Option, none, some}
 use mathlib.Core.List.{List, [], _∷_, _++_}
 use lib.ListN.{length, length-append}
@@ -18,7 +18,7 @@ use Rattle.rules.specs.Model.{Settings, Sessions}
 use Rattle.laws.proofs.TableLaws.{ipv4-four}
 use Rattle.rules.specs.Elements.{fseidOctets}
 use Rattle.rules.specs.Sound.{settingsAllowed}
-use Rattle.rules.specs.Message.{kindOf, headerSeid, sequenceOf, establishment}
+use Rattle.rules.specs.Message.{kindOf, headerSeid, sequenceOf, establishment, headerLength, setDeletion}
 use Rattle.rules.specs.Reading.{readRequest}
 use Rattle.laws.proofs.MessageLaws.{length-one, written, short-map}
 use Rattle.rules.specs.Grants.{Kind, ofPdr, ofEndpoint, sameKind, Grant, isKind, grantsOf, grants}
@@ -27,11 +27,10 @@ use Rattle.rules.specs.Reply.{element, createdPdrContent, createdPdr, createdEn
 use Rattle.rules.specs.Serve.{replyTo}
 use Rattle.rules.specs.Types as ie
 use Rattle.rules.specs.Causes as why
-use Rattle.laws.proofs.ReplyLaws.{sequence-three}
+use Rattle.laws.proofs.ReplyLaws.{sequence-three, length-reply}
 use Rattle.laws.proofs.GrantLaws.{grantFits, grants-fit, grants-few}
 use Rattle.claim.proofs.GrantReply.{pdr-content-short, endpoint-content-short, fseid-length}
 use Rattle.claim.proofs.VerdictLaws.{passed, few-new-pdrs, few-new-endpoints}
-use Rattle.claim.proofs.MessageHeader.{length-header}
 
 -- ---- the Created groups
 
@@ -72,7 +71,7 @@ module _ (s : Settings) (hs : T (settingsAllowed s)) where
   node-short kind =
       let a = length-one ie.nodeId (0 ∷ s .ipv4) in
       let b = ipv4-four s hs in
-      if-short (eqb kind establishment) (element ie.nodeId (0 ∷ s .ipv4)) 9 (omega arith)
+      if-short (eqb kind establishment || eqb kind setDeletion) (element ie.nodeId (0 ∷ s .ipv4)) 9 (omega arith)
 
   -- F-SEID
   fseid-short : (kind n : ℕ) → length (unitFseid kind s n) ≤ 17
@@ -133,10 +132,9 @@ module _ (limit : ℕ) (s : Settings) (hs : T (settingsAllowed s)) (m : Sessions
   reply-body-short = body-short s hs (kindOf msg) (readRequest msg .seid) (verdict limit s m msg) (grants s m (readRequest msg)) (grants-fit s hs m msg ho) few-grants
 
   -- a reply has at most 989 octets, and so at most 1,024
-  pub reply-short : 16 ≤ length msg → length (replyTo s m msg (verdict limit s m msg)) ≤ 989
-  unfolding replyTo reply
+  pub reply-short : headerLength msg ≤ length msg → length (replyTo s m msg (verdict limit s m msg)) ≤ 989
+  unfolding replyTo
   reply-short long =
-      let b = replyBody (kindOf msg) s (readRequest msg .seid) (verdict limit s m msg) (grants s m (readRequest msg)) in
-      let a = length-header (kindOf msg + 1) (replySeid (kindOf msg) (verdict limit s m msg .cause) (headerSeid msg) (readRequest msg .seid)) (sequenceOf msg) b (sequence-three msg long) in
       let c = reply-body-short in
+      let a = length-reply s msg (readRequest msg .seid) (verdict limit s m msg) (grants s m (readRequest msg)) [] (sequence-three msg long) (omega arith) in
       omega arith

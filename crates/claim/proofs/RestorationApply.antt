@@ -20,10 +20,10 @@ use Rattle.rules.specs.Layout.{encode}
 use Rattle.rules.specs.Sound.{settingsAllowed, tunnelAllowed, placeAllowed, pdrTests, pdrAllowed, endpointTests, endpointAllowed, sessionTests, sessionAllowed, sessionsAllowed, sound}
 use Rattle.laws.proofs.LayoutLaws.{pdrsOk, endpointsOk, tests}
 use Rattle.laws.proofs.TableLaws.{sound-encode, encoded-settings, sessions-back}
-use Rattle.rules.specs.Message.{headerSeid, headerAllowed, served, frameFault, establishment, modification, deletion}
+use Rattle.rules.specs.Message.{headerSeid, headerAllowed, served, frameFault, establishment, modification, deletion, setDeletion}
 use Rattle.rules.specs.Reading.{Request}
 use Rattle.rules.specs.Grants.{Kind, grants, grantedTeid}
-use Rattle.rules.specs.Stages.{newSession, atEntry, isLive, plain, judge, entrySession, judged, fromReading, fromFraming, unknownSession, verdict}
+use Rattle.rules.specs.Stages.{newSession, atEntry, isLive, plain, judge, entrySession, judged, fromReading, fromFraming, unknownSession, verdict, unnamed}
 use Rattle.rules.specs.Apply.{tunnelFrom, namedPlace, placeFrom, createPdr, createEndpoint, updateAll, otherNode, setCsid, setCsids, followCsids, pdrsAfter, endpointsAfter, apply, putSession, follow}
 use Rattle.rules.specs.Serve.{unserved, sessionsAfter, replyTo, answered, answer, serveSound, serve}
 use Rattle.rules.specs.Restoration.{Peer, peerAllowed, restoration, restoredPdr, restoredEndpoint, restoredRequest, recordCsid}
@@ -146,19 +146,19 @@ module _ (s : Settings) (hs : T (settingsAllowed s)) where
       msg = restoration s p x
 
       msg-verdict : verdict limit s m msg ≡ plain why.accepted
-      unfolding verdict unknownSession fromFraming fromReading judged entrySession
+      unfolding verdict unknownSession unnamed fromFraming fromReading judged entrySession
       msg-verdict =
-          ap (λ (k : ℕ). pick (not (eqb k establishment) && not (isLive (headerSeid msg) m)) (plain why.noSession) (fromFraming limit s m msg (frameFault msg))) (msg-kind s hs p hp x hx)
+          ap (λ (k : ℕ). pick (not (unnamed k) && not (isLive (headerSeid msg) m)) (plain why.noSession) (fromFraming limit s m msg (frameFault msg))) (msg-kind s hs p hp x hx)
           ∙ ap (fromFraming limit s m msg) (msg-framed s hs p hp x hx)
           ∙ ap (fromReading limit s m msg) (msg-sound s hs p hp x hx)
           ∙ ap₂ (λ (k : ℕ) (r : Request). judge limit k s m (atEntry k (headerSeid msg) r m) r) (msg-kind s hs p hp x hx) (msg-request s hs p hp x hx)
           ∙ at-new
         where
           at-new : judge limit establishment s m (atEntry establishment (headerSeid msg) (restoredRequest s x) m) (restoredRequest s x) ≡ plain why.accepted
-          at-new = unfold atEntry restoredRequest in (restored-judged s hs x hx limit m fresh room separate)
+          at-new = unfold atEntry unnamed restoredRequest in (restored-judged s hs x hx limit m fresh room separate)
 
       msg-after : sessionsAfter s m msg ≡ putSession x m
-      unfolding sessionsAfter follow atEntry
+      unfolding sessionsAfter follow atEntry unnamed
       msg-after =
           ap₂ (λ (k : ℕ) (r : Request). follow (grantedTeid (grants s m r)) k (headerSeid msg) r m) (msg-kind s hs p hp x hx) (msg-request s hs p hp x hx)
           ∙ ap (λ (y : Session). putSession y m) made
@@ -178,7 +178,7 @@ module _ (s : Settings) (hs : T (settingsAllowed s)) where
           ∙ pick-no (ltb (length space) 1024) _ _ (no-ltb long)
           ∙ pick-no (ltb 2048 (length msg)) _ _ (no-ltb short)
           ∙ pick-no (not (headerAllowed msg)) _ _ (twice (headerAllowed msg) (msg-allowed s hs p hp x hx))
-          ∙ ap (λ (k : ℕ). pick (not (eqb k establishment || eqb k modification || eqb k deletion)) (unserved 5 space t) (answer limit s m msg space t)) (msg-kind s hs p hp x hx)
+          ∙ ap (λ (k : ℕ). pick (not (eqb k establishment || eqb k modification || eqb k deletion || eqb k setDeletion)) (unserved 5 space t) (answer limit s m msg space t)) (msg-kind s hs p hp x hx)
           ∙ ap (answered limit s m msg space t) msg-verdict
           ∙ ap (λ (m′ : Sessions). record { outcome = 0; place = 0; space = put 0 (replyTo s m msg (plain why.accepted)) space; table = encode limit s m′ }) msg-after
         where

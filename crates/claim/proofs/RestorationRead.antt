@@ -20,13 +20,13 @@ use Rattle.rules.specs.Elements.{incorrect, Answer, value, Fqcsid, readFseid, a
 use Rattle.laws.proofs.ElementLaws.{fseid-back}
 use Rattle.rules.specs.Sound.{settingsAllowed, pdrAllowed, endpointTests, endpointAllowed, csidAllowed, sessionTests, sessionAllowed}
 use Rattle.laws.proofs.LayoutLaws.{pdrsOk, endpointsOk, csidsOk, fewPdrs, fewEndpoints, fewCsids, seidFits, tests}
-use Rattle.rules.specs.Message.{Element, elements, body, bodyPlace, kindOf, headerAllowed, atMessage, frame, frameFault, opened, openedAtTop, actedOn, establishment}
-use Rattle.rules.specs.Reading.{NewPdr, NewEndpoint, Item, createsPdr, createsEndpoint, setsCsid, cleared, changed, Reading, done, refusal, andThen, named, Draft, emptyDraft, withNode, withItem, seidRead, flagsRead, csidCountAllowed, withCsid, csidRead, actedRead, elementRead, elementsRead, pdrIn, endpointIn, changeIn, gonePdrIn, goneEndpointIn, csidIn, clears, isUnsupported, restoringIn, requestOf, finished, aloneIn, topRead, read, faultIn, readFault, askedIn, readRequest}
+use Rattle.rules.specs.Message.{Element, elements, body, bodyPlace, kindOf, headerAllowed, atMessage, frame, frameFault, opened, openedAtTop, actedOn, establishment, headerLength, seidThere, listPlace}
+use Rattle.rules.specs.Reading.{NewPdr, NewEndpoint, Item, createsPdr, createsEndpoint, setsCsid, cleared, changed, Reading, done, refusal, andThen, named, Draft, emptyDraft, withNode, withItem, seidRead, flagsRead, csidCountAllowed, withCsid, csidRead, actedRead, elementRead, elementsRead, pdrIn, endpointIn, changeIn, gonePdrIn, goneEndpointIn, csidIn, clears, isUnsupported, restoringIn, requestOf, finished, aloneIn, topRead, read, faultIn, readFault, askedIn, readRequest, sessionRead}
 use Rattle.laws.proofs.MessageLaws.{Fits, el, after, elements-cons, elements-nil, Framed, Inside, framed-nil, framed-cons, length-one, written, asElement, asElements, afterAll, elements-map, framed-map, short-map}
 use Rattle.rules.specs.Reply.{element, message}
 use Rattle.rules.specs.Restoration.{pdrContent, pdrElement, endpointContent, endpointElement, recordCsid, csidElement, Peer, peerTests, peerAllowed, recordElements, restoration, restoredPdr, restoredEndpoint, restoredRequest}
 use Rattle.rules.specs.Types as ie
-use Rattle.claim.proofs.MessageHeader.{message-body, message-kind, message-length, message-allowed}
+use Rattle.claim.proofs.MessageHeader.{message-body, message-kind, message-length, message-allowed, message-seid}
 use Rattle.claim.proofs.RestorationElements.{small, one-fits, pdr-short, pdr-read, pdr-framed, endpoint-short, endpoint-read, endpoint-framed, csid-read, csid-octets-short}
 
 -- a draft with other items, and with more
@@ -233,7 +233,7 @@ module _ (s : Settings) (hs : T (settingsAllowed s)) (p : Peer) (hp : T (peerAll
   msg-content = refl
 
   pub msg-allowed : T (headerAllowed msg)
-  msg-allowed = rw msg-content (message-allowed establishment (p .header) (p .sequence) content (le-trans content-short (lit≤ tt)))
+  msg-allowed = rw msg-content (message-allowed establishment (p .header) (p .sequence) content refl (le-trans content-short (lit≤ tt)))
 
   pub msg-kind : kindOf msg ≡ establishment
   msg-kind = ap kindOf msg-content ∙ message-kind establishment (p .header) (p .sequence) content
@@ -241,13 +241,17 @@ module _ (s : Settings) (hs : T (settingsAllowed s)) (p : Peer) (hp : T (peerAll
   msg-body : body msg ≡ content
   msg-body = ap body msg-content ∙ message-body establishment (p .header) (p .sequence) content
 
+  msg-place : headerLength msg ≡ bodyPlace
+  unfolding headerLength
+  msg-place = ap (λ (b : Bool). pick b bodyPlace listPlace) (ap seidThere msg-content ∙ message-seid establishment (p .header) (p .sequence) content)
+
   -- 01: every session fits one request of at most 1,526 octets
   pub msg-short : length msg ≤ maxRestoration
   msg-short = let e = ap length msg-content ∙ message-length establishment (p .header) (p .sequence) content in let h = content-short in omega arith
 
   pub msg-framed : frameFault msg ≡ none
   unfolding frameFault Framed
-  msg-framed = ap₂ (λ (k : ℕ) (xs : List ℕ). frame 3 k atMessage bodyPlace xs) msg-kind msg-body ∙ content-framed 0 bodyPlace
+  msg-framed = (λ i. frame 3 (msg-kind i) atMessage (msg-place i) (msg-body i)) ∙ content-framed 0 bodyPlace
 
   -- ---- the reading
 
@@ -279,9 +283,9 @@ module _ (s : Settings) (hs : T (settingsAllowed s)) (p : Peer) (hp : T (peerAll
 
     csid-item : (c : Csid) → T (csidAllowed c) → (at : ℕ) (d : Draft) → T (not (member (c .nodeType) (d .nodes)))
         → elementRead establishment alone (el at ie.fqcsid (csidContent c)) d ≡ done (withNode (c .nodeType) (withItem (csidItem c) d))
-    unfolding elementRead actedRead actedOn member csidRead csidCountAllowed withCsid csidContent fqcsidOctets recordCsid nodeOf
+    unfolding elementRead actedRead actedOn member csidRead csidCountAllowed csidContent fqcsidOctets recordCsid nodeOf
     csid-item c h at d fresh =
-        ap (λ (a : Answer Fqcsid). andThen (named 65 at a) (λ v. pick (csidCountAllowed establishment v && not (member (nodeOf v) (d .nodes))) (done (withCsid establishment v d)) (refusal incorrect 65 at))) (csid-read c h)
+        ap (λ (a : Answer Fqcsid). andThen (named 65 at a) (λ v. pick (csidCountAllowed establishment v && not (member (nodeOf v) (d .nodes))) (done (withCsid v d)) (refusal incorrect 65 at))) (csid-read c h)
         ∙ pick-yes (true && not (member (c .nodeType) (d .nodes))) _ _ fresh
 
     -- the node types ascend, so none is met twice: every one met before is below the next
@@ -360,12 +364,13 @@ module _ (s : Settings) (hs : T (settingsAllowed s)) (p : Peer) (hp : T (peerAll
             (ap (λ (b : Bool). pick b cleared (changed (collect csidIn items))) (none-such clears (λ _. refl) (λ _. refl) (λ _. refl))
             ∙ ap changed (collected csidIn ∙ (λ i. collect-none ps i ++ (collect-none es i ++ collect-each recordCsid cs i)))) j;
         unsupported = none-such isUnsupported (λ _. refl) (λ _. refl) (λ _. refl) j;
+        listed = [];
       }
 
   msg-read : read msg ≡ done (restoredRequest s x)
-  unfolding read topRead finished restoringIn items
+  unfolding read topRead sessionRead finished restoringIn items
   msg-read =
-      ap₂ (λ (k : ℕ) (xs : List ℕ). topRead k (elements bodyPlace xs)) msg-kind msg-body
+      (λ i. topRead (msg-kind i) (elements (msg-place i) (msg-body i)))
       ∙ ap (topRead establishment) content-elements
       ∙ tops-read (aloneIn tops)
       ∙ ap (λ (is : List Item). done (requestOf (x .seid) (having is started)))

@@ -37,6 +37,7 @@ use Rattle.rules.specs.Calls.{tableAfter, eventOf, tableAfterAll, eventsOf}
 use Rattle.rules.specs.Claim.{Restore, restored, restoreAllowed, restoreCall, restoreCalls}
 use Rattle.rules.specs.Types as ie
 use Rattle.rules.specs.Causes as why
+use Rattle.laws.proofs.HeaderLaws.{header-long}
 
 -- ---- nothing in common
 
@@ -181,16 +182,10 @@ module _ (s : Settings) (hs : T (settingsAllowed s)) where
     unfolding grants grantFrom
     no-grants = ap (λ (r : Request). grantFrom [] (freeTeids s m) (choices r)) (msg-request s hs p hp x hx) ∙ ap (grantFrom [] (freeTeids s m)) (no-choices s hs x hx)
 
-    header-long : 16 ≤ length msg
-    unfolding headerAllowed
-    header-long =
-        leb→le 16 (length msg) (and-left (leb 16 (length msg)) (firstOctetAllowed (octetAt msg 0))
-        (and-left (leb 16 (length msg) && firstOctetAllowed (octetAt msg 0)) (eqb (4 + numberAt 2 2 msg) (length msg)) (msg-allowed s hs p hp x hx)))
-
     pub restored-cause : (space : List ℕ) → replyCause (put 0 (replyTo s m msg (plain why.accepted)) space) ≡ 1
     unfolding replyTo
     restored-cause space =
-        reply-cause s msg (readRequest msg .seid) (plain why.accepted) (grants s m (readRequest msg)) space (ipv4-four s hs) (sequence-three msg header-long)
+        reply-cause s msg (readRequest msg .seid) (plain why.accepted) (grants s m (readRequest msg)) space (ipv4-four s hs) (sequence-three msg (header-long msg (msg-allowed s hs p hp x hx)))
         (le-trans (le-of-eq (ap₂ (λ (k : ℕ) (gs : List Grant). length (replyBody k s (readRequest msg .seid) (plain why.accepted) gs)) (msg-kind s hs p hp x hx) no-grants)) (body-short (readRequest msg .seid)))
 
 -- ---- one after the other

@@ -24,13 +24,14 @@ use Rattle.rules.specs.Reading.{readRequest}
 use Rattle.rules.specs.Grants.{grants}
 use Rattle.rules.specs.Stages.{Verdict, verdict}
 use Rattle.rules.specs.Reply.{replyBody, replySeid, reply}
-use Rattle.laws.proofs.ReplyLaws.{found, sequence-three, reply-cause}
+use Rattle.laws.proofs.HeaderLaws.{header-long}
+use Rattle.laws.proofs.ReplyLaws.{own-found, sequence-three, reply-cause}
 use Rattle.claim.proofs.ReplyLength.{reply-body-short, reply-short}
 use Rattle.octets.proofs.Put.{length-put}
 use Rattle.rules.specs.Serve.{Served, unserved, sessionsAfter, replyTo, answered, answer, serveSound, serve}
 use Rattle.rules.specs.Live.{replied, accepted, replyIn, replyCause}
 use Rattle.rules.specs.Causes as why
-use Rattle.claim.proofs.Steps.{AcceptedKeeps, one-kept, header-long}
+use Rattle.claim.proofs.Steps.{AcceptedKeeps, one-kept}
 use Rattle.claim.proofs.Accepting.{SoundAfter, accepting}
 use Rattle.claim.proofs.After.{sound-after}
 use Rattle.claim.proofs.Changed.{changed-sound}
@@ -171,9 +172,9 @@ module _ (limit : ℕ) (t msg space : List ℕ) (ho : T (octets msg)) where
   reply-found =
       serve-cases limit t msg space (λ (o : Served). T (eqb (o .outcome) 0) → replyIn (o .space) ≡ replyTo s m msg v)
       (λ n e h. absurd (subst T e h))
-      (λ b h. unfold answer answered replyTo reply in (
+      (λ b h. unfold answer answered replyTo in (
       let k = table-kept limit t (b .table) in
-      found (kindOf msg + 1) (replySeid (kindOf msg) (v .cause) (headerSeid msg) (readRequest msg .seid)) (sequenceOf msg) (replyBody (kindOf msg) s (readRequest msg .seid) v (grants s m (readRequest msg))) space
+      own-found s msg (readRequest msg .seid) v (grants s m (readRequest msg)) space
       (sequence-three msg (header-long msg (b .header))) (le-trans (reply-body-short limit s (k .settings) m msg ho) (lit≤ tt))))
 
   -- so it has at most 1,024 octets

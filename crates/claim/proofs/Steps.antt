@@ -4,7 +4,7 @@ use mathlib.Core.Path.{_≡_, refl, sym, ap, ap₂, _∙_, subst}
 use Prim.Native.Nat.{ℕ, _+_, _^_, _≤_, _<_, zero-le}
 use native.Mathlib.Nat.{le-of-eq}
 use native.Mathlib.Omega.{arith}
-use mathlib.Core.Bool.{Bool, true, false, not, _&&_}
+use mathlib.Core.Bool.{Bool, true, false, not, _&&_, _||_}
 use mathlib.Core.Option.{Option, none, some}
 use mathlib.Core.List.{List, [], _∷_, _++_}
 use lib.ListN.{length, length-append}
@@ -17,13 +17,14 @@ use Rattle.rules.specs.Model.{Settings, Sessions}
 use Rattle.rules.specs.Layout.{encode}
 use Rattle.laws.proofs.TableLaws.{ipv4-four, sound-encode, encoded-settings, sessions-back}
 use Rattle.rules.specs.Sound.{settingsAllowed, sessionsAllowed, sound}
-use Rattle.rules.specs.Message.{kindOf, headerSeid, headerAllowed, firstOctetAllowed, served, establishment}
+use Rattle.rules.specs.Message.{kindOf, headerSeid, headerAllowed, served, establishment, setDeletion}
 use Rattle.rules.specs.Reading.{readRequest}
 use Rattle.laws.proofs.MessageLaws.{length-one}
 use Rattle.rules.specs.Grants.{Grant, grants}
 use Rattle.rules.specs.Stages.{Verdict, verdict}
 use Rattle.rules.specs.Apply.{follow}
 use Rattle.rules.specs.Reply.{element, nodeIdElement, offendingElement, acceptedPart, replyBody}
+use Rattle.laws.proofs.HeaderLaws.{header-long}
 use Rattle.laws.proofs.ReplyLaws.{reply-cause, sequence-three}
 use Rattle.rules.specs.Serve.{Served, unserved, sessionsAfter, replyTo, answered, answer, serveSound, serve}
 use Rattle.rules.specs.Live.{replied, accepted, followEvent, liveStep, replyCause, createdTeid}
@@ -50,7 +51,7 @@ refusal-short k s n v gs four refused =
     let c = length-append cause (named ++ []) in
     let d = length-append named [] in
     let f = length-one ie.cause (v .cause ∷ []) in
-    let g : length node ≤ 9 = node-short (eqb k establishment) in
+    let g : length node ≤ 9 = node-short (eqb k establishment || eqb k setDeletion) in
     let h = offending-short (v .offending) in
     omega arith
   where
@@ -61,12 +62,6 @@ refusal-short k s n v gs four refused =
     offending-short : (o : Option ℕ) → length (offendingElement o) ≤ 6
     offending-short none = unfold offendingElement in zero-le
     offending-short (some t) = unfold offendingElement in (le-of-eq (length-one ie.offendingIe (be 2 t) ∙ ap (λ (k′ : ℕ). 4 + k′) (length-be 2 t)))
-
-pub header-long : (msg : List ℕ) → T (headerAllowed msg) → 16 ≤ length msg
-unfolding headerAllowed
-header-long msg h =
-    leb→le 16 (length msg) (and-left (leb 16 (length msg)) (firstOctetAllowed (octetAt msg 0))
-    (and-left (leb 16 (length msg) && firstOctetAllowed (octetAt msg 0)) (eqb (4 + numberAt 2 2 msg) (length msg)) h))
 
 -- ---- an accepted request
 

@@ -126,7 +126,7 @@ module _ {u : Unit} {t words msg slot gone plan out : List ℕ} {seid n : ℕ} (
           space = ap (λ (p : ℕ × List ℕ). p .1) w ∙ ap (λ (l : List ℕ). put 0 l out) same-reply;
           table =
               d ∙ ap₂ (λ (u v : List ℕ). withRecord tableArea u v) b (sym (kept .encoded))
-              ∙ changed-table s (kept .settings) m (kept .sessions) msg (a .asked .octets) (a .asked .kind) passes (a .other) seid (a .restoring) (a .noted) gone (rowsOf n plan′) slot means′ (a .removed) (a .entry) is-ready
+              ∙ changed-table s (kept .settings) m (kept .sessions) msg (a .asked .octets) (a .asked .kind) (a .asked .named) passes (a .other) seid (a .restoring) (a .noted) gone (rowsOf n plan′) slot means′ (a .removed) (a .entry) is-ready
               ∙ rw (a .verdict);
         }
 

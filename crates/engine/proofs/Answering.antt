@@ -1,7 +1,7 @@
 -- Stage 1: the session that a request names.
 -- Assumes nothing.
-use mathlib.Core.Path.{_≡_, sym, ap, ap₂, _∙_}
-use mathlib.Core.Bool.{Bool, true, false, not, _&&_}
+use mathlib.Core.Path.{_≡_, sym, ap, _∙_}
+use mathlib.Core.Bool.{Bool, true, false, not}
 use mathlib.Core.List.{List}
 use Prim.Native.Nat.{ℕ}
 use native.Mathlib.Omega.{arith}
@@ -9,8 +9,8 @@ use lib.Dec.{eqb}
 use Rattle.rules.specs.Limits.{maxSessions}
 use Rattle.rules.specs.Layout.{viewSettings, viewSessions}
 use Rattle.rules.specs.Model.{Sessions}
-use Rattle.rules.specs.Message.{kindOf, headerSeid, establishment, deletion}
-use Rattle.rules.specs.Stages.{Verdict, isLive, unknownSession}
+use Rattle.rules.specs.Message.{kindOf, headerSeid, establishment, deletion, setDeletion}
+use Rattle.rules.specs.Stages.{Verdict, isLive, unknownSession, unnamed}
 use Rattle.rules.specs.Causes as why
 use Rattle.areas.specs.Counted.{placeIn}
 use Rattle.session.specs.Areas.{tableArea}
@@ -23,12 +23,12 @@ use Rattle.engine.proofs.VerdictSteps.{no-session}
 use Rattle.engine.proofs.Entering.{live-found, live-absent, other-than}
 
 new-known : (m : Sessions) (msg : List ℕ) → kindOf msg ≡ establishment → unknownSession m msg ≡ false
-unfolding unknownSession
+unfolding unknownSession unnamed
 new-known m msg e = rw e
 
-unknown-is : (m : Sessions) (msg : List ℕ) (b : Bool) → (kindOf msg ≡ establishment → ⊥) → b ≡ isLive (headerSeid msg) m → unknownSession m msg ≡ not b
-unfolding unknownSession
-unknown-is m msg b o e = ap₂ (λ (x y : Bool). not x && not y) (other-than (kindOf msg) establishment o) (sym e)
+unknown-is : (m : Sessions) (msg : List ℕ) (b : Bool) → eqb (kindOf msg) setDeletion ≡ false → (kindOf msg ≡ establishment → ⊥) → b ≡ isLive (headerSeid msg) m → unknownSession m msg ≡ not b
+unfolding unknownSession unnamed
+unknown-is m msg b n o e = rw (other-than (kindOf msg) establishment o, n) (ap (λ (y : Bool). not y) (sym e))
 
 module _ {t msg out : List ℕ} {kind : ℕ} (a : Asked t msg out) (is : kind ≡ kindOf msg) where
   -- an establishment
@@ -45,11 +45,10 @@ module _ {t msg out : List ℕ} {kind : ℕ} (a : Asked t msg out) (is : kind �
     pub absent-refuses : (p : ℕ) → r ≡ Absent p → Refusing t msg out why.noSession Nothing
     absent-refuses p e =
         record {
-          asked = a;
           place = 0;
           verdict =
               no-session maxSessions (viewSettings t) (viewSessions t) msg
-              (unknown-is (viewSessions t) msg false (λ z. o (is ∙ z)) (live-absent t (a .table) (headerSeid msg) p r at-header e));
+              (unknown-is (viewSessions t) msg false (a .named) (λ z. o (is ∙ z)) (live-absent t (a .table) (headerSeid msg) p r at-header e));
           small = omega arith;
           other = λ z. omega arith;
         }
@@ -62,12 +61,12 @@ module _ {t msg out : List ℕ} {kind : ℕ} (a : Asked t msg out) (is : kind �
           placed =
               sym (ap (λ (v : Verdict). v .place)
               (no-session maxSessions (viewSettings t) (viewSessions t) msg
-              (unknown-is (viewSessions t) msg false (λ z. o (is ∙ z)) (live-absent t (a .table) (headerSeid msg) p r at-header e))));
+              (unknown-is (viewSessions t) msg false (a .named) (λ z. o (is ∙ z)) (live-absent t (a .table) (headerSeid msg) p r at-header e))));
         }
 
     module _ {p : ℕ} (e : r ≡ Found p) where
       pub named-live : Live t msg
-      named-live = unknown-is (viewSessions t) msg true (λ z. o (is ∙ z)) (live-found t (a .table) (headerSeid msg) p r at-header e)
+      named-live = unknown-is (viewSessions t) msg true (a .named) (λ z. o (is ∙ z)) (live-found t (a .table) (headerSeid msg) p r at-header e)
 
       -- a modification
       pub modifies : (kind ≡ deletion → ⊥) → Changing t msg out kind p

@@ -55,7 +55,7 @@ module _ {t msg out : List ℕ} {kind at : ℕ} (ch : Changing t msg out kind at
             let ec : causeOf (x .cause) ≡ c = cc in
             let ek : x .type ≡ k = cc in
             let ep : x .place ≡ p = cc in
-            not-read-refuses t msg out (ch .asked) (ch .live) f x e c k p ec ek ep
+            not-read-refuses t msg out (ch .live) f x e c k p ec ek ep
 
         by-frame : (f : Option Spot) → frameFault msg ≡ f → refused c k p ≡ fromFraming msg f → Faulted t msg out c k p
         by-frame none e h = by-read (read msg) refl e h
@@ -63,7 +63,7 @@ module _ {t msg out : List ℕ} {kind at : ℕ} (ch : Changing t msg out kind at
             let ec : c ≡ 68 = cc in
             let ek : k ≡ u .type = cc in
             let ep : p ≡ u .place = cc in
-            rw (ec, ek, ep) (not-framed-refuses t msg out (ch .asked) (ch .live) u e)
+            rw (ec, ek, ep) (not-framed-refuses t msg out (ch .live) u e)
 
     module _ {w : Plan} (q : r ≡ reading.Whole w) where
       is-whole : whole (requestIn (w .seid) (w .restoring) (w .noted) (rowsOf (w .rows) plan)) ≡ readingOf msg
@@ -98,7 +98,7 @@ module _ {t msg out : List ℕ} {kind at : ℕ} (ch : Changing t msg out kind at
       pub enter-asks : (slot : List ℕ) → w .seid < 2 ^ 64 → length slot ≡ sessionWidth → Entering t msg slot kind (w .seid) at
       unfolding requestIn
       enter-asks slot f l =
-          record { table = ch .asked .table; tableLong = ch .asked .tableLong; kindIs = ch .kindIs; new = λ e. sym (ap (λ (x : Request). x .seid) is-read); fits = f; found = ch .found; long = l }
+          record { table = ch .asked .table; tableLong = ch .asked .tableLong; kindIs = ch .kindIs; named = ch .asked .named; new = λ e. sym (ap (λ (x : Request). x .seid) is-read); fits = f; found = ch .found; long = l }
 
 -- stages 4 to 6 have no place
 pub replies-judged : {t msg out plan : List ℕ} {kind seid n used : ℕ} {restoring noted : Bool} {out′ t′ : List ℕ} → Readable t msg out plan kind seid n restoring noted → Answers t msg out used out′ t′ → Replies t msg out used 0 out′ t′

@@ -13,7 +13,6 @@ use Rattle.rules.specs.Limits.{maxSessions, maxPdrs, maxEndpoints}
 use Rattle.rules.specs.Model.{Settings, Sessions}
 use Rattle.rules.specs.Layout.{viewSettings, viewSessions}
 use Rattle.rules.specs.Message.{kindOf, headerSeid, frameFault, establishment, deletion}
-use Rattle.rules.specs.Reading as reading
 use Rattle.rules.specs.Reading.{readFault, readRequest}
 use Rattle.rules.specs.Stages.{Verdict, plain, entrySession, judged, unknownSession}
 use Rattle.rules.specs.Reply.{reply}
@@ -28,16 +27,13 @@ use Rattle.writing.specs.Placed.{written}
 use Rattle.frame.specs.Framed.{faultIn}
 use Rattle.frame.specs.declared.Framing.{Framing}
 use Rattle.frame.specs.declared.Framing.the-variants as framings
-use Rattle.reading.specs.Verdicts.{numbered, outcome}
-use Rattle.reading.specs.declared.Verdict as read
-use Rattle.reading.specs.declared.Verdict.the-variants.{Fine}
-use Rattle.engine.proofs.Faults.{framed, read-fine}
+use Rattle.engine.proofs.Faults.{framed}
 use Rattle.engine.specs.Answers.{Asked, Live, verdictOn, Answers, Replies}
 use Rattle.engine.proofs.VerdictSteps.{read-through}
-use Rattle.engine.proofs.Deleting.{deletion-empty, no-grants, accepted-empty}
+use Rattle.engine.proofs.Deleting.{deletion-fine, deletion-empty, no-grants, accepted-empty}
 use Rattle.engine.proofs.NewTable.{deleted-table}
 
-module _ (t msg out : List ℕ) (a : Asked t msg out) (live : Live t msg) (fr : frameFault msg ≡ none) (rd : readFault msg ≡ none) where
+module _ (t msg out : List ℕ) (a : Asked t msg out) (live : Live t msg) (fr : frameFault msg ≡ none) where
   abbrev s : Settings
   s = viewSettings t
 
@@ -51,10 +47,13 @@ module _ (t msg out : List ℕ) (a : Asked t msg out) (live : Live t msg) (fr : 
   known = subst (λ (b : Bool). T (not b)) (sym live) tt
 
   module _ (del : kindOf msg ≡ deletion) where
+    rd : readFault msg ≡ none
+    rd = deletion-fine msg del
+
     accepts : verdictOn t msg ≡ plain why.accepted
     unfolding judged
     accepts =
-        let k = entry-known maxSessions s m msg (kept .sessions) (a .octets) known rd .kept in
+        let k = entry-known maxSessions s m msg (kept .sessions) (a .octets) (subst (λ (b : Bool). T (not b)) (sym (a .named)) tt) known rd .kept in
         read-through maxSessions s m msg live fr rd
         ∙ accepted-empty s m (entrySession m msg) (readRequest msg) (deletion-empty msg del) maxSessions (kindOf msg) (ap (λ (n : ℕ). eqb n establishment) del)
         (leb→le (length (entrySession m msg .pdrs)) maxPdrs (k .fewPdrs)) (leb→le (length (entrySession m msg .endpoints)) maxEndpoints (k .fewEndpoints))
@@ -72,15 +71,14 @@ module _ (t msg out : List ℕ) (a : Asked t msg out) (live : Live t msg) (fr : 
           long = ap (λ (p : ℕ × List ℕ). p .0) w ∙ ap length same-reply;
           space = ap (λ (p : ℕ × List ℕ). p .1) w ∙ ap (λ (l : List ℕ). put 0 l out) same-reply;
           table = d ∙ ap₂ (λ (n : ℕ) (l : List ℕ). withoutRecord tableArea n l) es (sym (kept .encoded))
-              ∙ deleted-table s (kept .settings) m (kept .sessions) msg (a .octets) (a .kind) (passed maxSessions s m msg (ap (λ (v : Verdict). v .cause) accepts)) (eq-eqb (kindOf msg) deletion del)
+              ∙ deleted-table s (kept .settings) m (kept .sessions) msg (a .octets) (a .kind) (a .named) (passed maxSessions s m msg (ap (λ (v : Verdict). v .cause) accepts)) (eq-eqb (kindOf msg) deletion del)
               ∙ rw accepts;
         }
 
 -- from what the code's readers answer
-pub deleted-through : (s : Settings) (t msg out : List ℕ) (f : Framing) (v : read.Verdict) (seid used : ℕ) (out′ t′ : List ℕ) → Asked t msg out → Live t msg → kindOf msg ≡ deletion → seid ≡ headerSeid msg → s ≡ viewSettings t
-    → faultIn f ≡ frameFault msg → f ≡ framings.Framed → outcome v (readRequest msg) ≡ numbered (reading.read msg) → v ≡ Fine
+pub deleted-through : (s : Settings) (t msg out : List ℕ) (f : Framing) (seid used : ℕ) (out′ t′ : List ℕ) → Asked t msg out → Live t msg → kindOf msg ≡ deletion → seid ≡ headerSeid msg → s ≡ viewSettings t
+    → faultIn f ≡ frameFault msg → f ≡ framings.Framed
     → (used, out′) ≡ written (reply s msg 0 (plain why.accepted) []) out → t′ ≡ withoutRecord tableArea seid t → Replies t msg out used 0 out′ t′
-deleted-through s t msg out f v seid used out′ t′ a live del es is fe fq ve vq w d =
-    let fr = framed t msg out a live f fe fq in
-    let rd = read-fine t msg out a live v ve vq in
-    record { answers = deleted-answers t msg out a live fr rd del seid used out′ t′ es (rw is at w) d; placed = sym (ap (λ (x : Verdict). x .place) (accepts t msg out a live fr rd del)) }
+deleted-through s t msg out f seid used out′ t′ a live del es is fe fq w d =
+    let fr = framed t msg out live f fe fq in
+    record { answers = deleted-answers t msg out a live fr del seid used out′ t′ es (rw is at w) d; placed = sym (ap (λ (x : Verdict). x .place) (accepts t msg out a live fr del)) }

@@ -1,22 +1,22 @@
--- A deletion of a live session without a fault is accepted: it has no records of its own, so no rule can be broken and nothing be short.
+-- A deletion of a live session, and a set deletion, without a fault is accepted: it has no records of its own, so no rule can be broken and nothing
+-- be short.
 -- Assumes nothing.
 use mathlib.Core.Path.{_≡_, refl, ap}
 use mathlib.Core.Bool.{Bool, true, false, not, _&&_, _||_}
+use mathlib.Core.Option.{none}
 use mathlib.Core.List.{List, [], _∷_}
 use Prim.Native.Nat.{ℕ, _+_, _-_, _≤_}
 use native.Mathlib.Omega.{arith}
-use borrow.Author.Tests.{le-ltb, eqb-true}
+use borrow.Author.Tests.{le-ltb}
 use lib.Dec.{eqb, ltb}
 use lib.ListN.{length}
 use Rattle.octets.specs.Choice.{pick}
 use Rattle.octets.specs.Lists.{member, any, collect, anyIn, allIn, hasRepeat, allPairs}
-use Rattle.octets.proofs.Tests.{pick-either}
 use Rattle.rules.specs.Limits.{maxPdrs, maxEndpoints}
 use Rattle.rules.specs.Model.{Settings, Session, Sessions, freeCount}
-use Rattle.rules.specs.Elements.{incorrect, Fqcsid, readFqcsid, nodeOf}
-use Rattle.rules.specs.Message.{Element, kindOf, body, bodyPlace, elements, actedOn, establishment, deletion}
-use Rattle.rules.specs.Reading.{Request, Reading, faulty, done, refusal, andThen, named, Draft, emptyDraft, csidCountAllowed, withCsid, csidRead, actedRead, elementRead, elementsRead, requestOf, finished, aloneIn, topRead, read, askedIn, readRequest}
-use Rattle.laws.proofs.ReadLaws.{OnDone, then-done}
+use Rattle.rules.specs.Elements.{Fqcsid}
+use Rattle.rules.specs.Message.{Element, kindOf, headerLength, body, elements, actedOn, establishment, deletion}
+use Rattle.rules.specs.Reading.{Request, done, Draft, emptyDraft, elementRead, elementsRead, requestOf, finished, aloneIn, sessionRead, topRead, read, faultIn, readFault, askedIn, readRequest, listing}
 use Rattle.rules.specs.Grants.{choices, needFrom, need, grantFrom, grants}
 use Rattle.rules.specs.Stages.{plain, fteidsOf, invalidAllocation, createdPdrs, createdEndpoints, updatedPdrs, idTwice, createdLive, absentId, removedPdrs, updatesRemoved, namesAbsent, restoredHoldings, clash, requestRules, brokenRules, breaksRule, tooManySessions, tooManyPdrs, tooManyEndpoints, tooFewTeids, noRoom, judge}
 use Rattle.rules.specs.Causes as why
@@ -31,42 +31,29 @@ pub record Empty (r : Request) : Type 0 where
   pub goneEndpoints : r .goneEndpoints ≡ []
   pub unsupported : r .unsupported ≡ false
 
--- FQ-CSIDs alone are acted on in a deletion, and they are checked and otherwise unused
-abbrev NoItems : Draft → Type 0
-NoItems d = d .items ≡ []
+-- a deletion acts on no element
+unread : (alone : Bool) (es : List Element) (d : Draft) → elementsRead deletion alone es d ≡ done d
+unfolding elementsRead elementRead actedOn member
+unread alone [] d = refl
+unread alone (e ∷ es) d = unread alone es d
 
-csid-unused : (alone : Bool) (p : ℕ) (v : List ℕ) (d : Draft) → NoItems d → OnDone NoItems (csidRead deletion alone p v d)
-unfolding csidRead withCsid readFqcsid
-csid-unused alone p [] d h = tt
-csid-unused alone p (x ∷ xs) d h = one (named 65 p (readFqcsid (x ∷ xs)))
-  where
-    one : (r : Reading Fqcsid) → OnDone NoItems (andThen r (λ c. pick (csidCountAllowed deletion c && not (member (nodeOf c) (d .nodes))) (done (withCsid deletion c d)) (refusal incorrect 65 p)))
-    one (faulty f) = tt
-    one (done c) = pick-either (OnDone NoItems) (csidCountAllowed deletion c && not (member (nodeOf c) (d .nodes))) (done (withCsid deletion c d)) (refusal incorrect 65 p) h tt
+pub deletion-read : (msg : List ℕ) → kindOf msg ≡ deletion → read msg ≡ done (requestOf 0 emptyDraft)
+unfolding read topRead sessionRead finished
+deletion-read msg e = let es = elements (headerLength msg) (body msg) in rw (e, unread (aloneIn es) es emptyDraft)
 
-unused : (alone : Bool) (es : List Element) (d : Draft) → NoItems d → OnDone NoItems (elementsRead deletion alone es d)
-unfolding elementsRead elementRead actedOn member actedRead
-unused alone [] d h = h
-unused alone (e ∷ es) d h =
-    then-done NoItems NoItems (elementRead deletion alone e d) (elementsRead deletion alone es) (one (eqb (e .type) 65) refl) (λ d′ h′. unused alone es d′ h′)
-  where
-    one : (b : Bool) → eqb (e .type) 65 ≡ b → OnDone NoItems (pick (b || false) (actedRead deletion alone (e .type) (e .place) (e .content) d) (done d))
-    one true q = rw (eqb-true (e .type) 65 q) (csid-unused alone (e .place) (e .content) d h)
-    one false q = h
-
-empty-of : (d : Draft) → NoItems d → Empty (requestOf 0 d)
-unfolding requestOf collect any
-empty-of d h = rw h (record { seid = refl; pdrs = refl; endpoints = refl; changes = refl; gonePdrs = refl; goneEndpoints = refl; unsupported = refl })
-
--- so a deletion has no records
-asked-empty : (r : Reading Draft) → OnDone NoItems r → Empty (askedIn (andThen r (finished deletion)))
-unfolding askedIn finished
-asked-empty (faulty f) h = empty-of emptyDraft refl
-asked-empty (done d) h = empty-of d h
+-- so it has no fault and no records
+pub deletion-fine : (msg : List ℕ) → kindOf msg ≡ deletion → readFault msg ≡ none
+unfolding readFault faultIn
+deletion-fine msg e = rw (deletion-read msg e)
 
 pub deletion-empty : (msg : List ℕ) → kindOf msg ≡ deletion → Empty (readRequest msg)
-unfolding readRequest read topRead
-deletion-empty msg e = let es = elements bodyPlace (body msg) in rw e (asked-empty (elementsRead deletion (aloneIn es) es emptyDraft) (unused (aloneIn es) es emptyDraft refl))
+unfolding readRequest askedIn requestOf collect any
+deletion-empty msg e = rw (deletion-read msg e) (record { seid = refl; pdrs = refl; endpoints = refl; changes = refl; gonePdrs = refl; goneEndpoints = refl; unsupported = refl })
+
+-- and neither has what a set deletion lists
+pub listing-empty : (cs : List Fqcsid) → Empty (listing cs)
+unfolding listing
+listing-empty cs = record { seid = refl; pdrs = refl; endpoints = refl; changes = refl; gonePdrs = refl; goneEndpoints = refl; unsupported = refl }
 
 -- with no records no rule is broken and nothing is short
 module _ (s : Settings) (m : Sessions) (x : Session) (r : Request) (e : Empty r) where

@@ -19,9 +19,9 @@ use Rattle.rules.specs.Limits.{maxSessions}
 use Rattle.rules.specs.Model.{Settings, Session, Sessions}
 use Rattle.rules.specs.Layout.{sessionOctets, encode, viewSession, viewArea, viewSettings, viewSessions, pdrWidth, endpointWidth, csidWidth, sessionWidth, tableLength}
 use Rattle.rules.specs.Sound.{sound, sessionAllowed, sessionsTests, sessionsAllowed}
-use Rattle.rules.specs.Message.{kindOf, headerSeid, establishment}
+use Rattle.rules.specs.Message.{kindOf, headerSeid, establishment, setDeletion}
 use Rattle.rules.specs.Reading.{readRequest}
-use Rattle.rules.specs.Stages.{hasSeid, sessionOf, isLive, newSession, atEntry, entrySession}
+use Rattle.rules.specs.Stages.{hasSeid, sessionOf, isLive, newSession, atEntry, entrySession, unnamed}
 use Rattle.laws.proofs.LayoutLaws.{session-back}
 use Rattle.claim.proofs.ServeLaws.{TableKept, table-kept}
 use Rattle.slots.specs.declared.Place.{Place}
@@ -37,6 +37,7 @@ pub record Entering (t msg slot : List ℕ) (kind seid p : ℕ) : Type 0 where
   pub table : T (sound maxSessions t)
   pub tableLong : length t ≡ tableLength maxSessions
   pub kindIs : kind ≡ kindOf msg
+  pub named : eqb (kindOf msg) setDeletion ≡ false
   pub new : kind ≡ establishment → seid ≡ readRequest msg .seid
   pub fits : seid < 2 ^ 64
   pub found : (kind ≡ establishment → ⊥) → placeIn tableArea (headerSeid msg) t ≡ Found p
@@ -72,7 +73,7 @@ module _ (t : List ℕ) (h : T (sound maxSessions t)) where
   live-allowed n x e = found-knows (λ (y : Session). T (sessionAllowed s y)) (hasSeid n) m x (all-every (sessionAllowed s) m each-allowed) e
 
 new-entry : (m : Sessions) (msg : List ℕ) → kindOf msg ≡ establishment → entrySession m msg ≡ newSession (readRequest msg .seid)
-unfolding entrySession atEntry
+unfolding entrySession atEntry unnamed
 new-entry m msg e = rw e
 
 pub other-than : (k n : ℕ) → (k ≡ n → ⊥) → eqb k n ≡ false
@@ -82,9 +83,9 @@ other-than k n h = go (eqb k n) refl
     go true e = absurd (h (eqb-true k n e))
     go false e = refl
 
-live-entry : (m : Sessions) (msg : List ℕ) (x : Session) → (kindOf msg ≡ establishment → ⊥) → sessionOf (headerSeid msg) m ≡ some x → entrySession m msg ≡ x
-unfolding entrySession atEntry
-live-entry m msg x h e = rw (other-than (kindOf msg) establishment h, e)
+live-entry : (m : Sessions) (msg : List ℕ) (x : Session) → eqb (kindOf msg) setDeletion ≡ false → (kindOf msg ≡ establishment → ⊥) → sessionOf (headerSeid msg) m ≡ some x → entrySession m msg ≡ x
+unfolding entrySession atEntry unnamed
+live-entry m msg x n h e = rw (other-than (kindOf msg) establishment h, n, e)
 
 new-viewed : (n : ℕ) → n < 2 ^ 64 → viewSession (sessionOctets (newSession n)) ≡ newSession n
 unfolding newSession sessionOctets viewSession viewArea numberAt octetAt be slices
@@ -124,7 +125,7 @@ module _ (t msg slot : List ℕ) (kind seid p : ℕ) (a : Entering t msg slot ki
   allowed = live-allowed t sound-table (headerSeid msg) x (found .1)
 
   is-entry : x ≡ entrySession (viewSessions t) msg
-  is-entry = sym (live-entry (viewSessions t) msg x (λ e. other (a .kindIs ∙ e)) (found .1))
+  is-entry = sym (live-entry (viewSessions t) msg x (a .named) (λ e. other (a .kindIs ∙ e)) (found .1))
 
   entered-live : (live : Bool) (slot′ : List ℕ) → slot′ ≡ part (p * sessionWidth) sessionWidth (areaIn tableArea t) → length slot′ ≡ sessionWidth → Entered t msg kind seid live slot′
   unfolding x

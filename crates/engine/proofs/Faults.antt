@@ -19,7 +19,7 @@ use Rattle.reading.specs.Verdicts.{stopped, got, numbered, outcome}
 use Rattle.reading.specs.declared.Verdict.{Verdict}
 use Rattle.reading.specs.declared.Verdict.the-variants.{Fine, Refused}
 use Rattle.reply.specs.declared.Offending.the-variants.{Element}
-use Rattle.engine.specs.Answers.{Asked, Live, verdictOn, Answers, Replies, Refusing}
+use Rattle.engine.specs.Answers.{Live, verdictOn, Answers, Replies, Refusing}
 use Rattle.engine.proofs.VerdictSteps.{not-framed, not-read}
 
 -- a refusal's cause is one octet and not 1
@@ -39,10 +39,10 @@ pub record Faulted (t msg out : List ℕ) (c k p : ℕ) : Type 0 where
 pub replies-fault : {t msg out : List ℕ} {c k p used : ℕ} {out′ : List ℕ} → Faulted t msg out c k p → Answers t msg out used out′ t → Replies t msg out used p out′ t
 replies-fault f a = record { answers = a; placed = f .placed }
 
-module _ (t msg out : List ℕ) (a : Asked t msg out) (live : Live t msg) where
+module _ (t msg out : List ℕ) (live : Live t msg) where
   faulted : (c k p : ℕ) → verdictOn t msg ≡ record { cause = c; offending = some k; place = p } → c < 256 → (c ≡ 1 → ⊥) → Faulted t msg out c k p
   faulted c k p e small other =
-      record { refusing = record { asked = a; place = p; verdict = e; small = small; other = other }; placed = sym (ap (λ (v : rules.Verdict). v .place) e) }
+      record { refusing = record { place = p; verdict = e; small = small; other = other }; placed = sym (ap (λ (v : rules.Verdict). v .place) e) }
 
   -- stage 2
   pub not-framed-refuses : (f : Spot) → frameFault msg ≡ some f → Faulted t msg out why.wrongLength (f .type) (f .place)

@@ -5,6 +5,7 @@ pub mod Refusals
 pub mod Deleting
 pub mod Faults
 pub mod Deleted
+pub mod Listing
 pub mod Granting
 pub mod Acceptance
 pub mod Entering

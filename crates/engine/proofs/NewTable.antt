@@ -15,7 +15,7 @@ use Rattle.rules.specs.Model.{Settings, Session, Sessions, Pdr, Endpoint, Csid,
 use Rattle.rules.specs.Elements.{nodeTypeKept}
 use Rattle.rules.specs.Layout.{sessionOctets, encode}
 use Rattle.rules.specs.Sound.{settingsAllowed, sessionAllowed, sessionsAllowed, pdrAllowed, endpointAllowed, csidAllowed}
-use Rattle.rules.specs.Message.{kindOf, headerSeid, served, deletion}
+use Rattle.rules.specs.Message.{kindOf, headerSeid, served, deletion, setDeletion}
 use Rattle.rules.specs.Reading.{readRequest, Request}
 use Rattle.rules.specs.Grants.{Kind, grants, grantedTeid}
 use Rattle.rules.specs.Stages.{entrySession, removedPdrs}
@@ -74,16 +74,19 @@ slot-holds s x slot k e =
     }
 
 module _ (s : Settings) (hs : T (settingsAllowed s)) (m : Sessions) (hm : T (sessionsAllowed maxSessions s m)) (msg : List ℕ) (ho : T (octets msg)) (hk : T (served (kindOf msg)))
-    (p : Passed maxSessions s m msg) where
+    (ns : eqb (kindOf msg) setDeletion ≡ false) (p : Passed maxSessions s m msg) where
   -- a deletion
   pub deleted-table : eqb (kindOf msg) deletion ≡ true → withoutRecord tableArea (headerSeid msg) (encode maxSessions s m) ≡ encode maxSessions s (sessionsAfter s m msg)
   unfolding sessionsAfter follow
-  deleted-table e = session-removed s hs m hm (headerSeid msg) ∙ ap (encode maxSessions s) (rw e)
+  deleted-table e = session-removed s hs m hm (headerSeid msg) ∙ ap (encode maxSessions s) (rw (ns, e))
 
   -- an establishment or a modification
   module _ (other : eqb (kindOf msg) deletion ≡ false) where
     not-deletion : T (not (eqb (kindOf msg) deletion))
     not-deletion = subst (λ (b : Bool). T (not b)) (sym other) tt
+
+    not-sets : T (not (eqb (kindOf msg) setDeletion))
+    not-sets = subst (λ (b : Bool). T (not b)) (sym ns) tt
 
     abbrev teids : Kind → ℕ → ℕ
     teids = grantedTeid (grants s m (readRequest msg))
@@ -93,11 +96,11 @@ module _ (s : Settings) (hs : T (settingsAllowed s)) (m : Sessions) (hm : T (ses
 
     after-is : sessionsAfter s m msg ≡ putSession new m
     unfolding sessionsAfter follow entrySession
-    after-is = rw other
+    after-is = rw (ns, other)
 
     new-allowed : T (sessionAllowed s new)
     unfolding changed ChangedSound
-    new-allowed = changed-sound maxSessions s m msg hs hm ho hk not-deletion p .sound
+    new-allowed = changed-sound maxSessions s m msg hs hm ho hk not-sets not-deletion p .sound
 
     few-after : length (putSession new m) ≤ maxSessions
     unfolding SoundAfter
@@ -109,7 +112,7 @@ module _ (s : Settings) (hs : T (settingsAllowed s)) (m : Sessions) (hm : T (ses
         → gone ≡ removedPdrs (readRequest msg) (entrySession m msg .pdrs) → slot ≡ sessionOctets (entrySession m msg)
         → Ready teids gone rows (entrySession m msg) → withRecord tableArea (built gone rows slot) (encode maxSessions s m) ≡ encode maxSessions s (sessionsAfter s m msg)
     changed-table seid restoring noted gone rows slot means g e ready =
-        let holds = slot-holds s (entrySession m msg) slot (entry-sound maxSessions s m msg hm ho p .kept) e in
+        let holds = slot-holds s (entrySession m msg) slot (entry-sound maxSessions s m msg hm ho not-sets p .kept) e in
         let g′ : gone ≡ removedPdrs (requestIn seid restoring noted rows) (entrySession m msg .pdrs) = g ∙ ap (λ (q : Request). removedPdrs q (entrySession m msg .pdrs)) means in
         let b : built gone rows slot ≡ sessionOctets new = built-session teids gone rows holds ready seid restoring noted g′ .octets ∙ ap (λ (q : Request). sessionOctets (apply teids q (entrySession m msg))) (sym means) in
         ap (λ (l : List ℕ). withRecord tableArea l (encode maxSessions s m)) b ∙ session-saved s hs m hm new new-allowed few-after ∙ ap (encode maxSessions s) (sym after-is)

@@ -16,14 +16,15 @@ use Rattle.rules.specs.Limits.{maxSessions, mapWords, maxMessage, minSpace}
 use Rattle.rules.specs.Model.{heldTeids, freeCount}
 use Rattle.rules.specs.Layout.{viewSettings, viewSessions, tableLength, headWidth, sessionWidth}
 use Rattle.rules.specs.Sound.{sound}
-use Rattle.rules.specs.Message.{kindOf, headerSeid, headerAllowed, served, establishment, modification, deletion}
+use Rattle.rules.specs.Message.{kindOf, headerSeid, served, establishment, modification, deletion, setDeletion}
 use Rattle.rules.specs.Serve.{unserved, replyTo, answered, answer, serveSound, serve}
 use Rattle.claim.proofs.ServeLaws.{table-kept}
-use Rattle.frame.specs.HeaderOf.{outcome, request, opened, headerOf}
+use Rattle.frame.specs.HeaderOf.{outcome, request, sets, opened, headerOf}
 use Rattle.frame.specs.declared.header.Header.{Header}
-use Rattle.frame.specs.declared.header.Header.the-variants.{Request}
-use Rattle.frame.proofs.HeaderLaws.{request-bounds}
-use Rattle.frame.proofs.ServeLaws.{request-is, header-outcome, header-request}
+use Rattle.frame.specs.declared.header.Header.the-variants.{Request, Sets}
+use Rattle.laws.proofs.HeaderLaws.{seid-there, seid-absent, long-there, long-absent}
+use Rattle.frame.proofs.HeaderLaws.{Opens, request-opens, sets-opens, request-is, sets-is}
+use Rattle.frame.proofs.ServeLaws.{header-outcome, header-answered}
 use Rattle.marking.specs.declared.Marks.{Marks}
 use Rattle.marking.specs.declared.Marks.the-variants.{Clash, New}
 use Rattle.table.specs.Answers.{Examined}
@@ -31,28 +32,19 @@ use Rattle.table.proofs.Examining.{sound-no, sound-yes}
 use Rattle.unit.specs.declared.Settings.{Settings as Unit}
 use Rattle.unit.specs.Meaning.{settingsOf}
 use Rattle.unit.proofs.FieldLaws.{size-is}
-use Rattle.engine.specs.Answers.{Asked, Replies, verdictOn}
+use Rattle.engine.specs.Answers.{Asked, AskedList, Replies, verdictOn}
 use Rattle.engine.specs.Steps.{Counted, Serves}
-
--- the header of a request is allowed
-allowed-header : (msg : List ℕ) (k n : ℕ) → request k n ≡ headerOf msg → headerAllowed msg ≡ true
-unfolding headerOf
-allowed-header msg k n = by-tests (ltb maxMessage (length msg)) (headerAllowed msg) (served (kindOf msg))
-  where
-    by-tests : (a b c : Bool) → request k n ≡ pick a (outcome 3) (pick (not b) (outcome 4) (pick (not c) (outcome 5) (request (kindOf msg) (headerSeid msg)))) → b ≡ true
-    by-tests true b c h = let z : _≡_ {A = ℕ} 0 1 = cc in absurd (omega arith)
-    by-tests false false c h = let z : _≡_ {A = ℕ} 0 1 = cc in absurd (omega arith)
-    by-tests false true c h = refl
 
 small-kind : (k : ℕ) → served k ≡ true → k < 255
 unfolding served
-small-kind k = go (eqb k establishment) (eqb k modification) (eqb k deletion) refl refl refl
+small-kind k = go (eqb k establishment) (eqb k modification) (eqb k deletion) (eqb k setDeletion) refl refl refl refl
   where
-    go : (a b c : Bool) → eqb k establishment ≡ a → eqb k modification ≡ b → eqb k deletion ≡ c → (a || b || c) ≡ true → k < 255
-    go true b c x y z h = let e = eqb-true k establishment x in omega arith
-    go false true c x y z h = let e = eqb-true k modification y in omega arith
-    go false false true x y z h = let e = eqb-true k deletion z in omega arith
-    go false false false x y z h = absurd (subst T (sym h) tt)
+    go : (a b c d : Bool) → eqb k establishment ≡ a → eqb k modification ≡ b → eqb k deletion ≡ c → eqb k setDeletion ≡ d → (a || b || c || d) ≡ true → k < 255
+    go true b c d x y z w h = let e = eqb-true k establishment x in omega arith
+    go false true c d x y z w h = let e = eqb-true k modification y in omega arith
+    go false false true d x y z w h = let e = eqb-true k deletion z in omega arith
+    go false false false true x y z w h = let e = eqb-true k setDeletion w in omega arith
+    go false false false false x y z w h = absurd (subst T (sym h) tt)
 
 -- an outcome without a reply
 module _ (t msg out : List ℕ) where
@@ -87,11 +79,39 @@ module _ (t msg out : List ℕ) where
       unfolding serveSound
       serves-small l a = without-reply 2 refl (after-sound ∙ rw (lt-ltb (length out) minSpace l)) a
 
+      -- the reply to a request that is answered
+      answers-through : 1024 ≤ length out → {used place : ℕ} {out′ t′ : List ℕ} → Opens msg → Replies t msg out used place out′ t′ → Serves t msg out 0 used place out′ t′
+      unfolding answer answered
+      answers-through room o r =
+          let a = r .answers in
+          record {
+            served = (λ i. record { outcome = 0; place = r .placed i; space = a .space i; table = a .table i }) ∙ sym (after-sound ∙ header-answered msg maxSessions (viewSettings t) (viewSessions t) t out room o);
+            long = a .long;
+          }
+
       module _ (room : 1024 ≤ length out) {h : Header} (is : opened h ≡ headerOf msg) where
         -- outcomes 3, 4 and 5
         pub serves-outcome : {o u p : ℕ} (g : Header) (n : ℕ) → eqb n 0 ≡ false → opened g ≡ outcome n → h ≡ g → (o ≡ n) × (u ≡ 0) × (p ≡ 0) → Serves t msg out o u p out t
         serves-outcome g n z q d a =
             without-reply n z (after-sound ∙ header-outcome msg maxSessions (viewSettings t) (viewSessions t) t out room n (sym q ∙ sym (ap opened d) ∙ is)) a
+
+        module _ (d : h ≡ Sets) where
+          is-sets : sets ≡ headerOf msg
+          is-sets = sym (ap opened d) ∙ is
+
+          pub asks-list : AskedList t msg out
+          asks-list =
+              let o = sets-opens msg is-sets in
+              let k = sets-is msg is-sets in
+              record {
+                table = record { sound = of-true is-sound; long = table-kept maxSessions t (of-true is-sound) .whole };
+                space = room;
+                short = o .short;
+                list = record { long = long-absent msg (o .header) k; seid = seid-absent msg (o .header) k; kind = k };
+              }
+
+          pub serves-list : {used place : ℕ} {out′ t′ : List ℕ} → Replies t msg out used place out′ t′ → Serves t msg out 0 used place out′ t′
+          serves-list r = answers-through room (sets-opens msg is-sets) r
 
         module _ {kind seid : ℕ} (d : h ≡ Request kind seid) where
           is-request : request kind seid ≡ headerOf msg
@@ -100,17 +120,19 @@ module _ (t msg out : List ℕ) where
           pub asks : T (octets msg) → Asked t msg out
           asks o =
               let q = request-is msg kind seid is-request in
-              let b = request-bounds msg kind seid is-request in
+              let b = request-opens msg kind seid is-request in
+              let ns : T (not (eqb (kindOf msg) setDeletion)) = subst (λ (c : Bool). T (not c)) (sym (q .2)) tt in
               record {
                 table = of-true is-sound;
                 space = room;
-                short = b .1;
-                header = of-true (allowed-header msg kind seid is-request);
-                kind = of-true (q .2);
+                short = b .short;
+                header = b .header;
+                kind = of-true (b .kind);
                 octets = o;
                 tableLong = (table-kept maxSessions t (of-true is-sound) .whole);
-                whole = b .0;
-                below = small-kind (kindOf msg) (q .2);
+                seid = record { long = long-there msg (b .header) ns; seid = seid-there msg (b .header) ns };
+                named = q .2;
+                below = small-kind (kindOf msg) (b .kind);
               }
 
           pub kind-is : kind ≡ kindOf msg
@@ -120,13 +142,7 @@ module _ (t msg out : List ℕ) where
           seid-is = request-is msg kind seid is-request .1
 
           pub serves-answer : {used place : ℕ} {out′ t′ : List ℕ} → Replies t msg out used place out′ t′ → Serves t msg out 0 used place out′ t′
-          unfolding answer answered
-          serves-answer r =
-              let a = r .answers in
-              record {
-                served = (λ i. record { outcome = 0; place = r .placed i; space = a .space i; table = a .table i }) ∙ sym (after-sound ∙ header-request msg maxSessions (viewSettings t) (viewSessions t) t out room kind seid is-request);
-                long = a .long;
-              }
+          serves-answer r = answers-through room (request-opens msg kind seid is-request) r
 
       pub counts : {u : Unit} → length w ≡ mapWords → settingsOf u ≡ viewSettings t → Counted u t w (u .size - held)
       unfolding freeCount

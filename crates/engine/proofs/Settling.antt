@@ -91,7 +91,6 @@ module _ {u : Unit} {t msg out plan words slot gone : List ℕ} {kind seid n fre
   pub settle-refuses : (c : ℕ) → c ≡ judgement .cause → (c ≡ 1 → ⊥) → Refusing t msg out c Nothing
   settle-refuses c q o =
       record {
-        asked = r .asked;
         place = 0;
         verdict = same-verdict c q;
         small = subst (λ (z : ℕ). z < 256) (sym q) (judge-small maxSessions kind (settingsOf u) (viewSessions t) (viewSession slot) (requestIn seid restoring noted (rowsOf n plan)));

@@ -12,7 +12,7 @@ use Rattle.octets.specs.Lists.{any, collect}
 use Rattle.rules.specs.Limits.{maxSessions, maxPool, mapWords, maxMessage, minSpace}
 use Rattle.rules.specs.Layout.{sessionOctets, encode, viewSettings, viewSessions, sessionWidth, tableLength}
 use Rattle.rules.specs.Sound.{sound, takenMap}
-use Rattle.rules.specs.Message.{kindOf, headerAllowed, served, deletion}
+use Rattle.rules.specs.Message.{kindOf, headerAllowed, served, deletion, setDeletion}
 use Rattle.rules.specs.Reading.{readRequest}
 use Rattle.rules.specs.Stages.{removedPdrs, Verdict, plain, entrySession, unknownSession, verdict}
 use Rattle.rules.specs.Serve.{sessionsAfter, replyTo}
@@ -23,8 +23,10 @@ use Rattle.unit.specs.declared.Settings.{Settings as Unit}
 use Rattle.unit.specs.Meaning.{settingsOf}
 use Rattle.reply.specs.declared.Offending.{Offending}
 use Rattle.reply.specs.Naming.{refusal}
+use Rattle.reply.specs.Parts.{WithSeid, Listing}
+use Rattle.sets.specs.Listed.{Sound}
 
--- outcomes 1 to 5 have been passed
+-- outcomes 1 to 5 have been passed, by a request whose header has a SEID
 pub record Asked (t msg out : List ℕ) : Type 0 where
   pub table : T (sound maxSessions t)
   pub space : minSpace ≤ length out
@@ -33,8 +35,16 @@ pub record Asked (t msg out : List ℕ) : Type 0 where
   pub kind : T (served (kindOf msg))
   pub octets : T (octets msg)
   pub tableLong : length t ≡ tableLength maxSessions
-  pub whole : 16 ≤ length msg
+  pub seid : WithSeid msg
+  pub named : eqb (kindOf msg) setDeletion ≡ false
   pub below : kindOf msg < 255
+
+-- the same by a set deletion
+pub record AskedList (t msg out : List ℕ) : Type 0 where
+  pub table : Sound t
+  pub space : minSpace ≤ length out
+  pub short : length msg ≤ maxMessage
+  pub list : Listing msg
 
 -- and stage 1: the session that the request names is live, or the request makes one
 abbrev pub Live : List ℕ → List ℕ → Type 0
@@ -61,7 +71,6 @@ placedAt p v = record { cause = v .cause; offending = v .offending; place = p }
 
 -- the verdict is a refusal, by its cause and the element that it names, at any place
 pub record Refusing (t msg out : List ℕ) (c : ℕ) (o : Offending) : Type 0 where
-  pub asked : Asked t msg out
   pub place : ℕ
   pub verdict : verdictOn t msg ≡ placedAt place (refusal c o)
   pub small : c < 256

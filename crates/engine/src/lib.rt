@@ -9,7 +9,7 @@ ghost use Rattle.unit.specs.Meaning.{settingsOf};
 ghost use Rattle.areas.specs.Counted.{withRecord};
 ghost use Rattle.session.specs.Areas.{tableArea};
 ghost use Rattle.session.specs.Build.{built};
-ghost use Rattle.engine.specs.Answers.{Asked, Live, Answers, Replies, Refusing, Accepting};
+ghost use Rattle.engine.specs.Answers.{Asked, AskedList, Live, Answers, Replies, Refusing, Accepting};
 ghost use Rattle.engine.specs.Steps.{Counted, Fetching, Fetched, Entered, Readable, Changing, Serves};
 ghost use lib.Dec.{T};
 ghost use Rattle.rules.specs.Limits.{maxSessions};
@@ -46,7 +46,7 @@ fn refuse(
     offending: Offending,
     out: &mut [u8],
 ) -> usize
-    requires { ⌜ Refusing (now t) (now msg) (now out) cause offending × (settingsOf u ≡ viewSettings (now t)) ⌝ }
+    requires { ⌜ Asked (now t) (now msg) (now out) × Refusing (now t) (now msg) (now out) cause offending × (settingsOf u ≡ viewSettings (now t)) ⌝ }
     ensures { λ r. ⌜ Answers (now (t .entry)) (now (msg .entry)) (now (out .entry)) r (now (out .exit)) (now (t .entry)) ⌝ }
 {
     reply::refused(u, msg, cause as u8, offending, out)
@@ -72,18 +72,61 @@ fn delete(t: &mut [u8], u: Settings, msg: &[u8], seid: u64, out: &mut [u8]) -> R
             place: place,
         };
     }
-    let verdict = request::read_deletion(msg);
-    if let Verdict::Refused(cause, kind, place) = verdict {
-        let used = refuse(t, u, msg, cause, Offending::Element(kind), out);
+    let plan = [0u64; 1];
+    let places = [0usize; 1];
+    let used = reply::accepted(u, msg, 0, &plan[0..0], &places[0..0], out);
+    store::remove(t, SESSIONS, format::COUNT, seid);
+    Replied {
+        used: used,
+        place: 0,
+    }
+}
+
+// The reply of a set deletion that is refused; the table stays.
+fn refuse_list(
+    t: &[u8],
+    u: Settings,
+    msg: &[u8],
+    cause: u64,
+    offending: Offending,
+    out: &mut [u8],
+) -> usize
+    requires { ⌜ AskedList (now t) (now msg) (now out) × Refusing (now t) (now msg) (now out) cause offending × (settingsOf u ≡ viewSettings (now t)) ⌝ }
+    ensures { λ r. ⌜ Answers (now (t .entry)) (now (msg .entry)) (now (out .entry)) r (now (out .exit)) (now (t .entry)) ⌝ }
+{
+    reply::listed(u, msg, cause as u8, offending, out)
+}
+
+// A set deletion (02 (vii)): every check comes first, then the reply, then every match goes.
+fn delete_list(t: &mut [u8], u: Settings, msg: &[u8], out: &mut [u8]) -> Replied
+    requires { ⌜ AskedList (now t) (now msg) (now out) × (settingsOf u ≡ viewSettings (now t)) ⌝ }
+    ensures { λ r. ⌜ Replies (now (t .entry)) (now (msg .entry)) (now (out .entry)) (r .used) (r .place) (now (out .exit)) (now (t .exit)) ⌝ }
+{
+    let framing = frame::frame_fault(msg);
+    if let Framing::Fault(kind, place) = framing {
+        let used = refuse_list(
+            t,
+            u,
+            msg,
+            causes::WRONG_LENGTH,
+            Offending::Element(kind),
+            out,
+        );
         return Replied {
             used: used,
             place: place,
         };
     }
-    let plan = [0u64; 1];
-    let places = [0usize; 1];
-    let used = reply::accepted(u, msg, 0, &plan[0..0], &places[0..0], out);
-    store::remove(t, SESSIONS, format::COUNT, seid);
+    let verdict = sets::list_fault(&msg[8..]);
+    if let Verdict::Refused(cause, kind, place) = verdict {
+        let used = refuse_list(t, u, msg, cause, Offending::Element(kind), out);
+        return Replied {
+            used: used,
+            place: place,
+        };
+    }
+    let used = reply::listed(u, msg, causes::ACCEPTED as u8, Offending::Nothing, out);
+    sets::remove_listed(t, &msg[8..]);
     Replied {
         used: used,
         place: 0,
@@ -320,6 +363,15 @@ pub fn serve(t: &mut [u8], msg: &[u8], out: &mut [u8]) -> Served
         Header::TooLong => return unserved(3),
         Header::Malformed => return unserved(4),
         Header::NotServed => return unserved(5),
+        Header::Sets => {
+            let u = unit::read(t);
+            let replied = delete_list(t, u, msg, out);
+            return Served {
+                outcome: 0,
+                used: replied.used,
+                place: replied.place,
+            };
+        }
         Header::Request(kind, seid) => {
             let u = unit::read(t);
             let free = u.size as usize - held;

@@ -1,7 +1,8 @@
-// Runs 01's worked examples and the errors seen. Reads parts from standard input, each after its length in two octets. A part of 12 octets
-// (too short for a message) makes an empty table: the unit's IPv4 address, the first TEID and the pool size. Any other is a request on the
-// table as it then stands. Writes a line for each: `table` or `outcome` and the call's outcome, the free count after it (`broken` where
-// there is none), and the place of a fault and the reply's octets where there is a reply. The lines in `stdout` are the second implementation's.
+// Runs 01's worked examples, the errors seen and 02's examples. Reads parts from standard input, each after its length in two octets. A part
+// of 12 octets (no message here has as many) makes an empty table: the unit's IPv4 address, the first TEID and the pool size. Any other is a
+// request on the table as it then stands. Writes a line for each: `table` or `outcome` and the call's outcome, the free count after it
+// (`broken` where there is none), and the place of a fault and the reply's octets where there is a reply. The lines in `stdout` are the
+// second implementation's.
 ghost use mathlib.Core.Path.{_≡_};
 ghost use lib.ListN.{length};
 use libc::STDOUT_FILENO;

@@ -4,3 +4,5 @@ pub const ESTABLISHMENT: u64 = 50;
 pub const MODIFICATION: u64 = 52;
 
 pub const DELETION: u64 = 54;
+
+pub const SET_DELETION: u64 = 14;

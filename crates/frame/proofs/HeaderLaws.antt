@@ -1,62 +1,106 @@
 -- What an allowed header says, by the tests in turn. Assumes nothing.
-use mathlib.Core.Path.{_≡_, refl, sym, ap, _∙_}
-use Prim.Native.Nat.{ℕ, _+_, _/_, _%_, _≤_, _<_}
+use mathlib.Core.Path.{_≡_, refl, sym, ap, _∙_, subst}
+use Prim.Native.Nat.{ℕ, _+_, _/_, _%_, _≤_, _<_, zero, suc}
 use native.Mathlib.Omega.{arith}
 use mathlib.Core.Bool.{Bool, true, false, not, _&&_}
 use mathlib.Core.List.{List}
 use lib.ListN.{length, getD}
-use lib.Dec.{leb, ltb, eqb, leb→le}
+use lib.Dec.{leb, ltb, eqb, T, eqb→eq}
 use lib.Seq.{drop-cons}
 use borrow.Author.Tests.{lt-ltb, le-ltb, le-leb, lt-leb, eq-eqb, ne-eqb, ltb-false}
-use Rattle.octets.specs.Choice.{pick}
+use Rattle.octets.specs.Choice.{pick, sameBool}
 use Rattle.octets.specs.Octets.{bit, octetAt, number, numberAt, part}
-use Rattle.octets.proofs.Tests.{and-left, of-true}
-use Rattle.rules.specs.Message.{headerAllowed, firstOctetAllowed, served, kindOf, headerSeid}
-use Rattle.frame.specs.HeaderOf.{outcome, request, headerOf}
+use Rattle.octets.proofs.Tests.{of-true}
+use Rattle.rules.specs.Message.{headerAllowed, firstOctetAllowed, served, kindOf, headerSeid, setDeletion, seidThere, headerLength}
+use Rattle.frame.specs.HeaderOf.{outcome, request, headerOf, sets, Opening, SessionHeader}
+use Rattle.laws.proofs.HeaderLaws.{header-long, long-there, seid-there, long-absent}
 
 -- ---- the first octet
 
-module _ (x : ℕ) where
-  pub other-version : (x / 32 ≡ 1 → ⊥) → false ≡ firstOctetAllowed x
+-- S as the code tests it
+low-bit : (x : ℕ) → eqb (x % 2) 1 ≡ bit 0 x
+unfolding bit
+low-bit x = let e : x ≡ x / 1 = omega arith in ap (λ (n : ℕ). eqb (n % 2) 1) e
+
+same-true : (b : Bool) → b ≡ sameBool b true
+same-true true = refl
+same-true false = refl
+
+even : (n : ℕ) → n < 2 → eqb n 0 ≡ sameBool (eqb n 1) false
+even zero h = refl
+even (suc zero) h = refl
+even (suc (suc n)) h = absurd (omega arith)
+
+pub length-with : (x : ℕ) → x % 2 ≡ 1 → _≡_ {A = ℕ} 16 (pick (bit 0 x) 16 8)
+length-with x e = rw (← low-bit x, eq-eqb (x % 2) 1 e)
+
+pub length-without : (x : ℕ) → (x % 2 ≡ 1 → ⊥) → _≡_ {A = ℕ} 8 (pick (bit 0 x) 16 8)
+length-without x e = rw (← low-bit x, ne-eqb (x % 2) 1 e)
+
+module _ (k x : ℕ) where
+  pub other-version : (x / 32 ≡ 1 → ⊥) → false ≡ firstOctetAllowed k x
   unfolding firstOctetAllowed
   other-version h = rw (ne-eqb (x / 32) 1 h)
 
-  pub follow-on : x / 32 ≡ 1 → x / 4 % 2 ≡ 1 → false ≡ firstOctetAllowed x
+  pub follow-on : x / 32 ≡ 1 → x / 4 % 2 ≡ 1 → false ≡ firstOctetAllowed k x
   unfolding firstOctetAllowed bit
-  follow-on h k = rw (eq-eqb (x / 32) 1 h, eq-eqb (x / 4 % 2) 1 k)
+  follow-on h f = rw (eq-eqb (x / 32) 1 h, eq-eqb (x / 4 % 2) 1 f)
 
-  pub with-seid : x / 32 ≡ 1 → (x / 4 % 2 ≡ 1 → ⊥) → eqb (x % 2) 1 ≡ firstOctetAllowed x
-  unfolding firstOctetAllowed bit
-  with-seid h k =
-      let e : x ≡ x / 1 = omega arith in
-      rw (eq-eqb (x / 32) 1 h, ne-eqb (x / 4 % 2) 1 k) (ap (λ (n : ℕ). eqb (n % 2) 1) e)
+  module _ (h : x / 32 ≡ 1) (f : x / 4 % 2 ≡ 1 → ⊥) where
+    by-seid : firstOctetAllowed k x ≡ sameBool (eqb (x % 2) 1) (not (eqb k setDeletion))
+    unfolding firstOctetAllowed
+    by-seid = rw (low-bit x, eq-eqb (x / 32) 1 h) (unfold bit in (rw (ne-eqb (x / 4 % 2) 1 f)))
+
+    pub with-seid : (k ≡ setDeletion → ⊥) → eqb (x % 2) 1 ≡ firstOctetAllowed k x
+    with-seid n = same-true (eqb (x % 2) 1) ∙ sym (by-seid ∙ ap (λ (b : Bool). sameBool (eqb (x % 2) 1) (not b)) (ne-eqb k setDeletion n))
+
+    pub without-seid : k ≡ setDeletion → eqb (x % 2) 0 ≡ firstOctetAllowed k x
+    without-seid e = even (x % 2) (omega arith) ∙ sym (by-seid ∙ ap (λ (b : Bool). sameBool (eqb (x % 2) 1) (not b)) (eq-eqb k setDeletion e))
 
 -- ---- the header
 
-module _ (msg : List ℕ) where
-  pub allowed-long : true ≡ headerAllowed msg → 16 ≤ length msg
-  unfolding headerAllowed
-  allowed-long h =
-      leb→le 16 (length msg)
-      (and-left (leb 16 (length msg)) (firstOctetAllowed (octetAt msg 0))
-      (and-left (leb 16 (length msg) && firstOctetAllowed (octetAt msg 0)) (eqb (4 + numberAt 2 2 msg) (length msg)) (of-true (sym h))))
+pub least : (b : Bool) → 8 ≤ pick b 16 8
+least true = omega arith
+least false = omega arith
 
-  pub read-kind : 16 ≤ length msg → (k : ℕ) → k ≡ number (part 1 1 msg) → k ≡ kindOf msg
+module _ (msg : List ℕ) where
+  pub allowed-long : true ≡ headerAllowed msg → 8 ≤ length msg
+  unfolding headerLength
+  allowed-long h = let a = header-long msg (of-true (sym h)) in let b = least (seidThere msg) in omega arith
+
+  -- with a SEID unless it is a set deletion's
+  pub allowed-seid : true ≡ headerAllowed msg → (k : ℕ) → k ≡ kindOf msg → (k ≡ setDeletion → ⊥) → 16 ≤ length msg
+  allowed-seid h k e n = long-there msg (of-true (sym h)) (subst (λ (b : Bool). T (not b)) (sym (ne-eqb (kindOf msg) setDeletion (λ z. n (e ∙ z)))) tt)
+
+  pub read-kind : 8 ≤ length msg → (k : ℕ) → k ≡ number (part 1 1 msg) → k ≡ kindOf msg
   unfolding kindOf octetAt number
   read-kind long k e = rw (e, drop-cons msg 1 0 (omega arith)) (omega arith)
 
-  pub short-header : length msg < 16 → false ≡ headerAllowed msg
-  unfolding headerAllowed
-  short-header h = rw (lt-leb 16 (length msg) h)
+  pub short-header : length msg < 8 → false ≡ headerAllowed msg
+  unfolding headerAllowed headerLength
+  short-header h = let b = least (seidThere msg) in rw (lt-leb (pick (seidThere msg) 16 8) (length msg) (omega arith))
 
-  module _ (long : 16 ≤ length msg) (b : Bool) (first : b ≡ firstOctetAllowed (getD msg 0 0)) where
-    pub wrong-octet : b ≡ false → false ≡ headerAllowed msg
-    unfolding headerAllowed octetAt
-    wrong-octet e = rw (le-leb 16 (length msg) long, ← first, e)
+  module _ (n : ℕ) (size : n ≡ pick (bit 0 (getD msg 0 0)) 16 8) where
+    pub is-length : n ≡ headerLength msg
+    unfolding headerLength seidThere octetAt
+    is-length = size
 
-    pub by-length : b ≡ true → (n : ℕ) → n ≡ number (part 2 2 msg) → eqb (4 + n) (length msg) ≡ headerAllowed msg
-    unfolding headerAllowed octetAt numberAt
-    by-length e n q = rw (le-leb 16 (length msg) long, ← first, e, q)
+    pub cut-header : length msg < n → false ≡ headerAllowed msg
+    unfolding headerAllowed
+    cut-header h = rw (lt-leb (headerLength msg) (length msg) (rw (← is-length) h))
+
+    module _ (long : 8 ≤ length msg) (whole : n ≤ length msg) (k : ℕ) (kind : k ≡ number (part 1 1 msg)) (b : Bool) (first : b ≡ firstOctetAllowed k (getD msg 0 0)) where
+      first-is : firstOctetAllowed (kindOf msg) (octetAt msg 0) ≡ b
+      unfolding octetAt
+      first-is = sym (first ∙ ap (λ (j : ℕ). firstOctetAllowed j (getD msg 0 0)) (read-kind long k kind))
+
+      pub wrong-octet : b ≡ false → false ≡ headerAllowed msg
+      unfolding headerAllowed
+      wrong-octet e = rw (le-leb (headerLength msg) (length msg) (rw (← is-length) whole), first-is, e)
+
+      pub by-length : b ≡ true → (l : ℕ) → l ≡ number (part 2 2 msg) → eqb (4 + l) (length msg) ≡ headerAllowed msg
+      unfolding headerAllowed numberAt
+      by-length e l q = rw (le-leb (headerLength msg) (length msg) (rw (← is-length) whole), first-is, e, q)
 
   pub too-long : 2048 < length msg → outcome 3 ≡ headerOf msg
   unfolding headerOf
@@ -75,18 +119,67 @@ module _ (msg : List ℕ) where
       unfolding headerOf
       not-served e = rw (le-ltb 2048 (length msg) fits, ← allowed, fine, ← is-kind, ← is, e)
 
-      pub a-request : s ≡ true → (n : ℕ) → n ≡ number (part 4 8 msg) → request k n ≡ headerOf msg
-      unfolding headerOf headerSeid numberAt
-      a-request e n q = rw (le-ltb 2048 (length msg) fits, ← allowed, fine, ← is-kind, ← is, e, q)
+      pub a-set : s ≡ true → k ≡ setDeletion → sets ≡ headerOf msg
+      unfolding headerOf
+      a-set e d = rw (le-ltb 2048 (length msg) fits, ← allowed, fine, ← is-kind, ← is, e, eq-eqb k setDeletion d)
 
--- a request that is read has its whole header and is not too long
-pub request-bounds : (msg : List ℕ) (k n : ℕ) → request k n ≡ headerOf msg → (16 ≤ length msg) × (length msg ≤ 2048)
-unfolding headerOf
-request-bounds msg k n = by-tests (ltb 2048 (length msg)) (headerAllowed msg) (served (kindOf msg)) refl refl
-  where
-    by-tests : (a b c : Bool) → ltb 2048 (length msg) ≡ a → b ≡ headerAllowed msg
-        → request k n ≡ pick a (outcome 3) (pick (not b) (outcome 4) (pick (not c) (outcome 5) (request (kindOf msg) (headerSeid msg)))) → (16 ≤ length msg) × (length msg ≤ 2048)
-    by-tests true b c p q h = let z : _≡_ {A = ℕ} 0 1 = cc in absurd (omega arith)
-    by-tests false false c p q h = let z : _≡_ {A = ℕ} 0 1 = cc in absurd (omega arith)
-    by-tests false true false p q h = let z : _≡_ {A = ℕ} 0 1 = cc in absurd (omega arith)
-    by-tests false true true p q h = (allowed-long msg q, ltb-false 2048 (length msg) p)
+      pub a-request : s ≡ true → (k ≡ setDeletion → ⊥) → (n : ℕ) → n ≡ number (part 4 8 msg) → request k n ≡ headerOf msg
+      unfolding headerOf headerSeid numberAt
+      a-request e d n q = rw (le-ltb 2048 (length msg) fits, ← allowed, fine, ← is-kind, ← is, e, ne-eqb k setDeletion d, q)
+
+      pub request-long : (k ≡ setDeletion → ⊥) → 16 ≤ length msg
+      request-long d = allowed-seid (sym fine ∙ allowed) k is-kind d
+
+-- ---- what an answer says
+
+-- a request and a set deletion have passed the three tests
+pub record Opens (msg : List ℕ) : Type 0 where
+  pub short : length msg ≤ 2048
+  pub header : T (headerAllowed msg)
+  pub kind : served (kindOf msg) ≡ true
+
+module _ (msg : List ℕ) where
+  -- the tests in turn
+  opened-by : (o : Opening) → o ≡ headerOf msg → ((n : ℕ) → o ≡ outcome n → ⊥) → Opens msg × (o ≡ pick (eqb (kindOf msg) setDeletion) sets (request (kindOf msg) (headerSeid msg)))
+  unfolding headerOf
+  opened-by o = by-tests (ltb 2048 (length msg)) (headerAllowed msg) (served (kindOf msg)) refl refl refl
+    where
+      by-tests : (a b c : Bool) → ltb 2048 (length msg) ≡ a → b ≡ headerAllowed msg → served (kindOf msg) ≡ c
+          → o ≡ pick a (outcome 3) (pick (not b) (outcome 4) (pick (not c) (outcome 5) (pick (eqb (kindOf msg) setDeletion) sets (request (kindOf msg) (headerSeid msg)))))
+          → ((n : ℕ) → o ≡ outcome n → ⊥) → Opens msg × (o ≡ pick (eqb (kindOf msg) setDeletion) sets (request (kindOf msg) (headerSeid msg)))
+      by-tests true b c p q r h never = absurd (never 3 h)
+      by-tests false false c p q r h never = absurd (never 4 h)
+      by-tests false true false p q r h never = absurd (never 5 h)
+      by-tests false true true p q r h never = (record { short = ltb-false 2048 (length msg) p; header = of-true (sym q); kind = r }, h)
+
+  pub request-opens : (k n : ℕ) → request k n ≡ headerOf msg → Opens msg
+  request-opens k n e = opened-by (request k n) e (λ m z. let y : _≡_ {A = ℕ} 0 1 = cc in omega arith) .0
+
+  pub sets-opens : sets ≡ headerOf msg → Opens msg
+  sets-opens e = opened-by sets e (λ m z. let y : _≡_ {A = ℕ} 0 1 = cc in omega arith) .0
+
+  -- its type and SEID are the header's, and it is no set deletion
+  pub request-is : (k n : ℕ) → request k n ≡ headerOf msg → (k ≡ kindOf msg) × (n ≡ headerSeid msg) × (eqb (kindOf msg) setDeletion ≡ false)
+  request-is k n e = go (eqb (kindOf msg) setDeletion) (opened-by (request k n) e (λ m z. let y : _≡_ {A = ℕ} 0 1 = cc in omega arith) .1)
+    where
+      go : (b : Bool) → request k n ≡ pick b sets (request (kindOf msg) (headerSeid msg)) → (k ≡ kindOf msg) × (n ≡ headerSeid msg) × (b ≡ false)
+      go true h = let y : _≡_ {A = ℕ} 0 1 = cc in absurd (omega arith)
+      go false h = (cc, cc, refl)
+
+  pub sets-is : sets ≡ headerOf msg → kindOf msg ≡ setDeletion
+  sets-is e = go (eqb (kindOf msg) setDeletion) refl (opened-by sets e (λ m z. let y : _≡_ {A = ℕ} 0 1 = cc in omega arith) .1)
+    where
+      go : (b : Bool) → eqb (kindOf msg) setDeletion ≡ b → sets ≡ pick b sets (request (kindOf msg) (headerSeid msg)) → kindOf msg ≡ setDeletion
+      go true q h = eqb→eq (kindOf msg) setDeletion (of-true q)
+      go false q h = let y : _≡_ {A = ℕ} 0 1 = cc in absurd (omega arith)
+
+  -- a request has its whole header, with a SEID, and is not too long
+  pub request-bounds : (k n : ℕ) → request k n ≡ headerOf msg → SessionHeader msg × (length msg ≤ 2048)
+  request-bounds k n e =
+      let o = request-opens k n e in
+      let other = request-is k n e .2 in
+      let ns : T (not (eqb (kindOf msg) setDeletion)) = subst (λ (b : Bool). T (not b)) (sym other) tt in
+      (record { long = long-there msg (o .header) ns; seid = seid-there msg (o .header) ns; kind = other }, o .short)
+
+  pub sets-bounds : sets ≡ headerOf msg → (8 ≤ length msg) × (length msg ≤ 2048)
+  sets-bounds e = let o = sets-opens e in (long-absent msg (o .header) (sets-is e), o .short)

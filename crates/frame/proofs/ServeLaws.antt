@@ -1,56 +1,39 @@
 -- What the header's answer means for the call: outcomes 3 to 5, or the answer to a request. Assumes nothing.
-use mathlib.Core.Path.{_≡_, refl, sym, ap, _∙_}
+use mathlib.Core.Path.{_≡_, sym, ap, _∙_}
 use Prim.Native.Nat.{ℕ, _≤_}
 use native.Mathlib.Omega.{arith}
 use mathlib.Core.Bool.{Bool, true, false, not}
 use mathlib.Core.List.{List}
 use lib.ListN.{length}
-use lib.Dec.{ltb}
+use lib.Dec.{ltb, eqb}
 use borrow.Author.Tests.{le-ltb}
 use Rattle.octets.specs.Choice.{pick}
 use Rattle.rules.specs.Limits.{maxMessage, minSpace}
 use Rattle.rules.specs.Model.{Settings, Sessions}
-use Rattle.rules.specs.Message.{kindOf, headerSeid, headerAllowed, served}
+use Rattle.rules.specs.Message.{kindOf, headerSeid, headerAllowed, served, setDeletion}
 use Rattle.rules.specs.Serve.{unserved, answer, serveSound}
-use Rattle.frame.specs.HeaderOf.{outcome, request, headerOf}
+use Rattle.frame.specs.HeaderOf.{outcome, request, headerOf, sets}
+use Rattle.octets.proofs.Tests.{is-true}
+use Rattle.frame.proofs.HeaderLaws.{Opens}
 
-module _ (msg : List ℕ) where
-  -- the type and the SEID of a request are the header's, and its type is served
-  pub request-is : (k n : ℕ) → request k n ≡ headerOf msg → (k ≡ kindOf msg) × (n ≡ headerSeid msg) × (served (kindOf msg) ≡ true)
+module _ (msg : List ℕ) (limit : ℕ) (s : Settings) (m : Sessions) (t space : List ℕ) (room : minSpace ≤ length space) where
+  by-header : serveSound limit s m t msg space
+      ≡ pick (ltb maxMessage (length msg)) (unserved 3 space t) (pick (not (headerAllowed msg)) (unserved 4 space t) (pick (not (served (kindOf msg))) (unserved 5 space t) (answer limit s m msg space t)))
+  unfolding serveSound
+  by-header = rw (le-ltb (length space) minSpace room)
+
+  pub header-outcome : (n : ℕ) → outcome n ≡ headerOf msg → serveSound limit s m t msg space ≡ unserved n space t
   unfolding headerOf
-  request-is k n = by-tests (ltb maxMessage (length msg)) (headerAllowed msg) (served (kindOf msg))
+  header-outcome n h = by-header ∙ by-tests (ltb maxMessage (length msg)) (headerAllowed msg) (served (kindOf msg)) (eqb (kindOf msg) setDeletion) h
     where
-      by-tests : (a b c : Bool) → request k n ≡ pick a (outcome 3) (pick (not b) (outcome 4) (pick (not c) (outcome 5) (request (kindOf msg) (headerSeid msg))))
-          → (k ≡ kindOf msg) × (n ≡ headerSeid msg) × (c ≡ true)
-      by-tests true b c h = let z : _≡_ {A = ℕ} 0 1 = cc in absurd (omega arith)
-      by-tests false false c h = let z : _≡_ {A = ℕ} 0 1 = cc in absurd (omega arith)
-      by-tests false true false h = let z : _≡_ {A = ℕ} 0 1 = cc in absurd (omega arith)
-      by-tests false true true h = (cc, cc, refl)
+      by-tests : (a b c d : Bool) → outcome n ≡ pick a (outcome 3) (pick (not b) (outcome 4) (pick (not c) (outcome 5) (pick d sets (request (kindOf msg) (headerSeid msg)))))
+          → pick a (unserved 3 space t) (pick (not b) (unserved 4 space t) (pick (not c) (unserved 5 space t) (answer limit s m msg space t))) ≡ unserved n space t
+      by-tests true b c d h = let e : n ≡ 3 = cc in ap (λ (k : ℕ). unserved k space t) (sym e)
+      by-tests false false c d h = let e : n ≡ 4 = cc in ap (λ (k : ℕ). unserved k space t) (sym e)
+      by-tests false true false d h = let e : n ≡ 5 = cc in ap (λ (k : ℕ). unserved k space t) (sym e)
+      by-tests false true true true h = let z : _≡_ {A = ℕ} 0 1 = cc in absurd (omega arith)
+      by-tests false true true false h = let z : _≡_ {A = ℕ} 0 1 = cc in absurd (omega arith)
 
-  module _ (limit : ℕ) (s : Settings) (m : Sessions) (t space : List ℕ) (room : minSpace ≤ length space) where
-    by-header : serveSound limit s m t msg space
-        ≡ pick (ltb maxMessage (length msg)) (unserved 3 space t) (pick (not (headerAllowed msg)) (unserved 4 space t) (pick (not (served (kindOf msg))) (unserved 5 space t) (answer limit s m msg space t)))
-    unfolding serveSound
-    by-header = rw (le-ltb (length space) minSpace room)
-
-    pub header-outcome : (n : ℕ) → outcome n ≡ headerOf msg → serveSound limit s m t msg space ≡ unserved n space t
-    unfolding headerOf
-    header-outcome n h = by-header ∙ by-tests (ltb maxMessage (length msg)) (headerAllowed msg) (served (kindOf msg)) h
-      where
-        by-tests : (a b c : Bool) → outcome n ≡ pick a (outcome 3) (pick (not b) (outcome 4) (pick (not c) (outcome 5) (request (kindOf msg) (headerSeid msg))))
-            → pick a (unserved 3 space t) (pick (not b) (unserved 4 space t) (pick (not c) (unserved 5 space t) (answer limit s m msg space t))) ≡ unserved n space t
-        by-tests true b c h = let e : n ≡ 3 = cc in ap (λ (k : ℕ). unserved k space t) (sym e)
-        by-tests false false c h = let e : n ≡ 4 = cc in ap (λ (k : ℕ). unserved k space t) (sym e)
-        by-tests false true false h = let e : n ≡ 5 = cc in ap (λ (k : ℕ). unserved k space t) (sym e)
-        by-tests false true true h = let z : _≡_ {A = ℕ} 0 1 = cc in absurd (omega arith)
-
-    pub header-request : (k n : ℕ) → request k n ≡ headerOf msg → serveSound limit s m t msg space ≡ answer limit s m msg space t
-    unfolding headerOf
-    header-request k n h = by-header ∙ by-tests (ltb maxMessage (length msg)) (headerAllowed msg) (served (kindOf msg)) h
-      where
-        by-tests : (a b c : Bool) → request k n ≡ pick a (outcome 3) (pick (not b) (outcome 4) (pick (not c) (outcome 5) (request (kindOf msg) (headerSeid msg))))
-            → pick a (unserved 3 space t) (pick (not b) (unserved 4 space t) (pick (not c) (unserved 5 space t) (answer limit s m msg space t))) ≡ answer limit s m msg space t
-        by-tests true b c h = let z : _≡_ {A = ℕ} 0 1 = cc in absurd (omega arith)
-        by-tests false false c h = let z : _≡_ {A = ℕ} 0 1 = cc in absurd (omega arith)
-        by-tests false true false h = let z : _≡_ {A = ℕ} 0 1 = cc in absurd (omega arith)
-        by-tests false true true h = refl
+  -- a request or a set deletion is answered
+  pub header-answered : Opens msg → serveSound limit s m t msg space ≡ answer limit s m msg space t
+  header-answered o = by-header ∙ rw (le-ltb maxMessage (length msg) (o .short), is-true (headerAllowed msg) (o .header), o .kind)

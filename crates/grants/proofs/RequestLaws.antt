@@ -176,4 +176,5 @@ module _ (h : List ℕ → List ℕ) (alike : (row : List ℕ) → Alike (h row)
         goneEndpoints = goneEndpoints j;
         csids = pick (nulls-same rows j) cleared (changed (csids-same rows j));
         unsupported = noted || pdis j;
+        listed = [];
       }

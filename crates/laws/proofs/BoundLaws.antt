@@ -12,7 +12,7 @@ use lib.Pow.{areBytes}
 use Rattle.octets.specs.Octets.{number, numberAt}
 use Rattle.octets.specs.Lists.{all}
 use Rattle.octets.proofs.Tests.{pick-either, and-left, and-right, both}
-use Rattle.rules.specs.Message.{Element, elementLength, elementsUpTo, elements, bodyPlace, body}
+use Rattle.rules.specs.Message.{Element, elementLength, elementsUpTo, elements, headerLength, body}
 
 -- ---- octets
 
@@ -57,6 +57,6 @@ pub clean-elements : (at : ℕ) (xs : List ℕ) → T (areBytes xs) → T (all c
 unfolding elements
 clean-elements at xs h = clean-upTo (length xs) at xs h
 
-pub clean-body : (msg : List ℕ) → T (areBytes msg) → T (all clean (elements bodyPlace (body msg)))
+pub clean-body : (msg : List ℕ) → T (areBytes msg) → T (all clean (elements (headerLength msg) (body msg)))
 unfolding body
-clean-body msg h = clean-elements bodyPlace (drop 16 msg) (bytes-drop 16 msg h)
+clean-body msg h = clean-elements (headerLength msg) (drop (headerLength msg) msg) (bytes-drop (headerLength msg) msg h)

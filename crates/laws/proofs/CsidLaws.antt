@@ -93,7 +93,6 @@ element-few kind alone n e d h =
       seid = λ _ _. same alone h;
       restores = λ _. same alone h;
       clears = λ t a. more clearsCsids (unfold collect csidIn clears in (flagged came t)) (unfold clears in (flagged alone a));
-      checks = λ _. same alone h;
       sets = λ t c _. more (setsCsid c) (unfold collect csidIn clears in (flagged came t)) (unfold clears in zero-le);
       updates = more updatesEndpoint (unfold collect csidIn clears in zero-le) (unfold clears in zero-le);
       makes = λ i o. more i (omega arith) (omega arith);

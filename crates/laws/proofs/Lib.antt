@@ -2,6 +2,7 @@ pub mod BoundLaws
 pub mod ElementLaws
 pub mod LayoutLaws
 pub mod TableLaws
+pub mod HeaderLaws
 pub mod MessageLaws
 pub mod ReadLaws
 pub mod ReplyLaws

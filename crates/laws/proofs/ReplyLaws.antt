@@ -4,22 +4,22 @@ use mathlib.Core.Path.{_≡_, sym, ap, _∙_}
 use Prim.Native.Nat.{ℕ, suc, _+_, _-_, _^_, _≤_, _<_, suc-le-suc}
 use native.Mathlib.Nat.{le-trans, le-of-eq}
 use native.Mathlib.Omega.{arith}
-use mathlib.Core.Bool.{Bool, true, false}
+use mathlib.Core.Bool.{Bool, true, false, _||_}
 use mathlib.Core.Option.{Option, some}
 use mathlib.Core.List.{List, [], _∷_, _++_}
 use lib.ListN.{length, take, drop, length-append, length-drop}
 use lib.Dec.{eqb, lit<, lit≤}
 use lib.Seq.{take-at, drop-at, drop-drop, length-take-le}
 use Rattle.octets.specs.Choice.{pick, valueOr, mapOption}
-use Rattle.octets.specs.Octets.{be, numberAt, octetAt, put}
+use Rattle.octets.specs.Octets.{be, part, bit, numberAt, octetAt, put}
 use Rattle.octets.specs.Lists.{findBy}
 use Rattle.octets.proofs.Numbers.{number-be}
 use Rattle.rules.specs.Model.{Settings}
-use Rattle.rules.specs.Message.{Element, elements, body, kindOf, headerSeid, sequenceOf, hasType, contentIn, contentOf, establishment}
+use Rattle.rules.specs.Message.{Element, elements, seidThere, headerLength, body, kindOf, headerSeid, sequenceOf, hasType, contentIn, contentOf, establishment, setDeletion}
 use Rattle.laws.proofs.MessageLaws.{Fits, el, elements-cons}
 use Rattle.rules.specs.Grants.{Grant}
 use Rattle.rules.specs.Stages.{Verdict}
-use Rattle.rules.specs.Reply.{element, message, nodeIdElement, offendingElement, acceptedPart, replyBody, replySeid, reply}
+use Rattle.rules.specs.Reply.{element, message, listMessage, nodeIdElement, offendingElement, acceptedPart, replyBody, replySeid, reply}
 use Rattle.rules.specs.Live.{replyIn, replyElements, replyCause}
 use Rattle.rules.specs.Types as ie
 use Rattle.rules.specs.Causes as why
@@ -52,12 +52,75 @@ module _ (kind seid : ℕ) (q xs space : List ℕ) (three : length q ≡ 3) (sho
       regroup n = omega arith
 
   pub body-there : body msg ≡ xs
-  unfolding body message be
+  unfolding body headerLength seidThere bit octetAt message be
   body-there = sym (drop-drop 1 3 (q ++ 0 ∷ xs)) ∙ ap (drop 1) (drop-at q (0 ∷ xs) 3 three)
 
   pub elements-there : replyElements (put 0 msg space) ≡ elements 0 xs
   unfolding replyElements
   elements-there = ap (λ (l : List ℕ). elements 0 (body l)) found ∙ ap (elements 0) body-there
+
+-- the same of a message without a SEID
+module _ (kind : ℕ) (q xs space : List ℕ) (three : length q ≡ 3) (short : length xs ≤ 2000) where
+  length-list : length (listMessage kind q xs) ≡ 8 + length xs
+  unfolding listMessage be
+  length-list = let e = length-append q (0 ∷ xs) in omega arith
+
+  list-number : numberAt 2 2 (put 0 (listMessage kind q xs) space) ≡ 4 + length xs
+  unfolding put numberAt listMessage be
+  list-number = number-be 2 (4 + length xs) (small (omega arith))
+
+  list-found : replyIn (put 0 (listMessage kind q xs) space) ≡ listMessage kind q xs
+  unfolding replyIn put
+  list-found =
+      ap (λ (n : ℕ). take (4 + n) (put 0 (listMessage kind q xs) space)) list-number
+      ∙ take-at (listMessage kind q xs) (drop (0 + length (listMessage kind q xs)) space) (4 + (4 + length xs)) (length-list ∙ regroup (length xs))
+    where
+      regroup : (n : ℕ) → 8 + n ≡ 4 + (4 + n)
+      regroup n = omega arith
+
+  list-body : body (listMessage kind q xs) ≡ xs
+  unfolding body headerLength seidThere bit octetAt listMessage be
+  list-body = sym (drop-drop 1 3 (q ++ 0 ∷ xs)) ∙ ap (drop 1) (drop-at q (0 ∷ xs) 3 three)
+
+  list-elements : replyElements (put 0 (listMessage kind q xs) space) ≡ elements 0 xs
+  unfolding replyElements
+  list-elements = ap (λ (l : List ℕ). elements 0 (body l)) list-found ∙ ap (elements 0) list-body
+
+-- ---- a reply in its space
+
+module _ (s : Settings) (msg : List ℕ) (seid : ℕ) (v : Verdict) (gs : List Grant) (space : List ℕ) (three : length (sequenceOf msg) ≡ 3) (short : length (replyBody (kindOf msg) s seid v gs) ≤ 2000) where
+  abbrev kind : ℕ
+  kind = kindOf msg + 1
+
+  abbrev own : ℕ
+  own = replySeid (kindOf msg) (v .cause) (headerSeid msg) seid
+
+  abbrev xs : List ℕ
+  xs = replyBody (kindOf msg) s seid v gs
+
+  pub own-found : replyIn (put 0 (reply s msg seid v gs) space) ≡ reply s msg seid v gs
+  unfolding reply
+  own-found = one (seidThere msg)
+    where
+      one : (b : Bool) → replyIn (put 0 (pick b (message kind own (sequenceOf msg) xs) (listMessage kind (sequenceOf msg) xs)) space) ≡ pick b (message kind own (sequenceOf msg) xs) (listMessage kind (sequenceOf msg) xs)
+      one true = found kind own (sequenceOf msg) xs space three short
+      one false = list-found kind (sequenceOf msg) xs space three short
+
+  pub reply-elements : replyElements (put 0 (reply s msg seid v gs) space) ≡ elements 0 (replyBody (kindOf msg) s seid v gs)
+  unfolding reply
+  reply-elements = one (seidThere msg)
+    where
+      one : (b : Bool) → replyElements (put 0 (pick b (message kind own (sequenceOf msg) xs) (listMessage kind (sequenceOf msg) xs)) space) ≡ elements 0 xs
+      one true = elements-there kind own (sequenceOf msg) xs space three short
+      one false = list-elements kind (sequenceOf msg) xs space three short
+
+  pub length-reply : length (reply s msg seid v gs) ≤ 16 + length (replyBody (kindOf msg) s seid v gs)
+  unfolding reply
+  length-reply = one (seidThere msg)
+    where
+      one : (b : Bool) → length (pick b (message kind own (sequenceOf msg) xs) (listMessage kind (sequenceOf msg) xs)) ≤ 16 + length xs
+      one true = le-of-eq (length-message kind own (sequenceOf msg) xs space three short)
+      one false = let e = length-list kind (sequenceOf msg) xs space three short in omega arith
 
 -- ---- the cause
 
@@ -81,13 +144,16 @@ cause-first false s c rest four = ap (λ (es : List Element). mapOption contentI
 pub reply-cause : (s : Settings) (msg : List ℕ) (seid : ℕ) (v : Verdict) (gs : List Grant) (space : List ℕ)
     → length (s .ipv4) ≡ 4 → length (sequenceOf msg) ≡ 3 → length (replyBody (kindOf msg) s seid v gs) ≤ 2000
     → replyCause (put 0 (reply s msg seid v gs) space) ≡ v .cause
-unfolding replyCause reply replyBody nodeIdElement octetAt
+unfolding replyCause replyBody nodeIdElement octetAt
 reply-cause s msg seid v gs space four three short =
-    ap (λ (es : List Element). octetAt (valueOr [] (contentOf ie.cause es)) 0)
-    (elements-there (kindOf msg + 1) (replySeid (kindOf msg) (v .cause) (headerSeid msg) seid) (sequenceOf msg) (replyBody (kindOf msg) s seid v gs) space three short)
+    ap (λ (es : List Element). octetAt (valueOr [] (contentOf ie.cause es)) 0) (reply-elements s msg seid v gs space three short)
     ∙ ap (λ (o : Option (List ℕ)). octetAt (valueOr [] o) 0)
-    (cause-first (eqb (kindOf msg) establishment) s (v .cause) (offendingElement (v .offending) ++ pick (eqb (v .cause) why.accepted) (acceptedPart (kindOf msg) s seid gs) []) four)
+    (cause-first (eqb (kindOf msg) establishment || eqb (kindOf msg) setDeletion) s (v .cause) (offendingElement (v .offending) ++ pick (eqb (v .cause) why.accepted) (acceptedPart (kindOf msg) s seid gs) []) four)
 
-pub sequence-three : (msg : List ℕ) → 16 ≤ length msg → length (sequenceOf msg) ≡ 3
-unfolding sequenceOf
-sequence-three msg h = length-take-le 3 (drop 12 msg) (le-trans (omega arith) (le-of-eq (sym (length-drop 12 msg))))
+pub sequence-three : (msg : List ℕ) → headerLength msg ≤ length msg → length (sequenceOf msg) ≡ 3
+unfolding sequenceOf headerLength
+sequence-three msg = one (seidThere msg)
+  where
+    one : (b : Bool) → pick b 16 8 ≤ length msg → length (part (pick b 16 8 - 4) 3 msg) ≡ 3
+    one true h = length-take-le 3 (drop 12 msg) (le-trans (omega arith) (le-of-eq (sym (length-drop 12 msg))))
+    one false h = length-take-le 3 (drop 4 msg) (le-trans (omega arith) (le-of-eq (sym (length-drop 4 msg))))

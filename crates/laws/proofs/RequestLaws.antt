@@ -16,12 +16,12 @@ use Rattle.octets.specs.Lists.{all, any, member, collect}
 use Rattle.octets.proofs.Tests.{pick-either, is-true, all-head, all-tail}
 use Rattle.octets.proofs.ListLaws.{Every, OnSome, pick-cases, every-append, every-collect}
 use Rattle.laws.proofs.BoundLaws.{clean, clean-elements, clean-body, field-bound}
-use Rattle.laws.proofs.ReadLaws.{OnValue, OnDone, named-done, once-done, then-done, need-done, FteidRead, CsidRead, SeidRead, fteid-read, fqcsid-read, fseid-read}
+use Rattle.laws.proofs.ReadLaws.{OnValue, OnDone, anything, named-done, once-done, then-done, need-done, FteidRead, CsidRead, SeidRead, fteid-read, fqcsid-read, fseid-read}
 use Rattle.rules.specs.Elements.{missing, conditional, incorrect, Fteid, Fqcsid, readFteid, readFqcsid, readFseid, nodeOf}
 use Rattle.rules.specs.Sound.{farAllowed}
 use Rattle.rules.specs.Types as ie
-use Rattle.rules.specs.Message.{establishment, modification, deletion, kindOf, body, bodyPlace, inside, Element, elements, actedOn, placesOf, numberWidth}
-use Rattle.rules.specs.Reading.{NewPdr, NewEndpoint, Change, Item, createsPdr, createsEndpoint, updatesPdr, removesPdr, removesEndpoint, setsCsid, clearsCsids, updatesEndpoint, CsidChanges, cleared, changed, Request, Reading, faulty, done, refusal, named, Members, noMembers, withPdi, withLocal, holds, numberRead, farRead, pdiIn, valueRead, memberRead, membersRead, unopened, pdiEnd, pdiRead, pdrFrom, endpointFrom, changeFrom, itemFrom, groupRead, Draft, emptyDraft, withSeid, withRestores, withNode, withItem, seidRead, flagsRead, csidCountAllowed, withCsid, csidRead, actedRead, elementRead, elementsRead, pdrIn, endpointIn, changeIn, csidIn, clears, restoringIn, requestOf, createsAny, finished, aloneIn, topRead, read, faultIn, readFault, askedIn, readRequest}
+use Rattle.rules.specs.Message.{establishment, modification, setDeletion, kindOf, headerLength, body, inside, Element, elements, actedOn, placesOf, numberWidth}
+use Rattle.rules.specs.Reading.{NewPdr, NewEndpoint, Change, Item, createsPdr, createsEndpoint, updatesPdr, removesPdr, removesEndpoint, setsCsid, clearsCsids, updatesEndpoint, CsidChanges, cleared, changed, Request, Reading, faulty, done, refusal, named, Members, noMembers, withPdi, withLocal, holds, numberRead, farRead, pdiIn, valueRead, memberRead, membersRead, unopened, pdiEnd, pdiRead, pdrFrom, endpointFrom, changeFrom, itemFrom, groupRead, Draft, emptyDraft, withSeid, withRestores, withNode, withItem, seidRead, flagsRead, csidCountAllowed, withCsid, csidRead, actedRead, elementRead, elementsRead, pdrIn, endpointIn, changeIn, csidIn, clears, restoringIn, requestOf, createsAny, finished, aloneIn, sessionRead, listRead, listing, topRead, read, faultIn, readFault, askedIn, readRequest}
 
 -- ---- the records
 
@@ -206,7 +206,6 @@ pub record Steps (S : ℕ → Type 0) (C : Fqcsid → Type 0) (I : Item → Type
   pub seid : (n : ℕ) → S n → Q (withSeid n d)
   pub restores : (b : Bool) → Q (withRestores b d)
   pub clears : T (eqb t ie.fqcsid) → T alone → Q (withItem clearsCsids d)
-  pub checks : (n : ℕ) → Q (withNode n d)
   pub sets : T (eqb t ie.fqcsid) → (c : Fqcsid) → C c → Q (withNode (nodeOf c) (withItem (setsCsid c) d))
   pub updates : Q (withItem updatesEndpoint d)
   pub makes : (i : Item) → I i → Q (withItem i d)
@@ -214,7 +213,7 @@ pub record Steps (S : ℕ → Type 0) (C : Fqcsid → Type 0) (I : Item → Type
 pub element-step : (S : ℕ → Type 0) (C : Fqcsid → Type 0) (I : Item → Type 0) (kind : ℕ) (alone : Bool) (e : Element) (d : Draft) (Q : Draft → Type 0)
     → OnValue S (readFseid (e .content)) → OnValue C (readFqcsid (e .content)) → OnDone I (groupRead (e .type) (e .place) (e .content)) → Steps S C I alone (e .type) d Q
     → OnDone Q (elementRead kind alone e d)
-unfolding elementRead actedRead seidRead flagsRead csidRead withCsid
+unfolding elementRead actedRead seidRead flagsRead csidRead
 element-step S C I kind alone e d Q hs hc hi k =
     pick-either (OnDone Q) (member (e .type) (actedOn kind)) _ _
     (pick-either (OnDone Q) (eqb (e .type) ie.fseid) _ _
@@ -224,9 +223,8 @@ element-step S C I kind alone e d Q hs hc hi k =
     (pick-cases (OnDone Q) (eqb (e .type) ie.fqcsid) _ _
     (λ t. pick-cases (OnDone Q) (isNil (e .content) && eqb kind modification && alone) _ _
     (λ c. k .clears t (last (isNil (e .content)) (eqb kind modification) c))
-    (λ _. then-done C Q (named ie.fqcsid (e .place) (readFqcsid (e .content))) (λ c. pick (csidCountAllowed kind c && not (member (nodeOf c) (d .nodes))) (done (withCsid kind c d)) (refusal incorrect ie.fqcsid (e .place))) (named-done C ie.fqcsid (e .place) (readFqcsid (e .content)) hc)
-    (λ c g. pick-either (OnDone Q) (csidCountAllowed kind c && not (member (nodeOf c) (d .nodes))) (done (withCsid kind c d)) (refusal incorrect ie.fqcsid (e .place))
-    (pick-either (λ (x : Draft). Q (withNode (nodeOf c) x)) (eqb kind deletion) d (withItem (setsCsid c) d) (k .checks (nodeOf c)) (k .sets t c g)) tt)))
+    (λ _. then-done C Q (named ie.fqcsid (e .place) (readFqcsid (e .content))) (λ c. pick (csidCountAllowed kind c && not (member (nodeOf c) (d .nodes))) (done (withCsid c d)) (refusal incorrect ie.fqcsid (e .place))) (named-done C ie.fqcsid (e .place) (readFqcsid (e .content)) hc)
+    (λ c g. pick-either (OnDone Q) (csidCountAllowed kind c && not (member (nodeOf c) (d .nodes))) (done (withCsid c d)) (refusal incorrect ie.fqcsid (e .place)) (k .sets t c g) tt)))
     (λ _. pick-either (OnDone Q) (eqb (e .type) ie.updateEndpoint) _ _ (k .updates) (then-done I Q (groupRead (e .type) (e .place) (e .content)) (λ i. done (withItem i d)) hi (k .makes))))))
     (k .skips)
   where
@@ -247,7 +245,6 @@ element-read kind alone e d h b =
       seid = λ n k. (k, b .1);
       restores = λ _. b;
       clears = λ _ _. more clearsCsids tt;
-      checks = λ _. b;
       sets = λ _ c k. more (setsCsid c) k;
       updates = more updatesEndpoint tt;
       makes = more;
@@ -311,12 +308,20 @@ finished-read kind d b =
     (λ no-est. (request-of 0 d (b .1), λ est. absurd (T-not (eqb kind establishment) no-est est)))
 
 module _ (msg : List ℕ) (h : T (areBytes msg)) where
+  -- a set deletion creates and changes nothing
+  listing-read : (kind : ℕ) → T (eqb kind setDeletion) → (cs : List Fqcsid) → Finished kind (listing cs)
+  unfolding listing
+  listing-read kind is cs =
+      (record { pdrs = tt; endpoints = tt; changes = tt; csids = tt }, λ est. absurd (let a = eqb→eq kind setDeletion is in let b = eqb→eq kind establishment est in omega arith))
+
   message-read : OnDone (Finished (kindOf msg)) (read msg)
-  unfolding read topRead
+  unfolding read topRead sessionRead
   message-read =
-      let es = elements bodyPlace (body msg) in
-      then-done DraftRead (Finished (kindOf msg)) (elementsRead (kindOf msg) (aloneIn es) es emptyDraft) (finished (kindOf msg))
-      (elements-read (kindOf msg) (aloneIn es) es emptyDraft (clean-body msg h) (tt, tt)) (finished-read (kindOf msg))
+      let es = elements (headerLength msg) (body msg) in
+      pick-cases (OnDone (Finished (kindOf msg))) (eqb (kindOf msg) setDeletion) _ _
+      (λ is. then-done (λ _. Unit {0}) (Finished (kindOf msg)) (listRead es) (λ cs. done (listing cs)) (anything (listRead es)) (λ cs _. listing-read (kindOf msg) is cs))
+      (λ _. then-done DraftRead (Finished (kindOf msg)) (elementsRead (kindOf msg) (aloneIn es) es emptyDraft) (finished (kindOf msg))
+      (elements-read (kindOf msg) (aloneIn es) es emptyDraft (clean-body msg h) (tt, tt)) (finished-read (kindOf msg)))
 
   -- what a request asks for
   pub request-read : RequestRead (readRequest msg)

@@ -179,7 +179,6 @@ module _ (hasRow : Item → Bool) (no : hasRow updatesEndpoint ≡ false) where
         seid = λ _ _. same;
         restores = λ _. same;
         clears = λ t _. unfold clears in (omega (arith, row clearsCsids, marked clearsCsids .1, none-cleared alone (flag came + n) (d .items) (omega (arith, flagged came t)) f));
-        checks = λ _. same;
         sets = λ _ c k. more (setsCsid c) k;
         updates = omega (arith, keep-more hasRow (d .items) updatesEndpoint, ap flag no, marked updatesEndpoint .0);
         makes = more;

@@ -9,8 +9,8 @@ use mathlib.Core.List.{List, [], _∷_, map}
 use lib.ListN.{length}
 use lib.Dec.{T, T-not, not-T, eqb, eqb→eq, leb→le, lit<}
 use Rattle.octets.specs.Choice.{pick, valueOr, mapOption}
-use Rattle.octets.specs.Lists.{member, all, any, allPairs, findBy}
-use Rattle.octets.proofs.Tests.{and-left, and-right, each, is-false, all-head, all-tail, pick-no}
+use Rattle.octets.specs.Lists.{member, all, any, allPairs, findBy, keep, collect}
+use Rattle.octets.proofs.Tests.{and-left, and-right, each, is-false, all-head, all-tail, pick-no, pick-yes, of-true}
 use Rattle.octets.proofs.Ordered.{pairs-head, pairs-tail, ne-of}
 use Rattle.octets.proofs.ListLaws.{by-test, or-right, all-every, all-map, found-knows}
 use Rattle.octets.proofs.MemberLaws.{member-passes, none-in}
@@ -18,11 +18,11 @@ use Rattle.rules.specs.Limits.{maxSessions}
 use Rattle.rules.specs.Model.{Settings, Session, Sessions, teidOf, sessionHoldings, sessionTeids, heldTeids, freeCount, freeTeids}
 use Rattle.rules.specs.Layout.{viewSettings, viewSessions}
 use Rattle.rules.specs.Sound.{poolTests, settingsTests, settingsAllowed, inPool, apart, sessionsAllowed, sound, broken, free, countFree}
-use Rattle.rules.specs.Message.{kindOf, deletion}
+use Rattle.rules.specs.Message.{kindOf, deletion, setDeletion}
 use Rattle.rules.specs.Reading.{readRequest, Request}
 use Rattle.rules.specs.Grants.{Kind, choices, Grant, grantOf, grantTeid, isGrantFor, grants, grantedTeid, need}
-use Rattle.rules.specs.Stages.{hasSeid, newSession, entrySession}
-use Rattle.rules.specs.Apply.{keptPdr, keptEndpoint}
+use Rattle.rules.specs.Stages.{hasSeid, newSession, entrySession, unnamed, atEntry}
+use Rattle.rules.specs.Apply.{keptPdr, keptEndpoint, goesSession}
 use Rattle.rules.specs.Serve.{Served, serve}
 use Rattle.rules.specs.Live.{replied, accepted, createdTeid}
 use Rattle.rules.specs.Claim.{mapOf, Holds}
@@ -35,11 +35,12 @@ use Rattle.claim.proofs.FreeTeids.{free-there, held-in-pool, free-count}
 use Rattle.claim.proofs.KeptRules.{sessions-kept}
 use Rattle.claim.proofs.ChangedHolds.{stayingHoldings}
 use Rattle.claim.proofs.ServeLaws.{TableKept, table-kept, serve-sound}
-use Rattle.claim.proofs.AcceptedCall.{AcceptedCall, accepted-call, next-removed, next-deleted}
+use Rattle.claim.proofs.AcceptedCall.{AcceptedCall, accepted-call, next-removed, next-deleted, next-listed}
 use Rattle.pfcp_session.specs.Calls.{countAnswer, countCall, RequestCall}
 use Rattle.pfcp_session.specs.Runs.{Run, liveAfter, tableAfter, HostClaim}
 use Rattle.pfcp_session.specs.Accident.{entriesAfter, Accepted, Released, unremoved, spared, ReleasedIsRemoved, holds, OneHolder, NoTwoPatients}
 use Rattle.pfcp_session.proofs.RunLaws.{request-step, host-claim}
+use Rattle.laws.proofs.HeaderLaws.{unnamed-sets}
 
 -- ---- what a run leaves
 
@@ -128,8 +129,16 @@ module _ (run : Run) (msg space : List ℕ) (r : RequestCall) (a : Accepted run 
   removed-out n h gone =
       subst (λ (o : Served). Released (o .table) n) (sym same)
       (free-out (out .table) (table-kept maxSessions (out .table) (serve-sound maxSessions (lit< tt) t msg space (a .message) (call .answered .table))) n
-      (by-test (eqb (kindOf msg) deletion) (λ d. next-deleted maxSessions t msg space (a .message) call d n h) (λ d. next-removed maxSessions t msg space (a .message) call d n h (staying d gone))))
+      (by-test (eqb (kindOf msg) setDeletion) (λ d. absurd (no-records d h))
+      (λ ns. by-test (eqb (kindOf msg) deletion) (λ d. next-deleted maxSessions t msg space (a .message) call d n h) (λ d. next-removed maxSessions t msg space (a .message) call ns d n h (staying d gone)))))
     where
+      -- a set deletion is about a session without records
+      no-records : T (eqb (kindOf msg) setDeletion) → T (member n (sessionTeids (entrySession (viewSessions t) msg))) → ⊥
+      no-records d g =
+          unfold entrySession atEntry newSession sessionTeids sessionHoldings collect member in (
+          subst (λ (y : Session). T (member n (sessionTeids y)))
+          (pick-yes (unnamed (kindOf msg)) (newSession (readRequest msg .seid)) _ (of-true (unnamed-sets (kindOf msg) (eqb→eq (kindOf msg) setDeletion d)))) g)
+
       x : Session
       x = entrySession (viewSessions t) msg
 
@@ -137,6 +146,13 @@ module _ (run : Run) (msg space : List ℕ) (r : RequestCall) (a : Accepted run 
       staying d g =
           unfold spared sessionTeids sessionHoldings unremoved keptPdr keptEndpoint in (
           subst (λ (y : Session). T (not (member n (map teidOf (sessionHoldings y))))) (pick-no (eqb (kindOf msg) deletion) (newSession (x .seid)) (unremoved (readRequest msg) x) d) g)
+
+  -- a TEID of a session that a set deletion takes out
+  listed-out : T (eqb (kindOf msg) setDeletion) → (n : ℕ) → T (member n (heldTeids (keep (goesSession (readRequest msg .listed)) (viewSessions t)))) → Released (r .table) n
+  listed-out d n h =
+      subst (λ (o : Served). Released (o .table) n) (sym same)
+      (free-out (out .table) (table-kept maxSessions (out .table) (serve-sound maxSessions (lit< tt) t msg space (a .message) (call .answered .table))) n
+      (next-listed maxSessions t msg space (a .message) call d n h))
 
   -- a TEID that the reply grants
   granted-unheld : (k : Kind) (id : ℕ) → T (not (member (createdTeid (r .space) k id) (heldTeids (viewSessions t))))
@@ -209,6 +225,7 @@ released-is-removed run =
       count = ap countAnswer (l .count) ∙ ap (λ (n : ℕ). record { outcome = 0; count = n }) (sym (free-count maxSessions s m allowed));
       unheld = λ n h g. out-of-use t k n (in-table n h) (subst (λ (w : Sessions). T (not (member n (heldTeids w)))) (sym (l .records)) g);
       removed = λ msg space r a n h g. removed-out run msg space r a n h g;
+      listed = λ msg space r a d n h. listed-out run msg space r a d n h;
     }
 
 pub no-two-patients : (run : Run) → NoTwoPatients run

@@ -13,11 +13,11 @@ use Rattle.octets.specs.Lists.{member, ascending, any, keep}
 use Rattle.rules.specs.Model.{Session, Sessions, sessionTeids, heldTeids, freeTeids, seidOf}
 use Rattle.rules.specs.Layout.{viewSettings, viewSessions}
 use Rattle.rules.specs.Sound.{inPool}
-use Rattle.rules.specs.Message.{deletion, kindOf}
+use Rattle.rules.specs.Message.{deletion, kindOf, setDeletion}
 use Rattle.rules.specs.Reading.{readRequest, Request}
 use Rattle.rules.specs.Grants.{Kind}
 use Rattle.rules.specs.Stages.{hasSeid, newSession, removedPdrs, entrySession}
-use Rattle.rules.specs.Apply.{keptPdr, keptEndpoint}
+use Rattle.rules.specs.Apply.{keptPdr, keptEndpoint, goesSession}
 use Rattle.rules.specs.Live.{replied, accepted, createdTeid}
 use Rattle.rules.specs.Claim.{mapOf}
 use Rattle.pool.specs.Map.{marked}
@@ -60,7 +60,8 @@ spared msg x = pick (eqb (kindOf msg) deletion) (newSession (x .seid)) (unremove
 
 -- * the TEIDs in the records of the table are those in the live records, the map marks just those, and the free count is of all others of the pool;
 -- * a TEID of the pool that no live record holds is out of use;
--- * a TEID that the session which an accepted request is about (`entrySession`) held only in records that it removed is out of use after it
+-- * a TEID that the session which an accepted request is about (`entrySession`) held only in records that it removed is out of use after it;
+-- * a TEID that a session which an accepted set deletion takes out held is out of use after it
 pub record ReleasedIsRemoved (run : Run) : Type 0 where
   pub records : heldTeids (entriesAfter run) ≡ heldTeids (liveAfter run)
   pub marks : (n : ℕ) → T (inPool (run .settings) n) → marked (mapOf (tableAfter run)) (n - run .settings .first) ≡ member n (heldTeids (liveAfter run))
@@ -69,6 +70,9 @@ pub record ReleasedIsRemoved (run : Run) : Type 0 where
   pub removed : (msg space : List ℕ) (r : RequestCall) → Accepted run msg space r → (n : ℕ)
       → T (member n (sessionTeids (entrySession (entriesAfter run) msg)))
       → T (not (member n (sessionTeids (spared msg (entrySession (entriesAfter run) msg)))))
+      → Released (r .table) n
+  pub listed : (msg space : List ℕ) (r : RequestCall) → Accepted run msg space r → T (eqb (kindOf msg) setDeletion) → (n : ℕ)
+      → T (member n (heldTeids (keep (goesSession (readRequest msg .listed)) (entriesAfter run))))
       → Released (r .table) n
 
 -- ---- no two patients

@@ -104,4 +104,5 @@ requestIn seid restoring noted rows =
       goneEndpoints = map rowEndpointId (tagged ie.removeEndpoint rows);
       csids = pick (any isNullRow (tagged ie.fqcsid rows)) cleared (changed (collect rowCsid (tagged ie.fqcsid rows)));
       unsupported = noted || any rowPdi (tagged ie.updatePdr rows);
+      listed = [];
     }

@@ -20,11 +20,12 @@ use Rattle.rules.specs.Stages.{Verdict}
 use Rattle.rules.specs.Reply.{element, unitElement, createdPdr, createdPdrContent, createdEndpoint, createdEndpointContent, created, offendingElement, nodeIdElement, unitFseid, acceptedPart, replyBody}
 use Rattle.rules.specs.Types as ie
 use Rattle.rules.specs.Causes as why
-use Rattle.rules.specs.Message.{establishment}
+use Rattle.rules.specs.Message.{establishment, setDeletion}
 use Rattle.created.specs.Groups.{kindIn, group, groups}
 use Rattle.reply.specs.Parts.{bodyFront}
 use Rattle.writing.proofs.PlacedLaws.{length-element}
 use Rattle.created.proofs.GroupSteps.{groups-more, groups-none, length-created}
+use mathlib.Core.Bool.{_||_}
 
 abbrev atMost : ℕ → List ℕ → Type 0
 atMost n xs = length xs ≤ n
@@ -53,7 +54,7 @@ length-offending (some t) = rw length-element (omega (arith, length-be 2 t))
 module _ (s : Settings) (four : length (s .ipv4) ≤ 4) where
   pub length-node : (kind : ℕ) → length (nodeIdElement kind s) ≤ 9
   unfolding nodeIdElement
-  length-node kind = pick-either (atMost 9) (eqb kind establishment) _ [] (rw length-element (omega arith)) (omega arith)
+  length-node kind = pick-either (atMost 9) (eqb kind establishment || eqb kind setDeletion) _ [] (rw length-element (omega arith)) (omega arith)
 
   pub length-front : (kind cause : ℕ) → length (bodyFront kind s cause) ≤ 14
   unfolding bodyFront

@@ -1,5 +1,5 @@
 -- The header before the elements, and the whole replies: from what the calls leave. Assumes nothing.
-use mathlib.Core.Path.{_≡_, ap₂, _∙_}
+use mathlib.Core.Path.{_≡_, ap₂, _∙_, refl, sym, ap}
 use mathlib.Core.Option.{Option}
 use mathlib.Core.List.{List, [], _∷_, _++_, append-assoc, append-nil}
 use Prim.Native.Nat.{ℕ, _+_, _-_, _≤_}
@@ -7,40 +7,44 @@ use native.Mathlib.Nat.{zero-add}
 use native.Mathlib.Omega.{arith}
 use borrow.Author.Tests.{eq-eqb, ne-eqb}
 use lib.ListN.{length, getD, take, drop}
-use Rattle.octets.specs.Octets.{put, part, number, numberAt, octetAt}
+use Rattle.octets.specs.Octets.{put, part, number, numberAt, octetAt, concatMap}
 use Rattle.laws.proofs.ReplyLaws.{sequence-three}
 use Rattle.rules.specs.Model.{Settings}
 use Rattle.unit.specs.declared.Settings.{Settings as Unit}
 use Rattle.unit.specs.Meaning.{settingsOf}
-use Rattle.rules.specs.Message.{kindOf, headerSeid, sequenceOf, establishment}
-use Rattle.rules.specs.Grants.{Grant}
+use Rattle.rules.specs.Message.{kindOf, headerSeid, sequenceOf, establishment, setDeletion, headerLength}
+use Rattle.rules.specs.Grants.{Grant, grantsOf}
 use Rattle.rules.specs.Stages.{Verdict, plain}
-use Rattle.rules.specs.Reply.{element, created, offendingElement, nodeIdElement, unitFseid, acceptedPart, replyBody, replySeid, reply}
+use Rattle.rules.specs.Reply.{element, created, offendingElement, nodeIdElement, unitFseid, acceptedPart, replyBody, replySeid, reply, message}
 use Rattle.rules.specs.Types as ie
 use Rattle.rules.specs.Causes as why
 use Rattle.writing.specs.Placed.{Placed, written}
-use Rattle.reply.specs.Parts.{replyHead, bodyFront}
-use Rattle.reply.proofs.LengthLaws.{unit-ipv4, unit-ipv6, length-node, length-front, length-fseid, length-created-most, length-body}
-use Rattle.writing.specs.Heads.{messageHead}
+use Rattle.reply.specs.Parts.{replyHead, bodyFront, WithSeid, Listing}
+use Rattle.reply.proofs.LengthLaws.{unit-ipv4, unit-ipv6, length-node, length-front, length-fseid, length-created-most, length-body, length-offending}
+use Rattle.writing.specs.Heads.{messageHead, listHead}
 use Rattle.writing.proofs.PlacedLaws.{placed-then}
-use Rattle.writing.proofs.ElementSteps.{placed-message}
+use Rattle.writing.proofs.ElementSteps.{placed-message, placed-list}
+use mathlib.Core.Bool.{Bool, true, false}
+use lib.Dec.{eqb}
+use Rattle.octets.specs.Choice.{pick}
+use Rattle.octets.specs.Lists.{keep}
 
 -- ---- the first elements
 
-module _ (u : Unit) (kind cause : ℕ) (out : List ℕ) (room : 30 ≤ length out) {next : ℕ} {out₁ : List ℕ} (p : Placed out 16 (nodeIdElement kind (settingsOf u)) next out₁) where
+module _ (u : Unit) (kind cause at : ℕ) (out : List ℕ) (room : at + 14 ≤ length out) {next : ℕ} {out₁ : List ℕ} (p : Placed out at (nodeIdElement kind (settingsOf u)) next out₁) where
   pub front-room : length out₁ ≡ length out → next + 5 ≤ length out₁
   front-room l = let e = p .ends in omega (arith, length-node (settingsOf u) (unit-ipv4 u) kind)
 
-  pub front-steps : {end : ℕ} {out₂ : List ℕ} → Placed out₁ next (element ie.cause (cause ∷ [])) end out₂ → Placed out 16 (bodyFront kind (settingsOf u) cause) end out₂
+  pub front-steps : {end : ℕ} {out₂ : List ℕ} → Placed out₁ next (element ie.cause (cause ∷ [])) end out₂ → Placed out at (bodyFront kind (settingsOf u) cause) end out₂
   unfolding bodyFront
   front-steps q = placed-then p q (omega (arith, length-node (settingsOf u) (unit-ipv4 u) kind))
 
 -- ---- the header
 
-pub finish-steps : (msg out : List ℕ) (cause seid s end : ℕ) {out₁ : List ℕ} → s ≡ replySeid (kindOf msg) cause (headerSeid msg) seid
+pub finish-steps : (msg out : List ℕ) (cause seid s end : ℕ) {out₁ : List ℕ} → WithSeid msg → s ≡ replySeid (kindOf msg) cause (headerSeid msg) seid
     → out₁ ≡ put 0 (messageHead (getD msg 1 0 + 1) s (take 3 (drop 12 msg)) (end - 16)) out → out₁ ≡ put 0 (replyHead msg seid cause (end - 16)) out
-unfolding replyHead kindOf octetAt sequenceOf
-finish-steps msg out cause seid s end e p = rw (← e) p
+unfolding replyHead kindOf octetAt sequenceOf headerLength
+finish-steps msg out cause seid s end w e p = rw (w .seid, ← e) p
 
 -- ---- the reply's SEID
 
@@ -66,15 +70,25 @@ module _ (msg : List ℕ) (cause seid : ℕ) where
 
 -- ---- the whole
 
+seid-three : (msg : List ℕ) → WithSeid msg → length (sequenceOf msg) ≡ 3
+unfolding headerLength
+seid-three msg h = sequence-three msg (rw (h .seid) (h .long))
+
+seid-reply : (s : Settings) (msg : List ℕ) (seid : ℕ) (v : Verdict) (gs : List Grant) → WithSeid msg
+    → reply s msg seid v gs ≡ message (kindOf msg + 1) (replySeid (kindOf msg) (v .cause) (headerSeid msg) seid) (sequenceOf msg) (replyBody (kindOf msg) s seid v gs)
+unfolding reply
+seid-reply s msg seid v gs h = rw (h .seid)
+
 -- elements from octet 16 on with the header before them are the reply
 pub whole : (s : Settings) (msg : List ℕ) (seid : ℕ) (v : Verdict) (gs : List Grant) (out : List ℕ) {out₁ out₂ : List ℕ} {end : ℕ}
-    → 16 ≤ length msg → 16 + length (replyBody (kindOf msg) s seid v gs) ≤ length out
+    → WithSeid msg → 16 + length (replyBody (kindOf msg) s seid v gs) ≤ length out
     → Placed out 16 (replyBody (kindOf msg) s seid v gs) end out₁ → out₂ ≡ put 0 (replyHead msg seid (v .cause) (end - 16)) out₁
     → (end, out₂) ≡ written (reply s msg seid v gs) out
 unfolding reply replyHead
 whole s msg seid v gs out h room p q =
-    let w = placed-message (kindOf msg + 1) (replySeid (kindOf msg) (v .cause) (headerSeid msg) seid) (sequenceOf msg) (replyBody (kindOf msg) s seid v gs) out (sequence-three msg h) room p q in
-    ap₂ (λ (m : ℕ) (o : List ℕ). (m, o)) (w .ends ∙ zero-add (length (reply s msg seid v gs))) (w .holds)
+    let e = seid-reply s msg seid v gs h in
+    let w = placed-message (kindOf msg + 1) (replySeid (kindOf msg) (v .cause) (headerSeid msg) seid) (sequenceOf msg) (replyBody (kindOf msg) s seid v gs) out (seid-three msg h) room p q in
+    ap₂ (λ (m : ℕ) (o : List ℕ). (m, o)) (w .ends ∙ zero-add _) (w .holds) ∙ ap (λ (l : List ℕ). written l out) (sym e)
 
 module _ (s : Settings) (kind : ℕ) where
   pub refused-body : (cause : ℕ) (o : Option ℕ) → (cause ≡ why.accepted → ⊥)
@@ -88,7 +102,7 @@ module _ (s : Settings) (kind : ℕ) where
 
 -- ---- what a refusal and an acceptance write
 
-module _ (u : Unit) (msg out : List ℕ) (header : 16 ≤ length msg) (space : 1024 ≤ length out) where
+module _ (u : Unit) (msg out : List ℕ) (header : WithSeid msg) (space : 1024 ≤ length out) where
   abbrev st : Settings
   st = settingsOf u
 
@@ -120,3 +134,37 @@ module _ (u : Unit) (msg out : List ℕ) (header : 16 ≤ length msg) (space : 1
         let rest = placed-then q w (omega (arith, accepted-room)) in
         whole st msg seid (plain why.accepted) gs out header (omega (arith, length-body st (unit-ipv4 u) (unit-ipv6 u) kind seid (plain why.accepted) gs few))
         (rw (accepted-body st kind seid gs) at (placed-then p rest (omega (arith, accepted-room)))) r
+
+-- ---- set deletions
+
+-- nothing is created, so an acceptance has the same elements
+listed-body : (s : Settings) (cause : ℕ) (o : Option ℕ) → bodyFront setDeletion s cause ++ offendingElement o ≡ replyBody setDeletion s 0 (record { cause = cause; offending = o; place = 0 }) []
+unfolding bodyFront replyBody acceptedPart unitFseid created grantsOf keep concatMap
+listed-body s cause o =
+    rw (alike (eqb cause why.accepted), append-nil) (append-assoc (nodeIdElement setDeletion s) (element ie.cause (cause ∷ [])) (offendingElement o))
+  where
+    alike : (b : Bool) → _≡_ {A = List ℕ} (pick b [] []) []
+    alike true = refl
+    alike false = refl
+
+module _ (u : Unit) (msg out : List ℕ) (header : Listing msg) (space : 1024 ≤ length out) where
+  list-three : length (sequenceOf msg) ≡ 3
+  unfolding headerLength
+  list-three = sequence-three msg (rw (header .seid) (header .long))
+
+  pub listed-steps : (cause : ℕ) (o : Option ℕ) {out₁ out₂ out₃ : List ℕ} {next end : ℕ}
+      → Placed out 8 (bodyFront setDeletion (settingsOf u) cause) next out₁ → Placed out₁ next (offendingElement o) end out₂ → out₃ ≡ put 0 (listHead 15 (take 3 (drop 4 msg)) (end - 8)) out₂
+      → (end, out₃) ≡ written (reply (settingsOf u) msg 0 (record { cause = cause; offending = o; place = 0 }) []) out
+  unfolding reply sequenceOf headerLength
+  listed-steps cause o p q r =
+      let st = settingsOf u in
+      let v : Verdict = record { cause = cause; offending = o; place = 0 } in
+      let xs = replyBody setDeletion st 0 v [] in
+      let l : length xs ≤ 973 = length-body st (unit-ipv4 u) (unit-ipv6 u) setDeletion 0 v [] (omega arith) in
+      let a : Placed out 8 xs _ _ = rw (listed-body st cause o) at (placed-then p q (omega (arith, length-front st (unit-ipv4 u) setDeletion cause))) in
+      let w = placed-list 15 (take 3 (drop 4 msg)) xs out (rw (header .seid) at list-three) (omega arith) a r in
+      rw (header .seid, header .kind) (ap₂ (λ (m : ℕ) (o : List ℕ). (m, o)) (w .ends ∙ zero-add _) (w .holds))
+
+  -- how far they reach
+  pub listed-room : (cause : ℕ) (o : Option ℕ) → length (bodyFront setDeletion (settingsOf u) cause) + length (offendingElement o) ≤ 20
+  listed-room cause o = omega (arith, length-front (settingsOf u) (unit-ipv4 u) setDeletion cause, length-offending o)

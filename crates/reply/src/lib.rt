@@ -1,4 +1,5 @@
-// The reply to a request (01, "Reply"), written straight into the reply space: the elements from octet 16 on, then the header before them.
+// The reply to a request (01, "Reply"; 02 (vii)), written straight into the reply space: the elements after the place of the header, then the
+// header before them.
 ghost use mathlib.Core.Path.{_≡_};
 ghost use Prim.Native.Nat.{_+_, _-_, _≤_, _<_};
 ghost use mathlib.Core.List.{[]};
@@ -13,7 +14,7 @@ ghost use Rattle.rules.specs.Reply.{replySeid, offendingElement, reply};
 ghost use Rattle.rules.specs.Causes as why;
 ghost use Rattle.unit.specs.Meaning.{settingsOf};
 ghost use Rattle.writing.specs.Placed.{Placed, written};
-ghost use Rattle.reply.specs.Parts.{replyHead, bodyFront};
+ghost use Rattle.reply.specs.Parts.{WithSeid, Listing, replyHead, bodyFront};
 ghost use Rattle.reply.specs.Naming.{offendingIn, refusal};
 ghost use Rattle.created.specs.Groups.{idFits};
 ghost use Rattle.created.specs.Entries.{maxGrants, grantsAt, within};
@@ -42,12 +43,12 @@ fn reply_seid(msg: &[u8], cause: u8, seid: u64) -> u64
     octets::read(msg, 4, 8)
 }
 
-// What every reply has from octet 16 on: the Node ID in an establishment's, and the cause.
-fn write_front(u: Settings, kind: u8, cause: u8, out: &mut [u8]) -> usize
-    requires { ⌜ 30 ≤ length (now out) ⌝ }
-    ensures { λ r. ⌜ Placed (now (out .entry)) 16 (bodyFront kind (settingsOf u) cause) r (now (out .exit)) ⌝ }
+// What every reply has after its header, from a place on: the Node ID in those that have it, and the cause.
+fn write_front(u: Settings, kind: u8, cause: u8, out: &mut [u8], at: usize) -> usize
+    requires { ⌜ at + 14 ≤ length (now out) ⌝ }
+    ensures { λ r. ⌜ Placed (now (out .entry)) at (bodyFront kind (settingsOf u) cause) r (now (out .exit)) ⌝ }
 {
-    let next = writing::write_node_id(u, kind, out, 16);
+    let next = writing::write_node_id(u, kind, out, at);
     writing::write_cause(cause, out, next)
 }
 
@@ -64,7 +65,7 @@ fn write_offending(offending: Offending, out: &mut [u8], at: usize) -> usize
 
 // The header before elements that end at a place: the type after the request's, the request's sequence number.
 fn finish(msg: &[u8], cause: u8, seid: u64, end: usize, out: &mut [u8])
-    requires { ⌜ (16 ≤ length (now msg)) × (kindOf (now msg) < 255) × (16 ≤ end) × (end ≤ 1024) × (16 ≤ length (now out)) ⌝ }
+    requires { ⌜ WithSeid (now msg) × (kindOf (now msg) < 255) × (16 ≤ end) × (end ≤ 1024) × (16 ≤ length (now out)) ⌝ }
     ensures { λ _. ⌜ now (out .exit) ≡ put 0 (replyHead (now (msg .entry)) seid cause (end - 16)) (now (out .entry)) ⌝ }
 {
     let s = reply_seid(msg, cause, seid);
@@ -73,10 +74,10 @@ fn finish(msg: &[u8], cause: u8, seid: u64, end: usize, out: &mut [u8])
 
 // The whole reply of a refusal, at the front of out; the answer is its length.
 pub fn refused(u: Settings, msg: &[u8], cause: u8, offending: Offending, out: &mut [u8]) -> usize
-    requires { ⌜ (16 ≤ length (now msg)) × (kindOf (now msg) < 255) × (cause ≡ why.accepted → ⊥) × (1024 ≤ length (now out)) ⌝ }
+    requires { ⌜ WithSeid (now msg) × (kindOf (now msg) < 255) × (cause ≡ why.accepted → ⊥) × (1024 ≤ length (now out)) ⌝ }
     ensures { λ r. ⌜ (r, now (out .exit)) ≡ written (reply (settingsOf u) (now (msg .entry)) 0 (refusal cause offending) []) (now (out .entry)) ⌝ }
 {
-    let next = write_front(u, msg[1], cause, out);
+    let next = write_front(u, msg[1], cause, out, 16);
     let end = write_offending(offending, out, next);
     finish(msg, cause, 0, end, out);
     end
@@ -92,12 +93,23 @@ pub fn accepted(
     places: &[usize],
     out: &mut [u8],
 ) -> usize
-    requires { ⌜ (16 ≤ length (now msg)) × (kindOf (now msg) < 255) × (length (now places) ≤ maxGrants) × T (within (now plan) (now places)) × (all idFits (grantsAt (now plan) (now places)) ≡ true) × (1024 ≤ length (now out)) ⌝ }
+    requires { ⌜ WithSeid (now msg) × (kindOf (now msg) < 255) × (length (now places) ≤ maxGrants) × T (within (now plan) (now places)) × (all idFits (grantsAt (now plan) (now places)) ≡ true) × (1024 ≤ length (now out)) ⌝ }
     ensures { λ r. ⌜ (r, now (out .exit)) ≡ written (reply (settingsOf u) (now (msg .entry)) seid (plain why.accepted) (grantsAt (now (plan .entry)) (now (places .entry)))) (now (out .entry)) ⌝ }
 {
-    let next = write_front(u, msg[1], 1, out);
+    let next = write_front(u, msg[1], 1, out, 16);
     let own = writing::write_own_fseid(u, msg[1], seid, out, next);
     let end = created::write_created(u, plan, places, out, own);
     finish(msg, 1, seid, end, out);
+    end
+}
+
+// The whole reply to a set deletion, accepted or refused, at the front of out; the answer is its length. Its header has no SEID.
+pub fn listed(u: Settings, msg: &[u8], cause: u8, offending: Offending, out: &mut [u8]) -> usize
+    requires { ⌜ Listing (now msg) × (1024 ≤ length (now out)) ⌝ }
+    ensures { λ r. ⌜ (r, now (out .exit)) ≡ written (reply (settingsOf u) (now (msg .entry)) 0 (refusal cause offending) []) (now (out .entry)) ⌝ }
+{
+    let next = write_front(u, writing::SET_DELETION, cause, out, 8);
+    let end = write_offending(offending, out, next);
+    writing::write_list_header(writing::SET_DELETION + 1, &msg[4..7], end - 8, out);
     end
 }

@@ -2,7 +2,7 @@
 use mathlib.Core.Path.{_≡_, refl, sym, ap, subst, _∙_}
 use Prim.Native.Nat.{ℕ, zero, suc, _+_, _^_, _<_}
 use native.Mathlib.Omega.{arith}
-use mathlib.Core.Bool.{Bool, true, false, _||_}
+use mathlib.Core.Bool.{Bool, true, false}
 use mathlib.Core.Option.{none, some}
 use mathlib.Core.List.{List, [], _∷_, _++_, map}
 use lib.ListN.{length}
@@ -16,7 +16,7 @@ use Rattle.octets.proofs.Numbers.{number-be}
 use Rattle.rules.specs.Elements.{Fqcsid, sets, removal, csidsAt, csidFields, nodeOf}
 use Rattle.rules.specs.Reading.{setsCsid, clearsCsids, csidCountAllowed}
 use Rattle.rules.specs.Types as ie
-use Rattle.rules.specs.Message.{modification, deletion}
+use Rattle.rules.specs.Message.{modification}
 use Rattle.plan.specs.Rows.{rowAddress}
 use Rattle.element.specs.FqCsid.{addressWidths, csidWidths, csidNumbers, addressIn, fqcsidTests, fqcsidMeant, fqcsidOf}
 use Rattle.element.specs.declared.fqcsid.FqCsid.{FqCsid}
@@ -35,17 +35,10 @@ unfolding slices
 length-slices zero xs = refl
 length-slices (suc m) xs = ap suc (length-slices m _)
 
-or-sym : (a b : Bool) → (a || b) ≡ (b || a)
-or-sym true true = refl
-or-sym true false = refl
-or-sym false true = refl
-or-sym false false = refl
-
 count-of : (k m t : ℕ) (a xs : List ℕ) (n : ℕ) → csidCountAllowed k (csidFields m t a (csidsAt m xs) n) ≡ countIn k m
 unfolding csidCountAllowed csidFields countIn csidsAt
 count-of k zero t a xs n = refl
-count-of k (suc m) t a xs n =
-    rw (length-slices (suc m) xs, ne-eqb (suc m) 0 (λ e. absurd (omega arith))) (or-sym (eqb k deletion) (eqb (suc m) 1))
+count-of k (suc m) t a xs n = rw (length-slices (suc m) xs, ne-eqb (suc m) 0 (λ e. absurd (omega arith)))
 
 address-same : (t h l : ℕ) → pick (eqb t ie.createPdr) (be 8 h ++ be 8 l) (be 4 l) ≡ fieldOctets (addressWidths t) (h ∷ l ∷ [])
 unfolding addressWidths fieldOctets be
@@ -98,15 +91,15 @@ module _ (x : FqCsid) (y : Fqcsid) (means : fqcsidOf x ≡ some y) where
       ap (λ (a : List ℕ). sets (x .«id_type») a (x .«csids_1» ∷ []) (x .«node_type»)) (address-same (x .«id_type») (x .«address_high») (x .«address_low»))
       ∙ sym (one-of-them (x .count) (x .«id_type») (addressIn x) _ (x .«csids_2») (x .«csids_3») (x .«csids_4») (x .«node_type») e small) ∙ meant .0
 
-  pub csid-row : (k : ℕ) → true ≡ countIn k (x .count) → (k ≡ deletion → ⊥) → rowItem (csidWords (csidFrom x)) ≡ setsCsid y
+  pub csid-row : (k : ℕ) → true ≡ countIn k (x .count) → rowItem (csidWords (csidFrom x)) ≡ setsCsid y
   unfolding rowItem itemOf csidItem csidFrom rowAddress countIn
-  csid-row k h n = go (x .count) refl
+  csid-row k h = go (x .count) refl
     where
       go : (m : ℕ) → x .count ≡ m → rowItem (csidWords (csidFrom x)) ≡ setsCsid y
       go zero e = rw e (ap setsCsid (removes e))
       go (suc zero) e = rw e (ap setsCsid (sets-one e))
       go (suc (suc m)) e =
-          let b : true ≡ false = h ∙ rw (e, ne-eqb (suc (suc m)) 0 (λ z. absurd (omega arith)), ne-eqb (suc (suc m)) 1 (λ z. absurd (omega arith)), ne-eqb k deletion n) in
+          let b : true ≡ false = h ∙ rw (e, ne-eqb (suc (suc m)) 0 (λ z. absurd (omega arith)), ne-eqb (suc (suc m)) 1 (λ z. absurd (omega arith))) in
           let z : _≡_ {A = ℕ} 0 1 = cc in
           absurd (omega arith)
 
@@ -125,6 +118,6 @@ module _ (kind m : ℕ) where
   unfolding countIn
   one-csid e = rw e
 
-  pub more-csids : (m ≡ 0 → ⊥) → (m ≡ 1 → ⊥) → eqb kind deletion ≡ countIn kind m
+  pub more-csids : (m ≡ 0 → ⊥) → (m ≡ 1 → ⊥) → false ≡ countIn kind m
   unfolding countIn
   more-csids a b = rw (ne-eqb m 0 a, ne-eqb m 1 b)

@@ -7,12 +7,12 @@ use mathlib.Core.Option.{Option, none, some}
 use mathlib.Core.List.{List, [], _∷_}
 use lib.ListN.{length, set, getD}
 use lib.Dec.{eqb}
-use borrow.Author.Tests.{ne-eqb, eqb-true}
+use borrow.Author.Tests.{ne-eqb}
 use Rattle.octets.specs.Choice.{pick, isNil, mapOption}
 use Rattle.octets.specs.Octets.{put}
 use Rattle.octets.specs.Lists.{member, keep}
 use Rattle.rules.specs.Elements.{Refusal, incorrect, causeOf, refuse, value, readFqcsid, Fqcsid}
-use Rattle.rules.specs.Message.{bodyPlace, elements, hasType, modification, deletion}
+use Rattle.rules.specs.Message.{bodyPlace, elements, hasType, modification}
 use Rattle.rules.specs.Reading as rules
 use Rattle.rules.specs.Reading.{setsCsid, clearsCsids, Reading, done, refusal, withItem, withNode, withCsid, csidRead, pdrIn, aloneIn}
 use Rattle.rules.specs.Types as ie
@@ -64,11 +64,11 @@ module _ (kind : ℕ) (alone : Bool) (p : ℕ) (v nodes words : List ℕ) (c : D
 
       -- the rules' step, by what the code tests
       value-is : (y : Fqcsid) → fqcsidOf x ≡ some y → readFqcsid v ≡ value y → {d : rules.Draft} → Means d c nodes words
-          → csidRead kind alone p v d ≡ pick (countIn kind (x .count) && not (met (x .«node_type») nodes)) (done (withCsid kind y d)) (refusal incorrect ie.fqcsid p)
+          → csidRead kind alone p v d ≡ pick (countIn kind (x .count) && not (met (x .«node_type») nodes)) (done (withCsid y d)) (refusal incorrect ie.fqcsid p)
       unfolding csidRead
       value-is y q h {d} m =
           rw (← other, h)
-          (ap₂ (λ (a b : Bool). pick (a && not b) (done (withCsid kind y d)) (refusal incorrect ie.fqcsid p)) (meant-count x y q kind) (ap (λ (n : ℕ). member n (d .nodes)) (meant-node x y q) ∙ sym (m .seen (x .«node_type»))))
+          (ap₂ (λ (a b : Bool). pick (a && not b) (done (withCsid y d)) (refusal incorrect ie.fqcsid p)) (meant-count x y q kind) (ap (λ (n : ℕ). member n (d .nodes)) (meant-node x y q) ∙ sym (m .seen (x .«node_type»))))
 
       pub csid-count : false ≡ countIn kind (x .count) → Follows (csidRead kind alone p v) c nodes words (Fault why.incorrect ie.fqcsid p) nodes words
       unfolding causeOf
@@ -89,27 +89,20 @@ module _ (kind : ℕ) (alone : Bool) (p : ℕ) (v nodes words : List ℕ) (c : D
           })
 
       module _ (h : true ≡ countIn kind (x .count)) (n : getD nodes (x .«node_type») 0 ≡ 0) (wide : length nodes ≡ 16) where
-        went-on : (y : Fqcsid) → fqcsidOf x ≡ some y → readFqcsid v ≡ value y → {d : rules.Draft} → Means d c nodes words → csidRead kind alone p v d ≡ done (withCsid kind y d)
+        went-on : (y : Fqcsid) → fqcsidOf x ≡ some y → readFqcsid v ≡ value y → {d : rules.Draft} → Means d c nodes words → csidRead kind alone p v d ≡ done (withCsid y d)
         went-on y q e m = value-is y q e m ∙ rw (← h, n)
 
         low : x .«node_type» < length nodes
         low = let l = node-small in omega arith
 
-        pub csid-checked : kind ≡ deletion → Follows (csidRead kind alone p v) c nodes words (Next c) (set nodes (x .«node_type») 1) words
-        csid-checked is =
-            with-value _ (λ y q e. record {
-              follows = λ d m.
-                  went (withNode (x .«node_type») d) (went-on y q e m ∙ unfold withCsid in (rw (is, meant-node x y q))) (node-added m (x .«node_type») low);
-            })
-
-        pub csid-taken : (kind ≡ deletion → ⊥) → 18 * c .rows + 18 ≤ length words → {z : Csid} {b : Draft} {words′ : List ℕ} → z ≡ csidFrom x → (b ≡ withRow false c) × (words′ ≡ put (18 * c .rows) (csidWords z) words)
+        pub csid-taken : 18 * c .rows + 18 ≤ length words → {z : Csid} {b : Draft} {words′ : List ℕ} → z ≡ csidFrom x → (b ≡ withRow false c) × (words′ ≡ put (18 * c .rows) (csidWords z) words)
             → Follows (csidRead kind alone p v) c nodes words (Next b) (set nodes (x .«node_type») 1) words′
-        csid-taken not-54 room i to =
+        csid-taken room i to =
             rw (to .0, to .1, i)
             (with-value _ (λ y q e. record {
               follows = λ d m.
-                  went (withNode (x .«node_type») (withItem (setsCsid y) d)) (went-on y q e m ∙ unfold withCsid in (rw (ne-eqb kind deletion not-54, meant-node x y q)))
-                  (node-added (row-added m (setsCsid y) (csidWords (csidFrom x)) false (csid-row x y q kind h not-54) (unfold hasRow isUpdate in refl) (unfold pdrIn in refl) refl room) (x .«node_type») low);
+                  went (withNode (x .«node_type») (withItem (setsCsid y) d)) (went-on y q e m ∙ rw (meant-node x y q))
+                  (node-added (row-added m (setsCsid y) (csidWords (csidFrom x)) false (csid-row x y q kind h) (unfold hasRow isUpdate in refl) (unfold pdrIn in refl) refl room) (x .«node_type») low);
             }))
 
 -- ---- a null FQ-CSID that stands alone
@@ -136,12 +129,3 @@ module _ (s v : List ℕ) (kind : ℕ) where
       go : (xs : List ℕ) → length xs ≡ 0 → eqb n 1 ≡ (isNil xs && eqb kind modification && eqb (length (keep (hasType ie.fqcsid) (elements bodyPlace s))) 1)
       go [] h = rw (k, e, counts-alike ie.fqcsid 0 bodyPlace s)
       go (x ∷ xs) h = absurd (omega arith)
-
--- it is a modification's, so that it has a row
-pub clearing-change : (v : List ℕ) (kind : ℕ) (alone : Bool) → true ≡ (isNil v && eqb kind modification && alone) → eqb kind deletion ≡ false
-clearing-change v kind alone h = go (isNil v) (eqb kind modification) refl h
-  where
-    go : (a b : Bool) → eqb kind modification ≡ b → true ≡ (a && b && alone) → eqb kind deletion ≡ false
-    go true true e q = ap (λ (n : ℕ). eqb n deletion) (eqb-true kind modification e)
-    go true false e q = let z : _≡_ {A = ℕ} 0 1 = cc in absurd (omega arith)
-    go false b e q = let z : _≡_ {A = ℕ} 0 1 = cc in absurd (omega arith)

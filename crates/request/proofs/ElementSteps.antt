@@ -5,11 +5,11 @@ use Prim.Native.Nat.{ℕ}
 use mathlib.Core.Bool.{Bool, true, false}
 use mathlib.Core.List.{List, [], _∷_}
 use lib.Dec.{eqb}
-use borrow.Author.Tests.{ne-eqb, eqb-true}
+use borrow.Author.Tests.{ne-eqb}
 use Rattle.octets.specs.Choice.{pick}
 use Rattle.octets.specs.Lists.{member}
 use Rattle.octets.proofs.Tests.{of-true}
-use Rattle.rules.specs.Message.{actedOn, establishment, modification, deletion}
+use Rattle.rules.specs.Message.{actedOn, establishment, modification, setDeletion}
 use Rattle.rules.specs.Reading as rules
 use Rattle.rules.specs.Reading.{updatesEndpoint, Reading, done, withItem, seidRead, flagsRead, csidRead, actedRead, elementRead}
 use Rattle.rules.specs.Types as ie
@@ -52,26 +52,10 @@ module _ (kind : ℕ) (alone : Bool) (t p : ℕ) (v nodes words : List ℕ) (c :
     unfolding actedRead
     element-note e i = rw i (acted (λ d. done (withItem updatesEndpoint d)) (λ d. rw e) (record { follows = λ d m. went (withItem updatesEndpoint d) refl (note-added m) }))
 
-    -- a deletion acts on FQ-CSIDs alone
-    pub acted-rows : (t ≡ ie.fqcsid → ⊥) → eqb kind deletion ≡ false
-    acted-rows h = go (eqb kind deletion) refl
-      where
-        alone-65 : actedOn deletion ≡ 65 ∷ []
-        alone-65 = unfold actedOn in refl
-
-        in-54 : kind ≡ deletion → ⊥
-        in-54 e =
-            let m : member t (ie.fqcsid ∷ []) ≡ true = sym (ap (λ (k : ℕ). member t (actedOn k)) e ∙ ap (member t) alone-65) ∙ sym on in
-            h (one-of t 65 [] (of-true m))
-
-        go : (q : Bool) → eqb kind deletion ≡ q → q ≡ false
-        go true e = absurd (in-54 (eqb-true kind deletion e))
-        go false e = refl
-
     module _ (a : t ≡ ie.fseid → ⊥) (b : t ≡ ie.sessionFlags → ⊥) (f : t ≡ ie.fqcsid → ⊥) (g : t ≡ ie.updateEndpoint → ⊥) where
       pub acted-group : member t groupTypes ≡ true
       unfolding actedOn member
-      acted-group = go (eqb kind establishment) (eqb kind modification) (sym on)
+      acted-group = go (eqb kind establishment) (eqb kind modification) (eqb kind setDeletion) (sym on)
         where
           is : (k : ℕ) → t ≡ k → member k groupTypes ≡ true → member t groupTypes ≡ true
           is k e h = ap (λ (j : ℕ). member j groupTypes) e ∙ h
@@ -92,10 +76,11 @@ module _ (kind : ℕ) (alone : Bool) (t p : ℕ) (v nodes words : List ℕ) (c :
           modified (inr (inr (inr (inr (inr (inl e)))))) = absurd (f e)
           modified (inr (inr (inr (inr (inr (inr e)))))) = absurd (g e)
 
-          go : (x y : Bool) → member t (pick x (ie.fseid ∷ ie.sessionFlags ∷ ie.createPdr ∷ ie.createEndpoint ∷ ie.fqcsid ∷ []) (pick y (ie.createPdr ∷ ie.createEndpoint ∷ ie.updatePdr ∷ ie.removePdr ∷ ie.removeEndpoint ∷ ie.fqcsid ∷ ie.updateEndpoint ∷ []) (ie.fqcsid ∷ []))) ≡ true → member t groupTypes ≡ true
-          go true y h = established (one-of t ie.fseid (ie.sessionFlags ∷ ie.createPdr ∷ ie.createEndpoint ∷ ie.fqcsid ∷ []) (of-true h))
-          go false true h = modified (one-of t 1 (ie.createEndpoint ∷ ie.updatePdr ∷ ie.removePdr ∷ ie.removeEndpoint ∷ ie.fqcsid ∷ ie.updateEndpoint ∷ []) (of-true h))
-          go false false h = absurd (f (one-of t 65 [] (of-true h)))
+          go : (x y z : Bool) → member t (pick x (ie.fseid ∷ ie.sessionFlags ∷ ie.createPdr ∷ ie.createEndpoint ∷ ie.fqcsid ∷ []) (pick y (ie.createPdr ∷ ie.createEndpoint ∷ ie.updatePdr ∷ ie.removePdr ∷ ie.removeEndpoint ∷ ie.fqcsid ∷ ie.updateEndpoint ∷ []) (pick z (ie.fqcsid ∷ []) []))) ≡ true → member t groupTypes ≡ true
+          go true y z h = established (one-of t ie.fseid (ie.sessionFlags ∷ ie.createPdr ∷ ie.createEndpoint ∷ ie.fqcsid ∷ []) (of-true h))
+          go false true z h = modified (one-of t 1 (ie.createEndpoint ∷ ie.updatePdr ∷ ie.removePdr ∷ ie.removeEndpoint ∷ ie.fqcsid ∷ ie.updateEndpoint ∷ []) (of-true h))
+          go false false true h = absurd (f (one-of t 65 [] (of-true h)))
+          go false false false h = absurd (of-true h)
 
       pub element-group : {r : Step} {words′ : List ℕ} → Puts (groupAt t p v) c words r words′ → Follows (elementAt kind alone t p v) c nodes words r nodes words′
       unfolding actedRead
@@ -112,6 +97,10 @@ module _ (m : ℕ) where
   unfolding actedOn
   in-modification e = rw e
 
-  pub in-deletion : (m ≡ establishment → ⊥) → (m ≡ modification → ⊥) → actedOn m ≡ 65 ∷ []
+  pub in-set-deletion : m ≡ setDeletion → actedOn m ≡ 65 ∷ []
   unfolding actedOn
-  in-deletion a b = rw (ne-eqb m establishment a, ne-eqb m modification b)
+  in-set-deletion e = rw e
+
+  pub in-others : (m ≡ establishment → ⊥) → (m ≡ modification → ⊥) → (m ≡ setDeletion → ⊥) → actedOn m ≡ []
+  unfolding actedOn
+  in-others a b d = rw (ne-eqb m establishment a, ne-eqb m modification b, ne-eqb m setDeletion d)

@@ -257,4 +257,5 @@ module _ {d : rules.Draft} {c : Draft} {nodes words : List ℕ} (m : Means d c n
         goneEndpoints = gone-endpoints j;
         csids = csids j;
         unsupported = unsupported j;
+        listed = [];
       }

@@ -11,9 +11,9 @@ use lib.Dec.{eqb}
 use Rattle.octets.specs.Choice.{pick}
 use Rattle.octets.specs.Octets.{slices}
 use Rattle.octets.specs.Lists.{any, keep, collect}
-use Rattle.rules.specs.Message.{bodyPlace, elements, body, kindOf, frameFault, establishment, deletion}
+use Rattle.rules.specs.Message.{bodyPlace, elements, headerLength, body, kindOf, frameFault, establishment}
 use Rattle.rules.specs.Reading as rules
-use Rattle.rules.specs.Reading.{Reading, faulty, done, andThen, Request, aloneIn, emptyDraft, elementsRead, finished, requestOf, topRead, read, askedIn, readRequest}
+use Rattle.rules.specs.Reading.{Reading, faulty, done, andThen, Request, aloneIn, emptyDraft, elementsRead, finished, sessionRead, topRead, read}
 use Rattle.laws.proofs.CsidLaws.{only-clear}
 use Rattle.plan.specs.Rows.{rowsOf, tagged, rowCsid, isNullRow}
 use Rattle.rules.specs.Types as ie
@@ -22,8 +22,8 @@ use Rattle.frame.proofs.Walk.{part-from}
 use Rattle.frame.specs.Framed.{faultIn}
 use Rattle.frame.specs.declared.Framing.{Framing}
 use Rattle.frame.specs.declared.Framing.the-variants as framing
-use Rattle.reading.specs.Verdicts.{stopped, got, numbered, outcome}
-use Rattle.reading.specs.declared.Verdict.the-variants as verdict
+use Rattle.reading.specs.Verdicts.{stopped, numbered}
+use Rattle.frame.specs.HeaderOf.{SessionHeader}
 use Rattle.request.specs.Items.{Enough, AllRead, planOf, concluded}
 use Rattle.request.specs.Requests.{refused, resultOf, fromFraming, readingOf, meant, rowsLeft, Read}
 use Rattle.request.specs.declared.Reading as code
@@ -47,26 +47,28 @@ pub not-framed : (msg : List ℕ) {words : List ℕ} (f : Framing) → faultIn f
 unfolding readingOf fromFraming
 not-framed msg f framed t p h = refused-whole (ap (fromFraming msg) (sym (ap faultIn h) ∙ framed))
 
-module _ (msg : List ℕ) (long : 16 ≤ length msg) where
+module _ (msg : List ℕ) (head : SessionHeader msg) where
   abbrev tail : List ℕ
   tail = take (length msg - 16) (drop 16 msg)
 
   tail-short : length msg ≤ 2048 → length (take (length msg - 16) (drop 16 msg)) ≤ 2032
-  tail-short h = let size : length tail ≡ length msg - 16 = ap length (part-from 16 msg) ∙ length-drop 16 msg in omega arith
+  tail-short h = let long = head .long in let size : length tail ≡ length msg - 16 = ap length (part-from 16 msg) ∙ length-drop 16 msg in omega arith
 
-  pub message-room : (k : ℕ) {words : List ℕ} → length msg ≤ 2048 → 4068 ≤ length words → Enough k (take (length msg - 16) (drop 16 msg)) words
-  message-room k short room = record { short = tail-short short; row = λ e. room }
-
-  pub deletion-room : {words : List ℕ} → length msg ≤ 2048 → Enough deletion (take (length msg - 16) (drop 16 msg)) words
-  deletion-room short = record { short = tail-short short; row = λ e. absurd (let z : _≡_ {A = ℕ} 0 1 = cc in omega arith) }
+  pub message-room : {words : List ℕ} → length msg ≤ 2048 → 4068 ≤ length words → Enough (take (length msg - 16) (drop 16 msg)) words
+  message-room short room = record { short = tail-short short; row = room }
 
   module _ {k : ℕ} (kind : k ≡ kindOf msg) where
     abbrev drafted : Reading rules.Draft
     drafted = elementsRead k (aloneIn (elements bodyPlace tail)) (elements bodyPlace tail) emptyDraft
 
+    -- the header has a SEID, so its elements start at octet 16
+    placed : elements (headerLength msg) (body msg) ≡ elements bodyPlace tail
+    unfolding headerLength body
+    placed = ap (λ (b : Bool). elements (pick b 16 8) (drop (pick b 16 8) msg)) (head .seid) ∙ ap (elements bodyPlace) (sym (part-from 16 msg))
+
     read-is : read msg ≡ andThen drafted (finished k)
-    unfolding read topRead body
-    read-is = ap₂ (λ (j : ℕ) (s : List ℕ). topRead j (elements bodyPlace s)) (sym kind) (sym (part-from 16 msg))
+    unfolding read topRead sessionRead
+    read-is = rw (head .kind) (ap₂ sessionRead (sym kind) placed)
 
     module _ {words : List ℕ} (r : Step) (all : AllRead (elementsRead k (aloneIn (elements bodyPlace (take (length msg - 16) (drop 16 msg)))) (elements bodyPlace (take (length msg - 16) (drop 16 msg))) emptyDraft) r words) where
       stopped-read : (c t p : ℕ) → r ≡ Fault c t p → refused c t p ≡ resultOf (read msg)
@@ -109,26 +111,3 @@ module _ (msg : List ℕ) (long : 16 ≤ length msg) where
                 → (q : code.Reading) → (rowsLeft q ≡ d .rows) ⊎ (rowsLeft q ≡ 0) → meant q words ≡ readingOf msg → Read msg q words
             by-plan d few room alone q (inl n) s = record { result = s; room = omega arith; onlyNull = subst (λ (i : ℕ). any isNullRow (tagged ie.fqcsid (rowsOf i words)) ≡ true → collect rowCsid (tagged ie.fqcsid (rowsOf i words)) ≡ []) (sym n) alone }
             by-plan d few room alone q (inr n) s = record { result = s; room = omega arith; onlyNull = subst (λ (i : ℕ). any isNullRow (tagged ie.fqcsid (rowsOf i words)) ≡ true → collect rowCsid (tagged ie.fqcsid (rowsOf i words)) ≡ []) (sym n) (λ e. no-rows words e) }
-
--- ---- deletions
-
-module _ (msg : List ℕ) (long : 16 ≤ length msg) (kind : kindOf msg ≡ deletion) {words : List ℕ} (r : Step)
-    (all : AllRead (elementsRead deletion (aloneIn (elements bodyPlace (take (length msg - 16) (drop 16 msg)))) (elements bodyPlace (take (length msg - 16) (drop 16 msg))) emptyDraft) r words) where
-  pub deletion-refused : (c t p : ℕ) → r ≡ Fault c t p → outcome (verdict.Refused c t p) (readRequest msg) ≡ numbered (read msg)
-  deletion-refused c t p q = go (read msg) (stopped-read msg long (sym kind) r all c t p q)
-    where
-      go : (x : Reading Request) → refused c t p ≡ resultOf x → stopped c t p ≡ numbered x
-      go (faulty f) h = cc
-      go (done d) h = let z : _≡_ {A = ℕ} 0 1 = cc in absurd (omega arith)
-
-  settled : (x : Reading Request) {q : Request} → x ≡ done q → got (askedIn x) ≡ numbered x
-  unfolding askedIn
-  settled (faulty f) h = let z : _≡_ {A = ℕ} 0 1 = cc in absurd (omega arith)
-  settled (done q) h = refl
-
-  pub deletion-fine : (d : Draft) → r ≡ Next d → outcome verdict.Fine (readRequest msg) ≡ numbered (read msg)
-  unfolding readRequest
-  deletion-fine d q =
-      let w = all .next d q .read in
-      let e : read msg ≡ done (requestOf 0 (w .draft)) = read-is msg long (sym kind) ∙ ap (λ (x : Reading rules.Draft). andThen x (finished deletion)) (w .is) ∙ unfold finished in refl in
-      settled (read msg) e

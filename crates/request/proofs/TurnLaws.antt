@@ -71,16 +71,16 @@ module _ {kind : ℕ} {s words₀ : List ℕ} {at : ℕ} {rest words nodes : Lis
   rows-are : c .rows ≡ length (keep hasRow (g .draft .items))
   rows-are = sym (map-length rowItem (slices rowWidth (c .rows) words) ∙ slices-length (c .rows) words) ∙ ap length (g .means .rows)
 
-  module _ {t e : ℕ} (f : Front rest t e) (enough : Enough kind s words₀) where
+  module _ {t e : ℕ} (f : Front rest t e) (enough : Enough s words₀) where
     abbrev v : List ℕ
     v = take (e - 4) (drop 4 rest)
 
-    pub turn-room : Roomy kind c nodes words
+    pub turn-room : Roomy c nodes words
     turn-room =
         let few = light-room hasRow no-row (let l = f .low in let h = f .high in omega arith) (enough .short) (g .light) in
         let n = rows-are in
         let l = g .long in
-        record { wide = g .wide; row = λ k. let r = enough .row k in omega arith; few = omega arith }
+        record { wide = g .wide; row = let r = enough .row in omega arith; few = omega arith }
 
     -- the places of the element's value
     pub turn-fits : at + 4 + length v < 2 ^ 64
@@ -121,7 +121,7 @@ module _ {kind : ℕ} {s words₀ : List ℕ} {at : ℕ} {rest words nodes : Lis
             wide = wide;
           }
 
-  pub turns-end : elements at rest ≡ [] → Enough kind s words₀ → AllRead (elementsRead kind (aloneIn (elements bodyPlace s)) (elements bodyPlace s) emptyDraft) (Next c) words
+  pub turns-end : elements at rest ≡ [] → Enough s words₀ → AllRead (elementsRead kind (aloneIn (elements bodyPlace s)) (elements bodyPlace s) emptyDraft) (Next c) words
   unfolding elementsRead
   turns-end e enough =
       let whole : elementsRead kind (aloneIn (elements bodyPlace s)) (elements bodyPlace s) emptyDraft ≡ done (g .draft) = g .same ∙ ap (λ (es : List Element). elementsRead kind (aloneIn (elements bodyPlace s)) es (g .draft)) e in

@@ -1,13 +1,13 @@
 -- The words that hold an FQ-CSID, in the rules' terms.
 -- Assumes nothing.
 use Prim.Native.Nat.{ℕ}
-use mathlib.Core.Bool.{Bool, _||_}
+use mathlib.Core.Bool.{Bool}
 use mathlib.Core.List.{List, [], _∷_}
 use lib.Dec.{eqb}
 use Rattle.octets.specs.Choice.{pick}
 use Rattle.rules.specs.Types as ie
 use Rattle.rules.specs.Elements.{causeOf}
-use Rattle.rules.specs.Message.{modification, deletion}
+use Rattle.rules.specs.Message.{modification}
 use Rattle.element.specs.Answers.{refusalOf}
 use Rattle.element.specs.declared.fqcsid.FqCsid.{FqCsid}
 use Rattle.element.specs.declared.fqcsid.Answer as answer
@@ -21,7 +21,7 @@ use Rattle.request.specs.declared.row.Csid.{Csid}
 
 -- m CSIDs: m = 0 is the removal
 unfoldable pub countIn : ℕ → ℕ → Bool
-countIn kind m = pick (eqb m 0) (eqb kind modification) (eqb m 1 || eqb kind deletion)
+countIn kind m = pick (eqb m 0) (eqb kind modification) (eqb m 1)
 
 -- an FQ-CSID without an address and a CSID
 abbrev pub bareCsid : ℕ → ℕ → Csid

@@ -12,7 +12,7 @@ use Rattle.octets.specs.Choice.{pick, valueOr, flag}
 use Rattle.octets.specs.Lists.{member, keep, any}
 use Rattle.rules.specs.Types as ie
 use Rattle.rules.specs.Elements.{sets, removal}
-use Rattle.rules.specs.Message.{establishment, deletion}
+use Rattle.rules.specs.Message.{establishment}
 use Rattle.rules.specs.Reading as rules
 use Rattle.rules.specs.Reading.{Item, createsPdr, createsEndpoint, updatesPdr, removesPdr, removesEndpoint, setsCsid, clearsCsids, updatesEndpoint, Reading, done, andThen, withItem, groupRead, elementRead, createsAny}
 use Rattle.rules.specs.Causes as why
@@ -100,10 +100,10 @@ pub record Steps (result : Reading rules.Draft) (r : Step) (nodes words : List �
 pub record Follows (step : rules.Draft → Reading rules.Draft) (c : Draft) (nodes words : List ℕ) (r : Step) (nodes′ words′ : List ℕ) : Type 0 where
   pub follows : (d : rules.Draft) → Means d c nodes words → Steps (step d) r nodes′ words′
 
--- room for the node types, and for one more row where the message has rows
-pub record Roomy (kind : ℕ) (c : Draft) (nodes words : List ℕ) : Type 0 where
+-- room for the node types, and for one more row
+pub record Roomy (c : Draft) (nodes words : List ℕ) : Type 0 where
   pub wide : length nodes ≡ 16
-  pub row : eqb kind deletion ≡ false → rowWidth * c .rows + rowWidth ≤ length words
+  pub row : rowWidth * c .rows + rowWidth ≤ length words
   pub few : c .rows ≤ 225
 
 -- a step that touches neither node types nor rows
@@ -137,10 +137,10 @@ groupAt t p v d = andThen (groupRead t p v) (λ i. done (withItem i d))
 abbrev pub elementAt : ℕ → Bool → ℕ → ℕ → List ℕ → rules.Draft → Reading rules.Draft
 elementAt kind alone t p v d = elementRead kind alone (record { type = t; content = v; place = p }) d
 
--- octets that fit a message, and room for their rows, where there are rows
-pub record Enough (kind : ℕ) (s words : List ℕ) : Type 0 where
+-- octets that fit a message, and room for their rows
+pub record Enough (s words : List ℕ) : Type 0 where
   pub short : length s ≤ 2032
-  pub row : eqb kind deletion ≡ false → 4068 ≤ length words
+  pub row : 4068 ≤ length words
 
 -- all elements: the fault that the rules find, or a draft
 pub record Ended (result : Reading rules.Draft) (c : Draft) (words : List ℕ) : Type 0 where

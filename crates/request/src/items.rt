@@ -101,10 +101,11 @@ fn is_acted(message: u64, kind: u64) -> bool
             types::UPDATE_ENDPOINT => true,
             _ => false,
         },
-        _ => match kind {
+        kinds::SET_DELETION => match kind {
             types::FQCSID => true,
             _ => false,
         },
+        _ => false,
     }
 }
 
@@ -132,7 +133,7 @@ fn read_element(
     words: &mut [u64],
     d: Draft,
 ) -> Step
-    requires { ⌜ Roomy message d (now nodes) (now words) × (place + 4 + length (now v) < 2 ^ 64) ⌝ }
+    requires { ⌜ Roomy d (now nodes) (now words) × (place + 4 + length (now v) < 2 ^ 64) ⌝ }
     ensures { λ r. ⌜ Follows (elementAt message (aloneIn (elements bodyPlace (now (s .entry)))) kind place (now (v .entry))) d (now (nodes .entry)) (now (words .entry)) r (now (nodes .exit)) (now (words .exit)) ⌝ }
 {
     if !is_acted(message, kind) {
@@ -149,7 +150,7 @@ fn read_element(
 
 // Reads the elements s of a message, which start at octet 16: the first fault, or what they ask for.
 pub(crate) fn read_elements(s: &[u8], message: u64, words: &mut [u64]) -> Step
-    requires { ⌜ Enough message (now s) (now words) ⌝ }
+    requires { ⌜ Enough (now s) (now words) ⌝ }
     ensures { λ r. ⌜ AllRead (elementsRead message (aloneIn (elements bodyPlace (now (s .entry)))) (elements bodyPlace (now (s .entry))) emptyDraft) r (now (words .exit)) ⌝ }
 {
     let mut nodes = [0u64; 16];

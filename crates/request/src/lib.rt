@@ -6,17 +6,14 @@ use format::types;
 use frame::Framing;
 use items::Draft;
 use items::Step;
-use reading::Verdict;
 ghost use mathlib.Core.Path.{_≡_};
 ghost use Prim.Native.Nat.{_≤_};
 ghost use lib.ListN.{length};
 ghost use Rattle.rules.specs.Limits.{maxMessage};
-ghost use Rattle.rules.specs.Message.{kindOf, deletion};
-ghost use Rattle.rules.specs.Reading.{read, readRequest};
-ghost use Rattle.reading.specs.Verdicts.{outcome, numbered};
 ghost use mathlib.Core.Bool.{not, _||_};
 ghost use lib.Dec.{eqb};
 ghost use Rattle.request.specs.Items.{planOf, concluded};
+ghost use Rattle.frame.specs.HeaderOf.{SessionHeader};
 ghost use Rattle.request.specs.Requests.{maxWords, Read};
 
 pub mod items;
@@ -76,9 +73,9 @@ fn conclude(message: u64, d: Draft) -> Reading
     Reading::Whole(plan_of(d, d.seid))
 }
 
-// Reads a message whose header is allowed.
+// Reads a message whose header is allowed and has a SEID.
 pub fn read_request(msg: &[u8], words: &mut [u64]) -> Reading
-    requires { ⌜ (16 ≤ length (now msg)) × (length (now msg) ≤ maxMessage) × (maxWords ≤ length (now words)) ⌝ }
+    requires { ⌜ SessionHeader (now msg) × (length (now msg) ≤ maxMessage) × (maxWords ≤ length (now words)) ⌝ }
     ensures { λ r. ⌜ Read (now (msg .entry)) r (now (words .exit)) ⌝ }
 {
     if let Framing::Fault(kind, place) = frame::frame_fault(msg) {
@@ -90,20 +87,4 @@ pub fn read_request(msg: &[u8], words: &mut [u64]) -> Reading
         Step::Fault(cause, kind, place) => Reading::Fault(cause, kind, place),
         Step::Next(d) => conclude(message, d),
     }
-}
-
-// Stage 3 of a deletion whose header is allowed.
-pub fn read_deletion(msg: &[u8]) -> Verdict
-    requires { ⌜ (16 ≤ length (now msg)) × (length (now msg) ≤ maxMessage) × (kindOf (now msg) ≡ deletion) ⌝ }
-    ensures { λ r. ⌜ outcome r (readRequest (now (msg .entry))) ≡ numbered (read (now (msg .entry))) ⌝ }
-{
-    let mut words = [0u64; 1];
-    let Step::Fault(cause, kind, place) = items::read_elements(
-        &msg[16..],
-        kinds::DELETION,
-        &mut words,
-    ) else {
-        return Verdict::Fine;
-    };
-    Verdict::Refused(cause, kind, place)
 }

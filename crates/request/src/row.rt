@@ -165,14 +165,14 @@ fn is_clearing(s: &[u8], v: &[u8], message: u64) -> bool
     elements::count(s, types::FQCSID) == 1
 }
 
-// Whether so many CSIDs are allowed: one in an establishment, one or none in a modification, one at least in a deletion.
+// Whether so many CSIDs are allowed: one in an establishment, one or none in a modification.
 fn is_count_allowed(message: u64, count: u64) -> bool
     ensures { λ r. ⌜ r ≡ countIn message count ⌝ }
 {
     match count {
         0 => message == kinds::MODIFICATION,
         1 => true,
-        _ => message == kinds::DELETION,
+        _ => false,
     }
 }
 
@@ -186,7 +186,7 @@ fn csid_refused(answer: Answer, place: usize, d: Draft) -> Step
     Step::Fault(element::cause_of(refusal), types::FQCSID, place)
 }
 
-// An FQ-CSID of value v at a place of the message, whose elements are s, read once: into its row, and its node type into those that were met. A deletion's has no row.
+// An FQ-CSID of value v at a place of the message, whose elements are s, read once: into its row, and its node type into those that were met.
 pub(crate) fn read_csid(
     s: &[u8],
     v: &[u8],
@@ -196,7 +196,7 @@ pub(crate) fn read_csid(
     words: &mut [u64],
     d: Draft,
 ) -> Step
-    requires { ⌜ Roomy message d (now nodes) (now words) ⌝ }
+    requires { ⌜ Roomy d (now nodes) (now words) ⌝ }
     ensures { λ r. ⌜ Follows (csidRead message (aloneIn (elements bodyPlace (now (s .entry)))) place (now (v .entry))) d (now (nodes .entry)) (now (words .entry)) r (now (nodes .exit)) (now (words .exit)) ⌝ }
 {
     if is_clearing(s, v, message) {
@@ -214,8 +214,5 @@ pub(crate) fn read_csid(
         return Step::Fault(causes::INCORRECT, types::FQCSID, place);
     }
     nodes[node] = 1;
-    if message == kinds::DELETION {
-        return Step::Next(d);
-    }
     Step::Next(put_csid(csid_from(x), words, d))
 }

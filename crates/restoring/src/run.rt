@@ -36,6 +36,9 @@ fn cause(reply: &[u8]) -> u8
     if reply[1] == 51 {
         return reply[29];
     }
+    if reply[1] == 15 {
+        return reply[21];
+    }
     reply[20]
 }
 

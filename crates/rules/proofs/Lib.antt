@@ -5,3 +5,4 @@ pub mod RestorationExamples
 pub mod EndpointExamples
 pub mod WriterExamples
 pub mod FindingExamples
+pub mod SetExamples

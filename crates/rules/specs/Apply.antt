@@ -1,16 +1,17 @@
--- What an accepted request does to a session, and to the sessions (01, "What a request does"; 02 (ii)).
+-- What an accepted request does to a session, and to the sessions (01, "What a request does"; 02 (ii) and (vii)).
 -- `teids` says which TEID a record of a kind and ID got for its CHOOSE: the engine takes it from the grants, the live set from the reply.
 -- Assumes nothing.
 use Prim.Native.Nat.{ℕ}
-use mathlib.Core.Bool.{Bool, not}
+use mathlib.Core.Bool.{Bool, false, not, _&&_}
 use mathlib.Core.Option.{Option, none, some}
 use mathlib.Core.List.{List, [], _∷_, map}
 use lib.Dec.{eqb}
 use Rattle.octets.specs.Choice.{pick, isNil, headOr}
-use Rattle.octets.specs.Lists.{keep, member, insertBy, insertAll}
+use Rattle.octets.specs.Octets.{sameOctets}
+use Rattle.octets.specs.Lists.{keep, member, any, insertBy, insertAll}
 use Rattle.rules.specs.Model.{Tunnel, Place, neither, tunnel, endpoint, Pdr, Endpoint, Csid, Session, Sessions, pdrId, endpointId, nodeTypeOf, seidOf}
 use Rattle.rules.specs.Elements.{Fteid, given, choose, Fqcsid, sets, removal}
-use Rattle.rules.specs.Message.{deletion}
+use Rattle.rules.specs.Message.{deletion, setDeletion}
 use Rattle.rules.specs.Reading.{NewPdr, NewEndpoint, Change, CsidChanges, cleared, changed, Request}
 use Rattle.rules.specs.Grants.{Kind, ofPdr, ofEndpoint}
 use Rattle.rules.specs.Stages.{hasSeid, atEntry, removedPdrs}
@@ -108,10 +109,31 @@ removeSession n m = keep (otherSession n) m
 unfoldable pub putSession : Session → Sessions → Sessions
 putSession x m = insertBy seidOf x (removeSession (x .seid) m)
 
--- establishment adds, modification changes, deletion takes out
+-- ---- set deletions (02 (vii))
+
+-- a listed FQ-CSID and one that a session holds are equal in node type, Node-ID type and address, and the held CSID is one of those listed
+unfoldable pub covers : Fqcsid → Csid → Bool
+covers (sets t a cs n) c = eqb (c .nodeType) n && eqb (c .idType) t && sameOctets (c .address) a && member (c .csid) cs
+covers (removal n) c = false
+
+unfoldable pub coversSession : Session → Fqcsid → Bool
+coversSession x l = any (covers l) (x .csids)
+
+-- a session goes where one of the listed FQ-CSIDs covers one that it holds
+unfoldable pub goesSession : List Fqcsid → Session → Bool
+goesSession ls x = any (coversSession x) ls
+
+unfoldable pub staysSession : List Fqcsid → Session → Bool
+staysSession ls x = not (goesSession ls x)
+
+-- ---- what an accepted request makes of them
+
+-- establishment adds, modification changes, deletion takes out, set deletion takes out every match
 unfoldable pub follow : (Kind → ℕ → ℕ) → ℕ → ℕ → Request → Sessions → Sessions
-follow teids kind header r m = pick (eqb kind deletion) (removeSession header m) (putSession (apply teids r (atEntry kind header r m)) m)
+follow teids kind header r m =
+    pick (eqb kind setDeletion) (keep (staysSession (r .listed)) m)
+    (pick (eqb kind deletion) (removeSession header m) (putSession (apply teids r (atEntry kind header r m)) m))
 
 unfoldable pub computing : ℕ
-unfolding tunnelFrom namedPlace placeFrom createPdr createEndpoint orOld updatePdr updateAll otherNode setCsid setCsids followCsids keptPdr keptEndpoint pdrsAfter endpointsAfter apply otherSession removeSession putSession follow
+unfolding tunnelFrom namedPlace placeFrom createPdr createEndpoint orOld updatePdr updateAll otherNode setCsid setCsids followCsids keptPdr keptEndpoint pdrsAfter endpointsAfter apply otherSession removeSession putSession covers coversSession goesSession staysSession follow
 computing = 0

@@ -1,13 +1,13 @@
 -- A message: its header, its elements, which of them have a place where, and their framing (stage 2).
--- 01, "Message frame", and the cause of stage 2.
+-- 01, "Message frame", the cause of stage 2, and the set deletion's header (02 (vii)).
 -- Assumes nothing.
-use Prim.Native.Nat.{ℕ, zero, suc, _+_, _/_}
+use Prim.Native.Nat.{ℕ, zero, suc, _+_, _-_, _/_}
 use mathlib.Core.Bool.{Bool, not, _&&_, _||_}
 use mathlib.Core.Option.{Option, none, some}
 use mathlib.Core.List.{List, [], _∷_}
 use lib.ListN.{length, drop}
 use lib.Dec.{leb, ltb, eqb}
-use Rattle.octets.specs.Choice.{pick, orElse, valueOr, mapOption, isNil}
+use Rattle.octets.specs.Choice.{pick, orElse, valueOr, mapOption, isNil, sameBool}
 use Rattle.octets.specs.Octets.{part, numberAt, octetAt, bit}
 use Rattle.octets.specs.Lists.{member, findBy}
 use Rattle.rules.specs.Types as ie
@@ -24,34 +24,50 @@ modification = 52
 abbrev pub deletion : ℕ
 deletion = 54
 
+-- Session Set Deletion (02 (vii))
+abbrev pub setDeletion : ℕ
+setDeletion = 14
+
 unfoldable pub served : ℕ → Bool
-served kind = eqb kind establishment || eqb kind modification || eqb kind deletion
-
--- version 1, FO 0, S 1; the other bits of the first octet are ignored
-unfoldable pub firstOctetAllowed : ℕ → Bool
-firstOctetAllowed x = eqb (x / 32) 1 && not (bit 2 x) && bit 0 x
-
--- what outcome 4 asks: the whole header, its first octet, and the exact length
-unfoldable pub headerAllowed : List ℕ → Bool
-headerAllowed msg = leb 16 (length msg) && firstOctetAllowed (octetAt msg 0) && eqb (4 + numberAt 2 2 msg) (length msg)
+served kind = eqb kind establishment || eqb kind modification || eqb kind deletion || eqb kind setDeletion
 
 unfoldable pub kindOf : List ℕ → ℕ
 kindOf msg = octetAt msg 1
 
-unfoldable pub headerSeid : List ℕ → ℕ
-headerSeid msg = numberAt 4 8 msg
+-- the S bit: whether the header has a SEID
+unfoldable pub seidThere : List ℕ → Bool
+seidThere msg = bit 0 (octetAt msg 0)
 
--- the sequence number's three octets
-unfoldable pub sequenceOf : List ℕ → List ℕ
-sequenceOf msg = part 12 3 msg
-
-unfoldable pub body : List ℕ → List ℕ
-body msg = drop 16 msg
-
--- the place of a body's first octet, and of the first octet of the value of an element at place p
+-- octets of a header with a SEID, and of one without
 abbrev pub bodyPlace : ℕ
 bodyPlace = 16
 
+abbrev pub listPlace : ℕ
+listPlace = 8
+
+unfoldable pub headerLength : List ℕ → ℕ
+headerLength msg = pick (seidThere msg) bodyPlace listPlace
+
+-- version 1, FO 0; S is 0 for a set deletion and 1 for every other type; the other bits of the first octet are ignored
+unfoldable pub firstOctetAllowed : ℕ → ℕ → Bool
+firstOctetAllowed kind x = eqb (x / 32) 1 && not (bit 2 x) && sameBool (bit 0 x) (not (eqb kind setDeletion))
+
+-- what outcome 4 asks: the whole header, its first octet, and the exact length
+unfoldable pub headerAllowed : List ℕ → Bool
+headerAllowed msg = leb (headerLength msg) (length msg) && firstOctetAllowed (kindOf msg) (octetAt msg 0) && eqb (4 + numberAt 2 2 msg) (length msg)
+
+-- the SEID of a header that has one
+unfoldable pub headerSeid : List ℕ → ℕ
+headerSeid msg = numberAt 4 8 msg
+
+-- the sequence number's three octets, before the header's last
+unfoldable pub sequenceOf : List ℕ → List ℕ
+sequenceOf msg = part (headerLength msg - 4) 3 msg
+
+unfoldable pub body : List ℕ → List ℕ
+body msg = drop (headerLength msg) msg
+
+-- the place of the first octet of the value of an element at place p
 abbrev pub inside : ℕ → ℕ
 inside p = p + 4
 
@@ -96,7 +112,7 @@ actedOn kind =
     pick (eqb kind establishment) (ie.fseid ∷ ie.sessionFlags ∷ ie.createPdr ∷ ie.createEndpoint ∷ ie.fqcsid ∷ [])
     (pick (eqb kind modification)
     (ie.createPdr ∷ ie.createEndpoint ∷ ie.updatePdr ∷ ie.removePdr ∷ ie.removeEndpoint ∷ ie.fqcsid ∷ ie.updateEndpoint ∷ [])
-    (ie.fqcsid ∷ []))
+    (pick (eqb kind setDeletion) (ie.fqcsid ∷ []) []))
 
 -- 01's Places: the members of a group
 unfoldable pub placesOf : ℕ → List ℕ
@@ -141,7 +157,7 @@ frame zero kind group at xs = none
 frame (suc depth) kind group at xs = frameUpTo (frame depth kind) kind group (length xs) at xs
 
 unfoldable pub frameFault : List ℕ → Option Spot
-frameFault msg = frame maxDepth (kindOf msg) atMessage bodyPlace (body msg)
+frameFault msg = frame maxDepth (kindOf msg) atMessage (headerLength msg) (body msg)
 
 -- ---- looking an element up
 
@@ -167,5 +183,5 @@ unfoldable pub fieldOr0 : ℕ → List Element → ℕ
 fieldOr0 t es = valueOr 0 (field t es)
 
 unfoldable pub computing : ℕ
-unfolding served firstOctetAllowed headerAllowed kindOf headerSeid sequenceOf body elementType elementLength elementsUpTo elements openedAtTop opened actedOn placesOf innerFault frameUpTo frame frameFault hasType contentOf numberWidth field fieldOr0
+unfolding served kindOf seidThere headerLength firstOctetAllowed headerAllowed headerSeid sequenceOf body elementType elementLength elementsUpTo elements openedAtTop opened actedOn placesOf innerFault frameUpTo frame frameFault hasType contentOf numberWidth field fieldOr0
 computing = 0

@@ -1,5 +1,5 @@
 -- Stage 3: a framed message read, each element once and in order: the first fault, or the request.
--- 01, "Message frame", "FQ-CSID" and the causes of stage 3.
+-- 01, "Message frame", "FQ-CSID" and the causes of stage 3; 02 (vii).
 -- Assumes nothing.
 use Prim.Native.Nat.{ℕ, _+_, _%_}
 use mathlib.Core.Bool.{Bool, true, false, not, _&&_, _||_}
@@ -12,7 +12,7 @@ use Rattle.octets.specs.Octets.{numberAt, octetAt, bit}
 use Rattle.octets.specs.Lists.{member, any, keep, collect}
 use Rattle.rules.specs.Types as ie
 use Rattle.rules.specs.Elements.{Refusal, missing, conditional, tooShort, incorrect, Answer, refuse, value, Fteid, Fqcsid, sets, removal, readFteid, readFqcsid, readFseid, nodeOf}
-use Rattle.rules.specs.Message.{establishment, modification, deletion, kindOf, body, bodyPlace, inside, Element, elements, actedOn, placesOf, hasType, numberWidth}
+use Rattle.rules.specs.Message.{establishment, modification, setDeletion, kindOf, headerLength, body, inside, Element, elements, actedOn, placesOf, hasType, numberWidth}
 
 -- ---- what a message asks for
 
@@ -64,6 +64,8 @@ pub record Request : Type 0 where
   pub goneEndpoints : List ℕ
   pub csids : CsidChanges
   pub unsupported : Bool
+  -- the FQ-CSIDs that a set deletion lists
+  pub listed : List Fqcsid
 
 -- ---- what reading gives
 
@@ -256,21 +258,20 @@ unfoldable pub flagsRead : ℕ → List ℕ → Draft → Reading Draft
 flagsRead p v d =
     once (d .restores) ie.sessionFlags p (pick (ltb (length v) 1) (refusal tooShort ie.sessionFlags p) (done (withRestores (bit 0 (octetAt v 0)) d)))
 
--- m = 1 in an establishment, 1 or the removal in a modification, at least 1 in a deletion
+-- m = 1 in an establishment, 1 or the removal in a modification
 unfoldable pub csidCountAllowed : ℕ → Fqcsid → Bool
-csidCountAllowed kind (sets t a cs n) = eqb kind deletion || eqb (length cs) 1
+csidCountAllowed kind (sets t a cs n) = eqb (length cs) 1
 csidCountAllowed kind (removal n) = eqb kind modification
 
--- a deletion's FQ-CSIDs are checked and otherwise unused
-unfoldable pub withCsid : ℕ → Fqcsid → Draft → Draft
-withCsid kind c d = withNode (nodeOf c) (pick (eqb kind deletion) d (withItem (setsCsid c) d))
+abbrev pub withCsid : Fqcsid → Draft → Draft
+withCsid c d = withNode (nodeOf c) (withItem (setsCsid c) d)
 
 -- null length in a modification, with no other FQ-CSID there (alone), removes all
 unfoldable pub csidRead : ℕ → Bool → ℕ → List ℕ → Draft → Reading Draft
 csidRead kind alone p v d =
     pick (isNil v && eqb kind modification && alone) (done (withItem clearsCsids d))
     (andThen (named ie.fqcsid p (readFqcsid v)) (λ c.
-    pick (csidCountAllowed kind c && not (member (nodeOf c) (d .nodes))) (done (withCsid kind c d)) (refusal incorrect ie.fqcsid p)))
+    pick (csidCountAllowed kind c && not (member (nodeOf c) (d .nodes))) (done (withCsid c d)) (refusal incorrect ie.fqcsid p)))
 
 -- an element that is acted on, of type t and value v, at place p
 unfoldable pub actedRead : ℕ → Bool → ℕ → ℕ → List ℕ → Draft → Reading Draft
@@ -386,6 +387,7 @@ requestOf n d =
       goneEndpoints = collect goneEndpointIn (d .items);
       csids = pick (any clears (d .items)) cleared (changed (collect csidIn (d .items)));
       unsupported = any isUnsupported (d .items);
+      listed = [];
     }
 
 unfoldable pub createsAny : List Item → Bool
@@ -402,12 +404,41 @@ finished kind d =
 unfoldable pub aloneIn : List Element → Bool
 aloneIn es = eqb (length (keep (hasType ie.fqcsid) es)) 1
 
-unfoldable pub topRead : ℕ → List Element → Reading Request
-topRead kind es = andThen (elementsRead kind (aloneIn es) es emptyDraft) (finished kind)
+-- what the elements of an establishment, a modification or a deletion ask for
+unfoldable pub sessionRead : ℕ → List Element → Reading Request
+sessionRead kind es = andThen (elementsRead kind (aloneIn es) es emptyDraft) (finished kind)
 
--- a framed message
+-- ---- set deletions (02 (vii))
+
+-- one CSID at least: m = 0 is 69
+unfoldable pub listable : Fqcsid → Bool
+listable (sets t a cs n) = true
+listable (removal n) = false
+
+-- an FQ-CSID at place p
+unfoldable pub listedRead : ℕ → List ℕ → Reading Fqcsid
+listedRead p v = andThen (named ie.fqcsid p (readFqcsid v)) (λ c. pick (listable c) (done c) (refusal incorrect ie.fqcsid p))
+
+-- all of them, in order, a node type as often as it comes; any other element is skipped
+unfoldable pub listRead : List Element → Reading (List Fqcsid)
+listRead [] = done []
+listRead (e ∷ es) =
+    pick (member (e .type) (actedOn setDeletion))
+    (andThen (listedRead (e .place) (e .content)) (λ c. andThen (listRead es) (λ cs. done (c ∷ cs))))
+    (listRead es)
+
+-- a request that asks for no more than that
+unfoldable pub listing : List Fqcsid → Request
+listing cs =
+    record { seid = 0; restoring = false; pdrs = []; endpoints = []; changes = []; gonePdrs = []; goneEndpoints = []; csids = changed []; unsupported = false; listed = cs }
+
+-- ---- a framed message
+
+unfoldable pub topRead : ℕ → List Element → Reading Request
+topRead kind es = pick (eqb kind setDeletion) (andThen (listRead es) (λ cs. done (listing cs))) (sessionRead kind es)
+
 unfoldable pub read : List ℕ → Reading Request
-read msg = topRead (kindOf msg) (elements bodyPlace (body msg))
+read msg = topRead (kindOf msg) (elements (headerLength msg) (body msg))
 
 -- its first fault
 unfoldable pub faultIn : {A : Type 0} → Reading A → Option Fault
@@ -426,5 +457,5 @@ unfoldable pub readRequest : List ℕ → Request
 readRequest msg = askedIn (read msg)
 
 unfoldable pub computing : ℕ
-unfolding holds numberRead farRead pdiIn valueRead memberRead membersRead pdiEnd pdiRead pdrFrom endpointFrom changeFrom itemFrom groupRead seidRead flagsRead csidCountAllowed withCsid csidRead actedRead elementRead elementsRead pdrIn endpointIn changeIn gonePdrIn goneEndpointIn csidIn clears isUnsupported restoringIn requestOf createsAny finished aloneIn topRead read faultIn readFault askedIn readRequest
+unfolding holds numberRead farRead pdiIn valueRead memberRead membersRead pdiEnd pdiRead pdrFrom endpointFrom changeFrom itemFrom groupRead seidRead flagsRead csidCountAllowed csidRead actedRead elementRead elementsRead pdrIn endpointIn changeIn gonePdrIn goneEndpointIn csidIn clears isUnsupported restoringIn requestOf createsAny finished aloneIn sessionRead listable listedRead listRead listing topRead read faultIn readFault askedIn readRequest
 computing = 0

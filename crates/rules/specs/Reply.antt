@@ -1,7 +1,8 @@
--- Writing messages: elements, headers, and the reply (01, "Reply").
+-- Writing messages: elements, headers, and the reply (01, "Reply"; 02 (vii)).
 -- Assumes nothing.
 use Prim.Native.Nat.{ℕ, _+_}
 use mathlib.Core.Option.{Option, none, some}
+use mathlib.Core.Bool.{_||_}
 use mathlib.Core.List.{List, [], _∷_, _++_}
 use lib.ListN.{length}
 use lib.Dec.{eqb}
@@ -9,7 +10,7 @@ use Rattle.octets.specs.Choice.{pick}
 use Rattle.octets.specs.Octets.{be, concatMap}
 use Rattle.rules.specs.Model.{Settings, Tunnel}
 use Rattle.rules.specs.Elements.{fteidOctets, unitFteid, fseidOctets}
-use Rattle.rules.specs.Message.{establishment, kindOf, headerSeid, sequenceOf}
+use Rattle.rules.specs.Message.{establishment, setDeletion, kindOf, seidThere, headerSeid, sequenceOf}
 use Rattle.rules.specs.Grants.{Grant, ofPdr, ofEndpoint, grantsOf}
 use Rattle.rules.specs.Stages.{Verdict}
 use Rattle.rules.specs.Types as ie
@@ -22,6 +23,10 @@ element t xs = be 2 t ++ (be 2 (length xs) ++ xs)
 -- version 1 with S; kind, length, SEID, sequence number (three octets), a spare octet, then the elements
 unfoldable pub message : ℕ → ℕ → List ℕ → List ℕ → List ℕ
 message kind seid sequence xs = 33 ∷ kind ∷ be 2 (12 + length xs) ++ (be 8 seid ++ (sequence ++ 0 ∷ xs))
+
+-- the same without S and SEID
+unfoldable pub listMessage : ℕ → List ℕ → List ℕ → List ℕ
+listMessage kind sequence xs = 32 ∷ kind ∷ be 2 (4 + length xs) ++ (sequence ++ 0 ∷ xs)
 
 -- an F-TEID element with the unit's addresses
 unfoldable pub unitElement : Settings → Tunnel → List ℕ
@@ -46,9 +51,9 @@ unfoldable pub offendingElement : Option ℕ → List ℕ
 offendingElement none = []
 offendingElement (some t) = element ie.offendingIe (be 2 t)
 
--- Node ID, in an establishment's reply only
+-- Node ID, in the replies to establishments and set deletions only
 unfoldable pub nodeIdElement : ℕ → Settings → List ℕ
-nodeIdElement kind s = pick (eqb kind establishment) (element ie.nodeId (0 ∷ s .ipv4)) []
+nodeIdElement kind s = pick (eqb kind establishment || eqb kind setDeletion) (element ie.nodeId (0 ∷ s .ipv4)) []
 
 -- the unit's F-SEID, in an accepted establishment's reply only: its SEID equals the peer's
 unfoldable pub unitFseid : ℕ → Settings → ℕ → List ℕ
@@ -66,11 +71,14 @@ replyBody kind s seid v gs =
 unfoldable pub replySeid : ℕ → ℕ → ℕ → ℕ → ℕ
 replySeid kind cause header seid = pick (eqb kind establishment) (pick (eqb cause why.accepted) seid 0) (pick (eqb cause why.noSession) 0 header)
 
--- seid is the F-SEID's, gs are the grants of an accepted request
+-- with a SEID where the request has one; seid is the F-SEID's, gs are the grants of an accepted request
 unfoldable pub reply : Settings → List ℕ → ℕ → Verdict → List Grant → List ℕ
 reply s msg seid v gs =
-    message (kindOf msg + 1) (replySeid (kindOf msg) (v .cause) (headerSeid msg) seid) (sequenceOf msg) (replyBody (kindOf msg) s seid v gs)
+    let xs = replyBody (kindOf msg) s seid v gs in
+    pick (seidThere msg)
+    (message (kindOf msg + 1) (replySeid (kindOf msg) (v .cause) (headerSeid msg) seid) (sequenceOf msg) xs)
+    (listMessage (kindOf msg + 1) (sequenceOf msg) xs)
 
 unfoldable pub computing : ℕ
-unfolding element message unitElement createdPdrContent createdPdr createdEndpointContent createdEndpoint created offendingElement nodeIdElement unitFseid acceptedPart replyBody replySeid reply
+unfolding element message listMessage unitElement createdPdrContent createdPdr createdEndpointContent createdEndpoint created offendingElement nodeIdElement unitFseid acceptedPart replyBody replySeid reply
 computing = 0

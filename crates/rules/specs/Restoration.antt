@@ -73,6 +73,7 @@ restoredRequest s x =
       goneEndpoints = [];
       csids = changed (map recordCsid (x .csids));
       unsupported = false;
+      listed = [];
     }
 
 -- what may be any: header SEID, sequence number, and the F-SEID's addresses (empty where that one is not there)

@@ -13,7 +13,7 @@ use Rattle.rules.specs.Model.{Settings, Pdr, Session, Sessions, Holding,
 use Rattle.rules.specs.Limits.{maxPdrs, maxEndpoints}
 use Rattle.rules.specs.Elements.{causeOf, Fteid, given, choose, hasV4, hasV6, chooses, chooseId}
 use Rattle.rules.specs.Sound.{inPool, unitFamilies, agree}
-use Rattle.rules.specs.Message.{establishment, kindOf, headerSeid, Spot, frameFault}
+use Rattle.rules.specs.Message.{establishment, setDeletion, kindOf, headerSeid, Spot, frameFault}
 use Rattle.rules.specs.Reading.{readFault, readRequest, Fault, NewPdr, NewEndpoint, Change, Request}
 use Rattle.rules.specs.Grants.{need}
 use Rattle.rules.specs.Causes as why
@@ -32,10 +32,14 @@ isLive n m = isSome (sessionOf n m)
 unfoldable pub newSession : ℕ → Session
 newSession n = record { seid = n; pdrs = []; endpoints = []; csids = [] }
 
--- the session that a request is about: a new one for an establishment, else the header's
+-- whether the header names no session of the table: an establishment makes one, a set deletion is about none in particular
+unfoldable pub unnamed : ℕ → Bool
+unnamed kind = eqb kind establishment || eqb kind setDeletion
+
+-- the session that a request is about: one without records for those, else the header's
 unfoldable pub atEntry : ℕ → ℕ → Request → Sessions → Session
 atEntry kind header r m =
-    pick (eqb kind establishment) (newSession (r .seid)) (valueOr (newSession header) (sessionOf header m))
+    pick (unnamed kind) (newSession (r .seid)) (valueOr (newSession header) (sessionOf header m))
 
 -- ---- numbers of the request
 
@@ -256,11 +260,11 @@ fromFraming limit s m msg (some f) = record { cause = why.wrongLength; offending
 
 -- stage 1: no such session
 unfoldable pub unknownSession : Sessions → List ℕ → Bool
-unknownSession m msg = not (eqb (kindOf msg) establishment) && not (isLive (headerSeid msg) m)
+unknownSession m msg = not (unnamed (kindOf msg)) && not (isLive (headerSeid msg) m)
 
 unfoldable pub verdict : ℕ → Settings → Sessions → List ℕ → Verdict
 verdict limit s m msg = pick (unknownSession m msg) (plain why.noSession) (fromFraming limit s m msg (frameFault msg))
 
 unfoldable pub computing : ℕ
-unfolding hasSeid sessionOf isLive newSession atEntry createdPdrs createdEndpoints updatedPdrs livePdrs liveEndpoints namesOneOf goesPdr removedPdrs fteidsOf wrongAllocation invalidAllocation idTwice createdLive absentId updatesRemoved namesBoth endpointIdsAfter namesAbsent sameChoice alikeFteids fteidsMayShare localsMayShare choicesAgree lacksFamily otherAddress strange restoredHolding endpointRestored pdrRestored restoredHoldings clash requestRules brokenRules breaksRule tooManySessions tooManyPdrs tooManyEndpoints tooFewTeids noRoom judge entrySession judged fromReading fromFraming unknownSession verdict
+unfolding hasSeid sessionOf isLive newSession unnamed atEntry createdPdrs createdEndpoints updatedPdrs livePdrs liveEndpoints namesOneOf goesPdr removedPdrs fteidsOf wrongAllocation invalidAllocation idTwice createdLive absentId updatesRemoved namesBoth endpointIdsAfter namesAbsent sameChoice alikeFteids fteidsMayShare localsMayShare choicesAgree lacksFamily otherAddress strange restoredHolding endpointRestored pdrRestored restoredHoldings clash requestRules brokenRules breaksRule tooManySessions tooManyPdrs tooManyEndpoints tooFewTeids noRoom judge entrySession judged fromReading fromFraming unknownSession verdict
 computing = 0

@@ -10,7 +10,7 @@ use Rattle.octets.proofs.Put.{length-part}
 use Rattle.octets.proofs.Numbers.{length-zeros}
 use Rattle.rules.specs.Layout.{sessionWidth}
 use Rattle.areas.specs.declared.Area.{Area}
-use Rattle.areas.specs.Counted.{Fits, areaIn, placeIn, withRecord, withoutRecord}
+use Rattle.areas.specs.Counted.{Fits, countIn, areaIn, placeIn, withRecord, withoutRecord}
 use Rattle.slots.specs.declared.Place.{Place}
 use Rattle.session.specs.Areas.{sessionArea}
 use Rattle.session.proofs.Steps.{put-all, part-part}
@@ -24,6 +24,9 @@ module _ (room base : ℕ) where
 
   pub session-wide : (a : Area) (n : ℕ) → a ≡ sessions → n ≡ sessionWidth → n ≡ a .width
   session-wide a n e h = rw (e, h)
+
+  pub counted-there : (a : Area) (t : List ℕ) (n : ℕ) → a ≡ sessions → n ≡ countIn a t → n ≡ countIn sessions t
+  counted-there a t n e q = q ∙ ap (λ (b : Area). countIn b t) e
 
   pub found-there : (a : Area) (x : ℕ) (t : List ℕ) (p : Place) → a ≡ sessions → p ≡ placeIn a x t → p ≡ placeIn sessions x t
   found-there a x t p e q = q ∙ ap (λ (b : Area). placeIn b x t) e

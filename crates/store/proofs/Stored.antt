@@ -24,8 +24,8 @@ use Rattle.laws.proofs.TableLaws.{length-settings}
 use Rattle.slots.specs.Records.{keyOf, lookup}
 use Rattle.slots.specs.declared.Place.the-variants.{Found, Absent}
 use Rattle.slots.proofs.Places.{otherThan, found-within, found-record, absent-record}
-use Rattle.areas.specs.Counted.{areaIn, placeIn, withRecord, withoutRecord}
-use Rattle.areas.proofs.Held.{Held, place-held, record-held, with-held, without-held}
+use Rattle.areas.specs.Counted.{countIn, areaIn, placeIn, withRecord, withoutRecord}
+use Rattle.areas.proofs.Held.{Held, count-held, place-held, record-held, with-held, without-held}
 use Rattle.session.specs.Areas.{tableArea}
 
 module _ (s : Settings) (hs : T (settingsAllowed s)) where
@@ -96,6 +96,13 @@ module _ (s : Settings) (hs : T (settingsAllowed s)) where
     session-loaded n p d e =
         record-held sessionOctets seidOf tableArea (sessionAllowed s) good held d p
         (found-within seidOf n p m (sym (session-place n) ∙ e))
+
+    -- how many there are, and the slot of the one at a place
+    pub sessions-counted : countIn tableArea (encode maxSessions s m) ≡ length m
+    sessions-counted = count-held sessionOctets seidOf tableArea (sessionAllowed s) good held
+
+    pub session-at : (p : ℕ) (d : Session) → p < length m → part (p * sessionWidth) sessionWidth (areaIn tableArea (encode maxSessions s m)) ≡ sessionOctets (getD m p d)
+    session-at p d l = record-held sessionOctets seidOf tableArea (sessionAllowed s) good held d p l
 
     -- a session put in or replaced, and one taken out
     pub session-saved : (x : Session) → T (sessionAllowed s x) → length (putSession x m) ≤ maxSessions → withRecord tableArea (sessionOctets x) (encode maxSessions s m) ≡ encode maxSessions s (putSession x m)

@@ -5,9 +5,17 @@ ghost use Prim.Native.Nat.{_+_, _*_, _≤_, _<_};
 ghost use lib.ListN.{length};
 ghost use Rattle.octets.specs.Octets.{be, part, put, zeros};
 ghost use Rattle.rules.specs.Layout.{sessionWidth};
-ghost use Rattle.areas.specs.Counted.{areaIn, placeIn, withRecord, withoutRecord};
+ghost use Rattle.areas.specs.Counted.{countIn, areaIn, placeIn, withRecord, withoutRecord};
 ghost use Rattle.session.specs.Areas.{sessionArea};
 use slots::Place;
+
+// How many sessions there are.
+pub fn count(t: &[u8], room: usize, base: usize) -> usize
+    requires { ⌜ base + 2 + room * sessionWidth ≤ length (now t) ⌝ }
+    ensures { λ r. ⌜ r ≡ countIn (sessionArea room base) (now (t .entry)) ⌝ }
+{
+    areas::count(t, session::layout::sessions(room, base))
+}
 
 // Where the session of a SEID stands, or has its place.
 pub fn find(t: &[u8], room: usize, base: usize, seid: u64) -> Place

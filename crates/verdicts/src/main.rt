@@ -1,14 +1,18 @@
 // Reads requests from standard input, each after its length in two octets, and writes a line for each: `outcome` and the host outcome
 // (3 to 5), `cause`, `type` and `place` of the first fault of stages 2 and 3, or `read` and the request from the rows of its plan. The lines are those
-// that the independent second reader writes, but for what a plan does not keep: the F-SEID's addresses, a deletion's FQ-CSIDs, and
+// that the independent second reader writes, but for what a plan does not keep: the F-SEID's addresses, a set deletion's FQ-CSIDs, and
 // where an element 129 stands, which is said at the end.
 mod record;
 
+use format::causes;
+use frame::Framing;
 use frame::header::Header;
+use reading::Verdict;
 use request::Plan;
 use request::Reading;
 ghost use Prim.Native.Nat.{_≤_};
 ghost use lib.ListN.{length};
+ghost use Rattle.frame.specs.HeaderOf.{SessionHeader};
 
 fn text(s: &[u8]) {
     io::write_all(1, s);
@@ -61,9 +65,9 @@ fn head(kind: u64, header: u64, sequence: u64, plan: Plan) {
     }
 }
 
-// A message whose header is allowed.
+// A message whose header is allowed and has a SEID.
 fn message(msg: &[u8], kind: u64, header: u64)
-    requires { ⌜ (16 ≤ length (now msg)) × (length (now msg) ≤ 2048) ⌝ }
+    requires { ⌜ SessionHeader (now msg) × (length (now msg) ≤ 2048) ⌝ }
 {
     let mut words = [0u64; 4068];
     let sequence = octets::read(msg, 12, 3);
@@ -80,12 +84,30 @@ fn message(msg: &[u8], kind: u64, header: u64)
     }
 }
 
+// A set deletion whose header is allowed.
+fn set_deletion(msg: &[u8])
+    requires { ⌜ (8 ≤ length (now msg)) × (length (now msg) ≤ 2048) ⌝ }
+{
+    if let Framing::Fault(kind, place) = frame::frame_fault(msg) {
+        fault(causes::WRONG_LENGTH, kind, place as u64);
+        return;
+    }
+    if let Verdict::Refused(cause, kind, place) = sets::list_fault(&msg[8..]) {
+        fault(cause, kind, place as u64);
+        return;
+    }
+    text(b"read set-deletion sequence=");
+    io::print_decimal(1, octets::read(msg, 4, 3));
+    text(b"\n");
+}
+
 fn verdict(msg: &[u8]) {
     match frame::header::read_header(msg) {
         Header::TooLong => outcome(3),
         Header::Malformed => outcome(4),
         Header::NotServed => outcome(5),
         Header::Request(kind, seid) => message(msg, kind, seid),
+        Header::Sets => set_deletion(msg),
     }
 }
 

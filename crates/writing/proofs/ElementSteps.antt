@@ -1,6 +1,6 @@
 -- What the writers of single elements leave: for each, from what its calls and stores leave. Assumes nothing.
 use mathlib.Core.Path.{_≡_, refl, sym, ap, ap₂, _∙_}
-use mathlib.Core.Bool.{Bool, true, false, not, _&&_}
+use mathlib.Core.Bool.{Bool, true, false, not, _&&_, _||_}
 use mathlib.Core.Option.{some}
 use mathlib.Core.List.{List, [], _∷_, _++_, append-assoc, append-nil}
 use Prim.Native.Nat.{ℕ, zero, suc, _+_, _-_, _*_, _/_, _%_, _≤_, _<_}
@@ -15,14 +15,14 @@ use Rattle.octets.proofs.Numbers.{length-be}
 use Rattle.octets.proofs.Put.{set-put, put-front}
 use Rattle.rules.specs.Model.{Settings}
 use Rattle.rules.specs.Elements.{fteidOctets, unitFteid, fseidOctets}
-use Rattle.rules.specs.Reply.{element, message, nodeIdElement, offendingElement, unitFseid, unitElement}
+use Rattle.rules.specs.Reply.{element, message, nodeIdElement, offendingElement, unitFseid, unitElement, listMessage}
 use Rattle.rules.specs.Types as ie
-use Rattle.rules.specs.Message.{establishment}
+use Rattle.rules.specs.Message.{establishment, setDeletion}
 use Rattle.unit.specs.declared.Settings.{Settings as Unit}
 use Rattle.unit.specs.Meaning.{settingsOf}
 use Rattle.writing.specs.Families.{unitFamilies, addressesIn, unitAddresses, tunnelIn}
 use Rattle.writing.specs.Placed.{Placed}
-use Rattle.writing.specs.Heads.{fseidFlags, messageHead}
+use Rattle.writing.specs.Heads.{fseidFlags, messageHead, listHead}
 use Rattle.writing.proofs.PlacedLaws.{next-put, next-set, four-stores, be-two, length-element, placed-none, placed-element, length-headed}
 
 pub head-steps : (kind n at : ℕ) (s : List ℕ) → at + 4 ≤ length s
@@ -95,32 +95,38 @@ put-whole : (a s : List ℕ) → length a ≡ length s → put 0 a s ≡ a
 unfolding put
 put-whole a s e = ap (λ (l : List ℕ). a ++ l) (drop-of-length-le s {i = 0 + length a} (omega arith)) ∙ append-nil a
 
+module _ (kind : ℕ) where
+  pub node-yes : kind ≡ establishment → true ≡ (eqb kind establishment || eqb kind setDeletion)
+  node-yes k = rw (eq-eqb kind establishment k)
+
+  pub node-second : (kind ≡ establishment → ⊥) → eqb kind setDeletion ≡ (eqb kind establishment || eqb kind setDeletion)
+  node-second k = rw (ne-eqb kind establishment k)
+
 module _ (kind at : ℕ) (v : Unit) (s : List ℕ) where
-  pub node-not : (kind ≡ establishment → ⊥) → Placed s at (nodeIdElement kind (settingsOf v)) at s
+  pub node-not : {b : Bool} → b ≡ (eqb kind establishment || eqb kind setDeletion) → b ≡ false → Placed s at (nodeIdElement kind (settingsOf v)) at s
   unfolding nodeIdElement
-  node-not k = rw (ne-eqb kind establishment k) (placed-none s at)
+  node-not e n = rw (← e, n) (placed-none s at)
 
   pub own-not : (seid : ℕ) → (kind ≡ establishment → ⊥) → Placed s at (unitFseid kind (settingsOf v) seid) at s
   unfolding unitFseid
   own-not seid k = rw (ne-eqb kind establishment k) (placed-none s at)
 
-  module _ (k : kind ≡ establishment) where
-    abbrev ipv4 : List ℕ
-    ipv4 = be 4 (v .ipv4)
+  abbrev ipv4 : List ℕ
+  ipv4 = be 4 (v .ipv4)
 
-    pub node-steps : {s₁ s₂ : List ℕ} → at + 9 ≤ length s → s₁ ≡ put at (be 2 60 ++ be 2 5) s → s₂ ≡ put (at + 5) ipv4 (set s₁ (at + 4) 0)
-        → Placed s at (nodeIdElement kind (settingsOf v)) (at + 9) s₂
-    unfolding nodeIdElement settingsOf
-    node-steps {s₁} h p q =
-        let l : length s₁ ≡ length s = length-headed at 60 5 s p (omega arith) in
-        rw (eq-eqb kind establishment k)
-        (placed-element at 60 5 s p (omega arith) (at + 4) (at + 9) (0 ∷ ipv4)
-        (next-put (at + 4) (at + 5) (0 ∷ []) ipv4 s₁ (set-put (at + 4) 0 s₁ (omega arith)) q (omega arith) (omega arith))
-        refl (ap suc (length-be 4 (v .ipv4))) (omega arith))
+  pub node-steps : {b : Bool} → b ≡ (eqb kind establishment || eqb kind setDeletion) → b ≡ true → {s₁ s₂ : List ℕ} → at + 9 ≤ length s → s₁ ≡ put at (be 2 60 ++ be 2 5) s → s₂ ≡ put (at + 5) ipv4 (set s₁ (at + 4) 0)
+      → Placed s at (nodeIdElement kind (settingsOf v)) (at + 9) s₂
+  unfolding nodeIdElement settingsOf
+  node-steps e y {s₁} h p q =
+      let l : length s₁ ≡ length s = length-headed at 60 5 s p (omega arith) in
+      rw (← e, y)
+      (placed-element at 60 5 s p (omega arith) (at + 4) (at + 9) (0 ∷ ipv4)
+      (next-put (at + 4) (at + 5) (0 ∷ []) ipv4 s₁ (set-put (at + 4) 0 s₁ (omega arith)) q (omega arith) (omega arith))
+      refl (ap suc (length-be 4 (v .ipv4))) (omega arith))
 
-    pub own-steps : (seid : ℕ) (a₀ a : List ℕ) {e : ℕ} {s₁ : List ℕ} → length a₀ ≡ 4 → a ≡ put 0 ipv4 a₀ → Placed s at (element ie.fseid (fseidOctets seid a [])) e s₁ → Placed s at (unitFseid kind (settingsOf v) seid) e s₁
-    unfolding unitFseid settingsOf
-    own-steps seid a₀ a l q p = rw (eq-eqb kind establishment k, ← put-whole ipv4 a₀ (omega (arith, length-be 4 (v .ipv4))), ← q) p
+  pub own-steps : kind ≡ establishment → (seid : ℕ) (a₀ a : List ℕ) {e : ℕ} {s₁ : List ℕ} → length a₀ ≡ 4 → a ≡ put 0 ipv4 a₀ → Placed s at (element ie.fseid (fseidOctets seid a [])) e s₁ → Placed s at (unitFseid kind (settingsOf v) seid) e s₁
+  unfolding unitFseid settingsOf
+  own-steps k seid a₀ a l q p = rw (eq-eqb kind establishment k, ← put-whole ipv4 a₀ (omega (arith, length-be 4 (v .ipv4))), ← q) p
 
 -- ---- F-TEID
 
@@ -282,5 +288,45 @@ placed-message kind seid q xs out {out₁} {out₂} {end} three room p r =
       ends = let k = length-append head xs in omega arith;
       holds =
           r ∙ ap₂ (λ (m : ℕ) (o : List ℕ). put 0 (messageHead kind seid q m) o) n (p .holds ∙ ap (λ (m : ℕ). put m xs out) place)
+          ∙ put-front 0 head xs out (omega arith);
+    })
+
+-- ---- the same without a SEID
+
+pub list-steps : (kind n : ℕ) (q out : List ℕ) {out₁ : List ℕ} → length q ≡ 3 → n ≤ 2032 → 8 ≤ length out
+    → out₁ ≡ put 4 q (set (set (set (set out 0 32) 1 kind) 2 ((4 + n) / 256)) 3 ((4 + n) % 256))
+    → set out₁ 7 0 ≡ put 0 (listHead kind q n) out
+unfolding listHead
+list-steps kind n q out three small room r =
+    let e : (4 + n) / 256 % 256 ≡ (4 + n) / 256 = omega arith in
+    let two : be 2 (4 + n) ≡ (4 + n) / 256 ∷ (4 + n) % 256 ∷ [] = be-two (4 + n) ∙ ap (λ (x : ℕ). x ∷ (4 + n) % 256 ∷ []) e in
+    let a : List ℕ = 32 ∷ kind ∷ (4 + n) / 256 ∷ (4 + n) % 256 ∷ [] in
+    let first = next-put 0 4 a q out (four-stores 0 32 kind ((4 + n) / 256) ((4 + n) % 256) out (omega arith)) r refl (omega arith) in
+    let l : length (a ++ q) ≡ 7 = length-append a q ∙ omega arith in
+    next-set 0 7 (a ++ q) 0 out first (omega arith) (omega arith)
+    ∙ rw two (ap (λ (xs : List ℕ). put 0 xs out) (simp append-assoc))
+
+list-headed : (kind : ℕ) (q xs : List ℕ) → listMessage kind q xs ≡ listHead kind q (length xs) ++ xs
+unfolding listMessage listHead
+list-headed kind q xs = simp append-assoc
+
+length-list-head : (kind : ℕ) (q : List ℕ) (n : ℕ) → length q ≡ 3 → length (listHead kind q n) ≡ 8
+unfolding listHead
+length-list-head kind q n e = omega (arith, length-append (be 2 (4 + n)) (q ++ 0 ∷ []), length-append q (0 ∷ []), length-be 2 (4 + n))
+
+-- elements from octet 8 on with the header before them are the message
+pub placed-list : (kind : ℕ) (q xs out : List ℕ) {out₁ out₂ : List ℕ} {end : ℕ} → length q ≡ 3 → 8 + length xs ≤ length out
+    → Placed out 8 xs end out₁ → out₂ ≡ put 0 (listHead kind q (end - 8)) out₁ → Placed out 0 (listMessage kind q xs) end out₂
+placed-list kind q xs out {out₁} {out₂} {end} three room p r =
+    let ends = p .ends in
+    let n : end - 8 ≡ length xs = omega arith in
+    let head : List ℕ = listHead kind q (length xs) in
+    let l : length head ≡ 8 = length-list-head kind q (length xs) three in
+    let place : 8 ≡ 0 + length head = omega arith in
+    rw (list-headed kind q xs)
+    (record {
+      ends = let k = length-append head xs in omega arith;
+      holds =
+          r ∙ ap₂ (λ (m : ℕ) (o : List ℕ). put 0 (listHead kind q m) o) n (p .holds ∙ ap (λ (m : ℕ). put m xs out) place)
           ∙ put-front 0 head xs out (omega arith);
     })

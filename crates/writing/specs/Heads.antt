@@ -13,3 +13,7 @@ fseidFlags ipv4 ipv6 = 2 * flag (not (isNil ipv4)) + flag (not (isNil ipv6))
 -- a message's header, before elements of n octets
 unfoldable pub messageHead : ℕ → ℕ → List ℕ → ℕ → List ℕ
 messageHead kind seid sequence n = 33 ∷ kind ∷ be 2 (12 + n) ++ (be 8 seid ++ (sequence ++ 0 ∷ []))
+
+-- and that of a message without a SEID
+unfoldable pub listHead : ℕ → List ℕ → ℕ → List ℕ
+listHead kind sequence n = 32 ∷ kind ∷ be 2 (4 + n) ++ (sequence ++ 0 ∷ [])

@@ -4,6 +4,9 @@ ghost use Prim.Native.Nat.{_+_, _*_, _/_, _%_, _≤_, _<_};
 ghost use lib.ListN.{length};
 ghost use mathlib.Core.List.{[], _∷_, _++_};
 ghost use mathlib.Core.Option.{some};
+ghost use mathlib.Core.Bool.{_||_};
+ghost use lib.Dec.{eqb};
+ghost use Rattle.rules.specs.Message.{establishment, setDeletion};
 ghost use Rattle.octets.specs.Octets.{put, be};
 ghost use Rattle.rules.specs.Elements.{fseidOctets};
 ghost use Rattle.rules.specs.Reply.{element, nodeIdElement, offendingElement, unitFseid, unitElement};
@@ -11,11 +14,14 @@ ghost use Rattle.rules.specs.Types as ie;
 ghost use Rattle.unit.specs.Meaning.{settingsOf};
 ghost use Rattle.writing.specs.Families.{unitFamilies, addressOctets, addressesIn, unitAddresses, tunnelIn};
 ghost use Rattle.writing.specs.Placed.{Placed};
-ghost use Rattle.writing.specs.Heads.{fseidFlags, messageHead};
+ghost use Rattle.writing.specs.Heads.{fseidFlags, messageHead, listHead};
 use unit::Settings;
 
 // The type of a Session Establishment Request.
 pub const ESTABLISHMENT: u8 = 50;
+
+// The type of a Session Set Deletion Request.
+pub const SET_DELETION: u8 = 14;
 
 // Type and length.
 pub fn write_head(kind: usize, n: usize, out: &mut [u8], at: usize)
@@ -28,12 +34,22 @@ pub fn write_head(kind: usize, n: usize, out: &mut [u8], at: usize)
     out[at + 3] = (n % 256) as u8;
 }
 
-// Node ID, in an establishment's reply only.
+// Whether the reply to a request has a Node ID.
+fn has_node_id(kind: u8) -> bool
+    ensures { λ r. ⌜ r ≡ (eqb kind establishment || eqb kind setDeletion) ⌝ }
+{
+    if kind == ESTABLISHMENT {
+        return true;
+    }
+    kind == SET_DELETION
+}
+
+// Node ID, in the replies to establishments and set deletions only.
 pub fn write_node_id(u: Settings, kind: u8, out: &mut [u8], at: usize) -> usize
     requires { ⌜ at + 9 ≤ length (now out) ⌝ }
     ensures { λ r. ⌜ Placed (now (out .entry)) at (nodeIdElement kind (settingsOf u)) r (now (out .exit)) ⌝ }
 {
-    if kind != ESTABLISHMENT {
+    if !has_node_id(kind) {
         return at;
     }
     write_head(60, 5, out, at);
@@ -167,4 +183,18 @@ pub fn write_header(kind: u8, seid: u64, sequence: &[u8], n: usize, out: &mut [u
     octets::write(out, 4, 8, seid);
     octets::copy(out, 12, sequence);
     out[15] = 0;
+}
+
+// The header of a message without a SEID.
+pub fn write_list_header(kind: u8, sequence: &[u8], n: usize, out: &mut [u8])
+    requires { ⌜ (length (now sequence) ≡ 3) × (n ≤ 2032) × (8 ≤ length (now out)) ⌝ }
+    ensures { λ _. ⌜ now (out .exit) ≡ put 0 (listHead kind (now (sequence .entry)) n) (now (out .entry)) ⌝ }
+{
+    let total = 4 + n;
+    out[0] = 32;
+    out[1] = kind;
+    out[2] = (total / 256) as u8;
+    out[3] = (total % 256) as u8;
+    octets::copy(out, 4, sequence);
+    out[7] = 0;
 }

@@ -10,7 +10,9 @@ change-requires : tie.Need-change-requires
 change-requires c κs = (establishes (c .before .before .before .before .before .before .pre .0) (c .before .before .before .before .before .before .pre .2) (c .before .before .if1 .taken), c .before .before .before .before .before .before .pre .1)
 
 refuse-requires : tie.Need-refuse-requires
-refuse-requires c κs = (absent-refuses (c .before .before .before .before .before .before .before .before .before .before .before .pre .0) (c .before .before .before .before .before .before .before .before .before .before .before .pre .2) (c .before .before .before .before .before .before .before .if1 .left) (c .before .before .before .before .before .before .before .before .before .before .before .pre .3) (c .before .before .before .before .before .find .ensures) _ (c .before .before .before .place .given .1), c .before .before .before .before .before .before .before .before .before .before .before .pre .1 .settings)
+refuse-requires c κs =
+    let p = c .before .before .before .before .before .before .before .before .before .before .before .pre in
+    (p .0, absent-refuses (p .0) (p .2) (c .before .before .before .before .before .before .before .if1 .left) (p .3) (c .before .before .before .before .before .find .ensures) _ (c .before .before .before .place .given .1), p .1 .settings)
 
 delete-requires : tie.Need-delete-requires
 delete-requires c κs = (c .before .before .before .before .before .before .before .before .before .before .before .before .pre .0, named-live (c .before .before .before .before .before .before .before .before .before .before .before .before .pre .0) (c .before .before .before .before .before .before .before .before .before .before .before .before .pre .2) (c .before .before .before .before .before .before .before .before .if1 .left) (c .before .before .before .before .before .before .before .before .before .before .before .before .pre .3) (c .before .before .before .before .before .before .find .ensures) (c .before .before .before .before .place2 .given .1), sym (c .before .before .before .before .before .before .before .before .before .before .before .before .pre .2) ∙ c .before .before .if2 .taken, c .before .before .before .before .before .before .before .before .before .before .before .before .pre .3, c .before .before .before .before .before .before .before .before .before .before .before .before .pre .1 .settings)

@@ -13,7 +13,7 @@ use Rattle.rules.specs.Layout.{sessionWidth}
 refuse-requires : tie.Need-refuse-requires
 refuse-requires c κs =
     let p = c .before .before .before .before .before .before .before .before .before .before .before .pre in
-    (fault-refuses (p .0) (c .before .before .before .before .before .before .read-request .ensures) _ _ _ (c .before .before .before .reading .given .1) .refusing, p .1 .settings)
+    (p .0 .asked, fault-refuses (p .0) (c .before .before .before .before .before .before .read-request .ensures) _ _ _ (c .before .before .before .reading .given .1) .refusing, p .1 .settings)
 
 enter-requires : tie.Need-enter-requires
 enter-requires c κs = fetch-asks _ _ _ _ _ _ (enter-asks (c .before .before .before .before .before .before .before .before .before .before .before .pre .0) (c .before .before .before .before .before .before .read-request .ensures) (c .before .before .before .reading2 .given .1) _ (search needs) refl)

@@ -1,32 +1,25 @@
--- `engine::delete` meets its contract.
--- Assumes nothing.
+-- `engine::delete` meets its contract. Assumes nothing.
+use borrow.Author.Needs.{needs}
 use Rattle.octets.specs.Lists.{all}
 use mathlib.Core.Path.{refl}
 use native.Mathlib.Omega.{arith}
 use Rattle.engine.proofs.Deleted.{deleted-through}
-use Rattle.engine.proofs.Faults.{frame-asks, frame-replies, then-asks, then-replies}
-use borrow.Author.Needs.{needs}
+use Rattle.engine.proofs.Faults.{frame-asks, frame-replies}
 use Rattle.engine.proofs.delete.Statement.{statement}
 use Rattle.engine.proofs.delete.Tie as tie
 
 refuse-requires : tie.Need-refuse-requires
-refuse-requires c κs = (search frame-asks, search needs)
-
-refuse-requires-2 : tie.Need-refuse-requires-2
-refuse-requires-2 c κs = (search then-asks, search needs)
+refuse-requires c κs = (search needs, search frame-asks, search needs)
 
 returns : tie.Need-returns
 returns c = search frame-replies
-
-returns-2 : tie.Need-returns-2
-returns-2 c = search then-replies
 
 accepted-requires : tie.Need-accepted-requires
 unfolding all
 accepted-requires c κs = (search needs, search needs, omega arith, tt, refl, search needs)
 
-returns-3 : tie.Need-returns-3
-returns-3 c = search deleted-through
+returns-2 : tie.Need-returns-2
+returns-2 c = search deleted-through
 
 pub delete-spec : {M : Type 1} → statement M
 delete-spec =
@@ -39,13 +32,6 @@ delete-spec =
     (λ c. search needs)
     returns
     (λ c. search needs)
-    (λ c κs. search needs)
-    (λ c. search needs)
-    refuse-requires-2
-    (λ c. search needs)
-    (λ c. search needs)
-    returns-2
-    (λ c. search needs)
     (λ c. search needs)
     (λ c. search needs)
     (λ c. search needs)
@@ -56,4 +42,4 @@ delete-spec =
     (λ c κs. search needs)
     (λ c. search needs)
     (λ c. search needs)
-    returns-3)
+    returns-2)

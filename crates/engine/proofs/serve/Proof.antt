@@ -1,7 +1,7 @@
 -- `engine::serve` meets its contract.
 -- Assumes nothing.
 use Rattle.frame.specs.declared.header.Header.the-variants.{TooLong, Malformed, NotServed}
-use Rattle.engine.proofs.Serving.{serves-broken, serves-small, serves-outcome, asks, counts, size-read, kind-is, seid-is, serves-answer}
+use Rattle.engine.proofs.Serving.{serves-broken, serves-small, serves-outcome, asks-list, serves-list, asks, counts, size-read, kind-is, seid-is, serves-answer}
 use Rattle.table.proofs.Examining.{count-read, count-less}
 use Rattle.octets.proofs.Digits.{octets-known}
 use Rattle.octets.specs.Octets.{octets}
@@ -27,10 +27,19 @@ returns-5 : tie.Need-returns-5
 returns-5 c = serves-outcome (c .before .before .before .before .before .before .before .before .before .before .before .before .before .before .before .args .t .now) (c .before .before .before .before .before .before .before .before .before .before .before .before .before .before .before .args .msg .now) (c .before .before .before .before .before .before .before .before .before .before .before .before .before .before .before .args .out .now) (c .before .before .before .before .before .before .before .before .before .examine .ensures) (c .before .before .before .before .before .before .seen .given .1) (c .before .before .before .before .if1 .left) (c .before .before .before .read-header .ensures) NotServed 5 refl refl (c .before .enum-told4 .given .1) (c .unserved5 .ensures)
 
 read-requires : tie.Need-read-requires
-read-requires c κs = count-read _ _ _ (c .before .before .before .before .before .before .before .before .before .before .examine .ensures) _ (c .before .before .before .before .before .before .before .seen .given .1) .0
+read-requires c κs = count-read _ _ _ (c .before .before .before .before .before .before .before .before .before .examine .ensures) _ (c .before .before .before .before .before .before .seen .given .1) .0
+
+delete-list-requires : tie.Need-delete-list-requires
+delete-list-requires c κs = (asks-list (c .before .before .before .before .before .before .before .before .before .before .before .before .before .before .before .before .before .before .args .t .now) (c .before .before .before .before .before .before .before .before .before .before .before .before .before .before .before .before .before .before .args .msg .now) (c .before .before .before .before .before .before .before .before .before .before .before .before .before .before .before .before .before .before .args .out .now) (c .before .before .before .before .before .before .before .before .before .before .before .before .examine .ensures) (c .before .before .before .before .before .before .before .before .before .seen .given .1) (c .before .before .before .before .before .before .before .if1 .left) (c .before .before .before .before .before .before .read-header .ensures) (c .before .before .before .before .enum-told5 .given .1), c .before .before .read .ensures)
+
+returns-6 : tie.Need-returns-6
+returns-6 c = serves-list (c .before .before .before .before .before .before .before .before .before .before .before .before .before .before .before .before .before .before .before .before .before .before .before .args .t .now) (c .before .before .before .before .before .before .before .before .before .before .before .before .before .before .before .before .before .before .before .before .before .before .before .args .msg .now) (c .before .before .before .before .before .before .before .before .before .before .before .before .before .before .before .before .before .before .before .before .before .before .before .args .out .now) (c .before .before .before .before .before .before .before .before .before .before .before .before .before .before .before .before .before .examine .ensures) (c .before .before .before .before .before .before .before .before .before .before .before .before .before .before .seen .given .1) (c .before .before .before .before .before .before .before .before .before .before .before .before .if1 .left) (c .before .before .before .before .before .before .before .before .before .before .before .read-header .ensures) (c .before .before .before .before .before .before .before .before .before .enum-told5 .given .1) (c .before .before .before .before .delete-list .ensures)
+
+read-requires-2 : tie.Need-read-requires-2
+read-requires-2 c κs = count-read _ _ _ (c .before .before .before .before .before .before .before .before .before .before .examine .ensures) _ (c .before .before .before .before .before .before .before .seen .given .1) .0
 
 sub-free : tie.Need-sub-free
-sub-free c = count-less _ _ _ (c .before .before .before .before .before .before .before .before .before .before .before .examine .ensures) _ _ (c .before .before .before .before .before .before .before .before .seen .given .1) (size-read _ _ (c .read .ensures))
+sub-free c = count-less _ _ _ (c .before .before .before .before .before .before .before .before .before .before .before .examine .ensures) _ _ (c .before .before .before .before .before .before .before .before .seen .given .1) (size-read _ _ (c .read2 .ensures))
 
 answer-requires : tie.Need-answer-requires
 answer-requires c κs =
@@ -42,13 +51,13 @@ answer-requires c κs =
     let h = c .before .before .before .before .before .before .before .read-header .ensures in
     let d = c .before .before .before .before .before .header .given .1 in (
       asks (s .args .t .now) (s .args .msg .now) (s .args .out .now) x e l h d o,
-      counts (s .args .t .now) (s .args .msg .now) (s .args .out .now) x e (search needs) (c .before .before .read .ensures),
+      counts (s .args .t .now) (s .args .msg .now) (s .args .out .now) x e (search needs) (c .before .before .read2 .ensures),
       kind-is (s .args .t .now) (s .args .msg .now) (s .args .out .now) x e l h d,
       seid-is (s .args .t .now) (s .args .msg .now) (s .args .out .now) x e l h d,
     )
 
-returns-6 : tie.Need-returns-6
-returns-6 c = serves-answer (c .before .before .before .before .before .before .before .before .before .before .before .before .before .before .before .before .before .before .before .before .before .before .before .before .args .t .now) (c .before .before .before .before .before .before .before .before .before .before .before .before .before .before .before .before .before .before .before .before .before .before .before .before .args .msg .now) (c .before .before .before .before .before .before .before .before .before .before .before .before .before .before .before .before .before .before .before .before .before .before .before .before .args .out .now) (c .before .before .before .before .before .before .before .before .before .before .before .before .before .before .before .before .before .before .examine .ensures) (c .before .before .before .before .before .before .before .before .before .before .before .before .before .before .before .seen .given .1) (c .before .before .before .before .before .before .before .before .before .before .before .before .before .if1 .left) (c .before .before .before .before .before .before .before .before .before .before .before .before .read-header .ensures) (c .before .before .before .before .before .before .before .before .before .before .header .given .1) (c .before .before .before .before .answer .ensures)
+returns-7 : tie.Need-returns-7
+returns-7 c = serves-answer (c .before .before .before .before .before .before .before .before .before .before .before .before .before .before .before .before .before .before .before .before .before .before .before .before .args .t .now) (c .before .before .before .before .before .before .before .before .before .before .before .before .before .before .before .before .before .before .before .before .before .before .before .before .args .msg .now) (c .before .before .before .before .before .before .before .before .before .before .before .before .before .before .before .before .before .before .before .before .before .before .before .before .args .out .now) (c .before .before .before .before .before .before .before .before .before .before .before .before .before .before .before .before .before .before .examine .ensures) (c .before .before .before .before .before .before .before .before .before .before .before .before .before .before .before .seen .given .1) (c .before .before .before .before .before .before .before .before .before .before .before .before .before .if1 .left) (c .before .before .before .before .before .before .before .before .before .before .before .before .read-header .ensures) (c .before .before .before .before .before .before .before .before .before .before .header .given .1) (c .before .before .before .before .answer .ensures)
 
 pub serve-spec : {M : Type 1} → statement M
 serve-spec =
@@ -79,8 +88,14 @@ serve-spec =
     returns-5
     (λ c. search needs)
     read-requires
+    delete-list-requires
+    (λ c. search needs)
+    (λ c. search needs)
+    returns-6
+    (λ c. search needs)
+    read-requires-2
     sub-free
     answer-requires
     (λ c. search needs)
     (λ c. search needs)
-    returns-6)
+    returns-7)

@@ -38,7 +38,7 @@ judge-requires c κs =
 refuse-requires : tie.Need-refuse-requires
 refuse-requires c κs =
     let p = c .before .before .before .before .before .before .before .before .before .before .before .before .before .before .before .before .before .before .before .before .pre in
-    (settle-refuses (p .0) (p .1) (p .2) (found (c .before .before .before .before .before .before .before .before .before .before)) _ (c .before .before .before .judge .ensures) (c .before .before .if1 .taken), p .1 .settings)
+    (p .0 .asked, settle-refuses (p .0) (p .1) (p .2) (found (c .before .before .before .before .before .before .before .before .before .before)) _ (c .before .before .before .judge .ensures) (c .before .before .if1 .taken), p .1 .settings)
 
 accept-requires : tie.Need-accept-requires
 accept-requires c κs =

@@ -1,10 +1,11 @@
 -- `is_acted` meets its contract: the keys of the arms on the way are the lists of `actedOn`. Assumes nothing.
+use mathlib.Core.Path.{refl}
 use mathlib.Core.List.{[], _∷_}
 use Rattle.octets.specs.Lists.{allIn, member}
 use Rattle.rules.specs.Types as ie
 use Rattle.frame.proofs.Among.{among-yes, among-no}
 use Rattle.reading.proofs.Places.{in-place, keys-in, keys-out, keys-out-2}
-use Rattle.request.proofs.ElementSteps.{in-establishment, in-modification, in-deletion}
+use Rattle.request.proofs.ElementSteps.{in-establishment, in-modification, in-set-deletion, in-others}
 use Rattle.request.proofs.items.is_acted.Statement.{statement}
 use Rattle.request.proofs.items.is_acted.Tie as tie
 
@@ -29,10 +30,14 @@ unfolding allIn member
 returns-5 c = in-place _ _ _ (in-modification _ (c .before .match .keys2)) (keys-out-2 _ 1 ie.updateEndpoint (ie.updatePdr ∷ ie.removePdr ∷ ie.fqcsid ∷ ie.createEndpoint ∷ ie.removeEndpoint ∷ []) (ie.createPdr ∷ ie.createEndpoint ∷ ie.updatePdr ∷ ie.removePdr ∷ ie.removeEndpoint ∷ ie.fqcsid ∷ ie.updateEndpoint ∷ []) tt (c .match3 .rest .0 .1) (c .match3 .rest .1))
 
 returns-6 : tie.Need-returns-6
-returns-6 c = in-place _ _ _ (in-deletion _ (c .before .match .rest .0 .1) (c .before .match .rest .1)) (among-yes _ 65 [] (c .match4 .keys1))
+returns-6 c = in-place _ _ _ (in-set-deletion _ (c .before .match .keys3)) (among-yes _ 65 [] (c .match4 .keys1))
 
 returns-7 : tie.Need-returns-7
-returns-7 c = in-place _ _ _ (in-deletion _ (c .before .match .rest .0 .1) (c .before .match .rest .1)) (among-no _ 65 [] (c .match4 .rest .1))
+returns-7 c = in-place _ _ _ (in-set-deletion _ (c .before .match .keys3)) (among-no _ 65 [] (c .match4 .rest .1))
+
+returns-8 : tie.Need-returns-8
+unfolding member
+returns-8 c = in-place _ _ _ (in-others _ (c .match .rest .0 .0 .1) (c .match .rest .0 .1) (c .match .rest .1)) refl
 
 pub is-acted-spec : {M : Type 1} → statement M
-is-acted-spec = tie.close (tie.spec returns returns-2 returns-3 returns-4 returns-5 returns-6 returns-7)
+is-acted-spec = tie.close (tie.spec returns returns-2 returns-3 returns-4 returns-5 returns-6 returns-7 returns-8)

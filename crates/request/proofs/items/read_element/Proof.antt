@@ -3,7 +3,7 @@ use mathlib.Core.Path.{sym, _∙_}
 use borrow.Author.Tests.{not-true, not-false}
 use Rattle.rules.specs.Message.{bodyPlace, elements}
 use Rattle.rules.specs.Reading.{aloneIn}
-use Rattle.request.proofs.ElementSteps.{element-skipped, element-seid, element-flags, element-csid, element-note, acted-group, acted-rows, element-group}
+use Rattle.request.proofs.ElementSteps.{element-skipped, element-seid, element-flags, element-csid, element-note, acted-group, element-group}
 use borrow.Author.Needs.{needs}
 use Rattle.request.proofs.items.read_element.Statement.{statement}
 use Rattle.request.proofs.items.read_element.Tie as tie
@@ -27,7 +27,7 @@ note-requires : tie.Need-note-requires
 note-requires c κs = search needs
 
 read-group-requires : tie.Need-read-group-requires
-read-group-requires c κs = let p = c .before .before .before .before .before .before .before .before .pre in (acted-group (c .before .before .before .before .before .before .before .before .args .message) (aloneIn (elements bodyPlace (c .before .before .before .before .before .before .before .before .args .s .now))) (c .before .before .before .before .before .before .before .before .args .kind) (c .before .before .before .before .before .before .before .before .args .place) (c .before .before .before .before .before .before .before .before .args .v .now) (c .before .before .before .before .before .before .before .before .args .nodes .now) (c .before .before .before .before .before .before .before .before .args .words .now) (c .before .before .before .before .before .before .before .before .args .d) (sym (not-false _ (c .before .before .if1 .left)) ∙ c .before .before .before .is-acted .ensures) ((c .before .match .rest) .0 .0 .0 .1) ((c .before .match .rest) .0 .0 .1) ((c .before .match .rest) .0 .1) ((c .before .match .rest) .1), p .0 .row (acted-rows (c .before .before .before .before .before .before .before .before .args .message) (aloneIn (elements bodyPlace (c .before .before .before .before .before .before .before .before .args .s .now))) (c .before .before .before .before .before .before .before .before .args .kind) (c .before .before .before .before .before .before .before .before .args .place) (c .before .before .before .before .before .before .before .before .args .v .now) (c .before .before .before .before .before .before .before .before .args .nodes .now) (c .before .before .before .before .before .before .before .before .args .words .now) (c .before .before .before .before .before .before .before .before .args .d) (sym (not-false _ (c .before .before .if1 .left)) ∙ c .before .before .before .is-acted .ensures) ((c .before .match .rest) .0 .1)), p .0 .few, p .1)
+read-group-requires c κs = let p = c .before .before .before .before .before .before .before .before .pre in (acted-group (c .before .before .before .before .before .before .before .before .args .message) (aloneIn (elements bodyPlace (c .before .before .before .before .before .before .before .before .args .s .now))) (c .before .before .before .before .before .before .before .before .args .kind) (c .before .before .before .before .before .before .before .before .args .place) (c .before .before .before .before .before .before .before .before .args .v .now) (c .before .before .before .before .before .before .before .before .args .nodes .now) (c .before .before .before .before .before .before .before .before .args .words .now) (c .before .before .before .before .before .before .before .before .args .d) (sym (not-false _ (c .before .before .if1 .left)) ∙ c .before .before .before .is-acted .ensures) ((c .before .match .rest) .0 .0 .0 .1) ((c .before .match .rest) .0 .0 .1) ((c .before .match .rest) .0 .1) ((c .before .match .rest) .1), p .0 .row, p .0 .few, p .1)
 
 returns-2 : tie.Need-returns-2
 returns-2 c = element-seid (c .before .before .before .before .before .before .before .before .args .message) (aloneIn (elements bodyPlace (c .before .before .before .before .before .before .before .before .args .s .now))) (c .before .before .before .before .before .before .before .before .args .kind) (c .before .before .before .before .before .before .before .before .args .place) (c .before .before .before .before .before .before .before .before .args .v .now) (c .before .before .before .before .before .before .before .before .args .nodes .now) (c .before .before .before .before .before .before .before .before .args .words .now) (c .before .before .before .before .before .before .before .before .args .d) (sym (not-false _ (c .before .before .if1 .left)) ∙ c .before .before .before .is-acted .ensures) (c .before .match .keys1) (c .read-seid .ensures)

@@ -1,12 +1,12 @@
 -- `read_csid` meets its contract. Assumes nothing.
 use mathlib.Core.Path.{sym, ap, _∙_}
 use native.Mathlib.Omega.{arith}
-use borrow.Author.Tests.{ne-eqb, not-true, not-false}
-use Rattle.rules.specs.Message.{bodyPlace, elements, deletion}
+use borrow.Author.Tests.{not-true, not-false}
+use Rattle.rules.specs.Message.{bodyPlace, elements}
 use Rattle.rules.specs.Reading.{aloneIn}
 use Rattle.element.specs.FqCsid.{answerOf}
 use Rattle.request.specs.Csids.{csidRefusal}
-use Rattle.request.proofs.CsidSteps.{clearing-change, csid-clears, csid-refused, node-small, csid-count, csid-repeat, csid-checked, csid-taken}
+use Rattle.request.proofs.CsidSteps.{csid-clears, csid-refused, node-small, csid-count, csid-repeat, csid-taken}
 use borrow.Author.Needs.{needs}
 use Rattle.request.proofs.row.read_csid.Statement.{statement}
 use Rattle.request.proofs.row.read_csid.Tie as tie
@@ -18,13 +18,13 @@ bare-requires : tie.Need-bare-requires
 bare-requires c κs = search needs
 
 put-csid-requires : tie.Need-put-csid-requires
-put-csid-requires c κs = let p = c .before .before .before .before .before .before .before .before .pre in (p .row (clearing-change (c .before .before .before .before .before .before .before .before .args .v .now) (c .before .before .before .before .before .before .before .before .args .message) (aloneIn (elements bodyPlace (c .before .before .before .before .before .before .before .before .args .s .now))) (sym (c .before .before .if1 .taken) ∙ c .before .before .before .is-clearing .ensures)), p .few)
+put-csid-requires c κs = let p = c .before .before .before .before .before .before .before .before .pre in (p .row, p .few)
 
 same-length : tie.Need-same-length
 same-length c = search needs
 
 returns : tie.Need-returns
-returns c = csid-clears (c .before .before .before .before .before .before .before .before .before .before .before .args .message) (aloneIn (elements bodyPlace (c .before .before .before .before .before .before .before .before .before .before .before .args .s .now))) (c .before .before .before .before .before .before .before .before .before .before .before .args .place) (c .before .before .before .before .before .before .before .before .before .before .before .args .v .now) (c .before .before .before .before .before .before .before .before .before .before .before .args .nodes .now) (c .before .before .before .before .before .before .before .before .before .before .before .args .words .now) (c .before .before .before .before .before .before .before .before .before .before .before .args .d) (sym (c .before .before .before .before .before .if1 .taken) ∙ c .before .before .before .before .before .before .is-clearing .ensures) (c .before .before .before .before .before .before .before .before .before .before .before .pre .row (clearing-change (c .before .before .before .before .before .before .before .before .before .before .before .args .v .now) (c .before .before .before .before .before .before .before .before .before .before .before .args .message) (aloneIn (elements bodyPlace (c .before .before .before .before .before .before .before .before .before .before .before .args .s .now))) (sym (c .before .before .before .before .before .if1 .taken) ∙ c .before .before .before .before .before .before .is-clearing .ensures))) (c .before .before .before .before .bare .ensures) (c .before .before .put-csid .ensures)
+returns c = csid-clears (c .before .before .before .before .before .before .before .before .before .before .before .args .message) (aloneIn (elements bodyPlace (c .before .before .before .before .before .before .before .before .before .before .before .args .s .now))) (c .before .before .before .before .before .before .before .before .before .before .before .args .place) (c .before .before .before .before .before .before .before .before .before .before .before .args .v .now) (c .before .before .before .before .before .before .before .before .before .before .before .args .nodes .now) (c .before .before .before .before .before .before .before .before .before .before .before .args .words .now) (c .before .before .before .before .before .before .before .before .before .before .before .args .d) (sym (c .before .before .before .before .before .if1 .taken) ∙ c .before .before .before .before .before .before .is-clearing .ensures) (c .before .before .before .before .before .before .before .before .before .before .before .pre .row) (c .before .before .before .before .bare .ensures) (c .before .before .put-csid .ensures)
 
 read-requires : tie.Need-read-requires
 read-requires c κs = search needs
@@ -65,23 +65,17 @@ slice-write-nodes c = let h = node-small (c .before .before .before .before .bef
 same-length-2 : tie.Need-same-length-2
 same-length-2 c = search needs
 
-returns-5 : tie.Need-returns-5
-returns-5 c = csid-checked (c .before .before .before .before .before .before .before .before .before .before .before .before .before .before .before .args .message) (aloneIn (elements bodyPlace (c .before .before .before .before .before .before .before .before .before .before .before .before .before .before .before .args .s .now))) (c .before .before .before .before .before .before .before .before .before .before .before .before .before .before .before .args .place) (c .before .before .before .before .before .before .before .before .before .before .before .before .before .before .before .args .v .now) (c .before .before .before .before .before .before .before .before .before .before .before .before .before .before .before .args .nodes .now) (c .before .before .before .before .before .before .before .before .before .before .before .before .before .before .before .args .words .now) (c .before .before .before .before .before .before .before .before .before .before .before .before .before .before .before .args .d) (sym (c .before .before .before .before .before .before .before .before .before .if1 .left) ∙ c .before .before .before .before .before .before .before .before .before .before .is-clearing .ensures) (c .before .before .before .before .before .before .answer .given .0 .0) (ap answerOf (sym (c .before .before .before .before .before .before .answer .given .1)) ∙ c .before .before .before .before .before .before .before .before .read .ensures) (sym (not-false _ (c .before .before .before .if2 .left)) ∙ c .before .before .before .before .is-count-allowed .ensures) (c .before .if3 .left) (c .before .before .before .before .before .before .before .before .before .before .before .before .before .before .before .pre .wide) (c .if4 .taken)
-
 csid-from-requires : tie.Need-csid-from-requires
 csid-from-requires c κs = search needs
 
 put-csid-requires-2 : tie.Need-put-csid-requires-2
-put-csid-requires-2 c κs = let p = c .before .before .before .before .before .before .before .before .before .before .before .before .before .before .before .before .before .pre in (p .row (ne-eqb _ deletion (c .before .before .if4 .left)), p .few)
+put-csid-requires-2 c κs = let p = c .before .before .before .before .before .before .before .before .before .before .before .before .before .before .before .before .pre in (p .row, p .few)
 
 same-length-3 : tie.Need-same-length-3
 same-length-3 c = search needs
 
-same-length-4 : tie.Need-same-length-4
-same-length-4 c = search needs
-
-returns-6 : tie.Need-returns-6
-returns-6 c = csid-taken (c .before .before .before .before .before .before .before .before .before .before .before .before .before .before .before .before .before .before .before .before .args .message) (aloneIn (elements bodyPlace (c .before .before .before .before .before .before .before .before .before .before .before .before .before .before .before .before .before .before .before .before .args .s .now))) (c .before .before .before .before .before .before .before .before .before .before .before .before .before .before .before .before .before .before .before .before .args .place) (c .before .before .before .before .before .before .before .before .before .before .before .before .before .before .before .before .before .before .before .before .args .v .now) (c .before .before .before .before .before .before .before .before .before .before .before .before .before .before .before .before .before .before .before .before .args .nodes .now) (c .before .before .before .before .before .before .before .before .before .before .before .before .before .before .before .before .before .before .before .before .args .words .now) (c .before .before .before .before .before .before .before .before .before .before .before .before .before .before .before .before .before .before .before .before .args .d) (sym (c .before .before .before .before .before .before .before .before .before .before .before .before .before .before .if1 .left) ∙ c .before .before .before .before .before .before .before .before .before .before .before .before .before .before .before .is-clearing .ensures) (c .before .before .before .before .before .before .before .before .before .before .before .answer .given .0 .0) (ap answerOf (sym (c .before .before .before .before .before .before .before .before .before .before .before .answer .given .1)) ∙ c .before .before .before .before .before .before .before .before .before .before .before .before .before .read .ensures) (sym (not-false _ (c .before .before .before .before .before .before .before .before .if2 .left)) ∙ c .before .before .before .before .before .before .before .before .before .is-count-allowed .ensures) (c .before .before .before .before .before .before .if3 .left) (c .before .before .before .before .before .before .before .before .before .before .before .before .before .before .before .before .before .before .before .before .pre .wide) (c .before .before .before .before .before .if4 .left) (c .before .before .before .before .before .before .before .before .before .before .before .before .before .before .before .before .before .before .before .before .pre .row (ne-eqb _ deletion (c .before .before .before .before .before .if4 .left))) (c .before .before .before .before .csid-from .ensures) (c .before .before .put-csid2 .ensures)
+returns-5 : tie.Need-returns-5
+returns-5 c = csid-taken (c .before .before .before .before .before .before .before .before .before .before .before .before .before .before .before .before .before .before .before .args .message) (aloneIn (elements bodyPlace (c .before .before .before .before .before .before .before .before .before .before .before .before .before .before .before .before .before .before .before .args .s .now))) (c .before .before .before .before .before .before .before .before .before .before .before .before .before .before .before .before .before .before .before .args .place) (c .before .before .before .before .before .before .before .before .before .before .before .before .before .before .before .before .before .before .before .args .v .now) (c .before .before .before .before .before .before .before .before .before .before .before .before .before .before .before .before .before .before .before .args .nodes .now) (c .before .before .before .before .before .before .before .before .before .before .before .before .before .before .before .before .before .before .before .args .words .now) (c .before .before .before .before .before .before .before .before .before .before .before .before .before .before .before .before .before .before .before .args .d) (sym (c .before .before .before .before .before .before .before .before .before .before .before .before .before .if1 .left) ∙ c .before .before .before .before .before .before .before .before .before .before .before .before .before .before .is-clearing .ensures) (c .before .before .before .before .before .before .before .before .before .before .answer .given .0 .0) (ap answerOf (sym (c .before .before .before .before .before .before .before .before .before .before .answer .given .1)) ∙ c .before .before .before .before .before .before .before .before .before .before .before .before .read .ensures) (sym (not-false _ (c .before .before .before .before .before .before .before .if2 .left)) ∙ c .before .before .before .before .before .before .before .before .is-count-allowed .ensures) (c .before .before .before .before .before .if3 .left) (c .before .before .before .before .before .before .before .before .before .before .before .before .before .before .before .before .before .before .before .pre .wide) (c .before .before .before .before .before .before .before .before .before .before .before .before .before .before .before .before .before .before .before .pre .row) (c .before .before .before .before .csid-from .ensures) (c .before .before .put-csid2 .ensures)
 
 pub read-csid-spec : {M : Type 1} → statement M
 read-csid-spec =
@@ -104,10 +98,8 @@ read-csid-spec =
     returns-4
     mul-nodes
     slice-write-nodes
-    same-length-2
-    returns-5
     csid-from-requires
     put-csid-requires-2
+    same-length-2
     same-length-3
-    same-length-4
-    returns-6)
+    returns-5)

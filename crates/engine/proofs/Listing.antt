@@ -1,0 +1,156 @@
+-- A set deletion (02 (vii)): its verdict, and what an accepted one leaves.
+-- Assumes nothing.
+use mathlib.Core.Path.{_≡_, refl, sym, ap, ap₂, _∙_, subst}
+use mathlib.Core.Bool.{Bool, true, false}
+use mathlib.Core.Option.{none}
+use mathlib.Core.List.{List, []}
+use Prim.Native.Nat.{ℕ, _-_}
+use native.Mathlib.Omega.{arith}
+use borrow.Author.Tests.{eq-eqb, ne-eqb}
+use lib.Dec.{eqb}
+use lib.ListN.{length, take, drop}
+use Rattle.octets.specs.Choice.{pick}
+use Rattle.octets.specs.Octets.{put}
+use Rattle.octets.specs.Lists.{keep}
+use Rattle.rules.specs.Limits.{maxSessions}
+use Rattle.rules.specs.Model.{Settings, Session, Sessions}
+use Rattle.rules.specs.Layout.{encode, viewSettings, viewSessions}
+use Rattle.rules.specs.Elements.{Fqcsid}
+use Rattle.rules.specs.Message.{listPlace, elements, headerLength, body, kindOf, setDeletion, establishment, frameFault}
+use Rattle.rules.specs.Reading as reading
+use Rattle.rules.specs.Reading.{Reading, faulty, done, andThen, Request, listRead, listing, topRead, askedIn, faultIn, readFault, readRequest}
+use Rattle.rules.specs.Stages.{Verdict, plain, newSession, atEntry, entrySession, judged, unknownSession}
+use Rattle.rules.specs.Apply.{staysSession, follow}
+use Rattle.rules.specs.Reply.{reply}
+use Rattle.rules.specs.Serve.{sessionsAfter, replyTo}
+use Rattle.rules.specs.Causes as why
+use Rattle.laws.proofs.HeaderLaws.{unnamed-sets}
+use Rattle.frame.proofs.Walk.{part-from}
+use Rattle.frame.specs.Framed as frame
+use Rattle.frame.specs.declared.Framing.{Framing}
+use Rattle.frame.specs.declared.Framing.the-variants as framings
+use Rattle.reading.specs.Verdicts.{stopped, got, numbered, outcome}
+use Rattle.reading.specs.declared.Verdict as code
+use Rattle.reading.specs.declared.Verdict.the-variants.{Fine, Refused}
+use Rattle.writing.specs.Placed.{written}
+use Rattle.reply.specs.Parts.{Listing}
+use Rattle.reply.specs.Naming.{refusal}
+use Rattle.reply.specs.declared.Offending.the-variants.{Nothing, Element}
+use Rattle.sets.specs.Listed.{blank, gotten}
+use Rattle.engine.specs.Answers.{AskedList, Live, verdictOn, Answers, Replies, Refusing}
+use Rattle.engine.proofs.VerdictSteps.{read-through}
+use Rattle.engine.proofs.Faults.{framed, read-fine, frame-asks, frame-replies, then-asks, then-replies}
+use Rattle.engine.proofs.Deleting.{listing-empty, no-grants, accepted-empty}
+
+-- a fault told without a value is the same fault
+same-fault : {A : Type 0} (v : code.Verdict) (u : Unit {0}) (a : A) (c k p : ℕ) → outcome v u ≡ stopped c k p → outcome v a ≡ stopped c k p
+same-fault Fine u a c k p h = let z : _≡_ {A = ℕ} 0 1 = cc in absurd (omega arith)
+same-fault (Refused x y w) u a c k p h = let e : x ≡ c = cc in let f : y ≡ k = cc in let g : w ≡ p = cc in λ i. stopped (e i) (f i) (g i)
+
+same-value : {A : Type 0} (v : code.Verdict) (u : Unit {0}) (a : A) → outcome v u ≡ got u → outcome v a ≡ got a
+same-value Fine u a h = refl
+same-value (Refused x y w) u a h = let z : _≡_ {A = ℕ} 0 1 = cc in absurd (omega arith)
+
+module _ (t msg : List ℕ) (l : Listing msg) where
+  -- it names no session
+  pub listing-live : Live t msg
+  unfolding unknownSession
+  listing-live = rw (unnamed-sets (kindOf msg) (l .kind))
+
+  -- what it lists
+  abbrev lists : Reading (List Fqcsid)
+  lists = listRead (elements listPlace (take (length msg - 8) (drop 8 msg)))
+
+  read-is : reading.read msg ≡ andThen lists (λ cs. done (listing cs))
+  unfolding reading.read topRead body headerLength
+  read-is = rw (l .kind, l .seid, part-from 8 msg)
+
+  pub list-read : (v : code.Verdict) → outcome v tt ≡ numbered (blank lists) → outcome v (readRequest msg) ≡ numbered (reading.read msg)
+  unfolding readRequest askedIn
+  list-read v h = rw read-is (go lists h)
+    where
+      go : (r : Reading (List Fqcsid)) → outcome v tt ≡ numbered (blank r) → outcome v (askedIn (andThen r (λ cs. done (listing cs)))) ≡ numbered (andThen r (λ cs. done (listing cs)))
+      go (faulty f) e = same-fault v tt _ _ _ _ e
+      go (done cs) e = same-value v tt (listing cs) e
+
+  -- without a fault
+  module _ (fine : readFault msg ≡ none) where
+    pub request-is : readRequest msg ≡ listing (gotten lists)
+    unfolding readFault faultIn readRequest askedIn
+    request-is = rw read-is (go lists (rw read-is at fine))
+      where
+        go : (r : Reading (List Fqcsid)) → faultIn (andThen r (λ cs. done (listing cs))) ≡ none → askedIn (andThen r (λ cs. done (listing cs))) ≡ listing (gotten r)
+        go (faulty f) h = absurd (unfold faultIn in (let z : _≡_ {A = ℕ} 0 1 = cc in omega arith))
+        go (done cs) h = refl
+
+    entry-is : entrySession (viewSessions t) msg ≡ newSession (readRequest msg .seid)
+    unfolding entrySession atEntry
+    entry-is = rw (unnamed-sets (kindOf msg) (l .kind))
+
+    pub list-accepts : frameFault msg ≡ none → verdictOn t msg ≡ plain why.accepted
+    unfolding judged newSession listing
+    list-accepts fr =
+        let s = viewSettings t in
+        let m = viewSessions t in
+        read-through maxSessions s m msg listing-live fr fine
+        ∙ rw (entry-is, request-is)
+        (accepted-empty s m (newSession 0) (listing (gotten lists)) (listing-empty (gotten lists)) maxSessions (kindOf msg) (ap (λ (n : ℕ). eqb n establishment) (l .kind)) (omega arith) (omega arith))
+
+    pub after-is : sessionsAfter (viewSettings t) (viewSessions t) msg ≡ keep (staysSession (gotten lists)) (viewSessions t)
+    unfolding sessionsAfter follow listing
+    after-is = rw (l .kind, request-is)
+
+    pub reply-is : frameFault msg ≡ none → reply (viewSettings t) msg 0 (refusal why.accepted Nothing) [] ≡ replyTo (viewSettings t) (viewSessions t) msg (verdictOn t msg)
+    unfolding replyTo listing
+    reply-is fr =
+        let e = listing-empty (gotten lists) in
+        sym (rw (list-accepts fr, request-is, no-grants (viewSettings t) (viewSessions t) (newSession 0) (listing (gotten lists)) e))
+
+-- ---- from what the code's readers answer
+
+module _ (t msg out : List ℕ) (a : AskedList t msg out) where
+  abbrev head : Listing msg
+  head = a .list
+
+  pub list-frame-asks : (f : Framing) (k p : ℕ) → frame.faultIn f ≡ frameFault msg → f ≡ framings.Fault k p → Refusing t msg out why.wrongLength (Element k)
+  list-frame-asks = frame-asks t msg out (listing-live t msg head)
+
+  pub list-frame-replies : (f : Framing) (k p used : ℕ) (out′ : List ℕ) → frame.faultIn f ≡ frameFault msg → f ≡ framings.Fault k p → Answers t msg out used out′ t → Replies t msg out used p out′ t
+  list-frame-replies = frame-replies t msg out (listing-live t msg head)
+
+  pub list-asks : (f : Framing) (v : code.Verdict) (c k p : ℕ) → frame.faultIn f ≡ frameFault msg → f ≡ framings.Framed
+      → outcome v tt ≡ numbered (blank (listRead (elements listPlace (take (length msg - 8) (drop 8 msg))))) → v ≡ Refused c k p → Refusing t msg out c (Element k)
+  list-asks f v c k p fe fq e q = then-asks t msg out (listing-live t msg head) f v c k p fe fq (list-read t msg head v e) q
+
+  pub list-replies : (f : Framing) (v : code.Verdict) (c k p used : ℕ) (out′ : List ℕ) → frame.faultIn f ≡ frameFault msg → f ≡ framings.Framed
+      → outcome v tt ≡ numbered (blank (listRead (elements listPlace (take (length msg - 8) (drop 8 msg))))) → v ≡ Refused c k p → Answers t msg out used out′ t → Replies t msg out used p out′ t
+  list-replies f v c k p used out′ fe fq e q x = then-replies t msg out (listing-live t msg head) f v c k p used out′ fe fq (list-read t msg head v e) q x
+
+  pub list-fine : (v : code.Verdict) → outcome v tt ≡ numbered (blank (listRead (elements listPlace (take (length msg - 8) (drop 8 msg))))) → v ≡ Fine
+      → blank (listRead (elements listPlace (take (length msg - 8) (drop 8 msg)))) ≡ done tt
+  list-fine v e q = go (blank (listRead (elements listPlace (take (length msg - 8) (drop 8 msg))))) (sym (ap (λ (w : code.Verdict). outcome w tt) q) ∙ e)
+    where
+      go : (r : Reading (Unit {0})) → got tt ≡ numbered r → r ≡ done tt
+      go (faulty f) h = let z : _≡_ {A = ℕ} 0 1 = cc in absurd (omega arith)
+      go (done u) h = refl
+
+  pub listed-through : (s : Settings) (f : Framing) (v : code.Verdict) (used : ℕ) (out′ t′ : List ℕ) → s ≡ viewSettings t → frame.faultIn f ≡ frameFault msg → f ≡ framings.Framed
+      → outcome v tt ≡ numbered (blank (listRead (elements listPlace (take (length msg - 8) (drop 8 msg))))) → v ≡ Fine
+      → (used, out′) ≡ written (reply s msg 0 (refusal why.accepted Nothing) []) out
+      → t′ ≡ encode maxSessions (viewSettings t) (keep (staysSession (gotten (listRead (elements listPlace (take (length msg - 8) (drop 8 msg)))))) (viewSessions t))
+      → Replies t msg out used 0 out′ t′
+  listed-through s f v used out′ t′ is fe fq e q w′ d =
+      let w = rw is at w′ in
+      let live = listing-live t msg head in
+      let fr = framed t msg out live f fe fq in
+      let rd = read-fine t msg out live v (list-read t msg head v e) q in
+      let ok = list-accepts t msg head rd fr in
+      let same = reply-is t msg head rd fr in
+      record {
+        answers = record {
+          long = ap (λ (p : ℕ × List ℕ). p .0) w ∙ ap length same;
+          space = ap (λ (p : ℕ × List ℕ). p .1) w ∙ ap (λ (x : List ℕ). put 0 x out) same;
+          table = d ∙ ap (encode maxSessions (viewSettings t)) (sym (after-is t msg head rd)) ∙ rw ok;
+        };
+        placed = sym (ap (λ (x : Verdict). x .place) ok);
+      }

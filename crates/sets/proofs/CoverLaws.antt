@@ -1,0 +1,161 @@
+-- What an FQ-CSID covers, octet by octet. Assumes nothing.
+use mathlib.Core.Path.{_≡_, refl, sym, ap, ap₂, _∙_}
+use Prim.Native.Nat.{ℕ, zero, suc, _+_, _-_, _*_, _/_, _%_, _≤_, _<_}
+use native.Mathlib.Omega.{arith}
+use mathlib.Core.Bool.{Bool, true, false, _&&_, _||_}
+use mathlib.Core.List.{List, [], _∷_, _++_, map}
+use lib.ListN.{length, take, drop, getD, length-drop, length-take}
+use lib.Seq.{take-add, drop-drop, take-take}
+use lib.Dec.{T, eqb}
+use borrow.Author.Tests.{eq-eqb, ne-eqb}
+use Rattle.octets.specs.Choice.{pick}
+use Rattle.octets.specs.Octets.{be, number, part, octets, octetAt, sameOctets, slices}
+use Rattle.octets.specs.Fields.{fieldsAt}
+use Rattle.octets.specs.Lists.{member, any}
+use Rattle.octets.proofs.Put.{length-part}
+use Rattle.octets.proofs.Digits.{be-back, part-octets}
+use Rattle.octets.proofs.FieldLaws.{octet-read}
+use Rattle.rules.specs.Model.{Csid, Session}
+use Rattle.rules.specs.Layout.{addressRead, csidFrom, viewCsid, viewArea, viewSession, csidWidth, csidsAt, csidCountAt, sessionWidth}
+use Rattle.rules.specs.Elements as rules
+use Rattle.rules.specs.Elements.{Fqcsid, addressLength}
+use Rattle.rules.specs.Apply.{covers, coversSession}
+use Rattle.frame.proofs.Walk.{part-from}
+use Rattle.sets.specs.Listed.{addressOctets, csidCount, Sized, listedIn}
+
+-- ---- the address's length
+
+address-most : (k : ℕ) → addressLength k ≤ 16
+unfolding addressLength
+address-most k = go (eqb k 1)
+  where
+    go : (b : Bool) → pick b 16 4 ≤ 16
+    go true = omega arith
+    go false = omega arith
+
+pub address-long : (k : ℕ) → k ≡ 1 → (16 ≡ addressLength k) × (16 ≤ 16)
+unfolding addressLength
+address-long k e = (rw (eq-eqb k 1 e), omega arith)
+
+pub address-short : (k : ℕ) → (k ≡ 1 → ⊥) → (4 ≡ addressLength k) × (4 ≤ 16)
+unfolding addressLength
+address-short k e = (rw (ne-eqb k 1 e), omega arith)
+
+-- ---- one of the CSIDs
+
+-- what is left to look at gives the same answer
+pub record Looks (csid m : ℕ) (cs : List ℕ) (left : ℕ) (rest : List ℕ) : Type 0 where
+  pub room : 2 * left ≤ length rest
+  pub same : member csid (rules.csidsAt m cs) ≡ member csid (rules.csidsAt left rest)
+
+next-csid : (n : ℕ) (xs : List ℕ) → 0 < n → rules.csidsAt n xs ≡ number (part 0 2 xs) ∷ rules.csidsAt (n - 1) (drop 2 xs)
+unfolding rules.csidsAt slices
+next-csid zero xs h = absurd (omega arith)
+next-csid (suc n) xs h = let e : suc n - 1 ≡ n = omega arith in ap (λ (k : ℕ). number (take 2 xs) ∷ map number (slices 2 k (drop 2 xs))) (sym e)
+
+pub looks-none : (csid m : ℕ) (cs : List ℕ) → 2 * m ≤ length cs → Looks csid m cs m cs
+looks-none csid m cs h = record { room = h; same = refl }
+
+module _ {csid m : ℕ} {cs : List ℕ} {left : ℕ} {rest : List ℕ} (l : Looks csid m cs left rest) where
+  pub looks-found : 0 < left → (r : ℕ) → r ≡ number (part 0 2 rest) → r ≡ csid → true ≡ member csid (rules.csidsAt m cs)
+  unfolding member
+  looks-found h r e q = sym (l .same ∙ ap (member csid) (next-csid left rest h) ∙ rw (eq-eqb csid (number (part 0 2 rest)) (sym q ∙ e)))
+
+  pub looks-more : 0 < left → (r : ℕ) → r ≡ number (part 0 2 rest) → (r ≡ csid → ⊥) → Looks csid m cs (left - 1) (take (length rest - 2) (drop 2 rest))
+  unfolding member
+  looks-more h r e q =
+      let room′ = l .room in
+      record {
+        room = rw (part-from 2 rest, length-drop) (omega arith);
+        same = l .same ∙ ap (member csid) (next-csid left rest h) ∙ rw (ne-eqb csid (number (part 0 2 rest)) (λ z. q (e ∙ sym z)), part-from);
+      }
+
+  pub looks-end : left ≤ 0 → false ≡ member csid (rules.csidsAt m cs)
+  unfolding member rules.csidsAt slices
+  looks-end h = let e : left ≡ 0 = omega arith in sym (l .same ∙ rw e)
+
+-- ---- one of a session's
+
+-- a field's number is written back as its octets
+be-part : (at w : ℕ) (xs : List ℕ) → T (octets xs) → at + w ≤ length xs → be w (number (part at w xs)) ≡ part at w xs
+be-part at w xs o h = be-back w (part at w xs) (length-part at w xs h) (part-octets at w xs o)
+
+module _ (v xs : List ℕ) (long : length xs ≡ csidWidth) (o : T (octets xs)) where
+  abbrev width : ℕ
+  width = addressLength (getD xs 1 0)
+
+  -- the address as the slot has it
+  csid-address : addressRead (number (part 1 1 xs)) (number (part 2 4 xs)) (number (part 6 12 xs)) ≡ part 2 width xs
+  unfolding addressRead
+  csid-address =
+      rw (octet-read 1 xs (omega arith), be-part 2 4 xs o (omega arith), be-part 6 12 xs o (omega arith))
+      (ap (take width) (ap (λ (l : List ℕ). take 4 (drop 2 xs) ++ take 12 l) (sym (drop-drop 4 2 xs)) ∙ sym (take-add 4 12 (drop 2 xs)))
+      ∙ take-take width 16 (drop 2 xs) (address-most (getD xs 1 0)))
+
+  abbrev node : ℕ
+  node = getD v (1 + addressOctets v + 2 * csidCount v) 0 % 16
+
+  -- the four tests
+  by-octets : covers (listedIn v) (viewCsid xs)
+      ≡ (eqb (getD xs 0 0) node && eqb (getD xs 1 0) (getD v 0 0 / 16) && sameOctets (part 2 width xs) (part 1 (addressOctets v) v)
+      && member (number (part 18 2 xs)) (rules.csidsAt (csidCount v) (drop (1 + addressOctets v) v)))
+  unfolding covers listedIn viewCsid csidFrom fieldsAt octetAt
+  by-octets = rw (csid-address, octet-read 0 xs (omega arith), octet-read 1 xs (omega arith))
+
+  module _ (a : ℕ) (is : a ≡ addressOctets v) where
+    pub other-node : (getD v (1 + a + 2 * csidCount v) 0 % 16 ≡ getD xs 0 0 → ⊥) → false ≡ covers (listedIn v) (viewCsid xs)
+    other-node n = sym (by-octets ∙ rw (ne-eqb (getD xs 0 0) node (λ e. n (ap (λ (k : ℕ). getD v (1 + k + 2 * csidCount v) 0 % 16) is ∙ sym e))))
+
+    module _ (n : getD v (1 + a + 2 * csidCount v) 0 % 16 ≡ getD xs 0 0) where
+      same-node : eqb (getD xs 0 0) node ≡ true
+      same-node = eq-eqb (getD xs 0 0) node (sym n ∙ ap (λ (k : ℕ). getD v (1 + k + 2 * csidCount v) 0 % 16) is)
+
+      pub other-type : (getD v 0 0 / 16 ≡ getD xs 1 0 → ⊥) → false ≡ covers (listedIn v) (viewCsid xs)
+      other-type t = sym (by-octets ∙ rw (same-node, ne-eqb (getD xs 1 0) (getD v 0 0 / 16) (λ e. t (sym e))))
+
+      module _ (t : getD v 0 0 / 16 ≡ getD xs 1 0) (b : Bool) (same : b ≡ sameOctets (part 2 a xs) (part 1 a v)) where
+        by-rest : covers (listedIn v) (viewCsid xs) ≡ (b && member (number (part 18 2 xs)) (rules.csidsAt (csidCount v) (drop (1 + a) v)))
+        unfolding octetAt
+        by-rest =
+            let w : width ≡ a = ap addressLength (sym t) ∙ sym is in
+            by-octets ∙ rw (same-node, eq-eqb (getD xs 1 0) (getD v 0 0 / 16) (sym t), w, ← is, same)
+
+        pub other-address : b ≡ false → false ≡ covers (listedIn v) (viewCsid xs)
+        other-address e = sym (by-rest ∙ rw e)
+
+        pub by-csid : b ≡ true → (q n m : ℕ) → n ≡ 1 + a → q ≡ number (part 18 2 xs) → m ≡ csidCount v → {r : Bool} → r ≡ member q (rules.csidsAt m (take (length v - n) (drop n v))) → r ≡ covers (listedIn v) (viewCsid xs)
+        by-csid e q k m ek eq em h = h ∙ rw (part-from, ek, eq, em) (sym (by-rest ∙ rw e))
+
+-- ---- those of a session
+
+pub record Covers (v slot : List ℕ) (left : ℕ) (rest : List ℕ) : Type 0 where
+  pub room : left * csidWidth ≤ length rest
+  pub same : coversSession (viewSession slot) (listedIn v) ≡ any (covers (listedIn v)) (map viewCsid (slices csidWidth left rest))
+
+next-slot : (n : ℕ) (xs : List ℕ) → 0 < n → slices csidWidth n xs ≡ take csidWidth xs ∷ slices csidWidth (n - 1) (drop csidWidth xs)
+unfolding slices
+next-slot zero xs h = absurd (omega arith)
+next-slot (suc n) xs h = let e : suc n - 1 ≡ n = omega arith in ap (λ (k : ℕ). take csidWidth xs ∷ slices csidWidth k (drop csidWidth xs)) (sym e)
+
+pub covers-none : (v slot : List ℕ) → length slot ≡ sessionWidth → octetAt slot csidCountAt ≤ 6 → Covers v slot (getD slot csidCountAt 0) (take (length slot - csidsAt) (drop csidsAt slot))
+unfolding coversSession viewSession viewArea octetAt
+covers-none v slot long few = record { room = rw (part-from csidsAt slot, length-drop) (omega arith); same = rw part-from }
+
+module _ {v slot : List ℕ} {left : ℕ} {rest : List ℕ} (l : Covers v slot left rest) (h : 0 < left) where
+  pub covers-room : csidWidth ≤ length rest
+  covers-room = let r = l .room in omega arith
+
+  by-first : coversSession (viewSession slot) (listedIn v) ≡ (covers (listedIn v) (viewCsid (take csidWidth rest)) || any (covers (listedIn v)) (map viewCsid (slices csidWidth (left - 1) (drop csidWidth rest))))
+  unfolding any
+  by-first = l .same ∙ ap (λ (ys : List (List ℕ)). any (covers (listedIn v)) (map viewCsid ys)) (next-slot left rest h)
+
+  module _ {b : Bool} (is : b ≡ covers (listedIn v) (viewCsid (take csidWidth rest))) where
+    pub covers-found : b ≡ true → true ≡ coversSession (viewSession slot) (listedIn v)
+    covers-found e = sym (by-first ∙ rw (← is, e))
+
+    pub covers-more : b ≡ false → Covers v slot (left - 1) (take (length rest - csidWidth) (drop csidWidth rest))
+    covers-more e = record { room = rw (part-from csidWidth rest, length-drop) (let r = l .room in omega arith); same = by-first ∙ rw (← is, e, part-from) }
+
+pub covers-end : {v slot : List ℕ} {left : ℕ} {rest : List ℕ} → Covers v slot left rest → left ≤ 0 → false ≡ coversSession (viewSession slot) (listedIn v)
+unfolding slices any
+covers-end {left = left} l h = let e : left ≡ 0 = omega arith in sym (l .same ∙ rw e)

@@ -1,0 +1,17 @@
+-- `sets::address_length` meets its contract. Assumes nothing.
+use Rattle.sets.proofs.CoverLaws.{address-long, address-short}
+use Rattle.sets.proofs.address_length.Statement.{statement}
+use Rattle.sets.proofs.address_length.Tie as tie
+
+returns : tie.Need-returns
+returns c = address-long _ (c .if1 .taken)
+
+returns-2 : tie.Need-returns-2
+returns-2 c = address-short _ (c .if1 .left)
+
+pub address-length-spec : {M : Type 1} → statement M
+address-length-spec =
+    tie.close
+    (tie.spec
+    returns
+    returns-2)

@@ -1,0 +1,67 @@
+-- What a set deletion lists as its octets have it, and what is left of a table when sessions go.
+-- Assumes nothing.
+use Prim.Native.Nat.{ℕ, _+_, _*_, _/_, _%_, _≤_}
+use mathlib.Core.Path.{_≡_}
+use mathlib.Core.List.{List, [], _∷_}
+use lib.Dec.{T, eqb}
+use lib.ListN.{length, drop, getD}
+use Rattle.octets.specs.Choice.{pick}
+use Rattle.octets.specs.Octets.{part}
+use Rattle.rules.specs.Limits.{maxSessions}
+use Rattle.rules.specs.Layout.{sessionWidth, tableLength, viewSession}
+use Rattle.rules.specs.Sound.{sound}
+use Rattle.rules.specs.Elements.{Fqcsid, sets, addressLength, csidsAt}
+use Rattle.rules.specs.Reading.{Reading, faulty, done, listedRead}
+use Rattle.rules.specs.Apply.{coversSession}
+use Rattle.rules.specs.Types as ie
+use Rattle.slots.specs.Records.{keyOf}
+use Rattle.areas.specs.Counted.{areaIn, withoutRecord}
+use Rattle.session.specs.Areas.{tableArea}
+
+-- a reading without what was read, and what was read, nothing where there is a fault
+abbrev pub blank : {A : Type 0} → Reading A → Reading (Unit {0})
+blank (faulty f) = faulty f
+blank (done a) = done tt
+
+abbrev pub gotten : Reading (List Fqcsid) → List Fqcsid
+gotten (faulty f) = []
+gotten (done cs) = cs
+
+-- an element of type t at place p: its fault, if it has one
+unfoldable pub listStep : ℕ → ℕ → List ℕ → Reading (Unit {0})
+listStep t p v = pick (eqb t ie.fqcsid) (blank (listedRead p v)) (done tt)
+
+-- the octets of the address, and the number of CSIDs, that an FQ-CSID's first octet says
+abbrev pub addressOctets : List ℕ → ℕ
+addressOctets v = addressLength (getD v 0 0 / 16)
+
+abbrev pub csidCount : List ℕ → ℕ
+csidCount v = getD v 0 0 % 16
+
+-- all of its octets are there
+pub record Sized (v : List ℕ) : Type 0 where
+  pub long : 2 + addressOctets v + 2 * csidCount v ≤ length v
+
+-- what it lists
+unfoldable pub listedIn : List ℕ → Fqcsid
+listedIn v =
+    sets (getD v 0 0 / 16) (part 1 (addressOctets v) v) (csidsAt (csidCount v) (drop (1 + addressOctets v) v)) (getD v (1 + addressOctets v + 2 * csidCount v) 0 % 16)
+
+-- and what an element of type t lists
+unfoldable pub listsIn : ℕ → List ℕ → List Fqcsid
+listsIn t v = pick (eqb t ie.fqcsid) (listedIn v ∷ []) []
+
+-- ---- the sessions
+
+-- the slot at place p of a table
+unfoldable pub slotAt : ℕ → List ℕ → List ℕ
+slotAt p t = part (p * sessionWidth) sessionWidth (areaIn tableArea t)
+
+-- the table without the session at place p, if that goes
+unfoldable pub afterOne : ℕ → Fqcsid → List ℕ → List ℕ
+afterOne p l t = pick (coversSession (viewSession (slotAt p t)) l) (withoutRecord tableArea (keyOf 8 (slotAt p t)) t) t
+
+-- a table that is not broken
+pub record Sound (t : List ℕ) : Type 0 where
+  pub sound : T (sound maxSessions t)
+  pub long : length t ≡ tableLength maxSessions
