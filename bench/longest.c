@@ -243,6 +243,43 @@ static void fq_csids_before_nulls(struct message *m)
     end_with_one(m);
 }
 
+/* FQ-CSIDs that no session holds, as many as fit: for each record of the table all are looked at. */
+static void many_short_sets(struct message *m)
+{
+    plain_message_start(m, SET_DELETION, 1);
+    for (uint16_t csid = 1; fits(m, 12); csid++)
+        put_fq_csid(m, 1, csid);
+    end_with_one(m);
+}
+
+/* The first session's own node and node type, but none of its CSIDs. */
+static void put_other_csids(struct message *m)
+{
+    uint8_t value[1 + 16 + 2 * 15 + 1];
+
+    memset(value, 0xFF, sizeof value);
+    value[0] = 0x1F;
+    memset(value + 1, 0, 16);
+    value[sizeof value - 1] = 1;
+    put_element(m, IE_FQ_CSID, value, sizeof value);
+}
+
+static void many_long_sets(struct message *m)
+{
+    plain_message_start(m, SET_DELETION, 1);
+    while (fits(m, 52))
+        put_other_csids(m);
+    end_with_one(m);
+}
+
+static void one_set_before_vendors(struct message *m)
+{
+    plain_message_start(m, SET_DELETION, 1);
+    put_other_csids(m);
+    vendors_to_end(m);
+    message_end(m);
+}
+
 /* A whole session, then vendor elements. */
 static void full_session(struct message *m)
 {
@@ -270,6 +307,9 @@ const struct longest longest_messages[LONGEST_MESSAGES] = {
     {"FQ-CSIDs/repeated-removals", 69, many_fq_csids},
     {"FQ-CSIDs/six,then-vendor", 1, fq_csids_before_vendors},
     {"FQ-CSIDs/seven,then-null", 69, fq_csids_before_nulls},
+    {"sets/one-CSID", 1, many_short_sets},
+    {"sets/fifteen-CSIDs", 1, many_long_sets},
+    {"sets/one,then-vendor", 1, one_set_before_vendors},
     {"full-session,then-vendor", 1, full_session},
 };
 

@@ -52,8 +52,11 @@ void ask(struct place *place, const struct message *m)
 
 uint8_t cause_of(const struct place *place)
 {
-    /* In an establishment's reply the Node ID (9 octets) stands before the Cause. */
-    size_t cause = place->reply[1] == ESTABLISHMENT + 1 ? 16 + 9 + 4 : 16 + 4;
+    /* In the replies to an establishment and to a set deletion the Node ID (9 octets) stands before
+       the Cause. */
+    size_t header = place->reply[1] == SET_DELETION + 1 ? 8 : 16;
+    bool has_node = place->reply[1] == ESTABLISHMENT + 1 || place->reply[1] == SET_DELETION + 1;
+    size_t cause = header + (has_node ? 9 : 0) + 4;
 
     return place->outcome == PFCP_ANSWERED ? place->reply[cause] : 0;
 }

@@ -185,13 +185,34 @@ static bool delete_and_restore(struct exchange *x)
     put_number(&m, IE_FLAGS, 1, 1);
     create_pdr(&m, 1, &existing);
     create_pdr(&m, 2, &existing);
-    if (!send_message(x, "Restoration of a session 7 that brings its TEID along", &m))
-        return false;
-    message_start(&m, DELETION, 2, 12);
-    if (!send_message(x, "Deletion of session 2", &m))
-        return false;
-    message_start(&m, DELETION, 7, 13);
-    return send_message(x, "Deletion of session 7", &m);
+    put_fq_csid(&m, 1, 6);
+    return send_message(x, "Restoration of a session 7 that brings its TEID along", &m);
+}
+
+/* A set deletion of the peer 192.0.2.50 that lists these CSIDs of one card. */
+static bool delete_set(struct exchange *x, const char *title, uint32_t sequence,
+                       const uint16_t *csids, size_t count)
+{
+    static const uint8_t node[] = {0, 192, 0, 2, 50};
+    struct message m;
+
+    plain_message_start(&m, SET_DELETION, sequence);
+    put_element(&m, IE_NODE_ID, node, sizeof node);
+    put_fq_csids(&m, 1, csids, count);
+    return send_message(x, title, &m);
+}
+
+static bool delete_sets(struct exchange *x)
+{
+    static const uint16_t csids[] = {4, 5, 6};
+    struct message m;
+
+    message_start(&m, MODIFICATION, 2, 12);
+    put_fq_csid(&m, 1, 5);
+    return send_message(x, "Session 2 is of the same card as session 7, with another CSID", &m) &&
+           delete_set(x, "A set deletion that names no CSID", 13, csids, 0) &&
+           delete_set(x, "A set deletion that matches no session", 14, csids, 1) &&
+           delete_set(x, "The card fails: sessions 2 and 7 go", 15, csids, 3);
 }
 
 /* A socket that is connected to the unit's. */
@@ -226,7 +247,7 @@ int run_demo(struct unit *unit)
     print_sessions(unit);
     bool done = establish_first(&x) && establish(&x, "Session 2: the next free TEID", 2, 2) &&
                 establish(&x, "Session 3: one TEID more", 3, 3) && modify(&x) && refusals(&x) &&
-                remove_alone(&x) && delete_and_restore(&x);
+                remove_alone(&x) && delete_and_restore(&x) && delete_sets(&x);
     close(x.peer);
     if (done)
         printf("\nend; requests answered: %lu, messages without a reply: %lu\n",

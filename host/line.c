@@ -14,6 +14,16 @@ static void add_fault(struct text *text, const struct served *served)
         text_add(text, " %02X", served->there[i]);
 }
 
+/* Which sessions a set deletion took. */
+static void add_removed(struct text *text, const struct served *served)
+{
+    text_add(text, ", removed sessions %zu", served->removed_count);
+    for (size_t i = 0; i < served->removed_count; i++)
+        text_add(text, "%s%" PRIu64, i == 0 ? " (SEID " : ", ", served->removed[i]);
+    if (served->removed_count > 0)
+        text_add(text, ")");
+}
+
 void served_facts(struct text *text, const struct served *served)
 {
     if (served->has_type)
@@ -36,6 +46,8 @@ void served_facts(struct text *text, const struct served *served)
         text_add(text, ", cause %u (%s)", served->cause, cause_in_words(served->cause));
     if (served->has_offending)
         add_fault(text, served);
+    if (served->is_set)
+        add_removed(text, served);
     if (served->send_error != 0)
         text_add(text, ", reply not sent (%s)", strerror(served->send_error));
     text_add(text, ", live sessions %" PRIu32 ", free TEIDs %" PRIu32 "\n", served->live_sessions,

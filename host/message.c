@@ -12,10 +12,13 @@ uint64_t number_at(const uint8_t *octets, size_t count)
     return number;
 }
 
+/* Without S a header has no SEID. */
 struct elements elements_of(const uint8_t *message, size_t length)
 {
-    size_t header = length < 16 ? length : 16;
+    size_t header = length > 0 && (message[0] & 1) ? 16 : 8;
 
+    if (header > length)
+        header = length;
     return (struct elements){.octets = message + header, .length = length - header};
 }
 
@@ -71,14 +74,26 @@ static void add_number(struct message *m, uint64_t number, size_t count)
     m->length += count;
 }
 
-void message_start(struct message *m, uint8_t type, uint64_t seid, uint32_t sequence)
+static void front_start(struct message *m, uint8_t first, uint8_t type)
 {
     m->length = 0;
     m->open = 0;
-    add_number(m, 0x21, 1);
+    add_number(m, first, 1);
     add_number(m, type, 1);
     add_number(m, 0, 2);
+}
+
+void message_start(struct message *m, uint8_t type, uint64_t seid, uint32_t sequence)
+{
+    front_start(m, 0x21, type);
     add_number(m, seid, 8);
+    add_number(m, sequence, 3);
+    add_number(m, 0, 1);
+}
+
+void plain_message_start(struct message *m, uint8_t type, uint32_t sequence)
+{
+    front_start(m, 0x20, type);
     add_number(m, sequence, 3);
     add_number(m, 0, 1);
 }
@@ -157,10 +172,19 @@ void put_f_teid(struct message *m, const struct tunnel *tunnel)
 
 void put_fq_csid(struct message *m, uint8_t node_type, uint16_t csid)
 {
-    uint8_t value[8] = {0x01, 192, 0, 2, 10, 0, 0, node_type};
+    put_fq_csids(m, node_type, &csid, 1);
+}
 
-    write_number(value + 5, csid, 2);
-    put_element(m, IE_FQ_CSID, value, sizeof value);
+void put_fq_csids(struct message *m, uint8_t node_type, const uint16_t *csids, size_t count)
+{
+    uint8_t value[5 + 2 * 15 + 1] = {(uint8_t)count, 192, 0, 2, 10};
+    size_t length = 5;
+
+    assert(count <= 15);
+    for (size_t i = 0; i < count; i++, length += 2)
+        write_number(value + length, csids[i], 2);
+    value[length++] = node_type;
+    put_element(m, IE_FQ_CSID, value, length);
 }
 
 void create_pdr_start(struct message *m, uint16_t id, uint32_t precedence, uint8_t source)

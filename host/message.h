@@ -9,7 +9,7 @@
 enum { MESSAGE_ROOM = 4096, GROUPS_ROOM = 3 };
 
 /* Message types. */
-enum { ESTABLISHMENT = 50, MODIFICATION = 52, DELETION = 54 };
+enum { SET_DELETION = 14, ESTABLISHMENT = 50, MODIFICATION = 52, DELETION = 54 };
 
 /* The cause of a request that was accepted. */
 enum { ACCEPTED = 1 };
@@ -50,8 +50,9 @@ struct message {
     size_t open;
 };
 
-/* Starts a message; message_end sets its length. */
+/* Starts a message, with a SEID in its header and without one; message_end sets its length. */
 void message_start(struct message *m, uint8_t type, uint64_t seid, uint32_t sequence);
+void plain_message_start(struct message *m, uint8_t type, uint32_t sequence);
 void message_end(struct message *m);
 
 /* Opens a group, and closes the one opened last. */
@@ -76,7 +77,9 @@ struct tunnel {
 
 void put_f_seid(struct message *m, uint64_t seid);
 void put_f_teid(struct message *m, const struct tunnel *tunnel);
+/* FQ-CSIDs of the node 192.0.2.10, with one CSID and with up to 15. */
 void put_fq_csid(struct message *m, uint8_t node_type, uint16_t csid);
+void put_fq_csids(struct message *m, uint8_t node_type, const uint16_t *csids, size_t count);
 
 /* A Create PDR up to the PDI's source interface, and its end. Further members of the PDI stand
    between the two. A negative FAR ID is none. */

@@ -8,7 +8,7 @@
 
 const char usage[] =
     "usage: pfcp_unit [OPTION VALUE].. [--demo]\n"
-    "Serves PFCP session requests over UDP and says a line for each.\n"
+    "Serves PFCP requests for sessions and sets of sessions over UDP and says a line for each.\n"
     "  --address ADDRESS   where to listen, IPv4 or IPv6 (127.0.0.1)\n"
     "  --port PORT         the UDP port, 1 to 65535 (8805)\n"
     "  --peer ADDRESS      the control plane: nobody else is answered (anybody is)\n"

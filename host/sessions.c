@@ -113,6 +113,24 @@ static void read_request(struct session *session, struct elements rest)
     }
 }
 
+/* Both tables have their sessions in ascending order of SEID. */
+size_t sessions_gone(const uint8_t *before, const uint8_t *after, uint64_t *seids, size_t room)
+{
+    struct session was;
+    struct session is;
+    size_t kept = 0;
+    size_t gone = 0;
+    bool more = sessions_read(after, kept, &is);
+
+    for (size_t place = 0; gone < room && sessions_read(before, place, &was); place++) {
+        if (more && was.seid == is.seid)
+            more = sessions_read(after, ++kept, &is);
+        else
+            seids[gone++] = was.seid;
+    }
+    return gone;
+}
+
 bool sessions_read(const uint8_t *table, size_t place, struct session *session)
 {
     uint8_t request[PFCP_LONGEST_RESTORATION];

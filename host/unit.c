@@ -151,6 +151,23 @@ static void answer(struct unit *unit, struct served *served, struct datagram *fr
         served->outcome = PFCP_BROKEN_TABLE;
 }
 
+/* The same for a set deletion, whose reply does not say which sessions it took: those that lived
+   before it and do so no more. */
+static void answer_set(struct unit *unit, struct served *served, struct datagram *from,
+                       const uint8_t *message)
+{
+    static uint8_t before[PFCP_TABLE_LENGTH];
+    size_t lived = unit->live_sessions;
+
+    memcpy(before, unit->table, sizeof before);
+    answer(unit, served, from, message);
+    if (served->outcome != PFCP_ANSWERED || served->cause != ACCEPTED)
+        return;
+    served->is_set = true;
+    if (unit->live_sessions < lived)
+        served->removed_count = sessions_gone(before, unit->table, served->removed, MOST_SESSIONS);
+}
+
 enum turn unit_serve(struct unit *unit, struct served *served)
 {
     /* Longer than any datagram, so that a message that is too long is seen as such. */
@@ -170,7 +187,10 @@ enum turn unit_serve(struct unit *unit, struct served *served)
         return TURN_STRANGER;
     }
     read_head(served, message, (size_t)length);
-    answer(unit, served, &from, message);
+    if (served->has_type && served->type == SET_DELETION)
+        answer_set(unit, served, &from, message);
+    else
+        answer(unit, served, &from, message);
     served->live_sessions = unit->live_sessions;
     served->free_teids = unit->free_teids;
     count(&unit->counters, served);

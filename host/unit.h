@@ -10,6 +10,7 @@
 #include "disk.h"
 #include "options.h"
 #include "pfcp_session.h"
+#include "sessions.h"
 #include "text.h"
 
 /* What has happened since the start. */
@@ -61,6 +62,9 @@ struct served {
     int send_error;     /* 0: the reply was sent, or there is none */
     uint32_t live_sessions;
     uint32_t free_teids;
+    bool is_set;                     /* a set deletion that was accepted */
+    uint64_t removed[MOST_SESSIONS]; /* the SEIDs of the sessions that it took */
+    size_t removed_count;
 };
 
 enum turn { TURN_REPLY, TURN_NO_REPLY, TURN_STRANGER, TURN_NOTHING, TURN_BROKEN };

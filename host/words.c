@@ -35,10 +35,11 @@ const char *cause_in_words(unsigned cause)
     }
 }
 
-/* Types 1 to 17 speak of nodes and of sets of sessions: their header has no SEID. */
+/* Types 1 to 17 speak of nodes and of sets of sessions: their header has no SEID. Of them only the
+   Session Set Deletion is served. */
 static bool is_of_nodes(unsigned type)
 {
-    return type >= 1 && type <= 17;
+    return type >= 1 && type <= 17 && type != SET_DELETION;
 }
 
 const char *outcome_in_words(unsigned outcome, bool has_type, unsigned type)
@@ -232,10 +233,12 @@ static void print_fq_csid(FILE *out, const uint8_t *value, size_t length)
     } else if (length <= end) {
         fputs("not readable", out);
     } else if (csids == 0) {
-        fprintf(out, "remove that of node type %u", value[end] & 15);
+        fprintf(out, "node type %u, no CSID", value[end] & 15);
     } else {
-        fprintf(out, "node type %u, CSID %" PRIu64 " of ", value[end] & 15,
-                number_at(value + 1 + address, 2));
+        fprintf(out, "node type %u, CSID", value[end] & 15);
+        for (size_t at = 1 + address; at < end; at += 2)
+            fprintf(out, "%s %" PRIu64, at == 1 + address ? "" : ",", number_at(value + at, 2));
+        fputs(" of ", out);
         if (value[0] >> 4 == 2)
             fprintf(out, "operator node %08" PRIX64, number_at(value + 1, 4));
         else
@@ -330,11 +333,19 @@ static void print_part(FILE *out, int depth, const uint8_t *part, size_t length)
     }
 }
 
+/* A message without a SEID; of its elements only those of sets are known here. */
+static void print_plain_message(FILE *out, const uint8_t *message, size_t length)
+{
+    fprintf(out, "    %s (%u), sequence %" PRIu64 "\n", message_in_words(message[1]), message[1],
+            number_at(message + 4, 3));
+    if (message[1] == SET_DELETION || message[1] == SET_DELETION + 1)
+        print_part(out, 0, message + 8, length - 8);
+}
+
 void print_message(FILE *out, const uint8_t *message, size_t length)
 {
     if (length >= 8 && message[0] >> 5 == 1 && !(message[0] & 1)) {
-        fprintf(out, "    %s (%u), sequence %" PRIu64 "\n", message_in_words(message[1]),
-                message[1], number_at(message + 4, 3));
+        print_plain_message(out, message, length);
         return;
     }
     if (length < 16 || message[0] >> 5 != 1) {

@@ -4,12 +4,14 @@
  * The archive keeps nothing between calls: all that it knows is in the table's octets, whose layout
  * is in docs/layout.md. The rules for requests and replies are in docs/rules.md.
  *
- * Which messages. A host looks at a message's type first (octet 1, from 0) and hands on the types 50,
- * 52 and 54. Heartbeats, associations and other messages of nodes have no SEID in their header, so
- * pfcp_request takes them for a wrong header (outcome 4); it is the host that answers them.
+ * Which messages. A host looks at a message's type first (octet 1, from 0) and hands on the types 14
+ * (Session Set Deletion), 50, 52 and 54. The header of type 14 has no SEID (S is 0) and 8 octets, that
+ * of every other type a SEID and 16. Heartbeats, associations and other messages of nodes have no SEID
+ * either, so pfcp_request takes them for a wrong header (outcome 4); it is the host that answers them.
  *
- * The cause of a reply is its octet 29, from 0, in a reply of type 51, and its octet 20 in one of type
- * 53 or 55. With the causes 66 to 69 the Offending IE's two octets stand 5 and 6 octets after it.
+ * The cause of a reply is its octet 21, from 0, in a reply of type 15, its octet 29 in one of type 51,
+ * and its octet 20 in one of type 53 or 55. With the causes 66 to 69 the Offending IE's two octets
+ * stand 5 and 6 octets after it.
  *
  * Pointers. Every pair of a pointer and a length is a slice: the pointer is valid for that many
  * octets, for reading where it is const and for reading and writing where it is not. A slice of
@@ -24,7 +26,7 @@
  * the table, and reads the copy. A copy that was made without the lock may mix two states, and need
  * not be a broken table for that.
  *
- * Stack. A request takes 39,256 octets of stack (docs/benchmarks.md has how it was measured), the
+ * Stack. A request takes 39,448 octets of stack (docs/benchmarks.md has how it was measured), the
  * other calls take less. There is no heap. A thread of 64 KiB is large enough.
  *
  * Architecture. The archive is for x86-64 Linux, any processor of that kind. It needs memcpy, memmove
@@ -65,8 +67,8 @@ extern "C" {
 #define PFCP_BROKEN_TABLE 1      /* the table is broken or of another length */
 #define PFCP_SMALL_REPLY_SPACE 2 /* reply_len is under 1,024 */
 #define PFCP_LONG_MESSAGE 3      /* message_len is over 2,048 */
-#define PFCP_WRONG_HEADER 4      /* under 16 octets, or version, S, FO or length wrong */
-#define PFCP_NOT_SERVED 5        /* another message type than 50, 52, 54 */
+#define PFCP_WRONG_HEADER 4      /* too short a header, or version, S, FO or length wrong */
+#define PFCP_NOT_SERVED 5        /* another message type than 14, 50, 52, 54 */
 
 /* Outcomes of pfcp_write_restoration. */
 #define PFCP_WRITTEN 0            /* a restoration request was written */
@@ -105,7 +107,9 @@ uint32_t pfcp_make_table(uint8_t *table, size_t table_len, uint32_t ipv4, const 
 uint32_t pfcp_free_count(const uint8_t *table, size_t table_len, uint32_t *count);
 
 /*
- * Handles one request: reads the message, changes the table and writes the reply.
+ * Handles one request: reads the message, changes the table and writes the reply. A Session Set
+ * Deletion removes every session that holds one of the FQ-CSIDs that it lists, any number of them in
+ * one call, or none where it is refused; its reply does not say which.
  *
  * Gives a host outcome. With outcome 0 the reply stands at the front of the reply space and
  * *reply_used is its length; the octets after it are unchanged. The reply says whether the request
@@ -113,10 +117,11 @@ uint32_t pfcp_free_count(const uint8_t *table, size_t table_len, uint32_t *count
  * written but *reply_used and *place, which are 0. The outcomes are tested in the order 1 to 5.
  *
  * *place says where a fault is that a reply names with the causes 66 to 69 and Offending IE: the index
- * in the message, from 0, of the first octet of the element at fault, which is its type's. Where a
- * member is missing, or under 4 octets are left in a group, it is the place of that group, and 0 where
- * the message itself lacks an element or has under 4 octets left. For a repeated element it is the
- * place of the second one. With every other cause, and with the outcomes 1 to 5, it is 0.
+ * in the message, from 0, of the first octet of the element at fault, which is its type's; the first
+ * element stands at 16, in a message of type 14 at 8. Where a member is missing, or under 4 octets are
+ * left in a group, it is the place of that group, and 0 where the message itself lacks an element or
+ * has under 4 octets left. For a repeated element it is the place of the second one. With every other
+ * cause, and with the outcomes 1 to 5, it is 0.
  */
 uint32_t pfcp_request(uint8_t *table, size_t table_len, const uint8_t *message, size_t message_len,
                       uint8_t *reply, size_t reply_len, size_t *reply_used, size_t *place);

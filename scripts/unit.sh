@@ -111,6 +111,15 @@ said() {
 }
 
 anybody='pfcp_unit: warning: no --peer is given, so requests from any address are answered'
+# Session 2: an endpoint with a TEID for IPv4, a PDR that names it and has FAR 10, an FQ-CSID of an operator's node.
+second='21 32 00 5F 00 00 00 00 00 00 00 00 00 00 02 00 00 39 00 0D 02 00 00 00 00 00 00 00 02 7F 00 00 01'
+second+=' 00 01 00 24 00 38 00 02 00 03 00 1D 00 04 00 00 00 32 00 02 00 0A 00 14 00 01 01 00 83 00 01 01 00 6C 00 04 00 00 00 0A'
+second+=' 00 7F 00 0A 00 83 00 01 01 00 15 00 01 05 00 41 00 08 21 3F F7 10 05 00 09 05'
+# Set deletions: one that session 2 is of, with its CSID and another; one with another CSID; one without any. The reply to the first.
+set_deletion='20 0E 00 12 00 00 0C 00 00 41 00 0A 22 3F F7 10 05 00 07 00 09 05'
+other_set='20 0E 00 10 00 00 0C 00 00 41 00 08 21 3F F7 10 05 00 07 05'
+empty_set='20 0E 00 0E 00 00 0C 00 00 41 00 06 00 00 00 00 00 05'
+set_removed=200F001200000C00003C000500C00002010013000101
 deletion='21 36 00 0C 00 00 00 00 00 00 00 01 00 00 01 00'
 unknown=213700110000000000000000000001000013000141
 heartbeat='20 01 00 0C 00 00 09 00 00 60 00 04 00 00 00 00'

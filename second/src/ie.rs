@@ -25,8 +25,20 @@ pub const ESTABLISHMENT_FLAGS: u16 = 186;
 /// "Types 32768 to 65535 are vendor elements."
 pub const FIRST_VENDOR: u16 = 32768;
 
-/// "Header of 16 octets".
+/// "Header of 16 octets", with a SEID.
 pub const HEADER_OCTETS: usize = 16;
+
+/// Document 02 (vii): "headers of 8 octets without SEID".
+pub const PLAIN_HEADER_OCTETS: usize = 8;
+
+/// A message's elements stand behind its header; bit S of its first octet says which of the two it
+/// has. A message without octets has none.
+pub fn header_octets(message: &[u8]) -> usize {
+    match message.first() {
+        Some(first) if first & 1 == 0 => PLAIN_HEADER_OCTETS,
+        _ => HEADER_OCTETS,
+    }
+}
 
 /// Outcome 3: "message over 2,048".
 pub const LARGEST_MESSAGE: usize = 2048;

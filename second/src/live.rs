@@ -56,14 +56,28 @@ impl LiveSet {
             Kind::Deletion => {
                 self.sessions.remove(&header.seid).ok_or("accepted for no session")?;
             }
+            Kind::SetDeletion => self.lose(&request),
         }
         Ok(())
+    }
+
+    /// "the live set loses every match": what holds one of the CSIDs of a listed node, one by one.
+    fn lose(&mut self, request: &Request) {
+        for record in &request.records {
+            let Record::FqCsid(listed) = record else { continue };
+            for &csid in &listed.csids {
+                let lost = HeldCsid { node: listed.node, csid };
+                let stays = |s: &Session| s.fq_csids.get(&listed.node_type) != Some(&lost);
+                self.sessions.retain(|_, session| stays(session));
+            }
+        }
     }
 }
 
 /// Reads a reply's cause and Created groups.
 fn hear(reply: &[u8]) -> Result<Said, String> {
-    let body = reply.get(ie::HEADER_OCTETS..).ok_or("a reply under 16 octets")?;
+    let octets = ie::header_octets(reply);
+    let body = reply.get(octets..).ok_or(format!("a reply under {octets} octets"))?;
     let mut said = Said { cause: None, pdrs: BTreeMap::new(), endpoints: BTreeMap::new() };
     for element in elements(Part::of(body)) {
         match element.ie_type {

@@ -118,17 +118,21 @@ fn one_call(report: &mut Report, unit: &mut Unit, live: &mut LiveSet, call: &Cal
 
 /// The cause of a well-formed reply to this message.
 fn cause_of(message: &[u8], reply: &[u8]) -> Result<u8, String> {
-    let header = reply.get(..ie::HEADER_OCTETS).ok_or("no header")?;
-    if header[0] != 0x21 || header[1] != message[1] + 1 {
+    let (first, octets) = match message[1] {
+        14 => (0x20, ie::PLAIN_HEADER_OCTETS),
+        _ => (0x21, ie::HEADER_OCTETS),
+    };
+    let (header, body) = reply.split_at_checked(octets).ok_or("no header")?;
+    if header[0] != first || header[1] != message[1] + 1 {
         return Err("first octets of the header".into());
     }
     if usize::from(u16::from_be_bytes([header[2], header[3]])) != reply.len() - 4 {
         return Err("length".into());
     }
-    if header[12..15] != message[12..15] || header[15] != 0 {
+    let sequence = octets - 4..octets - 1;
+    if header[sequence.clone()] != message[sequence] || header[octets - 1] != 0 {
         return Err("sequence or spare".into());
     }
-    let body = &reply[ie::HEADER_OCTETS..];
     let types: Vec<u16> = elements(Part::of(body)).map(|element| element.ie_type).collect();
     let octets: usize = elements(Part::of(body)).map(|element| 4 + element.value.len()).sum();
     if octets != body.len() {
@@ -138,7 +142,7 @@ fn cause_of(message: &[u8], reply: &[u8]) -> Result<u8, String> {
     let cause = cause.ok_or("no cause")?.value[0];
     // The order of the reply's elements.
     let mut expected = vec![];
-    if message[1] == 50 {
+    if [14, 50].contains(&message[1]) {
         expected.push(ie::NODE_ID);
     }
     expected.push(ie::CAUSE);

@@ -89,6 +89,21 @@ impl Session {
         self.pdrs.iter().filter(|(id, pdr)| goes(**id, pdr)).map(|(id, _)| *id).collect()
     }
 
+    /// Whether a set deletion names it: it holds "an FQ-CSID equal in node type, Node-ID type,
+    /// address and any one listed CSID".
+    pub fn is_lost_by(&self, request: &Request) -> bool {
+        self.fq_csids.iter().any(|(&node_type, held)| {
+            request.records.iter().any(|record| match record {
+                Record::FqCsid(listed) => {
+                    listed.node_type == node_type
+                        && listed.node == held.node
+                        && listed.csids.contains(&held.csid)
+                }
+                _ => false,
+            })
+        })
+    }
+
     /// Whether a PDR names this endpoint.
     pub fn is_named(&self, endpoint: u8) -> bool {
         self.pdrs.values().any(|pdr| pdr.local == Local::Endpoint(endpoint))

@@ -23,6 +23,10 @@ fn fault_54(parts: &[Vec<u8>]) -> Option<(u8, u16)> {
     first_fault(&deletion(1, parts))
 }
 
+fn fault_14(parts: &[Vec<u8>]) -> Option<(u8, u16)> {
+    first_fault(&set_deletion(parts))
+}
+
 fn records_52(parts: &[Vec<u8>]) -> Vec<Record> {
     let message = modification(1, parts);
     read(&header::test(&message).unwrap(), &message).unwrap().records
@@ -158,7 +162,18 @@ fn the_only_fq_csid() {
     // One inside a group is misplaced and does not count.
     assert_eq!(fault_52(&[null(), update_pdr(1, &[fq_csid(5, 1)])]), None);
     assert_eq!(fault_50(&[sound(), null()]), Some((68, 65)));
-    assert_eq!(fault_54(&[null()]), Some((68, 65)));
+}
+
+/// 02 (vii): "an FQ-CSID there is skipped like an unknown element", but framed.
+#[test]
+fn an_fq_csid_of_a_deletion() {
+    let broken = [&[][..], &[0xF0], &[0, 0, 0, 0, 0, 1], &[2, 192, 0, 2, 10, 0, 5, 0, 6]];
+    for value in broken {
+        assert_eq!(fault_54(&[ie(65, value)]), None);
+    }
+    assert_eq!(fault_54(&[fq_csid(5, 1), fq_csid(6, 1)]), None);
+    assert_eq!(fault_54(&[ie_claiming(65, 9, &[0; 8])]), Some((68, 65)));
+    assert_eq!(first_place(&deletion(1, &[fq_csid(5, 1), ie_claiming(65, 9, &[])])), Some(28));
 }
 
 #[test]
@@ -169,19 +184,17 @@ fn fq_csids_of_each_message() {
     assert_eq!(fault_50(&[sound(), fq_csid(5, 1), fq_csid(6, 1)]), Some((69, 65)));
     assert_eq!(fault_52(&[fq_csid(5, 1), removal()]), Some((69, 65)));
     assert_eq!(fault_52(&[removal(), removal()]), Some((69, 65)));
-    assert_eq!(fault_54(&[fq_csid(5, 1), fq_csid(6, 1)]), Some((69, 65)));
-    assert_eq!(fault_54(&[fq_csid(5, 1), fq_csid(5, 2)]), None);
     // m of each message, after "short".
     let two = || value("02 C0 00 02 0A 00 05 00 06 01");
     assert_eq!(fault_50(&[sound(), two()]), Some((69, 65)));
     assert_eq!(fault_52(&[two()]), Some((69, 65)));
-    assert_eq!(fault_54(&[two()]), None);
+    assert_eq!(fault_14(&[two()]), None);
     let short_two = || value("02 C0 00 02 0A 00 05 00 06");
     assert_eq!(fault_50(&[sound(), short_two()]), Some((68, 65)));
     assert_eq!(fault_52(&[short_two()]), Some((68, 65)));
     assert_eq!(fault_50(&[sound(), removal()]), Some((69, 65)));
     assert_eq!(fault_52(&[removal()]), None);
-    assert_eq!(fault_54(&[removal()]), Some((69, 65)));
+    assert_eq!(fault_14(&[removal()]), Some((69, 65)));
     // m = 0 with a type or address not zero.
     assert_eq!(fault_52(&[value("00 00 00 00 01 01")]), Some((69, 65)));
     assert_eq!(fault_52(&[value("20 00 00 00 00 01")]), Some((69, 65)));
@@ -274,7 +287,12 @@ fn header_of_a_message() {
     );
     assert_eq!((with(3, 11), with(3, 13), with(2, 1)), (Some(4), Some(4), Some(4)));
     for served in 0..=255 {
-        let expected = if [50, 52, 54].contains(&served) { None } else { Some(5) };
+        let expected = match served {
+            50 | 52 | 54 => None,
+            // Only with S = 0.
+            14 => Some(4),
+            _ => Some(5),
+        };
         assert_eq!(with(1, served), expected);
     }
     // S is tested before the type: a heartbeat is outcome 4.
@@ -288,6 +306,40 @@ fn header_of_a_message() {
     // Over 2,048 comes before a wrong header.
     assert_eq!(outcome(&[0; 2049]), Some(3));
     assert_eq!(outcome(&[0; 2048]), Some(4));
+}
+
+/// 02 (vii): "Type 14 needs S = 0 and at least 8 octets; every other type keeps 01's frame rule."
+#[test]
+fn header_of_a_set_deletion() {
+    let outcome = |message: &[u8]| header::test(message).err();
+    let good = hex("20 0E 00 04 12 34 56 00");
+    assert_eq!(header::test(&good).map(|header| header.sequence), Ok(0x123456));
+    let with = |octet: usize, value: u8| {
+        let mut message = good.clone();
+        message[octet] = value;
+        outcome(&message)
+    };
+    // Version, S, FO, length; the other bits and the spare octet are ignored.
+    for (octet, value) in [(0, 0), (0, 0x40), (0, 0x21), (0, 0x24), (3, 3), (3, 5), (2, 1)] {
+        assert_eq!(with(octet, value), Some(4), "octet {octet} is {value}");
+    }
+    for (octet, value) in [(0, 0x22), (0, 0x28), (0, 0x30), (7, 9)] {
+        assert_eq!(with(octet, value), None, "octet {octet} is {value}");
+    }
+    for other in (0..=255).filter(|other| *other != 14) {
+        assert_eq!(with(1, other), Some(4), "S = 0 with type {other}");
+    }
+    for length in 0..8 {
+        let mut short = good[..length].to_vec();
+        if length >= 4 {
+            short[3] = (length - 4) as u8;
+        }
+        assert_eq!(outcome(&short), Some(4), "{length} octets");
+    }
+    // With S = 1 it is wrong at any length.
+    assert_eq!(outcome(&hex("21 0E 00 0C 00 00 00 00 00 00 00 00 00 00 01 00")), Some(4));
+    assert_eq!(outcome(&set_deletion(&[ie(40000, &[0; 2036])])), None);
+    assert_eq!(outcome(&set_deletion(&[ie(40000, &[0; 2037])])), Some(3));
 }
 
 /// Document 02 (iv), on a modification: its first element starts at octet 16.

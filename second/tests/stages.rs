@@ -285,7 +285,7 @@ fn headers_of_replies() {
     assert_eq!(call(&modification(1, &[vec![0]])), (53, 1, sequence.clone()));
     assert_eq!(call(&modification(1, &[remove_pdr(9)])), (53, 1, sequence.clone()));
     assert_eq!(call(&modification(1, &[])), (53, 1, sequence.clone()));
-    assert_eq!(call(&deletion(1, &[ie(65, &[])])), (55, 1, sequence.clone()));
+    assert_eq!(call(&deletion(1, &[vec![0]])), (55, 1, sequence.clone()));
     assert_eq!(call(&deletion(1, &[])), (55, 1, sequence.clone()));
     // The header SEID of an establishment is ignored; the reply has the F-SEID's.
     let mut message = establishment(5, &[create_pdr(1, &[])]);

@@ -101,14 +101,27 @@ static uint32_t ask_octets(uint8_t *table, const uint8_t *octets, size_t length)
     return answer.outcome;
 }
 
+/* Where the Cause stands in the last answer. A set deletion's reply has a header of 8 octets; it and
+   an establishment's have the Node ID (9 octets) before the Cause. */
+static size_t cause_place(void)
+{
+    switch (answer.octets[1]) {
+    case SET_DELETION + 1:
+        return 8 + 9;
+    case ESTABLISHMENT + 1:
+        return 16 + 9;
+    default:
+        return 16;
+    }
+}
+
 /* One request that must be answered; gives the cause. */
 static unsigned ask(uint8_t *table, struct message *m)
 {
     message_end(m);
     if (!CHECK(ask_octets(table, m->octets, m->length) == 0))
         return 0;
-    /* An establishment's reply has the Node ID (9 octets) before the cause. */
-    size_t cause = answer.octets[1] == 51 ? 16 + 9 : 16;
+    size_t cause = cause_place();
     CHECK(number_at(answer.octets + cause, 4) == (IE_CAUSE << 16 | 1));
     return answer.octets[cause + 4];
 }
@@ -116,7 +129,7 @@ static unsigned ask(uint8_t *table, struct message *m)
 /* The Offending IE of the last answer, or 65536 if it has none. */
 static unsigned offending(void)
 {
-    size_t at = (answer.octets[1] == 51 ? 16 + 9 : 16) + 5;
+    size_t at = cause_place() + 5;
 
     if (answer.used != at + 6 || number_at(answer.octets + at, 4) != (IE_OFFENDING_IE << 16 | 2))
         return 65536;
@@ -418,6 +431,163 @@ static void places(void)
         CHECK(ask(table, &m) == faults[i].cause);
         CHECK(offending() == faults[i].offending);
         CHECK(answer.place == faults[i].place);
+    }
+    free(table);
+}
+
+/* Sessions with a TEID each, all with the CSID 5 in what they hold: 1 of node type 1, 2 of node type
+   2, 3 of node type 1 and of node type 0 with the CSID 8. Session 4 holds the CSID 6. */
+static uint8_t *table_of_cards(void)
+{
+    uint8_t *table = new_table(4096, 10);
+    struct message m;
+
+    for (uint64_t seid = 1; seid <= 4; seid++) {
+        start_establishment(&m, seid);
+        create_pdr(&m, 1, &choose);
+        put_fq_csid(&m, seid == 2 ? 2 : 1, seid == 4 ? 6 : 5);
+        if (seid == 3)
+            put_fq_csid(&m, 0, 8);
+        CHECK(ask(table, &m) == 1);
+    }
+    CHECK(free_teids(table) == 6);
+    return table;
+}
+
+/* Asks for the deletion of a set: an FQ-CSID value, or none for the length 0. */
+static unsigned delete_set(uint8_t *table, const uint8_t *value, size_t length)
+{
+    struct message m;
+
+    plain_message_start(&m, SET_DELETION, 0x123456);
+    if (length > 0)
+        put_element(&m, IE_FQ_CSID, value, length);
+    return ask(table, &m);
+}
+
+/* Which sessions of table_of_cards live, one bit each. */
+static unsigned live_cards(uint8_t *table)
+{
+    unsigned live = 0;
+    struct message m;
+
+    for (unsigned seid = 1; seid <= 4; seid++) {
+        message_start(&m, MODIFICATION, seid, 1);
+        if (ask(table, &m) == 1)
+            live |= 1u << seid;
+    }
+    return live;
+}
+
+/* Sets: what goes and what stays, the whole replies, the faults with their places. */
+static void set_deletions(void)
+{
+    static const uint8_t accepted[] = {0x20, 0x0F, 0x00, 0x12, 0x12, 0x34, 0x56, 0x00,
+                                       0x00, 0x3C, 0x00, 0x05, 0x00, 0xC0, 0x00, 0x02,
+                                       0x01, 0x00, 0x13, 0x00, 0x01, 0x01};
+    static const uint8_t refused[] = {0x20, 0x0F, 0x00, 0x18, 0x12, 0x34, 0x56, 0x00, 0x00, 0x3C,
+                                      0x00, 0x05, 0x00, 0xC0, 0x00, 0x02, 0x01, 0x00, 0x13, 0x00,
+                                      0x01, 0x45, 0x00, 0x28, 0x00, 0x02, 0x00, 0x41};
+    static const struct {
+        uint8_t value[24];
+        size_t length;
+        unsigned live;
+    } sets[] = {
+        {{0}, 0, 0x1E}, /* none at all */
+        {{0x01, 192, 0, 2, 10, 0, 5, 1}, 8, 0x14},
+        {{0x01, 192, 0, 2, 10, 0, 5, 2}, 8, 0x1A},
+        {{0x01, 192, 0, 2, 10, 0, 8, 0}, 8, 0x16},
+        {{0x03, 192, 0, 2, 10, 0, 4, 0, 6, 0, 5, 0xF1, 77}, 13, 0x04},
+        {{0x01, 192, 0, 2, 10, 0, 5, 3}, 8, 0x1E}, /* another node type */
+        {{0x01, 192, 0, 2, 10, 0, 8, 1}, 8, 0x1E}, /* the CSID of its other one */
+        {{0x01, 192, 0, 2, 11, 0, 5, 1}, 8, 0x1E}, /* another address */
+        {{0x21, 192, 0, 2, 10, 0, 5, 1}, 8, 0x1E}, /* another Node-ID type */
+        {{0x11, 192, 0, 2, 10, [17] = 0, 5, 1}, 20, 0x1E},
+    };
+    static const struct {
+        uint8_t value[8];
+        size_t length;
+        unsigned cause;
+    } faults[] = {
+        {{0x00, 0, 0, 0, 0, 1}, 6, 69},          {{0x31, 192, 0, 2, 10, 0, 5, 1}, 8, 69},
+        {{0x01, 192, 0, 2, 10, 0, 5, 6}, 8, 69}, {{0x21, 0xF4, 0x24, 0, 0, 0, 5, 1}, 8, 69},
+        {{0x01, 192, 0, 2, 10, 0, 5}, 7, 68},
+    };
+    struct message m;
+
+    for (size_t i = 0; i < sizeof sets / sizeof sets[0]; i++) {
+        uint8_t *table = table_of_cards();
+
+        CHECK(delete_set(table, sets[i].value, sets[i].length) == 1);
+        CHECK(answer.used == sizeof accepted &&
+              memcmp(answer.octets, accepted, sizeof accepted) == 0);
+        CHECK(live_cards(table) == sets[i].live);
+        free(table);
+    }
+    uint8_t *table = table_of_cards();
+    uint8_t *before = copy_of(table, PFCP_TABLE_LENGTH);
+    for (size_t i = 0; i < sizeof faults / sizeof faults[0]; i++) {
+        CHECK(delete_set(table, faults[i].value, faults[i].length) == faults[i].cause);
+        CHECK(offending() == IE_FQ_CSID && answer.place == 8);
+        if (faults[i].cause == 69)
+            CHECK(answer.used == sizeof refused &&
+                  memcmp(answer.octets, refused, sizeof refused) == 0);
+    }
+    /* A null one is 68, and what stands before it takes nothing. */
+    plain_message_start(&m, SET_DELETION, 1);
+    put_fq_csid(&m, 1, 5);
+    put_element(&m, IE_FQ_CSID, NULL, 0);
+    CHECK(ask(table, &m) == 68 && offending() == IE_FQ_CSID && answer.place == 20);
+    CHECK(memcmp(table, before, PFCP_TABLE_LENGTH) == 0);
+    /* A node type may come twice; a broken group is not opened. */
+    plain_message_start(&m, SET_DELETION, 1);
+    put_element(&m, IE_CREATE_PDR, "\0\1", 2);
+    put_fq_csid(&m, 1, 6);
+    put_fq_csid(&m, 1, 5);
+    CHECK(ask(table, &m) == 1);
+    CHECK(live_cards(table) == 0x04 && free_teids(table) == 9);
+    /* A deletion's FQ-CSID is skipped, also a broken one, but not one that runs over. */
+    message_start(&m, DELETION, 2, 1);
+    put_element(&m, IE_FQ_CSID, NULL, 0);
+    put_element(&m, IE_FQ_CSID, faults[1].value, faults[1].length);
+    message_end(&m);
+    m.octets[m.length - 9]++;
+    CHECK(ask_octets(table, m.octets, m.length) == 0 && answer.octets[20] == 68);
+    CHECK(offending() == IE_FQ_CSID && answer.place == 20);
+    m.octets[m.length - 9]--;
+    CHECK(ask(table, &m) == 1 && free_teids(table) == 10);
+    free(before);
+    free(table);
+}
+
+/* The header of a set deletion: 8 octets, S is 0. */
+static void set_headers(void)
+{
+    uint8_t *table = new_table(4096, 10);
+    uint8_t header[16] = {0x20, SET_DELETION, 0, 4, 0, 0, 1, 0};
+    static const uint8_t wrong_first[] = {0x21, 0x24, 0x00, 0x40, 0xE0};
+
+    CHECK(ask_octets(table, header, 8) == 0 && answer.octets[21] == 1);
+    for (size_t length = 0; length < 8; length++) {
+        header[3] = (uint8_t)(length < 4 ? 0 : length - 4);
+        CHECK(ask_octets(table, header, length) == 4);
+    }
+    header[3] = 5;
+    CHECK(ask_octets(table, header, 8) == 4);
+    header[3] = 4;
+    for (size_t i = 0; i < sizeof wrong_first; i++) {
+        header[0] = wrong_first[i];
+        CHECK(ask_octets(table, header, 8) == 4);
+    }
+    header[0] = 0x3A; /* only ignored bits differ */
+    CHECK(ask_octets(table, header, 8) == 0);
+    header[0] = 0x21;
+    header[3] = 12;
+    CHECK(ask_octets(table, header, 16) == 4);
+    header[0] = 0x20;
+    for (unsigned type = 0; type < 256; type++) {
+        header[1] = (uint8_t)type;
+        CHECK(ask_octets(table, header, 16) == (type == SET_DELETION ? 0 : 4));
     }
     free(table);
 }
@@ -948,6 +1118,8 @@ int main(void)
     nothing_half_made();
     empty_slices();
     places();
+    set_deletions();
+    set_headers();
     lengths();
     settings();
     broken_tables();

@@ -56,6 +56,7 @@ pub fn seid(slot: &Slot) -> u64 {
 pub struct Records<'a> {
     pub pdrs: &'a [PdrSlot],
     pub endpoints: &'a [EndpointSlot],
+    pub fq_csids: &'a [FqCsidSlot],
 }
 
 const PDRS: usize = 11;
@@ -82,6 +83,7 @@ pub fn records(slot: &Slot) -> Records<'_> {
     Records {
         pdrs: &whole.pdrs[..usize::from(slot[8])],
         endpoints: &whole.endpoints[..usize::from(slot[9])],
+        fq_csids: &whole.fq_csids[..usize::from(slot[10])],
     }
 }
 

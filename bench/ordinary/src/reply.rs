@@ -31,16 +31,20 @@ impl Writer<'_> {
             Kind::Establishment => 51,
             Kind::Modification => 53,
             Kind::Deletion => 55,
+            Kind::SetDeletion => 15,
         };
+        let plain = header.kind == Kind::SetDeletion;
         // The length is set at the end.
-        self.put(&[0x21, reply_type, 0, 0]);
-        self.put(&seid.to_be_bytes());
+        self.put(&[0x20 | u8::from(!plain), reply_type, 0, 0]);
+        if !plain {
+            self.put(&seid.to_be_bytes());
+        }
         self.put(&header.sequence);
         self.put(&[0]);
     }
 
     fn node_id(&mut self, header: &Header, settings: &Settings) {
-        if header.kind == Kind::Establishment {
+        if matches!(header.kind, Kind::Establishment | Kind::SetDeletion) {
             self.frame(NODE_ID, 5);
             self.put(&[0]);
             self.put(&settings.ipv4);

@@ -25,7 +25,9 @@ pub const REMOVE_ENDPOINT: u16 = 130;
 pub const ENDPOINT_ID: u16 = 131;
 pub const FLAGS: u16 = 186;
 
-pub const HEADER_OCTETS: usize = 16;
+const HEADER_OCTETS: usize = 16;
+/// Without a SEID.
+const PLAIN_HEADER_OCTETS: usize = 8;
 const LARGEST_MESSAGE: usize = 2048;
 
 const MISSING: u8 = 66;
@@ -38,13 +40,17 @@ pub enum Kind {
     Establishment,
     Modification,
     Deletion,
+    SetDeletion,
 }
 
 #[derive(Clone, Copy)]
 pub struct Header {
     pub kind: Kind,
+    /// 0 in a set deletion, which has none.
     pub seid: u64,
     pub sequence: [u8; 3],
+    /// Where the body starts in the message.
+    pub octets: usize,
 }
 
 /// The header and the body of a served message, or the host outcome 3, 4 or 5.
@@ -52,20 +58,25 @@ pub fn header(message: &[u8]) -> Result<(Header, &[u8]), u32> {
     if message.len() > LARGEST_MESSAGE {
         return Err(3);
     }
-    let Some((header, body)) = message.split_first_chunk::<HEADER_OCTETS>() else { return Err(4) };
-    // Version 1, FO 0, S 1.
-    let first_is_right = header[0] & 0b1110_0101 == 0b0010_0001;
+    // Only a set deletion's header has no SEID.
+    let plain = message.get(1) == Some(&14);
+    let octets = if plain { PLAIN_HEADER_OCTETS } else { HEADER_OCTETS };
+    let Some((header, body)) = message.split_at_checked(octets) else { return Err(4) };
+    // Version 1, FO 0, S.
+    let first_is_right = header[0] & 0b1110_0101 == 0b0010_0000 | u8::from(!plain);
     if !first_is_right || usize::from(u16_at(header, 2)) != message.len() - 4 {
         return Err(4);
     }
     let kind = match header[1] {
+        14 => Kind::SetDeletion,
         50 => Kind::Establishment,
         52 => Kind::Modification,
         54 => Kind::Deletion,
         _ => return Err(5),
     };
-    let sequence = [header[12], header[13], header[14]];
-    Ok((Header { kind, seid: u64_at(header, 4), sequence }, body))
+    let seid = if plain { 0 } else { u64_at(header, 4) };
+    let sequence = [header[octets - 4], header[octets - 3], header[octets - 2]];
+    Ok((Header { kind, seid, sequence, octets }, body))
 }
 
 /// A refusal: the cause, and for causes 66 to 69 the offending type and its place in the message,
@@ -103,7 +114,9 @@ pub fn frame(kind: Kind, group: u16, first: usize, part: &[u8]) -> Result<(), Re
             return Err(fault(LENGTH, ie_type).at(place));
         }
         let opened = match (group, ie_type) {
-            (0, CREATE_PDR | CREATE_ENDPOINT) => kind != Kind::Deletion,
+            (0, CREATE_PDR | CREATE_ENDPOINT) => {
+                matches!(kind, Kind::Establishment | Kind::Modification)
+            }
             (0, UPDATE_PDR | REMOVE_PDR | REMOVE_ENDPOINT) => kind == Kind::Modification,
             (CREATE_PDR | UPDATE_PDR, PDI) => true,
             _ => false,
@@ -203,6 +216,8 @@ pub struct Request<'a> {
     pub removed_endpoints: List<u8, 226>,
     pub fq_csids: List<FqCsidChange, 6>,
     pub removes_all_fq_csids: bool,
+    /// The FQ-CSIDs of a set deletion, as they stand.
+    pub listed: List<&'a [u8], 170>,
 }
 
 impl Request<'_> {
@@ -219,6 +234,7 @@ impl Request<'_> {
             removed_endpoints: List::new(),
             fq_csids: List::new(),
             removes_all_fq_csids: false,
+            listed: List::new(),
         }
     }
 }
@@ -234,7 +250,7 @@ struct Top {
 /// Stage 3 on a framed body: adds its records to a new request.
 pub fn read<'a>(header: &Header, body: &'a [u8], request: &mut Request<'a>) -> Result<(), Refusal> {
     let mut top = Top::default();
-    for (ie_type, place, value) in elements(HEADER_OCTETS, body) {
+    for (ie_type, place, value) in elements(header.octets, body) {
         let element = (ie_type, place, value);
         read_element(header.kind, body, element, &mut top, request)
             .map_err(|refusal| refusal.at(place))?;
@@ -287,7 +303,11 @@ fn read_element<'a>(
             }
             request.removes_all_fq_csids = true;
         }
-        (_, FQ_CSID) => {
+        (SetDeletion, FQ_CSID) => {
+            read_fq_csid(kind, value)?;
+            request.listed.push(value);
+        }
+        (Establishment | Modification, FQ_CSID) => {
             let (node_type, change) = read_fq_csid(kind, value)?;
             if top.node_types >> node_type & 1 == 1 {
                 return Err(fault(INCORRECT, FQ_CSID));
@@ -462,7 +482,20 @@ fn only_member<T>(
     found.ok_or(fault(MISSING, wanted))
 }
 
-/// The node type and what becomes of it. A deletion's are checked and otherwise unused.
+/// Whether a record of a session is one that a set deletion lists.
+pub fn is_listed(held: &FqCsidSlot, listed: &[&[u8]]) -> bool {
+    let octets = if held[1] == 1 { 16 } else { 4 };
+    listed.iter().any(|value| {
+        let csids = 1 + octets;
+        let end = csids + 2 * usize::from(value[0] & 0x0F);
+        value[0] >> 4 == held[1]
+            && value[end] & 0x0F == held[0]
+            && value[1..csids] == held[2..2 + octets]
+            && value[csids..end].chunks_exact(2).any(|csid| csid == &held[18..20])
+    })
+}
+
+/// The node type and what becomes of it.
 fn read_fq_csid(kind: Kind, value: &[u8]) -> Result<(u8, FqCsidChange), Refusal> {
     let first = one(FQ_CSID, value)?;
     let (node_id_type, m) = (first >> 4, usize::from(first & 0x0F));
@@ -479,7 +512,7 @@ fn read_fq_csid(kind: Kind, value: &[u8]) -> Result<(u8, FqCsidChange), Refusal>
     let m_is_right = match kind {
         Kind::Establishment => m == 1,
         Kind::Modification => m <= 1,
-        Kind::Deletion => m >= 1,
+        _ => m >= 1,
     };
     let wrong = node_type > 5
         || !m_is_right

@@ -42,7 +42,10 @@ pub fn handle(table: &mut [u8], message: &[u8], space: &mut [u8]) -> Result<(usi
     let mut request = Request::new(header.seid);
     match decide(table, &checked, &header, body, &mut request) {
         Ok((at, teids)) => {
-            change(table, checked.sessions, &header, &request, at, &teids);
+            match header.kind {
+                Kind::SetDeletion => remove_listed(table, checked.sessions, &request.listed),
+                _ => change(table, checked.sessions, &header, &request, at, &teids),
+            }
             Ok((reply::accepted(space, &checked.settings, &header, &request, &teids), 0))
         }
         Err(refusal) => {
@@ -73,11 +76,12 @@ fn decide<'a>(
 ) -> Result<(usize, Teids), Refusal> {
     let used = &slots(table)[..checked.sessions];
     let establishment = header.kind == Kind::Establishment;
+    let names_session = matches!(header.kind, Kind::Modification | Kind::Deletion);
     let mut found = used.binary_search_by_key(&header.seid, seid);
-    if !establishment && found.is_err() {
+    if names_session && found.is_err() {
         return Err(cause(65));
     }
-    request::frame(header.kind, 0, request::HEADER_OCTETS, body)?;
+    request::frame(header.kind, 0, header.octets, body)?;
     request::read(header, body, request)?;
     let request = &*request;
     if establishment {
@@ -98,7 +102,7 @@ fn decide<'a>(
     }
     let (own, at) = match found {
         Ok(at) => (records(&used[at]), at),
-        Err(at) => (Records { pdrs: &[], endpoints: &[] }, at),
+        Err(at) => (Records { pdrs: &[], endpoints: &[], fq_csids: &[] }, at),
     };
     if verbs_conflict(&own, request)
         || names_conflict(&own, request)
@@ -256,12 +260,26 @@ fn change(
             put(table, COUNT, &(sessions as u16 + 1).to_be_bytes());
         }
         Kind::Modification => change_session(&mut slots[at], request, teids),
-        Kind::Deletion => {
+        _ => {
             slots.copy_within(at + 1..sessions, at);
             slots[sessions - 1].fill(0);
             put(table, COUNT, &(sessions as u16 - 1).to_be_bytes());
         }
     }
+}
+
+/// Takes out every session that holds a listed FQ-CSID, and clears the room after the others.
+fn remove_listed(table: &mut [u8; TABLE_OCTETS], sessions: usize, listed: &[&[u8]]) {
+    let slots = slots_mut(table);
+    let mut kept = 0;
+    for index in 0..sessions {
+        if !records(&slots[index]).fq_csids.iter().any(|held| request::is_listed(held, listed)) {
+            slots[kept] = slots[index];
+            kept += 1;
+        }
+    }
+    slots[kept..sessions].as_flattened_mut().fill(0);
+    put(table, COUNT, &(kept as u16).to_be_bytes());
 }
 
 fn change_session(slot: &mut Slot, request: &Request, teids: &Teids) {

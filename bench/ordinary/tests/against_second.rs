@@ -15,6 +15,7 @@ fn compare(seed: u64, calls: usize) -> Report {
         make_table: export::make,
         free_count: export::free,
         request: export::request,
+        write_restoration: None,
     };
     let report = run(&product, seed, calls);
     assert!(report.failures.is_empty(), "seed {seed}: {:#?}", report.failures);

@@ -1,9 +1,12 @@
 //! What an accepted request has done, for the counters.
 
 use std::collections::{BTreeMap, BTreeSet};
+use std::mem::discriminant;
 
 use crate::element::f_teid::FTeid;
-use crate::element::fq_csid::NodeId;
+use crate::element::fq_csid::{self, FqCsid, NodeId};
+use crate::ie;
+use crate::request::framing::{elements, Part};
 use crate::request::{FarChange, Kind, Record, Request};
 use crate::session::{Local, Session, Sessions};
 
@@ -53,12 +56,36 @@ pub enum Done {
     FqCsidIpv4,
     FqCsidIpv6,
     FqCsidOperator,
-    DeletionWithOneCsid,
-    DeletionWithManyCsids,
+    DeletionSkippingFqCsid,
+    DeletionSkippingBrokenFqCsid,
     LargestSession,
+    SetDeletion,
+    // How many FQ-CSIDs a set deletion lists, and how many sessions go of those that live.
+    SetWithoutFqCsid,
+    SetOfNone,
+    SetOfOneOfMany,
+    SetOfSeveral,
+    SetOfAll,
+    // What else it lists.
+    SetWithFifteenCsids,
+    SetWithNodeTypeTwice,
+    SetByLaterFqCsid,
+    SetByLaterCsid,
+    SetNamingSessionTwice,
+    // A session stays that differs in this alone from what is listed.
+    SetSparingOtherNodeType,
+    SetSparingOtherNodeIdType,
+    SetSparingOtherAddress,
+    SetSparingOtherCsid,
+    // By the Node-ID type of what goes.
+    SetByIpv4,
+    SetByIpv6,
+    SetByOperator,
+    // What goes frees a TEID.
+    SetFreeingTeids,
 }
 
-pub const ALL_DONE: [Done; 46] = [
+pub const ALL_DONE: [Done; 65] = [
     Done::Establishment,
     Done::Restoration,
     Done::Modification,
@@ -102,13 +129,32 @@ pub const ALL_DONE: [Done; 46] = [
     Done::FqCsidIpv4,
     Done::FqCsidIpv6,
     Done::FqCsidOperator,
-    Done::DeletionWithOneCsid,
-    Done::DeletionWithManyCsids,
+    Done::DeletionSkippingFqCsid,
+    Done::DeletionSkippingBrokenFqCsid,
     Done::LargestSession,
+    Done::SetDeletion,
+    Done::SetWithoutFqCsid,
+    Done::SetOfNone,
+    Done::SetOfOneOfMany,
+    Done::SetOfSeveral,
+    Done::SetOfAll,
+    Done::SetWithFifteenCsids,
+    Done::SetWithNodeTypeTwice,
+    Done::SetByLaterFqCsid,
+    Done::SetByLaterCsid,
+    Done::SetNamingSessionTwice,
+    Done::SetSparingOtherNodeType,
+    Done::SetSparingOtherNodeIdType,
+    Done::SetSparingOtherAddress,
+    Done::SetSparingOtherCsid,
+    Done::SetByIpv4,
+    Done::SetByIpv6,
+    Done::SetByOperator,
+    Done::SetFreeingTeids,
 ];
 
 /// What an accepted request does, each thing once.
-pub fn deeds(request: &Request, before: &Sessions) -> BTreeSet<Done> {
+pub fn deeds(request: &Request, message: &[u8], before: &Sessions) -> BTreeSet<Done> {
     let nothing = Session::default();
     let own = match request.header.kind {
         Kind::Establishment => &nothing,
@@ -135,14 +181,16 @@ pub fn deeds(request: &Request, before: &Sessions) -> BTreeSet<Done> {
         }
         (Kind::Deletion, _) => {
             done.insert(Done::Deletion);
-            for record in &request.records {
-                if let Record::FqCsid(fq_csid) = record {
-                    done.insert(match fq_csid.csids.len() {
-                        1 => Done::DeletionWithOneCsid,
-                        _ => Done::DeletionWithManyCsids,
-                    });
-                }
-            }
+            let skipped = elements(Part::body(message)).filter(|e| e.ie_type == ie::FQ_CSID);
+            done.extend(skipped.map(|element| match fq_csid::read(element.value) {
+                Ok(_) => Done::DeletionSkippingFqCsid,
+                Err(_) => Done::DeletionSkippingBrokenFqCsid,
+            }));
+            return done;
+        }
+        (Kind::SetDeletion, _) => {
+            done.insert(Done::SetDeletion);
+            deeds_of_set(request, before, &mut done);
             return done;
         }
     }
@@ -155,6 +203,102 @@ pub fn deeds(request: &Request, before: &Sessions) -> BTreeSet<Done> {
         done.insert(Done::LargestSession);
     }
     done
+}
+
+fn deeds_of_set(request: &Request, before: &Sessions, done: &mut BTreeSet<Done>) {
+    let listed: Vec<&FqCsid> = request
+        .records
+        .iter()
+        .filter_map(|record| match record {
+            Record::FqCsid(fq_csid) => Some(fq_csid),
+            _ => None,
+        })
+        .collect();
+    let node_types: BTreeSet<u8> = listed.iter().map(|fq_csid| fq_csid.node_type).collect();
+    if node_types.len() < listed.len() {
+        done.insert(Done::SetWithNodeTypeTwice);
+    }
+    if listed.iter().any(|fq_csid| fq_csid.csids.len() == 15) {
+        done.insert(Done::SetWithFifteenCsids);
+    }
+    let lost = before.values().filter(|session| session.is_lost_by(request)).count();
+    match (listed.len(), lost, before.len()) {
+        (0, ..) => drop(done.insert(Done::SetWithoutFqCsid)),
+        (_, 0, 1..) => drop(done.insert(Done::SetOfNone)),
+        (_, 1, 2..) => drop(done.insert(Done::SetOfOneOfMany)),
+        (_, lost, live) if lost > 1 && lost < live => drop(done.insert(Done::SetOfSeveral)),
+        (_, lost, live) if lost > 1 && lost == live => drop(done.insert(Done::SetOfAll)),
+        _ => {}
+    }
+    for session in before.values() {
+        match session.is_lost_by(request) {
+            true => deeds_of_lost(&listed, session, done),
+            false => deeds_of_spared(&listed, session, done),
+        }
+    }
+}
+
+/// By what of the list a session goes.
+fn deeds_of_lost(listed: &[&FqCsid], session: &Session, done: &mut BTreeSet<Done>) {
+    let mut times = 0;
+    for (index, fq_csid) in listed.iter().enumerate() {
+        let Some(held) = session.fq_csids.get(&fq_csid.node_type) else { continue };
+        let at = fq_csid.csids.iter().position(|csid| *csid == held.csid);
+        let (true, Some(at)) = (fq_csid.node == held.node, at) else { continue };
+        times += 1;
+        if index > 0 && times == 1 {
+            done.insert(Done::SetByLaterFqCsid);
+        }
+        if at > 0 {
+            done.insert(Done::SetByLaterCsid);
+        }
+        done.insert(match held.node {
+            NodeId::Ipv4(_) => Done::SetByIpv4,
+            NodeId::Ipv6(_) => Done::SetByIpv6,
+            NodeId::Operator { .. } => Done::SetByOperator,
+        });
+    }
+    if times > 1 {
+        done.insert(Done::SetNamingSessionTwice);
+    }
+    if session.teids().next().is_some() {
+        done.insert(Done::SetFreeingTeids);
+    }
+}
+
+/// What alone spares a session.
+fn deeds_of_spared(listed: &[&FqCsid], session: &Session, done: &mut BTreeSet<Done>) {
+    for fq_csid in listed {
+        for (&node_type, held) in &session.fq_csids {
+            let same = [
+                fq_csid.node_type == node_type,
+                discriminant(&fq_csid.node) == discriminant(&held.node),
+                in_slot(&fq_csid.node) == in_slot(&held.node),
+                fq_csid.csids.contains(&held.csid),
+            ];
+            match same {
+                [false, true, true, true] => drop(done.insert(Done::SetSparingOtherNodeType)),
+                [true, false, true, true] => drop(done.insert(Done::SetSparingOtherNodeIdType)),
+                [true, true, false, true] => drop(done.insert(Done::SetSparingOtherAddress)),
+                [true, true, true, false] => drop(done.insert(Done::SetSparingOtherCsid)),
+                _ => {}
+            }
+        }
+    }
+}
+
+/// The address as a table keeps it.
+fn in_slot(node: &NodeId) -> [u8; 16] {
+    let mut slot = [0; 16];
+    match node {
+        NodeId::Ipv4(octets) => slot[..4].copy_from_slice(octets),
+        NodeId::Ipv6(octets) => slot = *octets,
+        NodeId::Operator { country_and_network, number } => {
+            let word = country_and_network << 12 | u32::from(*number);
+            slot[..4].copy_from_slice(&word.to_be_bytes());
+        }
+    }
+    slot
 }
 
 fn deeds_of_creation(request: &Request, done: &mut BTreeSet<Done>) {

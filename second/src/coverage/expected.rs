@@ -28,7 +28,7 @@ fn places(message: Kind) -> &'static [Place] {
             Place::RemovePdr,
             Place::RemoveEndpoint,
         ],
-        Kind::Deletion => &[Place::Top],
+        Kind::Deletion | Kind::SetDeletion => &[Place::Top],
     }
 }
 
@@ -44,14 +44,19 @@ pub fn expected() -> BTreeSet<Counter> {
     for cause in [1, 65, 66, 67, 68, 69, 71, 73, 75, 76] {
         all.insert(Counter::Cause(Kind::Modification, cause));
     }
-    for cause in [1, 65, 68, 69] {
+    for cause in [1, 65, 68] {
         all.insert(Counter::Cause(Kind::Deletion, cause));
     }
+    for cause in [1, 68, 69] {
+        all.insert(Counter::Cause(Kind::SetDeletion, cause));
+    }
     let classes = [Class::ActedOn, Class::Vendor, Class::Misplaced, Class::Unknown];
-    for message in [Kind::Establishment, Kind::Modification, Kind::Deletion] {
+    for message in [Kind::Establishment, Kind::Modification, Kind::Deletion, Kind::SetDeletion] {
         for &place in places(message) {
             all.insert(Counter::FewOctetsLeft(message, place));
-            for class in classes {
+            // A deletion acts on no element.
+            let acts = message != Kind::Deletion;
+            for class in classes.into_iter().filter(|class| acts || *class != Class::ActedOn) {
                 all.insert(Counter::Overrun(message, place, class));
                 if class != Class::ActedOn && place != Place::PdiOfUpdatePdr {
                     all.insert(Counter::Skipped(message, place, class));
@@ -104,11 +109,10 @@ fn expected_reading() -> BTreeSet<Counter> {
     let of_f_seid = [Missing, Empty, Short, Repeated, no_family, bad(Bad::NullSeid)];
     add(establishment, Place::Top, ie::F_SEID, &of_f_seid);
     add(establishment, Place::Top, ie::ESTABLISHMENT_FLAGS, &[Empty, Repeated]);
-    for message in [Kind::Establishment, Kind::Modification, Kind::Deletion] {
+    for message in [Kind::Establishment, Kind::Modification, Kind::SetDeletion] {
         let of_fq_csid = [
             Empty,
             Short,
-            Repeated,
             bad(Bad::NodeIdType),
             bad(Bad::NodeType),
             bad(Bad::CountryAndNetwork),
@@ -116,6 +120,10 @@ fn expected_reading() -> BTreeSet<Counter> {
             bad(Bad::NumberOfCsids),
         ];
         add(message, Place::Top, ie::FQ_CSID, &of_fq_csid);
+        // In a set deletion a node type may come twice.
+        if message != Kind::SetDeletion {
+            add(message, Place::Top, ie::FQ_CSID, &[Repeated]);
+        }
     }
     all
 }

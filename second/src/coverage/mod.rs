@@ -140,8 +140,8 @@ impl Coverage {
             Decision::Accepted { request, .. } => {
                 let kind = request.header.kind;
                 self.met(Counter::Cause(kind, 1));
-                self.skipped(kind, Place::Top, &message[ie::HEADER_OCTETS..]);
-                for done in deeds(request, before) {
+                self.skipped(kind, Place::Top, Part::body(message));
+                for done in deeds(request, message, before) {
                     self.met(Counter::Accepted(done));
                 }
                 for record in &request.records {
@@ -170,14 +170,14 @@ impl Coverage {
         }
     }
 
-    fn skipped(&mut self, kind: Kind, place: Place, part: &[u8]) {
-        for element in elements(Part::of(part)) {
+    fn skipped(&mut self, kind: Kind, place: Place, part: Part) {
+        for element in elements(part) {
             match class(kind, place, element.ie_type) {
                 Class::ActedOn => {}
                 class => self.met(Counter::Skipped(kind, place, class)),
             }
             if let Some(inner) = opens(kind, place, element.ie_type) {
-                self.skipped(kind, inner, element.value);
+                self.skipped(kind, inner, Part::inside(&element));
             }
         }
     }
@@ -207,7 +207,8 @@ fn acted_on(message: Kind, place: Place) -> &'static [u16] {
     match (place, message) {
         (Place::Top, Kind::Establishment) => &[57, 186, 1, 127, 65],
         (Place::Top, Kind::Modification) => &[1, 127, 9, 15, 130, 65, 129],
-        (Place::Top, Kind::Deletion) => &[65],
+        (Place::Top, Kind::Deletion) => &[],
+        (Place::Top, Kind::SetDeletion) => &[65],
         (Place::CreatePdr | Place::UpdatePdr, _) => &[56, 29, 2, 108],
         (Place::PdiOfCreatePdr | Place::PdiOfUpdatePdr, _) => &[20, 21, 131],
         (Place::CreateEndpoint, _) => &[131, 21],
@@ -217,7 +218,8 @@ fn acted_on(message: Kind, place: Place) -> &'static [u16] {
 }
 
 fn class(message: Kind, place: Place, ie_type: u16) -> Class {
-    const NAMED: [u16; 17] = [1, 2, 8, 9, 15, 19, 20, 21, 29, 56, 57, 65, 108, 127, 130, 131, 186];
+    const NAMED: [u16; 18] =
+        [1, 2, 8, 9, 15, 19, 20, 21, 29, 56, 57, 60, 65, 108, 127, 130, 131, 186];
     if acted_on(message, place).contains(&ie_type) {
         Class::ActedOn
     } else if ie_type >= ie::FIRST_VENDOR {

@@ -4,12 +4,12 @@
 use std::collections::BTreeSet;
 
 use super::draft::{Body, Draft, Node};
-use super::plan::{DELETION, ESTABLISHMENT, MODIFICATION};
+use super::plan::{DELETION, ESTABLISHMENT, MODIFICATION, SET_DELETION};
 use super::random::Random;
 
 const UNKNOWN: [u16; 6] = [0, 3, 99, 200, 4000, 32767];
 const VENDOR: [u16; 4] = [32768, 32769, 40000, 65535];
-const NAMED: [u16; 17] = [1, 2, 8, 9, 15, 19, 20, 21, 29, 56, 57, 65, 108, 127, 130, 131, 186];
+const NAMED: [u16; 18] = [1, 2, 8, 9, 15, 19, 20, 21, 29, 56, 57, 60, 65, 108, 127, 130, 131, 186];
 
 /// One piece of damage at a random spot.
 pub fn damage(draft: &mut Draft, random: &mut Random) {
@@ -167,7 +167,8 @@ fn misplaced(draft: &Draft, way: &[usize], random: &mut Random) -> u16 {
     let placed: &[u16] = match (types.unwrap_or_default().last(), draft.message_type) {
         (None, ESTABLISHMENT) => &[57, 186, 1, 127, 65],
         (None, MODIFICATION) => &[1, 127, 9, 15, 130, 65],
-        (None, _) => &[65],
+        (None, SET_DELETION) => &[65],
+        (None, _) => &[],
         (Some(1 | 9), _) => &[56, 29, 2, 108],
         (Some(2), _) => &[20, 21, 131],
         (Some(127), _) => &[131, 21],
@@ -181,7 +182,7 @@ fn misplaced(draft: &Draft, way: &[usize], random: &mut Random) -> u16 {
 /// Makes the value of an F-SEID, F-TEID or FQ-CSID bad.
 fn spoil(draft: &mut Draft, random: &mut Random) {
     // An FQ-CSID has the most ways of being bad.
-    let only = draft.message_type == DELETION || random.percent(40);
+    let only = [DELETION, SET_DELETION].contains(&draft.message_type) || random.percent(40);
     let spoilt: &[u16] = if only { &[65] } else { &[57, 21] };
     let wanted = |types: &[u16]| spoilt.contains(types.last().unwrap_or(&0));
     let Some((way, index)) = an_element(draft, random, &wanted) else { return };
@@ -252,7 +253,9 @@ fn bad_fq_csid(message_type: u8, random: &mut Random) -> Vec<u8> {
             // An m that this message does not allow.
             let many = random.between(2, 15) as u8;
             match (message_type, random.percent(50)) {
-                (DELETION, _) | (ESTABLISHMENT, true) => vec![0, 0, 0, 0, 0, node_type],
+                (DELETION | SET_DELETION, _) | (ESTABLISHMENT, true) => {
+                    vec![0, 0, 0, 0, 0, node_type]
+                }
                 _ => fq_csid(random, node_id_type, many, node_type),
             }
         }

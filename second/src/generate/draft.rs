@@ -23,7 +23,8 @@ pub struct Node {
 pub struct Draft {
     pub first_octet: u8,
     pub message_type: u8,
-    pub seid: u64,
+    /// The header has none without it, whatever its first octet says.
+    pub seid: Option<u64>,
     pub sequence: u32,
     pub spare: u8,
     pub length_shift: i32,
@@ -61,10 +62,11 @@ impl Draft {
     pub fn octets(&self) -> Vec<u8> {
         let mut body = Vec::new();
         self.nodes.iter().for_each(|node| node.write(&mut body));
-        let length = (12 + body.len() as i32 + self.length_shift).clamp(0, 65535) as u16;
+        let seid = self.seid.map_or(vec![], |seid| seid.to_be_bytes().to_vec());
+        let length = (seid.len() + 4 + body.len()) as i32 + self.length_shift;
         let mut message = vec![self.first_octet, self.message_type];
-        message.extend(length.to_be_bytes());
-        message.extend(self.seid.to_be_bytes());
+        message.extend((length.clamp(0, 65535) as u16).to_be_bytes());
+        message.extend(seid);
         message.extend(&self.sequence.to_be_bytes()[1..]);
         message.push(self.spare);
         message.extend(body);
@@ -141,9 +143,18 @@ fn longer<T: Clone>(list: &[T], last: T) -> Vec<T> {
 pub fn lay_out(plan: &Plan, random: &mut Random, noise: bool) -> Draft {
     let mut layout = Layout { random, noise };
     let mut nodes: Vec<Node> = plan.items.iter().map(|item| layout.item(item)).collect();
-    let mut header_seid = plan.seid;
+    let mut header_seid = Some(plan.seid);
+    if plan.message_type == SET_DELETION {
+        header_seid = None;
+        // The control plane says who it is, which is to be skipped.
+        if layout.random.percent(70) {
+            let node = layout.leaf(60, vec![0, 192, 0, 2, 50]);
+            let at = layout.random.below(nodes.len() + 1);
+            nodes.insert(at, node);
+        }
+    }
     if plan.message_type == ESTABLISHMENT {
-        header_seid = layout.random.pick(&[0, plan.seid, u64::MAX]);
+        header_seid = Some(layout.random.pick(&[0, plan.seid, u64::MAX]));
         let mut front = vec![layout.f_seid(plan.seid)];
         let other_bits = layout.ignored(0xFE);
         if plan.restoration {
@@ -160,7 +171,7 @@ pub fn lay_out(plan: &Plan, random: &mut Random, noise: bool) -> Draft {
         }
     }
     Draft {
-        first_octet: 0x21 | layout.ignored(0x1A),
+        first_octet: 0x20 | u8::from(header_seid.is_some()) | layout.ignored(0x1A),
         message_type: plan.message_type,
         seid: header_seid,
         sequence: layout.random.number() as u32 & 0xFF_FFFF,

@@ -17,6 +17,14 @@ impl Planner<'_> {
                 0 => self.flaw_of_any(plan),
                 _ => self.flaw_of_modification(plan),
             },
+            SET_DELETION => {
+                // One that names nothing: the form of a removal, or a null length.
+                let value = match self.random.percent(50) {
+                    true => self.fq_csid_removal(1),
+                    false => vec![],
+                };
+                plan.items.push(Item::FqCsid(value));
+            }
             _ => plan.seid = self.unused_seid(),
         }
     }

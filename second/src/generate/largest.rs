@@ -1,5 +1,6 @@
 //! A table with everything that it has room for: 64 sessions of 16 PDRs, 8 endpoints and 6
-//! FQ-CSIDs, each record with a TEID of its own.
+//! FQ-CSIDs, each record with a TEID of its own. The cards of node type 0 have one session each,
+//! those of node type 1 two, and so on by doubling.
 
 use crate::element::fq_csid::NodeId;
 use crate::session::{Families, HeldCsid, Local, Pdr, Session, Sessions, Tunnel};
@@ -8,6 +9,15 @@ use crate::settings::Settings;
 pub fn settings() -> Settings {
     let ipv6 = [0x20, 1, 0x0D, 0xB8, 0, 0, 0, 0, 0, 0, 0, 0, 0, 0, 0, 1];
     Settings { ipv4: [192, 0, 2, 1], ipv6: Some(ipv6), first: 4096, size: 1536 }
+}
+
+pub fn node(node_type: u8) -> NodeId {
+    NodeId::Ipv6([node_type + 1; 16])
+}
+
+/// The CSID that the session with this number holds.
+pub fn csid(node_type: u8, number: u16) -> u16 {
+    0xFFFF - (number >> node_type)
 }
 
 pub fn sessions() -> Sessions {
@@ -33,8 +43,8 @@ fn session(number: u32) -> Session {
         session.endpoints.insert(id, tunnel);
     }
     for node_type in 0..6 {
-        let node = NodeId::Ipv6([node_type + 1; 16]);
-        session.fq_csids.insert(node_type, HeldCsid { node, csid: 0xFFFF });
+        let csid = csid(node_type, number as u16);
+        session.fq_csids.insert(node_type, HeldCsid { node: node(node_type), csid });
     }
     session
 }

@@ -15,7 +15,7 @@ pub mod tables;
 use crate::session::{Session, Sessions};
 use crate::settings::Settings;
 use draft::{lay_out, Draft, Node};
-use plan::{Plan, DELETION, ESTABLISHMENT, MODIFICATION};
+use plan::{Plan, DELETION, ESTABLISHMENT, MODIFICATION, SET_DELETION};
 use planner::Planner;
 use random::Random;
 
@@ -125,13 +125,14 @@ impl Generator {
         let graves = scenario.graves.clone();
         let mut planner = self.planner(scenario, live);
         let Some(seid) = planner.live_seid() else { return planner.establishment() };
-        // Of a hundred: establishments, modifications, restorations; the rest are deletions.
+        // Of a hundred: establishments, modifications, restorations; the rest are deletions, one by
+        // one or by sets.
         let (establishments, modifications, restorations) = match planner.flavour {
             Flavour::Tight => (32, 40, 15),
-            Flavour::Middle => (28, 47, 15),
+            Flavour::Middle => (28, 45, 15),
             Flavour::Crowd if live.len() < 62 => (66, 22, 11),
             Flavour::Crowd => (40, 12, 40),
-            Flavour::Full => (12, 62, 20),
+            Flavour::Full => (12, 62, 18),
         };
         let chance = planner.random.below(100);
         if chance < establishments {
@@ -140,6 +141,8 @@ impl Generator {
             planner.modification(seid)
         } else if chance < establishments + modifications + restorations {
             planner.restoration(&graves)
+        } else if planner.random.percent(50) {
+            planner.set_deletion()
         } else {
             let plan = planner.deletion(seid);
             scenario.graves.push((seid, live[&seid].clone()));
@@ -192,8 +195,9 @@ impl Generator {
                 let mut planner = self.planner(scenario, live);
                 let kind = match planner.random.below(20) {
                     0..=6 => ESTABLISHMENT,
-                    7..=16 => MODIFICATION,
-                    _ => DELETION,
+                    7..=15 => MODIFICATION,
+                    16 => DELETION,
+                    _ => SET_DELETION,
                 };
                 let unknown = planner.random.percent(11);
                 let seid = match (kind, planner.live_seid()) {
@@ -226,20 +230,45 @@ impl Generator {
     }
 
     fn with_wrong_header(&mut self, scenario: &mut Scenario, live: &Sessions) -> Vec<u8> {
-        let mut draft = self.sound(scenario, live);
-        match self.random.below(7) {
+        let mut draft = match self.random.percent(25) {
+            true => {
+                let plan = self.planner(scenario, live).set_deletion();
+                lay_out(&plan, &mut self.random, false)
+            }
+            false => self.sound(scenario, live),
+        };
+        match self.random.below(8) {
             0 => draft.first_octet ^= 1,
+            7 => {
+                // The header of the other length, with its S; or a set deletion with a SEID.
+                draft.seid = match draft.seid {
+                    Some(_) => None,
+                    None => Some(1),
+                };
+                draft.first_octet ^= 1;
+                if self.random.percent(50) {
+                    draft.message_type = SET_DELETION;
+                }
+            }
             1 => draft.first_octet |= 4,
             2 => {
                 draft.first_octet = draft.first_octet & 0x1F | self.random.pick(&[0, 2, 3, 7]) << 5
             }
             3 => draft.length_shift = self.random.pick(&[-16, -4, -1, 1, 4, 256]),
             4 => draft.message_type = self.random.pick(&[1, 5, 49, 51, 53, 55, 56, 0, 255]),
-            5 => draft.seid = self.random.pick(&[0, 12345, u64::MAX - 1]),
+            5 if draft.seid.is_some() => {
+                draft.seid = Some(self.random.pick(&[0, 12345, u64::MAX - 1]));
+            }
             _ => {
                 let mut message = draft.octets();
                 let some = self.random.below(17);
-                message.truncate(self.random.pick(&[15, 16, some, some]));
+                let whole = if draft.seid.is_some() { 16 } else { 8 };
+                message.truncate(self.random.pick(&[whole - 1, whole, some, some]));
+                // The length of what is left, so that only its shortness is wrong.
+                if self.random.percent(50) && message.len() >= 4 {
+                    let length = (message.len() - 4) as u16;
+                    message[2..4].copy_from_slice(&length.to_be_bytes());
+                }
                 return message;
             }
         }
@@ -252,16 +281,17 @@ impl Generator {
             true => self.sound(scenario, live).octets(),
             false => self.flawed(scenario, live).octets(),
         };
+        let header = if message[1] == SET_DELETION { 8 } else { 16 };
         for _ in 0..self.random.below(4) {
-            let at =
-                self.random.between(if message.len() > 16 { 16 } else { 0 }, message.len() - 1);
+            let first = if message.len() > header { header } else { 0 };
+            let at = self.random.between(first, message.len() - 1);
             message[at] ^= 1 << self.random.below(8);
         }
         if self.random.percent(40) {
-            let length = self.random.between(16, message.len());
+            let length = self.random.between(header, message.len());
             message.truncate(length);
         }
-        if message.len() >= 16 && self.random.percent(90) {
+        if self.random.percent(90) {
             let length = (message.len() - 4) as u16;
             message[2..4].copy_from_slice(&length.to_be_bytes());
         }
@@ -272,10 +302,12 @@ impl Generator {
     fn soup(&mut self, live: &Sessions) -> Vec<u8> {
         let seids: Vec<u64> = live.keys().copied().collect();
         let seid = if seids.is_empty() { 1 } else { self.random.pick(&seids) };
-        let message_type = self.random.pick(&[ESTABLISHMENT, MODIFICATION, MODIFICATION, DELETION]);
+        let message_type =
+            self.random.pick(&[ESTABLISHMENT, MODIFICATION, MODIFICATION, DELETION, SET_DELETION]);
+        let seid = (message_type != SET_DELETION).then_some(seid);
         let nodes = self.soup_nodes(3);
         Draft {
-            first_octet: 0x21,
+            first_octet: 0x20 | u8::from(seid.is_some()),
             message_type,
             seid,
             sequence: 7,

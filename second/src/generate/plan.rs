@@ -45,6 +45,7 @@ pub enum Item {
     FqCsid(Vec<u8>),
 }
 
+pub const SET_DELETION: u8 = 14;
 pub const ESTABLISHMENT: u8 = 50;
 pub const MODIFICATION: u8 = 52;
 pub const DELETION: u8 = 54;
@@ -52,7 +53,7 @@ pub const DELETION: u8 = 54;
 #[derive(Clone, Debug)]
 pub struct Plan {
     pub message_type: u8,
-    /// The F-SEID's SEID of an establishment, the header's SEID otherwise.
+    /// The F-SEID's SEID of an establishment, the header's SEID otherwise; a set deletion has none.
     pub seid: u64,
     pub restoration: bool,
     pub items: Vec<Item>,

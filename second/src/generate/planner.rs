@@ -5,7 +5,8 @@ use std::collections::{BTreeMap, BTreeSet};
 use super::plan::*;
 use super::random::Random;
 use super::Flavour;
-use crate::session::{Session, Sessions};
+use crate::element::fq_csid::NodeId;
+use crate::session::{HeldCsid, Session, Sessions};
 use crate::settings::Settings;
 
 pub struct Planner<'a> {
@@ -13,6 +14,17 @@ pub struct Planner<'a> {
     pub settings: &'a Settings,
     pub live: &'a Sessions,
     pub flavour: Flavour,
+}
+
+/// The Node-ID type and the address octets.
+pub fn node_octets(node: &NodeId) -> (u8, Vec<u8>) {
+    match node {
+        NodeId::Ipv4(octets) => (0, octets.to_vec()),
+        NodeId::Ipv6(octets) => (1, octets.to_vec()),
+        NodeId::Operator { country_and_network, number } => {
+            (2, (country_and_network << 12 | u32::from(*number)).to_be_bytes().to_vec())
+        }
+    }
 }
 
 /// The families and source interface that go with a CHOOSE ID within one request.
@@ -159,19 +171,86 @@ impl Planner<'_> {
     }
 
     pub fn fq_csid_of(&mut self, node_id_type: u8, node_type: u8, m: usize) -> Vec<u8> {
-        let mut value = vec![node_id_type << 4 | m as u8];
-        match node_id_type {
-            0 => value.extend(self.random.octets(4)),
-            1 => value.extend(self.random.octets(16)),
-            _ => {
-                let top = self.random.pick(&[262_001, 999_999, 0, 123_045]);
-                value.extend((top << 12 | self.random.below(4096) as u32).to_be_bytes());
-            }
-        }
-        value.extend(self.random.octets(2 * m));
+        let address = self.node_address(node_id_type);
+        let csids: Vec<u16> = (0..m).map(|_| self.csid()).collect();
+        self.fq_csid_octets(node_id_type, &address, &csids, node_type)
+    }
+
+    pub fn fq_csid_octets(
+        &mut self,
+        node_id_type: u8,
+        address: &[u8],
+        csids: &[u16],
+        node_type: u8,
+    ) -> Vec<u8> {
+        let mut value = vec![node_id_type << 4 | csids.len() as u8];
+        value.extend(address);
+        value.extend(csids.iter().flat_map(|csid| csid.to_be_bytes()));
         let high = if self.random.percent(10) { 0xA0 } else { 0 };
         value.push(high | node_type);
         value
+    }
+
+    /// Mostly one of two cards, so that sessions share them. Their addresses of all three types
+    /// begin with the same octets, and an IPv6 address has zeros behind them.
+    fn node_address(&mut self, node_id_type: u8) -> Vec<u8> {
+        let octets = if node_id_type == 1 { 16 } else { 4 };
+        match (self.random.percent(75), node_id_type) {
+            (true, _) => {
+                let mut address = vec![0; octets];
+                address[..4].copy_from_slice(&[192, 0, 2, self.random.pick(&[10, 11])]);
+                address
+            }
+            (false, 2) => {
+                let top = self.random.pick(&[262_001, 999_999, 0, 123_045]);
+                (top << 12 | self.random.below(4096) as u32).to_be_bytes().to_vec()
+            }
+            (false, _) => self.random.octets(octets),
+        }
+    }
+
+    /// Mostly one of a few.
+    fn csid(&mut self) -> u16 {
+        let any = self.random.number() as u16;
+        self.random.pick(&[1, 2, 3, 0xFFFF, any])
+    }
+
+    /// An FQ-CSID that a live session holds, as a set deletion lists it: the held CSID among
+    /// others.
+    pub fn held_fq_csid(&mut self, node_type: u8, held: &HeldCsid) -> Vec<u8> {
+        let (node_id_type, address) = node_octets(&held.node);
+        let csids = self.csids_with(held.csid);
+        self.fq_csid_octets(node_id_type, &address, &csids, node_type)
+    }
+
+    /// The same, but the node type, the Node-ID type, the address or the CSID is another.
+    pub fn near_miss(&mut self, node_type: u8, held: &HeldCsid) -> Vec<u8> {
+        let (mut node_id_type, mut address) = node_octets(&held.node);
+        let (mut node_type, mut csid) = (node_type, held.csid);
+        match self.random.below(4) {
+            0 => node_type = (node_type + 1 + self.random.below(5) as u8) % 6,
+            1 => {
+                // The same first four octets.
+                node_id_type = (node_id_type + self.random.pick(&[1, 2])) % 3;
+                address.resize(if node_id_type == 1 { 16 } else { 4 }, 0);
+            }
+            2 => {
+                // An operator's number may be any, so its last octet may be too.
+                let last = address.len() - 1;
+                address[last] ^= 1 << self.random.below(8);
+            }
+            _ => csid ^= 1 << self.random.below(16),
+        }
+        let csids = self.csids_with(csid);
+        self.fq_csid_octets(node_id_type, &address, &csids, node_type)
+    }
+
+    /// A CSID among others, at any place.
+    fn csids_with(&mut self, csid: u16) -> Vec<u16> {
+        let m = self.random.pick(&[1, 1, 2, 3, 15]);
+        let mut csids: Vec<u16> = (0..m).map(|_| self.random.number() as u16).collect();
+        csids[self.random.below(m)] = csid;
+        csids
     }
 
     pub fn fq_csid_removal(&mut self, node_type: u8) -> Vec<u8> {

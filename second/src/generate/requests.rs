@@ -3,10 +3,9 @@
 use std::collections::BTreeSet;
 
 use super::plan::*;
-use super::planner::{Planner, Uses};
+use super::planner::{node_octets, Planner, Uses};
 use super::Flavour;
-use crate::element::fq_csid::NodeId;
-use crate::session::{Families, Local, Pdr, Session, Tunnel};
+use crate::session::{Families, HeldCsid, Local, Pdr, Session, Tunnel};
 
 impl Planner<'_> {
     pub fn establishment(&mut self) -> Plan {
@@ -25,7 +24,7 @@ impl Planner<'_> {
         }
         let most = if self.flavour == Flavour::Crowd { 2 } else { 5 };
         self.add_pdrs(&mut plan, None, 1, most);
-        let count = self.random.pick(&[0, 0, 0, 1, 2, 6]);
+        let count = self.random.pick(&[0, 0, 1, 1, 2, 6]);
         for node_type in self.node_types().into_iter().take(count) {
             let value = self.fq_csid(node_type, 1);
             plan.items.push(Item::FqCsid(value));
@@ -154,15 +153,8 @@ impl Planner<'_> {
             plan.items.push(Item::CreateEndpoint { id, ask });
         }
         for (&node_type, held) in &session.fq_csids {
-            let (first, address) = match held.node {
-                NodeId::Ipv4(octets) => (0x01, octets.to_vec()),
-                NodeId::Ipv6(octets) => (0x11, octets.to_vec()),
-                NodeId::Operator { country_and_network, number } => {
-                    let word = country_and_network << 12 | u32::from(number);
-                    (0x21, word.to_be_bytes().to_vec())
-                }
-            };
-            let mut value = vec![first];
+            let (node_id_type, address) = node_octets(&held.node);
+            let mut value = vec![node_id_type << 4 | 1];
             value.extend(address);
             value.extend(held.csid.to_be_bytes());
             value.push(node_type);
@@ -238,15 +230,53 @@ impl Planner<'_> {
         Item::UpdatePdr { id, precedence, far, with_pdi: false }
     }
 
+    /// Its FQ-CSIDs are to be skipped, so some are broken.
     pub fn deletion(&mut self, seid: u64) -> Plan {
         let mut plan = Plan { message_type: DELETION, seid, restoration: false, items: vec![] };
         if self.random.percent(50) {
-            let count = self.random.between(1, 3);
-            for node_type in self.node_types().into_iter().take(count) {
-                let m = self.random.pick(&[1, 1, 2, 15]);
-                let value = self.fq_csid(node_type, m);
+            for _ in 0..self.random.between(1, 3) {
+                let node_type = self.random.below(7) as u8;
+                let m = self.random.pick(&[0, 1, 1, 2, 15]);
+                let mut value = self.fq_csid(node_type, m);
+                if self.random.percent(30) {
+                    value.truncate(self.random.below(6));
+                }
                 plan.items.push(Item::FqCsid(value));
             }
+        }
+        plan
+    }
+
+    /// Lists FQ-CSIDs that live sessions hold, near misses, and others; sometimes none, or one of
+    /// every session that holds any.
+    pub fn set_deletion(&mut self) -> Plan {
+        let mut plan =
+            Plan { message_type: SET_DELETION, seid: 0, restoration: false, items: vec![] };
+        let of_session = |session: &Session| {
+            let held = session.fq_csids.iter();
+            held.map(|(node_type, held)| (*node_type, held.clone())).collect::<Vec<_>>()
+        };
+        let held: Vec<Vec<(u8, HeldCsid)>> =
+            self.live.values().map(of_session).filter(|held| !held.is_empty()).collect();
+        let every = self.random.percent(20);
+        let count = if every { held.len() } else { self.random.pick(&[0, 1, 1, 1, 2, 2, 3, 6]) };
+        for index in 0..count {
+            let value = match held.is_empty() || (!every && self.random.percent(25)) {
+                true => {
+                    let (node_type, m) =
+                        (self.random.below(6) as u8, self.random.pick(&[1, 2, 15]));
+                    self.fq_csid(node_type, m)
+                }
+                false => {
+                    let of_one = if every { held[index].clone() } else { self.random.pick(&held) };
+                    let (node_type, held) = self.random.pick(&of_one);
+                    match !every && self.random.percent(30) {
+                        true => self.near_miss(node_type, &held),
+                        false => self.held_fq_csid(node_type, &held),
+                    }
+                }
+            };
+            plan.items.push(Item::FqCsid(value));
         }
         plan
     }
@@ -257,6 +287,8 @@ impl Planner<'_> {
         let mut plan = Plan { message_type, seid, restoration: false, items: vec![] };
         if message_type == DELETION {
             plan = self.deletion(seid);
+        } else if message_type == SET_DELETION {
+            plan = self.set_deletion();
         } else {
             for id in [1, 2] {
                 let ask = self.choose();

@@ -21,9 +21,10 @@ pub struct Part<'a> {
 }
 
 impl<'a> Part<'a> {
-    /// What stands behind the header.
+    /// What stands behind the header of a request or a reply; nothing where it is cut short.
     pub fn body(message: &'a [u8]) -> Part<'a> {
-        Part { octets: &message[ie::HEADER_OCTETS..], octet: ie::HEADER_OCTETS }
+        let octet = ie::header_octets(message);
+        Part { octets: message.get(octet..).unwrap_or(&[]), octet }
     }
 
     /// Octets by themselves, counted from their first one.
@@ -79,7 +80,7 @@ pub fn elements(part: Part<'_>) -> impl Iterator<Item = Element<'_>> {
 pub fn opens(message: Kind, place: Place, ie_type: u16) -> Option<Place> {
     let modification = message == Kind::Modification;
     match (place, ie_type) {
-        (Place::Top, _) if message == Kind::Deletion => None,
+        (Place::Top, _) if matches!(message, Kind::Deletion | Kind::SetDeletion) => None,
         (Place::Top, ie::CREATE_PDR) => Some(Place::CreatePdr),
         (Place::Top, ie::CREATE_ENDPOINT) => Some(Place::CreateEndpoint),
         (Place::Top, ie::UPDATE_PDR) if modification => Some(Place::UpdatePdr),

@@ -12,22 +12,41 @@ pub use fault::{Fault, FaultKind};
 pub use header::Header;
 pub use record::{FarChange, Pdi, Record, Request};
 
-/// The three served messages.
+/// The served messages.
 #[derive(Clone, Copy, PartialEq, Eq, PartialOrd, Ord, Debug)]
 pub enum Kind {
     Establishment,
     Modification,
     Deletion,
+    /// Document 02 (vii).
+    SetDeletion,
 }
 
 impl Kind {
-    /// The message type of the reply: "replies 51, 53, 55".
+    /// The kind of a message type that is served.
+    pub fn of(message_type: u8) -> Option<Kind> {
+        match message_type {
+            14 => Some(Kind::SetDeletion),
+            50 => Some(Kind::Establishment),
+            52 => Some(Kind::Modification),
+            54 => Some(Kind::Deletion),
+            _ => None,
+        }
+    }
+
+    /// The message type of the reply: "replies 51, 53, 55", and "type 14, reply 15".
     pub fn reply_type(&self) -> u8 {
         match self {
             Kind::Establishment => 51,
             Kind::Modification => 53,
             Kind::Deletion => 55,
+            Kind::SetDeletion => 15,
         }
+    }
+
+    /// Whether its header names the session that it is about.
+    pub fn names_session(&self) -> bool {
+        matches!(self, Kind::Modification | Kind::Deletion)
     }
 }
 

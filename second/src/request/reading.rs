@@ -39,7 +39,7 @@ pub fn read(header: &Header, message: &[u8]) -> Result<Request, Fault> {
             (Kind::Modification, ie::REMOVE_PDR) => records.push(remove_pdr(&element)?),
             (Kind::Modification, ie::REMOVE_ENDPOINT) => records.push(remove_endpoint(&element)?),
             (Kind::Modification, ie::UPDATE_ENDPOINT) => records.push(Record::UpdateEndpoint),
-            (_, ie::FQ_CSID) => {
+            (Kind::Establishment | Kind::Modification, ie::FQ_CSID) => {
                 let record = fq_csid_record(at, body, &element)?;
                 if let Record::FqCsid(read) = &record {
                     // "a node type repeated in one request, 69"
@@ -49,7 +49,11 @@ pub fn read(header: &Header, message: &[u8]) -> Result<Request, Fault> {
                 }
                 records.push(record);
             }
-            // "Vendor, unknown and misplaced elements are skipped."
+            // "only 65 acted on [..] and a node type may come twice"
+            (Kind::SetDeletion, ie::FQ_CSID) => {
+                records.push(Record::FqCsid(fq_csid_of_set(at, &element)?));
+            }
+            // "Vendor, unknown and misplaced elements are skipped." So is the FQ-CSID of a deletion.
             _ => {}
         }
     }
@@ -120,16 +124,19 @@ fn fq_csid_record(at: At, body: Part, element: &Element) -> Result<Record, Fault
     }
     let read = fq_csid::read(element.value).map_err(|r| at.refused(element, r))?;
     let m = read.csids.len();
-    // "Establishment m = 1; modification m = 1 sets that node type, m = 0 [..] removes it;
-    // deletion m at least 1."
-    let allowed = match at.message {
-        Kind::Establishment => m == 1,
-        Kind::Modification => m <= 1,
-        Kind::Deletion => m >= 1,
-    };
-    match allowed {
+    // "Establishment m = 1; modification m = 1 sets that node type, m = 0 [..] removes it"
+    match m == 1 || (m == 0 && at.message == Kind::Modification) {
         true => Ok(Record::FqCsid(read)),
         false => Err(at.refused(element, Refusal::Bad(Bad::NumberOfCsids))),
+    }
+}
+
+/// An FQ-CSID that names lost sessions: any m, but "m = 0 is 69".
+fn fq_csid_of_set(at: At, element: &Element) -> Result<fq_csid::FqCsid, Fault> {
+    let read = fq_csid::read(element.value).map_err(|r| at.refused(element, r))?;
+    match read.is_removal() {
+        true => Err(at.refused(element, Refusal::Bad(Bad::NumberOfCsids))),
+        false => Ok(read),
     }
 }
 

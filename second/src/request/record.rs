@@ -55,7 +55,7 @@ pub enum Record {
 #[derive(Clone, PartialEq, Eq, Debug)]
 pub struct Request {
     pub header: Header,
-    /// An establishment always has it, the other two never do.
+    /// An establishment always has it, the others never do.
     pub f_seid: Option<FSeid>,
     pub restoration: bool,
     pub records: Vec<Record>,

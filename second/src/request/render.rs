@@ -6,6 +6,7 @@
 //! establishment header=SEID sequence=N seid=SEID v4=ADDR v6=ADDR restoration=0
 //! modification header=SEID sequence=N
 //! deletion header=SEID sequence=N
+//! set-deletion sequence=N
 //! ```
 //!
 //! and the records
@@ -35,13 +36,15 @@ use crate::element::fq_csid::NodeId;
 
 pub fn render(request: &Request) -> String {
     let mut line = String::new();
-    let name = match request.header.kind {
-        Kind::Establishment => "establishment",
-        Kind::Modification => "modification",
-        Kind::Deletion => "deletion",
-    };
     let header = &request.header;
-    write!(line, "{name} header={:016X} sequence={}", header.seid, header.sequence).unwrap();
+    let with_seid = |name: &str| format!("{name} header={:016X}", header.seid);
+    let name = match header.kind {
+        Kind::Establishment => with_seid("establishment"),
+        Kind::Modification => with_seid("modification"),
+        Kind::Deletion => with_seid("deletion"),
+        Kind::SetDeletion => "set-deletion".to_string(),
+    };
+    write!(line, "{name} sequence={}", header.sequence).unwrap();
     if let Some(f_seid) = &request.f_seid {
         let restoration = u8::from(request.restoration);
         let (v4, v6) = (address(&f_seid.ipv4), address(&f_seid.ipv6));

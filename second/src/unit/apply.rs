@@ -14,6 +14,10 @@ pub fn apply(sessions: &mut Sessions, request: &Request, grants: &[Grant]) {
             sessions.remove(&request.header.seid);
             return;
         }
+        (None, Kind::SetDeletion) => {
+            sessions.retain(|_, session| !session.is_lost_by(request));
+            return;
+        }
         (None, _) => request.header.seid,
     };
     let session = sessions.entry(seid).or_default();

@@ -8,7 +8,7 @@ pub mod reply;
 pub mod rules;
 
 use crate::ie::LEAST_REPLY_SPACE;
-use crate::request::{self, Kind};
+use crate::request;
 use crate::session::{distinct_teids, Sessions};
 use crate::settings::Settings;
 pub use decision::{Decision, Reason, Refused};
@@ -72,7 +72,7 @@ impl Unit {
         let refused = |reasons| Decision::Refused(Refused { header, reasons });
         // Stage 1: "no such session (52, 54)".
         let mut reasons = Vec::new();
-        if header.kind != Kind::Establishment && !self.sessions.contains_key(&header.seid) {
+        if header.kind.names_session() && !self.sessions.contains_key(&header.seid) {
             reasons.push(Reason::NoSession);
         }
         // Stages 2 and 3.

@@ -1,6 +1,7 @@
 //! The reply: "header [..], Node ID 60 (establishment only, IPv4, type octet 0), Cause 19,
 //! Offending IE, then on acceptance F-SEID [..], a Created PDR 8 for each CHOOSE, then a Created
-//! Traffic Endpoint 128 likewise, each kind in request order".
+//! Traffic Endpoint 128 likewise, each kind in request order". To a set deletion "Node ID, Cause,
+//! Offending IE", behind a header without SEID.
 
 use super::grants::{self, Grant, Owner};
 use super::Refused;
@@ -64,7 +65,7 @@ pub fn acceptance(settings: &Settings, request: &Request, grants: &[Grant]) -> V
 /// What every reply of this kind starts with.
 fn front(settings: &Settings, kind: Kind, cause: u8) -> Vec<u8> {
     let mut body = Vec::new();
-    if kind == Kind::Establishment {
+    if matches!(kind, Kind::Establishment | Kind::SetDeletion) {
         let mut node = vec![0];
         node.extend(settings.ipv4);
         body.extend(element(ie::NODE_ID, &node));
@@ -94,9 +95,13 @@ fn element(ie_type: u16, value: &[u8]) -> Vec<u8> {
 
 /// "header (the request's sequence; the session's SEID [..]; spare 0)"
 fn with_header(request: &Header, seid: u64, body: &[u8]) -> Vec<u8> {
-    let mut message = vec![0x21, request.kind.reply_type()];
-    message.extend(((ie::HEADER_OCTETS - 4 + body.len()) as u16).to_be_bytes());
-    message.extend(seid.to_be_bytes());
+    let plain = request.kind == Kind::SetDeletion;
+    let mut message = vec![if plain { 0x20 } else { 0x21 }, request.kind.reply_type()];
+    let header_octets = ie::header_octets(&message);
+    message.extend(((header_octets - 4 + body.len()) as u16).to_be_bytes());
+    if !plain {
+        message.extend(seid.to_be_bytes());
+    }
     message.extend(&request.sequence.to_be_bytes()[1..]);
     message.push(0);
     message.extend(body);

@@ -42,6 +42,20 @@ pub fn message(message_type: u8, seid: u64, sequence: u32, parts: &[Vec<u8>]) ->
     octets
 }
 
+/// A message whose header has no SEID.
+pub fn plain_message(message_type: u8, sequence: u32, parts: &[Vec<u8>]) -> Vec<u8> {
+    let mut octets = message(message_type, 0, sequence, parts);
+    octets.drain(4..12);
+    octets[0] = 0x20;
+    let length = (octets.len() - 4) as u16;
+    octets[2..4].copy_from_slice(&length.to_be_bytes());
+    octets
+}
+
+pub fn set_deletion(parts: &[Vec<u8>]) -> Vec<u8> {
+    plain_message(14, 1, parts)
+}
+
 /// An F-SEID with an IPv4 address.
 pub fn f_seid(seid: u64) -> Vec<u8> {
     let mut value = vec![2];
@@ -136,8 +150,13 @@ pub fn given_v6(teid: u32) -> Vec<u8> {
 
 /// An FQ-CSID with one CSID: IPv4 Node-ID 192.0.2.10.
 pub fn fq_csid(csid: u16, node_type: u8) -> Vec<u8> {
-    let mut value = vec![1, 192, 0, 2, 10];
-    value.extend(csid.to_be_bytes());
+    fq_csid_of(0, &[192, 0, 2, 10], &[csid], node_type)
+}
+
+pub fn fq_csid_of(node_id_type: u8, address: &[u8], csids: &[u16], node_type: u8) -> Vec<u8> {
+    let mut value = vec![node_id_type << 4 | csids.len() as u8];
+    value.extend(address);
+    value.extend(csids.iter().flat_map(|csid| csid.to_be_bytes()));
     value.push(node_type);
     ie(65, &value)
 }
@@ -170,7 +189,7 @@ pub fn reply(unit: &mut Unit, message: &[u8]) -> Vec<u8> {
 
 /// The elements of a reply.
 pub fn elements(reply: &[u8]) -> Vec<(u16, Vec<u8>)> {
-    let mut rest = &reply[16..];
+    let mut rest = &reply[if reply[0] & 1 == 1 { 16 } else { 8 }..];
     let mut found = Vec::new();
     while !rest.is_empty() {
         let length = usize::from(u16::from_be_bytes([rest[2], rest[3]]));
@@ -202,7 +221,7 @@ pub fn cause(unit: &mut Unit, message: &[u8]) -> u8 {
 pub fn created(reply: &[u8], ie_type: u16) -> Vec<(u16, u32)> {
     let mut found = Vec::new();
     for (_, value) in elements(reply).into_iter().filter(|(other, _)| *other == ie_type) {
-        let mut framed = vec![0; 16];
+        let mut framed = vec![1; 16];
         framed.extend(value);
         let members = elements(&framed);
         let id = members[0].1.iter().fold(0, |id, octet| id << 8 | u16::from(*octet));

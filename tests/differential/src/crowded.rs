@@ -27,24 +27,55 @@ fn create_endpoint(id: u16) -> Vec<u8> {
     element(127, &[element(131, &[id as u8]), element(21, &[5])].concat())
 }
 
-fn message(message_type: u8, seid: u64, body: &[u8]) -> Vec<u8> {
-    let mut octets = vec![0x21, message_type];
-    octets.extend((12 + body.len() as u16).to_be_bytes());
-    octets.extend(seid.to_be_bytes());
-    octets.extend([0, 0, 1, 0]);
-    octets.extend(body);
-    octets
+/// An FQ-CSID of the node 10.0.0.1.
+fn fq_csid(csids: &[u16], node_type: u8) -> Vec<u8> {
+    fq_csid_of(0, &[10, 0, 0, 1], csids, node_type)
 }
 
-/// A session with a PDR and an endpoint, ID 0 each.
+pub fn fq_csid_of(node_id_type: u8, address: &[u8], csids: &[u16], node_type: u8) -> Vec<u8> {
+    let mut value = vec![node_id_type << 4 | csids.len() as u8];
+    value.extend(address);
+    value.extend(csids.iter().flat_map(|csid| csid.to_be_bytes()));
+    value.push(node_type);
+    element(65, &value)
+}
+
+const SET_DELETION: u8 = 14;
+
+/// The octets of a message's header.
+fn header_octets(message_type: u8) -> usize {
+    match message_type {
+        SET_DELETION => 8,
+        _ => 16,
+    }
+}
+
+fn message(message_type: u8, seid: u64, body: &[u8]) -> Vec<u8> {
+    let octets = header_octets(message_type);
+    let mut message = vec![if octets == 8 { 0x20 } else { 0x21 }, message_type];
+    message.extend(((octets - 4 + body.len()) as u16).to_be_bytes());
+    if octets == 16 {
+        message.extend(seid.to_be_bytes());
+    }
+    message.extend([0, 0, 1, 0]);
+    message.extend(body);
+    message
+}
+
+/// A set deletion with these elements.
+pub fn set_deletion(elements: &[Vec<u8>]) -> Vec<u8> {
+    message(SET_DELETION, 0, &elements.concat())
+}
+
+/// A session with a PDR and an endpoint, ID 0 each, and an FQ-CSID.
 pub fn first(seid: u64) -> Vec<u8> {
-    let body = [f_seid(seid), create_pdr(0, &element(21, &[5])), create_endpoint(0)].concat();
-    message(50, 0, &body)
+    let records = [create_pdr(0, &element(21, &[5])), create_endpoint(0), fq_csid(&[299], 1)];
+    message(50, 0, &[f_seid(seid), records.concat()].concat())
 }
 
 /// The messages, for a session that lives and one that does not.
 pub fn messages(live: u64, new: u64) -> Vec<Vec<u8>> {
-    let kinds: [fn(u16) -> Vec<u8>; 12] = [
+    let kinds: [fn(u16) -> Vec<u8>; 14] = [
         |id| create_pdr(id, &[]),
         |id| create_pdr(id, &element(21, &[5])),
         |id| create_pdr(id, &element(21, &[13, id as u8])),
@@ -53,7 +84,9 @@ pub fn messages(live: u64, new: u64) -> Vec<Vec<u8>> {
         |id| element(15, &element(56, &id.to_be_bytes())),
         |id| element(130, &element(131, &[id as u8])),
         |id| element(9, &element(56, &id.to_be_bytes())),
-        |id| element(65, &[1, 10, 0, 0, 1, 0, 1, id as u8 % 6]),
+        |id| fq_csid(&[1], id as u8 % 6),
+        |id| fq_csid(&[id + 150], 1),
+        |id| fq_csid(&std::array::from_fn::<u16, 15, _>(|at| 15 * id + at as u16), 1),
         |_| element(129, &[]),
         |_| element(40000, &[]),
         |_| element(186, &[0]),
@@ -64,13 +97,13 @@ pub fn messages(live: u64, new: u64) -> Vec<Vec<u8>> {
         for (start, step) in [(0, 1), (1, 1), (0, 0), (7, 0)] {
             let records: Vec<Vec<u8>> =
                 (0..600).map(|number| kind(start + step * number)).collect();
-            for (message_type, seid) in [(50, 0), (52, live), (54, live)] {
+            for (message_type, seid) in [(50, 0), (52, live), (54, live), (SET_DELETION, 0)] {
                 let mut body = if message_type == 50 { f_seid(new) } else { vec![] };
                 let mut longer = body.clone();
                 for record in &records {
                     body = longer.clone();
                     longer.extend(record);
-                    if 16 + longer.len() > LARGEST_MESSAGE {
+                    if header_octets(message_type) + longer.len() > LARGEST_MESSAGE {
                         break;
                     }
                 }

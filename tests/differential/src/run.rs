@@ -1,8 +1,9 @@
 //! The comparison: generated sequences of calls, restorations, and damaged tables.
 
-use std::collections::BTreeMap;
+use std::collections::{BTreeMap, BTreeSet};
 
 use second::coverage::Coverage;
+use second::element::fq_csid::NodeId;
 use second::generate::largest;
 use second::generate::random::Random;
 use second::generate::{Call, Flavour, Generator};
@@ -165,6 +166,7 @@ pub fn run(product: &Product, seed: u64, calls: usize) -> Report {
     let mut run = Run { product, report: Report::new(), random: Random::new(!seed) };
     run.fixed_settings();
     run.largest_table(&mut Generator::new(!seed));
+    run.sets_of_largest_table();
     run.crowded_messages();
     run.written_of_random_tables();
     run.found_in_random_tables();
@@ -466,6 +468,41 @@ impl Run<'_> {
             let outcome = self.product.free_count(&changed).0;
             let right = outcome == u32::from(layout::sound(&changed).is_err());
             self.report.check(right, || format!("octet {at} of an empty table changed"));
+        }
+    }
+
+    /// Set deletions on the largest table: none, the first, the last, every second, all.
+    fn sets_of_largest_table(&mut self) {
+        let (settings, sessions) = (largest::settings(), largest::sessions());
+        let chosen: [fn(u16) -> bool; 8] = [
+            |_| false,
+            |number| number == 0,
+            |number| number == 63,
+            |number| number % 2 == 1,
+            |number| number % 3 == 0,
+            |number| number != 0,
+            |number| number != 63,
+            |_| true,
+        ];
+        for (choice, node_type) in chosen.into_iter().flat_map(|c| (0..6).map(move |n| (c, n))) {
+            let Some(unit) = self.unit_with(&settings, &sessions) else { return };
+            let live = LiveSet { sessions: sessions.clone() };
+            let table = Lent::new(&layout::encode(&settings, &sessions));
+            let mut state = State { unit, live, table };
+            let numbers = (0..64).filter(|number| choice(*number));
+            let csids: BTreeSet<u16> = numbers.map(|n| largest::csid(node_type, n)).collect();
+            let lists: Vec<u16> = csids.iter().copied().collect();
+            let NodeId::Ipv6(address) = largest::node(node_type) else { return };
+            let elements: Vec<Vec<u8>> = lists
+                .chunks(15)
+                .map(|csids| crowded::fq_csid_of(1, &address, csids, node_type))
+                .collect();
+            let message = crowded::set_deletion(&elements);
+            self.one_call(&mut state, &Call { message, reply_space: 1024 });
+            let stays = |number: &u16| !csids.contains(&largest::csid(node_type, *number));
+            let left = (0..64).filter(stays).count();
+            let right = state.live.sessions.len() == left;
+            self.report.check(right, || format!("{left} sessions of the largest table stay"));
         }
     }
 

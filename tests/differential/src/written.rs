@@ -1,7 +1,6 @@
 //! The restoration requests that a product writes, each compared with the second implementation's,
 //! and what it refuses to write.
 
-use second::generate::random::Random;
 use second::generate::tables::{self, Filling};
 use second::layout;
 use second::restoration::{self, Envelope};
