@@ -1,11 +1,12 @@
 #!/usr/bin/env python3
-"""The exchanges of document 01's worked examples, of the errors it has seen, and of document 02's (ii) and (vii).
+"""The exchanges of document 01's worked examples, of the errors it has seen, and of document 02's (ii), (v) and (vii).
 
   requests.py FOLDER          writes FOLDER/stdin: tables and requests, each after its length in two octets. FOLDER/stdout is what
                               second's program `exchanges` writes for it
   requests.py --paper < LINES holds such lines to what they say of each exchange, where they say something
 
-On paper are the cause, the TEIDs of the created PDRs, the free count after the call, and sometimes the whole reply.
+On paper are the cause, the TEIDs and the addresses of the created PDRs, the free TEIDs and addresses after the call, and sometimes the whole
+reply.
 """
 import struct
 import sys
@@ -14,7 +15,8 @@ H = bytes.fromhex
 u16 = lambda n: struct.pack(">H", n)
 u32 = lambda n: struct.pack(">I", n)
 u64 = lambda n: struct.pack(">Q", n)
-ACCEPTED, UNKNOWN, LENGTH, INCORRECT, RULE, FULL = 1, 65, 68, 69, 73, 75
+ACCEPTED, UNKNOWN, LENGTH, INCORRECT, RULE, FULL, STRANGE, NO_ADDRESS = 1, 65, 68, 69, 73, 75, 76, 79
+POOL = 0x0A2D0001  # 10.45.0.1
 parts = []
 
 
@@ -50,31 +52,46 @@ def remove_endpoint(number):
     return ie(130, ie(131, bytes([number])))
 
 
-def table(size, first=4096):
-    parts.append((H("C0000201") + u32(first) + u32(size), None, None, size))
+def addressed(pdr, value, f_teid=None):
+    """A PDR with this UE IP Address, and with an F-TEID or without."""
+    pdi = ie(20, b"\0") + (ie(21, H(f_teid)) if f_teid else b"") + ie(93, H(value))
+    return ie(1, ie(56, u16(pdr)) + ie(29, u32(10)) + ie(2, pdi))
 
 
-def call(kind, seid, body, cause, free, teids=None, whole=None):
+def given(address):
+    return "02" + u32(address).hex()
+
+
+def table(size, first=4096, first_address=POOL, addresses=2):
+    settings = u32(first) + u32(size) + u32(first_address) + u32(addresses)
+    parts.append((b"\0" + H("C0000201") + settings, None, None, (size, addresses)))
+
+
+def call(kind, seid, body, cause, free, left, teids=None, chosen=None, whole=None):
     head = bytes([0x21, kind]) + u16(12 + len(body)) + u64(seid) + u32(1)[1:] + b"\0"
-    parts.append((head + body, [cause, teids], whole and H(whole), free))
+    parts.append((head + body, (cause, teids or [], chosen or []), whole and H(whole), (free, left)))
 
 
-def establish(seid, *body, cause=ACCEPTED, free, teids=None, whole=None, f_seid_is=None):
-    call(50, 0, (f_seid_is or f_seid(seid)) + b"".join(body), cause, free, teids, whole)
+def establish(seid, *body, cause=ACCEPTED, free, left=2, teids=None, chosen=None, whole=None, f_seid_is=None):
+    call(50, 0, (f_seid_is or f_seid(seid)) + b"".join(body), cause, free, left, teids, chosen, whole)
 
 
-def modify(seid, *body, cause=ACCEPTED, free, teids=None):
-    call(52, seid, b"".join(body), cause, free, teids)
+def restore(seid, *body, cause=ACCEPTED, free, left=2):
+    call(50, 0, f_seid(seid) + ie(186, b"\1") + b"".join(body), cause, free, left)
 
 
-def delete(seid, *body, cause=ACCEPTED, free, whole=None):
-    call(54, seid, b"".join(body), cause, free, None, whole)
+def modify(seid, *body, cause=ACCEPTED, free, left=2, teids=None, chosen=None):
+    call(52, seid, b"".join(body), cause, free, left, teids, chosen)
 
 
-# A part of 12 octets would make a table: no set deletion here has 4 octets of elements.
-def delete_sets(*body, cause=ACCEPTED, free, whole=None):
+def delete(seid, *body, cause=ACCEPTED, free, left=2, whole=None):
+    call(54, seid, b"".join(body), cause, free, left, whole=whole)
+
+
+def delete_sets(*body, cause=ACCEPTED, free, left=2, whole=None):
     elements = b"".join(body)
-    parts.append((H("200E") + u16(4 + len(elements)) + H("00000100") + elements, [cause, None], whole and H(whole), free))
+    head = H("200E") + u16(4 + len(elements)) + H("00000100")
+    parts.append((head + elements, (cause, [], []), whole and H(whole), (free, left)))
 
 
 def card(node_type, *csids, address="C000020A", id_type=0):
@@ -201,30 +218,79 @@ establish(1, create(1, "05"), card(1, 5), free=5, teids=[4096])
 delete(1, H("00410009") + bytes(8), cause=LENGTH, free=5)
 delete(1, ie(65, b""), ie(65, H("31")), card(1, 5, 6), card(1, 5), free=6)
 
+# 02 (v): "All CHOOSE IPV4 flags in one request share one address, the lowest free at entry."
+table(4)
+establish(1, addressed(1, "10", "05"), addressed(2, "10"), free=3, left=1, teids=[4096], chosen=[POOL, POOL])
+# "Order: empty 68; V6, CHV6, IPv6D or IP6PL 76 [..]; not just one of V4, CHV4 69; short 68"
+for value, cause in [("", LENGTH), ("00", INCORRECT), ("120A000001", INCORRECT), ("020A0000", LENGTH), ("01", STRANGE), ("32", STRANGE)]:
+    modify(1, addressed(9, value), cause=cause, free=3, left=1)
+# "The control plane may give addresses outside our pool; one inside it is 73 unless restoring"
+modify(1, addressed(3, given(POOL)), cause=RULE, free=3, left=1)
+modify(1, addressed(3, given(POOL + 1)), cause=RULE, free=3, left=1)
+modify(1, addressed(3, given(POOL + 2)), free=3, left=1)
+establish(2, addressed(1, given(POOL + 2)), free=3, left=1)
+# "it is free from the call after the last holder goes"
+modify(1, remove(1), free=4, left=1)
+modify(2, addressed(2, "10"), free=4, left=0, chosen=[POOL + 1])
+# "A CHOOSE with no free address is cause 79, tested after 75."
+modify(1, remove(2), addressed(4, "10"), cause=NO_ADDRESS, free=4, left=0)
+modify(1, *(addressed(n, "10") for n in range(10, 27)), cause=FULL, free=4, left=0)
+modify(1, remove(2), free=4, left=1)
+modify(1, addressed(4, "10", "05"), free=3, left=0, teids=[4096], chosen=[POOL])
+# "a restored pool address held by another session is 73"; "CHOOSE inside one is 73"
+delete(2, free=3, left=1)
+restore(3, addressed(1, given(POOL)), cause=RULE, free=3, left=1)
+restore(3, addressed(1, "10"), cause=RULE, free=3, left=1)
+restore(3, addressed(1, given(POOL + 1)), addressed(2, given(POOL + 1)), free=3, left=0)
+delete(1, free=4, left=1)
+delete(3, free=4)
 
-def cause_and_teids(reply):
-    cause, teids, at = None, [], 16 if reply[0] & 1 else 8
+# 02 (v) and (vii): the addresses of the sessions that a set deletion takes out are free from the next call on.
+table(2)
+establish(1, addressed(1, "10"), card(1, 5), free=2, left=1, chosen=[POOL])
+establish(2, addressed(1, "10", "05"), card(1, 6), free=1, left=0, teids=[4096], chosen=[POOL + 1])
+establish(3, addressed(1, "10"), card(1, 5), cause=NO_ADDRESS, free=1, left=0)
+delete_sets(card(1), cause=INCORRECT, free=1, left=0)
+delete_sets(card(1, 5), free=1, left=1)
+establish(3, addressed(1, "10"), card(1, 5), free=1, left=0, chosen=[POOL])
+delete_sets(card(1, 5, 6), free=2)
+
+
+def members(value):
+    at, found = 0, {}
+    while at < len(value):
+        kind, n = struct.unpack(">HH", value[at : at + 4])
+        found[kind] = value[at + 4 : at + 4 + n]
+        at += 4 + n
+    return found
+
+
+def told(reply):
+    """The cause, and the TEIDs and addresses of the created PDRs."""
+    cause, teids, chosen, at = None, [], [], 16 if reply[0] & 1 else 8
     while at < len(reply):
         kind, n = struct.unpack(">HH", reply[at : at + 4])
         value = reply[at + 4 : at + 4 + n]
         if kind == 19:
             cause = value[0]
         if kind == 8:
-            teids.append(struct.unpack(">I", value[11:15])[0])
+            group = members(value)
+            teids += [struct.unpack(">I", group[21][1:5])[0]] if 21 in group else []
+            chosen += [struct.unpack(">I", group[93][1:5])[0]] if 93 in group else []
         at += 4 + n
-    return cause, teids
+    return cause, teids, chosen
 
 
 def paper(lines):
     if len(lines) != len(parts):
         sys.exit(f"{len(lines)} lines for {len(parts)} parts")
-    for number, (line, (_, answer, whole, free)) in enumerate(zip(lines, parts), 1):
+    for number, (line, (_, answer, whole, (free, left))) in enumerate(zip(lines, parts), 1):
         start, _, reply = line.partition(" reply ")
         start = start.partition(" place ")[0]
         word = "table" if answer is None else "outcome"
-        if start != f"{word} 0 free {free}":
-            sys.exit(f"line {number}: {line}: not free {free}")
-        if answer and cause_and_teids(H(reply)) != (answer[0], answer[1] or []):
+        if start.split(" place ")[0] != f"{word} 0 free {free} addresses {left}":
+            sys.exit(f"line {number}: {line}: not free {free}, addresses {left}")
+        if answer and told(H(reply)) != answer:
             sys.exit(f"line {number}: {line}: not {answer}")
         if whole and H(reply) != whole:
             sys.exit(f"line {number}: {line}: not the whole reply")

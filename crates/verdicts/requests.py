@@ -106,6 +106,19 @@ for k in (est,mod,dele,sets):
     k(*pre,a,b_); k(*pre,a,a); k(*pre,a,cs('000000000001')); k(*pre,cs('000000000002'),b_); k(*pre,a,cs('')); k(*pre,cs(''),a); k(*pre,cs(''),cs('')); k(*pre,a,cs('31'),a); k(*pre,a,cs('02C000020A0001000201')); k(*pre,a,b_,cs('01C000020A000503'),cs('01C000020A000504'),cs('01C000020A000505'),cs('01C000020A000500')); k(*pre,cs('01C000020A000506'),cs('01C000020A000506'))
 mod(cs(''),good,ie(129,b'')); mod(cs(''),ie(1,cs(''))); mod(rem(pid(1)),cs(''),upd(pid(2)))
 dele(fs,good,ie(129,b'')); dele(cpdr()); dele(ie(186,b''))
+# UE IP Addresses (02 (v)): values, then repeats, what comes before and after, and places that have none
+ue=lambda h: ie(93,H(h))
+for h in ('020A000001','10','12','00','020A','','01','22','860A000001','0200000000','02FFFFFFFF99','020A0000','94','84','08','20','40','030A000001','1099','FF'):
+    est(fs,cpdr(pid(1),prec(1),pdi(src(1),ue(h)))); mod(cep(eid(1),ft('05'),ue(h)))
+in_pdi=lambda *m: est(fs,cpdr(pid(1),prec(1),pdi(*m)))
+in_pdi(src(1),ue('10'),ue('10')); in_pdi(src(1),ue('10'),ue('')); in_pdi(src(1),ue('01'),ue('01')); in_pdi(src(1),ue('12'),ue('10')); in_pdi(ue('020A000001'),ue('10'))
+in_pdi(ue('10'),src(1)); in_pdi(ue('10')); in_pdi(ue('01'),ie(20,b'')); in_pdi(src(1),ue('01'),ft('')); in_pdi(src(1),ft(''),ue('')); in_pdi(src(1),ue(''),ft(''))
+in_pdi(src(1),ft('05'),ue('10')); in_pdi(src(1),ft('0100001000C0000201'),ue('020A000001')); in_pdi(src(1),eid(3),ue('020A000002')); in_pdi(src(1),H('005D000502'))
+est(fs,cpdr(pdi(src(1),ue('01')),pid(1))); est(fs,cpdr(ue(''),pid(1),prec(1),pdi(src(1))),ue('')); est(fs,ie(186,b'\1'),cpdr(pid(1),prec(1),pdi(src(1),ue('020A000001')))); est(cpdr(pid(1),prec(1),pdi(src(1),ue('01'))))
+est(fs,cpdr(pid(1),prec(1),pdi(src(1),ue('10')),far(4)),cpdr(pid(2),prec(2),pdi(src(2),ue('020A000003'))),cpdr(pid(3),prec(3),pdi(src(3))),cep(eid(9),ft('07'),ue('10')))
+mod(cep(ue('10'),ue('10'),eid(1),ft('05'))); mod(cep(ue('10'))); mod(cep(eid(1),ue('10'))); mod(cep(ft('05'),ue('10'))); mod(cep(ue('12'),ft(''),eid(1))); mod(cep(ue('22'),eid(7),ft('06')),rem(pid(1)))
+mod(upd(pid(1),pdi(ue('')))); mod(upd(pid(1),ue(''))); mod(rem(ue(''),pid(1))); mod(rep(eid(1),ue(''))); mod(ue('')); mod(cpdr(pid(1),prec(1),pdi(src(1),ue('01'))),cs('31')); mod(ie(129,b''),cpdr(pid(1),prec(1),pdi(src(1),ue('40'))))
+dele(cpdr(pid(1),prec(1),pdi(src(1),ue('')))); dele(ue(''))
 
 # set deletions: the header, what is skipped, framing at the top level only
 sets(); sets(seq=0xABCDEF); add(hdr(14,b'')); add(H('200E0003000001')); add(H('200F000400000100'))

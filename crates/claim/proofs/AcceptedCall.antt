@@ -1,38 +1,46 @@
--- An accepted call of `serve`: what it passed, the table it leaves, the TEIDs in its reply, and that a TEID which its removals leave unheld is free at the next call.
+-- An accepted call of `serve`: what it passed, the table it leaves, the TEIDs and the address in its reply, and that a TEID or an address which its removals leave
+-- unheld is free at the next call.
 -- Assumes nothing.
 use mathlib.Core.Path.{_≡_, sym, ap, ap₂, _∙_, subst}
 use Prim.Native.Nat.{ℕ, _^_, _<_}
-use mathlib.Core.Bool.{not, _||_}
+use mathlib.Core.Bool.{Bool, true, false, not, _||_}
+use mathlib.Core.Option.{Option, none, some}
 use mathlib.Core.List.{List, map}
 use lib.Dec.{T, eqb, eqb→eq}
-use Rattle.octets.specs.Choice.{pick}
+use Rattle.octets.specs.Choice.{pick, bindOption, isSome}
 use Rattle.octets.specs.Octets.{octets}
-use Rattle.octets.specs.Lists.{member, allPairs, keep}
+use Rattle.octets.specs.Lists.{member, any, allPairs, keep}
 use Rattle.octets.proofs.Tests.{and-left, and-right}
 use Rattle.octets.proofs.ListLaws.{Every, every-imply, pairs-imply}
-use Rattle.rules.specs.Model.{Settings, Session, Sessions, teidOf, sessionTeids, heldTeids, freeTeids}
+use Rattle.rules.specs.Model.{Settings, Session, Sessions, teidOf, sessionTeids, heldTeids, freeTeids, sessionAddresses, heldAddresses, freeAddresses}
 use Rattle.rules.specs.Layout.{encode, viewSettings, viewSessions}
 use Rattle.laws.proofs.TableLaws.{sessions-back, encoded-settings}
 use Rattle.rules.specs.Sound.{sessionsAllowed, inPool}
 use Rattle.rules.specs.Message.{kindOf, deletion, setDeletion}
 use Rattle.rules.specs.Reading.{readRequest, Request}
-use Rattle.rules.specs.Grants.{Kind, ofPdr, grants, grantedTeid}
-use Rattle.rules.specs.Stages.{sameChoice, verdict, entrySession}
+use Rattle.rules.specs.Grants.{Kind, ofPdr, ofEndpoint, grants, grantedTeid, chosenAddress, Got, granted}
+use Rattle.rules.specs.Stages.{sameChoice, addressesOf, verdict, entrySession}
+use Rattle.rules.specs.Elements.{UeIp, ueChooses}
+use Rattle.rules.specs.Reply.{chosenIp, pdrReport, endpointReport, reports}
 use Rattle.rules.specs.Serve.{Served, sessionsAfter, replyTo, answered, answer, serve}
-use Rattle.rules.specs.Live.{replied, accepted, replyCause, createdTeid}
+use Rattle.rules.specs.Live.{replied, accepted, replyCause, createdTeid, createdAddress, createdGot}
 use Rattle.rules.specs.Causes as why
-use Rattle.claim.proofs.VerdictLaws.{Passed, passed, few-new-pdrs, few-new-endpoints}
+use Rattle.claim.proofs.VerdictLaws.{Passed, passed}
 use Rattle.claim.proofs.GrantLaws.{enough}
-use Rattle.laws.proofs.GrantLaws.{grants-fit, grants-few}
-use Rattle.claim.proofs.GrantReply.{accepted-teids}
+use Rattle.laws.proofs.ReportLaws.{granted-reports-fit}
+use Rattle.claim.proofs.ReplyLength.{reports-few}
+use Rattle.claim.proofs.GrantReply.{reportAddress, said, accepted-got}
+use Rattle.claim.proofs.Reported.{said-teids, said-pdr-addresses, said-endpoint-addresses}
 use Rattle.laws.proofs.HeaderLaws.{header-long}
 use Rattle.claim.proofs.Accepting.{SoundAfter}
-use Rattle.claim.proofs.KeptRules.{rules-kept}
+use Rattle.claim.proofs.KeptRules.{RulesKept, rules-kept}
 use Rattle.claim.proofs.FreeTeids.{free-there}
+use Rattle.claim.proofs.FreeAddresses.{ChosenFree, chosen-there}
 use Rattle.claim.proofs.NewHolds.{choices-other}
 use Rattle.claim.proofs.ChangedHolds.{stayingHoldings}
+use Rattle.claim.proofs.ChangedAddresses.{stayingAddresses}
 use Rattle.claim.proofs.Allocation.{pdrChooseId, pdrs-share, Allocates, allocates}
-use Rattle.claim.proofs.FreedTeids.{removed-free, deleted-free, listed-free}
+use Rattle.claim.proofs.Freed.{removed-free, deleted-free, listed-free, removed-address-free, deleted-address-free, listed-address-free}
 use Rattle.claim.proofs.ServeLaws.{Answers, answers, answered-zero, table-kept, served-cause, sessions-after}
 use Rattle.rules.specs.Apply.{goesSession}
 
@@ -44,6 +52,20 @@ passed-allocates limit s m msg p =
     allocates s m r (choices-other r (k .createdPdrsOnce) (k .createdEndpointsOnce)) (enough p)
 
 -- ---- an accepted call
+
+-- does a record choose an address
+unfoldable pub choosesAddress : Option UeIp → Bool
+choosesAddress o = isSome (bindOption o (λ v. pick (ueChooses v) (some v) none))
+
+-- then its report has one
+reported : (a : ℕ) (o : Option UeIp) → T (choosesAddress o) → T (isSome (bindOption o (chosenIp a)))
+unfolding choosesAddress chosenIp
+reported a none h = h
+reported a (some v) h = one (ueChooses v) h
+  where
+    one : (b : Bool) → T (isSome (pick b (some v) none)) → T (isSome (pick b (some a) none))
+    one true k = tt
+    one false k = k
 
 module _ (limit : ℕ) (t msg space : List ℕ) where
   -- the settings, sessions and request at entry, and what the call leaves
@@ -69,6 +91,9 @@ module _ (limit : ℕ) (t msg space : List ℕ) where
     pub sessions : viewSessions (out .table) ≡ sessionsAfter s m msg
     pub teids : (k : Kind) (i : ℕ) → createdTeid (out .space) k i ≡ grantedTeid (grants s m r) k i
     pub allocated : Allocates s m r
+    -- the address of each record that chooses one
+    pub pdrAddresses : Every (λ p. T (choosesAddress (p .address)) → createdAddress (out .space) ofPdr (p .id) ≡ chosenAddress s m) (r .pdrs)
+    pub endpointAddresses : Every (λ e. T (choosesAddress (e .address)) → createdAddress (out .space) ofEndpoint (e .id) ≡ chosenAddress s m) (r .endpoints)
 
   -- the sessions after it keep the rules
   after-allowed : T (octets msg) → Answers limit t msg space → Passed limit s m msg → T (sessionsAllowed limit s (sessionsAfter s m msg))
@@ -80,13 +105,42 @@ module _ (limit : ℕ) (t msg space : List ℕ) where
   unfolding answer answered
   table-there c = ap (λ (n : ℕ). pick (eqb n 1) (encode limit s (sessionsAfter s m msg)) t) c
 
-  -- the reply's Created groups have the TEIDs of the grants
-  teids-there : T (octets msg) → Answers limit t msg space → Passed limit s m msg → verdict limit s m msg .cause ≡ why.accepted → (k : Kind) (i : ℕ)
-      → createdTeid (answer limit s m msg space t .space) k i ≡ grantedTeid (grants s m r) k i
+  -- the reply's Created groups say what the reports say
+  got-there : T (octets msg) → Answers limit t msg space → verdict limit s m msg .cause ≡ why.accepted → (k : Kind) (i : ℕ)
+      → createdGot (answer limit s m msg space t .space) k i ≡ said (reports (granted s m r) r) k i
   unfolding answer answered replyTo
-  teids-there ho a p c k i =
+  got-there ho a c k i =
       let ok = table-kept limit t (a .table) .settings in
-      accepted-teids s ok msg (header-long msg (a .header)) (r .seid) (verdict limit s m msg) c (grants s m r) (grants-fit s ok m msg ho) (grants-few s ok m msg ho (few-new-pdrs p) (few-new-endpoints p)) space k i
+      accepted-got s ok msg (header-long msg (a .header)) (r .seid) (verdict limit s m msg) c (reports (granted s m r) r) (reports-few limit s ok m msg c) space (granted-reports-fit s ok m msg ho) k i
+
+  -- what the request kept of its IDs
+  rules : Passed limit s m msg → RulesKept s m (entrySession m msg) r
+  rules p = rules-kept s m (entrySession m msg) r (p .rules)
+
+  module _ (ho : T (octets msg)) (a : Answers limit t msg space) (p : Passed limit s m msg) (c : verdict limit s m msg .cause ≡ why.accepted) where
+    -- the TEIDs of the grants
+    teids-there : (k : Kind) (i : ℕ) → createdTeid (answer limit s m msg space t .space) k i ≡ grantedTeid (grants s m r) k i
+    unfolding createdGot
+    teids-there k i = ap {B = ℕ} (λ (g : Got). g .teid) (got-there ho a c k i) ∙ said-teids s m r (rules p .createdPdrsOnce) (rules p .createdEndpointsOnce) k i
+
+    -- and the chosen address
+    address-said : (k : Kind) (i : ℕ) → createdAddress (answer limit s m msg space t .space) k i ≡ said (reports (granted s m r) r) k i .address
+    unfolding createdGot
+    address-said k i = ap {B = ℕ} (λ (g : Got). g .address) (got-there ho a c k i)
+
+    pdr-addresses-there : Every (λ q. T (choosesAddress (q .address)) → createdAddress (answer limit s m msg space t .space) ofPdr (q .id) ≡ chosenAddress s m) (r .pdrs)
+    unfolding pdrReport
+    pdr-addresses-there =
+        every-imply (λ q. T (isSome (reportAddress (pdrReport (granted s m r) q))) → said (reports (granted s m r) r) ofPdr (q .id) .address ≡ chosenAddress s m)
+        (λ q. T (choosesAddress (q .address)) → createdAddress (answer limit s m msg space t .space) ofPdr (q .id) ≡ chosenAddress s m)
+        (λ q f g. address-said ofPdr (q .id) ∙ f (reported _ (q .address) g)) (r .pdrs) (said-pdr-addresses s m r (rules p .createdPdrsOnce) (rules p .createdEndpointsOnce))
+
+    endpoint-addresses-there : Every (λ q. T (choosesAddress (q .address)) → createdAddress (answer limit s m msg space t .space) ofEndpoint (q .id) ≡ chosenAddress s m) (r .endpoints)
+    unfolding endpointReport
+    endpoint-addresses-there =
+        every-imply (λ q. T (isSome (reportAddress (endpointReport (granted s m r) q))) → said (reports (granted s m r) r) ofEndpoint (q .id) .address ≡ chosenAddress s m)
+        (λ q. T (choosesAddress (q .address)) → createdAddress (answer limit s m msg space t .space) ofEndpoint (q .id) ≡ chosenAddress s m)
+        (λ q f g. address-said ofEndpoint (q .id) ∙ f (reported _ (q .address) g)) (r .endpoints) (said-endpoint-addresses s m r (rules p .createdPdrsOnce) (rules p .createdEndpointsOnce))
 
   -- outcome 0 and the reply's cause 1
   pub accepted-call : limit < 256 ^ 2 → T (octets msg) → T (accepted (replied msg (out .outcome) (out .space))) → AcceptedCall
@@ -110,6 +164,9 @@ module _ (limit : ℕ) (t msg space : List ℕ) where
         sessions = ap viewSessions table′ ∙ sessions-back s hs limit small (sessionsAfter s m msg) ok;
         teids = λ k i. ap (λ (o : Served). createdTeid (o .space) k i) e ∙ teids-there ho a p cause k i;
         allocated = passed-allocates limit s m msg p;
+        pdrAddresses = subst (λ (o : Served). Every (λ q. T (choosesAddress (q .address)) → createdAddress (o .space) ofPdr (q .id) ≡ chosenAddress s m) (r .pdrs)) (sym e) (pdr-addresses-there ho a p cause);
+        endpointAddresses =
+            subst (λ (o : Served). Every (λ q. T (choosesAddress (q .address)) → createdAddress (o .space) ofEndpoint (q .id) ≡ chosenAddress s m) (r .endpoints)) (sym e) (endpoint-addresses-there ho a p cause);
       }
 
   -- ---- the reply, and the next call on the table that it leaves
@@ -120,6 +177,10 @@ module _ (limit : ℕ) (t msg space : List ℕ) where
 
   abbrev pub freeNext : List ℕ
   freeNext = freeTeids (viewSettings (out .table)) (viewSessions (out .table))
+
+  -- and the addresses
+  abbrev pub freeAddressesNext : List ℕ
+  freeAddressesNext = freeAddresses (viewSettings (out .table)) (viewSessions (out .table))
 
   module _ (ho : T (octets msg)) (c : AcceptedCall) where
     -- the reply's Created group of each record that CHOOSEs has the TEID that it was given
@@ -153,16 +214,37 @@ module _ (limit : ℕ) (t msg space : List ℕ) where
     pub next-removed : T (not (eqb (kindOf msg) setDeletion)) → T (not (eqb (kindOf msg) deletion)) → (n : ℕ) → T (member n (sessionTeids x))
         → T (not (member n (map teidOf (stayingHoldings r x))))
         → T (member n freeNext)
-    next-removed ns nd n h gone = at-next n (removed-free limit s m msg (table-kept limit t (c .answered .table) .sessions) ho ns (c .passed) nd n h gone)
+    next-removed ns nd n h gone = at-next n (removed-free limit s m msg (table-kept limit t (c .answered .table) .sessions) ho ns (c .passed) n h nd gone)
+
+    -- a deletion is no set deletion
+    no-sets : T (eqb (kindOf msg) deletion) → T (not (eqb (kindOf msg) setDeletion))
+    no-sets d = subst (λ (k : ℕ). T (not (eqb k setDeletion))) (sym (eqb→eq (kindOf msg) deletion d)) tt
 
     -- every TEID of the session at entry, after a deletion
     pub next-deleted : T (eqb (kindOf msg) deletion) → (n : ℕ) → T (member n (sessionTeids x))
         → T (member n freeNext)
-    next-deleted d n h =
-        let ns = subst (λ (k : ℕ). T (not (eqb k setDeletion))) (sym (eqb→eq (kindOf msg) deletion d)) tt in
-        at-next n (deleted-free limit s m msg (table-kept limit t (c .answered .table) .sessions) ho ns (c .passed) d n h)
+    next-deleted d n h = at-next n (deleted-free limit s m msg (table-kept limit t (c .answered .table) .sessions) ho (no-sets d) (c .passed) n h d)
 
     -- every TEID of the sessions that a set deletion takes out
     pub next-listed : T (eqb (kindOf msg) setDeletion) → (n : ℕ) → T (member n (heldTeids (keep (goesSession (r .listed)) m)))
         → T (member n freeNext)
     next-listed d n h = at-next n (listed-free limit s m msg (table-kept limit t (c .answered .table) .sessions) d n h)
+
+    -- the address that the request's CHOOSEs get is of the pool, held by no session at entry, and the lowest such
+    pub address-chosen : T (any ueChooses (addressesOf r)) → ChosenFree s m (chosenAddress s m)
+    address-chosen h = chosen-there s m r (c .passed .address) h
+
+    -- what is free at the next call, as of TEIDs
+    at-next-address : (a : ℕ) → T (member a (freeAddresses s (sessionsAfter s m msg))) → T (member a freeAddressesNext)
+    at-next-address a h =
+        subst (λ (z : Settings). T (member a (freeAddresses z (viewSessions (out .table))))) (sym (c .settings)) (subst (λ (l : Sessions). T (member a (freeAddresses s l))) (sym (c .sessions)) h)
+
+    pub next-removed-address : T (not (eqb (kindOf msg) setDeletion)) → T (not (eqb (kindOf msg) deletion)) → (a : ℕ) → T (member a (sessionAddresses s x)) → T (not (member a (stayingAddresses r x))) → T (member a freeAddressesNext)
+    next-removed-address ns nd a h gone = at-next-address a (removed-address-free limit s m msg (table-kept limit t (c .answered .table) .sessions) ho ns (c .passed) a h nd gone)
+
+    pub next-deleted-address : T (eqb (kindOf msg) deletion) → (a : ℕ) → T (member a (sessionAddresses s x)) → T (member a freeAddressesNext)
+    next-deleted-address d a h =
+        at-next-address a (deleted-address-free limit s m msg (table-kept limit t (c .answered .table) .sessions) ho (no-sets d) (c .passed) a h d)
+
+    pub next-listed-address : T (eqb (kindOf msg) setDeletion) → (a : ℕ) → T (member a (heldAddresses s (keep (goesSession (r .listed)) m))) → T (member a freeAddressesNext)
+    next-listed-address d a h = at-next-address a (listed-address-free limit s m msg (table-kept limit t (c .answered .table) .sessions) d a h)

@@ -1,7 +1,7 @@
 -- Demand 3 from one fact: the sessions after an accepted request keep the rules.
 -- Assumes nothing.
-use mathlib.Core.Path.{ap}
-use Prim.Native.Nat.{ℕ, _<_}
+use mathlib.Core.Path.{ap, _∙_}
+use Prim.Native.Nat.{ℕ}
 use mathlib.Core.List.{List}
 use lib.Dec.{T, lit<}
 use Rattle.octets.specs.Octets.{octets}
@@ -10,13 +10,17 @@ use Rattle.rules.specs.Limits.{maxSessions}
 use Rattle.rules.specs.Sound.{settingsAllowed, sessionsAllowed}
 use Rattle.rules.specs.Message.{kindOf, headerSeid, served}
 use Rattle.rules.specs.Reading.{readRequest}
-use Rattle.rules.specs.Grants.{Kind, grants}
-use Rattle.rules.specs.Stages.{verdict}
+use Rattle.rules.specs.Grants.{Kind, Got, granted}
+use Rattle.rules.specs.Stages.{verdict, entrySession}
+use Rattle.rules.specs.Reply.{reports}
 use Rattle.rules.specs.Apply.{follow}
 use Rattle.rules.specs.Serve.{sessionsAfter, replyTo}
-use Rattle.claim.proofs.VerdictLaws.{Passed, passed, few-new-pdrs, few-new-endpoints}
-use Rattle.laws.proofs.GrantLaws.{grants-fit, grants-few}
-use Rattle.claim.proofs.GrantReply.{accepted-cause, accepted-teids}
+use Rattle.claim.proofs.VerdictLaws.{Passed, passed}
+use Rattle.claim.proofs.KeptRules.{rules-kept}
+use Rattle.laws.proofs.ReportLaws.{granted-reports-fit}
+use Rattle.claim.proofs.ReplyLength.{reports-few}
+use Rattle.claim.proofs.GrantReply.{accepted-cause, accepted-got}
+use Rattle.claim.proofs.Reported.{follow-said}
 use Rattle.laws.proofs.HeaderLaws.{header-long}
 use Rattle.claim.proofs.Steps.{AcceptedKeeps, keeps}
 use Rattle.claim.proofs.Runs.{claim}
@@ -33,14 +37,17 @@ unfolding AcceptedKeeps SoundAfter
 accepting limit sound-after s m msg space hs hm ho hh hk e =
     let p = passed limit s m msg e in
     let r = readRequest msg in
-    let gs = grants s m r in
-    let few = grants-few s hs m msg ho (few-new-pdrs p) (few-new-endpoints p) in
-    let fits = grants-fit s hs m msg ho in
+    let k = rules-kept s m (entrySession m msg) r (p .rules) in
+    let gs = reports (granted s m r) r in
+    let few = reports-few limit s hs m msg e in
+    let fits = granted-reports-fit s hs m msg ho in
     let long = header-long msg hh in
     record {
       sound = sound-after s m msg hs hm ho hk p;
-      cause = unfold replyTo in (accepted-cause s hs msg long (r .seid) (verdict limit s m msg) e gs fits few space);
-      teids = unfold replyTo sessionsAfter in (ap {B = Sessions} (λ (f : Kind → ℕ → ℕ). follow f (kindOf msg) (headerSeid msg) r m) (λ j k i. accepted-teids s hs msg long (r .seid) (verdict limit s m msg) e gs fits few space k i j));
+      cause = unfold replyTo in (accepted-cause s hs msg long (r .seid) (verdict limit s m msg) e gs few space);
+      same = unfold replyTo sessionsAfter in (
+          ap {B = Sessions} (λ (f : Kind → ℕ → Got). follow f (kindOf msg) (headerSeid msg) r m) (λ j i n. accepted-got s hs msg long (r .seid) (verdict limit s m msg) e gs few space fits i n j)
+          ∙ follow-said s m r (k .createdPdrsOnce) (k .createdEndpointsOnce) (kindOf msg) (headerSeid msg));
     }
 
 pub demand3-from : SoundAfter maxSessions → Demand3

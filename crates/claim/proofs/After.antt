@@ -17,9 +17,9 @@ use Rattle.octets.proofs.Ordered.{otherKey, keep-all, keep-pairs, keep-length, 
 use Rattle.rules.specs.Model.{Settings, Session, Sessions, seidOf}
 use Rattle.rules.specs.Limits.{maxSessions}
 use Rattle.rules.specs.Sound.{settingsAllowed, sessionAllowed, apart, sessionsTests, sessionsAllowed}
-use Rattle.rules.specs.Message.{kindOf, headerSeid, served, establishment, deletion, setDeletion}
+use Rattle.rules.specs.Message.{kindOf, headerSeid, served, deletion, setDeletion}
 use Rattle.rules.specs.Reading.{readRequest}
-use Rattle.rules.specs.Grants.{grants, grantedTeid}
+use Rattle.rules.specs.Grants.{granted}
 use Rattle.rules.specs.Stages.{hasSeid, sessionOf, isLive, newSession, atEntry, entrySession, unknownSession, tooManySessions, unnamed}
 use Rattle.rules.specs.Apply.{apply, otherSession, removeSession, putSession, follow, staysSession}
 use Rattle.rules.specs.Serve.{sessionsAfter}
@@ -42,7 +42,7 @@ keep-allowed limit s q m h =
         keep-ascending q seidOf m (e .1 .0),
         (
           keep-all q (sessionAllowed s) m (e .1 .1 .0),
-          (keep-pairs q apart m (e .1 .1 .1 .0), tt),
+          (keep-pairs q (apart s) m (e .1 .1 .1 .0), tt),
         ),
       ),
     )
@@ -76,7 +76,7 @@ live-any n (y ∷ m) h = one (eqb (y .seid) n) (λ g. live-any n m g) h
 
 -- the session that a request makes or changes
 unfoldable pub changed : Settings → Sessions → List ℕ → Session
-changed s m msg = apply (grantedTeid (grants s m (readRequest msg))) (readRequest msg) (entrySession m msg)
+changed s m msg = apply (granted s m (readRequest msg)) (readRequest msg) (entrySession m msg)
 
 pub found-seid : (n : ℕ) (m : Sessions) → T (isLive n m) → valueOr (newSession n) (sessionOf n m) .seid ≡ n
 unfolding isLive sessionOf findBy hasSeid
@@ -95,7 +95,7 @@ unfolding entrySession atEntry tooManySessions unknownSession sessionsAllowed se
 room-beside limit s m msg hm ns p = one (unnamed (kindOf msg)) (p .known) (subst (λ (b : Bool). T (not (b && leb limit (length m)))) (sym (unnamed-new (kindOf msg) ns)) (p .room .0))
   where
     few : length m ≤ limit
-    few = leb→le (length m) limit (each (leb (length m) limit ∷ ascending (map seidOf m) ∷ all (sessionAllowed s) m ∷ allPairs apart m ∷ []) hm .0)
+    few = leb→le (length m) limit (each (leb (length m) limit ∷ ascending (map seidOf m) ∷ all (sessionAllowed s) m ∷ allPairs (apart s) m ∷ []) hm .0)
 
     one : (b : Bool) → T (not (not b && not (isLive (headerSeid msg) m))) → T (not (b && leb limit (length m)))
         → length (removeSession (pick b (newSession (readRequest msg .seid)) (valueOr (newSession (headerSeid msg)) (sessionOf (headerSeid msg) m)) .seid) m) < limit
@@ -111,10 +111,10 @@ room-beside limit s m msg hm ns p = one (unnamed (kindOf msg)) (p .known) (subst
         taken : T (isLive (headerSeid msg) m) → length (removeSession (headerSeid msg) m) < length m
         taken h = unfold removeSession in (keep-less (otherSession (headerSeid msg)) m (live-any (headerSeid msg) m h))
 
--- what is left to prove, of that session alone: it keeps the rules, and no other session holds its TEIDs
+-- what is left to prove, of that session alone: it keeps the rules, and no other session holds its TEIDs or addresses
 pub record OwnSound (s : Settings) (m : Sessions) (msg : List ℕ) : Type 0 where
   pub sound : T (sessionAllowed s (changed s m msg))
-  pub separate : T (all (apart (changed s m msg)) (removeSession (changed s m msg .seid) m))
+  pub separate : T (all (apart s (changed s m msg)) (removeSession (changed s m msg .seid) m))
 
 unfoldable pub ChangedSound : ℕ → Type 0
 ChangedSound limit =
@@ -135,13 +135,13 @@ sound-after limit changes s m msg hs hm ho hk p = sets (eqb (kindOf msg) setDele
 
     go : T (not (eqb (kindOf msg) setDeletion)) → (b : Bool) → eqb (kindOf msg) deletion ≡ b
         → T (sessionsAllowed limit s (pick b (removeSession (headerSeid msg) m)
-        (putSession (apply (grantedTeid (grants s m (readRequest msg))) (readRequest msg) (atEntry (kindOf msg) (headerSeid msg) (readRequest msg) m)) m)))
+        (putSession (apply (granted s m (readRequest msg)) (readRequest msg) (atEntry (kindOf msg) (headerSeid msg) (readRequest msg) m)) m)))
     go ns true e = remove-allowed limit s (headerSeid msg) m hm
     go ns false e = unfold changed entrySession in (put ns (subst (λ (b : Bool). T (not b)) (sym e) tt))
 
     sets : (b : Bool) → eqb (kindOf msg) setDeletion ≡ b
         → T (sessionsAllowed limit s (pick b (keep (staysSession (readRequest msg .listed)) m) (pick (eqb (kindOf msg) deletion) (removeSession (headerSeid msg) m)
-        (putSession (apply (grantedTeid (grants s m (readRequest msg))) (readRequest msg) (atEntry (kindOf msg) (headerSeid msg) (readRequest msg) m)) m))))
+        (putSession (apply (granted s m (readRequest msg)) (readRequest msg) (atEntry (kindOf msg) (headerSeid msg) (readRequest msg) m)) m))))
     sets true e = keep-allowed limit s (staysSession (readRequest msg .listed)) m hm
     sets false e = go (subst (λ (b : Bool). T (not b)) (sym e) tt) (eqb (kindOf msg) deletion) refl
 

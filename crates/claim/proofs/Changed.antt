@@ -1,23 +1,24 @@
--- The session that an accepted establishment or modification makes or changes keeps the rules and shares no TEID with another; and so demand 3.
+-- The session that an accepted establishment or modification makes or changes keeps the rules and shares no TEID and no address with another;
+-- and so demand 3.
 -- Assumes nothing.
 use mathlib.Core.Path.{_≡_, refl, sym, subst, _∙_}
-use Prim.Native.Nat.{ℕ, _≤_}
+use Prim.Native.Nat.{ℕ, _^_, _≤_}
 use mathlib.Core.Bool.{Bool, true, false, not, _&&_}
 use mathlib.Core.Option.{Option, none, some}
 use mathlib.Core.List.{List}
 use lib.ListN.{length}
-use lib.Dec.{T, eqb, eqb→eq}
+use lib.Dec.{T, ltb, eqb, eqb→eq}
 use Rattle.octets.specs.Choice.{pick, isSome, valueOr}
 use Rattle.octets.specs.Octets.{octets}
 use Rattle.octets.specs.Lists.{member, anyIn, ascending, all, allPairs, keep, findBy, collect}
 use Rattle.octets.proofs.ListLaws.{not-not, all-every, all-always, found-passes, found-knows, found-others}
-use Rattle.rules.specs.Model.{Settings, Session, Sessions, sessionHoldings, sessionTeids, heldTeids, freeTeids}
+use Rattle.rules.specs.Model.{Settings, Session, Sessions, sessionHoldings, sessionTeids, heldTeids, freeTeids, sessionAddresses, heldAddresses}
 use Rattle.rules.specs.Limits.{maxSessions}
 use Rattle.rules.specs.Sound.{sessionAllowed, sessionsAllowed, apart}
-use Rattle.rules.specs.Message.{kindOf, headerSeid, establishment, setDeletion}
+use Rattle.rules.specs.Message.{kindOf, headerSeid, setDeletion}
 use Rattle.rules.specs.Reading.{readFault, readRequest, Request}
-use Rattle.rules.specs.Grants.{Kind, grants, grantedTeid, need}
-use Rattle.rules.specs.Stages.{hasSeid, sessionOf, isLive, newSession, atEntry, entrySession, unknownSession, invalidAllocation, unnamed}
+use Rattle.rules.specs.Grants.{Kind, chosenAddress, Got, granted, need}
+use Rattle.rules.specs.Stages.{hasSeid, sessionOf, isLive, newSession, atEntry, entrySession, unknownSession, invalidAllocation, noAddress, unnamed}
 use Rattle.rules.specs.Apply.{apply, otherSession, removeSession}
 use Rattle.claim.proofs.RestoreAll.{apart-turn}
 use Rattle.claim.proofs.VerdictLaws.{Passed}
@@ -27,18 +28,22 @@ use Rattle.laws.proofs.RequestLaws.{RequestRead, request-read, seid-read}
 use Rattle.claim.proofs.KeptRules.{SessionKept, session-kept, session-allowed, sessions-kept, RulesKept, rules-kept, RoomLeft, room-left}
 use Rattle.claim.proofs.ChangedCsids.{CsidsKept, csids-kept, csids-few}
 use Rattle.claim.proofs.ChangedRecords.{endpoints-few, endpoints-order, endpoints-allowed, pdrs-few, pdrs-order, pdrs-allowed}
-use Rattle.claim.proofs.ChangedHolds.{all-held, changed-agree, changed-apart}
+use Rattle.claim.proofs.HeldLaws.{all-held, all-addresses-held}
+use Rattle.claim.proofs.ChangedHolds.{changed-agree}
+use Rattle.claim.proofs.ChangedAddresses.{changed-apart}
+use Rattle.laws.proofs.GrantLaws.{chosen-address-fits}
 use Rattle.claim.proofs.After.{changed, ChangedSound, demand3-from-changed}
 use Rattle.rules.specs.Claim.{Demand3}
 use Rattle.laws.proofs.HeaderLaws.{unnamed-new}
 
 -- ---- the session at entry
 
--- it keeps the rules, its TEIDs are held, and no other session holds them
+-- it keeps the rules, its TEIDs and its addresses of the pool are held, and no other session holds them
 pub record Entry (s : Settings) (m : Sessions) (x : Session) : Type 0 where
   pub kept : SessionKept s x
   pub held : T (all (λ n. member n (heldTeids m)) (sessionTeids x))
-  pub separate : T (all (apart x) (removeSession (x .seid) m))
+  pub heldAddresses : T (all (λ n. member n (heldAddresses s m)) (sessionAddresses s x))
+  pub separate : T (all (apart s x) (removeSession (x .seid) m))
 
 -- a new session
 new-entry : (s : Settings) (m : Sessions) (n : ℕ) → SeidRead n → Entry s m (newSession n)
@@ -60,7 +65,8 @@ new-entry s m n h =
         holds = unfold sessionHoldings collect allPairs in tt;
       };
       held = unfold sessionTeids sessionHoldings collect all in tt;
-      separate = all-always (apart (newSession n)) (λ z. unfold apart sessionTeids sessionHoldings collect anyIn in tt) (removeSession n m);
+      heldAddresses = unfold sessionAddresses collect keep all in tt;
+      separate = all-always (apart s (newSession n)) (λ z. unfold apart sessionTeids sessionHoldings sessionAddresses collect keep anyIn in tt) (removeSession n m);
     }
 
 -- the one found has the SEID
@@ -68,10 +74,11 @@ found-has : (m : Sessions) (n : ℕ) (x : Session) → findBy (hasSeid n) m ≡ 
 unfolding hasSeid
 found-has m n x e = eqb→eq (x .seid) n (found-passes (hasSeid n) m x e)
 
--- and no other session holds its TEIDs
-found-separate : (m : Sessions) (n : ℕ) (x : Session) → T (allPairs apart m) → findBy (hasSeid n) m ≡ some x → T (all (apart x) (removeSession (x .seid) m))
+-- and no other session holds its TEIDs or addresses
+found-separate : (s : Settings) (m : Sessions) (n : ℕ) (x : Session) → T (allPairs (apart s) m) → findBy (hasSeid n) m ≡ some x → T (all (apart s x) (removeSession (x .seid) m))
 unfolding removeSession otherSession
-found-separate m n x h e = subst (λ (i : ℕ). T (all (apart x) (keep (λ z. not (hasSeid i z)) m))) (sym (found-has m n x e)) (found-others apart apart-turn (hasSeid n) m x h e)
+found-separate s m n x h e =
+    subst (λ (i : ℕ). T (all (apart s x) (keep (λ z. not (hasSeid i z)) m))) (sym (found-has m n x e)) (found-others (apart s) (apart-turn s) (hasSeid n) m x h e)
 
 -- a live one
 found-entry : (limit : ℕ) (s : Settings) (m : Sessions) (n : ℕ) → T (sessionsAllowed limit s m) → T (isLive n m) → Entry s m (valueOr (newSession n) (sessionOf n m))
@@ -85,7 +92,9 @@ found-entry limit s m n hm live = one (findBy (hasSeid n) m) refl live
         record {
           kept = session-kept s x (found-knows (λ z. T (sessionAllowed s z)) (hasSeid n) m x (all-every (sessionAllowed s) m (k .sessions)) e);
           held = found-knows (λ z. T (all (λ t. member t (heldTeids m)) (sessionTeids z))) (hasSeid n) m x (all-every (λ z. all (λ t. member t (heldTeids m)) (sessionTeids z)) m (all-held m)) e;
-          separate = found-separate m n x (k .separate) e;
+          heldAddresses = found-knows (λ z. T (all (λ t. member t (heldAddresses s m)) (sessionAddresses s z))) (hasSeid n) m x
+              (all-every (λ z. all (λ t. member t (heldAddresses s m)) (sessionAddresses s z)) m (all-addresses-held s m)) e;
+          separate = found-separate s m n x (k .separate) e;
         }
 
 -- the one that a request without a fault is about
@@ -105,39 +114,39 @@ entry-sound limit s m msg hm ho ns p = entry-known limit s m msg hm ho ns (p .kn
 -- ---- the session afterwards
 
 module _ (limit kind : ℕ) (s : Settings) (m : Sessions) (x : Session) (r : Request) (entry : Entry s m x) (rules : RulesKept s m x r) (room : RoomLeft limit kind s m x r) (read : RequestRead r)
-    (enough′ : need r ≤ length (freeTeids s m)) (ok : T (not (invalidAllocation r))) where
-  -- what is looked up among the grants
-  abbrev teids : Kind → ℕ → ℕ
-  teids = grantedTeid (grants s m r)
+    (enough′ : need r ≤ length (freeTeids s m)) (ok : T (not (invalidAllocation r))) (found : T (not (noAddress s m r))) (fits : T (ltb (chosenAddress s m) (2 ^ 32))) where
+  -- what the records get
+  abbrev got : Kind → ℕ → Got
+  got = granted s m r
 
   -- its FQ-CSIDs
-  csids-after : CsidsKept (apply teids r x .csids)
+  csids-after : CsidsKept (apply got r x .csids)
   unfolding apply
   csids-after = csids-kept (r .csids) (x .csids) (read .csids) (record { order = entry .kept .csidOrder; each = entry .kept .csids })
 
   -- it keeps every rule
-  pub applied-kept : SessionKept s (apply teids r x)
+  pub applied-kept : SessionKept s (apply got r x)
   applied-kept =
       let k = entry .kept in
       record {
         seid = unfold apply in (k .seid);
         seidFits = unfold apply in (k .seidFits);
-        fewPdrs = unfold apply in (pdrs-few limit kind s m x r k rules room read enough′);
-        pdrOrder = unfold apply in (pdrs-order limit kind s m x r k rules room read enough′);
-        pdrs = unfold apply in (pdrs-allowed limit kind s m x r k rules room read enough′);
-        fewEndpoints = unfold apply in (endpoints-few limit kind s m x r k rules room read enough′);
-        endpointOrder = unfold apply in (endpoints-order limit kind s m x r k rules room read enough′);
-        endpoints = unfold apply in (endpoints-allowed limit kind s m x r k rules room read enough′);
-        fewCsids = csids-few (apply teids r x .csids) csids-after;
+        fewPdrs = unfold apply in (pdrs-few limit kind s m x r k rules room read enough′ fits);
+        pdrOrder = unfold apply in (pdrs-order limit kind s m x r k rules room read enough′ fits);
+        pdrs = unfold apply in (pdrs-allowed limit kind s m x r k rules room read enough′ fits);
+        fewEndpoints = unfold apply in (endpoints-few limit kind s m x r k rules room read enough′ fits);
+        endpointOrder = unfold apply in (endpoints-order limit kind s m x r k rules room read enough′ fits);
+        endpoints = unfold apply in (endpoints-allowed limit kind s m x r k rules room read enough′ fits);
+        fewCsids = csids-few (apply got r x .csids) csids-after;
         csidOrder = csids-after .order;
         csids = csids-after .each;
         holds = changed-agree s m x r k rules read enough′ (entry .held) ok;
       }
 
-  -- and no other session holds its TEIDs
-  pub applied-separate : T (all (apart (apply teids r x)) (removeSession (x .seid) m))
+  -- and no other session holds its TEIDs or addresses
+  pub applied-separate : T (all (apart s (apply got r x)) (removeSession (x .seid) m))
   unfolding removeSession
-  applied-separate = changed-apart s m x r (entry .kept) rules read enough′ (entry .held) (otherSession (x .seid)) (entry .separate)
+  applied-separate = changed-apart s m x r rules found (entry .kept) read enough′ (entry .held) (otherSession (x .seid)) (entry .separate)
 
 -- the open fact of the sequence claim, for any number of session slots
 pub changed-sound : (limit : ℕ) → ChangedSound limit
@@ -149,8 +158,8 @@ changed-sound limit s m msg hs hm ho hk ns nd p =
     let rules = rules-kept s m x r (p .rules) in
     let room = room-left limit (kindOf msg) s m x r (p .room) in
     record {
-      sound = unfold changed in (session-allowed (applied-kept limit (kindOf msg) s m x r entry rules room (request-read msg ho) (enough p) (p .allocation)));
-      separate = unfold changed apply in (applied-separate limit (kindOf msg) s m x r entry rules room (request-read msg ho) (enough p) (p .allocation));
+      sound = unfold changed in (session-allowed (applied-kept limit (kindOf msg) s m x r entry rules room (request-read msg ho) (enough p) (p .allocation) (p .address) (chosen-address-fits s hs m)));
+      separate = unfold changed apply in (applied-separate limit (kindOf msg) s m x r entry rules room (request-read msg ho) (enough p) (p .allocation) (p .address) (chosen-address-fits s hs m));
     }
 
 -- demand 3

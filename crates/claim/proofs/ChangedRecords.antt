@@ -16,14 +16,15 @@ use Rattle.octets.proofs.Ordered.{keep-all}
 use Rattle.octets.proofs.ListLaws.{Every, onSome, OnSome, all-imply, all-join, all-know, all-front, all-behind, all-map, all-collect, map-map, map-same, collect-map, collect-same}
 use Rattle.octets.proofs.MemberLaws.{all-in, keptKey, member-front, member-without}
 use Rattle.claim.proofs.RecordsAfter.{after, after-length, after-ascending, after-all, after-keys}
-use Rattle.rules.specs.Model.{Settings, Place, neither, tunnel, endpoint, Pdr, Endpoint, Session, Sessions, freeTeids, pdrId, endpointId, placeEndpoint, pdrEndpoint, pdrHolding}
+use Rattle.rules.specs.Model.{Settings, Place, neither, tunnel, endpoint, Pdr, Endpoint, Session, Sessions, freeTeids, pdrId, endpointId, placeEndpoint, pdrEndpoint, pdrHolding, pdrAddress}
 use Rattle.rules.specs.Limits.{maxPdrs, maxEndpoints}
-use Rattle.rules.specs.Elements.{Fteid}
-use Rattle.rules.specs.Sound.{tunnelAllowed, placeAllowed, farAllowed, pdrAllowed, endpointAllowed}
+use Rattle.rules.specs.Elements.{Fteid, UeIp, ueGiven, ueChoose, ueOther, ueAddress}
+use Rattle.rules.specs.Sound.{tunnelAllowed, placeAllowed, farAllowed, addressAllowed, pdrAllowed, endpointAllowed}
 use Rattle.rules.specs.Reading.{Change, Request}
-use Rattle.rules.specs.Grants.{Kind, ofPdr, grants, grantedTeid, need}
+use Rattle.rules.specs.Grants.{Kind, ofPdr, grants, grantedTeid, chosenAddress, Got, granted, need}
 use Rattle.rules.specs.Stages.{namedEndpoint, createdPdrs, createdEndpoints, livePdrs, liveEndpoints, endpointIdsAfter, removedPdrs}
-use Rattle.rules.specs.Apply.{namedPlace, placeFrom, createPdr, createEndpoint, orOld, updatePdr, updateAll, keptPdr, keptEndpoint, pdrsAfter, endpointsAfter}
+use Rattle.rules.specs.Apply.{namedPlace, placeFrom, addressGot, addressFrom, createPdr, createEndpoint, orOld, updatePdr, updateAll, keptPdr, keptEndpoint, pdrsAfter, endpointsAfter}
+use Rattle.laws.proofs.ReadLaws.{UeRead}
 use Rattle.laws.proofs.RequestLaws.{PdrRead, EndpointRead, ChangeRead, RequestRead}
 use Rattle.claim.proofs.RemovedPdrs.{removed-live, removed-once, stays-named}
 use Rattle.claim.proofs.KeptRules.{pdr-kept, pdr-allowed, endpoint-allowed, SessionKept, RulesKept, RoomLeft}
@@ -50,6 +51,11 @@ pub update-holding : (c : Change) (p : Pdr) → pdrHolding (updatePdr c p) ≡ p
 unfolding updatePdr pdrHolding
 update-holding c p = pick-either (λ (q : Pdr). pdrHolding q ≡ pdrHolding p) (eqb (p .id) (c .id)) _ p refl refl
 
+-- the address
+pub update-address : (c : Change) (p : Pdr) → pdrAddress (updatePdr c p) ≡ pdrAddress p
+unfolding updatePdr
+update-address c p = pick-either (λ (q : Pdr). q .address ≡ p .address) (eqb (p .id) (c .id)) _ p refl refl
+
 -- the holds of updated PDRs
 pub update-holds : (cs : List Change) (ps : List Pdr) → collect pdrHolding (updateAll cs ps) ≡ collect pdrHolding ps
 unfolding updateAll
@@ -61,7 +67,7 @@ update-one : (s : Settings) (live : List ℕ) (c : Change) → ChangeRead c → 
 unfolding updatePdr
 update-one s live c k p h =
     let old = pdr-kept s live p h in
-    let new : Pdr = record { id = p .id; precedence = orOld (p .precedence) (c .precedence); far = orOld (p .far) (c .far); source = p .source; place = p .place } in
+    let new : Pdr = record { id = p .id; precedence = orOld (p .precedence) (c .precedence); far = orOld (p .far) (c .far); source = p .source; place = p .place; address = p .address } in
     pick-either (λ (q : Pdr). T (pdrAllowed s live q)) (eqb (p .id) (c .id)) new p
     (pdr-allowed {s = s} {live = live} {p = new} (record {
       id = old .id;
@@ -69,6 +75,7 @@ update-one s live c k p h =
       far = far-id (c .far) (k .far) (old .far);
       source = old .source;
       place = old .place;
+      address = old .address;
     })) h
   where
     number : (o : Option ℕ) → OnSome (λ n. T (ltb n (2 ^ 32))) o → T (ltb (p .precedence) (2 ^ 32)) → T (ltb (orOld (p .precedence) o) (2 ^ 32))
@@ -87,30 +94,51 @@ update-allowed s live (c ∷ cs) ps k h =
     update-allowed s live cs (map (updatePdr c) ps) (k .1)
     (subst T (sym (all-map (updatePdr c) (pdrAllowed s live) ps)) (all-imply (pdrAllowed s live) (λ p. pdrAllowed s live (updatePdr c p)) (update-one s live c (k .0)) ps h))
 
+-- ---- addresses
+
+-- those of updated PDRs
+pub update-addresses : (cs : List Change) (ps : List Pdr) → collect pdrAddress (updateAll cs ps) ≡ collect pdrAddress ps
+unfolding updateAll
+update-addresses [] ps = refl
+update-addresses (c ∷ cs) ps =
+    update-addresses cs (map (updatePdr c) ps) ∙ collect-map (updatePdr c) pdrAddress ps ∙ collect-same (λ p. pdrAddress (updatePdr c p)) pdrAddress (update-address c) ps
+
+-- a new record's address has four octets
+address-made : (n : ℕ) → T (ltb n (2 ^ 32)) → (o : Option UeIp) → OnSome UeRead o → T (addressAllowed (addressFrom n o))
+unfolding addressAllowed addressFrom addressGot ueAddress
+address-made n h none k = tt
+address-made n h (some (ueGiven a)) k = k
+address-made n h (some ueChoose) k = h
+address-made n h (some ueOther) k = tt
+
 -- ---- a session that keeps the rules, and a request that keeps them and finds room
 
-module _ (limit kind : ℕ) (s : Settings) (m : Sessions) (x : Session) (r : Request) (kept : SessionKept s x) (rules : RulesKept s m x r) (room : RoomLeft limit kind s m x r) (read : RequestRead r) (enough : need r ≤ length (freeTeids s m)) where
-  -- what is looked up among the grants
+module _ (limit kind : ℕ) (s : Settings) (m : Sessions) (x : Session) (r : Request) (kept : SessionKept s x) (rules : RulesKept s m x r) (room : RoomLeft limit kind s m x r) (read : RequestRead r) (enough : need r ≤ length (freeTeids s m))
+    (fits : T (ltb (chosenAddress s m) (2 ^ 32))) where
+  -- what the records get, and the TEIDs of it
+  abbrev got : Kind → ℕ → Got
+  got = granted s m r
+
   abbrev teids : Kind → ℕ → ℕ
   teids = grantedTeid (grants s m r)
 
   -- the endpoints that the request makes
   abbrev newEndpoints : List Endpoint
-  newEndpoints = map (createEndpoint teids) (r .endpoints)
+  newEndpoints = map (createEndpoint got) (r .endpoints)
 
   -- the PDRs that the request makes
   abbrev newPdrs : List Pdr
-  newPdrs = map (createPdr teids) (r .pdrs)
+  newPdrs = map (createPdr got) (r .pdrs)
 
   -- the IDs of the new records are the created ones
   endpoint-ids : map endpointId newEndpoints ≡ createdEndpoints r
   unfolding createEndpoint createdEndpoints
-  endpoint-ids = map-map (createEndpoint teids) endpointId (r .endpoints)
+  endpoint-ids = map-map (createEndpoint got) endpointId (r .endpoints)
 
   -- the same for PDRs
   pdr-ids : map pdrId newPdrs ≡ createdPdrs r
   unfolding createPdr createdPdrs
-  pdr-ids = map-map (createPdr teids) pdrId (r .pdrs)
+  pdr-ids = map-map (createPdr got) pdrId (r .pdrs)
 
   -- their F-TEIDs keep the rule of the table
   tunnels : T (all (λ l. tunnelAllowed s (localTunnel teids l)) (locals r))
@@ -119,37 +147,37 @@ module _ (limit kind : ℕ) (s : Settings) (m : Sessions) (x : Session) (r : Req
   -- ---- endpoints
 
   -- at most 8 endpoints
-  pub endpoints-few : T (leb (length (endpointsAfter teids r (x .endpoints))) maxEndpoints)
+  pub endpoints-few : T (leb (length (endpointsAfter got r (x .endpoints))) maxEndpoints)
   unfolding endpointsAfter keptEndpoint
   endpoints-few =
       let a = after-length endpointId (r .goneEndpoints) newEndpoints (x .endpoints) (rules .goneEndpointsOnce) (unfold liveEndpoints in (rules .goneEndpointsLive)) in
-      let b = length-map (r .endpoints) (createEndpoint teids) in
+      let b = length-map (r .endpoints) (createEndpoint got) in
       let c = room .endpoints in
       let d : length (after endpointId (r .goneEndpoints) newEndpoints (x .endpoints)) ≤ maxEndpoints = omega arith in
       yes-leb d
 
   -- in ascending order of ID
-  pub endpoints-order : T (ascending (map endpointId (endpointsAfter teids r (x .endpoints))))
+  pub endpoints-order : T (ascending (map endpointId (endpointsAfter got r (x .endpoints))))
   unfolding endpointsAfter keptEndpoint
   endpoints-order =
       after-ascending endpointId (r .goneEndpoints) newEndpoints (x .endpoints) (subst (λ (l : List ℕ). T (not (hasRepeat l))) (sym endpoint-ids) (rules .createdEndpointsOnce))
       (subst (λ (l : List ℕ). T (not (anyIn l (map endpointId (x .endpoints))))) (sym endpoint-ids) (unfold liveEndpoints in (rules .createdEndpointsNew))) (kept .endpointOrder)
 
   -- each by its rule
-  pub endpoints-allowed : T (all (endpointAllowed s) (endpointsAfter teids r (x .endpoints)))
+  pub endpoints-allowed : T (all (endpointAllowed s) (endpointsAfter got r (x .endpoints)))
   unfolding endpointsAfter keptEndpoint
   endpoints-allowed =
       after-all endpointId (r .goneEndpoints) newEndpoints (x .endpoints) (endpointAllowed s)
-      (subst T (sym (all-map (createEndpoint teids) (endpointAllowed s) (r .endpoints)))
-      (all-know EndpointRead (λ e. tunnelAllowed s (localTunnel teids (endpointNew e))) (λ e. endpointAllowed s (createEndpoint teids e))
-      (λ e k h. unfold createEndpoint in (endpoint-allowed {s = s} {e = createEndpoint teids e} (record { id = k .id; local = h }))) (r .endpoints) (read .endpoints)
+      (subst T (sym (all-map (createEndpoint got) (endpointAllowed s) (r .endpoints)))
+      (all-know EndpointRead (λ e. tunnelAllowed s (localTunnel teids (endpointNew e))) (λ e. endpointAllowed s (createEndpoint got e))
+      (λ e k h. unfold createEndpoint in (endpoint-allowed {s = s} {e = createEndpoint got e} (record { id = k .id; local = unfold granted in h; address = unfold granted in (address-made (chosenAddress s m) fits (e .address) (k .address)) }))) (r .endpoints) (read .endpoints)
       (subst T (all-map endpointNew (λ l. tunnelAllowed s (localTunnel teids l)) (r .endpoints))
       (all-front (λ l. tunnelAllowed s (localTunnel teids l)) (map endpointNew (r .endpoints)) (collect pdrNew (r .pdrs)) (unfold locals in tunnels)))))
       (keep-all (keptKey endpointId (r .goneEndpoints)) (endpointAllowed s) (x .endpoints) (kept .endpoints))
 
   -- the IDs of the endpoints afterwards
   abbrev liveAfter : List ℕ
-  liveAfter = map endpointId (endpointsAfter teids r (x .endpoints))
+  liveAfter = map endpointId (endpointsAfter got r (x .endpoints))
 
   -- an ID that is there afterwards by 01's rule is there
   named-live : (k : ℕ) → T (member k (endpointIdsAfter x r)) → T (member k liveAfter)
@@ -169,24 +197,24 @@ module _ (limit kind : ℕ) (s : Settings) (m : Sessions) (x : Session) (r : Req
   basePdrs = after pdrId gone newPdrs (x .pdrs)
 
   -- the updates keep the IDs
-  pdr-keys : map pdrId (pdrsAfter teids r (x .pdrs)) ≡ map pdrId basePdrs
+  pdr-keys : map pdrId (pdrsAfter got r (x .pdrs)) ≡ map pdrId basePdrs
   unfolding pdrsAfter keptPdr
   pdr-keys = update-map pdrId update-id (r .changes) basePdrs
 
   -- at most 16 PDRs
-  pub pdrs-few : T (leb (length (pdrsAfter teids r (x .pdrs))) maxPdrs)
+  pub pdrs-few : T (leb (length (pdrsAfter got r (x .pdrs))) maxPdrs)
   pdrs-few =
       let a = after-length pdrId gone newPdrs (x .pdrs) (removed-once r (x .pdrs) (kept .pdrOrder)) (removed-live r (x .pdrs)) in
-      let b = length-map (r .pdrs) (createPdr teids) in
+      let b = length-map (r .pdrs) (createPdr got) in
       let c = room .pdrs in
       let e = ap length pdr-keys in
-      let f = length-map (pdrsAfter teids r (x .pdrs)) pdrId in
+      let f = length-map (pdrsAfter got r (x .pdrs)) pdrId in
       let g = length-map basePdrs pdrId in
-      let d : length (pdrsAfter teids r (x .pdrs)) ≤ maxPdrs = omega arith in
+      let d : length (pdrsAfter got r (x .pdrs)) ≤ maxPdrs = omega arith in
       yes-leb d
 
   -- in ascending order of ID
-  pub pdrs-order : T (ascending (map pdrId (pdrsAfter teids r (x .pdrs))))
+  pub pdrs-order : T (ascending (map pdrId (pdrsAfter got r (x .pdrs))))
   pdrs-order =
       subst (λ (l : List ℕ). T (ascending l)) (sym pdr-keys)
       (after-ascending pdrId gone newPdrs (x .pdrs) (subst (λ (l : List ℕ). T (not (hasRepeat l))) (sym pdr-ids) (rules .createdPdrsOnce))
@@ -195,16 +223,17 @@ module _ (limit kind : ℕ) (s : Settings) (m : Sessions) (x : Session) (r : Req
   -- a new PDR keeps its rule
   new-pdrs-allowed : T (all (pdrAllowed s liveAfter) newPdrs)
   new-pdrs-allowed =
-      subst T (sym (all-map (createPdr teids) (pdrAllowed s liveAfter) (r .pdrs)))
-      (all-know PdrRead (λ p. onSome (λ l. tunnelAllowed s (localTunnel teids l)) (pdrNew p) && onSome (λ n. member n (endpointIdsAfter x r)) (p .endpoint)) (λ p. pdrAllowed s liveAfter (createPdr teids p))
-      (λ p k h. unfold createPdr in (pdr-allowed {s = s} {live = liveAfter} {p = createPdr teids p} (record {
+      subst T (sym (all-map (createPdr got) (pdrAllowed s liveAfter) (r .pdrs)))
+      (all-know PdrRead (λ p. onSome (λ l. tunnelAllowed s (localTunnel teids l)) (pdrNew p) && onSome (λ n. member n (endpointIdsAfter x r)) (p .endpoint)) (λ p. pdrAllowed s liveAfter (createPdr got p))
+      (λ p k h. unfold createPdr in (pdr-allowed {s = s} {live = liveAfter} {p = createPdr got p} (record {
         id = k .id;
         precedence = k .precedence;
         far = k .far;
         source = k .source;
-        place = place (p .id) (p .source) (p .local) (p .endpoint) (k .endpoint)
+        place = unfold granted in (place (p .id) (p .source) (p .local) (p .endpoint) (k .endpoint)
             (and-left (onSome (λ l. tunnelAllowed s (localTunnel teids l)) (pdrNew p)) (onSome (λ n. member n (endpointIdsAfter x r)) (p .endpoint)) h)
-            (and-right (onSome (λ l. tunnelAllowed s (localTunnel teids l)) (pdrNew p)) (onSome (λ n. member n (endpointIdsAfter x r)) (p .endpoint)) h);
+            (and-right (onSome (λ l. tunnelAllowed s (localTunnel teids l)) (pdrNew p)) (onSome (λ n. member n (endpointIdsAfter x r)) (p .endpoint)) h));
+        address = unfold granted in (address-made (chosenAddress s m) fits (p .address) (k .address));
       }))) (r .pdrs) (read .pdrs)
       (all-join (λ p. onSome (λ l. tunnelAllowed s (localTunnel teids l)) (pdrNew p)) (λ p. onSome (λ n. member n (endpointIdsAfter x r)) (p .endpoint))
       (λ p. onSome (λ l. tunnelAllowed s (localTunnel teids l)) (pdrNew p) && onSome (λ n. member n (endpointIdsAfter x r)) (p .endpoint))
@@ -239,10 +268,10 @@ module _ (limit kind : ℕ) (s : Settings) (m : Sessions) (x : Session) (r : Req
       one : (p : Pdr) → T (pdrAllowed s (map endpointId (x .endpoints)) p) → T (onSome (λ n. not (member n (r .goneEndpoints))) (pdrEndpoint p)) → T (pdrAllowed s liveAfter p)
       one p h g =
           let k = pdr-kept s (map endpointId (x .endpoints)) p h in
-          pdr-allowed {s = s} {live = liveAfter} {p = p} (record { id = k .id; precedence = k .precedence; far = k .far; source = k .source; place = place (p .place) (k .place) (unfold pdrEndpoint in g) })
+          pdr-allowed {s = s} {live = liveAfter} {p = p} (record { id = k .id; precedence = k .precedence; far = k .far; source = k .source; place = place (p .place) (k .place) (unfold pdrEndpoint in g); address = k .address })
 
   -- every PDR afterwards keeps its rule
-  pub pdrs-allowed : T (all (pdrAllowed s liveAfter) (pdrsAfter teids r (x .pdrs)))
+  pub pdrs-allowed : T (all (pdrAllowed s liveAfter) (pdrsAfter got r (x .pdrs)))
   unfolding pdrsAfter keptPdr
   pdrs-allowed =
       update-allowed s liveAfter (r .changes) basePdrs (read .changes)

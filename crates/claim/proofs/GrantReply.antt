@@ -1,162 +1,213 @@
--- The TEIDs that the live set reads from an accepted reply are the grants.
+-- What the live set reads from an accepted reply is what the reply's reports say.
 -- Assumes nothing.
 use mathlib.Core.Path.{_≡_, refl, sym, ap, _∙_, subst}
-use Prim.Native.Nat.{ℕ, suc, _+_, _-_, _*_, _^_, _≤_, _<_, zero-le, suc-le-suc}
-use native.Mathlib.Nat.{le-trans, le-of-eq, mul-le-mul-right}
-use native.Mathlib.Omega.{arith}
+use Prim.Native.Nat.{ℕ, suc, _+_, _^_, _≤_}
+use native.Mathlib.Nat.{le-trans, le-of-eq}
 use mathlib.Core.Bool.{Bool, true, false, _&&_, _||_}
 use mathlib.Core.Option.{Option, none, some}
-use mathlib.Core.List.{List, [], _∷_, _++_, map, append-nil}
-use lib.ListN.{length, length-append}
+use mathlib.Core.List.{List, [], _∷_, _++_, append-nil}
+use lib.ListN.{length}
 use lib.Dec.{T, ltb, eqb, ltb→lt, lit<, lit≤}
-use Rattle.octets.specs.Choice.{pick, valueOr, mapOption}
+use Rattle.octets.specs.Choice.{pick, valueOr, mapOption, bindOption}
 use Rattle.octets.specs.Octets.{be, number, numberAt, put, concatMap}
-use Rattle.octets.specs.Lists.{all, keep, findBy}
-use Rattle.octets.proofs.Tests.{pick-either, and-left, and-right, all-head, all-tail, all-cons}
-use Rattle.octets.proofs.Numbers.{length-be, number-be}
-use Rattle.rules.specs.Model.{Settings}
-use Rattle.rules.specs.Elements.{fteidOctets, unitFteid, fseidOctets}
+use Rattle.octets.specs.Lists.{all, findBy}
+use Rattle.octets.proofs.Tests.{and-left, and-right, all-head, all-tail}
+use Rattle.octets.proofs.ListLaws.{onSome}
+use Rattle.octets.proofs.Numbers.{number-be}
+use Rattle.rules.specs.Model.{Settings, Tunnel}
+use Rattle.rules.specs.Elements.{fteidOctets, unitFteid, ueGiven, ueOctets, fseidOctets}
 use Rattle.rules.specs.Sound.{settingsAllowed}
 use Rattle.laws.proofs.TableLaws.{ipv4-four}
-use Rattle.rules.specs.Message.{Element, elements, hasType, contentIn, contentOf, numberWidth, field, fieldOr0, kindOf, headerSeid, sequenceOf, establishment, headerLength, setDeletion}
-use Rattle.laws.proofs.MessageLaws.{Fits, el, after, elements-cons, elements-nil, elements-last, length-one, written, asElement, asElements, afterAll, elements-map, short-map}
-use Rattle.rules.specs.Grants.{Kind, ofPdr, ofEndpoint, sameKind, Grant, grantTeid, isGrantFor, grantedTeid, isKind, grantsOf}
+use Rattle.rules.specs.Message.{Element, elements, hasType, contentIn, contentOf, numberWidth, field, fieldOr0, kindOf, establishment, headerLength, setDeletion}
+use Rattle.laws.proofs.MessageLaws.{Fits, el, after, elements-cons, elements-nil, written, asElement, asElements, afterAll, elements-map}
+use Rattle.rules.specs.Grants.{Kind, ofPdr, ofEndpoint, Got}
 use Rattle.rules.specs.Stages.{Verdict}
-use Rattle.rules.specs.Reply.{element, unitElement, createdPdrContent, createdPdr, createdEndpointContent, createdEndpoint, created, offendingElement, nodeIdElement, unitFseid, acceptedPart, replyBody, replySeid, reply}
+use Rattle.rules.specs.Reply.{Report, Reports, element, unitElement, tunnelPart, addressPart, chosenElements, createdPdrContent, createdPdr, createdEndpointContent, createdEndpoint, created, offendingElement, nodeIdElement, unitFseid, acceptedPart, replyBody, reply}
 use Rattle.laws.proofs.ReplyLaws.{reply-elements, sequence-three, reply-cause}
-use Rattle.rules.specs.Live.{replyCause, createdType, idType, isCreated, teidIn, createdTeid}
+use Rattle.rules.specs.Live.{replyCause, createdType, idType, isCreated, teidIn, addressIn, createdGroup, createdTeid, createdAddress, createdGot}
 use Rattle.rules.specs.Types as ie
 use Rattle.rules.specs.Causes as why
-use Rattle.claim.proofs.RestorationElements.{unit-short, unit-fits, small, one-fits, be-fits, number-one}
-use Rattle.laws.proofs.GrantLaws.{grantFits}
+use Rattle.claim.proofs.RestorationElements.{unit-fits, small, one-fits, be-fits, number-one, addressElements, address-elements}
+use Rattle.claim.proofs.ReplyLength.{FewReports, pdr-content-short, endpoint-content-short, fseid-length, body-short}
+use Rattle.laws.proofs.GrantLaws.{fourOctets}
+use Rattle.laws.proofs.ReportLaws.{reportFits}
 
--- the TEID of what was found
-abbrev valueOf : Option Element → ℕ
-valueOf o = teidIn (elements 0 (valueOr [] (mapOption contentIn o)))
+-- what the elements of a Created group say
+abbrev gotIn : List Element → Got
+gotIn es = record { teid = teidIn es; address = addressIn es }
 
--- a grant by its ID
-hasId : ℕ → Grant → Bool
+-- what the group that was found says
+abbrev valueOf : Option Element → Got
+valueOf o = gotIn (elements 0 (valueOr [] (mapOption contentIn o)))
+
+-- ---- what the reports say
+
+-- the TEID and the address of a report, if any
+abbrev pub reportTeid : Report → Option ℕ
+reportTeid g = mapOption (λ (t : Tunnel). t .teid) (g .local)
+
+abbrev pub reportAddress : Report → Option ℕ
+reportAddress g = g .address
+
+-- a report by its ID
+unfoldable pub hasId : ℕ → Report → Bool
 hasId i g = eqb (g .id) i
 
--- the grants of a kind, then by ID, are the grants of that kind and ID
-find-kind : (k : Kind) (i : ℕ) (gs : List Grant) → findBy (hasId i) (keep (isKind k) gs) ≡ findBy (isGrantFor k i) gs
-unfolding findBy keep isKind isGrantFor hasId
-find-kind k i [] = refl
-find-kind k i (g ∷ gs) = one (sameKind k (g .kind)) (find-kind k i gs)
-  where
-    one : (b : Bool) → findBy (hasId i) (keep (isKind k) gs) ≡ findBy (isGrantFor k i) gs
-        → findBy (hasId i) (pick b (g ∷ keep (isKind k) gs) (keep (isKind k) gs)) ≡ pick (b && eqb (g .id) i) (some g) (findBy (isGrantFor k i) gs)
-    one true e = ap (λ (o : Option Grant). pick (eqb (g .id) i) (some g) o) e
-    one false e = e
+-- what the report that was found says: 0 for what is not there
+abbrev pub saidIn : Option Report → Got
+saidIn o = record { teid = valueOr 0 (bindOption o reportTeid); address = valueOr 0 (bindOption o reportAddress) }
 
-keep-short : (p : Grant → Bool) (gs : List Grant) → length (keep p gs) ≤ length gs
-unfolding keep
-keep-short p [] = zero-le
-keep-short p (g ∷ gs) =
-    let h = keep-short p gs in
-    pick-either (λ (l : List Grant). length l ≤ suc (length gs)) (p g) (g ∷ keep p gs) (keep p gs) (suc-le-suc h) (le-trans h (omega arith))
+-- the reports of a kind
+abbrev pub reportsOf : Kind → Reports → List Report
+reportsOf ofPdr gs = gs .pdrs
+reportsOf ofEndpoint gs = gs .endpoints
 
-keep-fits : (p : Grant → Bool) (gs : List Grant) → T (all grantFits gs) → T (all grantFits (keep p gs))
-unfolding keep all
-keep-fits p [] h = tt
-keep-fits p (g ∷ gs) h =
-    let k = keep-fits p gs (all-tail grantFits g gs h) in
-    pick-either (λ (l : List Grant). T (all grantFits l)) (p g) (g ∷ keep p gs) (keep p gs) (all-cons grantFits g (keep p gs) (all-head grantFits g gs h) k) k
+-- what the reports say of a kind and ID
+unfoldable pub said : Reports → Kind → ℕ → Got
+said gs k i = saidIn (findBy (hasId i) (reportsOf k gs))
 
 module _ (s : Settings) (hs : T (settingsAllowed s)) where
   -- ---- one Created group
 
-  pdr-group : (g : Grant) → elements 0 (createdPdrContent s g) ≡ el 0 ie.pdrId (be 2 (g .id)) ∷ el (after 0 (be 2 (g .id))) ie.fteid (fteidOctets (unitFteid s (g .local))) ∷ []
-  unfolding createdPdrContent unitElement
+  tunnelElements : ℕ → Option Tunnel → List Element
+  tunnelElements at none = []
+  tunnelElements at (some t) = el at ie.fteid (fteidOctets (unitFteid s t)) ∷ []
+
+  -- the place after it
+  tunnelEnd : ℕ → Option Tunnel → ℕ
+  tunnelEnd at none = at
+  tunnelEnd at (some t) = after at (fteidOctets (unitFteid s t))
+
+  -- what was chosen, as elements
+  chosenAs : ℕ → Report → List Element
+  chosenAs at g = tunnelElements at (g .local) ++ addressElements s hs (tunnelEnd at (g .local)) (g .address)
+
+  chosen-elements : (at : ℕ) (g : Report) → elements at (chosenElements s g) ≡ chosenAs at g
+  unfolding chosenElements chosenAs
+  chosen-elements at g = one (g .local)
+    where
+      one : (o : Option Tunnel) → elements at (tunnelPart s o ++ addressPart (g .address)) ≡ tunnelElements at o ++ addressElements s hs (tunnelEnd at o) (g .address)
+      one none = unfold tunnelPart tunnelElements tunnelEnd in (address-elements s hs at (g .address))
+      one (some t) = unfold tunnelPart unitElement tunnelElements tunnelEnd in (
+          elements-cons ie.fteid (fteidOctets (unitFteid s t)) (addressPart (g .address)) (unit-fits s hs t) at
+          ∙ ap (λ (es : List Element). el at ie.fteid (fteidOctets (unitFteid s t)) ∷ es) (address-elements s hs _ (g .address)))
+
+  pdr-group : (g : Report) → elements 0 (createdPdrContent s g) ≡ el 0 ie.pdrId (be 2 (g .id)) ∷ chosenAs (after 0 (be 2 (g .id))) g
+  unfolding createdPdrContent
   pdr-group g =
-      elements-cons ie.pdrId (be 2 (g .id)) _ (be-fits s hs ie.pdrId 2 (g .id) (lit< tt) (lit≤ tt)) 0
-      ∙ ap (λ (es : List Element). el 0 ie.pdrId (be 2 (g .id)) ∷ es) (elements-last _ ie.fteid (fteidOctets (unitFteid s (g .local))) (unit-fits s hs (g .local)))
+      elements-cons ie.pdrId (be 2 (g .id)) (chosenElements s g) (be-fits s hs ie.pdrId 2 (g .id) (lit< tt) (lit≤ tt)) 0
+      ∙ ap (λ (es : List Element). el 0 ie.pdrId (be 2 (g .id)) ∷ es) (chosen-elements _ g)
 
-  endpoint-group : (g : Grant) → elements 0 (createdEndpointContent s g) ≡ el 0 ie.endpointId (g .id ∷ []) ∷ el (after 0 (g .id ∷ [])) ie.fteid (fteidOctets (unitFteid s (g .local))) ∷ []
-  unfolding createdEndpointContent unitElement
+  endpoint-group : (g : Report) → elements 0 (createdEndpointContent s g) ≡ el 0 ie.endpointId (g .id ∷ []) ∷ chosenAs (after 0 (g .id ∷ [])) g
+  unfolding createdEndpointContent
   endpoint-group g =
-      elements-cons ie.endpointId (g .id ∷ []) _ (one-fits s hs ie.endpointId (lit< tt) (g .id)) 0
-      ∙ ap (λ (es : List Element). el 0 ie.endpointId (g .id ∷ []) ∷ es) (elements-last _ ie.fteid (fteidOctets (unitFteid s (g .local))) (unit-fits s hs (g .local)))
+      elements-cons ie.endpointId (g .id ∷ []) (chosenElements s g) (one-fits s hs ie.endpointId (lit< tt) (g .id)) 0
+      ∙ ap (λ (es : List Element). el 0 ie.endpointId (g .id ∷ []) ∷ es) (chosen-elements _ g)
 
-  teid-there : (g : Grant) → T (grantFits g) → numberAt 1 4 (fteidOctets (unitFteid s (g .local))) ≡ g .local .teid
+  teid-there : (t : Tunnel) → T (fourOctets (t .teid)) → numberAt 1 4 (fteidOctets (unitFteid s t)) ≡ t .teid
   unfolding fteidOctets unitFteid numberAt be
-  teid-there g h = number-be 4 (g .local .teid) (ltb→lt (g .local .teid) (256 ^ 4) (and-right (ltb (g .id) (256 ^ 2)) (ltb (g .local .teid) (256 ^ 4)) h))
+  teid-there t h = number-be 4 (t .teid) (ltb→lt (t .teid) (256 ^ 4) h)
 
-  pdr-id : (g : Grant) → T (grantFits g) → fieldOr0 ie.pdrId (elements 0 (createdPdrContent s g)) ≡ g .id
+  address-there : (a : ℕ) → T (fourOctets a) → numberAt 1 4 (ueOctets (ueGiven a)) ≡ a
+  unfolding ueOctets numberAt be
+  address-there a h = number-be 4 a (ltb→lt a (256 ^ 4) h)
+
+  none-there : numberAt 1 4 [] ≡ 0
+  unfolding numberAt number
+  none-there = refl
+
+  -- it says what the report says
+  chosen-says : (at : ℕ) (g : Report) → T (reportFits g) → gotIn (chosenAs at g) ≡ saidIn (some g)
+  unfolding chosenAs
+  chosen-says at g h = let f = and-right (ltb (g .id) (256 ^ 2)) (onSome (λ t. fourOctets (t .teid)) (g .local) && onSome fourOctets (g .address)) h in
+      one (g .local) (g .address) (tunnelEnd at (g .local)) (and-left (onSome (λ t. fourOctets (t .teid)) (g .local)) (onSome fourOctets (g .address)) f) (and-right (onSome (λ t. fourOctets (t .teid)) (g .local)) (onSome fourOctets (g .address)) f)
+    where
+      one : (o : Option Tunnel) (a : Option ℕ) (b : ℕ) → T (onSome (λ t. fourOctets (t .teid)) o) → T (onSome fourOctets a)
+          → gotIn (tunnelElements at o ++ addressElements s hs b a) ≡ record { teid = valueOr 0 (mapOption (λ (t : Tunnel). t .teid) o); address = valueOr 0 a }
+      one none none b ht ha = unfold tunnelElements addressElements teidIn addressIn contentOf findBy hasType numberAt number in refl
+      one (some t) none b ht ha = unfold tunnelElements addressElements teidIn addressIn contentOf findBy hasType in (
+          λ j. record { teid = teid-there t ht j; address = none-there j })
+      one none (some a) b ht ha = unfold tunnelElements addressElements teidIn addressIn contentOf findBy hasType in (
+          λ j. record { teid = none-there j; address = address-there a ha j })
+      one (some t) (some a) b ht ha = unfold tunnelElements addressElements teidIn addressIn contentOf findBy hasType in (
+          λ j. record { teid = teid-there t ht j; address = address-there a ha j })
+
+  pdr-id : (g : Report) → T (reportFits g) → fieldOr0 ie.pdrId (elements 0 (createdPdrContent s g)) ≡ g .id
   unfolding fieldOr0 field contentOf findBy hasType numberAt numberWidth be
-  pdr-id g h = ap (fieldOr0 ie.pdrId) (pdr-group g) ∙ number-be 2 (g .id) (ltb→lt (g .id) (256 ^ 2) (and-left (ltb (g .id) (256 ^ 2)) (ltb (g .local .teid) (256 ^ 4)) h))
+  pdr-id g h =
+      ap (fieldOr0 ie.pdrId) (pdr-group g)
+      ∙ number-be 2 (g .id) (ltb→lt (g .id) (256 ^ 2) (and-left (ltb (g .id) (256 ^ 2)) (onSome (λ t. fourOctets (t .teid)) (g .local) && onSome fourOctets (g .address)) h))
 
-  endpoint-id : (g : Grant) → fieldOr0 ie.endpointId (elements 0 (createdEndpointContent s g)) ≡ g .id
+  endpoint-id : (g : Report) → fieldOr0 ie.endpointId (elements 0 (createdEndpointContent s g)) ≡ g .id
   unfolding fieldOr0 field contentOf findBy hasType numberAt numberWidth
   endpoint-id g = ap (fieldOr0 ie.endpointId) (endpoint-group g) ∙ number-one s hs (g .id)
 
-  pdr-teid : (g : Grant) → T (grantFits g) → teidIn (elements 0 (createdPdrContent s g)) ≡ g .local .teid
-  unfolding teidIn contentOf findBy hasType
-  pdr-teid g h = ap teidIn (pdr-group g) ∙ teid-there g h
+  pdr-says : (g : Report) → T (reportFits g) → gotIn (elements 0 (createdPdrContent s g)) ≡ saidIn (some g)
+  unfolding teidIn addressIn contentOf findBy hasType
+  pdr-says g h = ap gotIn (pdr-group g) ∙ chosen-says (after 0 (be 2 (g .id))) g h
 
-  endpoint-teid : (g : Grant) → T (grantFits g) → teidIn (elements 0 (createdEndpointContent s g)) ≡ g .local .teid
-  unfolding teidIn contentOf findBy hasType
-  endpoint-teid g h = ap teidIn (endpoint-group g) ∙ teid-there g h
+  endpoint-says : (g : Report) → T (reportFits g) → gotIn (elements 0 (createdEndpointContent s g)) ≡ saidIn (some g)
+  unfolding teidIn addressIn contentOf findBy hasType
+  endpoint-says g h = ap gotIn (endpoint-group g) ∙ chosen-says (after 0 (g .id ∷ [])) g h
 
   -- ---- the Created groups
 
-  abbrev asPdrs : ℕ → List Grant → List Element
-  asPdrs = asElements ie.createdPdr (createdPdrContent s) grantFits
+  abbrev asPdrs : ℕ → List Report → List Element
+  asPdrs = asElements ie.createdPdr (createdPdrContent s) reportFits
 
-  abbrev asEndpoints : ℕ → List Grant → List Element
-  asEndpoints = asElements ie.createdEndpoint (createdEndpointContent s) grantFits
+  abbrev asEndpoints : ℕ → List Report → List Element
+  asEndpoints = asElements ie.createdEndpoint (createdEndpointContent s) reportFits
 
-  value-none : valueOf none ≡ 0
-  unfolding teidIn contentOf findBy numberAt number
-  value-none = ap (λ (es : List Element). numberAt 1 4 (valueOr [] (contentOf ie.fteid es))) (elements-nil 0)
+  value-none : valueOf none ≡ saidIn none
+  unfolding teidIn addressIn contentOf findBy numberAt number
+  value-none = ap gotIn (elements-nil 0)
 
-  no-pdr-here : (i at : ℕ) (gs : List Grant) → findBy (isCreated ofPdr i) (asEndpoints at gs) ≡ none
+  no-pdr-here : (i at : ℕ) (gs : List Report) → findBy (isCreated ofPdr i) (asEndpoints at gs) ≡ none
   unfolding findBy isCreated createdType hasType asElement asElements
   no-pdr-here i at [] = refl
   no-pdr-here i at (g ∷ gs) = no-pdr-here i _ gs
 
-  skip-pdrs : (i at : ℕ) (gs : List Grant) (es : List Element) → findBy (isCreated ofEndpoint i) (asPdrs at gs ++ es) ≡ findBy (isCreated ofEndpoint i) es
+  skip-pdrs : (i at : ℕ) (gs : List Report) (es : List Element) → findBy (isCreated ofEndpoint i) (asPdrs at gs ++ es) ≡ findBy (isCreated ofEndpoint i) es
   unfolding findBy isCreated createdType hasType asElement asElements
   skip-pdrs i at [] es = refl
   skip-pdrs i at (g ∷ gs) es = skip-pdrs i _ gs es
 
-  found-pdr : (i at : ℕ) (gs : List Grant) → T (all grantFits gs) → (es : List Element) → findBy (isCreated ofPdr i) es ≡ none
-      → valueOf (findBy (isCreated ofPdr i) (asPdrs at gs ++ es)) ≡ valueOr 0 (mapOption grantTeid (findBy (hasId i) gs))
+  found-pdr : (i at : ℕ) (gs : List Report) → T (all reportFits gs) → (es : List Element) → findBy (isCreated ofPdr i) es ≡ none
+      → valueOf (findBy (isCreated ofPdr i) (asPdrs at gs ++ es)) ≡ saidIn (findBy (hasId i) gs)
   unfolding findBy isCreated createdType idType hasType asElement asElements hasId
   found-pdr i at [] h es e = ap valueOf e ∙ value-none
   found-pdr i at (g ∷ gs) h es e =
-      let ok = all-head grantFits g gs h in
+      let ok = all-head reportFits g gs h in
       let next = after at (createdPdrContent s g) in
       ap (λ (n : ℕ). valueOf (pick (eqb n i) (some (el at ie.createdPdr (createdPdrContent s g))) (findBy (isCreated ofPdr i) (asPdrs next gs ++ es)))) (pdr-id g ok)
-      ∙ one (eqb (g .id) i) (findBy (isCreated ofPdr i) (asPdrs next gs ++ es)) (findBy (hasId i) gs) (pdr-teid g ok) (found-pdr i next gs (all-tail grantFits g gs h) es e)
+      ∙ one (eqb (g .id) i) (findBy (isCreated ofPdr i) (asPdrs next gs ++ es)) (findBy (hasId i) gs) (pdr-says g ok) (found-pdr i next gs (all-tail reportFits g gs h) es e)
     where
-      one : (b : Bool) (o : Option Element) (p : Option Grant) → teidIn (elements 0 (createdPdrContent s g)) ≡ g .local .teid → valueOf o ≡ valueOr 0 (mapOption grantTeid p)
-          → valueOf (pick b (some (el at ie.createdPdr (createdPdrContent s g))) o) ≡ valueOr 0 (mapOption grantTeid (pick b (some g) p))
+      one : (b : Bool) (o : Option Element) (p : Option Report) → gotIn (elements 0 (createdPdrContent s g)) ≡ saidIn (some g) → valueOf o ≡ saidIn p
+          → valueOf (pick b (some (el at ie.createdPdr (createdPdrContent s g))) o) ≡ saidIn (pick b (some g) p)
       one true o p a c = a
       one false o p a c = c
 
-  found-endpoint : (i at : ℕ) (gs : List Grant) → T (all grantFits gs)
-      → valueOf (findBy (isCreated ofEndpoint i) (asEndpoints at gs)) ≡ valueOr 0 (mapOption grantTeid (findBy (hasId i) gs))
+  found-endpoint : (i at : ℕ) (gs : List Report) → T (all reportFits gs) → valueOf (findBy (isCreated ofEndpoint i) (asEndpoints at gs)) ≡ saidIn (findBy (hasId i) gs)
   unfolding findBy isCreated createdType idType hasType asElement asElements hasId
   found-endpoint i at [] h = value-none
   found-endpoint i at (g ∷ gs) h =
-      let ok = all-head grantFits g gs h in
+      let ok = all-head reportFits g gs h in
       let next = after at (createdEndpointContent s g) in
       ap (λ (n : ℕ). valueOf (pick (eqb n i) (some (el at ie.createdEndpoint (createdEndpointContent s g))) (findBy (isCreated ofEndpoint i) (asEndpoints next gs)))) (endpoint-id g)
-      ∙ one (eqb (g .id) i) (findBy (isCreated ofEndpoint i) (asEndpoints next gs)) (findBy (hasId i) gs) (endpoint-teid g ok) (found-endpoint i next gs (all-tail grantFits g gs h))
+      ∙ one (eqb (g .id) i) (findBy (isCreated ofEndpoint i) (asEndpoints next gs)) (findBy (hasId i) gs) (endpoint-says g ok) (found-endpoint i next gs (all-tail reportFits g gs h))
     where
-      one : (b : Bool) (o : Option Element) (p : Option Grant) → teidIn (elements 0 (createdEndpointContent s g)) ≡ g .local .teid → valueOf o ≡ valueOr 0 (mapOption grantTeid p)
-          → valueOf (pick b (some (el at ie.createdEndpoint (createdEndpointContent s g))) o) ≡ valueOr 0 (mapOption grantTeid (pick b (some g) p))
+      one : (b : Bool) (o : Option Element) (p : Option Report) → gotIn (elements 0 (createdEndpointContent s g)) ≡ saidIn (some g) → valueOf o ≡ saidIn p
+          → valueOf (pick b (some (el at ie.createdEndpoint (createdEndpointContent s g))) o) ≡ saidIn (pick b (some g) p)
       one true o p a c = a
       one false o p a c = c
 
   -- ---- the whole reply
 
-  -- the TEID that is found in octets for a kind and ID, wherever they stand
-  abbrev Gives : Kind → ℕ → ℕ → List ℕ → Type 0
+  -- what is found in octets for a kind and ID, wherever they stand
+  abbrev Gives : Kind → ℕ → Got → List ℕ → Type 0
   Gives k i n xs = (at : ℕ) → valueOf (findBy (isCreated k i) (elements at xs)) ≡ n
 
-  skip-one : (k : Kind) (i n t : ℕ) (v more : List ℕ) → Fits t v → eqb t ie.createdPdr ≡ false → eqb t ie.createdEndpoint ≡ false
+  skip-one : (k : Kind) (i : ℕ) (n : Got) (t : ℕ) (v more : List ℕ) → Fits t v → eqb t ie.createdPdr ≡ false → eqb t ie.createdEndpoint ≡ false
       → Gives k i n more → Gives k i n (element t v ++ more)
   unfolding findBy isCreated hasType createdType
   skip-one ofPdr i n t v more fits e8 e128 h at =
@@ -168,12 +219,12 @@ module _ (s : Settings) (hs : T (settingsAllowed s)) where
       ∙ ap (λ (b : Bool). valueOf (pick (b && eqb (fieldOr0 (idType ofEndpoint) (elements 0 v)) i) (some (el at t v)) (findBy (isCreated ofEndpoint i) (elements (after at v) more)))) e128
       ∙ h (after at v)
 
-  skip-if : (k : Kind) (i n : ℕ) (b : Bool) (t : ℕ) (v more : List ℕ) → Fits t v → eqb t ie.createdPdr ≡ false → eqb t ie.createdEndpoint ≡ false
+  skip-if : (k : Kind) (i : ℕ) (n : Got) (b : Bool) (t : ℕ) (v more : List ℕ) → Fits t v → eqb t ie.createdPdr ≡ false → eqb t ie.createdEndpoint ≡ false
       → Gives k i n more → Gives k i n (pick b (element t v) [] ++ more)
   skip-if k i n true t v more fits e8 e128 h = skip-one k i n t v more fits e8 e128 h
   skip-if k i n false t v more fits e8 e128 h = h
 
-  skip-offending : (k : Kind) (i n : ℕ) (o : Option ℕ) (more : List ℕ) → Gives k i n more → Gives k i n (offendingElement o ++ more)
+  skip-offending : (k : Kind) (i : ℕ) (n : Got) (o : Option ℕ) (more : List ℕ) → Gives k i n more → Gives k i n (offendingElement o ++ more)
   unfolding offendingElement
   skip-offending k i n none more h = h
   skip-offending k i n (some t) more h = skip-one k i n ie.offendingIe (be 2 t) more (be-fits s hs ie.offendingIe 2 t (lit< tt) (lit≤ tt)) refl refl h
@@ -182,138 +233,68 @@ module _ (s : Settings) (hs : T (settingsAllowed s)) where
   unfolding Fits
   node-fits = (lit< tt, small s hs (le-trans (le-of-eq (ap suc (ipv4-four s hs))) (lit≤ tt)))
 
-  pub fseid-length : (n : ℕ) → length (fseidOctets n (s .ipv4) []) ≡ 13
-  unfolding fseidOctets be
-  fseid-length n = let e = ap length (append-nil (s .ipv4)) in let f = ipv4-four s hs in omega arith
-
   fseid-fits : (n : ℕ) → Fits ie.fseid (fseidOctets n (s .ipv4) [])
   unfolding Fits
-  fseid-fits n = (lit< tt, small s hs (le-trans (le-of-eq (fseid-length n)) (lit≤ tt)))
+  fseid-fits n = (lit< tt, small s hs (le-trans (le-of-eq (fseid-length s hs n)) (lit≤ tt)))
 
-  pub pdr-content-short : (g : Grant) → length (createdPdrContent s g) ≤ 35
-  unfolding createdPdrContent unitElement
-  pdr-content-short g =
-      let a = length-append (element ie.pdrId (be 2 (g .id))) (element ie.fteid (fteidOctets (unitFteid s (g .local)))) in
-      let b = length-one ie.pdrId (be 2 (g .id)) in
-      let c = length-be 2 (g .id) in
-      let d = length-one ie.fteid (fteidOctets (unitFteid s (g .local))) in
-      let h = unit-short s hs (g .local) in
-      omega arith
-
-  pub endpoint-content-short : (g : Grant) → length (createdEndpointContent s g) ≤ 35
-  unfolding createdEndpointContent unitElement
-  endpoint-content-short g =
-      let a = length-append (element ie.endpointId (g .id ∷ [])) (element ie.fteid (fteidOctets (unitFteid s (g .local)))) in
-      let b = length-one ie.endpointId (g .id ∷ []) in
-      let d = length-one ie.fteid (fteidOctets (unitFteid s (g .local))) in
-      let h = unit-short s hs (g .local) in
-      omega arith
-
-  pdr-content-fits : (g : Grant) → T (grantFits g) → Fits ie.createdPdr (createdPdrContent s g)
+  pdr-content-fits : (g : Report) → T (reportFits g) → Fits ie.createdPdr (createdPdrContent s g)
   unfolding Fits
-  pdr-content-fits g h = (lit< tt, small s hs (le-trans (pdr-content-short g) (lit≤ tt)))
+  pdr-content-fits g h = (lit< tt, small s hs (le-trans (pdr-content-short s hs g) (lit≤ tt)))
 
-  endpoint-content-fits : (g : Grant) → T (grantFits g) → Fits ie.createdEndpoint (createdEndpointContent s g)
+  endpoint-content-fits : (g : Report) → T (reportFits g) → Fits ie.createdEndpoint (createdEndpointContent s g)
   unfolding Fits
-  endpoint-content-fits g h = (lit< tt, small s hs (le-trans (endpoint-content-short g) (lit≤ tt)))
+  endpoint-content-fits g h = (lit< tt, small s hs (le-trans (endpoint-content-short s hs g) (lit≤ tt)))
 
-  module _ (gs : List Grant) (fits : T (all grantFits gs)) where
-    pdrGrants : List Grant
-    pdrGrants = keep (isKind ofPdr) gs
-
-    endpointGrants : List Grant
-    endpointGrants = keep (isKind ofEndpoint) gs
-
+  module _ (gs : Reports) (fits : T (all reportFits (gs .pdrs)) × T (all reportFits (gs .endpoints))) where
     -- the place after the Created PDRs
     endpointsFrom : ℕ → ℕ
-    endpointsFrom at = afterAll ie.createdPdr (createdPdrContent s) grantFits at pdrGrants
+    endpointsFrom at = afterAll ie.createdPdr (createdPdrContent s) reportFits at (gs .pdrs)
 
-    created-elements : (at : ℕ) → elements at (created s gs) ≡ asPdrs at pdrGrants ++ asEndpoints (endpointsFrom at) endpointGrants
-    unfolding created grantsOf pdrGrants endpointGrants endpointsFrom createdPdr createdEndpoint written
+    created-elements : (at : ℕ) → elements at (created s gs) ≡ asPdrs at (gs .pdrs) ++ asEndpoints (endpointsFrom at) (gs .endpoints)
+    unfolding created endpointsFrom createdPdr createdEndpoint written
     created-elements at =
-        elements-map ie.createdPdr (createdPdrContent s) grantFits pdr-content-fits (keep (isKind ofPdr) gs) (keep-fits (isKind ofPdr) gs fits) at (concatMap (createdEndpoint s) (keep (isKind ofEndpoint) gs))
-        ∙ ap (λ (es : List Element). asPdrs at (keep (isKind ofPdr) gs) ++ es)
-        (ap (elements (endpointsFrom at)) (sym (append-nil (concatMap (createdEndpoint s) (keep (isKind ofEndpoint) gs))))
-        ∙ elements-map ie.createdEndpoint (createdEndpointContent s) grantFits endpoint-content-fits (keep (isKind ofEndpoint) gs) (keep-fits (isKind ofEndpoint) gs fits) (endpointsFrom at) []
-        ∙ ap (λ (es : List Element). asEndpoints (endpointsFrom at) (keep (isKind ofEndpoint) gs) ++ es) (elements-nil _)
-        ∙ append-nil (asEndpoints (endpointsFrom at) (keep (isKind ofEndpoint) gs)))
+        elements-map ie.createdPdr (createdPdrContent s) reportFits pdr-content-fits (gs .pdrs) (fits .0) at (concatMap (createdEndpoint s) (gs .endpoints))
+        ∙ ap (λ (es : List Element). asPdrs at (gs .pdrs) ++ es)
+        (ap (elements (endpointsFrom at)) (sym (append-nil (concatMap (createdEndpoint s) (gs .endpoints))))
+        ∙ elements-map ie.createdEndpoint (createdEndpointContent s) reportFits endpoint-content-fits (gs .endpoints) (fits .1) (endpointsFrom at) []
+        ∙ ap (λ (es : List Element). asEndpoints (endpointsFrom at) (gs .endpoints) ++ es) (elements-nil _)
+        ∙ append-nil (asEndpoints (endpointsFrom at) (gs .endpoints)))
 
-    -- what is read of the Created groups is what was granted
-    created-value : (k : Kind) (i : ℕ) → Gives k i (grantedTeid gs k i) (created s gs)
-    unfolding grantedTeid pdrGrants endpointGrants
+    -- what is read of the Created groups is what the reports say
+    created-value : (k : Kind) (i : ℕ) → Gives k i (said gs k i) (created s gs)
+    unfolding said
     created-value ofPdr i at =
         ap (λ (es : List Element). valueOf (findBy (isCreated ofPdr i) es)) (created-elements at)
-        ∙ found-pdr i at pdrGrants (keep-fits (isKind ofPdr) gs fits) (asEndpoints (endpointsFrom at) endpointGrants) (no-pdr-here i (endpointsFrom at) endpointGrants)
-        ∙ ap (λ (o : Option Grant). valueOr 0 (mapOption grantTeid o)) (find-kind ofPdr i gs)
+        ∙ found-pdr i at (gs .pdrs) (fits .0) (asEndpoints (endpointsFrom at) (gs .endpoints)) (no-pdr-here i (endpointsFrom at) (gs .endpoints))
     created-value ofEndpoint i at =
         ap (λ (es : List Element). valueOf (findBy (isCreated ofEndpoint i) es)) (created-elements at)
-        ∙ ap valueOf (skip-pdrs i at pdrGrants (asEndpoints (endpointsFrom at) endpointGrants))
-        ∙ found-endpoint i (endpointsFrom at) endpointGrants (keep-fits (isKind ofEndpoint) gs fits)
-        ∙ ap (λ (o : Option Grant). valueOr 0 (mapOption grantTeid o)) (find-kind ofEndpoint i gs)
+        ∙ ap valueOf (skip-pdrs i at (gs .pdrs) (asEndpoints (endpointsFrom at) (gs .endpoints)))
+        ∙ found-endpoint i (endpointsFrom at) (gs .endpoints) (fits .1)
 
     module _ (kind n : ℕ) (v : Verdict) (yes′ : v .cause ≡ why.accepted) where
-      body-found : (k : Kind) (i : ℕ) → Gives k i (grantedTeid gs k i) (replyBody kind s n v gs)
+      body-found : (k : Kind) (i : ℕ) → Gives k i (said gs k i) (replyBody kind s n v gs)
       unfolding replyBody nodeIdElement acceptedPart unitFseid
       body-found k i =
-          let t = grantedTeid gs k i in
+          let t = said gs k i in
           skip-if k i t (eqb kind establishment || eqb kind setDeletion) ie.nodeId (0 ∷ s .ipv4) _ node-fits refl refl
           (skip-one k i t ie.cause (v .cause ∷ []) _ (one-fits s hs ie.cause (lit< tt) (v .cause)) refl refl
           (skip-offending k i t (v .offending) _
           (subst (λ (c : ℕ). Gives k i t (pick (eqb c 1) (acceptedPart kind s n gs) [])) (sym yes′)
           (skip-if k i t (eqb kind establishment) ie.fseid (fseidOctets n (s .ipv4) []) (created s gs) (fseid-fits n) refl refl (created-value k i)))))
 
-      created-short : length gs ≤ 24 → length (created s gs) ≤ 1872
-      unfolding created grantsOf createdPdr createdEndpoint written
-      created-short few =
-          let p = keep (isKind ofPdr) gs in
-          let e = keep (isKind ofEndpoint) gs in
-          let a = length-append (concatMap (createdPdr s) p) (concatMap (createdEndpoint s) e) in
-          let b : length (concatMap (createdPdr s) p) ≤ 24 * 39 = le-trans (short-map ie.createdPdr (createdPdrContent s) grantFits 35 (λ g h. pdr-content-short g) p (keep-fits (isKind ofPdr) gs fits)) (mul-le-mul-right 39 (le-trans (keep-short (isKind ofPdr) gs) few)) in
-          let c : length (concatMap (createdEndpoint s) e) ≤ 24 * 39 = le-trans (short-map ie.createdEndpoint (createdEndpointContent s) grantFits 35 (λ g h. endpoint-content-short g) e (keep-fits (isKind ofEndpoint) gs fits)) (mul-le-mul-right 39 (le-trans (keep-short (isKind ofEndpoint) gs) few)) in
-          omega arith
-
-      if-short : (b : Bool) (xs : List ℕ) (k : ℕ) → length xs ≤ k → length (pick b xs []) ≤ k
-      if-short true xs k h = h
-      if-short false xs k h = zero-le
-
-      offending-short : (o : Option ℕ) → length (offendingElement o) ≤ 6
-      unfolding offendingElement
-      offending-short none = zero-le
-      offending-short (some t) = le-of-eq (length-one ie.offendingIe (be 2 t) ∙ ap (λ (k′ : ℕ). 4 + k′) (length-be 2 t))
-
-      body-short : length gs ≤ 24 → length (replyBody kind s n v gs) ≤ 2000
-      unfolding replyBody nodeIdElement acceptedPart unitFseid
-      body-short few =
-          let node = pick (eqb kind establishment || eqb kind setDeletion) (element ie.nodeId (0 ∷ s .ipv4)) [] in
-          let cause = element ie.cause (v .cause ∷ []) in
-          let named = offendingElement (v .offending) in
-          let fseid = pick (eqb kind establishment) (element ie.fseid (fseidOctets n (s .ipv4) [])) [] in
-          let part′ = pick (eqb (v .cause) why.accepted) (fseid ++ created s gs) [] in
-          let four = ipv4-four s hs in
-          let a = length-append node (cause ++ (named ++ part′)) in
-          let b = length-append cause (named ++ part′) in
-          let c = length-append named part′ in
-          let d = length-append fseid (created s gs) in
-          let e60 = length-one ie.nodeId (0 ∷ s .ipv4) in
-          let e19 = length-one ie.cause (v .cause ∷ []) in
-          let e57 = length-one ie.fseid (fseidOctets n (s .ipv4) []) in
-          let f = fseid-length n in
-          let h1 : length node ≤ 9 = if-short (eqb kind establishment || eqb kind setDeletion) (element ie.nodeId (0 ∷ s .ipv4)) 9 (omega arith) in
-          let h2 : length fseid ≤ 17 = if-short (eqb kind establishment) (element ie.fseid (fseidOctets n (s .ipv4) [])) 17 (omega arith) in
-          let h3 : length part′ ≤ 1889 = if-short (eqb (v .cause) why.accepted) (fseid ++ created s gs) 1889 (let h = created-short few in omega arith) in
-          let h4 : length named ≤ 6 = offending-short (v .offending) in
-          omega arith
-
 -- ---- what the live set reads
 
-module _ (s : Settings) (hs : T (settingsAllowed s)) (msg : List ℕ) (long : headerLength msg ≤ length msg) (n : ℕ) (v : Verdict) (yes′ : v .cause ≡ why.accepted) (gs : List Grant)
-    (fits : T (all grantFits gs)) (few : length gs ≤ 24) (space : List ℕ) where
-  pub accepted-cause : replyCause (put 0 (reply s msg n v gs) space) ≡ 1
-  accepted-cause = reply-cause s msg n v gs space (ipv4-four s hs) (sequence-three msg long) (body-short s hs gs fits (kindOf msg) n v yes′ few) ∙ yes′
+module _ (s : Settings) (hs : T (settingsAllowed s)) (msg : List ℕ) (long : headerLength msg ≤ length msg) (n : ℕ) (v : Verdict) (yes′ : v .cause ≡ why.accepted) (gs : Reports) (few : FewReports gs)
+    (space : List ℕ) where
+  body-fits : length (replyBody (kindOf msg) s n v gs) ≤ 2000
+  body-fits = le-trans (body-short s hs (kindOf msg) n v gs (λ _. few)) (lit≤ tt)
 
-  pub accepted-teids : (k : Kind) (i : ℕ) → createdTeid (put 0 (reply s msg n v gs) space) k i ≡ grantedTeid gs k i
-  unfolding createdTeid
-  accepted-teids k i =
+  pub accepted-cause : replyCause (put 0 (reply s msg n v gs) space) ≡ 1
+  accepted-cause = reply-cause s msg n v gs space (ipv4-four s hs) (sequence-three msg long) body-fits ∙ yes′
+
+  pub accepted-got : T (all reportFits (gs .pdrs)) × T (all reportFits (gs .endpoints)) → (k : Kind) (i : ℕ) → createdGot (put 0 (reply s msg n v gs) space) k i ≡ said gs k i
+  unfolding createdGot createdTeid createdAddress createdGroup
+  accepted-got fits k i =
       ap (λ (es : List Element). valueOf (findBy (isCreated k i) es))
-      (reply-elements s msg n v gs space (sequence-three msg long) (body-short s hs gs fits (kindOf msg) n v yes′ few))
+      (reply-elements s msg n v gs space (sequence-three msg long) body-fits)
       ∙ body-found s hs gs fits (kindOf msg) n v yes′ k i 0

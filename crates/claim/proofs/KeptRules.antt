@@ -9,13 +9,13 @@ use Rattle.octets.specs.Choice.{allOf, sameBool}
 use Rattle.octets.specs.Lists.{anyIn, allIn, hasRepeat, ascending, all, any, allPairs, collect}
 use Rattle.octets.proofs.Tests.{each, all-of-each}
 use Rattle.octets.proofs.ListLaws.{not-not, or-fails}
-use Rattle.rules.specs.Model.{Settings, Tunnel, Pdr, Endpoint, Csid, Session, Sessions, Holding, teidOf, heldTeids, freeCount, sessionHoldings, pdrId, endpointId, nodeTypeOf, seidOf}
+use Rattle.rules.specs.Model.{Settings, Tunnel, Pdr, Endpoint, Csid, Session, Sessions, Holding, teidOf, heldTeids, freeCount, heldAddresses, sessionHoldings, pdrId, endpointId, nodeTypeOf, seidOf}
 use Rattle.rules.specs.Limits.{maxPdrs, maxEndpoints, nodeTypes}
 use Rattle.rules.specs.Elements.{nodeAddressAllowed, nodeTypeKept, below16}
-use Rattle.rules.specs.Sound.{inPool, unitFamilies, tunnelTests, tunnelAllowed, placeAllowed, farAllowed, pdrTests, pdrAllowed, endpointTests, endpointAllowed, csidTests, csidAllowed, shareTests, agree, sessionTests, sessionAllowed, apart, sessionsTests, sessionsAllowed}
+use Rattle.rules.specs.Sound.{inPool, unitFamilies, tunnelTests, tunnelAllowed, placeAllowed, farAllowed, addressAllowed, pdrTests, pdrAllowed, endpointTests, endpointAllowed, csidTests, csidAllowed, shareTests, agree, sessionTests, sessionAllowed, apart, sessionsTests, sessionsAllowed}
 use Rattle.rules.specs.Reading.{Request}
 use Rattle.rules.specs.Grants.{need}
-use Rattle.rules.specs.Stages.{createdPdrs, createdEndpoints, updatedPdrs, livePdrs, liveEndpoints, fteidsOf, idTwice, createdLive, absentId, updatesRemoved, namesBoth, namedEndpoint, endpointIdsAfter, namesAbsent, removedPdrs, choicesAgree, lacksFamily, strange, restoredHoldings, clash, requestRules, brokenRules, tooManySessions, tooManyPdrs, tooManyEndpoints, tooFewTeids}
+use Rattle.rules.specs.Stages.{createdPdrs, createdEndpoints, updatedPdrs, livePdrs, liveEndpoints, fteidsOf, idTwice, createdLive, absentId, updatesRemoved, namesBoth, namedEndpoint, endpointIdsAfter, namesAbsent, removedPdrs, choicesAgree, lacksFamily, strange, restoredHoldings, clash, addressesOf, wrongAddress, restoredAddresses, addressClash, requestRules, brokenRules, tooManySessions, tooManyPdrs, tooManyEndpoints, tooFewTeids}
 use Rattle.claim.proofs.VerdictLaws.{NoneOf, none-hold}
 
 -- ---- records of the table
@@ -43,33 +43,35 @@ pub record PdrKept (s : Settings) (live : List ℕ) (p : Pdr) : Type 0 where
   pub far : T (farAllowed (p .far))
   pub source : T (ltb (p .source) 16)
   pub place : T (placeAllowed s live (p .place))
+  pub address : T (addressAllowed (p .address))
 
 -- from the tests to the names
 pub pdr-kept : (s : Settings) (live : List ℕ) (p : Pdr) → T (pdrAllowed s live p) → PdrKept s live p
 unfolding pdrAllowed
 pdr-kept s live p h = unfold pdrTests in (
     let e = each (pdrTests s live p) h in
-    record { id = e .0; precedence = e .1 .0; far = e .1 .1 .0; source = e .1 .1 .1 .0; place = e .1 .1 .1 .1 .0 })
+    record { id = e .0; precedence = e .1 .0; far = e .1 .1 .0; source = e .1 .1 .1 .0; place = e .1 .1 .1 .1 .0; address = e .1 .1 .1 .1 .1 .0 })
 
 -- and back
 pub pdr-allowed : {s : Settings} {live : List ℕ} {p : Pdr} → PdrKept s live p → T (pdrAllowed s live p)
 unfolding pdrAllowed pdrTests
-pdr-allowed {s} {live} {p} k = all-of-each (pdrTests s live p) (k .id, (k .precedence, (k .far, (k .source, (k .place, tt)))))
+pdr-allowed {s} {live} {p} k = all-of-each (pdrTests s live p) (k .id, (k .precedence, (k .far, (k .source, (k .place, (k .address, tt))))))
 
 -- Sound.endpointTests
 pub record EndpointKept (s : Settings) (e : Endpoint) : Type 0 where
   pub id : T (ltb (e .id) 256)
   pub local : T (tunnelAllowed s (e .local))
+  pub address : T (addressAllowed (e .address))
 
 -- from the tests to the names
 pub endpoint-kept : (s : Settings) (e : Endpoint) → T (endpointAllowed s e) → EndpointKept s e
 unfolding endpointAllowed endpointTests
-endpoint-kept s e h = let k = each (endpointTests s e) h in record { id = k .0; local = k .1 .0 }
+endpoint-kept s e h = let k = each (endpointTests s e) h in record { id = k .0; local = k .1 .0; address = k .1 .1 .0 }
 
 -- and back
 pub endpoint-allowed : {s : Settings} {e : Endpoint} → EndpointKept s e → T (endpointAllowed s e)
 unfolding endpointAllowed endpointTests
-endpoint-allowed {s} {e} k = all-of-each (endpointTests s e) (k .id, (k .local, tt))
+endpoint-allowed {s} {e} k = all-of-each (endpointTests s e) (k .id, (k .local, (k .address, tt)))
 
 -- Sound.csidTests
 pub record CsidKept (c : Csid) : Type 0 where
@@ -153,7 +155,7 @@ pub record SessionsKept (limit : ℕ) (s : Settings) (m : Sessions) : Type 0 whe
   pub few : T (leb (length m) limit)
   pub order : T (ascending (map seidOf m))
   pub sessions : T (all (sessionAllowed s) m)
-  pub separate : T (allPairs apart m)
+  pub separate : T (allPairs (apart s) m)
 
 -- from the tests to the names
 pub sessions-kept : (limit : ℕ) (s : Settings) (m : Sessions) → T (sessionsAllowed limit s m) → SessionsKept limit s m
@@ -180,19 +182,21 @@ pub record RulesKept (s : Settings) (m : Sessions) (x : Session) (r : Request) :
   pub choicesAlike : T (allPairs choicesAgree (r .pdrs))
   pub families : T (not (any (lacksFamily s) (fteidsOf r)))
   pub restored : T (not (any (strange s) (fteidsOf r)))
+  pub addressesGiven : T (not (any (wrongAddress s (r .restoring)) (addressesOf r)))
   pub restoredFree : T (not (anyIn (map teidOf (restoredHoldings r)) (heldTeids m)))
   pub restoredAgree : T (allPairs agree (restoredHoldings r))
+  pub addressesFree : T (not (anyIn (restoredAddresses s r) (heldAddresses s m)))
 
 -- from the tests to the names
 pub rules-kept : (s : Settings) (m : Sessions) (x : Session) (r : Request) → NoneOf (brokenRules s m x r) → RulesKept s m x r
-unfolding requestRules brokenRules idTwice createdLive absentId namesAbsent clash
+unfolding requestRules brokenRules idTwice createdLive absentId namesAbsent clash addressClash
 rules-kept s m x r n =
     let once = none-hold (hasRepeat (r .gonePdrs) ∷ hasRepeat (r .goneEndpoints) ∷ hasRepeat (createdPdrs r) ∷ hasRepeat (createdEndpoints r) ∷ hasRepeat (updatedPdrs r) ∷ []) (n .0) in
     let new = or-fails (anyIn (createdPdrs r) (livePdrs x)) (anyIn (createdEndpoints r) (liveEndpoints x)) (n .1 .0) in
     let live = none-hold (not (allIn (r .gonePdrs) (livePdrs x)) ∷ not (allIn (r .goneEndpoints) (liveEndpoints x)) ∷ not (allIn (updatedPdrs r) (livePdrs x)) ∷ []) (n .1 .1 .0) in
     let later = n .1 .1 .1 in
     let last = later .1 .1 .1 in
-    let held = or-fails (anyIn (map teidOf (restoredHoldings r)) (heldTeids m)) (not (allPairs agree (restoredHoldings r))) (last .1 .1 .1 .0) in
+    let held = or-fails (anyIn (map teidOf (restoredHoldings r)) (heldTeids m)) (not (allPairs agree (restoredHoldings r))) (last .1 .1 .1 .1 .0) in
     record {
       gonePdrsOnce = once .0;
       goneEndpointsOnce = once .1 .0;
@@ -210,8 +214,10 @@ rules-kept s m x r n =
       choicesAlike = not-not (allPairs choicesAgree (r .pdrs)) (last .0);
       families = last .1 .0;
       restored = last .1 .1 .0;
+      addressesGiven = last .1 .1 .1 .0;
       restoredFree = held .0;
       restoredAgree = not-not (allPairs agree (restoredHoldings r)) (held .1);
+      addressesFree = last .1 .1 .1 .1 .1 .0;
     }
 
 -- ---- the room of cause 75 that a request finds

@@ -13,7 +13,7 @@ use Rattle.octets.proofs.MemberLaws.{once-differ}
 use Rattle.rules.specs.Model.{Tunnel, endpoint, Holding, placeTunnel, tunnelHolding, pdrHolding, endpointHolding}
 use Rattle.rules.specs.Elements.{Fteid, given, choose}
 use Rattle.rules.specs.Reading.{NewPdr, NewEndpoint, Request}
-use Rattle.rules.specs.Grants.{Kind, ofPdr, ofEndpoint, sameKind, Choice, choiceOf, endpointChoice, pdrChoice, choices}
+use Rattle.rules.specs.Grants.{Kind, ofPdr, ofEndpoint, sameKind, Choice, choiceOf, endpointChoice, pdrChoice, choices, Got}
 use Rattle.rules.specs.Stages.{newPdrId, newEndpointId, pdrLocal, createdPdrs, createdEndpoints, fteidsOf, fteidsMayShare, localsMayShare, choicesAgree, restoredHolding, endpointRestored, pdrRestored, restoredHoldings}
 use Rattle.rules.specs.Apply.{tunnelFrom, namedPlace, placeFrom, createPdr, createEndpoint}
 use Rattle.laws.proofs.ReadLaws.{FteidRead}
@@ -64,9 +64,13 @@ localTunnel teids l = tunnelFrom (teids (l .kind) (l .id)) (l .fteid)
 abbrev pub localHolding : (Kind → ℕ → ℕ) → Local → Holding
 localHolding teids l = tunnelHolding (shared (l .kind)) (l .source) (localTunnel teids l)
 
+-- the TEIDs of what records got
+abbrev pub teidsOf : (Kind → ℕ → Got) → Kind → ℕ → ℕ
+teidsOf got k i = got k i .teid
+
 -- the holds of the records that a request makes
-unfoldable pub newHoldings : (Kind → ℕ → ℕ) → Request → List Holding
-newHoldings teids r = map endpointHolding (map (createEndpoint teids) (r .endpoints)) ++ collect pdrHolding (map (createPdr teids) (r .pdrs))
+unfoldable pub newHoldings : (Kind → ℕ → Got) → Request → List Holding
+newHoldings got r = map endpointHolding (map (createEndpoint got) (r .endpoints)) ++ collect pdrHolding (map (createPdr got) (r .pdrs))
 
 -- ---- everything from the one list
 
@@ -108,18 +112,18 @@ module _ (r : Request) where
       one p (some v) = refl
 
   -- the holds of the records made
-  pub new-locals : (teids : Kind → ℕ → ℕ) → newHoldings teids r ≡ map (localHolding teids) (locals r)
+  pub new-locals : (got : Kind → ℕ → Got) → newHoldings got r ≡ map (localHolding (teidsOf got)) (locals r)
   unfolding newHoldings locals endpointHolding createEndpoint pdrHolding createPdr
-  new-locals teids =
-      ap₂ _++_ (map-map (createEndpoint teids) endpointHolding (r .endpoints) ∙ sym (map-map endpointNew (localHolding teids) (r .endpoints)))
-      (collect-map (createPdr teids) pdrHolding (r .pdrs)
-      ∙ collect-same (λ p. pdrHolding (createPdr teids p)) (λ p. mapOption (localHolding teids) (pdrNew p)) (λ p. one p (p .local) (p .endpoint)) (r .pdrs)
-      ∙ sym (map-collect pdrNew (localHolding teids) (r .pdrs)))
-      ∙ sym (map-append (localHolding teids) (map endpointNew (r .endpoints)) (collect pdrNew (r .pdrs)))
+  new-locals got =
+      ap₂ _++_ (map-map (createEndpoint got) endpointHolding (r .endpoints) ∙ sym (map-map endpointNew (localHolding (teidsOf got)) (r .endpoints)))
+      (collect-map (createPdr got) pdrHolding (r .pdrs)
+      ∙ collect-same (λ p. pdrHolding (createPdr got p)) (λ p. mapOption (localHolding (teidsOf got)) (pdrNew p)) (λ p. one p (p .local) (p .endpoint)) (r .pdrs)
+      ∙ sym (map-collect pdrNew (localHolding (teidsOf got)) (r .pdrs)))
+      ∙ sym (map-append (localHolding (teidsOf got)) (map endpointNew (r .endpoints)) (collect pdrNew (r .pdrs)))
     where
       one : (p : NewPdr) (o : Option Fteid) (e : Option ℕ)
-          → mapOption (tunnelHolding true (p .source)) (placeTunnel (placeFrom (teids ofPdr (p .id)) o e))
-          ≡ mapOption (localHolding teids) (mapOption (λ v. record { kind = ofPdr; id = p .id; source = p .source; fteid = v }) o)
+          → mapOption (tunnelHolding true (p .source)) (placeTunnel (placeFrom (got ofPdr (p .id) .teid) o e))
+          ≡ mapOption (localHolding (teidsOf got)) (mapOption (λ v. record { kind = ofPdr; id = p .id; source = p .source; fteid = v }) o)
       one p none none = unfold placeFrom namedPlace placeTunnel in refl
       one p none (some e) = unfold placeFrom namedPlace placeTunnel in refl
       one p (some v) e = unfold placeFrom placeTunnel in refl

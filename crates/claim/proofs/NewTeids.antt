@@ -16,7 +16,7 @@ use Rattle.rules.specs.Model.{Settings, Session, Sessions, Holding, teidOf, tun
 use Rattle.rules.specs.Elements.{Fteid, given, choose, hasV4, hasV6, chooses, chooseId}
 use Rattle.rules.specs.Sound.{inPool, unitFamilies, tunnelAllowed, shareTests, agree}
 use Rattle.rules.specs.Reading.{Request}
-use Rattle.rules.specs.Grants.{Kind, ofPdr, ofEndpoint, Choice, Grant, choiceOf, choices, grants, grantedTeid, need}
+use Rattle.rules.specs.Grants.{Kind, ofPdr, ofEndpoint, Choice, Grant, choiceOf, choices, grants, grantedTeid, granted, need}
 use Rattle.rules.specs.Stages.{fteidsOf, wrongAllocation, invalidAllocation, sameChoice, alikeFteids, fteidsMayShare, lacksFamily, otherAddress, strange, restoredHolding, restoredHoldings}
 use Rattle.rules.specs.Apply.{tunnelFrom}
 use Rattle.claim.proofs.PoolLaws.{free-in-pool, free-not-held}
@@ -203,10 +203,10 @@ module _ (s : Settings) (m : Sessions) (x : Session) (r : Request) (rules : Rule
         one k k′ i j a b (choose c d o) (choose e f p) rv rw′ hv hw g al = unfold choiceOf tunnelFrom in (sharing k k′ a b (teids′ k i) (teids′ k′ j) c d e f o p rv rw′ g al)
 
     -- every two new holds keep the rule of sharing
-    pub new-agree : T (not (invalidAllocation r)) → T (allPairs agree (newHoldings teids′ r))
-    unfolding invalidAllocation wrongAllocation
+    pub new-agree : T (not (invalidAllocation r)) → T (allPairs agree (newHoldings (granted s m r) r))
+    unfolding invalidAllocation wrongAllocation granted
     new-agree h =
-        subst (λ (l : List Holding). T (allPairs agree l)) (sym (new-locals r teids′))
+        subst (λ (l : List Holding). T (allPairs agree l)) (sym (new-locals r (granted s m r)))
         (subst T (sym (pairs-map (localHolding teids′) agree (locals r))) (one (r .restoring) (fteid-test (λ v. sameBool (chooses v) (r .restoring)) h)))
       where
         one : (b : Bool) → T (all (λ l. not (sameBool (chooses (l .fteid)) b)) (locals r)) → T (allPairs (λ a c. agree (localHolding teids′ a) (localHolding teids′ c)) (locals r))

@@ -1,4 +1,5 @@
--- Cause 75 is answered exactly when no earlier fault stands and the limits leave no room; and what "no room" says of the sessions that would result.
+-- Cause 75 is answered exactly when no earlier fault stands and the limits leave no room, and cause 79 exactly when they leave room, some record
+-- chooses an address and none is free (02 (v)); and what "no room" says of the sessions that would result.
 -- Assumes nothing.
 use mathlib.Core.Path.{_≡_, refl, sym, ap, ap₂, _∙_, subst}
 use mathlib.Core.Logic.{_≢_}
@@ -9,10 +10,11 @@ use mathlib.Core.Bool.{Bool, true, false, not, _&&_, _||_}
 use mathlib.Core.Option.{Option, none, some}
 use mathlib.Core.List.{List, [], _∷_, map}
 use lib.ListN.{length, length-map}
-use lib.Dec.{T, leb, ltb, eqb, eqb→eq, leb→le, leb·suc-suc}
+use lib.Dec.{T, T-not, leb, ltb, eqb, eqb→eq, leb→le, leb·suc-suc}
 use mir.Facts.{no-ltb}
 use Rattle.octets.specs.Choice.{pick, oneOf, valueOr}
 use Rattle.octets.specs.Octets.{octets}
+use Rattle.octets.specs.Lists.{member, ascending, keep}
 use Rattle.octets.proofs.Tests.{pick-no, pick-yes, is-false, of-true}
 use Rattle.octets.proofs.Ordered.{insert-length, keep-length, keep-less}
 use Rattle.octets.proofs.ListLaws.{not-not, none-found, by-test}
@@ -25,8 +27,8 @@ use Rattle.rules.specs.Elements.{Refusal, missing, conditional, tooShort, incor
 use Rattle.rules.specs.Sound.{sessionsAllowed}
 use Rattle.rules.specs.Message.{kindOf, headerSeid, Spot, frameFault, establishment, deletion, setDeletion}
 use Rattle.rules.specs.Reading.{Fault, Request, readFault, readRequest}
-use Rattle.rules.specs.Grants.{Kind, grants, grantedTeid, need}
-use Rattle.rules.specs.Stages.{hasSeid, sessionOf, isLive, newSession, atEntry, liveEndpoints, removedPdrs, invalidAllocation, brokenRules, breaksRule, tooManySessions, tooManyPdrs, tooManyEndpoints, tooFewTeids, noRoom, Verdict, plain, judge, entrySession, judged, fromReading, fromFraming, unknownSession, verdict, unnamed}
+use Rattle.rules.specs.Grants.{Kind, Got, granted, need}
+use Rattle.rules.specs.Stages.{hasSeid, sessionOf, isLive, newSession, atEntry, liveEndpoints, removedPdrs, invalidAllocation, brokenRules, breaksRule, tooManySessions, tooManyPdrs, tooManyEndpoints, tooFewTeids, noRoom, noAddress, Verdict, plain, judge, entrySession, judged, fromReading, fromFraming, unknownSession, verdict, unnamed}
 use Rattle.rules.specs.Apply.{createPdr, createEndpoint, updateAll, keptPdr, keptEndpoint, pdrsAfter, endpointsAfter, apply, otherSession, removeSession, putSession, follow, staysSession}
 use Rattle.rules.specs.Serve.{sessionsAfter, serve}
 use Rattle.rules.specs.Live.{replyCause}
@@ -40,7 +42,6 @@ use Rattle.claim.proofs.After.{changed, live-any, found-seid}
 use Rattle.claim.proofs.Changed.{entry-known}
 use Rattle.claim.proofs.ServeLaws.{answers, table-kept, served-cause}
 use Rattle.laws.proofs.HeaderLaws.{unnamed-new, unnamed-sets}
-use Rattle.octets.specs.Lists.{ascending, keep}
 
 -- no fault of stages 1 to 4 stands
 pub record Reached (s : Settings) (m : Sessions) (msg : List ℕ) : Type 0 where
@@ -60,56 +61,90 @@ past : (n c : ℕ) (b : Bool) (v : Verdict) → c ≢ n → pick b (plain c) v .
 past n c true v ne e = absurd (ne e)
 past n c false v ne e = (tt, e)
 
--- a reader's refusal has another cause
-not-75 : (f : Refusal) → causeOf f ≡ 75 → ⊥
-unfolding causeOf
-not-75 missing e = omega arith
-not-75 conditional e = omega arith
-not-75 tooShort e = omega arith
-not-75 incorrect e = omega arith
+-- the causes of stages 1 to 4
+earlier : List ℕ
+earlier = why.noSession ∷ why.mandatoryMissing ∷ why.conditionalMissing ∷ why.wrongLength ∷ why.incorrect ∷ why.rejected ∷ why.wrongAllocation ∷ why.notSupported ∷ why.brokenRule ∷ []
 
 module _ (limit : ℕ) (s : Settings) (m : Sessions) (msg : List ℕ) where
   -- the limits leave no room for the request
   abbrev pub Full : Type 0
   Full = T (noRoom limit (kindOf msg) s m (entrySession m msg) (readRequest msg))
 
-  -- stage 2
-  past-framing : (o : Option Spot) → fromFraming limit s m msg o .cause ≡ why.noRoom → (o ≡ none) × (fromReading limit s m msg (readFault msg) .cause ≡ why.noRoom)
-  unfolding fromFraming
-  past-framing none e = (refl, e)
-  past-framing (some t) e = absurd (omega arith)
+  -- it chooses an address, and none is free
+  abbrev pub Unaddressed : Type 0
+  Unaddressed = T (noAddress s m (readRequest msg))
 
-  -- stage 3
-  past-reading : (o : Option Fault) → fromReading limit s m msg o .cause ≡ why.noRoom → (o ≡ none) × (judged limit s m msg .cause ≡ why.noRoom)
-  unfolding fromReading
-  past-reading none e = (refl, e)
-  past-reading (some f) e = absurd (not-75 (f .cause) e)
+  -- stages 5 and 6
+  abbrev last : Verdict
+  last = pick (noRoom limit (kindOf msg) s m (entrySession m msg) (readRequest msg)) (plain why.noRoom) (pick (noAddress s m (readRequest msg)) (plain why.noAddress) (plain why.accepted))
 
-  -- the last branch
-  full-branch : (b : Bool) → pick b (plain why.noRoom) (plain why.accepted) .cause ≡ why.noRoom → T b
-  full-branch true e = tt
-  full-branch false e = absurd (omega arith)
+  -- any other cause n
+  module _ (n : ℕ) (late : T (not (member n earlier))) where
+    other : (c : ℕ) → T (member c earlier) → c ≢ n
+    other c h e = T-not (member n earlier) late (subst (λ (k : ℕ). T (member k earlier)) e h)
+
+    -- stage 2
+    past-framing : (o : Option Spot) → fromFraming limit s m msg o .cause ≡ n → (o ≡ none) × (fromReading limit s m msg (readFault msg) .cause ≡ n)
+    unfolding fromFraming
+    past-framing none e = (refl, e)
+    past-framing (some t) e = absurd (other why.wrongLength (unfold earlier member in tt) e)
+
+    -- a reader's refusal has another cause
+    refused : (f : Refusal) → causeOf f ≢ n
+    unfolding causeOf earlier member
+    refused missing = other why.mandatoryMissing tt
+    refused conditional = other why.conditionalMissing tt
+    refused tooShort = other why.wrongLength tt
+    refused incorrect = other why.incorrect tt
+
+    -- stage 3
+    past-reading : (o : Option Fault) → fromReading limit s m msg o .cause ≡ n → (o ≡ none) × (judged limit s m msg .cause ≡ n)
+    unfolding fromReading
+    past-reading none e = (refl, e)
+    past-reading (some f) e = absurd (refused (f .cause) e)
+
+    -- it comes from stages 5 and 6
+    reached : verdict limit s m msg .cause ≡ n → Reached s m msg × (last .cause ≡ n)
+    unfolding verdict judged judge earlier member
+    reached e =
+        let a = past n why.noSession (unknownSession m msg) (fromFraming limit s m msg (frameFault msg)) (other why.noSession tt) e in
+        let b = past-framing (frameFault msg) (a .1) in
+        let c = past-reading (readFault msg) (b .1) in
+        let x = entrySession m msg in
+        let r = readRequest msg in
+        let k = kindOf msg in
+        let d = past n why.rejected (eqb k establishment && isLive (r .seid) m) _ (other why.rejected tt) (c .1) in
+        let f = past n why.wrongAllocation (invalidAllocation r) _ (other why.wrongAllocation tt) (d .1) in
+        let g = past n why.notSupported (r .unsupported) _ (other why.notSupported tt) (f .1) in
+        let h = past n why.brokenRule (breaksRule s m x r) last (other why.brokenRule tt) (g .1) in
+        (record { known = a .0; framed = b .0; read = c .0; fresh = d .0; allocation = f .0; supported = g .0; rules = h .0 }, h .1)
+
+  -- the branch of 75
+  full-branch : (b c : Bool) → pick b (plain why.noRoom) (pick c (plain why.noAddress) (plain why.accepted)) .cause ≡ why.noRoom → T b
+  full-branch true c e = tt
+  full-branch false true e = absurd (omega arith)
+  full-branch false false e = absurd (omega arith)
 
   -- 75 only then
   pub cause-75 : verdict limit s m msg .cause ≡ why.noRoom → Reached s m msg × Full
-  unfolding verdict judged judge
   cause-75 e =
-      let a = past 75 65 (unknownSession m msg) (fromFraming limit s m msg (frameFault msg)) (λ p. absurd (omega arith)) e in
-      let b = past-framing (frameFault msg) (a .1) in
-      let c = past-reading (readFault msg) (b .1) in
-      let x = entrySession m msg in
-      let r = readRequest msg in
-      let k = kindOf msg in
-      let d = past 75 64 (eqb k establishment && isLive (r .seid) m) _ (λ p. absurd (omega arith)) (c .1) in
-      let f = past 75 71 (invalidAllocation r) _ (λ p. absurd (omega arith)) (d .1) in
-      let g = past 75 76 (r .unsupported) _ (λ p. absurd (omega arith)) (f .1) in
-      let h = past 75 73 (breaksRule s m x r) _ (λ p. absurd (omega arith)) (g .1) in (
-        record { known = a .0; framed = b .0; read = c .0; fresh = d .0; allocation = f .0; supported = g .0; rules = h .0 },
-        full-branch (noRoom limit k s m x r) (h .1),
-      )
+      let k = reached why.noRoom (unfold earlier member in tt) e in
+      (k .0, full-branch (noRoom limit (kindOf msg) s m (entrySession m msg) (readRequest msg)) (noAddress s m (readRequest msg)) (k .1))
+
+  -- the branch of 79
+  empty-branch : (b c : Bool) → pick b (plain why.noRoom) (pick c (plain why.noAddress) (plain why.accepted)) .cause ≡ why.noAddress → T (not b) × T c
+  empty-branch true c e = absurd (omega arith)
+  empty-branch false true e = (tt, tt)
+  empty-branch false false e = absurd (omega arith)
+
+  -- 79 only where there is room, and no address
+  pub cause-79 : verdict limit s m msg .cause ≡ why.noAddress → Reached s m msg × (T (not (noRoom limit (kindOf msg) s m (entrySession m msg) (readRequest msg))) × Unaddressed)
+  cause-79 e =
+      let k = reached why.noAddress (unfold earlier member in tt) e in
+      (k .0, empty-branch (noRoom limit (kindOf msg) s m (entrySession m msg) (readRequest msg)) (noAddress s m (readRequest msg)) (k .1))
 
   -- the verdict of a request without an earlier fault
-  reached-verdict : Reached s m msg → verdict limit s m msg ≡ pick (noRoom limit (kindOf msg) s m (entrySession m msg) (readRequest msg)) (plain why.noRoom) (plain why.accepted)
+  reached-verdict : Reached s m msg → verdict limit s m msg ≡ last
   unfolding verdict judged judge
   reached-verdict p =
       let r = readRequest msg in
@@ -131,7 +166,15 @@ module _ (limit : ℕ) (s : Settings) (m : Sessions) (msg : List ℕ) where
 
   -- 75 always then
   pub verdict-75 : Reached s m msg → Full → verdict limit s m msg .cause ≡ why.noRoom
-  verdict-75 p full = ap {B = ℕ} (λ (v : Verdict). v .cause) (reached-verdict p ∙ pick-yes (noRoom limit (kindOf msg) s m (entrySession m msg) (readRequest msg)) (plain why.noRoom) (plain why.accepted) full)
+  verdict-75 p full = ap {B = ℕ} (λ (v : Verdict). v .cause) (reached-verdict p ∙ pick-yes (noRoom limit (kindOf msg) s m (entrySession m msg) (readRequest msg)) (plain why.noRoom) _ full)
+
+  -- 79 always then
+  pub verdict-79 : Reached s m msg → T (not (noRoom limit (kindOf msg) s m (entrySession m msg) (readRequest msg))) → Unaddressed → verdict limit s m msg .cause ≡ why.noAddress
+  verdict-79 p room full =
+      ap {B = ℕ} (λ (v : Verdict). v .cause)
+      (reached-verdict p
+      ∙ pick-no (noRoom limit (kindOf msg) s m (entrySession m msg) (readRequest msg)) (plain why.noRoom) _ room
+      ∙ pick-yes (noAddress s m (readRequest msg)) (plain why.noAddress) (plain why.accepted) full)
 
 -- ---- what would result
 
@@ -197,10 +240,10 @@ module _ (limit : ℕ) (s : Settings) (m : Sessions) (msg : List ℕ) (hm : T (s
   unfolding sessionsAfter follow tooManySessions
   sessions-exact = sets (eqb (kindOf msg) setDeletion) refl
     where
-      seid-new : unnamed (kindOf msg) ≡ true → apply (grantedTeid (grants s m r)) r (atEntry (kindOf msg) (headerSeid msg) r m) .seid ≡ r .seid
+      seid-new : unnamed (kindOf msg) ≡ true → apply (granted s m r) r (atEntry (kindOf msg) (headerSeid msg) r m) .seid ≡ r .seid
       seid-new e = unfold apply atEntry newSession in (ap {B = ℕ} (λ (b : Bool). pick b (newSession (r .seid)) (valueOr (newSession (headerSeid msg)) (sessionOf (headerSeid msg) m)) .seid) e)
 
-      seid-old : unnamed (kindOf msg) ≡ false → T (isLive (headerSeid msg) m) → apply (grantedTeid (grants s m r)) r (atEntry (kindOf msg) (headerSeid msg) r m) .seid ≡ headerSeid msg
+      seid-old : unnamed (kindOf msg) ≡ false → T (isLive (headerSeid msg) m) → apply (granted s m r) r (atEntry (kindOf msg) (headerSeid msg) r m) .seid ≡ headerSeid msg
       seid-old e live = unfold apply atEntry in (ap {B = ℕ} (λ (b : Bool). pick b (newSession (r .seid)) (valueOr (newSession (headerSeid msg)) (sessionOf (headerSeid msg) m)) .seid) e ∙ found-seid (headerSeid msg) m live)
 
       live-header : unnamed (kindOf msg) ≡ false → T (isLive (headerSeid msg) m)
@@ -216,23 +259,23 @@ module _ (limit : ℕ) (s : Settings) (m : Sessions) (msg : List ℕ) (hm : T (s
       removed-less n live = unfold removeSession in (keep-less (otherSession n) m (live-any n m live))
 
       go : T (not (eqb (kindOf msg) setDeletion)) → (a : Bool) → eqb (kindOf msg) deletion ≡ a → (b : Bool) → eqb (kindOf msg) establishment ≡ b
-          → ltb limit (length (pick a (removeSession (headerSeid msg) m) (putSession (apply (grantedTeid (grants s m r)) r (atEntry (kindOf msg) (headerSeid msg) r m)) m))) ≡ (b && leb limit (length m))
+          → ltb limit (length (pick a (removeSession (headerSeid msg) m) (putSession (apply (granted s m r) r (atEntry (kindOf msg) (headerSeid msg) r m)) m))) ≡ (b && leb limit (length m))
       go ns true d true e =
           let k : kindOf msg ≡ deletion = eqb→eq (kindOf msg) deletion (subst T (sym d) tt) in
           let l : kindOf msg ≡ establishment = eqb→eq (kindOf msg) establishment (subst T (sym e) tt) in
           absurd (omega arith)
       go ns true d false e = not-above limit (length (removeSession (headerSeid msg) m)) (le-trans (removed-few (headerSeid msg)) few)
       go ns false d true e =
-          ap (ltb limit) (put-count (apply (grantedTeid (grants s m r)) r (atEntry (kindOf msg) (headerSeid msg) r m)) m
+          ap (ltb limit) (put-count (apply (granted s m r) r (atEntry (kindOf msg) (headerSeid msg) r m)) m
           ∙ ap (λ (n : ℕ). suc (length (removeSession n m))) (seid-new (unnamed-new (kindOf msg) ns ∙ e)) ∙ ap (λ (l : Sessions). suc (length l)) (absent-stays (r .seid) m (new-seid e)))
           ∙ leb·suc-suc limit (length m)
       go ns false d false e =
           let e′ = unnamed-new (kindOf msg) ns ∙ e in
-          ap (ltb limit) (put-count (apply (grantedTeid (grants s m r)) r (atEntry (kindOf msg) (headerSeid msg) r m)) m ∙ ap (λ (n : ℕ). suc (length (removeSession n m))) (seid-old e′ (live-header e′)))
+          ap (ltb limit) (put-count (apply (granted s m r) r (atEntry (kindOf msg) (headerSeid msg) r m)) m ∙ ap (λ (n : ℕ). suc (length (removeSession n m))) (seid-old e′ (live-header e′)))
           ∙ not-above limit (suc (length (removeSession (headerSeid msg) m))) (le-trans (removed-less (headerSeid msg) (live-header e′)) few)
 
       sets : (a : Bool) → eqb (kindOf msg) setDeletion ≡ a
-          → ltb limit (length (pick a (keep (staysSession (r .listed)) m) (pick (eqb (kindOf msg) deletion) (removeSession (headerSeid msg) m) (putSession (apply (grantedTeid (grants s m r)) r (atEntry (kindOf msg) (headerSeid msg) r m)) m))))
+          → ltb limit (length (pick a (keep (staysSession (r .listed)) m) (pick (eqb (kindOf msg) deletion) (removeSession (headerSeid msg) m) (putSession (apply (granted s m r) r (atEntry (kindOf msg) (headerSeid msg) r m)) m))))
           ≡ (eqb (kindOf msg) establishment && leb limit (length m))
       sets true d =
           not-above limit (length (keep (staysSession (r .listed)) m)) (le-trans (keep-length (staysSession (r .listed)) m) few)
@@ -240,34 +283,34 @@ module _ (limit : ℕ) (s : Settings) (m : Sessions) (msg : List ℕ) (hm : T (s
       sets false d = go (subst (λ (b : Bool). T (not b)) (sym d) tt) (eqb (kindOf msg) deletion) refl (eqb (kindOf msg) establishment) refl
 
   -- the number of PDRs
-  pdrs-exact : (teids : Kind → ℕ → ℕ) → length (pdrsAfter teids r (x .pdrs)) ≡ length (x .pdrs) - length (removedPdrs r (x .pdrs)) + length (r .pdrs)
+  pdrs-exact : (got : Kind → ℕ → Got) → length (pdrsAfter got r (x .pdrs)) ≡ length (x .pdrs) - length (removedPdrs r (x .pdrs)) + length (r .pdrs)
   unfolding pdrsAfter keptPdr
-  pdrs-exact teids =
-      let new = map (createPdr teids) (r .pdrs) in
+  pdrs-exact got =
+      let new = map (createPdr got) (r .pdrs) in
       let gone = removedPdrs r (x .pdrs) in
       let base = after pdrId gone new (x .pdrs) in
       let a = after-count pdrId gone new (x .pdrs) (removed-once r (x .pdrs) pdr-order) (removed-live r (x .pdrs)) pdr-order in
-      let b = length-map (r .pdrs) (createPdr teids) in
+      let b = length-map (r .pdrs) (createPdr got) in
       let c = ap length (update-map pdrId update-id (r .changes) base) in
       let d = length-map (updateAll (r .changes) base) pdrId in
       let e = length-map base pdrId in
       omega arith
 
   -- the number of endpoints
-  endpoints-exact : (teids : Kind → ℕ → ℕ) → length (endpointsAfter teids r (x .endpoints)) ≡ length (x .endpoints) - length (r .goneEndpoints) + length (r .endpoints)
+  endpoints-exact : (got : Kind → ℕ → Got) → length (endpointsAfter got r (x .endpoints)) ≡ length (x .endpoints) - length (r .goneEndpoints) + length (r .endpoints)
   unfolding endpointsAfter keptEndpoint liveEndpoints
-  endpoints-exact teids =
-      let new = map (createEndpoint teids) (r .endpoints) in
+  endpoints-exact got =
+      let new = map (createEndpoint got) (r .endpoints) in
       let a = after-count endpointId (r .goneEndpoints) new (x .endpoints) (rules .goneEndpointsOnce) (rules .goneEndpointsLive) endpoint-order in
-      let b = length-map (r .endpoints) (createEndpoint teids) in
+      let b = length-map (r .endpoints) (createEndpoint got) in
       omega arith
 
   -- stage 5 tests just that
   pub full-exact : noRoom limit (kindOf msg) s m x r ≡ oneOf (overLimits limit s m msg)
   unfolding noRoom overLimits tooManyPdrs tooManyEndpoints tooFewTeids changed apply
   full-exact =
-      let teids = grantedTeid (grants s m r) in
-      ap₂ _||_ (sym sessions-exact) (ap₂ _||_ (ap (ltb maxPdrs) (sym (pdrs-exact teids))) (ap₂ _||_ (ap (ltb maxEndpoints) (sym (endpoints-exact teids)))
+      let got = granted s m r in
+      ap₂ _||_ (sym sessions-exact) (ap₂ _||_ (ap (ltb maxPdrs) (sym (pdrs-exact got))) (ap₂ _||_ (ap (ltb maxEndpoints) (sym (endpoints-exact got)))
       (ap (λ (n : ℕ). ltb n (need r) || false) (sym (free-count limit s m hm)))))
 
 -- ---- the same of `serve`
@@ -289,3 +332,17 @@ module _ (limit : ℕ) (t msg space : List ℕ) (ho : T (octets msg)) (zero′ :
   then-75 p full =
       served-cause limit t msg space ho zero′
       ∙ verdict-75 limit (viewSettings t) (viewSessions t) msg p (subst T (sym (full-exact limit (viewSettings t) (viewSessions t) msg sessions-entry ho p)) full)
+
+  -- 79 only where there is room, some record chooses an address and none is free
+  pub served-79 : replyCause (serve limit t msg space .space) ≡ why.noAddress
+      → Reached (viewSettings t) (viewSessions t) msg × (T (not (oneOf (overLimits limit (viewSettings t) (viewSessions t) msg))) × T (noAddress (viewSettings t) (viewSessions t) (readRequest msg)))
+  served-79 e =
+      let k = cause-79 limit (viewSettings t) (viewSessions t) msg (sym (served-cause limit t msg space ho zero′) ∙ e) in
+      (k .0, (subst (λ (b : Bool). T (not b)) (full-exact limit (viewSettings t) (viewSessions t) msg sessions-entry ho (k .0)) (k .1 .0), k .1 .1))
+
+  -- and always then
+  pub then-79 : Reached (viewSettings t) (viewSessions t) msg → T (not (oneOf (overLimits limit (viewSettings t) (viewSessions t) msg))) → T (noAddress (viewSettings t) (viewSessions t) (readRequest msg))
+      → replyCause (serve limit t msg space .space) ≡ why.noAddress
+  then-79 p room full =
+      served-cause limit t msg space ho zero′
+      ∙ verdict-79 limit (viewSettings t) (viewSessions t) msg p (subst (λ (b : Bool). T (not b)) (sym (full-exact limit (viewSettings t) (viewSessions t) msg sessions-entry ho p)) room) full

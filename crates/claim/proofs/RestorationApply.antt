@@ -1,10 +1,11 @@
 -- What a restoration request does: it puts its session into the table.
 -- Assumes nothing.
 use mathlib.Core.Path.{_≡_, refl, sym, ap, ap₂, _∙_}
-use Prim.Native.Nat.{ℕ, _+_, _-_, _^_, _≤_, _<_}
+use Prim.Native.Nat.{ℕ, _^_, _≤_, _<_}
 use native.Mathlib.Nat.{le-trans}
 use native.Mathlib.Omega.{arith}
 use mathlib.Core.Bool.{Bool, true, false, not, _&&_, _||_}
+use mathlib.Core.Option.{Option, none, some}
 use mathlib.Core.List.{List, [], _∷_, _++_, map, append-nil}
 use lib.ListN.{length}
 use lib.Dec.{T, leb, ltb, eqb, ltb→lt, lt→ltb, lit≤}
@@ -14,17 +15,18 @@ use Rattle.octets.specs.Choice.{pick, mapOption}
 use Rattle.octets.specs.Lists.{keep, all, ascending, insertBy, insertAll, anyIn}
 use Rattle.octets.specs.Octets.{put}
 use Rattle.octets.proofs.Tests.{pick-yes, pick-no, each, all-head, all-tail, all-cons, no-eqb, ascending-head, ascending-tail}
-use Rattle.rules.specs.Model.{Settings, Tunnel, Place, neither, tunnel, endpoint, Pdr, Endpoint, Csid, Session, Sessions, endpointId, pdrId, nodeTypeOf, placeTunnel, placeEndpoint, sessionTeids, heldTeids}
-use Rattle.rules.specs.Elements.{unitFteid}
+use Rattle.rules.specs.Model.{Settings, Tunnel, Place, neither, tunnel, endpoint, Pdr, Endpoint, Csid, Session, Sessions, endpointId, pdrId, nodeTypeOf, placeTunnel, placeEndpoint, sessionTeids, heldTeids, sessionAddresses, heldAddresses}
+use Rattle.rules.specs.Elements.{unitFteid, ueGiven}
+use Rattle.rules.specs.Limits.{maxMessage, minSpace}
 use Rattle.rules.specs.Layout.{encode}
 use Rattle.rules.specs.Sound.{settingsAllowed, tunnelAllowed, placeAllowed, pdrTests, pdrAllowed, endpointTests, endpointAllowed, sessionTests, sessionAllowed, sessionsAllowed, sound}
 use Rattle.laws.proofs.LayoutLaws.{pdrsOk, endpointsOk, tests}
 use Rattle.laws.proofs.TableLaws.{sound-encode, encoded-settings, sessions-back}
 use Rattle.rules.specs.Message.{headerSeid, headerAllowed, served, frameFault, establishment, modification, deletion, setDeletion}
 use Rattle.rules.specs.Reading.{Request}
-use Rattle.rules.specs.Grants.{Kind, grants, grantedTeid}
+use Rattle.rules.specs.Grants.{Kind, Got, granted}
 use Rattle.rules.specs.Stages.{newSession, atEntry, isLive, plain, judge, entrySession, judged, fromReading, fromFraming, unknownSession, verdict, unnamed}
-use Rattle.rules.specs.Apply.{tunnelFrom, namedPlace, placeFrom, createPdr, createEndpoint, updateAll, otherNode, setCsid, setCsids, followCsids, pdrsAfter, endpointsAfter, apply, putSession, follow}
+use Rattle.rules.specs.Apply.{tunnelFrom, namedPlace, placeFrom, addressGot, addressFrom, createPdr, createEndpoint, updateAll, otherNode, setCsid, setCsids, followCsids, pdrsAfter, endpointsAfter, apply, putSession, follow}
 use Rattle.rules.specs.Serve.{unserved, sessionsAfter, replyTo, answered, answer, serveSound, serve}
 use Rattle.rules.specs.Restoration.{Peer, peerAllowed, restoration, restoredPdr, restoredEndpoint, restoredRequest, recordCsid}
 use Rattle.rules.specs.Causes as why
@@ -97,20 +99,25 @@ module _ (s : Settings) (hs : T (settingsAllowed s)) where
   place-again n live (tunnel t) h = ap tunnel (tunnel-again n t h)
   place-again n live (endpoint e) h = refl
 
-  pdrs-again : (teids : Kind → ℕ → ℕ) (live : List ℕ) (ps : List Pdr) → T (all (pdrAllowed s live) ps) → map (createPdr teids) (map (restoredPdr s) ps) ≡ ps
-  unfolding createPdr restoredPdr pdrAllowed pdrTests
-  pdrs-again teids live [] h = refl
-  pdrs-again teids live (p ∷ ps) h =
-      let e = each (pdrTests s live p) (all-head (pdrAllowed s live) p ps h) in
-      λ i. record { id = p .id; precedence = p .precedence; far = p .far; source = p .source; place = place-again (teids Kind.ofPdr (p .id)) live (p .place) (e .1 .1 .1 .1 .0) i }
-      ∷ pdrs-again teids live ps (all-tail (pdrAllowed s live) p ps h) i
+  address-again : (n : ℕ) (o : Option ℕ) → addressFrom n (mapOption ueGiven o) ≡ o
+  unfolding addressFrom addressGot
+  address-again n none = refl
+  address-again n (some a) = refl
 
-  endpoints-again : (teids : Kind → ℕ → ℕ) (es : List Endpoint) → T (all (endpointAllowed s) es) → map (createEndpoint teids) (map (restoredEndpoint s) es) ≡ es
+  pdrs-again : (got : Kind → ℕ → Got) (live : List ℕ) (ps : List Pdr) → T (all (pdrAllowed s live) ps) → map (createPdr got) (map (restoredPdr s) ps) ≡ ps
+  unfolding createPdr restoredPdr pdrAllowed pdrTests
+  pdrs-again got live [] h = refl
+  pdrs-again got live (p ∷ ps) h =
+      let e = each (pdrTests s live p) (all-head (pdrAllowed s live) p ps h) in
+      λ i. record { id = p .id; precedence = p .precedence; far = p .far; source = p .source; place = place-again (got Kind.ofPdr (p .id) .teid) live (p .place) (e .1 .1 .1 .1 .0) i; address = address-again (got Kind.ofPdr (p .id) .address) (p .address) i }
+      ∷ pdrs-again got live ps (all-tail (pdrAllowed s live) p ps h) i
+
+  endpoints-again : (got : Kind → ℕ → Got) (es : List Endpoint) → T (all (endpointAllowed s) es) → map (createEndpoint got) (map (restoredEndpoint s) es) ≡ es
   unfolding createEndpoint restoredEndpoint endpointAllowed endpointTests
-  endpoints-again teids [] h = refl
-  endpoints-again teids (e ∷ es) h =
-      λ i. record { id = e .id; local = tunnel-again (teids Kind.ofEndpoint (e .id)) (e .local) (each (endpointTests s e) (all-head (endpointAllowed s) e es h) .1 .0) i }
-      ∷ endpoints-again teids es (all-tail (endpointAllowed s) e es h) i
+  endpoints-again got [] h = refl
+  endpoints-again got (e ∷ es) h =
+      λ i. record { id = e .id; local = tunnel-again (got Kind.ofEndpoint (e .id) .teid) (e .local) (each (endpointTests s e) (all-head (endpointAllowed s) e es h) .1 .0) i; address = address-again (got Kind.ofEndpoint (e .id) .address) (e .address) i }
+      ∷ endpoints-again got es (all-tail (endpointAllowed s) e es h) i
 
   module _ (x : Session) (hx : T (sessionAllowed s x)) where
     up-pdrs : T (ascending (map pdrId (x .pdrs)))
@@ -126,14 +133,14 @@ module _ (s : Settings) (hs : T (settingsAllowed s)) where
     up-csids = tests s hs x hx .1 .1 .1 .1 .1 .1 .1 .1 .1 .0
 
     -- the request makes the session
-    pub applied : (teids : Kind → ℕ → ℕ) → apply teids (restoredRequest s x) (newSession (x .seid)) ≡ x
+    pub applied : (got : Kind → ℕ → Got) → apply got (restoredRequest s x) (newSession (x .seid)) ≡ x
     unfolding apply restoredRequest newSession pdrsAfter endpointsAfter followCsids updateAll keep
-    applied teids =
+    applied got =
         λ i. record {
           seid = x .seid;
-          pdrs = (ap (λ (ps : List Pdr). insertAll pdrId ps []) (pdrs-again teids (map endpointId (x .endpoints)) (x .pdrs) (pdrsOk s hs x hx))
+          pdrs = (ap (λ (ps : List Pdr). insertAll pdrId ps []) (pdrs-again got (map endpointId (x .endpoints)) (x .pdrs) (pdrsOk s hs x hx))
               ∙ insertAll-up pdrId (x .pdrs) [] up-pdrs (under-nil pdrId (x .pdrs))) i;
-          endpoints = (ap (λ (es : List Endpoint). insertAll endpointId es []) (endpoints-again teids (x .endpoints) (endpointsOk s hs x hx))
+          endpoints = (ap (λ (es : List Endpoint). insertAll endpointId es []) (endpoints-again got (x .endpoints) (endpointsOk s hs x hx))
               ∙ insertAll-up endpointId (x .endpoints) [] up-endpoints (under-nil endpointId (x .endpoints))) i;
           csids = csids-set (x .csids) [] up-csids (under-nil nodeTypeOf (x .csids)) i;
         }
@@ -141,7 +148,7 @@ module _ (s : Settings) (hs : T (settingsAllowed s)) where
     -- ---- the call
 
     module _ (limit : ℕ) (m : Sessions) (fresh : isLive (x .seid) m ≡ false) (room : length m < limit)
-        (separate : T (not (anyIn (sessionTeids x) (heldTeids m)))) (p : Peer) (hp : T (peerAllowed p)) where
+        (separate : T (not (anyIn (sessionTeids x) (heldTeids m)))) (separateAddresses : T (not (anyIn (sessionAddresses s x) (heldAddresses s m)))) (p : Peer) (hp : T (peerAllowed p)) where
       abbrev msg : List ℕ
       msg = restoration s p x
 
@@ -155,28 +162,28 @@ module _ (s : Settings) (hs : T (settingsAllowed s)) where
           ∙ at-new
         where
           at-new : judge limit establishment s m (atEntry establishment (headerSeid msg) (restoredRequest s x) m) (restoredRequest s x) ≡ plain why.accepted
-          at-new = unfold atEntry unnamed restoredRequest in (restored-judged s hs x hx limit m fresh room separate)
+          at-new = unfold atEntry unnamed restoredRequest in (restored-judged s hs x hx limit m fresh room separate separateAddresses)
 
       msg-after : sessionsAfter s m msg ≡ putSession x m
       unfolding sessionsAfter follow atEntry unnamed
       msg-after =
-          ap₂ (λ (k : ℕ) (r : Request). follow (grantedTeid (grants s m r)) k (headerSeid msg) r m) (msg-kind s hs p hp x hx) (msg-request s hs p hp x hx)
+          ap₂ (λ (k : ℕ) (r : Request). follow (granted s m r) k (headerSeid msg) r m) (msg-kind s hs p hp x hx) (msg-request s hs p hp x hx)
           ∙ ap (λ (y : Session). putSession y m) made
         where
-          made : apply (grantedTeid (grants s m (restoredRequest s x))) (restoredRequest s x) (newSession (restoredRequest s x .seid)) ≡ x
-          made = unfold restoredRequest in (applied (grantedTeid (grants s m (restoredRequest s x))))
+          made : apply (granted s m (restoredRequest s x)) (restoredRequest s x) (newSession (restoredRequest s x .seid)) ≡ x
+          made = unfold restoredRequest in (applied (granted s m (restoredRequest s x)))
 
       -- a restoration into a table of other sessions is accepted, and puts its session in
-      pub restored-call : limit < 256 ^ 2 → T (sessionsAllowed limit s m) → (space : List ℕ) → 1024 ≤ length space
+      pub restored-call : limit < 256 ^ 2 → T (sessionsAllowed limit s m) → (space : List ℕ) → minSpace ≤ length space
           → serve limit (encode limit s m) msg space ≡ record { outcome = 0; place = 0; space = put 0 (replyTo s m msg (plain why.accepted)) space; table = encode limit s (putSession x m) }
       unfolding serve serveSound answer answered served
       restored-call small hm space long =
           let t = encode limit s m in
-          let short : length msg ≤ 2048 = le-trans (msg-short s hs p hp x hx) (lit≤ tt) in
+          let short : length msg ≤ maxMessage = le-trans (msg-short s hs p hp x hx) (lit≤ tt) in
           pick-yes (sound limit t) _ _ (sound-encode s hs limit small m hm)
           ∙ ap₂ (λ (s′ : Settings) (m′ : Sessions). serveSound limit s′ m′ t msg space) (encoded-settings s hs limit small m hm) (sessions-back s hs limit small m hm)
-          ∙ pick-no (ltb (length space) 1024) _ _ (no-ltb long)
-          ∙ pick-no (ltb 2048 (length msg)) _ _ (no-ltb short)
+          ∙ pick-no (ltb (length space) minSpace) _ _ (no-ltb long)
+          ∙ pick-no (ltb maxMessage (length msg)) _ _ (no-ltb short)
           ∙ pick-no (not (headerAllowed msg)) _ _ (twice (headerAllowed msg) (msg-allowed s hs p hp x hx))
           ∙ ap (λ (k : ℕ). pick (not (eqb k establishment || eqb k modification || eqb k deletion || eqb k setDeletion)) (unserved 5 space t) (answer limit s m msg space t)) (msg-kind s hs p hp x hx)
           ∙ ap (answered limit s m msg space t) msg-verdict

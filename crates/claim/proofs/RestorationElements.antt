@@ -1,7 +1,7 @@
 -- A restoration request that was written for a session is read as that session's records.
 -- Assumes nothing.
 use mathlib.Core.Path.{_≡_, refl, ap, _∙_}
-use Prim.Native.Nat.{ℕ, _+_, _%_, _^_, _≤_, _<_, zero-le, suc-le-suc}
+use Prim.Native.Nat.{ℕ, suc, _+_, _%_, _^_, _≤_, _<_, zero-le, suc-le-suc}
 use native.Mathlib.Nat.{le-trans, le-of-eq, mod-eq-of-lt}
 use native.Mathlib.Omega.{arith}
 use mathlib.Core.Bool.{Bool, true, false, not, _&&_, _||_}
@@ -16,15 +16,15 @@ use Rattle.octets.specs.Lists.{member}
 use Rattle.octets.proofs.Tests.{each, all-of-each, both}
 use Rattle.octets.proofs.Numbers.{length-be, number-be}
 use Rattle.rules.specs.Model.{Settings, Tunnel, Place, neither, tunnel, endpoint, Pdr, Endpoint, Csid, placeTunnel, placeEndpoint}
-use Rattle.rules.specs.Elements.{value, Fteid, readFteid, readFqcsid, addressOf, givenTests, fteidAllowed, fteidOctets, unitFteid, fqcsidOctets}
-use Rattle.laws.proofs.ElementLaws.{fteid-back, fqcsid-back}
-use Rattle.rules.specs.Sound.{ipv6Allowed, settingsTests, settingsAllowed, unitFamilies, tunnelTests, tunnelAllowed, placeAllowed, farAllowed, pdrTests, pdrAllowed, csidTests, csidAllowed}
+use Rattle.rules.specs.Elements.{value, Fteid, UeIp, ueGiven, ueAllowed, ueOctets, readFteid, readUeIp, readFqcsid, addressOf, givenTests, fteidAllowed, fteidOctets, unitFteid, fqcsidOctets}
+use Rattle.laws.proofs.ElementLaws.{fteid-back, ue-back, fqcsid-back}
+use Rattle.rules.specs.Sound.{ipv6Allowed, settingsTests, settingsAllowed, unitFamilies, tunnelTests, tunnelAllowed, placeAllowed, farAllowed, addressAllowed, pdrTests, pdrAllowed, csidTests, csidAllowed}
 use Rattle.laws.proofs.LayoutLaws.{csid-address-length, address-short, teid-fits}
 use Rattle.laws.proofs.TableLaws.{settingsFacts, ipv4-four, ipv6-ok, ipv6-short}
 use Rattle.rules.specs.Message.{inside, Element, elements, placesOf, opened, numberWidth, establishment}
 use Rattle.rules.specs.Reading.{createsPdr, createsEndpoint, done, andThen, Members, noMembers, holds, numberRead, farRead, pdiIn, valueRead, memberRead, membersRead, unopened, pdiEnd, pdiRead, pdrFrom, endpointFrom, itemFrom, groupRead}
 use Rattle.laws.proofs.MessageLaws.{Fits, el, after, elements-cons, elements-nil, elements-last, Framed, Inside, framed-nil, framed-cons, framed-last, length-one}
-use Rattle.rules.specs.Reply.{element, unitElement}
+use Rattle.rules.specs.Reply.{element, unitElement, addressPart}
 use Rattle.rules.specs.Restoration.{placeElement, farElement, pdiContent, pdrContent, endpointContent, recordCsid, restoredPdr, restoredEndpoint}
 use Rattle.rules.specs.Types as ie
 
@@ -113,11 +113,53 @@ module _ (s : Settings) (hs : T (settingsAllowed s)) where
   unfolding Fits
   one-fits t h c = (h, lit< tt)
 
-  place-elements : (at : ℕ) (l : Place) → elements at (placeElement s l) ≡ placeElements at l
-  unfolding placeElement placeElements unitElement
-  place-elements at neither = elements-nil at
-  place-elements at (tunnel t) = elements-last at ie.fteid (fteidOctets (unitFteid s t)) (unit-fits t)
-  place-elements at (endpoint e) = elements-last at ie.endpointId (e ∷ []) (one-fits ie.endpointId (lit< tt) e)
+  -- the place after it
+  placeEnd : ℕ → Place → ℕ
+  placeEnd at neither = at
+  placeEnd at (tunnel t) = after at (fteidOctets (unitFteid s t))
+  placeEnd at (endpoint e) = after at (e ∷ [])
+
+  pub be-fits : (t w n : ℕ) → t < 256 ^ 2 → w ≤ 2048 → Fits t (be w n)
+  unfolding Fits
+  be-fits t w n h g = (h, small (le-trans (le-of-eq (length-be w n)) g))
+
+  -- an address, in the end of a group
+  unfoldable pub addressElements : ℕ → Option ℕ → List Element
+  addressElements at none = []
+  addressElements at (some a) = el at ie.ueIpAddress (ueOctets (ueGiven a)) ∷ []
+
+  ue-length : (a : ℕ) → length (ueOctets (ueGiven a)) ≡ 5
+  unfolding ueOctets be
+  ue-length a = refl
+
+  pub ue-fits : (a : ℕ) → Fits ie.ueIpAddress (ueOctets (ueGiven a))
+  unfolding Fits
+  ue-fits a = (lit< tt, small (le-trans (le-of-eq (ue-length a)) (lit≤ tt)))
+
+  pub address-elements : (at : ℕ) (o : Option ℕ) → elements at (addressPart o) ≡ addressElements at o
+  unfolding addressPart addressElements
+  address-elements at none = elements-nil at
+  address-elements at (some a) = elements-last at ie.ueIpAddress (ueOctets (ueGiven a)) (ue-fits a)
+
+  pub ue-short : (o : Option ℕ) → length (addressPart o) ≤ 9
+  unfolding addressPart
+  ue-short none = zero-le
+  ue-short (some a) = le-of-eq (length-one ie.ueIpAddress (ueOctets (ueGiven a)) ∙ ap (λ (k : ℕ). 4 + k) (ue-length a))
+
+  -- it is read back
+  address-back : (a : ℕ) → T (addressAllowed (some a)) → readUeIp (ueOctets (ueGiven a)) ≡ value (ueGiven a)
+  unfolding addressAllowed
+  address-back a h = ue-back (ueGiven a) (unfold ueAllowed in h)
+
+  place-elements : (at : ℕ) (l : Place) (o : Option ℕ) → elements at (placeElement s l ++ addressPart o) ≡ placeElements at l ++ addressElements (placeEnd at l) o
+  unfolding placeElement placeElements placeEnd unitElement
+  place-elements at neither o = address-elements at o
+  place-elements at (tunnel t) o =
+      elements-cons ie.fteid (fteidOctets (unitFteid s t)) (addressPart o) (unit-fits t) at
+      ∙ ap (λ (es : List Element). el at ie.fteid (fteidOctets (unitFteid s t)) ∷ es) (address-elements _ o)
+  place-elements at (endpoint e) o =
+      elements-cons ie.endpointId (e ∷ []) (addressPart o) (one-fits ie.endpointId (lit< tt) e) at
+      ∙ ap (λ (es : List Element). el at ie.endpointId (e ∷ []) ∷ es) (address-elements _ o)
 
   place-short : (l : Place) → length (placeElement s l) ≤ 29
   unfolding placeElement unitElement
@@ -125,18 +167,21 @@ module _ (s : Settings) (hs : T (settingsAllowed s)) where
   place-short (tunnel t) = le-trans (le-of-eq (length-one ie.fteid (fteidOctets (unitFteid s t)))) (let h = unit-short t in omega arith)
   place-short (endpoint e) = le-trans (le-of-eq (length-one ie.endpointId (e ∷ []))) (lit≤ tt)
 
-  pdi-elements : (at : ℕ) (p : Pdr) → elements at (pdiContent s p) ≡ el at ie.sourceInterface (p .source ∷ []) ∷ placeElements (after at (p .source ∷ [])) (p .place)
+  pdi-elements : (at : ℕ) (p : Pdr) → elements at (pdiContent s p)
+      ≡ el at ie.sourceInterface (p .source ∷ []) ∷ (placeElements (after at (p .source ∷ [])) (p .place) ++ addressElements (placeEnd (after at (p .source ∷ [])) (p .place)) (p .address))
   unfolding pdiContent
   pdi-elements at p =
-      elements-cons ie.sourceInterface (p .source ∷ []) (placeElement s (p .place)) (one-fits ie.sourceInterface (lit< tt) (p .source)) at
-      ∙ ap (λ (es : List Element). el at ie.sourceInterface (p .source ∷ []) ∷ es) (place-elements _ (p .place))
+      elements-cons ie.sourceInterface (p .source ∷ []) (placeElement s (p .place) ++ addressPart (p .address)) (one-fits ie.sourceInterface (lit< tt) (p .source)) at
+      ∙ ap (λ (es : List Element). el at ie.sourceInterface (p .source ∷ []) ∷ es) (place-elements _ (p .place) (p .address))
 
-  pdi-short : (p : Pdr) → length (pdiContent s p) ≤ 34
+  pdi-short : (p : Pdr) → length (pdiContent s p) ≤ 43
   unfolding pdiContent
   pdi-short p =
-      let a = length-append (element ie.sourceInterface (p .source ∷ [])) (placeElement s (p .place)) in
+      let a = length-append (element ie.sourceInterface (p .source ∷ [])) (placeElement s (p .place) ++ addressPart (p .address)) in
       let b = length-one ie.sourceInterface (p .source ∷ []) in
+      let c = length-append (placeElement s (p .place)) (addressPart (p .address)) in
       let h = place-short (p .place) in
+      let g = ue-short (p .address) in
       omega arith
 
   pub source-back : (c : ℕ) → c < 16 → number (c ∷ []) % 16 ≡ c
@@ -144,32 +189,34 @@ module _ (s : Settings) (hs : T (settingsAllowed s)) where
 
   -- a Create PDR's members before its PDI's, and with them
   abbrev begun : ℕ → ℕ → Members
-  begun i n = record { pdrId = some i; precedence = some n; far = none; pdi = true; source = none; local = none; endpointId = none }
+  begun i n = record { pdrId = some i; precedence = some n; far = none; pdi = true; source = none; local = none; endpointId = none; address = none }
 
-  abbrev placed : ℕ → ℕ → ℕ → Option Fteid → Option ℕ → Members
-  placed i n c o e = record { pdrId = some i; precedence = some n; far = none; pdi = true; source = some c; local = o; endpointId = e }
+  abbrev placed : ℕ → ℕ → ℕ → Option Fteid → Option ℕ → Option UeIp → Members
+  placed i n c o e u = record { pdrId = some i; precedence = some n; far = none; pdi = true; source = some c; local = o; endpointId = e; address = u }
 
-  pdi-members : (a at q i n c : ℕ) (l : Place) (live : List ℕ) → c < 16 → T (placeAllowed s live l)
-      → andThen (membersRead unopened 2 (el a ie.sourceInterface (c ∷ []) ∷ placeElements at l) (begun i n)) (pdiEnd q) ≡ done (placed i n c (mapOption (unitFteid s) (placeTunnel l)) (placeEndpoint l))
-  unfolding membersRead memberRead valueRead holds numberRead numberAt numberWidth placesOf member pdiEnd placeElements placeTunnel placeEndpoint placeAllowed
-  pdi-members a at q i n c neither live h k = λ j. done (placed i n (source-back c h j) none none)
-  pdi-members a at q i n c (tunnel t) live h k = rw (unit-back false t k) (λ j. done (placed i n (source-back c h j) (some (unitFteid s t)) none))
-  pdi-members a at q i n c (endpoint e) live h k = λ j. done (placed i n (source-back c h j) none (some (number-one e j)))
+  pdi-members : (a at b q i n c : ℕ) (l : Place) (o : Option ℕ) (live : List ℕ) → c < 16 → T (placeAllowed s live l) → T (addressAllowed o)
+      → andThen (membersRead unopened 2 (el a ie.sourceInterface (c ∷ []) ∷ (placeElements at l ++ addressElements b o)) (begun i n)) (pdiEnd q)
+      ≡ done (placed i n c (mapOption (unitFteid s) (placeTunnel l)) (placeEndpoint l) (mapOption ueGiven o))
+  unfolding membersRead memberRead valueRead holds numberRead numberAt numberWidth placesOf member pdiEnd placeElements addressElements placeTunnel placeEndpoint placeAllowed
+  pdi-members a at b q i n c neither none live h k g = λ j. done (placed i n (source-back c h j) none none none)
+  pdi-members a at b q i n c neither (some u) live h k g = rw (address-back u g) (λ j. done (placed i n (source-back c h j) none none (some (ueGiven u))))
+  pdi-members a at b q i n c (tunnel t) none live h k g = rw (unit-back false t k) (λ j. done (placed i n (source-back c h j) (some (unitFteid s t)) none none))
+  pdi-members a at b q i n c (tunnel t) (some u) live h k g =
+      rw (unit-back false t k, address-back u g) (λ j. done (placed i n (source-back c h j) (some (unitFteid s t)) none (some (ueGiven u))))
+  pdi-members a at b q i n c (endpoint e) none live h k g = λ j. done (placed i n (source-back c h j) none (some (number-one e j)) none)
+  pdi-members a at b q i n c (endpoint e) (some u) live h k g =
+      rw (address-back u g) (λ j. done (placed i n (source-back c h j) none (some (number-one e j)) (some (ueGiven u))))
 
-  pdi-read : (p : Pdr) (live : List ℕ) → p .source < 16 → T (placeAllowed s live (p .place)) → (q i n : ℕ)
-      → pdiRead q (pdiContent s p) (begun i n) ≡ done (placed i n (p .source) (mapOption (unitFteid s) (placeTunnel (p .place))) (placeEndpoint (p .place)))
+  pdi-read : (p : Pdr) (live : List ℕ) → p .source < 16 → T (placeAllowed s live (p .place)) → T (addressAllowed (p .address)) → (q i n : ℕ)
+      → pdiRead q (pdiContent s p) (begun i n) ≡ done (placed i n (p .source) (mapOption (unitFteid s) (placeTunnel (p .place))) (placeEndpoint (p .place)) (mapOption ueGiven (p .address)))
   unfolding pdiRead
-  pdi-read p live h k q i n = rw (pdi-elements (inside q) p) (pdi-members _ _ q i n (p .source) (p .place) live h k)
+  pdi-read p live h k g q i n = rw (pdi-elements (inside q) p) (pdi-members _ _ _ q i n (p .source) (p .place) (p .address) live h k g)
 
   -- ---- a Create PDR
 
   farElements : ℕ → Option ℕ → List Element
   farElements at none = []
   farElements at (some n) = el at ie.farId (be 4 n) ∷ []
-
-  pub be-fits : (t w n : ℕ) → t < 256 ^ 2 → w ≤ 2048 → Fits t (be w n)
-  unfolding Fits
-  be-fits t w n h g = (h, small (le-trans (le-of-eq (length-be w n)) g))
 
   far-elements : (at : ℕ) (f : Option ℕ) → elements at (farElement f) ≡ farElements at f
   unfolding farElement farElements
@@ -209,7 +256,7 @@ module _ (s : Settings) (hs : T (settingsAllowed s)) where
   far-short none = zero-le
   far-short (some n) = le-of-eq (length-one ie.farId (be 4 n) ∙ ap (λ (k : ℕ). 4 + k) (length-be 4 n))
 
-  pub pdr-short : (p : Pdr) → length (pdrContent s p) ≤ 60
+  pub pdr-short : (p : Pdr) → length (pdrContent s p) ≤ 69
   unfolding pdrContent
   pdr-short p =
       let a = length-append (element ie.pdrId (be 2 (p .id))) (element ie.precedence (be 4 (p .precedence)) ++ (element ie.pdi (pdiContent s p) ++ farElement (p .far))) in
@@ -224,15 +271,15 @@ module _ (s : Settings) (hs : T (settingsAllowed s)) where
       let h = far-short (p .far) in
       omega arith
 
-  pdr-members : (a b d at q i n : ℕ) (v : List ℕ) (f : Option ℕ) (c : ℕ) (o : Option Fteid) (e : Option ℕ) → i < 256 ^ 2 → n < 256 ^ 4 → T (farAllowed f)
-      → ((j k : ℕ) → pdiRead d v (begun j k) ≡ done (placed j k c o e))
+  pdr-members : (a b d at q i n : ℕ) (v : List ℕ) (f : Option ℕ) (c : ℕ) (o : Option Fteid) (e : Option ℕ) (u : Option UeIp) → i < 256 ^ 2 → n < 256 ^ 4 → T (farAllowed f)
+      → ((j k : ℕ) → pdiRead d v (begun j k) ≡ done (placed j k c o e u))
       → andThen (membersRead pdiRead 1 (el a ie.pdrId (be 2 i) ∷ el b ie.precedence (be 4 n) ∷ el d ie.pdi v ∷ farElements at f) noMembers) (itemFrom 1 q)
-      ≡ done (createsPdr (record { id = i; precedence = n; far = f; source = c; local = o; endpoint = e }))
+      ≡ done (createsPdr (record { id = i; precedence = n; far = f; source = c; local = o; endpoint = e; address = u }))
   unfolding membersRead memberRead valueRead holds numberRead farRead pdiIn numberAt numberWidth placesOf member farElements farAllowed be itemFrom pdrFrom
-  pdr-members a b d at q i n v none c o e hi hn hf h =
-      rw h (λ j. done (createsPdr (record { id = number-be 2 i hi j; precedence = number-be 4 n hn j; far = none; source = c; local = o; endpoint = e })))
-  pdr-members a b d at q i n v (some f) c o e hi hn hf h =
-      rw h (λ j. done (createsPdr (record { id = number-be 2 i hi j; precedence = number-be 4 n hn j; far = some (number-be 4 f (ltb→lt f (2 ^ 32) hf) j); source = c; local = o; endpoint = e })))
+  pdr-members a b d at q i n v none c o e u hi hn hf h =
+      rw h (λ j. done (createsPdr (record { id = number-be 2 i hi j; precedence = number-be 4 n hn j; far = none; source = c; local = o; endpoint = e; address = u })))
+  pdr-members a b d at q i n v (some f) c o e u hi hn hf h =
+      rw h (λ j. done (createsPdr (record { id = number-be 2 i hi j; precedence = number-be 4 n hn j; far = some (number-be 4 f (ltb→lt f (2 ^ 32) hf) j); source = c; local = o; endpoint = e; address = u })))
 
   -- a Create PDR is read as the record
   pub pdr-read : (p : Pdr) (live : List ℕ) → T (pdrAllowed s live p) → (q : ℕ) → groupRead 1 q (pdrContent s p) ≡ done (createsPdr (restoredPdr s p))
@@ -240,20 +287,27 @@ module _ (s : Settings) (hs : T (settingsAllowed s)) where
   pdr-read p live h q =
       let e = each (pdrTests s live p) h in
       ap (λ (es : List Element). andThen (membersRead pdiRead 1 es noMembers) (itemFrom 1 q)) (pdr-elements (inside q) p)
-      ∙ pdr-members _ _ (pdiAt (inside q) p) _ q (p .id) (p .precedence) (pdiContent s p) (p .far) (p .source) (mapOption (unitFteid s) (placeTunnel (p .place))) (placeEndpoint (p .place))
-      (ltb→lt (p .id) (2 ^ 16) (e .0)) (ltb→lt (p .precedence) (2 ^ 32) (e .1 .0)) (e .1 .1 .0) (pdi-read p live (ltb→lt (p .source) 16 (e .1 .1 .1 .0)) (e .1 .1 .1 .1 .0) (pdiAt (inside q) p))
+      ∙ pdr-members _ _ (pdiAt (inside q) p) _ q (p .id) (p .precedence) (pdiContent s p) (p .far) (p .source) (mapOption (unitFteid s) (placeTunnel (p .place))) (placeEndpoint (p .place)) (mapOption ueGiven (p .address))
+      (ltb→lt (p .id) (2 ^ 16) (e .0)) (ltb→lt (p .precedence) (2 ^ 32) (e .1 .0)) (e .1 .1 .0) (pdi-read p live (ltb→lt (p .source) 16 (e .1 .1 .1 .0)) (e .1 .1 .1 .1 .0) (e .1 .1 .1 .1 .1 .0) (pdiAt (inside q) p))
 
   -- ---- framing a Create PDR, at depth 2 in an establishment
 
-  place-framed : (l : Place) → Framed 1 establishment 2 (placeElement s l)
+  address-framed : (d g : ℕ) (o : Option ℕ) → ((a : ℕ) → Inside d establishment g ie.ueIpAddress (ueOctets (ueGiven a))) → Framed (suc d) establishment g (addressPart o)
+  unfolding addressPart
+  address-framed d g none h = framed-nil d establishment g
+  address-framed d g (some a) h = framed-last d establishment g ie.ueIpAddress (ueOctets (ueGiven a)) (ue-fits a) (h a)
+
+  place-framed : (l : Place) (o : Option ℕ) → Framed 1 establishment 2 (placeElement s l ++ addressPart o)
   unfolding placeElement unitElement Inside opened member
-  place-framed neither = framed-nil 0 establishment 2
-  place-framed (tunnel t) = framed-last 0 establishment ie.pdi ie.fteid (fteidOctets (unitFteid s t)) (unit-fits t) (λ _ _. refl)
-  place-framed (endpoint e) = framed-last 0 establishment ie.pdi ie.endpointId (e ∷ []) (one-fits ie.endpointId (lit< tt) e) (λ _ _. refl)
+  place-framed neither o = address-framed 0 ie.pdi o (λ _ _ _. refl)
+  place-framed (tunnel t) o = framed-cons 0 establishment ie.pdi ie.fteid (fteidOctets (unitFteid s t)) (addressPart o) (unit-fits t) (λ _ _. refl) (address-framed 0 ie.pdi o (λ _ _ _. refl))
+  place-framed (endpoint e) o = framed-cons 0 establishment ie.pdi ie.endpointId (e ∷ []) (addressPart o) (one-fits ie.endpointId (lit< tt) e) (λ _ _. refl) (address-framed 0 ie.pdi o (λ _ _ _. refl))
 
   pdi-framed : (p : Pdr) → Framed 1 establishment 2 (pdiContent s p)
   unfolding pdiContent Inside opened member
-  pdi-framed p = framed-cons 0 establishment ie.pdi ie.sourceInterface (p .source ∷ []) (placeElement s (p .place)) (one-fits ie.sourceInterface (lit< tt) (p .source)) (λ _ _. refl) (place-framed (p .place))
+  pdi-framed p =
+      framed-cons 0 establishment ie.pdi ie.sourceInterface (p .source ∷ []) (placeElement s (p .place) ++ addressPart (p .address)) (one-fits ie.sourceInterface (lit< tt) (p .source)) (λ _ _. refl)
+      (place-framed (p .place) (p .address))
 
   far-framed : (f : Option ℕ) → Framed 2 establishment 1 (farElement f)
   unfolding farElement Inside opened member
@@ -270,34 +324,50 @@ module _ (s : Settings) (hs : T (settingsAllowed s)) where
   -- ---- a Create Traffic Endpoint
 
   endpointElements : ℕ → Endpoint → List Element
-  endpointElements at e = el at ie.endpointId (e .id ∷ []) ∷ el (after at (e .id ∷ [])) ie.fteid (fteidOctets (unitFteid s (e .local))) ∷ []
+  endpointElements at e =
+      el at ie.endpointId (e .id ∷ []) ∷ el (after at (e .id ∷ [])) ie.fteid (fteidOctets (unitFteid s (e .local)))
+      ∷ addressElements (after (after at (e .id ∷ [])) (fteidOctets (unitFteid s (e .local)))) (e .address)
 
   endpoint-elements : (at : ℕ) (e : Endpoint) → elements at (endpointContent s e) ≡ endpointElements at e
   unfolding endpointContent endpointElements unitElement
   endpoint-elements at e =
-      elements-cons ie.endpointId (e .id ∷ []) (element ie.fteid (fteidOctets (unitFteid s (e .local)))) (one-fits ie.endpointId (lit< tt) (e .id)) at
-      ∙ ap (λ (es : List Element). el at ie.endpointId (e .id ∷ []) ∷ es) (elements-last _ ie.fteid (fteidOctets (unitFteid s (e .local))) (unit-fits (e .local)))
+      elements-cons ie.endpointId (e .id ∷ []) (element ie.fteid (fteidOctets (unitFteid s (e .local))) ++ addressPart (e .address)) (one-fits ie.endpointId (lit< tt) (e .id)) at
+      ∙ ap (λ (es : List Element). el at ie.endpointId (e .id ∷ []) ∷ es)
+      (elements-cons ie.fteid (fteidOctets (unitFteid s (e .local))) (addressPart (e .address)) (unit-fits (e .local)) _
+      ∙ ap (λ (es : List Element). el (after at (e .id ∷ [])) ie.fteid (fteidOctets (unitFteid s (e .local))) ∷ es) (address-elements _ (e .address)))
 
-  pub endpoint-short : (e : Endpoint) → length (endpointContent s e) ≤ 34
+  pub endpoint-short : (e : Endpoint) → length (endpointContent s e) ≤ 43
   unfolding endpointContent unitElement
   endpoint-short e =
-      let a = length-append (element ie.endpointId (e .id ∷ [])) (element ie.fteid (fteidOctets (unitFteid s (e .local)))) in
+      let a = length-append (element ie.endpointId (e .id ∷ [])) (element ie.fteid (fteidOctets (unitFteid s (e .local))) ++ addressPart (e .address)) in
       let b = length-one ie.endpointId (e .id ∷ []) in
       let c = length-one ie.fteid (fteidOctets (unitFteid s (e .local))) in
+      let d = length-append (element ie.fteid (fteidOctets (unitFteid s (e .local)))) (addressPart (e .address)) in
       let h = unit-short (e .local) in
+      let g = ue-short (e .address) in
       omega arith
 
-  pub endpoint-read : (e : Endpoint) → T (tunnelAllowed s (e .local)) → (q : ℕ) → groupRead ie.createEndpoint q (endpointContent s e) ≡ done (createsEndpoint (restoredEndpoint s e))
-  unfolding groupRead restoredEndpoint endpointElements membersRead memberRead valueRead holds numberRead numberAt numberWidth placesOf member itemFrom endpointFrom
-  endpoint-read e h q =
+  endpoint-members : (a b c q i : ℕ) (t : Tunnel) (o : Option ℕ) → T (tunnelAllowed s t) → T (addressAllowed o)
+      → andThen (membersRead pdiRead ie.createEndpoint (el a ie.endpointId (i ∷ []) ∷ el b ie.fteid (fteidOctets (unitFteid s t)) ∷ addressElements c o) noMembers) (itemFrom ie.createEndpoint q)
+      ≡ done (createsEndpoint (record { id = i; local = unitFteid s t; address = mapOption ueGiven o }))
+  unfolding membersRead memberRead valueRead holds numberRead numberAt numberWidth placesOf member itemFrom endpointFrom addressElements
+  endpoint-members a b c q i t none h g = rw (unit-back true t h) (λ j. done (createsEndpoint (record { id = number-one i j; local = unitFteid s t; address = none })))
+  endpoint-members a b c q i t (some u) h g =
+      rw (unit-back true t h, address-back u g) (λ j. done (createsEndpoint (record { id = number-one i j; local = unitFteid s t; address = some (ueGiven u) })))
+
+  pub endpoint-read : (e : Endpoint) → T (tunnelAllowed s (e .local)) → T (addressAllowed (e .address)) → (q : ℕ)
+      → groupRead ie.createEndpoint q (endpointContent s e) ≡ done (createsEndpoint (restoredEndpoint s e))
+  unfolding groupRead restoredEndpoint endpointElements
+  endpoint-read e h g q =
       ap (λ (es : List Element). andThen (membersRead pdiRead ie.createEndpoint es noMembers) (itemFrom ie.createEndpoint q)) (endpoint-elements (inside q) e)
-      ∙ rw (unit-back true (e .local) h) (λ j. done (createsEndpoint (record { id = number-one (e .id) j; local = unitFteid s (e .local) })))
+      ∙ endpoint-members _ _ _ q (e .id) (e .local) (e .address) h g
 
   pub endpoint-framed : (e : Endpoint) → Framed 2 establishment ie.createEndpoint (endpointContent s e)
   unfolding endpointContent unitElement Inside opened member
   endpoint-framed e =
       framed-cons 1 establishment ie.createEndpoint ie.endpointId (e .id ∷ []) _ (one-fits ie.endpointId (lit< tt) (e .id)) (λ _ _. refl)
-      (framed-last 1 establishment ie.createEndpoint ie.fteid (fteidOctets (unitFteid s (e .local))) (unit-fits (e .local)) (λ _ _. refl))
+      (framed-cons 1 establishment ie.createEndpoint ie.fteid (fteidOctets (unitFteid s (e .local))) (addressPart (e .address)) (unit-fits (e .local)) (λ _ _. refl)
+      (address-framed 1 ie.createEndpoint (e .address) (λ _ _ _. refl)))
 
 -- ---- an FQ-CSID
 

@@ -1,4 +1,4 @@
--- A restoration request of a session that is not live, whose TEIDs no other session holds, is accepted where there is room.
+-- A restoration request of a session that is not live, whose TEIDs and addresses no other session holds, is accepted where there is room.
 -- Assumes nothing.
 use mathlib.Core.Path.{_≡_, refl, sym, ap, ap₂, _∙_, subst}
 use Prim.Native.Nat.{ℕ, _+_, _-_, _≤_, _<_}
@@ -8,20 +8,22 @@ use mathlib.Core.Bool.{Bool, true, false, not, _&&_, _||_}
 use mathlib.Core.Option.{none, some}
 use mathlib.Core.List.{List, [], _∷_, _++_, map}
 use lib.ListN.{length, length-map}
-use lib.Dec.{T, leb, ltb, eqb, ltb→lt, lt→ltb, leb·suc-zero}
+use lib.Dec.{T, leb, ltb, ltb→lt, lt→ltb, leb·suc-zero}
 use mir.Facts.{no-ltb, no-leb}
 use Rattle.octets.specs.Choice.{pick, mapOption, bindOption, consOption, isNil, isSome}
 use Rattle.octets.specs.Lists.{collect, member, anyIn, allIn, hasRepeat, without, any, all, allPairs, ascending, keep}
-use Rattle.octets.proofs.Tests.{each, both, and-right, all-head, all-tail, all-cons, neither-one, no-eqb, ascending-head, ascending-tail, is-true, is-false}
+use Rattle.octets.proofs.Tests.{each, both, and-right, all-head, all-tail, all-cons, neither-one, ascending-head, ascending-tail, is-true, is-false}
 use Rattle.octets.proofs.Numbers.{same-refl}
-use Rattle.rules.specs.Model.{Settings, Tunnel, Place, neither, tunnel, endpoint, Pdr, Endpoint, Session, Sessions, Holding, endpointId, pdrId, placeTunnel, placeEndpoint, tunnelHolding, pdrHolding, endpointHolding, sessionHoldings, teidOf, sessionTeids, heldTeids, freeCount}
-use Rattle.rules.specs.Elements.{Fteid, unitFteid, hasV6, chooses, chooseId}
+use Rattle.octets.proofs.ListLaws.{map-append, collect-map, map-collect}
+use Rattle.laws.proofs.RangeLaws.{above-not-member}
+use Rattle.rules.specs.Model.{Settings, Tunnel, Place, neither, tunnel, endpoint, Pdr, Endpoint, Session, Sessions, Holding, endpointId, pdrId, placeTunnel, placeEndpoint, tunnelHolding, pdrHolding, endpointHolding, sessionHoldings, teidOf, sessionTeids, heldTeids, freeCount, endpointAddress, pdrAddress, inAddressPool, sessionAddresses, heldAddresses, freeAddresses}
+use Rattle.rules.specs.Elements.{Fteid, unitFteid, hasV6, chooses, chooseId, UeIp, ueGiven, ueAddress, ueChooses}
 use Rattle.rules.specs.Sound.{settingsAllowed, inPool, unitFamilies, tunnelTests, tunnelAllowed, placeAllowed, pdrTests, pdrAllowed, endpointTests, endpointAllowed, sessionTests, sessionAllowed, agree}
 use Rattle.laws.proofs.LayoutLaws.{pdrsOk, endpointsOk, fewPdrs, fewEndpoints, tests}
 use Rattle.laws.proofs.TableLaws.{ipv4-four}
 use Rattle.rules.specs.Reading.{Request}
 use Rattle.rules.specs.Grants.{Kind, choiceOf, endpointChoice, pdrChoice, choices, needFrom, need}
-use Rattle.rules.specs.Stages.{newSession, isLive, newPdrId, newEndpointId, namedEndpoint, pdrLocal, endpointLocal, createdPdrs, createdEndpoints, updatedPdrs, livePdrs, liveEndpoints, fteidsOf, wrongAllocation, invalidAllocation, idTwice, createdLive, absentId, updatesRemoved, namesBoth, endpointIdsAfter, namesAbsent, removedPdrs, sameChoice, fteidsMayShare, localsMayShare, choicesAgree, lacksFamily, otherAddress, strange, restoredHolding, endpointRestored, pdrRestored, restoredHoldings, clash, requestRules, brokenRules, breaksRule, tooManySessions, tooManyPdrs, tooManyEndpoints, tooFewTeids, noRoom, plain, judge}
+use Rattle.rules.specs.Stages.{newSession, isLive, newPdrId, newEndpointId, namedEndpoint, pdrLocal, endpointLocal, createdPdrs, createdEndpoints, updatedPdrs, livePdrs, liveEndpoints, fteidsOf, wrongAllocation, invalidAllocation, idTwice, createdLive, absentId, updatesRemoved, namesBoth, endpointIdsAfter, namesAbsent, removedPdrs, sameChoice, fteidsMayShare, localsMayShare, choicesAgree, lacksFamily, otherAddress, strange, restoredHolding, endpointRestored, pdrRestored, restoredHoldings, clash, newPdrAddress, newEndpointAddress, addressesOf, wrongAddress, restoredAddresses, addressClash, requestRules, brokenRules, breaksRule, tooManySessions, tooManyPdrs, tooManyEndpoints, tooFewTeids, noRoom, noAddress, plain, judge}
 use Rattle.rules.specs.Restoration.{restoredPdr, restoredEndpoint, restoredRequest}
 use Rattle.rules.specs.Causes as why
 use Rattle.rules.specs.Message.{establishment}
@@ -40,13 +42,6 @@ ascending-above x (y ∷ xs) h =
     raise (n ∷ ns) up g =
         let over = ltb→lt y n (all-head (λ m. ltb y m) n ns g) in
         all-cons (λ m. ltb x m) n ns (lt→ltb x n (omega arith)) (raise ns up (all-tail (λ m. ltb y m) n ns g))
-
-pub above-not-member : (x : ℕ) (xs : List ℕ) → T (all (λ n. ltb x n) xs) → T (not (member x xs))
-unfolding member
-above-not-member x [] h = tt
-above-not-member x (y ∷ xs) h =
-    let over = ltb→lt x y (all-head (λ n. ltb x n) y xs h) in
-    neither-one (eqb x y) (member x xs) (no-eqb x y (omega arith)) (above-not-member x xs (all-tail (λ n. ltb x n) y xs h))
 
 -- ascending numbers do not repeat
 pub ascending-once : (xs : List ℕ) → T (ascending xs) → T (not (hasRepeat xs))
@@ -242,6 +237,18 @@ module _ (s : Settings) (hs : T (settingsAllowed s)) where
   no-endpoint-choice [] = refl
   no-endpoint-choice (e ∷ es) = no-endpoint-choice es
 
+  -- ---- addresses that are given
+
+  any-given : (q : UeIp → Bool) → ((a : ℕ) → q (ueGiven a) ≡ false) → (l : List ℕ) → any q (map ueGiven l) ≡ false
+  unfolding any
+  any-given q f [] = refl
+  any-given q f (a ∷ l) = ap₂ _||_ (f a) (any-given q f l)
+
+  collect-given : (l : List ℕ) → collect ueAddress (map ueGiven l) ≡ l
+  unfolding collect ueAddress
+  collect-given [] = refl
+  collect-given (a ∷ l) = ap (λ (k : List ℕ). a ∷ k) (collect-given l)
+
   -- ---- the request of a session
 
   module _ (x : Session) (hx : T (sessionAllowed s x)) where
@@ -294,6 +301,37 @@ module _ (s : Settings) (hs : T (settingsAllowed s)) where
     unfolding restoredHoldings sessionHoldings request restoredRequest
     holds = ap₂ _++_ (endpoint-holds (x .endpoints) (endpointsOk s hs x hx)) (pdr-holds (map endpointId (x .endpoints)) (x .pdrs) (pdrsOk s hs x hx))
 
+    -- and so are the addresses
+    own-addresses : List ℕ
+    own-addresses = collect endpointAddress (x .endpoints) ++ collect pdrAddress (x .pdrs)
+
+    addresses : addressesOf request ≡ map ueGiven own-addresses
+    unfolding addressesOf request restoredRequest restoredPdr restoredEndpoint own-addresses
+    addresses =
+        ap₂ _++_ (collect-map (restoredEndpoint s) newEndpointAddress (x .endpoints) ∙ sym (map-collect endpointAddress ueGiven (x .endpoints)))
+        (collect-map (restoredPdr s) newPdrAddress (x .pdrs) ∙ sym (map-collect pdrAddress ueGiven (x .pdrs)))
+        ∙ sym (map-append ueGiven (collect endpointAddress (x .endpoints)) (collect pdrAddress (x .pdrs)))
+
+    -- a test that fails on every address that is given
+    no-address : (q : UeIp → Bool) → ((a : ℕ) → q (ueGiven a) ≡ false) → any q (addressesOf request) ≡ false
+    no-address q f = ap (any q) addresses ∙ any-given q f own-addresses
+
+    restored-addresses : restoredAddresses s request ≡ sessionAddresses s x
+    unfolding restoredAddresses sessionAddresses own-addresses
+    restored-addresses = ap (λ (l : List UeIp). keep (inAddressPool s) (collect ueAddress l)) addresses ∙ ap (keep (inAddressPool s)) (collect-given own-addresses)
+
+    given-right : (a : ℕ) → wrongAddress s true (ueGiven a) ≡ false
+    unfolding wrongAddress
+    given-right a = no (inAddressPool s a)
+      where
+        no : (b : Bool) → (b && false) ≡ false
+        no true = refl
+        no false = refl
+
+    no-ue-choice : (a : ℕ) → ueChooses (ueGiven a) ≡ false
+    unfolding ueChooses
+    no-ue-choice a = refl
+
     pub no-choices : choices (restoredRequest s x) ≡ []
     unfolding choices restoredRequest
     no-choices = ap₂ _++_ (no-endpoint-choice (x .endpoints)) (no-pdr-choice (x .pdrs))
@@ -303,7 +341,7 @@ module _ (s : Settings) (hs : T (settingsAllowed s)) where
     needs-none = ap (needFrom []) no-choices
 
     module _ (limit : ℕ) (m : Sessions) (fresh : isLive (x .seid) m ≡ false) (room : length m < limit)
-        (separate : T (not (anyIn (sessionTeids x) (heldTeids m)))) where
+        (separate : T (not (anyIn (sessionTeids x) (heldTeids m)))) (separateAddresses : T (not (anyIn (sessionAddresses s x) (heldAddresses s m)))) where
       own : T (allPairs agree (sessionHoldings x))
       unfolding sessionTests
       own = tests s hs x hx .1 .1 .1 .1 .1 .1 .1 .1 .1 .1 .1 .0
@@ -314,11 +352,15 @@ module _ (s : Settings) (hs : T (settingsAllowed s)) where
           ap (λ (hs′ : List Holding). anyIn (map teidOf hs′) (heldTeids m) || not (allPairs agree hs′)) holds
           ∙ (λ i. is-false (anyIn (sessionTeids x) (heldTeids m)) separate i || not (is-true (allPairs agree (sessionHoldings x)) own i))
 
+      no-address-clash : addressClash s m request ≡ false
+      unfolding addressClash
+      no-address-clash = ap (λ (l : List ℕ). anyIn l (heldAddresses s m)) restored-addresses ∙ is-false (anyIn (sessionAddresses s x) (heldAddresses s m)) separateAddresses
+
       rules-kept : breaksRule s m (newSession (x .seid)) request ≡ false
       unfolding breaksRule requestRules brokenRules updatesRemoved updatedPdrs anyIn request restoredRequest
       rules-kept =
           λ i. once i || (not-live i || (absent i || (false || (none-both (x .pdrs) i || (names i || (not (choices-agree (x .pdrs) i)
-          || (no-fteid (lacksFamily s) unit-lacks i || (no-fteid (strange s) unit-strange i || (no-clash i || false)))))))))
+          || (no-fteid (lacksFamily s) unit-lacks i || (no-fteid (strange s) unit-strange i || (no-address (wrongAddress s true) given-right i || (no-clash i || (no-address-clash i || false)))))))))))
 
       enough-room : noRoom limit establishment s m (newSession (x .seid)) request ≡ false
       unfolding noRoom tooManySessions tooManyPdrs removedPdrs keep tooManyEndpoints tooFewTeids newSession request restoredRequest
@@ -342,6 +384,7 @@ module _ (s : Settings) (hs : T (settingsAllowed s)) where
 
       -- accepted
       pub restored-judged : judge limit establishment s m (newSession (x .seid)) (restoredRequest s x) ≡ plain why.accepted
-      unfolding judge request restoredRequest invalidAllocation
+      unfolding judge request restoredRequest invalidAllocation noAddress
       restored-judged =
-          λ i. pick (fresh i) (plain why.rejected) (pick (no-fteid (wrongAllocation true) unit-given i) (plain why.wrongAllocation) (pick false (plain why.notSupported) (pick (rules-kept i) (plain why.brokenRule) (pick (enough-room i) (plain why.noRoom) (plain why.accepted)))))
+          λ i. pick (fresh i) (plain why.rejected) (pick (no-fteid (wrongAllocation true) unit-given i) (plain why.wrongAllocation) (pick false (plain why.notSupported) (pick (rules-kept i) (plain why.brokenRule) (pick (enough-room i) (plain why.noRoom)
+          (pick (no-address ueChooses no-ue-choice i && isNil (freeAddresses s m)) (plain why.noAddress) (plain why.accepted))))))

@@ -9,19 +9,19 @@ use mathlib.Core.Option.{Option, none, some}
 use mathlib.Core.List.{List, [], _∷_, _++_, map, append-nil, append-assoc}
 use lib.ListN.{length, length-append}
 use lib.Dec.{T, ltb, eqb, eqb→eq, leb→le, lt→ltb, lit<, lit≤}
-use Rattle.octets.specs.Choice.{pick}
+use Rattle.octets.specs.Choice.{pick, mapOption}
 use Rattle.octets.specs.Lists.{collect, member, any, all, ascending}
 use Rattle.octets.specs.Octets.{be, octetAt, bit, octets, concatMap}
 use Rattle.octets.proofs.Tests.{pick-yes, each, Each, and-left, all-head, all-tail, all-cons, below-not-member, below-mono, ascending-head, ascending-tail}
 use Rattle.octets.proofs.ListLaws.{collect-append, collect-map}
 use Rattle.rules.specs.Limits.{maxRestoration}
 use Rattle.rules.specs.Model.{Settings, Pdr, Endpoint, Csid, Session, endpointId, nodeTypeOf}
-use Rattle.rules.specs.Elements.{incorrect, Answer, value, Fqcsid, readFseid, addressOf, fqcsidOctets, fseidOctets, nodeOf}
+use Rattle.rules.specs.Elements.{incorrect, Answer, value, ueGiven, ueStrange, Fqcsid, readFseid, addressOf, fqcsidOctets, fseidOctets, nodeOf}
 use Rattle.laws.proofs.ElementLaws.{fseid-back}
 use Rattle.rules.specs.Sound.{settingsAllowed, pdrAllowed, endpointTests, endpointAllowed, csidAllowed, sessionTests, sessionAllowed}
 use Rattle.laws.proofs.LayoutLaws.{pdrsOk, endpointsOk, csidsOk, fewPdrs, fewEndpoints, fewCsids, seidFits, tests}
 use Rattle.rules.specs.Message.{Element, elements, body, bodyPlace, kindOf, headerAllowed, atMessage, frame, frameFault, opened, openedAtTop, actedOn, establishment, headerLength, seidThere, listPlace}
-use Rattle.rules.specs.Reading.{NewPdr, NewEndpoint, Item, createsPdr, createsEndpoint, setsCsid, cleared, changed, Reading, done, refusal, andThen, named, Draft, emptyDraft, withNode, withItem, seidRead, flagsRead, csidCountAllowed, withCsid, csidRead, actedRead, elementRead, elementsRead, pdrIn, endpointIn, changeIn, gonePdrIn, goneEndpointIn, csidIn, clears, isUnsupported, restoringIn, requestOf, finished, aloneIn, topRead, read, faultIn, readFault, askedIn, readRequest, sessionRead}
+use Rattle.rules.specs.Reading.{Item, createsPdr, createsEndpoint, setsCsid, cleared, changed, Reading, done, refusal, andThen, named, Draft, emptyDraft, withNode, withItem, seidRead, flagsRead, csidCountAllowed, withCsid, csidRead, actedRead, elementRead, elementsRead, pdrIn, endpointIn, changeIn, gonePdrIn, goneEndpointIn, csidIn, clears, strangeAddress, isUnsupported, restoringIn, requestOf, finished, aloneIn, topRead, read, faultIn, readFault, askedIn, readRequest, sessionRead}
 use Rattle.laws.proofs.MessageLaws.{Fits, el, after, elements-cons, elements-nil, Framed, Inside, framed-nil, framed-cons, length-one, written, asElement, asElements, afterAll, elements-map, framed-map, short-map}
 use Rattle.rules.specs.Reply.{element, message}
 use Rattle.rules.specs.Restoration.{pdrContent, pdrElement, endpointContent, endpointElement, recordCsid, csidElement, Peer, peerTests, peerAllowed, recordElements, restoration, restoredPdr, restoredEndpoint, restoredRequest}
@@ -188,9 +188,9 @@ module _ (s : Settings) (hs : T (settingsAllowed s)) (p : Peer) (hp : T (peerAll
       (subst (Framed 3 establishment 0) (append-nil csidOctets)
       (framed-map ie.fqcsid csidContent csidAllowed 2 establishment 0 csid-fits (λ c h _ _. refl) (x .csids) (csidsOk s hs x hx) [] (framed-nil 2 establishment 0))))))
 
-  -- ---- the length: at most 1,526 octets with the header
+  -- ---- the length: at most 1,742 octets with the header
 
-  content-short : length content ≤ 1510
+  content-short : length content ≤ 1726
   unfolding content
   content-short =
       let a = length-append (element ie.fseid fseid) (element ie.sessionFlags (1 ∷ []) ++ (pdrOctets ++ (endpointOctets ++ csidOctets))) in
@@ -200,16 +200,16 @@ module _ (s : Settings) (hs : T (settingsAllowed s)) (p : Peer) (hp : T (peerAll
       let a′ = length-one ie.fseid fseid in
       let b′ = length-one ie.sessionFlags (1 ∷ []) in
       let f = fseid-short in
-      let g : length pdrOctets ≤ 16 * 64 = le-trans pdr-part (mul-le-mul-right 64 few-pdrs) in
-      let h : length endpointOctets ≤ 8 * 38 = le-trans endpoint-part (mul-le-mul-right 38 few-endpoints) in
+      let g : length pdrOctets ≤ 16 * 73 = le-trans pdr-part (mul-le-mul-right 73 few-pdrs) in
+      let h : length endpointOctets ≤ 8 * 47 = le-trans endpoint-part (mul-le-mul-right 47 few-endpoints) in
       let i : length csidOctets ≤ 6 * 24 = le-trans csid-part (mul-le-mul-right 24 few-csids) in
       omega arith
     where
-      pdr-part : length pdrOctets ≤ length (x .pdrs) * 64
-      pdr-part = unfold pdrOctets in (short-map ie.createPdr (pdrContent s) (pdrAllowed s live) 60 (λ q h. pdr-short s hs q) (x .pdrs) pdrs-ok)
+      pdr-part : length pdrOctets ≤ length (x .pdrs) * 73
+      pdr-part = unfold pdrOctets in (short-map ie.createPdr (pdrContent s) (pdrAllowed s live) 69 (λ q h. pdr-short s hs q) (x .pdrs) pdrs-ok)
 
-      endpoint-part : length endpointOctets ≤ length (x .endpoints) * 38
-      endpoint-part = unfold endpointOctets in (short-map ie.createEndpoint (endpointContent s) (endpointAllowed s) 34 (λ e h. endpoint-short s hs e) (x .endpoints) (endpointsOk s hs x hx))
+      endpoint-part : length endpointOctets ≤ length (x .endpoints) * 47
+      endpoint-part = unfold endpointOctets in (short-map ie.createEndpoint (endpointContent s) (endpointAllowed s) 43 (λ e h. endpoint-short s hs e) (x .endpoints) (endpointsOk s hs x hx))
 
       csid-part : length csidOctets ≤ length (x .csids) * 24
       csid-part = unfold csidOctets csidContent in (short-map ie.fqcsid csidContent csidAllowed 20 csid-octets-short (x .csids) (csidsOk s hs x hx))
@@ -245,7 +245,7 @@ module _ (s : Settings) (hs : T (settingsAllowed s)) (p : Peer) (hp : T (peerAll
   unfolding headerLength
   msg-place = ap (λ (b : Bool). pick b bodyPlace listPlace) (ap seidThere msg-content ∙ message-seid establishment (p .header) (p .sequence) content)
 
-  -- 01: every session fits one request of at most 1,526 octets
+  -- 01: every session fits one request of at most 1,742 octets
   pub msg-short : length msg ≤ maxRestoration
   msg-short = let e = ap length msg-content ∙ message-length establishment (p .header) (p .sequence) content in let h = content-short in omega arith
 
@@ -279,7 +279,7 @@ module _ (s : Settings) (hs : T (settingsAllowed s)) (p : Peer) (hp : T (peerAll
 
     endpoint-item : (e : Endpoint) → T (endpointAllowed s e) → (at : ℕ) (d : Draft) → elementRead establishment alone (el at ie.createEndpoint (endpointContent s e)) d ≡ done (withItem (endpointItem e) d)
     unfolding elementRead actedRead actedOn member endpointAllowed endpointTests
-    endpoint-item e h at d = rw (endpoint-read s hs e (each (endpointTests s e) h .1 .0) at)
+    endpoint-item e h at d = let k = each (endpointTests s e) h in rw (endpoint-read s hs e (k .1 .0) (k .1 .1 .0) at)
 
     csid-item : (c : Csid) → T (csidAllowed c) → (at : ℕ) (d : Draft) → T (not (member (c .nodeType) (d .nodes)))
         → elementRead establishment alone (el at ie.fqcsid (csidContent c)) d ≡ done (withNode (c .nodeType) (withItem (csidItem c) d))
@@ -340,14 +340,20 @@ module _ (s : Settings) (hs : T (settingsAllowed s)) (p : Peer) (hp : T (peerAll
       ∙ ap₂ (λ (k l : List B). k ++ l) (collect-map pdrItem g (x .pdrs))
       (collect-append g (map endpointItem (x .endpoints)) (map csidItem (x .csids)) ∙ ap₂ (λ (k l : List B). k ++ l) (collect-map endpointItem g (x .endpoints)) (collect-map csidItem g (x .csids)))
 
-  none-such : (g : Item → Bool) → ((q : NewPdr) → g (createsPdr q) ≡ false) → ((e : NewEndpoint) → g (createsEndpoint e) ≡ false) → ((c : Fqcsid) → g (setsCsid c) ≡ false) → any g items ≡ false
+  none-such : (g : Item → Bool) → ((q : Pdr) → g (pdrItem q) ≡ false) → ((e : Endpoint) → g (endpointItem e) ≡ false) → ((c : Fqcsid) → g (setsCsid c) ≡ false) → any g items ≡ false
   unfolding items any
   none-such g a b c =
-      any-none pdrItem g (λ q. a (restoredPdr s q)) (x .pdrs) _ ∙ any-none endpointItem g (λ e. b (restoredEndpoint s e)) (x .endpoints) _
+      any-none pdrItem g a (x .pdrs) _ ∙ any-none endpointItem g b (x .endpoints) _
       ∙ ap (any g) (sym (append-nil (map csidItem (x .csids)))) ∙ any-none csidItem g (λ d. c (recordCsid d)) (x .csids) []
 
+  -- a record's address is one that the unit has
+  given : (o : Option ℕ) → strangeAddress (mapOption ueGiven o) ≡ false
+  unfolding strangeAddress ueStrange
+  given none = refl
+  given (some a) = refl
+
   items-request : requestOf (x .seid) (having items started) ≡ restoredRequest s x
-  unfolding requestOf restoredRequest restoringIn pdrIn endpointIn changeIn gonePdrIn goneEndpointIn csidIn clears isUnsupported
+  unfolding requestOf restoredRequest restoredPdr restoredEndpoint restoringIn pdrIn endpointIn changeIn gonePdrIn goneEndpointIn csidIn clears isUnsupported
   items-request =
       let ps = x .pdrs in
       let es = x .endpoints in
@@ -363,7 +369,7 @@ module _ (s : Settings) (hs : T (settingsAllowed s)) (p : Peer) (hp : T (peerAll
         csids =
             (ap (λ (b : Bool). pick b cleared (changed (collect csidIn items))) (none-such clears (λ _. refl) (λ _. refl) (λ _. refl))
             ∙ ap changed (collected csidIn ∙ (λ i. collect-none ps i ++ (collect-none es i ++ collect-each recordCsid cs i)))) j;
-        unsupported = none-such isUnsupported (λ _. refl) (λ _. refl) (λ _. refl) j;
+        unsupported = none-such isUnsupported (λ q. given (q .address)) (λ e. given (e .address)) (λ _. refl) j;
         listed = [];
       }
 

@@ -1,111 +1,74 @@
 -- Sessions restored one after the other, in any order, into an empty table make the table that holds them.
 -- Assumes nothing.
 use mathlib.Core.Path.{_≡_, refl, sym, ap, ap₂, _∙_, subst}
-use Prim.Native.Nat.{ℕ, suc, _+_, _-_, _^_, _≤_, _<_, zero-le}
+use Prim.Native.Nat.{ℕ, suc, _+_, _^_, _≤_, _<_, zero-le}
 use native.Mathlib.Nat.{le-trans, le-of-eq}
 use native.Mathlib.Omega.{arith}
-use mathlib.Core.Bool.{Bool, true, false, not, _&&_, _||_}
-use mathlib.Core.List.{List, [], _∷_, _++_, map, append-nil, List·Permᴰ}
-use lib.ListN.{length, length-append}
+use mathlib.Core.Bool.{Bool, true, false, not, _&&_}
+use mathlib.Core.List.{List, [], _∷_, map, List·Permᴰ}
+use lib.ListN.{length, length-map}
 use lib.Dec.{T, leb, eqb, leb→le}
 use mir.Facts.{yes-leb}
 use Rattle.octets.specs.Choice.{isSome}
-use Rattle.octets.specs.Octets.{octets, put, be, concatMap, octetAt, numberAt}
-use Rattle.octets.specs.Lists.{member, anyIn, all, allPairs, keep, findBy, ascending, insertBy, insertAll}
-use Rattle.octets.proofs.Tests.{pick-yes, pick-no, each, Each, all-of-each, and-left, all-head, all-tail, all-cons, neither-one, no-eqb, of-true}
-use Rattle.octets.proofs.Ordered.{perm-length, all-perm, pairs-head, pairs-tail, pairs-perm, otherKey, insertAll-perm, insert-length, insert-all, insert-pairs, insert-ascending, ascending-other, ne-of}
-use Rattle.rules.specs.Model.{Settings, Session, Sessions, seidOf, sessionTeids, heldTeids, freeTeids}
+use Rattle.octets.specs.Octets.{octets, put}
+use Rattle.octets.specs.Lists.{anyIn, all, allPairs, keep, findBy, ascending, insertBy, insertAll}
+use Rattle.octets.proofs.Tests.{pick-yes, pick-no, each, Each, all-of-each, both, and-left, and-right, all-head, all-tail, all-cons, of-true}
+use Rattle.octets.proofs.Ordered.{perm-length, all-perm, pairs-head, pairs-tail, pairs-perm, otherKey, insertAll-perm, insert-length, insert-all, insert-pairs, insert-ascending, ascending-other}
+use Rattle.octets.proofs.ListLaws.{all-imply}
+use Rattle.rules.specs.Model.{Settings, Session, Sessions, seidOf, sessionTeids, heldTeids, sessionAddresses, heldAddresses}
+use Rattle.rules.specs.Limits.{minSpace}
 use Rattle.rules.specs.Layout.{encode}
-use Rattle.laws.proofs.TableLaws.{ipv4-four}
+use Rattle.laws.proofs.LayoutLaws.{fewPdrs, fewEndpoints}
+use Rattle.laws.proofs.ReportLaws.{few-pdr-reports, few-endpoint-reports}
 use Rattle.rules.specs.Sound.{settingsAllowed, sessionAllowed, apart, sessionsTests, sessionsAllowed}
-use Rattle.rules.specs.Message.{headerAllowed, firstOctetAllowed, establishment}
 use Rattle.rules.specs.Reading.{readRequest, Request}
-use Rattle.laws.proofs.MessageLaws.{length-one}
-use Rattle.rules.specs.Elements.{fseidOctets}
-use Rattle.laws.proofs.ReplyLaws.{reply-cause, sequence-three}
-use Rattle.claim.proofs.RestorationJudge.{no-choices}
-use Rattle.rules.specs.Grants.{Grant, choices, grantFrom, grants, grantsOf}
+use Rattle.rules.specs.Grants.{granted}
 use Rattle.rules.specs.Stages.{hasSeid, sessionOf, isLive, plain}
 use Rattle.rules.specs.Apply.{otherSession, removeSession, putSession}
-use Rattle.rules.specs.Reply.{element, replyBody, nodeIdElement, offendingElement, acceptedPart, unitFseid, created}
+use Rattle.rules.specs.Reply.{reports}
 use Rattle.rules.specs.Serve.{Served, replyTo, serve}
 use Rattle.rules.specs.Live.{accepted, replyCause}
-use Rattle.rules.specs.Restoration.{Peer, peerAllowed, restoration}
-use Rattle.claim.proofs.RestorationRead.{msg-kind, msg-allowed, msg-request}
+use Rattle.rules.specs.Restoration.{Peer, peerAllowed, restoration, restoredPdr, restoredEndpoint, restoredRequest}
+use Rattle.claim.proofs.RestorationRead.{msg-allowed, msg-request}
+use Rattle.claim.proofs.HeldLaws.{turn-eqb, disjoint-turn, apart-held, apart-addresses-held}
+use Rattle.claim.proofs.ReplyLength.{FewReports}
+use Rattle.claim.proofs.GrantReply.{accepted-cause}
 use Rattle.claim.proofs.RestorationApply.{restored-call, insertAll-up, under-nil}
 use Rattle.rules.specs.Calls.{tableAfter, eventOf, tableAfterAll, eventsOf}
 use Rattle.rules.specs.Claim.{Restore, restored, restoreAllowed, restoreCall, restoreCalls}
-use Rattle.rules.specs.Types as ie
 use Rattle.rules.specs.Causes as why
 use Rattle.laws.proofs.HeaderLaws.{header-long}
 
--- ---- nothing in common
-
-not-or-left : (a b : Bool) → T (not (a || b)) → T (not a)
-not-or-left true b h = absurd h
-not-or-left false b h = tt
-
-not-or-right : (a b : Bool) → T (not (a || b)) → T (not b)
-not-or-right true b h = absurd h
-not-or-right false b h = h
-
-turn-eqb : (a b : ℕ) → T (not (eqb a b)) → T (not (eqb b a))
-turn-eqb a b h = no-eqb b a (λ e. ne-of a b h (sym e))
-
-disjoint-member : (xs : List ℕ) (y : ℕ) (ys : List ℕ) → T (not (anyIn xs (y ∷ ys))) → T (not (member y xs))
-unfolding anyIn member
-disjoint-member [] y ys h = tt
-disjoint-member (x ∷ xs) y ys h =
-    neither-one (eqb y x) (member y xs)
-    (turn-eqb x y (not-or-left (eqb x y) (member x ys) (not-or-left (eqb x y || member x ys) (anyIn xs (y ∷ ys)) h)))
-    (disjoint-member xs y ys (not-or-right (eqb x y || member x ys) (anyIn xs (y ∷ ys)) h))
-
-disjoint-rest : (xs : List ℕ) (y : ℕ) (ys : List ℕ) → T (not (anyIn xs (y ∷ ys))) → T (not (anyIn xs ys))
-unfolding anyIn member
-disjoint-rest [] y ys h = tt
-disjoint-rest (x ∷ xs) y ys h =
-    neither-one (member x ys) (anyIn xs ys)
-    (not-or-right (eqb x y) (member x ys) (not-or-left (eqb x y || member x ys) (anyIn xs (y ∷ ys)) h))
-    (disjoint-rest xs y ys (not-or-right (eqb x y || member x ys) (anyIn xs (y ∷ ys)) h))
-
-pub disjoint-turn : (xs ys : List ℕ) → T (not (anyIn xs ys)) → T (not (anyIn ys xs))
-unfolding anyIn
-disjoint-turn xs [] h = tt
-disjoint-turn xs (y ∷ ys) h = neither-one (member y xs) (anyIn ys xs) (disjoint-member xs y ys h) (disjoint-turn xs ys (disjoint-rest xs y ys h))
-
-member-append : (x : ℕ) (ys zs : List ℕ) → T (not (member x ys)) → T (not (member x zs)) → T (not (member x (ys ++ zs)))
-unfolding member
-member-append x [] zs h k = k
-member-append x (y ∷ ys) zs h k =
-    neither-one (eqb x y) (member x (ys ++ zs)) (not-or-left (eqb x y) (member x ys) h) (member-append x ys zs (not-or-right (eqb x y) (member x ys) h) k)
-
-pub disjoint-append : (xs ys zs : List ℕ) → T (not (anyIn xs ys)) → T (not (anyIn xs zs)) → T (not (anyIn xs (ys ++ zs)))
-unfolding anyIn
-disjoint-append [] ys zs h k = tt
-disjoint-append (x ∷ xs) ys zs h k =
-    neither-one (member x (ys ++ zs)) (anyIn xs (ys ++ zs))
-    (member-append x ys zs (not-or-left (member x ys) (anyIn xs ys) h) (not-or-left (member x zs) (anyIn xs zs) k))
-    (disjoint-append xs ys zs (not-or-right (member x ys) (anyIn xs ys) h) (not-or-right (member x zs) (anyIn xs zs) k))
-
-disjoint-nil : (xs : List ℕ) → T (not (anyIn xs []))
-unfolding anyIn member
-disjoint-nil [] = tt
-disjoint-nil (x ∷ xs) = disjoint-nil xs
-
 -- ---- a session beside others
 
-pub apart-turn : (x y : Session) → T (apart x y) → T (apart y x)
+pub apart-turn : (s : Settings) (x y : Session) → T (apart s x y) → T (apart s y x)
 unfolding apart
-apart-turn x y h = disjoint-turn (sessionTeids x) (sessionTeids y) h
+apart-turn s x y h =
+    let a = not (anyIn (sessionTeids x) (sessionTeids y)) in
+    let b = not (anyIn (sessionAddresses s x) (sessionAddresses s y)) in
+    both (not (anyIn (sessionTeids y) (sessionTeids x))) (not (anyIn (sessionAddresses s y) (sessionAddresses s x)))
+    (disjoint-turn (sessionTeids x) (sessionTeids y) (and-left a b h)) (disjoint-turn (sessionAddresses s x) (sessionAddresses s y) (and-right a b h))
+
+-- what two sessions that are apart have not in common
+pub apart-teids : (s : Settings) (x y : Session) → T (apart s x y) → T (not (anyIn (sessionTeids x) (sessionTeids y)))
+unfolding apart
+apart-teids s x y h = and-left (not (anyIn (sessionTeids x) (sessionTeids y))) (not (anyIn (sessionAddresses s x) (sessionAddresses s y))) h
+
+pub apart-addresses : (s : Settings) (x y : Session) → T (apart s x y) → T (not (anyIn (sessionAddresses s x) (sessionAddresses s y)))
+unfolding apart
+apart-addresses s x y h = and-right (not (anyIn (sessionTeids x) (sessionTeids y))) (not (anyIn (sessionAddresses s x) (sessionAddresses s y))) h
 
 other-seid-turn : (x y : Session) → T (otherKey seidOf x y) → T (otherKey seidOf y x)
 other-seid-turn x y h = turn-eqb (x .seid) (y .seid) h
 
 -- no TEID in common with any session
-pub separate-all : (x : Session) (m : Sessions) → T (all (apart x) m) → T (not (anyIn (sessionTeids x) (heldTeids m)))
-unfolding heldTeids apart
-separate-all x [] h = disjoint-nil (sessionTeids x)
-separate-all x (y ∷ m) h = disjoint-append (sessionTeids x) (sessionTeids y) (heldTeids m) (all-head (apart x) y m h) (separate-all x m (all-tail (apart x) y m h))
+pub separate-all : (s : Settings) (x : Session) (m : Sessions) → T (all (apart s x) m) → T (not (anyIn (sessionTeids x) (heldTeids m)))
+separate-all s x m h = apart-held (sessionTeids x) m (all-imply (apart s x) (λ z. not (anyIn (sessionTeids x) (sessionTeids z))) (apart-teids s x) m h)
+
+-- and no address of the pool
+pub separate-addresses : (s : Settings) (x : Session) (m : Sessions) → T (all (apart s x) m) → T (not (anyIn (sessionAddresses s x) (heldAddresses s m)))
+separate-addresses s x m h =
+    apart-addresses-held s (sessionAddresses s x) m (all-imply (apart s x) (λ z. not (anyIn (sessionAddresses s x) (sessionAddresses s z))) (apart-addresses s x) m h)
 
 pub fresh-seid : (x : Session) (m : Sessions) → T (all (otherKey seidOf x) m) → isLive (x .seid) m ≡ false
 unfolding isLive sessionOf findBy hasSeid
@@ -132,7 +95,7 @@ turn-all r turn x (y ∷ m) h = all-cons (λ z. r z x) y m (turn x y (all-head (
 
 -- one more session keeps the rules
 pub insert-allowed : (limit : ℕ) (s : Settings) (x : Session) (m : Sessions) → T (sessionsAllowed limit s m) → T (sessionAllowed s x)
-    → T (all (otherKey seidOf x) m) → T (all (apart x) m) → length m < limit → T (sessionsAllowed limit s (insertBy seidOf x m))
+    → T (all (otherKey seidOf x) m) → T (all (apart s x) m) → length m < limit → T (sessionsAllowed limit s (insertBy seidOf x m))
 unfolding sessionsAllowed sessionsTests
 insert-allowed limit s x m hm hx other sep room =
     let e = each (sessionsTests limit s m) hm in
@@ -142,7 +105,7 @@ insert-allowed limit s x m hm hx other sep room =
         insert-ascending seidOf x m other (e .1 .0),
         (
           insert-all seidOf (sessionAllowed s) x m hx (e .1 .1 .0),
-          (insert-pairs seidOf apart x m sep (turn-all apart apart-turn x m sep) (e .1 .1 .1 .0), tt),
+          (insert-pairs seidOf (apart s) x m sep (turn-all (apart s) (apart-turn s) x m sep) (e .1 .1 .1 .0), tt),
         ),
       ),
     )
@@ -155,38 +118,29 @@ empty-allowed limit s = all-of-each (sessionsTests limit s []) (yes-leb {a = 0} 
 -- ---- the reply is an acceptance
 
 module _ (s : Settings) (hs : T (settingsAllowed s)) where
-  body-short : (n : ℕ) → length (replyBody establishment s n (plain why.accepted) []) ≤ 2000
-  unfolding replyBody nodeIdElement offendingElement acceptedPart unitFseid created grantsOf keep concatMap fseidOctets
-  body-short n =
-      let node = element ie.nodeId (0 ∷ s .ipv4) in
-      let cause = element ie.cause (1 ∷ []) in
-      let fseid = element ie.fseid (fseidOctets n (s .ipv4) []) in
-      let a = length-append node (cause ++ (fseid ++ [])) in
-      let b = length-append cause (fseid ++ []) in
-      let c = length-append fseid [] in
-      let d = length-one ie.nodeId (0 ∷ s .ipv4) in
-      let e = length-one ie.cause (1 ∷ []) in
-      let f = length-one ie.fseid (fseidOctets n (s .ipv4) []) in
-      let g = length-fseid n in
-      let h = ipv4-four s hs in
-      omega arith
-    where
-      length-fseid : (k : ℕ) → length (fseidOctets k (s .ipv4) []) ≡ 9 + length (s .ipv4)
-      length-fseid k = unfold be in (let e = ap length (append-nil (s .ipv4)) in omega arith)
-
   module _ (x : Session) (hx : T (sessionAllowed s x)) (p : Peer) (hp : T (peerAllowed p)) (m : Sessions) where
     abbrev msg : List ℕ
     msg = restoration s p x
 
-    no-grants : grants s m (readRequest msg) ≡ []
-    unfolding grants grantFrom
-    no-grants = ap (λ (r : Request). grantFrom [] (freeTeids s m) (choices r)) (msg-request s hs p hp x hx) ∙ ap (grantFrom [] (freeTeids s m)) (no-choices s hs x hx)
+    -- no more reports than records
+    few : FewReports (reports (granted s m (readRequest msg)) (readRequest msg))
+    few =
+        let got = granted s m (readRequest msg) in
+        let e = msg-request s hs p hp x hx in
+        record {
+          pdrs = le-trans (few-pdr-reports got (readRequest msg)) (le-trans (le-of-eq (ap (λ (r : Request). length (r .pdrs)) e ∙ restored-pdrs)) (fewPdrs s hs x hx));
+          endpoints = le-trans (few-endpoint-reports got (readRequest msg)) (le-trans (le-of-eq (ap (λ (r : Request). length (r .endpoints)) e ∙ restored-endpoints)) (fewEndpoints s hs x hx));
+        }
+      where
+        restored-pdrs : length (restoredRequest s x .pdrs) ≡ length (x .pdrs)
+        restored-pdrs = unfold restoredRequest in (length-map (x .pdrs) (restoredPdr s))
+
+        restored-endpoints : length (restoredRequest s x .endpoints) ≡ length (x .endpoints)
+        restored-endpoints = unfold restoredRequest in (length-map (x .endpoints) (restoredEndpoint s))
 
     pub restored-cause : (space : List ℕ) → replyCause (put 0 (replyTo s m msg (plain why.accepted)) space) ≡ 1
     unfolding replyTo
-    restored-cause space =
-        reply-cause s msg (readRequest msg .seid) (plain why.accepted) (grants s m (readRequest msg)) space (ipv4-four s hs) (sequence-three msg (header-long msg (msg-allowed s hs p hp x hx)))
-        (le-trans (le-of-eq (ap₂ (λ (k : ℕ) (gs : List Grant). length (replyBody k s (readRequest msg .seid) (plain why.accepted) gs)) (msg-kind s hs p hp x hx) no-grants)) (body-short (readRequest msg .seid)))
+    restored-cause space = accepted-cause s hs msg (header-long msg (msg-allowed s hs p hp x hx)) (readRequest msg .seid) (plain why.accepted) refl (reports (granted s m (readRequest msg)) (readRequest msg)) few space
 
 -- ---- one after the other
 
@@ -205,9 +159,9 @@ pub record Ready (limit : ℕ) (s : Settings) (m : Sessions) (xs : Sessions) : T
   pub sound : T (sessionsAllowed limit s m)
   pub allowed : T (all (sessionAllowed s) xs)
   pub seids : T (allPairs (otherKey seidOf) xs)
-  pub teids : T (allPairs apart xs)
+  pub separate : T (allPairs (apart s) xs)
   pub newSeids : T (all (λ x. all (otherKey seidOf x) m) xs)
-  pub newTeids : T (all (λ x. all (apart x) m) xs)
+  pub beside : T (all (λ x. all (apart s x) m) xs)
   pub room : length m + length xs ≤ limit
 
 ready-next : (limit : ℕ) (s : Settings) (m : Sessions) (x : Session) (xs : Sessions) → Ready limit s m (x ∷ xs) → Ready limit s (insertBy seidOf x m) xs
@@ -215,12 +169,12 @@ ready-next limit s m x xs r =
     let fits : length m < limit = fit (length m) (length xs) limit (r .room) in
     record {
       sound = insert-allowed limit s x m (r .sound) (all-head (sessionAllowed s) x xs (r .allowed)) (all-head (λ y. all (otherKey seidOf y) m) x xs (r .newSeids))
-          (all-head (λ y. all (apart y) m) x xs (r .newTeids)) fits;
+          (all-head (λ y. all (apart s y) m) x xs (r .beside)) fits;
       allowed = all-tail (sessionAllowed s) x xs (r .allowed);
       seids = pairs-tail (otherKey seidOf) x xs (r .seids);
-      teids = pairs-tail apart x xs (r .teids);
+      separate = pairs-tail (apart s) x xs (r .separate);
       newSeids = beside-insert (otherKey seidOf) other-seid-turn x m xs (pairs-head (otherKey seidOf) x xs (r .seids)) (all-tail (λ y. all (otherKey seidOf y) m) x xs (r .newSeids));
-      newTeids = beside-insert apart apart-turn x m xs (pairs-head apart x xs (r .teids)) (all-tail (λ y. all (apart y) m) x xs (r .newTeids));
+      beside = beside-insert (apart s) (apart-turn s) x m xs (pairs-head (apart s) x xs (r .separate)) (all-tail (λ y. all (apart s y) m) x xs (r .beside));
       room = more (length (insertBy seidOf x m)) (length m) (length xs) limit (insert-length seidOf x m) (r .room);
     }
   where
@@ -233,9 +187,9 @@ ready-next limit s m x xs r =
 module _ (s : Settings) (hs : T (settingsAllowed s)) (limit : ℕ) (small : limit < 256 ^ 2) where
   -- one restoration: the table after it, and its acceptance
   module _ (m : Sessions) (r : Restore) (ok : T (restoreAllowed r)) (xs : Sessions) (ready : Ready limit s m (r .session ∷ xs)) where
-    okFacts : Each (peerAllowed (r .peer) ∷ octets (r .space) ∷ leb 1024 (length (r .space)) ∷ [])
+    okFacts : Each (peerAllowed (r .peer) ∷ octets (r .space) ∷ leb minSpace (length (r .space)) ∷ [])
     unfolding restoreAllowed
-    okFacts = each (peerAllowed (r .peer) ∷ octets (r .space) ∷ leb 1024 (length (r .space)) ∷ []) ok
+    okFacts = each (peerAllowed (r .peer) ∷ octets (r .space) ∷ leb minSpace (length (r .space)) ∷ []) ok
 
     abbrev x : Session
     x = r .session
@@ -255,8 +209,9 @@ module _ (s : Settings) (hs : T (settingsAllowed s)) (limit : ℕ) (small : limi
     call : serve limit (encode limit s m) (restoration s (r .peer) x) (r .space)
         ≡ record { outcome = 0; place = 0; space = put 0 (replyTo s m (restoration s (r .peer) x) (plain why.accepted)) (r .space); table = encode limit s (putSession x m) }
     call =
-        restored-call s hs x hx limit m (fresh-seid x m other) fits (separate-all x m (all-head (λ y. all (apart y) m) x xs (ready .newTeids))) (r .peer) (okFacts .0)
-        small (ready .sound) (r .space) (leb→le 1024 (length (r .space)) (okFacts .1 .1 .0))
+        restored-call s hs x hx limit m (fresh-seid x m other) fits (separate-all s x m (all-head (λ y. all (apart s y) m) x xs (ready .beside)))
+        (separate-addresses s x m (all-head (λ y. all (apart s y) m) x xs (ready .beside))) (r .peer) (okFacts .0)
+        small (ready .sound) (r .space) (leb→le minSpace (length (r .space)) (okFacts .1 .1 .0))
 
     table-after : tableAfter limit (encode limit s m) (restoreCall s r) ≡ encode limit s (insertBy seidOf x m)
     unfolding tableAfter restoreCall
@@ -302,9 +257,9 @@ module _ (s : Settings) (hs : T (settingsAllowed s)) (limit : ℕ) (small : limi
           sound = empty-allowed limit s;
           allowed = all-perm (sessionAllowed s) order (facts .1 .1 .0);
           seids = pairs-perm (otherKey seidOf) other-seid-turn order (ascending-other seidOf m up);
-          teids = pairs-perm apart apart-turn order (facts .1 .1 .1 .0);
+          separate = pairs-perm (apart s) (apart-turn s) order (facts .1 .1 .1 .0);
           newSeids = nothing (map restored rs);
-          newTeids = nothing (map restored rs);
+          beside = nothing (map restored rs);
           room = few (length (map restored rs)) (length m) limit (perm-length order) (leb→le (length m) limit (facts .0));
         }
       where

@@ -7,13 +7,13 @@ use mathlib.Core.List.{List, [], _∷_, map, List·Permᴰ}
 use lib.Dec.{T}
 use Rattle.octets.specs.Lists.{all}
 use Rattle.octets.proofs.Tests.{all-head, all-tail, all-cons, pick-yes}
-use Rattle.rules.specs.Model.{Settings, Sessions, freeCount}
+use Rattle.rules.specs.Model.{Settings, Sessions, freeCount, freeAddressCount}
 use Rattle.rules.specs.Layout.{encode, viewSettings, viewSessions}
-use Rattle.rules.specs.Sound.{settingsAllowed, sessionsAllowed, sound, make, free, broken, countFree, takenMap}
+use Rattle.rules.specs.Sound.{settingsAllowed, sessionsAllowed, sound, make, free, broken, countFree, takenMap, countAddresses, addressMap}
 use Rattle.rules.specs.Serve.{Served}
 use Rattle.rules.specs.Live.{Event, replied, accepted, live, liveFrom}
 use Rattle.rules.specs.Calls.{Call, callAllowed, tableAfter, eventOf, tableAfterAll, eventsOf}
-use Rattle.rules.specs.Claim.{Step, asked, told, stepAllowed, Ran, lastTable, eventIn, liveSet, Restore, restored, restoreAllowed, restoreCalls, callIn, mapOf, Holds, Restores, Claim}
+use Rattle.rules.specs.Claim.{Step, asked, told, toldAddresses, stepAllowed, Ran, lastTable, eventIn, liveSet, Restore, restored, restoreAllowed, restoreCalls, callIn, mapOf, addressMapOf, Holds, Restores, Claim}
 use Rattle.laws.proofs.TableLaws.{sessions-back, encoded-settings, sound-encode}
 use Rattle.claim.proofs.RestoreAll.{empty-allowed, restored-table, restored-accepted}
 use Rattle.claim.proofs.Sequence.{Keeps, kept-all, made-empty, made-settings}
@@ -29,6 +29,7 @@ run-table limit t [] h = refl
 run-table limit t (asked msg space r ∷ steps) h =
     run-table limit (r .table) steps (h .1) ∙ ap (λ (q : Served). tableAfterAll limit (q .table) (calls steps)) (h .0)
 run-table limit t (told c ∷ steps) h = run-table limit t steps (h .1)
+run-table limit t (toldAddresses c ∷ steps) h = run-table limit t steps (h .1)
 
 run-events : (limit : ℕ) (t : List ℕ) (steps : List Step) → Ran limit t steps → map eventIn steps ≡ eventsOf limit t (calls steps)
 unfolding eventIn callIn eventsOf eventOf tableAfter
@@ -37,6 +38,7 @@ run-events limit t (asked msg space r ∷ steps) h =
     ap (λ (es : List Event). replied msg (r .outcome) (r .space) ∷ es) (run-events limit (r .table) steps (h .1))
     ∙ ap (λ (q : Served). replied msg (q .outcome) (q .space) ∷ eventsOf limit (q .table) (calls steps)) (h .0)
 run-events limit t (told c ∷ steps) h = ap (λ (es : List Event). eventIn (told c) ∷ es) (run-events limit t steps (h .1))
+run-events limit t (toldAddresses c ∷ steps) h = ap (λ (es : List Event). eventIn (toldAddresses c) ∷ es) (run-events limit t steps (h .1))
 
 run-allowed : (steps : List Step) → T (all stepAllowed steps) → T (all callAllowed (calls steps))
 unfolding stepAllowed callIn callAllowed all
@@ -45,6 +47,8 @@ run-allowed (asked msg space r ∷ steps) h =
     all-cons callAllowed (callIn (asked msg space r)) (calls steps) (all-head stepAllowed (asked msg space r) steps h) (run-allowed steps (all-tail stepAllowed (asked msg space r) steps h))
 run-allowed (told c ∷ steps) h =
     all-cons callAllowed (callIn (told c)) (calls steps) tt (run-allowed steps (all-tail stepAllowed (told c) steps h))
+run-allowed (toldAddresses c ∷ steps) h =
+    all-cons callAllowed (callIn (toldAddresses c)) (calls steps) tt (run-allowed steps (all-tail stepAllowed (toldAddresses c) steps h))
 
 -- ---- restorations of the sessions that a table encodes
 
@@ -68,6 +72,8 @@ module _ (limit : ℕ) (small : limit < 256 ^ 2) (s : Settings) (hs : T (setting
         octetsEqual = same;
         countEqual = ap (countFree limit) same;
         mapEqual = ap mapOf same;
+        addressCountEqual = ap (countAddresses limit) same;
+        addressMapEqual = ap addressMapOf same;
       }
 
 -- ---- the claim
@@ -75,7 +81,7 @@ module _ (limit : ℕ) (small : limit < 256 ^ 2) (s : Settings) (hs : T (setting
 module _ (limit : ℕ) (small : limit < 256 ^ 2) (keeps : Keeps limit) (s : Settings) where
   -- a table that encodes sessions holds them
   held : T (settingsAllowed s) → (m : Sessions) → T (sessionsAllowed limit s m) → (t : List ℕ) → t ≡ encode limit s m → Holds limit s m t
-  unfolding countFree freeCount mapOf
+  unfolding countFree freeCount mapOf countAddresses freeAddressCount addressMapOf
   held hs m hm t e =
       let settings : viewSettings t ≡ s = ap viewSettings e ∙ encoded-settings s hs limit small m hm in
       let records : viewSessions t ≡ m = ap viewSessions e ∙ sessions-back s hs limit small m hm in
@@ -88,6 +94,10 @@ module _ (limit : ℕ) (small : limit < 256 ^ 2) (keeps : Keeps limit) (s : Sett
             pick-yes (sound limit t) (free (freeCount (viewSettings t) (viewSessions t))) broken yes
             ∙ ap₂ (λ (u : Settings) (n : Sessions). free (freeCount u n)) settings records;
         marks = ap₂ takenMap settings records;
+        addressCount =
+            pick-yes (sound limit t) (free (freeAddressCount (viewSettings t) (viewSessions t))) broken yes
+            ∙ ap₂ (λ (u : Settings) (n : Sessions). free (freeAddressCount u n)) settings records;
+        addressMarks = ap₂ addressMap settings records;
       }
 
   module _ (a : List ℕ) (steps : List Step) (ha : T (make limit s a .made)) (ho : T (all stepAllowed steps)) (hr : Ran limit (make limit s a .table) steps) where

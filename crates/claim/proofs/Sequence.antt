@@ -15,7 +15,7 @@ use Rattle.rules.specs.Layout.{tableLength, encode}
 use Rattle.rules.specs.Sound.{settingsAllowed, sessionsAllowed, make, Made}
 use Rattle.rules.specs.Serve.{serve}
 use Rattle.rules.specs.Live.{Event, replied, accepted, liveStep, liveFrom, live}
-use Rattle.rules.specs.Calls.{Call, request, count, callAllowed, tableAfter, eventOf, tableAfterAll, eventsOf}
+use Rattle.rules.specs.Calls.{Call, request, count, countIps, callAllowed, tableAfter, eventOf, tableAfterAll, eventsOf}
 
 -- what one call does to a table and to the live set: both go to sessions m′ that keep the rules
 pub record Kept (limit : ℕ) (s : Settings) (m : Sessions) (t : List ℕ) (e : Event) : Type 0 where
@@ -36,6 +36,7 @@ module _ (limit : ℕ) (keeps : Keeps limit) (s : Settings) (hs : T (settingsAll
   unfolding Keeps callAllowed tableAfter eventOf liveStep accepted
   one m (request msg space) hm hc = keeps s m msg space hs hm (and-left (octets msg) (octets space) hc) (and-right (octets msg) (octets space) hc)
   one m count hm hc = record { after = m; sound = hm; table = refl; live = refl }
+  one m countIps hm hc = record { after = m; sound = hm; table = refl; live = refl }
 
   -- calls one after the other
   pub record KeptAll (m : Sessions) (cs : List Call) : Type 0 where

@@ -1,8 +1,8 @@
 -- One call of `serve`: a table that is not broken stays so, a refusal leaves it octet for octet, outcomes 1 to 5 write nothing,
--- and a reply has at most 1,024 octets.
+-- and a reply has at most 1,280 octets.
 -- Assumes nothing.
 use mathlib.Core.Path.{_≡_, refl, sym, ap, _∙_, subst}
-use Prim.Native.Nat.{ℕ, _+_, _^_, _≤_, _<_}
+use Prim.Native.Nat.{ℕ, _^_, _≤_, _<_}
 use native.Mathlib.Nat.{le-trans, le-of-eq}
 use mathlib.Core.Bool.{Bool, true, false, not, _&&_}
 use mathlib.Core.List.{List}
@@ -16,14 +16,15 @@ use Rattle.octets.proofs.Tests.{each, and-right, of-true, pick-yes, pick-no}
 use Rattle.octets.proofs.Numbers.{same-eq}
 use Rattle.octets.proofs.ListLaws.{not-not, pick-cases}
 use Rattle.rules.specs.Model.{Settings, Sessions}
+use Rattle.rules.specs.Limits.{maxMessage, minSpace}
 use Rattle.rules.specs.Layout.{tableLength, encode, viewSettings, viewSessions}
 use Rattle.laws.proofs.TableLaws.{ipv4-four, sound-encode}
 use Rattle.rules.specs.Sound.{settingsAllowed, sessionsAllowed, soundTests, sound}
-use Rattle.rules.specs.Message.{kindOf, headerSeid, headerAllowed, served, sequenceOf}
+use Rattle.rules.specs.Message.{kindOf, headerAllowed, served}
 use Rattle.rules.specs.Reading.{readRequest}
-use Rattle.rules.specs.Grants.{grants}
+use Rattle.rules.specs.Grants.{granted}
 use Rattle.rules.specs.Stages.{Verdict, verdict}
-use Rattle.rules.specs.Reply.{replyBody, replySeid, reply}
+use Rattle.rules.specs.Reply.{reports}
 use Rattle.laws.proofs.HeaderLaws.{header-long}
 use Rattle.laws.proofs.ReplyLaws.{own-found, sequence-three, reply-cause}
 use Rattle.claim.proofs.ReplyLength.{reply-body-short, reply-short}
@@ -71,8 +72,8 @@ table-kept limit t h =
 -- what stands when a request is answered with outcome 0
 pub record Answers (limit : ℕ) (t msg space : List ℕ) : Type 0 where
   pub table : T (sound limit t)
-  pub room : 1024 ≤ length space
-  pub short : length msg ≤ 2048
+  pub room : minSpace ≤ length space
+  pub short : length msg ≤ maxMessage
   pub header : T (headerAllowed msg)
   pub kind : T (served (kindOf msg))
 
@@ -83,14 +84,14 @@ module _ (limit : ℕ) (t msg space : List ℕ) where
   unfolding serve serveSound
   serve-cases P refused ok =
       pick-cases P (sound limit t) _ (unserved 1 space t)
-      (λ h1. pick-cases P (ltb (length space) 1024) (unserved 2 space t) _ (λ h. refused 2 refl)
-      (λ h2. pick-cases P (ltb 2048 (length msg)) (unserved 3 space t) _ (λ h. refused 3 refl)
+      (λ h1. pick-cases P (ltb (length space) minSpace) (unserved 2 space t) _ (λ h. refused 2 refl)
+      (λ h2. pick-cases P (ltb maxMessage (length msg)) (unserved 3 space t) _ (λ h. refused 3 refl)
       (λ h3. pick-cases P (not (headerAllowed msg)) (unserved 4 space t) _ (λ h. refused 4 refl)
       (λ h4. pick-cases P (not (served (kindOf msg))) (unserved 5 space t) _ (λ h. refused 5 refl)
       (λ h5. ok (record {
         table = h1;
-        room = nltb→le (length space) 1024 h2;
-        short = nltb→le 2048 (length msg) h3;
+        room = nltb→le (length space) minSpace h2;
+        short = nltb→le maxMessage (length msg) h3;
         header = not-not (headerAllowed msg) h4;
         kind = not-not (served (kindOf msg)) h5;
       }))))))
@@ -105,8 +106,8 @@ module _ (limit : ℕ) (t msg space : List ℕ) where
   unfolding serve serveSound
   answered-zero a =
       pick-yes (sound limit t) _ (unserved 1 space t) (a .table)
-      ∙ pick-no (ltb (length space) 1024) (unserved 2 space t) _ (no-ltb (a .room))
-      ∙ pick-no (ltb 2048 (length msg)) (unserved 3 space t) _ (no-ltb (a .short))
+      ∙ pick-no (ltb (length space) minSpace) (unserved 2 space t) _ (no-ltb (a .room))
+      ∙ pick-no (ltb maxMessage (length msg)) (unserved 3 space t) _ (no-ltb (a .short))
       ∙ pick-no (not (headerAllowed msg)) (unserved 4 space t) _ (not-T (not (headerAllowed msg)) (λ n. T-not (headerAllowed msg) n (a .header)))
       ∙ pick-no (not (served (kindOf msg))) (unserved 5 space t) _ (not-T (not (served (kindOf msg))) (λ n. T-not (served (kindOf msg)) n (a .kind)))
 
@@ -159,30 +160,30 @@ module _ (limit : ℕ) (t msg space : List ℕ) (ho : T (octets msg)) where
       (λ n e h. absurd (subst T e h))
       (λ b h. unfold answer answered replyTo in (
       let k = table-kept limit t (b .table) in
-      reply-cause s msg (readRequest msg .seid) v (grants s m (readRequest msg)) space (ipv4-four s (k .settings)) (sequence-three msg (header-long msg (b .header)))
-      (le-trans (reply-body-short limit s (k .settings) m msg ho) (lit≤ tt))))
+      reply-cause s msg (readRequest msg .seid) v (reports (granted s m (readRequest msg)) (readRequest msg)) space (ipv4-four s (k .settings)) (sequence-three msg (header-long msg (b .header)))
+      (le-trans (reply-body-short limit s (k .settings) m msg) (lit≤ tt))))
 
   -- a refusal by its reply's cause
   pub refused-cause : T (eqb (out .outcome) 0) → T (not (eqb (replyCause (out .space)) 1)) → out .table ≡ t
   refused-cause zero′ h = refused-same (unfold accepted in (not-T (eqb (out .outcome) 0 && eqb (replyCause (out .space)) 1)
       (λ b. T-not (eqb (replyCause (out .space)) 1) h (and-right (eqb (out .outcome) 0) (eqb (replyCause (out .space)) 1) b))))
 
-  -- the reply is the one that 01 writes, and has at most 1,024 octets
+  -- the reply is the one that 01 writes
   pub reply-found : T (eqb (out .outcome) 0) → replyIn (out .space) ≡ replyTo s m msg v
   reply-found =
       serve-cases limit t msg space (λ (o : Served). T (eqb (o .outcome) 0) → replyIn (o .space) ≡ replyTo s m msg v)
       (λ n e h. absurd (subst T e h))
       (λ b h. unfold answer answered replyTo in (
       let k = table-kept limit t (b .table) in
-      own-found s msg (readRequest msg .seid) v (grants s m (readRequest msg)) space
-      (sequence-three msg (header-long msg (b .header))) (le-trans (reply-body-short limit s (k .settings) m msg ho) (lit≤ tt))))
+      own-found s msg (readRequest msg .seid) v (reports (granted s m (readRequest msg)) (readRequest msg)) space
+      (sequence-three msg (header-long msg (b .header))) (le-trans (reply-body-short limit s (k .settings) m msg) (lit≤ tt))))
 
-  -- so it has at most 1,024 octets
-  pub reply-length : T (eqb (out .outcome) 0) → length (replyIn (out .space)) ≤ 1024
+  -- so it has at most 1,280 octets
+  pub reply-length : T (eqb (out .outcome) 0) → length (replyIn (out .space)) ≤ minSpace
   reply-length h =
       let a = answers limit t msg space h in
       le-trans (le-of-eq (ap length (reply-found h)))
-      (le-trans (reply-short limit s (table-kept limit t (a .table) .settings) m msg ho (header-long msg (a .header))) (lit≤ tt))
+      (le-trans (reply-short limit s (table-kept limit t (a .table) .settings) m msg (header-long msg (a .header))) (lit≤ tt))
 
   -- the reply space keeps its length, whatever the outcome
   pub space-length : length (out .space) ≡ length space
@@ -190,7 +191,7 @@ module _ (limit : ℕ) (t msg space : List ℕ) (ho : T (octets msg)) where
       serve-cases limit t msg space (λ (o : Served). length (o .space) ≡ length space) (λ n e. refl)
       (λ a. unfold answer answered in (
       put-front-length (replyTo s m msg v) space
-      (le-trans (reply-short limit s (table-kept limit t (a .table) .settings) m msg ho (header-long msg (a .header))) (le-trans (lit≤ tt) (a .room)))))
+      (le-trans (reply-short limit s (table-kept limit t (a .table) .settings) m msg (header-long msg (a .header))) (le-trans (lit≤ tt) (a .room)))))
 
 -- a table that is not broken stays so
 pub serve-sound : (limit : ℕ) → limit < 256 ^ 2 → (t msg space : List ℕ) → T (octets msg) → T (sound limit t) → T (sound limit (serve limit t msg space .table))

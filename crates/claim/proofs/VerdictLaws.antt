@@ -14,7 +14,7 @@ use Rattle.rules.specs.Model.{Settings, Sessions}
 use Rattle.rules.specs.Elements.{Refusal, missing, conditional, tooShort, incorrect, causeOf}
 use Rattle.rules.specs.Message.{kindOf, Spot, frameFault, establishment}
 use Rattle.rules.specs.Reading.{Fault, readFault, readRequest}
-use Rattle.rules.specs.Stages.{isLive, removedPdrs, invalidAllocation, brokenRules, breaksRule, tooManySessions, tooManyPdrs, tooManyEndpoints, tooFewTeids, noRoom, Verdict, plain, judge, entrySession, judged, fromReading, fromFraming, unknownSession, verdict}
+use Rattle.rules.specs.Stages.{isLive, removedPdrs, invalidAllocation, brokenRules, breaksRule, tooManySessions, tooManyPdrs, tooManyEndpoints, tooFewTeids, noRoom, noAddress, Verdict, plain, judge, entrySession, judged, fromReading, fromFraming, unknownSession, verdict}
 use Rattle.rules.specs.Causes as why
 
 -- tests that all fail
@@ -41,6 +41,7 @@ pub record Passed (limit : ℕ) (s : Settings) (m : Sessions) (msg : List ℕ) :
   pub supported : T (not (readRequest msg .unsupported))
   pub rules : NoneOf (brokenRules s m (entrySession m msg) (readRequest msg))
   pub room : NoneOf (tooManySessions limit (kindOf msg) m ∷ tooManyPdrs (entrySession m msg) (readRequest msg) ∷ tooManyEndpoints (entrySession m msg) (readRequest msg) ∷ tooFewTeids s m (readRequest msg) ∷ [])
+  pub address : T (not (noAddress s m (readRequest msg)))
 
 -- a refusal's cause is none of acceptance
 not-one : (f : Refusal) → causeOf f ≡ 1 → ⊥
@@ -75,7 +76,8 @@ module _ (limit : ℕ) (s : Settings) (m : Sessions) (msg : List ℕ) where
       let f = passes (invalidAllocation r) 71 _ (λ p. absurd (omega arith)) (d .1) in
       let g = passes (r .unsupported) 76 _ (λ p. absurd (omega arith)) (f .1) in
       let h = passes (oneOf (brokenRules s m x r)) 73 _ (λ p. absurd (omega arith)) (g .1) in
-      let i = passes (oneOf (tooManySessions limit k m ∷ tooManyPdrs x r ∷ tooManyEndpoints x r ∷ tooFewTeids s m r ∷ [])) 75 (plain why.accepted) (λ p. absurd (omega arith)) (h .1) in
+      let i = passes (oneOf (tooManySessions limit k m ∷ tooManyPdrs x r ∷ tooManyEndpoints x r ∷ tooFewTeids s m r ∷ [])) 75 _ (λ p. absurd (omega arith)) (h .1) in
+      let j = passes (noAddress s m r) 79 (plain why.accepted) (λ p. absurd (omega arith)) (i .1) in
       record {
         known = a .0;
         framed = b .0;
@@ -85,6 +87,7 @@ module _ (limit : ℕ) (s : Settings) (m : Sessions) (msg : List ℕ) where
         supported = g .0;
         rules = none-hold (brokenRules s m x r) (h .0);
         room = none-hold (tooManySessions limit k m ∷ tooManyPdrs x r ∷ tooManyEndpoints x r ∷ tooFewTeids s m r ∷ []) (i .0);
+        address = j .0;
       }
 
 -- at most 16 PDRs and 8 endpoints are created

@@ -3,19 +3,15 @@
 use mathlib.Core.Path.{_≡_, ap, _∙_}
 use mathlib.Core.Bool.{Bool}
 use mathlib.Core.List.{List, [], _∷_}
-use Prim.Native.Nat.{ℕ, zero, suc, _+_, _-_, _/_, _%_, _≤_, _<_}
+use Prim.Native.Nat.{ℕ, zero, suc, _+_, _-_, _≤_, _<_}
 use native.Mathlib.Omega.{arith}
 use borrow.Author.Tests.{eq-eqb, ne-eqb}
-use lib.Dec.{T, eqb, leb→le}
+use lib.Dec.{T, leb→le}
 use lib.ListN.{length, take, drop, getD, length-take, length-drop}
-use Rattle.octets.specs.Octets.{bit}
 use Rattle.octets.specs.Lists.{all}
 use Rattle.octets.proofs.Tests.{all-head, all-tail}
-use Rattle.rules.specs.Model.{Tunnel}
 use Rattle.plan.specs.Rows.{rowWidth}
-use Rattle.writing.specs.Families.{tunnelIn}
-use Rattle.created.specs.Groups.{kindIn}
-use Rattle.created.specs.Entries.{grantOf, rowId, rowEntry, entryAt, rowGrant, within}
+use Rattle.created.specs.Entries.{rowId, rowEntry, entryAt, within}
 
 -- ---- one row
 
@@ -43,22 +39,9 @@ module _ (plan places : List ℕ) (i : ℕ) (h : i < length places) (t : T (with
 
 -- the entry as the code reads it
 pub entry-steps : (plan places : List ℕ) (i : ℕ) {id : ℕ} → let row = take (getD places i 0 + rowWidth - getD places i 0) (drop (getD places i 0) plan) in
-    id ≡ rowId row → record { kind = getD row 0 0; id = id; teid = getD row 13 0; families = getD row 12 0 % 4 } ≡ entryAt plan places i
+    id ≡ rowId row → record { kind = getD row 0 0; id = id; flags = getD row 12 0; teid = getD row 13 0; ue = getD row 18 0; address = getD row 19 0 } ≡ entryAt plan places i
 unfolding rowEntry
 entry-steps plan places i {id} e =
     let w : getD places i 0 + rowWidth - getD places i 0 ≡ rowWidth = omega arith in
     let same = ap (λ (n : ℕ). take n (drop (getD places i 0) plan)) w in
-    λ j. record { kind = getD (same j) 0 0; id = (e ∙ ap rowId same) j; teid = getD (same j) 13 0; families = getD (same j) 12 0 % 4 }
-
--- ---- an entry and the row it was filled from are the same grant
-
-families-kept : (teid f : ℕ) → tunnelIn teid (f % 4) ≡ tunnelIn teid f
-unfolding tunnelIn bit
-families-kept teid f =
-    let a : f % 4 / 1 % 2 ≡ f / 1 % 2 = omega arith in
-    let b : f % 4 / 2 % 2 ≡ f / 2 % 2 = omega arith in
-    λ j. record { teid = teid; v4 = eqb (a j) 1; v6 = eqb (b j) 1 }
-
-pub entry-grant : (row : List ℕ) → grantOf (rowEntry row) ≡ rowGrant row
-unfolding grantOf rowEntry rowGrant
-entry-grant row = ap (λ (l : Tunnel). record { kind = kindIn (getD row 0 0); id = rowId row; local = l }) (families-kept (getD row 13 0) (getD row 12 0))
+    λ j. record { kind = getD (same j) 0 0; id = (e ∙ ap rowId same) j; flags = getD (same j) 12 0; teid = getD (same j) 13 0; ue = getD (same j) 18 0; address = getD (same j) 19 0 }

@@ -59,4 +59,4 @@ module _ {M : Type 1} (𝓤 : URA M) (H : Heap 𝓤) (A : Atoms 𝓤) where
 
 -- the entry whose fields are 0
 pub none-is : Is R noEntry (vals noEntry)
-none-is = LL.owes T.the-type T′.the-laws noEntry ((refl, lit< tt), ((refl, lit< tt), ((refl, lit< tt), ((refl, lit< tt), tt))))
+none-is = LL.owes T.the-type T′.the-laws noEntry ((refl, lit< tt), ((refl, lit< tt), ((refl, lit< tt), ((refl, lit< tt), ((refl, lit< tt), ((refl, lit< tt), tt))))))

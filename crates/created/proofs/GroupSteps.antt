@@ -2,58 +2,102 @@
 -- Assumes nothing.
 use mathlib.Core.Path.{_≡_, refl, sym, ap, _∙_}
 use mathlib.Core.Bool.{Bool, true, false}
-use mathlib.Core.List.{List, [], _∷_, _++_, append-nil}
-use Prim.Native.Nat.{ℕ, _+_, _≤_, _<_}
+use mathlib.Core.Option.{some}
+use mathlib.Core.List.{List, [], _∷_, _++_, map, append-nil, append-assoc}
+use Prim.Native.Nat.{ℕ, _+_, _-_, _/_, _%_, _≤_, _<_}
 use native.Mathlib.Nat.{div-one, mod-eq-of-lt}
 use native.Mathlib.Omega.{arith}
 use borrow.Author.Tests.{eq-eqb, ne-eqb, ltb-true}
 use lib.ListN.{length, length-append}
 use Rattle.octets.specs.Choice.{pick}
-use Rattle.octets.specs.Octets.{put, be, concatMap}
+use Rattle.octets.specs.Octets.{put, be, bit, concatMap}
 use Rattle.octets.specs.Lists.{keep}
 use Rattle.octets.proofs.Numbers.{length-be}
 use Rattle.rules.specs.Model.{Settings}
-use Rattle.rules.specs.Grants.{Kind, Grant, sameKind, isKind, grantsOf}
-use Rattle.rules.specs.Reply.{element, unitElement, createdPdr, createdPdrContent, createdEndpoint, createdEndpointContent, created}
+use Rattle.rules.specs.Grants.{Kind, sameKind}
+use Rattle.rules.specs.Reply.{Report, element, unitElement, tunnelPart, addressPart, chosenElements, createdPdr, createdPdrContent, createdEndpoint, createdEndpointContent, created}
 use Rattle.unit.specs.declared.Settings.{Settings as Unit}
 use Rattle.unit.specs.Meaning.{settingsOf}
 use Rattle.created.specs.declared.Grant.{Grant as Entry}
 use Rattle.writing.specs.Placed.{Placed}
-use Rattle.writing.specs.Families.{tunnelIn, unitFamilies, addressOctets, unitAddresses}
-use Rattle.created.specs.Groups.{kindIn, group, groups, idFits}
-use Rattle.created.specs.Entries.{grantOf}
-use Rattle.writing.proofs.PlacedLaws.{length-element, length-headed, placed-none, placed-then, placed-element}
-use Rattle.writing.proofs.ElementSteps.{length-unit}
+use Rattle.writing.specs.Families.{tunnelIn, unitAddresses}
+use Rattle.created.specs.Groups.{Told, reportIn, kindIn, isTold, reportsOf, allReports, group, groups, idFits}
+use Rattle.created.specs.Entries.{grantedTunnel, grantedAddress, toldOf}
+use Rattle.writing.proofs.PlacedLaws.{length-element, placed-none, placed-then, placed-element, placed-group}
+use Rattle.writing.proofs.ElementSteps.{length-unit, length-ue}
+
+-- ---- what was granted
+
+module _ (v : Unit) (g : Entry) (out : List ℕ) (at : ℕ) where
+  pub tunnel-not : (g .flags / 4 % 2 ≡ 1 → ⊥) → Placed out at (tunnelPart (settingsOf v) (grantedTunnel g)) at out
+  unfolding tunnelPart grantedTunnel bit
+  tunnel-not n = rw (ne-eqb (g .flags / 4 % 2) 1 n) (placed-none out at)
+
+  module _ (e : g .flags / 4 % 2 ≡ 1) where
+    tunnel-is : tunnelPart (settingsOf v) (grantedTunnel g) ≡ unitElement (settingsOf v) (tunnelIn (g .teid) (g .flags))
+    unfolding tunnelPart grantedTunnel bit
+    tunnel-is = rw (eq-eqb (g .flags / 4 % 2) 1 e)
+
+    pub tunnel-steps : {out₁ : List ℕ} {r : ℕ} → Placed out at (unitElement (settingsOf v) (tunnelIn (g .teid) (g .flags))) r out₁ → Placed out at (tunnelPart (settingsOf v) (grantedTunnel g)) r out₁
+    tunnel-steps p = rw tunnel-is p
+
+    pub tunnel-room : at + length (tunnelPart (settingsOf v) (grantedTunnel g)) ≤ length out → at + 9 + unitAddresses (settingsOf v) (g .flags) ≤ length out
+    tunnel-room h = omega (arith, ap length tunnel-is, length-unit v (g .flags) (g .teid))
+
+module _ (g : Entry) (out : List ℕ) (at : ℕ) where
+  pub address-not : (g .ue ≡ 2 → ⊥) → Placed out at (addressPart (grantedAddress g)) at out
+  unfolding addressPart grantedAddress
+  address-not n = rw (ne-eqb (g .ue) 2 n) (placed-none out at)
+
+  module _ (e : g .ue ≡ 2) where
+    address-is : addressPart (grantedAddress g) ≡ addressPart (some (g .address))
+    unfolding grantedAddress
+    address-is = rw (eq-eqb (g .ue) 2 e)
+
+    pub address-steps : {out₁ : List ℕ} {r : ℕ} → Placed out at (addressPart (some (g .address))) r out₁ → Placed out at (addressPart (grantedAddress g)) r out₁
+    address-steps p = rw address-is p
+
+    pub address-room : at + length (addressPart (grantedAddress g)) ≤ length out → at + 9 ≤ length out
+    address-room h = omega (arith, ap length address-is, length-ue (g .address))
 
 -- ---- one group
 
-module _ (v : Unit) (teid families : ℕ) where
-  abbrev unit : List ℕ
-  unit = unitElement (settingsOf v) (tunnelIn teid families)
+module _ (v : Unit) (g : Entry) where
+  abbrev tunnel : List ℕ
+  tunnel = tunnelPart (settingsOf v) (grantedTunnel g)
 
-  pub length-group : (kind member width id : ℕ) → length (element kind (element member (be width id) ++ unit)) ≡ 17 + width + unitAddresses (settingsOf v) families
+  abbrev address : List ℕ
+  address = addressPart (grantedAddress g)
+
+  abbrev chosen : List ℕ
+  chosen = chosenElements (settingsOf v) (toldOf g .report)
+
+  chosen-is : chosen ≡ tunnel ++ address
+  unfolding chosenElements toldOf
+  chosen-is = refl
+
+  pub length-group : (kind member width id : ℕ) → length (element kind (element member (be width id) ++ chosen)) ≡ 8 + width + length tunnel + length address
   length-group kind member width id =
       let a : List ℕ = element member (be width id) in
-      rw length-element (omega (arith, length-append a unit, length-element member (be width id), length-be width id, length-unit v families teid))
+      rw (length-element, chosen-is) (omega (arith, length-append a (tunnel ++ address), length-append tunnel address, length-element member (be width id), length-be width id))
 
-  pub group-steps : (kind member width id f at : ℕ) (s : List ℕ) {s₁ s₂ s₃ s₄ : List ℕ} {e : ℕ}
-      → at + 17 + width + unitAddresses (settingsOf v) families ≤ length s → f ≡ unitFamilies (settingsOf v) families
-      → s₁ ≡ put at (be 2 kind ++ be 2 (13 + width + addressOctets f)) s
-      → s₂ ≡ put (at + 4) (be 2 member ++ be 2 width) s₁
-      → s₃ ≡ put (at + 8) (be width id) s₂
-      → Placed s₃ (at + 8 + width) unit e s₄
-      → Placed s at (element kind (element member (be width id) ++ unit)) e s₄
-  group-steps kind member width id f at s {s₁} {s₂} {s₃} {s₄} {e} h g p q r u =
-      let n : ℕ = 13 + width + addressOctets f in
+  pub group-steps : (kind member width id at : ℕ) (s : List ℕ) {s₁ s₂ s₃ s₄ s₅ : List ℕ} {m e : ℕ}
+      → at + 8 + width + length tunnel + length address ≤ length s
+      → s₁ ≡ put (at + 4) (be 2 member ++ be 2 width) s
+      → s₂ ≡ put (at + 8) (be width id) s₁
+      → Placed s₂ (at + 8 + width) tunnel m s₃
+      → Placed s₃ m address e s₄
+      → s₅ ≡ put at (be 2 kind ++ be 2 (e - (at + 4))) s₄
+      → Placed s at (element kind (element member (be width id) ++ chosen)) e s₅
+  group-steps kind member width id at s {s₁} {s₂} {s₃} {s₄} {s₅} {m} {e} h p q t u w =
       let a : List ℕ = element member (be width id) in
-      let same : length s₁ ≡ length s = length-headed at kind n s p (omega arith) in
       let la : length a ≡ 4 + width = length-element member (be width id) ∙ ap (λ (k : ℕ). 4 + k) (length-be width id) in
-      let lu : length unit ≡ 9 + addressOctets f = rw g (length-unit v families teid) in
-      let first : Placed s₁ (at + 4) a (at + 8 + width) s₃ =
-      placed-element (at + 4) member width s₁ q (omega arith) (at + 8) (at + 8 + width) (be width id) r (omega arith) (length-be width id) refl in
-      let all-of : Placed s₁ (at + 4) (a ++ unit) e s₄ = placed-then first u (omega arith) in
-      let l : length (a ++ unit) ≡ n = length-append a unit ∙ omega arith in
-      placed-element at kind n s p (omega arith) (at + 4) e (a ++ unit) (all-of .holds) refl l (all-of .ends ∙ ap (λ (k : ℕ). at + 4 + k) l)
+      let first : Placed s (at + 4) a (at + 8 + width) s₂ =
+      placed-element (at + 4) member width s p (omega arith) (at + 8) (at + 8 + width) (be width id) q (omega arith) (length-be width id) refl in
+      let front : Placed s (at + 4) (a ++ tunnel) m s₃ = placed-then first t (omega arith) in
+      let whole : Placed s (at + 4) ((a ++ tunnel) ++ address) e s₄ = placed-then front u (omega (arith, length-append a tunnel)) in
+      rw (chosen-is, ← append-assoc a tunnel address)
+      (placed-group kind at (at + 4) ((a ++ tunnel) ++ address) s refl (omega arith) whole w)
 
 -- ---- the group of one grant, in the pass for records of a kind
 
@@ -66,67 +110,67 @@ module _ (v : Unit) (kind : ℕ) (g : Entry) where
   st = settingsOf v
 
   abbrev of-kind : List ℕ
-  of-kind = groups (kindIn kind) st (grantOf g ∷ [])
+  of-kind = groups (kindIn kind) st (toldOf g ∷ [])
 
   -- a grant of the other kind
   module _ (out : List ℕ) (at : ℕ) where
     pub pdr-not : kind ≡ 1 → (g .kind ≡ 1 → ⊥) → Placed out at of-kind at out
-    unfolding groups grantsOf keep isKind sameKind kindIn grantOf concatMap
+    unfolding groups reportsOf keep isTold sameKind kindIn toldOf concatMap
     pdr-not e n = rw (eq-eqb kind 1 e, ne-eqb (g .kind) 1 n) (placed-none out at)
 
     pub endpoint-not : (kind ≡ 1 → ⊥) → g .kind ≡ 1 → Placed out at of-kind at out
-    unfolding groups grantsOf keep isKind sameKind kindIn grantOf concatMap
+    unfolding groups reportsOf keep isTold sameKind kindIn toldOf concatMap
     endpoint-not e n = rw (ne-eqb kind 1 e, eq-eqb (g .kind) 1 n) (placed-none out at)
 
   -- of this kind: the group that is written
-  pdr-group : kind ≡ 1 → g .kind ≡ 1 → of-kind ≡ element 8 (element 56 (be 2 (g .id)) ++ unitElement st (tunnelIn (g .teid) (g .families)))
-  unfolding groups group grantsOf keep isKind sameKind kindIn grantOf concatMap createdPdr createdPdrContent
+  pdr-group : kind ≡ 1 → g .kind ≡ 1 → of-kind ≡ element 8 (element 56 (be 2 (g .id)) ++ chosenElements st (toldOf g .report))
+  unfolding groups group reportsOf keep isTold sameKind kindIn toldOf concatMap createdPdr createdPdrContent
   pdr-group e n = rw (eq-eqb kind 1 e, eq-eqb (g .kind) 1 n) (append-nil _)
 
-  endpoint-group : (kind ≡ 1 → ⊥) → (g .kind ≡ 1 → ⊥) → idFits (grantOf g) ≡ true
-      → of-kind ≡ element 128 (element 131 (be 1 (g .id)) ++ unitElement st (tunnelIn (g .teid) (g .families)))
-  unfolding groups group grantsOf keep isKind sameKind kindIn grantOf concatMap createdEndpoint createdEndpointContent idFits
+  endpoint-group : (kind ≡ 1 → ⊥) → (g .kind ≡ 1 → ⊥) → idFits (toldOf g) ≡ true
+      → of-kind ≡ element 128 (element 131 (be 1 (g .id)) ++ chosenElements st (toldOf g .report))
+  unfolding groups group reportsOf keep isTold sameKind kindIn toldOf concatMap createdEndpoint createdEndpointContent idFits
   endpoint-group e n f =
       let h : g .id < 256 = ltb-true (g .id) 256 (rw (ne-eqb (g .kind) 1 n) at f) in
       rw (ne-eqb kind 1 e, ne-eqb (g .kind) 1 n, one-octet (g .id) h) (append-nil _)
 
   pub pdr-steps : {out out₁ : List ℕ} {at e : ℕ} → kind ≡ 1 → g .kind ≡ 1
-      → Placed out at (element 8 (element 56 (be 2 (g .id)) ++ unitElement st (tunnelIn (g .teid) (g .families)))) e out₁ → Placed out at of-kind e out₁
+      → Placed out at (element 8 (element 56 (be 2 (g .id)) ++ chosenElements st (toldOf g .report))) e out₁ → Placed out at of-kind e out₁
   pdr-steps e k p = rw (pdr-group e k) p
 
-  pub endpoint-steps : {out out₁ : List ℕ} {at e : ℕ} → (kind ≡ 1 → ⊥) → (g .kind ≡ 1 → ⊥) → idFits (grantOf g) ≡ true
-      → Placed out at (element 128 (element 131 (be 1 (g .id)) ++ unitElement st (tunnelIn (g .teid) (g .families)))) e out₁ → Placed out at of-kind e out₁
+  pub endpoint-steps : {out out₁ : List ℕ} {at e : ℕ} → (kind ≡ 1 → ⊥) → (g .kind ≡ 1 → ⊥) → idFits (toldOf g) ≡ true
+      → Placed out at (element 128 (element 131 (be 1 (g .id)) ++ chosenElements st (toldOf g .report))) e out₁ → Placed out at of-kind e out₁
   endpoint-steps e k f p = rw (endpoint-group e k f) p
 
   -- and the room that it wants
   module _ (at n : ℕ) (room : at + length of-kind ≤ n) where
-    pub pdr-room : kind ≡ 1 → g .kind ≡ 1 → at + 17 + 2 + unitAddresses st (g .families) ≤ n
-    pdr-room e k = omega (arith, ap length (pdr-group e k), length-group v (g .teid) (g .families) 8 56 2 (g .id))
+    pub pdr-room : kind ≡ 1 → g .kind ≡ 1 → at + 8 + 2 + length (tunnelPart st (grantedTunnel g)) + length (addressPart (grantedAddress g)) ≤ n
+    pdr-room e k = omega (arith, ap length (pdr-group e k), length-group v g 8 56 2 (g .id))
 
-    pub endpoint-room : (kind ≡ 1 → ⊥) → (g .kind ≡ 1 → ⊥) → idFits (grantOf g) ≡ true → at + 17 + 1 + unitAddresses st (g .families) ≤ n
-    endpoint-room e k f = omega (arith, ap length (endpoint-group e k f), length-group v (g .teid) (g .families) 128 131 1 (g .id))
+    pub endpoint-room : (kind ≡ 1 → ⊥) → (g .kind ≡ 1 → ⊥) → idFits (toldOf g) ≡ true → at + 8 + 1 + length (tunnelPart st (grantedTunnel g)) + length (addressPart (grantedAddress g)) ≤ n
+    endpoint-room e k f = omega (arith, ap length (endpoint-group e k f), length-group v g 128 131 1 (g .id))
 
 -- ---- the groups of one kind
 
-groups-pick : (f : Grant → List ℕ) (b : Bool) (g : Grant) (gs : List Grant) → concatMap f (pick b (g ∷ gs) gs) ≡ concatMap f (pick b (g ∷ []) []) ++ concatMap f gs
+groups-pick : (f : Report → List ℕ) (b : Bool) (g : Told) (gs : List Told) → concatMap f (map reportIn (pick b (g ∷ gs) gs)) ≡ concatMap f (map reportIn (pick b (g ∷ []) [])) ++ concatMap f (map reportIn gs)
 unfolding concatMap
-groups-pick f true g gs = ap (λ (xs : List ℕ). xs ++ concatMap f gs) (sym (append-nil (f g)))
+groups-pick f true g gs = ap (λ (xs : List ℕ). xs ++ concatMap f (map reportIn gs)) (sym (append-nil (f (g .report))))
 groups-pick f false g gs = refl
 
-pub groups-more : (k : Kind) (s : Settings) (g : Grant) (gs : List Grant) → groups k s (g ∷ gs) ≡ groups k s (g ∷ []) ++ groups k s gs
-unfolding groups grantsOf keep
-groups-more k s g gs = groups-pick (group k s) (isKind k g) g (keep (isKind k) gs)
+pub groups-more : (k : Kind) (s : Settings) (g : Told) (gs : List Told) → groups k s (g ∷ gs) ≡ groups k s (g ∷ []) ++ groups k s gs
+unfolding groups reportsOf keep
+groups-more k s g gs = groups-pick (group k s) (isTold k g) g (keep (isTold k) gs)
 
 pub groups-none : (k : Kind) (s : Settings) → groups k s [] ≡ []
-unfolding groups grantsOf keep concatMap
+unfolding groups reportsOf keep concatMap
 groups-none k s = refl
 
 -- ---- both passes
 
-module _ (s : Settings) (gs : List Grant) where
-  pub created-two : created s gs ≡ groups (kindIn 1) s gs ++ groups (kindIn 127) s gs
+module _ (s : Settings) (gs : List Told) where
+  pub created-two : created s (allReports gs) ≡ groups (kindIn 1) s gs ++ groups (kindIn 127) s gs
   unfolding created groups group kindIn
   created-two = refl
 
-  pub length-created : length (created s gs) ≡ length (groups (kindIn 1) s gs) + length (groups (kindIn 127) s gs)
+  pub length-created : length (created s (allReports gs)) ≡ length (groups (kindIn 1) s gs) + length (groups (kindIn 127) s gs)
   length-created = ap length created-two ∙ length-append (groups (kindIn 1) s gs) (groups (kindIn 127) s gs)

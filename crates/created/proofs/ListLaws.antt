@@ -12,12 +12,11 @@ use lib.Seq.{drop-cons, set-at, append-snoc, take-at, take-suc}
 use Rattle.octets.specs.Lists.{all}
 use Rattle.octets.proofs.FieldLaws.{both}
 use Rattle.rules.specs.Model.{Settings}
-use Rattle.rules.specs.Grants.{Kind, Grant}
+use Rattle.rules.specs.Grants.{Kind}
 use Rattle.plan.specs.Rows.{rowWidth}
 use Rattle.created.specs.declared.Grant.{Grant as Entry}
-use Rattle.created.specs.Groups.{groups, idFits}
-use Rattle.created.specs.Entries.{noEntry, grantOf, listed, entryAt, grantAt, grantsAt, firsts, filled}
-use Rattle.created.proofs.EntryLaws.{entry-grant}
+use Rattle.created.specs.Groups.{Told, groups, idFits}
+use Rattle.created.specs.Entries.{noEntry, toldOf, rowTold, listed, entryAt, toldAt, toldsAt, firsts, filled}
 use Rattle.created.proofs.GroupSteps.{groups-more, groups-none}
 
 -- ---- the list as it is filled
@@ -47,20 +46,20 @@ module _ {X : Type 0} where
   firsts-cons f zero = refl
   firsts-cons f (suc n) = ap (λ (l : List X). l ++ (f (suc n) ∷ [])) (firsts-cons f n)
 
--- the entries of all places are the grants of the rows at them
-firsts-grants : (plan places : List ℕ) → map grantOf (firsts (entryAt plan places) (length places)) ≡ grantsAt plan places
-unfolding grantAt
-firsts-grants plan [] = unfold firsts in refl
-firsts-grants plan (p ∷ places) =
-    ap (map grantOf) (firsts-cons (entryAt plan (p ∷ places)) (length places))
-    ∙ ap₂ (λ (g : Grant) (gs : List Grant). g ∷ gs) (entry-grant (take rowWidth (drop p plan))) (firsts-grants plan places)
+-- the entries of all places tell what the rows at them tell
+firsts-told : (plan places : List ℕ) → map toldOf (firsts (entryAt plan places) (length places)) ≡ toldsAt plan places
+unfolding toldAt rowTold
+firsts-told plan [] = unfold firsts in refl
+firsts-told plan (p ∷ places) =
+    ap (map toldOf) (firsts-cons (entryAt plan (p ∷ places)) (length places))
+    ∙ ap₂ (λ (g : Told) (gs : List Told). g ∷ gs) refl (firsts-told plan places)
 
-pub listed-filled : (plan places : List ℕ) (l : List Entry) → listed (length places) (filled (entryAt plan places) (length places) l) ≡ grantsAt plan places
-listed-filled plan places l = ap (map grantOf) (take-filled (entryAt plan places) (length places) l) ∙ firsts-grants plan places
+pub listed-filled : (plan places : List ℕ) (l : List Entry) → listed (length places) (filled (entryAt plan places) (length places) l) ≡ toldsAt plan places
+listed-filled plan places l = ap (map toldOf) (take-filled (entryAt plan places) (length places) l) ∙ firsts-told plan places
 
 -- ---- the groups of one kind, entry after entry
 
-groups-append : (k : Kind) (s : Settings) (xs ys : List Grant) → groups k s (xs ++ ys) ≡ groups k s xs ++ groups k s ys
+groups-append : (k : Kind) (s : Settings) (xs ys : List Told) → groups k s (xs ++ ys) ≡ groups k s xs ++ groups k s ys
 groups-append k s [] ys = sym (ap (λ (l : List ℕ). l ++ groups k s ys) (groups-none k s))
 groups-append k s (g ∷ gs) ys =
     groups-more k s g (gs ++ ys) ∙ ap (λ (l : List ℕ). groups k s (g ∷ []) ++ l) (groups-append k s gs ys)
@@ -82,16 +81,16 @@ module _ (k : Kind) (s : Settings) (es : List Entry) where
 
   -- and of the i-th one
   abbrev pub writes : ℕ → List ℕ
-  writes i = groups k s (grantOf (getD es i noEntry) ∷ [])
+  writes i = groups k s (toldOf (getD es i noEntry) ∷ [])
 
-  listed-more : (i : ℕ) → i < length es → listed (i + 1) es ≡ listed i es ++ (grantOf (getD es i noEntry) ∷ [])
-  listed-more i h = rw (add-one, take-suc es i noEntry h) (map-append grantOf (take i es) (getD es i noEntry ∷ []))
+  listed-more : (i : ℕ) → i < length es → listed (i + 1) es ≡ listed i es ++ (toldOf (getD es i noEntry) ∷ [])
+  listed-more i h = rw (add-one, take-suc es i noEntry h) (map-append toldOf (take i es) (getD es i noEntry ∷ []))
 
   pub wrote-none : wrote 0 ≡ []
   wrote-none = groups-none k s
 
   pub wrote-more : (i : ℕ) → i < length es → wrote (i + 1) ≡ wrote i ++ writes i
-  wrote-more i h = ap (groups k s) (listed-more i h) ∙ groups-append k s (listed i es) (grantOf (getD es i noEntry) ∷ [])
+  wrote-more i h = ap (groups k s) (listed-more i h) ∙ groups-append k s (listed i es) (toldOf (getD es i noEntry) ∷ [])
 
   pub wrote-next : (i : ℕ) → i < length es → length (wrote i) + length (writes i) ≡ length (wrote (i + 1))
   wrote-next i h = sym (ap length (wrote-more i h) ∙ length-append (wrote i) (writes i))
@@ -104,7 +103,7 @@ module _ (k : Kind) (s : Settings) (es : List Entry) where
   -- the IDs of all entries fit
   pub ids-before : (d i n : ℕ) → i + d ≡ n → n ≤ length es → all idFits (listed n es) ≡ true → all idFits (listed i es) ≡ true
   ids-before zero i n e h a = let same : i ≡ n = omega arith in ap (λ (m : ℕ). all idFits (listed m es)) same ∙ a
-  ids-before (suc d) i n e h a = all-last idFits (listed i es) (grantOf (getD es i noEntry)) (sym (ap (all idFits) (listed-more i (omega arith))) ∙ ids-before d (i + 1) n (omega arith) h a) .0
+  ids-before (suc d) i n e h a = all-last idFits (listed i es) (toldOf (getD es i noEntry)) (sym (ap (all idFits) (listed-more i (omega arith))) ∙ ids-before d (i + 1) n (omega arith) h a) .0
 
-  pub id-at : (i n : ℕ) → i < n → n ≤ length es → all idFits (listed n es) ≡ true → idFits (grantOf (getD es i noEntry)) ≡ true
-  id-at i n l h a = all-last idFits (listed i es) (grantOf (getD es i noEntry)) (sym (ap (all idFits) (listed-more i (omega arith))) ∙ ids-before (n - (i + 1)) (i + 1) n (omega arith) h a) .1
+  pub id-at : (i n : ℕ) → i < n → n ≤ length es → all idFits (listed n es) ≡ true → idFits (toldOf (getD es i noEntry)) ≡ true
+  id-at i n l h a = all-last idFits (listed i es) (toldOf (getD es i noEntry)) (sym (ap (all idFits) (listed-more i (omega arith))) ∙ ids-before (n - (i + 1)) (i + 1) n (omega arith) h a) .1

@@ -1,20 +1,22 @@
 -- 01's list of grants as the code holds it, and the rows of a plan that it is filled from. A row begins at its place, counted in words.
 -- Assumes nothing.
-use Prim.Native.Nat.{ℕ, zero, suc, _+_, _%_}
+use Prim.Native.Nat.{ℕ, zero, suc, _+_}
 use mathlib.Core.Bool.{Bool}
+use mathlib.Core.Option.{Option, none, some}
 use mathlib.Core.List.{List, [], _∷_, _++_, map}
 use lib.ListN.{length, take, drop, getD}
 use lib.Dec.{eqb, leb}
 use Rattle.octets.specs.Choice.{pick}
-use Rattle.octets.specs.Octets.{part}
+use Rattle.octets.specs.Octets.{bit, part}
 use Rattle.octets.specs.Lists.{all}
 use Rattle.rules.specs.Limits.{maxPdrs, maxEndpoints}
-use Rattle.rules.specs.Grants.{Grant}
+use Rattle.rules.specs.Model.{Tunnel}
+use Rattle.rules.specs.Reply.{Reports}
 use Rattle.plan.specs.Rows.{rowWidth, word}
 use Rattle.rules.specs.Types as ie
 use Rattle.plan.specs.Words as its
 use Rattle.writing.specs.Families.{tunnelIn}
-use Rattle.created.specs.Groups.{kindIn}
+use Rattle.created.specs.Groups.{Told, kindIn, allReports}
 use Rattle.created.specs.declared.Grant.{Grant as Entry}
 
 -- 01's list has at most 24 entries: one for each record of a session
@@ -23,15 +25,23 @@ maxGrants = maxPdrs + maxEndpoints
 
 -- what an entry holds before it is filled
 abbrev pub noEntry : Entry
-noEntry = record { kind = 0; id = 0; teid = 0; families = 0 }
+noEntry = record { kind = 0; id = 0; flags = 0; teid = 0; ue = 0; address = 0 }
 
--- the grant that an entry is
-unfoldable pub grantOf : Entry → Grant
-grantOf e = record { kind = kindIn (e .kind); id = e .id; local = tunnelIn (e .teid) (e .families) }
+-- the F-TEID that was granted: where the flags have CH
+unfoldable pub grantedTunnel : Entry → Option Tunnel
+grantedTunnel e = pick (bit 2 (e .flags)) (some (tunnelIn (e .teid) (e .flags))) none
 
--- those of the first n entries
-abbrev pub listed : ℕ → List Entry → List Grant
-listed n es = map grantOf (take n es)
+-- the address that was granted: where the UE IP Address was a CHOOSE
+unfoldable pub grantedAddress : Entry → Option ℕ
+grantedAddress e = pick (eqb (e .ue) 2) (some (e .address)) none
+
+-- what an entry tells
+unfoldable pub toldOf : Entry → Told
+toldOf e = record { kind = kindIn (e .kind); report = record { id = e .id; local = grantedTunnel e; address = grantedAddress e } }
+
+-- what the first n entries tell
+abbrev pub listed : ℕ → List Entry → List Told
+listed n es = map toldOf (take n es)
 
 -- ---- from the rows of a plan
 
@@ -40,21 +50,25 @@ unfoldable pub rowId : List ℕ → ℕ
 rowId row = pick (eqb (word its.tag row) ie.createPdr) (word its.pdrId row) (word its.endpointId row)
 
 unfoldable pub rowEntry : List ℕ → Entry
-rowEntry row = record { kind = word its.tag row; id = rowId row; teid = word its.teid row; families = word its.flags row % 4 }
+rowEntry row = record { kind = word its.tag row; id = rowId row; flags = word its.flags row; teid = word its.teid row; ue = word its.ueKind row; address = word its.ueAddress row }
 
 -- the entry of the row at the i-th place
 abbrev pub entryAt : List ℕ → List ℕ → ℕ → Entry
 entryAt plan places i = rowEntry (part (getD places i 0) rowWidth plan)
 
--- the grant of a row whose TEID word holds the TEID that it was granted, and of the rows at places
-unfoldable pub rowGrant : List ℕ → Grant
-rowGrant row = record { kind = kindIn (word its.tag row); id = rowId row; local = tunnelIn (word its.teid row) (word its.flags row) }
+-- what a row tells whose TEID and address words hold what it was granted, and the rows at places
+unfoldable pub rowTold : List ℕ → Told
+rowTold row = toldOf (rowEntry row)
 
-unfoldable pub grantAt : List ℕ → ℕ → Grant
-grantAt plan p = rowGrant (part p rowWidth plan)
+unfoldable pub toldAt : List ℕ → ℕ → Told
+toldAt plan p = rowTold (part p rowWidth plan)
 
-abbrev pub grantsAt : List ℕ → List ℕ → List Grant
-grantsAt plan places = map (grantAt plan) places
+abbrev pub toldsAt : List ℕ → List ℕ → List Told
+toldsAt plan places = map (toldAt plan) places
+
+-- the reports of the rows at places
+abbrev pub reportsAt : List ℕ → List ℕ → Reports
+reportsAt plan places = allReports (toldsAt plan places)
 
 -- the row at every place lies within the plan
 abbrev pub within : List ℕ → List ℕ → Bool

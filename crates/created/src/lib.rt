@@ -1,4 +1,5 @@
-// Created PDR and Created Traffic Endpoint: the groups that report the TEIDs of a request's CHOOSEs, written from 01's list of grants.
+// Created PDR and Created Traffic Endpoint: the groups that report the TEIDs and the address of a request's CHOOSEs, written from 01's list of
+// grants.
 // The list is made for each request: an array of 24 entries, lent as a slice to be filled and then lent to the writer of the groups.
 // `fill`, `write_groups` and `write_created` are proved by a walk of their steps, by hand; whoever calls `write_created` names no list.
 use format::words;
@@ -11,20 +12,22 @@ ghost use lib.Dec.{T};
 ghost use lib.ListN.{length};
 ghost use Rattle.octets.specs.Octets.{be};
 ghost use Rattle.octets.specs.Lists.{all};
-ghost use Rattle.rules.specs.Reply.{element, unitElement, created};
+ghost use Rattle.rules.specs.Reply.{element, tunnelPart, addressPart, chosenElements, created};
 ghost use Rattle.plan.specs.Rows.{rowWidth};
 ghost use Rattle.unit.specs.Meaning.{settingsOf};
 ghost use Rattle.writing.specs.Placed.{Placed};
-ghost use Rattle.writing.specs.Families.{tunnelIn, unitAddresses};
 ghost use Rattle.created.specs.Groups.{kindIn, groups, idFits};
-ghost use Rattle.created.specs.Entries.{maxGrants, grantOf, listed, rowId, entryAt, grantsAt, within, filled};
+ghost use Rattle.created.specs.Entries.{maxGrants, grantedTunnel, grantedAddress, toldOf, listed, rowId, entryAt, toldsAt, reportsAt, within, filled};
 
-// One entry of the list: a record's kind and ID, the TEID that it was granted, and the families of its F-TEID (V4 = 1, V6 = 2).
+// One entry of the list: a record's kind and ID; the flags of its F-TEID (V4 1, V6 2, CH 4) and the TEID, which it was granted where CH is
+// there; the kind of its UE IP Address and the address, which it was granted where the kind is CHOOSE.
 pub struct Grant {
     pub kind: u64,
     pub id: u64,
+    pub flags: u64,
     pub teid: u64,
-    pub families: u64,
+    pub ue: u64,
+    pub address: u64,
 }
 
 // The kinds, by the type of the group that creates the record.
@@ -32,7 +35,32 @@ const PDR: u64 = 1;
 
 const ENDPOINT: u64 = 127;
 
-// A group: the ID in an element of its own, then the F-TEID with the unit's addresses.
+// The kind of a UE IP Address that is a CHOOSE.
+const CHOOSE: u64 = 2;
+
+// The F-TEID that was granted, with the unit's addresses; nothing where none was.
+fn write_tunnel(u: Settings, g: Grant, out: &mut [u8], at: usize) -> usize
+    requires { ⌜ at + length (tunnelPart (settingsOf u) (grantedTunnel g)) ≤ length (now out) ⌝ }
+    ensures { λ r. ⌜ Placed (now (out .entry)) at (tunnelPart (settingsOf u) (grantedTunnel g)) r (now (out .exit)) ⌝ }
+{
+    if g.flags / 4 % 2 != 1 {
+        return at;
+    }
+    writing::write_fteid(u, g.teid, g.flags, out, at)
+}
+
+// The address that was granted; nothing where none was.
+fn write_address(g: Grant, out: &mut [u8], at: usize) -> usize
+    requires { ⌜ at + length (addressPart (grantedAddress g)) ≤ length (now out) ⌝ }
+    ensures { λ r. ⌜ Placed (now (out .entry)) at (addressPart (grantedAddress g)) r (now (out .exit)) ⌝ }
+{
+    if g.ue != CHOOSE {
+        return at;
+    }
+    writing::write_ue_address(g.address, out, at)
+}
+
+// A group: the ID in an element of its own, then what was granted, and the group's head in front of them.
 fn write_group(
     u: Settings,
     group: usize,
@@ -42,21 +70,21 @@ fn write_group(
     out: &mut [u8],
     at: usize,
 ) -> usize
-    requires { ⌜ (width ≤ 8) × (at + 17 + width + unitAddresses (settingsOf u) (g .families) ≤ length (now out)) ⌝ }
-    ensures { λ r. ⌜ Placed (now (out .entry)) at (element group (element member (be width (g .id)) ++ unitElement (settingsOf u) (tunnelIn (g .teid) (g .families)))) r (now (out .exit)) ⌝ }
+    requires { ⌜ (width ≤ 8) × (at + 8 + width + length (tunnelPart (settingsOf u) (grantedTunnel g)) + length (addressPart (grantedAddress g)) ≤ length (now out)) ⌝ }
+    ensures { λ r. ⌜ Placed (now (out .entry)) at (element group (element member (be width (g .id)) ++ chosenElements (settingsOf u) (toldOf g .report))) r (now (out .exit)) ⌝ }
 {
-    let f = writing::unit_families(u, g.families);
-    let n = 4 * (f % 2) + 16 * (f / 2);
-    writing::write_head(group, 13 + width + n, out, at);
     writing::write_head(member, width, out, at + 4);
     octets::write(out, at + 8, width, g.id);
-    writing::write_fteid(u, g.teid, g.families, out, at + 8 + width)
+    let next = write_tunnel(u, g, out, at + 8 + width);
+    let end = write_address(g, out, next);
+    writing::write_head(group, end - (at + 4), out, at);
+    end
 }
 
 // The group of a grant of one kind; nothing for a grant of the other.
 fn write_grant(u: Settings, kind: u64, g: Grant, out: &mut [u8], at: usize) -> usize
-    requires { ⌜ (idFits (grantOf g) ≡ true) × (at + length (groups (kindIn kind) (settingsOf u) (grantOf g ∷ [])) ≤ length (now out)) ⌝ }
-    ensures { λ r. ⌜ Placed (now (out .entry)) at (groups (kindIn kind) (settingsOf u) (grantOf g ∷ [])) r (now (out .exit)) ⌝ }
+    requires { ⌜ (idFits (toldOf g) ≡ true) × (at + length (groups (kindIn kind) (settingsOf u) (toldOf g ∷ [])) ≤ length (now out)) ⌝ }
+    ensures { λ r. ⌜ Placed (now (out .entry)) at (groups (kindIn kind) (settingsOf u) (toldOf g ∷ [])) r (now (out .exit)) ⌝ }
 {
     if kind == PDR {
         if g.kind != PDR {
@@ -91,8 +119,10 @@ fn entry_at(plan: &[u64], places: &[usize], i: usize) -> Grant
     Grant {
         kind: row[words::TAG],
         id: row_id(row),
+        flags: row[words::FLAGS],
         teid: row[words::TEID],
-        families: row[words::FLAGS] % 4,
+        ue: row[words::UE_KIND],
+        address: row[words::UE_ADDRESS],
     }
 }
 
@@ -137,15 +167,17 @@ pub fn write_created(
     out: &mut [u8],
     at: usize,
 ) -> usize
-    requires { ⌜ (length (now places) ≤ maxGrants) × T (within (now plan) (now places)) × (all idFits (grantsAt (now plan) (now places)) ≡ true) × (at + length (created (settingsOf u) (grantsAt (now plan) (now places))) ≤ length (now out)) ⌝ }
-    ensures { λ r. ⌜ Placed (now (out .entry)) at (created (settingsOf u) (grantsAt (now (plan .entry)) (now (places .entry)))) r (now (out .exit)) ⌝ }
+    requires { ⌜ (length (now places) ≤ maxGrants) × T (within (now plan) (now places)) × (all idFits (toldsAt (now plan) (now places)) ≡ true) × (at + length (created (settingsOf u) (reportsAt (now plan) (now places))) ≤ length (now out)) ⌝ }
+    ensures { λ r. ⌜ Placed (now (out .entry)) at (created (settingsOf u) (reportsAt (now (plan .entry)) (now (places .entry)))) r (now (out .exit)) ⌝ }
 {
     let n = places.len();
     let mut grants = [Grant {
         kind: 0,
         id: 0,
+        flags: 0,
         teid: 0,
-        families: 0,
+        ue: 0,
+        address: 0,
     }; format::GRANTS];
     fill(&mut grants, plan, places, n);
     let next = write_groups(u, &grants, n, PDR, out, at);

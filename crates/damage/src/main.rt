@@ -1,5 +1,5 @@
 // Makes tables, damages them octet by octet and counts those that are not broken then. Its lines are the outcome of making, the free
-// count, and for each damage how many of the damaged tables pass: of those damaged before the slots, in the first two slots, and after.
+// counts of TEIDs and addresses, and for each damage how many of the damaged tables pass: of those damaged before the slots, in the first two slots, and after.
 // The numbers in `stdout` were worked out by a second reading of the layout in another language.
 ghost use mathlib.Core.Path.{_≡_};
 ghost use Prim.Native.Nat.{_≤_, _<_};
@@ -7,6 +7,9 @@ ghost use lib.ListN.{length};
 ghost use Rattle.rules.specs.Layout.{tableLength};
 ghost use Rattle.rules.specs.Limits.{maxSessions};
 use libc::STDOUT_FILENO;
+
+// Where the first two slots end.
+const TWO_SLOTS: usize = format::HEAD + 2 * format::SLOT;
 
 fn number(n: u64) {
     io::print_decimal(STDOUT_FILENO, n);
@@ -87,14 +90,13 @@ fn fill(t: &mut [u8], rows: &[u64]) {
 fn counts(t: &mut [u8], lowest: bool)
     requires { ⌜ length (now t) ≡ tableLength maxSessions ⌝ }
 {
-    number(count_sound(t, 0, 31, lowest));
-    number(count_sound(t, 31, 997, lowest));
-    number(count_sound(t, 997, 30943, lowest));
+    number(count_sound(t, 0, format::HEAD, lowest));
+    number(count_sound(t, format::HEAD, TWO_SLOTS, lowest));
+    number(count_sound(t, TWO_SLOTS, format::LENGTH, lowest));
     end();
 }
 
-fn free(t: &[u8]) {
-    let count = table::free_count(t);
+fn told(count: table::Count) {
     match count {
         table::Count::Broken => number(1),
         table::Count::Free(n) => {
@@ -103,6 +105,12 @@ fn free(t: &[u8]) {
         }
     }
     end();
+}
+
+// The free counts, of TEIDs and of addresses.
+fn free(t: &[u8]) {
+    told(table::free_count(t));
+    told(table::free_addresses(t));
 }
 
 fn made(answer: table::Making) {
@@ -114,160 +122,200 @@ fn made(answer: table::Making) {
 }
 
 fn main() {
-    let mut t = [0u8; 30943];
+    let mut t = [0u8; format::LENGTH];
     let address: [u8; 16] = [32, 1, 13, 184, 0, 0, 0, 0, 0, 0, 0, 0, 0, 0, 0, 1];
-    // No IPv6 address, and a pool of 8 TEIDs from 4,096.
-    made(table::make(&mut t, 3221225985, &address[0..0], 4096, 8));
+    // No IPv6 address, a pool of 8 TEIDs from 4,096, and one of 4 addresses from 10.0.0.0.
+    made(table::make(&mut t, 3221225985, &address[0..0], 4096, 8, 167772160, 4));
     free(&t);
     counts(&mut t, true);
     counts(&mut t, false);
     // The same with an IPv6 address, and two sessions.
-    made(table::make(&mut t, 3221225985, &address, 4096, 8));
-    // SEID 5: PDRs 1 and 2 share TEID 4,096, PDR 3 names endpoint 9, PDR 4 has neither and no FAR; two FQ-CSIDs.
-    let first: [u64; 105] = [
-        29,
+    made(table::make(&mut t, 3221225985, &address, 4096, 8, 167772160, 4));
+    // SEID 5: PDRs 1 and 2 share TEID 4,096 and the address 10.0.0.0, PDR 3 names endpoint 9 and has an address outside the pool, PDR 4 has
+    // neither, no FAR and no address; endpoint 9 has 10.0.0.1; two FQ-CSIDs. SEID 9: one PDR with 10.0.0.2.
+    let first: [u64; 69] = [
+        37,
         2,
         2,
-        31,
+        39,
         8,
         5,
-        39,
+        47,
         1,
         4,
-        40,
-        1,
-        1,
-        41,
-        1,
-        2,
-        42,
-        2,
-        1,
-        44,
-        4,
-        100,
         48,
         1,
         1,
         49,
+        1,
+        2,
+        50,
+        2,
+        1,
+        52,
+        4,
+        100,
+        56,
+        1,
+        1,
+        57,
         4,
         7,
-        54,
+        62,
         1,
         1,
-        55,
-        4,
-        4096,
-        59,
-        1,
-        1,
-        61,
-        2,
-        2,
         63,
         4,
-        200,
+        4096,
         67,
         1,
         1,
-        68,
+        69,
+        1,
+        1,
+        70,
+        4,
+        167772160,
+        74,
+        2,
+        2,
+        76,
+        4,
+        200,
+        80,
+        1,
+        1,
+        81,
         4,
         7,
-        73,
+        86,
         1,
         1,
-        74,
+        87,
         4,
         4096,
-        78,
-        1,
-        1,
-        80,
-        2,
-        3,
-        82,
-        4,
-        300,
         91,
         1,
-        2,
-        92,
         1,
-        2,
-        98,
+        93,
         1,
-        9,
-        99,
-        2,
+        1,
+        94,
         4,
-        101,
-        4,
-        400,
-        110,
-        1,
-        3,
-        346,
-        1,
-        9,
-        347,
-        4,
-        4097,
-        351,
-        1,
-        3,
-        394,
-        1,
-        1,
-        396,
-        4,
-        3221225994,
-        412,
-        2,
-        5,
-        414,
-        1,
-        5,
-        415,
-        1,
-        2,
+        167772160,
     ];
     fill(&mut t, &first);
-    let second: [u64; 27] = [
-        416,
-        4,
-        1073156101,
-        432,
+    let second: [u64; 69] = [
+        98,
         2,
+        3,
+        100,
+        4,
+        300,
+        109,
+        1,
+        2,
+        110,
+        1,
+        2,
+        116,
+        1,
         9,
-        514,
-        8,
+        117,
+        1,
+        1,
+        118,
+        4,
+        3221226083,
+        122,
+        2,
+        4,
+        124,
+        4,
+        400,
+        133,
+        1,
+        3,
+        434,
+        1,
         9,
+        435,
+        4,
+        4097,
+        439,
+        1,
+        3,
+        440,
+        1,
+        1,
+        441,
+        4,
+        167772161,
         522,
         1,
         1,
-        525,
+        524,
+        4,
+        3221225994,
+        540,
         2,
+        5,
+        542,
         1,
-        527,
+        5,
+        543,
+        1,
+        2,
+        544,
         4,
-        1,
-        536,
-        1,
-        1,
-        537,
-        1,
-        1,
-        538,
-        4,
-        4099,
+        1073156101,
+        560,
+        2,
+        9,
+        642,
+        8,
+        9,
     ];
     fill(&mut t, &second);
-    fill(&mut t, &[542, 1, 2]);
+    let third: [u64; 27] = [
+        650,
+        1,
+        1,
+        653,
+        2,
+        1,
+        655,
+        4,
+        1,
+        664,
+        1,
+        1,
+        665,
+        1,
+        1,
+        666,
+        4,
+        4099,
+        670,
+        1,
+        2,
+        672,
+        1,
+        1,
+        673,
+        4,
+        167772162,
+    ];
+    fill(&mut t, &third);
     free(&t);
     counts(&mut t, true);
     counts(&mut t, false);
-    // Refused: a pool that ends past the last TEID, and an IPv6 address cut short. Nothing is written, so the free count stays.
-    made(table::make(&mut t, 3221225985, &address, 4294967295, 2));
-    made(table::make(&mut t, 3221225985, &address[0..4], 4096, 8));
+    // Refused: a pool that ends past the last TEID, an IPv6 address cut short, addresses that end past the last one, none, and one too
+    // many. Nothing is written, so the free counts stay.
+    made(table::make(&mut t, 3221225985, &address, 4294967295, 2, 167772160, 4));
+    made(table::make(&mut t, 3221225985, &address[0..4], 4096, 8, 167772160, 4));
+    made(table::make(&mut t, 3221225985, &address, 4096, 8, 4294967295, 2));
+    made(table::make(&mut t, 3221225985, &address, 4096, 8, 167772160, 0));
+    made(table::make(&mut t, 3221225985, &address, 4096, 8, 167772160, 1025));
     free(&t);
 }

@@ -1,4 +1,5 @@
-// Readers and writers of the values of PFCP elements: F-TEID (fteid), FQ-CSID (fqcsid) and F-SEID (fseid).
+// Readers and writers of the values of PFCP elements: F-TEID (fteid), UE IP Address (ueip), FQ-CSID (fqcsid) and
+// F-SEID (fseid).
 ghost use mathlib.Core.Path.{_≡_};
 ghost use Rattle.rules.specs.Elements.{causeOf};
 ghost use Rattle.element.specs.Answers.{refusalOf};
@@ -6,6 +7,7 @@ ghost use Rattle.element.specs.Answers.{refusalOf};
 pub mod fqcsid;
 pub mod fseid;
 pub mod fteid;
+pub mod ueip;
 
 // Why a reader refuses a value: it has too few octets, or it breaks a rule.
 pub enum Refusal {

@@ -11,7 +11,7 @@ use Rattle.octets.specs.Lists.{anyIn, hasRepeat, all, keep}
 use Rattle.rules.specs.Model.{Settings, Session, Sessions, pdrId, endpointId}
 use Rattle.rules.specs.Message.{kindOf}
 use Rattle.rules.specs.Reading.{Request, readRequest}
-use Rattle.rules.specs.Grants.{Kind, grants, grantedTeid}
+use Rattle.rules.specs.Grants.{Kind, Got, granted}
 use Rattle.rules.specs.Stages.{entrySession, newPdrId, newEndpointId, createdPdrs, createdEndpoints, livePdrs, liveEndpoints, removedPdrs}
 use Rattle.rules.specs.Apply.{createPdr, createEndpoint, keptPdr, keptEndpoint}
 use Rattle.plan.specs.Rows.{tagged, rowEndpointId, rowPdr, rowEndpoint, requestIn}
@@ -32,10 +32,10 @@ pub record RowsFit (rows : List (List ℕ)) : Type 0 where
   pub pdrRows : T (all pdrRow (tagged ie.createPdr rows))
   pub csidRows : T (all csidRow (tagged ie.fqcsid rows))
 
--- the TEID words of the rows hold what was granted
-pub record TeidsStored (teids : Kind → ℕ → ℕ) (rows : List (List ℕ)) : Type 0 where
-  pub endpointTeids : map (createEndpoint teids) (map rowEndpoint (tagged ie.createEndpoint rows)) ≡ map endpointOf (tagged ie.createEndpoint rows)
-  pub pdrTeids : map (createPdr teids) (map rowPdr (tagged ie.createPdr rows)) ≡ map pdrOf (tagged ie.createPdr rows)
+-- the TEID and address words of the rows hold what was granted
+pub record GotStored (got : Kind → ℕ → Got) (rows : List (List ℕ)) : Type 0 where
+  pub endpointGot : map (createEndpoint got) (map rowEndpoint (tagged ie.createEndpoint rows)) ≡ map endpointOf (tagged ie.createEndpoint rows)
+  pub pdrGot : map (createPdr got) (map rowPdr (tagged ie.createPdr rows)) ≡ map pdrOf (tagged ie.createPdr rows)
 
 endpoint-ids : (qs : List (List ℕ)) → map newEndpointId (map rowEndpoint qs) ≡ map endpointId (map endpointOf qs)
 unfolding endpointOf createEndpoint
@@ -82,8 +82,8 @@ module _ (limit : ℕ) (s : Settings) (m : Sessions) (msg : List ℕ) (p : Passe
       (room-for (length (x .pdrs)) (length (removedPdrs r (x .pdrs))) (length (r .pdrs)) (length (keep (keptPdr (removedPdrs r (x .pdrs))) (x .pdrs))) (length (tagged ie.createPdr rows)) 16
       (removed-few r (x .pdrs)) (room .pdrs) (sym (length-map (tagged ie.createPdr rows) rowPdr)))
 
-  module _ (fit : RowsFit rows) (only : OnlyNull rows) (stored : TeidsStored (grantedTeid (grants s m (readRequest msg))) rows) where
-    pub ready : Ready (grantedTeid (grants s m (readRequest msg))) gone rows x
+  module _ (fit : RowsFit rows) (only : OnlyNull rows) (stored : GotStored (granted s m (readRequest msg)) rows) where
+    pub ready : Ready (granted s m (readRequest msg)) gone rows x
     ready =
         record {
           endpointRows = fit .endpointRows;
@@ -95,7 +95,7 @@ module _ (limit : ℕ) (s : Settings) (m : Sessions) (msg : List ℕ) (p : Passe
           endpointsNew = unfold createdEndpoints liveEndpoints requestIn in (subst (λ (l : List ℕ). T (not (anyIn l (map endpointId (x .endpoints))))) (endpoint-ids (tagged ie.createEndpoint rows)) (rules .createdEndpointsNew));
           pdrsOnce = unfold createdPdrs requestIn in (subst (λ (l : List ℕ). T (not (hasRepeat l))) (pdr-ids (tagged ie.createPdr rows)) (rules .createdPdrsOnce));
           pdrsNew = unfold createdPdrs livePdrs requestIn in (subst (λ (l : List ℕ). T (not (anyIn l (map pdrId (x .pdrs))))) (pdr-ids (tagged ie.createPdr rows)) (rules .createdPdrsNew));
-          endpointTeids = stored .endpointTeids;
-          pdrTeids = stored .pdrTeids;
+          endpointGot = stored .endpointGot;
+          pdrGot = stored .pdrGot;
           onlyNull = only;
         }

@@ -1,6 +1,6 @@
 -- What a deletion of a live session without a fault leaves.
 -- Assumes nothing.
-use mathlib.Core.Path.{_≡_, sym, ap, ap₂, _∙_, subst}
+use mathlib.Core.Path.{_≡_, refl, sym, ap, ap₂, _∙_, subst}
 use mathlib.Core.Bool.{Bool, not}
 use mathlib.Core.Option.{none}
 use mathlib.Core.List.{List, []}
@@ -15,7 +15,8 @@ use Rattle.rules.specs.Layout.{viewSettings, viewSessions}
 use Rattle.rules.specs.Message.{kindOf, headerSeid, frameFault, establishment, deletion}
 use Rattle.rules.specs.Reading.{readFault, readRequest}
 use Rattle.rules.specs.Stages.{Verdict, plain, entrySession, judged, unknownSession}
-use Rattle.rules.specs.Reply.{reply}
+use Rattle.rules.specs.Grants.{granted}
+use Rattle.rules.specs.Reply.{noReports, reply}
 use Rattle.rules.specs.Serve.{replyTo}
 use Rattle.rules.specs.Causes as why
 use Rattle.claim.proofs.ServeLaws.{TableKept, table-kept}
@@ -23,6 +24,8 @@ use Rattle.claim.proofs.VerdictLaws.{passed}
 use Rattle.claim.proofs.Changed.{entry-known}
 use Rattle.areas.specs.Counted.{withoutRecord}
 use Rattle.session.specs.Areas.{tableArea}
+use Rattle.octets.specs.Lists.{keep}
+use Rattle.created.specs.Groups.{reportsOf, allReports}
 use Rattle.writing.specs.Placed.{written}
 use Rattle.frame.specs.Framed.{faultIn}
 use Rattle.frame.specs.declared.Framing.{Framing}
@@ -30,7 +33,7 @@ use Rattle.frame.specs.declared.Framing.the-variants as framings
 use Rattle.engine.proofs.Faults.{framed}
 use Rattle.engine.specs.Answers.{Asked, Live, verdictOn, Answers, Replies}
 use Rattle.engine.proofs.VerdictSteps.{read-through}
-use Rattle.engine.proofs.Deleting.{deletion-fine, deletion-empty, no-grants, accepted-empty}
+use Rattle.engine.proofs.Deleting.{deletion-fine, deletion-empty, no-reports, accepted-empty}
 use Rattle.engine.proofs.NewTable.{deleted-table}
 
 module _ (t msg out : List ℕ) (a : Asked t msg out) (live : Live t msg) (fr : frameFault msg ≡ none) where
@@ -58,13 +61,13 @@ module _ (t msg out : List ℕ) (a : Asked t msg out) (live : Live t msg) (fr : 
         ∙ accepted-empty s m (entrySession m msg) (readRequest msg) (deletion-empty msg del) maxSessions (kindOf msg) (ap (λ (n : ℕ). eqb n establishment) del)
         (leb→le (length (entrySession m msg .pdrs)) maxPdrs (k .fewPdrs)) (leb→le (length (entrySession m msg .endpoints)) maxEndpoints (k .fewEndpoints))
 
-    same-reply : reply s msg 0 (plain why.accepted) [] ≡ replyTo s m msg (verdictOn t msg)
+    same-reply : reply s msg 0 (plain why.accepted) noReports ≡ replyTo s m msg (verdictOn t msg)
     unfolding replyTo
     same-reply =
         let e = deletion-empty msg del in
-        λ i. reply s msg (sym (e .seid) i) (sym accepts i) (sym (no-grants s m (entrySession m msg) (readRequest msg) e) i)
+        λ i. reply s msg (sym (e .seid) i) (sym accepts i) (sym (no-reports s m (entrySession m msg) (readRequest msg) e (granted s m (readRequest msg))) i)
 
-    pub deleted-answers : (seid used : ℕ) (out′ t′ : List ℕ) → seid ≡ headerSeid msg → (used, out′) ≡ written (reply s msg 0 (plain why.accepted) []) out → t′ ≡ withoutRecord tableArea seid t
+    pub deleted-answers : (seid used : ℕ) (out′ t′ : List ℕ) → seid ≡ headerSeid msg → (used, out′) ≡ written (reply s msg 0 (plain why.accepted) noReports) out → t′ ≡ withoutRecord tableArea seid t
         → Answers t msg out used out′ t′
     deleted-answers seid used out′ t′ es w d =
         record {
@@ -75,10 +78,15 @@ module _ (t msg out : List ℕ) (a : Asked t msg out) (live : Live t msg) (fr : 
               ∙ rw accepts;
         }
 
+-- no rows tell nothing
+nothing-told : allReports [] ≡ noReports
+unfolding reportsOf keep
+nothing-told = refl
+
 -- from what the code's readers answer
 pub deleted-through : (s : Settings) (t msg out : List ℕ) (f : Framing) (seid used : ℕ) (out′ t′ : List ℕ) → Asked t msg out → Live t msg → kindOf msg ≡ deletion → seid ≡ headerSeid msg → s ≡ viewSettings t
     → faultIn f ≡ frameFault msg → f ≡ framings.Framed
-    → (used, out′) ≡ written (reply s msg 0 (plain why.accepted) []) out → t′ ≡ withoutRecord tableArea seid t → Replies t msg out used 0 out′ t′
+    → (used, out′) ≡ written (reply s msg 0 (plain why.accepted) (allReports [])) out → t′ ≡ withoutRecord tableArea seid t → Replies t msg out used 0 out′ t′
 deleted-through s t msg out f seid used out′ t′ a live del es is fe fq w d =
     let fr = framed t msg out live f fe fq in
-    record { answers = deleted-answers t msg out a live fr del seid used out′ t′ es (rw is at w) d; placed = sym (ap (λ (x : Verdict). x .place) (accepts t msg out a live fr del)) }
+    record { answers = deleted-answers t msg out a live fr del seid used out′ t′ es (rw (is, nothing-told) at w) d; placed = sym (ap (λ (x : Verdict). x .place) (accepts t msg out a live fr del)) }

@@ -11,14 +11,15 @@ use borrow.Author.Tests.{le-ltb}
 use lib.Dec.{eqb, ltb}
 use lib.ListN.{length}
 use Rattle.octets.specs.Choice.{pick}
-use Rattle.octets.specs.Lists.{member, any, collect, anyIn, allIn, hasRepeat, allPairs}
+use Rattle.octets.specs.Lists.{member, any, keep, collect, anyIn, allIn, hasRepeat, allPairs}
 use Rattle.rules.specs.Limits.{maxPdrs, maxEndpoints}
 use Rattle.rules.specs.Model.{Settings, Session, Sessions, freeCount}
 use Rattle.rules.specs.Elements.{Fqcsid}
 use Rattle.rules.specs.Message.{Element, kindOf, headerLength, body, elements, actedOn, establishment, deletion}
 use Rattle.rules.specs.Reading.{Request, done, Draft, emptyDraft, elementRead, elementsRead, requestOf, finished, aloneIn, sessionRead, topRead, read, faultIn, readFault, askedIn, readRequest, listing}
-use Rattle.rules.specs.Grants.{choices, needFrom, need, grantFrom, grants}
-use Rattle.rules.specs.Stages.{plain, fteidsOf, invalidAllocation, createdPdrs, createdEndpoints, updatedPdrs, idTwice, createdLive, absentId, removedPdrs, updatesRemoved, namesAbsent, restoredHoldings, clash, requestRules, brokenRules, breaksRule, tooManySessions, tooManyPdrs, tooManyEndpoints, tooFewTeids, noRoom, judge}
+use Rattle.rules.specs.Grants.{Kind, Got, choices, needFrom, need}
+use Rattle.rules.specs.Reply.{Reports, noReports, reports}
+use Rattle.rules.specs.Stages.{plain, fteidsOf, addressesOf, restoredAddresses, addressClash, noAddress, invalidAllocation, createdPdrs, createdEndpoints, updatedPdrs, idTwice, createdLive, absentId, removedPdrs, updatesRemoved, namesAbsent, restoredHoldings, clash, requestRules, brokenRules, breaksRule, tooManySessions, tooManyPdrs, tooManyEndpoints, tooFewTeids, noRoom, judge}
 use Rattle.rules.specs.Causes as why
 
 -- a request without records
@@ -61,6 +62,10 @@ module _ (s : Settings) (m : Sessions) (x : Session) (r : Request) (e : Empty r)
   unfolding fteidsOf collect
   no-fteids = rw (e .endpoints, e .pdrs)
 
+  no-addresses : addressesOf r ≡ []
+  unfolding addressesOf collect
+  no-addresses = rw (e .endpoints, e .pdrs)
+
   allocated : invalidAllocation r ≡ false
   unfolding invalidAllocation any
   allocated = rw no-fteids
@@ -70,16 +75,20 @@ module _ (s : Settings) (m : Sessions) (x : Session) (r : Request) (e : Empty r)
   no-holdings = rw (e .endpoints, e .pdrs)
 
   kept : breaksRule s m x r ≡ false
-  unfolding breaksRule requestRules brokenRules idTwice createdLive absentId updatesRemoved namesAbsent clash createdPdrs createdEndpoints updatedPdrs hasRepeat anyIn allIn any allPairs collect
-  kept = rw (no-fteids, no-holdings, e .pdrs, e .endpoints, e .changes, e .gonePdrs, e .goneEndpoints)
+  unfolding breaksRule requestRules brokenRules idTwice createdLive absentId updatesRemoved namesAbsent clash addressClash restoredAddresses createdPdrs createdEndpoints updatedPdrs hasRepeat anyIn allIn any allPairs keep collect
+  kept = rw (no-fteids, no-addresses, no-holdings, e .pdrs, e .endpoints, e .changes, e .gonePdrs, e .goneEndpoints)
 
   needs-none : need r ≡ 0
   unfolding need needFrom choices collect
   needs-none = rw (e .endpoints, e .pdrs)
 
-  pub no-grants : grants s m r ≡ []
-  unfolding grants grantFrom choices collect
-  no-grants = rw (e .endpoints, e .pdrs)
+  addressed : noAddress s m r ≡ false
+  unfolding noAddress any
+  addressed = rw no-addresses
+
+  pub no-reports : (got : Kind → ℕ → Got) → reports got r ≡ noReports
+  unfolding reports keep
+  no-reports got = rw (e .endpoints, e .pdrs)
 
   few-pdrs : length (x .pdrs) ≤ 16 → tooManyPdrs x r ≡ false
   unfolding tooManyPdrs
@@ -97,4 +106,4 @@ module _ (s : Settings) (m : Sessions) (x : Session) (r : Request) (e : Empty r)
 
   pub accepted-empty : (limit kind : ℕ) → eqb kind establishment ≡ false → length (x .pdrs) ≤ 16 → length (x .endpoints) ≤ 8 → judge limit kind s m x r ≡ plain why.accepted
   unfolding judge
-  accepted-empty limit kind k a b = rw (kept, room limit kind k a b, allocated, k, e .unsupported)
+  accepted-empty limit kind k a b = rw (kept, room limit kind k a b, addressed, allocated, k, e .unsupported)

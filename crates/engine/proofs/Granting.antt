@@ -1,7 +1,7 @@
--- The rows of an accepted request after its TEIDs were granted: their fields fit, and their TEID words hold what the records get.
+-- The rows of an accepted request after its TEIDs and its address were granted: their fields fit, and their words hold what the records get.
 -- Assumes nothing.
 use mathlib.Core.Path.{_≡_, refl, sym, ap, ap₂, _∙_, subst}
-use mathlib.Core.Bool.{Bool, true, false, not, _&&_, _||_}
+use mathlib.Core.Bool.{Bool, true, false, not, _&&_, _||_, or-true}
 use mathlib.Core.Option.{Option, none, some}
 use mathlib.Core.List.{List, [], _∷_, _++_, map}
 use Prim.Native.Nat.{ℕ, zero, suc, _+_, _*_, _≤_}
@@ -17,23 +17,24 @@ use Rattle.octets.proofs.Tests.{and-left, both, all-head, all-tail, is-true}
 use Rattle.octets.proofs.Ordered.{keep-passes}
 use Rattle.octets.proofs.ListLaws.{Every, OnSome, map-map}
 use Rattle.rules.specs.Model.{Tunnel, tunnel}
-use Rattle.rules.specs.Elements.{given, choose, Fqcsid, sets, removal, nodeTypeKept, nodeAddressAllowed, nodeAddressTests}
+use Rattle.rules.specs.Elements.{given, choose, ueGiven, ueChoose, ueOther, Fqcsid, sets, removal, nodeTypeKept, nodeAddressAllowed, nodeAddressTests}
 use Rattle.rules.specs.Reading.{cleared, changed}
-use Rattle.rules.specs.Grants.{Kind, ofPdr, ofEndpoint, Grant, grantedTeid}
-use Rattle.rules.specs.Apply.{tunnelFrom, placeFrom, createPdr, createEndpoint}
+use Rattle.rules.specs.Grants.{Kind, ofPdr, ofEndpoint, Got, Grant, grantedTeid}
+use Rattle.rules.specs.Apply.{tunnelFrom, placeFrom, addressGot, addressFrom, createPdr, createEndpoint}
 use Rattle.laws.proofs.RequestLaws.{PdrRead, EndpointRead, CsidsRead, RequestRead}
 use Rattle.laws.proofs.ReadLaws.{CsidRead}
-use Rattle.plan.specs.Rows.{word, hasTag, tagged, present, fteidFrom, rowFteid, rowLocal, rowPdr, rowEndpoint, rowCsid, rowAddress, isNullRow, requestIn, rowsOf, rowWidth}
+use Rattle.plan.specs.Rows.{word, hasTag, tagged, present, fteidFrom, rowFteid, ueFrom, rowUe, rowLocal, rowPdr, rowEndpoint, rowCsid, rowAddress, isNullRow, requestIn, rowsOf, rowWidth}
 use Rattle.rules.specs.Types as ie
 use Rattle.plan.specs.Words as its
 use Rattle.grants.specs.Choosing.{choosing, rowWith}
-use Rattle.grants.proofs.RequestLaws.{alike-with}
+use Rattle.grants.proofs.RequestLaws.{Alike}
+use Rattle.grants.proofs.ReportLaws.{gets, rowGot, alike-got, address-word, address-got}
 use Rattle.grants.proofs.GrantLaws.{pdr-teid, endpoint-teid}
 use Rattle.session.specs.Records.{ifIs, placeKind}
 use Rattle.session.proofs.RowRecords.{pdrOf, endpointOf}
 use Rattle.session.proofs.Passes.{endpointRow, pdrRow, setsFit, csidRow}
 use Rattle.engine.specs.Answers.{OnlyNull}
-use Rattle.engine.proofs.Accepted.{RowsFit, TeidsStored}
+use Rattle.engine.proofs.Accepted.{RowsFit, GotStored}
 
 -- ---- the fields fit
 
@@ -111,7 +112,7 @@ rows-fit seid restoring noted rows only h =
     values true e g = subst (Every CsidRead) (sym (only e)) tt
     values false e g = g
 
--- ---- the TEID words
+-- ---- the TEID and address words
 
 -- a tunnel's TEID is the chosen one only of a CHOOSE
 same-tunnel : (f t a h l c n k : ℕ) → (bit 2 f ≡ true → n ≡ k) → tunnelFrom n (fteidFrom f t a h l c) ≡ tunnelFrom k (fteidFrom f t a h l c)
@@ -128,9 +129,26 @@ tunnel-of : (row : List ℕ) (n : ℕ) → (bit 2 (word its.flags row) ≡ true 
 unfolding rowFteid
 tunnel-of row n e = same-tunnel (word its.flags row) (word its.teid row) (word its.ipv4 row) (word its.ipv6High row) (word its.ipv6Low row) (word its.chooseId row) n (word its.teid row) e
 
-endpoint-stored : (teids : Kind → ℕ → ℕ) (row : List ℕ) → (bit 2 (word its.flags row) ≡ true → teids ofEndpoint (word its.endpointId row) ≡ word its.teid row) → createEndpoint teids (rowEndpoint row) ≡ endpointOf row
+-- and so is its address
+address-of : (row : List ℕ) (n : ℕ) → (eqb (word its.ueKind row) 2 ≡ true → n ≡ word its.ueAddress row) → addressFrom n (rowUe row) ≡ addressFrom (word its.ueAddress row) (rowUe row)
+unfolding rowUe ueFrom
+address-of row n e = go (eqb (word its.ueKind row) 0) (eqb (word its.ueKind row) 1) (eqb (word its.ueKind row) 2) e
+  where
+    go : (a b c : Bool) → (c ≡ true → n ≡ word its.ueAddress row)
+        → addressFrom n (pick a none (some (pick b (ueGiven (word its.ueAddress row)) (pick c ueChoose ueOther))))
+        ≡ addressFrom (word its.ueAddress row) (pick a none (some (pick b (ueGiven (word its.ueAddress row)) (pick c ueChoose ueOther))))
+    go true b c g = unfold addressFrom in refl
+    go false true c g = unfold addressFrom addressGot in refl
+    go false false true g = unfold addressFrom addressGot in (ap (λ (k : ℕ). some k) (g refl))
+    go false false false g = unfold addressFrom addressGot in refl
+
+endpoint-stored : (got : Kind → ℕ → Got) (row : List ℕ) → (bit 2 (word its.flags row) ≡ true → got ofEndpoint (word its.endpointId row) .teid ≡ word its.teid row)
+    → (eqb (word its.ueKind row) 2 ≡ true → got ofEndpoint (word its.endpointId row) .address ≡ word its.ueAddress row) → createEndpoint got (rowEndpoint row) ≡ endpointOf row
 unfolding createEndpoint endpointOf rowEndpoint
-endpoint-stored teids row e = λ i. record { id = word its.endpointId row; local = tunnel-of row (teids ofEndpoint (word its.endpointId row)) e i }
+endpoint-stored got row e f =
+    let local = tunnel-of row (got ofEndpoint (word its.endpointId row) .teid) e in
+    let address = address-of row (got ofEndpoint (word its.endpointId row) .address) f in
+    λ i. record { id = word its.endpointId row; local = local i; address = address i }
 
 place-of : (row : List ℕ) (n : ℕ) → (bit 2 (word its.flags row) ≡ true → n ≡ word its.teid row) → (e : Option ℕ) → placeFrom n (rowLocal row) e ≡ placeFrom (word its.teid row) (rowLocal row) e
 unfolding rowLocal placeFrom
@@ -140,15 +158,19 @@ place-of row n h e = go (eqb (word its.flags row) 0)
     go true = unfold placeFrom in refl
     go false = unfold placeFrom in (ap (λ (t : Tunnel). tunnel t) (tunnel-of row n h))
 
-pdr-stored : (teids : Kind → ℕ → ℕ) (row : List ℕ) → (bit 2 (word its.flags row) ≡ true → teids ofPdr (word its.pdrId row) ≡ word its.teid row) → createPdr teids (rowPdr row) ≡ pdrOf row
+pdr-stored : (got : Kind → ℕ → Got) (row : List ℕ) → (bit 2 (word its.flags row) ≡ true → got ofPdr (word its.pdrId row) .teid ≡ word its.teid row)
+    → (eqb (word its.ueKind row) 2 ≡ true → got ofPdr (word its.pdrId row) .address ≡ word its.ueAddress row) → createPdr got (rowPdr row) ≡ pdrOf row
 unfolding createPdr pdrOf rowPdr
-pdr-stored teids row e =
+pdr-stored got row e f =
+    let place = place-of row (got ofPdr (word its.pdrId row) .teid) e (present (word its.hasEndpointId row) (word its.endpointId row)) in
+    let address = address-of row (got ofPdr (word its.pdrId row) .address) f in
     λ i. record {
       id = word its.pdrId row;
       precedence = word its.precedence row;
       far = present (word its.hasFarId row) (word its.farId row);
       source = word its.source row;
-      place = place-of row (teids ofPdr (word its.pdrId row)) e (present (word its.hasEndpointId row) (word its.endpointId row)) i;
+      place = place i;
+      address = address i;
     }
 
 -- a row that chooses holds its grant
@@ -156,13 +178,25 @@ chooses-as : (t : ℕ) (row : List ℕ) → T (hasTag t row) → bit 2 (word its
 unfolding choosing
 chooses-as t row h e = ap₂ (λ (a b : Bool). a && b) (is-true (hasTag t row) h) e
 
-module _ (gs : List Grant) where
+either-tag : (row : List ℕ) → (T (hasTag ie.createEndpoint row) → (hasTag ie.createEndpoint row || hasTag ie.createPdr row) ≡ true) × (T (hasTag ie.createPdr row) → (hasTag ie.createEndpoint row || hasTag ie.createPdr row) ≡ true)
+either-tag row = (λ h. ap (λ (b : Bool). b || hasTag ie.createPdr row) (is-true (hasTag ie.createEndpoint row) h), λ h. ap (λ (b : Bool). hasTag ie.createEndpoint row || b) (is-true (hasTag ie.createPdr row) h) ∙ or-true (hasTag ie.createEndpoint row))
+
+module _ (gs : List Grant) (a : ℕ) where
   abbrev with : List ℕ → List ℕ
-  with row = rowWith gs row
+  with row = rowGot gs a row
+
+  abbrev like : (row : List ℕ) → Alike (with row) row
+  like row = alike-got gs a row
 
   tag-with : (t : ℕ) (row : List ℕ) → hasTag t (with row) ≡ hasTag t row
   unfolding hasTag
-  tag-with t row = ap (λ (n : ℕ). eqb n t) (alike-with gs row .words 0 (λ e. omega arith))
+  tag-with t row = ap (λ (n : ℕ). eqb n t) (like row .words 0 (λ e. omega arith) (λ e. omega arith))
+
+  flags-with : (row : List ℕ) → bit 2 (word its.flags (with row)) ≡ true → bit 2 (word its.flags row) ≡ true
+  flags-with row e = ap (bit 2) (sym (like row .words 12 (λ z. omega arith) (λ z. omega arith))) ∙ e
+
+  ue-with : (row : List ℕ) → eqb (word its.ueKind (with row)) 2 ≡ true → eqb (word its.ueKind row) 2 ≡ true
+  ue-with row e = ap (λ (n : ℕ). eqb n 2) (sym (like row .words 18 (λ z. omega arith) (λ z. omega arith))) ∙ e
 
   -- the rows of a type after the grants
   rows-with : {A : Type 0} (f g : List ℕ → A) (t : ℕ) → ((row : List ℕ) → length row ≡ rowWidth → T (hasTag t row) → f (with row) ≡ g (with row))
@@ -176,21 +210,26 @@ module _ (gs : List Grant) where
       go true e ih = ap₂ (λ (a : A) (l : List A). a ∷ l) (same row (h .0) (subst T (sym e ∙ tag-with t row) tt)) ih
       go false e ih = ih
 
-  pub teids-stored : (rows : List (List ℕ)) → Every (λ row. length row ≡ rowWidth) rows → TeidsStored (grantedTeid gs) (map with rows)
-  teids-stored rows h =
+  teid-word : (row : List ℕ) → word its.teid (with row) ≡ word its.teid (rowWith gs row)
+  teid-word row = address-word gs a (rowWith gs row) 13 (λ z. omega arith)
+
+  pub got-stored : (rows : List (List ℕ)) → Every (λ row. length row ≡ rowWidth) rows → GotStored (gets gs a) (map with rows)
+  got-stored rows h =
       record {
-        endpointTeids =
-            map-map rowEndpoint (createEndpoint (grantedTeid gs)) (tagged ie.createEndpoint (map with rows))
-            ∙ rows-with (λ row. createEndpoint (grantedTeid gs) (rowEndpoint row)) endpointOf ie.createEndpoint
-            (λ row l t. endpoint-stored (grantedTeid gs) (with row)
-            (λ e. ap (grantedTeid gs ofEndpoint) (alike-with gs row .words 11 (λ z. omega arith))
-            ∙ sym (endpoint-teid gs row l (chooses-as ie.createEndpoint row t (ap (bit 2) (sym (alike-with gs row .words 12 (λ z. omega arith))) ∙ e))))) rows h;
-        pdrTeids =
-            map-map rowPdr (createPdr (grantedTeid gs)) (tagged ie.createPdr (map with rows))
-            ∙ rows-with (λ row. createPdr (grantedTeid gs) (rowPdr row)) pdrOf 1
-            (λ row l t. pdr-stored (grantedTeid gs) (with row)
-            (λ e. ap (grantedTeid gs ofPdr) (alike-with gs row .words 7 (λ z. omega arith))
-            ∙ sym (pdr-teid gs row l (chooses-as 1 row t (ap (bit 2) (sym (alike-with gs row .words 12 (λ z. omega arith))) ∙ e))))) rows h;
+        endpointGot =
+            map-map rowEndpoint (createEndpoint (gets gs a)) (tagged ie.createEndpoint (map with rows))
+            ∙ rows-with (λ row. createEndpoint (gets gs a) (rowEndpoint row)) endpointOf ie.createEndpoint
+            (λ row l t. endpoint-stored (gets gs a) (with row)
+            (λ e. ap (grantedTeid gs ofEndpoint) (like row .words 11 (λ z. omega arith) (λ z. omega arith))
+            ∙ sym (teid-word row ∙ endpoint-teid gs row l (chooses-as ie.createEndpoint row t (flags-with row e))))
+            (λ e. sym (address-got gs a row l (either-tag row .0 t) (ue-with row e)))) rows h;
+        pdrGot =
+            map-map rowPdr (createPdr (gets gs a)) (tagged ie.createPdr (map with rows))
+            ∙ rows-with (λ row. createPdr (gets gs a) (rowPdr row)) pdrOf ie.createPdr
+            (λ row l t. pdr-stored (gets gs a) (with row)
+            (λ e. ap (grantedTeid gs ofPdr) (like row .words 7 (λ z. omega arith) (λ z. omega arith))
+            ∙ sym (teid-word row ∙ pdr-teid gs row l (chooses-as ie.createPdr row t (flags-with row e))))
+            (λ e. sym (address-got gs a row l (either-tag row .1 t) (ue-with row e)))) rows h;
       }
 
 -- the rows of a plan that holds them are whole
@@ -198,5 +237,5 @@ pub whole-rows : (n : ℕ) (plan : List ℕ) → n * rowWidth ≤ length plan �
 unfolding slices
 whole-rows zero plan h = tt
 whole-rows (suc n) plan h =
-    let e : suc n * rowWidth ≡ n * rowWidth + 18 = suc-mul n 18 in
-    (length-take-le 18 plan (omega arith), whole-rows n (drop 18 plan) (rw length-drop (omega arith)))
+    let e : suc n * rowWidth ≡ n * rowWidth + rowWidth = suc-mul n rowWidth in
+    (length-take-le rowWidth plan (omega arith), whole-rows n (drop rowWidth plan) (rw length-drop (omega arith)))

@@ -21,7 +21,8 @@ use Rattle.rules.specs.Reading as reading
 use Rattle.rules.specs.Reading.{Reading, faulty, done, andThen, Request, listRead, listing, topRead, askedIn, faultIn, readFault, readRequest}
 use Rattle.rules.specs.Stages.{Verdict, plain, newSession, atEntry, entrySession, judged, unknownSession}
 use Rattle.rules.specs.Apply.{staysSession, follow}
-use Rattle.rules.specs.Reply.{reply}
+use Rattle.rules.specs.Grants.{granted}
+use Rattle.rules.specs.Reply.{noReports, reply}
 use Rattle.rules.specs.Serve.{sessionsAfter, replyTo}
 use Rattle.rules.specs.Causes as why
 use Rattle.laws.proofs.HeaderLaws.{unnamed-sets}
@@ -40,7 +41,7 @@ use Rattle.sets.specs.Listed.{blank, gotten}
 use Rattle.engine.specs.Answers.{AskedList, Live, verdictOn, Answers, Replies, Refusing}
 use Rattle.engine.proofs.VerdictSteps.{read-through}
 use Rattle.engine.proofs.Faults.{framed, read-fine, frame-asks, frame-replies, then-asks, then-replies}
-use Rattle.engine.proofs.Deleting.{listing-empty, no-grants, accepted-empty}
+use Rattle.engine.proofs.Deleting.{listing-empty, no-reports, accepted-empty}
 
 -- a fault told without a value is the same fault
 same-fault : {A : Type 0} (v : code.Verdict) (u : Unit {0}) (a : A) (c k p : ℕ) → outcome v u ≡ stopped c k p → outcome v a ≡ stopped c k p
@@ -100,11 +101,11 @@ module _ (t msg : List ℕ) (l : Listing msg) where
     unfolding sessionsAfter follow listing
     after-is = rw (l .kind, request-is)
 
-    pub reply-is : frameFault msg ≡ none → reply (viewSettings t) msg 0 (refusal why.accepted Nothing) [] ≡ replyTo (viewSettings t) (viewSessions t) msg (verdictOn t msg)
+    pub reply-is : frameFault msg ≡ none → reply (viewSettings t) msg 0 (refusal why.accepted Nothing) noReports ≡ replyTo (viewSettings t) (viewSessions t) msg (verdictOn t msg)
     unfolding replyTo listing
     reply-is fr =
         let e = listing-empty (gotten lists) in
-        sym (rw (list-accepts fr, request-is, no-grants (viewSettings t) (viewSessions t) (newSession 0) (listing (gotten lists)) e))
+        sym (rw (list-accepts fr, request-is, no-reports (viewSettings t) (viewSessions t) (newSession 0) (listing (gotten lists)) e (granted (viewSettings t) (viewSessions t) (listing (gotten lists)))))
 
 -- ---- from what the code's readers answer
 
@@ -136,7 +137,7 @@ module _ (t msg out : List ℕ) (a : AskedList t msg out) where
 
   pub listed-through : (s : Settings) (f : Framing) (v : code.Verdict) (used : ℕ) (out′ t′ : List ℕ) → s ≡ viewSettings t → frame.faultIn f ≡ frameFault msg → f ≡ framings.Framed
       → outcome v tt ≡ numbered (blank (listRead (elements listPlace (take (length msg - 8) (drop 8 msg))))) → v ≡ Fine
-      → (used, out′) ≡ written (reply s msg 0 (refusal why.accepted Nothing) []) out
+      → (used, out′) ≡ written (reply s msg 0 (refusal why.accepted Nothing) noReports) out
       → t′ ≡ encode maxSessions (viewSettings t) (keep (staysSession (gotten (listRead (elements listPlace (take (length msg - 8) (drop 8 msg)))))) (viewSessions t))
       → Replies t msg out used 0 out′ t′
   listed-through s f v used out′ t′ is fe fq e q w′ d =

@@ -17,7 +17,7 @@ use Rattle.rules.specs.Layout.{sessionOctets, encode}
 use Rattle.rules.specs.Sound.{settingsAllowed, sessionAllowed, sessionsAllowed, pdrAllowed, endpointAllowed, csidAllowed}
 use Rattle.rules.specs.Message.{kindOf, headerSeid, served, deletion, setDeletion}
 use Rattle.rules.specs.Reading.{readRequest, Request}
-use Rattle.rules.specs.Grants.{Kind, grants, grantedTeid}
+use Rattle.rules.specs.Grants.{Kind, Got, granted}
 use Rattle.rules.specs.Stages.{entrySession, removedPdrs}
 use Rattle.rules.specs.Apply.{apply, putSession, follow}
 use Rattle.rules.specs.Serve.{sessionsAfter}
@@ -88,11 +88,11 @@ module _ (s : Settings) (hs : T (settingsAllowed s)) (m : Sessions) (hm : T (ses
     not-sets : T (not (eqb (kindOf msg) setDeletion))
     not-sets = subst (λ (b : Bool). T (not b)) (sym ns) tt
 
-    abbrev teids : Kind → ℕ → ℕ
-    teids = grantedTeid (grants s m (readRequest msg))
+    abbrev got : Kind → ℕ → Got
+    got = granted s m (readRequest msg)
 
     abbrev new : Session
-    new = apply teids (readRequest msg) (entrySession m msg)
+    new = apply got (readRequest msg) (entrySession m msg)
 
     after-is : sessionsAfter s m msg ≡ putSession new m
     unfolding sessionsAfter follow entrySession
@@ -110,9 +110,9 @@ module _ (s : Settings) (hs : T (settingsAllowed s)) (m : Sessions) (hm : T (ses
 
     pub changed-table : (seid : ℕ) (restoring noted : Bool) (gone : List ℕ) (rows : List (List ℕ)) (slot : List ℕ) → readRequest msg ≡ requestIn seid restoring noted rows
         → gone ≡ removedPdrs (readRequest msg) (entrySession m msg .pdrs) → slot ≡ sessionOctets (entrySession m msg)
-        → Ready teids gone rows (entrySession m msg) → withRecord tableArea (built gone rows slot) (encode maxSessions s m) ≡ encode maxSessions s (sessionsAfter s m msg)
+        → Ready got gone rows (entrySession m msg) → withRecord tableArea (built gone rows slot) (encode maxSessions s m) ≡ encode maxSessions s (sessionsAfter s m msg)
     changed-table seid restoring noted gone rows slot means g e ready =
         let holds = slot-holds s (entrySession m msg) slot (entry-sound maxSessions s m msg hm ho not-sets p .kept) e in
         let g′ : gone ≡ removedPdrs (requestIn seid restoring noted rows) (entrySession m msg .pdrs) = g ∙ ap (λ (q : Request). removedPdrs q (entrySession m msg .pdrs)) means in
-        let b : built gone rows slot ≡ sessionOctets new = built-session teids gone rows holds ready seid restoring noted g′ .octets ∙ ap (λ (q : Request). sessionOctets (apply teids q (entrySession m msg))) (sym means) in
+        let b : built gone rows slot ≡ sessionOctets new = built-session got gone rows holds ready seid restoring noted g′ .octets ∙ ap (λ (q : Request). sessionOctets (apply got q (entrySession m msg))) (sym means) in
         ap (λ (l : List ℕ). withRecord tableArea l (encode maxSessions s m)) b ∙ session-saved s hs m hm new new-allowed few-after ∙ ap (encode maxSessions s) (sym after-is)

@@ -12,8 +12,8 @@ use Rattle.octets.specs.Choice.{pick}
 use Rattle.octets.specs.Octets.{octets, part, number, numberAt}
 use Rattle.octets.specs.Lists.{distinct}
 use Rattle.octets.proofs.Tests.{of-true}
-use Rattle.rules.specs.Limits.{maxSessions, mapWords, maxMessage, minSpace}
-use Rattle.rules.specs.Model.{heldTeids, freeCount}
+use Rattle.rules.specs.Limits.{maxSessions, mapWords, addressWords, maxMessage, minSpace}
+use Rattle.rules.specs.Model.{heldTeids, freeCount, heldAddresses, freeAddressCount}
 use Rattle.rules.specs.Layout.{viewSettings, viewSessions, tableLength, headWidth, sessionWidth}
 use Rattle.rules.specs.Sound.{sound}
 use Rattle.rules.specs.Message.{kindOf, headerSeid, served, establishment, modification, deletion, setDeletion}
@@ -25,13 +25,13 @@ use Rattle.frame.specs.declared.header.Header.the-variants.{Request, Sets}
 use Rattle.laws.proofs.HeaderLaws.{seid-there, seid-absent, long-there, long-absent}
 use Rattle.frame.proofs.HeaderLaws.{Opens, request-opens, sets-opens, request-is, sets-is}
 use Rattle.frame.proofs.ServeLaws.{header-outcome, header-answered}
-use Rattle.marking.specs.declared.Marks.{Marks}
-use Rattle.marking.specs.declared.Marks.the-variants.{Clash, New}
+use Rattle.marking.specs.declared.Seen.{Seen}
+use Rattle.marking.specs.declared.Seen.the-variants.{Broken, Held}
 use Rattle.table.specs.Answers.{Examined}
 use Rattle.table.proofs.Examining.{sound-no, sound-yes}
 use Rattle.unit.specs.declared.Settings.{Settings as Unit}
 use Rattle.unit.specs.Meaning.{settingsOf}
-use Rattle.unit.proofs.FieldLaws.{size-is}
+use Rattle.unit.proofs.FieldLaws.{size-is, addresses-is}
 use Rattle.engine.specs.Answers.{Asked, AskedList, Replies, verdictOn}
 use Rattle.engine.specs.Steps.{Counted, Serves}
 
@@ -55,32 +55,33 @@ module _ (t msg out : List ℕ) where
         long = a .1 ∙ sym (ap (λ (b : Bool). pick b (length (replyTo (viewSettings t) (viewSessions t) msg (verdictOn t msg))) 0) (ap (λ (k : ℕ). eqb k 0) (a .0) ∙ z));
       }
 
-  module _ {r : Marks} {w : List ℕ} (x : Examined t r w) where
-    pub serves-broken : {o u p : ℕ} → r ≡ Clash → (o ≡ 1) × (u ≡ 0) × (p ≡ 0) → Serves t msg out o u p out t
+  module _ {r : Seen} {w ips : List ℕ} (x : Examined t r w ips) where
+    pub serves-broken : {o u p : ℕ} → r ≡ Broken → (o ≡ 1) × (u ≡ 0) × (p ≡ 0) → Serves t msg out o u p out t
     unfolding serve
-    serves-broken e a = without-reply 1 refl (rw (sym (sound-no t r w x e))) a
+    serves-broken e a = without-reply 1 refl (rw (sym (sound-no t r w ips x e))) a
 
-    module _ {held : ℕ} (e : r ≡ New held) where
+    module _ {held taken : ℕ} (e : r ≡ Held held taken) where
       is-sound : sound maxSessions t ≡ true
-      is-sound = sym (sound-yes t r w x held e)
+      is-sound = sym (sound-yes t r w ips x held taken e)
 
       after-sound : serve maxSessions t msg out ≡ serveSound maxSessions (viewSettings t) (viewSessions t) t msg out
       unfolding serve
       after-sound = rw is-sound
 
-      is-held : held ≡ distinct (heldTeids (viewSessions t))
-      is-held = go (sound maxSessions t) (sym e ∙ x .answer)
+      are-held : (held ≡ distinct (heldTeids (viewSessions t))) × (taken ≡ distinct (heldAddresses (viewSettings t) (viewSessions t)))
+      are-held = go (sound maxSessions t) (sym e ∙ x .answer)
         where
-          go : (b : Bool) → New held ≡ pick b (New (distinct (heldTeids (viewSessions t)))) Clash → held ≡ distinct (heldTeids (viewSessions t))
-          go true z = cc
+          go : (b : Bool) → Held held taken ≡ pick b (Held (distinct (heldTeids (viewSessions t))) (distinct (heldAddresses (viewSettings t) (viewSessions t)))) Broken
+              → (held ≡ distinct (heldTeids (viewSessions t))) × (taken ≡ distinct (heldAddresses (viewSettings t) (viewSessions t)))
+          go true z = ((cc), (cc))
           go false z = absurd (let u : _≡_ {A = ℕ} 0 1 = cc in omega arith)
 
-      pub serves-small : {o u p : ℕ} → length out < 1024 → (o ≡ 2) × (u ≡ 0) × (p ≡ 0) → Serves t msg out o u p out t
+      pub serves-small : {o u p : ℕ} → length out < minSpace → (o ≡ 2) × (u ≡ 0) × (p ≡ 0) → Serves t msg out o u p out t
       unfolding serveSound
       serves-small l a = without-reply 2 refl (after-sound ∙ rw (lt-ltb (length out) minSpace l)) a
 
       -- the reply to a request that is answered
-      answers-through : 1024 ≤ length out → {used place : ℕ} {out′ t′ : List ℕ} → Opens msg → Replies t msg out used place out′ t′ → Serves t msg out 0 used place out′ t′
+      answers-through : minSpace ≤ length out → {used place : ℕ} {out′ t′ : List ℕ} → Opens msg → Replies t msg out used place out′ t′ → Serves t msg out 0 used place out′ t′
       unfolding answer answered
       answers-through room o r =
           let a = r .answers in
@@ -89,7 +90,7 @@ module _ (t msg out : List ℕ) where
             long = a .long;
           }
 
-      module _ (room : 1024 ≤ length out) {h : Header} (is : opened h ≡ headerOf msg) where
+      module _ (room : minSpace ≤ length out) {h : Header} (is : opened h ≡ headerOf msg) where
         -- outcomes 3, 4 and 5
         pub serves-outcome : {o u p : ℕ} (g : Header) (n : ℕ) → eqb n 0 ≡ false → opened g ≡ outcome n → h ≡ g → (o ≡ n) × (u ≡ 0) × (p ≡ 0) → Serves t msg out o u p out t
         serves-outcome g n z q d a =
@@ -144,11 +145,24 @@ module _ (t msg out : List ℕ) where
           pub serves-answer : {used place : ℕ} {out′ t′ : List ℕ} → Replies t msg out used place out′ t′ → Serves t msg out 0 used place out′ t′
           serves-answer r = answers-through room (request-opens msg kind seid is-request) r
 
-      pub counts : {u : Unit} → length w ≡ mapWords → settingsOf u ≡ viewSettings t → Counted u t w (u .size - held)
-      unfolding freeCount
-      counts {u} l z = record { settings = z; marks = x .words held e; long = l; count = ap₂ (λ (a b : ℕ). a - b) (size-is u (viewSettings t) z) is-held }
+      pub counts : {u : Unit} → length w ≡ mapWords → length ips ≡ addressWords → settingsOf u ≡ viewSettings t → Counted u t w (u .size - held) ips (u .addresses - taken)
+      unfolding freeCount freeAddressCount
+      counts {u} l k z =
+          record {
+            settings = z;
+            marks = x .words held taken e;
+            long = l;
+            count = ap₂ (λ (a b : ℕ). a - b) (size-is u (viewSettings t) z) (are-held .0);
+            addressMarks = x .addresses held taken e;
+            addressLong = k;
+            addressCount = ap₂ (λ (a b : ℕ). a - b) (addresses-is u (viewSettings t) z) (are-held .1);
+          }
 
--- the size is at its place in the table
+-- the sizes of the pools are at their places in the table
 pub size-read : (t : List ℕ) (u : Unit) → settingsOf u ≡ viewSettings t → u .size ≡ number (part 25 4 t)
 unfolding viewSettings numberAt
 size-read t u e = size-is u (viewSettings t) e
+
+pub addresses-read : (t : List ℕ) (u : Unit) → settingsOf u ≡ viewSettings t → u .addresses ≡ number (part 33 4 t)
+unfolding viewSettings numberAt
+addresses-read t u e = addresses-is u (viewSettings t) e

@@ -8,17 +8,18 @@ use native.Mathlib.Omega.{arith}
 use lib.Dec.{T, eqb, leb→le}
 use Rattle.octets.specs.Choice.{pick}
 use Rattle.octets.proofs.Tests.{each}
-use Rattle.rules.specs.Limits.{maxSessions, maxPool}
-use Rattle.rules.specs.Model.{Settings, Session, Sessions, heldTeids}
+use Rattle.rules.specs.Limits.{maxSessions, maxPool, maxAddresses}
+use Rattle.rules.specs.Model.{Settings, Session, Sessions, heldTeids, heldAddresses}
 use Rattle.rules.specs.Layout.{viewSession, viewSettings, viewSessions}
-use Rattle.rules.specs.Sound.{poolTests, settingsTests, settingsAllowed}
+use Rattle.rules.specs.Sound.{poolTests, addressPoolTests, settingsTests, settingsAllowed}
 use Rattle.rules.specs.Message.{establishment}
 use Rattle.rules.specs.Reading.{readRequest, Request}
-use Rattle.rules.specs.Stages.{removedPdrs, entrySession, Verdict, plain, isLive, invalidAllocation, breaksRule, noRoom, judge, judged}
+use Rattle.rules.specs.Stages.{removedPdrs, entrySession, Verdict, plain, isLive, invalidAllocation, breaksRule, noRoom, noAddress, judge, judged}
 use Rattle.rules.specs.Causes as why
 use Rattle.claim.proofs.ServeLaws.{TableKept, table-kept}
 use Rattle.claim.proofs.FreeTeids.{held-in-pool}
 use Rattle.pool.proofs.TakenLaws.{Means, map-means}
+use Rattle.pool.proofs.AddressLaws.{address-map-means}
 use Rattle.plan.specs.Rows.{rowsOf, requestIn}
 use Rattle.unit.specs.declared.Settings.{Settings as Unit}
 use Rattle.unit.specs.Meaning.{settingsOf}
@@ -33,15 +34,17 @@ use Rattle.engine.specs.Steps.{Counted, Entered, Readable}
 -- a cause is one octet
 judge-small : (limit kind : ℕ) (s : Settings) (m : Sessions) (x : Session) (r : Request) → judge limit kind s m x r .cause < 256
 unfolding judge
-judge-small limit kind s m x r = one (eqb kind establishment && isLive (r .seid) m) (invalidAllocation r) (r .unsupported) (breaksRule s m x r) (noRoom limit kind s m x r)
+judge-small limit kind s m x r = one (eqb kind establishment && isLive (r .seid) m) (invalidAllocation r) (r .unsupported) (breaksRule s m x r) (noRoom limit kind s m x r) (noAddress s m r)
   where
-    one : (a b c d e : Bool) → pick a (plain why.rejected) (pick b (plain why.wrongAllocation) (pick c (plain why.notSupported) (pick d (plain why.brokenRule) (pick e (plain why.noRoom) (plain why.accepted))))) .cause < 256
-    one true b c d e = omega arith
-    one false true c d e = omega arith
-    one false false true d e = omega arith
-    one false false false true e = omega arith
-    one false false false false true = omega arith
-    one false false false false false = omega arith
+    one : (a b c d e f : Bool)
+        → pick a (plain why.rejected) (pick b (plain why.wrongAllocation) (pick c (plain why.notSupported) (pick d (plain why.brokenRule) (pick e (plain why.noRoom) (pick f (plain why.noAddress) (plain why.accepted)))))) .cause < 256
+    one true b c d e f = omega arith
+    one false true c d e f = omega arith
+    one false false true d e f = omega arith
+    one false false false true e f = omega arith
+    one false false false false true f = omega arith
+    one false false false false false true = omega arith
+    one false false false false false false = omega arith
 
 pool-small : (s : Settings) → T (settingsAllowed s) → s .size ≤ maxPool
 unfolding settingsAllowed settingsTests poolTests
@@ -59,7 +62,19 @@ pool-below s h =
     let last = leb→le (s .first + s .size) (2 ^ 32) (pool .1 .1 .1 .0) in
     omega arith
 
-module _ {u : Unit} {t msg out plan words slot gone : List ℕ} {kind seid n free : ℕ} {restoring noted live : Bool} (r : Readable t msg out plan kind seid n restoring noted) (k : Counted u t words free) (e : Entered t msg kind seid live slot) (g : Gone slot (rowsOf n plan) gone) where
+addresses-few : (s : Settings) → T (settingsAllowed s) → s .addressCount ≤ maxAddresses
+unfolding settingsAllowed settingsTests addressPoolTests
+addresses-few s h = leb→le (s .addressCount) maxAddresses (each (addressPoolTests (s .firstAddress) (s .addressCount)) (each (settingsTests s) h .1 .1 .1 .1 .1 .0) .1 .0)
+
+addresses-below : (s : Settings) → T (settingsAllowed s) → s .firstAddress < 2 ^ 32
+unfolding settingsAllowed settingsTests addressPoolTests
+addresses-below s h =
+    let pool = each (addressPoolTests (s .firstAddress) (s .addressCount)) (each (settingsTests s) h .1 .1 .1 .1 .1 .0) in
+    let some = leb→le 1 (s .addressCount) (pool .0) in
+    let last = leb→le (s .firstAddress + s .addressCount) (2 ^ 32) (pool .1 .1 .0) in
+    omega arith
+
+module _ {u : Unit} {t msg out plan words ips slot gone : List ℕ} {kind seid n free left : ℕ} {restoring noted live : Bool} (r : Readable t msg out plan kind seid n restoring noted) (k : Counted u t words free ips left) (e : Entered t msg kind seid live slot) (g : Gone slot (rowsOf n plan) gone) where
   kept : TableKept maxSessions t
   kept = table-kept maxSessions t (r .asked .table)
 
@@ -68,9 +83,16 @@ module _ {u : Unit} {t msg out plan words slot gone : List ℕ} {kind seid n fre
       subst (λ (w : List ℕ). Means (viewSettings t .first) w (heldTeids (viewSessions t))) (sym (k .marks))
       (map-means (viewSettings t) (viewSessions t) (kept .settings) (held-in-pool maxSessions (viewSettings t) (viewSessions t) (kept .sessions)))
 
+  marked-addresses : Means (viewSettings t .firstAddress) ips (heldAddresses (viewSettings t) (viewSessions t))
+  marked-addresses =
+      subst (λ (w : List ℕ). Means (viewSettings t .firstAddress) w (heldAddresses (viewSettings t) (viewSessions t))) (sym (k .addressMarks))
+      (address-map-means (viewSettings t) (viewSessions t) (kept .settings))
+
   -- what stages 4 to 6 ask
-  pub entry-asks : AtEntry (settingsOf u) t words slot gone plan n free kind seid live
-  entry-asks = at-entry (settingsOf u) t words slot gone plan n free kind seid live (k .settings) (r .asked .table) (e .place) (r .rows) g (k .long) marked-held (k .count) (e .known)
+  pub entry-asks : AtEntry (settingsOf u) t words ips slot gone plan n free left kind seid live
+  entry-asks =
+      at-entry (settingsOf u) t words ips slot gone plan n free left kind seid live (k .settings) (r .asked .table) (e .place) (r .rows) g (k .long) marked-held (k .count)
+      (k .addressLong) marked-addresses (k .addressCount) (e .known)
 
   abbrev judgement : Verdict
   judgement = judge maxSessions kind (settingsOf u) (viewSessions t) (viewSession slot) (requestIn seid restoring noted (rowsOf n plan))
@@ -97,7 +119,7 @@ module _ {u : Unit} {t msg out plan words slot gone : List ℕ} {kind seid n fre
         other = o;
       }
 
-  pub settle-accepts : (c : ℕ) → c ≡ judgement .cause → c ≡ 1 → Accepting u t words msg slot gone plan out seid n
+  pub settle-accepts : (c : ℕ) → c ≡ judgement .cause → c ≡ 1 → Accepting u t words ips msg slot gone plan out seid n
   settle-accepts c q o =
       record {
         asked = r .asked;
@@ -116,4 +138,8 @@ module _ {u : Unit} {t msg out plan words slot gone : List ℕ} {kind seid n fre
         settings = k .settings;
         first = pool-below (viewSettings t) (kept .settings);
         size = pool-small (viewSettings t) (kept .settings);
+        addressMarks = k .addressMarks;
+        addressMapLong = k .addressLong;
+        firstAddress = addresses-below (viewSettings t) (kept .settings);
+        addresses = addresses-few (viewSettings t) (kept .settings);
       }

@@ -9,9 +9,9 @@ use lib.ListN.{length}
 use Rattle.octets.specs.Choice.{pick}
 use Rattle.octets.specs.Octets.{octets, put}
 use Rattle.octets.specs.Lists.{any, collect}
-use Rattle.rules.specs.Limits.{maxSessions, maxPool, mapWords, maxMessage, minSpace}
+use Rattle.rules.specs.Limits.{maxSessions, maxPool, mapWords, maxAddresses, addressWords, maxMessage, minSpace}
 use Rattle.rules.specs.Layout.{sessionOctets, encode, viewSettings, viewSessions, sessionWidth, tableLength}
-use Rattle.rules.specs.Sound.{sound, takenMap}
+use Rattle.rules.specs.Sound.{sound, takenMap, addressMap}
 use Rattle.rules.specs.Message.{kindOf, headerAllowed, served, deletion, setDeletion}
 use Rattle.rules.specs.Reading.{readRequest}
 use Rattle.rules.specs.Stages.{removedPdrs, Verdict, plain, entrySession, unknownSession, verdict}
@@ -81,8 +81,8 @@ abbrev pub OnlyNull : List (List ℕ) → Type 0
 OnlyNull rows = any isNullRow (tagged ie.fqcsid rows) ≡ true → collect rowCsid (tagged ie.fqcsid rows) ≡ []
 
 -- the verdict is acceptance: the plan is the request's, the slot holds the session at entry, those of its PDRs that go are the rules', and the
--- map marks the TEIDs held
-pub record Accepting (u : Unit) (t words msg slot gone plan out : List ℕ) (seid n : ℕ) : Type 0 where
+-- maps mark the TEIDs and addresses held
+pub record Accepting (u : Unit) (t words ips msg slot gone plan out : List ℕ) (seid n : ℕ) : Type 0 where
   pub asked : Asked t msg out
   pub verdict : verdictOn t msg ≡ plain why.accepted
   pub other : eqb (kindOf msg) deletion ≡ false
@@ -99,3 +99,7 @@ pub record Accepting (u : Unit) (t words msg slot gone plan out : List ℕ) (sei
   pub settings : settingsOf u ≡ viewSettings t
   pub first : viewSettings t .first < 2 ^ 32
   pub size : viewSettings t .size ≤ maxPool
+  pub addressMarks : ips ≡ addressMap (viewSettings t) (viewSessions t)
+  pub addressMapLong : length ips ≡ addressWords
+  pub firstAddress : viewSettings t .firstAddress < 2 ^ 32
+  pub addresses : viewSettings t .addressCount ≤ maxAddresses

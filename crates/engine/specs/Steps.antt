@@ -5,13 +5,13 @@ use mathlib.Core.Path.{_≡_}
 use mathlib.Core.Bool.{Bool, false}
 use mathlib.Core.List.{List}
 use lib.Dec.{T, eqb}
-use lib.ListN.{length}
+use lib.ListN.{length, take}
 use Rattle.octets.specs.Choice.{pick}
 use Rattle.octets.specs.Octets.{be, part, put, zeros}
-use Rattle.rules.specs.Limits.{maxSessions, mapWords}
-use Rattle.rules.specs.Model.{freeCount}
+use Rattle.rules.specs.Limits.{maxSessions, maxPool, mapWords, maxAddresses, addressWords}
+use Rattle.rules.specs.Model.{freeCount, freeAddressCount}
 use Rattle.rules.specs.Layout.{sessionOctets, viewSession, viewSettings, viewSessions, sessionWidth, tableLength}
-use Rattle.rules.specs.Sound.{sound, takenMap}
+use Rattle.rules.specs.Sound.{sound, takenMap, addressMap}
 use Rattle.rules.specs.Message.{kindOf, headerSeid, establishment, deletion}
 use Rattle.rules.specs.Reading.{readRequest}
 use Rattle.rules.specs.Stages.{isLive, entrySession, judged}
@@ -22,15 +22,41 @@ use Rattle.session.specs.Areas.{tableArea}
 use Rattle.unit.specs.declared.Settings.{Settings as Unit}
 use Rattle.unit.specs.Meaning.{settingsOf}
 use Rattle.slots.specs.declared.Place.the-variants.{Found}
+use Rattle.created.specs.Entries.{maxGrants}
+use Rattle.grants.specs.Choosing.{Granted, addressed, lowestAddress, reportPlaces}
 use Rattle.stages.specs.Rules.{Slot}
 use Rattle.engine.specs.Answers.{Asked, Live, verdictOn, OnlyNull}
 
--- the settings, the map of taken TEIDs and the free count are the table's
-pub record Counted (u : Unit) (t words : List ℕ) (free : ℕ) : Type 0 where
+-- the settings, the maps of taken TEIDs and addresses and the free counts are the table's
+pub record Counted (u : Unit) (t words : List ℕ) (free : ℕ) (ips : List ℕ) (left : ℕ) : Type 0 where
   pub settings : settingsOf u ≡ viewSettings t
   pub marks : words ≡ takenMap (viewSettings t) (viewSessions t)
   pub long : length words ≡ mapWords
   pub count : free ≡ freeCount (viewSettings t) (viewSessions t)
+  pub addressMarks : ips ≡ addressMap (viewSettings t) (viewSessions t)
+  pub addressLong : length ips ≡ addressWords
+  pub addressCount : left ≡ freeAddressCount (viewSettings t) (viewSessions t)
+
+-- what giving TEIDs and an address asks: maps with a bit for each number of their pools, and room for the places
+pub record Giving (u : Unit) (teids ips plan places : List ℕ) (n : ℕ) : Type 0 where
+  pub rows : n * rowWidth ≤ length plan
+  pub wide : u .size ≤ 64 * length teids
+  pub size : u .size ≤ maxPool
+  pub first : u .first < 2 ^ 32
+  pub wideAddresses : u .addresses ≤ 64 * length ips
+  pub addresses : u .addresses ≤ maxAddresses
+  pub firstAddress : u .«first_address» < 2 ^ 32
+  pub room : length places ≡ maxGrants
+
+-- what it leaves: the plan with the TEIDs, then with the address too; and the places of the rows with something chosen
+pub record Given (u : Unit) (teids ips plan : List ℕ) (n r : ℕ) (plan′ places′ : List ℕ) : Type 0 where
+  pub count : ℕ
+  pub between : List ℕ
+  pub chosen : List ℕ
+  pub granted : Granted n (u .first) teids (u .size) plan count between chosen
+  pub address : plan′ ≡ addressed (lowestAddress (u .«first_address») ips (u .addresses)) n between
+  pub few : r ≤ maxGrants
+  pub reported : take r places′ ≡ reportPlaces n plan′
 
 -- what fetching the session at entry asks: a place in the table, unless the session is new
 pub record Fetching (t slot : List ℕ) (kind seid p : ℕ) : Type 0 where

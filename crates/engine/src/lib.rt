@@ -10,7 +10,7 @@ ghost use Rattle.areas.specs.Counted.{withRecord};
 ghost use Rattle.session.specs.Areas.{tableArea};
 ghost use Rattle.session.specs.Build.{built};
 ghost use Rattle.engine.specs.Answers.{Asked, AskedList, Live, Answers, Replies, Refusing, Accepting};
-ghost use Rattle.engine.specs.Steps.{Counted, Fetching, Fetched, Entered, Readable, Changing, Serves};
+ghost use Rattle.engine.specs.Steps.{Counted, Giving, Given, Fetching, Fetched, Entered, Readable, Changing, Serves};
 ghost use lib.Dec.{T};
 ghost use Rattle.rules.specs.Limits.{maxSessions};
 ghost use Rattle.rules.specs.Layout.{viewSettings, viewSessions, sessionWidth, tableLength};
@@ -35,6 +35,12 @@ const SESSIONS: usize = format::MAX_SESSIONS as usize;
 pub struct Replied {
     pub used: usize,
     pub place: usize,
+}
+
+// The addresses of the pool at entry: the map of taken ones, and how many are free.
+struct TakenAddresses {
+    words: [u64; pool::ADDRESS_WORDS],
+    free: usize,
 }
 
 // The reply of a refusal; the table stays.
@@ -142,11 +148,30 @@ fn keep(t: &mut [u8], slot: &mut [u8], gone: &[u64], plan: &[u64], n: usize)
     store::save(t, SESSIONS, format::COUNT, slot);
 }
 
-// An accepted establishment or modification: the TEIDs, the reply, the session in its slot, and the slot in the table.
+// Gives the TEIDs and the address that rows choose, by the maps of taken ones. `places` gets where the rows with something chosen begin,
+// and the answer is how many there are.
+fn give(
+    plan: &mut [u64],
+    n: usize,
+    u: Settings,
+    teids: &[u64],
+    addresses: &[u64],
+    places: &mut [usize],
+) -> usize
+    requires { ⌜ Giving u (now teids) (now addresses) (now plan) (now places) n ⌝ }
+    ensures { λ r. ⌜ Given u (now (teids .entry)) (now (addresses .entry)) (now (plan .entry)) n r (now (plan .exit)) (now (places .exit)) ⌝ }
+{
+    let given = grants::grant(plan, n, teids, u, places);
+    grants::grant_address(plan, n, addresses, u);
+    grants::reported(plan, n, places)
+}
+
+// An accepted establishment or modification: the TEIDs and the address, the reply, the session in its slot, and the slot in the table.
 fn accept(
     t: &mut [u8],
     u: Settings,
     taken: Taken,
+    addresses: TakenAddresses,
     msg: &[u8],
     seid: u64,
     slot: &mut [u8],
@@ -155,12 +180,13 @@ fn accept(
     n: usize,
     out: &mut [u8],
 ) -> usize
-    requires { ⌜ Accepting u (now t) (taken .words) (now msg) (now slot) (now gone) (now plan) (now out) seid n ⌝ }
+    requires { ⌜ Accepting u (now t) (taken .words) (addresses .words) (now msg) (now slot) (now gone) (now plan) (now out) seid n ⌝ }
     ensures { λ r. ⌜ Answers (now (t .entry)) (now (msg .entry)) (now (out .entry)) r (now (out .exit)) (now (t .exit)) ⌝ }
 {
     let words = taken.words;
+    let ips = addresses.words;
     let mut places = [0usize; format::GRANTS];
-    let k = grants::grant(plan, n, &words, u, &mut places);
+    let k = give(plan, n, u, &words, &ips, &mut places);
     let used = reply::accepted(u, msg, seid, plan, &places[..k], out);
     keep(t, slot, gone, plan, n);
     used
@@ -198,6 +224,7 @@ fn settle(
     u: Settings,
     taken: Taken,
     free: usize,
+    addresses: TakenAddresses,
     msg: &[u8],
     kind: u64,
     live: bool,
@@ -206,17 +233,20 @@ fn settle(
     read: Plan,
     out: &mut [u8],
 ) -> usize
-    requires { ⌜ Readable (now t) (now msg) (now out) (now plan) kind (read .seid) (read .rows) (read .restoring) (read .noted) × Counted u (now t) (taken .words) free × Entered (now t) (now msg) kind (read .seid) live (now slot) ⌝ }
+    requires { ⌜ Readable (now t) (now msg) (now out) (now plan) kind (read .seid) (read .rows) (read .restoring) (read .noted) × Counted u (now t) (taken .words) free (addresses .words) (addresses .free) × Entered (now t) (now msg) kind (read .seid) live (now slot) ⌝ }
     ensures { λ r. ⌜ Answers (now (t .entry)) (now (msg .entry)) (now (out .entry)) r (now (out .exit)) (now (t .exit)) ⌝ }
 {
     let words = taken.words;
+    let ips = addresses.words;
     let mut gone = [0u64; format::MAX_PDRS];
     let k = stages::session::removed(slot, plan, read.rows, &mut gone);
     let cause = stages::judge(
         t,
         u,
         &words,
+        &ips,
         free,
+        addresses.free,
         kind,
         read.seid,
         live,
@@ -234,6 +264,10 @@ fn settle(
         t,
         u,
         Taken { words: words },
+        TakenAddresses {
+            words: ips,
+            free: addresses.free,
+        },
         msg,
         read.seid,
         slot,
@@ -250,12 +284,13 @@ fn change(
     u: Settings,
     taken: Taken,
     free: usize,
+    addresses: TakenAddresses,
     msg: &[u8],
     kind: u64,
     p: usize,
     out: &mut [u8],
 ) -> Replied
-    requires { ⌜ Changing (now t) (now msg) (now out) kind p × Counted u (now t) (taken .words) free ⌝ }
+    requires { ⌜ Changing (now t) (now msg) (now out) kind p × Counted u (now t) (taken .words) free (addresses .words) (addresses .free) ⌝ }
     ensures { λ r. ⌜ Replies (now (t .entry)) (now (msg .entry)) (now (out .entry)) (r .used) (r .place) (now (out .exit)) (now (t .exit)) ⌝ }
 {
     let mut plan = [0u64; format::PLAN];
@@ -276,6 +311,7 @@ fn change(
                 u,
                 taken,
                 free,
+                addresses,
                 msg,
                 kind,
                 live,
@@ -298,16 +334,17 @@ fn answer(
     u: Settings,
     taken: Taken,
     free: usize,
+    addresses: TakenAddresses,
     msg: &[u8],
     kind: u64,
     seid: u64,
     out: &mut [u8],
 ) -> Replied
-    requires { ⌜ Asked (now t) (now msg) (now out) × Counted u (now t) (taken .words) free × (kind ≡ kindOf (now msg)) × (seid ≡ headerSeid (now msg)) ⌝ }
+    requires { ⌜ Asked (now t) (now msg) (now out) × Counted u (now t) (taken .words) free (addresses .words) (addresses .free) × (kind ≡ kindOf (now msg)) × (seid ≡ headerSeid (now msg)) ⌝ }
     ensures { λ r. ⌜ Replies (now (t .entry)) (now (msg .entry)) (now (out .entry)) (r .used) (r .place) (now (out .exit)) (now (t .exit)) ⌝ }
 {
     if kind == kinds::ESTABLISHMENT {
-        return change(t, u, taken, free, msg, kind, 0, out);
+        return change(t, u, taken, free, addresses, msg, kind, 0, out);
     }
     let place = store::find(t, SESSIONS, format::COUNT, seid);
     match place {
@@ -322,7 +359,7 @@ fn answer(
             if kind == kinds::DELETION {
                 return delete(t, u, msg, seid, out);
             }
-            return change(t, u, taken, free, msg, kind, p, out);
+            return change(t, u, taken, free, addresses, msg, kind, p, out);
         }
     }
 }
@@ -351,8 +388,9 @@ pub fn serve(t: &mut [u8], msg: &[u8], out: &mut [u8]) -> Served
     ensures { λ r. ⌜ Serves (now (t .entry)) (now (msg .entry)) (now (out .entry)) (r .outcome) (r .used) (r .place) (now (out .exit)) (now (t .exit)) ⌝ }
 {
     let mut words = [0u64; pool::WORDS];
-    let seen = table::examine(t, &mut words);
-    let marking::Marks::New(held) = seen else {
+    let mut ips = [0u64; pool::ADDRESS_WORDS];
+    let seen = table::examine(t, &mut words, &mut ips);
+    let marking::Seen::Held(teids, addresses) = seen else {
         return unserved(1);
     };
     if out.len() < format::SPACE {
@@ -374,8 +412,22 @@ pub fn serve(t: &mut [u8], msg: &[u8], out: &mut [u8]) -> Served
         }
         Header::Request(kind, seid) => {
             let u = unit::read(t);
-            let free = u.size as usize - held;
-            let replied = answer(t, u, Taken { words: words }, free, msg, kind, seid, out);
+            let free = u.size as usize - teids;
+            let left = TakenAddresses {
+                words: ips,
+                free: u.addresses as usize - addresses,
+            };
+            let replied = answer(
+                t,
+                u,
+                Taken { words: words },
+                free,
+                left,
+                msg,
+                kind,
+                seid,
+                out,
+            );
             return Served {
                 outcome: 0,
                 used: replied.used,

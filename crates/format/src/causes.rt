@@ -20,3 +20,5 @@ pub const BROKEN_RULE: u64 = 73;
 pub const NO_ROOM: u64 = 75;
 
 pub const NOT_SUPPORTED: u64 = 76;
+
+pub const NO_ADDRESS: u64 = 79;

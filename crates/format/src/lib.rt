@@ -1,7 +1,8 @@
 // Widths, places and limits that several crates share, each named once; what follows from others is worked out from them. Numbers are
 // big-endian; docs/layout.md and the rules' Layout say what stands where.
 //
-// How many there are at most: sessions, in a session PDRs, endpoints and FQ-CSIDs, and TEIDs in the pool.
+// How many there are at most: sessions, in a session PDRs, endpoints and FQ-CSIDs, TEIDs in the pool, and
+// addresses in theirs.
 pub const MAX_SESSIONS: u64 = 64;
 
 pub const MAX_PDRS: usize = 16;
@@ -12,8 +13,10 @@ pub const MAX_CSIDS: usize = 6;
 
 pub const MAX_POOL: u64 = 4096;
 
+pub const MAX_ADDRESSES: u64 = 1024;
+
 // The settings: the IPv4 address (4 octets), whether there is an IPv6 address (1), the IPv6 address (16), the first TEID (4), the
-// pool's size (4).
+// pool's size (4), the first address (4), the number of addresses (4).
 pub const IPV4: usize = 0;
 
 pub const IPV6_THERE: usize = 4;
@@ -26,10 +29,14 @@ pub const FIRST: usize = 21;
 
 pub const SIZE: usize = 25;
 
-pub const SETTINGS: usize = 29;
+pub const FIRST_ADDRESS: usize = 29;
+
+pub const ADDRESS_COUNT: usize = 33;
+
+pub const SETTINGS: usize = 37;
 
 // A PDR: ID (2 octets), precedence (4), whether there is a FAR ID (1), the FAR ID (4), source interface (1), what it matches on (1: 0
-// nothing, 1 an F-TEID, 2 an endpoint), TEID (4), families (1), endpoint ID (1).
+// nothing, 1 an F-TEID, 2 an endpoint), TEID (4), families (1), endpoint ID (1), whether there is an address (1), the address (4).
 pub const PRECEDENCE: usize = 2;
 
 pub const FAR: usize = PRECEDENCE + 4;
@@ -46,10 +53,18 @@ pub const FAMILIES: usize = TEID + 4;
 
 pub const NAMED_ENDPOINT: usize = FAMILIES + 1;
 
-pub const PDR: usize = NAMED_ENDPOINT + 1;
+pub const PDR_ADDRESS_THERE: usize = NAMED_ENDPOINT + 1;
 
-// A traffic endpoint: ID (1 octet), TEID (4), families (1).
-pub const ENDPOINT: usize = 6;
+pub const PDR_ADDRESS: usize = PDR_ADDRESS_THERE + 1;
+
+pub const PDR: usize = PDR_ADDRESS + 4;
+
+// A traffic endpoint: ID (1 octet), TEID (4), families (1), whether there is an address (1), the address (4).
+pub const ENDPOINT_ADDRESS_THERE: usize = 6;
+
+pub const ENDPOINT_ADDRESS: usize = ENDPOINT_ADDRESS_THERE + 1;
+
+pub const ENDPOINT: usize = ENDPOINT_ADDRESS + 4;
 
 // An FQ-CSID: node type (1 octet), Node-ID type (1), address (16), CSID (2).
 pub const CSID: usize = 20;
@@ -79,14 +94,14 @@ pub const LENGTH: usize = HEAD + MAX_SESSIONS as usize * SLOT;
 // The longest message, the least reply space, the longest restoration request, and the grants of a request at most.
 pub const MESSAGE: usize = 2048;
 
-pub const SPACE: usize = 1024;
+pub const SPACE: usize = 1280;
 
-pub const RESTORATION: usize = 1526;
+pub const RESTORATION: usize = 1742;
 
 pub const GRANTS: usize = MAX_PDRS + MAX_ENDPOINTS;
 
 // Words of a plan's row, and of the plan of the longest message, which has at most 226 rows.
-pub const ROW: usize = 18;
+pub const ROW: usize = 20;
 
 pub const PLAN: usize = 226 * ROW;
 

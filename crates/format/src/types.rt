@@ -22,6 +22,8 @@ pub const FTEID: u64 = 21;
 
 pub const PRECEDENCE: u64 = 29;
 
+pub const UE_IP_ADDRESS: u64 = 93;
+
 pub const PDR_ID: u64 = 56;
 
 pub const FAR_ID: u64 = 108;

@@ -40,6 +40,11 @@ pub const IPV6_LOW: usize = 16;
 
 pub const CHOOSE_ID: usize = 17;
 
+// Its UE IP Address.
+pub const UE_KIND: usize = 18;
+
+pub const UE_ADDRESS: usize = 19;
+
 // An FQ-CSID's row.
 pub const VERB: usize = 1;
 

@@ -23,7 +23,7 @@ use Rattle.rules.specs.Types as ie
 use Rattle.plan.specs.Words as its
 use Rattle.created.specs.Groups.{kindIn}
 use Rattle.created.specs.Entries.{maxGrants, rowId}
-use Rattle.grants.specs.Choosing.{choosing, placesFrom, places, octet, rowChooseId, choiceIn, choiceAt}
+use Rattle.grants.specs.Choosing.{choosing, placesBy, placesFrom, places, octet, rowChooseId, choiceIn, choiceAt}
 
 -- ---- bounds
 
@@ -112,26 +112,26 @@ module _ {A : Type 0} (f : List ℕ → A) (plan : List ℕ) where
   abbrev readAt : ℕ → A
   readAt at = f (part at rowWidth plan)
 
-  tag-rows : (tag left at : ℕ) → map readAt (placesFrom tag at (slices rowWidth left (drop at plan))) ≡ map f (keep (choosing tag) (slices rowWidth left (drop at plan)))
-  unfolding placesFrom keep slices
-  tag-rows tag zero at = refl
-  tag-rows tag (suc n) at =
-      one (choosing tag (part at rowWidth plan)) (slices rowWidth n (drop rowWidth (drop at plan)))
-      (ap (λ (l : List ℕ). map readAt (placesFrom tag (at + rowWidth) (slices rowWidth n l))) (drop-drop rowWidth at plan) ∙ tag-rows tag n (at + rowWidth)
-      ∙ ap (λ (l : List ℕ). map f (keep (choosing tag) (slices rowWidth n l))) (sym (drop-drop rowWidth at plan)))
+  test-rows : (p : List ℕ → Bool) (left at : ℕ) → map readAt (placesBy p at (slices rowWidth left (drop at plan))) ≡ map f (keep (p) (slices rowWidth left (drop at plan)))
+  unfolding placesBy keep slices
+  test-rows p zero at = refl
+  test-rows p (suc n) at =
+      one (p (part at rowWidth plan)) (slices rowWidth n (drop rowWidth (drop at plan)))
+      (ap (λ (l : List ℕ). map readAt (placesBy p (at + rowWidth) (slices rowWidth n l))) (drop-drop rowWidth at plan) ∙ test-rows p n (at + rowWidth)
+      ∙ ap (λ (l : List ℕ). map f (keep (p) (slices rowWidth n l))) (sym (drop-drop rowWidth at plan)))
     where
-      one : (b : Bool) (rows : List (List ℕ)) → map readAt (placesFrom tag (at + rowWidth) rows) ≡ map f (keep (choosing tag) rows)
-          → map readAt (pick b (at ∷ placesFrom tag (at + rowWidth) rows) (placesFrom tag (at + rowWidth) rows))
-          ≡ map f (pick b (part at rowWidth plan ∷ keep (choosing tag) rows) (keep (choosing tag) rows))
+      one : (b : Bool) (rows : List (List ℕ)) → map readAt (placesBy p (at + rowWidth) rows) ≡ map f (keep (p) rows)
+          → map readAt (pick b (at ∷ placesBy p (at + rowWidth) rows) (placesBy p (at + rowWidth) rows))
+          ≡ map f (pick b (part at rowWidth plan ∷ keep (p) rows) (keep (p) rows))
       one true rows ih = ap (λ (l : List A). f (part at rowWidth plan) ∷ l) ih
       one false rows ih = ih
 
+  pub rows-at : (p q : List ℕ → Bool) (n : ℕ) → map readAt (placesBy p 0 (rowsOf n plan) ++ placesBy q 0 (rowsOf n plan)) ≡ map f (keep p (rowsOf n plan)) ++ map f (keep q (rowsOf n plan))
+  rows-at p q n = map-append readAt (placesBy p 0 (rowsOf n plan)) (placesBy q 0 (rowsOf n plan)) ∙ (λ j. test-rows p n 0 j ++ test-rows q n 0 j)
+
   pub place-rows : (n : ℕ) → map readAt (placesFrom ie.createEndpoint 0 (rowsOf n plan) ++ placesFrom 1 0 (rowsOf n plan)) ≡ map f (chosenRows (rowsOf n plan))
   unfolding chosenRows
-  place-rows n =
-      map-append readAt (placesFrom ie.createEndpoint 0 (rowsOf n plan)) (placesFrom 1 0 (rowsOf n plan))
-      ∙ (λ j. tag-rows ie.createEndpoint n 0 j ++ tag-rows 1 n 0 j)
-      ∙ sym (map-append f (keep (choosing ie.createEndpoint) (rowsOf n plan)) (keep (choosing 1) (rowsOf n plan)))
+  place-rows n = rows-at (choosing ie.createEndpoint) (choosing 1) n ∙ sym (map-append f (keep (choosing ie.createEndpoint) (rowsOf n plan)) (keep (choosing 1) (rowsOf n plan)))
 
 module _ (seid : ℕ) (restoring noted : Bool) (rows : List (List ℕ)) where
   abbrev r : Request

@@ -1,11 +1,10 @@
--- What `grant` leaves is what the rules say: the grants of the request, in the plan at the places answered. Assumes nothing.
+-- What `grant` leaves is what the rules say: the grants of the request, in the plan. Assumes nothing.
 use mathlib.Core.Path.{_≡_, sym, ap, _∙_}
-use mathlib.Core.Bool.{Bool, true, false}
+use mathlib.Core.Bool.{Bool, true, false, or-true}
 use mathlib.Core.List.{List, [], _++_, map, map-map}
 use Prim.Native.Nat.{ℕ, _+_, _*_, _≤_}
-use native.Mathlib.Omega.{arith}
 use lib.Dec.{T}
-use lib.ListN.{length, take, drop, length-map}
+use lib.ListN.{length, drop}
 use Rattle.octets.specs.Lists.{hasRepeat, all}
 use Rattle.rules.specs.Model.{Settings, Sessions, heldTeids}
 use Rattle.rules.specs.Reading.{Request}
@@ -18,22 +17,17 @@ use Rattle.pool.specs.Map.{teidsFrom}
 use Rattle.pool.proofs.TakenLaws.{Means}
 use Rattle.pool.proofs.GrantWalk.{grants-walk}
 use Rattle.created.specs.Groups.{kindIn}
-use Rattle.created.specs.Entries.{maxGrants, rowId, grantsAt, within}
+use Rattle.created.specs.Entries.{maxGrants, rowId}
 use Rattle.grants.specs.Choosing.{choosing, placesFrom, places, choiceIn, choiceAt, chosenGrants, teidsAt, stores, rowWith, Granted}
-use Rattle.grants.proofs.PlaceLaws.{places-within}
 use Rattle.grants.proofs.StoreLaws.{length-stores}
-use Rattle.grants.proofs.GrantSteps.{length-grants}
 use Rattle.grants.proofs.ChoiceLaws.{choiceFits, chosenRows, request-choices, places-are, places-choices}
 use Rattle.grants.proofs.PlanLaws.{After, choosing-tag, apart-rows, row-teids, plan-after}
 use Rattle.grants.proofs.RequestLaws.{alike-with, request-same}
-use Rattle.grants.proofs.ReportLaws.{or-true, grants-by-row, ownTeid, with-teid, reported-grants}
+use Rattle.grants.proofs.ReportLaws.{with-teid}
 
--- the grants in the plan at the places answered, how many, and the plan with them, which means the same request
-pub record IsGranted (gs : List Grant) (seid : ℕ) (restoring noted : Bool) (n : ℕ) (plan : List ℕ) (r : ℕ) (plan′ places′ : List ℕ) : Type 0 where
-  pub reported : grantsAt plan′ (take r places′) ≡ gs
-  pub inside : T (within plan′ (take r places′))
-  pub count : r ≡ length gs
-  pub most : r ≤ maxGrants
+-- the plan with the grants, which means the same request
+pub record IsGranted (gs : List Grant) (seid : ℕ) (restoring noted : Bool) (n : ℕ) (plan plan′ : List ℕ) : Type 0 where
+  pub long : length plan′ ≡ length plan
   pub rows : rowsOf n plan′ ≡ map (rowWith gs) (rowsOf n plan)
   pub rest : drop (n * rowWidth) plan′ ≡ drop (n * rowWidth) plan
   pub same : requestIn seid restoring noted (rowsOf n plan′) ≡ requestIn seid restoring noted (rowsOf n plan)
@@ -62,7 +56,7 @@ module _ (seid : ℕ) (restoring noted : Bool) (n : ℕ) (plan : List ℕ) where
       → T (all choiceFits (choices request)) → length (choices request) ≤ maxGrants
       → hasRepeat (createdPdrs request) ≡ false → hasRepeat (createdEndpoints request) ≡ false
       → Granted n (s .first) words (s .size) plan r plan′ places′
-      → IsGranted (grants s m request) seid restoring noted n plan r plan′ places′
+      → IsGranted (grants s m request) seid restoring noted n plan plan′
   granted s m words {r} {plan′} {places′} means h fits few ps es g =
       let gs : List Grant = grants s m request in
       let rows : List (List ℕ) = rowsOf n plan in
@@ -71,23 +65,13 @@ module _ (seid : ℕ) (restoring noted : Bool) (n : ℕ) (plan : List ℕ) where
       let at-places = places-choices seid restoring noted n plan fits few in
       let is-places = places-are seid restoring noted n plan fits few in
       let given = teids-of (s .first) words (s .size) gs (ap (grantFrom [] free) at-places ∙ sym walk) in
-      let len : length gs ≡ length (choices request) = ap length walk ∙ length-grants [] free (choices request) in
-      let place-count : length (choices request) ≡ length (places n plan) = sym (ap length at-places) ∙ length-map (places n plan) (choiceAt plan) in
-      let is-count = g .count in
       let chosen : gs ≡ grantFrom [] free (map choiceIn (chosenRows rows)) = walk ∙ ap (grantFrom [] free) (request-choices seid restoring noted rows fits) in
       let teids = rw (← chosen) at (row-teids [] free (chosenRows rows) (apart-rows rows (pdr-ids ps) (endpoint-ids es))) in
       let is-plan : plan′ ≡ stores plan (placesFrom ie.createEndpoint 0 rows ++ placesFrom 1 0 rows) (map grantTeid gs) = g .stored ∙ (λ j. stores plan (is-places j) (given j)) in
       let after : After gs n plan plan′ = rw is-plan (plan-after gs n plan h teids) in
       let long : length plan′ ≡ length plan = ap length (g .stored) ∙ length-stores plan (places n plan) (teidsAt (s .first) words (s .size) plan (places n plan)) in
       record {
-        reported =
-            ap (grantsAt plan′) (g .listed ∙ is-places)
-            ∙ reported-grants gs n plan plan′ h (after .rows)
-            ∙ grants-by-row (ownTeid gs) [] free (chosenRows rows) (sym (ap (map grantTeid) chosen) ∙ teids)
-            ∙ sym chosen;
-        inside = rw (g .listed, long) (places-within n plan h);
-        count = omega arith;
-        most = omega arith;
+        long = long;
         rows = after .rows;
         rest = after .rest;
         same = ap (requestIn seid restoring noted) (after .rows) ∙ request-same (rowWith gs) (alike-with gs) seid restoring noted rows;

@@ -6,8 +6,10 @@ pub mod GrantSteps
 pub mod ChoiceLaws
 pub mod OwnLaws
 pub mod PassLaws
+pub mod AddressLaws
 pub mod PlanLaws
 pub mod RequestLaws
 pub mod ReportLaws
 pub mod GrantLaws
 pub mod FitLaws
+pub mod AllLaws

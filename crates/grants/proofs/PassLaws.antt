@@ -3,6 +3,7 @@ use mathlib.Core.Path.{_≡_, refl, sym, ap, _∙_}
 use mathlib.Core.Bool.{Bool, true, false}
 use mathlib.Core.List.{List, [], _∷_, _++_, map, append-assoc}
 use Prim.Native.Nat.{ℕ, zero, suc, _+_, _*_, _≤_, _<_}
+use native.Mathlib.Nat.{zero-add}
 use native.Mathlib.Omega.{arith}
 use lib.ListN.{length, take, drop, set, length-set, length-append, length-drop, take-append-drop}
 use lib.Seq.{length-take-le, set-append-left, take-at, drop-at, drop-drop, drop-append-add}
@@ -10,7 +11,7 @@ use Rattle.octets.specs.Choice.{pick}
 use Rattle.octets.specs.Octets.{slices}
 use Rattle.octets.specs.Lists.{keep}
 use Rattle.plan.specs.Rows.{rowWidth}
-use Rattle.grants.specs.Choosing.{choosing, placesFrom, stores}
+use Rattle.grants.specs.Choosing.{choosing, placesBy, placesFrom, stores}
 
 pub stores-append : (plan ps qs ts us : List ℕ) → length ps ≡ length ts → stores plan (ps ++ qs) (ts ++ us) ≡ stores (stores plan ps ts) qs us
 unfolding stores
@@ -19,11 +20,11 @@ stores-append plan [] qs (t ∷ ts) us e = absurd (omega arith)
 stores-append plan (p ∷ ps) qs [] us e = absurd (omega arith)
 stores-append plan (p ∷ ps) qs (t ∷ ts) us e = stores-append (set plan (p + 13) t) ps qs ts us (omega arith)
 
-set-row : (pre row after : List ℕ) (t : ℕ) → 13 < length row → set (pre ++ (row ++ after)) (length pre + 13) t ≡ (pre ++ set row 13 t) ++ after
-set-row [] row after t h = set-append-left row after 13 t h
-set-row (x ∷ pre) row after t h =
-    let e : suc (length pre) + 13 ≡ suc (length pre + 13) = omega arith in
-    rw e (ap (λ (l : List ℕ). x ∷ l) (set-row pre row after t h))
+pub set-row : (k : ℕ) (pre row after : List ℕ) (t : ℕ) → k < length row → set (pre ++ (row ++ after)) (length pre + k) t ≡ (pre ++ set row k t) ++ after
+set-row k [] row after t h = ap (λ (i : ℕ). set (row ++ after) i t) (zero-add k) ∙ set-append-left row after k t h
+set-row k (x ∷ pre) row after t h =
+    let e : suc (length pre) + k ≡ suc (length pre + k) = omega arith in
+    rw e (ap (λ (l : List ℕ). x ∷ l) (set-row k pre row after t h))
 
 module _ (tag : ℕ) (f : List ℕ → ℕ) where
   -- a row of the type that chooses gets its TEID
@@ -48,7 +49,7 @@ module _ (tag : ℕ) (f : List ℕ → ℕ) where
 
   -- as many places as rows
   pub length-places : (at : ℕ) (rows : List (List ℕ)) → length (placesFrom tag at rows) ≡ length (map f (keep (choosing tag) rows))
-  unfolding placesFrom keep
+  unfolding placesBy keep
   length-places at [] = refl
   length-places at (row ∷ rows) = one (choosing tag row) (length-places (at + rowWidth) rows)
     where
@@ -60,18 +61,18 @@ module _ (tag : ℕ) (f : List ℕ → ℕ) where
   pass-row : (row after pre : List ℕ) (rows : List (List ℕ)) → 13 < length row
       → stores (pre ++ (row ++ after)) (placesFrom tag (length pre) (row ∷ rows)) (map f (keep (choosing tag) (row ∷ rows)))
       ≡ stores ((pre ++ withTeid row) ++ after) (placesFrom tag (length pre + rowWidth) rows) (map f (keep (choosing tag) rows))
-  unfolding placesFrom keep withTeid
+  unfolding placesBy keep withTeid
   pass-row row after pre rows w = two (choosing tag row)
     where
       two : (b : Bool)
           → stores (pre ++ (row ++ after)) (pick b (length pre ∷ placesFrom tag (length pre + rowWidth) rows) (placesFrom tag (length pre + rowWidth) rows)) (map f (pick b (row ∷ keep (choosing tag) rows) (keep (choosing tag) rows)))
           ≡ stores ((pre ++ pick b (set row 13 (f row)) row) ++ after) (placesFrom tag (length pre + rowWidth) rows) (map f (keep (choosing tag) rows))
-      two true = unfold stores in ap (λ (x : List ℕ). stores x (placesFrom tag (length pre + rowWidth) rows) (map f (keep (choosing tag) rows))) (set-row pre row after (f row) w)
+      two true = unfold stores in ap (λ (x : List ℕ). stores x (placesFrom tag (length pre + rowWidth) rows) (map f (keep (choosing tag) rows))) (set-row 13 pre row after (f row) w)
       two false = ap (λ (x : List ℕ). stores x (placesFrom tag (length pre + rowWidth) rows) (map f (keep (choosing tag) rows))) (sym (append-assoc pre row after))
 
   pub stores-pass : (n : ℕ) (pre plan : List ℕ) → n * rowWidth ≤ length plan
       → stores (pre ++ plan) (placesFrom tag (length pre) (slices rowWidth n plan)) (map f (keep (choosing tag) (slices rowWidth n plan))) ≡ pre ++ passed n plan
-  unfolding placesFrom keep slices passed
+  unfolding placesBy keep slices passed
   stores-pass zero pre plan h = unfold stores in refl
   stores-pass (suc n) pre plan h =
       let row : List ℕ = take rowWidth plan in

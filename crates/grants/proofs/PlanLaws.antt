@@ -103,7 +103,7 @@ module _ (f : List ℕ → ℕ) where
     stores-both =
         let rows : List (List ℕ) = rowsOf n plan in
         let l = length-passed ie.createEndpoint f n plan h in
-        let ps : placesFrom 1 0 (slices rowWidth n (passed ie.createEndpoint f n plan)) ≡ placesFrom 1 0 rows = ap (placesFrom 1 0) rows-first ∙ places-same 1 (withTeid ie.createEndpoint f) (with-choosing 1 ie.createEndpoint) 0 rows in
+        let ps : placesFrom 1 0 (slices rowWidth n (passed ie.createEndpoint f n plan)) ≡ placesFrom 1 0 rows = ap (placesFrom 1 0) rows-first ∙ places-same (choosing 1) (withTeid ie.createEndpoint f) (with-choosing 1 ie.createEndpoint) 0 rows in
         let ks : keep (choosing 1) (slices rowWidth n (passed ie.createEndpoint f n plan)) ≡ keep (choosing 1) rows = ap (keep (choosing 1)) rows-first ∙ keep-with rows in
         ap (stores plan (placesFrom ie.createEndpoint 0 rows ++ placesFrom 1 0 rows)) (map-append f (keep (choosing ie.createEndpoint) rows) (keep (choosing 1) rows))
         ∙ stores-append plan (placesFrom ie.createEndpoint 0 rows) (placesFrom 1 0 rows) (map f (keep (choosing ie.createEndpoint) rows)) (map f (keep (choosing 1) rows)) (length-places ie.createEndpoint f 0 rows)

@@ -1,32 +1,59 @@
 -- One row of a plan and one TEID given, as the code tests and finds them. Assumes nothing.
-use mathlib.Core.Path.{_≡_, sym, _∙_}
-use mathlib.Core.Bool.{true, false}
+use mathlib.Core.Path.{_≡_, refl, sym, _∙_}
+use mathlib.Core.Bool.{Bool, true, false, not, _||_, and-true, and-false}
 use mathlib.Core.List.{List}
 use Prim.Native.Nat.{ℕ, _+_, _-_, _/_, _%_, _≤_, _<_}
-use borrow.Author.Tests.{eq-eqb, ne-eqb, lt-ltb, le-ltb}
+use borrow.Author.Tests.{eq-eqb, ne-eqb, lt-ltb, le-ltb, not-true, not-false}
 use lib.Dec.{eqb}
 use lib.ListN.{getD, set}
-use Rattle.octets.specs.Choice.{valueOr}
+use Rattle.octets.specs.Choice.{pick, valueOr}
 use Rattle.octets.specs.Octets.{bit}
 use Rattle.rules.specs.Grants.{teidFor, freeAfter}
+use Rattle.rules.specs.Types as ie
 use Rattle.plan.specs.Rows.{hasTag}
 use Rattle.pool.specs.declared.Lowest.the-variants.{At, Full}
 use Rattle.pool.specs.Answer.{lowest}
 use Rattle.pool.specs.Map.{freeFrom}
 use Rattle.pool.proofs.TakenLaws.{next-teid, no-teid}
-use Rattle.grants.specs.Choosing.{choosing, rowChooseId}
+use Rattle.grants.specs.Choosing.{chosenBy, rowChooseId, choosesAddress}
 use Rattle.grants.specs.Steps.{Gives}
 
 -- ---- one row
 
 module _ (row : List ℕ) where
-  pub choosing-other : (tag : ℕ) → (getD row 0 0 ≡ tag → ⊥) → false ≡ choosing tag row
-  unfolding choosing hasTag
-  choosing-other tag n = rw (ne-eqb (getD row 0 0) tag n)
+  pub chosen-other : (anything : Bool) (tag : ℕ) → (getD row 0 0 ≡ tag → ⊥) → false ≡ chosenBy anything tag row
+  unfolding chosenBy hasTag
+  chosen-other anything tag n = rw (ne-eqb (getD row 0 0) tag n)
 
-  pub choosing-same : (tag : ℕ) → getD row 0 0 ≡ tag → eqb (getD row 12 0 / 4 % 2) 1 ≡ choosing tag row
-  unfolding choosing hasTag bit
-  choosing-same tag e = rw (eq-eqb (getD row 0 0) tag e)
+  module _ (anything : Bool) (tag : ℕ) (e : getD row 0 0 ≡ tag) where
+    pub chosen-fteid : getD row 12 0 / 4 % 2 ≡ 1 → true ≡ chosenBy anything tag row
+    unfolding chosenBy hasTag bit
+    chosen-fteid f = rw (eq-eqb (getD row 0 0) tag e, eq-eqb (getD row 12 0 / 4 % 2) 1 f) (one anything)
+      where
+        one : (b : Bool) → true ≡ pick b true true
+        one true = refl
+        one false = refl
+
+    pub chosen-plain : (getD row 12 0 / 4 % 2 ≡ 1 → ⊥) → not anything ≡ true → false ≡ chosenBy anything tag row
+    unfolding chosenBy hasTag bit
+    chosen-plain f h = rw (eq-eqb (getD row 0 0) tag e, ne-eqb (getD row 12 0 / 4 % 2) 1 f, not-true anything h)
+
+    pub chosen-address : (getD row 12 0 / 4 % 2 ≡ 1 → ⊥) → not anything ≡ false → eqb (getD row 18 0) 2 ≡ chosenBy anything tag row
+    unfolding chosenBy hasTag bit
+    chosen-address f h = rw (eq-eqb (getD row 0 0) tag e, ne-eqb (getD row 12 0 / 4 % 2) 1 f, not-false anything h)
+
+  -- a CHOOSE of an address
+  pub address-other : (getD row 18 0 ≡ 2 → ⊥) → false ≡ choosesAddress row
+  unfolding choosesAddress
+  address-other n = rw (ne-eqb (getD row 18 0) 2 n) (sym (and-false (hasTag ie.createEndpoint row || hasTag ie.createPdr row)))
+
+  pub address-endpoint : getD row 18 0 ≡ 2 → getD row 0 0 ≡ ie.createEndpoint → true ≡ choosesAddress row
+  unfolding choosesAddress hasTag
+  address-endpoint k e = rw (eq-eqb (getD row 18 0) 2 k, eq-eqb (getD row 0 0) ie.createEndpoint e)
+
+  pub address-pdr : getD row 18 0 ≡ 2 → (getD row 0 0 ≡ ie.createEndpoint → ⊥) → eqb (getD row 0 0) ie.createPdr ≡ choosesAddress row
+  unfolding choosesAddress hasTag
+  address-pdr k n = rw (eq-eqb (getD row 18 0) 2 k, ne-eqb (getD row 0 0) ie.createEndpoint n) (sym (and-true (eqb (getD row 0 0) ie.createPdr)))
 
   pub id-none : (getD row 12 0 / 8 % 2 ≡ 1 → ⊥) → 256 ≡ valueOr 256 (rowChooseId row)
   unfolding rowChooseId bit

@@ -1,12 +1,12 @@
 -- The rows of a plan that choose, what they choose, and the TEIDs that they get.
 -- A row begins at its place, counted in words. Assumes nothing.
-use Prim.Native.Nat.{ℕ, _+_}
+use Prim.Native.Nat.{ℕ, zero, suc, _+_}
 use mathlib.Core.Path.{_≡_}
-use mathlib.Core.Bool.{Bool, _&&_, _||_}
+use mathlib.Core.Bool.{Bool, true, _&&_, _||_}
 use mathlib.Core.Option.{Option, none, some}
 use mathlib.Core.List.{List, [], _∷_, _++_, map}
-use lib.ListN.{length, take, set}
-use lib.Dec.{ltb}
+use lib.ListN.{length, take, drop, set}
+use lib.Dec.{ltb, eqb}
 use Rattle.octets.specs.Choice.{pick, headOr, rest}
 use Rattle.octets.specs.Octets.{bit, part}
 use Rattle.rules.specs.Grants.{Choice, Grant, grantTeid, grantFrom, grantedTeid}
@@ -23,14 +23,26 @@ use Rattle.created.specs.Entries.{maxGrants, rowId}
 unfoldable pub choosing : ℕ → List ℕ → Bool
 choosing tag row = hasTag tag row && bit 2 (word its.flags row)
 
--- where the rows of a type begin that choose; the first row begins at a place
-unfoldable pub placesFrom : ℕ → ℕ → List (List ℕ) → List ℕ
-placesFrom tag at [] = []
-placesFrom tag at (row ∷ rows) = let more = placesFrom tag (at + rowWidth) rows in pick (choosing tag row) (at ∷ more) more
+-- a row of a type that chooses: an F-TEID, or anything, an F-TEID or an address
+unfoldable pub chosenBy : Bool → ℕ → List ℕ → Bool
+chosenBy anything tag row = hasTag tag row && pick anything (bit 2 (word its.flags row) || eqb (word its.ueKind row) 2) (bit 2 (word its.flags row))
+
+-- where the rows begin for which a test holds; the first row begins at a place
+unfoldable pub placesBy : (List ℕ → Bool) → ℕ → List (List ℕ) → List ℕ
+placesBy p at [] = []
+placesBy p at (row ∷ rows) = let more = placesBy p (at + rowWidth) rows in pick (p row) (at ∷ more) more
+
+-- of a type, those that choose an F-TEID
+abbrev pub placesFrom : ℕ → ℕ → List (List ℕ) → List ℕ
+placesFrom tag at rows = placesBy (choosing tag) at rows
 
 -- the places of a plan's rows that choose: endpoints in request order, then PDRs
 unfoldable pub places : ℕ → List ℕ → List ℕ
 places n plan = take maxGrants (placesFrom ie.createEndpoint 0 (rowsOf n plan) ++ placesFrom 1 0 (rowsOf n plan))
+
+-- the places of the rows with something chosen, which are reported: endpoints in request order, then PDRs
+unfoldable pub reportPlaces : ℕ → List ℕ → List ℕ
+reportPlaces n plan = take maxGrants (placesBy (chosenBy true ie.createEndpoint) 0 (rowsOf n plan) ++ placesBy (chosenBy true ie.createPdr) 0 (rowsOf n plan))
 
 -- ---- what they choose
 
@@ -71,3 +83,22 @@ pub record Granted (n first : ℕ) (words : List ℕ) (size : ℕ) (plan : List 
   pub count : r ≡ length (places n plan)
   pub listed : take r places′ ≡ places n plan
   pub stored : plan′ ≡ stores plan (places n plan) (teidsAt first words size plan (places n plan))
+
+-- ---- the address that they get (02 (v))
+
+-- a row that creates a record with a CHOOSE of an address
+unfoldable pub choosesAddress : List ℕ → Bool
+choosesAddress row = (hasTag ie.createEndpoint row || hasTag ie.createPdr row) && eqb (word its.ueKind row) 2
+
+-- a row with the address, if it chooses one
+unfoldable pub withAddress : ℕ → List ℕ → List ℕ
+withAddress a row = pick (choosesAddress row) (set row its.ueAddress a) row
+
+-- the plan with each of its first n rows so
+unfoldable pub addressed : ℕ → ℕ → List ℕ → List ℕ
+addressed a zero plan = plan
+addressed a (suc n) plan = withAddress a (take rowWidth plan) ++ addressed a n (drop rowWidth plan)
+
+-- the first free address by a map of taken ones, 0 if none is free
+abbrev pub lowestAddress : ℕ → List ℕ → ℕ → ℕ
+lowestAddress first words size = headOr 0 (teidsFrom first words 0 size)

@@ -1,5 +1,5 @@
-// Grants: the TEIDs that a request's CHOOSEs get (01, "What a request does"), to endpoints in request order and then to PDRs.
-// A plan has rows of 18 words. A TEID goes into its row, where crate `created` reads it for the list of grants.
+// Grants: the TEIDs that a request's CHOOSEs get (01, "What a request does"), to endpoints in request order and then to PDRs, and the one
+// address that they share (02 (v)). A TEID or address goes into its row of the plan, where crate `created` reads it for the list of grants.
 use format::types;
 use format::words;
 use unit::Settings;
@@ -10,14 +10,17 @@ ghost use lib.Dec.{T};
 ghost use lib.ListN.{length, take, getD, set};
 ghost use lib.Seq.{sets};
 ghost use Rattle.octets.specs.Choice.{valueOr};
-ghost use Rattle.rules.specs.Limits.{maxPool};
+ghost use Rattle.rules.specs.Limits.{maxPool, maxAddresses};
 ghost use Rattle.plan.specs.Rows.{rowWidth, rowsOf};
 ghost use Rattle.created.specs.Entries.{maxGrants, within};
-ghost use Rattle.grants.specs.Choosing.{choosing, placesFrom, rowChooseId, teidsAt, stores, Granted};
+ghost use Rattle.grants.specs.Choosing.{chosenBy, placesBy, rowChooseId, teidsAt, stores, Granted, reportPlaces, choosesAddress, addressed, lowestAddress};
 ghost use Rattle.grants.specs.Steps.{Gives};
 
 // A CHOOSE ID is one octet.
 const IDS: usize = 256;
+
+// The kind of a UE IP Address that is a CHOOSE.
+const CHOOSE: u64 = 2;
 
 // A TEID, and the offset from which the next search for a free one starts.
 struct Given {
@@ -25,21 +28,34 @@ struct Given {
     next: usize,
 }
 
-// Is it a row of this type whose F-TEID has CH?
-fn chooses(row: &[u64], tag: u64) -> bool
+// Is it a row of this type that chooses an F-TEID, or anything, an F-TEID or an address?
+fn chooses(row: &[u64], tag: u64, anything: bool) -> bool
     requires { ⌜ length (now row) ≡ rowWidth ⌝ }
-    ensures { λ r. ⌜ r ≡ choosing tag (now (row .entry)) ⌝ }
+    ensures { λ r. ⌜ r ≡ chosenBy anything tag (now (row .entry)) ⌝ }
 {
     if row[words::TAG] != tag {
         return false;
     }
-    row[words::FLAGS] / 4 % 2 == 1
+    if row[words::FLAGS] / 4 % 2 == 1 {
+        return true;
+    }
+    if !anything {
+        return false;
+    }
+    row[words::UE_KIND] == CHOOSE
 }
 
 // Writes to `places`, from the k-th on and as far as there is room, where the rows begin that choose; the answer is how many places there are then.
-fn find_places(plan: &[u64], n: usize, tag: u64, places: &mut [usize], k: usize) -> usize
+fn find_places(
+    plan: &[u64],
+    n: usize,
+    tag: u64,
+    anything: bool,
+    places: &mut [usize],
+    k: usize,
+) -> usize
     requires { ⌜ (n * rowWidth ≤ length (now plan)) × (k ≤ length (now places)) ⌝ }
-    ensures { λ r. ⌜ (r ≤ length (now (places .entry))) × (take r (now (places .exit)) ≡ take (length (now (places .entry))) (take k (now (places .entry)) ++ placesFrom tag 0 (rowsOf n (now (plan .entry))))) ⌝ }
+    ensures { λ r. ⌜ (r ≤ length (now (places .entry))) × (take r (now (places .exit)) ≡ take (length (now (places .entry))) (take k (now (places .entry)) ++ placesBy (chosenBy anything tag) 0 (rowsOf n (now (plan .entry))))) ⌝ }
 {
     let mut at: usize = 0;
     let mut left = n;
@@ -48,7 +64,7 @@ fn find_places(plan: &[u64], n: usize, tag: u64, places: &mut [usize], k: usize)
         let here = at;
         at += format::ROW;
         left -= 1;
-        if !chooses(&plan[here..at], tag) {
+        if !chooses(&plan[here..at], tag, anything) {
             continue;
         }
         if found == places.len() {
@@ -170,9 +186,64 @@ pub fn grant(plan: &mut [u64], n: usize, words: &[u64], u: Settings, places: &mu
     ensures { λ r. ⌜ Granted n (u .first) (now (words .entry)) (u .size) (now (plan .entry)) r (now (plan .exit)) (now (places .exit)) ⌝ }
 {
     let mut teids = [0u64; format::GRANTS];
-    let k = find_places(plan, n, types::CREATE_ENDPOINT, places, 0);
-    let m = find_places(plan, n, types::CREATE_PDR, places, k);
+    let k = find_places(plan, n, types::CREATE_ENDPOINT, false, places, 0);
+    let m = find_places(plan, n, types::CREATE_PDR, false, places, k);
     fill(plan, &places[..m], words, u, &mut teids);
     store(plan, &places[..m], &teids);
     m
+}
+
+// Writes to `places` where the rows begin with something chosen, at most 24, endpoints' and then PDRs': those that the reply reports. The
+// answer is how many there are.
+pub fn reported(plan: &[u64], n: usize, places: &mut [usize]) -> usize
+    requires { ⌜ (n * rowWidth ≤ length (now plan)) × (length (now places) ≡ maxGrants) ⌝ }
+    ensures { λ r. ⌜ (r ≤ maxGrants) × (take r (now (places .exit)) ≡ reportPlaces n (now (plan .entry))) ⌝ }
+{
+    let k = find_places(plan, n, types::CREATE_ENDPOINT, true, places, 0);
+    find_places(plan, n, types::CREATE_PDR, true, places, k)
+}
+
+// Does the row create a record with a CHOOSE of an address?
+fn chooses_address(row: &[u64]) -> bool
+    requires { ⌜ length (now row) ≡ rowWidth ⌝ }
+    ensures { λ r. ⌜ r ≡ choosesAddress (now (row .entry)) ⌝ }
+{
+    if row[words::UE_KIND] != CHOOSE {
+        return false;
+    }
+    if row[words::TAG] == types::CREATE_ENDPOINT {
+        return true;
+    }
+    row[words::TAG] == types::CREATE_PDR
+}
+
+// Writes an address into every one of the n rows that chooses one.
+fn store_address(plan: &mut [u64], n: usize, address: u64)
+    requires { ⌜ n * rowWidth ≤ length (now plan) ⌝ }
+    ensures { λ _. ⌜ now (plan .exit) ≡ addressed address n (now (plan .entry)) ⌝ }
+{
+    let mut at: usize = 0;
+    let mut left = n;
+    while 0 < left {
+        let here = at;
+        at += format::ROW;
+        left -= 1;
+        if !chooses_address(&plan[here..at]) {
+            continue;
+        }
+        plan[here + words::UE_ADDRESS] = address;
+    }
+}
+
+// Grants the lowest free address to every row that chooses one, by the map of taken addresses, and writes it into the row.
+pub fn grant_address(plan: &mut [u64], n: usize, words: &[u64], u: Settings)
+    requires { ⌜ (n * rowWidth ≤ length (now plan)) × (u .addresses ≤ 64 * length (now words)) × (u .addresses ≤ maxAddresses) × (u .«first_address» < 2 ^ 32) ⌝ }
+    ensures { λ _. ⌜ now (plan .exit) ≡ addressed (lowestAddress (u .«first_address») (now (words .entry)) (u .addresses)) n (now (plan .entry)) ⌝ }
+{
+    let found = pool::next_free(words, 0, u.addresses as usize);
+    let pool::Lowest::At(i) = found else {
+        store_address(plan, n, 0);
+        return;
+    };
+    store_address(plan, n, u.first_address + i as u64);
 }

@@ -3,3 +3,4 @@ pub mod WalkLaws
 pub mod MapWalk
 pub mod RecordWalk
 pub mod SessionWalk
+pub mod AddressWalk

@@ -13,11 +13,11 @@ use Rattle.octets.proofs.Tests.{each, all-head, all-tail, all-cons}
 use Rattle.lists.proofs.Bools.{and-swap, and-four}
 use Rattle.lists.proofs.EachTwo.{all-step, all-append}
 use Rattle.rules.specs.Model.{Settings, Tunnel, Place, neither, tunnel, endpoint, Pdr, Endpoint, Holding, Session, Sessions, teidOf, placeTunnel, tunnelHolding, pdrHolding, endpointHolding, endpointId, sessionHoldings, sessionTeids, heldTeids}
-use Rattle.rules.specs.Sound.{inPool, tunnelTests, tunnelAllowed, placeAllowed, pdrTests, pdrAllowed, endpointTests, endpointAllowed, agree, sessionTests, sessionAllowed, apart, sessionsTests, sessionsAllowed}
+use Rattle.rules.specs.Sound.{inPool, tunnelTests, tunnelAllowed, placeAllowed, pdrTests, pdrAllowed, endpointTests, endpointAllowed, agree, sessionTests, sessionAllowed, sessionsTests, sessionsAllowed}
 use Rattle.pool.specs.Map.{mark, marks, offsets}
 use Rattle.pool.proofs.Marks.{length-mark, length-marks}
 use Rattle.pool.proofs.TakenLaws.{Means, means-empty, means-test, means-mark, pool-from, pool-offset}
-use Rattle.holdings.specs.Walk.{joins, accepts, sessionKeeps, seenAfter, tableKeeps, sessionMarks, tableMarks}
+use Rattle.holdings.specs.Walk.{joins, accepts, sessionKeeps, seenAfter, tableKeeps, sessionMarks, tableMarks, apartTeids}
 use Rattle.holdings.proofs.WalkLaws.{table-keeps}
 
 module _ (s : Settings) where
@@ -70,15 +70,15 @@ module _ (s : Settings) where
 
     -- over a whole table, from an empty map of n words: the sessions' own tests, and 01's rule on TEIDs
     pub table-marks : (n : ℕ) (m : Sessions) → s .size ≤ 64 * n
-        → tableMarks own (s .first) (replicate n 0) m ≡ (all own m && (all (λ x. allPairs agree (sessionHoldings x)) m && allPairs apart m))
+        → tableMarks own (s .first) (replicate n 0) m ≡ (all own m && (all (λ x. allPairs agree (sessionHoldings x)) m && allPairs apartTeids m))
     table-marks n m f =
         table-marks-from (replicate n 0) [] m (means-empty (s .first) n) (rw length-replicate f)
         ∙ ap (λ (b : Bool). all own m && b) (table-keeps m)
 
-    -- where these are a session's tests but for its holds, the walk says that every session is allowed and every two are apart
+    -- where these are a session's tests but for its holds, the walk says that every session is allowed and every two have no TEID in common
     pub sessions-marks : (n : ℕ) (m : Sessions) → s .size ≤ 64 * n → ((x : Session) → sessionAllowed s x ≡ (own x && allPairs agree (sessionHoldings x)))
-        → tableMarks own (s .first) (replicate n 0) m ≡ (all (sessionAllowed s) m && allPairs apart m)
-    sessions-marks n m f split = table-marks n m f ∙ sym (and-assoc (all own m) (all (λ x. allPairs agree (sessionHoldings x)) m) (allPairs apart m)) ∙ ap (λ (b : Bool). b && allPairs apart m) (sym (joined m))
+        → tableMarks own (s .first) (replicate n 0) m ≡ (all (sessionAllowed s) m && allPairs apartTeids m)
+    sessions-marks n m f split = table-marks n m f ∙ sym (and-assoc (all own m) (all (λ x. allPairs agree (sessionHoldings x)) m) (allPairs apartTeids m)) ∙ ap (λ (b : Bool). b && allPairs apartTeids m) (sym (joined m))
       where
         joined : (xs : Sessions) → all (sessionAllowed s) xs ≡ (all own xs && all (λ x. allPairs agree (sessionHoldings x)) xs)
         joined [] = unfold all in refl

@@ -12,8 +12,8 @@ use Rattle.lists.proofs.Bools.{both-ways, not-or, and-swap, and-four, or-swap}
 use Rattle.lists.proofs.Questions.{member-nil, member-cons, any-cons, any-turn, member-middle}
 use Rattle.lists.proofs.EachTwo.{all-step, pairs-step, all-last, pairs-last, pairs-middle, all-map, pairs-map}
 use Rattle.rules.specs.Model.{Holding, Sessions, teidOf, sessionHoldings, sessionTeids}
-use Rattle.rules.specs.Sound.{agree, apart}
-use Rattle.holdings.specs.Walk.{joins, accepts, sessionKeeps, seenAfter, tableKeeps}
+use Rattle.rules.specs.Sound.{agree}
+use Rattle.holdings.specs.Walk.{joins, accepts, sessionKeeps, seenAfter, tableKeeps, apartTeids}
 use Rattle.holdings.proofs.Joining.{joins-agree, joins-test, alone-agrees, agree-joins}
 
 -- holds on no TEID of a list
@@ -181,8 +181,8 @@ table-keeps-from seen (hs ∷ more) =
         ∙ ap (λ (x : Bool). (a && d) && x) (sym (and-assoc b e (c && f)))
 
 -- 01's rule of a table, in one walk
-pub table-keeps : (m : Sessions) → tableKeeps [] (map sessionHoldings m) ≡ (all (λ x. allPairs agree (sessionHoldings x)) m && allPairs apart m)
-unfolding apart sessionTeids
+pub table-keeps : (m : Sessions) → tableKeeps [] (map sessionHoldings m) ≡ (all (λ x. allPairs agree (sessionHoldings x)) m && allPairs apartTeids m)
+unfolding apartTeids sessionTeids
 table-keeps m =
     table-keeps-from [] (map sessionHoldings m)
     ∙ ap (λ (b : Bool). b && (all (allPairs agree) (map sessionHoldings m) && allPairs separate (map sessionHoldings m))) (none-seen (map sessionHoldings m))

@@ -7,8 +7,8 @@ use mathlib.Core.Bool.{Bool, true, false, not, _&&_, _||_}
 use mathlib.Core.List.{List, [], _∷_, _++_}
 use lib.Dec.{eqb}
 use Rattle.octets.specs.Choice.{allOf, valueOr, mapOption}
-use Rattle.octets.specs.Lists.{member, findBy}
-use Rattle.rules.specs.Model.{Holding, Session, Sessions, sessionHoldings, sessionTeids}
+use Rattle.octets.specs.Lists.{member, anyIn, any, findBy}
+use Rattle.rules.specs.Model.{Settings, Holding, Session, Sessions, sessionHoldings, sessionTeids, sessionAddresses}
 use Rattle.rules.specs.Sound.{shareTests}
 use Rattle.pool.specs.Map.{marked, mark, marks, offsets}
 
@@ -54,3 +54,24 @@ unfoldable pub tableMarks : (Session → Bool) → ℕ → List ℕ → Sessions
 tableMarks own first words [] = true
 tableMarks own first words (x ∷ m) =
     own x && (sessionMarks first words [] (sessionHoldings x) && tableMarks own first (marks words (offsets first (sessionTeids x))) m)
+
+-- ---- the two halves of `apart`
+
+-- two sessions hold no TEID in common
+unfoldable pub apartTeids : Session → Session → Bool
+apartTeids x y = not (anyIn (sessionTeids x) (sessionTeids y))
+
+-- and no address of the pool (02 (v))
+unfoldable pub apartAddresses : Settings → Session → Session → Bool
+apartAddresses s x y = not (anyIn (sessionAddresses s x) (sessionAddresses s y))
+
+-- ---- addresses: within a session one may stand any number of times, so a session's are compared with the map before any of them is marked
+
+-- the offsets of the addresses of the pool in a session's records
+unfoldable pub addressOffsets : Settings → Session → List ℕ
+addressOffsets s x = offsets (s .firstAddress) (sessionAddresses s x)
+
+-- the offsets of the sessions that are left, session by session
+unfoldable pub addressMarks : List ℕ → List (List ℕ) → Bool
+addressMarks words [] = true
+addressMarks words (is ∷ more) = not (any (marked words) is) && addressMarks (marks words is) more

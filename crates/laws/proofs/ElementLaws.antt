@@ -15,7 +15,7 @@ use Rattle.octets.specs.Choice.{flag, allOf, isNil}
 use Rattle.octets.specs.Octets.{be, number, numberAt, octetAt, bit, octets, slices, concatMap}
 use Rattle.octets.proofs.Tests.{pick-yes, pick-no, each, all-of-each, and-left, and-right}
 use Rattle.octets.proofs.Numbers.{length-be, number-be}
-use Rattle.rules.specs.Elements.{value, Fteid, given, choose, v4Flag, v6Flag, chFlag, wrongFlags, fteidLength, chosenFields, givenFields, fteidFields, readFteid, addressOf, givenTests, fteidAllowed, fteidOctets, sets, addressLength, operatorAllowed, nodeAddressTests, nodeAddressAllowed, nodeTypeKept, csidsAt, csidFields, countAllowed, checkedCsid, csidRest, readFqcsid, below16, fqcsidOctets, fseidLength, seidAnswer, readFseid, fseidOctets}
+use Rattle.rules.specs.Elements.{value, Fteid, given, choose, v4Flag, v6Flag, chFlag, wrongFlags, fteidLength, chosenFields, givenFields, fteidFields, readFteid, addressOf, givenTests, fteidAllowed, fteidOctets, UeIp, ueGiven, ueChoose, ueOther, ueUnsupported, ueFields, readUeIp, ueAllowed, ueOctets, sets, addressLength, operatorAllowed, nodeAddressTests, nodeAddressAllowed, nodeTypeKept, csidsAt, csidFields, countAllowed, checkedCsid, csidRest, readFqcsid, below16, fqcsidOctets, fseidLength, seidAnswer, readFseid, fseidOctets}
 
 -- ---- F-TEID
 
@@ -106,6 +106,15 @@ fseid-back n [] [] pos hn ha hb h = absurd h
 fseid-back n [] (y ∷ b) pos hn ha hb h = fseid-answer n [] (y ∷ b) 1 refl pos hn refl (address-length 16 (y ∷ b) hb)
 fseid-back n (x ∷ a) [] pos hn ha hb h = fseid-answer n (x ∷ a) [] 2 refl pos hn (address-length 4 (x ∷ a) ha) refl
 fseid-back n (x ∷ a) (y ∷ b) pos hn ha hb h = fseid-answer n (x ∷ a) (y ∷ b) 3 refl pos hn (address-length 4 (x ∷ a) ha) (address-length 16 (y ∷ b) hb)
+
+-- ---- UE IP Address
+
+-- reading what was written of an allowed value gives the value
+pub ue-back : (v : UeIp) → T (ueAllowed v) → readUeIp (ueOctets v) ≡ value v
+unfolding ueAllowed ueOctets readUeIp ueUnsupported ueFields bit numberAt be
+ue-back (ueGiven a) h = ap (λ (n : ℕ). value (ueGiven n)) (number-be 4 a (ltb→lt a (2 ^ 32) h))
+ue-back ueChoose h = refl
+ue-back ueOther h = absurd h
 
 -- ---- FQ-CSID with one CSID
 

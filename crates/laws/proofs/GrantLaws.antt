@@ -12,14 +12,14 @@ use lib.Dec.{T, ltb, ltb→lt, lt→ltb, lit≤}
 use lib.Pow.{areBytes}
 use Rattle.octets.specs.Choice.{valueOr, mapOption, bindOption, consOption, headOr, rest}
 use Rattle.octets.specs.Lists.{member, all, findBy, collect, range, without}
-use Rattle.octets.proofs.Tests.{pick-either, both, all-head, all-tail, all-cons}
+use Rattle.octets.proofs.Tests.{pick-either, both, and-right, all-head, all-tail, all-cons}
 use Rattle.octets.proofs.ListLaws.{Every, OnSome, every-append, every-collect}
-use Rattle.rules.specs.Model.{Settings, Sessions, heldTeids, freeTeids}
+use Rattle.rules.specs.Model.{Settings, Sessions, heldTeids, freeTeids, heldAddresses, freeAddresses}
 use Rattle.rules.specs.Elements.{Fteid, given, choose, chooseId}
 use Rattle.rules.specs.Sound.{settingsAllowed}
 use Rattle.rules.specs.Reading.{NewPdr, NewEndpoint, Request, readRequest}
-use Rattle.rules.specs.Grants.{Kind, ofPdr, ofEndpoint, sameKind, Choice, Chosen, Grant, choiceOf, endpointChoice, pdrChoice, choices, chosen, isChoice, chosenTeid, remember, grantOf, teidFor, freeAfter, chosenAfter, grantFrom, grants}
-use Rattle.laws.proofs.TableLaws.{pool-fits}
+use Rattle.rules.specs.Grants.{Kind, ofPdr, ofEndpoint, sameKind, Choice, Chosen, Grant, choiceOf, endpointChoice, pdrChoice, choices, chosen, isChoice, chosenTeid, remember, grantOf, teidFor, freeAfter, chosenAfter, grantFrom, grants, chosenAddress, grantTeid, grantedTeid}
+use Rattle.laws.proofs.TableLaws.{pool-fits, address-pool-fits}
 use Rattle.laws.proofs.ReadLaws.{FteidRead}
 use Rattle.laws.proofs.RequestLaws.{PdrRead, EndpointRead, request-read}
 
@@ -61,57 +61,58 @@ choices-read msg h =
 abbrev pub grantFits : Grant → Bool
 grantFits g = ltb (g .id) (256 ^ 2) && ltb (g .local .teid) (256 ^ 4)
 
-abbrev teidFits : ℕ → Bool
-teidFits t = ltb t (256 ^ 4)
+-- a TEID or an IPv4 address has four octets
+abbrev pub fourOctets : ℕ → Bool
+fourOctets t = ltb t (256 ^ 4)
 
 abbrev chosenFits : Chosen → Bool
 chosenFits c = ltb (c .teid) (256 ^ 4)
 
-head-fits : (free : List ℕ) → T (all teidFits free) → T (teidFits (headOr 0 free))
+head-fits : (free : List ℕ) → T (all fourOctets free) → T (fourOctets (headOr 0 free))
 head-fits [] h = tt
-head-fits (t ∷ ts) h = all-head teidFits t ts h
+head-fits (t ∷ ts) h = all-head fourOctets t ts h
 
-rest-fits : (free : List ℕ) → T (all teidFits free) → T (all teidFits (rest free))
+rest-fits : (free : List ℕ) → T (all fourOctets free) → T (all fourOctets (rest free))
 unfolding all
 rest-fits [] h = tt
-rest-fits (t ∷ ts) h = all-tail teidFits t ts h
+rest-fits (t ∷ ts) h = all-tail fourOctets t ts h
 
-known-fits : (cs : List Chosen) (i : ℕ) → T (all chosenFits cs) → T (teidFits (valueOr 0 (mapOption chosen (findBy (isChoice i) cs))))
+known-fits : (cs : List Chosen) (i : ℕ) → T (all chosenFits cs) → T (fourOctets (valueOr 0 (mapOption chosen (findBy (isChoice i) cs))))
 unfolding findBy
 known-fits [] i h = tt
 known-fits (c ∷ cs) i h =
-    pick-either (λ (o : Option Chosen). T (teidFits (valueOr 0 (mapOption chosen o)))) (isChoice i c) (some c) (findBy (isChoice i) cs)
+    pick-either (λ (o : Option Chosen). T (fourOctets (valueOr 0 (mapOption chosen o)))) (isChoice i c) (some c) (findBy (isChoice i) cs)
     (all-head chosenFits c cs h) (known-fits cs i (all-tail chosenFits c cs h))
 
 -- the TEID that is given, by what the CHOOSE ID has
-given-fits : (o : Option ℕ) (free : List ℕ) → T (teidFits (valueOr 0 o)) → T (all teidFits free) → T (teidFits (teidFor o free))
+given-fits : (o : Option ℕ) (free : List ℕ) → T (fourOctets (valueOr 0 o)) → T (all fourOctets free) → T (fourOctets (teidFor o free))
 unfolding teidFor
 given-fits none free k h = head-fits free h
 given-fits (some t) free k h = k
 
-after-fits : (o : Option ℕ) (free : List ℕ) → T (all teidFits free) → T (all teidFits (freeAfter o free))
+after-fits : (o : Option ℕ) (free : List ℕ) → T (all fourOctets free) → T (all fourOctets (freeAfter o free))
 unfolding freeAfter
 after-fits none free h = rest-fits free h
 after-fits (some t) free h = h
 
-remembered-fits : (o : Option ℕ) (cs : List Chosen) (i : Option ℕ) (free : List ℕ) → T (all chosenFits cs) → T (all teidFits free) → T (all chosenFits (chosenAfter o cs i free))
+remembered-fits : (o : Option ℕ) (cs : List Chosen) (i : Option ℕ) (free : List ℕ) → T (all chosenFits cs) → T (all fourOctets free) → T (all chosenFits (chosenAfter o cs i free))
 unfolding chosenAfter remember
 remembered-fits none cs none free h k = h
 remembered-fits none cs (some i) free h k = all-cons chosenFits (record { chooseId = i; teid = headOr 0 free }) cs (head-fits free k) h
 remembered-fits (some t) cs i free h k = h
 
-chosen-fits : (cs : List Chosen) (i : Option ℕ) → T (all chosenFits cs) → T (teidFits (valueOr 0 (chosenTeid cs i)))
+chosen-fits : (cs : List Chosen) (i : Option ℕ) → T (all chosenFits cs) → T (fourOctets (valueOr 0 (chosenTeid cs i)))
 unfolding chosenTeid
 chosen-fits cs none h = tt
 chosen-fits cs (some i) h = known-fits cs i h
 
-grants-fit-from : (cs : List Chosen) (free : List ℕ) (l : List Choice) → T (all chosenFits cs) → T (all teidFits free) → Every ChoiceRead l → T (all grantFits (grantFrom cs free l))
+grants-fit-from : (cs : List Chosen) (free : List ℕ) (l : List Choice) → T (all chosenFits cs) → T (all fourOctets free) → Every ChoiceRead l → T (all grantFits (grantFrom cs free l))
 unfolding grantFrom grantOf all
 grants-fit-from cs free [] hc hf hl = tt
 grants-fit-from cs free (c ∷ l) hc hf hl =
     let o = chosenTeid cs (c .chooseId) in
     all-cons grantFits (grantOf c (teidFor o free)) (grantFrom (chosenAfter o cs (c .chooseId) free) (freeAfter o free) l)
-    (both (ltb (c .id) (256 ^ 2)) (teidFits (teidFor o free)) (hl .0 .id) (given-fits o free (chosen-fits cs (c .chooseId) hc) hf))
+    (both (ltb (c .id) (256 ^ 2)) (fourOctets (teidFor o free)) (hl .0 .id) (given-fits o free (chosen-fits cs (c .chooseId) hc) hf))
     (grants-fit-from (chosenAfter o cs (c .chooseId) free) (freeAfter o free) l (remembered-fits o cs (c .chooseId) free hc hf) (after-fits o free hf) (hl .1))
 
 grants-length : (cs : List Chosen) (free : List ℕ) (l : List Choice) → length (grantFrom cs free l) ≡ length l
@@ -121,17 +122,17 @@ grants-length cs free (c ∷ l) = let o = chosenTeid cs (c .chooseId) in ap suc 
 
 -- ---- the grants of a request
 
-range-fits : (x n : ℕ) → x + n ≤ 256 ^ 4 → T (all teidFits (range x n))
+range-fits : (x n : ℕ) → x + n ≤ 256 ^ 4 → T (all fourOctets (range x n))
 unfolding all range
 range-fits x zero h = tt
-range-fits x (suc n) h = all-cons teidFits x (range (x + 1) n) (lt→ltb x (256 ^ 4) (omega arith)) (range-fits (x + 1) n (omega arith))
+range-fits x (suc n) h = all-cons fourOctets x (range (x + 1) n) (lt→ltb x (256 ^ 4) (omega arith)) (range-fits (x + 1) n (omega arith))
 
-without-fits : (xs ys : List ℕ) → T (all teidFits xs) → T (all teidFits (without xs ys))
+without-fits : (xs ys : List ℕ) → T (all fourOctets xs) → T (all fourOctets (without xs ys))
 unfolding all without
 without-fits [] ys h = tt
 without-fits (x ∷ xs) ys h =
-    let k = without-fits xs ys (all-tail teidFits x xs h) in
-    pick-either (λ (l : List ℕ). T (all teidFits l)) (member x ys) (without xs ys) (x ∷ without xs ys) k (all-cons teidFits x (without xs ys) (all-head teidFits x xs h) k)
+    let k = without-fits xs ys (all-tail fourOctets x xs h) in
+    pick-either (λ (l : List ℕ). T (all fourOctets l)) (member x ys) (without xs ys) (x ∷ without xs ys) k (all-cons fourOctets x (without xs ys) (all-head fourOctets x xs h) k)
 
 collect-short : {A B : Type 0} (f : A → Option B) (xs : List A) → length (collect f xs) ≤ length xs
 unfolding collect
@@ -161,3 +162,25 @@ module _ (s : Settings) (hs : T (settingsAllowed s)) (m : Sessions) (msg : List 
   pub grants-few : length (readRequest msg .pdrs) ≤ 16 → length (readRequest msg .endpoints) ≤ 8 → length (grants s m (readRequest msg)) ≤ 24
   unfolding grants
   grants-few hp he = let a = grants-length [] (freeTeids s m) (choices (readRequest msg)) in let b = choices-few (readRequest msg) hp he in omega arith
+
+-- ---- what the records of a request get
+
+found-fits : (q : Grant → Bool) (gs : List Grant) → T (all grantFits gs) → T (fourOctets (valueOr 0 (mapOption grantTeid (findBy q gs))))
+unfolding findBy
+found-fits q [] h = tt
+found-fits q (g ∷ gs) h =
+    pick-either (λ (o : Option Grant). T (fourOctets (valueOr 0 (mapOption grantTeid o)))) (q g) (some g) (findBy q gs)
+    (and-right (ltb (g .id) (256 ^ 2)) (ltb (g .local .teid) (256 ^ 4)) (all-head grantFits g gs h)) (found-fits q gs (all-tail grantFits g gs h))
+
+module _ (s : Settings) (hs : T (settingsAllowed s)) (m : Sessions) where
+  -- the address that is chosen
+  pub chosen-address-fits : T (fourOctets (chosenAddress s m))
+  unfolding chosenAddress freeAddresses
+  chosen-address-fits =
+      head-fits (freeAddresses s m) (without-fits (range (s .firstAddress) (s .addressCount)) (heldAddresses s m) (range-fits (s .firstAddress) (s .addressCount) (address-pool-fits s hs)))
+
+  module _ (msg : List ℕ) (h : T (areBytes msg)) where
+    -- the TEIDs
+    pub granted-teid-fits : (k : Kind) (i : ℕ) → T (fourOctets (grantedTeid (grants s m (readRequest msg)) k i))
+    unfolding grantedTeid
+    granted-teid-fits k i = found-fits _ (grants s m (readRequest msg)) (grants-fit s hs m msg h)

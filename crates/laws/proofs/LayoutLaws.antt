@@ -21,7 +21,7 @@ use Rattle.octets.proofs.Numbers.{number-be, length-padded, length-concatMap, s
 use Rattle.rules.specs.Model.{Settings, Tunnel, Place, neither, tunnel, endpoint, Pdr, Endpoint, Csid, Session, endpointId}
 use Rattle.rules.specs.Limits.{maxPdrs, maxEndpoints, nodeTypes}
 use Rattle.rules.specs.Elements.{addressLength, nodeTypeKept, nodeAddressAllowed, nodeAddressTests, below16}
-use Rattle.rules.specs.Sound.{poolTests, settingsTests, settingsAllowed, inPool, tunnelTests, tunnelAllowed, placeAllowed, farAllowed, pdrTests, pdrAllowed, endpointTests, endpointAllowed, csidTests, csidAllowed, sessionTests, sessionAllowed}
+use Rattle.rules.specs.Sound.{poolTests, settingsTests, settingsAllowed, inPool, tunnelTests, tunnelAllowed, placeAllowed, farAllowed, addressAllowed, pdrTests, pdrAllowed, endpointTests, endpointAllowed, csidTests, csidAllowed, sessionTests, sessionAllowed}
 use Rattle.rules.specs.Layout.{families, optionRead, tunnelRead, pdrWidths, matchKind, matchTeid, matchFamilies, matchEndpoint, placeRead, pdrNumbers, pdrFrom, endpointWidths, endpointNumbers, endpointFrom, csidSlotWidths, csidSlotNumbers, addressRead, csidFrom, pdrWidth, endpointWidth, csidWidth, sessionWidth, area, pdrOctets, endpointOctets, csidOctets, sessionOctets, viewPdr, viewEndpoint, viewCsid, viewArea, viewSession}
 
 -- ---- areas
@@ -108,6 +108,11 @@ unfolding farAllowed
 value-fits none h = lit< tt
 value-fits (some n) h = ltb→lt n (2 ^ 32) h
 
+ue-fits : (o : Option ℕ) → T (addressAllowed o) → valueOr 0 o < 256 ^ 4
+unfolding addressAllowed
+ue-fits none h = lit< tt
+ue-fits (some a) h = ltb→lt a (2 ^ 32) h
+
 place-back : (l : Place) → placeRead (matchKind l) (matchTeid l) (matchFamilies l) (matchEndpoint l) ≡ l
 unfolding placeRead matchKind matchTeid matchFamilies matchEndpoint
 place-back neither = refl
@@ -116,11 +121,11 @@ place-back (endpoint e) = refl
 
 pdr-numbers : (p : Pdr) → pdrFrom (pdrNumbers p) ≡ p
 unfolding pdrFrom pdrNumbers
-pdr-numbers p = λ j. record { id = p .id; precedence = p .precedence; far = option-back (p .far) j; source = p .source; place = place-back (p .place) j }
+pdr-numbers p = λ j. record { id = p .id; precedence = p .precedence; far = option-back (p .far) j; source = p .source; place = place-back (p .place) j; address = option-back (p .address) j }
 
 endpoint-numbers : (e : Endpoint) → endpointFrom (endpointNumbers e) ≡ e
 unfolding endpointFrom endpointNumbers
-endpoint-numbers e = λ j. record { id = e .id; local = tunnel-back (e .local) j }
+endpoint-numbers e = λ j. record { id = e .id; local = tunnel-back (e .local) j; address = option-back (e .address) j }
 
 record PlaceFits (l : Place) : Type 0 where
   kind : matchKind l < 256
@@ -150,7 +155,7 @@ module _ (s : Settings) (hs : s .first + s .size ≤ 2 ^ 32) where
               value-fits (p .far) (e .1 .1 .0),
               (
                 lt-of-lt-of-le (ltb→lt (p .source) 16 (e .1 .1 .1 .0)) (lit≤ tt),
-                (l .kind, (l .teid, (l .families, (l .endpoint, tt)))),
+                (l .kind, (l .teid, (l .families, (l .endpoint, (there-fits (p .address), (ue-fits (p .address) (e .1 .1 .1 .1 .1 .0), tt)))))),
               ),
             ),
           ),
@@ -161,7 +166,7 @@ module _ (s : Settings) (hs : s .first + s .size ≤ 2 ^ 32) where
   unfolding endpointAllowed endpointTests endpointNumbers
   endpoint-fits e h =
       let t = each (endpointTests s e) h in
-      all-fit endpointWidths _ (ltb→lt (e .id) 256 (t .0), (teid-below s hs (e .local) (t .1 .0), (families-fit (e .local), tt)))
+      all-fit endpointWidths _ (ltb→lt (e .id) 256 (t .0), (teid-below s hs (e .local) (t .1 .0), (families-fit (e .local), (there-fits (e .address), (ue-fits (e .address) (t .1 .1 .0), tt)))))
 
 module _ (s : Settings) (hs : T (settingsAllowed s)) where
   pub pdr-back : (live : List ℕ) (p : Pdr) → T (pdrAllowed s live p) → viewPdr (pdrOctets p) ≡ p
@@ -251,13 +256,13 @@ length-csid c = length-fieldOctets csidSlotWidths (csidSlotNumbers c) refl
 
 -- ---- what is read, octet by octet
 
-pub pdr-view : (xs : List ℕ) → viewPdr xs ≡ record { id = number (part 0 2 xs); precedence = number (part 2 4 xs); far = optionRead (getD xs 6 0) (number (part 7 4 xs)); source = getD xs 11 0; place = placeRead (getD xs 12 0) (number (part 13 4 xs)) (getD xs 17 0) (getD xs 18 0) }
+pub pdr-view : (xs : List ℕ) → viewPdr xs ≡ record { id = number (part 0 2 xs); precedence = number (part 2 4 xs); far = optionRead (getD xs 6 0) (number (part 7 4 xs)); source = getD xs 11 0; place = placeRead (getD xs 12 0) (number (part 13 4 xs)) (getD xs 17 0) (getD xs 18 0); address = optionRead (getD xs 19 0) (number (part 20 4 xs)) }
 unfolding viewPdr pdrFrom fieldsAt
-pdr-view xs = rw (octet-field 6 xs, octet-field 11 xs, octet-field 12 xs, octet-field 17 xs, octet-field 18 xs)
+pdr-view xs = rw (octet-field 6 xs, octet-field 11 xs, octet-field 12 xs, octet-field 17 xs, octet-field 18 xs, octet-field 19 xs)
 
-pub endpoint-view : (xs : List ℕ) → viewEndpoint xs ≡ record { id = getD xs 0 0; local = tunnelRead (number (part 1 4 xs)) (getD xs 5 0) }
+pub endpoint-view : (xs : List ℕ) → viewEndpoint xs ≡ record { id = getD xs 0 0; local = tunnelRead (number (part 1 4 xs)) (getD xs 5 0); address = optionRead (getD xs 6 0) (number (part 7 4 xs)) }
 unfolding viewEndpoint endpointFrom fieldsAt
-endpoint-view xs = rw (octet-field 0 xs, octet-field 5 xs)
+endpoint-view xs = rw (octet-field 0 xs, octet-field 5 xs, octet-field 6 xs)
 
 -- ---- sessions
 

@@ -4,8 +4,10 @@ pub mod LayoutLaws
 pub mod TableLaws
 pub mod HeaderLaws
 pub mod MessageLaws
+pub mod RangeLaws
 pub mod ReadLaws
 pub mod ReplyLaws
+pub mod ReportLaws
 pub mod RequestLaws
 pub mod GrantLaws
 pub mod CsidLaws

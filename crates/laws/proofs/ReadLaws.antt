@@ -1,4 +1,4 @@
--- What is read from a request's octets: the widths of its fields, and the rules that a read F-TEID, FQ-CSID and F-SEID keep.
+-- What is read from a request's octets: the widths of its fields, and the rules that a read F-TEID, UE IP Address, FQ-CSID and F-SEID keep.
 -- Assumes nothing.
 use mathlib.Core.Path.{_≡_, refl, sym, subst}
 use mathlib.Core.Logic.{_≢_}
@@ -11,13 +11,13 @@ use lib.ListN.{length, take, drop, length-take}
 use lib.Dec.{T, leb, ltb, eqb, lt→ltb, nltb→le, lit<}
 use mir.Facts.{yes-leb, yes-eqb}
 use lib.Pow.{areBytes}
-use Rattle.octets.specs.Choice.{pick, isNil, flag, allOf, headOr}
+use Rattle.octets.specs.Choice.{pick, isNil, flag, allOf, headOr, sameBool}
 use Rattle.octets.specs.Octets.{number, part, numberAt, octetAt, bit, slices}
-use Rattle.octets.proofs.Tests.{Each, each, all-of-each, and-left, and-right}
+use Rattle.octets.proofs.Tests.{Each, each, all-of-each, and-left, and-right, pick-either}
 use Rattle.octets.proofs.ListLaws.{pick-cases, not-not, or-fails, or-by-right, OnSome}
 use Rattle.laws.proofs.BoundLaws.{field-bound, bytes-take, bytes-drop}
 use Rattle.octets.proofs.Ordered.{ne-of}
-use Rattle.rules.specs.Elements.{Refusal, tooShort, incorrect, Answer, refuse, value, Fteid, given, choose, v4Flag, v6Flag, chFlag, chidFlag, wrongFlags, fteidLength, chosenFields, givenFields, fteidFields, readFteid, hasV4, hasV6, chooseId, Fqcsid, sets, removal, addressLength, operatorAllowed, nodeAddressTests, nodeAddressAllowed, nodeTypeKept, csidsAt, csidFields, countAllowed, checkedCsid, csidRest, readFqcsid, below16, fseidLength, seidAnswer, readFseid}
+use Rattle.rules.specs.Elements.{Refusal, tooShort, incorrect, Answer, refuse, value, Fteid, given, choose, v4Flag, v6Flag, chFlag, chidFlag, wrongFlags, fteidLength, chosenFields, givenFields, fteidFields, readFteid, hasV4, hasV6, chooseId, UeIp, ueGiven, ueChoose, ueOther, ueV4, ueChv4, ueUnsupported, ueFields, readUeIp, ueAddress, Fqcsid, sets, removal, addressLength, operatorAllowed, nodeAddressTests, nodeAddressAllowed, nodeTypeKept, csidsAt, csidFields, countAllowed, checkedCsid, csidRest, readFqcsid, below16, fseidLength, seidAnswer, readFseid}
 use Rattle.rules.specs.Reading.{Reading, faulty, done, andThen, named, need, once}
 
 -- ---- answers and readings
@@ -133,6 +133,25 @@ fteid-read e (f ∷ xs) h =
   where
     P : Answer Fteid → Type 0
     P a = OnValue (FteidRead e) a
+
+-- ---- UE IP Address
+
+-- what is used of one that was read: an address has four octets
+abbrev pub UeRead : UeIp → Type 0
+UeRead v = OnSome (λ a. T (ltb a (2 ^ 32))) (ueAddress v)
+
+pub ue-read : (xs : List ℕ) → T (areBytes xs) → OnValue UeRead (readUeIp xs)
+unfolding readUeIp ueFields ueAddress
+ue-read [] h = tt
+ue-read (f ∷ xs) h =
+    pick-either P (ueUnsupported f) (value ueOther) _ tt
+    (pick-either P (sameBool (ueV4 f) (ueChv4 f)) (refuse incorrect) _ tt
+    (pick-either P (ueChv4 f) (value ueChoose) _ tt
+    (pick-either P (ltb (length xs) 4) (refuse tooShort) (value (ueGiven (numberAt 0 4 xs))) tt
+    (lt→ltb (numberAt 0 4 xs) (2 ^ 32) (field-bound 4 xs (and-right (ltb f 256) (areBytes xs) h))))))
+  where
+    P : Answer UeIp → Type 0
+    P a = OnValue UeRead a
 
 -- ---- FQ-CSID
 

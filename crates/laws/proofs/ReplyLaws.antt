@@ -17,9 +17,8 @@ use Rattle.octets.proofs.Numbers.{number-be}
 use Rattle.rules.specs.Model.{Settings}
 use Rattle.rules.specs.Message.{Element, elements, seidThere, headerLength, body, kindOf, headerSeid, sequenceOf, hasType, contentIn, contentOf, establishment, setDeletion}
 use Rattle.laws.proofs.MessageLaws.{Fits, el, elements-cons}
-use Rattle.rules.specs.Grants.{Grant}
 use Rattle.rules.specs.Stages.{Verdict}
-use Rattle.rules.specs.Reply.{element, message, listMessage, nodeIdElement, offendingElement, acceptedPart, replyBody, replySeid, reply}
+use Rattle.rules.specs.Reply.{Reports, element, message, listMessage, nodeIdElement, offendingElement, acceptedPart, replyBody, replySeid, reply}
 use Rattle.rules.specs.Live.{replyIn, replyElements, replyCause}
 use Rattle.rules.specs.Types as ie
 use Rattle.rules.specs.Causes as why
@@ -88,7 +87,7 @@ module _ (kind : ℕ) (q xs space : List ℕ) (three : length q ≡ 3) (short : 
 
 -- ---- a reply in its space
 
-module _ (s : Settings) (msg : List ℕ) (seid : ℕ) (v : Verdict) (gs : List Grant) (space : List ℕ) (three : length (sequenceOf msg) ≡ 3) (short : length (replyBody (kindOf msg) s seid v gs) ≤ 2000) where
+module _ (s : Settings) (msg : List ℕ) (seid : ℕ) (v : Verdict) (gs : Reports) (space : List ℕ) (three : length (sequenceOf msg) ≡ 3) (short : length (replyBody (kindOf msg) s seid v gs) ≤ 2000) where
   abbrev kind : ℕ
   kind = kindOf msg + 1
 
@@ -141,7 +140,7 @@ cause-first true s c rest four =
 cause-first false s c rest four = ap (λ (es : List Element). mapOption contentIn (findBy (hasType ie.cause) es)) (elements-cons ie.cause (c ∷ []) rest (one-fits ie.cause (lit< tt) c) 0)
 
 -- the reply's cause is the verdict's
-pub reply-cause : (s : Settings) (msg : List ℕ) (seid : ℕ) (v : Verdict) (gs : List Grant) (space : List ℕ)
+pub reply-cause : (s : Settings) (msg : List ℕ) (seid : ℕ) (v : Verdict) (gs : Reports) (space : List ℕ)
     → length (s .ipv4) ≡ 4 → length (sequenceOf msg) ≡ 3 → length (replyBody (kindOf msg) s seid v gs) ≤ 2000
     → replyCause (put 0 (reply s msg seid v gs) space) ≡ v .cause
 unfolding replyCause replyBody nodeIdElement octetAt

@@ -16,12 +16,12 @@ use Rattle.octets.specs.Lists.{all, any, member, collect}
 use Rattle.octets.proofs.Tests.{pick-either, is-true, all-head, all-tail}
 use Rattle.octets.proofs.ListLaws.{Every, OnSome, pick-cases, every-append, every-collect}
 use Rattle.laws.proofs.BoundLaws.{clean, clean-elements, clean-body, field-bound}
-use Rattle.laws.proofs.ReadLaws.{OnValue, OnDone, anything, named-done, once-done, then-done, need-done, FteidRead, CsidRead, SeidRead, fteid-read, fqcsid-read, fseid-read}
-use Rattle.rules.specs.Elements.{missing, conditional, incorrect, Fteid, Fqcsid, readFteid, readFqcsid, readFseid, nodeOf}
+use Rattle.laws.proofs.ReadLaws.{OnValue, OnDone, anything, named-done, once-done, then-done, need-done, FteidRead, UeRead, CsidRead, SeidRead, fteid-read, ue-read, fqcsid-read, fseid-read}
+use Rattle.rules.specs.Elements.{missing, conditional, incorrect, Fteid, Fqcsid, readFteid, readUeIp, readFqcsid, readFseid, nodeOf}
 use Rattle.rules.specs.Sound.{farAllowed}
 use Rattle.rules.specs.Types as ie
 use Rattle.rules.specs.Message.{establishment, modification, setDeletion, kindOf, headerLength, body, inside, Element, elements, actedOn, placesOf, numberWidth}
-use Rattle.rules.specs.Reading.{NewPdr, NewEndpoint, Change, Item, createsPdr, createsEndpoint, updatesPdr, removesPdr, removesEndpoint, setsCsid, clearsCsids, updatesEndpoint, CsidChanges, cleared, changed, Request, Reading, faulty, done, refusal, named, Members, noMembers, withPdi, withLocal, holds, numberRead, farRead, pdiIn, valueRead, memberRead, membersRead, unopened, pdiEnd, pdiRead, pdrFrom, endpointFrom, changeFrom, itemFrom, groupRead, Draft, emptyDraft, withSeid, withRestores, withNode, withItem, seidRead, flagsRead, csidCountAllowed, withCsid, csidRead, actedRead, elementRead, elementsRead, pdrIn, endpointIn, changeIn, csidIn, clears, restoringIn, requestOf, createsAny, finished, aloneIn, sessionRead, listRead, listing, topRead, read, faultIn, readFault, askedIn, readRequest}
+use Rattle.rules.specs.Reading.{NewPdr, NewEndpoint, Change, Item, createsPdr, createsEndpoint, updatesPdr, removesPdr, removesEndpoint, setsCsid, clearsCsids, updatesEndpoint, CsidChanges, cleared, changed, Request, Reading, faulty, done, refusal, named, Members, noMembers, withPdi, withLocal, withAddress, holds, numberRead, farRead, pdiIn, valueRead, memberRead, membersRead, unopened, pdiEnd, pdiRead, pdrFrom, endpointFrom, changeFrom, itemFrom, groupRead, Draft, emptyDraft, withSeid, withRestores, withNode, withItem, seidRead, flagsRead, csidCountAllowed, withCsid, csidRead, actedRead, elementRead, elementsRead, pdrIn, endpointIn, changeIn, csidIn, clears, restoringIn, requestOf, createsAny, finished, aloneIn, sessionRead, listRead, listing, topRead, read, faultIn, readFault, askedIn, readRequest}
 
 -- ---- the records
 
@@ -33,11 +33,13 @@ pub record PdrRead (p : NewPdr) : Type 0 where
   pub source : T (ltb (p .source) 16)
   pub local : OnSome (FteidRead false) (p .local)
   pub endpoint : OnSome (λ e. T (ltb e 256)) (p .endpoint)
+  pub address : OnSome UeRead (p .address)
 
 -- the fields of a Create Traffic Endpoint
 pub record EndpointRead (e : NewEndpoint) : Type 0 where
   pub id : T (ltb (e .id) 256)
   pub local : FteidRead true (e .local)
+  pub address : OnSome UeRead (e .address)
 
 -- the fields of an Update PDR
 pub record ChangeRead (c : Change) : Type 0 where
@@ -65,6 +67,7 @@ record MembersRead (e : Bool) (m : Members) : Type 0 where
   source : OnSome (λ n. T (ltb n 16)) (m .source)
   local : OnSome (FteidRead e) (m .local)
   endpointId : OnSome (λ n. T (ltb n 256)) (m .endpointId)
+  address : OnSome UeRead (m .address)
 
 -- a number is below 256 to its width
 number-read : (t w p : ℕ) (v : List ℕ) → numberWidth t ≡ w → T (areBytes v) → OnDone (λ n. T (ltb n (256 ^ w))) (numberRead t p v)
@@ -98,7 +101,7 @@ module _ (inner : ℕ → List ℕ → Members → Reading Members) (keeps : Kee
   Kept m = MembersRead (eqb g ie.createEndpoint) m
 
   with-pdi : (e : Bool) (m : Members) → MembersRead e m → MembersRead e (withPdi m)
-  with-pdi e m b = record { pdrId = b .pdrId; precedence = b .precedence; far = b .far; source = b .source; local = b .local; endpointId = b .endpointId }
+  with-pdi e m b = record { pdrId = b .pdrId; precedence = b .precedence; far = b .far; source = b .source; local = b .local; endpointId = b .endpointId; address = b .address }
 
   pdi-in : (p : ℕ) (v : List ℕ) (m : Members) → T (areBytes v) → Kept m → OnDone Kept (pdiIn inner g p v m)
   unfolding pdiIn
@@ -113,22 +116,25 @@ module _ (inner : ℕ → List ℕ → Members → Reading Members) (keeps : Kee
   value-read t p v m h b =
       pick-cases (OnDone Kept) (eqb t ie.pdrId) _ _
       (λ c. then-done (λ n. T (ltb n (2 ^ 16))) Kept (numberRead t p v) _ (number-read t 2 p v (width-of t ie.pdrId c) h)
-      (λ n k. record { pdrId = k; precedence = b .precedence; far = b .far; source = b .source; local = b .local; endpointId = b .endpointId }))
+      (λ n k. record { pdrId = k; precedence = b .precedence; far = b .far; source = b .source; local = b .local; endpointId = b .endpointId; address = b .address }))
       (λ c₁. pick-cases (OnDone Kept) (eqb t ie.precedence) _ _
       (λ c. then-done (λ n. T (ltb n (2 ^ 32))) Kept (numberRead t p v) _ (number-read t 4 p v (width-of t ie.precedence c) h)
-      (λ n k. record { pdrId = b .pdrId; precedence = k; far = b .far; source = b .source; local = b .local; endpointId = b .endpointId }))
+      (λ n k. record { pdrId = b .pdrId; precedence = k; far = b .far; source = b .source; local = b .local; endpointId = b .endpointId; address = b .address }))
       (λ c₂. pick-cases (OnDone Kept) (eqb t ie.farId) _ _
       (λ _. then-done (λ f. T (farAllowed f)) Kept (farRead g p v) _ (far-read g p v h)
-      (λ f k. record { pdrId = b .pdrId; precedence = b .precedence; far = k; source = b .source; local = b .local; endpointId = b .endpointId }))
+      (λ f k. record { pdrId = b .pdrId; precedence = b .precedence; far = k; source = b .source; local = b .local; endpointId = b .endpointId; address = b .address }))
       (λ c₃. pick-either (OnDone Kept) (eqb t ie.pdi) _ _ (pdi-in p v m h b)
       (pick-cases (OnDone Kept) (eqb t ie.sourceInterface) _ _
       (λ c. then-done (λ n. T (ltb n 256)) Kept (numberRead t p v) _ (number-read t 1 p v (width-of t ie.sourceInterface c) h)
-      (λ n _. record { pdrId = b .pdrId; precedence = b .precedence; far = b .far; source = lt→ltb (n % 16) 16 (mod-lt n (zero-lt-suc 15)); local = b .local; endpointId = b .endpointId }))
+      (λ n _. record { pdrId = b .pdrId; precedence = b .precedence; far = b .far; source = lt→ltb (n % 16) 16 (mod-lt n (zero-lt-suc 15)); local = b .local; endpointId = b .endpointId; address = b .address }))
       (λ _. pick-either (OnDone Kept) (eqb t ie.fteid) _ _
       (then-done (FteidRead (eqb g ie.createEndpoint)) Kept (named t p (readFteid (eqb g ie.createEndpoint) v)) (λ y. done (withLocal y m)) (named-done (FteidRead (eqb g ie.createEndpoint)) t p (readFteid (eqb g ie.createEndpoint) v) (fteid-read (eqb g ie.createEndpoint) v h))
-      (λ y k. record { pdrId = b .pdrId; precedence = b .precedence; far = b .far; source = b .source; local = k; endpointId = b .endpointId }))
+      (λ y k. record { pdrId = b .pdrId; precedence = b .precedence; far = b .far; source = b .source; local = k; endpointId = b .endpointId; address = b .address }))
+      (pick-either (OnDone Kept) (eqb t ie.ueIpAddress) _ _
+      (then-done UeRead Kept (named t p (readUeIp v)) (λ y. done (withAddress y m)) (named-done UeRead t p (readUeIp v) (ue-read v h))
+      (λ y k. record { pdrId = b .pdrId; precedence = b .precedence; far = b .far; source = b .source; local = b .local; endpointId = b .endpointId; address = k }))
       (then-done (λ n. T (ltb n 256)) Kept (numberRead t p v) _ (number-read t 1 p v (other-width (eqb t ie.pdrId) (eqb t ie.precedence) (eqb t ie.farId) c₁ c₂ c₃) h)
-      (λ n k. record { pdrId = b .pdrId; precedence = b .precedence; far = b .far; source = b .source; local = b .local; endpointId = k })))))))
+      (λ n k. record { pdrId = b .pdrId; precedence = b .precedence; far = b .far; source = b .source; local = b .local; endpointId = k; address = b .address }))))))))
 
   member-read : (e : Element) (m : Members) → T (clean e) → Kept m → OnDone Kept (memberRead inner g e m)
   unfolding memberRead
@@ -159,7 +165,7 @@ module _ (e : Bool) (p : ℕ) (m : Members) (b : MembersRead e m) where
       (need-done (λ n. T (ltb n (2 ^ 32))) ItemRead missing ie.precedence p (m .precedence) _ (b .precedence)
       (λ n hn. need-done (λ i. T (ltb i (2 ^ 16))) ItemRead missing ie.pdrId p (m .pdrId) _ (b .pdrId)
       (λ i hi. need-done (λ c. T (ltb c 16)) ItemRead missing ie.sourceInterface p (m .source) _ (b .source)
-      (λ c hc. record { id = hi; precedence = hn; far = flat (m .far) (b .far); source = hc; local = weaker (m .local) (b .local); endpoint = b .endpointId }))))
+      (λ c hc. record { id = hi; precedence = hn; far = flat (m .far) (b .far); source = hc; local = weaker (m .local) (b .local); endpoint = b .endpointId; address = b .address }))))
       tt
     where
       flat : (o : Option (Option ℕ)) → OnSome (λ f. T (farAllowed f)) o → T (farAllowed (bindOption o (λ f. f)))
@@ -174,7 +180,7 @@ module _ (e : Bool) (p : ℕ) (m : Members) (b : MembersRead e m) where
   unfolding endpointFrom
   endpoint-from c =
       need-done (FteidRead true) ItemRead conditional ie.fteid p (m .local) _ (subst (λ (x : Bool). OnSome (FteidRead x) (m .local)) (is-true e c) (b .local))
-      (λ v hv. need-done (λ i. T (ltb i 256)) ItemRead missing ie.endpointId p (m .endpointId) _ (b .endpointId) (λ i hi. record { id = hi; local = hv }))
+      (λ v hv. need-done (λ i. T (ltb i 256)) ItemRead missing ie.endpointId p (m .endpointId) _ (b .endpointId) (λ i hi. record { id = hi; local = hv; address = b .address }))
 
   change-from : OnDone ItemRead (changeFrom p m)
   unfolding changeFrom
@@ -195,7 +201,7 @@ group-read : (g p : ℕ) (v : List ℕ) → T (areBytes v) → OnDone ItemRead (
 unfolding groupRead
 group-read g p v h =
     then-done (MembersRead (eqb g ie.createEndpoint)) ItemRead (membersRead pdiRead g (elements (inside p) v) noMembers) (itemFrom g p)
-    (members-read pdiRead pdi-read g (elements (inside p) v) noMembers (clean-elements (inside p) v h) (record { pdrId = tt; precedence = tt; far = tt; source = tt; local = tt; endpointId = tt }))
+    (members-read pdiRead pdi-read g (elements (inside p) v) noMembers (clean-elements (inside p) v h) (record { pdrId = tt; precedence = tt; far = tt; source = tt; local = tt; endpointId = tt; address = tt }))
     (item-from g p)
 
 -- ---- the top of a message

@@ -7,7 +7,7 @@ use native.Mathlib.Omega.{arith}
 use mathlib.Core.Bool.{not}
 use mathlib.Core.List.{List, [], _∷_, _++_, map, append-assoc, append-nil}
 use lib.ListN.{length, take, drop, length-append}
-use lib.Dec.{T, eqb, eqb→eq, leb→le}
+use lib.Dec.{T, eqb, eqb→eq, leb→le, lit<}
 use mir.Facts.{yes-eqb}
 use lib.Seq.{take-at, drop-at, drop-drop}
 use Rattle.octets.specs.Choice.{pick, flag, isNil}
@@ -16,7 +16,8 @@ use Rattle.octets.specs.Lists.{all}
 use Rattle.octets.proofs.Tests.{each, Each, all-of-each, of-true}
 use Rattle.octets.proofs.Numbers.{same-refl, number-be, length-padded}
 use Rattle.rules.specs.Model.{Settings, Sessions}
-use Rattle.rules.specs.Sound.{poolTests, ipv6Allowed, settingsTests, settingsAllowed, sessionAllowed, sessionsTests, sessionsAllowed, soundTests, sound}
+use Rattle.rules.specs.Limits.{maxAddresses}
+use Rattle.rules.specs.Sound.{poolTests, addressPoolTests, ipv6Allowed, settingsTests, settingsAllowed, sessionAllowed, sessionsTests, sessionsAllowed, soundTests, sound}
 use Rattle.rules.specs.Layout.{headWidth, sessionWidth, tableLength, area, sessionOctets, settingsOctets, encode, viewArea, viewSession, viewSettings, viewSessions, settingsWidth}
 use Rattle.laws.proofs.LayoutLaws.{length-area, area-back, length-session, session-back}
 
@@ -48,30 +49,32 @@ ipv6-back (y ∷ ys) r t h =
     let z = zeros (16 - length v) in
     ap (take 16) (append-assoc (v ++ z) r t ∙ append-assoc v z (r ++ t)) ∙ take-at v (z ++ (r ++ t)) 16 (eqb→eq (length v) 16 h)
 
-module _ (a b c d : ℕ) (v : List ℕ) (f n : ℕ) (t : List ℕ) (hv : T (ipv6Allowed v)) where
+module _ (a b c d : ℕ) (v : List ℕ) (f n u k : ℕ) (t : List ℕ) (hv : T (ipv6Allowed v)) where
   -- the settings in cells, with what follows them in a table
   tail : List ℕ
-  tail = be 4 f ++ be 4 n
+  tail = be 4 f ++ (be 4 n ++ (be 4 u ++ be 4 k))
 
   full : length (padded 16 v) ≡ 16
   full = length-padded 16 v (ipv6-short v hv)
 
-  cells : f < 256 ^ 4 → n < 256 ^ 4
-      → viewSettings (settingsOctets (record { ipv4 = a ∷ b ∷ c ∷ d ∷ []; ipv6 = v; first = f; size = n }) ++ t)
-      ≡ record { ipv4 = a ∷ b ∷ c ∷ d ∷ []; ipv6 = v; first = f; size = n }
+  cells : f < 256 ^ 4 → n < 256 ^ 4 → u < 256 ^ 4 → k < 256 ^ 4
+      → viewSettings (settingsOctets (record { ipv4 = a ∷ b ∷ c ∷ d ∷ []; ipv6 = v; first = f; size = n; firstAddress = u; addressCount = k }) ++ t)
+      ≡ record { ipv4 = a ∷ b ∷ c ∷ d ∷ []; ipv6 = v; first = f; size = n; firstAddress = u; addressCount = k }
   unfolding viewSettings settingsOctets numberAt octetAt be tail
-  cells hf hn =
+  cells hf hn hu hk =
       λ j. record {
         ipv4 = a ∷ b ∷ c ∷ d ∷ [];
         ipv6 = ipv6-back v tail t hv j;
         first = (ap (λ (xs : List ℕ). number (take 4 xs)) (after16 (padded 16 v) tail t full 0) ∙ number-be 4 f hf) j;
         size = (ap (λ (xs : List ℕ). number (take 4 xs)) (after16 (padded 16 v) tail t full 4) ∙ number-be 4 n hn) j;
+        firstAddress = (ap (λ (xs : List ℕ). number (take 4 xs)) (after16 (padded 16 v) tail t full 8) ∙ number-be 4 u hu) j;
+        addressCount = (ap (λ (xs : List ℕ). number (take 4 xs)) (after16 (padded 16 v) tail t full 12) ∙ number-be 4 k hk) j;
       }
 
-  -- and what stands k octets after them
-  past : (k : ℕ) → drop (16 + (8 + k)) ((padded 16 v ++ tail) ++ t) ≡ drop k t
+  -- and what stands i octets after them
+  past : (i : ℕ) → drop (16 + (16 + i)) ((padded 16 v ++ tail) ++ t) ≡ drop i t
   unfolding tail be
-  past k = after16 (padded 16 v) tail t full (8 + k) ∙ sym (drop-drop k 8 (tail ++ t))
+  past i = after16 (padded 16 v) tail t full (16 + i) ∙ sym (drop-drop i 16 (tail ++ t))
 
 -- ---- tables
 
@@ -107,20 +110,37 @@ module _ (s : Settings) (hs : T (settingsAllowed s)) where
   unfolding poolTests
   size-fits = let one : 1 ≤ s .first = leb→le 1 (s .first) (poolFacts .0) in omega (arith, pool-fits)
 
+  addressFacts : Each (addressPoolTests (s .firstAddress) (s .addressCount))
+  unfolding settingsTests
+  addressFacts = each (addressPoolTests (s .firstAddress) (s .addressCount)) (settingsFacts .1 .1 .1 .1 .1 .0)
+
+  pub address-pool-fits : s .firstAddress + s .addressCount ≤ 256 ^ 4
+  unfolding addressPoolTests
+  address-pool-fits = leb→le (s .firstAddress + s .addressCount) (2 ^ 32) (addressFacts .1 .1 .0)
+
+  first-address-fits : s .firstAddress < 256 ^ 4
+  unfolding addressPoolTests
+  first-address-fits = let one : 1 ≤ s .addressCount = leb→le 1 (s .addressCount) (addressFacts .0) in omega (arith, address-pool-fits)
+
+  address-count-fits : s .addressCount < 256 ^ 4
+  unfolding addressPoolTests
+  address-count-fits = lt-of-le-of-lt (leb→le (s .addressCount) maxAddresses (addressFacts .1 .0)) (lit< tt)
+
   pub settings-back : (t : List ℕ) → viewSettings (settingsOctets s ++ t) ≡ s
   settings-back t =
       four
-      (λ (v : List ℕ). viewSettings (settingsOctets (record { ipv4 = v; ipv6 = s .ipv6; first = s .first; size = s .size }) ++ t)
-      ≡ record { ipv4 = v; ipv6 = s .ipv6; first = s .first; size = s .size })
-      (λ a b c d. cells a b c d (s .ipv6) (s .first) (s .size) t ipv6-ok first-fits size-fits)
+      (λ (v : List ℕ). viewSettings (settingsOctets (record { ipv4 = v; ipv6 = s .ipv6; first = s .first; size = s .size; firstAddress = s .firstAddress; addressCount = s .addressCount }) ++ t)
+      ≡ record { ipv4 = v; ipv6 = s .ipv6; first = s .first; size = s .size; firstAddress = s .firstAddress; addressCount = s .addressCount })
+      (λ a b c d. cells a b c d (s .ipv6) (s .first) (s .size) (s .firstAddress) (s .addressCount) t ipv6-ok first-fits size-fits first-address-fits address-count-fits)
       (s .ipv4) ipv4-four
 
   pub length-settings : length (settingsOctets s) ≡ settingsWidth
   unfolding settingsOctets be
   length-settings =
-      length-append (s .ipv4) (flag (not (isNil (s .ipv6))) ∷ padded 16 (s .ipv6) ++ (be 4 (s .first) ++ be 4 (s .size)))
+      let numbers = be 4 (s .first) ++ (be 4 (s .size) ++ (be 4 (s .firstAddress) ++ be 4 (s .addressCount))) in
+      length-append (s .ipv4) (flag (not (isNil (s .ipv6))) ∷ padded 16 (s .ipv6) ++ numbers)
       ∙ ap₂ (λ (i j : ℕ). i + suc j) ipv4-four
-      (length-append (padded 16 (s .ipv6)) (be 4 (s .first) ++ be 4 (s .size)) ∙ ap (λ (k : ℕ). k + 8) (length-padded 16 (s .ipv6) (ipv6-short (s .ipv6) ipv6-ok)))
+      (length-append (padded 16 (s .ipv6)) numbers ∙ ap (λ (k : ℕ). k + 16) (length-padded 16 (s .ipv6) (ipv6-short (s .ipv6) ipv6-ok)))
 
   module _ (limit : ℕ) (small : limit < 256 ^ 2) (m : Sessions) (hm : T (sessionsAllowed limit s m)) where
     sessionsFacts : Each (sessionsTests limit s m)
@@ -148,10 +168,10 @@ module _ (s : Settings) (hs : T (settingsAllowed s)) where
         ∙ area-back sessionOctets sessionWidth (sessionAllowed s) (length-session s hs) viewSession (session-back s hs) limit m eachSession []
 
     sessions-cells : (a b c d : ℕ)
-        → viewSessions (settingsOctets (record { ipv4 = a ∷ b ∷ c ∷ d ∷ []; ipv6 = s .ipv6; first = s .first; size = s .size }) ++ after) ≡ m
+        → viewSessions (settingsOctets (record { ipv4 = a ∷ b ∷ c ∷ d ∷ []; ipv6 = s .ipv6; first = s .first; size = s .size; firstAddress = s .firstAddress; addressCount = s .addressCount }) ++ after) ≡ m
     unfolding viewSessions viewArea settingsOctets numberAt after be tail
     sessions-cells a b c d =
-        let behind = past a b c d (s .ipv6) (s .first) (s .size) after ipv6-ok in
+        let behind = past a b c d (s .ipv6) (s .first) (s .size) (s .firstAddress) (s .addressCount) after ipv6-ok in
         ap₂ (λ (k : ℕ) (xs : List ℕ). map viewSession (slices sessionWidth k xs))
         (ap (λ (xs : List ℕ). number (take 2 xs)) (behind 0) ∙ number-be 2 (length m) (lt-of-le-of-lt fewSessions small))
         (behind 2)
@@ -161,7 +181,7 @@ module _ (s : Settings) (hs : T (settingsAllowed s)) where
     pub sessions-back : viewSessions (encode limit s m) ≡ m
     unfolding encode after sessionArea
     sessions-back =
-        four (λ (v : List ℕ). viewSessions (settingsOctets (record { ipv4 = v; ipv6 = s .ipv6; first = s .first; size = s .size }) ++ after) ≡ m)
+        four (λ (v : List ℕ). viewSessions (settingsOctets (record { ipv4 = v; ipv6 = s .ipv6; first = s .first; size = s .size; firstAddress = s .firstAddress; addressCount = s .addressCount }) ++ after) ≡ m)
         sessions-cells (s .ipv4) ipv4-four
 
     -- and so are the settings

@@ -12,7 +12,7 @@ use Rattle.octets.specs.Choice.{pick, flag}
 use Rattle.octets.specs.Lists.{member, any, keep}
 use Rattle.octets.proofs.Tests.{pick-either}
 use Rattle.octets.proofs.ListLaws.{Every, OnSome, pick-cases}
-use Rattle.rules.specs.Elements.{Answer, refuse, value, missing, tooShort, incorrect, Fqcsid, addressLength, csidRest, readFseid, readFqcsid, readFteid}
+use Rattle.rules.specs.Elements.{Answer, refuse, value, missing, tooShort, incorrect, Fqcsid, addressLength, csidRest, readFseid, readFqcsid, readFteid, readUeIp}
 use Rattle.rules.specs.Types as ie
 use Rattle.rules.specs.Message.{inside, Element, elementLength, elementsUpTo, elements, hasType, placesOf, numberWidth}
 use Rattle.rules.specs.Reading.{Item, clearsCsids, setsCsid, updatesEndpoint, Reading, done, andThen, named, need, Members, noMembers, withPdi, holds, numberRead, farRead, pdiIn, valueRead, memberRead, membersRead, unopened, pdiEnd, pdiRead, pdrFrom, endpointFrom, changeFrom, itemFrom, groupRead, Draft, emptyDraft, elementRead, clears, aloneIn}
@@ -75,7 +75,8 @@ module _ (n : ℕ) where
         (pick-either (OnDone Heavy) (eqb t ie.pdi) _ _ (pick-either (OnDone Heavy) (eqb g ie.createPdr) _ _ (keeps p v (withPdi m) (omega arith) b) b)
         (pick-either (OnDone Heavy) (eqb t ie.sourceInterface) _ _ (other (numberRead t p v) _ (λ _. b))
         (pick-either (OnDone Heavy) (eqb t ie.fteid) _ _ (other (named t p (readFteid (eqb g ie.createEndpoint) v)) _ (λ _. b))
-        (then-done (λ _. 1 ≤ length v) Heavy (numberRead t p v) _ (some-octets t p v) (λ _ k. (b .0, omega arith))))))))
+        (pick-either (OnDone Heavy) (eqb t ie.ueIpAddress) _ _ (other (named t p (readUeIp v)) _ (λ _. b))
+        (then-done (λ _. 1 ≤ length v) Heavy (numberRead t p v) _ (some-octets t p v) (λ _ k. (b .0, omega arith)))))))))
       where
         other : {A : Type 0} (r : Reading A) (next : A → Members) → ((a : A) → Heavy (next a)) → OnDone Heavy (andThen r (λ a. done (next a)))
         other r next k = then-done (λ _. Unit {0}) Heavy r (λ a. done (next a)) (anything r) (λ a _. k a)

@@ -138,6 +138,6 @@ module _ (a : List ℕ) (i : ℕ) where
 
 -- an endpoint as the code of a walk has it
 pub endpoint-at : (first size : ℕ) (v6 : Bool) (ws a : List ℕ) (i : ℕ) (r : Marks) (ws′ : List ℕ)
-    → let xs = take (i * endpointWidth + 6 - i * endpointWidth) (drop (i * endpointWidth) a) in Stepped (endpointSound (unit first size v6) xs) first ws [] (endpointHold xs) r ws′
-    → Stepped (endpointSound (unit first size v6) (part (i * endpointWidth) 6 a)) first ws [] (endpointHold (part (i * endpointWidth) 6 a)) r ws′
-endpoint-at first size v6 ws a i r ws′ t = let span : i * endpointWidth + 6 - i * endpointWidth ≡ 6 = omega arith in rw span at t
+    → let xs = take (i * endpointWidth + endpointWidth - i * endpointWidth) (drop (i * endpointWidth) a) in Stepped (endpointSound (unit first size v6) xs) first ws [] (endpointHold xs) r ws′
+    → Stepped (endpointSound (unit first size v6) (part (i * endpointWidth) endpointWidth a)) first ws [] (endpointHold (part (i * endpointWidth) endpointWidth a)) r ws′
+endpoint-at first size v6 ws a i r ws′ t = let span : i * endpointWidth + endpointWidth - i * endpointWidth ≡ endpointWidth = omega arith in rw span at t

@@ -1,8 +1,9 @@
 -- `Looking`: holds by octets, and the look back. `Steps`: one hold more. `Answers`: the answers for one record. `Walking`: the walk over
--- an area. `Admitting`: a session's slot. `Through`: the slots of a table.
+-- an area. `Admitting`: a session's slot. `Through`: the slots of a table. `Entering`: with the addresses.
 pub mod Looking
 pub mod Steps
 pub mod Answers
 pub mod Walking
 pub mod Admitting
 pub mod Through
+pub mod Entering

@@ -118,7 +118,7 @@ module _ (first : ℕ) (ws₀ a : List ℕ) (n : ℕ) where
   abbrev pub endsFrom : ℕ → List Holding
   endsFrom i = endpointHolds (n - i) (drop (i * endpointWidth) a)
 
-  ends-left : (i : ℕ) → i < n → endsFrom i ≡ map endpointHolding (viewEndpoint (part (i * endpointWidth) 6 a) ∷ map viewEndpoint (slices endpointWidth (n - (i + 1)) (drop ((i + 1) * endpointWidth) a)))
+  ends-left : (i : ℕ) → i < n → endsFrom i ≡ map endpointHolding (viewEndpoint (part (i * endpointWidth) endpointWidth a) ∷ map viewEndpoint (slices endpointWidth (n - (i + 1)) (drop ((i + 1) * endpointWidth) a)))
   unfolding endpointHolds
   ends-left i h = ap (λ (l : List (List ℕ)). map endpointHolding (map viewEndpoint l)) (slices-more endpointWidth a n i h)
 
@@ -126,15 +126,15 @@ module _ (first : ℕ) (ws₀ a : List ℕ) (n : ℕ) where
   unfolding endpointHolds slices
   ends-none i h = let e : n - i ≡ 0 = omega arith in rw e
 
-  pub endpoint-places : Places first ws₀ (endpointHolds n a) n (λ i. []) endsFrom (λ i. endpointHold (part (i * endpointWidth) 6 a))
+  pub endpoint-places : Places first ws₀ (endpointHolds n a) n (λ i. []) endsFrom (λ i. endpointHold (part (i * endpointWidth) endpointWidth a))
   endpoint-places =
       record {
         start = let e : n - 0 ≡ n = omega arith in rw e marking-start;
         turn = λ {ws} {i} {new} h m. unfold endpointHold endpointHolds in
-            endpoint-turn (viewEndpoint (part (i * endpointWidth) 6 a)) (map viewEndpoint (slices endpointWidth (n - (i + 1)) (drop ((i + 1) * endpointWidth) a)))
+            endpoint-turn (viewEndpoint (part (i * endpointWidth) endpointWidth a)) (map viewEndpoint (slices endpointWidth (n - (i + 1)) (drop ((i + 1) * endpointWidth) a)))
             (subst (λ (l : List Holding). Marking first ws₀ (endpointHolds n a) ws [] l new) (ends-left i h) m);
         clash = λ {ws} {i} {new} h m. unfold endpointHold endpointHolds in
-            endpoint-clash (viewEndpoint (part (i * endpointWidth) 6 a)) (map viewEndpoint (slices endpointWidth (n - (i + 1)) (drop ((i + 1) * endpointWidth) a)))
+            endpoint-clash (viewEndpoint (part (i * endpointWidth) endpointWidth a)) (map viewEndpoint (slices endpointWidth (n - (i + 1)) (drop ((i + 1) * endpointWidth) a)))
             (subst (λ (l : List Holding). Marking first ws₀ (endpointHolds n a) ws [] l new) (ends-left i h) m);
         end = ends-none;
       }

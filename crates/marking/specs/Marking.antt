@@ -1,23 +1,26 @@
--- Who holds which TEID by the octets of slots, and the walk that marks them (01: "a TEID is held by one endpoint, or by PDRs of one session
+-- Who holds which TEID by the octets of slots, and the walk that marks TEIDs and addresses (01: "a TEID is held by one endpoint, or by PDRs of one session
 -- with equal family flags and source interface").
 -- Assumes nothing.
 use Prim.Native.Nat.{ℕ, _*_, _-_, _%_, _≤_}
 use mathlib.Core.Path.{_≡_}
-use mathlib.Core.Bool.{Bool, true, _&&_}
+use mathlib.Core.Bool.{Bool, true, not, _&&_}
 use mathlib.Core.Option.{Option, none, some}
 use mathlib.Core.List.{List, [], _∷_, map}
 use lib.Dec.{eqb}
 use lib.ListN.{length}
 use Rattle.octets.specs.Choice.{pick}
-use Rattle.octets.specs.Octets.{part, number, octetAt, slices}
-use Rattle.octets.specs.Lists.{collect}
-use Rattle.rules.specs.Model.{Settings, Holding, tunnelHolding, pdrHolding, endpointHolding, sessionHoldings, teidOf, heldTeids}
+use Rattle.octets.specs.Octets.{part, number, octetAt, slices, concatMap}
+use Rattle.octets.specs.Lists.{any, collect}
+use Rattle.rules.specs.Model.{Settings, Holding, tunnelHolding, pdrHolding, endpointHolding, sessionHoldings, teidOf}
 use Rattle.rules.specs.Layout.{tunnelRead, viewPdr, viewEndpoint, viewSession, pdrWidth, endpointWidth}
 use Rattle.pool.specs.Map.{marked, mark, marks, newMarks, offsets}
 use Rattle.holdings.specs.Walk.{joins, sessionMarks}
 use Rattle.sessions.specs.Slot.{slotSound}
+use Rattle.addresses.specs.Offsets.{heldOffsets}
 use Rattle.marking.specs.declared.Marks.{Marks}
 use Rattle.marking.specs.declared.Marks.the-variants.{Clash, New}
+use Rattle.marking.specs.declared.Seen.{Seen}
+use Rattle.marking.specs.declared.Seen.the-variants.{Broken, Held}
 
 -- ---- one PDR
 
@@ -96,16 +99,43 @@ pub record Admitted (s : Settings) (ws xs : List ℕ) (r : Marks) (ws′ : List 
   pub words : (n : ℕ) → r ≡ New n → ws′ ≡ marksAfter (s .first) ws (slotHolds xs)
   pub few : (n : ℕ) → r ≡ New n → n ≤ 24
 
+-- ---- a slot with its addresses (02 (v))
+
+-- the offsets of the TEIDs that the session in a slot holds
+unfoldable pub slotTeids : Settings → List ℕ → List ℕ
+slotTeids s xs = offsets (s .first) (map teidOf (slotHolds xs))
+
+-- no address of a slot is another session's
+unfoldable pub slotFree : ℕ → ℕ → List ℕ → List ℕ → Bool
+slotFree first count as′ xs = not (any (marked as′) (heldOffsets first count xs))
+
+pub record Entered (s : Settings) (first count : ℕ) (ws as′ xs : List ℕ) (r : Seen) (ws₁ as₁ : List ℕ) : Type 0 where
+  pub answer : r ≡ pick (slotKeeps s ws xs && slotFree first count as′ xs) (Held (newMarks ws (slotTeids s xs)) (newMarks as′ (heldOffsets first count xs))) Broken
+  pub words : (n k : ℕ) → r ≡ Held n k → ws₁ ≡ marks ws (slotTeids s xs)
+  pub addresses : (n k : ℕ) → r ≡ Held n k → as₁ ≡ marks as′ (heldOffsets first count xs)
+  pub few : (n k : ℕ) → r ≡ Held n k → (n ≤ 24) × (k ≤ 24)
+
 -- ---- the slots of a table, in turn
 
+-- each is tested with the map that those before it leave
+unfoldable pub inTurn : (List ℕ → List ℕ → Bool) → (List ℕ → List ℕ) → List ℕ → List (List ℕ) → Bool
+inTurn test held ws [] = true
+inTurn test held ws (xs ∷ xss) = test ws xs && inTurn test held (marks ws (held xs)) xss
+
 unfoldable pub slotsKeep : Settings → List ℕ → List (List ℕ) → Bool
-slotsKeep s ws [] = true
-slotsKeep s ws (xs ∷ xss) = slotKeeps s ws xs && slotsKeep s (marksAfter (s .first) ws (slotHolds xs)) xss
+slotsKeep s ws xss = inTurn (slotKeeps s) (slotTeids s) ws xss
 
--- the TEIDs that they hold
-unfoldable pub teidsIn : List (List ℕ) → List ℕ
-teidsIn xss = heldTeids (map viewSession xss)
+unfoldable pub slotsFree : ℕ → ℕ → List ℕ → List (List ℕ) → Bool
+slotsFree first count as′ xss = inTurn (slotFree first count) (heldOffsets first count) as′ xss
 
-pub record AllAdmitted (s : Settings) (ws : List ℕ) (xss : List (List ℕ)) (r : Marks) (ws′ : List ℕ) : Type 0 where
-  pub answer : r ≡ pick (slotsKeep s ws xss) (New (newMarks ws (offsets (s .first) (teidsIn xss)))) Clash
-  pub words : (n : ℕ) → r ≡ New n → ws′ ≡ marks ws (offsets (s .first) (teidsIn xss))
+-- the offsets that they hold
+unfoldable pub teidsIn : Settings → List (List ℕ) → List ℕ
+teidsIn s xss = concatMap (slotTeids s) xss
+
+unfoldable pub addressesIn : ℕ → ℕ → List (List ℕ) → List ℕ
+addressesIn first count xss = concatMap (heldOffsets first count) xss
+
+pub record AllAdmitted (s : Settings) (first count : ℕ) (ws as′ : List ℕ) (xss : List (List ℕ)) (r : Seen) (ws₁ as₁ : List ℕ) : Type 0 where
+  pub answer : r ≡ pick (slotsKeep s ws xss && slotsFree first count as′ xss) (Held (newMarks ws (teidsIn s xss)) (newMarks as′ (addressesIn first count xss))) Broken
+  pub words : (n k : ℕ) → r ≡ Held n k → ws₁ ≡ marks ws (teidsIn s xss)
+  pub addresses : (n k : ℕ) → r ≡ Held n k → as₁ ≡ marks as′ (addressesIn first count xss)

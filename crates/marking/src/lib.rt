@@ -1,6 +1,7 @@
 // The walk over the records of sessions that tests each, compares its place in the order, and marks its TEID in a map. It refuses a TEID
 // held against the rule: one that is marked already has to be held by an earlier PDR of the same session with equal families and
-// source interface. On a refusal nothing is said of the map, so each record is tested and marked in one turn.
+// source interface. On a refusal nothing is said of the map, so each record is tested and marked in one turn. The addresses of a session
+// follow in a second map (crate addresses).
 //
 // first, size and v6 are the unit's pool of TEIDs and whether it has an IPv6 address.
 // A PDR that matches on an F-TEID has 1 at PLACE.
@@ -14,7 +15,7 @@ ghost use Rattle.rules.specs.Limits.{maxSessions};
 ghost use Rattle.holdings.specs.Walk.{joins};
 ghost use Rattle.records.specs.Kept.{pdrSound, endpointSound, endpointIds, unit};
 ghost use Rattle.sessions.specs.Slot.{areaSound};
-ghost use Rattle.marking.specs.Marking.{holdsTeid, alike, heldBy, holdAt, endpointHold, pdrHolds, endpointHolds, Stepped, Marked, Admitted, AllAdmitted};
+ghost use Rattle.marking.specs.Marking.{holdsTeid, alike, heldBy, holdAt, endpointHold, pdrHolds, endpointHolds, Stepped, Marked, Admitted, Entered, AllAdmitted};
 use format::CSID_COUNT;
 use format::CSIDS;
 use format::ENDPOINT;
@@ -75,7 +76,7 @@ fn shares(pdrs: &[u8], n: usize, slot: &[u8]) -> bool
 
 // One endpoint: tested, and its TEID marked, which has to be new.
 fn admit_endpoint(words: &mut [u64], slot: &[u8], first: u64, size: u64, v6: bool) -> Marks
-    requires { ⌜ (length (now slot) ≡ 6) × (first + size ≤ 2 ^ 32) × (size ≤ 64 * length (now words)) ⌝ }
+    requires { ⌜ (length (now slot) ≡ endpointWidth) × (first + size ≤ 2 ^ 32) × (size ≤ 64 * length (now words)) ⌝ }
     ensures { λ r.
         ⌜ Stepped (endpointSound (unit first size v6) (now (slot .entry))) first (now (words .entry)) [] (endpointHold (now (slot .entry))) r (now (words .exit)) ⌝ }
 {
@@ -100,7 +101,7 @@ fn admit_endpoints(
 ) -> Marks
     requires { ⌜ (n * endpointWidth ≤ length (now ends)) × (first + size ≤ 2 ^ 32) × (size ≤ 64 * length (now words)) ⌝ }
     ensures { λ r.
-        ⌜ Marked (areaSound (endpointSound (unit first size v6)) 6 1 n (now (ends .entry))) first (now (words .entry)) (endpointHolds n (now (ends .entry))) r (now (words .exit)) ⌝ }
+        ⌜ Marked (areaSound (endpointSound (unit first size v6)) endpointWidth 1 n (now (ends .entry))) first (now (words .entry)) (endpointHolds n (now (ends .entry))) r (now (words .exit)) ⌝ }
 {
     let mut new: usize = 0;
     let mut next: u64 = 0;
@@ -194,7 +195,7 @@ fn admit_pdrs(
 }
 
 // Tests a session's slot and marks its TEIDs. A slot that is broken, or holds a TEID against the rule, is a clash.
-pub fn admit(words: &mut [u64], slot: &[u8], first: u64, size: u64, v6: bool) -> Marks
+fn admit(words: &mut [u64], slot: &[u8], first: u64, size: u64, v6: bool) -> Marks
     requires { ⌜ (length (now slot) ≡ sessionWidth) × (first + size ≤ 2 ^ 32) × (size ≤ 64 * length (now words)) ⌝ }
     ensures { λ r. ⌜ Admitted (unit first size v6) (now (words .entry)) (now (slot .entry)) r (now (words .exit)) ⌝ }
 {
@@ -226,19 +227,65 @@ pub fn admit(words: &mut [u64], slot: &[u8], first: u64, size: u64, v6: bool) ->
     Marks::New(e + p)
 }
 
-// Tests n slots and marks their TEIDs, one after the other.
-pub fn admit_all(words: &mut [u64], a: &[u8], n: usize, first: u64, size: u64, v6: bool) -> Marks
-    requires { ⌜ (n * sessionWidth ≤ length (now a)) × (n ≤ maxSessions) × (first + size ≤ 2 ^ 32) × (size ≤ 64 * length (now words)) ⌝ }
-    ensures { λ r. ⌜ AllAdmitted (unit first size v6) (now (words .entry)) (slices sessionWidth n (now (a .entry))) r (now (words .exit)) ⌝ }
+// What became of a table's sessions: one is broken or holds what another one holds, or so many TEIDs and addresses were new.
+pub enum Seen {
+    Broken,
+    Held(usize, usize),
+}
+
+// Tests a session's slot and marks its TEIDs, and its addresses of the pool that starts at address and has count.
+fn admit_session(
+    words: &mut [u64],
+    addresses: &mut [u64],
+    slot: &[u8],
+    first: u64,
+    size: u64,
+    v6: bool,
+    address: u64,
+    count: u64,
+) -> Seen
+    requires { ⌜ (length (now slot) ≡ sessionWidth) × (first + size ≤ 2 ^ 32) × (size ≤ 64 * length (now words)) × (address + count ≤ 2 ^ 32) × (count ≤ 64 * length (now addresses)) ⌝ }
+    ensures { λ r.
+        ⌜ Entered (unit first size v6) address count (now (words .entry)) (now (addresses .entry)) (now (slot .entry)) r (now (words .exit)) (now (addresses .exit)) ⌝ }
+{
+    let teids = admit(words, slot, first, size, v6);
+    let Marks::New(n) = teids else {
+        return Seen::Broken;
+    };
+    let held = addresses::admit(addresses, slot, address, count);
+    let addresses::Met::New(k) = held else {
+        return Seen::Broken;
+    };
+    Seen::Held(n, k)
+}
+
+// Tests n slots and marks their TEIDs and addresses, one after the other.
+pub fn admit_all(
+    words: &mut [u64],
+    addresses: &mut [u64],
+    a: &[u8],
+    n: usize,
+    first: u64,
+    size: u64,
+    v6: bool,
+    address: u64,
+    count: u64,
+) -> Seen
+    requires { ⌜ (n * sessionWidth ≤ length (now a)) × (n ≤ maxSessions) × (first + size ≤ 2 ^ 32) × (size ≤ 64 * length (now words)) × (address + count ≤ 2 ^ 32) × (count ≤ 64 * length (now addresses)) ⌝ }
+    ensures { λ r.
+        ⌜ AllAdmitted (unit first size v6) address count (now (words .entry)) (now (addresses .entry)) (slices sessionWidth n (now (a .entry))) r (now (words .exit)) (now (addresses .exit)) ⌝ }
 {
     let mut new: usize = 0;
+    let mut taken: usize = 0;
     for i in 0..n {
         let at = i * SLOT;
-        let step = admit(words, &a[at..at + SLOT], first, size, v6);
-        let Marks::New(k) = step else {
-            return Marks::Clash;
+        let slot = &a[at..at + SLOT];
+        let step = admit_session(words, addresses, slot, first, size, v6, address, count);
+        let Seen::Held(j, k) = step else {
+            return Seen::Broken;
         };
-        new += k;
+        new += j;
+        taken += k;
     }
-    Marks::New(new)
+    Seen::Held(new, taken)
 }

@@ -1,44 +1,49 @@
--- The accident does not happen in any run of the exported calls: released is removed, and no two patients have one TEID.
+-- The accident does not happen in any run of the exported calls: released is removed, and no two patients have one TEID or one address of the pool.
 -- Assumes nothing.
-use mathlib.Core.Path.{_≡_, refl, sym, ap, _∙_, subst}
+use mathlib.Core.Path.{_≡_, refl, sym, ap, ap₂, _∙_, subst}
 use Prim.Native.Nat.{ℕ, _-_, _≤_}
 use native.Mathlib.Omega.{arith}
-use mathlib.Core.Bool.{Bool, true, false, not, _&&_}
+use mathlib.Core.Bool.{Bool, true, false, not, _&&_, _||_}
 use mathlib.Core.Option.{Option, none, some}
-use mathlib.Core.List.{List, [], _∷_, map}
+use mathlib.Core.List.{List, [], _∷_, _++_, map}
 use lib.ListN.{length}
 use lib.Dec.{T, T-not, not-T, eqb, eqb→eq, leb→le, lit<}
-use Rattle.octets.specs.Choice.{pick, valueOr, mapOption}
-use Rattle.octets.specs.Lists.{member, all, any, allPairs, findBy, keep, collect}
-use Rattle.octets.proofs.Tests.{and-left, and-right, each, is-false, all-head, all-tail, pick-no, pick-yes, of-true}
-use Rattle.octets.proofs.Ordered.{pairs-head, pairs-tail, ne-of}
-use Rattle.octets.proofs.ListLaws.{by-test, or-right, all-every, all-map, found-knows}
-use Rattle.octets.proofs.MemberLaws.{member-passes, none-in}
+use Rattle.rules.specs.Elements.{UeIp, ueChooses}
+use Rattle.octets.specs.Choice.{pick, valueOr, mapOption, bindOption, isSome, consOption}
+use Rattle.octets.specs.Lists.{member, all, any, findBy, keep, collect}
+use Rattle.octets.proofs.Tests.{each, is-true, is-false, all-cons, pick-no, pick-yes, of-true}
+use Rattle.octets.proofs.Ordered.{keep-passes}
+use Rattle.octets.proofs.ListLaws.{Every, by-test, or-right, all-every, all-map, found-knows}
+use Rattle.octets.proofs.MemberLaws.{member-passes}
 use Rattle.rules.specs.Limits.{maxSessions}
-use Rattle.rules.specs.Model.{Settings, Session, Sessions, teidOf, sessionHoldings, sessionTeids, heldTeids, freeCount, freeTeids}
+use Rattle.rules.specs.Model.{Settings, Session, Sessions, teidOf, sessionHoldings, sessionTeids, heldTeids, freeCount, freeTeids, inAddressPool, sessionAddresses, heldAddresses, freeAddressCount, freeAddresses}
 use Rattle.rules.specs.Layout.{viewSettings, viewSessions}
-use Rattle.rules.specs.Sound.{poolTests, settingsTests, settingsAllowed, inPool, apart, sessionsAllowed, sound, broken, free, countFree}
+use Rattle.rules.specs.Sound.{poolTests, settingsTests, settingsAllowed, inPool, sessionsAllowed, sound, broken, free, countFree}
 use Rattle.rules.specs.Message.{kindOf, deletion, setDeletion}
-use Rattle.rules.specs.Reading.{readRequest, Request}
-use Rattle.rules.specs.Grants.{Kind, choices, Grant, grantOf, grantTeid, isGrantFor, grants, grantedTeid, need}
-use Rattle.rules.specs.Stages.{hasSeid, newSession, entrySession, unnamed, atEntry}
+use Rattle.rules.specs.Reading.{readRequest, Request, NewPdr, NewEndpoint}
+use Rattle.rules.specs.Grants.{Kind, ofPdr, ofEndpoint, chosenAddress, choices, Grant, grantOf, grantTeid, isGrantFor, grants, grantedTeid, need}
+use Rattle.rules.specs.Stages.{newSession, newPdrAddress, newEndpointAddress, addressesOf, entrySession, unnamed, atEntry}
 use Rattle.rules.specs.Apply.{keptPdr, keptEndpoint, goesSession}
 use Rattle.rules.specs.Serve.{Served, serve}
-use Rattle.rules.specs.Live.{replied, accepted, createdTeid}
-use Rattle.rules.specs.Claim.{mapOf, Holds}
+use Rattle.rules.specs.Live.{replied, accepted, createdTeid, createdAddress}
+use Rattle.rules.specs.Claim.{mapOf, addressMapOf, Holds}
 use Rattle.pool.specs.Map.{marked}
 use Rattle.pool.proofs.TakenLaws.{means-test, map-means, pool-from}
+use Rattle.pool.proofs.AddressLaws.{asPool, address-map-means}
 use Rattle.claim.proofs.GrantLaws.{enough}
 use Rattle.claim.proofs.GrantedTeids.{asGrant, grantedFrom, granted-grants, granted-all}
-use Rattle.claim.proofs.PoolLaws.{free-in-pool, free-not-held}
+use Rattle.claim.proofs.PoolLaws.{free-in-pool, free-not-held, addresses-in-pool, addresses-not-held}
+use Rattle.claim.proofs.FreeAddresses.{ChosenFree, address-free-there, free-address-count}
+use Rattle.claim.proofs.OneHolder.{one-teid-holder, one-address-holder}
+use Rattle.claim.proofs.ChangedAddresses.{stayingAddresses}
 use Rattle.claim.proofs.FreeTeids.{free-there, held-in-pool, free-count}
 use Rattle.claim.proofs.KeptRules.{sessions-kept}
 use Rattle.claim.proofs.ChangedHolds.{stayingHoldings}
 use Rattle.claim.proofs.ServeLaws.{TableKept, table-kept, serve-sound}
-use Rattle.claim.proofs.AcceptedCall.{AcceptedCall, accepted-call, next-removed, next-deleted, next-listed}
-use Rattle.pfcp_session.specs.Calls.{countAnswer, countCall, RequestCall}
+use Rattle.claim.proofs.AcceptedCall.{choosesAddress, AcceptedCall, accepted-call, next-removed, next-deleted, next-listed, next-removed-address, next-deleted-address, next-listed-address, address-chosen}
+use Rattle.pfcp_session.specs.Calls.{countAnswer, countCall, addressCountCall, RequestCall}
 use Rattle.pfcp_session.specs.Runs.{Run, liveAfter, tableAfter, HostClaim}
-use Rattle.pfcp_session.specs.Accident.{entriesAfter, Accepted, Released, unremoved, spared, ReleasedIsRemoved, holds, OneHolder, NoTwoPatients}
+use Rattle.pfcp_session.specs.Accident.{entriesAfter, Accepted, OutOfUse, Released, AddressReleased, unremoved, spared, ReleasedIsRemoved, holds, OneHolder, choosesIp, freshAddress, freshPdr, freshEndpoint, NoTwoPatients}
 use Rattle.pfcp_session.proofs.RunLaws.{request-step, host-claim}
 use Rattle.laws.proofs.HeaderLaws.{unnamed-sets}
 
@@ -63,31 +68,84 @@ module _ (run : Run) where
   kept : TableKept maxSessions (tableAfter run)
   kept = table-kept maxSessions (tableAfter run) (counted-sound (tableAfter run) _ (left .count))
 
--- ---- TEIDs that are out of use
+-- ---- numbers of a pool that are out of use
 
--- the bit of a TEID of the pool says whether a record holds it
-bit-says : (t : List ℕ) → TableKept maxSessions t → (n : ℕ) → T (inPool (viewSettings t) n) → marked (mapOf t) (n - viewSettings t .first) ≡ member n (heldTeids (viewSessions t))
-unfolding mapOf
-bit-says t k n h =
-    let s = viewSettings t in
-    let m = viewSessions t in
-    means-test (s .first) (mapOf t) (heldTeids m) n (map-means s m (k .settings) (held-in-pool maxSessions s m (k .sessions))) (pool-from s n h)
+-- one that no record holds, by its bit and the free ones
+unused : {held words given : List ℕ} {first n : ℕ} → marked words (n - first) ≡ member n held → T (not (member n held)) → T (member n given) → OutOfUse held words given first n
+unused {held} {words} {given} {first} {n} b g f = record { unheld = g; unmarked = b ∙ is-false (member n held) g; free = f }
 
--- a TEID of the pool that no record holds
-out-of-use : (t : List ℕ) → TableKept maxSessions t → (n : ℕ) → T (inPool (viewSettings t) n) → T (not (member n (heldTeids (viewSessions t)))) → Released t n
-out-of-use t k n h g =
-    record {
-      unheld = g;
-      unmarked = bit-says t k n h ∙ is-false (member n (heldTeids (viewSessions t))) g;
-      free = free-there (viewSettings t) (viewSessions t) n h g;
-    }
+module _ (t : List ℕ) (k : TableKept maxSessions t) where
+  abbrev s : Settings
+  s = viewSettings t
 
--- a free TEID
-free-out : (t : List ℕ) → TableKept maxSessions t → (n : ℕ) → T (member n (freeTeids (viewSettings t) (viewSessions t))) → Released t n
-free-out t k n h =
-    let s = viewSettings t in
-    let m = viewSessions t in
-    out-of-use t k n (member-passes (inPool s) n (freeTeids s m) h (free-in-pool s m)) (member-passes (λ u. not (member u (heldTeids m))) n (freeTeids s m) h (free-not-held s m))
+  abbrev m : Sessions
+  m = viewSessions t
+
+  -- the bit of a TEID of the pool, or of an address, says whether a record holds it
+  bit-says : (n : ℕ) → T (inPool s n) → marked (mapOf t) (n - s .first) ≡ member n (heldTeids m)
+  unfolding mapOf
+  bit-says n h = means-test (s .first) (mapOf t) (heldTeids m) n (map-means s m (k .settings) (held-in-pool maxSessions s m (k .sessions))) (pool-from s n h)
+
+  address-bit-says : (a : ℕ) → T (inAddressPool s a) → marked (addressMapOf t) (a - s .firstAddress) ≡ member a (heldAddresses s m)
+  unfolding addressMapOf
+  address-bit-says a h = means-test (s .firstAddress) (addressMapOf t) (heldAddresses s m) a (address-map-means s m (k .settings)) (pool-from (asPool s) a (unfold inPool inAddressPool in h))
+
+  -- one of the pool that no record holds
+  out-of-use : (n : ℕ) → T (inPool s n) → T (not (member n (heldTeids m))) → Released t n
+  out-of-use n h g = unused (bit-says n h) g (free-there s m n h g)
+
+  address-out-of-use : (a : ℕ) → T (inAddressPool s a) → T (not (member a (heldAddresses s m))) → AddressReleased t a
+  address-out-of-use a h g = unused (address-bit-says a h) g (address-free-there s m a h g)
+
+  -- a free one
+  free-out : (n : ℕ) → T (member n (freeTeids s m)) → Released t n
+  free-out n h = out-of-use n (member-passes (inPool s) n (freeTeids s m) h (free-in-pool s m)) (member-passes (λ u. not (member u (heldTeids m))) n (freeTeids s m) h (free-not-held s m))
+
+  address-free-out : (a : ℕ) → T (member a (freeAddresses s m)) → AddressReleased t a
+  address-free-out a h =
+      address-out-of-use a (member-passes (inAddressPool s) a (freeAddresses s m) h (addresses-in-pool s m)) (member-passes (λ u. not (member u (heldAddresses s m))) a (freeAddresses s m) h (addresses-not-held s m))
+
+-- ---- members and tests
+
+or-left-true : (a b : Bool) → T a → T (a || b)
+or-left-true true b h = tt
+or-left-true false b h = absurd h
+
+or-right-true : (a b : Bool) → T b → T (a || b)
+or-right-true true b h = tt
+or-right-true false b h = h
+
+any-front : {A : Type 0} (p : A → Bool) (xs ys : List A) → T (any p xs) → T (any p (xs ++ ys))
+unfolding any
+any-front p [] ys h = absurd h
+any-front p (x ∷ xs) ys h = by-test (p x) (λ e. or-left-true (p x) (any p (xs ++ ys)) e) (λ e. or-right-true (p x) (any p (xs ++ ys)) (any-front p xs ys (or-right (p x) (any p xs) h e)))
+
+any-behind : {A : Type 0} (p : A → Bool) (xs ys : List A) → T (any p ys) → T (any p (xs ++ ys))
+unfolding any
+any-behind p [] ys h = h
+any-behind p (x ∷ xs) ys h = or-right-true (p x) (any p (xs ++ ys)) (any-behind p xs ys h)
+
+-- a number that passes a test and is not among those of a list that pass it is not in the list
+stays : (p : ℕ → Bool) (n : ℕ) (xs : List ℕ) → T (p n) → T (member n xs) → T (member n (keep p xs))
+unfolding member keep
+stays p n [] h e = absurd e
+stays p n (y ∷ ys) h e =
+    by-test (eqb n y)
+    (λ s. subst (λ (b : Bool). T (member n (pick b (y ∷ keep p ys) (keep p ys)))) (sym (is-true (p y) (subst (λ (z : ℕ). T (p z)) (eqb→eq n y s) h))) (or-left-true (eqb n y) (member n (keep p ys)) s))
+    (λ s. two (p y) (stays p n ys h (or-right (eqb n y) (member n ys) e s)))
+  where
+    two : (b : Bool) → T (member n (keep p ys)) → T (member n (pick b (y ∷ keep p ys) (keep p ys)))
+    two true f = or-right-true (eqb n y) (member n (keep p ys)) f
+    two false f = f
+
+not-kept : (p : ℕ → Bool) (n : ℕ) (xs : List ℕ) → T (p n) → T (not (member n (keep p xs))) → T (not (member n xs))
+not-kept p n xs h g = not-T (member n xs) (λ e. T-not (member n (keep p xs)) g (stays p n xs h e))
+
+-- a CHOOSE in the claim's words
+as-chosen : (o : Option UeIp) → T (choosesIp o) → T (choosesAddress o)
+unfolding choosesIp choosesAddress
+as-chosen none h = h
+as-chosen (some v) h = subst (λ (b : Bool). T (isSome (pick b (some v) none))) (sym (is-true (ueChooses v) h)) tt
 
 -- ---- an accepted request
 
@@ -124,35 +182,68 @@ module _ (run : Run) (msg space : List ℕ) (r : RequestCall) (a : Accepted run 
   call : AcceptedCall maxSessions t msg space
   call = accepted-call maxSessions t msg space (lit< tt) (a .message) (subst (λ (o : Served). T (accepted (replied msg (o .outcome) (o .space)))) same (a .reply))
 
+  -- the session that the request is about: in a set deletion, one without records
+  abbrev x : Session
+  x = entrySession (viewSessions t) msg
+
+  about-none : T (eqb (kindOf msg) setDeletion) → x ≡ newSession (readRequest msg .seid)
+  unfolding entrySession atEntry
+  about-none d = pick-yes (unnamed (kindOf msg)) (newSession (readRequest msg .seid)) _ (of-true (unnamed-sets (kindOf msg) (eqb→eq (kindOf msg) setDeletion d)))
+
+  -- what it spares of a session that it does not delete
+  spared-is : T (not (eqb (kindOf msg) deletion)) → spared msg x ≡ unremoved (readRequest msg) x
+  unfolding spared
+  spared-is d = pick-no (eqb (kindOf msg) deletion) (newSession (x .seid)) (unremoved (readRequest msg) x) d
+
+  -- the table that it leaves
+  kept-out : TableKept maxSessions (out .table)
+  kept-out = table-kept maxSessions (out .table) (serve-sound maxSessions (lit< tt) t msg space (a .message) (call .answered .table))
+
+  next-out : (n : ℕ) → T (member n (freeTeids (viewSettings (out .table)) (viewSessions (out .table)))) → Released (r .table) n
+  next-out n h = subst (λ (o : Served). Released (o .table) n) (sym same) (free-out (out .table) kept-out n h)
+
+  next-address-out : (n : ℕ) → T (member n (freeAddresses (viewSettings (out .table)) (viewSessions (out .table)))) → AddressReleased (r .table) n
+  next-address-out n h = subst (λ (o : Served). AddressReleased (o .table) n) (sym same) (address-free-out (out .table) kept-out n h)
+
   -- a TEID that only removed records held
-  removed-out : (n : ℕ) → T (member n (sessionTeids (entrySession (viewSessions t) msg))) → T (not (member n (sessionTeids (spared msg (entrySession (viewSessions t) msg))))) → Released (r .table) n
+  removed-out : (n : ℕ) → T (member n (sessionTeids x)) → T (not (member n (sessionTeids (spared msg x)))) → Released (r .table) n
   removed-out n h gone =
-      subst (λ (o : Served). Released (o .table) n) (sym same)
-      (free-out (out .table) (table-kept maxSessions (out .table) (serve-sound maxSessions (lit< tt) t msg space (a .message) (call .answered .table))) n
-      (by-test (eqb (kindOf msg) setDeletion) (λ d. absurd (no-records d h))
-      (λ ns. by-test (eqb (kindOf msg) deletion) (λ d. next-deleted maxSessions t msg space (a .message) call d n h) (λ d. next-removed maxSessions t msg space (a .message) call ns d n h (staying d gone)))))
+      next-out n
+      (by-test (eqb (kindOf msg) setDeletion) (λ d. absurd (none d (subst (λ (y : Session). T (member n (sessionTeids y))) (about-none d) h)))
+      (λ ns. by-test (eqb (kindOf msg) deletion) (λ d. next-deleted maxSessions t msg space (a .message) call d n h) (λ d. next-removed maxSessions t msg space (a .message) call ns d n h (staying d))))
     where
-      -- a set deletion is about a session without records
-      no-records : T (eqb (kindOf msg) setDeletion) → T (member n (sessionTeids (entrySession (viewSessions t) msg))) → ⊥
-      no-records d g =
-          unfold entrySession atEntry newSession sessionTeids sessionHoldings collect member in (
-          subst (λ (y : Session). T (member n (sessionTeids y)))
-          (pick-yes (unnamed (kindOf msg)) (newSession (readRequest msg .seid)) _ (of-true (unnamed-sets (kindOf msg) (eqb→eq (kindOf msg) setDeletion d)))) g)
+      none : T (eqb (kindOf msg) setDeletion) → T (member n (sessionTeids (newSession (readRequest msg .seid)))) → ⊥
+      none d g = unfold newSession sessionTeids sessionHoldings collect member in g
 
-      x : Session
-      x = entrySession (viewSessions t) msg
+      staying : T (not (eqb (kindOf msg) deletion)) → T (not (member n (map teidOf (stayingHoldings (readRequest msg) x))))
+      staying d = unfold sessionTeids sessionHoldings unremoved keptPdr keptEndpoint in (subst (λ (y : Session). T (not (member n (sessionTeids y)))) (spared-is d) gone)
 
-      staying : T (not (eqb (kindOf msg) deletion)) → T (not (member n (sessionTeids (spared msg x)))) → T (not (member n (map teidOf (stayingHoldings (readRequest msg) x))))
-      staying d g =
-          unfold spared sessionTeids sessionHoldings unremoved keptPdr keptEndpoint in (
-          subst (λ (y : Session). T (not (member n (map teidOf (sessionHoldings y))))) (pick-no (eqb (kindOf msg) deletion) (newSession (x .seid)) (unremoved (readRequest msg) x) d) g)
+  -- and an address of the pool
+  address-removed-out : (n : ℕ) → T (member n (sessionAddresses (viewSettings t) x)) → T (not (member n (sessionAddresses (viewSettings t) (spared msg x)))) → AddressReleased (r .table) n
+  address-removed-out n h gone =
+      next-address-out n
+      (by-test (eqb (kindOf msg) setDeletion) (λ d. absurd (none d (subst (λ (y : Session). T (member n (sessionAddresses (viewSettings t) y))) (about-none d) h)))
+      (λ ns. by-test (eqb (kindOf msg) deletion) (λ d. next-deleted-address maxSessions t msg space (a .message) call d n h)
+      (λ d. next-removed-address maxSessions t msg space (a .message) call ns d n h (staying d))))
+    where
+      none : T (eqb (kindOf msg) setDeletion) → T (member n (sessionAddresses (viewSettings t) (newSession (readRequest msg .seid)))) → ⊥
+      none d g = unfold newSession sessionAddresses collect keep member in g
 
-  -- a TEID of a session that a set deletion takes out
+      pooled : T (inAddressPool (viewSettings t) n)
+      pooled = unfold sessionAddresses in (member-passes (inAddressPool (viewSettings t)) n _ h (keep-passes (inAddressPool (viewSettings t)) _))
+
+      staying : T (not (eqb (kindOf msg) deletion)) → T (not (member n (stayingAddresses (readRequest msg) x)))
+      staying d =
+          unfold sessionAddresses unremoved keptPdr keptEndpoint in (
+          not-kept (inAddressPool (viewSettings t)) n (stayingAddresses (readRequest msg) x) pooled
+          (subst (λ (y : Session). T (not (member n (sessionAddresses (viewSettings t) y)))) (spared-is d) gone))
+
+  -- what the sessions held that a set deletion takes out
   listed-out : T (eqb (kindOf msg) setDeletion) → (n : ℕ) → T (member n (heldTeids (keep (goesSession (readRequest msg .listed)) (viewSessions t)))) → Released (r .table) n
-  listed-out d n h =
-      subst (λ (o : Served). Released (o .table) n) (sym same)
-      (free-out (out .table) (table-kept maxSessions (out .table) (serve-sound maxSessions (lit< tt) t msg space (a .message) (call .answered .table))) n
-      (next-listed maxSessions t msg space (a .message) call d n h))
+  listed-out d n h = next-out n (next-listed maxSessions t msg space (a .message) call d n h)
+
+  address-listed-out : T (eqb (kindOf msg) setDeletion) → (n : ℕ) → T (member n (heldAddresses (viewSettings t) (keep (goesSession (readRequest msg .listed)) (viewSessions t)))) → AddressReleased (r .table) n
+  address-listed-out d n h = next-address-out n (next-listed-address maxSessions t msg space (a .message) call d n h)
 
   -- a TEID that the reply grants
   granted-unheld : (k : Kind) (id : ℕ) → T (not (member (createdTeid (r .space) k id) (heldTeids (viewSessions t))))
@@ -172,42 +263,62 @@ module _ (run : Run) (msg space : List ℕ) (r : RequestCall) (a : Accepted run 
           found-knows (λ g′. T (not (member (grantTeid g′) (heldTeids m)))) (isGrantFor k id) gs g
           (all-every (λ g′. not (member (grantTeid g′) (heldTeids m))) gs (grants-unheld (viewSettings t) m (readRequest msg) (enough (call .passed)))) e
 
+  -- an address that the reply grants to a record that chooses one
+  abbrev held : List ℕ
+  held = heldAddresses (viewSettings t) (viewSessions t)
+
+  chosen-unheld : T (any ueChooses (addressesOf (readRequest msg))) → T (not (member (chosenAddress (viewSettings t) (viewSessions t)) held))
+  chosen-unheld h = address-chosen maxSessions t msg space (a .message) call h .unheld
+
+  fresh-each : {A : Type 0} (key : A → ℕ) (ip : A → Option UeIp) (k : Kind) (xs : List A) → Every (λ y. T (choosesAddress (ip y)) → createdAddress (out .space) k (key y) ≡ chosenAddress (viewSettings t) (viewSessions t)) xs
+      → (T (any ueChooses (collect ip xs)) → T (any ueChooses (addressesOf (readRequest msg))))
+      → T (all (λ y. freshAddress (r .space) held k (key y) (ip y)) xs)
+  unfolding all any collect choosesIp
+  fresh-each key ip k [] given part = tt
+  fresh-each {A} key ip k (y ∷ xs) given part =
+      all-cons (λ z. freshAddress (r .space) held k (key z) (ip z)) y xs (one (ip y) (given .0) (λ h. part (here (ip y) h)))
+      (fresh-each key ip k xs (given .1) (λ h. part (later (ip y) h)))
+    where
+      here : (o : Option UeIp) → T (choosesIp o) → T (any ueChooses (consOption o (collect ip xs)))
+      here none h = absurd h
+      here (some v) h = or-left-true (ueChooses v) (any ueChooses (collect ip xs)) h
+
+      later : (o : Option UeIp) → T (any ueChooses (collect ip xs)) → T (any ueChooses (consOption o (collect ip xs)))
+      later none h = h
+      later (some v) h = or-right-true (ueChooses v) (any ueChooses (collect ip xs)) h
+
+      one : (o : Option UeIp) → (T (choosesAddress o) → createdAddress (out .space) k (key y) ≡ chosenAddress (viewSettings t) (viewSessions t)) → (T (choosesIp o) → T (any ueChooses (addressesOf (readRequest msg))))
+          → T (freshAddress (r .space) held k (key y) o)
+      one o g chosen = unfold freshAddress in (
+          by-test (choosesIp o)
+          (λ h. or-right-true (not (choosesIp o)) (not (member (createdAddress (r .space) k (key y)) held))
+          (subst (λ (n : ℕ). T (not (member n held))) (sym (ap (λ (v : Served). createdAddress (v .space) k (key y)) same ∙ g (as-chosen o h))) (chosen-unheld (chosen h))))
+          (λ h. or-left-true (not (choosesIp o)) (not (member (createdAddress (r .space) k (key y)) held)) h))
+
+  fresh-pdrs : T (all (freshPdr (r .space) held) (readRequest msg .pdrs))
+  unfolding freshPdr
+  fresh-pdrs = fresh-each (λ (y : NewPdr). y .id) newPdrAddress ofPdr (readRequest msg .pdrs) (call .pdrAddresses) (λ h. unfold addressesOf in (any-behind ueChooses (collect newEndpointAddress (readRequest msg .endpoints)) (collect newPdrAddress (readRequest msg .pdrs)) h))
+
+  fresh-endpoints : T (all (freshEndpoint (r .space) held) (readRequest msg .endpoints))
+  unfolding freshEndpoint
+  fresh-endpoints = fresh-each (λ (y : NewEndpoint). y .id) newEndpointAddress ofEndpoint (readRequest msg .endpoints) (call .endpointAddresses) (λ h. unfold addressesOf in (any-front ueChooses (collect newEndpointAddress (readRequest msg .endpoints)) (collect newPdrAddress (readRequest msg .pdrs)) h))
+
 -- ---- sessions apart
 
--- a TEID of a session is held by none of those that are apart from it
-none-beside : (x : Session) (m : Sessions) (i n : ℕ) → T (all (apart x) m) → T (member n (sessionTeids x)) → T (holds m i n) → ⊥
-unfolding holds any apart
-none-beside x [] i n far h g = g
-none-beside x (y ∷ m) i n far h g =
-    by-test (hasSeid i y && member n (sessionTeids y))
-    (λ e. T-not (member n (sessionTeids y))
-    (member-passes (λ k. not (member k (sessionTeids y))) n (sessionTeids x) h (none-in (sessionTeids x) (sessionTeids y) (all-head (apart x) y m far)))
-    (and-right (hasSeid i y) (member n (sessionTeids y)) e))
-    (λ e. none-beside x m i n (all-tail (apart x) y m far) h (or-right (hasSeid i y && member n (sessionTeids y)) (holds m i n) g e))
-
--- of sessions that are apart two do not hold one TEID
-none-both : (m : Sessions) (i j n : ℕ) → T (allPairs apart m) → T (not (eqb i j)) → T (holds m i n) → T (holds m j n) → ⊥
-unfolding holds any hasSeid
-none-both [] i j n far d h g = h
-none-both (x ∷ m) i j n far d h g =
-    let tx = member n (sessionTeids x) in
-    by-test (hasSeid i x && tx)
-    (λ e. by-test (hasSeid j x && tx)
-    (λ f. ne-of i j d (sym (eqb→eq (x .seid) i (and-left (hasSeid i x) tx e)) ∙ eqb→eq (x .seid) j (and-left (hasSeid j x) tx f)))
-    (λ f. none-beside x m j n (pairs-head apart x m far) (and-right (hasSeid i x) tx e) (or-right (hasSeid j x && tx) (holds m j n) g f)))
-    (λ e. by-test (hasSeid j x && tx)
-    (λ f. none-beside x m i n (pairs-head apart x m far) (and-right (hasSeid j x) tx f) (or-right (hasSeid i x && tx) (holds m i n) h e))
-    (λ f. none-both m i j n (pairs-tail apart x m far) d (or-right (hasSeid i x && tx) (holds m i n) h e) (or-right (hasSeid j x && tx) (holds m j n) g f)))
-
-one-holder : (s : Settings) (m : Sessions) → T (sessionsAllowed maxSessions s m) → OneHolder m
+one-holder : (s : Settings) (m : Sessions) → T (sessionsAllowed maxSessions s m) → OneHolder s m
+unfolding holds
 one-holder s m h =
     let k = sessions-kept maxSessions s m h in
-    record { seids = k .order; teids = λ i j n d a. not-T (holds m j n) (λ b. none-both m i j n (k .separate) d a b) }
+    record {
+      seids = k .order;
+      teids = λ i j n d a. not-T (holds sessionTeids m j n) (λ b. one-teid-holder s m i j n (k .separate) d a b);
+      addresses = λ i j n d a. not-T (holds (sessionAddresses s) m j n) (λ b. one-address-holder s m i j n (k .separate) d a b);
+    }
 
 -- ---- the two theorems
 
 pub released-is-removed : (run : Run) → ReleasedIsRemoved run
-unfolding entriesAfter countCall freeCount
+unfolding entriesAfter countCall addressCountCall freeCount freeAddressCount
 released-is-removed run =
     let k = kept run in
     let l = left run in
@@ -215,6 +326,7 @@ released-is-removed run =
     let m = liveAfter run in
     let t = tableAfter run in
     let in-table : (n : ℕ) → T (inPool s n) → T (inPool (viewSettings t) n) = λ n h. subst (λ (u : Settings). T (inPool u n)) (sym (l .settings)) h in
+    let address-in-table : (a : ℕ) → T (inAddressPool s a) → T (inAddressPool (viewSettings t) a) = λ a h. subst (λ (u : Settings). T (inAddressPool u a)) (sym (l .settings)) h in
     let allowed : T (sessionsAllowed maxSessions s m) = subst (λ (u : Settings). T (sessionsAllowed maxSessions u m)) (l .settings) (subst (λ (w : Sessions). T (sessionsAllowed maxSessions (viewSettings t) w)) (l .records) (k .sessions)) in
     record {
       records = ap heldTeids (l .records);
@@ -226,14 +338,32 @@ released-is-removed run =
       unheld = λ n h g. out-of-use t k n (in-table n h) (subst (λ (w : Sessions). T (not (member n (heldTeids w)))) (sym (l .records)) g);
       removed = λ msg space r a n h g. removed-out run msg space r a n h g;
       listed = λ msg space r a d n h. listed-out run msg space r a d n h;
+      addressRecords = ap (heldAddresses s) (l .records);
+      addressMarks = λ a h.
+          ap (λ (u : Settings). marked (addressMapOf t) (a - u .firstAddress)) (sym (l .settings))
+          ∙ address-bit-says t k a (address-in-table a h)
+          ∙ ap₂ (λ (u : Settings) (w : Sessions). member a (heldAddresses u w)) (l .settings) (l .records);
+      addressCount = ap countAnswer (l .addressCount) ∙ ap (λ (n : ℕ). record { outcome = 0; count = n }) (sym (free-address-count s m));
+      addressUnheld = λ a h g.
+          address-out-of-use t k a (address-in-table a h)
+          (subst (λ (u : Settings). T (not (member a (heldAddresses u (viewSessions t))))) (sym (l .settings)) (subst (λ (w : Sessions). T (not (member a (heldAddresses s w)))) (sym (l .records)) g));
+      addressRemoved = λ msg space r a n h g.
+          address-removed-out run msg space r a n (subst (λ (u : Settings). T (member n (sessionAddresses u (entrySession (viewSessions t) msg)))) (sym (l .settings)) h)
+          (subst (λ (u : Settings). T (not (member n (sessionAddresses u (spared msg (entrySession (viewSessions t) msg)))))) (sym (l .settings)) g);
+      addressListed = λ msg space r a d n h.
+          address-listed-out run msg space r a d n (subst (λ (u : Settings). T (member n (heldAddresses u (keep (goesSession (readRequest msg .listed)) (viewSessions t))))) (sym (l .settings)) h);
     }
 
 pub no-two-patients : (run : Run) → NoTwoPatients run
 unfolding entriesAfter
 no-two-patients run =
-    let table′ = one-holder (viewSettings (tableAfter run)) (viewSessions (tableAfter run)) (kept run .sessions) in
+    let l = left run in
+    let t = tableAfter run in
+    let table′ = subst (λ (u : Settings). OneHolder u (viewSessions t)) (l .settings) (one-holder (viewSettings t) (viewSessions t) (kept run .sessions)) in
     record {
-      live = subst OneHolder (left run .records) table′;
+      live = subst (OneHolder (run .settings)) (l .records) table′;
       table = table′;
       granted = λ msg space r a k id. granted-unheld run msg space r a k id;
+      pdrAddresses = λ msg space r a. subst (λ (u : Settings). T (all (freshPdr (r .space) (heldAddresses u (viewSessions t))) (readRequest msg .pdrs))) (l .settings) (fresh-pdrs run msg space r a);
+      endpointAddresses = λ msg space r a. subst (λ (u : Settings). T (all (freshEndpoint (r .space) (heldAddresses u (viewSessions t))) (readRequest msg .endpoints))) (l .settings) (fresh-endpoints run msg space r a);
     }

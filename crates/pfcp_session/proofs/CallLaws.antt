@@ -8,17 +8,17 @@ use mathlib.Core.List.{List}
 use lib.Dec.{T, leb→le}
 use Rattle.octets.specs.Choice.{pick}
 use Rattle.octets.proofs.Tests.{each}
-use Rattle.rules.specs.Limits.{maxSessions, maxPool}
-use Rattle.rules.specs.Model.{Settings, freeCount}
+use Rattle.rules.specs.Limits.{maxSessions, maxPool, maxAddresses}
+use Rattle.rules.specs.Model.{Settings, freeCount, freeAddressCount}
 use Rattle.rules.specs.Layout.{headWidth, sessionWidth, tableLength, viewSettings, viewSessions}
-use Rattle.rules.specs.Sound.{poolTests, settingsTests, settingsAllowed, soundTests, sound, make, Count, broken, free, countFree}
+use Rattle.rules.specs.Sound.{poolTests, addressPoolTests, settingsTests, settingsAllowed, soundTests, sound, make, Count, broken, free, countFree, countAddresses}
 use Rattle.table.specs.declared.Making.{Making}
 use Rattle.table.specs.declared.Making.the-variants.{Made, Refused}
 use Rattle.table.specs.declared.Count as code
 use Rattle.table.specs.declared.Count.the-variants.{Broken, Free}
 use Rattle.table.specs.Answers.{madeOf, countOf}
 use Rattle.engine.specs.Steps.{Serves}
-use Rattle.pfcp_session.specs.Calls.{MakeCall, makeAnswer, makeCall, CountCall, countAnswer, countCall, RequestCall, replyOf, requestAnswer, requestCall}
+use Rattle.pfcp_session.specs.Calls.{MakeCall, makeAnswer, makeCall, CountCall, countAnswer, countCall, addressCountCall, CountFits, RequestCall, replyOf, requestAnswer, requestCall}
 
 module _ (s : Settings) (t t′ : List ℕ) (r : Making) (e : madeOf r t′ ≡ make maxSessions s t) where
   pub call-made : r ≡ Made → _≡_ {A = MakeCall} (record { outcome = 0; table = t′ }) (makeCall s t)
@@ -29,35 +29,59 @@ module _ (s : Settings) (t t′ : List ℕ) (r : Making) (e : madeOf r t′ ≡ 
   unfolding makeCall
   call-refused z = ap makeAnswer (ap (λ (x : Making). madeOf x t′) (sym z) ∙ e)
 
--- a free count is at most the largest pool
-few-with : (b : Bool) (t : List ℕ) (n : ℕ) → (T b → freeCount (viewSettings t) (viewSessions t) ≤ maxPool) → pick b (free (freeCount (viewSettings t) (viewSessions t))) broken ≡ free n → n ≤ maxPool
-few-with true t n h e = let same : freeCount (viewSettings t) (viewSessions t) ≡ n = cc in let f = h tt in omega arith
-few-with false t n h e = absurd (let z : _≡_ {A = ℕ} 0 1 = cc in omega arith)
+-- ---- counts
 
-few-free : (t : List ℕ) → T (sound maxSessions t) → freeCount (viewSettings t) (viewSessions t) ≤ maxPool
-unfolding sound soundTests settingsAllowed settingsTests poolTests freeCount
-few-free t h =
-    let s = viewSettings t in
-    let f = each (soundTests maxSessions t s (viewSessions t)) h in
-    let p = each (poolTests (s .first) (s .size)) (each (settingsTests s) (f .1 .0) .1 .1 .1 .1 .0) in
-    let few = leb→le (s .size) maxPool (p .1 .1 .0) in
-    omega arith
+module _ (r : code.Count) where
+  pub tell-broken : r ≡ Broken → _≡_ {A = CountCall} (record { outcome = 1; count = 0 }) (countAnswer (countOf r))
+  tell-broken z = ap (λ (c : code.Count). countAnswer (countOf c)) (sym z)
 
-module _ (t : List ℕ) (r : code.Count) (e : countOf r ≡ countFree maxSessions t) where
-  pub call-broken : r ≡ Broken → _≡_ {A = CountCall} (record { outcome = 1; count = 0 }) (countCall t)
-  unfolding countCall
-  call-broken z = ap countAnswer (ap countOf (sym z) ∙ e)
+  pub tell-free : (n : ℕ) → r ≡ Free n → _≡_ {A = CountCall} (record { outcome = 0; count = n }) (countAnswer (countOf r))
+  tell-free n z = ap (λ (c : code.Count). countAnswer (countOf c)) (sym z)
 
-  pub call-free : (n : ℕ) → r ≡ Free n → _≡_ {A = CountCall} (record { outcome = 0; count = n }) (countCall t)
-  unfolding countCall
-  call-free n z = ap countAnswer (ap countOf (sym z) ∙ e)
+-- a free count is at most the pool's size
+few-with : (b : Bool) (k n most : ℕ) → (T b → k ≤ most) → pick b (free k) broken ≡ free n → n ≤ most
+few-with true k n most h e = let same : k ≡ n = cc in let f = h tt in omega arith
+few-with false k n most h e = absurd (let z : _≡_ {A = ℕ} 0 1 = cc in omega arith)
 
-  pub call-few : (n : ℕ) → r ≡ Free n → n ≤ maxPool
+module _ (t : List ℕ) (h : T (sound maxSessions t)) where
+  few-free : freeCount (viewSettings t) (viewSessions t) ≤ maxPool
+  unfolding sound soundTests settingsAllowed settingsTests poolTests freeCount
+  few-free =
+      let s = viewSettings t in
+      let f = each (soundTests maxSessions t s (viewSessions t)) h in
+      let p = each (poolTests (s .first) (s .size)) (each (settingsTests s) (f .1 .0) .1 .1 .1 .1 .0) in
+      let few = leb→le (s .size) maxPool (p .1 .1 .0) in
+      omega arith
+
+  few-addresses : freeAddressCount (viewSettings t) (viewSessions t) ≤ maxAddresses
+  unfolding sound soundTests settingsAllowed settingsTests addressPoolTests freeAddressCount
+  few-addresses =
+      let s = viewSettings t in
+      let f = each (soundTests maxSessions t s (viewSessions t)) h in
+      let p = each (addressPoolTests (s .firstAddress) (s .addressCount)) (each (settingsTests s) (f .1 .0) .1 .1 .1 .1 .1 .0) in
+      let few = leb→le (s .addressCount) maxAddresses (p .1 .0) in
+      omega arith
+
+module _ (t : List ℕ) (r : code.Count) where
+  pub teids-fit : countOf r ≡ countFree maxSessions t → CountFits r
   unfolding countFree
-  call-few n z = few-with (sound maxSessions t) t n (few-free t) (sym e ∙ ap countOf z)
+  teids-fit e = record { small = λ n z. let f = few-with (sound maxSessions t) (freeCount (viewSettings t) (viewSessions t)) n maxPool (few-free t) (sym e ∙ ap countOf z) in omega arith }
+
+  pub addresses-fit : countOf r ≡ countAddresses maxSessions t → CountFits r
+  unfolding countAddresses
+  addresses-fit e =
+      record { small = λ n z. let f = few-with (sound maxSessions t) (freeAddressCount (viewSettings t) (viewSessions t)) n maxAddresses (few-addresses t) (sym e ∙ ap countOf z) in omega arith }
+
+  pub call-counted : (a : CountCall) → countOf r ≡ countFree maxSessions t → a ≡ countAnswer (countOf r) → a ≡ countCall t
+  unfolding countCall
+  call-counted a e f = f ∙ ap countAnswer e
+
+  pub call-addresses : (a : CountCall) → countOf r ≡ countAddresses maxSessions t → a ≡ countAnswer (countOf r) → a ≡ addressCountCall t
+  unfolding addressCountCall
+  call-addresses a e f = f ∙ ap countAnswer e
 
 -- the table's length
-pub length-is : 30943 ≡ tableLength maxSessions
+pub length-is : 38631 ≡ tableLength maxSessions
 length-is = refl
 
 -- the request call

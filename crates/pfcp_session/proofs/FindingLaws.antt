@@ -14,7 +14,7 @@ use Rattle.octets.proofs.Tests.{is-true}
 use Rattle.octets.proofs.Ordered.{up-pairs, belowKey}
 use Rattle.octets.proofs.MemberLaws.{member-passes, none-in}
 use Rattle.rules.specs.Limits.{maxSessions}
-use Rattle.rules.specs.Model.{Session, Sessions, seidOf, sessionTeids}
+use Rattle.rules.specs.Model.{Settings, Session, Sessions, seidOf, sessionTeids}
 use Rattle.rules.specs.Layout.{viewSettings, viewSessions}
 use Rattle.rules.specs.Sound.{apart, sound}
 use Rattle.rules.specs.Stages.{hasSeid}
@@ -22,6 +22,7 @@ use Rattle.rules.specs.Restoring.{sessionAt}
 use Rattle.rules.specs.Finding.{Finding, findingOf, placeFrom, sessionPlace, isHolder, holderPlace, findIn, countSessions, findSession, findHolder}
 use Rattle.claim.proofs.KeptRules.{SessionsKept, sessions-kept}
 use Rattle.claim.proofs.ServeLaws.{table-kept}
+use Rattle.claim.proofs.RestoreAll.{apart-teids}
 use Rattle.restoration.proofs.SoundSlots.{few-sessions}
 use Rattle.finding.proofs.PlaceLaws.{place-says, none-says, place-only}
 use Rattle.pfcp_session.specs.Calls.{sessionCountCall, findSessionCall, findTeidCall}
@@ -91,10 +92,10 @@ seid-clash seid x y l a b =
     omega arith
 
 -- sessions are apart, so no two hold one TEID
-teid-clash : (teid : ℕ) (x y : Session) → T (apart x y) → T (isHolder teid x) → T (isHolder teid y) → ⊥
-unfolding apart isHolder
-teid-clash teid x y far a b =
-    T-not (member teid (sessionTeids y)) (member-passes (λ n. not (member n (sessionTeids y))) teid (sessionTeids x) a (none-in (sessionTeids x) (sessionTeids y) far)) b
+teid-clash : (s : Settings) (teid : ℕ) (x y : Session) → T (apart s x y) → T (isHolder teid x) → T (isHolder teid y) → ⊥
+unfolding isHolder
+teid-clash s teid x y far a b =
+    T-not (member teid (sessionTeids y)) (member-passes (λ n. not (member n (sessionTeids y))) teid (sessionTeids x) a (none-in (sessionTeids x) (sessionTeids y) (apart-teids s x y far))) b
 
 module _ (t : List ℕ) (h : T (sound maxSessions t)) where
   rules : SessionsKept maxSessions (viewSettings t) (viewSessions t)
@@ -110,7 +111,7 @@ module _ (t : List ℕ) (h : T (sound maxSessions t)) where
   unfolding findTeidCall findHolder holderPlace
   teid-one teid =
       subst (TheOne (At (isHolder teid) (viewSessions t))) (sym (told t (holderPlace teid (viewSessions t)) h))
-      (the-one (isHolder teid) (viewSessions t) (place-only (isHolder teid) apart (teid-clash teid) (viewSessions t) (rules .separate)))
+      (the-one (isHolder teid) (viewSessions t) (place-only (isHolder teid) (apart (viewSettings t)) (teid-clash (viewSettings t) teid) (viewSessions t) (rules .separate)))
 
 pub session-found : SessionFound
 unfolding SessionFound

@@ -28,7 +28,7 @@ use Rattle.rules.specs.Restoring.{sessionAt, addressed, peerAt, restorationAt, 
 use Rattle.rules.specs.Claim.{Step, Ran, Restore, restored, restoreAllowed, restoreCall, restoreCalls, callIn, Restores}
 use Rattle.rules.specs.Causes as why
 use Rattle.claim.proofs.RestorationApply.{restored-call}
-use Rattle.claim.proofs.RestoreAll.{separate-all, empty-allowed, restored-cause, restored-table}
+use Rattle.claim.proofs.RestoreAll.{separate-all, separate-addresses, empty-allowed, restored-cause, restored-table}
 use Rattle.claim.proofs.Sequence.{made-empty}
 use Rattle.claim.proofs.Runs.{restores-table}
 use Rattle.table.proofs.Encoded.{Encoded, sound-encoded}
@@ -117,7 +117,7 @@ restoration-accepted t place r made space answer w e long call =
     (record { outcome = 0; place = 0; space = put 0 (replyTo s [] (restoration s p x) (plain why.accepted)) space; table = encode maxSessions s (putSession x []) }) =
     request-step (made .table) r space answer call
     ∙ ap₂ (λ (u v : List ℕ). serve maxSessions u v space) empty (k .is)
-    ∙ restored-call s hs x hx maxSessions [] (unfold isLive sessionOf findBy in refl) (omega arith) (separate-all x [] (unfold all in tt)) p hp small (empty-allowed maxSessions s) space long in
+    ∙ restored-call s hs x hx maxSessions [] (unfold isLive sessionOf findBy in refl) (omega arith) (separate-all s x [] (unfold all in tt)) (separate-addresses s x [] (unfold all in tt)) p hp small (empty-allowed maxSessions s) space long in
     of-true
     (ap₂ (λ (o : ℕ) (l : List ℕ). eqb o 0 && eqb (replyCause l) 1) (ap (λ (v : Served). v .outcome) served) (ap (λ (v : Served). v .space) served)
     ∙ ap (λ (c : ℕ). eqb c 1) (restored-cause s hs x hx p hp [] space))
@@ -196,7 +196,7 @@ restorations-give-back t made asked steps w ok e went are =
 
 -- each request with a reply space of zeros
 abbrev withSpace : List ℕ → Asking
-withSpace r = record { message = r; reply = zeros 1024 }
+withSpace r = record { message = r; reply = zeros minSpace }
 
 same-messages : (rs : List (List ℕ)) → rs ≡ map messageOf (map withSpace rs)
 same-messages [] = refl

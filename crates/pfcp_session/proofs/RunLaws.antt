@@ -8,12 +8,12 @@ use mathlib.Core.List.{List, [], _∷_}
 use lib.Dec.{T}
 use Rattle.octets.specs.Choice.{pick}
 use Rattle.rules.specs.Limits.{maxSessions}
-use Rattle.rules.specs.Sound.{Made, make, Count, broken, free, countFree}
+use Rattle.rules.specs.Sound.{Made, make, Count, broken, free, countFree, countAddresses}
 use Rattle.rules.specs.Serve.{Served, serve}
 use Rattle.rules.specs.Claim.{Ran, lastTable, liveSet, Promise, Claim, Demand3}
 use Rattle.claim.proofs.Changed.{demand3}
-use Rattle.pfcp_session.specs.Calls.{MakeCall, makeAnswer, makeCall, CountCall, countAnswer, countCall, RequestCall, requestAnswer, requestCall}
-use Rattle.pfcp_session.specs.Runs.{HostStep, requested, counted, HostRan, countOf, stepOf, stepsOf, liveAfter, tableAfter, HostClaim}
+use Rattle.pfcp_session.specs.Calls.{MakeCall, makeAnswer, makeCall, CountCall, countAnswer, countCall, addressCountCall, RequestCall, requestAnswer, requestCall}
+use Rattle.pfcp_session.specs.Runs.{HostStep, requested, counted, countedAddresses, HostRan, countOf, stepOf, stepsOf, liveAfter, tableAfter, HostClaim}
 
 -- a request's outcome, place, space and table are those of `serve`
 pub request-step : (t msg space : List ℕ) (r : RequestCall) → r ≡ requestCall t msg space
@@ -21,11 +21,15 @@ pub request-step : (t msg space : List ℕ) (r : RequestCall) → r ≡ requestC
 unfolding requestCall requestAnswer
 request-step t msg space r e = ap (λ (x : RequestCall). record { outcome = x .outcome; place = x .place; space = x .space; table = x .table }) e
 
--- a count is that of `countFree`
+-- a count is that of `countFree`, or of `countAddresses`
 count-back : (c : Count) → countOf (countAnswer c) ≡ c
 unfolding countOf
 count-back broken = refl
 count-back (free n) = refl
+
+address-count-step : (t : List ℕ) (c : CountCall) → c ≡ addressCountCall t → countOf c ≡ countAddresses maxSessions t
+unfolding addressCountCall
+address-count-step t c e = ap countOf e ∙ count-back (countAddresses maxSessions t)
 
 count-step : (t : List ℕ) (c : CountCall) → c ≡ countCall t → countOf c ≡ countFree maxSessions t
 unfolding countCall
@@ -36,6 +40,7 @@ unfolding stepOf
 ran t [] h = tt
 ran t (requested msg space r ∷ hs) h = (request-step t msg space r (h .0), ran (r .table) hs (h .1))
 ran t (counted c ∷ hs) h = (count-step t c (h .0), ran t hs (h .1))
+ran t (countedAddresses c ∷ hs) h = (address-count-step t c (h .0), ran t hs (h .1))
 
 -- a table was made where the call says 0
 pub is-made : (m : Made) → makeAnswer m .outcome ≡ 0 → T (m .made)

@@ -1,6 +1,7 @@
 -- What the host's calls answer, as numbers, and what they leave behind.
 -- Assumes nothing.
-use Prim.Native.Nat.{ℕ}
+use Prim.Native.Nat.{ℕ, _<_, _^_}
+use mathlib.Core.Path.{_≡_}
 use mathlib.Core.List.{List}
 use lib.Dec.{eqb}
 use lib.ListN.{length}
@@ -8,7 +9,9 @@ use Rattle.octets.specs.Choice.{pick}
 use Rattle.rules.specs.Limits.{maxSessions}
 use Rattle.rules.specs.Model.{Settings}
 use Rattle.rules.specs.Layout.{viewSettings, viewSessions}
-use Rattle.rules.specs.Sound.{Made, make, Count, broken, free, countFree}
+use Rattle.rules.specs.Sound.{Made, make, Count, broken, free, countFree, countAddresses}
+use Rattle.table.specs.declared.Count as code
+use Rattle.table.specs.declared.Count.the-variants.{Free}
 use Rattle.rules.specs.Stages.{verdict}
 use Rattle.rules.specs.Serve.{Served, replyTo, serve}
 use Rattle.rules.specs.Restoring.{Writing, writeRestoration}
@@ -25,7 +28,7 @@ makeAnswer m = record { outcome = pick (m .made) 0 1; table = m .table }
 unfoldable pub makeCall : Settings → List ℕ → MakeCall
 makeCall s t = makeAnswer (make maxSessions s t)
 
--- counting: outcome 0 and the free count, or 01's outcome 1 and no TEIDs
+-- counting: outcome 0 and the free count, or 01's outcome 1 and none
 pub record CountCall : Type 0 where
   pub outcome : ℕ
   pub count : ℕ
@@ -36,6 +39,14 @@ countAnswer (free n) = record { outcome = 0; count = n }
 
 unfoldable pub countCall : List ℕ → CountCall
 countCall t = countAnswer (countFree maxSessions t)
+
+-- the same of the addresses of the pool (02 (v))
+unfoldable pub addressCountCall : List ℕ → CountCall
+addressCountCall t = countAnswer (countAddresses maxSessions t)
+
+-- a count has 32 bits
+pub record CountFits (c : code.Count) : Type 0 where
+  pub small : (n : ℕ) → c ≡ Free n → n < 2 ^ 32
 
 -- a request: 01's outcome, the length of the reply (0 where there is none), the place of a fault of stages 2 and 3 (else 0), the reply space and
 -- the table at exit

@@ -9,19 +9,20 @@ use Rattle.octets.specs.Lists.{all}
 use Rattle.rules.specs.Limits.{maxSessions}
 use Rattle.rules.specs.Model.{Settings, Sessions}
 use Rattle.rules.specs.Sound.{Count, broken, free}
-use Rattle.rules.specs.Claim.{Step, asked, told, stepAllowed, lastTable, liveSet, Promise}
-use Rattle.pfcp_session.specs.Calls.{MakeCall, makeCall, CountCall, countCall, RequestCall, requestCall}
+use Rattle.rules.specs.Claim.{Step, asked, told, toldAddresses, stepAllowed, lastTable, liveSet, Promise}
+use Rattle.pfcp_session.specs.Calls.{MakeCall, makeCall, CountCall, countCall, addressCountCall, RequestCall, requestCall}
 
--- a call of pfcp_request with its message and reply space, or one of pfcp_free_count, and what it left
+-- a call of pfcp_request with its message and reply space, or one of pfcp_free_count or pfcp_free_addresses, and what it left
 pub data HostStep : Type 0 where
   requested : List ℕ → List ℕ → RequestCall → HostStep
-  counted : CountCall → HostStep
+  counted countedAddresses : CountCall → HostStep
 
 -- each call left what its contract says on the table t, and the next one had the table that it left
 abbrev pub HostRan : List ℕ → List HostStep → Type 0
 HostRan t [] = Unit
 HostRan t (requested msg space r ∷ steps) = (r ≡ requestCall t msg space) × HostRan (r .table) steps
 HostRan t (counted c ∷ steps) = (c ≡ countCall t) × HostRan t steps
+HostRan t (countedAddresses c ∷ steps) = (c ≡ addressCountCall t) × HostRan t steps
 
 -- the same in the claim's words
 unfoldable pub countOf : CountCall → Count
@@ -30,6 +31,7 @@ countOf c = pick (eqb (c .outcome) 0) (free (c .count)) broken
 unfoldable pub stepOf : HostStep → Step
 stepOf (requested msg space r) = asked msg space (record { outcome = r .outcome; place = r .place; space = r .space; table = r .table })
 stepOf (counted c) = told (countOf c)
+stepOf (countedAddresses c) = toldAddresses (countOf c)
 
 abbrev pub stepsOf : List HostStep → List Step
 stepsOf hs = map stepOf hs

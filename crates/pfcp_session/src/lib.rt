@@ -5,7 +5,8 @@ ghost use mathlib.Core.Path.{_≡_};
 ghost use Rattle.rules.specs.Limits.{maxSessions};
 ghost use Rattle.rules.specs.Layout.{tableLength};
 ghost use Rattle.unit.specs.Meaning.{settingsGiven};
-ghost use Rattle.pfcp_session.specs.Calls.{makeCall, countCall, requestCall, restorationCall, sessionCountCall, findSessionCall, findTeidCall};
+ghost use Rattle.table.specs.Answers.{countOf};
+ghost use Rattle.pfcp_session.specs.Calls.{CountFits, countAnswer, makeCall, countCall, addressCountCall, requestCall, restorationCall, sessionCountCall, findSessionCall, findTeidCall};
 
 // Outcomes of making a table.
 const MADE: u32 = 0;
@@ -25,7 +26,8 @@ pub extern "C" fn pfcp_table_length() -> usize
     format::LENGTH
 }
 
-// Makes an empty table: 0 made, 1 refused (nothing is written). No IPv6 address is a length of 0.
+// Makes an empty table: 0 made, 1 refused (nothing is written). No IPv6 address is a length of 0. The pool of TEIDs has size of them from
+// first on, the pool of patients' addresses address_count of them from first_address on.
 #[no_mangle]
 pub extern "C" fn pfcp_make_table(
     table: &mut [u8],
@@ -33,24 +35,25 @@ pub extern "C" fn pfcp_make_table(
     ipv6: &[u8],
     first: u32,
     size: u32,
+    first_address: u32,
+    address_count: u32,
 ) -> u32
     ensures { λ r.
         ⌜ record { outcome = r; table = now (table .exit) }
-        ≡ makeCall (settingsGiven ipv4 (now (ipv6 .entry)) first size) (now (table .entry)) ⌝ }
+        ≡ makeCall (settingsGiven ipv4 (now (ipv6 .entry)) first size «first_address» «address_count») (now (table .entry)) ⌝ }
 {
-    let answer = table::make(table, ipv4, ipv6, first, size);
+    let answer = table::make(table, ipv4, ipv6, first, size, first_address, address_count);
     match answer {
         table::Making::Made => MADE,
         table::Making::Refused => REFUSED,
     }
 }
 
-// Writes the number of free TEIDs to count: outcome 0, or 1 and 0 TEIDs where the table is broken or of wrong length.
-#[no_mangle]
-pub extern "C" fn pfcp_free_count(table: &[u8], count: &mut u32) -> u32
-    ensures { λ r. ⌜ record { outcome = r; count = now (count .exit) } ≡ countCall (now (table .entry)) ⌝ }
+// A count for the host: outcome 0 and the number, or 1 and 0 where the table is broken.
+fn tell(answer: table::Count, count: &mut u32) -> u32
+    requires { ⌜ CountFits answer ⌝ }
+    ensures { λ r. ⌜ record { outcome = r; count = now (count .exit) } ≡ countAnswer (countOf answer) ⌝ }
 {
-    let answer = table::free_count(table);
     match answer {
         table::Count::Broken => {
             *count = 0;
@@ -61,6 +64,24 @@ pub extern "C" fn pfcp_free_count(table: &[u8], count: &mut u32) -> u32
             COUNTED
         }
     }
+}
+
+// Writes the number of free TEIDs to count: outcome 0, or 1 and 0 TEIDs where the table is broken or of wrong length.
+#[no_mangle]
+pub extern "C" fn pfcp_free_count(table: &[u8], count: &mut u32) -> u32
+    ensures { λ r. ⌜ record { outcome = r; count = now (count .exit) } ≡ countCall (now (table .entry)) ⌝ }
+{
+    let answer = table::free_count(table);
+    tell(answer, count)
+}
+
+// Writes the number of free addresses of the pool to count: outcome 0, or 1 and 0 where the table is broken or of wrong length.
+#[no_mangle]
+pub extern "C" fn pfcp_free_addresses(table: &[u8], count: &mut u32) -> u32
+    ensures { λ r. ⌜ record { outcome = r; count = now (count .exit) } ≡ addressCountCall (now (table .entry)) ⌝ }
+{
+    let answer = table::free_addresses(table);
+    tell(answer, count)
 }
 
 // Handles one request: 01's outcome. With outcome 0 the reply stands at the front of the reply space, and used is its length; any other

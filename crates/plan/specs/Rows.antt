@@ -5,18 +5,18 @@ use mathlib.Core.Bool.{Bool, _||_}
 use mathlib.Core.Option.{Option, none, some}
 use mathlib.Core.List.{List, [], _∷_, _++_, map}
 use lib.ListN.{getD}
-use lib.Dec.{eqb}
+use lib.Dec.{eqb, ltb}
 use Rattle.octets.specs.Choice.{pick}
 use Rattle.octets.specs.Octets.{be, bit, slices}
 use Rattle.octets.specs.Lists.{any, keep, collect}
-use Rattle.rules.specs.Elements.{Fteid, given, choose, Fqcsid, sets, removal}
+use Rattle.rules.specs.Elements.{Fteid, given, choose, UeIp, ueGiven, ueChoose, ueOther, Fqcsid, sets, removal}
 use Rattle.rules.specs.Reading.{NewPdr, NewEndpoint, Change, cleared, changed, Request}
 use Rattle.rules.specs.Types as ie
 use Rattle.plan.specs.Words as its
 
 -- words in a row
 abbrev pub rowWidth : ℕ
-rowWidth = 18
+rowWidth = 20
 
 -- a word of a row
 abbrev pub word : ℕ → List ℕ → ℕ
@@ -45,6 +45,13 @@ rowFteid row = fteidFrom (word its.flags row) (word its.teid row) (word its.ipv4
 unfoldable pub rowLocal : List ℕ → Option Fteid
 rowLocal row = pick (eqb (word its.flags row) 0) none (some (rowFteid row))
 
+-- the UE IP Address of kind k and address a
+unfoldable pub ueFrom : ℕ → ℕ → Option UeIp
+ueFrom k a = pick (eqb k 0) none (some (pick (eqb k 1) (ueGiven a) (pick (eqb k 2) ueChoose ueOther)))
+
+unfoldable pub rowUe : List ℕ → Option UeIp
+rowUe row = ueFrom (word its.ueKind row) (word its.ueAddress row)
+
 -- a value that is there if its word says so
 unfoldable pub present : ℕ → ℕ → Option ℕ
 present there v = pick (eqb there 1) (some v) none
@@ -58,10 +65,11 @@ rowPdr row =
       source = word its.source row;
       local = rowLocal row;
       endpoint = present (word its.hasEndpointId row) (word its.endpointId row);
+      address = rowUe row;
     }
 
 unfoldable pub rowEndpoint : List ℕ → NewEndpoint
-rowEndpoint row = record { id = word its.endpointId row; local = rowFteid row }
+rowEndpoint row = record { id = word its.endpointId row; local = rowFteid row; address = rowUe row }
 
 -- null length takes the FAR ID away
 unfoldable pub rowFar : List ℕ → Option (Option ℕ)
@@ -72,6 +80,10 @@ rowChange row = record { id = word its.pdrId row; precedence = present (word its
 
 abbrev pub rowPdi : List ℕ → Bool
 rowPdi row = eqb (word its.hasPdi row) 1
+
+-- an address that is not supported
+abbrev pub rowStrange : List ℕ → Bool
+rowStrange row = ltb 2 (word its.ueKind row)
 
 abbrev pub rowPdrId : List ℕ → ℕ
 rowPdrId row = word its.pdrId row
@@ -103,6 +115,7 @@ requestIn seid restoring noted rows =
       gonePdrs = map rowPdrId (tagged ie.removePdr rows);
       goneEndpoints = map rowEndpointId (tagged ie.removeEndpoint rows);
       csids = pick (any isNullRow (tagged ie.fqcsid rows)) cleared (changed (collect rowCsid (tagged ie.fqcsid rows)));
-      unsupported = noted || any rowPdi (tagged ie.updatePdr rows);
+      unsupported =
+          noted || any rowPdi (tagged ie.updatePdr rows) || any rowStrange (tagged ie.createPdr rows) || any rowStrange (tagged ie.createEndpoint rows);
       listed = [];
     }

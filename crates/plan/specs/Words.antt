@@ -63,6 +63,13 @@ ipv6Low = 16
 abbrev pub chooseId : ℕ
 chooseId = 17
 
+-- the UE IP Address: 0 if there is none, 1 an address, 2 a CHOOSE, 3 one that is not supported; the address, which a CHOOSE gets when it is granted
+abbrev pub ueKind : ℕ
+ueKind = 18
+
+abbrev pub ueAddress : ℕ
+ueAddress = 19
+
 -- ---- an FQ-CSID's row
 
 -- 1 sets, 2 removes, 3 null length

@@ -3,4 +3,5 @@ pub mod Marks
 pub mod Free
 pub mod Words
 pub mod TakenLaws
+pub mod AddressLaws
 pub mod GrantWalk

@@ -6,8 +6,10 @@ ghost use lib.ListN.{length};
 ghost use Rattle.pool.specs.Map.{marked, mark, freeFrom};
 ghost use Rattle.pool.specs.Answer.{lowest};
 
-// The number of words in the map.
+// The number of words in the map of TEIDs, and in that of addresses.
 pub const WORDS: usize = 64;
+
+pub const ADDRESS_WORDS: usize = 16;
 
 // The map of taken TEIDs: words of 64 bits, a bit for each offset.
 pub struct Taken {

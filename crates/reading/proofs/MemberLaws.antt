@@ -14,20 +14,24 @@ use Rattle.octets.specs.Lists.{member, allIn}
 use Rattle.octets.proofs.Put.{length-part}
 use Rattle.octets.proofs.Tests.{pick-either, of-true}
 use Rattle.rules.specs.Elements as rules
-use Rattle.rules.specs.Elements.{Refusal, tooShort, incorrect, causeOf, refuse, value, Fteid, given, choose, v4Flag, v6Flag, chFlag, chidFlag, wrongFlags, fteidLength, chosenFields, givenFields, fteidFields, readFteid}
+use Rattle.rules.specs.Elements.{Refusal, tooShort, incorrect, causeOf, refuse, value, Fteid, given, choose, v4Flag, v6Flag, chFlag, chidFlag, wrongFlags, fteidLength, chosenFields, givenFields, fteidFields, readFteid, readUeIp}
 use Rattle.rules.specs.Message.{placesOf, numberWidth}
 use Rattle.rules.specs.Reading.{Reading, faulty, done, refusal, andThen, Members, withPdrId, withPrecedence, withFar, withPdi, withSource, withEndpointId, holds, numberRead, farRead, pdiIn, valueRead, memberRead, unopened}
 use Rattle.rules.specs.Types as ie
 use Rattle.rules.specs.Causes as why
 use Rattle.element.specs.FTeid.{fteidTests, fteidMeant, fteidOf}
 use Rattle.element.specs.declared.fteid.FTeid.{FTeid}
+use Rattle.element.specs.UeIp.{ueOf}
+use Rattle.element.specs.declared.ueip.UeIp.{UeIp}
+use Rattle.element.specs.declared.ueip.UeIp.the-variants as ue-case
 use Rattle.element.proofs.AnswerLaws.{picked}
+use Rattle.plan.specs.Rows.{ueFrom}
 use Rattle.reading.specs.declared.Verdict.{Verdict}
 use Rattle.reading.specs.declared.Verdict.the-variants.{Fine, Refused}
 use Rattle.reading.specs.Verdicts.{stopped, got, numbered}
-use Rattle.reading.specs.Rows.{memberTypes, plainTypes, column, rowMembers, Tidy, Reads, plainNumber, plainRead, fteidRead, ownRead, isNullFar}
+use Rattle.reading.specs.Rows.{memberTypes, plainTypes, column, rowMembers, Tidy, Reads, plainNumber, plainRead, fteidRead, ueRead, kindIn, addressIn, ownRead, isNullFar}
 use Rattle.reading.proofs.Places.{keys-in, one-of}
-use Rattle.reading.proofs.RowLaws.{Holding, by-plain, by-member, plainPut, put-plain, put-null-far, put-pdi, sixSet, put-fteid, held, unheld, from-words}
+use Rattle.reading.proofs.RowLaws.{Holding, by-plain, by-member, plainPut, put-plain, put-null-far, put-pdi, sixSet, put-fteid, twoSet, put-ue, held, unheld, from-words}
 
 -- ---- readings by their numbers
 
@@ -152,6 +156,24 @@ fteid-value x p e v row z = by-option (fteidOf x) refl
         let there : x .flags ≡ 0 → ⊥ = λ n. no-families e v (x .teid) (k ∙ ap value (m ∙ no-flags x n)) in
         holding (put-fteid row (x .flags) (x .teid) (x .ipv4) (x .«ipv6_high») (x .«ipv6_low») (x .«choose_id») y there (from-words (x .flags) (x .teid) (x .ipv4) (x .«ipv6_high») (x .«ipv6_low») (x .«choose_id») ∙ sym m) z) (rw k)
 
+-- ---- a UE IP Address
+
+-- its words give it back
+ue-words : (x : UeIp) → ueFrom (kindIn x) (addressIn x) ≡ some (ueOf x)
+unfolding ueFrom
+ue-words (ue-case.Given a) = refl
+ue-words ue-case.Choose = refl
+ue-words ue-case.Other = refl
+
+pub ue-refused : (p : ℕ) (v row : List ℕ) (c : Refusal) {n : ℕ} → Tidy row → refuse c ≡ readUeIp v → n ≡ causeOf c → Reads (ueRead p (readUeIp v) (rowMembers row)) row (Refused n ie.ueIpAddress p)
+unfolding ueRead
+ue-refused p v row c z h e = record { told = rw (← h, e); tidy = z }
+
+pub ue-value : (x : UeIp) (p : ℕ) (v row : List ℕ) {k a : ℕ} → Tidy row → value (ueOf x) ≡ readUeIp v → k ≡ kindIn x → a ≡ addressIn x
+    → Reads (ueRead p (readUeIp v) (rowMembers row)) (twoSet row k a row) Fine
+unfolding ueRead
+ue-value x p v row z h e f = rw (e, f) (holding (put-ue row (kindIn x) (addressIn x) (ueOf x) (ue-words x) z) (rw (← h)))
+
 -- ---- a member
 
 nil-length : (xs : List ℕ) → eqb (length xs) 0 ≡ isNil xs
@@ -182,17 +204,21 @@ plain-alike g p v m =
     by-plain (λ t. false ≡ isNullFar g t v → plainRead t p v m ≡ valueRead unopened g t p v m)
     (λ h. refl) (λ h. refl) (λ h. rw (← h)) (λ h. refl) (λ h. refl)
 
--- a type that holds a number is one that is neither an F-TEID nor a PDI
-pub is-plain : (t : ℕ) → member t memberTypes ≡ true → (t ≡ ie.fteid → ⊥) → (t ≡ ie.pdi → ⊥) → member t plainTypes ≡ true
+-- a type that holds a number is one that is no F-TEID, no UE IP Address and no PDI
+pub is-plain : (t : ℕ) → member t memberTypes ≡ true → (t ≡ ie.fteid → ⊥) → (t ≡ ie.ueIpAddress → ⊥) → (t ≡ ie.pdi → ⊥) → member t plainTypes ≡ true
 unfolding member
 is-plain =
-    by-member (λ t. (t ≡ ie.fteid → ⊥) → (t ≡ ie.pdi → ⊥) → member t plainTypes ≡ true)
-    (λ a b. refl) (λ a b. refl) (λ a b. refl) (λ a b. absurd (b refl)) (λ a b. refl) (λ a b. absurd (a refl)) (λ a b. refl)
+    by-member (λ t. (t ≡ ie.fteid → ⊥) → (t ≡ ie.ueIpAddress → ⊥) → (t ≡ ie.pdi → ⊥) → member t plainTypes ≡ true)
+    (λ a b c. refl) (λ a b c. refl) (λ a b c. refl) (λ a b c. absurd (c refl)) (λ a b c. refl) (λ a b c. absurd (a refl)) (λ a b c. absurd (b refl)) (λ a b c. refl)
 
 module _ (g t p : ℕ) (v row : List ℕ) where
   pub value-fteid : {row′ : List ℕ} {r : Verdict} → t ≡ ie.fteid → Reads (fteidRead p (readFteid (eqb g ie.createEndpoint) v) (rowMembers row)) row′ r → Reads (valueRead unopened g t p v (rowMembers row)) row′ r
   unfolding valueRead fteidRead
   value-fteid h e = rw h e
+
+  pub value-ue : {row′ : List ℕ} {r : Verdict} → t ≡ ie.ueIpAddress → Reads (ueRead p (readUeIp v) (rowMembers row)) row′ r → Reads (valueRead unopened g t p v (rowMembers row)) row′ r
+  unfolding valueRead ueRead
+  value-ue h e = rw h e
 
   pub value-pdi : t ≡ ie.pdi → Tidy row → Reads (valueRead unopened g t p v (rowMembers row)) (set row 6 1) Fine
   unfolding valueRead pdiIn
@@ -209,7 +235,7 @@ module _ (g t p : ℕ) (v row : List ℕ) where
       null-is : (t : ℕ) → member t memberTypes ≡ true → true ≡ (eqb g ie.updatePdr && (eqb t ie.farId && isNil v)) → valueRead unopened g t p v (rowMembers row) ≡ done (withFar none (rowMembers row))
       null-is =
           by-member (λ t. true ≡ (eqb g ie.updatePdr && (eqb t ie.farId && isNil v)) → valueRead unopened g t p v (rowMembers row) ≡ done (withFar none (rowMembers row)))
-          never never (λ q. rw (← q)) never never never never
+          never never (λ q. rw (← q)) never never never never never
         where
           never : {X : Type 0} → true ≡ (eqb g ie.updatePdr && false) → X
           never q = let y : true ≡ false = q ∙ and-false (eqb g ie.updatePdr) in let n : _≡_ {A = ℕ} 0 1 = cc in absurd (omega arith)
@@ -225,10 +251,10 @@ has-words g t h = go (eqb g ie.createPdr || eqb g ie.updatePdr) (eqb g ie.pdi) (
     in-list : (a : ℕ) (bs : List ℕ) → T (allIn (a ∷ bs) memberTypes) → member t (a ∷ bs) ≡ true → member t memberTypes ≡ true
     in-list a bs k q = keys-in t a bs memberTypes k (one-of t a bs (of-true q))
 
-    go : (a b c d : Bool) → member t (pick a (ie.pdrId ∷ ie.precedence ∷ ie.pdi ∷ ie.farId ∷ []) (pick b (ie.sourceInterface ∷ ie.fteid ∷ ie.endpointId ∷ []) (pick c (ie.endpointId ∷ ie.fteid ∷ []) (pick d (ie.pdrId ∷ []) (ie.endpointId ∷ []))))) ≡ true → member t memberTypes ≡ true
+    go : (a b c d : Bool) → member t (pick a (ie.pdrId ∷ ie.precedence ∷ ie.pdi ∷ ie.farId ∷ []) (pick b (ie.sourceInterface ∷ ie.fteid ∷ ie.endpointId ∷ ie.ueIpAddress ∷ []) (pick c (ie.endpointId ∷ ie.fteid ∷ ie.ueIpAddress ∷ []) (pick d (ie.pdrId ∷ []) (ie.endpointId ∷ []))))) ≡ true → member t memberTypes ≡ true
     go true b c d q = in-list ie.pdrId (ie.precedence ∷ ie.pdi ∷ ie.farId ∷ []) tt q
-    go false true c d q = in-list ie.sourceInterface (ie.fteid ∷ ie.endpointId ∷ []) tt q
-    go false false true d q = in-list ie.endpointId (ie.fteid ∷ []) tt q
+    go false true c d q = in-list ie.sourceInterface (ie.fteid ∷ ie.endpointId ∷ ie.ueIpAddress ∷ []) tt q
+    go false false true d q = in-list ie.endpointId (ie.fteid ∷ ie.ueIpAddress ∷ []) tt q
     go false false false true q = in-list ie.pdrId [] tt q
     go false false false false q = in-list ie.endpointId [] tt q
 

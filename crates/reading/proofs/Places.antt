@@ -60,11 +60,11 @@ module _ (g : ℕ) where
   in-pdr (inl e) = rw e
   in-pdr (inr e) = rw e
 
-  pub in-pdi : g ≡ ie.pdi → placesOf g ≡ ie.sourceInterface ∷ ie.fteid ∷ ie.endpointId ∷ []
+  pub in-pdi : g ≡ ie.pdi → placesOf g ≡ ie.sourceInterface ∷ ie.fteid ∷ ie.endpointId ∷ ie.ueIpAddress ∷ []
   unfolding placesOf
   in-pdi e = rw e
 
-  pub in-endpoint : g ≡ ie.createEndpoint → placesOf g ≡ ie.endpointId ∷ ie.fteid ∷ []
+  pub in-endpoint : g ≡ ie.createEndpoint → placesOf g ≡ ie.endpointId ∷ ie.fteid ∷ ie.ueIpAddress ∷ []
   unfolding placesOf
   in-endpoint e = rw e
 

@@ -10,35 +10,38 @@ use Rattle.octets.specs.Choice.{pick, isNil}
 use Rattle.octets.specs.Octets.{numberAt}
 use Rattle.rules.specs.Types as ie
 use Rattle.rules.specs.Message.{inside, elements, numberWidth}
-use Rattle.rules.specs.Elements.{Answer, Fteid, causeOf}
-use Rattle.rules.specs.Reading.{Reading, done, andThen, named, Members, withLocal, valueRead, memberRead, membersRead, unopened, pdiRead, pdiEnd, itemFrom}
-use Rattle.plan.specs.Rows.{rowWidth, word, present, rowFar, rowLocal}
+use Rattle.rules.specs.Elements.{Answer, Fteid, UeIp, causeOf}
+use Rattle.rules.specs.Reading.{Reading, done, andThen, named, Members, withLocal, withAddress, valueRead, memberRead, membersRead, unopened, pdiRead, pdiEnd, itemFrom}
+use Rattle.plan.specs.Rows.{rowWidth, word, present, rowFar, rowLocal, rowUe}
 use Rattle.plan.specs.Words as its
 use Rattle.element.specs.Answers.{refusalOf}
 use Rattle.element.specs.declared.fteid.Answer as code
 use Rattle.element.specs.declared.fteid.Answer.the-variants as code-case
+use Rattle.element.specs.declared.ueip.UeIp as code-ue
+use Rattle.element.specs.declared.ueip.UeIp.the-variants as ue-case
 use Rattle.reading.specs.declared.Verdict.{Verdict}
 use Rattle.reading.specs.declared.Verdict.the-variants.{Fine, Refused}
 use Rattle.reading.specs.Verdicts.{numbered, outcome}
 
 -- the types that have words in a row
 abbrev pub memberTypes : List ℕ
-memberTypes = ie.pdrId ∷ ie.precedence ∷ ie.farId ∷ ie.pdi ∷ ie.sourceInterface ∷ ie.fteid ∷ ie.endpointId ∷ []
+memberTypes = ie.pdrId ∷ ie.precedence ∷ ie.farId ∷ ie.pdi ∷ ie.sourceInterface ∷ ie.fteid ∷ ie.ueIpAddress ∷ ie.endpointId ∷ []
 
 -- those that hold a number
 abbrev pub plainTypes : List ℕ
 plainTypes = ie.pdrId ∷ ie.precedence ∷ ie.farId ∷ ie.sourceInterface ∷ ie.endpointId ∷ []
 
--- the word that says whether a member is there; that of an F-TEID holds its flags
+-- the word that says whether a member is there; that of an F-TEID holds its flags, that of a UE IP Address its kind
 unfoldable pub column : ℕ → ℕ
 column t =
-    pick (eqb t ie.pdrId) 1
-    (pick (eqb t ie.precedence) 2
-    (pick (eqb t ie.farId) 3
-    (pick (eqb t ie.sourceInterface) 4
-    (pick (eqb t ie.endpointId) 5
-    (pick (eqb t ie.pdi) 6
-    (pick (eqb t ie.fteid) 12 0))))))
+    pick (eqb t ie.pdrId) its.hasPdrId
+    (pick (eqb t ie.precedence) its.hasPrecedence
+    (pick (eqb t ie.farId) its.hasFarId
+    (pick (eqb t ie.sourceInterface) its.hasSource
+    (pick (eqb t ie.endpointId) its.hasEndpointId
+    (pick (eqb t ie.pdi) its.hasPdi
+    (pick (eqb t ie.fteid) its.flags
+    (pick (eqb t ie.ueIpAddress) its.ueKind 0)))))))
 
 -- the members that a row holds
 unfoldable pub rowMembers : List ℕ → Members
@@ -51,6 +54,7 @@ rowMembers row =
       source = present (word its.hasSource row) (word its.source row);
       local = rowLocal row;
       endpointId = present (word its.hasEndpointId row) (word its.endpointId row);
+      address = rowUe row;
     }
 
 -- a row whose first words only say whether a member is there
@@ -79,6 +83,21 @@ plainRead t p v m = valueRead unopened ie.createPdr t p v m
 -- the answer on an F-TEID
 unfoldable pub fteidRead : ℕ → Answer Fteid → Members → Reading Members
 fteidRead p a m = andThen (named ie.fteid p a) (λ y. done (withLocal y m))
+
+-- the answer on a UE IP Address
+unfoldable pub ueRead : ℕ → Answer UeIp → Members → Reading Members
+ueRead p a m = andThen (named ie.ueIpAddress p a) (λ y. done (withAddress y m))
+
+-- the words of a UE IP Address: its kind, and its address, 0 where it gives none
+abbrev pub kindIn : code-ue.UeIp → ℕ
+kindIn (ue-case.Given a) = 1
+kindIn ue-case.Choose = 2
+kindIn ue-case.Other = 3
+
+abbrev pub addressIn : code-ue.UeIp → ℕ
+addressIn (ue-case.Given a) = a
+addressIn ue-case.Choose = 0
+addressIn ue-case.Other = 0
 
 -- an element by itself: a PDI is noted and not opened
 unfoldable pub ownRead : ℕ → ℕ → ℕ → List ℕ → Members → Reading Members

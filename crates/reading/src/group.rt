@@ -15,12 +15,12 @@ pub(crate) fn is_member(group: u64, kind: u64) -> bool
             _ => false,
         },
         types::PDI => match kind {
-            types::SOURCE_INTERFACE | types::ENDPOINT_ID => true,
+            types::SOURCE_INTERFACE | types::ENDPOINT_ID | types::UE_IP_ADDRESS => true,
             types::FTEID => true,
             _ => false,
         },
         types::CREATE_ENDPOINT => match kind {
-            types::ENDPOINT_ID | types::FTEID => true,
+            types::ENDPOINT_ID | types::FTEID | types::UE_IP_ADDRESS => true,
             _ => false,
         },
         types::REMOVE_PDR => match kind {

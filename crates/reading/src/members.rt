@@ -2,6 +2,8 @@
 // have a place, which are required, and the word and the width of a plain member are tables.
 use crate::Verdict;
 use element::fteid::Answer;
+use element::ueip;
+use element::ueip::UeIp;
 use elements::First;
 use format::causes;
 use format::types;
@@ -13,17 +15,17 @@ ghost use lib.ListN.{length};
 ghost use mathlib.Core.Bool.{true};
 ghost use Rattle.octets.specs.Choice.{pick};
 ghost use Rattle.octets.specs.Lists.{member};
-ghost use Rattle.rules.specs.Elements.{readFteid};
+ghost use Rattle.rules.specs.Elements.{readFteid, readUeIp};
 ghost use Rattle.rules.specs.Message.{numberWidth};
 ghost use Rattle.rules.specs.Reading.{unopened, valueRead};
 ghost use Rattle.plan.specs.Rows.{word, rowWidth};
 ghost use Rattle.reading.specs.Verdicts.{outcome, numbered};
-ghost use Rattle.reading.specs.Rows.{memberTypes, plainTypes, column, rowMembers, Tidy, Reads, plainNumber, plainRead, fteidRead, ownRead, isNullFar, closing, closedRead, fteidRefusal};
+ghost use Rattle.reading.specs.Rows.{memberTypes, plainTypes, column, rowMembers, Tidy, Reads, plainNumber, plainRead, fteidRead, ueRead, kindIn, addressIn, ownRead, isNullFar, closing, closedRead, fteidRefusal};
 ghost use Rattle.reading.specs.declared.Verdict.the-variants.{Refused};
 
 // The word of a row that says whether a member of type kind is there.
 fn column_of(kind: u64) -> usize
-    ensures { λ r. ⌜ (r ≡ column kind) × (r < 13) ⌝ }
+    ensures { λ r. ⌜ (r ≡ column kind) × (r < rowWidth) ⌝ }
 {
     match kind {
         types::PDR_ID => words::HAS_PDR_ID,
@@ -33,6 +35,7 @@ fn column_of(kind: u64) -> usize
         types::ENDPOINT_ID => words::HAS_ENDPOINT_ID,
         types::PDI => words::HAS_PDI,
         types::FTEID => words::FLAGS,
+        types::UE_IP_ADDRESS => words::UE_KIND,
         _ => 0,
     }
 }
@@ -93,6 +96,48 @@ fn read_fteid(v: &[u8], endpoint: bool, place: usize, row: &mut [u64]) -> Verdic
     Verdict::Fine
 }
 
+// The kind of a UE IP Address, as its row has it: 1 an address, 2 a CHOOSE, 3 one that is not supported.
+fn kind_of(x: UeIp) -> u64
+    ensures { λ r. ⌜ r ≡ kindIn x ⌝ }
+{
+    match x {
+        UeIp::Given(_) => 1,
+        UeIp::Choose => 2,
+        UeIp::Other => 3,
+    }
+}
+
+// The address that it gives, else 0.
+fn address_of(x: UeIp) -> u64
+    ensures { λ r. ⌜ r ≡ addressIn x ⌝ }
+{
+    match x {
+        UeIp::Given(address) => address,
+        UeIp::Choose => 0,
+        UeIp::Other => 0,
+    }
+}
+
+// A UE IP Address at a place.
+fn read_ue(v: &[u8], place: usize, row: &mut [u64]) -> Verdict
+    requires { ⌜ Tidy (now row) ⌝ }
+    ensures { λ r. ⌜ Reads (ueRead place (readUeIp (now (v .entry))) (rowMembers (now (row .entry)))) (now (row .exit)) r ⌝ }
+{
+    let answer = element::ueip::read(v);
+    match answer {
+        ueip::Answer::Refused(refusal) => Verdict::Refused(
+            element::cause_of(refusal),
+            types::UE_IP_ADDRESS,
+            place,
+        ),
+        ueip::Answer::Value(x) => {
+            row[words::UE_KIND] = kind_of(x);
+            row[words::UE_ADDRESS] = address_of(x);
+            Verdict::Fine
+        }
+    }
+}
+
 // Whether this is a FAR ID of null length in an Update PDR.
 fn is_null_far(v: &[u8], group: u64, kind: u64) -> bool
     ensures { λ r. ⌜ r ≡ isNullFar group kind (now (v .entry)) ⌝ }
@@ -114,6 +159,9 @@ fn read_value(v: &[u8], group: u64, kind: u64, place: usize, row: &mut [u64]) ->
 {
     if kind == types::FTEID {
         return read_fteid(v, group == types::CREATE_ENDPOINT, place, row);
+    }
+    if kind == types::UE_IP_ADDRESS {
+        return read_ue(v, place, row);
     }
     if kind == types::PDI {
         row[words::HAS_PDI] = 1;

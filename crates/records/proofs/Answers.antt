@@ -16,10 +16,10 @@ use Rattle.octets.specs.Lists.{member}
 use Rattle.octets.proofs.Ordered.{orders}
 use Rattle.octets.proofs.Tests.{and-left, and-right, of-true}
 use Rattle.octets.proofs.FieldLaws.{octet-field, zero-number, zero-fields}
-use Rattle.rules.specs.Limits.{maxPool}
+use Rattle.rules.specs.Limits.{maxPool, maxAddresses}
 use Rattle.rules.specs.Layout.{endpointWidth, settingsWidth, pdrWidth, csidWidth}
 use native.Mathlib.Nat.{add-zero}
-use Rattle.rules.specs.Sound.{poolTests}
+use Rattle.rules.specs.Sound.{poolTests, addressPoolTests}
 use Rattle.laws.proofs.LayoutLaws.{endpoint-view}
 use Rattle.records.specs.Kept.{settingsSound, pdrSound, endpointSound, csidSound, endpointIds, unit, optionalTest, familiesTest, tunnelTest, placeTest, pdrTest, endpointTest, addressTest, csidTest}
 use Rattle.records.proofs.Cells.{and-true, and-false, or-true, or-false}
@@ -58,9 +58,13 @@ module _ (xs : List ℕ) (e : length xs ≡ settingsWidth) (o : T (octets xs)) w
   pub settings-absent : (r : Bool) → r ≡ optionalTest (getD xs 4 0) (number (part 5 16 xs)) → not r ≡ true → false ≡ settingsSound xs
   settings-absent r q h = sym (settings-law xs e o ∙ rw (← q, not-true r h))
 
-  pub settings-pool : (r t : Bool) (first size : ℕ) → r ≡ optionalTest (getD xs 4 0) (number (part 5 16 xs)) → not r ≡ false → first ≡ number (part 21 4 xs) → size ≡ number (part 25 4 xs)
-      → t ≡ allOf (poolTests first size) → t ≡ settingsSound xs
-  settings-pool r t first size q h f z y = y ∙ sym (settings-law xs e o ∙ rw (← q, not-false r h, ← f, ← z))
+  module _ (r : Bool) (q : r ≡ optionalTest (getD xs 4 0) (number (part 5 16 xs))) (h : not r ≡ false) (first size : ℕ) (f : first ≡ number (part 21 4 xs)) (z : size ≡ number (part 25 4 xs))
+      (t : Bool) (y : t ≡ allOf (poolTests first size)) where
+    pub settings-pool : not t ≡ true → false ≡ settingsSound xs
+    settings-pool g = sym (settings-law xs e o ∙ rw (← q, not-false r h, ← f, ← z, ← y, not-true t g))
+
+    pub settings-addresses : not t ≡ false → (u : Bool) (at count : ℕ) → at ≡ number (part 29 4 xs) → count ≡ number (part 33 4 xs) → u ≡ allOf (addressPoolTests at count) → u ≡ settingsSound xs
+    settings-addresses g u at count qa qc w = w ∙ sym (settings-law xs e o ∙ rw (← q, not-false r h, ← f, ← z, ← y, not-false t g, ← qa, ← qc))
 
 -- ---- F-TEIDs and endpoints
 
@@ -75,9 +79,17 @@ module _ (first size : ℕ) (v6 : Bool) where
     pub tunnel-in : (u : ℕ) → u ≡ t → (r : Bool) → first ≤ u → u < first + size → r ≡ familiesTest f v6 → r ≡ tunnelTest first size v6 t f
     tunnel-in u q r g h y = y ∙ sym (rw (← q, le-leb first u g, lt-ltb u (first + size) h))
 
-  pub endpoint-in : first + size ≤ 2 ^ 32 → (xs : List ℕ) (r : Bool) → length xs ≡ 6 → T (octets xs) → r ≡ tunnelTest first size v6 (number (part 1 4 xs)) (getD xs 5 0) → r ≡ endpointSound (unit first size v6) xs
-  unfolding fieldsAt endpointTest
-  endpoint-in h xs r e o q = q ∙ sym (endpoint-law first size v6 h xs e o ∙ rw (octet-field 5 xs))
+  module _ (pool : first + size ≤ 2 ^ 32) (xs : List ℕ) (e : length xs ≡ endpointWidth) (o : T (octets xs)) where
+    endpoint-is : endpointSound (unit first size v6) xs ≡ (tunnelTest first size v6 (number (part 1 4 xs)) (getD xs 5 0) && (optionalTest (getD xs 6 0) (number (part 7 4 xs)) && true))
+    unfolding fieldsAt endpointTest
+    endpoint-is = endpoint-law first size v6 pool xs e o ∙ rw (octet-field 5 xs, octet-field 6 xs)
+
+    module _ (a : Bool) (q : a ≡ optionalTest (getD xs 6 0) (number (part 7 4 xs))) where
+      pub endpoint-address : not a ≡ true → false ≡ endpointSound (unit first size v6) xs
+      endpoint-address h = sym (endpoint-is ∙ rw (← q, not-true a h) (and-false (tunnelTest first size v6 (number (part 1 4 xs)) (getD xs 5 0))))
+
+      pub endpoint-in : not a ≡ false → (r : Bool) → r ≡ tunnelTest first size v6 (number (part 1 4 xs)) (getD xs 5 0) → r ≡ endpointSound (unit first size v6) xs
+      endpoint-in h r y = y ∙ sym (endpoint-is ∙ rw (← q, not-false a h) (and-true (tunnelTest first size v6 (number (part 1 4 xs)) (getD xs 5 0))))
 
 -- ---- PDRs
 
@@ -109,18 +121,29 @@ module _ (first size : ℕ) (v6 : Bool) (live xs : List ℕ) where
       ∙ sym (rw (ne-eqb (getD xs 12 0) 1 k, ne-eqb (getD xs 12 0) 2 h, octet-field 12 xs, octet-field 17 xs, octet-field 18 xs))
 
   module _ (pool : first + size ≤ 2 ^ 32) (e : length xs ≡ pdrWidth) (o : T (octets xs)) where
-    pdr-is : pdrSound (unit first size v6) live xs ≡ allOf (optionalTest (getD xs 6 0) (number (part 7 4 xs)) ∷ ltb (getD xs 11 0) 16 ∷ matches ∷ [])
+    abbrev far : Bool
+    far = optionalTest (getD xs 6 0) (number (part 7 4 xs))
+
+    abbrev address : Bool
+    address = optionalTest (getD xs 19 0) (number (part 20 4 xs))
+
+    pdr-is : pdrSound (unit first size v6) live xs ≡ allOf (far ∷ ltb (getD xs 11 0) 16 ∷ matches ∷ address ∷ [])
     unfolding fieldsAt pdrTest
-    pdr-is = pdr-law first size v6 pool live xs e o ∙ rw (octet-field 6 xs, octet-field 11 xs, octet-field 12 xs, octet-field 17 xs, octet-field 18 xs)
+    pdr-is = pdr-law first size v6 pool live xs e o ∙ rw (octet-field 6 xs, octet-field 11 xs, octet-field 12 xs, octet-field 17 xs, octet-field 18 xs, octet-field 19 xs)
 
     pub pdr-source : 15 < getD xs 11 0 → false ≡ pdrSound (unit first size v6) live xs
-    pdr-source h = sym (pdr-is ∙ rw (le-ltb (getD xs 11 0) 16 (omega arith)) (and-false (optionalTest (getD xs 6 0) (number (part 7 4 xs)))))
+    pdr-source h = sym (pdr-is ∙ rw (le-ltb (getD xs 11 0) 16 (omega arith)) (and-false far))
 
-    pub pdr-far : (f : Bool) → getD xs 11 0 ≤ 15 → f ≡ optionalTest (getD xs 6 0) (number (part 7 4 xs)) → not f ≡ true → false ≡ pdrSound (unit first size v6) live xs
-    pdr-far f g q h = sym (pdr-is ∙ rw (← q, not-true f h))
+    module _ (g : getD xs 11 0 ≤ 15) (f : Bool) (q : f ≡ far) where
+      pub pdr-far : not f ≡ true → false ≡ pdrSound (unit first size v6) live xs
+      pdr-far h = sym (pdr-is ∙ rw (← q, not-true f h))
 
-    pub pdr-place : (f r : Bool) → getD xs 11 0 ≤ 15 → f ≡ optionalTest (getD xs 6 0) (number (part 7 4 xs)) → not f ≡ false → r ≡ matches → r ≡ pdrSound (unit first size v6) live xs
-    pdr-place f r g q h y = y ∙ sym (pdr-is ∙ rw (lt-ltb (getD xs 11 0) 16 (omega arith), ← q, not-false f h) (and-true matches))
+      module _ (h : not f ≡ false) (a : Bool) (qa : a ≡ address) where
+        pub pdr-address : not a ≡ true → false ≡ pdrSound (unit first size v6) live xs
+        pdr-address k = sym (pdr-is ∙ rw (lt-ltb (getD xs 11 0) 16 (omega arith), ← q, not-false f h, ← qa, not-true a k) (and-false matches))
+
+        pub pdr-place : not a ≡ false → (r : Bool) → r ≡ matches → r ≡ pdrSound (unit first size v6) live xs
+        pdr-place k r y = y ∙ sym (pdr-is ∙ rw (lt-ltb (getD xs 11 0) 16 (omega arith), ← q, not-false f h, ← qa, not-false a k) (and-true matches))
 
 -- ---- single fields
 
@@ -140,6 +163,20 @@ module _ (first size : ℕ) where
   pub pool-last : 1 ≤ first → 1 ≤ size → size ≤ maxPool → leb (first + size) 4294967296 ≡ allOf (poolTests first size)
   unfolding poolTests
   pool-last f e h = sym (rw (le-leb 1 first f, le-leb 1 size e, le-leb size maxPool h) (and-true (leb (first + size) 4294967296)))
+
+-- the pool of addresses
+module _ (first count : ℕ) where
+  pub addresses-none : count < 1 → false ≡ allOf (addressPoolTests first count)
+  unfolding addressPoolTests
+  addresses-none h = sym (rw (lt-leb 1 count h))
+
+  pub addresses-large : 1 ≤ count → maxAddresses < count → false ≡ allOf (addressPoolTests first count)
+  unfolding addressPoolTests
+  addresses-large e h = sym (rw (le-leb 1 count e, lt-leb count maxAddresses h))
+
+  pub addresses-last : 1 ≤ count → count ≤ maxAddresses → leb (first + count) 4294967296 ≡ allOf (addressPoolTests first count)
+  unfolding addressPoolTests
+  addresses-last e h = sym (rw (le-leb 1 count e, le-leb count maxAddresses h) (and-true (leb (first + count) 4294967296)))
 
 module _ (at n : ℕ) (xs : List ℕ) where
   pub optional-absent : (z : Bool) → getD xs at 0 ≡ 0 → z ≡ allZero (part (at + 1) n xs) → z ≡ optionalTest (getD xs at 0) (number (part (at + 1) n xs))
@@ -203,8 +240,8 @@ module _ (a : List ℕ) (n i : ℕ) (h : i < n) where
   unfolding endpointIds slices
   ids-more =
       let e : n - i ≡ suc (n - (i + 1)) = omega arith in
-      let next : i * endpointWidth + 6 ≡ (i + 1) * endpointWidth = omega arith in
-      rw (e, endpoint-view (take 6 (drop (i * endpointWidth) a)), getD-take 6 (drop (i * endpointWidth) a) 0 0 (lit< tt), getD-drop (i * endpointWidth) a 0 0, drop-drop 6 (i * endpointWidth) a, next, add-zero)
+      let next : i * endpointWidth + endpointWidth ≡ (i + 1) * endpointWidth = omega arith in
+      rw (e, endpoint-view (take endpointWidth (drop (i * endpointWidth) a)), getD-take endpointWidth (drop (i * endpointWidth) a) 0 0 (lit< tt), getD-drop (i * endpointWidth) a 0 0, drop-drop endpointWidth (i * endpointWidth) a, next, add-zero)
 
   module _ (id : ℕ) where
     abbrev named : ℕ → Bool
@@ -238,18 +275,20 @@ module _ (first size : ℕ) (v6 : Bool) (pool : first + size ≤ 2 ^ 32) where
       let r = and-right (leb first t) (ltb t (first + size) && familiesTest f v6) k in
       (leb→le first t (and-left (leb first t) (ltb t (first + size) && familiesTest f v6) k), ltb→lt t (first + size) (and-left (ltb t (first + size)) (familiesTest f v6) r))
 
-  pub endpoint-pool : (xs : List ℕ) → length xs ≡ 6 → T (octets xs) → endpointSound (unit first size v6) xs ≡ true → (first ≤ number (part 1 4 xs)) × (number (part 1 4 xs) < first + size)
-  unfolding fieldsAt endpointTest
-  endpoint-pool xs e o k = tunnel-pool (number (part 1 4 xs)) (number (part 5 1 xs)) (of-true (sym (endpoint-law first size v6 pool xs e o) ∙ k))
+  pub endpoint-pool : (xs : List ℕ) → length xs ≡ endpointWidth → T (octets xs) → endpointSound (unit first size v6) xs ≡ true → (first ≤ number (part 1 4 xs)) × (number (part 1 4 xs) < first + size)
+  endpoint-pool xs e o k =
+      tunnel-pool (number (part 1 4 xs)) (getD xs 5 0)
+      (and-left (tunnelTest first size v6 (number (part 1 4 xs)) (getD xs 5 0)) (optionalTest (getD xs 6 0) (number (part 7 4 xs)) && true) (of-true (sym (endpoint-is first size v6 pool xs e o) ∙ k)))
 
   pub pdr-pool : (live xs : List ℕ) → length xs ≡ pdrWidth → T (octets xs) → pdrSound (unit first size v6) live xs ≡ true → getD xs 12 0 ≡ 1
       → (first ≤ number (part 13 4 xs)) × (number (part 13 4 xs) < first + size)
   pdr-pool live xs e o k there =
       let far : Bool = optionalTest (getD xs 6 0) (number (part 7 4 xs)) in
+      let address : Bool = optionalTest (getD xs 19 0) (number (part 20 4 xs)) in
       let source : Bool = ltb (getD xs 11 0) 16 in
       let m : Bool = matches first size v6 live xs in
       let held : Bool = tunnelTest first size v6 (number (part 13 4 xs)) (getD xs 17 0) in
-      let t : T (allOf (far ∷ source ∷ m ∷ [])) = of-true (sym (pdr-is first size v6 live xs pool e o) ∙ k) in
-      let place : T m = and-left m true (and-right source (m && true) (and-right far (source && (m && true)) t)) in
+      let t : T (allOf (far ∷ source ∷ m ∷ address ∷ [])) = of-true (sym (pdr-is first size v6 live xs pool e o) ∙ k) in
+      let place : T m = and-left m (address && true) (and-right source (m && (address && true)) (and-right far (source && (m && (address && true))) t)) in
       let one : T (eqb (getD xs 18 0) 0 && held) = rw there at place in
       tunnel-pool (number (part 13 4 xs)) (getD xs 17 0) (and-right (eqb (getD xs 18 0) 0) held one)

@@ -4,7 +4,7 @@ use mathlib.Core.Path.{_≡_, refl, sym, ap, ap₂, subst, _∙_}
 use Prim.Native.Nat.{ℕ, suc, _+_, _-_, _/_, _^_, _≤_, _<_, zero-le}
 use native.Mathlib.Omega.{arith}
 use mathlib.Core.Bool.{Bool, true, false, not, _&&_, _||_}
-use mathlib.Core.Option.{none, some}
+use mathlib.Core.Option.{Option, none, some}
 use mathlib.Core.List.{List, [], _∷_, _++_, append-nil}
 use borrow.Author.Tests.{lt-ltb, eq-eqb, eqb-true}
 use lib.ListN.{length, take, drop, getD, drop-of-length-le, length-drop, length-append}
@@ -23,8 +23,8 @@ use Rattle.octets.proofs.FieldLaws.{Fits, each-fit, fit-fields, slot-law, zero-
 use Rattle.rules.specs.Model.{Settings, neither, tunnel, endpoint}
 use Rattle.rules.specs.Limits.{maxOperator}
 use Rattle.rules.specs.Elements.{addressLength, operatorAllowed, nodeAddressTests, nodeAddressAllowed, nodeTypeKept, below16}
-use Rattle.rules.specs.Layout.{families, optionRead, tunnelRead, pdrWidths, matchKind, matchTeid, matchFamilies, matchEndpoint, placeRead, pdrNumbers, pdrFrom, endpointWidths, endpointNumbers, endpointFrom, csidSlotWidths, csidSlotNumbers, addressRead, csidFrom, pdrOctets, endpointOctets, csidOctets, settingsOctets, viewSettings, viewPdr, viewEndpoint, viewCsid, settingsWidth, pdrWidth, csidWidth}
-use Rattle.rules.specs.Sound.{poolTests, ipv6Allowed, settingsTests, settingsAllowed, tunnelAllowed, placeAllowed, farAllowed, pdrTests, pdrAllowed, endpointTests, endpointAllowed, csidTests, csidAllowed}
+use Rattle.rules.specs.Layout.{families, optionRead, tunnelRead, pdrWidths, matchKind, matchTeid, matchFamilies, matchEndpoint, placeRead, pdrNumbers, pdrFrom, endpointWidths, endpointNumbers, endpointFrom, csidSlotWidths, csidSlotNumbers, addressRead, csidFrom, pdrOctets, endpointOctets, csidOctets, settingsOctets, viewSettings, viewPdr, viewEndpoint, viewCsid, settingsWidth, pdrWidth, endpointWidth, csidWidth}
+use Rattle.rules.specs.Sound.{poolTests, addressPoolTests, ipv6Allowed, settingsTests, settingsAllowed, tunnelAllowed, placeAllowed, farAllowed, addressAllowed, pdrTests, pdrAllowed, endpointTests, endpointAllowed, csidTests, csidAllowed}
 use Rattle.laws.proofs.LayoutLaws.{pdr-fits, endpoint-fits, csid-fits}
 use Rattle.records.specs.Kept.{kept, settingsSound, pdrSound, endpointSound, csidSound, unit, optionalTest, tunnelTest, placeTest, pdrTest, endpointTest, csidTest}
 use Rattle.records.proofs.Cells.{and-true, and-false, interchange, eqb-same, eqb-turn, same-zeros, same-append, two-parts, and-comm, last-first}
@@ -69,6 +69,16 @@ optional-same g h k = go (eqb g 0) refl
 optional : (g h : ℕ) → h < 2 ^ 32 → Comes (farAllowed (optionRead g h)) (flag (isSome (optionRead g h)) ∷ valueOr 0 (optionRead g h) ∷ []) (g ∷ h ∷ []) (optionalTest g h)
 optional g h k = record { long = refl; same = optional-same g h k }
 
+-- an address is allowed as a FAR ID is
+like-far : (o : Option ℕ) → farAllowed o ≡ addressAllowed o
+unfolding farAllowed addressAllowed
+like-far none = refl
+like-far (some a) = refl
+
+addressed : (g h : ℕ) → h < 2 ^ 32 → Comes (addressAllowed (optionRead g h)) (flag (isSome (optionRead g h)) ∷ valueOr 0 (optionRead g h) ∷ []) (g ∷ h ∷ []) (optionalTest g h)
+addressed g h k =
+    record { long = refl; same = ap (λ (b : Bool). b && sameOctets (flag (isSome (optionRead g h)) ∷ valueOr 0 (optionRead g h) ∷ []) (g ∷ h ∷ [])) (sym (like-far (optionRead g h))) ∙ optional-same g h k }
+
 module _ (first size : ℕ) (v6 : Bool) where
   abbrev s : Settings
   s = unit first size v6
@@ -79,19 +89,21 @@ module _ (first size : ℕ) (v6 : Bool) where
 
   -- ---- endpoints
 
-  endpoint-same : (i t f : ℕ) → i < 256
-      → let vs = i ∷ t ∷ f ∷ [] in
-      (endpointAllowed s (endpointFrom vs) && sameOctets (endpointNumbers (endpointFrom vs)) vs) ≡ endpointTest first size v6 vs
-  unfolding endpointAllowed endpointTests endpointFrom endpointNumbers endpointTest sameOctets tunnelRead
-  endpoint-same i t f h =
-      rw (lt-ltb i 256 h, eqb-same i, eqb-same t) (simp and-true (tunnel-law first size v6 t f))
+  reached : (t f : ℕ) → Comes (tunnelAllowed s (tunnelRead t f)) (t ∷ families (tunnelRead t f) ∷ []) (t ∷ f ∷ []) (tunnelTest first size v6 t f)
+  unfolding sameOctets
+  reached t f = record { long = refl; same = rw (eqb-same t) (simp and-true (tunnel-law first size v6 t f)) }
 
-  pub endpoint-law : first + size ≤ 2 ^ 32 → (xs : List ℕ) → length xs ≡ 6 → T (octets xs) → endpointSound s xs ≡ endpointTest first size v6 (fieldsAt 0 endpointWidths xs)
+  endpoint-same : (i t f g h : ℕ)
+      → let vs = i ∷ t ∷ f ∷ g ∷ h ∷ [] in
+      Fits endpointWidths vs → Comes (endpointAllowed s (endpointFrom vs)) (endpointNumbers (endpointFrom vs)) vs (endpointTest first size v6 vs)
+  unfolding endpointAllowed endpointTests endpointFrom endpointNumbers endpointTest tunnelRead
+  endpoint-same i t f g h b = beside (untested 256 i (b .0)) (beside (reached t f) (beside (addressed g h (b .1 .1 .1 .1 .0)) no-field))
+
+  pub endpoint-law : first + size ≤ 2 ^ 32 → (xs : List ℕ) → length xs ≡ endpointWidth → T (octets xs) → endpointSound s xs ≡ endpointTest first size v6 (fieldsAt 0 endpointWidths xs)
   unfolding endpointSound kept endpointOctets viewEndpoint fieldsAt
   endpoint-law h xs e o =
-      let b = each-fit endpointWidths _ (fit-fields 0 endpointWidths xs o (omega arith)) in
       slot-law endpointWidths endpointNumbers endpointFrom (endpointAllowed s) (endpointTest first size v6) (endpoint-fits s (pool h)) xs e o
-      (endpoint-same _ _ _ (b .0))
+      (endpoint-same _ _ _ _ _ (each-fit endpointWidths _ (fit-fields 0 endpointWidths xs o (omega arith))) .same)
 
   -- ---- what a PDR matches on
 
@@ -121,22 +133,23 @@ module _ (first size : ℕ) (v6 : Bool) where
 
   -- ---- the whole PDR
 
-  pdr-same : (live : List ℕ) (i p g h c k t f e : ℕ)
-      → let vs = i ∷ p ∷ g ∷ h ∷ c ∷ k ∷ t ∷ f ∷ e ∷ [] in
+  pdr-same : (live : List ℕ) (i p g h c k t f e u a : ℕ)
+      → let vs = i ∷ p ∷ g ∷ h ∷ c ∷ k ∷ t ∷ f ∷ e ∷ u ∷ a ∷ [] in
       Fits pdrWidths vs → Comes (pdrAllowed s live (pdrFrom vs)) (pdrNumbers (pdrFrom vs)) vs (pdrTest first size v6 live vs)
   unfolding pdrAllowed pdrTests pdrFrom pdrNumbers pdrTest
-  pdr-same live i p g h c k t f e b =
+  pdr-same live i p g h c k t f e u a b =
       beside (untested (2 ^ 16) i (b .0))
       (beside (untested (2 ^ 32) p (b .1 .0))
       (beside (optional g h (b .1 .1 .1 .0))
       (beside (tested (ltb c 16) c)
-      (beside (matched live k t f e (b .1 .1 .1 .1 .1 .1 .1 .1 .0)) no-field))))
+      (beside (matched live k t f e (b .1 .1 .1 .1 .1 .1 .1 .1 .0))
+      (beside (addressed u a (b .1 .1 .1 .1 .1 .1 .1 .1 .1 .1 .0)) no-field)))))
 
   pub pdr-law : first + size ≤ 2 ^ 32 → (live xs : List ℕ) → length xs ≡ pdrWidth → T (octets xs) → pdrSound s live xs ≡ pdrTest first size v6 live (fieldsAt 0 pdrWidths xs)
   unfolding pdrSound kept pdrOctets viewPdr fieldsAt
   pdr-law h live xs e o =
       slot-law pdrWidths pdrNumbers pdrFrom (pdrAllowed s live) (pdrTest first size v6 live) (pdr-fits s (pool h) live) xs e o
-      (pdr-same live _ _ _ _ _ _ _ _ _ (each-fit pdrWidths _ (fit-fields 0 pdrWidths xs o (omega arith))) .same)
+      (pdr-same live _ _ _ _ _ _ _ _ _ _ _ (each-fit pdrWidths _ (fit-fields 0 pdrWidths xs o (omega arith))) .same)
 
 -- ---- FQ-CSIDs
 
@@ -204,7 +217,9 @@ csid-law xs e o =
 -- ---- settings
 
 abbrev pub settingsTest : List ℕ → Bool
-settingsTest xs = optionalTest (getD xs 4 0) (number (part 5 16 xs)) && allOf (poolTests (number (part 21 4 xs)) (number (part 25 4 xs)))
+settingsTest xs =
+    optionalTest (getD xs 4 0) (number (part 5 16 xs))
+    && (allOf (poolTests (number (part 21 4 xs)) (number (part 25 4 xs))) && allOf (addressPoolTests (number (part 29 4 xs)) (number (part 33 4 xs))))
 
 ipv6-with : (b : Bool) (g : ℕ) (v : List ℕ) → length v ≡ 16 → T (octets v) → eqb g 0 ≡ b
     → let a = pick b [] v in
@@ -217,33 +232,45 @@ ipv6-with false g (x ∷ v) l o e =
     rw (eq-eqb (length (x ∷ v)) 16 l, is-true (areBytes (x ∷ v)) o, none, eqb-turn 1 g)
     (unfold zeros in rw (append-nil (x ∷ v), same-refl (x ∷ v)) (and-true (eqb g 1)))
 
-collect : (a b c d e : Bool) → ((a && (b && (c && true))) && (d && e)) ≡ ((a && (b && (d && e))) && c)
-collect true true true d e = sym (and-true (d && e))
-collect true true false d e = sym (and-false (d && e))
-collect true false c d e = refl
-collect false b c d e = refl
+collect : (a b c f d e : Bool) → ((a && (b && (c && (f && true)))) && (d && e)) ≡ ((a && (b && (d && e))) && (c && f))
+collect true true true true d e = sym (and-true (d && e))
+collect true true true false d e = sym (and-false (d && e))
+collect true true false f d e = sym (and-false (d && e))
+collect true false c f d e = refl
+collect false b c f d e = refl
 
 padded-with : (b : Bool) (v : List ℕ) → length v ≡ 16 → length (padded 16 (pick b [] v)) ≡ 16
 padded-with true v l = length-padded 16 [] zero-le
 padded-with false v l = length-padded 16 v (omega arith)
 
-settings-parts : (a₀ a₁ a₂ a₃ g : ℕ) (v f z : List ℕ) → length v ≡ 16 → length f ≡ 4 → length z ≡ 4
-    → T (octets (a₀ ∷ a₁ ∷ a₂ ∷ a₃ ∷ [])) → T (octets v) → T (octets f) → T (octets z)
-    → settingsSound (a₀ ∷ a₁ ∷ a₂ ∷ a₃ ∷ g ∷ (v ++ (f ++ z))) ≡ (optionalTest g (number v) && allOf (poolTests (number f) (number z)))
+settings-parts : (a₀ a₁ a₂ a₃ g : ℕ) (v f z u k : List ℕ) → length v ≡ 16 → length f ≡ 4 → length z ≡ 4 → length u ≡ 4 → length k ≡ 4
+    → T (octets (a₀ ∷ a₁ ∷ a₂ ∷ a₃ ∷ [])) → T (octets v) → T (octets f) → T (octets z) → T (octets u) → T (octets k)
+    → settingsSound (a₀ ∷ a₁ ∷ a₂ ∷ a₃ ∷ g ∷ (v ++ (f ++ (z ++ (u ++ k)))))
+    ≡ (optionalTest g (number v) && (allOf (poolTests (number f) (number z)) && allOf (addressPoolTests (number u) (number k))))
 unfolding settingsSound kept settingsAllowed settingsTests settingsOctets viewSettings octetAt numberAt sameOctets
-settings-parts a₀ a₁ a₂ a₃ g v f z lv lf lz oa ov of′ oz =
-    let rest : List ℕ = v ++ (f ++ z) in
+settings-parts a₀ a₁ a₂ a₃ g v f z u k lv lf lz lu lk oa ov of′ oz ou ok =
+    let numbers : List ℕ = f ++ (z ++ (u ++ k)) in
+    let rest : List ℕ = v ++ numbers in
     let a : List ℕ = pick (eqb g 0) [] v in
-    let address : take 16 rest ≡ v = take-at v (f ++ z) 16 lv in
-    let first : take 4 (drop 16 rest) ≡ f = ap (take 4) (drop-at v (f ++ z) 16 lv) ∙ take-at f z 4 lf in
-    let size : take 4 (drop csidWidth rest) ≡ z =
-    ap (take 4) (sym (drop-drop 4 16 rest) ∙ ap (drop 4) (drop-at v (f ++ z) 16 lv) ∙ drop-at f z 4 lf) ∙ take-all 4 z (omega arith) in
+    let at16 : drop 16 rest ≡ numbers = drop-at v numbers 16 lv in
+    let at20 : drop 20 rest ≡ z ++ (u ++ k) = sym (drop-drop 4 16 rest) ∙ ap (drop 4) at16 ∙ drop-at f (z ++ (u ++ k)) 4 lf in
+    let at24 : drop 24 rest ≡ u ++ k = sym (drop-drop 4 20 rest) ∙ ap (drop 4) at20 ∙ drop-at z (u ++ k) 4 lz in
+    let at28 : drop 28 rest ≡ k = sym (drop-drop 4 24 rest) ∙ ap (drop 4) at24 ∙ drop-at u k 4 lu in
+    let ipv6 : take 16 rest ≡ v = take-at v numbers 16 lv in
+    let first : take 4 (drop 16 rest) ≡ f = ap (take 4) at16 ∙ take-at f (z ++ (u ++ k)) 4 lf in
+    let size : take 4 (drop 20 rest) ≡ z = ap (take 4) at20 ∙ take-at z (u ++ k) 4 lz in
+    let firstAddress : take 4 (drop 24 rest) ≡ u = ap (take 4) at24 ∙ take-at u k 4 lu in
+    let addressCount : take 4 (drop 28 rest) ≡ k = ap (take 4) at28 ∙ take-all 4 k (omega arith) in
     let full : length (padded 16 a) ≡ length v = padded-with (eqb g 0) v lv ∙ sym lv in
-    let same : sameOctets (padded 16 a ++ (f ++ z)) rest ≡ sameOctets (padded 16 a) v =
-    same-append (padded 16 a) (f ++ z) v (f ++ z) full ∙ rw (same-refl (f ++ z)) (and-true (sameOctets (padded 16 a) v)) in
-    rw (address, first, size, is-true (areBytes (a₀ ∷ a₁ ∷ a₂ ∷ a₃ ∷ [])) oa, eqb-same a₀, eqb-same a₁, eqb-same a₂, eqb-same a₃, be-back 4 f lf of′, be-back 4 z lz oz, same)
-    (collect (ipv6Allowed a) (octets a) (allOf (poolTests (number f) (number z))) (eqb (flag (not (isNil a))) g) (sameOctets (padded 16 a) v)
-    ∙ ap (λ (t : Bool). t && allOf (poolTests (number f) (number z))) (ipv6-with (eqb g 0) g v lv ov refl))
+    let same : sameOctets (padded 16 a ++ numbers) rest ≡ sameOctets (padded 16 a) v =
+    same-append (padded 16 a) numbers v numbers full ∙ rw (same-refl numbers) (and-true (sameOctets (padded 16 a) v)) in
+    rw (ipv6, first, size, firstAddress, addressCount, is-true (areBytes (a₀ ∷ a₁ ∷ a₂ ∷ a₃ ∷ [])) oa, eqb-same a₀, eqb-same a₁, eqb-same a₂, eqb-same a₃, be-back 4 f lf of′, be-back 4 z lz oz, be-back 4 u lu ou, be-back 4 k lk ok, same)
+    (collect (ipv6Allowed a) (octets a) (allOf (poolTests (number f) (number z))) (allOf (addressPoolTests (number u) (number k))) (eqb (flag (not (isNil a))) g) (sameOctets (padded 16 a) v)
+    ∙ ap (λ (t : Bool). t && (allOf (poolTests (number f) (number z)) && allOf (addressPoolTests (number u) (number k)))) (ipv6-with (eqb g 0) g v lv ov refl))
+
+-- the octets from a place to the end are those of the next n and the rest
+from : (at m n : ℕ) (xs : List ℕ) → at + (m + n) ≡ length xs → part at (m + n) xs ≡ part at m xs ++ part (at + m) n xs
+from at m n xs e = take-all (m + n) (drop at xs) (rw length-drop (omega arith)) ∙ two-parts at m n xs e
 
 pub settings-law : (xs : List ℕ) → length xs ≡ settingsWidth → T (octets xs) → settingsSound xs ≡ settingsTest xs
 settings-law xs e o =
@@ -252,11 +279,12 @@ settings-law xs e o =
     cell 0 (lit< tt) ∙ ap (λ (l : List ℕ). getD xs 0 0 ∷ l)
     (cell 1 (lit< tt) ∙ ap (λ (l : List ℕ). getD xs 1 0 ∷ l)
     (cell 2 (lit< tt) ∙ ap (λ (l : List ℕ). getD xs 2 0 ∷ l) (cell 3 (lit< tt) ∙ ap (λ (l : List ℕ). getD xs 3 0 ∷ l) (cell 4 (lit< tt))))) in
-    let back : drop 5 xs ≡ part 5 16 xs ++ (part 21 4 xs ++ part 25 4 xs) =
-    two-parts 5 16 8 xs (sym e)
-    ∙ ap (λ (l : List ℕ). part 5 16 xs ++ l) (take-all 8 (drop 21 xs) (rw length-drop (omega arith)) ∙ two-parts 21 4 4 xs (sym e)) in
+    let numbers : part 21 16 xs ≡ part 21 4 xs ++ (part 25 4 xs ++ (part 29 4 xs ++ part 33 4 xs)) =
+    from 21 4 12 xs (sym e) ∙ ap (λ (l : List ℕ). part 21 4 xs ++ l) (from 25 4 8 xs (sym e) ∙ ap (λ (l : List ℕ). part 25 4 xs ++ l) (from 29 4 4 xs (sym e))) in
+    let back = two-parts 5 16 16 xs (sym e) ∙ ap (λ (l : List ℕ). part 5 16 xs ++ l) numbers in
     let whole = front ∙ ap (λ (l : List ℕ). getD xs 0 0 ∷ getD xs 1 0 ∷ getD xs 2 0 ∷ getD xs 3 0 ∷ getD xs 4 0 ∷ l) back in
     ap settingsSound whole
-    ∙ settings-parts (getD xs 0 0) (getD xs 1 0) (getD xs 2 0) (getD xs 3 0) (getD xs 4 0) (part 5 16 xs) (part 21 4 xs) (part 25 4 xs)
-    (length-part 5 16 xs (omega arith)) (length-part 21 4 xs (omega arith)) (length-part 25 4 xs (omega arith))
-    (take-octets 4 (getD xs 0 0 ∷ getD xs 1 0 ∷ getD xs 2 0 ∷ getD xs 3 0 ∷ getD xs 4 0 ∷ drop 5 xs) (subst (λ (l : List ℕ). T (octets l)) front o)) (part-octets 5 16 xs o) (part-octets 21 4 xs o) (part-octets 25 4 xs o)
+    ∙ settings-parts (getD xs 0 0) (getD xs 1 0) (getD xs 2 0) (getD xs 3 0) (getD xs 4 0) (part 5 16 xs) (part 21 4 xs) (part 25 4 xs) (part 29 4 xs) (part 33 4 xs)
+    (length-part 5 16 xs (omega arith)) (length-part 21 4 xs (omega arith)) (length-part 25 4 xs (omega arith)) (length-part 29 4 xs (omega arith)) (length-part 33 4 xs (omega arith))
+    (take-octets 4 (getD xs 0 0 ∷ getD xs 1 0 ∷ getD xs 2 0 ∷ getD xs 3 0 ∷ getD xs 4 0 ∷ drop 5 xs) (subst (λ (l : List ℕ). T (octets l)) front o)) (part-octets 5 16 xs o)
+    (part-octets 21 4 xs o) (part-octets 25 4 xs o) (part-octets 29 4 xs o) (part-octets 33 4 xs o)

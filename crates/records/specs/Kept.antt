@@ -35,9 +35,9 @@ csidSound xs = kept csidAllowed csidOctets viewCsid xs
 unfoldable pub endpointIds : ℕ → List ℕ → List ℕ
 endpointIds n a = map endpointId (map viewEndpoint (slices endpointWidth n a))
 
--- the settings as far as the rules of records ask: the pool, and whether the unit has an IPv6 address
+-- the settings as far as the rules of records ask: the pool of TEIDs, and whether the unit has an IPv6 address; an address may be any
 unfoldable pub unit : ℕ → ℕ → Bool → Settings
-unit first size v6 = record { ipv4 = zeros 4; ipv6 = pick v6 (zeros 16) []; first = first; size = size }
+unit first size v6 = record { ipv4 = zeros 4; ipv6 = pick v6 (zeros 16) []; first = first; size = size; firstAddress = 0; addressCount = 0 }
 
 -- ---- tests of numbers
 
@@ -65,11 +65,12 @@ pdrTest first size v6 live vs =
     optionalTest (getD vs 2 0) (getD vs 3 0)
     ∷ ltb (getD vs 4 0) 16
     ∷ placeTest first size v6 live (getD vs 5 0) (getD vs 6 0) (getD vs 7 0) (getD vs 8 0)
+    ∷ optionalTest (getD vs 9 0) (getD vs 10 0)
     ∷ []
     )
 
 unfoldable pub endpointTest : ℕ → ℕ → Bool → List ℕ → Bool
-endpointTest first size v6 vs = tunnelTest first size v6 (getD vs 1 0) (getD vs 2 0)
+endpointTest first size v6 vs = allOf (tunnelTest first size v6 (getD vs 1 0) (getD vs 2 0) ∷ optionalTest (getD vs 3 0) (getD vs 4 0) ∷ [])
 
 -- the address of sixteen octets, or one of four and zeros; of type 2 with an operator that is allowed
 abbrev pub addressTest : ℕ → ℕ → ℕ → Bool

@@ -9,7 +9,7 @@ ghost use lib.ListN.{length, getD};
 ghost use Rattle.octets.specs.Choice.{pick, allOf};
 ghost use Rattle.octets.specs.Lists.{member};
 ghost use Rattle.octets.specs.Octets.{part, number};
-ghost use Rattle.rules.specs.Sound.{poolTests};
+ghost use Rattle.rules.specs.Sound.{poolTests, addressPoolTests};
 ghost use Rattle.rules.specs.Layout.{settingsWidth, pdrWidth, endpointWidth, csidWidth};
 ghost use Rattle.records.specs.Kept.{settingsSound, pdrSound, endpointSound, csidSound, endpointIds, unit, optionalTest, familiesTest, tunnelTest, placeTest};
 
@@ -54,6 +54,20 @@ pub fn pool_sound(first: u64, size: u64) -> bool
     first + size <= 4294967296
 }
 
+// The pool of addresses: 1 to 1,024 of them, the last at most 255.255.255.255. The first may be any.
+pub fn addresses_sound(first: u64, count: u64) -> bool
+    requires { ⌜ (first < 2 ^ 32) × (count < 2 ^ 32) ⌝ }
+    ensures { λ r. ⌜ r ≡ allOf (addressPoolTests first count) ⌝ }
+{
+    if count < 1 {
+        return false;
+    }
+    if format::MAX_ADDRESSES < count {
+        return false;
+    }
+    first + count <= 4294967296
+}
+
 // The settings' slot.
 pub fn settings_sound(slot: &[u8]) -> bool
     requires { ⌜ length (now slot) ≡ settingsWidth ⌝ }
@@ -64,7 +78,12 @@ pub fn settings_sound(slot: &[u8]) -> bool
     }
     let first = octets::read(slot, format::FIRST, 4);
     let size = octets::read(slot, format::SIZE, 4);
-    pool_sound(first, size)
+    if !pool_sound(first, size) {
+        return false;
+    }
+    let address = octets::read(slot, format::FIRST_ADDRESS, 4);
+    let count = octets::read(slot, format::ADDRESS_COUNT, 4);
+    addresses_sound(address, count)
 }
 
 // The F-TEID at index at.
@@ -104,9 +123,12 @@ fn families_sound(families: u8, v6: bool) -> bool
 
 // A traffic endpoint's slot.
 pub fn endpoint_sound(slot: &[u8], first: u64, size: u64, v6: bool) -> bool
-    requires { ⌜ (length (now slot) ≡ 6) × (first + size ≤ 2 ^ 32) ⌝ }
+    requires { ⌜ (length (now slot) ≡ endpointWidth) × (first + size ≤ 2 ^ 32) ⌝ }
     ensures { λ r. ⌜ r ≡ endpointSound (unit first size v6) (now (slot .entry)) ⌝ }
 {
+    if !field_sound(slot, format::ENDPOINT_ADDRESS_THERE) {
+        return false;
+    }
     tunnel_sound(slot, 1, first, size, v6)
 }
 
@@ -155,6 +177,9 @@ pub fn pdr_sound(slot: &[u8], ends: &[u8], n: usize, first: u64, size: u64, v6: 
         return false;
     }
     if !field_sound(slot, format::FAR) {
+        return false;
+    }
+    if !field_sound(slot, format::PDR_ADDRESS_THERE) {
         return false;
     }
     place_sound(slot, ends, n, first, size, v6)

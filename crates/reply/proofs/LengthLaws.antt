@@ -1,4 +1,4 @@
--- How long a reply is at most: every reply of at most 24 grants fits the least reply space. Assumes nothing.
+-- How long a reply is at most: every reply of at most 24 reports fits the least reply space. Assumes nothing.
 use mathlib.Core.Option.{Option, none, some}
 use mathlib.Core.List.{List, [], _∷_, _++_}
 use Prim.Native.Nat.{ℕ, _+_, _*_, _≤_}
@@ -15,23 +15,24 @@ use Rattle.rules.specs.Model.{Settings, Tunnel}
 use Rattle.unit.specs.declared.Settings.{Settings as Unit}
 use Rattle.unit.specs.Meaning.{settingsOf}
 use Rattle.rules.specs.Elements.{fteidOctets, unitFteid, fseidOctets}
-use Rattle.rules.specs.Grants.{Kind, ofPdr, ofEndpoint, Grant, sameKind, isKind, grantsOf}
+use Rattle.rules.specs.Grants.{Kind, ofPdr, ofEndpoint, sameKind}
 use Rattle.rules.specs.Stages.{Verdict}
-use Rattle.rules.specs.Reply.{element, unitElement, createdPdr, createdPdrContent, createdEndpoint, createdEndpointContent, created, offendingElement, nodeIdElement, unitFseid, acceptedPart, replyBody}
+use Rattle.rules.specs.Reply.{Report, Reports, noReports, element, unitElement, tunnelPart, addressPart, chosenElements, createdPdr, createdPdrContent, createdEndpoint, createdEndpointContent, created, offendingElement, nodeIdElement, unitFseid, acceptedPart, replyBody}
 use Rattle.rules.specs.Types as ie
 use Rattle.rules.specs.Causes as why
 use Rattle.rules.specs.Message.{establishment, setDeletion}
-use Rattle.created.specs.Groups.{kindIn, group, groups}
+use Rattle.created.specs.Groups.{Told, kindIn, isTold, reportsOf, allReports, group, groups}
 use Rattle.reply.specs.Parts.{bodyFront}
 use Rattle.writing.proofs.PlacedLaws.{length-element}
+use Rattle.writing.proofs.ElementSteps.{length-ue}
 use Rattle.created.proofs.GroupSteps.{groups-more, groups-none, length-created}
 use mathlib.Core.Bool.{_||_}
 
 abbrev atMost : ℕ → List ℕ → Type 0
 atMost n xs = length xs ≤ n
 
-abbrev grant : Kind → ℕ → Tunnel → Grant
-grant k i t = record { kind = k; id = i; local = t }
+abbrev told : Kind → Report → Told
+told k g = record { kind = k; report = g }
 
 -- a part is no longer than was asked for
 length-part-most : (at n : ℕ) (xs : List ℕ) → length (part at n xs) ≤ n
@@ -78,50 +79,66 @@ module _ (s : Settings) (four : length (s .ipv4) ≤ 4) where
         let lb : length b ≤ 16 = pick-either (atMost 16) (t .v6) (s .ipv6) [] sixteen (omega arith) in
         rw length-element (omega (arith, length-append (be 4 (t .teid)) (a ++ b), length-append a b, length-be 4 (t .teid)))
 
-    length-pdr : (g : Grant) → length (createdPdr s g) ≤ 39
+    length-chosen : (g : Report) → length (chosenElements s g) ≤ 38
+    unfolding chosenElements tunnelPart
+    length-chosen g = let t = g .local in let a = g .address in omega (arith, length-append (tunnelPart s t) (addressPart a), tunnel-most t, address-most a)
+      where
+        tunnel-most : (o : Option Tunnel) → length (tunnelPart s o) ≤ 29
+        tunnel-most none = omega arith
+        tunnel-most (some t) = length-unit-most t
+
+        address-most : (o : Option ℕ) → length (addressPart o) ≤ 9
+        address-most none = unfold addressPart in (omega arith)
+        address-most (some a) = omega (arith, length-ue a)
+
+    length-pdr : (g : Report) → length (createdPdr s g) ≤ 48
     unfolding createdPdr createdPdrContent
     length-pdr g =
         rw length-element
-        (omega (arith, length-append (element ie.pdrId (be 2 (g .id))) (unitElement s (g .local)), length-element ie.pdrId (be 2 (g .id)), length-be 2 (g .id), length-unit-most (g .local)))
+        (omega (arith, length-append (element ie.pdrId (be 2 (g .id))) (chosenElements s g), length-element ie.pdrId (be 2 (g .id)), length-be 2 (g .id), length-chosen g))
 
-    length-endpoint : (g : Grant) → length (createdEndpoint s g) ≤ 39
+    length-endpoint : (g : Report) → length (createdEndpoint s g) ≤ 48
     unfolding createdEndpoint createdEndpointContent
     length-endpoint g =
         rw length-element
-        (omega (arith, length-append (element ie.endpointId (g .id ∷ [])) (unitElement s (g .local)), length-element ie.endpointId (g .id ∷ []), length-unit-most (g .local)))
+        (omega (arith, length-append (element ie.endpointId (g .id ∷ [])) (chosenElements s g), length-element ie.endpointId (g .id ∷ []), length-chosen g))
 
-    -- a grant has one group, of one kind or the other
-    one-group : (k : Kind) (i : ℕ) (t : Tunnel) → length (groups ofPdr s (grant k i t ∷ [])) + length (groups ofEndpoint s (grant k i t ∷ [])) ≤ 39
-    unfolding groups group grantsOf keep isKind sameKind concatMap
-    one-group ofPdr i t = omega (arith, length-append (createdPdr s (grant ofPdr i t)) [], length-pdr (grant ofPdr i t))
-    one-group ofEndpoint i t = omega (arith, length-append (createdEndpoint s (grant ofEndpoint i t)) [], length-endpoint (grant ofEndpoint i t))
+    -- a report has one group, of one kind or the other
+    one-group : (k : Kind) (g : Report) → length (groups ofPdr s (told k g ∷ [])) + length (groups ofEndpoint s (told k g ∷ [])) ≤ 48
+    unfolding groups group reportsOf keep isTold sameKind concatMap
+    one-group ofPdr g = omega (arith, length-append (createdPdr s g) [], length-pdr g)
+    one-group ofEndpoint g = omega (arith, length-append (createdEndpoint s g) [], length-endpoint g)
 
-    length-groups : (gs : List Grant) → length (groups ofPdr s gs) + length (groups ofEndpoint s gs) ≤ 39 * length gs
+    length-groups : (gs : List Told) → length (groups ofPdr s gs) + length (groups ofEndpoint s gs) ≤ 48 * length gs
     length-groups [] = rw (groups-none ofPdr s, groups-none ofEndpoint s) (omega arith)
     length-groups (g ∷ gs) =
-        let first = one-group (g .kind) (g .id) (g .local) in
+        let first = one-group (g .kind) (g .report) in
         let more = length-groups gs in
         rw (groups-more ofPdr s g gs, groups-more ofEndpoint s g gs)
         (omega (arith, length-append (groups ofPdr s (g ∷ [])) (groups ofPdr s gs), length-append (groups ofEndpoint s (g ∷ [])) (groups ofEndpoint s gs)))
 
-    pub length-created-most : (gs : List Grant) → length (created s gs) ≤ 39 * length gs
+    pub length-created-most : (gs : List Told) → length (created s (allReports gs)) ≤ 48 * length gs
     unfolding kindIn
     length-created-most gs = omega (arith, length-created s gs, length-groups gs)
 
-    pub length-body : (kind seid : ℕ) (v : Verdict) (gs : List Grant) → length gs ≤ 24 → length (replyBody kind s seid v gs) ≤ 973
-    unfolding replyBody acceptedPart
-    length-body kind seid v gs h =
-        let o = offendingElement (v .offending) in
-        let a = unitFseid kind s seid ++ created s gs in
-        let b = pick (eqb (v .cause) why.accepted) a [] in
-        let la : length b ≤ 953 =
-        pick-either (atMost 953) (eqb (v .cause) why.accepted) a [] (omega (arith, length-append (unitFseid kind s seid) (created s gs), length-fseid kind seid, length-created-most gs)) (omega arith) in
-        omega (
-          arith,
-          length-append (nodeIdElement kind s) (element ie.cause (v .cause ∷ []) ++ (o ++ b)),
-          length-append (element ie.cause (v .cause ∷ [])) (o ++ b),
-          length-append o b,
-          length-node kind,
-          length-element 19 (v .cause ∷ []),
-          length-offending (v .offending),
-        )
+  pub length-none : length (created s noReports) ≤ 0
+  unfolding created concatMap
+  length-none = omega arith
+
+  pub length-body : (kind seid : ℕ) (v : Verdict) (gs : Reports) → length (created s gs) ≤ 1152 → length (replyBody kind s seid v gs) ≤ 1189
+  unfolding replyBody acceptedPart
+  length-body kind seid v gs h =
+      let o = offendingElement (v .offending) in
+      let a = unitFseid kind s seid ++ created s gs in
+      let b = pick (eqb (v .cause) why.accepted) a [] in
+      let la : length b ≤ 1169 =
+      pick-either (atMost 1169) (eqb (v .cause) why.accepted) a [] (omega (arith, length-append (unitFseid kind s seid) (created s gs), length-fseid kind seid)) (omega arith) in
+      omega (
+        arith,
+        length-append (nodeIdElement kind s) (element ie.cause (v .cause ∷ []) ++ (o ++ b)),
+        length-append (element ie.cause (v .cause ∷ [])) (o ++ b),
+        length-append o b,
+        length-node kind,
+        length-element 19 (v .cause ∷ []),
+        length-offending (v .offending),
+      )

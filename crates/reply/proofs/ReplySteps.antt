@@ -9,25 +9,25 @@ use borrow.Author.Tests.{eq-eqb, ne-eqb}
 use lib.ListN.{length, getD, take, drop}
 use Rattle.octets.specs.Octets.{put, part, number, numberAt, octetAt, concatMap}
 use Rattle.laws.proofs.ReplyLaws.{sequence-three}
+use Rattle.rules.specs.Limits.{minSpace}
 use Rattle.rules.specs.Model.{Settings}
 use Rattle.unit.specs.declared.Settings.{Settings as Unit}
 use Rattle.unit.specs.Meaning.{settingsOf}
 use Rattle.rules.specs.Message.{kindOf, headerSeid, sequenceOf, establishment, setDeletion, headerLength}
-use Rattle.rules.specs.Grants.{Grant, grantsOf}
+use Rattle.created.specs.Groups.{Told, allReports}
 use Rattle.rules.specs.Stages.{Verdict, plain}
-use Rattle.rules.specs.Reply.{element, created, offendingElement, nodeIdElement, unitFseid, acceptedPart, replyBody, replySeid, reply, message}
+use Rattle.rules.specs.Reply.{Reports, noReports, element, created, offendingElement, nodeIdElement, unitFseid, acceptedPart, replyBody, replySeid, reply, message}
 use Rattle.rules.specs.Types as ie
 use Rattle.rules.specs.Causes as why
 use Rattle.writing.specs.Placed.{Placed, written}
 use Rattle.reply.specs.Parts.{replyHead, bodyFront, WithSeid, Listing}
-use Rattle.reply.proofs.LengthLaws.{unit-ipv4, unit-ipv6, length-node, length-front, length-fseid, length-created-most, length-body, length-offending}
+use Rattle.reply.proofs.LengthLaws.{unit-ipv4, unit-ipv6, length-node, length-front, length-fseid, length-created-most, length-none, length-body, length-offending}
 use Rattle.writing.specs.Heads.{messageHead, listHead}
 use Rattle.writing.proofs.PlacedLaws.{placed-then}
 use Rattle.writing.proofs.ElementSteps.{placed-message, placed-list}
 use mathlib.Core.Bool.{Bool, true, false}
 use lib.Dec.{eqb}
 use Rattle.octets.specs.Choice.{pick}
-use Rattle.octets.specs.Lists.{keep}
 
 -- ---- the first elements
 
@@ -74,13 +74,13 @@ seid-three : (msg : List ℕ) → WithSeid msg → length (sequenceOf msg) ≡ 3
 unfolding headerLength
 seid-three msg h = sequence-three msg (rw (h .seid) (h .long))
 
-seid-reply : (s : Settings) (msg : List ℕ) (seid : ℕ) (v : Verdict) (gs : List Grant) → WithSeid msg
+seid-reply : (s : Settings) (msg : List ℕ) (seid : ℕ) (v : Verdict) (gs : Reports) → WithSeid msg
     → reply s msg seid v gs ≡ message (kindOf msg + 1) (replySeid (kindOf msg) (v .cause) (headerSeid msg) seid) (sequenceOf msg) (replyBody (kindOf msg) s seid v gs)
 unfolding reply
 seid-reply s msg seid v gs h = rw (h .seid)
 
 -- elements from octet 16 on with the header before them are the reply
-pub whole : (s : Settings) (msg : List ℕ) (seid : ℕ) (v : Verdict) (gs : List Grant) (out : List ℕ) {out₁ out₂ : List ℕ} {end : ℕ}
+pub whole : (s : Settings) (msg : List ℕ) (seid : ℕ) (v : Verdict) (gs : Reports) (out : List ℕ) {out₁ out₂ : List ℕ} {end : ℕ}
     → WithSeid msg → 16 + length (replyBody (kindOf msg) s seid v gs) ≤ length out
     → Placed out 16 (replyBody (kindOf msg) s seid v gs) end out₁ → out₂ ≡ put 0 (replyHead msg seid (v .cause) (end - 16)) out₁
     → (end, out₂) ≡ written (reply s msg seid v gs) out
@@ -92,17 +92,17 @@ whole s msg seid v gs out h room p q =
 
 module _ (s : Settings) (kind : ℕ) where
   pub refused-body : (cause : ℕ) (o : Option ℕ) → (cause ≡ why.accepted → ⊥)
-      → bodyFront kind s cause ++ offendingElement o ≡ replyBody kind s 0 (record { cause = cause; offending = o; place = 0 }) []
+      → bodyFront kind s cause ++ offendingElement o ≡ replyBody kind s 0 (record { cause = cause; offending = o; place = 0 }) noReports
   unfolding bodyFront replyBody
   refused-body cause o n = rw (ne-eqb cause why.accepted n, append-nil) (append-assoc (nodeIdElement kind s) (element ie.cause (cause ∷ [])) (offendingElement o))
 
-  pub accepted-body : (seid : ℕ) (gs : List Grant) → bodyFront kind s 1 ++ (unitFseid kind s seid ++ created s gs) ≡ replyBody kind s seid (plain why.accepted) gs
+  pub accepted-body : (seid : ℕ) (gs : Reports) → bodyFront kind s 1 ++ (unitFseid kind s seid ++ created s gs) ≡ replyBody kind s seid (plain why.accepted) gs
   unfolding bodyFront replyBody offendingElement acceptedPart
   accepted-body seid gs = append-assoc (nodeIdElement kind s) (element ie.cause (1 ∷ [])) (unitFseid kind s seid ++ created s gs)
 
 -- ---- what a refusal and an acceptance write
 
-module _ (u : Unit) (msg out : List ℕ) (header : WithSeid msg) (space : 1024 ≤ length out) where
+module _ (u : Unit) (msg out : List ℕ) (header : WithSeid msg) (space : minSpace ≤ length out) where
   abbrev st : Settings
   st = settingsOf u
 
@@ -111,18 +111,23 @@ module _ (u : Unit) (msg out : List ℕ) (header : WithSeid msg) (space : 1024 �
 
   pub refused-steps : (cause : ℕ) (o : Option ℕ) {out₁ out₂ out₃ : List ℕ} {next end : ℕ} → (cause ≡ why.accepted → ⊥)
       → Placed out 16 (bodyFront kind st cause) next out₁ → Placed out₁ next (offendingElement o) end out₂ → out₃ ≡ put 0 (replyHead msg 0 cause (end - 16)) out₂
-      → (end, out₃) ≡ written (reply st msg 0 (record { cause = cause; offending = o; place = 0 }) []) out
+      → (end, out₃) ≡ written (reply st msg 0 (record { cause = cause; offending = o; place = 0 }) noReports) out
   unfolding kindOf octetAt
   refused-steps cause o n p q r =
       let v : Verdict = record { cause = cause; offending = o; place = 0 } in
-      whole st msg 0 v [] out header (omega (arith, length-body st (unit-ipv4 u) (unit-ipv6 u) kind 0 v [] (omega arith)))
+      whole st msg 0 v noReports out header (omega (arith, length-body st (unit-ipv4 u) kind 0 v noReports (omega (arith, length-none st (unit-ipv4 u)))))
       (rw (refused-body st kind cause o n) at (placed-then p q (omega (arith, length-front st (unit-ipv4 u) kind cause)))) r
 
-  module _ (gs : List Grant) (few : length gs ≤ 24) (seid : ℕ) where
+  module _ (ts : List Told) (few : length ts ≤ 24) (seid : ℕ) where
+    abbrev gs : Reports
+    gs = allReports ts
+
+    created-most : length (created st gs) ≤ 1152
+    created-most = omega (arith, length-created-most st (unit-ipv4 u) (unit-ipv6 u) ts)
+
     -- how long the elements are at most
-    pub accepted-room : length (bodyFront kind st 1) + (length (unitFseid kind st seid) + length (created st gs)) ≤ 967
-    accepted-room =
-        omega (arith, length-front st (unit-ipv4 u) kind 1, length-fseid st (unit-ipv4 u) kind seid, length-created-most st (unit-ipv4 u) (unit-ipv6 u) gs)
+    pub accepted-room : length (bodyFront kind st 1) + (length (unitFseid kind st seid) + length (created st gs)) ≤ 1183
+    accepted-room = omega (arith, length-front st (unit-ipv4 u) kind 1, length-fseid st (unit-ipv4 u) kind seid, created-most)
 
     pub accepted-steps : {out₁ out₂ out₃ out₄ : List ℕ} {next own end : ℕ}
         → Placed out 16 (bodyFront kind st 1) next out₁ → Placed out₁ next (unitFseid kind st seid) own out₂ → Placed out₂ own (created st gs) end out₃
@@ -132,14 +137,14 @@ module _ (u : Unit) (msg out : List ℕ) (header : WithSeid msg) (space : 1024 �
     accepted-steps {next = next} p q w same r =
         let ends = p .ends in
         let rest = placed-then q w (omega (arith, accepted-room)) in
-        whole st msg seid (plain why.accepted) gs out header (omega (arith, length-body st (unit-ipv4 u) (unit-ipv6 u) kind seid (plain why.accepted) gs few))
+        whole st msg seid (plain why.accepted) gs out header (omega (arith, length-body st (unit-ipv4 u) kind seid (plain why.accepted) gs created-most))
         (rw (accepted-body st kind seid gs) at (placed-then p rest (omega (arith, accepted-room)))) r
 
 -- ---- set deletions
 
 -- nothing is created, so an acceptance has the same elements
-listed-body : (s : Settings) (cause : ℕ) (o : Option ℕ) → bodyFront setDeletion s cause ++ offendingElement o ≡ replyBody setDeletion s 0 (record { cause = cause; offending = o; place = 0 }) []
-unfolding bodyFront replyBody acceptedPart unitFseid created grantsOf keep concatMap
+listed-body : (s : Settings) (cause : ℕ) (o : Option ℕ) → bodyFront setDeletion s cause ++ offendingElement o ≡ replyBody setDeletion s 0 (record { cause = cause; offending = o; place = 0 }) noReports
+unfolding bodyFront replyBody acceptedPart unitFseid created concatMap
 listed-body s cause o =
     rw (alike (eqb cause why.accepted), append-nil) (append-assoc (nodeIdElement setDeletion s) (element ie.cause (cause ∷ [])) (offendingElement o))
   where
@@ -147,20 +152,20 @@ listed-body s cause o =
     alike true = refl
     alike false = refl
 
-module _ (u : Unit) (msg out : List ℕ) (header : Listing msg) (space : 1024 ≤ length out) where
+module _ (u : Unit) (msg out : List ℕ) (header : Listing msg) (space : minSpace ≤ length out) where
   list-three : length (sequenceOf msg) ≡ 3
   unfolding headerLength
   list-three = sequence-three msg (rw (header .seid) (header .long))
 
   pub listed-steps : (cause : ℕ) (o : Option ℕ) {out₁ out₂ out₃ : List ℕ} {next end : ℕ}
       → Placed out 8 (bodyFront setDeletion (settingsOf u) cause) next out₁ → Placed out₁ next (offendingElement o) end out₂ → out₃ ≡ put 0 (listHead 15 (take 3 (drop 4 msg)) (end - 8)) out₂
-      → (end, out₃) ≡ written (reply (settingsOf u) msg 0 (record { cause = cause; offending = o; place = 0 }) []) out
+      → (end, out₃) ≡ written (reply (settingsOf u) msg 0 (record { cause = cause; offending = o; place = 0 }) noReports) out
   unfolding reply sequenceOf headerLength
   listed-steps cause o p q r =
       let st = settingsOf u in
       let v : Verdict = record { cause = cause; offending = o; place = 0 } in
-      let xs = replyBody setDeletion st 0 v [] in
-      let l : length xs ≤ 973 = length-body st (unit-ipv4 u) (unit-ipv6 u) setDeletion 0 v [] (omega arith) in
+      let xs = replyBody setDeletion st 0 v noReports in
+      let l : length xs ≤ 1189 = length-body st (unit-ipv4 u) setDeletion 0 v noReports (omega (arith, length-none st (unit-ipv4 u))) in
       let a : Placed out 8 xs _ _ = rw (listed-body st cause o) at (placed-then p q (omega (arith, length-front st (unit-ipv4 u) setDeletion cause))) in
       let w = placed-list 15 (take 3 (drop 4 msg)) xs out (rw (header .seid) at list-three) (omega arith) a r in
       rw (header .seid, header .kind) (ap₂ (λ (m : ℕ) (o : List ℕ). (m, o)) (w .ends ∙ zero-add _) (w .holds))

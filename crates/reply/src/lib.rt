@@ -2,22 +2,22 @@
 // header before them.
 ghost use mathlib.Core.Path.{_≡_};
 ghost use Prim.Native.Nat.{_+_, _-_, _≤_, _<_};
-ghost use mathlib.Core.List.{[]};
 ghost use mathlib.Core.Bool.{true};
 ghost use lib.Dec.{T};
 ghost use lib.ListN.{length};
 ghost use Rattle.octets.specs.Octets.{put};
 ghost use Rattle.octets.specs.Lists.{all};
+ghost use Rattle.rules.specs.Limits.{minSpace};
 ghost use Rattle.rules.specs.Message.{kindOf, headerSeid};
 ghost use Rattle.rules.specs.Stages.{plain};
-ghost use Rattle.rules.specs.Reply.{replySeid, offendingElement, reply};
+ghost use Rattle.rules.specs.Reply.{noReports, replySeid, offendingElement, reply};
 ghost use Rattle.rules.specs.Causes as why;
 ghost use Rattle.unit.specs.Meaning.{settingsOf};
 ghost use Rattle.writing.specs.Placed.{Placed, written};
 ghost use Rattle.reply.specs.Parts.{WithSeid, Listing, replyHead, bodyFront};
 ghost use Rattle.reply.specs.Naming.{offendingIn, refusal};
 ghost use Rattle.created.specs.Groups.{idFits};
-ghost use Rattle.created.specs.Entries.{maxGrants, grantsAt, within};
+ghost use Rattle.created.specs.Entries.{maxGrants, toldsAt, reportsAt, within};
 use unit::Settings;
 
 // The element at fault, by its type, where the refusal names one.
@@ -65,7 +65,7 @@ fn write_offending(offending: Offending, out: &mut [u8], at: usize) -> usize
 
 // The header before elements that end at a place: the type after the request's, the request's sequence number.
 fn finish(msg: &[u8], cause: u8, seid: u64, end: usize, out: &mut [u8])
-    requires { ⌜ WithSeid (now msg) × (kindOf (now msg) < 255) × (16 ≤ end) × (end ≤ 1024) × (16 ≤ length (now out)) ⌝ }
+    requires { ⌜ WithSeid (now msg) × (kindOf (now msg) < 255) × (16 ≤ end) × (end ≤ minSpace) × (16 ≤ length (now out)) ⌝ }
     ensures { λ _. ⌜ now (out .exit) ≡ put 0 (replyHead (now (msg .entry)) seid cause (end - 16)) (now (out .entry)) ⌝ }
 {
     let s = reply_seid(msg, cause, seid);
@@ -74,8 +74,8 @@ fn finish(msg: &[u8], cause: u8, seid: u64, end: usize, out: &mut [u8])
 
 // The whole reply of a refusal, at the front of out; the answer is its length.
 pub fn refused(u: Settings, msg: &[u8], cause: u8, offending: Offending, out: &mut [u8]) -> usize
-    requires { ⌜ WithSeid (now msg) × (kindOf (now msg) < 255) × (cause ≡ why.accepted → ⊥) × (1024 ≤ length (now out)) ⌝ }
-    ensures { λ r. ⌜ (r, now (out .exit)) ≡ written (reply (settingsOf u) (now (msg .entry)) 0 (refusal cause offending) []) (now (out .entry)) ⌝ }
+    requires { ⌜ WithSeid (now msg) × (kindOf (now msg) < 255) × (cause ≡ why.accepted → ⊥) × (minSpace ≤ length (now out)) ⌝ }
+    ensures { λ r. ⌜ (r, now (out .exit)) ≡ written (reply (settingsOf u) (now (msg .entry)) 0 (refusal cause offending) noReports) (now (out .entry)) ⌝ }
 {
     let next = write_front(u, msg[1], cause, out, 16);
     let end = write_offending(offending, out, next);
@@ -84,7 +84,7 @@ pub fn refused(u: Settings, msg: &[u8], cause: u8, offending: Offending, out: &m
 }
 
 // The whole reply of an accepted request, at the front of out; the answer is its length. The grants are those of the plan's rows at the
-// places, in the order in which the TEIDs were given.
+// places, which stand in request order for each kind of record.
 pub fn accepted(
     u: Settings,
     msg: &[u8],
@@ -93,8 +93,8 @@ pub fn accepted(
     places: &[usize],
     out: &mut [u8],
 ) -> usize
-    requires { ⌜ WithSeid (now msg) × (kindOf (now msg) < 255) × (length (now places) ≤ maxGrants) × T (within (now plan) (now places)) × (all idFits (grantsAt (now plan) (now places)) ≡ true) × (1024 ≤ length (now out)) ⌝ }
-    ensures { λ r. ⌜ (r, now (out .exit)) ≡ written (reply (settingsOf u) (now (msg .entry)) seid (plain why.accepted) (grantsAt (now (plan .entry)) (now (places .entry)))) (now (out .entry)) ⌝ }
+    requires { ⌜ WithSeid (now msg) × (kindOf (now msg) < 255) × (length (now places) ≤ maxGrants) × T (within (now plan) (now places)) × (all idFits (toldsAt (now plan) (now places)) ≡ true) × (minSpace ≤ length (now out)) ⌝ }
+    ensures { λ r. ⌜ (r, now (out .exit)) ≡ written (reply (settingsOf u) (now (msg .entry)) seid (plain why.accepted) (reportsAt (now (plan .entry)) (now (places .entry)))) (now (out .entry)) ⌝ }
 {
     let next = write_front(u, msg[1], 1, out, 16);
     let own = writing::write_own_fseid(u, msg[1], seid, out, next);
@@ -105,8 +105,8 @@ pub fn accepted(
 
 // The whole reply to a set deletion, accepted or refused, at the front of out; the answer is its length. Its header has no SEID.
 pub fn listed(u: Settings, msg: &[u8], cause: u8, offending: Offending, out: &mut [u8]) -> usize
-    requires { ⌜ Listing (now msg) × (1024 ≤ length (now out)) ⌝ }
-    ensures { λ r. ⌜ (r, now (out .exit)) ≡ written (reply (settingsOf u) (now (msg .entry)) 0 (refusal cause offending) []) (now (out .entry)) ⌝ }
+    requires { ⌜ Listing (now msg) × (minSpace ≤ length (now out)) ⌝ }
+    ensures { λ r. ⌜ (r, now (out .exit)) ≡ written (reply (settingsOf u) (now (msg .entry)) 0 (refusal cause offending) noReports) (now (out .entry)) ⌝ }
 {
     let next = write_front(u, writing::SET_DELETION, cause, out, 8);
     let end = write_offending(offending, out, next);

@@ -15,7 +15,6 @@ use Rattle.octets.proofs.Tests.{and-left, each}
 use Rattle.octets.proofs.Numbers.{number-be}
 use Rattle.rules.specs.Elements.{Fqcsid, sets, removal, csidsAt, csidFields, nodeOf}
 use Rattle.rules.specs.Reading.{setsCsid, clearsCsids, csidCountAllowed}
-use Rattle.rules.specs.Types as ie
 use Rattle.rules.specs.Message.{modification}
 use Rattle.plan.specs.Rows.{rowAddress}
 use Rattle.element.specs.FqCsid.{addressWidths, csidWidths, csidNumbers, addressIn, fqcsidTests, fqcsidMeant, fqcsidOf}
@@ -40,11 +39,11 @@ unfolding csidCountAllowed csidFields countIn csidsAt
 count-of k zero t a xs n = refl
 count-of k (suc m) t a xs n = rw (length-slices (suc m) xs, ne-eqb (suc m) 0 (λ e. absurd (omega arith)))
 
-address-same : (t h l : ℕ) → pick (eqb t ie.createPdr) (be 8 h ++ be 8 l) (be 4 l) ≡ fieldOctets (addressWidths t) (h ∷ l ∷ [])
+address-same : (t h l : ℕ) → pick (eqb t 1) (be 8 h ++ be 8 l) (be 4 l) ≡ fieldOctets (addressWidths t) (h ∷ l ∷ [])
 unfolding addressWidths fieldOctets be
-address-same t h l = by-test (eqb t ie.createPdr)
+address-same t h l = by-test (eqb t 1)
   where
-    by-test : (b : Bool) → pick b (be 8 h ++ be 8 l) (be 4 l) ≡ fieldOctets (pick b (ie.createdPdr ∷ ie.createdPdr ∷ []) (0 ∷ 4 ∷ [])) (h ∷ l ∷ [])
+    by-test : (b : Bool) → pick b (be 8 h ++ be 8 l) (be 4 l) ≡ fieldOctets (pick b (8 ∷ 8 ∷ []) (0 ∷ 4 ∷ [])) (h ∷ l ∷ [])
     by-test true = refl
     by-test false = refl
 

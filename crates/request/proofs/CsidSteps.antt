@@ -17,6 +17,7 @@ use Rattle.rules.specs.Reading as rules
 use Rattle.rules.specs.Reading.{setsCsid, clearsCsids, Reading, done, refusal, withItem, withNode, withCsid, csidRead, pdrIn, aloneIn}
 use Rattle.rules.specs.Types as ie
 use Rattle.rules.specs.Causes as why
+use Rattle.plan.specs.Rows.{rowWidth}
 use Rattle.laws.proofs.MessageLaws.{counts-alike}
 use Rattle.reading.specs.Verdicts.{numbered}
 use Rattle.request.specs.Items.{isUpdate, hasRow, met, Means, Follows, withRow}
@@ -36,7 +37,7 @@ module _ (kind : ℕ) (alone : Bool) (p : ℕ) (v nodes words : List ℕ) (c : D
   abbrev clearing : Bool
   clearing = isNil v && eqb kind modification && alone
 
-  pub csid-clears : true ≡ clearing → 18 * c .rows + 18 ≤ length words → {x : Csid} {b : Draft} {words′ : List ℕ} → x ≡ bareCsid 3 0 → (b ≡ withRow false c) × (words′ ≡ put (18 * c .rows) (csidWords x) words)
+  pub csid-clears : true ≡ clearing → rowWidth * c .rows + rowWidth ≤ length words → {x : Csid} {b : Draft} {words′ : List ℕ} → x ≡ bareCsid 3 0 → (b ≡ withRow false c) × (words′ ≡ put (rowWidth * c .rows) (csidWords x) words)
       → Follows (csidRead kind alone p v) c nodes words (Next b) nodes words′
   unfolding csidRead
   csid-clears h room e to =
@@ -95,7 +96,7 @@ module _ (kind : ℕ) (alone : Bool) (p : ℕ) (v nodes words : List ℕ) (c : D
         low : x .«node_type» < length nodes
         low = let l = node-small in omega arith
 
-        pub csid-taken : 18 * c .rows + 18 ≤ length words → {z : Csid} {b : Draft} {words′ : List ℕ} → z ≡ csidFrom x → (b ≡ withRow false c) × (words′ ≡ put (18 * c .rows) (csidWords z) words)
+        pub csid-taken : rowWidth * c .rows + rowWidth ≤ length words → {z : Csid} {b : Draft} {words′ : List ℕ} → z ≡ csidFrom x → (b ≡ withRow false c) × (words′ ≡ put (rowWidth * c .rows) (csidWords z) words)
             → Follows (csidRead kind alone p v) c nodes words (Next b) (set nodes (x .«node_type») 1) words′
         csid-taken room i to =
             rw (to .0, to .1, i)

@@ -89,38 +89,38 @@ drop-take (suc m) zero [] = rw suc-add
 drop-take (suc m) (suc k) [] = rw suc-add
 drop-take (suc m) k (x ∷ xs) = rw suc-add (drop-take m k xs)
 
--- what stands before and behind a place 18 words further on
-module _ (k : ℕ) (row words : List ℕ) (fits : 18 + k ≤ length words) where
-  take-put : take 18 (put (18 + k) row words) ≡ take 18 words
+-- what stands before and behind a place one row further on
+module _ (k : ℕ) (row words : List ℕ) (fits : rowWidth + k ≤ length words) where
+  take-put : take rowWidth (put (rowWidth + k) row words) ≡ take rowWidth words
   unfolding put
   take-put =
-      let long : length (take (18 + k) words) ≡ rowWidth + k = length-take-le (18 + k) words fits in
-      take-append-le 18 (take (18 + k) words) (row ++ drop (18 + k + length row) words) (omega arith) ∙ take-take 18 (18 + k) words (omega arith)
+      let long : length (take (rowWidth + k) words) ≡ rowWidth + k = length-take-le (rowWidth + k) words fits in
+      take-append-le rowWidth (take (rowWidth + k) words) (row ++ drop (rowWidth + k + length row) words) (omega arith) ∙ take-take rowWidth (rowWidth + k) words (omega arith)
 
-  drop-put : drop 18 (put (18 + k) row words) ≡ put k row (drop 18 words)
+  drop-put : drop rowWidth (put (rowWidth + k) row words) ≡ put k row (drop rowWidth words)
   unfolding put
   drop-put =
-      let long : length (take (18 + k) words) ≡ rowWidth + k = length-take-le (18 + k) words fits in
-      let n : 18 + (k + length row) ≡ rowWidth + k + length row = omega arith in
-      drop-append-le 18 (take (18 + k) words) (row ++ drop (18 + k + length row) words) (omega arith)
-      ∙ ap₂ (λ (a b : List ℕ). a ++ (row ++ b)) (drop-take 18 k words) (ap (λ (i : ℕ). drop i words) (sym n) ∙ sym (drop-drop (k + length row) 18 words))
+      let long : length (take (rowWidth + k) words) ≡ rowWidth + k = length-take-le (rowWidth + k) words fits in
+      let n : rowWidth + (k + length row) ≡ rowWidth + k + length row = omega arith in
+      drop-append-le rowWidth (take (rowWidth + k) words) (row ++ drop (rowWidth + k + length row) words) (omega arith)
+      ∙ ap₂ (λ (a b : List ℕ). a ++ (row ++ b)) (drop-take rowWidth k words) (ap (λ (i : ℕ). drop i words) (sym n) ∙ sym (drop-drop (k + length row) rowWidth words))
 
-slices-more : (n : ℕ) (row words : List ℕ) → length row ≡ rowWidth → 18 * n + 18 ≤ length words → slices rowWidth (suc n) (put (18 * n) row words) ≡ slices rowWidth n words ++ (row ∷ [])
+slices-more : (n : ℕ) (row words : List ℕ) → length row ≡ rowWidth → rowWidth * n + rowWidth ≤ length words → slices rowWidth (suc n) (put (rowWidth * n) row words) ≡ slices rowWidth n words ++ (row ∷ [])
 unfolding slices put
-slices-more zero row words w h = ap (λ (l : List ℕ). l ∷ []) (take-at row (drop (0 + length row) words) 18 w)
+slices-more zero row words w h = ap (λ (l : List ℕ). l ∷ []) (take-at row (drop (0 + length row) words) rowWidth w)
 slices-more (suc n) row words w h =
-    let far : length (drop 18 words) ≡ length words - 18 = length-drop 18 words in
-    let k : 18 * suc n ≡ rowWidth + 18 * n = omega arith in
-    let front : take 18 (put (18 * suc n) row words) ≡ take 18 words = ap (λ (i : ℕ). take 18 (put i row words)) k ∙ take-put (18 * n) row words (omega arith) in
-    let back : drop 18 (put (18 * suc n) row words) ≡ put (18 * n) row (drop 18 words) = ap (λ (i : ℕ). drop 18 (put i row words)) k ∙ drop-put (18 * n) row words (omega arith) in
-    ap₂ (λ (l : List ℕ) (ls : List (List ℕ)). l ∷ ls) front (ap (slices rowWidth (suc n)) back ∙ slices-more n row (drop 18 words) w (omega arith))
+    let far : length (drop rowWidth words) ≡ length words - rowWidth = length-drop rowWidth words in
+    let k : rowWidth * suc n ≡ rowWidth + rowWidth * n = omega arith in
+    let front : take rowWidth (put (rowWidth * suc n) row words) ≡ take rowWidth words = ap (λ (i : ℕ). take rowWidth (put i row words)) k ∙ take-put (rowWidth * n) row words (omega arith) in
+    let back : drop rowWidth (put (rowWidth * suc n) row words) ≡ put (rowWidth * n) row (drop rowWidth words) = ap (λ (i : ℕ). drop rowWidth (put i row words)) k ∙ drop-put (rowWidth * n) row words (omega arith) in
+    ap₂ (λ (l : List ℕ) (ls : List (List ℕ)). l ∷ ls) front (ap (slices rowWidth (suc n)) back ∙ slices-more n row (drop rowWidth words) w (omega arith))
 
 -- ---- drafts with one thing more
 
 module _ {d : rules.Draft} {c : Draft} {nodes words : List ℕ} (m : Means d c nodes words) where
   -- an item and its row
-  pub row-added : (i : Item) (row : List ℕ) (b : Bool) → rowItem row ≡ i → hasRow i ≡ true → isSome (pdrIn i) ≡ b → length row ≡ rowWidth → 18 * c .rows + 18 ≤ length words
-      → Means (withItem i d) (withRow b c) nodes (put (18 * c .rows) row words)
+  pub row-added : (i : Item) (row : List ℕ) (b : Bool) → rowItem row ≡ i → hasRow i ≡ true → isSome (pdrIn i) ≡ b → length row ≡ rowWidth → rowWidth * c .rows + rowWidth ≤ length words
+      → Means (withItem i d) (withRow b c) nodes (put (rowWidth * c .rows) row words)
   row-added i row b is has makes wide fits =
       record {
         seid = m .seid;
@@ -130,7 +130,7 @@ module _ {d : rules.Draft} {c : Draft} {nodes words : List ℕ} (m : Means d c n
         creates = ap (λ (x : Bool). pick b true x) (m .creates) ∙ turned b (createsAny (d .items)) ∙ ap (λ (x : Bool). createsAny (d .items) || x) (sym makes) ∙ sym (creates-more (d .items) i);
         seen = m .seen;
         rows =
-            ap (λ (k : ℕ). map rowItem (slices rowWidth k (put (18 * c .rows) row words))) (add-one (c .rows))
+            ap (λ (k : ℕ). map rowItem (slices rowWidth k (put (rowWidth * c .rows) row words))) (add-one (c .rows))
             ∙ ap (map rowItem) (slices-more (c .rows) row words wide fits)
             ∙ map-append rowItem (slices rowWidth (c .rows) words) (row ∷ [])
             ∙ ap₂ (λ (a e : List Item). a ++ e) (m .rows) (ap (λ (x : Item). x ∷ []) is ∙ sym own)

@@ -18,7 +18,7 @@ use Rattle.rules.specs.Message.{inside, elements}
 use Rattle.rules.specs.Reading as rules
 use Rattle.rules.specs.Reading.{Item, createsPdr, createsEndpoint, updatesPdr, removesPdr, removesEndpoint, Reading, faulty, done, refusal, andThen, need, Members, noMembers, withItem, membersRead, pdiRead, pdrFrom, endpointFrom, changeFrom, itemFrom, groupRead, pdrIn}
 use Rattle.rules.specs.Types as ie
-use Rattle.plan.specs.Rows.{word, rowPdr, rowEndpoint, rowChange, rowLocal, rowFteid, rowFar, rowAddress, present, rowWidth}
+use Rattle.plan.specs.Rows.{word, rowPdr, rowEndpoint, rowChange, rowLocal, rowFteid, rowUe, ueFrom, rowFar, rowAddress, present, rowWidth}
 use Rattle.plan.specs.Words as its
 use Rattle.frame.proofs.Among.{OneOf}
 use Rattle.reading.specs.declared.Verdict.{Verdict}
@@ -77,13 +77,13 @@ module _ (row : List ℕ) where
       go (suc (suc (suc n))) = rw (ne-eqb (suc (suc (suc n))) 2 (λ h. absurd (omega arith)), ne-eqb (suc (suc (suc n))) 1 (λ h. absurd (omega arith)))
 
   abbrev made : ℕ → ℕ → ℕ → Item
-  made n k s = createsPdr (record { id = k; precedence = n; far = bindOption (rowFar row) (λ f. f); source = s; local = rowLocal row; endpoint = present (word its.hasEndpointId row) (word its.endpointId row) })
+  made n k s = createsPdr (record { id = k; precedence = n; far = bindOption (rowFar row) (λ f. f); source = s; local = rowLocal row; endpoint = present (word its.hasEndpointId row) (word its.endpointId row); address = rowUe row })
 
   pdr-is : (p : ℕ) (i : Item) → pdrFrom p (rowMembers row) ≡ done i → i ≡ createsPdr (rowPdr row)
   unfolding pdrFrom rowMembers present rowPdr
   pdr-is p i h =
       go (eqb (word its.hasPdi row) 1) (eqb (word its.hasPrecedence row) 1) (eqb (word its.hasPdrId row) 1) (eqb (word its.hasSource row) 1) h
-      ∙ ap (λ (f : Option ℕ). createsPdr (record { id = word its.pdrId row; precedence = word its.precedence row; far = f; source = word its.source row; local = rowLocal row; endpoint = present (word its.hasEndpointId row) (word its.endpointId row) })) far-same
+      ∙ ap (λ (f : Option ℕ). createsPdr (record { id = word its.pdrId row; precedence = word its.precedence row; far = f; source = word its.source row; local = rowLocal row; endpoint = present (word its.hasEndpointId row) (word its.endpointId row); address = rowUe row })) far-same
     where
       never : {X : Type 0} {f : rules.Fault} → faulty f ≡ done i → X
       never q = let z : _≡_ {A = ℕ} 0 1 = cc in absurd (omega arith)
@@ -101,8 +101,8 @@ module _ (row : List ℕ) where
   unfolding endpointFrom rowMembers present rowLocal rowEndpoint
   endpoint-is p i h = go (eqb (word its.flags row) 0) (eqb (word its.hasEndpointId row) 1) h
     where
-      go : (a b : Bool) → need conditional ie.fteid p (pick a none (some (rowFteid row))) (λ v. need missing ie.endpointId p (pick b (some (word its.endpointId row)) none) (λ k. done (createsEndpoint (record { id = k; local = v })))) ≡ done i
-          → i ≡ createsEndpoint (record { id = word its.endpointId row; local = rowFteid row })
+      go : (a b : Bool) → need conditional ie.fteid p (pick a none (some (rowFteid row))) (λ v. need missing ie.endpointId p (pick b (some (word its.endpointId row)) none) (λ k. done (createsEndpoint (record { id = k; local = v; address = rowUe row })))) ≡ done i
+          → i ≡ createsEndpoint (record { id = word its.endpointId row; local = rowFteid row; address = rowUe row })
       go true b q = let z : _≡_ {A = ℕ} 0 1 = cc in absurd (omega arith)
       go false true q = cc
       go false false q = let z : _≡_ {A = ℕ} 0 1 = cc in absurd (omega arith)
@@ -136,8 +136,8 @@ module _ (row : List ℕ) where
 
   -- the type stands in word 0
   pub tagged-row : (t : ℕ) → length row ≡ rowWidth → rowItem (set row 0 t) ≡ itemOf t row
-  unfolding rowItem itemOf csidItem rowPdr rowEndpoint rowChange rowAddress present rowFar rowLocal rowFteid
-  tagged-row t = apart (λ x. rowItem (set x 0 t) ≡ itemOf t x) (λ a b c d e f g h i j k l m n o p q r. refl) row
+  unfolding rowItem itemOf csidItem rowPdr rowEndpoint rowChange rowAddress present rowFar rowLocal rowFteid rowUe
+  tagged-row t = apart (λ x. rowItem (set x 0 t) ≡ itemOf t x) (λ a b c d e f g h i j k l m n o p q r s u. refl) row
 
   pub group-item : (t : ℕ) → member t groupTypes ≡ true → (p : ℕ) (v : List ℕ) → closedRead t p v noMembers ≡ done (rowMembers row) → groupRead t p v ≡ done (itemOf t row)
   unfolding closedRead groupRead
@@ -154,20 +154,20 @@ module _ (row : List ℕ) where
       go (done n) q = end n (itemFrom t p n) refl (sym (closing-is t k p n) ∙ q)
 
 -- a row of zeros has no members
-pub no-members : rowMembers (replicate 18 0) ≡ noMembers
-unfolding rowMembers present rowFar rowLocal
+pub no-members : rowMembers (replicate rowWidth 0) ≡ noMembers
+unfolding rowMembers present rowFar rowLocal rowUe ueFrom
 no-members = refl
 
-pub tidy-start : Tidy (replicate 18 0)
+pub tidy-start : Tidy (replicate rowWidth 0)
 tidy-start = record { wide = refl; pdrId = zero-le; precedence = zero-le; far = zero-le; source = zero-le; endpointId = zero-le; pdi = zero-le }
 
-module _ (t : ℕ) (k : member t groupTypes ≡ true) (p : ℕ) (v row : List ℕ) (r : Verdict) (c : Draft) (words : List ℕ) (read : Reads (closedRead t p v (rowMembers (replicate 18 0))) row r) where
+module _ (t : ℕ) (k : member t groupTypes ≡ true) (p : ℕ) (v row : List ℕ) (r : Verdict) (c : Draft) (words : List ℕ) (read : Reads (closedRead t p v (rowMembers (replicate rowWidth 0))) row r) where
   pub group-refused : {n x y : ℕ} {s : Step} → r ≡ verdict.Refused n x y → s ≡ Fault n x y → Puts (groupAt t p v) c words s words
   group-refused {n} {x} {y} q e =
       let h : numbered (closedRead t p v noMembers) ≡ stopped n x y = ap (λ (m : Members). numbered (closedRead t p v m)) (sym no-members) ∙ sym (read .told) ∙ ap (λ (z : Verdict). outcome z (rowMembers row)) q in
       rw e (record { puts = λ nodes. record { follows = λ d m. step-fault (stops (groupRead t p v) _ (group-fault t k p v h)) } })
 
-  pub group-taken : r ≡ verdict.Fine → 18 * c .rows + 18 ≤ length words → {b : Draft} {words′ : List ℕ} → b ≡ withRow (eqb t ie.createPdr) c → words′ ≡ put (18 * c .rows) (set row 0 t) words
+  pub group-taken : r ≡ verdict.Fine → rowWidth * c .rows + rowWidth ≤ length words → {b : Draft} {words′ : List ℕ} → b ≡ withRow (eqb t ie.createPdr) c → words′ ≡ put (rowWidth * c .rows) (set row 0 t) words
       → Puts (groupAt t p v) c words (Next b) words′
   group-taken q room to stored =
       let h : closedRead t p v noMembers ≡ done (rowMembers row) =

@@ -6,15 +6,15 @@ use mathlib.Core.Logic.{_⊎_, inl, inr}
 use mathlib.Core.Bool.{Bool, true, false, _&&_, _||_}
 use mathlib.Core.Option.{Option, none, some}
 use mathlib.Core.List.{List, [], _∷_, map}
-use lib.Dec.{eqb}
-use borrow.Author.Tests.{ne-eqb, eqb-true, eqb-false}
-use Rattle.octets.specs.Choice.{pick, valueOr, consOption}
+use lib.Dec.{eqb, ltb}
+use borrow.Author.Tests.{ne-eqb, eqb-true, eqb-false, lt-ltb}
+use Rattle.octets.specs.Choice.{pick, valueOr, mapOption, consOption}
 use Rattle.octets.specs.Lists.{any, keep, collect}
 use Rattle.octets.proofs.Tests.{pick-either}
 use Rattle.rules.specs.Reading as rules
-use Rattle.rules.specs.Reading.{Item, createsPdr, createsEndpoint, updatesPdr, removesPdr, removesEndpoint, setsCsid, clearsCsids, updatesEndpoint, cleared, changed, pdrIn, endpointIn, changeIn, gonePdrIn, goneEndpointIn, csidIn, clears, isUnsupported, restoringIn, requestOf}
-use Rattle.rules.specs.Elements.{Fqcsid, sets, removal}
-use Rattle.plan.specs.Rows.{word, hasTag, tagged, rowsOf, rowPdr, rowEndpoint, rowChange, rowPdi, rowPdrId, rowEndpointId, rowAddress, rowCsid, isNullRow, requestIn}
+use Rattle.rules.specs.Reading.{Item, createsPdr, createsEndpoint, updatesPdr, removesPdr, removesEndpoint, setsCsid, clearsCsids, updatesEndpoint, cleared, changed, pdrIn, endpointIn, changeIn, gonePdrIn, goneEndpointIn, csidIn, clears, strangeAddress, isUnsupported, restoringIn, requestOf, NewPdr, NewEndpoint}
+use Rattle.rules.specs.Elements.{Fqcsid, sets, removal, ueStrange}
+use Rattle.plan.specs.Rows.{word, hasTag, tagged, rowsOf, rowPdr, rowEndpoint, rowUe, ueFrom, rowChange, rowPdi, rowStrange, rowPdrId, rowEndpointId, rowAddress, rowCsid, isNullRow, requestIn}
 use Rattle.rules.specs.Types as ie
 use Rattle.plan.specs.Words as its
 use Rattle.request.specs.Items.{csidItem, itemOf, rowItem, isUpdate, hasRow, flagsOf, Means}
@@ -126,6 +126,46 @@ pdi-part row =
     by-tag (λ t. withPdi (itemOf t row) ≡ (eqb t ie.updatePdr && rowPdi row)) refl refl refl refl refl (by-state row (λ i. withPdi i ≡ false) refl refl refl refl)
     (λ t a b c d e f. rw (ne-eqb t ie.createPdr a, ne-eqb t ie.createEndpoint b, ne-eqb t ie.updatePdr c, ne-eqb t ie.removePdr d, ne-eqb t ie.removeEndpoint e, ne-eqb t ie.fqcsid f))
 
+-- a Create PDR, and a Create Traffic Endpoint, with an address that is not supported
+unfoldable strangePdr : Item → Bool
+strangePdr i = valueOr false (mapOption (λ x. strangeAddress (x .address)) (pdrIn i))
+
+unfoldable strangeEndpoint : Item → Bool
+strangeEndpoint i = valueOr false (mapOption (λ x. strangeAddress (x .address)) (endpointIn i))
+
+strange-row : (row : List ℕ) → strangeAddress (rowUe row) ≡ rowStrange row
+unfolding strangeAddress ueStrange rowUe ueFrom
+strange-row row = go (word its.ueKind row)
+  where
+    go : (k : ℕ) → strangeAddress (ueFrom k (word its.ueAddress row)) ≡ ltb 2 k
+    go zero = refl
+    go (suc zero) = refl
+    go (suc (suc zero)) = refl
+    go (suc (suc (suc n))) =
+        rw (
+          ne-eqb (suc (suc (suc n))) 0 (λ h. absurd (omega arith)),
+          ne-eqb (suc (suc (suc n))) 1 (λ h. absurd (omega arith)),
+          ne-eqb (suc (suc (suc n))) 2 (λ h. absurd (omega arith)),
+          lt-ltb 2 (suc (suc (suc n))) (omega arith),
+        )
+
+-- of a value that is there by a test
+if-there : {A : Type 0} (f : A → Bool) (b : Bool) (x : A) {c : Bool} → f x ≡ c → valueOr false (mapOption f (pick b (some x) none)) ≡ (b && c)
+if-there f true x h = h
+if-there f false x h = refl
+
+strange-pdr-part : (row : List ℕ) (t : ℕ) → strangePdr (itemOf t row) ≡ (eqb t ie.createPdr && rowStrange row)
+unfolding strangePdr rowPdr
+strange-pdr-part row t =
+    ap (λ (o : Option NewPdr). valueOr false (mapOption (λ x. strangeAddress (x .address)) o)) (pdr-part row t)
+    ∙ if-there (λ x. strangeAddress (x .address)) (eqb t ie.createPdr) (rowPdr row) (strange-row row)
+
+strange-endpoint-part : (row : List ℕ) (t : ℕ) → strangeEndpoint (itemOf t row) ≡ (eqb t ie.createEndpoint && rowStrange row)
+unfolding strangeEndpoint rowEndpoint
+strange-endpoint-part row t =
+    ap (λ (o : Option NewEndpoint). valueOr false (mapOption (λ x. strangeAddress (x .address)) o)) (endpoint-part row t)
+    ∙ if-there (λ x. strangeAddress (x .address)) (eqb t ie.createEndpoint) (rowEndpoint row) (strange-row row)
+
 -- ---- all rows
 
 collect-tagged : {A : Type 0} (f : Item → Option A) (h : List ℕ → Option A) (k : ℕ) → ((row : List ℕ) (t : ℕ) → f (itemOf t row) ≡ pick (eqb t k) (h row) none)
@@ -186,26 +226,39 @@ any-kept f u (i ∷ is) = go (row-or-none i) (any-kept f u is)
     go (inl h) e = rw h (ap (λ (b : Bool). f i || b) e)
     go (inr h) e = rw (h, no-row, u) e
 
-or-swap : (a b x y : Bool) → (a || b || (x || y)) ≡ (a || x || (b || y))
-or-swap true b x y = refl
-or-swap false true true y = refl
-or-swap false true false y = refl
-or-swap false false x y = refl
-
-any-unsupported : (is : List Item) → any isUnsupported is ≡ (any isUpdate is || any withPdi is)
-unfolding any isUnsupported isUpdate withPdi
-any-unsupported [] = refl
-any-unsupported (i ∷ is) = ap₂ _||_ (one i) (any-unsupported is) ∙ or-swap (isUpdate i) (withPdi i) (any isUpdate is) (any withPdi is)
+-- what is not supported: element 129, a PDI in an Update PDR, or an address in a Create PDR or Create Traffic Endpoint
+any-or : (f g h : Item → Bool) → ((i : Item) → f i ≡ (g i || h i)) → (is : List Item) → any f is ≡ (any g is || any h is)
+unfolding any
+any-or f g h p [] = refl
+any-or f g h p (i ∷ is) = ap₂ _||_ (p i) (any-or f g h p is) ∙ or-swap (g i) (h i) (any g is) (any h is)
   where
-    one : (i : Item) → isUnsupported i ≡ (isUpdate i || withPdi i)
-    one (createsPdr x) = unfold isUnsupported isUpdate withPdi in refl
-    one (createsEndpoint x) = unfold isUnsupported isUpdate withPdi in refl
-    one (updatesPdr x) = unfold isUnsupported isUpdate withPdi in refl
-    one (removesPdr x) = unfold isUnsupported isUpdate withPdi in refl
-    one (removesEndpoint x) = unfold isUnsupported isUpdate withPdi in refl
-    one (setsCsid x) = unfold isUnsupported isUpdate withPdi in refl
-    one clearsCsids = unfold isUnsupported isUpdate withPdi in refl
-    one updatesEndpoint = unfold isUnsupported isUpdate withPdi in refl
+    or-swap : (a b x y : Bool) → ((a || b) || (x || y)) ≡ ((a || x) || (b || y))
+    or-swap true b x y = refl
+    or-swap false true true y = refl
+    or-swap false true false y = refl
+    or-swap false false x y = refl
+
+or-false : (b : Bool) → b ≡ (b || false)
+or-false true = refl
+or-false false = refl
+
+one-unsupported : (i : Item) → isUnsupported i ≡ (isUpdate i || withPdi i || strangePdr i || strangeEndpoint i)
+unfolding isUnsupported isUpdate withPdi strangePdr strangeEndpoint pdrIn endpointIn
+one-unsupported (createsPdr x) = or-false (strangeAddress (x .address))
+one-unsupported (createsEndpoint x) = refl
+one-unsupported (updatesPdr x) = or-false (x .pdi) ∙ or-false (x .pdi || false)
+one-unsupported (removesPdr x) = refl
+one-unsupported (removesEndpoint x) = refl
+one-unsupported (setsCsid x) = refl
+one-unsupported clearsCsids = refl
+one-unsupported updatesEndpoint = refl
+
+any-unsupported : (is : List Item) → any isUnsupported is ≡ (any isUpdate is || any withPdi is || any strangePdr is || any strangeEndpoint is)
+any-unsupported is =
+    any-or isUnsupported (λ i. isUpdate i || withPdi i || strangePdr i) strangeEndpoint one-unsupported is
+    ∙ ap (λ (b : Bool). b || any strangeEndpoint is)
+    (any-or (λ i. isUpdate i || withPdi i || strangePdr i) (λ i. isUpdate i || withPdi i) strangePdr (λ i. refl) is
+    ∙ ap (λ (b : Bool). b || any strangePdr is) (any-or (λ i. isUpdate i || withPdi i) isUpdate withPdi (λ i. refl) is))
 
 -- ---- the request
 
@@ -238,7 +291,7 @@ module _ {d : rules.Draft} {c : Draft} {nodes words : List ℕ} (m : Means d c n
   restoring-same = ap (λ (n : ℕ). eqb n 2) (m .flags) ∙ flags-restore (d .restores)
 
   pub request-same : (n : ℕ) → requestIn n (eqb (c .flags) 2) (c .noted) rows ≡ requestOf n d
-  unfolding requestIn requestOf pdrIn endpointIn changeIn gonePdrIn goneEndpointIn withPdi
+  unfolding requestIn requestOf pdrIn endpointIn changeIn gonePdrIn goneEndpointIn withPdi strangePdr strangeEndpoint
   request-same n =
       let pdrs = sym (collect-some rowPdr (tagged ie.createPdr rows)) ∙ part pdrIn (λ row. some (rowPdr row)) 1 pdr-part refl in
       let endpoints = sym (collect-some rowEndpoint (tagged ie.createEndpoint rows)) ∙ part endpointIn (λ row. some (rowEndpoint row)) ie.createEndpoint endpoint-part refl in
@@ -246,7 +299,8 @@ module _ {d : rules.Draft} {c : Draft} {nodes words : List ℕ} (m : Means d c n
       let gone-pdrs = sym (collect-some rowPdrId (tagged ie.removePdr rows)) ∙ part gonePdrIn (λ row. some (rowPdrId row)) 15 gone-pdr-part refl in
       let gone-endpoints = sym (collect-some rowEndpointId (tagged ie.removeEndpoint rows)) ∙ part goneEndpointIn (λ row. some (rowEndpointId row)) ie.removeEndpoint gone-endpoint-part refl in
       let csids = ap₂ (λ (b : Bool) (cs : List Fqcsid). pick b cleared (changed cs)) nulls-same csids-same in
-      let unsupported = ap₂ _||_ (m .noted) (fact withPdi rowPdi 9 pdi-part refl) ∙ sym (any-unsupported (d .items)) in
+      let unsupported = ap₂ _||_ (ap₂ _||_ (ap₂ _||_ (m .noted) (fact withPdi rowPdi ie.updatePdr pdi-part refl)) (fact strangePdr rowStrange ie.createPdr strange-pdr-part refl)) (fact strangeEndpoint rowStrange ie.createEndpoint strange-endpoint-part refl)
+      ∙ sym (any-unsupported (d .items)) in
       λ j. record {
         seid = n;
         restoring = restoring-same j;

@@ -25,7 +25,7 @@ use Rattle.frame.specs.declared.Framing.the-variants as framing
 use Rattle.reading.specs.Verdicts.{stopped, numbered}
 use Rattle.frame.specs.HeaderOf.{SessionHeader}
 use Rattle.request.specs.Items.{Enough, AllRead, planOf, concluded}
-use Rattle.request.specs.Requests.{refused, resultOf, fromFraming, readingOf, meant, rowsLeft, Read}
+use Rattle.request.specs.Requests.{maxItems, maxWords, refused, resultOf, fromFraming, readingOf, meant, rowsLeft, Read}
 use Rattle.request.specs.declared.Reading as code
 use Rattle.request.specs.declared.Reading.the-variants as reading
 use Rattle.request.specs.declared.items.Draft.{Draft}
@@ -54,7 +54,7 @@ module _ (msg : List ℕ) (head : SessionHeader msg) where
   tail-short : length msg ≤ 2048 → length (take (length msg - 16) (drop 16 msg)) ≤ 2032
   tail-short h = let long = head .long in let size : length tail ≡ length msg - 16 = ap length (part-from 16 msg) ∙ length-drop 16 msg in omega arith
 
-  pub message-room : {words : List ℕ} → length msg ≤ 2048 → 4068 ≤ length words → Enough (take (length msg - 16) (drop 16 msg)) words
+  pub message-room : {words : List ℕ} → length msg ≤ 2048 → maxWords ≤ length words → Enough (take (length msg - 16) (drop 16 msg)) words
   message-room short room = record { short = tail-short short; row = room }
 
   module _ {k : ℕ} (kind : k ≡ kindOf msg) where
@@ -86,7 +86,7 @@ module _ (msg : List ℕ) (head : SessionHeader msg) where
         pub read-refused : {exit : List ℕ} (c t p : ℕ) → r ≡ Fault c t p → Read msg (reading.Fault c t p) exit
         read-refused c t p q = refused-whole (stopped-read c t p q ∙ sym by-reading)
 
-        pub read-whole : 4068 ≤ length words → (d : Draft) → r ≡ Next d → {q : code.Reading} → q ≡ concluded k d → Read msg q words
+        pub read-whole : maxWords ≤ length words → (d : Draft) → r ≡ Next d → {q : code.Reading} → q ≡ concluded k d → Read msg q words
         read-whole room d e {q} h =
             let w = all .next d e in
             let m = w .read .means in
@@ -107,7 +107,7 @@ module _ (msg : List ℕ) (head : SessionHeader msg) where
                 go true false e = inr refl
                 go false b e = inl refl
 
-            by-plan : (d : Draft) → d .rows ≤ 226 → 4068 ≤ length words → (any isNullRow (tagged ie.fqcsid (rowsOf (d .rows) words)) ≡ true → collect rowCsid (tagged ie.fqcsid (rowsOf (d .rows) words)) ≡ [])
+            by-plan : (d : Draft) → d .rows ≤ maxItems → maxWords ≤ length words → (any isNullRow (tagged ie.fqcsid (rowsOf (d .rows) words)) ≡ true → collect rowCsid (tagged ie.fqcsid (rowsOf (d .rows) words)) ≡ [])
                 → (q : code.Reading) → (rowsLeft q ≡ d .rows) ⊎ (rowsLeft q ≡ 0) → meant q words ≡ readingOf msg → Read msg q words
             by-plan d few room alone q (inl n) s = record { result = s; room = omega arith; onlyNull = subst (λ (i : ℕ). any isNullRow (tagged ie.fqcsid (rowsOf i words)) ≡ true → collect rowCsid (tagged ie.fqcsid (rowsOf i words)) ≡ []) (sym n) alone }
             by-plan d few room alone q (inr n) s = record { result = s; room = omega arith; onlyNull = subst (λ (i : ℕ). any isNullRow (tagged ie.fqcsid (rowsOf i words)) ≡ true → collect rowCsid (tagged ie.fqcsid (rowsOf i words)) ≡ []) (sym n) (λ e. no-rows words e) }

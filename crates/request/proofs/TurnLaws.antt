@@ -61,7 +61,7 @@ going-none kind s words = record { draft = emptyDraft; means = start-means words
 slices-length : (n : ℕ) (xs : List ℕ) → length (slices rowWidth n xs) ≡ n
 unfolding slices
 slices-length zero xs = refl
-slices-length (suc n) xs = ap suc (slices-length n (drop 18 xs))
+slices-length (suc n) xs = ap suc (slices-length n (drop rowWidth xs))
 
 map-length : {A B : Type 0} (f : A → B) (xs : List A) → length (map f xs) ≡ length xs
 map-length f [] = refl

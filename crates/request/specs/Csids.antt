@@ -1,13 +1,15 @@
 -- The words that hold an FQ-CSID, in the rules' terms.
 -- Assumes nothing.
-use Prim.Native.Nat.{ℕ}
+use Prim.Native.Nat.{ℕ, _-_}
 use mathlib.Core.Bool.{Bool}
-use mathlib.Core.List.{List, [], _∷_}
+use mathlib.Core.List.{List, _∷_}
+use lib.ListN.{replicate}
 use lib.Dec.{eqb}
 use Rattle.octets.specs.Choice.{pick}
 use Rattle.rules.specs.Types as ie
 use Rattle.rules.specs.Elements.{causeOf}
 use Rattle.rules.specs.Message.{modification}
+use Rattle.plan.specs.Rows.{rowWidth}
 use Rattle.element.specs.Answers.{refusalOf}
 use Rattle.element.specs.declared.fqcsid.FqCsid.{FqCsid}
 use Rattle.element.specs.declared.fqcsid.Answer as answer
@@ -29,7 +31,7 @@ bareCsid s n = record { state = s; node = n; «id_type» = 0; high = 0; low = 0;
 
 -- the row of an FQ-CSID
 abbrev pub csidWords : Csid → List ℕ
-csidWords x = 65 ∷ x .state ∷ 0 ∷ 0 ∷ 0 ∷ 0 ∷ 0 ∷ x .node ∷ x .«id_type» ∷ x .high ∷ x .low ∷ x .csid ∷ 0 ∷ 0 ∷ 0 ∷ 0 ∷ 0 ∷ 0 ∷ []
+csidWords x = ie.fqcsid ∷ x .state ∷ 0 ∷ 0 ∷ 0 ∷ 0 ∷ 0 ∷ x .node ∷ x .«id_type» ∷ x .high ∷ x .low ∷ x .csid ∷ replicate (rowWidth - 12) 0
 
 -- the words of a value with one CSID at most
 unfoldable pub csidFrom : FqCsid → Csid

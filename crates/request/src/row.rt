@@ -128,26 +128,14 @@ fn put_csid(x: Csid, words: &mut [u64], d: Draft) -> Draft
     requires { ⌜ (rowWidth * d .rows + rowWidth ≤ length (now words)) × (d .rows ≤ 225) ⌝ }
     ensures { λ r. ⌜ (r ≡ withRow false d) × (now (words .exit) ≡ put (rowWidth * d .rows) (csidWords x) (now (words .entry))) ⌝ }
 {
-    let row = [
-        types::FQCSID,
-        x.state,
-        0,
-        0,
-        0,
-        0,
-        0,
-        x.node,
-        x.id_type,
-        x.high,
-        x.low,
-        x.csid,
-        0,
-        0,
-        0,
-        0,
-        0,
-        0,
-    ];
+    let mut row = [0u64; format::ROW];
+    row[words::TAG] = types::FQCSID;
+    row[words::VERB] = x.state;
+    row[words::NODE_TYPE] = x.node;
+    row[words::ID_TYPE] = x.id_type;
+    row[words::ADDRESS_HIGH] = x.high;
+    row[words::ADDRESS_LOW] = x.low;
+    row[words::CSID] = x.csid;
     put_words(words, format::ROW * d.rows, &row);
     with_row(d, false)
 }

@@ -67,7 +67,7 @@ pub fits-wide : (k : ℕ) (xs : List ℕ) → T (recordFits k xs) → length xs 
 unfolding recordFits recordWidth
 fits-wide k xs h = go (eqb k 1) (eqb k ie.createEndpoint) h
   where
-    go : (a b : Bool) → T (pick a (eqb (length xs) pdrWidth) (pick b (eqb (length xs) endpointWidth) (eqb (length xs) csidWidth && ltb (octetAt xs 1) 16))) → length xs ≡ pick a pdrWidth (pick b 6 csidWidth)
+    go : (a b : Bool) → T (pick a (eqb (length xs) pdrWidth) (pick b (eqb (length xs) endpointWidth) (eqb (length xs) csidWidth && ltb (octetAt xs 1) 16))) → length xs ≡ pick a pdrWidth (pick b endpointWidth csidWidth)
     go true b g = eqb→eq (length xs) pdrWidth g
     go false true g = eqb→eq (length xs) endpointWidth g
     go false false g = eqb→eq (length xs) csidWidth (and-left (eqb (length xs) csidWidth) (ltb (octetAt xs 1) 16) g)

@@ -3,6 +3,7 @@ use mathlib.Core.Path.{_≡_, refl, sym, ap, ap₂, _∙_}
 use Prim.Native.Nat.{ℕ, _+_, _-_, _*_, _≤_, _<_}
 use native.Mathlib.Omega.{arith}
 use mathlib.Core.Bool.{Bool, true, false}
+use mathlib.Core.Option.{Option, some}
 use mathlib.Core.List.{List, [], _∷_, _++_, append-assoc, append-nil}
 use borrow.Author.Tests.{eq-eqb, ne-eqb}
 use lib.Dec.{T, eqb}
@@ -12,18 +13,19 @@ use Rattle.octets.specs.Choice.{pick}
 use Rattle.octets.specs.Octets.{put, be, part, number, octets, concatMap}
 use Rattle.octets.specs.Fields.{fieldsAt}
 use Rattle.octets.proofs.Numbers.{length-be}
-use Rattle.octets.proofs.Put.{set-put, length-part}
+use Rattle.octets.proofs.Put.{set-put, length-put, length-part}
 use Rattle.octets.proofs.Digits.{number-one, be-back, part-octets}
 use Rattle.rules.specs.Model.{Settings, endpoint, Pdr, Endpoint}
 use Rattle.rules.specs.Elements.{addressLength, fqcsidOctets}
-use Rattle.rules.specs.Layout.{optionRead, tunnelRead, placeRead, pdrFrom, endpointFrom, addressRead, csidFrom, viewPdr, viewEndpoint, viewCsid, settingsWidth, pdrWidth, csidWidth, pdrsAt, endpointWidth}
-use Rattle.rules.specs.Reply.{element, unitElement}
+use Rattle.rules.specs.Layout.{optionRead, tunnelRead, placeRead, pdrFrom, endpointFrom, addressRead, csidFrom, viewPdr, viewEndpoint, viewCsid, pdrWidth, csidWidth, endpointWidth}
+use Rattle.rules.specs.Reply.{element, unitElement, addressPart}
 use Rattle.rules.specs.Restoration.{placeElement, farElement, pdiContent, pdrContent, pdrElement, endpointContent, endpointElement, recordCsid, csidElement}
 use Rattle.rules.specs.Types as ie
 use Rattle.unit.specs.declared.Settings.{Settings as Unit}
 use Rattle.unit.specs.Meaning.{settingsOf}
 use Rattle.writing.specs.Placed.{Placed}
 use Rattle.writing.specs.Families.{tunnelIn}
+use Rattle.writing.proofs.ElementSteps.{length-ue}
 use Rattle.writing.proofs.PlacedLaws.{next-put, next-set, length-element, length-headed, placed-none, placed-then, placed-element, placed-group}
 
 -- ---- fields
@@ -42,27 +44,62 @@ octet-part at xs h = ap (λ (x : ℕ). x ∷ []) (octet-read at xs h) ∙ sym (o
 be-part : (at w : ℕ) (xs : List ℕ) → T (octets xs) → at + w ≤ length xs → be w (number (part at w xs)) ≡ part at w xs
 be-part at w xs o h = be-back w (part at w xs) (length-part at w xs h) (part-octets at w xs o)
 
+-- what is placed leaves the length
+placed-length : {s s₁ : List ℕ} {at e : ℕ} {xs : List ℕ} → Placed s at xs e s₁ → at + length xs ≤ length s → length s₁ ≡ length s
+placed-length {s} {s₁} {at} {e} {xs} p h = ap length (p .holds) ∙ length-put at xs s h
+
+-- ---- a record's address, from its two fields
+
+module _ (there address : ℕ) where
+  pub address-none-steps : (at : ℕ) (out : List ℕ) → there ≡ 0 → Placed out at (addressPart (optionRead there address)) at out
+  unfolding optionRead addressPart
+  address-none-steps at out z = rw (eq-eqb there 0 z) (placed-none out at)
+
+  address-some : (there ≡ 0 → ⊥) → optionRead there address ≡ some address
+  unfolding optionRead
+  address-some z = rw (ne-eqb there 0 z)
+
+  pub length-address : (there ≡ 0 → ⊥) → length (addressPart (optionRead there address)) ≡ 9
+  length-address z = ap (λ (o : Option ℕ). length (addressPart o)) (address-some z) ∙ length-ue address
+
+  pub address-some-steps : (at : ℕ) (out : List ℕ) {e : ℕ} {out′ : List ℕ} → (there ≡ 0 → ⊥) → Placed out at (addressPart (some address)) e out′ → Placed out at (addressPart (optionRead there address)) e out′
+  address-some-steps at out z p = rw (address-some z) p
+
 -- ---- PDR
 
 module _ (s : Settings) (p : Pdr) where
-  pub length-pdi : length (element ie.pdi (pdiContent s p)) ≡ 9 + length (placeElement s (p .place))
+  pub length-pdi : length (element ie.pdi (pdiContent s p)) ≡ 9 + (length (placeElement s (p .place)) + length (addressPart (p .address)))
   unfolding pdiContent
   length-pdi =
-      rw (length-element) (omega (arith, length-append (element ie.sourceInterface (p .source ∷ [])) (placeElement s (p .place)), length-element ie.sourceInterface (p .source ∷ [])))
+      let a = element ie.sourceInterface (p .source ∷ []) in
+      let b = placeElement s (p .place) in
+      let c = addressPart (p .address) in
+      rw (length-element) (omega (arith, length-append a (b ++ c), length-append b c, length-element ie.sourceInterface (p .source ∷ [])))
 
   pub length-pdr : length (pdrElement s p) ≡ 18 + (length (element ie.pdi (pdiContent s p)) + length (farElement (p .far)))
   unfolding pdrElement pdrContent
   length-pdr =
       let a = element ie.pdrId (be 2 (p .id)) in
-      let b = element settingsWidth (be 4 (p .precedence)) in
+      let b = element ie.precedence (be 4 (p .precedence)) in
       let c = element ie.pdi (pdiContent s p) in
       let d = farElement (p .far) in
       rw (length-element 1 (a ++ (b ++ (c ++ d))))
-      (omega (arith, length-append a (b ++ (c ++ d)), length-append b (c ++ d), length-append c d, length-element ie.pdrId (be 2 (p .id)), length-be 2 (p .id), length-element settingsWidth (be 4 (p .precedence)), length-be 4 (p .precedence)))
+      (omega (arith, length-append a (b ++ (c ++ d)), length-append b (c ++ d), length-append c d, length-element ie.pdrId (be 2 (p .id)), length-be 2 (p .id), length-element ie.precedence (be 4 (p .precedence)), length-be 4 (p .precedence)))
 
 module _ (xs : List ℕ) (long : length xs ≡ pdrWidth) where
   abbrev pdr : Pdr
   pdr = viewPdr xs
+
+  pub pdr-address : pdr .address ≡ optionRead (getD xs 19 0) (number (part 20 4 xs))
+  unfolding viewPdr pdrFrom fieldsAt
+  pdr-address = rw (octet-read 19 xs (omega arith))
+
+  pub length-pdr-address : (address : ℕ) → address ≡ number (part 20 4 xs) → length (addressPart (pdr .address)) ≡ length (addressPart (optionRead (getD xs 19 0) address))
+  length-pdr-address address w = rw (pdr-address, ← w)
+
+  source-is : pdr .source ∷ [] ≡ part 11 1 xs
+  unfolding viewPdr pdrFrom fieldsAt
+  source-is = octet-part 11 xs (omega arith)
 
   module _ (u : Unit) where
     abbrev st : Settings
@@ -87,6 +124,10 @@ module _ (xs : List ℕ) (long : length xs ≡ pdrWidth) where
     unfolding placeElement placeRead
     place-neither k l = place-is ∙ rw (ne-eqb (getD xs 12 0) 1 k, ne-eqb (getD xs 12 0) 2 l)
 
+    pdi-is : pdiContent st pdr ≡ element ie.sourceInterface (part 11 1 xs) ++ (placeElement st (pdr .place) ++ addressPart (pdr .address))
+    unfolding pdiContent
+    pdi-is = ap (λ (l : List ℕ). element ie.sourceInterface l ++ (placeElement st (pdr .place) ++ addressPart (pdr .address))) source-is
+
     module _ (at : ℕ) (out : List ℕ) where
       pub place-tunnel-steps : (teid : ℕ) {e : ℕ} {out′ : List ℕ} → getD xs 12 0 ≡ 1 → teid ≡ number (part 13 4 xs)
           → Placed out at (unitElement st (tunnelIn teid (getD xs 17 0))) e out′ → Placed out at (placeElement st (pdr .place)) e out′
@@ -99,18 +140,22 @@ module _ (xs : List ℕ) (long : length xs ≡ pdrWidth) where
       pub place-neither-steps : (getD xs 12 0 ≡ 1 → ⊥) → (getD xs 12 0 ≡ 2 → ⊥) → Placed out at (placeElement st (pdr .place)) at out
       place-neither-steps k l = rw (place-neither k l) (placed-none out at)
 
-      pub pdi-steps : {m e : ℕ} {out₁ out₂ out₃ : List ℕ} → at + length (element ie.pdi (pdiContent st pdr)) ≤ length out
-          → Placed out (at + 4) (element ie.sourceInterface (part 11 1 xs)) m out₁ → Placed out₁ m (placeElement st (pdr .place)) e out₂
-          → out₃ ≡ put at (be 2 2 ++ be 2 (e - (at + 4))) out₂ → Placed out at (element ie.pdi (pdiContent st pdr)) e out₃
-      unfolding pdiContent viewPdr pdrFrom fieldsAt
-      pdi-steps {m} {e} {out₁} {out₂} h p q r =
+      pub pdi-steps : (address : ℕ) {m n e : ℕ} {out₁ out₂ out₃ out₄ : List ℕ} → at + length (element ie.pdi (pdiContent st pdr)) ≤ length out
+          → Placed out (at + 4) (element ie.sourceInterface (part 11 1 xs)) m out₁ → Placed out₁ m (placeElement st (pdr .place)) n out₂
+          → address ≡ number (part 20 4 xs) → Placed out₂ n (addressPart (optionRead (getD xs 19 0) address)) e out₃
+          → out₄ ≡ put at (be 2 2 ++ be 2 (e - (at + 4))) out₃ → Placed out at (element ie.pdi (pdiContent st pdr)) e out₄
+      pdi-steps address {m} {n} {e} {out₁} {out₂} {out₃} h p q w v r =
           let l = length-pdi st pdr in
           let k : length (element ie.sourceInterface (part 11 1 xs)) ≡ 5 = length-element ie.sourceInterface (part 11 1 xs) ∙ ap (λ (n : ℕ). 4 + n) (length-part 11 1 xs (omega arith)) in
-          let both : Placed out (at + 4) (element ie.sourceInterface (pdr .source ∷ []) ++ placeElement st (pdr .place)) e out₂ = rw (octet-part pdrsAt xs (omega arith)) (placed-then p q (omega arith)) in
-          placed-group 2 at (at + 4) (element ie.sourceInterface (pdr .source ∷ []) ++ placeElement st (pdr .place)) out refl (omega arith) both r
+          let z = placed-length p (omega arith) in
+          let y = p .ends in
+          let v′ : Placed out₂ n (addressPart (pdr .address)) e out₃ = rw (pdr-address, ← w) v in
+          let both = placed-then q v′ (omega arith) in
+          let all : Placed out (at + 4) (pdiContent st pdr) e out₃ = rw pdi-is (placed-then p both (omega arith)) in
+          placed-group 2 at (at + 4) (pdiContent st pdr) out refl (omega arith) all r
 
       pub pdr-steps : {a b c e : ℕ} {out₁ out₂ out₃ out₄ out₅ : List ℕ} → T (octets xs) → at + length (pdrElement st pdr) ≤ length out
-          → Placed out (at + 4) (element ie.pdrId (take 2 xs)) a out₁ → Placed out₁ a (element settingsWidth (part 2 4 xs)) b out₂
+          → Placed out (at + 4) (element ie.pdrId (take 2 xs)) a out₁ → Placed out₁ a (element ie.precedence (part 2 4 xs)) b out₂
           → Placed out₂ b (element ie.pdi (pdiContent st pdr)) c out₃ → Placed out₃ c (farElement (pdr .far)) e out₄
           → length out₁ ≡ length out → length out₂ ≡ length out
           → out₅ ≡ put at (be 2 1 ++ be 2 (e - (at + 4))) out₄ → Placed out at (pdrElement st pdr) e out₅
@@ -119,7 +164,7 @@ module _ (xs : List ℕ) (long : length xs ≡ pdrWidth) where
           let l = length-pdr st pdr in
           let j = length-element ie.pdrId (take 2 xs) in
           let j′ = length-part 0 2 xs (omega arith) in
-          let k = length-element settingsWidth (part 2 4 xs) in
+          let k = length-element ie.precedence (part 2 4 xs) in
           let k′ = length-part 2 4 xs (omega arith) in
           let m = p .ends in
           let n = q .ends in
@@ -127,7 +172,7 @@ module _ (xs : List ℕ) (long : length xs ≡ pdrWidth) where
           let later = placed-then q last (omega arith) in
           let all = placed-then p later (omega arith) in
           rw (be-part 0 2 xs o (omega arith), be-part 2 4 xs o (omega arith))
-          (placed-group 1 at (at + 4) (element ie.pdrId (take 2 xs) ++ (element settingsWidth (part 2 4 xs) ++ (element ie.pdi (pdiContent st pdr) ++ farElement (pdr .far)))) out refl (omega arith) all v)
+          (placed-group 1 at (at + 4) (element ie.pdrId (take 2 xs) ++ (element ie.precedence (part 2 4 xs) ++ (element ie.pdi (pdiContent st pdr) ++ farElement (pdr .far)))) out refl (omega arith) all v)
 
   module _ (at : ℕ) (out : List ℕ) where
     pub far-none : getD xs 6 0 ≡ 0 → farElement (pdr .far) ≡ []
@@ -146,29 +191,55 @@ module _ (xs : List ℕ) (long : length xs ≡ pdrWidth) where
 
 -- ---- endpoint
 
-pub length-endpoint : (s : Settings) (e : Endpoint) → length (endpointElement s e) ≡ 9 + length (unitElement s (e .local))
+pub length-endpoint : (s : Settings) (e : Endpoint) → length (endpointElement s e) ≡ 9 + (length (unitElement s (e .local)) + length (addressPart (e .address)))
 unfolding endpointElement endpointContent
 length-endpoint s e =
-    rw (length-element) (omega (arith, length-append (element ie.endpointId (e .id ∷ [])) (unitElement s (e .local)), length-element ie.endpointId (e .id ∷ [])))
+    let a = element ie.endpointId (e .id ∷ []) in
+    let b = unitElement s (e .local) in
+    let c = addressPart (e .address) in
+    rw (length-element) (omega (arith, length-append a (b ++ c), length-append b c, length-element ie.endpointId (e .id ∷ [])))
 
 module _ (xs : List ℕ) (long : length xs ≡ endpointWidth) (u : Unit) where
   pub endpoint-local : unitElement (settingsOf u) (viewEndpoint xs .local) ≡ unitElement (settingsOf u) (tunnelIn (number (part 1 4 xs)) (getD xs 5 0))
   unfolding viewEndpoint endpointFrom fieldsAt tunnelRead tunnelIn
   endpoint-local = rw (octet-read 5 xs (omega arith))
 
-  pub endpoint-steps : (at teid : ℕ) (out : List ℕ) {a e : ℕ} {out₁ out₂ out₃ : List ℕ} → at + length (endpointElement (settingsOf u) (viewEndpoint xs)) ≤ length out
+  pub endpoint-address : viewEndpoint xs .address ≡ optionRead (getD xs 6 0) (number (part 7 4 xs))
+  unfolding viewEndpoint endpointFrom fieldsAt
+  endpoint-address = rw (octet-read 6 xs (omega arith))
+
+  pub length-local : (teid : ℕ) → teid ≡ number (part 1 4 xs) → length (unitElement (settingsOf u) (viewEndpoint xs .local)) ≡ length (unitElement (settingsOf u) (tunnelIn teid (getD xs 5 0)))
+  length-local teid w = rw (endpoint-local, ← w)
+
+  pub length-endpoint-address : (address : ℕ) → address ≡ number (part 7 4 xs) → length (addressPart (viewEndpoint xs .address)) ≡ length (addressPart (optionRead (getD xs 6 0) address))
+  length-endpoint-address address w = rw (endpoint-address, ← w)
+
+  id-is : viewEndpoint xs .id ∷ [] ≡ take 1 xs
+  unfolding viewEndpoint endpointFrom fieldsAt
+  id-is = octet-part 0 xs (omega arith)
+
+  endpoint-is : endpointContent (settingsOf u) (viewEndpoint xs)
+      ≡ element ie.endpointId (take 1 xs) ++ (unitElement (settingsOf u) (viewEndpoint xs .local) ++ addressPart (viewEndpoint xs .address))
+  unfolding endpointContent
+  endpoint-is = ap (λ (l : List ℕ). element ie.endpointId l ++ (unitElement (settingsOf u) (viewEndpoint xs .local) ++ addressPart (viewEndpoint xs .address))) id-is
+
+  pub endpoint-steps : (at teid address : ℕ) (out : List ℕ) {a b e : ℕ} {out₁ out₂ out₃ out₄ : List ℕ} → at + length (endpointElement (settingsOf u) (viewEndpoint xs)) ≤ length out
       → Placed out (at + 4) (element ie.endpointId (take 1 xs)) a out₁ → teid ≡ number (part 1 4 xs)
-      → Placed out₁ a (unitElement (settingsOf u) (tunnelIn teid (getD xs 5 0))) e out₂
-      → out₃ ≡ put at (be 2 ie.createEndpoint ++ be 2 (e - (at + 4))) out₂ → Placed out at (endpointElement (settingsOf u) (viewEndpoint xs)) e out₃
-  unfolding endpointElement endpointContent
-  endpoint-steps at teid out {a} {e} {out₁} {out₂} h p w q r =
+      → Placed out₁ a (unitElement (settingsOf u) (tunnelIn teid (getD xs 5 0))) b out₂
+      → address ≡ number (part 7 4 xs) → Placed out₂ b (addressPart (optionRead (getD xs 6 0) address)) e out₃
+      → out₄ ≡ put at (be 2 ie.createEndpoint ++ be 2 (e - (at + 4))) out₃ → Placed out at (endpointElement (settingsOf u) (viewEndpoint xs)) e out₄
+  unfolding endpointElement
+  endpoint-steps at teid address out {a} {b} {e} {out₁} {out₂} {out₃} h p w q z v r =
       let l = length-endpoint (settingsOf u) (viewEndpoint xs) in
       let k = length-element ie.endpointId (take 1 xs) in
       let k′ = length-part 0 1 xs (omega arith) in
-      let i : viewEndpoint xs .id ∷ [] ≡ take 1 xs = unfold viewEndpoint endpointFrom fieldsAt in octet-part 0 xs (omega arith) in
-      let both = placed-then p q (omega arith) in
-      rw (i, endpoint-local, ← w)
-      (placed-group ie.createEndpoint at (at + 4) (element ie.endpointId (take 1 xs) ++ unitElement (settingsOf u) (tunnelIn teid (getD xs 5 0))) out refl (omega arith) both r)
+      let y = placed-length p (omega arith) in
+      let m = p .ends in
+      let q′ : Placed out₁ a (unitElement (settingsOf u) (viewEndpoint xs .local)) b out₂ = rw (endpoint-local, ← w) q in
+      let v′ : Placed out₂ b (addressPart (viewEndpoint xs .address)) e out₃ = rw (endpoint-address, ← z) v in
+      let both = placed-then q′ v′ (omega arith) in
+      let all : Placed out (at + 4) (endpointContent (settingsOf u) (viewEndpoint xs)) e out₃ = rw endpoint-is (placed-then p both (omega arith)) in
+      placed-group ie.createEndpoint at (at + 4) (endpointContent (settingsOf u) (viewEndpoint xs)) out refl (omega arith) all r
 
 -- ---- FQ-CSID
 

@@ -43,7 +43,7 @@ module _ (t : List ℕ) (place : ℕ) (ipv4 ipv6 : List ℕ) (ready : Ready t pl
   pub elements-room : 16 + length elements ≤ maxRestoration
   elements-room = content-room t (ready .sound) place (ready .live) ipv4 ipv6 (ready .address)
 
-  pub request-steps : (out q₀ q : List ℕ) {out₁ out₂ : List ℕ} {end : ℕ} → length out ≡ 1526 → length q₀ ≡ 3 → Placed out 16 elements end out₁
+  pub request-steps : (out q₀ q : List ℕ) {out₁ out₂ : List ℕ} {end : ℕ} → length out ≡ maxRestoration → length q₀ ≡ 3 → Placed out 16 elements end out₁
       → q ≡ put 0 (be 3 (place + 1)) q₀ → out₂ ≡ put 0 (messageHead establishment 0 q (end - 16)) out₁ → Placed out 0 (restorationAt t place ipv4 ipv6) end out₂
   request-steps out q₀ q {out₁} {out₂} {end} l three p e r =
       let three′ : length (be 3 (place + 1)) ≡ 3 = length-be 3 (place + 1) in

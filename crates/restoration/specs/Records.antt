@@ -18,7 +18,7 @@ use Rattle.rules.specs.Types as ie
 
 -- a kind of record is named by the type of its element: 1 PDRs, 127 endpoints, any other FQ-CSIDs
 unfoldable pub recordWidth : ℕ → ℕ
-recordWidth k = pick (eqb k 1) pdrWidth (pick (eqb k ie.createEndpoint) 6 csidWidth)
+recordWidth k = pick (eqb k 1) pdrWidth (pick (eqb k ie.createEndpoint) endpointWidth csidWidth)
 
 unfoldable pub recordElement : ℕ → Settings → List ℕ → List ℕ
 recordElement k s xs = pick (eqb k 1) (pdrElement s (viewPdr xs)) (pick (eqb k ie.createEndpoint) (endpointElement s (viewEndpoint xs)) (csidElement (viewCsid xs)))

@@ -9,9 +9,9 @@ ghost use lib.ListN.{length, getD};
 ghost use Rattle.octets.specs.Octets.{slices, concatMap};
 ghost use Rattle.octets.specs.Lists.{all};
 ghost use Rattle.rules.specs.Limits.{maxSessions, maxRestoration};
-ghost use Rattle.rules.specs.Layout.{viewSession, viewPdr, viewEndpoint, viewCsid, pdrWidth, csidWidth, endpointWidth};
+ghost use Rattle.rules.specs.Layout.{optionRead, viewSession, viewPdr, viewEndpoint, viewCsid, pdrWidth, csidWidth, endpointWidth};
 ghost use Rattle.rules.specs.Elements.{addressLength};
-ghost use Rattle.rules.specs.Reply.{element};
+ghost use Rattle.rules.specs.Reply.{element, addressPart};
 ghost use Rattle.rules.specs.Restoration.{placeElement, farElement, pdiContent, pdrElement, endpointElement, csidElement, recordElements, restoration};
 ghost use Rattle.rules.specs.Restoring.{addressed, restorationAt, writeInto, writeRestoration};
 ghost use Rattle.rules.specs.Types as ie;
@@ -38,19 +38,37 @@ fn write_place(u: Settings, pdr: &[u8], out: &mut [u8], at: usize) -> usize
         return writing::write_fteid(u, teid, pdr[format::FAMILIES] as u64, out, at);
     }
     if pdr[format::PLACE] == 2 {
-        return writing::write_value(131, &pdr[format::NAMED_ENDPOINT..format::PDR], out, at);
+        return writing::write_value(
+            131,
+            &pdr[format::NAMED_ENDPOINT..format::PDR_ADDRESS_THERE],
+            out,
+            at,
+        );
     }
     at
 }
 
-// The PDI: the source interface, and what the PDR matches on.
+// The UE IP Address of a record, from its two fields: whether there is one, and the address.
+fn write_address(there: u8, address: u64, out: &mut [u8], at: usize) -> usize
+    requires { ⌜ at + length (addressPart (optionRead there address)) ≤ length (now out) ⌝ }
+    ensures { λ r. ⌜ Placed (now (out .entry)) at (addressPart (optionRead there address)) r (now (out .exit)) ⌝ }
+{
+    if there == 0 {
+        return at;
+    }
+    writing::write_ue_address(address, out, at)
+}
+
+// The PDI: the source interface, what the PDR matches on, and its address.
 fn write_pdi(u: Settings, pdr: &[u8], out: &mut [u8], at: usize) -> usize
     requires { ⌜ (length (now pdr) ≡ pdrWidth) × (at + length (element ie.pdi (pdiContent (settingsOf u) (viewPdr (now pdr)))) ≤ length (now out)) ⌝ }
     ensures { λ r. ⌜ Placed (now (out .entry)) at (element ie.pdi (pdiContent (settingsOf u) (viewPdr (now (pdr .entry))))) r (now (out .exit)) ⌝ }
 {
     let front = at + 4;
     let source = writing::write_value(20, &pdr[format::SOURCE..format::PLACE], out, front);
-    let end = write_place(u, pdr, out, source);
+    let place = write_place(u, pdr, out, source);
+    let address = octets::read(pdr, format::PDR_ADDRESS, 4);
+    let end = write_address(pdr[format::PDR_ADDRESS_THERE], address, out, place);
     writing::write_head(2, end - front, out, at);
     end
 }
@@ -88,7 +106,14 @@ fn write_endpoint(u: Settings, endpoint: &[u8], out: &mut [u8], at: usize) -> us
     let front = at + 4;
     let id = writing::write_value(131, &endpoint[0..1], out, front);
     let teid = octets::read(endpoint, 1, 4);
-    let end = writing::write_fteid(u, teid, endpoint[5] as u64, out, id);
+    let local = writing::write_fteid(u, teid, endpoint[5] as u64, out, id);
+    let address = octets::read(endpoint, format::ENDPOINT_ADDRESS, 4);
+    let end = write_address(
+        endpoint[format::ENDPOINT_ADDRESS_THERE],
+        address,
+        out,
+        local,
+    );
     writing::write_head(ENDPOINT, end - front, out, at);
     end
 }

@@ -25,10 +25,10 @@ fn fill_table(path: &[u8], fd: i32, t: &mut [u8]) -> u32 {
         return say::failed(path);
     }
     if rest == 1 {
-        return say::refused(path, b"longer than a table, which has 30943 octets");
+        return say::refused(path, b"longer than a table, which has 38631 octets");
     }
     if n != t.len() {
-        return say::refused(path, b"shorter than a table, which has 30943 octets");
+        return say::refused(path, b"shorter than a table, which has 38631 octets");
     }
     0
 }

@@ -18,20 +18,30 @@ const CAUSE_OF_ACCEPTANCE: u8 = 1;
 
 // The empty table with the settings of s.
 fn make(s: &[u8], new: &mut [u8]) -> u32
-    requires { ⌜ length (now s) ≡ 29 ⌝ }
+    requires { ⌜ length (now s) ≡ 37 ⌝ }
 {
     let ipv4 = octets::read(s, format::IPV4, 4) as u32;
     let first = octets::read(s, format::FIRST, 4) as u32;
     let size = octets::read(s, format::SIZE, 4) as u32;
+    let address = octets::read(s, format::FIRST_ADDRESS, 4) as u32;
+    let count = octets::read(s, format::ADDRESS_COUNT, 4) as u32;
     if s[format::IPV6_THERE] == 0 {
-        return pfcp_session::pfcp_make_table(new, ipv4, &s[0..0], first, size);
+        return pfcp_session::pfcp_make_table(new, ipv4, &s[0..0], first, size, address, count);
     }
-    pfcp_session::pfcp_make_table(new, ipv4, &s[format::IPV6..format::FIRST], first, size)
+    pfcp_session::pfcp_make_table(
+        new,
+        ipv4,
+        &s[format::IPV6..format::FIRST],
+        first,
+        size,
+        address,
+        count,
+    )
 }
 
 // The cause of a reply.
 fn cause(reply: &[u8]) -> u8
-    requires { ⌜ length (now reply) ≡ 1024 ⌝ }
+    requires { ⌜ length (now reply) ≡ 1280 ⌝ }
 {
     if reply[1] == 51 {
         return reply[29];
@@ -177,7 +187,7 @@ fn write_table(new: &[u8], path: &[u8], done: Done) -> u32 {
 
 // The file's requests on an empty table with the settings of the stored table, and the result into the file at path.
 fn run_on(file: &[u8], stored: &[u8], new: &mut [u8], path: &[u8]) -> u32
-    requires { ⌜ length (now stored) ≡ 30943 ⌝ }
+    requires { ⌜ length (now stored) ≡ 38631 ⌝ }
 {
     let made = make(&stored[0..format::SETTINGS], new);
     if made != 0 {

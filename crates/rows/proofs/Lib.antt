@@ -2,7 +2,9 @@ pub mod ListLaws
 pub mod AddressLaws
 pub mod FteidLaws
 pub mod RowTests
+pub mod RangeLaws
 pub mod TunnelLaws
+pub mod UeLaws
 pub mod PairLaws
 pub mod WalkLaws
 pub mod RequestLaws

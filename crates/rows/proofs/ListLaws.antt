@@ -8,11 +8,7 @@ use lib.Dec.{eqb}
 use Rattle.octets.specs.Choice.{pick, consOption}
 use Rattle.octets.specs.Lists.{member, anyIn, allIn, hasRepeat, any, all, allPairs, keep, collect}
 use Rattle.lists.proofs.Bools.{or-four}
-
--- a test of a value that may be absent
-unfoldable pub onSome : {A : Type 0} → (A → Bool) → Option A → Bool
-onSome p none = false
-onSome p (some x) = p x
+use Rattle.rows.specs.RowRules.{onSome}
 
 -- ---- some element
 

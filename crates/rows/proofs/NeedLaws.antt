@@ -17,10 +17,10 @@ use Rattle.rules.specs.Stages.{sameChoice}
 use Rattle.rules.specs.Grants.{Choice, choices, need, needFrom, isFresh, noted, endpointChoice, pdrChoice}
 use Rattle.plan.specs.Rows.{rowWidth, hasTag, tagged, rowsOf, rowPdr, rowEndpoint, requestIn}
 use Rattle.rules.specs.Types as ie
-use Rattle.rows.specs.RowRules.{rowChoice, rowChooseId, choiceId, sharesChoice}
+use Rattle.rows.specs.RowRules.{onSome, rowChoice, rowChooseId, choiceId, sharesChoice}
 use Rattle.lists.proofs.RowLaws.{rows-more, rows-none}
 use Rattle.lists.proofs.Loops.{left-part}
-use Rattle.rows.proofs.ListLaws.{onSome, any-ext, any-collect}
+use Rattle.rows.proofs.ListLaws.{any-ext, any-collect}
 use Rattle.rows.proofs.MergeLaws.{Merge, empty, left, right, any-middle, any-merge, merged}
 use Rattle.rows.proofs.PairLaws.{same-none, tags-apart}
 use Rattle.lists.proofs.Bools.{eqb-turn, or-swap}

@@ -1,8 +1,8 @@
 -- What the rules say of the request that rows mean, by the rows: the F-TEIDs, the columns of IDs, causes 71 and 76. Assumes nothing.
 use mathlib.Core.Path.{_≡_, refl, sym, ap, ap₂, _∙_}
-use mathlib.Core.Bool.{Bool, true, false, not, _&&_, _||_, or-false, or-self}
-use mathlib.Core.Option.{Option, none, some}
-use mathlib.Core.List.{List, [], _∷_, map, map-map}
+use mathlib.Core.Bool.{Bool, true, false, not, _&&_, _||_, or-false, or-self, or-assoc}
+use mathlib.Core.Option.{none, some}
+use mathlib.Core.List.{List, map, map-map}
 use Prim.Native.Nat.{ℕ}
 use lib.Dec.{eqb}
 use Rattle.octets.specs.Choice.{pick}
@@ -10,11 +10,12 @@ use Rattle.octets.specs.Lists.{member, any, keep, collect}
 use Rattle.lists.specs.Rows.{column}
 use Rattle.rules.specs.Elements.{Fteid}
 use Rattle.rules.specs.Stages.{fteidsOf, pdrLocal, endpointLocal, newPdrId, newEndpointId, changeId, createdPdrs, createdEndpoints, updatedPdrs, wrongAllocation, invalidAllocation}
-use Rattle.plan.specs.Rows.{word, hasTag, tagged, rowFteid, rowLocal, rowPdr, rowEndpoint, rowChange, rowPdi, requestIn}
+use Rattle.plan.specs.Rows.{word, hasTag, tagged, rowFteid, rowLocal, rowPdr, rowEndpoint, rowChange, rowPdi, rowStrange, requestIn}
 use Rattle.rules.specs.Types as ie
 use Rattle.plan.specs.Words as its
-use Rattle.rows.specs.RowRules.{hasFteid, ofFteid}
-use Rattle.rows.proofs.ListLaws.{onSome, any-ext, any-or, any-append, any-keep, any-map, any-collect}
+use Rattle.rows.specs.RowRules.{onSome, creates, hasFteid, ofFteid, ofUeKind}
+use Rattle.rows.proofs.ListLaws.{any-ext, any-or, any-append, any-keep, any-map, any-collect}
+use Rattle.rows.proofs.UeLaws.{either}
 use Rattle.rows.proofs.WalkLaws.{isNamed, member-column}
 use Rattle.lists.proofs.Bools.{eqb-turn}
 
@@ -81,10 +82,33 @@ module _ (seid : ℕ) (restoring noted : Bool) (rows : List (List ℕ)) where
   unfolding requestIn tagged column hasTag
   gone-endpoints = refl
 
-  pub unsupported-rows : requestIn seid restoring noted rows .unsupported ≡ (noted || member 1 (column ie.updatePdr its.hasPdi rows))
-  unfolding requestIn tagged
+  strange-tag : (tag : ℕ) → any rowStrange (tagged tag rows) ≡ any (λ row. hasTag tag row && rowStrange row) rows
+  unfolding tagged
+  strange-tag tag = any-keep rowStrange (hasTag tag) rows
+
+  strange-rows : (any rowStrange (tagged ie.createPdr rows) || any rowStrange (tagged ie.createEndpoint rows)) ≡ any (ofUeKind false) rows
+  unfolding ofUeKind creates
+  strange-rows =
+      ap₂ _||_ (strange-tag ie.createPdr) (strange-tag ie.createEndpoint)
+      ∙ any-or (λ row. hasTag ie.createPdr row && rowStrange row) (λ row. hasTag ie.createEndpoint row && rowStrange row) rows
+      ∙ any-ext (λ row. (hasTag ie.createPdr row && rowStrange row) || (hasTag ie.createEndpoint row && rowStrange row)) (λ row. (hasTag ie.createEndpoint row || hasTag ie.createPdr row) && rowStrange row)
+      (λ row. either (hasTag ie.createPdr row) (hasTag ie.createEndpoint row) (rowStrange row) ∙ ap (λ (b : Bool). b && rowStrange row) (or-turn (hasTag ie.createPdr row) (hasTag ie.createEndpoint row))) rows
+    where
+      or-turn : (a b : Bool) → (a || b) ≡ (b || a)
+      or-turn true true = refl
+      or-turn true false = refl
+      or-turn false true = refl
+      or-turn false false = refl
+
+  pdi-rows : any rowPdi (tagged ie.updatePdr rows) ≡ member 1 (column ie.updatePdr its.hasPdi rows)
+  unfolding tagged
+  pdi-rows =
+      any-keep rowPdi (hasTag ie.updatePdr) rows
+      ∙ any-ext (λ row. hasTag ie.updatePdr row && rowPdi row) (isNamed ie.updatePdr its.hasPdi 1) (λ row. ap (λ (b : Bool). hasTag ie.updatePdr row && b) (eqb-turn (word its.hasPdi row) 1)) rows
+      ∙ sym (member-column ie.updatePdr its.hasPdi 1 rows)
+
+  pub unsupported-rows : requestIn seid restoring noted rows .unsupported ≡ ((noted || member 1 (column ie.updatePdr its.hasPdi rows)) || any (ofUeKind false) rows)
+  unfolding requestIn
   unsupported-rows =
-      ap (λ (b : Bool). noted || b)
-      (any-keep rowPdi (hasTag ie.updatePdr) rows
-      ∙ any-ext (λ row. hasTag ie.updatePdr row && rowPdi row) (isNamed 9 6 1) (λ row. ap (λ (b : Bool). hasTag ie.updatePdr row && b) (eqb-turn (word its.hasPdi row) 1)) rows
-      ∙ sym (member-column ie.updatePdr its.hasPdi 1 rows))
+      or-assoc (noted || any rowPdi (tagged ie.updatePdr rows)) (any rowStrange (tagged ie.createPdr rows)) (any rowStrange (tagged ie.createEndpoint rows))
+      ∙ ap₂ _||_ (ap (λ (b : Bool). noted || b) pdi-rows) strange-rows

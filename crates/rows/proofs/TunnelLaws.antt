@@ -3,12 +3,9 @@ use mathlib.Core.Path.{_≡_, refl, sym, ap, ap₂, _∙_}
 use mathlib.Core.Bool.{Bool, true, false, not, _&&_, _||_, false≢true, and-false, or-true}
 use mathlib.Core.Option.{Option, none, some}
 use mathlib.Core.List.{List, _++_}
-use Prim.Native.Nat.{ℕ, _+_, _-_, _%_, _^_, _≤_, _<_}
+use Prim.Native.Nat.{ℕ, _-_, _%_, _^_, _<_}
 use native.Mathlib.Nat.{mod-eq-of-lt}
-use native.Mathlib.Omega.{arith}
-use lib.Dec.{T, eqb, ltb, leb, leb→le, le→leb, ltb→lt, nltb→le, not-T}
-use borrow.Author.Tests.{le-leb, lt-leb, not-true, not-false}
-use Rattle.octets.proofs.Tests.{of-true, and-left, and-right}
+use lib.Dec.{eqb}
 use Rattle.octets.specs.Choice.{isSome, isNil, sameBool}
 use Rattle.octets.specs.Octets.{be, bit, sameOctets}
 use Rattle.octets.proofs.Numbers.{length-be}
@@ -20,11 +17,10 @@ use Rattle.plan.specs.Words as its
 use Rattle.pool.specs.Map.{marked}
 use Rattle.unit.specs.declared.Settings.{Settings as Unit}
 use Rattle.unit.specs.Meaning.{settingsOf}
-use Rattle.rows.specs.RowRules.{hasFteid, ofFteid, rowHolding, rowIpv4, rowIpv6, restores, heldIn}
+use Rattle.rows.specs.RowRules.{hasFteid, ofFteid, rowHolding, rowIpv4, rowIpv6, restores, heldIn, inRange}
 use Rattle.rows.proofs.AddressLaws.{other-none, other-four, same-be, same-append}
 use Rattle.rows.proofs.FteidLaws.{chooses-row, v6-row, given-row, row-is, fteidBy, holding-row, restores-row}
 use Rattle.rows.proofs.RowTests.{of-none, of-some}
-use Rattle.lists.proofs.Bools.{both-ways}
 
 -- cause 71
 pub wrong-row : (restoring : Bool) (row : List ℕ) → hasFteid row ≡ true → ofFteid (wrongAllocation restoring) row ≡ sameBool (bit 2 (word its.flags row)) restoring
@@ -57,19 +53,9 @@ lacks-six u row h g =
     one false = refl
 
 -- the pool
-pub pool-below : (u : Unit) (t : ℕ) → t < u .first → not (inPool (settingsOf u) t) ≡ true
+pub outside-pool : (u : Unit) (t : ℕ) (r b : Bool) → r ≡ not (inRange (u .first) (u .size) t) → r ≡ b → not (inPool (settingsOf u) t) ≡ b
 unfolding inPool settingsOf
-pool-below u t h = rw (lt-leb (u .first) t h)
-
-pub pool-above : (u : Unit) (t : ℕ) → u .first ≤ t → not (inPool (settingsOf u) t) ≡ leb (u .size) (t - u .first)
-unfolding inPool settingsOf
-pool-above u t h = rw (le-leb (u .first) t h) (both-ways _ _ there back)
-  where
-    there : T (not (ltb t (u .first + u .size))) → T (leb (u .size) (t - u .first))
-    there k = le→leb (u .size) (t - u .first) (omega (arith, nltb→le t (u .first + u .size) k))
-
-    back : T (leb (u .size) (t - u .first)) → T (not (ltb t (u .first + u .size)))
-    back k = not-T (ltb t (u .first + u .size)) (λ l. omega (arith, ltb→lt t (u .first + u .size) l, leb→le (u .size) (t - u .first) k))
+outside-pool u t r b e f = sym e ∙ f
 
 -- addresses
 pub four-none : (u : Unit) (row : List ℕ) → bit 0 (word its.flags row) ≡ false → otherAddress (settingsOf u .ipv4) (rowIpv4 row) ≡ false
@@ -146,19 +132,6 @@ held-some held row h =
     let k = restored-parts row h in
     rw (holding-row row, k .0, k .1)
 
-pub held-outside : (s : Settings) (words : List ℕ) (t : ℕ) → not (inPool s t) ≡ true → heldIn s words t ≡ false
-unfolding heldIn
-held-outside s words t h = rw (not-true (inPool s t) h)
-
-pub held-inside : (u : Unit) (words : List ℕ) (t : ℕ) → not (inPool (settingsOf u) t) ≡ false → heldIn (settingsOf u) words t ≡ marked words (t - u .first)
-unfolding heldIn settingsOf
-held-inside u words t h = rw (not-false (inPool (settingsOf u) t) h)
-
--- a TEID that is not outside the pool
-pub pool-inside : (u : Unit) (t : ℕ) → not (inPool (settingsOf u) t) ≡ false → (u .first ≤ t) × (t - u .first < u .size)
-unfolding inPool settingsOf
-pool-inside u t h =
-    let k = of-true (not-false (inPool (settingsOf u) t) h) in
-    let low = leb→le (u .first) t (and-left (leb (u .first) t) (ltb t (u .first + u .size)) k) in
-    let high = ltb→lt t (u .first + u .size) (and-right (leb (u .first) t) (ltb t (u .first + u .size)) k) in
-    (low, omega arith)
+pub held-taken : (u : Unit) (words : List ℕ) (t : ℕ) → (inRange (u .first) (u .size) t && marked words (t - u .first)) ≡ heldIn (settingsOf u) words t
+unfolding heldIn inPool settingsOf
+held-taken u words t = refl

@@ -4,16 +4,16 @@ use Prim.Native.Nat.{ℕ, _+_, _-_}
 use mathlib.Core.Bool.{Bool, false, not, _&&_, _||_}
 use mathlib.Core.Option.{Option, none, some}
 use mathlib.Core.List.{List, [], _∷_, _++_}
-use lib.Dec.{eqb}
+use lib.Dec.{leb, ltb, eqb}
 use Rattle.octets.specs.Choice.{pick, oneOf, bindOption}
 use Rattle.octets.specs.Octets.{be, bit}
-use Rattle.rules.specs.Model.{Settings, Holding}
-use Rattle.rules.specs.Elements.{Fteid, chooseId}
+use Rattle.rules.specs.Model.{Settings, Holding, inAddressPool}
+use Rattle.rules.specs.Elements.{Fteid, chooseId, UeIp, ueAddress}
 use Rattle.rules.specs.Reading.{Request}
 use Rattle.rules.specs.Sound.{inPool, agree}
 use Rattle.rules.specs.Stages.{choicesAgree, alikeFteids, sameChoice, endpointRestored, pdrRestored}
 use Rattle.rules.specs.Grants.{Choice, endpointChoice, pdrChoice}
-use Rattle.plan.specs.Rows.{word, hasTag, rowPdr, rowEndpoint, rowFteid, requestIn}
+use Rattle.plan.specs.Rows.{word, hasTag, rowPdr, rowEndpoint, rowFteid, rowUe, requestIn}
 use Rattle.rules.specs.Types as ie
 use Rattle.plan.specs.Words as its
 use Rattle.pool.specs.Map.{marked}
@@ -21,6 +21,11 @@ use Rattle.pool.specs.Map.{marked}
 -- the request that rows mean, where its SEID and element 129 do not matter
 abbrev pub requestOf : Bool → List (List ℕ) → Request
 requestOf restoring rows = requestIn 0 restoring false rows
+
+-- a test of a value that may be absent
+unfoldable pub onSome : {A : Type 0} → (A → Bool) → Option A → Bool
+onSome p none = false
+onSome p (some x) = p x
 
 -- ---- F-TEIDs
 
@@ -46,6 +51,34 @@ rowHolding row = pick (hasTag ie.createEndpoint row) (endpointRestored (rowEndpo
 -- the CHOOSE of a row
 unfoldable pub rowChoice : List ℕ → Option Choice
 rowChoice row = pick (hasTag ie.createEndpoint row) (endpointChoice (rowEndpoint row)) (pick (hasTag ie.createPdr row) (pdrChoice (rowPdr row)) none)
+
+-- ---- addresses (02 (v))
+
+-- a row that creates a record
+unfoldable pub creates : List ℕ → Bool
+creates row = hasTag ie.createEndpoint row || hasTag ie.createPdr row
+
+-- a test of a row's address
+unfoldable pub ofAddress : (UeIp → Bool) → List ℕ → Bool
+ofAddress p row = creates row && onSome p (rowUe row)
+
+-- a CHOOSE, or else an address that is not supported
+unfoldable pub ofUeKind : Bool → List ℕ → Bool
+ofUeKind choose row = creates row && pick choose (eqb (word its.ueKind row) 2) (ltb 2 (word its.ueKind row))
+
+-- an address given, of the pool, for which a test holds
+unfoldable pub takesAddress : Settings → (ℕ → Bool) → UeIp → Bool
+takesAddress s held v = onSome (λ a. inAddressPool s a && held a) (ueAddress v)
+
+-- an address that the map has marked
+abbrev pub addressIn : Settings → List ℕ → ℕ → Bool
+addressIn s words a = marked words (a - s .firstAddress)
+
+-- ---- pools: of TEIDs, and of addresses
+
+-- a number of a pool
+abbrev pub inRange : ℕ → ℕ → ℕ → Bool
+inRange first size n = leb first n && ltb n (first + size)
 
 -- ---- cause 73: rules on one F-TEID
 

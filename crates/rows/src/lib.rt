@@ -1,4 +1,4 @@
-// Questions about a request's plan, which is rows of 18 words: what the causes 71, 76, 73 and 75 ask of the rows alone.
+// Questions about a request's plan, which is rows of 20 words: what the causes 71, 76, 73, 75 and 79 ask of the rows alone.
 // A rule on one row or on two rows is a function of its own; a loop asks it of every row.
 use format::types;
 use format::words;
@@ -12,9 +12,11 @@ ghost use Rattle.lists.specs.Rows.{column};
 ghost use Rattle.rules.specs.Grants.{need};
 ghost use Rattle.rules.specs.Stages.{invalidAllocation};
 ghost use Rattle.plan.specs.Rows.{rowWidth, word, hasTag, tagged, rowsOf, requestIn};
-ghost use Rattle.rows.specs.RowRules.{requestOf, disagree, sharesChoice};
+ghost use Rattle.rows.specs.RowRules.{requestOf, ofUeKind, disagree, sharesChoice};
 
+pub mod address;
 pub mod pair;
+pub mod range;
 pub mod tunnel;
 
 // Does a row have this tag, and x at place field?
@@ -81,7 +83,24 @@ pub fn invalid_allocation(plan: &[u64], n: usize, restoring: bool) -> bool
     false
 }
 
-// Cause 76: a PDI in an Update PDR, or element 129, which the reading has noted.
+// Has one of the n rows a CHOOSE of an address, or else an address that is not supported?
+pub fn some_address(plan: &[u64], n: usize, choose: bool) -> bool
+    requires { ⌜ n * rowWidth ≤ length (now plan) ⌝ }
+    ensures { λ r. ⌜ r ≡ any (ofUeKind choose) (rowsOf n (now (plan .entry))) ⌝ }
+{
+    let mut rest = plan;
+    let mut left = n;
+    while 0 < left {
+        if address::is_kind(&rest[..format::ROW], choose) {
+            return true;
+        }
+        rest = &rest[format::ROW..];
+        left -= 1;
+    }
+    false
+}
+
+// Cause 76: element 129, which the reading has noted, a PDI in an Update PDR, or an address that is not supported.
 pub fn unsupported(plan: &[u64], n: usize, noted: bool) -> bool
     requires { ⌜ n * rowWidth ≤ length (now plan) ⌝ }
     ensures { λ r. ⌜ r ≡ requestIn 0 false noted (rowsOf n (now (plan .entry))) .unsupported ⌝ }
@@ -89,7 +108,10 @@ pub fn unsupported(plan: &[u64], n: usize, noted: bool) -> bool
     if noted {
         return true;
     }
-    named(plan, n, types::UPDATE_PDR, words::HAS_PDI, 1)
+    if named(plan, n, types::UPDATE_PDR, words::HAS_PDI, 1) {
+        return true;
+    }
+    some_address(plan, n, false)
 }
 
 // Cause 73: does a row disagree with one of the rows after it?

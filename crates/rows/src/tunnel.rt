@@ -1,13 +1,12 @@
 // The F-TEID of one row: flags at word 12 (V4 1, V6 2, CH 4, CHID 8), then TEID, IPv4 address, IPv6 address in two words, CHOOSE ID.
+use crate::range;
 use format::types;
 use format::words;
 use unit::Settings;
 ghost use mathlib.Core.Path.{_≡_};
-ghost use mathlib.Core.Bool.{not};
 ghost use Prim.Native.Nat.{_*_, _≤_};
 ghost use lib.ListN.{length};
 ghost use Rattle.octets.specs.Choice.{isSome};
-ghost use Rattle.rules.specs.Sound.{inPool};
 ghost use Rattle.rules.specs.Stages.{wrongAllocation, lacksFamily, strange, otherAddress};
 ghost use Rattle.plan.specs.Rows.{rowWidth};
 ghost use Rattle.rows.specs.RowRules.{hasFteid, ofFteid, rowIpv4, rowIpv6, rowHolding, rowChoice, restores, heldIn};
@@ -77,16 +76,6 @@ pub fn lacks_family(row: &[u64], u: Settings) -> bool
     row[words::FLAGS] / 2 % 2 == 1
 }
 
-// Does a TEID lie outside the pool?
-fn outside(teid: u64, u: Settings) -> bool
-    ensures { λ r. ⌜ r ≡ not (inPool (settingsOf u) teid) ⌝ }
-{
-    if teid < u.first {
-        return true;
-    }
-    u.size <= teid - u.first
-}
-
 // Is there an IPv4 address, and another one than the unit's?
 fn other_ipv4(row: &[u64], u: Settings) -> bool
     requires { ⌜ length (now row) ≡ rowWidth ⌝ }
@@ -123,7 +112,7 @@ pub fn strange(row: &[u64], u: Settings) -> bool
     if !restored(row) {
         return false;
     }
-    if outside(row[words::TEID], u) {
+    if range::outside(row[words::TEID], u.first, u.size) {
         return true;
     }
     if other_ipv4(row, u) {
@@ -140,9 +129,5 @@ pub fn is_held(row: &[u64], u: Settings, taken: &[u64]) -> bool
     if !restored(row) {
         return false;
     }
-    let teid = row[words::TEID];
-    if outside(teid, u) {
-        return false;
-    }
-    pool::is_marked(taken, (teid - u.first) as usize)
+    range::is_taken(row[words::TEID], u.first, u.size, taken)
 }

@@ -15,12 +15,12 @@ use Rattle.rules.proofs.Computing.{computing}
 
 -- ---- the calls
 
--- the unit of the examples: 192.0.2.1, no IPv6, a pool of n TEIDs from 4096 on
+-- the unit of the examples: 192.0.2.1, no IPv6, a pool of n TEIDs from 4096 on, and the two addresses 10.0.0.1 and 10.0.0.2
 unfoldable pub unit : ℕ → Settings
-unit n = record { ipv4 = 192 ∷ 0 ∷ 2 ∷ 1 ∷ []; ipv6 = []; first = 4096; size = n }
+unit n = record { ipv4 = 192 ∷ 0 ∷ 2 ∷ 1 ∷ []; ipv6 = []; first = 4096; size = n; firstAddress = 167772161; addressCount = 2 }
 
 unfoldable pub space : List ℕ
-space = zeros 1024
+space = zeros 1280
 
 -- the peer's F-SEID, with an IPv4 address
 unfoldable pub fseid : ℕ → List ℕ
@@ -62,7 +62,7 @@ pub unknownDeletion :
       place = 0;
       space =
           0x21 ∷ 0x37 ∷ 0x00 ∷ 0x11 ∷ 0x00 ∷ 0x00 ∷ 0x00 ∷ 0x00 ∷ 0x00 ∷ 0x00 ∷ 0x00 ∷ 0x00 ∷ 0x00 ∷ 0x00 ∷ 0x01 ∷ 0x00 ∷ 0x00 ∷ 0x13 ∷ 0x00 ∷ 0x01
-          ∷ 0x41 ∷ zeros 1003;
+          ∷ 0x41 ∷ zeros 1259;
       table = encode 64 (unit 2) [];
     }
 unfolding computing calls
@@ -86,12 +86,12 @@ outcomeOf r = r .outcome
 
 pub outcomes :
     map outcomeOf
-    (serve 2 (zeros 997) (zeros 2049) (zeros 1023)
-    ∷ serve 2 (encode 2 (unit 2) []) (zeros 2049) (zeros 1023)
-    ∷ serve 2 (encode 2 (unit 2) []) (zeros 2049) (zeros 1024)
-    ∷ serve 2 (encode 2 (unit 2) []) (zeros 2048) (zeros 1024)
-    ∷ serve 2 (encode 2 (unit 2) []) (message 56 1 (0 ∷ 0 ∷ 1 ∷ []) []) (zeros 1024)
-    ∷ serve 2 (encode 2 (unit 2) []) (message 54 1 (0 ∷ 0 ∷ 1 ∷ []) []) (zeros 1024)
+    (serve 2 (zeros 1245) (zeros 2049) (zeros 1279)
+    ∷ serve 2 (encode 2 (unit 2) []) (zeros 2049) (zeros 1279)
+    ∷ serve 2 (encode 2 (unit 2) []) (zeros 2049) (zeros 1280)
+    ∷ serve 2 (encode 2 (unit 2) []) (zeros 2048) (zeros 1280)
+    ∷ serve 2 (encode 2 (unit 2) []) (message 56 1 (0 ∷ 0 ∷ 1 ∷ []) []) (zeros 1280)
+    ∷ serve 2 (encode 2 (unit 2) []) (message 54 1 (0 ∷ 0 ∷ 1 ∷ []) []) (zeros 1280)
     ∷ [])
     ≡ 1 ∷ 2 ∷ 3 ∷ 4 ∷ 5 ∷ 0 ∷ []
 unfolding computing calls outcomeOf

@@ -1,4 +1,5 @@
--- 01's worked element values ("Worked on paper", the rows marked P) as one table, by computation; and the F-SEID's flags.
+-- 01's worked element values ("Worked on paper", the rows marked P) as one table, by computation; the F-SEID's flags; and UE IP Addresses
+-- by the order of 02 (v).
 -- Assumes nothing.
 use mathlib.Core.Path.{_≡_, refl}
 use Prim.Native.Nat.{ℕ, _+_, _*_, _/_, _%_}
@@ -6,7 +7,7 @@ use mathlib.Core.Bool.{true, false}
 use mathlib.Core.Option.{none, some}
 use mathlib.Core.List.{List, [], _∷_, _++_, map}
 use Rattle.octets.specs.Octets.{be, number, zeros}
-use Rattle.rules.specs.Elements.{tooShort, incorrect, refuse, value, Answer, Fteid, Fqcsid, given, choose, sets, removal, readFteid, readFqcsid, readFseid}
+use Rattle.rules.specs.Elements.{tooShort, incorrect, refuse, value, Answer, Fteid, Fqcsid, given, choose, sets, removal, readFteid, readFqcsid, readFseid, ueGiven, ueChoose, ueOther, readUeIp, ueOctets}
 use Rattle.rules.proofs.Computing.{computing}
 
 -- the F-TEID values, in 01's order
@@ -88,3 +89,34 @@ pub fseidBits :
     ≡ value 5 ∷ refuse tooShort ∷ value 5 ∷ refuse incorrect ∷ refuse incorrect ∷ refuse tooShort ∷ []
 unfolding computing
 fseidBits = refl
+
+-- UE IP Addresses: 10.0.0.1, a CHOOSE, both, neither, short, empty, V6, V4 with CHV6, and 10.0.0.1 with S/D and bit 8, which are ignored
+pub ueAddresses :
+    map readUeIp
+    ((0x02 ∷ 0x0a ∷ 0x00 ∷ 0x00 ∷ 0x01 ∷ [])
+    ∷ (0x10 ∷ [])
+    ∷ (0x12 ∷ [])
+    ∷ (0x00 ∷ [])
+    ∷ (0x02 ∷ 0x0a ∷ [])
+    ∷ []
+    ∷ (0x01 ∷ [])
+    ∷ (0x22 ∷ [])
+    ∷ (0x86 ∷ 0x0a ∷ 0x00 ∷ 0x00 ∷ 0x01 ∷ [])
+    ∷ [])
+    ≡ value (ueGiven 0x0a000001)
+    ∷ value ueChoose
+    ∷ refuse incorrect
+    ∷ refuse incorrect
+    ∷ refuse tooShort
+    ∷ refuse tooShort
+    ∷ value ueOther
+    ∷ value ueOther
+    ∷ value (ueGiven 0x0a000001)
+    ∷ []
+unfolding computing
+ueAddresses = refl
+
+-- what is written of the first two
+pub ueWritten : map ueOctets (ueGiven 0x0a000001 ∷ ueChoose ∷ []) ≡ (0x02 ∷ 0x0a ∷ 0x00 ∷ 0x00 ∷ 0x01 ∷ []) ∷ (0x10 ∷ []) ∷ []
+unfolding computing
+ueWritten = refl

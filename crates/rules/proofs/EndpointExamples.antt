@@ -3,7 +3,7 @@
 use mathlib.Core.Path.{_≡_, refl}
 use Prim.Native.Nat.{ℕ, zero, suc, _+_}
 use mathlib.Core.Bool.{true, false}
-use mathlib.Core.Option.{some}
+use mathlib.Core.Option.{none, some}
 use mathlib.Core.List.{List, [], _∷_, _++_, map}
 use Rattle.octets.specs.Octets.{sameOctets}
 use Rattle.rules.specs.Model.{endpoint, Pdr, Endpoint, Session, Sessions, pdrId, endpointId}
@@ -21,10 +21,10 @@ removeEndpoint e = element 130 (element 131 (e ∷ []))
 
 -- a session 1 with the endpoints 3 and 4, which hold the pool of two, and PDRs that name one of them
 unfoldable pub holder : ℕ → ℕ → Endpoint
-holder i n = record { id = i; local = record { teid = n; v4 = true; v6 = false } }
+holder i n = record { id = i; local = record { teid = n; v4 = true; v6 = false }; address = none }
 
 unfoldable pub named : ℕ → ℕ → Pdr
-named i e = record { id = i; precedence = 7; far = some 8; source = 1; place = endpoint e }
+named i e = record { id = i; precedence = 7; far = some 8; source = 1; place = endpoint e; address = none }
 
 unfoldable pub session : List Pdr → Sessions
 session ps = record { seid = 1; pdrs = ps; endpoints = holder 3 4096 ∷ holder 4 4097 ∷ []; csids = [] } ∷ []

@@ -3,6 +3,7 @@ pub mod ElementExamples
 pub mod CallExamples
 pub mod RestorationExamples
 pub mod EndpointExamples
+pub mod AddressExamples
 pub mod WriterExamples
 pub mod FindingExamples
 pub mod SetExamples

@@ -1,19 +1,20 @@
--- What an accepted request does to a session, and to the sessions (01, "What a request does"; 02 (ii) and (vii)).
--- `teids` says which TEID a record of a kind and ID got for its CHOOSE: the engine takes it from the grants, the live set from the reply.
+-- What an accepted request does to a session, and to the sessions (01, "What a request does"; 02 (ii), (v) and (vii)).
+-- `got` says which TEID and which address a record of a kind and ID got for its CHOOSEs: the engine takes them from what it grants, the live
+-- set from the reply.
 -- Assumes nothing.
 use Prim.Native.Nat.{ℕ}
 use mathlib.Core.Bool.{Bool, false, not, _&&_}
 use mathlib.Core.Option.{Option, none, some}
 use mathlib.Core.List.{List, [], _∷_, map}
 use lib.Dec.{eqb}
-use Rattle.octets.specs.Choice.{pick, isNil, headOr}
+use Rattle.octets.specs.Choice.{pick, bindOption, isNil, headOr}
 use Rattle.octets.specs.Octets.{sameOctets}
 use Rattle.octets.specs.Lists.{keep, member, any, insertBy, insertAll}
 use Rattle.rules.specs.Model.{Tunnel, Place, neither, tunnel, endpoint, Pdr, Endpoint, Csid, Session, Sessions, pdrId, endpointId, nodeTypeOf, seidOf}
-use Rattle.rules.specs.Elements.{Fteid, given, choose, Fqcsid, sets, removal}
+use Rattle.rules.specs.Elements.{Fteid, given, choose, UeIp, ueGiven, ueChoose, ueOther, Fqcsid, sets, removal}
 use Rattle.rules.specs.Message.{deletion, setDeletion}
 use Rattle.rules.specs.Reading.{NewPdr, NewEndpoint, Change, CsidChanges, cleared, changed, Request}
-use Rattle.rules.specs.Grants.{Kind, ofPdr, ofEndpoint}
+use Rattle.rules.specs.Grants.{Kind, ofPdr, ofEndpoint, Got}
 use Rattle.rules.specs.Stages.{hasSeid, atEntry, removedPdrs}
 
 -- ---- records
@@ -31,12 +32,29 @@ unfoldable pub placeFrom : ℕ → Option Fteid → Option ℕ → Place
 placeFrom chosen none e = namedPlace e
 placeFrom chosen (some v) e = tunnel (tunnelFrom chosen v)
 
-unfoldable pub createPdr : (Kind → ℕ → ℕ) → NewPdr → Pdr
-createPdr teids p =
-    record { id = p .id; precedence = p .precedence; far = p .far; source = p .source; place = placeFrom (teids ofPdr (p .id)) (p .local) (p .endpoint) }
+-- the address is the request's, or the one that was chosen (02 (v))
+unfoldable pub addressGot : ℕ → UeIp → Option ℕ
+addressGot chosen (ueGiven a) = some a
+addressGot chosen ueChoose = some chosen
+addressGot chosen ueOther = none
 
-unfoldable pub createEndpoint : (Kind → ℕ → ℕ) → NewEndpoint → Endpoint
-createEndpoint teids e = record { id = e .id; local = tunnelFrom (teids ofEndpoint (e .id)) (e .local) }
+unfoldable pub addressFrom : ℕ → Option UeIp → Option ℕ
+addressFrom chosen v = bindOption v (addressGot chosen)
+
+unfoldable pub createPdr : (Kind → ℕ → Got) → NewPdr → Pdr
+createPdr got p =
+    record {
+      id = p .id;
+      precedence = p .precedence;
+      far = p .far;
+      source = p .source;
+      place = placeFrom (got ofPdr (p .id) .teid) (p .local) (p .endpoint);
+      address = addressFrom (got ofPdr (p .id) .address) (p .address);
+    }
+
+unfoldable pub createEndpoint : (Kind → ℕ → Got) → NewEndpoint → Endpoint
+createEndpoint got e =
+    record { id = e .id; local = tunnelFrom (got ofEndpoint (e .id) .teid) (e .local); address = addressFrom (got ofEndpoint (e .id) .address) (e .address) }
 
 -- what an Update PDR does not name stays
 unfoldable pub orOld : {A : Type 0} → A → Option A → A
@@ -46,7 +64,7 @@ orOld a (some b) = b
 unfoldable pub updatePdr : Change → Pdr → Pdr
 updatePdr c p =
     pick (eqb (p .id) (c .id))
-    (record { id = p .id; precedence = orOld (p .precedence) (c .precedence); far = orOld (p .far) (c .far); source = p .source; place = p .place })
+    (record { id = p .id; precedence = orOld (p .precedence) (c .precedence); far = orOld (p .far) (c .far); source = p .source; place = p .place; address = p .address })
     p
 
 unfoldable pub updateAll : List Change → List Pdr → List Pdr
@@ -81,19 +99,19 @@ unfoldable pub keptEndpoint : List ℕ → Endpoint → Bool
 keptEndpoint gone e = not (member (e .id) gone)
 
 -- PDRs that name a removed endpoint go with it
-unfoldable pub pdrsAfter : (Kind → ℕ → ℕ) → Request → List Pdr → List Pdr
-pdrsAfter teids r ps = updateAll (r .changes) (insertAll pdrId (map (createPdr teids) (r .pdrs)) (keep (keptPdr (removedPdrs r ps)) ps))
+unfoldable pub pdrsAfter : (Kind → ℕ → Got) → Request → List Pdr → List Pdr
+pdrsAfter got r ps = updateAll (r .changes) (insertAll pdrId (map (createPdr got) (r .pdrs)) (keep (keptPdr (removedPdrs r ps)) ps))
 
-unfoldable pub endpointsAfter : (Kind → ℕ → ℕ) → Request → List Endpoint → List Endpoint
-endpointsAfter teids r es = insertAll endpointId (map (createEndpoint teids) (r .endpoints)) (keep (keptEndpoint (r .goneEndpoints)) es)
+unfoldable pub endpointsAfter : (Kind → ℕ → Got) → Request → List Endpoint → List Endpoint
+endpointsAfter got r es = insertAll endpointId (map (createEndpoint got) (r .endpoints)) (keep (keptEndpoint (r .goneEndpoints)) es)
 
 -- removals first, then endpoints, PDRs, updates, FQ-CSIDs
-unfoldable pub apply : (Kind → ℕ → ℕ) → Request → Session → Session
-apply teids r x =
+unfoldable pub apply : (Kind → ℕ → Got) → Request → Session → Session
+apply got r x =
     record {
       seid = x .seid;
-      pdrs = pdrsAfter teids r (x .pdrs);
-      endpoints = endpointsAfter teids r (x .endpoints);
+      pdrs = pdrsAfter got r (x .pdrs);
+      endpoints = endpointsAfter got r (x .endpoints);
       csids = followCsids (r .csids) (x .csids);
     }
 
@@ -129,11 +147,11 @@ staysSession ls x = not (goesSession ls x)
 -- ---- what an accepted request makes of them
 
 -- establishment adds, modification changes, deletion takes out, set deletion takes out every match
-unfoldable pub follow : (Kind → ℕ → ℕ) → ℕ → ℕ → Request → Sessions → Sessions
-follow teids kind header r m =
+unfoldable pub follow : (Kind → ℕ → Got) → ℕ → ℕ → Request → Sessions → Sessions
+follow got kind header r m =
     pick (eqb kind setDeletion) (keep (staysSession (r .listed)) m)
-    (pick (eqb kind deletion) (removeSession header m) (putSession (apply teids r (atEntry kind header r m)) m))
+    (pick (eqb kind deletion) (removeSession header m) (putSession (apply got r (atEntry kind header r m)) m))
 
 unfoldable pub computing : ℕ
-unfolding tunnelFrom namedPlace placeFrom createPdr createEndpoint orOld updatePdr updateAll otherNode setCsid setCsids followCsids keptPdr keptEndpoint pdrsAfter endpointsAfter apply otherSession removeSession putSession covers coversSession goesSession staysSession follow
+unfolding tunnelFrom namedPlace placeFrom addressGot addressFrom createPdr createEndpoint orOld updatePdr updateAll otherNode setCsid setCsids followCsids keptPdr keptEndpoint pdrsAfter endpointsAfter apply otherSession removeSession putSession covers coversSession goesSession staysSession follow
 computing = 0

@@ -8,24 +8,27 @@ use Rattle.rules.specs.Model.{Sessions}
 use Rattle.rules.specs.Serve.{serve}
 use Rattle.rules.specs.Live.{Event, replied, counted, live}
 
--- a call: a request with its message and reply space, or a free count
+-- a call: a request with its message and reply space, or a count of free TEIDs or addresses
 pub data Call : Type 0 where
   request : List ℕ → List ℕ → Call
-  count : Call
+  count countIps : Call
 
 -- any octets at all
 unfoldable pub callAllowed : Call → Bool
 callAllowed (request msg space) = octets msg && octets space
 callAllowed count = true
+callAllowed countIps = true
 
 -- the table after a call, and what the host sees of it
 unfoldable pub tableAfter : ℕ → List ℕ → Call → List ℕ
 tableAfter limit t (request msg space) = serve limit t msg space .table
 tableAfter limit t count = t
+tableAfter limit t countIps = t
 
 unfoldable pub eventOf : ℕ → List ℕ → Call → Event
 eventOf limit t (request msg space) = replied msg (serve limit t msg space .outcome) (serve limit t msg space .space)
 eventOf limit t count = counted
+eventOf limit t countIps = counted
 
 -- the same for calls one after the other
 unfoldable pub tableAfterAll : ℕ → List ℕ → List Call → List ℕ

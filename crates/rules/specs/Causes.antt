@@ -1,4 +1,4 @@
--- The causes of document 01 (clause 8.2.1), each named once.
+-- The causes of documents 01 and 02 (clause 8.2.1), each named once.
 -- Assumes nothing.
 use Prim.Native.Nat.{ℕ}
 
@@ -36,3 +36,7 @@ noRoom = 75
 
 abbrev pub notSupported : ℕ
 notSupported = 76
+
+-- every address of the pool is held (02 (v))
+abbrev pub noAddress : ℕ
+noAddress = 79

@@ -1,9 +1,9 @@
 -- Demand 3 as one statement. An empty table is made, and any calls follow, each of which leaves what its contract says it leaves: the host
--- outcome, the reply space and the table of `serve`, or the answer of `countFree`. Then
+-- outcome, the reply space and the table of `serve`, or the answer of `countFree` or `countAddresses`. Then
 -- * the table holds the live set that the messages, outcomes and replies alone determine, field by field, in the octets that encode it; the
---   free count and the map of taken TEIDs are those of the live set;
+--   free counts and the maps of taken TEIDs and addresses are those of the live set;
 -- * one restoration request for each live session, in any order, run on an empty table with the same settings, is accepted each time, and
---   leaves the same octets, the same free count and the same map;
+--   leaves the same octets, the same free counts and the same maps;
 -- * any other calls from an empty table with the same settings that leave the same live set leave the same octets.
 -- Assumes nothing.
 use mathlib.Core.Path.{_≡_}
@@ -16,42 +16,47 @@ use Rattle.octets.specs.Choice.{allOf}
 use Rattle.octets.specs.Octets.{octets}
 use Rattle.octets.specs.Lists.{all, distinct}
 use Rattle.rules.specs.Limits.{maxSessions, minSpace}
-use Rattle.rules.specs.Model.{Settings, Session, Sessions, heldTeids}
+use Rattle.rules.specs.Model.{Settings, Session, Sessions, heldTeids, heldAddresses}
 use Rattle.rules.specs.Layout.{encode, viewSettings, viewSessions}
-use Rattle.rules.specs.Sound.{make, Count, free, countFree, takenMap}
+use Rattle.rules.specs.Sound.{make, Count, free, countFree, takenMap, countAddresses, addressMap}
 use Rattle.rules.specs.Serve.{serve, Served}
 use Rattle.rules.specs.Live.{Event, replied, counted, accepted, live}
 use Rattle.rules.specs.Restoration.{Peer, peerAllowed, restoration}
-use Rattle.rules.specs.Calls.{Call, request, count}
+use Rattle.rules.specs.Calls.{Call, request, count, countIps}
 
 -- ---- a run
 
--- one call as it went: a request with its message and reply space, and the outcome, reply space and table at exit; or a free count and its answer
+-- one call as it went: a request with its message and reply space, and the outcome, reply space and table at exit; or a count of free TEIDs or
+-- addresses and its answer
 pub data Step : Type 0 where
   asked : List ℕ → List ℕ → Served → Step
-  told : Count → Step
+  told toldAddresses : Count → Step
 
 -- any octets at all
 unfoldable pub stepAllowed : Step → Bool
 stepAllowed (asked msg space r) = octets msg && octets space
 stepAllowed (told c) = true
+stepAllowed (toldAddresses c) = true
 
 -- on the table t each call left what its contract says, and the next call had the table that it left
 abbrev pub Ran : ℕ → List ℕ → List Step → Type 0
 Ran limit t [] = Unit
 Ran limit t (asked msg space r ∷ steps) = (r ≡ serve limit t msg space) × Ran limit (r .table) steps
 Ran limit t (told c ∷ steps) = (c ≡ countFree limit t) × Ran limit t steps
+Ran limit t (toldAddresses c ∷ steps) = (c ≡ countAddresses limit t) × Ran limit t steps
 
 -- the table that the last one left
 unfoldable pub lastTable : List ℕ → List Step → List ℕ
 lastTable t [] = t
 lastTable t (asked msg space r ∷ steps) = lastTable (r .table) steps
 lastTable t (told c ∷ steps) = lastTable t steps
+lastTable t (toldAddresses c ∷ steps) = lastTable t steps
 
 -- what the live set is folded from: message, outcome and reply, never the table
 unfoldable pub eventIn : Step → Event
 eventIn (asked msg space r) = replied msg (r .outcome) (r .space)
 eventIn (told c) = counted
+eventIn (toldAddresses c) = counted
 
 unfoldable pub liveSet : List Step → Sessions
 liveSet steps = live (map eventIn steps)
@@ -81,11 +86,15 @@ restoreCalls s rs = map (restoreCall s) rs
 unfoldable pub callIn : Step → Call
 callIn (asked msg space r) = request msg space
 callIn (told c) = count
+callIn (toldAddresses c) = countIps
 
 -- ---- what is promised
 
 unfoldable pub mapOf : List ℕ → List ℕ
 mapOf t = takenMap (viewSettings t) (viewSessions t)
+
+unfoldable pub addressMapOf : List ℕ → List ℕ
+addressMapOf t = addressMap (viewSettings t) (viewSessions t)
 
 -- the table t holds the settings s and the sessions m
 pub record Holds (limit : ℕ) (s : Settings) (m : Sessions) (t : List ℕ) : Type 0 where
@@ -94,6 +103,8 @@ pub record Holds (limit : ℕ) (s : Settings) (m : Sessions) (t : List ℕ) : Ty
   pub encoded : t ≡ encode limit s m
   pub count : countFree limit t ≡ free (s .size - distinct (heldTeids m))
   pub marks : mapOf t ≡ takenMap s m
+  pub addressCount : countAddresses limit t ≡ free (s .addressCount - distinct (heldAddresses s m))
+  pub addressMarks : addressMapOf t ≡ addressMap s m
 
 -- restorations that ran on an empty table t₀ left the table t
 pub record Restores (limit : ℕ) (t : List ℕ) (t₀ : List ℕ) (steps : List Step) : Type 0 where
@@ -101,6 +112,8 @@ pub record Restores (limit : ℕ) (t : List ℕ) (t₀ : List ℕ) (steps : List
   pub octetsEqual : lastTable t₀ steps ≡ t
   pub countEqual : countFree limit (lastTable t₀ steps) ≡ countFree limit t
   pub mapEqual : mapOf (lastTable t₀ steps) ≡ mapOf t
+  pub addressCountEqual : countAddresses limit (lastTable t₀ steps) ≡ countAddresses limit t
+  pub addressMapEqual : addressMapOf (lastTable t₀ steps) ≡ addressMapOf t
 
 -- of the table t that a run with the settings s left, and its live set m; `List·Permᴰ` says "one for each, in any order"
 pub record Promise (limit : ℕ) (s : Settings) (m : Sessions) (t : List ℕ) : Type 0 where
@@ -121,5 +134,5 @@ unfoldable pub Demand3 : Type 0
 Demand3 = Claim maxSessions
 
 unfoldable pub computing : ℕ
-unfolding stepAllowed lastTable eventIn liveSet restoreAllowed restoreCall restoreCalls callIn mapOf
+unfolding stepAllowed lastTable eventIn liveSet restoreAllowed restoreCall restoreCalls callIn mapOf addressMapOf
 computing = 0

@@ -1,4 +1,4 @@
--- The element values that have rules of their own: F-TEID (clause 8.2.3), FQ-CSID (8.2.43), F-SEID (8.2.37).
+-- The element values that have rules of their own: F-TEID (clause 8.2.3), UE IP Address (8.2.62, 02 (v)), FQ-CSID (8.2.43), F-SEID (8.2.37).
 -- Readers work on the value octets and answer a value or the cause of the refusal; octets past the value are ignored.
 -- Assumes nothing.
 use Prim.Native.Nat.{ℕ, zero, suc, _+_, _*_, _/_, _%_, _^_}
@@ -7,7 +7,7 @@ use mathlib.Core.Option.{Option, none, some}
 use mathlib.Core.List.{List, [], _∷_, _++_, map}
 use lib.ListN.{length, drop}
 use lib.Dec.{leb, ltb, eqb}
-use Rattle.octets.specs.Choice.{pick, allOf, flag, isNil}
+use Rattle.octets.specs.Choice.{pick, allOf, flag, isNil, sameBool}
 use Rattle.octets.specs.Octets.{be, number, part, numberAt, octetAt, bit, zeros, sameOctets, octets, put, slices, concatMap}
 use Rattle.octets.specs.Lists.{all}
 use Rattle.rules.specs.Model.{Settings, Tunnel}
@@ -129,6 +129,62 @@ writeFteid inEndpoint v space = writeIf (fteidAllowed inEndpoint v) (fteidOctets
 unfoldable pub unitFteid : Settings → Tunnel → Fteid
 unitFteid s t = given (t .teid) (pick (t .v4) (s .ipv4) []) (pick (t .v6) (s .ipv6) [])
 
+-- ---- UE IP Address, for IPv4
+
+-- A value: an address as a number; a CHOOSE; or one with what the unit does not have, of which no more is read (V6, IPv6D, CHV6, IP6PL)
+pub data UeIp : Type 0 where
+  ueGiven : ℕ → UeIp
+  ueChoose ueOther : UeIp
+
+-- the flags octet: V6 1, V4 2, S/D 4, IPv6D 8, CHV4 16, CHV6 32, IP6PL 64; S/D and bit 8 are ignored
+abbrev pub ueV4 : ℕ → Bool
+ueV4 f = bit 1 f
+
+abbrev pub ueChv4 : ℕ → Bool
+ueChv4 f = bit 4 f
+
+unfoldable pub ueUnsupported : ℕ → Bool
+ueUnsupported f = bit 0 f || bit 3 f || bit 5 f || bit 6 f
+
+-- the fields after the flags octet f
+unfoldable pub ueFields : ℕ → List ℕ → Answer UeIp
+ueFields f xs = pick (ueChv4 f) (value ueChoose) (pick (ltb (length xs) 4) (refuse tooShort) (value (ueGiven (numberAt 0 4 xs))))
+
+-- 02's order: empty 68; what is not supported; not just one of V4, CHV4 69; short 68
+unfoldable pub readUeIp : List ℕ → Answer UeIp
+readUeIp [] = refuse tooShort
+readUeIp (f ∷ xs) = pick (ueUnsupported f) (value ueOther) (pick (sameBool (ueV4 f) (ueChv4 f)) (refuse incorrect) (ueFields f xs))
+
+-- what is written: an address, or a CHOOSE
+unfoldable pub ueAllowed : UeIp → Bool
+ueAllowed (ueGiven a) = ltb a (2 ^ 32)
+ueAllowed ueChoose = true
+ueAllowed ueOther = false
+
+unfoldable pub ueOctets : UeIp → List ℕ
+ueOctets (ueGiven a) = 2 ∷ be 4 a
+ueOctets ueChoose = 16 ∷ []
+ueOctets ueOther = []
+
+unfoldable pub writeUeIp : UeIp → List ℕ → Written
+writeUeIp v space = writeIf (ueAllowed v) (ueOctets v) space
+
+-- the address that it gives, if any; does it choose one; is it not supported
+unfoldable pub ueAddress : UeIp → Option ℕ
+ueAddress (ueGiven a) = some a
+ueAddress ueChoose = none
+ueAddress ueOther = none
+
+unfoldable pub ueChooses : UeIp → Bool
+ueChooses (ueGiven a) = false
+ueChooses ueChoose = true
+ueChooses ueOther = false
+
+unfoldable pub ueStrange : UeIp → Bool
+ueStrange (ueGiven a) = false
+ueStrange ueChoose = false
+ueStrange ueOther = true
+
 -- ---- FQ-CSID
 
 -- An FQ-CSID value: Node-ID type, address, CSIDs (1 to 15) and node type; or the removal of a node type's (m = 0)
@@ -226,5 +282,5 @@ unfoldable pub fseidOctets : ℕ → List ℕ → List ℕ → List ℕ
 fseidOctets seid a b = (2 * flag (not (isNil a)) + flag (not (isNil b))) ∷ be 8 seid ++ (a ++ b)
 
 unfoldable pub computing : ℕ
-unfolding causeOf writeIf wrongFlags fteidLength chosenFields givenFields fteidFields readFteid hasV4 hasV6 chooses chooseId addressOf givenTests fteidAllowed fteidOctets writeFteid unitFteid addressLength operatorAllowed nodeAddressTests nodeAddressAllowed nodeTypeKept csidsAt csidFields countAllowed checkedCsid csidRest readFqcsid nodeOf below16 setsTests fqcsidAllowed fqcsidOctets writeFqcsid fseidLength seidAnswer readFseid fseidOctets
+unfolding causeOf writeIf wrongFlags fteidLength chosenFields givenFields fteidFields readFteid hasV4 hasV6 chooses chooseId addressOf givenTests fteidAllowed fteidOctets writeFteid unitFteid ueUnsupported ueFields readUeIp ueAllowed ueOctets writeUeIp ueAddress ueChooses ueStrange addressLength operatorAllowed nodeAddressTests nodeAddressAllowed nodeTypeKept csidsAt csidFields countAllowed checkedCsid csidRest readFqcsid nodeOf below16 setsTests fqcsidAllowed fqcsidOctets writeFqcsid fseidLength seidAnswer readFseid fseidOctets
 computing = 0

@@ -1,4 +1,4 @@
--- Which TEIDs a request's CHOOSEs get (01, "What a request does").
+-- Which TEIDs a request's CHOOSEs get (01, "What a request does"), and which address (02 (v)).
 -- Assumes nothing.
 use Prim.Native.Nat.{ℕ, _+_}
 use mathlib.Core.Bool.{Bool, true, false, not, _&&_}
@@ -7,7 +7,7 @@ use mathlib.Core.List.{List, [], _∷_, _++_}
 use lib.Dec.{eqb}
 use Rattle.octets.specs.Choice.{pick, valueOr, mapOption, bindOption, headOr, rest}
 use Rattle.octets.specs.Lists.{findBy, keep, collect, member}
-use Rattle.rules.specs.Model.{Settings, Tunnel, Sessions, freeTeids}
+use Rattle.rules.specs.Model.{Settings, Tunnel, Sessions, freeTeids, freeAddresses}
 use Rattle.rules.specs.Elements.{Fteid, given, choose}
 use Rattle.rules.specs.Reading.{NewPdr, NewEndpoint, Request}
 
@@ -97,6 +97,12 @@ grantFrom cs free (c ∷ more) =
 unfoldable pub grants : Settings → Sessions → Request → List Grant
 grants s m r = grantFrom [] (freeTeids s m) (choices r)
 
+-- ---- the address (02 (v))
+
+-- all CHOOSE IPV4 of a request share one address, the lowest that is free at entry
+unfoldable pub chosenAddress : Settings → Sessions → ℕ
+chosenAddress s m = headOr 0 (freeAddresses s m)
+
 -- ---- how many TEIDs are needed
 
 unfoldable pub isFresh : List ℕ → Option ℕ → Bool
@@ -126,6 +132,15 @@ isGrantFor k i g = sameKind k (g .kind) && eqb (g .id) i
 unfoldable pub grantedTeid : List Grant → Kind → ℕ → ℕ
 grantedTeid gs k i = valueOr 0 (mapOption grantTeid (findBy (isGrantFor k i) gs))
 
+-- what a record got for its CHOOSEs
+pub record Got : Type 0 where
+  pub teid : ℕ
+  pub address : ℕ
+
+-- what a request's records of a kind and ID get
+unfoldable pub granted : Settings → Sessions → Request → Kind → ℕ → Got
+granted s m r k i = record { teid = grantedTeid (grants s m r) k i; address = chosenAddress s m }
+
 unfoldable pub isKind : Kind → Grant → Bool
 isKind k g = sameKind k (g .kind)
 
@@ -134,5 +149,5 @@ unfoldable pub grantsOf : Kind → List Grant → List Grant
 grantsOf k gs = keep (isKind k) gs
 
 unfoldable pub computing : ℕ
-unfolding sameKind choiceOf endpointChoice pdrChoice choices isChoice chosenTeid remember grantOf teidFor freeAfter chosenAfter grantFrom grants isFresh noted needFrom need isGrantFor grantedTeid isKind grantsOf
+unfolding sameKind choiceOf endpointChoice pdrChoice choices isChoice chosenTeid remember grantOf teidFor freeAfter chosenAfter grantFrom grants chosenAddress isFresh noted needFrom need isGrantFor grantedTeid granted isKind grantsOf
 computing = 0

@@ -1,12 +1,12 @@
 -- The table's octets: `encode` writes settings and sessions, `view` reads any octets back.
 -- The layout is the team's (01: "fixed by the team and written in docs/"); every number is big-endian, unused room is zero.
 --
---   table     settings 29, session count 2, limit session slots
---   settings  IPv4 4, IPv6 there 1, IPv6 16, first TEID 4, pool size 4
+--   table     settings 37, session count 2, limit session slots
+--   settings  IPv4 4, IPv6 there 1, IPv6 16, first TEID 4, pool size 4, first address 4, number of addresses 4
 --   session   SEID 8, PDR count 1, endpoint count 1, FQ-CSID count 1, 16 PDR slots, 8 endpoint slots, 6 FQ-CSID slots
 --   PDR       ID 2, precedence 4, FAR there 1, FAR ID 4, source interface 1, place 1 (0 neither, 1 F-TEID, 2 endpoint),
---             TEID 4, families 1 (V4 = 1, V6 = 2), endpoint ID 1
---   endpoint  ID 1, TEID 4, families 1
+--             TEID 4, families 1 (V4 = 1, V6 = 2), endpoint ID 1, address there 1, address 4
+--   endpoint  ID 1, TEID 4, families 1, address there 1, address 4
 --   FQ-CSID   node type 1, Node-ID type 1, address 16 (4 used by types 0 and 2), CSID 2
 --
 -- A PDR, an endpoint and an FQ-CSID are lists of fields: the widths, the numbers of a record and the record of numbers stand once each below;
@@ -42,7 +42,7 @@ tunnelRead t f = record { teid = t; v4 = bit 0 f; v6 = bit 1 f }
 -- ---- PDR
 
 abbrev pub pdrWidths : List ℕ
-pdrWidths = 2 ∷ 4 ∷ 1 ∷ 4 ∷ 1 ∷ 1 ∷ 4 ∷ 1 ∷ 1 ∷ []
+pdrWidths = 2 ∷ 4 ∷ 1 ∷ 4 ∷ 1 ∷ 1 ∷ 4 ∷ 1 ∷ 1 ∷ 1 ∷ 4 ∷ []
 
 -- what a PDR matches on is four fields
 unfoldable pub matchKind : Place → ℕ
@@ -79,6 +79,8 @@ pdrNumbers p =
     ∷ matchTeid (p .place)
     ∷ matchFamilies (p .place)
     ∷ matchEndpoint (p .place)
+    ∷ flag (isSome (p .address))
+    ∷ valueOr 0 (p .address)
     ∷ []
 
 unfoldable pub pdrFrom : List ℕ → Pdr
@@ -89,18 +91,20 @@ pdrFrom vs =
       far = optionRead (getD vs 2 0) (getD vs 3 0);
       source = getD vs 4 0;
       place = placeRead (getD vs 5 0) (getD vs 6 0) (getD vs 7 0) (getD vs 8 0);
+      address = optionRead (getD vs 9 0) (getD vs 10 0);
     }
 
 -- ---- endpoint
 
 abbrev pub endpointWidths : List ℕ
-endpointWidths = 1 ∷ 4 ∷ 1 ∷ []
+endpointWidths = 1 ∷ 4 ∷ 1 ∷ 1 ∷ 4 ∷ []
 
 unfoldable pub endpointNumbers : Endpoint → List ℕ
-endpointNumbers e = e .id ∷ e .local .teid ∷ families (e .local) ∷ []
+endpointNumbers e = e .id ∷ e .local .teid ∷ families (e .local) ∷ flag (isSome (e .address)) ∷ valueOr 0 (e .address) ∷ []
 
 unfoldable pub endpointFrom : List ℕ → Endpoint
-endpointFrom vs = record { id = getD vs 0 0; local = tunnelRead (getD vs 1 0) (getD vs 2 0) }
+endpointFrom vs =
+    record { id = getD vs 0 0; local = tunnelRead (getD vs 1 0) (getD vs 2 0); address = optionRead (getD vs 3 0) (getD vs 4 0) }
 
 -- ---- FQ-CSID
 
@@ -120,9 +124,9 @@ csidFrom vs =
 
 -- ---- widths and places
 
--- the settings: IPv4 address, whether there is an IPv6 address, that address, first TEID, pool size
+-- the settings: IPv4 address, whether there is an IPv6 address, that address, first TEID, pool size, first address, number of addresses
 abbrev pub settingsWidths : List ℕ
-settingsWidths = 4 ∷ 1 ∷ 16 ∷ 4 ∷ 4 ∷ []
+settingsWidths = 4 ∷ 1 ∷ 16 ∷ 4 ∷ 4 ∷ 4 ∷ 4 ∷ []
 
 abbrev pub settingsWidth : ℕ
 settingsWidth = widthOf settingsWidths
@@ -188,7 +192,7 @@ sessionOctets x =
     ++ (area endpointOctets endpointWidth maxEndpoints (x .endpoints) ++ area csidOctets csidWidth nodeTypes (x .csids)))
 
 unfoldable pub settingsOctets : Settings → List ℕ
-settingsOctets s = s .ipv4 ++ (flag (not (isNil (s .ipv6))) ∷ padded 16 (s .ipv6) ++ (be 4 (s .first) ++ be 4 (s .size)))
+settingsOctets s = s .ipv4 ++ (flag (not (isNil (s .ipv6))) ∷ padded 16 (s .ipv6) ++ (be 4 (s .first) ++ (be 4 (s .size) ++ (be 4 (s .firstAddress) ++ be 4 (s .addressCount)))))
 
 unfoldable pub encode : ℕ → Settings → Sessions → List ℕ
 encode limit s m = settingsOctets s ++ (be 2 (length m) ++ area sessionOctets sessionWidth limit m)
@@ -219,7 +223,14 @@ viewSession xs =
 
 unfoldable pub viewSettings : List ℕ → Settings
 viewSettings xs =
-    record { ipv4 = part 0 4 xs; ipv6 = pick (eqb (octetAt xs 4) 0) [] (part 5 16 xs); first = numberAt 21 4 xs; size = numberAt 25 4 xs }
+    record {
+      ipv4 = part 0 4 xs;
+      ipv6 = pick (eqb (octetAt xs 4) 0) [] (part 5 16 xs);
+      first = numberAt 21 4 xs;
+      size = numberAt 25 4 xs;
+      firstAddress = numberAt 29 4 xs;
+      addressCount = numberAt 33 4 xs;
+    }
 
 unfoldable pub viewSessions : List ℕ → Sessions
 viewSessions xs = viewArea viewSession sessionWidth (numberAt settingsWidth 2 xs) headWidth xs

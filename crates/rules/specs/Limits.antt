@@ -1,4 +1,4 @@
--- Every limit of document 01, each named once.
+-- Every limit of documents 01 and 02, each named once.
 -- Assumes nothing.
 use Prim.Native.Nat.{ℕ}
 
@@ -34,6 +34,13 @@ maxPool = 4096
 abbrev pub mapWords : ℕ
 mapWords = 64
 
+-- IPv4 addresses in the pool (02 (v)), and words in the map of taken ones
+abbrev pub maxAddresses : ℕ
+maxAddresses = 1024
+
+abbrev pub addressWords : ℕ
+addressWords = 16
+
 -- how deep groups nest, the message counted
 abbrev pub maxDepth : ℕ
 maxDepth = 3
@@ -43,8 +50,8 @@ abbrev pub maxMessage : ℕ
 maxMessage = 2048
 
 abbrev pub minSpace : ℕ
-minSpace = 1024
+minSpace = 1280
 
 -- octets of the longest restoration request
 abbrev pub maxRestoration : ℕ
-maxRestoration = 1526
+maxRestoration = 1742

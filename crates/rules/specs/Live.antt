@@ -11,7 +11,7 @@ use Rattle.octets.specs.Lists.{findBy}
 use Rattle.rules.specs.Model.{Sessions}
 use Rattle.rules.specs.Message.{Element, elements, body, hasType, contentIn, contentOf, fieldOr0, kindOf, headerSeid}
 use Rattle.rules.specs.Reading.{readRequest}
-use Rattle.rules.specs.Grants.{Kind, ofPdr, ofEndpoint}
+use Rattle.rules.specs.Grants.{Kind, ofPdr, ofEndpoint, Got}
 use Rattle.rules.specs.Apply.{follow}
 use Rattle.rules.specs.Types as ie
 
@@ -48,9 +48,23 @@ isCreated k i e = hasType (createdType k) e && eqb (fieldOr0 (idType k) (element
 unfoldable pub teidIn : List Element → ℕ
 teidIn es = numberAt 1 4 (valueOr [] (contentOf ie.fteid es))
 
--- the TEID in the reply's Created group of a kind and ID
+-- the address of the UE IP Address there (02 (v))
+unfoldable pub addressIn : List Element → ℕ
+addressIn es = numberAt 1 4 (valueOr [] (contentOf ie.ueIpAddress es))
+
+-- the elements of the reply's Created group of a kind and ID
+unfoldable pub createdGroup : List ℕ → Kind → ℕ → List Element
+createdGroup space k i = elements 0 (valueOr [] (mapOption contentIn (findBy (isCreated k i) (replyElements space))))
+
 unfoldable pub createdTeid : List ℕ → Kind → ℕ → ℕ
-createdTeid space k i = teidIn (elements 0 (valueOr [] (mapOption contentIn (findBy (isCreated k i) (replyElements space)))))
+createdTeid space k i = teidIn (createdGroup space k i)
+
+unfoldable pub createdAddress : List ℕ → Kind → ℕ → ℕ
+createdAddress space k i = addressIn (createdGroup space k i)
+
+-- what the reply says that a record got
+unfoldable pub createdGot : List ℕ → Kind → ℕ → Got
+createdGot space k i = record { teid = createdTeid space k i; address = createdAddress space k i }
 
 -- ---- the live set
 
@@ -60,7 +74,7 @@ accepted (replied msg outcome space) = eqb outcome 0 && eqb (replyCause space) 1
 accepted counted = false
 
 unfoldable pub followEvent : Sessions → Event → Sessions
-followEvent m (replied msg outcome space) = follow (createdTeid space) (kindOf msg) (headerSeid msg) (readRequest msg) m
+followEvent m (replied msg outcome space) = follow (createdGot space) (kindOf msg) (headerSeid msg) (readRequest msg) m
 followEvent m counted = m
 
 unfoldable pub liveStep : Sessions → Event → Sessions
@@ -76,5 +90,5 @@ unfoldable pub live : List Event → Sessions
 live es = liveFrom [] es
 
 unfoldable pub computing : ℕ
-unfolding replyIn replyElements replyCause createdType idType isCreated teidIn createdTeid accepted followEvent liveStep liveFrom live
+unfolding replyIn replyElements replyCause createdType idType isCreated teidIn addressIn createdGroup createdTeid createdAddress createdGot accepted followEvent liveStep liveFrom live
 computing = 0

@@ -118,8 +118,8 @@ actedOn kind =
 unfoldable pub placesOf : ℕ → List ℕ
 placesOf group =
     pick (eqb group ie.createPdr || eqb group ie.updatePdr) (ie.pdrId ∷ ie.precedence ∷ ie.pdi ∷ ie.farId ∷ [])
-    (pick (eqb group ie.pdi) (ie.sourceInterface ∷ ie.fteid ∷ ie.endpointId ∷ [])
-    (pick (eqb group ie.createEndpoint) (ie.endpointId ∷ ie.fteid ∷ [])
+    (pick (eqb group ie.pdi) (ie.sourceInterface ∷ ie.fteid ∷ ie.endpointId ∷ ie.ueIpAddress ∷ [])
+    (pick (eqb group ie.createEndpoint) (ie.endpointId ∷ ie.fteid ∷ ie.ueIpAddress ∷ [])
     (pick (eqb group ie.removePdr) (ie.pdrId ∷ []) (ie.endpointId ∷ []))))
 
 -- ---- stage 2: framing

@@ -1,20 +1,24 @@
 -- The unit's settings and the live sessions, as the table holds them (01, "Settings and table").
 -- Assumes nothing.
 use Prim.Native.Nat.{ℕ, _+_, _-_}
-use mathlib.Core.Bool.{Bool, true, false}
+use mathlib.Core.Bool.{Bool, true, false, _&&_}
 use mathlib.Core.Option.{Option, none, some}
 use mathlib.Core.List.{List, [], _∷_, _++_, map}
+use lib.Dec.{leb, ltb}
 use Rattle.octets.specs.Choice.{mapOption}
-use Rattle.octets.specs.Lists.{distinct, without, range, collect}
+use Rattle.octets.specs.Lists.{distinct, without, range, keep, collect}
 
 -- ---- records
 
--- 01's settings: the unit's addresses (the IPv6 one empty where there is none) and its pool of TEIDs
+-- The settings: the unit's addresses (the IPv6 one empty where there is none), its pool of TEIDs, and its pool of IPv4 addresses for patients
+-- (02 (v)), an address as a number.
 pub record Settings : Type 0 where
   pub ipv4 : List ℕ
   pub ipv6 : List ℕ
   pub first : ℕ
   pub size : ℕ
+  pub firstAddress : ℕ
+  pub addressCount : ℕ
 
 -- a held F-TEID: its addresses are the unit's
 pub record Tunnel : Type 0 where
@@ -34,10 +38,12 @@ pub record Pdr : Type 0 where
   pub far : Option ℕ
   pub source : ℕ
   pub place : Place
+  pub address : Option ℕ
 
 pub record Endpoint : Type 0 where
   pub id : ℕ
   pub local : Tunnel
+  pub address : Option ℕ
 
 -- an FQ-CSID with one CSID
 pub record Csid : Type 0 where
@@ -114,6 +120,33 @@ freeCount s m = s .size - distinct (heldTeids m)
 unfoldable pub freeTeids : Settings → Sessions → List ℕ
 freeTeids s m = without (range (s .first) (s .size)) (heldTeids m)
 
+-- ---- who holds which IPv4 address (02 (v))
+
+abbrev pub pdrAddress : Pdr → Option ℕ
+pdrAddress p = p .address
+
+abbrev pub endpointAddress : Endpoint → Option ℕ
+endpointAddress e = e .address
+
+unfoldable pub inAddressPool : Settings → ℕ → Bool
+inAddressPool s a = leb (s .firstAddress) a && ltb a (s .firstAddress + s .addressCount)
+
+-- the addresses of the pool in a session's records, as often as they stand there; those outside the pool are the control plane's
+unfoldable pub sessionAddresses : Settings → Session → List ℕ
+sessionAddresses s x = keep (inAddressPool s) (collect endpointAddress (x .endpoints) ++ collect pdrAddress (x .pdrs))
+
+-- every address of the pool in the records
+unfoldable pub heldAddresses : Settings → Sessions → List ℕ
+heldAddresses s [] = []
+heldAddresses s (x ∷ m) = sessionAddresses s x ++ heldAddresses s m
+
+-- how many are free, and which, the lowest first
+unfoldable pub freeAddressCount : Settings → Sessions → ℕ
+freeAddressCount s m = s .addressCount - distinct (heldAddresses s m)
+
+unfoldable pub freeAddresses : Settings → Sessions → List ℕ
+freeAddresses s m = without (range (s .firstAddress) (s .addressCount)) (heldAddresses s m)
+
 -- ---- keys
 
 abbrev pub pdrId : Pdr → ℕ
@@ -129,5 +162,5 @@ abbrev pub seidOf : Session → ℕ
 seidOf s = s .seid
 
 unfoldable pub computing : ℕ
-unfolding placeTunnel placeEndpoint pdrEndpoint tunnelHolding pdrHolding endpointHolding sessionHoldings sessionTeids heldTeids freeCount freeTeids
+unfolding placeTunnel placeEndpoint pdrEndpoint tunnelHolding pdrHolding endpointHolding sessionHoldings sessionTeids heldTeids freeCount freeTeids inAddressPool sessionAddresses heldAddresses freeAddressCount freeAddresses
 computing = 0

@@ -11,7 +11,7 @@ use Rattle.octets.specs.Choice.{pick, valueOr, bindOption, isSome, isNil}
 use Rattle.octets.specs.Octets.{numberAt, octetAt, bit}
 use Rattle.octets.specs.Lists.{member, any, keep, collect}
 use Rattle.rules.specs.Types as ie
-use Rattle.rules.specs.Elements.{Refusal, missing, conditional, tooShort, incorrect, Answer, refuse, value, Fteid, Fqcsid, sets, removal, readFteid, readFqcsid, readFseid, nodeOf}
+use Rattle.rules.specs.Elements.{Refusal, missing, conditional, tooShort, incorrect, Answer, refuse, value, Fteid, UeIp, Fqcsid, sets, removal, readFteid, readUeIp, ueStrange, readFqcsid, readFseid, nodeOf}
 use Rattle.rules.specs.Message.{establishment, modification, setDeletion, kindOf, headerLength, body, inside, Element, elements, actedOn, placesOf, hasType, numberWidth}
 
 -- ---- what a message asks for
@@ -23,10 +23,12 @@ pub record NewPdr : Type 0 where
   pub source : ℕ
   pub local : Option Fteid
   pub endpoint : Option ℕ
+  pub address : Option UeIp
 
 pub record NewEndpoint : Type 0 where
   pub id : ℕ
   pub local : Fteid
+  pub address : Option UeIp
 
 -- an Update PDR: what it replaces; for the FAR ID `some none` takes it away
 pub record Change : Type 0 where
@@ -110,31 +112,35 @@ pub record Members : Type 0 where
   pub source : Option ℕ
   pub local : Option Fteid
   pub endpointId : Option ℕ
+  pub address : Option UeIp
 
 abbrev pub noMembers : Members
-noMembers = record { pdrId = none; precedence = none; far = none; pdi = false; source = none; local = none; endpointId = none }
+noMembers = record { pdrId = none; precedence = none; far = none; pdi = false; source = none; local = none; endpointId = none; address = none }
 
 -- with one more
 abbrev pub withPdrId : ℕ → Members → Members
-withPdrId n m = record { pdrId = some n; precedence = m .precedence; far = m .far; pdi = m .pdi; source = m .source; local = m .local; endpointId = m .endpointId }
+withPdrId n m = record { pdrId = some n; precedence = m .precedence; far = m .far; pdi = m .pdi; source = m .source; local = m .local; endpointId = m .endpointId; address = m .address }
 
 abbrev pub withPrecedence : ℕ → Members → Members
-withPrecedence n m = record { pdrId = m .pdrId; precedence = some n; far = m .far; pdi = m .pdi; source = m .source; local = m .local; endpointId = m .endpointId }
+withPrecedence n m = record { pdrId = m .pdrId; precedence = some n; far = m .far; pdi = m .pdi; source = m .source; local = m .local; endpointId = m .endpointId; address = m .address }
 
 abbrev pub withFar : Option ℕ → Members → Members
-withFar f m = record { pdrId = m .pdrId; precedence = m .precedence; far = some f; pdi = m .pdi; source = m .source; local = m .local; endpointId = m .endpointId }
+withFar f m = record { pdrId = m .pdrId; precedence = m .precedence; far = some f; pdi = m .pdi; source = m .source; local = m .local; endpointId = m .endpointId; address = m .address }
 
 abbrev pub withPdi : Members → Members
-withPdi m = record { pdrId = m .pdrId; precedence = m .precedence; far = m .far; pdi = true; source = m .source; local = m .local; endpointId = m .endpointId }
+withPdi m = record { pdrId = m .pdrId; precedence = m .precedence; far = m .far; pdi = true; source = m .source; local = m .local; endpointId = m .endpointId; address = m .address }
 
 abbrev pub withSource : ℕ → Members → Members
-withSource n m = record { pdrId = m .pdrId; precedence = m .precedence; far = m .far; pdi = m .pdi; source = some n; local = m .local; endpointId = m .endpointId }
+withSource n m = record { pdrId = m .pdrId; precedence = m .precedence; far = m .far; pdi = m .pdi; source = some n; local = m .local; endpointId = m .endpointId; address = m .address }
 
 abbrev pub withLocal : Fteid → Members → Members
-withLocal v m = record { pdrId = m .pdrId; precedence = m .precedence; far = m .far; pdi = m .pdi; source = m .source; local = some v; endpointId = m .endpointId }
+withLocal v m = record { pdrId = m .pdrId; precedence = m .precedence; far = m .far; pdi = m .pdi; source = m .source; local = some v; endpointId = m .endpointId; address = m .address }
 
 abbrev pub withEndpointId : ℕ → Members → Members
-withEndpointId n m = record { pdrId = m .pdrId; precedence = m .precedence; far = m .far; pdi = m .pdi; source = m .source; local = m .local; endpointId = some n }
+withEndpointId n m = record { pdrId = m .pdrId; precedence = m .precedence; far = m .far; pdi = m .pdi; source = m .source; local = m .local; endpointId = some n; address = m .address }
+
+abbrev pub withAddress : UeIp → Members → Members
+withAddress v m = record { pdrId = m .pdrId; precedence = m .precedence; far = m .far; pdi = m .pdi; source = m .source; local = m .local; endpointId = m .endpointId; address = some v }
 
 -- is a member of type t there
 unfoldable pub holds : ℕ → Members → Bool
@@ -144,7 +150,8 @@ holds t m =
     (pick (eqb t ie.farId) (isSome (m .far))
     (pick (eqb t ie.pdi) (m .pdi)
     (pick (eqb t ie.sourceInterface) (isSome (m .source))
-    (pick (eqb t ie.fteid) (isSome (m .local)) (isSome (m .endpointId)))))))
+    (pick (eqb t ie.fteid) (isSome (m .local))
+    (pick (eqb t ie.ueIpAddress) (isSome (m .address)) (isSome (m .endpointId))))))))
 
 -- the number of a member with so many octets
 unfoldable pub numberRead : ℕ → ℕ → List ℕ → Reading ℕ
@@ -167,7 +174,8 @@ valueRead inner g t p v m =
     (pick (eqb t ie.pdi) (pdiIn inner g p v m)
     (pick (eqb t ie.sourceInterface) (andThen (numberRead t p v) (λ n. done (withSource (n % 16) m)))
     (pick (eqb t ie.fteid) (andThen (named t p (readFteid (eqb g ie.createEndpoint) v)) (λ y. done (withLocal y m)))
-    (andThen (numberRead t p v) (λ n. done (withEndpointId n m))))))))
+    (pick (eqb t ie.ueIpAddress) (andThen (named t p (readUeIp v)) (λ y. done (withAddress y m)))
+    (andThen (numberRead t p v) (λ n. done (withEndpointId n m)))))))))
 
 -- an element of a group: skipped where it has no place; met again it is 69 before its value is read
 unfoldable pub memberRead : (ℕ → List ℕ → Members → Reading Members) → ℕ → Element → Members → Reading Members
@@ -198,12 +206,12 @@ unfoldable pub pdrFrom : ℕ → Members → Reading Item
 pdrFrom p m =
     pick (m .pdi)
     (need missing ie.precedence p (m .precedence) (λ n. need missing ie.pdrId p (m .pdrId) (λ i. need missing ie.sourceInterface p (m .source) (λ c.
-    done (createsPdr (record { id = i; precedence = n; far = bindOption (m .far) (λ f. f); source = c; local = m .local; endpoint = m .endpointId }))))))
+    done (createsPdr (record { id = i; precedence = n; far = bindOption (m .far) (λ f. f); source = c; local = m .local; endpoint = m .endpointId; address = m .address }))))))
     (refusal missing ie.pdi p)
 
 unfoldable pub endpointFrom : ℕ → Members → Reading Item
 endpointFrom p m =
-    need conditional ie.fteid p (m .local) (λ v. need missing ie.endpointId p (m .endpointId) (λ i. done (createsEndpoint (record { id = i; local = v }))))
+    need conditional ie.fteid p (m .local) (λ v. need missing ie.endpointId p (m .endpointId) (λ i. done (createsEndpoint (record { id = i; local = v; address = m .address }))))
 
 unfoldable pub changeFrom : ℕ → Members → Reading Item
 changeFrom p m =
@@ -361,10 +369,15 @@ clears (setsCsid x) = false
 clears clearsCsids = true
 clears updatesEndpoint = false
 
--- an Update PDR with a PDI, or element 129
+-- is there an address with what the unit does not have
+unfoldable pub strangeAddress : Option UeIp → Bool
+strangeAddress none = false
+strangeAddress (some v) = ueStrange v
+
+-- an Update PDR with a PDI, element 129, or such an address
 unfoldable pub isUnsupported : Item → Bool
-isUnsupported (createsPdr x) = false
-isUnsupported (createsEndpoint x) = false
+isUnsupported (createsPdr x) = strangeAddress (x .address)
+isUnsupported (createsEndpoint x) = strangeAddress (x .address)
 isUnsupported (updatesPdr x) = x .pdi
 isUnsupported (removesPdr x) = false
 isUnsupported (removesEndpoint x) = false
@@ -457,5 +470,5 @@ unfoldable pub readRequest : List ℕ → Request
 readRequest msg = askedIn (read msg)
 
 unfoldable pub computing : ℕ
-unfolding holds numberRead farRead pdiIn valueRead memberRead membersRead pdiEnd pdiRead pdrFrom endpointFrom changeFrom itemFrom groupRead seidRead flagsRead csidCountAllowed csidRead actedRead elementRead elementsRead pdrIn endpointIn changeIn gonePdrIn goneEndpointIn csidIn clears isUnsupported restoringIn requestOf createsAny finished aloneIn sessionRead listable listedRead listRead listing topRead read faultIn readFault askedIn readRequest
+unfolding holds numberRead farRead pdiIn valueRead memberRead membersRead pdiEnd pdiRead pdrFrom endpointFrom changeFrom itemFrom groupRead seidRead flagsRead csidCountAllowed csidRead actedRead elementRead elementsRead pdrIn endpointIn changeIn gonePdrIn goneEndpointIn csidIn clears strangeAddress isUnsupported restoringIn requestOf createsAny finished aloneIn sessionRead listable listedRead listRead listing topRead read faultIn readFault askedIn readRequest
 computing = 0

@@ -2,16 +2,18 @@
 -- Assumes nothing.
 use Prim.Native.Nat.{ℕ, _+_}
 use mathlib.Core.Option.{Option, none, some}
-use mathlib.Core.Bool.{_||_}
-use mathlib.Core.List.{List, [], _∷_, _++_}
+use mathlib.Core.Bool.{Bool, _||_}
+use mathlib.Core.List.{List, [], _∷_, _++_, map}
 use lib.ListN.{length}
 use lib.Dec.{eqb}
-use Rattle.octets.specs.Choice.{pick}
+use Rattle.octets.specs.Choice.{pick, bindOption, isSome}
 use Rattle.octets.specs.Octets.{be, concatMap}
+use Rattle.octets.specs.Lists.{keep}
 use Rattle.rules.specs.Model.{Settings, Tunnel}
-use Rattle.rules.specs.Elements.{fteidOctets, unitFteid, fseidOctets}
+use Rattle.rules.specs.Elements.{Fteid, given, choose, fteidOctets, unitFteid, UeIp, ueGiven, ueOctets, ueChooses, fseidOctets}
 use Rattle.rules.specs.Message.{establishment, setDeletion, kindOf, seidThere, headerSeid, sequenceOf}
-use Rattle.rules.specs.Grants.{Grant, ofPdr, ofEndpoint, grantsOf}
+use Rattle.rules.specs.Reading.{NewPdr, NewEndpoint, Request}
+use Rattle.rules.specs.Grants.{Kind, ofPdr, ofEndpoint, Got}
 use Rattle.rules.specs.Stages.{Verdict}
 use Rattle.rules.specs.Types as ie
 use Rattle.rules.specs.Causes as why
@@ -32,20 +34,78 @@ listMessage kind sequence xs = 32 ∷ kind ∷ be 2 (4 + length xs) ++ (sequence
 unfoldable pub unitElement : Settings → Tunnel → List ℕ
 unitElement s t = element ie.fteid (fteidOctets (unitFteid s t))
 
-unfoldable pub createdPdrContent : Settings → Grant → List ℕ
-createdPdrContent s g = element ie.pdrId (be 2 (g .id)) ++ unitElement s (g .local)
+unfoldable pub tunnelPart : Settings → Option Tunnel → List ℕ
+tunnelPart s none = []
+tunnelPart s (some t) = unitElement s t
 
-unfoldable pub createdPdr : Settings → Grant → List ℕ
+-- an IPv4 address, if there is one, in a UE IP Address element (02 (v))
+unfoldable pub addressPart : Option ℕ → List ℕ
+addressPart none = []
+addressPart (some a) = element ie.ueIpAddress (ueOctets (ueGiven a))
+
+-- ---- Created groups: one for each record with something chosen, which lists what was chosen
+
+-- a record's ID with the F-TEID and the address that it chose, if any
+pub record Report : Type 0 where
+  pub id : ℕ
+  pub local : Option Tunnel
+  pub address : Option ℕ
+
+-- the reports of an accepted request, in request order; a refusal has none
+pub record Reports : Type 0 where
+  pub pdrs : List Report
+  pub endpoints : List Report
+
+abbrev pub noReports : Reports
+noReports = record { pdrs = []; endpoints = [] }
+
+unfoldable pub chosenTunnel : ℕ → Fteid → Option Tunnel
+chosenTunnel t (given n a b) = none
+chosenTunnel t (choose v4 v6 i) = some (record { teid = t; v4 = v4; v6 = v6 })
+
+unfoldable pub chosenIp : ℕ → UeIp → Option ℕ
+chosenIp a v = pick (ueChooses v) (some a) none
+
+unfoldable pub pdrReport : (Kind → ℕ → Got) → NewPdr → Report
+pdrReport got p =
+    record {
+      id = p .id;
+      local = bindOption (p .local) (chosenTunnel (got ofPdr (p .id) .teid));
+      address = bindOption (p .address) (chosenIp (got ofPdr (p .id) .address));
+    }
+
+unfoldable pub endpointReport : (Kind → ℕ → Got) → NewEndpoint → Report
+endpointReport got e =
+    record {
+      id = e .id;
+      local = chosenTunnel (got ofEndpoint (e .id) .teid) (e .local);
+      address = bindOption (e .address) (chosenIp (got ofEndpoint (e .id) .address));
+    }
+
+unfoldable pub somethingChosen : Report → Bool
+somethingChosen g = isSome (g .local) || isSome (g .address)
+
+unfoldable pub reports : (Kind → ℕ → Got) → Request → Reports
+reports got r =
+    record { pdrs = keep somethingChosen (map (pdrReport got) (r .pdrs)); endpoints = keep somethingChosen (map (endpointReport got) (r .endpoints)) }
+
+unfoldable pub chosenElements : Settings → Report → List ℕ
+chosenElements s g = tunnelPart s (g .local) ++ addressPart (g .address)
+
+unfoldable pub createdPdrContent : Settings → Report → List ℕ
+createdPdrContent s g = element ie.pdrId (be 2 (g .id)) ++ chosenElements s g
+
+unfoldable pub createdPdr : Settings → Report → List ℕ
 createdPdr s g = element ie.createdPdr (createdPdrContent s g)
 
-unfoldable pub createdEndpointContent : Settings → Grant → List ℕ
-createdEndpointContent s g = element ie.endpointId (g .id ∷ []) ++ unitElement s (g .local)
+unfoldable pub createdEndpointContent : Settings → Report → List ℕ
+createdEndpointContent s g = element ie.endpointId (g .id ∷ []) ++ chosenElements s g
 
-unfoldable pub createdEndpoint : Settings → Grant → List ℕ
+unfoldable pub createdEndpoint : Settings → Report → List ℕ
 createdEndpoint s g = element ie.createdEndpoint (createdEndpointContent s g)
 
-unfoldable pub created : Settings → List Grant → List ℕ
-created s gs = concatMap (createdPdr s) (grantsOf ofPdr gs) ++ concatMap (createdEndpoint s) (grantsOf ofEndpoint gs)
+unfoldable pub created : Settings → Reports → List ℕ
+created s gs = concatMap (createdPdr s) (gs .pdrs) ++ concatMap (createdEndpoint s) (gs .endpoints)
 
 unfoldable pub offendingElement : Option ℕ → List ℕ
 offendingElement none = []
@@ -59,10 +119,10 @@ nodeIdElement kind s = pick (eqb kind establishment || eqb kind setDeletion) (el
 unfoldable pub unitFseid : ℕ → Settings → ℕ → List ℕ
 unitFseid kind s seid = pick (eqb kind establishment) (element ie.fseid (fseidOctets seid (s .ipv4) [])) []
 
-unfoldable pub acceptedPart : ℕ → Settings → ℕ → List Grant → List ℕ
+unfoldable pub acceptedPart : ℕ → Settings → ℕ → Reports → List ℕ
 acceptedPart kind s seid gs = unitFseid kind s seid ++ created s gs
 
-unfoldable pub replyBody : ℕ → Settings → ℕ → Verdict → List Grant → List ℕ
+unfoldable pub replyBody : ℕ → Settings → ℕ → Verdict → Reports → List ℕ
 replyBody kind s seid v gs =
     nodeIdElement kind s
     ++ (element ie.cause (v .cause ∷ []) ++ (offendingElement (v .offending) ++ pick (eqb (v .cause) why.accepted) (acceptedPart kind s seid gs) []))
@@ -71,8 +131,8 @@ replyBody kind s seid v gs =
 unfoldable pub replySeid : ℕ → ℕ → ℕ → ℕ → ℕ
 replySeid kind cause header seid = pick (eqb kind establishment) (pick (eqb cause why.accepted) seid 0) (pick (eqb cause why.noSession) 0 header)
 
--- with a SEID where the request has one; seid is the F-SEID's, gs are the grants of an accepted request
-unfoldable pub reply : Settings → List ℕ → ℕ → Verdict → List Grant → List ℕ
+-- with a SEID where the request has one; seid is the F-SEID's, gs are the reports of an accepted request
+unfoldable pub reply : Settings → List ℕ → ℕ → Verdict → Reports → List ℕ
 reply s msg seid v gs =
     let xs = replyBody (kindOf msg) s seid v gs in
     pick (seidThere msg)
@@ -80,5 +140,5 @@ reply s msg seid v gs =
     (listMessage (kindOf msg + 1) (sequenceOf msg) xs)
 
 unfoldable pub computing : ℕ
-unfolding element message listMessage unitElement createdPdrContent createdPdr createdEndpointContent createdEndpoint created offendingElement nodeIdElement unitFseid acceptedPart replyBody replySeid reply
+unfolding element message listMessage unitElement tunnelPart addressPart chosenTunnel chosenIp pdrReport endpointReport somethingChosen reports chosenElements createdPdrContent createdPdr createdEndpointContent createdEndpoint created offendingElement nodeIdElement unitFseid acceptedPart replyBody replySeid reply
 computing = 0

@@ -9,10 +9,10 @@ use lib.Dec.{ltb}
 use Rattle.octets.specs.Octets.{be, concatMap}
 use Rattle.octets.specs.Choice.{mapOption, allOf, isNil}
 use Rattle.rules.specs.Model.{Settings, Place, neither, tunnel, endpoint, Pdr, Endpoint, Csid, Session, placeTunnel, placeEndpoint}
-use Rattle.rules.specs.Elements.{Fqcsid, unitFteid, fqcsidOctets, sets, fseidOctets, addressOf}
+use Rattle.rules.specs.Elements.{ueGiven, Fqcsid, unitFteid, fqcsidOctets, sets, fseidOctets, addressOf}
 use Rattle.rules.specs.Message.{establishment}
 use Rattle.rules.specs.Reading.{NewPdr, NewEndpoint, changed, Request}
-use Rattle.rules.specs.Reply.{element, message, unitElement}
+use Rattle.rules.specs.Reply.{element, message, unitElement, addressPart}
 use Rattle.rules.specs.Types as ie
 
 unfoldable pub placeElement : Settings → Place → List ℕ
@@ -24,8 +24,9 @@ unfoldable pub farElement : Option ℕ → List ℕ
 farElement none = []
 farElement (some n) = element ie.farId (be 4 n)
 
+-- the address stands last in its group (02 (v))
 unfoldable pub pdiContent : Settings → Pdr → List ℕ
-pdiContent s p = element ie.sourceInterface (p .source ∷ []) ++ placeElement s (p .place)
+pdiContent s p = element ie.sourceInterface (p .source ∷ []) ++ (placeElement s (p .place) ++ addressPart (p .address))
 
 unfoldable pub pdrContent : Settings → Pdr → List ℕ
 pdrContent s p = element ie.pdrId (be 2 (p .id)) ++ (element ie.precedence (be 4 (p .precedence)) ++ (element ie.pdi (pdiContent s p) ++ farElement (p .far)))
@@ -34,7 +35,7 @@ unfoldable pub pdrElement : Settings → Pdr → List ℕ
 pdrElement s p = element ie.createPdr (pdrContent s p)
 
 unfoldable pub endpointContent : Settings → Endpoint → List ℕ
-endpointContent s e = element ie.endpointId (e .id ∷ []) ++ unitElement s (e .local)
+endpointContent s e = element ie.endpointId (e .id ∷ []) ++ (unitElement s (e .local) ++ addressPart (e .address))
 
 unfoldable pub endpointElement : Settings → Endpoint → List ℕ
 endpointElement s e = element ie.createEndpoint (endpointContent s e)
@@ -56,10 +57,11 @@ restoredPdr s p =
       source = p .source;
       local = mapOption (unitFteid s) (placeTunnel (p .place));
       endpoint = placeEndpoint (p .place);
+      address = mapOption ueGiven (p .address);
     }
 
 unfoldable pub restoredEndpoint : Settings → Endpoint → NewEndpoint
-restoredEndpoint s e = record { id = e .id; local = unitFteid s (e .local) }
+restoredEndpoint s e = record { id = e .id; local = unitFteid s (e .local); address = mapOption ueGiven (e .address) }
 
 unfoldable pub restoredRequest : Settings → Session → Request
 restoredRequest s x =

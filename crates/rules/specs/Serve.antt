@@ -12,10 +12,10 @@ use Rattle.rules.specs.Layout.{encode, viewSettings, viewSessions}
 use Rattle.rules.specs.Sound.{sound}
 use Rattle.rules.specs.Message.{kindOf, headerSeid, headerAllowed, served}
 use Rattle.rules.specs.Reading.{readRequest}
-use Rattle.rules.specs.Grants.{grants, grantedTeid}
+use Rattle.rules.specs.Grants.{granted}
 use Rattle.rules.specs.Stages.{Verdict, verdict}
 use Rattle.rules.specs.Apply.{follow}
-use Rattle.rules.specs.Reply.{reply}
+use Rattle.rules.specs.Reply.{reports, reply}
 use Rattle.rules.specs.Limits.{maxMessage, minSpace}
 use Rattle.rules.specs.Causes as why
 
@@ -31,10 +31,10 @@ unserved n space t = record { outcome = n; place = 0; space = space; table = t }
 
 -- the sessions after an accepted request
 unfoldable pub sessionsAfter : Settings → Sessions → List ℕ → Sessions
-sessionsAfter s m msg = follow (grantedTeid (grants s m (readRequest msg))) (kindOf msg) (headerSeid msg) (readRequest msg) m
+sessionsAfter s m msg = follow (granted s m (readRequest msg)) (kindOf msg) (headerSeid msg) (readRequest msg) m
 
 unfoldable pub replyTo : Settings → Sessions → List ℕ → Verdict → List ℕ
-replyTo s m msg v = reply s msg (readRequest msg .seid) v (grants s m (readRequest msg))
+replyTo s m msg v = reply s msg (readRequest msg .seid) v (reports (granted s m (readRequest msg)) (readRequest msg))
 
 -- outcome 0: a reply, and on cause 1 a changed table
 unfoldable pub answered : ℕ → Settings → Sessions → List ℕ → List ℕ → List ℕ → Verdict → Served

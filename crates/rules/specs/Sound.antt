@@ -9,11 +9,11 @@ use lib.Dec.{leb, ltb, eqb}
 use Rattle.octets.specs.Choice.{pick, allOf, isNil, sameBool, flag}
 use Rattle.octets.specs.Octets.{octets, sameOctets}
 use Rattle.octets.specs.Lists.{member, anyIn, ascending, all, allPairs}
-use Rattle.rules.specs.Model.{Settings, Tunnel, Place, neither, tunnel, endpoint, Pdr, Endpoint, Csid, Session, Sessions, Holding, sessionHoldings, sessionTeids, heldTeids, freeCount, pdrId, endpointId, nodeTypeOf, seidOf}
-use Rattle.rules.specs.Limits.{maxPdrs, maxEndpoints, nodeTypes, maxPool}
+use Rattle.rules.specs.Model.{Settings, Tunnel, Place, neither, tunnel, endpoint, Pdr, Endpoint, Csid, Session, Sessions, Holding, sessionHoldings, sessionTeids, heldTeids, freeCount, sessionAddresses, heldAddresses, freeAddressCount, pdrId, endpointId, nodeTypeOf, seidOf}
+use Rattle.rules.specs.Limits.{maxPdrs, maxEndpoints, nodeTypes, maxPool, maxAddresses}
 use Rattle.rules.specs.Elements.{nodeAddressAllowed, nodeTypeKept, below16}
 use Rattle.rules.specs.Layout.{tableLength, encode, viewSettings, viewSessions}
-use Rattle.rules.specs.Limits.{mapWords}
+use Rattle.rules.specs.Limits.{mapWords, addressWords}
 
 -- ---- settings
 
@@ -21,12 +21,22 @@ use Rattle.rules.specs.Limits.{mapWords}
 unfoldable pub poolTests : ℕ → ℕ → List Bool
 poolTests first size = leb 1 first ∷ leb 1 size ∷ leb size maxPool ∷ leb (first + size) (2 ^ 32) ∷ []
 
+-- the number of addresses 1 to 1,024, the last one at most 255.255.255.255 (02 (v))
+unfoldable pub addressPoolTests : ℕ → ℕ → List Bool
+addressPoolTests first count = leb 1 count ∷ leb count maxAddresses ∷ leb (first + count) (2 ^ 32) ∷ []
+
 unfoldable pub ipv6Allowed : List ℕ → Bool
 ipv6Allowed a = isNil a || eqb (length a) 16
 
 unfoldable pub settingsTests : Settings → List Bool
 settingsTests s =
-    eqb (length (s .ipv4)) 4 ∷ octets (s .ipv4) ∷ ipv6Allowed (s .ipv6) ∷ octets (s .ipv6) ∷ allOf (poolTests (s .first) (s .size)) ∷ []
+    eqb (length (s .ipv4)) 4
+    ∷ octets (s .ipv4)
+    ∷ ipv6Allowed (s .ipv6)
+    ∷ octets (s .ipv6)
+    ∷ allOf (poolTests (s .first) (s .size))
+    ∷ allOf (addressPoolTests (s .firstAddress) (s .addressCount))
+    ∷ []
 
 unfoldable pub settingsAllowed : Settings → Bool
 settingsAllowed s = allOf (settingsTests s)
@@ -57,16 +67,27 @@ unfoldable pub farAllowed : Option ℕ → Bool
 farAllowed none = true
 farAllowed (some n) = ltb n (2 ^ 32)
 
+-- an IPv4 address, of the pool or not
+unfoldable pub addressAllowed : Option ℕ → Bool
+addressAllowed none = true
+addressAllowed (some a) = ltb a (2 ^ 32)
+
 -- the fields' widths; the source interface has four bits
 unfoldable pub pdrTests : Settings → List ℕ → Pdr → List Bool
 pdrTests s live p =
-    ltb (p .id) (2 ^ 16) ∷ ltb (p .precedence) (2 ^ 32) ∷ farAllowed (p .far) ∷ ltb (p .source) 16 ∷ placeAllowed s live (p .place) ∷ []
+    ltb (p .id) (2 ^ 16)
+    ∷ ltb (p .precedence) (2 ^ 32)
+    ∷ farAllowed (p .far)
+    ∷ ltb (p .source) 16
+    ∷ placeAllowed s live (p .place)
+    ∷ addressAllowed (p .address)
+    ∷ []
 
 unfoldable pub pdrAllowed : Settings → List ℕ → Pdr → Bool
 pdrAllowed s live p = allOf (pdrTests s live p)
 
 unfoldable pub endpointTests : Settings → Endpoint → List Bool
-endpointTests s e = ltb (e .id) 256 ∷ tunnelAllowed s (e .local) ∷ []
+endpointTests s e = ltb (e .id) 256 ∷ tunnelAllowed s (e .local) ∷ addressAllowed (e .address) ∷ []
 
 unfoldable pub endpointAllowed : Settings → Endpoint → Bool
 endpointAllowed s e = allOf (endpointTests s e)
@@ -104,12 +125,12 @@ sessionTests s x =
 unfoldable pub sessionAllowed : Settings → Session → Bool
 sessionAllowed s x = allOf (sessionTests s x)
 
--- two sessions hold no TEID in common
-unfoldable pub apart : Session → Session → Bool
-apart x y = not (anyIn (sessionTeids x) (sessionTeids y))
+-- two sessions hold no TEID and no address of the pool in common
+unfoldable pub apart : Settings → Session → Session → Bool
+apart s x y = not (anyIn (sessionTeids x) (sessionTeids y)) && not (anyIn (sessionAddresses s x) (sessionAddresses s y))
 
 unfoldable pub sessionsTests : ℕ → Settings → Sessions → List Bool
-sessionsTests limit s m = leb (length m) limit ∷ ascending (map seidOf m) ∷ all (sessionAllowed s) m ∷ allPairs apart m ∷ []
+sessionsTests limit s m = leb (length m) limit ∷ ascending (map seidOf m) ∷ all (sessionAllowed s) m ∷ allPairs (apart s) m ∷ []
 
 unfoldable pub sessionsAllowed : ℕ → Settings → Sessions → Bool
 sessionsAllowed limit s m = allOf (sessionsTests limit s m)
@@ -146,7 +167,11 @@ pub data Count : Type 0 where
 unfoldable pub countFree : ℕ → List ℕ → Count
 countFree limit t = pick (sound limit t) (free (freeCount (viewSettings t) (viewSessions t))) broken
 
--- ---- the map of taken TEIDs
+-- the same for the addresses of the pool (02 (v))
+unfoldable pub countAddresses : ℕ → List ℕ → Count
+countAddresses limit t = pick (sound limit t) (free (freeAddressCount (viewSettings t) (viewSessions t))) broken
+
+-- ---- the maps of what is taken
 
 -- is the number at an offset from the first one among those held
 unfoldable pub taken : ℕ → List ℕ → ℕ → Bool
@@ -166,6 +191,10 @@ takenWords first held (suc n) i = takenBits first held 64 i ∷ takenWords first
 unfoldable pub takenMap : Settings → Sessions → List ℕ
 takenMap s m = takenWords (s .first) (heldTeids m) mapWords 0
 
+-- the map of taken addresses likewise (02 (v))
+unfoldable pub addressMap : Settings → Sessions → List ℕ
+addressMap s m = takenWords (s .firstAddress) (heldAddresses s m) addressWords 0
+
 unfoldable pub computing : ℕ
-unfolding poolTests ipv6Allowed settingsTests settingsAllowed inPool unitFamilies tunnelTests tunnelAllowed placeAllowed farAllowed pdrTests pdrAllowed endpointTests endpointAllowed csidTests csidAllowed sessionTests shareTests agree sessionAllowed apart sessionsTests sessionsAllowed soundTests sound make countFree taken takenBits takenWords takenMap
+unfolding poolTests addressPoolTests ipv6Allowed settingsTests settingsAllowed inPool unitFamilies tunnelTests tunnelAllowed placeAllowed farAllowed addressAllowed pdrTests pdrAllowed endpointTests endpointAllowed csidTests csidAllowed sessionTests shareTests agree sessionAllowed apart sessionsTests sessionsAllowed soundTests sound make countFree countAddresses taken takenBits takenWords takenMap addressMap
 computing = 0

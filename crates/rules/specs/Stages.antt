@@ -9,9 +9,9 @@ use lib.Dec.{leb, ltb, eqb}
 use Rattle.octets.specs.Choice.{pick, oneOf, valueOr, bindOption, isSome, isNil, sameBool}
 use Rattle.octets.specs.Octets.{sameOctets}
 use Rattle.octets.specs.Lists.{member, anyIn, allIn, hasRepeat, without, any, allPairs, keep, findBy, collect}
-use Rattle.rules.specs.Model.{Settings, Pdr, Session, Sessions, Holding, teidOf, heldTeids, freeCount, pdrId, endpointId, pdrEndpoint}
+use Rattle.rules.specs.Model.{Settings, Pdr, Session, Sessions, Holding, teidOf, heldTeids, freeCount, inAddressPool, heldAddresses, freeAddresses, pdrId, endpointId, pdrEndpoint}
 use Rattle.rules.specs.Limits.{maxPdrs, maxEndpoints}
-use Rattle.rules.specs.Elements.{causeOf, Fteid, given, choose, hasV4, hasV6, chooses, chooseId}
+use Rattle.rules.specs.Elements.{causeOf, Fteid, given, choose, hasV4, hasV6, chooses, chooseId, UeIp, ueGiven, ueChoose, ueOther, ueAddress, ueChooses}
 use Rattle.rules.specs.Sound.{inPool, unitFamilies, agree}
 use Rattle.rules.specs.Message.{establishment, setDeletion, kindOf, headerSeid, Spot, frameFault}
 use Rattle.rules.specs.Reading.{readFault, readRequest, Fault, NewPdr, NewEndpoint, Change, Request}
@@ -93,6 +93,17 @@ removedPdrs r ps = map pdrId (keep (goesPdr r) ps)
 
 unfoldable pub fteidsOf : Request → List Fteid
 fteidsOf r = map endpointLocal (r .endpoints) ++ collect pdrLocal (r .pdrs)
+
+-- ---- its addresses (02 (v))
+
+abbrev pub newPdrAddress : NewPdr → Option UeIp
+newPdrAddress p = p .address
+
+abbrev pub newEndpointAddress : NewEndpoint → Option UeIp
+newEndpointAddress e = e .address
+
+unfoldable pub addressesOf : Request → List UeIp
+addressesOf r = collect newEndpointAddress (r .endpoints) ++ collect newPdrAddress (r .pdrs)
 
 -- ---- stage 4, cause 71
 
@@ -184,7 +195,20 @@ restoredHoldings r = collect endpointRestored (r .endpoints) ++ collect pdrResto
 unfoldable pub clash : Sessions → Request → Bool
 clash m r = anyIn (map teidOf (restoredHoldings r)) (heldTeids m) || not (allPairs agree (restoredHoldings r))
 
--- the rules of cause 73 in that order: those on the request and its session alone, and the one on what other sessions hold
+-- an address of the pool outside restoration, or a CHOOSE inside it (02 (v))
+unfoldable pub wrongAddress : Settings → Bool → UeIp → Bool
+wrongAddress s restoring (ueGiven a) = inAddressPool s a && not restoring
+wrongAddress s restoring ueChoose = restoring
+wrongAddress s restoring ueOther = false
+
+-- the addresses of the pool that restored records take, held by another session
+unfoldable pub restoredAddresses : Settings → Request → List ℕ
+restoredAddresses s r = keep (inAddressPool s) (collect ueAddress (addressesOf r))
+
+unfoldable pub addressClash : Settings → Sessions → Request → Bool
+addressClash s m r = anyIn (restoredAddresses s r) (heldAddresses s m)
+
+-- the rules of cause 73 in that order: those on the request and its session alone, and those on what other sessions hold
 unfoldable pub requestRules : Settings → Session → Request → List Bool
 requestRules s x r =
     idTwice r
@@ -196,10 +220,11 @@ requestRules s x r =
     ∷ not (allPairs choicesAgree (r .pdrs))
     ∷ any (lacksFamily s) (fteidsOf r)
     ∷ any (strange s) (fteidsOf r)
+    ∷ any (wrongAddress s (r .restoring)) (addressesOf r)
     ∷ []
 
 unfoldable pub brokenRules : Settings → Sessions → Session → Request → List Bool
-brokenRules s m x r = requestRules s x r ++ (clash m r ∷ [])
+brokenRules s m x r = requestRules s x r ++ (clash m r ∷ addressClash s m r ∷ [])
 
 unfoldable pub breaksRule : Settings → Sessions → Session → Request → Bool
 breaksRule s m x r = oneOf (brokenRules s m x r)
@@ -221,6 +246,12 @@ tooFewTeids s m r = ltb (freeCount s m) (need r)
 unfoldable pub noRoom : ℕ → ℕ → Settings → Sessions → Session → Request → Bool
 noRoom limit kind s m x r = oneOf (tooManySessions limit kind m ∷ tooManyPdrs x r ∷ tooManyEndpoints x r ∷ tooFewTeids s m r ∷ [])
 
+-- ---- stage 5, cause 79, after 75 (02 (v))
+
+-- some record chooses, and no address is free at entry
+unfoldable pub noAddress : Settings → Sessions → Request → Bool
+noAddress s m r = any ueChooses (addressesOf r) && isNil (freeAddresses s m)
+
 -- ---- the verdict
 
 -- the cause, the type that Offending IE names, and the place of a fault of stages 2 and 3, else 0
@@ -239,7 +270,8 @@ judge limit kind s m x r =
     (pick (invalidAllocation r) (plain why.wrongAllocation)
     (pick (r .unsupported) (plain why.notSupported)
     (pick (breaksRule s m x r) (plain why.brokenRule)
-    (pick (noRoom limit kind s m x r) (plain why.noRoom) (plain why.accepted)))))
+    (pick (noRoom limit kind s m x r) (plain why.noRoom)
+    (pick (noAddress s m r) (plain why.noAddress) (plain why.accepted))))))
 
 -- the session at entry, in a request without a fault
 unfoldable pub entrySession : Sessions → List ℕ → Session
@@ -266,5 +298,5 @@ unfoldable pub verdict : ℕ → Settings → Sessions → List ℕ → Verdict
 verdict limit s m msg = pick (unknownSession m msg) (plain why.noSession) (fromFraming limit s m msg (frameFault msg))
 
 unfoldable pub computing : ℕ
-unfolding hasSeid sessionOf isLive newSession unnamed atEntry createdPdrs createdEndpoints updatedPdrs livePdrs liveEndpoints namesOneOf goesPdr removedPdrs fteidsOf wrongAllocation invalidAllocation idTwice createdLive absentId updatesRemoved namesBoth endpointIdsAfter namesAbsent sameChoice alikeFteids fteidsMayShare localsMayShare choicesAgree lacksFamily otherAddress strange restoredHolding endpointRestored pdrRestored restoredHoldings clash requestRules brokenRules breaksRule tooManySessions tooManyPdrs tooManyEndpoints tooFewTeids noRoom judge entrySession judged fromReading fromFraming unknownSession verdict
+unfolding hasSeid sessionOf isLive newSession unnamed atEntry createdPdrs createdEndpoints updatedPdrs livePdrs liveEndpoints namesOneOf goesPdr removedPdrs fteidsOf addressesOf wrongAllocation invalidAllocation idTwice createdLive absentId updatesRemoved namesBoth endpointIdsAfter namesAbsent sameChoice alikeFteids fteidsMayShare localsMayShare choicesAgree lacksFamily otherAddress strange restoredHolding endpointRestored pdrRestored restoredHoldings clash wrongAddress restoredAddresses addressClash requestRules brokenRules breaksRule tooManySessions tooManyPdrs tooManyEndpoints tooFewTeids noRoom noAddress judge entrySession judged fromReading fromFraming unknownSession verdict
 computing = 0

@@ -34,6 +34,10 @@ fteid = 21
 abbrev pub precedence : ℕ
 precedence = 29
 
+-- an IPv4 address of a patient's device (02 (v))
+abbrev pub ueIpAddress : ℕ
+ueIpAddress = 93
+
 abbrev pub pdrId : ℕ
 pdrId = 56
 

@@ -14,7 +14,7 @@ use Rattle.octets.proofs.Ordered.{keep-passes}
 use Rattle.rules.specs.Model.{Pdr, Endpoint, Csid, Session, pdrId, endpointId, nodeTypeOf}
 use Rattle.rules.specs.Elements.{Fqcsid, sets, removal}
 use Rattle.rules.specs.Reading.{cleared, changed}
-use Rattle.rules.specs.Grants.{Kind}
+use Rattle.rules.specs.Grants.{Kind, Got}
 use Rattle.rules.specs.Stages.{removedPdrs}
 use Rattle.rules.specs.Apply.{createPdr, createEndpoint, updateAll, otherNode, setCsid, setCsids, followCsids, keptPdr, keptEndpoint, pdrsAfter, endpointsAfter, apply}
 use Rattle.plan.specs.Rows.{word, hasTag, tagged, rowEndpointId, rowPdr, rowEndpoint, rowChange, rowAddress, rowCsid, isNullRow, requestIn}
@@ -98,7 +98,7 @@ csids-in-turn rows cs only = go (any isNullRow rows) refl
 -- ---- the session
 
 -- what the stages before have found of the rows and the session at entry, and what was granted
-pub record Ready (teids : Kind → ℕ → ℕ) (gone : List ℕ) (rows : List (List ℕ)) (x : Session) : Type 0 where
+pub record Ready (got : Kind → ℕ → Got) (gone : List ℕ) (rows : List (List ℕ)) (x : Session) : Type 0 where
   pub endpointRows : T (all endpointRow (tagged ie.createEndpoint rows))
   pub pdrRows : T (all pdrRow (tagged ie.createPdr rows))
   pub csidRows : T (all csidRow (tagged ie.fqcsid rows))
@@ -108,11 +108,11 @@ pub record Ready (teids : Kind → ℕ → ℕ) (gone : List ℕ) (rows : List (
   pub endpointsNew : T (not (anyIn (map endpointId (map endpointOf (tagged ie.createEndpoint rows))) (map endpointId (x .endpoints))))
   pub pdrsOnce : T (not (hasRepeat (map pdrId (map pdrOf (tagged ie.createPdr rows)))))
   pub pdrsNew : T (not (anyIn (map pdrId (map pdrOf (tagged ie.createPdr rows))) (map pdrId (x .pdrs))))
-  pub endpointTeids : map (createEndpoint teids) (map rowEndpoint (tagged ie.createEndpoint rows)) ≡ map endpointOf (tagged ie.createEndpoint rows)
-  pub pdrTeids : map (createPdr teids) (map rowPdr (tagged ie.createPdr rows)) ≡ map pdrOf (tagged ie.createPdr rows)
+  pub endpointGot : map (createEndpoint got) (map rowEndpoint (tagged ie.createEndpoint rows)) ≡ map endpointOf (tagged ie.createEndpoint rows)
+  pub pdrGot : map (createPdr got) (map rowPdr (tagged ie.createPdr rows)) ≡ map pdrOf (tagged ie.createPdr rows)
   pub onlyNull : any isNullRow (tagged ie.fqcsid rows) ≡ true → collect rowCsid (tagged ie.fqcsid rows) ≡ []
 
-module _ (teids : Kind → ℕ → ℕ) (gone : List ℕ) (rows : List (List ℕ)) {x : Session} {s : List ℕ} (h : Slot x s) (k : Ready teids gone rows x) where
+module _ (got : Kind → ℕ → Got) (gone : List ℕ) (rows : List (List ℕ)) {x : Session} {s : List ℕ} (h : Slot x s) (k : Ready got gone rows x) where
   abbrev q : ℕ → List (List ℕ)
   q t = tagged t rows
 
@@ -140,20 +140,20 @@ module _ (teids : Kind → ℕ → ℕ) (gone : List ℕ) (rows : List (List ℕ
       subst (λ (es : List Endpoint). Slot (setEndpoints (setPdrs x keptPs) es) (passed ie.removeEndpoint rows (withoutPdrs gone s))) kept-endpoints
       (by-pass ie.removeEndpoint (withoutPdrs gone s) (endpoints-out (q ie.removeEndpoint) (tagged-tags ie.removeEndpoint rows) a))
 
-  new-endpoints : putIn endpointId (map endpointOf (q ie.createEndpoint)) keptEs ≡ insertAll endpointId (map (createEndpoint teids) (map rowEndpoint (q ie.createEndpoint))) keptEs
+  new-endpoints : putIn endpointId (map endpointOf (q ie.createEndpoint)) keptEs ≡ insertAll endpointId (map (createEndpoint got) (map rowEndpoint (q ie.createEndpoint))) keptEs
   new-endpoints =
       put-in endpointId (map endpointOf (q ie.createEndpoint)) keptEs (k .endpointsOnce)
       (none-of-kept endpointId (keptEndpoint (map rowEndpointId (q ie.removeEndpoint))) (map endpointId (map endpointOf (q ie.createEndpoint))) (x .endpoints) (k .endpointsNew))
-      ∙ ap (λ (es : List Endpoint). insertAll endpointId es keptEs) (sym (k .endpointTeids))
+      ∙ ap (λ (es : List Endpoint). insertAll endpointId es keptEs) (sym (k .endpointGot))
 
-  new-pdrs : putIn pdrId (map pdrOf (q ie.createPdr)) keptPs ≡ insertAll pdrId (map (createPdr teids) (map rowPdr (q ie.createPdr))) keptPs
+  new-pdrs : putIn pdrId (map pdrOf (q ie.createPdr)) keptPs ≡ insertAll pdrId (map (createPdr got) (map rowPdr (q ie.createPdr))) keptPs
   new-pdrs =
       put-in pdrId (map pdrOf (q ie.createPdr)) keptPs (k .pdrsOnce)
       (none-of-kept pdrId (keptPdr gone) (map pdrId (map pdrOf (q ie.createPdr))) (x .pdrs) (k .pdrsNew))
-      ∙ ap (λ (ps : List Pdr). insertAll pdrId ps keptPs) (sym (k .pdrTeids))
+      ∙ ap (λ (ps : List Pdr). insertAll pdrId ps keptPs) (sym (k .pdrGot))
 
   -- the session that the plan builds, where those that go are the rules'
-  pub built-session : (seid : ℕ) (restoring noted : Bool) → gone ≡ removedPdrs (requestIn seid restoring noted rows) (x .pdrs) → Slot (apply teids (requestIn seid restoring noted rows) x) (built gone rows s)
+  pub built-session : (seid : ℕ) (restoring noted : Bool) → gone ≡ removedPdrs (requestIn seid restoring noted rows) (x .pdrs) → Slot (apply got (requestIn seid restoring noted rows) x) (built gone rows s)
   unfolding built apply requestIn pdrsAfter endpointsAfter
   built-session seid restoring noted e =
       let s₂ = passed ie.removeEndpoint rows (withoutPdrs gone s) in
@@ -164,7 +164,7 @@ module _ (teids : Kind → ℕ → ℕ) (gone : List ℕ) (rows : List (List ℕ
       subst (λ (y : Session). Slot y (passed ie.fqcsid rows (passed ie.updatePdr rows (passed ie.createPdr rows (passed ie.createEndpoint rows (passed ie.removeEndpoint rows (withoutPdrs gone s)))))))
       (λ i. record {
         seid = x .seid;
-        pdrs = updateAll (map rowChange (q ie.updatePdr)) ((new-pdrs ∙ ap (λ (g : List ℕ). insertAll pdrId (map (createPdr teids) (map rowPdr (q ie.createPdr))) (keep (keptPdr g) (x .pdrs))) e) i);
+        pdrs = updateAll (map rowChange (q ie.updatePdr)) ((new-pdrs ∙ ap (λ (g : List ℕ). insertAll pdrId (map (createPdr got) (map rowPdr (q ie.createPdr))) (keep (keptPdr g) (x .pdrs))) e) i);
         endpoints = new-endpoints i;
         csids = csids-in-turn (q ie.fqcsid) (x .csids) (k .onlyNull) i;
       }) d

@@ -149,7 +149,7 @@ update-id : (row : List ℕ) (p : Pdr) → pdrId (updatePdr (rowChange row) p) �
 unfolding updatePdr
 update-id row p = go (eqb (p .id) (rowChange row .id))
   where
-    go : (b : Bool) → pdrId (pick {X = Pdr} b (record { id = p .id; precedence = orOld (p .precedence) (rowChange row .precedence); far = orOld (p .far) (rowChange row .far); source = p .source; place = p .place }) p) ≡ p .id
+    go : (b : Bool) → pdrId (pick {X = Pdr} b (record { id = p .id; precedence = orOld (p .precedence) (rowChange row .precedence); far = orOld (p .far) (rowChange row .far); source = p .source; place = p .place; address = p .address }) p) ≡ p .id
     go true = refl
     go false = refl
 
@@ -177,7 +177,7 @@ one-update row {x} {s} h =
     k = held-pdrs h
 
     d : Pdr
-    d = record { id = 0; precedence = 0; far = none; source = 0; place = neither }
+    d = record { id = 0; precedence = 0; far = none; source = 0; place = neither; address = none }
 
     go : (q : Place) → lookup (word its.pdrId row) (map pdrId (x .pdrs)) ≡ q → Slot (setPdrs x (map (updatePdr (rowChange row)) (x .pdrs))) (atPlace q (λ p. updatedAt row p s) (λ p. s))
     go (Found n) e =

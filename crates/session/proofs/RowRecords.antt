@@ -15,14 +15,14 @@ use Rattle.octets.specs.Octets.{be, number, bit}
 use Rattle.octets.specs.Fields.{fieldOctets}
 use Rattle.octets.proofs.Numbers.{bytes-be}
 use Rattle.octets.proofs.Digits.{be-back, octets-append, take-octets, drop-octets}
-use Rattle.rules.specs.Model.{Tunnel, Pdr, Endpoint, Csid}
-use Rattle.rules.specs.Elements.{given, choose}
-use Rattle.rules.specs.Layout.{families, pdrWidths, matchKind, matchTeid, matchFamilies, matchEndpoint, pdrNumbers, endpointNumbers, csidSlotWidths, csidSlotNumbers, pdrOctets, endpointOctets, csidOctets}
-use Rattle.rules.specs.Grants.{Kind}
-use Rattle.rules.specs.Apply.{tunnelFrom, namedPlace, placeFrom, createPdr, createEndpoint}
-use Rattle.plan.specs.Rows.{word, present, fteidFrom, rowFteid, rowLocal, rowPdr, rowEndpoint, rowAddress}
+use Rattle.rules.specs.Model.{Tunnel, Place, Pdr, Endpoint, Csid}
+use Rattle.rules.specs.Elements.{given, choose, ueGiven, ueChoose, ueOther}
+use Rattle.rules.specs.Layout.{families, pdrWidths, endpointWidths, matchKind, matchTeid, matchFamilies, matchEndpoint, pdrNumbers, endpointNumbers, csidSlotWidths, csidSlotNumbers, pdrOctets, endpointOctets, csidOctets}
+use Rattle.rules.specs.Grants.{Kind, Got}
+use Rattle.rules.specs.Apply.{tunnelFrom, namedPlace, placeFrom, addressGot, addressFrom, createPdr, createEndpoint}
+use Rattle.plan.specs.Rows.{word, present, fteidFrom, rowFteid, rowLocal, ueFrom, rowUe, rowPdr, rowEndpoint, rowAddress}
 use Rattle.plan.specs.Words as its
-use Rattle.session.specs.Records.{ifIs, placeKind, pdrValues, pdrRecord, endpointRecord, csidWidths, csidValues, csidRecord}
+use Rattle.session.specs.Records.{ifIs, addressThere, placeKind, pdrValues, pdrRecord, endpointValues, endpointRecord, csidWidths, csidValues, csidRecord}
 
 -- a number of one octet
 pub one-octet : (n : ℕ) → n < 256 → be 1 n ≡ n ∷ []
@@ -68,9 +68,9 @@ tunnel-octets row =
 
 -- ---- PDR
 
--- the TEID of a row's CHOOSE stands in its word
-abbrev pub ofRow : List ℕ → Kind → ℕ → ℕ
-ofRow row k i = word its.teid row
+-- what a row's CHOOSEs got stands in its words
+abbrev pub ofRow : List ℕ → Kind → ℕ → Got
+ofRow row k i = record { teid = word its.teid row; address = word its.ueAddress row }
 
 unfoldable pub pdrOf : List ℕ → Pdr
 pdrOf row = createPdr (ofRow row) (rowPdr row)
@@ -98,12 +98,37 @@ place-numbers row rest = go (eqb (word its.flags row) 0) (eqb (word its.hasEndpo
     go true false = unfold placeFrom namedPlace matchKind matchTeid matchFamilies matchEndpoint in refl
     go false ep = let e = tunnel-octets row in unfold placeFrom matchKind matchTeid matchFamilies matchEndpoint rowTunnel in (rw (e .1, e .0))
 
+-- ---- addresses
+
+address-numbers : (row : List ℕ)
+    → let o = addressFrom (word its.ueAddress row) (rowUe row) in
+    addressThere row ∷ ifIs (addressThere row) 1 (word its.ueAddress row) ∷ [] ≡ flag (isSome o) ∷ valueOr 0 o ∷ []
+unfolding addressThere ifIs rowUe ueFrom addressFrom
+address-numbers row = go (eqb (word its.ueKind row) 0) refl (eqb (word its.ueKind row) 1) refl (eqb (word its.ueKind row) 2) refl
+  where
+    a : ℕ
+    a = word its.ueAddress row
+
+    go : (none? : Bool) → eqb (word its.ueKind row) 0 ≡ none? → (one : Bool) → eqb (word its.ueKind row) 1 ≡ one → (two : Bool) → eqb (word its.ueKind row) 2 ≡ two
+        → let there : ℕ = pick one 1 (pick two 1 0) in
+        let o = addressFrom a (pick none? none (some (pick one (ueGiven a) (pick two ueChoose ueOther)))) in
+        there ∷ pick (eqb there 1) a 0 ∷ [] ≡ flag (isSome o) ∷ valueOr 0 o ∷ []
+    go true e₀ true e₁ two e₂ = let z = eqb-true (word its.ueKind row) 0 e₀ in let y = eqb-true (word its.ueKind row) 1 e₁ in absurd (omega arith)
+    go true e₀ false e₁ true e₂ = let z = eqb-true (word its.ueKind row) 0 e₀ in let y = eqb-true (word its.ueKind row) 2 e₂ in absurd (omega arith)
+    go true e₀ false e₁ false e₂ = unfold addressFrom in refl
+    go false e₀ true e₁ two e₂ = unfold addressFrom addressGot in refl
+    go false e₀ false e₁ true e₂ = unfold addressFrom addressGot in refl
+    go false e₀ false e₁ false e₂ = unfold addressFrom addressGot in refl
+
 pub pdr-record : (row : List ℕ) → pdrRecord row ≡ pdrOctets (pdrOf row)
 unfolding pdrRecord pdrValues pdrOctets pdrNumbers pdrOf createPdr rowPdr
 pdr-record row =
     ap (λ (l : List ℕ). fieldOctets pdrWidths (word its.pdrId row ∷ word its.precedence row ∷ l))
     (far-numbers (word its.hasFarId row) (word its.farId row) _
-    ∙ ap (λ (l : List ℕ). flag (isSome (present (word its.hasFarId row) (word its.farId row))) ∷ valueOr 0 (present (word its.hasFarId row) (word its.farId row)) ∷ word its.source row ∷ l) (place-numbers row []))
+    ∙ ap (λ (l : List ℕ). flag (isSome (present (word its.hasFarId row) (word its.farId row))) ∷ valueOr 0 (present (word its.hasFarId row) (word its.farId row)) ∷ word its.source row ∷ l) (place-numbers row _ ∙ ap (λ (l : List ℕ). matchKind place ∷ matchTeid place ∷ matchFamilies place ∷ matchEndpoint place ∷ l) (address-numbers row)))
+  where
+    place : Place
+    place = placeFrom (word its.teid row) (rowLocal row) (present (word its.hasEndpointId row) (word its.endpointId row))
 
 -- ---- endpoint
 
@@ -111,8 +136,10 @@ unfoldable pub endpointOf : List ℕ → Endpoint
 endpointOf row = createEndpoint (ofRow row) (rowEndpoint row)
 
 pub endpoint-record : (row : List ℕ) → endpointRecord row ≡ endpointOctets (endpointOf row)
-unfolding endpointRecord endpointOctets endpointNumbers endpointOf createEndpoint rowEndpoint rowTunnel
-endpoint-record row = let e = tunnel-octets row in rw (e .1, e .0)
+unfolding endpointRecord endpointValues endpointOctets endpointNumbers endpointOf createEndpoint rowEndpoint rowTunnel
+endpoint-record row =
+    let e = tunnel-octets row in
+    ap (λ (l : List ℕ). fieldOctets endpointWidths (word its.endpointId row ∷ word its.teid row ∷ word its.flags row % 4 ∷ l)) (address-numbers row) ∙ rw (e .1, e .0)
 
 -- ---- FQ-CSID
 

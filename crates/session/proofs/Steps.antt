@@ -18,7 +18,7 @@ use Rattle.octets.specs.Fields.{widthOf, fieldOctets}
 use Rattle.octets.proofs.FieldLaws.{length-fieldOctets}
 use Rattle.plan.specs.Rows.{word, hasTag, rowWidth}
 use Rattle.rules.specs.Types as ie
-use Rattle.rules.specs.Layout.{pdrWidth, csidWidth, pdrsAt, sessionWidth}
+use Rattle.rules.specs.Layout.{pdrWidths, endpointWidths, pdrWidth, endpointWidth, csidWidth, pdrsAt, sessionWidth}
 use Rattle.rules.specs.Limits.{maxPdrs}
 use Rattle.plan.specs.Words as its
 use Rattle.slots.specs.declared.Place.{Place}
@@ -28,7 +28,7 @@ use Rattle.areas.specs.declared.Area.{Area}
 use Rattle.areas.specs.Counted.{Fits, areaIn, placeIn, replacedIn, clearedIn, withRecord, withoutRecord}
 use Rattle.areas.proofs.Steps.{found-room}
 use Rattle.session.specs.Areas.{pdrArea, endpointArea, csidArea}
-use Rattle.session.specs.Records.{ifIs, placeKind, pdrValues, pdrRecord, endpointRecord, csidWidths, csidValues, csidRecord, withPrecedence, withFar, updatedRecord}
+use Rattle.session.specs.Records.{ifIs, addressThere, placeKind, pdrValues, pdrRecord, endpointValues, endpointRecord, csidWidths, csidValues, csidRecord, withPrecedence, withFar, updatedRecord}
 use Rattle.session.specs.Build.{withoutPdrs, updatedAt, updatedPdr, followedCsid, rowApplied, passed, built}
 
 -- ---- the areas fit a slot
@@ -49,7 +49,7 @@ pdr-wide a n e h = rw (e, h)
 pub pdr-room : (a : Area) (p : ℕ) → a ≡ pdrArea → p < 16 → p < a .room
 pdr-room a p e h = rw e h
 
-pub endpoint-wide : (a : Area) (n : ℕ) → a ≡ endpointArea → n ≡ 6 → n ≡ a .width
+pub endpoint-wide : (a : Area) (n : ℕ) → a ≡ endpointArea → n ≡ endpointWidth → n ≡ a .width
 endpoint-wide a n e h = rw (e, h)
 
 pub csid-wide : (a : Area) (n : ℕ) → a ≡ csidArea → n ≡ csidWidth → n ≡ a .width
@@ -65,18 +65,32 @@ put-all xs s e = ap (λ (l : List ℕ). xs ++ l) (drop-of-length-le s {i = 0 + l
 pub written-whole : (ws vs s out : List ℕ) → length vs ≡ length ws → widthOf ws ≡ length s → out ≡ put 0 (fieldOctets ws vs) s → out ≡ fieldOctets ws vs
 written-whole ws vs s out e w q = q ∙ put-all (fieldOctets ws vs) s (length-fieldOctets ws vs e ∙ w)
 
-pub pdr-written : (row s out : List ℕ) (there far kind teid families endpoint : ℕ) → pdrWidth ≡ length s
+pub pdr-written : (row s out : List ℕ) (there far kind teid families endpoint held address : ℕ) → pdrWidth ≡ length s
     → kind ≡ placeKind row → there ≡ ifIs (word its.hasFarId row) 1 1 → far ≡ ifIs (word its.hasFarId row) 1 (word its.farId row) → teid ≡ ifIs kind 1 (word its.teid row)
     → families ≡ ifIs kind 1 (word its.flags row % 4) → endpoint ≡ ifIs kind 2 (word its.endpointId row)
-    → out ≡ put 0 (fieldOctets (2 ∷ 4 ∷ 1 ∷ 4 ∷ 1 ∷ 1 ∷ 4 ∷ 1 ∷ 1 ∷ []) (word its.pdrId row ∷ word its.precedence row ∷ there ∷ far ∷ word its.source row ∷ kind ∷ teid ∷ families ∷ endpoint ∷ [])) s
+    → held ≡ addressThere row → address ≡ ifIs held 1 (word its.ueAddress row)
+    → out ≡ put 0 (fieldOctets pdrWidths (word its.pdrId row ∷ word its.precedence row ∷ there ∷ far ∷ word its.source row ∷ kind ∷ teid ∷ families ∷ endpoint ∷ held ∷ address ∷ [])) s
     → out ≡ pdrRecord row
 unfolding pdrRecord pdrValues
-pdr-written row s out there far kind teid families endpoint long k a b c d e q =
-    written-whole _ _ s out refl long q ∙ rw (a, b, c, d, e, k)
+pdr-written row s out there far kind teid families endpoint held address long k a b c d e l m q =
+    written-whole _ _ s out refl long q ∙ rw (a, b, c, d, e, k, m, l)
 
-pub endpoint-written : (row s out : List ℕ) → 6 ≡ length s → out ≡ put 0 (fieldOctets (1 ∷ 4 ∷ 1 ∷ []) (word its.endpointId row ∷ word its.teid row ∷ word its.flags row % 4 ∷ [])) s → out ≡ endpointRecord row
-unfolding endpointRecord
-endpoint-written row s out long q = written-whole _ _ s out refl long q
+pub endpoint-written : (row s out : List ℕ) (held address : ℕ) → endpointWidth ≡ length s → held ≡ addressThere row → address ≡ ifIs held 1 (word its.ueAddress row)
+    → out ≡ put 0 (fieldOctets endpointWidths (word its.endpointId row ∷ word its.teid row ∷ word its.flags row % 4 ∷ held ∷ address ∷ [])) s → out ≡ endpointRecord row
+unfolding endpointRecord endpointValues
+endpoint-written row s out held address long l m q = written-whole _ _ s out refl long q ∙ rw (m, l)
+
+pub there-given : (row : List ℕ) → word its.ueKind row ≡ 1 → 1 ≡ addressThere row
+unfolding addressThere
+there-given row h = sym (rw h)
+
+pub there-chosen : (row : List ℕ) → (word its.ueKind row ≡ 1 → ⊥) → word its.ueKind row ≡ 2 → 1 ≡ addressThere row
+unfolding addressThere
+there-chosen row g h = sym (rw h)
+
+pub there-none : (row : List ℕ) → (word its.ueKind row ≡ 1 → ⊥) → (word its.ueKind row ≡ 2 → ⊥) → 0 ≡ addressThere row
+unfolding addressThere
+there-none row g h = sym (rw (ne-eqb (word its.ueKind row) 1 g, ne-eqb (word its.ueKind row) 2 h))
 
 pub csid-long : (row s out : List ℕ) → csidWidth ≡ length s → word its.idType row ≡ 1
     → out ≡ put 0 (fieldOctets (1 ∷ 1 ∷ 8 ∷ 8 ∷ 0 ∷ 2 ∷ []) (word its.nodeType row ∷ word its.idType row ∷ word its.addressHigh row ∷ word its.addressLow row ∷ 0 ∷ word its.csid row ∷ [])) s → out ≡ csidRecord row
@@ -231,7 +245,7 @@ pub record Passing (kind n : ℕ) (plan s₀ s : List ℕ) (i : ℕ) : Type 0 wh
 
 -- the row at i, the rows from it on, and its tag
 abbrev rowAt : ℕ → List ℕ → List ℕ
-rowAt i plan = part (i * rowWidth) 18 plan
+rowAt i plan = part (i * rowWidth) rowWidth plan
 
 first-row : (n i : ℕ) (plan : List ℕ) → i < n → drop i (slices rowWidth n plan) ≡ rowAt i plan ∷ drop (i + 1) (slices rowWidth n plan)
 first-row n i plan h =
@@ -239,7 +253,7 @@ first-row n i plan h =
     ∙ (λ j. getD-slices rowWidth n i plan h j ∷ drop (sym (add-one i) j) (slices rowWidth n plan))
 
 tag-of : (i : ℕ) (plan : List ℕ) → word its.tag (rowAt i plan) ≡ getD plan (i * rowWidth) 0
-tag-of i plan = getD-part (i * rowWidth) 18 0 plan (omega arith) ∙ ap (λ (k : ℕ). getD plan k 0) (let e : i * rowWidth + 0 ≡ i * rowWidth = omega arith in e)
+tag-of i plan = getD-part (i * rowWidth) rowWidth 0 plan (omega arith) ∙ ap (λ (k : ℕ). getD plan k 0) (let e : i * rowWidth + 0 ≡ i * rowWidth = omega arith in e)
 
 -- one row more, by whether it has the tag
 row-passed : (kind : ℕ) (row : List ℕ) (rows : List (List ℕ)) (s : List ℕ) (b : Bool) → eqb (word its.tag row) kind ≡ b → passed kind (row ∷ rows) s ≡ passed kind rows (pick b (rowApplied row s) s)
@@ -251,7 +265,7 @@ module _ {kind n : ℕ} {plan s₀ : List ℕ} where
   passing-none h e = record { within = omega arith; rows = h; size = e; long = refl; rest = refl }
 
   module _ {s : List ℕ} {i : ℕ} (p : Passing kind n plan s₀ s i) (less : i < n) where
-    pub passing-hit : (end : ℕ) (s′ : List ℕ) → end ≡ i * rowWidth + 18 → getD plan (i * rowWidth) 0 ≡ kind → length s′ ≡ length s
+    pub passing-hit : (end : ℕ) (s′ : List ℕ) → end ≡ i * rowWidth + rowWidth → getD plan (i * rowWidth) 0 ≡ kind → length s′ ≡ length s
         → s′ ≡ rowApplied (take (end - i * rowWidth) (drop (i * rowWidth) plan)) s → Passing kind n plan s₀ s′ (i + 1)
     unfolding passed hasTag
     passing-hit end s′ ee tag l e =

@@ -26,30 +26,30 @@ use Rattle.session.specs.Records.{withPrecedence, withFar, updatedRecord
 -- a PDR with what a row names replaced
 unfoldable pub changed : List ℕ → Pdr → Pdr
 changed row p =
-    record { id = p .id; precedence = orOld (p .precedence) (rowChange row .precedence); far = orOld (p .far) (rowChange row .far); source = p .source; place = p .place }
+    record { id = p .id; precedence = orOld (p .precedence) (rowChange row .precedence); far = orOld (p .far) (rowChange row .far); source = p .source; place = p .place; address = p .address }
 
 -- the octets of a PDR by its fields
-pdr-fields : ℕ → ℕ → Option ℕ → ℕ → Place → Pdr
-pdr-fields i n f s q = record { id = i; precedence = n; far = f; source = s; place = q }
+pdr-fields : ℕ → ℕ → Option ℕ → ℕ → Place → Option ℕ → Pdr
+pdr-fields i n f s q u = record { id = i; precedence = n; far = f; source = s; place = q; address = u }
 
-put-precedence : (i n m : ℕ) (f : Option ℕ) (s : ℕ) (q : Place) → put 2 (be 4 m) (pdrOctets (pdr-fields i n f s q)) ≡ pdrOctets (pdr-fields i m f s q)
+put-precedence : (i n m : ℕ) (f : Option ℕ) (s : ℕ) (q : Place) (u : Option ℕ) → put 2 (be 4 m) (pdrOctets (pdr-fields i n f s q u)) ≡ pdrOctets (pdr-fields i m f s q u)
 unfolding pdrOctets pdrNumbers pdr-fields
-put-precedence i n m f s q = put-field 1 pdrWidths (pdrNumbers (pdr-fields i n f s q)) m (lit< tt) refl
+put-precedence i n m f s q u = put-field 1 pdrWidths (pdrNumbers (pdr-fields i n f s q u)) m (lit< tt) refl
 
 -- a FAR ID is two fields
-put-far : (i n : ℕ) (f g : Option ℕ) (s : ℕ) (q : Place) → put 7 (be 4 (valueOr 0 g)) (put 6 (be 1 (flag (isSome g))) (pdrOctets (pdr-fields i n f s q))) ≡ pdrOctets (pdr-fields i n g s q)
+put-far : (i n : ℕ) (f g : Option ℕ) (s : ℕ) (q : Place) (u : Option ℕ) → put 7 (be 4 (valueOr 0 g)) (put 6 (be 1 (flag (isSome g))) (pdrOctets (pdr-fields i n f s q u))) ≡ pdrOctets (pdr-fields i n g s q u)
 unfolding pdrOctets pdrNumbers pdr-fields
-put-far i n f g s q =
-    ap (put 7 (be 4 (valueOr 0 g))) (put-field 2 pdrWidths (pdrNumbers (pdr-fields i n f s q)) (flag (isSome g)) (lit< tt) refl)
-    ∙ put-field 3 pdrWidths (set (pdrNumbers (pdr-fields i n f s q)) 2 (flag (isSome g))) (valueOr 0 g) (lit< tt) refl
+put-far i n f g s q u =
+    ap (put 7 (be 4 (valueOr 0 g))) (put-field 2 pdrWidths (pdrNumbers (pdr-fields i n f s q u)) (flag (isSome g)) (lit< tt) refl)
+    ∙ put-field 3 pdrWidths (set (pdrNumbers (pdr-fields i n f s q u)) 2 (flag (isSome g))) (valueOr 0 g) (lit< tt) refl
 
-precedence-changed : (row : List ℕ) (i n : ℕ) (f : Option ℕ) (s : ℕ) (q : Place)
-    → withPrecedence row (pdrOctets (pdr-fields i n f s q)) ≡ pdrOctets (pdr-fields i (orOld n (rowChange row .precedence)) f s q)
+precedence-changed : (row : List ℕ) (i n : ℕ) (f : Option ℕ) (s : ℕ) (q : Place) (u : Option ℕ)
+    → withPrecedence row (pdrOctets (pdr-fields i n f s q u)) ≡ pdrOctets (pdr-fields i (orOld n (rowChange row .precedence)) f s q u)
 unfolding withPrecedence rowChange present
-precedence-changed row i n f s q = go (eqb (word its.hasPrecedence row) 1)
+precedence-changed row i n f s q u = go (eqb (word its.hasPrecedence row) 1)
   where
-    go : (b : Bool) → pick b (put 2 (be 4 (word its.precedence row)) (pdrOctets (pdr-fields i n f s q))) (pdrOctets (pdr-fields i n f s q)) ≡ pdrOctets (pdr-fields i (orOld n (pick b (some (word its.precedence row)) none)) f s q)
-    go true = unfold orOld in (put-precedence i n (word its.precedence row) f s q)
+    go : (b : Bool) → pick b (put 2 (be 4 (word its.precedence row)) (pdrOctets (pdr-fields i n f s q u))) (pdrOctets (pdr-fields i n f s q u)) ≡ pdrOctets (pdr-fields i (orOld n (pick b (some (word its.precedence row)) none)) f s q u)
+    go true = unfold orOld in (put-precedence i n (word its.precedence row) f s q u)
     go false = unfold orOld in refl
 
 not-both : (n : ℕ) → eqb n 1 ≡ true → eqb n 2 ≡ false
@@ -63,24 +63,24 @@ far-none t h =
     let e : zeros 5 ≡ be 1 0 ++ be 4 0 = unfold be zeros in refl in
     ap (λ (l : List ℕ). put 6 l t) e ∙ sym (put-put 6 1 (be 1 0) (be 4 0) t (length-be 1 0) h)
 
-far-changed : (row : List ℕ) (i n : ℕ) (f : Option ℕ) (s : ℕ) (q : Place)
-    → withFar row (pdrOctets (pdr-fields i n f s q)) ≡ pdrOctets (pdr-fields i n (orOld f (rowChange row .far)) s q)
+far-changed : (row : List ℕ) (i n : ℕ) (f : Option ℕ) (s : ℕ) (q : Place) (u : Option ℕ)
+    → withFar row (pdrOctets (pdr-fields i n f s q u)) ≡ pdrOctets (pdr-fields i n (orOld f (rowChange row .far)) s q u)
 unfolding withFar rowChange rowFar
-far-changed row i n f s q = go (eqb (word its.hasFarId row) 1) (eqb (word its.hasFarId row) 2) (not-both (word its.hasFarId row))
+far-changed row i n f s q u = go (eqb (word its.hasFarId row) 1) (eqb (word its.hasFarId row) 2) (not-both (word its.hasFarId row))
   where
     t : List ℕ
-    t = pdrOctets (pdr-fields i n f s q)
+    t = pdrOctets (pdr-fields i n f s q u)
 
     go : (one two : Bool) → (one ≡ true → two ≡ false)
         → pick one (put 7 (be 4 (word its.farId row)) (put 6 (be 1 1) t)) (pick two (put 6 (zeros 5) t) t)
-        ≡ pdrOctets (pdr-fields i n (orOld f (pick two (some none) (pick one (some (some (word its.farId row))) none))) s q)
+        ≡ pdrOctets (pdr-fields i n (orOld f (pick two (some none) (pick one (some (some (word its.farId row))) none))) s q u)
     go true true h = absurd (false≢true (sym (h refl)))
-    go true false h = unfold orOld in (put-far i n f (some (word its.farId row)) s q)
-    go false true h = unfold orOld in (far-none t (pdr-long (pdr-fields i n f s q)) ∙ put-far i n f none s q)
+    go true false h = unfold orOld in (put-far i n f (some (word its.farId row)) s q u)
+    go false true h = unfold orOld in (far-none t (pdr-long (pdr-fields i n f s q u)) ∙ put-far i n f none s q u)
     go false false h = unfold orOld in refl
 
 pub record-changed : (row : List ℕ) (p : Pdr) → updatedRecord row (pdrOctets p) ≡ pdrOctets (changed row p)
 unfolding updatedRecord changed pdr-fields
 record-changed row p =
-    ap (withFar row) (precedence-changed row (p .id) (p .precedence) (p .far) (p .source) (p .place))
-    ∙ far-changed row (p .id) (orOld (p .precedence) (rowChange row .precedence)) (p .far) (p .source) (p .place)
+    ap (withFar row) (precedence-changed row (p .id) (p .precedence) (p .far) (p .source) (p .place) (p .address))
+    ∙ far-changed row (p .id) (orOld (p .precedence) (rowChange row .precedence)) (p .far) (p .source) (p .place) (p .address)

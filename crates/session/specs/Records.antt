@@ -1,5 +1,5 @@
--- The octets that a row of the plan gives a record, and what an Update PDR's row makes of a PDR's octets. A TEID stands in its word of the
--- row whether it was given or chosen.
+-- The octets that a row of the plan gives a record, and what an Update PDR's row makes of a PDR's octets. A TEID and an address stand in their
+-- words of the row whether they were given or chosen.
 -- Assumes nothing.
 use Prim.Native.Nat.{ℕ, _%_}
 use mathlib.Core.List.{List, [], _∷_}
@@ -14,6 +14,10 @@ use Rattle.plan.specs.Words as its
 -- a word that counts if another word has a value
 unfoldable pub ifIs : ℕ → ℕ → ℕ → ℕ
 ifIs there n v = pick (eqb there n) v 0
+
+-- 1 if there is an address, given or chosen
+unfoldable pub addressThere : List ℕ → ℕ
+addressThere row = pick (eqb (word its.ueKind row) 1) 1 (pick (eqb (word its.ueKind row) 2) 1 0)
 
 -- ---- PDR
 
@@ -32,6 +36,8 @@ pdrValues row =
     ∷ ifIs (placeKind row) 1 (word its.teid row)
     ∷ ifIs (placeKind row) 1 (word its.flags row % 4)
     ∷ ifIs (placeKind row) 2 (word its.endpointId row)
+    ∷ addressThere row
+    ∷ ifIs (addressThere row) 1 (word its.ueAddress row)
     ∷ []
 
 unfoldable pub pdrRecord : List ℕ → List ℕ
@@ -39,8 +45,17 @@ pdrRecord row = fieldOctets pdrWidths (pdrValues row)
 
 -- ---- endpoint
 
+unfoldable pub endpointValues : List ℕ → List ℕ
+endpointValues row =
+    word its.endpointId row
+    ∷ word its.teid row
+    ∷ word its.flags row % 4
+    ∷ addressThere row
+    ∷ ifIs (addressThere row) 1 (word its.ueAddress row)
+    ∷ []
+
 unfoldable pub endpointRecord : List ℕ → List ℕ
-endpointRecord row = fieldOctets endpointWidths (word its.endpointId row ∷ word its.teid row ∷ word its.flags row % 4 ∷ [])
+endpointRecord row = fieldOctets endpointWidths (endpointValues row)
 
 -- ---- FQ-CSID
 

@@ -1,4 +1,4 @@
-// Building a session in its slot of 483 octets from the IDs of the PDRs that go and the rows of a plan, after every check has passed.
+// Building a session in its slot from the IDs of the PDRs that go and the rows of a plan, after every check has passed.
 //
 // The functions work on any octets of the slot's length; proofs/ says that on a session's octets they make the rules' session.
 ghost use mathlib.Core.Path.{_≡_};

@@ -2,7 +2,7 @@
 use format::words;
 ghost use mathlib.Core.Path.{_≡_};
 ghost use lib.ListN.{length};
-ghost use Rattle.session.specs.Records.{ifIs, placeKind, pdrRecord, endpointRecord, csidRecord, withPrecedence, withFar};
+ghost use Rattle.session.specs.Records.{ifIs, addressThere, placeKind, pdrRecord, endpointRecord, csidRecord, withPrecedence, withFar};
 ghost use Rattle.rules.specs.Layout.{pdrWidth};
 ghost use Rattle.plan.specs.Rows.{rowWidth};
 
@@ -30,12 +30,28 @@ fn place_kind(row: &[u64]) -> u64
     1
 }
 
+// Whether there is an address, given or chosen.
+fn address_there(row: &[u64]) -> u64
+    requires { ⌜ length (now row) ≡ rowWidth ⌝ }
+    ensures { λ r. ⌜ r ≡ addressThere (now (row .entry)) ⌝ }
+{
+    let kind = row[words::UE_KIND];
+    if kind == 1 {
+        return 1;
+    }
+    if kind == 2 {
+        return 1;
+    }
+    0
+}
+
 pub fn pdr(row: &[u64]) -> [u8; format::PDR]
     requires { ⌜ length (now row) ≡ rowWidth ⌝ }
     ensures { λ r. ⌜ r ≡ pdrRecord (now (row .entry)) ⌝ }
 {
     let kind = place_kind(row);
-    let ws = [2usize, 4, 1, 4, 1, 1, 4, 1, 1];
+    let there = address_there(row);
+    let ws = [2usize, 4, 1, 4, 1, 1, 4, 1, 1, 1, 4];
     let vs = [
         row[words::PDR_ID],
         row[words::PRECEDENCE],
@@ -46,6 +62,8 @@ pub fn pdr(row: &[u64]) -> [u8; format::PDR]
         if_is(kind, 1, row[words::TEID]),
         if_is(kind, 1, row[words::FLAGS] % 4),
         if_is(kind, 2, row[words::ENDPOINT_ID]),
+        there,
+        if_is(there, 1, row[words::UE_ADDRESS]),
     ];
     let mut out = [0u8; format::PDR];
     octets::fields::write_fields(&mut out, 0, &ws, &vs);
@@ -56,11 +74,14 @@ pub fn endpoint(row: &[u64]) -> [u8; format::ENDPOINT]
     requires { ⌜ length (now row) ≡ rowWidth ⌝ }
     ensures { λ r. ⌜ r ≡ endpointRecord (now (row .entry)) ⌝ }
 {
-    let ws = [1usize, 4, 1];
+    let there = address_there(row);
+    let ws = [1usize, 4, 1, 1, 4];
     let vs = [
         row[words::ENDPOINT_ID],
         row[words::TEID],
         row[words::FLAGS] % 4,
+        there,
+        if_is(there, 1, row[words::UE_ADDRESS]),
     ];
     let mut out = [0u8; format::ENDPOINT];
     octets::fields::write_fields(&mut out, 0, &ws, &vs);

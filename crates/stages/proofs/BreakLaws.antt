@@ -12,15 +12,15 @@ use Rattle.plan.specs.Rows.{rowWidth, rowsOf}
 use Rattle.lists.proofs.RowLaws.{rows-more, rows-none}
 use Rattle.lists.proofs.Loops.{left-part}
 use Rattle.rows.specs.RowRules.{disagree}
-use Rattle.stages.specs.RowRules.{breaksId, breaksFteid, breaksRow, someRow}
+use Rattle.stages.specs.RowRules.{breaksId, breaksFteid, breaksAddress, breaksRow, someRow}
 
 -- the rest of the rows as a loop has it
 abbrev rest : List ℕ → List ℕ
 rest s = take (length s - rowWidth) (drop rowWidth s)
 
-module _ (held : ℕ → Bool) (set′ : Settings) (pdrs endpoints gone : List ℕ) (rows : List (List ℕ)) where
+module _ (held heldAddress : ℕ → Bool) (set′ : Settings) (restoring : Bool) (pdrs endpoints gone : List ℕ) (rows : List (List ℕ)) where
   abbrev p : List ℕ → Bool
-  p = breaksRow held set′ pdrs endpoints gone rows
+  p = breaksRow held heldAddress set′ restoring pdrs endpoints gone rows
 
   pub some-none : (s : List ℕ) (left : ℕ) → left ≤ 0 → someRow p (rowsOf left s) ≡ false
   unfolding someRow
@@ -43,10 +43,15 @@ module _ (held : ℕ → Bool) (set′ : Settings) (pdrs endpoints gone : List �
       some-fteid b = first ∙ rw (a, b)
 
       module _ (b : breaksFteid held set′ (take rowWidth s) ≡ false) where
-        pub some-pair : any (disagree (take rowWidth s)) (rowsOf (left - 1) (rest s)) ≡ true → someRow p (rowsOf left s) ≡ true
+        pub some-address : breaksAddress heldAddress set′ restoring (take rowWidth s) ≡ true → someRow p (rowsOf left s) ≡ true
         unfolding breaksRow
-        some-pair d = first ∙ rw (a, b, d)
+        some-address e = first ∙ rw (a, b, e)
 
-        pub some-rest : any (disagree (take rowWidth s)) (rowsOf (left - 1) (rest s)) ≡ false → someRow p (rowsOf (left - 1) (rest s)) ≡ someRow p (rowsOf left s)
-        unfolding breaksRow
-        some-rest d = sym (first ∙ rw (a, b, d) (or-false (someRow p (rowsOf (left - 1) (rest s)))))
+        module _ (e : breaksAddress heldAddress set′ restoring (take rowWidth s) ≡ false) where
+          pub some-pair : any (disagree (take rowWidth s)) (rowsOf (left - 1) (rest s)) ≡ true → someRow p (rowsOf left s) ≡ true
+          unfolding breaksRow
+          some-pair d = first ∙ rw (a, b, e, d)
+
+          pub some-rest : any (disagree (take rowWidth s)) (rowsOf (left - 1) (rest s)) ≡ false → someRow p (rowsOf (left - 1) (rest s)) ≡ someRow p (rowsOf left s)
+          unfolding breaksRow
+          some-rest d = sym (first ∙ rw (a, b, e, d) (or-false (someRow p (rowsOf (left - 1) (rest s)))))

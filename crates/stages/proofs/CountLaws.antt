@@ -1,22 +1,28 @@
 -- How many records a request leaves, and whether there is room for them. Assumes nothing.
 use mathlib.Core.Path.{_≡_, refl, sym, ap, _∙_}
-use mathlib.Core.Bool.{Bool, true, false, or-false}
+use mathlib.Core.Bool.{Bool, true, false, or-false, and-true, and-false}
 use mathlib.Core.List.{List, [], _∷_}
 use Prim.Native.Nat.{ℕ, zero, suc, _+_, _-_, _*_, _≤_, _<_}
 use native.Mathlib.Omega.{arith}
 use lib.Dec.{ltb, leb}
 use lib.ListN.{length, drop, getD, length-map}
 use borrow.Author.Tests.{ne-eqb}
-use Rattle.octets.specs.Choice.{pick}
+use Rattle.octets.specs.Choice.{pick, isNil}
 use Rattle.octets.specs.Octets.{number, numberAt, octetAt, part, slices}
-use Rattle.octets.specs.Lists.{keep}
+use Rattle.octets.specs.Lists.{any, keep}
 use Rattle.rules.specs.Limits.{maxSessions}
-use Rattle.rules.specs.Model.{Settings, Session, Sessions, freeCount}
+use Rattle.rules.specs.Model.{Settings, Session, Sessions, freeCount, heldAddresses, freeAddresses, freeAddressCount}
+use Rattle.rules.specs.Elements.{ueChooses}
+use Rattle.rules.specs.Sound.{inPool}
+use Rattle.laws.proofs.RangeLaws.{unheld-count}
+use Rattle.pool.proofs.AddressLaws.{held-pooled}
+use Rattle.rows.specs.RowRules.{ofUeKind}
+use Rattle.rows.proofs.UeLaws.{choose-rows}
 use Rattle.rules.specs.Layout.{viewSession, viewSessions, viewArea, viewPdr, viewEndpoint, pdrWidth, endpointWidth, settingsWidth, pdrCountAt, endpointCountAt, pdrsAt, endpointsAt}
 use Rattle.rules.specs.Grants.{need}
 use Rattle.rules.specs.Reading.{Request}
-use Rattle.rules.specs.Stages.{removedPdrs, tooManySessions, tooManyPdrs, tooManyEndpoints, tooFewTeids, noRoom}
-use Rattle.plan.specs.Rows.{tagged, hasTag, rowsOf, rowPdr, rowEndpoint, rowEndpointId, requestIn}
+use Rattle.rules.specs.Stages.{removedPdrs, tooManySessions, tooManyPdrs, tooManyEndpoints, tooFewTeids, noRoom, addressesOf, noAddress}
+use Rattle.plan.specs.Rows.{rowWidth, tagged, hasTag, rowsOf, rowPdr, rowEndpoint, rowEndpointId, requestIn}
 use Rattle.rules.specs.Types as ie
 use Rattle.rules.specs.Message.{establishment}
 
@@ -38,7 +44,7 @@ keep-length t (x ∷ xs) = one (t x) (keep-length t xs)
 
 pub tagged-length : (tag n : ℕ) (s : List ℕ) → length (tagged tag (rowsOf n s)) ≤ n
 unfolding tagged
-tagged-length tag n s = omega (arith, keep-length (hasTag tag) (rowsOf n s), slices-length 18 n s)
+tagged-length tag n s = omega (arith, keep-length (hasTag tag) (rowsOf n s), slices-length rowWidth n s)
 
 pub session-count : (t : List ℕ) → length (viewSessions t) ≡ number (part settingsWidth 2 t)
 unfolding viewSessions viewArea numberAt
@@ -90,3 +96,28 @@ module _ (limit kind : ℕ) (s : Settings) (m : Sessions) (x : Session) (r : Req
       pub room-4 : (free n : ℕ) → tooManyEndpoints x r ≡ false → free ≡ freeCount s m → n ≡ need r → ltb free n ≡ noRoom limit kind s m x r
       unfolding noRoom tooFewTeids
       room-4 free n h f e = rw (a, b, h, f, e) (sym (or-false (ltb (freeCount s m) (need r))))
+
+-- ---- cause 79
+
+module _ (s : Settings) (m : Sessions) where
+  -- as many addresses are free as the count says: those held are of the pool
+  addresses-count : length (freeAddresses s m) ≡ freeAddressCount s m
+  unfolding freeAddresses freeAddressCount
+  addresses-count = unheld-count (s .firstAddress) (s .addressCount) (heldAddresses s m) (unfold inPool in (held-pooled s m))
+
+  some-free : (l : List ℕ) → 0 < length l → isNil l ≡ false
+  some-free [] h = absurd (omega arith)
+  some-free (a ∷ l) h = refl
+
+  none-free : (l : List ℕ) → length l ≤ 0 → isNil l ≡ true
+  none-free [] h = refl
+  none-free (a ∷ l) h = absurd (omega arith)
+
+  module _ (rows : List (List ℕ)) (free : ℕ) (e : free ≡ freeAddressCount s m) where
+    pub address-free : 0 < free → false ≡ noAddress s m (requestIn 0 false false rows)
+    unfolding noAddress
+    address-free h = rw (some-free (freeAddresses s m) (omega (arith, addresses-count))) (sym (and-false (any ueChooses (addressesOf (requestIn 0 false false rows)))))
+
+    pub address-full : free ≤ 0 → any (ofUeKind true) rows ≡ noAddress s m (requestIn 0 false false rows)
+    unfolding noAddress
+    address-full h = rw (none-free (freeAddresses s m) (omega (arith, addresses-count)), choose-rows 0 false false rows) (sym (and-true (any (ofUeKind true) rows)))

@@ -12,8 +12,8 @@ use Rattle.octets.specs.Lists.{keep}
 use Rattle.octets.proofs.Tests.{each}
 use Rattle.octets.proofs.Ordered.{keep-length}
 use Rattle.lists.proofs.Loops.{stored}
-use Rattle.rules.specs.Limits.{maxSessions, maxPdrs, maxEndpoints, maxPool, mapWords}
-use Rattle.rules.specs.Model.{Settings, Session, pdrId, heldTeids, freeCount}
+use Rattle.rules.specs.Limits.{maxSessions, maxPdrs, maxEndpoints, maxPool, mapWords, addressWords}
+use Rattle.rules.specs.Model.{Settings, Session, pdrId, heldTeids, freeCount, heldAddresses, freeAddressCount}
 use Rattle.rules.specs.Reading.{Request}
 use Rattle.rules.specs.Layout.{viewPdr, viewEndpoint, viewArea, viewSession, viewSettings, viewSessions, pdrWidth, endpointWidth, tableLength, headWidth, sessionWidth, pdrCountAt, endpointCountAt, pdrsAt}
 use Rattle.rules.specs.Sound.{sessionTests, sessionAllowed, poolTests, settingsTests, settingsAllowed, soundTests, sound}
@@ -22,6 +22,7 @@ use Rattle.rules.specs.Message.{establishment}
 use Rattle.plan.specs.Rows.{rowWidth, rowsOf}
 use Rattle.rows.specs.RowRules.{requestOf}
 use Rattle.pool.proofs.TakenLaws.{Means}
+use Rattle.pool.proofs.AddressLaws.{addresses-fit}
 use Rattle.stages.specs.Rules.{Slot, Gone, AtEntry}
 use Rattle.stages.proofs.CountLaws.{slices-length}
 
@@ -80,17 +81,20 @@ pool-wide s words h e =
     let few = leb→le (s .size) maxPool (pool .1 .1 .0) in
     omega arith
 
--- ---- a sound table, with its map and free count
+-- ---- a sound table, with its maps and free counts
 
-pub at-entry : (s : Settings) (t taken slot gone plan : List ℕ) (n free kind seid : ℕ) (live : Bool) → s ≡ viewSettings t → T (sound maxSessions t) → Slot slot → n * rowWidth ≤ length plan → Gone slot (rowsOf n plan) gone
+pub at-entry : (s : Settings) (t taken addresses slot gone plan : List ℕ) (n free freed kind seid : ℕ) (live : Bool) → s ≡ viewSettings t → T (sound maxSessions t) → Slot slot → n * rowWidth ≤ length plan → Gone slot (rowsOf n plan) gone
     → length taken ≡ mapWords → Means (viewSettings t .first) taken (heldTeids (viewSessions t))
-    → free ≡ freeCount (viewSettings t) (viewSessions t) → (kind ≡ establishment → live ≡ isLive seid (viewSessions t))
-    → AtEntry s t taken slot gone plan n free kind seid live
+    → free ≡ freeCount (viewSettings t) (viewSessions t)
+    → length addresses ≡ addressWords → Means (viewSettings t .firstAddress) addresses (heldAddresses (viewSettings t) (viewSessions t))
+    → freed ≡ freeAddressCount (viewSettings t) (viewSessions t)
+    → (kind ≡ establishment → live ≡ isLive seid (viewSessions t))
+    → AtEntry s t taken addresses slot gone plan n free freed kind seid live
 unfolding sound soundTests
-at-entry s t taken slot gone plan n free kind seid live same h place rows removed words means count known =
+at-entry s t taken addresses slot gone plan n free freed kind seid live same h place rows removed words means count wordsA meansA countA known =
     let tests = each (soundTests maxSessions t (viewSettings t) (viewSessions t)) h in
     let size : length t ≡ tableLength maxSessions = (eqb→eq (length t) (tableLength maxSessions) (tests .0)) in
-    subst (λ (x : Settings). AtEntry x t taken slot gone plan n free kind seid live) (sym same)
+    subst (λ (x : Settings). AtEntry x t taken addresses slot gone plan n free freed kind seid live) (sym same)
     (record {
       long = omega arith;
       place = place;
@@ -99,5 +103,8 @@ at-entry s t taken slot gone plan n free kind seid live same h place rows remove
       wide = pool-wide (viewSettings t) taken (tests .1 .0) words;
       marks = λ i below. means i;
       count = count;
+      wideAddresses = omega (arith, wordsA, addresses-fit (viewSettings t) (tests .1 .0));
+      marksAddresses = λ i below. meansA i;
+      countAddresses = countA;
       known = known;
     })

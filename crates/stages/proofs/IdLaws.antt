@@ -9,14 +9,14 @@ use borrow.Author.Tests.{eq-eqb, ne-eqb, eqb-true}
 use Rattle.octets.specs.Choice.{pick, isSome}
 use Rattle.octets.specs.Lists.{member, without}
 use Rattle.lists.specs.Rows.{column}
-use Rattle.rules.specs.Stages.{namesBoth, lacksFamily, strange}
+use Rattle.rules.specs.Stages.{namesBoth, lacksFamily, strange, wrongAddress}
 use Rattle.plan.specs.Rows.{word, hasTag, present, rowFteid, rowLocal, rowPdr}
 use Rattle.rows.proofs.RowTests.{tag-yes, tag-no}
-use Rattle.stages.specs.RowRules.{createsLive, namesDead, updatesGone, pdiNamesBoth, absentFrom, pdiNamesAbsent, breaksId, breaksFteid}
+use Rattle.stages.specs.RowRules.{createsLive, namesDead, updatesGone, pdiNamesBoth, absentFrom, pdiNamesAbsent, breaksId, breaksFteid, breaksAddress}
 use Rattle.rules.specs.Model.{Settings}
 use Rattle.rules.specs.Types as ie
 use Rattle.plan.specs.Words as its
-use Rattle.rows.specs.RowRules.{ofFteid, rowHolding, restores}
+use Rattle.rows.specs.RowRules.{ofFteid, ofAddress, takesAddress, rowHolding, restores}
 use Rattle.lists.proofs.Questions.{member-append}
 
 -- ---- live IDs
@@ -167,3 +167,12 @@ module _ (held : ℕ → Bool) (s : Settings) (row : List ℕ) where
   pub tunnel-3 : ofFteid (lacksFamily s) row ≡ false → ofFteid (strange s) row ≡ false → breaksFteid held s row ≡ restores held (rowHolding row)
   unfolding breaksFteid
   tunnel-3 a h = rw (a, h) (or-false (restores held (rowHolding row)))
+
+  module _ (restoring : Bool) where
+    pub address-1 : ofAddress (wrongAddress s restoring) row ≡ true → breaksAddress held s restoring row ≡ true
+    unfolding breaksAddress
+    address-1 h = rw h
+
+    pub address-2 : ofAddress (wrongAddress s restoring) row ≡ false → breaksAddress held s restoring row ≡ ofAddress (takesAddress s held) row
+    unfolding breaksAddress
+    address-2 h = rw h

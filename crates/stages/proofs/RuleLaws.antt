@@ -18,8 +18,8 @@ use Rattle.rules.specs.Stages.{idTwice, createdLive, absentId, removedPdrs, upd
 use Rattle.plan.specs.Rows.{word, hasTag, tagged, rowPdr, rowEndpoint, requestIn}
 use Rattle.rules.specs.Types as ie
 use Rattle.plan.specs.Words as its
-use Rattle.rows.specs.RowRules.{requestOf, rowHolding, repeats, sameId, otherChoice, holdsApart, otherHold}
-use Rattle.rows.proofs.ListLaws.{onSome, any-ext, any-or, any-keep, any-map, any-collect, any-in, not-all-in, anyPair, pair-or, not-pairs, pair-keep, pair-map, repeat-pairs}
+use Rattle.rows.specs.RowRules.{onSome, requestOf, rowHolding, repeats, sameId, otherChoice, holdsApart, otherHold}
+use Rattle.rows.proofs.ListLaws.{any-ext, any-or, any-keep, any-map, any-collect, any-in, not-all-in, anyPair, pair-or, not-pairs, pair-keep, pair-map, repeat-pairs}
 use Rattle.rows.proofs.MergeLaws.{merged, any-merge, pair-merge}
 use Rattle.rows.proofs.RequestLaws.{created-pdrs, created-endpoints, updated-pdrs, gone-pdrs, gone-endpoints}
 use Rattle.rows.proofs.PairLaws.{tags-apart}

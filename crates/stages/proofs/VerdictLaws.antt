@@ -5,21 +5,22 @@ use mathlib.Core.List.{List, [], _∷_}
 use Prim.Native.Nat.{ℕ}
 use lib.Dec.{eqb, ltb}
 use borrow.Author.Tests.{eqb-true}
-use Rattle.octets.specs.Choice.{pick, oneOf}
-use Rattle.rules.specs.Model.{Settings, Session, Sessions, freeCount}
+use Rattle.octets.specs.Choice.{pick, oneOf, isNil}
+use Rattle.rules.specs.Model.{Settings, Session, Sessions, freeCount, freeAddresses}
 use Rattle.rules.specs.Limits.{maxSessions}
 use Rattle.rules.specs.Message.{establishment}
 use Rattle.rules.specs.Reading.{Request}
 use Rattle.rules.specs.Layout.{viewSession, viewSessions}
 use Rattle.rules.specs.Grants.{need}
-use Rattle.rules.specs.Stages.{isLive, goesPdr, removedPdrs, invalidAllocation, breaksRule, tooManySessions, tooManyPdrs, tooManyEndpoints, tooFewTeids, noRoom, judge, plain}
+use Rattle.rules.specs.Stages.{isLive, goesPdr, removedPdrs, invalidAllocation, breaksRule, tooManySessions, tooManyPdrs, tooManyEndpoints, tooFewTeids, noRoom, noAddress, judge, plain}
 use Rattle.rules.specs.Causes as why
 use Rattle.plan.specs.Rows.{rowsOf, requestIn}
-use Rattle.rows.specs.RowRules.{heldIn}
+use Rattle.rows.specs.RowRules.{heldIn, addressIn}
 use Rattle.rows.proofs.RequestLaws.{invalid-rows, unsupported-rows}
+use Rattle.rows.proofs.UeLaws.{choose-rows}
 use Rattle.rows.proofs.NeedLaws.{need-rows}
 use Rattle.stages.specs.Rules.{AtEntry, breaksRuleBy}
-use Rattle.stages.proofs.CauseLaws.{breaks-by, map-agrees, rule-rows}
+use Rattle.stages.proofs.CauseLaws.{breaks-by, map-agrees, addresses-agree, rule-rows}
 
 -- the request's SEID, restoration and element 129 do not matter to cause 75
 pdrs-same : (x : Session) (seid : ℕ) (restoring noted : Bool) (rows : List (List ℕ)) → tooManyPdrs x (requestIn 0 false false rows) ≡ tooManyPdrs x (requestIn seid restoring noted rows)
@@ -37,56 +38,68 @@ room-rows limit kind s m x seid restoring noted rows =
     let few : need (requestIn 0 false false rows) ≡ need (requestIn seid restoring noted rows) = need-rows 0 false false rows ∙ sym (need-rows seid restoring noted rows) in
     λ i. oneOf (tooManySessions limit kind m ∷ pdrs-same x seid restoring noted rows i ∷ endpoints-same x seid restoring noted rows i ∷ ltb (freeCount s m) (few i) ∷ [])
 
--- ---- the causes, in 01's order
+-- and to cause 79
+address-same : (s : Settings) (m : Sessions) (seid : ℕ) (restoring noted : Bool) (rows : List (List ℕ)) → noAddress s m (requestIn 0 false false rows) ≡ noAddress s m (requestIn seid restoring noted rows)
+unfolding noAddress
+address-same s m seid restoring noted rows =
+    ap (λ (b : Bool). b && isNil (freeAddresses s m)) (choose-rows 0 false false rows ∙ sym (choose-rows seid restoring noted rows))
 
-unfoldable pub chain : Bool → Bool → Bool → Bool → Bool → ℕ
-chain a b c d e = pick a why.rejected (pick b why.wrongAllocation (pick c why.notSupported (pick d why.brokenRule (pick e why.noRoom why.accepted))))
+-- ---- the causes, in their order
+
+unfoldable pub chain : Bool → Bool → Bool → Bool → Bool → Bool → ℕ
+chain a b c d e f = pick a why.rejected (pick b why.wrongAllocation (pick c why.notSupported (pick d why.brokenRule (pick e why.noRoom (pick f why.noAddress why.accepted)))))
 
 judge-is : (limit kind : ℕ) (s : Settings) (m : Sessions) (x : Session) (r : Request) (seid : ℕ) → r .seid ≡ seid
-    → judge limit kind s m x r .cause ≡ chain (eqb kind establishment && isLive seid m) (invalidAllocation r) (r .unsupported) (breaksRule s m x r) (noRoom limit kind s m x r)
+    → judge limit kind s m x r .cause ≡ chain (eqb kind establishment && isLive seid m) (invalidAllocation r) (r .unsupported) (breaksRule s m x r) (noRoom limit kind s m x r) (noAddress s m r)
 unfolding judge chain
 judge-is limit kind s m x r seid h =
-    one (eqb kind establishment && isLive (r .seid) m) (invalidAllocation r) (r .unsupported) (breaksRule s m x r) (noRoom limit kind s m x r)
-    ∙ ap (λ (k : ℕ). chain (eqb kind establishment && isLive k m) (invalidAllocation r) (r .unsupported) (breaksRule s m x r) (noRoom limit kind s m x r)) h
+    one (eqb kind establishment && isLive (r .seid) m) (invalidAllocation r) (r .unsupported) (breaksRule s m x r) (noRoom limit kind s m x r) (noAddress s m r)
+    ∙ ap (λ (k : ℕ). chain (eqb kind establishment && isLive k m) (invalidAllocation r) (r .unsupported) (breaksRule s m x r) (noRoom limit kind s m x r) (noAddress s m r)) h
   where
-    one : (a b c d e : Bool) → pick a (plain why.rejected) (pick b (plain why.wrongAllocation) (pick c (plain why.notSupported) (pick d (plain why.brokenRule) (pick e (plain why.noRoom) (plain why.accepted))))) .cause ≡ chain a b c d e
-    one true b c d e = refl
-    one false true c d e = refl
-    one false false true d e = refl
-    one false false false true e = refl
-    one false false false false true = refl
-    one false false false false false = refl
+    one : (a b c d e f : Bool) → pick a (plain why.rejected) (pick b (plain why.wrongAllocation) (pick c (plain why.notSupported) (pick d (plain why.brokenRule) (pick e (plain why.noRoom) (pick f (plain why.noAddress) (plain why.accepted)))))) .cause ≡ chain a b c d e f
+    one true b c d e f = refl
+    one false true c d e f = refl
+    one false false true d e f = refl
+    one false false false true e f = refl
+    one false false false false true f = refl
+    one false false false false false true = refl
+    one false false false false false false = refl
 
-module _ (a b c d e : Bool) where
-  pub is-64 : a ≡ true → chain a b c d e ≡ 64
+module _ (a b c d e f : Bool) where
+  pub is-64 : a ≡ true → chain a b c d e f ≡ 64
   unfolding chain
   is-64 h = rw h
 
   module _ (p : a ≡ false) where
-    pub is-71 : b ≡ true → chain a b c d e ≡ 71
+    pub is-71 : b ≡ true → chain a b c d e f ≡ 71
     unfolding chain
     is-71 h = rw (p, h)
 
     module _ (q : b ≡ false) where
-      pub is-76 : c ≡ true → chain a b c d e ≡ 76
+      pub is-76 : c ≡ true → chain a b c d e f ≡ 76
       unfolding chain
       is-76 h = rw (p, q, h)
 
       module _ (r : c ≡ false) where
-        pub is-73 : d ≡ true → chain a b c d e ≡ 73
+        pub is-73 : d ≡ true → chain a b c d e f ≡ 73
         unfolding chain
         is-73 h = rw (p, q, r, h)
 
         module _ (s : d ≡ false) where
-          pub is-75 : e ≡ true → chain a b c d e ≡ 75
+          pub is-75 : e ≡ true → chain a b c d e f ≡ 75
           unfolding chain
           is-75 h = rw (p, q, r, s, h)
 
-          pub is-1 : e ≡ false → chain a b c d e ≡ 1
-          unfolding chain
-          is-1 h = rw (p, q, r, s, h)
+          module _ (t : e ≡ false) where
+            pub is-79 : f ≡ true → chain a b c d e f ≡ 79
+            unfolding chain
+            is-79 h = rw (p, q, r, s, t, h)
 
-module _ {s : Settings} {t taken slot gone plan : List ℕ} {n free kind seid : ℕ} {live : Bool} (restoring noted : Bool) (known : AtEntry s t taken slot gone plan n free kind seid live) where
+            pub is-1 : f ≡ false → chain a b c d e f ≡ 1
+            unfolding chain
+            is-1 h = rw (p, q, r, s, t, h)
+
+module _ {s : Settings} {t taken addresses slot gone plan : List ℕ} {n free freed kind seid : ℕ} {live : Bool} (restoring noted : Bool) (known : AtEntry s t taken addresses slot gone plan n free freed kind seid live) where
   live-same : (eqb kind establishment && live) ≡ (eqb kind establishment && isLive seid (viewSessions t))
   live-same = one (eqb kind establishment) refl
     where
@@ -94,36 +107,39 @@ module _ {s : Settings} {t taken slot gone plan : List ℕ} {n free kind seid : 
       one true e = known .known (eqb-true kind establishment e)
       one false e = refl
 
-  rule-same : breaksRuleBy (heldIn s taken) s (viewSession slot) (requestIn 0 false false (rowsOf n plan))
+  rule-same : breaksRuleBy (heldIn s taken) (addressIn s addresses) s (viewSession slot) (requestIn 0 restoring false (rowsOf n plan))
       ≡ breaksRule s (viewSessions t) (viewSession slot) (requestIn seid restoring noted (rowsOf n plan))
   rule-same =
-      rule-rows (heldIn s taken) s (viewSession slot) seid restoring noted (rowsOf n plan)
-      ∙ breaks-by (heldIn s taken) s (viewSessions t) (viewSession slot) seid restoring noted (rowsOf n plan) (map-agrees s (viewSessions t) taken (known .marks))
+      rule-rows (heldIn s taken) (addressIn s addresses) s (viewSession slot) seid restoring noted (rowsOf n plan)
+      ∙ breaks-by (heldIn s taken) (addressIn s addresses) s (viewSessions t) (viewSession slot) seid restoring noted (rowsOf n plan) (map-agrees s (viewSessions t) taken (known .marks)) (addresses-agree s (viewSessions t) addresses (known .marksAddresses))
 
-  -- the verdict by five tests, as code makes them
+  -- the verdict by six tests, as code makes them
   pub verdict-is : judge maxSessions kind s (viewSessions t) (viewSession slot) (requestIn seid restoring noted (rowsOf n plan)) .cause
       ≡ chain (eqb kind establishment && live) (invalidAllocation (requestIn 0 restoring false (rowsOf n plan))) (requestIn 0 false noted (rowsOf n plan) .unsupported)
-      (breaksRuleBy (heldIn s taken) s (viewSession slot) (requestIn 0 false false (rowsOf n plan)))
+      (breaksRuleBy (heldIn s taken) (addressIn s addresses) s (viewSession slot) (requestIn 0 restoring false (rowsOf n plan)))
       (noRoom maxSessions kind s (viewSessions t) (viewSession slot) (requestIn 0 false false (rowsOf n plan)))
+      (noAddress s (viewSessions t) (requestIn 0 false false (rowsOf n plan)))
   verdict-is =
       let a = live-same in
       let b : invalidAllocation (requestIn 0 restoring false (rowsOf n plan)) ≡ invalidAllocation (requestIn seid restoring noted (rowsOf n plan)) = invalid-rows 0 restoring false (rowsOf n plan) ∙ sym (invalid-rows seid restoring noted (rowsOf n plan)) in
       let c : requestIn 0 false noted (rowsOf n plan) .unsupported ≡ requestIn seid restoring noted (rowsOf n plan) .unsupported = unsupported-rows 0 false noted (rowsOf n plan) ∙ sym (unsupported-rows seid restoring noted (rowsOf n plan)) in
       let e = room-rows maxSessions kind s (viewSessions t) (viewSession slot) seid restoring noted (rowsOf n plan) in
+      let f = address-same s (viewSessions t) seid restoring noted (rowsOf n plan) in
       judge-is maxSessions kind s (viewSessions t) (viewSession slot) (requestIn seid restoring noted (rowsOf n plan)) seid (unfold requestIn in refl)
-      ∙ sym (λ i. chain (a i) (b i) (c i) (rule-same i) (e i))
+      ∙ sym (λ i. chain (a i) (b i) (c i) (rule-same i) (e i) (f i))
 
 -- these causes name no element
 pub judge-plain : (limit kind : ℕ) (s : Settings) (m : Sessions) (x : Session) (r : Request) → judge limit kind s m x r ≡ plain (judge limit kind s m x r .cause)
 unfolding judge
-judge-plain limit kind s m x r = one (eqb kind establishment && isLive (r .seid) m) (invalidAllocation r) (r .unsupported) (breaksRule s m x r) (noRoom limit kind s m x r)
+judge-plain limit kind s m x r = one (eqb kind establishment && isLive (r .seid) m) (invalidAllocation r) (r .unsupported) (breaksRule s m x r) (noRoom limit kind s m x r) (noAddress s m r)
   where
-    one : (a b c d e : Bool)
-        → pick a (plain why.rejected) (pick b (plain why.wrongAllocation) (pick c (plain why.notSupported) (pick d (plain why.brokenRule) (pick e (plain why.noRoom) (plain why.accepted)))))
-        ≡ plain (pick a (plain why.rejected) (pick b (plain why.wrongAllocation) (pick c (plain why.notSupported) (pick d (plain why.brokenRule) (pick e (plain why.noRoom) (plain why.accepted))))) .cause)
-    one true b c d e = refl
-    one false true c d e = refl
-    one false false true d e = refl
-    one false false false true e = refl
-    one false false false false true = refl
-    one false false false false false = refl
+    one : (a b c d e f : Bool)
+        → pick a (plain why.rejected) (pick b (plain why.wrongAllocation) (pick c (plain why.notSupported) (pick d (plain why.brokenRule) (pick e (plain why.noRoom) (pick f (plain why.noAddress) (plain why.accepted))))))
+        ≡ plain (pick a (plain why.rejected) (pick b (plain why.wrongAllocation) (pick c (plain why.notSupported) (pick d (plain why.brokenRule) (pick e (plain why.noRoom) (pick f (plain why.noAddress) (plain why.accepted)))))) .cause)
+    one true b c d e f = refl
+    one false true c d e f = refl
+    one false false true d e f = refl
+    one false false false true e f = refl
+    one false false false false true f = refl
+    one false false false false false true = refl
+    one false false false false false false = refl

@@ -9,11 +9,11 @@ use Rattle.octets.specs.Choice.{oneOf}
 use Rattle.octets.specs.Lists.{member, any, without}
 use Rattle.lists.specs.Rows.{column}
 use Rattle.rules.specs.Model.{Settings}
-use Rattle.rules.specs.Stages.{namesBoth, namedEndpoint, lacksFamily, strange}
+use Rattle.rules.specs.Stages.{namesBoth, namedEndpoint, lacksFamily, strange, wrongAddress}
 use Rattle.plan.specs.Rows.{word, hasTag, rowPdr}
 use Rattle.rules.specs.Types as ie
 use Rattle.plan.specs.Words as its
-use Rattle.rows.specs.RowRules.{ofFteid, rowHolding, restores, disagree}
+use Rattle.rows.specs.RowRules.{ofFteid, ofAddress, takesAddress, rowHolding, restores, disagree}
 
 -- a created ID live at entry
 unfoldable pub createsLive : List ℕ → List ℕ → List ℕ → Bool
@@ -49,11 +49,16 @@ breaksId pdrs endpoints gone rows row =
 unfoldable pub breaksFteid : (ℕ → Bool) → Settings → List ℕ → Bool
 breaksFteid held s row = oneOf (ofFteid (lacksFamily s) row ∷ ofFteid (strange s) row ∷ restores held (rowHolding row) ∷ [])
 
+-- the rules on a row's address, with a test of the addresses of the pool that are held
+unfoldable pub breaksAddress : (ℕ → Bool) → Settings → Bool → List ℕ → Bool
+breaksAddress held s restoring row = ofAddress (wrongAddress s restoring) row || ofAddress (takesAddress s held) row
+
 -- a row for which a test holds, or two of which the earlier disagrees with the later
 unfoldable pub someRow : (List ℕ → Bool) → List (List ℕ) → Bool
 someRow p [] = false
 someRow p (row ∷ later) = oneOf (p row ∷ any (disagree row) later ∷ someRow p later ∷ [])
 
 -- the rules on rows
-unfoldable pub breaksRow : (ℕ → Bool) → Settings → List ℕ → List ℕ → List ℕ → List (List ℕ) → List ℕ → Bool
-breaksRow held s pdrs endpoints gone rows row = breaksId pdrs endpoints gone rows row || breaksFteid held s row
+unfoldable pub breaksRow : (ℕ → Bool) → (ℕ → Bool) → Settings → Bool → List ℕ → List ℕ → List ℕ → List (List ℕ) → List ℕ → Bool
+breaksRow teids addresses s restoring pdrs endpoints gone rows row =
+    oneOf (breaksId pdrs endpoints gone rows row ∷ breaksFteid teids s row ∷ breaksAddress addresses s restoring row ∷ [])

@@ -1,4 +1,4 @@
--- Cause 73 with a test in place of the list of held TEIDs, and what is known of table, map and slot before stages 4 and 5. Assumes nothing.
+-- Cause 73 with tests in place of the lists of held TEIDs and addresses, and what is known of table, maps and slot before stages 4 and 5. Assumes nothing.
 use Prim.Native.Nat.{ℕ, _+_, _*_, _≤_, _<_}
 use mathlib.Core.Path.{_≡_}
 use mathlib.Core.Bool.{Bool, false, not, _||_}
@@ -8,21 +8,21 @@ use Rattle.octets.specs.Choice.{oneOf}
 use Rattle.octets.specs.Lists.{member, any, allPairs}
 use Rattle.rules.specs.Limits.{maxPdrs, maxEndpoints}
 use Rattle.rules.specs.Layout.{viewSession, viewSessions, headWidth, pdrCountAt, endpointCountAt, sessionWidth}
-use Rattle.rules.specs.Model.{Settings, Session, teidOf, heldTeids, freeCount}
+use Rattle.rules.specs.Model.{Settings, Session, teidOf, heldTeids, freeCount, heldAddresses, freeAddressCount}
 use Rattle.plan.specs.Rows.{rowWidth, rowsOf}
 use Rattle.rows.specs.RowRules.{requestOf}
 use Rattle.pool.specs.Map.{marked}
 use Rattle.rules.specs.Reading.{Request}
 use Rattle.rules.specs.Sound.{agree}
-use Rattle.rules.specs.Stages.{isLive, removedPdrs, requestRules, restoredHoldings}
+use Rattle.rules.specs.Stages.{isLive, removedPdrs, requestRules, restoredHoldings, restoredAddresses}
 use Rattle.rules.specs.Message.{establishment}
 
 -- a restored TEID that is held, or shared against the table's rule
 unfoldable pub clashBy : (ℕ → Bool) → Request → Bool
 clashBy held r = any (λ h. held (teidOf h)) (restoredHoldings r) || not (allPairs agree (restoredHoldings r))
 
-unfoldable pub breaksRuleBy : (ℕ → Bool) → Settings → Session → Request → Bool
-breaksRuleBy held s x r = oneOf (requestRules s x r) || clashBy held r
+unfoldable pub breaksRuleBy : (ℕ → Bool) → (ℕ → Bool) → Settings → Session → Request → Bool
+breaksRuleBy teids addresses s x r = oneOf (requestRules s x r) || (clashBy teids r || any addresses (restoredAddresses s r))
 
 -- the octets of a session's slot: as many as the layout has, and counts of records within the limits
 pub record Slot (slot : List ℕ) : Type 0 where
@@ -34,9 +34,10 @@ pub record Slot (slot : List ℕ) : Type 0 where
 abbrev pub Gone : List ℕ → List (List ℕ) → List ℕ → Type 0
 Gone slot rows gone = gone ≡ removedPdrs (requestOf false rows) (viewSession slot .pdrs)
 
--- What is known before stages 4 and 5, s being the settings: the table's session count can be read, the map has a bit for each TEID of the pool,
--- set where a session holds the TEID, the removed PDRs are the rules', the free count is 01's, and for an establishment (50) it is known whether the SEID is live.
-pub record AtEntry (s : Settings) (t taken slot gone plan : List ℕ) (n free kind seid : ℕ) (live : Bool) : Type 0 where
+-- What is known before stages 4 and 5, s being the settings: the table's session count can be read; each map, of TEIDs and of addresses, has a
+-- bit for each number of its pool, set where a session holds the number; the removed PDRs are the rules', the free counts are the rules', and for
+-- an establishment (50) it is known whether the SEID is live.
+pub record AtEntry (s : Settings) (t taken addresses slot gone plan : List ℕ) (n free freeAddresses kind seid : ℕ) (live : Bool) : Type 0 where
   pub long : headWidth ≤ length t
   pub place : Slot slot
   pub rows : n * rowWidth ≤ length plan
@@ -44,4 +45,7 @@ pub record AtEntry (s : Settings) (t taken slot gone plan : List ℕ) (n free ki
   pub wide : s .size ≤ 64 * length taken
   pub marks : (i : ℕ) → i < s .size → marked taken i ≡ member (s .first + i) (heldTeids (viewSessions t))
   pub count : free ≡ freeCount s (viewSessions t)
+  pub wideAddresses : s .addressCount ≤ 64 * length addresses
+  pub marksAddresses : (i : ℕ) → i < s .addressCount → marked addresses i ≡ member (s .firstAddress + i) (heldAddresses s (viewSessions t))
+  pub countAddresses : freeAddresses ≡ freeAddressCount s (viewSessions t)
   pub known : kind ≡ establishment → live ≡ isLive seid (viewSessions t)

@@ -1,4 +1,4 @@
-// Stages 4 and 5 of a request: the causes 64, 71, 76, 73 and 75, judged on the plan's rows, the session's slot at entry and the IDs of its PDRs
+// Stages 4 and 5 of a request: the causes 64, 71, 76, 73, 75 and 79, judged on the plan's rows, the session's slot at entry and the IDs of its PDRs
 // that go. Nothing is written here.
 ghost use mathlib.Core.Path.{_≡_};
 ghost use mathlib.Core.Bool.{false, _&&_};
@@ -7,11 +7,11 @@ ghost use lib.Dec.{eqb, ltb};
 ghost use lib.ListN.{length};
 ghost use Rattle.rules.specs.Limits.{maxSessions};
 ghost use Rattle.rules.specs.Message.{establishment};
-ghost use Rattle.rules.specs.Model.{freeCount};
+ghost use Rattle.rules.specs.Model.{freeCount, freeAddressCount};
 ghost use Rattle.rules.specs.Layout.{viewSession, viewSessions, headWidth};
-ghost use Rattle.rules.specs.Stages.{tooManySessions, noRoom, judge};
+ghost use Rattle.rules.specs.Stages.{tooManySessions, noRoom, noAddress, judge};
 ghost use Rattle.plan.specs.Rows.{rowWidth, rowsOf, tagged, requestIn};
-ghost use Rattle.rows.specs.RowRules.{requestOf, heldIn};
+ghost use Rattle.rows.specs.RowRules.{requestOf, heldIn, addressIn};
 ghost use Rattle.unit.specs.Meaning.{settingsOf};
 ghost use Rattle.stages.specs.RowRules.{breaksRow, someRow};
 ghost use Rattle.stages.specs.Rules.{Slot, Gone, AtEntry, breaksRuleBy};
@@ -33,9 +33,11 @@ fn breaks_rows(
     gone: &[u64],
     u: Settings,
     taken: &[u64],
+    addresses: &[u64],
+    restoring: bool,
 ) -> bool
-    requires { ⌜ (n * rowWidth ≤ length (now plan)) × (u .size ≤ 64 * length (now taken)) ⌝ }
-    ensures { λ r. ⌜ r ≡ someRow (breaksRow (heldIn (settingsOf u) (now (taken .entry))) (settingsOf u) (now (pdrs .entry)) (now (endpoints .entry)) (now (gone .entry)) (rowsOf n (now (plan .entry)))) (rowsOf n (now (plan .entry))) ⌝ }
+    requires { ⌜ (n * rowWidth ≤ length (now plan)) × (u .size ≤ 64 * length (now taken)) × (u .addresses ≤ 64 * length (now addresses)) ⌝ }
+    ensures { λ r. ⌜ r ≡ someRow (breaksRow (heldIn (settingsOf u) (now (taken .entry))) (addressIn (settingsOf u) (now (addresses .entry))) (settingsOf u) restoring (now (pdrs .entry)) (now (endpoints .entry)) (now (gone .entry)) (rowsOf n (now (plan .entry)))) (rowsOf n (now (plan .entry))) ⌝ }
 {
     let mut rest = plan;
     let mut left = n;
@@ -49,6 +51,9 @@ fn breaks_rows(
         if row::breaks_fteid(row, u, taken) {
             return true;
         }
+        if row::breaks_address(row, u, restoring, addresses) {
+            return true;
+        }
         if rows::disagrees(row, rest, left) {
             return true;
         }
@@ -60,13 +65,15 @@ fn breaks_rows(
 pub fn breaks_rule(
     u: Settings,
     taken: &[u64],
+    addresses: &[u64],
     slot: &[u8],
     gone: &[u64],
     plan: &[u64],
     n: usize,
+    restoring: bool,
 ) -> bool
-    requires { ⌜ (u .size ≤ 64 * length (now taken)) × Slot (now slot) × (n * rowWidth ≤ length (now plan)) × Gone (now slot) (rowsOf n (now plan)) (now gone) ⌝ }
-    ensures { λ r. ⌜ r ≡ breaksRuleBy (heldIn (settingsOf u) (now (taken .entry))) (settingsOf u) (viewSession (now (slot .entry))) (requestOf false (rowsOf n (now (plan .entry)))) ⌝ }
+    requires { ⌜ (u .size ≤ 64 * length (now taken)) × Slot (now slot) × (n * rowWidth ≤ length (now plan)) × Gone (now slot) (rowsOf n (now plan)) (now gone) × (u .addresses ≤ 64 * length (now addresses)) ⌝ }
+    ensures { λ r. ⌜ r ≡ breaksRuleBy (heldIn (settingsOf u) (now (taken .entry))) (addressIn (settingsOf u) (now (addresses .entry))) (settingsOf u) (viewSession (now (slot .entry))) (requestOf restoring (rowsOf n (now (plan .entry)))) ⌝ }
 {
     let k = slot[format::PDR_COUNT] as usize;
     let j = slot[format::ENDPOINT_COUNT] as usize;
@@ -80,7 +87,17 @@ pub fn breaks_rule(
         1,
         &mut endpoints,
     );
-    breaks_rows(plan, n, &pdrs[..k], &endpoints[..j], gone, u, taken)
+    breaks_rows(
+        plan,
+        n,
+        &pdrs[..k],
+        &endpoints[..j],
+        gone,
+        u,
+        taken,
+        addresses,
+        restoring,
+    )
 }
 
 // Would more records result than there is room for? Live ones less those removed, plus those created.
@@ -146,6 +163,17 @@ pub fn no_room(
     free < rows::need(plan, n)
 }
 
+// Cause 79: a record chooses an address, and none is free at entry.
+fn no_address(t: &[u8], u: Settings, free: usize, plan: &[u64], n: usize) -> bool
+    requires { ⌜ (free ≡ freeAddressCount (settingsOf u) (viewSessions (now t))) × (n * rowWidth ≤ length (now plan)) ⌝ }
+    ensures { λ r. ⌜ r ≡ noAddress (settingsOf u) (viewSessions (now (t .entry))) (requestOf false (rowsOf n (now (plan .entry)))) ⌝ }
+{
+    if 0 < free {
+        return false;
+    }
+    rows::some_address(plan, n, true)
+}
+
 // Cause 64: an establishment of a live SEID.
 fn already_live(kind: u64, live: bool) -> bool
     ensures { λ r. ⌜ r ≡ (eqb kind establishment && live) ⌝ }
@@ -161,7 +189,9 @@ pub fn judge(
     t: &[u8],
     u: Settings,
     taken: &[u64],
+    addresses: &[u64],
     free: usize,
+    free_addresses: usize,
     kind: u64,
     seid: u64,
     live: bool,
@@ -172,7 +202,7 @@ pub fn judge(
     restoring: bool,
     noted: bool,
 ) -> u64
-    requires { ⌜ AtEntry (settingsOf u) (now t) (now taken) (now slot) (now gone) (now plan) n free kind seid live ⌝ }
+    requires { ⌜ AtEntry (settingsOf u) (now t) (now taken) (now addresses) (now slot) (now gone) (now plan) n free «free_addresses» kind seid live ⌝ }
     ensures { λ r. ⌜ r ≡ judge maxSessions kind (settingsOf u) (viewSessions (now (t .entry))) (viewSession (now (slot .entry))) (requestIn seid restoring noted (rowsOf n (now (plan .entry)))) .cause ⌝ }
 {
     if already_live(kind, live) {
@@ -184,11 +214,14 @@ pub fn judge(
     if rows::unsupported(plan, n, noted) {
         return causes::NOT_SUPPORTED;
     }
-    if breaks_rule(u, taken, slot, gone, plan, n) {
+    if breaks_rule(u, taken, addresses, slot, gone, plan, n, restoring) {
         return causes::BROKEN_RULE;
     }
     if no_room(t, u, free, kind, slot, gone, plan, n) {
         return causes::NO_ROOM;
+    }
+    if no_address(t, u, free_addresses, plan, n) {
+        return causes::NO_ADDRESS;
     }
     causes::ACCEPTED
 }

@@ -1,4 +1,5 @@
-// The rules of cause 73 on one row: on its IDs, by the session's live IDs, those of its PDRs that go and the other rows; and on its F-TEID.
+// The rules of cause 73 on one row: on its IDs, by the session's live IDs, those of its PDRs that go and the other rows; on its F-TEID, and on its
+// address.
 use format::types;
 use format::words;
 use unit::Settings;
@@ -6,9 +7,9 @@ ghost use mathlib.Core.Path.{_≡_};
 ghost use Prim.Native.Nat.{_*_, _≤_};
 ghost use lib.ListN.{length};
 ghost use Rattle.plan.specs.Rows.{rowWidth, rowsOf};
-ghost use Rattle.rows.specs.RowRules.{heldIn};
+ghost use Rattle.rows.specs.RowRules.{heldIn, addressIn};
 ghost use Rattle.unit.specs.Meaning.{settingsOf};
-ghost use Rattle.stages.specs.RowRules.{createsLive, namesDead, updatesGone, pdiNamesBoth, pdiNamesAbsent, breaksId, breaksFteid};
+ghost use Rattle.stages.specs.RowRules.{createsLive, namesDead, updatesGone, pdiNamesBoth, pdiNamesAbsent, breaksId, breaksFteid, breaksAddress};
 
 // A created ID live at entry.
 fn created_live(row: &[u64], pdrs: &[u64], endpoints: &[u64]) -> bool
@@ -126,4 +127,15 @@ pub fn breaks_fteid(row: &[u64], u: Settings, taken: &[u64]) -> bool
         return true;
     }
     rows::tunnel::is_held(row, u, taken)
+}
+
+// The rules on a row's address (02 (v)). Only an address of the pool is looked up in the map.
+pub fn breaks_address(row: &[u64], u: Settings, restoring: bool, taken: &[u64]) -> bool
+    requires { ⌜ (length (now row) ≡ rowWidth) × (u .addresses ≤ 64 * length (now taken)) ⌝ }
+    ensures { λ r. ⌜ r ≡ breaksAddress (addressIn (settingsOf u) (now (taken .entry))) (settingsOf u) restoring (now (row .entry)) ⌝ }
+{
+    if rows::address::wrong(row, u, restoring) {
+        return true;
+    }
+    rows::address::is_held(row, u, taken)
 }

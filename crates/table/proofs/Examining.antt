@@ -1,6 +1,6 @@
 -- The answers of the calls that examine a table, return by return: premises are what the code knows there.
 -- Assumes nothing.
-use mathlib.Core.Path.{_≡_, refl, sym, ap, subst, _∙_}
+use mathlib.Core.Path.{_≡_, refl, sym, ap, transport, _∙_}
 use Prim.Native.Nat.{ℕ, _+_, _-_, _*_, _^_, _≤_, _<_}
 use native.Mathlib.Omega.{arith}
 use mathlib.Core.Bool.{Bool, true, false, not, _&&_}
@@ -13,24 +13,27 @@ use Rattle.octets.specs.Choice.{pick}
 use Rattle.octets.specs.Octets.{part, number, numberAt, octetAt, slices, allZero, octets}
 use Rattle.octets.specs.Lists.{all, ascending, distinct}
 use Rattle.octets.proofs.Tests.{each, of-true, all-head, all-tail, all-cons}
-use Rattle.rules.specs.Limits.{maxSessions, maxPool, mapWords}
-use Rattle.rules.specs.Model.{Settings, Session, heldTeids, freeCount}
+use Rattle.rules.specs.Limits.{maxSessions, maxPool, maxAddresses, mapWords, addressWords}
+use Rattle.rules.specs.Model.{Settings, Session, heldTeids, freeCount, heldAddresses, freeAddressCount}
 use Rattle.rules.specs.Layout.{headWidth, sessionWidth, tableLength, viewSettings, viewSessions, settingsWidth}
-use Rattle.rules.specs.Sound.{poolTests, settingsTests, settingsAllowed, inPool, soundTests, sound, takenMap, free, countFree}
+use Rattle.rules.specs.Sound.{poolTests, addressPoolTests, settingsTests, settingsAllowed, inPool, soundTests, sound, takenMap, addressMap, free, countFree, countAddresses}
 use Rattle.pool.specs.Map.{marks, newMarks, offsets}
 use Rattle.pool.proofs.TakenLaws.{pool-fits, pool-from, pool-below, new-marks-distinct, map-is}
+use Rattle.pool.proofs.AddressLaws.{asPool, held-pooled, address-map-is, address-marks-distinct}
 use Rattle.lists.proofs.Counting.{free-distinct}
 use Rattle.table.specs.declared.Count.the-variants.{Broken, Free}
 use Rattle.holdings.proofs.MapWalk.{held-in-pool}
 use Rattle.slots.specs.Records.{keyOf}
 use Rattle.records.specs.Kept.{settingsSound, unit}
 use Rattle.records.proofs.Cells.{and-true}
-use Rattle.marking.specs.declared.Marks.{Marks}
-use Rattle.marking.specs.declared.Marks.the-variants.{Clash, New}
-use Rattle.marking.specs.Marking.{slotsKeep, teidsIn, AllAdmitted}
-use Rattle.table.specs.Tests.{sessionCount, slotsOf, unitOf, orderSound, frontTests, frontSound, walkSound}
+use Rattle.marking.specs.declared.Seen.{Seen}
+use Rattle.marking.specs.declared.Seen.the-variants as marked
+use Rattle.marking.specs.declared.Seen.the-variants.{Held}
+use Rattle.marking.specs.Marking.{slotsKeep, slotsFree, teidsIn, addressesIn, AllAdmitted}
+use Rattle.table.specs.Tests.{sessionCount, slotsOf, unitOf, firstAddressOf, addressCountOf, orderSound, frontTests, frontSound, walkSound}
 use Rattle.table.specs.Answers.{Examined, countOf}
 use Rattle.table.proofs.SoundLaws.{settings-from, sessions-are, sound-law}
+use Rattle.table.proofs.Walks.{teids-are, addresses-are}
 
 -- ---- the front
 
@@ -67,35 +70,40 @@ pub record Front (t : List ℕ) : Type 0 where
   pub few : number (part settingsWidth 2 t) ≤ maxSessions
   pub pool : number (part 21 4 t) + number (part 25 4 t) ≤ 2 ^ 32
   pub size : number (part 25 4 t) ≤ maxPool
+  pub addresses : number (part 29 4 t) + number (part 33 4 t) ≤ 2 ^ 32
+  pub count : number (part 33 4 t) ≤ maxAddresses
 
 pub front-facts : (t : List ℕ) → T (octets t) → (f : Bool) → f ≡ frontSound t → not f ≡ false → Front t
-unfolding frontSound frontTests settingsAllowed settingsTests poolTests viewSettings numberAt
+unfolding frontSound frontTests settingsAllowed settingsTests poolTests addressPoolTests viewSettings numberAt
 front-facts t o f q h =
     let e = each (frontTests t) (of-true (sym q ∙ not-false f h)) in
     let long = eqb→eq (length t) (tableLength maxSessions) (e .0) in
     let hs = settings-from t long o (e .1 .0) .0 in
     let pool = each (poolTests (number (part 21 4 t)) (number (part 25 4 t))) (each (settingsTests (viewSettings t)) hs .1 .1 .1 .1 .0) in
+    let addresses = each (addressPoolTests (number (part 29 4 t)) (number (part 33 4 t))) (each (settingsTests (viewSettings t)) hs .1 .1 .1 .1 .1 .0) in
     record {
       long = long;
       settings = hs;
       few = leb→le (number (part settingsWidth 2 t)) maxSessions (e .1 .1 .0);
       pool = leb→le (number (part 21 4 t) + number (part 25 4 t)) (2 ^ 32) (pool .1 .1 .1 .0);
       size = leb→le (number (part 25 4 t)) maxPool (pool .1 .1 .0);
+      addresses = leb→le (number (part 29 4 t) + number (part 33 4 t)) (2 ^ 32) (addresses .1 .1 .0);
+      count = leb→le (number (part 33 4 t)) maxAddresses (addresses .1 .0);
     }
 
 -- ---- examining
 
-new-same : (b : Bool) (n d : ℕ) → (T b → n ≡ d) → pick b (New n) Clash ≡ pick b (New d) Clash
-new-same true n d e = ap New (e tt)
-new-same false n d e = refl
+held-same : (b : Bool) (n d k e : ℕ) → (T b → (n ≡ d) × (k ≡ e)) → pick b (Held n k) marked.Broken ≡ pick b (Held d e) marked.Broken
+held-same true n d k e q = λ i. Held (q tt .0 i) (q tt .1 i)
+held-same false n d k e q = refl
 
-new-holds : (b : Bool) (d n : ℕ) → pick b (New d) Clash ≡ New n → T b
-new-holds true d n e = tt
-new-holds false d n e = absurd (let z : _≡_ {A = ℕ} 0 1 = cc in omega arith)
+held-holds : (b : Bool) (d e n k : ℕ) → pick b (Held d e) marked.Broken ≡ Held n k → T b
+held-holds true d e n k q = tt
+held-holds false d e n k q = absurd (let z : _≡_ {A = ℕ} 0 1 = cc in omega arith)
 
--- the TEIDs held are not more than the pool has
-held-few : (s : Settings) (m : List Session) → T (all (inPool s) (heldTeids m)) → distinct (heldTeids m) ≤ s .size
-held-few s m h = omega (arith, free-distinct (s .first) (s .size) (heldTeids m) (below (heldTeids m) h) (from (heldTeids m) h))
+-- different numbers of a pool are not more than the pool has
+held-few : (s : Settings) (held : List ℕ) → T (all (inPool s) held) → distinct held ≤ s .size
+held-few s held h = omega (arith, free-distinct (s .first) (s .size) held (below held h) (from held h))
   where
     below : (ts : List ℕ) → T (all (inPool s) ts) → T (all (λ t. ltb t (s .first + s .size)) ts)
     below [] g = unfold all in tt
@@ -108,101 +116,144 @@ held-few s m h = omega (arith, free-distinct (s .first) (s .size) (heldTeids m) 
         all-cons (λ t. ltb (s .first) (t + 1)) x ts (lt→ltb (s .first) (x + 1) (omega arith)) (from ts (all-tail (inPool s) x ts g))
 
 module _ (t : List ℕ) (o : T (octets t)) (f : Bool) (q : f ≡ frontSound t) where
-  pub examined-broken : (w : List ℕ) → not f ≡ true → Examined t Clash w
-  examined-broken w h =
-      let no : sound maxSessions t ≡ false = sound-law t o ∙ ap (λ (b : Bool). b && walkSound t) (sym q ∙ not-true f h) in
-      record { answer = sym (ap (λ (b : Bool). pick b (New (distinct (heldTeids (viewSessions t)))) Clash) no); words = λ n e. absurd (let z : _≡_ {A = ℕ} 0 1 = cc in omega arith) }
+  abbrev teids : ℕ
+  teids = distinct (heldTeids (viewSessions t))
 
-  -- of a sound table: the walk's count and map
+  abbrev addresses : ℕ
+  addresses = distinct (heldAddresses (viewSettings t) (viewSessions t))
+
+  pub examined-broken : (w u : List ℕ) → not f ≡ true → Examined t marked.Broken w u
+  examined-broken w u h =
+      let no : sound maxSessions t ≡ false = sound-law t o ∙ ap (λ (b : Bool). b && walkSound t) (sym q ∙ not-true f h) in
+      record {
+        answer = sym (ap (λ (b : Bool). pick b (Held teids addresses) marked.Broken) no);
+        words = λ n k e. absurd (let z : _≡_ {A = ℕ} 0 1 = cc in omega arith);
+        addresses = λ n k e. absurd (let z : _≡_ {A = ℕ} 0 1 = cc in omega arith);
+      }
+
+  -- of a sound table: the walk's counts and maps
   sound-facts : T (sound maxSessions t) → T (settingsAllowed (viewSettings t)) × T (all (inPool (viewSettings t)) (heldTeids (viewSessions t)))
   unfolding sound soundTests
   sound-facts h =
       let e = each (soundTests maxSessions t (viewSettings t) (viewSessions t)) h in
       (e .1 .0, held-in-pool (viewSettings t) maxSessions (viewSessions t) (e .1 .1 .0))
 
-  held-are : teidsIn (slotsOf t) ≡ heldTeids (viewSessions t)
-  unfolding teidsIn
-  held-are = ap heldTeids (sym (sessions-are t))
+  teids-held : teidsIn (unitOf t) (slotsOf t) ≡ offsets (viewSettings t .first) (heldTeids (viewSessions t))
+  unfolding viewSettings numberAt unit
+  teids-held = teids-are (unitOf t) (slotsOf t) ∙ ap (λ (m : List Session). offsets (number (part 21 4 t)) (heldTeids m)) (sym (sessions-are t))
 
-  count-is : T (sound maxSessions t) → newMarks (replicate mapWords 0) (offsets (number (part 21 4 t)) (teidsIn (slotsOf t))) ≡ distinct (heldTeids (viewSessions t))
-  unfolding viewSettings numberAt
-  count-is h =
-      let e = sound-facts h in
-      ap (λ (l : List ℕ). newMarks (replicate mapWords 0) (offsets (number (part 21 4 t)) l)) held-are
-      ∙ new-marks-distinct (viewSettings t) mapWords (heldTeids (viewSessions t)) (pool-fits (viewSettings t) (e .0)) (e .1)
+  addresses-held : addressesIn (firstAddressOf t) (addressCountOf t) (slotsOf t) ≡ offsets (viewSettings t .firstAddress) (heldAddresses (viewSettings t) (viewSessions t))
+  addresses-held =
+      unfold viewSettings numberAt in addresses-are (viewSettings t) (slotsOf t)
+      ∙ ap (λ (m : List Session). offsets (viewSettings t .firstAddress) (heldAddresses (viewSettings t) m)) (sym (sessions-are t))
 
-  words-are : T (sound maxSessions t) → marks (replicate mapWords 0) (offsets (number (part 21 4 t)) (teidsIn (slotsOf t))) ≡ takenMap (viewSettings t) (viewSessions t)
-  unfolding viewSettings numberAt
-  words-are h =
-      let e = sound-facts h in
-      ap (λ (l : List ℕ). marks (replicate mapWords 0) (offsets (number (part 21 4 t)) l)) held-are ∙ map-is (viewSettings t) (viewSessions t) (e .0) (e .1)
+  counts-are : T (sound maxSessions t)
+      → (newMarks (replicate mapWords 0) (teidsIn (unitOf t) (slotsOf t)) ≡ teids) × (newMarks (replicate addressWords 0) (addressesIn (firstAddressOf t) (addressCountOf t) (slotsOf t)) ≡ addresses)
+  counts-are h =
+      let e = sound-facts h in (
+        ap (newMarks (replicate mapWords 0)) teids-held ∙ new-marks-distinct (viewSettings t) mapWords (heldTeids (viewSessions t)) (pool-fits (viewSettings t) (e .0)) (e .1),
+        ap (newMarks (replicate addressWords 0)) addresses-held ∙ address-marks-distinct (viewSettings t) (viewSessions t) (e .0),
+      )
 
-  walk-done : not f ≡ false → (r : Marks) (w : List ℕ) → AllAdmitted (unitOf t) (replicate mapWords 0) (slotsOf t) r w → Examined t r w
-  unfolding walkSound unit
-  walk-done h r w x =
-      let keeps : slotsKeep (unitOf t) (replicate mapWords 0) (slotsOf t) ≡ sound maxSessions t = sym (sound-law t o ∙ ap (λ (b : Bool). b && walkSound t) (sym q ∙ not-false f h)) in
-      let n : ℕ = newMarks (replicate mapWords 0) (offsets (number (part 21 4 t)) (teidsIn (slotsOf t))) in
-      let is : r ≡ pick (sound maxSessions t) (New (distinct (heldTeids (viewSessions t)))) Clash = x .answer ∙ ap (λ (b : Bool). pick b (New n) Clash) keeps ∙ new-same (sound maxSessions t) n (distinct (heldTeids (viewSessions t))) count-is in
-      record { answer = is; words = λ k e. x .words k e ∙ words-are (new-holds (sound maxSessions t) (distinct (heldTeids (viewSessions t))) k (sym is ∙ e)) }
+  words-are : T (sound maxSessions t) → marks (replicate mapWords 0) (teidsIn (unitOf t) (slotsOf t)) ≡ takenMap (viewSettings t) (viewSessions t)
+  words-are h = let e = sound-facts h in ap (marks (replicate mapWords 0)) teids-held ∙ map-is (viewSettings t) (viewSessions t) (e .0) (e .1)
 
-  pub examined-walk : not f ≡ false → (first size n : ℕ) (ws : List ℕ) (r : Marks) (w : List ℕ) → first ≡ number (part 21 4 t) → size ≡ number (part 25 4 t) → n ≡ number (part settingsWidth 2 t) → ws ≡ replicate mapWords 0
-      → AllAdmitted (unit first size (not (eqb (getD t 4 0) 0))) ws (slices sessionWidth n (part headWidth (maxSessions * sessionWidth) t)) r w → Examined t r w
+  map-is′ : T (sound maxSessions t) → marks (replicate addressWords 0) (addressesIn (firstAddressOf t) (addressCountOf t) (slotsOf t)) ≡ addressMap (viewSettings t) (viewSessions t)
+  map-is′ h = let e = sound-facts h in ap (marks (replicate addressWords 0)) addresses-held ∙ address-map-is (viewSettings t) (viewSessions t) (e .0)
+
+  walk-done : not f ≡ false → (r : Seen) (w u : List ℕ) → AllAdmitted (unitOf t) (firstAddressOf t) (addressCountOf t) (replicate mapWords 0) (replicate addressWords 0) (slotsOf t) r w u → Examined t r w u
+  unfolding walkSound
+  walk-done h r w u x =
+      let keeps : walkSound t ≡ sound maxSessions t = sym (sound-law t o ∙ ap (λ (b : Bool). b && walkSound t) (sym q ∙ not-false f h)) in
+      let n : ℕ = newMarks (replicate mapWords 0) (teidsIn (unitOf t) (slotsOf t)) in
+      let k : ℕ = newMarks (replicate addressWords 0) (addressesIn (firstAddressOf t) (addressCountOf t) (slotsOf t)) in
+      let is : r ≡ pick (sound maxSessions t) (Held teids addresses) marked.Broken =
+      x .answer ∙ ap (λ (b : Bool). pick b (Held n k) marked.Broken) keeps ∙ held-same (sound maxSessions t) n teids k addresses counts-are in
+      record {
+        answer = is;
+        words = λ i j e. x .words i j e ∙ words-are (held-holds (sound maxSessions t) teids addresses i j (sym is ∙ e));
+        addresses = λ i j e. x .addresses i j e ∙ map-is′ (held-holds (sound maxSessions t) teids addresses i j (sym is ∙ e));
+      }
+
+  pub examined-walk : not f ≡ false → (first size n at count : ℕ) (ws as′ : List ℕ) (r : Seen) (w u : List ℕ)
+      → first ≡ number (part 21 4 t) → size ≡ number (part 25 4 t) → n ≡ number (part settingsWidth 2 t) → at ≡ number (part 29 4 t) → count ≡ number (part 33 4 t)
+      → ws ≡ replicate mapWords 0 → as′ ≡ replicate addressWords 0
+      → AllAdmitted (unit first size (not (eqb (getD t 4 0) 0))) at count ws as′ (slices sessionWidth n (part headWidth (maxSessions * sessionWidth) t)) r w u → Examined t r w u
   unfolding octetAt
-  examined-walk h first size n ws r w ef es en ew m =
-      let a = part headWidth (maxSessions * sessionWidth) t in
+  examined-walk h first size n at count ws as′ r w u ef es en ea ec ew eu m =
       let v6 = not (eqb (getD t 4 0) 0) in
-      let m₁ = subst (λ (k : ℕ). AllAdmitted (unit k size v6) ws (slices sessionWidth n a) r w) ef m in
-      let m₂ = subst (λ (k : ℕ). AllAdmitted (unit (number (part 21 4 t)) k v6) ws (slices sessionWidth n a) r w) es m₁ in
-      let m₃ = subst (λ (k : ℕ). AllAdmitted (unitOf t) ws (slices sessionWidth k a) r w) en m₂ in
-      let m₄ = subst (λ (k : List ℕ). AllAdmitted (unitOf t) k (slices sessionWidth (sessionCount t) a) r w) ew m₃ in
-      let m₅ = subst (λ (k : List ℕ). AllAdmitted (unitOf t) (replicate mapWords 0) (slices sessionWidth (sessionCount t) k) r w) (area-is t (front-facts t o f q h .long)) m₄ in
-      walk-done h r w m₅
+      let area = area-is t (front-facts t o f q h .long) in
+      walk-done h r w u
+      (transport (λ i. AllAdmitted (unit (ef i) (es i) v6) (ea i) (ec i) (ew i) (eu i) (slices sessionWidth (en i) (area i)) r w u) m)
 
 -- ---- from the examination to the answers
 
-module _ (t : List ℕ) (r : Marks) (w : List ℕ) (x : Examined t r w) where
-  examined-no : r ≡ Clash → sound maxSessions t ≡ false
+module _ (t : List ℕ) (r : Seen) (w u : List ℕ) (x : Examined t r w u) where
+  examined-no : r ≡ marked.Broken → sound maxSessions t ≡ false
   examined-no e = go (sound maxSessions t) (sym (x .answer) ∙ e)
     where
-      go : (b : Bool) → pick b (New (distinct (heldTeids (viewSessions t)))) Clash ≡ Clash → b ≡ false
+      go : (b : Bool) → pick b (Held (distinct (heldTeids (viewSessions t))) (distinct (heldAddresses (viewSettings t) (viewSessions t)))) marked.Broken ≡ marked.Broken → b ≡ false
       go true z = absurd (let u : _≡_ {A = ℕ} 0 1 = cc in omega arith)
       go false z = refl
 
-  examined-yes : (n : ℕ) → r ≡ New n → (sound maxSessions t ≡ true) × (n ≡ distinct (heldTeids (viewSessions t)))
-  examined-yes n e = go (sound maxSessions t) (sym (x .answer) ∙ e)
+  examined-yes : (n k : ℕ) → r ≡ Held n k → (sound maxSessions t ≡ true) × (n ≡ distinct (heldTeids (viewSessions t))) × (k ≡ distinct (heldAddresses (viewSettings t) (viewSessions t)))
+  examined-yes n k e = go (sound maxSessions t) (sym (x .answer) ∙ e)
     where
-      go : (b : Bool) → pick b (New (distinct (heldTeids (viewSessions t)))) Clash ≡ New n → (b ≡ true) × (n ≡ distinct (heldTeids (viewSessions t)))
-      go true z = (refl, (cc))
+      go : (b : Bool) → pick b (Held (distinct (heldTeids (viewSessions t))) (distinct (heldAddresses (viewSettings t) (viewSessions t)))) marked.Broken ≡ Held n k
+          → (b ≡ true) × (n ≡ distinct (heldTeids (viewSessions t))) × (k ≡ distinct (heldAddresses (viewSettings t) (viewSessions t)))
+      go true z = (refl, (cc), (cc))
       go false z = absurd (let u : _≡_ {A = ℕ} 0 1 = cc in omega arith)
 
-  pub sound-no : r ≡ Clash → false ≡ sound maxSessions t
+  pub sound-no : r ≡ marked.Broken → false ≡ sound maxSessions t
   sound-no e = sym (examined-no e)
 
-  pub sound-yes : (n : ℕ) → r ≡ New n → true ≡ sound maxSessions t
-  sound-yes n e = sym (examined-yes n e .0)
+  pub sound-yes : (n k : ℕ) → r ≡ Held n k → true ≡ sound maxSessions t
+  sound-yes n k e = sym (examined-yes n k e .0)
 
-  pub count-broken : r ≡ Clash → countOf Broken ≡ countFree maxSessions t
+  pub count-broken : r ≡ marked.Broken → countOf Broken ≡ countFree maxSessions t
   unfolding countFree
   count-broken e = sym (rw (examined-no e))
 
-  -- the length, and that the TEIDs held are not more than the pool has
-  count-fits : (n : ℕ) → r ≡ New n → (length t ≡ tableLength maxSessions) × (n ≤ number (part 25 4 t))
-  unfolding sound soundTests viewSettings numberAt freeCount
-  count-fits n e =
-      let y = examined-yes n e in
+  pub addresses-broken : r ≡ marked.Broken → countOf Broken ≡ countAddresses maxSessions t
+  unfolding countAddresses
+  addresses-broken e = sym (rw (examined-no e))
+
+  -- the length, and that what is held is not more than the pools have
+  record Fits (n k : ℕ) : Type 0 where
+    long : length t ≡ tableLength maxSessions
+    teids : n ≤ number (part 25 4 t)
+    addresses : k ≤ number (part 33 4 t)
+
+  count-fits : (n k : ℕ) → r ≡ Held n k → Fits n k
+  unfolding sound soundTests viewSettings numberAt
+  count-fits n k e =
+      let y = examined-yes n k e in
       let h = each (soundTests maxSessions t (viewSettings t) (viewSessions t)) (of-true (y .0)) in
       let p = held-in-pool (viewSettings t) maxSessions (viewSessions t) (h .1 .1 .0) in
-      (eqb→eq (length t) (tableLength maxSessions) (h .0), omega (arith, y .1, held-few (viewSettings t) (viewSessions t) p))
+      record {
+        long = eqb→eq (length t) (tableLength maxSessions) (h .0);
+        teids = omega (arith, y .1, held-few (viewSettings t) (heldTeids (viewSessions t)) p);
+        addresses = omega (arith, y .2, held-few (asPool (viewSettings t)) (heldAddresses (viewSettings t) (viewSessions t)) (held-pooled (viewSettings t) (viewSessions t)));
+      }
 
-  pub count-free : (n size : ℕ) → r ≡ New n → size ≡ number (part 25 4 t) → countOf (Free (size - n)) ≡ countFree maxSessions t
+  pub count-free : (n k size : ℕ) → r ≡ Held n k → size ≡ number (part 25 4 t) → countOf (Free (size - n)) ≡ countFree maxSessions t
   unfolding countFree freeCount viewSettings numberAt
-  count-free n size e z =
-      let y = examined-yes n e in
+  count-free n k size e z =
+      let y = examined-yes n k e in
       (λ i. free (z i - y .1 i)) ∙ sym (rw (y .0))
 
-  -- where the size is read, and what is taken off it
-  pub count-read : (n : ℕ) → r ≡ New n → (settingsWidth ≤ length t) × (4 ≤ 8)
-  count-read n e = (omega (arith, count-fits n e .0), omega arith)
+  pub addresses-free : (n k size : ℕ) → r ≡ Held n k → size ≡ number (part 33 4 t) → countOf (Free (size - k)) ≡ countAddresses maxSessions t
+  unfolding countAddresses freeAddressCount viewSettings numberAt
+  addresses-free n k size e z =
+      let y = examined-yes n k e in
+      (λ i. free (z i - y .2 i)) ∙ sym (rw (y .0))
 
-  pub count-less : (n size : ℕ) → r ≡ New n → size ≡ number (part 25 4 t) → n ≤ size
-  count-less n size e z = omega (arith, count-fits n e .1)
+  -- where a pool's size is read, and what is taken off it
+  pub count-long : (n k : ℕ) → r ≡ Held n k → length t ≡ tableLength maxSessions
+  count-long n k e = count-fits n k e .long
+
+  pub count-less : (n k size : ℕ) → r ≡ Held n k → size ≡ number (part 25 4 t) → n ≤ size
+  count-less n k size e z = omega (arith, count-fits n k e .teids)
+
+  pub addresses-less : (n k size : ℕ) → r ≡ Held n k → size ≡ number (part 33 4 t) → k ≤ size
+  addresses-less n k size e z = omega (arith, count-fits n k e .addresses)

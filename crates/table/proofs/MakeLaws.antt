@@ -17,7 +17,7 @@ use Rattle.octets.proofs.Put.{put-over}
 use Rattle.rules.specs.Limits.{maxSessions}
 use Rattle.rules.specs.Model.{Settings}
 use Rattle.rules.specs.Layout.{headWidth, sessionWidth, tableLength, area, settingsOctets, encode, settingsWidth}
-use Rattle.rules.specs.Sound.{poolTests, ipv6Allowed, settingsTests, settingsAllowed, make}
+use Rattle.rules.specs.Sound.{poolTests, addressPoolTests, ipv6Allowed, settingsTests, settingsAllowed, make}
 use Rattle.laws.proofs.TableLaws.{ipv6-short}
 use Rattle.records.proofs.Cells.{and-true, and-false}
 use Rattle.table.specs.declared.Making.the-variants.{Made, Refused}
@@ -46,10 +46,10 @@ address-is : (v : List ℕ) → ipv6Allowed v ≡ (eqb (length v) 0 || eqb (leng
 unfolding ipv6Allowed
 address-is v = ap (λ (b : Bool). b || eqb (length v) 16) (nil-length v)
 
-allowed-is : (a f z : ℕ) (v : List ℕ) → T (octets v) → settingsAllowed (settingsGiven a v f z) ≡ (ipv6Allowed v && allOf (poolTests f z))
+allowed-is : (a f z u k : ℕ) (v : List ℕ) → T (octets v) → settingsAllowed (settingsGiven a v f z u k) ≡ (ipv6Allowed v && (allOf (poolTests f z) && allOf (addressPoolTests u k)))
 unfolding settingsAllowed settingsTests
-allowed-is a f z v o =
-    rw (eq-eqb (length (be 4 a)) 4 (length-be 4 a), is-true (octets (be 4 a)) (bytes-be 4 a), is-true (octets v) o, and-true (allOf (poolTests f z)))
+allowed-is a f z u k v o =
+    rw (eq-eqb (length (be 4 a)) 4 (length-be 4 a), is-true (octets (be 4 a)) (bytes-be 4 a), is-true (octets v) o, and-true (allOf (addressPoolTests u k)))
 
 pub address-none : (n : ℕ) → n ≡ 0 → true ≡ (eqb n 0 || eqb n 16)
 address-none n e = sym (rw e)
@@ -59,30 +59,30 @@ address-whole n h = sym (rw (ne-eqb n 0 h))
 
 -- ---- the answers
 
-module _ (a f z : ℕ) (v t : List ℕ) (o : T (octets v)) where
-  refused : (settingsAllowed (settingsGiven a v f z) && eqb (length t) (tableLength maxSessions)) ≡ false → madeOf Refused t ≡ make maxSessions (settingsGiven a v f z) t
+module _ (a f z u n : ℕ) (v t : List ℕ) (o : T (octets v)) where
+  refused : (settingsAllowed (settingsGiven a v f z u n) && eqb (length t) (tableLength maxSessions)) ≡ false → madeOf Refused t ≡ make maxSessions (settingsGiven a v f z u n) t
   unfolding make
   refused e = sym (rw e)
 
-  pub make-length : (length t ≡ tableLength maxSessions → ⊥) → madeOf Refused t ≡ make maxSessions (settingsGiven a v f z) t
-  make-length h = refused (rw (ne-eqb (length t) (tableLength maxSessions) h) (and-false (settingsAllowed (settingsGiven a v f z))))
+  pub make-length : (length t ≡ tableLength maxSessions → ⊥) → madeOf Refused t ≡ make maxSessions (settingsGiven a v f z u n) t
+  make-length h = refused (rw (ne-eqb (length t) (tableLength maxSessions) h) (and-false (settingsAllowed (settingsGiven a v f z u n))))
 
   module _ (r : Bool) (q : r ≡ (eqb (length v) 0 || eqb (length v) 16)) where
-    pub make-address : not r ≡ true → madeOf Refused t ≡ make maxSessions (settingsGiven a v f z) t
-    make-address h = refused (rw (allowed-is a f z v o, address-is v, ← q, not-true r h))
+    pub make-address : not r ≡ true → madeOf Refused t ≡ make maxSessions (settingsGiven a v f z u n) t
+    make-address h = refused (rw (allowed-is a f z u n v o, address-is v, ← q, not-true r h))
 
     pub address-good : not r ≡ false → T (ipv6Allowed v) × (length v ≤ 16)
     address-good h = let good : T (ipv6Allowed v) = of-true (address-is v ∙ sym q ∙ not-false r h) in (good, ipv6-short v good)
 
   -- the settings read from the parameters are allowed or not
-  module _ (s : Settings) (given : s ≡ settingsGiven a v f z) (p : Bool) (k : p ≡ settingsAllowed s) where
-    pub make-settings : not p ≡ true → madeOf Refused t ≡ make maxSessions (settingsGiven a v f z) t
+  module _ (s : Settings) (given : s ≡ settingsGiven a v f z u n) (p : Bool) (k : p ≡ settingsAllowed s) where
+    pub make-settings : not p ≡ true → madeOf Refused t ≡ make maxSessions (settingsGiven a v f z u n) t
     make-settings g = refused (rw (← given, ← k, not-true p g))
 
-    pub make-made : not p ≡ false → length t ≡ tableLength maxSessions → (t′ : List ℕ) → t′ ≡ encode maxSessions s [] → madeOf Made t′ ≡ make maxSessions (settingsGiven a v f z) t
+    pub make-made : not p ≡ false → length t ≡ tableLength maxSessions → (t′ : List ℕ) → t′ ≡ encode maxSessions s [] → madeOf Made t′ ≡ make maxSessions (settingsGiven a v f z u n) t
     unfolding make
     make-made g l t′ e =
-        let yes′ : (settingsAllowed (settingsGiven a v f z) && eqb (length t) (tableLength maxSessions)) ≡ true = rw (← given, ← k, not-false p g, eq-eqb (length t) (tableLength maxSessions) l) in
+        let yes′ : (settingsAllowed (settingsGiven a v f z u n) && eqb (length t) (tableLength maxSessions)) ≡ true = rw (← given, ← k, not-false p g, eq-eqb (length t) (tableLength maxSessions) l) in
         ap (madeOf Made) (e ∙ ap (λ (x : Settings). encode maxSessions x []) given) ∙ sym (rw yes′)
 
 -- ---- the table's octets

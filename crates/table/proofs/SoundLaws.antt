@@ -6,7 +6,7 @@ use native.Mathlib.Nat.{le-trans, le-of-eq}
 use native.Mathlib.Omega.{arith}
 use mathlib.Core.Bool.{Bool, true, false, not, _&&_}
 use mathlib.Core.List.{List, [], _∷_, _++_, map}
-use lib.ListN.{length, take, drop, length-drop, length-map, take-append-drop}
+use lib.ListN.{length, take, drop, replicate, length-drop, length-map, take-append-drop}
 use lib.Seq.{take-take, take-at, drop-at, drop-drop, getD-take}
 use lib.Dec.{T, eqb, eqb→eq, leb→le, lit≤, lit<}
 use mir.Facts.{yes-leb, yes-eqb}
@@ -17,23 +17,27 @@ use Rattle.octets.proofs.Tests.{each, all-of-each, both, and-left, and-right, o
 use Rattle.octets.proofs.Numbers.{same-refl, same-eq}
 use Rattle.octets.proofs.Digits.{be-back, part-octets, drop-octets}
 use Rattle.octets.proofs.Put.{length-part}
-use Rattle.rules.specs.Limits.{maxSessions, mapWords}
+use Rattle.rules.specs.Limits.{maxSessions, mapWords, addressWords}
 use Rattle.rules.specs.Model.{Settings, Session, seidOf}
 use Rattle.rules.specs.Layout.{headWidth, sessionWidth, tableLength, area, sessionOctets, settingsOctets, encode, viewArea, viewSession, viewSettings, viewSessions, settingsWidth}
 use Rattle.rules.specs.Sound.{settingsAllowed, sessionAllowed, apart, sessionsTests, sessionsAllowed, soundTests, sound}
 use Rattle.laws.proofs.LayoutLaws.{length-session}
 use Rattle.laws.proofs.TableLaws.{length-settings}
 use Rattle.pool.proofs.TakenLaws.{pool-fits}
+use Rattle.pool.proofs.AddressLaws.{addresses-fit}
+use Rattle.holdings.specs.Walk.{apartTeids, apartAddresses}
+use Rattle.holdings.proofs.AddressWalk.{apart-both}
+use Rattle.marking.specs.Marking.{slotsFree}
 use Rattle.slots.specs.Records.{keyOf}
 use Rattle.slots.proofs.Lookup.{length-slices}
 use Rattle.records.specs.Kept.{kept, settingsSound, unit}
-use Rattle.records.proofs.Cells.{same-test, drop-take}
+use Rattle.records.proofs.Cells.{and-true, and-false, same-test, drop-take}
 use Rattle.sessions.specs.Slot.{areaSound}
 use Rattle.sessions.proofs.Areas.{area-from, area-to, kept-allowed, kept-same}
 use Rattle.sessions.proofs.SlotLaws.{key-session}
-use Rattle.table.specs.Tests.{sessionCount, slotsOf, unitOf, orderSound, frontTests, frontSound, walkSound}
+use Rattle.table.specs.Tests.{sessionCount, slotsOf, unitOf, firstAddressOf, addressCountOf, orderSound, frontTests, frontSound, walkSound}
 use Rattle.table.proofs.Units.{sessions-unit}
-use Rattle.table.proofs.Walks.{canonical, slots-whole, slots-law}
+use Rattle.table.proofs.Walks.{canonical, slots-whole, slots-law, free-law}
 
 -- ---- what the settings and sessions are read from
 
@@ -45,9 +49,11 @@ unfolding viewSettings octetAt numberAt
 settings-front t =
     λ i. record {
       ipv4 = within 0 settingsWidth 4 t (lit≤ tt) i;
-      ipv6 = pick (eqb (getD-take settingsWidth t 4 0 (lit< tt) i) 0) [] (within 5 24 16 t (lit≤ tt) i);
-      first = number (within 21 8 4 t (lit≤ tt) i);
-      size = number (within 25 4 4 t (lit≤ tt) i);
+      ipv6 = pick (eqb (getD-take settingsWidth t 4 0 (lit< tt) i) 0) [] (within 5 32 16 t (lit≤ tt) i);
+      first = number (within 21 16 4 t (lit≤ tt) i);
+      size = number (within 25 12 4 t (lit≤ tt) i);
+      firstAddress = number (within 29 8 4 t (lit≤ tt) i);
+      addressCount = number (within 33 4 4 t (lit≤ tt) i);
     }
 
 pub sessions-are : (t : List ℕ) → viewSessions t ≡ map viewSession (slotsOf t)
@@ -124,11 +130,22 @@ module _ (t : List ℕ) (long : length t ≡ tableLength maxSessions) (o : T (oc
 
   -- the walk
   walk-is : T (settingsAllowed s) → sessionCount t ≤ maxSessions
-      → walkSound t ≡ ((all (sessionAllowed s) (map viewSession (slotsOf t)) && allPairs apart (map viewSession (slotsOf t))) && all canonical (slotsOf t))
+      → walkSound t ≡ ((all (sessionAllowed s) (map viewSession (slotsOf t)) && allPairs (apart s) (map viewSession (slotsOf t))) && all canonical (slotsOf t))
   unfolding walkSound
   walk-is hs few =
-      slots-law (unitOf t) mapWords (slotsOf t) (size-of-unit t hs) (slots-whole (sessionCount t) (drop headWidth t) (rw area-long (omega arith)) (drop-octets headWidth t o))
-      ∙ ap (λ (b : Bool). (b && allPairs apart (map viewSession (slotsOf t))) && all canonical (slotsOf t)) (sessions-of-unit t (omega arith) (map viewSession (slotsOf t)))
+      let m = map viewSession (slotsOf t) in
+      let keeps = slots-law (unitOf t) mapWords (slotsOf t) (size-of-unit t hs) (slots-whole (sessionCount t) (drop headWidth t) (rw area-long (omega arith)) (drop-octets headWidth t o)) in
+      let free : slotsFree (firstAddressOf t) (addressCountOf t) (replicate addressWords 0) (slotsOf t) ≡ allPairs (apartAddresses s) m =
+      unfold viewSettings numberAt in free-law s addressWords (slotsOf t) (addresses-fit s hs) in
+      (λ i. keeps i && free i)
+      ∙ regroup (all (sessionAllowed (unitOf t)) m) (allPairs apartTeids m) (all canonical (slotsOf t)) (allPairs (apartAddresses s) m)
+      ∙ (λ i. (sessions-of-unit t (omega arith) m i && sym (apart-both s m) i) && all canonical (slotsOf t))
+    where
+      regroup : (a b c d : Bool) → (((a && b) && c) && d) ≡ ((a && (b && d)) && c)
+      regroup true true true d = sym (and-true d)
+      regroup true true false d = sym (and-false d)
+      regroup true false c d = refl
+      regroup false b c d = refl
 
   -- the settings' slot
   pub settings-from : T (settingsSound (part 0 settingsWidth t)) → T (settingsAllowed s) × (settingsOctets s ≡ part 0 settingsWidth t)
@@ -158,17 +175,17 @@ module _ (t : List ℕ) (long : length t ≡ tableLength maxSessions) (o : T (oc
       let st = settings-from (f .1 .0) in
       let few = leb→le (sessionCount t) maxSessions (f .1 .1 .0) in
       let wk = subst T (walk-is (st .0) few) w in
-      let allowed-apart = and-left (all (sessionAllowed s) (map viewSession (slotsOf t)) && allPairs apart (map viewSession (slotsOf t))) (all canonical (slotsOf t)) wk in
-      let canon = and-right (all (sessionAllowed s) (map viewSession (slotsOf t)) && allPairs apart (map viewSession (slotsOf t))) (all canonical (slotsOf t)) wk in
-      let allowed = and-left (all (sessionAllowed s) (map viewSession (slotsOf t))) (allPairs apart (map viewSession (slotsOf t))) allowed-apart in
-      let apart′ = and-right (all (sessionAllowed s) (map viewSession (slotsOf t))) (allPairs apart (map viewSession (slotsOf t))) allowed-apart in
+      let allowed-apart = and-left (all (sessionAllowed s) (map viewSession (slotsOf t)) && allPairs (apart s) (map viewSession (slotsOf t))) (all canonical (slotsOf t)) wk in
+      let canon = and-right (all (sessionAllowed s) (map viewSession (slotsOf t)) && allPairs (apart s) (map viewSession (slotsOf t))) (all canonical (slotsOf t)) wk in
+      let allowed = and-left (all (sessionAllowed s) (map viewSession (slotsOf t))) (allPairs (apart s) (map viewSession (slotsOf t))) allowed-apart in
+      let apart′ = and-right (all (sessionAllowed s) (map viewSession (slotsOf t))) (allPairs (apart s) (map viewSession (slotsOf t))) allowed-apart in
       let k = kept (sessionAllowed s) sessionOctets viewSession in
       let ar = sessions-from (st .0) few (both (all k (slotsOf t)) (ascending (map (keyOf 8) (slotsOf t)) && allZero (drop (sessionCount t * sessionWidth) (drop headWidth t))) (all-kept s (slotsOf t) allowed canon) (f .1 .1 .1 .0)) in
       let whole : encode maxSessions s (viewSessions t) ≡ t = encoded-is ∙ (λ i. st .1 i ++ (part settingsWidth 2 t ++ ar .2 i)) ∙ parts in
       all-of-each (soundTests maxSessions t s (viewSessions t))
       (yes-eqb long, (st .0, (subst (λ (m : List Session). T (sessionsAllowed maxSessions s m)) (sym (sessions-are t)) (sessions-ok s (map viewSession (slotsOf t)) (le-trans (le-of-eq (ap length (sym (sessions-are t)) ∙ count-are t)) few) (ar .1) (ar .0) apart′), (of-true (ap (λ (l : List ℕ). sameOctets l t) whole ∙ same-refl t), tt))))
     where
-      sessions-ok : (x : Settings) (m : List Session) → length m ≤ maxSessions → T (ascending (map seidOf m)) → T (all (sessionAllowed x) m) → T (allPairs apart m) → T (sessionsAllowed maxSessions x m)
+      sessions-ok : (x : Settings) (m : List Session) → length m ≤ maxSessions → T (ascending (map seidOf m)) → T (all (sessionAllowed x) m) → T (allPairs (apart x) m) → T (sessionsAllowed maxSessions x m)
       sessions-ok x m a b c d = unfold sessionsAllowed sessionsTests in all-of-each (sessionsTests maxSessions x m) (yes-leb a, (b, (c, (d, tt))))
 
   sound-to : T (sound maxSessions t) → T (frontSound t) × T (walkSound t)
@@ -182,7 +199,7 @@ module _ (t : List ℕ) (long : length t ≡ tableLength maxSessions) (o : T (oc
       let m = map viewSession (slotsOf t) in
       let up : T (ascending (map seidOf m)) = subst (λ (x : List Session). T (ascending (map seidOf x))) (sessions-are t) (g .1 .0) in
       let allowed : T (all (sessionAllowed s) m) = subst (λ (x : List Session). T (all (sessionAllowed s) x)) (sessions-are t) (g .1 .1 .0) in
-      let apart′ : T (allPairs apart m) = subst (λ (x : List Session). T (allPairs apart x)) (sessions-are t) (g .1 .1 .1 .0) in
+      let apart′ : T (allPairs (apart s) m) = subst (λ (x : List Session). T (allPairs (apart s) x)) (sessions-are t) (g .1 .1 .1 .0) in
       let rest : List ℕ = part settingsWidth 2 t ++ area sessionOctets sessionWidth maxSessions m in
       let eq : settingsOctets s ++ rest ≡ t = sym encoded-is ∙ same in
       let se : settingsOctets s ≡ part 0 settingsWidth t = sym (take-at (settingsOctets s) rest settingsWidth (length-settings s hs)) ∙ ap (take settingsWidth) eq in
@@ -193,7 +210,7 @@ module _ (t : List ℕ) (long : length t ≡ tableLength maxSessions) (o : T (oc
       let kepts = and-left (all k (slotsOf t)) (ascending (map (keyOf 8) (slotsOf t)) && allZero (drop (sessionCount t * sessionWidth) (drop headWidth t))) ar in
       let order = and-right (all k (slotsOf t)) (ascending (map (keyOf 8) (slotsOf t)) && allZero (drop (sessionCount t * sessionWidth) (drop headWidth t))) ar in (
         all-of-each (frontTests t) (yes-eqb long, (settings-to hs se, (yes-leb few, (order, tt)))),
-        subst T (sym (walk-is hs few)) (both (all (sessionAllowed s) m && allPairs apart m) (all canonical (slotsOf t)) (both (all (sessionAllowed s) m) (allPairs apart m) allowed apart′) (all-canonical s (slotsOf t) kepts)),
+        subst T (sym (walk-is hs few)) (both (all (sessionAllowed s) m && allPairs (apart s) m) (all canonical (slotsOf t)) (both (all (sessionAllowed s) m) (allPairs (apart s) m) allowed apart′) (all-canonical s (slotsOf t) kepts)),
       )
 
 -- ---- for any octets

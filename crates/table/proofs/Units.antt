@@ -38,7 +38,7 @@ module _ (s : Settings) (v6 : Bool) (e : not (isNil (s .ipv6)) ≡ v6) where
 
   endpoint-unit : (p : Endpoint) → endpointAllowed u p ≡ endpointAllowed s p
   unfolding endpointAllowed endpointTests
-  endpoint-unit p = ap (λ (b : Bool). ltb (p .id) 256 && (b && true)) (tunnel-unit (p .local))
+  endpoint-unit p = rw (tunnel-unit (p .local))
 
   pub session-unit : (x : Session) → sessionAllowed u x ≡ sessionAllowed s x
   unfolding sessionAllowed sessionTests

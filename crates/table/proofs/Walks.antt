@@ -1,27 +1,32 @@
--- The walk over the slots is refused just where a session is not allowed, two hold a TEID in common, or a slot is not what it is read as.
+-- The walk over the slots is refused just where a session is not allowed, two hold a TEID or an address of the pool in common, or a slot is
+-- not what it is read as.
 -- Assumes nothing.
 use mathlib.Core.Path.{_≡_, refl, sym, ap, _∙_}
 use Prim.Native.Nat.{ℕ, zero, suc, _+_, _*_, _≤_}
 use native.Mathlib.Nat.{suc-mul}
 use native.Mathlib.Omega.{arith}
-use mathlib.Core.Bool.{Bool, true, false, _&&_}
-use mathlib.Core.List.{List, [], _∷_, map}
+use mathlib.Core.Bool.{Bool, true, false, not, _&&_}
+use mathlib.Core.List.{List, [], _∷_, _++_, map}
 use lib.ListN.{length, drop, replicate, length-drop}
 use lib.Seq.{length-take-le}
 use lib.Dec.{T}
-use Rattle.octets.specs.Octets.{slices, sameOctets, octets}
-use Rattle.octets.specs.Lists.{all, allPairs}
+use Rattle.octets.specs.Octets.{slices, sameOctets, octets, concatMap}
+use Rattle.octets.specs.Lists.{all, any, allPairs}
 use Rattle.octets.proofs.Digits.{take-octets, drop-octets}
-use Rattle.rules.specs.Model.{Settings, sessionTeids}
+use Rattle.rules.specs.Model.{Settings, Session, sessionTeids, heldTeids, inAddressPool, sessionAddresses, heldAddresses}
 use Rattle.rules.specs.Layout.{sessionOctets, viewSession, sessionWidth}
 use Rattle.rules.specs.Sound.{sessionAllowed, apart}
-use Rattle.holdings.specs.Walk.{sessionMarks, tableMarks}
+use Rattle.holdings.specs.Walk.{sessionMarks, tableMarks, apartTeids, apartAddresses, addressOffsets, addressMarks}
 use Rattle.holdings.proofs.MapWalk.{sessions-marks}
+use Rattle.holdings.proofs.AddressWalk.{apart-both, address-marks}
+use Rattle.pool.specs.Map.{marked, marks, offsets}
+use Rattle.pool.proofs.Marks.{offsets-append}
+use Rattle.addresses.specs.Offsets.{addressPool, heldOffsets}
 use Rattle.records.specs.Kept.{kept}
 use Rattle.records.proofs.Cells.{and-false}
 use Rattle.sessions.specs.Slot.{slotSound, recordsAllowed}
 use Rattle.sessions.proofs.SlotLaws.{allowed-split, slot-law}
-use Rattle.marking.specs.Marking.{slotHolds, marksAfter, slotKeeps, slotsKeep}
+use Rattle.marking.specs.Marking.{slotHolds, slotTeids, slotFree, inTurn, slotKeeps, slotsKeep, slotsFree, teidsIn, addressesIn}
 use Rattle.marking.proofs.Admitting.{records-pooled}
 
 -- every slot is whole, and of octets
@@ -48,18 +53,54 @@ regroup false c s t d = refl
 
 module _ (u : Settings) where
   slots-marks : (ws : List ℕ) (xss : List (List ℕ)) → Whole xss
-      → slotsKeep u ws xss ≡ (tableMarks (recordsAllowed u) (u .first) ws (map viewSession xss) && all canonical xss)
-  unfolding slotsKeep slotKeeps tableMarks all slotHolds marksAfter sessionTeids
+      → inTurn (slotKeeps u) (slotTeids u) ws xss ≡ (tableMarks (recordsAllowed u) (u .first) ws (map viewSession xss) && all canonical xss)
+  unfolding inTurn slotKeeps slotTeids tableMarks all slotHolds sessionTeids
   slots-marks ws [] w = refl
   slots-marks ws (xs ∷ xss) w =
       let own : slotSound u xs ≡ (recordsAllowed u (viewSession xs) && canonical xs) = slot-law xs (w .0) u (w .1) ∙ unfold kept in refl in
-      (λ i. (own i && sessionMarks (u .first) ws [] (slotHolds xs)) && slots-marks (marksAfter (u .first) ws (slotHolds xs)) xss (w .2) i)
+      let after : List ℕ = marks ws (slotTeids u xs) in
+      (λ i. (own i && sessionMarks (u .first) ws [] (slotHolds xs)) && slots-marks after xss (w .2) i)
       ∙ regroup (recordsAllowed u (viewSession xs)) (canonical xs) (sessionMarks (u .first) ws [] (slotHolds xs))
-      (tableMarks (recordsAllowed u) (u .first) (marksAfter (u .first) ws (slotHolds xs)) (map viewSession xss)) (all canonical xss)
+      (tableMarks (recordsAllowed u) (u .first) after (map viewSession xss)) (all canonical xss)
 
   -- from an empty map of n words
   pub slots-law : (n : ℕ) (xss : List (List ℕ)) → u .size ≤ 64 * n → Whole xss
-      → slotsKeep u (replicate n 0) xss ≡ ((all (sessionAllowed u) (map viewSession xss) && allPairs apart (map viewSession xss)) && all canonical xss)
+      → slotsKeep u (replicate n 0) xss ≡ ((all (sessionAllowed u) (map viewSession xss) && allPairs apartTeids (map viewSession xss)) && all canonical xss)
+  unfolding slotsKeep
   slots-law n xss h w =
       slots-marks (replicate n 0) xss w
       ∙ ap (λ (b : Bool). b && all canonical xss) (sessions-marks u (recordsAllowed u) (records-pooled u) n (map viewSession xss) h (allowed-split u))
+
+  -- the offsets of their TEIDs
+  pub teids-are : (xss : List (List ℕ)) → teidsIn u xss ≡ offsets (u .first) (heldTeids (map viewSession xss))
+  unfolding teidsIn concatMap slotTeids slotHolds heldTeids sessionTeids offsets
+  teids-are [] = refl
+  teids-are (xs ∷ xss) =
+      ap (λ (l : List ℕ). slotTeids u xs ++ l) (teids-are xss) ∙ sym (offsets-append (u .first) (sessionTeids (viewSession xs)) (heldTeids (map viewSession xss)))
+
+-- ---- addresses
+
+module _ (s : Settings) where
+  -- only the pool of addresses counts
+  same-offsets : (xs : List ℕ) → heldOffsets (s .firstAddress) (s .addressCount) xs ≡ addressOffsets s (viewSession xs)
+  unfolding heldOffsets addressOffsets sessionAddresses inAddressPool
+  same-offsets xs = refl
+
+  turns-are : (ws : List ℕ) (xss : List (List ℕ))
+      → inTurn (slotFree (s .firstAddress) (s .addressCount)) (heldOffsets (s .firstAddress) (s .addressCount)) ws xss ≡ addressMarks ws (map (addressOffsets s) (map viewSession xss))
+  unfolding inTurn slotFree addressMarks
+  turns-are ws [] = refl
+  turns-are ws (xs ∷ xss) =
+      (λ i. not (any (marked ws) (same-offsets xs i)) && turns-are (marks ws (heldOffsets (s .firstAddress) (s .addressCount) xs)) xss i)
+      ∙ ap (λ (l : List ℕ). not (any (marked ws) (addressOffsets s (viewSession xs))) && addressMarks (marks ws l) (map (addressOffsets s) (map viewSession xss))) (same-offsets xs)
+
+  pub free-law : (n : ℕ) (xss : List (List ℕ)) → s .addressCount ≤ 64 * n → slotsFree (s .firstAddress) (s .addressCount) (replicate n 0) xss ≡ allPairs (apartAddresses s) (map viewSession xss)
+  unfolding slotsFree
+  free-law n xss h = turns-are (replicate n 0) xss ∙ address-marks s n (map viewSession xss) h
+
+  -- the offsets of their addresses
+  pub addresses-are : (xss : List (List ℕ)) → addressesIn (s .firstAddress) (s .addressCount) xss ≡ offsets (s .firstAddress) (heldAddresses s (map viewSession xss))
+  unfolding addressesIn concatMap heldAddresses offsets addressOffsets
+  addresses-are [] = refl
+  addresses-are (xs ∷ xss) =
+      (λ i. same-offsets xs i ++ addresses-are xss i) ∙ sym (offsets-append (s .firstAddress) (sessionAddresses s (viewSession xs)) (heldAddresses s (map viewSession xss)))

@@ -1,5 +1,5 @@
 -- The tests of a table on its octets, in the order in which they are made: the length, the settings, the number of sessions, the order
--- of the SEIDs with the unused room, and the sessions with their TEIDs.
+-- of the SEIDs with the unused room, and the sessions with their TEIDs and addresses.
 -- Assumes nothing.
 use Prim.Native.Nat.{ℕ, _*_}
 use mathlib.Core.Bool.{Bool, not, _&&_}
@@ -10,12 +10,12 @@ use Rattle.octets.specs.Choice.{allOf}
 use Rattle.octets.specs.Octets.{part, number, slices, allZero}
 use Rattle.octets.specs.Lists.{ascending}
 use Rattle.octets.specs.Octets.{octetAt}
-use Rattle.rules.specs.Limits.{maxSessions, mapWords}
+use Rattle.rules.specs.Limits.{maxSessions, mapWords, addressWords}
 use Rattle.rules.specs.Model.{Settings}
 use Rattle.rules.specs.Layout.{settingsWidth, headWidth, sessionWidth, tableLength}
 use Rattle.slots.specs.Records.{keyOf}
 use Rattle.records.specs.Kept.{settingsSound, unit}
-use Rattle.marking.specs.Marking.{slotsKeep}
+use Rattle.marking.specs.Marking.{slotsKeep, slotsFree}
 
 -- the number of sessions, and their slots
 abbrev pub sessionCount : List ℕ → ℕ
@@ -27,6 +27,13 @@ slotsOf t = slices sessionWidth (sessionCount t) (drop headWidth t)
 -- the settings as far as the rules of records ask
 abbrev pub unitOf : List ℕ → Settings
 unitOf t = unit (number (part 21 4 t)) (number (part 25 4 t)) (not (eqb (octetAt t 4) 0))
+
+-- the pool of addresses
+abbrev pub firstAddressOf : List ℕ → ℕ
+firstAddressOf t = number (part 29 4 t)
+
+abbrev pub addressCountOf : List ℕ → ℕ
+addressCountOf t = number (part 33 4 t)
 
 -- the slots stand in ascending order of SEIDs, and the room after them is zero
 unfoldable pub orderSound : List ℕ → Bool
@@ -41,4 +48,4 @@ frontSound t = allOf (frontTests t)
 
 -- the walk
 unfoldable pub walkSound : List ℕ → Bool
-walkSound t = slotsKeep (unitOf t) (replicate mapWords 0) (slotsOf t)
+walkSound t = slotsKeep (unitOf t) (replicate mapWords 0) (slotsOf t) && slotsFree (firstAddressOf t) (addressCountOf t) (replicate addressWords 0) (slotsOf t)

@@ -1,17 +1,19 @@
-// The lent session table: whether it is broken, the map of its TEIDs and how many are free; making an empty one.
+// The lent session table: whether it is broken, the maps of its TEIDs and addresses and how many are free; making an empty one.
 //
-// A table is the settings (29 octets), the number of sessions (2) and 64 slots of 483 octets; docs/ has the layout.
+// A table is the settings (37 octets), the number of sessions (2) and 64 slots of 603 octets; docs/ has the layout.
 ghost use mathlib.Core.Path.{_≡_};
 ghost use mathlib.Core.Bool.{_||_};
 ghost use lib.Dec.{eqb};
 ghost use lib.ListN.{replicate};
-ghost use Rattle.rules.specs.Limits.{maxSessions, mapWords};
-ghost use Rattle.rules.specs.Sound.{sound, countFree, make};
+ghost use Rattle.rules.specs.Limits.{maxSessions, mapWords, addressWords};
+ghost use Rattle.rules.specs.Sound.{sound, countFree, countAddresses, make};
 ghost use Rattle.unit.specs.Meaning.{settingsGiven};
 ghost use Rattle.table.specs.Tests.{frontSound};
 ghost use Rattle.table.specs.Answers.{Examined, countOf, madeOf};
+use format::ADDRESS_COUNT;
 use format::COUNT;
 use format::FIRST;
+use format::FIRST_ADDRESS;
 use format::HEAD;
 use format::IPV6_THERE;
 use format::LENGTH;
@@ -20,7 +22,7 @@ use format::SETTINGS;
 use format::SIZE;
 use format::SLOT;
 
-// The number of free TEIDs, or that the table is broken (01's outcome 1).
+// The number of free TEIDs or addresses, or that the table is broken (01's outcome 1).
 pub enum Count {
     Broken,
     Free(u64),
@@ -43,20 +45,32 @@ fn front_sound(t: &[u8]) -> bool
     sessions::ordered(&t[HEAD..LENGTH], SLOT, 8, n as usize)
 }
 
-// Tests the whole table and fills the map of its TEIDs, which has to be empty: a clash where the table is broken, else how many
-// TEIDs it holds.
-pub fn examine(t: &[u8], words: &mut [u64]) -> marking::Marks
-    requires { ⌜ now words ≡ replicate mapWords 0 ⌝ }
-    ensures { λ r. ⌜ Examined (now (t .entry)) r (now (words .exit)) ⌝ }
+// Tests the whole table and fills the maps of its TEIDs and addresses, which have to be empty: broken, or how many TEIDs and addresses
+// of the pool it holds.
+pub fn examine(t: &[u8], words: &mut [u64], addresses: &mut [u64]) -> marking::Seen
+    requires { ⌜ (now words ≡ replicate mapWords 0) × (now addresses ≡ replicate addressWords 0) ⌝ }
+    ensures { λ r. ⌜ Examined (now (t .entry)) r (now (words .exit)) (now (addresses .exit)) ⌝ }
 {
     if !front_sound(t) {
-        return marking::Marks::Clash;
+        return marking::Seen::Broken;
     }
     let first = octets::read(t, FIRST, 4);
     let size = octets::read(t, SIZE, 4);
     let n = octets::read(t, COUNT, 2) as usize;
     let v6 = t[IPV6_THERE] != 0;
-    marking::admit_all(words, &t[HEAD..LENGTH], n, first, size, v6)
+    let address = octets::read(t, FIRST_ADDRESS, 4);
+    let count = octets::read(t, ADDRESS_COUNT, 4);
+    marking::admit_all(
+        words,
+        addresses,
+        &t[HEAD..LENGTH],
+        n,
+        first,
+        size,
+        v6,
+        address,
+        count,
+    )
 }
 
 // Whether the table is not broken.
@@ -64,8 +78,9 @@ pub fn is_sound(t: &[u8]) -> bool
     ensures { λ r. ⌜ r ≡ sound maxSessions (now (t .entry)) ⌝ }
 {
     let mut words = [0u64; pool::WORDS];
-    let seen = examine(t, &mut words);
-    let marking::Marks::New(n) = seen else {
+    let mut addresses = [0u64; pool::ADDRESS_WORDS];
+    let seen = examine(t, &mut words, &mut addresses);
+    let marking::Seen::Held(n, k) = seen else {
         return false;
     };
     true
@@ -76,11 +91,25 @@ pub fn free_count(t: &[u8]) -> Count
     ensures { λ r. ⌜ countOf r ≡ countFree maxSessions (now (t .entry)) ⌝ }
 {
     let mut words = [0u64; pool::WORDS];
-    let seen = examine(t, &mut words);
-    let marking::Marks::New(n) = seen else {
+    let mut addresses = [0u64; pool::ADDRESS_WORDS];
+    let seen = examine(t, &mut words, &mut addresses);
+    let marking::Seen::Held(n, k) = seen else {
         return Count::Broken;
     };
     Count::Free(octets::read(t, SIZE, 4) - n as u64)
+}
+
+// How many addresses of the pool no record holds.
+pub fn free_addresses(t: &[u8]) -> Count
+    ensures { λ r. ⌜ countOf r ≡ countAddresses maxSessions (now (t .entry)) ⌝ }
+{
+    let mut words = [0u64; pool::WORDS];
+    let mut addresses = [0u64; pool::ADDRESS_WORDS];
+    let seen = examine(t, &mut words, &mut addresses);
+    let marking::Seen::Held(n, k) = seen else {
+        return Count::Broken;
+    };
+    Count::Free(octets::read(t, ADDRESS_COUNT, 4) - k as u64)
 }
 
 // Whether an empty table was made, or the settings or the length were refused.
@@ -99,11 +128,19 @@ fn address_fits(n: usize) -> bool
     n == 16
 }
 
-// Makes an empty table of the unit's IPv4 address, IPv6 address (16 octets, or none), first TEID and pool size. Nothing is written
-// where it is refused.
-pub fn make(t: &mut [u8], ipv4: u32, ipv6: &[u8], first: u32, size: u32) -> Making
+// Makes an empty table of the unit's IPv4 address, IPv6 address (16 octets, or none), first TEID and number of TEIDs, first address and
+// number of addresses. Nothing is written where it is refused.
+pub fn make(
+    t: &mut [u8],
+    ipv4: u32,
+    ipv6: &[u8],
+    first: u32,
+    size: u32,
+    address: u32,
+    count: u32,
+) -> Making
     ensures { λ r.
-        ⌜ madeOf r (now (t .exit)) ≡ make maxSessions (settingsGiven ipv4 (now (ipv6 .entry)) first size) (now (t .entry)) ⌝ }
+        ⌜ madeOf r (now (t .exit)) ≡ make maxSessions (settingsGiven ipv4 (now (ipv6 .entry)) first size address count) (now (t .entry)) ⌝ }
 {
     if t.len() != LENGTH {
         return Making::Refused;
@@ -111,7 +148,7 @@ pub fn make(t: &mut [u8], ipv4: u32, ipv6: &[u8], first: u32, size: u32) -> Maki
     if !address_fits(ipv6.len()) {
         return Making::Refused;
     }
-    let u = unit::given(ipv4, ipv6, first, size);
+    let u = unit::given(ipv4, ipv6, first, size, address, count);
     if !unit::allowed(u) {
         return Making::Refused;
     }

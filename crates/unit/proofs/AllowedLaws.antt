@@ -1,7 +1,7 @@
--- Which settings are allowed, return by return. The value's addresses are whole by its widths; the pool is left to test.
+-- Which settings are allowed, return by return. The value's addresses are whole by its widths; the pools are left to test.
 -- Assumes nothing.
 use mathlib.Core.Path.{_≡_, refl, sym, ap, _∙_}
-use mathlib.Core.Bool.{Bool, true, false, _&&_}
+use mathlib.Core.Bool.{Bool, true, false, not, _&&_, true≢false}
 use mathlib.Core.List.{List, [], _∷_, _++_}
 use Prim.Native.Nat.{ℕ, _+_, _-_, _≤_, _<_, _^_}
 use native.Mathlib.Omega.{arith}
@@ -14,10 +14,10 @@ use Rattle.octets.proofs.Tests.{is-true}
 use Rattle.octets.proofs.Ordered.{orders}
 use Rattle.octets.proofs.Numbers.{length-be, bytes-be}
 use Rattle.octets.proofs.Digits.{octets-append}
-use Rattle.rules.specs.Limits.{maxPool}
-use Rattle.rules.specs.Sound.{poolTests, ipv6Allowed, settingsTests, settingsAllowed}
+use Rattle.rules.specs.Limits.{maxPool, maxAddresses}
+use Rattle.rules.specs.Sound.{poolTests, addressPoolTests, ipv6Allowed, settingsTests, settingsAllowed}
 use Rattle.unit.specs.declared.Settings.{Settings as Unit}
-use Rattle.unit.specs.Meaning.{settingsOf}
+use Rattle.unit.specs.Meaning.{settingsOf, rangeTests}
 
 and-true : (b : Bool) → (b && true) ≡ b
 and-true true = refl
@@ -38,30 +38,45 @@ module _ (a b : ℕ) where
   six-octets true = is-true (octets (be 8 a ++ be 8 b)) (octets-append (be 8 a) (be 8 b) (bytes-be 8 a) (bytes-be 8 b))
   six-octets false = refl
 
+-- ---- a pool, return by return
+
+module _ (first size most : ℕ) where
+  pub pool-empty : size < 1 → false ≡ allOf (rangeTests first size most)
+  pool-empty h = rw (lt-leb 1 size h) refl
+
+  pub pool-large : 1 ≤ size → most < size → false ≡ allOf (rangeTests first size most)
+  pool-large e h = rw (le-leb 1 size e, lt-leb size most h) refl
+
+  last-is : size ≤ most → most ≤ 4294967296 → leb first (4294967296 - size) ≡ leb (first + size) (2 ^ 32)
+  last-is h k =
+      orders (first + size) 4294967296
+      (λ j. le-leb first (4294967296 - size) (omega arith) ∙ sym (le-leb (first + size) (2 ^ 32) j))
+      (λ j. lt-leb first (4294967296 - size) (omega arith) ∙ sym (lt-leb (first + size) (2 ^ 32) j))
+
+  pub pool-last : most ≤ 4294967296 → 1 ≤ size → size ≤ most → leb first (4294967296 - size) ≡ allOf (rangeTests first size most)
+  pool-last k e h = last-is h k ∙ rw (le-leb 1 size e, le-leb size most h) (sym (and-true (leb (first + size) (2 ^ 32))))
+
+-- ---- the settings
+
 module _ (u : Unit) where
-  pub allowed-is : settingsAllowed (settingsOf u) ≡ allOf (poolTests (u .first) (u .size))
-  unfolding settingsAllowed settingsTests settingsOf
+  abbrev teids : Bool
+  teids = allOf (rangeTests (u .first) (u .size) maxPool)
+
+  abbrev ips : Bool
+  ips = allOf (rangeTests (u .«first_address») (u .addresses) maxAddresses)
+
+  pub allowed-is : settingsAllowed (settingsOf u) ≡ ((leb 1 (u .first) && teids) && ips)
+  unfolding settingsAllowed settingsTests settingsOf poolTests addressPoolTests
   allowed-is =
-      rw (eq-eqb (length (be 4 (u .ipv4))) 4 (length-be 4 (u .ipv4)), is-true (octets (be 4 (u .ipv4))) (bytes-be 4 (u .ipv4)), six-allowed (u .high) (u .low) (u .«has_ipv6»), six-octets (u .high) (u .low) (u .«has_ipv6»), and-true (allOf (poolTests (u .first) (u .size))))
+      rw (eq-eqb (length (be 4 (u .ipv4))) 4 (length-be 4 (u .ipv4)), is-true (octets (be 4 (u .ipv4))) (bytes-be 4 (u .ipv4)), six-allowed (u .high) (u .low) (u .«has_ipv6»), six-octets (u .high) (u .low) (u .«has_ipv6»), and-true ips) refl
 
   pub allowed-first : u .first < 1 → false ≡ settingsAllowed (settingsOf u)
-  unfolding poolTests
-  allowed-first h = sym (allowed-is ∙ rw (lt-leb 1 (u .first) h))
+  allowed-first h = sym (allowed-is ∙ rw (lt-leb 1 (u .first) h) refl)
 
-  pub allowed-empty : u .size < 1 → false ≡ settingsAllowed (settingsOf u)
-  unfolding poolTests
-  allowed-empty h = sym (allowed-is ∙ rw (lt-leb 1 (u .size) h) (and-false (leb 1 (u .first))))
+  pub allowed-teids : (b : Bool) → 1 ≤ u .first → b ≡ teids → not b ≡ true → false ≡ settingsAllowed (settingsOf u)
+  allowed-teids true f e h = absurd (true≢false (sym h))
+  allowed-teids false f e h = sym (allowed-is ∙ rw (le-leb 1 (u .first) f, ← e) refl)
 
-  pub allowed-large : 1 ≤ u .first → 1 ≤ u .size → maxPool < u .size → false ≡ settingsAllowed (settingsOf u)
-  unfolding poolTests
-  allowed-large f e h = sym (allowed-is ∙ rw (le-leb 1 (u .first) f, le-leb 1 (u .size) e, lt-leb (u .size) maxPool h))
-
-  last-is : u .size ≤ maxPool → leb (u .first) (4294967296 - u .size) ≡ leb (u .first + u .size) (2 ^ 32)
-  last-is h =
-      orders (u .first + u .size) 4294967296
-      (λ k. le-leb (u .first) (4294967296 - u .size) (omega arith) ∙ sym (le-leb (u .first + u .size) (2 ^ 32) k))
-      (λ k. lt-leb (u .first) (4294967296 - u .size) (omega arith) ∙ sym (lt-leb (u .first + u .size) (2 ^ 32) k))
-
-  pub allowed-last : 1 ≤ u .first → 1 ≤ u .size → u .size ≤ maxPool → leb (u .first) (4294967296 - u .size) ≡ settingsAllowed (settingsOf u)
-  unfolding poolTests
-  allowed-last f e h = last-is h ∙ sym (allowed-is ∙ rw (le-leb 1 (u .first) f, le-leb 1 (u .size) e, le-leb (u .size) maxPool h) (and-true (leb (u .first + u .size) (2 ^ 32))))
+  pub allowed-ips : (b r : Bool) → 1 ≤ u .first → b ≡ teids → not b ≡ false → r ≡ ips → r ≡ settingsAllowed (settingsOf u)
+  allowed-ips true r f e h k = k ∙ sym (allowed-is ∙ rw (le-leb 1 (u .first) f, ← e) refl)
+  allowed-ips false r f e h k = absurd (true≢false h)

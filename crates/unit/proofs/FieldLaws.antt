@@ -30,3 +30,11 @@ module _ (u : Unit) where
     pub size-is : u .size ≡ s .size
     unfolding settingsOf
     size-is = ap (λ (x : Settings). x .size) e
+
+    pub first-address-is : u .«first_address» ≡ s .firstAddress
+    unfolding settingsOf
+    first-address-is = ap (λ (x : Settings). x .firstAddress) e
+
+    pub addresses-is : u .addresses ≡ s .addressCount
+    unfolding settingsOf
+    addresses-is = ap (λ (x : Settings). x .addressCount) e

@@ -1,7 +1,9 @@
 -- Which of the rules' settings the code's value stands for, and which the parameters of a call.
 -- Assumes nothing.
-use Prim.Native.Nat.{ℕ}
-use mathlib.Core.List.{List, [], _++_}
+use Prim.Native.Nat.{ℕ, _+_, _^_}
+use mathlib.Core.Bool.{Bool}
+use mathlib.Core.List.{List, [], _∷_, _++_}
+use lib.Dec.{leb}
 use Rattle.octets.specs.Choice.{pick}
 use Rattle.octets.specs.Octets.{be}
 use Rattle.rules.specs.Model.{Settings}
@@ -10,8 +12,27 @@ use Rattle.unit.specs.declared.Settings.{Settings as Unit}
 -- the IPv4 address is a number of four octets, the IPv6 address two of eight
 unfoldable pub settingsOf : Unit → Settings
 settingsOf u =
-    record { ipv4 = be 4 (u .ipv4); ipv6 = pick (u .«has_ipv6») (be 8 (u .high) ++ be 8 (u .low)) []; first = u .first; size = u .size }
+    record {
+      ipv4 = be 4 (u .ipv4);
+      ipv6 = pick (u .«has_ipv6») (be 8 (u .high) ++ be 8 (u .low)) [];
+      first = u .first;
+      size = u .size;
+      firstAddress = u .«first_address»;
+      addressCount = u .addresses;
+    }
 
 -- the parameters of a call: the IPv4 address as a number, the IPv6 address as octets, empty where there is none
-abbrev pub settingsGiven : ℕ → List ℕ → ℕ → ℕ → Settings
-settingsGiven ipv4 ipv6 first size = record { ipv4 = be 4 ipv4; ipv6 = ipv6; first = first; size = size }
+abbrev pub settingsGiven : ℕ → List ℕ → ℕ → ℕ → ℕ → ℕ → Settings
+settingsGiven ipv4 ipv6 first size firstAddress addresses =
+    record { ipv4 = be 4 ipv4; ipv6 = ipv6; first = first; size = size; firstAddress = firstAddress; addressCount = addresses }
+
+-- the pools' octets, and where they stand in the settings: after the addresses
+abbrev pub poolsAt : ℕ
+poolsAt = 21
+
+unfoldable pub poolOctets : Settings → List ℕ
+poolOctets s = be 4 (s .first) ++ (be 4 (s .size) ++ (be 4 (s .firstAddress) ++ be 4 (s .addressCount)))
+
+-- a pool of at least one number and at most so many, the last of which has four octets
+abbrev pub rangeTests : ℕ → ℕ → ℕ → List Bool
+rangeTests first size most = leb 1 size ∷ leb size most ∷ leb (first + size) (2 ^ 32) ∷ []

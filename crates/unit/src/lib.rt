@@ -4,13 +4,14 @@ ghost use mathlib.Core.Path.{_≡_};
 ghost use Prim.Native.Nat.{_≤_};
 ghost use lib.Dec.{T};
 ghost use lib.ListN.{length};
-ghost use Rattle.octets.specs.Choice.{flag};
-ghost use Rattle.octets.specs.Octets.{zeros};
+ghost use Rattle.octets.specs.Choice.{flag, allOf};
+ghost use Rattle.octets.specs.Octets.{zeros, put};
 ghost use Rattle.rules.specs.Layout.{viewSettings, settingsOctets, settingsWidth};
 ghost use Rattle.rules.specs.Sound.{settingsAllowed, ipv6Allowed};
-ghost use Rattle.unit.specs.Meaning.{settingsOf, settingsGiven};
+ghost use Rattle.unit.specs.Meaning.{settingsOf, settingsGiven, rangeTests, poolsAt, poolOctets};
 
-// The IPv4 address as a number, whether there is an IPv6 address and that address in two halves, the first TEID and the pool's size.
+// The IPv4 address as a number, whether there is an IPv6 address and that address in two halves, the first TEID and the pool's size, the
+// first address for patients and how many there are.
 pub struct Settings {
     pub ipv4: u64,
     pub has_ipv6: bool,
@@ -18,6 +19,8 @@ pub struct Settings {
     pub low: u64,
     pub first: u64,
     pub size: u64,
+    pub first_address: u64,
+    pub addresses: u64,
 }
 
 // The settings at the front of a table.
@@ -31,6 +34,8 @@ pub fn read(t: &[u8]) -> Settings
     let low = octets::read(t, format::IPV6_LOW, 8);
     let first = octets::read(t, format::FIRST, 4);
     let size = octets::read(t, format::SIZE, 4);
+    let first_address = octets::read(t, format::FIRST_ADDRESS, 4);
+    let addresses = octets::read(t, format::ADDRESS_COUNT, 4);
     Settings {
         ipv4,
         has_ipv6,
@@ -38,13 +43,22 @@ pub fn read(t: &[u8]) -> Settings
         low,
         first,
         size,
+        first_address,
+        addresses,
     }
 }
 
 // The settings that a host names: the IPv6 address in 16 octets, or in none.
-pub fn given(ipv4: u32, ipv6: &[u8], first: u32, size: u32) -> Settings
+pub fn given(
+    ipv4: u32,
+    ipv6: &[u8],
+    first: u32,
+    size: u32,
+    first_address: u32,
+    addresses: u32,
+) -> Settings
     requires { ⌜ T (ipv6Allowed (now ipv6)) × (length (now ipv6) ≤ 16) ⌝ }
-    ensures { λ r. ⌜ settingsOf r ≡ settingsGiven ipv4 (now (ipv6 .entry)) first size ⌝ }
+    ensures { λ r. ⌜ settingsOf r ≡ settingsGiven ipv4 (now (ipv6 .entry)) first size «first_address» addresses ⌝ }
 {
     let half = ipv6.len() / 2;
     let high = octets::read(ipv6, 0, half);
@@ -56,23 +70,37 @@ pub fn given(ipv4: u32, ipv6: &[u8], first: u32, size: u32) -> Settings
         low,
         first: first as u64,
         size: size as u64,
+        first_address: first_address as u64,
+        addresses: addresses as u64,
     }
 }
 
-// Whether the rules allow these settings: the first TEID at least 1, the pool's size 1 to 4,096, the last TEID at most 4,294,967,295.
+// Whether a pool of so many numbers, at least one and at most so many, ends at 4,294,967,295 at the latest.
+fn pool_allowed(first: u64, size: u64, most: u64) -> bool
+    requires { ⌜ most ≤ 4294967296 ⌝ }
+    ensures { λ r. ⌜ r ≡ allOf (rangeTests first size most) ⌝ }
+{
+    if size < 1 {
+        return false;
+    }
+    if most < size {
+        return false;
+    }
+    first <= 4294967296 - size
+}
+
+// Whether the rules allow these settings: the first TEID at least 1, the pool's size 1 to 4,096, the number of addresses 1 to 1,024, the
+// last of each at most 4,294,967,295.
 pub fn allowed(s: Settings) -> bool
     ensures { λ r. ⌜ r ≡ settingsAllowed (settingsOf s) ⌝ }
 {
     if s.first < 1 {
         return false;
     }
-    if s.size < 1 {
+    if !pool_allowed(s.first, s.size, format::MAX_POOL) {
         return false;
     }
-    if format::MAX_POOL < s.size {
-        return false;
-    }
-    s.first <= 4294967296 - s.size
+    pool_allowed(s.first_address, s.addresses, format::MAX_ADDRESSES)
 }
 
 // 1 for what is there.
@@ -83,6 +111,17 @@ fn flag(there: bool) -> usize
         return 1;
     }
     0
+}
+
+// Writes the pools behind the addresses.
+fn write_pools(slot: &mut [u8], s: Settings)
+    requires { ⌜ settingsWidth ≤ length (now slot) ⌝ }
+    ensures { λ _. ⌜ now (slot .exit) ≡ put poolsAt (poolOctets (settingsOf s)) (now (slot .entry)) ⌝ }
+{
+    octets::write(slot, format::FIRST, 4, s.first);
+    octets::write(slot, format::SIZE, 4, s.size);
+    octets::write(slot, format::FIRST_ADDRESS, 4, s.first_address);
+    octets::write(slot, format::ADDRESS_COUNT, 4, s.addresses);
 }
 
 // Writes the settings into their slot, which is zero.
@@ -96,6 +135,5 @@ pub fn write(slot: &mut [u8], s: Settings)
     octets::write(slot, format::IPV6_THERE, 1, there as u64);
     octets::write(slot, format::IPV6, half, s.high);
     octets::write(slot, format::IPV6 + half, half, s.low);
-    octets::write(slot, format::FIRST, 4, s.first);
-    octets::write(slot, format::SIZE, 4, s.size);
+    write_pools(slot, s);
 }

@@ -6,6 +6,8 @@ use element::fqcsid::FqCsid;
 use element::fseid;
 use element::fteid;
 use element::fteid::FTeid;
+use element::ueip;
+use element::ueip::UeIp;
 use libc::STDOUT_FILENO;
 ghost use mathlib.Core.Path.{_≡_};
 ghost use mathlib.Core.Bool.{false};
@@ -118,6 +120,29 @@ fn seid(s: &[u8]) {
     line(&out, count);
 }
 
+fn kind(v: UeIp) {
+    match v {
+        UeIp::Given(n) => number(n),
+        UeIp::Choose => {
+            io::write_all(STDOUT_FILENO, b"choose ");
+        }
+        UeIp::Other => {
+            io::write_all(STDOUT_FILENO, b"other ");
+        }
+    }
+}
+
+fn address(s: &[u8]) {
+    let a = ueip::read(s);
+    let ueip::Answer::Value(v) = a else {
+        refused(ueip::cause_of(a));
+        return;
+    };
+    kind(v);
+    let mut out = [0xaau8; 8];
+    write_address(v, &mut out);
+}
+
 // Values written into a space, which is printed whole.
 fn write_tunnel(v: FTeid, endpoint: bool, out: &mut [u8]) {
     let w = fteid::write(v, endpoint, out);
@@ -131,6 +156,11 @@ fn write_csid(v: FqCsid, out: &mut [u8]) {
 
 fn write_seid(n: u64, out: &mut [u8]) {
     let w = fseid::write(n, 0xc0000201, out);
+    written(w, out);
+}
+
+fn write_address(v: UeIp, out: &mut [u8]) {
+    let w = ueip::write(v, out);
     written(w, out);
 }
 
@@ -249,6 +279,31 @@ fn seids() {
     seid(b"");
 }
 
+// UE IP Addresses (02 (v)): each rule of their order, alone and against the next, and what is ignored.
+fn addresses() {
+    address(b"\x02\x0a\x00\x00\x01");
+    address(b"\x10");
+    address(b"\x12");
+    address(b"\x00");
+    address(b"\x02\x0a");
+    address(b"");
+    address(b"\x01");
+    address(b"\x22");
+    address(b"\x86\x0a\x00\x00\x01");
+    address(b"\x02\x00\x00\x00\x00");
+    address(b"\x02\xff\xff\xff\xff\x99");
+    address(b"\x02\x0a\x00\x00");
+    address(b"\x94\x0a\x00\x00\x01");
+    address(b"\x84\x0a\x00\x00\x01");
+    address(b"\x08");
+    address(b"\x20");
+    address(b"\x40");
+    address(b"\x03\x0a\x00\x00\x01");
+    address(b"\x30");
+    address(b"\x13");
+    address(b"\xff");
+}
+
 // Space to spare, just enough, too little.
 fn spaces() {
     let v = FTeid {
@@ -288,6 +343,22 @@ fn seid_spaces() {
     write_seid(0, &mut none);
 }
 
+// Likewise; then what is not written: an address of five octets, and a value that is not supported.
+fn address_spaces() {
+    let v = UeIp::Given(0x0a000001);
+    let mut eight = [0xaau8; 8];
+    write_address(v, &mut eight);
+    let mut five = [0xaau8; 5];
+    write_address(v, &mut five);
+    let mut four = [0xaau8; 4];
+    write_address(v, &mut four);
+    let mut one = [0xaau8; 1];
+    write_address(UeIp::Choose, &mut one);
+    write_address(UeIp::Choose, &mut one[..0]);
+    write_address(UeIp::Given(0x100000000), &mut eight);
+    write_address(UeIp::Other, &mut eight);
+}
+
 // A CHOOSE ID outside an endpoint; then what is outside the rules: one in an endpoint, no family, CHID without CH, a fifth
 // bit, a TEID of five octets, a TEID beside CHOOSE.
 fn write_tunnels() {
@@ -319,6 +390,8 @@ fn main() {
     csid_spaces();
     write_csids();
     seid_spaces();
+    addresses();
+    address_spaces();
     number(first_refusal(b"\x05", b"\x31"));
     number(first_refusal(b"\x0d", b"\x31"));
     number(first_refusal(b"\x05", b"\x01\xc0\x00\x02\x0a\x00\x05\x01"));

@@ -69,7 +69,7 @@ fn head(kind: u64, header: u64, sequence: u64, plan: Plan) {
 fn message(msg: &[u8], kind: u64, header: u64)
     requires { ⌜ SessionHeader (now msg) × (length (now msg) ≤ 2048) ⌝ }
 {
-    let mut words = [0u64; 4068];
+    let mut words = [0u64; format::PLAN];
     let sequence = octets::read(msg, 12, 3);
     match request::read_request(msg, &mut words) {
         Reading::Fault(cause, kind, place) => fault(cause, kind, place as u64),

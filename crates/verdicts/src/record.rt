@@ -73,6 +73,21 @@ fn tunnel(row: &[u64])
     given(row);
 }
 
+// A UE IP Address.
+fn address(row: &[u64])
+    requires { ⌜ length (now row) ≡ rowWidth ⌝ }
+{
+    text(b" address=");
+    match row[words::UE_KIND] {
+        0 => text(b"-"),
+        1 => {
+            io::print_hex(1, row[words::UE_ADDRESS], 8);
+        }
+        2 => text(b"choose"),
+        _ => text(b"other"),
+    }
+}
+
 fn create_pdr(row: &[u64])
     requires { ⌜ length (now row) ≡ rowWidth ⌝ }
 {
@@ -85,6 +100,7 @@ fn create_pdr(row: &[u64])
         row[words::HAS_ENDPOINT_ID],
         row[words::ENDPOINT_ID],
     );
+    address(row);
     optional(b" far=", row[words::HAS_FAR_ID], row[words::FAR_ID]);
 }
 
@@ -145,6 +161,7 @@ fn one(row: &[u64])
         127 => {
             number(b"create-endpoint id=", row[words::ENDPOINT_ID]);
             tunnel(row);
+            address(row);
         }
         9 => update_pdr(row),
         15 => number(b"remove-pdr id=", row[words::PDR_ID]),
@@ -155,12 +172,12 @@ fn one(row: &[u64])
 
 // So many rows from the front of words.
 pub(crate) fn all(words: &[u64], rows: usize)
-    requires { ⌜ 18 * rows ≤ length (now words) ⌝ }
+    requires { ⌜ rowWidth * rows ≤ length (now words) ⌝ }
 {
     let mut i = 0;
     while i < rows {
-        let at = 18 * i;
-        let end = at + 18;
+        let at = format::ROW * i;
+        let end = at + format::ROW;
         one(&words[at..end]);
         i += 1;
     }

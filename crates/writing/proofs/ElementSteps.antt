@@ -14,8 +14,8 @@ use Rattle.octets.specs.Octets.{put, be, part, bit}
 use Rattle.octets.proofs.Numbers.{length-be}
 use Rattle.octets.proofs.Put.{set-put, put-front}
 use Rattle.rules.specs.Model.{Settings}
-use Rattle.rules.specs.Elements.{fteidOctets, unitFteid, fseidOctets}
-use Rattle.rules.specs.Reply.{element, message, nodeIdElement, offendingElement, unitFseid, unitElement, listMessage}
+use Rattle.rules.specs.Elements.{fteidOctets, unitFteid, ueOctets, fseidOctets}
+use Rattle.rules.specs.Reply.{element, message, nodeIdElement, offendingElement, unitFseid, unitElement, addressPart, listMessage}
 use Rattle.rules.specs.Types as ie
 use Rattle.rules.specs.Message.{establishment, setDeletion}
 use Rattle.unit.specs.declared.Settings.{Settings as Unit}
@@ -227,6 +227,21 @@ module _ (v : Unit) (families : ℕ) where
         (next-put (at + 4) (at + 5) (f ∷ []) (be 4 teid) s₁ (set-put (at + 4) f s₁ (omega arith)) q (omega arith) (omega arith))
         (r .holds) (omega arith) (omega arith))
         refl l (let k = r .ends in let m = length-append (be 4 teid) w in omega arith))
+
+-- ---- UE IP Address
+
+pub ue-steps : (address at : ℕ) (s : List ℕ) {s₁ s₂ : List ℕ} → at + 9 ≤ length s → s₁ ≡ put at (be 2 93 ++ be 2 5) s → s₂ ≡ put (at + 5) (be 4 address) (set s₁ (at + 4) 2)
+    → Placed s at (addressPart (some address)) (at + 9) s₂
+unfolding addressPart ueOctets
+ue-steps address at s {s₁} h p q =
+    let l : length s₁ ≡ length s = length-headed at 93 5 s p (omega arith) in
+    placed-element at 93 5 s p (omega arith) (at + 4) (at + 9) (2 ∷ be 4 address)
+    (next-put (at + 4) (at + 5) (2 ∷ []) (be 4 address) s₁ (set-put (at + 4) 2 s₁ (omega arith)) q (omega arith) (omega arith))
+    refl (ap suc (length-be 4 address)) (omega arith)
+
+pub length-ue : (address : ℕ) → length (addressPart (some address)) ≡ 9
+unfolding addressPart ueOctets
+length-ue address = rw length-element (omega (arith, length-be 4 address))
 
 -- the addresses, one after the other
 pub addresses-steps : (v : Unit) (f at : ℕ) (s : List ℕ) {s₁ s₂ s₃ : List ℕ} → f < 4 → at + (4 * (f % 2) + 16 * (f / 2)) ≤ length s

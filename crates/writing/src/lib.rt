@@ -9,7 +9,7 @@ ghost use lib.Dec.{eqb};
 ghost use Rattle.rules.specs.Message.{establishment, setDeletion};
 ghost use Rattle.octets.specs.Octets.{put, be};
 ghost use Rattle.rules.specs.Elements.{fseidOctets};
-ghost use Rattle.rules.specs.Reply.{element, nodeIdElement, offendingElement, unitFseid, unitElement};
+ghost use Rattle.rules.specs.Reply.{element, nodeIdElement, offendingElement, unitFseid, unitElement, addressPart};
 ghost use Rattle.rules.specs.Types as ie;
 ghost use Rattle.unit.specs.Meaning.{settingsOf};
 ghost use Rattle.writing.specs.Families.{unitFamilies, addressOctets, addressesIn, unitAddresses, tunnelIn};
@@ -168,6 +168,17 @@ pub fn write_fteid(u: Settings, teid: u64, families: u64, out: &mut [u8], at: us
     out[at + 4] = f as u8;
     octets::write(out, at + 5, 4, teid);
     write_addresses(u, f, out, at + 9)
+}
+
+// A UE IP Address with an IPv4 address (02 (v)): V4 alone, then the address.
+pub fn write_ue_address(address: u64, out: &mut [u8], at: usize) -> usize
+    requires { ⌜ at + 9 ≤ length (now out) ⌝ }
+    ensures { λ r. ⌜ Placed (now (out .entry)) at (addressPart (some address)) r (now (out .exit)) ⌝ }
+{
+    write_head(93, 5, out, at);
+    out[at + 4] = 2;
+    octets::write(out, at + 5, 4, address);
+    at + 9
 }
 
 // A message's header, for elements of n octets: type, SEID and sequence number.

@@ -27,8 +27,8 @@ row-id-requires c κs =
 
 returns : tie.Need-returns
 returns c =
-    let s = c .before .before .before .before .before .before .before .before in
-    entry-steps (s .args .plan .now) (s .args .places .now) (s .args .i) (c .before .before .row-id .ensures)
+    let s = c .before .before .before .before .before .before .before .before .before .before in
+    entry-steps (s .args .plan .now) (s .args .places .now) (s .args .i) (c .before .before .before .before .row-id .ensures)
 
 pub entry-at-spec : {M : Type 1} → statement M
 entry-at-spec =
@@ -43,6 +43,8 @@ entry-at-spec =
     part-row-end
     (λ c. search needs)
     row-id-requires
+    (λ c. search needs)
+    (λ c. search needs)
     (λ c. search needs)
     (λ c. search needs)
     returns)

@@ -198,7 +198,7 @@ module _ {M : Type 1} (𝓤 : URA M) (H : Heap 𝓤) (A : Atoms 𝓤) (W : Given
         peeks ! R (Is R) (shows 𝓤 H A R) (f i) (w ∷ []) (λ is. land ! (from ! (stop !)) (init ! 13 refl (typed 𝓤 H A W (f i) w is)) $
         assigns ! (bin ! (load ! (from ! (stop !)) (look ! 17 refl)) (lit ! tt) (record { fits = fits })) (from ! (stop !)) (init ! 11 refl (tt, record { fits = fits })) $
         assigns ! (bin ! (load ! (from ! (fld ! refl (stop !))) (look-in ! 25 (sub ! 0 refl (whole !)))) (load ! (from ! (stop !)) (look ! 11 refl)) tt) (from ! (stop !)) (init ! 9 refl (tt, tt)) $
-        rewrite ! 9 (λ (p : ℕ). ‵ (fat fullShare tyPtr l₉ 0 (vptr b p))) (sym (place-is 32 o i)) refl $
+        rewrite ! 9 (λ (p : ℕ). ‵ (fat fullShare tyPtr l₉ 0 (vptr b p))) (sym (place-is 48 o i)) refl $
         -- one entry is taken out of the row, stored to, and put back
         move ! (5 ∷ []) $ elem-out ! R (Is R) (shows 𝓤 H A R) vals tells fullShare (zs i) i (f i) b o here (λ _.
         assigns ! (of-opd ! (load ! (from ! (stop !)) (look ! 15 refl))) (from ! (hop ! (look ! 11 refl) (stop !))) (store-raw ! 0 refl (typed 𝓤 H A W (f i) w is)) $
@@ -211,7 +211,7 @@ module _ {M : Type 1} (𝓤 : URA M) (H : Heap 𝓤) (A : Atoms 𝓤) (W : Given
         here : i < length (zs i)
         here = omega (arith, zs-length i (omega arith))
 
-        fits : i * 32 < 2 ^ 64
+        fits : i * 48 < 2 ^ 64
         fits = omega (arith, room .1)
 
         next : i + 1 < 2 ^ 64

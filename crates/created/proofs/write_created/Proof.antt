@@ -55,8 +55,8 @@ use Rattle.writing.proofs.PlacedLaws.{placed-then}
 use Rattle.unit.specs.declared.Settings.{Settings as Unit′}
 use Rattle.unit.specs.Meaning.{settingsOf}
 use Rattle.created.specs.declared.Grant.{Grant as Entry}
-use Rattle.created.specs.Groups.{kindIn, groups, idFits}
-use Rattle.created.specs.Entries.{maxGrants, noEntry, listed, entryAt, grantsAt, within, filled}
+use Rattle.created.specs.Groups.{Told, kindIn, allReports, groups, idFits}
+use Rattle.created.specs.Entries.{maxGrants, noEntry, listed, entryAt, toldsAt, reportsAt, within, filled}
 use Rattle.created.proofs.Again.{LentAgain, lends-again, comes-back}
 use Rattle.created.proofs.GroupSteps.{created-two}
 use Rattle.created.proofs.ListLaws.{length-filled, listed-filled}
@@ -96,7 +96,7 @@ module _ {M : Type 1} (𝓤 : URA M) (H : Heap 𝓤) (A : Atoms 𝓤) (mem : Mem
   abbrev WriteGroups : Contract 𝓤
   WriteGroups = tripleOf 𝓤 H A write-groups.signature (write-groups.spec 𝓤 H A mem run)
 
-module _ {M : Type 1} (𝓤 : URA M) (H : Heap 𝓤) (A : Atoms 𝓤) (W : Given 𝓤 H A) (mem : Memory → SProp 𝓤) (run : Routine → Fun 𝓤) (κ₁ κ₂ κ₃ : Lft) (q₁ q₂ q₃ : Share) (v : Unit′) (w₀ : Val) (b₁ o₁ : ℕ) (γ₁ : GName) (plan : List ℕ) (b₂ o₂ : ℕ) (γ₂ : GName) (places : List ℕ) (b₃ o₃ : ℕ) (γ₃ : GName) (us : List ℕ) (from-place : ℕ) (from-fits : from-place < 2 ^ 64) (v-is : Is S v (w₀ ∷ [])) (room₁ : Room u64 (length plan)) (room₂ : Room usize (length places)) (room₃ : Room u8 (length us)) (few : length places ≤ maxGrants) (inside : T (within plan places)) (ids : all idFits (grantsAt plan places) ≡ true) (n-out : from-place + length (created (settingsOf v) (grantsAt plan places)) ≤ length us) where
+module _ {M : Type 1} (𝓤 : URA M) (H : Heap 𝓤) (A : Atoms 𝓤) (W : Given 𝓤 H A) (mem : Memory → SProp 𝓤) (run : Routine → Fun 𝓤) (κ₁ κ₂ κ₃ : Lft) (q₁ q₂ q₃ : Share) (v : Unit′) (w₀ : Val) (b₁ o₁ : ℕ) (γ₁ : GName) (plan : List ℕ) (b₂ o₂ : ℕ) (γ₂ : GName) (places : List ℕ) (b₃ o₃ : ℕ) (γ₃ : GName) (us : List ℕ) (from-place : ℕ) (from-fits : from-place < 2 ^ 64) (v-is : Is S v (w₀ ∷ [])) (room₁ : Room u64 (length plan)) (room₂ : Room usize (length places)) (room₃ : Room u8 (length us)) (few : length places ≤ maxGrants) (inside : T (within plan places)) (ids : all idFits (toldsAt plan places) ≡ true) (n-out : from-place + length (created (settingsOf v) (reportsAt plan places)) ≤ length us) where
   abbrev n : ℕ
   n = length places
 
@@ -153,7 +153,7 @@ module _ {M : Type 1} (𝓤 : URA M) (H : Heap 𝓤) (A : Atoms 𝓤) (W : Given
   gs-length = length-filled (entryAt plan places) n ys few
 
   -- its entries are the grants of the rows
-  same : listed n gs ≡ grantsAt plan places
+  same : listed n gs ≡ toldsAt plan places
   same = listed-filled plan places ys
 
   gs-ids : all idFits (listed n gs) ≡ true
@@ -165,10 +165,10 @@ module _ {M : Type 1} (𝓤 : URA M) (H : Heap 𝓤) (A : Atoms 𝓤) (W : Given
   abbrev endpoints : List ℕ
   endpoints = groups (kindIn 127) st (listed n gs)
 
-  both : pdrs ++ endpoints ≡ created st (grantsAt plan places)
-  both = sym (created-two st (listed n gs)) ∙ ap (created st) same
+  both : pdrs ++ endpoints ≡ created st (reportsAt plan places)
+  both = sym (created-two st (listed n gs)) ∙ ap (λ (ts : List Told). created st (allReports ts)) same
 
-  both-length : length pdrs + length endpoints ≡ length (created st (grantsAt plan places))
+  both-length : length pdrs + length endpoints ≡ length (created st (reportsAt plan places))
   both-length = sym (length-append pdrs endpoints) ∙ ap length both
 
   -- the place and the reply between the two calls of `write_groups`
@@ -193,7 +193,7 @@ module _ {M : Type 1} (𝓤 : URA M) (H : Heap 𝓤) (A : Atoms 𝓤) (W : Given
   first-placed : Placed us from-place pdrs place₁ os₁
   first-placed = record { ends = refl; holds = refl }
 
-  placed : (r : ℕ) (zs : List ℕ) → Placed os₁ place₁ endpoints r zs → Placed us from-place (created st (grantsAt plan places)) r zs
+  placed : (r : ℕ) (zs : List ℕ) → Placed os₁ place₁ endpoints r zs → Placed us from-place (created st (reportsAt plan places)) r zs
   placed r zs e = subst (λ (xs : List ℕ). Placed us from-place xs r zs) both (placed-then first-placed e fits₁)
 
   -- what the plan, the places and the reply own
@@ -259,7 +259,7 @@ module _ {M : Type 1} (𝓤 : URA M) (H : Heap 𝓤) (A : Atoms 𝓤) (W : Given
         move ! (45 ∷ []) $ split ! $ move ! (1 ∷ []) $ split ! $ move ! (1 ∷ []) $ split ! $ move ! (1 ∷ []) $ drop ! $
         -- [the tokens of reply, places and plan; the reply; the places; the plan; _20; …]: the count, and the array is made
         assigns ! (of-opd ! (load ! (from ! (fld ! refl (stop !))) (look-in ! 40 (sub ! 1 refl (whole !))))) (from ! (stop !)) (init ! 34 refl (tt, record { fits = room₂ .0 })) $
-        assigns ! (agg ! (and-then ! (lit ! tt) (and-then ! (lit ! tt) (and-then ! (lit ! tt) (and-then ! (lit ! tt) (no-more !)))))) (from ! (stop !)) (init ! 28 refl (typed 𝓤 H A W noEntry _ none-is)) $
+        assigns ! (agg ! (and-then ! (lit ! tt) (and-then ! (lit ! tt) (and-then ! (lit ! tt) (and-then ! (lit ! tt) (and-then ! (lit ! tt) (and-then ! (lit ! tt) (no-more !)))))))) (from ! (stop !)) (init ! 28 refl (typed 𝓤 H A W noEntry _ none-is)) $
         owned ! R (Is R) (makes 𝓤 H A) noEntry _ none-is $ use1 W (‵ (Array R 24 .own ys (arrayVal (replicate 24 (val noEntry)) ∷ []))) (array-repeat 𝓤 H A W R (copy 𝓤 H A W) 24 noEntry (val noEntry)) $
         peeks ! (Array R 24) (Is (Array R 24)) (shows 𝓤 H A (Array R 24)) ys _ (λ is.
         assigns ! (rep ! 24 (load ! (from ! (stop !)) (look ! 29 refl))) (from ! (stop !)) (init ! 33 refl (array-lawful 𝓤 H A W R (lawful 𝓤 H A W) 24 .typed ys _ is .0)) $

@@ -230,7 +230,7 @@ module _ {M : Type 1} (𝓤 : URA M) (H : Heap 𝓤) (A : Atoms 𝓤) (W : Given
         -- the place of grants[i]
         assigns ! (bin ! (load ! (from ! (stop !)) (look ! 17 refl)) (lit ! tt) (record { fits = fits })) (from ! (stop !)) (init ! 13 refl (tt, record { fits = fits })) $
         assigns ! (bin ! (load ! (from ! (fld ! refl (stop !))) (look-in ! 29 (sub ! 0 refl (whole !)))) (load ! (from ! (stop !)) (look ! 13 refl)) tt) (from ! (stop !)) (init ! 11 refl (tt, tt)) $
-        rewrite ! 11 (λ (p : ℕ). ‵ (fat fullShare tyPtr l₁₁ 0 (vptr b₁ p))) (sym (place-is 32 o₁ i)) refl $
+        rewrite ! 11 (λ (p : ℕ). ‵ (fat fullShare tyPtr l₁₁ 0 (vptr b₁ p))) (sym (place-is 48 o₁ i)) refl $
         -- the list is looked into, and one entry is copied
         move ! (2 ∷ 3 ∷ []) $ looks-slice ! tt R (Is R) (shows 𝓤 H A R) vals tells (copy 𝓤 H A W) ys b₁ o₁ (λ q″. elem-out ! R (Is R) (shows 𝓤 H A R) vals tells q″ ys i noEntry b₁ o₁ (omega arith) (λ is.
         assigns ! (of-opd ! (load ! (from ! (hop ! (look ! 14 refl) (stop !))) (look-raw ! 0 refl))) (from ! (stop !)) (init ! 12 refl (typed 𝓤 H A W (g i) _ is)) $
@@ -260,7 +260,7 @@ module _ {M : Type 1} (𝓤 : URA M) (H : Heap 𝓤) (A : Atoms 𝓤) (W : Given
         assigns-last ! (bin ! (load ! (from ! (stop !)) (look ! 17 refl)) (lit ! tt) (record { fits = next })) (from ! (stop !)) (store ! 17 refl (tt, record { fits = next })) $
         forget ! 5 refl $ forget ! 7 refl $ forget ! 9 refl $ forget ! 11 refl $ forget ! 13 refl $ forget ! 15 refl $ move ! (0 ∷ 1 ∷ 3 ∷ 2 ∷ 4 ∷ []) $ by ! k)))))))
       where
-        fits : i * 32 < 2 ^ 64
+        fits : i * 48 < 2 ^ 64
         fits = omega (arith, room₁ .1)
 
         next : i + 1 < 2 ^ 64

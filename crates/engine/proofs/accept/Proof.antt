@@ -1,39 +1,37 @@
 -- `engine::accept` meets its contract.
 -- Assumes nothing.
-use mathlib.Core.Path.{sym}
+use mathlib.Core.Path.{sym, refl}
 use Prim.Native.Nat.{_≤_}
 use native.Mathlib.Omega.{arith}
 use lib.ListN.{length}
 use lib.Seq.{length-take-le}
-use Rattle.engine.proofs.Acceptance.{grant-asks, read-few, read-fit, read-answers}
-use Rattle.created.specs.Entries.{maxGrants}
+use Rattle.engine.proofs.Acceptance.{give-asks, told, accepted-answers}
 use borrow.Author.Needs.{needs}
 use Rattle.engine.proofs.accept.Statement.{statement}
 use Rattle.engine.proofs.accept.Tie as tie
 
-grant-requires : tie.Need-grant-requires
-grant-requires c κs = search grant-asks
+give-requires : tie.Need-give-requires
+give-requires c κs = give-asks (c .before .before .before .before .before .before .before .before .before .before .before .before .pre) (search needs)
 
 -- the places found, which are no more than there is room for
-found : (c : tie.After-accepted-arg) → c .before .before .before .before .grant .result ≤ length (c .before .before .before .before .grant .last .1 .1 .1 .1 .0)
-found c = let h : c .before .before .before .before .grant .result ≤ maxGrants = search read-few in omega (arith, c .before .before .before .before .grant .kept .1 .1 .1 .1 .0)
+found : (c : tie.After-accepted-arg) → c .before .before .before .before .give .result ≤ length (c .before .before .before .before .give .last .1 .1 .1 .1 .1 .0)
+found c = omega (arith, c .before .before .before .before .give .ensures .few, c .before .before .before .before .give .kept .1 .1 .1 .1 .1 .0)
 
 slice-aggregate-accepted : tie.Need-slice-aggregate-accepted
 slice-aggregate-accepted c = sym (length-take-le _ _ (found (c .before)))
 
 accepted-requires : tie.Need-accepted-requires
 accepted-requires c κs =
-    let s = c .before .before .before .before .before .before .before .before .before .before .before .before .before .before .before .before .before in
-    let f = read-fit (s .pre) (c .before .before .before .before .before .before .grant .ensures) in
+    let f = told (c .before .before .before .before .before .before .before .before .before .before .before .before .before .before .before .before .before .before .before .pre) (c .before .before .before .before .before .before .give .ensures) in
     (search needs, search needs, f .few, f .inside, f .ids, search needs)
 
 keep-requires : tie.Need-keep-requires
 keep-requires c κs =
-    let p = c .before .before .before .before .before .before .before .before .before .before .before .before .before .before .before .before .before .before .before .before .before .before .before .pre in
-    (p .asked .tableLong, p .slotLong, omega (arith, p .rows, c .before .before .before .before .before .before .before .before .before .before .before .before .grant .kept .0))
+    let p = c .before .before .before .before .before .before .before .before .before .before .before .before .before .before .before .before .before .before .before .before .before .before .before .before .before .pre in
+    (p .asked .tableLong, p .slotLong, omega (arith, p .rows, c .before .before .before .before .before .before .before .before .before .before .before .before .give .kept .0))
 
 returns : tie.Need-returns
-returns c = read-answers (c .before .before .before .before .before .before .before .before .before .before .before .before .before .before .before .before .before .before .before .before .before .before .before .before .before .before .before .before .pre) (c .before .before .before .before .before .before .before .before .before .before .before .before .before .before .before .before .before .grant .ensures) _ _ _ (c .before .before .before .before .before .before .before .before .before .before .accepted .ensures) (c .before .before .before .before .keep .ensures .1)
+returns c = accepted-answers (c .before .before .before .before .before .before .before .before .before .before .before .before .before .before .before .before .before .before .before .before .before .before .before .before .before .before .before .before .before .before .pre) (c .before .before .before .before .before .before .before .before .before .before .before .before .before .before .before .before .before .give .ensures) _ _ _ (c .before .before .before .before .before .before .before .before .before .before .accepted .ensures) (c .before .before .before .before .keep .ensures .1)
 
 pub accept-spec : {M : Type 1} → statement M
 accept-spec =
@@ -41,7 +39,8 @@ accept-spec =
     (tie.spec
     (λ c. search needs)
     (λ c. search needs)
-    grant-requires
+    (λ c. search needs)
+    give-requires
     found
     slice-aggregate-accepted
     accepted-requires

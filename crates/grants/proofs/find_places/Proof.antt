@@ -1,15 +1,16 @@
 -- `grants::find_places` meets its contract: the places found and those of the rows that are left make all. Assumes nothing.
 use borrow.Author.Tests.{not-true, not-false}
 use borrow.Author.Needs.{needs}
+use Rattle.grants.specs.Choosing.{chosenBy}
 use Rattle.grants.proofs.PlaceLaws.{Finding, finding-none, finding-row, finding-skip, finding-more, finding-full, finding-all}
 use Rattle.grants.proofs.find_places.Statement.{statement}
 use Rattle.grants.proofs.find_places.Tie as tie
 
 abbrev Inv-loop : tie.InvT-loop
-Inv-loop plan n tag places₀ k at₀ left₀ found₀ places at left found = Finding plan n tag places₀ k places at left found
+Inv-loop plan n tag anything places₀ k at₀ left₀ found₀ places at left found = Finding plan n (chosenBy anything tag) places₀ k places at left found
 
 abbrev μ-loop : tie.MeasureT-loop
-μ-loop plan n tag places₀ k at₀ left₀ found₀ places at left found = left
+μ-loop plan n tag anything places₀ k at₀ left₀ found₀ places at left found = left
 
 loop-holds : tie.Need-loop-holds Inv-loop μ-loop
 loop-holds c = finding-none (c .before .before .pre .0) (c .before .before .pre .1)

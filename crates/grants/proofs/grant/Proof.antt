@@ -14,10 +14,10 @@ use Rattle.grants.proofs.grant.Tie as tie
 
 -- the places after the first search and after both
 abbrev first-places : tie.After-find-places2 → List ℕ
-first-places c = c .before .before .before .before .before .find-places .last .1 .1 .1 .0
+first-places c = c .before .before .before .before .before .find-places .last .1 .1 .1 .1 .0
 
 abbrev both-places : tie.After-find-places2 → List ℕ
-both-places c = c .find-places2 .last .1 .1 .1 .0
+both-places c = c .find-places2 .last .1 .1 .1 .1 .0
 
 first-length : (c : tie.After-find-places2) → length (first-places c) ≡ 24
 first-length c = search needs

@@ -4,36 +4,39 @@ use Prim.Native.Nat.{_-_}
 use native.Mathlib.Omega.{arith}
 use borrow.Author.Needs.{needs}
 use Rattle.records.specs.Kept.{unit}
-use Rattle.marking.proofs.Through.{Through, through-none, through-more, through-clash, through-all}
+use Rattle.marking.proofs.Entering.{Passing, passing-none, passing-more, passing-stop, passing-all}
 use Rattle.marking.proofs.admit_all.Statement.{statement}
 use Rattle.marking.proofs.admit_all.Tie as tie
 
 abbrev Inv-loop : tie.InvT-loop
-Inv-loop words₀ a n first size v6 new₀ i₀ words new i = Through (unit first size v6) words₀ a n words i new
+Inv-loop words₀ addresses₀ a n first size v6 address count new₀ taken₀ i₀ words addresses new taken i =
+    Passing (unit first size v6) address count words₀ addresses₀ a n words addresses i new taken
 
 abbrev μ-loop : tie.MeasureT-loop
-μ-loop words₀ a n first size v6 new₀ i₀ words new i = n - i
+μ-loop words₀ addresses₀ a n first size v6 address count new₀ taken₀ i₀ words addresses new taken i = n - i
 
 loop-holds : tie.Need-loop-holds Inv-loop μ-loop
-loop-holds c = let g = c .before .before .args in through-none (unit (g .first) (g .size) (g .v6)) (g .words .now) (g .a .now) (g .n)
+loop-holds c =
+    let g = c .before .before .before .args in
+    passing-none (unit (g .first) (g .size) (g .v6)) (g .address) (g .count) (g .words .now) (g .addresses .now) (g .a .now) (g .n)
 
 mul-at : tie.Need-mul-at Inv-loop μ-loop
 mul-at c = search needs
 
-add-admit : tie.Need-add-admit Inv-loop μ-loop
-add-admit c = search needs
+add-slot : tie.Need-add-slot Inv-loop μ-loop
+add-slot c = search needs
 
-sub-admit : tie.Need-sub-admit Inv-loop μ-loop
-sub-admit c = search needs
+sub-slot : tie.Need-sub-slot Inv-loop μ-loop
+sub-slot c = search needs
 
-part-admit-start : tie.Need-part-admit-start Inv-loop μ-loop
-part-admit-start c = search needs
+part-slot-start : tie.Need-part-slot-start Inv-loop μ-loop
+part-slot-start c = search needs
 
-part-admit-end : tie.Need-part-admit-end Inv-loop μ-loop
-part-admit-end c = search needs
+part-slot-end : tie.Need-part-slot-end Inv-loop μ-loop
+part-slot-end c = search needs
 
-admit-requires : tie.Need-admit-requires Inv-loop μ-loop
-admit-requires c κs = search needs
+admit-session-requires : tie.Need-admit-session-requires Inv-loop μ-loop
+admit-session-requires c κs = search needs
 
 enum-known-step : tie.Need-enum-known-step Inv-loop μ-loop
 enum-known-step c = search needs
@@ -44,18 +47,31 @@ enum-told c = search needs
 same-length : tie.Need-same-length Inv-loop μ-loop
 same-length c = search needs
 
+same-length-2 : tie.Need-same-length-2 Inv-loop μ-loop
+same-length-2 c = search needs
+
 returns : tie.Need-returns Inv-loop μ-loop
 returns c =
-    let g = c .before .before .before .before .before .before .before .before .before .before .before .args in
-    let l = c .before .before .before .before .before .before .before .before .loop in
-    through-clash (unit (g .first) (g .size) (g .v6)) (g .words .now) (g .a .now) (g .n) (l .inv) (c .before .before .before .before .before .before .before .loop-test .taken) (c .before .before .before .before .admit .result) (c .before .before .before .before .admit .last .0) (c .before .before .before .before .admit .ensures) (c .before .before .before .before .admit .last .0) (c .enum-told .given .1)
+    let g = c .before .before .before .before .before .before .before .before .before .before .before .before .before .before .before .args in
+    let l = c .before .before .before .before .before .before .before .before .before .before .before .loop in
+    let t = c .before .before .before .before .before .before .admit-session in
+    passing-stop (unit (g .first) (g .size) (g .v6)) (g .address) (g .count) (g .words .now) (g .addresses .now) (g .a .now) (g .n) (l .inv) (c .before .before .before .before .before .before .before .before .before .before .loop-test .taken) (t .result) (t .last .0) (t .last .1 .0) (t .ensures) (t .last .0) (t .last .1 .0) (c .enum-told .given .1)
 
 add-new : tie.Need-add-new Inv-loop μ-loop
 add-new c =
-    let g = c .before .before .before .before .before .before .before .before .before .before .before .before .args in
-    let l = c .before .before .before .before .before .before .before .before .before .loop in
-    let more = through-more (unit (g .first) (g .size) (g .v6)) (g .words .now) (g .a .now) (g .n) (l .inv) (c .before .before .before .before .before .before .before .before .loop-test .taken) (c .before .before .before .before .before .admit .result) (c .before .before .before .before .before .admit .last .0) (c .before .before .before .before .before .admit .ensures) (c .before .step .given .0 .0) (c .before .step .given .1) in
-    omega (arith, more .few, c .before .before .before .before .before .before .before .before .before .before .before .before .pre .1)
+    let g = c .before .before .before .before .before .before .before .before .before .before .before .before .before .before .before .before .args in
+    let l = c .before .before .before .before .before .before .before .before .before .before .before .before .loop in
+    let t = c .before .before .before .before .before .before .before .admit-session in
+    let more = passing-more (unit (g .first) (g .size) (g .v6)) (g .address) (g .count) (g .words .now) (g .addresses .now) (g .a .now) (g .n) (l .inv) (c .before .before .before .before .before .before .before .before .before .before .before .loop-test .taken) (t .result) (t .last .0) (t .last .1 .0) (t .ensures) (c .before .step .given .0 .0) (c .before .step .given .0 .1 .0) (c .before .step .given .1) in
+    omega (arith, more .teids .few, c .before .before .before .before .before .before .before .before .before .before .before .before .before .before .before .before .pre .1)
+
+add-taken : tie.Need-add-taken Inv-loop μ-loop
+add-taken c =
+    let g = c .before .before .before .before .before .before .before .before .before .before .before .before .before .before .before .before .args in
+    let l = c .before .before .before .before .before .before .before .before .before .before .before .before .loop in
+    let t = c .before .before .before .before .before .before .before .admit-session in
+    let more = passing-more (unit (g .first) (g .size) (g .v6)) (g .address) (g .count) (g .words .now) (g .addresses .now) (g .a .now) (g .n) (l .inv) (c .before .before .before .before .before .before .before .before .before .before .before .loop-test .taken) (t .result) (t .last .0) (t .last .1 .0) (t .ensures) (c .before .step .given .0 .0) (c .before .step .given .0 .1 .0) (c .before .step .given .1) in
+    omega (arith, more .addresses .few, c .before .before .before .before .before .before .before .before .before .before .before .before .before .before .before .before .pre .1)
 
 add-i : tie.Need-add-i Inv-loop μ-loop
 add-i c = search needs
@@ -65,18 +81,22 @@ loop-less c = search needs
 
 loop-again : tie.Need-loop-again Inv-loop μ-loop
 loop-again c =
-    let g = c .before .before .before .before .before .before .before .before .before .before .before .before .args in
-    let l = c .before .before .before .before .before .before .before .before .before .loop in
-    through-more (unit (g .first) (g .size) (g .v6)) (g .words .now) (g .a .now) (g .n) (l .inv) (c .before .before .before .before .before .before .before .before .loop-test .taken) (c .before .before .before .before .before .admit .result) (c .before .before .before .before .before .admit .last .0) (c .before .before .before .before .before .admit .ensures) (c .before .step .given .0 .0) (c .before .step .given .1)
+    let g = c .before .before .before .before .before .before .before .before .before .before .before .before .before .before .before .before .args in
+    let l = c .before .before .before .before .before .before .before .before .before .before .before .before .loop in
+    let t = c .before .before .before .before .before .before .before .admit-session in
+    passing-more (unit (g .first) (g .size) (g .v6)) (g .address) (g .count) (g .words .now) (g .addresses .now) (g .a .now) (g .n) (l .inv) (c .before .before .before .before .before .before .before .before .before .before .before .loop-test .taken) (t .result) (t .last .0) (t .last .1 .0) (t .ensures) (c .before .step .given .0 .0) (c .before .step .given .0 .1 .0) (c .before .step .given .1)
 
-same-length-2 : tie.Need-same-length-2 Inv-loop μ-loop
-same-length-2 c = search needs
+same-length-3 : tie.Need-same-length-3 Inv-loop μ-loop
+same-length-3 c = search needs
+
+same-length-4 : tie.Need-same-length-4 Inv-loop μ-loop
+same-length-4 c = search needs
 
 returns-2 : tie.Need-returns-2 Inv-loop μ-loop
 returns-2 c =
-    let g = c .before .before .before .before .args in
+    let g = c .before .before .before .before .before .args in
     let l = c .before .loop in
-    through-all (unit (g .first) (g .size) (g .v6)) (g .words .now) (g .a .now) (g .n) (l .inv) (c .loop-test .left)
+    passing-all (unit (g .first) (g .size) (g .v6)) (g .address) (g .count) (g .words .now) (g .addresses .now) (g .a .now) (g .n) (l .inv) (c .loop-test .left)
 
 pub admit-all-spec : {M : Type 1} → statement M
 admit-all-spec =
@@ -86,18 +106,21 @@ admit-all-spec =
     μ-loop
     loop-holds
     mul-at
-    add-admit
-    sub-admit
-    part-admit-start
-    part-admit-end
-    admit-requires
+    add-slot
+    sub-slot
+    part-slot-start
+    part-slot-end
+    admit-session-requires
     enum-known-step
     enum-told
     same-length
+    same-length-2
     returns
     add-new
+    add-taken
     add-i
     loop-less
     loop-again
-    same-length-2
+    same-length-3
+    same-length-4
     returns-2)

@@ -3,7 +3,7 @@
 use lib.Dec.{T}
 use Rattle.octets.specs.Octets.{octets}
 use Rattle.octets.proofs.Digits.{octets-known}
-use Rattle.records.proofs.Answers.{pdr-source, pdr-far, pdr-place}
+use Rattle.records.proofs.Answers.{pdr-source, pdr-far, pdr-address, pdr-place}
 use borrow.Author.Needs.{needs}
 use Rattle.records.proofs.pdr_sound.Statement.{statement}
 use Rattle.records.proofs.pdr_sound.Tie as tie
@@ -24,12 +24,20 @@ returns-2 c =
     let o : T (octets (c .before .before .before .before .before .before .args .slot .now)) = octets-known (c .before .before .before .before .before .before .args .slot .now) (λ i. c .before .before .before .before .before .shared-slice-known .given i .fits) in
     search pdr-far
 
-place-sound-requires : tie.Need-place-sound-requires
-place-sound-requires c κs = search needs
+field-sound-requires-2 : tie.Need-field-sound-requires-2
+field-sound-requires-2 c κs = search needs
 
 returns-3 : tie.Need-returns-3
 returns-3 c =
-    let o : T (octets (c .before .before .before .before .before .before .before .args .slot .now)) = octets-known (c .before .before .before .before .before .before .before .args .slot .now) (λ i. c .before .before .before .before .before .before .shared-slice-known .given i .fits) in
+    let o : T (octets (c .before .before .before .before .before .before .before .before .args .slot .now)) = octets-known (c .before .before .before .before .before .before .before .before .args .slot .now) (λ i. c .before .before .before .before .before .before .before .shared-slice-known .given i .fits) in
+    search pdr-address
+
+place-sound-requires : tie.Need-place-sound-requires
+place-sound-requires c κs = search needs
+
+returns-4 : tie.Need-returns-4
+returns-4 c =
+    let o : T (octets (c .before .before .before .before .before .before .before .before .before .args .slot .now)) = octets-known (c .before .before .before .before .before .before .before .before .before .args .slot .now) (λ i. c .before .before .before .before .before .before .before .before .shared-slice-known .given i .fits) in
     search pdr-place
 
 pub pdr-sound-spec : {M : Type 1} → statement M
@@ -40,5 +48,7 @@ pdr-sound-spec =
     returns
     field-sound-requires
     returns-2
+    field-sound-requires-2
+    returns-3
     place-sound-requires
-    returns-3)
+    returns-4)

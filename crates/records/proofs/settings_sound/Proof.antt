@@ -3,7 +3,7 @@
 use lib.Dec.{T}
 use Rattle.octets.specs.Octets.{octets}
 use Rattle.octets.proofs.Digits.{octets-known}
-use Rattle.records.proofs.Answers.{settings-absent, settings-pool}
+use Rattle.records.proofs.Answers.{settings-absent, settings-pool, settings-addresses}
 use borrow.Author.Needs.{needs}
 use Rattle.records.proofs.settings_sound.Statement.{statement}
 use Rattle.records.proofs.settings_sound.Tie as tie
@@ -27,8 +27,22 @@ pool-sound-requires c κs = search needs
 
 returns-2 : tie.Need-returns-2
 returns-2 c =
-    let o : T (octets (c .before .before .before .before .before .before .args .slot .now)) = octets-known (c .before .before .before .before .before .before .args .slot .now) (λ i. c .before .before .before .before .before .shared-slice-known .given i .fits) in
+    let o : T (octets (c .before .before .before .before .before .before .before .args .slot .now)) = octets-known (c .before .before .before .before .before .before .before .args .slot .now) (λ i. c .before .before .before .before .before .before .shared-slice-known .given i .fits) in
     search settings-pool
+
+read-requires-3 : tie.Need-read-requires-3
+read-requires-3 c κs = search needs
+
+read-requires-4 : tie.Need-read-requires-4
+read-requires-4 c κs = search needs
+
+addresses-sound-requires : tie.Need-addresses-sound-requires
+addresses-sound-requires c κs = search needs
+
+returns-3 : tie.Need-returns-3
+returns-3 c =
+    let o : T (octets (c .before .before .before .before .before .before .before .before .before .before .args .slot .now)) = octets-known (c .before .before .before .before .before .before .before .before .before .before .args .slot .now) (λ i. c .before .before .before .before .before .before .before .before .before .shared-slice-known .given i .fits) in
+    search settings-addresses
 
 pub settings-sound-spec : {M : Type 1} → statement M
 settings-sound-spec =
@@ -39,4 +53,8 @@ settings-sound-spec =
     read-requires
     read-requires-2
     pool-sound-requires
-    returns-2)
+    returns-2
+    read-requires-3
+    read-requires-4
+    addresses-sound-requires
+    returns-3)

@@ -6,19 +6,19 @@ use native.Mathlib.Omega.{arith}
 use borrow.Author.Needs.{needs}
 use lib.ListN.{length, getD, length-map}
 use Rattle.unit.specs.Meaning.{settingsOf}
-use Rattle.rules.specs.Grants.{Grant}
-use Rattle.created.specs.Entries.{maxGrants, grantAt, grantsAt}
+use Rattle.created.specs.Groups.{Told}
+use Rattle.created.specs.Entries.{maxGrants, toldAt, toldsAt}
 use Rattle.reply.proofs.LengthLaws.{unit-ipv4, length-front}
 use Rattle.reply.proofs.ReplySteps.{accepted-room, accepted-steps}
 use Rattle.reply.proofs.accepted.Statement.{statement}
 use Rattle.reply.proofs.accepted.Tie as tie
 
--- the grants, and that they are few
-abbrev grants : tie.Start → List Grant
-grants s = grantsAt (s .args .plan .now) (s .args .places .now)
+-- what the rows tell, and that they are few
+abbrev tells : tie.Start → List Told
+tells s = toldsAt (s .args .plan .now) (s .args .places .now)
 
-few : (s : tie.Start) → length (grants s) ≤ maxGrants
-few s = omega (arith, s .pre .2, length-map (s .args .places .now) (grantAt (s .args .plan .now)))
+few : (s : tie.Start) → length (tells s) ≤ maxGrants
+few s = omega (arith, s .pre .2, length-map (s .args .places .now) (toldAt (s .args .plan .now)))
 
 write-own-fseid-requires : tie.Need-write-own-fseid-requires
 write-own-fseid-requires c κs =
@@ -35,7 +35,7 @@ write-created-requires c κs =
     let p = s .pre in
     let f = c .before .before .before .before .before .before .before .before .write-front in
     let o = c .before .before .before .write-own-fseid in
-    (p .2, p .3, p .4, omega (arith, p .5, f .ensures .ends, o .ensures .ends, f .kept .1 .1 .1 .0, o .kept .1 .1 .1 .0, accepted-room (a .u) (a .msg .now) (a .out .now) (p .0) (p .5) (grants s) (few s) (a .seid)))
+    (p .2, p .3, p .4, omega (arith, p .5, f .ensures .ends, o .ensures .ends, f .kept .1 .1 .1 .0, o .kept .1 .1 .1 .0, accepted-room (a .u) (a .msg .now) (a .out .now) (p .0) (p .5) (tells s) (few s) (a .seid)))
 
 finish-requires : tie.Need-finish-requires
 finish-requires c κs =
@@ -48,7 +48,7 @@ finish-requires c κs =
       p .0,
       p .1,
       omega (arith, f .ensures .ends, o .ensures .ends, w .ensures .ends),
-      omega (arith, f .ensures .ends, o .ensures .ends, w .ensures .ends, accepted-room (a .u) (a .msg .now) (a .out .now) (p .0) (p .5) (grants s) (few s) (a .seid)),
+      omega (arith, f .ensures .ends, o .ensures .ends, w .ensures .ends, accepted-room (a .u) (a .msg .now) (a .out .now) (p .0) (p .5) (tells s) (few s) (a .seid)),
       omega (arith, p .5, f .kept .1 .1 .1 .0, o .kept .1 .1 .1 .0, w .kept .1 .1 .1 .0),
     )
 
@@ -58,7 +58,7 @@ returns c =
     let a = s .args in
     let f = c .before .before .before .before .before .before .before .before .before .before .before .before .before .before .before .write-front in
     let w = c .before .before .before .before .before .before .write-created in
-    accepted-steps (a .u) (a .msg .now) (a .out .now) (s .pre .0) (s .pre .5) (grants s) (few s) (a .seid) (f .ensures) (c .before .before .before .before .before .before .before .before .before .before .write-own-fseid .ensures) (w .ensures) (f .kept .1 .1 .1 .0) (c .before .before .finish .ensures)
+    accepted-steps (a .u) (a .msg .now) (a .out .now) (s .pre .0) (s .pre .5) (tells s) (few s) (a .seid) (f .ensures) (c .before .before .before .before .before .before .before .before .before .before .write-own-fseid .ensures) (w .ensures) (f .kept .1 .1 .1 .0) (c .before .before .finish .ensures)
 
 pub accepted-spec : {M : Type 1} → statement M
 accepted-spec =

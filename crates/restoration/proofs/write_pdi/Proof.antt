@@ -1,11 +1,11 @@
--- `restoration::write_pdi` meets its contract: the source interface and what the PDR matches on, with the head before them.
+-- `restoration::write_pdi` meets its contract: the source interface, what the PDR matches on and its address, with the head before them.
 -- Assumes nothing.
 use native.Mathlib.Omega.{arith}
 use Rattle.rules.specs.Layout.{viewPdr}
 use Rattle.unit.specs.Meaning.{settingsOf}
 use Rattle.rules.specs.Types as ie
 use Rattle.octets.proofs.Put.{length-part}
-use Rattle.restoration.proofs.RecordSteps.{length-pdi, pdi-steps}
+use Rattle.restoration.proofs.RecordSteps.{length-pdi, length-pdr-address, pdi-steps}
 use borrow.Author.Needs.{needs}
 use Rattle.writing.proofs.PlacedLaws.{length-element}
 use Rattle.octets.specs.Octets.{part}
@@ -25,10 +25,18 @@ write-place-requires c κs =
       omega (arith, s .pre .1, w .ensures .ends, w .kept .1 .1 .0, length-pdi (settingsOf (s .args .u)) (viewPdr (s .args .pdr .now)), length-element ie.sourceInterface (part 11 1 (s .args .pdr .now)), length-part 11 1 (s .args .pdr .now) (omega (arith, s .pre .0))),
     )
 
+write-address-requires : tie.Need-write-address-requires
+write-address-requires c κs =
+    let s = c .before .before .before .before .before .before .before .before .before .before .before .before .before .before in
+    let xs = s .args .pdr .now in
+    let w = c .before .before .before .before .before .before .before .before .before .write-value in
+    let q = c .before .before .before .before .before .write-place in
+    omega (arith, s .pre .1, w .ensures .ends, q .ensures .ends, w .kept .1 .1 .0, q .kept .1 .1 .0, length-pdi (settingsOf (s .args .u)) (viewPdr xs), length-pdr-address xs (s .pre .0) (c .before .before .read .result) (c .before .before .read .ensures .0), length-element ie.sourceInterface (part 11 1 xs), length-part 11 1 xs (omega (arith, s .pre .0)))
+
 write-head-requires : tie.Need-write-head-requires
 write-head-requires c κs =
-    let s = c .before .before .before .before .before .before .before .before .before .before .before .before in
-    omega (arith, s .pre .1, c .before .before .before .before .before .before .before .write-value .kept .1 .1 .0, c .before .before .before .write-place .kept .1 .1 .0, length-pdi (settingsOf (s .args .u)) (viewPdr (s .args .pdr .now)))
+    let s = c .before .before .before .before .before .before .before .before .before .before .before .before .before .before .before .before .before .before in
+    omega (arith, s .pre .1, c .before .before .before .before .before .before .before .before .before .before .before .before .before .write-value .kept .1 .1 .0, c .before .before .before .before .before .before .before .before .before .write-place .kept .1 .1 .0, c .before .before .before .write-address .kept .1 .1 .0, length-pdi (settingsOf (s .args .u)) (viewPdr (s .args .pdr .now)))
 
 returns : tie.Need-returns
 returns c = search pdi-steps
@@ -43,6 +51,9 @@ write-pdi-spec =
     (λ c. search needs)
     write-value-requires
     write-place-requires
+    (λ c κs. search needs)
+    (λ c. search needs)
+    write-address-requires
     (λ c. search needs)
     write-head-requires
     (λ c. search needs)

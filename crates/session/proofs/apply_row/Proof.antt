@@ -4,14 +4,14 @@ use Rattle.session.proofs.Steps.{pdrs-fit, endpoints-fit, pdr-wide, end
 use borrow.Author.Needs.{needs}
 use Rattle.session.proofs.apply_row.Statement.{statement}
 use Rattle.session.proofs.apply_row.Tie as tie
-use Rattle.rules.specs.Layout.{pdrWidth}
+use Rattle.rules.specs.Layout.{pdrWidth, endpointWidth}
 
 drop-record-requires : tie.Need-drop-record-requires
 drop-record-requires c κs = search endpoints-fit
 
 put-record-requires : tie.Need-put-record-requires
 put-record-requires c κs =
-    let n : length (c .before .before .before .endpoint .result) ≡ 6 = search needs in
+    let n : length (c .before .before .before .endpoint .result) ≡ endpointWidth = search needs in
     (search endpoints-fit, endpoint-wide _ _ (c .before .endpoints2 .ensures) n)
 
 put-record-requires-2 : tie.Need-put-record-requires-2

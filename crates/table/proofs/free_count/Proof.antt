@@ -1,12 +1,17 @@
 -- `table::free_count` meets its contract.
 -- Assumes nothing.
-use Rattle.table.proofs.Examining.{count-broken, count-free, count-read, count-less}
+use Rattle.table.proofs.Examining.{count-broken, count-free, count-long, count-less}
+use native.Mathlib.Omega.{arith}
+use lib.Dec.{lit≤}
 use borrow.Author.Needs.{needs}
 use Rattle.table.proofs.free_count.Statement.{statement}
 use Rattle.table.proofs.free_count.Tie as tie
 
 slice-aggregate-examine : tie.Need-slice-aggregate-examine
 slice-aggregate-examine c = search needs
+
+slice-aggregate-examine-2 : tie.Need-slice-aggregate-examine-2
+slice-aggregate-examine-2 c = search needs
 
 examine-requires : tie.Need-examine-requires
 examine-requires c κs = search needs
@@ -22,10 +27,10 @@ returns c = search count-broken
 
 read-requires : tie.Need-read-requires
 read-requires c κs =
-    count-read (c .before .before .before .before .before .before .before .args .t .now) _ _ (c .before .before .before .before .examine .ensures) (c .before .seen .given .0 .0) (c .before .seen .given .1)
+    (omega (arith, count-long (c .before .before .before .before .before .before .before .before .before .args .t .now) _ _ _ (c .before .before .before .before .before .examine .ensures) (c .before .seen .given .0 .0) (c .before .seen .given .0 .1 .0) (c .before .seen .given .1)), lit≤ tt)
 
-sub-t9 : tie.Need-sub-t9
-sub-t9 c = search count-less
+sub-t13 : tie.Need-sub-t13
+sub-t13 c = search count-less
 
 returns-2 : tie.Need-returns-2
 returns-2 c = search count-free
@@ -35,10 +40,11 @@ free-count-spec =
     tie.close
     (tie.spec
     slice-aggregate-examine
+    slice-aggregate-examine-2
     examine-requires
     enum-known-seen
     enum-told
     returns
     read-requires
-    sub-t9
+    sub-t13
     returns-2)

@@ -8,6 +8,9 @@ use Rattle.table.proofs.is_sound.Tie as tie
 slice-aggregate-examine : tie.Need-slice-aggregate-examine
 slice-aggregate-examine c = search needs
 
+slice-aggregate-examine-2 : tie.Need-slice-aggregate-examine-2
+slice-aggregate-examine-2 c = search needs
+
 examine-requires : tie.Need-examine-requires
 examine-requires c κs = search needs
 
@@ -26,4 +29,11 @@ returns-2 c = search sound-yes
 pub is-sound-spec : {M : Type 1} → statement M
 is-sound-spec =
     tie.close
-    (tie.spec slice-aggregate-examine examine-requires enum-known-seen enum-told returns returns-2)
+    (tie.spec
+    slice-aggregate-examine
+    slice-aggregate-examine-2
+    examine-requires
+    enum-known-seen
+    enum-told
+    returns
+    returns-2)

@@ -16,7 +16,7 @@ returns : tie.Need-returns
 returns c =
     let g = c .before .before .before .args in
     let o : T (octets (g .ipv6 .now)) = octets-known (g .ipv6 .now) (λ i. c .before .shared-slice-known .given i .fits) in
-    make-length (g .ipv4) (g .first) (g .size) (g .ipv6 .now) (g .t .now) o (c .if1 .taken)
+    make-length (g .ipv4) (g .first) (g .size) (g .address) (g .count) (g .ipv6 .now) (g .t .now) o (c .if1 .taken)
 
 address-fits-requires : tie.Need-address-fits-requires
 address-fits-requires c κs = search needs
@@ -25,13 +25,13 @@ returns-2 : tie.Need-returns-2
 returns-2 c =
     let g = c .before .before .before .before .before .args in
     let o : T (octets (g .ipv6 .now)) = octets-known (g .ipv6 .now) (λ i. c .before .before .before .shared-slice-known .given i .fits) in
-    make-address (g .ipv4) (g .first) (g .size) (g .ipv6 .now) (g .t .now) o (c .before .address-fits .result) (c .before .address-fits .ensures) (c .if2 .taken)
+    make-address (g .ipv4) (g .first) (g .size) (g .address) (g .count) (g .ipv6 .now) (g .t .now) o (c .before .address-fits .result) (c .before .address-fits .ensures) (c .if2 .taken)
 
 given-requires : tie.Need-given-requires
 given-requires c κs =
     let g = c .before .before .before .before .before .args in
     let o : T (octets (g .ipv6 .now)) = octets-known (g .ipv6 .now) (λ i. c .before .before .before .shared-slice-known .given i .fits) in
-    address-good (g .ipv4) (g .first) (g .size) (g .ipv6 .now) (g .t .now) o (c .before .address-fits .result) (c .before .address-fits .ensures) (c .if2 .left)
+    address-good (g .ipv4) (g .first) (g .size) (g .address) (g .count) (g .ipv6 .now) (g .t .now) o (c .before .address-fits .result) (c .before .address-fits .ensures) (c .if2 .left)
 
 allowed-requires : tie.Need-allowed-requires
 allowed-requires c κs = search needs
@@ -40,7 +40,7 @@ returns-3 : tie.Need-returns-3
 returns-3 c =
     let g = c .before .before .before .before .before .before .before .before .args in
     let o : T (octets (g .ipv6 .now)) = octets-known (g .ipv6 .now) (λ i. c .before .before .before .before .before .before .shared-slice-known .given i .fits) in
-    make-settings (g .ipv4) (g .first) (g .size) (g .ipv6 .now) (g .t .now) o _ (c .before .before .given .ensures) (c .before .allowed .result) (c .before .allowed .ensures) (c .if3 .taken)
+    make-settings (g .ipv4) (g .first) (g .size) (g .address) (g .count) (g .ipv6 .now) (g .t .now) o _ (c .before .before .given .ensures) (c .before .allowed .result) (c .before .allowed .ensures) (c .if3 .taken)
 
 clear-requires : tie.Need-clear-requires
 clear-requires c κs = search needs
@@ -68,7 +68,7 @@ returns-4 c =
     let g = c .before .before .before .before .before .before .before .before .before .before .before .before .before .before .before .before .args in
     let o : T (octets (g .ipv6 .now)) = octets-known (g .ipv6 .now) (λ i. c .before .before .before .before .before .before .before .before .before .before .before .before .before .before .shared-slice-known .given i .fits) in
     let long = c .before .before .before .before .before .before .before .before .before .before .before .before .before .if1 .left in
-    make-made (g .ipv4) (g .first) (g .size) (g .ipv6 .now) (g .t .now) o _ (c .before .before .before .before .before .before .before .before .before .before .given .ensures) (c .before .before .before .before .before .before .before .before .before .allowed .result) (c .before .before .before .before .before .before .before .before .before .allowed .ensures) (c .before .before .before .before .before .before .before .before .if3 .left) long _
+    make-made (g .ipv4) (g .first) (g .size) (g .address) (g .count) (g .ipv6 .now) (g .t .now) o _ (c .before .before .before .before .before .before .before .before .before .before .given .ensures) (c .before .before .before .before .before .before .before .before .before .allowed .result) (c .before .before .before .before .before .before .before .before .before .allowed .ensures) (c .before .before .before .before .before .before .before .before .if3 .left) long _
     (encoded-empty _ (g .t .now) (c .before .before .before .before .before .before .clear .last .0) (c .before .before .write .last .0) long (c .before .before .before .before .before .before .clear .ensures) (c .before .before .write .ensures))
 
 pub make-spec : {M : Type 1} → statement M

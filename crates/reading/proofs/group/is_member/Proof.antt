@@ -18,22 +18,22 @@ returns-2 c = in-place _ _ _ (in-pdr _ (c .before .match .keys1)) (keys-out _ 2 
 
 returns-3 : tie.Need-returns-3
 unfolding allIn member
-returns-3 c = in-place _ _ _ (in-pdi _ (c .before .match .keys2)) (keys-in _ ie.sourceInterface (ie.endpointId ∷ []) (ie.sourceInterface ∷ ie.fteid ∷ ie.endpointId ∷ []) tt (c .match3 .keys1))
+returns-3 c = in-place _ _ _ (in-pdi _ (c .before .match .keys2)) (keys-in _ ie.sourceInterface (ie.ueIpAddress ∷ ie.endpointId ∷ []) (ie.sourceInterface ∷ ie.fteid ∷ ie.endpointId ∷ ie.ueIpAddress ∷ []) tt (c .match3 .keys1))
 
 returns-4 : tie.Need-returns-4
-returns-4 c = in-place _ _ _ (in-pdi _ (c .before .match .keys2)) (among-yes _ ie.sourceInterface (ie.fteid ∷ ie.endpointId ∷ []) (inr (inl (c .match3 .keys2))))
+returns-4 c = in-place _ _ _ (in-pdi _ (c .before .match .keys2)) (among-yes _ ie.sourceInterface (ie.fteid ∷ ie.endpointId ∷ ie.ueIpAddress ∷ []) (inr (inl (c .match3 .keys2))))
 
 returns-5 : tie.Need-returns-5
 unfolding allIn member
-returns-5 c = in-place _ _ _ (in-pdi _ (c .before .match .keys2)) (keys-out-2 _ ie.sourceInterface ie.fteid (ie.endpointId ∷ []) (ie.sourceInterface ∷ ie.fteid ∷ ie.endpointId ∷ []) tt (c .match3 .rest .0 .1) (c .match3 .rest .1))
+returns-5 c = in-place _ _ _ (in-pdi _ (c .before .match .keys2)) (keys-out-2 _ ie.sourceInterface ie.fteid (ie.ueIpAddress ∷ ie.endpointId ∷ []) (ie.sourceInterface ∷ ie.fteid ∷ ie.endpointId ∷ ie.ueIpAddress ∷ []) tt (c .match3 .rest .0 .1) (c .match3 .rest .1))
 
 returns-6 : tie.Need-returns-6
 unfolding allIn member
-returns-6 c = in-place _ _ _ (in-endpoint _ (c .before .match .keys3)) (keys-in _ ie.fteid (ie.endpointId ∷ []) (ie.endpointId ∷ ie.fteid ∷ []) tt (c .match4 .keys1))
+returns-6 c = in-place _ _ _ (in-endpoint _ (c .before .match .keys3)) (keys-in _ ie.fteid (ie.ueIpAddress ∷ ie.endpointId ∷ []) (ie.endpointId ∷ ie.fteid ∷ ie.ueIpAddress ∷ []) tt (c .match4 .keys1))
 
 returns-7 : tie.Need-returns-7
 unfolding allIn member
-returns-7 c = in-place _ _ _ (in-endpoint _ (c .before .match .keys3)) (keys-out _ ie.fteid (ie.endpointId ∷ []) (ie.endpointId ∷ ie.fteid ∷ []) tt (c .match4 .rest .1))
+returns-7 c = in-place _ _ _ (in-endpoint _ (c .before .match .keys3)) (keys-out _ ie.fteid (ie.ueIpAddress ∷ ie.endpointId ∷ []) (ie.endpointId ∷ ie.fteid ∷ ie.ueIpAddress ∷ []) tt (c .match4 .rest .1))
 
 returns-8 : tie.Need-returns-8
 returns-8 c = in-place _ _ _ (in-removal _ (c .before .match .keys4)) (among-yes _ ie.pdrId [] (c .match5 .keys1))

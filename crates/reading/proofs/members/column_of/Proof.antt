@@ -35,9 +35,13 @@ unfolding column
 returns-7 c = (sym (rw (c .match .keys7)), omega arith)
 
 returns-8 : tie.Need-returns-8
-returns-8 c =
+unfolding column
+returns-8 c = (sym (rw (c .match .keys8)), omega arith)
+
+returns-9 : tie.Need-returns-9
+returns-9 c =
     let r = c .match .rest in
-    (column-none _ (r .0 .0 .0 .0 .0 .0 .1) (r .0 .0 .0 .0 .0 .1) (r .0 .0 .0 .0 .1) (r .0 .0 .0 .1) (r .0 .0 .1) (r .0 .1) (r .1), omega arith)
+    (column-none _ (r .0 .0 .0 .0 .0 .0 .0 .1) (r .0 .0 .0 .0 .0 .0 .1) (r .0 .0 .0 .0 .0 .1) (r .0 .0 .0 .0 .1) (r .0 .0 .0 .1) (r .0 .0 .1) (r .0 .1) (r .1), omega arith)
 
 pub column-of-spec : {M : Type 1} → statement M
-column-of-spec = tie.close (tie.spec returns returns-2 returns-3 returns-4 returns-5 returns-6 returns-7 returns-8)
+column-of-spec = tie.close (tie.spec returns returns-2 returns-3 returns-4 returns-5 returns-6 returns-7 returns-8 returns-9)

@@ -2,7 +2,7 @@
 use mathlib.Core.Path.{sym, _∙_}
 use borrow.Author.Tests.{not-true, not-false}
 use Rattle.unit.specs.Meaning.{settingsOf}
-use Rattle.rows.proofs.TunnelLaws.{strange-none, strange-some}
+use Rattle.rows.proofs.TunnelLaws.{strange-none, strange-some, outside-pool}
 use borrow.Author.Needs.{needs}
 use Rattle.rows.proofs.tunnel.strange.Statement.{statement}
 use Rattle.rows.proofs.tunnel.strange.Tie as tie
@@ -16,7 +16,7 @@ returns-2 c =
     let e = o .before .before in
     let h = e .before .restored in
     let a = e .before .before .before .args in
-    rw (strange-some (settingsOf (a .u)) (a .row .now) (sym (h .ensures) ∙ not-false (h .result) (e .if1 .left)), sym (o .outside .ensures) ∙ c .if2 .taken)
+    rw (strange-some (settingsOf (a .u)) (a .row .now) (sym (h .ensures) ∙ not-false (h .result) (e .if1 .left)), outside-pool (a .u) _ _ _ (o .outside .ensures) (c .if2 .taken))
 
 returns-3 : tie.Need-returns-3
 returns-3 c =
@@ -25,7 +25,7 @@ returns-3 c =
     let e = o .before .before in
     let h = e .before .restored in
     let a = e .before .before .before .args in
-    rw (strange-some (settingsOf (a .u)) (a .row .now) (sym (h .ensures) ∙ not-false (h .result) (e .if1 .left)), sym (o .outside .ensures) ∙ f .if2 .left, sym (c .before .other-ipv4 .ensures) ∙ c .if3 .taken)
+    rw (strange-some (settingsOf (a .u)) (a .row .now) (sym (h .ensures) ∙ not-false (h .result) (e .if1 .left)), outside-pool (a .u) _ _ _ (o .outside .ensures) (f .if2 .left), sym (c .before .other-ipv4 .ensures) ∙ c .if3 .taken)
 
 returns-4 : tie.Need-returns-4
 returns-4 c =
@@ -35,7 +35,7 @@ returns-4 c =
     let e = o .before .before in
     let h = e .before .restored in
     let a = e .before .before .before .args in
-    rw (strange-some (settingsOf (a .u)) (a .row .now) (sym (h .ensures) ∙ not-false (h .result) (e .if1 .left)), sym (o .outside .ensures) ∙ f .if2 .left, sym (g .before .other-ipv4 .ensures) ∙ g .if3 .left) (c .other-ipv6 .ensures)
+    rw (strange-some (settingsOf (a .u)) (a .row .now) (sym (h .ensures) ∙ not-false (h .result) (e .if1 .left)), outside-pool (a .u) _ _ _ (o .outside .ensures) (f .if2 .left), sym (g .before .other-ipv4 .ensures) ∙ g .if3 .left) (c .other-ipv6 .ensures)
 
 pub strange-spec : {M : Type 1} → statement M
 strange-spec = tie.close (tie.spec (λ c κs. search needs) returns (λ c. search needs) (λ c κs. search needs) returns-2 (λ c κs. search needs) returns-3 (λ c κs. search needs) returns-4)

@@ -17,8 +17,8 @@ abbrev μ-loop : tie.MeasureT-loop
 one-requires : tie.Need-one-requires Inv-loop μ-loop
 one-requires c κs =
     let l = c .before .before in
-    let e : 18 * l .loop .i + 18 - 18 * l .loop .i ≡ rowWidth = omega arith in
-    length-part (18 * l .loop .i) (18 * l .loop .i + 18 - 18 * l .loop .i) (l .before .before .args .words .now) (omega arith) ∙ e
+    let e : rowWidth * l .loop .i + rowWidth - rowWidth * l .loop .i ≡ rowWidth = omega arith in
+    length-part (rowWidth * l .loop .i) (rowWidth * l .loop .i + rowWidth - rowWidth * l .loop .i) (l .before .before .args .words .now) (omega arith) ∙ e
 
 pub all-spec : {M : Type 1} → statement M
 all-spec =

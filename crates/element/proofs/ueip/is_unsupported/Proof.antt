@@ -1,0 +1,15 @@
+-- `element::ueip::is_unsupported` meets its contract, by the test at each return. Assumes nothing.
+use mathlib.Core.Path.{sym}
+use borrow.Author.Needs.{needs}
+use Rattle.element.proofs.UeIpLaws.{supported, unsupported}
+use Rattle.element.proofs.ueip.is_unsupported.Statement.{statement}
+use Rattle.element.proofs.ueip.is_unsupported.Tie as tie
+
+returns : tie.Need-returns
+returns c = sym (supported _ (c .if1 .taken))
+
+returns-2 : tie.Need-returns-2
+returns-2 c = sym (unsupported _ (c .if1 .left))
+
+pub is-unsupported-spec : {M : Type 1} → statement M
+is-unsupported-spec = tie.close (tie.spec (λ c. search needs) (λ c. search needs) (λ c. search needs) returns returns-2)
