@@ -1,8 +1,8 @@
 /*
- * Whether both sides check the same octets: damaged copies of full tables go to the free count of
+ * Whether both sides check the same octets: damaged copies of full tables go to the free counts of
  * both, which must call the same ones broken and count the same in the others. Every octet is
  * changed, those of the first sessions in many ways; and octets are copied to places nearby, so
- * that records come to share IDs and TEIDs.
+ * that records come to share IDs, TEIDs and addresses.
  */
 #include <stdio.h>
 #include <stdlib.h>
@@ -24,17 +24,25 @@ static size_t drawn(size_t below)
     return (size_t)(state >> 33) % below;
 }
 
-static void compare(void)
+/* Both sides on one count; gives the outcome. */
+static uint32_t compare_count(uint32_t (*of_archive)(const uint8_t *, size_t, uint32_t *),
+                              uint32_t (*of_ordinary)(const uint8_t *, size_t, uint32_t *))
 {
     uint32_t counts[2];
-    uint32_t ours = archive.free_count(pair.ours.table, sizeof whole, &counts[0]);
-    uint32_t theirs = ordinary.free_count(pair.ours.table, sizeof whole, &counts[1]);
+    uint32_t ours = of_archive(pair.ours.table, sizeof whole, &counts[0]);
+    uint32_t theirs = of_ordinary(pair.ours.table, sizeof whole, &counts[1]);
 
     if (ours != theirs || counts[0] != counts[1])
         give_up("a damaged table is told differently: %u and %u, %u and %u free", ours, theirs,
                 counts[0], counts[1]);
+    return ours;
+}
+
+static void compare(void)
+{
+    compare_count(archive.free_addresses, ordinary.free_addresses);
+    sound += compare_count(archive.free_count, ordinary.free_count) == 0;
     compared++;
-    sound += ours == 0;
 }
 
 static void change_each_octet(void)

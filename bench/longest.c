@@ -160,6 +160,27 @@ static void many_choosing_pdrs(struct message *m)
     end_with_one(m);
 }
 
+static void many_pdrs_with_chosen_address(struct message *m)
+{
+    start_establishment(m);
+    for (uint16_t id = 1; fits(m, 32); id++)
+        create_pdr_with_address(m, id, NULL);
+    end_with_one(m);
+}
+
+/* In a restoration, each with an address of its own from the pool's end. */
+static void many_pdrs_with_restored_address(struct message *m)
+{
+    start_establishment(m);
+    put_number(m, IE_FLAGS, 1, 1);
+    for (uint16_t id = 1; fits(m, 36); id++) {
+        create_pdr_start(m, id, 1, 1);
+        put_address(m, FIRST_ADDRESS + ADDRESSES - id);
+        create_pdr_end(m, -1);
+    }
+    end_with_one(m);
+}
+
 /* All of them name the last one of eight endpoints. */
 static void many_naming_pdrs(struct message *m)
 {
@@ -302,6 +323,8 @@ const struct longest longest_messages[LONGEST_MESSAGES] = {
     {"PDRs/CHOOSE-IDs", 75, many_choosing_pdrs},
     {"PDRs/naming-endpoint", 75, many_naming_pdrs},
     {"PDRs/restored", 75, many_restored_pdrs},
+    {"PDRs/chosen-address", 75, many_pdrs_with_chosen_address},
+    {"PDRs/restored-address", 75, many_pdrs_with_restored_address},
     {"updates", 73, many_updates},
     {"removals", 73, many_removals},
     {"FQ-CSIDs/repeated-removals", 69, many_fq_csids},

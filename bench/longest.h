@@ -13,7 +13,7 @@ struct longest {
     void (*write)(struct message *m);
 };
 
-enum { LONGEST_MESSAGES = 22 };
+enum { LONGEST_MESSAGES = 24 };
 extern const struct longest longest_messages[LONGEST_MESSAGES];
 
 void fill_for_longest(struct pair *pair);

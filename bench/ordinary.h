@@ -7,8 +7,10 @@
 
 size_t ordinary_table_length(void);
 uint32_t ordinary_make_table(uint8_t *table, size_t table_len, uint32_t ipv4, const uint8_t *ipv6,
-                             size_t ipv6_len, uint32_t first_teid, uint32_t pool_size);
+                             size_t ipv6_len, uint32_t first_teid, uint32_t pool_size,
+                             uint32_t first_address, uint32_t address_count);
 uint32_t ordinary_free_count(const uint8_t *table, size_t table_len, uint32_t *count);
+uint32_t ordinary_free_addresses(const uint8_t *table, size_t table_len, uint32_t *count);
 uint32_t ordinary_request(uint8_t *table, size_t table_len, const uint8_t *message,
                           size_t message_len, uint8_t *reply, size_t reply_len, size_t *reply_used,
                           size_t *place);

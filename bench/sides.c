@@ -7,9 +7,10 @@
 
 #include "ordinary.h"
 
-const struct side archive = {"archive", pfcp_make_table, pfcp_free_count, pfcp_request};
+const struct side archive = {"archive", pfcp_make_table, pfcp_free_count, pfcp_free_addresses,
+                             pfcp_request};
 const struct side ordinary = {"ordinary", ordinary_make_table, ordinary_free_count,
-                              ordinary_request};
+                              ordinary_free_addresses, ordinary_request};
 
 const uint8_t unit_ipv4[4] = {192, 0, 2, 1};
 static const uint8_t unit_ipv6[16] = {0x20, 1, 0x0D, 0xB8, [15] = 1};
@@ -32,7 +33,8 @@ static void make_empty(struct place *place, const struct side *side, uint32_t po
 {
     place->side = side;
     if (side->make_table(place->table, sizeof place->table, (uint32_t)number_at(unit_ipv4, 4),
-                         unit_ipv6, sizeof unit_ipv6, FIRST_TEID, pool) != 0)
+                         unit_ipv6, sizeof unit_ipv6, FIRST_TEID, pool, FIRST_ADDRESS,
+                         ADDRESSES) != 0)
         give_up("%s makes no table", side->name);
 }
 
@@ -97,7 +99,14 @@ uint32_t count_both(const struct pair *pair)
         ordinary.free_count(pair->theirs.table, sizeof pair->theirs.table, &theirs) != 0 ||
         ours != theirs)
         give_up("the sides count the free TEIDs differently: %u and %u", ours, theirs);
-    return ours;
+
+    uint32_t teids = ours;
+
+    if (archive.free_addresses(pair->ours.table, sizeof pair->ours.table, &ours) != 0 ||
+        ordinary.free_addresses(pair->theirs.table, sizeof pair->theirs.table, &theirs) != 0 ||
+        ours != theirs)
+        give_up("the sides count the free addresses differently: %u and %u", ours, theirs);
+    return teids;
 }
 
 uint64_t octets_compared(void)

@@ -8,15 +8,17 @@
 #include "message.h"
 #include "pfcp_session.h"
 
-/* The settings of every table here, but for a pool of another size where a measurement says so. */
-enum { FIRST_TEID = 4096, POOL = 4096 };
+/* The settings of every table here, but for a pool of another size where a measurement says so. The
+   addresses are those from 10.45.0.0 on. */
+enum { FIRST_TEID = 4096, POOL = 4096, FIRST_ADDRESS = 0x0A2D0000, ADDRESSES = 1024 };
 
 /* The calls of one implementation. */
 struct side {
     const char *name;
-    uint32_t (*make_table)(uint8_t *, size_t, uint32_t, const uint8_t *, size_t, uint32_t,
-                           uint32_t);
+    uint32_t (*make_table)(uint8_t *, size_t, uint32_t, const uint8_t *, size_t, uint32_t, uint32_t,
+                           uint32_t, uint32_t);
     uint32_t (*free_count)(const uint8_t *, size_t, uint32_t *);
+    uint32_t (*free_addresses)(const uint8_t *, size_t, uint32_t *);
     uint32_t (*request)(uint8_t *, size_t, const uint8_t *, size_t, uint8_t *, size_t, size_t *,
                         size_t *);
 };
@@ -63,7 +65,7 @@ void ask_both(struct pair *pair, const struct message *m);
 /* Compares the two tables, and counts their octets as compared. */
 void compare_tables(const struct pair *pair);
 
-/* The free count, the same on both sides. */
+/* The free count, the same on both sides, and so are the free addresses. */
 uint32_t count_both(const struct pair *pair);
 
 /* How many octets of replies and tables were compared so far. */

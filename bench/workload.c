@@ -63,6 +63,15 @@ static void write_fq_csid(struct message *m, const struct workload *w, uint8_t n
         put_element(m, IE_FQ_CSID, value, sizeof value);
 }
 
+/* An address by its draw: two of four are chosen, one is the control plane's, one is none. */
+static void put_drawn_address(struct message *m, uint32_t drawn)
+{
+    if (drawn % 4 < 2)
+        put_choose_address(m);
+    else if (drawn % 4 == 2)
+        put_address(m, 0xCB007100 + (drawn >> 2) % 256); /* 203.0.113.0 and on */
+}
+
 /* A PDR by its draw: one of four names an endpoint, two have an F-TEID, one has neither. The last
    endpoint is not named: an exchange removes it. */
 static void write_mixed_pdr(struct message *m, const struct workload *w, uint16_t id,
@@ -75,7 +84,22 @@ static void write_mixed_pdr(struct message *m, const struct workload *w, uint16_
         put_number(m, IE_ENDPOINT_ID, 1 + (drawn >> 8) % (w->endpoints - 1u), 1);
     else if (drawn % 4 < 3)
         put_f_teid(m, &tunnel);
+    put_drawn_address(m, drawn >> 20);
     create_pdr_end(m, drawn >> 16 & 1 ? id : -1);
+}
+
+static void write_endpoint(struct message *m, const struct workload *w, uint8_t id, uint32_t drawn)
+{
+    struct tunnel tunnel = drawn_tunnel(drawn);
+
+    group_start(m, IE_CREATE_ENDPOINT);
+    put_number(m, IE_ENDPOINT_ID, id, 1);
+    put_f_teid(m, w->mixed ? &tunnel : &choose);
+    if (w->mixed)
+        put_drawn_address(m, drawn >> 20);
+    else
+        put_choose_address(m);
+    group_end(m);
 }
 
 void write_establishment(struct message *m, const struct workload *w, size_t session)
@@ -88,14 +112,12 @@ void write_establishment(struct message *m, const struct workload *w, size_t ses
         } else {
             create_pdr_start(m, id, 100 + id, id % 4);
             put_f_teid(m, &choose);
+            put_choose_address(m);
             create_pdr_end(m, id);
         }
     }
-    for (uint8_t id = 1; id <= w->endpoints; id++) {
-        struct tunnel drawn = drawn_tunnel(draw(w, session, OF_ENDPOINTS + id));
-
-        create_endpoint(m, id, w->mixed ? &drawn : &choose);
-    }
+    for (uint8_t id = 1; id <= w->endpoints; id++)
+        write_endpoint(m, w, id, draw(w, session, OF_ENDPOINTS + id));
     for (uint8_t node_type = 0; node_type < w->fq_csids; node_type++)
         write_fq_csid(m, w, node_type, (uint8_t)session, draw(w, session, OF_FQ_CSIDS + node_type));
     message_end(m);
@@ -129,8 +151,8 @@ static void write_exchange(struct message *m, const struct workload *w, size_t s
     remove_pdr(m, w->pdrs);
     remove_endpoint(m, w->endpoints);
     create_endpoint(m, 18, &choose);
-    create_pdr(m, 115, &choose_7);
-    create_pdr(m, 116, &choose_7);
+    create_pdr_with_address(m, 115, &choose_7);
+    create_pdr_with_address(m, 116, &choose_7);
     message_end(m);
 }
 

@@ -93,16 +93,16 @@ static bool establish_first(struct exchange *x)
 
     message_start(&m, ESTABLISHMENT, 0, 1);
     put_f_seid(&m, 1);
-    create_pdr(&m, 1, &choose_7);
-    create_pdr(&m, 2, &choose_7);
+    create_pdr_with_address(&m, 1, &choose_7);
+    create_pdr_with_address(&m, 2, &choose_7);
     create_pdr_start(&m, 3, 50, 1);
     put_number(&m, IE_ENDPOINT_ID, 1, 1);
     create_pdr_end(&m, 10);
     create_endpoint(&m, 1, &choose);
     put_fq_csid(&m, 1, 5);
     return send_message(x,
-                        "Session 1: PDRs 1 and 2 share a TEID by CHOOSE ID 7, PDR 3 names an "
-                        "endpoint",
+                        "Session 1: PDRs 1 and 2 share a TEID by CHOOSE ID 7, and an address; "
+                        "PDR 3 names an endpoint",
                         &m);
 }
 
@@ -112,7 +112,7 @@ static bool establish(struct exchange *x, const char *title, uint64_t seid, uint
 
     message_start(&m, ESTABLISHMENT, 0, sequence);
     put_f_seid(&m, seid);
-    create_pdr(&m, 1, &choose);
+    create_pdr_with_address(&m, 1, &choose);
     return send_message(x, title, &m);
 }
 
@@ -155,6 +155,17 @@ static bool refusals(struct exchange *x)
     group_end(&m);
     if (!send_message(x, "Removal of endpoint 1, and an update of PDR 3, which goes with it", &m))
         return false;
+    message_start(&m, MODIFICATION, 1, 9);
+    create_pdr_with_address(&m, 4, NULL);
+    if (!send_message(x, "PDR 4 wants an address: none is free", &m))
+        return false;
+    message_start(&m, MODIFICATION, 1, 10);
+    create_pdr_start(&m, 4, 100, 0);
+    put_address(&m, x->unit->options->first_address);
+    create_pdr_end(&m, -1);
+    if (!send_message(x, "PDR 4 with an address of our pool, which the control plane may not give",
+                      &m))
+        return false;
     return send_octets(x, "A heartbeat: not a session's message, so there is no reply", heartbeat,
                        sizeof heartbeat);
 }
@@ -163,7 +174,7 @@ static bool remove_alone(struct exchange *x)
 {
     struct message m;
 
-    message_start(&m, MODIFICATION, 1, 9);
+    message_start(&m, MODIFICATION, 1, 11);
     remove_endpoint(&m, 1);
     return send_message(x, "Session 1 loses endpoint 1, and with it PDR 3, which names it", &m);
 }
@@ -176,17 +187,22 @@ static bool delete_and_restore(struct exchange *x)
                       (uint8_t)ipv4};
     struct tunnel existing = {.flags = V4, .ipv4 = own};
 
-    message_start(&m, DELETION, 1, 10);
+    message_start(&m, DELETION, 1, 12);
     if (!send_message(x, "Deletion of session 1", &m))
         return false;
     existing.teid = x->unit->options->first_teid + 1;
-    message_start(&m, ESTABLISHMENT, 0, 11);
+    message_start(&m, ESTABLISHMENT, 0, 13);
     put_f_seid(&m, 7);
     put_number(&m, IE_FLAGS, 1, 1);
-    create_pdr(&m, 1, &existing);
-    create_pdr(&m, 2, &existing);
+    for (uint16_t id = 1; id <= 2; id++) {
+        create_pdr_start(&m, id, 100, 0);
+        put_f_teid(&m, &existing);
+        put_address(&m, x->unit->options->first_address);
+        create_pdr_end(&m, -1);
+    }
     put_fq_csid(&m, 1, 6);
-    return send_message(x, "Restoration of a session 7 that brings its TEID along", &m);
+    return send_message(x, "Restoration of a session 7 that brings its TEID and its address along",
+                        &m);
 }
 
 /* A set deletion of the peer 192.0.2.50 that lists these CSIDs of one card. */
@@ -207,12 +223,12 @@ static bool delete_sets(struct exchange *x)
     static const uint16_t csids[] = {4, 5, 6};
     struct message m;
 
-    message_start(&m, MODIFICATION, 2, 12);
+    message_start(&m, MODIFICATION, 2, 14);
     put_fq_csid(&m, 1, 5);
     return send_message(x, "Session 2 is of the same card as session 7, with another CSID", &m) &&
-           delete_set(x, "A set deletion that names no CSID", 13, csids, 0) &&
-           delete_set(x, "A set deletion that matches no session", 14, csids, 1) &&
-           delete_set(x, "The card fails: sessions 2 and 7 go", 15, csids, 3);
+           delete_set(x, "A set deletion that names no CSID", 15, csids, 0) &&
+           delete_set(x, "A set deletion that matches no session", 16, csids, 1) &&
+           delete_set(x, "The card fails: sessions 2 and 7 go", 17, csids, 3);
 }
 
 /* A socket that is connected to the unit's. */
@@ -245,7 +261,8 @@ int run_demo(struct unit *unit)
     }
     puts("A unit and its control-plane peer, over the loopback interface.");
     print_sessions(unit);
-    bool done = establish_first(&x) && establish(&x, "Session 2: the next free TEID", 2, 2) &&
+    bool done = establish_first(&x) &&
+                establish(&x, "Session 2: the next free TEID and address", 2, 2) &&
                 establish(&x, "Session 3: one TEID more", 3, 3) && modify(&x) && refusals(&x) &&
                 remove_alone(&x) && delete_and_restore(&x) && delete_sets(&x);
     close(x.peer);

@@ -50,8 +50,9 @@ void served_facts(struct text *text, const struct served *served)
         add_removed(text, served);
     if (served->send_error != 0)
         text_add(text, ", reply not sent (%s)", strerror(served->send_error));
-    text_add(text, ", live sessions %" PRIu32 ", free TEIDs %" PRIu32 "\n", served->live_sessions,
-             served->free_teids);
+    text_add(text,
+             ", live sessions %" PRIu32 ", free TEIDs %" PRIu32 ", free addresses %" PRIu32 "\n",
+             served->live_sessions, served->free_teids, served->free_addresses);
 }
 
 void served_line(struct text *text, const struct served *served)

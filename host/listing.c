@@ -29,6 +29,23 @@ static const char *node_in_words(const struct fq_csid *fq_csid, char *room, size
     return room;
 }
 
+static void address_text_of(struct text *text, const struct patient_address *address)
+{
+    char room[INET6_ADDRSTRLEN];
+
+    if (address->is_there)
+        text_add(text, ", address %s", address_in_words(address->octets, 4, room, sizeof room));
+}
+
+static void address_json(struct text *text, const struct patient_address *address)
+{
+    char room[INET6_ADDRSTRLEN];
+
+    if (address->is_there)
+        text_add(text, ",\"address\":\"%s\"",
+                 address_in_words(address->octets, 4, room, sizeof room));
+}
+
 static void pdr_text(struct text *text, const struct pdr *pdr)
 {
     text_add(text, "    PDR %u: precedence %" PRIu32, pdr->id, pdr->precedence);
@@ -41,6 +58,15 @@ static void pdr_text(struct text *text, const struct pdr *pdr)
         text_add(text, ", TEID %" PRIu32 " (%s)", pdr->teid, families_in_words(pdr->families));
     else if (pdr->place == NAMED_ENDPOINT)
         text_add(text, ", endpoint %u", pdr->endpoint_id);
+    address_text_of(text, &pdr->address);
+    text_add(text, "\n");
+}
+
+static void endpoint_text(struct text *text, const struct endpoint *endpoint)
+{
+    text_add(text, "    endpoint %u: TEID %" PRIu32 " (%s)", endpoint->id, endpoint->teid,
+             families_in_words(endpoint->families));
+    address_text_of(text, &endpoint->address);
     text_add(text, "\n");
 }
 
@@ -52,8 +78,7 @@ static void session_text(struct text *text, const struct session *session)
     for (size_t i = 0; i < session->pdr_count; i++)
         pdr_text(text, &session->pdrs[i]);
     for (size_t i = 0; i < session->endpoint_count; i++)
-        text_add(text, "    endpoint %u: TEID %" PRIu32 " (%s)\n", session->endpoints[i].id,
-                 session->endpoints[i].teid, families_in_words(session->endpoints[i].families));
+        endpoint_text(text, &session->endpoints[i]);
     for (size_t i = 0; i < session->fq_csid_count; i++) {
         const struct fq_csid *fq_csid = &session->fq_csids[i];
 
@@ -79,6 +104,7 @@ static void pdr_json(struct text *text, const struct pdr *pdr)
         tunnel_json(text, pdr->teid, pdr->families);
     else if (pdr->place == NAMED_ENDPOINT)
         text_add(text, ",\"endpoint_id\":%u", pdr->endpoint_id);
+    address_json(text, &pdr->address);
     text_add(text, "}");
 }
 
@@ -96,6 +122,7 @@ static void session_json(struct text *text, const struct session *session)
     for (size_t i = 0; i < session->endpoint_count; i++) {
         text_add(text, "%s{\"id\":%u", i > 0 ? "," : "", session->endpoints[i].id);
         tunnel_json(text, session->endpoints[i].teid, session->endpoints[i].families);
+        address_json(text, &session->endpoints[i].address);
         text_add(text, "}");
     }
     text_add(text, "],\"fq_csids\":[");
@@ -166,6 +193,8 @@ static void start(struct listing *listing, const struct unit *unit, unsigned for
     listing->counters = unit->counters;
     listing->free_teids = unit->free_teids;
     listing->pool_size = unit->options->pool_size;
+    listing->free_addresses = unit->free_addresses;
+    listing->address_pool_size = unit->options->address_count;
     listing->form = form;
 }
 
@@ -195,11 +224,14 @@ static void add_head(struct text *text, const struct listing *listing)
 {
     if (listing->whole)
         text_add(text,
-                 listing->form & LIST_JSON ? "{\"live_sessions\":%zu,\"free_teids\":%" PRIu32
-                                             ",\"pool_size\":%" PRIu32 ",\"sessions\":["
-                                           : "live sessions: %zu; free TEIDs: %" PRIu32
-                                             " of %" PRIu32 "\n",
-                 listing->end, listing->free_teids, listing->pool_size);
+                 listing->form & LIST_JSON
+                     ? "{\"live_sessions\":%zu,\"free_teids\":%" PRIu32 ",\"pool_size\":%" PRIu32
+                       ",\"free_addresses\":%" PRIu32 ",\"address_pool_size\":%" PRIu32
+                       ",\"sessions\":["
+                     : "live sessions: %zu; free TEIDs: %" PRIu32 " of %" PRIu32
+                       "; free addresses: %" PRIu32 " of %" PRIu32 "\n",
+                 listing->end, listing->free_teids, listing->pool_size, listing->free_addresses,
+                 listing->address_pool_size);
 }
 
 static void add_session(struct text *text, const struct listing *listing)

@@ -16,6 +16,8 @@ struct listing {
     unsigned long lines_dropped;
     uint32_t free_teids;
     uint32_t pool_size;
+    uint32_t free_addresses;
+    uint32_t address_pool_size;
     unsigned form;
     bool whole;
     size_t first; /* places of sessions */

@@ -170,6 +170,19 @@ void put_f_teid(struct message *m, const struct tunnel *tunnel)
     put_element(m, IE_F_TEID, value, length);
 }
 
+void put_address(struct message *m, uint32_t address)
+{
+    uint8_t value[5] = {UE_V4};
+
+    write_number(value + 1, address, 4);
+    put_element(m, IE_UE_IP_ADDRESS, value, sizeof value);
+}
+
+void put_choose_address(struct message *m)
+{
+    put_number(m, IE_UE_IP_ADDRESS, UE_CHOOSE_V4, 1);
+}
+
 void put_fq_csid(struct message *m, uint8_t node_type, uint16_t csid)
 {
     put_fq_csids(m, node_type, &csid, 1);
@@ -209,6 +222,15 @@ void create_pdr(struct message *m, uint16_t id, const struct tunnel *tunnel)
     create_pdr_start(m, id, 100, 0);
     if (tunnel)
         put_f_teid(m, tunnel);
+    create_pdr_end(m, -1);
+}
+
+void create_pdr_with_address(struct message *m, uint16_t id, const struct tunnel *tunnel)
+{
+    create_pdr_start(m, id, 100, 0);
+    if (tunnel)
+        put_f_teid(m, tunnel);
+    put_choose_address(m);
     create_pdr_end(m, -1);
 }
 

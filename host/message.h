@@ -30,6 +30,7 @@ enum {
     IE_F_SEID = 57,
     IE_NODE_ID = 60,
     IE_FQ_CSID = 65,
+    IE_UE_IP_ADDRESS = 93,
     IE_FAR_ID = 108,
     IE_CREATE_ENDPOINT = 127,
     IE_CREATED_ENDPOINT = 128,
@@ -41,6 +42,9 @@ enum {
 
 /* Flags of an F-TEID. */
 enum { V4 = 1, V6 = 2, CHOOSE = 4, CHOOSE_ID = 8 };
+
+/* Flags of a UE IP Address. */
+enum { UE_V6 = 1, UE_V4 = 2, UE_PREFIX = 8, UE_CHOOSE_V4 = 16, UE_CHOOSE_V6 = 32, UE_LENGTH = 64 };
 
 /* A message that is being written. */
 struct message {
@@ -77,6 +81,9 @@ struct tunnel {
 
 void put_f_seid(struct message *m, uint64_t seid);
 void put_f_teid(struct message *m, const struct tunnel *tunnel);
+/* A UE IP Address that is given, and one that the unit is to choose. */
+void put_address(struct message *m, uint32_t address);
+void put_choose_address(struct message *m);
 /* FQ-CSIDs of the node 192.0.2.10, with one CSID and with up to 15. */
 void put_fq_csid(struct message *m, uint8_t node_type, uint16_t csid);
 void put_fq_csids(struct message *m, uint8_t node_type, const uint16_t *csids, size_t count);
@@ -88,6 +95,8 @@ void create_pdr_end(struct message *m, int64_t far_id);
 
 /* A Create PDR with an F-TEID or, without one, neither. */
 void create_pdr(struct message *m, uint16_t id, const struct tunnel *tunnel);
+/* A Create PDR whose address the unit is to choose, with an F-TEID or without one. */
+void create_pdr_with_address(struct message *m, uint16_t id, const struct tunnel *tunnel);
 void create_endpoint(struct message *m, uint8_t id, const struct tunnel *tunnel);
 void remove_pdr(struct message *m, uint16_t id);
 void remove_endpoint(struct message *m, uint8_t id);

@@ -4,6 +4,7 @@
 #include <stdio.h>
 #include <string.h>
 
+#include "message.h"
 #include "number.h"
 
 const char usage[] =
@@ -20,8 +21,10 @@ const char usage[] =
     "  --ipv6 ADDRESS      the unit's own IPv6 address (none)\n"
     "  --first-teid TEID   the first TEID of the pool, from 1 on (4096)\n"
     "  --pool SIZE         the number of TEIDs, 1 to 4096 (4096)\n"
-    "  --demo              run a scripted exchange over the loopback interface and end;\n"
-    "                      without these options it takes any free port and a pool of 3\n"
+    "  --first-address ADDRESS  the first IPv4 address for patients' devices (10.45.0.1)\n"
+    "  --addresses NUMBER  the number of these addresses, 1 to 1024 (254)\n"
+    "  --demo              run a scripted exchange over the loopback interface and end; without\n"
+    "                      these options it takes any free port, 3 TEIDs and 2 addresses\n"
     "  --version           print the version\n"
     "  --help              print this\n"
     "SIGINT and SIGTERM stop it; SIGUSR1 has it print the live sessions and the counters.\n"
@@ -34,10 +37,19 @@ static bool complain(const char *option, const char *value, const char *wanted)
     return false;
 }
 
+static bool read_ipv4(const char *name, const char *value, uint32_t *address)
+{
+    uint8_t octets[4];
+
+    if (inet_pton(AF_INET, value, octets) != 1)
+        return complain(name, value, "not an IPv4 address");
+    *address = (uint32_t)number_at(octets, sizeof octets);
+    return true;
+}
+
 static bool read_option(struct options *options, const char *name, const char *value)
 {
     uint64_t number;
-    uint8_t ipv4[4];
 
     if (strcmp(name, "--address") == 0) {
         if (!address_read(&options->listen, value, 0))
@@ -60,10 +72,7 @@ static bool read_option(struct options *options, const char *name, const char *v
             return complain(name, value, "neither yes nor no");
         options->table_sync = value[0] == 'y';
     } else if (strcmp(name, "--ipv4") == 0) {
-        if (inet_pton(AF_INET, value, ipv4) != 1)
-            return complain(name, value, "not an IPv4 address");
-        options->ipv4 =
-            (uint32_t)ipv4[0] << 24 | (uint32_t)ipv4[1] << 16 | (uint32_t)ipv4[2] << 8 | ipv4[3];
+        return read_ipv4(name, value, &options->ipv4);
     } else if (strcmp(name, "--ipv6") == 0) {
         if (inet_pton(AF_INET6, value, options->ipv6) != 1)
             return complain(name, value, "not an IPv6 address");
@@ -72,6 +81,12 @@ static bool read_option(struct options *options, const char *name, const char *v
         if (!read_number(value, 1, UINT32_MAX, &number))
             return complain(name, value, "not a TEID from 1 to 4294967295");
         options->first_teid = (uint32_t)number;
+    } else if (strcmp(name, "--first-address") == 0) {
+        return read_ipv4(name, value, &options->first_address);
+    } else if (strcmp(name, "--addresses") == 0) {
+        if (!read_number(value, 1, 1024, &number))
+            return complain(name, value, "not a number of addresses from 1 to 1024");
+        options->address_count = (uint32_t)number;
     } else {
         if (!read_number(value, 1, 4096, &number))
             return complain(name, value, "not a pool size from 1 to 4096");
@@ -82,9 +97,9 @@ static bool read_option(struct options *options, const char *name, const char *v
 
 static bool takes_value(const char *name)
 {
-    static const char *const names[] = {"--address",    "--port",       "--peer", "--control",
-                                        "--table",      "--table-sync", "--ipv4", "--ipv6",
-                                        "--first-teid", "--pool"};
+    static const char *const names[] = {
+        "--address", "--port", "--peer",       "--control", "--table",         "--table-sync",
+        "--ipv4",    "--ipv6", "--first-teid", "--pool",    "--first-address", "--addresses"};
 
     for (size_t i = 0; i < sizeof names / sizeof names[0]; i++)
         if (strcmp(name, names[i]) == 0)
@@ -92,13 +107,15 @@ static bool takes_value(const char *name)
     return false;
 }
 
-/* Sets what was not given. The demonstration's pool is small, so that it comes to its end. */
+/* Sets what was not given. The demonstration's pools are small, so that it comes to their end. */
 static void fill_in(struct options *options)
 {
     if (options->port == 0 && !options->demo)
         options->port = 8805;
     if (options->pool_size == 0)
         options->pool_size = options->demo ? 3 : 4096;
+    if (options->address_count == 0)
+        options->address_count = options->demo ? 2 : 254;
     address_read(&options->listen, options->listen_text, options->port);
 }
 
@@ -116,6 +133,14 @@ static bool is_possible(const struct options *options)
     if ((uint64_t)options->first_teid + options->pool_size > (uint64_t)UINT32_MAX + 1) {
         fprintf(stderr, "pfcp_unit: a pool of %u from %u on ends after TEID 4294967295\n",
                 (unsigned)options->pool_size, (unsigned)options->first_teid);
+        return false;
+    }
+    if ((uint64_t)options->first_address + options->address_count > (uint64_t)UINT32_MAX + 1) {
+        fprintf(stderr, "pfcp_unit: %u addresses from %u.%u.%u.%u on end after 255.255.255.255\n",
+                (unsigned)options->address_count, (unsigned)(options->first_address >> 24),
+                (unsigned)(options->first_address >> 16 & 255),
+                (unsigned)(options->first_address >> 8 & 255),
+                (unsigned)(options->first_address & 255));
         return false;
     }
     if (!can_hear_peer(options)) {
@@ -136,6 +161,7 @@ bool read_options(struct options *options, int argc, char **argv)
     options->listen_text = "127.0.0.1";
     options->ipv4 = 0xC0000201;
     options->first_teid = 4096;
+    options->first_address = 0x0A2D0001;
     options->table_sync = true;
     for (int i = 1; i < argc; i++) {
         if (strcmp(argv[i], "--demo") == 0) {

@@ -17,11 +17,13 @@ struct options {
     const char *control; /* the control socket's path, or NULL */
     const char *table;   /* the table's file, or NULL */
     bool table_sync;     /* replies wait until the disk has the table */
-    uint32_t ipv4;       /* the unit's own addresses and its pool */
+    uint32_t ipv4;       /* the unit's own addresses and its pools */
     uint8_t ipv6[16];
     size_t ipv6_length; /* 0 or 16 */
     uint32_t first_teid;
     uint32_t pool_size;
+    uint32_t first_address; /* of the patients' addresses */
+    uint32_t address_count;
     bool demo;
     bool help;
     bool version;

@@ -218,9 +218,11 @@ static void say_start(struct service *service)
 
     say_table(service);
     snprintf(words, sizeof words,
-             "serving PFCP session requests on %s, live sessions %u, free TEIDs %u",
+             "serving PFCP session requests on %s, live sessions %u, free TEIDs %u, "
+             "free addresses %u",
              address_text(&options->listen, listen, sizeof listen),
-             (unsigned)service->unit.live_sessions, (unsigned)service->unit.free_teids);
+             (unsigned)service->unit.live_sessions, (unsigned)service->unit.free_teids,
+             (unsigned)service->unit.free_addresses);
     say(service, words);
     if (!options->has_peer)
         warn(service, "warning: no --peer is given, so requests from any address are answered");

@@ -14,6 +14,13 @@ static void read_f_teid(const struct element *element, uint32_t *teid, uint8_t *
     *teid = (uint32_t)number_in(element, 1, 4);
 }
 
+static void read_address(struct patient_address *address, const struct element *element)
+{
+    address->is_there = element->length >= 5;
+    if (address->is_there)
+        memcpy(address->octets, element->value + 1, sizeof address->octets);
+}
+
 static void read_pdi(struct pdr *pdr, const struct element *pdi)
 {
     struct elements rest = members_of(pdi);
@@ -31,6 +38,9 @@ static void read_pdi(struct pdr *pdr, const struct element *pdi)
         case IE_ENDPOINT_ID:
             pdr->place = NAMED_ENDPOINT;
             pdr->endpoint_id = (uint8_t)number_in(&member, 0, 1);
+            break;
+        case IE_UE_IP_ADDRESS:
+            read_address(&pdr->address, &member);
             break;
         }
     }
@@ -70,6 +80,8 @@ static void read_endpoint(struct endpoint *endpoint, const struct element *group
             endpoint->id = (uint8_t)number_in(&member, 0, 1);
         else if (member.type == IE_F_TEID)
             read_f_teid(&member, &endpoint->teid, &endpoint->families);
+        else if (member.type == IE_UE_IP_ADDRESS)
+            read_address(&endpoint->address, &member);
     }
 }
 

@@ -9,6 +9,12 @@
 
 enum { MOST_SESSIONS = 64, MOST_PDRS = 16, MOST_ENDPOINTS = 8, MOST_FQ_CSIDS = 6 };
 
+/* The IPv4 address of a patient's device, which a record may hold. */
+struct patient_address {
+    bool is_there;
+    uint8_t octets[4];
+};
+
 /* Families are V4 and V6 of message.h. */
 struct pdr {
     uint16_t id;
@@ -20,12 +26,14 @@ struct pdr {
     uint32_t teid;
     uint8_t families;
     uint8_t endpoint_id;
+    struct patient_address address;
 };
 
 struct endpoint {
     uint8_t id;
     uint32_t teid;
     uint8_t families;
+    struct patient_address address;
 };
 
 struct fq_csid {

@@ -8,12 +8,15 @@
 #include "datagrams.h"
 #include "message.h"
 
-/* The sessions and the free TEIDs, after a request that may have changed them. */
+/* The sessions, free TEIDs and free addresses, after a request that may have changed them. */
 static bool count_table(struct unit *unit)
 {
-    if (pfcp_session_count(unit->table, sizeof unit->table, &unit->live_sessions) != PFCP_FOUND)
-        return false;
-    return pfcp_free_count(unit->table, sizeof unit->table, &unit->free_teids) == PFCP_ANSWERED;
+    const uint8_t *table = unit->table;
+    size_t length = sizeof unit->table;
+
+    return pfcp_session_count(table, length, &unit->live_sessions) == PFCP_FOUND &&
+           pfcp_free_count(table, length, &unit->free_teids) == PFCP_ANSWERED &&
+           pfcp_free_addresses(table, length, &unit->free_addresses) == PFCP_ANSWERED;
 }
 
 bool unit_start(struct unit *unit, const struct options *options)
@@ -23,7 +26,8 @@ bool unit_start(struct unit *unit, const struct options *options)
     unit->disk.lock = -1;
     unit->options = options;
     if (pfcp_make_table(unit->table, sizeof unit->table, options->ipv4, options->ipv6,
-                        options->ipv6_length, options->first_teid, options->pool_size) != 0) {
+                        options->ipv6_length, options->first_teid, options->pool_size,
+                        options->first_address, options->address_count) != 0) {
         fputs("pfcp_unit: these settings are refused\n", stderr);
         return false;
     }
@@ -193,6 +197,7 @@ enum turn unit_serve(struct unit *unit, struct served *served)
         answer(unit, served, &from, message);
     served->live_sessions = unit->live_sessions;
     served->free_teids = unit->free_teids;
+    served->free_addresses = unit->free_addresses;
     count(&unit->counters, served);
     if (served->outcome == PFCP_ANSWERED)
         return served->undone ? TURN_NO_REPLY : TURN_REPLY;

@@ -33,6 +33,7 @@ struct unit {
     struct disk disk;
     uint32_t live_sessions;
     uint32_t free_teids;
+    uint32_t free_addresses;
     uint32_t system_dropped; /* what the system told last; it may wrap */
     struct counters counters;
 };
@@ -62,6 +63,7 @@ struct served {
     int send_error;     /* 0: the reply was sent, or there is none */
     uint32_t live_sessions;
     uint32_t free_teids;
+    uint32_t free_addresses;
     bool is_set;                     /* a set deletion that was accepted */
     uint64_t removed[MOST_SESSIONS]; /* the SEIDs of the sessions that it took */
     size_t removed_count;

@@ -30,6 +30,8 @@ const char *cause_in_words(unsigned cause)
         return "no resources available";
     case 76:
         return "service not supported";
+    case 79:
+        return "all dynamic addresses are occupied";
     default:
         return "unknown cause";
     }
@@ -96,6 +98,8 @@ const char *element_in_words(unsigned type)
         return "Node ID";
     case IE_FQ_CSID:
         return "FQ-CSID";
+    case IE_UE_IP_ADDRESS:
+        return "UE IP Address";
     case IE_FAR_ID:
         return "FAR ID";
     case IE_CREATE_ENDPOINT:
@@ -207,6 +211,21 @@ static void print_f_teid(FILE *out, const uint8_t *value, size_t length)
     }
 }
 
+static void print_ue_ip_address(FILE *out, const uint8_t *value, size_t length)
+{
+    char room[INET6_ADDRSTRLEN];
+    unsigned flags = length > 0 ? value[0] : 0;
+
+    if (flags & (UE_V6 | UE_PREFIX | UE_CHOOSE_V6 | UE_LENGTH))
+        fputs("for IPv6", out);
+    else if ((flags & UE_V4) && !(flags & UE_CHOOSE_V4) && length >= 5)
+        fputs(address_in_words(value + 1, 4, room, sizeof room), out);
+    else if ((flags & UE_CHOOSE_V4) && !(flags & UE_V4))
+        fputs("choose one for IPv4", out);
+    else
+        fputs("not readable", out);
+}
+
 static void print_f_seid(FILE *out, const uint8_t *value, size_t length)
 {
     char room[INET6_ADDRSTRLEN];
@@ -276,6 +295,9 @@ static void print_value(FILE *out, unsigned type, const uint8_t *value, size_t l
         return;
     case IE_FQ_CSID:
         print_fq_csid(out, value, length);
+        return;
+    case IE_UE_IP_ADDRESS:
+        print_ue_ip_address(out, value, length);
         return;
     case IE_NODE_ID:
         if (length == 5)

@@ -26,7 +26,7 @@
  * the table, and reads the copy. A copy that was made without the lock may mix two states, and need
  * not be a broken table for that.
  *
- * Stack. A request takes 39,448 octets of stack (docs/benchmarks.md has how it was measured), the
+ * Stack. A request takes 44,264 octets of stack (docs/benchmarks.md has how it was measured), the
  * other calls take less. There is no heap. A thread of 64 KiB is large enough.
  *
  * Architecture. The archive is for x86-64 Linux, any processor of that kind. It needs memcpy, memmove
@@ -46,26 +46,26 @@ extern "C" {
 
 /* The version of this header and its archive: as numbers and as text. */
 #define PFCP_VERSION_MAJOR 0
-#define PFCP_VERSION_MINOR 3
+#define PFCP_VERSION_MINOR 4
 #define PFCP_VERSION_PATCH 0
-#define PFCP_VERSION "0.3.0"
+#define PFCP_VERSION "0.4.0"
 
 /* The length of a table, the same as pfcp_table_length() gives. */
-#define PFCP_TABLE_LENGTH 30943
+#define PFCP_TABLE_LENGTH 38631
 
 /* A request needs a reply space of at least this many octets, ... */
-#define PFCP_REPLY_SPACE 1024
+#define PFCP_REPLY_SPACE 1280
 
 /* ... and is at most this long. */
 #define PFCP_LONGEST_REQUEST 2048
 
 /* A restoration request is at most this long. */
-#define PFCP_LONGEST_RESTORATION 1526
+#define PFCP_LONGEST_RESTORATION 1742
 
-/* Host outcomes of pfcp_request; pfcp_free_count has the first two. */
+/* Host outcomes of pfcp_request; pfcp_free_count and pfcp_free_addresses have the first two. */
 #define PFCP_ANSWERED 0          /* a reply was written */
 #define PFCP_BROKEN_TABLE 1      /* the table is broken or of another length */
-#define PFCP_SMALL_REPLY_SPACE 2 /* reply_len is under 1,024 */
+#define PFCP_SMALL_REPLY_SPACE 2 /* reply_len is under 1,280 */
 #define PFCP_LONG_MESSAGE 3      /* message_len is over 2,048 */
 #define PFCP_WRONG_HEADER 4      /* too short a header, or version, S, FO or length wrong */
 #define PFCP_NOT_SERVED 5        /* another message type than 14, 50, 52, 54 */
@@ -82,22 +82,25 @@ extern "C" {
                      /* 1: PFCP_BROKEN_TABLE */
 #define PFCP_NONE 2  /* no session has the SEID, or none holds the TEID */
 
-/* The number of octets that a table has: 30,943. */
+/* The number of octets that a table has: 38,631. */
 size_t pfcp_table_length(void);
 
 /*
  * Makes an empty table with these settings, whatever the octets were before.
  *
- * ipv4        the unit's IPv4 address
- * ipv6        the unit's IPv6 address: ipv6_len is 16, or 0 if the unit has none
- * first_teid  the first TEID of the pool, at least 1
- * pool_size   the number of TEIDs, 1 to 4,096; the last one is at most 4,294,967,295
+ * ipv4           the unit's IPv4 address
+ * ipv6           the unit's IPv6 address: ipv6_len is 16, or 0 if the unit has none
+ * first_teid     the first TEID of the pool, at least 1
+ * pool_size      the number of TEIDs, 1 to 4,096; the last one is at most 4,294,967,295
+ * first_address  the first IPv4 address of the pool of patients' addresses
+ * address_count  the number of these addresses, 1 to 1,024; the last one is at most 255.255.255.255
  *
  * Gives 0 if the table was made, and 1 if it was refused: table_len is not pfcp_table_length(), or
  * a setting is another one than said here. A refusal writes nothing.
  */
 uint32_t pfcp_make_table(uint8_t *table, size_t table_len, uint32_t ipv4, const uint8_t *ipv6,
-                         size_t ipv6_len, uint32_t first_teid, uint32_t pool_size);
+                         size_t ipv6_len, uint32_t first_teid, uint32_t pool_size,
+                         uint32_t first_address, uint32_t address_count);
 
 /*
  * Counts the free TEIDs: the pool size minus the different TEIDs in the table's records.
@@ -105,6 +108,14 @@ uint32_t pfcp_make_table(uint8_t *table, size_t table_len, uint32_t ipv4, const 
  * Gives 0 and writes the number to *count, or gives 1 (PFCP_BROKEN_TABLE) and writes 0.
  */
 uint32_t pfcp_free_count(const uint8_t *table, size_t table_len, uint32_t *count);
+
+/*
+ * Counts the free addresses: the number of addresses in the pool minus the different ones of them in
+ * the table's records. Addresses outside the pool, which only the control plane gives, do not count.
+ *
+ * Gives 0 and writes the number to *count, or gives 1 (PFCP_BROKEN_TABLE) and writes 0.
+ */
+uint32_t pfcp_free_addresses(const uint8_t *table, size_t table_len, uint32_t *count);
 
 /*
  * Handles one request: reads the message, changes the table and writes the reply. A Session Set

@@ -301,7 +301,7 @@ class Sources:
         used, strange = set(), set()
         scope = self.scope(function.source)
         parameters = set(re.findall(r'(\w+):', '\n'.join(function.head)))
-        text = function.contract()
+        text = re.sub(r'[«»]', '', function.contract())
         self.collect(re.sub(r'\b(requires|ensures) \{', '{', text), function.source, scope, parameters, binders([text]), used, strange)
         return used, strange
 

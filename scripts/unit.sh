@@ -39,7 +39,7 @@ is_up() { is_gone "$unit_pid" || listens "$port"; }
 
 # start_unit COMMAND..: starts a unit on a free port with these settings, its output in $out and its complaints in $err; sets unit_pid
 # and port
-settings=(--ipv4 192.0.2.1 --first-teid 4096 --pool 2)
+settings=(--ipv4 192.0.2.1 --first-teid 4096 --pool 2 --first-address 10.45.0.1 --addresses 2)
 out=$work/out
 err=$work/err
 start_unit() {
@@ -125,6 +125,10 @@ unknown=213700110000000000000000000001000013000141
 heartbeat='20 01 00 0C 00 00 09 00 00 60 00 04 00 00 00 00'
 establishment='21 32 00 3D 00 00 00 00 00 00 00 00 00 00 01 00 00 39 00 0D 02 00 00 00 00 00 00 00 01 7F 00 00 01'
 establishment+=' 00 01 00 1C 00 38 00 02 00 01 00 1D 00 04 00 00 00 64 00 02 00 0A 00 14 00 01 00 00 15 00 01 05'
+# Session 1 gets PDR 2 with an address, and the whole reply: the Created PDR has the ID and the address.
+with_address='21 34 00 2C 00 00 00 00 00 00 00 01 00 00 10 00 00 01 00 1C 00 38 00 02 00 02 00 1D 00 04 00 00 00 01'
+with_address+=' 00 02 00 0A 00 14 00 01 00 00 5D 00 01 10'
+address_given=2135002400000000000000010000100000130001010008000F003800020002005D0005020A2D0001
 established=2133004200000000000000010000010000 # up to the first element's type
 established+=3C000500C0000201001300010100390 # Node ID, Cause
 established+=00D020000000000000001C0000201000800130038000200010015000901000010 # F-SEID, Created PDR

@@ -1,4 +1,4 @@
-//! The types of the elements (IEs) that document 01 names, and the sizes of their frame.
+//! The types of the elements (IEs) that documents 01 and 02 name, and the sizes of their frame.
 
 pub const CREATE_PDR: u16 = 1;
 pub const PDI: u16 = 2;
@@ -14,6 +14,7 @@ pub const PDR_ID: u16 = 56;
 pub const F_SEID: u16 = 57;
 pub const NODE_ID: u16 = 60;
 pub const FQ_CSID: u16 = 65;
+pub const UE_IP_ADDRESS: u16 = 93;
 pub const FAR_ID: u16 = 108;
 pub const CREATE_ENDPOINT: u16 = 127;
 pub const CREATED_ENDPOINT: u16 = 128;
@@ -43,5 +44,5 @@ pub fn header_octets(message: &[u8]) -> usize {
 /// Outcome 3: "message over 2,048".
 pub const LARGEST_MESSAGE: usize = 2048;
 
-/// Outcome 2: "reply space under 1,024".
-pub const LEAST_REPLY_SPACE: usize = 1024;
+/// Outcome 2: "reply space under 1,024", and "the reply space becomes 1,280".
+pub const LEAST_REPLY_SPACE: usize = 1280;

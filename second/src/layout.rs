@@ -1,17 +1,20 @@
 //! The table's octets as `docs/layout.md` gives them: written from records, and read into them.
 
+use std::net::Ipv4Addr;
+
 use crate::element::fq_csid::NodeId;
+use crate::session::Endpoint;
 use crate::session::{records_hold, Families, HeldCsid, Local, Pdr, Session, Sessions, Tunnel};
 use crate::settings::Settings;
 
-pub const TABLE: usize = 30_943;
-pub const SLOTS: usize = 31;
-pub const SLOT: usize = 483;
+pub const TABLE: usize = 38_631;
+pub const SLOTS: usize = 39;
+pub const SLOT: usize = 603;
 pub const PDRS: usize = 11;
-pub const PDR: usize = 19;
-pub const ENDPOINTS: usize = 315;
-pub const ENDPOINT: usize = 6;
-pub const FQ_CSIDS: usize = 363;
+pub const PDR: usize = 24;
+pub const ENDPOINTS: usize = 395;
+pub const ENDPOINT: usize = 11;
+pub const FQ_CSIDS: usize = 483;
 pub const FQ_CSID: usize = 20;
 
 /// The octets of a table. There must be room for the records; they may break the rules otherwise.
@@ -22,6 +25,8 @@ pub fn encode(settings: &Settings, sessions: &Sessions) -> Vec<u8> {
     table.extend(settings.ipv6.unwrap_or([0; 16]));
     table.extend(settings.first.to_be_bytes());
     table.extend(settings.size.to_be_bytes());
+    table.extend(settings.first_address.octets());
+    table.extend(settings.addresses.to_be_bytes());
     table.extend((sessions.len() as u16).to_be_bytes());
     for (seid, session) in sessions {
         encode_session(&mut table, *seid, session);
@@ -52,12 +57,14 @@ fn encode_session(table: &mut Vec<u8>, seid: u64, session: &Session) {
         table.extend(teid.to_be_bytes());
         table.push(flags);
         table.push(endpoint);
+        encode_address(table, pdr.address);
     }
     table.resize(start + ENDPOINTS, 0);
-    for (id, tunnel) in &session.endpoints {
+    for (id, Endpoint { tunnel, address }) in &session.endpoints {
         table.push(*id);
         table.extend(tunnel.teid.to_be_bytes());
         table.push(flags(tunnel.families));
+        encode_address(table, *address);
     }
     table.resize(start + FQ_CSIDS, 0);
     for (node_type, held) in &session.fq_csids {
@@ -83,6 +90,11 @@ fn encode_session(table: &mut Vec<u8>, seid: u64, session: &Session) {
     table.resize(start + SLOT, 0);
 }
 
+fn encode_address(table: &mut Vec<u8>, address: Option<Ipv4Addr>) {
+    table.push(u8::from(address.is_some()));
+    table.extend(address.unwrap_or(Ipv4Addr::UNSPECIFIED).octets());
+}
+
 fn flags(families: Families) -> u8 {
     u8::from(families.v4) + 2 * u8::from(families.v6)
 }
@@ -97,8 +109,10 @@ pub fn decode(table: &[u8]) -> Option<(Settings, Sessions)> {
         ipv6: (table[4] != 0).then(|| array(table, 5)),
         first: u32::from_be_bytes(array(table, 21)),
         size: u32::from_be_bytes(array(table, 25)),
+        first_address: Ipv4Addr::from(array(table, 29)),
+        addresses: u32::from_be_bytes(array(table, 33)),
     };
-    let count = usize::from(u16::from_be_bytes(array(table, 29)));
+    let count = usize::from(u16::from_be_bytes(array(table, 37)));
     if count > 64 {
         return None;
     }
@@ -127,11 +141,13 @@ fn decode_session(slot: &[u8]) -> Option<Session> {
             far_id: (record[6] != 0).then(|| u32::from_be_bytes(array(record, 7))),
             source_interface: record[11],
             local,
+            address: address(&record[19..]),
         };
         session.pdrs.insert(u16::from_be_bytes(array(record, 0)), pdr);
     }
     for record in slot[ENDPOINTS..FQ_CSIDS].chunks(ENDPOINT).take(counts.1) {
-        session.endpoints.insert(record[0], tunnel(&record[1..6]));
+        let endpoint = Endpoint { tunnel: tunnel(&record[1..6]), address: address(&record[6..]) };
+        session.endpoints.insert(record[0], endpoint);
     }
     for record in slot[FQ_CSIDS..].chunks(FQ_CSID).take(counts.2) {
         let word = u32::from_be_bytes(array(record, 2));
@@ -154,12 +170,16 @@ fn tunnel(octets: &[u8]) -> Tunnel {
     Tunnel { teid: u32::from_be_bytes(array(octets, 0)), families }
 }
 
+fn address(octets: &[u8]) -> Option<Ipv4Addr> {
+    (octets[0] != 0).then(|| Ipv4Addr::from(array(octets, 1)))
+}
+
 fn array<const N: usize>(octets: &[u8], at: usize) -> [u8; N] {
     octets[at..at + N].try_into().expect("a slice of N octets")
 }
 
 /// The settings and records of a sound table, or why it is broken: "exactly when its length is not
-/// 30,943, its settings or records break a rule of document 01, or its octets are not the ones that
+/// 38,631, its settings or records break a rule of 01 or 02, or its octets are not the ones that
 /// its own settings and records encode to".
 pub fn sound(table: &[u8]) -> Result<(Settings, Sessions), String> {
     if table.len() != TABLE {

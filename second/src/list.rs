@@ -5,14 +5,33 @@ use std::fmt::Write;
 use std::net::{Ipv4Addr, Ipv6Addr};
 
 use crate::element::fq_csid::NodeId;
-use crate::session::{distinct_teids, Families, Local, Pdr, Session, Sessions, Tunnel};
+use crate::session::{
+    distinct_teids, taken_addresses, Families, Local, Pdr, Session, Sessions, Tunnel,
+};
 use crate::settings::Settings;
+
+/// How many TEIDs and addresses of the pools are free.
+struct Free {
+    teids: usize,
+    addresses: usize,
+}
+
+impl Free {
+    fn of(settings: &Settings, sessions: &Sessions) -> Free {
+        Free {
+            teids: settings.size as usize - distinct_teids(sessions).len(),
+            addresses: settings.addresses as usize - taken_addresses(settings, sessions).len(),
+        }
+    }
+}
 
 /// The whole list as text.
 pub fn text(settings: &Settings, sessions: &Sessions) -> String {
-    let free = settings.size as usize - distinct_teids(sessions).len();
-    let mut list =
-        format!("live sessions: {}; free TEIDs: {free} of {}\n", sessions.len(), settings.size);
+    let (live, free) = (sessions.len(), Free::of(settings, sessions));
+    let mut list = format!(
+        "live sessions: {live}; free TEIDs: {} of {}; free addresses: {} of {}\n",
+        free.teids, settings.size, free.addresses, settings.addresses
+    );
     for (seid, session) in sessions {
         add_text(&mut list, *seid, session);
     }
@@ -30,12 +49,14 @@ fn add_text(list: &mut String, seid: u64, session: &Session) {
             Local::Endpoint(id) => format!(", endpoint {id}"),
         };
         let (precedence, source) = (pdr.precedence, pdr.source_interface);
+        let address = address_text(pdr.address);
         line(format!(
-            "    PDR {id}: precedence {precedence}, {far}, source interface {source}{local}"
+            "    PDR {id}: precedence {precedence}, {far}, source interface {source}{local}{address}"
         ));
     }
-    for (id, tunnel) in &session.endpoints {
-        line(format!("    endpoint {id}: {}", tunnel_text(tunnel)));
+    for (id, endpoint) in &session.endpoints {
+        let (tunnel, address) = (tunnel_text(&endpoint.tunnel), address_text(endpoint.address));
+        line(format!("    endpoint {id}: {tunnel}{address}"));
     }
     for (node_type, held) in &session.fq_csids {
         let kind = match held.node {
@@ -55,6 +76,10 @@ fn tunnel_text(tunnel: &Tunnel) -> String {
         Families { v4: false, v6: false } => "no family",
     };
     format!("TEID {} ({families})", tunnel.teid)
+}
+
+fn address_text(address: Option<Ipv4Addr>) -> String {
+    address.map_or(String::new(), |address| format!(", address {address}"))
 }
 
 fn node_text(node: &NodeId) -> String {
@@ -79,12 +104,16 @@ fn ipv6_text(address: &[u8; 16]) -> String {
 
 /// The whole list as JSON, without counters.
 pub fn json(settings: &Settings, sessions: &Sessions) -> String {
-    let free = settings.size as usize - distinct_teids(sessions).len();
-    let (live, size) = (sessions.len(), settings.size);
+    let (live, free) = (sessions.len(), Free::of(settings, sessions));
     let sessions: Vec<String> =
         sessions.iter().map(|(seid, session)| session_json(*seid, session)).collect();
+    let of_teids = format!("\"free_teids\":{},\"pool_size\":{}", free.teids, settings.size);
+    let of_addresses = format!(
+        "\"free_addresses\":{},\"address_pool_size\":{}",
+        free.addresses, settings.addresses
+    );
     format!(
-        "{{\"live_sessions\":{live},\"free_teids\":{free},\"pool_size\":{size},\"sessions\":[{}]}}\n",
+        "{{\"live_sessions\":{live},{of_teids},{of_addresses},\"sessions\":[{}]}}\n",
         sessions.join(",\n")
     )
 }
@@ -94,7 +123,10 @@ fn session_json(seid: u64, session: &Session) -> String {
     let endpoints: Vec<String> = session
         .endpoints
         .iter()
-        .map(|(id, tunnel)| format!("{{\"id\":{id}{}}}", tunnel_json(tunnel)))
+        .map(|(id, endpoint)| {
+            let (tunnel, address) = (tunnel_json(&endpoint.tunnel), address_json(endpoint.address));
+            format!("{{\"id\":{id}{tunnel}{address}}}")
+        })
         .collect();
     let fq_csids: Vec<String> = session
         .fq_csids
@@ -120,7 +152,12 @@ fn pdr_json(id: u16, pdr: &Pdr) -> String {
         Local::Endpoint(id) => format!(",\"endpoint_id\":{id}"),
     };
     let (precedence, source) = (pdr.precedence, pdr.source_interface);
-    format!("{{\"id\":{id},\"precedence\":{precedence}{far},\"source_interface\":{source}{local}}}")
+    let rest = format!("\"source_interface\":{source}{local}{}", address_json(pdr.address));
+    format!("{{\"id\":{id},\"precedence\":{precedence}{far},{rest}}}")
+}
+
+fn address_json(address: Option<Ipv4Addr>) -> String {
+    address.map_or(String::new(), |address| format!(",\"address\":\"{address}\""))
 }
 
 fn tunnel_json(tunnel: &Tunnel) -> String {

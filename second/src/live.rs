@@ -2,23 +2,32 @@
 //! the table". Nothing here looks at a unit or its settings.
 
 use std::collections::BTreeMap;
+use std::net::Ipv4Addr;
 
 use crate::element::f_teid::{self, FTeid};
+use crate::element::ue_ip::{self, UeIp};
 use crate::ie;
 use crate::request::framing::{elements, Part};
 use crate::request::{self, FarChange, Kind, Record, Request};
-use crate::session::{HeldCsid, Local, Pdr, Session, Sessions, Tunnel};
+use crate::session::{Endpoint, HeldCsid, Local, Pdr, Session, Sessions, Tunnel};
 
 #[derive(Clone, PartialEq, Eq, Debug, Default)]
 pub struct LiveSet {
     pub sessions: Sessions,
 }
 
-/// What a reply says: its cause, and the TEIDs of its Created groups.
+/// What a reply says: its cause, and what its Created groups list.
 struct Said {
     cause: Option<u8>,
-    pdrs: BTreeMap<u16, u32>,
-    endpoints: BTreeMap<u8, u32>,
+    pdrs: BTreeMap<u16, Created>,
+    endpoints: BTreeMap<u8, Created>,
+}
+
+/// What was chosen for a record.
+#[derive(Clone, Copy, Default)]
+struct Created {
+    teid: Option<u32>,
+    address: Option<Ipv4Addr>,
 }
 
 impl LiveSet {
@@ -85,14 +94,12 @@ fn hear(reply: &[u8]) -> Result<Said, String> {
             ie::CREATED_PDR => {
                 let id = member(element.value, ie::PDR_ID)?;
                 let id = id.try_into().map_err(|_| "a Created PDR's ID is not two octets")?;
-                let teid = created_teid(element.value)?;
-                said.pdrs.insert(u16::from_be_bytes(id), teid);
+                said.pdrs.insert(u16::from_be_bytes(id), created(element.value)?);
             }
             ie::CREATED_ENDPOINT => {
                 let id = member(element.value, ie::ENDPOINT_ID)?;
                 let id = *id.first().ok_or("a Created Endpoint's ID is empty")?;
-                let teid = created_teid(element.value)?;
-                said.endpoints.insert(id, teid);
+                said.endpoints.insert(id, created(element.value)?);
             }
             _ => {}
         }
@@ -105,11 +112,22 @@ fn member(group: &[u8], ie_type: u16) -> Result<&[u8], String> {
     found.map(|element| element.value).ok_or(format!("a Created group without {ie_type}"))
 }
 
-fn created_teid(group: &[u8]) -> Result<u32, String> {
-    match f_teid::read(member(group, ie::F_TEID)?) {
-        Ok(FTeid::Given { teid, .. }) => Ok(teid),
-        other => Err(format!("a Created group with {other:?}")),
+fn created(group: &[u8]) -> Result<Created, String> {
+    let mut created = Created::default();
+    for element in elements(Part::of(group)) {
+        match element.ie_type {
+            ie::F_TEID => match f_teid::read(element.value) {
+                Ok(FTeid::Given { teid, .. }) => created.teid = Some(teid),
+                other => return Err(format!("a Created group with {other:?}")),
+            },
+            ie::UE_IP_ADDRESS => match ue_ip::read(element.value) {
+                Ok(UeIp::Given(address)) => created.address = Some(address),
+                other => return Err(format!("a Created group with {other:?}")),
+            },
+            _ => {}
+        }
     }
+    Ok(created)
 }
 
 /// A session after an accepted request: "takes out what it removes, adds what it creates, then
@@ -131,25 +149,28 @@ fn changed(mut session: Session, request: &Request, said: &Said) -> Result<Sessi
     for record in &request.records {
         match record {
             Record::CreatePdr { id, precedence, pdi, far_id } => {
+                let from_reply = said.pdrs.get(id).copied().unwrap_or_default();
                 let mut local = Local::Neither;
                 if let Some(endpoint) = pdi.endpoint {
                     local = Local::Endpoint(endpoint);
                 }
                 if let Some(f_teid) = &pdi.f_teid {
-                    let from_reply = said.pdrs.get(id).copied();
-                    local = Local::Tunnel(tunnel(f_teid, from_reply)?);
+                    local = Local::Tunnel(tunnel(f_teid, from_reply.teid)?);
                 }
                 let pdr = Pdr {
                     precedence: *precedence,
                     far_id: *far_id,
                     source_interface: pdi.source_interface,
                     local,
+                    address: address(pdi.ue_ip, from_reply.address)?,
                 };
                 session.pdrs.insert(*id, pdr);
             }
-            Record::CreateEndpoint { id, f_teid } => {
-                let from_reply = said.endpoints.get(id).copied();
-                session.endpoints.insert(*id, tunnel(f_teid, from_reply)?);
+            Record::CreateEndpoint { id, f_teid, ue_ip } => {
+                let from_reply = said.endpoints.get(id).copied().unwrap_or_default();
+                let tunnel = tunnel(f_teid, from_reply.teid)?;
+                let address = address(*ue_ip, from_reply.address)?;
+                session.endpoints.insert(*id, Endpoint { tunnel, address });
             }
             _ => {}
         }
@@ -189,5 +210,16 @@ fn tunnel(f_teid: &FTeid, from_reply: Option<u32>) -> Result<Tunnel, String> {
             let teid = from_reply.ok_or("a CHOOSE without its Created group")?;
             Ok(Tunnel { teid, families })
         }
+    }
+}
+
+/// "The live set has the address given, or where one was chosen the one in the record's Created
+/// group."
+fn address(asked: Option<UeIp>, from_reply: Option<Ipv4Addr>) -> Result<Option<Ipv4Addr>, String> {
+    match (asked, from_reply) {
+        (None, None) => Ok(None),
+        (Some(UeIp::Given(address)), None) => Ok(Some(address)),
+        (Some(UeIp::Choose), Some(address)) => Ok(Some(address)),
+        _ => Err(format!("{asked:?} asked for, {from_reply:?} in its Created group")),
     }
 }

@@ -1,17 +1,21 @@
 //! "A live session's restoration request holds its SEID, flags `01` and its records, nothing more:
 //! in the order of the establishment line, Places and the table, with the unit's addresses and
-//! ignored bits 0."
+//! ignored bits 0." "Restorations carry the addresses".
+
+use std::net::Ipv4Addr;
 
 use crate::element::f_seid::{self, FSeid};
 use crate::element::f_teid::{self, FTeid};
 use crate::element::fq_csid::{self, FqCsid};
+use crate::element::ue_ip::{self, UeIp};
 use crate::generate::random::Random;
 use crate::ie;
-use crate::session::{Local, Session, Tunnel};
+use crate::session::{Endpoint, Local, Session, Tunnel};
 use crate::settings::Settings;
 
-/// "Every session that the table can hold fits one restoration request of at most 1,526 octets."
-pub const LONGEST: usize = 1526;
+/// "Every session that the table can hold fits one restoration request of at most 1,526 octets", and
+/// with addresses "1,526 becomes 1,742".
+pub const LONGEST: usize = 1742;
 
 /// What may be any: "Header SEID, sequence number and F-SEID addresses (one or both)".
 #[derive(Clone, PartialEq, Eq, Debug)]
@@ -52,7 +56,8 @@ pub fn request(
     add(&mut body, ie::F_SEID, &space[..length]);
     add(&mut body, ie::ESTABLISHMENT_FLAGS, &[1]);
     for (id, pdr) in &session.pdrs {
-        // "Create and Update PDR 56, 29, 2, 108; PDI 20, 21, 131"
+        // "Create and Update PDR 56, 29, 2, 108; PDI 20, 21, 131"; 93 "stands last in a PDI, Create
+        // Endpoint or Created group"
         let mut pdi = Vec::new();
         add(&mut pdi, ie::SOURCE_INTERFACE, &[pdr.source_interface]);
         match &pdr.local {
@@ -60,6 +65,7 @@ pub fn request(
             Local::Tunnel(tunnel) => add(&mut pdi, ie::F_TEID, &existing(settings, tunnel)?),
             Local::Endpoint(endpoint) => add(&mut pdi, ie::ENDPOINT_ID, &[*endpoint]),
         }
+        add_address(&mut pdi, pdr.address)?;
         let mut group = Vec::new();
         add(&mut group, ie::PDR_ID, &id.to_be_bytes());
         add(&mut group, ie::PRECEDENCE, &pdr.precedence.to_be_bytes());
@@ -69,11 +75,12 @@ pub fn request(
         }
         add(&mut body, ie::CREATE_PDR, &group);
     }
-    for (id, tunnel) in &session.endpoints {
+    for (id, Endpoint { tunnel, address }) in &session.endpoints {
         // "Create Endpoint 131, 21"
         let mut group = Vec::new();
         add(&mut group, ie::ENDPOINT_ID, &[*id]);
         add(&mut group, ie::F_TEID, &existing(settings, tunnel)?);
+        add_address(&mut group, *address)?;
         add(&mut body, ie::CREATE_ENDPOINT, &group);
     }
     for (node_type, held) in &session.fq_csids {
@@ -100,6 +107,16 @@ fn existing(settings: &Settings, tunnel: &Tunnel) -> Option<Vec<u8>> {
     let mut space = [0; 25];
     let length = f_teid::write(&f_teid, &mut space)?;
     Some(space[..length].to_vec())
+}
+
+/// The address of a record, if it holds one.
+fn add_address(part: &mut Vec<u8>, address: Option<Ipv4Addr>) -> Option<()> {
+    if let Some(address) = address {
+        let mut space = [0; 5];
+        let length = ue_ip::write(&UeIp::Given(address), &mut space)?;
+        add(part, ie::UE_IP_ADDRESS, &space[..length]);
+    }
+    Some(())
 }
 
 fn add(part: &mut Vec<u8>, ie_type: u16, value: &[u8]) {

@@ -76,13 +76,14 @@ pub fn run(seed: u64, calls: usize) -> Report {
 fn one_call(report: &mut Report, unit: &mut Unit, live: &mut LiveSet, call: &Call) {
     let before = unit.sessions().clone();
     let decision = unit.decide(&call.message, call.reply_space);
-    report.coverage.decided(&call.message, call.reply_space, &decision, &before);
+    let settings = unit.settings().clone();
+    report.coverage.decided(&call.message, call.reply_space, &decision, &settings, &before);
     let mut space = vec![FILLING; call.reply_space];
     let outcome = unit.request(&call.message, &mut space);
     let (reply, rest) = space.split_at(outcome.reply_length);
     report.longest_reply = report.longest_reply.max(reply.len());
     report.check(rest.iter().all(|octet| *octet == FILLING), || "space after the reply".into());
-    report.check(reply.len() <= ie::LEAST_REPLY_SPACE, || "a reply over 1,024 octets".into());
+    report.check(reply.len() <= ie::LEAST_REPLY_SPACE, || "a reply over 1,280 octets".into());
     match &decision {
         Decision::Outcome(number) => {
             report.check(outcome.number == *number, || "another outcome than decided".into());
@@ -112,6 +113,17 @@ fn one_call(report: &mut Report, unit: &mut Unit, live: &mut LiveSet, call: &Cal
     report.check(unit.free_count() as usize == free, || "the free count differs".into());
     let ones: u32 = unit.taken_map().iter().map(|word| word.count_ones()).sum();
     report.check(ones as usize == distinct.len(), || "the map differs".into());
+    let held = live.sessions.values().flat_map(|session| session.addresses());
+    let mut places: Vec<u32> = held.filter_map(|a| unit.settings().address_place(a)).collect();
+    places.sort();
+    places.dedup();
+    let free = unit.settings().addresses as usize - places.len();
+    report.check(unit.free_addresses() as usize == free, || "the free addresses differ".into());
+    let map = unit.address_map();
+    let in_map = |place: &u32| map[*place as usize / 64] >> (place % 64) & 1 == 1;
+    let ones: u32 = map.iter().map(|word| word.count_ones()).sum();
+    let right = places.iter().all(in_map) && ones as usize == places.len();
+    report.check(right, || "the map of addresses differs".into());
     let rules = records_hold(unit.settings(), unit.sessions());
     report.check(rules.is_ok(), || format!("the records: {rules:?}"));
 }
@@ -174,7 +186,7 @@ fn restore_all(report: &mut Report, random: &mut Random, settings: &Settings, li
         let message = message.expect("a live session can be restored");
         report.check(message.len() <= LONGEST, || format!("{} octets", message.len()));
         report.longest_restoration = report.longest_restoration.max(message.len());
-        let mut space = vec![FILLING; random.pick(&[1024, 1025, 3000])];
+        let mut space = vec![FILLING; random.pick(&[ie::LEAST_REPLY_SPACE, 1281, 3000])];
         let outcome = unit.request(&message, &mut space);
         let reply = &space[..outcome.reply_length];
         let cause = cause_of(&message, reply);

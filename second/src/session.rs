@@ -1,7 +1,8 @@
 //! The records that live in a unit, and the rules that document 01 gives for them under "Settings
-//! and table".
+//! and table", with the addresses of 02 (v).
 
 use std::collections::{BTreeMap, BTreeSet};
+use std::net::Ipv4Addr;
 
 use crate::element::fq_csid::{NodeId, LAST_NODE_TYPE};
 use crate::request::{Record, Request};
@@ -47,6 +48,16 @@ pub struct Pdr {
     pub far_id: Option<u32>,
     pub source_interface: u8,
     pub local: Local,
+    /// The patient's address, if it holds one.
+    pub address: Option<Ipv4Addr>,
+}
+
+/// A traffic endpoint without its ID, which is its key in the session.
+#[derive(Clone, Copy, PartialEq, Eq, Debug)]
+pub struct Endpoint {
+    pub tunnel: Tunnel,
+    /// The patient's address, if it holds one.
+    pub address: Option<Ipv4Addr>,
 }
 
 /// An FQ-CSID as a session holds it: one CSID, and its node type is its key in the session.
@@ -60,7 +71,7 @@ pub struct HeldCsid {
 #[derive(Clone, PartialEq, Eq, Debug, Default)]
 pub struct Session {
     pub pdrs: BTreeMap<u16, Pdr>,
-    pub endpoints: BTreeMap<u8, Tunnel>,
+    pub endpoints: BTreeMap<u8, Endpoint>,
     pub fq_csids: BTreeMap<u8, HeldCsid>,
 }
 
@@ -73,7 +84,18 @@ impl Session {
             Local::Tunnel(tunnel) => Some(tunnel.teid),
             _ => None,
         });
-        self.endpoints.values().map(|tunnel| tunnel.teid).chain(of_pdrs)
+        self.endpoints.values().map(|endpoint| endpoint.tunnel.teid).chain(of_pdrs)
+    }
+
+    /// Every address in the session's records, one for each record that holds one.
+    pub fn addresses(&self) -> impl Iterator<Item = Ipv4Addr> + '_ {
+        let of_pdrs = self.pdrs.values().filter_map(|pdr| pdr.address);
+        self.endpoints.values().filter_map(|endpoint| endpoint.address).chain(of_pdrs)
+    }
+
+    /// The different addresses of the pool among them.
+    pub fn pool_addresses(&self, settings: &Settings) -> BTreeSet<Ipv4Addr> {
+        self.addresses().filter(|address| settings.address_place(*address).is_some()).collect()
     }
 
     /// The PDRs that a request removes: those that a Remove PDR names, and "PDRs which name the
@@ -115,6 +137,11 @@ pub fn distinct_teids(sessions: &Sessions) -> BTreeSet<u32> {
     sessions.values().flat_map(|session| session.teids()).collect()
 }
 
+/// The different addresses of the pool in the records.
+pub fn taken_addresses(settings: &Settings, sessions: &Sessions) -> BTreeSet<Ipv4Addr> {
+    sessions.values().flat_map(|session| session.pool_addresses(settings)).collect()
+}
+
 /// The place of a session: from 0, in ascending order of SEID.
 pub fn place_of(sessions: &Sessions, seid: u64) -> Option<usize> {
     sessions.keys().position(|key| *key == seid)
@@ -133,6 +160,7 @@ pub fn records_hold(settings: &Settings, sessions: &Sessions) -> Result<(), Stri
     // Who holds a TEID: an endpoint alone, or PDRs of one session with one use of it.
     let mut of_endpoints: BTreeSet<u32> = BTreeSet::new();
     let mut of_pdrs: BTreeMap<u32, (u64, Families, u8)> = BTreeMap::new();
+    let mut of_earlier: BTreeSet<Ipv4Addr> = BTreeSet::new();
     for (&seid, session) in sessions {
         let fail = |what: &str| Err(format!("session {seid}: {what}"));
         if seid == 0 {
@@ -144,7 +172,7 @@ pub fn records_hold(settings: &Settings, sessions: &Sessions) -> Result<(), Stri
         if session.endpoints.len() > MOST_ENDPOINTS {
             return fail("more than 8 endpoints");
         }
-        for tunnel in session.endpoints.values() {
+        for Endpoint { tunnel, .. } in session.endpoints.values() {
             if !tunnel_holds(settings, tunnel) {
                 return fail("an endpoint's F-TEID breaks a rule");
             }
@@ -177,6 +205,12 @@ pub fn records_hold(settings: &Settings, sessions: &Sessions) -> Result<(), Stri
         for (&node_type, held) in &session.fq_csids {
             if node_type > LAST_NODE_TYPE || !held.node.is_allowed() {
                 return fail("an FQ-CSID breaks its rules");
+            }
+        }
+        // "a restored pool address held by another session is 73 (a table so is broken)"
+        for address in session.pool_addresses(settings) {
+            if !of_earlier.insert(address) {
+                return fail("an address of the pool is another session's too");
             }
         }
     }

@@ -1,9 +1,13 @@
 //! "Settings: the unit's IPv4 address, an optional IPv6 address, the first TEID (at least 1) and
-//! the pool size (1 to 4,096; the last TEID at most 4,294,967,295)."
+//! the pool size (1 to 4,096; the last TEID at most 4,294,967,295)", and from 02 (v) "a pool of 1 to
+//! 1,024 addresses [..] (first, size; last at most 255.255.255.255)".
+
+use std::net::Ipv4Addr;
 
 use crate::session::Families;
 
 pub const LARGEST_POOL: u32 = 4096;
+pub const MOST_ADDRESSES: u32 = 1024;
 
 #[derive(Clone, PartialEq, Eq, Debug)]
 pub struct Settings {
@@ -13,22 +17,34 @@ pub struct Settings {
     pub first: u32,
     /// The number of TEIDs in the pool.
     pub size: u32,
+    /// The first address of the pool of addresses.
+    pub first_address: Ipv4Addr,
+    /// The number of addresses in it.
+    pub addresses: u32,
 }
 
 impl Settings {
     /// Settings from plain values, or nothing for "other settings". An empty slice says that the
     /// unit has no IPv6 address, 16 octets give one, and any other length is refused. Addresses of
-    /// zeros are allowed.
-    pub fn make(ipv4: [u8; 4], ipv6: &[u8], first: u32, size: u32) -> Option<Settings> {
+    /// zeros are allowed. TEIDs and addresses are given as the first and the number of them.
+    pub fn make(
+        ipv4: [u8; 4],
+        ipv6: &[u8],
+        (first, size): (u32, u32),
+        (first_address, addresses): (Ipv4Addr, u32),
+    ) -> Option<Settings> {
         let ipv6 = if ipv6.is_empty() { None } else { Some(<[u8; 16]>::try_from(ipv6).ok()?) };
-        let settings = Settings { ipv4, ipv6, first, size };
+        let settings = Settings { ipv4, ipv6, first, size, first_address, addresses };
         settings.are_allowed().then_some(settings)
     }
 
     pub fn are_allowed(&self) -> bool {
+        let fits = |first: u32, size: u32, most: u32| {
+            (1..=most).contains(&size) && first.checked_add(size - 1).is_some()
+        };
         self.first >= 1
-            && (1..=LARGEST_POOL).contains(&self.size)
-            && u64::from(self.first) + u64::from(self.size) - 1 <= u64::from(u32::MAX)
+            && fits(self.first, self.size, LARGEST_POOL)
+            && fits(self.first_address.into(), self.addresses, MOST_ADDRESSES)
     }
 
     /// Whether a TEID lies in the pool.
@@ -36,9 +52,21 @@ impl Settings {
         teid >= self.first && teid - self.first < self.size
     }
 
+    /// The place of an address in the pool of addresses.
+    pub fn address_place(&self, address: Ipv4Addr) -> Option<u32> {
+        let place = u32::from(address).checked_sub(self.first_address.into())?;
+        (place < self.addresses).then_some(place)
+    }
+
     /// The TEIDs of the pool, lowest first.
     pub fn pool(&self) -> impl Iterator<Item = u32> {
         self.first..=self.first + (self.size - 1)
+    }
+
+    /// The addresses of the pool, lowest first.
+    pub fn address_pool(&self) -> impl Iterator<Item = Ipv4Addr> {
+        let first = u32::from(self.first_address);
+        (first..=first + (self.addresses - 1)).map(Ipv4Addr::from)
     }
 
     /// Whether the unit has every one of these families. It always has IPv4.

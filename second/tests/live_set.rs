@@ -30,7 +30,7 @@ fn teids_come_from_the_reply() {
     assert_eq!(live.follow(&request, 0, &accepted), Ok(()));
     let session = &live.sessions[&1];
     assert_eq!(session.pdrs[&1].local, Local::Tunnel(Tunnel { teid: 77, families: V4 }));
-    assert_eq!(session.endpoints[&1], Tunnel { teid: 88, families: V4 });
+    assert_eq!(session.endpoints[&1].tunnel, Tunnel { teid: 88, families: V4 });
     // A modification without its Created group cannot be followed and changes nothing.
     let request = modification(1, &[remove_pdr(1), create_pdr(2, &[choose()])]);
     let before = live.clone();

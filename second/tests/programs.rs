@@ -55,7 +55,17 @@ fn verdicts_of_messages() {
     long.extend([0; 100]);
     let input = [
         line(&establishment(1, &[create_pdr(3, &[choose_id(7), endpoint_id(4)]), fq_csid(5, 1)])),
-        line(&restoration(2, &[create_endpoint(9, &given_v4(4096))])),
+        line(&restoration(
+            2,
+            &[group(
+                127,
+                &[endpoint_id(9), ie(21, &given_v4(4096)), ie(93, &[0x86, 10, 0, 0, 1, 9])],
+            )],
+        )),
+        line(&establishment(
+            1,
+            &[create_pdr(3, &[choose_address()]), create_pdr(4, &[ie(93, &[0x12 | 8])])],
+        )),
         line(&modification(
             3,
             &[
@@ -86,8 +96,9 @@ fn verdicts_of_messages() {
     assert_eq!(
         lines,
         [
-            "read establishment header=0000000000000000 sequence=1 seid=0000000000000001 v4=0A000001 v6=- restoration=0 | create-pdr id=3 precedence=1 source=0 f-teid=choose:4:7 endpoint=4 far=- | fq-csid node=0:C000020A csids=5 node-type=1",
-            "read establishment header=0000000000000000 sequence=1 seid=0000000000000002 v4=0A000001 v6=- restoration=1 | create-endpoint id=9 f-teid=given:4096:C0000201:-",
+            "read establishment header=0000000000000000 sequence=1 seid=0000000000000001 v4=0A000001 v6=- restoration=0 | create-pdr id=3 precedence=1 source=0 f-teid=choose:4:7 endpoint=4 address=- far=- | fq-csid node=0:C000020A csids=5 node-type=1",
+            "read establishment header=0000000000000000 sequence=1 seid=0000000000000002 v4=0A000001 v6=- restoration=1 | create-endpoint id=9 f-teid=given:4096:C0000201:- address=0A000001",
+            "read establishment header=0000000000000000 sequence=1 seid=0000000000000001 v4=0A000001 v6=- restoration=0 | create-pdr id=3 precedence=1 source=0 f-teid=- endpoint=- address=choose far=- | create-pdr id=4 precedence=1 source=0 f-teid=- endpoint=- address=other far=-",
             "read modification header=0000000000000003 sequence=1 | update-pdr id=1 precedence=- far=none pdi=1 | update-pdr id=2 precedence=7 far=8 pdi=0 | remove-pdr id=3 | remove-endpoint id=4 | update-endpoint | fq-csid-removal node-type=2",
             "read modification header=0000000000000003 sequence=1 | fq-csid-removal-all",
             "read deletion header=0000000000000004 sequence=1",

@@ -11,8 +11,8 @@ fn a_whole_run_passes_and_meets_every_counter() {
     assert_eq!(report.failures, Vec::<String>::new());
     assert_eq!(report.coverage.unmet(), vec![]);
     assert_eq!(report.coverage.unexpected(), vec![]);
-    assert_eq!(report.longest_restoration, 1526);
-    assert_eq!(report.longest_reply, 975);
+    assert_eq!(report.longest_restoration, 1742);
+    assert_eq!(report.longest_reply, 1191);
 }
 
 #[test]

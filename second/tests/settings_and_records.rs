@@ -3,13 +3,14 @@
 mod common;
 
 use common::*;
-use second::session::{records_hold, Families, Local, Pdr, Session, Sessions, Tunnel};
+use second::session::{records_hold, Endpoint, Families, Local, Pdr, Session, Sessions, Tunnel};
 use second::settings::Settings;
 use second::unit::Unit;
 
 #[test]
 fn allowed_settings() {
-    let made = |ipv6: &[u8], first, size| Settings::make([0; 4], ipv6, first, size).is_some();
+    let made =
+        |ipv6: &[u8], first, size| Settings::make([0; 4], ipv6, (first, size), (POOL, 1)).is_some();
     assert!(made(&[], 1, 1));
     assert!(made(&[0; 16], 1, 4096));
     assert!(!made(&[0; 15], 1, 1) && !made(&[0; 17], 1, 1) && !made(&[0; 4], 1, 1));
@@ -17,8 +18,20 @@ fn allowed_settings() {
     assert!(!made(&[], 1, 0) && !made(&[], 1, 4097));
     assert!(made(&[], u32::MAX, 1) && !made(&[], u32::MAX, 2));
     assert!(made(&[], u32::MAX - 4095, 4096) && !made(&[], u32::MAX - 4094, 4096));
-    let other = Settings { ipv4: [0; 4], ipv6: None, first: 0, size: 1 };
-    assert!(Unit::new(other).is_none());
+    let good = unit(1, 1).settings().clone();
+    assert!(Unit::new(Settings { first: 0, ..good.clone() }).is_none());
+    assert!(Unit::new(Settings { addresses: 0, ..good }).is_none());
+}
+
+/// "a pool of 1 to 1,024 addresses in the settings (first, size; last at most 255.255.255.255)"
+#[test]
+fn allowed_pools_of_addresses() {
+    let made =
+        |first: [u8; 4], size| Settings::make(IPV4, &[], (1, 1), (first.into(), size)).is_some();
+    assert!(made([0; 4], 1) && made([0; 4], 1024) && made(IPV4, 3));
+    assert!(!made([0; 4], 0) && !made([0; 4], 1025) && !made([0; 4], u32::MAX));
+    assert!(made([255; 4], 1) && !made([255; 4], 2) && !made([255; 4], 0));
+    assert!(made([255, 255, 252, 0], 1024) && !made([255, 255, 252, 1], 1024));
 }
 
 #[test]
@@ -48,15 +61,17 @@ fn map_of_taken_teids() {
 /// The rules for records, each broken alone.
 #[test]
 fn broken_records() {
-    let settings = Settings::make(IPV4, &[], 10, 10).unwrap();
+    let settings = Settings::make(IPV4, &[], (10, 10), (POOL, 2)).unwrap();
     let v4 = Families { v4: true, v6: false };
     let tunnel = |teid| Tunnel { teid, families: v4 };
-    let pdr = |local| Pdr { precedence: 0, far_id: None, source_interface: 0, local };
+    let pdr =
+        |local| Pdr { precedence: 0, far_id: None, source_interface: 0, local, address: None };
+    let endpoint = |tunnel| Endpoint { tunnel, address: None };
     let of = |session: Session| Sessions::from([(1, session)]);
     let mut good = Session::default();
     good.pdrs.insert(1, pdr(Local::Tunnel(tunnel(10))));
     good.pdrs.insert(2, pdr(Local::Tunnel(tunnel(10))));
-    good.endpoints.insert(1, tunnel(19));
+    good.endpoints.insert(1, endpoint(tunnel(19)));
     good.pdrs.insert(3, pdr(Local::Endpoint(1)));
     assert_eq!(records_hold(&settings, &of(good.clone())), Ok(()));
     let broken = |change: &dyn Fn(&mut Session)| {
@@ -66,7 +81,7 @@ fn broken_records() {
     };
     let with_endpoint = |tunnel: Tunnel| {
         broken(&|s| {
-            s.endpoints.insert(2, tunnel);
+            s.endpoints.insert(2, endpoint(tunnel));
         })
     };
     broken(&|s| s.pdrs.get_mut(&2).unwrap().source_interface = 1);
@@ -83,4 +98,31 @@ fn broken_records() {
     let twice = Sessions::from([(1, good.clone()), (2, good.clone())]);
     assert!(records_hold(&settings, &twice).is_err());
     assert!(records_hold(&settings, &Sessions::from([(0, Session::default())])).is_err());
+}
+
+/// "a restored pool address held by another session is 73 (a table so is broken)"; one outside the
+/// pool may be held by several, and the records of one session share freely.
+#[test]
+fn addresses_of_two_sessions() {
+    let settings = Settings::make(IPV4, &[], (10, 10), (POOL, 2)).unwrap();
+    let pdr = |address| Pdr {
+        precedence: 0,
+        far_id: None,
+        source_interface: 0,
+        local: Local::Neither,
+        address,
+    };
+    let tunnel = Tunnel { teid: 10, families: Families { v4: true, v6: false } };
+    let of = |first: [u8; 4], second: [u8; 4]| {
+        let (first, second) = (Some(first.into()), Some(second.into()));
+        let mut one = Session::default();
+        one.pdrs.extend([(1, pdr(first)), (2, pdr(first)), (3, pdr(None))]);
+        one.endpoints.insert(1, Endpoint { tunnel, address: first });
+        let mut two = Session::default();
+        two.pdrs.insert(1, pdr(second));
+        records_hold(&settings, &Sessions::from([(1, one), (2, two)])).is_ok()
+    };
+    assert!(of([10, 45, 0, 0], [10, 45, 0, 1]));
+    assert!(!of([10, 45, 0, 0], [10, 45, 0, 0]) && !of([10, 45, 0, 1], [10, 45, 0, 1]));
+    assert!(of([10, 45, 0, 2], [10, 45, 0, 2]) && of([10, 44, 255, 255], [10, 44, 255, 255]));
 }

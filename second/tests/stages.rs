@@ -44,12 +44,12 @@ fn host_outcomes_in_their_order() {
         }
         outcome.number
     };
-    assert_eq!(call(&[0; 3000], 1023), 2);
-    assert_eq!(call(&[0; 3000], 1024), 3);
-    assert_eq!(call(&[0; 2048], 1024), 4);
-    assert_eq!(call(&message(99, 1, 1, &[]), 1024), 5);
-    assert_eq!(call(&message(54, 9, 1, &[]), 1024), 0);
-    assert_eq!(call(&message(54, 9, 1, &[]), 1023), 2);
+    assert_eq!(call(&[0; 3000], 1279), 2);
+    assert_eq!(call(&[0; 3000], 1280), 3);
+    assert_eq!(call(&[0; 2048], 1280), 4);
+    assert_eq!(call(&message(99, 1, 1, &[]), 1280), 5);
+    assert_eq!(call(&message(54, 9, 1, &[]), 1280), 0);
+    assert_eq!(call(&message(54, 9, 1, &[]), 1279), 2);
 }
 
 #[test]

@@ -5,7 +5,7 @@ use second::generate::random::Random;
 use second::generate::tables::{self, Filling};
 use second::layout;
 use second::list;
-use second::session::{Families, HeldCsid, Local, Pdr, Session, Sessions, Tunnel};
+use second::session::{Endpoint, Families, HeldCsid, Local, Pdr, Session, Sessions, Tunnel};
 use second::settings::Settings;
 
 #[test]
@@ -34,6 +34,9 @@ fn random_tables_hold_every_kind_of_record() {
         let families = Families { v4, v6 };
         assert!(any(&|pdr| matches!(pdr.local, Local::Tunnel(t) if t.families == families)));
     }
+    assert!(any(&|pdr| pdr.address.is_none()));
+    assert!(any(&|pdr| pdr.address.is_some_and(|a| settings.address_place(a).is_some())));
+    assert!(any(&|pdr| pdr.address.is_some_and(|a| settings.address_place(a).is_none())));
     assert!(any(&|pdr| pdr.far_id.is_none()));
     assert!(any(&|pdr| pdr.far_id == Some(0)));
     assert!(any(&|pdr| pdr.far_id == Some(u32::MAX)));
@@ -47,14 +50,23 @@ fn random_tables_hold_every_kind_of_record() {
 }
 
 fn example() -> (Settings, Sessions) {
-    let settings = Settings::make([192, 0, 2, 1], &[9; 16], 4096, 10).expect("these are allowed");
+    let settings = Settings::make([192, 0, 2, 1], &[9; 16], (4096, 10), ([10, 45, 0, 0].into(), 4));
+    let settings = settings.expect("these are allowed");
     let tunnel = |teid, v4, v6| Tunnel { teid, families: Families { v4, v6 } };
     let mut session = Session::default();
-    let pdr = |local| Pdr { precedence: 4_294_967_295, far_id: None, source_interface: 15, local };
-    session.pdrs.insert(1, pdr(Local::Neither));
+    let pdr = |local| Pdr {
+        precedence: 4_294_967_295,
+        far_id: None,
+        source_interface: 15,
+        local,
+        address: None,
+    };
+    let address = Some([10, 45, 0, 3].into());
+    session.pdrs.insert(1, Pdr { address: Some([0; 4].into()), ..pdr(Local::Neither) });
     session.pdrs.insert(2, Pdr { far_id: Some(0), ..pdr(Local::Endpoint(255)) });
-    session.pdrs.insert(65535, pdr(Local::Tunnel(tunnel(4096, true, true))));
-    session.endpoints.insert(255, tunnel(4097, false, true));
+    session.pdrs.insert(65535, Pdr { address, ..pdr(Local::Tunnel(tunnel(4096, true, true))) });
+    session.endpoints.insert(255, Endpoint { tunnel: tunnel(4097, false, true), address });
+    session.endpoints.insert(0, Endpoint { tunnel: tunnel(4098, true, false), address: None });
     let mut address = [0; 16];
     address[15] = 1;
     let held = |node| HeldCsid { node, csid: 65535 };
@@ -70,13 +82,14 @@ fn example() -> (Settings, Sessions) {
 #[test]
 fn the_list_as_text() {
     let (settings, sessions) = example();
-    let expected = "live sessions: 2; free TEIDs: 8 of 10
+    let expected = "live sessions: 2; free TEIDs: 7 of 10; free addresses: 3 of 4
   session 1
   session 18446744073709551615
-    PDR 1: precedence 4294967295, no FAR, source interface 15
+    PDR 1: precedence 4294967295, no FAR, source interface 15, address 0.0.0.0
     PDR 2: precedence 4294967295, FAR 0, source interface 15, endpoint 255
-    PDR 65535: precedence 4294967295, no FAR, source interface 15, TEID 4096 (IPv4 and IPv6)
-    endpoint 255: TEID 4097 (IPv6)
+    PDR 65535: precedence 4294967295, no FAR, source interface 15, TEID 4096 (IPv4 and IPv6), address 10.45.0.3
+    endpoint 0: TEID 4098 (IPv4)
+    endpoint 255: TEID 4097 (IPv6), address 10.45.0.3
     FQ-CSID of node type 0: CSID 65535 of ::1
     FQ-CSID of node type 3: CSID 65535 of ::10.0.0.1
     FQ-CSID of node type 4: CSID 65535 of 10.0.0.1
@@ -89,15 +102,17 @@ fn the_list_as_text() {
 fn the_list_as_json() {
     let (settings, sessions) = example();
     let expected = concat!(
-        r#"{"live_sessions":2,"free_teids":8,"pool_size":10,"sessions":["#,
+        r#"{"live_sessions":2,"free_teids":7,"pool_size":10,"#,
+        r#""free_addresses":3,"address_pool_size":4,"sessions":["#,
         r#"{"seid":"1","pdrs":[],"endpoints":[],"fq_csids":[]},"#,
         "\n",
         r#"{"seid":"18446744073709551615","pdrs":["#,
-        r#"{"id":1,"precedence":4294967295,"source_interface":15},"#,
+        r#"{"id":1,"precedence":4294967295,"source_interface":15,"address":"0.0.0.0"},"#,
         r#"{"id":2,"precedence":4294967295,"far_id":0,"source_interface":15,"endpoint_id":255},"#,
         r#"{"id":65535,"precedence":4294967295,"source_interface":15,"#,
-        r#""teid":4096,"ipv4":true,"ipv6":true}],"#,
-        r#""endpoints":[{"id":255,"teid":4097,"ipv4":false,"ipv6":true}],"#,
+        r#""teid":4096,"ipv4":true,"ipv6":true,"address":"10.45.0.3"}],"#,
+        r#""endpoints":[{"id":0,"teid":4098,"ipv4":true,"ipv6":false},"#,
+        r#"{"id":255,"teid":4097,"ipv4":false,"ipv6":true,"address":"10.45.0.3"}],"#,
         r#""fq_csids":[{"node_type":0,"node":"::1","csid":65535},"#,
         r#"{"node_type":3,"node":"::10.0.0.1","csid":65535},"#,
         r#"{"node_type":4,"node":"10.0.0.1","csid":65535},"#,

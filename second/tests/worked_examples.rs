@@ -154,17 +154,18 @@ fn first_establishment() {
     assert_eq!(reply(&mut unit(4096, 100), &message), whole);
 }
 
-/// "Every session that the table can hold fits one restoration request of at most 1,526 octets":
+/// "Every session that the table can hold fits one restoration request of at most 1,526 octets", which
+/// with addresses "becomes 1,742":
 /// the largest one needs exactly that many, and its own reply and that of its establishment fit.
 #[test]
 fn largest_session() {
     let mut unit = dual_unit(4096, 24);
     let mut parts = Vec::new();
     for id in 0..8 {
-        parts.push(create_endpoint(id, &[7]));
+        parts.push(group(127, &[endpoint_id(id), ie(21, &[7]), choose_address()]));
     }
     for id in 0..16 {
-        let pdi = group(2, &[source(1), ie(21, &[7])]);
+        let pdi = group(2, &[source(1), ie(21, &[7]), choose_address()]);
         parts.push(group(1, &[pdr_id(id), precedence(9), pdi, far(u32::from(id))]));
     }
     for node_type in 0..6 {
@@ -175,7 +176,7 @@ fn largest_session() {
     }
     let answer = reply(&mut unit, &establishment(77, &parts));
     assert_eq!(verdict(&answer), (1, None));
-    assert_eq!(answer.len(), 975);
+    assert_eq!(answer.len(), 1191);
     // Endpoints are granted first.
     assert_eq!(created(&answer, 128)[0], (0, 4096));
     assert_eq!(created(&answer, 8)[0], (0, 4104));
@@ -188,9 +189,9 @@ fn largest_session() {
     let settings = unit.settings().clone();
     let request =
         second::restoration::request(&settings, 77, &unit.sessions()[&77], &envelope).unwrap();
-    assert_eq!(request.len(), 1526);
+    assert_eq!(request.len(), 1742);
     let mut fresh = dual_unit(4096, 24);
     assert_eq!(cause(&mut fresh, &request), 1);
     assert_eq!(fresh, unit);
-    assert_eq!(fresh.free_count(), 0);
+    assert_eq!((fresh.free_count(), fresh.free_addresses()), (0, 3));
 }

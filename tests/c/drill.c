@@ -79,13 +79,19 @@ static void write_request(struct message *m, uint32_t sequence)
     if (kind < 5) {
         message_start(m, ESTABLISHMENT, 0, sequence);
         put_f_seid(m, seid);
-        for (uint16_t id = 1 + (uint16_t)draw(3); id < 6; id++)
-            create_pdr(m, id, draw(3) > 0 ? &choose : NULL);
+        for (uint16_t id = 1 + (uint16_t)draw(3); id < 6; id++) {
+            const struct tunnel *tunnel = draw(3) > 0 ? &choose : NULL;
+
+            if (draw(3) == 0)
+                create_pdr_with_address(m, id, tunnel);
+            else
+                create_pdr(m, id, tunnel);
+        }
         if (draw(2) == 0)
             create_endpoint(m, 1, &choose);
     } else if (kind < 8) {
         message_start(m, MODIFICATION, seid, sequence);
-        create_pdr(m, 6 + (uint16_t)draw(10), &choose);
+        create_pdr_with_address(m, 6 + (uint16_t)draw(10), &choose);
         if (draw(2) == 0)
             remove_pdr(m, 5);
     } else {
@@ -317,7 +323,8 @@ int main(int argc, char **argv)
     for (unsigned long seed = strtoul(argv[5], NULL, 10) % 100000; seed > 0; seed--)
         draw(1);
     find_port(&drill);
-    if (pfcp_make_table(drill.table, sizeof drill.table, 0xC0000201, NULL, 0, 4096, 100) != 0)
+    if (pfcp_make_table(drill.table, sizeof drill.table, 0xC0000201, NULL, 0, 4096, 100, 0x0A2D0001,
+                        254) != 0)
         give_up("no table");
     /* The first unit makes the file, and is not killed before. */
     run_in_order(&drill);

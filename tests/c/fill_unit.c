@@ -1,5 +1,5 @@
 /* Fills a running unit with 64 full sessions: fill_unit PORT. The unit listens on 127.0.0.1 and has
-   an IPv6 address and 1,536 free TEIDs. */
+   an IPv6 address, 1,536 free TEIDs and 64 free addresses. */
 #include <arpa/inet.h>
 #include <netinet/in.h>
 #include <stdio.h>

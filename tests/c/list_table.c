@@ -14,7 +14,7 @@ static struct unit unit;
 static struct listing listing;
 static struct text piece;
 
-/* The pool's size stands in the settings (docs/layout.md). */
+/* The pools' sizes stand in the settings (docs/layout.md). */
 static bool read_unit(const char *path)
 {
     FILE *file = fopen(path, "rb");
@@ -25,10 +25,13 @@ static bool read_unit(const char *path)
     whole = fread(unit.table, 1, sizeof unit.table, file) == sizeof unit.table;
     fclose(file);
     options.pool_size = (uint32_t)number_at(unit.table + 25, 4);
+    options.address_count = (uint32_t)number_at(unit.table + 33, 4);
     unit.options = &options;
     return whole &&
            pfcp_session_count(unit.table, sizeof unit.table, &unit.live_sessions) == PFCP_FOUND &&
-           pfcp_free_count(unit.table, sizeof unit.table, &unit.free_teids) == PFCP_ANSWERED;
+           pfcp_free_count(unit.table, sizeof unit.table, &unit.free_teids) == PFCP_ANSWERED &&
+           pfcp_free_addresses(unit.table, sizeof unit.table, &unit.free_addresses) ==
+               PFCP_ANSWERED;
 }
 
 int main(int argc, char **argv)

@@ -1,7 +1,7 @@
 /*
  * The archive from C: document 01's whole replies, its story of a pool of two, the errors that were
- * seen before, empty slices, lengths, broken tables, restorations and the calls that read a table. The
- * last line is "N passed, M failed".
+ * seen before, addresses, empty slices, lengths, broken tables, restorations and the calls that read a
+ * table. The last line is "N passed, M failed".
  *
  * Every slice is lent from a block of its own and of exactly its length, so that a memory checker
  * sees an octet read or written outside.
@@ -61,13 +61,16 @@ static int all_are(const uint8_t *octets, size_t length, uint8_t octet)
     return 1;
 }
 
+/* The pool of addresses: 10.45.0.1 and 10.45.0.2. */
+enum { FIRST_ADDRESS = 0x0A2D0001, ADDRESSES = 2 };
+
 /* An empty table of the unit 192.0.2.1 without IPv6. */
 static uint8_t *new_table(uint32_t first_teid, uint32_t pool_size)
 {
     uint8_t *table = block(PFCP_TABLE_LENGTH, FILLING);
 
-    CHECK(pfcp_make_table(table, PFCP_TABLE_LENGTH, 0xC0000201, NULL, 0, first_teid, pool_size) ==
-          0);
+    CHECK(pfcp_make_table(table, PFCP_TABLE_LENGTH, 0xC0000201, NULL, 0, first_teid, pool_size,
+                          FIRST_ADDRESS, ADDRESSES) == 0);
     return table;
 }
 
@@ -79,7 +82,7 @@ static struct {
     size_t place;
 } answer;
 
-/* One request with a reply space of 1,024; checks what holds of every answer. */
+/* One request with the least reply space; checks what holds of every answer. */
 static uint32_t ask_octets(uint8_t *table, const uint8_t *octets, size_t length)
 {
     uint8_t *message = copy_of(octets, length);
@@ -159,6 +162,14 @@ static uint32_t free_teids(const uint8_t *table)
     uint32_t count = 0xA5A5A5A5;
 
     CHECK(pfcp_free_count(table, PFCP_TABLE_LENGTH, &count) == 0);
+    return count;
+}
+
+static uint32_t free_addresses(const uint8_t *table)
+{
+    uint32_t count = 0xA5A5A5A5;
+
+    CHECK(pfcp_free_addresses(table, PFCP_TABLE_LENGTH, &count) == 0);
     return count;
 }
 
@@ -366,6 +377,208 @@ static void nothing_half_made(void)
     free(table);
 }
 
+/* The address of the Created PDR or Created Traffic Endpoint with this ID in the last answer, where the
+   group has only the ID and the address, or the F-TEID for IPv4 between them; or 0. */
+static uint32_t granted_address(unsigned group, unsigned id)
+{
+    struct elements rest = elements_of(answer.octets, answer.used);
+    struct element element;
+
+    while (next_element(&rest, &element)) {
+        struct elements members = members_of(&element);
+        struct element member;
+        uint32_t address = 0;
+        unsigned found = 65536;
+
+        if (element.type != group)
+            continue;
+        while (next_element(&members, &member)) {
+            if (member.type == IE_UE_IP_ADDRESS && member.length == 5 && member.value[0] == UE_V4)
+                address = (uint32_t)number_in(&member, 1, 4);
+            else if (member.type == IE_PDR_ID || member.type == IE_ENDPOINT_ID)
+                found = (unsigned)number_in(&member, 0, member.length);
+        }
+        if (found == id)
+            return address;
+    }
+    return 0;
+}
+
+/* A modification of session 1 that creates one PDR with this UE IP Address; gives the cause. */
+static unsigned give_address(uint8_t *table, uint16_t id, const void *value, size_t length)
+{
+    struct message m;
+
+    message_start(&m, MODIFICATION, 1, 9);
+    create_pdr_start(&m, id, 1, 0);
+    put_element(&m, IE_UE_IP_ADDRESS, value, length);
+    create_pdr_end(&m, -1);
+    return ask(table, &m);
+}
+
+/* Session 1: PDR 1 with a TEID and an address, PDR 2 with an address alone, endpoint 3 with both; all
+   share the address. */
+static void start_with_addresses(uint8_t *table)
+{
+    struct message m;
+
+    start_establishment(&m, 1);
+    create_pdr_with_address(&m, 1, &choose);
+    create_pdr_with_address(&m, 2, NULL);
+    group_start(&m, IE_CREATE_ENDPOINT);
+    put_number(&m, IE_ENDPOINT_ID, 3, 1);
+    put_f_teid(&m, &choose);
+    put_choose_address(&m);
+    group_end(&m);
+    CHECK(ask(table, &m) == 1);
+    CHECK(granted(IE_CREATED_PDR, 1) == 4097 && granted(IE_CREATED_ENDPOINT, 3) == 4096);
+    CHECK(granted_address(IE_CREATED_PDR, 1) == FIRST_ADDRESS);
+    CHECK(granted_address(IE_CREATED_PDR, 2) == FIRST_ADDRESS);
+    CHECK(granted_address(IE_CREATED_ENDPOINT, 3) == FIRST_ADDRESS);
+    /* 16 header, 9 Node ID, 5 Cause, 17 F-SEID; groups of 4 + 6 + 13 + 9, 4 + 6 + 9, 4 + 5 + 13 + 9 */
+    CHECK(answer.used == 47 + 32 + 19 + 31);
+    CHECK(free_addresses(table) == ADDRESSES - 1);
+}
+
+/* 02 (v): shared within a request, the lowest that is free, kept until the last holder goes, free at
+   the next call; 79 when none is left; what the control plane may give. */
+static void addresses(void)
+{
+    static const struct {
+        uint8_t octets[5];
+        size_t length;
+        unsigned cause;
+    } values[] = {
+        {{0}, 0, 68},
+        {{0}, 1, 69},
+        {{2 | 16, 10, 0, 0, 1}, 5, 69},
+        {{4 | 128}, 1, 69},
+        {{2, 203, 0, 113}, 4, 68},
+        {{1}, 1, 76},
+        {{8 | 2}, 1, 76},
+        {{32 | 2 | 16}, 1, 76},
+        {{64}, 1, 76},
+        {{2, 10, 45, 0, 1}, 5, 73}, /* its own */
+        {{2, 10, 45, 0, 2}, 5, 73},
+        {{2, 10, 45, 0, 3}, 5, 1},
+        {{2, 10, 45, 0, 0}, 5, 1},
+        {{2 | 4 | 128, 203, 0, 113, 9}, 5, 1},
+    };
+    uint8_t *table = new_table(4096, 10);
+    struct message m;
+    uint16_t id = 10;
+
+    start_with_addresses(table);
+    for (size_t i = 0; i < sizeof values / sizeof values[0]; i++) {
+        CHECK(give_address(table, id++, values[i].octets, values[i].length) == values[i].cause);
+        CHECK(offending() ==
+              (values[i].cause == 68 || values[i].cause == 69 ? IE_UE_IP_ADDRESS : 65536));
+    }
+    CHECK(free_addresses(table) == 1);
+    /* Another session gets the next; a third finds none, and 75 comes before that. */
+    start_establishment(&m, 2);
+    create_pdr_with_address(&m, 1, NULL);
+    CHECK(ask(table, &m) == 1 && granted_address(IE_CREATED_PDR, 1) == FIRST_ADDRESS + 1);
+    CHECK(free_addresses(table) == 0);
+    start_establishment(&m, 3);
+    create_pdr_with_address(&m, 1, NULL);
+    CHECK(ask(table, &m) == 79 && offending() == 65536);
+    for (uint16_t more = 2; more <= 17; more++)
+        create_pdr(&m, more, NULL);
+    CHECK(ask(table, &m) == 75);
+    /* The address stays until the last holder goes, and is free from the next call on. */
+    CHECK(modify_remove_pdr(table, 1, 1) == 1 && modify_remove_pdr(table, 1, 2) == 1);
+    CHECK(free_addresses(table) == 0);
+    message_start(&m, MODIFICATION, 1, 3);
+    remove_endpoint(&m, 3);
+    create_pdr_with_address(&m, 4, NULL);
+    CHECK(ask(table, &m) == 79);
+    message_start(&m, MODIFICATION, 1, 4);
+    remove_endpoint(&m, 3);
+    CHECK(ask(table, &m) == 1 && free_addresses(table) == 1);
+    message_start(&m, MODIFICATION, 2, 5);
+    create_pdr_with_address(&m, 4, NULL);
+    CHECK(ask(table, &m) == 1 && granted_address(IE_CREATED_PDR, 4) == FIRST_ADDRESS);
+    CHECK(delete_session(table, 2) == 1 && free_addresses(table) == ADDRESSES);
+    free(table);
+}
+
+/* Restored addresses: of the pool and outside it; one of another session; a CHOOSE. */
+static void restored_addresses(void)
+{
+    static const struct {
+        uint64_t seid;
+        uint32_t address; /* 0: a CHOOSE */
+        unsigned cause;
+    } sessions[] = {{1, FIRST_ADDRESS, 1},
+                    {2, FIRST_ADDRESS, 73},
+                    {2, FIRST_ADDRESS + 1, 1},
+                    {3, FIRST_ADDRESS + 1, 73},
+                    {3, 0, 73},
+                    {3, FIRST_ADDRESS + 2, 1},
+                    {4, FIRST_ADDRESS + 2, 1}};
+    uint8_t *table = new_table(4096, 10);
+    struct message m;
+
+    for (size_t i = 0; i < sizeof sessions / sizeof sessions[0]; i++) {
+        start_establishment(&m, sessions[i].seid);
+        put_number(&m, IE_FLAGS, 1, 1);
+        for (uint16_t id = 1; id <= 2; id++) {
+            create_pdr_start(&m, id, 1, 0);
+            if (sessions[i].address == 0)
+                put_choose_address(&m);
+            else
+                put_address(&m, sessions[i].address);
+            create_pdr_end(&m, -1);
+        }
+        CHECK(ask(table, &m) == sessions[i].cause);
+    }
+    CHECK(free_addresses(table) == 0);
+    free(table);
+}
+
+/* The longest reply and the longest restoration: a session with everything, each record with an
+   F-TEID of both families and an address. */
+static void longest_session(void)
+{
+    static const uint8_t ipv6[16] = {0x20, 1, 0x0D, 0xB8, [15] = 1};
+    static const struct tunnel both = {.flags = CHOOSE | V4 | V6};
+    uint8_t *table = block(PFCP_TABLE_LENGTH, FILLING);
+    uint8_t *request = block(PFCP_LONGEST_RESTORATION, FILLING);
+    uint8_t fq_csid[20] = {0x11, 0x20, 1};
+    struct message m;
+    size_t used = 0;
+
+    CHECK(pfcp_make_table(table, PFCP_TABLE_LENGTH, 0xC0000201, ipv6, sizeof ipv6, 4096, 24,
+                          FIRST_ADDRESS, 1) == 0);
+    start_establishment(&m, 1);
+    for (uint16_t id = 1; id <= 16; id++) {
+        create_pdr_start(&m, id, 1, 0);
+        put_f_teid(&m, &both);
+        put_choose_address(&m);
+        create_pdr_end(&m, 7);
+    }
+    for (uint8_t id = 1; id <= 8; id++) {
+        group_start(&m, IE_CREATE_ENDPOINT);
+        put_number(&m, IE_ENDPOINT_ID, id, 1);
+        put_f_teid(&m, &both);
+        put_choose_address(&m);
+        group_end(&m);
+    }
+    for (uint8_t node_type = 0; node_type < 6; node_type++) {
+        fq_csid[19] = node_type;
+        put_element(&m, IE_FQ_CSID, fq_csid, sizeof fq_csid);
+    }
+    CHECK(ask(table, &m) == 1);
+    CHECK(answer.used == 1191);
+    CHECK(free_teids(table) == 0 && free_addresses(table) == 0);
+    CHECK(pfcp_write_restoration(table, PFCP_TABLE_LENGTH, 0, ipv6, 4, ipv6, 16, request,
+                                 PFCP_LONGEST_RESTORATION, &used) == PFCP_WRITTEN);
+    CHECK(used == PFCP_LONGEST_RESTORATION);
+    free(request);
+    free(table);
+}
+
 /* Empty slices may have no pointer. */
 static void empty_slices(void)
 {
@@ -376,9 +589,11 @@ static void empty_slices(void)
     size_t used = 7;
     size_t place = 7;
 
-    CHECK(pfcp_make_table(NULL, 0, 0, NULL, 0, 1, 1) == 1);
-    CHECK(pfcp_make_table(NULL, 0, 0, octet, 16, 1, 1) == 1);
+    CHECK(pfcp_make_table(NULL, 0, 0, NULL, 0, 1, 1, 1, 1) == 1);
+    CHECK(pfcp_make_table(NULL, 0, 0, octet, 16, 1, 1, 1, 1) == 1);
     CHECK(pfcp_free_count(NULL, 0, &count) == 1 && count == 0);
+    count = 7;
+    CHECK(pfcp_free_addresses(NULL, 0, &count) == 1 && count == 0);
     CHECK(pfcp_request(NULL, 0, NULL, 0, NULL, 0, &used, &place) == 1 && used == 0);
     CHECK(place == 0);
     used = 7;
@@ -605,9 +820,11 @@ static void lengths(void)
         uint8_t *reply = block(PFCP_REPLY_SPACE, FILLING);
         uint32_t count = 7;
 
-        CHECK(pfcp_make_table(table, length, 0xC0000201, NULL, 0, 1, 1) == 1);
+        CHECK(pfcp_make_table(table, length, 0xC0000201, NULL, 0, 1, 1, 1, 1) == 1);
         CHECK(all_are(table, length, FILLING));
         CHECK(pfcp_free_count(table, length, &count) == 1 && count == 0);
+        count = 7;
+        CHECK(pfcp_free_addresses(table, length, &count) == 1 && count == 0);
         message_start(&m, DELETION, 1, 1);
         message_end(&m);
         used = 7;
@@ -679,20 +896,42 @@ static void settings(void)
         size_t ipv6_len;
         uint32_t first_teid;
         uint32_t pool_size;
+        uint32_t first_address;
+        uint32_t addresses;
         uint32_t expected;
     } cases[] = {
-        {0, 1, 1, 0},          {0, 1, 4096, 0},          {0, 0, 1, 1},
-        {0, 1, 0, 1},          {0, 1, 4097, 1},          {0, 0xFFFFFFFF, 1, 0},
-        {0, 0xFFFFFFFF, 2, 1}, {0, 0xFFFFF000, 4096, 0}, {0, 0xFFFFF001, 4096, 1},
-        {16, 4096, 2, 0},      {15, 4096, 2, 1},         {17, 4096, 2, 1},
-        {1, 4096, 2, 1},       {0, 4096, 0xFFFFFFFF, 1}, {16, 0, 0, 1},
+        {0, 1, 1, 0, 1, 0},
+        {0, 1, 4096, 0, 1, 0},
+        {0, 0, 1, 0, 1, 1},
+        {0, 1, 0, 0, 1, 1},
+        {0, 1, 4097, 0, 1, 1},
+        {0, 0xFFFFFFFF, 1, 0, 1, 0},
+        {0, 0xFFFFFFFF, 2, 0, 1, 1},
+        {0, 0xFFFFF000, 4096, 0, 1, 0},
+        {0, 0xFFFFF001, 4096, 0, 1, 1},
+        {16, 4096, 2, 0, 1, 0},
+        {15, 4096, 2, 0, 1, 1},
+        {17, 4096, 2, 0, 1, 1},
+        {1, 4096, 2, 0, 1, 1},
+        {0, 4096, 0xFFFFFFFF, 0, 1, 1},
+        {16, 0, 0, 0, 1, 1},
+        {0, 1, 1, 0x0A2D0001, 1024, 0},
+        {0, 1, 1, 0xC0000201, 1, 0}, /* the unit's own address */
+        {0, 1, 1, 0x0A2D0001, 0, 1},
+        {0, 1, 1, 0x0A2D0001, 1025, 1},
+        {0, 1, 1, 0x0A2D0001, 0xFFFFFFFF, 1},
+        {0, 1, 1, 0xFFFFFFFF, 1, 0},
+        {0, 1, 1, 0xFFFFFFFF, 2, 1},
+        {0, 1, 1, 0xFFFFFC00, 1024, 0},
+        {0, 1, 1, 0xFFFFFC01, 1024, 1},
     };
 
     for (size_t i = 0; i < sizeof cases / sizeof cases[0]; i++) {
         uint8_t *table = block(PFCP_TABLE_LENGTH, FILLING);
         uint8_t *ipv6 = block(cases[i].ipv6_len, 0x20);
         uint32_t made = pfcp_make_table(table, PFCP_TABLE_LENGTH, 0xC0000201, ipv6,
-                                        cases[i].ipv6_len, cases[i].first_teid, cases[i].pool_size);
+                                        cases[i].ipv6_len, cases[i].first_teid, cases[i].pool_size,
+                                        cases[i].first_address, cases[i].addresses);
 
         CHECK(made == cases[i].expected);
         if (made == 0) {
@@ -701,8 +940,11 @@ static void settings(void)
             CHECK(all_are(table + 5, 16, cases[i].ipv6_len == 16 ? 0x20 : 0));
             CHECK(number_at(table + 21, 4) == cases[i].first_teid);
             CHECK(number_at(table + 25, 4) == cases[i].pool_size);
-            CHECK(all_are(table + 29, PFCP_TABLE_LENGTH - 29, 0));
+            CHECK(number_at(table + 29, 4) == cases[i].first_address);
+            CHECK(number_at(table + 33, 4) == cases[i].addresses);
+            CHECK(all_are(table + 37, PFCP_TABLE_LENGTH - 37, 0));
             CHECK(free_teids(table) == cases[i].pool_size);
+            CHECK(free_addresses(table) == cases[i].addresses);
         } else {
             CHECK(all_are(table, PFCP_TABLE_LENGTH, FILLING));
         }
@@ -721,20 +963,24 @@ static void broken_tables(void)
         {4, 2},               /* presence of the IPv6 address */
         {20, 1},              /* an address that is not there */
         {25, 1},              /* pool size */
-        {30, 0},              /* one session fewer: its slot is unused room */
-        {30, 65},             /* too many sessions */
-        {31 + 7, 0},          /* SEID 0 */
-        {31 + 8, 17},         /* too many PDRs */
-        {31 + 11 + 6, 2},     /* presence of the FAR ID */
-        {31 + 11 + 11, 16},   /* source interface */
-        {31 + 11 + 12, 3},    /* place */
-        {31 + 11 + 15, 0x20}, /* a TEID outside the pool */
-        {31 + 11 + 17, 0},    /* no family */
-        {31 + 11 + 17, 3},    /* a family that the unit lacks */
-        {31 + 11 + 18, 1},    /* an endpoint ID beside a TEID */
-        {31 + 315, 1},        /* unused room of endpoints */
-        {31 + 363, 1},        /* unused room of FQ-CSIDs */
-        {31 + 483 + 7, 1},    /* unused room of sessions */
+        {36, 0},              /* number of addresses */
+        {34, 1},              /* the same: 65,538 */
+        {38, 0},              /* one session fewer: its slot is unused room */
+        {38, 65},             /* too many sessions */
+        {39 + 7, 0},          /* SEID 0 */
+        {39 + 8, 17},         /* too many PDRs */
+        {39 + 11 + 6, 2},     /* presence of the FAR ID */
+        {39 + 11 + 11, 16},   /* source interface */
+        {39 + 11 + 12, 3},    /* place */
+        {39 + 11 + 15, 0x20}, /* a TEID outside the pool */
+        {39 + 11 + 17, 0},    /* no family */
+        {39 + 11 + 17, 3},    /* a family that the unit lacks */
+        {39 + 11 + 18, 1},    /* an endpoint ID beside a TEID */
+        {39 + 11 + 19, 2},    /* presence of the address */
+        {39 + 11 + 23, 1},    /* an address that is not there */
+        {39 + 395, 1},        /* unused room of endpoints */
+        {39 + 483, 1},        /* unused room of FQ-CSIDs */
+        {39 + 603 + 7, 1},    /* unused room of sessions */
         {PFCP_TABLE_LENGTH - 1, 1},
     };
     uint8_t *table = new_table(4096, 10);
@@ -754,6 +1000,8 @@ static void broken_tables(void)
         table[damage[i].at] = damage[i].octet;
         uint8_t *damaged = copy_of(table, PFCP_TABLE_LENGTH);
         CHECK(pfcp_free_count(table, PFCP_TABLE_LENGTH, &count) == 1 && count == 0);
+        count = 7;
+        CHECK(pfcp_free_addresses(table, PFCP_TABLE_LENGTH, &count) == 1 && count == 0);
         CHECK(pfcp_request(table, PFCP_TABLE_LENGTH, m.octets, m.length, reply, PFCP_REPLY_SPACE,
                            &used, &place) == 1);
         CHECK(used == 0 && all_are(reply, PFCP_REPLY_SPACE, FILLING));
@@ -1116,6 +1364,9 @@ int main(void)
     shared_teid_stays();
     f_seid_families();
     nothing_half_made();
+    addresses();
+    restored_addresses();
+    longest_session();
     empty_slices();
     places();
     set_deletions();

@@ -1,4 +1,4 @@
-//! Whether a table is sound, and the map of the TEIDs that its records hold.
+//! Whether a table is sound, and the maps of the TEIDs and addresses that its records hold.
 
 use crate::layout::*;
 
@@ -8,13 +8,18 @@ pub struct Settings {
     pub ipv6: Option<[u8; 16]>,
     pub first: u32,
     pub size: u32,
+    pub first_address: u32,
+    pub addresses: u32,
 }
 
 impl Settings {
     pub fn are_allowed(&self) -> bool {
+        let ends = |first: u32, size: u32| u64::from(first) + u64::from(size) <= 1 << 32;
         self.first >= 1
             && (1..=4096).contains(&self.size)
-            && u64::from(self.first) + u64::from(self.size) <= 1 << 32
+            && ends(self.first, self.size)
+            && (1..=1024).contains(&self.addresses)
+            && ends(self.first_address, self.addresses)
     }
 
     /// The place of a TEID in the pool.
@@ -23,18 +28,28 @@ impl Settings {
         (place < self.size).then_some(place as usize)
     }
 
+    /// The place of an address in the pool of addresses.
+    pub fn address_place(&self, address: u32) -> Option<usize> {
+        let place = address.checked_sub(self.first_address)?;
+        (place < self.addresses).then_some(place as usize)
+    }
+
     pub fn has(&self, families: u8) -> bool {
         families & V6 == 0 || self.ipv6.is_some()
     }
 }
 
-/// Bit i of word k is the TEID first + 64 k + i.
-pub struct Map {
-    words: [u64; 64],
+/// Bit i of word k is the number first + 64 k + i of a pool.
+pub struct Map<const N: usize> {
+    words: [u64; N],
 }
 
-impl Map {
-    /// Takes a TEID; whether it was free.
+impl<const N: usize> Map<N> {
+    fn new() -> Self {
+        Map { words: [0; N] }
+    }
+
+    /// Takes a number; whether it was free.
     fn take(&mut self, place: usize) -> bool {
         let (word, bit) = (&mut self.words[place / 64], 1 << (place % 64));
         let free = *word & bit == 0;
@@ -63,10 +78,16 @@ impl Map {
     }
 }
 
+/// What the records of a table hold of the two pools.
+pub struct Taken {
+    pub teids: Map<64>,
+    pub addresses: Map<16>,
+}
+
 pub struct Checked {
     pub settings: Settings,
     pub sessions: usize,
-    pub taken: Map,
+    pub taken: Taken,
 }
 
 /// What a sound table says of itself, or nothing for a broken one.
@@ -77,7 +98,7 @@ pub fn check(table: &[u8; TABLE_OCTETS]) -> Option<Checked> {
         return None;
     }
     let (used, room) = slots(table).split_at(sessions);
-    let mut taken = Map { words: [0; 64] };
+    let mut taken = Taken { teids: Map::new(), addresses: Map::new() };
     let mut last = 0;
     for slot in used {
         // From 0 on, ascending also says "not 0".
@@ -98,11 +119,18 @@ fn settings(table: &[u8; TABLE_OCTETS]) -> Option<Settings> {
         _ => return None,
     };
     let ipv4 = [table[0], table[1], table[2], table[3]];
-    let settings = Settings { ipv4, ipv6, first: u32_at(table, 21), size: u32_at(table, 25) };
+    let settings = Settings {
+        ipv4,
+        ipv6,
+        first: u32_at(table, 21),
+        size: u32_at(table, 25),
+        first_address: u32_at(table, 29),
+        addresses: u32_at(table, 33),
+    };
     settings.are_allowed().then_some(settings)
 }
 
-fn session_holds(settings: &Settings, slot: &Slot, taken: &mut Map) -> bool {
+fn session_holds(settings: &Settings, slot: &Slot, taken: &mut Taken) -> bool {
     let counts = (usize::from(slot[8]), usize::from(slot[9]), usize::from(slot[10]));
     if counts.0 > MOST_PDRS || counts.1 > MOST_ENDPOINTS || counts.2 > MOST_FQ_CSIDS {
         return false;
@@ -117,9 +145,11 @@ fn session_holds(settings: &Settings, slot: &Slot, taken: &mut Map) -> bool {
         && endpoints.iter().all(|endpoint| {
             // A TEID of an endpoint is held by nothing else.
             tunnel_place(settings, u32_at(endpoint, 1), endpoint[5])
-                .is_some_and(|place| taken.take(place))
+                .is_some_and(|place| taken.teids.take(place))
         })
-        && (0..pdrs.len()).all(|index| pdr_holds(settings, pdrs, index, endpoints, taken))
+        && (0..pdrs.len())
+            .all(|index| pdr_holds(settings, pdrs, index, endpoints, &mut taken.teids))
+        && addresses_hold(settings, pdrs, endpoints, &mut taken.addresses)
         && fq_csids.iter().all(fq_csid_holds)
         && is_zero(no_pdrs.as_flattened())
         && is_zero(no_endpoints.as_flattened())
@@ -131,7 +161,7 @@ fn pdr_holds(
     pdrs: &[PdrSlot],
     index: usize,
     endpoints: &[EndpointSlot],
-    taken: &mut Map,
+    taken: &mut Map<64>,
 ) -> bool {
     let pdr = &pdrs[index];
     let (far_id, source_interface) = (u32_at(pdr, 7), pdr[11]);
@@ -155,6 +185,27 @@ fn pdr_holds(
         },
         _ => false,
     }
+}
+
+/// An address of the pool is held by records of one session only.
+fn addresses_hold(
+    settings: &Settings,
+    pdrs: &[PdrSlot],
+    endpoints: &[EndpointSlot],
+    taken: &mut Map<16>,
+) -> bool {
+    let of = |index: usize| match endpoints.get(index) {
+        Some(endpoint) => &endpoint[ENDPOINT_ADDRESS..],
+        None => &pdrs[index - endpoints.len()][PDR_ADDRESS..],
+    };
+    (0..endpoints.len() + pdrs.len()).all(|index| match of(index) {
+        [0, address @ ..] => is_zero(address),
+        [1, address @ ..] => match settings.address_place(u32_at(address, 0)) {
+            None => true,
+            Some(place) => taken.take(place) || (0..index).any(|other| of(other) == of(index)),
+        },
+        _ => false,
+    })
 }
 
 fn tunnel_place(settings: &Settings, teid: u32, families: u8) -> Option<usize> {

@@ -3,7 +3,7 @@
 
 use std::slice;
 
-use crate::{free_count, handle, make_table, Settings, TABLE_OCTETS};
+use crate::{free_addresses, free_count, handle, make_table, Settings, TABLE_OCTETS};
 
 /// A slice from a pointer and a length; an empty one may have any pointer.
 ///
@@ -43,6 +43,8 @@ pub unsafe extern "C" fn make(
     ipv6_len: usize,
     first_teid: u32,
     pool_size: u32,
+    first_address: u32,
+    address_count: u32,
 ) -> u32 {
     let (table, ipv6) = unsafe { (lent_mut(table, table_len), lent(ipv6, ipv6_len)) };
     let ipv6 = match (ipv6.len(), ipv6.try_into()) {
@@ -50,7 +52,14 @@ pub unsafe extern "C" fn make(
         (_, Ok(address)) => Some(address),
         _ => return 1,
     };
-    let settings = Settings { ipv4: ipv4.to_be_bytes(), ipv6, first: first_teid, size: pool_size };
+    let settings = Settings {
+        ipv4: ipv4.to_be_bytes(),
+        ipv6,
+        first: first_teid,
+        size: pool_size,
+        first_address,
+        addresses: address_count,
+    };
     u32::from(!make_table(table, &settings))
 }
 
@@ -60,6 +69,20 @@ pub unsafe extern "C" fn make(
 #[cfg_attr(feature = "as_pfcp", export_name = "pfcp_free_count")]
 pub unsafe extern "C" fn free(table: *const u8, table_len: usize, count: *mut u32) -> u32 {
     let answer = free_count(unsafe { lent(table, table_len) });
+    unsafe { *count = answer.unwrap_or(0) };
+    u32::from(answer.is_none())
+}
+
+/// # Safety
+/// As the header says.
+#[cfg_attr(not(feature = "as_pfcp"), export_name = "ordinary_free_addresses")]
+#[cfg_attr(feature = "as_pfcp", export_name = "pfcp_free_addresses")]
+pub unsafe extern "C" fn free_of_addresses(
+    table: *const u8,
+    table_len: usize,
+    count: *mut u32,
+) -> u32 {
+    let answer = free_addresses(unsafe { lent(table, table_len) });
     unsafe { *count = answer.unwrap_or(0) };
     u32::from(answer.is_none())
 }

@@ -1,18 +1,18 @@
 //! The octets of the table, as `docs/layout.md` gives them.
 
-pub const TABLE_OCTETS: usize = 30_943;
+pub const TABLE_OCTETS: usize = 38_631;
 pub const MOST_SESSIONS: usize = 64;
 pub const MOST_PDRS: usize = 16;
 pub const MOST_ENDPOINTS: usize = 8;
 pub const MOST_FQ_CSIDS: usize = 6;
 
 /// Offsets in the table.
-pub const COUNT: usize = 29;
-pub const SLOTS: usize = 31;
+pub const COUNT: usize = 37;
+pub const SLOTS: usize = 39;
 
-pub type Slot = [u8; 483];
-pub type PdrSlot = [u8; 19];
-pub type EndpointSlot = [u8; 6];
+pub type Slot = [u8; 603];
+pub type PdrSlot = [u8; 24];
+pub type EndpointSlot = [u8; 11];
 pub type FqCsidSlot = [u8; 20];
 
 /// Values of a PDR's place.
@@ -60,8 +60,8 @@ pub struct Records<'a> {
 }
 
 const PDRS: usize = 11;
-const ENDPOINTS: usize = 315;
-const FQ_CSIDS: usize = 363;
+const ENDPOINTS: usize = 395;
+const FQ_CSIDS: usize = 483;
 
 /// The areas of a slot, whole.
 pub struct Areas<'a> {
@@ -94,7 +94,7 @@ pub struct Area<'a, const N: usize> {
 }
 
 /// The areas of a slot for changes: PDRs, endpoints, FQ-CSIDs.
-pub fn areas_mut(slot: &mut Slot) -> (Area<'_, 19>, Area<'_, 6>, Area<'_, 20>) {
+pub fn areas_mut(slot: &mut Slot) -> (Area<'_, 24>, Area<'_, 11>, Area<'_, 20>) {
     let (head, rest) = slot.split_at_mut(PDRS);
     let (pdrs, rest) = rest.split_at_mut(ENDPOINTS - PDRS);
     let (endpoints, fq_csids) = rest.split_at_mut(FQ_CSIDS - ENDPOINTS);
@@ -146,4 +146,14 @@ pub fn endpoint_id(endpoint: &EndpointSlot) -> u8 {
 
 pub fn node_type(fq_csid: &FqCsidSlot) -> u8 {
     fq_csid[0]
+}
+
+/// The address of a PDR or an endpoint: where it is said to be there, before the address itself.
+pub const PDR_ADDRESS: usize = 19;
+pub const ENDPOINT_ADDRESS: usize = 6;
+
+/// A record's five octets of an address that is there.
+pub fn put_address(record: &mut [u8], at: usize, address: u32) {
+    record[at] = 1;
+    put(record, at + 1, &address.to_be_bytes());
 }

@@ -1,9 +1,9 @@
-//! An ordinary Rust version of the four calls, as one would write it without proofs. It works on
+//! An ordinary Rust version of the calls that handle requests, as one would write it without proofs. It works on
 //! the table octets of `docs/layout.md`, checks them at every call, and is what the proved product
 //! is measured against.
 //!
 //! * `layout`: the octets of the table.
-//! * `check`: whether a table is sound, and the map of taken TEIDs.
+//! * `check`: whether a table is sound, and the maps of taken TEIDs and addresses.
 //! * `request`: from the octets of a message to a request (stages 2 and 3).
 //! * `unit`: one call: all stages, grants and the change to the table.
 //! * `reply`: the octets of a reply.
@@ -19,4 +19,4 @@ mod unit;
 
 pub use check::Settings;
 pub use layout::TABLE_OCTETS;
-pub use unit::{free_count, handle, make_table};
+pub use unit::{free_addresses, free_count, handle, make_table};

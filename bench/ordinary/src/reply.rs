@@ -3,7 +3,7 @@
 use crate::check::Settings;
 use crate::layout::{pdr_id, V4, V6};
 use crate::request::*;
-use crate::unit::Teids;
+use crate::unit::Got;
 
 struct Writer<'a> {
     space: &'a mut [u8],
@@ -51,14 +51,32 @@ impl Writer<'_> {
         }
     }
 
-    /// A Created group: the ID, then the F-TEID with the unit's addresses.
+    /// A Created group: the ID, then what was chosen: the F-TEID with the unit's addresses, and the
+    /// patient's address. None where nothing was.
     fn created(&mut self, group: u16, id_type: u16, id: &[u8], grant: Grant) {
-        let Grant { settings, families, teid } = grant;
-        let f_teid =
-            5 + if families & V4 != 0 { 4 } else { 0 } + if families & V6 != 0 { 16 } else { 0 };
-        self.frame(group, 4 + id.len() + 4 + f_teid);
+        let Grant { settings, tunnel, address } = grant;
+        if tunnel.is_none() && address.is_none() {
+            return;
+        }
+        let start = self.used;
+        self.frame(group, 0);
         self.element(id_type, id);
-        self.frame(F_TEID, f_teid);
+        if let Some((families, teid)) = tunnel {
+            self.f_teid(settings, families, teid);
+        }
+        if let Some(address) = address {
+            self.frame(UE_IP_ADDRESS, 5);
+            self.put(&[2]);
+            self.put(&address.to_be_bytes());
+        }
+        let length = (self.used - start - 4) as u16;
+        self.space[start + 2..start + 4].copy_from_slice(&length.to_be_bytes());
+    }
+
+    fn f_teid(&mut self, settings: &Settings, families: u8, teid: u32) {
+        let length =
+            5 + if families & V4 != 0 { 4 } else { 0 } + if families & V6 != 0 { 16 } else { 0 };
+        self.frame(F_TEID, length);
         self.put(&[families]);
         self.put(&teid.to_be_bytes());
         if families & V4 != 0 {
@@ -75,10 +93,11 @@ impl Writer<'_> {
     }
 }
 
+/// What was chosen for a record: the families and the TEID, and the address.
 struct Grant<'a> {
     settings: &'a Settings,
-    families: u8,
-    teid: u32,
+    tunnel: Option<(u8, u32)>,
+    address: Option<u32>,
 }
 
 pub fn refused(space: &mut [u8], settings: &Settings, header: &Header, refusal: &Refusal) -> usize {
@@ -98,7 +117,7 @@ pub fn accepted(
     settings: &Settings,
     header: &Header,
     request: &Request,
-    teids: &Teids,
+    got: &Got,
 ) -> usize {
     let mut writer = Writer { space, used: 0 };
     writer.header(header, request.seid);
@@ -110,17 +129,18 @@ pub fn accepted(
         writer.put(&request.seid.to_be_bytes());
         writer.put(&settings.ipv4);
     }
-    // A restoration carries its TEIDs and is granted none.
+    // A restoration carries its TEIDs and addresses and is granted none.
     if !request.restoration {
-        for (pdr, teid) in request.new_pdrs.iter().zip(teids.pdrs) {
-            if let Some(tunnel) = &pdr.tunnel {
-                let grant = Grant { settings, families: tunnel.families, teid };
-                let id = pdr_id(&pdr.slot).to_be_bytes();
-                writer.created(CREATED_PDR, PDR_ID, &id, grant);
-            }
+        let chosen = |asked| (asked == Some(Address::Choose)).then_some(got.address);
+        for (pdr, teid) in request.new_pdrs.iter().zip(got.pdrs) {
+            let tunnel = pdr.tunnel.as_ref().map(|tunnel| (tunnel.families, teid));
+            let grant = Grant { settings, tunnel, address: chosen(pdr.address) };
+            let id = pdr_id(&pdr.slot).to_be_bytes();
+            writer.created(CREATED_PDR, PDR_ID, &id, grant);
         }
-        for (endpoint, teid) in request.new_endpoints.iter().zip(teids.endpoints) {
-            let grant = Grant { settings, families: endpoint.tunnel.families, teid };
+        for (endpoint, teid) in request.new_endpoints.iter().zip(got.endpoints) {
+            let tunnel = Some((endpoint.tunnel.families, teid));
+            let grant = Grant { settings, tunnel, address: chosen(endpoint.address) };
             writer.created(CREATED_ENDPOINT, ENDPOINT_ID, &endpoint.slot[..1], grant);
         }
     }

@@ -17,6 +17,7 @@ pub const PDR_ID: u16 = 56;
 pub const F_SEID: u16 = 57;
 pub const NODE_ID: u16 = 60;
 pub const FQ_CSID: u16 = 65;
+pub const UE_IP_ADDRESS: u16 = 93;
 pub const FAR_ID: u16 = 108;
 pub const CREATE_ENDPOINT: u16 = 127;
 pub const CREATED_ENDPOINT: u16 = 128;
@@ -174,18 +175,29 @@ pub struct Tunnel<'a> {
     pub addresses: &'a [u8],
 }
 
+/// A UE IP Address of a request.
+#[derive(Clone, Copy, PartialEq, Eq)]
+pub enum Address {
+    Given(u32),
+    Choose,
+    /// For IPv6 too.
+    NotServed,
+}
+
 #[derive(Clone, Copy)]
 pub struct NewPdr<'a> {
-    /// The record but for its TEID, which a CHOOSE gets later.
+    /// The record but for its TEID and its address, which a CHOOSE gets later.
     pub slot: PdrSlot,
     pub tunnel: Option<Tunnel<'a>>,
     pub endpoint: Option<u8>,
+    pub address: Option<Address>,
 }
 
 #[derive(Clone, Copy)]
 pub struct NewEndpoint<'a> {
     pub slot: EndpointSlot,
     pub tunnel: Tunnel<'a>,
+    pub address: Option<Address>,
 }
 
 #[derive(Clone, Copy)]
@@ -221,6 +233,12 @@ pub struct Request<'a> {
 }
 
 impl Request<'_> {
+    /// The UE IP Addresses of what it creates.
+    pub fn addresses(&self) -> impl Iterator<Item = Address> + '_ {
+        let of_pdrs = self.new_pdrs.iter().filter_map(|pdr| pdr.address);
+        of_pdrs.chain(self.new_endpoints.iter().filter_map(|endpoint| endpoint.address))
+    }
+
     /// A request of this session with no records yet.
     pub fn new(seid: u64) -> Self {
         Request {
@@ -385,6 +403,20 @@ fn read_f_teid(value: &[u8], in_endpoint: bool) -> Result<Tunnel<'_>, Refusal> {
     Ok(Tunnel { teid, families, addresses: &rest[4..4 + addresses] })
 }
 
+/// One for IPv6 is left alone after its flags.
+fn read_ue_ip(value: &[u8]) -> Result<Address, Refusal> {
+    let flags = one(UE_IP_ADDRESS, value)?;
+    // V6, IPv6D, CHV6, IP6PL.
+    if flags & 0b0110_1001 != 0 {
+        return Ok(Address::NotServed);
+    }
+    match (flags & 2 != 0, flags & 16 != 0) {
+        (true, false) => four(UE_IP_ADDRESS, &value[1..]).map(Address::Given),
+        (false, true) => Ok(Address::Choose),
+        _ => Err(fault(INCORRECT, UE_IP_ADDRESS)),
+    }
+}
+
 fn read_create_pdr(group: usize, part: &[u8]) -> Result<NewPdr<'_>, Refusal> {
     let (mut id, mut precedence, mut pdi, mut far) = (None, None, None, None);
     for (ie_type, place, value) in members(group, part) {
@@ -397,10 +429,10 @@ fn read_create_pdr(group: usize, part: &[u8]) -> Result<NewPdr<'_>, Refusal> {
         };
         read.map_err(|refusal| refusal.at(place))?;
     }
-    let (source_interface, tunnel, endpoint) = pdi.ok_or(fault(MISSING, PDI))?;
+    let Pdi { source_interface, tunnel, endpoint, address } = pdi.ok_or(fault(MISSING, PDI))?;
     let precedence = precedence.ok_or(fault(MISSING, PRECEDENCE))?;
     let id = id.ok_or(fault(MISSING, PDR_ID))?;
-    let mut slot = [0; 19];
+    let mut slot = [0; 24];
     slot[0..2].copy_from_slice(&id.to_be_bytes());
     slot[2..6].copy_from_slice(&precedence.to_be_bytes());
     slot[6] = u8::from(far.is_some());
@@ -413,39 +445,47 @@ fn read_create_pdr(group: usize, part: &[u8]) -> Result<NewPdr<'_>, Refusal> {
         slot[12] = crate::layout::ENDPOINT;
         slot[18] = endpoint;
     }
-    Ok(NewPdr { slot, tunnel, endpoint })
+    Ok(NewPdr { slot, tunnel, endpoint, address })
 }
 
-type Pdi<'a> = (u8, Option<Tunnel<'a>>, Option<u8>);
+struct Pdi<'a> {
+    source_interface: u8,
+    tunnel: Option<Tunnel<'a>>,
+    endpoint: Option<u8>,
+    address: Option<Address>,
+}
 
 fn read_pdi(group: usize, part: &[u8]) -> Result<Pdi<'_>, Refusal> {
-    let (mut source, mut tunnel, mut endpoint) = (None, None, None);
+    let (mut source, mut tunnel, mut endpoint, mut address) = (None, None, None, None);
     for (ie_type, place, value) in members(group, part) {
         let read = match ie_type {
             SOURCE_INTERFACE => once(&mut source, ie_type, || one(SOURCE_INTERFACE, value)),
             F_TEID => once(&mut tunnel, F_TEID, || read_f_teid(value, false)),
             ENDPOINT_ID => once(&mut endpoint, ENDPOINT_ID, || one(ENDPOINT_ID, value)),
+            UE_IP_ADDRESS => once(&mut address, UE_IP_ADDRESS, || read_ue_ip(value)),
             _ => Ok(()),
         };
         read.map_err(|refusal| refusal.at(place))?;
     }
     let source = source.ok_or(fault(MISSING, SOURCE_INTERFACE))?;
-    Ok((source & 0x0F, tunnel, endpoint))
+    Ok(Pdi { source_interface: source & 0x0F, tunnel, endpoint, address })
 }
 
 fn read_create_endpoint(group: usize, part: &[u8]) -> Result<NewEndpoint<'_>, Refusal> {
-    let (mut id, mut tunnel) = (None, None);
+    let (mut id, mut tunnel, mut address) = (None, None, None);
     for (ie_type, place, value) in members(group, part) {
         let read = match ie_type {
             ENDPOINT_ID => once(&mut id, ENDPOINT_ID, || one(ENDPOINT_ID, value)),
             F_TEID => once(&mut tunnel, F_TEID, || read_f_teid(value, true)),
+            UE_IP_ADDRESS => once(&mut address, UE_IP_ADDRESS, || read_ue_ip(value)),
             _ => Ok(()),
         };
         read.map_err(|refusal| refusal.at(place))?;
     }
     let tunnel = tunnel.ok_or(fault(CONDITIONAL_MISSING, F_TEID))?;
     let id = id.ok_or(fault(MISSING, ENDPOINT_ID))?;
-    Ok(NewEndpoint { slot: [id, 0, 0, 0, 0, tunnel.families], tunnel })
+    let slot = [id, 0, 0, 0, 0, tunnel.families, 0, 0, 0, 0, 0];
+    Ok(NewEndpoint { slot, tunnel, address })
 }
 
 fn read_update_pdr(group: usize, part: &[u8]) -> Result<(Update, bool), Refusal> {

@@ -1,11 +1,11 @@
-//! The four calls: stages 1 and 4 to 6, grants and the change to the table.
+//! The calls: stages 1 and 4 to 6, grants and the change to the table.
 
 use crate::check::{check, Checked, Settings};
 use crate::layout::*;
 use crate::reply;
-use crate::request::{self, FqCsidChange, Header, Kind, Refusal, Request, Teid, Tunnel};
+use crate::request::{self, Address, FqCsidChange, Header, Kind, Refusal, Request, Teid, Tunnel};
 
-const LEAST_REPLY_SPACE: usize = 1024;
+const LEAST_REPLY_SPACE: usize = 1280;
 
 /// Makes an empty table; whether it was made. A refusal writes nothing.
 pub fn make_table(table: &mut [u8], settings: &Settings) -> bool {
@@ -21,13 +21,21 @@ pub fn make_table(table: &mut [u8], settings: &Settings) -> bool {
     }
     put(table, 21, &settings.first.to_be_bytes());
     put(table, 25, &settings.size.to_be_bytes());
+    put(table, 29, &settings.first_address.to_be_bytes());
+    put(table, 33, &settings.addresses.to_be_bytes());
     true
 }
 
 /// The number of free TEIDs, or nothing for a broken table.
 pub fn free_count(table: &[u8]) -> Option<u32> {
     let checked = check(table.try_into().ok()?)?;
-    Some(checked.settings.size - checked.taken.count())
+    Some(checked.settings.size - checked.taken.teids.count())
+}
+
+/// The number of free addresses, or nothing for a broken table.
+pub fn free_addresses(table: &[u8]) -> Option<u32> {
+    let checked = check(table.try_into().ok()?)?;
+    Some(checked.settings.addresses - checked.taken.addresses.count())
 }
 
 /// One request: the length of the reply and the place of a fault of stages 2 and 3 (0 without one),
@@ -41,12 +49,12 @@ pub fn handle(table: &mut [u8], message: &[u8], space: &mut [u8]) -> Result<(usi
     let (header, body) = request::header(message)?;
     let mut request = Request::new(header.seid);
     match decide(table, &checked, &header, body, &mut request) {
-        Ok((at, teids)) => {
+        Ok((at, got)) => {
             match header.kind {
                 Kind::SetDeletion => remove_listed(table, checked.sessions, &request.listed),
-                _ => change(table, checked.sessions, &header, &request, at, &teids),
+                _ => change(table, checked.sessions, &header, &request, at, &got),
             }
-            Ok((reply::accepted(space, &checked.settings, &header, &request, &teids), 0))
+            Ok((reply::accepted(space, &checked.settings, &header, &request, &got), 0))
         }
         Err(refusal) => {
             let used = reply::refused(space, &checked.settings, &header, &refusal);
@@ -59,21 +67,33 @@ fn cause(cause: u8) -> Refusal {
     Refusal { cause, offending: None, place: None }
 }
 
-/// The TEIDs of the created records in request order.
-pub struct Teids {
+/// The TEIDs of the created records in request order, and the address that is chosen for them.
+pub struct Got {
     pub pdrs: [u32; MOST_PDRS],
     pub endpoints: [u32; MOST_ENDPOINTS],
+    pub address: u32,
+}
+
+impl Got {
+    /// The address of a record that asks for this.
+    fn address_of(&self, asked: Option<Address>) -> Option<u32> {
+        match asked? {
+            Address::Given(address) => Some(address),
+            Address::Choose => Some(self.address),
+            Address::NotServed => None,
+        }
+    }
 }
 
 /// All stages; reads the body into the request. An accepted one gives its session's index in the
-/// table (where it stands or is to stand) and the TEIDs of what it creates.
+/// table (where it stands or is to stand) and what its new records get.
 fn decide<'a>(
     table: &[u8; TABLE_OCTETS],
     checked: &Checked,
     header: &Header,
     body: &'a [u8],
     request: &mut Request<'a>,
-) -> Result<(usize, Teids), Refusal> {
+) -> Result<(usize, Got), Refusal> {
     let used = &slots(table)[..checked.sessions];
     let establishment = header.kind == Kind::Establishment;
     let names_session = matches!(header.kind, Kind::Modification | Kind::Deletion);
@@ -97,7 +117,7 @@ fn decide<'a>(
     if tunnels().any(|tunnel| matches!(tunnel.teid, Teid::Given(_)) != request.restoration) {
         return Err(cause(71));
     }
-    if request.unsupported {
+    if request.unsupported || request.addresses().any(|a| a == Address::NotServed) {
         return Err(cause(76));
     }
     let (own, at) = match found {
@@ -109,6 +129,7 @@ fn decide<'a>(
         || tunnels().any(|tunnel| !checked.settings.has(tunnel.families))
         || sharing_conflicts(request)
         || (request.restoration && tunnels().any(|tunnel| !may_be_restored(checked, tunnel)))
+        || !request.addresses().all(|address| may_be_asked(checked, request.restoration, address))
     {
         return Err(cause(73));
     }
@@ -122,8 +143,28 @@ fn decide<'a>(
     {
         return Err(cause(75));
     }
-    let teids = allot(checked, request).ok_or(cause(75))?;
-    Ok((at, teids))
+    let mut got = allot(checked, request).ok_or(cause(75))?;
+    if request.addresses().any(|address| address == Address::Choose) {
+        got.address = lowest_address(checked).ok_or(cause(79))?;
+    }
+    Ok((at, got))
+}
+
+/// An address as a request may ask for it: outside the pool, or restored and free, or to be chosen.
+fn may_be_asked(checked: &Checked, restoration: bool, address: Address) -> bool {
+    match address {
+        Address::Given(address) => match checked.settings.address_place(address) {
+            Some(place) => restoration && !checked.taken.addresses.is_taken(place),
+            None => true,
+        },
+        Address::Choose => !restoration,
+        Address::NotServed => true,
+    }
+}
+
+fn lowest_address(checked: &Checked) -> Option<u32> {
+    let place = checked.taken.addresses.free_places().next()? as u32;
+    (place < checked.settings.addresses).then(|| checked.settings.first_address + place)
 }
 
 fn has_repeat<T: PartialEq>(ids: impl Iterator<Item = T> + Clone) -> bool {
@@ -203,21 +244,21 @@ fn may_be_restored(checked: &Checked, tunnel: &Tunnel) -> bool {
     let Teid::Given(teid) = tunnel.teid else { return false };
     let Some(place) = checked.settings.place(teid) else { return false };
     let (ipv4, ipv6) = tunnel.addresses.split_at(if tunnel.families & V4 != 0 { 4 } else { 0 });
-    !checked.taken.is_taken(place)
+    !checked.taken.teids.is_taken(place)
         && (ipv4.is_empty() || ipv4 == checked.settings.ipv4)
         && (ipv6.is_empty() || checked.settings.ipv6.is_some_and(|own| ipv6 == own))
 }
 
 /// TEIDs for what is created, the lowest free ones for CHOOSE: to endpoints first, then to PDRs at
 /// the first use of a CHOOSE ID. Nothing if there are too few.
-fn allot(checked: &Checked, request: &Request) -> Option<Teids> {
+fn allot(checked: &Checked, request: &Request) -> Option<Got> {
     let settings = &checked.settings;
-    let mut free = checked.taken.free_places();
+    let mut free = checked.taken.teids.free_places();
     let mut next = || {
         let place = free.next()?;
         (place < settings.size as usize).then(|| settings.first + place as u32)
     };
-    let mut teids = Teids { pdrs: [0; MOST_PDRS], endpoints: [0; MOST_ENDPOINTS] };
+    let mut teids = Got { pdrs: [0; MOST_PDRS], endpoints: [0; MOST_ENDPOINTS], address: 0 };
     for (index, endpoint) in request.new_endpoints.iter().enumerate() {
         teids.endpoints[index] = match endpoint.tunnel.teid {
             Teid::Given(teid) => teid,
@@ -248,7 +289,7 @@ fn change(
     header: &Header,
     request: &Request,
     at: usize,
-    teids: &Teids,
+    got: &Got,
 ) {
     let slots = slots_mut(table);
     match header.kind {
@@ -256,10 +297,10 @@ fn change(
             slots.copy_within(at..sessions, at + 1);
             slots[at].fill(0);
             put(&mut slots[at], 0, &request.seid.to_be_bytes());
-            change_session(&mut slots[at], request, teids);
+            change_session(&mut slots[at], request, got);
             put(table, COUNT, &(sessions as u16 + 1).to_be_bytes());
         }
-        Kind::Modification => change_session(&mut slots[at], request, teids),
+        Kind::Modification => change_session(&mut slots[at], request, got),
         _ => {
             slots.copy_within(at + 1..sessions, at);
             slots[sessions - 1].fill(0);
@@ -282,7 +323,7 @@ fn remove_listed(table: &mut [u8; TABLE_OCTETS], sessions: usize, listed: &[&[u8
     put(table, COUNT, &(kept as u16).to_be_bytes());
 }
 
-fn change_session(slot: &mut Slot, request: &Request, teids: &Teids) {
+fn change_session(slot: &mut Slot, request: &Request, got: &Got) {
     let (mut pdrs, mut endpoints, mut fq_csids) = areas_mut(slot);
     if !request.removed_pdrs.is_empty() || !request.removed_endpoints.is_empty() {
         pdrs.retain(|pdr| !goes(request, pdr));
@@ -290,14 +331,20 @@ fn change_session(slot: &mut Slot, request: &Request, teids: &Teids) {
     if !request.removed_endpoints.is_empty() {
         endpoints.retain(|endpoint| !request.removed_endpoints.contains(&endpoint[0]));
     }
-    for (endpoint, teid) in request.new_endpoints.iter().zip(teids.endpoints) {
+    for (endpoint, teid) in request.new_endpoints.iter().zip(got.endpoints) {
         let mut record = endpoint.slot;
         put(&mut record, 1, &teid.to_be_bytes());
+        if let Some(address) = got.address_of(endpoint.address) {
+            put_address(&mut record, ENDPOINT_ADDRESS, address);
+        }
         endpoints.insert(record, endpoint_id);
     }
-    for (pdr, teid) in request.new_pdrs.iter().zip(teids.pdrs) {
+    for (pdr, teid) in request.new_pdrs.iter().zip(got.pdrs) {
         let mut record = pdr.slot;
         put(&mut record, 13, &teid.to_be_bytes());
+        if let Some(address) = got.address_of(pdr.address) {
+            put_address(&mut record, PDR_ADDRESS, address);
+        }
         pdrs.insert(record, pdr_id);
     }
     for update in request.updates.iter() {

@@ -14,8 +14,10 @@ fn compare(seed: u64, calls: usize) -> Report {
         table_length,
         make_table: export::make,
         free_count: export::free,
+        free_addresses: export::free_of_addresses,
         request: export::request,
         write_restoration: None,
+        reading: None,
     };
     let report = run(&product, seed, calls);
     assert!(report.failures.is_empty(), "seed {seed}: {:#?}", report.failures);

@@ -1,12 +1,15 @@
-//! `exchanges`: reads parts from standard input, each after its length in two octets. A part of 12
-//! octets makes an empty unit: its IPv4 address, the first TEID and the pool size. Any other is a
-//! request. Prints a line for each: `table` or `outcome` and the number, `free` and the free count
-//! after it, and where there is a reply `place` and the place of a fault, and `reply` and the reply's
-//! octets in hexadecimal digits.
+//! `exchanges`: reads parts from standard input, each after its length in two octets. A part whose
+//! first octet is 0, the first octet of no message, makes an empty unit: after it stand its IPv4
+//! address, the first TEID, the number of TEIDs, the first address of the pool and the number of
+//! addresses, four octets each. Any other is a request. Prints a line for each: `table` or `outcome`
+//! and the number, `free` and the free TEIDs after it, `addresses` and the free addresses, and where
+//! there is a reply `place` and the place of a fault, and `reply` and the reply's octets in
+//! hexadecimal digits.
 
 use std::io::{self, Read};
 use std::process::ExitCode;
 
+use second::ie::LEAST_REPLY_SPACE;
 use second::settings::Settings;
 use second::unit::Unit;
 
@@ -32,13 +35,18 @@ fn next_part(octets: &[u8]) -> Option<(&[u8], &[u8])> {
 }
 
 fn line(unit: &mut Option<Unit>, part: &[u8]) -> String {
-    let (word, number, place, reply) = match part.len() {
-        12 => ("table", make(unit, part), 0, Vec::new()),
+    let (word, number, place, reply) = match part {
+        [0, settings @ ..] if settings.len() == 20 => {
+            ("table", make(unit, settings), 0, Vec::new())
+        }
         _ => request(unit, part),
     };
     // Only a unit that was never made stands for a broken table.
-    let free = unit.as_ref().map_or("broken".to_string(), |unit| unit.free_count().to_string());
-    let start = format!("{word} {number} free {free}");
+    let told = |count: fn(&Unit) -> u32| {
+        unit.as_ref().map_or("broken".to_string(), |unit| count(unit).to_string())
+    };
+    let (free, addresses) = (told(Unit::free_count), told(Unit::free_addresses));
+    let start = format!("{word} {number} free {free} addresses {addresses}");
     if reply.is_empty() {
         return start;
     }
@@ -47,10 +55,12 @@ fn line(unit: &mut Option<Unit>, part: &[u8]) -> String {
 }
 
 /// Refused settings leave the unit as it was.
-fn make(unit: &mut Option<Unit>, part: &[u8]) -> u8 {
-    let number = |at: usize| part[at..at + 4].try_into().map(u32::from_be_bytes).unwrap_or(0);
-    let ipv4 = number(0).to_be_bytes();
-    match Settings::make(ipv4, &[], number(4), number(8)).and_then(Unit::new) {
+fn make(unit: &mut Option<Unit>, settings: &[u8]) -> u8 {
+    let number = |at: usize| settings[at..at + 4].try_into().map(u32::from_be_bytes).unwrap_or(0);
+    let teids = (number(4), number(8));
+    let addresses = (number(12).into(), number(16));
+    let settings = Settings::make(number(0).to_be_bytes(), &[], teids, addresses);
+    match settings.and_then(Unit::new) {
         Some(made) => {
             *unit = Some(made);
             0
@@ -60,7 +70,7 @@ fn make(unit: &mut Option<Unit>, part: &[u8]) -> u8 {
 }
 
 fn request(unit: &mut Option<Unit>, message: &[u8]) -> (&'static str, u8, usize, Vec<u8>) {
-    let mut space = [0; 1024];
+    let mut space = [0; LEAST_REPLY_SPACE];
     let Some(unit) = unit else {
         return ("outcome", 1, 0, Vec::new());
     };

@@ -50,7 +50,9 @@ fn write_all(folder: &Path, seed: u64, count: usize) -> std::io::Result<()> {
     let sessions = tables::sessions(&mut random, &settings, Filling::Some);
     write(folder, "one", &settings, &sessions.clone().into_iter().take(1).collect(), 2)?;
     write(folder, "few", &settings, &sessions.into_iter().take(3).collect(), 2)?;
-    let plain = Settings::make([192, 0, 2, 1], &[], 4096, 4096).expect("these are allowed");
+    let plain =
+        Settings::make([192, 0, 2, 1], &[], (4096, 4096), (Ipv4Addr::new(10, 45, 0, 0), 256));
+    let plain = plain.expect("these are allowed");
     write(folder, "empty", &plain, &Sessions::new(), 0)?;
     let settings = tables::settings(&mut random, true);
     write(folder, "empty6", &settings, &Sessions::new(), 1)?;
@@ -108,6 +110,7 @@ fn options(settings: &Settings) -> String {
     let ipv4 = Ipv4Addr::from(settings.ipv4);
     let ipv6 =
         settings.ipv6.map_or(String::new(), |octets| format!(" --ipv6 {}", Ipv6Addr::from(octets)));
-    let Settings { first, size, .. } = settings;
-    format!("--ipv4 {ipv4}{ipv6} --first-teid {first} --pool {size}\n")
+    let Settings { first, size, first_address, addresses, .. } = settings;
+    let of_addresses = format!("--first-address {first_address} --addresses {addresses}");
+    format!("--ipv4 {ipv4}{ipv6} --first-teid {first} --pool {size} {of_addresses}\n")
 }

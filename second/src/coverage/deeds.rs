@@ -83,9 +83,37 @@ pub enum Done {
     SetByOperator,
     // What goes frees a TEID.
     SetFreeingTeids,
+    // Addresses: given, chosen, and what stands beside them.
+    PdrAddressGiven,
+    EndpointAddressGiven,
+    PdrAddressChosen,
+    EndpointAddressChosen,
+    AddressSharedByPdrs,
+    AddressSharedByPdrAndEndpoint,
+    TeidAndAddressChosen,
+    OnlyTeidChosen,
+    OnlyAddressChosen,
+    AddressBesideEndpointId,
+    AddressOfPdrWithNeither,
+    // By what lives at entry.
+    OutsideAddressOfTwoSessions,
+    SecondAddressChosen,
+    AddressBelowTakenOnes,
+    LastAddressChosen,
+    // What a removal leaves of it.
+    AddressFreed,
+    AddressKeptBySharing,
+    AddressFreedWithEndpoint,
+    AddressFreedByDeletion,
+    SetFreeingAddresses,
+    // Restored.
+    RestoredPoolAddress,
+    RestoredOutsideAddress,
+    RestoredAddressShared,
+    RestoredOutsideAddressOfTwoSessions,
 }
 
-pub const ALL_DONE: [Done; 65] = [
+pub const ALL_DONE: [Done; 89] = [
     Done::Establishment,
     Done::Restoration,
     Done::Modification,
@@ -151,6 +179,30 @@ pub const ALL_DONE: [Done; 65] = [
     Done::SetByIpv6,
     Done::SetByOperator,
     Done::SetFreeingTeids,
+    Done::PdrAddressGiven,
+    Done::EndpointAddressGiven,
+    Done::PdrAddressChosen,
+    Done::EndpointAddressChosen,
+    Done::AddressSharedByPdrs,
+    Done::AddressSharedByPdrAndEndpoint,
+    Done::TeidAndAddressChosen,
+    Done::OnlyTeidChosen,
+    Done::OnlyAddressChosen,
+    Done::AddressBesideEndpointId,
+    Done::AddressOfPdrWithNeither,
+    Done::OutsideAddressOfTwoSessions,
+    Done::SecondAddressChosen,
+    Done::AddressBelowTakenOnes,
+    Done::LastAddressChosen,
+    Done::AddressFreed,
+    Done::AddressKeptBySharing,
+    Done::AddressFreedWithEndpoint,
+    Done::AddressFreedByDeletion,
+    Done::SetFreeingAddresses,
+    Done::RestoredPoolAddress,
+    Done::RestoredOutsideAddress,
+    Done::RestoredAddressShared,
+    Done::RestoredOutsideAddressOfTwoSessions,
 ];
 
 /// What an accepted request does, each thing once.

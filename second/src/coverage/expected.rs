@@ -9,7 +9,7 @@ use crate::element::Bad;
 use crate::ie;
 use crate::request::fault::Place;
 use crate::request::{FaultKind, Kind};
-use crate::unit::limits::Limit;
+use crate::unit::limits::{Limit, NoAddress};
 use crate::unit::rules::{Allocation, Rule, Unsupported};
 
 /// The places that can stand in a message.
@@ -38,10 +38,10 @@ pub fn expected() -> BTreeSet<Counter> {
     all.extend([0, 2, 3, 4, 5].map(Counter::Outcome));
     all.extend(ALL_HEADER_FAULTS.map(Counter::Header));
     all.extend(ALL_EDGES.map(Counter::Edge));
-    for cause in [1, 64, 66, 67, 68, 69, 71, 73, 75] {
+    for cause in [1, 64, 66, 67, 68, 69, 71, 73, 75, 76, 79] {
         all.insert(Counter::Cause(Kind::Establishment, cause));
     }
-    for cause in [1, 65, 66, 67, 68, 69, 71, 73, 75, 76] {
+    for cause in [1, 65, 66, 67, 68, 69, 71, 73, 75, 76, 79] {
         all.insert(Counter::Cause(Kind::Modification, cause));
     }
     for cause in [1, 65, 68] {
@@ -92,6 +92,9 @@ fn expected_reading() -> BTreeSet<Counter> {
         let of_f_teid = [Empty, Short, Repeated, no_family, id_without_choose];
         add(message, Place::PdiOfCreatePdr, ie::F_TEID, &of_f_teid);
         add(message, Place::PdiOfCreatePdr, ie::ENDPOINT_ID, &[Empty, Repeated]);
+        let of_ue_ip = [Empty, Short, Repeated, bad(Bad::NoAddress), bad(Bad::AddressAndChoose)];
+        add(message, Place::PdiOfCreatePdr, ie::UE_IP_ADDRESS, &of_ue_ip);
+        add(message, Place::CreateEndpoint, ie::UE_IP_ADDRESS, &of_ue_ip);
         add(message, Place::CreateEndpoint, ie::F_TEID, &of_f_teid);
         let id_in_endpoint = bad(Bad::ChooseIdInEndpoint);
         add(message, Place::CreateEndpoint, ie::F_TEID, &[Missing, id_in_endpoint]);
@@ -133,19 +136,26 @@ fn expected_of_order_and_stage_4() -> BTreeSet<Counter> {
     for kind in [Kind::Establishment, Kind::Modification] {
         all.insert(Counter::Allocation(kind, Allocation::PdrGivenOutsideRestoration));
         all.insert(Counter::Allocation(kind, Allocation::EndpointGivenOutsideRestoration));
+        all.insert(Counter::Unsupported(kind, Unsupported::AddressOfPdr));
+        all.insert(Counter::Unsupported(kind, Unsupported::AddressOfEndpoint));
     }
     let establishment = Kind::Establishment;
     all.insert(Counter::Allocation(establishment, Allocation::PdrChooseInRestoration));
     all.insert(Counter::Allocation(establishment, Allocation::EndpointChooseInRestoration));
-    all.insert(Counter::Unsupported(Unsupported::PdiInUpdatePdr));
-    all.insert(Counter::Unsupported(Unsupported::UpdateEndpoint));
+    let modification = Kind::Modification;
+    all.insert(Counter::Unsupported(modification, Unsupported::PdiInUpdatePdr));
+    all.insert(Counter::Unsupported(modification, Unsupported::UpdateEndpoint));
     all.extend(ALL_RULES.iter().copied().map(Counter::Rule));
     all.insert(Counter::FramingBeforeReading);
     let of_stage_1 = [(65, 66), (65, 68), (65, 69)];
     all.extend(of_stage_1.map(|(first, later)| Counter::Before(first, later)));
-    let pairs =
-        [(64, 71), (64, 73), (64, 75), (71, 76), (71, 73), (71, 75), (76, 73), (76, 75), (73, 75)];
-    all.extend(pairs.map(|(first, later)| Counter::Before(first, later)));
+    // "Down the table": each before every later one. A restoration that is 71 or 73 for a CHOOSE is
+    // never 79.
+    let stages_4_and_5 = [64, 71, 76, 73, 75, 79];
+    for (index, first) in stages_4_and_5.iter().enumerate() {
+        let later = stages_4_and_5[index + 1..].iter();
+        all.extend(later.map(|later| Counter::Before(*first, *later)));
+    }
     all
 }
 
@@ -164,10 +174,13 @@ fn expected_of_stage_5() -> BTreeSet<Counter> {
     ];
     all.extend(of_establishments.map(|limit| Counter::Limit(Kind::Establishment, limit)));
     all.insert(Counter::Limit(Kind::Modification, Limit::TeidsButForRemovals));
+    all.insert(Counter::NoAddress(Kind::Establishment, NoAddress::AtAll));
+    all.insert(Counter::NoAddress(Kind::Modification, NoAddress::AtAll));
+    all.insert(Counter::NoAddress(Kind::Modification, NoAddress::ButForRemovals));
     all
 }
 
-const ALL_RULES: [Rule; 31] = [
+const ALL_RULES: [Rule; 37] = [
     Rule::PdrRemovedTwice,
     Rule::PdrCreatedTwice,
     Rule::PdrUpdatedTwice,
@@ -199,4 +212,10 @@ const ALL_RULES: [Rule; 31] = [
     Rule::SharedByEndpointAndPdr,
     Rule::SharedWithOtherFamilies,
     Rule::SharedWithOtherSourceInterface,
+    Rule::PdrAddressInsidePool,
+    Rule::EndpointAddressInsidePool,
+    Rule::OwnAddressInsidePool,
+    Rule::RestoredAddressOfAnotherSession,
+    Rule::PdrAddressChooseInRestoration,
+    Rule::EndpointAddressChooseInRestoration,
 ];

@@ -1,5 +1,6 @@
 //! Counters for what a run of calls has met, and the list of all that it should meet.
 
+mod addresses;
 mod deeds;
 mod expected;
 mod host;
@@ -12,9 +13,11 @@ use crate::request::fault::Place;
 use crate::request::framing::{elements, opens, Part};
 use crate::request::{reading, Fault, FaultKind, Header, Kind, Record};
 use crate::session::Sessions;
-use crate::unit::limits::Limit;
+use crate::settings::Settings;
+use crate::unit::limits::{Limit, NoAddress};
 use crate::unit::rules::{Allocation, Rule, Unsupported};
 use crate::unit::{Decision, Reason};
+use addresses::deeds_of_addresses;
 use deeds::deeds;
 pub use deeds::Done;
 pub use expected::expected;
@@ -45,11 +48,13 @@ pub enum Counter {
     /// Stage 3: the element type and what is wrong with it.
     Reading(Kind, Place, u16, FaultKind),
     Allocation(Kind, Allocation),
-    Unsupported(Unsupported),
+    Unsupported(Kind, Unsupported),
     /// A rule of 73, counted where it is the only broken one of all of stages 4 and 5.
     Rule(Rule),
     /// A kind of 75, counted where it is the only one.
     Limit(Kind, Limit),
+    /// A kind of 79, which is always the only reason left.
+    NoAddress(Kind, NoAddress),
     /// The first cause is reported while the second, of a later line, would hold as well.
     Before(u8, u8),
     /// A fault of stage 2 is reported while an element before it has one of stage 3.
@@ -104,12 +109,13 @@ impl Coverage {
         *self.counts.entry(counter).or_insert(0) += 1;
     }
 
-    /// Counts one decision of a unit on a call, with the sessions before it.
+    /// Counts one decision of a unit on a call, with its settings and the sessions before it.
     pub fn decided(
         &mut self,
         message: &[u8],
         reply_space: usize,
         decision: &Decision,
+        settings: &Settings,
         before: &Sessions,
     ) {
         let outcome = match decision {
@@ -141,7 +147,10 @@ impl Coverage {
                 let kind = request.header.kind;
                 self.met(Counter::Cause(kind, 1));
                 self.skipped(kind, Place::Top, Part::body(message));
-                for done in deeds(request, message, before) {
+                for done in deeds(request, message, before)
+                    .into_iter()
+                    .chain(deeds_of_addresses(settings, request, before))
+                {
                     self.met(Counter::Accepted(done));
                 }
                 for record in &request.records {
@@ -163,9 +172,12 @@ impl Coverage {
         match (&reasons[0], reasons.len()) {
             (Reason::Fault(fault), _) => self.met(fault_counter(fault)),
             (Reason::Allocation(allocation), _) => self.met(Counter::Allocation(kind, *allocation)),
-            (Reason::Unsupported(unsupported), _) => self.met(Counter::Unsupported(*unsupported)),
+            (Reason::Unsupported(unsupported), _) => {
+                self.met(Counter::Unsupported(kind, *unsupported))
+            }
             (Reason::Rule(rule), 1) => self.met(Counter::Rule(*rule)),
             (Reason::Limit(limit), 1) => self.met(Counter::Limit(kind, *limit)),
+            (Reason::NoAddress(why), _) => self.met(Counter::NoAddress(kind, *why)),
             _ => {}
         }
     }
@@ -210,16 +222,16 @@ fn acted_on(message: Kind, place: Place) -> &'static [u16] {
         (Place::Top, Kind::Deletion) => &[],
         (Place::Top, Kind::SetDeletion) => &[65],
         (Place::CreatePdr | Place::UpdatePdr, _) => &[56, 29, 2, 108],
-        (Place::PdiOfCreatePdr | Place::PdiOfUpdatePdr, _) => &[20, 21, 131],
-        (Place::CreateEndpoint, _) => &[131, 21],
+        (Place::PdiOfCreatePdr | Place::PdiOfUpdatePdr, _) => &[20, 21, 131, 93],
+        (Place::CreateEndpoint, _) => &[131, 21, 93],
         (Place::RemovePdr, _) => &[56],
         (Place::RemoveEndpoint, _) => &[131],
     }
 }
 
 fn class(message: Kind, place: Place, ie_type: u16) -> Class {
-    const NAMED: [u16; 18] =
-        [1, 2, 8, 9, 15, 19, 20, 21, 29, 56, 57, 60, 65, 108, 127, 130, 131, 186];
+    const NAMED: [u16; 19] =
+        [1, 2, 8, 9, 15, 19, 20, 21, 29, 56, 57, 60, 65, 93, 108, 127, 130, 131, 186];
     if acted_on(message, place).contains(&ie_type) {
         Class::ActedOn
     } else if ie_type >= ie::FIRST_VENDOR {

@@ -1,9 +1,10 @@
-//! Readers and writers of the three elements with an inner order of their own. They work on the
+//! Readers and writers of the four elements with an inner order of their own. They work on the
 //! value octets, without the element's type and length.
 
 pub mod f_seid;
 pub mod f_teid;
 pub mod fq_csid;
+pub mod ue_ip;
 
 /// Why a reader refuses a value. `Empty` and `Short` are cause 68, the rest is 69.
 #[derive(Clone, Copy, PartialEq, Eq, PartialOrd, Ord, Debug)]
@@ -34,6 +35,10 @@ pub enum Bad {
     RemovalNotZero,
     /// FQ-CSID whose m is not one for this message.
     NumberOfCsids,
+    /// UE IP Address with neither V4 nor CHV4.
+    NoAddress,
+    /// UE IP Address with both.
+    AddressAndChoose,
 }
 
 pub const CAUSE_LENGTH: u8 = 68;

@@ -9,7 +9,8 @@ use super::random::Random;
 
 const UNKNOWN: [u16; 6] = [0, 3, 99, 200, 4000, 32767];
 const VENDOR: [u16; 4] = [32768, 32769, 40000, 65535];
-const NAMED: [u16; 18] = [1, 2, 8, 9, 15, 19, 20, 21, 29, 56, 57, 60, 65, 108, 127, 130, 131, 186];
+const NAMED: [u16; 19] =
+    [1, 2, 8, 9, 15, 19, 20, 21, 29, 56, 57, 60, 65, 93, 108, 127, 130, 131, 186];
 
 /// One piece of damage at a random spot.
 pub fn damage(draft: &mut Draft, random: &mut Random) {
@@ -170,8 +171,8 @@ fn misplaced(draft: &Draft, way: &[usize], random: &mut Random) -> u16 {
         (None, SET_DELETION) => &[65],
         (None, _) => &[],
         (Some(1 | 9), _) => &[56, 29, 2, 108],
-        (Some(2), _) => &[20, 21, 131],
-        (Some(127), _) => &[131, 21],
+        (Some(2), _) => &[20, 21, 131, 93],
+        (Some(127), _) => &[131, 21, 93],
         (Some(15), _) => &[56],
         _ => &[131],
     };
@@ -179,11 +180,11 @@ fn misplaced(draft: &Draft, way: &[usize], random: &mut Random) -> u16 {
     random.pick(&rest)
 }
 
-/// Makes the value of an F-SEID, F-TEID or FQ-CSID bad.
+/// Makes the value of an F-SEID, F-TEID, UE IP Address or FQ-CSID bad.
 fn spoil(draft: &mut Draft, random: &mut Random) {
     // An FQ-CSID has the most ways of being bad.
     let only = [DELETION, SET_DELETION].contains(&draft.message_type) || random.percent(40);
-    let spoilt: &[u16] = if only { &[65] } else { &[57, 21] };
+    let spoilt: &[u16] = if only { &[65] } else { &[57, 21, 93] };
     let wanted = |types: &[u16]| spoilt.contains(types.last().unwrap_or(&0));
     let Some((way, index)) = an_element(draft, random, &wanted) else { return };
     let message_type = draft.message_type;
@@ -202,6 +203,15 @@ fn spoil(draft: &mut Draft, random: &mut Random) {
             1 => value[0] = flags & !4 | 8,
             2 => value[0] = flags | 12,
             _ => value[0] = flags ^ 4,
+        },
+        (93, Some(_)) if value.len() >= 5 && random.percent(30) => {
+            value.truncate(random.between(1, 4));
+        }
+        (93, Some(flags)) => match random.below(5) {
+            // Neither V4 nor CHV4, or both; then what is not served.
+            0 | 1 => value[0] = flags & !0x12,
+            2 | 3 => value[0] = flags | 0x12,
+            _ => value[0] = flags | random.pick(&[1, 8, 32, 64]),
         },
         (65, _) if random.percent(15) => {
             // The node type again, with another value.

@@ -244,6 +244,19 @@ impl Layout<'_> {
         self.leaf(21, value)
     }
 
+    fn ue_ip(&mut self, ask: &AddressAsk) -> Node {
+        // S/D and bit 8 are ignored.
+        let other_bits = self.ignored(0x84);
+        let value = match ask {
+            AddressAsk::Given(address) => {
+                [vec![2 | other_bits], address.octets().to_vec()].concat()
+            }
+            AddressAsk::Choose => vec![16 | other_bits],
+            AddressAsk::Raw(value) => return Node::leaf(93, value.clone()),
+        };
+        self.leaf(93, value)
+    }
+
     fn item(&mut self, item: &Item) -> Node {
         match item {
             Item::CreatePdr(pdr) => {
@@ -255,6 +268,9 @@ impl Layout<'_> {
                 if let Some(endpoint) = pdr.endpoint {
                     pdi.push(self.leaf(131, vec![endpoint]));
                 }
+                if let Some(address) = &pdr.address {
+                    pdi.push(self.ue_ip(address));
+                }
                 let mut members = vec![
                     self.leaf(56, pdr.id.to_be_bytes().to_vec()),
                     self.leaf(29, pdr.precedence.to_be_bytes().to_vec()),
@@ -265,8 +281,11 @@ impl Layout<'_> {
                 }
                 self.group(1, members)
             }
-            Item::CreateEndpoint { id, ask } => {
-                let members = vec![self.leaf(131, vec![*id]), self.f_teid(ask)];
+            Item::CreateEndpoint { id, ask, address } => {
+                let mut members = vec![self.leaf(131, vec![*id]), self.f_teid(ask)];
+                if let Some(address) = address {
+                    members.push(self.ue_ip(address));
+                }
                 self.group(127, members)
             }
             Item::UpdatePdr { id, precedence, far, with_pdi } => {
@@ -275,7 +294,12 @@ impl Layout<'_> {
                     members.push(self.leaf(29, precedence.to_be_bytes().to_vec()));
                 }
                 if *with_pdi {
-                    let inner = vec![self.leaf(20, vec![0]), self.leaf(131, vec![1])];
+                    // Its members are not read, so a null address harms nothing.
+                    let inner = vec![
+                        self.leaf(20, vec![0]),
+                        self.leaf(131, vec![1]),
+                        self.leaf(93, vec![]),
+                    ];
                     members.push(self.group(2, inner));
                 }
                 match far {

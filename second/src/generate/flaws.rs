@@ -2,7 +2,7 @@
 
 use super::plan::*;
 use super::planner::Planner;
-use crate::session::{Local, Session};
+use crate::session::{taken_addresses, Local, Session};
 
 impl Planner<'_> {
     /// Adds one flaw that fits the plan's message. A flaw that finds nothing to work on adds none.
@@ -47,8 +47,49 @@ impl Planner<'_> {
     fn push_endpoint(&mut self, plan: &mut Plan, ask: Ask) -> u8 {
         let own = self.own(plan);
         let id = self.unused_endpoint_id(plan, own.as_ref());
-        plan.items.push(Item::CreateEndpoint { id, ask });
+        plan.items.push(Item::CreateEndpoint { id, ask, address: None });
         id
+    }
+
+    /// A new PDR or endpoint with this address.
+    fn push_address(&mut self, plan: &mut Plan, wanted: AddressAsk) {
+        if self.random.percent(60) {
+            self.push_pdr(plan, |pdr| pdr.address = Some(wanted));
+            return;
+        }
+        let families = self.families();
+        let ask = self.fitting(plan, families);
+        self.push_endpoint(plan, ask);
+        if let Some(Item::CreateEndpoint { address, .. }) = plan.items.last_mut() {
+            *address = Some(wanted);
+        }
+    }
+
+    /// An address that is not served, one that the control plane may not give, or a CHOOSE that is
+    /// out of place or finds none free.
+    fn flaw_of_address(&mut self, plan: &mut Plan) {
+        match self.random.below(10) {
+            0..=2 => {
+                // V6, IPv6D, CHV6 or IP6PL, alone or with others; what follows is not read.
+                let flags = self.random.pick(&[1, 8, 32, 64]) | self.random.octet();
+                let count = self.random.pick(&[0, 0, 3, 4, 20]);
+                let value = [vec![flags], self.random.octets(count)].concat();
+                self.push_address(plan, AddressAsk::Raw(value));
+            }
+            3..=5 if !plan.restoration => {
+                let address = self.inside_address();
+                self.push_address(plan, AddressAsk::Given(address));
+            }
+            3..=4 => {
+                let held =
+                    taken_addresses(self.settings, self.live).into_iter().collect::<Vec<_>>();
+                if !held.is_empty() {
+                    let address = self.random.pick(&held);
+                    self.push_address(plan, AddressAsk::Given(address));
+                }
+            }
+            _ => self.push_address(plan, AddressAsk::Choose),
+        }
     }
 
     /// A tunnel as this plan may ask for it; a restoration's stands in the pool and is free.
@@ -67,7 +108,8 @@ impl Planner<'_> {
     /// Flaws that an establishment, a restoration and a modification can all have.
     fn flaw_of_any(&mut self, plan: &mut Plan) {
         let families = self.families();
-        match self.random.below(18) {
+        match self.random.below(22) {
+            18..=21 => self.flaw_of_address(plan),
             0 | 17 => {
                 // An F-TEID the wrong way round: 71.
                 let wrong = match plan.restoration {
@@ -92,7 +134,7 @@ impl Planner<'_> {
                 let ask = self.fitting(plan, families);
                 let id = self.push_endpoint(plan, ask);
                 let ask = self.fitting(plan, families);
-                plan.items.push(Item::CreateEndpoint { id, ask });
+                plan.items.push(Item::CreateEndpoint { id, ask, address: None });
             }
             3 => {
                 // F-TEID and endpoint ID in one PDI.
@@ -140,7 +182,11 @@ impl Planner<'_> {
                 // More TEIDs than a small pool has left.
                 for _ in 0..self.random.between(3, 12) {
                     let ask = self.fitting(plan, families);
-                    self.push_pdr(plan, |pdr| pdr.ask = Some(ask));
+                    let choose = !plan.restoration && self.random.percent(20);
+                    self.push_pdr(plan, |pdr| {
+                        pdr.ask = Some(ask);
+                        pdr.address = choose.then_some(AddressAsk::Choose);
+                    });
                 }
             }
             _ => {
@@ -154,7 +200,8 @@ impl Planner<'_> {
 
     fn flaw_of_restoration(&mut self, plan: &mut Plan) {
         let families = self.families();
-        match self.random.below(12) {
+        match self.random.below(15) {
+            12..=14 => self.flaw_of_address(plan),
             0 | 1 => {
                 let last = self.settings.first + (self.settings.size - 1);
                 let outside = [
@@ -275,7 +322,31 @@ impl Planner<'_> {
         let pdr = pdrs.first().copied();
         let strange_pdr = self.unused_pdr_id(plan, Some(&own));
         let strange_endpoint = self.unused_endpoint_id(plan, Some(&own));
-        match (self.random.below(17), pdr) {
+        match (self.random.below(20), pdr) {
+            (17, _) => {
+                // An address of the pool that the session holds.
+                let held: Vec<_> = own.pool_addresses(self.settings).into_iter().collect();
+                if !held.is_empty() {
+                    let address = self.random.pick(&held);
+                    self.push_address(plan, AddressAsk::Given(address));
+                }
+            }
+            (18, _) => {
+                // Removing every address and asking for one again in one request.
+                plan.items.clear();
+                for (&id, pdr) in &own.pdrs {
+                    if pdr.address.is_some() {
+                        plan.items.push(Item::RemovePdr(id));
+                    }
+                }
+                for (&id, endpoint) in &own.endpoints {
+                    if endpoint.address.is_some() {
+                        plan.items.push(Item::RemoveEndpoint(id));
+                    }
+                }
+                self.push_pdr(plan, |pdr| pdr.address = Some(AddressAsk::Choose));
+            }
+            (19, _) => self.flaw_of_address(plan),
             (0, Some(id)) => plan.items.extend([Item::RemovePdr(id), Item::RemovePdr(id)]),
             (1, Some(id)) => {
                 let pair = [self.update(id), self.update(id)];
@@ -308,7 +379,7 @@ impl Planner<'_> {
             (8 | 16, _) => {
                 if let Some(id) = loose.or(endpoints.first().copied()) {
                     let ask = self.choose();
-                    plan.items.push(Item::CreateEndpoint { id, ask });
+                    plan.items.push(Item::CreateEndpoint { id, ask, address: None });
                     if loose.is_some() && self.random.percent(75) {
                         plan.items.push(Item::RemoveEndpoint(id));
                     }

@@ -12,6 +12,9 @@ pub mod random;
 pub mod requests;
 pub mod tables;
 
+use std::net::Ipv4Addr;
+
+use crate::ie::LEAST_REPLY_SPACE;
 use crate::session::{Session, Sessions};
 use crate::settings::Settings;
 use draft::{lay_out, Draft, Node};
@@ -81,15 +84,28 @@ impl Generator {
             let address: [u8; 16] = std::array::from_fn(|_| random.octet());
             ipv6 = Some(address);
         }
-        let settings = Settings { ipv4, ipv6, first, size };
+        let addresses = match flavour {
+            Flavour::Tight => random.between(1, 3),
+            Flavour::Middle => random.between(2, 20),
+            Flavour::Crowd => random.pick(&[30, 64, 1023, 1024]),
+            Flavour::Full => random.pick(&[1, 8, 65, 1024]),
+        } as u32;
+        let first_address = match random.below(4) {
+            0 => 0,
+            1 => u32::MAX - (addresses - 1),
+            2 => 0x0A2D_0001,
+            _ => random.below(1 << 31) as u32,
+        };
+        let first_address = Ipv4Addr::from(first_address);
+        let settings = Settings { ipv4, ipv6, first, size, first_address, addresses };
         Scenario { settings, calls: 250, flavour, graves: vec![] }
     }
 
     /// The next call of a sequence, for the sessions that live now.
     pub fn call(&mut self, scenario: &mut Scenario, live: &Sessions) -> Call {
         let reply_space = match self.random.below(10) {
-            0 => self.random.between(1024, 4096),
-            _ => 1024,
+            0 => self.random.between(LEAST_REPLY_SPACE, 4096),
+            _ => LEAST_REPLY_SPACE,
         };
         // A crowd has to gather first.
         let gathering = scenario.flavour == Flavour::Crowd && live.len() < 64;
@@ -97,7 +113,7 @@ impl Generator {
             _ if gathering && self.random.percent(60) => self.sound(scenario, live).octets(),
             0..=2 => {
                 let message = self.sound(scenario, live).octets();
-                let reply_space = self.random.pick(&[0, 1, 16, 512, 1022, 1023]);
+                let reply_space = self.random.pick(&[0, 1, 16, 1024, 1278, 1279]);
                 return Call { message, reply_space };
             }
             3..=5 => self.of_edge_length(scenario, live),
@@ -319,8 +335,9 @@ impl Generator {
     }
 
     fn soup_nodes(&mut self, depth: usize) -> Vec<Node> {
-        let types =
-            [1, 1, 2, 2, 9, 15, 20, 21, 29, 56, 56, 57, 65, 108, 127, 129, 130, 131, 186, 40000];
+        let types = [
+            1, 1, 2, 2, 9, 15, 20, 21, 29, 56, 56, 57, 65, 93, 108, 127, 129, 130, 131, 186, 40000,
+        ];
         let mut nodes = Vec::new();
         for _ in 0..self.random.below(6) {
             let ie_type = self.random.pick(&types);

@@ -1,10 +1,21 @@
 //! What a generated request is to ask for, before any octet is written.
 
+use std::net::Ipv4Addr;
+
 /// A local F-TEID to ask for.
 #[derive(Clone, Debug)]
 pub enum Ask {
     Given { teid: u32, ipv4: Option<[u8; 4]>, ipv6: Option<[u8; 16]> },
     Choose { v4: bool, v6: bool, id: Option<u8> },
+}
+
+/// A UE IP Address to ask for.
+#[derive(Clone, Debug)]
+pub enum AddressAsk {
+    Given(Ipv4Addr),
+    Choose,
+    /// Any value octets.
+    Raw(Vec<u8>),
 }
 
 #[derive(Clone, Debug)]
@@ -15,6 +26,7 @@ pub struct NewPdr {
     pub source_interface: u8,
     pub ask: Option<Ask>,
     pub endpoint: Option<u8>,
+    pub address: Option<AddressAsk>,
 }
 
 /// What an Update PDR does to the FAR ID.
@@ -31,6 +43,7 @@ pub enum Item {
     CreateEndpoint {
         id: u8,
         ask: Ask,
+        address: Option<AddressAsk>,
     },
     UpdatePdr {
         id: u16,

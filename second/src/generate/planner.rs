@@ -1,12 +1,13 @@
 //! The IDs and values that plans are made of, fitting the settings and the live sessions.
 
 use std::collections::{BTreeMap, BTreeSet};
+use std::net::Ipv4Addr;
 
 use super::plan::*;
 use super::random::Random;
 use super::Flavour;
 use crate::element::fq_csid::NodeId;
-use crate::session::{HeldCsid, Session, Sessions};
+use crate::session::{taken_addresses, HeldCsid, Session, Sessions};
 use crate::settings::Settings;
 
 pub struct Planner<'a> {
@@ -142,11 +143,53 @@ impl Planner<'_> {
             source_interface: self.source_interface(),
             ask: None,
             endpoint: None,
+            address: None,
         }
+    }
+
+    /// An address as a request outside a restoration may ask for it, or none.
+    pub fn address(&mut self) -> Option<AddressAsk> {
+        let choose = if self.free_addresses().is_empty() { 3 } else { 25 };
+        match self.random.below(100) {
+            chance if chance < choose => Some(AddressAsk::Choose),
+            25..=39 => Some(AddressAsk::Given(self.outside_address())),
+            _ => None,
+        }
+    }
+
+    /// An address outside the pool: mostly at an edge, so that sessions share it.
+    pub fn outside_address(&mut self) -> Ipv4Addr {
+        let first = u32::from(self.settings.first_address);
+        let last = first + (self.settings.addresses - 1);
+        let any = self.random.number() as u32;
+        loop {
+            let edges = [first.wrapping_sub(1), last.wrapping_add(1), 0, u32::MAX, 0x0A090909, any];
+            let address = Ipv4Addr::from(self.random.pick(&edges));
+            if self.settings.address_place(address).is_none() {
+                return address;
+            }
+        }
+    }
+
+    /// An address inside the pool: the first, the last or any.
+    pub fn inside_address(&mut self) -> Ipv4Addr {
+        let last = self.settings.addresses - 1;
+        let any = self.random.below(self.settings.addresses as usize) as u32;
+        Ipv4Addr::from(u32::from(self.settings.first_address) + self.random.pick(&[0, last, any]))
+    }
+
+    /// Addresses of the pool that no live session holds, in some order.
+    pub fn free_addresses(&mut self) -> Vec<Ipv4Addr> {
+        let taken = taken_addresses(self.settings, self.live);
+        let mut free: Vec<Ipv4Addr> =
+            self.settings.address_pool().filter(|address| !taken.contains(address)).collect();
+        self.random.shuffle(&mut free);
+        free
     }
 
     pub fn pdr(&mut self, id: u16, endpoints: &[u8], uses: &mut Uses) -> NewPdr {
         let mut pdr = self.plain_pdr(id);
+        pdr.address = self.address();
         match self.random.below(20) {
             0..=4 => {}
             5..=9 => pdr.ask = Some(self.choose()),

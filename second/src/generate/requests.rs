@@ -1,11 +1,12 @@
 //! Whole plans that fit the live sessions: establishments, restorations, modifications, deletions.
 
 use std::collections::BTreeSet;
+use std::net::Ipv4Addr;
 
 use super::plan::*;
 use super::planner::{node_octets, Planner, Uses};
 use super::Flavour;
-use crate::session::{Families, HeldCsid, Local, Pdr, Session, Tunnel};
+use crate::session::{Endpoint, Families, HeldCsid, Local, Pdr, Session, Tunnel};
 
 impl Planner<'_> {
     pub fn establishment(&mut self) -> Plan {
@@ -19,8 +20,8 @@ impl Planner<'_> {
         let endpoints = if self.random.percent(45) { self.random.between(1, 3) } else { 0 };
         for _ in 0..endpoints {
             let id = self.unused_endpoint_id(&plan, None);
-            let ask = self.choose();
-            plan.items.push(Item::CreateEndpoint { id, ask });
+            let (ask, address) = (self.choose(), self.address());
+            plan.items.push(Item::CreateEndpoint { id, ask, address });
         }
         let most = if self.flavour == Flavour::Crowd { 2 } else { 5 };
         self.add_pdrs(&mut plan, None, 1, most);
@@ -36,16 +37,22 @@ impl Planner<'_> {
     /// The largest session: everything there is room for.
     fn fill_whole(&mut self, plan: &mut Plan) {
         let both = (true, self.settings.ipv6.is_some());
+        let address = match self.free_addresses().is_empty() {
+            true => AddressAsk::Given(self.outside_address()),
+            false => AddressAsk::Choose,
+        };
         for id in 0..8 {
             plan.items.push(Item::CreateEndpoint {
                 id,
                 ask: Ask::Choose { v4: both.0, v6: both.1, id: None },
+                address: Some(address.clone()),
             });
         }
         for id in 0..16 {
             let mut pdr = self.plain_pdr(id);
             pdr.far_id = Some(self.number32());
             pdr.ask = Some(Ask::Choose { v4: both.0, v6: both.1, id: None });
+            pdr.address = Some(address.clone());
             plan.items.push(Item::CreatePdr(pdr));
         }
         for node_type in 0..6 {
@@ -88,13 +95,16 @@ impl Planner<'_> {
         let seid = self.unused_seid();
         let mut session = Session::default();
         let mut free = self.free_teids();
+        let mut free_addresses = self.free_addresses();
+        free_addresses.truncate(2);
         let families = |pair: (bool, bool)| Families { v4: pair.0, v6: pair.1 };
         let mut plan = self.restoration_of(seid, &session);
         for _ in 0..self.random.below(3) {
             if let Some(teid) = free.pop() {
                 let id = self.unused_endpoint_id(&plan, None);
                 let tunnel = Tunnel { teid, families: families(self.families()) };
-                session.endpoints.insert(id, tunnel);
+                let address = self.restored_address(&free_addresses);
+                session.endpoints.insert(id, Endpoint { tunnel, address });
             }
         }
         let mut last: Option<(Tunnel, u8)> = None;
@@ -115,7 +125,8 @@ impl Planner<'_> {
                 local = Local::Tunnel(tunnel);
             }
             let (precedence, far_id) = (self.number32(), self.far_id());
-            let pdr = Pdr { precedence, far_id, source_interface, local };
+            let address = self.restored_address(&free_addresses);
+            let pdr = Pdr { precedence, far_id, source_interface, local, address };
             session.pdrs.insert(id, pdr);
         }
         plan = self.restoration_of(seid, &session);
@@ -125,6 +136,15 @@ impl Planner<'_> {
             plan.items.push(Item::FqCsid(value));
         }
         plan
+    }
+
+    /// None, one of these of the pool, or one outside it.
+    fn restored_address(&mut self, free: &[Ipv4Addr]) -> Option<Ipv4Addr> {
+        match self.random.below(4) {
+            0 => Some(self.outside_address()),
+            1..=2 if !free.is_empty() => Some(self.random.pick(free)),
+            _ => None,
+        }
     }
 
     pub fn restoration_of(&mut self, seid: u64, session: &Session) -> Plan {
@@ -137,6 +157,7 @@ impl Planner<'_> {
                 source_interface: pdr.source_interface,
                 ask: None,
                 endpoint: None,
+                address: pdr.address.map(AddressAsk::Given),
             };
             match pdr.local {
                 Local::Neither => {}
@@ -148,9 +169,10 @@ impl Planner<'_> {
             }
             plan.items.push(Item::CreatePdr(new));
         }
-        for (&id, tunnel) in &session.endpoints {
+        for (&id, Endpoint { tunnel, address }) in &session.endpoints {
             let ask = self.given(tunnel.teid, (tunnel.families.v4, tunnel.families.v6));
-            plan.items.push(Item::CreateEndpoint { id, ask });
+            let address = address.map(AddressAsk::Given);
+            plan.items.push(Item::CreateEndpoint { id, ask, address });
         }
         for (&node_type, held) in &session.fq_csids {
             let (node_id_type, address) = node_octets(&held.node);
@@ -195,8 +217,8 @@ impl Planner<'_> {
         if self.random.percent(40) {
             for _ in 0..self.random.between(1, most) {
                 let id = self.unused_endpoint_id(&plan, Some(&own));
-                let ask = self.choose();
-                plan.items.push(Item::CreateEndpoint { id, ask });
+                let (ask, address) = (self.choose(), self.address());
+                plan.items.push(Item::CreateEndpoint { id, ask, address });
             }
         }
         if self.random.percent(60) {
@@ -281,6 +303,13 @@ impl Planner<'_> {
         plan
     }
 
+    fn rich_address(&mut self) -> AddressAsk {
+        match self.random.percent(50) {
+            true => AddressAsk::Choose,
+            false => AddressAsk::Given(self.outside_address()),
+        }
+    }
+
     /// A request with every group and element that its message knows, for being damaged. It need
     /// not fit the live sessions.
     pub fn rich(&mut self, message_type: u8, seid: u64) -> Plan {
@@ -292,7 +321,8 @@ impl Planner<'_> {
         } else {
             for id in [1, 2] {
                 let ask = self.choose();
-                plan.items.push(Item::CreateEndpoint { id, ask });
+                let address = Some(self.rich_address());
+                plan.items.push(Item::CreateEndpoint { id, ask, address });
                 let mut pdr = self.plain_pdr(u16::from(id));
                 pdr.far_id = Some(self.number32());
                 pdr.ask = Some(self.choose());
@@ -306,6 +336,7 @@ impl Planner<'_> {
                     pdr.ask = Some(self.given(self.settings.first, families));
                 }
                 pdr.endpoint = Some(id);
+                pdr.address = Some(self.rich_address());
                 plan.items.push(Item::CreatePdr(pdr));
             }
         }

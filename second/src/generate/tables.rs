@@ -3,14 +3,15 @@
 //! their edges, every kind of record in every place, tables that are full.
 
 use std::collections::BTreeSet;
+use std::net::Ipv4Addr;
 
 use super::random::Random;
 use crate::element::fq_csid::{NodeId, LARGEST_COUNTRY_AND_NETWORK, LAST_NODE_TYPE};
 use crate::session::{
-    records_hold, Families, HeldCsid, Local, Pdr, Session, Sessions, Tunnel, MOST_ENDPOINTS,
-    MOST_PDRS, MOST_SESSIONS,
+    records_hold, Endpoint, Families, HeldCsid, Local, Pdr, Session, Sessions, Tunnel,
+    MOST_ENDPOINTS, MOST_PDRS, MOST_SESSIONS,
 };
-use crate::settings::{Settings, LARGEST_POOL};
+use crate::settings::{Settings, LARGEST_POOL, MOST_ADDRESSES};
 
 /// How many sessions and records a table has.
 #[derive(Clone, Copy, PartialEq, Eq, Debug)]
@@ -27,13 +28,53 @@ pub fn settings(random: &mut Random, ipv6: bool) -> Settings {
     let first = random.pick(&[1, 4096, u32::MAX - (size - 1)]);
     let ipv4 = std::array::from_fn(|_| random.octet());
     let ipv6 = ipv6.then(|| std::array::from_fn(|_| random.octet()));
-    Settings { ipv4, ipv6, first, size }
+    let addresses = random.pick(&[1, 64, 65, MOST_ADDRESSES - 1, MOST_ADDRESSES]);
+    let first_address = random.pick(&[0, 0x0A2D_0000, u32::MAX - (addresses - 1)]).into();
+    Settings { ipv4, ipv6, first, size, first_address, addresses }
+}
+
+/// What of the pools no session of the table holds yet.
+struct Free {
+    teids: Vec<u32>,
+    addresses: Vec<Ipv4Addr>,
+}
+
+impl Free {
+    fn all(random: &mut Random, settings: &Settings) -> Free {
+        let mut teids: Vec<u32> = settings.pool().collect();
+        random.shuffle(&mut teids);
+        let mut addresses: Vec<Ipv4Addr> = settings.address_pool().collect();
+        random.shuffle(&mut addresses);
+        Free { teids, addresses }
+    }
+
+    /// A record's address: none, one of the pool that only this session holds, or one outside it.
+    fn address(
+        &mut self,
+        random: &mut Random,
+        settings: &Settings,
+        session: &Session,
+    ) -> Option<Ipv4Addr> {
+        let own: Vec<Ipv4Addr> = session.pool_addresses(settings).into_iter().collect();
+        match random.below(10) {
+            0..=3 => None,
+            4..=5 => self.addresses.pop(),
+            6..=7 if !own.is_empty() => Some(random.pick(&own)),
+            _ => {
+                let first = u32::from(settings.first_address);
+                let last = first + (settings.addresses - 1);
+                let any = random.number() as u32;
+                let edges = [first.wrapping_sub(1), last.wrapping_add(1), any, 0, u32::MAX];
+                let address = Ipv4Addr::from(random.pick(&edges));
+                settings.address_place(address).is_none().then_some(address)
+            }
+        }
+    }
 }
 
 /// Sessions that a table with these settings can hold.
 pub fn sessions(random: &mut Random, settings: &Settings, filling: Filling) -> Sessions {
-    let mut free: Vec<u32> = settings.pool().collect();
-    random.shuffle(&mut free);
+    let mut free = Free::all(random, settings);
     let mut sessions = Sessions::new();
     let many = match filling {
         Filling::Some => random.between(1, MOST_SESSIONS),
@@ -48,12 +89,7 @@ pub fn sessions(random: &mut Random, settings: &Settings, filling: Filling) -> S
     sessions
 }
 
-fn session(
-    random: &mut Random,
-    settings: &Settings,
-    filling: Filling,
-    free: &mut Vec<u32>,
-) -> Session {
+fn session(random: &mut Random, settings: &Settings, filling: Filling, free: &mut Free) -> Session {
     let mut session = Session::default();
     let node_types = usize::from(LAST_NODE_TYPE) + 1;
     let mut many = |most| match filling {
@@ -64,11 +100,14 @@ fn session(
     while session.endpoints.len() < endpoints {
         let id = random.octet();
         if !session.endpoints.contains_key(&id) {
-            session.endpoints.insert(id, tunnel(random, settings, free));
+            let tunnel = tunnel(random, settings, free);
+            let address = free.address(random, settings, &session);
+            session.endpoints.insert(id, Endpoint { tunnel, address });
         }
     }
     for id in ids(random, pdrs) {
-        let pdr = pdr(random, settings, &session, free);
+        let mut pdr = pdr(random, settings, &session, free);
+        pdr.address = free.address(random, settings, &session);
         session.pdrs.insert(id, pdr);
     }
     while session.fq_csids.len() < fq_csids {
@@ -88,8 +127,8 @@ fn ids(random: &mut Random, many: usize) -> BTreeSet<u16> {
 }
 
 /// A tunnel with a TEID that nobody holds.
-fn tunnel(random: &mut Random, settings: &Settings, free: &mut Vec<u32>) -> Tunnel {
-    let teid = free.pop().expect("the pool has a TEID for each record");
+fn tunnel(random: &mut Random, settings: &Settings, free: &mut Free) -> Tunnel {
+    let teid = free.teids.pop().expect("the pool has a TEID for each record");
     let (v4, v6) = match settings.ipv6 {
         Some(_) => random.pick(&[(true, false), (false, true), (true, true)]),
         None => (true, false),
@@ -97,7 +136,8 @@ fn tunnel(random: &mut Random, settings: &Settings, free: &mut Vec<u32>) -> Tunn
     Tunnel { teid, families: Families { v4, v6 } }
 }
 
-fn pdr(random: &mut Random, settings: &Settings, session: &Session, free: &mut Vec<u32>) -> Pdr {
+/// A PDR without an address.
+fn pdr(random: &mut Random, settings: &Settings, session: &Session, free: &mut Free) -> Pdr {
     let precedence = any_of(random, u64::from(u32::MAX)) as u32;
     let far_id = random.percent(60).then(|| any_of(random, u64::from(u32::MAX)) as u32);
     let source_interface = random.below(16) as u8;
@@ -109,16 +149,16 @@ fn pdr(random: &mut Random, settings: &Settings, session: &Session, free: &mut V
         .cloned()
         .collect();
     match random.below(10) {
-        0..=1 => Pdr { precedence, far_id, source_interface, local: Local::Neither },
+        0..=1 => Pdr { precedence, far_id, source_interface, local: Local::Neither, address: None },
         2..=4 if !endpoints.is_empty() => {
             let local = Local::Endpoint(random.pick(&endpoints));
-            Pdr { precedence, far_id, source_interface, local }
+            Pdr { precedence, far_id, source_interface, local, address: None }
         }
         // PDRs of one session may share a TEID, with the same families and source interface.
         5..=6 if !tunnels.is_empty() => Pdr { precedence, far_id, ..random.pick(&tunnels) },
         _ => {
             let local = Local::Tunnel(tunnel(random, settings, free));
-            Pdr { precedence, far_id, source_interface, local }
+            Pdr { precedence, far_id, source_interface, local, address: None }
         }
     }
 }

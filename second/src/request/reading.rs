@@ -6,7 +6,7 @@ use std::collections::BTreeSet;
 use super::fault::{At, Fault, Place};
 use super::framing::{elements, Element, Part};
 use super::{FarChange, Header, Kind, Pdi, Record, Request};
-use crate::element::{f_seid, f_teid, fq_csid, front_u32, Bad, Refusal};
+use crate::element::{f_seid, f_teid, fq_csid, front_u32, ue_ip, Bad, Refusal};
 use crate::ie;
 
 /// Reads the body of a framed message.
@@ -166,11 +166,11 @@ fn create_pdr(message: Kind, group: &Element) -> Result<Record, Fault> {
     })
 }
 
-/// "PDI 20, 21, 131"; "Required: [..] PDI 20".
+/// "PDI 20, 21, 131", and 93 "stands last in a PDI"; "Required: [..] PDI 20".
 fn read_pdi(message: Kind, group: &Element) -> Result<Pdi, Fault> {
     let at = At::inside(message, Place::PdiOfCreatePdr, group);
     let mut once = Once::new(at);
-    let (mut source_interface, mut tunnel, mut endpoint) = (None, None, None);
+    let (mut source_interface, mut tunnel, mut endpoint, mut address) = (None, None, None, None);
     for element in elements(Part::inside(group)) {
         match element.ie_type {
             ie::SOURCE_INTERFACE => {
@@ -179,28 +179,31 @@ fn read_pdi(message: Kind, group: &Element) -> Result<Pdi, Fault> {
             }
             ie::F_TEID => tunnel = Some(once.read(&element, f_teid::read)?),
             ie::ENDPOINT_ID => endpoint = Some(once.read(&element, one_octet)?),
+            ie::UE_IP_ADDRESS => address = Some(once.read(&element, ue_ip::read)?),
             _ => {}
         }
     }
     let source_interface = source_interface.ok_or(at.missing(ie::SOURCE_INTERFACE))?;
-    Ok(Pdi { source_interface, f_teid: tunnel, endpoint })
+    Ok(Pdi { source_interface, f_teid: tunnel, endpoint, ue_ip: address })
 }
 
-/// "Create Endpoint 131, 21", both required.
+/// "Create Endpoint 131, 21", both required, and 93.
 fn create_endpoint(message: Kind, group: &Element) -> Result<Record, Fault> {
     let at = At::inside(message, Place::CreateEndpoint, group);
     let mut once = Once::new(at);
-    let (mut id, mut tunnel) = (None, None);
+    let (mut id, mut tunnel, mut address) = (None, None, None);
     for element in elements(Part::inside(group)) {
         match element.ie_type {
             ie::ENDPOINT_ID => id = Some(once.read(&element, one_octet)?),
             ie::F_TEID => tunnel = Some(once.read(&element, f_teid::read_in_endpoint)?),
+            ie::UE_IP_ADDRESS => address = Some(once.read(&element, ue_ip::read)?),
             _ => {}
         }
     }
     Ok(Record::CreateEndpoint {
         f_teid: tunnel.ok_or(at.missing(ie::F_TEID))?,
         id: id.ok_or(at.missing(ie::ENDPOINT_ID))?,
+        ue_ip: address,
     })
 }
 

@@ -4,12 +4,14 @@ use super::Header;
 use crate::element::f_seid::FSeid;
 use crate::element::f_teid::FTeid;
 use crate::element::fq_csid::FqCsid;
+use crate::element::ue_ip::UeIp;
 
 #[derive(Clone, PartialEq, Eq, Debug)]
 pub struct Pdi {
     pub source_interface: u8,
     pub f_teid: Option<FTeid>,
     pub endpoint: Option<u8>,
+    pub ue_ip: Option<UeIp>,
 }
 
 /// "An Update PDR replaces precedence or FAR ID; a FAR ID of null length takes it away."
@@ -31,6 +33,7 @@ pub enum Record {
     CreateEndpoint {
         id: u8,
         f_teid: FTeid,
+        ue_ip: Option<UeIp>,
     },
     /// `with_pdi`: a PDI stands in it; its members are not read.
     UpdatePdr {
@@ -71,5 +74,19 @@ impl Request {
             Record::CreateEndpoint { f_teid, .. } => Some((f_teid, None)),
             _ => None,
         })
+    }
+
+    /// The UE IP Addresses of the request in request order, and whether each stands in a PDI.
+    pub fn ue_ips(&self) -> impl Iterator<Item = (UeIp, bool)> + '_ {
+        self.records.iter().filter_map(|record| match record {
+            Record::CreatePdr { pdi, .. } => pdi.ue_ip.map(|ue_ip| (ue_ip, true)),
+            Record::CreateEndpoint { ue_ip, .. } => ue_ip.map(|ue_ip| (ue_ip, false)),
+            _ => None,
+        })
+    }
+
+    /// Whether some record has the unit choose its address.
+    pub fn chooses_address(&self) -> bool {
+        self.ue_ips().any(|(ue_ip, _)| ue_ip == UeIp::Choose)
     }
 }

@@ -12,8 +12,8 @@
 //! and the records
 //!
 //! ```text
-//! create-pdr id=N precedence=N source=N f-teid=TUNNEL endpoint=N far=N
-//! create-endpoint id=N f-teid=TUNNEL
+//! create-pdr id=N precedence=N source=N f-teid=TUNNEL endpoint=N address=PATIENT far=N
+//! create-endpoint id=N f-teid=TUNNEL address=PATIENT
 //! update-pdr id=N precedence=N far=N pdi=0
 //! remove-pdr id=N
 //! remove-endpoint id=N
@@ -26,13 +26,14 @@
 //! N is a decimal number; SEID is 16 and ADDR 8 or 32 hexadecimal digits in upper case. A value
 //! that is absent is `-`; a FAR ID that an update takes away is `none`; a 1 stands for yes. TUNNEL
 //! is `given:N:ADDR:ADDR` (TEID, IPv4, IPv6) or `choose:FAMILIES:N` (CHOOSE ID), with FAMILIES one
-//! of `4`, `6`, `46`. NODE is `0:ADDR`, `1:ADDR` or `2:N:N` (MCC x 1000 + MNC, operator's number).
+//! of `4`, `6`, `46`. PATIENT is an ADDR of 8 digits, `choose`, or `other` for one that is not served. NODE is `0:ADDR`, `1:ADDR` or `2:N:N` (MCC x 1000 + MNC, operator's number).
 
 use std::fmt::Write;
 
 use super::{FarChange, Kind, Record, Request};
 use crate::element::f_teid::FTeid;
 use crate::element::fq_csid::NodeId;
+use crate::element::ue_ip::UeIp;
 
 pub fn render(request: &Request) -> String {
     let mut line = String::new();
@@ -63,11 +64,14 @@ fn render_record(record: &Record) -> String {
         Record::CreatePdr { id, precedence, pdi, far_id } => {
             let tunnel = pdi.f_teid.as_ref().map_or("-".to_string(), render_tunnel);
             let (source, far) = (pdi.source_interface, optional(*far_id));
-            let local = format!("f-teid={tunnel} endpoint={}", optional(pdi.endpoint));
+            let address = render_ue_ip(pdi.ue_ip);
+            let local =
+                format!("f-teid={tunnel} endpoint={} address={address}", optional(pdi.endpoint));
             format!("create-pdr id={id} precedence={precedence} source={source} {local} far={far}")
         }
-        Record::CreateEndpoint { id, f_teid } => {
-            format!("create-endpoint id={id} f-teid={}", render_tunnel(f_teid))
+        Record::CreateEndpoint { id, f_teid, ue_ip } => {
+            let (tunnel, address) = (render_tunnel(f_teid), render_ue_ip(*ue_ip));
+            format!("create-endpoint id={id} f-teid={tunnel} address={address}")
         }
         Record::UpdatePdr { id, precedence, far, with_pdi } => {
             let far = match far {
@@ -112,6 +116,15 @@ fn render_tunnel(f_teid: &FTeid) -> String {
             let v6 = if families.v6 { "6" } else { "" };
             format!("choose:{v4}{v6}:{}", optional(*choose_id))
         }
+    }
+}
+
+fn render_ue_ip(ue_ip: Option<UeIp>) -> String {
+    match ue_ip {
+        None => "-".to_string(),
+        Some(UeIp::Given(address)) => hexadecimal(&address.octets()),
+        Some(UeIp::Choose) => "choose".to_string(),
+        Some(UeIp::NotServed) => "other".to_string(),
     }
 }
 

@@ -1,9 +1,12 @@
 //! "Removals come first, then endpoints, PDRs, updates, FQ-CSIDs." Only for an accepted request.
 
+use std::net::Ipv4Addr;
+
 use super::grants::{self, Grant, Owner};
 use crate::element::f_teid::FTeid;
+use crate::element::ue_ip::UeIp;
 use crate::request::{FarChange, Kind, Record, Request};
-use crate::session::{HeldCsid, Local, Pdr, Session, Sessions, Tunnel};
+use crate::session::{Endpoint, HeldCsid, Local, Pdr, Session, Sessions, Tunnel};
 
 pub fn apply(sessions: &mut Sessions, request: &Request, grants: &[Grant]) {
     let seid = match (&request.f_seid, request.header.kind) {
@@ -51,14 +54,29 @@ fn remove(session: &mut Session, request: &Request) {
 fn tunnel(f_teid: &FTeid, grants: &[Grant], owner: Owner) -> Tunnel {
     let teid = match f_teid {
         FTeid::Given { teid, .. } => *teid,
-        FTeid::Choose { .. } => grants::of(grants, owner).expect("every CHOOSE has a grant"),
+        FTeid::Choose { .. } => {
+            let grant = grants::of(grants, owner).expect("every CHOOSE has a grant");
+            grant.teid.expect("every CHOOSE of a TEID has one")
+        }
     };
     Tunnel { teid, families: f_teid.families() }
 }
 
+/// The address of a record: none, the request's own, or the granted one.
+fn address(ue_ip: &Option<UeIp>, grants: &[Grant], owner: Owner) -> Option<Ipv4Addr> {
+    match ue_ip {
+        Some(UeIp::Given(address)) => Some(*address),
+        Some(UeIp::Choose) => grants::of(grants, owner).and_then(|grant| grant.address),
+        Some(UeIp::NotServed) | None => None,
+    }
+}
+
 fn create_endpoint(session: &mut Session, record: &Record, grants: &[Grant]) {
-    if let Record::CreateEndpoint { id, f_teid } = record {
-        session.endpoints.insert(*id, tunnel(f_teid, grants, Owner::Endpoint(*id)));
+    if let Record::CreateEndpoint { id, f_teid, ue_ip } = record {
+        let owner = Owner::Endpoint(*id);
+        let tunnel = tunnel(f_teid, grants, owner);
+        let address = address(ue_ip, grants, owner);
+        session.endpoints.insert(*id, Endpoint { tunnel, address });
     }
 }
 
@@ -74,6 +92,7 @@ fn create_pdr(session: &mut Session, record: &Record, grants: &[Grant]) {
             far_id: *far_id,
             source_interface: pdi.source_interface,
             local,
+            address: address(&pdi.ue_ip, grants, Owner::Pdr(*id)),
         };
         session.pdrs.insert(*id, pdr);
     }

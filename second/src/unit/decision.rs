@@ -1,6 +1,6 @@
 //! What a unit decides about a message, and why.
 
-use super::limits::Limit;
+use super::limits::{Limit, NoAddress};
 use super::rules::{Allocation, Rule, Unsupported};
 use super::Grant;
 use crate::request::{Fault, Header, Request};
@@ -31,6 +31,7 @@ pub enum Reason {
     Unsupported(Unsupported),
     Rule(Rule),
     Limit(Limit),
+    NoAddress(NoAddress),
 }
 
 impl Reason {
@@ -43,6 +44,7 @@ impl Reason {
             Reason::Unsupported(_) => 76,
             Reason::Rule(_) => 73,
             Reason::Limit(_) => 75,
+            Reason::NoAddress(_) => 79,
         }
     }
 }

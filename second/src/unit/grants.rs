@@ -1,11 +1,13 @@
-//! The TEIDs that a request is granted: "a list of at most 24 entries, pairing a record's kind and
-//! ID with its TEID, from which the reply is written".
+//! What a request is granted: "a list of at most 24 entries, pairing a record's kind and ID with its
+//! TEID, from which the reply is written", with the address where one was chosen.
 
 use std::collections::{BTreeMap, BTreeSet};
+use std::net::Ipv4Addr;
 
 use crate::element::f_teid::FTeid;
+use crate::element::ue_ip::UeIp;
 use crate::request::{Record, Request};
-use crate::session::{distinct_teids, Sessions};
+use crate::session::{distinct_teids, taken_addresses, Sessions};
 use crate::settings::Settings;
 
 /// A record's kind and ID.
@@ -18,7 +20,8 @@ pub enum Owner {
 #[derive(Clone, Copy, PartialEq, Eq, Debug)]
 pub struct Grant {
     pub owner: Owner,
-    pub teid: u32,
+    pub teid: Option<u32>,
+    pub address: Option<Ipv4Addr>,
 }
 
 /// How many TEIDs the request needs: "Each CHOOSE without an ID takes a TEID of its own; CHOOSE IDs
@@ -39,32 +42,47 @@ pub fn needed(request: &Request) -> usize {
 }
 
 /// "TEIDs are the lowest free at entry, to endpoints in request order and then to PDRs at first
-/// use." Only for a request that stage 5 has let pass.
+/// use." "All CHOOSE IPV4 flags in one request share one address, the lowest free at entry." Only
+/// for a request that has passed all stages.
 pub fn allot(settings: &Settings, sessions: &Sessions, request: &Request) -> Vec<Grant> {
     let taken = distinct_teids(sessions);
     let mut free = settings.pool().filter(|teid| !taken.contains(teid));
     let mut lowest = || free.next().expect("stage 5 has counted the free TEIDs");
+    let shared_address = lowest_address(settings, sessions);
+    let address = |ue_ip: &Option<UeIp>| match ue_ip {
+        Some(UeIp::Choose) => Some(shared_address.expect("79 has asked for a free address")),
+        _ => None,
+    };
     let mut grants = Vec::new();
     for record in &request.records {
-        if let Record::CreateEndpoint { id, f_teid: FTeid::Choose { .. } } = record {
-            grants.push(Grant { owner: Owner::Endpoint(*id), teid: lowest() });
+        if let Record::CreateEndpoint { id, f_teid, ue_ip } = record {
+            let teid = matches!(f_teid, FTeid::Choose { .. }).then(&mut lowest);
+            grants.push(Grant { owner: Owner::Endpoint(*id), teid, address: address(ue_ip) });
         }
     }
     // The shared ones live for this request only.
     let mut shared: BTreeMap<u8, u32> = BTreeMap::new();
     for record in &request.records {
         let Record::CreatePdr { id, pdi, .. } = record else { continue };
-        let Some(FTeid::Choose { choose_id, .. }) = &pdi.f_teid else { continue };
-        let teid = match choose_id {
-            None => lowest(),
-            Some(choose_id) => *shared.entry(*choose_id).or_insert_with(&mut lowest),
+        let teid = match &pdi.f_teid {
+            Some(FTeid::Choose { choose_id: None, .. }) => Some(lowest()),
+            Some(FTeid::Choose { choose_id: Some(choose_id), .. }) => {
+                Some(*shared.entry(*choose_id).or_insert_with(&mut lowest))
+            }
+            _ => None,
         };
-        grants.push(Grant { owner: Owner::Pdr(*id), teid });
+        grants.push(Grant { owner: Owner::Pdr(*id), teid, address: address(&pdi.ue_ip) });
     }
+    grants.retain(|grant| grant.teid.is_some() || grant.address.is_some());
     grants
 }
 
-/// The TEID granted to a record.
-pub fn of(grants: &[Grant], owner: Owner) -> Option<u32> {
-    grants.iter().find(|grant| grant.owner == owner).map(|grant| grant.teid)
+fn lowest_address(settings: &Settings, sessions: &Sessions) -> Option<Ipv4Addr> {
+    let taken = taken_addresses(settings, sessions);
+    settings.address_pool().find(|address| !taken.contains(address))
+}
+
+/// What was granted to a record.
+pub fn of(grants: &[Grant], owner: Owner) -> Option<Grant> {
+    grants.iter().find(|grant| grant.owner == owner).copied()
 }

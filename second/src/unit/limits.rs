@@ -1,11 +1,11 @@
 //! Stage 5, cause 75: "more than 64 sessions, 16 PDRs or 8 endpoints would result, or more TEIDs
-//! are needed than are free at entry".
+//! are needed than are free at entry"; then cause 79: "A CHOOSE with no free address".
 
 use std::collections::BTreeSet;
 
 use super::{grants, Reason};
 use crate::request::{Kind, Record, Request};
-use crate::session::{distinct_teids, Session, Sessions};
+use crate::session::{distinct_teids, taken_addresses, Session, Sessions};
 use crate::session::{MOST_ENDPOINTS, MOST_PDRS, MOST_SESSIONS};
 use crate::settings::Settings;
 
@@ -21,6 +21,14 @@ pub enum Limit {
     /// There would be enough if the request's own removals freed their TEIDs at once: "A TEID freed
     /// by a request is free from the next call on (H)."
     TeidsButForRemovals,
+}
+
+/// 79, and whether the request's own removals would leave an address free, which they do "from the
+/// call after the last holder goes".
+#[derive(Clone, Copy, PartialEq, Eq, PartialOrd, Ord, Debug)]
+pub enum NoAddress {
+    AtAll,
+    ButForRemovals,
 }
 
 pub fn passed(settings: &Settings, sessions: &Sessions, request: &Request) -> Vec<Reason> {
@@ -79,4 +87,31 @@ fn freed_by_removals(own: &Session, pdrs: &BTreeSet<u16>, endpoints: &BTreeSet<u
     after.endpoints.retain(|id, _| endpoints.contains(id));
     let after: BTreeSet<u32> = after.teids().collect();
     before.len() - after.len()
+}
+
+/// Cause 79. All CHOOSE flags of a request share one address, so one that is free is enough.
+pub fn no_address(settings: &Settings, sessions: &Sessions, request: &Request) -> Option<Reason> {
+    let taken = taken_addresses(settings, sessions);
+    if request.restoration
+        || !request.chooses_address()
+        || taken.len() < settings.addresses as usize
+    {
+        return None;
+    }
+    let nothing = Session::default();
+    let own = match request.header.kind {
+        Kind::Modification => sessions.get(&request.header.seid).unwrap_or(&nothing),
+        _ => &nothing,
+    };
+    let mut after = own.clone();
+    let removed = own.removed_by(request);
+    after.pdrs.retain(|id, _| !removed.contains(id));
+    for record in &request.records {
+        if let Record::RemoveEndpoint { id } = record {
+            after.endpoints.remove(id);
+        }
+    }
+    // A pool address is held by one session only.
+    let freed = own.pool_addresses(settings).len() > after.pool_addresses(settings).len();
+    Some(Reason::NoAddress(if freed { NoAddress::ButForRemovals } else { NoAddress::AtAll }))
 }

@@ -9,7 +9,7 @@ pub mod rules;
 
 use crate::ie::LEAST_REPLY_SPACE;
 use crate::request;
-use crate::session::{distinct_teids, Sessions};
+use crate::session::{distinct_teids, taken_addresses, Sessions};
 use crate::settings::Settings;
 pub use decision::{Decision, Reason, Refused};
 pub use grants::{Grant, Owner};
@@ -60,6 +60,21 @@ impl Unit {
         words
     }
 
+    /// How many addresses of the pool no record holds.
+    pub fn free_addresses(&self) -> u32 {
+        self.settings.addresses - taken_addresses(&self.settings, &self.sessions).len() as u32
+    }
+
+    /// The taken addresses, as the TEIDs': word k, bit i is the address first + 64 k + i.
+    pub fn address_map(&self) -> [u64; 16] {
+        let mut words = [0; 16];
+        for address in taken_addresses(&self.settings, &self.sessions) {
+            let place = self.settings.address_place(address).expect("it lies in the pool") as usize;
+            words[place / 64] |= 1 << (place % 64);
+        }
+        words
+    }
+
     /// What the rules say about a message, without doing it.
     pub fn decide(&self, message: &[u8], reply_space: usize) -> Decision {
         if reply_space < LEAST_REPLY_SPACE {
@@ -85,6 +100,8 @@ impl Unit {
         // Stages 4 and 5, in the order of the causes table.
         reasons.extend(rules::broken(&self.settings, &self.sessions, &request));
         reasons.extend(limits::passed(&self.settings, &self.sessions, &request));
+        // "tested after 75"
+        reasons.extend(limits::no_address(&self.settings, &self.sessions, &request));
         if !reasons.is_empty() {
             return refused(reasons);
         }

@@ -1,12 +1,13 @@
 //! The reply: "header [..], Node ID 60 (establishment only, IPv4, type octet 0), Cause 19,
 //! Offending IE, then on acceptance F-SEID [..], a Created PDR 8 for each CHOOSE, then a Created
 //! Traffic Endpoint 128 likewise, each kind in request order". To a set deletion "Node ID, Cause,
-//! Offending IE", behind a header without SEID.
+//! Offending IE", behind a header without SEID. "A record's one Created group lists what was chosen".
 
 use super::grants::{self, Grant, Owner};
 use super::Refused;
 use crate::element::f_seid::{self, FSeid};
 use crate::element::f_teid::{self, FTeid};
+use crate::element::ue_ip::{self, UeIp};
 use crate::ie;
 use crate::request::{Header, Kind, Record, Request};
 use crate::session::Families;
@@ -42,22 +43,18 @@ pub fn acceptance(settings: &Settings, request: &Request, grants: &[Grant]) -> V
         body.extend(element(ie::F_SEID, &space[..length]));
     }
     for record in &request.records {
-        if let Record::CreatePdr { id, pdi, .. } = record {
-            if let Some(FTeid::Choose { families, .. }) = &pdi.f_teid {
-                let teid = grants::of(grants, Owner::Pdr(*id)).expect("every CHOOSE has a grant");
-                let mut group = element(ie::PDR_ID, &id.to_be_bytes());
-                group.extend(granted(settings, teid, *families));
-                body.extend(element(ie::CREATED_PDR, &group));
-            }
-        }
+        let Record::CreatePdr { id, pdi, .. } = record else { continue };
+        let Some(grant) = grants::of(grants, Owner::Pdr(*id)) else { continue };
+        let mut group = element(ie::PDR_ID, &id.to_be_bytes());
+        group.extend(granted(settings, &grant, pdi.f_teid.as_ref()));
+        body.extend(element(ie::CREATED_PDR, &group));
     }
     for record in &request.records {
-        if let Record::CreateEndpoint { id, f_teid: FTeid::Choose { families, .. } } = record {
-            let teid = grants::of(grants, Owner::Endpoint(*id)).expect("every CHOOSE has a grant");
-            let mut group = element(ie::ENDPOINT_ID, &[*id]);
-            group.extend(granted(settings, teid, *families));
-            body.extend(element(ie::CREATED_ENDPOINT, &group));
-        }
+        let Record::CreateEndpoint { id, f_teid, .. } = record else { continue };
+        let Some(grant) = grants::of(grants, Owner::Endpoint(*id)) else { continue };
+        let mut group = element(ie::ENDPOINT_ID, &[*id]);
+        group.extend(granted(settings, &grant, Some(f_teid)));
+        body.extend(element(ie::CREATED_ENDPOINT, &group));
     }
     with_header(header, seid, &body)
 }
@@ -74,8 +71,23 @@ fn front(settings: &Settings, kind: Kind, cause: u8) -> Vec<u8> {
     body
 }
 
+/// What was chosen for a record: the F-TEID of the families that were asked for, and last the
+/// address.
+fn granted(settings: &Settings, grant: &Grant, asked: Option<&FTeid>) -> Vec<u8> {
+    let mut elements = Vec::new();
+    if let (Some(teid), Some(asked)) = (grant.teid, asked) {
+        elements.extend(granted_tunnel(settings, teid, asked.families()));
+    }
+    if let Some(address) = grant.address {
+        let mut space = [0; 5];
+        let length = ue_ip::write(&UeIp::Given(address), &mut space).expect("there is room");
+        elements.extend(element(ie::UE_IP_ADDRESS, &space[..length]));
+    }
+    elements
+}
+
 /// "the F-TEID with the unit's addresses"
-fn granted(settings: &Settings, teid: u32, families: Families) -> Vec<u8> {
+fn granted_tunnel(settings: &Settings, teid: u32, families: Families) -> Vec<u8> {
     let f_teid = FTeid::Given {
         teid,
         ipv4: families.v4.then_some(settings.ipv4),

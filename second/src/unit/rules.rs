@@ -5,8 +5,9 @@ use std::collections::{BTreeMap, BTreeSet};
 
 use super::Reason;
 use crate::element::f_teid::FTeid;
+use crate::element::ue_ip::UeIp;
 use crate::request::{Kind, Pdi, Record, Request};
-use crate::session::{distinct_teids, Families, Session, Sessions};
+use crate::session::{distinct_teids, taken_addresses, Families, Session, Sessions};
 use crate::settings::Settings;
 
 /// 71: "F-TEID without CH outside restoration, or with CH inside it".
@@ -18,11 +19,14 @@ pub enum Allocation {
     EndpointChooseInRestoration,
 }
 
-/// 76: "PDI in Update PDR [..], or element 129 (not opened) in a modification".
+/// 76: "PDI in Update PDR [..], or element 129 (not opened) in a modification", and "V6, CHV6, IPv6D
+/// or IP6PL" in a UE IP Address.
 #[derive(Clone, Copy, PartialEq, Eq, PartialOrd, Ord, Debug)]
 pub enum Unsupported {
     PdiInUpdatePdr,
     UpdateEndpoint,
+    AddressOfPdr,
+    AddressOfEndpoint,
 }
 
 /// 73: every clause of its sentence by name.
@@ -71,6 +75,16 @@ pub enum Rule {
     SharedByEndpointAndPdr,
     SharedWithOtherFamilies,
     SharedWithOtherSourceInterface,
+    // "The control plane may give addresses outside our pool; one inside it is 73 unless restoring";
+    // also where the session holds it
+    PdrAddressInsidePool,
+    EndpointAddressInsidePool,
+    OwnAddressInsidePool,
+    // "a restored pool address held by another session is 73"
+    RestoredAddressOfAnotherSession,
+    // "CHOOSE inside one is 73"
+    PdrAddressChooseInRestoration,
+    EndpointAddressChooseInRestoration,
 }
 
 /// Every reason of stage 4 that holds for a request.
@@ -105,13 +119,19 @@ fn allocations(request: &Request) -> BTreeSet<Allocation> {
     found
 }
 
+/// Every element of the request is looked at; an establishment has only addresses among them.
 fn unsupported(request: &Request) -> BTreeSet<Unsupported> {
     let of = |record: &Record| match record {
         Record::UpdatePdr { with_pdi: true, .. } => Some(Unsupported::PdiInUpdatePdr),
         Record::UpdateEndpoint => Some(Unsupported::UpdateEndpoint),
         _ => None,
     };
-    request.records.iter().filter_map(of).collect()
+    let addresses = request.ue_ips().filter(|(ue_ip, _)| *ue_ip == UeIp::NotServed);
+    let of_address = |(_, of_pdr)| match of_pdr {
+        true => Unsupported::AddressOfPdr,
+        false => Unsupported::AddressOfEndpoint,
+    };
+    request.records.iter().filter_map(of).chain(addresses.map(of_address)).collect()
 }
 
 /// The IDs that a request names, by verb, in request order.
@@ -159,6 +179,10 @@ fn conflicts(settings: &Settings, sessions: &Sessions, request: &Request) -> BTr
     found.extend(names_of_endpoints(own, &named, request));
     found.extend(choose_ids(request));
     found.extend(families(settings, request));
+    found.extend(match request.restoration {
+        true => restored_addresses(settings, sessions, request),
+        false => given_addresses(settings, own, request),
+    });
     if request.restoration {
         found.extend(restored(settings, sessions, request));
     }
@@ -261,6 +285,39 @@ fn families(settings: &Settings, request: &Request) -> Vec<Rule> {
             None => Rule::EndpointFamilyLacking,
         })
         .collect()
+}
+
+/// The addresses that the control plane gives, outside a restoration.
+fn given_addresses(settings: &Settings, own: &Session, request: &Request) -> Vec<Rule> {
+    let mut found = Vec::new();
+    for (ue_ip, of_pdr) in request.ue_ips() {
+        let UeIp::Given(address) = ue_ip else { continue };
+        if settings.address_place(address).is_some() {
+            found.push(match (own.addresses().any(|held| held == address), of_pdr) {
+                (true, _) => Rule::OwnAddressInsidePool,
+                (false, true) => Rule::PdrAddressInsidePool,
+                (false, false) => Rule::EndpointAddressInsidePool,
+            });
+        }
+    }
+    found
+}
+
+/// The addresses that a restoration carries. One outside the pool may be anyone's.
+fn restored_addresses(settings: &Settings, sessions: &Sessions, request: &Request) -> Vec<Rule> {
+    let elsewhere = taken_addresses(settings, sessions);
+    let mut found = Vec::new();
+    for (ue_ip, of_pdr) in request.ue_ips() {
+        match ue_ip {
+            UeIp::Given(address) if elsewhere.contains(&address) => {
+                found.push(Rule::RestoredAddressOfAnotherSession);
+            }
+            UeIp::Choose if of_pdr => found.push(Rule::PdrAddressChooseInRestoration),
+            UeIp::Choose => found.push(Rule::EndpointAddressChooseInRestoration),
+            _ => {}
+        }
+    }
+    found
 }
 
 /// The F-TEIDs that a restoration carries.

@@ -1,6 +1,9 @@
 //! Messages written out by hand for the tests.
 #![allow(dead_code)]
 
+use std::net::Ipv4Addr;
+
+use second::ie::LEAST_REPLY_SPACE;
 use second::session::Sessions;
 use second::settings::Settings;
 use second::unit::{Outcome, Unit};
@@ -169,17 +172,35 @@ pub fn choose_id(id: u8) -> Vec<u8> {
     ie(21, &[0x0D, id])
 }
 
+/// The first address of the units' pool.
+pub const POOL: Ipv4Addr = Ipv4Addr::new(10, 45, 0, 0);
+
 pub fn unit(first: u32, size: u32) -> Unit {
-    Unit::new(Settings::make(IPV4, &[], first, size).unwrap()).unwrap()
+    unit_with_addresses((first, size), 4)
+}
+
+/// A unit whose pool has so many addresses.
+pub fn unit_with_addresses(teids: (u32, u32), addresses: u32) -> Unit {
+    Unit::new(Settings::make(IPV4, &[], teids, (POOL, addresses)).unwrap()).unwrap()
 }
 
 pub fn dual_unit(first: u32, size: u32) -> Unit {
-    Unit::new(Settings::make(IPV4, &IPV6, first, size).unwrap()).unwrap()
+    Unit::new(Settings::make(IPV4, &IPV6, (first, size), (POOL, 4)).unwrap()).unwrap()
 }
 
-/// A call with a reply space of 1,024 octets; the outcome must be 0.
+/// The value of a UE IP Address that is given.
+pub fn given_address(address: Ipv4Addr) -> Vec<u8> {
+    [vec![2], address.octets().to_vec()].concat()
+}
+
+/// A UE IP Address that the unit is to choose.
+pub fn choose_address() -> Vec<u8> {
+    ie(93, &[0x10])
+}
+
+/// A call with the least reply space; the outcome must be 0.
 pub fn reply(unit: &mut Unit, message: &[u8]) -> Vec<u8> {
-    let mut space = vec![0xEE; 1024];
+    let mut space = vec![0xEE; LEAST_REPLY_SPACE];
     let Outcome { number, reply_length, .. } = unit.request(message, &mut space);
     assert_eq!(number, 0, "outcome");
     assert!(space[reply_length..].iter().all(|octet| *octet == 0xEE), "space after the reply");

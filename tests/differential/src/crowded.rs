@@ -75,11 +75,13 @@ pub fn first(seid: u64) -> Vec<u8> {
 
 /// The messages, for a session that lives and one that does not.
 pub fn messages(live: u64, new: u64) -> Vec<Vec<u8>> {
-    let kinds: [fn(u16) -> Vec<u8>; 14] = [
+    let kinds: [fn(u16) -> Vec<u8>; 16] = [
         |id| create_pdr(id, &[]),
         |id| create_pdr(id, &element(21, &[5])),
         |id| create_pdr(id, &element(21, &[13, id as u8])),
         |id| create_pdr(id, &element(131, &[0])),
+        |id| create_pdr(id, &element(93, &[16])),
+        |id| create_pdr(id, &element(93, &[2, 203, 0, 113, id as u8])),
         create_endpoint,
         |id| element(15, &element(56, &id.to_be_bytes())),
         |id| element(130, &element(131, &[id as u8])),

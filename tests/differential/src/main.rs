@@ -21,8 +21,11 @@ extern "C" {
         ipv6_len: usize,
         first_teid: u32,
         pool_size: u32,
+        first_address: u32,
+        address_count: u32,
     ) -> u32;
     fn pfcp_free_count(table: *const u8, table_len: usize, count: *mut u32) -> u32;
+    fn pfcp_free_addresses(table: *const u8, table_len: usize, count: *mut u32) -> u32;
     fn pfcp_request(
         table: *mut u8,
         table_len: usize,
@@ -79,6 +82,7 @@ fn compare(seed: u64, calls: usize) -> bool {
         table_length: pfcp_table_length,
         make_table: pfcp_make_table,
         free_count: pfcp_free_count,
+        free_addresses: pfcp_free_addresses,
         request: pfcp_request,
         write_restoration: WRITE_RESTORATION,
         reading: READING,

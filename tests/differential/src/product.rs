@@ -1,7 +1,12 @@
 //! The calls of a product. Empty slices are passed as null.
 
+use std::net::Ipv4Addr;
+
 pub type TableLength = unsafe extern "C" fn() -> usize;
-pub type MakeTable = unsafe extern "C" fn(*mut u8, usize, u32, *const u8, usize, u32, u32) -> u32;
+#[rustfmt::skip]
+pub type MakeTable = unsafe extern "C" fn(
+    *mut u8, usize, u32, *const u8, usize, u32, u32, u32, u32,
+) -> u32;
 pub type FreeCount = unsafe extern "C" fn(*const u8, usize, *mut u32) -> u32;
 pub type Request = unsafe extern "C" fn(
     *mut u8,
@@ -57,6 +62,7 @@ pub struct Product {
     pub table_length: TableLength,
     pub make_table: MakeTable,
     pub free_count: FreeCount,
+    pub free_addresses: FreeCount,
     pub request: Request,
     /// Nothing where the product has no such call.
     pub write_restoration: Option<WriteRestoration>,
@@ -74,14 +80,29 @@ impl Product {
         table: &mut [u8],
         ipv4: [u8; 4],
         ipv6: &[u8],
-        first: u32,
-        size: u32,
+        (first, size): (u32, u32),
+        (first_address, addresses): (Ipv4Addr, u32),
     ) -> u32 {
-        let (pointer, length) = (pointer_mut(table), table.len());
-        let ipv4 = u32::from_be_bytes(ipv4);
         unsafe {
-            (self.make_table)(pointer, length, ipv4, self::pointer(ipv6), ipv6.len(), first, size)
+            (self.make_table)(
+                pointer_mut(table),
+                table.len(),
+                u32::from_be_bytes(ipv4),
+                pointer(ipv6),
+                ipv6.len(),
+                first,
+                size,
+                first_address.into(),
+                addresses,
+            )
         }
+    }
+
+    /// The outcome and the number of free addresses.
+    pub fn free_addresses(&self, table: &[u8]) -> (u32, u32) {
+        let mut count = 0xA5A5_A5A5;
+        let outcome = unsafe { (self.free_addresses)(pointer(table), table.len(), &mut count) };
+        (outcome, count)
     }
 
     /// The outcome and the count.

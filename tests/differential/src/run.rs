@@ -1,16 +1,18 @@
 //! The comparison: generated sequences of calls, restorations, and damaged tables.
 
 use std::collections::{BTreeMap, BTreeSet};
+use std::net::Ipv4Addr;
 
 use second::coverage::Coverage;
 use second::element::fq_csid::NodeId;
 use second::generate::largest;
 use second::generate::random::Random;
 use second::generate::{Call, Flavour, Generator};
+use second::ie::LEAST_REPLY_SPACE;
 use second::layout::{self, TABLE};
 use second::live::LiveSet;
 use second::restoration::{self, Envelope};
-use second::session::Sessions;
+use second::session::{distinct_teids, taken_addresses, Sessions};
 use second::settings::Settings;
 use second::unit::{Decision, Unit};
 
@@ -225,8 +227,8 @@ impl Run<'_> {
             table.lend(),
             settings.ipv4,
             ipv6,
-            settings.first,
-            settings.size,
+            (settings.first, settings.size),
+            (settings.first_address, settings.addresses),
         );
         let right = made == 0
             && table.guards_hold()
@@ -238,6 +240,11 @@ impl Run<'_> {
         let table = self.empty_table(settings)?;
         let unit = Unit::new(settings.clone()).expect("settings that are allowed");
         Some(State { unit, live: LiveSet::new(), table })
+    }
+
+    /// The product's answers to both free counts: TEIDs and addresses.
+    fn free(&self, table: &[u8]) -> [(u32, u32); 2] {
+        [self.product.free_count(table), self.product.free_addresses(table)]
     }
 
     fn ask(&mut self, table: &mut Lent, message: &[u8], space: usize) -> Answer {
@@ -254,7 +261,9 @@ impl Run<'_> {
         let before = state.unit.sessions().clone();
         let table_before = state.table.content().to_vec();
         let decision = state.unit.decide(&call.message, call.reply_space);
-        self.report.coverage.decided(&call.message, call.reply_space, &decision, &before);
+        let settings = state.unit.settings().clone();
+        let coverage = &mut self.report.coverage;
+        coverage.decided(&call.message, call.reply_space, &decision, &settings, &before);
         let mut expected = vec![FILLING; call.reply_space];
         let outcome = state.unit.request(&call.message, &mut expected);
         expected.truncate(outcome.reply_length);
@@ -296,7 +305,10 @@ impl Run<'_> {
         same &= report.check(followed.is_ok(), || what(&format!("live set: {followed:?}")));
         same &= report.check(state.live.sessions == *sessions, || what("another live set, "));
         let free = self.product.free_count(table);
-        report.check(free == (0, state.unit.free_count()), || what("another free count")) && same
+        same &= report.check(free == (0, state.unit.free_count()), || what("another free count"));
+        let free = self.product.free_addresses(table);
+        let right = free == (0, state.unit.free_addresses());
+        report.check(right, || what("other free addresses")) && same
     }
 
     /// A damaged copy of the table: outcome 1 exactly where it is broken, and the answer of a unit
@@ -309,7 +321,7 @@ impl Run<'_> {
             }
         }
         let mut table = Lent::new(&content);
-        let free = self.product.free_count(table.content());
+        let free = self.free(table.content());
         let answer = self.ask(&mut table, &call.message, call.reply_space);
         self.report.damaged += 1;
         match layout::sound(&content) {
@@ -317,7 +329,7 @@ impl Run<'_> {
                 self.broken(&reason);
                 let report = &mut self.report;
                 let right =
-                    free == (1, 0) && (answer.outcome, answer.used, answer.place) == (1, 0, 0);
+                    free == BROKEN && (answer.outcome, answer.used, answer.place) == (1, 0, 0);
                 report.check(right, || format!("outcome {} for {reason}", answer.outcome));
                 let unchanged = table.content() == content && table.guards_hold();
                 report.check(unchanged, || format!("a table with {reason} was changed"));
@@ -330,12 +342,12 @@ impl Run<'_> {
                 self.written_requests(&settings, &sessions);
                 self.found_places(&settings, &sessions);
                 let Some(mut unit) = self.unit_with(&settings, &sessions) else { return };
-                let count = unit.free_count();
+                let counts = free_of(&unit);
                 let mut expected = vec![FILLING; call.reply_space];
                 let outcome = unit.request(&call.message, &mut expected);
                 expected.truncate(outcome.reply_length);
                 let report = &mut self.report;
-                report.check(free == (0, count), || "the free count of a changed table".into());
+                report.check(free == counts, || "the free counts of a changed table".into());
                 let same = answer.outcome == u32::from(outcome.number)
                     && answer.place == outcome.place
                     && answer.reply() == expected
@@ -363,7 +375,7 @@ impl Run<'_> {
             let envelope =
                 Envelope { header_seid: 0, sequence: 0, ipv4: Some([127, 0, 0, 1]), ipv6: None };
             let message = restoration::request(settings, *seid, session, &envelope)?;
-            unit.request(&message, &mut [0; 1024]);
+            unit.request(&message, &mut [0; LEAST_REPLY_SPACE]);
         }
         let same = unit.sessions() == sessions;
         self.report.check(same, || "a sound table that cannot be restored".into());
@@ -381,19 +393,20 @@ impl Run<'_> {
             };
             table.lend()[at] ^= flip;
             self.report.damaged += 1;
-            let (outcome, count) = self.product.free_count(table.content());
+            let free = self.free(table.content());
             let right = match layout::sound(table.content()) {
                 Err(reason) => {
                     self.broken(&reason);
-                    (outcome, count) == (1, 0)
+                    free == BROKEN
                 }
                 Ok((settings, sessions)) => {
                     self.report.still_sound += 1;
-                    let taken = second::session::distinct_teids(&sessions).len() as u32;
-                    (outcome, count) == (0, settings.size - taken)
+                    let taken = distinct_teids(&sessions).len() as u32;
+                    let taken_addresses = taken_addresses(&settings, &sessions).len() as u32;
+                    free == [(0, settings.size - taken), (0, settings.addresses - taken_addresses)]
                 }
             };
-            self.report.check(right, || format!("octet {at} changed by {flip:02X}: {outcome}"));
+            self.report.check(right, || format!("octet {at} changed by {flip:02X}: {free:?}"));
             table.lend()[at] ^= flip;
         }
         let guarded = table.guards_hold();
@@ -408,7 +421,7 @@ impl Run<'_> {
         self.random.shuffle(&mut seids);
         for seid in seids {
             let envelope = Envelope::any(&mut self.random, seid);
-            let space = self.random.pick(&[1024, 1025, 3000]);
+            let space = self.random.pick(&[LEAST_REPLY_SPACE, LEAST_REPLY_SPACE + 1, 3000]);
             let message = restoration::request(settings, seid, &live[&seid], &envelope);
             let message = message.expect("a live session can be restored");
             let longest = message.len() <= restoration::LONGEST;
@@ -436,8 +449,8 @@ impl Run<'_> {
         let table = Lent::new(&layout::encode(&settings, &sessions));
         let mut state = State { unit, live, table };
         self.restore_all(&state);
-        let free = self.product.free_count(state.table.content());
-        self.report.check(free == (0, 0), || format!("free count {free:?} of the largest table"));
+        let free = self.free(state.table.content());
+        self.report.check(free == [(0, 0); 2], || format!("free {free:?} of the largest table"));
         self.single_octets(state.table.content(), 1000);
         let mut scenario = generator.scenario();
         scenario.settings = settings;
@@ -456,7 +469,7 @@ impl Run<'_> {
             let mut message = vec![0x21, 54, 0, 12];
             message.extend(seid.to_be_bytes());
             message.extend([0, 0, 9, 0]);
-            self.one_call(&mut state, &Call { message, reply_space: 1024 });
+            self.one_call(&mut state, &Call { message, reply_space: LEAST_REPLY_SPACE });
         }
         let empty = state.unit.sessions().is_empty();
         self.report.check(empty, || "sessions left after their deletion".into());
@@ -465,8 +478,8 @@ impl Run<'_> {
         for at in 0..TABLE {
             let mut changed = table.clone();
             changed[at] ^= 1 << self.random.below(8);
-            let outcome = self.product.free_count(&changed).0;
-            let right = outcome == u32::from(layout::sound(&changed).is_err());
+            let outcomes = self.free(&changed).map(|free| free.0);
+            let right = outcomes == [u32::from(layout::sound(&changed).is_err()); 2];
             self.report.check(right, || format!("octet {at} of an empty table changed"));
         }
     }
@@ -498,7 +511,7 @@ impl Run<'_> {
                 .map(|csids| crowded::fq_csid_of(1, &address, csids, node_type))
                 .collect();
             let message = crowded::set_deletion(&elements);
-            self.one_call(&mut state, &Call { message, reply_space: 1024 });
+            self.one_call(&mut state, &Call { message, reply_space: LEAST_REPLY_SPACE });
             let stays = |number: &u16| !csids.contains(&largest::csid(node_type, *number));
             let left = (0..64).filter(stays).count();
             let right = state.live.sessions.len() == left;
@@ -511,9 +524,9 @@ impl Run<'_> {
         let (live, new) = (1, 2);
         for message in crowded::messages(live, new) {
             let Some(mut state) = self.empty_state(&largest::settings()) else { return };
-            let first = Call { message: crowded::first(live), reply_space: 1024 };
+            let first = Call { message: crowded::first(live), reply_space: LEAST_REPLY_SPACE };
             self.one_call(&mut state, &first);
-            self.one_call(&mut state, &Call { message, reply_space: 1024 });
+            self.one_call(&mut state, &Call { message, reply_space: LEAST_REPLY_SPACE });
             self.restore_all(&state);
         }
     }
@@ -522,41 +535,55 @@ impl Run<'_> {
     fn fixed_settings(&mut self) {
         let length = self.product.table_length();
         self.report.check(length == TABLE, || format!("a table length of {length}"));
-        let address = [7_u8; 17];
-        for (first, size) in [
-            (0, 1),
-            (1, 0),
-            (1, 1),
-            (1, 4096),
-            (1, 4097),
-            (4096, u32::MAX),
-            (u32::MAX, 1),
-            (u32::MAX, 2),
-            (u32::MAX - 4095, 4096),
-            (u32::MAX - 4094, 4096),
-        ] {
+        let last = u32::MAX;
+        let teids = [(0, 1), (1, 0), (1, 1), (1, 4096), (1, 4097), (4096, last), (last, 1)];
+        let at_the_end = [(last, 2), (last - 4095, 4096), (last - 4094, 4096)];
+        for teids in teids.into_iter().chain(at_the_end) {
             for ipv6_length in [0, 1, 15, 16, 17] {
                 for table_length in [0, 1, TABLE - 1, TABLE, TABLE + 1] {
-                    let ipv6 = &address[..ipv6_length];
-                    let mut table = Lent::filled(table_length);
-                    let made =
-                        self.product.make_table(table.lend(), [10, 0, 0, 1], ipv6, first, size);
-                    let allowed = Settings::make([10, 0, 0, 1], ipv6, first, size)
-                        .filter(|_| table_length == TABLE);
-                    let right = match &allowed {
-                        Some(settings) => {
-                            made == 0
-                                && table.content() == layout::encode(settings, &Sessions::new())
-                        }
-                        None => made == 1 && table.content().iter().all(|octet| *octet == FILLING),
-                    };
-                    self.report.check(right && table.guards_hold(), || {
-                        format!("made {made}: first {first}, size {size}, IPv6 of {ipv6_length}")
-                    });
+                    self.one_making(ipv6_length, teids, (0x0A00_0000, 254), table_length);
                 }
             }
         }
+        let addresses = [(0, 0), (0, 1), (0, 1024), (0, 1025), (7, last), (last, 0), (last, 1)];
+        let at_the_end = [(last, 2), (last - 1023, 1024), (last - 1022, 1024), (last - 1022, 1023)];
+        for addresses in addresses.into_iter().chain(at_the_end) {
+            for table_length in [TABLE - 1, TABLE] {
+                self.one_making(16, (1, 1), addresses, table_length);
+            }
+        }
     }
+
+    fn one_making(
+        &mut self,
+        ipv6_length: usize,
+        teids: (u32, u32),
+        addresses: (u32, u32),
+        table_length: usize,
+    ) {
+        let (ipv4, ipv6) = ([10, 0, 0, 1], &[7_u8; 17][..ipv6_length]);
+        let addresses = (Ipv4Addr::from(addresses.0), addresses.1);
+        let mut table = Lent::filled(table_length);
+        let made = self.product.make_table(table.lend(), ipv4, ipv6, teids, addresses);
+        let allowed = Settings::make(ipv4, ipv6, teids, addresses);
+        let right = match allowed.filter(|_| table_length == TABLE) {
+            Some(settings) => {
+                made == 0 && table.content() == layout::encode(&settings, &Sessions::new())
+            }
+            None => made == 1 && table.content().iter().all(|octet| *octet == FILLING),
+        };
+        self.report.check(right && table.guards_hold(), || {
+            format!("made {made}: TEIDs {teids:?}, addresses {addresses:?}, IPv6 of {ipv6_length}")
+        });
+    }
+}
+
+/// Both free counts of a broken table.
+const BROKEN: [(u32, u32); 2] = [(1, 0); 2];
+
+/// Both free counts of a unit.
+fn free_of(unit: &Unit) -> [(u32, u32); 2] {
+    [(0, unit.free_count()), (0, unit.free_addresses())]
 }
 
 /// The whole reply to an accepted restoration: nothing is granted.

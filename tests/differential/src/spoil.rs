@@ -1,5 +1,7 @@
 //! Damage to the octets of a table. Some of it leaves a sound table, which is meant.
 
+use std::net::Ipv4Addr;
+
 use second::element::fq_csid::NodeId;
 use second::generate::random::Random;
 use second::session::{Families, Local, Session, Tunnel};
@@ -11,7 +13,7 @@ use second::layout::*;
 pub fn spoil(table: &mut Vec<u8>, random: &mut Random) {
     match random.below(20) {
         0 => {
-            let length = random.pick(&[0, 1, 29, 31, TABLE - 1, TABLE + 1, TABLE - SLOT]);
+            let length = random.pick(&[0, 1, 37, SLOTS, TABLE - 1, TABLE + 1, TABLE - SLOT]);
             table.resize(length, 0);
         }
         1..=7 => change_an_octet(table, random),
@@ -33,7 +35,7 @@ fn change_an_octet(table: &mut [u8], random: &mut Random) {
 
 /// A random offset, more often where records stand than in unused room.
 pub fn an_offset(table: &[u8], random: &mut Random) -> usize {
-    let count = usize::from(table[30]).min(64);
+    let count = usize::from(table[SLOTS - 1]).min(64);
     match random.below(10) {
         0 => random.below(SLOTS),
         1 => random.below(TABLE),
@@ -59,7 +61,7 @@ fn some(count: u8, last: usize, random: &mut Random) -> usize {
 
 /// The offset, size and count of an area of records: the sessions, or one of a session's.
 fn an_area(table: &[u8], random: &mut Random) -> (usize, usize, usize) {
-    let count = usize::from(table[30]).min(64);
+    let count = usize::from(table[SLOTS - 1]).min(64);
     let slot = SLOTS + SLOT * random.below(count.max(1));
     match random.below(4) {
         0 => (SLOTS, SLOT, count),
@@ -92,6 +94,7 @@ fn copy_a_record(table: &mut [u8], random: &mut Random) {
 fn change_a_record(table: &mut Vec<u8>, random: &mut Random) {
     let Some((mut settings, mut sessions)) = decode(table) else { return };
     let teids: Vec<u32> = sessions.values().flat_map(|session| session.teids()).collect();
+    let addresses: Vec<Ipv4Addr> = sessions.values().flat_map(|s| s.addresses()).collect();
     let seids: Vec<u64> = sessions.keys().copied().collect();
     if seids.is_empty() || random.percent(10) {
         change_settings(&mut settings, random);
@@ -102,20 +105,51 @@ fn change_a_record(table: &mut Vec<u8>, random: &mut Random) {
             sessions.insert(0, session);
         } else {
             let session = sessions.get_mut(&seid).expect("a SEID of the table");
-            change_session(session, &settings, &teids, random);
+            match random.percent(25) {
+                true => change_address(session, &settings, &addresses, random),
+                false => change_session(session, &settings, &teids, random),
+            }
         }
     }
     *table = encode(&settings, &sessions);
 }
 
 fn change_settings(settings: &mut Settings, random: &mut Random) {
-    match random.below(6) {
+    match random.below(9) {
+        6 => settings.first_address = random.pick(&[0, 1, u32::MAX]).into(),
+        7 => settings.addresses = random.pick(&[0, 1, 1024, 1025, u32::MAX]),
+        8 => settings.addresses = settings.addresses.wrapping_sub(1),
         0 => settings.ipv6 = None,
         1 => settings.first = random.pick(&[0, 1, u32::MAX]),
         2 => settings.first = settings.first.wrapping_add(1),
         3 => settings.size = random.pick(&[0, 1, 4096, 4097, u32::MAX]),
         4 => settings.size = settings.size.wrapping_sub(1),
         _ => settings.ipv4 = [0; 4],
+    }
+}
+
+/// A record's address becomes none, another record's, or one at an edge of the pool.
+fn change_address(
+    session: &mut Session,
+    settings: &Settings,
+    addresses: &[Ipv4Addr],
+    random: &mut Random,
+) {
+    let first = u32::from(settings.first_address);
+    let edges = [first, first.wrapping_add(settings.addresses), first.wrapping_sub(1), 0];
+    let edge = Ipv4Addr::from(random.pick(&edges));
+    let address = match random.below(5) {
+        0 => None,
+        1 => Some(edge),
+        _ if addresses.is_empty() => Some(edge),
+        _ => Some(random.pick(addresses)),
+    };
+    let of_pdrs = session.pdrs.values_mut().map(|pdr| &mut pdr.address);
+    let of_endpoints = session.endpoints.values_mut().map(|endpoint| &mut endpoint.address);
+    let mut all: Vec<&mut Option<Ipv4Addr>> = of_pdrs.chain(of_endpoints).collect();
+    if !all.is_empty() {
+        let index = random.below(all.len());
+        *all[index] = address;
     }
 }
 
@@ -145,7 +179,7 @@ fn change_session(session: &mut Session, settings: &Settings, teids: &[u32], ran
         }
         5..=7 if !endpoints.is_empty() => {
             let id = random.pick(&endpoints);
-            let tunnel = session.endpoints.get_mut(&id).expect("an ID of the session");
+            let tunnel = &mut session.endpoints.get_mut(&id).expect("an ID of the session").tunnel;
             match random.below(4) {
                 0 => tunnel.families = families,
                 1 => drop(session.endpoints.remove(&id)),
@@ -168,7 +202,7 @@ fn change_session(session: &mut Session, settings: &Settings, teids: &[u32], ran
 }
 
 /// The parts of `layout::sound`'s reasons by which a run of damage is counted.
-pub const REASONS: [&str; 13] = [
+pub const REASONS: [&str; 14] = [
     "a wrong length",
     "an octet without a meaning",
     "settings that are not allowed",
@@ -182,4 +216,5 @@ pub const REASONS: [&str; 13] = [
     "PDRs share a TEID against the rule",
     "an FQ-CSID breaks its rules",
     "an endpoint and a PDR share TEID",
+    "an address of the pool is another session's too",
 ];
