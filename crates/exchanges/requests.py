@@ -1,12 +1,12 @@
 #!/usr/bin/env python3
-"""The exchanges of document 01's worked examples, of the errors it has seen, and of document 02's (ii), (v) and (vii).
+"""The exchanges of document 01's worked examples, of the errors it has seen, and of document 02's (ii), (v), (vi) and (vii).
 
   requests.py FOLDER          writes FOLDER/stdin: tables and requests, each after its length in two octets. FOLDER/stdout is what
                               second's program `exchanges` writes for it
   requests.py --paper < LINES holds such lines to what they say of each exchange, where they say something
 
-On paper are the cause, the TEIDs and the addresses of the created PDRs, the free TEIDs and addresses after the call, and sometimes the whole
-reply.
+On paper are the cause, the TEIDs and the addresses of the created PDRs, the free TEIDs and addresses after the call, and sometimes the
+whole reply.
 """
 import struct
 import sys
@@ -62,14 +62,22 @@ def given(address):
     return "02" + u32(address).hex()
 
 
-def table(size, first=4096, first_address=POOL, addresses=2):
-    settings = u32(first) + u32(size) + u32(first_address) + u32(addresses)
-    parts.append((b"\0" + H("C0000201") + settings, None, None, (size, addresses)))
+def making(size, first, limit, addresses=2):
+    return b"\0" + H("C0000201") + u32(first) + u32(size) + u32(POOL) + u32(addresses) + u32(limit)
+
+
+def table(size, first=4096, addresses=2, limit=8):
+    parts.append((making(size, first, limit, addresses), "table 0", None, None, (size, addresses)))
+
+
+def refuse_table(size=2, first=4096, limit=8, *, free, left=2):
+    """Settings that are not allowed: the table before stays."""
+    parts.append((making(size, first, limit), "table 1", None, None, (free, left)))
 
 
 def call(kind, seid, body, cause, free, left, teids=None, chosen=None, whole=None):
     head = bytes([0x21, kind]) + u16(12 + len(body)) + u64(seid) + u32(1)[1:] + b"\0"
-    parts.append((head + body, (cause, teids or [], chosen or []), whole and H(whole), (free, left)))
+    parts.append((head + body, "outcome 0", (cause, teids or [], chosen or []), whole and H(whole), (free, left)))
 
 
 def establish(seid, *body, cause=ACCEPTED, free, left=2, teids=None, chosen=None, whole=None, f_seid_is=None):
@@ -91,7 +99,7 @@ def delete(seid, *body, cause=ACCEPTED, free, left=2, whole=None):
 def delete_sets(*body, cause=ACCEPTED, free, left=2, whole=None):
     elements = b"".join(body)
     head = H("200E") + u16(4 + len(elements)) + H("00000100")
-    parts.append((head + elements, (cause, [], []), whole and H(whole), (free, left)))
+    parts.append((head + elements, "outcome 0", (cause, [], []), whole and H(whole), (free, left)))
 
 
 def card(node_type, *csids, address="C000020A", id_type=0):
@@ -255,6 +263,43 @@ delete_sets(card(1, 5), free=1, left=1)
 establish(3, addressed(1, "10"), card(1, 5), free=1, left=0, chosen=[POOL])
 delete_sets(card(1, 5, 6), free=2)
 
+# 02 (vi): "The session limit, 1 to 256, becomes a setting, also in cause 75". Room for one session: the second is 75 though TEIDs are
+# left, a restored one too, and an address that cannot be chosen either is tested after that.
+table(4, addresses=1, limit=1)
+establish(1, addressed(1, "10", "05"), free=3, left=0, teids=[4096], chosen=[POOL])
+establish(2, create(1, "05"), cause=FULL, free=3, left=0)
+establish(2, addressed(1, "10", "05"), cause=FULL, free=3, left=0)
+restore(2, create(1, "0100001001C0000201"), cause=FULL, free=3, left=0)
+restore(2, cause=FULL, free=3, left=0)
+# A modification needs no room, and 73 is tested before 75.
+modify(1, create(2, "05"), free=2, left=0, teids=[4097])
+restore(2, create(1, "0100001001C0000201"), cause=RULE, free=2, left=0)
+# Limits that are not allowed: 0, and one too many.
+refuse_table(limit=0, free=2, left=0)
+refuse_table(limit=257, free=2, left=0)
+refuse_table(limit=65537, free=2, left=0)
+# The room is free with the session that had it.
+delete(1, free=4, left=1)
+establish(2, create(1, "05"), card(1, 5), free=3, left=1, teids=[4096])
+establish(3, create(1, "05"), cause=FULL, free=3, left=1)
+delete_sets(card(1, 5), free=4, left=1)
+restore(3, create(1, "0100001001C0000201"), free=3, left=1)
+# Room for two: the third is 75.
+table(4, limit=2)
+establish(9, create(1, "05"), free=3, teids=[4096])
+restore(5, free=3)
+establish(1, create(1, "05"), cause=FULL, free=3)
+delete(9, free=4)
+establish(1, create(1, "05"), free=3, teids=[4096])
+# "Raise the limits to [..] 65,536 TEIDs": the last TEID of such a pool is held, and the first is chosen.
+table(65536, first=4294901760)
+restore(1, create(1, "01FFFFFFFFC0000201"), free=65535)
+establish(2, create(1, "0D07"), create(2, "05"), free=65533, teids=[4294901760, 4294901761])
+restore(3, create(1, "01FFFEFFFFC0000201"), cause=RULE, free=65533)
+refuse_table(size=65537, free=65533)
+refuse_table(size=65536, first=4294901761, free=65533)
+delete(1, free=65534)
+
 
 def members(value):
     at, found = 0, {}
@@ -284,12 +329,10 @@ def told(reply):
 def paper(lines):
     if len(lines) != len(parts):
         sys.exit(f"{len(lines)} lines for {len(parts)} parts")
-    for number, (line, (_, answer, whole, (free, left))) in enumerate(zip(lines, parts), 1):
-        start, _, reply = line.partition(" reply ")
-        start = start.partition(" place ")[0]
-        word = "table" if answer is None else "outcome"
-        if start.split(" place ")[0] != f"{word} 0 free {free} addresses {left}":
-            sys.exit(f"line {number}: {line}: not free {free}, addresses {left}")
+    for number, (line, (_, start, answer, whole, (free, left))) in enumerate(zip(lines, parts), 1):
+        told_start, _, reply = line.partition(" reply ")
+        if told_start.partition(" place ")[0] != f"{start} free {free} addresses {left}":
+            sys.exit(f"line {number}: {line}: not {start}, free {free}, addresses {left}")
         if answer and told(H(reply)) != answer:
             sys.exit(f"line {number}: {line}: not {answer}")
         if whole and H(reply) != whole:

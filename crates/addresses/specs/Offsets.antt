@@ -77,7 +77,7 @@ meets words is = pick (any (marked words) is) Clash (New (length is))
 
 -- the settings as far as addresses ask: their pool
 abbrev pub addressPool : ℕ → ℕ → Settings
-addressPool first count = record { ipv4 = []; ipv6 = []; first = 0; size = 0; firstAddress = first; addressCount = count }
+addressPool first count = record { ipv4 = []; ipv6 = []; first = 0; size = 0; firstAddress = first; addressCount = count; limit = 0 }
 
 -- the offsets that the session in a slot holds
 unfoldable pub heldOffsets : ℕ → ℕ → List ℕ → List ℕ

@@ -2,7 +2,7 @@
 -- unheld is free at the next call.
 -- Assumes nothing.
 use mathlib.Core.Path.{_≡_, sym, ap, ap₂, _∙_, subst}
-use Prim.Native.Nat.{ℕ, _^_, _<_}
+use Prim.Native.Nat.{ℕ}
 use mathlib.Core.Bool.{Bool, true, false, not, _||_}
 use mathlib.Core.Option.{Option, none, some}
 use mathlib.Core.List.{List, map}
@@ -45,8 +45,8 @@ use Rattle.claim.proofs.ServeLaws.{Answers, answers, answered-zero, tab
 use Rattle.rules.specs.Apply.{goesSession}
 
 -- an accepted request's TEIDs are given by 01's rules
-pub passed-allocates : (limit : ℕ) (s : Settings) (m : Sessions) (msg : List ℕ) → Passed limit s m msg → Allocates s m (readRequest msg)
-passed-allocates limit s m msg p =
+pub passed-allocates : (s : Settings) (m : Sessions) (msg : List ℕ) → Passed s m msg → Allocates s m (readRequest msg)
+passed-allocates s m msg p =
     let r = readRequest msg in
     let k = rules-kept s m (entrySession m msg) r (p .rules) in
     allocates s m r (choices-other r (k .createdPdrsOnce) (k .createdEndpointsOnce)) (enough p)
@@ -67,7 +67,7 @@ reported a (some v) h = one (ueChooses v) h
     one true k = tt
     one false k = k
 
-module _ (limit : ℕ) (t msg space : List ℕ) where
+module _ (t msg space : List ℕ) where
   -- the settings, sessions and request at entry, and what the call leaves
   abbrev pub s : Settings
   s = viewSettings t
@@ -79,14 +79,14 @@ module _ (limit : ℕ) (t msg space : List ℕ) where
   r = readRequest msg
 
   abbrev pub out : Served
-  out = serve limit t msg space
+  out = serve t msg space
 
   -- what an accepted call is known to have done
   pub record AcceptedCall : Type 0 where
-    pub answered : Answers limit t msg space
-    pub passed : Passed limit s m msg
-    pub allowed : T (sessionsAllowed limit s (sessionsAfter s m msg))
-    pub table : out .table ≡ encode limit s (sessionsAfter s m msg)
+    pub answered : Answers t msg space
+    pub passed : Passed s m msg
+    pub allowed : T (sessionsAllowed s (sessionsAfter s m msg))
+    pub table : out .table ≡ encode s (sessionsAfter s m msg)
     pub settings : viewSettings (out .table) ≡ s
     pub sessions : viewSessions (out .table) ≡ sessionsAfter s m msg
     pub teids : (k : Kind) (i : ℕ) → createdTeid (out .space) k i ≡ grantedTeid (grants s m r) k i
@@ -96,74 +96,74 @@ module _ (limit : ℕ) (t msg space : List ℕ) where
     pub endpointAddresses : Every (λ e. T (choosesAddress (e .address)) → createdAddress (out .space) ofEndpoint (e .id) ≡ chosenAddress s m) (r .endpoints)
 
   -- the sessions after it keep the rules
-  after-allowed : T (octets msg) → Answers limit t msg space → Passed limit s m msg → T (sessionsAllowed limit s (sessionsAfter s m msg))
+  after-allowed : T (octets msg) → Answers t msg space → Passed s m msg → T (sessionsAllowed s (sessionsAfter s m msg))
   unfolding SoundAfter
-  after-allowed ho a p = let k = table-kept limit t (a .table) in sessions-after limit s m msg (k .settings) (k .sessions) ho (a .kind) p
+  after-allowed ho a p = let k = table-kept t (a .table) in sessions-after s m msg (k .settings) (k .sessions) ho (a .kind) p
 
   -- they are what the table holds
-  table-there : verdict limit s m msg .cause ≡ why.accepted → answer limit s m msg space t .table ≡ encode limit s (sessionsAfter s m msg)
+  table-there : verdict s m msg .cause ≡ why.accepted → answer s m msg space t .table ≡ encode s (sessionsAfter s m msg)
   unfolding answer answered
-  table-there c = ap (λ (n : ℕ). pick (eqb n 1) (encode limit s (sessionsAfter s m msg)) t) c
+  table-there c = ap (λ (n : ℕ). pick (eqb n 1) (encode s (sessionsAfter s m msg)) t) c
 
   -- the reply's Created groups say what the reports say
-  got-there : T (octets msg) → Answers limit t msg space → verdict limit s m msg .cause ≡ why.accepted → (k : Kind) (i : ℕ)
-      → createdGot (answer limit s m msg space t .space) k i ≡ said (reports (granted s m r) r) k i
+  got-there : T (octets msg) → Answers t msg space → verdict s m msg .cause ≡ why.accepted → (k : Kind) (i : ℕ)
+      → createdGot (answer s m msg space t .space) k i ≡ said (reports (granted s m r) r) k i
   unfolding answer answered replyTo
   got-there ho a c k i =
-      let ok = table-kept limit t (a .table) .settings in
-      accepted-got s ok msg (header-long msg (a .header)) (r .seid) (verdict limit s m msg) c (reports (granted s m r) r) (reports-few limit s ok m msg c) space (granted-reports-fit s ok m msg ho) k i
+      let ok = table-kept t (a .table) .settings in
+      accepted-got s ok msg (header-long msg (a .header)) (r .seid) (verdict s m msg) c (reports (granted s m r) r) (reports-few s ok m msg c) space (granted-reports-fit s ok m msg ho) k i
 
   -- what the request kept of its IDs
-  rules : Passed limit s m msg → RulesKept s m (entrySession m msg) r
+  rules : Passed s m msg → RulesKept s m (entrySession m msg) r
   rules p = rules-kept s m (entrySession m msg) r (p .rules)
 
-  module _ (ho : T (octets msg)) (a : Answers limit t msg space) (p : Passed limit s m msg) (c : verdict limit s m msg .cause ≡ why.accepted) where
+  module _ (ho : T (octets msg)) (a : Answers t msg space) (p : Passed s m msg) (c : verdict s m msg .cause ≡ why.accepted) where
     -- the TEIDs of the grants
-    teids-there : (k : Kind) (i : ℕ) → createdTeid (answer limit s m msg space t .space) k i ≡ grantedTeid (grants s m r) k i
+    teids-there : (k : Kind) (i : ℕ) → createdTeid (answer s m msg space t .space) k i ≡ grantedTeid (grants s m r) k i
     unfolding createdGot
     teids-there k i = ap {B = ℕ} (λ (g : Got). g .teid) (got-there ho a c k i) ∙ said-teids s m r (rules p .createdPdrsOnce) (rules p .createdEndpointsOnce) k i
 
     -- and the chosen address
-    address-said : (k : Kind) (i : ℕ) → createdAddress (answer limit s m msg space t .space) k i ≡ said (reports (granted s m r) r) k i .address
+    address-said : (k : Kind) (i : ℕ) → createdAddress (answer s m msg space t .space) k i ≡ said (reports (granted s m r) r) k i .address
     unfolding createdGot
     address-said k i = ap {B = ℕ} (λ (g : Got). g .address) (got-there ho a c k i)
 
-    pdr-addresses-there : Every (λ q. T (choosesAddress (q .address)) → createdAddress (answer limit s m msg space t .space) ofPdr (q .id) ≡ chosenAddress s m) (r .pdrs)
+    pdr-addresses-there : Every (λ q. T (choosesAddress (q .address)) → createdAddress (answer s m msg space t .space) ofPdr (q .id) ≡ chosenAddress s m) (r .pdrs)
     unfolding pdrReport
     pdr-addresses-there =
         every-imply (λ q. T (isSome (reportAddress (pdrReport (granted s m r) q))) → said (reports (granted s m r) r) ofPdr (q .id) .address ≡ chosenAddress s m)
-        (λ q. T (choosesAddress (q .address)) → createdAddress (answer limit s m msg space t .space) ofPdr (q .id) ≡ chosenAddress s m)
+        (λ q. T (choosesAddress (q .address)) → createdAddress (answer s m msg space t .space) ofPdr (q .id) ≡ chosenAddress s m)
         (λ q f g. address-said ofPdr (q .id) ∙ f (reported _ (q .address) g)) (r .pdrs) (said-pdr-addresses s m r (rules p .createdPdrsOnce) (rules p .createdEndpointsOnce))
 
-    endpoint-addresses-there : Every (λ q. T (choosesAddress (q .address)) → createdAddress (answer limit s m msg space t .space) ofEndpoint (q .id) ≡ chosenAddress s m) (r .endpoints)
+    endpoint-addresses-there : Every (λ q. T (choosesAddress (q .address)) → createdAddress (answer s m msg space t .space) ofEndpoint (q .id) ≡ chosenAddress s m) (r .endpoints)
     unfolding endpointReport
     endpoint-addresses-there =
         every-imply (λ q. T (isSome (reportAddress (endpointReport (granted s m r) q))) → said (reports (granted s m r) r) ofEndpoint (q .id) .address ≡ chosenAddress s m)
-        (λ q. T (choosesAddress (q .address)) → createdAddress (answer limit s m msg space t .space) ofEndpoint (q .id) ≡ chosenAddress s m)
+        (λ q. T (choosesAddress (q .address)) → createdAddress (answer s m msg space t .space) ofEndpoint (q .id) ≡ chosenAddress s m)
         (λ q f g. address-said ofEndpoint (q .id) ∙ f (reported _ (q .address) g)) (r .endpoints) (said-endpoint-addresses s m r (rules p .createdPdrsOnce) (rules p .createdEndpointsOnce))
 
   -- outcome 0 and the reply's cause 1
-  pub accepted-call : limit < 256 ^ 2 → T (octets msg) → T (accepted (replied msg (out .outcome) (out .space))) → AcceptedCall
+  pub accepted-call : T (octets msg) → T (accepted (replied msg (out .outcome) (out .space))) → AcceptedCall
   unfolding accepted
-  accepted-call small ho h =
+  accepted-call ho h =
       let zero′ = and-left (eqb (out .outcome) 0) (eqb (replyCause (out .space)) 1) h in
       let one′ = eqb→eq (replyCause (out .space)) 1 (and-right (eqb (out .outcome) 0) (eqb (replyCause (out .space)) 1) h) in
-      let a = answers limit t msg space zero′ in
-      let cause = sym (served-cause limit t msg space ho zero′) ∙ one′ in
-      let p = passed limit s m msg cause in
-      let e = answered-zero limit t msg space a in
+      let a = answers t msg space zero′ in
+      let cause = sym (served-cause t msg space ho zero′) ∙ one′ in
+      let p = passed s m msg cause in
+      let e = answered-zero t msg space a in
       let ok = after-allowed ho a p in
-      let hs = table-kept limit t (a .table) .settings in
-      let table′ : out .table ≡ encode limit s (sessionsAfter s m msg) = ap {B = List ℕ} (λ (o : Served). o .table) e ∙ table-there cause in
+      let hs = table-kept t (a .table) .settings in
+      let table′ : out .table ≡ encode s (sessionsAfter s m msg) = ap {B = List ℕ} (λ (o : Served). o .table) e ∙ table-there cause in
       record {
         answered = a;
         passed = p;
         allowed = ok;
         table = table′;
-        settings = ap viewSettings table′ ∙ encoded-settings s hs limit small (sessionsAfter s m msg) ok;
-        sessions = ap viewSessions table′ ∙ sessions-back s hs limit small (sessionsAfter s m msg) ok;
+        settings = ap viewSettings table′ ∙ encoded-settings s hs (sessionsAfter s m msg) ok;
+        sessions = ap viewSessions table′ ∙ sessions-back s hs (sessionsAfter s m msg) ok;
         teids = λ k i. ap (λ (o : Served). createdTeid (o .space) k i) e ∙ teids-there ho a p cause k i;
-        allocated = passed-allocates limit s m msg p;
+        allocated = passed-allocates s m msg p;
         pdrAddresses = subst (λ (o : Served). Every (λ q. T (choosesAddress (q .address)) → createdAddress (o .space) ofPdr (q .id) ≡ chosenAddress s m) (r .pdrs)) (sym e) (pdr-addresses-there ho a p cause);
         endpointAddresses =
             subst (λ (o : Served). Every (λ q. T (choosesAddress (q .address)) → createdAddress (o .space) ofEndpoint (q .id) ≡ chosenAddress s m) (r .endpoints)) (sym e) (endpoint-addresses-there ho a p cause);
@@ -214,7 +214,7 @@ module _ (limit : ℕ) (t msg space : List ℕ) where
     pub next-removed : T (not (eqb (kindOf msg) setDeletion)) → T (not (eqb (kindOf msg) deletion)) → (n : ℕ) → T (member n (sessionTeids x))
         → T (not (member n (map teidOf (stayingHoldings r x))))
         → T (member n freeNext)
-    next-removed ns nd n h gone = at-next n (removed-free limit s m msg (table-kept limit t (c .answered .table) .sessions) ho ns (c .passed) n h nd gone)
+    next-removed ns nd n h gone = at-next n (removed-free s m msg (table-kept t (c .answered .table) .sessions) ho ns (c .passed) n h nd gone)
 
     -- a deletion is no set deletion
     no-sets : T (eqb (kindOf msg) deletion) → T (not (eqb (kindOf msg) setDeletion))
@@ -223,12 +223,12 @@ module _ (limit : ℕ) (t msg space : List ℕ) where
     -- every TEID of the session at entry, after a deletion
     pub next-deleted : T (eqb (kindOf msg) deletion) → (n : ℕ) → T (member n (sessionTeids x))
         → T (member n freeNext)
-    next-deleted d n h = at-next n (deleted-free limit s m msg (table-kept limit t (c .answered .table) .sessions) ho (no-sets d) (c .passed) n h d)
+    next-deleted d n h = at-next n (deleted-free s m msg (table-kept t (c .answered .table) .sessions) ho (no-sets d) (c .passed) n h d)
 
     -- every TEID of the sessions that a set deletion takes out
     pub next-listed : T (eqb (kindOf msg) setDeletion) → (n : ℕ) → T (member n (heldTeids (keep (goesSession (r .listed)) m)))
         → T (member n freeNext)
-    next-listed d n h = at-next n (listed-free limit s m msg (table-kept limit t (c .answered .table) .sessions) d n h)
+    next-listed d n h = at-next n (listed-free s m msg (table-kept t (c .answered .table) .sessions) d n h)
 
     -- the address that the request's CHOOSEs get is of the pool, held by no session at entry, and the lowest such
     pub address-chosen : T (any ueChooses (addressesOf r)) → ChosenFree s m (chosenAddress s m)
@@ -240,11 +240,11 @@ module _ (limit : ℕ) (t msg space : List ℕ) where
         subst (λ (z : Settings). T (member a (freeAddresses z (viewSessions (out .table))))) (sym (c .settings)) (subst (λ (l : Sessions). T (member a (freeAddresses s l))) (sym (c .sessions)) h)
 
     pub next-removed-address : T (not (eqb (kindOf msg) setDeletion)) → T (not (eqb (kindOf msg) deletion)) → (a : ℕ) → T (member a (sessionAddresses s x)) → T (not (member a (stayingAddresses r x))) → T (member a freeAddressesNext)
-    next-removed-address ns nd a h gone = at-next-address a (removed-address-free limit s m msg (table-kept limit t (c .answered .table) .sessions) ho ns (c .passed) a h nd gone)
+    next-removed-address ns nd a h gone = at-next-address a (removed-address-free s m msg (table-kept t (c .answered .table) .sessions) ho ns (c .passed) a h nd gone)
 
     pub next-deleted-address : T (eqb (kindOf msg) deletion) → (a : ℕ) → T (member a (sessionAddresses s x)) → T (member a freeAddressesNext)
     next-deleted-address d a h =
-        at-next-address a (deleted-address-free limit s m msg (table-kept limit t (c .answered .table) .sessions) ho (no-sets d) (c .passed) a h d)
+        at-next-address a (deleted-address-free s m msg (table-kept t (c .answered .table) .sessions) ho (no-sets d) (c .passed) a h d)
 
     pub next-listed-address : T (eqb (kindOf msg) setDeletion) → (a : ℕ) → T (member a (heldAddresses s (keep (goesSession (r .listed)) m))) → T (member a freeAddressesNext)
-    next-listed-address d a h = at-next-address a (listed-address-free limit s m msg (table-kept limit t (c .answered .table) .sessions) d a h)
+    next-listed-address d a h = at-next-address a (listed-address-free s m msg (table-kept t (c .answered .table) .sessions) d a h)

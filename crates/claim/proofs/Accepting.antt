@@ -3,10 +3,9 @@
 use mathlib.Core.Path.{ap, _∙_}
 use Prim.Native.Nat.{ℕ}
 use mathlib.Core.List.{List}
-use lib.Dec.{T, lit<}
+use lib.Dec.{T}
 use Rattle.octets.specs.Octets.{octets}
 use Rattle.rules.specs.Model.{Settings, Sessions}
-use Rattle.rules.specs.Limits.{maxSessions}
 use Rattle.rules.specs.Sound.{settingsAllowed, sessionsAllowed}
 use Rattle.rules.specs.Message.{kindOf, headerSeid, served}
 use Rattle.rules.specs.Reading.{readRequest}
@@ -27,29 +26,28 @@ use Rattle.claim.proofs.Runs.{claim}
 use Rattle.rules.specs.Claim.{Demand3}
 
 -- what is left to prove
-unfoldable pub SoundAfter : ℕ → Type 0
-SoundAfter limit =
-    (s : Settings) (m : Sessions) (msg : List ℕ) → T (settingsAllowed s) → T (sessionsAllowed limit s m) → T (octets msg) → T (served (kindOf msg))
-    → Passed limit s m msg → T (sessionsAllowed limit s (sessionsAfter s m msg))
+unfoldable pub SoundAfter : Type 0
+SoundAfter =
+    (s : Settings) (m : Sessions) (msg : List ℕ) → T (settingsAllowed s) → T (sessionsAllowed s m) → T (octets msg) → T (served (kindOf msg))
+    → Passed s m msg → T (sessionsAllowed s (sessionsAfter s m msg))
 
-pub accepting : (limit : ℕ) → SoundAfter limit → AcceptedKeeps limit
+pub accepting : SoundAfter → AcceptedKeeps
 unfolding AcceptedKeeps SoundAfter
-accepting limit sound-after s m msg space hs hm ho hh hk e =
-    let p = passed limit s m msg e in
+accepting sound-after s m msg space hs hm ho hh hk e =
+    let p = passed s m msg e in
     let r = readRequest msg in
     let k = rules-kept s m (entrySession m msg) r (p .rules) in
     let gs = reports (granted s m r) r in
-    let few = reports-few limit s hs m msg e in
+    let few = reports-few s hs m msg e in
     let fits = granted-reports-fit s hs m msg ho in
     let long = header-long msg hh in
     record {
       sound = sound-after s m msg hs hm ho hk p;
-      cause = unfold replyTo in (accepted-cause s hs msg long (r .seid) (verdict limit s m msg) e gs few space);
+      cause = unfold replyTo in (accepted-cause s hs msg long (r .seid) (verdict s m msg) e gs few space);
       same = unfold replyTo sessionsAfter in (
-          ap {B = Sessions} (λ (f : Kind → ℕ → Got). follow f (kindOf msg) (headerSeid msg) r m) (λ j i n. accepted-got s hs msg long (r .seid) (verdict limit s m msg) e gs few space fits i n j)
+          ap {B = Sessions} (λ (f : Kind → ℕ → Got). follow f (kindOf msg) (headerSeid msg) r m) (λ j i n. accepted-got s hs msg long (r .seid) (verdict s m msg) e gs few space fits i n j)
           ∙ follow-said s m r (k .createdPdrsOnce) (k .createdEndpointsOnce) (kindOf msg) (headerSeid msg));
     }
 
-pub demand3-from : SoundAfter maxSessions → Demand3
-unfolding Demand3
-demand3-from h = claim maxSessions (lit< tt) (keeps maxSessions (lit< tt) (accepting maxSessions h))
+pub demand3-from : SoundAfter → Demand3
+demand3-from h = claim (keeps (accepting h))

@@ -15,7 +15,6 @@ use Rattle.octets.specs.Lists.{all, any, allPairs, ascending, keep, findBy}
 use Rattle.octets.proofs.Tests.{each, all-of-each, all-head, all-tail, all-cons, no-eqb}
 use Rattle.octets.proofs.Ordered.{otherKey, keep-all, keep-pairs, keep-length, keep-passes, keep-less, keep-ascending, ne-of}
 use Rattle.rules.specs.Model.{Settings, Session, Sessions, seidOf}
-use Rattle.rules.specs.Limits.{maxSessions}
 use Rattle.rules.specs.Sound.{settingsAllowed, sessionAllowed, apart, sessionsTests, sessionsAllowed}
 use Rattle.rules.specs.Message.{kindOf, headerSeid, served, deletion, setDeletion}
 use Rattle.rules.specs.Reading.{readRequest}
@@ -32,12 +31,12 @@ use Rattle.laws.proofs.HeaderLaws.{unnamed-new}
 -- ---- taking a session out
 
 -- any of the sessions
-pub keep-allowed : (limit : ℕ) (s : Settings) (q : Session → Bool) (m : Sessions) → T (sessionsAllowed limit s m) → T (sessionsAllowed limit s (keep q m))
+pub keep-allowed : (s : Settings) (q : Session → Bool) (m : Sessions) → T (sessionsAllowed s m) → T (sessionsAllowed s (keep q m))
 unfolding sessionsAllowed sessionsTests
-keep-allowed limit s q m h =
-    let e = each (sessionsTests limit s m) h in
-    all-of-each (sessionsTests limit s (keep q m)) (
-      yes-leb (le-trans (keep-length q m) (leb→le (length m) limit (e .0))),
+keep-allowed s q m h =
+    let e = each (sessionsTests s m) h in
+    all-of-each (sessionsTests s (keep q m)) (
+      yes-leb (le-trans (keep-length q m) (leb→le (length m) (s .limit) (e .0))),
       (
         keep-ascending q seidOf m (e .1 .0),
         (
@@ -47,9 +46,9 @@ keep-allowed limit s q m h =
       ),
     )
 
-pub remove-allowed : (limit : ℕ) (s : Settings) (n : ℕ) (m : Sessions) → T (sessionsAllowed limit s m) → T (sessionsAllowed limit s (removeSession n m))
+pub remove-allowed : (s : Settings) (n : ℕ) (m : Sessions) → T (sessionsAllowed s m) → T (sessionsAllowed s (removeSession n m))
 unfolding removeSession
-remove-allowed limit s n m h = keep-allowed limit s (otherSession n) m h
+remove-allowed s n m h = keep-allowed s (otherSession n) m h
 
 -- the others have other SEIDs
 others : (x : Session) (m : Sessions) → T (all (otherSession (x .seid)) m) → T (all (otherKey seidOf x) m)
@@ -89,20 +88,20 @@ found-seid n (y ∷ m) h = one (eqb (y .seid) n) refl (λ g. found-seid n m g) h
     one false e f g = f g
 
 -- a new session has room by the limit, a changed one has its own place
-room-beside : (limit : ℕ) (s : Settings) (m : Sessions) (msg : List ℕ) → T (sessionsAllowed limit s m) → T (not (eqb (kindOf msg) setDeletion)) → Passed limit s m msg
-    → length (removeSession (entrySession m msg .seid) m) < limit
+room-beside : (s : Settings) (m : Sessions) (msg : List ℕ) → T (sessionsAllowed s m) → T (not (eqb (kindOf msg) setDeletion)) → Passed s m msg
+    → length (removeSession (entrySession m msg .seid) m) < s .limit
 unfolding entrySession atEntry tooManySessions unknownSession sessionsAllowed sessionsTests
-room-beside limit s m msg hm ns p = one (unnamed (kindOf msg)) (p .known) (subst (λ (b : Bool). T (not (b && leb limit (length m)))) (sym (unnamed-new (kindOf msg) ns)) (p .room .0))
+room-beside s m msg hm ns p = one (unnamed (kindOf msg)) (p .known) (subst (λ (b : Bool). T (not (b && leb (s .limit) (length m)))) (sym (unnamed-new (kindOf msg) ns)) (p .room .0))
   where
-    few : length m ≤ limit
-    few = leb→le (length m) limit (each (leb (length m) limit ∷ ascending (map seidOf m) ∷ all (sessionAllowed s) m ∷ allPairs (apart s) m ∷ []) hm .0)
+    few : length m ≤ s .limit
+    few = leb→le (length m) (s .limit) (each (leb (length m) (s .limit) ∷ ascending (map seidOf m) ∷ all (sessionAllowed s) m ∷ allPairs (apart s) m ∷ []) hm .0)
 
-    one : (b : Bool) → T (not (not b && not (isLive (headerSeid msg) m))) → T (not (b && leb limit (length m)))
-        → length (removeSession (pick b (newSession (readRequest msg .seid)) (valueOr (newSession (headerSeid msg)) (sessionOf (headerSeid msg) m)) .seid) m) < limit
-    one true known space = unfold removeSession newSession in (le-trans (suc-le-suc (keep-length (otherSession (readRequest msg .seid)) m)) (nleb→lt limit (length m) space))
+    one : (b : Bool) → T (not (not b && not (isLive (headerSeid msg) m))) → T (not (b && leb (s .limit) (length m)))
+        → length (removeSession (pick b (newSession (readRequest msg .seid)) (valueOr (newSession (headerSeid msg)) (sessionOf (headerSeid msg) m)) .seid) m) < s .limit
+    one true known space = unfold removeSession newSession in (le-trans (suc-le-suc (keep-length (otherSession (readRequest msg .seid)) m)) (nleb→lt (s .limit) (length m) space))
     one false known space =
         let there = twice (isLive (headerSeid msg) m) known in
-        subst (λ (n : ℕ). length (removeSession n m) < limit) (sym (found-seid (headerSeid msg) m there)) (lt-of-lt-of-le (taken there) few)
+        subst (λ (n : ℕ). length (removeSession n m) < s .limit) (sym (found-seid (headerSeid msg) m there)) (lt-of-lt-of-le (taken there) few)
       where
         twice : (b : Bool) → T (not (not b)) → T b
         twice true h = tt
@@ -116,35 +115,35 @@ pub record OwnSound (s : Settings) (m : Sessions) (msg : List ℕ) : Type 0 wher
   pub sound : T (sessionAllowed s (changed s m msg))
   pub separate : T (all (apart s (changed s m msg)) (removeSession (changed s m msg .seid) m))
 
-unfoldable pub ChangedSound : ℕ → Type 0
-ChangedSound limit =
-    (s : Settings) (m : Sessions) (msg : List ℕ) → T (settingsAllowed s) → T (sessionsAllowed limit s m) → T (octets msg) → T (served (kindOf msg))
-    → T (not (eqb (kindOf msg) setDeletion)) → T (not (eqb (kindOf msg) deletion)) → Passed limit s m msg → OwnSound s m msg
+unfoldable pub ChangedSound : Type 0
+ChangedSound =
+    (s : Settings) (m : Sessions) (msg : List ℕ) → T (settingsAllowed s) → T (sessionsAllowed s m) → T (octets msg) → T (served (kindOf msg))
+    → T (not (eqb (kindOf msg) setDeletion)) → T (not (eqb (kindOf msg) deletion)) → Passed s m msg → OwnSound s m msg
 
-pub sound-after : (limit : ℕ) → ChangedSound limit → SoundAfter limit
+pub sound-after : ChangedSound → SoundAfter
 unfolding ChangedSound SoundAfter sessionsAfter follow changed entrySession apply atEntry
-sound-after limit changes s m msg hs hm ho hk p = sets (eqb (kindOf msg) setDeletion) refl
+sound-after changes s m msg hs hm ho hk p = sets (eqb (kindOf msg) setDeletion) refl
   where
-    put : T (not (eqb (kindOf msg) setDeletion)) → T (not (eqb (kindOf msg) deletion)) → T (sessionsAllowed limit s (putSession (changed s m msg) m))
+    put : T (not (eqb (kindOf msg) setDeletion)) → T (not (eqb (kindOf msg) deletion)) → T (sessionsAllowed s (putSession (changed s m msg) m))
     put ns nd = unfold putSession ChangedSound in (
         let c = changes s m msg hs hm ho hk ns nd p in
         let x = changed s m msg in
         let n = x .seid in
-        insert-allowed limit s x (removeSession n m) (remove-allowed limit s n m hm) (c .sound)
-        (others x (removeSession n m) (unfold removeSession in (keep-passes (otherSession n) m))) (c .separate) (room-beside limit s m msg hm ns p))
+        insert-allowed s x (removeSession n m) (remove-allowed s n m hm) (c .sound)
+        (others x (removeSession n m) (unfold removeSession in (keep-passes (otherSession n) m))) (c .separate) (room-beside s m msg hm ns p))
 
     go : T (not (eqb (kindOf msg) setDeletion)) → (b : Bool) → eqb (kindOf msg) deletion ≡ b
-        → T (sessionsAllowed limit s (pick b (removeSession (headerSeid msg) m)
+        → T (sessionsAllowed s (pick b (removeSession (headerSeid msg) m)
         (putSession (apply (granted s m (readRequest msg)) (readRequest msg) (atEntry (kindOf msg) (headerSeid msg) (readRequest msg) m)) m)))
-    go ns true e = remove-allowed limit s (headerSeid msg) m hm
+    go ns true e = remove-allowed s (headerSeid msg) m hm
     go ns false e = unfold changed entrySession in (put ns (subst (λ (b : Bool). T (not b)) (sym e) tt))
 
     sets : (b : Bool) → eqb (kindOf msg) setDeletion ≡ b
-        → T (sessionsAllowed limit s (pick b (keep (staysSession (readRequest msg .listed)) m) (pick (eqb (kindOf msg) deletion) (removeSession (headerSeid msg) m)
+        → T (sessionsAllowed s (pick b (keep (staysSession (readRequest msg .listed)) m) (pick (eqb (kindOf msg) deletion) (removeSession (headerSeid msg) m)
         (putSession (apply (granted s m (readRequest msg)) (readRequest msg) (atEntry (kindOf msg) (headerSeid msg) (readRequest msg) m)) m))))
-    sets true e = keep-allowed limit s (staysSession (readRequest msg .listed)) m hm
+    sets true e = keep-allowed s (staysSession (readRequest msg .listed)) m hm
     sets false e = go (subst (λ (b : Bool). T (not b)) (sym e) tt) (eqb (kindOf msg) deletion) refl
 
 -- demand 3 from that
-pub demand3-from-changed : ChangedSound maxSessions → Demand3
-demand3-from-changed h = demand3-from (sound-after maxSessions h)
+pub demand3-from-changed : ChangedSound → Demand3
+demand3-from-changed h = demand3-from (sound-after h)

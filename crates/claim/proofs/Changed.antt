@@ -13,7 +13,6 @@ use Rattle.octets.specs.Octets.{octets}
 use Rattle.octets.specs.Lists.{member, anyIn, ascending, all, allPairs, keep, findBy, collect}
 use Rattle.octets.proofs.ListLaws.{not-not, all-every, all-always, found-passes, found-knows, found-others}
 use Rattle.rules.specs.Model.{Settings, Session, Sessions, sessionHoldings, sessionTeids, heldTeids, freeTeids, sessionAddresses, heldAddresses}
-use Rattle.rules.specs.Limits.{maxSessions}
 use Rattle.rules.specs.Sound.{sessionAllowed, sessionsAllowed, apart}
 use Rattle.rules.specs.Message.{kindOf, headerSeid, setDeletion}
 use Rattle.rules.specs.Reading.{readFault, readRequest, Request}
@@ -81,14 +80,14 @@ found-separate s m n x h e =
     subst (λ (i : ℕ). T (all (apart s x) (keep (λ z. not (hasSeid i z)) m))) (sym (found-has m n x e)) (found-others (apart s) (apart-turn s) (hasSeid n) m x h e)
 
 -- a live one
-found-entry : (limit : ℕ) (s : Settings) (m : Sessions) (n : ℕ) → T (sessionsAllowed limit s m) → T (isLive n m) → Entry s m (valueOr (newSession n) (sessionOf n m))
+found-entry : (s : Settings) (m : Sessions) (n : ℕ) → T (sessionsAllowed s m) → T (isLive n m) → Entry s m (valueOr (newSession n) (sessionOf n m))
 unfolding isLive sessionOf
-found-entry limit s m n hm live = one (findBy (hasSeid n) m) refl live
+found-entry s m n hm live = one (findBy (hasSeid n) m) refl live
   where
     one : (o : Option Session) → findBy (hasSeid n) m ≡ o → T (isSome o) → Entry s m (valueOr (newSession n) o)
     one none e h = absurd h
     one (some x) e h =
-        let k = sessions-kept limit s m hm in
+        let k = sessions-kept s m hm in
         record {
           kept = session-kept s x (found-knows (λ z. T (sessionAllowed s z)) (hasSeid n) m x (all-every (sessionAllowed s) m (k .sessions)) e);
           held = found-knows (λ z. T (all (λ t. member t (heldTeids m)) (sessionTeids z))) (hasSeid n) m x (all-every (λ z. all (λ t. member t (heldTeids m)) (sessionTeids z)) m (all-held m)) e;
@@ -98,22 +97,22 @@ found-entry limit s m n hm live = one (findBy (hasSeid n) m) refl live
         }
 
 -- the one that a request without a fault is about
-pub entry-known : (limit : ℕ) (s : Settings) (m : Sessions) (msg : List ℕ) → T (sessionsAllowed limit s m) → T (octets msg) → T (not (eqb (kindOf msg) setDeletion)) → T (not (unknownSession m msg)) → readFault msg ≡ none → Entry s m (entrySession m msg)
+pub entry-known : (s : Settings) (m : Sessions) (msg : List ℕ) → T (sessionsAllowed s m) → T (octets msg) → T (not (eqb (kindOf msg) setDeletion)) → T (not (unknownSession m msg)) → readFault msg ≡ none → Entry s m (entrySession m msg)
 unfolding entrySession atEntry unknownSession
-entry-known limit s m msg hm ho ns known read = one (unnamed (kindOf msg)) refl known
+entry-known s m msg hm ho ns known read = one (unnamed (kindOf msg)) refl known
   where
     one : (b : Bool) → unnamed (kindOf msg) ≡ b → T (not (not b && not (isLive (headerSeid msg) m)))
         → Entry s m (pick b (newSession (readRequest msg .seid)) (valueOr (newSession (headerSeid msg)) (sessionOf (headerSeid msg) m)))
     one true e k = new-entry s m (readRequest msg .seid) (seid-read msg ho (subst T (sym e ∙ unnamed-new (kindOf msg) ns) tt) read)
-    one false e k = found-entry limit s m (headerSeid msg) hm (not-not (isLive (headerSeid msg) m) k)
+    one false e k = found-entry s m (headerSeid msg) hm (not-not (isLive (headerSeid msg) m) k)
 
 -- the one that an accepted request is about
-pub entry-sound : (limit : ℕ) (s : Settings) (m : Sessions) (msg : List ℕ) → T (sessionsAllowed limit s m) → T (octets msg) → T (not (eqb (kindOf msg) setDeletion)) → Passed limit s m msg → Entry s m (entrySession m msg)
-entry-sound limit s m msg hm ho ns p = entry-known limit s m msg hm ho ns (p .known) (p .read)
+pub entry-sound : (s : Settings) (m : Sessions) (msg : List ℕ) → T (sessionsAllowed s m) → T (octets msg) → T (not (eqb (kindOf msg) setDeletion)) → Passed s m msg → Entry s m (entrySession m msg)
+entry-sound s m msg hm ho ns p = entry-known s m msg hm ho ns (p .known) (p .read)
 
 -- ---- the session afterwards
 
-module _ (limit kind : ℕ) (s : Settings) (m : Sessions) (x : Session) (r : Request) (entry : Entry s m x) (rules : RulesKept s m x r) (room : RoomLeft limit kind s m x r) (read : RequestRead r)
+module _ (kind : ℕ) (s : Settings) (m : Sessions) (x : Session) (r : Request) (entry : Entry s m x) (rules : RulesKept s m x r) (room : RoomLeft kind s m x r) (read : RequestRead r)
     (enough′ : need r ≤ length (freeTeids s m)) (ok : T (not (invalidAllocation r))) (found : T (not (noAddress s m r))) (fits : T (ltb (chosenAddress s m) (2 ^ 32))) where
   -- what the records get
   abbrev got : Kind → ℕ → Got
@@ -131,12 +130,12 @@ module _ (limit kind : ℕ) (s : Settings) (m : Sessions) (x : Session) (r : Req
       record {
         seid = unfold apply in (k .seid);
         seidFits = unfold apply in (k .seidFits);
-        fewPdrs = unfold apply in (pdrs-few limit kind s m x r k rules room read enough′ fits);
-        pdrOrder = unfold apply in (pdrs-order limit kind s m x r k rules room read enough′ fits);
-        pdrs = unfold apply in (pdrs-allowed limit kind s m x r k rules room read enough′ fits);
-        fewEndpoints = unfold apply in (endpoints-few limit kind s m x r k rules room read enough′ fits);
-        endpointOrder = unfold apply in (endpoints-order limit kind s m x r k rules room read enough′ fits);
-        endpoints = unfold apply in (endpoints-allowed limit kind s m x r k rules room read enough′ fits);
+        fewPdrs = unfold apply in (pdrs-few kind s m x r k rules room read enough′ fits);
+        pdrOrder = unfold apply in (pdrs-order kind s m x r k rules room read enough′ fits);
+        pdrs = unfold apply in (pdrs-allowed kind s m x r k rules room read enough′ fits);
+        fewEndpoints = unfold apply in (endpoints-few kind s m x r k rules room read enough′ fits);
+        endpointOrder = unfold apply in (endpoints-order kind s m x r k rules room read enough′ fits);
+        endpoints = unfold apply in (endpoints-allowed kind s m x r k rules room read enough′ fits);
         fewCsids = csids-few (apply got r x .csids) csids-after;
         csidOrder = csids-after .order;
         csids = csids-after .each;
@@ -148,20 +147,20 @@ module _ (limit kind : ℕ) (s : Settings) (m : Sessions) (x : Session) (r : Req
   unfolding removeSession
   applied-separate = changed-apart s m x r rules found (entry .kept) read enough′ (entry .held) (otherSession (x .seid)) (entry .separate)
 
--- the open fact of the sequence claim, for any number of session slots
-pub changed-sound : (limit : ℕ) → ChangedSound limit
+-- the open fact of the sequence claim
+pub changed-sound : ChangedSound
 unfolding ChangedSound changed
-changed-sound limit s m msg hs hm ho hk ns nd p =
+changed-sound s m msg hs hm ho hk ns nd p =
     let x = entrySession m msg in
     let r = readRequest msg in
-    let entry = entry-sound limit s m msg hm ho ns p in
+    let entry = entry-sound s m msg hm ho ns p in
     let rules = rules-kept s m x r (p .rules) in
-    let room = room-left limit (kindOf msg) s m x r (p .room) in
+    let room = room-left (kindOf msg) s m x r (p .room) in
     record {
-      sound = unfold changed in (session-allowed (applied-kept limit (kindOf msg) s m x r entry rules room (request-read msg ho) (enough p) (p .allocation) (p .address) (chosen-address-fits s hs m)));
-      separate = unfold changed apply in (applied-separate limit (kindOf msg) s m x r entry rules room (request-read msg ho) (enough p) (p .allocation) (p .address) (chosen-address-fits s hs m));
+      sound = unfold changed in (session-allowed (applied-kept (kindOf msg) s m x r entry rules room (request-read msg ho) (enough p) (p .allocation) (p .address) (chosen-address-fits s hs m)));
+      separate = unfold changed apply in (applied-separate (kindOf msg) s m x r entry rules room (request-read msg ho) (enough p) (p .allocation) (p .address) (chosen-address-fits s hs m));
     }
 
 -- demand 3
 pub demand3 : Demand3
-demand3 = demand3-from-changed (changed-sound maxSessions)
+demand3 = demand3-from-changed changed-sound

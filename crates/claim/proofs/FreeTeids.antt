@@ -59,9 +59,9 @@ session-pool s x h =
     of-pdr p g = unfold pdrHolding in (place (p .source) (p .place) (pdr-kept s (map endpointId (x .endpoints)) p g .place))
 
 -- every held TEID is in the pool
-pub held-in-pool : (limit : ℕ) (s : Settings) (m : Sessions) → T (sessionsAllowed limit s m) → T (all (inPool s) (heldTeids m))
+pub held-in-pool : (s : Settings) (m : Sessions) → T (sessionsAllowed s m) → T (all (inPool s) (heldTeids m))
 unfolding heldTeids all
-held-in-pool limit s m h = go m (sessions-kept limit s m h .sessions)
+held-in-pool s m h = go m (sessions-kept s m h .sessions)
   where
     go : (l : Sessions) → T (all (sessionAllowed s) l) → T (all (inPool s) (heldTeids l))
     go [] g = tt
@@ -70,6 +70,6 @@ held-in-pool limit s m h = go m (sessions-kept limit s m h .sessions)
 -- ---- how many are free
 
 -- in a table that is not broken there are as many free TEIDs as the free count says
-pub free-count : (limit : ℕ) (s : Settings) (m : Sessions) → T (sessionsAllowed limit s m) → length (freeTeids s m) ≡ freeCount s m
+pub free-count : (s : Settings) (m : Sessions) → T (sessionsAllowed s m) → length (freeTeids s m) ≡ freeCount s m
 unfolding freeTeids freeCount inPool
-free-count limit s m h = unheld-count (s .first) (s .size) (heldTeids m) (held-in-pool limit s m h)
+free-count s m h = unheld-count (s .first) (s .size) (heldTeids m) (held-in-pool s m h)

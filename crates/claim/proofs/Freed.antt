@@ -41,8 +41,8 @@ others-not : (s : Settings) (of : Session → List ℕ) → ((y z : Session) →
 others-not s of common n x l h far =
     all-imply (apart s x) (λ z. not (member n (of z))) (λ z g. member-passes (λ k. not (member k (of z))) n (of x) h (none-in (of x) (of z) (common x z g))) l far
 
-module _ (limit : ℕ) (s : Settings) (m : Sessions) (msg : List ℕ) (hm : T (sessionsAllowed limit s m)) (ho : T (octets msg)) (ns : T (not (eqb (kindOf msg) setDeletion)))
-    (p : Passed limit s m msg) where
+module _ (s : Settings) (m : Sessions) (msg : List ℕ) (hm : T (sessionsAllowed s m)) (ho : T (octets msg)) (ns : T (not (eqb (kindOf msg) setDeletion)))
+    (p : Passed s m msg) where
   -- the session at entry
   abbrev x : Session
   x = entrySession m msg
@@ -53,7 +53,7 @@ module _ (limit : ℕ) (s : Settings) (m : Sessions) (msg : List ℕ) (hm : T (s
 
   -- what is known of the session at entry
   entry : Entry s m x
-  entry = entry-sound limit s m msg hm ho ns p
+  entry = entry-sound s m msg hm ho ns p
 
   rules : RulesKept s m x r
   rules = rules-kept s m x r (p .rules)
@@ -103,7 +103,7 @@ module _ (limit : ℕ) (s : Settings) (m : Sessions) (msg : List ℕ) (hm : T (s
     held-n = member-passes (λ k. member k (heldTeids m)) n (sessionTeids x) h (entry .held)
 
     pool-n : T (inPool s n)
-    pool-n = member-passes (inPool s) n (heldTeids m) held-n (held-in-pool limit s m hm)
+    pool-n = member-passes (inPool s) n (heldTeids m) held-n (held-in-pool s m hm)
 
     -- the changed session does not hold it, where none of the records that stay does
     changed-unheld : T (not (member n (map teidOf (stayingHoldings r x)))) → T (not (member n (sessionTeids (apply (granted s m r) r x))))
@@ -202,7 +202,7 @@ module _ (s : Settings) (of : Session → List ℕ) (held : Sessions → List �
           (more h)
 
 -- so every TEID and every address of the pool of a session that a set deletion takes out is free afterwards
-module _ (limit : ℕ) (s : Settings) (m : Sessions) (msg : List ℕ) (hm : T (sessionsAllowed limit s m)) (d : T (eqb (kindOf msg) setDeletion)) where
+module _ (s : Settings) (m : Sessions) (msg : List ℕ) (hm : T (sessionsAllowed s m)) (d : T (eqb (kindOf msg) setDeletion)) where
   abbrev goes : Session → Bool
   goes = goesSession (readRequest msg .listed)
 
@@ -210,12 +210,12 @@ module _ (limit : ℕ) (s : Settings) (m : Sessions) (msg : List ℕ) (hm : T (s
   left = unfold sessionsAfter follow staysSession in (pick-yes (eqb (kindOf msg) setDeletion) (keep (λ z. not (goes z)) m) _ d)
 
   apart-all : T (allPairs (apart s) m)
-  apart-all = sessions-kept limit s m hm .separate
+  apart-all = sessions-kept s m hm .separate
 
   pub listed-free : (n : ℕ) → T (member n (heldTeids (keep (goesSession (readRequest msg .listed)) m))) → T (member n (freeTeids s (sessionsAfter s m msg)))
   unfolding heldTeids
   listed-free n h =
-      free-there s (sessionsAfter s m msg) n (member-passes (inPool s) n (heldTeids (keep goes m)) h (held-in-pool limit s (keep goes m) (keep-allowed limit s goes m hm)))
+      free-there s (sessionsAfter s m msg) n (member-passes (inPool s) n (heldTeids (keep goes m)) h (held-in-pool s (keep goes m) (keep-allowed s goes m hm)))
       (subst (λ (l : Sessions). T (not (member n (heldTeids l)))) (sym left)
       (absent-held n (keep (λ z. not (goes z)) m) (none-stays s sessionTeids heldTeids absent-held (λ y l. refl) (apart-teids s) goes n m apart-all h)))
 

@@ -55,7 +55,7 @@ module _ (p : ℕ → Bool) where
   next-ok (t ∷ ts) n h k = (all-head p t ts k, all-tail p t ts k, omega arith)
 
 -- as many TEIDs are free as an accepted request needs
-module _ {limit : ℕ} {s : Settings} {m : Sessions} {msg : List ℕ} (passed : Passed limit s m msg) where
+module _ {s : Settings} {m : Sessions} {msg : List ℕ} (passed : Passed s m msg) where
   pub enough : need (readRequest msg) ≤ length (freeTeids s m)
   unfolding tooFewTeids
   enough = le-trans (nltb→le (freeCount s m) (need (readRequest msg)) (passed .room .1 .1 .1 .0)) (free-enough s m)

@@ -151,16 +151,16 @@ session-allowed {s} {x} k =
     all-of-each (sessionTests s x) (k .seid, (k .seidFits, (k .fewPdrs, (k .pdrOrder, (k .pdrs, (k .fewEndpoints, (k .endpointOrder, (k .endpoints, (k .fewCsids, (k .csidOrder, (k .csids, (k .holds, tt))))))))))))
 
 -- Sound.sessionsTests
-pub record SessionsKept (limit : ℕ) (s : Settings) (m : Sessions) : Type 0 where
-  pub few : T (leb (length m) limit)
+pub record SessionsKept (s : Settings) (m : Sessions) : Type 0 where
+  pub few : T (leb (length m) (s .limit))
   pub order : T (ascending (map seidOf m))
   pub sessions : T (all (sessionAllowed s) m)
   pub separate : T (allPairs (apart s) m)
 
 -- from the tests to the names
-pub sessions-kept : (limit : ℕ) (s : Settings) (m : Sessions) → T (sessionsAllowed limit s m) → SessionsKept limit s m
+pub sessions-kept : (s : Settings) (m : Sessions) → T (sessionsAllowed s m) → SessionsKept s m
 unfolding sessionsAllowed sessionsTests
-sessions-kept limit s m h = let e = each (sessionsTests limit s m) h in record { few = e .0; order = e .1 .0; sessions = e .1 .1 .0; separate = e .1 .1 .1 .0 }
+sessions-kept s m h = let e = each (sessionsTests s m) h in record { few = e .0; order = e .1 .0; sessions = e .1 .1 .0; separate = e .1 .1 .1 .0 }
 
 -- ---- the rules of cause 73 that a request keeps
 
@@ -223,17 +223,17 @@ rules-kept s m x r n =
 -- ---- the room of cause 75 that a request finds
 
 -- Stages.noRoom, of which no test holds
-pub record RoomLeft (limit kind : ℕ) (s : Settings) (m : Sessions) (x : Session) (r : Request) : Type 0 where
-  pub sessions : T (not (tooManySessions limit kind m))
+pub record RoomLeft (kind : ℕ) (s : Settings) (m : Sessions) (x : Session) (r : Request) : Type 0 where
+  pub sessions : T (not (tooManySessions s kind m))
   pub pdrs : length (x .pdrs) - length (removedPdrs r (x .pdrs)) + length (r .pdrs) ≤ maxPdrs
   pub endpoints : length (x .endpoints) - length (r .goneEndpoints) + length (r .endpoints) ≤ maxEndpoints
   pub teids : need r ≤ freeCount s m
 
 -- from the tests to the names
-pub room-left : (limit kind : ℕ) (s : Settings) (m : Sessions) (x : Session) (r : Request)
-    → NoneOf (tooManySessions limit kind m ∷ tooManyPdrs x r ∷ tooManyEndpoints x r ∷ tooFewTeids s m r ∷ []) → RoomLeft limit kind s m x r
+pub room-left : (kind : ℕ) (s : Settings) (m : Sessions) (x : Session) (r : Request)
+    → NoneOf (tooManySessions s kind m ∷ tooManyPdrs x r ∷ tooManyEndpoints x r ∷ tooFewTeids s m r ∷ []) → RoomLeft kind s m x r
 unfolding tooManyPdrs tooManyEndpoints tooFewTeids
-room-left limit kind s m x r n =
+room-left kind s m x r n =
     record {
       sessions = n .0;
       pdrs = nltb→le maxPdrs (length (x .pdrs) - length (removedPdrs r (x .pdrs)) + length (r .pdrs)) (n .1 .0);

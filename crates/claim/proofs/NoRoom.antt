@@ -65,10 +65,10 @@ past n c false v ne e = (tt, e)
 earlier : List ℕ
 earlier = why.noSession ∷ why.mandatoryMissing ∷ why.conditionalMissing ∷ why.wrongLength ∷ why.incorrect ∷ why.rejected ∷ why.wrongAllocation ∷ why.notSupported ∷ why.brokenRule ∷ []
 
-module _ (limit : ℕ) (s : Settings) (m : Sessions) (msg : List ℕ) where
+module _ (s : Settings) (m : Sessions) (msg : List ℕ) where
   -- the limits leave no room for the request
   abbrev pub Full : Type 0
-  Full = T (noRoom limit (kindOf msg) s m (entrySession m msg) (readRequest msg))
+  Full = T (noRoom (kindOf msg) s m (entrySession m msg) (readRequest msg))
 
   -- it chooses an address, and none is free
   abbrev pub Unaddressed : Type 0
@@ -76,7 +76,7 @@ module _ (limit : ℕ) (s : Settings) (m : Sessions) (msg : List ℕ) where
 
   -- stages 5 and 6
   abbrev last : Verdict
-  last = pick (noRoom limit (kindOf msg) s m (entrySession m msg) (readRequest msg)) (plain why.noRoom) (pick (noAddress s m (readRequest msg)) (plain why.noAddress) (plain why.accepted))
+  last = pick (noRoom (kindOf msg) s m (entrySession m msg) (readRequest msg)) (plain why.noRoom) (pick (noAddress s m (readRequest msg)) (plain why.noAddress) (plain why.accepted))
 
   -- any other cause n
   module _ (n : ℕ) (late : T (not (member n earlier))) where
@@ -84,7 +84,7 @@ module _ (limit : ℕ) (s : Settings) (m : Sessions) (msg : List ℕ) where
     other c h e = T-not (member n earlier) late (subst (λ (k : ℕ). T (member k earlier)) e h)
 
     -- stage 2
-    past-framing : (o : Option Spot) → fromFraming limit s m msg o .cause ≡ n → (o ≡ none) × (fromReading limit s m msg (readFault msg) .cause ≡ n)
+    past-framing : (o : Option Spot) → fromFraming s m msg o .cause ≡ n → (o ≡ none) × (fromReading s m msg (readFault msg) .cause ≡ n)
     unfolding fromFraming
     past-framing none e = (refl, e)
     past-framing (some t) e = absurd (other why.wrongLength (unfold earlier member in tt) e)
@@ -98,16 +98,16 @@ module _ (limit : ℕ) (s : Settings) (m : Sessions) (msg : List ℕ) where
     refused incorrect = other why.incorrect tt
 
     -- stage 3
-    past-reading : (o : Option Fault) → fromReading limit s m msg o .cause ≡ n → (o ≡ none) × (judged limit s m msg .cause ≡ n)
+    past-reading : (o : Option Fault) → fromReading s m msg o .cause ≡ n → (o ≡ none) × (judged s m msg .cause ≡ n)
     unfolding fromReading
     past-reading none e = (refl, e)
     past-reading (some f) e = absurd (refused (f .cause) e)
 
     -- it comes from stages 5 and 6
-    reached : verdict limit s m msg .cause ≡ n → Reached s m msg × (last .cause ≡ n)
+    reached : verdict s m msg .cause ≡ n → Reached s m msg × (last .cause ≡ n)
     unfolding verdict judged judge earlier member
     reached e =
-        let a = past n why.noSession (unknownSession m msg) (fromFraming limit s m msg (frameFault msg)) (other why.noSession tt) e in
+        let a = past n why.noSession (unknownSession m msg) (fromFraming s m msg (frameFault msg)) (other why.noSession tt) e in
         let b = past-framing (frameFault msg) (a .1) in
         let c = past-reading (readFault msg) (b .1) in
         let x = entrySession m msg in
@@ -126,10 +126,10 @@ module _ (limit : ℕ) (s : Settings) (m : Sessions) (msg : List ℕ) where
   full-branch false false e = absurd (omega arith)
 
   -- 75 only then
-  pub cause-75 : verdict limit s m msg .cause ≡ why.noRoom → Reached s m msg × Full
+  pub cause-75 : verdict s m msg .cause ≡ why.noRoom → Reached s m msg × Full
   cause-75 e =
       let k = reached why.noRoom (unfold earlier member in tt) e in
-      (k .0, full-branch (noRoom limit (kindOf msg) s m (entrySession m msg) (readRequest msg)) (noAddress s m (readRequest msg)) (k .1))
+      (k .0, full-branch (noRoom (kindOf msg) s m (entrySession m msg) (readRequest msg)) (noAddress s m (readRequest msg)) (k .1))
 
   -- the branch of 79
   empty-branch : (b c : Bool) → pick b (plain why.noRoom) (pick c (plain why.noAddress) (plain why.accepted)) .cause ≡ why.noAddress → T (not b) × T c
@@ -138,50 +138,50 @@ module _ (limit : ℕ) (s : Settings) (m : Sessions) (msg : List ℕ) where
   empty-branch false false e = absurd (omega arith)
 
   -- 79 only where there is room, and no address
-  pub cause-79 : verdict limit s m msg .cause ≡ why.noAddress → Reached s m msg × (T (not (noRoom limit (kindOf msg) s m (entrySession m msg) (readRequest msg))) × Unaddressed)
+  pub cause-79 : verdict s m msg .cause ≡ why.noAddress → Reached s m msg × (T (not (noRoom (kindOf msg) s m (entrySession m msg) (readRequest msg))) × Unaddressed)
   cause-79 e =
       let k = reached why.noAddress (unfold earlier member in tt) e in
-      (k .0, empty-branch (noRoom limit (kindOf msg) s m (entrySession m msg) (readRequest msg)) (noAddress s m (readRequest msg)) (k .1))
+      (k .0, empty-branch (noRoom (kindOf msg) s m (entrySession m msg) (readRequest msg)) (noAddress s m (readRequest msg)) (k .1))
 
   -- the verdict of a request without an earlier fault
-  reached-verdict : Reached s m msg → verdict limit s m msg ≡ last
+  reached-verdict : Reached s m msg → verdict s m msg ≡ last
   unfolding verdict judged judge
   reached-verdict p =
       let r = readRequest msg in
       pick-no (unknownSession m msg) (plain why.noSession) _ (p .known)
-      ∙ ap (fromFraming limit s m msg) (p .framed)
+      ∙ ap (fromFraming s m msg) (p .framed)
       ∙ framed
-      ∙ ap (fromReading limit s m msg) (p .read)
+      ∙ ap (fromReading s m msg) (p .read)
       ∙ read
       ∙ pick-no (eqb (kindOf msg) establishment && isLive (r .seid) m) (plain why.rejected) _ (p .fresh)
       ∙ pick-no (invalidAllocation r) (plain why.wrongAllocation) _ (p .allocation)
       ∙ pick-no (r .unsupported) (plain why.notSupported) _ (p .supported)
       ∙ pick-no (breaksRule s m (entrySession m msg) r) (plain why.brokenRule) _ (p .rules)
     where
-      framed : fromFraming limit s m msg none ≡ fromReading limit s m msg (readFault msg)
+      framed : fromFraming s m msg none ≡ fromReading s m msg (readFault msg)
       framed = unfold fromFraming in refl
 
-      read : fromReading limit s m msg none ≡ judged limit s m msg
+      read : fromReading s m msg none ≡ judged s m msg
       read = unfold fromReading in refl
 
   -- 75 always then
-  pub verdict-75 : Reached s m msg → Full → verdict limit s m msg .cause ≡ why.noRoom
-  verdict-75 p full = ap {B = ℕ} (λ (v : Verdict). v .cause) (reached-verdict p ∙ pick-yes (noRoom limit (kindOf msg) s m (entrySession m msg) (readRequest msg)) (plain why.noRoom) _ full)
+  pub verdict-75 : Reached s m msg → Full → verdict s m msg .cause ≡ why.noRoom
+  verdict-75 p full = ap {B = ℕ} (λ (v : Verdict). v .cause) (reached-verdict p ∙ pick-yes (noRoom (kindOf msg) s m (entrySession m msg) (readRequest msg)) (plain why.noRoom) _ full)
 
   -- 79 always then
-  pub verdict-79 : Reached s m msg → T (not (noRoom limit (kindOf msg) s m (entrySession m msg) (readRequest msg))) → Unaddressed → verdict limit s m msg .cause ≡ why.noAddress
+  pub verdict-79 : Reached s m msg → T (not (noRoom (kindOf msg) s m (entrySession m msg) (readRequest msg))) → Unaddressed → verdict s m msg .cause ≡ why.noAddress
   verdict-79 p room full =
       ap {B = ℕ} (λ (v : Verdict). v .cause)
       (reached-verdict p
-      ∙ pick-no (noRoom limit (kindOf msg) s m (entrySession m msg) (readRequest msg)) (plain why.noRoom) _ room
+      ∙ pick-no (noRoom (kindOf msg) s m (entrySession m msg) (readRequest msg)) (plain why.noRoom) _ room
       ∙ pick-yes (noAddress s m (readRequest msg)) (plain why.noAddress) (plain why.accepted) full)
 
 -- ---- what would result
 
--- 01's words: more than `limit` sessions, 16 PDRs or 8 endpoints would result, or more TEIDs are needed than are free at entry
-unfoldable pub overLimits : ℕ → Settings → Sessions → List ℕ → List Bool
-overLimits limit s m msg =
-    ltb limit (length (sessionsAfter s m msg))
+-- 01's words: more sessions than the limit, 16 PDRs or 8 endpoints would result, or more TEIDs are needed than are free at entry
+unfoldable pub overLimits : Settings → Sessions → List ℕ → List Bool
+overLimits s m msg =
+    ltb (s .limit) (length (sessionsAfter s m msg))
     ∷ ltb maxPdrs (length (changed s m msg .pdrs))
     ∷ ltb maxEndpoints (length (changed s m msg .endpoints))
     ∷ ltb (length (freeTeids s m)) (need (readRequest msg))
@@ -201,7 +201,7 @@ absent-stays : (n : ℕ) (m : Sessions) → T (not (isLive n m)) → removeSessi
 unfolding isLive sessionOf removeSession otherSession
 absent-stays n m h = keep-everything (λ z. not (hasSeid n z)) m (none-found (hasSeid n) m h)
 
-module _ (limit : ℕ) (s : Settings) (m : Sessions) (msg : List ℕ) (hm : T (sessionsAllowed limit s m)) (ho : T (octets msg)) (p : Reached s m msg) where
+module _ (s : Settings) (m : Sessions) (msg : List ℕ) (hm : T (sessionsAllowed s m)) (ho : T (octets msg)) (p : Reached s m msg) where
   -- the session at entry
   abbrev x : Session
   x = entrySession m msg
@@ -219,12 +219,12 @@ module _ (limit : ℕ) (s : Settings) (m : Sessions) (msg : List ℕ) (hm : T (s
   pdr-order : T (ascending (map pdrId (x .pdrs)))
   pdr-order =
       by-test (eqb (kindOf msg) setDeletion) (λ d. subst (λ (y : Session). T (ascending (map pdrId (y .pdrs)))) (sym (sets-entry d)) (unfold newSession ascending in tt))
-      (λ ns. entry-known limit s m msg hm ho ns (p .known) (p .read) .kept .pdrOrder)
+      (λ ns. entry-known s m msg hm ho ns (p .known) (p .read) .kept .pdrOrder)
 
   endpoint-order : T (ascending (map endpointId (x .endpoints)))
   endpoint-order =
       by-test (eqb (kindOf msg) setDeletion) (λ d. subst (λ (y : Session). T (ascending (map endpointId (y .endpoints)))) (sym (sets-entry d)) (unfold newSession ascending in tt))
-      (λ ns. entry-known limit s m msg hm ho ns (p .known) (p .read) .kept .endpointOrder)
+      (λ ns. entry-known s m msg hm ho ns (p .known) (p .read) .kept .endpointOrder)
 
   -- the rules that the request keeps
   rules : RulesKept s m x r
@@ -232,11 +232,11 @@ module _ (limit : ℕ) (s : Settings) (m : Sessions) (msg : List ℕ) (hm : T (s
   rules = rules-kept s m x r (none-hold (brokenRules s m x r) (p .rules))
 
   -- the sessions at entry are within the limit
-  few : length m ≤ limit
-  few = leb→le (length m) limit (sessions-kept limit s m hm .few)
+  few : length m ≤ s .limit
+  few = leb→le (length m) (s .limit) (sessions-kept s m hm .few)
 
   -- the number of sessions
-  sessions-exact : ltb limit (length (sessionsAfter s m msg)) ≡ tooManySessions limit (kindOf msg) m
+  sessions-exact : ltb (s .limit) (length (sessionsAfter s m msg)) ≡ tooManySessions s (kindOf msg) m
   unfolding sessionsAfter follow tooManySessions
   sessions-exact = sets (eqb (kindOf msg) setDeletion) refl
     where
@@ -259,27 +259,27 @@ module _ (limit : ℕ) (s : Settings) (m : Sessions) (msg : List ℕ) (hm : T (s
       removed-less n live = unfold removeSession in (keep-less (otherSession n) m (live-any n m live))
 
       go : T (not (eqb (kindOf msg) setDeletion)) → (a : Bool) → eqb (kindOf msg) deletion ≡ a → (b : Bool) → eqb (kindOf msg) establishment ≡ b
-          → ltb limit (length (pick a (removeSession (headerSeid msg) m) (putSession (apply (granted s m r) r (atEntry (kindOf msg) (headerSeid msg) r m)) m))) ≡ (b && leb limit (length m))
+          → ltb (s .limit) (length (pick a (removeSession (headerSeid msg) m) (putSession (apply (granted s m r) r (atEntry (kindOf msg) (headerSeid msg) r m)) m))) ≡ (b && leb (s .limit) (length m))
       go ns true d true e =
           let k : kindOf msg ≡ deletion = eqb→eq (kindOf msg) deletion (subst T (sym d) tt) in
           let l : kindOf msg ≡ establishment = eqb→eq (kindOf msg) establishment (subst T (sym e) tt) in
           absurd (omega arith)
-      go ns true d false e = not-above limit (length (removeSession (headerSeid msg) m)) (le-trans (removed-few (headerSeid msg)) few)
+      go ns true d false e = not-above (s .limit) (length (removeSession (headerSeid msg) m)) (le-trans (removed-few (headerSeid msg)) few)
       go ns false d true e =
-          ap (ltb limit) (put-count (apply (granted s m r) r (atEntry (kindOf msg) (headerSeid msg) r m)) m
+          ap (ltb (s .limit)) (put-count (apply (granted s m r) r (atEntry (kindOf msg) (headerSeid msg) r m)) m
           ∙ ap (λ (n : ℕ). suc (length (removeSession n m))) (seid-new (unnamed-new (kindOf msg) ns ∙ e)) ∙ ap (λ (l : Sessions). suc (length l)) (absent-stays (r .seid) m (new-seid e)))
-          ∙ leb·suc-suc limit (length m)
+          ∙ leb·suc-suc (s .limit) (length m)
       go ns false d false e =
           let e′ = unnamed-new (kindOf msg) ns ∙ e in
-          ap (ltb limit) (put-count (apply (granted s m r) r (atEntry (kindOf msg) (headerSeid msg) r m)) m ∙ ap (λ (n : ℕ). suc (length (removeSession n m))) (seid-old e′ (live-header e′)))
-          ∙ not-above limit (suc (length (removeSession (headerSeid msg) m))) (le-trans (removed-less (headerSeid msg) (live-header e′)) few)
+          ap (ltb (s .limit)) (put-count (apply (granted s m r) r (atEntry (kindOf msg) (headerSeid msg) r m)) m ∙ ap (λ (n : ℕ). suc (length (removeSession n m))) (seid-old e′ (live-header e′)))
+          ∙ not-above (s .limit) (suc (length (removeSession (headerSeid msg) m))) (le-trans (removed-less (headerSeid msg) (live-header e′)) few)
 
       sets : (a : Bool) → eqb (kindOf msg) setDeletion ≡ a
-          → ltb limit (length (pick a (keep (staysSession (r .listed)) m) (pick (eqb (kindOf msg) deletion) (removeSession (headerSeid msg) m) (putSession (apply (granted s m r) r (atEntry (kindOf msg) (headerSeid msg) r m)) m))))
-          ≡ (eqb (kindOf msg) establishment && leb limit (length m))
+          → ltb (s .limit) (length (pick a (keep (staysSession (r .listed)) m) (pick (eqb (kindOf msg) deletion) (removeSession (headerSeid msg) m) (putSession (apply (granted s m r) r (atEntry (kindOf msg) (headerSeid msg) r m)) m))))
+          ≡ (eqb (kindOf msg) establishment && leb (s .limit) (length m))
       sets true d =
-          not-above limit (length (keep (staysSession (r .listed)) m)) (le-trans (keep-length (staysSession (r .listed)) m) few)
-          ∙ sym (ap (λ (k : ℕ). eqb k establishment && leb limit (length m)) (eqb→eq (kindOf msg) setDeletion (subst T (sym d) tt)))
+          not-above (s .limit) (length (keep (staysSession (r .listed)) m)) (le-trans (keep-length (staysSession (r .listed)) m) few)
+          ∙ sym (ap (λ (k : ℕ). eqb k establishment && leb (s .limit) (length m)) (eqb→eq (kindOf msg) setDeletion (subst T (sym d) tt)))
       sets false d = go (subst (λ (b : Bool). T (not b)) (sym d) tt) (eqb (kindOf msg) deletion) refl (eqb (kindOf msg) establishment) refl
 
   -- the number of PDRs
@@ -306,43 +306,43 @@ module _ (limit : ℕ) (s : Settings) (m : Sessions) (msg : List ℕ) (hm : T (s
       omega arith
 
   -- stage 5 tests just that
-  pub full-exact : noRoom limit (kindOf msg) s m x r ≡ oneOf (overLimits limit s m msg)
+  pub full-exact : noRoom (kindOf msg) s m x r ≡ oneOf (overLimits s m msg)
   unfolding noRoom overLimits tooManyPdrs tooManyEndpoints tooFewTeids changed apply
   full-exact =
       let got = granted s m r in
       ap₂ _||_ (sym sessions-exact) (ap₂ _||_ (ap (ltb maxPdrs) (sym (pdrs-exact got))) (ap₂ _||_ (ap (ltb maxEndpoints) (sym (endpoints-exact got)))
-      (ap (λ (n : ℕ). ltb n (need r) || false) (sym (free-count limit s m hm)))))
+      (ap (λ (n : ℕ). ltb n (need r) || false) (sym (free-count s m hm)))))
 
 -- ---- the same of `serve`
 
 -- a reply has cause 75 exactly when no earlier fault stands and the limits leave no room
-module _ (limit : ℕ) (t msg space : List ℕ) (ho : T (octets msg)) (zero′ : T (eqb (serve limit t msg space .outcome) 0)) where
+module _ (t msg space : List ℕ) (ho : T (octets msg)) (zero′ : T (eqb (serve t msg space .outcome) 0)) where
   -- the sessions at entry keep the rules
-  sessions-entry : T (sessionsAllowed limit (viewSettings t) (viewSessions t))
-  sessions-entry = table-kept limit t (answers limit t msg space zero′ .table) .sessions
+  sessions-entry : T (sessionsAllowed (viewSettings t) (viewSessions t))
+  sessions-entry = table-kept t (answers t msg space zero′ .table) .sessions
 
   -- only then
-  pub served-75 : replyCause (serve limit t msg space .space) ≡ why.noRoom → Reached (viewSettings t) (viewSessions t) msg × T (oneOf (overLimits limit (viewSettings t) (viewSessions t) msg))
+  pub served-75 : replyCause (serve t msg space .space) ≡ why.noRoom → Reached (viewSettings t) (viewSessions t) msg × T (oneOf (overLimits (viewSettings t) (viewSessions t) msg))
   served-75 e =
-      let k = cause-75 limit (viewSettings t) (viewSessions t) msg (sym (served-cause limit t msg space ho zero′) ∙ e) in
-      (k .0, subst T (full-exact limit (viewSettings t) (viewSessions t) msg sessions-entry ho (k .0)) (k .1))
+      let k = cause-75 (viewSettings t) (viewSessions t) msg (sym (served-cause t msg space ho zero′) ∙ e) in
+      (k .0, subst T (full-exact (viewSettings t) (viewSessions t) msg sessions-entry ho (k .0)) (k .1))
 
   -- and always then
-  pub then-75 : Reached (viewSettings t) (viewSessions t) msg → T (oneOf (overLimits limit (viewSettings t) (viewSessions t) msg)) → replyCause (serve limit t msg space .space) ≡ why.noRoom
+  pub then-75 : Reached (viewSettings t) (viewSessions t) msg → T (oneOf (overLimits (viewSettings t) (viewSessions t) msg)) → replyCause (serve t msg space .space) ≡ why.noRoom
   then-75 p full =
-      served-cause limit t msg space ho zero′
-      ∙ verdict-75 limit (viewSettings t) (viewSessions t) msg p (subst T (sym (full-exact limit (viewSettings t) (viewSessions t) msg sessions-entry ho p)) full)
+      served-cause t msg space ho zero′
+      ∙ verdict-75 (viewSettings t) (viewSessions t) msg p (subst T (sym (full-exact (viewSettings t) (viewSessions t) msg sessions-entry ho p)) full)
 
   -- 79 only where there is room, some record chooses an address and none is free
-  pub served-79 : replyCause (serve limit t msg space .space) ≡ why.noAddress
-      → Reached (viewSettings t) (viewSessions t) msg × (T (not (oneOf (overLimits limit (viewSettings t) (viewSessions t) msg))) × T (noAddress (viewSettings t) (viewSessions t) (readRequest msg)))
+  pub served-79 : replyCause (serve t msg space .space) ≡ why.noAddress
+      → Reached (viewSettings t) (viewSessions t) msg × (T (not (oneOf (overLimits (viewSettings t) (viewSessions t) msg))) × T (noAddress (viewSettings t) (viewSessions t) (readRequest msg)))
   served-79 e =
-      let k = cause-79 limit (viewSettings t) (viewSessions t) msg (sym (served-cause limit t msg space ho zero′) ∙ e) in
-      (k .0, (subst (λ (b : Bool). T (not b)) (full-exact limit (viewSettings t) (viewSessions t) msg sessions-entry ho (k .0)) (k .1 .0), k .1 .1))
+      let k = cause-79 (viewSettings t) (viewSessions t) msg (sym (served-cause t msg space ho zero′) ∙ e) in
+      (k .0, (subst (λ (b : Bool). T (not b)) (full-exact (viewSettings t) (viewSessions t) msg sessions-entry ho (k .0)) (k .1 .0), k .1 .1))
 
   -- and always then
-  pub then-79 : Reached (viewSettings t) (viewSessions t) msg → T (not (oneOf (overLimits limit (viewSettings t) (viewSessions t) msg))) → T (noAddress (viewSettings t) (viewSessions t) (readRequest msg))
-      → replyCause (serve limit t msg space .space) ≡ why.noAddress
+  pub then-79 : Reached (viewSettings t) (viewSessions t) msg → T (not (oneOf (overLimits (viewSettings t) (viewSessions t) msg))) → T (noAddress (viewSettings t) (viewSessions t) (readRequest msg))
+      → replyCause (serve t msg space .space) ≡ why.noAddress
   then-79 p room full =
-      served-cause limit t msg space ho zero′
-      ∙ verdict-79 limit (viewSettings t) (viewSessions t) msg p (subst (λ (b : Bool). T (not b)) (sym (full-exact limit (viewSettings t) (viewSessions t) msg sessions-entry ho p)) room) full
+      served-cause t msg space ho zero′
+      ∙ verdict-79 (viewSettings t) (viewSessions t) msg p (subst (λ (b : Bool). T (not b)) (sym (full-exact (viewSettings t) (viewSessions t) msg sessions-entry ho p)) room) full

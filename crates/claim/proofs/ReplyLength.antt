@@ -146,29 +146,29 @@ module _ (s : Settings) (hs : T (settingsAllowed s)) where
 
 -- ---- every reply
 
-module _ (limit : ℕ) (s : Settings) (hs : T (settingsAllowed s)) (m : Sessions) (msg : List ℕ) where
+module _ (s : Settings) (hs : T (settingsAllowed s)) (m : Sessions) (msg : List ℕ) where
   -- what an accepted request reports
   abbrev reported : Reports
   reported = reports (granted s m (readRequest msg)) (readRequest msg)
 
   -- its reports are few
-  pub reports-few : verdict limit s m msg .cause ≡ why.accepted → FewReports reported
+  pub reports-few : verdict s m msg .cause ≡ why.accepted → FewReports reported
   reports-few e =
-      let p = passed limit s m msg e in
+      let p = passed s m msg e in
       record {
         pdrs = le-trans (few-pdr-reports (granted s m (readRequest msg)) (readRequest msg)) (few-new-pdrs p);
         endpoints = le-trans (few-endpoint-reports (granted s m (readRequest msg)) (readRequest msg)) (few-new-endpoints p);
       }
 
   -- what stands behind the header
-  pub reply-body-short : length (replyBody (kindOf msg) s (readRequest msg .seid) (verdict limit s m msg) reported) ≤ 1181
+  pub reply-body-short : length (replyBody (kindOf msg) s (readRequest msg .seid) (verdict s m msg) reported) ≤ 1181
   reply-body-short =
-      body-short s hs (kindOf msg) (readRequest msg .seid) (verdict limit s m msg) reported (λ h. reports-few (eqb→eq (verdict limit s m msg .cause) why.accepted h))
+      body-short s hs (kindOf msg) (readRequest msg .seid) (verdict s m msg) reported (λ h. reports-few (eqb→eq (verdict s m msg .cause) why.accepted h))
 
   -- a reply has at most 1,197 octets, and so at most 1,280
-  pub reply-short : headerLength msg ≤ length msg → length (replyTo s m msg (verdict limit s m msg)) ≤ 1197
+  pub reply-short : headerLength msg ≤ length msg → length (replyTo s m msg (verdict s m msg)) ≤ 1197
   unfolding replyTo
   reply-short long =
       let c = reply-body-short in
-      let a = length-reply s msg (readRequest msg .seid) (verdict limit s m msg) reported [] (sequence-three msg long) (omega arith) in
+      let a = length-reply s msg (readRequest msg .seid) (verdict s m msg) reported [] (sequence-three msg long) (omega arith) in
       omega arith

@@ -1,7 +1,7 @@
 -- What a restoration request does: it puts its session into the table.
 -- Assumes nothing.
 use mathlib.Core.Path.{_≡_, refl, sym, ap, ap₂, _∙_}
-use Prim.Native.Nat.{ℕ, _^_, _≤_, _<_}
+use Prim.Native.Nat.{ℕ, _≤_, _<_}
 use native.Mathlib.Nat.{le-trans}
 use native.Mathlib.Omega.{arith}
 use mathlib.Core.Bool.{Bool, true, false, not, _&&_, _||_}
@@ -147,22 +147,22 @@ module _ (s : Settings) (hs : T (settingsAllowed s)) where
 
     -- ---- the call
 
-    module _ (limit : ℕ) (m : Sessions) (fresh : isLive (x .seid) m ≡ false) (room : length m < limit)
+    module _ (m : Sessions) (fresh : isLive (x .seid) m ≡ false) (room : length m < s .limit)
         (separate : T (not (anyIn (sessionTeids x) (heldTeids m)))) (separateAddresses : T (not (anyIn (sessionAddresses s x) (heldAddresses s m)))) (p : Peer) (hp : T (peerAllowed p)) where
       abbrev msg : List ℕ
       msg = restoration s p x
 
-      msg-verdict : verdict limit s m msg ≡ plain why.accepted
+      msg-verdict : verdict s m msg ≡ plain why.accepted
       unfolding verdict unknownSession unnamed fromFraming fromReading judged entrySession
       msg-verdict =
-          ap (λ (k : ℕ). pick (not (unnamed k) && not (isLive (headerSeid msg) m)) (plain why.noSession) (fromFraming limit s m msg (frameFault msg))) (msg-kind s hs p hp x hx)
-          ∙ ap (fromFraming limit s m msg) (msg-framed s hs p hp x hx)
-          ∙ ap (fromReading limit s m msg) (msg-sound s hs p hp x hx)
-          ∙ ap₂ (λ (k : ℕ) (r : Request). judge limit k s m (atEntry k (headerSeid msg) r m) r) (msg-kind s hs p hp x hx) (msg-request s hs p hp x hx)
+          ap (λ (k : ℕ). pick (not (unnamed k) && not (isLive (headerSeid msg) m)) (plain why.noSession) (fromFraming s m msg (frameFault msg))) (msg-kind s hs p hp x hx)
+          ∙ ap (fromFraming s m msg) (msg-framed s hs p hp x hx)
+          ∙ ap (fromReading s m msg) (msg-sound s hs p hp x hx)
+          ∙ ap₂ (λ (k : ℕ) (r : Request). judge k s m (atEntry k (headerSeid msg) r m) r) (msg-kind s hs p hp x hx) (msg-request s hs p hp x hx)
           ∙ at-new
         where
-          at-new : judge limit establishment s m (atEntry establishment (headerSeid msg) (restoredRequest s x) m) (restoredRequest s x) ≡ plain why.accepted
-          at-new = unfold atEntry unnamed restoredRequest in (restored-judged s hs x hx limit m fresh room separate separateAddresses)
+          at-new : judge establishment s m (atEntry establishment (headerSeid msg) (restoredRequest s x) m) (restoredRequest s x) ≡ plain why.accepted
+          at-new = unfold atEntry unnamed restoredRequest in (restored-judged s hs x hx m fresh room separate separateAddresses)
 
       msg-after : sessionsAfter s m msg ≡ putSession x m
       unfolding sessionsAfter follow atEntry unnamed
@@ -174,20 +174,20 @@ module _ (s : Settings) (hs : T (settingsAllowed s)) where
           made = unfold restoredRequest in (applied (granted s m (restoredRequest s x)))
 
       -- a restoration into a table of other sessions is accepted, and puts its session in
-      pub restored-call : limit < 256 ^ 2 → T (sessionsAllowed limit s m) → (space : List ℕ) → minSpace ≤ length space
-          → serve limit (encode limit s m) msg space ≡ record { outcome = 0; place = 0; space = put 0 (replyTo s m msg (plain why.accepted)) space; table = encode limit s (putSession x m) }
+      pub restored-call : T (sessionsAllowed s m) → (space : List ℕ) → minSpace ≤ length space
+          → serve (encode s m) msg space ≡ record { outcome = 0; place = 0; space = put 0 (replyTo s m msg (plain why.accepted)) space; table = encode s (putSession x m) }
       unfolding serve serveSound answer answered served
-      restored-call small hm space long =
-          let t = encode limit s m in
+      restored-call hm space long =
+          let t = encode s m in
           let short : length msg ≤ maxMessage = le-trans (msg-short s hs p hp x hx) (lit≤ tt) in
-          pick-yes (sound limit t) _ _ (sound-encode s hs limit small m hm)
-          ∙ ap₂ (λ (s′ : Settings) (m′ : Sessions). serveSound limit s′ m′ t msg space) (encoded-settings s hs limit small m hm) (sessions-back s hs limit small m hm)
+          pick-yes (sound t) _ _ (sound-encode s hs m hm)
+          ∙ ap₂ (λ (s′ : Settings) (m′ : Sessions). serveSound s′ m′ t msg space) (encoded-settings s hs m hm) (sessions-back s hs m hm)
           ∙ pick-no (ltb (length space) minSpace) _ _ (no-ltb long)
           ∙ pick-no (ltb maxMessage (length msg)) _ _ (no-ltb short)
           ∙ pick-no (not (headerAllowed msg)) _ _ (twice (headerAllowed msg) (msg-allowed s hs p hp x hx))
-          ∙ ap (λ (k : ℕ). pick (not (eqb k establishment || eqb k modification || eqb k deletion || eqb k setDeletion)) (unserved 5 space t) (answer limit s m msg space t)) (msg-kind s hs p hp x hx)
-          ∙ ap (answered limit s m msg space t) msg-verdict
-          ∙ ap (λ (m′ : Sessions). record { outcome = 0; place = 0; space = put 0 (replyTo s m msg (plain why.accepted)) space; table = encode limit s m′ }) msg-after
+          ∙ ap (λ (k : ℕ). pick (not (eqb k establishment || eqb k modification || eqb k deletion || eqb k setDeletion)) (unserved 5 space t) (answer s m msg space t)) (msg-kind s hs p hp x hx)
+          ∙ ap (answered s m msg space t) msg-verdict
+          ∙ ap (λ (m′ : Sessions). record { outcome = 0; place = 0; space = put 0 (replyTo s m msg (plain why.accepted)) space; table = encode s m′ }) msg-after
         where
           twice : (b : Bool) → T b → T (not (not b))
           twice true h = tt

@@ -340,7 +340,7 @@ module _ (s : Settings) (hs : T (settingsAllowed s)) where
     unfolding need needFrom request
     needs-none = ap (needFrom []) no-choices
 
-    module _ (limit : ℕ) (m : Sessions) (fresh : isLive (x .seid) m ≡ false) (room : length m < limit)
+    module _ (m : Sessions) (fresh : isLive (x .seid) m ≡ false) (room : length m < s .limit)
         (separate : T (not (anyIn (sessionTeids x) (heldTeids m)))) (separateAddresses : T (not (anyIn (sessionAddresses s x) (heldAddresses s m)))) where
       own : T (allPairs agree (sessionHoldings x))
       unfolding sessionTests
@@ -362,13 +362,13 @@ module _ (s : Settings) (hs : T (settingsAllowed s)) where
           λ i. once i || (not-live i || (absent i || (false || (none-both (x .pdrs) i || (names i || (not (choices-agree (x .pdrs) i)
           || (no-fteid (lacksFamily s) unit-lacks i || (no-fteid (strange s) unit-strange i || (no-address (wrongAddress s true) given-right i || (no-clash i || (no-address-clash i || false)))))))))))
 
-      enough-room : noRoom limit establishment s m (newSession (x .seid)) request ≡ false
+      enough-room : noRoom establishment s m (newSession (x .seid)) request ≡ false
       unfolding noRoom tooManySessions tooManyPdrs removedPdrs keep tooManyEndpoints tooFewTeids newSession request restoredRequest
       enough-room =
           λ i. sessions-fit i || (pdrs-fit i || (endpoints-fit i || (teids-fit i || false)))
         where
-          sessions-fit : leb limit (length m) ≡ false
-          sessions-fit = is-false (leb limit (length m)) (no-leb room)
+          sessions-fit : leb (s .limit) (length m) ≡ false
+          sessions-fit = is-false (leb (s .limit) (length m)) (no-leb room)
 
           few : (k n l : ℕ) → l ≡ n → n ≤ k → ltb k (0 - 0 + l) ≡ false
           few k n l e h = is-false (ltb k (0 - 0 + l)) (no-ltb (le-trans (omega arith) h))
@@ -383,7 +383,7 @@ module _ (s : Settings) (hs : T (settingsAllowed s)) where
           teids-fit = ap (ltb (freeCount s m)) needs-none ∙ leb·suc-zero (freeCount s m)
 
       -- accepted
-      pub restored-judged : judge limit establishment s m (newSession (x .seid)) (restoredRequest s x) ≡ plain why.accepted
+      pub restored-judged : judge establishment s m (newSession (x .seid)) (restoredRequest s x) ≡ plain why.accepted
       unfolding judge request restoredRequest invalidAllocation noAddress
       restored-judged =
           λ i. pick (fresh i) (plain why.rejected) (pick (no-fteid (wrongAllocation true) unit-given i) (plain why.wrongAllocation) (pick false (plain why.notSupported) (pick (rules-kept i) (plain why.brokenRule) (pick (enough-room i) (plain why.noRoom)

@@ -1,7 +1,7 @@
 -- Sessions restored one after the other, in any order, into an empty table make the table that holds them.
 -- Assumes nothing.
 use mathlib.Core.Path.{_≡_, refl, sym, ap, ap₂, _∙_, subst}
-use Prim.Native.Nat.{ℕ, suc, _+_, _^_, _≤_, _<_, zero-le}
+use Prim.Native.Nat.{ℕ, suc, _+_, _≤_, _<_, zero-le}
 use native.Mathlib.Nat.{le-trans, le-of-eq}
 use native.Mathlib.Omega.{arith}
 use mathlib.Core.Bool.{Bool, true, false, not, _&&_}
@@ -94,12 +94,12 @@ turn-all r turn x [] h = tt
 turn-all r turn x (y ∷ m) h = all-cons (λ z. r z x) y m (turn x y (all-head (r x) y m h)) (turn-all r turn x m (all-tail (r x) y m h))
 
 -- one more session keeps the rules
-pub insert-allowed : (limit : ℕ) (s : Settings) (x : Session) (m : Sessions) → T (sessionsAllowed limit s m) → T (sessionAllowed s x)
-    → T (all (otherKey seidOf x) m) → T (all (apart s x) m) → length m < limit → T (sessionsAllowed limit s (insertBy seidOf x m))
+pub insert-allowed : (s : Settings) (x : Session) (m : Sessions) → T (sessionsAllowed s m) → T (sessionAllowed s x)
+    → T (all (otherKey seidOf x) m) → T (all (apart s x) m) → length m < s .limit → T (sessionsAllowed s (insertBy seidOf x m))
 unfolding sessionsAllowed sessionsTests
-insert-allowed limit s x m hm hx other sep room =
-    let e = each (sessionsTests limit s m) hm in
-    all-of-each (sessionsTests limit s (insertBy seidOf x m)) (
+insert-allowed s x m hm hx other sep room =
+    let e = each (sessionsTests s m) hm in
+    all-of-each (sessionsTests s (insertBy seidOf x m)) (
       yes-leb (le-trans (le-of-eq (insert-length seidOf x m)) room),
       (
         insert-ascending seidOf x m other (e .1 .0),
@@ -111,9 +111,9 @@ insert-allowed limit s x m hm hx other sep room =
     )
 
 -- an empty table keeps the rules
-pub empty-allowed : (limit : ℕ) (s : Settings) → T (sessionsAllowed limit s [])
+pub empty-allowed : (s : Settings) → T (sessionsAllowed s [])
 unfolding sessionsAllowed sessionsTests ascending all allPairs
-empty-allowed limit s = all-of-each (sessionsTests limit s []) (yes-leb {a = 0} {b = limit} zero-le, (tt, (tt, (tt, tt))))
+empty-allowed s = all-of-each (sessionsTests s []) (yes-leb {a = 0} {b = s .limit} zero-le, (tt, (tt, (tt, tt))))
 
 -- ---- the reply is an acceptance
 
@@ -155,27 +155,27 @@ beside-insert r turn x m (y ∷ xs) h k =
     (beside-insert r turn x m xs (all-tail (r x) y xs h) (all-tail (λ z. all (r z) m) y xs k))
 
 -- sessions that can be put in one after the other
-pub record Ready (limit : ℕ) (s : Settings) (m : Sessions) (xs : Sessions) : Type 0 where
-  pub sound : T (sessionsAllowed limit s m)
+pub record Ready (s : Settings) (m : Sessions) (xs : Sessions) : Type 0 where
+  pub sound : T (sessionsAllowed s m)
   pub allowed : T (all (sessionAllowed s) xs)
   pub seids : T (allPairs (otherKey seidOf) xs)
   pub separate : T (allPairs (apart s) xs)
   pub newSeids : T (all (λ x. all (otherKey seidOf x) m) xs)
   pub beside : T (all (λ x. all (apart s x) m) xs)
-  pub room : length m + length xs ≤ limit
+  pub room : length m + length xs ≤ s .limit
 
-ready-next : (limit : ℕ) (s : Settings) (m : Sessions) (x : Session) (xs : Sessions) → Ready limit s m (x ∷ xs) → Ready limit s (insertBy seidOf x m) xs
-ready-next limit s m x xs r =
-    let fits : length m < limit = fit (length m) (length xs) limit (r .room) in
+ready-next : (s : Settings) (m : Sessions) (x : Session) (xs : Sessions) → Ready s m (x ∷ xs) → Ready s (insertBy seidOf x m) xs
+ready-next s m x xs r =
+    let fits : length m < s .limit = fit (length m) (length xs) (s .limit) (r .room) in
     record {
-      sound = insert-allowed limit s x m (r .sound) (all-head (sessionAllowed s) x xs (r .allowed)) (all-head (λ y. all (otherKey seidOf y) m) x xs (r .newSeids))
+      sound = insert-allowed s x m (r .sound) (all-head (sessionAllowed s) x xs (r .allowed)) (all-head (λ y. all (otherKey seidOf y) m) x xs (r .newSeids))
           (all-head (λ y. all (apart s y) m) x xs (r .beside)) fits;
       allowed = all-tail (sessionAllowed s) x xs (r .allowed);
       seids = pairs-tail (otherKey seidOf) x xs (r .seids);
       separate = pairs-tail (apart s) x xs (r .separate);
       newSeids = beside-insert (otherKey seidOf) other-seid-turn x m xs (pairs-head (otherKey seidOf) x xs (r .seids)) (all-tail (λ y. all (otherKey seidOf y) m) x xs (r .newSeids));
       beside = beside-insert (apart s) (apart-turn s) x m xs (pairs-head (apart s) x xs (r .separate)) (all-tail (λ y. all (apart s y) m) x xs (r .beside));
-      room = more (length (insertBy seidOf x m)) (length m) (length xs) limit (insert-length seidOf x m) (r .room);
+      room = more (length (insertBy seidOf x m)) (length m) (length xs) (s .limit) (insert-length seidOf x m) (r .room);
     }
   where
     fit : (a b c : ℕ) → a + suc b ≤ c → a < c
@@ -184,9 +184,9 @@ ready-next limit s m x xs r =
     more : (k a b c : ℕ) → k ≡ suc a → a + suc b ≤ c → k + b ≤ c
     more k a b c e h = omega arith
 
-module _ (s : Settings) (hs : T (settingsAllowed s)) (limit : ℕ) (small : limit < 256 ^ 2) where
+module _ (s : Settings) (hs : T (settingsAllowed s)) where
   -- one restoration: the table after it, and its acceptance
-  module _ (m : Sessions) (r : Restore) (ok : T (restoreAllowed r)) (xs : Sessions) (ready : Ready limit s m (r .session ∷ xs)) where
+  module _ (m : Sessions) (r : Restore) (ok : T (restoreAllowed r)) (xs : Sessions) (ready : Ready s m (r .session ∷ xs)) where
     okFacts : Each (peerAllowed (r .peer) ∷ octets (r .space) ∷ leb minSpace (length (r .space)) ∷ [])
     unfolding restoreAllowed
     okFacts = each (peerAllowed (r .peer) ∷ octets (r .space) ∷ leb minSpace (length (r .space)) ∷ []) ok
@@ -200,67 +200,67 @@ module _ (s : Settings) (hs : T (settingsAllowed s)) (limit : ℕ) (small : limi
     other : T (all (otherKey seidOf x) m)
     other = all-head (λ y. all (otherKey seidOf y) m) x xs (ready .newSeids)
 
-    fits : length m < limit
-    fits = fit (length m) (length xs) limit (ready .room)
+    fits : length m < s .limit
+    fits = fit (length m) (length xs) (s .limit) (ready .room)
       where
         fit : (a b c : ℕ) → a + suc b ≤ c → a < c
         fit a b c h = omega arith
 
-    call : serve limit (encode limit s m) (restoration s (r .peer) x) (r .space)
-        ≡ record { outcome = 0; place = 0; space = put 0 (replyTo s m (restoration s (r .peer) x) (plain why.accepted)) (r .space); table = encode limit s (putSession x m) }
+    call : serve (encode s m) (restoration s (r .peer) x) (r .space)
+        ≡ record { outcome = 0; place = 0; space = put 0 (replyTo s m (restoration s (r .peer) x) (plain why.accepted)) (r .space); table = encode s (putSession x m) }
     call =
-        restored-call s hs x hx limit m (fresh-seid x m other) fits (separate-all s x m (all-head (λ y. all (apart s y) m) x xs (ready .beside)))
+        restored-call s hs x hx m (fresh-seid x m other) fits (separate-all s x m (all-head (λ y. all (apart s y) m) x xs (ready .beside)))
         (separate-addresses s x m (all-head (λ y. all (apart s y) m) x xs (ready .beside))) (r .peer) (okFacts .0)
-        small (ready .sound) (r .space) (leb→le minSpace (length (r .space)) (okFacts .1 .1 .0))
+        (ready .sound) (r .space) (leb→le minSpace (length (r .space)) (okFacts .1 .1 .0))
 
-    table-after : tableAfter limit (encode limit s m) (restoreCall s r) ≡ encode limit s (insertBy seidOf x m)
+    table-after : tableAfter (encode s m) (restoreCall s r) ≡ encode s (insertBy seidOf x m)
     unfolding tableAfter restoreCall
-    table-after = ap (λ (v : Served). v .table) call ∙ ap (encode limit s) (put-fresh x m other)
+    table-after = ap (λ (v : Served). v .table) call ∙ ap (encode s) (put-fresh x m other)
 
-    is-accepted : T (accepted (eventOf limit (encode limit s m) (restoreCall s r)))
+    is-accepted : T (accepted (eventOf (encode s m) (restoreCall s r)))
     unfolding accepted eventOf restoreCall
     is-accepted = of-true (ap₂ (λ (o : ℕ) (l : List ℕ). eqb o 0 && eqb (replyCause l) 1) (ap (λ (v : Served). v .outcome) call) (ap (λ (v : Served). v .space) call) ∙ ap (λ (c : ℕ). eqb c 1) (restored-cause s hs x hx (r .peer) (okFacts .0) m (r .space)))
 
-  run-table : (rs : List Restore) (m : Sessions) → T (all restoreAllowed rs) → Ready limit s m (map restored rs)
-      → tableAfterAll limit (encode limit s m) (restoreCalls s rs) ≡ encode limit s (insertAll seidOf (map restored rs) m)
+  run-table : (rs : List Restore) (m : Sessions) → T (all restoreAllowed rs) → Ready s m (map restored rs)
+      → tableAfterAll (encode s m) (restoreCalls s rs) ≡ encode s (insertAll seidOf (map restored rs) m)
   unfolding tableAfterAll restoreCalls insertAll
   run-table [] m ok ready = refl
   run-table (r ∷ rs) m ok ready =
-      ap (λ (t : List ℕ). tableAfterAll limit t (restoreCalls s rs)) (table-after m r (all-head restoreAllowed r rs ok) (map restored rs) ready)
-      ∙ run-table rs (insertBy seidOf (r .session) m) (all-tail restoreAllowed r rs ok) (ready-next limit s m (r .session) (map restored rs) ready)
+      ap (λ (t : List ℕ). tableAfterAll t (restoreCalls s rs)) (table-after m r (all-head restoreAllowed r rs ok) (map restored rs) ready)
+      ∙ run-table rs (insertBy seidOf (r .session) m) (all-tail restoreAllowed r rs ok) (ready-next s m (r .session) (map restored rs) ready)
 
-  run-accepted : (rs : List Restore) (m : Sessions) → T (all restoreAllowed rs) → Ready limit s m (map restored rs)
-      → T (all accepted (eventsOf limit (encode limit s m) (restoreCalls s rs)))
+  run-accepted : (rs : List Restore) (m : Sessions) → T (all restoreAllowed rs) → Ready s m (map restored rs)
+      → T (all accepted (eventsOf (encode s m) (restoreCalls s rs)))
   unfolding eventsOf restoreCalls all
   run-accepted [] m ok ready = tt
   run-accepted (r ∷ rs) m ok ready =
-      all-cons accepted (eventOf limit (encode limit s m) (restoreCall s r)) (eventsOf limit (tableAfter limit (encode limit s m) (restoreCall s r)) (restoreCalls s rs))
+      all-cons accepted (eventOf (encode s m) (restoreCall s r)) (eventsOf (tableAfter (encode s m) (restoreCall s r)) (restoreCalls s rs))
       (is-accepted m r (all-head restoreAllowed r rs ok) (map restored rs) ready)
-      (subst (λ (t : List ℕ). T (all accepted (eventsOf limit t (restoreCalls s rs)))) (sym (table-after m r (all-head restoreAllowed r rs ok) (map restored rs) ready))
-      (run-accepted rs (insertBy seidOf (r .session) m) (all-tail restoreAllowed r rs ok) (ready-next limit s m (r .session) (map restored rs) ready)))
+      (subst (λ (t : List ℕ). T (all accepted (eventsOf t (restoreCalls s rs)))) (sym (table-after m r (all-head restoreAllowed r rs ok) (map restored rs) ready))
+      (run-accepted rs (insertBy seidOf (r .session) m) (all-tail restoreAllowed r rs ok) (ready-next s m (r .session) (map restored rs) ready)))
 
   -- ---- in any order
 
-  module _ (m : Sessions) (hm : T (sessionsAllowed limit s m)) (rs : List Restore) (ok : T (all restoreAllowed rs)) (order : List·Permᴰ m (map restored rs)) where
-    facts : Each (sessionsTests limit s m)
+  module _ (m : Sessions) (hm : T (sessionsAllowed s m)) (rs : List Restore) (ok : T (all restoreAllowed rs)) (order : List·Permᴰ m (map restored rs)) where
+    facts : Each (sessionsTests s m)
     unfolding sessionsAllowed
-    facts = each (sessionsTests limit s m) hm
+    facts = each (sessionsTests s m) hm
 
     up : T (ascending (map seidOf m))
     unfolding sessionsTests
     up = facts .1 .0
 
-    ready : Ready limit s [] (map restored rs)
+    ready : Ready s [] (map restored rs)
     unfolding sessionsTests all
     ready =
         record {
-          sound = empty-allowed limit s;
+          sound = empty-allowed s;
           allowed = all-perm (sessionAllowed s) order (facts .1 .1 .0);
           seids = pairs-perm (otherKey seidOf) other-seid-turn order (ascending-other seidOf m up);
           separate = pairs-perm (apart s) (apart-turn s) order (facts .1 .1 .1 .0);
           newSeids = nothing (map restored rs);
           beside = nothing (map restored rs);
-          room = few (length (map restored rs)) (length m) limit (perm-length order) (leb→le (length m) limit (facts .0));
+          room = few (length (map restored rs)) (length m) (s .limit) (perm-length order) (leb→le (length m) (s .limit) (facts .0));
         }
       where
         nothing : (xs : Sessions) → T (all (λ x. true) xs)
@@ -271,11 +271,11 @@ module _ (s : Settings) (hs : T (settingsAllowed s)) (limit : ℕ) (small : limi
         few a b c e h = omega arith
 
     -- the restored table is the table of the sessions
-    pub restored-table : tableAfterAll limit (encode limit s []) (restoreCalls s rs) ≡ encode limit s m
+    pub restored-table : tableAfterAll (encode s []) (restoreCalls s rs) ≡ encode s m
     restored-table =
         run-table rs [] ok ready
-        ∙ ap (encode limit s) (sym (insertAll-perm seidOf order (ascending-other seidOf m up) []) ∙ insertAll-up seidOf m [] up (under-nil seidOf m))
+        ∙ ap (encode s) (sym (insertAll-perm seidOf order (ascending-other seidOf m up) []) ∙ insertAll-up seidOf m [] up (under-nil seidOf m))
 
     -- and every restoration is accepted
-    pub restored-accepted : T (all accepted (eventsOf limit (encode limit s []) (restoreCalls s rs)))
+    pub restored-accepted : T (all accepted (eventsOf (encode s []) (restoreCalls s rs)))
     restored-accepted = run-accepted rs [] ok ready

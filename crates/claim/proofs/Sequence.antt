@@ -18,21 +18,21 @@ use Rattle.rules.specs.Live.{Event, replied, accepted, liveStep, liveFrom, live
 use Rattle.rules.specs.Calls.{Call, request, count, countIps, callAllowed, tableAfter, eventOf, tableAfterAll, eventsOf}
 
 -- what one call does to a table and to the live set: both go to sessions m′ that keep the rules
-pub record Kept (limit : ℕ) (s : Settings) (m : Sessions) (t : List ℕ) (e : Event) : Type 0 where
+pub record Kept (s : Settings) (m : Sessions) (t : List ℕ) (e : Event) : Type 0 where
   pub after : Sessions
-  pub sound : T (sessionsAllowed limit s after)
-  pub table : t ≡ encode limit s after
+  pub sound : T (sessionsAllowed s after)
+  pub table : t ≡ encode s after
   pub live : liveStep m e ≡ after
 
 -- the fact about one request
-unfoldable pub Keeps : ℕ → Type 0
-Keeps limit =
-    (s : Settings) (m : Sessions) (msg space : List ℕ) → T (settingsAllowed s) → T (sessionsAllowed limit s m) → T (octets msg) → T (octets space)
-    → Kept limit s m (serve limit (encode limit s m) msg space .table)
-    (replied msg (serve limit (encode limit s m) msg space .outcome) (serve limit (encode limit s m) msg space .space))
+unfoldable pub Keeps : Type 0
+Keeps =
+    (s : Settings) (m : Sessions) (msg space : List ℕ) → T (settingsAllowed s) → T (sessionsAllowed s m) → T (octets msg) → T (octets space)
+    → Kept s m (serve (encode s m) msg space .table)
+    (replied msg (serve (encode s m) msg space .outcome) (serve (encode s m) msg space .space))
 
-module _ (limit : ℕ) (keeps : Keeps limit) (s : Settings) (hs : T (settingsAllowed s)) where
-  one : (m : Sessions) (c : Call) → T (sessionsAllowed limit s m) → T (callAllowed c) → Kept limit s m (tableAfter limit (encode limit s m) c) (eventOf limit (encode limit s m) c)
+module _ (keeps : Keeps) (s : Settings) (hs : T (settingsAllowed s)) where
+  one : (m : Sessions) (c : Call) → T (sessionsAllowed s m) → T (callAllowed c) → Kept s m (tableAfter (encode s m) c) (eventOf (encode s m) c)
   unfolding Keeps callAllowed tableAfter eventOf liveStep accepted
   one m (request msg space) hm hc = keeps s m msg space hs hm (and-left (octets msg) (octets space) hc) (and-right (octets msg) (octets space) hc)
   one m count hm hc = record { after = m; sound = hm; table = refl; live = refl }
@@ -40,36 +40,36 @@ module _ (limit : ℕ) (keeps : Keeps limit) (s : Settings) (hs : T (settingsAll
 
   -- calls one after the other
   pub record KeptAll (m : Sessions) (cs : List Call) : Type 0 where
-    pub sound : T (sessionsAllowed limit s (liveFrom m (eventsOf limit (encode limit s m) cs)))
-    pub table : tableAfterAll limit (encode limit s m) cs ≡ encode limit s (liveFrom m (eventsOf limit (encode limit s m) cs))
+    pub sound : T (sessionsAllowed s (liveFrom m (eventsOf (encode s m) cs)))
+    pub table : tableAfterAll (encode s m) cs ≡ encode s (liveFrom m (eventsOf (encode s m) cs))
 
-  pub kept-all : (cs : List Call) (m : Sessions) → T (sessionsAllowed limit s m) → T (all callAllowed cs) → KeptAll m cs
+  pub kept-all : (cs : List Call) (m : Sessions) → T (sessionsAllowed s m) → T (all callAllowed cs) → KeptAll m cs
   unfolding tableAfterAll eventsOf liveFrom
   kept-all [] m hm hc = record { sound = hm; table = refl }
   kept-all (c ∷ cs) m hm hc =
       let k = one m c hm (all-head callAllowed c cs hc) in
       let ih = kept-all cs (k .after) (k .sound) (all-tail callAllowed c cs hc) in
-      let same : liveFrom (k .after) (eventsOf limit (encode limit s (k .after)) cs) ≡ liveFrom (liveStep m (eventOf limit (encode limit s m) c)) (eventsOf limit (tableAfter limit (encode limit s m) c) cs)
-      = ap₂ (λ (n : Sessions) (t : List ℕ). liveFrom n (eventsOf limit t cs)) (sym (k .live)) (sym (k .table)) in
+      let same : liveFrom (k .after) (eventsOf (encode s (k .after)) cs) ≡ liveFrom (liveStep m (eventOf (encode s m) c)) (eventsOf (tableAfter (encode s m) c) cs)
+      = ap₂ (λ (n : Sessions) (t : List ℕ). liveFrom n (eventsOf t cs)) (sym (k .live)) (sym (k .table)) in
       record {
-        sound = subst (λ (n : Sessions). T (sessionsAllowed limit s n)) same (ih .sound);
-        table = ap (λ (t : List ℕ). tableAfterAll limit t cs) (k .table) ∙ ih .table ∙ ap (encode limit s) same;
+        sound = subst (λ (n : Sessions). T (sessionsAllowed s n)) same (ih .sound);
+        table = ap (λ (t : List ℕ). tableAfterAll t cs) (k .table) ∙ ih .table ∙ ap (encode s) same;
       }
 
 -- an empty table that was made is the empty table
-pub made-empty : (limit : ℕ) (s : Settings) (a : List ℕ) → T (make limit s a .made) → make limit s a .table ≡ encode limit s []
+pub made-empty : (s : Settings) (a : List ℕ) → T (make s a .made) → make s a .table ≡ encode s []
 unfolding make
-made-empty limit s a h = go (settingsAllowed s && eqb (length a) (tableLength limit)) h
+made-empty s a h = go (settingsAllowed s && eqb (length a) (tableLength (s .limit))) h
   where
-    go : (b : Bool) → T (pick {X = Made} b (record { made = true; table = encode limit s [] }) (record { made = false; table = a }) .made)
-        → pick {X = Made} b (record { made = true; table = encode limit s [] }) (record { made = false; table = a }) .table ≡ encode limit s []
+    go : (b : Bool) → T (pick {X = Made} b (record { made = true; table = encode s [] }) (record { made = false; table = a }) .made)
+        → pick {X = Made} b (record { made = true; table = encode s [] }) (record { made = false; table = a }) .table ≡ encode s []
     go true h = refl
     go false h = absurd h
 
-pub made-settings : (limit : ℕ) (s : Settings) (a : List ℕ) → T (make limit s a .made) → T (settingsAllowed s)
+pub made-settings : (s : Settings) (a : List ℕ) → T (make s a .made) → T (settingsAllowed s)
 unfolding make
-made-settings limit s a h = and-left (settingsAllowed s) (eqb (length a) (tableLength limit)) (go (settingsAllowed s && eqb (length a) (tableLength limit)) h)
+made-settings s a h = and-left (settingsAllowed s) (eqb (length a) (tableLength (s .limit))) (go (settingsAllowed s && eqb (length a) (tableLength (s .limit))) h)
   where
-    go : (b : Bool) → T (pick {X = Made} b (record { made = true; table = encode limit s [] }) (record { made = false; table = a }) .made) → T b
+    go : (b : Bool) → T (pick {X = Made} b (record { made = true; table = encode s [] }) (record { made = false; table = a }) .made) → T b
     go true h = tt
     go false h = h

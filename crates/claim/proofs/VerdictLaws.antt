@@ -32,7 +32,7 @@ passes : (b : Bool) (c : ℕ) (v : Verdict) → c ≢ 1 → pick b (plain c) v .
 passes true c v ne e = absurd (ne e)
 passes false c v ne e = (tt, e)
 
-pub record Passed (limit : ℕ) (s : Settings) (m : Sessions) (msg : List ℕ) : Type 0 where
+pub record Passed (s : Settings) (m : Sessions) (msg : List ℕ) : Type 0 where
   pub known : T (not (unknownSession m msg))
   pub framed : frameFault msg ≡ none
   pub read : readFault msg ≡ none
@@ -40,7 +40,7 @@ pub record Passed (limit : ℕ) (s : Settings) (m : Sessions) (msg : List ℕ) :
   pub allocation : T (not (invalidAllocation (readRequest msg)))
   pub supported : T (not (readRequest msg .unsupported))
   pub rules : NoneOf (brokenRules s m (entrySession m msg) (readRequest msg))
-  pub room : NoneOf (tooManySessions limit (kindOf msg) m ∷ tooManyPdrs (entrySession m msg) (readRequest msg) ∷ tooManyEndpoints (entrySession m msg) (readRequest msg) ∷ tooFewTeids s m (readRequest msg) ∷ [])
+  pub room : NoneOf (tooManySessions s (kindOf msg) m ∷ tooManyPdrs (entrySession m msg) (readRequest msg) ∷ tooManyEndpoints (entrySession m msg) (readRequest msg) ∷ tooFewTeids s m (readRequest msg) ∷ [])
   pub address : T (not (noAddress s m (readRequest msg)))
 
 -- a refusal's cause is none of acceptance
@@ -51,22 +51,22 @@ not-one conditional e = omega arith
 not-one tooShort e = omega arith
 not-one incorrect e = omega arith
 
-module _ (limit : ℕ) (s : Settings) (m : Sessions) (msg : List ℕ) where
+module _ (s : Settings) (m : Sessions) (msg : List ℕ) where
   -- the faults of stages 2 and 3 have other causes
-  unframed : (o : Option Spot) → fromFraming limit s m msg o .cause ≡ why.accepted → (o ≡ none) × (fromReading limit s m msg (readFault msg) .cause ≡ why.accepted)
+  unframed : (o : Option Spot) → fromFraming s m msg o .cause ≡ why.accepted → (o ≡ none) × (fromReading s m msg (readFault msg) .cause ≡ why.accepted)
   unfolding fromFraming
   unframed none e = (refl, e)
   unframed (some t) e = absurd (omega arith)
 
-  unread : (o : Option Fault) → fromReading limit s m msg o .cause ≡ why.accepted → (o ≡ none) × (judged limit s m msg .cause ≡ why.accepted)
+  unread : (o : Option Fault) → fromReading s m msg o .cause ≡ why.accepted → (o ≡ none) × (judged s m msg .cause ≡ why.accepted)
   unfolding fromReading
   unread none e = (refl, e)
   unread (some f) e = absurd (not-one (f .cause) e)
 
-  pub passed : verdict limit s m msg .cause ≡ why.accepted → Passed limit s m msg
+  pub passed : verdict s m msg .cause ≡ why.accepted → Passed s m msg
   unfolding verdict judged judge breaksRule noRoom
   passed e =
-      let a = passes (unknownSession m msg) 65 (fromFraming limit s m msg (frameFault msg)) (λ p. absurd (omega arith)) e in
+      let a = passes (unknownSession m msg) 65 (fromFraming s m msg (frameFault msg)) (λ p. absurd (omega arith)) e in
       let b = unframed (frameFault msg) (a .1) in
       let c = unread (readFault msg) (b .1) in
       let x = entrySession m msg in
@@ -76,7 +76,7 @@ module _ (limit : ℕ) (s : Settings) (m : Sessions) (msg : List ℕ) where
       let f = passes (invalidAllocation r) 71 _ (λ p. absurd (omega arith)) (d .1) in
       let g = passes (r .unsupported) 76 _ (λ p. absurd (omega arith)) (f .1) in
       let h = passes (oneOf (brokenRules s m x r)) 73 _ (λ p. absurd (omega arith)) (g .1) in
-      let i = passes (oneOf (tooManySessions limit k m ∷ tooManyPdrs x r ∷ tooManyEndpoints x r ∷ tooFewTeids s m r ∷ [])) 75 _ (λ p. absurd (omega arith)) (h .1) in
+      let i = passes (oneOf (tooManySessions s k m ∷ tooManyPdrs x r ∷ tooManyEndpoints x r ∷ tooFewTeids s m r ∷ [])) 75 _ (λ p. absurd (omega arith)) (h .1) in
       let j = passes (noAddress s m r) 79 (plain why.accepted) (λ p. absurd (omega arith)) (i .1) in
       record {
         known = a .0;
@@ -86,12 +86,12 @@ module _ (limit : ℕ) (s : Settings) (m : Sessions) (msg : List ℕ) where
         allocation = f .0;
         supported = g .0;
         rules = none-hold (brokenRules s m x r) (h .0);
-        room = none-hold (tooManySessions limit k m ∷ tooManyPdrs x r ∷ tooManyEndpoints x r ∷ tooFewTeids s m r ∷ []) (i .0);
+        room = none-hold (tooManySessions s k m ∷ tooManyPdrs x r ∷ tooManyEndpoints x r ∷ tooFewTeids s m r ∷ []) (i .0);
         address = j .0;
       }
 
 -- at most 16 PDRs and 8 endpoints are created
-module _ {limit : ℕ} {s : Settings} {m : Sessions} {msg : List ℕ} (p : Passed limit s m msg) where
+module _ {s : Settings} {m : Sessions} {msg : List ℕ} (p : Passed s m msg) where
   pub few-new-pdrs : length (readRequest msg .pdrs) ≤ 16
   unfolding tooManyPdrs
   few-new-pdrs = let h = nltb→le 16 (length (entrySession m msg .pdrs) - length (removedPdrs (readRequest msg) (entrySession m msg .pdrs)) + length (readRequest msg .pdrs)) (p .room .1 .0) in omega arith

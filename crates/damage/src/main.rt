@@ -1,15 +1,22 @@
 // Makes tables, damages them octet by octet and counts those that are not broken then. Its lines are the outcome of making, the free
-// counts of TEIDs and addresses, and for each damage how many of the damaged tables pass: of those damaged before the slots, in the first two slots, and after.
+// counts of TEIDs and addresses, and for each damage how many of the damaged tables pass: of those damaged before the slots, in the first
+// two slots, and after.
 // The numbers in `stdout` were worked out by a second reading of the layout in another language.
 ghost use mathlib.Core.Path.{_≡_};
 ghost use Prim.Native.Nat.{_≤_, _<_};
 ghost use lib.ListN.{length};
 ghost use Rattle.rules.specs.Layout.{tableLength};
-ghost use Rattle.rules.specs.Limits.{maxSessions};
 use libc::STDOUT_FILENO;
 
-// Where the first two slots end.
+// The tables have room for four sessions. Where the first two slots end, and where a table ends.
+const LIMIT: usize = 4;
+
 const TWO_SLOTS: usize = format::HEAD + 2 * format::SLOT;
+
+const LENGTH: usize = format::HEAD + LIMIT * format::SLOT;
+
+// Where the largest table ends, with room for 256 sessions.
+const LARGEST: usize = format::HEAD + 256 * format::SLOT;
 
 fn number(n: u64) {
     io::print_decimal(STDOUT_FILENO, n);
@@ -88,11 +95,11 @@ fn fill(t: &mut [u8], rows: &[u64]) {
 }
 
 fn counts(t: &mut [u8], lowest: bool)
-    requires { ⌜ length (now t) ≡ tableLength maxSessions ⌝ }
+    requires { ⌜ length (now t) ≡ tableLength 4 ⌝ }
 {
     number(count_sound(t, 0, format::HEAD, lowest));
     number(count_sound(t, format::HEAD, TWO_SLOTS, lowest));
-    number(count_sound(t, TWO_SLOTS, format::LENGTH, lowest));
+    number(count_sound(t, TWO_SLOTS, LENGTH, lowest));
     end();
 }
 
@@ -113,7 +120,9 @@ fn free(t: &[u8]) {
     told(table::free_addresses(t));
 }
 
-fn made(answer: table::Making) {
+// Makes a table of the unit 192.0.2.1, and says whether it was made.
+fn make(t: &mut [u8], ipv6: &[u8], first: u32, size: u32, address: u32, count: u32, limit: u32) {
+    let answer = table::make(t, 3221225985, ipv6, first, size, address, count, limit);
     match answer {
         table::Making::Made => number(0),
         table::Making::Refused => number(1),
@@ -121,188 +130,199 @@ fn made(answer: table::Making) {
     end();
 }
 
+// The limits at the ends, each in a table of the length that follows: 0 and 257 are refused, 256 is not, with the largest pools.
+fn limits(address: &[u8]) {
+    let mut head = [0u8; format::HEAD];
+    make(&mut head, address, 4096, 8, 167772160, 4, 0);
+    let mut t = [0u8; LARGEST + format::SLOT];
+    make(&mut t, address, 4096, 8, 167772160, 4, 257);
+    let largest = &mut t[0..LARGEST];
+    make(largest, address, 4096, 65536, 167772160, 1024, 256);
+    free(largest);
+}
+
 fn main() {
-    let mut t = [0u8; format::LENGTH];
+    let mut t = [0u8; LENGTH];
     let address: [u8; 16] = [32, 1, 13, 184, 0, 0, 0, 0, 0, 0, 0, 0, 0, 0, 0, 1];
     // No IPv6 address, a pool of 8 TEIDs from 4,096, and one of 4 addresses from 10.0.0.0.
-    made(table::make(&mut t, 3221225985, &address[0..0], 4096, 8, 167772160, 4));
+    make(&mut t, &address[0..0], 4096, 8, 167772160, 4, LIMIT as u32);
     free(&t);
     counts(&mut t, true);
     counts(&mut t, false);
     // The same with an IPv6 address, and two sessions.
-    made(table::make(&mut t, 3221225985, &address, 4096, 8, 167772160, 4));
+    make(&mut t, &address, 4096, 8, 167772160, 4, LIMIT as u32);
     // SEID 5: PDRs 1 and 2 share TEID 4,096 and the address 10.0.0.0, PDR 3 names endpoint 9 and has an address outside the pool, PDR 4 has
     // neither, no FAR and no address; endpoint 9 has 10.0.0.1; two FQ-CSIDs. SEID 9: one PDR with 10.0.0.2.
     let first: [u64; 69] = [
-        37,
-        2,
-        2,
         39,
+        2,
+        2,
+        41,
         8,
         5,
-        47,
-        1,
-        4,
-        48,
-        1,
-        1,
         49,
         1,
-        2,
+        4,
         50,
+        1,
+        1,
+        51,
+        1,
+        2,
+        52,
         2,
         1,
-        52,
+        54,
         4,
         100,
-        56,
+        58,
         1,
         1,
-        57,
+        59,
         4,
         7,
-        62,
+        64,
         1,
         1,
-        63,
+        65,
         4,
         4096,
-        67,
-        1,
-        1,
         69,
         1,
         1,
-        70,
+        71,
+        1,
+        1,
+        72,
         4,
         167772160,
-        74,
-        2,
-        2,
         76,
+        2,
+        2,
+        78,
         4,
         200,
-        80,
+        82,
         1,
         1,
-        81,
+        83,
         4,
         7,
-        86,
+        88,
         1,
         1,
-        87,
+        89,
         4,
         4096,
-        91,
-        1,
-        1,
         93,
         1,
         1,
-        94,
+        95,
+        1,
+        1,
+        96,
         4,
         167772160,
     ];
     fill(&mut t, &first);
     let second: [u64; 69] = [
-        98,
+        100,
         2,
         3,
-        100,
+        102,
         4,
         300,
-        109,
+        111,
         1,
         2,
-        110,
+        112,
         1,
         2,
-        116,
+        118,
         1,
         9,
-        117,
+        119,
         1,
         1,
-        118,
+        120,
         4,
         3221226083,
-        122,
+        124,
         2,
         4,
-        124,
+        126,
         4,
         400,
-        133,
+        135,
         1,
         3,
-        434,
+        436,
         1,
         9,
-        435,
+        437,
         4,
         4097,
-        439,
+        441,
         1,
         3,
-        440,
+        442,
         1,
         1,
-        441,
+        443,
         4,
         167772161,
-        522,
-        1,
-        1,
         524,
+        1,
+        1,
+        526,
         4,
         3221225994,
-        540,
-        2,
-        5,
         542,
+        2,
+        5,
+        544,
         1,
         5,
-        543,
+        545,
         1,
         2,
-        544,
+        546,
         4,
         1073156101,
-        560,
+        562,
         2,
         9,
-        642,
+        644,
         8,
         9,
     ];
     fill(&mut t, &second);
     let third: [u64; 27] = [
-        650,
+        652,
         1,
-        1,
-        653,
-        2,
         1,
         655,
+        2,
+        1,
+        657,
         4,
-        1,
-        664,
-        1,
-        1,
-        665,
-        1,
         1,
         666,
+        1,
+        1,
+        667,
+        1,
+        1,
+        668,
         4,
         4099,
-        670,
-        1,
-        2,
         672,
         1,
+        2,
+        674,
         1,
-        673,
+        1,
+        675,
         4,
         167772162,
     ];
@@ -311,11 +331,13 @@ fn main() {
     counts(&mut t, true);
     counts(&mut t, false);
     // Refused: a pool that ends past the last TEID, an IPv6 address cut short, addresses that end past the last one, none, and one too
-    // many. Nothing is written, so the free counts stay.
-    made(table::make(&mut t, 3221225985, &address, 4294967295, 2, 167772160, 4));
-    made(table::make(&mut t, 3221225985, &address[0..4], 4096, 8, 167772160, 4));
-    made(table::make(&mut t, 3221225985, &address, 4096, 8, 4294967295, 2));
-    made(table::make(&mut t, 3221225985, &address, 4096, 8, 167772160, 0));
-    made(table::make(&mut t, 3221225985, &address, 4096, 8, 167772160, 1025));
+    // many; room for another number of sessions than the table's length says. Nothing is written, so the free counts stay.
+    make(&mut t, &address, 4294967295, 2, 167772160, 4, LIMIT as u32);
+    make(&mut t, &address[0..4], 4096, 8, 167772160, 4, LIMIT as u32);
+    make(&mut t, &address, 4096, 8, 4294967295, 2, LIMIT as u32);
+    make(&mut t, &address, 4096, 8, 167772160, 0, LIMIT as u32);
+    make(&mut t, &address, 4096, 8, 167772160, 1025, LIMIT as u32);
+    make(&mut t, &address, 4096, 8, 167772160, 4, LIMIT as u32 + 1);
     free(&t);
+    limits(&address);
 }

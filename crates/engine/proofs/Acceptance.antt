@@ -1,6 +1,6 @@
 -- What an accepted establishment or modification leaves.
 -- Assumes nothing.
-use mathlib.Core.Path.{_≡_, sym, ap, _∙_, subst}
+use mathlib.Core.Path.{_≡_, sym, ap, ap₂, _∙_, subst}
 use mathlib.Core.List.{List}
 use Prim.Native.Nat.{ℕ, _+_, _≤_}
 use native.Mathlib.Omega.{arith}
@@ -9,7 +9,6 @@ use lib.ListN.{length, take}
 use Rattle.octets.specs.Octets.{put}
 use Rattle.octets.specs.Lists.{all, hasRepeat}
 use Rattle.octets.proofs.Tests.{is-false}
-use Rattle.rules.specs.Limits.{maxSessions}
 use Rattle.rules.specs.Model.{Settings, Sessions, heldTeids, heldAddresses}
 use Rattle.rules.specs.Layout.{viewSettings, viewSessions}
 use Rattle.rules.specs.Reading.{Request, readRequest}
@@ -42,7 +41,7 @@ use Rattle.session.specs.Build.{built}
 use Rattle.session.proofs.Built.{Ready}
 use Rattle.unit.specs.declared.Settings.{Settings as Unit}
 use Rattle.unit.specs.Meaning.{settingsOf}
-use Rattle.unit.proofs.FieldLaws.{first-is, size-is, first-address-is, addresses-is}
+use Rattle.unit.proofs.FieldLaws.{first-is, size-is, first-address-is, addresses-is, limit-is}
 use Rattle.engine.specs.Answers.{verdictOn, Answers, OnlyNull, Accepting}
 use Rattle.engine.specs.Steps.{Giving, Given}
 use Rattle.engine.proofs.Accepted.{RowsFit, GotStored, ready}
@@ -59,11 +58,11 @@ module _ {u : Unit} {t words ips msg slot gone plan out : List ℕ} {seid n : �
   abbrev q : Request
   q = requestIn seid (a .restoring) (a .noted) (rowsOf n plan)
 
-  kept : TableKept maxSessions t
-  kept = table-kept maxSessions t (a .asked .table)
+  kept : TableKept t
+  kept = table-kept t (a .asked .table)
 
-  passes : Passed maxSessions s m msg
-  passes = passed maxSessions s m msg (ap (λ (v : Verdict). v .cause) (a .verdict))
+  passes : Passed s m msg
+  passes = passed s m msg (ap (λ (v : Verdict). v .cause) (a .verdict))
 
   rules : RulesKept s m (entrySession m msg) q
   rules = subst (λ (r : Request). RulesKept s m (entrySession m msg) r) (a .means) (rules-kept s m (entrySession m msg) (readRequest msg) (passes .rules))
@@ -72,7 +71,7 @@ module _ {u : Unit} {t words ips msg slot gone plan out : List ℕ} {seid n : �
   read = subst RequestRead (a .means) (request-read msg (a .asked .octets))
 
   marked-held : Means (s .first) words (heldTeids m)
-  marked-held = subst (λ (w : List ℕ). Means (s .first) w (heldTeids m)) (sym (a .marks)) (map-means s m (kept .settings) (held-in-pool maxSessions s m (kept .sessions)))
+  marked-held = subst (λ (w : List ℕ). Means (s .first) w (heldTeids m)) (sym (a .marks)) (map-means s m (kept .settings) (held-in-pool s m (kept .sessions)))
 
   marked-addresses : Means (s .firstAddress) ips (heldAddresses s m)
   marked-addresses = subst (λ (w : List ℕ). Means (s .firstAddress) w (heldAddresses s m)) (sym (a .addressMarks)) (address-map-means s m (kept .settings))
@@ -150,7 +149,7 @@ module _ {u : Unit} {t words ips msg slot gone plan out : List ℕ} {seid n : �
     fit = rows-fit seid (a .restoring) (a .noted) (rowsOf n plan′) only (subst RequestRead means′ (request-read msg (a .asked .octets)))
 
     is-ready : Ready (granted s m (readRequest msg)) gone (rowsOf n plan′) (entrySession m msg)
-    is-ready = ready maxSessions s m msg passes seid (a .restoring) (a .noted) (rowsOf n plan′) means′ gone (a .removed) fit only stored
+    is-ready = ready s m msg passes seid (a .restoring) (a .noted) (rowsOf n plan′) means′ gone (a .removed) fit only stored
 
     same-seid : seid ≡ readRequest msg .seid
     unfolding requestIn
@@ -164,14 +163,14 @@ module _ {u : Unit} {t words ips msg slot gone plan out : List ℕ} {seid n : �
     same-reply = λ i. reply s msg (same-seid i) (sym (a .verdict) i) (same-reports i)
 
     pub accepted-answers : (used : ℕ) (out′ t′ : List ℕ) → (used, out′) ≡ written (reply (settingsOf u) msg seid (plain why.accepted) (reportsAt plan′ (take k places′))) out
-        → t′ ≡ withRecord tableArea (built gone (rowsOf n plan′) slot) t → Answers t msg out used out′ t′
+        → t′ ≡ withRecord (tableArea (u .limit)) (built gone (rowsOf n plan′) slot) t → Answers t msg out used out′ t′
     accepted-answers used out′ t′ w′ d =
         let w = rw (a .settings) at w′ in
         record {
           long = ap (λ (p : ℕ × List ℕ). p .0) w ∙ ap length same-reply;
           space = ap (λ (p : ℕ × List ℕ). p .1) w ∙ ap (λ (l : List ℕ). put 0 l out) same-reply;
           table =
-              d ∙ ap (withRecord tableArea (built gone (rowsOf n plan′) slot)) (sym (kept .encoded))
+              d ∙ ap₂ (λ (l : ℕ) (x : List ℕ). withRecord (tableArea l) (built gone (rowsOf n plan′) slot) x) (limit-is u s (a .settings)) (sym (kept .encoded))
               ∙ changed-table s (kept .settings) m (kept .sessions) msg (a .asked .octets) (a .asked .kind) (a .asked .named) passes (a .other) seid (a .restoring) (a .noted) gone (rowsOf n plan′) slot means′ (a .removed) (a .entry) is-ready
               ∙ rw (a .verdict);
         }
@@ -182,6 +181,6 @@ pub gives-all : {u : Unit} {teids ips plan : List ℕ} {n r : ℕ} {between plan
 gives-all {between = between} {chosen = chosen} {count = count} g e f = record { count = count; between = between; chosen = chosen; granted = g; address = e; few = f .0; reported = f .1 }
 
 -- the session built and stored
-pub kept-session : (n : ℕ) (gone plan slot slot′ t t′ : List ℕ) → slot′ ≡ built gone (rowsOf n plan) slot → t′ ≡ withRecord tableArea slot′ t
-    → (slot′ ≡ built gone (rowsOf n plan) slot) × (t′ ≡ withRecord tableArea (built gone (rowsOf n plan) slot) t)
-kept-session n gone plan slot slot′ t t′ b d = (b, d ∙ ap (λ (u : List ℕ). withRecord tableArea u t) b)
+pub kept-session : (room n : ℕ) (gone plan slot slot′ t t′ : List ℕ) → slot′ ≡ built gone (rowsOf n plan) slot → t′ ≡ withRecord (tableArea room) slot′ t
+    → (slot′ ≡ built gone (rowsOf n plan) slot) × (t′ ≡ withRecord (tableArea room) (built gone (rowsOf n plan) slot) t)
+kept-session room n gone plan slot slot′ t t′ b d = (b, d ∙ ap (λ (u : List ℕ). withRecord (tableArea room) u t) b)

@@ -6,7 +6,6 @@ use mathlib.Core.List.{List}
 use Prim.Native.Nat.{ℕ}
 use native.Mathlib.Omega.{arith}
 use lib.Dec.{eqb}
-use Rattle.rules.specs.Limits.{maxSessions}
 use Rattle.rules.specs.Layout.{viewSettings, viewSessions}
 use Rattle.rules.specs.Model.{Sessions}
 use Rattle.rules.specs.Message.{kindOf, headerSeid, establishment, deletion, setDeletion}
@@ -37,9 +36,9 @@ module _ {t msg out : List ℕ} {kind : ℕ} (a : Asked t msg out) (is : kind �
       let k : kindOf msg ≡ establishment = sym is ∙ e in
       record { asked = a; live = new-known (viewSessions t) msg k; kindIs = is; other = ap (λ (n : ℕ). eqb n deletion) k; found = λ o. absurd (o e) }
 
-  module _ {seid : ℕ} (o : kind ≡ establishment → ⊥) (seidIs : seid ≡ headerSeid msg) {r : Place} (at : r ≡ placeIn tableArea seid t) where
-    at-header : r ≡ placeIn tableArea (headerSeid msg) t
-    at-header = at ∙ ap (λ (n : ℕ). placeIn tableArea n t) seidIs
+  module _ {seid : ℕ} (o : kind ≡ establishment → ⊥) (seidIs : seid ≡ headerSeid msg) {room : ℕ} (l : room ≡ viewSettings t .limit) {r : Place} (at : r ≡ placeIn (tableArea room) seid t) where
+    at-header : r ≡ placeIn (tableArea room) (headerSeid msg) t
+    at-header = at ∙ ap (λ (n : ℕ). placeIn (tableArea room) n t) seidIs
 
     -- no such session: cause 65
     pub absent-refuses : (p : ℕ) → r ≡ Absent p → Refusing t msg out why.noSession Nothing
@@ -47,8 +46,8 @@ module _ {t msg out : List ℕ} {kind : ℕ} (a : Asked t msg out) (is : kind �
         record {
           place = 0;
           verdict =
-              no-session maxSessions (viewSettings t) (viewSessions t) msg
-              (unknown-is (viewSessions t) msg false (a .named) (λ z. o (is ∙ z)) (live-absent t (a .table) (headerSeid msg) p r at-header e));
+              no-session (viewSettings t) (viewSessions t) msg
+              (unknown-is (viewSessions t) msg false (a .named) (λ z. o (is ∙ z)) (live-absent t (a .table) (headerSeid msg) p room r l at-header e));
           small = omega arith;
           other = λ z. omega arith;
         }
@@ -60,14 +59,14 @@ module _ {t msg out : List ℕ} {kind : ℕ} (a : Asked t msg out) (is : kind �
           answers = x;
           placed =
               sym (ap (λ (v : Verdict). v .place)
-              (no-session maxSessions (viewSettings t) (viewSessions t) msg
-              (unknown-is (viewSessions t) msg false (a .named) (λ z. o (is ∙ z)) (live-absent t (a .table) (headerSeid msg) p r at-header e))));
+              (no-session (viewSettings t) (viewSessions t) msg
+              (unknown-is (viewSessions t) msg false (a .named) (λ z. o (is ∙ z)) (live-absent t (a .table) (headerSeid msg) p room r l at-header e))));
         }
 
     module _ {p : ℕ} (e : r ≡ Found p) where
       pub named-live : Live t msg
-      named-live = unknown-is (viewSessions t) msg true (a .named) (λ z. o (is ∙ z)) (live-found t (a .table) (headerSeid msg) p r at-header e)
+      named-live = unknown-is (viewSessions t) msg true (a .named) (λ z. o (is ∙ z)) (live-found t (a .table) (headerSeid msg) p room r l at-header e)
 
       -- a modification
       pub modifies : (kind ≡ deletion → ⊥) → Changing t msg out kind p
-      modifies n = record { asked = a; live = named-live; kindIs = is; other = other-than (kindOf msg) deletion (λ z. n (is ∙ z)); found = λ z. sym at-header ∙ e }
+      modifies n = record { asked = a; live = named-live; kindIs = is; other = other-than (kindOf msg) deletion (λ z. n (is ∙ z)); found = λ z. ap (λ (n : ℕ). placeIn (tableArea n) (headerSeid msg) t) (sym l) ∙ sym at-header ∙ e }

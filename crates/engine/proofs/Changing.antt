@@ -7,7 +7,6 @@ use mathlib.Core.List.{List}
 use Prim.Native.Nat.{ℕ, _*_, _≤_, _<_, _^_}
 use native.Mathlib.Omega.{arith}
 use lib.ListN.{length}
-use Rattle.rules.specs.Limits.{maxSessions}
 use Rattle.rules.specs.Layout.{viewSettings, viewSessions, sessionWidth}
 use Rattle.rules.specs.Elements.{causeOf}
 use Rattle.rules.specs.Message.{Spot, frameFault, kindOf}
@@ -89,7 +88,7 @@ module _ {t msg out : List ℕ} {kind at : ℕ} (ch : Changing t msg out kind at
             asked = ch .asked;
             kindIs = ch .kindIs;
             other = ch .other;
-            verdict = read-through maxSessions (viewSettings t) (viewSessions t) msg (ch .live) (none-at-fault .framed) no-fault;
+            verdict = read-through (viewSettings t) (viewSessions t) msg (ch .live) (none-at-fault .framed) no-fault;
             means = is-read;
             rows = rows-within;
             onlyNull = subst (λ (x : Reading). OnlyNull (rowsOf (rowsLeft x) plan)) q (given .onlyNull);
@@ -106,5 +105,5 @@ unfolding judged
 replies-judged {t} {msg} r a =
     record {
       answers = a;
-      placed = sym (ap (λ (v : Verdict). v .place) (r .verdict ∙ judge-plain maxSessions (kindOf msg) (viewSettings t) (viewSessions t) (entrySession (viewSessions t) msg) (readRequest msg)));
+      placed = sym (ap (λ (v : Verdict). v .place) (r .verdict ∙ judge-plain (kindOf msg) (viewSettings t) (viewSessions t) (entrySession (viewSessions t) msg) (readRequest msg)));
     }

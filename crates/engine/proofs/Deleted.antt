@@ -9,7 +9,7 @@ use borrow.Author.Tests.{eq-eqb}
 use lib.Dec.{T, eqb, leb→le}
 use lib.ListN.{length}
 use Rattle.octets.specs.Octets.{put}
-use Rattle.rules.specs.Limits.{maxSessions, maxPdrs, maxEndpoints}
+use Rattle.rules.specs.Limits.{maxPdrs, maxEndpoints}
 use Rattle.rules.specs.Model.{Settings, Sessions}
 use Rattle.rules.specs.Layout.{viewSettings, viewSessions}
 use Rattle.rules.specs.Message.{kindOf, headerSeid, frameFault, establishment, deletion}
@@ -23,6 +23,9 @@ use Rattle.claim.proofs.ServeLaws.{TableKept, table-kept}
 use Rattle.claim.proofs.VerdictLaws.{passed}
 use Rattle.claim.proofs.Changed.{entry-known}
 use Rattle.areas.specs.Counted.{withoutRecord}
+use Rattle.unit.specs.declared.Settings.{Settings as Unit}
+use Rattle.unit.specs.Meaning.{settingsOf}
+use Rattle.unit.proofs.FieldLaws.{limit-is}
 use Rattle.session.specs.Areas.{tableArea}
 use Rattle.octets.specs.Lists.{keep}
 use Rattle.created.specs.Groups.{reportsOf, allReports}
@@ -43,8 +46,8 @@ module _ (t msg out : List ℕ) (a : Asked t msg out) (live : Live t msg) (fr : 
   abbrev m : Sessions
   m = viewSessions t
 
-  kept : TableKept maxSessions t
-  kept = table-kept maxSessions t (a .table)
+  kept : TableKept t
+  kept = table-kept t (a .table)
 
   known : T (not (unknownSession m msg))
   known = subst (λ (b : Bool). T (not b)) (sym live) tt
@@ -56,9 +59,9 @@ module _ (t msg out : List ℕ) (a : Asked t msg out) (live : Live t msg) (fr : 
     accepts : verdictOn t msg ≡ plain why.accepted
     unfolding judged
     accepts =
-        let k = entry-known maxSessions s m msg (kept .sessions) (a .octets) (subst (λ (b : Bool). T (not b)) (sym (a .named)) tt) known rd .kept in
-        read-through maxSessions s m msg live fr rd
-        ∙ accepted-empty s m (entrySession m msg) (readRequest msg) (deletion-empty msg del) maxSessions (kindOf msg) (ap (λ (n : ℕ). eqb n establishment) del)
+        let k = entry-known s m msg (kept .sessions) (a .octets) (subst (λ (b : Bool). T (not b)) (sym (a .named)) tt) known rd .kept in
+        read-through s m msg live fr rd
+        ∙ accepted-empty s m (entrySession m msg) (readRequest msg) (deletion-empty msg del) (kindOf msg) (ap (λ (n : ℕ). eqb n establishment) del)
         (leb→le (length (entrySession m msg .pdrs)) maxPdrs (k .fewPdrs)) (leb→le (length (entrySession m msg .endpoints)) maxEndpoints (k .fewEndpoints))
 
     same-reply : reply s msg 0 (plain why.accepted) noReports ≡ replyTo s m msg (verdictOn t msg)
@@ -67,14 +70,14 @@ module _ (t msg out : List ℕ) (a : Asked t msg out) (live : Live t msg) (fr : 
         let e = deletion-empty msg del in
         λ i. reply s msg (sym (e .seid) i) (sym accepts i) (sym (no-reports s m (entrySession m msg) (readRequest msg) e (granted s m (readRequest msg))) i)
 
-    pub deleted-answers : (seid used : ℕ) (out′ t′ : List ℕ) → seid ≡ headerSeid msg → (used, out′) ≡ written (reply s msg 0 (plain why.accepted) noReports) out → t′ ≡ withoutRecord tableArea seid t
+    pub deleted-answers : (seid used : ℕ) (out′ t′ : List ℕ) → seid ≡ headerSeid msg → (used, out′) ≡ written (reply s msg 0 (plain why.accepted) noReports) out → t′ ≡ withoutRecord (tableArea (s .limit)) seid t
         → Answers t msg out used out′ t′
     deleted-answers seid used out′ t′ es w d =
         record {
           long = ap (λ (p : ℕ × List ℕ). p .0) w ∙ ap length same-reply;
           space = ap (λ (p : ℕ × List ℕ). p .1) w ∙ ap (λ (l : List ℕ). put 0 l out) same-reply;
-          table = d ∙ ap₂ (λ (n : ℕ) (l : List ℕ). withoutRecord tableArea n l) es (sym (kept .encoded))
-              ∙ deleted-table s (kept .settings) m (kept .sessions) msg (a .octets) (a .kind) (a .named) (passed maxSessions s m msg (ap (λ (v : Verdict). v .cause) accepts)) (eq-eqb (kindOf msg) deletion del)
+          table = d ∙ ap₂ (λ (n : ℕ) (l : List ℕ). withoutRecord (tableArea (s .limit)) n l) es (sym (kept .encoded))
+              ∙ deleted-table s (kept .settings) m (kept .sessions) msg (a .octets) (a .kind) (a .named) (passed s m msg (ap (λ (v : Verdict). v .cause) accepts)) (eq-eqb (kindOf msg) deletion del)
               ∙ rw accepts;
         }
 
@@ -84,9 +87,9 @@ unfolding reportsOf keep
 nothing-told = refl
 
 -- from what the code's readers answer
-pub deleted-through : (s : Settings) (t msg out : List ℕ) (f : Framing) (seid used : ℕ) (out′ t′ : List ℕ) → Asked t msg out → Live t msg → kindOf msg ≡ deletion → seid ≡ headerSeid msg → s ≡ viewSettings t
+pub deleted-through : (u : Unit) (t msg out : List ℕ) (f : Framing) (seid used : ℕ) (out′ t′ : List ℕ) → Asked t msg out → Live t msg → kindOf msg ≡ deletion → seid ≡ headerSeid msg → settingsOf u ≡ viewSettings t
     → faultIn f ≡ frameFault msg → f ≡ framings.Framed
-    → (used, out′) ≡ written (reply s msg 0 (plain why.accepted) (allReports [])) out → t′ ≡ withoutRecord tableArea seid t → Replies t msg out used 0 out′ t′
-deleted-through s t msg out f seid used out′ t′ a live del es is fe fq w d =
+    → (used, out′) ≡ written (reply (settingsOf u) msg 0 (plain why.accepted) (allReports [])) out → t′ ≡ withoutRecord (tableArea (u .limit)) seid t → Replies t msg out used 0 out′ t′
+deleted-through u t msg out f seid used out′ t′ a live del es is fe fq w d =
     let fr = framed t msg out live f fe fq in
-    record { answers = deleted-answers t msg out a live fr del seid used out′ t′ es (rw (is, nothing-told) at w) d; placed = sym (ap (λ (x : Verdict). x .place) (accepts t msg out a live fr del)) }
+    record { answers = deleted-answers t msg out a live fr del seid used out′ t′ es (rw (is, nothing-told) at w) (d ∙ ap (λ (n : ℕ). withoutRecord (tableArea n) seid t) (limit-is u (viewSettings t) is)); placed = sym (ap (λ (x : Verdict). x .place) (accepts t msg out a live fr del)) }

@@ -98,12 +98,12 @@ module _ (s : Settings) (m : Sessions) (x : Session) (r : Request) (e : Empty r)
   unfolding tooManyEndpoints
   few-endpoints b = let n = ap length (e .endpoints) in le-ltb maxEndpoints (length (x .endpoints) - length (r .goneEndpoints) + length (r .endpoints)) (omega arith)
 
-  room : (limit kind : ℕ) → eqb kind establishment ≡ false → length (x .pdrs) ≤ 16 → length (x .endpoints) ≤ 8 → noRoom limit kind s m x r ≡ false
+  room : (kind : ℕ) → eqb kind establishment ≡ false → length (x .pdrs) ≤ 16 → length (x .endpoints) ≤ 8 → noRoom kind s m x r ≡ false
   unfolding noRoom tooManySessions tooFewTeids
-  room limit kind k a b =
+  room kind k a b =
       let f : ltb (freeCount s m) 0 ≡ false = le-ltb (freeCount s m) 0 (omega arith) in
       rw (needs-none, f, k, few-pdrs a, few-endpoints b)
 
-  pub accepted-empty : (limit kind : ℕ) → eqb kind establishment ≡ false → length (x .pdrs) ≤ 16 → length (x .endpoints) ≤ 8 → judge limit kind s m x r ≡ plain why.accepted
+  pub accepted-empty : (kind : ℕ) → eqb kind establishment ≡ false → length (x .pdrs) ≤ 16 → length (x .endpoints) ≤ 8 → judge kind s m x r ≡ plain why.accepted
   unfolding judge
-  accepted-empty limit kind k a b = rw (kept, room limit kind k a b, addressed, allocated, k, e .unsupported)
+  accepted-empty kind k a b = rw (kept, room kind k a b, addressed, allocated, k, e .unsupported)

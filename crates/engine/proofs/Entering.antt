@@ -15,7 +15,6 @@ use Rattle.octets.specs.Lists.{all}
 use Rattle.octets.proofs.Tests.{each}
 use Rattle.octets.proofs.Numbers.{number-be}
 use Rattle.octets.proofs.ListLaws.{all-every, found-knows}
-use Rattle.rules.specs.Limits.{maxSessions}
 use Rattle.rules.specs.Model.{Settings, Session, Sessions}
 use Rattle.rules.specs.Layout.{sessionOctets, encode, viewSession, viewArea, viewSettings, viewSessions, pdrWidth, endpointWidth, csidWidth, sessionWidth, tableLength}
 use Rattle.rules.specs.Sound.{sound, sessionAllowed, sessionsTests, sessionsAllowed}
@@ -26,47 +25,55 @@ use Rattle.laws.proofs.LayoutLaws.{session-back}
 use Rattle.claim.proofs.ServeLaws.{TableKept, table-kept}
 use Rattle.slots.specs.declared.Place.{Place}
 use Rattle.slots.specs.declared.Place.the-variants.{Found, Absent}
+use Rattle.areas.specs.declared.Area.{Area}
 use Rattle.areas.specs.Counted.{areaIn, placeIn}
 use Rattle.session.specs.Areas.{tableArea}
 use Rattle.store.proofs.Stored.{session-found, session-absent, session-loaded, fresh-slot}
 use Rattle.stages.proofs.EntryLaws.{slot-live, slot-new}
 use Rattle.engine.specs.Steps.{Fetching, Fetched, Entered}
 
+-- the table is as long as its room says
+pub long-by : (t : List ℕ) (room : ℕ) → room ≡ viewSettings t .limit → length t ≡ tableLength (viewSettings t .limit) → length t ≡ tableLength room
+long-by t room l long = long ∙ ap tableLength (sym l)
+
 -- where the session at entry comes from: the SEID of an establishment's F-SEID, or the place of the header's session in the table
 pub record Entering (t msg slot : List ℕ) (kind seid p : ℕ) : Type 0 where
-  pub table : T (sound maxSessions t)
-  pub tableLong : length t ≡ tableLength maxSessions
+  pub table : T (sound t)
+  pub tableLong : length t ≡ tableLength (viewSettings t .limit)
   pub kindIs : kind ≡ kindOf msg
   pub named : eqb (kindOf msg) setDeletion ≡ false
   pub new : kind ≡ establishment → seid ≡ readRequest msg .seid
   pub fits : seid < 2 ^ 64
-  pub found : (kind ≡ establishment → ⊥) → placeIn tableArea (headerSeid msg) t ≡ Found p
+  pub found : (kind ≡ establishment → ⊥) → placeIn (tableArea (viewSettings t .limit)) (headerSeid msg) t ≡ Found p
   pub long : length slot ≡ sessionWidth
 
-module _ (t : List ℕ) (h : T (sound maxSessions t)) where
+module _ (t : List ℕ) (h : T (sound t)) where
   abbrev s : Settings
   s = viewSettings t
 
   abbrev m : Sessions
   m = viewSessions t
 
-  kept : TableKept maxSessions t
-  kept = table-kept maxSessions t h
+  abbrev area : Area
+  area = tableArea (s .limit)
 
-  at-place : (n : ℕ) (r q : Place) → r ≡ placeIn tableArea n t → r ≡ q → placeIn tableArea n (encode maxSessions s m) ≡ q
-  at-place n r q e d = ap (placeIn tableArea n) (kept .encoded) ∙ sym e ∙ d
+  kept : TableKept t
+  kept = table-kept t h
 
-  pub live-found : (n p : ℕ) (r : Place) → r ≡ placeIn tableArea n t → r ≡ Found p → true ≡ isLive n (viewSessions t)
+  at-place : (n room : ℕ) (r q : Place) → room ≡ s .limit → r ≡ placeIn (tableArea room) n t → r ≡ q → placeIn area n (encode s m) ≡ q
+  at-place n room r q l e d = ap (placeIn area n) (kept .encoded) ∙ ap (λ (z : ℕ). placeIn (tableArea z) n t) (sym l) ∙ sym e ∙ d
+
+  pub live-found : (n p room : ℕ) (r : Place) → room ≡ s .limit → r ≡ placeIn (tableArea room) n t → r ≡ Found p → true ≡ isLive n (viewSessions t)
   unfolding isLive
-  live-found n p r e d = sym (ap isSome (session-found s (kept .settings) m (kept .sessions) n p (newSession 0) (at-place n r (Found p) e d) .1))
+  live-found n p room r l e d = sym (ap isSome (session-found s (kept .settings) m (kept .sessions) n p (newSession 0) (at-place n room r (Found p) l e d) .1))
 
-  pub live-absent : (n p : ℕ) (r : Place) → r ≡ placeIn tableArea n t → r ≡ Absent p → false ≡ isLive n (viewSessions t)
+  pub live-absent : (n p room : ℕ) (r : Place) → room ≡ s .limit → r ≡ placeIn (tableArea room) n t → r ≡ Absent p → false ≡ isLive n (viewSessions t)
   unfolding isLive
-  live-absent n p r e d = sym (ap isSome (session-absent s (kept .settings) m (kept .sessions) n p (at-place n r (Absent p) e d)))
+  live-absent n p room r l e d = sym (ap isSome (session-absent s (kept .settings) m (kept .sessions) n p (at-place n room r (Absent p) l e d)))
 
   each-allowed : T (all (sessionAllowed s) m)
   unfolding sessionsAllowed sessionsTests
-  each-allowed = each (sessionsTests maxSessions s m) (kept .sessions) .1 .1 .0
+  each-allowed = each (sessionsTests s m) (kept .sessions) .1 .1 .0
 
   live-allowed : (n : ℕ) (x : Session) → sessionOf n m ≡ some x → T (sessionAllowed s x)
   unfolding sessionOf
@@ -102,23 +109,26 @@ entered-new t msg slot slot′ kind seid p live a k e long l =
 
 -- a live session in its slot
 module _ (t msg slot : List ℕ) (kind seid p : ℕ) (a : Entering t msg slot kind seid p) (other : kind ≡ establishment → ⊥) where
-  sound-table : T (sound maxSessions t)
+  sound-table : T (sound t)
   sound-table = a .table
 
-  k : TableKept maxSessions t
-  k = table-kept maxSessions t sound-table
+  k : TableKept t
+  k = table-kept t sound-table
 
   x : Session
   x = getD (viewSessions t) p (newSession 0)
 
-  there : placeIn tableArea (headerSeid msg) (encode maxSessions (viewSettings t) (viewSessions t)) ≡ Found p
-  there = ap (placeIn tableArea (headerSeid msg)) (k .encoded) ∙ a .found other
+  abbrev area′ : Area
+  area′ = tableArea (viewSettings t .limit)
 
-  found : (p < maxSessions) × (sessionOf (headerSeid msg) (viewSessions t) ≡ some x)
+  there : placeIn area′ (headerSeid msg) (encode (viewSettings t) (viewSessions t)) ≡ Found p
+  there = ap (placeIn area′ (headerSeid msg)) (k .encoded) ∙ a .found other
+
+  found : (p < viewSettings t .limit) × (sessionOf (headerSeid msg) (viewSessions t) ≡ some x)
   unfolding x
   found = session-found (viewSettings t) (k .settings) (viewSessions t) (k .sessions) (headerSeid msg) p (newSession 0) there
 
-  place-within : p < maxSessions
+  place-within : p < viewSettings t .limit
   place-within = found .0
 
   allowed : T (sessionAllowed (viewSettings t) x)
@@ -127,21 +137,21 @@ module _ (t msg slot : List ℕ) (kind seid p : ℕ) (a : Entering t msg slot ki
   is-entry : x ≡ entrySession (viewSessions t) msg
   is-entry = sym (live-entry (viewSessions t) msg x (a .named) (λ e. other (a .kindIs ∙ e)) (found .1))
 
-  entered-live : (live : Bool) (slot′ : List ℕ) → slot′ ≡ part (p * sessionWidth) sessionWidth (areaIn tableArea t) → length slot′ ≡ sessionWidth → Entered t msg kind seid live slot′
+  entered-live : (live : Bool) (slot′ : List ℕ) → slot′ ≡ part (p * sessionWidth) sessionWidth (areaIn area′ t) → length slot′ ≡ sessionWidth → Entered t msg kind seid live slot′
   unfolding x
   entered-live live slot′ e long =
-      let loaded : slot′ ≡ sessionOctets x = e ∙ ap (λ (u : List ℕ). part (p * sessionWidth) sessionWidth (areaIn tableArea u)) (sym (k .encoded)) ∙ session-loaded (viewSettings t) (k .settings) (viewSessions t) (k .sessions) (headerSeid msg) p (newSession 0) there in
+      let loaded : slot′ ≡ sessionOctets x = e ∙ ap (λ (u : List ℕ). part (p * sessionWidth) sessionWidth (areaIn area′ u)) (sym (k .encoded)) ∙ session-loaded (viewSettings t) (k .settings) (viewSessions t) (k .sessions) (headerSeid msg) p (newSession 0) there in
       let viewed : viewSession slot′ ≡ x = ap viewSession loaded ∙ session-back (viewSettings t) (k .settings) x allowed in
       record { entry = loaded ∙ ap sessionOctets is-entry; viewed = viewed ∙ is-entry; place = slot-live (viewSettings t) slot′ x long viewed allowed; known = λ z. absurd (other z) }
 
 -- what fetching it asks, and that what it leaves is the session at entry
 module _ (t msg slot : List ℕ) (kind seid p : ℕ) (a : Entering t msg slot kind seid p) where
-  pub fetch-asks : Fetching t slot kind seid p
-  fetch-asks = record { table = a .table; tableLong = a .tableLong; fits = a .fits; there = λ n. place-within t msg slot kind seid p a n; long = a .long }
+  pub fetch-asks : (room : ℕ) → room ≡ viewSettings t .limit → Fetching t slot room kind seid p
+  fetch-asks room l = record { table = a .table; tableLong = long-by t room l (a .tableLong); limit = l; fits = a .fits; there = λ n. rw l (place-within t msg slot kind seid p a n); long = a .long }
 
-  pub entered : (live : Bool) (slot′ : List ℕ) → Fetched t kind seid p live slot′ → Entered t msg kind seid live slot′
-  entered live slot′ f = go (ℕ-discrete kind establishment)
+  pub entered : (live : Bool) (slot′ : List ℕ) → (room : ℕ) → room ≡ viewSettings t .limit → Fetched t room kind seid p live slot′ → Entered t msg kind seid live slot′
+  entered live slot′ room l f = go (ℕ-discrete kind establishment)
     where
       go : Dec (kind ≡ establishment) → Entered t msg kind seid live slot′
       go (yes e) = entered-new t msg slot slot′ kind seid p live a e (f .new e) (f .long) (f .known e)
-      go (no n) = entered-live t msg slot kind seid p a n live slot′ (f .old n) (f .long)
+      go (no n) = entered-live t msg slot kind seid p a n live slot′ (f .old n ∙ ap (λ (z : ℕ). part (p * sessionWidth) sessionWidth (areaIn (tableArea z) t)) l) (f .long)

@@ -5,7 +5,6 @@ use mathlib.Core.Option.{none, some}
 use mathlib.Core.List.{List}
 use Prim.Native.Nat.{ℕ, _<_}
 use native.Mathlib.Omega.{arith}
-use Rattle.rules.specs.Limits.{maxSessions}
 use Rattle.rules.specs.Layout.{viewSettings, viewSessions}
 use Rattle.rules.specs.Elements.{Refusal, missing, conditional, tooShort, incorrect, causeOf}
 use Rattle.rules.specs.Message.{Spot, spot, frameFault}
@@ -46,14 +45,14 @@ module _ (t msg out : List ℕ) (live : Live t msg) where
 
   -- stage 2
   pub not-framed-refuses : (f : Spot) → frameFault msg ≡ some f → Faulted t msg out why.wrongLength (f .type) (f .place)
-  not-framed-refuses f e = faulted why.wrongLength (f .type) (f .place) (not-framed maxSessions (viewSettings t) (viewSessions t) msg live f e) (omega arith) (λ z. omega arith)
+  not-framed-refuses f e = faulted why.wrongLength (f .type) (f .place) (not-framed (viewSettings t) (viewSessions t) msg live f e) (omega arith) (λ z. omega arith)
 
   -- stage 3
   pub not-read-refuses : frameFault msg ≡ none → (x : Fault) → read msg ≡ faulty x → (c k p : ℕ) → causeOf (x .cause) ≡ c → x .type ≡ k → x .place ≡ p → Faulted t msg out c k p
   unfolding readFault faultIn
   not-read-refuses fr x e c k p ec ek ep =
       let s = small-cause (x .cause) in
-      faulted c k p (not-read maxSessions (viewSettings t) (viewSessions t) msg live fr x (ap faultIn e) ∙ (λ i. record { cause = ec i; offending = some (ek i); place = ep i }))
+      faulted c k p (not-read (viewSettings t) (viewSessions t) msg live fr x (ap faultIn e) ∙ (λ i. record { cause = ec i; offending = some (ek i); place = ep i }))
       (rw ec at (s .0)) (λ z. s .1 (ec ∙ z))
 
   pub frame-refuses : (f : Framing) (k p : ℕ) → frame.faultIn f ≡ frameFault msg → f ≡ framings.Fault k p → Faulted t msg out why.wrongLength k p

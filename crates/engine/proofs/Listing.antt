@@ -12,7 +12,6 @@ use lib.ListN.{length, take, drop}
 use Rattle.octets.specs.Choice.{pick}
 use Rattle.octets.specs.Octets.{put}
 use Rattle.octets.specs.Lists.{keep}
-use Rattle.rules.specs.Limits.{maxSessions}
 use Rattle.rules.specs.Model.{Settings, Session, Sessions}
 use Rattle.rules.specs.Layout.{encode, viewSettings, viewSessions}
 use Rattle.rules.specs.Elements.{Fqcsid}
@@ -93,9 +92,9 @@ module _ (t msg : List ℕ) (l : Listing msg) where
     list-accepts fr =
         let s = viewSettings t in
         let m = viewSessions t in
-        read-through maxSessions s m msg listing-live fr fine
+        read-through s m msg listing-live fr fine
         ∙ rw (entry-is, request-is)
-        (accepted-empty s m (newSession 0) (listing (gotten lists)) (listing-empty (gotten lists)) maxSessions (kindOf msg) (ap (λ (n : ℕ). eqb n establishment) (l .kind)) (omega arith) (omega arith))
+        (accepted-empty s m (newSession 0) (listing (gotten lists)) (listing-empty (gotten lists)) (kindOf msg) (ap (λ (n : ℕ). eqb n establishment) (l .kind)) (omega arith) (omega arith))
 
     pub after-is : sessionsAfter (viewSettings t) (viewSessions t) msg ≡ keep (staysSession (gotten lists)) (viewSessions t)
     unfolding sessionsAfter follow listing
@@ -138,7 +137,7 @@ module _ (t msg out : List ℕ) (a : AskedList t msg out) where
   pub listed-through : (s : Settings) (f : Framing) (v : code.Verdict) (used : ℕ) (out′ t′ : List ℕ) → s ≡ viewSettings t → frame.faultIn f ≡ frameFault msg → f ≡ framings.Framed
       → outcome v tt ≡ numbered (blank (listRead (elements listPlace (take (length msg - 8) (drop 8 msg))))) → v ≡ Fine
       → (used, out′) ≡ written (reply s msg 0 (refusal why.accepted Nothing) noReports) out
-      → t′ ≡ encode maxSessions (viewSettings t) (keep (staysSession (gotten (listRead (elements listPlace (take (length msg - 8) (drop 8 msg)))))) (viewSessions t))
+      → t′ ≡ encode (viewSettings t) (keep (staysSession (gotten (listRead (elements listPlace (take (length msg - 8) (drop 8 msg)))))) (viewSessions t))
       → Replies t msg out used 0 out′ t′
   listed-through s f v used out′ t′ is fe fq e q w′ d =
       let w = rw is at w′ in
@@ -151,7 +150,7 @@ module _ (t msg out : List ℕ) (a : AskedList t msg out) where
         answers = record {
           long = ap (λ (p : ℕ × List ℕ). p .0) w ∙ ap length same;
           space = ap (λ (p : ℕ × List ℕ). p .1) w ∙ ap (λ (x : List ℕ). put 0 x out) same;
-          table = d ∙ ap (encode maxSessions (viewSettings t)) (sym (after-is t msg head rd)) ∙ rw ok;
+          table = d ∙ ap (encode (viewSettings t)) (sym (after-is t msg head rd)) ∙ rw ok;
         };
         placed = sym (ap (λ (x : Verdict). x .place) ok);
       }

@@ -10,7 +10,7 @@ use lib.ListN.{length}
 use Rattle.octets.specs.Octets.{octets}
 use Rattle.octets.specs.Lists.{all}
 use Rattle.octets.proofs.Tests.{both, all-head, all-tail, all-cons}
-use Rattle.rules.specs.Limits.{maxSessions, maxPdrs, maxEndpoints, nodeTypes}
+use Rattle.rules.specs.Limits.{maxPdrs, maxEndpoints, nodeTypes}
 use Rattle.rules.specs.Model.{Settings, Session, Sessions, Pdr, Endpoint, Csid, endpointId}
 use Rattle.rules.specs.Elements.{nodeTypeKept}
 use Rattle.rules.specs.Layout.{sessionOctets, encode}
@@ -73,12 +73,12 @@ slot-holds s x slot k e =
       csidsUp = k .csidOrder;
     }
 
-module _ (s : Settings) (hs : T (settingsAllowed s)) (m : Sessions) (hm : T (sessionsAllowed maxSessions s m)) (msg : List ℕ) (ho : T (octets msg)) (hk : T (served (kindOf msg)))
-    (ns : eqb (kindOf msg) setDeletion ≡ false) (p : Passed maxSessions s m msg) where
+module _ (s : Settings) (hs : T (settingsAllowed s)) (m : Sessions) (hm : T (sessionsAllowed s m)) (msg : List ℕ) (ho : T (octets msg)) (hk : T (served (kindOf msg)))
+    (ns : eqb (kindOf msg) setDeletion ≡ false) (p : Passed s m msg) where
   -- a deletion
-  pub deleted-table : eqb (kindOf msg) deletion ≡ true → withoutRecord tableArea (headerSeid msg) (encode maxSessions s m) ≡ encode maxSessions s (sessionsAfter s m msg)
+  pub deleted-table : eqb (kindOf msg) deletion ≡ true → withoutRecord (tableArea (s .limit)) (headerSeid msg) (encode s m) ≡ encode s (sessionsAfter s m msg)
   unfolding sessionsAfter follow
-  deleted-table e = session-removed s hs m hm (headerSeid msg) ∙ ap (encode maxSessions s) (rw (ns, e))
+  deleted-table e = session-removed s hs m hm (headerSeid msg) ∙ ap (encode s) (rw (ns, e))
 
   -- an establishment or a modification
   module _ (other : eqb (kindOf msg) deletion ≡ false) where
@@ -100,19 +100,19 @@ module _ (s : Settings) (hs : T (settingsAllowed s)) (m : Sessions) (hm : T (ses
 
     new-allowed : T (sessionAllowed s new)
     unfolding changed ChangedSound
-    new-allowed = changed-sound maxSessions s m msg hs hm ho hk not-sets not-deletion p .sound
+    new-allowed = changed-sound s m msg hs hm ho hk not-sets not-deletion p .sound
 
-    few-after : length (putSession new m) ≤ maxSessions
+    few-after : length (putSession new m) ≤ s .limit
     unfolding SoundAfter
     few-after =
-        leb→le (length (putSession new m)) maxSessions
-        (subst (λ (n : Sessions). T (leb (length n) maxSessions)) after-is (sessions-kept maxSessions s (sessionsAfter s m msg) (sound-after maxSessions (changed-sound maxSessions) s m msg hs hm ho hk p) .few))
+        leb→le (length (putSession new m)) (s .limit)
+        (subst (λ (n : Sessions). T (leb (length n) (s .limit))) after-is (sessions-kept s (sessionsAfter s m msg) (sound-after changed-sound s m msg hs hm ho hk p) .few))
 
     pub changed-table : (seid : ℕ) (restoring noted : Bool) (gone : List ℕ) (rows : List (List ℕ)) (slot : List ℕ) → readRequest msg ≡ requestIn seid restoring noted rows
         → gone ≡ removedPdrs (readRequest msg) (entrySession m msg .pdrs) → slot ≡ sessionOctets (entrySession m msg)
-        → Ready got gone rows (entrySession m msg) → withRecord tableArea (built gone rows slot) (encode maxSessions s m) ≡ encode maxSessions s (sessionsAfter s m msg)
+        → Ready got gone rows (entrySession m msg) → withRecord (tableArea (s .limit)) (built gone rows slot) (encode s m) ≡ encode s (sessionsAfter s m msg)
     changed-table seid restoring noted gone rows slot means g e ready =
-        let holds = slot-holds s (entrySession m msg) slot (entry-sound maxSessions s m msg hm ho not-sets p .kept) e in
+        let holds = slot-holds s (entrySession m msg) slot (entry-sound s m msg hm ho not-sets p .kept) e in
         let g′ : gone ≡ removedPdrs (requestIn seid restoring noted rows) (entrySession m msg .pdrs) = g ∙ ap (λ (q : Request). removedPdrs q (entrySession m msg .pdrs)) means in
         let b : built gone rows slot ≡ sessionOctets new = built-session got gone rows holds ready seid restoring noted g′ .octets ∙ ap (λ (q : Request). sessionOctets (apply got q (entrySession m msg))) (sym means) in
-        ap (λ (l : List ℕ). withRecord tableArea l (encode maxSessions s m)) b ∙ session-saved s hs m hm new new-allowed few-after ∙ ap (encode maxSessions s) (sym after-is)
+        ap (λ (l : List ℕ). withRecord (tableArea (s .limit)) l (encode s m)) b ∙ session-saved s hs m hm new new-allowed few-after ∙ ap (encode s) (sym after-is)

@@ -12,7 +12,7 @@ use Rattle.octets.specs.Choice.{pick}
 use Rattle.octets.specs.Octets.{octets, part, number, numberAt}
 use Rattle.octets.specs.Lists.{distinct}
 use Rattle.octets.proofs.Tests.{of-true}
-use Rattle.rules.specs.Limits.{maxSessions, mapWords, addressWords, maxMessage, minSpace}
+use Rattle.rules.specs.Limits.{mapWords, addressWords, maxMessage, minSpace}
 use Rattle.rules.specs.Model.{heldTeids, freeCount, heldAddresses, freeAddressCount}
 use Rattle.rules.specs.Layout.{viewSettings, viewSessions, tableLength, headWidth, sessionWidth}
 use Rattle.rules.specs.Sound.{sound}
@@ -48,7 +48,7 @@ small-kind k = go (eqb k establishment) (eqb k modification) (eqb k deletion) (e
 
 -- an outcome without a reply
 module _ (t msg out : List ℕ) where
-  without-reply : {o u p : ℕ} (n : ℕ) → eqb n 0 ≡ false → serve maxSessions t msg out ≡ unserved n out t → (o ≡ n) × (u ≡ 0) × (p ≡ 0) → Serves t msg out o u p out t
+  without-reply : {o u p : ℕ} (n : ℕ) → eqb n 0 ≡ false → serve t msg out ≡ unserved n out t → (o ≡ n) × (u ≡ 0) × (p ≡ 0) → Serves t msg out o u p out t
   without-reply {o} {u} {p} n z e a =
       record {
         served = (λ i. record { outcome = a .0 i; place = a .2 i; space = out; table = t }) ∙ sym e;
@@ -61,15 +61,15 @@ module _ (t msg out : List ℕ) where
     serves-broken e a = without-reply 1 refl (rw (sym (sound-no t r w ips x e))) a
 
     module _ {held taken : ℕ} (e : r ≡ Held held taken) where
-      is-sound : sound maxSessions t ≡ true
+      is-sound : sound t ≡ true
       is-sound = sym (sound-yes t r w ips x held taken e)
 
-      after-sound : serve maxSessions t msg out ≡ serveSound maxSessions (viewSettings t) (viewSessions t) t msg out
+      after-sound : serve t msg out ≡ serveSound (viewSettings t) (viewSessions t) t msg out
       unfolding serve
       after-sound = rw is-sound
 
       are-held : (held ≡ distinct (heldTeids (viewSessions t))) × (taken ≡ distinct (heldAddresses (viewSettings t) (viewSessions t)))
-      are-held = go (sound maxSessions t) (sym e ∙ x .answer)
+      are-held = go (sound t) (sym e ∙ x .answer)
         where
           go : (b : Bool) → Held held taken ≡ pick b (Held (distinct (heldTeids (viewSessions t))) (distinct (heldAddresses (viewSettings t) (viewSessions t)))) Broken
               → (held ≡ distinct (heldTeids (viewSessions t))) × (taken ≡ distinct (heldAddresses (viewSettings t) (viewSessions t)))
@@ -86,7 +86,7 @@ module _ (t msg out : List ℕ) where
       answers-through room o r =
           let a = r .answers in
           record {
-            served = (λ i. record { outcome = 0; place = r .placed i; space = a .space i; table = a .table i }) ∙ sym (after-sound ∙ header-answered msg maxSessions (viewSettings t) (viewSessions t) t out room o);
+            served = (λ i. record { outcome = 0; place = r .placed i; space = a .space i; table = a .table i }) ∙ sym (after-sound ∙ header-answered msg (viewSettings t) (viewSessions t) t out room o);
             long = a .long;
           }
 
@@ -94,7 +94,7 @@ module _ (t msg out : List ℕ) where
         -- outcomes 3, 4 and 5
         pub serves-outcome : {o u p : ℕ} (g : Header) (n : ℕ) → eqb n 0 ≡ false → opened g ≡ outcome n → h ≡ g → (o ≡ n) × (u ≡ 0) × (p ≡ 0) → Serves t msg out o u p out t
         serves-outcome g n z q d a =
-            without-reply n z (after-sound ∙ header-outcome msg maxSessions (viewSettings t) (viewSessions t) t out room n (sym q ∙ sym (ap opened d) ∙ is)) a
+            without-reply n z (after-sound ∙ header-outcome msg (viewSettings t) (viewSessions t) t out room n (sym q ∙ sym (ap opened d) ∙ is)) a
 
         module _ (d : h ≡ Sets) where
           is-sets : sets ≡ headerOf msg
@@ -105,7 +105,7 @@ module _ (t msg out : List ℕ) where
               let o = sets-opens msg is-sets in
               let k = sets-is msg is-sets in
               record {
-                table = record { sound = of-true is-sound; long = table-kept maxSessions t (of-true is-sound) .whole };
+                table = record { sound = of-true is-sound; long = table-kept t (of-true is-sound) .whole };
                 space = room;
                 short = o .short;
                 list = record { long = long-absent msg (o .header) k; seid = seid-absent msg (o .header) k; kind = k };
@@ -130,7 +130,7 @@ module _ (t msg out : List ℕ) where
                 header = b .header;
                 kind = of-true (b .kind);
                 octets = o;
-                tableLong = (table-kept maxSessions t (of-true is-sound) .whole);
+                tableLong = (table-kept t (of-true is-sound) .whole);
                 seid = record { long = long-there msg (b .header) ns; seid = seid-there msg (b .header) ns };
                 named = q .2;
                 below = small-kind (kindOf msg) (b .kind);

@@ -8,7 +8,7 @@ use native.Mathlib.Omega.{arith}
 use lib.Dec.{T, eqb, leb→le}
 use Rattle.octets.specs.Choice.{pick}
 use Rattle.octets.proofs.Tests.{each}
-use Rattle.rules.specs.Limits.{maxSessions, maxPool, maxAddresses}
+use Rattle.rules.specs.Limits.{maxPool, maxAddresses}
 use Rattle.rules.specs.Model.{Settings, Session, Sessions, heldTeids, heldAddresses}
 use Rattle.rules.specs.Layout.{viewSession, viewSettings, viewSessions}
 use Rattle.rules.specs.Sound.{poolTests, addressPoolTests, settingsTests, settingsAllowed}
@@ -32,9 +32,9 @@ use Rattle.engine.specs.Answers.{verdictOn, Refusing, Accepting}
 use Rattle.engine.specs.Steps.{Counted, Entered, Readable}
 
 -- a cause is one octet
-judge-small : (limit kind : ℕ) (s : Settings) (m : Sessions) (x : Session) (r : Request) → judge limit kind s m x r .cause < 256
+judge-small : (kind : ℕ) (s : Settings) (m : Sessions) (x : Session) (r : Request) → judge kind s m x r .cause < 256
 unfolding judge
-judge-small limit kind s m x r = one (eqb kind establishment && isLive (r .seid) m) (invalidAllocation r) (r .unsupported) (breaksRule s m x r) (noRoom limit kind s m x r) (noAddress s m r)
+judge-small kind s m x r = one (eqb kind establishment && isLive (r .seid) m) (invalidAllocation r) (r .unsupported) (breaksRule s m x r) (noRoom kind s m x r) (noAddress s m r)
   where
     one : (a b c d e f : Bool)
         → pick a (plain why.rejected) (pick b (plain why.wrongAllocation) (pick c (plain why.notSupported) (pick d (plain why.brokenRule) (pick e (plain why.noRoom) (pick f (plain why.noAddress) (plain why.accepted)))))) .cause < 256
@@ -75,13 +75,13 @@ addresses-below s h =
     omega arith
 
 module _ {u : Unit} {t msg out plan words ips slot gone : List ℕ} {kind seid n free left : ℕ} {restoring noted live : Bool} (r : Readable t msg out plan kind seid n restoring noted) (k : Counted u t words free ips left) (e : Entered t msg kind seid live slot) (g : Gone slot (rowsOf n plan) gone) where
-  kept : TableKept maxSessions t
-  kept = table-kept maxSessions t (r .asked .table)
+  kept : TableKept t
+  kept = table-kept t (r .asked .table)
 
   marked-held : Means (viewSettings t .first) words (heldTeids (viewSessions t))
   marked-held =
       subst (λ (w : List ℕ). Means (viewSettings t .first) w (heldTeids (viewSessions t))) (sym (k .marks))
-      (map-means (viewSettings t) (viewSessions t) (kept .settings) (held-in-pool maxSessions (viewSettings t) (viewSessions t) (kept .sessions)))
+      (map-means (viewSettings t) (viewSessions t) (kept .settings) (held-in-pool (viewSettings t) (viewSessions t) (kept .sessions)))
 
   marked-addresses : Means (viewSettings t .firstAddress) ips (heldAddresses (viewSettings t) (viewSessions t))
   marked-addresses =
@@ -95,15 +95,15 @@ module _ {u : Unit} {t msg out plan words ips slot gone : List ℕ} {kind seid n
       (k .addressLong) marked-addresses (k .addressCount) (e .known)
 
   abbrev judgement : Verdict
-  judgement = judge maxSessions kind (settingsOf u) (viewSessions t) (viewSession slot) (requestIn seid restoring noted (rowsOf n plan))
+  judgement = judge kind (settingsOf u) (viewSessions t) (viewSession slot) (requestIn seid restoring noted (rowsOf n plan))
 
   same-judgement : verdictOn t msg ≡ judgement
   unfolding judged
-  same-judgement = r .verdict ∙ (λ i. judge maxSessions (sym (r .kindIs) i) (sym (k .settings) i) (viewSessions t) (sym (e .viewed) i) (r .means i))
+  same-judgement = r .verdict ∙ (λ i. judge (sym (r .kindIs) i) (sym (k .settings) i) (viewSessions t) (sym (e .viewed) i) (r .means i))
 
   same-verdict : (c : ℕ) → c ≡ judgement .cause → verdictOn t msg ≡ plain c
   same-verdict c q =
-      same-judgement ∙ judge-plain maxSessions kind (settingsOf u) (viewSessions t) (viewSession slot) (requestIn seid restoring noted (rowsOf n plan)) ∙ ap plain (sym q)
+      same-judgement ∙ judge-plain kind (settingsOf u) (viewSessions t) (viewSession slot) (requestIn seid restoring noted (rowsOf n plan)) ∙ ap plain (sym q)
 
   same-removed : gone ≡ removedPdrs (readRequest msg) (entrySession (viewSessions t) msg .pdrs)
   same-removed =
@@ -115,7 +115,7 @@ module _ {u : Unit} {t msg out plan words ips slot gone : List ℕ} {kind seid n
       record {
         place = 0;
         verdict = same-verdict c q;
-        small = subst (λ (z : ℕ). z < 256) (sym q) (judge-small maxSessions kind (settingsOf u) (viewSessions t) (viewSession slot) (requestIn seid restoring noted (rowsOf n plan)));
+        small = subst (λ (z : ℕ). z < 256) (sym q) (judge-small kind (settingsOf u) (viewSessions t) (viewSession slot) (requestIn seid restoring noted (rowsOf n plan)));
         other = o;
       }
 

@@ -9,7 +9,7 @@ use lib.ListN.{length}
 use Rattle.octets.specs.Choice.{pick}
 use Rattle.octets.specs.Octets.{octets, put}
 use Rattle.octets.specs.Lists.{any, collect}
-use Rattle.rules.specs.Limits.{maxSessions, maxPool, mapWords, maxAddresses, addressWords, maxMessage, minSpace}
+use Rattle.rules.specs.Limits.{maxPool, mapWords, maxAddresses, addressWords, maxMessage, minSpace}
 use Rattle.rules.specs.Layout.{sessionOctets, encode, viewSettings, viewSessions, sessionWidth, tableLength}
 use Rattle.rules.specs.Sound.{sound, takenMap, addressMap}
 use Rattle.rules.specs.Message.{kindOf, headerAllowed, served, deletion, setDeletion}
@@ -28,13 +28,13 @@ use Rattle.sets.specs.Listed.{Sound}
 
 -- outcomes 1 to 5 have been passed, by a request whose header has a SEID
 pub record Asked (t msg out : List ℕ) : Type 0 where
-  pub table : T (sound maxSessions t)
+  pub table : T (sound t)
   pub space : minSpace ≤ length out
   pub short : length msg ≤ maxMessage
   pub header : T (headerAllowed msg)
   pub kind : T (served (kindOf msg))
   pub octets : T (octets msg)
-  pub tableLong : length t ≡ tableLength maxSessions
+  pub tableLong : length t ≡ tableLength (viewSettings t .limit)
   pub seid : WithSeid msg
   pub named : eqb (kindOf msg) setDeletion ≡ false
   pub below : kindOf msg < 255
@@ -52,13 +52,13 @@ Live t msg = unknownSession (viewSessions t) msg ≡ false
 
 -- the verdict on a request
 abbrev pub verdictOn : List ℕ → List ℕ → Verdict
-verdictOn t msg = verdict maxSessions (viewSettings t) (viewSessions t) msg
+verdictOn t msg = verdict (viewSettings t) (viewSessions t) msg
 
 -- its reply stands at the front of the space, and on acceptance the table is that of the sessions after it
 pub record Answers (t msg out : List ℕ) (used : ℕ) (out′ t′ : List ℕ) : Type 0 where
   pub long : used ≡ length (replyTo (viewSettings t) (viewSessions t) msg (verdictOn t msg))
   pub space : out′ ≡ put 0 (replyTo (viewSettings t) (viewSessions t) msg (verdictOn t msg)) out
-  pub table : t′ ≡ pick (eqb (verdictOn t msg .cause) why.accepted) (encode maxSessions (viewSettings t) (sessionsAfter (viewSettings t) (viewSessions t) msg)) t
+  pub table : t′ ≡ pick (eqb (verdictOn t msg .cause) why.accepted) (encode (viewSettings t) (sessionsAfter (viewSettings t) (viewSessions t) msg)) t
 
 -- and the place told beside it is the verdict's
 pub record Replies (t msg out : List ℕ) (used place : ℕ) (out′ t′ : List ℕ) : Type 0 where

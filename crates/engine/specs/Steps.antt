@@ -8,7 +8,7 @@ use lib.Dec.{T, eqb}
 use lib.ListN.{length, take}
 use Rattle.octets.specs.Choice.{pick}
 use Rattle.octets.specs.Octets.{be, part, put, zeros}
-use Rattle.rules.specs.Limits.{maxSessions, maxPool, mapWords, maxAddresses, addressWords}
+use Rattle.rules.specs.Limits.{maxPool, mapWords, maxAddresses, addressWords}
 use Rattle.rules.specs.Model.{freeCount, freeAddressCount}
 use Rattle.rules.specs.Layout.{sessionOctets, viewSession, viewSettings, viewSessions, sessionWidth, tableLength}
 use Rattle.rules.specs.Sound.{sound, takenMap, addressMap}
@@ -58,20 +58,21 @@ pub record Given (u : Unit) (teids ips plan : List ℕ) (n r : ℕ) (plan′ pla
   pub few : r ≤ maxGrants
   pub reported : take r places′ ≡ reportPlaces n plan′
 
--- what fetching the session at entry asks: a place in the table, unless the session is new
-pub record Fetching (t slot : List ℕ) (kind seid p : ℕ) : Type 0 where
-  pub table : T (sound maxSessions t)
-  pub tableLong : length t ≡ tableLength maxSessions
+-- what fetching the session at entry asks: the room for sessions, and a place in it, unless the session is new
+pub record Fetching (t slot : List ℕ) (room kind seid p : ℕ) : Type 0 where
+  pub table : T (sound t)
+  pub tableLong : length t ≡ tableLength room
+  pub limit : room ≡ viewSettings t .limit
   pub fits : seid < 2 ^ 64
-  pub there : (kind ≡ establishment → ⊥) → p < maxSessions
+  pub there : (kind ≡ establishment → ⊥) → p < room
   pub long : length slot ≡ sessionWidth
 
 -- what it leaves and answers: a new session's slot and whether its SEID is live, or the slot at the place
-pub record Fetched (t : List ℕ) (kind seid p : ℕ) (live : Bool) (slot : List ℕ) : Type 0 where
+pub record Fetched (t : List ℕ) (room kind seid p : ℕ) (live : Bool) (slot : List ℕ) : Type 0 where
   pub long : length slot ≡ sessionWidth
   pub new : kind ≡ establishment → slot ≡ put 0 (be 8 seid) (zeros sessionWidth)
   pub known : kind ≡ establishment → live ≡ isLive seid (viewSessions t)
-  pub old : (kind ≡ establishment → ⊥) → slot ≡ part (p * sessionWidth) sessionWidth (areaIn tableArea t)
+  pub old : (kind ≡ establishment → ⊥) → slot ≡ part (p * sessionWidth) sessionWidth (areaIn (tableArea room) t)
 
 -- the session at entry in its slot, and whether the SEID of an establishment is live
 pub record Entered (t msg : List ℕ) (kind seid : ℕ) (live : Bool) (slot : List ℕ) : Type 0 where
@@ -85,7 +86,7 @@ pub record Readable (t msg out plan : List ℕ) (kind seid n : ℕ) (restoring n
   pub asked : Asked t msg out
   pub kindIs : kind ≡ kindOf msg
   pub other : eqb (kindOf msg) deletion ≡ false
-  pub verdict : verdictOn t msg ≡ judged maxSessions (viewSettings t) (viewSessions t) msg
+  pub verdict : verdictOn t msg ≡ judged (viewSettings t) (viewSessions t) msg
   pub means : readRequest msg ≡ requestIn seid restoring noted (rowsOf n plan)
   pub rows : n * rowWidth ≤ length plan
   pub onlyNull : OnlyNull (rowsOf n plan)
@@ -96,9 +97,9 @@ pub record Changing (t msg out : List ℕ) (kind p : ℕ) : Type 0 where
   pub live : Live t msg
   pub kindIs : kind ≡ kindOf msg
   pub other : eqb (kindOf msg) deletion ≡ false
-  pub found : (kind ≡ establishment → ⊥) → placeIn tableArea (headerSeid msg) t ≡ Found p
+  pub found : (kind ≡ establishment → ⊥) → placeIn (tableArea (viewSettings t .limit)) (headerSeid msg) t ≡ Found p
 
 -- the whole call: outcome, place of a fault, reply space and table are the rules', and `used` is the length of the reply, 0 where there is none
 pub record Serves (t msg out : List ℕ) (outcome used place : ℕ) (out′ t′ : List ℕ) : Type 0 where
-  pub served : record { outcome = outcome; place = place; space = out′; table = t′ } ≡ serve maxSessions t msg out
+  pub served : record { outcome = outcome; place = place; space = out′; table = t′ } ≡ serve t msg out
   pub long : used ≡ pick (eqb outcome 0) (length (replyTo (viewSettings t) (viewSessions t) msg (verdictOn t msg))) 0

@@ -12,7 +12,6 @@ ghost use Rattle.session.specs.Build.{built};
 ghost use Rattle.engine.specs.Answers.{Asked, AskedList, Live, Answers, Replies, Refusing, Accepting};
 ghost use Rattle.engine.specs.Steps.{Counted, Giving, Given, Fetching, Fetched, Entered, Readable, Changing, Serves};
 ghost use lib.Dec.{T};
-ghost use Rattle.rules.specs.Limits.{maxSessions};
 ghost use Rattle.rules.specs.Layout.{viewSettings, viewSessions, sessionWidth, tableLength};
 ghost use Rattle.rules.specs.Sound.{sound};
 ghost use Rattle.rules.specs.Stages.{isLive};
@@ -27,9 +26,6 @@ use request::Plan;
 use request::Reading;
 use slots::Place;
 use unit::Settings;
-
-// The sessions of a table at most, as the room of their area, which begins at COUNT.
-const SESSIONS: usize = format::MAX_SESSIONS as usize;
 
 // A reply: how many octets of the reply space hold it, and the place in the message of a fault of stages 2 and 3, else 0.
 pub struct Replied {
@@ -81,7 +77,7 @@ fn delete(t: &mut [u8], u: Settings, msg: &[u8], seid: u64, out: &mut [u8]) -> R
     let plan = [0u64; 1];
     let places = [0usize; 1];
     let used = reply::accepted(u, msg, 0, &plan[0..0], &places[0..0], out);
-    store::remove(t, SESSIONS, format::COUNT, seid);
+    store::remove(t, u.limit as usize, format::COUNT, seid);
     Replied {
         used: used,
         place: 0,
@@ -139,13 +135,13 @@ fn delete_list(t: &mut [u8], u: Settings, msg: &[u8], out: &mut [u8]) -> Replied
     }
 }
 
-// The session of an accepted request: built in its slot, and the slot stored.
-fn keep(t: &mut [u8], slot: &mut [u8], gone: &[u64], plan: &[u64], n: usize)
-    requires { ⌜ (length (now t) ≡ tableLength maxSessions) × (length (now slot) ≡ sessionWidth) × (n * rowWidth ≤ length (now plan)) ⌝ }
-    ensures { λ _. ⌜ (now (slot .exit) ≡ built (now (gone .entry)) (rowsOf n (now (plan .entry))) (now (slot .entry))) × (now (t .exit) ≡ withRecord tableArea (built (now (gone .entry)) (rowsOf n (now (plan .entry))) (now (slot .entry))) (now (t .entry))) ⌝ }
+// The session of an accepted request: built in its slot, and the slot stored in a table with so much room.
+fn keep(t: &mut [u8], room: usize, slot: &mut [u8], gone: &[u64], plan: &[u64], n: usize)
+    requires { ⌜ (length (now t) ≡ tableLength room) × (length (now slot) ≡ sessionWidth) × (n * rowWidth ≤ length (now plan)) ⌝ }
+    ensures { λ _. ⌜ (now (slot .exit) ≡ built (now (gone .entry)) (rowsOf n (now (plan .entry))) (now (slot .entry))) × (now (t .exit) ≡ withRecord (tableArea room) (built (now (gone .entry)) (rowsOf n (now (plan .entry))) (now (slot .entry))) (now (t .entry))) ⌝ }
 {
     session::build(slot, gone, plan, n);
-    store::save(t, SESSIONS, format::COUNT, slot);
+    store::save(t, room, format::COUNT, slot);
 }
 
 // Gives the TEIDs and the address that rows choose, by the maps of taken ones. `places` gets where the rows with something chosen begin,
@@ -188,16 +184,16 @@ fn accept(
     let mut places = [0usize; format::GRANTS];
     let k = give(plan, n, u, &words, &ips, &mut places);
     let used = reply::accepted(u, msg, seid, plan, &places[..k], out);
-    keep(t, slot, gone, plan, n);
+    keep(t, u.limit as usize, slot, gone, plan, n);
     used
 }
 
-// Whether the session of a SEID is live.
-fn is_live(t: &[u8], seid: u64) -> bool
-    requires { ⌜ T (sound maxSessions (now t)) × (length (now t) ≡ tableLength maxSessions) ⌝ }
+// Whether the session of a SEID is live; room is the table's session limit.
+fn is_live(t: &[u8], room: usize, seid: u64) -> bool
+    requires { ⌜ T (sound (now t)) × (length (now t) ≡ tableLength room) × (room ≡ viewSettings (now t) .limit) ⌝ }
     ensures { λ r. ⌜ r ≡ isLive seid (viewSessions (now (t .entry))) ⌝ }
 {
-    let place = store::find(t, SESSIONS, format::COUNT, seid);
+    let place = store::find(t, room, format::COUNT, seid);
     match place {
         Place::Found(p) => return true,
         Place::Absent(p) => return false,
@@ -206,15 +202,15 @@ fn is_live(t: &[u8], seid: u64) -> bool
 
 // Puts the session at entry into its slot: a new one for an establishment, else the one at the place p. The answer is whether the SEID of
 // an establishment is live.
-fn enter(t: &[u8], kind: u64, seid: u64, p: usize, slot: &mut [u8]) -> bool
-    requires { ⌜ Fetching (now t) (now slot) kind seid p ⌝ }
-    ensures { λ r. ⌜ Fetched (now (t .entry)) kind seid p r (now (slot .exit)) ⌝ }
+fn enter(t: &[u8], room: usize, kind: u64, seid: u64, p: usize, slot: &mut [u8]) -> bool
+    requires { ⌜ Fetching (now t) (now slot) room kind seid p ⌝ }
+    ensures { λ r. ⌜ Fetched (now (t .entry)) room kind seid p r (now (slot .exit)) ⌝ }
 {
     if kind == kinds::ESTABLISHMENT {
         store::fresh(slot, seid);
-        return is_live(t, seid);
+        return is_live(t, room, seid);
     }
-    store::load(t, SESSIONS, format::COUNT, p, slot);
+    store::load(t, room, format::COUNT, p, slot);
     false
 }
 
@@ -305,7 +301,7 @@ fn change(
         }
         Reading::Whole(read) => {
             let mut slot = [0u8; format::SLOT];
-            let live = enter(t, kind, read.seid, p, &mut slot);
+            let live = enter(t, u.limit as usize, kind, read.seid, p, &mut slot);
             let used = settle(
                 t,
                 u,
@@ -346,7 +342,7 @@ fn answer(
     if kind == kinds::ESTABLISHMENT {
         return change(t, u, taken, free, addresses, msg, kind, 0, out);
     }
-    let place = store::find(t, SESSIONS, format::COUNT, seid);
+    let place = store::find(t, u.limit as usize, format::COUNT, seid);
     match place {
         Place::Absent(p) => {
             let used = refuse(t, u, msg, causes::NO_SESSION, Offending::Nothing, out);

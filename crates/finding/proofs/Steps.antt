@@ -1,28 +1,28 @@
 -- The answers on a table, from what the calls inside them say.
 -- Assumes nothing.
 use mathlib.Core.Path.{_≡_, sym, ap, _∙_}
-use Prim.Native.Nat.{ℕ, _+_, _≤_, _<_}
+use Prim.Native.Nat.{ℕ, _+_, _*_, _≤_, _<_}
 use native.Mathlib.Omega.{arith}
 use mathlib.Core.Bool.{Bool, true, false, not}
 use mathlib.Core.Option.{Option, none, some}
 use mathlib.Core.List.{List}
 use lib.Dec.{T}
 use lib.ListN.{length, drop}
-use Rattle.octets.specs.Octets.{part, number}
+use Rattle.octets.specs.Octets.{part, number, numberAt}
 use Rattle.octets.proofs.Tests.{of-true, is-true}
-use Rattle.rules.specs.Limits.{maxSessions}
-use Rattle.rules.specs.Layout.{viewSettings, viewSessions, viewSession, encode, settingsWidth}
+use Rattle.rules.specs.Layout.{viewSettings, viewSessions, viewSession, encode, settingsWidth, sessionWidth}
 use Rattle.rules.specs.Sound.{sessionAllowed, sound}
 use Rattle.rules.specs.Stages.{hasSeid, sessionOf}
 use Rattle.rules.specs.Restoring.{sessionAt}
 use Rattle.rules.specs.Finding.{Finding, findingOf, placeFrom, sessionPlace, isHolder, holderPlace, findIn, countSessions, findSession, findHolder}
 use Rattle.slots.specs.declared.Place.{Place}
 use Rattle.slots.specs.declared.Place.the-variants.{Found, Absent}
+use Rattle.areas.specs.declared.Area.{Area}
 use Rattle.areas.specs.Counted.{placeIn}
 use Rattle.session.specs.Areas.{tableArea}
 use Rattle.store.proofs.Stored.{session-place, session-absent}
 use Rattle.table.proofs.Encoded.{Encoded, sound-encoded}
-use Rattle.restoration.proofs.SoundSlots.{slotAt, few-pdrs, few-endpoints, slot-long, slot-session, session-kept, count-read}
+use Rattle.restoration.proofs.SoundSlots.{slotAt, few-pdrs, few-endpoints, slot-long, slot-session, session-kept, count-read, table-long}
 use Rattle.finding.specs.declared.Answer.{Answer}
 use Rattle.finding.specs.Holds.{Counted}
 use Rattle.finding.specs.Answers.{answerOf}
@@ -33,66 +33,77 @@ use Rattle.finding.proofs.PlaceLaws.{seid-found, place-none, place-here
 abbrev broken : Finding
 broken = record { outcome = 1; number = 0 }
 
-module _ (t : List ℕ) (b : Bool) (e : b ≡ sound maxSessions t) where
-  pub told-broken : (o : Option ℕ) → not b ≡ true → broken ≡ findIn maxSessions t o
+module _ (t : List ℕ) (b : Bool) (e : b ≡ sound t) where
+  pub told-broken : (o : Option ℕ) → not b ≡ true → broken ≡ findIn t o
   unfolding findIn
   told-broken o z = go b e z
     where
-      go : (c : Bool) → c ≡ sound maxSessions t → not c ≡ true → broken ≡ findIn maxSessions t o
+      go : (c : Bool) → c ≡ sound t → not c ≡ true → broken ≡ findIn t o
       go true e′ z′ = absurd (let w : _≡_ {A = ℕ} 0 1 = cc in omega arith)
       go false e′ z′ = rw (← e′)
 
-  pub is-sound : not b ≡ false → T (sound maxSessions t)
+  pub is-sound : not b ≡ false → T (sound t)
   is-sound z = go b e z
     where
-      go : (c : Bool) → c ≡ sound maxSessions t → not c ≡ false → T (sound maxSessions t)
+      go : (c : Bool) → c ≡ sound t → not c ≡ false → T (sound t)
       go true e′ z′ = of-true (sym e′)
       go false e′ z′ = absurd (let w : _≡_ {A = ℕ} 0 1 = cc in omega arith)
 
-  pub told : (o : Option ℕ) → not b ≡ false → findingOf o ≡ findIn maxSessions t o
+  pub told : (o : Option ℕ) → not b ≡ false → findingOf o ≡ findIn t o
   unfolding findIn
-  told o z = sym (rw (is-true (sound maxSessions t) (is-sound z)))
+  told o z = sym (rw (is-true (sound t) (is-sound z)))
 
   -- ---- the three answers
 
-  pub count-broken : not b ≡ true → broken ≡ countSessions maxSessions t
+  pub count-broken : not b ≡ true → broken ≡ countSessions t
   unfolding countSessions
   count-broken z = told-broken (some (length (viewSessions t))) z
 
-  pub count-told : (n : ℕ) → not b ≡ false → n ≡ number (part settingsWidth 2 t) → findingOf (some n) ≡ countSessions maxSessions t
+  pub count-told : (n : ℕ) → not b ≡ false → n ≡ number (part settingsWidth 2 t) → findingOf (some n) ≡ countSessions t
   unfolding countSessions
   count-told n z q = ap (λ (k : ℕ). findingOf (some k)) (q ∙ sym (count-read t (is-sound z))) ∙ told (some (length (viewSessions t))) z
 
+  -- the room for sessions, as the table has it
+  limit-read : (room : ℕ) → room ≡ number (part 37 2 t) → room ≡ viewSettings t .limit
+  unfolding viewSettings numberAt
+  limit-read room l = l
+
+  pub room-there : (room : ℕ) → not b ≡ false → room ≡ number (part 37 2 t) → settingsWidth + 2 + room * sessionWidth ≤ length t
+  room-there room z l = let e = table-long t (is-sound z) in let f = limit-read room l in omega arith
+
   module _ (seid : ℕ) where
-    pub seid-broken : not b ≡ true → broken ≡ findSession maxSessions t seid
+    pub seid-broken : not b ≡ true → broken ≡ findSession t seid
     unfolding findSession
     seid-broken z = told-broken (sessionPlace seid (viewSessions t)) z
 
-    module _ (z : not b ≡ false) (r : Place) (q : r ≡ placeIn tableArea seid t) where
-      k : Encoded maxSessions t (viewSettings t) (viewSessions t)
-      k = sound-encoded maxSessions t (is-sound z)
+    module _ (z : not b ≡ false) (room : ℕ) (l : room ≡ number (part 37 2 t)) (r : Place) (q : r ≡ placeIn (tableArea room) seid t) where
+      abbrev area : Area
+      area = tableArea (viewSettings t .limit)
 
-      there : (u : Place) → r ≡ u → placeIn tableArea seid (encode maxSessions (viewSettings t) (viewSessions t)) ≡ u
-      there u f = ap (placeIn tableArea seid) (sym (k .whole)) ∙ sym q ∙ f
+      k : Encoded t (viewSettings t) (viewSessions t)
+      k = sound-encoded t (is-sound z)
 
-      pub seid-told : (p : ℕ) → r ≡ Found p → findingOf (some p) ≡ findSession maxSessions t seid
+      there : (u : Place) → r ≡ u → placeIn area seid (encode (viewSettings t) (viewSessions t)) ≡ u
+      there u f = ap (placeIn area seid) (sym (k .whole)) ∙ ap (λ (n : ℕ). placeIn (tableArea n) seid t) (sym (limit-read room l)) ∙ sym q ∙ f
+
+      pub seid-told : (p : ℕ) → r ≡ Found p → findingOf (some p) ≡ findSession t seid
       unfolding findSession sessionPlace
       seid-told p f =
           sym (ap findingOf (seid-found 0 seid p (viewSessions t) (sym (session-place (viewSettings t) (k .settings) (viewSessions t) (k .sessions) seid) ∙ there (Found p) f)))
           ∙ told (sessionPlace seid (viewSessions t)) z
 
-      pub seid-none : (p : ℕ) → r ≡ Absent p → findingOf none ≡ findSession maxSessions t seid
+      pub seid-none : (p : ℕ) → r ≡ Absent p → findingOf none ≡ findSession t seid
       unfolding findSession sessionPlace
       seid-none p f =
           sym (ap findingOf (place-none 0 (hasSeid seid) (viewSessions t) (unfold sessionOf in session-absent (viewSettings t) (k .settings) (viewSessions t) (k .sessions) seid p (there (Absent p) f))))
           ∙ told (sessionPlace seid (viewSessions t)) z
 
   module _ (teid : ℕ) where
-    pub teid-broken : not b ≡ true → broken ≡ findHolder maxSessions t teid
+    pub teid-broken : not b ≡ true → broken ≡ findHolder t teid
     unfolding findHolder
     teid-broken z = told-broken (holderPlace teid (viewSessions t)) z
 
-    pub teid-told : (r : Answer) → not b ≡ false → answerOf r ≡ findingOf (holderPlace teid (viewSessions t)) → answerOf r ≡ findHolder maxSessions t teid
+    pub teid-told : (r : Answer) → not b ≡ false → answerOf r ≡ findingOf (holderPlace teid (viewSessions t)) → answerOf r ≡ findHolder t teid
     unfolding findHolder
     teid-told r z q = q ∙ told (holderPlace teid (viewSessions t)) z
 
@@ -101,7 +112,7 @@ module _ (t : List ℕ) (b : Bool) (e : b ≡ sound maxSessions t) where
 
 -- ---- the walk over the sessions
 
-module _ (t : List ℕ) (h : T (sound maxSessions t)) (teid i n : ℕ) (count : n ≡ length (viewSessions t)) (below : i < n) where
+module _ (t : List ℕ) (h : T (sound t)) (teid i n : ℕ) (count : n ≡ length (viewSessions t)) (below : i < n) where
   less : i < length (viewSessions t)
   less = omega arith
 

@@ -4,7 +4,6 @@ ghost use mathlib.Core.Path.{_≡_};
 ghost use Prim.Native.Nat.{_*_, _≤_};
 ghost use lib.Dec.{T};
 ghost use lib.ListN.{length};
-ghost use Rattle.rules.specs.Limits.{maxSessions};
 ghost use Rattle.rules.specs.Layout.{viewSession, viewSessions, pdrWidth, endpointWidth};
 ghost use Rattle.rules.specs.Sound.{sound};
 ghost use Rattle.rules.specs.Finding.{isHolder, holderPlace, findingOf, countSessions, findSession, findHolder};
@@ -73,7 +72,7 @@ fn slot_holds(slot: &[u8], teid: u64) -> bool
 
 // The first of the n sessions that holds a TEID.
 fn holder(t: &[u8], n: usize, teid: u64) -> Answer
-    requires { ⌜ T (sound maxSessions (now t)) × (n ≡ length (viewSessions (now t))) ⌝ }
+    requires { ⌜ T (sound (now t)) × (n ≡ length (viewSessions (now t))) ⌝ }
     ensures { λ r. ⌜ answerOf r ≡ findingOf (holderPlace teid (viewSessions (now (t .entry)))) ⌝ }
 {
     for i in 0..n {
@@ -93,7 +92,7 @@ fn holder(t: &[u8], n: usize, teid: u64) -> Answer
 
 // How many sessions there are.
 pub fn session_count(t: &[u8]) -> Answer
-    ensures { λ r. ⌜ answerOf r ≡ countSessions maxSessions (now (t .entry)) ⌝ }
+    ensures { λ r. ⌜ answerOf r ≡ countSessions (now (t .entry)) ⌝ }
 {
     if !table::is_sound(t) {
         return Answer {
@@ -109,7 +108,7 @@ pub fn session_count(t: &[u8]) -> Answer
 
 // The place of the session of a SEID.
 pub fn find_session(t: &[u8], seid: u64) -> Answer
-    ensures { λ r. ⌜ answerOf r ≡ findSession maxSessions (now (t .entry)) seid ⌝ }
+    ensures { λ r. ⌜ answerOf r ≡ findSession (now (t .entry)) seid ⌝ }
 {
     if !table::is_sound(t) {
         return Answer {
@@ -117,7 +116,8 @@ pub fn find_session(t: &[u8], seid: u64) -> Answer
             number: 0,
         };
     }
-    let place = store::find(t, format::MAX_SESSIONS as usize, format::COUNT, seid);
+    let room = octets::read(t, format::LIMIT, 2) as usize;
+    let place = store::find(t, room, format::COUNT, seid);
     match place {
         slots::Place::Found(p) => Answer {
             outcome: FOUND,
@@ -132,7 +132,7 @@ pub fn find_session(t: &[u8], seid: u64) -> Answer
 
 // The place of the session that holds a TEID; no two do.
 pub fn find_holder(t: &[u8], teid: u64) -> Answer
-    ensures { λ r. ⌜ answerOf r ≡ findHolder maxSessions (now (t .entry)) teid ⌝ }
+    ensures { λ r. ⌜ answerOf r ≡ findHolder (now (t .entry)) teid ⌝ }
 {
     if !table::is_sound(t) {
         return Answer {

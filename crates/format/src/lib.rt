@@ -1,9 +1,9 @@
 // Widths, places and limits that several crates share, each named once; what follows from others is worked out from them. Numbers are
 // big-endian; docs/layout.md and the rules' Layout say what stands where.
 //
-// How many there are at most: sessions, in a session PDRs, endpoints and FQ-CSIDs, TEIDs in the pool, and
-// addresses in theirs.
-pub const MAX_SESSIONS: u64 = 64;
+// How many there are at most: sessions (a unit's own limit is a setting), in a session PDRs, endpoints and FQ-CSIDs, TEIDs in the pool,
+// and addresses in theirs.
+pub const MAX_SESSIONS: u64 = 256;
 
 pub const MAX_PDRS: usize = 16;
 
@@ -11,12 +11,12 @@ pub const MAX_ENDPOINTS: usize = 8;
 
 pub const MAX_CSIDS: usize = 6;
 
-pub const MAX_POOL: u64 = 4096;
+pub const MAX_POOL: u64 = 65536;
 
 pub const MAX_ADDRESSES: u64 = 1024;
 
 // The settings: the IPv4 address (4 octets), whether there is an IPv6 address (1), the IPv6 address (16), the first TEID (4), the
-// pool's size (4), the first address (4), the number of addresses (4).
+// pool's size (4), the first address (4), the number of addresses (4), the session limit (2).
 pub const IPV4: usize = 0;
 
 pub const IPV6_THERE: usize = 4;
@@ -33,7 +33,9 @@ pub const FIRST_ADDRESS: usize = 29;
 
 pub const ADDRESS_COUNT: usize = 33;
 
-pub const SETTINGS: usize = 37;
+pub const LIMIT: usize = 37;
+
+pub const SETTINGS: usize = 39;
 
 // A PDR: ID (2 octets), precedence (4), whether there is a FAR ID (1), the FAR ID (4), source interface (1), what it matches on (1: 0
 // nothing, 1 an F-TEID, 2 an endpoint), TEID (4), families (1), endpoint ID (1), whether there is an address (1), the address (4).
@@ -84,12 +86,10 @@ pub const CSIDS: usize = ENDPOINTS + MAX_ENDPOINTS * ENDPOINT;
 
 pub const SLOT: usize = CSIDS + MAX_CSIDS * CSID;
 
-// The table: the settings, the number of sessions (2 octets at COUNT), and the slots from HEAD on.
+// The table: the settings, the number of sessions (2 octets at COUNT), and the slots from HEAD on, as many as the settings' limit says.
 pub const COUNT: usize = SETTINGS;
 
 pub const HEAD: usize = COUNT + 2;
-
-pub const LENGTH: usize = HEAD + MAX_SESSIONS as usize * SLOT;
 
 // The longest message, the least reply space, the longest restoration request, and the grants of a request at most.
 pub const MESSAGE: usize = 2048;

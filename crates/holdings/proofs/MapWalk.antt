@@ -134,6 +134,6 @@ module _ (s : Settings) where
       all-append (inPool s) (sessionTeids x) (heldTeids m) (session-in-pool x (all-head (sessionAllowed s) x m h)) (all-in-pool m (all-tail (sessionAllowed s) x m h))
 
   -- every TEID held in sessions that are allowed is in the pool
-  pub held-in-pool : (limit : ℕ) (m : Sessions) → T (sessionsAllowed limit s m) → T (all (inPool s) (heldTeids m))
+  pub held-in-pool : (m : Sessions) → T (sessionsAllowed s m) → T (all (inPool s) (heldTeids m))
   unfolding sessionsAllowed sessionsTests
-  held-in-pool limit m h = all-in-pool m (each (sessionsTests limit s m) h .1 .1 .0)
+  held-in-pool m h = all-in-pool m (each (sessionsTests s m) h .1 .1 .0)

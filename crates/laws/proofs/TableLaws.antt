@@ -16,8 +16,8 @@ use Rattle.octets.specs.Lists.{all}
 use Rattle.octets.proofs.Tests.{each, Each, all-of-each, of-true}
 use Rattle.octets.proofs.Numbers.{same-refl, number-be, length-padded}
 use Rattle.rules.specs.Model.{Settings, Sessions}
-use Rattle.rules.specs.Limits.{maxAddresses}
-use Rattle.rules.specs.Sound.{poolTests, addressPoolTests, ipv6Allowed, settingsTests, settingsAllowed, sessionAllowed, sessionsTests, sessionsAllowed, soundTests, sound}
+use Rattle.rules.specs.Limits.{maxSessions, maxAddresses}
+use Rattle.rules.specs.Sound.{poolTests, addressPoolTests, limitTests, ipv6Allowed, settingsTests, settingsAllowed, sessionAllowed, sessionsTests, sessionsAllowed, soundTests, sound}
 use Rattle.rules.specs.Layout.{headWidth, sessionWidth, tableLength, area, sessionOctets, settingsOctets, encode, viewArea, viewSession, viewSettings, viewSessions, settingsWidth}
 use Rattle.laws.proofs.LayoutLaws.{length-area, area-back, length-session, session-back}
 
@@ -49,19 +49,19 @@ ipv6-back (y ∷ ys) r t h =
     let z = zeros (16 - length v) in
     ap (take 16) (append-assoc (v ++ z) r t ∙ append-assoc v z (r ++ t)) ∙ take-at v (z ++ (r ++ t)) 16 (eqb→eq (length v) 16 h)
 
-module _ (a b c d : ℕ) (v : List ℕ) (f n u k : ℕ) (t : List ℕ) (hv : T (ipv6Allowed v)) where
+module _ (a b c d : ℕ) (v : List ℕ) (f n u k l : ℕ) (t : List ℕ) (hv : T (ipv6Allowed v)) where
   -- the settings in cells, with what follows them in a table
   tail : List ℕ
-  tail = be 4 f ++ (be 4 n ++ (be 4 u ++ be 4 k))
+  tail = be 4 f ++ (be 4 n ++ (be 4 u ++ (be 4 k ++ be 2 l)))
 
   full : length (padded 16 v) ≡ 16
   full = length-padded 16 v (ipv6-short v hv)
 
-  cells : f < 256 ^ 4 → n < 256 ^ 4 → u < 256 ^ 4 → k < 256 ^ 4
-      → viewSettings (settingsOctets (record { ipv4 = a ∷ b ∷ c ∷ d ∷ []; ipv6 = v; first = f; size = n; firstAddress = u; addressCount = k }) ++ t)
-      ≡ record { ipv4 = a ∷ b ∷ c ∷ d ∷ []; ipv6 = v; first = f; size = n; firstAddress = u; addressCount = k }
+  cells : f < 256 ^ 4 → n < 256 ^ 4 → u < 256 ^ 4 → k < 256 ^ 4 → l < 256 ^ 2
+      → viewSettings (settingsOctets (record { ipv4 = a ∷ b ∷ c ∷ d ∷ []; ipv6 = v; first = f; size = n; firstAddress = u; addressCount = k; limit = l }) ++ t)
+      ≡ record { ipv4 = a ∷ b ∷ c ∷ d ∷ []; ipv6 = v; first = f; size = n; firstAddress = u; addressCount = k; limit = l }
   unfolding viewSettings settingsOctets numberAt octetAt be tail
-  cells hf hn hu hk =
+  cells hf hn hu hk hl =
       λ j. record {
         ipv4 = a ∷ b ∷ c ∷ d ∷ [];
         ipv6 = ipv6-back v tail t hv j;
@@ -69,12 +69,13 @@ module _ (a b c d : ℕ) (v : List ℕ) (f n u k : ℕ) (t : List ℕ) (hv : T (
         size = (ap (λ (xs : List ℕ). number (take 4 xs)) (after16 (padded 16 v) tail t full 4) ∙ number-be 4 n hn) j;
         firstAddress = (ap (λ (xs : List ℕ). number (take 4 xs)) (after16 (padded 16 v) tail t full 8) ∙ number-be 4 u hu) j;
         addressCount = (ap (λ (xs : List ℕ). number (take 4 xs)) (after16 (padded 16 v) tail t full 12) ∙ number-be 4 k hk) j;
+        limit = (ap (λ (xs : List ℕ). number (take 2 xs)) (after16 (padded 16 v) tail t full 16) ∙ number-be 2 l hl) j;
       }
 
   -- and what stands i octets after them
-  past : (i : ℕ) → drop (16 + (16 + i)) ((padded 16 v ++ tail) ++ t) ≡ drop i t
+  past : (i : ℕ) → drop (16 + (18 + i)) ((padded 16 v ++ tail) ++ t) ≡ drop i t
   unfolding tail be
-  past i = after16 (padded 16 v) tail t full (16 + i) ∙ sym (drop-drop i 16 (tail ++ t))
+  past i = after16 (padded 16 v) tail t full (18 + i) ∙ sym (drop-drop i 18 (tail ++ t))
 
 -- ---- tables
 
@@ -126,37 +127,48 @@ module _ (s : Settings) (hs : T (settingsAllowed s)) where
   unfolding addressPoolTests
   address-count-fits = lt-of-le-of-lt (leb→le (s .addressCount) maxAddresses (addressFacts .1 .0)) (lit< tt)
 
+  limitFacts : Each (limitTests (s .limit))
+  unfolding settingsTests
+  limitFacts = each (limitTests (s .limit)) (settingsFacts .1 .1 .1 .1 .1 .1 .0)
+
+  pub limit-most : s .limit ≤ maxSessions
+  unfolding limitTests
+  limit-most = leb→le (s .limit) maxSessions (limitFacts .1 .0)
+
+  pub limit-fits : s .limit < 256 ^ 2
+  limit-fits = lt-of-le-of-lt limit-most (lit< tt)
+
   pub settings-back : (t : List ℕ) → viewSettings (settingsOctets s ++ t) ≡ s
   settings-back t =
       four
-      (λ (v : List ℕ). viewSettings (settingsOctets (record { ipv4 = v; ipv6 = s .ipv6; first = s .first; size = s .size; firstAddress = s .firstAddress; addressCount = s .addressCount }) ++ t)
-      ≡ record { ipv4 = v; ipv6 = s .ipv6; first = s .first; size = s .size; firstAddress = s .firstAddress; addressCount = s .addressCount })
-      (λ a b c d. cells a b c d (s .ipv6) (s .first) (s .size) (s .firstAddress) (s .addressCount) t ipv6-ok first-fits size-fits first-address-fits address-count-fits)
+      (λ (v : List ℕ). viewSettings (settingsOctets (record { ipv4 = v; ipv6 = s .ipv6; first = s .first; size = s .size; firstAddress = s .firstAddress; addressCount = s .addressCount; limit = s .limit }) ++ t)
+      ≡ record { ipv4 = v; ipv6 = s .ipv6; first = s .first; size = s .size; firstAddress = s .firstAddress; addressCount = s .addressCount; limit = s .limit })
+      (λ a b c d. cells a b c d (s .ipv6) (s .first) (s .size) (s .firstAddress) (s .addressCount) (s .limit) t ipv6-ok first-fits size-fits first-address-fits address-count-fits limit-fits)
       (s .ipv4) ipv4-four
 
   pub length-settings : length (settingsOctets s) ≡ settingsWidth
   unfolding settingsOctets be
   length-settings =
-      let numbers = be 4 (s .first) ++ (be 4 (s .size) ++ (be 4 (s .firstAddress) ++ be 4 (s .addressCount))) in
+      let numbers = be 4 (s .first) ++ (be 4 (s .size) ++ (be 4 (s .firstAddress) ++ (be 4 (s .addressCount) ++ be 2 (s .limit)))) in
       length-append (s .ipv4) (flag (not (isNil (s .ipv6))) ∷ padded 16 (s .ipv6) ++ numbers)
       ∙ ap₂ (λ (i j : ℕ). i + suc j) ipv4-four
-      (length-append (padded 16 (s .ipv6)) numbers ∙ ap (λ (k : ℕ). k + 16) (length-padded 16 (s .ipv6) (ipv6-short (s .ipv6) ipv6-ok)))
+      (length-append (padded 16 (s .ipv6)) numbers ∙ ap (λ (k : ℕ). k + 18) (length-padded 16 (s .ipv6) (ipv6-short (s .ipv6) ipv6-ok)))
 
-  module _ (limit : ℕ) (small : limit < 256 ^ 2) (m : Sessions) (hm : T (sessionsAllowed limit s m)) where
-    sessionsFacts : Each (sessionsTests limit s m)
+  module _ (m : Sessions) (hm : T (sessionsAllowed s m)) where
+    sessionsFacts : Each (sessionsTests s m)
     unfolding sessionsAllowed
-    sessionsFacts = each (sessionsTests limit s m) hm
+    sessionsFacts = each (sessionsTests s m) hm
 
-    fewSessions : length m ≤ limit
+    fewSessions : length m ≤ s .limit
     unfolding sessionsTests
-    fewSessions = leb→le (length m) limit (sessionsFacts .0)
+    fewSessions = leb→le (length m) (s .limit) (sessionsFacts .0)
 
     eachSession : T (all (sessionAllowed s) m)
     unfolding sessionsTests
     eachSession = sessionsFacts .1 .1 .0
 
     sessionArea : List ℕ
-    sessionArea = area sessionOctets sessionWidth limit m
+    sessionArea = area sessionOctets sessionWidth (s .limit) m
 
     after : List ℕ
     after = be 2 (length m) ++ sessionArea
@@ -165,41 +177,41 @@ module _ (s : Settings) (hs : T (settingsAllowed s)) where
     unfolding sessionArea
     area-read =
         ap (λ (xs : List ℕ). map viewSession (slices sessionWidth (length m) xs)) (sym (append-nil sessionArea))
-        ∙ area-back sessionOctets sessionWidth (sessionAllowed s) (length-session s hs) viewSession (session-back s hs) limit m eachSession []
+        ∙ area-back sessionOctets sessionWidth (sessionAllowed s) (length-session s hs) viewSession (session-back s hs) (s .limit) m eachSession []
 
     sessions-cells : (a b c d : ℕ)
-        → viewSessions (settingsOctets (record { ipv4 = a ∷ b ∷ c ∷ d ∷ []; ipv6 = s .ipv6; first = s .first; size = s .size; firstAddress = s .firstAddress; addressCount = s .addressCount }) ++ after) ≡ m
+        → viewSessions (settingsOctets (record { ipv4 = a ∷ b ∷ c ∷ d ∷ []; ipv6 = s .ipv6; first = s .first; size = s .size; firstAddress = s .firstAddress; addressCount = s .addressCount; limit = s .limit }) ++ after) ≡ m
     unfolding viewSessions viewArea settingsOctets numberAt after be tail
     sessions-cells a b c d =
-        let behind = past a b c d (s .ipv6) (s .first) (s .size) (s .firstAddress) (s .addressCount) after ipv6-ok in
+        let behind = past a b c d (s .ipv6) (s .first) (s .size) (s .firstAddress) (s .addressCount) (s .limit) after ipv6-ok in
         ap₂ (λ (k : ℕ) (xs : List ℕ). map viewSession (slices sessionWidth k xs))
-        (ap (λ (xs : List ℕ). number (take 2 xs)) (behind 0) ∙ number-be 2 (length m) (lt-of-le-of-lt fewSessions small))
+        (ap (λ (xs : List ℕ). number (take 2 xs)) (behind 0) ∙ number-be 2 (length m) (lt-of-le-of-lt fewSessions limit-fits))
         (behind 2)
         ∙ area-read
 
     -- the sessions are read back
-    pub sessions-back : viewSessions (encode limit s m) ≡ m
+    pub sessions-back : viewSessions (encode s m) ≡ m
     unfolding encode after sessionArea
     sessions-back =
-        four (λ (v : List ℕ). viewSessions (settingsOctets (record { ipv4 = v; ipv6 = s .ipv6; first = s .first; size = s .size; firstAddress = s .firstAddress; addressCount = s .addressCount }) ++ after) ≡ m)
+        four (λ (v : List ℕ). viewSessions (settingsOctets (record { ipv4 = v; ipv6 = s .ipv6; first = s .first; size = s .size; firstAddress = s .firstAddress; addressCount = s .addressCount; limit = s .limit }) ++ after) ≡ m)
         sessions-cells (s .ipv4) ipv4-four
 
     -- and so are the settings
-    pub encoded-settings : viewSettings (encode limit s m) ≡ s
+    pub encoded-settings : viewSettings (encode s m) ≡ s
     unfolding encode
-    encoded-settings = settings-back (be 2 (length m) ++ area sessionOctets sessionWidth limit m)
+    encoded-settings = settings-back (be 2 (length m) ++ area sessionOctets sessionWidth (s .limit) m)
 
-    -- the length does not depend on what is encoded
-    pub length-encode : length (encode limit s m) ≡ tableLength limit
+    -- the length depends on the session limit alone
+    pub length-encode : length (encode s m) ≡ tableLength (s .limit)
     unfolding encode be sessionArea
     length-encode =
         length-append (settingsOctets s) (be 2 (length m) ++ sessionArea)
-        ∙ ap₂ (λ (i j : ℕ). i + suc (suc j)) length-settings (length-area sessionOctets sessionWidth (sessionAllowed s) (length-session s hs) limit m eachSession fewSessions)
-        ∙ regroup (limit * sessionWidth)
+        ∙ ap₂ (λ (i j : ℕ). i + suc (suc j)) length-settings (length-area sessionOctets sessionWidth (sessionAllowed s) (length-session s hs) (s .limit) m eachSession fewSessions)
+        ∙ regroup (s .limit * sessionWidth)
 
     -- what is allowed is encoded as a table that is not broken
-    pub sound-encode : T (sound limit (encode limit s m))
+    pub sound-encode : T (sound (encode s m))
     unfolding sound soundTests
     sound-encode =
-        all-of-each (soundTests limit (encode limit s m) (viewSettings (encode limit s m)) (viewSessions (encode limit s m)))
-        (rw (encoded-settings, sessions-back) (yes-eqb length-encode, (hs, (hm, (of-true (same-refl (encode limit s m)), tt)))))
+        all-of-each (soundTests (encode s m) (viewSettings (encode s m)) (viewSessions (encode s m)))
+        (rw (encoded-settings, sessions-back) (yes-eqb length-encode, (hs, (hm, (of-true (same-refl (encode s m)), tt)))))

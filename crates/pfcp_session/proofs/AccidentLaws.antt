@@ -7,7 +7,7 @@ use mathlib.Core.Bool.{Bool, true, false, not, _&&_, _||_}
 use mathlib.Core.Option.{Option, none, some}
 use mathlib.Core.List.{List, [], _∷_, _++_, map}
 use lib.ListN.{length}
-use lib.Dec.{T, T-not, not-T, eqb, eqb→eq, leb→le, lit<}
+use lib.Dec.{T, T-not, not-T, eqb, eqb→eq, leb→le}
 use Rattle.rules.specs.Elements.{UeIp, ueChooses}
 use Rattle.octets.specs.Choice.{pick, valueOr, mapOption, bindOption, isSome, consOption}
 use Rattle.octets.specs.Lists.{member, all, any, findBy, keep, collect}
@@ -15,7 +15,6 @@ use Rattle.octets.proofs.Tests.{each, is-true, is-false, all-cons, pick-no, pic
 use Rattle.octets.proofs.Ordered.{keep-passes}
 use Rattle.octets.proofs.ListLaws.{Every, by-test, or-right, all-every, all-map, found-knows}
 use Rattle.octets.proofs.MemberLaws.{member-passes}
-use Rattle.rules.specs.Limits.{maxSessions}
 use Rattle.rules.specs.Model.{Settings, Session, Sessions, teidOf, sessionHoldings, sessionTeids, heldTeids, freeCount, freeTeids, inAddressPool, sessionAddresses, heldAddresses, freeAddressCount, freeAddresses}
 use Rattle.rules.specs.Layout.{viewSettings, viewSessions}
 use Rattle.rules.specs.Sound.{poolTests, settingsTests, settingsAllowed, inPool, sessionsAllowed, sound, broken, free, countFree}
@@ -50,9 +49,9 @@ use Rattle.laws.proofs.HeaderLaws.{unnamed-sets}
 -- ---- what a run leaves
 
 -- a table whose TEIDs are counted is not broken
-pub counted-sound : (t : List ℕ) (n : ℕ) → countFree maxSessions t ≡ free n → T (sound maxSessions t)
+pub counted-sound : (t : List ℕ) (n : ℕ) → countFree t ≡ free n → T (sound t)
 unfolding countFree
-counted-sound t n e = one (sound maxSessions t) (freeCount (viewSettings t) (viewSessions t)) e
+counted-sound t n e = one (sound t) (freeCount (viewSettings t) (viewSessions t)) e
   where
     one : (b : Bool) (k : ℕ) → pick b (free k) broken ≡ free n → T b
     one true k e′ = tt
@@ -60,13 +59,13 @@ counted-sound t n e = one (sound maxSessions t) (freeCount (viewSettings t) (vie
 
 module _ (run : Run) where
   -- the host's claim of it
-  pub left : Holds maxSessions (run .settings) (liveAfter run) (tableAfter run)
+  pub left : Holds (run .settings) (liveAfter run) (tableAfter run)
   unfolding HostClaim
   left = host-claim run .holds
 
   -- so the table keeps its rules
-  kept : TableKept maxSessions (tableAfter run)
-  kept = table-kept maxSessions (tableAfter run) (counted-sound (tableAfter run) _ (left .count))
+  kept : TableKept (tableAfter run)
+  kept = table-kept (tableAfter run) (counted-sound (tableAfter run) _ (left .count))
 
 -- ---- numbers of a pool that are out of use
 
@@ -74,7 +73,7 @@ module _ (run : Run) where
 unused : {held words given : List ℕ} {first n : ℕ} → marked words (n - first) ≡ member n held → T (not (member n held)) → T (member n given) → OutOfUse held words given first n
 unused {held} {words} {given} {first} {n} b g f = record { unheld = g; unmarked = b ∙ is-false (member n held) g; free = f }
 
-module _ (t : List ℕ) (k : TableKept maxSessions t) where
+module _ (t : List ℕ) (k : TableKept t) where
   abbrev s : Settings
   s = viewSettings t
 
@@ -84,7 +83,7 @@ module _ (t : List ℕ) (k : TableKept maxSessions t) where
   -- the bit of a TEID of the pool, or of an address, says whether a record holds it
   bit-says : (n : ℕ) → T (inPool s n) → marked (mapOf t) (n - s .first) ≡ member n (heldTeids m)
   unfolding mapOf
-  bit-says n h = means-test (s .first) (mapOf t) (heldTeids m) n (map-means s m (k .settings) (held-in-pool maxSessions s m (k .sessions))) (pool-from s n h)
+  bit-says n h = means-test (s .first) (mapOf t) (heldTeids m) n (map-means s m (k .settings) (held-in-pool s m (k .sessions))) (pool-from s n h)
 
   address-bit-says : (a : ℕ) → T (inAddressPool s a) → marked (addressMapOf t) (a - s .firstAddress) ≡ member a (heldAddresses s m)
   unfolding addressMapOf
@@ -150,13 +149,13 @@ as-chosen (some v) h = subst (λ (b : Bool). T (isSome (pick b (some v) none))) 
 -- ---- an accepted request
 
 -- 0 is no TEID of a pool, so no record holds it
-zero-unheld : (t : List ℕ) → TableKept maxSessions t → T (not (member 0 (heldTeids (viewSessions t))))
+zero-unheld : (t : List ℕ) → TableKept t → T (not (member 0 (heldTeids (viewSessions t))))
 unfolding settingsAllowed settingsTests poolTests
 zero-unheld t k =
     let s = viewSettings t in
     let m = viewSessions t in
     let one = leb→le 1 (s .first) (each (poolTests (s .first) (s .size)) (each (settingsTests s) (k .settings) .1 .1 .1 .1 .0) .0) in
-    not-T (member 0 (heldTeids m)) (λ h. let low = pool-from s 0 (member-passes (inPool s) 0 (heldTeids m) h (held-in-pool maxSessions s m (k .sessions))) in omega arith)
+    not-T (member 0 (heldTeids m)) (λ h. let low = pool-from s 0 (member-passes (inPool s) 0 (heldTeids m) h (held-in-pool s m (k .sessions))) in omega arith)
 
 -- no record holds what is granted
 grants-unheld : (s : Settings) (m : Sessions) (r : Request) → need r ≤ length (freeTeids s m) → T (all (λ g. not (member (grantTeid g) (heldTeids m))) (grants s m r))
@@ -174,13 +173,13 @@ module _ (run : Run) (msg space : List ℕ) (r : RequestCall) (a : Accepted run 
   t = tableAfter run
 
   abbrev out : Served
-  out = serve maxSessions t msg space
+  out = serve t msg space
 
   same : _≡_ {A = Served} (record { outcome = r .outcome; place = r .place; space = r .space; table = r .table }) out
   same = request-step t msg space r (a .call)
 
-  call : AcceptedCall maxSessions t msg space
-  call = accepted-call maxSessions t msg space (lit< tt) (a .message) (subst (λ (o : Served). T (accepted (replied msg (o .outcome) (o .space)))) same (a .reply))
+  call : AcceptedCall t msg space
+  call = accepted-call t msg space (a .message) (subst (λ (o : Served). T (accepted (replied msg (o .outcome) (o .space)))) same (a .reply))
 
   -- the session that the request is about: in a set deletion, one without records
   abbrev x : Session
@@ -196,8 +195,8 @@ module _ (run : Run) (msg space : List ℕ) (r : RequestCall) (a : Accepted run 
   spared-is d = pick-no (eqb (kindOf msg) deletion) (newSession (x .seid)) (unremoved (readRequest msg) x) d
 
   -- the table that it leaves
-  kept-out : TableKept maxSessions (out .table)
-  kept-out = table-kept maxSessions (out .table) (serve-sound maxSessions (lit< tt) t msg space (a .message) (call .answered .table))
+  kept-out : TableKept (out .table)
+  kept-out = table-kept (out .table) (serve-sound t msg space (a .message) (call .answered .table))
 
   next-out : (n : ℕ) → T (member n (freeTeids (viewSettings (out .table)) (viewSessions (out .table)))) → Released (r .table) n
   next-out n h = subst (λ (o : Served). Released (o .table) n) (sym same) (free-out (out .table) kept-out n h)
@@ -210,7 +209,7 @@ module _ (run : Run) (msg space : List ℕ) (r : RequestCall) (a : Accepted run 
   removed-out n h gone =
       next-out n
       (by-test (eqb (kindOf msg) setDeletion) (λ d. absurd (none d (subst (λ (y : Session). T (member n (sessionTeids y))) (about-none d) h)))
-      (λ ns. by-test (eqb (kindOf msg) deletion) (λ d. next-deleted maxSessions t msg space (a .message) call d n h) (λ d. next-removed maxSessions t msg space (a .message) call ns d n h (staying d))))
+      (λ ns. by-test (eqb (kindOf msg) deletion) (λ d. next-deleted t msg space (a .message) call d n h) (λ d. next-removed t msg space (a .message) call ns d n h (staying d))))
     where
       none : T (eqb (kindOf msg) setDeletion) → T (member n (sessionTeids (newSession (readRequest msg .seid)))) → ⊥
       none d g = unfold newSession sessionTeids sessionHoldings collect member in g
@@ -223,8 +222,8 @@ module _ (run : Run) (msg space : List ℕ) (r : RequestCall) (a : Accepted run 
   address-removed-out n h gone =
       next-address-out n
       (by-test (eqb (kindOf msg) setDeletion) (λ d. absurd (none d (subst (λ (y : Session). T (member n (sessionAddresses (viewSettings t) y))) (about-none d) h)))
-      (λ ns. by-test (eqb (kindOf msg) deletion) (λ d. next-deleted-address maxSessions t msg space (a .message) call d n h)
-      (λ d. next-removed-address maxSessions t msg space (a .message) call ns d n h (staying d))))
+      (λ ns. by-test (eqb (kindOf msg) deletion) (λ d. next-deleted-address t msg space (a .message) call d n h)
+      (λ d. next-removed-address t msg space (a .message) call ns d n h (staying d))))
     where
       none : T (eqb (kindOf msg) setDeletion) → T (member n (sessionAddresses (viewSettings t) (newSession (readRequest msg .seid)))) → ⊥
       none d g = unfold newSession sessionAddresses collect keep member in g
@@ -240,10 +239,10 @@ module _ (run : Run) (msg space : List ℕ) (r : RequestCall) (a : Accepted run 
 
   -- what the sessions held that a set deletion takes out
   listed-out : T (eqb (kindOf msg) setDeletion) → (n : ℕ) → T (member n (heldTeids (keep (goesSession (readRequest msg .listed)) (viewSessions t)))) → Released (r .table) n
-  listed-out d n h = next-out n (next-listed maxSessions t msg space (a .message) call d n h)
+  listed-out d n h = next-out n (next-listed t msg space (a .message) call d n h)
 
   address-listed-out : T (eqb (kindOf msg) setDeletion) → (n : ℕ) → T (member n (heldAddresses (viewSettings t) (keep (goesSession (readRequest msg .listed)) (viewSessions t)))) → AddressReleased (r .table) n
-  address-listed-out d n h = next-address-out n (next-listed-address maxSessions t msg space (a .message) call d n h)
+  address-listed-out d n h = next-address-out n (next-listed-address t msg space (a .message) call d n h)
 
   -- a TEID that the reply grants
   granted-unheld : (k : Kind) (id : ℕ) → T (not (member (createdTeid (r .space) k id) (heldTeids (viewSessions t))))
@@ -268,7 +267,7 @@ module _ (run : Run) (msg space : List ℕ) (r : RequestCall) (a : Accepted run 
   held = heldAddresses (viewSettings t) (viewSessions t)
 
   chosen-unheld : T (any ueChooses (addressesOf (readRequest msg))) → T (not (member (chosenAddress (viewSettings t) (viewSessions t)) held))
-  chosen-unheld h = address-chosen maxSessions t msg space (a .message) call h .unheld
+  chosen-unheld h = address-chosen t msg space (a .message) call h .unheld
 
   fresh-each : {A : Type 0} (key : A → ℕ) (ip : A → Option UeIp) (k : Kind) (xs : List A) → Every (λ y. T (choosesAddress (ip y)) → createdAddress (out .space) k (key y) ≡ chosenAddress (viewSettings t) (viewSessions t)) xs
       → (T (any ueChooses (collect ip xs)) → T (any ueChooses (addressesOf (readRequest msg))))
@@ -305,10 +304,10 @@ module _ (run : Run) (msg space : List ℕ) (r : RequestCall) (a : Accepted run 
 
 -- ---- sessions apart
 
-one-holder : (s : Settings) (m : Sessions) → T (sessionsAllowed maxSessions s m) → OneHolder s m
+one-holder : (s : Settings) (m : Sessions) → T (sessionsAllowed s m) → OneHolder s m
 unfolding holds
 one-holder s m h =
-    let k = sessions-kept maxSessions s m h in
+    let k = sessions-kept s m h in
     record {
       seids = k .order;
       teids = λ i j n d a. not-T (holds sessionTeids m j n) (λ b. one-teid-holder s m i j n (k .separate) d a b);
@@ -327,14 +326,14 @@ released-is-removed run =
     let t = tableAfter run in
     let in-table : (n : ℕ) → T (inPool s n) → T (inPool (viewSettings t) n) = λ n h. subst (λ (u : Settings). T (inPool u n)) (sym (l .settings)) h in
     let address-in-table : (a : ℕ) → T (inAddressPool s a) → T (inAddressPool (viewSettings t) a) = λ a h. subst (λ (u : Settings). T (inAddressPool u a)) (sym (l .settings)) h in
-    let allowed : T (sessionsAllowed maxSessions s m) = subst (λ (u : Settings). T (sessionsAllowed maxSessions u m)) (l .settings) (subst (λ (w : Sessions). T (sessionsAllowed maxSessions (viewSettings t) w)) (l .records) (k .sessions)) in
+    let allowed : T (sessionsAllowed s m) = subst (λ (u : Settings). T (sessionsAllowed u m)) (l .settings) (subst (λ (w : Sessions). T (sessionsAllowed (viewSettings t) w)) (l .records) (k .sessions)) in
     record {
       records = ap heldTeids (l .records);
       marks = λ n h.
           ap (λ (u : Settings). marked (mapOf t) (n - u .first)) (sym (l .settings))
           ∙ bit-says t k n (in-table n h)
           ∙ ap (λ (w : Sessions). member n (heldTeids w)) (l .records);
-      count = ap countAnswer (l .count) ∙ ap (λ (n : ℕ). record { outcome = 0; count = n }) (sym (free-count maxSessions s m allowed));
+      count = ap countAnswer (l .count) ∙ ap (λ (n : ℕ). record { outcome = 0; count = n }) (sym (free-count s m allowed));
       unheld = λ n h g. out-of-use t k n (in-table n h) (subst (λ (w : Sessions). T (not (member n (heldTeids w)))) (sym (l .records)) g);
       removed = λ msg space r a n h g. removed-out run msg space r a n h g;
       listed = λ msg space r a d n h. listed-out run msg space r a d n h;

@@ -8,7 +8,7 @@ use mathlib.Core.List.{List}
 use lib.Dec.{T, leb→le}
 use Rattle.octets.specs.Choice.{pick}
 use Rattle.octets.proofs.Tests.{each}
-use Rattle.rules.specs.Limits.{maxSessions, maxPool, maxAddresses}
+use Rattle.rules.specs.Limits.{maxPool, maxAddresses}
 use Rattle.rules.specs.Model.{Settings, freeCount, freeAddressCount}
 use Rattle.rules.specs.Layout.{headWidth, sessionWidth, tableLength, viewSettings, viewSessions}
 use Rattle.rules.specs.Sound.{poolTests, addressPoolTests, settingsTests, settingsAllowed, soundTests, sound, make, Count, broken, free, countFree, countAddresses}
@@ -20,7 +20,7 @@ use Rattle.table.specs.Answers.{madeOf, countOf}
 use Rattle.engine.specs.Steps.{Serves}
 use Rattle.pfcp_session.specs.Calls.{MakeCall, makeAnswer, makeCall, CountCall, countAnswer, countCall, addressCountCall, CountFits, RequestCall, replyOf, requestAnswer, requestCall}
 
-module _ (s : Settings) (t t′ : List ℕ) (r : Making) (e : madeOf r t′ ≡ make maxSessions s t) where
+module _ (s : Settings) (t t′ : List ℕ) (r : Making) (e : madeOf r t′ ≡ make s t) where
   pub call-made : r ≡ Made → _≡_ {A = MakeCall} (record { outcome = 0; table = t′ }) (makeCall s t)
   unfolding makeCall
   call-made z = ap makeAnswer (ap (λ (x : Making). madeOf x t′) (sym z) ∙ e)
@@ -43,12 +43,12 @@ few-with : (b : Bool) (k n most : ℕ) → (T b → k ≤ most) → pick b (free
 few-with true k n most h e = let same : k ≡ n = cc in let f = h tt in omega arith
 few-with false k n most h e = absurd (let z : _≡_ {A = ℕ} 0 1 = cc in omega arith)
 
-module _ (t : List ℕ) (h : T (sound maxSessions t)) where
+module _ (t : List ℕ) (h : T (sound t)) where
   few-free : freeCount (viewSettings t) (viewSessions t) ≤ maxPool
   unfolding sound soundTests settingsAllowed settingsTests poolTests freeCount
   few-free =
       let s = viewSettings t in
-      let f = each (soundTests maxSessions t s (viewSessions t)) h in
+      let f = each (soundTests t s (viewSessions t)) h in
       let p = each (poolTests (s .first) (s .size)) (each (settingsTests s) (f .1 .0) .1 .1 .1 .1 .0) in
       let few = leb→le (s .size) maxPool (p .1 .1 .0) in
       omega arith
@@ -57,32 +57,28 @@ module _ (t : List ℕ) (h : T (sound maxSessions t)) where
   unfolding sound soundTests settingsAllowed settingsTests addressPoolTests freeAddressCount
   few-addresses =
       let s = viewSettings t in
-      let f = each (soundTests maxSessions t s (viewSessions t)) h in
+      let f = each (soundTests t s (viewSessions t)) h in
       let p = each (addressPoolTests (s .firstAddress) (s .addressCount)) (each (settingsTests s) (f .1 .0) .1 .1 .1 .1 .1 .0) in
       let few = leb→le (s .addressCount) maxAddresses (p .1 .0) in
       omega arith
 
 module _ (t : List ℕ) (r : code.Count) where
-  pub teids-fit : countOf r ≡ countFree maxSessions t → CountFits r
+  pub teids-fit : countOf r ≡ countFree t → CountFits r
   unfolding countFree
-  teids-fit e = record { small = λ n z. let f = few-with (sound maxSessions t) (freeCount (viewSettings t) (viewSessions t)) n maxPool (few-free t) (sym e ∙ ap countOf z) in omega arith }
+  teids-fit e = record { small = λ n z. let f = few-with (sound t) (freeCount (viewSettings t) (viewSessions t)) n maxPool (few-free t) (sym e ∙ ap countOf z) in omega arith }
 
-  pub addresses-fit : countOf r ≡ countAddresses maxSessions t → CountFits r
+  pub addresses-fit : countOf r ≡ countAddresses t → CountFits r
   unfolding countAddresses
   addresses-fit e =
-      record { small = λ n z. let f = few-with (sound maxSessions t) (freeAddressCount (viewSettings t) (viewSessions t)) n maxAddresses (few-addresses t) (sym e ∙ ap countOf z) in omega arith }
+      record { small = λ n z. let f = few-with (sound t) (freeAddressCount (viewSettings t) (viewSessions t)) n maxAddresses (few-addresses t) (sym e ∙ ap countOf z) in omega arith }
 
-  pub call-counted : (a : CountCall) → countOf r ≡ countFree maxSessions t → a ≡ countAnswer (countOf r) → a ≡ countCall t
+  pub call-counted : (a : CountCall) → countOf r ≡ countFree t → a ≡ countAnswer (countOf r) → a ≡ countCall t
   unfolding countCall
   call-counted a e f = f ∙ ap countAnswer e
 
-  pub call-addresses : (a : CountCall) → countOf r ≡ countAddresses maxSessions t → a ≡ countAnswer (countOf r) → a ≡ addressCountCall t
+  pub call-addresses : (a : CountCall) → countOf r ≡ countAddresses t → a ≡ countAnswer (countOf r) → a ≡ addressCountCall t
   unfolding addressCountCall
   call-addresses a e f = f ∙ ap countAnswer e
-
--- the table's length
-pub length-is : 38631 ≡ tableLength maxSessions
-length-is = refl
 
 -- the request call
 pub call-request : {t msg out : List ℕ} {outcome used place : ℕ} {out′ t′ : List ℕ} → Serves t msg out outcome used place out′ t′

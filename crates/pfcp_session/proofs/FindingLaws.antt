@@ -32,20 +32,20 @@ use Rattle.pfcp_session.proofs.AccidentLaws.{left, counted-sound}
 
 -- ---- the number of sessions fits its width
 
-pub count-fits : (t : List ℕ) (r : Finding) → r ≡ countSessions maxSessions t → r .number ≤ maxSessions
+pub count-fits : (t : List ℕ) (r : Finding) → r ≡ countSessions t → r .number ≤ maxSessions
 unfolding countSessions findIn
-count-fits t r e = let f = ap (λ (x : Finding). x .number) e in go (sound maxSessions t) refl f
+count-fits t r e = let f = ap (λ (x : Finding). x .number) e in go (sound t) refl f
   where
-    go : (b : Bool) → sound maxSessions t ≡ b → r .number ≡ pick b (foundAt (length (viewSessions t))) (record { outcome = 1; number = 0 }) .number → r .number ≤ maxSessions
+    go : (b : Bool) → sound t ≡ b → r .number ≡ pick b (foundAt (length (viewSessions t))) (record { outcome = 1; number = 0 }) .number → r .number ≤ maxSessions
     go true s f = let few = few-sessions t (subst T (sym s) tt) in omega arith
     go false s f = omega arith
 
 -- ---- one place, by a test
 
 -- the answer where the table is not broken
-told : (t : List ℕ) (o : Option ℕ) → T (sound maxSessions t) → findIn maxSessions t o ≡ findingOf o
+told : (t : List ℕ) (o : Option ℕ) → T (sound t) → findIn t o ≡ findingOf o
 unfolding findIn
-told t o h = rw (is-true (sound maxSessions t) h)
+told t o h = rw (is-true (sound t) h)
 
 module _ (p : Session → Bool) (m : Sessions) (only : (i j : ℕ) → i < length m → j < length m → T (p (sessionAt m i)) → T (p (sessionAt m j)) → i ≡ j) where
   said : (place : ℕ) → placeFrom 0 p m ≡ some place → At p m place
@@ -97,9 +97,9 @@ unfolding isHolder
 teid-clash s teid x y far a b =
     T-not (member teid (sessionTeids y)) (member-passes (λ n. not (member n (sessionTeids y))) teid (sessionTeids x) a (none-in (sessionTeids x) (sessionTeids y) (apart-teids s x y far))) b
 
-module _ (t : List ℕ) (h : T (sound maxSessions t)) where
-  rules : SessionsKept maxSessions (viewSettings t) (viewSessions t)
-  rules = sessions-kept maxSessions (viewSettings t) (viewSessions t) (table-kept maxSessions t h .sessions)
+module _ (t : List ℕ) (h : T (sound t)) where
+  rules : SessionsKept (viewSettings t) (viewSessions t)
+  rules = sessions-kept (viewSettings t) (viewSessions t) (table-kept t h .sessions)
 
   seid-one : (seid : ℕ) → TheOne (At (hasSeid seid) (viewSessions t)) (findSessionCall t seid)
   unfolding findSessionCall findSession sessionPlace

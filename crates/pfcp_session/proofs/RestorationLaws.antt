@@ -14,7 +14,7 @@ use Rattle.octets.specs.Choice.{pick}
 use Rattle.octets.specs.Octets.{octets, put, zeros}
 use Rattle.octets.specs.Lists.{all, findBy}
 use Rattle.octets.proofs.Tests.{of-true, all-of-each, all-cons, all-head, all-tail, and-left, and-right}
-use Rattle.rules.specs.Limits.{maxSessions, minSpace, maxRestoration}
+use Rattle.rules.specs.Limits.{minSpace, maxRestoration}
 use Rattle.rules.specs.Model.{Settings, Sessions}
 use Rattle.rules.specs.Layout.{encode, viewSettings, viewSessions}
 use Rattle.rules.specs.Sound.{sound, make}
@@ -33,7 +33,7 @@ use Rattle.claim.proofs.Sequence.{made-empty}
 use Rattle.claim.proofs.Runs.{restores-table}
 use Rattle.table.proofs.Encoded.{Encoded, sound-encoded}
 use Rattle.restoration.proofs.RequestSteps.{take-put}
-use Rattle.restoration.proofs.SoundSlots.{session-kept, peer-kept, request-short}
+use Rattle.restoration.proofs.SoundSlots.{session-kept, peer-kept, request-short, within-limit}
 use Rattle.pfcp_session.specs.Calls.{MakeCall, makeCall, restorationCall}
 use Rattle.pfcp_session.specs.Runs.{stepsOf}
 use Rattle.pfcp_session.specs.Restorations.{Wrote, Past, WroteAll, Emptied, RestorationShort, RestorationAccepted, Asking, messageOf, askingCall, askingAllowed, RestorationsGiveBack, RestorationsTellAll}
@@ -43,7 +43,7 @@ use Rattle.pfcp_session.proofs.RunLaws.{request-step, ran, is-made}
 
 -- the tests that a request passed, and its octets
 record Written (t : List ℕ) (place : ℕ) (ipv4 ipv6 r : List ℕ) : Type 0 where
-  sound : T (sound maxSessions t)
+  sound : T (sound t)
   live : place < length (viewSessions t)
   address : T (addressed ipv4 ipv6)
   is : r ≡ restorationAt t place ipv4 ipv6
@@ -74,13 +74,13 @@ module _ (t : List ℕ) (place : ℕ) where
   unfolding restorationCall writeRestoration writeInto
   wrote r w =
       let c = leb (length (viewSessions t)) place in
-      let f = by-outcome t place (w .ipv4) (w .ipv6) (w .space) (sound maxSessions t) c (addressed (w .ipv4) (w .ipv6)) (ltb (length (w .space)) (length (restorationAt t place (w .ipv4) (w .ipv6)))) (w .answer) (w .call) (w .success) in
+      let f = by-outcome t place (w .ipv4) (w .ipv6) (w .space) (sound t) c (addressed (w .ipv4) (w .ipv6)) (ltb (length (w .space)) (length (restorationAt t place (w .ipv4) (w .ipv6)))) (w .answer) (w .call) (w .success) in
       record { sound = f .0; live = leb-false (length (viewSessions t)) place (f .1); address = f .2; is = w .octetsOf ∙ f .3 }
 
-  past : Past t place → T (sound maxSessions t) × (length (viewSessions t) ≤ place)
+  past : Past t place → T (sound t) × (length (viewSessions t) ≤ place)
   unfolding restorationCall writeRestoration writeInto
   past p =
-      let f = past-outcome t place (p .ipv4) (p .ipv6) (p .space) (sound maxSessions t) (leb (length (viewSessions t)) place) (addressed (p .ipv4) (p .ipv6)) (ltb (length (p .space)) (length (restorationAt t place (p .ipv4) (p .ipv6)))) (p .outcome) in
+      let f = past-outcome t place (p .ipv4) (p .ipv6) (p .space) (sound t) (leb (length (viewSessions t)) place) (addressed (p .ipv4) (p .ipv6)) (ltb (length (p .space)) (length (restorationAt t place (p .ipv4) (p .ipv6)))) (p .outcome) in
       (f .0, leb→le (length (viewSessions t)) place (f .1))
 
 -- ---- short
@@ -93,31 +93,28 @@ restoration-short t place r w =
 
 -- ---- accepted by an empty table
 
-emptied : (t : List ℕ) (made : MakeCall) (e : Emptied t made) → T (make maxSessions (viewSettings t) (e .found) .made) × (made .table ≡ make maxSessions (viewSettings t) (e .found) .table)
+emptied : (t : List ℕ) (made : MakeCall) (e : Emptied t made) → T (make (viewSettings t) (e .found) .made) × (made .table ≡ make (viewSettings t) (e .found) .table)
 unfolding makeCall
 emptied t made e =
-    (is-made (make maxSessions (viewSettings t) (e .found)) (sym (ap (λ (x : MakeCall). x .outcome) (e .making)) ∙ e .success), ap (λ (x : MakeCall). x .table) (e .making))
-
-small : maxSessions < 256 ^ 2
-small = omega arith
+    (is-made (make (viewSettings t) (e .found)) (sym (ap (λ (x : MakeCall). x .outcome) (e .making)) ∙ e .success), ap (λ (x : MakeCall). x .table) (e .making))
 
 pub restoration-accepted : RestorationAccepted
 unfolding RestorationAccepted accepted restorationAt
 restoration-accepted t place r made space answer w e long call =
     let k = wrote t place r w in
     let s = viewSettings t in
-    let hs = sound-encoded maxSessions t (k .sound) .settings in
+    let hs = sound-encoded t (k .sound) .settings in
     let x = sessionAt (viewSessions t) place in
     let hx = session-kept t (k .sound) place (k .live) in
     let p = peerAt place (w .ipv4) (w .ipv6) in
     let hp = peer-kept t (k .sound) place (k .live) (w .ipv4) (w .ipv6) (k .address) in
     let m = emptied t made e in
-    let empty : made .table ≡ encode maxSessions s [] = m .1 ∙ made-empty maxSessions s (e .found) (m .0) in
+    let empty : made .table ≡ encode s [] = m .1 ∙ made-empty s (e .found) (m .0) in
     let served : _≡_ {A = Served} (record { outcome = answer .outcome; place = answer .place; space = answer .space; table = answer .table })
-    (record { outcome = 0; place = 0; space = put 0 (replyTo s [] (restoration s p x) (plain why.accepted)) space; table = encode maxSessions s (putSession x []) }) =
+    (record { outcome = 0; place = 0; space = put 0 (replyTo s [] (restoration s p x) (plain why.accepted)) space; table = encode s (putSession x []) }) =
     request-step (made .table) r space answer call
-    ∙ ap₂ (λ (u v : List ℕ). serve maxSessions u v space) empty (k .is)
-    ∙ restored-call s hs x hx maxSessions [] (unfold isLive sessionOf findBy in refl) (omega arith) (separate-all s x [] (unfold all in tt)) (separate-addresses s x [] (unfold all in tt)) p hp small (empty-allowed maxSessions s) space long in
+    ∙ ap₂ (λ (u v : List ℕ). serve u v space) empty (k .is)
+    ∙ restored-call s hs x hx [] (unfold isLive sessionOf findBy in refl) (omega (arith, k .live, within-limit t (k .sound))) (separate-all s x [] (unfold all in tt)) (separate-addresses s x [] (unfold all in tt)) p hp (empty-allowed s) space long in
     of-true
     (ap₂ (λ (o : ℕ) (l : List ℕ). eqb o 0 && eqb (replyCause l) 1) (ap (λ (v : Served). v .outcome) served) (ap (λ (v : Served). v .space) served)
     ∙ ap (λ (c : ℕ). eqb c 1) (restored-cause s hs x hx p hp [] space))
@@ -131,7 +128,7 @@ restoresFrom t place (a ∷ asked) w =
     record { session = sessionAt (viewSessions t) place; peer = peerAt place (w .0 .ipv4) (w .0 .ipv6); space = a .reply } ∷ restoresFrom t (place + 1) asked (w .1)
 
 -- the table is not broken
-all-sound : (t : List ℕ) (place : ℕ) (rs : List (List ℕ)) → WroteAll t place rs → T (sound maxSessions t)
+all-sound : (t : List ℕ) (place : ℕ) (rs : List (List ℕ)) → WroteAll t place rs → T (sound t)
 all-sound t place [] w = past t place w .0
 all-sound t place (r ∷ rs) w = wrote t place r (w .0) .sound
 
@@ -166,31 +163,31 @@ module _ (t : List ℕ) (asked : List Asking) (w : WroteAll t 0 (map messageOf a
   abbrev m : Sessions
   m = viewSessions t
 
-  encoded : Encoded maxSessions t s m
-  encoded = sound-encoded maxSessions t (all-sound t 0 (map messageOf asked) w)
+  encoded : Encoded t s m
+  encoded = sound-encoded t (all-sound t 0 (map messageOf asked) w)
 
   order : List·Permᴰ m (map restored (restoresFrom t 0 asked w))
   order = subst (λ (n : Sessions). List·Permᴰ m n) (all-sessions t 0 asked w) (Permᴰ·refl m)
 
   -- the requests, computed from an empty table on, make the table
-  computed : tableAfterAll maxSessions (encode maxSessions s []) (map askingCall asked) ≡ t
+  computed : tableAfterAll (encode s []) (map askingCall asked) ≡ t
   computed =
-      ap (tableAfterAll maxSessions (encode maxSessions s [])) (all-calls t 0 asked w)
-      ∙ restored-table s (encoded .settings) maxSessions small m (encoded .sessions) (restoresFrom t 0 asked w) (all-allowed t 0 asked w ok) order
+      ap (tableAfterAll (encode s [])) (all-calls t 0 asked w)
+      ∙ restored-table s (encoded .settings) m (encoded .sessions) (restoresFrom t 0 asked w) (all-allowed t 0 asked w ok) order
       ∙ sym (encoded .whole)
 
-  given-back : (b : List ℕ) (again : List Step) → T (make maxSessions s b .made) → Ran maxSessions (make maxSessions s b .table) again → map callIn again ≡ map askingCall asked
-      → Restores maxSessions t (make maxSessions s b .table) again
+  given-back : (b : List ℕ) (again : List Step) → T (make s b .made) → Ran (make s b .table) again → map callIn again ≡ map askingCall asked
+      → Restores t (make s b .table) again
   given-back b again made went are =
-      restores-table maxSessions small s (encoded .settings) m (encoded .sessions) t (encoded .whole) b (restoresFrom t 0 asked w) again made (all-allowed t 0 asked w ok) went
+      restores-table s (encoded .settings) m (encoded .sessions) t (encoded .whole) b (restoresFrom t 0 asked w) again made (all-allowed t 0 asked w ok) went
       (are ∙ all-calls t 0 asked w) order
 
 pub restorations-give-back : RestorationsGiveBack
 unfolding RestorationsGiveBack
 restorations-give-back t made asked steps w ok e went are =
     let k = emptied t made e in
-    let back = given-back t asked w ok (e .found) (stepsOf steps) (k .0) (subst (λ (u : List ℕ). Ran maxSessions u (stepsOf steps)) (k .1) (ran (made .table) steps went)) are in
-    subst (λ (u : List ℕ). Restores maxSessions t u (stepsOf steps)) (sym (k .1)) back
+    let back = given-back t asked w ok (e .found) (stepsOf steps) (k .0) (subst (λ (u : List ℕ). Ran u (stepsOf steps)) (k .1) (ran (made .table) steps went)) are in
+    subst (λ (u : List ℕ). Restores t u (stepsOf steps)) (sym (k .1)) back
 
 -- ---- nothing left out
 
@@ -214,5 +211,5 @@ restorations-tell-all t u rs e v w =
     let v′ = subst (WroteAll t 0) (same-messages rs) v in
     let w′ = subst (WroteAll u 0) (same-messages rs) w in
     sym (computed t asked v′ (spaces-allowed rs))
-    ∙ ap (λ (s : Settings). tableAfterAll maxSessions (encode maxSessions s []) (map askingCall asked)) e
+    ∙ ap (λ (s : Settings). tableAfterAll (encode s []) (map askingCall asked)) e
     ∙ computed u asked w′ (spaces-allowed rs)

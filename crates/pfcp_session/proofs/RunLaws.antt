@@ -7,17 +7,16 @@ use mathlib.Core.Bool.{Bool, true, false}
 use mathlib.Core.List.{List, [], _∷_}
 use lib.Dec.{T}
 use Rattle.octets.specs.Choice.{pick}
-use Rattle.rules.specs.Limits.{maxSessions}
 use Rattle.rules.specs.Sound.{Made, make, Count, broken, free, countFree, countAddresses}
 use Rattle.rules.specs.Serve.{Served, serve}
-use Rattle.rules.specs.Claim.{Ran, lastTable, liveSet, Promise, Claim, Demand3}
+use Rattle.rules.specs.Claim.{Ran, lastTable, liveSet, Promise, Demand3}
 use Rattle.claim.proofs.Changed.{demand3}
 use Rattle.pfcp_session.specs.Calls.{MakeCall, makeAnswer, makeCall, CountCall, countAnswer, countCall, addressCountCall, RequestCall, requestAnswer, requestCall}
 use Rattle.pfcp_session.specs.Runs.{HostStep, requested, counted, countedAddresses, HostRan, countOf, stepOf, stepsOf, liveAfter, tableAfter, HostClaim}
 
 -- a request's outcome, place, space and table are those of `serve`
 pub request-step : (t msg space : List ℕ) (r : RequestCall) → r ≡ requestCall t msg space
-    → _≡_ {A = Served} (record { outcome = r .outcome; place = r .place; space = r .space; table = r .table }) (serve maxSessions t msg space)
+    → _≡_ {A = Served} (record { outcome = r .outcome; place = r .place; space = r .space; table = r .table }) (serve t msg space)
 unfolding requestCall requestAnswer
 request-step t msg space r e = ap (λ (x : RequestCall). record { outcome = x .outcome; place = x .place; space = x .space; table = x .table }) e
 
@@ -27,15 +26,15 @@ unfolding countOf
 count-back broken = refl
 count-back (free n) = refl
 
-address-count-step : (t : List ℕ) (c : CountCall) → c ≡ addressCountCall t → countOf c ≡ countAddresses maxSessions t
+address-count-step : (t : List ℕ) (c : CountCall) → c ≡ addressCountCall t → countOf c ≡ countAddresses t
 unfolding addressCountCall
-address-count-step t c e = ap countOf e ∙ count-back (countAddresses maxSessions t)
+address-count-step t c e = ap countOf e ∙ count-back (countAddresses t)
 
-count-step : (t : List ℕ) (c : CountCall) → c ≡ countCall t → countOf c ≡ countFree maxSessions t
+count-step : (t : List ℕ) (c : CountCall) → c ≡ countCall t → countOf c ≡ countFree t
 unfolding countCall
-count-step t c e = ap countOf e ∙ count-back (countFree maxSessions t)
+count-step t c e = ap countOf e ∙ count-back (countFree t)
 
-pub ran : (t : List ℕ) (hs : List HostStep) → HostRan t hs → Ran maxSessions t (stepsOf hs)
+pub ran : (t : List ℕ) (hs : List HostStep) → HostRan t hs → Ran t (stepsOf hs)
 unfolding stepOf
 ran t [] h = tt
 ran t (requested msg space r ∷ hs) h = (request-step t msg space r (h .0), ran (r .table) hs (h .1))
@@ -51,12 +50,12 @@ is-made m e = go (m .made) e
     go false z = absurd (omega arith)
 
 pub host-claim : HostClaim
-unfolding HostClaim liveAfter tableAfter makeCall Demand3 Claim
+unfolding HostClaim liveAfter tableAfter makeCall Demand3
 host-claim run =
     let s = run .settings in
     let a = run .found in
     let hs = stepsOf (run .steps) in
-    let same : run .made .table ≡ make maxSessions s a .table = ap (λ (x : MakeCall). x .table) (run .making) in
-    let yes : T (make maxSessions s a .made) = is-made (make maxSessions s a) (sym (ap (λ (x : MakeCall). x .outcome) (run .making)) ∙ run .success) in
-    let went : Ran maxSessions (make maxSessions s a .table) hs = subst (λ (t : List ℕ). Ran maxSessions t hs) same (ran (run .made .table) (run .steps) (run .ran)) in
-    subst (λ (t : List ℕ). Promise maxSessions s (liveSet hs) (lastTable t hs)) (sym same) (demand3 s a hs yes (run .allowed) went)
+    let same : run .made .table ≡ make s a .table = ap (λ (x : MakeCall). x .table) (run .making) in
+    let yes : T (make s a .made) = is-made (make s a) (sym (ap (λ (x : MakeCall). x .outcome) (run .making)) ∙ run .success) in
+    let went : Ran (make s a .table) hs = subst (λ (t : List ℕ). Ran t hs) same (ran (run .made .table) (run .steps) (run .ran)) in
+    subst (λ (t : List ℕ). Promise s (liveSet hs) (lastTable t hs)) (sym same) (demand3 s a hs yes (run .allowed) went)

@@ -6,7 +6,6 @@ use mathlib.Core.List.{List}
 use lib.Dec.{eqb}
 use lib.ListN.{length}
 use Rattle.octets.specs.Choice.{pick}
-use Rattle.rules.specs.Limits.{maxSessions}
 use Rattle.rules.specs.Model.{Settings}
 use Rattle.rules.specs.Layout.{viewSettings, viewSessions}
 use Rattle.rules.specs.Sound.{Made, make, Count, broken, free, countFree, countAddresses}
@@ -26,7 +25,7 @@ abbrev pub makeAnswer : Made → MakeCall
 makeAnswer m = record { outcome = pick (m .made) 0 1; table = m .table }
 
 unfoldable pub makeCall : Settings → List ℕ → MakeCall
-makeCall s t = makeAnswer (make maxSessions s t)
+makeCall s t = makeAnswer (make s t)
 
 -- counting: outcome 0 and the free count, or 01's outcome 1 and none
 pub record CountCall : Type 0 where
@@ -38,11 +37,11 @@ countAnswer broken = record { outcome = 1; count = 0 }
 countAnswer (free n) = record { outcome = 0; count = n }
 
 unfoldable pub countCall : List ℕ → CountCall
-countCall t = countAnswer (countFree maxSessions t)
+countCall t = countAnswer (countFree t)
 
 -- the same of the addresses of the pool (02 (v))
 unfoldable pub addressCountCall : List ℕ → CountCall
-addressCountCall t = countAnswer (countAddresses maxSessions t)
+addressCountCall t = countAnswer (countAddresses t)
 
 -- a count has 32 bits
 pub record CountFits (c : code.Count) : Type 0 where
@@ -59,26 +58,26 @@ pub record RequestCall : Type 0 where
 
 -- the reply to a request on a table
 unfoldable pub replyOf : List ℕ → List ℕ → List ℕ
-replyOf t msg = replyTo (viewSettings t) (viewSessions t) msg (verdict maxSessions (viewSettings t) (viewSessions t) msg)
+replyOf t msg = replyTo (viewSettings t) (viewSessions t) msg (verdict (viewSettings t) (viewSessions t) msg)
 
 unfoldable pub requestAnswer : List ℕ → Served → RequestCall
 requestAnswer answer s = record { outcome = s .outcome; used = pick (eqb (s .outcome) 0) (length answer) 0; place = s .place; space = s .space; table = s .table }
 
 unfoldable pub requestCall : List ℕ → List ℕ → List ℕ → RequestCall
-requestCall t msg space = requestAnswer (replyOf t msg) (serve maxSessions t msg space)
+requestCall t msg space = requestAnswer (replyOf t msg) (serve t msg space)
 
 -- a restoration request of the session at a place, with the control plane's addresses: the outcome, the request's length (0 where there is
 -- none), and the space at exit
 unfoldable pub restorationCall : List ℕ → ℕ → List ℕ → List ℕ → List ℕ → Writing
-restorationCall t place ipv4 ipv6 space = writeRestoration maxSessions t place ipv4 ipv6 space
+restorationCall t place ipv4 ipv6 space = writeRestoration t place ipv4 ipv6 space
 
 -- the reading calls: 0 and the number of sessions, the place of a SEID's session or that of the session that holds a TEID; 1 a broken table,
 -- 2 none, and the number 0
 unfoldable pub sessionCountCall : List ℕ → Finding
-sessionCountCall t = countSessions maxSessions t
+sessionCountCall t = countSessions t
 
 unfoldable pub findSessionCall : List ℕ → ℕ → Finding
-findSessionCall t seid = findSession maxSessions t seid
+findSessionCall t seid = findSession t seid
 
 unfoldable pub findTeidCall : List ℕ → ℕ → Finding
-findTeidCall t teid = findHolder maxSessions t teid
+findTeidCall t teid = findHolder t teid

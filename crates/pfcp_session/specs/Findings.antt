@@ -7,7 +7,6 @@ use mathlib.Core.Bool.{Bool}
 use mathlib.Core.List.{List}
 use lib.Dec.{T}
 use lib.ListN.{length}
-use Rattle.rules.specs.Limits.{maxSessions}
 use Rattle.rules.specs.Model.{Session, Sessions}
 use Rattle.rules.specs.Layout.{viewSessions}
 use Rattle.rules.specs.Sound.{sound}
@@ -39,10 +38,10 @@ pub record TheOne (at : ℕ → Type 0) (answer : Finding) : Type 0 where
 
 -- of any table that is not broken
 unfoldable pub SessionFound : Type 0
-SessionFound = (t : List ℕ) (seid : ℕ) → T (sound maxSessions t) → TheOne (At (hasSeid seid) (viewSessions t)) (findSessionCall t seid)
+SessionFound = (t : List ℕ) (seid : ℕ) → T (sound t) → TheOne (At (hasSeid seid) (viewSessions t)) (findSessionCall t seid)
 
 unfoldable pub HolderFound : Type 0
-HolderFound = (t : List ℕ) (teid : ℕ) → T (sound maxSessions t) → TheOne (At (isHolder teid) (viewSessions t)) (findTeidCall t teid)
+HolderFound = (t : List ℕ) (teid : ℕ) → T (sound t) → TheOne (At (isHolder teid) (viewSessions t)) (findTeidCall t teid)
 
 -- after any run: the number of live sessions, the live session of a SEID, and the live session that holds a TEID
 pub record LiveFound (run : Run) : Type 0 where

@@ -9,7 +9,7 @@ use lib.Dec.{T, leb}
 use lib.ListN.{length, take}
 use Rattle.octets.specs.Octets.{octets}
 use Rattle.octets.specs.Lists.{all}
-use Rattle.rules.specs.Limits.{maxSessions, minSpace, maxRestoration}
+use Rattle.rules.specs.Limits.{minSpace, maxRestoration}
 use Rattle.rules.specs.Layout.{viewSettings}
 use Rattle.rules.specs.Live.{replied, accepted}
 use Rattle.rules.specs.Calls.{Call, request}
@@ -80,7 +80,7 @@ unfoldable pub RestorationsGiveBack : Type 0
 RestorationsGiveBack =
     (t : List ℕ) (made : MakeCall) (asked : List Asking) (steps : List HostStep) → WroteAll t 0 (map messageOf asked) → T (all askingAllowed asked)
     → Emptied t made → HostRan (made .table) steps → map callIn (stepsOf steps) ≡ map askingCall asked
-    → Restores maxSessions t (made .table) (stepsOf steps)
+    → Restores t (made .table) (stepsOf steps)
 
 -- two tables with equal settings and equal requests are equal
 unfoldable pub RestorationsTellAll : Type 0

@@ -6,7 +6,6 @@ use mathlib.Core.List.{List, [], _∷_, map}
 use lib.Dec.{T, eqb}
 use Rattle.octets.specs.Choice.{pick}
 use Rattle.octets.specs.Lists.{all}
-use Rattle.rules.specs.Limits.{maxSessions}
 use Rattle.rules.specs.Model.{Settings, Sessions}
 use Rattle.rules.specs.Sound.{Count, broken, free}
 use Rattle.rules.specs.Claim.{Step, asked, told, toldAddresses, stepAllowed, lastTable, liveSet, Promise}
@@ -57,4 +56,4 @@ tableAfter run = lastTable (run .made .table) (stepsOf (run .steps))
 
 -- the claim's promise holds of the table that any run left
 unfoldable pub HostClaim : Type 0
-HostClaim = (run : Run) → Promise maxSessions (run .settings) (liveAfter run) (tableAfter run)
+HostClaim = (run : Run) → Promise (run .settings) (liveAfter run) (tableAfter run)

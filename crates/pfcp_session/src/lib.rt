@@ -2,8 +2,7 @@
 //
 // A slice is passed as a pointer and then its length. Every call may be given any octets and any numbers.
 ghost use mathlib.Core.Path.{_≡_};
-ghost use Rattle.rules.specs.Limits.{maxSessions};
-ghost use Rattle.rules.specs.Layout.{tableLength};
+ghost use Rattle.rules.specs.Sound.{lengthFor};
 ghost use Rattle.unit.specs.Meaning.{settingsGiven};
 ghost use Rattle.table.specs.Answers.{countOf};
 ghost use Rattle.pfcp_session.specs.Calls.{CountFits, countAnswer, makeCall, countCall, addressCountCall, requestCall, restorationCall, sessionCountCall, findSessionCall, findTeidCall};
@@ -18,16 +17,16 @@ const COUNTED: u32 = 0;
 
 const BROKEN: u32 = 1;
 
-// How many octets a session table has.
+// How many octets a table with room for so many sessions has; 0 for a limit that is not allowed: 1 to 256 are.
 #[no_mangle]
-pub extern "C" fn pfcp_table_length() -> usize
-    ensures { λ r. ⌜ r ≡ tableLength maxSessions ⌝ }
+pub extern "C" fn pfcp_table_length(session_limit: u32) -> usize
+    ensures { λ r. ⌜ r ≡ lengthFor «session_limit» ⌝ }
 {
-    format::LENGTH
+    table::length_for(session_limit)
 }
 
 // Makes an empty table: 0 made, 1 refused (nothing is written). No IPv6 address is a length of 0. The pool of TEIDs has size of them from
-// first on, the pool of patients' addresses address_count of them from first_address on.
+// first on, the pool of patients' addresses address_count of them from first_address on; there is room for session_limit sessions.
 #[no_mangle]
 pub extern "C" fn pfcp_make_table(
     table: &mut [u8],
@@ -37,12 +36,22 @@ pub extern "C" fn pfcp_make_table(
     size: u32,
     first_address: u32,
     address_count: u32,
+    session_limit: u32,
 ) -> u32
     ensures { λ r.
         ⌜ record { outcome = r; table = now (table .exit) }
-        ≡ makeCall (settingsGiven ipv4 (now (ipv6 .entry)) first size «first_address» «address_count») (now (table .entry)) ⌝ }
+        ≡ makeCall (settingsGiven ipv4 (now (ipv6 .entry)) first size «first_address» «address_count» «session_limit») (now (table .entry)) ⌝ }
 {
-    let answer = table::make(table, ipv4, ipv6, first, size, first_address, address_count);
+    let answer = table::make(
+        table,
+        ipv4,
+        ipv6,
+        first,
+        size,
+        first_address,
+        address_count,
+        session_limit,
+    );
     match answer {
         table::Making::Made => MADE,
         table::Making::Refused => REFUSED,

@@ -7,7 +7,7 @@ ghost use Rattle.pool.specs.Map.{marked, mark, freeFrom};
 ghost use Rattle.pool.specs.Answer.{lowest};
 
 // The number of words in the map of TEIDs, and in that of addresses.
-pub const WORDS: usize = 64;
+pub const WORDS: usize = 1024;
 
 pub const ADDRESS_WORDS: usize = 16;
 

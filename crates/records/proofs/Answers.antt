@@ -19,7 +19,7 @@ use Rattle.octets.proofs.FieldLaws.{octet-field, zero-number, zero-fields}
 use Rattle.rules.specs.Limits.{maxPool, maxAddresses}
 use Rattle.rules.specs.Layout.{endpointWidth, settingsWidth, pdrWidth, csidWidth}
 use native.Mathlib.Nat.{add-zero}
-use Rattle.rules.specs.Sound.{poolTests, addressPoolTests}
+use Rattle.rules.specs.Sound.{poolTests, addressPoolTests, limitTests}
 use Rattle.laws.proofs.LayoutLaws.{endpoint-view}
 use Rattle.records.specs.Kept.{settingsSound, pdrSound, endpointSound, csidSound, endpointIds, unit, optionalTest, familiesTest, tunnelTest, placeTest, pdrTest, endpointTest, addressTest, csidTest}
 use Rattle.records.proofs.Cells.{and-true, and-false, or-true, or-false}
@@ -63,8 +63,12 @@ module _ (xs : List ℕ) (e : length xs ≡ settingsWidth) (o : T (octets xs)) w
     pub settings-pool : not t ≡ true → false ≡ settingsSound xs
     settings-pool g = sym (settings-law xs e o ∙ rw (← q, not-false r h, ← f, ← z, ← y, not-true t g))
 
-    pub settings-addresses : not t ≡ false → (u : Bool) (at count : ℕ) → at ≡ number (part 29 4 xs) → count ≡ number (part 33 4 xs) → u ≡ allOf (addressPoolTests at count) → u ≡ settingsSound xs
-    settings-addresses g u at count qa qc w = w ∙ sym (settings-law xs e o ∙ rw (← q, not-false r h, ← f, ← z, ← y, not-false t g, ← qa, ← qc))
+    module _ (g : not t ≡ false) (u : Bool) (at count : ℕ) (qa : at ≡ number (part 29 4 xs)) (qc : count ≡ number (part 33 4 xs)) (w : u ≡ allOf (addressPoolTests at count)) where
+      pub settings-addresses : not u ≡ true → false ≡ settingsSound xs
+      settings-addresses k = sym (settings-law xs e o ∙ rw (← q, not-false r h, ← f, ← z, ← y, not-false t g, ← qa, ← qc, ← w, not-true u k))
+
+      pub settings-limit : not u ≡ false → (l : Bool) (limit : ℕ) → limit ≡ number (part 37 2 xs) → l ≡ allOf (limitTests limit) → l ≡ settingsSound xs
+      settings-limit k l limit ql v = v ∙ sym (settings-law xs e o ∙ rw (← q, not-false r h, ← f, ← z, ← y, not-false t g, ← qa, ← qc, ← w, not-false u k, ← ql))
 
 -- ---- F-TEIDs and endpoints
 

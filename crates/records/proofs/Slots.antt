@@ -24,7 +24,7 @@ use Rattle.rules.specs.Model.{Settings, neither, tunnel, endpoint}
 use Rattle.rules.specs.Limits.{maxOperator}
 use Rattle.rules.specs.Elements.{addressLength, operatorAllowed, nodeAddressTests, nodeAddressAllowed, nodeTypeKept, below16}
 use Rattle.rules.specs.Layout.{families, optionRead, tunnelRead, pdrWidths, matchKind, matchTeid, matchFamilies, matchEndpoint, placeRead, pdrNumbers, pdrFrom, endpointWidths, endpointNumbers, endpointFrom, csidSlotWidths, csidSlotNumbers, addressRead, csidFrom, pdrOctets, endpointOctets, csidOctets, settingsOctets, viewSettings, viewPdr, viewEndpoint, viewCsid, settingsWidth, pdrWidth, endpointWidth, csidWidth}
-use Rattle.rules.specs.Sound.{poolTests, addressPoolTests, ipv6Allowed, settingsTests, settingsAllowed, tunnelAllowed, placeAllowed, farAllowed, addressAllowed, pdrTests, pdrAllowed, endpointTests, endpointAllowed, csidTests, csidAllowed}
+use Rattle.rules.specs.Sound.{poolTests, addressPoolTests, limitTests, ipv6Allowed, settingsTests, settingsAllowed, tunnelAllowed, placeAllowed, farAllowed, addressAllowed, pdrTests, pdrAllowed, endpointTests, endpointAllowed, csidTests, csidAllowed}
 use Rattle.laws.proofs.LayoutLaws.{pdr-fits, endpoint-fits, csid-fits}
 use Rattle.records.specs.Kept.{kept, settingsSound, pdrSound, endpointSound, csidSound, unit, optionalTest, tunnelTest, placeTest, pdrTest, endpointTest, csidTest}
 use Rattle.records.proofs.Cells.{and-true, and-false, interchange, eqb-same, eqb-turn, same-zeros, same-append, two-parts, and-comm, last-first}
@@ -219,7 +219,8 @@ csid-law xs e o =
 abbrev pub settingsTest : List ℕ → Bool
 settingsTest xs =
     optionalTest (getD xs 4 0) (number (part 5 16 xs))
-    && (allOf (poolTests (number (part 21 4 xs)) (number (part 25 4 xs))) && allOf (addressPoolTests (number (part 29 4 xs)) (number (part 33 4 xs))))
+    && (allOf (poolTests (number (part 21 4 xs)) (number (part 25 4 xs)))
+    && (allOf (addressPoolTests (number (part 29 4 xs)) (number (part 33 4 xs))) && allOf (limitTests (number (part 37 2 xs)))))
 
 ipv6-with : (b : Bool) (g : ℕ) (v : List ℕ) → length v ≡ 16 → T (octets v) → eqb g 0 ≡ b
     → let a = pick b [] v in
@@ -232,41 +233,45 @@ ipv6-with false g (x ∷ v) l o e =
     rw (eq-eqb (length (x ∷ v)) 16 l, is-true (areBytes (x ∷ v)) o, none, eqb-turn 1 g)
     (unfold zeros in rw (append-nil (x ∷ v), same-refl (x ∷ v)) (and-true (eqb g 1)))
 
-collect : (a b c f d e : Bool) → ((a && (b && (c && (f && true)))) && (d && e)) ≡ ((a && (b && (d && e))) && (c && f))
-collect true true true true d e = sym (and-true (d && e))
-collect true true true false d e = sym (and-false (d && e))
-collect true true false f d e = sym (and-false (d && e))
-collect true false c f d e = refl
-collect false b c f d e = refl
+collect : (a b c f l d e : Bool) → ((a && (b && (c && (f && (l && true))))) && (d && e)) ≡ ((a && (b && (d && e))) && (c && (f && l)))
+collect true true true true true d e = sym (and-true (d && e))
+collect true true true true false d e = sym (and-false (d && e))
+collect true true true false l d e = sym (and-false (d && e))
+collect true true false f l d e = sym (and-false (d && e))
+collect true false c f l d e = refl
+collect false b c f l d e = refl
 
 padded-with : (b : Bool) (v : List ℕ) → length v ≡ 16 → length (padded 16 (pick b [] v)) ≡ 16
 padded-with true v l = length-padded 16 [] zero-le
 padded-with false v l = length-padded 16 v (omega arith)
 
-settings-parts : (a₀ a₁ a₂ a₃ g : ℕ) (v f z u k : List ℕ) → length v ≡ 16 → length f ≡ 4 → length z ≡ 4 → length u ≡ 4 → length k ≡ 4
-    → T (octets (a₀ ∷ a₁ ∷ a₂ ∷ a₃ ∷ [])) → T (octets v) → T (octets f) → T (octets z) → T (octets u) → T (octets k)
-    → settingsSound (a₀ ∷ a₁ ∷ a₂ ∷ a₃ ∷ g ∷ (v ++ (f ++ (z ++ (u ++ k)))))
-    ≡ (optionalTest g (number v) && (allOf (poolTests (number f) (number z)) && allOf (addressPoolTests (number u) (number k))))
+settings-parts : (a₀ a₁ a₂ a₃ g : ℕ) (v f z u k l : List ℕ) → length v ≡ 16 → length f ≡ 4 → length z ≡ 4 → length u ≡ 4 → length k ≡ 4 → length l ≡ 2
+    → T (octets (a₀ ∷ a₁ ∷ a₂ ∷ a₃ ∷ [])) → T (octets v) → T (octets f) → T (octets z) → T (octets u) → T (octets k) → T (octets l)
+    → settingsSound (a₀ ∷ a₁ ∷ a₂ ∷ a₃ ∷ g ∷ (v ++ (f ++ (z ++ (u ++ (k ++ l))))))
+    ≡ (optionalTest g (number v) && (allOf (poolTests (number f) (number z)) && (allOf (addressPoolTests (number u) (number k)) && allOf (limitTests (number l)))))
 unfolding settingsSound kept settingsAllowed settingsTests settingsOctets viewSettings octetAt numberAt sameOctets
-settings-parts a₀ a₁ a₂ a₃ g v f z u k lv lf lz lu lk oa ov of′ oz ou ok =
-    let numbers : List ℕ = f ++ (z ++ (u ++ k)) in
+settings-parts a₀ a₁ a₂ a₃ g v f z u k l lv lf lz lu lk ll oa ov of′ oz ou ok ol =
+    let ips : List ℕ = u ++ (k ++ l) in
+    let numbers : List ℕ = f ++ (z ++ ips) in
     let rest : List ℕ = v ++ numbers in
     let a : List ℕ = pick (eqb g 0) [] v in
     let at16 : drop 16 rest ≡ numbers = drop-at v numbers 16 lv in
-    let at20 : drop 20 rest ≡ z ++ (u ++ k) = sym (drop-drop 4 16 rest) ∙ ap (drop 4) at16 ∙ drop-at f (z ++ (u ++ k)) 4 lf in
-    let at24 : drop 24 rest ≡ u ++ k = sym (drop-drop 4 20 rest) ∙ ap (drop 4) at20 ∙ drop-at z (u ++ k) 4 lz in
-    let at28 : drop 28 rest ≡ k = sym (drop-drop 4 24 rest) ∙ ap (drop 4) at24 ∙ drop-at u k 4 lu in
+    let at20 : drop 20 rest ≡ z ++ ips = sym (drop-drop 4 16 rest) ∙ ap (drop 4) at16 ∙ drop-at f (z ++ ips) 4 lf in
+    let at24 : drop 24 rest ≡ ips = sym (drop-drop 4 20 rest) ∙ ap (drop 4) at20 ∙ drop-at z ips 4 lz in
+    let at28 : drop 28 rest ≡ k ++ l = sym (drop-drop 4 24 rest) ∙ ap (drop 4) at24 ∙ drop-at u (k ++ l) 4 lu in
+    let at32 : drop 32 rest ≡ l = sym (drop-drop 4 28 rest) ∙ ap (drop 4) at28 ∙ drop-at k l 4 lk in
     let ipv6 : take 16 rest ≡ v = take-at v numbers 16 lv in
-    let first : take 4 (drop 16 rest) ≡ f = ap (take 4) at16 ∙ take-at f (z ++ (u ++ k)) 4 lf in
-    let size : take 4 (drop 20 rest) ≡ z = ap (take 4) at20 ∙ take-at z (u ++ k) 4 lz in
-    let firstAddress : take 4 (drop 24 rest) ≡ u = ap (take 4) at24 ∙ take-at u k 4 lu in
-    let addressCount : take 4 (drop 28 rest) ≡ k = ap (take 4) at28 ∙ take-all 4 k (omega arith) in
+    let first : take 4 (drop 16 rest) ≡ f = ap (take 4) at16 ∙ take-at f (z ++ ips) 4 lf in
+    let size : take 4 (drop 20 rest) ≡ z = ap (take 4) at20 ∙ take-at z ips 4 lz in
+    let firstAddress : take 4 (drop 24 rest) ≡ u = ap (take 4) at24 ∙ take-at u (k ++ l) 4 lu in
+    let addressCount : take 4 (drop 28 rest) ≡ k = ap (take 4) at28 ∙ take-at k l 4 lk in
+    let limit : take 2 (drop 32 rest) ≡ l = ap (take 2) at32 ∙ take-all 2 l (omega arith) in
     let full : length (padded 16 a) ≡ length v = padded-with (eqb g 0) v lv ∙ sym lv in
     let same : sameOctets (padded 16 a ++ numbers) rest ≡ sameOctets (padded 16 a) v =
     same-append (padded 16 a) numbers v numbers full ∙ rw (same-refl numbers) (and-true (sameOctets (padded 16 a) v)) in
-    rw (ipv6, first, size, firstAddress, addressCount, is-true (areBytes (a₀ ∷ a₁ ∷ a₂ ∷ a₃ ∷ [])) oa, eqb-same a₀, eqb-same a₁, eqb-same a₂, eqb-same a₃, be-back 4 f lf of′, be-back 4 z lz oz, be-back 4 u lu ou, be-back 4 k lk ok, same)
-    (collect (ipv6Allowed a) (octets a) (allOf (poolTests (number f) (number z))) (allOf (addressPoolTests (number u) (number k))) (eqb (flag (not (isNil a))) g) (sameOctets (padded 16 a) v)
-    ∙ ap (λ (t : Bool). t && (allOf (poolTests (number f) (number z)) && allOf (addressPoolTests (number u) (number k)))) (ipv6-with (eqb g 0) g v lv ov refl))
+    rw (ipv6, first, size, firstAddress, addressCount, limit, is-true (areBytes (a₀ ∷ a₁ ∷ a₂ ∷ a₃ ∷ [])) oa, eqb-same a₀, eqb-same a₁, eqb-same a₂, eqb-same a₃, be-back 4 f lf of′, be-back 4 z lz oz, be-back 4 u lu ou, be-back 4 k lk ok, be-back 2 l ll ol, same)
+    (collect (ipv6Allowed a) (octets a) (allOf (poolTests (number f) (number z))) (allOf (addressPoolTests (number u) (number k))) (allOf (limitTests (number l))) (eqb (flag (not (isNil a))) g) (sameOctets (padded 16 a) v)
+    ∙ ap (λ (t : Bool). t && (allOf (poolTests (number f) (number z)) && (allOf (addressPoolTests (number u) (number k)) && allOf (limitTests (number l))))) (ipv6-with (eqb g 0) g v lv ov refl))
 
 -- the octets from a place to the end are those of the next n and the rest
 from : (at m n : ℕ) (xs : List ℕ) → at + (m + n) ≡ length xs → part at (m + n) xs ≡ part at m xs ++ part (at + m) n xs
@@ -279,12 +284,13 @@ settings-law xs e o =
     cell 0 (lit< tt) ∙ ap (λ (l : List ℕ). getD xs 0 0 ∷ l)
     (cell 1 (lit< tt) ∙ ap (λ (l : List ℕ). getD xs 1 0 ∷ l)
     (cell 2 (lit< tt) ∙ ap (λ (l : List ℕ). getD xs 2 0 ∷ l) (cell 3 (lit< tt) ∙ ap (λ (l : List ℕ). getD xs 3 0 ∷ l) (cell 4 (lit< tt))))) in
-    let numbers : part 21 16 xs ≡ part 21 4 xs ++ (part 25 4 xs ++ (part 29 4 xs ++ part 33 4 xs)) =
-    from 21 4 12 xs (sym e) ∙ ap (λ (l : List ℕ). part 21 4 xs ++ l) (from 25 4 8 xs (sym e) ∙ ap (λ (l : List ℕ). part 25 4 xs ++ l) (from 29 4 4 xs (sym e))) in
-    let back = two-parts 5 16 16 xs (sym e) ∙ ap (λ (l : List ℕ). part 5 16 xs ++ l) numbers in
+    let numbers : part 21 18 xs ≡ part 21 4 xs ++ (part 25 4 xs ++ (part 29 4 xs ++ (part 33 4 xs ++ part 37 2 xs))) =
+    from 21 4 14 xs (sym e) ∙ ap (λ (l : List ℕ). part 21 4 xs ++ l)
+    (from 25 4 10 xs (sym e) ∙ ap (λ (l : List ℕ). part 25 4 xs ++ l) (from 29 4 6 xs (sym e) ∙ ap (λ (l : List ℕ). part 29 4 xs ++ l) (from 33 4 2 xs (sym e)))) in
+    let back = two-parts 5 16 18 xs (sym e) ∙ ap (λ (l : List ℕ). part 5 16 xs ++ l) numbers in
     let whole = front ∙ ap (λ (l : List ℕ). getD xs 0 0 ∷ getD xs 1 0 ∷ getD xs 2 0 ∷ getD xs 3 0 ∷ getD xs 4 0 ∷ l) back in
     ap settingsSound whole
-    ∙ settings-parts (getD xs 0 0) (getD xs 1 0) (getD xs 2 0) (getD xs 3 0) (getD xs 4 0) (part 5 16 xs) (part 21 4 xs) (part 25 4 xs) (part 29 4 xs) (part 33 4 xs)
-    (length-part 5 16 xs (omega arith)) (length-part 21 4 xs (omega arith)) (length-part 25 4 xs (omega arith)) (length-part 29 4 xs (omega arith)) (length-part 33 4 xs (omega arith))
+    ∙ settings-parts (getD xs 0 0) (getD xs 1 0) (getD xs 2 0) (getD xs 3 0) (getD xs 4 0) (part 5 16 xs) (part 21 4 xs) (part 25 4 xs) (part 29 4 xs) (part 33 4 xs) (part 37 2 xs)
+    (length-part 5 16 xs (omega arith)) (length-part 21 4 xs (omega arith)) (length-part 25 4 xs (omega arith)) (length-part 29 4 xs (omega arith)) (length-part 33 4 xs (omega arith)) (length-part 37 2 xs (omega arith))
     (take-octets 4 (getD xs 0 0 ∷ getD xs 1 0 ∷ getD xs 2 0 ∷ getD xs 3 0 ∷ getD xs 4 0 ∷ drop 5 xs) (subst (λ (l : List ℕ). T (octets l)) front o)) (part-octets 5 16 xs o)
-    (part-octets 21 4 xs o) (part-octets 25 4 xs o) (part-octets 29 4 xs o) (part-octets 33 4 xs o)
+    (part-octets 21 4 xs o) (part-octets 25 4 xs o) (part-octets 29 4 xs o) (part-octets 33 4 xs o) (part-octets 37 2 xs o)

@@ -37,7 +37,7 @@ endpointIds n a = map endpointId (map viewEndpoint (slices endpointWidth n a))
 
 -- the settings as far as the rules of records ask: the pool of TEIDs, and whether the unit has an IPv6 address; an address may be any
 unfoldable pub unit : ℕ → ℕ → Bool → Settings
-unit first size v6 = record { ipv4 = zeros 4; ipv6 = pick v6 (zeros 16) []; first = first; size = size; firstAddress = 0; addressCount = 0 }
+unit first size v6 = record { ipv4 = zeros 4; ipv6 = pick v6 (zeros 16) []; first = first; size = size; firstAddress = 0; addressCount = 0; limit = 0 }
 
 -- ---- tests of numbers
 

@@ -37,7 +37,7 @@ fn field_sound(slot: &[u8], at: usize) -> bool
     octets::read(slot, at + 1, 4) <= there as u64 * 4294967295
 }
 
-// The pool of TEIDs: the first at least 1, the size 1 to 4,096, the last at most 4,294,967,295.
+// The pool of TEIDs: the first at least 1, the size 1 to 65,536, the last at most 4,294,967,295.
 pub fn pool_sound(first: u64, size: u64) -> bool
     requires { ⌜ (first < 2 ^ 32) × (size < 2 ^ 32) ⌝ }
     ensures { λ r. ⌜ r ≡ allOf (poolTests first size) ⌝ }
@@ -83,7 +83,10 @@ pub fn settings_sound(slot: &[u8]) -> bool
     }
     let address = octets::read(slot, format::FIRST_ADDRESS, 4);
     let count = octets::read(slot, format::ADDRESS_COUNT, 4);
-    addresses_sound(address, count)
+    if !addresses_sound(address, count) {
+        return false;
+    }
+    unit::limit_allowed(octets::read(slot, format::LIMIT, 2))
 }
 
 // The F-TEID at index at.

@@ -12,7 +12,7 @@ use lib.Seq.{take-at}
 use Rattle.octets.specs.Octets.{put, be, part, number}
 use Rattle.octets.proofs.Tests.{of-true, is-true}
 use Rattle.octets.proofs.Numbers.{length-be}
-use Rattle.rules.specs.Limits.{maxSessions, maxRestoration}
+use Rattle.rules.specs.Limits.{maxRestoration}
 use Rattle.rules.specs.Layout.{viewSettings, viewSession, viewSessions, settingsWidth}
 use Rattle.rules.specs.Sound.{sound}
 use Rattle.rules.specs.Restoring.{Writing, unwritten, addressed, restorationAt, writeInto, writeRestoration}
@@ -77,22 +77,22 @@ module _ (request space : List ℕ) {used : ℕ} {out out′ : List ℕ} (p : Pl
 
 module _ (t : List ℕ) (place : ℕ) (ipv4 ipv6 space : List ℕ) where
   abbrev answer : Writing
-  answer = writeRestoration maxSessions t place ipv4 ipv6 space
+  answer = writeRestoration t place ipv4 ipv6 space
 
   -- a refusal's answer
   refusal : (n : ℕ) (r : Answer) → (r .outcome ≡ n) × (r .used ≡ 0) → writingOf r space ≡ unwritten n space
   refusal n r e = λ i. record { outcome = e .0 i; used = e .1 i; space = space }
 
-  pub answer-broken : (b : Bool) (r : Answer) → b ≡ sound maxSessions t → not b ≡ true → (r .outcome ≡ 1) × (r .used ≡ 0) → writingOf r space ≡ answer
+  pub answer-broken : (b : Bool) (r : Answer) → b ≡ sound t → not b ≡ true → (r .outcome ≡ 1) × (r .used ≡ 0) → writingOf r space ≡ answer
   unfolding writeRestoration
   answer-broken true r e z f = absurd (let w : _≡_ {A = ℕ} 0 1 = cc in omega arith)
   answer-broken false r e z f = rw (← e) (refusal 1 r f)
 
-  module _ (b : Bool) (e : b ≡ sound maxSessions t) (z : not b ≡ false) where
-    pub sound-is : T (sound maxSessions t)
+  module _ (b : Bool) (e : b ≡ sound t) (z : not b ≡ false) where
+    pub sound-is : T (sound t)
     sound-is = go b e z
       where
-        go : (b′ : Bool) → b′ ≡ sound maxSessions t → not b′ ≡ false → T (sound maxSessions t)
+        go : (b′ : Bool) → b′ ≡ sound t → not b′ ≡ false → T (sound t)
         go true e′ z′ = of-true (sym e′)
         go false e′ z′ = absurd (let w : _≡_ {A = ℕ} 0 1 = cc in omega arith)
 
@@ -102,13 +102,13 @@ module _ (t : List ℕ) (place : ℕ) (ipv4 ipv6 space : List ℕ) where
 
       pub answer-past : (r : Answer) → n ≤ place → (r .outcome ≡ 2) × (r .used ≡ 0) → writingOf r space ≡ answer
       unfolding writeRestoration
-      answer-past r h f = rw (is-true (sound maxSessions t) sound-is, sessions, le-leb n place h) (refusal 2 r f)
+      answer-past r h f = rw (is-true (sound t) sound-is, sessions, le-leb n place h) (refusal 2 r f)
 
       module _ (below : place < n) (a : Bool) (g : a ≡ addressed ipv4 ipv6) where
         pub answer-unaddressed : (r : Answer) → not a ≡ true → (r .outcome ≡ 3) × (r .used ≡ 0) → writingOf r space ≡ answer
         unfolding writeRestoration
         answer-unaddressed r y f =
-            rw (is-true (sound maxSessions t) sound-is, sessions, lt-leb n place below, ← g, y) (refusal 3 r f)
+            rw (is-true (sound t) sound-is, sessions, lt-leb n place below, ← g, y) (refusal 3 r f)
 
         pub ready-now : not a ≡ false → Ready t place ipv4 ipv6
         ready-now y = record { sound = sound-is; live = (let k = sessions in omega arith); address = go a g y }
@@ -120,4 +120,4 @@ module _ (t : List ℕ) (place : ℕ) (ipv4 ipv6 space : List ℕ) where
         pub answer-written : (r : Answer) (space′ : List ℕ) → not a ≡ false → writingOf r space′ ≡ writeInto (restorationAt t place ipv4 ipv6) space → writingOf r space′ ≡ answer
         unfolding writeRestoration
         answer-written r space′ y f =
-            rw (is-true (sound maxSessions t) sound-is, sessions, lt-leb n place below, ← g, y) f
+            rw (is-true (sound t) sound-is, sessions, lt-leb n place below, ← g, y) f

@@ -20,6 +20,7 @@ use Rattle.rules.specs.Limits.{maxSessions, maxRestoration, maxPdrs, maxEndpoin
 use Rattle.rules.specs.Model.{Settings, Session, Sessions}
 use Rattle.rules.specs.Elements.{nodeAddressTests, nodeAddressAllowed}
 use Rattle.rules.specs.Layout.{pdrWidth, endpointWidth, csidWidth, headWidth, sessionWidth, tableLength, csidFrom, viewArea, viewPdr, viewEndpoint, viewCsid, viewSession, viewSettings, viewSessions, settingsWidth, pdrCountAt, endpointCountAt, csidCountAt, pdrsAt, endpointsAt, csidsAt}
+use Rattle.laws.proofs.TableLaws.{limit-most}
 use Rattle.rules.specs.Sound.{settingsAllowed, csidTests, csidAllowed, sessionTests, sessionAllowed, sessionsTests, sessionsAllowed, soundTests, sound}
 use Rattle.rules.specs.Stages.{newSession}
 use Rattle.rules.specs.Reply.{message}
@@ -108,29 +109,32 @@ module _ (s : Settings) (slot : List ℕ) (long : length slot ≡ sessionWidth) 
 abbrev pub slotAt : List ℕ → ℕ → List ℕ
 slotAt t place = take (headWidth + place * sessionWidth + sessionWidth - (headWidth + place * sessionWidth)) (drop (headWidth + place * sessionWidth) t)
 
-module _ (t : List ℕ) (h : T (sound maxSessions t)) where
+module _ (t : List ℕ) (h : T (sound t)) where
   abbrev st : Settings
   st = viewSettings t
 
-  tests : Each (soundTests maxSessions t st (viewSessions t))
+  tests : Each (soundTests t st (viewSessions t))
   unfolding sound
-  tests = each (soundTests maxSessions t st (viewSessions t)) h
+  tests = each (soundTests t st (viewSessions t)) h
 
-  pub table-long : length t ≡ tableLength maxSessions
+  pub table-long : length t ≡ tableLength (viewSettings t .limit)
   unfolding soundTests
-  table-long = eqb→eq (length t) (tableLength maxSessions) (tests .0)
+  table-long = eqb→eq (length t) (tableLength (viewSettings t .limit)) (tests .0)
 
   settings-kept : T (settingsAllowed st)
   unfolding soundTests
   settings-kept = tests .1 .0
 
-  sessions-kept : Each (sessionsTests maxSessions st (viewSessions t))
+  sessions-kept : Each (sessionsTests st (viewSessions t))
   unfolding soundTests sessionsAllowed
-  sessions-kept = each (sessionsTests maxSessions st (viewSessions t)) (tests .1 .1 .0)
+  sessions-kept = each (sessionsTests st (viewSessions t)) (tests .1 .1 .0)
 
-  pub few-sessions : length (viewSessions t) ≤ 64
+  pub within-limit : length (viewSessions t) ≤ viewSettings t .limit
   unfolding sessionsTests
-  few-sessions = leb→le (length (viewSessions t)) maxSessions (sessions-kept .0)
+  within-limit = leb→le (length (viewSessions t)) (viewSettings t .limit) (sessions-kept .0)
+
+  pub few-sessions : length (viewSessions t) ≤ maxSessions
+  few-sessions = omega (arith, within-limit, limit-most st settings-kept)
 
   -- the number of sessions, as the table has it
   pub count-read : length (viewSessions t) ≡ number (part settingsWidth 2 t)
@@ -144,7 +148,7 @@ module _ (t : List ℕ) (h : T (sound maxSessions t)) where
     width = omega arith
 
     pub slot-long : length slot ≡ sessionWidth
-    slot-long = rw width (length-part (headWidth + place * sessionWidth) sessionWidth t (let e = table-long in let f = few-sessions in omega arith))
+    slot-long = rw width (length-part (headWidth + place * sessionWidth) sessionWidth t (let e = table-long in let f = within-limit in omega arith))
 
     pub slot-session : viewSession slot ≡ sessionAt (viewSessions t) place
     unfolding sessionAt

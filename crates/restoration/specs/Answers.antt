@@ -4,7 +4,6 @@ use Prim.Native.Nat.{ℕ, _<_}
 use mathlib.Core.List.{List}
 use lib.Dec.{T}
 use lib.ListN.{length}
-use Rattle.rules.specs.Limits.{maxSessions}
 use Rattle.rules.specs.Layout.{viewSessions}
 use Rattle.rules.specs.Sound.{sound}
 use Rattle.rules.specs.Restoring.{Writing, addressed}
@@ -15,6 +14,6 @@ writingOf r space = record { outcome = r .outcome; used = r .used; space = space
 
 -- the first three refusals do not apply
 pub record Ready (t : List ℕ) (place : ℕ) (ipv4 ipv6 : List ℕ) : Type 0 where
-  pub sound : T (sound maxSessions t)
+  pub sound : T (sound t)
   pub live : place < length (viewSessions t)
   pub address : T (addressed ipv4 ipv6)

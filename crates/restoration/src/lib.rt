@@ -8,7 +8,7 @@ ghost use lib.Dec.{T, eqb};
 ghost use lib.ListN.{length, getD};
 ghost use Rattle.octets.specs.Octets.{slices, concatMap};
 ghost use Rattle.octets.specs.Lists.{all};
-ghost use Rattle.rules.specs.Limits.{maxSessions, maxRestoration};
+ghost use Rattle.rules.specs.Limits.{maxRestoration};
 ghost use Rattle.rules.specs.Layout.{optionRead, viewSession, viewPdr, viewEndpoint, viewCsid, pdrWidth, csidWidth, endpointWidth};
 ghost use Rattle.rules.specs.Elements.{addressLength};
 ghost use Rattle.rules.specs.Reply.{element, addressPart};
@@ -307,7 +307,7 @@ pub fn write_restoration(
     ipv6: &[u8],
     space: &mut [u8],
 ) -> Answer
-    ensures { λ r. ⌜ writingOf r (now (space .exit)) ≡ writeRestoration maxSessions (now (t .entry)) place (now (ipv4 .entry)) (now (ipv6 .entry)) (now (space .entry)) ⌝ }
+    ensures { λ r. ⌜ writingOf r (now (space .exit)) ≡ writeRestoration (now (t .entry)) place (now (ipv4 .entry)) (now (ipv6 .entry)) (now (space .entry)) ⌝ }
 {
     if !table::is_sound(t) {
         return refused(1);

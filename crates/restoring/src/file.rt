@@ -1,8 +1,14 @@
 // Reading a stored table, and putting a new file in its place.
 ghost use mathlib.Core.Path.{_≡_};
+ghost use Prim.Native.Nat.{_≤_};
 ghost use lib.ListN.{length};
 use crate::say;
 use crate::say::Done;
+
+// The program takes tables with room for so many sessions at most (02 (vi)); so long is such a table.
+pub const MOST_SESSIONS: usize = 64;
+
+pub const LONGEST: usize = format::HEAD + MOST_SESSIONS * format::SLOT;
 
 // Whether there is no more to read from fd: 0 nothing, 1 something, 2 a failure, which errno tells.
 pub fn more(fd: i32) -> u8 {
@@ -17,39 +23,95 @@ pub fn more(fd: i32) -> u8 {
     1
 }
 
-// Reads all of fd into t, which has a table's length.
-fn fill_table(path: &[u8], fd: i32, t: &mut [u8]) -> u32 {
-    let n = io::read_full(fd, t);
-    let rest = more(fd);
-    if rest == 2 {
-        return say::failed(path);
-    }
-    if rest == 1 {
-        return say::refused(path, b"longer than a table, which has 38631 octets");
-    }
-    if n != t.len() {
-        return say::refused(path, b"shorter than a table, which has 38631 octets");
-    }
+// No table at path, and why.
+fn refused(path: &[u8], why: &[u8]) -> usize
+    ensures { λ r. ⌜ r ≡ 0 ⌝ }
+{
+    say::refused(path, why);
     0
 }
 
-// Reads the stored table at path, which has to be sound: 0, or the refusal's exit status.
-pub fn read_table(path: &[u8], t: &mut [u8]) -> u32 {
-    let fd = os::open_read(path);
-    if fd < 0 {
-        return say::failed(path);
+fn too_short(path: &[u8]) -> usize
+    ensures { λ r. ⌜ r ≡ 0 ⌝ }
+{
+    refused(path, b"shorter than its session limit says")
+}
+
+fn too_long(path: &[u8]) -> usize
+    ensures { λ r. ⌜ r ≡ 0 ⌝ }
+{
+    refused(path, b"longer than its session limit says")
+}
+
+fn broken(path: &[u8]) -> usize
+    ensures { λ r. ⌜ r ≡ 0 ⌝ }
+{
+    refused(path, b"not a sound table")
+}
+
+// The length of the table t, if it is sound and as long as its session limit says; longer where the file has more octets than t.
+fn sound(path: &[u8], t: &[u8], longer: bool, said: usize) -> usize
+    ensures { λ r. ⌜ r ≤ length (now (t .entry)) ⌝ }
+{
+    if longer {
+        return too_long(path);
     }
-    let answer = fill_table(path, fd, t);
-    libc::close(fd);
-    if answer != 0 {
-        return answer;
+    if said < t.len() {
+        return too_long(path);
+    }
+    if t.len() < said {
+        return too_short(path);
     }
     let mut free = 0u32;
-    let broken = pfcp_session::pfcp_free_count(t, &mut free);
-    if broken != 0 {
-        return say::refused(path, b"not a sound table");
+    if pfcp_session::pfcp_free_count(t, &mut free) != 0 {
+        return broken(path);
     }
-    0
+    t.len()
+}
+
+// The length of the table t, if this program takes it. A limit that is not allowed says no length.
+fn taken(path: &[u8], t: &[u8], longer: bool) -> usize
+    ensures { λ r. ⌜ r ≤ length (now (t .entry)) ⌝ }
+{
+    if t.len() < format::HEAD {
+        return too_short(path);
+    }
+    let limit = octets::read(t, format::LIMIT, 2);
+    let said = pfcp_session::pfcp_table_length(limit as u32);
+    if said == 0 {
+        return broken(path);
+    }
+    if MOST_SESSIONS < limit as usize {
+        return refused(path, b"the table has room for more than 64 sessions");
+    }
+    sound(path, t, longer, said)
+}
+
+// Reads all of fd into t, which has room for the longest table.
+fn fill_table(path: &[u8], fd: i32, t: &mut [u8]) -> usize
+    ensures { λ r. ⌜ r ≤ length (now (t .exit)) ⌝ }
+{
+    let n = io::read_full(fd, t);
+    let rest = more(fd);
+    if rest == 2 {
+        say::failed(path);
+        return 0;
+    }
+    taken(path, &t[0..n], rest == 1)
+}
+
+// Reads the stored table at path, which has to be sound, into the front of t: its length, or 0 where it is refused, and that was said.
+pub fn read_table(path: &[u8], t: &mut [u8]) -> usize
+    ensures { λ r. ⌜ r ≤ length (now (t .exit)) ⌝ }
+{
+    let fd = os::open_read(path);
+    if fd < 0 {
+        say::failed(path);
+        return 0;
+    }
+    let n = fill_table(path, fd, t);
+    libc::close(fd);
+    n
 }
 
 // Whether path is free, or is a file that can be replaced; a refusal is said. A device or a pipe cannot be made to keep its octets, which

@@ -18,15 +18,25 @@ const CAUSE_OF_ACCEPTANCE: u8 = 1;
 
 // The empty table with the settings of s.
 fn make(s: &[u8], new: &mut [u8]) -> u32
-    requires { ⌜ length (now s) ≡ 37 ⌝ }
+    requires { ⌜ length (now s) ≡ 39 ⌝ }
 {
     let ipv4 = octets::read(s, format::IPV4, 4) as u32;
     let first = octets::read(s, format::FIRST, 4) as u32;
     let size = octets::read(s, format::SIZE, 4) as u32;
     let address = octets::read(s, format::FIRST_ADDRESS, 4) as u32;
     let count = octets::read(s, format::ADDRESS_COUNT, 4) as u32;
+    let limit = octets::read(s, format::LIMIT, 2) as u32;
     if s[format::IPV6_THERE] == 0 {
-        return pfcp_session::pfcp_make_table(new, ipv4, &s[0..0], first, size, address, count);
+        return pfcp_session::pfcp_make_table(
+            new,
+            ipv4,
+            &s[0..0],
+            first,
+            size,
+            address,
+            count,
+            limit,
+        );
     }
     pfcp_session::pfcp_make_table(
         new,
@@ -36,6 +46,7 @@ fn make(s: &[u8], new: &mut [u8]) -> u32
         size,
         address,
         count,
+        limit,
     )
 }
 
@@ -187,7 +198,7 @@ fn write_table(new: &[u8], path: &[u8], done: Done) -> u32 {
 
 // The file's requests on an empty table with the settings of the stored table, and the result into the file at path.
 fn run_on(file: &[u8], stored: &[u8], new: &mut [u8], path: &[u8]) -> u32
-    requires { ⌜ length (now stored) ≡ 38631 ⌝ }
+    requires { ⌜ 39 ≤ length (now stored) ⌝ }
 {
     let made = make(&stored[0..format::SETTINGS], new);
     if made != 0 {
@@ -202,14 +213,14 @@ fn run_on(file: &[u8], stored: &[u8], new: &mut [u8], path: &[u8]) -> u32
 }
 
 fn run_named(file: &[u8], table: &[u8], path: &[u8]) -> u32 {
-    let mut stored = [0u8; format::LENGTH];
-    let t: &mut [u8] = &mut stored;
-    let answer = file::read_table(table, t);
-    if answer != 0 {
-        return answer;
+    let mut stored = [0u8; file::LONGEST];
+    let n = file::read_table(table, &mut stored);
+    // No table is shorter than a head, so the stored one was refused.
+    if n < format::HEAD {
+        return say::REFUSED;
     }
-    let mut new = [0u8; format::LENGTH];
-    run_on(file, t, &mut new, path)
+    let mut new = [0u8; file::LONGEST];
+    run_on(file, &stored[0..n], &mut new[0..n], path)
 }
 
 fn with_table(file: &[u8], table: &[u8]) -> u32 {

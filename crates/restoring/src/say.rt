@@ -80,6 +80,7 @@ fn cause_in_words(cause: u8) {
         73 => err(b"rule creation or modification failure"),
         75 => err(b"no resources available"),
         76 => err(b"service not supported"),
+        79 => err(b"all dynamic addresses are occupied"),
         _ => err(b"unknown cause"),
     }
 }

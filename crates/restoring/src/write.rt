@@ -139,13 +139,10 @@ enum Wrote {
     Failed,
 }
 
-// A table has at most so many sessions.
-const MOST_SESSIONS: usize = 64;
-
 // Writes the requests of all sessions to fd.
 fn requests(t: &[u8], ipv4: &[u8], ipv6: &[u8], path: &[u8], fd: i32) -> Wrote {
     let mut place: usize = 0;
-    while place < MOST_SESSIONS {
+    while place < file::MOST_SESSIONS {
         let became = request(t, place, ipv4, ipv6, path, fd);
         if became == FAILED {
             return Wrote::Failed;
@@ -185,10 +182,10 @@ fn write_file(t: &[u8], ipv4: &[u8], ipv6: &[u8], path: &[u8]) -> u32 {
 fn write_named(table: &[u8], path: &[u8], given: Given, known: &[u8]) -> u32
     requires { ⌜ length (now known) ≡ 20 ⌝ }
 {
-    let mut t = [0u8; format::LENGTH];
-    let answer = file::read_table(table, &mut t);
-    if answer != 0 {
-        return answer;
+    let mut stored = [0u8; file::LONGEST];
+    let n = file::read_table(table, &mut stored);
+    if n == 0 {
+        return say::REFUSED;
     }
     if !given.ipv4 {
         if !given.ipv6 {
@@ -199,7 +196,7 @@ fn write_named(table: &[u8], path: &[u8], given: Given, known: &[u8]) -> u32
     }
     let a = end4(given.ipv4);
     let b = end6(given.ipv6);
-    write_file(&t, &known[0..a], &known[4..b], path)
+    write_file(&stored[0..n], &known[0..a], &known[4..b], path)
 }
 
 fn with_file(table: &[u8], n: usize, path: &[u8]) -> u32 {

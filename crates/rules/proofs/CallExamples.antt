@@ -15,9 +15,9 @@ use Rattle.rules.proofs.Computing.{computing}
 
 -- ---- the calls
 
--- the unit of the examples: 192.0.2.1, no IPv6, a pool of n TEIDs from 4096 on, and the two addresses 10.0.0.1 and 10.0.0.2
-unfoldable pub unit : ℕ → Settings
-unit n = record { ipv4 = 192 ∷ 0 ∷ 2 ∷ 1 ∷ []; ipv6 = []; first = 4096; size = n; firstAddress = 167772161; addressCount = 2 }
+-- the unit of the examples: 192.0.2.1, no IPv6, room for k sessions, a pool of n TEIDs from 4096 on, and the two addresses 10.0.0.1 and 10.0.0.2
+unfoldable pub unit : ℕ → ℕ → Settings
+unit k n = record { ipv4 = 192 ∷ 0 ∷ 2 ∷ 1 ∷ []; ipv6 = []; first = 4096; size = n; firstAddress = 167772161; addressCount = 2; limit = k }
 
 unfoldable pub space : List ℕ
 space = zeros 1280
@@ -56,20 +56,20 @@ calls = 0
 -- ---- whole replies, at the product's table
 
 pub unknownDeletion :
-    serve 64 (encode 64 (unit 2) []) (delete 9) space
+    serve (encode (unit 64 2) []) (delete 9) space
     ≡ record {
       outcome = 0;
       place = 0;
       space =
           0x21 ∷ 0x37 ∷ 0x00 ∷ 0x11 ∷ 0x00 ∷ 0x00 ∷ 0x00 ∷ 0x00 ∷ 0x00 ∷ 0x00 ∷ 0x00 ∷ 0x00 ∷ 0x00 ∷ 0x00 ∷ 0x01 ∷ 0x00 ∷ 0x00 ∷ 0x13 ∷ 0x00 ∷ 0x01
           ∷ 0x41 ∷ zeros 1259;
-      table = encode 64 (unit 2) [];
+      table = encode (unit 64 2) [];
     }
 unfolding computing calls
 unknownDeletion = refl
 
 pub firstEstablishment :
-    replyIn (serve 64 (encode 64 (unit 4096) []) (establish 1 (create 1 own)) space .space)
+    replyIn (serve (encode (unit 64 4096) []) (establish 1 (create 1 own)) space .space)
     ≡ 0x21 ∷ 0x33 ∷ 0x00 ∷ 0x42 ∷ 0x00 ∷ 0x00 ∷ 0x00 ∷ 0x00 ∷ 0x00 ∷ 0x00 ∷ 0x00 ∷ 0x01 ∷ 0x00 ∷ 0x00 ∷ 0x01 ∷ 0x00
     ∷ 0x00 ∷ 0x3c ∷ 0x00 ∷ 0x05 ∷ 0x00 ∷ 0xc0 ∷ 0x00 ∷ 0x02 ∷ 0x01
     ∷ 0x00 ∷ 0x13 ∷ 0x00 ∷ 0x01 ∷ 0x01
@@ -86,12 +86,12 @@ outcomeOf r = r .outcome
 
 pub outcomes :
     map outcomeOf
-    (serve 2 (zeros 1245) (zeros 2049) (zeros 1279)
-    ∷ serve 2 (encode 2 (unit 2) []) (zeros 2049) (zeros 1279)
-    ∷ serve 2 (encode 2 (unit 2) []) (zeros 2049) (zeros 1280)
-    ∷ serve 2 (encode 2 (unit 2) []) (zeros 2048) (zeros 1280)
-    ∷ serve 2 (encode 2 (unit 2) []) (message 56 1 (0 ∷ 0 ∷ 1 ∷ []) []) (zeros 1280)
-    ∷ serve 2 (encode 2 (unit 2) []) (message 54 1 (0 ∷ 0 ∷ 1 ∷ []) []) (zeros 1280)
+    (serve (zeros 1245) (zeros 2049) (zeros 1279)
+    ∷ serve (encode (unit 2 2) []) (zeros 2049) (zeros 1279)
+    ∷ serve (encode (unit 2 2) []) (zeros 2049) (zeros 1280)
+    ∷ serve (encode (unit 2 2) []) (zeros 2048) (zeros 1280)
+    ∷ serve (encode (unit 2 2) []) (message 56 1 (0 ∷ 0 ∷ 1 ∷ []) []) (zeros 1280)
+    ∷ serve (encode (unit 2 2) []) (message 54 1 (0 ∷ 0 ∷ 1 ∷ []) []) (zeros 1280)
     ∷ [])
     ≡ 1 ∷ 2 ∷ 3 ∷ 4 ∷ 5 ∷ 0 ∷ []
 unfolding computing calls outcomeOf
@@ -106,15 +106,15 @@ pub record Seen : Type 0 where
   pub left : Count
 
 unfoldable pub seen : Served → Seen
-seen r = record { outcome = r .outcome; cause = replyCause (r .space); left = countFree 2 (r .table) }
+seen r = record { outcome = r .outcome; cause = replyCause (r .space); left = countFree (r .table) }
 
 -- a request on a table with two session slots
 unfoldable pub ask : List ℕ → List ℕ → Served
-ask t msg = serve 2 t msg space
+ask t msg = serve t msg space
 
 -- PDRs 1 and 2 with CHOOSE ID 7, PDR 3 without
 unfoldable pub three : Served
-three = ask (encode 2 (unit 2) []) (establish 1 (create 1 (withId 7) ++ create 2 (withId 7) ++ create 3 own))
+three = ask (encode (unit 2 2) []) (establish 1 (create 1 (withId 7) ++ create 2 (withId 7) ++ create 3 own))
 
 unfoldable pub removed1 : Served
 removed1 = ask (three .table) (modify 1 (remove 1))
@@ -168,7 +168,7 @@ poolSameRequestCause = refl
 
 -- a CHOOSE ID is not remembered: the next request's ID 9 gets a TEID of its own
 unfoldable pub first9 : Served
-first9 = ask (encode 2 (unit 3) []) (establish 1 (create 1 (withId 9)))
+first9 = ask (encode (unit 2 3) []) (establish 1 (create 1 (withId 9)))
 
 pub chooseIdForgotten : createdTeid (ask (first9 .table) (modify 1 (create 2 (withId 9))) .space) ofPdr 2 ≡ 4097
 unfolding story first9
@@ -190,7 +190,7 @@ createWith v = element 1 (element 56 (be 2 1) ++ element 29 (be 4 100) ++ elemen
 
 -- an establishment's F-SEID takes octets 16 to 32, its Create PDR starts at 33, that PDR's PDI at 51
 unfoldable pub establishing : List ℕ → Told
-establishing v = told (ask (encode 2 (unit 2) []) (establish 1 (createWith v)))
+establishing v = told (ask (encode (unit 2 2) []) (establish 1 (createWith v)))
 
 abbrev pub toldAs : ℕ → ℕ → Told
 toldAs c p = record { cause = c; place = p }
@@ -211,10 +211,10 @@ placesOfFaults = refl
 -- what the message itself lacks is at place 0, what a group lacks at the group's
 pub placesOfMissing :
     map told
-    (ask (encode 2 (unit 2) []) (establish 1 [])
-    ∷ ask (encode 2 (unit 2) []) (establish 1 (element 1 (element 56 (be 2 1))))
-    ∷ ask (encode 2 (unit 2) []) (establish 1 (0 ∷ 1 ∷ 0 ∷ []))
-    ∷ ask (encode 2 (unit 2) []) (delete 9)
+    (ask (encode (unit 2 2) []) (establish 1 [])
+    ∷ ask (encode (unit 2 2) []) (establish 1 (element 1 (element 56 (be 2 1))))
+    ∷ ask (encode (unit 2 2) []) (establish 1 (0 ∷ 1 ∷ 0 ∷ []))
+    ∷ ask (encode (unit 2 2) []) (delete 9)
     ∷ [])
     ≡ toldAs 66 0 ∷ toldAs 66 33 ∷ toldAs 68 0 ∷ toldAs 65 0 ∷ []
 unfolding computing calls ask told

@@ -17,16 +17,16 @@ unfolding computing calls history endpointOf naming csidOf update kept answer
 past = 0
 
 -- of a broken table too
-pub sessionsCounted : countSessions 2 kept ∷ countSessions 2 (0 ∷ kept) ∷ [] ≡ answer 0 2 ∷ answer 1 0 ∷ []
+pub sessionsCounted : countSessions kept ∷ countSessions (0 ∷ kept) ∷ [] ≡ answer 0 2 ∷ answer 1 0 ∷ []
 unfolding past
 sessionsCounted = refl
 
 -- SEIDs below, between and above those of the table
-pub sessionsFound : map (findSession 2 kept) (4 ∷ 9 ∷ 0 ∷ 5 ∷ 10 ∷ []) ≡ answer 0 0 ∷ answer 0 1 ∷ answer 2 0 ∷ answer 2 0 ∷ answer 2 0 ∷ []
+pub sessionsFound : map (findSession kept) (4 ∷ 9 ∷ 0 ∷ 5 ∷ 10 ∷ []) ≡ answer 0 0 ∷ answer 0 1 ∷ answer 2 0 ∷ answer 2 0 ∷ answer 2 0 ∷ []
 unfolding past
 sessionsFound = refl
 
 -- a TEID of an endpoint, two of PDRs, one of the pool that is free, and one outside it
-pub holdersFound : map (findHolder 2 kept) (4098 ∷ 4096 ∷ 4097 ∷ 4099 ∷ 0 ∷ []) ≡ answer 0 0 ∷ answer 0 1 ∷ answer 0 1 ∷ answer 2 0 ∷ answer 2 0 ∷ []
+pub holdersFound : map (findHolder kept) (4098 ∷ 4096 ∷ 4097 ∷ 4099 ∷ 0 ∷ []) ≡ answer 0 0 ∷ answer 0 1 ∷ answer 0 1 ∷ answer 2 0 ∷ answer 2 0 ∷ []
 unfolding past
 holdersFound = refl

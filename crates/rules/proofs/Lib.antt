@@ -7,3 +7,4 @@ pub mod AddressExamples
 pub mod WriterExamples
 pub mod FindingExamples
 pub mod SetExamples
+pub mod SiteExamples

@@ -42,7 +42,7 @@ peer = record { header = 77; sequence = 3; ipv4 = []; ipv6 = zeros 16 }
 
 unfoldable pub restores : List Session → List Call
 restores [] = []
-restores (x ∷ xs) = request (restoration (unit 4) peer x) space ∷ restores xs
+restores (x ∷ xs) = request (restoration (unit 2 4) peer x) space ∷ restores xs
 
 past : ℕ
 unfolding computing calls endpointOf naming csidOf update history peer restores
@@ -53,26 +53,26 @@ turned [] = []
 turned (x ∷ xs) = turned xs ++ x ∷ []
 
 -- which calls were accepted
-pub historyAccepted : map accepted (eventsOf 2 (encode 2 (unit 4) []) history) ≡ true ∷ false ∷ true ∷ true ∷ true ∷ false ∷ []
+pub historyAccepted : map accepted (eventsOf (encode (unit 2 4) []) history) ≡ true ∷ false ∷ true ∷ true ∷ true ∷ false ∷ []
 unfolding past
 historyAccepted = refl
 
 -- the live set is what the table holds
-pub historyLive : sameOctets (encode 2 (unit 4) (liveAfter 2 (encode 2 (unit 4) []) history)) (tableAfterAll 2 (encode 2 (unit 4) []) history) ≡ true
+pub historyLive : sameOctets (encode (unit 2 4) (liveAfter (encode (unit 2 4) []) history)) (tableAfterAll (encode (unit 2 4) []) history) ≡ true
 unfolding past
 historyLive = refl
 
 -- restored in either order, it is the same table
 pub historyRestored :
-    sameOctets (tableAfterAll 2 (encode 2 (unit 4) []) (restores (liveAfter 2 (encode 2 (unit 4) []) history)))
-    (tableAfterAll 2 (encode 2 (unit 4) []) history)
+    sameOctets (tableAfterAll (encode (unit 2 4) []) (restores (liveAfter (encode (unit 2 4) []) history)))
+    (tableAfterAll (encode (unit 2 4) []) history)
     ≡ true
 unfolding past
 historyRestored = refl
 
 pub historyRestoredTurned :
-    sameOctets (tableAfterAll 2 (encode 2 (unit 4) []) (restores (turned (liveAfter 2 (encode 2 (unit 4) []) history))))
-    (tableAfterAll 2 (encode 2 (unit 4) []) history)
+    sameOctets (tableAfterAll (encode (unit 2 4) []) (restores (turned (liveAfter (encode (unit 2 4) []) history))))
+    (tableAfterAll (encode (unit 2 4) []) history)
     ≡ true
 unfolding past turned
 historyRestoredTurned = refl

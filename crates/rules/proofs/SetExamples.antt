@@ -38,7 +38,7 @@ unfoldable pub sets : List ℕ → List ℕ
 sets xs = listMessage 14 (0 ∷ 0 ∷ 9 ∷ []) xs
 
 unfoldable pub served : List ℕ → Served
-served xs = serve 4 (encode 4 (unit 2) sessions) (sets xs) space
+served xs = serve (encode (unit 4 2) sessions) (sets xs) space
 
 -- the SEIDs that are left, in the table and in the live set
 unfoldable pub left : List ℕ → List ℕ
@@ -88,11 +88,11 @@ setsRefusedLeft = refl
 -- with S it is malformed, and so is every other type without; 8 octets alone are answered
 pub setsOutcomes :
     map outcomeOf
-    (serve 4 (encode 4 (unit 2) []) (message 14 0 (0 ∷ 0 ∷ 9 ∷ []) []) space
-    ∷ serve 4 (encode 4 (unit 2) []) (listMessage 15 (0 ∷ 0 ∷ 9 ∷ []) (zeros 8)) space
-    ∷ serve 4 (encode 4 (unit 2) []) (listMessage 54 (0 ∷ 0 ∷ 9 ∷ []) (zeros 8)) space
-    ∷ serve 4 (encode 4 (unit 2) []) (32 ∷ 14 ∷ 0 ∷ 3 ∷ 0 ∷ 0 ∷ 9 ∷ []) space
-    ∷ serve 4 (encode 4 (unit 2) []) (sets []) space
+    (serve (encode (unit 4 2) []) (message 14 0 (0 ∷ 0 ∷ 9 ∷ []) []) space
+    ∷ serve (encode (unit 4 2) []) (listMessage 15 (0 ∷ 0 ∷ 9 ∷ []) (zeros 8)) space
+    ∷ serve (encode (unit 4 2) []) (listMessage 54 (0 ∷ 0 ∷ 9 ∷ []) (zeros 8)) space
+    ∷ serve (encode (unit 4 2) []) (32 ∷ 14 ∷ 0 ∷ 3 ∷ 0 ∷ 0 ∷ 9 ∷ []) space
+    ∷ serve (encode (unit 4 2) []) (sets []) space
     ∷ [])
     ≡ 4 ∷ 4 ∷ 4 ∷ 4 ∷ 0 ∷ []
 unfolding story
@@ -117,7 +117,7 @@ setsRefusal = refl
 -- ---- a deletion's FQ-CSID is skipped, but framed
 
 unfoldable pub deletes : List ℕ → Told
-deletes xs = told (serve 4 (encode 4 (unit 2) sessions) (message 54 1 (0 ∷ 0 ∷ 9 ∷ []) xs) space)
+deletes xs = told (serve (encode (unit 4 2) sessions) (message 54 1 (0 ∷ 0 ∷ 9 ∷ []) xs) space)
 
 pub setsSkipped : map deletes (listsNone ∷ element 65 [] ∷ (0 ∷ 65 ∷ 0 ∷ 9 ∷ []) ∷ []) ≡ toldAs 1 0 ∷ toldAs 1 0 ∷ toldAs 68 16 ∷ []
 unfolding story deletes

@@ -13,14 +13,14 @@ use Rattle.rules.proofs.RestorationExamples.{history, endpointOf, namin
 
 -- two sessions, 4 and 9
 unfoldable pub kept : List ℕ
-kept = tableAfterAll 2 (encode 2 (unit 4) []) history
+kept = tableAfterAll (encode (unit 2 4) []) history
 
 -- the control plane at 198.51.100.1
 unfoldable pub plane : List ℕ
 plane = 0xc6 ∷ 0x33 ∷ 0x64 ∷ 0x01 ∷ []
 
 unfoldable pub writing : ℕ → List ℕ → List ℕ → List ℕ → Writing
-writing place ipv4 ipv6 space = writeRestoration 2 kept place ipv4 ipv6 space
+writing place ipv4 ipv6 space = writeRestoration kept place ipv4 ipv6 space
 
 unfoldable pub outcomeOf : Writing → ℕ
 outcomeOf w = w .outcome
@@ -32,7 +32,7 @@ past = 0
 -- each refusal where all later ones are due too: another length, a place past the last, no address, addresses of other lengths, too little space
 pub writerOutcomes :
     map outcomeOf
-    (writeRestoration 2 (0 ∷ kept) 2 [] [] []
+    (writeRestoration (0 ∷ kept) 2 [] [] []
     ∷ writing 2 [] [] []
     ∷ writing 1 [] [] []
     ∷ writing 1 (zeros 3) (zeros 16) []

@@ -20,28 +20,28 @@ callAllowed count = true
 callAllowed countIps = true
 
 -- the table after a call, and what the host sees of it
-unfoldable pub tableAfter : ℕ → List ℕ → Call → List ℕ
-tableAfter limit t (request msg space) = serve limit t msg space .table
-tableAfter limit t count = t
-tableAfter limit t countIps = t
+unfoldable pub tableAfter : List ℕ → Call → List ℕ
+tableAfter t (request msg space) = serve t msg space .table
+tableAfter t count = t
+tableAfter t countIps = t
 
-unfoldable pub eventOf : ℕ → List ℕ → Call → Event
-eventOf limit t (request msg space) = replied msg (serve limit t msg space .outcome) (serve limit t msg space .space)
-eventOf limit t count = counted
-eventOf limit t countIps = counted
+unfoldable pub eventOf : List ℕ → Call → Event
+eventOf t (request msg space) = replied msg (serve t msg space .outcome) (serve t msg space .space)
+eventOf t count = counted
+eventOf t countIps = counted
 
 -- the same for calls one after the other
-unfoldable pub tableAfterAll : ℕ → List ℕ → List Call → List ℕ
-tableAfterAll limit t [] = t
-tableAfterAll limit t (c ∷ cs) = tableAfterAll limit (tableAfter limit t c) cs
+unfoldable pub tableAfterAll : List ℕ → List Call → List ℕ
+tableAfterAll t [] = t
+tableAfterAll t (c ∷ cs) = tableAfterAll (tableAfter t c) cs
 
-unfoldable pub eventsOf : ℕ → List ℕ → List Call → List Event
-eventsOf limit t [] = []
-eventsOf limit t (c ∷ cs) = eventOf limit t c ∷ eventsOf limit (tableAfter limit t c) cs
+unfoldable pub eventsOf : List ℕ → List Call → List Event
+eventsOf t [] = []
+eventsOf t (c ∷ cs) = eventOf t c ∷ eventsOf (tableAfter t c) cs
 
 -- the live set that calls on a table leave
-unfoldable pub liveAfter : ℕ → List ℕ → List Call → Sessions
-liveAfter limit t cs = live (eventsOf limit t cs)
+unfoldable pub liveAfter : List ℕ → List Call → Sessions
+liveAfter t cs = live (eventsOf t cs)
 
 unfoldable pub computing : ℕ
 unfolding callAllowed tableAfter eventOf tableAfterAll eventsOf liveAfter

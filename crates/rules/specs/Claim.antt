@@ -15,7 +15,7 @@ use lib.Dec.{T, leb}
 use Rattle.octets.specs.Choice.{allOf}
 use Rattle.octets.specs.Octets.{octets}
 use Rattle.octets.specs.Lists.{all, distinct}
-use Rattle.rules.specs.Limits.{maxSessions, minSpace}
+use Rattle.rules.specs.Limits.{minSpace}
 use Rattle.rules.specs.Model.{Settings, Session, Sessions, heldTeids, heldAddresses}
 use Rattle.rules.specs.Layout.{encode, viewSettings, viewSessions}
 use Rattle.rules.specs.Sound.{make, Count, free, countFree, takenMap, countAddresses, addressMap}
@@ -39,11 +39,11 @@ stepAllowed (told c) = true
 stepAllowed (toldAddresses c) = true
 
 -- on the table t each call left what its contract says, and the next call had the table that it left
-abbrev pub Ran : ℕ → List ℕ → List Step → Type 0
-Ran limit t [] = Unit
-Ran limit t (asked msg space r ∷ steps) = (r ≡ serve limit t msg space) × Ran limit (r .table) steps
-Ran limit t (told c ∷ steps) = (c ≡ countFree limit t) × Ran limit t steps
-Ran limit t (toldAddresses c ∷ steps) = (c ≡ countAddresses limit t) × Ran limit t steps
+abbrev pub Ran : List ℕ → List Step → Type 0
+Ran t [] = Unit
+Ran t (asked msg space r ∷ steps) = (r ≡ serve t msg space) × Ran (r .table) steps
+Ran t (told c ∷ steps) = (c ≡ countFree t) × Ran t steps
+Ran t (toldAddresses c ∷ steps) = (c ≡ countAddresses t) × Ran t steps
 
 -- the table that the last one left
 unfoldable pub lastTable : List ℕ → List Step → List ℕ
@@ -97,41 +97,38 @@ unfoldable pub addressMapOf : List ℕ → List ℕ
 addressMapOf t = addressMap (viewSettings t) (viewSessions t)
 
 -- the table t holds the settings s and the sessions m
-pub record Holds (limit : ℕ) (s : Settings) (m : Sessions) (t : List ℕ) : Type 0 where
+pub record Holds (s : Settings) (m : Sessions) (t : List ℕ) : Type 0 where
   pub settings : viewSettings t ≡ s
   pub records : viewSessions t ≡ m
-  pub encoded : t ≡ encode limit s m
-  pub count : countFree limit t ≡ free (s .size - distinct (heldTeids m))
+  pub encoded : t ≡ encode s m
+  pub count : countFree t ≡ free (s .size - distinct (heldTeids m))
   pub marks : mapOf t ≡ takenMap s m
-  pub addressCount : countAddresses limit t ≡ free (s .addressCount - distinct (heldAddresses s m))
+  pub addressCount : countAddresses t ≡ free (s .addressCount - distinct (heldAddresses s m))
   pub addressMarks : addressMapOf t ≡ addressMap s m
 
 -- restorations that ran on an empty table t₀ left the table t
-pub record Restores (limit : ℕ) (t : List ℕ) (t₀ : List ℕ) (steps : List Step) : Type 0 where
+pub record Restores (t : List ℕ) (t₀ : List ℕ) (steps : List Step) : Type 0 where
   pub each : T (all accepted (map eventIn steps))
   pub octetsEqual : lastTable t₀ steps ≡ t
-  pub countEqual : countFree limit (lastTable t₀ steps) ≡ countFree limit t
+  pub countEqual : countFree (lastTable t₀ steps) ≡ countFree t
   pub mapEqual : mapOf (lastTable t₀ steps) ≡ mapOf t
-  pub addressCountEqual : countAddresses limit (lastTable t₀ steps) ≡ countAddresses limit t
+  pub addressCountEqual : countAddresses (lastTable t₀ steps) ≡ countAddresses t
   pub addressMapEqual : addressMapOf (lastTable t₀ steps) ≡ addressMapOf t
 
 -- of the table t that a run with the settings s left, and its live set m; `List·Permᴰ` says "one for each, in any order"
-pub record Promise (limit : ℕ) (s : Settings) (m : Sessions) (t : List ℕ) : Type 0 where
-  pub holds : Holds limit s m t
-  pub restores : (b : List ℕ) (rs : List Restore) (steps : List Step) → T (make limit s b .made) → T (all restoreAllowed rs)
-      → Ran limit (make limit s b .table) steps → map callIn steps ≡ restoreCalls s rs → List·Permᴰ m (map restored rs)
-      → Restores limit t (make limit s b .table) steps
-  pub noHistory : (b : List ℕ) (steps : List Step) → T (make limit s b .made) → T (all stepAllowed steps)
-      → Ran limit (make limit s b .table) steps → liveSet steps ≡ m → lastTable (make limit s b .table) steps ≡ t
+pub record Promise (s : Settings) (m : Sessions) (t : List ℕ) : Type 0 where
+  pub holds : Holds s m t
+  pub restores : (b : List ℕ) (rs : List Restore) (steps : List Step) → T (make s b .made) → T (all restoreAllowed rs)
+      → Ran (make s b .table) steps → map callIn steps ≡ restoreCalls s rs → List·Permᴰ m (map restored rs)
+      → Restores t (make s b .table) steps
+  pub noHistory : (b : List ℕ) (steps : List Step) → T (make s b .made) → T (all stepAllowed steps)
+      → Ran (make s b .table) steps → liveSet steps ≡ m → lastTable (make s b .table) steps ≡ t
 
 -- a and b are any octets that an empty table is made in
-unfoldable pub Claim : ℕ → Type 0
-Claim limit =
-    (s : Settings) (a : List ℕ) (steps : List Step) → T (make limit s a .made) → T (all stepAllowed steps) → Ran limit (make limit s a .table) steps
-    → Promise limit s (liveSet steps) (lastTable (make limit s a .table) steps)
-
 unfoldable pub Demand3 : Type 0
-Demand3 = Claim maxSessions
+Demand3 =
+    (s : Settings) (a : List ℕ) (steps : List Step) → T (make s a .made) → T (all stepAllowed steps) → Ran (make s a .table) steps
+    → Promise s (liveSet steps) (lastTable (make s a .table) steps)
 
 unfoldable pub computing : ℕ
 unfolding stepAllowed lastTable eventIn liveSet restoreAllowed restoreCall restoreCalls callIn mapOf addressMapOf

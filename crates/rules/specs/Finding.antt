@@ -38,17 +38,17 @@ findingOf none = record { outcome = 2; number = 0 }
 findingOf (some n) = record { outcome = 0; number = n }
 
 -- what a table answers where it is not broken
-unfoldable pub findIn : ℕ → List ℕ → Option ℕ → Finding
-findIn limit t o = pick (sound limit t) (findingOf o) (record { outcome = 1; number = 0 })
+unfoldable pub findIn : List ℕ → Option ℕ → Finding
+findIn t o = pick (sound t) (findingOf o) (record { outcome = 1; number = 0 })
 
-unfoldable pub countSessions : ℕ → List ℕ → Finding
-countSessions limit t = findIn limit t (some (length (viewSessions t)))
+unfoldable pub countSessions : List ℕ → Finding
+countSessions t = findIn t (some (length (viewSessions t)))
 
-unfoldable pub findSession : ℕ → List ℕ → ℕ → Finding
-findSession limit t seid = findIn limit t (sessionPlace seid (viewSessions t))
+unfoldable pub findSession : List ℕ → ℕ → Finding
+findSession t seid = findIn t (sessionPlace seid (viewSessions t))
 
-unfoldable pub findHolder : ℕ → List ℕ → ℕ → Finding
-findHolder limit t teid = findIn limit t (holderPlace teid (viewSessions t))
+unfoldable pub findHolder : List ℕ → ℕ → Finding
+findHolder t teid = findIn t (holderPlace teid (viewSessions t))
 
 unfoldable pub computing : ℕ
 unfolding placeFrom sessionPlace isHolder holderPlace findIn countSessions findSession findHolder

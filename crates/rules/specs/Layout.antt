@@ -1,8 +1,8 @@
 -- The table's octets: `encode` writes settings and sessions, `view` reads any octets back.
 -- The layout is the team's (01: "fixed by the team and written in docs/"); every number is big-endian, unused room is zero.
 --
---   table     settings 37, session count 2, limit session slots
---   settings  IPv4 4, IPv6 there 1, IPv6 16, first TEID 4, pool size 4, first address 4, number of addresses 4
+--   table     settings 39, session count 2, as many session slots as the settings' limit says
+--   settings  IPv4 4, IPv6 there 1, IPv6 16, first TEID 4, pool size 4, first address 4, number of addresses 4, session limit 2
 --   session   SEID 8, PDR count 1, endpoint count 1, FQ-CSID count 1, 16 PDR slots, 8 endpoint slots, 6 FQ-CSID slots
 --   PDR       ID 2, precedence 4, FAR there 1, FAR ID 4, source interface 1, place 1 (0 neither, 1 F-TEID, 2 endpoint),
 --             TEID 4, families 1 (V4 = 1, V6 = 2), endpoint ID 1, address there 1, address 4
@@ -12,7 +12,6 @@
 -- A PDR, an endpoint and an FQ-CSID are lists of fields: the widths, the numbers of a record and the record of numbers stand once each below;
 -- its octets, its view and its width follow.
 --
--- limit is the number of session slots: `maxSessions` in the product, fewer in the examples.
 -- Assumes nothing.
 use Prim.Native.Nat.{ℕ, _+_, _*_}
 use mathlib.Core.Bool.{not}
@@ -124,9 +123,9 @@ csidFrom vs =
 
 -- ---- widths and places
 
--- the settings: IPv4 address, whether there is an IPv6 address, that address, first TEID, pool size, first address, number of addresses
+-- the settings: IPv4 address, whether there is an IPv6 address, that address, first TEID, pool size, first address, number of addresses, session limit
 abbrev pub settingsWidths : List ℕ
-settingsWidths = 4 ∷ 1 ∷ 16 ∷ 4 ∷ 4 ∷ 4 ∷ 4 ∷ []
+settingsWidths = 4 ∷ 1 ∷ 16 ∷ 4 ∷ 4 ∷ 4 ∷ 4 ∷ 2 ∷ []
 
 abbrev pub settingsWidth : ℕ
 settingsWidth = widthOf settingsWidths
@@ -166,6 +165,7 @@ csidsAt = endpointsAt + maxEndpoints * endpointWidth
 abbrev pub sessionWidth : ℕ
 sessionWidth = csidsAt + nodeTypes * csidWidth
 
+-- a table's length follows from the session limit (02 (vi))
 abbrev pub tableLength : ℕ → ℕ
 tableLength limit = headWidth + limit * sessionWidth
 
@@ -192,10 +192,13 @@ sessionOctets x =
     ++ (area endpointOctets endpointWidth maxEndpoints (x .endpoints) ++ area csidOctets csidWidth nodeTypes (x .csids)))
 
 unfoldable pub settingsOctets : Settings → List ℕ
-settingsOctets s = s .ipv4 ++ (flag (not (isNil (s .ipv6))) ∷ padded 16 (s .ipv6) ++ (be 4 (s .first) ++ (be 4 (s .size) ++ (be 4 (s .firstAddress) ++ be 4 (s .addressCount)))))
+settingsOctets s =
+    s .ipv4
+    ++ (flag (not (isNil (s .ipv6)))
+    ∷ padded 16 (s .ipv6) ++ (be 4 (s .first) ++ (be 4 (s .size) ++ (be 4 (s .firstAddress) ++ (be 4 (s .addressCount) ++ be 2 (s .limit))))))
 
-unfoldable pub encode : ℕ → Settings → Sessions → List ℕ
-encode limit s m = settingsOctets s ++ (be 2 (length m) ++ area sessionOctets sessionWidth limit m)
+unfoldable pub encode : Settings → Sessions → List ℕ
+encode s m = settingsOctets s ++ (be 2 (length m) ++ area sessionOctets sessionWidth (s .limit) m)
 
 -- ---- reading
 
@@ -230,6 +233,7 @@ viewSettings xs =
       size = numberAt 25 4 xs;
       firstAddress = numberAt 29 4 xs;
       addressCount = numberAt 33 4 xs;
+      limit = numberAt 37 2 xs;
     }
 
 unfoldable pub viewSessions : List ℕ → Sessions

@@ -2,9 +2,9 @@
 -- Assumes nothing.
 use Prim.Native.Nat.{ℕ}
 
--- sessions in a table
+-- sessions in a table: a unit's own limit, a setting, is at most this (02 (vi))
 abbrev pub maxSessions : ℕ
-maxSessions = 64
+maxSessions = 256
 
 -- PDRs in a session
 abbrev pub maxPdrs : ℕ
@@ -28,11 +28,11 @@ maxOperator = 999999
 
 -- TEIDs in the pool
 abbrev pub maxPool : ℕ
-maxPool = 4096
+maxPool = 65536
 
 -- words of 64 bits in the map of taken TEIDs
 abbrev pub mapWords : ℕ
-mapWords = 64
+mapWords = 1024
 
 -- IPv4 addresses in the pool (02 (v)), and words in the map of taken ones
 abbrev pub maxAddresses : ℕ

@@ -10,8 +10,8 @@ use Rattle.octets.specs.Lists.{distinct, without, range, keep, collect}
 
 -- ---- records
 
--- The settings: the unit's addresses (the IPv6 one empty where there is none), its pool of TEIDs, and its pool of IPv4 addresses for patients
--- (02 (v)), an address as a number.
+-- The settings: the unit's addresses (the IPv6 one empty where there is none), its pool of TEIDs, its pool of IPv4 addresses for patients
+-- (02 (v)), an address as a number, and how many sessions it has room for (02 (vi)).
 pub record Settings : Type 0 where
   pub ipv4 : List ℕ
   pub ipv6 : List ℕ
@@ -19,6 +19,7 @@ pub record Settings : Type 0 where
   pub size : ℕ
   pub firstAddress : ℕ
   pub addressCount : ℕ
+  pub limit : ℕ
 
 -- a held F-TEID: its addresses are the unit's
 pub record Tunnel : Type 0 where

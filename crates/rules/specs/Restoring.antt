@@ -49,9 +49,9 @@ writeInto request space =
     pick (ltb (length space) (length request)) (unwritten 4 space) (record { outcome = 0; used = length request; space = put 0 request space })
 
 -- a broken table 1, a place past the last session 2, no control-plane address 3, too little space 4; tested in this order
-unfoldable pub writeRestoration : ℕ → List ℕ → ℕ → List ℕ → List ℕ → List ℕ → Writing
-writeRestoration limit t place ipv4 ipv6 space =
-    pick (not (sound limit t)) (unwritten 1 space)
+unfoldable pub writeRestoration : List ℕ → ℕ → List ℕ → List ℕ → List ℕ → Writing
+writeRestoration t place ipv4 ipv6 space =
+    pick (not (sound t)) (unwritten 1 space)
     (pick (leb (length (viewSessions t)) place) (unwritten 2 space)
     (pick (not (addressed ipv4 ipv6)) (unwritten 3 space)
     (writeInto (restorationAt t place ipv4 ipv6) space)))

@@ -37,25 +37,25 @@ unfoldable pub replyTo : Settings → Sessions → List ℕ → Verdict → List
 replyTo s m msg v = reply s msg (readRequest msg .seid) v (reports (granted s m (readRequest msg)) (readRequest msg))
 
 -- outcome 0: a reply, and on cause 1 a changed table
-unfoldable pub answered : ℕ → Settings → Sessions → List ℕ → List ℕ → List ℕ → Verdict → Served
-answered limit s m msg space t v =
-    record { outcome = 0; place = v .place; space = put 0 (replyTo s m msg v) space; table = pick (eqb (v .cause) why.accepted) (encode limit s (sessionsAfter s m msg)) t }
+unfoldable pub answered : Settings → Sessions → List ℕ → List ℕ → List ℕ → Verdict → Served
+answered s m msg space t v =
+    record { outcome = 0; place = v .place; space = put 0 (replyTo s m msg v) space; table = pick (eqb (v .cause) why.accepted) (encode s (sessionsAfter s m msg)) t }
 
-unfoldable pub answer : ℕ → Settings → Sessions → List ℕ → List ℕ → List ℕ → Served
-answer limit s m msg space t = answered limit s m msg space t (verdict limit s m msg)
+unfoldable pub answer : Settings → Sessions → List ℕ → List ℕ → List ℕ → Served
+answer s m msg space t = answered s m msg space t (verdict s m msg)
 
 -- outcomes 2 to 5, of a table that is not broken
-unfoldable pub serveSound : ℕ → Settings → Sessions → List ℕ → List ℕ → List ℕ → Served
-serveSound limit s m t msg space =
+unfoldable pub serveSound : Settings → Sessions → List ℕ → List ℕ → List ℕ → Served
+serveSound s m t msg space =
     pick (ltb (length space) minSpace) (unserved 2 space t)
     (pick (ltb maxMessage (length msg)) (unserved 3 space t)
     (pick (not (headerAllowed msg)) (unserved 4 space t)
     (pick (not (served (kindOf msg))) (unserved 5 space t)
-    (answer limit s m msg space t))))
+    (answer s m msg space t))))
 
 -- the outcomes, tested in this order
-unfoldable pub serve : ℕ → List ℕ → List ℕ → List ℕ → Served
-serve limit t msg space = pick (sound limit t) (serveSound limit (viewSettings t) (viewSessions t) t msg space) (unserved 1 space t)
+unfoldable pub serve : List ℕ → List ℕ → List ℕ → Served
+serve t msg space = pick (sound t) (serveSound (viewSettings t) (viewSessions t) t msg space) (unserved 1 space t)
 
 unfoldable pub computing : ℕ
 unfolding sessionsAfter replyTo answered answer serveSound serve

@@ -10,20 +10,24 @@ use Rattle.octets.specs.Choice.{pick, allOf, isNil, sameBool, flag}
 use Rattle.octets.specs.Octets.{octets, sameOctets}
 use Rattle.octets.specs.Lists.{member, anyIn, ascending, all, allPairs}
 use Rattle.rules.specs.Model.{Settings, Tunnel, Place, neither, tunnel, endpoint, Pdr, Endpoint, Csid, Session, Sessions, Holding, sessionHoldings, sessionTeids, heldTeids, freeCount, sessionAddresses, heldAddresses, freeAddressCount, pdrId, endpointId, nodeTypeOf, seidOf}
-use Rattle.rules.specs.Limits.{maxPdrs, maxEndpoints, nodeTypes, maxPool, maxAddresses}
+use Rattle.rules.specs.Limits.{maxPdrs, maxEndpoints, nodeTypes, maxSessions, maxPool, maxAddresses}
 use Rattle.rules.specs.Elements.{nodeAddressAllowed, nodeTypeKept, below16}
 use Rattle.rules.specs.Layout.{tableLength, encode, viewSettings, viewSessions}
 use Rattle.rules.specs.Limits.{mapWords, addressWords}
 
 -- ---- settings
 
--- the first TEID at least 1, the size 1 to 4,096, the last TEID at most 4,294,967,295
+-- the first TEID at least 1, the size 1 to 65,536, the last TEID at most 4,294,967,295
 unfoldable pub poolTests : ℕ → ℕ → List Bool
 poolTests first size = leb 1 first ∷ leb 1 size ∷ leb size maxPool ∷ leb (first + size) (2 ^ 32) ∷ []
 
 -- the number of addresses 1 to 1,024, the last one at most 255.255.255.255 (02 (v))
 unfoldable pub addressPoolTests : ℕ → ℕ → List Bool
 addressPoolTests first count = leb 1 count ∷ leb count maxAddresses ∷ leb (first + count) (2 ^ 32) ∷ []
+
+-- room for 1 to 256 sessions (02 (vi))
+unfoldable pub limitTests : ℕ → List Bool
+limitTests limit = leb 1 limit ∷ leb limit maxSessions ∷ []
 
 unfoldable pub ipv6Allowed : List ℕ → Bool
 ipv6Allowed a = isNil a || eqb (length a) 16
@@ -36,6 +40,7 @@ settingsTests s =
     ∷ octets (s .ipv6)
     ∷ allOf (poolTests (s .first) (s .size))
     ∷ allOf (addressPoolTests (s .firstAddress) (s .addressCount))
+    ∷ allOf (limitTests (s .limit))
     ∷ []
 
 unfoldable pub settingsAllowed : Settings → Bool
@@ -129,32 +134,37 @@ sessionAllowed s x = allOf (sessionTests s x)
 unfoldable pub apart : Settings → Session → Session → Bool
 apart s x y = not (anyIn (sessionTeids x) (sessionTeids y)) && not (anyIn (sessionAddresses s x) (sessionAddresses s y))
 
-unfoldable pub sessionsTests : ℕ → Settings → Sessions → List Bool
-sessionsTests limit s m = leb (length m) limit ∷ ascending (map seidOf m) ∷ all (sessionAllowed s) m ∷ allPairs (apart s) m ∷ []
+unfoldable pub sessionsTests : Settings → Sessions → List Bool
+sessionsTests s m = leb (length m) (s .limit) ∷ ascending (map seidOf m) ∷ all (sessionAllowed s) m ∷ allPairs (apart s) m ∷ []
 
-unfoldable pub sessionsAllowed : ℕ → Settings → Sessions → Bool
-sessionsAllowed limit s m = allOf (sessionsTests limit s m)
+unfoldable pub sessionsAllowed : Settings → Sessions → Bool
+sessionsAllowed s m = allOf (sessionsTests s m)
 
 -- ---- tables
 
--- settings and records that keep the rules, in octets that are just what they encode to; anything else is 01's broken table
-unfoldable pub soundTests : ℕ → List ℕ → Settings → Sessions → List Bool
-soundTests limit t s m = eqb (length t) (tableLength limit) ∷ settingsAllowed s ∷ sessionsAllowed limit s m ∷ sameOctets (encode limit s m) t ∷ []
+-- as long as the limit of its settings says, settings and records that keep the rules, in octets that are just what they encode to; anything else
+-- is 01's broken table
+unfoldable pub soundTests : List ℕ → Settings → Sessions → List Bool
+soundTests t s m = eqb (length t) (tableLength (s .limit)) ∷ settingsAllowed s ∷ sessionsAllowed s m ∷ sameOctets (encode s m) t ∷ []
 
-unfoldable pub sound : ℕ → List ℕ → Bool
-sound limit t = allOf (soundTests limit t (viewSettings t) (viewSessions t))
+unfoldable pub sound : List ℕ → Bool
+sound t = allOf (soundTests t (viewSettings t) (viewSessions t))
 
 -- ---- making an empty table
+
+-- how many octets a table of so many sessions has; 0 for a limit that is not allowed (02 (vi))
+unfoldable pub lengthFor : ℕ → ℕ
+lengthFor limit = pick (allOf (limitTests limit)) (tableLength limit) 0
 
 -- whether it was made, and the table's octets at exit
 pub record Made : Type 0 where
   pub made : Bool
   pub table : List ℕ
 
-unfoldable pub make : ℕ → Settings → List ℕ → Made
-make limit s t =
-    pick (settingsAllowed s && eqb (length t) (tableLength limit))
-    (record { made = true; table = encode limit s [] })
+unfoldable pub make : Settings → List ℕ → Made
+make s t =
+    pick (settingsAllowed s && eqb (length t) (tableLength (s .limit)))
+    (record { made = true; table = encode s [] })
     (record { made = false; table = t })
 
 -- ---- counting
@@ -164,12 +174,12 @@ pub data Count : Type 0 where
   broken : Count
   free : ℕ → Count
 
-unfoldable pub countFree : ℕ → List ℕ → Count
-countFree limit t = pick (sound limit t) (free (freeCount (viewSettings t) (viewSessions t))) broken
+unfoldable pub countFree : List ℕ → Count
+countFree t = pick (sound t) (free (freeCount (viewSettings t) (viewSessions t))) broken
 
 -- the same for the addresses of the pool (02 (v))
-unfoldable pub countAddresses : ℕ → List ℕ → Count
-countAddresses limit t = pick (sound limit t) (free (freeAddressCount (viewSettings t) (viewSessions t))) broken
+unfoldable pub countAddresses : List ℕ → Count
+countAddresses t = pick (sound t) (free (freeAddressCount (viewSettings t) (viewSessions t))) broken
 
 -- ---- the maps of what is taken
 
@@ -196,5 +206,5 @@ unfoldable pub addressMap : Settings → Sessions → List ℕ
 addressMap s m = takenWords (s .firstAddress) (heldAddresses s m) addressWords 0
 
 unfoldable pub computing : ℕ
-unfolding poolTests addressPoolTests ipv6Allowed settingsTests settingsAllowed inPool unitFamilies tunnelTests tunnelAllowed placeAllowed farAllowed addressAllowed pdrTests pdrAllowed endpointTests endpointAllowed csidTests csidAllowed sessionTests shareTests agree sessionAllowed apart sessionsTests sessionsAllowed soundTests sound make countFree countAddresses taken takenBits takenWords takenMap addressMap
+unfolding poolTests addressPoolTests limitTests ipv6Allowed settingsTests settingsAllowed inPool unitFamilies tunnelTests tunnelAllowed placeAllowed farAllowed addressAllowed pdrTests pdrAllowed endpointTests endpointAllowed csidTests csidAllowed sessionTests shareTests agree sessionAllowed apart sessionsTests sessionsAllowed soundTests sound lengthFor make countFree countAddresses taken takenBits takenWords takenMap addressMap
 computing = 0

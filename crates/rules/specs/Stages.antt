@@ -231,8 +231,8 @@ breaksRule s m x r = oneOf (brokenRules s m x r)
 
 -- ---- stage 5, cause 75
 
-unfoldable pub tooManySessions : ℕ → ℕ → Sessions → Bool
-tooManySessions limit kind m = eqb kind establishment && leb limit (length m)
+unfoldable pub tooManySessions : Settings → ℕ → Sessions → Bool
+tooManySessions s kind m = eqb kind establishment && leb (s .limit) (length m)
 
 unfoldable pub tooManyPdrs : Session → Request → Bool
 tooManyPdrs x r = ltb maxPdrs (length (x .pdrs) - length (removedPdrs r (x .pdrs)) + length (r .pdrs))
@@ -243,8 +243,8 @@ tooManyEndpoints x r = ltb maxEndpoints (length (x .endpoints) - length (r .gone
 unfoldable pub tooFewTeids : Settings → Sessions → Request → Bool
 tooFewTeids s m r = ltb (freeCount s m) (need r)
 
-unfoldable pub noRoom : ℕ → ℕ → Settings → Sessions → Session → Request → Bool
-noRoom limit kind s m x r = oneOf (tooManySessions limit kind m ∷ tooManyPdrs x r ∷ tooManyEndpoints x r ∷ tooFewTeids s m r ∷ [])
+unfoldable pub noRoom : ℕ → Settings → Sessions → Session → Request → Bool
+noRoom kind s m x r = oneOf (tooManySessions s kind m ∷ tooManyPdrs x r ∷ tooManyEndpoints x r ∷ tooFewTeids s m r ∷ [])
 
 -- ---- stage 5, cause 79, after 75 (02 (v))
 
@@ -264,38 +264,38 @@ abbrev pub plain : ℕ → Verdict
 plain c = record { cause = c; offending = none; place = 0 }
 
 -- stages 4 to 6, of a request without a fault
-unfoldable pub judge : ℕ → ℕ → Settings → Sessions → Session → Request → Verdict
-judge limit kind s m x r =
+unfoldable pub judge : ℕ → Settings → Sessions → Session → Request → Verdict
+judge kind s m x r =
     pick (eqb kind establishment && isLive (r .seid) m) (plain why.rejected)
     (pick (invalidAllocation r) (plain why.wrongAllocation)
     (pick (r .unsupported) (plain why.notSupported)
     (pick (breaksRule s m x r) (plain why.brokenRule)
-    (pick (noRoom limit kind s m x r) (plain why.noRoom)
+    (pick (noRoom kind s m x r) (plain why.noRoom)
     (pick (noAddress s m r) (plain why.noAddress) (plain why.accepted))))))
 
 -- the session at entry, in a request without a fault
 unfoldable pub entrySession : Sessions → List ℕ → Session
 entrySession m msg = atEntry (kindOf msg) (headerSeid msg) (readRequest msg) m
 
-unfoldable pub judged : ℕ → Settings → Sessions → List ℕ → Verdict
-judged limit s m msg = judge limit (kindOf msg) s m (entrySession m msg) (readRequest msg)
+unfoldable pub judged : Settings → Sessions → List ℕ → Verdict
+judged s m msg = judge (kindOf msg) s m (entrySession m msg) (readRequest msg)
 
 -- stage 3, then 4 to 6
-unfoldable pub fromReading : ℕ → Settings → Sessions → List ℕ → Option Fault → Verdict
-fromReading limit s m msg none = judged limit s m msg
-fromReading limit s m msg (some f) = record { cause = causeOf (f .cause); offending = some (f .type); place = f .place }
+unfoldable pub fromReading : Settings → Sessions → List ℕ → Option Fault → Verdict
+fromReading s m msg none = judged s m msg
+fromReading s m msg (some f) = record { cause = causeOf (f .cause); offending = some (f .type); place = f .place }
 
 -- stage 2, then 3 to 6
-unfoldable pub fromFraming : ℕ → Settings → Sessions → List ℕ → Option Spot → Verdict
-fromFraming limit s m msg none = fromReading limit s m msg (readFault msg)
-fromFraming limit s m msg (some f) = record { cause = why.wrongLength; offending = some (f .type); place = f .place }
+unfoldable pub fromFraming : Settings → Sessions → List ℕ → Option Spot → Verdict
+fromFraming s m msg none = fromReading s m msg (readFault msg)
+fromFraming s m msg (some f) = record { cause = why.wrongLength; offending = some (f .type); place = f .place }
 
 -- stage 1: no such session
 unfoldable pub unknownSession : Sessions → List ℕ → Bool
 unknownSession m msg = not (unnamed (kindOf msg)) && not (isLive (headerSeid msg) m)
 
-unfoldable pub verdict : ℕ → Settings → Sessions → List ℕ → Verdict
-verdict limit s m msg = pick (unknownSession m msg) (plain why.noSession) (fromFraming limit s m msg (frameFault msg))
+unfoldable pub verdict : Settings → Sessions → List ℕ → Verdict
+verdict s m msg = pick (unknownSession m msg) (plain why.noSession) (fromFraming s m msg (frameFault msg))
 
 unfoldable pub computing : ℕ
 unfolding hasSeid sessionOf isLive newSession unnamed atEntry createdPdrs createdEndpoints updatedPdrs livePdrs liveEndpoints namesOneOf goesPdr removedPdrs fteidsOf addressesOf wrongAllocation invalidAllocation idTwice createdLive absentId updatesRemoved namesBoth endpointIdsAfter namesAbsent sameChoice alikeFteids fteidsMayShare localsMayShare choicesAgree lacksFamily otherAddress strange restoredHolding endpointRestored pdrRestored restoredHoldings clash wrongAddress restoredAddresses addressClash requestRules brokenRules breaksRule tooManySessions tooManyPdrs tooManyEndpoints tooFewTeids noRoom noAddress judge entrySession judged fromReading fromFraming unknownSession verdict

@@ -3,7 +3,7 @@
 use Prim.Native.Nat.{ℕ, _+_}
 use Rattle.areas.specs.declared.Area.{Area}
 use Rattle.rules.specs.Layout.{settingsWidth, pdrWidth, csidWidth, endpointsAt, csidsAt, sessionWidth, pdrCountAt, endpointCountAt, csidCountAt, endpointWidth, pdrsAt}
-use Rattle.rules.specs.Limits.{maxSessions, maxPdrs, maxEndpoints, nodeTypes}
+use Rattle.rules.specs.Limits.{maxPdrs, maxEndpoints, nodeTypes}
 
 abbrev pub pdrArea : Area
 pdrArea = record { «count_at» = pdrCountAt; «count_width» = 1; at = pdrsAt; room = maxPdrs; width = pdrWidth; key = 2 }
@@ -18,6 +18,6 @@ csidArea = record { «count_at» = csidCountAt; «count_width» = 1; at = csidsA
 abbrev pub sessionArea : ℕ → ℕ → Area
 sessionArea room base = record { «count_at» = base; «count_width» = 2; at = base + 2; room = room; width = sessionWidth; key = 8 }
 
--- the table's sessions stand after the settings
-abbrev pub tableArea : Area
-tableArea = sessionArea maxSessions settingsWidth
+-- a table's sessions stand after the settings; room: its session limit
+abbrev pub tableArea : ℕ → Area
+tableArea room = sessionArea room settingsWidth

@@ -1,25 +1,25 @@
 -- The sessions that go, one after the other. Assumes nothing.
 use mathlib.Core.Path.{_≡_, refl, sym, ap, ap₂, _∙_, subst}
-use Prim.Native.Nat.{ℕ, zero, suc, _+_, _-_, _*_, _≤_, _<_, _^_}
+use Prim.Native.Nat.{ℕ, zero, suc, _+_, _-_, _*_, _≤_, _<_}
 use native.Mathlib.Nat.{le-refl}
 use native.Mathlib.Omega.{arith}
 use mathlib.Core.Bool.{Bool, true, false, not, _&&_, _||_}
 use mathlib.Core.List.{List, [], _∷_, _++_, map}
 use lib.ListN.{length, take, drop, getD}
-use lib.Dec.{T, lit<, leb→le, leb, eqb}
+use lib.Dec.{T, leb→le}
 use borrow.Author.Tests.{eq-eqb, ne-eqb, le-leb, lt-leb}
 use Rattle.octets.specs.Choice.{pick}
-use Rattle.octets.specs.Octets.{octetAt, be, part, number}
+use Rattle.octets.specs.Octets.{octetAt, be, part, number, numberAt}
 use Rattle.octets.specs.Lists.{keep, any, all, ascending}
 use Rattle.octets.proofs.Tests.{all-head, all-tail, ascending-head, ascending-tail}
-use Rattle.rules.specs.Limits.{maxSessions, nodeTypes}
+use Rattle.rules.specs.Limits.{nodeTypes}
 use Rattle.rules.specs.Model.{Settings, Session, Sessions, seidOf}
-use Rattle.rules.specs.Layout.{csidCountAt, sessionOctets, viewSession, viewSettings, viewSessions, encode, headWidth, sessionWidth, tableLength}
+use Rattle.rules.specs.Layout.{csidCountAt, sessionOctets, viewSession, viewSettings, viewSessions, encode, headWidth, sessionWidth, tableLength, settingsWidth}
 use Rattle.rules.specs.Sound.{settingsAllowed, sessionAllowed, sessionsAllowed}
 use Rattle.rules.specs.Sound as rules
 use Rattle.rules.specs.Elements.{Fqcsid}
 use Rattle.rules.specs.Message.{elements, listPlace}
-use Rattle.rules.specs.Reading.{Reading, done, listRead}
+use Rattle.rules.specs.Reading.{done, listRead}
 use Rattle.rules.specs.Stages.{hasSeid, newSession}
 use Rattle.rules.specs.Apply.{coversSession, goesSession, staysSession, otherSession, removeSession}
 use Rattle.laws.proofs.LayoutLaws.{session-back}
@@ -28,7 +28,6 @@ use Rattle.claim.proofs.KeptRules.{session-kept, sessions-kept}
 use Rattle.claim.proofs.After.{keep-allowed, remove-allowed}
 use Rattle.claim.proofs.ServeLaws.{table-kept}
 use Rattle.slots.specs.Records.{keyOf, lookupFrom, lookup}
-use Rattle.slots.specs.declared.Place.{Place}
 use Rattle.slots.specs.declared.Place.the-variants.{Found}
 use Rattle.slots.proofs.Places.{removeAt, remove-found}
 use Rattle.areas.specs.Counted.{countIn, withoutRecord, areaIn}
@@ -45,23 +44,27 @@ use lib.Seq.{take-take}
 
 pub record Encodes (s : Settings) (m : Sessions) (t : List ℕ) : Type 0 where
   pub settings : T (settingsAllowed s)
-  pub sessions : T (sessionsAllowed maxSessions s m)
-  pub octets : t ≡ encode maxSessions s m
+  pub sessions : T (sessionsAllowed s m)
+  pub octets : t ≡ encode s m
 
 pub sound-encodes : {t : List ℕ} → Sound t → Encodes (viewSettings t) (viewSessions t) t
-sound-encodes {t} h = let k = table-kept maxSessions t (h .sound) in record { settings = k .settings; sessions = k .sessions; octets = sym (k .encoded) }
+sound-encodes {t} h = let k = table-kept t (h .sound) in record { settings = k .settings; sessions = k .sessions; octets = sym (k .encoded) }
 
 module _ {s : Settings} {m : Sessions} {t : List ℕ} (h : Encodes s m t) where
   pub encodes-sound : Sound t
   encodes-sound =
-      let k : T (rules.sound maxSessions t) = subst (λ (l : List ℕ). T (rules.sound maxSessions l)) (sym (h .octets)) (sound-encode s (h .settings) maxSessions (lit< tt) m (h .sessions)) in
-      record { sound = k; long = table-kept maxSessions t k .whole }
+      let k : T (rules.sound t) = subst (λ (l : List ℕ). T (rules.sound l)) (sym (h .octets)) (sound-encode s (h .settings) m (h .sessions)) in
+      record { sound = k; long = table-kept t k .whole }
 
   pub settings-are : viewSettings t ≡ s
-  settings-are = ap viewSettings (h .octets) ∙ encoded-settings s (h .settings) maxSessions (lit< tt) m (h .sessions)
+  settings-are = ap viewSettings (h .octets) ∙ encoded-settings s (h .settings) m (h .sessions)
 
   pub sessions-are : viewSessions t ≡ m
-  sessions-are = ap viewSessions (h .octets) ∙ sessions-back s (h .settings) maxSessions (lit< tt) m (h .sessions)
+  sessions-are = ap viewSessions (h .octets) ∙ sessions-back s (h .settings) m (h .sessions)
+
+  -- as long as the session limit says
+  pub encodes-long : length t ≡ tableLength (s .limit)
+  encodes-long = encodes-sound .long ∙ ap (λ (x : Settings). tableLength (x .limit)) settings-are
 
 -- ---- places
 
@@ -114,72 +117,72 @@ module _ {s : Settings} {m : Sessions} {t : List ℕ} (h : Encodes s m t) (p : �
   x = getD m p (newSession 0)
 
   allowed : T (sessionAllowed s x)
-  allowed = known s m p (newSession 0) (sessions-kept maxSessions s m (h .sessions) .sessions) less
+  allowed = known s m p (newSession 0) (sessions-kept s m (h .sessions) .sessions) less
 
-  slot-is : slotAt p t ≡ sessionOctets x
+  slot-is : slotAt (s .limit) p t ≡ sessionOctets x
   unfolding slotAt
   slot-is = rw (h .octets) (session-at s (h .settings) m (h .sessions) p (newSession 0) less)
 
-  pub slot-few : octetAt (slotAt p t) csidCountAt ≤ nodeTypes
+  pub slot-few : octetAt (slotAt (s .limit) p t) csidCountAt ≤ nodeTypes
   slot-few = rw (slot-is, csids-counted x) (leb→le (length (x .csids)) nodeTypes (session-kept s x allowed .fewCsids))
 
-  pub place-room : p < maxSessions
-  place-room = let f = leb→le (length m) maxSessions (sessions-kept maxSessions s m (h .sessions) .few) in omega arith
+  pub place-room : p < s .limit
+  place-room = let f = leb→le (length m) (s .limit) (sessions-kept s m (h .sessions) .few) in omega arith
 
   -- with it, or without
-  pub one-after : (l : Fqcsid) → Encodes s (pick (coversSession x l) (removeAt p m) m) (afterOne p l t)
+  pub one-after : (l : Fqcsid) → Encodes s (pick (coversSession x l) (removeAt p m) m) (afterOne (s .limit) p l t)
   unfolding afterOne
   one-after l =
-      subst (λ (y : List ℕ). Encodes s (pick (coversSession x l) (removeAt p m) m) (pick (coversSession (viewSession y) l) (withoutRecord tableArea (keyOf 8 y) t) t)) (sym slot-is)
-      (subst (λ (y : Session). Encodes s (pick (coversSession x l) (removeAt p m) m) (pick (coversSession y l) (withoutRecord tableArea (keyOf 8 (sessionOctets x)) t) t)) (sym (session-back s (h .settings) x allowed))
+      subst (λ (y : List ℕ). Encodes s (pick (coversSession x l) (removeAt p m) m) (pick (coversSession (viewSession y) l) (withoutRecord (tableArea (s .limit)) (keyOf 8 y) t) t)) (sym slot-is)
+      (subst (λ (y : Session). Encodes s (pick (coversSession x l) (removeAt p m) m) (pick (coversSession y l) (withoutRecord (tableArea (s .limit)) (keyOf 8 (sessionOctets x)) t) t)) (sym (session-back s (h .settings) x allowed))
       (go (coversSession x l)))
     where
       gone : removeSession (x .seid) m ≡ removeAt p m
-      gone = remove-place m p (newSession 0) (sessions-kept maxSessions s m (h .sessions) .order) less
+      gone = remove-place m p (newSession 0) (sessions-kept s m (h .sessions) .order) less
 
-      go : (b : Bool) → Encodes s (pick b (removeAt p m) m) (pick b (withoutRecord tableArea (keyOf 8 (sessionOctets x)) t) t)
+      go : (b : Bool) → Encodes s (pick b (removeAt p m) m) (pick b (withoutRecord (tableArea (s .limit)) (keyOf 8 (sessionOctets x)) t) t)
       go true =
           record {
             settings = h .settings;
-            sessions = subst (λ (l : Sessions). T (sessionsAllowed maxSessions s l)) gone (remove-allowed maxSessions s (x .seid) m (h .sessions));
-            octets = ap₂ (λ (n : ℕ) (u : List ℕ). withoutRecord tableArea n u) (good s (h .settings) x allowed .1) (h .octets)
-                ∙ session-removed s (h .settings) m (h .sessions) (x .seid) ∙ ap (encode maxSessions s) gone;
+            sessions = subst (λ (l : Sessions). T (sessionsAllowed s l)) gone (remove-allowed s (x .seid) m (h .sessions));
+            octets = ap₂ (λ (n : ℕ) (u : List ℕ). withoutRecord (tableArea (s .limit)) n u) (good s (h .settings) x allowed .1) (h .octets)
+                ∙ session-removed s (h .settings) m (h .sessions) (x .seid) ∙ ap (encode s) gone;
           }
       go false = h
 
 -- ---- one place of any table
 
-module _ (p : ℕ) (t : List ℕ) (long : length t ≡ tableLength maxSessions) (less : p < maxSessions) where
-  part-is : part (headWidth + p * sessionWidth) sessionWidth t ≡ slotAt p t
+module _ (room p : ℕ) (t : List ℕ) (long : length t ≡ tableLength room) (less : p < room) where
+  part-is : part (headWidth + p * sessionWidth) sessionWidth t ≡ slotAt room p t
   unfolding slotAt areaIn
-  part-is = sym (part-part headWidth (maxSessions * sessionWidth) (p * sessionWidth) sessionWidth t (omega arith))
+  part-is = sym (part-part headWidth (room * sessionWidth) (p * sessionWidth) sessionWidth t (omega arith))
 
   abbrev slice : List ℕ
   slice = take (headWidth + p * sessionWidth + sessionWidth - (headWidth + p * sessionWidth)) (drop (headWidth + p * sessionWidth) t)
 
-  slice-is : slice ≡ slotAt p t
+  slice-is : slice ≡ slotAt room p t
   slice-is = let e : headWidth + p * sessionWidth + sessionWidth - (headWidth + p * sessionWidth) ≡ sessionWidth = omega arith in rw e part-is
 
   pub slot-long : length (take (headWidth + p * sessionWidth + sessionWidth - (headWidth + p * sessionWidth)) (drop (headWidth + p * sessionWidth) t)) ≡ sessionWidth
   slot-long = rw (slice-is, ← part-is) (length-part (headWidth + p * sessionWidth) sessionWidth t (omega arith))
 
-  pub slot-count : octetAt (slotAt p t) csidCountAt ≤ nodeTypes → octetAt (take (headWidth + p * sessionWidth + sessionWidth - (headWidth + p * sessionWidth)) (drop (headWidth + p * sessionWidth) t)) csidCountAt ≤ nodeTypes
+  pub slot-count : octetAt (slotAt room p t) csidCountAt ≤ nodeTypes → octetAt (take (headWidth + p * sessionWidth + sessionWidth - (headWidth + p * sessionWidth)) (drop (headWidth + p * sessionWidth) t)) csidCountAt ≤ nodeTypes
   slot-count h = rw slice-is h
 
-  pub slot-here : (v : List ℕ) {r : Bool} → r ≡ coversSession (viewSession (take (headWidth + p * sessionWidth + sessionWidth - (headWidth + p * sessionWidth)) (drop (headWidth + p * sessionWidth) t))) (listedIn v) → r ≡ coversSession (viewSession (slotAt p t)) (listedIn v)
+  pub slot-here : (v : List ℕ) {r : Bool} → r ≡ coversSession (viewSession (take (headWidth + p * sessionWidth + sessionWidth - (headWidth + p * sessionWidth)) (drop (headWidth + p * sessionWidth) t))) (listedIn v) → r ≡ coversSession (viewSession (slotAt room p t)) (listedIn v)
   slot-here v h = h ∙ ap (λ (y : List ℕ). coversSession (viewSession y) (listedIn v)) slice-is
 
-  module _ (v : List ℕ) {b : Bool} (is : b ≡ coversSession (viewSession (slotAt p t)) (listedIn v)) where
-    pub stays-one : b ≡ false → t ≡ afterOne p (listedIn v) t
+  module _ (v : List ℕ) {b : Bool} (is : b ≡ coversSession (viewSession (slotAt room p t)) (listedIn v)) where
+    pub stays-one : b ≡ false → t ≡ afterOne room p (listedIn v) t
     unfolding afterOne
     stays-one e = rw (← is, e)
 
-    pub goes-one : b ≡ true → (n : ℕ) {t′ : List ℕ} → n ≡ number (part (headWidth + p * sessionWidth) 8 t) → t′ ≡ withoutRecord tableArea n t → t′ ≡ afterOne p (listedIn v) t
+    pub goes-one : b ≡ true → (n : ℕ) {t′ : List ℕ} → n ≡ number (part (headWidth + p * sessionWidth) 8 t) → t′ ≡ withoutRecord (tableArea room) n t → t′ ≡ afterOne room p (listedIn v) t
     unfolding afterOne keyOf
     goes-one e n k h =
-        let front : number (part (headWidth + p * sessionWidth) 8 t) ≡ number (take 8 (slotAt p t)) =
+        let front : number (part (headWidth + p * sessionWidth) 8 t) ≡ number (take 8 (slotAt room p t)) =
         ap number (sym (take-take 8 sessionWidth (drop (headWidth + p * sessionWidth) t) (omega arith)) ∙ ap (take 8) part-is) in
-        h ∙ rw (← is, e) (ap (λ (i : ℕ). withoutRecord tableArea i t) (k ∙ front))
+        h ∙ rw (← is, e) (ap (λ (i : ℕ). withoutRecord (tableArea room) i t) (k ∙ front))
 
 -- ---- from the last place to the first
 
@@ -213,20 +216,30 @@ half-next q zero (x ∷ m) d l false e = rw e
 half-next q (suc n) (x ∷ m) d l true e = ap (λ (y : Sessions). x ∷ y) (half-next q n m d (omega arith) true e)
 half-next q (suc n) (x ∷ m) d l false e = ap (λ (y : Sessions). x ∷ y) (half-next q n m d (omega arith) false e)
 
-pub record Going (t₀ v t : List ℕ) (p : ℕ) : Type 0 where
+pub record Going (t₀ v t : List ℕ) (room p : ℕ) : Type 0 where
+  pub limit : room ≡ viewSettings t₀ .limit
   pub within : p ≤ length (viewSessions t₀)
   pub encodes : Encodes (viewSettings t₀) (half (stays (listedIn v)) p (viewSessions t₀)) t
 
-pub going-none : {t v : List ℕ} {n : ℕ} → Sound t → n ≡ countIn tableArea t → Going t v t n
-going-none {t} {v} {n} h e =
+read-limit : (t : List ℕ) → viewSettings t .limit ≡ number (part 37 2 t)
+unfolding viewSettings numberAt
+read-limit t = refl
+
+pub count-room : {t : List ℕ} {room : ℕ} → Sound t → room ≡ number (part 37 2 t) → settingsWidth + 2 + room * sessionWidth ≤ length t
+count-room {t} {room} h r = let l = h .long in let e : room ≡ viewSettings t .limit = r ∙ sym (read-limit t) in omega arith
+
+pub going-none : {t v : List ℕ} {room n : ℕ} → Sound t → room ≡ number (part 37 2 t) → n ≡ countIn (tableArea room) t → Going t v t room n
+going-none {t} {v} {room} {n} h r e =
+    let l : room ≡ viewSettings t .limit = r ∙ sym (read-limit t) in
     let k = sound-encodes h in
-    let c : n ≡ length (viewSessions t) = e ∙ ap (countIn tableArea) (k .octets) ∙ sessions-counted (viewSettings t) (k .settings) (viewSessions t) (k .sessions) in
+    let c : n ≡ length (viewSessions t) = e ∙ ap (λ (i : ℕ). countIn (tableArea i) t) l ∙ ap (countIn (tableArea (viewSettings t .limit))) (k .octets) ∙ sessions-counted (viewSettings t) (k .settings) (viewSessions t) (k .sessions) in
     record {
+      limit = l;
       within = omega arith;
       encodes = subst (λ (m : Sessions). Encodes (viewSettings t) m t) (sym (ap (λ (i : ℕ). half (stays (listedIn v)) i (viewSessions t)) c ∙ all-taken (stays (listedIn v)) (viewSessions t))) k;
     }
 
-module _ {t₀ v t : List ℕ} {p : ℕ} (g : Going t₀ v t p) (more : 0 < p) where
+module _ {t₀ v t : List ℕ} {room p : ℕ} (g : Going t₀ v t room p) (more : 0 < p) where
   abbrev at : ℕ
   at = p - 1
 
@@ -236,20 +249,21 @@ module _ {t₀ v t : List ℕ} {p : ℕ} (g : Going t₀ v t p) (more : 0 < p) w
   low : at < length (viewSessions t₀)
   low = let w = g .within in omega arith
 
-  pub going-place : p - 1 < maxSessions
-  going-place = place-room here at (half-long (stays (listedIn v)) at (viewSessions t₀) low)
+  pub going-place : p - 1 < room
+  going-place = rw (g .limit) (place-room here at (half-long (stays (listedIn v)) at (viewSessions t₀) low))
 
-  pub going-few : octetAt (slotAt (p - 1) t) csidCountAt ≤ nodeTypes
-  going-few = slot-few here at (half-long (stays (listedIn v)) at (viewSessions t₀) low)
+  pub going-few : octetAt (slotAt room (p - 1) t) csidCountAt ≤ nodeTypes
+  going-few = rw (g .limit) (slot-few here at (half-long (stays (listedIn v)) at (viewSessions t₀) low))
 
-  pub going-more : {t′ : List ℕ} → t′ ≡ afterOne (p - 1) (listedIn v) t → Going t₀ v t′ (p - 1)
+  pub going-more : {t′ : List ℕ} → t′ ≡ afterOne room (p - 1) (listedIn v) t → Going t₀ v t′ room (p - 1)
   going-more {t′} e =
       let l = listedIn v in
       let m = viewSessions t₀ in
       let k = one-after here at (half-long (stays l) at m low) l in
       record {
+        limit = g .limit;
         within = let w = g .within in omega arith;
-        encodes = rw e (subst (λ (n : Sessions). Encodes (viewSettings t₀) n (afterOne (p - 1) l t)) same k);
+        encodes = rw (e, g .limit) (subst (λ (n : Sessions). Encodes (viewSettings t₀) n (afterOne (viewSettings t₀ .limit) (p - 1) l t)) same k);
       }
     where
       is-kept : (x : Session) → stays (listedIn v) x ≡ not (coversSession x (listedIn v))
@@ -267,14 +281,14 @@ module _ {t₀ v t : List ℕ} {p : ℕ} (g : Going t₀ v t p) (more : 0 < p) w
           ap (λ (x : Session). pick (coversSession x (listedIn v)) (removeAt at (half q (suc at) m)) (half q (suc at) m)) (half-at q at m (newSession 0) low)
           ∙ half-next q at m (newSession 0) low (coversSession (getD m at (newSession 0)) (listedIn v)) (is-kept (getD m at (newSession 0)))
 
-pub going-end : {t₀ v t : List ℕ} {p : ℕ} → Going t₀ v t p → p ≤ 0 → t ≡ encode maxSessions (viewSettings t₀) (keep (staysSession (listedIn v ∷ [])) (viewSessions t₀))
-going-end {t₀} {v} {t} {p} g h = let e : p ≡ 0 = omega arith in g .encodes .octets ∙ ap (λ (i : ℕ). encode maxSessions (viewSettings t₀) (half (stays (listedIn v)) i (viewSessions t₀))) e
+pub going-end : {t₀ v t : List ℕ} {room p : ℕ} → Going t₀ v t room p → p ≤ 0 → t ≡ encode (viewSettings t₀) (keep (staysSession (listedIn v ∷ [])) (viewSessions t₀))
+going-end {t₀} {v} {t} {room} {p} g h = let e : p ≡ 0 = omega arith in g .encodes .octets ∙ ap (λ (i : ℕ). encode (viewSettings t₀) (half (stays (listedIn v)) i (viewSessions t₀))) e
 
-pub going-same : {t₀ v t : List ℕ} {p : ℕ} → Going t₀ v t p → Sound t₀ → length t ≡ length t₀
-going-same g h = encodes-sound (g .encodes) .long ∙ sym (h .long)
+pub going-same : {t₀ v t : List ℕ} {room p : ℕ} → Going t₀ v t room p → Sound t₀ → length t ≡ length t₀
+going-same g h = encodes-long (g .encodes) ∙ sym (h .long)
 
-pub going-long : {t₀ v t : List ℕ} {p : ℕ} → Going t₀ v t p → Sound t
-going-long g = encodes-sound (g .encodes)
+pub going-long : {t₀ v t : List ℕ} {room p : ℕ} → Going t₀ v t room p → length t ≡ tableLength room
+going-long g = encodes-long (g .encodes) ∙ ap tableLength (sym (g .limit))
 
 -- ---- by one element, and by all
 
@@ -305,12 +319,12 @@ unfolding keep staysSession goesSession any
 keep-none [] = refl
 keep-none (x ∷ m) = ap (λ (l : Sessions). x ∷ l) (keep-none m)
 
-pub by-other : (t v : List ℕ) (k : ℕ) → Sound t → (k ≡ 65 → ⊥) → t ≡ encode maxSessions (viewSettings t) (keep (staysSession (listsIn k v)) (viewSessions t))
+pub by-other : (t v : List ℕ) (k : ℕ) → Sound t → (k ≡ 65 → ⊥) → t ≡ encode (viewSettings t) (keep (staysSession (listsIn k v)) (viewSessions t))
 unfolding listsIn
-by-other t v k h n = sound-encodes h .octets ∙ sym (rw (ne-eqb k 65 n) (ap (encode maxSessions (viewSettings t)) (keep-none (viewSessions t))))
+by-other t v k h n = sound-encodes h .octets ∙ sym (rw (ne-eqb k 65 n) (ap (encode (viewSettings t)) (keep-none (viewSessions t))))
 
-pub by-listed : (t v : List ℕ) (k : ℕ) {t′ : List ℕ} → k ≡ 65 → t′ ≡ encode maxSessions (viewSettings t) (keep (staysSession (listedIn v ∷ [])) (viewSessions t))
-    → t′ ≡ encode maxSessions (viewSettings t) (keep (staysSession (listsIn k v)) (viewSessions t))
+pub by-listed : (t v : List ℕ) (k : ℕ) {t′ : List ℕ} → k ≡ 65 → t′ ≡ encode (viewSettings t) (keep (staysSession (listedIn v ∷ [])) (viewSessions t))
+    → t′ ≡ encode (viewSettings t) (keep (staysSession (listsIn k v)) (viewSessions t))
 unfolding listsIn
 by-listed t v k e h = h ∙ rw (eq-eqb k 65 e)
 
@@ -328,6 +342,9 @@ module _ {t₀ s t rest : List ℕ} (l : Left t₀ s t rest) where
   pub left-sound : Sound t
   left-sound = encodes-sound (l .encodes)
 
+  pub left-same : Sound t₀ → length t ≡ length t₀
+  left-same h = encodes-long (l .encodes) ∙ sym (h .long)
+
   module _ {k e : ℕ} (f : Front rest k e) where
     abbrev value : List ℕ
     value = take (e - 4) (drop 4 rest)
@@ -338,7 +355,7 @@ module _ {t₀ s t rest : List ℕ} (l : Left t₀ s t rest) where
     pub left-sized : k ≡ 65 → Sized (take (e - 4) (drop 4 rest))
     left-sized is = listed-sized k (l .at) value (elements (l .at + e) (behind rest e)) fine-here is
 
-    pub left-more : {t′ : List ℕ} → t′ ≡ encode maxSessions (viewSettings t) (keep (staysSession (listsIn k (take (e - 4) (drop 4 rest)))) (viewSessions t)) → Left t₀ s t′ (behind rest e)
+    pub left-more : {t′ : List ℕ} → t′ ≡ encode (viewSettings t) (keep (staysSession (listsIn k (take (e - 4) (drop 4 rest)))) (viewSessions t)) → Left t₀ s t′ (behind rest e)
     left-more {t′} g =
         let cs = listsIn k value in
         let es = elements (l .at + e) (behind rest e) in
@@ -348,8 +365,8 @@ module _ {t₀ s t rest : List ℕ} (l : Left t₀ s t rest) where
           sessions = keep (staysSession cs) m;
           encodes = record {
             settings = l .encodes .settings;
-            sessions = keep-allowed maxSessions (viewSettings t₀) (staysSession cs) m (l .encodes .sessions);
-            octets = g ∙ ap₂ (λ (u : Settings) (n : Sessions). encode maxSessions u (keep (staysSession cs) n)) (settings-are (l .encodes)) (sessions-are (l .encodes));
+            sessions = keep-allowed (viewSettings t₀) (staysSession cs) m (l .encodes .sessions);
+            octets = g ∙ ap₂ (λ (u : Settings) (n : Sessions). encode u (keep (staysSession cs) n)) (settings-are (l .encodes)) (sessions-are (l .encodes));
           };
           fine = rest-fine k (l .at) value es fine-here;
           same =
@@ -358,6 +375,6 @@ module _ {t₀ s t rest : List ℕ} (l : Left t₀ s t rest) where
               ∙ l .same;
         }
 
-  pub left-end : ((at : ℕ) → elements at rest ≡ []) → t ≡ encode maxSessions (viewSettings t₀) (keep (staysSession (gotten (listRead (elements listPlace s)))) (viewSessions t₀))
+  pub left-end : ((at : ℕ) → elements at rest ≡ []) → t ≡ encode (viewSettings t₀) (keep (staysSession (gotten (listRead (elements listPlace s)))) (viewSessions t₀))
   unfolding listRead
-  left-end nil = l .encodes .octets ∙ ap (encode maxSessions (viewSettings t₀)) (sym (keep-none (l .sessions)) ∙ ap (λ es. keep (staysSession (gotten (listRead es))) (l .sessions)) (sym (nil (l .at))) ∙ l .same)
+  left-end nil = l .encodes .octets ∙ ap (encode (viewSettings t₀)) (sym (keep-none (l .sessions)) ∙ ap (λ es. keep (staysSession (gotten (listRead es))) (l .sessions)) (sym (nil (l .at))) ∙ l .same)

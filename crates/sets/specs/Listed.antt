@@ -7,8 +7,7 @@ use lib.Dec.{T, eqb}
 use lib.ListN.{length, drop, getD}
 use Rattle.octets.specs.Choice.{pick}
 use Rattle.octets.specs.Octets.{part}
-use Rattle.rules.specs.Limits.{maxSessions}
-use Rattle.rules.specs.Layout.{sessionWidth, tableLength, viewSession}
+use Rattle.rules.specs.Layout.{sessionWidth, tableLength, viewSession, viewSettings}
 use Rattle.rules.specs.Sound.{sound}
 use Rattle.rules.specs.Elements.{Fqcsid, sets, addressLength, csidsAt}
 use Rattle.rules.specs.Reading.{Reading, faulty, done, listedRead}
@@ -53,15 +52,15 @@ listsIn t v = pick (eqb t ie.fqcsid) (listedIn v ∷ []) []
 
 -- ---- the sessions
 
--- the slot at place p of a table
-unfoldable pub slotAt : ℕ → List ℕ → List ℕ
-slotAt p t = part (p * sessionWidth) sessionWidth (areaIn tableArea t)
+-- the slot at place p of a table with so much room
+unfoldable pub slotAt : ℕ → ℕ → List ℕ → List ℕ
+slotAt room p t = part (p * sessionWidth) sessionWidth (areaIn (tableArea room) t)
 
 -- the table without the session at place p, if that goes
-unfoldable pub afterOne : ℕ → Fqcsid → List ℕ → List ℕ
-afterOne p l t = pick (coversSession (viewSession (slotAt p t)) l) (withoutRecord tableArea (keyOf 8 (slotAt p t)) t) t
+unfoldable pub afterOne : ℕ → ℕ → Fqcsid → List ℕ → List ℕ
+afterOne room p l t = pick (coversSession (viewSession (slotAt room p t)) l) (withoutRecord (tableArea room) (keyOf 8 (slotAt room p t)) t) t
 
 -- a table that is not broken
 pub record Sound (t : List ℕ) : Type 0 where
-  pub sound : T (sound maxSessions t)
-  pub long : length t ≡ tableLength maxSessions
+  pub sound : T (sound t)
+  pub long : length t ≡ tableLength (viewSettings t .limit)

@@ -11,7 +11,7 @@ ghost use lib.ListN.{length};
 ghost use Rattle.octets.specs.Choice.{pick};
 ghost use Rattle.octets.specs.Octets.{octetAt};
 ghost use Rattle.octets.specs.Lists.{member, keep};
-ghost use Rattle.rules.specs.Limits.{maxSessions, maxMessage, nodeTypes};
+ghost use Rattle.rules.specs.Limits.{maxMessage, nodeTypes};
 ghost use Rattle.rules.specs.Layout.{tableLength, sessionWidth, csidWidth, csidCountAt, viewSession, viewCsid, viewSettings, viewSessions, encode};
 ghost use Rattle.rules.specs.Elements.{addressLength, csidsAt};
 ghost use Rattle.rules.specs.Message.{listPlace, elements};
@@ -20,9 +20,6 @@ ghost use Rattle.rules.specs.Apply.{covers, coversSession, staysSession};
 ghost use Rattle.reading.specs.Verdicts.{outcome, numbered};
 ghost use Rattle.sets.specs.Listed.{blank, gotten, listStep, listedIn, listsIn, Sized, slotAt, afterOne, Sound};
 ghost use Rattle.rules.specs.Types as ie;
-
-// The sessions of a table at most, as the room of their area, which begins at COUNT.
-const SESSIONS: usize = format::MAX_SESSIONS as usize;
 
 // ---- stage 3
 
@@ -133,10 +130,10 @@ fn covers_session(v: &[u8], slot: &[u8]) -> bool
 
 // ---- the sessions that go
 
-// Whether the session at place p goes.
-fn goes(t: &[u8], p: usize, v: &[u8]) -> bool
-    requires { ⌜ (length (now t) ≡ tableLength maxSessions) × (p < maxSessions) × (octetAt (slotAt p (now t)) csidCountAt ≤ nodeTypes) × Sized (now v) ⌝ }
-    ensures { λ r. ⌜ r ≡ coversSession (viewSession (slotAt p (now (t .entry)))) (listedIn (now (v .entry))) ⌝ }
+// Whether the session at place p goes; room is the table's session limit.
+fn goes(t: &[u8], room: usize, p: usize, v: &[u8]) -> bool
+    requires { ⌜ (length (now t) ≡ tableLength room) × (p < room) × (octetAt (slotAt room p (now t)) csidCountAt ≤ nodeTypes) × Sized (now v) ⌝ }
+    ensures { λ r. ⌜ r ≡ coversSession (viewSession (slotAt room p (now (t .entry)))) (listedIn (now (v .entry))) ⌝ }
 {
     let at = format::HEAD + p * format::SLOT;
     let end = at + format::SLOT;
@@ -144,33 +141,34 @@ fn goes(t: &[u8], p: usize, v: &[u8]) -> bool
 }
 
 // Takes the session at place p out if it goes.
-fn remove_one(t: &mut [u8], p: usize, v: &[u8])
-    requires { ⌜ (length (now t) ≡ tableLength maxSessions) × (p < maxSessions) × (octetAt (slotAt p (now t)) csidCountAt ≤ nodeTypes) × Sized (now v) ⌝ }
-    ensures { λ _. ⌜ now (t .exit) ≡ afterOne p (listedIn (now (v .entry))) (now (t .entry)) ⌝ }
+fn remove_one(t: &mut [u8], room: usize, p: usize, v: &[u8])
+    requires { ⌜ (length (now t) ≡ tableLength room) × (p < room) × (octetAt (slotAt room p (now t)) csidCountAt ≤ nodeTypes) × Sized (now v) ⌝ }
+    ensures { λ _. ⌜ now (t .exit) ≡ afterOne room p (listedIn (now (v .entry))) (now (t .entry)) ⌝ }
 {
-    if !goes(t, p, v) {
+    if !goes(t, room, p, v) {
         return;
     }
     let seid = octets::read(t, format::HEAD + p * format::SLOT, 8);
-    store::remove(t, SESSIONS, format::COUNT, seid);
+    store::remove(t, room, format::COUNT, seid);
 }
 
 // Takes out every session that the FQ-CSID of value v covers, from the last place to the first, so that no place moves before it is looked at.
 fn remove_covered(t: &mut [u8], v: &[u8])
     requires { ⌜ Sound (now t) × Sized (now v) ⌝ }
-    ensures { λ _. ⌜ now (t .exit) ≡ encode maxSessions (viewSettings (now (t .entry))) (keep (staysSession (listedIn (now (v .entry)) ∷ [])) (viewSessions (now (t .entry)))) ⌝ }
+    ensures { λ _. ⌜ now (t .exit) ≡ encode (viewSettings (now (t .entry))) (keep (staysSession (listedIn (now (v .entry)) ∷ [])) (viewSessions (now (t .entry)))) ⌝ }
 {
-    let mut p = store::count(t, SESSIONS, format::COUNT);
+    let room = octets::read(t, format::LIMIT, 2) as usize;
+    let mut p = store::count(t, room, format::COUNT);
     while 0 < p {
         p -= 1;
-        remove_one(t, p, v);
+        remove_one(t, room, p, v);
     }
 }
 
 // Takes out every session that goes by an element of type kind with the value v, which has no fault.
 fn remove_by(t: &mut [u8], kind: u64, v: &[u8])
     requires { ⌜ Sound (now t) × (kind ≡ ie.fqcsid → Sized (now v)) ⌝ }
-    ensures { λ _. ⌜ now (t .exit) ≡ encode maxSessions (viewSettings (now (t .entry))) (keep (staysSession (listsIn kind (now (v .entry)))) (viewSessions (now (t .entry)))) ⌝ }
+    ensures { λ _. ⌜ now (t .exit) ≡ encode (viewSettings (now (t .entry))) (keep (staysSession (listsIn kind (now (v .entry)))) (viewSessions (now (t .entry)))) ⌝ }
 {
     if kind != types::FQCSID {
         return;
@@ -181,7 +179,7 @@ fn remove_by(t: &mut [u8], kind: u64, v: &[u8])
 // Takes out every session that goes by the elements s of a set deletion, which have no fault.
 pub fn remove_listed(t: &mut [u8], s: &[u8])
     requires { ⌜ Sound (now t) × (blank (listRead (elements listPlace (now s))) ≡ done tt) ⌝ }
-    ensures { λ _. ⌜ now (t .exit) ≡ encode maxSessions (viewSettings (now (t .entry))) (keep (staysSession (gotten (listRead (elements listPlace (now (s .entry)))))) (viewSessions (now (t .entry)))) ⌝ }
+    ensures { λ _. ⌜ now (t .exit) ≡ encode (viewSettings (now (t .entry))) (keep (staysSession (gotten (listRead (elements listPlace (now (s .entry)))))) (viewSessions (now (t .entry)))) ⌝ }
 {
     let mut rest = s;
     loop {

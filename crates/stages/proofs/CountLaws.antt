@@ -2,7 +2,7 @@
 use mathlib.Core.Path.{_≡_, refl, sym, ap, _∙_}
 use mathlib.Core.Bool.{Bool, true, false, or-false, and-true, and-false}
 use mathlib.Core.List.{List, [], _∷_}
-use Prim.Native.Nat.{ℕ, zero, suc, _+_, _-_, _*_, _≤_, _<_}
+use Prim.Native.Nat.{ℕ, zero, suc, _+_, _-_, _≤_, _<_}
 use native.Mathlib.Omega.{arith}
 use lib.Dec.{ltb, leb}
 use lib.ListN.{length, drop, getD, length-map}
@@ -10,7 +10,6 @@ use borrow.Author.Tests.{ne-eqb}
 use Rattle.octets.specs.Choice.{pick, isNil}
 use Rattle.octets.specs.Octets.{number, numberAt, octetAt, part, slices}
 use Rattle.octets.specs.Lists.{any, keep}
-use Rattle.rules.specs.Limits.{maxSessions}
 use Rattle.rules.specs.Model.{Settings, Session, Sessions, freeCount, heldAddresses, freeAddresses, freeAddressCount}
 use Rattle.rules.specs.Elements.{ueChooses}
 use Rattle.rules.specs.Sound.{inPool}
@@ -23,6 +22,8 @@ use Rattle.rules.specs.Grants.{need}
 use Rattle.rules.specs.Reading.{Request}
 use Rattle.rules.specs.Stages.{removedPdrs, tooManySessions, tooManyPdrs, tooManyEndpoints, tooFewTeids, noRoom, addressesOf, noAddress}
 use Rattle.plan.specs.Rows.{rowWidth, tagged, hasTag, rowsOf, rowPdr, rowEndpoint, rowEndpointId, requestIn}
+use Rattle.unit.specs.declared.Settings.{Settings as Unit}
+use Rattle.unit.specs.Meaning.{settingsOf}
 use Rattle.rules.specs.Types as ie
 use Rattle.rules.specs.Message.{establishment}
 
@@ -50,13 +51,13 @@ pub session-count : (t : List ℕ) → length (viewSessions t) ≡ number (part 
 unfolding viewSessions viewArea numberAt
 session-count t = length-map (slices _ (number (part settingsWidth 2 t)) _) viewSession ∙ slices-length _ (number (part settingsWidth 2 t)) _
 
-pub full-other : (kind : ℕ) (m : Sessions) → (kind ≡ establishment → ⊥) → tooManySessions maxSessions kind m ≡ false
+pub full-other : (s : Settings) (kind : ℕ) (m : Sessions) → (kind ≡ establishment → ⊥) → tooManySessions s kind m ≡ false
 unfolding tooManySessions
-full-other kind m h = rw (ne-eqb kind establishment h)
+full-other s kind m h = rw (ne-eqb kind establishment h)
 
-pub full-new : (kind : ℕ) (t : List ℕ) (n : ℕ) → kind ≡ establishment → n ≡ number (part settingsWidth 2 t) → leb maxSessions n ≡ tooManySessions maxSessions kind (viewSessions t)
-unfolding tooManySessions
-full-new kind t n h e = rw (h, e, session-count t)
+pub full-new : (u : Unit) (kind : ℕ) (t : List ℕ) (n : ℕ) → kind ≡ establishment → n ≡ number (part settingsWidth 2 t) → leb (u .limit) n ≡ tooManySessions (settingsOf u) kind (viewSessions t)
+unfolding tooManySessions settingsOf
+full-new u kind t n h e = rw (h, e, session-count t)
 
 -- more removed than live
 pub too-many-none : (live limit g n : ℕ) → live < g → ltb limit n ≡ ltb limit (live - g + n)
@@ -78,22 +79,22 @@ module _ (slot : List ℕ) (seid : ℕ) (restoring noted : Bool) (rows : List (L
       rw (e, length-map (slices endpointWidth (getD slot endpointCountAt 0) (drop endpointsAt slot)) viewEndpoint, slices-length endpointWidth (getD slot endpointCountAt 0) (drop endpointsAt slot), length-map (tagged ie.removeEndpoint rows) rowEndpointId, length-map (tagged ie.createEndpoint rows) rowEndpoint)
 
 -- the tests one after the other
-module _ (limit kind : ℕ) (s : Settings) (m : Sessions) (x : Session) (r : Request) where
-  pub room-1 : tooManySessions limit kind m ≡ true → noRoom limit kind s m x r ≡ true
+module _ (kind : ℕ) (s : Settings) (m : Sessions) (x : Session) (r : Request) where
+  pub room-1 : tooManySessions s kind m ≡ true → noRoom kind s m x r ≡ true
   unfolding noRoom
   room-1 h = rw h
 
-  module _ (a : tooManySessions limit kind m ≡ false) where
-    pub room-2 : tooManyPdrs x r ≡ true → noRoom limit kind s m x r ≡ true
+  module _ (a : tooManySessions s kind m ≡ false) where
+    pub room-2 : tooManyPdrs x r ≡ true → noRoom kind s m x r ≡ true
     unfolding noRoom
     room-2 h = rw (a, h)
 
     module _ (b : tooManyPdrs x r ≡ false) where
-      pub room-3 : tooManyEndpoints x r ≡ true → noRoom limit kind s m x r ≡ true
+      pub room-3 : tooManyEndpoints x r ≡ true → noRoom kind s m x r ≡ true
       unfolding noRoom
       room-3 h = rw (a, b, h)
 
-      pub room-4 : (free n : ℕ) → tooManyEndpoints x r ≡ false → free ≡ freeCount s m → n ≡ need r → ltb free n ≡ noRoom limit kind s m x r
+      pub room-4 : (free n : ℕ) → tooManyEndpoints x r ≡ false → free ≡ freeCount s m → n ≡ need r → ltb free n ≡ noRoom kind s m x r
       unfolding noRoom tooFewTeids
       room-4 free n h f e = rw (a, b, h, f, e) (sym (or-false (ltb (freeCount s m) (need r))))
 

@@ -12,10 +12,10 @@ use Rattle.octets.specs.Lists.{keep}
 use Rattle.octets.proofs.Tests.{each}
 use Rattle.octets.proofs.Ordered.{keep-length}
 use Rattle.lists.proofs.Loops.{stored}
-use Rattle.rules.specs.Limits.{maxSessions, maxPdrs, maxEndpoints, maxPool, mapWords, addressWords}
+use Rattle.rules.specs.Limits.{maxPdrs, maxEndpoints, maxPool, mapWords, addressWords}
 use Rattle.rules.specs.Model.{Settings, Session, pdrId, heldTeids, freeCount, heldAddresses, freeAddressCount}
 use Rattle.rules.specs.Reading.{Request}
-use Rattle.rules.specs.Layout.{viewPdr, viewEndpoint, viewArea, viewSession, viewSettings, viewSessions, pdrWidth, endpointWidth, tableLength, headWidth, sessionWidth, pdrCountAt, endpointCountAt, pdrsAt}
+use Rattle.rules.specs.Layout.{viewPdr, viewEndpoint, viewArea, viewSession, viewSettings, viewSessions, pdrWidth, endpointWidth, tableLength, sessionWidth, pdrCountAt, endpointCountAt, pdrsAt}
 use Rattle.rules.specs.Sound.{sessionTests, sessionAllowed, poolTests, settingsTests, settingsAllowed, soundTests, sound}
 use Rattle.rules.specs.Stages.{newSession, isLive, goesPdr, removedPdrs}
 use Rattle.rules.specs.Message.{establishment}
@@ -83,7 +83,7 @@ pool-wide s words h e =
 
 -- ---- a sound table, with its maps and free counts
 
-pub at-entry : (s : Settings) (t taken addresses slot gone plan : List ℕ) (n free freed kind seid : ℕ) (live : Bool) → s ≡ viewSettings t → T (sound maxSessions t) → Slot slot → n * rowWidth ≤ length plan → Gone slot (rowsOf n plan) gone
+pub at-entry : (s : Settings) (t taken addresses slot gone plan : List ℕ) (n free freed kind seid : ℕ) (live : Bool) → s ≡ viewSettings t → T (sound t) → Slot slot → n * rowWidth ≤ length plan → Gone slot (rowsOf n plan) gone
     → length taken ≡ mapWords → Means (viewSettings t .first) taken (heldTeids (viewSessions t))
     → free ≡ freeCount (viewSettings t) (viewSessions t)
     → length addresses ≡ addressWords → Means (viewSettings t .firstAddress) addresses (heldAddresses (viewSettings t) (viewSessions t))
@@ -92,8 +92,8 @@ pub at-entry : (s : Settings) (t taken addresses slot gone plan : List ℕ) (n f
     → AtEntry s t taken addresses slot gone plan n free freed kind seid live
 unfolding sound soundTests
 at-entry s t taken addresses slot gone plan n free freed kind seid live same h place rows removed words means count wordsA meansA countA known =
-    let tests = each (soundTests maxSessions t (viewSettings t) (viewSessions t)) h in
-    let size : length t ≡ tableLength maxSessions = (eqb→eq (length t) (tableLength maxSessions) (tests .0)) in
+    let tests = each (soundTests t (viewSettings t) (viewSessions t)) h in
+    let size : length t ≡ tableLength (viewSettings t .limit) = (eqb→eq (length t) (tableLength (viewSettings t .limit)) (tests .0)) in
     subst (λ (x : Settings). AtEntry x t taken addresses slot gone plan n free freed kind seid live) (sym same)
     (record {
       long = omega arith;

@@ -7,7 +7,6 @@ use lib.Dec.{eqb, ltb}
 use borrow.Author.Tests.{eqb-true}
 use Rattle.octets.specs.Choice.{pick, oneOf, isNil}
 use Rattle.rules.specs.Model.{Settings, Session, Sessions, freeCount, freeAddresses}
-use Rattle.rules.specs.Limits.{maxSessions}
 use Rattle.rules.specs.Message.{establishment}
 use Rattle.rules.specs.Reading.{Request}
 use Rattle.rules.specs.Layout.{viewSession, viewSessions}
@@ -31,12 +30,12 @@ endpoints-same : (x : Session) (seid : ℕ) (restoring noted : Bool) (rows : Lis
 unfolding tooManyEndpoints requestIn
 endpoints-same x seid restoring noted rows = refl
 
-room-rows : (limit kind : ℕ) (s : Settings) (m : Sessions) (x : Session) (seid : ℕ) (restoring noted : Bool) (rows : List (List ℕ))
-    → noRoom limit kind s m x (requestIn 0 false false rows) ≡ noRoom limit kind s m x (requestIn seid restoring noted rows)
+room-rows : (kind : ℕ) (s : Settings) (m : Sessions) (x : Session) (seid : ℕ) (restoring noted : Bool) (rows : List (List ℕ))
+    → noRoom kind s m x (requestIn 0 false false rows) ≡ noRoom kind s m x (requestIn seid restoring noted rows)
 unfolding noRoom tooFewTeids
-room-rows limit kind s m x seid restoring noted rows =
+room-rows kind s m x seid restoring noted rows =
     let few : need (requestIn 0 false false rows) ≡ need (requestIn seid restoring noted rows) = need-rows 0 false false rows ∙ sym (need-rows seid restoring noted rows) in
-    λ i. oneOf (tooManySessions limit kind m ∷ pdrs-same x seid restoring noted rows i ∷ endpoints-same x seid restoring noted rows i ∷ ltb (freeCount s m) (few i) ∷ [])
+    λ i. oneOf (tooManySessions s kind m ∷ pdrs-same x seid restoring noted rows i ∷ endpoints-same x seid restoring noted rows i ∷ ltb (freeCount s m) (few i) ∷ [])
 
 -- and to cause 79
 address-same : (s : Settings) (m : Sessions) (seid : ℕ) (restoring noted : Bool) (rows : List (List ℕ)) → noAddress s m (requestIn 0 false false rows) ≡ noAddress s m (requestIn seid restoring noted rows)
@@ -49,12 +48,12 @@ address-same s m seid restoring noted rows =
 unfoldable pub chain : Bool → Bool → Bool → Bool → Bool → Bool → ℕ
 chain a b c d e f = pick a why.rejected (pick b why.wrongAllocation (pick c why.notSupported (pick d why.brokenRule (pick e why.noRoom (pick f why.noAddress why.accepted)))))
 
-judge-is : (limit kind : ℕ) (s : Settings) (m : Sessions) (x : Session) (r : Request) (seid : ℕ) → r .seid ≡ seid
-    → judge limit kind s m x r .cause ≡ chain (eqb kind establishment && isLive seid m) (invalidAllocation r) (r .unsupported) (breaksRule s m x r) (noRoom limit kind s m x r) (noAddress s m r)
+judge-is : (kind : ℕ) (s : Settings) (m : Sessions) (x : Session) (r : Request) (seid : ℕ) → r .seid ≡ seid
+    → judge kind s m x r .cause ≡ chain (eqb kind establishment && isLive seid m) (invalidAllocation r) (r .unsupported) (breaksRule s m x r) (noRoom kind s m x r) (noAddress s m r)
 unfolding judge chain
-judge-is limit kind s m x r seid h =
-    one (eqb kind establishment && isLive (r .seid) m) (invalidAllocation r) (r .unsupported) (breaksRule s m x r) (noRoom limit kind s m x r) (noAddress s m r)
-    ∙ ap (λ (k : ℕ). chain (eqb kind establishment && isLive k m) (invalidAllocation r) (r .unsupported) (breaksRule s m x r) (noRoom limit kind s m x r) (noAddress s m r)) h
+judge-is kind s m x r seid h =
+    one (eqb kind establishment && isLive (r .seid) m) (invalidAllocation r) (r .unsupported) (breaksRule s m x r) (noRoom kind s m x r) (noAddress s m r)
+    ∙ ap (λ (k : ℕ). chain (eqb kind establishment && isLive k m) (invalidAllocation r) (r .unsupported) (breaksRule s m x r) (noRoom kind s m x r) (noAddress s m r)) h
   where
     one : (a b c d e f : Bool) → pick a (plain why.rejected) (pick b (plain why.wrongAllocation) (pick c (plain why.notSupported) (pick d (plain why.brokenRule) (pick e (plain why.noRoom) (pick f (plain why.noAddress) (plain why.accepted)))))) .cause ≡ chain a b c d e f
     one true b c d e f = refl
@@ -114,24 +113,24 @@ module _ {s : Settings} {t taken addresses slot gone plan : List ℕ} {n free fr
       ∙ breaks-by (heldIn s taken) (addressIn s addresses) s (viewSessions t) (viewSession slot) seid restoring noted (rowsOf n plan) (map-agrees s (viewSessions t) taken (known .marks)) (addresses-agree s (viewSessions t) addresses (known .marksAddresses))
 
   -- the verdict by six tests, as code makes them
-  pub verdict-is : judge maxSessions kind s (viewSessions t) (viewSession slot) (requestIn seid restoring noted (rowsOf n plan)) .cause
+  pub verdict-is : judge kind s (viewSessions t) (viewSession slot) (requestIn seid restoring noted (rowsOf n plan)) .cause
       ≡ chain (eqb kind establishment && live) (invalidAllocation (requestIn 0 restoring false (rowsOf n plan))) (requestIn 0 false noted (rowsOf n plan) .unsupported)
       (breaksRuleBy (heldIn s taken) (addressIn s addresses) s (viewSession slot) (requestIn 0 restoring false (rowsOf n plan)))
-      (noRoom maxSessions kind s (viewSessions t) (viewSession slot) (requestIn 0 false false (rowsOf n plan)))
+      (noRoom kind s (viewSessions t) (viewSession slot) (requestIn 0 false false (rowsOf n plan)))
       (noAddress s (viewSessions t) (requestIn 0 false false (rowsOf n plan)))
   verdict-is =
       let a = live-same in
       let b : invalidAllocation (requestIn 0 restoring false (rowsOf n plan)) ≡ invalidAllocation (requestIn seid restoring noted (rowsOf n plan)) = invalid-rows 0 restoring false (rowsOf n plan) ∙ sym (invalid-rows seid restoring noted (rowsOf n plan)) in
       let c : requestIn 0 false noted (rowsOf n plan) .unsupported ≡ requestIn seid restoring noted (rowsOf n plan) .unsupported = unsupported-rows 0 false noted (rowsOf n plan) ∙ sym (unsupported-rows seid restoring noted (rowsOf n plan)) in
-      let e = room-rows maxSessions kind s (viewSessions t) (viewSession slot) seid restoring noted (rowsOf n plan) in
+      let e = room-rows kind s (viewSessions t) (viewSession slot) seid restoring noted (rowsOf n plan) in
       let f = address-same s (viewSessions t) seid restoring noted (rowsOf n plan) in
-      judge-is maxSessions kind s (viewSessions t) (viewSession slot) (requestIn seid restoring noted (rowsOf n plan)) seid (unfold requestIn in refl)
+      judge-is kind s (viewSessions t) (viewSession slot) (requestIn seid restoring noted (rowsOf n plan)) seid (unfold requestIn in refl)
       ∙ sym (λ i. chain (a i) (b i) (c i) (rule-same i) (e i) (f i))
 
 -- these causes name no element
-pub judge-plain : (limit kind : ℕ) (s : Settings) (m : Sessions) (x : Session) (r : Request) → judge limit kind s m x r ≡ plain (judge limit kind s m x r .cause)
+pub judge-plain : (kind : ℕ) (s : Settings) (m : Sessions) (x : Session) (r : Request) → judge kind s m x r ≡ plain (judge kind s m x r .cause)
 unfolding judge
-judge-plain limit kind s m x r = one (eqb kind establishment && isLive (r .seid) m) (invalidAllocation r) (r .unsupported) (breaksRule s m x r) (noRoom limit kind s m x r) (noAddress s m r)
+judge-plain kind s m x r = one (eqb kind establishment && isLive (r .seid) m) (invalidAllocation r) (r .unsupported) (breaksRule s m x r) (noRoom kind s m x r) (noAddress s m r)
   where
     one : (a b c d e f : Bool)
         → pick a (plain why.rejected) (pick b (plain why.wrongAllocation) (pick c (plain why.notSupported) (pick d (plain why.brokenRule) (pick e (plain why.noRoom) (pick f (plain why.noAddress) (plain why.accepted))))))

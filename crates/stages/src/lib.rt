@@ -5,7 +5,6 @@ ghost use mathlib.Core.Bool.{false, _&&_};
 ghost use Prim.Native.Nat.{_*_, _+_, _-_, _≤_};
 ghost use lib.Dec.{eqb, ltb};
 ghost use lib.ListN.{length};
-ghost use Rattle.rules.specs.Limits.{maxSessions};
 ghost use Rattle.rules.specs.Message.{establishment};
 ghost use Rattle.rules.specs.Model.{freeCount, freeAddressCount};
 ghost use Rattle.rules.specs.Layout.{viewSession, viewSessions, headWidth};
@@ -113,17 +112,17 @@ fn too_many(live: usize, limit: usize, removed: usize, plan: &[u64], n: usize, n
 }
 
 // Would an establishment be one session too many?
-fn full(t: &[u8], kind: u64) -> bool
+fn full(t: &[u8], u: Settings, kind: u64) -> bool
     requires { ⌜ headWidth ≤ length (now t) ⌝ }
-    ensures { λ r. ⌜ r ≡ tooManySessions maxSessions kind (viewSessions (now (t .entry))) ⌝ }
+    ensures { λ r. ⌜ r ≡ tooManySessions (settingsOf u) kind (viewSessions (now (t .entry))) ⌝ }
 {
     if kind != kinds::ESTABLISHMENT {
         return false;
     }
-    format::MAX_SESSIONS <= octets::read(t, format::COUNT, 2)
+    u.limit <= octets::read(t, format::COUNT, 2)
 }
 
-// Cause 75: more than 64 sessions, 16 PDRs or 8 endpoints would result, or more TEIDs are needed than are free at entry.
+// Cause 75: more sessions than the settings' limit, 16 PDRs or 8 endpoints would result, or more TEIDs are needed than are free at entry.
 pub fn no_room(
     t: &[u8],
     u: Settings,
@@ -135,9 +134,9 @@ pub fn no_room(
     n: usize,
 ) -> bool
     requires { ⌜ (headWidth ≤ length (now t)) × (free ≡ freeCount (settingsOf u) (viewSessions (now t))) × Slot (now slot) × (n * rowWidth ≤ length (now plan)) × Gone (now slot) (rowsOf n (now plan)) (now gone) ⌝ }
-    ensures { λ r. ⌜ r ≡ noRoom maxSessions kind (settingsOf u) (viewSessions (now (t .entry))) (viewSession (now (slot .entry))) (requestOf false (rowsOf n (now (plan .entry)))) ⌝ }
+    ensures { λ r. ⌜ r ≡ noRoom kind (settingsOf u) (viewSessions (now (t .entry))) (viewSession (now (slot .entry))) (requestOf false (rowsOf n (now (plan .entry)))) ⌝ }
 {
-    if full(t, kind) {
+    if full(t, u, kind) {
         return true;
     }
     if too_many(
@@ -203,7 +202,7 @@ pub fn judge(
     noted: bool,
 ) -> u64
     requires { ⌜ AtEntry (settingsOf u) (now t) (now taken) (now addresses) (now slot) (now gone) (now plan) n free «free_addresses» kind seid live ⌝ }
-    ensures { λ r. ⌜ r ≡ judge maxSessions kind (settingsOf u) (viewSessions (now (t .entry))) (viewSession (now (slot .entry))) (requestIn seid restoring noted (rowsOf n (now (plan .entry)))) .cause ⌝ }
+    ensures { λ r. ⌜ r ≡ judge kind (settingsOf u) (viewSessions (now (t .entry))) (viewSession (now (slot .entry))) (requestIn seid restoring noted (rowsOf n (now (plan .entry)))) .cause ⌝ }
 {
     if already_live(kind, live) {
         return causes::REJECTED;

@@ -1,7 +1,7 @@
 -- A table is not broken exactly when it is what allowed settings and sessions encode to, and these are what it is read as.
 -- Assumes nothing.
 use mathlib.Core.Path.{_≡_, sym, ap, subst, _∙_}
-use Prim.Native.Nat.{ℕ, _^_, _<_}
+use Prim.Native.Nat.{ℕ}
 use mathlib.Core.List.{List}
 use lib.Dec.{T}
 use Rattle.octets.proofs.Tests.{each}
@@ -12,26 +12,26 @@ use Rattle.rules.specs.Sound.{settingsAllowed, sessionsAllowed, soundTests, sou
 use Rattle.laws.proofs.TableLaws.{encoded-settings, sessions-back, sound-encode}
 
 -- octets that encode settings and sessions that keep the rules
-pub record Encoded (limit : ℕ) (t : List ℕ) (s : Settings) (m : Sessions) : Type 0 where
+pub record Encoded (t : List ℕ) (s : Settings) (m : Sessions) : Type 0 where
   pub settings : T (settingsAllowed s)
-  pub sessions : T (sessionsAllowed limit s m)
-  pub whole : t ≡ encode limit s m
+  pub sessions : T (sessionsAllowed s m)
+  pub whole : t ≡ encode s m
 
 -- a table that is not broken encodes what it is read as
-pub sound-encoded : (limit : ℕ) (t : List ℕ) → T (sound limit t) → Encoded limit t (viewSettings t) (viewSessions t)
+pub sound-encoded : (t : List ℕ) → T (sound t) → Encoded t (viewSettings t) (viewSessions t)
 unfolding sound soundTests
-sound-encoded limit t h =
-    let e = each (soundTests limit t (viewSettings t) (viewSessions t)) h in
-    record { settings = e .1 .0; sessions = e .1 .1 .0; whole = sym (same-eq (encode limit (viewSettings t) (viewSessions t)) t (e .1 .1 .1 .0)) }
+sound-encoded t h =
+    let e = each (soundTests t (viewSettings t) (viewSessions t)) h in
+    record { settings = e .1 .0; sessions = e .1 .1 .0; whole = sym (same-eq (encode (viewSettings t) (viewSessions t)) t (e .1 .1 .1 .0)) }
 
-module _ (limit : ℕ) (small : limit < 256 ^ 2) (t : List ℕ) (s : Settings) (m : Sessions) (e : Encoded limit t s m) where
+module _ (t : List ℕ) (s : Settings) (m : Sessions) (e : Encoded t s m) where
   -- what allowed settings and sessions encode to is not broken
-  pub encoded-sound : T (sound limit t)
-  encoded-sound = subst (λ (x : List ℕ). T (sound limit x)) (sym (e .whole)) (sound-encode s (e .settings) limit small m (e .sessions))
+  pub encoded-sound : T (sound t)
+  encoded-sound = subst (λ (x : List ℕ). T (sound x)) (sym (e .whole)) (sound-encode s (e .settings) m (e .sessions))
 
   -- and is read as just these
   pub encoded-view-settings : viewSettings t ≡ s
-  encoded-view-settings = ap viewSettings (e .whole) ∙ encoded-settings s (e .settings) limit small m (e .sessions)
+  encoded-view-settings = ap viewSettings (e .whole) ∙ encoded-settings s (e .settings) m (e .sessions)
 
   pub encoded-view-sessions : viewSessions t ≡ m
-  encoded-view-sessions = ap viewSessions (e .whole) ∙ sessions-back s (e .settings) limit small m (e .sessions)
+  encoded-view-sessions = ap viewSessions (e .whole) ∙ sessions-back s (e .settings) m (e .sessions)

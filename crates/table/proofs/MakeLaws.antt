@@ -1,23 +1,21 @@
 -- Making an empty table: the settings' tests, and the steps that write it.
 -- Assumes nothing.
 use mathlib.Core.Path.{_≡_, refl, sym, ap, ap₂, _∙_}
-use Prim.Native.Nat.{ℕ, _+_, _-_, _/_, _≤_, _*_}
+use Prim.Native.Nat.{ℕ, _+_, _-_, _≤_, _*_}
 use native.Mathlib.Omega.{arith}
 use mathlib.Core.Bool.{Bool, true, false, not, _&&_, _||_}
-use mathlib.Core.List.{List, [], _∷_, _++_, append-assoc, append-nil}
+use mathlib.Core.List.{List, [], _∷_, _++_, append-nil}
 use borrow.Author.Tests.{eq-eqb, ne-eqb, not-true, not-false}
-use lib.ListN.{length, take, drop, length-append, replicate-append-replicate, drop-of-length-le}
+use lib.ListN.{length, take, drop, replicate-append-replicate, drop-of-length-le}
 use lib.Seq.{take-at, drop-at}
-use lib.Dec.{T, eqb, eqb→eq}
-use Rattle.octets.specs.Choice.{allOf, flag, isNil}
+use lib.Dec.{T, eqb}
+use Rattle.octets.specs.Choice.{allOf, isNil}
 use Rattle.octets.specs.Octets.{put, be, zeros, padded, octets, concatMap}
 use Rattle.octets.proofs.Tests.{is-true, of-true}
-use Rattle.octets.proofs.Numbers.{length-be, bytes-be, length-zeros, length-padded}
-use Rattle.octets.proofs.Put.{put-over}
-use Rattle.rules.specs.Limits.{maxSessions}
+use Rattle.octets.proofs.Numbers.{length-be, bytes-be, length-zeros}
 use Rattle.rules.specs.Model.{Settings}
-use Rattle.rules.specs.Layout.{headWidth, sessionWidth, tableLength, area, settingsOctets, encode, settingsWidth}
-use Rattle.rules.specs.Sound.{poolTests, addressPoolTests, ipv6Allowed, settingsTests, settingsAllowed, make}
+use Rattle.rules.specs.Layout.{sessionWidth, tableLength, area, settingsOctets, encode, settingsWidth}
+use Rattle.rules.specs.Sound.{poolTests, addressPoolTests, limitTests, ipv6Allowed, settingsTests, settingsAllowed, lengthFor, make}
 use Rattle.laws.proofs.TableLaws.{ipv6-short}
 use Rattle.records.proofs.Cells.{and-true, and-false}
 use Rattle.table.specs.declared.Making.the-variants.{Made, Refused}
@@ -46,10 +44,10 @@ address-is : (v : List ℕ) → ipv6Allowed v ≡ (eqb (length v) 0 || eqb (leng
 unfolding ipv6Allowed
 address-is v = ap (λ (b : Bool). b || eqb (length v) 16) (nil-length v)
 
-allowed-is : (a f z u k : ℕ) (v : List ℕ) → T (octets v) → settingsAllowed (settingsGiven a v f z u k) ≡ (ipv6Allowed v && (allOf (poolTests f z) && allOf (addressPoolTests u k)))
+allowed-is : (a f z u k l : ℕ) (v : List ℕ) → T (octets v) → settingsAllowed (settingsGiven a v f z u k l) ≡ (ipv6Allowed v && (allOf (poolTests f z) && (allOf (addressPoolTests u k) && allOf (limitTests l))))
 unfolding settingsAllowed settingsTests
-allowed-is a f z u k v o =
-    rw (eq-eqb (length (be 4 a)) 4 (length-be 4 a), is-true (octets (be 4 a)) (bytes-be 4 a), is-true (octets v) o, and-true (allOf (addressPoolTests u k)))
+allowed-is a f z u k l v o =
+    rw (eq-eqb (length (be 4 a)) 4 (length-be 4 a), is-true (octets (be 4 a)) (bytes-be 4 a), is-true (octets v) o, and-true (allOf (limitTests l)))
 
 pub address-none : (n : ℕ) → n ≡ 0 → true ≡ (eqb n 0 || eqb n 16)
 address-none n e = sym (rw e)
@@ -57,51 +55,66 @@ address-none n e = sym (rw e)
 pub address-whole : (n : ℕ) → (n ≡ 0 → ⊥) → eqb n 16 ≡ (eqb n 0 || eqb n 16)
 address-whole n h = sym (rw (ne-eqb n 0 h))
 
+-- ---- how long a table is
+
+pub length-refused : (l : ℕ) (b : Bool) → b ≡ allOf (limitTests l) → not b ≡ true → 0 ≡ lengthFor l
+unfolding lengthFor
+length-refused l b q h = sym (rw (← q, not-true b h))
+
+pub length-allowed : (l : ℕ) (b : Bool) → b ≡ allOf (limitTests l) → not b ≡ false → tableLength l ≡ lengthFor l
+unfolding lengthFor
+length-allowed l b q h = sym (rw (← q, not-false b h))
+
 -- ---- the answers
 
-module _ (a f z u n : ℕ) (v t : List ℕ) (o : T (octets v)) where
-  refused : (settingsAllowed (settingsGiven a v f z u n) && eqb (length t) (tableLength maxSessions)) ≡ false → madeOf Refused t ≡ make maxSessions (settingsGiven a v f z u n) t
+module _ (a f z u n l : ℕ) (v t : List ℕ) (o : T (octets v)) where
+  refused : (settingsAllowed (settingsGiven a v f z u n l) && eqb (length t) (tableLength l)) ≡ false → madeOf Refused t ≡ make (settingsGiven a v f z u n l) t
   unfolding make
   refused e = sym (rw e)
 
-  pub make-length : (length t ≡ tableLength maxSessions → ⊥) → madeOf Refused t ≡ make maxSessions (settingsGiven a v f z u n) t
-  make-length h = refused (rw (ne-eqb (length t) (tableLength maxSessions) h) (and-false (settingsAllowed (settingsGiven a v f z u n))))
+  pub make-length : (length t ≡ tableLength l → ⊥) → madeOf Refused t ≡ make (settingsGiven a v f z u n l) t
+  make-length h = refused (rw (ne-eqb (length t) (tableLength l) h) (and-false (settingsAllowed (settingsGiven a v f z u n l))))
 
   module _ (r : Bool) (q : r ≡ (eqb (length v) 0 || eqb (length v) 16)) where
-    pub make-address : not r ≡ true → madeOf Refused t ≡ make maxSessions (settingsGiven a v f z u n) t
-    make-address h = refused (rw (allowed-is a f z u n v o, address-is v, ← q, not-true r h))
+    pub make-address : not r ≡ true → madeOf Refused t ≡ make (settingsGiven a v f z u n l) t
+    make-address h = refused (rw (allowed-is a f z u n l v o, address-is v, ← q, not-true r h))
 
     pub address-good : not r ≡ false → T (ipv6Allowed v) × (length v ≤ 16)
     address-good h = let good : T (ipv6Allowed v) = of-true (address-is v ∙ sym q ∙ not-false r h) in (good, ipv6-short v good)
 
   -- the settings read from the parameters are allowed or not
-  module _ (s : Settings) (given : s ≡ settingsGiven a v f z u n) (p : Bool) (k : p ≡ settingsAllowed s) where
-    pub make-settings : not p ≡ true → madeOf Refused t ≡ make maxSessions (settingsGiven a v f z u n) t
+  module _ (s : Settings) (given : s ≡ settingsGiven a v f z u n l) (p : Bool) (k : p ≡ settingsAllowed s) where
+    pub make-settings : not p ≡ true → madeOf Refused t ≡ make (settingsGiven a v f z u n l) t
     make-settings g = refused (rw (← given, ← k, not-true p g))
 
-    pub make-made : not p ≡ false → length t ≡ tableLength maxSessions → (t′ : List ℕ) → t′ ≡ encode maxSessions s [] → madeOf Made t′ ≡ make maxSessions (settingsGiven a v f z u n) t
+    pub make-made : not p ≡ false → length t ≡ tableLength l → (t′ : List ℕ) → t′ ≡ encode s [] → madeOf Made t′ ≡ make (settingsGiven a v f z u n l) t
     unfolding make
-    make-made g l t′ e =
-        let yes′ : (settingsAllowed (settingsGiven a v f z u n) && eqb (length t) (tableLength maxSessions)) ≡ true = rw (← given, ← k, not-false p g, eq-eqb (length t) (tableLength maxSessions) l) in
-        ap (madeOf Made) (e ∙ ap (λ (x : Settings). encode maxSessions x []) given) ∙ sym (rw yes′)
+    make-made g e′ t′ e =
+        let yes′ : (settingsAllowed (settingsGiven a v f z u n l) && eqb (length t) (tableLength l)) ≡ true = rw (← given, ← k, not-false p g, eq-eqb (length t) (tableLength l) e′) in
+        ap (madeOf Made) (e ∙ ap (λ (x : Settings). encode x []) given) ∙ sym (rw yes′)
 
 -- ---- the table's octets
 
-cleared : (t t′ : List ℕ) → length t ≡ tableLength maxSessions → t′ ≡ put 0 (zeros (tableLength maxSessions)) t → t′ ≡ zeros (tableLength maxSessions)
-unfolding put
-cleared t t′ l e =
-    let none : drop (0 + length (zeros (tableLength maxSessions))) t ≡ [] = drop-of-length-le t {i = 0 + length (zeros (tableLength maxSessions))} (omega (arith, length-zeros (tableLength maxSessions))) in
-    e ∙ ap (λ (l : List ℕ). zeros (tableLength maxSessions) ++ l) none ∙ append-nil (zeros (tableLength maxSessions))
+module _ (l n : ℕ) (t t′ : List ℕ) (k : n ≡ tableLength l) (long : length t ≡ n) (e : t′ ≡ put 0 (zeros n) t) where
+  cleared : t′ ≡ zeros n
+  unfolding put
+  cleared =
+      let none : drop (0 + length (zeros n)) t ≡ [] = drop-of-length-le t {i = 0 + length (zeros n)} (omega (arith, length-zeros n)) in
+      e ∙ ap (λ (x : List ℕ). zeros n ++ x) none ∙ append-nil (zeros n)
 
--- the settings' part of it is zero
-pub front-cleared : (t t′ : List ℕ) → length t ≡ tableLength maxSessions → t′ ≡ put 0 (zeros (tableLength maxSessions)) t → take settingsWidth t′ ≡ zeros settingsWidth
-front-cleared t t′ l e = ap (take settingsWidth) (cleared t t′ l e) ∙ take-zeros settingsWidth (2 + maxSessions * sessionWidth)
+  whole : t′ ≡ zeros (settingsWidth + (2 + l * sessionWidth))
+  whole = cleared ∙ ap zeros (omega arith)
 
-two-zeros : zeros 2 ≡ 0 ∷ 0 ∷ []
-unfolding zeros
-two-zeros = refl
+  -- the settings' part of it is zero
+  pub front-cleared : take settingsWidth t′ ≡ zeros settingsWidth
+  front-cleared = ap (take settingsWidth) whole ∙ take-zeros settingsWidth (2 + l * sessionWidth)
 
-pub encoded-empty : (s : Settings) (t t′ w : List ℕ) → length t ≡ tableLength maxSessions → t′ ≡ put 0 (zeros (tableLength maxSessions)) t → w ≡ settingsOctets s → w ++ drop settingsWidth t′ ≡ encode maxSessions s []
-unfolding encode area padded concatMap be
-encoded-empty s t t′ w l e q =
-    ap₂ _++_ q (ap (drop settingsWidth) (cleared t t′ l e) ∙ drop-zeros settingsWidth (2 + maxSessions * sessionWidth) ∙ zeros-split 2 (maxSessions * sessionWidth) ∙ ap (λ (l : List ℕ). l ++ zeros (maxSessions * sessionWidth)) two-zeros)
+  two-zeros : zeros 2 ≡ 0 ∷ 0 ∷ []
+  unfolding zeros
+  two-zeros = refl
+
+  pub encoded-empty : (s : Settings) (w : List ℕ) → s .limit ≡ l → w ≡ settingsOctets s → w ++ drop settingsWidth t′ ≡ encode s []
+  unfolding encode area padded concatMap be
+  encoded-empty s w room q =
+      ap₂ _++_ q (ap (drop settingsWidth) whole ∙ drop-zeros settingsWidth (2 + l * sessionWidth) ∙ zeros-split 2 (l * sessionWidth) ∙ ap (λ (x : List ℕ). x ++ zeros (l * sessionWidth)) two-zeros)
+      ∙ (let e : l * sessionWidth ≡ s .limit * sessionWidth - 0 = omega (arith, room) in ap (λ (m : ℕ). settingsOctets s ++ (0 ∷ 0 ∷ zeros m)) e)

@@ -17,7 +17,7 @@ use Rattle.octets.proofs.Tests.{each, all-of-each, both, and-left, and-right, o
 use Rattle.octets.proofs.Numbers.{same-refl, same-eq}
 use Rattle.octets.proofs.Digits.{be-back, part-octets, drop-octets}
 use Rattle.octets.proofs.Put.{length-part}
-use Rattle.rules.specs.Limits.{maxSessions, mapWords, addressWords}
+use Rattle.rules.specs.Limits.{mapWords, addressWords}
 use Rattle.rules.specs.Model.{Settings, Session, seidOf}
 use Rattle.rules.specs.Layout.{headWidth, sessionWidth, tableLength, area, sessionOctets, settingsOctets, encode, viewArea, viewSession, viewSettings, viewSessions, settingsWidth}
 use Rattle.rules.specs.Sound.{settingsAllowed, sessionAllowed, apart, sessionsTests, sessionsAllowed, soundTests, sound}
@@ -35,7 +35,7 @@ use Rattle.records.proofs.Cells.{and-true, and-false, same-test, drop-take}
 use Rattle.sessions.specs.Slot.{areaSound}
 use Rattle.sessions.proofs.Areas.{area-from, area-to, kept-allowed, kept-same}
 use Rattle.sessions.proofs.SlotLaws.{key-session}
-use Rattle.table.specs.Tests.{sessionCount, slotsOf, unitOf, firstAddressOf, addressCountOf, orderSound, frontTests, frontSound, walkSound}
+use Rattle.table.specs.Tests.{sessionCount, limitOf, slotsOf, unitOf, firstAddressOf, addressCountOf, orderSound, frontTests, frontSound, walkSound}
 use Rattle.table.proofs.Units.{sessions-unit}
 use Rattle.table.proofs.Walks.{canonical, slots-whole, slots-law, free-law}
 
@@ -49,11 +49,12 @@ unfolding viewSettings octetAt numberAt
 settings-front t =
     λ i. record {
       ipv4 = within 0 settingsWidth 4 t (lit≤ tt) i;
-      ipv6 = pick (eqb (getD-take settingsWidth t 4 0 (lit< tt) i) 0) [] (within 5 32 16 t (lit≤ tt) i);
-      first = number (within 21 16 4 t (lit≤ tt) i);
-      size = number (within 25 12 4 t (lit≤ tt) i);
-      firstAddress = number (within 29 8 4 t (lit≤ tt) i);
-      addressCount = number (within 33 4 4 t (lit≤ tt) i);
+      ipv6 = pick (eqb (getD-take settingsWidth t 4 0 (lit< tt) i) 0) [] (within 5 34 16 t (lit≤ tt) i);
+      first = number (within 21 18 4 t (lit≤ tt) i);
+      size = number (within 25 14 4 t (lit≤ tt) i);
+      firstAddress = number (within 29 10 4 t (lit≤ tt) i);
+      addressCount = number (within 33 6 4 t (lit≤ tt) i);
+      limit = number (within 37 2 2 t (lit≤ tt) i);
     }
 
 pub sessions-are : (t : List ℕ) → viewSessions t ≡ map viewSession (slotsOf t)
@@ -102,11 +103,11 @@ module _ (s : Settings) where
 
 -- ---- the octets part by part
 
-module _ (t : List ℕ) (long : length t ≡ tableLength maxSessions) (o : T (octets t)) where
+module _ (t : List ℕ) (long : length t ≡ tableLength (limitOf t)) (o : T (octets t)) where
   abbrev s : Settings
   s = viewSettings t
 
-  area-long : length (drop headWidth t) ≡ maxSessions * sessionWidth
+  area-long : length (drop headWidth t) ≡ s .limit * sessionWidth
   area-long = length-drop headWidth t ∙ omega arith
 
   parts : part 0 settingsWidth t ++ (part settingsWidth 2 t ++ drop headWidth t) ≡ t
@@ -118,18 +119,18 @@ module _ (t : List ℕ) (long : length t ≡ tableLength maxSessions) (o : T (oc
   count-written = ap (be 2) (count-are t) ∙ be-back 2 (part settingsWidth 2 t) (length-part settingsWidth 2 t (omega arith)) (part-octets settingsWidth 2 t o)
 
   -- the area of sessions
-  sessions-from : T (settingsAllowed s) → sessionCount t ≤ maxSessions → T (areaSound (kept (sessionAllowed s) sessionOctets viewSession) sessionWidth 8 (sessionCount t) (drop headWidth t))
-      → T (all (sessionAllowed s) (map viewSession (slotsOf t))) × T (ascending (map seidOf (map viewSession (slotsOf t)))) × (area sessionOctets sessionWidth maxSessions (map viewSession (slotsOf t)) ≡ drop headWidth t)
+  sessions-from : T (settingsAllowed s) → sessionCount t ≤ s .limit → T (areaSound (kept (sessionAllowed s) sessionOctets viewSession) sessionWidth 8 (sessionCount t) (drop headWidth t))
+      → T (all (sessionAllowed s) (map viewSession (slotsOf t))) × T (ascending (map seidOf (map viewSession (slotsOf t)))) × (area sessionOctets sessionWidth (s .limit) (map viewSession (slotsOf t)) ≡ drop headWidth t)
   sessions-from hs few h =
-      area-from (sessionAllowed s) sessionOctets viewSession seidOf sessionWidth 8 (length-session s hs) key-session maxSessions (sessionCount t) (drop headWidth t) area-long few h
+      area-from (sessionAllowed s) sessionOctets viewSession seidOf sessionWidth 8 (length-session s hs) key-session (s .limit) (sessionCount t) (drop headWidth t) area-long few h
 
-  sessions-to : T (settingsAllowed s) → sessionCount t ≤ maxSessions → T (all (sessionAllowed s) (map viewSession (slotsOf t))) → T (ascending (map seidOf (map viewSession (slotsOf t))))
-      → area sessionOctets sessionWidth maxSessions (map viewSession (slotsOf t)) ≡ drop headWidth t → T (areaSound (kept (sessionAllowed s) sessionOctets viewSession) sessionWidth 8 (sessionCount t) (drop headWidth t))
+  sessions-to : T (settingsAllowed s) → sessionCount t ≤ s .limit → T (all (sessionAllowed s) (map viewSession (slotsOf t))) → T (ascending (map seidOf (map viewSession (slotsOf t))))
+      → area sessionOctets sessionWidth (s .limit) (map viewSession (slotsOf t)) ≡ drop headWidth t → T (areaSound (kept (sessionAllowed s) sessionOctets viewSession) sessionWidth 8 (sessionCount t) (drop headWidth t))
   sessions-to hs few h up e =
-      area-to (sessionAllowed s) sessionOctets viewSession seidOf sessionWidth 8 (length-session s hs) key-session maxSessions (sessionCount t) (drop headWidth t) area-long few h up e
+      area-to (sessionAllowed s) sessionOctets viewSession seidOf sessionWidth 8 (length-session s hs) key-session (s .limit) (sessionCount t) (drop headWidth t) area-long few h up e
 
   -- the walk
-  walk-is : T (settingsAllowed s) → sessionCount t ≤ maxSessions
+  walk-is : T (settingsAllowed s) → sessionCount t ≤ s .limit
       → walkSound t ≡ ((all (sessionAllowed s) (map viewSession (slotsOf t)) && allPairs (apart s) (map viewSession (slotsOf t))) && all canonical (slotsOf t))
   unfolding walkSound
   walk-is hs few =
@@ -162,18 +163,18 @@ module _ (t : List ℕ) (long : length t ≡ tableLength maxSessions) (o : T (oc
       (subst (λ (x : Settings). T (settingsAllowed x)) (sym (settings-front t)) h)
       (of-true (ap (λ (l : List ℕ). sameOctets l (part 0 settingsWidth t)) (ap settingsOctets (settings-front t) ∙ e) ∙ same-refl (part 0 settingsWidth t)))
 
-  encoded-is : encode maxSessions s (viewSessions t) ≡ settingsOctets s ++ (part settingsWidth 2 t ++ area sessionOctets sessionWidth maxSessions (map viewSession (slotsOf t)))
+  encoded-is : encode s (viewSessions t) ≡ settingsOctets s ++ (part settingsWidth 2 t ++ area sessionOctets sessionWidth (s .limit) (map viewSession (slotsOf t)))
   unfolding encode
-  encoded-is = λ i. settingsOctets s ++ (count-written i ++ area sessionOctets sessionWidth maxSessions (sessions-are t i))
+  encoded-is = λ i. settingsOctets s ++ (count-written i ++ area sessionOctets sessionWidth (s .limit) (sessions-are t i))
 
   -- ---- both ways
 
-  sound-from : T (frontSound t) → T (walkSound t) → T (sound maxSessions t)
+  sound-from : T (frontSound t) → T (walkSound t) → T (sound t)
   unfolding frontSound frontTests orderSound sound soundTests areaSound
   sound-from h w =
       let f = each (frontTests t) h in
       let st = settings-from (f .1 .0) in
-      let few = leb→le (sessionCount t) maxSessions (f .1 .1 .0) in
+      let few = leb→le (sessionCount t) (s .limit) (f .1 .1 .0) in
       let wk = subst T (walk-is (st .0) few) w in
       let allowed-apart = and-left (all (sessionAllowed s) (map viewSession (slotsOf t)) && allPairs (apart s) (map viewSession (slotsOf t))) (all canonical (slotsOf t)) wk in
       let canon = and-right (all (sessionAllowed s) (map viewSession (slotsOf t)) && allPairs (apart s) (map viewSession (slotsOf t))) (all canonical (slotsOf t)) wk in
@@ -181,30 +182,30 @@ module _ (t : List ℕ) (long : length t ≡ tableLength maxSessions) (o : T (oc
       let apart′ = and-right (all (sessionAllowed s) (map viewSession (slotsOf t))) (allPairs (apart s) (map viewSession (slotsOf t))) allowed-apart in
       let k = kept (sessionAllowed s) sessionOctets viewSession in
       let ar = sessions-from (st .0) few (both (all k (slotsOf t)) (ascending (map (keyOf 8) (slotsOf t)) && allZero (drop (sessionCount t * sessionWidth) (drop headWidth t))) (all-kept s (slotsOf t) allowed canon) (f .1 .1 .1 .0)) in
-      let whole : encode maxSessions s (viewSessions t) ≡ t = encoded-is ∙ (λ i. st .1 i ++ (part settingsWidth 2 t ++ ar .2 i)) ∙ parts in
-      all-of-each (soundTests maxSessions t s (viewSessions t))
-      (yes-eqb long, (st .0, (subst (λ (m : List Session). T (sessionsAllowed maxSessions s m)) (sym (sessions-are t)) (sessions-ok s (map viewSession (slotsOf t)) (le-trans (le-of-eq (ap length (sym (sessions-are t)) ∙ count-are t)) few) (ar .1) (ar .0) apart′), (of-true (ap (λ (l : List ℕ). sameOctets l t) whole ∙ same-refl t), tt))))
+      let whole : encode s (viewSessions t) ≡ t = encoded-is ∙ (λ i. st .1 i ++ (part settingsWidth 2 t ++ ar .2 i)) ∙ parts in
+      all-of-each (soundTests t s (viewSessions t))
+      (yes-eqb long, (st .0, (subst (λ (m : List Session). T (sessionsAllowed s m)) (sym (sessions-are t)) (sessions-ok s (map viewSession (slotsOf t)) (le-trans (le-of-eq (ap length (sym (sessions-are t)) ∙ count-are t)) few) (ar .1) (ar .0) apart′), (of-true (ap (λ (l : List ℕ). sameOctets l t) whole ∙ same-refl t), tt))))
     where
-      sessions-ok : (x : Settings) (m : List Session) → length m ≤ maxSessions → T (ascending (map seidOf m)) → T (all (sessionAllowed x) m) → T (allPairs (apart x) m) → T (sessionsAllowed maxSessions x m)
-      sessions-ok x m a b c d = unfold sessionsAllowed sessionsTests in all-of-each (sessionsTests maxSessions x m) (yes-leb a, (b, (c, (d, tt))))
+      sessions-ok : (x : Settings) (m : List Session) → length m ≤ x .limit → T (ascending (map seidOf m)) → T (all (sessionAllowed x) m) → T (allPairs (apart x) m) → T (sessionsAllowed x m)
+      sessions-ok x m a b c d = unfold sessionsAllowed sessionsTests in all-of-each (sessionsTests x m) (yes-leb a, (b, (c, (d, tt))))
 
-  sound-to : T (sound maxSessions t) → T (frontSound t) × T (walkSound t)
+  sound-to : T (sound t) → T (frontSound t) × T (walkSound t)
   unfolding frontSound frontTests orderSound sound soundTests sessionsAllowed sessionsTests areaSound
   sound-to h =
-      let f = each (soundTests maxSessions t s (viewSessions t)) h in
+      let f = each (soundTests t s (viewSessions t)) h in
       let hs : T (settingsAllowed s) = f .1 .0 in
-      let g = each (sessionsTests maxSessions s (viewSessions t)) (f .1 .1 .0) in
-      let same : encode maxSessions s (viewSessions t) ≡ t = same-eq (encode maxSessions s (viewSessions t)) t (f .1 .1 .1 .0) in
-      let few : sessionCount t ≤ maxSessions = le-trans (le-of-eq (sym (count-are t))) (leb→le (length (viewSessions t)) maxSessions (g .0)) in
+      let g = each (sessionsTests s (viewSessions t)) (f .1 .1 .0) in
+      let same : encode s (viewSessions t) ≡ t = same-eq (encode s (viewSessions t)) t (f .1 .1 .1 .0) in
+      let few : sessionCount t ≤ s .limit = le-trans (le-of-eq (sym (count-are t))) (leb→le (length (viewSessions t)) (s .limit) (g .0)) in
       let m = map viewSession (slotsOf t) in
       let up : T (ascending (map seidOf m)) = subst (λ (x : List Session). T (ascending (map seidOf x))) (sessions-are t) (g .1 .0) in
       let allowed : T (all (sessionAllowed s) m) = subst (λ (x : List Session). T (all (sessionAllowed s) x)) (sessions-are t) (g .1 .1 .0) in
       let apart′ : T (allPairs (apart s) m) = subst (λ (x : List Session). T (allPairs (apart s) x)) (sessions-are t) (g .1 .1 .1 .0) in
-      let rest : List ℕ = part settingsWidth 2 t ++ area sessionOctets sessionWidth maxSessions m in
+      let rest : List ℕ = part settingsWidth 2 t ++ area sessionOctets sessionWidth (s .limit) m in
       let eq : settingsOctets s ++ rest ≡ t = sym encoded-is ∙ same in
       let se : settingsOctets s ≡ part 0 settingsWidth t = sym (take-at (settingsOctets s) rest settingsWidth (length-settings s hs)) ∙ ap (take settingsWidth) eq in
       let after : rest ≡ drop settingsWidth t = sym (drop-at (settingsOctets s) rest settingsWidth (length-settings s hs)) ∙ ap (drop settingsWidth) eq in
-      let ae : area sessionOctets sessionWidth maxSessions m ≡ drop headWidth t = sym (drop-at (part settingsWidth 2 t) (area sessionOctets sessionWidth maxSessions m) 2 (length-part settingsWidth 2 t (omega arith))) ∙ ap (drop 2) after ∙ drop-drop 2 settingsWidth t in
+      let ae : area sessionOctets sessionWidth (s .limit) m ≡ drop headWidth t = sym (drop-at (part settingsWidth 2 t) (area sessionOctets sessionWidth (s .limit) m) 2 (length-part settingsWidth 2 t (omega arith))) ∙ ap (drop 2) after ∙ drop-drop 2 settingsWidth t in
       let k = kept (sessionAllowed s) sessionOctets viewSession in
       let ar = sessions-to hs few allowed up ae in
       let kepts = and-left (all k (slotsOf t)) (ascending (map (keyOf 8) (slotsOf t)) && allZero (drop (sessionCount t * sessionWidth) (drop headWidth t))) ar in
@@ -215,18 +216,18 @@ module _ (t : List ℕ) (long : length t ≡ tableLength maxSessions) (o : T (oc
 
 -- ---- for any octets
 
-long-of : (t : List ℕ) → T (frontSound t) → length t ≡ tableLength maxSessions
+long-of : (t : List ℕ) → T (frontSound t) → length t ≡ tableLength (limitOf t)
 unfolding frontSound frontTests
-long-of t h = eqb→eq (length t) (tableLength maxSessions) (each (frontTests t) h .0)
+long-of t h = eqb→eq (length t) (tableLength (limitOf t)) (each (frontTests t) h .0)
 
-long-sound : (t : List ℕ) → T (sound maxSessions t) → length t ≡ tableLength maxSessions
+long-sound : (t : List ℕ) → T (sound t) → length t ≡ tableLength (limitOf t)
 unfolding sound soundTests
-long-sound t h = eqb→eq (length t) (tableLength maxSessions) (each (soundTests maxSessions t (viewSettings t) (viewSessions t)) h .0)
+long-sound t h = eqb→eq (length t) (tableLength (limitOf t)) (each (soundTests t (viewSettings t) (viewSessions t)) h .0)
 
 -- the tests on the octets say just that the table is not broken
-pub sound-law : (t : List ℕ) → T (octets t) → sound maxSessions t ≡ (frontSound t && walkSound t)
+pub sound-law : (t : List ℕ) → T (octets t) → sound t ≡ (frontSound t && walkSound t)
 sound-law t o =
-    same-test (sound maxSessions t) (frontSound t && walkSound t)
+    same-test (sound t) (frontSound t && walkSound t)
     (λ h. let r = sound-to t (long-sound t h) o h in both (frontSound t) (walkSound t) (r .0) (r .1))
     (λ h.
     let a = and-left (frontSound t) (walkSound t) h in

@@ -13,15 +13,15 @@ use lib.Dec.{T}
 use Rattle.octets.specs.Octets.{slices, sameOctets, octets, concatMap}
 use Rattle.octets.specs.Lists.{all, any, allPairs}
 use Rattle.octets.proofs.Digits.{take-octets, drop-octets}
-use Rattle.rules.specs.Model.{Settings, Session, sessionTeids, heldTeids, inAddressPool, sessionAddresses, heldAddresses}
+use Rattle.rules.specs.Model.{Settings, sessionTeids, heldTeids, inAddressPool, sessionAddresses, heldAddresses}
 use Rattle.rules.specs.Layout.{sessionOctets, viewSession, sessionWidth}
-use Rattle.rules.specs.Sound.{sessionAllowed, apart}
+use Rattle.rules.specs.Sound.{sessionAllowed}
 use Rattle.holdings.specs.Walk.{sessionMarks, tableMarks, apartTeids, apartAddresses, addressOffsets, addressMarks}
 use Rattle.holdings.proofs.MapWalk.{sessions-marks}
-use Rattle.holdings.proofs.AddressWalk.{apart-both, address-marks}
+use Rattle.holdings.proofs.AddressWalk.{address-marks}
 use Rattle.pool.specs.Map.{marked, marks, offsets}
 use Rattle.pool.proofs.Marks.{offsets-append}
-use Rattle.addresses.specs.Offsets.{addressPool, heldOffsets}
+use Rattle.addresses.specs.Offsets.{heldOffsets}
 use Rattle.records.specs.Kept.{kept}
 use Rattle.records.proofs.Cells.{and-false}
 use Rattle.sessions.specs.Slot.{slotSound, recordsAllowed}

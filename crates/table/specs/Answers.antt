@@ -6,7 +6,6 @@ use mathlib.Core.List.{List}
 use Rattle.octets.specs.Choice.{pick}
 use mathlib.Core.Bool.{true, false}
 use Rattle.octets.specs.Lists.{distinct}
-use Rattle.rules.specs.Limits.{maxSessions}
 use Rattle.rules.specs.Model.{heldTeids, heldAddresses}
 use Rattle.rules.specs.Layout.{viewSettings, viewSessions}
 use Rattle.rules.specs.Sound.{sound, takenMap, addressMap, Count, broken, free, Made}
@@ -20,7 +19,7 @@ use Rattle.table.specs.declared.Count.the-variants.{Broken, Free}
 
 -- the whole table's examination: broken, or the numbers of different TEIDs and addresses of the pool in the records, with their maps
 pub record Examined (t : List ℕ) (r : Seen) (words′ addresses′ : List ℕ) : Type 0 where
-  pub answer : r ≡ pick (sound maxSessions t) (Held (distinct (heldTeids (viewSessions t))) (distinct (heldAddresses (viewSettings t) (viewSessions t)))) marked.Broken
+  pub answer : r ≡ pick (sound t) (Held (distinct (heldTeids (viewSessions t))) (distinct (heldAddresses (viewSettings t) (viewSessions t)))) marked.Broken
   pub words : (n k : ℕ) → r ≡ Held n k → words′ ≡ takenMap (viewSettings t) (viewSessions t)
   pub addresses : (n k : ℕ) → r ≡ Held n k → addresses′ ≡ addressMap (viewSettings t) (viewSessions t)
 

@@ -1,4 +1,4 @@
--- The tests of a table on its octets, in the order in which they are made: the length, the settings, the number of sessions, the order
+-- The tests of a table on its octets, in the order in which they are made: the length by the session limit, the settings, the number of sessions, the order
 -- of the SEIDs with the unused room, and the sessions with their TEIDs and addresses.
 -- Assumes nothing.
 use Prim.Native.Nat.{ℕ, _*_}
@@ -10,9 +10,9 @@ use Rattle.octets.specs.Choice.{allOf}
 use Rattle.octets.specs.Octets.{part, number, slices, allZero}
 use Rattle.octets.specs.Lists.{ascending}
 use Rattle.octets.specs.Octets.{octetAt}
-use Rattle.rules.specs.Limits.{maxSessions, mapWords, addressWords}
+use Rattle.rules.specs.Limits.{mapWords, addressWords}
 use Rattle.rules.specs.Model.{Settings}
-use Rattle.rules.specs.Layout.{settingsWidth, headWidth, sessionWidth, tableLength}
+use Rattle.rules.specs.Layout.{settingsWidth, headWidth, sessionWidth, tableLength, viewSettings}
 use Rattle.slots.specs.Records.{keyOf}
 use Rattle.records.specs.Kept.{settingsSound, unit}
 use Rattle.marking.specs.Marking.{slotsKeep, slotsFree}
@@ -35,13 +35,17 @@ firstAddressOf t = number (part 29 4 t)
 abbrev pub addressCountOf : List ℕ → ℕ
 addressCountOf t = number (part 33 4 t)
 
+-- how many sessions there is room for
+abbrev pub limitOf : List ℕ → ℕ
+limitOf t = viewSettings t .limit
+
 -- the slots stand in ascending order of SEIDs, and the room after them is zero
 unfoldable pub orderSound : List ℕ → Bool
 orderSound t = ascending (map (keyOf 8) (slotsOf t)) && allZero (drop (sessionCount t * sessionWidth) (drop headWidth t))
 
 -- the tests before the walk over the sessions
 unfoldable pub frontTests : List ℕ → List Bool
-frontTests t = eqb (length t) (tableLength maxSessions) ∷ settingsSound (part 0 settingsWidth t) ∷ leb (sessionCount t) maxSessions ∷ orderSound t ∷ []
+frontTests t = eqb (length t) (tableLength (limitOf t)) ∷ settingsSound (part 0 settingsWidth t) ∷ leb (sessionCount t) (limitOf t) ∷ orderSound t ∷ []
 
 unfoldable pub frontSound : List ℕ → Bool
 frontSound t = allOf (frontTests t)

@@ -1,12 +1,13 @@
 // The lent session table: whether it is broken, the maps of its TEIDs and addresses and how many are free; making an empty one.
 //
-// A table is the settings (37 octets), the number of sessions (2) and 64 slots of 603 octets; docs/ has the layout.
+// A table is the settings (39 octets), the number of sessions (2) and as many slots of 603 octets as the settings' limit says; docs/ has
+// the layout.
 ghost use mathlib.Core.Path.{_≡_};
 ghost use mathlib.Core.Bool.{_||_};
 ghost use lib.Dec.{eqb};
 ghost use lib.ListN.{replicate};
-ghost use Rattle.rules.specs.Limits.{maxSessions, mapWords, addressWords};
-ghost use Rattle.rules.specs.Sound.{sound, countFree, countAddresses, make};
+ghost use Rattle.rules.specs.Limits.{mapWords, addressWords};
+ghost use Rattle.rules.specs.Sound.{sound, countFree, countAddresses, lengthFor, make};
 ghost use Rattle.unit.specs.Meaning.{settingsGiven};
 ghost use Rattle.table.specs.Tests.{frontSound};
 ghost use Rattle.table.specs.Answers.{Examined, countOf, madeOf};
@@ -16,8 +17,7 @@ use format::FIRST;
 use format::FIRST_ADDRESS;
 use format::HEAD;
 use format::IPV6_THERE;
-use format::LENGTH;
-use format::MAX_SESSIONS;
+use format::LIMIT;
 use format::SETTINGS;
 use format::SIZE;
 use format::SLOT;
@@ -32,17 +32,21 @@ pub enum Count {
 fn front_sound(t: &[u8]) -> bool
     ensures { λ r. ⌜ r ≡ frontSound (now (t .entry)) ⌝ }
 {
-    if t.len() != LENGTH {
+    if t.len() < HEAD {
+        return false;
+    }
+    let limit = octets::read(t, LIMIT, 2);
+    if t.len() != HEAD + limit as usize * SLOT {
         return false;
     }
     if !records::settings_sound(&t[0..SETTINGS]) {
         return false;
     }
     let n = octets::read(t, COUNT, 2);
-    if MAX_SESSIONS < n {
+    if limit < n {
         return false;
     }
-    sessions::ordered(&t[HEAD..LENGTH], SLOT, 8, n as usize)
+    sessions::ordered(&t[HEAD..], SLOT, 8, n as usize)
 }
 
 // Tests the whole table and fills the maps of its TEIDs and addresses, which have to be empty: broken, or how many TEIDs and addresses
@@ -63,7 +67,7 @@ pub fn examine(t: &[u8], words: &mut [u64], addresses: &mut [u64]) -> marking::S
     marking::admit_all(
         words,
         addresses,
-        &t[HEAD..LENGTH],
+        &t[HEAD..],
         n,
         first,
         size,
@@ -75,7 +79,7 @@ pub fn examine(t: &[u8], words: &mut [u64], addresses: &mut [u64]) -> marking::S
 
 // Whether the table is not broken.
 pub fn is_sound(t: &[u8]) -> bool
-    ensures { λ r. ⌜ r ≡ sound maxSessions (now (t .entry)) ⌝ }
+    ensures { λ r. ⌜ r ≡ sound (now (t .entry)) ⌝ }
 {
     let mut words = [0u64; pool::WORDS];
     let mut addresses = [0u64; pool::ADDRESS_WORDS];
@@ -88,7 +92,7 @@ pub fn is_sound(t: &[u8]) -> bool
 
 // How many TEIDs of the pool no record holds.
 pub fn free_count(t: &[u8]) -> Count
-    ensures { λ r. ⌜ countOf r ≡ countFree maxSessions (now (t .entry)) ⌝ }
+    ensures { λ r. ⌜ countOf r ≡ countFree (now (t .entry)) ⌝ }
 {
     let mut words = [0u64; pool::WORDS];
     let mut addresses = [0u64; pool::ADDRESS_WORDS];
@@ -101,7 +105,7 @@ pub fn free_count(t: &[u8]) -> Count
 
 // How many addresses of the pool no record holds.
 pub fn free_addresses(t: &[u8]) -> Count
-    ensures { λ r. ⌜ countOf r ≡ countAddresses maxSessions (now (t .entry)) ⌝ }
+    ensures { λ r. ⌜ countOf r ≡ countAddresses (now (t .entry)) ⌝ }
 {
     let mut words = [0u64; pool::WORDS];
     let mut addresses = [0u64; pool::ADDRESS_WORDS];
@@ -110,6 +114,16 @@ pub fn free_addresses(t: &[u8]) -> Count
         return Count::Broken;
     };
     Count::Free(octets::read(t, ADDRESS_COUNT, 4) - k as u64)
+}
+
+// How many octets a table of so many sessions has; none for a limit that is not allowed.
+pub fn length_for(limit: u32) -> usize
+    ensures { λ r. ⌜ r ≡ lengthFor limit ⌝ }
+{
+    if !unit::limit_allowed(limit as u64) {
+        return 0;
+    }
+    HEAD + limit as usize * SLOT
 }
 
 // Whether an empty table was made, or the settings or the length were refused.
@@ -129,7 +143,7 @@ fn address_fits(n: usize) -> bool
 }
 
 // Makes an empty table of the unit's IPv4 address, IPv6 address (16 octets, or none), first TEID and number of TEIDs, first address and
-// number of addresses. Nothing is written where it is refused.
+// number of addresses, and session limit. Nothing is written where it is refused.
 pub fn make(
     t: &mut [u8],
     ipv4: u32,
@@ -138,21 +152,23 @@ pub fn make(
     size: u32,
     address: u32,
     count: u32,
+    limit: u32,
 ) -> Making
     ensures { λ r.
-        ⌜ madeOf r (now (t .exit)) ≡ make maxSessions (settingsGiven ipv4 (now (ipv6 .entry)) first size address count) (now (t .entry)) ⌝ }
+        ⌜ madeOf r (now (t .exit)) ≡ make (settingsGiven ipv4 (now (ipv6 .entry)) first size address count limit) (now (t .entry)) ⌝ }
 {
-    if t.len() != LENGTH {
+    let n = HEAD + limit as usize * SLOT;
+    if t.len() != n {
         return Making::Refused;
     }
     if !address_fits(ipv6.len()) {
         return Making::Refused;
     }
-    let u = unit::given(ipv4, ipv6, first, size, address, count);
+    let u = unit::given(ipv4, ipv6, first, size, address, count, limit);
     if !unit::allowed(u) {
         return Making::Refused;
     }
-    octets::clear(t, 0, LENGTH);
+    octets::clear(t, 0, n);
     unit::write(&mut t[0..SETTINGS], u);
     Making::Made
 }

@@ -38,3 +38,7 @@ module _ (u : Unit) where
     pub addresses-is : u .addresses ≡ s .addressCount
     unfolding settingsOf
     addresses-is = ap (λ (x : Settings). x .addressCount) e
+
+    pub limit-is : u .limit ≡ s .limit
+    unfolding settingsOf
+    limit-is = ap (λ (x : Settings). x .limit) e

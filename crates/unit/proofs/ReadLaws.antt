@@ -17,10 +17,10 @@ use Rattle.rules.specs.Sound.{ipv6Allowed}
 use Rattle.unit.specs.declared.Settings.{Settings as Unit}
 use Rattle.unit.specs.Meaning.{settingsOf, settingsGiven}
 
-settings-eq : {a a′ b b′ : List ℕ} {f f′ n n′ x x′ y y′ : ℕ} → a ≡ a′ → b ≡ b′ → f ≡ f′ → n ≡ n′ → x ≡ x′ → y ≡ y′
-    → _≡_ {A = Settings} (record { ipv4 = a; ipv6 = b; first = f; size = n; firstAddress = x; addressCount = y })
-    (record { ipv4 = a′; ipv6 = b′; first = f′; size = n′; firstAddress = x′; addressCount = y′ })
-settings-eq p q r s t u = λ i. record { ipv4 = p i; ipv6 = q i; first = r i; size = s i; firstAddress = t i; addressCount = u i }
+settings-eq : {a a′ b b′ : List ℕ} {f f′ n n′ x x′ y y′ l l′ : ℕ} → a ≡ a′ → b ≡ b′ → f ≡ f′ → n ≡ n′ → x ≡ x′ → y ≡ y′ → l ≡ l′
+    → _≡_ {A = Settings} (record { ipv4 = a; ipv6 = b; first = f; size = n; firstAddress = x; addressCount = y; limit = l })
+    (record { ipv4 = a′; ipv6 = b′; first = f′; size = n′; firstAddress = x′; addressCount = y′; limit = l′ })
+settings-eq p q r s t u v = λ i. record { ipv4 = p i; ipv6 = q i; first = r i; size = s i; firstAddress = t i; addressCount = u i; limit = v i }
 
 -- octets of a list read as a number and written again
 again : (at n : ℕ) (s : List ℕ) → T (octets s) → at + n ≤ length s → be n (number (part at n s)) ≡ part at n s
@@ -31,10 +31,10 @@ two-halves at s = take-add 8 8 (drop at s) ∙ ap (λ (l : List ℕ). part at 8 
 
 pub read-is : (t : List ℕ) (u : Unit) → ((i : ℕ) → getD t i 0 < 256) → settingsWidth ≤ length t
     → u .ipv4 ≡ number (part 0 4 t) → u .«has_ipv6» ≡ not (eqb (getD t 4 0) 0) → u .high ≡ number (part 5 8 t) → u .low ≡ number (part 13 8 t)
-    → u .first ≡ number (part 21 4 t) → u .size ≡ number (part 25 4 t) → u .«first_address» ≡ number (part 29 4 t) → u .addresses ≡ number (part 33 4 t)
+    → u .first ≡ number (part 21 4 t) → u .size ≡ number (part 25 4 t) → u .«first_address» ≡ number (part 29 4 t) → u .addresses ≡ number (part 33 4 t) → u .limit ≡ number (part 37 2 t)
     → settingsOf u ≡ viewSettings t
 unfolding settingsOf viewSettings octetAt numberAt
-read-is t u k long a b h l f n x y =
+read-is t u k long a b h l f n x y m =
     let bytes = octets-known t k in
     settings-eq
     (rw a (again 0 4 t bytes (omega arith)))
@@ -43,6 +43,7 @@ read-is t u k long a b h l f n x y =
     n
     x
     y
+    m
   where
     one : (z : Bool) → pick (not z) (part 5 16 t) [] ≡ pick z [] (part 5 16 t)
     one true = refl
@@ -59,9 +60,9 @@ six-given (x ∷ v) o h =
     let e : length xs ≡ 16 = eqb→eq (length xs) 16 h in
     rw (e, again 0 8 xs o (omega arith), again 8 8 xs o (omega arith)) (sym (two-halves 0 xs) ∙ take-all 16 xs (omega arith))
 
-pub given-is : (a f z x y : ℕ) (v : List ℕ) (u : Unit) → ((i : ℕ) → getD v i 0 < 256) → T (ipv6Allowed v)
+pub given-is : (a f z x y l : ℕ) (v : List ℕ) (u : Unit) → ((i : ℕ) → getD v i 0 < 256) → T (ipv6Allowed v)
     → u .ipv4 ≡ a → u .«has_ipv6» ≡ ltb 0 (length v / 2) → u .high ≡ number (part 0 (length v / 2) v) → u .low ≡ number (part (length v / 2) (length v / 2) v)
-    → u .first ≡ f → u .size ≡ z → u .«first_address» ≡ x → u .addresses ≡ y
-    → settingsOf u ≡ settingsGiven a v f z x y
+    → u .first ≡ f → u .size ≡ z → u .«first_address» ≡ x → u .addresses ≡ y → u .limit ≡ l
+    → settingsOf u ≡ settingsGiven a v f z x y l
 unfolding settingsOf
-given-is a f z x y v u k h ea eb eh el ef ez ex ey = settings-eq (ap (be 4) ea) (rw (eb, eh, el) (six-given v (octets-known v k) h)) ef ez ex ey
+given-is a f z x y l v u k h ea eb eh el ef ez ex ey em = settings-eq (ap (be 4) ea) (rw (eb, eh, el) (six-given v (octets-known v k) h)) ef ez ex ey em

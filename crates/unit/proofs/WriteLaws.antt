@@ -11,7 +11,7 @@ use Rattle.octets.proofs.Numbers.{length-be, length-zeros, length-padded}
 use Rattle.octets.proofs.Put.{put-over, put-put}
 use Rattle.rules.specs.Layout.{settingsOctets, settingsWidth}
 use Rattle.unit.specs.declared.Settings.{Settings as Unit}
-use Rattle.unit.specs.Meaning.{settingsOf, poolsAt, poolOctets}
+use Rattle.unit.specs.Meaning.{settingsOf, numbersAt, numberOctets}
 
 zeros-split : (n m : ℕ) → zeros (n + m) ≡ zeros n ++ zeros m
 unfolding zeros
@@ -28,30 +28,36 @@ over-zeros at p v z e h =
     ∙ put-over p (zeros (length v)) (zeros n ++ z) v at e (sym (length-zeros (length v)))
     ∙ ap (λ (l : List ℕ). p ++ l) (sym (append-assoc v (zeros n) z))
 
--- what stands after the IPv6 address: four numbers
-settings-room : zeros settingsWidth ≡ zeros 4 ++ (zeros 1 ++ (zeros 16 ++ zeros 16))
+-- what stands after the IPv6 address: the pools' four numbers and the session limit
+settings-room : zeros settingsWidth ≡ zeros 4 ++ (zeros 1 ++ (zeros 16 ++ zeros 18))
 unfolding zeros
 settings-room = refl
 
 -- numbers one after the other are one write
-pub pool-steps : (u : Unit) (s₀ s₁ s₂ s₃ s₄ : List ℕ) → settingsWidth ≤ length s₀
-    → s₁ ≡ put 21 (be 4 (u .first)) s₀ → s₂ ≡ put 25 (be 4 (u .size)) s₁ → s₃ ≡ put 29 (be 4 (u .«first_address»)) s₂ → s₄ ≡ put 33 (be 4 (u .addresses)) s₃
-    → s₄ ≡ put poolsAt (poolOctets (settingsOf u)) s₀
-unfolding poolOctets settingsOf
-pool-steps u s₀ s₁ s₂ s₃ s₄ long e₁ e₂ e₃ e₄ =
+pub number-steps : (u : Unit) (s₀ s₁ s₂ s₃ s₄ s₅ : List ℕ) → settingsWidth ≤ length s₀
+    → s₁ ≡ put 21 (be 4 (u .first)) s₀ → s₂ ≡ put 25 (be 4 (u .size)) s₁ → s₃ ≡ put 29 (be 4 (u .«first_address»)) s₂ → s₄ ≡ put 33 (be 4 (u .addresses)) s₃ → s₅ ≡ put 37 (be 2 (u .limit)) s₄
+    → s₅ ≡ put numbersAt (numberOctets (settingsOf u)) s₀
+unfolding numberOctets settingsOf
+number-steps u s₀ s₁ s₂ s₃ s₄ s₅ long e₁ e₂ e₃ e₄ e₅ =
     let a = be 4 (u .first) in
     let b = be 4 (u .size) in
     let c = be 4 (u .«first_address») in
     let d = be 4 (u .addresses) in
+    let f = be 2 (u .limit) in
     let la = length-be 4 (u .first) in
     let lb = length-be 4 (u .size) in
     let lc = length-be 4 (u .«first_address») in
     let ld = length-be 4 (u .addresses) in
+    let lf = length-be 2 (u .limit) in
     let lab = length-append a b in
     let labc = length-append (a ++ b) c in
-    e₄ ∙ ap (put 33 d) (e₃ ∙ ap (put 29 c) (e₂ ∙ ap (put 25 b) e₁ ∙ put-put 21 4 a b s₀ la (omega arith)) ∙ put-put 21 8 (a ++ b) c s₀ (omega arith) (omega arith))
-    ∙ put-put 21 12 ((a ++ b) ++ c) d s₀ (omega arith) (omega arith)
-    ∙ ap (λ (xs : List ℕ). put 21 xs s₀) (append-assoc (a ++ b) c d ∙ append-assoc a b (c ++ d))
+    let labcd = length-append ((a ++ b) ++ c) d in
+    let two : s₂ ≡ put 21 (a ++ b) s₀ = e₂ ∙ ap (put 25 b) e₁ ∙ put-put 21 4 a b s₀ la (omega arith) in
+    let three : s₃ ≡ put 21 ((a ++ b) ++ c) s₀ = e₃ ∙ ap (put 29 c) two ∙ put-put 21 8 (a ++ b) c s₀ (omega arith) (omega arith) in
+    let four : s₄ ≡ put 21 (((a ++ b) ++ c) ++ d) s₀ = e₄ ∙ ap (put 33 d) three ∙ put-put 21 12 ((a ++ b) ++ c) d s₀ (omega arith) (omega arith) in
+    e₅ ∙ ap (put 37 f) four
+    ∙ put-put 21 16 (((a ++ b) ++ c) ++ d) f s₀ (omega arith) (omega arith)
+    ∙ ap (λ (xs : List ℕ). put 21 xs s₀) (append-assoc ((a ++ b) ++ c) d f ∙ append-assoc (a ++ b) c (d ++ f) ∙ append-assoc a b (c ++ (d ++ f)))
 
 -- the address in its halves, of no octets where there is none
 module _ (a b : ℕ) where
@@ -78,9 +84,9 @@ flag-small false = omega arith
 
 pub write-steps : (u : Unit) (n : ℕ) (s₀ s₁ s₂ s₃ s₄ s₅ : List ℕ) → s₀ ≡ zeros settingsWidth → n ≡ flag (u .«has_ipv6»)
     → s₁ ≡ put 0 (be 4 (u .ipv4)) s₀ → s₂ ≡ put 4 (be 1 n) s₁ → s₃ ≡ put 5 (be (8 * n) (u .high)) s₂ → s₄ ≡ put (5 + 8 * n) (be (8 * n) (u .low)) s₃
-    → s₅ ≡ put poolsAt (poolOctets (settingsOf u)) s₄
+    → s₅ ≡ put numbersAt (numberOctets (settingsOf u)) s₄
     → s₅ ≡ settingsOctets (settingsOf u)
-unfolding settingsOctets settingsOf poolOctets
+unfolding settingsOctets settingsOf numberOctets
 write-steps u n s₀ s₁ s₂ s₃ s₄ s₅ e₀ en e₁ e₂ e₃ e₄ e₅ =
     let z : Bool = u .«has_ipv6» in
     let four = be 4 (u .ipv4) in
@@ -91,19 +97,23 @@ write-steps u n s₀ s₁ s₂ s₃ s₄ s₅ e₀ en e₁ e₂ e₃ e₄ e₅ =
     let short : length v ≤ 16 = six-short (u .high) (u .low) z in
     let lv : length pad ≡ 16 = length-padded 16 v short in
     let one : be 1 n ≡ there = ap (be 1) en ∙ six-flag (u .high) (u .low) z in
-    let r₁ : s₁ ≡ four ++ (zeros 1 ++ (zeros 16 ++ zeros 16)) =
-    e₁ ∙ ap (put 0 four) (e₀ ∙ settings-room) ∙ put-over [] (zeros 4) (zeros 1 ++ (zeros 16 ++ zeros 16)) four 0 refl (length-be 4 (u .ipv4) ∙ sym (length-zeros 4)) in
-    let r₂ : s₂ ≡ (four ++ there) ++ (zeros 16 ++ zeros 16) =
-    e₂ ∙ (λ i. put 4 (one i) (r₁ i)) ∙ put-over four (zeros 1) (zeros 16 ++ zeros 16) there 4 (length-be 4 (u .ipv4)) (sym (length-zeros 1)) ∙ sym (append-assoc four there _) in
+    let r₁ : s₁ ≡ four ++ (zeros 1 ++ (zeros 16 ++ zeros 18)) =
+    e₁ ∙ ap (put 0 four) (e₀ ∙ settings-room) ∙ put-over [] (zeros 4) (zeros 1 ++ (zeros 16 ++ zeros 18)) four 0 refl (length-be 4 (u .ipv4) ∙ sym (length-zeros 4)) in
+    let r₂ : s₂ ≡ (four ++ there) ++ (zeros 16 ++ zeros 18) =
+    e₂ ∙ (λ i. put 4 (one i) (r₁ i)) ∙ put-over four (zeros 1) (zeros 16 ++ zeros 18) there 4 (length-be 4 (u .ipv4)) (sym (length-zeros 1)) ∙ sym (append-assoc four there _) in
     let l₂ : length (four ++ there) ≡ 5 = length-append four there ∙ ap (λ (n : ℕ). n + 1) (length-be 4 (u .ipv4)) in
-    let long : 21 ≤ length s₂ = omega (arith, ap length r₂, length-append (four ++ there) (zeros 16 ++ zeros 16), length-append (zeros 16) (zeros 16), length-zeros 16) in
+    let long : 21 ≤ length s₂ = omega (arith, ap length r₂, length-append (four ++ there) (zeros 16 ++ zeros 18), length-append (zeros 16) (zeros 18), length-zeros 16, length-zeros 18) in
     let both : s₄ ≡ put 5 v s₂ =
     e₄ ∙ ap (put (5 + 8 * n) (be (8 * n) (u .low))) e₃ ∙ put-put 5 (8 * n) (be (8 * n) (u .high)) (be (8 * n) (u .low)) s₂ (length-be (8 * n) (u .high)) (omega arith)
     ∙ ap (λ (xs : List ℕ). put 5 xs s₂) (ap (λ (k : ℕ). be (8 * k) (u .high) ++ be (8 * k) (u .low)) en ∙ halves (u .high) (u .low) z) in
-    let r₄ : s₄ ≡ ((four ++ there) ++ pad) ++ (zeros 16 ++ []) =
-    both ∙ ap (put 5 v) r₂ ∙ over-zeros 5 (four ++ there) v (zeros 16) l₂ short ∙ sym (append-assoc (four ++ there) pad (zeros 16)) ∙ ap (λ (l : List ℕ). ((four ++ there) ++ pad) ++ l) (sym (append-nil (zeros 16))) in
+    let r₄ : s₄ ≡ ((four ++ there) ++ pad) ++ (zeros 18 ++ []) =
+    both ∙ ap (put 5 v) r₂ ∙ over-zeros 5 (four ++ there) v (zeros 18) l₂ short ∙ sym (append-assoc (four ++ there) pad (zeros 18)) ∙ ap (λ (l : List ℕ). ((four ++ there) ++ pad) ++ l) (sym (append-nil (zeros 18))) in
     let l₄ : length ((four ++ there) ++ pad) ≡ 21 = length-append (four ++ there) pad ∙ ap₂ _+_ l₂ lv in
-    let pools : List ℕ = be 4 (u .first) ++ (be 4 (u .size) ++ (be 4 (u .«first_address») ++ be 4 (u .addresses))) in
-    let lp : length pools ≡ 16 =
-    omega (arith, length-append (be 4 (u .first)) (be 4 (u .size) ++ (be 4 (u .«first_address») ++ be 4 (u .addresses))), length-append (be 4 (u .size)) (be 4 (u .«first_address») ++ be 4 (u .addresses)), length-append (be 4 (u .«first_address»)) (be 4 (u .addresses)), length-be 4 (u .first), length-be 4 (u .size), length-be 4 (u .«first_address»), length-be 4 (u .addresses)) in
-    e₅ ∙ ap (put 21 pools) r₄ ∙ put-over ((four ++ there) ++ pad) (zeros 16) [] pools 21 l₄ (lp ∙ sym (length-zeros 16)) ∙ simp (append-assoc, append-nil)
+    let limit = be 2 (u .limit) in
+    let ips = be 4 (u .addresses) ++ limit in
+    let first-ip = be 4 (u .«first_address») ++ ips in
+    let sizes = be 4 (u .size) ++ first-ip in
+    let numbers : List ℕ = be 4 (u .first) ++ sizes in
+    let ln : length numbers ≡ 18 =
+    omega (arith, length-append (be 4 (u .first)) sizes, length-append (be 4 (u .size)) first-ip, length-append (be 4 (u .«first_address»)) ips, length-append (be 4 (u .addresses)) limit, length-be 4 (u .first), length-be 4 (u .size), length-be 4 (u .«first_address»), length-be 4 (u .addresses), length-be 2 (u .limit)) in
+    e₅ ∙ ap (put 21 numbers) r₄ ∙ put-over ((four ++ there) ++ pad) (zeros 18) [] numbers 21 l₄ (ln ∙ sym (length-zeros 18)) ∙ simp (append-assoc, append-nil)

@@ -19,19 +19,20 @@ settingsOf u =
       size = u .size;
       firstAddress = u .«first_address»;
       addressCount = u .addresses;
+      limit = u .limit;
     }
 
 -- the parameters of a call: the IPv4 address as a number, the IPv6 address as octets, empty where there is none
-abbrev pub settingsGiven : ℕ → List ℕ → ℕ → ℕ → ℕ → ℕ → Settings
-settingsGiven ipv4 ipv6 first size firstAddress addresses =
-    record { ipv4 = be 4 ipv4; ipv6 = ipv6; first = first; size = size; firstAddress = firstAddress; addressCount = addresses }
+abbrev pub settingsGiven : ℕ → List ℕ → ℕ → ℕ → ℕ → ℕ → ℕ → Settings
+settingsGiven ipv4 ipv6 first size firstAddress addresses limit =
+    record { ipv4 = be 4 ipv4; ipv6 = ipv6; first = first; size = size; firstAddress = firstAddress; addressCount = addresses; limit = limit }
 
--- the pools' octets, and where they stand in the settings: after the addresses
-abbrev pub poolsAt : ℕ
-poolsAt = 21
+-- the octets of the pools and the session limit, and where they stand in the settings: after the addresses
+abbrev pub numbersAt : ℕ
+numbersAt = 21
 
-unfoldable pub poolOctets : Settings → List ℕ
-poolOctets s = be 4 (s .first) ++ (be 4 (s .size) ++ (be 4 (s .firstAddress) ++ be 4 (s .addressCount)))
+unfoldable pub numberOctets : Settings → List ℕ
+numberOctets s = be 4 (s .first) ++ (be 4 (s .size) ++ (be 4 (s .firstAddress) ++ (be 4 (s .addressCount) ++ be 2 (s .limit))))
 
 -- a pool of at least one number and at most so many, the last of which has four octets
 abbrev pub rangeTests : ℕ → ℕ → ℕ → List Bool

@@ -7,11 +7,11 @@ ghost use lib.ListN.{length};
 ghost use Rattle.octets.specs.Choice.{flag, allOf};
 ghost use Rattle.octets.specs.Octets.{zeros, put};
 ghost use Rattle.rules.specs.Layout.{viewSettings, settingsOctets, settingsWidth};
-ghost use Rattle.rules.specs.Sound.{settingsAllowed, ipv6Allowed};
-ghost use Rattle.unit.specs.Meaning.{settingsOf, settingsGiven, rangeTests, poolsAt, poolOctets};
+ghost use Rattle.rules.specs.Sound.{settingsAllowed, ipv6Allowed, limitTests};
+ghost use Rattle.unit.specs.Meaning.{settingsOf, settingsGiven, rangeTests, numbersAt, numberOctets};
 
 // The IPv4 address as a number, whether there is an IPv6 address and that address in two halves, the first TEID and the pool's size, the
-// first address for patients and how many there are.
+// first address for patients and how many there are, and how many sessions there is room for.
 pub struct Settings {
     pub ipv4: u64,
     pub has_ipv6: bool,
@@ -21,6 +21,7 @@ pub struct Settings {
     pub size: u64,
     pub first_address: u64,
     pub addresses: u64,
+    pub limit: u64,
 }
 
 // The settings at the front of a table.
@@ -36,6 +37,7 @@ pub fn read(t: &[u8]) -> Settings
     let size = octets::read(t, format::SIZE, 4);
     let first_address = octets::read(t, format::FIRST_ADDRESS, 4);
     let addresses = octets::read(t, format::ADDRESS_COUNT, 4);
+    let limit = octets::read(t, format::LIMIT, 2);
     Settings {
         ipv4,
         has_ipv6,
@@ -45,6 +47,7 @@ pub fn read(t: &[u8]) -> Settings
         size,
         first_address,
         addresses,
+        limit,
     }
 }
 
@@ -56,9 +59,10 @@ pub fn given(
     size: u32,
     first_address: u32,
     addresses: u32,
+    limit: u32,
 ) -> Settings
     requires { ⌜ T (ipv6Allowed (now ipv6)) × (length (now ipv6) ≤ 16) ⌝ }
-    ensures { λ r. ⌜ settingsOf r ≡ settingsGiven ipv4 (now (ipv6 .entry)) first size «first_address» addresses ⌝ }
+    ensures { λ r. ⌜ settingsOf r ≡ settingsGiven ipv4 (now (ipv6 .entry)) first size «first_address» addresses limit ⌝ }
 {
     let half = ipv6.len() / 2;
     let high = octets::read(ipv6, 0, half);
@@ -72,6 +76,7 @@ pub fn given(
         size: size as u64,
         first_address: first_address as u64,
         addresses: addresses as u64,
+        limit: limit as u64,
     }
 }
 
@@ -89,11 +94,24 @@ fn pool_allowed(first: u64, size: u64, most: u64) -> bool
     first <= 4294967296 - size
 }
 
-// Whether the rules allow these settings: the first TEID at least 1, the pool's size 1 to 4,096, the number of addresses 1 to 1,024, the
-// last of each at most 4,294,967,295.
+// Whether a unit may have room for so many sessions: 1 to 256.
+pub fn limit_allowed(limit: u64) -> bool
+    ensures { λ r. ⌜ r ≡ allOf (limitTests limit) ⌝ }
+{
+    if limit < 1 {
+        return false;
+    }
+    limit <= format::MAX_SESSIONS
+}
+
+// Whether the rules allow these settings: 1 to 256 sessions, the first TEID at least 1, the pool's size 1 to 65,536, the number of
+// addresses 1 to 1,024, the last of each at most 4,294,967,295.
 pub fn allowed(s: Settings) -> bool
     ensures { λ r. ⌜ r ≡ settingsAllowed (settingsOf s) ⌝ }
 {
+    if !limit_allowed(s.limit) {
+        return false;
+    }
     if s.first < 1 {
         return false;
     }
@@ -113,15 +131,16 @@ fn flag(there: bool) -> usize
     0
 }
 
-// Writes the pools behind the addresses.
-fn write_pools(slot: &mut [u8], s: Settings)
+// Writes the pools and the session limit behind the addresses.
+fn write_numbers(slot: &mut [u8], s: Settings)
     requires { ⌜ settingsWidth ≤ length (now slot) ⌝ }
-    ensures { λ _. ⌜ now (slot .exit) ≡ put poolsAt (poolOctets (settingsOf s)) (now (slot .entry)) ⌝ }
+    ensures { λ _. ⌜ now (slot .exit) ≡ put numbersAt (numberOctets (settingsOf s)) (now (slot .entry)) ⌝ }
 {
     octets::write(slot, format::FIRST, 4, s.first);
     octets::write(slot, format::SIZE, 4, s.size);
     octets::write(slot, format::FIRST_ADDRESS, 4, s.first_address);
     octets::write(slot, format::ADDRESS_COUNT, 4, s.addresses);
+    octets::write(slot, format::LIMIT, 2, s.limit);
 }
 
 // Writes the settings into their slot, which is zero.
@@ -135,5 +154,5 @@ pub fn write(slot: &mut [u8], s: Settings)
     octets::write(slot, format::IPV6_THERE, 1, there as u64);
     octets::write(slot, format::IPV6, half, s.high);
     octets::write(slot, format::IPV6 + half, half, s.low);
-    write_pools(slot, s);
+    write_numbers(slot, s);
 }

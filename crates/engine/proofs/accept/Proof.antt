@@ -6,6 +6,8 @@ use native.Mathlib.Omega.{arith}
 use lib.ListN.{length}
 use lib.Seq.{length-take-le}
 use Rattle.engine.proofs.Acceptance.{give-asks, told, accepted-answers}
+use Rattle.engine.proofs.Entering.{long-by}
+use Rattle.unit.proofs.FieldLaws.{limit-is}
 use borrow.Author.Needs.{needs}
 use Rattle.engine.proofs.accept.Statement.{statement}
 use Rattle.engine.proofs.accept.Tie as tie
@@ -28,7 +30,7 @@ accepted-requires c κs =
 keep-requires : tie.Need-keep-requires
 keep-requires c κs =
     let p = c .before .before .before .before .before .before .before .before .before .before .before .before .before .before .before .before .before .before .before .before .before .before .before .before .before .pre in
-    (p .asked .tableLong, p .slotLong, omega (arith, p .rows, c .before .before .before .before .before .before .before .before .before .before .before .before .give .kept .0))
+    (long-by _ _ (limit-is _ _ (p .settings)) (p .asked .tableLong), p .slotLong, omega (arith, p .rows, c .before .before .before .before .before .before .before .before .before .before .before .before .give .kept .0))
 
 returns : tie.Need-returns
 returns c = accepted-answers (c .before .before .before .before .before .before .before .before .before .before .before .before .before .before .before .before .before .before .before .before .before .before .before .before .before .before .before .before .before .before .pre) (c .before .before .before .before .before .before .before .before .before .before .before .before .before .before .before .before .before .give .ensures) _ _ _ (c .before .before .before .before .before .before .before .before .before .before .accepted .ensures) (c .before .before .before .before .keep .ensures .1)

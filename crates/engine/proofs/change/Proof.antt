@@ -3,6 +3,7 @@
 use Rattle.engine.proofs.Changing.{fault-refuses, readable, replies-judged, enter-asks}
 use Rattle.engine.proofs.Faults.{replies-fault}
 use Rattle.engine.proofs.Entering.{fetch-asks, entered}
+use Rattle.unit.proofs.FieldLaws.{limit-is}
 use mathlib.Core.Path.{refl}
 use lib.ListN.{replicate}
 use borrow.Author.Needs.{needs}
@@ -16,10 +17,10 @@ refuse-requires c κs =
     (p .0 .asked, fault-refuses (p .0) (c .before .before .before .before .before .before .read-request .ensures) _ _ _ (c .before .before .before .reading .given .1) .refusing, p .1 .settings)
 
 enter-requires : tie.Need-enter-requires
-enter-requires c κs = fetch-asks _ _ _ _ _ _ (enter-asks (c .before .before .before .before .before .before .before .before .before .before .before .pre .0) (c .before .before .before .before .before .before .read-request .ensures) (c .before .before .before .reading2 .given .1) _ (search needs) refl)
+enter-requires c κs = fetch-asks _ _ _ _ _ _ (enter-asks (c .before .before .before .before .before .before .before .before .before .before .before .pre .0) (c .before .before .before .before .before .before .read-request .ensures) (c .before .before .before .reading2 .given .1) _ (search needs) refl) _ (limit-is _ _ (c .before .before .before .before .before .before .before .before .before .before .before .pre .1 .settings))
 
 settle-requires : tie.Need-settle-requires
-settle-requires c κs = (readable (c .before .before .before .before .before .before .before .before .before .before .before .before .before .before .before .before .before .pre .0) (c .before .before .before .before .before .before .before .before .before .before .before .before .read-request .ensures) (c .before .before .before .before .before .before .before .before .before .reading2 .given .1), c .before .before .before .before .before .before .before .before .before .before .before .before .before .before .before .before .before .pre .1, entered _ _ _ _ _ _ (enter-asks (c .before .before .before .before .before .before .before .before .before .before .before .before .before .before .before .before .before .pre .0) (c .before .before .before .before .before .before .before .before .before .before .before .before .read-request .ensures) (c .before .before .before .before .before .before .before .before .before .reading2 .given .1) (replicate sessionWidth 0) (search needs) refl) _ _ (c .before .before .before .before .before .enter .ensures))
+settle-requires c κs = (readable (c .before .before .before .before .before .before .before .before .before .before .before .before .before .before .before .before .before .pre .0) (c .before .before .before .before .before .before .before .before .before .before .before .before .read-request .ensures) (c .before .before .before .before .before .before .before .before .before .reading2 .given .1), c .before .before .before .before .before .before .before .before .before .before .before .before .before .before .before .before .before .pre .1, entered _ _ _ _ _ _ (enter-asks (c .before .before .before .before .before .before .before .before .before .before .before .before .before .before .before .before .before .pre .0) (c .before .before .before .before .before .before .before .before .before .before .before .before .read-request .ensures) (c .before .before .before .before .before .before .before .before .before .reading2 .given .1) (replicate sessionWidth 0) (search needs) refl) _ _ _ (limit-is _ _ (c .before .before .before .before .before .before .before .before .before .before .before .before .before .before .before .before .before .pre .1 .settings)) (c .before .before .before .before .before .enter .ensures))
 
 returns : tie.Need-returns
 returns c = replies-fault (fault-refuses (c .before .before .before .before .before .before .before .before .before .before .before .before .before .before .pre .0) (c .before .before .before .before .before .before .before .before .before .read-request .ensures) _ _ _ (c .before .before .before .before .before .before .reading .given .1)) (c .before .before .refuse .ensures)

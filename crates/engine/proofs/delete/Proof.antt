@@ -3,6 +3,8 @@ use borrow.Author.Needs.{needs}
 use Rattle.octets.specs.Lists.{all}
 use mathlib.Core.Path.{refl}
 use native.Mathlib.Omega.{arith}
+use Rattle.unit.proofs.FieldLaws.{limit-is}
+use Rattle.engine.proofs.Entering.{long-by}
 use Rattle.engine.proofs.Deleted.{deleted-through}
 use Rattle.engine.proofs.Faults.{frame-asks, frame-replies}
 use Rattle.engine.proofs.delete.Statement.{statement}
@@ -17,6 +19,12 @@ returns c = search frame-replies
 accepted-requires : tie.Need-accepted-requires
 unfolding all
 accepted-requires c κs = (search needs, search needs, omega arith, tt, refl, search needs)
+
+remove-requires : tie.Need-remove-requires
+remove-requires c κs =
+    let p = c .before .before .before .before .before .before .before .before .before .before .before .before .before .before .before .pre in
+    let long = long-by _ _ (limit-is _ _ (p .4)) (p .0 .tableLong) in
+    omega arith
 
 returns-2 : tie.Need-returns-2
 returns-2 c = search deleted-through
@@ -39,7 +47,7 @@ delete-spec =
     (λ c. search needs)
     (λ c. search needs)
     accepted-requires
-    (λ c κs. search needs)
+    remove-requires
     (λ c. search needs)
     (λ c. search needs)
     returns-2)

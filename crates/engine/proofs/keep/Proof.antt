@@ -6,7 +6,7 @@ use Rattle.engine.proofs.keep.Statement.{statement}
 use Rattle.engine.proofs.keep.Tie as tie
 
 returns : tie.Need-returns
-returns c = kept-session _ _ _ _ _ _ _ (c .before .before .before .before .before .before .before .build .ensures) (c .before .before .save .ensures)
+returns c = kept-session _ _ _ _ _ _ _ _ (c .before .before .before .before .before .before .before .build .ensures) (c .before .before .save .ensures)
 
 pub keep-spec : {M : Type 1} → statement M
 keep-spec = tie.close (tie.spec (λ c κs. search needs) (λ c κs. search needs) (λ c. search needs) (λ c. search needs) returns)

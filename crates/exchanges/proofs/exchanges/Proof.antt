@@ -1,6 +1,7 @@
--- `exchanges::exchanges` meets its contract: each turn takes two octets at least, and the table keeps its length.
+-- `exchanges::exchanges` meets its contract: each turn takes two octets at least, and the table stays within its room.
 -- Assumes nothing.
 use mathlib.Core.Path.{_≡_}
+use Prim.Native.Nat.{_≤_}
 use native.Mathlib.Omega.{arith}
 use lib.ListN.{length}
 use borrow.Author.Needs.{needs}
@@ -9,10 +10,10 @@ use Rattle.exchanges.proofs.exchanges.Statement.{statement}
 use Rattle.exchanges.proofs.exchanges.Tie as tie
 
 abbrev Inv-loop : tie.InvT-loop
-Inv-loop t₀ s rest₀ t rest = length t ≡ length t₀
+Inv-loop t₀ s n₀ rest₀ t n rest = (length t ≡ length t₀) × (n ≤ length t)
 
 abbrev μ-loop : tie.MeasureT-loop
-μ-loop t₀ s rest₀ t rest = length rest
+μ-loop t₀ s n₀ rest₀ t n rest = length rest
 
 loop-less : tie.Need-loop-less Inv-loop μ-loop
 loop-less c = part-shorter _ (c .before .before .before .before .before .before .before .before .before .loop .rest .now) (omega arith) (c .before .before .before .before .before .before .if1 .left)

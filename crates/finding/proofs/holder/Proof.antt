@@ -6,16 +6,16 @@ use native.Mathlib.Omega.{arith}
 use borrow.Author.Needs.{needs}
 use lib.ListN.{length, drop}
 use Rattle.rules.specs.Limits.{maxSessions}
-use Rattle.rules.specs.Layout.{tableLength, viewSessions}
+use Rattle.rules.specs.Layout.{tableLength, viewSettings, viewSessions}
 use Rattle.rules.specs.Finding.{placeFrom, isHolder, holderPlace}
-use Rattle.restoration.proofs.SoundSlots.{table-long, few-sessions}
+use Rattle.restoration.proofs.SoundSlots.{table-long, within-limit, few-sessions}
 use Rattle.finding.proofs.Steps.{slot-counted, holder-here, holder-later, holder-none}
 use Rattle.finding.proofs.holder.Statement.{statement}
 use Rattle.finding.proofs.holder.Tie as tie
 
 abbrev Inv-loop : tie.InvT-loop
 Inv-loop t n teid i₀ i =
-    (i ≤ n) × (n ≤ maxSessions) × (length t ≡ tableLength maxSessions) × (placeFrom i (isHolder teid) (drop i (viewSessions t)) ≡ holderPlace teid (viewSessions t))
+    (i ≤ n) × (n ≤ maxSessions) × (n ≤ viewSettings t .limit) × (length t ≡ tableLength (viewSettings t .limit)) × (placeFrom i (isHolder teid) (drop i (viewSessions t)) ≡ holderPlace teid (viewSessions t))
 
 abbrev μ-loop : tie.MeasureT-loop
 μ-loop t n teid i₀ i = n - i
@@ -25,7 +25,7 @@ unfolding holderPlace
 loop-holds c =
     let s = c .before in
     let t = s .args .t .now in
-    (omega arith, omega (arith, few-sessions t (s .pre .0), s .pre .1), table-long t (s .pre .0), refl)
+    (omega arith, omega (arith, few-sessions t (s .pre .0), s .pre .1), omega (arith, within-limit t (s .pre .0), s .pre .1), table-long t (s .pre .0), refl)
 
 slot-holds-requires : tie.Need-slot-holds-requires Inv-loop μ-loop
 slot-holds-requires c κs = search slot-counted
@@ -34,7 +34,7 @@ returns : tie.Need-returns Inv-loop μ-loop
 returns c = search holder-here
 
 loop-again : tie.Need-loop-again Inv-loop μ-loop
-loop-again c = (omega arith, search needs, search needs, search holder-later)
+loop-again c = (omega arith, search needs, search needs, search needs, search holder-later)
 
 returns-2 : tie.Need-returns-2 Inv-loop μ-loop
 returns-2 c = search holder-none

@@ -3,7 +3,7 @@
 use lib.Dec.{T}
 use Rattle.octets.specs.Octets.{octets}
 use Rattle.octets.proofs.Digits.{octets-known}
-use Rattle.records.proofs.Answers.{settings-absent, settings-pool, settings-addresses}
+use Rattle.records.proofs.Answers.{settings-absent, settings-pool, settings-addresses, settings-limit}
 use borrow.Author.Needs.{needs}
 use Rattle.records.proofs.settings_sound.Statement.{statement}
 use Rattle.records.proofs.settings_sound.Tie as tie
@@ -41,8 +41,19 @@ addresses-sound-requires c κs = search needs
 
 returns-3 : tie.Need-returns-3
 returns-3 c =
-    let o : T (octets (c .before .before .before .before .before .before .before .before .before .before .args .slot .now)) = octets-known (c .before .before .before .before .before .before .before .before .before .before .args .slot .now) (λ i. c .before .before .before .before .before .before .before .before .before .shared-slice-known .given i .fits) in
+    let o : T (octets (c .before .before .before .before .before .before .before .before .before .before .before .args .slot .now)) = octets-known (c .before .before .before .before .before .before .before .before .before .before .before .args .slot .now) (λ i. c .before .before .before .before .before .before .before .before .before .before .shared-slice-known .given i .fits) in
     search settings-addresses
+
+read-requires-5 : tie.Need-read-requires-5
+read-requires-5 c κs = search needs
+
+limit-allowed-requires : tie.Need-limit-allowed-requires
+limit-allowed-requires c κs = search needs
+
+returns-4 : tie.Need-returns-4
+returns-4 c =
+    let o : T (octets (c .before .before .before .before .before .before .before .before .before .before .before .before .before .args .slot .now)) = octets-known (c .before .before .before .before .before .before .before .before .before .before .before .before .before .args .slot .now) (λ i. c .before .before .before .before .before .before .before .before .before .before .before .before .shared-slice-known .given i .fits) in
+    search settings-limit
 
 pub settings-sound-spec : {M : Type 1} → statement M
 settings-sound-spec =
@@ -57,4 +68,7 @@ settings-sound-spec =
     read-requires-3
     read-requires-4
     addresses-sound-requires
-    returns-3)
+    returns-3
+    read-requires-5
+    limit-allowed-requires
+    returns-4)

@@ -2,7 +2,7 @@
 -- Assumes nothing.
 use mathlib.Core.Path.{refl}
 use native.Mathlib.Omega.{arith}
-use Rattle.restoration.proofs.SoundSlots.{table-long, few-sessions, place-fits}
+use Rattle.restoration.proofs.SoundSlots.{table-long, few-sessions, within-limit, place-fits}
 use Rattle.restoration.proofs.RequestSteps.{elements-room, request-steps}
 use borrow.Author.Needs.{needs}
 use Rattle.restoration.proofs.write_request.Statement.{statement}
@@ -32,7 +32,7 @@ add-write-elements c =
 part-write-elements-end : tie.Need-part-write-elements-end
 part-write-elements-end c =
     let s = c .before .before .before .before .before in
-    let f = few-sessions (s .args .t .now) (s .pre .0 .sound) in
+    let f = within-limit (s .args .t .now) (s .pre .0 .sound) in
     omega (arith, s .pre .0 .live, table-long (s .args .t .now) (s .pre .0 .sound))
 
 write-elements-requires : tie.Need-write-elements-requires

@@ -7,7 +7,7 @@ use Rattle.sets.proofs.goes.Statement.{statement}
 use Rattle.sets.proofs.goes.Tie as tie
 
 covers-session-requires : tie.Need-covers-session-requires
-covers-session-requires c κs = let p = c .before .before .before .pre in (p .3, slot-long _ _ (p .0) (p .1), slot-count _ _ (p .0) (p .1) (p .2))
+covers-session-requires c κs = let p = c .before .before .before .pre in (p .3, slot-long _ _ _ (p .0) (p .1), slot-count _ _ _ (p .0) (p .1) (p .2))
 
 returns : tie.Need-returns
 returns c = search slot-here

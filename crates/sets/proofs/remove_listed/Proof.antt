@@ -4,7 +4,7 @@ use mathlib.Core.Path.{sym, _∙_}
 use native.Mathlib.Omega.{arith}
 use lib.ListN.{length}
 use Rattle.elements.proofs.Front.{Front, front, none-left}
-use Rattle.sets.proofs.GoneLaws.{Left, left-none, left-sound, left-sized, left-more, left-end}
+use Rattle.sets.proofs.GoneLaws.{Left, left-none, left-sound, left-same, left-sized, left-more, left-end}
 use Rattle.sets.proofs.remove_listed.Statement.{statement}
 use Rattle.sets.proofs.remove_listed.Tie as tie
 
@@ -21,7 +21,7 @@ loop-holds : tie.Need-loop-holds Inv-loop μ-loop
 loop-holds c = left-none (c .before .before .pre .0) (c .before .before .pre .1)
 
 same-length : tie.Need-same-length Inv-loop μ-loop
-same-length c = left-sound (c .before .before .before .loop .inv) .long ∙ sym (c .before .before .before .before .before .before .pre .0 .long)
+same-length c = left-same (c .before .before .before .loop .inv) (c .before .before .before .before .before .before .pre .0)
 
 returns : tie.Need-returns Inv-loop μ-loop
 returns c = left-end (c .before .before .before .loop .inv) (λ p. none-left p _ (sym (c .enum-told .given .1) ∙ c .before .before .first-of .ensures))

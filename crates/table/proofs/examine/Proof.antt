@@ -1,6 +1,6 @@
 -- `table::examine` meets its contract.
 -- Assumes nothing.
-use Prim.Native.Nat.{_*_}
+use Prim.Native.Nat.{_-_}
 use mathlib.Core.Path.{_≡_, ap}
 use native.Mathlib.Omega.{arith}
 use lib.ListN.{length}
@@ -8,8 +8,8 @@ use lib.Dec.{T}
 use Rattle.octets.specs.Octets.{part, octets}
 use Rattle.octets.proofs.Digits.{octets-known}
 use Rattle.octets.proofs.Put.{length-part}
-use Rattle.rules.specs.Limits.{mapWords, addressWords, maxSessions}
-use Rattle.rules.specs.Layout.{headWidth, sessionWidth}
+use Rattle.rules.specs.Limits.{mapWords, addressWords}
+use Rattle.rules.specs.Layout.{headWidth}
 use Rattle.table.proofs.Examining.{front-facts, examined-broken, examined-walk}
 use borrow.Author.Needs.{needs}
 use Rattle.table.proofs.examine.Statement.{statement}
@@ -74,10 +74,20 @@ read-requires-5 c κs =
     omega (arith, known .long)
 
 sub-admit-all : tie.Need-sub-admit-all
-sub-admit-all c = search needs
+sub-admit-all c =
+    let t = c .before .before .before .before .before .before .before .before .before .before .before .before .before .args .t .now in
+    let o : T (octets t) = octets-known t (λ i. c .before .before .before .before .before .before .before .before .before .before .before .before .shared-slice-known .given i .fits) in
+    let front = c .before .before .before .before .before .before .before .before .before .front-sound in
+    let known = front-facts t o (front .result) (front .ensures) (c .before .before .before .before .before .before .before .before .if1 .left) in
+    omega (arith, known .long)
 
 part-admit-all-start : tie.Need-part-admit-all-start
-part-admit-all-start c = search needs
+part-admit-all-start c =
+    let t = c .before .before .before .before .before .before .before .before .before .before .before .before .before .args .t .now in
+    let o : T (octets t) = octets-known t (λ i. c .before .before .before .before .before .before .before .before .before .before .before .before .shared-slice-known .given i .fits) in
+    let front = c .before .before .before .before .before .before .before .before .before .front-sound in
+    let known = front-facts t o (front .result) (front .ensures) (c .before .before .before .before .before .before .before .before .if1 .left) in
+    omega (arith, known .long)
 
 part-admit-all-end : tie.Need-part-admit-all-end
 part-admit-all-end c =
@@ -100,8 +110,8 @@ admit-all-requires c κs =
     let count = c .before .before .before .read5 .ensures .0 in
     let words : length (c .before .before .before .before .before .before .before .before .before .before .before .before .before .before .args .words .now) ≡ mapWords = ap length (c .before .before .before .before .before .before .before .before .before .before .before .before .before .before .pre .0) in
     let addresses : length (c .before .before .before .before .before .before .before .before .before .before .before .before .before .before .args .addresses .now) ≡ addressWords = ap length (c .before .before .before .before .before .before .before .before .before .before .before .before .before .before .pre .1) in
-    let room : length (part headWidth (maxSessions * sessionWidth) t) ≡ maxSessions * sessionWidth = length-part headWidth (maxSessions * sessionWidth) t (omega (arith, known .long)) in
-    (omega (arith, n, known .few, room), omega (arith, n, known .few), omega (arith, first, size, known .pool), omega (arith, size, known .size, words), omega (arith, address, count, known .addresses), omega (arith, count, known .count, addresses))
+    let room : length (part headWidth (length t - headWidth) t) ≡ length t - headWidth = length-part headWidth (length t - headWidth) t (omega (arith, known .long)) in
+    (omega (arith, n, known .few, known .long, room), omega (arith, n, known .few, known .room), omega (arith, first, size, known .pool), omega (arith, size, known .size, words), omega (arith, address, count, known .addresses), omega (arith, count, known .count, addresses))
 
 same-length : tie.Need-same-length
 same-length c = search needs
