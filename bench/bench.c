@@ -11,9 +11,10 @@
 #include "sides.h"
 #include "times.h"
 
-void print_times(const char *what, const char *name, size_t live, double measured, double other)
+void print_times(const char *what, const char *name, struct size size, double measured,
+                 double other)
 {
-    printf("%s %s %zu %.4f %.4f\n", what, name, live, measured, other);
+    printf("%s %s %zu %zu %.4f %.4f\n", what, name, size.live, size.limit, measured, other);
 }
 
 int main(int argc, char **argv)

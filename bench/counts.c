@@ -3,9 +3,10 @@
  * what it has collected to a file of its own whenever part_ends returns; so the k-th line that this
  * program prints says what the k-th file holds:
  *
- *   WHAT NAME SIDE CALLS
+ *   WHAT NAME LIVE LIMIT SIDE CALLS
  *
- * Instructions repeat exactly, so a few calls of each do.
+ * with the live sessions and the session limit of the table. Instructions repeat exactly, so a few
+ * calls of each do.
  */
 #include <stdio.h>
 #include <stdlib.h>
@@ -32,10 +33,7 @@ void counted_request(const struct message *message)
 
 void counted_check(void)
 {
-    uint32_t count;
-
-    if (place.side->free_count(place.table, sizeof place.table, &count) != 0)
-        give_up("%s calls a sound table broken", place.side->name);
+    check(&place);
 }
 
 void part_ends(void)
@@ -43,43 +41,56 @@ void part_ends(void)
     fflush(stdout);
 }
 
-static void end_part(const char *what, const char *name, size_t calls)
+static void end_part(const char *what, const char *name, struct size size, size_t calls)
 {
-    printf("%s %s %s %zu\n", what, name, place.side->name, calls);
+    printf("%s %s %zu %zu %s %zu\n", what, name, size.live, size.limit, place.side->name, calls);
     part_ends();
 }
 
-/* One kind of request is counted; the others of the cycle are made between. */
-static void count_kind(const char *table, enum kind kind)
+/* Counts the requests of one kind, or of all (KINDS); the others are made between. Gives how many
+   were counted. */
+static size_t count_requests(struct size size, size_t wanted)
 {
-    char name[64];
+    size_t sessions = size.live < COUNTED ? size.live : COUNTED;
 
-    for (size_t i = 0; i < KINDS * COUNTED; i++) {
-        if (i % KINDS == kind)
+    for (size_t i = 0; i < KINDS * sessions; i++) {
+        if (wanted == KINDS || i % KINDS == wanted)
             counted_request(&cycle[i]);
         else
             ask(&place, &cycle[i]);
         if (cause_of(&place) != 1)
             give_up("%s refuses request %zu", place.side->name, i);
     }
-    snprintf(name, sizeof name, "%s/%s", table, kind_names[kind]);
-    end_part("request", name, COUNTED);
+    return wanted == KINDS ? KINDS * sessions : sessions;
 }
 
-/* Before it is counted every session has had its exchange, as after a whole cycle. */
-static void count_workload(const struct workload *w)
+static void count_kinds(const struct workload *w, struct size size)
 {
-    size_t length = write_cycle(cycle, w, MOST_SESSIONS);
+    char name[64];
 
-    fill(&pair, w, MOST_SESSIONS);
+    for (size_t kind = 0; kind < KINDS; kind++) {
+        snprintf(name, sizeof name, "%s/%s", w->name, kind_names[kind]);
+        end_part("request", name, size, count_requests(size, kind));
+    }
+}
+
+/* Before it is counted every session has had its exchange, as after a whole cycle. A full table's
+   requests are counted by kind. */
+static void count_workload(const struct workload *w, struct size size)
+{
+    size_t length = write_cycle(cycle, w, size.live);
+
+    fill(&pair, w, size);
     for (size_t i = EXCHANGES; i < length; i += KINDS)
         ask_both(&pair, &cycle[i]);
     for (int side = 0; side < 2; side++) {
         place = side == 0 ? pair.ours : pair.theirs;
         counted_check();
-        end_part("check", w->name, 1);
-        for (size_t kind = 0; kind < KINDS; kind++)
-            count_kind(w->name, (enum kind)kind);
+        end_part("check", w->name, size, 1);
+        if (is_full(size))
+            count_kinds(w, size);
+        else
+            end_part("request", w->name, size, count_requests(size, KINDS));
     }
 }
 
@@ -95,7 +106,7 @@ static void count_search(uint32_t taken)
             place = side == 0 ? pair.ours : pair.theirs;
             counted_request(&m);
             snprintf(name, sizeof name, "%u/%s", taken, names[from]);
-            end_part("search", name, 1);
+            end_part("search", name, full, 1);
         }
     }
 }
@@ -106,14 +117,14 @@ static void count_longest(void)
     for (int side = 0; side < 2; side++) {
         place = side == 0 ? pair.ours : pair.theirs;
         counted_check();
-        end_part("longest", "one-check", 1);
+        end_part("longest", "one-check", longest_size, 1);
     }
     for (size_t i = 0; i < LONGEST_MESSAGES; i++) {
         write_longest(&m, &longest_messages[i], &pair);
         for (int side = 0; side < 2; side++) {
             place = side == 0 ? pair.ours : pair.theirs;
             counted_request(&m);
-            end_part("longest", longest_messages[i].name, 1);
+            end_part("longest", longest_messages[i].name, longest_size, 1);
         }
     }
 }
@@ -121,7 +132,8 @@ static void count_longest(void)
 int main(void)
 {
     for (size_t k = 0; k < WORKLOADS; k++)
-        count_workload(&workloads[k]);
+        for (size_t i = 0; i < SIZES; i++)
+            count_workload(&workloads[k], sizes[i]);
     count_search(0);
     count_search(SEARCHED_POOL / 2);
     count_search(SEARCHED_POOL - 1);

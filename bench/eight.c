@@ -14,11 +14,8 @@ static double run_checks(const struct side *side)
 
     for (size_t i = 0; i < ROUNDS * TABLES; i++) {
         const struct pair *pair = &pairs[i % TABLES];
-        const struct place *place = side == &archive ? &pair->ours : &pair->theirs;
-        uint32_t count;
 
-        if (side->free_count(place->table, sizeof place->table, &count) != 0)
-            give_up("%s calls a sound table broken", side->name);
+        check(side == &archive ? &pair->ours : &pair->theirs);
     }
     return (processor_time() - start) / (ROUNDS * TABLES);
 }
@@ -31,12 +28,12 @@ void time_eight(void)
 
     for (size_t i = 0; i < TABLES; i++) {
         w.seed = (uint32_t)i + 1;
-        fill(&pairs[i], &w, MOST_SESSIONS);
+        fill(&pairs[i], &w, full);
         count_both(&pairs[i]);
     }
     for (size_t turn = 0; turn < TURNS; turn++) {
         ours[turn] = run_checks(&archive);
         theirs[turn] = run_checks(&ordinary);
     }
-    print_times("eight", w.name, MOST_SESSIONS, median(ours, TURNS), median(theirs, TURNS));
+    print_times("eight", w.name, full, median(ours, TURNS), median(theirs, TURNS));
 }

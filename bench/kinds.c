@@ -1,11 +1,11 @@
-/* The time of each kind of request, on tables with all sessions live. */
+/* The time of each kind of request, on full tables. */
 #include <stdio.h>
 
 #include "measure.h"
 #include "times.h"
 #include "workload.h"
 
-enum { CYCLES = 8, SAMPLES = CYCLES * MOST_SESSIONS };
+enum { CYCLES = 2, SAMPLES = CYCLES * MOST_SESSIONS };
 
 static struct message cycle[MOST_CYCLE];
 static struct pair pair;
@@ -30,7 +30,7 @@ void time_kinds(void)
 
     for (size_t k = 0; k < WORKLOADS; k++) {
         write_cycle(cycle, &workloads[k], MOST_SESSIONS);
-        fill(&pair, &workloads[k], MOST_SESSIONS);
+        fill(&pair, &workloads[k], full);
         for (size_t i = 0; i < MOST_CYCLE; i++)
             ask_both(&pair, &cycle[i]);
         for (size_t i = 0; i < CYCLES; i++) {
@@ -40,7 +40,7 @@ void time_kinds(void)
         }
         for (size_t kind = 0; kind < KINDS; kind++) {
             snprintf(name, sizeof name, "%s/%s", workloads[k].name, kind_names[kind]);
-            print_times("kind", name, MOST_SESSIONS, median(ours[kind], SAMPLES) - cost,
+            print_times("kind", name, full, median(ours[kind], SAMPLES) - cost,
                         median(theirs[kind], SAMPLES) - cost);
         }
     }

@@ -336,9 +336,11 @@ const struct longest longest_messages[LONGEST_MESSAGES] = {
     {"full-session,then-vendor", 1, full_session},
 };
 
+const struct size longest_size = {LONGEST_LIVE, MOST_SESSIONS};
+
 void fill_for_longest(struct pair *pair)
 {
-    fill(pair, &workloads[ALIKE], LONGEST_LIVE);
+    fill(pair, &workloads[ALIKE], longest_size);
 }
 
 void write_longest(struct message *m, const struct longest *longest, struct pair *pair)

@@ -6,6 +6,7 @@
 
 /* The table that they go to: one session less than it can hold, so that one can be established. */
 enum { LONGEST_LIVE = MOST_SESSIONS - 1 };
+extern const struct size longest_size;
 
 struct longest {
     const char *name; /* content, and how it stands there */

@@ -15,17 +15,15 @@ static double checks[REPEATS];
 /* A check and a request in turn; the table is put back after each request. */
 static void run(void)
 {
-    uint32_t count;
-
     for (size_t i = 0; i < REPEATS; i++) {
         double start = wall_time();
 
-        archive.free_count(pair.ours.table, sizeof pair.ours.table, &count);
+        check(&pair.ours);
         double middle = wall_time();
         ask(&pair.ours, &m);
         requests[i] = wall_time() - middle;
         checks[i] = middle - start;
-        memcpy(pair.ours.table, pair.theirs.table, sizeof pair.ours.table);
+        memcpy(pair.ours.table, pair.theirs.table, pair.ours.length);
     }
 }
 
@@ -37,7 +35,7 @@ void time_longest(void)
     for (size_t i = 0; i < LONGEST_MESSAGES; i++) {
         write_longest(&m, &longest_messages[i], &pair);
         run();
-        print_times("longest", longest_messages[i].name, LONGEST_LIVE,
+        print_times("longest", longest_messages[i].name, longest_size,
                     median(requests, REPEATS) - cost, median(checks, REPEATS) - cost);
     }
 }

@@ -5,17 +5,25 @@
 
 enum { MOST_PANELS = 8, WIDTH = 300, HEIGHT = 240, LEFT = 70, TOP = 70, GAP = 40, BOTTOM = 80 };
 
-/* A panel's corner, and what its axes end with. */
+static const char *const side_names[2] = {"ordinary", "archive"};
+
+/* A panel's corner, what its axes end with, and the session limit of its tables. */
 struct panel {
     const char *name;
     double x;
     double most_live;
     double most_time;
+    size_t limit;
 };
 
 static int is_request(const struct row *row)
 {
     return strcmp(row->what, "request") == 0;
+}
+
+static int is_of(const struct row *row, const struct panel *p)
+{
+    return is_request(row) && row->limit == p->limit && strcmp(row->name, p->name) == 0;
 }
 
 static double x_of(const struct panel *p, double live)
@@ -28,14 +36,31 @@ static double y_of(const struct panel *p, double time)
     return TOP + HEIGHT - time / p->most_time * HEIGHT;
 }
 
+/* What the axes of all panels end with, and the largest limit, which is drawn. */
+static struct panel find_ends(const struct samples *samples)
+{
+    struct panel ends = {.most_live = 1};
+
+    for (size_t i = 0; i < samples->rows; i++) {
+        const struct row *row = &samples->row[i];
+
+        if (!is_request(row))
+            continue;
+        ends.limit = row->limit > ends.limit ? row->limit : ends.limit;
+        ends.most_live = fmax(ends.most_live, (double)row->live);
+        ends.most_time = fmax(ends.most_time, spread_of(row->measured, row->count).highest);
+        ends.most_time = fmax(ends.most_time, spread_of(row->other, row->count).highest);
+    }
+    return ends;
+}
+
 /* The tables in their order; gives how many there are. */
 static size_t find_panels(const struct samples *samples, struct panel panels[MOST_PANELS])
 {
+    struct panel next = find_ends(samples);
     size_t count = 0;
-    double most_live = 1;
-    double most_time = 0;
 
-    for (size_t i = 0; i < samples->rows; i++) {
+    for (size_t i = 0; i < samples->rows && count < MOST_PANELS; i++) {
         const struct row *row = &samples->row[i];
         size_t k = 0;
 
@@ -43,16 +68,11 @@ static size_t find_panels(const struct samples *samples, struct panel panels[MOS
             continue;
         while (k < count && strcmp(panels[k].name, row->name) != 0)
             k++;
-        if (k == count && count < MOST_PANELS)
-            panels[count++].name = row->name;
-        most_live = fmax(most_live, (double)row->live);
-        most_time = fmax(most_time, spread_of(row->measured, row->count).highest);
-        most_time = fmax(most_time, spread_of(row->other, row->count).highest);
-    }
-    for (size_t k = 0; k < count; k++) {
-        panels[k].x = (double)(LEFT + k * (WIDTH + GAP));
-        panels[k].most_live = most_live;
-        panels[k].most_time = most_time;
+        if (k < count)
+            continue;
+        next.name = row->name;
+        next.x = (double)(LEFT + k * (WIDTH + GAP));
+        panels[count++] = next;
     }
     return count;
 }
@@ -84,31 +104,37 @@ static void write_axes(const struct panel *p, int first, FILE *out)
     }
     fprintf(out, "<path class=\"axis\" d=\"M%.1f %d V%d H%.1f\"/>\n", p->x, TOP, TOP + HEIGHT,
             p->x + WIDTH);
-    fprintf(out, "<text class=\"label\" x=\"%.1f\" y=\"%d\">live sessions</text>\n",
-            p->x + WIDTH / 2.0, TOP + HEIGHT + 42);
+    fprintf(out, "<text class=\"label\" x=\"%.1f\" y=\"%d\">live sessions of %zu</text>\n",
+            p->x + WIDTH / 2.0, TOP + HEIGHT + 42, p->limit);
 }
 
-/* One side's line through its medians, with a bar from the lowest to the highest at each. */
-static void write_side(const struct samples *samples, const struct panel *p, int ours, FILE *out)
+/* One side's line through its medians. */
+static void write_line(const struct samples *samples, const struct panel *p, int ours, FILE *out)
 {
-    const char *side = ours ? "archive" : "ordinary";
     char sign = 'M';
 
-    fprintf(out, "<path class=\"line %s\" d=\"", side);
+    fprintf(out, "<path class=\"line %s\" d=\"", side_names[ours]);
     for (size_t i = 0; i < samples->rows; i++) {
         const struct row *row = &samples->row[i];
 
-        if (!is_request(row) || strcmp(row->name, p->name) != 0)
+        if (!is_of(row, p))
             continue;
         struct spread s = spread_of(ours ? row->measured : row->other, row->count);
         fprintf(out, "%c%.1f %.1f", sign, x_of(p, (double)row->live), y_of(p, s.median));
         sign = 'L';
     }
     fputs("\"/>\n", out);
+}
+
+/* One side's medians, with a bar from the lowest to the highest at each. */
+static void write_dots(const struct samples *samples, const struct panel *p, int ours, FILE *out)
+{
+    const char *side = side_names[ours];
+
     for (size_t i = 0; i < samples->rows; i++) {
         const struct row *row = &samples->row[i];
 
-        if (!is_request(row) || strcmp(row->name, p->name) != 0)
+        if (!is_of(row, p))
             continue;
         struct spread s = spread_of(ours ? row->measured : row->other, row->count);
         double x = x_of(p, (double)row->live);
@@ -121,6 +147,37 @@ static void write_side(const struct samples *samples, const struct panel *p, int
             fprintf(out, "<text class=\"tick\" x=\"%.1f\" y=\"%d\">%zu</text>\n", x,
                     TOP + HEIGHT + 20, row->live);
     }
+}
+
+/* The floor: one pass over the octets of the table, the same for any live sessions. */
+static void write_floor(const struct samples *samples, const struct panel *p, FILE *out)
+{
+    for (size_t i = 0; i < samples->rows; i++) {
+        const struct row *row = &samples->row[i];
+
+        if (strcmp(row->what, "pass") != 0 || strcmp(row->name, "floor") != 0 ||
+            row->limit != p->limit)
+            continue;
+        fprintf(out, "<path class=\"line floor\" d=\"M%.1f %.1fh%d\"/>\n", p->x,
+                y_of(p, spread_of(row->other, row->count).median), WIDTH);
+    }
+}
+
+static void write_key(FILE *out)
+{
+    fprintf(out, "<path class=\"line archive\" d=\"M%d 24h34\"/>", LEFT);
+    fprintf(out, "<text class=\"key\" x=\"%d\" y=\"28\">archive</text>\n", LEFT + 42);
+    fprintf(out, "<path class=\"line ordinary\" d=\"M%d 24h34\"/>", LEFT + 130);
+    fprintf(out, "<text class=\"key\" x=\"%d\" y=\"28\">bench/ordinary</text>\n", LEFT + 172);
+    fprintf(out, "<path class=\"line floor\" d=\"M%d 24h34\"/>", LEFT + 300);
+    fprintf(out,
+            "<text class=\"key\" x=\"%d\" y=\"28\">floor: one pass over the table's octets"
+            "</text>\n",
+            LEFT + 342);
+    fprintf(out,
+            "<text class=\"key\" x=\"%d\" y=\"28\">median; bars: lowest to highest of the "
+            "processes</text>\n",
+            LEFT + 620);
 }
 
 static void write_head(size_t panels, FILE *out)
@@ -139,21 +196,15 @@ static void write_head(size_t panels, FILE *out)
           ".bar{stroke-width:5;stroke-opacity:.35}"
           ".archive{stroke:#0b62a4}.dot.archive{fill:#0b62a4}"
           ".ordinary{stroke:#c8500a;stroke-dasharray:6 3}"
-          ".dot.ordinary{fill:#c8500a}.bar.ordinary,.dot.ordinary{stroke-dasharray:none}</style>\n"
+          ".dot.ordinary{fill:#c8500a}.bar.ordinary,.dot.ordinary{stroke-dasharray:none}"
+          ".floor{stroke:#4a7a2a;stroke-dasharray:2 3}</style>\n"
           "<rect width=\"100%\" height=\"100%\" fill=\"#fff\"/>\n",
           out);
     fprintf(out,
             "<text class=\"label\" transform=\"translate(22 %d) rotate(-90)\">"
             "microseconds for a request</text>\n",
             TOP + HEIGHT / 2);
-    fprintf(out, "<path class=\"line archive\" d=\"M%d 24h34\"/>", LEFT);
-    fprintf(out, "<text class=\"key\" x=\"%d\" y=\"28\">archive</text>\n", LEFT + 42);
-    fprintf(out, "<path class=\"line ordinary\" d=\"M%d 24h34\"/>", LEFT + 130);
-    fprintf(out, "<text class=\"key\" x=\"%d\" y=\"28\">bench/ordinary</text>\n", LEFT + 172);
-    fprintf(out,
-            "<text class=\"key\" x=\"%d\" y=\"28\">median; bars: lowest to highest of the "
-            "processes</text>\n",
-            LEFT + 310);
+    write_key(out);
 }
 
 void write_picture(const struct samples *samples, FILE *out)
@@ -164,8 +215,11 @@ void write_picture(const struct samples *samples, FILE *out)
     write_head(count, out);
     for (size_t k = 0; k < count; k++) {
         write_axes(&panels[k], k == 0, out);
-        write_side(samples, &panels[k], 0, out);
-        write_side(samples, &panels[k], 1, out);
+        write_floor(samples, &panels[k], out);
+        for (int ours = 0; ours < 2; ours++) {
+            write_line(samples, &panels[k], ours, out);
+            write_dots(samples, &panels[k], ours, out);
+        }
     }
     fputs("</svg>\n", out);
 }

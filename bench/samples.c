@@ -12,30 +12,27 @@ static void refuse(const char *line)
     exit(2);
 }
 
-/* The row of this thing, a new one if there is none. */
-static struct row *row_of(struct samples *samples, const char *what, const char *name, size_t live)
+static int same_thing(const struct row *a, const struct row *b)
 {
-    for (size_t i = 0; i < samples->rows; i++) {
-        struct row *row = &samples->row[i];
+    return strcmp(a->what, b->what) == 0 && strcmp(a->name, b->name) == 0 && a->live == b->live &&
+           a->limit == b->limit;
+}
 
-        if (strcmp(row->what, what) == 0 && strcmp(row->name, name) == 0 && row->live == live)
-            return row;
-    }
+/* The row of this thing, a new one if there is none; NULL where there is no room for it. */
+static struct row *row_of(struct samples *samples, const struct row *thing)
+{
+    for (size_t i = 0; i < samples->rows; i++)
+        if (same_thing(&samples->row[i], thing))
+            return &samples->row[i];
     if (samples->rows == MOST_ROWS)
         return NULL;
-    struct row *row = &samples->row[samples->rows++];
-    strcpy(row->what, what);
-    strcpy(row->name, name);
-    row->live = live;
-    row->count = 0;
-    return row;
+    samples->row[samples->rows] = *thing;
+    return &samples->row[samples->rows++];
 }
 
 static void read_line(struct samples *samples, const char *line)
 {
-    char what[WORD_ROOM];
-    char name[WORD_ROOM];
-    size_t live;
+    struct row thing = {.count = 0};
     double measured;
     double other;
     uint64_t compared;
@@ -44,10 +41,11 @@ static void read_line(struct samples *samples, const char *line)
         samples->compared += compared;
         return;
     }
-    if (sscanf(line, "%47s %47s %zu %lf %lf", what, name, &live, &measured, &other) != 5 ||
+    if (sscanf(line, "%47s %47s %zu %zu %lf %lf", thing.what, thing.name, &thing.live, &thing.limit,
+               &measured, &other) != 6 ||
         measured <= 0 || other <= 0)
         refuse(line);
-    struct row *row = row_of(samples, what, name, live);
+    struct row *row = row_of(samples, &thing);
     if (row == NULL || row->count == MOST_SAMPLES)
         refuse(line);
     row->measured[row->count] = measured;

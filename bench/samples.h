@@ -13,6 +13,7 @@ struct row {
     char what[WORD_ROOM];
     char name[WORD_ROOM];
     size_t live;
+    size_t limit;
     size_t count;
     double measured[MOST_SAMPLES];
     double other[MOST_SAMPLES];

@@ -33,14 +33,14 @@ static void must_grant(struct pair *pair, const struct message *m, uint32_t teid
 
 void fill_for_search(struct pair *pair, struct message *m, uint32_t taken, enum first_taken from)
 {
-    const uint32_t full = MOST_PDRS + MOST_ENDPOINTS;
+    const uint32_t most = MOST_PDRS + MOST_ENDPOINTS;
     uint32_t first = FIRST_TEID + (from == FROM_SECOND);
     size_t session = 0;
 
-    make_both_empty(pair, SEARCHED_POOL);
+    make_both_empty(pair, SEARCHED_POOL, MOST_SESSIONS);
     /* Full sessions, and a last one with the rest, which is less than full. */
-    for (uint32_t done = 0; done <= taken; done += full, session++) {
-        uint32_t held = taken - done < full ? taken - done : full;
+    for (uint32_t done = 0; done <= taken; done += most, session++) {
+        uint32_t held = taken - done < most ? taken - done : most;
 
         write_restoration(m, session, first + done, held);
         ask_both(pair, m);

@@ -4,11 +4,8 @@
 
 #include "workload.h"
 
-/* A pool of 4,096, or of as many TEIDs as the sessions can hold, so that all can be taken. */
-enum {
-    MOST_HELD = MOST_SESSIONS * (MOST_PDRS + MOST_ENDPOINTS),
-    SEARCHED_POOL = MOST_HELD < 4096 ? MOST_HELD : 4096
-};
+/* A pool of as many TEIDs as the sessions can hold, so that all can be taken. */
+enum { SEARCHED_POOL = MOST_SESSIONS * (MOST_PDRS + MOST_ENDPOINTS) };
 
 /* Fills both tables by restorations with records that hold so many TEIDs one after another, from
    the pool's first or second one on, and writes a request for one more. So two tables with the same

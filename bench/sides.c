@@ -7,10 +7,10 @@
 
 #include "ordinary.h"
 
-const struct side archive = {"archive", pfcp_make_table, pfcp_free_count, pfcp_free_addresses,
-                             pfcp_request};
-const struct side ordinary = {"ordinary", ordinary_make_table, ordinary_free_count,
-                              ordinary_free_addresses, ordinary_request};
+const struct side archive = {"archive",       pfcp_table_length,   pfcp_make_table,
+                             pfcp_free_count, pfcp_free_addresses, pfcp_request};
+const struct side ordinary = {"ordinary",          ordinary_table_length,   ordinary_make_table,
+                              ordinary_free_count, ordinary_free_addresses, ordinary_request};
 
 const uint8_t unit_ipv4[4] = {192, 0, 2, 1};
 static const uint8_t unit_ipv6[16] = {0x20, 1, 0x0D, 0xB8, [15] = 1};
@@ -29,27 +29,37 @@ void give_up(const char *format, ...)
     exit(EXIT_FAILURE);
 }
 
-static void make_empty(struct place *place, const struct side *side, uint32_t pool)
+static void make_empty(struct place *place, const struct side *side, uint32_t pool, uint32_t limit)
 {
     place->side = side;
-    if (side->make_table(place->table, sizeof place->table, (uint32_t)number_at(unit_ipv4, 4),
-                         unit_ipv6, sizeof unit_ipv6, FIRST_TEID, pool, FIRST_ADDRESS,
-                         ADDRESSES) != 0)
+    place->length = side->table_length(limit);
+    if (place->length != HEAD + (size_t)limit * SLOT || place->length > sizeof place->table)
+        give_up("%s has tables of %zu octets for %u sessions", side->name, place->length, limit);
+    if (side->make_table(place->table, place->length, (uint32_t)number_at(unit_ipv4, 4), unit_ipv6,
+                         sizeof unit_ipv6, FIRST_TEID, pool, FIRST_ADDRESS, ADDRESSES, limit) != 0)
         give_up("%s makes no table", side->name);
 }
 
-void make_both_empty(struct pair *pair, uint32_t pool)
+void make_both_empty(struct pair *pair, uint32_t pool, size_t limit)
 {
-    make_empty(&pair->ours, &archive, pool);
-    make_empty(&pair->theirs, &ordinary, pool);
+    make_empty(&pair->ours, &archive, pool, (uint32_t)limit);
+    make_empty(&pair->theirs, &ordinary, pool, (uint32_t)limit);
     compare_tables(pair);
 }
 
 void ask(struct place *place, const struct message *m)
 {
     place->outcome =
-        place->side->request(place->table, sizeof place->table, m->octets, m->length, place->reply,
+        place->side->request(place->table, place->length, m->octets, m->length, place->reply,
                              sizeof place->reply, &place->used, &place->fault);
+}
+
+void check(const struct place *place)
+{
+    uint32_t count;
+
+    if (place->side->free_count(place->table, place->length, &count) != 0)
+        give_up("%s calls a sound table broken", place->side->name);
 }
 
 uint8_t cause_of(const struct place *place)
@@ -85,9 +95,9 @@ void ask_both(struct pair *pair, const struct message *m)
 
 void compare_tables(const struct pair *pair)
 {
-    if (memcmp(pair->ours.table, pair->theirs.table, sizeof pair->ours.table) != 0)
+    if (memcmp(pair->ours.table, pair->theirs.table, pair->ours.length) != 0)
         give_up("the tables of the sides differ");
-    compared += sizeof pair->ours.table;
+    compared += pair->ours.length;
 }
 
 uint32_t count_both(const struct pair *pair)
@@ -95,15 +105,15 @@ uint32_t count_both(const struct pair *pair)
     uint32_t ours = 0;
     uint32_t theirs = 0;
 
-    if (archive.free_count(pair->ours.table, sizeof pair->ours.table, &ours) != 0 ||
-        ordinary.free_count(pair->theirs.table, sizeof pair->theirs.table, &theirs) != 0 ||
+    if (archive.free_count(pair->ours.table, pair->ours.length, &ours) != 0 ||
+        ordinary.free_count(pair->theirs.table, pair->theirs.length, &theirs) != 0 ||
         ours != theirs)
         give_up("the sides count the free TEIDs differently: %u and %u", ours, theirs);
 
     uint32_t teids = ours;
 
-    if (archive.free_addresses(pair->ours.table, sizeof pair->ours.table, &ours) != 0 ||
-        ordinary.free_addresses(pair->theirs.table, sizeof pair->theirs.table, &theirs) != 0 ||
+    if (archive.free_addresses(pair->ours.table, pair->ours.length, &ours) != 0 ||
+        ordinary.free_addresses(pair->theirs.table, pair->theirs.length, &theirs) != 0 ||
         ours != theirs)
         give_up("the sides count the free addresses differently: %u and %u", ours, theirs);
     return teids;

@@ -10,13 +10,18 @@
 
 /* The settings of every table here, but for a pool of another size where a measurement says so. The
    addresses are those from 10.45.0.0 on. */
-enum { FIRST_TEID = 4096, POOL = 4096, FIRST_ADDRESS = 0x0A2D0000, ADDRESSES = 1024 };
+enum { FIRST_TEID = 4096, POOL = 65536, FIRST_ADDRESS = 0x0A2D0000, ADDRESSES = 1024 };
+
+/* The largest session limit, and the octets of a table before its slots and of a slot, as
+   docs/layout.md has them. */
+enum { MOST_SESSIONS = PFCP_MOST_SESSIONS, HEAD = 41, SLOT = 603 };
 
 /* The calls of one implementation. */
 struct side {
     const char *name;
+    size_t (*table_length)(uint32_t);
     uint32_t (*make_table)(uint8_t *, size_t, uint32_t, const uint8_t *, size_t, uint32_t, uint32_t,
-                           uint32_t, uint32_t);
+                           uint32_t, uint32_t, uint32_t);
     uint32_t (*free_count)(const uint8_t *, size_t, uint32_t *);
     uint32_t (*free_addresses)(const uint8_t *, size_t, uint32_t *);
     uint32_t (*request)(uint8_t *, size_t, const uint8_t *, size_t, uint8_t *, size_t, size_t *,
@@ -31,8 +36,9 @@ struct place {
     const struct side *side;
     uint32_t outcome;
     size_t used;
-    size_t fault; /* the place of a fault in the message */
-    _Alignas(64) uint8_t table[PFCP_TABLE_LENGTH];
+    size_t fault;  /* the place of a fault in the message */
+    size_t length; /* of the table, by its session limit */
+    _Alignas(64) uint8_t table[PFCP_LONGEST_TABLE];
     _Alignas(64) uint8_t reply[PFCP_REPLY_SPACE];
 };
 
@@ -47,11 +53,14 @@ extern const uint8_t unit_ipv4[4];
 /* Ends the program with this line as its last word. */
 __attribute__((noreturn, format(printf, 1, 2))) void give_up(const char *format, ...);
 
-/* Makes empty tables with a pool of this size. */
-void make_both_empty(struct pair *pair, uint32_t pool);
+/* Makes empty tables with a pool of this size and this session limit. */
+void make_both_empty(struct pair *pair, uint32_t pool, size_t limit);
 
 /* One request; the answer is in the place. */
 void ask(struct place *place, const struct message *m);
+
+/* One check of the table, which must be sound: the free count. */
+void check(const struct place *place);
 
 /* The cause of the last reply, or 0 if there was none. */
 uint8_t cause_of(const struct place *place);

@@ -1,7 +1,7 @@
 /*
- * The stack that a request takes: a thread runs one cycle of accepted requests, and another one
- * those of the greatest length, on a stack filled with one octet; the octets that changed are
- * counted from its far end.
+ * The stack that a request takes, on both sides: a thread runs one cycle of accepted requests, and
+ * another one those of the greatest length, on a stack filled with one octet; the octets that
+ * changed are counted from its far end.
  */
 #include <pthread.h>
 #include <stdint.h>
@@ -14,8 +14,10 @@
 enum { STACK = 1 << 20, MARK = 0xA5 };
 
 static struct message cycle[MOST_CYCLE];
+static size_t length; /* of the cycle */
 static struct message longest[LONGEST_MESSAGES];
 static struct pair pair;
+static struct place *asked; /* of the two sides, the one that is measured */
 static _Alignas(4096) uint8_t stack[STACK];
 
 /* No request: what the thread itself takes. */
@@ -26,8 +28,8 @@ static void *idle(void *unused)
 
 static void *cycle_requests(void *unused)
 {
-    for (size_t i = 0; i < MOST_CYCLE; i++)
-        must_accept(&pair.ours, &cycle[i]);
+    for (size_t i = 0; i < length; i++)
+        must_accept(asked, &cycle[i]);
     return unused;
 }
 
@@ -36,7 +38,7 @@ static void *longest_requests(void *unused)
     static struct place place;
 
     for (size_t i = 0; i < LONGEST_MESSAGES; i++) {
-        place = pair.ours;
+        place = *asked;
         ask(&place, &longest[i]);
     }
     return unused;
@@ -62,18 +64,39 @@ static size_t depth_of(void *(*work)(void *))
     return sizeof stack - untouched;
 }
 
-int main(void)
+/* What both sides take for the same requests. */
+static void print_depths(const char *name, struct size size, void *(*work)(void *))
 {
-    write_cycle(cycle, &workloads[ALIKE], MOST_SESSIONS);
-    fill(&pair, &workloads[ALIKE], MOST_SESSIONS);
     size_t without = depth_of(idle);
-    size_t with = depth_of(cycle_requests);
-    printf("stack of a request: %zu octets\n", with - without);
 
+    asked = &pair.ours;
+    size_t ours = depth_of(work) - without;
+    asked = &pair.theirs;
+    printf("%-28s %3zu of %3zu  %10zu  %10zu\n", name, size.live, size.limit, ours,
+           depth_of(work) - without);
+}
+
+static void measure_cycle(struct size size)
+{
+    length = write_cycle(cycle, &workloads[ALIKE], size.live);
+    fill(&pair, &workloads[ALIKE], size);
+    print_depths("of the cycle", size, cycle_requests);
+}
+
+static void measure_longest(void)
+{
     fill_for_longest(&pair);
     for (size_t i = 0; i < LONGEST_MESSAGES; i++)
         write_longest(&longest[i], &longest_messages[i], &pair);
-    with = depth_of(longest_requests);
-    printf("stack of the requests of the greatest length: %zu octets\n", with - without);
+    print_depths("of the greatest length", longest_size, longest_requests);
+}
+
+int main(void)
+{
+    printf("%-28s %-10s  %10s  %10s\n", "requests", "live", "archive", "ordinary");
+    for (size_t i = 0; i < SIZES; i++)
+        if (sizes[i].live == sizes[i].limit)
+            measure_cycle(sizes[i]);
+    measure_longest();
     return EXIT_SUCCESS;
 }

@@ -1,7 +1,7 @@
 /*
  * Sums up what several processes of bench printed: summary [PICTURE] <LINES. Medians, lowest and
  * highest of each row; with PICTURE also that file. The last line is 'ratio X.XX': of a request's
- * median ratios on the tables with all sessions live, the worst.
+ * median ratios on the tables with the most live sessions, the worst.
  */
 #include <errno.h>
 #include <inttypes.h>
@@ -24,7 +24,7 @@ static const struct heading headings[] = {
     {"check", "the check alone (free count)", "archive", "ordinary"},
     {"eight", "the check alone, over eight different tables in turn", "archive", "ordinary"},
     {"kind", "a request by its kind, each timed by itself", "archive", "ordinary"},
-    {"pass", "one check of a full table, and one pass in C over its octets", "check", "pass"},
+    {"pass", "one check of a full table, and plain passes over its octets", "check", "pass"},
     {"longest", "requests of the greatest length, and one check of their table", "request",
      "check"},
 };
@@ -49,11 +49,11 @@ static void print_rows(const struct samples *samples, const struct heading *head
         if (!headed) {
             printf("== %s, microseconds: median (lowest to highest) of %zu processes\n",
                    heading->text, row->count);
-            printf("%-28s %4s  %-25s  %-25s  %s\n", "", "live", heading->measured, heading->other,
+            printf("%-28s %-10s  %-25s  %-25s  %s\n", "", "live", heading->measured, heading->other,
                    "ratio");
             headed = 1;
         }
-        printf("%-28s %4zu", row->name, row->live);
+        printf("%-28s %3zu of %3zu", row->name, row->live, row->limit);
         print_spread(spread_of(row->measured, row->count), 25);
         print_spread(spread_of(row->other, row->count), 25);
         print_spread(ratio_of(row), 0);
@@ -61,7 +61,7 @@ static void print_rows(const struct samples *samples, const struct heading *head
     }
 }
 
-/* The worst median ratio of a request, where all sessions live. */
+/* The worst median ratio of a request, where the most sessions live. */
 static double worst_ratio(const struct samples *samples)
 {
     size_t most = 0;

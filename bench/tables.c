@@ -1,4 +1,4 @@
-/* The time of a request and of the check alone, by table and by number of live sessions. */
+/* The time of a request and of the check alone, by table, live sessions and session limit. */
 #include "measure.h"
 #include "times.h"
 #include "workload.h"
@@ -19,11 +19,8 @@ static void run_requests(struct place *place, size_t requests)
 
 static void run_checks(struct place *place, size_t checks)
 {
-    uint32_t count;
-
     for (size_t i = 0; i < checks; i++)
-        if (place->side->free_count(place->table, sizeof place->table, &count) != 0)
-            give_up("%s calls a sound table broken", place->side->name);
+        check(place);
 }
 
 /* Two cycles on both sides, compared after every request. */
@@ -39,7 +36,7 @@ static void warm_up(void)
 
 /* Runs both sides by turns, so that both meet the same disturbance, and prints the medians of the
    turns for one call. */
-static void time_turns(const char *what, const struct workload *w, size_t live, size_t turns,
+static void time_turns(const char *what, const struct workload *w, struct size size, size_t turns,
                        size_t calls, void (*run)(struct place *, size_t))
 {
     static double ours[MOST_TURNS];
@@ -54,22 +51,24 @@ static void time_turns(const char *what, const struct workload *w, size_t live, 
         ours[i] = (middle - start) / (double)calls;
         compare_tables(&pair);
     }
-    print_times(what, w->name, live, median(ours, turns), median(theirs, turns));
+    print_times(what, w->name, size, median(ours, turns), median(theirs, turns));
+}
+
+static void time_table(const struct workload *w, struct size size, size_t requests)
+{
+    length = write_cycle(cycle, w, size.live);
+    size_t turn = length < LEAST_TURN ? LEAST_TURN / length * length : length;
+    size_t turns = (requests + turn - 1) / turn;
+
+    fill(&pair, w, size);
+    warm_up();
+    time_turns("request", w, size, turns, turn, run_requests);
+    time_turns("check", w, size, turns / CHECKS_FEWER + 1, LEAST_TURN, run_checks);
 }
 
 void time_tables(size_t requests)
 {
     for (size_t k = 0; k < WORKLOADS; k++)
-        for (size_t i = 0; i < LIVE_COUNTS; i++) {
-            const struct workload *w = &workloads[k];
-            size_t live = live_counts[i];
-
-            length = write_cycle(cycle, w, live);
-            size_t turn = length < LEAST_TURN ? LEAST_TURN / length * length : length;
-            size_t turns = (requests + turn - 1) / turn;
-            fill(&pair, w, live);
-            warm_up();
-            time_turns("request", w, live, turns, turn, run_requests);
-            time_turns("check", w, live, turns / CHECKS_FEWER + 1, LEAST_TURN, run_checks);
-        }
+        for (size_t i = 0; i < SIZES; i++)
+            time_table(&workloads[k], sizes[i], requests);
 }

@@ -8,12 +8,19 @@ const struct workload workloads[WORKLOADS] = {
     [PART_FILLED] = {"part-filled", 4, 2, 1, 0, 0},
 };
 
-const size_t live_counts[LIVE_COUNTS] = {1, 16, MOST_SESSIONS};
+const struct size sizes[SIZES] = {{1, 64},   {16, 64},  {64, 64},   {1, 256},
+                                  {16, 256}, {64, 256}, {128, 256}, {256, 256}};
+const struct size full = {MOST_SESSIONS, MOST_SESSIONS};
 
 const char *const kind_names[KINDS] = {"deletion", "establishment", "updates", "exchange"};
 
 static const struct tunnel choose = {.flags = CHOOSE | V4 | V6};
 static const struct tunnel choose_7 = {.flags = CHOOSE | CHOOSE_ID | V4 | V6, .choose_id = 7};
+
+int is_full(struct size size)
+{
+    return size.live == full.live;
+}
 
 uint64_t seid_of(size_t session)
 {
@@ -172,12 +179,12 @@ size_t write_cycle(struct message cycle[MOST_CYCLE], const struct workload *w, s
     return KINDS * live;
 }
 
-void fill(struct pair *pair, const struct workload *w, size_t live)
+void fill(struct pair *pair, const struct workload *w, struct size size)
 {
     static struct message m;
 
-    make_both_empty(pair, POOL);
-    for (size_t session = 0; session < live; session++) {
+    make_both_empty(pair, POOL, size.limit);
+    for (size_t session = 0; session < size.live; session++) {
         write_establishment(&m, w, session);
         ask_both(pair, &m);
         if (cause_of(&pair->ours) != 1)

@@ -106,7 +106,7 @@ struct pollfd control_wait(const struct control *control, int *timeout)
 static void take_client(struct control *control)
 {
     control->client = accept4(control->listener, NULL, NULL, SOCK_CLOEXEC | SOCK_NONBLOCK);
-    control->limit = seconds() + PATIENCE;
+    control->limit = seconds() + QUESTION_TIME;
     control->asked = 0;
     control->answering = false;
 }
@@ -142,6 +142,7 @@ static void answer(struct control *control, const struct unit *unit, struct outp
     else if (!listing_one(&control->listing, unit, seid, form))
         wrong = "this session is not live";
     control->answering = true;
+    control->limit = seconds() + ANSWER_TIME;
     control->last = wrong != NULL;
     control->sent = 0;
     control->piece.length = 0;

@@ -19,7 +19,11 @@
 #include "unit.h"
 
 /* The longest question is "session 18446744073709551615 text". */
-enum { QUESTION_ROOM = 64, PATIENCE = 2 /* seconds for a client */ };
+enum { QUESTION_ROOM = 64 };
+
+/* The seconds that a client has for its question, and for the answer: a list of 256 sessions is given
+   out in as many pieces, and where the disk is slow each of them waits for a message. */
+enum { QUESTION_TIME = 2, ANSWER_TIME = 8 };
 
 struct control {
     struct sockaddr_un address;

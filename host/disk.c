@@ -4,16 +4,14 @@
 
 #include <errno.h>
 #include <fcntl.h>
+#include <inttypes.h>
 #include <stdio.h>
 #include <string.h>
 #include <sys/file.h>
 #include <sys/stat.h>
 #include <unistd.h>
 
-#include "message.h"
-
-/* The control plane's address is in each request, and in no table. */
-static const uint8_t nobody[4] = {0, 0, 0, 0};
+#include "table.h"
 
 /* Keeps in words what failed, and gives false. */
 static bool fail(struct disk *disk, const char *path, const char *why)
@@ -112,7 +110,7 @@ static bool write_beside(const struct disk *disk, const uint8_t *table)
 
     if (file < 0)
         return false;
-    bool written = fchmod(file, 0600) == 0 && write_octets(file, table, PFCP_TABLE_LENGTH) &&
+    bool written = fchmod(file, 0600) == 0 && write_octets(file, table, disk->length) &&
                    (!disk->sync || fsync(file) == 0);
     int error = errno;
     if (close(file) != 0 && written) {
@@ -159,7 +157,7 @@ static bool write_table(struct disk *disk, const uint8_t *table)
 void disk_remember(struct disk *disk, const uint8_t *table)
 {
     if (disk->path)
-        memcpy(disk->before, table, sizeof disk->before);
+        memcpy(disk->before, table, disk->length);
 }
 
 /* As long as it is not sure which table the disk has, nothing is answered before a write succeeds. */
@@ -167,73 +165,77 @@ bool disk_keep(struct disk *disk, uint8_t *table)
 {
     if (!disk->path)
         return true;
-    if (!disk->unsure && memcmp(disk->before, table, sizeof disk->before) == 0)
+    if (!disk->unsure && memcmp(disk->before, table, disk->length) == 0)
         return true;
     disk->failing = !write_table(disk, table);
     if (disk->failing)
-        memcpy(table, disk->before, sizeof disk->before);
+        memcpy(table, disk->before, disk->length);
     return !disk->failing;
 }
 
-/* Reads FILE, which is there, into the room. */
-static bool read_table(struct disk *disk, const struct stat *found, uint8_t *room)
+/* Reads FILE, which is there and as long as a table, into the room. */
+static bool read_octets(struct disk *disk, uint8_t *room, size_t length)
 {
-    char why[64];
-    ssize_t got;
-
-    if (!S_ISREG(found->st_mode))
-        return fail(disk, disk->path, "not a plain file");
-    if (found->st_size != PFCP_TABLE_LENGTH) {
-        snprintf(why, sizeof why, "%lld octets long, where a table has %d",
-                 (long long)found->st_size, PFCP_TABLE_LENGTH);
-        return fail(disk, disk->path, why);
-    }
     int file = open(disk->path, O_RDONLY | O_NOFOLLOW | O_NONBLOCK | O_CLOEXEC);
+
     if (file < 0)
         return fail(disk, disk->path, strerror(errno));
-    got = read(file, room, PFCP_TABLE_LENGTH);
+    ssize_t got = read(file, room, length);
     int error = errno;
     close(file);
-    return got == PFCP_TABLE_LENGTH ||
+    return got == (ssize_t)length ||
            fail(disk, disk->path, got < 0 ? strerror(error) : "not read to its end");
 }
 
-static bool is_accepted(uint8_t *table, const uint8_t *request, size_t length)
+/* The same, where FILE is a plain file of a length that some table has. */
+static bool read_table(struct disk *disk, const struct stat *found)
 {
-    uint8_t reply[PFCP_REPLY_SPACE];
-    size_t used;
-    size_t place;
+    char why[64];
 
-    if (pfcp_request(table, PFCP_TABLE_LENGTH, request, length, reply, sizeof reply, &used,
-                     &place) != PFCP_ANSWERED)
-        return false;
-    struct element cause = element_of(reply, used, IE_CAUSE);
-    return number_in(&cause, 0, 1) == ACCEPTED;
+    if (!S_ISREG(found->st_mode))
+        return fail(disk, disk->path, "not a plain file");
+    disk->stored_limit = table_limit((size_t)found->st_size);
+    if (disk->stored_limit == 0) {
+        snprintf(why, sizeof why, "%lld octets long, which no table is", (long long)found->st_size);
+        return fail(disk, disk->path, why);
+    }
+    return read_octets(disk, disk->before, (size_t)found->st_size);
 }
 
-/* Makes the stored table again in one that is empty. With the same settings every request is
-   accepted and the octets are the same; with others they are not. */
-static bool restore(struct disk *disk, const uint8_t *stored, uint8_t *table)
+/* Whether a stored table, which is sound, has the options' settings but for its session limit. With the
+   same settings its requests make its very octets; with others they do not. */
+static bool has_settings(const struct options *options, const uint8_t *stored, uint32_t limit)
 {
-    uint8_t request[PFCP_LONGEST_RESTORATION];
-    uint32_t outcome;
-    uint32_t count;
-    size_t used;
+    static uint8_t again[PFCP_LONGEST_TABLE];
+    size_t length = pfcp_table_length(limit);
 
-    if (pfcp_free_count(stored, PFCP_TABLE_LENGTH, &count) != PFCP_ANSWERED)
+    return table_make(again, options, limit) && table_restore(stored, length, again, length) &&
+           memcmp(stored, again, length) == 0;
+}
+
+/* Brings the sessions of the table that was read into one that is empty. */
+static bool restore(struct disk *disk, const struct options *options, uint8_t *table)
+{
+    const uint8_t *stored = disk->before;
+    size_t length = pfcp_table_length(disk->stored_limit);
+    char why[64];
+
+    if (pfcp_session_count(stored, length, &disk->restored) != PFCP_FOUND)
         return fail(disk, disk->path, "not a sound table");
-    while ((outcome = pfcp_write_restoration(stored, PFCP_TABLE_LENGTH, disk->restored, nobody,
-                                             sizeof nobody, NULL, 0, request, sizeof request,
-                                             &used)) == PFCP_WRITTEN &&
-           is_accepted(table, request, used))
-        disk->restored++;
-    return (outcome == PFCP_PAST_LAST_SESSION && memcmp(stored, table, PFCP_TABLE_LENGTH) == 0) ||
-           fail(disk, disk->path, "made with other settings than the options say");
+    if (!has_settings(options, stored, disk->stored_limit))
+        return fail(disk, disk->path, "made with other settings than the options say");
+    if (disk->restored > options->session_limit) {
+        snprintf(why, sizeof why, "has %" PRIu32 " sessions, more than --sessions %" PRIu32,
+                 disk->restored, options->session_limit);
+        return fail(disk, disk->path, why);
+    }
+    return table_restore(stored, length, table, disk->length) ||
+           fail(disk, disk->path, "its sessions cannot be restored");
 }
 
 /* The file may be of a unit that was killed between the renaming and the disk: so the disk is waited
    for here, before anything is answered. */
-static bool read_stored(struct disk *disk, uint8_t *table)
+static bool read_stored(struct disk *disk, const struct options *options, uint8_t *table)
 {
     struct stat found;
 
@@ -241,7 +243,7 @@ static bool read_stored(struct disk *disk, uint8_t *table)
         disk->made = errno == ENOENT;
         return disk->made ? write_table(disk, table) : fail(disk, disk->path, strerror(errno));
     }
-    if (!read_table(disk, &found, disk->before) || !restore(disk, disk->before, table))
+    if (!read_table(disk, &found) || !restore(disk, options, table))
         return false;
     if (disk->sync && !(sync_path(disk->path) && sync_path(disk->folder)))
         return fail(disk, disk->path, strerror(errno));
@@ -256,11 +258,12 @@ bool disk_start(struct disk *disk, const struct options *options, uint8_t *table
     disk->lock = -1;
     disk->path = options->table;
     disk->sync = options->table_sync;
+    disk->length = pfcp_table_length(options->session_limit);
     if (!disk->path)
         return true;
     bool usable = name_files(disk) && take_lock(disk);
     disk->unfinished = usable && lstat(disk->beside, &found) == 0;
-    if (usable && read_stored(disk, table))
+    if (usable && read_stored(disk, options, table))
         return true;
     fprintf(stderr, "pfcp_unit: --table %s\n", disk->trouble);
     return false;

@@ -24,19 +24,22 @@ struct disk {
     char beside[PATH_MAX];
     char locked[PATH_MAX];
     char folder[PATH_MAX];
-    int lock;                          /* -1: FILE.lock is not held */
-    uint8_t before[PFCP_TABLE_LENGTH]; /* the table before the request */
-    bool unsure;                       /* renamed, but the disk did not confirm it */
-    bool failing;                      /* the last write failed */
-    char trouble[TROUBLE_ROOM];        /* why */
-    bool made;                         /* at the start there was no FILE */
-    bool unfinished;                   /* at the start there was a FILE.new */
-    size_t restored;                   /* sessions that FILE had at the start */
+    int lock;                           /* -1: FILE.lock is not held */
+    size_t length;                      /* of the table */
+    uint8_t before[PFCP_LONGEST_TABLE]; /* the table before the request; at the start FILE's */
+    bool unsure;                        /* renamed, but the disk did not confirm it */
+    bool failing;                       /* the last write failed */
+    char trouble[TROUBLE_ROOM];         /* why */
+    bool made;                          /* at the start there was no FILE */
+    bool unfinished;                    /* at the start there was a FILE.new */
+    uint32_t restored;                  /* sessions that FILE had at the start */
+    uint32_t stored_limit;              /* the session limit that FILE was made with */
 };
 
-/* Locks the file and has the table, which is empty, become the one that is stored there, through the
-   restoration requests of its sessions; writes the table where there is no file. Says on standard
-   error what is wrong, leaves the file as it is and gives false. */
+/* Locks the file and brings the sessions that are stored there into the table, which is empty, through
+   their restoration requests; the file's session limit may be another one than the table's. Writes the
+   table where there is no file. Says on standard error what is wrong, leaves the file as it is and
+   gives false. */
 bool disk_start(struct disk *disk, const struct options *options, uint8_t *table);
 void disk_stop(struct disk *disk);
 

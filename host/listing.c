@@ -189,7 +189,8 @@ static void add_counters(struct text *text, const struct listing *listing)
 static void start(struct listing *listing, const struct unit *unit, unsigned form)
 {
     memset(listing, 0, sizeof *listing);
-    memcpy(listing->table, unit->table, sizeof listing->table);
+    memcpy(listing->table, unit->table, unit->table_length);
+    listing->table_length = unit->table_length;
     listing->counters = unit->counters;
     listing->free_teids = unit->free_teids;
     listing->pool_size = unit->options->pool_size;
@@ -211,7 +212,7 @@ bool listing_one(struct listing *listing, const struct unit *unit, uint64_t seid
 {
     size_t place;
 
-    if (pfcp_find_session(unit->table, sizeof unit->table, seid, &place) != PFCP_FOUND)
+    if (pfcp_find_session(unit->table, unit->table_length, seid, &place) != PFCP_FOUND)
         return false;
     start(listing, unit, form);
     listing->first = place;
@@ -238,7 +239,7 @@ static void add_session(struct text *text, const struct listing *listing)
 {
     struct session session;
 
-    if (!sessions_read(listing->table, listing->next, &session))
+    if (!sessions_read(listing->table, listing->table_length, listing->next, &session))
         return;
     if (listing->form & LIST_JSON) {
         text_add(text, listing->next > listing->first ? ",\n" : "");

@@ -11,7 +11,8 @@ enum { LIST_COUNTERS = 1, LIST_JSON = 2 };
 /* A list that is given out in pieces. It has its own copy of the table, so the sessions are those of
    one moment, whatever is served between two pieces. */
 struct listing {
-    uint8_t table[PFCP_TABLE_LENGTH];
+    uint8_t table[PFCP_LONGEST_TABLE];
+    size_t table_length;
     struct counters counters;
     unsigned long lines_dropped;
     uint32_t free_teids;

@@ -31,10 +31,11 @@ static int run_demonstration(const struct options *options)
 {
     static struct unit unit;
 
-    if (!unit_start(&unit, options))
-        return 2;
-    int status = run_demo(&unit);
+    bool started = unit_start(&unit, options);
+    int status = started ? run_demo(&unit) : 2;
     unit_stop(&unit);
+    if (!started)
+        return status;
     return end_of_text() == EXIT_SUCCESS ? status : EXIT_FAILURE;
 }
 

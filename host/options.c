@@ -6,6 +6,10 @@
 
 #include "message.h"
 #include "number.h"
+#include "pfcp_session.h"
+
+/* The session limit where no option says it. */
+enum { USUAL_SESSIONS = 64 };
 
 const char usage[] =
     "usage: pfcp_unit [OPTION VALUE].. [--demo]\n"
@@ -20,9 +24,10 @@ const char usage[] =
     "  --ipv4 ADDRESS      the unit's own IPv4 address (192.0.2.1)\n"
     "  --ipv6 ADDRESS      the unit's own IPv6 address (none)\n"
     "  --first-teid TEID   the first TEID of the pool, from 1 on (4096)\n"
-    "  --pool SIZE         the number of TEIDs, 1 to 4096 (4096)\n"
+    "  --pool SIZE         the number of TEIDs, 1 to 65536 (4096)\n"
     "  --first-address ADDRESS  the first IPv4 address for patients' devices (10.45.0.1)\n"
     "  --addresses NUMBER  the number of these addresses, 1 to 1024 (254)\n"
+    "  --sessions NUMBER   the most sessions that may live at once, 1 to 256 (64)\n"
     "  --demo              run a scripted exchange over the loopback interface and end; without\n"
     "                      these options it takes any free port, 3 TEIDs and 2 addresses\n"
     "  --version           print the version\n"
@@ -44,6 +49,18 @@ static bool read_ipv4(const char *name, const char *value, uint32_t *address)
     if (inet_pton(AF_INET, value, octets) != 1)
         return complain(name, value, "not an IPv4 address");
     *address = (uint32_t)number_at(octets, sizeof octets);
+    return true;
+}
+
+/* A setting of the table that is a number from 1 on. */
+static bool read_setting(const char *name, const char *value, uint64_t most, const char *wanted,
+                         uint32_t *setting)
+{
+    uint64_t number;
+
+    if (!read_number(value, 1, most, &number))
+        return complain(name, value, wanted);
+    *setting = (uint32_t)number;
     return true;
 }
 
@@ -78,19 +95,19 @@ static bool read_option(struct options *options, const char *name, const char *v
             return complain(name, value, "not an IPv6 address");
         options->ipv6_length = sizeof options->ipv6;
     } else if (strcmp(name, "--first-teid") == 0) {
-        if (!read_number(value, 1, UINT32_MAX, &number))
-            return complain(name, value, "not a TEID from 1 to 4294967295");
-        options->first_teid = (uint32_t)number;
+        return read_setting(name, value, UINT32_MAX, "not a TEID from 1 to 4294967295",
+                            &options->first_teid);
     } else if (strcmp(name, "--first-address") == 0) {
         return read_ipv4(name, value, &options->first_address);
     } else if (strcmp(name, "--addresses") == 0) {
-        if (!read_number(value, 1, 1024, &number))
-            return complain(name, value, "not a number of addresses from 1 to 1024");
-        options->address_count = (uint32_t)number;
+        return read_setting(name, value, 1024, "not a number of addresses from 1 to 1024",
+                            &options->address_count);
+    } else if (strcmp(name, "--sessions") == 0) {
+        return read_setting(name, value, PFCP_MOST_SESSIONS,
+                            "not a number of sessions from 1 to 256", &options->session_limit);
     } else {
-        if (!read_number(value, 1, 4096, &number))
-            return complain(name, value, "not a pool size from 1 to 4096");
-        options->pool_size = (uint32_t)number;
+        return read_setting(name, value, 65536, "not a pool size from 1 to 65536",
+                            &options->pool_size);
     }
     return true;
 }
@@ -98,8 +115,9 @@ static bool read_option(struct options *options, const char *name, const char *v
 static bool takes_value(const char *name)
 {
     static const char *const names[] = {
-        "--address", "--port", "--peer",       "--control", "--table",         "--table-sync",
-        "--ipv4",    "--ipv6", "--first-teid", "--pool",    "--first-address", "--addresses"};
+        "--address",       "--port",      "--peer",    "--control",    "--table",
+        "--table-sync",    "--ipv4",      "--ipv6",    "--first-teid", "--pool",
+        "--first-address", "--addresses", "--sessions"};
 
     for (size_t i = 0; i < sizeof names / sizeof names[0]; i++)
         if (strcmp(name, names[i]) == 0)
@@ -162,6 +180,7 @@ bool read_options(struct options *options, int argc, char **argv)
     options->ipv4 = 0xC0000201;
     options->first_teid = 4096;
     options->first_address = 0x0A2D0001;
+    options->session_limit = USUAL_SESSIONS;
     options->table_sync = true;
     for (int i = 1; i < argc; i++) {
         if (strcmp(argv[i], "--demo") == 0) {

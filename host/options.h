@@ -24,6 +24,7 @@ struct options {
     uint32_t pool_size;
     uint32_t first_address; /* of the patients' addresses */
     uint32_t address_count;
+    uint32_t session_limit;
     bool demo;
     bool help;
     bool version;

@@ -11,7 +11,8 @@
 #include <stdbool.h>
 #include <stddef.h>
 
-enum { OUTPUT_ROOM = 1 << 20 };
+/* More than twice what the longest list takes: 256 full sessions are 0.8 MiB of text. */
+enum { OUTPUT_ROOM = 2 << 20 };
 
 /* Lines, and how many were dropped before the first of them. */
 struct lines {

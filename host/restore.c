@@ -15,6 +15,7 @@ uint32_t pfcp_restore(void);
 static const char usage[] =
     "usage: restore write TABLE FILE [IPV4] [IPV6]\n"
     "       restore run FILE TABLE NEW\n"
+    "TABLE is a stored table with room for 64 sessions at most.\n"
     "write: the restoration requests of a stored table, in its order, nothing between, into FILE.\n"
     "       IPV4 and IPV6 are the control plane's addresses, one or both.\n"
     "run:   the requests of FILE on an empty table with the settings of TABLE; the result into "

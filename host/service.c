@@ -2,6 +2,7 @@
 #include "service.h"
 
 #include <errno.h>
+#include <inttypes.h>
 #include <poll.h>
 #include <signal.h>
 #include <stdio.h>
@@ -189,7 +190,8 @@ static void serve(struct service *service)
 static void say_table(struct service *service)
 {
     const struct disk *disk = &service->unit.disk;
-    char words[PATH_MAX + 128];
+    uint32_t limit = service->unit.options->session_limit;
+    char words[PATH_MAX + 192];
 
     if (!disk->path)
         return;
@@ -201,9 +203,17 @@ static void say_table(struct service *service)
     if (disk->made)
         snprintf(words, sizeof words, "the table is kept in %s, which was not there", disk->path);
     else
-        snprintf(words, sizeof words, "the table is kept in %s; sessions restored from it: %zu",
-                 disk->path, disk->restored);
+        snprintf(words, sizeof words,
+                 "the table is kept in %s; sessions restored from it: %" PRIu32, disk->path,
+                 disk->restored);
     say(service, words);
+    if (!disk->made && disk->stored_limit != limit) {
+        snprintf(words, sizeof words,
+                 "%s has room for %" PRIu32 " sessions; from the next change on it has room for "
+                 "%" PRIu32,
+                 disk->path, disk->stored_limit, limit);
+        say(service, words);
+    }
     if (!disk->sync)
         warn(service, "warning: --table-sync no: after a power failure the table's file may lack "
                       "what was answered, or be broken");
@@ -218,11 +228,11 @@ static void say_start(struct service *service)
 
     say_table(service);
     snprintf(words, sizeof words,
-             "serving PFCP session requests on %s, live sessions %u, free TEIDs %u, "
-             "free addresses %u",
-             address_text(&options->listen, listen, sizeof listen),
-             (unsigned)service->unit.live_sessions, (unsigned)service->unit.free_teids,
-             (unsigned)service->unit.free_addresses);
+             "serving PFCP session requests on %s, live sessions %" PRIu32 " of %" PRIu32
+             ", free TEIDs %" PRIu32 " of %" PRIu32 ", free addresses %" PRIu32 " of %" PRIu32,
+             address_text(&options->listen, listen, sizeof listen), service->unit.live_sessions,
+             options->session_limit, service->unit.free_teids, options->pool_size,
+             service->unit.free_addresses, options->address_count);
     say(service, words);
     if (!options->has_peer)
         warn(service, "warning: no --peer is given, so requests from any address are answered");

@@ -126,30 +126,31 @@ static void read_request(struct session *session, struct elements rest)
 }
 
 /* Both tables have their sessions in ascending order of SEID. */
-size_t sessions_gone(const uint8_t *before, const uint8_t *after, uint64_t *seids, size_t room)
+size_t sessions_gone(const uint8_t *before, const uint8_t *after, size_t length, uint64_t *seids,
+                     size_t room)
 {
     struct session was;
     struct session is;
     size_t kept = 0;
     size_t gone = 0;
-    bool more = sessions_read(after, kept, &is);
+    bool more = sessions_read(after, length, kept, &is);
 
-    for (size_t place = 0; gone < room && sessions_read(before, place, &was); place++) {
+    for (size_t place = 0; gone < room && sessions_read(before, length, place, &was); place++) {
         if (more && was.seid == is.seid)
-            more = sessions_read(after, ++kept, &is);
+            more = sessions_read(after, length, ++kept, &is);
         else
             seids[gone++] = was.seid;
     }
     return gone;
 }
 
-bool sessions_read(const uint8_t *table, size_t place, struct session *session)
+bool sessions_read(const uint8_t *table, size_t length, size_t place, struct session *session)
 {
     uint8_t request[PFCP_LONGEST_RESTORATION];
     size_t used;
 
-    if (pfcp_write_restoration(table, PFCP_TABLE_LENGTH, place, nobody, sizeof nobody, NULL, 0,
-                               request, sizeof request, &used) != PFCP_WRITTEN)
+    if (pfcp_write_restoration(table, length, place, nobody, sizeof nobody, NULL, 0, request,
+                               sizeof request, &used) != PFCP_WRITTEN)
         return false;
     read_request(session, elements_of(request, used));
     return true;

@@ -7,7 +7,7 @@
 #include <stddef.h>
 #include <stdint.h>
 
-enum { MOST_SESSIONS = 64, MOST_PDRS = 16, MOST_ENDPOINTS = 8, MOST_FQ_CSIDS = 6 };
+enum { MOST_PDRS = 16, MOST_ENDPOINTS = 8, MOST_FQ_CSIDS = 6 };
 
 /* The IPv4 address of a patient's device, which a record may hold. */
 struct patient_address {
@@ -53,11 +53,13 @@ struct session {
     struct fq_csid fq_csids[MOST_FQ_CSIDS];
 };
 
-/* The SEIDs, in ascending order, of sessions that a table had before and has no more after; gives
-   their number, at most the room. No session has come or changed its SEID between the two. */
-size_t sessions_gone(const uint8_t *before, const uint8_t *after, uint64_t *seids, size_t room);
+/* The SEIDs, in ascending order, of sessions that a table of this length had before and has no more
+   after; gives their number, at most the room. No session has come or changed its SEID between the
+   two. */
+size_t sessions_gone(const uint8_t *before, const uint8_t *after, size_t length, uint64_t *seids,
+                     size_t room);
 
 /* The session at a place of a sound table, from 0 on; gives false where there is none. */
-bool sessions_read(const uint8_t *table, size_t place, struct session *session);
+bool sessions_read(const uint8_t *table, size_t length, size_t place, struct session *session);
 
 #endif

@@ -2,21 +2,39 @@
 
 #include <errno.h>
 #include <stdio.h>
+#include <stdlib.h>
 #include <string.h>
 #include <unistd.h>
 
 #include "datagrams.h"
 #include "message.h"
+#include "table.h"
 
 /* The sessions, free TEIDs and free addresses, after a request that may have changed them. */
 static bool count_table(struct unit *unit)
 {
     const uint8_t *table = unit->table;
-    size_t length = sizeof unit->table;
+    size_t length = unit->table_length;
 
     return pfcp_session_count(table, length, &unit->live_sessions) == PFCP_FOUND &&
            pfcp_free_count(table, length, &unit->free_teids) == PFCP_ANSWERED &&
            pfcp_free_addresses(table, length, &unit->free_addresses) == PFCP_ANSWERED;
+}
+
+/* An empty table in memory of just its length. */
+static bool start_table(struct unit *unit, const struct options *options)
+{
+    unit->table_length = pfcp_table_length(options->session_limit);
+    unit->table = malloc(unit->table_length);
+    if (!unit->table) {
+        fputs("pfcp_unit: no memory for the table\n", stderr);
+        return false;
+    }
+    if (!table_make(unit->table, options, options->session_limit)) {
+        fputs("pfcp_unit: these settings are refused\n", stderr);
+        return false;
+    }
+    return true;
 }
 
 bool unit_start(struct unit *unit, const struct options *options)
@@ -25,13 +43,7 @@ bool unit_start(struct unit *unit, const struct options *options)
     unit->socket = -1;
     unit->disk.lock = -1;
     unit->options = options;
-    if (pfcp_make_table(unit->table, sizeof unit->table, options->ipv4, options->ipv6,
-                        options->ipv6_length, options->first_teid, options->pool_size,
-                        options->first_address, options->address_count) != 0) {
-        fputs("pfcp_unit: these settings are refused\n", stderr);
-        return false;
-    }
-    if (!disk_start(&unit->disk, options, unit->table))
+    if (!start_table(unit, options) || !disk_start(&unit->disk, options, unit->table))
         return false;
     if (!count_table(unit)) {
         fputs("pfcp_unit: the table is broken\n", stderr);
@@ -52,6 +64,8 @@ void unit_stop(struct unit *unit)
         close(unit->socket);
     unit->socket = -1;
     disk_stop(&unit->disk);
+    free(unit->table);
+    unit->table = NULL;
 }
 
 /* What the octets tell of the message. A header without S has no SEID. */
@@ -139,7 +153,7 @@ static void answer(struct unit *unit, struct served *served, struct datagram *fr
     size_t used;
 
     disk_remember(&unit->disk, unit->table);
-    served->outcome = pfcp_request(unit->table, sizeof unit->table, message, served->length, reply,
+    served->outcome = pfcp_request(unit->table, unit->table_length, message, served->length, reply,
                                    sizeof reply, &used, &served->place);
     if (served->outcome != PFCP_ANSWERED)
         return;
@@ -160,16 +174,17 @@ static void answer(struct unit *unit, struct served *served, struct datagram *fr
 static void answer_set(struct unit *unit, struct served *served, struct datagram *from,
                        const uint8_t *message)
 {
-    static uint8_t before[PFCP_TABLE_LENGTH];
+    static uint8_t before[PFCP_LONGEST_TABLE];
     size_t lived = unit->live_sessions;
 
-    memcpy(before, unit->table, sizeof before);
+    memcpy(before, unit->table, unit->table_length);
     answer(unit, served, from, message);
     if (served->outcome != PFCP_ANSWERED || served->cause != ACCEPTED)
         return;
     served->is_set = true;
     if (unit->live_sessions < lived)
-        served->removed_count = sessions_gone(before, unit->table, served->removed, MOST_SESSIONS);
+        served->removed_count = sessions_gone(before, unit->table, unit->table_length,
+                                              served->removed, PFCP_MOST_SESSIONS);
 }
 
 enum turn unit_serve(struct unit *unit, struct served *served)

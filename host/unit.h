@@ -29,7 +29,8 @@ struct unit {
     int socket;
     size_t receive_buffer; /* octets that the system gave */
     const struct options *options;
-    uint8_t table[PFCP_TABLE_LENGTH];
+    uint8_t *table; /* as long as the session limit asks for; NULL: there is none */
+    size_t table_length;
     struct disk disk;
     uint32_t live_sessions;
     uint32_t free_teids;
@@ -64,15 +65,15 @@ struct served {
     uint32_t live_sessions;
     uint32_t free_teids;
     uint32_t free_addresses;
-    bool is_set;                     /* a set deletion that was accepted */
-    uint64_t removed[MOST_SESSIONS]; /* the SEIDs of the sessions that it took */
+    bool is_set;                          /* a set deletion that was accepted */
+    uint64_t removed[PFCP_MOST_SESSIONS]; /* the SEIDs of the sessions that it took */
     size_t removed_count;
 };
 
 enum turn { TURN_REPLY, TURN_NO_REPLY, TURN_STRANGER, TURN_NOTHING, TURN_BROKEN };
 
 /* Makes or restores the table and binds the socket; says on standard error what failed and gives
-   false. */
+   false. A unit that could not start is stopped all the same. */
 bool unit_start(struct unit *unit, const struct options *options);
 void unit_stop(struct unit *unit);
 

@@ -13,6 +13,9 @@
  * and its octet 20 in one of type 53 or 55. With the causes 66 to 69 the Offending IE's two octets
  * stand 5 and 6 octets after it.
  *
+ * Lengths of tables. A table keeps the session limit that it was made with, and is always lent with the
+ * length that pfcp_table_length gives for this limit. With another length it is a broken table.
+ *
  * Pointers. Every pair of a pointer and a length is a slice: the pointer is valid for that many
  * octets, for reading where it is const and for reading and writing where it is not. A slice of
  * length 0 may have any pointer, also NULL. The slices of one call do not overlap, and neither do
@@ -26,8 +29,8 @@
  * the table, and reads the copy. A copy that was made without the lock may mix two states, and need
  * not be a broken table for that.
  *
- * Stack. A request takes 44,264 octets of stack (docs/benchmarks.md has how it was measured), the
- * other calls take less. There is no heap. A thread of 64 KiB is large enough.
+ * Stack. A request takes 75,032 octets of stack (docs/benchmarks.md has how it was measured), the
+ * other calls take less. There is no heap. A thread of 96 KiB is large enough.
  *
  * Architecture. The archive is for x86-64 Linux, any processor of that kind. It needs memcpy, memmove
  * and memset of the C library and nothing else, and can be linked into position independent code.
@@ -46,12 +49,15 @@ extern "C" {
 
 /* The version of this header and its archive: as numbers and as text. */
 #define PFCP_VERSION_MAJOR 0
-#define PFCP_VERSION_MINOR 4
+#define PFCP_VERSION_MINOR 5
 #define PFCP_VERSION_PATCH 0
-#define PFCP_VERSION "0.4.0"
+#define PFCP_VERSION "0.5.0"
 
-/* The length of a table, the same as pfcp_table_length() gives. */
-#define PFCP_TABLE_LENGTH 38631
+/* The greatest session limit of a table, ... */
+#define PFCP_MOST_SESSIONS 256
+
+/* ... and the length of a table with that limit: no table is longer. */
+#define PFCP_LONGEST_TABLE 154409
 
 /* A request needs a reply space of at least this many octets, ... */
 #define PFCP_REPLY_SPACE 1280
@@ -82,8 +88,11 @@ extern "C" {
                      /* 1: PFCP_BROKEN_TABLE */
 #define PFCP_NONE 2  /* no session has the SEID, or none holds the TEID */
 
-/* The number of octets that a table has: 38,631. */
-size_t pfcp_table_length(void);
+/*
+ * The number of octets of a table with this session limit, 1 to 256: 38,633 for 64 sessions, 154,409 for
+ * 256. Gives 0 for every other limit.
+ */
+size_t pfcp_table_length(uint32_t session_limit);
 
 /*
  * Makes an empty table with these settings, whatever the octets were before.
@@ -91,16 +100,17 @@ size_t pfcp_table_length(void);
  * ipv4           the unit's IPv4 address
  * ipv6           the unit's IPv6 address: ipv6_len is 16, or 0 if the unit has none
  * first_teid     the first TEID of the pool, at least 1
- * pool_size      the number of TEIDs, 1 to 4,096; the last one is at most 4,294,967,295
+ * pool_size      the number of TEIDs, 1 to 65,536; the last one is at most 4,294,967,295
  * first_address  the first IPv4 address of the pool of patients' addresses
  * address_count  the number of these addresses, 1 to 1,024; the last one is at most 255.255.255.255
+ * session_limit  the number of sessions that the table has room for, 1 to 256
  *
- * Gives 0 if the table was made, and 1 if it was refused: table_len is not pfcp_table_length(), or
- * a setting is another one than said here. A refusal writes nothing.
+ * Gives 0 if the table was made, and 1 if it was refused: table_len is not
+ * pfcp_table_length(session_limit), or a setting is another one than said here. A refusal writes nothing.
  */
 uint32_t pfcp_make_table(uint8_t *table, size_t table_len, uint32_t ipv4, const uint8_t *ipv6,
                          size_t ipv6_len, uint32_t first_teid, uint32_t pool_size,
-                         uint32_t first_address, uint32_t address_count);
+                         uint32_t first_address, uint32_t address_count, uint32_t session_limit);
 
 /*
  * Counts the free TEIDs: the pool size minus the different TEIDs in the table's records.

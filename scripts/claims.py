@@ -12,8 +12,8 @@ it keeps it. A theorem is proved; its proof is left out here. A definition has t
 wrong program that the prover must refuse. A statement is shown once, where it is first named. What the rules say in words is in
 [rules.md](rules.md). Where an answer speaks of the rules alone, it says so; `pfcp_request` carries it over to the code.
 
-`serve limit t msg space` is the definition of one request: the outcome, the reply space and the table at exit, of any octets. `make` and
-`countFree` are the definitions of the other two calls. The product's `limit` is `maxSessions`, 64.
+`serve t msg space` is the definition of one request: the outcome, the reply space and the table at exit, of any octets. `make` and
+`countFree` are the definitions of the other two calls. The session limit is a setting, which the table keeps; the largest is `maxSessions`.
 
 | Sign | How to read it |
 |---|---|

@@ -96,8 +96,8 @@ find_archive() {
 strict=(-std=c11 -D_POSIX_C_SOURCE=200809L -Wall -Wextra -Werror -pedantic -Iinclude -Ihost)
 sanitizers=(-g -O1 -fsanitize=address,undefined -fno-sanitize-recover=all -fno-omit-frame-pointer)
 bench_sources=(-O2 -Ibench bench/workload.c bench/sides.c bench/measure.c host/message.c)
-unit_sources=(host/main.c host/options.c host/number.c host/service.c host/unit.c host/disk.c host/datagrams.c host/address.c host/line.c
-    host/sessions.c host/listing.c host/control.c host/output.c host/text.c host/words.c host/message.c host/demo.c -pthread)
+unit_sources=(host/main.c host/options.c host/number.c host/service.c host/unit.c host/table.c host/disk.c host/datagrams.c host/address.c
+    host/line.c host/sessions.c host/listing.c host/control.c host/output.c host/text.c host/words.c host/message.c host/demo.c -pthread)
 list_sources=(host/pfcp_list.c host/number.c)
 # the program restore, which adds to its C file a proved library and the kit's C code for it, and the unit's list of a stored table
 restore_sources=(host/restore.c)
@@ -127,6 +127,11 @@ compile_times() {
     compile floor.o -c -O3 bench/floor.c || return 1
     compile_bench "$1" bench/bench.c bench/tables.c bench/kinds.c bench/eight.c bench/passes.c bench/longest.c bench/longest_time.c \
         target/c/sum_by_octet.o target/c/sum_by_vector.o target/c/floor.o -DPADDING="\"$2\"" bench/padding.c
+}
+
+# compile_copies: the program that sees what the archives copy and clear
+compile_copies() {
+    compile_bench copies bench/copies.c -Wl,--wrap=memcpy,--wrap=memmove,--wrap=memset
 }
 
 # compile_summary: the program that sums up what those print

@@ -5,10 +5,11 @@ use std::net::Ipv4Addr;
 use crate::element::fq_csid::NodeId;
 use crate::session::Endpoint;
 use crate::session::{records_hold, Families, HeldCsid, Local, Pdr, Session, Sessions, Tunnel};
-use crate::settings::Settings;
+use crate::settings::{allowed_limit, Settings};
 
-pub const TABLE: usize = 38_631;
-pub const SLOTS: usize = 39;
+pub const LIMIT: usize = 37;
+pub const COUNT: usize = 39;
+pub const SLOTS: usize = 41;
 pub const SLOT: usize = 603;
 pub const PDRS: usize = 11;
 pub const PDR: usize = 24;
@@ -17,9 +18,20 @@ pub const ENDPOINT: usize = 11;
 pub const FQ_CSIDS: usize = 483;
 pub const FQ_CSID: usize = 20;
 
+/// How long a table with this session limit is.
+pub fn length(session_limit: u16) -> usize {
+    SLOTS + SLOT * usize::from(session_limit)
+}
+
+/// The same, and 0 for a limit that is not allowed.
+pub fn length_for(session_limit: u32) -> usize {
+    allowed_limit(session_limit).map_or(0, length)
+}
+
 /// The octets of a table. There must be room for the records; they may break the rules otherwise.
 pub fn encode(settings: &Settings, sessions: &Sessions) -> Vec<u8> {
-    let mut table = Vec::with_capacity(TABLE);
+    let length = length(settings.session_limit);
+    let mut table = Vec::with_capacity(length);
     table.extend(settings.ipv4);
     table.push(u8::from(settings.ipv6.is_some()));
     table.extend(settings.ipv6.unwrap_or([0; 16]));
@@ -27,12 +39,13 @@ pub fn encode(settings: &Settings, sessions: &Sessions) -> Vec<u8> {
     table.extend(settings.size.to_be_bytes());
     table.extend(settings.first_address.octets());
     table.extend(settings.addresses.to_be_bytes());
+    table.extend(settings.session_limit.to_be_bytes());
     table.extend((sessions.len() as u16).to_be_bytes());
     for (seid, session) in sessions {
         encode_session(&mut table, *seid, session);
     }
-    assert!(table.len() <= TABLE, "more sessions than there is room for");
-    table.resize(TABLE, 0);
+    assert!(table.len() <= length, "more sessions than there is room for");
+    table.resize(length, 0);
     table
 }
 
@@ -99,11 +112,28 @@ fn flags(families: Families) -> u8 {
     u8::from(families.v4) + 2 * u8::from(families.v6)
 }
 
+/// The session limit and the number of sessions of a table that is as long as its limit says.
+fn frame(table: &[u8]) -> Result<(u16, u16), &'static str> {
+    if table.len() < SLOTS {
+        return Err("a length under that of its settings");
+    }
+    let number = |at| u16::from_be_bytes(array(table, at));
+    let (limit, count) = (number(LIMIT), number(COUNT));
+    if allowed_limit(limit.into()).is_none() {
+        return Err("a session limit that is not allowed");
+    }
+    if table.len() != length(limit) {
+        return Err("another length than its session limit's");
+    }
+    match count <= limit {
+        true => Ok((limit, count)),
+        false => Err("more sessions than its session limit"),
+    }
+}
+
 /// The settings and records of a table; nothing where an octet has no meaning at all.
 pub fn decode(table: &[u8]) -> Option<(Settings, Sessions)> {
-    if table.len() != TABLE {
-        return None;
-    }
+    let (session_limit, count) = frame(table).ok()?;
     let settings = Settings {
         ipv4: array(table, 0),
         ipv6: (table[4] != 0).then(|| array(table, 5)),
@@ -111,13 +141,10 @@ pub fn decode(table: &[u8]) -> Option<(Settings, Sessions)> {
         size: u32::from_be_bytes(array(table, 25)),
         first_address: Ipv4Addr::from(array(table, 29)),
         addresses: u32::from_be_bytes(array(table, 33)),
+        session_limit,
     };
-    let count = usize::from(u16::from_be_bytes(array(table, 37)));
-    if count > 64 {
-        return None;
-    }
     let mut sessions = Sessions::new();
-    for slot in table[SLOTS..].chunks(SLOT).take(count) {
+    for slot in table[SLOTS..].chunks(SLOT).take(count.into()) {
         sessions.insert(u64::from_be_bytes(array(slot, 0)), decode_session(slot)?);
     }
     Some((settings, sessions))
@@ -179,12 +206,10 @@ fn array<const N: usize>(octets: &[u8], at: usize) -> [u8; N] {
 }
 
 /// The settings and records of a sound table, or why it is broken: "exactly when its length is not
-/// 38,631, its settings or records break a rule of 01 or 02, or its octets are not the ones that
-/// its own settings and records encode to".
+/// that of its session limit, its settings or records break a rule of 01 or 02, or its octets are not
+/// the ones that its own settings and records encode to".
 pub fn sound(table: &[u8]) -> Result<(Settings, Sessions), String> {
-    if table.len() != TABLE {
-        return Err("a wrong length".to_string());
-    }
+    frame(table)?;
     let (settings, sessions) = decode(table).ok_or("an octet without a meaning")?;
     if !settings.are_allowed() {
         return Err("settings that are not allowed".to_string());

@@ -50,6 +50,7 @@ pub fn run(seed: u64, calls: usize) -> Report {
     let mut random = Random::new(!seed);
     while report.calls < calls {
         let mut scenario = generator.scenario();
+        refused_settings(&mut report, &mut generator, &scenario.settings);
         let mut unit =
             Unit::new(scenario.settings.clone()).expect("generated settings are allowed");
         let mut live = LiveSet::new();
@@ -71,6 +72,16 @@ pub fn run(seed: u64, calls: usize) -> Report {
         report.check(unmet, || "the coverage is not whole".to_string());
     }
     report
+}
+
+/// Settings that are not allowed by one number alone.
+fn refused_settings(report: &mut Report, generator: &mut Generator, allowed: &Settings) {
+    let (other, limit) = generator.refused(allowed);
+    let ipv6 = other.ipv6.map_or(vec![], |address| address.to_vec());
+    let teids = (other.first, other.size);
+    let addresses = (other.first_address, other.addresses);
+    let made = Settings::make(other.ipv4, &ipv6, teids, addresses, limit);
+    report.check(made.is_none(), || format!("{other:?} and the limit {limit} are allowed"));
 }
 
 fn one_call(report: &mut Report, unit: &mut Unit, live: &mut LiveSet, call: &Call) {

@@ -1,5 +1,5 @@
 //! The records that live in a unit, and the rules that document 01 gives for them under "Settings
-//! and table", with the addresses of 02 (v).
+//! and table", with the addresses of 02 (v) and the session limit of 02 (vi).
 
 use std::collections::{BTreeMap, BTreeSet};
 use std::net::Ipv4Addr;
@@ -8,8 +8,8 @@ use crate::element::fq_csid::{NodeId, LAST_NODE_TYPE};
 use crate::request::{Record, Request};
 use crate::settings::Settings;
 
-/// "At most 64 sessions, each with 16 PDRs, 8 traffic endpoints and one FQ-CSID per node type."
-pub const MOST_SESSIONS: usize = 64;
+/// Sessions "each with 16 PDRs, 8 traffic endpoints and one FQ-CSID per node type"; how many there
+/// may be is a setting.
 pub const MOST_PDRS: usize = 16;
 pub const MOST_ENDPOINTS: usize = 8;
 
@@ -147,15 +147,18 @@ pub fn place_of(sessions: &Sessions, seid: u64) -> Option<usize> {
     sessions.keys().position(|key| *key == seid)
 }
 
-/// The place of the session that holds a TEID.
-pub fn place_of_holder(sessions: &Sessions, teid: u32) -> Option<usize> {
-    sessions.values().position(|session| session.teids().any(|held| held == teid))
+/// The place of the session that holds each TEID.
+pub fn holders(sessions: &Sessions) -> BTreeMap<u32, usize> {
+    let of = |(place, session): (usize, &Session)| {
+        session.teids().map(|teid| (teid, place)).collect::<Vec<_>>()
+    };
+    sessions.values().enumerate().flat_map(of).collect()
 }
 
 /// The rules for the records of a table, as 01 lists them. The answer names the first broken rule.
 pub fn records_hold(settings: &Settings, sessions: &Sessions) -> Result<(), String> {
-    if sessions.len() > MOST_SESSIONS {
-        return Err(format!("{} sessions", sessions.len()));
+    if sessions.len() > usize::from(settings.session_limit) {
+        return Err("more sessions than its session limit".to_string());
     }
     // Who holds a TEID: an endpoint alone, or PDRs of one session with one use of it.
     let mut of_endpoints: BTreeSet<u32> = BTreeSet::new();

@@ -1,13 +1,15 @@
 //! "Settings: the unit's IPv4 address, an optional IPv6 address, the first TEID (at least 1) and
-//! the pool size (1 to 4,096; the last TEID at most 4,294,967,295)", and from 02 (v) "a pool of 1 to
-//! 1,024 addresses [..] (first, size; last at most 255.255.255.255)".
+//! the pool size ([..] the last TEID at most 4,294,967,295)"; from 02 (v) "a pool of 1 to 1,024
+//! addresses [..] (first, size; last at most 255.255.255.255)"; from 02 (vi) "65,536 TEIDs. The
+//! session limit, 1 to 256, becomes a setting".
 
 use std::net::Ipv4Addr;
 
 use crate::session::Families;
 
-pub const LARGEST_POOL: u32 = 4096;
+pub const LARGEST_POOL: u32 = 65_536;
 pub const MOST_ADDRESSES: u32 = 1024;
+pub const LARGEST_LIMIT: u16 = 256;
 
 #[derive(Clone, PartialEq, Eq, Debug)]
 pub struct Settings {
@@ -21,6 +23,13 @@ pub struct Settings {
     pub first_address: Ipv4Addr,
     /// The number of addresses in it.
     pub addresses: u32,
+    /// How many sessions there may be.
+    pub session_limit: u16,
+}
+
+/// A session limit, unless it is not allowed.
+pub fn allowed_limit(limit: u32) -> Option<u16> {
+    u16::try_from(limit).ok().filter(|limit| (1..=LARGEST_LIMIT).contains(limit))
 }
 
 impl Settings {
@@ -32,9 +41,12 @@ impl Settings {
         ipv6: &[u8],
         (first, size): (u32, u32),
         (first_address, addresses): (Ipv4Addr, u32),
+        session_limit: u32,
     ) -> Option<Settings> {
         let ipv6 = if ipv6.is_empty() { None } else { Some(<[u8; 16]>::try_from(ipv6).ok()?) };
-        let settings = Settings { ipv4, ipv6, first, size, first_address, addresses };
+        let session_limit = allowed_limit(session_limit)?;
+        let settings =
+            Settings { ipv4, ipv6, first, size, first_address, addresses, session_limit };
         settings.are_allowed().then_some(settings)
     }
 
@@ -45,6 +57,12 @@ impl Settings {
         self.first >= 1
             && fits(self.first, self.size, LARGEST_POOL)
             && fits(self.first_address.into(), self.addresses, MOST_ADDRESSES)
+            && allowed_limit(self.session_limit.into()).is_some()
+    }
+
+    /// Whether so many sessions are as many as there may be.
+    pub fn is_full(&self, sessions: usize) -> bool {
+        sessions >= usize::from(self.session_limit)
     }
 
     /// Whether a TEID lies in the pool.

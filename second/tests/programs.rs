@@ -136,9 +136,48 @@ fn exchanges_of_the_worked_examples() {
     assert!(expected.lines().count() >= 61);
 }
 
+/// The tables of a run, by name: session limit, length and options.
+fn tables_of(limit: &[&str]) -> Vec<(String, u16, usize, String)> {
+    let folder =
+        std::env::temp_dir().join(format!("tables-{}-{}", std::process::id(), limit.len()));
+    std::fs::create_dir_all(&folder).unwrap();
+    let arguments = [&[folder.to_str().unwrap(), "1", "12"], limit].concat();
+    let output = run(env!("CARGO_BIN_EXE_tables"), &arguments, "");
+    assert_eq!(output.status.code(), Some(0));
+    let mut all = Vec::new();
+    for line in String::from_utf8(output.stdout).unwrap().lines() {
+        let name = line.split(' ').next().unwrap().to_string();
+        let table = std::fs::read(folder.join(format!("{name}.table"))).unwrap();
+        let options = std::fs::read_to_string(folder.join(format!("{name}.options"))).unwrap();
+        let limit = u16::from_be_bytes([table[37], table[38]]);
+        all.push((name, limit, table.len(), options));
+    }
+    std::fs::remove_dir_all(&folder).unwrap();
+    all
+}
+
+#[test]
+fn tables_of_the_limit_that_was_asked_for() {
+    for (wanted, named) in [(&[][..], 64), (&["256"], 256)] {
+        let all = tables_of(wanted);
+        assert_eq!(all.len(), 7 + 12);
+        for (name, limit, length, options) in &all {
+            assert_eq!(*length, 41 + 603 * usize::from(*limit), "{name}");
+            assert!(options.ends_with(&format!(" --sessions {limit}\n")), "{name}");
+            let is_random = wanted.is_empty() && name.starts_with("random");
+            assert!(if is_random { *limit <= 64 } else { *limit == named }, "{name}");
+        }
+        let some_are_small = all.iter().any(|(_, limit, _, _)| *limit < 64);
+        assert_eq!(some_are_small, wanted.is_empty());
+    }
+}
+
 #[test]
 fn tables_refuses_bad_arguments() {
-    for arguments in [&[][..], &["."], &[".", "1"], &[".", "x", "1"], &[".", "1", "1", "1"]] {
+    let counts = [&[][..], &["."], &[".", "1"], &[".", "1", "1", "1", "1"]];
+    let words = [&[".", "x", "1"][..], &[".", "1", "x"], &[".", "1", "1", "x"]];
+    let limits = [&[".", "1", "1", "0"][..], &[".", "1", "1", "257"], &[".", "1", "1", "65537"]];
+    for arguments in counts.into_iter().chain(words).chain(limits) {
         let output = run(env!("CARGO_BIN_EXE_tables"), arguments, "");
         assert_eq!(output.status.code(), Some(2), "{arguments:?}");
         assert!(output.stdout.is_empty() && !output.stderr.is_empty(), "{arguments:?}");

@@ -9,25 +9,30 @@ use second::unit::Unit;
 
 #[test]
 fn allowed_settings() {
-    let made =
-        |ipv6: &[u8], first, size| Settings::make([0; 4], ipv6, (first, size), (POOL, 1)).is_some();
+    let made = |ipv6: &[u8], first, size| {
+        Settings::make([0; 4], ipv6, (first, size), (POOL, 1), SESSION_LIMIT).is_some()
+    };
     assert!(made(&[], 1, 1));
-    assert!(made(&[0; 16], 1, 4096));
+    assert!(made(&[0; 16], 1, 65_536));
     assert!(!made(&[0; 15], 1, 1) && !made(&[0; 17], 1, 1) && !made(&[0; 4], 1, 1));
     assert!(!made(&[], 0, 1));
-    assert!(!made(&[], 1, 0) && !made(&[], 1, 4097));
+    assert!(!made(&[], 1, 0) && !made(&[], 1, 65_537) && !made(&[], 1, u32::MAX));
     assert!(made(&[], u32::MAX, 1) && !made(&[], u32::MAX, 2));
-    assert!(made(&[], u32::MAX - 4095, 4096) && !made(&[], u32::MAX - 4094, 4096));
+    assert!(made(&[], u32::MAX - 65_535, 65_536) && !made(&[], u32::MAX - 65_534, 65_536));
     let good = unit(1, 1).settings().clone();
     assert!(Unit::new(Settings { first: 0, ..good.clone() }).is_none());
-    assert!(Unit::new(Settings { addresses: 0, ..good }).is_none());
+    assert!(Unit::new(Settings { addresses: 0, ..good.clone() }).is_none());
+    assert!(Unit::new(Settings { size: 65_537, ..good.clone() }).is_none());
+    assert!(Unit::new(Settings { session_limit: 0, ..good.clone() }).is_none());
+    assert!(Unit::new(Settings { session_limit: 257, ..good }).is_none());
 }
 
 /// "a pool of 1 to 1,024 addresses in the settings (first, size; last at most 255.255.255.255)"
 #[test]
 fn allowed_pools_of_addresses() {
-    let made =
-        |first: [u8; 4], size| Settings::make(IPV4, &[], (1, 1), (first.into(), size)).is_some();
+    let made = |first: [u8; 4], size| {
+        Settings::make(IPV4, &[], (1, 1), (first.into(), size), SESSION_LIMIT).is_some()
+    };
     assert!(made([0; 4], 1) && made([0; 4], 1024) && made(IPV4, 3));
     assert!(!made([0; 4], 0) && !made([0; 4], 1025) && !made([0; 4], u32::MAX));
     assert!(made([255; 4], 1) && !made([255; 4], 2) && !made([255; 4], 0));
@@ -47,21 +52,23 @@ fn ids_of_zero_are_allowed() {
 
 #[test]
 fn map_of_taken_teids() {
-    let mut unit = unit(4096, 4096);
-    assert_eq!(unit.taken_map(), [0; 64]);
+    let mut unit = unit(4096, 65_536);
+    assert_eq!(unit.taken_map(), [0; 1024]);
     let given = |id, teid| create_pdr(id, &[ie(21, &given_v4(teid))]);
-    let parts = [given(1, 4096), given(2, 4096 + 65), given(3, 8191), given(4, 8191)];
+    let last = 4096 + 65_535;
+    let parts = [given(1, 4096), given(2, 4096 + 65), given(3, last), given(4, last)];
     assert_eq!(cause(&mut unit, &restoration(1, &parts)), 1);
+    assert_eq!(cause(&mut unit, &restoration(2, &[given(1, 4096 + 64 * 64)])), 1);
     let map = unit.taken_map();
-    assert_eq!((map[0], map[1], map[63]), (1, 2, 1 << 63));
-    assert_eq!(map.iter().map(|word| word.count_ones()).sum::<u32>(), 3);
-    assert_eq!(unit.free_count(), 4093);
+    assert_eq!((map[0], map[1], map[63], map[64], map[1023]), (1, 2, 0, 1, 1 << 63));
+    assert_eq!(map.iter().map(|word| word.count_ones()).sum::<u32>(), 4);
+    assert_eq!(unit.free_count(), 65_532);
 }
 
 /// The rules for records, each broken alone.
 #[test]
 fn broken_records() {
-    let settings = Settings::make(IPV4, &[], (10, 10), (POOL, 2)).unwrap();
+    let settings = Settings::make(IPV4, &[], (10, 10), (POOL, 2), SESSION_LIMIT).unwrap();
     let v4 = Families { v4: true, v6: false };
     let tunnel = |teid| Tunnel { teid, families: v4 };
     let pdr =
@@ -104,7 +111,7 @@ fn broken_records() {
 /// pool may be held by several, and the records of one session share freely.
 #[test]
 fn addresses_of_two_sessions() {
-    let settings = Settings::make(IPV4, &[], (10, 10), (POOL, 2)).unwrap();
+    let settings = Settings::make(IPV4, &[], (10, 10), (POOL, 2), SESSION_LIMIT).unwrap();
     let pdr = |address| Pdr {
         precedence: 0,
         far_id: None,

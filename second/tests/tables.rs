@@ -12,10 +12,12 @@ use second::settings::Settings;
 fn random_tables_are_sound_and_read_back() {
     let mut random = Random::new(7);
     for number in 0..60 {
-        let settings = tables::settings(&mut random, number % 2 == 1);
+        let limit = [1, 2, 64, 5, 256, 20][number % 6];
+        let settings = tables::settings(&mut random, number % 2 == 1, limit);
         let filling = if number % 10 == 0 { Filling::Full } else { Filling::Some };
         let sessions = tables::sessions(&mut random, &settings, filling);
         let octets = layout::encode(&settings, &sessions);
+        assert_eq!(octets.len(), 41 + 603 * usize::from(limit));
         assert_eq!(layout::sound(&octets), Ok((settings, sessions)));
     }
 }
@@ -23,7 +25,7 @@ fn random_tables_are_sound_and_read_back() {
 #[test]
 fn random_tables_hold_every_kind_of_record() {
     let mut random = Random::new(8);
-    let settings = tables::settings(&mut random, true);
+    let settings = tables::settings(&mut random, true, 64);
     let sessions = tables::sessions(&mut random, &settings, Filling::Full);
     let pdrs: Vec<&Pdr> = sessions.values().flat_map(|session| session.pdrs.values()).collect();
     assert_eq!(pdrs.len(), 64 * 16);
@@ -50,7 +52,8 @@ fn random_tables_hold_every_kind_of_record() {
 }
 
 fn example() -> (Settings, Sessions) {
-    let settings = Settings::make([192, 0, 2, 1], &[9; 16], (4096, 10), ([10, 45, 0, 0].into(), 4));
+    let addresses = ([10, 45, 0, 0].into(), 4);
+    let settings = Settings::make([192, 0, 2, 1], &[9; 16], (4096, 10), addresses, 2);
     let settings = settings.expect("these are allowed");
     let tunnel = |teid, v4, v6| Tunnel { teid, families: Families { v4, v6 } };
     let mut session = Session::default();

@@ -1,5 +1,5 @@
-/* A client of the unit's control socket that sends any octets: control_client PATH TEXT. It prints
-   what comes back until the unit closes the connection. */
+/* A client of the unit's control socket that sends any octets: control_client PATH TEXT [SECONDS]. It
+   prints what comes back until the unit closes the connection, and may wait before it reads. */
 #include <stdio.h>
 #include <stdlib.h>
 #include <string.h>
@@ -13,8 +13,8 @@ int main(int argc, char **argv)
     char room[4096];
     ssize_t got;
 
-    if (argc != 3 || strlen(argv[1]) >= sizeof address.sun_path) {
-        fputs("usage: control_client PATH TEXT\n", stderr);
+    if (argc < 3 || argc > 4 || strlen(argv[1]) >= sizeof address.sun_path) {
+        fputs("usage: control_client PATH TEXT [SECONDS]\n", stderr);
         return 2;
     }
     strcpy(address.sun_path, argv[1]);
@@ -24,6 +24,8 @@ int main(int argc, char **argv)
         perror("control_client");
         return EXIT_FAILURE;
     }
+    if (argc == 4)
+        sleep((unsigned)atoi(argv[3]));
     while ((got = recv(unit, room, sizeof room, 0)) > 0)
         fwrite(room, 1, (size_t)got, stdout);
     close(unit);

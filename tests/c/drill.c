@@ -28,6 +28,7 @@
 #include "pfcp_session.h"
 
 enum {
+    SESSIONS = 64, /* the unit's session limit where no option says it */
     WINDOW = 8,
     MOMENT = 250 /* milliseconds at most until a kill */,
     PATIENCE = 60 /* seconds for a start */
@@ -35,7 +36,7 @@ enum {
 
 /* A request that is not answered yet: its reply, and the table after it. */
 struct asked {
-    uint8_t table[PFCP_TABLE_LENGTH];
+    uint8_t table[PFCP_LONGEST_TABLE];
     uint8_t reply[PFCP_REPLY_SPACE];
     size_t used;
 };
@@ -45,8 +46,9 @@ struct drill {
     const char *file;
     const char *sync;
     char port[8];
-    uint8_t table[PFCP_TABLE_LENGTH]; /* after all requests that were answered */
-    struct asked asked[WINDOW];       /* in the order in which they were sent */
+    size_t length;                     /* of a table */
+    uint8_t table[PFCP_LONGEST_TABLE]; /* after all requests that were answered */
+    struct asked asked[WINDOW];        /* in the order in which they were sent */
     size_t waiting;
     uint32_t sequence; /* 0 is a probe's */
     int socket;
@@ -117,8 +119,8 @@ static void ask(struct drill *drill)
     size_t place;
 
     write_request(&m, ++drill->sequence);
-    memcpy(asked->table, before, sizeof asked->table);
-    if (pfcp_request(asked->table, sizeof asked->table, m.octets, m.length, asked->reply,
+    memcpy(asked->table, before, drill->length);
+    if (pfcp_request(asked->table, drill->length, m.octets, m.length, asked->reply,
                      sizeof asked->reply, &asked->used, &place) != PFCP_ANSWERED)
         give_up("a request is not answered by the archive");
     drill->waiting++;
@@ -145,7 +147,7 @@ static bool take_reply(struct drill *drill)
     if ((size_t)length != drill->asked[0].used ||
         memcmp(reply, drill->asked[0].reply, (size_t)length))
         give_up("a reply is not the archive's: the unit's table is another one");
-    memcpy(drill->table, drill->asked[0].table, sizeof drill->table);
+    memcpy(drill->table, drill->asked[0].table, drill->length);
     drill->answered++;
     drill->accepted += is_accepted(&drill->asked[0]);
     memmove(drill->asked, drill->asked + 1, --drill->waiting * sizeof drill->asked[0]);
@@ -244,7 +246,7 @@ static void read_file(const struct drill *drill, uint8_t *table)
 {
     FILE *file = fopen(drill->file, "rb");
 
-    if (!file || fread(table, 1, PFCP_TABLE_LENGTH, file) != PFCP_TABLE_LENGTH || getc(file) != EOF)
+    if (!file || fread(table, 1, drill->length, file) != drill->length || getc(file) != EOF)
         give_up("the file is not there, or not as long as a table");
     fclose(file);
 }
@@ -252,15 +254,15 @@ static void read_file(const struct drill *drill, uint8_t *table)
 /* What the unit has left: the table as answered, or after one request more. */
 static void compare(struct drill *drill)
 {
-    uint8_t found[PFCP_TABLE_LENGTH];
+    static uint8_t found[PFCP_LONGEST_TABLE];
 
     while (take_reply(drill))
         ;
     read_file(drill, found);
-    if (memcmp(found, drill->table, sizeof found) != 0) {
-        if (drill->waiting == 0 || memcmp(found, drill->asked[0].table, sizeof found) != 0)
+    if (memcmp(found, drill->table, drill->length) != 0) {
+        if (drill->waiting == 0 || memcmp(found, drill->asked[0].table, drill->length) != 0)
             give_up("the file is not what was answered");
-        memcpy(drill->table, found, sizeof found);
+        memcpy(drill->table, found, drill->length);
         drill->ahead++;
     }
     drill->waiting = 0;
@@ -323,8 +325,9 @@ int main(int argc, char **argv)
     for (unsigned long seed = strtoul(argv[5], NULL, 10) % 100000; seed > 0; seed--)
         draw(1);
     find_port(&drill);
-    if (pfcp_make_table(drill.table, sizeof drill.table, 0xC0000201, NULL, 0, 4096, 100, 0x0A2D0001,
-                        254) != 0)
+    drill.length = pfcp_table_length(SESSIONS);
+    if (pfcp_make_table(drill.table, drill.length, 0xC0000201, NULL, 0, 4096, 100, 0x0A2D0001, 254,
+                        SESSIONS) != 0)
         give_up("no table");
     /* The first unit makes the file, and is not killed before. */
     run_in_order(&drill);

@@ -1,5 +1,6 @@
-/* Fills a running unit with 64 full sessions: fill_unit PORT. The unit listens on 127.0.0.1 and has
-   an IPv6 address, 1,536 free TEIDs and 64 free addresses. */
+/* Fills a running unit with full sessions: fill_unit PORT FIRST LAST, which count them from 1. The unit
+   listens on 127.0.0.1 and has an IPv6 address, and for each session 24 free TEIDs and a free
+   address. */
 #include <arpa/inet.h>
 #include <netinet/in.h>
 #include <stdio.h>
@@ -8,6 +9,7 @@
 #include <sys/time.h>
 
 #include "measure.h"
+#include "pfcp_session.h"
 #include "workload.h"
 
 static struct message establishment;
@@ -30,15 +32,17 @@ static int connect_to(size_t port)
 
 int main(int argc, char **argv)
 {
-    if (argc != 2) {
-        fputs("usage: fill_unit PORT\n", stderr);
+    if (argc != 4) {
+        fputs("usage: fill_unit PORT FIRST LAST\n", stderr);
         return 2;
     }
     int unit = connect_to(read_count("fill_unit", argv[1], 65535));
-    for (size_t i = 0; i < MOST_SESSIONS; i++) {
+    size_t first = read_count("fill_unit", argv[2], PFCP_MOST_SESSIONS);
+    size_t last = read_count("fill_unit", argv[3], PFCP_MOST_SESSIONS);
+    for (size_t i = first; i <= last; i++) {
         ssize_t received;
 
-        write_establishment(&establishment, &workloads[ALIKE], i);
+        write_establishment(&establishment, &workloads[ALIKE], i - 1);
         if (send(unit, establishment.octets, establishment.length, 0) < 0) {
             perror("fill_unit");
             return EXIT_FAILURE;

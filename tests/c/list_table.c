@@ -10,6 +10,7 @@
 #include "unit.h"
 
 static struct options options;
+static uint8_t table[PFCP_LONGEST_TABLE];
 static struct unit unit;
 static struct listing listing;
 static struct text piece;
@@ -22,16 +23,17 @@ static bool read_unit(const char *path)
 
     if (!file)
         return false;
-    whole = fread(unit.table, 1, sizeof unit.table, file) == sizeof unit.table;
+    unit.table = table;
+    unit.table_length = fread(table, 1, sizeof table, file);
+    whole = getc(file) == EOF;
     fclose(file);
-    options.pool_size = (uint32_t)number_at(unit.table + 25, 4);
-    options.address_count = (uint32_t)number_at(unit.table + 33, 4);
+    options.pool_size = (uint32_t)number_at(table + 25, 4);
+    options.address_count = (uint32_t)number_at(table + 33, 4);
     unit.options = &options;
     return whole &&
-           pfcp_session_count(unit.table, sizeof unit.table, &unit.live_sessions) == PFCP_FOUND &&
-           pfcp_free_count(unit.table, sizeof unit.table, &unit.free_teids) == PFCP_ANSWERED &&
-           pfcp_free_addresses(unit.table, sizeof unit.table, &unit.free_addresses) ==
-               PFCP_ANSWERED;
+           pfcp_session_count(table, unit.table_length, &unit.live_sessions) == PFCP_FOUND &&
+           pfcp_free_count(table, unit.table_length, &unit.free_teids) == PFCP_ANSWERED &&
+           pfcp_free_addresses(table, unit.table_length, &unit.free_addresses) == PFCP_ANSWERED;
 }
 
 int main(int argc, char **argv)

@@ -20,7 +20,8 @@
 #include <sys/stat.h>
 #include <unistd.h>
 
-#include "pfcp_session.h"
+/* The length of a table of the unit's usual 64 sessions (docs/layout.md). */
+enum { TABLE_LENGTH = 41 + 64 * 603 };
 
 static int steps;
 
@@ -72,7 +73,7 @@ ssize_t write(int file, const void *octets, size_t length)
     ssize_t (*next)(int, const void *, size_t);
 
     *(void **)&next = dlsym(RTLD_NEXT, "write");
-    if (length != PFCP_TABLE_LENGTH)
+    if (length != TABLE_LENGTH)
         return next(file, octets, length);
     if (is_marked() && next(file, octets, length / 2) < 0)
         return -1;

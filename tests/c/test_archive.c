@@ -1,7 +1,7 @@
 /*
  * The archive from C: document 01's whole replies, its story of a pool of two, the errors that were
- * seen before, addresses, empty slices, lengths, broken tables, restorations and the calls that read a
- * table. The last line is "N passed, M failed".
+ * seen before, addresses, empty slices, lengths, session limits, broken tables, restorations and the
+ * calls that read a table. The last line is "N passed, M failed".
  *
  * Every slice is lent from a block of its own and of exactly its length, so that a memory checker
  * sees an octet read or written outside.
@@ -15,6 +15,16 @@
 #include "pfcp_session.h"
 
 enum { FILLING = 0xA5 };
+
+/* The table's layout (docs/layout.md), and the session limit of tables where no other one is asked for. */
+enum {
+    LIMIT_AT = 37,
+    COUNT_AT = 39,
+    HEAD = 41,
+    SLOT = 603,
+    SESSIONS = 64,
+    TABLE_LENGTH = HEAD + SESSIONS * SLOT
+};
 
 static unsigned long passed;
 static unsigned long failed;
@@ -64,14 +74,32 @@ static int all_are(const uint8_t *octets, size_t length, uint8_t octet)
 /* The pool of addresses: 10.45.0.1 and 10.45.0.2. */
 enum { FIRST_ADDRESS = 0x0A2D0001, ADDRESSES = 2 };
 
+/* The number of octets of a table with this limit, also where there is no such table. */
+static size_t length_for(uint32_t session_limit)
+{
+    return HEAD + (size_t)session_limit * SLOT;
+}
+
+/* The length of a sound table. */
+static size_t length_of(const uint8_t *table)
+{
+    return length_for((uint32_t)number_at(table + LIMIT_AT, 2));
+}
+
 /* An empty table of the unit 192.0.2.1 without IPv6. */
+static uint8_t *new_table_for(uint32_t session_limit, uint32_t first_teid, uint32_t pool_size)
+{
+    size_t length = length_for(session_limit);
+    uint8_t *table = block(length, FILLING);
+
+    CHECK(pfcp_make_table(table, length, 0xC0000201, NULL, 0, first_teid, pool_size, FIRST_ADDRESS,
+                          ADDRESSES, session_limit) == 0);
+    return table;
+}
+
 static uint8_t *new_table(uint32_t first_teid, uint32_t pool_size)
 {
-    uint8_t *table = block(PFCP_TABLE_LENGTH, FILLING);
-
-    CHECK(pfcp_make_table(table, PFCP_TABLE_LENGTH, 0xC0000201, NULL, 0, first_teid, pool_size,
-                          FIRST_ADDRESS, ADDRESSES) == 0);
-    return table;
+    return new_table_for(SESSIONS, first_teid, pool_size);
 }
 
 /* The last answer. */
@@ -90,8 +118,8 @@ static uint32_t ask_octets(uint8_t *table, const uint8_t *octets, size_t length)
 
     answer.used = SIZE_MAX;
     answer.place = SIZE_MAX;
-    answer.outcome = pfcp_request(table, PFCP_TABLE_LENGTH, message, length, reply,
-                                  PFCP_REPLY_SPACE, &answer.used, &answer.place);
+    answer.outcome = pfcp_request(table, length_of(table), message, length, reply, PFCP_REPLY_SPACE,
+                                  &answer.used, &answer.place);
     CHECK(answer.place == 0 || (answer.outcome == 0 && answer.place < length));
     if (CHECK(answer.used <= PFCP_REPLY_SPACE)) {
         CHECK((answer.outcome == 0) == (answer.used >= 16));
@@ -161,7 +189,7 @@ static uint32_t free_teids(const uint8_t *table)
 {
     uint32_t count = 0xA5A5A5A5;
 
-    CHECK(pfcp_free_count(table, PFCP_TABLE_LENGTH, &count) == 0);
+    CHECK(pfcp_free_count(table, length_of(table), &count) == 0);
     return count;
 }
 
@@ -169,7 +197,7 @@ static uint32_t free_addresses(const uint8_t *table)
 {
     uint32_t count = 0xA5A5A5A5;
 
-    CHECK(pfcp_free_addresses(table, PFCP_TABLE_LENGTH, &count) == 0);
+    CHECK(pfcp_free_addresses(table, length_of(table), &count) == 0);
     return count;
 }
 
@@ -358,21 +386,21 @@ static void nothing_half_made(void)
     struct message m;
 
     CHECK(establish_one_pdr(table, 1, &choose) == 1);
-    uint8_t *before = copy_of(table, PFCP_TABLE_LENGTH);
+    uint8_t *before = copy_of(table, TABLE_LENGTH);
 
     start_establishment(&m, 2);
     create_endpoint(&m, 1, &choose);
     create_pdr(&m, 1, &choose);
     create_pdr(&m, 2, &choose);
     CHECK(ask(table, &m) == 75);
-    CHECK(memcmp(table, before, PFCP_TABLE_LENGTH) == 0);
+    CHECK(memcmp(table, before, TABLE_LENGTH) == 0);
     CHECK(free_teids(table) == 2);
 
     message_start(&m, MODIFICATION, 1, 1);
     for (uint16_t id = 2; id <= 17; id++)
         create_pdr(&m, id, NULL);
     CHECK(ask(table, &m) == 75);
-    CHECK(memcmp(table, before, PFCP_TABLE_LENGTH) == 0);
+    CHECK(memcmp(table, before, TABLE_LENGTH) == 0);
     free(before);
     free(table);
 }
@@ -543,14 +571,14 @@ static void longest_session(void)
 {
     static const uint8_t ipv6[16] = {0x20, 1, 0x0D, 0xB8, [15] = 1};
     static const struct tunnel both = {.flags = CHOOSE | V4 | V6};
-    uint8_t *table = block(PFCP_TABLE_LENGTH, FILLING);
+    uint8_t *table = block(TABLE_LENGTH, FILLING);
     uint8_t *request = block(PFCP_LONGEST_RESTORATION, FILLING);
     uint8_t fq_csid[20] = {0x11, 0x20, 1};
     struct message m;
     size_t used = 0;
 
-    CHECK(pfcp_make_table(table, PFCP_TABLE_LENGTH, 0xC0000201, ipv6, sizeof ipv6, 4096, 24,
-                          FIRST_ADDRESS, 1) == 0);
+    CHECK(pfcp_make_table(table, TABLE_LENGTH, 0xC0000201, ipv6, sizeof ipv6, 4096, 24,
+                          FIRST_ADDRESS, 1, SESSIONS) == 0);
     start_establishment(&m, 1);
     for (uint16_t id = 1; id <= 16; id++) {
         create_pdr_start(&m, id, 1, 0);
@@ -572,7 +600,7 @@ static void longest_session(void)
     CHECK(ask(table, &m) == 1);
     CHECK(answer.used == 1191);
     CHECK(free_teids(table) == 0 && free_addresses(table) == 0);
-    CHECK(pfcp_write_restoration(table, PFCP_TABLE_LENGTH, 0, ipv6, 4, ipv6, 16, request,
+    CHECK(pfcp_write_restoration(table, TABLE_LENGTH, 0, ipv6, 4, ipv6, 16, request,
                                  PFCP_LONGEST_RESTORATION, &used) == PFCP_WRITTEN);
     CHECK(used == PFCP_LONGEST_RESTORATION);
     free(request);
@@ -589,19 +617,19 @@ static void empty_slices(void)
     size_t used = 7;
     size_t place = 7;
 
-    CHECK(pfcp_make_table(NULL, 0, 0, NULL, 0, 1, 1, 1, 1) == 1);
-    CHECK(pfcp_make_table(NULL, 0, 0, octet, 16, 1, 1, 1, 1) == 1);
+    CHECK(pfcp_make_table(NULL, 0, 0, NULL, 0, 1, 1, 1, 1, SESSIONS) == 1);
+    CHECK(pfcp_make_table(NULL, 0, 0, NULL, 0, 1, 1, 1, 1, 0) == 1);
+    CHECK(pfcp_make_table(NULL, 0, 0, octet, 16, 1, 1, 1, 1, SESSIONS) == 1);
     CHECK(pfcp_free_count(NULL, 0, &count) == 1 && count == 0);
     count = 7;
     CHECK(pfcp_free_addresses(NULL, 0, &count) == 1 && count == 0);
     CHECK(pfcp_request(NULL, 0, NULL, 0, NULL, 0, &used, &place) == 1 && used == 0);
     CHECK(place == 0);
     used = 7;
-    CHECK(pfcp_request(table, PFCP_TABLE_LENGTH, NULL, 0, NULL, 0, &used, &place) == 2);
+    CHECK(pfcp_request(table, TABLE_LENGTH, NULL, 0, NULL, 0, &used, &place) == 2);
     CHECK(used == 0 && place == 0);
     used = 7;
-    CHECK(pfcp_request(table, PFCP_TABLE_LENGTH, NULL, 0, reply, PFCP_REPLY_SPACE, &used, &place) ==
-          4);
+    CHECK(pfcp_request(table, TABLE_LENGTH, NULL, 0, reply, PFCP_REPLY_SPACE, &used, &place) == 4);
     CHECK(used == 0 && all_are(reply, PFCP_REPLY_SPACE, FILLING));
     used = 7;
     CHECK(pfcp_request(NULL, 0, octet, 16, reply, PFCP_REPLY_SPACE, &used, &place) == 1);
@@ -740,7 +768,7 @@ static void set_deletions(void)
         free(table);
     }
     uint8_t *table = table_of_cards();
-    uint8_t *before = copy_of(table, PFCP_TABLE_LENGTH);
+    uint8_t *before = copy_of(table, TABLE_LENGTH);
     for (size_t i = 0; i < sizeof faults / sizeof faults[0]; i++) {
         CHECK(delete_set(table, faults[i].value, faults[i].length) == faults[i].cause);
         CHECK(offending() == IE_FQ_CSID && answer.place == 8);
@@ -753,7 +781,7 @@ static void set_deletions(void)
     put_fq_csid(&m, 1, 5);
     put_element(&m, IE_FQ_CSID, NULL, 0);
     CHECK(ask(table, &m) == 68 && offending() == IE_FQ_CSID && answer.place == 20);
-    CHECK(memcmp(table, before, PFCP_TABLE_LENGTH) == 0);
+    CHECK(memcmp(table, before, TABLE_LENGTH) == 0);
     /* A node type may come twice; a broken group is not opened. */
     plain_message_start(&m, SET_DELETION, 1);
     put_element(&m, IE_CREATE_PDR, "\0\1", 2);
@@ -814,13 +842,12 @@ static void lengths(void)
     size_t used;
     size_t place;
 
-    CHECK(pfcp_table_length() == PFCP_TABLE_LENGTH);
-    for (size_t length = PFCP_TABLE_LENGTH - 1; length <= PFCP_TABLE_LENGTH + 1; length += 2) {
+    for (size_t length = TABLE_LENGTH - 1; length <= TABLE_LENGTH + 1; length += 2) {
         uint8_t *table = block(length, FILLING);
         uint8_t *reply = block(PFCP_REPLY_SPACE, FILLING);
         uint32_t count = 7;
 
-        CHECK(pfcp_make_table(table, length, 0xC0000201, NULL, 0, 1, 1, 1, 1) == 1);
+        CHECK(pfcp_make_table(table, length, 0xC0000201, NULL, 0, 1, 1, 1, 1, SESSIONS) == 1);
         CHECK(all_are(table, length, FILLING));
         CHECK(pfcp_free_count(table, length, &count) == 1 && count == 0);
         count = 7;
@@ -836,15 +863,15 @@ static void lengths(void)
     }
 
     uint8_t *table = new_table(4096, 10);
-    uint8_t *before = copy_of(table, PFCP_TABLE_LENGTH);
+    uint8_t *before = copy_of(table, TABLE_LENGTH);
     uint8_t *small = block(PFCP_REPLY_SPACE - 1, FILLING);
 
     start_establishment(&m, 1);
     create_pdr(&m, 1, &choose);
     message_end(&m);
     used = 7;
-    CHECK(pfcp_request(table, PFCP_TABLE_LENGTH, m.octets, m.length, small, PFCP_REPLY_SPACE - 1,
-                       &used, &place) == 2);
+    CHECK(pfcp_request(table, TABLE_LENGTH, m.octets, m.length, small, PFCP_REPLY_SPACE - 1, &used,
+                       &place) == 2);
     CHECK(used == 0 && all_are(small, PFCP_REPLY_SPACE - 1, FILLING));
     free(small);
 
@@ -855,7 +882,7 @@ static void lengths(void)
     put_element(&m, 40000, zeros, room + 1);
     message_end(&m);
     CHECK(m.length == PFCP_LONGEST_REQUEST + 1 && ask_octets(table, m.octets, m.length) == 3);
-    CHECK(memcmp(table, before, PFCP_TABLE_LENGTH) == 0);
+    CHECK(memcmp(table, before, TABLE_LENGTH) == 0);
     start_establishment(&m, 1);
     create_pdr(&m, 1, &choose);
     put_element(&m, 40000, zeros, room);
@@ -863,7 +890,7 @@ static void lengths(void)
     CHECK(m.length == PFCP_LONGEST_REQUEST && ask_octets(table, m.octets, m.length) == 0);
     CHECK(granted(IE_CREATED_PDR, 1) == 4096);
     CHECK(delete_session(table, 1) == 1);
-    CHECK(memcmp(table, before, PFCP_TABLE_LENGTH) == 0);
+    CHECK(memcmp(table, before, TABLE_LENGTH) == 0);
 
     message_start(&m, DELETION, 1, 1);
     message_end(&m);
@@ -884,7 +911,7 @@ static void lengths(void)
         m.octets[1] = other_types[i];
         CHECK(ask_octets(table, m.octets, 16) == 5);
     }
-    CHECK(memcmp(table, before, PFCP_TABLE_LENGTH) == 0);
+    CHECK(memcmp(table, before, TABLE_LENGTH) == 0);
     free(before);
     free(table);
 }
@@ -901,14 +928,15 @@ static void settings(void)
         uint32_t expected;
     } cases[] = {
         {0, 1, 1, 0, 1, 0},
-        {0, 1, 4096, 0, 1, 0},
+        {0, 1, 4097, 0, 1, 0},
         {0, 0, 1, 0, 1, 1},
         {0, 1, 0, 0, 1, 1},
-        {0, 1, 4097, 0, 1, 1},
+        {0, 1, 65536, 0, 1, 0},
+        {0, 1, 65537, 0, 1, 1},
         {0, 0xFFFFFFFF, 1, 0, 1, 0},
         {0, 0xFFFFFFFF, 2, 0, 1, 1},
-        {0, 0xFFFFF000, 4096, 0, 1, 0},
-        {0, 0xFFFFF001, 4096, 0, 1, 1},
+        {0, 0xFFFF0000, 65536, 0, 1, 0},
+        {0, 0xFFFF0001, 65536, 0, 1, 1},
         {16, 4096, 2, 0, 1, 0},
         {15, 4096, 2, 0, 1, 1},
         {17, 4096, 2, 0, 1, 1},
@@ -927,11 +955,11 @@ static void settings(void)
     };
 
     for (size_t i = 0; i < sizeof cases / sizeof cases[0]; i++) {
-        uint8_t *table = block(PFCP_TABLE_LENGTH, FILLING);
+        uint8_t *table = block(TABLE_LENGTH, FILLING);
         uint8_t *ipv6 = block(cases[i].ipv6_len, 0x20);
-        uint32_t made = pfcp_make_table(table, PFCP_TABLE_LENGTH, 0xC0000201, ipv6,
-                                        cases[i].ipv6_len, cases[i].first_teid, cases[i].pool_size,
-                                        cases[i].first_address, cases[i].addresses);
+        uint32_t made = pfcp_make_table(table, TABLE_LENGTH, 0xC0000201, ipv6, cases[i].ipv6_len,
+                                        cases[i].first_teid, cases[i].pool_size,
+                                        cases[i].first_address, cases[i].addresses, SESSIONS);
 
         CHECK(made == cases[i].expected);
         if (made == 0) {
@@ -942,11 +970,12 @@ static void settings(void)
             CHECK(number_at(table + 25, 4) == cases[i].pool_size);
             CHECK(number_at(table + 29, 4) == cases[i].first_address);
             CHECK(number_at(table + 33, 4) == cases[i].addresses);
-            CHECK(all_are(table + 37, PFCP_TABLE_LENGTH - 37, 0));
+            CHECK(number_at(table + LIMIT_AT, 2) == SESSIONS);
+            CHECK(all_are(table + COUNT_AT, TABLE_LENGTH - COUNT_AT, 0));
             CHECK(free_teids(table) == cases[i].pool_size);
             CHECK(free_addresses(table) == cases[i].addresses);
         } else {
-            CHECK(all_are(table, PFCP_TABLE_LENGTH, FILLING));
+            CHECK(all_are(table, TABLE_LENGTH, FILLING));
         }
         free(ipv6);
         free(table);
@@ -960,35 +989,41 @@ static void broken_tables(void)
         size_t at;
         uint8_t octet;
     } damage[] = {
-        {4, 2},               /* presence of the IPv6 address */
-        {20, 1},              /* an address that is not there */
-        {25, 1},              /* pool size */
-        {36, 0},              /* number of addresses */
-        {34, 1},              /* the same: 65,538 */
-        {38, 0},              /* one session fewer: its slot is unused room */
-        {38, 65},             /* too many sessions */
-        {39 + 7, 0},          /* SEID 0 */
-        {39 + 8, 17},         /* too many PDRs */
-        {39 + 11 + 6, 2},     /* presence of the FAR ID */
-        {39 + 11 + 11, 16},   /* source interface */
-        {39 + 11 + 12, 3},    /* place */
-        {39 + 11 + 15, 0x20}, /* a TEID outside the pool */
-        {39 + 11 + 17, 0},    /* no family */
-        {39 + 11 + 17, 3},    /* a family that the unit lacks */
-        {39 + 11 + 18, 1},    /* an endpoint ID beside a TEID */
-        {39 + 11 + 19, 2},    /* presence of the address */
-        {39 + 11 + 23, 1},    /* an address that is not there */
-        {39 + 395, 1},        /* unused room of endpoints */
-        {39 + 483, 1},        /* unused room of FQ-CSIDs */
-        {39 + 603 + 7, 1},    /* unused room of sessions */
-        {PFCP_TABLE_LENGTH - 1, 1},
+        {4, 2},                 /* presence of the IPv6 address */
+        {20, 1},                /* an address that is not there */
+        {25, 1},                /* pool size */
+        {36, 0},                /* number of addresses */
+        {34, 1},                /* the same: 65,538 */
+        {LIMIT_AT + 1, 63},     /* session limit */
+        {LIMIT_AT + 1, 65},     /* the same */
+        {LIMIT_AT + 1, 0},      /* no session at all */
+        {LIMIT_AT, 1},          /* 320 sessions */
+        {LIMIT_AT, 0xFF},       /* 65,344 */
+        {COUNT_AT + 1, 0},      /* one session fewer: its slot is unused room */
+        {COUNT_AT + 1, 65},     /* too many sessions */
+        {COUNT_AT, 1},          /* 257 sessions */
+        {HEAD + 7, 0},          /* SEID 0 */
+        {HEAD + 8, 17},         /* too many PDRs */
+        {HEAD + 11 + 6, 2},     /* presence of the FAR ID */
+        {HEAD + 11 + 11, 16},   /* source interface */
+        {HEAD + 11 + 12, 3},    /* place */
+        {HEAD + 11 + 15, 0x20}, /* a TEID outside the pool */
+        {HEAD + 11 + 17, 0},    /* no family */
+        {HEAD + 11 + 17, 3},    /* a family that the unit lacks */
+        {HEAD + 11 + 18, 1},    /* an endpoint ID beside a TEID */
+        {HEAD + 11 + 19, 2},    /* presence of the address */
+        {HEAD + 11 + 23, 1},    /* an address that is not there */
+        {HEAD + 395, 1},        /* unused room of endpoints */
+        {HEAD + 483, 1},        /* unused room of FQ-CSIDs */
+        {HEAD + SLOT + 7, 1},   /* unused room of sessions */
+        {TABLE_LENGTH - 1, 1},
     };
     uint8_t *table = new_table(4096, 10);
     uint8_t *reply = block(PFCP_REPLY_SPACE, FILLING);
     struct message m;
 
     CHECK(establish_one_pdr(table, 1, &choose) == 1);
-    uint8_t *before = copy_of(table, PFCP_TABLE_LENGTH);
+    uint8_t *before = copy_of(table, TABLE_LENGTH);
     message_start(&m, DELETION, 1, 1);
     message_end(&m);
     for (size_t i = 0; i < sizeof damage / sizeof damage[0]; i++) {
@@ -998,21 +1033,21 @@ static void broken_tables(void)
         uint8_t was = table[damage[i].at];
 
         table[damage[i].at] = damage[i].octet;
-        uint8_t *damaged = copy_of(table, PFCP_TABLE_LENGTH);
-        CHECK(pfcp_free_count(table, PFCP_TABLE_LENGTH, &count) == 1 && count == 0);
+        uint8_t *damaged = copy_of(table, TABLE_LENGTH);
+        CHECK(pfcp_free_count(table, TABLE_LENGTH, &count) == 1 && count == 0);
         count = 7;
-        CHECK(pfcp_free_addresses(table, PFCP_TABLE_LENGTH, &count) == 1 && count == 0);
-        CHECK(pfcp_request(table, PFCP_TABLE_LENGTH, m.octets, m.length, reply, PFCP_REPLY_SPACE,
-                           &used, &place) == 1);
+        CHECK(pfcp_free_addresses(table, TABLE_LENGTH, &count) == 1 && count == 0);
+        CHECK(pfcp_request(table, TABLE_LENGTH, m.octets, m.length, reply, PFCP_REPLY_SPACE, &used,
+                           &place) == 1);
         CHECK(used == 0 && all_are(reply, PFCP_REPLY_SPACE, FILLING));
         used = 7;
-        CHECK(pfcp_request(table, PFCP_TABLE_LENGTH, m.octets, 3, reply, 5, &used, &place) == 1 &&
+        CHECK(pfcp_request(table, TABLE_LENGTH, m.octets, 3, reply, 5, &used, &place) == 1 &&
               used == 0 && place == 0);
-        CHECK(memcmp(table, damaged, PFCP_TABLE_LENGTH) == 0);
+        CHECK(memcmp(table, damaged, TABLE_LENGTH) == 0);
         free(damaged);
         table[damage[i].at] = was;
     }
-    CHECK(memcmp(table, before, PFCP_TABLE_LENGTH) == 0);
+    CHECK(memcmp(table, before, TABLE_LENGTH) == 0);
     CHECK(delete_session(table, 1) == 1);
     free(before);
     free(reply);
@@ -1035,7 +1070,7 @@ static void restoration(void)
     create_pdr(&m, 1, &existing);
     CHECK(ask(fresh, &m) == 1);
     CHECK(granted(IE_CREATED_PDR, 1) == 0);
-    CHECK(memcmp(table, fresh, PFCP_TABLE_LENGTH) == 0);
+    CHECK(memcmp(table, fresh, TABLE_LENGTH) == 0);
     /* Again: 64 for the live SEID; another SEID: 73, the TEID is held. */
     CHECK(ask(fresh, &m) == 64);
     start_establishment(&m, 2);
@@ -1054,7 +1089,7 @@ static void restoration(void)
     create_pdr(&m, 1, &choose);
     CHECK(ask(fresh, &m) == 71);
     CHECK(establish_one_pdr(fresh, 2, &existing) == 71);
-    CHECK(memcmp(table, fresh, PFCP_TABLE_LENGTH) == 0);
+    CHECK(memcmp(table, fresh, TABLE_LENGTH) == 0);
     free(fresh);
     free(table);
 }
@@ -1124,7 +1159,7 @@ static void read_tables(void)
         size_t place;
     } teids[] = {{4096, 0, 1}, {4097, 0, 0}, {4098, 0, 2}, {4099, 2, 0},
                  {4095, 2, 0}, {0, 2, 0},    {100, 2, 0},  {0xFFFFFFFF, 2, 0}};
-    const size_t length = PFCP_TABLE_LENGTH;
+    const size_t length = TABLE_LENGTH;
     uint8_t *table = new_table(4096, 10);
     struct message m;
 
@@ -1215,7 +1250,7 @@ static uint32_t write_octets(const uint8_t *octets, size_t length, size_t place,
 
 static uint32_t write_place(const uint8_t *table, size_t place, size_t space_length)
 {
-    return write_octets(table, PFCP_TABLE_LENGTH, place, 4, 0, space_length);
+    return write_octets(table, length_of(table), place, 4, 0, space_length);
 }
 
 /* The writer of restorations: a whole request, its refusals in their order, and all requests run
@@ -1253,18 +1288,18 @@ static void written_restorations(void)
     CHECK(ask(table, &m) == 1);
 
     /* Each refusal where the later ones are due too. */
-    CHECK(write_octets(table, PFCP_TABLE_LENGTH - 1, 3, 0, 0, 0) == PFCP_BROKEN_TABLE);
+    CHECK(write_octets(table, TABLE_LENGTH - 1, 3, 0, 0, 0) == PFCP_BROKEN_TABLE);
     CHECK(write_octets(NULL, 0, 3, 0, 0, 0) == PFCP_BROKEN_TABLE);
-    table[PFCP_TABLE_LENGTH - 1] = 1;
-    CHECK(write_octets(table, PFCP_TABLE_LENGTH, 3, 0, 0, 0) == PFCP_BROKEN_TABLE);
-    table[PFCP_TABLE_LENGTH - 1] = 0;
-    CHECK(write_octets(table, PFCP_TABLE_LENGTH, 3, 0, 0, 0) == PFCP_PAST_LAST_SESSION);
-    CHECK(write_octets(table, PFCP_TABLE_LENGTH, SIZE_MAX, 0, 0, 0) == PFCP_PAST_LAST_SESSION);
-    CHECK(write_octets(table, PFCP_TABLE_LENGTH, 2, 0, 0, 0) == PFCP_NO_PLANE_ADDRESS);
-    CHECK(write_octets(table, PFCP_TABLE_LENGTH, 2, 3, 16, 0) == PFCP_NO_PLANE_ADDRESS);
-    CHECK(write_octets(table, PFCP_TABLE_LENGTH, 2, 4, 15, 0) == PFCP_NO_PLANE_ADDRESS);
-    CHECK(write_octets(table, PFCP_TABLE_LENGTH, 2, 16, 4, 0) == PFCP_NO_PLANE_ADDRESS);
-    CHECK(write_octets(table, PFCP_TABLE_LENGTH, 2, 4, 16, 0) == PFCP_SMALL_SPACE);
+    table[TABLE_LENGTH - 1] = 1;
+    CHECK(write_octets(table, TABLE_LENGTH, 3, 0, 0, 0) == PFCP_BROKEN_TABLE);
+    table[TABLE_LENGTH - 1] = 0;
+    CHECK(write_octets(table, TABLE_LENGTH, 3, 0, 0, 0) == PFCP_PAST_LAST_SESSION);
+    CHECK(write_octets(table, TABLE_LENGTH, SIZE_MAX, 0, 0, 0) == PFCP_PAST_LAST_SESSION);
+    CHECK(write_octets(table, TABLE_LENGTH, 2, 0, 0, 0) == PFCP_NO_PLANE_ADDRESS);
+    CHECK(write_octets(table, TABLE_LENGTH, 2, 3, 16, 0) == PFCP_NO_PLANE_ADDRESS);
+    CHECK(write_octets(table, TABLE_LENGTH, 2, 4, 15, 0) == PFCP_NO_PLANE_ADDRESS);
+    CHECK(write_octets(table, TABLE_LENGTH, 2, 16, 4, 0) == PFCP_NO_PLANE_ADDRESS);
+    CHECK(write_octets(table, TABLE_LENGTH, 2, 4, 16, 0) == PFCP_SMALL_SPACE);
     CHECK(write_place(table, 0, sizeof whole - 1) == PFCP_SMALL_SPACE);
 
     /* A whole request, in just its room and in more; with other addresses it is as much longer. */
@@ -1272,10 +1307,10 @@ static void written_restorations(void)
     CHECK(written.used == sizeof whole && memcmp(written.octets, whole, sizeof whole) == 0);
     CHECK(write_place(table, 0, PFCP_LONGEST_RESTORATION) == PFCP_WRITTEN);
     CHECK(written.used == sizeof whole && memcmp(written.octets, whole, sizeof whole) == 0);
-    CHECK(write_octets(table, PFCP_TABLE_LENGTH, 0, 0, 16, 2000) == PFCP_WRITTEN);
+    CHECK(write_octets(table, TABLE_LENGTH, 0, 0, 16, 2000) == PFCP_WRITTEN);
     CHECK(written.used == sizeof whole + 12 && written.octets[20] == 1);
     CHECK(memcmp(written.octets + 29, plane_ipv6, 16) == 0);
-    CHECK(write_octets(table, PFCP_TABLE_LENGTH, 0, 4, 16, 2000) == PFCP_WRITTEN);
+    CHECK(write_octets(table, TABLE_LENGTH, 0, 4, 16, 2000) == PFCP_WRITTEN);
     CHECK(written.used == sizeof whole + 16 && written.octets[20] == 3);
     CHECK(memcmp(written.octets + 29, plane_ipv4, 4) == 0);
     CHECK(memcmp(written.octets + 33, plane_ipv6, 16) == 0);
@@ -1290,7 +1325,7 @@ static void written_restorations(void)
         CHECK(answer.octets[29] == 1);
     }
     CHECK(place == 3);
-    CHECK(memcmp(table, fresh, PFCP_TABLE_LENGTH) == 0);
+    CHECK(memcmp(table, fresh, TABLE_LENGTH) == 0);
     free(fresh);
     free(table);
 }
@@ -1305,7 +1340,7 @@ static void refused_restorations(void)
     static const size_t places[] = {0, 1, 2, 3, 63, 64, 65, 65536, SIZE_MAX};
     uint8_t *sound = new_table(4096, 10);
     uint8_t *empty = new_table(4096, 10);
-    uint8_t *longer = block(PFCP_TABLE_LENGTH + 1, 0);
+    uint8_t *longer = block(TABLE_LENGTH + 1, 0);
     struct message m;
 
     /* Without the addresses of its F-SEID the request of session 5 takes 82 octets, that of 9 takes
@@ -1316,16 +1351,16 @@ static void refused_restorations(void)
     put_f_teid(&m, &choose);
     create_pdr_end(&m, 8);
     CHECK(ask(sound, &m) == 1);
-    uint8_t *broken = copy_of(sound, PFCP_TABLE_LENGTH);
-    broken[PFCP_TABLE_LENGTH - 1] = 1;
-    memcpy(longer, sound, PFCP_TABLE_LENGTH);
+    uint8_t *broken = copy_of(sound, TABLE_LENGTH);
+    broken[TABLE_LENGTH - 1] = 1;
+    memcpy(longer, sound, TABLE_LENGTH);
     const struct {
         const uint8_t *octets;
         size_t length, sessions;
         int broken;
-    } tables[] = {{sound, PFCP_TABLE_LENGTH, 2, 0},      {empty, PFCP_TABLE_LENGTH, 0, 0},
-                  {broken, PFCP_TABLE_LENGTH, 2, 1},     {sound, PFCP_TABLE_LENGTH - 1, 2, 1},
-                  {longer, PFCP_TABLE_LENGTH + 1, 2, 1}, {sound, 0, 0, 1}};
+    } tables[] = {{sound, TABLE_LENGTH, 2, 0},      {empty, TABLE_LENGTH, 0, 0},
+                  {broken, TABLE_LENGTH, 2, 1},     {sound, TABLE_LENGTH - 1, 2, 1},
+                  {longer, TABLE_LENGTH + 1, 2, 1}, {sound, 0, 0, 1}};
 
     for (size_t t = 0; t < sizeof tables / sizeof tables[0]; t++)
         for (size_t p = 0; p < sizeof places / sizeof places[0]; p++)
@@ -1356,6 +1391,198 @@ static void refused_restorations(void)
     free(sound);
 }
 
+/* What the limit says: the length, for every limit; and what is refused, with nothing written. A limit
+   whose last 16 bits are an allowed one is not allowed by that. */
+static void session_limits(void)
+{
+    static const uint32_t refused[] = {0, 257, 320, 65536, 65536 + SESSIONS, 0xFFFFFFFF};
+
+    CHECK(PFCP_MOST_SESSIONS == 256 && PFCP_LONGEST_TABLE == 154409);
+    CHECK(pfcp_table_length(64) == 38633 && pfcp_table_length(256) == PFCP_LONGEST_TABLE);
+    for (uint32_t limit = 1; limit <= PFCP_MOST_SESSIONS; limit++)
+        CHECK(pfcp_table_length(limit) == length_for(limit));
+    for (size_t i = 0; i < sizeof refused / sizeof refused[0]; i++) {
+        size_t length = length_for(refused[i] < 65536 ? refused[i] : SESSIONS);
+        uint8_t *table = block(length, FILLING);
+
+        CHECK(pfcp_table_length(refused[i]) == 0);
+        CHECK(pfcp_make_table(table, length, 0xC0000201, NULL, 0, 1, 1, 1, 1, refused[i]) == 1);
+        CHECK(pfcp_make_table(table, 0, 0xC0000201, NULL, 0, 1, 1, 1, 1, refused[i]) == 1);
+        CHECK(all_are(table, length, FILLING));
+        free(table);
+    }
+}
+
+/* Tables of several limits, each with lengths that are those of others or none's. */
+static void lengths_of_limits(void)
+{
+    static const uint32_t limits[] = {1, 2, 5, 63, 65, 255, 256};
+
+    for (size_t i = 0; i < sizeof limits / sizeof limits[0]; i++) {
+        uint32_t limit = limits[i];
+        size_t length = length_for(limit);
+        const size_t lengths[] = {HEAD, length - SLOT, length - 1, length + 1, length + SLOT};
+        uint32_t count = 7;
+
+        for (size_t k = 0; k < sizeof lengths / sizeof lengths[0]; k++) {
+            uint8_t *table = block(lengths[k], FILLING);
+
+            CHECK(pfcp_make_table(table, lengths[k], 0xC0000201, NULL, 0, 1, 1, 1, 1, limit) == 1);
+            CHECK(all_are(table, lengths[k], FILLING));
+            free(table);
+        }
+        uint8_t *table = new_table_for(limit, 4096, 10);
+        CHECK(number_at(table + LIMIT_AT, 2) == limit);
+        CHECK(all_are(table + COUNT_AT, length - COUNT_AT, 0));
+        CHECK(establish_one_pdr(table, 1, &choose) == 1 && free_teids(table) == 9);
+        CHECK(pfcp_session_count(table, length - 1, &count) == 1 && count == 0);
+        CHECK(pfcp_session_count(table, length - SLOT, &count) == 1 && count == 0);
+        CHECK(pfcp_session_count(table, length, &count) == 0 && count == 1);
+        free(table);
+    }
+}
+
+/* Whether an establishment of this session is refused for want of room, by itself and as a
+   restoration, and nothing changes. */
+static void no_room_for(uint8_t *table, uint64_t seid)
+{
+    size_t length = length_of(table);
+    uint8_t *before = copy_of(table, length);
+    struct message m;
+
+    CHECK(establish_one_pdr(table, seid, NULL) == 75 && offending() == 65536);
+    start_establishment(&m, seid);
+    put_number(&m, IE_FLAGS, 1, 1);
+    create_pdr(&m, 1, NULL);
+    CHECK(ask(table, &m) == 75 && offending() == 65536);
+    CHECK(memcmp(table, before, length) == 0);
+    free(before);
+}
+
+/* Five sessions, and the sixth is 75 until one goes; one that lives already is 64 all the same. */
+static void limit_of_five(void)
+{
+    uint8_t *table = new_table_for(5, 4096, 10);
+
+    for (uint64_t seid = 1; seid <= 5; seid++)
+        CHECK(establish_one_pdr(table, seid, &choose) == 1);
+    no_room_for(table, 6);
+    CHECK(establish_one_pdr(table, 5, NULL) == 64);
+    CHECK(delete_session(table, 2) == 1);
+    CHECK(establish_one_pdr(table, 6, &choose) == 1);
+    CHECK(granted(IE_CREATED_PDR, 1) == 4097);
+    no_room_for(table, 2);
+    free(table);
+}
+
+/* The limit of a table with five sessions changed, and the table lent with the length of the new limit:
+   too few slots and limits that are not allowed break it; slots of zeros more make the table of the
+   larger limit. */
+static void changed_limits(void)
+{
+    static const struct {
+        uint32_t limit;
+        int broken;
+    } changes[] = {{4, 1}, {0, 1}, {257, 1}, {65535, 1}, {5, 0}, {6, 0}, {256, 0}};
+    uint8_t *five = new_table_for(5, 4096, 10);
+
+    for (uint64_t seid = 1; seid <= 5; seid++)
+        CHECK(establish_one_pdr(five, seid, &choose) == 1);
+    for (size_t i = 0; i < sizeof changes / sizeof changes[0]; i++) {
+        size_t length = length_for(changes[i].limit);
+        size_t kept = length < length_for(5) ? length : length_for(5);
+        uint8_t *table = block(length, 0);
+        uint32_t count = 7;
+
+        memcpy(table, five, kept);
+        table[LIMIT_AT] = (uint8_t)(changes[i].limit >> 8);
+        table[LIMIT_AT + 1] = (uint8_t)changes[i].limit;
+        CHECK(pfcp_free_count(table, length, &count) == (uint32_t)changes[i].broken);
+        CHECK(count == (changes[i].broken ? 0 : 5));
+        CHECK(pfcp_session_count(table, length, &count) == (uint32_t)changes[i].broken);
+        CHECK(count == (changes[i].broken ? 0 : 5));
+        free(table);
+    }
+    free(five);
+}
+
+/* Session i of a full table: 16 PDRs and 8 endpoints with a TEID each, and an FQ-CSID that all share. */
+static unsigned establish_full(uint8_t *table, uint64_t seid)
+{
+    struct message m;
+
+    start_establishment(&m, seid);
+    for (uint16_t id = 1; id <= 16; id++)
+        create_pdr(&m, id, &choose);
+    for (uint8_t id = 1; id <= 8; id++)
+        create_endpoint(&m, id, &choose);
+    put_fq_csid(&m, 1, 5);
+    return ask(table, &m);
+}
+
+/* 256 sessions with 6,144 TEIDs of the largest pool, then 75; all of them found, restored and removed. */
+static void most_sessions(void)
+{
+    const uint32_t first = 0xFFFF0000;
+    const uint32_t teids = 24 * PFCP_MOST_SESSIONS;
+    uint8_t *table = new_table_for(PFCP_MOST_SESSIONS, first, 65536);
+    uint8_t *empty = copy_of(table, PFCP_LONGEST_TABLE);
+    uint8_t *fresh = copy_of(table, PFCP_LONGEST_TABLE);
+    uint32_t count = 0;
+    size_t place = 0;
+    struct message m;
+
+    for (uint64_t seid = PFCP_MOST_SESSIONS; seid > 0; seid--)
+        CHECK(establish_full(table, seid) == 1);
+    CHECK(free_teids(table) == 65536 - teids);
+    no_room_for(table, PFCP_MOST_SESSIONS + 1);
+    CHECK(pfcp_session_count(table, PFCP_LONGEST_TABLE, &count) == PFCP_FOUND && count == 256);
+    CHECK(pfcp_find_session(table, PFCP_LONGEST_TABLE, 256, &place) == PFCP_FOUND && place == 255);
+    CHECK(pfcp_find_teid(table, PFCP_LONGEST_TABLE, first, &place) == PFCP_FOUND && place == 255);
+    CHECK(pfcp_find_teid(table, PFCP_LONGEST_TABLE, first + teids - 1, &place) == PFCP_FOUND &&
+          place == 0);
+    CHECK(pfcp_find_teid(table, PFCP_LONGEST_TABLE, first + teids, &place) == PFCP_NONE);
+    for (place = 0; place < PFCP_MOST_SESSIONS; place++) {
+        CHECK(write_place(table, place, PFCP_LONGEST_RESTORATION) == PFCP_WRITTEN);
+        CHECK(ask_octets(fresh, written.octets, written.used) == 0 && answer.octets[29] == 1);
+    }
+    CHECK(write_place(table, place, PFCP_LONGEST_RESTORATION) == PFCP_PAST_LAST_SESSION);
+    CHECK(memcmp(table, fresh, PFCP_LONGEST_TABLE) == 0);
+    plain_message_start(&m, SET_DELETION, 1);
+    put_fq_csid(&m, 1, 5);
+    CHECK(ask(table, &m) == 1);
+    CHECK(memcmp(table, empty, PFCP_LONGEST_TABLE) == 0);
+    free(fresh);
+    free(empty);
+    free(table);
+}
+
+/* The last TEID of the largest pool, by a restoration; the one after it is 73. */
+static void last_teid(void)
+{
+    static const uint8_t ipv4[4] = {192, 0, 2, 1};
+    static const struct {
+        uint32_t teid;
+        unsigned cause;
+    } cases[] = {{4096 + 65535, 1}, {4096 + 65536, 73}, {4096 + 4096, 1}, {4095, 73}};
+    uint8_t *table = new_table(4096, 65536);
+    struct message m;
+    size_t place;
+
+    for (size_t i = 0; i < sizeof cases / sizeof cases[0]; i++) {
+        struct tunnel existing = {.flags = V4, .teid = cases[i].teid, .ipv4 = ipv4};
+
+        start_establishment(&m, i + 1);
+        put_number(&m, IE_FLAGS, 1, 1);
+        create_pdr(&m, 1, &existing);
+        CHECK(ask(table, &m) == cases[i].cause);
+    }
+    CHECK(free_teids(table) == 65534);
+    CHECK(pfcp_find_teid(table, TABLE_LENGTH, 4096 + 65535, &place) == PFCP_FOUND && place == 0);
+    CHECK(establish_one_pdr(table, 9, &choose) == 1 && granted(IE_CREATED_PDR, 1) == 4096);
+    free(table);
+}
+
 int main(void)
 {
     whole_replies();
@@ -1378,6 +1605,12 @@ int main(void)
     read_tables();
     written_restorations();
     refused_restorations();
+    session_limits();
+    lengths_of_limits();
+    limit_of_five();
+    changed_limits();
+    most_sessions();
+    last_teid();
     printf("%lu passed, %lu failed\n", passed, failed);
     return failed == 0 ? EXIT_SUCCESS : EXIT_FAILURE;
 }

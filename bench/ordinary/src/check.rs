@@ -1,6 +1,7 @@
 //! Whether a table is sound, and the maps of the TEIDs and addresses that its records hold.
 
 use crate::layout::*;
+use crate::list::List;
 
 #[derive(Clone, Copy)]
 pub struct Settings {
@@ -10,15 +11,17 @@ pub struct Settings {
     pub size: u32,
     pub first_address: u32,
     pub addresses: u32,
+    /// The most sessions that the table has room for.
+    pub limit: usize,
 }
 
 impl Settings {
     pub fn are_allowed(&self) -> bool {
         let ends = |first: u32, size: u32| u64::from(first) + u64::from(size) <= 1 << 32;
         self.first >= 1
-            && (1..=4096).contains(&self.size)
+            && (1..=MOST_TEIDS).contains(&(self.size as usize))
             && ends(self.first, self.size)
-            && (1..=1024).contains(&self.addresses)
+            && (1..=MOST_ADDRESSES).contains(&(self.addresses as usize))
             && ends(self.first_address, self.addresses)
     }
 
@@ -78,31 +81,41 @@ impl<const N: usize> Map<N> {
     }
 }
 
+type TeidMap = Map<{ MOST_TEIDS / 64 }>;
+type AddressMap = Map<{ MOST_ADDRESSES / 64 }>;
+
 /// What the records of a table hold of the two pools.
 pub struct Taken {
-    pub teids: Map<64>,
-    pub addresses: Map<16>,
+    pub teids: TeidMap,
+    pub addresses: AddressMap,
 }
 
-pub struct Checked {
+impl Taken {
+    pub fn nothing() -> Self {
+        Taken { teids: Map::new(), addresses: Map::new() }
+    }
+}
+
+pub struct Checked<'a> {
     pub settings: Settings,
     pub sessions: usize,
-    pub taken: Taken,
+    pub taken: &'a Taken,
 }
 
-/// What a sound table says of itself, or nothing for a broken one.
-pub fn check(table: &[u8; TABLE_OCTETS]) -> Option<Checked> {
-    let settings = settings(table)?;
-    let sessions = usize::from(u16_at(table, COUNT));
-    if sessions > MOST_SESSIONS {
+/// What a sound table says of itself, or nothing for a broken one. The maps, 8 KiB, are the
+/// caller's, so that they are never copied.
+pub fn check<'a>(table: &[u8], taken: &'a mut Taken) -> Option<Checked<'a>> {
+    let (head, slots) = table.split_first_chunk::<SLOTS>()?;
+    let settings = settings(head)?;
+    let sessions = usize::from(u16_at(head, COUNT));
+    if Some(table.len()) != table_length(settings.limit) || sessions > settings.limit {
         return None;
     }
-    let (used, room) = slots(table).split_at(sessions);
-    let mut taken = Taken { teids: Map::new(), addresses: Map::new() };
+    let (used, room) = slots.as_chunks().0.split_at(sessions);
     let mut last = 0;
     for slot in used {
         // From 0 on, ascending also says "not 0".
-        if seid(slot) <= last || !session_holds(&settings, slot, &mut taken) {
+        if seid(slot) <= last || !session_holds(&settings, slot, taken) {
             return None;
         }
         last = seid(slot);
@@ -110,22 +123,23 @@ pub fn check(table: &[u8; TABLE_OCTETS]) -> Option<Checked> {
     is_zero(room.as_flattened()).then_some(Checked { settings, sessions, taken })
 }
 
-fn settings(table: &[u8; TABLE_OCTETS]) -> Option<Settings> {
+fn settings(head: &[u8; SLOTS]) -> Option<Settings> {
     let mut ipv6 = [0; 16];
-    ipv6.copy_from_slice(&table[5..21]);
-    let ipv6 = match table[4] {
+    ipv6.copy_from_slice(&head[5..21]);
+    let ipv6 = match head[4] {
         0 if is_zero(&ipv6) => None,
         1 => Some(ipv6),
         _ => return None,
     };
-    let ipv4 = [table[0], table[1], table[2], table[3]];
+    let ipv4 = [head[0], head[1], head[2], head[3]];
     let settings = Settings {
         ipv4,
         ipv6,
-        first: u32_at(table, 21),
-        size: u32_at(table, 25),
-        first_address: u32_at(table, 29),
-        addresses: u32_at(table, 33),
+        first: u32_at(head, 21),
+        size: u32_at(head, 25),
+        first_address: u32_at(head, 29),
+        addresses: u32_at(head, 33),
+        limit: usize::from(u16_at(head, LIMIT)),
     };
     settings.are_allowed().then_some(settings)
 }
@@ -161,7 +175,7 @@ fn pdr_holds(
     pdrs: &[PdrSlot],
     index: usize,
     endpoints: &[EndpointSlot],
-    taken: &mut Map<64>,
+    taken: &mut TeidMap,
 ) -> bool {
     let pdr = &pdrs[index];
     let (far_id, source_interface) = (u32_at(pdr, 7), pdr[11]);
@@ -177,10 +191,11 @@ fn pdr_holds(
         TUNNEL if endpoint == 0 => match tunnel_place(settings, teid, families) {
             None => false,
             Some(place) if taken.take(place) => true,
-            // Held already: by a PDR of this session with the same use, or against the rules.
+            // Held already: by a PDR of this session with the same use, most likely one just
+            // before, or against the rules.
             Some(_) => pdrs[..index]
                 .iter()
-                .find(|other| other[12] == TUNNEL && u32_at(*other, 13) == teid)
+                .rfind(|other| other[12] == TUNNEL && u32_at(*other, 13) == teid)
                 .is_some_and(|other| other[17] == families && other[11] == source_interface),
         },
         _ => false,
@@ -192,20 +207,24 @@ fn addresses_hold(
     settings: &Settings,
     pdrs: &[PdrSlot],
     endpoints: &[EndpointSlot],
-    taken: &mut Map<16>,
+    taken: &mut AddressMap,
 ) -> bool {
-    let of = |index: usize| match endpoints.get(index) {
-        Some(endpoint) => &endpoint[ENDPOINT_ADDRESS..],
-        None => &pdrs[index - endpoints.len()][PDR_ADDRESS..],
-    };
-    (0..endpoints.len() + pdrs.len()).all(|index| match of(index) {
-        [0, address @ ..] => is_zero(address),
-        [1, address @ ..] => match settings.address_place(u32_at(address, 0)) {
+    let mut own = List::<u32, { MOST_PDRS + MOST_ENDPOINTS }>::new();
+    let mut holds = |(there, address)| match there {
+        0 => address == 0,
+        1 => match settings.address_place(address) {
             None => true,
-            Some(place) => taken.take(place) || (0..index).any(|other| of(other) == of(index)),
+            Some(place) if taken.take(place) => {
+                own.push(address);
+                true
+            }
+            // Mostly the first one; `contains` would look at four at a time.
+            Some(_) => own.iter().any(|held| *held == address),
         },
         _ => false,
-    })
+    };
+    endpoints.iter().all(|endpoint| holds(address_at(endpoint, ENDPOINT_ADDRESS)))
+        && pdrs.iter().all(|pdr| holds(address_at(pdr, PDR_ADDRESS)))
 }
 
 fn tunnel_place(settings: &Settings, teid: u32, families: u8) -> Option<usize> {

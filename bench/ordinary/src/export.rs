@@ -3,7 +3,7 @@
 
 use std::slice;
 
-use crate::{free_addresses, free_count, handle, make_table, Settings, TABLE_OCTETS};
+use crate::{free_addresses, free_count, handle, make_table, Settings};
 
 /// A slice from a pointer and a length; an empty one may have any pointer.
 ///
@@ -27,8 +27,8 @@ unsafe fn lent_mut<'a>(octets: *mut u8, length: usize) -> &'a mut [u8] {
 
 #[cfg_attr(not(feature = "as_pfcp"), export_name = "ordinary_table_length")]
 #[cfg_attr(feature = "as_pfcp", export_name = "pfcp_table_length")]
-pub extern "C" fn table_length() -> usize {
-    TABLE_OCTETS
+pub extern "C" fn table_length(session_limit: u32) -> usize {
+    crate::table_length(session_limit as usize).unwrap_or(0)
 }
 
 /// # Safety
@@ -45,6 +45,7 @@ pub unsafe extern "C" fn make(
     pool_size: u32,
     first_address: u32,
     address_count: u32,
+    session_limit: u32,
 ) -> u32 {
     let (table, ipv6) = unsafe { (lent_mut(table, table_len), lent(ipv6, ipv6_len)) };
     let ipv6 = match (ipv6.len(), ipv6.try_into()) {
@@ -59,6 +60,7 @@ pub unsafe extern "C" fn make(
         size: pool_size,
         first_address,
         addresses: address_count,
+        limit: session_limit as usize,
     };
     u32::from(!make_table(table, &settings))
 }

@@ -1,14 +1,18 @@
 //! The octets of the table, as `docs/layout.md` gives them.
 
-pub const TABLE_OCTETS: usize = 38_631;
-pub const MOST_SESSIONS: usize = 64;
+/// The largest session limit, and the largest pools of TEIDs and of addresses.
+pub const MOST_SESSIONS: usize = 256;
+pub const MOST_TEIDS: usize = 65_536;
+pub const MOST_ADDRESSES: usize = 1_024;
+
 pub const MOST_PDRS: usize = 16;
 pub const MOST_ENDPOINTS: usize = 8;
 pub const MOST_FQ_CSIDS: usize = 6;
 
 /// Offsets in the table.
-pub const COUNT: usize = 37;
-pub const SLOTS: usize = 39;
+pub const LIMIT: usize = 37;
+pub const COUNT: usize = 39;
+pub const SLOTS: usize = 41;
 
 pub type Slot = [u8; 603];
 pub type PdrSlot = [u8; 24];
@@ -39,12 +43,17 @@ pub fn put(octets: &mut [u8], at: usize, value: &[u8]) {
     octets[at..at + value.len()].copy_from_slice(value);
 }
 
+/// The length of a table for so many sessions, or nothing where a limit is not allowed.
+pub fn table_length(limit: usize) -> Option<usize> {
+    (1..=MOST_SESSIONS).contains(&limit).then(|| SLOTS + limit * size_of::<Slot>())
+}
+
 /// The session slots of a table.
-pub fn slots(table: &[u8; TABLE_OCTETS]) -> &[Slot] {
+pub fn slots(table: &[u8]) -> &[Slot] {
     table[SLOTS..].as_chunks().0
 }
 
-pub fn slots_mut(table: &mut [u8; TABLE_OCTETS]) -> &mut [Slot] {
+pub fn slots_mut(table: &mut [u8]) -> &mut [Slot] {
     table[SLOTS..].as_chunks_mut().0
 }
 
@@ -151,6 +160,11 @@ pub fn node_type(fq_csid: &FqCsidSlot) -> u8 {
 /// The address of a PDR or an endpoint: where it is said to be there, before the address itself.
 pub const PDR_ADDRESS: usize = 19;
 pub const ENDPOINT_ADDRESS: usize = 6;
+
+/// Whether a record says that an address is there, 1 or 0 in a sound one, and the address.
+pub fn address_at<const N: usize>(record: &[u8; N], at: usize) -> (u8, u32) {
+    (record[at], u32_at(record, at + 1))
+}
 
 /// A record's five octets of an address that is there.
 pub fn put_address(record: &mut [u8], at: usize, address: u32) {

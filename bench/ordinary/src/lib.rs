@@ -1,6 +1,6 @@
-//! An ordinary Rust version of the calls that handle requests, as one would write it without proofs. It works on
-//! the table octets of `docs/layout.md`, checks them at every call, and is what the proved product
-//! is measured against.
+//! An ordinary Rust version of the calls that handle requests, as one would write it without
+//! proofs. It works on the table octets of `docs/layout.md`, checks them at every call, and is what
+//! the proved product is measured against.
 //!
 //! * `layout`: the octets of the table.
 //! * `check`: whether a table is sound, and the maps of taken TEIDs and addresses.
@@ -18,5 +18,5 @@ mod request;
 mod unit;
 
 pub use check::Settings;
-pub use layout::TABLE_OCTETS;
+pub use layout::table_length;
 pub use unit::{free_addresses, free_count, handle, make_table};

@@ -1,6 +1,6 @@
 //! The calls: stages 1 and 4 to 6, grants and the change to the table.
 
-use crate::check::{check, Checked, Settings};
+use crate::check::{check, Checked, Settings, Taken};
 use crate::layout::*;
 use crate::reply;
 use crate::request::{self, Address, FqCsidChange, Header, Kind, Refusal, Request, Teid, Tunnel};
@@ -9,8 +9,7 @@ const LEAST_REPLY_SPACE: usize = 1280;
 
 /// Makes an empty table; whether it was made. A refusal writes nothing.
 pub fn make_table(table: &mut [u8], settings: &Settings) -> bool {
-    let Ok(table) = <&mut [u8; TABLE_OCTETS]>::try_from(table) else { return false };
-    if !settings.are_allowed() {
+    if !settings.are_allowed() || Some(table.len()) != table_length(settings.limit) {
         return false;
     }
     table.fill(0);
@@ -23,26 +22,29 @@ pub fn make_table(table: &mut [u8], settings: &Settings) -> bool {
     put(table, 25, &settings.size.to_be_bytes());
     put(table, 29, &settings.first_address.to_be_bytes());
     put(table, 33, &settings.addresses.to_be_bytes());
+    put(table, LIMIT, &(settings.limit as u16).to_be_bytes());
     true
 }
 
 /// The number of free TEIDs, or nothing for a broken table.
 pub fn free_count(table: &[u8]) -> Option<u32> {
-    let checked = check(table.try_into().ok()?)?;
+    let mut taken = Taken::nothing();
+    let checked = check(table, &mut taken)?;
     Some(checked.settings.size - checked.taken.teids.count())
 }
 
 /// The number of free addresses, or nothing for a broken table.
 pub fn free_addresses(table: &[u8]) -> Option<u32> {
-    let checked = check(table.try_into().ok()?)?;
+    let mut taken = Taken::nothing();
+    let checked = check(table, &mut taken)?;
     Some(checked.settings.addresses - checked.taken.addresses.count())
 }
 
 /// One request: the length of the reply and the place of a fault of stages 2 and 3 (0 without one),
 /// or the host outcome 1 to 5.
 pub fn handle(table: &mut [u8], message: &[u8], space: &mut [u8]) -> Result<(usize, usize), u32> {
-    let Ok(table) = <&mut [u8; TABLE_OCTETS]>::try_from(table) else { return Err(1) };
-    let checked = check(table).ok_or(1_u32)?;
+    let mut taken = Taken::nothing();
+    let checked = check(table, &mut taken).ok_or(1_u32)?;
     if space.len() < LEAST_REPLY_SPACE {
         return Err(2);
     }
@@ -88,7 +90,7 @@ impl Got {
 /// All stages; reads the body into the request. An accepted one gives its session's index in the
 /// table (where it stands or is to stand) and what its new records get.
 fn decide<'a>(
-    table: &[u8; TABLE_OCTETS],
+    table: &[u8],
     checked: &Checked,
     header: &Header,
     body: &'a [u8],
@@ -137,7 +139,7 @@ fn decide<'a>(
     let pdrs = own.pdrs.iter().filter(|pdr| !goes(request, pdr)).count() + request.new_pdrs.len();
     let endpoints =
         own.endpoints.len() - request.removed_endpoints.len() + request.new_endpoints.len();
-    if (establishment && checked.sessions == MOST_SESSIONS)
+    if (establishment && checked.sessions == checked.settings.limit)
         || pdrs > MOST_PDRS
         || endpoints > MOST_ENDPOINTS
     {
@@ -284,7 +286,7 @@ fn allot(checked: &Checked, request: &Request) -> Option<Got> {
 
 /// Makes the change of an accepted request.
 fn change(
-    table: &mut [u8; TABLE_OCTETS],
+    table: &mut [u8],
     sessions: usize,
     header: &Header,
     request: &Request,
@@ -310,7 +312,7 @@ fn change(
 }
 
 /// Takes out every session that holds a listed FQ-CSID, and clears the room after the others.
-fn remove_listed(table: &mut [u8; TABLE_OCTETS], sessions: usize, listed: &[&[u8]]) {
+fn remove_listed(table: &mut [u8], sessions: usize, listed: &[&[u8]]) {
     let slots = slots_mut(table);
     let mut kept = 0;
     for index in 0..sessions {

@@ -5,8 +5,8 @@ use differential::product::Product;
 use differential::run::{run, Report};
 use ordinary::export;
 
-extern "C" fn table_length() -> usize {
-    export::table_length()
+extern "C" fn table_length(session_limit: u32) -> usize {
+    export::table_length(session_limit)
 }
 
 fn compare(seed: u64, calls: usize) -> Report {

@@ -1,10 +1,10 @@
 //! `exchanges`: reads parts from standard input, each after its length in two octets. A part whose
 //! first octet is 0, the first octet of no message, makes an empty unit: after it stand its IPv4
-//! address, the first TEID, the number of TEIDs, the first address of the pool and the number of
-//! addresses, four octets each. Any other is a request. Prints a line for each: `table` or `outcome`
-//! and the number, `free` and the free TEIDs after it, `addresses` and the free addresses, and where
-//! there is a reply `place` and the place of a fault, and `reply` and the reply's octets in
-//! hexadecimal digits.
+//! address, the first TEID, the number of TEIDs, the first address of the pool, the number of
+//! addresses and the session limit, four octets each. Any other is a request. Prints a line for
+//! each: `table` or `outcome` and the number, `free` and the free TEIDs after it, `addresses` and
+//! the free addresses, and where there is a reply `place` and the place of a fault, and `reply` and
+//! the reply's octets in hexadecimal digits.
 
 use std::io::{self, Read};
 use std::process::ExitCode;
@@ -36,7 +36,7 @@ fn next_part(octets: &[u8]) -> Option<(&[u8], &[u8])> {
 
 fn line(unit: &mut Option<Unit>, part: &[u8]) -> String {
     let (word, number, place, reply) = match part {
-        [0, settings @ ..] if settings.len() == 20 => {
+        [0, settings @ ..] if settings.len() == 24 => {
             ("table", make(unit, settings), 0, Vec::new())
         }
         _ => request(unit, part),
@@ -59,7 +59,8 @@ fn make(unit: &mut Option<Unit>, settings: &[u8]) -> u8 {
     let number = |at: usize| settings[at..at + 4].try_into().map(u32::from_be_bytes).unwrap_or(0);
     let teids = (number(4), number(8));
     let addresses = (number(12).into(), number(16));
-    let settings = Settings::make(number(0).to_be_bytes(), &[], teids, addresses);
+    let limit = number(20);
+    let settings = Settings::make(number(0).to_be_bytes(), &[], teids, addresses, limit);
     match settings.and_then(Unit::new) {
         Some(made) => {
             *unit = Some(made);

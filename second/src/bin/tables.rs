@@ -1,7 +1,8 @@
-//! `tables FOLDER SEED COUNT`: writes sound tables with what the rules and docs/layout.md make of
-//! them: ones of one and of three sessions, empty ones, full ones without and with an IPv6 address, the largest,
-//! and COUNT drawn at random from the seed. For each NAME, which it prints with the control plane's
-//! addresses to give:
+//! `tables FOLDER SEED COUNT [LIMIT]`: writes sound tables with what the rules and docs/layout.md make
+//! of them: ones of one and of three sessions, empty ones, full ones without and with an IPv6 address,
+//! the largest, and COUNT drawn at random from the seed. LIMIT is the session limit of all of them.
+//! Without it the limit is 64, the largest that the program `restore` takes, and at most that in the
+//! random ones. For each NAME, which it prints with the control plane's addresses to give:
 //!
 //! * NAME.table: the table's octets,
 //! * NAME.requests: its sessions' restoration requests, in its order, nothing between,
@@ -20,22 +21,21 @@ use second::layout;
 use second::list;
 use second::restoration::{self, Envelope};
 use second::session::Sessions;
-use second::settings::Settings;
+use second::settings::{allowed_limit, Settings, LARGEST_LIMIT};
+
+/// The session limit unless said otherwise.
+const LIMIT: u16 = 64;
 
 const IPV4: [u8; 4] = [192, 0, 2, 50];
 const IPV6: [u8; 16] = [0x20, 1, 0x0D, 0xB8, 0, 0, 0, 0, 0, 0, 0, 0, 0, 0, 0, 0x50];
 
 fn main() -> ExitCode {
     let arguments: Vec<String> = std::env::args().skip(1).collect();
-    let read = match arguments.as_slice() {
-        [folder, seed, count] => seed.parse().ok().zip(count.parse().ok()).map(|n| (folder, n)),
-        _ => None,
-    };
-    let Some((folder, (seed, count))) = read else {
-        eprintln!("usage: tables FOLDER SEED COUNT");
+    let Some((folder, wanted)) = read(&arguments) else {
+        eprintln!("usage: tables FOLDER SEED COUNT [LIMIT]; a LIMIT is 1 to {LARGEST_LIMIT}");
         return ExitCode::from(2);
     };
-    match write_all(Path::new(folder), seed, count) {
+    match write_all(Path::new(folder), &wanted) {
         Ok(()) => ExitCode::SUCCESS,
         Err(error) => {
             eprintln!("tables: {error}");
@@ -44,27 +44,47 @@ fn main() -> ExitCode {
     }
 }
 
-fn write_all(folder: &Path, seed: u64, count: usize) -> std::io::Result<()> {
-    let mut random = Random::new(seed);
-    let settings = tables::settings(&mut random, true);
+struct Wanted {
+    seed: u64,
+    count: usize,
+    limit: Option<u16>,
+}
+
+fn read(arguments: &[String]) -> Option<(&str, Wanted)> {
+    let (folder, seed, count, limit) = match arguments {
+        [folder, seed, count] => (folder, seed, count, None),
+        [folder, seed, count, limit] => {
+            let limit = limit.parse().ok().and_then(allowed_limit)?;
+            (folder, seed, count, Some(limit))
+        }
+        _ => return None,
+    };
+    Some((folder, Wanted { seed: seed.parse().ok()?, count: count.parse().ok()?, limit }))
+}
+
+fn write_all(folder: &Path, wanted: &Wanted) -> std::io::Result<()> {
+    let mut random = Random::new(wanted.seed);
+    let limit = wanted.limit.unwrap_or(LIMIT);
+    let settings = tables::settings(&mut random, true, limit);
     let sessions = tables::sessions(&mut random, &settings, Filling::Some);
     write(folder, "one", &settings, &sessions.clone().into_iter().take(1).collect(), 2)?;
     write(folder, "few", &settings, &sessions.into_iter().take(3).collect(), 2)?;
-    let plain =
-        Settings::make([192, 0, 2, 1], &[], (4096, 4096), (Ipv4Addr::new(10, 45, 0, 0), 256));
+    let addresses = (Ipv4Addr::new(10, 45, 0, 0), 256);
+    let plain = Settings::make([192, 0, 2, 1], &[], (4096, 4096), addresses, limit.into());
     let plain = plain.expect("these are allowed");
     write(folder, "empty", &plain, &Sessions::new(), 0)?;
-    let settings = tables::settings(&mut random, true);
+    let settings = tables::settings(&mut random, true, limit);
     write(folder, "empty6", &settings, &Sessions::new(), 1)?;
     for (place, (name, ipv6)) in [("full", false), ("full6", true)].into_iter().enumerate() {
-        let settings = tables::settings(&mut random, ipv6);
+        let settings = tables::settings(&mut random, ipv6, limit);
         let sessions = tables::sessions(&mut random, &settings, Filling::Full);
         write(folder, name, &settings, &sessions, place)?;
     }
-    write(folder, "largest", &largest::settings(), &largest::sessions(), 2)?;
-    for number in 0..count {
+    write(folder, "largest", &largest::settings(limit), &largest::sessions(limit), 2)?;
+    for number in 0..wanted.count {
         let ipv6 = random.percent(70);
-        let settings = tables::settings(&mut random, ipv6);
+        let any = random.pick(&[1, 2, 5, 40, LIMIT - 1, LIMIT]);
+        let settings = tables::settings(&mut random, ipv6, wanted.limit.unwrap_or(any));
         let sessions = tables::sessions(&mut random, &settings, Filling::Some);
         write(folder, &format!("random{number}"), &settings, &sessions, number)?;
     }
@@ -110,7 +130,8 @@ fn options(settings: &Settings) -> String {
     let ipv4 = Ipv4Addr::from(settings.ipv4);
     let ipv6 =
         settings.ipv6.map_or(String::new(), |octets| format!(" --ipv6 {}", Ipv6Addr::from(octets)));
-    let Settings { first, size, first_address, addresses, .. } = settings;
+    let Settings { first, size, first_address, addresses, session_limit, .. } = settings;
+    let of_teids = format!("--first-teid {first} --pool {size}");
     let of_addresses = format!("--first-address {first_address} --addresses {addresses}");
-    format!("--ipv4 {ipv4}{ipv6} --first-teid {first} --pool {size} {of_addresses}\n")
+    format!("--ipv4 {ipv4}{ipv6} {of_teids} {of_addresses} --sessions {session_limit}\n")
 }

@@ -111,9 +111,13 @@ pub enum Done {
     RestoredOutsideAddress,
     RestoredAddressShared,
     RestoredOutsideAddressOfTwoSessions,
+    // TEIDs in the upper half of the largest map.
+    RestoredHighTeid,
+    RestoredLastTeidOfLargestPool,
+    ChosenBelowHighTeid,
 }
 
-pub const ALL_DONE: [Done; 89] = [
+pub const ALL_DONE: [Done; 92] = [
     Done::Establishment,
     Done::Restoration,
     Done::Modification,
@@ -203,6 +207,9 @@ pub const ALL_DONE: [Done; 89] = [
     Done::RestoredOutsideAddress,
     Done::RestoredAddressShared,
     Done::RestoredOutsideAddressOfTwoSessions,
+    Done::RestoredHighTeid,
+    Done::RestoredLastTeidOfLargestPool,
+    Done::ChosenBelowHighTeid,
 ];
 
 /// What an accepted request does, each thing once.

@@ -4,6 +4,7 @@ use std::collections::BTreeSet;
 
 use super::deeds::ALL_DONE;
 use super::host::{ALL_EDGES, ALL_HEADER_FAULTS};
+use super::site::ALL_SITES;
 use super::{Class, Counter};
 use crate::element::Bad;
 use crate::ie;
@@ -174,6 +175,8 @@ fn expected_of_stage_5() -> BTreeSet<Counter> {
     ];
     all.extend(of_establishments.map(|limit| Counter::Limit(Kind::Establishment, limit)));
     all.insert(Counter::Limit(Kind::Modification, Limit::TeidsButForRemovals));
+    all.extend(ALL_SITES.map(Counter::Filled));
+    all.extend(ALL_SITES.map(Counter::Full));
     all.insert(Counter::NoAddress(Kind::Establishment, NoAddress::AtAll));
     all.insert(Counter::NoAddress(Kind::Modification, NoAddress::AtAll));
     all.insert(Counter::NoAddress(Kind::Modification, NoAddress::ButForRemovals));

@@ -4,6 +4,7 @@ mod addresses;
 mod deeds;
 mod expected;
 mod host;
+mod site;
 
 use std::collections::{BTreeMap, BTreeSet};
 use std::fmt;
@@ -11,7 +12,7 @@ use std::fmt;
 use crate::ie;
 use crate::request::fault::Place;
 use crate::request::framing::{elements, opens, Part};
-use crate::request::{reading, Fault, FaultKind, Header, Kind, Record};
+use crate::request::{reading, Fault, FaultKind, Header, Kind, Record, Request};
 use crate::session::Sessions;
 use crate::settings::Settings;
 use crate::unit::limits::{Limit, NoAddress};
@@ -22,6 +23,8 @@ use deeds::deeds;
 pub use deeds::Done;
 pub use expected::expected;
 pub use host::{Edge, HeaderFault};
+pub use site::Site;
+use site::{deeds_of_site, fills};
 
 /// A kind of element as far as framing and skipping go.
 #[derive(Clone, Copy, PartialEq, Eq, PartialOrd, Ord, Debug)]
@@ -53,6 +56,10 @@ pub enum Counter {
     Rule(Rule),
     /// A kind of 75, counted where it is the only one.
     Limit(Kind, Limit),
+    /// An accepted establishment took the last place of a table with such a session limit.
+    Filled(Site),
+    /// An establishment was refused only because such a table was full.
+    Full(Site),
     /// A kind of 79, which is always the only reason left.
     NoAddress(Kind, NoAddress),
     /// The first cause is reported while the second, of a later line, would hold as well.
@@ -137,27 +144,43 @@ impl Coverage {
                 let kind = refused.header.kind;
                 self.met(Counter::Cause(kind, refused.cause()));
                 self.refused(kind, &refused.reasons);
+                if matches!(
+                    refused.reasons[..],
+                    [Reason::Limit(Limit::Sessions | Limit::SessionsByRestoration)]
+                ) {
+                    self.met(Counter::Full(Site::of(settings)));
+                }
                 if let Reason::Fault(fault) = &refused.reasons[0] {
                     if is_framing(fault) && passed_over(&refused.header, message) {
                         self.met(Counter::FramingBeforeReading);
                     }
                 }
             }
-            Decision::Accepted { request, .. } => {
-                let kind = request.header.kind;
-                self.met(Counter::Cause(kind, 1));
-                self.skipped(kind, Place::Top, Part::body(message));
-                for done in deeds(request, message, before)
-                    .into_iter()
-                    .chain(deeds_of_addresses(settings, request, before))
-                {
-                    self.met(Counter::Accepted(done));
-                }
-                for record in &request.records {
-                    if let Record::FqCsid(fq_csid) = record {
-                        self.met(Counter::NodeType(fq_csid.node_type));
-                    }
-                }
+            Decision::Accepted { request, .. } => self.accepted(message, request, settings, before),
+        }
+    }
+
+    fn accepted(
+        &mut self,
+        message: &[u8],
+        request: &Request,
+        settings: &Settings,
+        before: &Sessions,
+    ) {
+        let kind = request.header.kind;
+        self.met(Counter::Cause(kind, 1));
+        self.skipped(kind, Place::Top, Part::body(message));
+        if fills(settings, request, before) {
+            self.met(Counter::Filled(Site::of(settings)));
+        }
+        let done = deeds(request, message, before)
+            .into_iter()
+            .chain(deeds_of_addresses(settings, request, before))
+            .chain(deeds_of_site(settings, request, before));
+        done.for_each(|done| self.met(Counter::Accepted(done)));
+        for record in &request.records {
+            if let Record::FqCsid(fq_csid) = record {
+                self.met(Counter::NodeType(fq_csid.node_type));
             }
         }
     }

@@ -1,24 +1,34 @@
-//! A table with everything that it has room for: 64 sessions of 16 PDRs, 8 endpoints and 6
-//! FQ-CSIDs, each record with a TEID of its own and each PDR with an address of its own, which are all
-//! of the pool; an endpoint has the address of the PDR with its ID. The cards of node type 0 have one session each,
-//! those of node type 1 two, and so on by doubling.
+//! A table with everything that it has room for: as many sessions as its limit says, of 16 PDRs, 8
+//! endpoints and 6 FQ-CSIDs, each record with a TEID of its own, which are all of the pool. The
+//! sessions share out the pool of addresses evenly: each PDR has an address of its own where there are
+//! enough, else the PDRs of a session take turns. An endpoint has the address of the PDR with its ID.
+//! The cards of node type 0 have one session each, those of node type 1 two, and so on by doubling.
 
 use std::net::Ipv4Addr;
 
 use crate::element::fq_csid::NodeId;
 use crate::session::{Endpoint, Families, HeldCsid, Local, Pdr, Session, Sessions, Tunnel};
-use crate::settings::Settings;
+use crate::session::{MOST_ENDPOINTS, MOST_PDRS};
+use crate::settings::{Settings, MOST_ADDRESSES};
 
-pub fn settings() -> Settings {
+/// The TEIDs of a session: one for each record that can hold one.
+pub const TEIDS: u32 = (MOST_PDRS + MOST_ENDPOINTS) as u32;
+
+/// The addresses of a session's PDRs.
+fn own_addresses(session_limit: u16) -> u32 {
+    (MOST_ADDRESSES / u32::from(session_limit)).min(MOST_PDRS as u32)
+}
+
+pub fn settings(session_limit: u16) -> Settings {
     let ipv6 = [0x20, 1, 0x0D, 0xB8, 0, 0, 0, 0, 0, 0, 0, 0, 0, 0, 0, 1];
-    let (first_address, addresses) = (Ipv4Addr::new(10, 45, 0, 0), 1024);
     Settings {
         ipv4: [192, 0, 2, 1],
         ipv6: Some(ipv6),
         first: 4096,
-        size: 1536,
-        first_address,
-        addresses,
+        size: TEIDS * u32::from(session_limit),
+        first_address: Ipv4Addr::new(10, 45, 0, 0),
+        addresses: own_addresses(session_limit) * u32::from(session_limit),
+        session_limit,
     }
 }
 
@@ -31,21 +41,24 @@ pub fn csid(node_type: u8, number: u16) -> u16 {
     0xFFFF - (number >> node_type)
 }
 
-pub fn sessions() -> Sessions {
-    (0..64).map(|number| (1 + 1000 * u64::from(number), session(number))).collect()
+pub fn sessions(session_limit: u16) -> Sessions {
+    let seid = |number: u16| 1 + 1000 * u64::from(number);
+    (0..session_limit).map(|number| (seid(number), session(session_limit, number))).collect()
 }
 
-fn session(number: u32) -> Session {
-    let first = settings().first + 24 * number;
+fn session(session_limit: u16, number: u16) -> Session {
+    let settings = settings(session_limit);
+    let own = own_addresses(session_limit);
+    let first = settings.first + TEIDS * u32::from(number);
     let families = Families { v4: true, v6: true };
-    let first_address = u32::from(settings().first_address) + 16 * number;
-    let address = |id: u32| Some(Ipv4Addr::from(first_address + id));
+    let first_address = u32::from(settings.first_address) + own * u32::from(number);
+    let address = |id: u32| Some(Ipv4Addr::from(first_address + id % own));
     let mut session = Session::default();
     for id in 0..16 {
         let tunnel = Tunnel { teid: first + 8 + u32::from(id), families };
         let pdr = Pdr {
             precedence: u32::MAX - u32::from(id),
-            far_id: Some(number),
+            far_id: Some(number.into()),
             source_interface: (id % 16) as u8,
             local: Local::Tunnel(tunnel),
             address: address(u32::from(id)),
@@ -57,7 +70,7 @@ fn session(number: u32) -> Session {
         session.endpoints.insert(id, Endpoint { tunnel, address: address(u32::from(id)) });
     }
     for node_type in 0..6 {
-        let csid = csid(node_type, number as u16);
+        let csid = csid(node_type, number);
         session.fq_csids.insert(node_type, HeldCsid { node: node(node_type), csid });
     }
     session

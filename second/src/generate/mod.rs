@@ -16,7 +16,7 @@ use std::net::Ipv4Addr;
 
 use crate::ie::LEAST_REPLY_SPACE;
 use crate::session::{Session, Sessions};
-use crate::settings::Settings;
+use crate::settings::{Settings, LARGEST_LIMIT, LARGEST_POOL, MOST_ADDRESSES};
 use draft::{lay_out, Draft, Node};
 use plan::{Plan, DELETION, ESTABLISHMENT, MODIFICATION, SET_DELETION};
 use planner::Planner;
@@ -31,8 +31,17 @@ pub enum Flavour {
     Middle,
     /// Many small sessions.
     Crowd,
+    /// As many small sessions as there can be at all.
+    Site,
     /// Few sessions with many records.
     Full,
+}
+
+impl Flavour {
+    /// Whether the table fills up first.
+    pub fn is_crowd(self) -> bool {
+        matches!(self, Flavour::Crowd | Flavour::Site)
+    }
 }
 
 /// The frame of one sequence of calls.
@@ -63,42 +72,100 @@ impl Generator {
 
     pub fn scenario(&mut self) -> Scenario {
         let flavours = [Flavour::Tight, Flavour::Middle, Flavour::Full, Flavour::Crowd];
-        let flavour = flavours[self.made % flavours.len()];
-        self.made += 1;
-        let random = &mut self.random;
-        let size = match flavour {
-            Flavour::Tight => random.between(1, 6),
-            Flavour::Middle => random.between(8, 70),
-            Flavour::Crowd => random.pick(&[200, 1000, 4095, 4096]),
-            Flavour::Full => random.pick(&[40, 64, 65, 4096]),
-        } as u32;
-        let first = match random.below(4) {
-            0 => 1,
-            1 => u32::MAX - (size - 1),
-            2 => 4096,
-            _ => 1 + random.below(1 << 31) as u32,
+        // The largest crowd takes longest, so it is rare.
+        let (flavour, calls) = match self.made % 64 {
+            3 => (Flavour::Site, 500),
+            number => (flavours[number % flavours.len()], 250),
         };
+        self.made += 1;
+        let session_limit = self.session_limit(flavour);
+        let (first, size) = self.teids(flavour);
+        let (first_address, addresses) = self.addresses(flavour);
+        let random = &mut self.random;
         let ipv4 = random.pick(&[[192, 0, 2, 1], [0, 0, 0, 0], [10, 1, 2, 3]]);
         let mut ipv6 = None;
         if random.percent(60) {
             let address: [u8; 16] = std::array::from_fn(|_| random.octet());
             ipv6 = Some(address);
         }
+        let settings =
+            Settings { ipv4, ipv6, first, size, first_address, addresses, session_limit };
+        Scenario { settings, calls, flavour, graves: vec![] }
+    }
+
+    /// A crowd fills its table. The others have room enough for their SEIDs, or far too little.
+    fn session_limit(&mut self, flavour: Flavour) -> u16 {
+        self.random.pick(match flavour {
+            Flavour::Tight => &[1, 2, 4, 12, 12, 12],
+            Flavour::Middle => &[1, 2, 5, 12, 12, 64],
+            Flavour::Crowd => &[16, 17, 40, 64],
+            Flavour::Site => &[LARGEST_LIMIT],
+            Flavour::Full => &[1, 2, 6, 6, 6, LARGEST_LIMIT],
+        })
+    }
+
+    fn teids(&mut self, flavour: Flavour) -> (u32, u32) {
+        let random = &mut self.random;
+        let size = match flavour {
+            Flavour::Tight => random.between(1, 6) as u32,
+            Flavour::Middle => random.between(8, 70) as u32,
+            Flavour::Crowd => random.pick(&[200, 1000, LARGEST_POOL - 1, LARGEST_POOL]),
+            Flavour::Site => LARGEST_POOL,
+            Flavour::Full => random.pick(&[40, 64, 65, LARGEST_POOL]),
+        };
+        let first = match random.below(4) {
+            0 => 1,
+            1 => u32::MAX - (size - 1),
+            2 => 4096,
+            _ => 1 + random.below(1 << 31) as u32,
+        };
+        (first, size)
+    }
+
+    fn addresses(&mut self, flavour: Flavour) -> (Ipv4Addr, u32) {
+        let random = &mut self.random;
         let addresses = match flavour {
-            Flavour::Tight => random.between(1, 3),
-            Flavour::Middle => random.between(2, 20),
-            Flavour::Crowd => random.pick(&[30, 64, 1023, 1024]),
-            Flavour::Full => random.pick(&[1, 8, 65, 1024]),
-        } as u32;
-        let first_address = match random.below(4) {
+            Flavour::Tight => random.between(1, 3) as u32,
+            Flavour::Middle => random.between(2, 20) as u32,
+            Flavour::Crowd => random.pick(&[30, 64, MOST_ADDRESSES - 1, MOST_ADDRESSES]),
+            Flavour::Site => MOST_ADDRESSES,
+            Flavour::Full => random.pick(&[1, 8, 65, MOST_ADDRESSES]),
+        };
+        let first = match random.below(4) {
             0 => 0,
             1 => u32::MAX - (addresses - 1),
             2 => 0x0A2D_0001,
             _ => random.below(1 << 31) as u32,
         };
-        let first_address = Ipv4Addr::from(first_address);
-        let settings = Settings { ipv4, ipv6, first, size, first_address, addresses };
-        Scenario { settings, calls: 250, flavour, graves: vec![] }
+        (first.into(), addresses)
+    }
+
+    /// Settings that are not allowed, by one number alone: the first ones past an edge, or far off.
+    /// The session limit is given as it is, for it may have more than two octets.
+    pub fn refused(&mut self, allowed: &Settings) -> (Settings, u32) {
+        let mut settings = allowed.clone();
+        let mut limit = u32::from(settings.session_limit);
+        let random = &mut self.random;
+        let past_end = |first: u32| (u32::MAX - first).saturating_add(2);
+        match random.below(6) {
+            0 => settings.first = 0,
+            1 => settings.size = random.pick(&[0, LARGEST_POOL + 1, u32::MAX]),
+            2 => settings.addresses = random.pick(&[0, MOST_ADDRESSES + 1, u32::MAX]),
+            3 => {
+                settings.first = u32::MAX - random.below(LARGEST_POOL as usize - 1) as u32;
+                settings.size = past_end(settings.first);
+            }
+            4 => {
+                let first = u32::MAX - random.below(MOST_ADDRESSES as usize - 1) as u32;
+                settings.first_address = first.into();
+                settings.addresses = past_end(first);
+            }
+            _ => {
+                let past = u32::from(LARGEST_LIMIT) + 1;
+                limit = random.pick(&[0, past, 0x1_0000, 0x1_0001, u32::MAX]);
+            }
+        }
+        (settings, limit)
     }
 
     /// The next call of a sequence, for the sessions that live now.
@@ -108,9 +175,10 @@ impl Generator {
             _ => LEAST_REPLY_SPACE,
         };
         // A crowd has to gather first.
-        let gathering = scenario.flavour == Flavour::Crowd && live.len() < 64;
+        let gathering = scenario.flavour.is_crowd() && !scenario.settings.is_full(live.len());
+        let eager = if scenario.flavour == Flavour::Site { 95 } else { 60 };
         let message = match self.random.below(100) {
-            _ if gathering && self.random.percent(60) => self.sound(scenario, live).octets(),
+            _ if gathering && self.random.percent(eager) => self.sound(scenario, live).octets(),
             0..=2 => {
                 let message = self.sound(scenario, live).octets();
                 let reply_space = self.random.pick(&[0, 1, 16, 1024, 1278, 1279]);
@@ -141,13 +209,15 @@ impl Generator {
         let graves = scenario.graves.clone();
         let mut planner = self.planner(scenario, live);
         let Some(seid) = planner.live_seid() else { return planner.establishment() };
+        let nearly_full = planner.settings.is_full(live.len() + 2);
         // Of a hundred: establishments, modifications, restorations; the rest are deletions, one by
         // one or by sets.
         let (establishments, modifications, restorations) = match planner.flavour {
             Flavour::Tight => (32, 40, 15),
             Flavour::Middle => (28, 45, 15),
-            Flavour::Crowd if live.len() < 62 => (66, 22, 11),
-            Flavour::Crowd => (40, 12, 40),
+            Flavour::Crowd | Flavour::Site if nearly_full => (40, 12, 40),
+            Flavour::Crowd => (66, 22, 11),
+            Flavour::Site => (85, 5, 10),
             Flavour::Full => (12, 62, 18),
         };
         let chance = planner.random.below(100);

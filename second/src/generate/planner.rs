@@ -7,8 +7,11 @@ use super::plan::*;
 use super::random::Random;
 use super::Flavour;
 use crate::element::fq_csid::NodeId;
-use crate::session::{taken_addresses, HeldCsid, Session, Sessions};
+use crate::session::{distinct_teids, taken_addresses, HeldCsid, Session, Sessions};
 use crate::settings::Settings;
+
+/// How many TEIDs of the pool are looked at for a restoration: more than a session holds.
+const MOST_LISTED: u32 = 100;
 
 pub struct Planner<'a> {
     pub random: &'a mut Random,
@@ -82,7 +85,8 @@ impl Planner<'_> {
 
     pub fn unused_seid(&mut self) -> u64 {
         let last = match self.flavour {
-            Flavour::Crowd => 90,
+            // More than there is room for.
+            Flavour::Crowd | Flavour::Site => u64::from(self.settings.session_limit) + 26,
             Flavour::Full => 4,
             _ => 10,
         };
@@ -306,11 +310,23 @@ impl Planner<'_> {
         types
     }
 
-    /// TEIDs of the pool that no live session holds, in some order.
+    /// TEIDs of the pool that no live session holds, in some order, now and then the last one last; of
+    /// a large pool a choice from all over it, with its edges.
     pub fn free_teids(&mut self) -> Vec<u32> {
-        let taken: BTreeSet<u32> = self.live.values().flat_map(|s| s.teids()).collect();
-        let mut free: Vec<u32> = self.settings.pool().filter(|t| !taken.contains(t)).collect();
-        self.random.shuffle(&mut free);
+        let Settings { first, size, .. } = *self.settings;
+        let mut places: BTreeSet<u32> = match size <= MOST_LISTED {
+            true => (0..size).collect(),
+            false => [0, 63, 64, size - 65, size - 64, size - 1].into(),
+        };
+        while places.len() < MOST_LISTED.min(size) as usize {
+            places.insert(self.random.below(size as usize) as u32);
+        }
+        let taken = distinct_teids(self.live);
+        let mut free: Vec<u32> = places.into_iter().map(|place| first + place).collect();
+        free.retain(|teid| !taken.contains(teid));
+        if self.random.percent(85) {
+            self.random.shuffle(&mut free);
+        }
         free
     }
 }

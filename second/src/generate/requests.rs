@@ -23,7 +23,7 @@ impl Planner<'_> {
             let (ask, address) = (self.choose(), self.address());
             plan.items.push(Item::CreateEndpoint { id, ask, address });
         }
-        let most = if self.flavour == Flavour::Crowd { 2 } else { 5 };
+        let most = if self.flavour.is_crowd() { 2 } else { 5 };
         self.add_pdrs(&mut plan, None, 1, most);
         let count = self.random.pick(&[0, 0, 1, 1, 2, 6]);
         for node_type in self.node_types().into_iter().take(count) {

@@ -5,11 +5,12 @@
 use std::collections::BTreeSet;
 use std::net::Ipv4Addr;
 
+use super::largest;
 use super::random::Random;
 use crate::element::fq_csid::{NodeId, LARGEST_COUNTRY_AND_NETWORK, LAST_NODE_TYPE};
 use crate::session::{
     records_hold, Endpoint, Families, HeldCsid, Local, Pdr, Session, Sessions, Tunnel,
-    MOST_ENDPOINTS, MOST_PDRS, MOST_SESSIONS,
+    MOST_ENDPOINTS, MOST_PDRS,
 };
 use crate::settings::{Settings, LARGEST_POOL, MOST_ADDRESSES};
 
@@ -23,14 +24,15 @@ pub enum Filling {
 }
 
 /// Settings with room for everything: the pool has as many TEIDs as a table can hold, or more.
-pub fn settings(random: &mut Random, ipv6: bool) -> Settings {
-    let size = random.pick(&[1536, 1537, LARGEST_POOL]);
+pub fn settings(random: &mut Random, ipv6: bool, session_limit: u16) -> Settings {
+    let needed = largest::TEIDS * u32::from(session_limit);
+    let size = random.pick(&[needed, needed + 1, LARGEST_POOL]);
     let first = random.pick(&[1, 4096, u32::MAX - (size - 1)]);
     let ipv4 = std::array::from_fn(|_| random.octet());
     let ipv6 = ipv6.then(|| std::array::from_fn(|_| random.octet()));
     let addresses = random.pick(&[1, 64, 65, MOST_ADDRESSES - 1, MOST_ADDRESSES]);
     let first_address = random.pick(&[0, 0x0A2D_0000, u32::MAX - (addresses - 1)]).into();
-    Settings { ipv4, ipv6, first, size, first_address, addresses }
+    Settings { ipv4, ipv6, first, size, first_address, addresses, session_limit }
 }
 
 /// What of the pools no session of the table holds yet.
@@ -76,9 +78,10 @@ impl Free {
 pub fn sessions(random: &mut Random, settings: &Settings, filling: Filling) -> Sessions {
     let mut free = Free::all(random, settings);
     let mut sessions = Sessions::new();
+    let limit = usize::from(settings.session_limit);
     let many = match filling {
-        Filling::Some => random.between(1, MOST_SESSIONS),
-        Filling::Full => MOST_SESSIONS,
+        Filling::Some => random.between(1, limit),
+        Filling::Full => limit,
     };
     while sessions.len() < many {
         let seid = any_of(random, u64::MAX).max(1);

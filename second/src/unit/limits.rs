@@ -1,12 +1,12 @@
-//! Stage 5, cause 75: "more than 64 sessions, 16 PDRs or 8 endpoints would result, or more TEIDs
-//! are needed than are free at entry"; then cause 79: "A CHOOSE with no free address".
+//! Stage 5, cause 75: more sessions than the session limit, "16 PDRs or 8 endpoints would result, or
+//! more TEIDs are needed than are free at entry"; then cause 79: "A CHOOSE with no free address".
 
 use std::collections::BTreeSet;
 
 use super::{grants, Reason};
 use crate::request::{Kind, Record, Request};
 use crate::session::{distinct_teids, taken_addresses, Session, Sessions};
-use crate::session::{MOST_ENDPOINTS, MOST_PDRS, MOST_SESSIONS};
+use crate::session::{MOST_ENDPOINTS, MOST_PDRS};
 use crate::settings::Settings;
 
 #[derive(Clone, Copy, PartialEq, Eq, PartialOrd, Ord, Debug)]
@@ -58,7 +58,7 @@ pub fn passed(settings: &Settings, sessions: &Sessions, request: &Request) -> Ve
         };
     }
     let by = |restoration, otherwise| if request.restoration { restoration } else { otherwise };
-    if request.header.kind == Kind::Establishment && sessions.len() >= MOST_SESSIONS {
+    if request.header.kind == Kind::Establishment && settings.is_full(sessions.len()) {
         found.push(by(Limit::SessionsByRestoration, Limit::Sessions));
     }
     if pdrs.len() > MOST_PDRS {

@@ -10,7 +10,7 @@ pub mod rules;
 use crate::ie::LEAST_REPLY_SPACE;
 use crate::request;
 use crate::session::{distinct_teids, taken_addresses, Sessions};
-use crate::settings::Settings;
+use crate::settings::{Settings, LARGEST_POOL, MOST_ADDRESSES};
 pub use decision::{Decision, Reason, Refused};
 pub use grants::{Grant, Owner};
 
@@ -22,6 +22,20 @@ pub struct Outcome {
     pub number: u8,
     pub reply_length: usize,
     pub place: usize,
+}
+
+/// The words of the maps: as many as the largest pools need.
+pub const TEID_WORDS: usize = LARGEST_POOL as usize / WORD;
+pub const ADDRESS_WORDS: usize = MOST_ADDRESSES as usize / WORD;
+const WORD: usize = 64;
+
+/// A map with these places taken: bit i of word k (bit 0 the lowest) is place 64 k + i.
+fn map_of<const WORDS: usize>(places: impl Iterator<Item = u32>) -> [u64; WORDS] {
+    let mut words = [0; WORDS];
+    for place in places {
+        words[place as usize / WORD] |= 1 << (place as usize % WORD);
+    }
+    words
 }
 
 #[derive(Clone, PartialEq, Eq, Debug)]
@@ -49,15 +63,11 @@ impl Unit {
         self.settings.size - distinct_teids(&self.sessions).len() as u32
     }
 
-    /// "The map of taken TEIDs is a record of 64 words of 64 bits": word k, bit i (lowest 0) is the
-    /// TEID first + 64 k + i; bits at or past the pool size are 0.
-    pub fn taken_map(&self) -> [u64; 64] {
-        let mut words = [0; 64];
-        for teid in distinct_teids(&self.sessions) {
-            let place = (teid - self.settings.first) as usize;
-            words[place / 64] |= 1 << (place % 64);
-        }
-        words
+    /// "The map of taken TEIDs", which "grows to 1,024 words": word k, bit i is the TEID first + 64 k
+    /// + i; bits at or past the pool size are 0.
+    pub fn taken_map(&self) -> [u64; TEID_WORDS] {
+        let taken = distinct_teids(&self.sessions);
+        map_of(taken.into_iter().map(|teid| teid - self.settings.first))
     }
 
     /// How many addresses of the pool no record holds.
@@ -66,13 +76,9 @@ impl Unit {
     }
 
     /// The taken addresses, as the TEIDs': word k, bit i is the address first + 64 k + i.
-    pub fn address_map(&self) -> [u64; 16] {
-        let mut words = [0; 16];
-        for address in taken_addresses(&self.settings, &self.sessions) {
-            let place = self.settings.address_place(address).expect("it lies in the pool") as usize;
-            words[place / 64] |= 1 << (place % 64);
-        }
-        words
+    pub fn address_map(&self) -> [u64; ADDRESS_WORDS] {
+        let taken = taken_addresses(&self.settings, &self.sessions);
+        map_of(taken.into_iter().filter_map(|address| self.settings.address_place(address)))
     }
 
     /// What the rules say about a message, without doing it.

@@ -175,17 +175,27 @@ pub fn choose_id(id: u8) -> Vec<u8> {
 /// The first address of the units' pool.
 pub const POOL: Ipv4Addr = Ipv4Addr::new(10, 45, 0, 0);
 
+/// The units' session limit where a test does not choose one.
+pub const SESSION_LIMIT: u32 = 64;
+
 pub fn unit(first: u32, size: u32) -> Unit {
     unit_with_addresses((first, size), 4)
 }
 
 /// A unit whose pool has so many addresses.
 pub fn unit_with_addresses(teids: (u32, u32), addresses: u32) -> Unit {
-    Unit::new(Settings::make(IPV4, &[], teids, (POOL, addresses)).unwrap()).unwrap()
+    let settings = Settings::make(IPV4, &[], teids, (POOL, addresses), SESSION_LIMIT);
+    Unit::new(settings.unwrap()).unwrap()
 }
 
 pub fn dual_unit(first: u32, size: u32) -> Unit {
-    Unit::new(Settings::make(IPV4, &IPV6, (first, size), (POOL, 4)).unwrap()).unwrap()
+    let settings = Settings::make(IPV4, &IPV6, (first, size), (POOL, 4), SESSION_LIMIT);
+    Unit::new(settings.unwrap()).unwrap()
+}
+
+/// A unit with this session limit and pool of TEIDs.
+pub fn unit_with_limit(session_limit: u32, teids: (u32, u32)) -> Unit {
+    Unit::new(Settings::make(IPV4, &[], teids, (POOL, 4), session_limit).unwrap()).unwrap()
 }
 
 /// The value of a UE IP Address that is given.

@@ -1,4 +1,5 @@
-//! Messages with as many records of one kind as fit: far more than a session has room for.
+//! Messages with as many records of one kind as fit: far more than a session has room for. Also small
+//! ones, for tables that are full.
 
 const LARGEST_MESSAGE: usize = 2048;
 
@@ -71,6 +72,26 @@ pub fn set_deletion(elements: &[Vec<u8>]) -> Vec<u8> {
 pub fn first(seid: u64) -> Vec<u8> {
     let records = [create_pdr(0, &element(21, &[5])), create_endpoint(0), fq_csid(&[299], 1)];
     message(50, 0, &[f_seid(seid), records.concat()].concat())
+}
+
+/// A restoration of a session without records.
+pub fn restoration(seid: u64) -> Vec<u8> {
+    message(50, 0, &[f_seid(seid), element(186, &[1])].concat())
+}
+
+/// A modification that creates the PDR 1.
+pub fn modification(seid: u64) -> Vec<u8> {
+    message(52, seid, &create_pdr(1, &[]))
+}
+
+pub fn deletion(seid: u64) -> Vec<u8> {
+    message(54, seid, &[])
+}
+
+/// A modification that removes a PDR and creates another with a TEID of its own.
+pub fn exchanged_pdr(seid: u64, old: u16, new: u16) -> Vec<u8> {
+    let removed = element(15, &element(56, &old.to_be_bytes()));
+    message(52, seid, &[removed, create_pdr(new, &element(21, &[5]))].concat())
 }
 
 /// The messages, for a session that lives and one that does not.

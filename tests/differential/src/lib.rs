@@ -4,13 +4,17 @@
 //! * `product`: the calls of a product behind safe functions.
 //! * `spoil`: damage to tables.
 //! * `run`: the comparison.
+//! * `making`: the comparison of making tables.
+//! * `site`: tables that are full, of other limits, and with the largest pool.
 //! * `written`: the comparison of restoration requests.
 //! * `reading`: the comparison of the calls that read a table.
 //! * `crowded`: messages with as many records as fit.
 
 pub mod crowded;
+mod making;
 pub mod product;
 mod reading;
 pub mod run;
+mod site;
 pub mod spoil;
 mod written;

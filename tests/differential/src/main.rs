@@ -12,7 +12,7 @@ const DEFAULT_CALLS: usize = 100_000;
 const MOST_PRINTED: usize = 30;
 
 extern "C" {
-    fn pfcp_table_length() -> usize;
+    fn pfcp_table_length(session_limit: u32) -> usize;
     fn pfcp_make_table(
         table: *mut u8,
         table_len: usize,
@@ -23,6 +23,7 @@ extern "C" {
         pool_size: u32,
         first_address: u32,
         address_count: u32,
+        session_limit: u32,
     ) -> u32;
     fn pfcp_free_count(table: *const u8, table_len: usize, count: *mut u32) -> u32;
     fn pfcp_free_addresses(table: *const u8, table_len: usize, count: *mut u32) -> u32;
@@ -94,6 +95,7 @@ fn compare(seed: u64, calls: usize) -> bool {
 
 fn print(report: &Report, calls: usize) {
     println!("outcomes 0 to 5: {:?}", report.outcomes);
+    println!("refused by a full table, by session limit: {:?}", report.full);
     println!("restored sessions {}, requests written {}", report.restored, report.written);
     println!("SEIDs and TEIDs asked for {}, of these found {}", report.asked, report.found);
     println!("damaged tables {}, of these sound {}", report.damaged, report.still_sound);

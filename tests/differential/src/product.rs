@@ -2,10 +2,10 @@
 
 use std::net::Ipv4Addr;
 
-pub type TableLength = unsafe extern "C" fn() -> usize;
+pub type TableLength = unsafe extern "C" fn(u32) -> usize;
 #[rustfmt::skip]
 pub type MakeTable = unsafe extern "C" fn(
-    *mut u8, usize, u32, *const u8, usize, u32, u32, u32, u32,
+    *mut u8, usize, u32, *const u8, usize, u32, u32, u32, u32, u32,
 ) -> u32;
 pub type FreeCount = unsafe extern "C" fn(*const u8, usize, *mut u32) -> u32;
 pub type Request = unsafe extern "C" fn(
@@ -71,8 +71,8 @@ pub struct Product {
 }
 
 impl Product {
-    pub fn table_length(&self) -> usize {
-        unsafe { (self.table_length)() }
+    pub fn table_length(&self, session_limit: u32) -> usize {
+        unsafe { (self.table_length)(session_limit) }
     }
 
     pub fn make_table(
@@ -82,6 +82,7 @@ impl Product {
         ipv6: &[u8],
         (first, size): (u32, u32),
         (first_address, addresses): (Ipv4Addr, u32),
+        session_limit: u32,
     ) -> u32 {
         unsafe {
             (self.make_table)(
@@ -94,6 +95,7 @@ impl Product {
                 size,
                 first_address.into(),
                 addresses,
+                session_limit,
             )
         }
     }

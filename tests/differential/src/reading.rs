@@ -1,6 +1,8 @@
 //! The calls that read a table: how many sessions, the place of a SEID, the place of a TEID's holder,
 //! each compared with the second implementation's answer.
 
+use std::collections::BTreeMap;
+
 use second::generate::tables::{self, Filling};
 use second::layout;
 use second::session::{self, Sessions};
@@ -9,8 +11,12 @@ use second::settings::Settings;
 use crate::product::Reading;
 use crate::run::{Lent, Run};
 
-/// Tables drawn at random, before the sequences; every TEID of the pool is asked for in them.
+/// Tables drawn at random, before the sequences, and their session limits.
 const TABLES: usize = 40;
+const LIMITS: [u16; 7] = [64, 5, 40, 256, 1, 64, 20];
+
+/// A pool of more TEIDs is asked for the ends of each word of its map only.
+const MOST_ASKED: u32 = 10_000;
 
 /// The outcomes for a number and for none.
 fn told(place: Option<usize>) -> (u32, usize) {
@@ -18,18 +24,24 @@ fn told(place: Option<usize>) -> (u32, usize) {
 }
 
 impl Run<'_> {
-    /// Tables drawn at random: each SEID and its neighbours, each TEID of the pool and around it.
+    /// Tables drawn at random: each SEID and its neighbours, the TEIDs of the pool and around it.
     pub(crate) fn found_in_random_tables(&mut self) {
         for number in 0..TABLES {
-            let settings = tables::settings(&mut self.random, number % 3 > 0);
+            let limit = LIMITS[number % LIMITS.len()];
+            let settings = tables::settings(&mut self.random, number % 3 > 0, limit);
             let filling = if number % 20 == 0 { Filling::Full } else { Filling::Some };
             let sessions = tables::sessions(&mut self.random, &settings, filling);
             self.found_places(&settings, &sessions);
             let Some(reading) = self.product.reading else { return };
             let table = Lent::new(&layout::encode(&settings, &sessions));
             let before = settings.first.saturating_sub(3);
-            for teid in before..=settings.first.saturating_add(settings.size).saturating_add(2) {
-                self.one_teid(reading, &table, &sessions, teid);
+            let after = settings.first.saturating_add(settings.size).saturating_add(2);
+            let holders = session::holders(&sessions);
+            let at_an_end = |teid: u32| matches!(teid.wrapping_sub(settings.first) % 64, 0 | 63);
+            for teid in before..=after {
+                if settings.size <= MOST_ASKED || at_an_end(teid) {
+                    self.one_teid(reading, &table, &holders, teid);
+                }
             }
         }
     }
@@ -48,13 +60,14 @@ impl Run<'_> {
         for seid in [0, 1, u64::from(settings.first), u64::MAX] {
             self.one_seid(reading, &table, sessions, seid);
         }
-        for teid in session::distinct_teids(sessions) {
-            self.one_teid(reading, &table, sessions, teid);
-            self.one_teid(reading, &table, sessions, teid.wrapping_add(1));
+        let holders = session::holders(sessions);
+        for teid in holders.keys() {
+            self.one_teid(reading, &table, &holders, *teid);
+            self.one_teid(reading, &table, &holders, teid.wrapping_add(1));
         }
         let any = settings.first.wrapping_add(self.random.below(settings.size as usize) as u32);
         for teid in [0, 1, settings.first, any, settings.first.wrapping_sub(1), u32::MAX] {
-            self.one_teid(reading, &table, sessions, teid);
+            self.one_teid(reading, &table, &holders, teid);
         }
         let guarded = table.guards_hold() && table.content() == layout::encode(settings, sessions);
         self.report.check(guarded, || "a table that was read is written to".into());
@@ -82,8 +95,14 @@ impl Run<'_> {
             .check(given == expected, || format!("SEID {seid}: {given:?} instead of {expected:?}"));
     }
 
-    fn one_teid(&mut self, reading: Reading, table: &Lent, sessions: &Sessions, teid: u32) {
-        let expected = told(session::place_of_holder(sessions, teid));
+    fn one_teid(
+        &mut self,
+        reading: Reading,
+        table: &Lent,
+        holders: &BTreeMap<u32, usize>,
+        teid: u32,
+    ) {
+        let expected = told(holders.get(&teid).copied());
         let given = reading.find_teid(table.content(), teid);
         self.report.asked += 1;
         self.report.found += usize::from(expected.0 == 0);

@@ -1,7 +1,6 @@
 //! The comparison: generated sequences of calls, restorations, and damaged tables.
 
 use std::collections::{BTreeMap, BTreeSet};
-use std::net::Ipv4Addr;
 
 use second::coverage::Coverage;
 use second::element::fq_csid::NodeId;
@@ -9,25 +8,27 @@ use second::generate::largest;
 use second::generate::random::Random;
 use second::generate::{Call, Flavour, Generator};
 use second::ie::LEAST_REPLY_SPACE;
-use second::layout::{self, TABLE};
+use second::layout;
 use second::live::LiveSet;
 use second::restoration::{self, Envelope};
 use second::session::{distinct_teids, taken_addresses, Sessions};
-use second::settings::Settings;
-use second::unit::{Decision, Unit};
+use second::settings::{Settings, LARGEST_LIMIT};
+use second::unit::limits::Limit;
+use second::unit::{Decision, Reason, Unit};
 
 use crate::crowded;
 use crate::product::Product;
+use crate::site;
 use crate::spoil::{self, REASONS};
 
 /// From this many calls on, a run must have met every counter.
 pub const CALLS_FOR_WHOLE_COVERAGE: usize = 20_000;
 
-/// Generated calls on the largest table, before the sequences.
-const CALLS_ON_LARGEST: usize = 500;
+/// Generated calls on the largest tables, by session limit, before the sequences.
+const CALLS_ON_LARGEST: [(u16, usize); 3] = [(5, 300), (64, 200), (LARGEST_LIMIT, 50)];
 
 /// The octet around lent slices, and in a reply space before a call.
-const FILLING: u8 = 0xA5;
+pub(crate) const FILLING: u8 = 0xA5;
 const GUARD: usize = 64;
 
 /// Octets to lend, with guards before and after them.
@@ -70,7 +71,7 @@ impl Lent {
 }
 
 /// What a call of the product gave: outcome, reply, place and the reply space after it.
-struct Answer {
+pub(crate) struct Answer {
     outcome: u32,
     used: usize,
     place: usize,
@@ -78,7 +79,7 @@ struct Answer {
 }
 
 impl Answer {
-    fn reply(&self) -> &[u8] {
+    pub(crate) fn reply(&self) -> &[u8] {
         let space = self.space.content();
         &space[..self.used.min(space.len())]
     }
@@ -89,10 +90,19 @@ impl Answer {
 }
 
 /// What one sequence has brought about, on both sides.
-struct State {
-    unit: Unit,
-    live: LiveSet,
-    table: Lent,
+pub(crate) struct State {
+    pub(crate) unit: Unit,
+    pub(crate) live: LiveSet,
+    pub(crate) table: Lent,
+}
+
+impl State {
+    /// A unit, and a table with the same records.
+    pub(crate) fn of(unit: Unit) -> State {
+        let live = LiveSet { sessions: unit.sessions().clone() };
+        let table = Lent::new(&layout::encode(unit.settings(), unit.sessions()));
+        State { unit, live, table }
+    }
 }
 
 pub struct Report {
@@ -113,6 +123,8 @@ pub struct Report {
     pub outcomes: [u64; 6],
     /// How often a table was broken for each reason.
     pub reasons: BTreeMap<&'static str, u64>,
+    /// How often an establishment was refused only because the table was full, by session limit.
+    pub full: BTreeMap<u16, u64>,
 }
 
 impl Report {
@@ -130,6 +142,7 @@ impl Report {
             coverage: Coverage::new(),
             outcomes: [0; 6],
             reasons: REASONS.iter().map(|reason| (*reason, 0)).collect(),
+            full: site::LIMITS.iter().map(|limit| (*limit, 0)).collect(),
         }
     }
 
@@ -156,6 +169,9 @@ impl Report {
                 unmet.push(format!("a table broken by: {reason}"));
             }
         }
+        for (limit, _) in self.full.iter().filter(|(_, count)| **count == 0) {
+            unmet.push(format!("a full table of session limit {limit}"));
+        }
         if self.still_sound == 0 {
             unmet.push("a damaged table that is sound".to_string());
         }
@@ -166,9 +182,12 @@ impl Report {
 /// Runs so many generated calls from a seed.
 pub fn run(product: &Product, seed: u64, calls: usize) -> Report {
     let mut run = Run { product, report: Report::new(), random: Random::new(!seed) };
-    run.fixed_settings();
-    run.largest_table(&mut Generator::new(!seed));
-    run.sets_of_largest_table();
+    run.made_tables();
+    let mut generator = Generator::new(!seed);
+    for (limit, calls) in CALLS_ON_LARGEST {
+        run.largest_tables(&mut generator, limit, calls);
+    }
+    run.sites(&mut generator);
     run.crowded_messages();
     run.written_of_random_tables();
     run.found_in_random_tables();
@@ -196,6 +215,7 @@ impl Run<'_> {
     /// One generated sequence. It ends at its first difference.
     fn sequence(&mut self, generator: &mut Generator, calls: usize) {
         let mut scenario = generator.scenario();
+        self.refused_making(generator, &scenario.settings);
         let Some(mut state) = self.empty_state(&scenario.settings) else { return };
         for number in 0..scenario.calls.min(calls - self.report.calls) {
             let call = generator.call(&mut scenario, &state.live.sessions);
@@ -207,18 +227,19 @@ impl Run<'_> {
             if number % 4 == 3 {
                 self.damaged_table(&state, &call);
             }
-            if number % 60 == 59 {
+            // The largest ones take long and are restored at the end only.
+            if number % 60 == 59 && scenario.flavour != Flavour::Site {
                 self.restore_all(&state);
             }
         }
         self.restore_all(&state);
-        let positions = if scenario.flavour == Flavour::Crowd { 100 } else { 25 };
+        let positions = if scenario.flavour.is_crowd() { 100 } else { 25 };
         self.single_octets(state.table.content(), positions);
     }
 
     fn empty_table(&mut self, settings: &Settings) -> Option<Lent> {
         // Made over any content.
-        let mut content = vec![0; TABLE];
+        let mut content = vec![0; layout::length(settings.session_limit)];
         let filling = self.random.octet();
         content.fill(filling);
         let mut table = Lent::new(&content);
@@ -229,6 +250,7 @@ impl Run<'_> {
             ipv6,
             (settings.first, settings.size),
             (settings.first_address, settings.addresses),
+            settings.session_limit.into(),
         );
         let right = made == 0
             && table.guards_hold()
@@ -236,18 +258,18 @@ impl Run<'_> {
         self.report.check(right, || format!("an empty table for {settings:?}")).then_some(table)
     }
 
-    fn empty_state(&mut self, settings: &Settings) -> Option<State> {
+    pub(crate) fn empty_state(&mut self, settings: &Settings) -> Option<State> {
         let table = self.empty_table(settings)?;
         let unit = Unit::new(settings.clone()).expect("settings that are allowed");
-        Some(State { unit, live: LiveSet::new(), table })
+        Some(State { table, ..State::of(unit) })
     }
 
     /// The product's answers to both free counts: TEIDs and addresses.
-    fn free(&self, table: &[u8]) -> [(u32, u32); 2] {
+    pub(crate) fn free(&self, table: &[u8]) -> [(u32, u32); 2] {
         [self.product.free_count(table), self.product.free_addresses(table)]
     }
 
-    fn ask(&mut self, table: &mut Lent, message: &[u8], space: usize) -> Answer {
+    pub(crate) fn ask(&mut self, table: &mut Lent, message: &[u8], space: usize) -> Answer {
         let mut space = Lent::filled(space);
         let (outcome, used, place) = self.product.request(table.lend(), message, space.lend());
         if let Some(count) = self.report.outcomes.get_mut(outcome as usize) {
@@ -257,13 +279,16 @@ impl Run<'_> {
     }
 
     /// One call on both sides; whether all was the same.
-    fn one_call(&mut self, state: &mut State, call: &Call) -> bool {
+    pub(crate) fn one_call(&mut self, state: &mut State, call: &Call) -> bool {
         let before = state.unit.sessions().clone();
         let table_before = state.table.content().to_vec();
         let decision = state.unit.decide(&call.message, call.reply_space);
         let settings = state.unit.settings().clone();
         let coverage = &mut self.report.coverage;
         coverage.decided(&call.message, call.reply_space, &decision, &settings, &before);
+        if is_full(&decision) {
+            *self.report.full.entry(settings.session_limit).or_insert(0) += 1;
+        }
         let mut expected = vec![FILLING; call.reply_space];
         let outcome = state.unit.request(&call.message, &mut expected);
         expected.truncate(outcome.reply_length);
@@ -311,15 +336,18 @@ impl Run<'_> {
         report.check(right, || what("other free addresses")) && same
     }
 
-    /// A damaged copy of the table: outcome 1 exactly where it is broken, and the answer of a unit
-    /// with the same records where it is sound all the same.
+    /// A call on a damaged copy of the table.
     fn damaged_table(&mut self, state: &State, call: &Call) {
         let mut content = state.table.content().to_vec();
         for _ in 0..self.random.pick(&[1, 1, 1, 2]) {
-            if content.len() == TABLE {
-                spoil::spoil(&mut content, &mut self.random);
-            }
+            spoil::spoil(&mut content, &mut self.random);
         }
+        self.changed_table(content, call);
+    }
+
+    /// A call on these octets: outcome 1 exactly where they are a broken table, and the answer of a
+    /// unit with the same records where they are sound.
+    pub(crate) fn changed_table(&mut self, content: Vec<u8>, call: &Call) {
         let mut table = Lent::new(&content);
         let free = self.free(table.content());
         let answer = self.ask(&mut table, &call.message, call.reply_space);
@@ -369,7 +397,7 @@ impl Run<'_> {
     }
 
     /// A unit of the second implementation with these records.
-    fn unit_with(&mut self, settings: &Settings, sessions: &Sessions) -> Option<Unit> {
+    pub(crate) fn unit_with(&mut self, settings: &Settings, sessions: &Sessions) -> Option<Unit> {
         let mut unit = Unit::new(settings.clone())?;
         for (seid, session) in sessions {
             let envelope =
@@ -383,7 +411,7 @@ impl Run<'_> {
     }
 
     /// Single octets of a table changed: outcome 1 exactly where that breaks it.
-    fn single_octets(&mut self, table: &[u8], positions: usize) {
+    pub(crate) fn single_octets(&mut self, table: &[u8], positions: usize) {
         let mut table = Lent::new(table);
         for _ in 0..positions {
             let at = spoil::an_offset(table.content(), &mut self.random);
@@ -414,7 +442,7 @@ impl Run<'_> {
     }
 
     /// Restores every live session, in any order, into an empty table: it becomes the same table.
-    fn restore_all(&mut self, state: &State) {
+    pub(crate) fn restore_all(&mut self, state: &State) {
         let (settings, live) = (state.unit.settings(), &state.live.sessions);
         let Some(mut table) = self.empty_table(settings) else { return };
         let mut seids: Vec<u64> = live.keys().copied().collect();
@@ -440,29 +468,47 @@ impl Run<'_> {
         self.found_places(settings, live);
     }
 
-    /// A table with everything that it has room for, brought about by restorations: damaged, then
-    /// with some generated calls, then emptied.
-    fn largest_table(&mut self, generator: &mut Generator) {
-        let (settings, sessions) = (largest::settings(), largest::sessions());
+    /// A table with everything that it has room for.
+    fn largest_tables(&mut self, generator: &mut Generator, limit: u16, calls: usize) {
+        let (settings, sessions) = (largest::settings(limit), largest::sessions(limit));
         let Some(unit) = self.unit_with(&settings, &sessions) else { return };
-        let live = LiveSet { sessions: sessions.clone() };
-        let table = Lent::new(&layout::encode(&settings, &sessions));
-        let mut state = State { unit, live, table };
+        self.sets_of_largest_table(&unit);
+        if let Some(state) = self.largest_table(generator, unit, calls) {
+            // The largest one of all takes too long.
+            if limit < LARGEST_LIMIT {
+                self.emptied_table(state);
+            }
+        }
+    }
+
+    /// Brought about by restorations, damaged, then with some generated calls.
+    fn largest_table(
+        &mut self,
+        generator: &mut Generator,
+        unit: Unit,
+        calls: usize,
+    ) -> Option<State> {
+        let settings = unit.settings().clone();
+        let mut state = State::of(unit);
         self.restore_all(&state);
         let free = self.free(state.table.content());
         self.report.check(free == [(0, 0); 2], || format!("free {free:?} of the largest table"));
-        self.single_octets(state.table.content(), 1000);
+        self.single_octets(state.table.content(), 300);
         let mut scenario = generator.scenario();
         scenario.settings = settings;
         scenario.flavour = Flavour::Full;
-        for _ in 0..CALLS_ON_LARGEST {
+        for _ in 0..calls {
             let call = generator.call(&mut scenario, &state.live.sessions);
             if !self.one_call(&mut state, &call) {
-                return;
+                return None;
             }
         }
         self.restore_all(&state);
-        // Every session is deleted, the table stays right, and nothing is left at the end.
+        Some(state)
+    }
+
+    /// Every session is deleted, the table stays right, and nothing is left at the end.
+    fn emptied_table(&mut self, mut state: State) {
         let mut seids: Vec<u64> = state.live.sessions.keys().copied().collect();
         self.random.shuffle(&mut seids);
         for seid in seids {
@@ -473,10 +519,13 @@ impl Run<'_> {
         }
         let empty = state.unit.sessions().is_empty();
         self.report.check(empty, || "sessions left after their deletion".into());
-        // Every octet of the empty table.
-        let table = state.table.content().to_vec();
-        for at in 0..TABLE {
-            let mut changed = table.clone();
+        self.every_octet(state.table.content());
+    }
+
+    /// Every octet of a table, changed by one bit.
+    fn every_octet(&mut self, table: &[u8]) {
+        for at in 0..table.len() {
+            let mut changed = table.to_vec();
             changed[at] ^= 1 << self.random.below(8);
             let outcomes = self.free(&changed).map(|free| free.0);
             let right = outcomes == [u32::from(layout::sound(&changed).is_err()); 2];
@@ -485,24 +534,21 @@ impl Run<'_> {
     }
 
     /// Set deletions on the largest table: none, the first, the last, every second, all.
-    fn sets_of_largest_table(&mut self) {
-        let (settings, sessions) = (largest::settings(), largest::sessions());
-        let chosen: [fn(u16) -> bool; 8] = [
-            |_| false,
-            |number| number == 0,
-            |number| number == 63,
-            |number| number % 2 == 1,
-            |number| number % 3 == 0,
-            |number| number != 0,
-            |number| number != 63,
-            |_| true,
+    fn sets_of_largest_table(&mut self, unit: &Unit) {
+        let limit = unit.settings().session_limit;
+        let chosen: [fn(u16, u16) -> bool; 8] = [
+            |_, _| false,
+            |number, _| number == 0,
+            |number, last| number == last,
+            |number, _| number % 2 == 1,
+            |number, _| number % 3 == 0,
+            |number, _| number != 0,
+            |number, last| number != last,
+            |_, _| true,
         ];
         for (choice, node_type) in chosen.into_iter().flat_map(|c| (0..6).map(move |n| (c, n))) {
-            let Some(unit) = self.unit_with(&settings, &sessions) else { return };
-            let live = LiveSet { sessions: sessions.clone() };
-            let table = Lent::new(&layout::encode(&settings, &sessions));
-            let mut state = State { unit, live, table };
-            let numbers = (0..64).filter(|number| choice(*number));
+            let mut state = State::of(unit.clone());
+            let numbers = (0..limit).filter(|number| choice(*number, limit - 1));
             let csids: BTreeSet<u16> = numbers.map(|n| largest::csid(node_type, n)).collect();
             let lists: Vec<u16> = csids.iter().copied().collect();
             let NodeId::Ipv6(address) = largest::node(node_type) else { return };
@@ -513,7 +559,7 @@ impl Run<'_> {
             let message = crowded::set_deletion(&elements);
             self.one_call(&mut state, &Call { message, reply_space: LEAST_REPLY_SPACE });
             let stays = |number: &u16| !csids.contains(&largest::csid(node_type, *number));
-            let left = (0..64).filter(stays).count();
+            let left = (0..limit).filter(stays).count();
             let right = state.live.sessions.len() == left;
             self.report.check(right, || format!("{left} sessions of the largest table stay"));
         }
@@ -523,59 +569,21 @@ impl Run<'_> {
     fn crowded_messages(&mut self) {
         let (live, new) = (1, 2);
         for message in crowded::messages(live, new) {
-            let Some(mut state) = self.empty_state(&largest::settings()) else { return };
+            let Some(mut state) = self.empty_state(&largest::settings(64)) else { return };
             let first = Call { message: crowded::first(live), reply_space: LEAST_REPLY_SPACE };
             self.one_call(&mut state, &first);
             self.one_call(&mut state, &Call { message, reply_space: LEAST_REPLY_SPACE });
             self.restore_all(&state);
         }
     }
+}
 
-    /// Making tables: settings at the edges, and lengths.
-    fn fixed_settings(&mut self) {
-        let length = self.product.table_length();
-        self.report.check(length == TABLE, || format!("a table length of {length}"));
-        let last = u32::MAX;
-        let teids = [(0, 1), (1, 0), (1, 1), (1, 4096), (1, 4097), (4096, last), (last, 1)];
-        let at_the_end = [(last, 2), (last - 4095, 4096), (last - 4094, 4096)];
-        for teids in teids.into_iter().chain(at_the_end) {
-            for ipv6_length in [0, 1, 15, 16, 17] {
-                for table_length in [0, 1, TABLE - 1, TABLE, TABLE + 1] {
-                    self.one_making(ipv6_length, teids, (0x0A00_0000, 254), table_length);
-                }
-            }
-        }
-        let addresses = [(0, 0), (0, 1), (0, 1024), (0, 1025), (7, last), (last, 0), (last, 1)];
-        let at_the_end = [(last, 2), (last - 1023, 1024), (last - 1022, 1024), (last - 1022, 1023)];
-        for addresses in addresses.into_iter().chain(at_the_end) {
-            for table_length in [TABLE - 1, TABLE] {
-                self.one_making(16, (1, 1), addresses, table_length);
-            }
-        }
-    }
-
-    fn one_making(
-        &mut self,
-        ipv6_length: usize,
-        teids: (u32, u32),
-        addresses: (u32, u32),
-        table_length: usize,
-    ) {
-        let (ipv4, ipv6) = ([10, 0, 0, 1], &[7_u8; 17][..ipv6_length]);
-        let addresses = (Ipv4Addr::from(addresses.0), addresses.1);
-        let mut table = Lent::filled(table_length);
-        let made = self.product.make_table(table.lend(), ipv4, ipv6, teids, addresses);
-        let allowed = Settings::make(ipv4, ipv6, teids, addresses);
-        let right = match allowed.filter(|_| table_length == TABLE) {
-            Some(settings) => {
-                made == 0 && table.content() == layout::encode(&settings, &Sessions::new())
-            }
-            None => made == 1 && table.content().iter().all(|octet| *octet == FILLING),
-        };
-        self.report.check(right && table.guards_hold(), || {
-            format!("made {made}: TEIDs {teids:?}, addresses {addresses:?}, IPv6 of {ipv6_length}")
-        });
-    }
+/// Whether an establishment is refused only because the table is full.
+fn is_full(decision: &Decision) -> bool {
+    let full = |reasons: &[Reason]| {
+        matches!(reasons, [Reason::Limit(Limit::Sessions | Limit::SessionsByRestoration)])
+    };
+    matches!(decision, Decision::Refused(refused) if full(&refused.reasons))
 }
 
 /// Both free counts of a broken table.

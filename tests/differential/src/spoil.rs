@@ -2,25 +2,62 @@
 
 use std::net::Ipv4Addr;
 
-use second::element::fq_csid::NodeId;
+use second::element::fq_csid::{NodeId, LAST_NODE_TYPE};
 use second::generate::random::Random;
-use second::session::{Families, Local, Session, Tunnel};
-use second::settings::Settings;
+use second::session::{Families, Local, Session, Tunnel, MOST_ENDPOINTS, MOST_PDRS};
+use second::settings::{Settings, LARGEST_LIMIT, LARGEST_POOL};
 
 use second::layout::*;
 
-/// One piece of damage. The length may change.
+/// One piece of damage. The length may change; a table without a slot is left alone.
 pub fn spoil(table: &mut Vec<u8>, random: &mut Random) {
+    if table.len() < SLOTS + SLOT {
+        return;
+    }
     match random.below(20) {
-        0 => {
-            let length = random.pick(&[0, 1, 37, SLOTS, TABLE - 1, TABLE + 1, TABLE - SLOT]);
-            table.resize(length, 0);
-        }
+        0 => change_limit(table, random),
         1..=7 => change_an_octet(table, random),
         8 => swap_records(table, random),
         9 => copy_a_record(table, random),
         _ => change_a_record(table, random),
     }
+}
+
+/// The limit's octets, the length, or both. Where both change by one slot the table may stay sound.
+fn change_limit(table: &mut Vec<u8>, random: &mut Random) {
+    let (limit, length) = (slots(table) as u16, table.len());
+    let lengths = [0, 1, LIMIT, COUNT, SLOTS - 1, SLOTS, length - 1, length + 1];
+    let limits = [0, 1, limit - 1, limit + 1, limit << 8, LARGEST_LIMIT, LARGEST_LIMIT + 1];
+    match random.below(6) {
+        0 => table.resize(random.pick(&lengths), 0),
+        1 => table.resize(random.pick(&[length - SLOT, length + SLOT]), 0),
+        2 => write_limit(table, random.pick(&limits)),
+        3 => {
+            table.resize(length - SLOT, 0);
+            write_limit(table, limit - 1);
+        }
+        more => {
+            table.resize(length + SLOT, 0);
+            write_limit(table, limit + 1);
+            // Also with an octet in the new slot.
+            table[length + random.below(SLOT)] = u8::from(more == 4);
+        }
+    }
+}
+
+/// Writes a session limit into the settings.
+pub fn write_limit(table: &mut [u8], limit: u16) {
+    table[LIMIT..COUNT].copy_from_slice(&limit.to_be_bytes());
+}
+
+/// How many slots there are.
+fn slots(table: &[u8]) -> usize {
+    (table.len() - SLOTS) / SLOT
+}
+
+/// How many sessions it says there are, as far as there are slots.
+fn count(table: &[u8]) -> usize {
+    usize::from(u16::from_be_bytes([table[COUNT], table[COUNT + 1]])).min(slots(table))
 }
 
 fn change_an_octet(table: &mut [u8], random: &mut Random) {
@@ -35,10 +72,10 @@ fn change_an_octet(table: &mut [u8], random: &mut Random) {
 
 /// A random offset, more often where records stand than in unused room.
 pub fn an_offset(table: &[u8], random: &mut Random) -> usize {
-    let count = usize::from(table[SLOTS - 1]).min(64);
+    let count = count(table);
     match random.below(10) {
         0 => random.below(SLOTS),
-        1 => random.below(TABLE),
+        1 => random.below(table.len()),
         _ if count == 0 => random.below(SLOTS + SLOT),
         chance => {
             let slot = SLOTS + SLOT * random.below(count);
@@ -61,13 +98,15 @@ fn some(count: u8, last: usize, random: &mut Random) -> usize {
 
 /// The offset, size and count of an area of records: the sessions, or one of a session's.
 fn an_area(table: &[u8], random: &mut Random) -> (usize, usize, usize) {
-    let count = usize::from(table[SLOTS - 1]).min(64);
+    let count = count(table);
     let slot = SLOTS + SLOT * random.below(count.max(1));
+    // Earlier damage may count more than there is room for.
+    let said = |at: usize, most: usize| usize::from(table[slot + at]).min(most);
     match random.below(4) {
         0 => (SLOTS, SLOT, count),
-        1 => (slot + PDRS, PDR, usize::from(table[slot + 8])),
-        2 => (slot + ENDPOINTS, ENDPOINT, usize::from(table[slot + 9])),
-        _ => (slot + FQ_CSIDS, FQ_CSID, usize::from(table[slot + 10])),
+        1 => (slot + PDRS, PDR, said(8, MOST_PDRS)),
+        2 => (slot + ENDPOINTS, ENDPOINT, said(9, MOST_ENDPOINTS)),
+        _ => (slot + FQ_CSIDS, FQ_CSID, said(10, usize::from(LAST_NODE_TYPE) + 1)),
     }
 }
 
@@ -122,7 +161,7 @@ fn change_settings(settings: &mut Settings, random: &mut Random) {
         0 => settings.ipv6 = None,
         1 => settings.first = random.pick(&[0, 1, u32::MAX]),
         2 => settings.first = settings.first.wrapping_add(1),
-        3 => settings.size = random.pick(&[0, 1, 4096, 4097, u32::MAX]),
+        3 => settings.size = random.pick(&[0, 1, LARGEST_POOL, LARGEST_POOL + 1, u32::MAX]),
         4 => settings.size = settings.size.wrapping_sub(1),
         _ => settings.ipv4 = [0; 4],
     }
@@ -202,8 +241,11 @@ fn change_session(session: &mut Session, settings: &Settings, teids: &[u32], ran
 }
 
 /// The parts of `layout::sound`'s reasons by which a run of damage is counted.
-pub const REASONS: [&str; 14] = [
-    "a wrong length",
+pub const REASONS: [&str; 17] = [
+    "a length under that of its settings",
+    "a session limit that is not allowed",
+    "another length than its session limit's",
+    "more sessions than its session limit",
     "an octet without a meaning",
     "settings that are not allowed",
     "octets that its records do not encode to",

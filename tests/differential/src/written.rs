@@ -9,8 +9,9 @@ use second::settings::Settings;
 
 use crate::run::{Lent, Run};
 
-/// Tables drawn at random, before the sequences.
+/// Tables drawn at random, before the sequences, and their session limits.
 const TABLES: usize = 200;
+const LIMITS: [u16; 5] = [64, 5, 64, 1, 100];
 
 /// What is asked for: a place, the control plane's addresses and a space.
 struct Wish<'a> {
@@ -24,7 +25,8 @@ impl Run<'_> {
     /// Every place of tables drawn at random.
     pub(crate) fn written_of_random_tables(&mut self) {
         for number in 0..TABLES {
-            let settings = tables::settings(&mut self.random, number % 3 > 0);
+            let limit = LIMITS[number % LIMITS.len()];
+            let settings = tables::settings(&mut self.random, number % 3 > 0, limit);
             let filling = if number % 20 == 0 { Filling::Full } else { Filling::Some };
             let sessions = tables::sessions(&mut self.random, &settings, filling);
             self.written_requests(&settings, &sessions);
@@ -53,7 +55,8 @@ impl Run<'_> {
             self.no_address(&mut table, place);
             self.report.written += 1;
         }
-        for place in [sessions.len(), sessions.len() + 1, 64, 65, usize::MAX] {
+        let limit = usize::from(settings.session_limit);
+        for place in [sessions.len(), sessions.len() + 1, limit, limit + 1, usize::MAX] {
             if place >= sessions.len() {
                 let wish = self.any_wish(place);
                 self.one_wish(&mut table, wish, 2, &[]);
@@ -66,7 +69,7 @@ impl Run<'_> {
         if self.product.write_restoration.is_none() {
             return;
         }
-        let place = self.random.pick(&[0, 1, 63, 64, usize::MAX]);
+        let place = self.random.pick(&[0, 1, 63, 64, 255, 256, usize::MAX]);
         let wish = self.any_wish(place);
         self.one_wish(&mut Lent::new(content), wish, 1, &[]);
     }
