@@ -1,13 +1,13 @@
 -- A session's slot: endpoints first, then PDRs; and its offsets are those that the session holds.
 -- Assumes nothing.
 use mathlib.Core.Path.{_≡_, refl, sym, ap, ap₂, subst, _∙_}
-use mathlib.Core.Bool.{Bool, true, false, _&&_, _||_, or-assoc}
+use mathlib.Core.Bool.{Bool, true, false, _||_, or-assoc}
 use mathlib.Core.Option.{Option, none, some}
 use mathlib.Core.List.{List, [], _∷_, _++_, map}
 use Prim.Native.Nat.{ℕ, suc, _+_, _-_, _≤_, zero-le, suc-le-suc}
 use native.Mathlib.Nat.{le-trans, le-of-eq}
 use native.Mathlib.Omega.{arith}
-use lib.Dec.{T, leb, ltb}
+use lib.Dec.{T}
 use lib.ListN.{length, getD, length-append}
 use Rattle.octets.specs.Choice.{pick, consOption}
 use Rattle.octets.specs.Octets.{octetAt, slices}
@@ -24,7 +24,7 @@ use Rattle.sessions.specs.Slot.{headSound, pdrArea, endpointArea}
 use Rattle.sessions.proofs.SlotLaws.{Counts, counts-headed, slotOf, view-slot}
 use Rattle.addresses.specs.declared.Met.{Met}
 use Rattle.addresses.specs.declared.Met.the-variants.{Clash, New}
-use Rattle.addresses.specs.Offsets.{addressAt, offsetOf, offsetsIn, slotOffsets, meets, heldOffsets, addressPool, Marked, Admitted}
+use Rattle.addresses.specs.Offsets.{addressAt, offsetOf, offsetsIn, slotOffsets, meets, heldOffsets, Marked, Admitted}
 
 -- ---- one list of offsets and then another
 
@@ -61,44 +61,44 @@ length-collect f (xs ∷ xss) = one (f xs) (length-collect f xss)
     one none h = le-trans h (omega arith)
     one (some k) h = suc-le-suc h
 
-length-offsets : (first count w at n : ℕ) (a : List ℕ) → length (offsetsIn first count w at n a) ≤ n
+length-offsets : (s : Settings) (w at n : ℕ) (a : List ℕ) → length (offsetsIn s w at n a) ≤ n
 unfolding offsetsIn
-length-offsets first count w at n a =
-    le-trans (length-collect (λ xs. offsetOf first count (addressAt at xs)) (slices w n a)) (le-of-eq (length-slices w n a))
+length-offsets s w at n a =
+    le-trans (length-collect (λ xs. offsetOf s (addressAt at xs)) (slices w n a)) (le-of-eq (length-slices w n a))
 
-module _ (first count : ℕ) (ws xs : List ℕ) where
+module _ (s : Settings) (ws xs : List ℕ) where
   abbrev pub endsOf : List ℕ
-  endsOf = offsetsIn first count endpointWidth 6 (getD xs endpointCountAt 0) (endpointArea xs)
+  endsOf = offsetsIn s endpointWidth 6 (getD xs endpointCountAt 0) (endpointArea xs)
 
   abbrev pub pdrsOf : List ℕ
-  pdrsOf = offsetsIn first count pdrWidth 19 (getD xs pdrCountAt 0) (pdrArea xs)
+  pdrsOf = offsetsIn s pdrWidth 19 (getD xs pdrCountAt 0) (pdrArea xs)
 
-  offsets-are : slotOffsets first count xs ≡ endsOf ++ pdrsOf
+  offsets-are : slotOffsets s xs ≡ endsOf ++ pdrsOf
   unfolding slotOffsets octetAt
   offsets-are = refl
 
-  any-slot : any (marked ws) (slotOffsets first count xs) ≡ (any (marked ws) endsOf || any (marked ws) pdrsOf)
+  any-slot : any (marked ws) (slotOffsets s xs) ≡ (any (marked ws) endsOf || any (marked ws) pdrsOf)
   any-slot = ap (any (marked ws)) offsets-are ∙ any-both ws endsOf pdrsOf
 
   module _ (e : Met) (qe : e ≡ meets ws endsOf) where
-    pub meet-ends : e ≡ Clash → Clash ≡ meets ws (slotOffsets first count xs)
+    pub meet-ends : e ≡ Clash → Clash ≡ meets ws (slotOffsets s xs)
     unfolding meets
-    meet-ends z = let t : any (marked ws) (slotOffsets first count xs) ≡ true = any-slot ∙ rw (meets-clash ws endsOf e qe z) in sym (rw t)
+    meet-ends z = let t : any (marked ws) (slotOffsets s xs) ≡ true = any-slot ∙ rw (meets-clash ws endsOf e qe z) in sym (rw t)
 
     module _ (k : ℕ) (ze : e ≡ New k) (p : Met) (qp : p ≡ meets ws pdrsOf) where
-      pub meet-pdrs : p ≡ Clash → Clash ≡ meets ws (slotOffsets first count xs)
+      pub meet-pdrs : p ≡ Clash → Clash ≡ meets ws (slotOffsets s xs)
       unfolding meets
       meet-pdrs z =
-          let t : any (marked ws) (slotOffsets first count xs) ≡ true = any-slot ∙ rw (meets-new ws endsOf e qe k ze .0) (meets-clash ws pdrsOf p qp z) in
+          let t : any (marked ws) (slotOffsets s xs) ≡ true = any-slot ∙ rw (meets-new ws endsOf e qe k ze .0) (meets-clash ws pdrsOf p qp z) in
           sym (rw t)
 
-      pub meet-whole : (j : ℕ) → p ≡ New j → New (k + j) ≡ meets ws (slotOffsets first count xs)
+      pub meet-whole : (j : ℕ) → p ≡ New j → New (k + j) ≡ meets ws (slotOffsets s xs)
       unfolding meets
       meet-whole j zp =
           let a = meets-new ws endsOf e qe k ze in
           let b = meets-new ws pdrsOf p qp j zp in
-          let t : any (marked ws) (slotOffsets first count xs) ≡ false = any-slot ∙ rw (a .0) (b .0) in
-          let n : length (slotOffsets first count xs) ≡ k + j = ap length offsets-are ∙ length-append endsOf pdrsOf ∙ sym (ap₂ _+_ (a .1) (b .1)) in
+          let t : any (marked ws) (slotOffsets s xs) ≡ false = any-slot ∙ rw (a .0) (b .0) in
+          let n : length (slotOffsets s xs) ≡ k + j = ap length offsets-are ∙ length-append endsOf pdrsOf ∙ sym (ap₂ _+_ (a .1) (b .1)) in
           sym (λ i. pick (t i) Clash (New (n i)))
 
       pub meet-few : T (headSound xs) → (j : ℕ) → p ≡ New j → k + j ≤ 24
@@ -106,10 +106,10 @@ module _ (first count : ℕ) (ws xs : List ℕ) where
           let c = counts-headed xs h in
           let a = meets-new ws endsOf e qe k ze .1 in
           let b = meets-new ws pdrsOf p qp j zp .1 in
-          omega (arith, a, b, length-offsets first count endpointWidth 6 (getD xs endpointCountAt 0) (endpointArea xs), length-offsets first count pdrWidth 19 (getD xs pdrCountAt 0) (pdrArea xs), c .endpoints, c .pdrs)
+          omega (arith, a, b, length-offsets s endpointWidth 6 (getD xs endpointCountAt 0) (endpointArea xs), length-offsets s pdrWidth 19 (getD xs pdrCountAt 0) (pdrArea xs), c .endpoints, c .pdrs)
 
   pub mark-whole : T (headSound xs) → (e : ℕ) (w : List ℕ) → Marked ws endsOf (getD xs endpointCountAt 0) e w → (p : ℕ) (u : List ℕ) → Marked w pdrsOf (getD xs pdrCountAt 0) p u
-      → Marked ws (slotOffsets first count xs) 24 (e + p) u
+      → Marked ws (slotOffsets s xs) 24 (e + p) u
   mark-whole h e w qe p u qp =
       let c = counts-headed xs h in
       let after : p ≡ newMarks (marks ws endsOf) pdrsOf = qp .new ∙ ap (λ (v : List ℕ). newMarks v pdrsOf) (qe .words) in
@@ -121,43 +121,40 @@ module _ (first count : ℕ) (ws xs : List ℕ) where
 
 -- ---- the offsets that the session in a slot holds
 
-module _ (first count : ℕ) where
-  abbrev s : Settings
-  s = addressPool first count
-
+module _ (s : Settings) where
   held : List ℕ → List ℕ
-  held as′ = offsets first (keep (inAddressPool s) as′)
+  held as′ = offsets (s .firstAddress) (keep (inAddressPool s) as′)
 
-  held-cons : (a : ℕ) (as′ : List ℕ) → held (a ∷ as′) ≡ consOption (offsetOf first count (some a)) (held as′)
-  unfolding held offsets keep inAddressPool offsetOf
-  held-cons a as′ = go (leb first a && ltb a (first + count))
+  held-cons : (a : ℕ) (as′ : List ℕ) → held (a ∷ as′) ≡ consOption (offsetOf s (some a)) (held as′)
+  unfolding held offsets keep offsetOf
+  held-cons a as′ = go (inAddressPool s a)
     where
-      go : (b : Bool) → map (λ t. t - first) (pick b (a ∷ keep (inAddressPool s) as′) (keep (inAddressPool s) as′))
-          ≡ consOption (pick b (some (a - first)) none) (map (λ t. t - first) (keep (inAddressPool s) as′))
+      go : (b : Bool) → map (λ t. t - s .firstAddress) (pick b (a ∷ keep (inAddressPool s) as′) (keep (inAddressPool s) as′))
+          ≡ consOption (pick b (some (a - s .firstAddress)) none) (map (λ t. t - s .firstAddress) (keep (inAddressPool s) as′))
       go true = refl
       go false = refl
 
-  held-all : (as′ : List ℕ) → held as′ ≡ collect (λ a. offsetOf first count (some a)) as′
+  held-all : (as′ : List ℕ) → held as′ ≡ collect (λ a. offsetOf s (some a)) as′
   held-all [] = unfold held offsets keep collect in refl
-  held-all (a ∷ as′) = held-cons a as′ ∙ ap (consOption (offsetOf first count (some a))) (held-all as′) ∙ unfold collect in refl
+  held-all (a ∷ as′) = held-cons a as′ ∙ ap (consOption (offsetOf s (some a))) (held-all as′) ∙ unfold collect in refl
 
   -- the addresses of records, and then their offsets
-  held-collect : {A : Type 0} (f : A → Option ℕ) (rs : List A) → collect (λ a. offsetOf first count (some a)) (collect f rs) ≡ collect (λ r. offsetOf first count (f r)) rs
+  held-collect : {A : Type 0} (f : A → Option ℕ) (rs : List A) → collect (λ a. offsetOf s (some a)) (collect f rs) ≡ collect (λ r. offsetOf s (f r)) rs
   unfolding collect
   held-collect f [] = refl
   held-collect f (r ∷ rs) = go (f r) (held-collect f rs)
     where
-      go : (o : Option ℕ) → collect (λ a. offsetOf first count (some a)) (collect f rs) ≡ collect (λ r. offsetOf first count (f r)) rs
-          → collect (λ a. offsetOf first count (some a)) (consOption o (collect f rs)) ≡ consOption (offsetOf first count o) (collect (λ r. offsetOf first count (f r)) rs)
+      go : (o : Option ℕ) → collect (λ a. offsetOf s (some a)) (collect f rs) ≡ collect (λ r. offsetOf s (f r)) rs
+          → collect (λ a. offsetOf s (some a)) (consOption o (collect f rs)) ≡ consOption (offsetOf s o) (collect (λ r. offsetOf s (f r)) rs)
       go none e = e ∙ unfold offsetOf in refl
-      go (some a) e = ap (consOption (offsetOf first count (some a))) e
+      go (some a) e = ap (consOption (offsetOf s (some a))) e
 
   of-records : {A : Type 0} (f : A → Option ℕ) (view : List ℕ → A) (at : ℕ) → ((xs : List ℕ) → f (view xs) ≡ addressAt at xs)
-      → (w n : ℕ) (a : List ℕ) → collect (λ r. offsetOf first count (f r)) (map view (slices w n a)) ≡ offsetsIn first count w at n a
+      → (w n : ℕ) (a : List ℕ) → collect (λ r. offsetOf s (f r)) (map view (slices w n a)) ≡ offsetsIn s w at n a
   unfolding offsetsIn
   of-records f view at e w n a =
-      collect-map view (λ r. offsetOf first count (f r)) (slices w n a)
-      ∙ collect-same (λ xs. offsetOf first count (f (view xs))) (λ xs. offsetOf first count (addressAt at xs)) (λ xs. ap (offsetOf first count) (e xs)) (slices w n a)
+      collect-map view (λ r. offsetOf s (f r)) (slices w n a)
+      ∙ collect-same (λ xs. offsetOf s (f (view xs))) (λ xs. offsetOf s (addressAt at xs)) (λ xs. ap (offsetOf s) (e xs)) (slices w n a)
 
   address-pdr : (xs : List ℕ) → pdrAddress (viewPdr xs) ≡ addressAt 19 xs
   address-pdr xs = ap pdrAddress (pdr-view xs)
@@ -165,9 +162,9 @@ module _ (first count : ℕ) where
   address-endpoint : (xs : List ℕ) → endpointAddress (viewEndpoint xs) ≡ addressAt 6 xs
   address-endpoint xs = ap endpointAddress (endpoint-view xs)
 
-  pub held-are : (xs : List ℕ) → T (headSound xs) → heldOffsets first count xs ≡ slotOffsets first count xs
+  pub held-are : (xs : List ℕ) → T (headSound xs) → heldOffsets s xs ≡ slotOffsets s xs
   unfolding heldOffsets addressOffsets
-  held-are xs h = ap (addressOffsets s) (view-slot xs (counts-headed xs h)) ∙ go ∙ sym (offsets-are first count [] xs)
+  held-are xs h = ap (addressOffsets s) (view-slot xs (counts-headed xs h)) ∙ go ∙ sym (offsets-are s [] xs)
     where
       ends : List Endpoint
       ends = map viewEndpoint (slices endpointWidth (getD xs endpointCountAt 0) (endpointArea xs))
@@ -175,23 +172,23 @@ module _ (first count : ℕ) where
       pdrs : List Pdr
       pdrs = map viewPdr (slices pdrWidth (getD xs pdrCountAt 0) (pdrArea xs))
 
-      go : addressOffsets s (slotOf xs) ≡ endsOf first count [] xs ++ pdrsOf first count [] xs
+      go : addressOffsets s (slotOf xs) ≡ endsOf s [] xs ++ pdrsOf s [] xs
       go =
           unfold addressOffsets sessionAddresses slotOf held in
           (held-all (collect endpointAddress ends ++ collect pdrAddress pdrs)
-          ∙ collect-append (λ a. offsetOf first count (some a)) (collect endpointAddress ends) (collect pdrAddress pdrs)
+          ∙ collect-append (λ a. offsetOf s (some a)) (collect endpointAddress ends) (collect pdrAddress pdrs)
           ∙ ap₂ _++_ (held-collect endpointAddress ends ∙ of-records endpointAddress viewEndpoint 6 address-endpoint endpointWidth (getD xs endpointCountAt 0) (endpointArea xs))
           (held-collect pdrAddress pdrs ∙ of-records pdrAddress viewPdr 19 address-pdr pdrWidth (getD xs pdrCountAt 0) (pdrArea xs)))
 
 -- ---- the answers
 
-module _ (first count : ℕ) (ws xs : List ℕ) (h : T (headSound xs)) (m : Met) (q : m ≡ meets ws (slotOffsets first count xs)) where
-  is : slotOffsets first count xs ≡ heldOffsets first count xs
-  is = sym (held-are first count xs h)
+module _ (s : Settings) (ws xs : List ℕ) (h : T (headSound xs)) (m : Met) (q : m ≡ meets ws (slotOffsets s xs)) where
+  is : slotOffsets s xs ≡ heldOffsets s xs
+  is = sym (held-are s xs h)
 
-  pub admit-clash : m ≡ Clash → Admitted first count ws xs Clash ws
+  pub admit-clash : m ≡ Clash → Admitted s ws xs Clash ws
   admit-clash e =
-      let t : any (marked ws) (heldOffsets first count xs) ≡ true = ap (any (marked ws)) (sym is) ∙ meets-clash ws (slotOffsets first count xs) m q e in
+      let t : any (marked ws) (heldOffsets s xs) ≡ true = ap (any (marked ws)) (sym is) ∙ meets-clash ws (slotOffsets s xs) m q e in
       record {
         answer = sym (rw t);
         words = λ n z. absurd (let u : _≡_ {A = ℕ} 0 1 = cc in omega arith);
@@ -199,24 +196,24 @@ module _ (first count : ℕ) (ws xs : List ℕ) (h : T (headSound xs)) (m : Met)
       }
 
   module _ (k : ℕ) (e : m ≡ New k) where
-    none-met : any (marked ws) (heldOffsets first count xs) ≡ false
-    none-met = ap (any (marked ws)) (sym is) ∙ meets-new ws (slotOffsets first count xs) m q k e .0
+    none-met : any (marked ws) (heldOffsets s xs) ≡ false
+    none-met = ap (any (marked ws)) (sym is) ∙ meets-new ws (slotOffsets s xs) m q k e .0
 
     no-offsets : (l : List ℕ) → 0 ≡ length l → l ≡ []
     no-offsets [] z = refl
     no-offsets (i ∷ l) z = absurd (omega arith)
 
-    pub admit-none : k ≡ 0 → Admitted first count ws xs (New 0) ws
+    pub admit-none : k ≡ 0 → Admitted s ws xs (New 0) ws
     unfolding marks newMarks
     admit-none z =
-        let empty : heldOffsets first count xs ≡ [] = sym is ∙ no-offsets (slotOffsets first count xs) (sym z ∙ meets-new ws (slotOffsets first count xs) m q k e .1) in
+        let empty : heldOffsets s xs ≡ [] = sym is ∙ no-offsets (slotOffsets s xs) (sym z ∙ meets-new ws (slotOffsets s xs) m q k e .1) in
         record {
           answer = sym (rw (none-met) (ap (λ (l : List ℕ). New (newMarks ws l)) empty));
           words = λ n y. ap (marks ws) (sym empty);
           few = λ n y. let same : 0 ≡ n = cc in omega arith;
         }
 
-    pub admit-marked : (n : ℕ) (u : List ℕ) → Marked ws (slotOffsets first count xs) 24 n u → Admitted first count ws xs (New n) u
+    pub admit-marked : (n : ℕ) (u : List ℕ) → Marked ws (slotOffsets s xs) 24 n u → Admitted s ws xs (New n) u
     admit-marked n u r =
         record {
           answer = sym (rw (none-met) (ap (λ (l : List ℕ). New (newMarks ws l)) (sym is) ∙ ap New (sym (r .new))));

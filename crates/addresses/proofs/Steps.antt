@@ -13,9 +13,12 @@ use Rattle.octets.specs.Choice.{pick, flag, consOption}
 use Rattle.octets.specs.Octets.{part, number}
 use Rattle.octets.specs.Lists.{any}
 use Rattle.octets.proofs.Tests.{and-left, and-right, of-true}
+use Rattle.rules.specs.Model.{Settings, inAddressPool}
 use Rattle.rules.specs.Layout.{optionRead}
 use Rattle.pool.specs.Map.{marked, mark, marks, newMarks}
 use Rattle.pool.proofs.Marks.{length-mark}
+use Rattle.unit.specs.declared.Settings.{Settings as Unit}
+use Rattle.unit.specs.Meaning.{settingsOf}
 use Rattle.addresses.specs.declared.Offset.{Offset}
 use Rattle.addresses.specs.declared.Offset.the-variants.{At, Outside}
 use Rattle.addresses.specs.declared.Met.{Met}
@@ -24,8 +27,8 @@ use Rattle.addresses.specs.Offsets.{addressAt, offsetOf, optionOf, metBy
 
 -- ---- the offset
 
-module _ (first count at : ℕ) (xs : List ℕ) where
-  pub offset-absent : getD xs at 0 ≡ 0 → optionOf Outside ≡ offsetOf first count (addressAt at xs)
+module _ (u : Unit) (at : ℕ) (xs : List ℕ) where
+  pub offset-absent : getD xs at 0 ≡ 0 → optionOf Outside ≡ offsetOf (settingsOf u) (addressAt at xs)
   unfolding offsetOf optionRead
   offset-absent h = sym (rw h)
 
@@ -34,36 +37,37 @@ module _ (first count at : ℕ) (xs : List ℕ) where
     unfolding optionRead
     address-is = rw (ne-eqb (getD xs at 0) 0 there, ← q)
 
-    offset-is : offsetOf first count (addressAt at xs) ≡ pick (leb first a && ltb a (first + count)) (some (a - first)) none
-    offset-is = ap (offsetOf first count) address-is ∙ unfold offsetOf in refl
+    offset-is : offsetOf (settingsOf u) (addressAt at xs) ≡ pick (leb (u .«first_address») a && ltb a (u .«first_address» + u .addresses)) (some (a - u .«first_address»)) none
+    offset-is = ap (offsetOf (settingsOf u)) address-is ∙ unfold offsetOf inAddressPool settingsOf in refl
 
-    pub offset-low : a < first → optionOf Outside ≡ offsetOf first count (addressAt at xs)
-    offset-low h = sym (offset-is ∙ rw (lt-leb first a h))
+    pub offset-low : a < u .«first_address» → optionOf Outside ≡ offsetOf (settingsOf u) (addressAt at xs)
+    offset-low h = sym (offset-is ∙ rw (lt-leb (u .«first_address») a h))
 
-    pub offset-high : first ≤ a → first + count ≤ a → optionOf Outside ≡ offsetOf first count (addressAt at xs)
-    offset-high g h = sym (offset-is ∙ rw (le-leb first a g, le-ltb a (first + count) h))
+    pub offset-high : u .«first_address» ≤ a → u .addresses ≤ a - u .«first_address» → optionOf Outside ≡ offsetOf (settingsOf u) (addressAt at xs)
+    offset-high g h = sym (offset-is ∙ rw (le-leb (u .«first_address») a g, le-ltb a (u .«first_address» + u .addresses) (omega arith)))
 
-    pub offset-in : first ≤ a → a < first + count → optionOf (At (a - first)) ≡ offsetOf first count (addressAt at xs)
-    offset-in g h = sym (offset-is ∙ rw (le-leb first a g, lt-ltb a (first + count) h))
+    pub offset-in : u .«first_address» ≤ a → a - u .«first_address» < u .addresses → optionOf (At (a - u .«first_address»)) ≡ offsetOf (settingsOf u) (addressAt at xs)
+    offset-in g h = sym (offset-is ∙ rw (le-leb (u .«first_address») a g, lt-ltb a (u .«first_address» + u .addresses) (omega arith)))
 
 -- an offset of the pool is below the number of addresses
-below : (first count i : ℕ) (o : Option ℕ) → some i ≡ offsetOf first count o → i < count
-unfolding offsetOf
-below first count i none e = let z : _≡_ {A = ℕ} 0 1 = cc in absurd (omega arith)
-below first count i (some a) e = go (leb first a) (ltb a (first + count)) refl refl e
+below : (s : Settings) (i : ℕ) (o : Option ℕ) → some i ≡ offsetOf s o → i < s .addressCount
+unfolding offsetOf inAddressPool
+below s i none e = let z : _≡_ {A = ℕ} 0 1 = cc in absurd (omega arith)
+below s i (some a) e = go (leb (s .firstAddress) a) (ltb a (s .firstAddress + s .addressCount)) refl refl e
   where
-    go : (b c : Bool) → leb first a ≡ b → ltb a (first + count) ≡ c → some i ≡ pick (b && c) (some (a - first)) none → i < count
+    go : (b c : Bool) → leb (s .firstAddress) a ≡ b → ltb a (s .firstAddress + s .addressCount) ≡ c → some i ≡ pick (b && c) (some (a - s .firstAddress)) none → i < s .addressCount
     go true true eb ec q =
-        let l = leb→le first a (of-true eb) in
-        let h = ltb→lt a (first + count) (of-true ec) in
-        let z : i ≡ a - first = cc in
+        let l = leb→le (s .firstAddress) a (of-true eb) in
+        let h = ltb→lt a (s .firstAddress + s .addressCount) (of-true ec) in
+        let z : i ≡ a - s .firstAddress = cc in
         omega arith
     go true false eb ec q = let z : _≡_ {A = ℕ} 0 1 = cc in absurd (omega arith)
     go false c eb ec q = let z : _≡_ {A = ℕ} 0 1 = cc in absurd (omega arith)
 
 -- so it has its bit in a map that has one for each of the pool
-pub offset-fits : (first count i : ℕ) (o : Option ℕ) (r : Offset) (ws : List ℕ) → optionOf r ≡ offsetOf first count o → r ≡ At i → count ≤ 64 * length ws → i < 64 * length ws
-offset-fits first count i o r ws q e h = let l = below first count i o (sym (ap optionOf e) ∙ q) in omega arith
+pub offset-fits : (u : Unit) (i : ℕ) (o : Option ℕ) (r : Offset) (ws : List ℕ) → optionOf r ≡ offsetOf (settingsOf u) o → r ≡ At i → u .addresses ≤ 64 * length ws → i < 64 * length ws
+unfolding settingsOf
+offset-fits u i o r ws q e h = let l : i < u .addresses = below (settingsOf u) i o (sym (ap optionOf e) ∙ q) in omega arith
 
 -- ---- what a map says of it
 

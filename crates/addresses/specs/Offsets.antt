@@ -3,15 +3,14 @@
 -- Assumes nothing.
 use Prim.Native.Nat.{ℕ, _+_, _-_, _≤_}
 use mathlib.Core.Path.{_≡_}
-use mathlib.Core.Bool.{Bool, not, _&&_}
+use mathlib.Core.Bool.{not}
 use mathlib.Core.Option.{Option, none, some}
-use mathlib.Core.List.{List, [], _++_}
-use lib.Dec.{leb, ltb}
+use mathlib.Core.List.{List, _++_}
 use lib.ListN.{length, getD}
 use Rattle.octets.specs.Choice.{pick, flag}
 use Rattle.octets.specs.Octets.{part, number, octetAt, slices}
 use Rattle.octets.specs.Lists.{any, collect}
-use Rattle.rules.specs.Model.{Settings}
+use Rattle.rules.specs.Model.{Settings, inAddressPool}
 use Rattle.rules.specs.Layout.{optionRead, viewSession, pdrWidth, endpointWidth, pdrCountAt, endpointCountAt}
 use Rattle.pool.specs.Map.{marked, mark, marks, newMarks}
 use Rattle.holdings.specs.Walk.{addressOffsets}
@@ -28,21 +27,21 @@ abbrev pub addressAt : ℕ → List ℕ → Option ℕ
 addressAt at xs = optionRead (getD xs at 0) (number (part (at + 1) 4 xs))
 
 -- the offset of an address of the pool
-unfoldable pub offsetOf : ℕ → ℕ → Option ℕ → Option ℕ
-offsetOf first count none = none
-offsetOf first count (some a) = pick (leb first a && ltb a (first + count)) (some (a - first)) none
+unfoldable pub offsetOf : Settings → Option ℕ → Option ℕ
+offsetOf s none = none
+offsetOf s (some a) = pick (inAddressPool s a) (some (a - s .firstAddress)) none
 
 abbrev pub optionOf : Offset → Option ℕ
 optionOf (At i) = some i
 optionOf Outside = none
 
 -- those of n records of w octets, and of a session's slot
-unfoldable pub offsetsIn : ℕ → ℕ → ℕ → ℕ → ℕ → List ℕ → List ℕ
-offsetsIn first count w at n a = collect (λ xs. offsetOf first count (addressAt at xs)) (slices w n a)
+unfoldable pub offsetsIn : Settings → ℕ → ℕ → ℕ → List ℕ → List ℕ
+offsetsIn s w at n a = collect (λ xs. offsetOf s (addressAt at xs)) (slices w n a)
 
-unfoldable pub slotOffsets : ℕ → ℕ → List ℕ → List ℕ
-slotOffsets first count xs =
-    offsetsIn first count endpointWidth 6 (octetAt xs endpointCountAt) (endpointArea xs) ++ offsetsIn first count pdrWidth 19 (octetAt xs pdrCountAt) (pdrArea xs)
+unfoldable pub slotOffsets : Settings → List ℕ → List ℕ
+slotOffsets s xs =
+    offsetsIn s endpointWidth 6 (octetAt xs endpointCountAt) (endpointArea xs) ++ offsetsIn s pdrWidth 19 (octetAt xs pdrCountAt) (pdrArea xs)
 
 -- ---- one record
 
@@ -75,16 +74,12 @@ pub record Marked (ws is : List ℕ) (most r : ℕ) (ws′ : List ℕ) : Type 0 
 unfoldable pub meets : List ℕ → List ℕ → Met
 meets words is = pick (any (marked words) is) Clash (New (length is))
 
--- the settings as far as addresses ask: their pool
-abbrev pub addressPool : ℕ → ℕ → Settings
-addressPool first count = record { ipv4 = []; ipv6 = []; first = 0; size = 0; firstAddress = first; addressCount = count; limit = 0 }
-
 -- the offsets that the session in a slot holds
-unfoldable pub heldOffsets : ℕ → ℕ → List ℕ → List ℕ
-heldOffsets first count xs = addressOffsets (addressPool first count) (viewSession xs)
+unfoldable pub heldOffsets : Settings → List ℕ → List ℕ
+heldOffsets s xs = addressOffsets s (viewSession xs)
 
 -- none of a session's was marked, and then they are
-pub record Admitted (first count : ℕ) (ws xs : List ℕ) (r : Met) (ws′ : List ℕ) : Type 0 where
-  pub answer : r ≡ pick (any (marked ws) (heldOffsets first count xs)) Clash (New (newMarks ws (heldOffsets first count xs)))
-  pub words : (n : ℕ) → r ≡ New n → ws′ ≡ marks ws (heldOffsets first count xs)
+pub record Admitted (s : Settings) (ws xs : List ℕ) (r : Met) (ws′ : List ℕ) : Type 0 where
+  pub answer : r ≡ pick (any (marked ws) (heldOffsets s xs)) Clash (New (newMarks ws (heldOffsets s xs)))
+  pub words : (n : ℕ) → r ≡ New n → ws′ ≡ marks ws (heldOffsets s xs)
   pub few : (n : ℕ) → r ≡ New n → n ≤ 24

@@ -9,7 +9,7 @@ use lib.Dec.{T, eqb, ltb}
 use lib.ListN.{length}
 use borrow.Author.Tests.{lt-ltb, eqb-true}
 use Rattle.octets.specs.Choice.{pick}
-use Rattle.octets.specs.Octets.{octets, part, number, numberAt}
+use Rattle.octets.specs.Octets.{octets}
 use Rattle.octets.specs.Lists.{distinct}
 use Rattle.octets.proofs.Tests.{of-true}
 use Rattle.rules.specs.Limits.{mapWords, addressWords, maxMessage, minSpace}
@@ -157,12 +157,3 @@ module _ (t msg out : List ℕ) where
             addressLong = k;
             addressCount = ap₂ (λ (a b : ℕ). a - b) (addresses-is u (viewSettings t) z) (are-held .1);
           }
-
--- the sizes of the pools are at their places in the table
-pub size-read : (t : List ℕ) (u : Unit) → settingsOf u ≡ viewSettings t → u .size ≡ number (part 25 4 t)
-unfolding viewSettings numberAt
-size-read t u e = size-is u (viewSettings t) e
-
-pub addresses-read : (t : List ℕ) (u : Unit) → settingsOf u ≡ viewSettings t → u .addresses ≡ number (part 33 4 t)
-unfolding viewSettings numberAt
-addresses-read t u e = addresses-is u (viewSettings t) e

@@ -392,13 +392,13 @@ pub fn serve(t: &mut [u8], msg: &[u8], out: &mut [u8]) -> Served
     if out.len() < format::SPACE {
         return unserved(2);
     }
+    let u = unit::read(t);
     let header = frame::header::read_header(msg);
     match header {
         Header::TooLong => return unserved(3),
         Header::Malformed => return unserved(4),
         Header::NotServed => return unserved(5),
         Header::Sets => {
-            let u = unit::read(t);
             let replied = delete_list(t, u, msg, out);
             return Served {
                 outcome: 0,
@@ -407,7 +407,6 @@ pub fn serve(t: &mut [u8], msg: &[u8], out: &mut [u8]) -> Served
             };
         }
         Header::Request(kind, seid) => {
-            let u = unit::read(t);
             let free = u.size as usize - teids;
             let left = TakenAddresses {
                 words: ips,

@@ -23,7 +23,9 @@ use Rattle.holdings.specs.Walk.{sessionMarks}
 use Rattle.holdings.proofs.MapWalk.{records-in-pool}
 use Rattle.holdings.proofs.SessionWalk.{session-split}
 use Rattle.slots.proofs.Lookup.{length-slices}
-use Rattle.records.specs.Kept.{pdrSound, endpointSound, csidSound, endpointIds, unit}
+use Rattle.unit.specs.declared.Settings.{Settings as Unit}
+use Rattle.unit.specs.Meaning.{settingsOf}
+use Rattle.records.specs.Kept.{pdrSound, endpointSound, csidSound, endpointIds}
 use Rattle.records.proofs.Cells.{and-false}
 use Rattle.sessions.specs.Slot.{areaSound, headSound, recordsAllowed, pdrArea, endpointArea, csidArea}
 use Rattle.sessions.proofs.SlotLaws.{Counts, counts-headed, slotOf, view-slot}
@@ -127,9 +129,12 @@ regroup true false false x y = refl
 regroup false e false x y = refl
 regroup false e true x y = sym (and-false (e && x))
 
-module _ (first size : ℕ) (v6 : Bool) (ws xs : List ℕ) (h : Bool) (q : h ≡ headSound xs) where
+module _ (u : Unit) (ws xs : List ℕ) (h : Bool) (q : h ≡ headSound xs) where
   abbrev s : Settings
-  s = unit first size v6
+  s = settingsOf u
+
+  abbrev first : ℕ
+  first = u .first
 
   abbrev pub csidsSound : Bool
   csidsSound = areaSound csidSound csidWidth 1 (getD xs csidCountAt 0) (csidArea xs)
@@ -157,7 +162,7 @@ module _ (first size : ℕ) (v6 : Bool) (ws xs : List ℕ) (h : Bool) (q : h ≡
 
     keeps-is : slotKeeps s ws xs
         ≡ (csidsSound && ((endpointsSound && sessionMarks first ws [] (endpointsOf xs)) && (pdrsSound && sessionMarks first (marksAfter first ws (endpointsOf xs)) [] (pdrsOf xs))))
-    unfolding slotKeeps unit
+    unfolding slotKeeps settingsOf
     keeps-is =
         rw (slot-areas s xs, ← q, not-false h k, keeps-are xs slot-counts first ws)
         (regroup pdrsSound endpointsSound csidsSound (sessionMarks first ws [] (endpointsOf xs)) (sessionMarks first (marksAfter first ws (endpointsOf xs)) [] (pdrsOf xs)))
@@ -176,9 +181,9 @@ module _ (first size : ℕ) (v6 : Bool) (ws xs : List ℕ) (h : Bool) (q : h ≡
         pub admit-ends : (w′ : List ℕ) → ends ≡ Clash → Admitted s ws xs Clash w′
         admit-ends w′ z = clashes w′ (areas-keep ∙ rw (clash-is me z))
 
-        module _ (e : ℕ) (ze : ends ≡ New e) (pdrs : Marks) (u : List ℕ) (mp : Marked pdrsSound first w (pdrsOf xs) pdrs u) where
-          pdrs-after : Marked pdrsSound first (marksAfter first ws (endpointsOf xs)) (pdrsOf xs) pdrs u
-          pdrs-after = subst (λ (v : List ℕ). Marked pdrsSound first v (pdrsOf xs) pdrs u) (me .words e ze) mp
+        module _ (e : ℕ) (ze : ends ≡ New e) (pdrs : Marks) (w₁ : List ℕ) (mp : Marked pdrsSound first w (pdrsOf xs) pdrs w₁) where
+          pdrs-after : Marked pdrsSound first (marksAfter first ws (endpointsOf xs)) (pdrsOf xs) pdrs w₁
+          pdrs-after = subst (λ (v : List ℕ). Marked pdrsSound first v (pdrsOf xs) pdrs w₁) (me .words e ze) mp
 
           pub admit-rules : (w′ : List ℕ) → pdrs ≡ Clash → Admitted s ws xs Clash w′
           admit-rules w′ z = clashes w′ (areas-keep ∙ (λ i. new-is me e ze .0 i && clash-is pdrs-after z i))
@@ -186,15 +191,15 @@ module _ (first size : ℕ) (v6 : Bool) (ws xs : List ℕ) (h : Bool) (q : h ≡
           pub admit-few : (p : ℕ) → pdrs ≡ New p → e + p ≤ 24
           admit-few p zp = omega (arith, me .few e ze, mp .few p zp, few-endpoints xs, few-pdrs xs, slot-counts .endpoints, slot-counts .pdrs)
 
-          pub admit-whole : (p : ℕ) → pdrs ≡ New p → Admitted s ws xs (New (e + p)) u
-          unfolding unit
+          pub admit-whole : (p : ℕ) → pdrs ≡ New p → Admitted s ws xs (New (e + p)) w₁
+          unfolding settingsOf
           admit-whole p zp =
               let ne = new-is me e ze in
               let np = new-is pdrs-after p zp in
               let yes′ : slotKeeps s ws xs ≡ true = areas-keep ∙ (λ i. ne .0 i && np .0 i) in
               let count : newAfter first ws (slotHolds xs) ≡ e + p =
               ap (newAfter first ws) (holds-are xs slot-counts) ∙ new-both first ws (endpointsOf xs) (pdrsOf xs) ∙ sym (ap₂ _+_ (ne .1) (np .1)) in
-              let map′ : u ≡ marksAfter first ws (slotHolds xs) =
+              let map′ : w₁ ≡ marksAfter first ws (slotHolds xs) =
               pdrs-after .words p zp ∙ sym (ap (marksAfter first ws) (holds-are xs slot-counts) ∙ marks-both first ws (endpointsOf xs) (pdrsOf xs)) in
               record {
                 answer = sym (λ i. pick (yes′ i) (New (count i)) Clash);

@@ -18,7 +18,9 @@ use Rattle.rules.specs.Layout.{tunnelRead, endpointFrom, viewEndpoint, pdrWidth
 use Rattle.pool.specs.Map.{marked, mark}
 use Rattle.holdings.specs.Walk.{joins}
 use Rattle.holdings.proofs.RecordWalk.{look-end}
-use Rattle.records.specs.Kept.{pdrSound, endpointSound, unit}
+use Rattle.unit.specs.declared.Settings.{Settings as Unit}
+use Rattle.unit.specs.Meaning.{settingsOf}
+use Rattle.records.specs.Kept.{pdrSound, endpointSound}
 use Rattle.records.proofs.Answers.{endpoint-pool, pdr-pool}
 use Rattle.marking.specs.declared.Marks.{Marks}
 use Rattle.marking.specs.declared.Marks.the-variants.{Clash, New}
@@ -46,27 +48,27 @@ module _ {sound : Bool} {first : ℕ} {ws : List ℕ} {earlier : List Holding} {
 
 -- ---- an endpoint
 
-module _ (xs : List ℕ) (first size : ℕ) (v6 : Bool) (ws : List ℕ) (b : Bool) (qb : b ≡ endpointSound (unit first size v6) xs) where
-  pub endpoint-broken : not b ≡ true → Stepped (endpointSound (unit first size v6) xs) first ws [] (endpointHold xs) Clash ws
+module _ (xs : List ℕ) (u : Unit) (ws : List ℕ) (b : Bool) (qb : b ≡ endpointSound (settingsOf u) xs) where
+  pub endpoint-broken : not b ≡ true → Stepped (endpointSound (settingsOf u) xs) (u .first) ws [] (endpointHold xs) Clash ws
   endpoint-broken h = step-broken (sym qb ∙ not-true b h)
 
   module _ (good : not b ≡ false) (t : ℕ) (q : t ≡ number (part 1 4 xs)) where
-    pub endpoint-fits : length xs ≡ endpointWidth → T (octets xs) → first + size ≤ 2 ^ 32 → size ≤ 64 * length ws → (first ≤ t) × (t - first < 64 * length ws)
+    pub endpoint-fits : length xs ≡ endpointWidth → T (octets xs) → u .first + u .size ≤ 2 ^ 32 → u .size ≤ 64 * length ws → (u .first ≤ t) × (t - u .first < 64 * length ws)
     endpoint-fits e o pool room =
-        let f = endpoint-pool first size v6 pool xs e o (sym qb ∙ not-false b good) in
+        let f = endpoint-pool u pool xs e o (sym qb ∙ not-false b good) in
         (omega (arith, f .0, q), omega (arith, f .0, f .1, q))
 
-    module _ (m : Bool) (ws′ : List ℕ) (qm : m ≡ marked ws (t - first)) (qw : ws′ ≡ mark ws (t - first)) where
-      endpoint-step-is : stepOf first ws [] (endpointHold xs) ≡ pick m Clash (New 1)
+    module _ (m : Bool) (ws′ : List ℕ) (qm : m ≡ marked ws (t - u .first)) (qw : ws′ ≡ mark ws (t - u .first)) where
+      endpoint-step-is : stepOf (u .first) ws [] (endpointHold xs) ≡ pick m Clash (New 1)
       unfolding stepOf endpointHold endpointHolding tunnelHolding viewEndpoint endpointFrom tunnelRead fieldsAt collect
-      endpoint-step-is = λ i. pick ((ap (λ (n : ℕ). marked ws (n - first)) (sym q) ∙ sym qm) i) (pick (look-end pdrHolding (endpointHolding (viewEndpoint xs)) i) (New 0) Clash) (New 1)
+      endpoint-step-is = λ i. pick ((ap (λ (n : ℕ). marked ws (n - u .first)) (sym q) ∙ sym qm) i) (pick (look-end pdrHolding (endpointHolding (viewEndpoint xs)) i) (New 0) Clash) (New 1)
 
-      pub endpoint-met : m ≡ true → Stepped (endpointSound (unit first size v6) xs) first ws [] (endpointHold xs) Clash ws′
+      pub endpoint-met : m ≡ true → Stepped (endpointSound (settingsOf u) xs) (u .first) ws [] (endpointHold xs) Clash ws′
       endpoint-met h = step-clash (sym (endpoint-step-is ∙ rw h))
 
-      pub endpoint-new : m ≡ false → Stepped (endpointSound (unit first size v6) xs) first ws [] (endpointHold xs) (New 1) ws′
+      pub endpoint-new : m ≡ false → Stepped (endpointSound (settingsOf u) xs) (u .first) ws [] (endpointHold xs) (New 1) ws′
       unfolding wordsOf endpointHold endpointHolding tunnelHolding viewEndpoint endpointFrom tunnelRead fieldsAt
-      endpoint-new h = step-good (sym qb ∙ not-false b good) (sym (endpoint-step-is ∙ rw h)) (qw ∙ ap (λ (n : ℕ). mark ws (n - first)) q)
+      endpoint-new h = step-good (sym qb ∙ not-false b good) (sym (endpoint-step-is ∙ rw h)) (qw ∙ ap (λ (n : ℕ). mark ws (n - u .first)) q)
 
 -- ---- a PDR
 
@@ -88,56 +90,56 @@ module _ (a : List ℕ) (i : ℕ) where
   hold-there : getD (slotAt a i) 12 0 ≡ 1 → holdAt a i ≡ some (heldBy (slotAt a i))
   hold-there h = hold-is ∙ rw h
 
-  module _ (first size : ℕ) (v6 : Bool) (live ws : List ℕ) (earlier : List Holding) (b : Bool) (qb : b ≡ pdrSound (unit first size v6) live (slotAt a i)) where
+  module _ (u : Unit) (live ws : List ℕ) (earlier : List Holding) (b : Bool) (qb : b ≡ pdrSound (settingsOf u) live (slotAt a i)) where
     abbrev pub soundAt : Bool
-    soundAt = pdrSound (unit first size v6) live (part (i * pdrWidth) pdrWidth a)
+    soundAt = pdrSound (settingsOf u) live (part (i * pdrWidth) pdrWidth a)
 
     sound-is : b ≡ soundAt
-    sound-is = qb ∙ ap (pdrSound (unit first size v6) live) slot-is
+    sound-is = qb ∙ ap (pdrSound (settingsOf u) live) slot-is
 
-    pub pdr-broken : not b ≡ true → Stepped soundAt first ws earlier (holdAt a i) Clash ws
+    pub pdr-broken : not b ≡ true → Stepped soundAt (u .first) ws earlier (holdAt a i) Clash ws
     pdr-broken h = step-broken (sym sound-is ∙ not-true b h)
 
     module _ (good : not b ≡ false) where
-      pub pdr-none : (getD (slotAt a i) 12 0 ≡ 1 → ⊥) → Stepped soundAt first ws earlier (holdAt a i) (New 0) ws
+      pub pdr-none : (getD (slotAt a i) 12 0 ≡ 1 → ⊥) → Stepped soundAt (u .first) ws earlier (holdAt a i) (New 0) ws
       unfolding stepOf wordsOf
       pdr-none h = step-good (sym sound-is ∙ not-false b good) (sym (rw (hold-absent h))) (sym (rw (hold-absent h)))
 
       module _ (there : getD (slotAt a i) 12 0 ≡ 1) (t : ℕ) (q : t ≡ number (part 13 4 (slotAt a i))) where
-        pub pdr-fits : length (slotAt a i) ≡ pdrWidth → T (octets (slotAt a i)) → first + size ≤ 2 ^ 32 → size ≤ 64 * length ws → (first ≤ t) × (t - first < 64 * length ws)
+        pub pdr-fits : length (slotAt a i) ≡ pdrWidth → T (octets (slotAt a i)) → u .first + u .size ≤ 2 ^ 32 → u .size ≤ 64 * length ws → (u .first ≤ t) × (t - u .first < 64 * length ws)
         pdr-fits e o pool room =
-            let f = pdr-pool first size v6 pool live (slotAt a i) e o (sym qb ∙ not-false b good) there in
+            let f = pdr-pool u pool live (slotAt a i) e o (sym qb ∙ not-false b good) there in
             (omega (arith, f .0, q), omega (arith, f .0, f .1, q))
 
         held : t ≡ heldBy (slotAt a i) .teid
         held = q ∙ sym (teid-of (slotAt a i))
 
-        module _ (m : Bool) (ws′ : List ℕ) (qm : m ≡ marked ws (t - first)) (qw : ws′ ≡ mark ws (t - first)) where
-          words-are : ws′ ≡ wordsOf first ws (holdAt a i)
+        module _ (m : Bool) (ws′ : List ℕ) (qm : m ≡ marked ws (t - u .first)) (qw : ws′ ≡ mark ws (t - u .first)) where
+          words-are : ws′ ≡ wordsOf (u .first) ws (holdAt a i)
           unfolding wordsOf
           words-are = qw ∙ sym (rw (hold-there there, ← held))
 
-          step-is : stepOf first ws earlier (holdAt a i) ≡ pick m (pick (joins earlier (heldBy (slotAt a i))) (New 0) Clash) (New 1)
+          step-is : stepOf (u .first) ws earlier (holdAt a i) ≡ pick m (pick (joins earlier (heldBy (slotAt a i))) (New 0) Clash) (New 1)
           unfolding stepOf
           step-is =
-              ap (stepOf first ws earlier) (hold-there there)
-              ∙ ap (λ (t : Bool). pick t (pick (joins earlier (heldBy (slotAt a i))) (New 0) Clash) (New 1)) (ap (λ (n : ℕ). marked ws (n - first)) (sym held) ∙ sym qm)
+              ap (stepOf (u .first) ws earlier) (hold-there there)
+              ∙ ap (λ (t : Bool). pick t (pick (joins earlier (heldBy (slotAt a i))) (New 0) Clash) (New 1)) (ap (λ (n : ℕ). marked ws (n - u .first)) (sym held) ∙ sym qm)
 
-          pub pdr-new : not m ≡ true → Stepped soundAt first ws earlier (holdAt a i) (New 1) ws′
+          pub pdr-new : not m ≡ true → Stepped soundAt (u .first) ws earlier (holdAt a i) (New 1) ws′
           pdr-new h = step-good (sym sound-is ∙ not-false b good) (sym (step-is ∙ rw (not-true m h))) words-are
 
           module _ (h : not m ≡ false) (j : Bool) (qj : j ≡ joins earlier (heldBy (slotAt a i))) where
-            step-met : stepOf first ws earlier (holdAt a i) ≡ pick j (New 0) Clash
+            step-met : stepOf (u .first) ws earlier (holdAt a i) ≡ pick j (New 0) Clash
             step-met = step-is ∙ (λ e. pick (not-false m h e) (pick (sym qj e) (New 0) Clash) (New 1))
 
-            pub pdr-shared : j ≡ true → Stepped soundAt first ws earlier (holdAt a i) (New 0) ws′
+            pub pdr-shared : j ≡ true → Stepped soundAt (u .first) ws earlier (holdAt a i) (New 0) ws′
             pdr-shared k = step-good (sym sound-is ∙ not-false b good) (sym (step-met ∙ rw k)) words-are
 
-            pub pdr-met : j ≡ false → Stepped soundAt first ws earlier (holdAt a i) Clash ws′
+            pub pdr-met : j ≡ false → Stepped soundAt (u .first) ws earlier (holdAt a i) Clash ws′
             pdr-met k = step-clash (sym (step-met ∙ rw k))
 
 -- an endpoint as the code of a walk has it
-pub endpoint-at : (first size : ℕ) (v6 : Bool) (ws a : List ℕ) (i : ℕ) (r : Marks) (ws′ : List ℕ)
-    → let xs = take (i * endpointWidth + endpointWidth - i * endpointWidth) (drop (i * endpointWidth) a) in Stepped (endpointSound (unit first size v6) xs) first ws [] (endpointHold xs) r ws′
-    → Stepped (endpointSound (unit first size v6) (part (i * endpointWidth) endpointWidth a)) first ws [] (endpointHold (part (i * endpointWidth) endpointWidth a)) r ws′
-endpoint-at first size v6 ws a i r ws′ t = let span : i * endpointWidth + endpointWidth - i * endpointWidth ≡ endpointWidth = omega arith in rw span at t
+pub endpoint-at : (u : Unit) (ws a : List ℕ) (i : ℕ) (r : Marks) (ws′ : List ℕ)
+    → let xs = take (i * endpointWidth + endpointWidth - i * endpointWidth) (drop (i * endpointWidth) a) in Stepped (endpointSound (settingsOf u) xs) (u .first) ws [] (endpointHold xs) r ws′
+    → Stepped (endpointSound (settingsOf u) (part (i * endpointWidth) endpointWidth a)) (u .first) ws [] (endpointHold (part (i * endpointWidth) endpointWidth a)) r ws′
+endpoint-at u ws a i r ws′ t = let span : i * endpointWidth + endpointWidth - i * endpointWidth ≡ endpointWidth = omega arith in rw span at t

@@ -50,27 +50,27 @@ module _ {s : Settings} {ws xs : List ℕ} {r : Marks} {ws′ : List ℕ} (m : A
   unfolding slotKeeps slotSound slotTests
   admitted-head k e = each (slotTests s xs) (and-left (slotSound s xs) _ (of-true (admitted-new k e .0))) .0
 
-module _ {first count : ℕ} {as′ xs : List ℕ} {r : Met} {as₁ : List ℕ} (m : held.Admitted first count as′ xs r as₁) where
-  taken-new : (k : ℕ) → r ≡ met.New k → (slotFree first count as′ xs ≡ true) × (k ≡ newMarks as′ (heldOffsets first count xs))
+module _ {s : Settings} {as′ xs : List ℕ} {r : Met} {as₁ : List ℕ} (m : held.Admitted s as′ xs r as₁) where
+  taken-new : (k : ℕ) → r ≡ met.New k → (slotFree s as′ xs ≡ true) × (k ≡ newMarks as′ (heldOffsets s xs))
   unfolding slotFree
-  taken-new k e = go (any (marked as′) (heldOffsets first count xs)) (sym (m .answer) ∙ e)
+  taken-new k e = go (any (marked as′) (heldOffsets s xs)) (sym (m .answer) ∙ e)
     where
-      go : (b : Bool) → pick b met.Clash (met.New (newMarks as′ (heldOffsets first count xs))) ≡ met.New k → (not b ≡ true) × (k ≡ newMarks as′ (heldOffsets first count xs))
+      go : (b : Bool) → pick b met.Clash (met.New (newMarks as′ (heldOffsets s xs))) ≡ met.New k → (not b ≡ true) × (k ≡ newMarks as′ (heldOffsets s xs))
       go true q = absurd (let z : _≡_ {A = ℕ} 0 1 = cc in omega arith)
       go false q = (refl, (cc))
 
-  taken-clash : r ≡ met.Clash → slotFree first count as′ xs ≡ false
+  taken-clash : r ≡ met.Clash → slotFree s as′ xs ≡ false
   unfolding slotFree
-  taken-clash e = go (any (marked as′) (heldOffsets first count xs)) (sym (m .answer) ∙ e)
+  taken-clash e = go (any (marked as′) (heldOffsets s xs)) (sym (m .answer) ∙ e)
     where
-      go : (b : Bool) → pick b met.Clash (met.New (newMarks as′ (heldOffsets first count xs))) ≡ met.Clash → not b ≡ false
+      go : (b : Bool) → pick b met.Clash (met.New (newMarks as′ (heldOffsets s xs))) ≡ met.Clash → not b ≡ false
       go true q = refl
       go false q = absurd (let z : _≡_ {A = ℕ} 0 1 = cc in omega arith)
 
 -- ---- a session
 
-module _ (s : Settings) (first count : ℕ) (ws as′ xs : List ℕ) (r : Marks) (w : List ℕ) (m : Admitted s ws xs r w) where
-  broken : (v b : List ℕ) → (slotKeeps s ws xs && slotFree first count as′ xs) ≡ false → Entered s first count ws as′ xs Broken v b
+module _ (s : Settings) (ws as′ xs : List ℕ) (r : Marks) (w : List ℕ) (m : Admitted s ws xs r w) where
+  broken : (v b : List ℕ) → (slotKeeps s ws xs && slotFree s as′ xs) ≡ false → Entered s ws as′ xs Broken v b
   broken v b e = record {
     answer = sym (rw e);
     words = λ n k q. absurd (let z : _≡_ {A = ℕ} 0 1 = cc in omega arith);
@@ -78,14 +78,14 @@ module _ (s : Settings) (first count : ℕ) (ws as′ xs : List ℕ) (r : Marks)
     few = λ n k q. absurd (let z : _≡_ {A = ℕ} 0 1 = cc in omega arith);
   }
 
-  pub entered-clash : r ≡ Clash → Entered s first count ws as′ xs Broken w as′
+  pub entered-clash : r ≡ Clash → Entered s ws as′ xs Broken w as′
   entered-clash e = broken w as′ (rw (admitted-clash m e))
 
-  module _ (n : ℕ) (e : r ≡ New n) (t : Met) (b : List ℕ) (q : held.Admitted first count as′ xs t b) where
-    pub entered-taken : t ≡ met.Clash → Entered s first count ws as′ xs Broken w b
+  module _ (n : ℕ) (e : r ≡ New n) (t : Met) (b : List ℕ) (q : held.Admitted s as′ xs t b) where
+    pub entered-taken : t ≡ met.Clash → Entered s ws as′ xs Broken w b
     entered-taken z = broken w b (rw (taken-clash q z) (and-false (slotKeeps s ws xs)))
 
-    pub entered-whole : (k : ℕ) → t ≡ met.New k → Entered s first count ws as′ xs (Held n k) w b
+    pub entered-whole : (k : ℕ) → t ≡ met.New k → Entered s ws as′ xs (Held n k) w b
     entered-whole k z =
         let f = admitted-new m n e in
         let g = taken-new q k z in
@@ -96,35 +96,35 @@ module _ (s : Settings) (first count : ℕ) (ws as′ xs : List ℕ) (r : Marks)
           few = λ i j y. let x : n ≡ i = cc in let u : k ≡ j = cc in (omega (arith, m .few n e), omega (arith, q .few k z));
         }
 
-module _ {s : Settings} {first count : ℕ} {ws as′ xs : List ℕ} {r : Seen} {ws₁ as₁ : List ℕ} (m : Entered s first count ws as′ xs r ws₁ as₁) where
-  entered-new : (n k : ℕ) → r ≡ Held n k → (slotKeeps s ws xs ≡ true) × (slotFree first count as′ xs ≡ true) × (n ≡ newMarks ws (slotTeids s xs)) × (k ≡ newMarks as′ (heldOffsets first count xs))
-  entered-new n k e = go (slotKeeps s ws xs) (slotFree first count as′ xs) (sym (m .answer) ∙ e)
+module _ {s : Settings} {ws as′ xs : List ℕ} {r : Seen} {ws₁ as₁ : List ℕ} (m : Entered s ws as′ xs r ws₁ as₁) where
+  entered-new : (n k : ℕ) → r ≡ Held n k → (slotKeeps s ws xs ≡ true) × (slotFree s as′ xs ≡ true) × (n ≡ newMarks ws (slotTeids s xs)) × (k ≡ newMarks as′ (heldOffsets s xs))
+  entered-new n k e = go (slotKeeps s ws xs) (slotFree s as′ xs) (sym (m .answer) ∙ e)
     where
-      go : (b c : Bool) → pick (b && c) (Held (newMarks ws (slotTeids s xs)) (newMarks as′ (heldOffsets first count xs))) Broken ≡ Held n k
-          → (b ≡ true) × (c ≡ true) × (n ≡ newMarks ws (slotTeids s xs)) × (k ≡ newMarks as′ (heldOffsets first count xs))
+      go : (b c : Bool) → pick (b && c) (Held (newMarks ws (slotTeids s xs)) (newMarks as′ (heldOffsets s xs))) Broken ≡ Held n k
+          → (b ≡ true) × (c ≡ true) × (n ≡ newMarks ws (slotTeids s xs)) × (k ≡ newMarks as′ (heldOffsets s xs))
       go true true q = (refl, refl, (cc), (cc))
       go true false q = absurd (let z : _≡_ {A = ℕ} 0 1 = cc in omega arith)
       go false c q = absurd (let z : _≡_ {A = ℕ} 0 1 = cc in omega arith)
 
-  entered-not : {X : Type 0} → r ≡ Broken → (slotKeeps s ws xs ≡ false → X) → (slotFree first count as′ xs ≡ false → X) → X
-  entered-not {X} e f g = go (slotKeeps s ws xs) (slotFree first count as′ xs) f g (sym (m .answer) ∙ e)
+  entered-not : {X : Type 0} → r ≡ Broken → (slotKeeps s ws xs ≡ false → X) → (slotFree s as′ xs ≡ false → X) → X
+  entered-not {X} e f g = go (slotKeeps s ws xs) (slotFree s as′ xs) f g (sym (m .answer) ∙ e)
     where
-      go : (b c : Bool) → (b ≡ false → X) → (c ≡ false → X) → pick (b && c) (Held (newMarks ws (slotTeids s xs)) (newMarks as′ (heldOffsets first count xs))) Broken ≡ Broken → X
+      go : (b c : Bool) → (b ≡ false → X) → (c ≡ false → X) → pick (b && c) (Held (newMarks ws (slotTeids s xs)) (newMarks as′ (heldOffsets s xs))) Broken ≡ Broken → X
       go true true f g q = absurd (let z : _≡_ {A = ℕ} 0 1 = cc in omega arith)
       go true false f g q = g refl
       go false c f g q = f refl
 
 -- ---- the loop
 
-module _ (s : Settings) (first count : ℕ) (ws₀ as₀ a : List ℕ) (n : ℕ) where
+module _ (s : Settings) (ws₀ as₀ a : List ℕ) (n : ℕ) where
   pub record Passing (ws as′ : List ℕ) (i new taken : ℕ) : Type 0 where
     pub teids : Through (slotKeeps s) (slotTeids s) ws₀ a n ws i new
-    pub addresses : Through (slotFree first count) (heldOffsets first count) as₀ a n as′ i taken
+    pub addresses : Through (slotFree s) (heldOffsets s) as₀ a n as′ i taken
 
   pub passing-none : Passing ws₀ as₀ 0 0 0
-  passing-none = record { teids = through-none (slotKeeps s) (slotTeids s) ws₀ a n; addresses = through-none (slotFree first count) (heldOffsets first count) as₀ a n }
+  passing-none = record { teids = through-none (slotKeeps s) (slotTeids s) ws₀ a n; addresses = through-none (slotFree s) (heldOffsets s) as₀ a n }
 
-  not-all : (v b : List ℕ) → (slotsKeep s ws₀ (slices sessionWidth n a) && slotsFree first count as₀ (slices sessionWidth n a)) ≡ false → AllAdmitted s first count ws₀ as₀ (slices sessionWidth n a) Broken v b
+  not-all : (v b : List ℕ) → (slotsKeep s ws₀ (slices sessionWidth n a) && slotsFree s as₀ (slices sessionWidth n a)) ≡ false → AllAdmitted s ws₀ as₀ (slices sessionWidth n a) Broken v b
   not-all v b e = record {
     answer = sym (rw e);
     words = λ j k q. absurd (let z : _≡_ {A = ℕ} 0 1 = cc in omega arith);
@@ -133,11 +133,11 @@ module _ (s : Settings) (first count : ℕ) (ws₀ as₀ a : List ℕ) (n : ℕ)
 
   module _ {ws as′ : List ℕ} {i new taken : ℕ} (p : Passing ws as′ i new taken) where
     module _ (h : i < n) (r : Seen) (ws₁ as₁ : List ℕ)
-        (m : Entered s first count ws as′ (take (i * sessionWidth + sessionWidth - i * sessionWidth) (drop (i * sessionWidth) a)) r ws₁ as₁) where
-      here : Entered s first count ws as′ (part (i * sessionWidth) sessionWidth a) r ws₁ as₁
+        (m : Entered s ws as′ (take (i * sessionWidth + sessionWidth - i * sessionWidth) (drop (i * sessionWidth) a)) r ws₁ as₁) where
+      here : Entered s ws as′ (part (i * sessionWidth) sessionWidth a) r ws₁ as₁
       here =
           let span : i * sessionWidth + sessionWidth - i * sessionWidth ≡ sessionWidth = omega arith in
-          subst (λ (k : ℕ). Entered s first count ws as′ (take k (drop (i * sessionWidth) a)) r ws₁ as₁) span m
+          subst (λ (k : ℕ). Entered s ws as′ (take k (drop (i * sessionWidth) a)) r ws₁ as₁) span m
 
       pub passing-more : (j k : ℕ) → r ≡ Held j k → Passing ws₁ as₁ (i + 1) (new + j) (taken + k)
       passing-more j k e =
@@ -145,21 +145,21 @@ module _ (s : Settings) (first count : ℕ) (ws₀ as₀ a : List ℕ) (n : ℕ)
           let few = here .few j k e in
           record {
             teids = through-more (slotKeeps s) (slotTeids s) ws₀ a n (p .teids) h j ws₁ (f .0) (f .2) (here .words j k e) (few .0);
-            addresses = through-more (slotFree first count) (heldOffsets first count) as₀ a n (p .addresses) h k as₁ (f .1) (f .3) (here .addresses j k e) (few .1);
+            addresses = through-more (slotFree s) (heldOffsets s) as₀ a n (p .addresses) h k as₁ (f .1) (f .3) (here .addresses j k e) (few .1);
           }
 
-      pub passing-stop : (v b : List ℕ) → r ≡ Broken → AllAdmitted s first count ws₀ as₀ (slices sessionWidth n a) Broken v b
+      pub passing-stop : (v b : List ℕ) → r ≡ Broken → AllAdmitted s ws₀ as₀ (slices sessionWidth n a) Broken v b
       unfolding slotsKeep slotsFree
       passing-stop v b e =
           entered-not here e
           (λ f. not-all v b (rw (through-stop (slotKeeps s) (slotTeids s) ws₀ a n (p .teids) h f)))
-          (λ f. not-all v b (rw (through-stop (slotFree first count) (heldOffsets first count) as₀ a n (p .addresses) h f) (and-false (slotsKeep s ws₀ (slices sessionWidth n a)))))
+          (λ f. not-all v b (rw (through-stop (slotFree s) (heldOffsets s) as₀ a n (p .addresses) h f) (and-false (slotsKeep s ws₀ (slices sessionWidth n a)))))
 
-    pub passing-all : n ≤ i → AllAdmitted s first count ws₀ as₀ (slices sessionWidth n a) (Held new taken) ws as′
+    pub passing-all : n ≤ i → AllAdmitted s ws₀ as₀ (slices sessionWidth n a) (Held new taken) ws as′
     unfolding slotsKeep slotsFree teidsIn addressesIn
     passing-all h =
         let t = through-all (slotKeeps s) (slotTeids s) ws₀ a n (p .teids) h in
-        let u = through-all (slotFree first count) (heldOffsets first count) as₀ a n (p .addresses) h in
+        let u = through-all (slotFree s) (heldOffsets s) as₀ a n (p .addresses) h in
         record {
           answer = sym (λ j. pick (t .yes′ j && u .yes′ j) (Held (sym (t .count) j) (sym (u .count) j)) Broken);
           words = λ j k q. t .words;

@@ -106,13 +106,13 @@ unfoldable pub slotTeids : Settings → List ℕ → List ℕ
 slotTeids s xs = offsets (s .first) (map teidOf (slotHolds xs))
 
 -- no address of a slot is another session's
-unfoldable pub slotFree : ℕ → ℕ → List ℕ → List ℕ → Bool
-slotFree first count as′ xs = not (any (marked as′) (heldOffsets first count xs))
+unfoldable pub slotFree : Settings → List ℕ → List ℕ → Bool
+slotFree s as′ xs = not (any (marked as′) (heldOffsets s xs))
 
-pub record Entered (s : Settings) (first count : ℕ) (ws as′ xs : List ℕ) (r : Seen) (ws₁ as₁ : List ℕ) : Type 0 where
-  pub answer : r ≡ pick (slotKeeps s ws xs && slotFree first count as′ xs) (Held (newMarks ws (slotTeids s xs)) (newMarks as′ (heldOffsets first count xs))) Broken
+pub record Entered (s : Settings) (ws as′ xs : List ℕ) (r : Seen) (ws₁ as₁ : List ℕ) : Type 0 where
+  pub answer : r ≡ pick (slotKeeps s ws xs && slotFree s as′ xs) (Held (newMarks ws (slotTeids s xs)) (newMarks as′ (heldOffsets s xs))) Broken
   pub words : (n k : ℕ) → r ≡ Held n k → ws₁ ≡ marks ws (slotTeids s xs)
-  pub addresses : (n k : ℕ) → r ≡ Held n k → as₁ ≡ marks as′ (heldOffsets first count xs)
+  pub addresses : (n k : ℕ) → r ≡ Held n k → as₁ ≡ marks as′ (heldOffsets s xs)
   pub few : (n k : ℕ) → r ≡ Held n k → (n ≤ 24) × (k ≤ 24)
 
 -- ---- the slots of a table, in turn
@@ -125,17 +125,17 @@ inTurn test held ws (xs ∷ xss) = test ws xs && inTurn test held (marks ws (hel
 unfoldable pub slotsKeep : Settings → List ℕ → List (List ℕ) → Bool
 slotsKeep s ws xss = inTurn (slotKeeps s) (slotTeids s) ws xss
 
-unfoldable pub slotsFree : ℕ → ℕ → List ℕ → List (List ℕ) → Bool
-slotsFree first count as′ xss = inTurn (slotFree first count) (heldOffsets first count) as′ xss
+unfoldable pub slotsFree : Settings → List ℕ → List (List ℕ) → Bool
+slotsFree s as′ xss = inTurn (slotFree s) (heldOffsets s) as′ xss
 
 -- the offsets that they hold
 unfoldable pub teidsIn : Settings → List (List ℕ) → List ℕ
 teidsIn s xss = concatMap (slotTeids s) xss
 
-unfoldable pub addressesIn : ℕ → ℕ → List (List ℕ) → List ℕ
-addressesIn first count xss = concatMap (heldOffsets first count) xss
+unfoldable pub addressesIn : Settings → List (List ℕ) → List ℕ
+addressesIn s xss = concatMap (heldOffsets s) xss
 
-pub record AllAdmitted (s : Settings) (first count : ℕ) (ws as′ : List ℕ) (xss : List (List ℕ)) (r : Seen) (ws₁ as₁ : List ℕ) : Type 0 where
-  pub answer : r ≡ pick (slotsKeep s ws xss && slotsFree first count as′ xss) (Held (newMarks ws (teidsIn s xss)) (newMarks as′ (addressesIn first count xss))) Broken
+pub record AllAdmitted (s : Settings) (ws as′ : List ℕ) (xss : List (List ℕ)) (r : Seen) (ws₁ as₁ : List ℕ) : Type 0 where
+  pub answer : r ≡ pick (slotsKeep s ws xss && slotsFree s as′ xss) (Held (newMarks ws (teidsIn s xss)) (newMarks as′ (addressesIn s xss))) Broken
   pub words : (n k : ℕ) → r ≡ Held n k → ws₁ ≡ marks ws (teidsIn s xss)
-  pub addresses : (n k : ℕ) → r ≡ Held n k → as₁ ≡ marks as′ (addressesIn first count xss)
+  pub addresses : (n k : ℕ) → r ≡ Held n k → as₁ ≡ marks as′ (addressesIn s xss)

@@ -3,7 +3,6 @@
 // source interface. On a refusal nothing is said of the map, so each record is tested and marked in one turn. The addresses of a session
 // follow in a second map (crate addresses).
 //
-// first, size and v6 are the unit's pool of TEIDs and whether it has an IPv6 address.
 // A PDR that matches on an F-TEID has 1 at PLACE.
 ghost use mathlib.Core.Path.{_≡_};
 ghost use mathlib.Core.List.{[]};
@@ -13,7 +12,8 @@ ghost use Rattle.octets.specs.Octets.{part, slices};
 ghost use Rattle.rules.specs.Layout.{pdrWidth, endpointWidth, sessionWidth};
 ghost use Rattle.rules.specs.Limits.{maxSessions};
 ghost use Rattle.holdings.specs.Walk.{joins};
-ghost use Rattle.records.specs.Kept.{pdrSound, endpointSound, endpointIds, unit};
+ghost use Rattle.unit.specs.Meaning.{settingsOf};
+ghost use Rattle.records.specs.Kept.{pdrSound, endpointSound, endpointIds};
 ghost use Rattle.sessions.specs.Slot.{areaSound};
 ghost use Rattle.marking.specs.Marking.{holdsTeid, alike, heldBy, holdAt, endpointHold, pdrHolds, endpointHolds, Stepped, Marked, Admitted, Entered, AllAdmitted};
 use format::CSID_COUNT;
@@ -29,6 +29,7 @@ use format::PLACE;
 use format::SLOT;
 use format::SOURCE;
 use format::TEID;
+use unit::Settings;
 
 // What became of records that were to be tested and marked: one is broken or holds a TEID against the rule, or so many TEIDs were new.
 pub enum Marks {
@@ -75,33 +76,26 @@ fn shares(pdrs: &[u8], n: usize, slot: &[u8]) -> bool
 }
 
 // One endpoint: tested, and its TEID marked, which has to be new.
-fn admit_endpoint(words: &mut [u64], slot: &[u8], first: u64, size: u64, v6: bool) -> Marks
-    requires { ⌜ (length (now slot) ≡ endpointWidth) × (first + size ≤ 2 ^ 32) × (size ≤ 64 * length (now words)) ⌝ }
+fn admit_endpoint(words: &mut [u64], slot: &[u8], u: Settings) -> Marks
+    requires { ⌜ (length (now slot) ≡ endpointWidth) × (u .first + u .size ≤ 2 ^ 32) × (u .size ≤ 64 * length (now words)) ⌝ }
     ensures { λ r.
-        ⌜ Stepped (endpointSound (unit first size v6) (now (slot .entry))) first (now (words .entry)) [] (endpointHold (now (slot .entry))) r (now (words .exit)) ⌝ }
+        ⌜ Stepped (endpointSound (settingsOf u) (now (slot .entry))) (u .first) (now (words .entry)) [] (endpointHold (now (slot .entry))) r (now (words .exit)) ⌝ }
 {
-    if !records::endpoint_sound(slot, first, size, v6) {
+    if !records::endpoint_sound(slot, u) {
         return Marks::Clash;
     }
     let teid = octets::read(slot, 1, 4);
-    if pool::mark(words, (teid - first) as usize) {
+    if pool::mark(words, (teid - u.first) as usize) {
         return Marks::Clash;
     }
     Marks::New(1)
 }
 
 // The area of n endpoints, in one walk: each is tested and marked, their IDs ascend, and the room after them is zero.
-fn admit_endpoints(
-    words: &mut [u64],
-    ends: &[u8],
-    n: usize,
-    first: u64,
-    size: u64,
-    v6: bool,
-) -> Marks
-    requires { ⌜ (n * endpointWidth ≤ length (now ends)) × (first + size ≤ 2 ^ 32) × (size ≤ 64 * length (now words)) ⌝ }
+fn admit_endpoints(words: &mut [u64], ends: &[u8], n: usize, u: Settings) -> Marks
+    requires { ⌜ (n * endpointWidth ≤ length (now ends)) × (u .first + u .size ≤ 2 ^ 32) × (u .size ≤ 64 * length (now words)) ⌝ }
     ensures { λ r.
-        ⌜ Marked (areaSound (endpointSound (unit first size v6)) endpointWidth 1 n (now (ends .entry))) first (now (words .entry)) (endpointHolds n (now (ends .entry))) r (now (words .exit)) ⌝ }
+        ⌜ Marked (areaSound (endpointSound (settingsOf u)) endpointWidth 1 n (now (ends .entry))) (u .first) (now (words .entry)) (endpointHolds n (now (ends .entry))) r (now (words .exit)) ⌝ }
 {
     let mut new: usize = 0;
     let mut next: u64 = 0;
@@ -111,7 +105,7 @@ fn admit_endpoints(
         if id < next {
             return Marks::Clash;
         }
-        let step = admit_endpoint(words, &ends[at..at + ENDPOINT], first, size, v6);
+        let step = admit_endpoint(words, &ends[at..at + ENDPOINT], u);
         let Marks::New(k) = step else {
             return Marks::Clash;
         };
@@ -126,30 +120,21 @@ fn admit_endpoints(
 }
 
 // The PDR at place i: tested, and its TEID marked, if it has one. ends has the session's m endpoints.
-fn admit_pdr(
-    words: &mut [u64],
-    pdrs: &[u8],
-    i: usize,
-    ends: &[u8],
-    m: usize,
-    first: u64,
-    size: u64,
-    v6: bool,
-) -> Marks
-    requires { ⌜ ((i + 1) * pdrWidth ≤ length (now pdrs)) × (m * endpointWidth ≤ length (now ends)) × (first + size ≤ 2 ^ 32) × (size ≤ 64 * length (now words)) ⌝ }
+fn admit_pdr(words: &mut [u64], pdrs: &[u8], i: usize, ends: &[u8], m: usize, u: Settings) -> Marks
+    requires { ⌜ ((i + 1) * pdrWidth ≤ length (now pdrs)) × (m * endpointWidth ≤ length (now ends)) × (u .first + u .size ≤ 2 ^ 32) × (u .size ≤ 64 * length (now words)) ⌝ }
     ensures { λ r.
-        ⌜ Stepped (pdrSound (unit first size v6) (endpointIds m (now (ends .entry))) (part (i * pdrWidth) pdrWidth (now (pdrs .entry)))) first (now (words .entry)) (pdrHolds i (now (pdrs .entry))) (holdAt (now (pdrs .entry)) i) r (now (words .exit)) ⌝ }
+        ⌜ Stepped (pdrSound (settingsOf u) (endpointIds m (now (ends .entry))) (part (i * pdrWidth) pdrWidth (now (pdrs .entry)))) (u .first) (now (words .entry)) (pdrHolds i (now (pdrs .entry))) (holdAt (now (pdrs .entry)) i) r (now (words .exit)) ⌝ }
 {
     let at = i * PDR;
     let slot = &pdrs[at..at + PDR];
-    if !records::pdr_sound(slot, ends, m, first, size, v6) {
+    if !records::pdr_sound(slot, ends, m, u) {
         return Marks::Clash;
     }
     if slot[PLACE] != 1 {
         return Marks::New(0);
     }
     let teid = octets::read(slot, TEID, 4);
-    if !pool::mark(words, (teid - first) as usize) {
+    if !pool::mark(words, (teid - u.first) as usize) {
         return Marks::New(1);
     }
     if shares(pdrs, i, slot) {
@@ -159,19 +144,10 @@ fn admit_pdr(
 }
 
 // The area of n PDRs, in one walk: each is tested and marked, their IDs ascend, and the room after them is zero.
-fn admit_pdrs(
-    words: &mut [u64],
-    pdrs: &[u8],
-    n: usize,
-    ends: &[u8],
-    m: usize,
-    first: u64,
-    size: u64,
-    v6: bool,
-) -> Marks
-    requires { ⌜ (n * pdrWidth ≤ length (now pdrs)) × (m * endpointWidth ≤ length (now ends)) × (first + size ≤ 2 ^ 32) × (size ≤ 64 * length (now words)) ⌝ }
+fn admit_pdrs(words: &mut [u64], pdrs: &[u8], n: usize, ends: &[u8], m: usize, u: Settings) -> Marks
+    requires { ⌜ (n * pdrWidth ≤ length (now pdrs)) × (m * endpointWidth ≤ length (now ends)) × (u .first + u .size ≤ 2 ^ 32) × (u .size ≤ 64 * length (now words)) ⌝ }
     ensures { λ r.
-        ⌜ Marked (areaSound (pdrSound (unit first size v6) (endpointIds m (now (ends .entry)))) pdrWidth 2 n (now (pdrs .entry))) first (now (words .entry)) (pdrHolds n (now (pdrs .entry))) r (now (words .exit)) ⌝ }
+        ⌜ Marked (areaSound (pdrSound (settingsOf u) (endpointIds m (now (ends .entry)))) pdrWidth 2 n (now (pdrs .entry))) (u .first) (now (words .entry)) (pdrHolds n (now (pdrs .entry))) r (now (words .exit)) ⌝ }
 {
     let mut new: usize = 0;
     let mut next: u64 = 0;
@@ -180,7 +156,7 @@ fn admit_pdrs(
         if id < next {
             return Marks::Clash;
         }
-        let step = admit_pdr(words, pdrs, i, ends, m, first, size, v6);
+        let step = admit_pdr(words, pdrs, i, ends, m, u);
         let Marks::New(k) = step else {
             return Marks::Clash;
         };
@@ -195,9 +171,9 @@ fn admit_pdrs(
 }
 
 // Tests a session's slot and marks its TEIDs. A slot that is broken, or holds a TEID against the rule, is a clash.
-fn admit(words: &mut [u64], slot: &[u8], first: u64, size: u64, v6: bool) -> Marks
-    requires { ⌜ (length (now slot) ≡ sessionWidth) × (first + size ≤ 2 ^ 32) × (size ≤ 64 * length (now words)) ⌝ }
-    ensures { λ r. ⌜ Admitted (unit first size v6) (now (words .entry)) (now (slot .entry)) r (now (words .exit)) ⌝ }
+fn admit(words: &mut [u64], slot: &[u8], u: Settings) -> Marks
+    requires { ⌜ (length (now slot) ≡ sessionWidth) × (u .first + u .size ≤ 2 ^ 32) × (u .size ≤ 64 * length (now words)) ⌝ }
+    ensures { λ r. ⌜ Admitted (settingsOf u) (now (words .entry)) (now (slot .entry)) r (now (words .exit)) ⌝ }
 {
     if !sessions::head_sound(slot) {
         return Marks::Clash;
@@ -207,7 +183,7 @@ fn admit(words: &mut [u64], slot: &[u8], first: u64, size: u64, v6: bool) -> Mar
     }
     let ends = &slot[ENDPOINTS..CSIDS];
     let m = slot[ENDPOINT_COUNT] as usize;
-    let held = admit_endpoints(words, ends, m, first, size, v6);
+    let held = admit_endpoints(words, ends, m, u);
     let Marks::New(e) = held else {
         return Marks::Clash;
     };
@@ -217,9 +193,7 @@ fn admit(words: &mut [u64], slot: &[u8], first: u64, size: u64, v6: bool) -> Mar
         slot[PDR_COUNT] as usize,
         ends,
         m,
-        first,
-        size,
-        v6,
+        u,
     );
     let Marks::New(p) = pdrs else {
         return Marks::Clash;
@@ -233,26 +207,17 @@ pub enum Seen {
     Held(usize, usize),
 }
 
-// Tests a session's slot and marks its TEIDs, and its addresses of the pool that starts at address and has count.
-fn admit_session(
-    words: &mut [u64],
-    addresses: &mut [u64],
-    slot: &[u8],
-    first: u64,
-    size: u64,
-    v6: bool,
-    address: u64,
-    count: u64,
-) -> Seen
-    requires { ⌜ (length (now slot) ≡ sessionWidth) × (first + size ≤ 2 ^ 32) × (size ≤ 64 * length (now words)) × (address + count ≤ 2 ^ 32) × (count ≤ 64 * length (now addresses)) ⌝ }
+// Tests a session's slot and marks its TEIDs, and its addresses of the pool.
+fn admit_session(words: &mut [u64], addresses: &mut [u64], slot: &[u8], u: Settings) -> Seen
+    requires { ⌜ (length (now slot) ≡ sessionWidth) × (u .first + u .size ≤ 2 ^ 32) × (u .size ≤ 64 * length (now words)) × (u .addresses ≤ 64 * length (now addresses)) ⌝ }
     ensures { λ r.
-        ⌜ Entered (unit first size v6) address count (now (words .entry)) (now (addresses .entry)) (now (slot .entry)) r (now (words .exit)) (now (addresses .exit)) ⌝ }
+        ⌜ Entered (settingsOf u) (now (words .entry)) (now (addresses .entry)) (now (slot .entry)) r (now (words .exit)) (now (addresses .exit)) ⌝ }
 {
-    let teids = admit(words, slot, first, size, v6);
+    let teids = admit(words, slot, u);
     let Marks::New(n) = teids else {
         return Seen::Broken;
     };
-    let held = addresses::admit(addresses, slot, address, count);
+    let held = addresses::admit(addresses, slot, u);
     let addresses::Met::New(k) = held else {
         return Seen::Broken;
     };
@@ -260,27 +225,17 @@ fn admit_session(
 }
 
 // Tests n slots and marks their TEIDs and addresses, one after the other.
-pub fn admit_all(
-    words: &mut [u64],
-    addresses: &mut [u64],
-    a: &[u8],
-    n: usize,
-    first: u64,
-    size: u64,
-    v6: bool,
-    address: u64,
-    count: u64,
-) -> Seen
-    requires { ⌜ (n * sessionWidth ≤ length (now a)) × (n ≤ maxSessions) × (first + size ≤ 2 ^ 32) × (size ≤ 64 * length (now words)) × (address + count ≤ 2 ^ 32) × (count ≤ 64 * length (now addresses)) ⌝ }
+pub fn admit_all(words: &mut [u64], addresses: &mut [u64], a: &[u8], n: usize, u: Settings) -> Seen
+    requires { ⌜ (n * sessionWidth ≤ length (now a)) × (n ≤ maxSessions) × (u .first + u .size ≤ 2 ^ 32) × (u .size ≤ 64 * length (now words)) × (u .addresses ≤ 64 * length (now addresses)) ⌝ }
     ensures { λ r.
-        ⌜ AllAdmitted (unit first size v6) address count (now (words .entry)) (now (addresses .entry)) (slices sessionWidth n (now (a .entry))) r (now (words .exit)) (now (addresses .exit)) ⌝ }
+        ⌜ AllAdmitted (settingsOf u) (now (words .entry)) (now (addresses .entry)) (slices sessionWidth n (now (a .entry))) r (now (words .exit)) (now (addresses .exit)) ⌝ }
 {
     let mut new: usize = 0;
     let mut taken: usize = 0;
     for i in 0..n {
         let at = i * SLOT;
         let slot = &a[at..at + SLOT];
-        let step = admit_session(words, addresses, slot, first, size, v6, address, count);
+        let step = admit_session(words, addresses, slot, u);
         let Seen::Held(j, k) = step else {
             return Seen::Broken;
         };

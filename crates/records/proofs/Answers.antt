@@ -16,12 +16,15 @@ use Rattle.octets.specs.Lists.{member}
 use Rattle.octets.proofs.Ordered.{orders}
 use Rattle.octets.proofs.Tests.{and-left, and-right, of-true}
 use Rattle.octets.proofs.FieldLaws.{octet-field, zero-number, zero-fields}
-use Rattle.rules.specs.Limits.{maxPool, maxAddresses}
-use Rattle.rules.specs.Layout.{endpointWidth, settingsWidth, pdrWidth, csidWidth}
+use Rattle.rules.specs.Model.{Settings}
+use Rattle.rules.specs.Layout.{viewSettings, endpointWidth, settingsWidth, pdrWidth, csidWidth}
 use native.Mathlib.Nat.{add-zero}
-use Rattle.rules.specs.Sound.{poolTests, addressPoolTests, limitTests}
+use Rattle.rules.specs.Sound.{settingsAllowed}
 use Rattle.laws.proofs.LayoutLaws.{endpoint-view}
-use Rattle.records.specs.Kept.{settingsSound, pdrSound, endpointSound, csidSound, endpointIds, unit, optionalTest, familiesTest, tunnelTest, placeTest, pdrTest, endpointTest, addressTest, csidTest}
+use Rattle.unit.specs.declared.Settings.{Settings as Unit}
+use Rattle.unit.specs.Meaning.{settingsOf}
+use Rattle.unit.proofs.FieldLaws.{ipv6-there}
+use Rattle.records.specs.Kept.{settingsSound, pdrSound, endpointSound, csidSound, endpointIds, hasIpv6, optionalTest, familiesTest, tunnelTest, placeTest, pdrTest, endpointTest, addressTest, csidTest}
 use Rattle.records.proofs.Cells.{and-true, and-false, or-true, or-false}
 use Rattle.records.proofs.Slots.{endpoint-law, pdr-law, csid-law, settings-law}
 
@@ -54,58 +57,60 @@ module _ (xs : List ℕ) (e : length xs ≡ csidWidth) (o : T (octets xs)) where
 
 -- ---- settings
 
-module _ (xs : List ℕ) (e : length xs ≡ settingsWidth) (o : T (octets xs)) where
-  pub settings-absent : (r : Bool) → r ≡ optionalTest (getD xs 4 0) (number (part 5 16 xs)) → not r ≡ true → false ≡ settingsSound xs
-  settings-absent r q h = sym (settings-law xs e o ∙ rw (← q, not-true r h))
+module _ (xs : List ℕ) (e : length xs ≡ settingsWidth) (o : T (octets xs)) (r : Bool) (q : r ≡ optionalTest (getD xs 4 0) (number (part 5 16 xs))) where
+  pub settings-absent : not r ≡ true → false ≡ settingsSound xs
+  settings-absent h = sym (settings-law xs e o ∙ rw (← q, not-true r h) (and-false (settingsAllowed (viewSettings xs))))
 
-  module _ (r : Bool) (q : r ≡ optionalTest (getD xs 4 0) (number (part 5 16 xs))) (h : not r ≡ false) (first size : ℕ) (f : first ≡ number (part 21 4 xs)) (z : size ≡ number (part 25 4 xs))
-      (t : Bool) (y : t ≡ allOf (poolTests first size)) where
-    pub settings-pool : not t ≡ true → false ≡ settingsSound xs
-    settings-pool g = sym (settings-law xs e o ∙ rw (← q, not-false r h, ← f, ← z, ← y, not-true t g))
-
-    module _ (g : not t ≡ false) (u : Bool) (at count : ℕ) (qa : at ≡ number (part 29 4 xs)) (qc : count ≡ number (part 33 4 xs)) (w : u ≡ allOf (addressPoolTests at count)) where
-      pub settings-addresses : not u ≡ true → false ≡ settingsSound xs
-      settings-addresses k = sym (settings-law xs e o ∙ rw (← q, not-false r h, ← f, ← z, ← y, not-false t g, ← qa, ← qc, ← w, not-true u k))
-
-      pub settings-limit : not u ≡ false → (l : Bool) (limit : ℕ) → limit ≡ number (part 37 2 xs) → l ≡ allOf (limitTests limit) → l ≡ settingsSound xs
-      settings-limit k l limit ql v = v ∙ sym (settings-law xs e o ∙ rw (← q, not-false r h, ← f, ← z, ← y, not-false t g, ← qa, ← qc, ← w, not-false u k, ← ql))
+  pub settings-all : not r ≡ false → (u : Unit) → settingsOf u ≡ viewSettings xs → (b : Bool) → b ≡ settingsAllowed (settingsOf u) → b ≡ settingsSound xs
+  settings-all h u y b k = k ∙ ap settingsAllowed y ∙ sym (settings-law xs e o ∙ rw (← q, not-false r h) (and-true (settingsAllowed (viewSettings xs))))
 
 -- ---- F-TEIDs and endpoints
 
-module _ (first size : ℕ) (v6 : Bool) where
-  module _ (t f : ℕ) where
-    pub tunnel-low : (u : ℕ) → u ≡ t → u < first → false ≡ tunnelTest first size v6 t f
-    tunnel-low u q h = sym (rw (← q, lt-leb first u h))
+module _ (u : Unit) where
+  abbrev s : Settings
+  s = settingsOf u
 
-    pub tunnel-high : (u : ℕ) → u ≡ t → first ≤ u → first + size ≤ u → false ≡ tunnelTest first size v6 t f
-    tunnel-high u q g h = sym (rw (← q, le-leb first u g, le-ltb u (first + size) h))
+  fits : u .first + u .size ≤ 2 ^ 32 → s .first + s .size ≤ 2 ^ 32
+  unfolding settingsOf
+  fits h = h
 
-    pub tunnel-in : (u : ℕ) → u ≡ t → (r : Bool) → first ≤ u → u < first + size → r ≡ familiesTest f v6 → r ≡ tunnelTest first size v6 t f
-    tunnel-in u q r g h y = y ∙ sym (rw (← q, le-leb first u g, lt-ltb u (first + size) h))
+  module _ (t f v : ℕ) (q : v ≡ t) where
+    tunnel-is : tunnelTest s t f ≡ (leb (u .first) v && (ltb v (u .first + u .size) && familiesTest f (u .«has_ipv6»)))
+    unfolding settingsOf
+    tunnel-is = λ i. leb (u .first) (sym q i) && (ltb (sym q i) (u .first + u .size) && familiesTest f (ipv6-there u i))
 
-  module _ (pool : first + size ≤ 2 ^ 32) (xs : List ℕ) (e : length xs ≡ endpointWidth) (o : T (octets xs)) where
-    endpoint-is : endpointSound (unit first size v6) xs ≡ (tunnelTest first size v6 (number (part 1 4 xs)) (getD xs 5 0) && (optionalTest (getD xs 6 0) (number (part 7 4 xs)) && true))
+    pub tunnel-low : v < u .first → false ≡ tunnelTest s t f
+    tunnel-low h = sym (tunnel-is ∙ rw (lt-leb (u .first) v h))
+
+    pub tunnel-high : u .first ≤ v → u .first + u .size ≤ v → false ≡ tunnelTest s t f
+    tunnel-high g h = sym (tunnel-is ∙ rw (le-leb (u .first) v g, le-ltb v (u .first + u .size) h))
+
+    pub tunnel-in : (r : Bool) → u .first ≤ v → v < u .first + u .size → r ≡ familiesTest f (u .«has_ipv6») → r ≡ tunnelTest s t f
+    tunnel-in r g h y = y ∙ sym (tunnel-is ∙ rw (le-leb (u .first) v g, lt-ltb v (u .first + u .size) h))
+
+  module _ (pool : u .first + u .size ≤ 2 ^ 32) (xs : List ℕ) (e : length xs ≡ endpointWidth) (o : T (octets xs)) where
+    endpoint-is : endpointSound s xs ≡ (tunnelTest s (number (part 1 4 xs)) (getD xs 5 0) && (optionalTest (getD xs 6 0) (number (part 7 4 xs)) && true))
     unfolding fieldsAt endpointTest
-    endpoint-is = endpoint-law first size v6 pool xs e o ∙ rw (octet-field 5 xs, octet-field 6 xs)
+    endpoint-is = endpoint-law s (fits pool) xs e o ∙ rw (octet-field 5 xs, octet-field 6 xs)
 
     module _ (a : Bool) (q : a ≡ optionalTest (getD xs 6 0) (number (part 7 4 xs))) where
-      pub endpoint-address : not a ≡ true → false ≡ endpointSound (unit first size v6) xs
-      endpoint-address h = sym (endpoint-is ∙ rw (← q, not-true a h) (and-false (tunnelTest first size v6 (number (part 1 4 xs)) (getD xs 5 0))))
+      pub endpoint-address : not a ≡ true → false ≡ endpointSound s xs
+      endpoint-address h = sym (endpoint-is ∙ rw (← q, not-true a h) (and-false (tunnelTest s (number (part 1 4 xs)) (getD xs 5 0))))
 
-      pub endpoint-in : not a ≡ false → (r : Bool) → r ≡ tunnelTest first size v6 (number (part 1 4 xs)) (getD xs 5 0) → r ≡ endpointSound (unit first size v6) xs
-      endpoint-in h r y = y ∙ sym (endpoint-is ∙ rw (← q, not-false a h) (and-true (tunnelTest first size v6 (number (part 1 4 xs)) (getD xs 5 0))))
+      pub endpoint-in : not a ≡ false → (r : Bool) → r ≡ tunnelTest s (number (part 1 4 xs)) (getD xs 5 0) → r ≡ endpointSound s xs
+      endpoint-in h r y = y ∙ sym (endpoint-is ∙ rw (← q, not-false a h) (and-true (tunnelTest s (number (part 1 4 xs)) (getD xs 5 0))))
 
 -- ---- PDRs
 
-module _ (first size : ℕ) (v6 : Bool) (live xs : List ℕ) where
+module _ (u : Unit) (live xs : List ℕ) where
   -- what it matches on
   abbrev matches : Bool
-  matches = placeTest first size v6 live (getD xs 12 0) (number (part 13 4 xs)) (getD xs 17 0) (getD xs 18 0)
+  matches = placeTest (settingsOf u) live (getD xs 12 0) (number (part 13 4 xs)) (getD xs 17 0) (getD xs 18 0)
 
   pub place-both : getD xs 12 0 ≡ 1 → (getD xs 18 0 ≡ 0 → ⊥) → false ≡ matches
   place-both k h = sym (rw (k, ne-eqb (getD xs 18 0) 0 h))
 
-  pub place-tunnel : (r : Bool) → getD xs 12 0 ≡ 1 → getD xs 18 0 ≡ 0 → r ≡ tunnelTest first size v6 (number (part 13 4 xs)) (getD xs 17 0) → r ≡ matches
+  pub place-tunnel : (r : Bool) → getD xs 12 0 ≡ 1 → getD xs 18 0 ≡ 0 → r ≡ tunnelTest (settingsOf u) (number (part 13 4 xs)) (getD xs 17 0) → r ≡ matches
   place-tunnel r k h y = y ∙ sym (rw (k, h))
 
   stray : allZero (part 13 5 xs) ≡ allZero (number (part 13 4 xs) ∷ getD xs 17 0 ∷ [])
@@ -124,63 +129,32 @@ module _ (first size : ℕ) (v6 : Bool) (live xs : List ℕ) where
       y ∙ zero-fields 12 (1 ∷ 4 ∷ 1 ∷ 1 ∷ []) xs
       ∙ sym (rw (ne-eqb (getD xs 12 0) 1 k, ne-eqb (getD xs 12 0) 2 h, octet-field 12 xs, octet-field 17 xs, octet-field 18 xs))
 
-  module _ (pool : first + size ≤ 2 ^ 32) (e : length xs ≡ pdrWidth) (o : T (octets xs)) where
+  module _ (pool : u .first + u .size ≤ 2 ^ 32) (e : length xs ≡ pdrWidth) (o : T (octets xs)) where
     abbrev far : Bool
     far = optionalTest (getD xs 6 0) (number (part 7 4 xs))
 
     abbrev address : Bool
     address = optionalTest (getD xs 19 0) (number (part 20 4 xs))
 
-    pdr-is : pdrSound (unit first size v6) live xs ≡ allOf (far ∷ ltb (getD xs 11 0) 16 ∷ matches ∷ address ∷ [])
+    pdr-is : pdrSound (settingsOf u) live xs ≡ allOf (far ∷ ltb (getD xs 11 0) 16 ∷ matches ∷ address ∷ [])
     unfolding fieldsAt pdrTest
-    pdr-is = pdr-law first size v6 pool live xs e o ∙ rw (octet-field 6 xs, octet-field 11 xs, octet-field 12 xs, octet-field 17 xs, octet-field 18 xs, octet-field 19 xs)
+    pdr-is = pdr-law (settingsOf u) (fits u pool) live xs e o ∙ rw (octet-field 6 xs, octet-field 11 xs, octet-field 12 xs, octet-field 17 xs, octet-field 18 xs, octet-field 19 xs)
 
-    pub pdr-source : 15 < getD xs 11 0 → false ≡ pdrSound (unit first size v6) live xs
+    pub pdr-source : 15 < getD xs 11 0 → false ≡ pdrSound (settingsOf u) live xs
     pdr-source h = sym (pdr-is ∙ rw (le-ltb (getD xs 11 0) 16 (omega arith)) (and-false far))
 
     module _ (g : getD xs 11 0 ≤ 15) (f : Bool) (q : f ≡ far) where
-      pub pdr-far : not f ≡ true → false ≡ pdrSound (unit first size v6) live xs
+      pub pdr-far : not f ≡ true → false ≡ pdrSound (settingsOf u) live xs
       pdr-far h = sym (pdr-is ∙ rw (← q, not-true f h))
 
       module _ (h : not f ≡ false) (a : Bool) (qa : a ≡ address) where
-        pub pdr-address : not a ≡ true → false ≡ pdrSound (unit first size v6) live xs
+        pub pdr-address : not a ≡ true → false ≡ pdrSound (settingsOf u) live xs
         pdr-address k = sym (pdr-is ∙ rw (lt-ltb (getD xs 11 0) 16 (omega arith), ← q, not-false f h, ← qa, not-true a k) (and-false matches))
 
-        pub pdr-place : not a ≡ false → (r : Bool) → r ≡ matches → r ≡ pdrSound (unit first size v6) live xs
+        pub pdr-place : not a ≡ false → (r : Bool) → r ≡ matches → r ≡ pdrSound (settingsOf u) live xs
         pdr-place k r y = y ∙ sym (pdr-is ∙ rw (lt-ltb (getD xs 11 0) 16 (omega arith), ← q, not-false f h, ← qa, not-false a k) (and-true matches))
 
 -- ---- single fields
-
-module _ (first size : ℕ) where
-  pub pool-first : first < 1 → false ≡ allOf (poolTests first size)
-  unfolding poolTests
-  pool-first h = sym (rw (lt-leb 1 first h))
-
-  pub pool-empty : size < 1 → false ≡ allOf (poolTests first size)
-  unfolding poolTests
-  pool-empty h = sym (rw (lt-leb 1 size h) (and-false (leb 1 first)))
-
-  pub pool-large : 1 ≤ first → 1 ≤ size → maxPool < size → false ≡ allOf (poolTests first size)
-  unfolding poolTests
-  pool-large f e h = sym (rw (le-leb 1 first f, le-leb 1 size e, lt-leb size maxPool h))
-
-  pub pool-last : 1 ≤ first → 1 ≤ size → size ≤ maxPool → leb (first + size) 4294967296 ≡ allOf (poolTests first size)
-  unfolding poolTests
-  pool-last f e h = sym (rw (le-leb 1 first f, le-leb 1 size e, le-leb size maxPool h) (and-true (leb (first + size) 4294967296)))
-
--- the pool of addresses
-module _ (first count : ℕ) where
-  pub addresses-none : count < 1 → false ≡ allOf (addressPoolTests first count)
-  unfolding addressPoolTests
-  addresses-none h = sym (rw (lt-leb 1 count h))
-
-  pub addresses-large : 1 ≤ count → maxAddresses < count → false ≡ allOf (addressPoolTests first count)
-  unfolding addressPoolTests
-  addresses-large e h = sym (rw (le-leb 1 count e, lt-leb count maxAddresses h))
-
-  pub addresses-last : 1 ≤ count → count ≤ maxAddresses → leb (first + count) 4294967296 ≡ allOf (addressPoolTests first count)
-  unfolding addressPoolTests
-  addresses-last e h = sym (rw (le-leb 1 count e, le-leb count maxAddresses h) (and-true (leb (first + count) 4294967296)))
 
 module _ (at n : ℕ) (xs : List ℕ) where
   pub optional-absent : (z : Bool) → getD xs at 0 ≡ 0 → z ≡ allZero (part (at + 1) n xs) → z ≡ optionalTest (getD xs at 0) (number (part (at + 1) n xs))
@@ -273,26 +247,28 @@ found-all a n i id f m h q = let e : n - i ≡ 0 = omega arith in sym (or-false 
 
 -- ---- the TEID of a record that is sound is of the pool
 
-module _ (first size : ℕ) (v6 : Bool) (pool : first + size ≤ 2 ^ 32) where
-  tunnel-pool : (t f : ℕ) → T (tunnelTest first size v6 t f) → (first ≤ t) × (t < first + size)
+module _ (u : Unit) (pool : u .first + u .size ≤ 2 ^ 32) where
+  tunnel-pool : (t f : ℕ) → T (tunnelTest (settingsOf u) t f) → (u .first ≤ t) × (t < u .first + u .size)
+  unfolding settingsOf
   tunnel-pool t f k =
-      let r = and-right (leb first t) (ltb t (first + size) && familiesTest f v6) k in
-      (leb→le first t (and-left (leb first t) (ltb t (first + size) && familiesTest f v6) k), ltb→lt t (first + size) (and-left (ltb t (first + size)) (familiesTest f v6) r))
+      let families = familiesTest f (hasIpv6 (settingsOf u)) in
+      let r = and-right (leb (u .first) t) (ltb t (u .first + u .size) && families) k in
+      (leb→le (u .first) t (and-left (leb (u .first) t) (ltb t (u .first + u .size) && families) k), ltb→lt t (u .first + u .size) (and-left (ltb t (u .first + u .size)) families r))
 
-  pub endpoint-pool : (xs : List ℕ) → length xs ≡ endpointWidth → T (octets xs) → endpointSound (unit first size v6) xs ≡ true → (first ≤ number (part 1 4 xs)) × (number (part 1 4 xs) < first + size)
+  pub endpoint-pool : (xs : List ℕ) → length xs ≡ endpointWidth → T (octets xs) → endpointSound (settingsOf u) xs ≡ true → (u .first ≤ number (part 1 4 xs)) × (number (part 1 4 xs) < u .first + u .size)
   endpoint-pool xs e o k =
       tunnel-pool (number (part 1 4 xs)) (getD xs 5 0)
-      (and-left (tunnelTest first size v6 (number (part 1 4 xs)) (getD xs 5 0)) (optionalTest (getD xs 6 0) (number (part 7 4 xs)) && true) (of-true (sym (endpoint-is first size v6 pool xs e o) ∙ k)))
+      (and-left (tunnelTest (settingsOf u) (number (part 1 4 xs)) (getD xs 5 0)) (optionalTest (getD xs 6 0) (number (part 7 4 xs)) && true) (of-true (sym (endpoint-is u pool xs e o) ∙ k)))
 
-  pub pdr-pool : (live xs : List ℕ) → length xs ≡ pdrWidth → T (octets xs) → pdrSound (unit first size v6) live xs ≡ true → getD xs 12 0 ≡ 1
-      → (first ≤ number (part 13 4 xs)) × (number (part 13 4 xs) < first + size)
+  pub pdr-pool : (live xs : List ℕ) → length xs ≡ pdrWidth → T (octets xs) → pdrSound (settingsOf u) live xs ≡ true → getD xs 12 0 ≡ 1
+      → (u .first ≤ number (part 13 4 xs)) × (number (part 13 4 xs) < u .first + u .size)
   pdr-pool live xs e o k there =
       let far : Bool = optionalTest (getD xs 6 0) (number (part 7 4 xs)) in
       let address : Bool = optionalTest (getD xs 19 0) (number (part 20 4 xs)) in
       let source : Bool = ltb (getD xs 11 0) 16 in
-      let m : Bool = matches first size v6 live xs in
-      let held : Bool = tunnelTest first size v6 (number (part 13 4 xs)) (getD xs 17 0) in
-      let t : T (allOf (far ∷ source ∷ m ∷ address ∷ [])) = of-true (sym (pdr-is first size v6 live xs pool e o) ∙ k) in
+      let m : Bool = matches u live xs in
+      let held : Bool = tunnelTest (settingsOf u) (number (part 13 4 xs)) (getD xs 17 0) in
+      let t : T (allOf (far ∷ source ∷ m ∷ address ∷ [])) = of-true (sym (pdr-is u live xs pool e o) ∙ k) in
       let place : T m = and-left m (address && true) (and-right source (m && (address && true)) (and-right far (source && (m && (address && true))) t)) in
       let one : T (eqb (getD xs 18 0) 0 && held) = rw there at place in
       tunnel-pool (number (part 13 4 xs)) (getD xs 17 0) (and-right (eqb (getD xs 18 0) 0) held one)

@@ -1,6 +1,6 @@
 -- What the tests of a slot come to, field by field: what is left is what an octet can have wrong.
 -- Assumes nothing.
-use mathlib.Core.Path.{_≡_, refl, sym, ap, ap₂, subst, _∙_}
+use mathlib.Core.Path.{_≡_, refl, sym, ap, ap₂, _∙_}
 use Prim.Native.Nat.{ℕ, suc, _+_, _-_, _/_, _^_, _≤_, _<_, zero-le}
 use native.Mathlib.Omega.{arith}
 use mathlib.Core.Bool.{Bool, true, false, not, _&&_, _||_}
@@ -11,7 +11,7 @@ use lib.ListN.{length, take, drop, getD, drop-of-length-le, length-drop, length-
 use lib.Seq.{take-all, take-at, drop-at, drop-drop, drop-cons}
 use lib.Dec.{T, leb, ltb, eqb, lit≤, lit<}
 use lib.Pow.{areBytes}
-use Rattle.octets.specs.Choice.{pick, flag, isNil, isSome, valueOr, allOf}
+use Rattle.octets.specs.Choice.{pick, flag, isNil, isSome, valueOr}
 use Rattle.octets.specs.Octets.{part, number, numberAt, octetAt, be, zeros, padded, allZero, sameOctets, octets}
 use Rattle.octets.specs.Fields.{widthOf, fieldsAt}
 use Rattle.octets.specs.Lists.{member}
@@ -24,10 +24,10 @@ use Rattle.rules.specs.Model.{Settings, neither, tunnel, endpoint}
 use Rattle.rules.specs.Limits.{maxOperator}
 use Rattle.rules.specs.Elements.{addressLength, operatorAllowed, nodeAddressTests, nodeAddressAllowed, nodeTypeKept, below16}
 use Rattle.rules.specs.Layout.{families, optionRead, tunnelRead, pdrWidths, matchKind, matchTeid, matchFamilies, matchEndpoint, placeRead, pdrNumbers, pdrFrom, endpointWidths, endpointNumbers, endpointFrom, csidSlotWidths, csidSlotNumbers, addressRead, csidFrom, pdrOctets, endpointOctets, csidOctets, settingsOctets, viewSettings, viewPdr, viewEndpoint, viewCsid, settingsWidth, pdrWidth, endpointWidth, csidWidth}
-use Rattle.rules.specs.Sound.{poolTests, addressPoolTests, limitTests, ipv6Allowed, settingsTests, settingsAllowed, tunnelAllowed, placeAllowed, farAllowed, addressAllowed, pdrTests, pdrAllowed, endpointTests, endpointAllowed, csidTests, csidAllowed}
+use Rattle.rules.specs.Sound.{settingsAllowed, tunnelAllowed, placeAllowed, farAllowed, addressAllowed, pdrTests, pdrAllowed, endpointTests, endpointAllowed, csidTests, csidAllowed}
 use Rattle.laws.proofs.LayoutLaws.{pdr-fits, endpoint-fits, csid-fits}
-use Rattle.records.specs.Kept.{kept, settingsSound, pdrSound, endpointSound, csidSound, unit, optionalTest, tunnelTest, placeTest, pdrTest, endpointTest, csidTest}
-use Rattle.records.proofs.Cells.{and-true, and-false, interchange, eqb-same, eqb-turn, same-zeros, same-append, two-parts, and-comm, last-first}
+use Rattle.records.specs.Kept.{kept, settingsSound, pdrSound, endpointSound, csidSound, optionalTest, tunnelTest, placeTest, pdrTest, endpointTest, csidTest}
+use Rattle.records.proofs.Cells.{and-true, interchange, eqb-same, eqb-turn, same-zeros, same-append, two-parts, and-comm, last-first}
 use Rattle.records.proofs.Tunnels.{tunnel-law}
 
 -- ---- fields one by one
@@ -79,48 +79,41 @@ addressed : (g h : ℕ) → h < 2 ^ 32 → Comes (addressAllowed (optionRead g h
 addressed g h k =
     record { long = refl; same = ap (λ (b : Bool). b && sameOctets (flag (isSome (optionRead g h)) ∷ valueOr 0 (optionRead g h) ∷ []) (g ∷ h ∷ [])) (sym (like-far (optionRead g h))) ∙ optional-same g h k }
 
-module _ (first size : ℕ) (v6 : Bool) where
-  abbrev s : Settings
-  s = unit first size v6
-
-  pool : first + size ≤ 2 ^ 32 → s .first + s .size ≤ 2 ^ 32
-  unfolding unit
-  pool h = h
-
+module _ (s : Settings) where
   -- ---- endpoints
 
-  reached : (t f : ℕ) → Comes (tunnelAllowed s (tunnelRead t f)) (t ∷ families (tunnelRead t f) ∷ []) (t ∷ f ∷ []) (tunnelTest first size v6 t f)
+  reached : (t f : ℕ) → Comes (tunnelAllowed s (tunnelRead t f)) (t ∷ families (tunnelRead t f) ∷ []) (t ∷ f ∷ []) (tunnelTest s t f)
   unfolding sameOctets
-  reached t f = record { long = refl; same = rw (eqb-same t) (simp and-true (tunnel-law first size v6 t f)) }
+  reached t f = record { long = refl; same = rw (eqb-same t) (simp and-true (tunnel-law s t f)) }
 
   endpoint-same : (i t f g h : ℕ)
       → let vs = i ∷ t ∷ f ∷ g ∷ h ∷ [] in
-      Fits endpointWidths vs → Comes (endpointAllowed s (endpointFrom vs)) (endpointNumbers (endpointFrom vs)) vs (endpointTest first size v6 vs)
+      Fits endpointWidths vs → Comes (endpointAllowed s (endpointFrom vs)) (endpointNumbers (endpointFrom vs)) vs (endpointTest s vs)
   unfolding endpointAllowed endpointTests endpointFrom endpointNumbers endpointTest tunnelRead
   endpoint-same i t f g h b = beside (untested 256 i (b .0)) (beside (reached t f) (beside (addressed g h (b .1 .1 .1 .1 .0)) no-field))
 
-  pub endpoint-law : first + size ≤ 2 ^ 32 → (xs : List ℕ) → length xs ≡ endpointWidth → T (octets xs) → endpointSound s xs ≡ endpointTest first size v6 (fieldsAt 0 endpointWidths xs)
+  pub endpoint-law : s .first + s .size ≤ 2 ^ 32 → (xs : List ℕ) → length xs ≡ endpointWidth → T (octets xs) → endpointSound s xs ≡ endpointTest s (fieldsAt 0 endpointWidths xs)
   unfolding endpointSound kept endpointOctets viewEndpoint fieldsAt
   endpoint-law h xs e o =
-      slot-law endpointWidths endpointNumbers endpointFrom (endpointAllowed s) (endpointTest first size v6) (endpoint-fits s (pool h)) xs e o
+      slot-law endpointWidths endpointNumbers endpointFrom (endpointAllowed s) (endpointTest s) (endpoint-fits s h) xs e o
       (endpoint-same _ _ _ _ _ (each-fit endpointWidths _ (fit-fields 0 endpointWidths xs o (omega arith))) .same)
 
   -- ---- what a PDR matches on
 
   place-law : (live : List ℕ) (k t f e : ℕ) → e < 256
       → let l = placeRead k t f e in
-      (placeAllowed s live l && sameOctets (matchKind l ∷ matchTeid l ∷ matchFamilies l ∷ matchEndpoint l ∷ []) (k ∷ t ∷ f ∷ e ∷ [])) ≡ placeTest first size v6 live k t f e
+      (placeAllowed s live l && sameOctets (matchKind l ∷ matchTeid l ∷ matchFamilies l ∷ matchEndpoint l ∷ []) (k ∷ t ∷ f ∷ e ∷ [])) ≡ placeTest s live k t f e
   unfolding placeRead tunnelRead
   place-law live k t f e h = go (eqb k 1) (eqb k 2) refl refl
     where
       go : (b c : Bool) → eqb k 1 ≡ b → eqb k 2 ≡ c
           → let l = pick b (tunnel (tunnelRead t f)) (pick c (endpoint e) neither) in
           (placeAllowed s live l && sameOctets (matchKind l ∷ matchTeid l ∷ matchFamilies l ∷ matchEndpoint l ∷ []) (k ∷ t ∷ f ∷ e ∷ []))
-          ≡ pick b (eqb e 0 && tunnelTest first size v6 t f) (pick c (allZero (t ∷ f ∷ []) && member e live) (allZero (k ∷ t ∷ f ∷ e ∷ [])))
+          ≡ pick b (eqb e 0 && tunnelTest s t f) (pick c (allZero (t ∷ f ∷ []) && member e live) (allZero (k ∷ t ∷ f ∷ e ∷ [])))
       go true c eb ec =
           unfold placeAllowed matchKind matchTeid matchFamilies matchEndpoint sameOctets in
           (rw (eqb-turn 1 k, eb, eqb-turn 0 e, eqb-same t, and-true (eqb e 0))
-          (last-first (tunnelAllowed s (tunnelRead t f)) (eqb (families (tunnelRead t f)) f) (eqb e 0) ∙ ap (λ (b : Bool). eqb e 0 && b) (tunnel-law first size v6 t f)))
+          (last-first (tunnelAllowed s (tunnelRead t f)) (eqb (families (tunnelRead t f)) f) (eqb e 0) ∙ ap (λ (b : Bool). eqb e 0 && b) (tunnel-law s t f)))
       go false true eb ec =
           unfold placeAllowed matchKind matchTeid matchFamilies matchEndpoint sameOctets allZero in
           (rw (lt-ltb e 256 h, eqb-turn 2 k, ec, eqb-turn 0 t, eqb-turn 0 f, eqb-same e) (and-comm (member e live) (eqb t 0 && (eqb f 0 && true))))
@@ -128,14 +121,14 @@ module _ (first size : ℕ) (v6 : Bool) where
 
   matched : (live : List ℕ) (k t f e : ℕ) → e < 256
       → let l = placeRead k t f e in
-      Comes (placeAllowed s live l) (matchKind l ∷ matchTeid l ∷ matchFamilies l ∷ matchEndpoint l ∷ []) (k ∷ t ∷ f ∷ e ∷ []) (placeTest first size v6 live k t f e)
+      Comes (placeAllowed s live l) (matchKind l ∷ matchTeid l ∷ matchFamilies l ∷ matchEndpoint l ∷ []) (k ∷ t ∷ f ∷ e ∷ []) (placeTest s live k t f e)
   matched live k t f e h = record { long = refl; same = place-law live k t f e h }
 
   -- ---- the whole PDR
 
   pdr-same : (live : List ℕ) (i p g h c k t f e u a : ℕ)
       → let vs = i ∷ p ∷ g ∷ h ∷ c ∷ k ∷ t ∷ f ∷ e ∷ u ∷ a ∷ [] in
-      Fits pdrWidths vs → Comes (pdrAllowed s live (pdrFrom vs)) (pdrNumbers (pdrFrom vs)) vs (pdrTest first size v6 live vs)
+      Fits pdrWidths vs → Comes (pdrAllowed s live (pdrFrom vs)) (pdrNumbers (pdrFrom vs)) vs (pdrTest s live vs)
   unfolding pdrAllowed pdrTests pdrFrom pdrNumbers pdrTest
   pdr-same live i p g h c k t f e u a b =
       beside (untested (2 ^ 16) i (b .0))
@@ -145,10 +138,10 @@ module _ (first size : ℕ) (v6 : Bool) where
       (beside (matched live k t f e (b .1 .1 .1 .1 .1 .1 .1 .1 .0))
       (beside (addressed u a (b .1 .1 .1 .1 .1 .1 .1 .1 .1 .1 .0)) no-field)))))
 
-  pub pdr-law : first + size ≤ 2 ^ 32 → (live xs : List ℕ) → length xs ≡ pdrWidth → T (octets xs) → pdrSound s live xs ≡ pdrTest first size v6 live (fieldsAt 0 pdrWidths xs)
+  pub pdr-law : s .first + s .size ≤ 2 ^ 32 → (live xs : List ℕ) → length xs ≡ pdrWidth → T (octets xs) → pdrSound s live xs ≡ pdrTest s live (fieldsAt 0 pdrWidths xs)
   unfolding pdrSound kept pdrOctets viewPdr fieldsAt
   pdr-law h live xs e o =
-      slot-law pdrWidths pdrNumbers pdrFrom (pdrAllowed s live) (pdrTest first size v6 live) (pdr-fits s (pool h) live) xs e o
+      slot-law pdrWidths pdrNumbers pdrFrom (pdrAllowed s live) (pdrTest s live) (pdr-fits s h live) xs e o
       (pdr-same live _ _ _ _ _ _ _ _ _ _ _ (each-fit pdrWidths _ (fit-fields 0 pdrWidths xs o (omega arith))) .same)
 
 -- ---- FQ-CSIDs
@@ -216,41 +209,25 @@ csid-law xs e o =
 
 -- ---- settings
 
-abbrev pub settingsTest : List ℕ → Bool
-settingsTest xs =
-    optionalTest (getD xs 4 0) (number (part 5 16 xs))
-    && (allOf (poolTests (number (part 21 4 xs)) (number (part 25 4 xs)))
-    && (allOf (addressPoolTests (number (part 29 4 xs)) (number (part 33 4 xs))) && allOf (limitTests (number (part 37 2 xs)))))
-
-ipv6-with : (b : Bool) (g : ℕ) (v : List ℕ) → length v ≡ 16 → T (octets v) → eqb g 0 ≡ b
-    → let a = pick b [] v in
-    (ipv6Allowed a && (octets a && (eqb (flag (not (isNil a))) g && sameOctets (padded 16 a) v))) ≡ pick b (eqb (number v) 0) (eqb g 1)
-unfolding ipv6Allowed padded
-ipv6-with true g v l o e = rw (eqb-turn 0 g, e, ← l) (same-zeros v ∙ zero-number v)
-ipv6-with false g [] l o e = absurd (omega arith)
-ipv6-with false g (x ∷ v) l o e =
+-- the IPv6 address is written again as it stands where there is one, and as zeros where there is none
+ipv6-with : (b : Bool) (g : ℕ) (v : List ℕ) → length v ≡ 16 → eqb g 0 ≡ b
+    → let a = pick b [] v in (eqb (flag (not (isNil a))) g && sameOctets (padded 16 a) v) ≡ pick b (eqb (number v) 0) (eqb g 1)
+unfolding padded
+ipv6-with true g v l e = rw (eqb-turn 0 g, e, ← l) (same-zeros v ∙ zero-number v)
+ipv6-with false g [] l e = absurd (omega arith)
+ipv6-with false g (x ∷ v) l e =
     let none : 16 - length (x ∷ v) ≡ 0 = omega arith in
-    rw (eq-eqb (length (x ∷ v)) 16 l, is-true (areBytes (x ∷ v)) o, none, eqb-turn 1 g)
-    (unfold zeros in rw (append-nil (x ∷ v), same-refl (x ∷ v)) (and-true (eqb g 1)))
-
-collect : (a b c f l d e : Bool) → ((a && (b && (c && (f && (l && true))))) && (d && e)) ≡ ((a && (b && (d && e))) && (c && (f && l)))
-collect true true true true true d e = sym (and-true (d && e))
-collect true true true true false d e = sym (and-false (d && e))
-collect true true true false l d e = sym (and-false (d && e))
-collect true true false f l d e = sym (and-false (d && e))
-collect true false c f l d e = refl
-collect false b c f l d e = refl
+    rw (none, eqb-turn 1 g) (unfold zeros in rw (append-nil (x ∷ v), same-refl (x ∷ v)) (and-true (eqb g 1)))
 
 padded-with : (b : Bool) (v : List ℕ) → length v ≡ 16 → length (padded 16 (pick b [] v)) ≡ 16
 padded-with true v l = length-padded 16 [] zero-le
 padded-with false v l = length-padded 16 v (omega arith)
 
 settings-parts : (a₀ a₁ a₂ a₃ g : ℕ) (v f z u k l : List ℕ) → length v ≡ 16 → length f ≡ 4 → length z ≡ 4 → length u ≡ 4 → length k ≡ 4 → length l ≡ 2
-    → T (octets (a₀ ∷ a₁ ∷ a₂ ∷ a₃ ∷ [])) → T (octets v) → T (octets f) → T (octets z) → T (octets u) → T (octets k) → T (octets l)
-    → settingsSound (a₀ ∷ a₁ ∷ a₂ ∷ a₃ ∷ g ∷ (v ++ (f ++ (z ++ (u ++ (k ++ l))))))
-    ≡ (optionalTest g (number v) && (allOf (poolTests (number f) (number z)) && (allOf (addressPoolTests (number u) (number k)) && allOf (limitTests (number l)))))
-unfolding settingsSound kept settingsAllowed settingsTests settingsOctets viewSettings octetAt numberAt sameOctets
-settings-parts a₀ a₁ a₂ a₃ g v f z u k l lv lf lz lu lk ll oa ov of′ oz ou ok ol =
+    → T (octets f) → T (octets z) → T (octets u) → T (octets k) → T (octets l)
+    → let xs = a₀ ∷ a₁ ∷ a₂ ∷ a₃ ∷ g ∷ (v ++ (f ++ (z ++ (u ++ (k ++ l))))) in sameOctets (settingsOctets (viewSettings xs)) xs ≡ optionalTest g (number v)
+unfolding settingsOctets viewSettings octetAt numberAt sameOctets
+settings-parts a₀ a₁ a₂ a₃ g v f z u k l lv lf lz lu lk ll of′ oz ou ok ol =
     let ips : List ℕ = u ++ (k ++ l) in
     let numbers : List ℕ = f ++ (z ++ ips) in
     let rest : List ℕ = v ++ numbers in
@@ -269,16 +246,15 @@ settings-parts a₀ a₁ a₂ a₃ g v f z u k l lv lf lz lu lk ll oa ov of′ o
     let full : length (padded 16 a) ≡ length v = padded-with (eqb g 0) v lv ∙ sym lv in
     let same : sameOctets (padded 16 a ++ numbers) rest ≡ sameOctets (padded 16 a) v =
     same-append (padded 16 a) numbers v numbers full ∙ rw (same-refl numbers) (and-true (sameOctets (padded 16 a) v)) in
-    rw (ipv6, first, size, firstAddress, addressCount, limit, is-true (areBytes (a₀ ∷ a₁ ∷ a₂ ∷ a₃ ∷ [])) oa, eqb-same a₀, eqb-same a₁, eqb-same a₂, eqb-same a₃, be-back 4 f lf of′, be-back 4 z lz oz, be-back 4 u lu ou, be-back 4 k lk ok, be-back 2 l ll ol, same)
-    (collect (ipv6Allowed a) (octets a) (allOf (poolTests (number f) (number z))) (allOf (addressPoolTests (number u) (number k))) (allOf (limitTests (number l))) (eqb (flag (not (isNil a))) g) (sameOctets (padded 16 a) v)
-    ∙ ap (λ (t : Bool). t && (allOf (poolTests (number f) (number z)) && (allOf (addressPoolTests (number u) (number k)) && allOf (limitTests (number l))))) (ipv6-with (eqb g 0) g v lv ov refl))
+    rw (ipv6, first, size, firstAddress, addressCount, limit, eqb-same a₀, eqb-same a₁, eqb-same a₂, eqb-same a₃, be-back 4 f lf of′, be-back 4 z lz oz, be-back 4 u lu ou, be-back 4 k lk ok, be-back 2 l ll ol, same)
+    (ipv6-with (eqb g 0) g v lv refl)
 
 -- the octets from a place to the end are those of the next n and the rest
 from : (at m n : ℕ) (xs : List ℕ) → at + (m + n) ≡ length xs → part at (m + n) xs ≡ part at m xs ++ part (at + m) n xs
 from at m n xs e = take-all (m + n) (drop at xs) (rw length-drop (omega arith)) ∙ two-parts at m n xs e
 
-pub settings-law : (xs : List ℕ) → length xs ≡ settingsWidth → T (octets xs) → settingsSound xs ≡ settingsTest xs
-settings-law xs e o =
+settings-same : (xs : List ℕ) → length xs ≡ settingsWidth → T (octets xs) → sameOctets (settingsOctets (viewSettings xs)) xs ≡ optionalTest (getD xs 4 0) (number (part 5 16 xs))
+settings-same xs e o =
     let cell : (j : ℕ) → j < settingsWidth → drop j xs ≡ getD xs j 0 ∷ drop (suc j) xs = λ j h. drop-cons xs j 0 (omega arith) in
     let front : xs ≡ getD xs 0 0 ∷ getD xs 1 0 ∷ getD xs 2 0 ∷ getD xs 3 0 ∷ getD xs 4 0 ∷ drop 5 xs =
     cell 0 (lit< tt) ∙ ap (λ (l : List ℕ). getD xs 0 0 ∷ l)
@@ -289,8 +265,12 @@ settings-law xs e o =
     (from 25 4 10 xs (sym e) ∙ ap (λ (l : List ℕ). part 25 4 xs ++ l) (from 29 4 6 xs (sym e) ∙ ap (λ (l : List ℕ). part 29 4 xs ++ l) (from 33 4 2 xs (sym e)))) in
     let back = two-parts 5 16 18 xs (sym e) ∙ ap (λ (l : List ℕ). part 5 16 xs ++ l) numbers in
     let whole = front ∙ ap (λ (l : List ℕ). getD xs 0 0 ∷ getD xs 1 0 ∷ getD xs 2 0 ∷ getD xs 3 0 ∷ getD xs 4 0 ∷ l) back in
-    ap settingsSound whole
+    ap (λ (l : List ℕ). sameOctets (settingsOctets (viewSettings l)) l) whole
     ∙ settings-parts (getD xs 0 0) (getD xs 1 0) (getD xs 2 0) (getD xs 3 0) (getD xs 4 0) (part 5 16 xs) (part 21 4 xs) (part 25 4 xs) (part 29 4 xs) (part 33 4 xs) (part 37 2 xs)
     (length-part 5 16 xs (omega arith)) (length-part 21 4 xs (omega arith)) (length-part 25 4 xs (omega arith)) (length-part 29 4 xs (omega arith)) (length-part 33 4 xs (omega arith)) (length-part 37 2 xs (omega arith))
-    (take-octets 4 (getD xs 0 0 ∷ getD xs 1 0 ∷ getD xs 2 0 ∷ getD xs 3 0 ∷ getD xs 4 0 ∷ drop 5 xs) (subst (λ (l : List ℕ). T (octets l)) front o)) (part-octets 5 16 xs o)
     (part-octets 21 4 xs o) (part-octets 25 4 xs o) (part-octets 29 4 xs o) (part-octets 33 4 xs o) (part-octets 37 2 xs o)
+
+pub settings-law : (xs : List ℕ) → length xs ≡ settingsWidth → T (octets xs)
+    → settingsSound xs ≡ (settingsAllowed (viewSettings xs) && optionalTest (getD xs 4 0) (number (part 5 16 xs)))
+unfolding settingsSound kept
+settings-law xs e o = ap (λ (b : Bool). settingsAllowed (viewSettings xs) && b) (settings-same xs e o)

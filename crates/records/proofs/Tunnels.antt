@@ -4,14 +4,14 @@ use mathlib.Core.Path.{_≡_, refl, _∙_}
 use Prim.Native.Nat.{ℕ, zero, suc, _+_, _*_, _/_, _%_, _^_}
 use native.Mathlib.Omega.{arith}
 use mathlib.Core.Bool.{Bool, true, false, not, _&&_, _||_}
-use mathlib.Core.List.{[]}
 use borrow.Author.Tests.{ne-eqb}
 use lib.Dec.{leb, ltb, eqb}
-use Rattle.octets.specs.Choice.{pick, flag, isNil}
-use Rattle.octets.specs.Octets.{bit, zeros}
+use Rattle.octets.specs.Choice.{flag}
+use Rattle.octets.specs.Octets.{bit}
+use Rattle.rules.specs.Model.{Settings}
 use Rattle.rules.specs.Layout.{families, tunnelRead}
 use Rattle.rules.specs.Sound.{inPool, unitFamilies, tunnelTests, tunnelAllowed}
-use Rattle.records.specs.Kept.{familiesTest, tunnelTest, unit}
+use Rattle.records.specs.Kept.{hasIpv6, familiesTest, tunnelTest}
 use Rattle.records.proofs.Cells.{and-false, and-assoc, flag-bit}
 
 families-law : (f : ℕ) (v6 : Bool)
@@ -30,19 +30,12 @@ families-law (suc (suc (suc (suc f)))) v6 =
     rw (ne-eqb (flag (eqb (n / (2 ^ 0) % 2) 1) + 2 * flag (eqb (n / (2 ^ 1) % 2) 1)) n (λ e. omega arith), ne-eqb n 1 (λ e. omega arith), ne-eqb n 2 (λ e. omega arith), ne-eqb n 3 (λ e. omega arith))
     (and-false ((bit 0 n || bit 1 n) && ((not (bit 1 n) || v6) && true)))
 
--- whether the unit has an IPv6 address
-pub unit-v6 : (v6 : Bool) → not (isNil (pick v6 (zeros 16) [])) ≡ v6
-unfolding zeros
-unit-v6 true = refl
-unit-v6 false = refl
-
 regroup : (a b c d e : Bool) → (((a && b) && (c && d)) && e) ≡ (a && (b && ((c && d) && e)))
 regroup true b c d e = and-assoc b (c && d) e
 regroup false b c d e = refl
 
-pub tunnel-law : (first size : ℕ) (v6 : Bool) (t f : ℕ)
-    → (tunnelAllowed (unit first size v6) (tunnelRead t f) && eqb (families (tunnelRead t f)) f) ≡ tunnelTest first size v6 t f
-unfolding tunnelAllowed tunnelTests inPool unitFamilies unit tunnelRead families
-tunnel-law first size v6 t f =
-    regroup (leb first t) (ltb t (first + size)) (bit 0 f || bit 1 f) ((not (bit 1 f) || not (isNil (pick v6 (zeros 16) []))) && true) (eqb (flag (bit 0 f) + 2 * flag (bit 1 f)) f)
-    ∙ rw (unit-v6 v6, families-law f v6)
+pub tunnel-law : (s : Settings) (t f : ℕ) → (tunnelAllowed s (tunnelRead t f) && eqb (families (tunnelRead t f)) f) ≡ tunnelTest s t f
+unfolding tunnelAllowed tunnelTests inPool unitFamilies tunnelRead families
+tunnel-law s t f =
+    regroup (leb (s .first) t) (ltb t (s .first + s .size)) (bit 0 f || bit 1 f) ((not (bit 1 f) || hasIpv6 s) && true) (eqb (flag (bit 0 f) + 2 * flag (bit 1 f)) f)
+    ∙ rw (families-law f (hasIpv6 s))

@@ -7,8 +7,8 @@ use lib.ListN.{getD}
 use mathlib.Core.Bool.{Bool, true, not, _&&_, _||_}
 use mathlib.Core.List.{List, [], _∷_, map}
 use lib.Dec.{eqb, leb, ltb}
-use Rattle.octets.specs.Choice.{pick, allOf}
-use Rattle.octets.specs.Octets.{zeros, allZero, sameOctets, slices}
+use Rattle.octets.specs.Choice.{pick, allOf, isNil}
+use Rattle.octets.specs.Octets.{allZero, sameOctets, slices}
 use Rattle.octets.specs.Lists.{member}
 use Rattle.rules.specs.Limits.{maxOperator}
 use Rattle.rules.specs.Model.{Settings, endpointId}
@@ -35,9 +35,9 @@ csidSound xs = kept csidAllowed csidOctets viewCsid xs
 unfoldable pub endpointIds : ℕ → List ℕ → List ℕ
 endpointIds n a = map endpointId (map viewEndpoint (slices endpointWidth n a))
 
--- the settings as far as the rules of records ask: the pool of TEIDs, and whether the unit has an IPv6 address; an address may be any
-unfoldable pub unit : ℕ → ℕ → Bool → Settings
-unit first size v6 = record { ipv4 = zeros 4; ipv6 = pick v6 (zeros 16) []; first = first; size = size; firstAddress = 0; addressCount = 0; limit = 0 }
+-- whether the unit has an IPv6 address
+abbrev pub hasIpv6 : Settings → Bool
+hasIpv6 s = not (isNil (s .ipv6))
 
 -- ---- tests of numbers
 
@@ -50,27 +50,27 @@ abbrev pub familiesTest : ℕ → Bool → Bool
 familiesTest f v6 = eqb f 1 || ((eqb f 2 || eqb f 3) && v6)
 
 -- an F-TEID: a TEID of the pool, and the families
-abbrev pub tunnelTest : ℕ → ℕ → Bool → ℕ → ℕ → Bool
-tunnelTest first size v6 t f = leb first t && (ltb t (first + size) && familiesTest f v6)
+abbrev pub tunnelTest : Settings → ℕ → ℕ → Bool
+tunnelTest s t f = leb (s .first) t && (ltb t (s .first + s .size) && familiesTest f (hasIpv6 s))
 
 -- what a PDR matches on: a number that says which, an F-TEID and an endpoint ID
-abbrev pub placeTest : ℕ → ℕ → Bool → List ℕ → ℕ → ℕ → ℕ → ℕ → Bool
-placeTest first size v6 live k t f e =
-    pick (eqb k 1) (eqb e 0 && tunnelTest first size v6 t f)
+abbrev pub placeTest : Settings → List ℕ → ℕ → ℕ → ℕ → ℕ → Bool
+placeTest s live k t f e =
+    pick (eqb k 1) (eqb e 0 && tunnelTest s t f)
     (pick (eqb k 2) (allZero (t ∷ f ∷ []) && member e live) (allZero (k ∷ t ∷ f ∷ e ∷ [])))
 
-unfoldable pub pdrTest : ℕ → ℕ → Bool → List ℕ → List ℕ → Bool
-pdrTest first size v6 live vs =
+unfoldable pub pdrTest : Settings → List ℕ → List ℕ → Bool
+pdrTest s live vs =
     allOf (
     optionalTest (getD vs 2 0) (getD vs 3 0)
     ∷ ltb (getD vs 4 0) 16
-    ∷ placeTest first size v6 live (getD vs 5 0) (getD vs 6 0) (getD vs 7 0) (getD vs 8 0)
+    ∷ placeTest s live (getD vs 5 0) (getD vs 6 0) (getD vs 7 0) (getD vs 8 0)
     ∷ optionalTest (getD vs 9 0) (getD vs 10 0)
     ∷ []
     )
 
-unfoldable pub endpointTest : ℕ → ℕ → Bool → List ℕ → Bool
-endpointTest first size v6 vs = allOf (tunnelTest first size v6 (getD vs 1 0) (getD vs 2 0) ∷ optionalTest (getD vs 3 0) (getD vs 4 0) ∷ [])
+unfoldable pub endpointTest : Settings → List ℕ → Bool
+endpointTest s vs = allOf (tunnelTest s (getD vs 1 0) (getD vs 2 0) ∷ optionalTest (getD vs 3 0) (getD vs 4 0) ∷ [])
 
 -- the address of sixteen octets, or one of four and zeros; of type 2 with an operator that is allowed
 abbrev pub addressTest : ℕ → ℕ → ℕ → Bool

@@ -1,17 +1,16 @@
 // Tests of the records in the session table's slots, for any octets of a slot: the record keeps the rules, and the slot has
 // just that record's octets. Each reads the fields where they stand; proofs/Slots.antt says why these tests of a record's numbers are enough.
-//
-// first, size and v6 are the unit's pool of TEIDs and whether it has an IPv6 address.
 
 ghost use mathlib.Core.Path.{_≡_};
-ghost use Prim.Native.Nat.{_+_, _*_, _^_, _≤_, _<_};
+ghost use Prim.Native.Nat.{_+_, _*_, _^_, _≤_};
 ghost use lib.ListN.{length, getD};
-ghost use Rattle.octets.specs.Choice.{pick, allOf};
+ghost use Rattle.octets.specs.Choice.{pick};
 ghost use Rattle.octets.specs.Lists.{member};
 ghost use Rattle.octets.specs.Octets.{part, number};
-ghost use Rattle.rules.specs.Sound.{poolTests, addressPoolTests};
-ghost use Rattle.rules.specs.Layout.{settingsWidth, pdrWidth, endpointWidth, csidWidth};
-ghost use Rattle.records.specs.Kept.{settingsSound, pdrSound, endpointSound, csidSound, endpointIds, unit, optionalTest, familiesTest, tunnelTest, placeTest};
+ghost use Rattle.rules.specs.Layout.{viewSettings, settingsWidth, pdrWidth, endpointWidth, csidWidth};
+ghost use Rattle.unit.specs.Meaning.{settingsOf};
+ghost use Rattle.records.specs.Kept.{settingsSound, pdrSound, endpointSound, csidSound, endpointIds, optionalTest, familiesTest, tunnelTest, placeTest};
+use unit::Settings;
 
 // A field of n octets that may be absent: 1 and the field, or zeros.
 fn optional_sound(slot: &[u8], at: usize, n: usize) -> bool
@@ -37,71 +36,30 @@ fn field_sound(slot: &[u8], at: usize) -> bool
     octets::read(slot, at + 1, 4) <= there as u64 * 4294967295
 }
 
-// The pool of TEIDs: the first at least 1, the size 1 to 65,536, the last at most 4,294,967,295.
-pub fn pool_sound(first: u64, size: u64) -> bool
-    requires { ⌜ (first < 2 ^ 32) × (size < 2 ^ 32) ⌝ }
-    ensures { λ r. ⌜ r ≡ allOf (poolTests first size) ⌝ }
-{
-    if first < 1 {
-        return false;
-    }
-    if size < 1 {
-        return false;
-    }
-    if format::MAX_POOL < size {
-        return false;
-    }
-    first + size <= 4294967296
-}
-
-// The pool of addresses: 1 to 1,024 of them, the last at most 255.255.255.255. The first may be any.
-pub fn addresses_sound(first: u64, count: u64) -> bool
-    requires { ⌜ (first < 2 ^ 32) × (count < 2 ^ 32) ⌝ }
-    ensures { λ r. ⌜ r ≡ allOf (addressPoolTests first count) ⌝ }
-{
-    if count < 1 {
-        return false;
-    }
-    if format::MAX_ADDRESSES < count {
-        return false;
-    }
-    first + count <= 4294967296
-}
-
-// The settings' slot.
-pub fn settings_sound(slot: &[u8]) -> bool
-    requires { ⌜ length (now slot) ≡ settingsWidth ⌝ }
+// The settings' slot, which u was read from.
+pub fn settings_sound(slot: &[u8], u: Settings) -> bool
+    requires { ⌜ (length (now slot) ≡ settingsWidth) × (settingsOf u ≡ viewSettings (now slot)) ⌝ }
     ensures { λ r. ⌜ r ≡ settingsSound (now (slot .entry)) ⌝ }
 {
     if !optional_sound(slot, format::IPV6_THERE, 16) {
         return false;
     }
-    let first = octets::read(slot, format::FIRST, 4);
-    let size = octets::read(slot, format::SIZE, 4);
-    if !pool_sound(first, size) {
-        return false;
-    }
-    let address = octets::read(slot, format::FIRST_ADDRESS, 4);
-    let count = octets::read(slot, format::ADDRESS_COUNT, 4);
-    if !addresses_sound(address, count) {
-        return false;
-    }
-    unit::limit_allowed(octets::read(slot, format::LIMIT, 2))
+    unit::allowed(u)
 }
 
 // The F-TEID at index at.
-fn tunnel_sound(slot: &[u8], at: usize, first: u64, size: u64, v6: bool) -> bool
-    requires { ⌜ (at + 5 ≤ length (now slot)) × (first + size ≤ 2 ^ 32) ⌝ }
-    ensures { λ r. ⌜ r ≡ tunnelTest first size v6 (number (part at 4 (now (slot .entry)))) (getD (now (slot .entry)) (at + 4) 0) ⌝ }
+fn tunnel_sound(slot: &[u8], at: usize, u: Settings) -> bool
+    requires { ⌜ (at + 5 ≤ length (now slot)) × (u .first + u .size ≤ 2 ^ 32) ⌝ }
+    ensures { λ r. ⌜ r ≡ tunnelTest (settingsOf u) (number (part at 4 (now (slot .entry)))) (getD (now (slot .entry)) (at + 4) 0) ⌝ }
 {
     let teid = octets::read(slot, at, 4);
-    if teid < first {
+    if teid < u.first {
         return false;
     }
-    if first + size <= teid {
+    if u.first + u.size <= teid {
         return false;
     }
-    families_sound(slot[at + 4], v6)
+    families_sound(slot[at + 4], u.has_ipv6)
 }
 
 // The most that a families octet is: 2 and 3 name IPv6.
@@ -125,14 +83,14 @@ fn families_sound(families: u8, v6: bool) -> bool
 }
 
 // A traffic endpoint's slot.
-pub fn endpoint_sound(slot: &[u8], first: u64, size: u64, v6: bool) -> bool
-    requires { ⌜ (length (now slot) ≡ endpointWidth) × (first + size ≤ 2 ^ 32) ⌝ }
-    ensures { λ r. ⌜ r ≡ endpointSound (unit first size v6) (now (slot .entry)) ⌝ }
+pub fn endpoint_sound(slot: &[u8], u: Settings) -> bool
+    requires { ⌜ (length (now slot) ≡ endpointWidth) × (u .first + u .size ≤ 2 ^ 32) ⌝ }
+    ensures { λ r. ⌜ r ≡ endpointSound (settingsOf u) (now (slot .entry)) ⌝ }
 {
     if !field_sound(slot, format::ENDPOINT_ADDRESS_THERE) {
         return false;
     }
-    tunnel_sound(slot, 1, first, size, v6)
+    tunnel_sound(slot, 1, u)
 }
 
 // Whether one of the first n endpoints in ends has the ID id. Every ID is read, so that no branch goes by which one it is.
@@ -150,9 +108,9 @@ fn names_endpoint(ends: &[u8], n: usize, id: u8) -> bool
 }
 
 // What a PDR matches on, in its slot. ends has the session's n endpoints.
-fn place_sound(slot: &[u8], ends: &[u8], n: usize, first: u64, size: u64, v6: bool) -> bool
-    requires { ⌜ (length (now slot) ≡ pdrWidth) × (n * endpointWidth ≤ length (now ends)) × (first + size ≤ 2 ^ 32) ⌝ }
-    ensures { λ r. ⌜ r ≡ placeTest first size v6 (endpointIds n (now (ends .entry))) (getD (now (slot .entry)) 12 0) (number (part 13 4 (now (slot .entry)))) (getD (now (slot .entry)) 17 0) (getD (now (slot .entry)) 18 0) ⌝ }
+fn place_sound(slot: &[u8], ends: &[u8], n: usize, u: Settings) -> bool
+    requires { ⌜ (length (now slot) ≡ pdrWidth) × (n * endpointWidth ≤ length (now ends)) × (u .first + u .size ≤ 2 ^ 32) ⌝ }
+    ensures { λ r. ⌜ r ≡ placeTest (settingsOf u) (endpointIds n (now (ends .entry))) (getD (now (slot .entry)) 12 0) (number (part 13 4 (now (slot .entry)))) (getD (now (slot .entry)) 17 0) (getD (now (slot .entry)) 18 0) ⌝ }
 {
     let kind = slot[format::PLACE];
     let id = slot[format::NAMED_ENDPOINT];
@@ -160,7 +118,7 @@ fn place_sound(slot: &[u8], ends: &[u8], n: usize, first: u64, size: u64, v6: bo
         if id != 0 {
             return false;
         }
-        return tunnel_sound(slot, format::TEID, first, size, v6);
+        return tunnel_sound(slot, format::TEID, u);
     }
     if kind == 2 {
         if !octets::is_zero(slot, format::TEID, 5) {
@@ -172,9 +130,9 @@ fn place_sound(slot: &[u8], ends: &[u8], n: usize, first: u64, size: u64, v6: bo
 }
 
 // A PDR's slot. ends has the session's n endpoints.
-pub fn pdr_sound(slot: &[u8], ends: &[u8], n: usize, first: u64, size: u64, v6: bool) -> bool
-    requires { ⌜ (length (now slot) ≡ pdrWidth) × (n * endpointWidth ≤ length (now ends)) × (first + size ≤ 2 ^ 32) ⌝ }
-    ensures { λ r. ⌜ r ≡ pdrSound (unit first size v6) (endpointIds n (now (ends .entry))) (now (slot .entry)) ⌝ }
+pub fn pdr_sound(slot: &[u8], ends: &[u8], n: usize, u: Settings) -> bool
+    requires { ⌜ (length (now slot) ≡ pdrWidth) × (n * endpointWidth ≤ length (now ends)) × (u .first + u .size ≤ 2 ^ 32) ⌝ }
+    ensures { λ r. ⌜ r ≡ pdrSound (settingsOf u) (endpointIds n (now (ends .entry))) (now (slot .entry)) ⌝ }
 {
     if 15 < slot[format::SOURCE] {
         return false;
@@ -185,7 +143,7 @@ pub fn pdr_sound(slot: &[u8], ends: &[u8], n: usize, first: u64, size: u64, v6: 
     if !field_sound(slot, format::PDR_ADDRESS_THERE) {
         return false;
     }
-    place_sound(slot, ends, n, first, size, v6)
+    place_sound(slot, ends, n, u)
 }
 
 // An FQ-CSID's slot.

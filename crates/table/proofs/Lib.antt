@@ -1,7 +1,5 @@
--- `Units`: the rules of records ask only part of the settings. `Walks`: the walk over slots and the rule on TEIDs. `SoundLaws`: the
--- tests on octets say just that a table is not broken.
+-- `Walks`: the walk over slots and the rule on TEIDs. `SoundLaws`: the tests on octets say just that a table is not broken.
 -- `Examining`, `MakeLaws`: the code's answers. `Encoded`: a table is not broken exactly when it is encoded.
-pub mod Units
 pub mod Walks
 pub mod SoundLaws
 pub mod Examining

@@ -4,13 +4,13 @@ use mathlib.Core.Path.{_≡_, refl, sym, ap, subst, _∙_}
 use Prim.Native.Nat.{ℕ, _+_, _-_, _*_, _≤_, _<_}
 use native.Mathlib.Nat.{le-trans, le-of-eq}
 use native.Mathlib.Omega.{arith}
-use mathlib.Core.Bool.{Bool, true, false, not, _&&_}
+use mathlib.Core.Bool.{Bool, true, false, _&&_}
 use mathlib.Core.List.{List, [], _∷_, _++_, map}
-use lib.ListN.{length, take, drop, replicate, length-drop, length-map, take-append-drop}
+use lib.ListN.{length, take, drop, length-drop, length-map, take-append-drop}
 use lib.Seq.{take-take, take-at, drop-at, drop-drop, getD-take}
 use lib.Dec.{T, eqb, eqb→eq, leb→le, lit≤, lit<}
 use mir.Facts.{yes-leb, yes-eqb}
-use Rattle.octets.specs.Choice.{pick, isNil}
+use Rattle.octets.specs.Choice.{pick}
 use Rattle.octets.specs.Octets.{part, be, number, numberAt, octetAt, sameOctets, allZero, octets}
 use Rattle.octets.specs.Lists.{all, allPairs, ascending}
 use Rattle.octets.proofs.Tests.{each, all-of-each, both, and-left, and-right, of-true, all-head, all-tail, all-cons}
@@ -27,16 +27,14 @@ use Rattle.pool.proofs.TakenLaws.{pool-fits}
 use Rattle.pool.proofs.AddressLaws.{addresses-fit}
 use Rattle.holdings.specs.Walk.{apartTeids, apartAddresses}
 use Rattle.holdings.proofs.AddressWalk.{apart-both}
-use Rattle.marking.specs.Marking.{slotsFree}
 use Rattle.slots.specs.Records.{keyOf}
 use Rattle.slots.proofs.Lookup.{length-slices}
-use Rattle.records.specs.Kept.{kept, settingsSound, unit}
+use Rattle.records.specs.Kept.{kept, settingsSound}
 use Rattle.records.proofs.Cells.{and-true, and-false, same-test, drop-take}
 use Rattle.sessions.specs.Slot.{areaSound}
 use Rattle.sessions.proofs.Areas.{area-from, area-to, kept-allowed, kept-same}
 use Rattle.sessions.proofs.SlotLaws.{key-session}
-use Rattle.table.specs.Tests.{sessionCount, limitOf, slotsOf, unitOf, firstAddressOf, addressCountOf, orderSound, frontTests, frontSound, walkSound}
-use Rattle.table.proofs.Units.{sessions-unit}
+use Rattle.table.specs.Tests.{sessionCount, limitOf, slotsOf, orderSound, frontTests, frontSound, walkSound}
 use Rattle.table.proofs.Walks.{canonical, slots-whole, slots-law, free-law}
 
 -- ---- what the settings and sessions are read from
@@ -44,7 +42,7 @@ use Rattle.table.proofs.Walks.{canonical, slots-whole, slots-law, free-
 within : (at n k : ℕ) (t : List ℕ) → k ≤ n → part at k (take (at + n) t) ≡ part at k t
 within at n k t h = ap (take k) (drop-take at n t) ∙ take-take k n (drop at t) h
 
-settings-front : (t : List ℕ) → viewSettings (part 0 settingsWidth t) ≡ viewSettings t
+pub settings-front : (t : List ℕ) → viewSettings (part 0 settingsWidth t) ≡ viewSettings t
 unfolding viewSettings octetAt numberAt
 settings-front t =
     λ i. record {
@@ -64,23 +62,21 @@ sessions-are t = refl
 count-are : (t : List ℕ) → length (viewSessions t) ≡ sessionCount t
 count-are t = ap length (sessions-are t) ∙ length-map (slotsOf t) viewSession ∙ length-slices sessionWidth (sessionCount t) (drop headWidth t)
 
--- the part of the settings that the records' rules ask
-has-ipv6 : (b : Bool) (v : List ℕ) → length v ≡ 16 → not (isNil (pick b [] v)) ≡ not b
-has-ipv6 true v e = refl
-has-ipv6 false [] e = absurd (omega arith)
-has-ipv6 false (x ∷ v) e = refl
+-- the settings' slot
+module _ (t : List ℕ) where
+  pub settings-from : T (settingsSound (part 0 settingsWidth t)) → T (settingsAllowed (viewSettings t)) × (settingsOctets (viewSettings t) ≡ part 0 settingsWidth t)
+  unfolding settingsSound
+  settings-from h = (
+    subst (λ (x : Settings). T (settingsAllowed x)) (settings-front t) (kept-allowed settingsAllowed settingsOctets viewSettings (part 0 settingsWidth t) h),
+    ap settingsOctets (sym (settings-front t)) ∙ kept-same settingsAllowed settingsOctets viewSettings (part 0 settingsWidth t) h,
+  )
 
-unit-v6 : (t : List ℕ) → 21 ≤ length t → not (isNil (viewSettings t .ipv6)) ≡ not (eqb (octetAt t 4) 0)
-unfolding viewSettings
-unit-v6 t h = has-ipv6 (eqb (octetAt t 4) 0) (part 5 16 t) (length-part 5 16 t (omega arith))
-
-sessions-of-unit : (t : List ℕ) → 21 ≤ length t → (m : List Session) → all (sessionAllowed (unitOf t)) m ≡ all (sessionAllowed (viewSettings t)) m
-unfolding viewSettings numberAt
-sessions-of-unit t h m = sessions-unit (viewSettings t) (not (eqb (octetAt t 4) 0)) (unit-v6 t h) m
-
-size-of-unit : (t : List ℕ) → T (settingsAllowed (viewSettings t)) → unitOf t .size ≤ 64 * mapWords
-unfolding viewSettings numberAt unit
-size-of-unit t h = pool-fits (viewSettings t) h
+  settings-to : T (settingsAllowed (viewSettings t)) → settingsOctets (viewSettings t) ≡ part 0 settingsWidth t → T (settingsSound (part 0 settingsWidth t))
+  unfolding settingsSound kept
+  settings-to h e =
+      both (settingsAllowed (viewSettings (part 0 settingsWidth t))) (sameOctets (settingsOctets (viewSettings (part 0 settingsWidth t))) (part 0 settingsWidth t))
+      (subst (λ (x : Settings). T (settingsAllowed x)) (sym (settings-front t)) h)
+      (of-true (ap (λ (l : List ℕ). sameOctets l (part 0 settingsWidth t)) (ap settingsOctets (settings-front t) ∙ e) ∙ same-refl (part 0 settingsWidth t)))
 
 -- ---- slots that are sessions' that are allowed
 
@@ -135,33 +131,17 @@ module _ (t : List ℕ) (long : length t ≡ tableLength (limitOf t)) (o : T (oc
   unfolding walkSound
   walk-is hs few =
       let m = map viewSession (slotsOf t) in
-      let keeps = slots-law (unitOf t) mapWords (slotsOf t) (size-of-unit t hs) (slots-whole (sessionCount t) (drop headWidth t) (rw area-long (omega arith)) (drop-octets headWidth t o)) in
-      let free : slotsFree (firstAddressOf t) (addressCountOf t) (replicate addressWords 0) (slotsOf t) ≡ allPairs (apartAddresses s) m =
-      unfold viewSettings numberAt in free-law s addressWords (slotsOf t) (addresses-fit s hs) in
+      let keeps = slots-law s mapWords (slotsOf t) (pool-fits s hs) (slots-whole (sessionCount t) (drop headWidth t) (rw area-long (omega arith)) (drop-octets headWidth t o)) in
+      let free = free-law s addressWords (slotsOf t) (addresses-fit s hs) in
       (λ i. keeps i && free i)
-      ∙ regroup (all (sessionAllowed (unitOf t)) m) (allPairs apartTeids m) (all canonical (slotsOf t)) (allPairs (apartAddresses s) m)
-      ∙ (λ i. (sessions-of-unit t (omega arith) m i && sym (apart-both s m) i) && all canonical (slotsOf t))
+      ∙ regroup (all (sessionAllowed s) m) (allPairs apartTeids m) (all canonical (slotsOf t)) (allPairs (apartAddresses s) m)
+      ∙ (λ i. (all (sessionAllowed s) m && sym (apart-both s m) i) && all canonical (slotsOf t))
     where
       regroup : (a b c d : Bool) → (((a && b) && c) && d) ≡ ((a && (b && d)) && c)
       regroup true true true d = sym (and-true d)
       regroup true true false d = sym (and-false d)
       regroup true false c d = refl
       regroup false b c d = refl
-
-  -- the settings' slot
-  pub settings-from : T (settingsSound (part 0 settingsWidth t)) → T (settingsAllowed s) × (settingsOctets s ≡ part 0 settingsWidth t)
-  unfolding settingsSound
-  settings-from h = (
-    subst (λ (x : Settings). T (settingsAllowed x)) (settings-front t) (kept-allowed settingsAllowed settingsOctets viewSettings (part 0 settingsWidth t) h),
-    ap settingsOctets (sym (settings-front t)) ∙ kept-same settingsAllowed settingsOctets viewSettings (part 0 settingsWidth t) h,
-  )
-
-  settings-to : T (settingsAllowed s) → settingsOctets s ≡ part 0 settingsWidth t → T (settingsSound (part 0 settingsWidth t))
-  unfolding settingsSound kept
-  settings-to h e =
-      both (settingsAllowed (viewSettings (part 0 settingsWidth t))) (sameOctets (settingsOctets (viewSettings (part 0 settingsWidth t))) (part 0 settingsWidth t))
-      (subst (λ (x : Settings). T (settingsAllowed x)) (sym (settings-front t)) h)
-      (of-true (ap (λ (l : List ℕ). sameOctets l (part 0 settingsWidth t)) (ap settingsOctets (settings-front t) ∙ e) ∙ same-refl (part 0 settingsWidth t)))
 
   encoded-is : encode s (viewSessions t) ≡ settingsOctets s ++ (part settingsWidth 2 t ++ area sessionOctets sessionWidth (s .limit) (map viewSession (slotsOf t)))
   unfolding encode
@@ -173,7 +153,7 @@ module _ (t : List ℕ) (long : length t ≡ tableLength (limitOf t)) (o : T (oc
   unfolding frontSound frontTests orderSound sound soundTests areaSound
   sound-from h w =
       let f = each (frontTests t) h in
-      let st = settings-from (f .1 .0) in
+      let st = settings-from t (f .0) in
       let few = leb→le (sessionCount t) (s .limit) (f .1 .1 .0) in
       let wk = subst T (walk-is (st .0) few) w in
       let allowed-apart = and-left (all (sessionAllowed s) (map viewSession (slotsOf t)) && allPairs (apart s) (map viewSession (slotsOf t))) (all canonical (slotsOf t)) wk in
@@ -210,7 +190,7 @@ module _ (t : List ℕ) (long : length t ≡ tableLength (limitOf t)) (o : T (oc
       let ar = sessions-to hs few allowed up ae in
       let kepts = and-left (all k (slotsOf t)) (ascending (map (keyOf 8) (slotsOf t)) && allZero (drop (sessionCount t * sessionWidth) (drop headWidth t))) ar in
       let order = and-right (all k (slotsOf t)) (ascending (map (keyOf 8) (slotsOf t)) && allZero (drop (sessionCount t * sessionWidth) (drop headWidth t))) ar in (
-        all-of-each (frontTests t) (yes-eqb long, (settings-to hs se, (yes-leb few, (order, tt)))),
+        all-of-each (frontTests t) (settings-to t hs se, (yes-eqb long, (yes-leb few, (order, tt)))),
         subst T (sym (walk-is hs few)) (both (all (sessionAllowed s) m && allPairs (apart s) m) (all canonical (slotsOf t)) (both (all (sessionAllowed s) m) (allPairs (apart s) m) allowed apart′) (all-canonical s (slotsOf t) kepts)),
       )
 
@@ -218,7 +198,7 @@ module _ (t : List ℕ) (long : length t ≡ tableLength (limitOf t)) (o : T (oc
 
 long-of : (t : List ℕ) → T (frontSound t) → length t ≡ tableLength (limitOf t)
 unfolding frontSound frontTests
-long-of t h = eqb→eq (length t) (tableLength (limitOf t)) (each (frontTests t) h .0)
+long-of t h = eqb→eq (length t) (tableLength (limitOf t)) (each (frontTests t) h .1 .0)
 
 long-sound : (t : List ℕ) → T (sound t) → length t ≡ tableLength (limitOf t)
 unfolding sound soundTests

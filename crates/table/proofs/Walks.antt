@@ -13,7 +13,7 @@ use lib.Dec.{T}
 use Rattle.octets.specs.Octets.{slices, sameOctets, octets, concatMap}
 use Rattle.octets.specs.Lists.{all, any, allPairs}
 use Rattle.octets.proofs.Digits.{take-octets, drop-octets}
-use Rattle.rules.specs.Model.{Settings, sessionTeids, heldTeids, inAddressPool, sessionAddresses, heldAddresses}
+use Rattle.rules.specs.Model.{Settings, sessionTeids, heldTeids, sessionAddresses, heldAddresses}
 use Rattle.rules.specs.Layout.{sessionOctets, viewSession, sessionWidth}
 use Rattle.rules.specs.Sound.{sessionAllowed}
 use Rattle.holdings.specs.Walk.{sessionMarks, tableMarks, apartTeids, apartAddresses, addressOffsets, addressMarks}
@@ -81,26 +81,18 @@ module _ (u : Settings) where
 -- ---- addresses
 
 module _ (s : Settings) where
-  -- only the pool of addresses counts
-  same-offsets : (xs : List ℕ) → heldOffsets (s .firstAddress) (s .addressCount) xs ≡ addressOffsets s (viewSession xs)
-  unfolding heldOffsets addressOffsets sessionAddresses inAddressPool
-  same-offsets xs = refl
-
-  turns-are : (ws : List ℕ) (xss : List (List ℕ))
-      → inTurn (slotFree (s .firstAddress) (s .addressCount)) (heldOffsets (s .firstAddress) (s .addressCount)) ws xss ≡ addressMarks ws (map (addressOffsets s) (map viewSession xss))
-  unfolding inTurn slotFree addressMarks
+  turns-are : (ws : List ℕ) (xss : List (List ℕ)) → inTurn (slotFree s) (heldOffsets s) ws xss ≡ addressMarks ws (map (addressOffsets s) (map viewSession xss))
+  unfolding inTurn slotFree addressMarks heldOffsets
   turns-are ws [] = refl
-  turns-are ws (xs ∷ xss) =
-      (λ i. not (any (marked ws) (same-offsets xs i)) && turns-are (marks ws (heldOffsets (s .firstAddress) (s .addressCount) xs)) xss i)
-      ∙ ap (λ (l : List ℕ). not (any (marked ws) (addressOffsets s (viewSession xs))) && addressMarks (marks ws l) (map (addressOffsets s) (map viewSession xss))) (same-offsets xs)
+  turns-are ws (xs ∷ xss) = ap (λ (b : Bool). not (any (marked ws) (heldOffsets s xs)) && b) (turns-are (marks ws (heldOffsets s xs)) xss)
 
-  pub free-law : (n : ℕ) (xss : List (List ℕ)) → s .addressCount ≤ 64 * n → slotsFree (s .firstAddress) (s .addressCount) (replicate n 0) xss ≡ allPairs (apartAddresses s) (map viewSession xss)
+  pub free-law : (n : ℕ) (xss : List (List ℕ)) → s .addressCount ≤ 64 * n → slotsFree s (replicate n 0) xss ≡ allPairs (apartAddresses s) (map viewSession xss)
   unfolding slotsFree
   free-law n xss h = turns-are (replicate n 0) xss ∙ address-marks s n (map viewSession xss) h
 
   -- the offsets of their addresses
-  pub addresses-are : (xss : List (List ℕ)) → addressesIn (s .firstAddress) (s .addressCount) xss ≡ offsets (s .firstAddress) (heldAddresses s (map viewSession xss))
-  unfolding addressesIn concatMap heldAddresses offsets addressOffsets
+  pub addresses-are : (xss : List (List ℕ)) → addressesIn s xss ≡ offsets (s .firstAddress) (heldAddresses s (map viewSession xss))
+  unfolding addressesIn concatMap heldAddresses offsets heldOffsets addressOffsets
   addresses-are [] = refl
   addresses-are (xs ∷ xss) =
-      (λ i. same-offsets xs i ++ addresses-are xss i) ∙ sym (offsets-append (s .firstAddress) (sessionAddresses s (viewSession xs)) (heldAddresses s (map viewSession xss)))
+      ap (λ (l : List ℕ). heldOffsets s xs ++ l) (addresses-are xss) ∙ sym (offsets-append (s .firstAddress) (sessionAddresses s (viewSession xs)) (heldAddresses s (map viewSession xss)))

@@ -1,20 +1,18 @@
--- The tests of a table on its octets, in the order in which they are made: the length by the session limit, the settings, the number of sessions, the order
+-- The tests of a table on its octets, in the order in which they are made: the settings, the length by the session limit, the number of sessions, the order
 -- of the SEIDs with the unused room, and the sessions with their TEIDs and addresses.
 -- Assumes nothing.
 use Prim.Native.Nat.{ℕ, _*_}
-use mathlib.Core.Bool.{Bool, not, _&&_}
+use mathlib.Core.Bool.{Bool, _&&_}
 use mathlib.Core.List.{List, [], _∷_, map}
 use lib.Dec.{leb, eqb}
 use lib.ListN.{length, drop, replicate}
 use Rattle.octets.specs.Choice.{allOf}
 use Rattle.octets.specs.Octets.{part, number, slices, allZero}
 use Rattle.octets.specs.Lists.{ascending}
-use Rattle.octets.specs.Octets.{octetAt}
 use Rattle.rules.specs.Limits.{mapWords, addressWords}
-use Rattle.rules.specs.Model.{Settings}
 use Rattle.rules.specs.Layout.{settingsWidth, headWidth, sessionWidth, tableLength, viewSettings}
 use Rattle.slots.specs.Records.{keyOf}
-use Rattle.records.specs.Kept.{settingsSound, unit}
+use Rattle.records.specs.Kept.{settingsSound}
 use Rattle.marking.specs.Marking.{slotsKeep, slotsFree}
 
 -- the number of sessions, and their slots
@@ -23,17 +21,6 @@ sessionCount t = number (part settingsWidth 2 t)
 
 abbrev pub slotsOf : List ℕ → List (List ℕ)
 slotsOf t = slices sessionWidth (sessionCount t) (drop headWidth t)
-
--- the settings as far as the rules of records ask
-abbrev pub unitOf : List ℕ → Settings
-unitOf t = unit (number (part 21 4 t)) (number (part 25 4 t)) (not (eqb (octetAt t 4) 0))
-
--- the pool of addresses
-abbrev pub firstAddressOf : List ℕ → ℕ
-firstAddressOf t = number (part 29 4 t)
-
-abbrev pub addressCountOf : List ℕ → ℕ
-addressCountOf t = number (part 33 4 t)
 
 -- how many sessions there is room for
 abbrev pub limitOf : List ℕ → ℕ
@@ -45,11 +32,11 @@ orderSound t = ascending (map (keyOf 8) (slotsOf t)) && allZero (drop (sessionCo
 
 -- the tests before the walk over the sessions
 unfoldable pub frontTests : List ℕ → List Bool
-frontTests t = eqb (length t) (tableLength (limitOf t)) ∷ settingsSound (part 0 settingsWidth t) ∷ leb (sessionCount t) (limitOf t) ∷ orderSound t ∷ []
+frontTests t = settingsSound (part 0 settingsWidth t) ∷ eqb (length t) (tableLength (limitOf t)) ∷ leb (sessionCount t) (limitOf t) ∷ orderSound t ∷ []
 
 unfoldable pub frontSound : List ℕ → Bool
 frontSound t = allOf (frontTests t)
 
 -- the walk
 unfoldable pub walkSound : List ℕ → Bool
-walkSound t = slotsKeep (unitOf t) (replicate mapWords 0) (slotsOf t) && slotsFree (firstAddressOf t) (addressCountOf t) (replicate addressWords 0) (slotsOf t)
+walkSound t = slotsKeep (viewSettings t) (replicate mapWords 0) (slotsOf t) && slotsFree (viewSettings t) (replicate addressWords 0) (slotsOf t)

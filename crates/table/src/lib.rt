@@ -5,22 +5,19 @@
 ghost use mathlib.Core.Path.{_≡_};
 ghost use mathlib.Core.Bool.{_||_};
 ghost use lib.Dec.{eqb};
-ghost use lib.ListN.{replicate};
+ghost use Prim.Native.Nat.{_≤_};
+ghost use lib.ListN.{length, replicate};
 ghost use Rattle.rules.specs.Limits.{mapWords, addressWords};
 ghost use Rattle.rules.specs.Sound.{sound, countFree, countAddresses, lengthFor, make};
-ghost use Rattle.unit.specs.Meaning.{settingsGiven};
+ghost use Rattle.rules.specs.Layout.{headWidth, viewSettings};
+ghost use Rattle.unit.specs.Meaning.{settingsOf, settingsGiven};
 ghost use Rattle.table.specs.Tests.{frontSound};
 ghost use Rattle.table.specs.Answers.{Examined, countOf, madeOf};
-use format::ADDRESS_COUNT;
 use format::COUNT;
-use format::FIRST;
-use format::FIRST_ADDRESS;
 use format::HEAD;
-use format::IPV6_THERE;
-use format::LIMIT;
 use format::SETTINGS;
-use format::SIZE;
 use format::SLOT;
+use unit::Settings;
 
 // The number of free TEIDs or addresses, or that the table is broken (01's outcome 1).
 pub enum Count {
@@ -28,22 +25,19 @@ pub enum Count {
     Free(u64),
 }
 
-// The tests before the walk over the sessions: length, settings, number of sessions, order of SEIDs, unused room.
-fn front_sound(t: &[u8]) -> bool
+// The tests before the walk over the sessions: settings, length, number of sessions, order of SEIDs, unused room. u has the settings.
+fn front_sound(t: &[u8], u: Settings) -> bool
+    requires { ⌜ (headWidth ≤ length (now t)) × (settingsOf u ≡ viewSettings (now t)) ⌝ }
     ensures { λ r. ⌜ r ≡ frontSound (now (t .entry)) ⌝ }
 {
-    if t.len() < HEAD {
+    if !records::settings_sound(&t[0..SETTINGS], u) {
         return false;
     }
-    let limit = octets::read(t, LIMIT, 2);
-    if t.len() != HEAD + limit as usize * SLOT {
-        return false;
-    }
-    if !records::settings_sound(&t[0..SETTINGS]) {
+    if t.len() != HEAD + u.limit as usize * SLOT {
         return false;
     }
     let n = octets::read(t, COUNT, 2);
-    if limit < n {
+    if u.limit < n {
         return false;
     }
     sessions::ordered(&t[HEAD..], SLOT, 8, n as usize)
@@ -55,26 +49,15 @@ pub fn examine(t: &[u8], words: &mut [u64], addresses: &mut [u64]) -> marking::S
     requires { ⌜ (now words ≡ replicate mapWords 0) × (now addresses ≡ replicate addressWords 0) ⌝ }
     ensures { λ r. ⌜ Examined (now (t .entry)) r (now (words .exit)) (now (addresses .exit)) ⌝ }
 {
-    if !front_sound(t) {
+    if t.len() < HEAD {
         return marking::Seen::Broken;
     }
-    let first = octets::read(t, FIRST, 4);
-    let size = octets::read(t, SIZE, 4);
+    let u = unit::read(t);
+    if !front_sound(t, u) {
+        return marking::Seen::Broken;
+    }
     let n = octets::read(t, COUNT, 2) as usize;
-    let v6 = t[IPV6_THERE] != 0;
-    let address = octets::read(t, FIRST_ADDRESS, 4);
-    let count = octets::read(t, ADDRESS_COUNT, 4);
-    marking::admit_all(
-        words,
-        addresses,
-        &t[HEAD..],
-        n,
-        first,
-        size,
-        v6,
-        address,
-        count,
-    )
+    marking::admit_all(words, addresses, &t[HEAD..], n, u)
 }
 
 // Whether the table is not broken.
@@ -100,7 +83,8 @@ pub fn free_count(t: &[u8]) -> Count
     let marking::Seen::Held(n, k) = seen else {
         return Count::Broken;
     };
-    Count::Free(octets::read(t, SIZE, 4) - n as u64)
+    let u = unit::read(t);
+    Count::Free(u.size - n as u64)
 }
 
 // How many addresses of the pool no record holds.
@@ -113,7 +97,8 @@ pub fn free_addresses(t: &[u8]) -> Count
     let marking::Seen::Held(n, k) = seen else {
         return Count::Broken;
     };
-    Count::Free(octets::read(t, ADDRESS_COUNT, 4) - k as u64)
+    let u = unit::read(t);
+    Count::Free(u.addresses - k as u64)
 }
 
 // How many octets a table of so many sessions has; none for a limit that is not allowed.

@@ -5,15 +5,16 @@ use native.Mathlib.Omega.{arith}
 use native.Mathlib.Nat.{le-refl}
 use borrow.Author.Needs.{needs}
 use Rattle.slots.proofs.Rows.{row-within}
+use Rattle.unit.specs.Meaning.{settingsOf}
 use Rattle.addresses.proofs.Walks.{Taking, taking-none, taking-more, taking-all}
 use Rattle.addresses.proofs.mark_all.Statement.{statement}
 use Rattle.addresses.proofs.mark_all.Tie as tie
 
 abbrev Inv-loop : tie.InvT-loop
-Inv-loop words₀ a n w at first count new₀ i₀ words new i = Taking first count w at a n words₀ words i new
+Inv-loop words₀ a n w at u new₀ i₀ words new i = Taking (settingsOf u) w at a n words₀ words i new
 
 abbrev μ-loop : tie.MeasureT-loop
-μ-loop words₀ a n w at first count new₀ i₀ words new i = n - i
+μ-loop words₀ a n w at u new₀ i₀ words new i = n - i
 
 loop-holds : tie.Need-loop-holds Inv-loop μ-loop
 loop-holds c = search taking-none
@@ -47,7 +48,7 @@ add-new c =
     let g = c .before .before .before .before .before .before .before .before .before .args in
     let l = c .before .before .before .before .before .before .loop in
     let t = c .before .before .mark-address in
-    let next = taking-more (g .first) (g .count) (g .w) (g .at) (g .a .now) (g .n) (g .words .now) (l .inv) (c .before .before .before .before .before .loop-test .taken) (t .result) (t .last .0) (t .ensures) in
+    let next = taking-more (settingsOf (g .u)) (g .w) (g .at) (g .a .now) (g .n) (g .words .now) (l .inv) (c .before .before .before .before .before .loop-test .taken) (t .result) (t .last .0) (t .ensures) in
     omega (arith, next .few)
 
 add-i : tie.Need-add-i Inv-loop μ-loop
@@ -61,7 +62,7 @@ loop-again c =
     let g = c .before .before .before .before .before .before .before .before .before .args in
     let l = c .before .before .before .before .before .before .loop in
     let t = c .before .before .mark-address in
-    taking-more (g .first) (g .count) (g .w) (g .at) (g .a .now) (g .n) (g .words .now) (l .inv) (c .before .before .before .before .before .loop-test .taken) (t .result) (t .last .0) (t .ensures)
+    taking-more (settingsOf (g .u)) (g .w) (g .at) (g .a .now) (g .n) (g .words .now) (l .inv) (c .before .before .before .before .before .loop-test .taken) (t .result) (t .last .0) (t .ensures)
 
 same-length : tie.Need-same-length Inv-loop μ-loop
 same-length c = search needs

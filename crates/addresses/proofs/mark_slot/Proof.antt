@@ -11,6 +11,7 @@ use Rattle.octets.proofs.Put.{length-part}
 use Rattle.rules.specs.Layout.{pdrWidth, endpointWidth, pdrsAt, endpointsAt}
 use Rattle.rules.specs.Limits.{maxPdrs, maxEndpoints}
 use Rattle.sessions.proofs.SlotLaws.{counts-headed}
+use Rattle.unit.specs.Meaning.{settingsOf}
 use Rattle.addresses.proofs.Slots.{endsOf, mark-whole}
 use borrow.Author.Needs.{needs}
 use Rattle.addresses.proofs.mark_slot.Statement.{statement}
@@ -36,7 +37,7 @@ mark-all-requires c κs =
     let start = c .before .before .before .before .before in
     let xs = start .args .slot .now in
     let counts = counts-headed xs (start .pre .1) in
-    (omega (arith, counts .endpoints, length-part endpointsAt (maxEndpoints * endpointWidth) xs (omega arith)), lit≤ tt, start .pre .2, start .pre .3)
+    (omega (arith, counts .endpoints, length-part endpointsAt (maxEndpoints * endpointWidth) xs (omega arith)), lit≤ tt, start .pre .2)
 
 shared-slice-read-n : tie.Need-shared-slice-read-n
 shared-slice-read-n c = search needs
@@ -58,7 +59,7 @@ mark-all-requires-2 c κs =
     let start = c .before .before .before .before .before .before .before .before .before .before .before in
     let xs = start .args .slot .now in
     let counts = counts-headed xs (start .pre .1) in
-    (omega (arith, counts .pdrs, length-part pdrsAt (maxPdrs * pdrWidth) xs (omega arith)), lit≤ tt, start .pre .2, omega (arith, ap length (c .before .before .before .before .before .mark-all .ensures .words), length-marks (start .args .words .now) (endsOf (start .args .first) (start .args .count) [] xs), start .pre .3))
+    (omega (arith, counts .pdrs, length-part pdrsAt (maxPdrs * pdrWidth) xs (omega arith)), lit≤ tt, omega (arith, ap length (c .before .before .before .before .before .mark-all .ensures .words), length-marks (start .args .words .now) (endsOf (settingsOf (start .args .u)) [] xs), start .pre .2))
 
 add-result : tie.Need-add-result
 add-result c =

@@ -5,15 +5,16 @@ use native.Mathlib.Omega.{arith}
 use native.Mathlib.Nat.{le-refl}
 use borrow.Author.Needs.{needs}
 use Rattle.slots.proofs.Rows.{row-within}
+use Rattle.unit.specs.Meaning.{settingsOf}
 use Rattle.addresses.proofs.Walks.{Meeting, meeting-none, meeting-clash, meeting-more, meeting-all}
 use Rattle.addresses.proofs.meet_all.Statement.{statement}
 use Rattle.addresses.proofs.meet_all.Tie as tie
 
 abbrev Inv-loop : tie.InvT-loop
-Inv-loop words a n w at first count found₀ i₀ found i = Meeting first count w at a n words i found
+Inv-loop words a n w at u found₀ i₀ found i = Meeting (settingsOf u) w at a n words i found
 
 abbrev μ-loop : tie.MeasureT-loop
-μ-loop words a n w at first count found₀ i₀ found i = n - i
+μ-loop words a n w at u found₀ i₀ found i = n - i
 
 loop-holds : tie.Need-loop-holds Inv-loop μ-loop
 loop-holds c = search meeting-none
@@ -53,14 +54,14 @@ returns c =
     let g = c .before .before .before .before .before .before .before .before .args in
     let l = c .before .before .before .before .before .loop in
     let t = c .before .before .meet-address in
-    meeting-clash (g .first) (g .count) (g .w) (g .at) (g .a .now) (g .n) (g .words .now) (l .inv) (c .before .before .before .before .loop-test .taken) (t .result) (t .ensures) (c .enum-told .given .1)
+    meeting-clash (settingsOf (g .u)) (g .w) (g .at) (g .a .now) (g .n) (g .words .now) (l .inv) (c .before .before .before .before .loop-test .taken) (t .result) (t .ensures) (c .enum-told .given .1)
 
 add-found : tie.Need-add-found Inv-loop μ-loop
 add-found c =
     let g = c .before .before .before .before .before .before .before .before .before .args in
     let l = c .before .before .before .before .before .before .loop in
     let t = c .before .before .before .meet-address in
-    let next = meeting-more (g .first) (g .count) (g .w) (g .at) (g .a .now) (g .n) (g .words .now) (l .inv) (c .before .before .before .before .before .loop-test .taken) (t .result) (t .ensures) (c .before .step .given .0 .0) (c .before .step .given .1) in
+    let next = meeting-more (settingsOf (g .u)) (g .w) (g .at) (g .a .now) (g .n) (g .words .now) (l .inv) (c .before .before .before .before .before .loop-test .taken) (t .result) (t .ensures) (c .before .step .given .0 .0) (c .before .step .given .1) in
     omega (arith, next .few)
 
 add-i : tie.Need-add-i Inv-loop μ-loop
@@ -74,7 +75,7 @@ loop-again c =
     let g = c .before .before .before .before .before .before .before .before .before .args in
     let l = c .before .before .before .before .before .before .loop in
     let t = c .before .before .before .meet-address in
-    meeting-more (g .first) (g .count) (g .w) (g .at) (g .a .now) (g .n) (g .words .now) (l .inv) (c .before .before .before .before .before .loop-test .taken) (t .result) (t .ensures) (c .before .step .given .0 .0) (c .before .step .given .1)
+    meeting-more (settingsOf (g .u)) (g .w) (g .at) (g .a .now) (g .n) (g .words .now) (l .inv) (c .before .before .before .before .before .loop-test .taken) (t .result) (t .ensures) (c .before .step .given .0 .0) (c .before .step .given .1)
 
 returns-2 : tie.Need-returns-2 Inv-loop μ-loop
 returns-2 c = search meeting-all

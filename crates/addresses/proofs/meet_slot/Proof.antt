@@ -7,6 +7,7 @@ use Rattle.octets.proofs.Put.{length-part}
 use Rattle.rules.specs.Layout.{pdrWidth, endpointWidth, pdrsAt, endpointsAt}
 use Rattle.rules.specs.Limits.{maxPdrs, maxEndpoints}
 use Rattle.sessions.proofs.SlotLaws.{counts-headed}
+use Rattle.unit.specs.Meaning.{settingsOf}
 use Rattle.addresses.proofs.Slots.{meet-ends, meet-pdrs, meet-whole, meet-few}
 use borrow.Author.Needs.{needs}
 use Rattle.addresses.proofs.meet_slot.Statement.{statement}
@@ -32,7 +33,7 @@ meet-all-requires c κs =
     let start = c .before .before .before .before in
     let xs = start .args .slot .now in
     let counts = counts-headed xs (start .pre .1) in
-    (omega (arith, counts .endpoints, length-part endpointsAt (maxEndpoints * endpointWidth) xs (omega arith)), lit≤ tt, start .pre .2, start .pre .3)
+    (omega (arith, counts .endpoints, length-part endpointsAt (maxEndpoints * endpointWidth) xs (omega arith)), lit≤ tt, start .pre .2)
 
 enum-known-ends : tie.Need-enum-known-ends
 enum-known-ends c = search needs
@@ -63,7 +64,7 @@ meet-all-requires-2 c κs =
     let start = c .before .before .before .before .before .before .before .before .before .before in
     let xs = start .args .slot .now in
     let counts = counts-headed xs (start .pre .1) in
-    (omega (arith, counts .pdrs, length-part pdrsAt (maxPdrs * pdrWidth) xs (omega arith)), lit≤ tt, start .pre .2, start .pre .3)
+    (omega (arith, counts .pdrs, length-part pdrsAt (maxPdrs * pdrWidth) xs (omega arith)), lit≤ tt, start .pre .2)
 
 enum-known-pdrs : tie.Need-enum-known-pdrs
 enum-known-pdrs c = search needs
@@ -74,13 +75,13 @@ enum-told-2 c = search needs
 returns-2 : tie.Need-returns-2
 returns-2 c = search meet-pdrs
 
-add-t14 : tie.Need-add-t14
-add-t14 c =
+add-t13 : tie.Need-add-t13
+add-t13 c =
     let start = c .before .before .before .before .before .before .before .before .before .before .before .before .before .before in
     let g = start .args in
     let e = c .before .before .before .before .before .before .before .before .before .meet-all in
     let p = c .before .before .before .meet-all2 in
-    omega (arith, meet-few (g .first) (g .count) (g .words .now) (g .slot .now) (e .result) (e .ensures) (c .before .before .before .before .before .before .before .ends .given .0 .0) (c .before .before .before .before .before .before .before .ends .given .1) (p .result) (p .ensures) (start .pre .1) (c .before .pdrs .given .0 .0) (c .before .pdrs .given .1))
+    omega (arith, meet-few (settingsOf (g .u)) (g .words .now) (g .slot .now) (e .result) (e .ensures) (c .before .before .before .before .before .before .before .ends .given .0 .0) (c .before .before .before .before .before .before .before .ends .given .1) (p .result) (p .ensures) (start .pre .1) (c .before .pdrs .given .0 .0) (c .before .pdrs .given .1))
 
 returns-3 : tie.Need-returns-3
 returns-3 c = search meet-whole
@@ -107,5 +108,5 @@ meet-slot-spec =
     enum-known-pdrs
     enum-told-2
     returns-2
-    add-t14
+    add-t13
     returns-3)

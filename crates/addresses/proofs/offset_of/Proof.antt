@@ -20,9 +20,6 @@ read-requires c κs = search needs
 returns-2 : tie.Need-returns-2
 returns-2 c = search offset-low
 
-add-if3 : tie.Need-add-if3
-add-if3 c = search needs
-
 returns-3 : tie.Need-returns-3
 returns-3 c = search offset-high
 
@@ -38,6 +35,5 @@ offset-of-spec =
     add-read
     read-requires
     returns-2
-    add-if3
     returns-3
     returns-4)

@@ -19,7 +19,7 @@ returns c =
     let g = start .args in
     let xs = g .slot .now in
     let head = c .before .head-sound in
-    admit-broken (g .first) (g .size) (g .v6) (g .words .now) xs (head .result) (head .ensures) (g .words .now) (c .if1 .taken)
+    admit-broken (g .u) (g .words .now) xs (head .result) (head .ensures) (g .words .now) (c .if1 .taken)
 
 sub-csids-sound : tie.Need-sub-csids-sound
 sub-csids-sound c = search needs
@@ -42,7 +42,7 @@ csids-sound-requires c κs =
     let g = start .args in
     let xs = g .slot .now in
     let head = c .before .before .before .head-sound in
-    let counts = slot-counts (g .first) (g .size) (g .v6) (g .words .now) xs (head .result) (head .ensures) (c .before .before .if1 .left) in
+    let counts = slot-counts (g .u) (g .words .now) xs (head .result) (head .ensures) (c .before .before .if1 .left) in
     omega (arith, counts .csids, length-part csidsAt (nodeTypes * csidWidth) xs (omega arith))
 
 returns-2 : tie.Need-returns-2
@@ -51,7 +51,7 @@ returns-2 c =
     let g = start .args in
     let xs = g .slot .now in
     let head = c .before .before .before .before .before .head-sound in
-    admit-csids (g .first) (g .size) (g .v6) (g .words .now) xs (head .result) (head .ensures) (c .before .before .before .before .if1 .left) (c .before .csids-sound .result) (c .before .csids-sound .ensures) (g .words .now) (c .if2 .taken)
+    admit-csids (g .u) (g .words .now) xs (head .result) (head .ensures) (c .before .before .before .before .if1 .left) (c .before .csids-sound .result) (c .before .csids-sound .ensures) (g .words .now) (c .if2 .taken)
 
 sub-ends : tie.Need-sub-ends
 sub-ends c = search needs
@@ -74,7 +74,7 @@ admit-endpoints-requires c κs =
     let g = start .args in
     let xs = g .slot .now in
     let head = c .before .before .before .before .before .before .before .before .head-sound in
-    let counts = slot-counts (g .first) (g .size) (g .v6) (g .words .now) xs (head .result) (head .ensures) (c .before .before .before .before .before .before .before .if1 .left) in
+    let counts = slot-counts (g .u) (g .words .now) xs (head .result) (head .ensures) (c .before .before .before .before .before .before .before .if1 .left) in
     (omega (arith, counts .endpoints, length-part endpointsAt (maxEndpoints * endpointWidth) xs (omega arith)), start .pre .1, start .pre .2)
 
 enum-known-held : tie.Need-enum-known-held
@@ -92,7 +92,7 @@ returns-3 c =
     let g = start .args in
     let xs = g .slot .now in
     let head = c .before .before .before .before .before .before .before .before .before .before .before .before .before .head-sound in
-    admit-ends (g .first) (g .size) (g .v6) (g .words .now) xs (head .result) (head .ensures) (c .before .before .before .before .before .before .before .before .before .before .before .before .if1 .left) (c .before .before .before .before .before .before .before .before .before .csids-sound .result) (c .before .before .before .before .before .before .before .before .before .csids-sound .ensures) (c .before .before .before .before .before .before .before .before .if2 .left) (c .before .before .before .before .admit-endpoints .result) (c .before .before .before .before .admit-endpoints .last .0) (c .before .before .before .before .admit-endpoints .ensures) (c .before .before .before .before .admit-endpoints .last .0) (c .enum-told .given .1)
+    admit-ends (g .u) (g .words .now) xs (head .result) (head .ensures) (c .before .before .before .before .before .before .before .before .before .before .before .before .if1 .left) (c .before .before .before .before .before .before .before .before .before .csids-sound .result) (c .before .before .before .before .before .before .before .before .before .csids-sound .ensures) (c .before .before .before .before .before .before .before .before .if2 .left) (c .before .before .before .before .admit-endpoints .result) (c .before .before .before .before .admit-endpoints .last .0) (c .before .before .before .before .admit-endpoints .ensures) (c .before .before .before .before .admit-endpoints .last .0) (c .enum-told .given .1)
 
 sub-admit-pdrs : tie.Need-sub-admit-pdrs
 sub-admit-pdrs c = search needs
@@ -115,9 +115,9 @@ admit-pdrs-requires c κs =
     let g = start .args in
     let xs = g .slot .now in
     let head = c .before .before .before .before .before .before .before .before .before .before .before .before .before .before .before .before .before .head-sound in
-    let counts = slot-counts (g .first) (g .size) (g .v6) (g .words .now) xs (head .result) (head .ensures) (c .before .before .before .before .before .before .before .before .before .before .before .before .before .before .before .before .if1 .left) in
+    let counts = slot-counts (g .u) (g .words .now) xs (head .result) (head .ensures) (c .before .before .before .before .before .before .before .before .before .before .before .before .before .before .before .before .if1 .left) in
     let ends = c .before .before .before .before .before .before .before .before .admit-endpoints in
-    let long = ends-long (g .first) (g .size) (g .v6) (g .words .now) xs (head .result) (head .ensures) (c .before .before .before .before .before .before .before .before .before .before .before .before .before .before .before .before .if1 .left) (c .before .before .before .before .before .before .before .before .before .before .before .before .before .csids-sound .result) (c .before .before .before .before .before .before .before .before .before .before .before .before .before .csids-sound .ensures) (c .before .before .before .before .before .before .before .before .before .before .before .before .if2 .left) (ends .result) (ends .last .0) (ends .ensures) (c .before .before .before .before .held .given .0 .0) (c .before .before .before .before .held .given .1) in
+    let long = ends-long (g .u) (g .words .now) xs (head .result) (head .ensures) (c .before .before .before .before .before .before .before .before .before .before .before .before .before .before .before .before .if1 .left) (c .before .before .before .before .before .before .before .before .before .before .before .before .before .csids-sound .result) (c .before .before .before .before .before .before .before .before .before .before .before .before .before .csids-sound .ensures) (c .before .before .before .before .before .before .before .before .before .before .before .before .if2 .left) (ends .result) (ends .last .0) (ends .ensures) (c .before .before .before .before .held .given .0 .0) (c .before .before .before .before .held .given .1) in
     (omega (arith, counts .pdrs, length-part pdrsAt (maxPdrs * pdrWidth) xs (omega arith)), omega (arith, counts .endpoints, length-part endpointsAt (maxEndpoints * endpointWidth) xs (omega arith)), start .pre .1, omega (arith, long))
 
 enum-known-pdrs : tie.Need-enum-known-pdrs
@@ -135,15 +135,15 @@ returns-4 c =
     let g = start .args in
     let xs = g .slot .now in
     let head = c .before .before .before .before .before .before .before .before .before .before .before .before .before .before .before .before .before .before .before .before .before .before .head-sound in
-    admit-rules (g .first) (g .size) (g .v6) (g .words .now) xs (head .result) (head .ensures) (c .before .before .before .before .before .before .before .before .before .before .before .before .before .before .before .before .before .before .before .before .before .if1 .left) (c .before .before .before .before .before .before .before .before .before .before .before .before .before .before .before .before .before .before .csids-sound .result) (c .before .before .before .before .before .before .before .before .before .before .before .before .before .before .before .before .before .before .csids-sound .ensures) (c .before .before .before .before .before .before .before .before .before .before .before .before .before .before .before .before .before .if2 .left) (c .before .before .before .before .before .before .before .before .before .before .before .before .before .admit-endpoints .result) (c .before .before .before .before .before .before .before .before .before .before .before .before .before .admit-endpoints .last .0) (c .before .before .before .before .before .before .before .before .before .before .before .before .before .admit-endpoints .ensures) (c .before .before .before .before .before .before .before .before .before .held .given .0 .0) (c .before .before .before .before .before .before .before .before .before .held .given .1) (c .before .before .before .before .admit-pdrs .result) (c .before .before .before .before .admit-pdrs .last .0) (c .before .before .before .before .admit-pdrs .ensures) (c .before .before .before .before .admit-pdrs .last .0) (c .enum-told2 .given .1)
+    admit-rules (g .u) (g .words .now) xs (head .result) (head .ensures) (c .before .before .before .before .before .before .before .before .before .before .before .before .before .before .before .before .before .before .before .before .before .if1 .left) (c .before .before .before .before .before .before .before .before .before .before .before .before .before .before .before .before .before .before .csids-sound .result) (c .before .before .before .before .before .before .before .before .before .before .before .before .before .before .before .before .before .before .csids-sound .ensures) (c .before .before .before .before .before .before .before .before .before .before .before .before .before .before .before .before .before .if2 .left) (c .before .before .before .before .before .before .before .before .before .before .before .before .before .admit-endpoints .result) (c .before .before .before .before .before .before .before .before .before .before .before .before .before .admit-endpoints .last .0) (c .before .before .before .before .before .before .before .before .before .before .before .before .before .admit-endpoints .ensures) (c .before .before .before .before .before .before .before .before .before .held .given .0 .0) (c .before .before .before .before .before .before .before .before .before .held .given .1) (c .before .before .before .before .admit-pdrs .result) (c .before .before .before .before .admit-pdrs .last .0) (c .before .before .before .before .admit-pdrs .ensures) (c .before .before .before .before .admit-pdrs .last .0) (c .enum-told2 .given .1)
 
-add-t15 : tie.Need-add-t15
-add-t15 c =
+add-t13 : tie.Need-add-t13
+add-t13 c =
     let start = c .before .before .before .before .before .before .before .before .before .before .before .before .before .before .before .before .before .before .before .before .before .before .before .before .before .before in
     let g = start .args in
     let xs = g .slot .now in
     let head = c .before .before .before .before .before .before .before .before .before .before .before .before .before .before .before .before .before .before .before .before .before .before .before .head-sound in
-    let few = admit-few (g .first) (g .size) (g .v6) (g .words .now) xs (head .result) (head .ensures) (c .before .before .before .before .before .before .before .before .before .before .before .before .before .before .before .before .before .before .before .before .before .before .if1 .left) (c .before .before .before .before .before .before .before .before .before .before .before .before .before .before .before .before .before .before .before .csids-sound .result) (c .before .before .before .before .before .before .before .before .before .before .before .before .before .before .before .before .before .before .before .csids-sound .ensures) (c .before .before .before .before .before .before .before .before .before .before .before .before .before .before .before .before .before .before .if2 .left) (c .before .before .before .before .before .before .before .before .before .before .before .before .before .before .admit-endpoints .result) (c .before .before .before .before .before .before .before .before .before .before .before .before .before .before .admit-endpoints .last .0) (c .before .before .before .before .before .before .before .before .before .before .before .before .before .before .admit-endpoints .ensures) (c .before .before .before .before .before .before .before .before .before .before .held .given .0 .0) (c .before .before .before .before .before .before .before .before .before .before .held .given .1) (c .before .before .before .before .before .admit-pdrs .result) (c .before .before .before .before .before .admit-pdrs .last .0) (c .before .before .before .before .before .admit-pdrs .ensures) (c .before .pdrs .given .0 .0) (c .before .pdrs .given .1) in
+    let few = admit-few (g .u) (g .words .now) xs (head .result) (head .ensures) (c .before .before .before .before .before .before .before .before .before .before .before .before .before .before .before .before .before .before .before .before .before .before .if1 .left) (c .before .before .before .before .before .before .before .before .before .before .before .before .before .before .before .before .before .before .before .csids-sound .result) (c .before .before .before .before .before .before .before .before .before .before .before .before .before .before .before .before .before .before .before .csids-sound .ensures) (c .before .before .before .before .before .before .before .before .before .before .before .before .before .before .before .before .before .before .if2 .left) (c .before .before .before .before .before .before .before .before .before .before .before .before .before .before .admit-endpoints .result) (c .before .before .before .before .before .before .before .before .before .before .before .before .before .before .admit-endpoints .last .0) (c .before .before .before .before .before .before .before .before .before .before .before .before .before .before .admit-endpoints .ensures) (c .before .before .before .before .before .before .before .before .before .before .held .given .0 .0) (c .before .before .before .before .before .before .before .before .before .before .held .given .1) (c .before .before .before .before .before .admit-pdrs .result) (c .before .before .before .before .before .admit-pdrs .last .0) (c .before .before .before .before .before .admit-pdrs .ensures) (c .before .pdrs .given .0 .0) (c .before .pdrs .given .1) in
     omega arith
 
 same-length-3 : tie.Need-same-length-3
@@ -155,7 +155,7 @@ returns-5 c =
     let g = start .args in
     let xs = g .slot .now in
     let head = c .before .before .before .before .before .before .before .before .before .before .before .before .before .before .before .before .before .before .before .before .before .before .before .head-sound in
-    admit-whole (g .first) (g .size) (g .v6) (g .words .now) xs (head .result) (head .ensures) (c .before .before .before .before .before .before .before .before .before .before .before .before .before .before .before .before .before .before .before .before .before .before .if1 .left) (c .before .before .before .before .before .before .before .before .before .before .before .before .before .before .before .before .before .before .before .csids-sound .result) (c .before .before .before .before .before .before .before .before .before .before .before .before .before .before .before .before .before .before .before .csids-sound .ensures) (c .before .before .before .before .before .before .before .before .before .before .before .before .before .before .before .before .before .before .if2 .left) (c .before .before .before .before .before .before .before .before .before .before .before .before .before .before .admit-endpoints .result) (c .before .before .before .before .before .before .before .before .before .before .before .before .before .before .admit-endpoints .last .0) (c .before .before .before .before .before .before .before .before .before .before .before .before .before .before .admit-endpoints .ensures) (c .before .before .before .before .before .before .before .before .before .before .held .given .0 .0) (c .before .before .before .before .before .before .before .before .before .before .held .given .1) (c .before .before .before .before .before .admit-pdrs .result) (c .before .before .before .before .before .admit-pdrs .last .0) (c .before .before .before .before .before .admit-pdrs .ensures) (c .before .pdrs .given .0 .0) (c .before .pdrs .given .1)
+    admit-whole (g .u) (g .words .now) xs (head .result) (head .ensures) (c .before .before .before .before .before .before .before .before .before .before .before .before .before .before .before .before .before .before .before .before .before .before .if1 .left) (c .before .before .before .before .before .before .before .before .before .before .before .before .before .before .before .before .before .before .before .csids-sound .result) (c .before .before .before .before .before .before .before .before .before .before .before .before .before .before .before .before .before .before .before .csids-sound .ensures) (c .before .before .before .before .before .before .before .before .before .before .before .before .before .before .before .before .before .before .if2 .left) (c .before .before .before .before .before .before .before .before .before .before .before .before .before .before .admit-endpoints .result) (c .before .before .before .before .before .before .before .before .before .before .before .before .before .before .admit-endpoints .last .0) (c .before .before .before .before .before .before .before .before .before .before .before .before .before .before .admit-endpoints .ensures) (c .before .before .before .before .before .before .before .before .before .before .held .given .0 .0) (c .before .before .before .before .before .before .before .before .before .before .held .given .1) (c .before .before .before .before .before .admit-pdrs .result) (c .before .before .before .before .before .admit-pdrs .last .0) (c .before .before .before .before .before .admit-pdrs .ensures) (c .before .pdrs .given .0 .0) (c .before .pdrs .given .1)
 
 pub admit-spec : {M : Type 1} → statement M
 admit-spec =
@@ -190,6 +190,6 @@ admit-spec =
     enum-told-2
     same-length-2
     returns-4
-    add-t15
+    add-t13
     same-length-3
     returns-5)

@@ -3,22 +3,22 @@
 use Prim.Native.Nat.{_-_}
 use native.Mathlib.Omega.{arith}
 use borrow.Author.Needs.{needs}
-use Rattle.records.specs.Kept.{unit}
+use Rattle.unit.specs.Meaning.{settingsOf}
 use Rattle.marking.proofs.Entering.{Passing, passing-none, passing-more, passing-stop, passing-all}
 use Rattle.marking.proofs.admit_all.Statement.{statement}
 use Rattle.marking.proofs.admit_all.Tie as tie
 
 abbrev Inv-loop : tie.InvT-loop
-Inv-loop words₀ addresses₀ a n first size v6 address count new₀ taken₀ i₀ words addresses new taken i =
-    Passing (unit first size v6) address count words₀ addresses₀ a n words addresses i new taken
+Inv-loop words₀ addresses₀ a n u new₀ taken₀ i₀ words addresses new taken i =
+    Passing (settingsOf u) words₀ addresses₀ a n words addresses i new taken
 
 abbrev μ-loop : tie.MeasureT-loop
-μ-loop words₀ addresses₀ a n first size v6 address count new₀ taken₀ i₀ words addresses new taken i = n - i
+μ-loop words₀ addresses₀ a n u new₀ taken₀ i₀ words addresses new taken i = n - i
 
 loop-holds : tie.Need-loop-holds Inv-loop μ-loop
 loop-holds c =
     let g = c .before .before .before .args in
-    passing-none (unit (g .first) (g .size) (g .v6)) (g .address) (g .count) (g .words .now) (g .addresses .now) (g .a .now) (g .n)
+    passing-none (settingsOf (g .u)) (g .words .now) (g .addresses .now) (g .a .now) (g .n)
 
 mul-at : tie.Need-mul-at Inv-loop μ-loop
 mul-at c = search needs
@@ -55,14 +55,14 @@ returns c =
     let g = c .before .before .before .before .before .before .before .before .before .before .before .before .before .before .before .args in
     let l = c .before .before .before .before .before .before .before .before .before .before .before .loop in
     let t = c .before .before .before .before .before .before .admit-session in
-    passing-stop (unit (g .first) (g .size) (g .v6)) (g .address) (g .count) (g .words .now) (g .addresses .now) (g .a .now) (g .n) (l .inv) (c .before .before .before .before .before .before .before .before .before .before .loop-test .taken) (t .result) (t .last .0) (t .last .1 .0) (t .ensures) (t .last .0) (t .last .1 .0) (c .enum-told .given .1)
+    passing-stop (settingsOf (g .u)) (g .words .now) (g .addresses .now) (g .a .now) (g .n) (l .inv) (c .before .before .before .before .before .before .before .before .before .before .loop-test .taken) (t .result) (t .last .0) (t .last .1 .0) (t .ensures) (t .last .0) (t .last .1 .0) (c .enum-told .given .1)
 
 add-new : tie.Need-add-new Inv-loop μ-loop
 add-new c =
     let g = c .before .before .before .before .before .before .before .before .before .before .before .before .before .before .before .before .args in
     let l = c .before .before .before .before .before .before .before .before .before .before .before .before .loop in
     let t = c .before .before .before .before .before .before .before .admit-session in
-    let more = passing-more (unit (g .first) (g .size) (g .v6)) (g .address) (g .count) (g .words .now) (g .addresses .now) (g .a .now) (g .n) (l .inv) (c .before .before .before .before .before .before .before .before .before .before .before .loop-test .taken) (t .result) (t .last .0) (t .last .1 .0) (t .ensures) (c .before .step .given .0 .0) (c .before .step .given .0 .1 .0) (c .before .step .given .1) in
+    let more = passing-more (settingsOf (g .u)) (g .words .now) (g .addresses .now) (g .a .now) (g .n) (l .inv) (c .before .before .before .before .before .before .before .before .before .before .before .loop-test .taken) (t .result) (t .last .0) (t .last .1 .0) (t .ensures) (c .before .step .given .0 .0) (c .before .step .given .0 .1 .0) (c .before .step .given .1) in
     omega (arith, more .teids .few, c .before .before .before .before .before .before .before .before .before .before .before .before .before .before .before .before .pre .1)
 
 add-taken : tie.Need-add-taken Inv-loop μ-loop
@@ -70,7 +70,7 @@ add-taken c =
     let g = c .before .before .before .before .before .before .before .before .before .before .before .before .before .before .before .before .args in
     let l = c .before .before .before .before .before .before .before .before .before .before .before .before .loop in
     let t = c .before .before .before .before .before .before .before .admit-session in
-    let more = passing-more (unit (g .first) (g .size) (g .v6)) (g .address) (g .count) (g .words .now) (g .addresses .now) (g .a .now) (g .n) (l .inv) (c .before .before .before .before .before .before .before .before .before .before .before .loop-test .taken) (t .result) (t .last .0) (t .last .1 .0) (t .ensures) (c .before .step .given .0 .0) (c .before .step .given .0 .1 .0) (c .before .step .given .1) in
+    let more = passing-more (settingsOf (g .u)) (g .words .now) (g .addresses .now) (g .a .now) (g .n) (l .inv) (c .before .before .before .before .before .before .before .before .before .before .before .loop-test .taken) (t .result) (t .last .0) (t .last .1 .0) (t .ensures) (c .before .step .given .0 .0) (c .before .step .given .0 .1 .0) (c .before .step .given .1) in
     omega (arith, more .addresses .few, c .before .before .before .before .before .before .before .before .before .before .before .before .before .before .before .before .pre .1)
 
 add-i : tie.Need-add-i Inv-loop μ-loop
@@ -84,7 +84,7 @@ loop-again c =
     let g = c .before .before .before .before .before .before .before .before .before .before .before .before .before .before .before .before .args in
     let l = c .before .before .before .before .before .before .before .before .before .before .before .before .loop in
     let t = c .before .before .before .before .before .before .before .admit-session in
-    passing-more (unit (g .first) (g .size) (g .v6)) (g .address) (g .count) (g .words .now) (g .addresses .now) (g .a .now) (g .n) (l .inv) (c .before .before .before .before .before .before .before .before .before .before .before .loop-test .taken) (t .result) (t .last .0) (t .last .1 .0) (t .ensures) (c .before .step .given .0 .0) (c .before .step .given .0 .1 .0) (c .before .step .given .1)
+    passing-more (settingsOf (g .u)) (g .words .now) (g .addresses .now) (g .a .now) (g .n) (l .inv) (c .before .before .before .before .before .before .before .before .before .before .before .loop-test .taken) (t .result) (t .last .0) (t .last .1 .0) (t .ensures) (c .before .step .given .0 .0) (c .before .step .given .0 .1 .0) (c .before .step .given .1)
 
 same-length-3 : tie.Need-same-length-3 Inv-loop μ-loop
 same-length-3 c = search needs
@@ -96,7 +96,7 @@ returns-2 : tie.Need-returns-2 Inv-loop μ-loop
 returns-2 c =
     let g = c .before .before .before .before .before .args in
     let l = c .before .loop in
-    passing-all (unit (g .first) (g .size) (g .v6)) (g .address) (g .count) (g .words .now) (g .addresses .now) (g .a .now) (g .n) (l .inv) (c .loop-test .left)
+    passing-all (settingsOf (g .u)) (g .words .now) (g .addresses .now) (g .a .now) (g .n) (l .inv) (c .loop-test .left)
 
 pub admit-all-spec : {M : Type 1} → statement M
 admit-all-spec =

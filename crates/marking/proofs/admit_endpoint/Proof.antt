@@ -19,21 +19,21 @@ read-requires c κs = search needs
 
 sub-mark : tie.Need-sub-mark
 sub-mark c =
-    let start = c .before .before .before .before .before .before in
+    let start = c .before .before .before .before .before .before .before in
     let g = start .args in
     let xs = g .slot .now in
-    let o : T (octets xs) = octets-known xs (λ i. c .before .before .before .before .shared-slice-known .given i .fits) in
-    let sound = c .before .before .before .endpoint-sound in
-    endpoint-fits xs (g .first) (g .size) (g .v6) (g .words .now) (sound .result) (sound .ensures) (c .before .before .if1 .left) (c .before .read .result) (c .before .read .ensures .0) (start .pre .0) o (start .pre .1) (start .pre .2) .0
+    let o : T (octets xs) = octets-known xs (λ i. c .before .before .before .before .before .shared-slice-known .given i .fits) in
+    let sound = c .before .before .before .before .endpoint-sound in
+    endpoint-fits xs (g .u) (g .words .now) (sound .result) (sound .ensures) (c .before .before .before .if1 .left) (c .before .before .read .result) (c .before .before .read .ensures .0) (start .pre .0) o (start .pre .1) (start .pre .2) .0
 
 mark-requires : tie.Need-mark-requires
 mark-requires c κs =
-    let start = c .before .before .before .before .before .before in
+    let start = c .before .before .before .before .before .before .before in
     let g = start .args in
     let xs = g .slot .now in
-    let o : T (octets xs) = octets-known xs (λ i. c .before .before .before .before .shared-slice-known .given i .fits) in
-    let sound = c .before .before .before .endpoint-sound in
-    endpoint-fits xs (g .first) (g .size) (g .v6) (g .words .now) (sound .result) (sound .ensures) (c .before .before .if1 .left) (c .before .read .result) (c .before .read .ensures .0) (start .pre .0) o (start .pre .1) (start .pre .2) .1
+    let o : T (octets xs) = octets-known xs (λ i. c .before .before .before .before .before .shared-slice-known .given i .fits) in
+    let sound = c .before .before .before .before .endpoint-sound in
+    endpoint-fits xs (g .u) (g .words .now) (sound .result) (sound .ensures) (c .before .before .before .if1 .left) (c .before .before .read .result) (c .before .before .read .ensures .0) (start .pre .0) o (start .pre .1) (start .pre .2) .1
 
 same-length : tie.Need-same-length
 same-length c = search needs

@@ -5,7 +5,8 @@ use native.Mathlib.Omega.{arith}
 use lib.Dec.{lit≤}
 use borrow.Author.Needs.{needs}
 use mathlib.Core.List.{[]}
-use Rattle.records.specs.Kept.{endpointSound, unit}
+use Rattle.records.specs.Kept.{endpointSound}
+use Rattle.unit.specs.Meaning.{settingsOf}
 use Rattle.marking.specs.Marking.{endpointHolds}
 use Rattle.marking.proofs.Answers.{endpoint-at}
 use Rattle.marking.proofs.Walking.{Walk, walk-none, walk-low, walk-more, walk-clash, walk-room, walk-all, endsFrom, endpoint-places}
@@ -14,16 +15,16 @@ use Rattle.marking.proofs.admit_endpoints.Tie as tie
 use Rattle.rules.specs.Layout.{endpointWidth}
 
 abbrev Inv-loop : tie.InvT-loop
-Inv-loop words₀ ends n first size v6 new₀ next₀ i₀ words new next i = Walk (endpointSound (unit first size v6)) endpointWidth 1 ends n first words₀ (endpointHolds n ends) (λ j. []) (endsFrom first words₀ ends n) words i next new
+Inv-loop words₀ ends n u new₀ next₀ i₀ words new next i = Walk (endpointSound (settingsOf u)) endpointWidth 1 ends n (u .first) words₀ (endpointHolds n ends) (λ j. []) (endsFrom (u .first) words₀ ends n) words i next new
 
 abbrev μ-loop : tie.MeasureT-loop
-μ-loop words₀ ends n first size v6 new₀ next₀ i₀ words new next i = n - i
+μ-loop words₀ ends n u new₀ next₀ i₀ words new next i = n - i
 
 loop-holds : tie.Need-loop-holds Inv-loop μ-loop
 loop-holds c =
     let g = c .before .before .args in
-    let p = endpointSound (unit (g .first) (g .size) (g .v6)) in
-    let ps = endpoint-places (g .first) (g .words .now) (g .ends .now) (g .n) in
+    let p = endpointSound (settingsOf (g .u)) in
+    let ps = endpoint-places (g .u .first) (g .words .now) (g .ends .now) (g .n) in
     walk-none p endpointWidth 1 (g .ends .now) ps
 
 mul-at : tie.Need-mul-at Inv-loop μ-loop
@@ -38,8 +39,8 @@ same-length c = search needs
 returns : tie.Need-returns Inv-loop μ-loop
 returns c =
     let g = c .before .before .before .before .before .before .args in
-    let p = endpointSound (unit (g .first) (g .size) (g .v6)) in
-    let ps = endpoint-places (g .first) (g .words .now) (g .ends .now) (g .n) in
+    let p = endpointSound (settingsOf (g .u)) in
+    let ps = endpoint-places (g .u .first) (g .words .now) (g .ends .now) (g .n) in
     walk-low p endpointWidth 1 (g .ends .now) ps (c .before .before .before .loop .inv) (c .before .before .loop-test .taken) (lit≤ tt) (c .before .read .result) (c .before .read .ensures .0) (c .before .before .before .loop .words) (c .if1 .taken)
 
 add-admit-endpoint : tie.Need-add-admit-endpoint Inv-loop μ-loop
@@ -69,21 +70,21 @@ same-length-2 c = search needs
 returns-2 : tie.Need-returns-2 Inv-loop μ-loop
 returns-2 c =
     let g = c .before .before .before .before .before .before .before .before .before .before .before .before .before .args in
-    let p = endpointSound (unit (g .first) (g .size) (g .v6)) in
-    let ps = endpoint-places (g .first) (g .words .now) (g .ends .now) (g .n) in
+    let p = endpointSound (settingsOf (g .u)) in
+    let ps = endpoint-places (g .u .first) (g .words .now) (g .ends .now) (g .n) in
     let l = c .before .before .before .before .before .before .before .before .before .before .loop in
     let t = c .before .before .before .before .admit-endpoint in
-    walk-clash p endpointWidth 1 (g .ends .now) ps (l .inv) (c .before .before .before .before .before .before .before .before .before .loop-test .taken) (t .result) (t .last .0) (endpoint-at (g .first) (g .size) (g .v6) (l .words) (g .ends .now) (l .i) (t .result) (t .last .0) (t .ensures)) (c .enum-told .given .1) (t .last .0)
+    walk-clash p endpointWidth 1 (g .ends .now) ps (l .inv) (c .before .before .before .before .before .before .before .before .before .loop-test .taken) (t .result) (t .last .0) (endpoint-at (g .u) (l .words) (g .ends .now) (l .i) (t .result) (t .last .0) (t .ensures)) (c .enum-told .given .1) (t .last .0)
 
 add-new : tie.Need-add-new Inv-loop μ-loop
 add-new c =
     let g = c .before .before .before .before .before .before .before .before .before .before .before .before .before .before .args in
-    let p = endpointSound (unit (g .first) (g .size) (g .v6)) in
-    let ps = endpoint-places (g .first) (g .words .now) (g .ends .now) (g .n) in
+    let p = endpointSound (settingsOf (g .u)) in
+    let ps = endpoint-places (g .u .first) (g .words .now) (g .ends .now) (g .n) in
     let l = c .before .before .before .before .before .before .before .before .before .before .before .loop in
     let t = c .before .before .before .before .before .admit-endpoint in
     let key = c .before .before .before .before .before .before .before .before .before .read in
-    let more = walk-more p endpointWidth 1 (g .ends .now) ps (l .inv) (c .before .before .before .before .before .before .before .before .before .before .loop-test .taken) (lit≤ tt) (key .result) (key .ensures .0) (t .result) (t .last .0) (endpoint-at (g .first) (g .size) (g .v6) (l .words) (g .ends .now) (l .i) (t .result) (t .last .0) (t .ensures)) (c .before .before .before .before .before .before .before .before .if1 .left) (c .before .step .given .0 .0) (c .before .step .given .1) in
+    let more = walk-more p endpointWidth 1 (g .ends .now) ps (l .inv) (c .before .before .before .before .before .before .before .before .before .before .loop-test .taken) (lit≤ tt) (key .result) (key .ensures .0) (t .result) (t .last .0) (endpoint-at (g .u) (l .words) (g .ends .now) (l .i) (t .result) (t .last .0) (t .ensures)) (c .before .before .before .before .before .before .before .before .if1 .left) (c .before .step .given .0 .0) (c .before .step .given .1) in
     omega (arith, more .few)
 
 add-next : tie.Need-add-next Inv-loop μ-loop
@@ -98,12 +99,12 @@ loop-less c = search needs
 loop-again : tie.Need-loop-again Inv-loop μ-loop
 loop-again c =
     let g = c .before .before .before .before .before .before .before .before .before .before .before .before .before .before .args in
-    let p = endpointSound (unit (g .first) (g .size) (g .v6)) in
-    let ps = endpoint-places (g .first) (g .words .now) (g .ends .now) (g .n) in
+    let p = endpointSound (settingsOf (g .u)) in
+    let ps = endpoint-places (g .u .first) (g .words .now) (g .ends .now) (g .n) in
     let l = c .before .before .before .before .before .before .before .before .before .before .before .loop in
     let t = c .before .before .before .before .before .admit-endpoint in
     let key = c .before .before .before .before .before .before .before .before .before .read in
-    walk-more p endpointWidth 1 (g .ends .now) ps (l .inv) (c .before .before .before .before .before .before .before .before .before .before .loop-test .taken) (lit≤ tt) (key .result) (key .ensures .0) (t .result) (t .last .0) (endpoint-at (g .first) (g .size) (g .v6) (l .words) (g .ends .now) (l .i) (t .result) (t .last .0) (t .ensures)) (c .before .before .before .before .before .before .before .before .if1 .left) (c .before .step .given .0 .0) (c .before .step .given .1)
+    walk-more p endpointWidth 1 (g .ends .now) ps (l .inv) (c .before .before .before .before .before .before .before .before .before .before .loop-test .taken) (lit≤ tt) (key .result) (key .ensures .0) (t .result) (t .last .0) (endpoint-at (g .u) (l .words) (g .ends .now) (l .i) (t .result) (t .last .0) (t .ensures)) (c .before .before .before .before .before .before .before .before .if1 .left) (c .before .step .given .0 .0) (c .before .step .given .1)
 
 mul-used : tie.Need-mul-used Inv-loop μ-loop
 mul-used c = search needs
@@ -120,8 +121,8 @@ same-length-3 c = search needs
 returns-3 : tie.Need-returns-3 Inv-loop μ-loop
 returns-3 c =
     let g = c .before .before .before .before .before .before .args in
-    let p = endpointSound (unit (g .first) (g .size) (g .v6)) in
-    let ps = endpoint-places (g .first) (g .words .now) (g .ends .now) (g .n) in
+    let p = endpointSound (settingsOf (g .u)) in
+    let ps = endpoint-places (g .u .first) (g .words .now) (g .ends .now) (g .n) in
     walk-room p endpointWidth 1 (g .ends .now) ps (c .before .before .before .loop .inv) (c .before .before .loop-test .left) (c .before .before .before .before .before .before .pre .0) (c .before .is-zero .result) (c .before .is-zero .ensures) (c .before .before .before .loop .words) (c .if2 .taken)
 
 same-length-4 : tie.Need-same-length-4 Inv-loop μ-loop
@@ -130,8 +131,8 @@ same-length-4 c = search needs
 returns-4 : tie.Need-returns-4 Inv-loop μ-loop
 returns-4 c =
     let g = c .before .before .before .before .before .before .args in
-    let p = endpointSound (unit (g .first) (g .size) (g .v6)) in
-    let ps = endpoint-places (g .first) (g .words .now) (g .ends .now) (g .n) in
+    let p = endpointSound (settingsOf (g .u)) in
+    let ps = endpoint-places (g .u .first) (g .words .now) (g .ends .now) (g .n) in
     walk-all p endpointWidth 1 (g .ends .now) ps (c .before .before .before .loop .inv) (c .before .before .loop-test .left) (c .before .before .before .before .before .before .pre .0) (c .before .is-zero .result) (c .before .is-zero .ensures) (c .if2 .left)
 
 pub admit-endpoints-spec : {M : Type 1} → statement M

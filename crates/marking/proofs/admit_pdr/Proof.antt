@@ -43,21 +43,21 @@ read-requires c κs = search needs
 
 sub-mark : tie.Need-sub-mark
 sub-mark c =
-    let start = c .before .before .before .before .before .before .before .before .before .before in
+    let start = c .before .before .before .before .before .before .before .before .before .before .before in
     let g = start .args in
     let xs = slotAt (g .pdrs .now) (g .i) in
-    let o : T (octets xs) = octets-known xs (λ i. c .before .before .before .shared-slice-known3 .given i .fits) in
-    let sound = c .before .before .before .before .before .pdr-sound in
-    pdr-fits (g .pdrs .now) (g .i) (g .first) (g .size) (g .v6) (endpointIds (g .m) (g .ends .now)) (g .words .now) [] (sound .result) (sound .ensures) (c .before .before .before .before .if1 .left) (c .before .before .if2 .left) (c .before .read .result) (c .before .read .ensures .0) (omega arith) o (start .pre .2) (start .pre .3) .0
+    let o : T (octets xs) = octets-known xs (λ i. c .before .before .before .before .shared-slice-known3 .given i .fits) in
+    let sound = c .before .before .before .before .before .before .pdr-sound in
+    pdr-fits (g .pdrs .now) (g .i) (g .u) (endpointIds (g .m) (g .ends .now)) (g .words .now) [] (sound .result) (sound .ensures) (c .before .before .before .before .before .if1 .left) (c .before .before .before .if2 .left) (c .before .before .read .result) (c .before .before .read .ensures .0) (omega arith) o (start .pre .2) (start .pre .3) .0
 
 mark-requires : tie.Need-mark-requires
 mark-requires c κs =
-    let start = c .before .before .before .before .before .before .before .before .before .before in
+    let start = c .before .before .before .before .before .before .before .before .before .before .before in
     let g = start .args in
     let xs = slotAt (g .pdrs .now) (g .i) in
-    let o : T (octets xs) = octets-known xs (λ i. c .before .before .before .shared-slice-known3 .given i .fits) in
-    let sound = c .before .before .before .before .before .pdr-sound in
-    pdr-fits (g .pdrs .now) (g .i) (g .first) (g .size) (g .v6) (endpointIds (g .m) (g .ends .now)) (g .words .now) [] (sound .result) (sound .ensures) (c .before .before .before .before .if1 .left) (c .before .before .if2 .left) (c .before .read .result) (c .before .read .ensures .0) (omega arith) o (start .pre .2) (start .pre .3) .1
+    let o : T (octets xs) = octets-known xs (λ i. c .before .before .before .before .shared-slice-known3 .given i .fits) in
+    let sound = c .before .before .before .before .before .before .pdr-sound in
+    pdr-fits (g .pdrs .now) (g .i) (g .u) (endpointIds (g .m) (g .ends .now)) (g .words .now) [] (sound .result) (sound .ensures) (c .before .before .before .before .before .if1 .left) (c .before .before .before .if2 .left) (c .before .before .read .result) (c .before .before .read .ensures .0) (omega arith) o (start .pre .2) (start .pre .3) .1
 
 same-length : tie.Need-same-length
 same-length c = search needs

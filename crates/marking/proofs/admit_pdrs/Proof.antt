@@ -4,7 +4,8 @@ use Prim.Native.Nat.{_-_}
 use native.Mathlib.Omega.{arith}
 use lib.Dec.{lit≤}
 use borrow.Author.Needs.{needs}
-use Rattle.records.specs.Kept.{pdrSound, endpointIds, unit}
+use Rattle.records.specs.Kept.{pdrSound, endpointIds}
+use Rattle.unit.specs.Meaning.{settingsOf}
 use Rattle.marking.specs.Marking.{pdrHolds}
 use Rattle.marking.proofs.Walking.{Walk, walk-none, walk-low, walk-more, walk-clash, walk-room, walk-all, pdrsTo, pdrsFrom, pdr-places}
 use Rattle.marking.proofs.admit_pdrs.Statement.{statement}
@@ -12,16 +13,16 @@ use Rattle.marking.proofs.admit_pdrs.Tie as tie
 use Rattle.rules.specs.Layout.{pdrWidth}
 
 abbrev Inv-loop : tie.InvT-loop
-Inv-loop words₀ pdrs n ends m first size v6 new₀ next₀ i₀ words new next i = Walk (pdrSound (unit first size v6) (endpointIds m ends)) pdrWidth 2 pdrs n first words₀ (pdrHolds n pdrs) (pdrsTo first words₀ pdrs n) (pdrsFrom first words₀ pdrs n) words i next new
+Inv-loop words₀ pdrs n ends m u new₀ next₀ i₀ words new next i = Walk (pdrSound (settingsOf u) (endpointIds m ends)) pdrWidth 2 pdrs n (u .first) words₀ (pdrHolds n pdrs) (pdrsTo (u .first) words₀ pdrs n) (pdrsFrom (u .first) words₀ pdrs n) words i next new
 
 abbrev μ-loop : tie.MeasureT-loop
-μ-loop words₀ pdrs n ends m first size v6 new₀ next₀ i₀ words new next i = n - i
+μ-loop words₀ pdrs n ends m u new₀ next₀ i₀ words new next i = n - i
 
 loop-holds : tie.Need-loop-holds Inv-loop μ-loop
 loop-holds c =
     let g = c .before .before .before .args in
-    let p = pdrSound (unit (g .first) (g .size) (g .v6)) (endpointIds (g .m) (g .ends .now)) in
-    let ps = pdr-places (g .first) (g .words .now) (g .pdrs .now) (g .n) in
+    let p = pdrSound (settingsOf (g .u)) (endpointIds (g .m) (g .ends .now)) in
+    let ps = pdr-places (g .u .first) (g .words .now) (g .pdrs .now) (g .n) in
     walk-none p pdrWidth 2 (g .pdrs .now) ps
 
 mul-read : tie.Need-mul-read Inv-loop μ-loop
@@ -36,8 +37,8 @@ same-length c = search needs
 returns : tie.Need-returns Inv-loop μ-loop
 returns c =
     let g = c .before .before .before .before .before .before .before .args in
-    let p = pdrSound (unit (g .first) (g .size) (g .v6)) (endpointIds (g .m) (g .ends .now)) in
-    let ps = pdr-places (g .first) (g .words .now) (g .pdrs .now) (g .n) in
+    let p = pdrSound (settingsOf (g .u)) (endpointIds (g .m) (g .ends .now)) in
+    let ps = pdr-places (g .u .first) (g .words .now) (g .pdrs .now) (g .n) in
     walk-low p pdrWidth 2 (g .pdrs .now) ps (c .before .before .before .loop .inv) (c .before .before .loop-test .taken) (lit≤ tt) (c .before .read .result) (c .before .read .ensures .0) (c .before .before .before .loop .words) (c .if1 .taken)
 
 admit-pdr-requires : tie.Need-admit-pdr-requires Inv-loop μ-loop
@@ -55,8 +56,8 @@ same-length-2 c = search needs
 returns-2 : tie.Need-returns-2 Inv-loop μ-loop
 returns-2 c =
     let g = c .before .before .before .before .before .before .before .before .before .before .before .before .before .args in
-    let p = pdrSound (unit (g .first) (g .size) (g .v6)) (endpointIds (g .m) (g .ends .now)) in
-    let ps = pdr-places (g .first) (g .words .now) (g .pdrs .now) (g .n) in
+    let p = pdrSound (settingsOf (g .u)) (endpointIds (g .m) (g .ends .now)) in
+    let ps = pdr-places (g .u .first) (g .words .now) (g .pdrs .now) (g .n) in
     let l = c .before .before .before .before .before .before .before .before .before .loop in
     let t = c .before .before .before .before .admit-pdr in
     walk-clash p pdrWidth 2 (g .pdrs .now) ps (l .inv) (c .before .before .before .before .before .before .before .before .loop-test .taken) (t .result) (t .last .0) (t .ensures) (c .enum-told .given .1) (t .last .0)
@@ -64,8 +65,8 @@ returns-2 c =
 add-new : tie.Need-add-new Inv-loop μ-loop
 add-new c =
     let g = c .before .before .before .before .before .before .before .before .before .before .before .before .before .before .args in
-    let p = pdrSound (unit (g .first) (g .size) (g .v6)) (endpointIds (g .m) (g .ends .now)) in
-    let ps = pdr-places (g .first) (g .words .now) (g .pdrs .now) (g .n) in
+    let p = pdrSound (settingsOf (g .u)) (endpointIds (g .m) (g .ends .now)) in
+    let ps = pdr-places (g .u .first) (g .words .now) (g .pdrs .now) (g .n) in
     let l = c .before .before .before .before .before .before .before .before .before .before .loop in
     let t = c .before .before .before .before .before .admit-pdr in
     let key = c .before .before .before .before .before .before .before .before .read in
@@ -84,8 +85,8 @@ loop-less c = search needs
 loop-again : tie.Need-loop-again Inv-loop μ-loop
 loop-again c =
     let g = c .before .before .before .before .before .before .before .before .before .before .before .before .before .before .args in
-    let p = pdrSound (unit (g .first) (g .size) (g .v6)) (endpointIds (g .m) (g .ends .now)) in
-    let ps = pdr-places (g .first) (g .words .now) (g .pdrs .now) (g .n) in
+    let p = pdrSound (settingsOf (g .u)) (endpointIds (g .m) (g .ends .now)) in
+    let ps = pdr-places (g .u .first) (g .words .now) (g .pdrs .now) (g .n) in
     let l = c .before .before .before .before .before .before .before .before .before .before .loop in
     let t = c .before .before .before .before .before .admit-pdr in
     let key = c .before .before .before .before .before .before .before .before .read in
@@ -106,8 +107,8 @@ same-length-3 c = search needs
 returns-3 : tie.Need-returns-3 Inv-loop μ-loop
 returns-3 c =
     let g = c .before .before .before .before .before .before .before .args in
-    let p = pdrSound (unit (g .first) (g .size) (g .v6)) (endpointIds (g .m) (g .ends .now)) in
-    let ps = pdr-places (g .first) (g .words .now) (g .pdrs .now) (g .n) in
+    let p = pdrSound (settingsOf (g .u)) (endpointIds (g .m) (g .ends .now)) in
+    let ps = pdr-places (g .u .first) (g .words .now) (g .pdrs .now) (g .n) in
     walk-room p pdrWidth 2 (g .pdrs .now) ps (c .before .before .before .loop .inv) (c .before .before .loop-test .left) (c .before .before .before .before .before .before .before .pre .0) (c .before .is-zero .result) (c .before .is-zero .ensures) (c .before .before .before .loop .words) (c .if2 .taken)
 
 same-length-4 : tie.Need-same-length-4 Inv-loop μ-loop
@@ -116,8 +117,8 @@ same-length-4 c = search needs
 returns-4 : tie.Need-returns-4 Inv-loop μ-loop
 returns-4 c =
     let g = c .before .before .before .before .before .before .before .args in
-    let p = pdrSound (unit (g .first) (g .size) (g .v6)) (endpointIds (g .m) (g .ends .now)) in
-    let ps = pdr-places (g .first) (g .words .now) (g .pdrs .now) (g .n) in
+    let p = pdrSound (settingsOf (g .u)) (endpointIds (g .m) (g .ends .now)) in
+    let ps = pdr-places (g .u .first) (g .words .now) (g .pdrs .now) (g .n) in
     walk-all p pdrWidth 2 (g .pdrs .now) ps (c .before .before .before .loop .inv) (c .before .before .loop-test .left) (c .before .before .before .before .before .before .before .pre .0) (c .before .is-zero .result) (c .before .is-zero .ensures) (c .if2 .left)
 
 pub admit-pdrs-spec : {M : Type 1} → statement M

@@ -24,7 +24,7 @@ returns c = search entered-clash
 admit-requires-2 : tie.Need-admit-requires-2
 admit-requires-2 c κs =
     let start = c .before .before .before .before .before .before .before .before .before .before .before in
-    (start .pre .0, admitted-head (c .before .before .before .before .before .before .admit .ensures) (c .before .before .teids .given .0 .0) (c .before .before .teids .given .1), start .pre .3, start .pre .4)
+    (start .pre .0, admitted-head (c .before .before .before .before .before .before .admit .ensures) (c .before .before .teids .given .0 .0) (c .before .before .teids .given .1), start .pre .3)
 
 enum-known-held : tie.Need-enum-known-held
 enum-known-held c = search needs
