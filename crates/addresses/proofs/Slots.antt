@@ -1,6 +1,6 @@
 -- A session's slot: endpoints first, then PDRs; and its offsets are those that the session holds.
 -- Assumes nothing.
-use mathlib.Core.Path.{_≡_, refl, sym, ap, ap₂, subst, _∙_}
+use mathlib.Core.Path.{_≡_, refl, sym, ap, ap₂, _∙_}
 use mathlib.Core.Bool.{Bool, true, false, _||_, or-assoc}
 use mathlib.Core.Option.{Option, none, some}
 use mathlib.Core.List.{List, [], _∷_, _++_, map}
@@ -13,18 +13,18 @@ use Rattle.octets.specs.Choice.{pick, consOption}
 use Rattle.octets.specs.Octets.{octetAt, slices}
 use Rattle.octets.specs.Lists.{any, keep, collect}
 use Rattle.octets.proofs.ListLaws.{collect-append, collect-same, collect-map}
-use Rattle.rules.specs.Model.{Settings, Pdr, Endpoint, Session, pdrAddress, endpointAddress, inAddressPool, sessionAddresses}
-use Rattle.rules.specs.Layout.{viewPdr, viewEndpoint, viewSession, pdrWidth, endpointWidth, pdrCountAt, endpointCountAt}
+use Rattle.rules.specs.Model.{Settings, Pdr, Endpoint, pdrAddress, endpointAddress, inAddressPool, sessionAddresses}
+use Rattle.rules.specs.Layout.{viewPdr, viewEndpoint, pdrWidth, endpointWidth, pdrCountAt, endpointCountAt}
 use Rattle.laws.proofs.LayoutLaws.{pdr-view, endpoint-view}
 use Rattle.pool.specs.Map.{marked, marks, newMarks, offsets}
-use Rattle.pool.proofs.Marks.{marks-append, new-append, length-marks}
+use Rattle.pool.proofs.Marks.{marks-append, new-append}
 use Rattle.holdings.specs.Walk.{addressOffsets}
-use Rattle.slots.proofs.Lookup.{length-slices}
 use Rattle.sessions.specs.Slot.{headSound, pdrArea, endpointArea}
-use Rattle.sessions.proofs.SlotLaws.{Counts, counts-headed, slotOf, view-slot}
+use Rattle.sessions.proofs.SlotLaws.{counts-headed, slotOf, view-slot}
 use Rattle.addresses.specs.declared.Met.{Met}
 use Rattle.addresses.specs.declared.Met.the-variants.{Clash, New}
 use Rattle.addresses.specs.Offsets.{addressAt, offsetOf, offsetsIn, slotOffsets, meets, heldOffsets, Marked, Admitted}
+use Rattle.octets.proofs.Numbers.{length-slices}
 
 -- ---- one list of offsets and then another
 

@@ -12,10 +12,10 @@ use lib.ListN.{length, take, drop}
 use Rattle.octets.specs.Choice.{pick}
 use Rattle.octets.specs.Octets.{be, number, part, put, zeros, slices}
 use Rattle.octets.proofs.Put.{put-lent, length-part}
+use Rattle.octets.proofs.Numbers.{length-slices}
 use Rattle.slots.specs.Records.{keyOf, lookup, inserted, removed, replaced}
 use Rattle.slots.specs.declared.Place.{Place}
 use Rattle.slots.specs.declared.Place.the-variants.{Found, Absent}
-use Rattle.slots.proofs.Lookup.{length-slices}
 use Rattle.slots.proofs.Places.{found-within, absent-within}
 use Rattle.areas.specs.declared.Area.{Area}
 use Rattle.areas.specs.Counted.{Fits, countIn, areaIn, placeIn, insertedIn, removedIn, replacedIn, clearedIn, withRecord, withoutRecord}

@@ -14,8 +14,9 @@ use Rattle.octets.specs.Choice.{pick, isSome, mapOption, bindOption, headOr}
 use Rattle.octets.specs.Lists.{member, all, allPairs, findBy, collect}
 use Rattle.octets.proofs.Tests.{both, all-head, all-tail, all-cons, is-true, is-false, no-eqb, neither-one}
 use Rattle.octets.proofs.Ordered.{pairs-head, pairs-tail}
-use Rattle.octets.proofs.ListLaws.{by-test, or-fails, or-right, or-by-left, or-by-right, Every, onBoth, all-every, all-imply, all-join, all-always, pairs-know, pairs-imply, pairs-behind, pairs-map, pairs-collect, found-knows}
+use Rattle.octets.proofs.ListLaws.{by-test, or-right, or-by-left, or-by-right, Every, onBoth, all-every, all-imply, all-join, all-always, pairs-know, pairs-imply, pairs-behind, pairs-map, pairs-collect, found-knows}
 use Rattle.octets.proofs.MemberLaws.{member-passes, member-first, member-behind}
+use Rattle.octets.proofs.Bools.{not-or}
 use Rattle.rules.specs.Model.{Settings, Sessions, heldTeids, freeTeids}
 use Rattle.rules.specs.Elements.{Fteid, given, choose, chooseId}
 use Rattle.rules.specs.Sound.{inPool}
@@ -153,7 +154,7 @@ module _ (s : Settings) (m : Sessions) where
         new =
             all-join (λ u. not (member u before)) (λ u. ltb t u) (λ u. not (member u (t ∷ before)))
             (λ u n l. unfold member in (neither-one (eqb u t) (member u before) (above u (ltb→lt t u l)) n)) ts (all-tail (λ u. not (member u before)) t ts (b .new)) (pairs-head (λ a c. ltb a c) t ts (b .ascends));
-        whole = λ u p h n. left u p h (or-fails (eqb u t) (member u before) (unfold member in n));
+        whole = λ u p h n. left u p h (not-or (eqb u t) (member u before) (unfold member in n));
         known = known;
       }
     where
@@ -171,7 +172,7 @@ module _ (s : Settings) (m : Sessions) where
         pool = b .pool;
         unheld = b .unheld;
         new = all-imply (λ u. not (member u before)) (λ u. not (member u (t ∷ before))) (λ u n. unfold member in (neither-one (eqb u t) (member u before) (other u n) n)) free (b .new);
-        whole = λ u p h n. b .whole u p h (or-fails (eqb u t) (member u before) (unfold member in n) .1);
+        whole = λ u p h n. b .whole u p h (not-or (eqb u t) (member u before) (unfold member in n) .1);
         known = all-imply (λ c. member (c .teid) before) (λ c. member (c .teid) (t ∷ before)) (λ c k. member-behind (c .teid) (t ∷ []) before k) cs (b .known);
       }
     where

@@ -4,29 +4,21 @@ use mathlib.Core.Path.{_≡_, refl, sym, ap, ap₂, _∙_, subst}
 use Prim.Native.Nat.{ℕ, _+_, _≤_}
 use native.Mathlib.Nat.{le-trans}
 use native.Mathlib.Omega.{arith}
-use mathlib.Core.Bool.{Bool, true, false, not, _||_}
+use mathlib.Core.Bool.{Bool, true, false, _||_}
 use mathlib.Core.Option.{some}
 use mathlib.Core.List.{List, [], _∷_}
 use lib.ListN.{length}
 use lib.Dec.{T, eqb, eqb→eq, nltb→le}
-use mir.Facts.{yes-eqb}
 use Rattle.octets.specs.Choice.{pick, isSome, headOr, rest}
 use Rattle.octets.specs.Lists.{member, all, findBy}
-use Rattle.octets.proofs.Tests.{all-head, all-tail, is-true, is-false, no-eqb}
-use Rattle.octets.proofs.Ordered.{ne-of}
+use Rattle.octets.proofs.Tests.{all-head, all-tail}
+use Rattle.octets.proofs.Bools.{eqb-turn}
 use Rattle.rules.specs.Model.{Settings, Sessions, freeCount, freeTeids}
 use Rattle.rules.specs.Reading.{readRequest}
 use Rattle.rules.specs.Grants.{Chosen, isChoice, need}
 use Rattle.rules.specs.Stages.{tooFewTeids}
 use Rattle.claim.proofs.VerdictLaws.{Passed}
 use Rattle.claim.proofs.PoolLaws.{free-enough}
-
-eqb-turn : (a b : ℕ) → eqb a b ≡ eqb b a
-eqb-turn a b = one (eqb a b) refl
-  where
-    one : (c : Bool) → eqb a b ≡ c → c ≡ eqb b a
-    one true e = sym (is-true (eqb b a) (yes-eqb (sym (eqb→eq a b (subst T (sym e) tt)))))
-    one false e = sym (is-false (eqb b a) (no-eqb b a (λ g. ne-of a b (subst (λ (c : Bool). T (not c)) (sym e) tt) (sym g))))
 
 -- the CHOOSE IDs seen are those that have a TEID
 abbrev pub Matches : List ℕ → List Chosen → Type 0

@@ -14,8 +14,9 @@ use Rattle.octets.specs.Lists.{member, hasRepeat, ascending, all, any, allPairs
 use Rattle.octets.proofs.Tests.{pick-yes, pick-either, all-head, all-tail, ascending-tail}
 use Rattle.octets.proofs.Ordered.{otherKey, pairs-head, pairs-tail, insert-ascending, insert-all, keep-length, keep-less, keep-pairs, perm-length}
 use Rattle.claim.proofs.RestorationJudge.{ascending-above}
-use Rattle.octets.proofs.ListLaws.{by-test, or-fails, or-right, or-by-left, or-by-right, all-imply, all-join, all-always}
+use Rattle.octets.proofs.ListLaws.{by-test, or-right, or-by-left, or-by-right, all-imply, all-join, all-always}
 use Rattle.octets.proofs.MemberLaws.{differ-turn, keptKey, without-keys, member-without}
+use Rattle.octets.proofs.Bools.{not-or}
 
 -- ---- orders
 
@@ -125,7 +126,7 @@ module _ {A : Type 0} (key : A → ℕ) where
   unfolding hasRepeat
   removed-length [] xs h g = let k = keep-length (keptKey key []) xs in omega arith
   removed-length (n ∷ gone) xs h g =
-      let once = or-fails (member n gone) (hasRepeat gone) h in
+      let once = not-or (member n gone) (hasRepeat gone) h in
       let ih = removed-length gone xs (once .1) (all-tail (λ k. member k (map key xs)) n gone g) in
       let kept = keep (keptKey key gone) xs in
       let there : T (member n (map key kept)) = subst (λ (l : List ℕ). T (member n l)) (without-keys key gone xs) (member-without n (map key xs) gone (all-head (λ k. member k (map key xs)) n gone g) (once .0)) in

@@ -8,7 +8,8 @@ use lib.Dec.{T, leb, ltb, eqb, nltb→le}
 use Rattle.octets.specs.Choice.{allOf, sameBool}
 use Rattle.octets.specs.Lists.{anyIn, allIn, hasRepeat, ascending, all, any, allPairs, collect}
 use Rattle.octets.proofs.Tests.{each, all-of-each}
-use Rattle.octets.proofs.ListLaws.{not-not, or-fails}
+use Rattle.octets.proofs.ListLaws.{not-not}
+use Rattle.octets.proofs.Bools.{not-or}
 use Rattle.rules.specs.Model.{Settings, Tunnel, Pdr, Endpoint, Csid, Session, Sessions, Holding, teidOf, heldTeids, freeCount, heldAddresses, sessionHoldings, pdrId, endpointId, nodeTypeOf, seidOf}
 use Rattle.rules.specs.Limits.{maxPdrs, maxEndpoints, nodeTypes}
 use Rattle.rules.specs.Elements.{nodeAddressAllowed, nodeTypeKept, below16}
@@ -192,11 +193,11 @@ pub rules-kept : (s : Settings) (m : Sessions) (x : Session) (r : Request) → N
 unfolding requestRules brokenRules idTwice createdLive absentId namesAbsent clash addressClash
 rules-kept s m x r n =
     let once = none-hold (hasRepeat (r .gonePdrs) ∷ hasRepeat (r .goneEndpoints) ∷ hasRepeat (createdPdrs r) ∷ hasRepeat (createdEndpoints r) ∷ hasRepeat (updatedPdrs r) ∷ []) (n .0) in
-    let new = or-fails (anyIn (createdPdrs r) (livePdrs x)) (anyIn (createdEndpoints r) (liveEndpoints x)) (n .1 .0) in
+    let new = not-or (anyIn (createdPdrs r) (livePdrs x)) (anyIn (createdEndpoints r) (liveEndpoints x)) (n .1 .0) in
     let live = none-hold (not (allIn (r .gonePdrs) (livePdrs x)) ∷ not (allIn (r .goneEndpoints) (liveEndpoints x)) ∷ not (allIn (updatedPdrs r) (livePdrs x)) ∷ []) (n .1 .1 .0) in
     let later = n .1 .1 .1 in
     let last = later .1 .1 .1 in
-    let held = or-fails (anyIn (map teidOf (restoredHoldings r)) (heldTeids m)) (not (allPairs agree (restoredHoldings r))) (last .1 .1 .1 .1 .0) in
+    let held = not-or (anyIn (map teidOf (restoredHoldings r)) (heldTeids m)) (not (allPairs agree (restoredHoldings r))) (last .1 .1 .1 .1 .0) in
     record {
       gonePdrsOnce = once .0;
       goneEndpointsOnce = once .1 .0;

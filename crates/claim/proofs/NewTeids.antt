@@ -10,8 +10,9 @@ use lib.Dec.{T, T-not, not-T, eqb}
 use Rattle.octets.specs.Choice.{allOf, isNil, sameBool}
 use Rattle.octets.specs.Lists.{member, all, any, allPairs, findBy}
 use Rattle.octets.proofs.Tests.{both, and-left, and-right}
-use Rattle.octets.proofs.ListLaws.{not-not, or-fails, or-right, or-by-left, or-by-right, by-test, Every, every-both, all-every, onSome, onBoth, all-imply, all-join, all-know, pairs-know, pairs-join, none-any, all-map, pairs-map, all-collect, pairs-collect}
+use Rattle.octets.proofs.ListLaws.{not-not, or-right, or-by-left, or-by-right, by-test, Every, every-both, all-every, onSome, onBoth, all-imply, all-join, all-know, pairs-know, pairs-join, none-any, all-map, pairs-map, all-collect, pairs-collect}
 use Rattle.octets.proofs.MemberLaws.{none-in}
+use Rattle.octets.proofs.Bools.{not-or}
 use Rattle.rules.specs.Model.{Settings, Session, Sessions, Holding, teidOf, tunnelHolding, heldTeids, freeTeids}
 use Rattle.rules.specs.Elements.{Fteid, given, choose, hasV4, hasV6, chooses, chooseId}
 use Rattle.rules.specs.Sound.{inPool, unitFamilies, tunnelAllowed, shareTests, agree}
@@ -148,7 +149,7 @@ module _ (s : Settings) (m : Sessions) (x : Session) (r : Request) (rules : Rule
       one : (k : Kind) (i : ℕ) (v : Fteid) → T (onSome (λ c. inPool s (teids′ (c .kind) (c .id))) (choiceOf k i v)) → T (not (strange s v)) → T (inPool s (tunnelFrom (teids′ k i) v .teid))
       one k i (given t a b) h g =
           unfold strange tunnelFrom in (
-          not-not (inPool s t) (or-fails (not (inPool s t)) (otherAddress (s .ipv4) a) (or-fails (not (inPool s t) || otherAddress (s .ipv4) a) (otherAddress (s .ipv6) b) g .0) .0))
+          not-not (inPool s t) (not-or (not (inPool s t)) (otherAddress (s .ipv4) a) (not-or (not (inPool s t) || otherAddress (s .ipv4) a) (otherAddress (s .ipv6) b) g .0) .0))
       one k i (choose a b c) h g = unfold choiceOf tunnelFrom in h
 
   -- what is read of every F-TEID

@@ -9,8 +9,9 @@ use lib.ListN.{length}
 use lib.Dec.{T, eqb}
 use Rattle.octets.specs.Lists.{member, anyIn, allIn, hasRepeat, without, ascending, all, keep, insertAll}
 use Rattle.octets.proofs.Ordered.{otherKey, keep-all, keep-ascending, ascending-other, all-perm}
-use Rattle.octets.proofs.ListLaws.{by-test, or-fails, or-right, all-imply, all-append, all-map, pairs-map, map-append}
+use Rattle.octets.proofs.ListLaws.{by-test, or-right, all-imply, all-append, all-map, pairs-map, map-append}
 use Rattle.octets.proofs.MemberLaws.{absent-each, none-in, all-in, once-differ, keptKey, without-keys, member-front, member-behind, member-perm}
+use Rattle.octets.proofs.Bools.{not-or}
 use Rattle.claim.proofs.InsertLaws.{map-perm, insertAll-append, insertAll-length, insertAll-ascending, removed-length, removed-exact}
 
 -- ---- orders of lists one after the other
@@ -36,7 +37,7 @@ member-either : (k : ℕ) (xs ys : List ℕ) → T (member k (xs ++ ys)) → T (
 unfolding member
 member-either k [] ys h g = h
 member-either k (x ∷ xs) ys h g =
-    let n = or-fails (eqb k x) (member k xs) g in
+    let n = not-or (eqb k x) (member k xs) g in
     member-either k xs ys (or-right (eqb k x) (member k (xs ++ ys)) h (n .0)) (n .1)
 
 -- ---- records taken out and put in

@@ -12,9 +12,10 @@ use lib.Dec.{T}
 use Rattle.octets.specs.Choice.{pick}
 use Rattle.octets.specs.Lists.{member, allIn, hasRepeat, ascending, all, keep}
 use Rattle.octets.proofs.Tests.{both, all-head, all-tail, all-cons}
-use Rattle.octets.proofs.ListLaws.{or-right, or-fails, onSome, all-imply, all-join, all-map}
+use Rattle.octets.proofs.ListLaws.{or-right, onSome, all-imply, all-join, all-map}
 use Rattle.octets.proofs.Ordered.{keep-all, keep-passes, keep-ascending}
 use Rattle.octets.proofs.MemberLaws.{all-members, keptKey}
+use Rattle.octets.proofs.Bools.{not-or}
 use Rattle.claim.proofs.RestorationJudge.{ascending-once}
 use Rattle.rules.specs.Model.{Pdr, pdrId, pdrEndpoint}
 use Rattle.rules.specs.Reading.{Request}
@@ -108,7 +109,7 @@ module _ (r : Request) (ps : List Pdr) where
   unfolding removedPdrs goesPdr
   stays-named =
       all-imply (λ p. not (goesPdr r p)) (λ p. onSome (λ n. not (member n (r .goneEndpoints))) (pdrEndpoint p))
-      (λ p h. one (pdrEndpoint p) (or-fails (member (p .id) (r .gonePdrs)) (namesOneOf (r .goneEndpoints) (pdrEndpoint p)) h .1))
+      (λ p h. one (pdrEndpoint p) (not-or (member (p .id) (r .gonePdrs)) (namesOneOf (r .goneEndpoints) (pdrEndpoint p)) h .1))
       (keep (keptKey pdrId (removedPdrs r ps)) ps) (stay-not pdrId (goesPdr r) ps)
     where
       one : (o : Option ℕ) → T (not (namesOneOf (r .goneEndpoints) o)) → T (onSome (λ n. not (member n (r .goneEndpoints))) o)

@@ -5,7 +5,6 @@ use mathlib.Core.Bool.{Bool, true, false}
 use mathlib.Core.Option.{some}
 use mathlib.Core.List.{List, [], _∷_, _++_, map, append-nil, append-assoc}
 use Prim.Native.Nat.{ℕ, _+_, _-_, _/_, _%_, _≤_, _<_}
-use native.Mathlib.Nat.{div-one, mod-eq-of-lt}
 use native.Mathlib.Omega.{arith}
 use borrow.Author.Tests.{eq-eqb, ne-eqb, ltb-true}
 use lib.ListN.{length, length-append}
@@ -13,6 +12,7 @@ use Rattle.octets.specs.Choice.{pick}
 use Rattle.octets.specs.Octets.{put, be, bit, concatMap}
 use Rattle.octets.specs.Lists.{keep}
 use Rattle.octets.proofs.Numbers.{length-be}
+use Rattle.octets.proofs.Digits.{be-one}
 use Rattle.rules.specs.Model.{Settings}
 use Rattle.rules.specs.Grants.{Kind, sameKind}
 use Rattle.rules.specs.Reply.{Report, element, unitElement, tunnelPart, addressPart, chosenElements, createdPdr, createdPdrContent, createdEndpoint, createdEndpointContent, created}
@@ -23,7 +23,7 @@ use Rattle.writing.specs.Placed.{Placed}
 use Rattle.writing.specs.Families.{tunnelIn, unitAddresses}
 use Rattle.created.specs.Groups.{Told, reportIn, kindIn, isTold, reportsOf, allReports, group, groups, idFits}
 use Rattle.created.specs.Entries.{grantedTunnel, grantedAddress, toldOf}
-use Rattle.writing.proofs.PlacedLaws.{length-element, placed-none, placed-then, placed-element, placed-group}
+use Rattle.writing.proofs.PlacedLaws.{length-element, placed-none, placed-then, placed-group}
 use Rattle.writing.proofs.ElementSteps.{length-unit, length-ue}
 
 -- ---- what was granted
@@ -62,6 +62,9 @@ module _ (g : Entry) (out : List ℕ) (at : ℕ) where
 
 -- ---- one group
 
+pub length-number : (member width id : ℕ) → length (element member (be width id)) ≡ 4 + width
+length-number member width id = length-element member (be width id) ∙ ap (λ (k : ℕ). 4 + k) (length-be width id)
+
 module _ (v : Unit) (g : Entry) where
   abbrev tunnel : List ℕ
   tunnel = tunnelPart (settingsOf v) (grantedTunnel g)
@@ -79,31 +82,24 @@ module _ (v : Unit) (g : Entry) where
   pub length-group : (kind member width id : ℕ) → length (element kind (element member (be width id) ++ chosen)) ≡ 8 + width + length tunnel + length address
   length-group kind member width id =
       let a : List ℕ = element member (be width id) in
-      rw (length-element, chosen-is) (omega (arith, length-append a (tunnel ++ address), length-append tunnel address, length-element member (be width id), length-be width id))
+      rw (length-element, chosen-is) (omega (arith, length-append a (tunnel ++ address), length-append tunnel address, length-number member width id))
 
-  pub group-steps : (kind member width id at : ℕ) (s : List ℕ) {s₁ s₂ s₃ s₄ s₅ : List ℕ} {m e : ℕ}
+  pub group-steps : (kind member width id at : ℕ) (s : List ℕ) {s₁ s₂ s₃ s₄ : List ℕ} {k m e : ℕ}
       → at + 8 + width + length tunnel + length address ≤ length s
-      → s₁ ≡ put (at + 4) (be 2 member ++ be 2 width) s
-      → s₂ ≡ put (at + 8) (be width id) s₁
-      → Placed s₂ (at + 8 + width) tunnel m s₃
-      → Placed s₃ m address e s₄
-      → s₅ ≡ put at (be 2 kind ++ be 2 (e - (at + 4))) s₄
-      → Placed s at (element kind (element member (be width id) ++ chosen)) e s₅
-  group-steps kind member width id at s {s₁} {s₂} {s₃} {s₄} {s₅} {m} {e} h p q t u w =
+      → Placed s (at + 4) (element member (be width id)) k s₁
+      → Placed s₁ k tunnel m s₂
+      → Placed s₂ m address e s₃
+      → s₄ ≡ put at (be 2 kind ++ be 2 (e - (at + 4))) s₃
+      → Placed s at (element kind (element member (be width id) ++ chosen)) e s₄
+  group-steps kind member width id at s {s₁} {s₂} {s₃} {s₄} {k} {m} {e} h p t u w =
       let a : List ℕ = element member (be width id) in
-      let la : length a ≡ 4 + width = length-element member (be width id) ∙ ap (λ (k : ℕ). 4 + k) (length-be width id) in
-      let first : Placed s (at + 4) a (at + 8 + width) s₂ =
-      placed-element (at + 4) member width s p (omega arith) (at + 8) (at + 8 + width) (be width id) q (omega arith) (length-be width id) refl in
-      let front : Placed s (at + 4) (a ++ tunnel) m s₃ = placed-then first t (omega arith) in
-      let whole : Placed s (at + 4) ((a ++ tunnel) ++ address) e s₄ = placed-then front u (omega (arith, length-append a tunnel)) in
+      let la : length a ≡ 4 + width = length-number member width id in
+      let front : Placed s (at + 4) (a ++ tunnel) m s₂ = placed-then p t (omega arith) in
+      let whole : Placed s (at + 4) ((a ++ tunnel) ++ address) e s₃ = placed-then front u (omega (arith, length-append a tunnel)) in
       rw (chosen-is, ← append-assoc a tunnel address)
       (placed-group kind at (at + 4) ((a ++ tunnel) ++ address) s refl (omega arith) whole w)
 
 -- ---- the group of one grant, in the pass for records of a kind
-
-one-octet : (i : ℕ) → i < 256 → be 1 i ≡ i ∷ []
-unfolding be
-one-octet i h = rw (div-one, mod-eq-of-lt h)
 
 module _ (v : Unit) (kind : ℕ) (g : Entry) where
   abbrev st : Settings
@@ -132,7 +128,7 @@ module _ (v : Unit) (kind : ℕ) (g : Entry) where
   unfolding groups group reportsOf keep isTold sameKind kindIn toldOf concatMap createdEndpoint createdEndpointContent idFits
   endpoint-group e n f =
       let h : g .id < 256 = ltb-true (g .id) 256 (rw (ne-eqb (g .kind) 1 n) at f) in
-      rw (ne-eqb kind 1 e, ne-eqb (g .kind) 1 n, one-octet (g .id) h) (append-nil _)
+      rw (ne-eqb kind 1 e, ne-eqb (g .kind) 1 n, be-one (g .id) h) (append-nil _)
 
   pub pdr-steps : {out out₁ : List ℕ} {at e : ℕ} → kind ≡ 1 → g .kind ≡ 1
       → Placed out at (element 8 (element 56 (be 2 (g .id)) ++ chosenElements st (toldOf g .report))) e out₁ → Placed out at of-kind e out₁

@@ -2,6 +2,7 @@
 // grants.
 // The list is made for each request: an array of 24 entries, lent as a slice to be filled and then lent to the writer of the groups.
 // `fill`, `write_groups` and `write_created` are proved by a walk of their steps, by hand; whoever calls `write_created` names no list.
+use format::types;
 use format::words;
 use unit::Settings;
 ghost use mathlib.Core.Path.{_≡_};
@@ -30,14 +31,6 @@ pub struct Grant {
     pub address: u64,
 }
 
-// The kinds, by the type of the group that creates the record.
-const PDR: u64 = 1;
-
-const ENDPOINT: u64 = 127;
-
-// The kind of a UE IP Address that is a CHOOSE.
-const CHOOSE: u64 = 2;
-
 // The F-TEID that was granted, with the unit's addresses; nothing where none was.
 fn write_tunnel(u: Settings, g: Grant, out: &mut [u8], at: usize) -> usize
     requires { ⌜ at + length (tunnelPart (settingsOf u) (grantedTunnel g)) ≤ length (now out) ⌝ }
@@ -54,7 +47,7 @@ fn write_address(g: Grant, out: &mut [u8], at: usize) -> usize
     requires { ⌜ at + length (addressPart (grantedAddress g)) ≤ length (now out) ⌝ }
     ensures { λ r. ⌜ Placed (now (out .entry)) at (addressPart (grantedAddress g)) r (now (out .exit)) ⌝ }
 {
-    if g.ue != CHOOSE {
+    if g.ue != words::UE_CHOOSE {
         return at;
     }
     writing::write_ue_address(g.address, out, at)
@@ -63,8 +56,8 @@ fn write_address(g: Grant, out: &mut [u8], at: usize) -> usize
 // A group: the ID in an element of its own, then what was granted, and the group's head in front of them.
 fn write_group(
     u: Settings,
-    group: usize,
-    member: usize,
+    group: u64,
+    member: u64,
     width: usize,
     g: Grant,
     out: &mut [u8],
@@ -73,9 +66,8 @@ fn write_group(
     requires { ⌜ (width ≤ 8) × (at + 8 + width + length (tunnelPart (settingsOf u) (grantedTunnel g)) + length (addressPart (grantedAddress g)) ≤ length (now out)) ⌝ }
     ensures { λ r. ⌜ Placed (now (out .entry)) at (element group (element member (be width (g .id)) ++ chosenElements (settingsOf u) (toldOf g .report))) r (now (out .exit)) ⌝ }
 {
-    writing::write_head(member, width, out, at + 4);
-    octets::write(out, at + 8, width, g.id);
-    let next = write_tunnel(u, g, out, at + 8 + width);
+    let id = writing::write_number(member, width, g.id, out, at + 4);
+    let next = write_tunnel(u, g, out, id);
     let end = write_address(g, out, next);
     writing::write_head(group, end - (at + 4), out, at);
     end
@@ -86,16 +78,24 @@ fn write_grant(u: Settings, kind: u64, g: Grant, out: &mut [u8], at: usize) -> u
     requires { ⌜ (idFits (toldOf g) ≡ true) × (at + length (groups (kindIn kind) (settingsOf u) (toldOf g ∷ [])) ≤ length (now out)) ⌝ }
     ensures { λ r. ⌜ Placed (now (out .entry)) at (groups (kindIn kind) (settingsOf u) (toldOf g ∷ [])) r (now (out .exit)) ⌝ }
 {
-    if kind == PDR {
-        if g.kind != PDR {
+    if kind == types::CREATE_PDR {
+        if g.kind != types::CREATE_PDR {
             return at;
         }
-        return write_group(u, 8, 56, 2, g, out, at);
+        return write_group(u, types::CREATED_PDR, types::PDR_ID, 2, g, out, at);
     }
-    if g.kind == PDR {
+    if g.kind == types::CREATE_PDR {
         return at;
     }
-    write_group(u, 128, 131, 1, g, out, at)
+    write_group(
+        u,
+        types::CREATED_ENDPOINT,
+        types::ENDPOINT_ID,
+        1,
+        g,
+        out,
+        at,
+    )
 }
 
 // The ID of the row's record.
@@ -103,7 +103,7 @@ fn row_id(row: &[u64]) -> u64
     requires { ⌜ length (now row) ≡ rowWidth ⌝ }
     ensures { λ r. ⌜ r ≡ rowId (now (row .entry)) ⌝ }
 {
-    if row[words::TAG] == PDR {
+    if row[words::TAG] == types::CREATE_PDR {
         return row[words::PDR_ID];
     }
     row[words::ENDPOINT_ID]
@@ -180,6 +180,6 @@ pub fn write_created(
         address: 0,
     }; format::GRANTS];
     fill(&mut grants, plan, places, n);
-    let next = write_groups(u, &grants, n, PDR, out, at);
-    write_groups(u, &grants, n, ENDPOINT, out, next)
+    let next = write_groups(u, &grants, n, types::CREATE_PDR, out, at);
+    write_groups(u, &grants, n, types::CREATE_ENDPOINT, out, next)
 }

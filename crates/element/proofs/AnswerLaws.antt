@@ -10,13 +10,10 @@ use lib.Dec.{T}
 use lib.ListN.{length}
 use Rattle.octets.specs.Choice.{pick, isSome, mapOption}
 use Rattle.octets.specs.Octets.{put}
+use Rattle.octets.proofs.Bools.{and-false}
 use Rattle.rules.specs.Elements as rules
 use Rattle.rules.specs.Elements.{value, writeIf}
 use Rattle.element.specs.Answers.{writeMeant, allowedIn}
-
-and-false : (b : Bool) → (b && false) ≡ false
-and-false true = refl
-and-false false = refl
 
 module _ {A : Type 0} where
   pub none-is-not-some : {B : Type 0} {x : A} → _≡_ {A = Option A} none (some x) → B
@@ -44,13 +41,6 @@ pub record ReadAs {A : Type 0} (o : Option A) (answer : rules.Answer A) : Type 0
 pub read-as : {A : Type 0} (o : Option A) (answer : rules.Answer A) → mapOption value o ≡ some answer → ReadAs o answer
 read-as none answer e = none-is-not-some e
 read-as (some x) answer e = record { meant = x; is = refl; answered = sym (some-same e) }
-
--- a test that holds just where another does
-pub just-where : (a b : Bool) → (T a → T b) → (T b → T a) → a ≡ b
-just-where true true f g = refl
-just-where true false f g = absurd (f tt)
-just-where false true f g = absurd (g tt)
-just-where false false f g = refl
 
 pub never : (b : Bool) → (T b → ⊥) → b ≡ false
 never true f = absurd (f tt)

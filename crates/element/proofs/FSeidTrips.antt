@@ -14,7 +14,8 @@ use Rattle.octets.specs.Octets.{be, bit, number, numberAt, part, octetAt, octet
 use Rattle.octets.specs.Lists.{all}
 use Rattle.octets.proofs.Parts.{part-first}
 use Rattle.octets.proofs.Numbers.{bytes-be}
-use Rattle.octets.proofs.Digits.{drop-octets}
+use Rattle.octets.proofs.Put.{part-two}
+use Rattle.octets.proofs.Digits.{be-part, drop-octets}
 use Rattle.rules.specs.Elements.{Written, writeIf, addressOf, fseidLength, seidAnswer, readFseid, fseidOctets, value, tooShort, incorrect}
 use Rattle.laws.proofs.ElementLaws.{fseid-back}
 use Rattle.element.specs.declared.Written as code
@@ -22,7 +23,7 @@ use Rattle.element.specs.declared.fseid.Answer as fseid
 use Rattle.element.specs.declared.fseid.Answer.the-variants as fseid-case
 use Rattle.element.specs.Answers.{countOf, left}
 use Rattle.element.specs.FSeid as FSeidSpec
-use Rattle.element.proofs.OctetLaws.{part-front, be-part, part-two}
+use Rattle.element.proofs.OctetLaws.{part-front}
 use Rattle.element.proofs.FlagLaws.{two-bits}
 use Rattle.element.proofs.AnswerLaws.{some-same}
 use Rattle.element.proofs.Writers.{refused-is-not, not-refused, value-same, wrote}

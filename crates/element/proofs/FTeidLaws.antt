@@ -4,7 +4,7 @@ use mathlib.Core.List.{List, [], _∷_, _++_}
 use mathlib.Core.Option.{none, some}
 use mathlib.Core.Path.{_≡_, refl, sym, ap, ap₂, _∙_}
 use Prim.Native.Nat.{ℕ, _+_, _*_, _/_, _%_, _^_, _≤_, _<_}
-use native.Mathlib.Nat.{not-suc-le-zero, le-of-suc-le-suc}
+use native.Mathlib.Nat.{not-suc-le-zero, le-of-suc-le-suc, zero-add}
 use native.Mathlib.Omega.{arith}
 use borrow.Author.Tests.{lt-ltb, le-ltb, not-true}
 use lib.Dec.{T, ltb, ltb→lt, lit<}
@@ -15,8 +15,10 @@ use Rattle.octets.specs.Octets.{be, put, number, numberAt, part, octetAt, octet
 use Rattle.octets.specs.Fields.{widthOf, narrow, fit, fieldOctets}
 use Rattle.octets.proofs.Tests.{each, is-true}
 use Rattle.octets.proofs.Numbers.{bytes-be}
-use Rattle.octets.proofs.Digits.{octets-append}
+use Rattle.octets.proofs.Put.{part-two}
+use Rattle.octets.proofs.Digits.{be-part, octets-append}
 use Rattle.octets.proofs.FieldLaws.{octet-read, length-fieldOctets}
+use Rattle.octets.proofs.Bools.{and-true, or-true, or-false}
 use Rattle.rules.specs.Elements as rules
 use Rattle.rules.specs.Elements.{Fteid, given, choose, v4Flag, v6Flag, chFlag, chidFlag, wrongFlags, fteidLength, chosenFields, givenFields, fteidFields, addressOf, givenTests, hasV4, hasV6, chooses, chooseId, fteidAllowed, fteidOctets, readFteid, writeFteid, refuse, value, tooShort, incorrect}
 use Rattle.element.specs.declared.Refusal.{Refusal}
@@ -25,8 +27,8 @@ use Rattle.element.specs.declared.fteid.Answer.{Answer}
 use Rattle.element.specs.declared.fteid.Answer.the-variants.{Value, Refused}
 use Rattle.element.specs.Answers.{refusalOf, allowedIn, writeMeant}
 use Rattle.element.specs.FTeid.{answerOf, fteidWidths, fteidNumbers, fteidTests, fteidMeant, fteidOf}
-use Rattle.element.proofs.OctetLaws.{be-part, part-two, part-after, one-octet, fit-at}
-use Rattle.element.proofs.FlagLaws.{low-bit-0, low-bit-1, low-bit-2, low-bit-3, flag-low, bit-number, bit-first, bit-set, bit-clear, four-bits, one-set, none-set, or-true, or-false, and-true}
+use Rattle.element.proofs.OctetLaws.{part-after, one-octet, fit-at}
+use Rattle.element.proofs.FlagLaws.{low-bit-0, low-bit-1, low-bit-2, low-bit-3, flag-low, bit-number, bit-first, bit-set, bit-clear, four-bits, one-set, none-set}
 use Rattle.element.proofs.AnswerLaws.{ReadAs, read-as, some-same, picked, not-allowed, no-room, done}
 
 -- ---- the tests on the flags
@@ -191,7 +193,7 @@ octets-chosen a b true f t x y z id e h =
     let n : flag a + 2 * flag b + 12 ≡ f = omega arith in
     rw (one-octet f (omega arith), one-octet id h, n)
 
-octets-given : (a b : Bool) (f t x y z id : ℕ) → f ≡ flag a + 2 * flag b
+pub octets-given : (a b : Bool) (f t x y z id : ℕ) → f ≡ flag a + 2 * flag b
     → fteidOctets (given t (be (4 * flag a) x) (be (8 * flag b) y ++ be (8 * flag b) z))
     ≡ fieldOctets (1 ∷ 4 ∷ 4 * flag a ∷ 8 * flag b ∷ 8 * flag b ∷ 0 ∷ []) (f ∷ t ∷ x ∷ y ∷ z ∷ id ∷ [])
 unfolding fteidOctets fieldOctets be
@@ -354,6 +356,10 @@ six-widths : (t : Bool) (a b d : ℕ) → length (1 ∷ pick t (0 ∷ 0 ∷ 0 �
 six-widths true a b d = refl
 six-widths false a b d = refl
 
+pub six : (f : ℕ) → length (fteidWidths f) ≡ 6
+unfolding fteidWidths
+six f = six-widths (chFlag f) (4 * flag (v4Flag f)) (8 * flag (v6Flag f)) (flag (chidFlag f))
+
 module _ (e : Bool) (v : FTeid) (s : List ℕ) where
   pub write-refused : allowedIn (fteidAllowed e) (fteidOf v) ≡ false → record { count = 0; space = s } ≡ writeMeant (writeFteid e) (fteidOf v) s
   unfolding writeFteid
@@ -361,22 +367,19 @@ module _ (e : Bool) (v : FTeid) (s : List ℕ) where
 
   module _ (ws : List ℕ) (w : ws ≡ fteidWidths (v .flags)) where
     length-octets : widthOf ws ≡ length (fieldOctets (fteidWidths (v .flags)) (fteidNumbers v))
-    unfolding fteidWidths
-    length-octets =
-        rw w
-        (sym
-        (length-fieldOctets (fteidWidths (v .flags)) (fteidNumbers v)
-        (sym (six-widths (chFlag (v .flags)) (4 * flag (v4Flag (v .flags))) (8 * flag (v6Flag (v .flags))) (flag (chidFlag (v .flags)))))))
+    length-octets = rw w (sym (length-fieldOctets (fteidWidths (v .flags)) (fteidNumbers v) (sym (six (v .flags)))))
 
     pub write-no-room : length s < widthOf ws → record { count = 0; space = s } ≡ writeMeant (writeFteid e) (fteidOf v) s
     unfolding writeFteid
     write-no-room l = no-room (fteidAllowed e) fteidOctets s (fieldOctets (fteidWidths (v .flags)) (fteidNumbers v)) (fteidOf v) (fteid-octets v) (rw length-octets at l)
 
-    pub write-done : (t : List ℕ) → allowedIn (fteidAllowed e) (fteidOf v) ≡ true → widthOf ws ≤ length s → t ≡ put 0 (fieldOctets ws (fteidNumbers v)) s
-        → record { count = widthOf ws; space = t } ≡ writeMeant (writeFteid e) (fteidOf v) s
+    pub write-done : (n : ℕ) (t : List ℕ) → allowedIn (fteidAllowed e) (fteidOf v) ≡ true → widthOf ws ≤ length s
+        → (n ≡ 0 + widthOf (fteidWidths (v .flags))) × (t ≡ put 0 (fieldOctets (fteidWidths (v .flags)) (fteidNumbers v)) s)
+        → record { count = n; space = t } ≡ writeMeant (writeFteid e) (fteidOf v) s
     unfolding writeFteid
-    write-done t ok l q =
-        done (fteidAllowed e) fteidOctets s (fieldOctets (fteidWidths (v .flags)) (fteidNumbers v)) (fteidOf v) (fteid-octets v) ok (widthOf ws) t length-octets l (rw (← w) q)
+    write-done n t ok l q =
+        let k : n ≡ widthOf ws = q .0 ∙ zero-add (widthOf (fteidWidths (v .flags))) ∙ ap widthOf (sym w) in
+        done (fteidAllowed e) fteidOctets s (fieldOctets (fteidWidths (v .flags)) (fteidNumbers v)) (fteidOf v) (fteid-octets v) ok n t (k ∙ length-octets) (rw k l) (q .1)
 
 -- ---- what callers ask of a value, by the struct that means it
 

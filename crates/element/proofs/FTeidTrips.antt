@@ -26,7 +26,7 @@ use Rattle.element.proofs.OctetLaws.{part-front, part-below}
 use Rattle.element.proofs.FlagLaws.{bit-number, bit-first}
 use Rattle.element.proofs.AnswerLaws.{picked, some-same}
 use Rattle.element.proofs.FTeidLaws as FTeidLaws
-use Rattle.element.proofs.FTeidLaws.{fteid-octets, fteid-allowed, means}
+use Rattle.element.proofs.FTeidLaws.{fteid-octets, fteid-allowed, means, six}
 use Rattle.element.proofs.Writers.{refused-is-not, not-refused, value-same, map-value, wrote, again}
 
 -- octets after the value are ignored
@@ -97,14 +97,6 @@ module _ (s : List ℕ) (o : T (octets s)) (f : ℕ) (small : f < 16) (right : w
 pub record WholeFteid (s : List ℕ) : Type 0 where
   pub low : octetAt s 0 < 16
   pub whole : length s ≡ 1 + fteidLength (octetAt s 0)
-
-six : (f : ℕ) → length (fteidWidths f) ≡ 6
-unfolding fteidWidths
-six f = by (chFlag f)
-  where
-    by : (c : Bool) → length {A = ℕ} (1 ∷ pick c (0 ∷ 0 ∷ 0 ∷ 0 ∷ flag (chidFlag f) ∷ []) (4 ∷ 4 * flag (v4Flag f) ∷ 8 * flag (v6Flag f) ∷ 8 * flag (v6Flag f) ∷ 0 ∷ [])) ≡ 6
-    by true = refl
-    by false = refl
 
 width-whole : (f : ℕ) → widthOf (fteidWidths f) ≡ 1 + fteidLength f
 unfolding fteidWidths fteidLength

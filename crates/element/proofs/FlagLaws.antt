@@ -1,12 +1,13 @@
 -- The bits of an octet of flags, as code tests them by quotient and remainder. Assumes nothing.
 use mathlib.Core.Bool.{Bool, true, false, _||_, _&&_}
 use mathlib.Core.Path.{_≡_, refl, ap, _∙_}
-use Prim.Native.Nat.{ℕ, zero, suc, _+_, _*_, _/_, _%_, _^_, _<_}
+use Prim.Native.Nat.{ℕ, _+_, _*_, _/_, _%_, _^_, _<_}
 use native.Mathlib.Nat.{zero-lt-suc, mod-lt, div-one, div-div-eq-div-mul}
 use native.Mathlib.Omega.{arith}
 use lib.Dec.{eqb, lit<}
 use Rattle.octets.specs.Choice.{flag}
 use Rattle.octets.specs.Octets.{bit}
+use Rattle.octets.proofs.Bools.{flag-bit}
 
 pub flag-one : (b : Bool) → flag b ≡ 1 → b ≡ true
 flag-one true e = refl
@@ -16,15 +17,10 @@ pub flag-none : (b : Bool) → flag b ≡ 0 → b ≡ false
 flag-none true e = absurd (let z : _≡_ {A = ℕ} 1 0 = e in omega arith)
 flag-none false e = refl
 
-flag-same : (n : ℕ) → n < 2 → flag (eqb n 1) ≡ n
-flag-same zero h = refl
-flag-same (suc zero) h = refl
-flag-same (suc (suc n)) h = absurd (omega arith)
-
 -- a bit as a number
 pub bit-number : (k f : ℕ) → flag (bit k f) ≡ f / (2 ^ k) % 2
 unfolding bit
-bit-number k f = flag-same (f / (2 ^ k) % 2) (mod-lt (f / (2 ^ k)) (zero-lt-suc 1))
+bit-number k f = flag-bit (f / (2 ^ k) % 2) (mod-lt (f / (2 ^ k)) (zero-lt-suc 1))
 
 pub bit-first : (f : ℕ) → flag (bit 0 f) ≡ f % 2
 bit-first f = bit-number 0 f ∙ ap (λ (n : ℕ). n % 2) (div-one f)
@@ -74,18 +70,6 @@ pub none-set : (a b : Bool) → flag a + flag b ≡ 0 → (a || b) ≡ false
 none-set true b h = absurd (omega arith)
 none-set false true h = absurd (omega arith)
 none-set false false h = refl
-
-pub or-true : (a : Bool) → (a || true) ≡ true
-or-true true = refl
-or-true false = refl
-
-pub or-false : (a : Bool) → (a || false) ≡ a
-or-false true = refl
-or-false false = refl
-
-pub and-true : (a : Bool) → (a && true) ≡ a
-and-true true = refl
-and-true false = refl
 
 pub flag-low : (b : Bool) → flag b < 2
 flag-low true = lit< tt

@@ -31,6 +31,14 @@ use Rattle.element.proofs.AnswerLaws.{ReadAs, read-as, some-same}
 
 -- ---- the widths
 
+pub sixteen : (t : ℕ) → t ≡ 1 → (16 ≡ addressLength t) × (16 ≤ 16)
+unfolding addressLength
+sixteen t e = (rw (eq-eqb t 1 e), omega arith)
+
+pub four : (t : ℕ) → (t ≡ 1 → ⊥) → (4 ≡ addressLength t) × (4 ≤ 16)
+unfolding addressLength
+four t e = (rw (ne-eqb t 1 e), omega arith)
+
 pub widths-long : (t m : ℕ) (a b c d : ℕ) → t ≡ 1 → a ≡ wordWidth 0 m → b ≡ wordWidth 1 m → c ≡ wordWidth 2 m → d ≡ wordWidth 3 m
     → 1 ∷ 8 ∷ 8 ∷ a ∷ b ∷ c ∷ d ∷ 1 ∷ [] ≡ fqcsidWidths t m
 unfolding addressWidths csidWidths

@@ -30,7 +30,7 @@ use Rattle.element.proofs.OctetLaws.{part-front, slices-front}
 use Rattle.element.proofs.AnswerLaws.{some-same}
 use Rattle.element.proofs.FqCsidLaws as FqCsidLaws
 use Rattle.element.proofs.FqCsidLaws.{structOf, ruleTests, typeOf, countIn}
-use Rattle.element.proofs.FqCsidWriting.{fqcsid-octets, right-allowed, fits-meant}
+use Rattle.element.proofs.FqCsidWriting.{fqcsid-octets, right-allowed, fits-meant, kept-small}
 use Rattle.element.proofs.Writers.{refused-is-not, not-refused, map-value, wrote, again}
 
 -- octets after the value are ignored
@@ -107,14 +107,10 @@ module _ (t : ℕ) (a cs : List ℕ) (n : ℕ) (ha : length a ≡ addressLength 
       front : take (addressLength t) after-first ≡ a
       front = unfold after-first in (take-at a (concatMap (be 2) cs ++ n ∷ []) (addressLength t) ha)
 
-kept-below : (n : ℕ) → T (nodeTypeKept n) → n < 6
-unfolding nodeTypeKept
-kept-below n h = ltb→lt n 6 h
-
 removal-back : (n : ℕ) → T (nodeTypeKept n) → readFqcsid (fqcsidOctets (removal n)) ≡ value (removal n)
 unfolding readFqcsid fqcsidOctets zeros csidRest addressLength octetAt checkedCsid operatorAllowed countAllowed sameOctets csidFields
 removal-back n h =
-    let l = kept-below n h in
+    let l = kept-small n h in
     let e : n % 16 ≡ n = omega arith in
     rw (e, is-true (nodeTypeKept n) h)
 
@@ -128,7 +124,7 @@ fqcsid-back (sets t a (c ∷ cs) n) h =
     let q = each (nodeAddressTests t a) (s .0) in
     let few : m ≤ 15 = leb→le m 15 (s .1 .1 .0) in
     let kind : t ≤ 2 = leb→le t 2 (q .0) in
-    let small = kept-below n (s .1 .1 .1 .1 .0) in
+    let small = kept-small n (s .1 .1 .1 .1 .0) in
     let d : (t * 16 + m) / 16 ≡ t = omega arith in
     let r : (t * 16 + m) % 16 ≡ m = omega arith in
     rw (

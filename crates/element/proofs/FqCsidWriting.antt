@@ -4,6 +4,7 @@ use mathlib.Core.List.{List, [], _∷_, _++_, map, append-nil}
 use mathlib.Core.Option.{some}
 use mathlib.Core.Path.{_≡_, refl, sym, ap, _∙_}
 use Prim.Native.Nat.{ℕ, zero, suc, _+_, _-_, _*_, _≤_, _<_}
+use native.Mathlib.Nat.{zero-add}
 use native.Mathlib.Omega.{arith}
 use borrow.Author.Tests.{lt-ltb, le-leb, eq-eqb}
 use lib.Dec.{T, ltb, leb, eqb, ltb→lt, leb→le, eqb→eq}
@@ -12,15 +13,16 @@ use Rattle.octets.specs.Choice.{allOf}
 use Rattle.octets.specs.Octets.{be, put, number, octets, slices, zeros, sameOctets}
 use Rattle.octets.specs.Fields.{widthOf, fit, fieldOctets}
 use Rattle.octets.proofs.Tests.{each, all-of-each, of-true, is-true, and-left, and-right}
-use Rattle.octets.proofs.Numbers.{same-eq}
+use Rattle.octets.proofs.Numbers.{same-eq, length-slices}
 use Rattle.octets.proofs.FieldLaws.{length-fieldOctets}
+use Rattle.octets.proofs.Bools.{both-ways}
 use Rattle.rules.specs.Elements as rules
 use Rattle.rules.specs.Elements.{Fqcsid, addressLength, operatorAllowed, nodeAddressTests, nodeAddressAllowed, nodeTypeKept, csidsAt, csidFields, countAllowed, below16, setsTests, fqcsidAllowed, fqcsidOctets, writeFqcsid}
 use Rattle.element.specs.declared.fqcsid.FqCsid.{FqCsid}
 use Rattle.element.specs.Answers.{allowedIn, writeMeant}
 use Rattle.element.specs.FqCsid.{fqcsidNumbers, addressWidths, csidWidths, fqcsidWidths, addressNumbers, csidNumbers, addressIn, csidsIn, fqcsidTests, fqcsidMeant, fqcsidOf}
-use Rattle.element.proofs.OctetLaws.{one-octet, octets-fieldOctets, fieldOctets-two, fit-two, length-slices, concat-slices, below-slices}
-use Rattle.element.proofs.AnswerLaws.{picked, allowed-picked, just-where, never, not-allowed, no-room, done}
+use Rattle.element.proofs.OctetLaws.{one-octet, octets-fieldOctets, fieldOctets-two, fit-two, concat-slices, below-slices}
+use Rattle.element.proofs.AnswerLaws.{picked, allowed-picked, never, not-allowed, no-room, done}
 use Rattle.element.proofs.FqCsidLaws.{two-widths, width-address, width-csids, eight-widths, ruleTests, rules-are, meant, small}
 
 -- ---- the values that are written: the numbers as they stand in the octets
@@ -32,7 +34,7 @@ length-words : (v : FqCsid) → v .count < 16 → length (fieldOctets (csidWidth
 unfolding csidWidths
 length-words v h = length-fieldOctets (csidWidths (v .count)) (csidNumbers v) refl ∙ width-csids (v .count) h
 
-octets-split : (v : FqCsid) → fieldOctets (fqcsidWidths (v .«id_type») (v .count)) (fqcsidNumbers v)
+pub octets-split : (v : FqCsid) → fieldOctets (fqcsidWidths (v .«id_type») (v .count)) (fqcsidNumbers v)
     ≡ be 1 (16 * v .«id_type» + v .count) ++ (addressIn v ++ (fieldOctets (csidWidths (v .count)) (csidNumbers v) ++ be 1 (v .«node_type»)))
 unfolding fieldOctets csidWidths
 octets-split v =
@@ -144,7 +146,7 @@ pub record Right (v : FqCsid) : Type 0 where
   pub rules : allOf (ruleTests v) ≡ true
   pub fits : fit (fqcsidWidths (v .«id_type») (v .count)) (fqcsidNumbers v) ≡ true
 
-kept-small : (n : ℕ) → T (nodeTypeKept n) → n < 6
+pub kept-small : (n : ℕ) → T (nodeTypeKept n) → n < 6
 unfolding nodeTypeKept
 kept-small n h = ltb→lt n 6 h
 
@@ -188,7 +190,7 @@ not-right v f = never _ (λ h. f (right v h))
 pub right-where : (v : FqCsid) → v .«id_type» ≤ 2 → v .count < 16 → allOf (ruleTests v) ≡ true
     → fit (fqcsidWidths (v .«id_type») (v .count)) (fqcsidNumbers v) ≡ allowedIn fqcsidAllowed (fqcsidOf v)
 right-where v h i j =
-    just-where _ _ (λ f. of-true (right-allowed v (record { kind = h; few = i; rules = j; fits = is-true _ f }))) (λ a. of-true (right v a .fits))
+    both-ways _ _ (λ f. of-true (right-allowed v (record { kind = h; few = i; rules = j; fits = is-true _ f }))) (λ a. of-true (right v a .fits))
 
 -- ---- what the writer leaves: ws the widths as the code has them
 
@@ -206,9 +208,10 @@ module _ (v : FqCsid) (s : List ℕ) where
     write-no-room l =
         no-room fqcsidAllowed fqcsidOctets s (fieldOctets (fqcsidWidths (v .«id_type») (v .count)) (fqcsidNumbers v)) (fqcsidOf v) (fqcsid-octets v) (rw length-octets at l)
 
-    pub write-done : (t : List ℕ) → allowedIn fqcsidAllowed (fqcsidOf v) ≡ true → widthOf ws ≤ length s → t ≡ put 0 (fieldOctets ws (fqcsidNumbers v)) s
-        → record { count = widthOf ws; space = t } ≡ writeMeant writeFqcsid (fqcsidOf v) s
+    pub write-done : (n : ℕ) (t : List ℕ) → allowedIn fqcsidAllowed (fqcsidOf v) ≡ true → widthOf ws ≤ length s
+        → (n ≡ 0 + widthOf (fqcsidWidths (v .«id_type») (v .count))) × (t ≡ put 0 (fieldOctets (fqcsidWidths (v .«id_type») (v .count)) (fqcsidNumbers v)) s)
+        → record { count = n; space = t } ≡ writeMeant writeFqcsid (fqcsidOf v) s
     unfolding writeFqcsid
-    write-done t ok l q =
-        done fqcsidAllowed fqcsidOctets s (fieldOctets (fqcsidWidths (v .«id_type») (v .count)) (fqcsidNumbers v)) (fqcsidOf v) (fqcsid-octets v) ok (widthOf ws) t length-octets l
-        (rw (← w) q)
+    write-done n t ok l q =
+        let k : n ≡ widthOf ws = q .0 ∙ zero-add (widthOf (fqcsidWidths (v .«id_type») (v .count))) ∙ ap widthOf (sym w) in
+        done fqcsidAllowed fqcsidOctets s (fieldOctets (fqcsidWidths (v .«id_type») (v .count)) (fqcsidNumbers v)) (fqcsidOf v) (fqcsid-octets v) ok n t (k ∙ length-octets) (rw k l) (q .1)

@@ -8,25 +8,15 @@ use native.Mathlib.Omega.{arith}
 use borrow.Author.Tests.{ltb-true}
 use lib.Dec.{T, ltb, lt→ltb}
 use lib.ListN.{length, getD, take, drop, length-drop, take-append-drop}
-use lib.Seq.{take-add, drop-drop, take-append-le, drop-append-le, length-take-le}
-use Rattle.octets.specs.Octets.{be, number, part, octets, slices, concatMap}
+use lib.Seq.{drop-drop, take-append-le, drop-append-le, length-take-le}
+use Rattle.octets.specs.Octets.{put, be, number, part, octets, slices, concatMap}
 use Rattle.octets.specs.Lists.{all}
 use Rattle.octets.specs.Fields.{widthOf, fit, fieldOctets}
 use Rattle.octets.proofs.Tests.{both as both-hold}
 use Rattle.octets.proofs.Put.{length-part}
 use Rattle.octets.proofs.Numbers.{bytes-be}
-use Rattle.octets.proofs.Digits.{octets-append, be-number, part-octets, take-octets, drop-octets, number-below}
+use Rattle.octets.proofs.Digits.{be-part, octets-append, part-octets, take-octets, drop-octets, number-below}
 use Rattle.octets.proofs.FieldLaws.{both}
-
--- octets are those of the number that they spell
-pub be-part : (at n : ℕ) (s : List ℕ) → T (octets s) → at + n ≤ length s → be n (number (part at n s)) ≡ part at n s
-be-part at n s o h =
-    let l : length (part at n s) ≡ n = length-part at n s h in
-    ap (λ (k : ℕ). be k (number (part at n s))) (sym l) ∙ be-number (part at n s) (part-octets at n s o)
-
--- two parts side by side
-pub part-two : (at n m : ℕ) (s : List ℕ) → part at n s ++ part (at + n) m s ≡ part at (n + m) s
-part-two at n m s = rw (take-add n m (drop at s), drop-drop n at s)
 
 -- a part of the octets after the first
 pub part-after : (at n : ℕ) (s : List ℕ) → part at n (drop 1 s) ≡ part (1 + at) n s
@@ -87,11 +77,6 @@ slices-front w (suc m) xs ys h =
     let l : w ≤ length xs = omega arith in
     rw (take-append-le w xs ys l, drop-append-le w xs ys l) (ap (λ (l : List (List ℕ)). take w xs ∷ l) (slices-front w m (drop w xs) ys (rw length-drop (omega arith))))
 
-pub length-slices : (w m : ℕ) (xs : List ℕ) → length (slices w m xs) ≡ m
-unfolding slices
-length-slices w zero xs = refl
-length-slices w (suc m) xs = ap suc (length-slices w m (drop w xs))
-
 -- the numbers of slices, their octets one after the other
 pub concat-slices : (w m : ℕ) (xs : List ℕ) → T (octets xs) → length xs ≡ m * w → concatMap (be w) (map number (slices w m xs)) ≡ xs
 unfolding slices concatMap
@@ -115,3 +100,8 @@ below-slices w (suc m) xs o h =
 -- the number of a part
 pub part-below : (at n : ℕ) (s : List ℕ) → T (octets s) → at + n ≤ length s → number (part at n s) < 256 ^ n
 part-below at n s o h = rw (length-part at n s h) at (number-below (part at n s) (part-octets at n s o))
+
+-- fields from a place on, of the widths us and the numbers xs as the code has them
+pub fields-at : (at : ℕ) (ws us vs xs s : List ℕ) {t : List ℕ} {n : ℕ} → us ≡ ws → xs ≡ vs → t ≡ put at (fieldOctets us xs) s → n ≡ widthOf us
+    → (at + n ≡ at + widthOf ws) × (t ≡ put at (fieldOctets ws vs) s)
+fields-at at ws us vs xs s e f p q = (rw (q, e), p ∙ rw (e, f))

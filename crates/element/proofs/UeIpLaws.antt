@@ -2,15 +2,15 @@
 use mathlib.Core.Bool.{Bool, true, false, _||_}
 use mathlib.Core.List.{List, [], _∷_}
 use mathlib.Core.Path.{_≡_, refl, sym, ap, _∙_}
-use Prim.Native.Nat.{ℕ, _+_, _/_, _%_, _^_, _≤_, _<_}
+use Prim.Native.Nat.{ℕ, suc, _+_, _/_, _%_, _^_, _≤_, _<_}
 use native.Mathlib.Nat.{not-suc-le-zero}
 use native.Mathlib.Omega.{arith}
 use borrow.Author.Tests.{lt-ltb, le-ltb, le-leb, lt-leb}
 use lib.ListN.{length, getD, drop, length-drop}
 use Rattle.octets.specs.Choice.{flag, sameBool}
-use Rattle.octets.specs.Octets.{be, bit, number, numberAt, part}
-use Rattle.octets.specs.Fields.{widthOf, fit, fieldOctets}
-use Rattle.octets.proofs.FieldLaws.{putEach, put-each}
+use Rattle.octets.specs.Octets.{put, be, bit, number, numberAt, part}
+use Rattle.octets.proofs.Put.{next-put}
+use Rattle.octets.proofs.Numbers.{length-be}
 use Rattle.rules.specs.Elements.{ueGiven, ueChoose, ueOther, ueUnsupported, ueFields, readUeIp, ueAllowed, ueOctets, writeUeIp, writeIf, refuse, value, tooShort, incorrect}
 use Rattle.element.proofs.OctetLaws.{part-after}
 use Rattle.element.proofs.FlagLaws.{bit-number, bit-first, bit-set, bit-clear}
@@ -99,6 +99,15 @@ module _ (s : List ℕ) (h : 0 < length s) (u : ueUnsupported (getD s 0 0) ≡ f
 
 -- ---- the writer
 
+-- the flags and the address, one after the other
+pub written-at : (a at : ℕ) (s : List ℕ) {s₁ s₂ : List ℕ} → at + 5 ≤ length s → s₁ ≡ put at (be 1 2) s → s₂ ≡ put (at + 1) (be 4 a) s₁ → s₂ ≡ put at (ueOctets (ueGiven a)) s
+unfolding ueOctets
+written-at a at s h p q = next-put at (at + 1) (be 1 2) (be 4 a) s p q (let l = length-be 1 2 in omega arith) (omega arith) ∙ unfold be in refl
+
+pub length-given : (a : ℕ) → length (ueOctets (ueGiven a)) ≡ 5
+unfolding ueOctets
+length-given a = ap suc (length-be 4 a)
+
 module _ (a : ℕ) (s : List ℕ) where
   pub write-wide : 4294967295 < a → record { count = 0; space = s } ≡ writeUeIp (ueGiven a) s
   unfolding writeUeIp writeIf ueAllowed
@@ -110,23 +119,20 @@ module _ (a : ℕ) (s : List ℕ) where
     narrow = lt-ltb a (2 ^ 32) (omega arith)
 
     pub write-no-room : length s < 5 → record { count = 0; space = s } ≡ writeUeIp (ueGiven a) s
-    unfolding writeUeIp writeIf ueOctets be
-    write-no-room l = rw (narrow, lt-leb 5 (length s) l)
+    unfolding writeUeIp writeIf
+    write-no-room l = rw (narrow, length-given a, lt-leb 5 (length s) l)
 
-    pub write-done : (t : List ℕ) → 5 ≤ length s → t ≡ putEach 0 (1 ∷ 4 ∷ []) (2 ∷ a ∷ []) s → record { count = 5; space = t } ≡ writeUeIp (ueGiven a) s
-    unfolding writeUeIp writeIf ueOctets fieldOctets be fit
-    write-done t l e =
-        let f : fit (1 ∷ 4 ∷ []) (2 ∷ a ∷ []) ≡ true = rw (lt-ltb a (256 ^ 4) (omega arith)) in
-        rw (narrow, le-leb 5 (length s) l, e, put-each 0 (1 ∷ 4 ∷ []) (2 ∷ a ∷ []) s f (room s l))
-      where
-        room : (s : List ℕ) → 5 ≤ length s → 0 + widthOf (1 ∷ 4 ∷ []) ≤ length s
-        room s h = h
+    pub write-done : (e : ℕ) (t : List ℕ) → 5 ≤ length s → (e ≡ 0 + 5) × (t ≡ put 0 (ueOctets (ueGiven a)) s) → record { count = e; space = t } ≡ writeUeIp (ueGiven a) s
+    unfolding writeUeIp writeIf
+    write-done e t l w =
+        let c : e ≡ 5 = w .0 in
+        rw (narrow, length-given a, le-leb 5 (length s) l, c, w .1)
 
 pub write-empty : (s : List ℕ) → length s < 1 → record { count = 0; space = s } ≡ writeUeIp ueChoose s
 unfolding writeUeIp writeIf ueAllowed ueOctets
 write-empty s l = rw (lt-leb 1 (length s) l)
 
-pub write-chosen : (s t : List ℕ) → 1 ≤ length s → t ≡ putEach 0 (1 ∷ []) (16 ∷ []) s → record { count = 1; space = t } ≡ writeUeIp ueChoose s
+pub write-chosen : (s t : List ℕ) → 1 ≤ length s → t ≡ put 0 (be 1 16) s → record { count = 1; space = t } ≡ writeUeIp ueChoose s
 unfolding writeUeIp writeIf ueAllowed ueOctets be
 write-chosen s t l e = rw (le-leb 1 (length s) l, e)
 

@@ -13,7 +13,7 @@ use Rattle.octets.specs.Choice.{pick, sameBool}
 use Rattle.octets.specs.Octets.{be, bit, number, numberAt, part, octets, put}
 use Rattle.octets.proofs.Tests.{is-true}
 use Rattle.octets.proofs.Numbers.{length-be, number-be}
-use Rattle.octets.proofs.Digits.{drop-octets}
+use Rattle.octets.proofs.Digits.{be-part, drop-octets}
 use Rattle.rules.specs.Elements.{UeIp, ueGiven, ueChoose, ueOther, ueV4, ueChv4, ueUnsupported, ueFields, readUeIp, ueAllowed, ueStrange, ueOctets, writeUeIp, refuse, value, tooShort, incorrect}
 use Rattle.element.specs.declared.Written as code
 use Rattle.element.specs.declared.ueip.UeIp as ue
@@ -23,7 +23,7 @@ use Rattle.element.specs.declared.ueip.Answer.the-variants as ueip-case
 use Rattle.element.specs.Answers.{countOf, left}
 use Rattle.element.specs.UeIp as UeIpSpec
 use Rattle.element.specs.UeIp.{ueOf, canonical}
-use Rattle.element.proofs.OctetLaws.{be-part, part-below}
+use Rattle.element.proofs.OctetLaws.{part-below}
 use Rattle.element.proofs.AnswerLaws.{some-same}
 use Rattle.element.proofs.Writers.{refused-is-not, value-same, wrote, again}
 

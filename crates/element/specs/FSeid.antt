@@ -1,10 +1,17 @@
 -- F-SEID: the rules' answer for each case of the reader's. Assumes nothing.
-use Prim.Native.Nat.{ℕ}
+use Prim.Native.Nat.{ℕ, _+_, _*_}
+use mathlib.Core.Bool.{not}
+use mathlib.Core.List.{List}
+use Rattle.octets.specs.Choice.{flag, isNil}
 use Rattle.rules.specs.Elements as rules
 use Rattle.rules.specs.Elements.{value, refuse, causeOf}
 use Rattle.element.specs.Answers.{refusalOf}
 use Rattle.element.specs.declared.fseid.Answer.{Answer}
 use Rattle.element.specs.declared.fseid.Answer.the-variants.{Value, Refused}
+
+-- the first octet of a value with these addresses, which are empty where they are not there
+abbrev pub fseidFlags : List ℕ → List ℕ → ℕ
+fseidFlags ipv4 ipv6 = 2 * flag (not (isNil ipv4)) + flag (not (isNil ipv6))
 
 abbrev pub answerOf : Answer → rules.Answer ℕ
 answerOf (Value seid) = value seid

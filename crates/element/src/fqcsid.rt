@@ -5,11 +5,14 @@ ghost use mathlib.Core.Path.{_≡_};
 ghost use mathlib.Core.Bool.{not, _&&_, _||_};
 ghost use mathlib.Core.List.{[], _∷_};
 ghost use mathlib.Core.Option.{some};
-ghost use Prim.Native.Nat.{_/_, _<_};
+ghost use Prim.Native.Nat.{_+_, _/_, _≤_, _<_};
 ghost use lib.Dec.{eqb, leb};
+ghost use lib.ListN.{length};
 ghost use Rattle.octets.specs.Choice.{allOf};
+ghost use Rattle.octets.specs.Octets.{put};
+ghost use Rattle.octets.specs.Fields.{widthOf, fieldOctets};
 ghost use Rattle.rules.specs.Limits.{maxOperator};
-ghost use Rattle.rules.specs.Elements.{nodeTypeKept, readFqcsid, fqcsidAllowed, writeFqcsid};
+ghost use Rattle.rules.specs.Elements.{addressLength, nodeTypeKept, readFqcsid, fqcsidAllowed, writeFqcsid};
 ghost use Rattle.element.specs.Answers.{left, writeMeant, allowedIn};
 ghost use Rattle.element.specs.FqCsid.{wordWidth, fqcsidWidths, fqcsidNumbers, fqcsidOf, answerOf, causeIn};
 
@@ -79,6 +82,16 @@ fn keeps_rules(v: FqCsid) -> bool
         return false;
     }
     is_right_count(v.id_type, v.count, v.address_low)
+}
+
+// How many octets the address of a Node-ID type has.
+pub fn address_length(id_type: u64) -> usize
+    ensures { λ r. ⌜ (r ≡ addressLength «id_type») × (r ≤ 16) ⌝ }
+{
+    if id_type == 1 {
+        return 16;
+    }
+    4
 }
 
 // How many octets of the CSIDs stand in word k, counted from 0.
@@ -187,6 +200,17 @@ fn is_allowed(v: FqCsid) -> bool
     octets::fields::fit_fields(&ws, &vs)
 }
 
+// Writes a value's octets from a place on; the answer is the place after them.
+pub fn write_at(v: FqCsid, out: &mut [u8], at: usize) -> usize
+    requires { ⌜ (v .«id_type» < 16) × (v .count < 16) × (at + widthOf (fqcsidWidths (v .«id_type») (v .count)) ≤ length (now out)) ⌝ }
+    ensures { λ r. ⌜ (r ≡ at + widthOf (fqcsidWidths (v .«id_type») (v .count))) × (now (out .exit) ≡ put at (fieldOctets (fqcsidWidths (v .«id_type») (v .count)) (fqcsidNumbers v)) (now (out .entry))) ⌝ }
+{
+    let ws = widths_of(v.id_type, v.count);
+    let vs = numbers_of(v);
+    octets::fields::write_fields(out, at, &ws, &vs);
+    at + octets::fields::width(&ws)
+}
+
 // Writes a value at the start of out, or refuses it, or too little space, and writes nothing. Octets after it stay.
 pub fn write(v: FqCsid, out: &mut [u8]) -> Written
     ensures { λ r. ⌜ left r (now (out .exit)) ≡ writeMeant writeFqcsid (fqcsidOf v) (now (out .entry)) ⌝ }
@@ -201,9 +225,7 @@ pub fn write(v: FqCsid, out: &mut [u8]) -> Written
     if out.len() < width {
         return Written::Refused;
     }
-    let vs = numbers_of(v);
-    octets::fields::write_fields(out, 0, &ws, &vs);
-    Written::Octets(width)
+    Written::Octets(write_at(v, out, 0))
 }
 
 // The cause of the reply for a refusal, and 0 for a value.

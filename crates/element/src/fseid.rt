@@ -5,11 +5,13 @@ use crate::Written;
 ghost use mathlib.Core.Path.{_≡_};
 ghost use mathlib.Core.Bool.{not};
 ghost use mathlib.Core.List.{[]};
+ghost use Prim.Native.Nat.{_+_, _≤_};
 ghost use lib.Dec.{eqb};
-ghost use Rattle.octets.specs.Octets.{be};
+ghost use lib.ListN.{length};
+ghost use Rattle.octets.specs.Octets.{put, be};
 ghost use Rattle.rules.specs.Elements.{readFseid, fseidOctets, writeIf};
 ghost use Rattle.element.specs.Answers.{left};
-ghost use Rattle.element.specs.FSeid.{answerOf, causeIn};
+ghost use Rattle.element.specs.FSeid.{fseidFlags, answerOf, causeIn};
 
 // The SEID, or why the value is refused.
 pub enum Answer {
@@ -39,6 +41,35 @@ pub fn read(s: &[u8]) -> Answer
     Answer::Value(seid)
 }
 
+// The flags octet of a value with these addresses.
+fn flags_of(ipv4: &[u8], ipv6: &[u8]) -> u8
+    ensures { λ r. ⌜ r ≡ fseidFlags (now (ipv4 .entry)) (now (ipv6 .entry)) ⌝ }
+{
+    if ipv4.len() == 0 {
+        if ipv6.len() == 0 {
+            return 0;
+        }
+        return 1;
+    }
+    if ipv6.len() == 0 {
+        return 2;
+    }
+    3
+}
+
+// Writes a value's octets from a place on; the answer is the place after them. An address of no octets is not there.
+pub fn write_at(seid: u64, ipv4: &[u8], ipv6: &[u8], out: &mut [u8], at: usize) -> usize
+    requires { ⌜ at + 9 + length (now ipv4) + length (now ipv6) ≤ length (now out) ⌝ }
+    ensures { λ r. ⌜ (r ≡ at + 9 + length (now (ipv4 .entry)) + length (now (ipv6 .entry))) × (now (out .exit) ≡ put at (fseidOctets seid (now (ipv4 .entry)) (now (ipv6 .entry))) (now (out .entry))) ⌝ }
+{
+    let next = at + 9 + ipv4.len();
+    out[at] = flags_of(ipv4, ipv6);
+    octets::write(out, at + 1, 8, seid);
+    octets::copy(out, at + 9, ipv4);
+    octets::copy(out, next, ipv6);
+    next + ipv6.len()
+}
+
 // Writes a value with an IPv4 address at the start of out, or refuses a SEID of 0, or too little space, and writes nothing.
 // Octets after it stay.
 pub fn write(seid: u64, ipv4: u32, out: &mut [u8]) -> Written
@@ -50,10 +81,10 @@ pub fn write(seid: u64, ipv4: u32, out: &mut [u8]) -> Written
     if out.len() < 13 {
         return Written::Refused;
     }
-    octets::write(out, 0, 1, 2);
-    octets::write(out, 1, 8, seid);
-    octets::write(out, 9, 4, ipv4 as u64);
-    Written::Octets(13)
+    let mut address = [0u8; 4];
+    octets::write(&mut address, 0, 4, ipv4 as u64);
+    let none = [0u8; 1];
+    Written::Octets(write_at(seid, &address, &none[0..0], out, 0))
 }
 
 // The cause of the reply for a refusal, and 0 for a value.

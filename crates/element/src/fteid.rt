@@ -4,11 +4,13 @@ use crate::Written;
 ghost use mathlib.Core.Path.{_≡_};
 ghost use mathlib.Core.Bool.{false};
 ghost use mathlib.Core.Option.{some};
-ghost use Prim.Native.Nat.{_<_};
+ghost use Prim.Native.Nat.{_+_, _≤_, _<_};
 ghost use lib.ListN.{length, drop};
+ghost use Rattle.octets.specs.Octets.{put};
+ghost use Rattle.octets.specs.Fields.{widthOf, fieldOctets};
 ghost use Rattle.rules.specs.Elements.{wrongFlags, fteidLength, fteidFields, readFteid, fteidAllowed, writeFteid};
 ghost use Rattle.element.specs.Answers.{left, writeMeant, allowedIn};
-ghost use Rattle.element.specs.FTeid.{fteidWidths, fteidOf, answerOf, causeIn};
+ghost use Rattle.element.specs.FTeid.{fteidWidths, fteidNumbers, fteidOf, answerOf, causeIn};
 
 // Flags (V4 1, V6 2, CH 4, CHID 8) and fields. A field that the flags leave out is 0. The IPv6 address is two numbers
 // of 8 octets.
@@ -132,6 +134,24 @@ fn is_allowed(v: FTeid, endpoint: bool) -> bool
     octets::fields::fit_fields(&ws, &vs)
 }
 
+// Writes a value's octets from a place on; the answer is the place after them.
+pub fn write_at(v: FTeid, out: &mut [u8], at: usize) -> usize
+    requires { ⌜ at + widthOf (fteidWidths (v .flags)) ≤ length (now out) ⌝ }
+    ensures { λ r. ⌜ (r ≡ at + widthOf (fteidWidths (v .flags))) × (now (out .exit) ≡ put at (fieldOctets (fteidWidths (v .flags)) (fteidNumbers v)) (now (out .entry))) ⌝ }
+{
+    let ws = widths_of(v.flags);
+    let vs = [
+        v.flags,
+        v.teid,
+        v.ipv4,
+        v.ipv6_high,
+        v.ipv6_low,
+        v.choose_id,
+    ];
+    octets::fields::write_fields(out, at, &ws, &vs);
+    at + octets::fields::width(&ws)
+}
+
 // Writes a value at the start of out, or refuses it, or too little space, and writes nothing. Octets after it stay.
 pub fn write(v: FTeid, endpoint: bool, out: &mut [u8]) -> Written
     ensures { λ r. ⌜ left r (now (out .exit)) ≡ writeMeant (writeFteid endpoint) (fteidOf v) (now (out .entry)) ⌝ }
@@ -145,9 +165,7 @@ pub fn write(v: FTeid, endpoint: bool, out: &mut [u8]) -> Written
     if out.len() < width {
         return Written::Refused;
     }
-    let vs = [flags, v.teid, v.ipv4, v.ipv6_high, v.ipv6_low, v.choose_id];
-    octets::fields::write_fields(out, 0, &ws, &vs);
-    Written::Octets(width)
+    Written::Octets(write_at(v, out, 0))
 }
 
 // The cause of the reply for a refusal, and 0 for a value.

@@ -2,7 +2,10 @@
 use crate::Refusal;
 use crate::Written;
 ghost use mathlib.Core.Path.{_≡_};
-ghost use Rattle.rules.specs.Elements.{ueGiven, ueChoose, ueUnsupported, readUeIp, writeUeIp};
+ghost use Prim.Native.Nat.{_+_, _≤_};
+ghost use lib.ListN.{length};
+ghost use Rattle.octets.specs.Octets.{put};
+ghost use Rattle.rules.specs.Elements.{ueOctets, ueGiven, ueChoose, ueUnsupported, readUeIp, writeUeIp};
 ghost use Rattle.element.specs.Answers.{left};
 ghost use Rattle.element.specs.UeIp.{ueOf, answerOf, causeIn};
 
@@ -54,6 +57,16 @@ pub fn read(s: &[u8]) -> Answer
     Answer::Value(UeIp::Given(octets::read(s, 1, 4)))
 }
 
+// Writes the octets of an address with V4 from a place on; the answer is the place after them.
+pub fn write_at(address: u64, out: &mut [u8], at: usize) -> usize
+    requires { ⌜ at + 5 ≤ length (now out) ⌝ }
+    ensures { λ r. ⌜ (r ≡ at + 5) × (now (out .exit) ≡ put at (ueOctets (ueGiven address)) (now (out .entry))) ⌝ }
+{
+    octets::write(out, at, 1, 2);
+    octets::write(out, at + 1, 4, address);
+    at + 5
+}
+
 // Writes an address with V4, or refuses one of more than four octets, or too little space.
 fn write_given(address: u64, out: &mut [u8]) -> Written
     ensures { λ r. ⌜ left r (now (out .exit)) ≡ writeUeIp (ueGiven address) (now (out .entry)) ⌝ }
@@ -64,9 +77,7 @@ fn write_given(address: u64, out: &mut [u8]) -> Written
     if out.len() < 5 {
         return Written::Refused;
     }
-    octets::write(out, 0, 1, 2);
-    octets::write(out, 1, 4, address);
-    Written::Octets(5)
+    Written::Octets(write_at(address, out, 0))
 }
 
 // Writes CHV4 alone, or refuses an empty space.

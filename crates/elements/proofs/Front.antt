@@ -1,20 +1,20 @@
 -- The elements of octets by the one at the front, and lists of elements by their first one. Assumes nothing.
 use mathlib.Core.Path.{_≡_, refl, sym, ap, _∙_}
-use Prim.Native.Nat.{ℕ, suc, _+_, _-_, _≤_, _<_}
+use Prim.Native.Nat.{ℕ, _+_, _-_, _≤_, _<_}
 use native.Mathlib.Nat.{le-refl}
 use native.Mathlib.Omega.{arith}
-use mathlib.Core.Bool.{Bool, true, false, not, _||_}
+use mathlib.Core.Bool.{Bool, true, false, _||_}
 use mathlib.Core.List.{List, [], _∷_}
 use lib.ListN.{length, take, drop, length-drop, drop-of-length-le}
 use lib.Seq.{take-all}
-use lib.Dec.{ltb, eqb}
+use lib.Dec.{ltb}
 use borrow.Author.Tests.{lt-ltb, le-ltb, eq-eqb, ne-eqb, ltb-true, ltb-false}
 use Rattle.octets.specs.Choice.{pick}
 use Rattle.octets.specs.Octets.{part, number, numberAt}
 use Rattle.octets.specs.Lists.{keep}
+use Rattle.octets.proofs.Put.{part-from}
 use Rattle.rules.specs.Message.{Element, elementType, elementLength, elementsUpTo, elements, hasType}
 use Rattle.laws.proofs.MessageLaws.{el, elements-nil, shorter, elements-enough, counts-alike}
-use Rattle.frame.proofs.Walk.{part-from}
 use Rattle.elements.specs.FirstOf.{firstOf}
 use Rattle.elements.specs.declared.First.the-variants as first
 

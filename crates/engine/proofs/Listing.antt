@@ -1,23 +1,21 @@
 -- A set deletion (02 (vii)): its verdict, and what an accepted one leaves.
 -- Assumes nothing.
-use mathlib.Core.Path.{_≡_, refl, sym, ap, ap₂, _∙_, subst}
-use mathlib.Core.Bool.{Bool, true, false}
+use mathlib.Core.Path.{_≡_, refl, sym, ap, _∙_}
 use mathlib.Core.Option.{none}
 use mathlib.Core.List.{List, []}
 use Prim.Native.Nat.{ℕ, _-_}
 use native.Mathlib.Omega.{arith}
-use borrow.Author.Tests.{eq-eqb, ne-eqb}
 use lib.Dec.{eqb}
 use lib.ListN.{length, take, drop}
-use Rattle.octets.specs.Choice.{pick}
 use Rattle.octets.specs.Octets.{put}
 use Rattle.octets.specs.Lists.{keep}
-use Rattle.rules.specs.Model.{Settings, Session, Sessions}
+use Rattle.octets.proofs.Put.{part-from}
+use Rattle.rules.specs.Model.{Settings}
 use Rattle.rules.specs.Layout.{encode, viewSettings, viewSessions}
 use Rattle.rules.specs.Elements.{Fqcsid}
-use Rattle.rules.specs.Message.{listPlace, elements, headerLength, body, kindOf, setDeletion, establishment, frameFault}
+use Rattle.rules.specs.Message.{listPlace, elements, headerLength, body, kindOf, establishment, frameFault}
 use Rattle.rules.specs.Reading as reading
-use Rattle.rules.specs.Reading.{Reading, faulty, done, andThen, Request, listRead, listing, topRead, askedIn, faultIn, readFault, readRequest}
+use Rattle.rules.specs.Reading.{Reading, faulty, done, andThen, listRead, listing, topRead, askedIn, faultIn, readFault, readRequest}
 use Rattle.rules.specs.Stages.{Verdict, plain, newSession, atEntry, entrySession, judged, unknownSession}
 use Rattle.rules.specs.Apply.{staysSession, follow}
 use Rattle.rules.specs.Grants.{granted}
@@ -25,7 +23,6 @@ use Rattle.rules.specs.Reply.{noReports, reply}
 use Rattle.rules.specs.Serve.{sessionsAfter, replyTo}
 use Rattle.rules.specs.Causes as why
 use Rattle.laws.proofs.HeaderLaws.{unnamed-sets}
-use Rattle.frame.proofs.Walk.{part-from}
 use Rattle.frame.specs.Framed as frame
 use Rattle.frame.specs.declared.Framing.{Framing}
 use Rattle.frame.specs.declared.Framing.the-variants as framings

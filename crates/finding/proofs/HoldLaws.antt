@@ -14,14 +14,14 @@ use Rattle.octets.specs.Octets.{part, number, octetAt, slices}
 use Rattle.octets.specs.Lists.{member, collect}
 use Rattle.octets.proofs.ListLaws.{map-append}
 use Rattle.lists.proofs.Questions.{member-append}
-use Rattle.lists.proofs.Bools.{eqb-turn}
+use Rattle.octets.proofs.Bools.{eqb-turn}
+use Rattle.octets.proofs.Put.{part-from}
 use Rattle.rules.specs.Model.{Holding, teidOf, tunnelHolding, pdrHolding, endpointHolding, sessionHoldings, sessionTeids}
 use Rattle.rules.specs.Layout.{tunnelRead, viewArea, viewPdr, viewEndpoint, viewSession, pdrWidth, endpointWidth, pdrCountAt, endpointCountAt, pdrsAt, endpointsAt}
 use Rattle.rules.specs.Finding.{isHolder}
 use Rattle.laws.proofs.LayoutLaws.{endpoint-view}
 use Rattle.sessions.proofs.Turns.{slices-more}
 use Rattle.session.proofs.Steps.{part-part}
-use Rattle.restoration.proofs.SlotSteps.{from}
 use Rattle.marking.specs.Marking.{holdsTeid, heldBy, pdrHolds, endpointHolds}
 use Rattle.marking.proofs.Looking.{hold-of, teid-of}
 use Rattle.finding.specs.Holds.{endpointsHold, pdrsHold}
@@ -99,10 +99,10 @@ holder-by teid slot =
 -- as the code has the areas
 module _ (teid : ℕ) (slot : List ℕ) (r : Bool) (e : r ≡ endpointsHold teid (getD slot endpointCountAt 0) (take (length slot - endpointsAt) (drop endpointsAt slot))) where
   by-endpoints : r ≡ endpointsHold teid (getD slot endpointCountAt 0) (drop endpointsAt slot)
-  by-endpoints = rw (from endpointsAt slot) at e
+  by-endpoints = rw (part-from endpointsAt slot) at e
 
   pub slot-here : r ≡ true → true ≡ isHolder teid (viewSession slot)
   slot-here y = sym (holder-by teid slot ∙ rw (← by-endpoints, y))
 
   pub slot-else : (q : Bool) → r ≡ false → q ≡ pdrsHold teid (getD slot pdrCountAt 0) (take (length slot - pdrsAt) (drop pdrsAt slot)) → q ≡ isHolder teid (viewSession slot)
-  slot-else q y f = let g : q ≡ pdrsHold teid (getD slot pdrCountAt 0) (drop pdrsAt slot) = rw (from pdrsAt slot) at f in sym (holder-by teid slot ∙ rw (← by-endpoints, y, ← g))
+  slot-else q y f = let g : q ≡ pdrsHold teid (getD slot pdrCountAt 0) (drop pdrsAt slot) = rw (part-from pdrsAt slot) at f in sym (holder-by teid slot ∙ rw (← by-endpoints, y, ← g))

@@ -14,7 +14,7 @@ use Rattle.octets.specs.Choice.{pick}
 use Rattle.octets.specs.Lists.{findBy, allPairs}
 use Rattle.octets.proofs.Tests.{of-true}
 use Rattle.octets.proofs.Ordered.{orders, pairs-head, pairs-tail}
-use Rattle.restoration.proofs.SoundSlots.{all-at}
+use Rattle.table.proofs.SoundSlots.{all-at}
 use Rattle.rules.specs.Model.{Session, Sessions, seidOf}
 use Rattle.rules.specs.Stages.{hasSeid, newSession}
 use Rattle.rules.specs.Restoring.{sessionAt}

@@ -8,9 +8,10 @@ use mathlib.Core.Option.{Option, none, some}
 use mathlib.Core.List.{List}
 use lib.Dec.{T}
 use lib.ListN.{length, drop}
-use Rattle.octets.specs.Octets.{part, number, numberAt}
+use Rattle.octets.specs.Octets.{part, number}
 use Rattle.octets.proofs.Tests.{of-true, is-true}
-use Rattle.rules.specs.Layout.{viewSettings, viewSessions, viewSession, encode, settingsWidth, sessionWidth}
+use Rattle.laws.proofs.LayoutLaws.{limit-read}
+use Rattle.rules.specs.Layout.{viewSettings, viewSessions, viewSession, encode, settingsWidth, sessionWidth, limitAt}
 use Rattle.rules.specs.Sound.{sessionAllowed, sound}
 use Rattle.rules.specs.Stages.{hasSeid, sessionOf}
 use Rattle.rules.specs.Restoring.{sessionAt}
@@ -22,7 +23,7 @@ use Rattle.areas.specs.Counted.{placeIn}
 use Rattle.session.specs.Areas.{tableArea}
 use Rattle.store.proofs.Stored.{session-place, session-absent}
 use Rattle.table.proofs.Encoded.{Encoded, sound-encoded}
-use Rattle.restoration.proofs.SoundSlots.{slotAt, few-pdrs, few-endpoints, slot-long, slot-session, session-kept, count-read, table-long}
+use Rattle.table.proofs.SoundSlots.{slotAt, few-pdrs, few-endpoints, slot-long, slot-session, session-kept, count-read, table-long}
 use Rattle.finding.specs.declared.Answer.{Answer}
 use Rattle.finding.specs.Holds.{Counted}
 use Rattle.finding.specs.Answers.{answerOf}
@@ -63,20 +64,15 @@ module _ (t : List ℕ) (b : Bool) (e : b ≡ sound t) where
   unfolding countSessions
   count-told n z q = ap (λ (k : ℕ). findingOf (some k)) (q ∙ sym (count-read t (is-sound z))) ∙ told (some (length (viewSessions t))) z
 
-  -- the room for sessions, as the table has it
-  limit-read : (room : ℕ) → room ≡ number (part 37 2 t) → room ≡ viewSettings t .limit
-  unfolding viewSettings numberAt
-  limit-read room l = l
-
-  pub room-there : (room : ℕ) → not b ≡ false → room ≡ number (part 37 2 t) → settingsWidth + 2 + room * sessionWidth ≤ length t
-  room-there room z l = let e = table-long t (is-sound z) in let f = limit-read room l in omega arith
+  pub room-there : (room : ℕ) → not b ≡ false → room ≡ number (part limitAt 2 t) → settingsWidth + 2 + room * sessionWidth ≤ length t
+  room-there room z l = let e = table-long t (is-sound z) in let f = l ∙ sym (limit-read t) in omega arith
 
   module _ (seid : ℕ) where
     pub seid-broken : not b ≡ true → broken ≡ findSession t seid
     unfolding findSession
     seid-broken z = told-broken (sessionPlace seid (viewSessions t)) z
 
-    module _ (z : not b ≡ false) (room : ℕ) (l : room ≡ number (part 37 2 t)) (r : Place) (q : r ≡ placeIn (tableArea room) seid t) where
+    module _ (z : not b ≡ false) (room : ℕ) (l : room ≡ number (part limitAt 2 t)) (r : Place) (q : r ≡ placeIn (tableArea room) seid t) where
       abbrev area : Area
       area = tableArea (viewSettings t .limit)
 
@@ -84,7 +80,7 @@ module _ (t : List ℕ) (b : Bool) (e : b ≡ sound t) where
       k = sound-encoded t (is-sound z)
 
       there : (u : Place) → r ≡ u → placeIn area seid (encode (viewSettings t) (viewSessions t)) ≡ u
-      there u f = ap (placeIn area seid) (sym (k .whole)) ∙ ap (λ (n : ℕ). placeIn (tableArea n) seid t) (sym (limit-read room l)) ∙ sym q ∙ f
+      there u f = ap (placeIn area seid) (sym (k .whole)) ∙ ap (λ (n : ℕ). placeIn (tableArea n) seid t) (limit-read t ∙ sym l) ∙ sym q ∙ f
 
       pub seid-told : (p : ℕ) → r ≡ Found p → findingOf (some p) ≡ findSession t seid
       unfolding findSession sessionPlace

@@ -36,3 +36,14 @@ pub const FSEID: u64 = 57;
 pub const FQCSID: u64 = 65;
 
 pub const SESSION_FLAGS: u64 = 186;
+
+// In replies only.
+pub const NODE_ID: u64 = 60;
+
+pub const CAUSE: u64 = 19;
+
+pub const OFFENDING_IE: u64 = 40;
+
+pub const CREATED_PDR: u64 = 8;
+
+pub const CREATED_ENDPOINT: u64 = 128;

@@ -45,6 +45,13 @@ pub const UE_KIND: usize = 18;
 
 pub const UE_ADDRESS: usize = 19;
 
+// What UE_KIND says: an address, a CHOOSE, one that is not supported.
+pub const UE_GIVEN: u64 = 1;
+
+pub const UE_CHOOSE: u64 = 2;
+
+pub const UE_OTHER: u64 = 3;
+
 // An FQ-CSID's row.
 pub const VERB: usize = 1;
 

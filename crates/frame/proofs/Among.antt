@@ -8,6 +8,7 @@ use lib.Dec.{eqb}
 use borrow.Author.Tests.{eq-eqb, ne-eqb}
 use Rattle.octets.specs.Choice.{pick}
 use Rattle.octets.specs.Lists.{member}
+use Rattle.octets.proofs.Bools.{or-true}
 use Rattle.rules.specs.Message.{openedAtTop, opened, establishment, modification}
 use Rattle.rules.specs.Types as ie
 
@@ -15,10 +16,6 @@ use Rattle.rules.specs.Types as ie
 abbrev pub OneOf : ℕ → ℕ → List ℕ → Type 0
 OneOf x a [] = x ≡ a
 OneOf x a (b ∷ bs) = (x ≡ a) ⊎ OneOf x b bs
-
-or-true : (b : Bool) → (b || true) ≡ true
-or-true true = refl
-or-true false = refl
 
 pub among-yes : (x a : ℕ) (bs : List ℕ) → OneOf x a bs → member x (a ∷ bs) ≡ true
 unfolding member

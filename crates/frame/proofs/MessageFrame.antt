@@ -7,9 +7,10 @@ use mathlib.Core.List.{List}
 use lib.ListN.{length, take, drop, length-drop, getD}
 use Rattle.octets.specs.Octets.{number, part, bit}
 use Rattle.rules.specs.Message.{kindOf, body, Spot, atMessage, frame, frameFault, headerLength, seidThere}
-use Rattle.frame.proofs.Walk.{part-from, frame-end}
+use Rattle.frame.proofs.Walk.{frame-end}
 use Rattle.frame.proofs.HeaderLaws.{read-kind, least, is-length}
 use Rattle.octets.specs.Choice.{pick}
+use Rattle.octets.proofs.Put.{part-from}
 
 module _ (msg : List ℕ) where
   pub no-header : length msg < 8 → none ≡ frameFault msg

@@ -8,12 +8,12 @@ use mathlib.Core.Bool.{true, false}
 use mathlib.Core.Option.{Option, none, some}
 use mathlib.Core.List.{List, [], _∷_}
 use lib.ListN.{length, take, drop, length-take, length-drop}
-use lib.Seq.{take-length}
 use lib.Dec.{ltb}
 use borrow.Author.Tests.{lt-ltb, le-ltb}
 use Rattle.octets.specs.Choice.{pick, orElse}
 use Rattle.octets.specs.Octets.{part}
 use Rattle.octets.specs.Lists.{member}
+use Rattle.octets.proofs.Put.{part-from}
 use Rattle.rules.specs.Message.{inside, elementType, elementLength, opened, Spot, spot, innerFault, frameUpTo, frame}
 use Rattle.frame.specs.Framed.{faultIn}
 use Rattle.frame.specs.declared.Framing.{Framing}
@@ -21,10 +21,6 @@ use Rattle.frame.specs.declared.Framing.the-variants.{Fault}
 use Rattle.laws.proofs.MessageLaws.{shorter, frame-enough}
 
 -- ---- parts from a place on
-
--- the part `&s[n..]`
-pub part-from : (n : ℕ) (s : List ℕ) → take (length s - n) (drop n s) ≡ drop n s
-part-from n s = rw (← length-drop n s) (take-length (drop n s))
 
 pub part-shorter : (n : ℕ) (s : List ℕ) → 0 < n → n ≤ length s → length (take (length s - n) (drop n s)) < length s
 part-shorter n s h k = rw (part-from n s, length-drop) (omega arith)

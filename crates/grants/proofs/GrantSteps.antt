@@ -1,30 +1,22 @@
 -- How many grants there are, and what `grant` leaves from what its calls leave. Assumes nothing.
-use mathlib.Core.Path.{_≡_, refl, sym, ap, _∙_}
+use mathlib.Core.Path.{_≡_, sym, ap, _∙_}
 use mathlib.Core.List.{List, [], _∷_, _++_, map}
 use Prim.Native.Nat.{ℕ, _+_, _≤_}
 use native.Mathlib.Omega.{arith}
 use lib.ListN.{length, take, drop, length-map}
 use lib.Seq.{sets, sets-eq}
-use Rattle.rules.specs.Grants.{Choice, Chosen, grantTeid, chosenTeid, chosenAfter, freeAfter, grantFrom}
+use Rattle.rules.specs.Grants.{grantTeid}
 use Rattle.pool.specs.Map.{teidsFrom}
 use Rattle.grants.specs.Choosing.{places, choiceAt, chosenGrants, teidsAt, stores, Granted}
 use Rattle.grants.proofs.StoreLaws.{stores-front}
-
--- a grant for each choice
-pub length-grants : (cs : List Chosen) (free : List ℕ) (xs : List Choice) → length (grantFrom cs free xs) ≡ length xs
-unfolding grantFrom
-length-grants cs free [] = refl
-length-grants cs free (c ∷ xs) =
-    let o = chosenTeid cs (c .chooseId) in
-    let n = length-grants (chosenAfter o cs (c .chooseId) free) (freeAfter o free) xs in
-    omega arith
+use Rattle.laws.proofs.GrantLaws.{grants-length}
 
 -- a TEID for each place
 length-teids : (first : ℕ) (words : List ℕ) (size : ℕ) (plan ps : List ℕ) → length (teidsAt first words size plan ps) ≡ length ps
 unfolding teidsAt chosenGrants
 length-teids first words size plan ps =
     length-map (chosenGrants first words size plan ps) grantTeid
-    ∙ length-grants [] (teidsFrom first words 0 size) (map (choiceAt plan) ps)
+    ∙ grants-length [] (teidsFrom first words 0 size) (map (choiceAt plan) ps)
     ∙ length-map ps (choiceAt plan)
 
 pub granted-steps : (n first : ℕ) (words : List ℕ) (size : ℕ) (plan ts : List ℕ) {m : ℕ} {places′ ts′ plan′ : List ℕ}

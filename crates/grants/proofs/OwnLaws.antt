@@ -3,12 +3,12 @@ use mathlib.Core.Path.{_≡_, refl, sym, ap, _∙_}
 use mathlib.Core.Bool.{Bool, true, false, _&&_, _||_}
 use mathlib.Core.List.{List, [], _∷_, _++_, map}
 use Prim.Native.Nat.{ℕ}
-use native.Mathlib.Decide.{ℕ-discrete}
 use native.Mathlib.Omega.{arith}
-use borrow.Author.Tests.{eq-eqb, ne-eqb}
+use borrow.Author.Tests.{eq-eqb}
 use lib.Dec.{eqb}
 use Rattle.octets.specs.Choice.{pick}
 use Rattle.octets.specs.Lists.{member, hasRepeat, any, keep, findBy}
+use Rattle.octets.proofs.Bools.{eqb-turn}
 use Rattle.rules.specs.Grants.{Kind, ofPdr, ofEndpoint, Choice, Chosen, Grant, sameKind, chosenTeid, teidFor, chosenAfter, freeAfter, grantFrom, grantOf, grantTeid, isGrantFor, grantedTeid}
 
 -- ---- of general use
@@ -16,13 +16,6 @@ use Rattle.rules.specs.Grants.{Kind, ofPdr, ofEndpoint, Choice, Chosen, Grant, 
 or-false : (a b : Bool) → (a || b) ≡ false → (a ≡ false) × (b ≡ false)
 or-false true b e = let z : _≡_ {A = ℕ} 0 1 = cc in absurd (omega arith)
 or-false false b e = (refl, e)
-
-eqb-sym : (a b : ℕ) → eqb a b ≡ eqb b a
-eqb-sym a b = go (ℕ-discrete a b)
-  where
-    go : Dec (a ≡ b) → eqb a b ≡ eqb b a
-    go (yes e) = eq-eqb a b e ∙ sym (eq-eqb b a (sym e))
-    go (no n) = ne-eqb a b n ∙ sym (ne-eqb b a (λ e. n (sym e)))
 
 module _ {A : Type 0} (key : A → ℕ) (p : A → Bool) where
   member-keep : (x : ℕ) (xs : List A) → member x (map key xs) ≡ false → member x (map key (keep p xs)) ≡ false
@@ -82,7 +75,7 @@ same-sym ofEndpoint ofEndpoint = refl
 any-member : (k : Kind) (i : ℕ) (cs : List Choice) → Of k cs → any (sameAs k i) cs ≡ member i (map idOf cs)
 unfolding any member
 any-member k i [] o = refl
-any-member k i (c ∷ cs) o = rw (o .0, same-refl k, eqb-sym (c .id) i, any-member k i cs (o .1))
+any-member k i (c ∷ cs) o = rw (o .0, same-refl k, eqb-turn (c .id) i, any-member k i cs (o .1))
 
 pub apart-kind : (k : Kind) (cs : List Choice) → Of k cs → hasRepeat (map idOf cs) ≡ false → Apart cs
 unfolding hasRepeat
@@ -133,7 +126,7 @@ module _ (g : Grant) (gs : List Grant) where
   own-other : (x : Grant) → isGrantFor (g .kind) (g .id) x ≡ false → grantedTeid (g ∷ gs) (x .kind) (x .id) ≡ grantedTeid gs (x .kind) (x .id)
   unfolding grantedTeid findBy isGrantFor
   own-other x e =
-      let f : (sameKind (x .kind) (g .kind) && eqb (g .id) (x .id)) ≡ false = (λ j. same-sym (x .kind) (g .kind) j && eqb-sym (g .id) (x .id) j) ∙ e in
+      let f : (sameKind (x .kind) (g .kind) && eqb (g .id) (x .id)) ≡ false = (λ j. same-sym (x .kind) (g .kind) j && eqb-turn (g .id) (x .id) j) ∙ e in
       rw f
 
   own-others : (xs : List Grant) → any (isGrantFor (g .kind) (g .id)) xs ≡ false

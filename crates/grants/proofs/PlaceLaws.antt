@@ -13,8 +13,8 @@ use Rattle.octets.specs.Octets.{part, slices}
 use Rattle.octets.specs.Lists.{all}
 use Rattle.octets.proofs.Tests.{all-head, all-tail, all-cons}
 use Rattle.octets.proofs.ListLaws.{all-append}
+use Rattle.octets.proofs.Numbers.{slices-next}
 use Rattle.rules.specs.Types as ie
-use Rattle.lists.proofs.RowLaws.{rows-more}
 use Rattle.plan.specs.Rows.{rowWidth, rowsOf}
 use Rattle.created.specs.Entries.{maxGrants, within}
 use Rattle.grants.specs.Choosing.{choosing, chosenBy, placesBy, places, reportPlaces}
@@ -38,7 +38,7 @@ pub places-more : (p : List ℕ → Bool) (at left : ℕ) (plan : List ℕ) → 
     ≡ pick (p (part at rowWidth plan)) (at ∷ placesBy p (at + rowWidth) (slices rowWidth (left - 1) (drop (at + rowWidth) plan)))
     (placesBy p (at + rowWidth) (slices rowWidth (left - 1) (drop (at + rowWidth) plan)))
 unfolding placesBy
-places-more p at left plan h = rw (rows-more rowWidth left (drop at plan) h, drop-drop)
+places-more p at left plan h = rw (slices-next rowWidth left (drop at plan) h, drop-drop)
 
 pub places-none : (p : List ℕ → Bool) (at : ℕ) (plan : List ℕ) → placesBy p at (slices rowWidth 0 (drop at plan)) ≡ []
 unfolding placesBy slices

@@ -12,6 +12,7 @@ use Rattle.octets.specs.Choice.{pick}
 use Rattle.octets.specs.Octets.{bit, slices}
 use Rattle.octets.specs.Lists.{hasRepeat, keep}
 use Rattle.octets.proofs.ListLaws.{map-append}
+use Rattle.octets.proofs.FieldLaws.{both}
 use Rattle.rules.specs.Grants.{Kind, ofPdr, ofEndpoint, Choice, Chosen, Grant, grantTeid, grantFrom, grantedTeid}
 use Rattle.plan.specs.Rows.{rowWidth, word, rowsOf, hasTag, tagged}
 use Rattle.rules.specs.Types as ie
@@ -36,17 +37,13 @@ choosing-set tag row t =
     let b = word-set row t 12 (λ e. omega arith) in
     λ j. eqb (a j) tag && bit 2 (b j)
 
-and-true : (a b : Bool) → (a && b) ≡ true → (a ≡ true) × (b ≡ true)
-and-true true b e = (refl, e)
-and-true false b e = let z : _≡_ {A = ℕ} 0 1 = cc in absurd (omega arith)
-
 pub choosing-tag : (tag : ℕ) (row : List ℕ) → choosing tag row ≡ true → word its.tag row ≡ tag
 unfolding choosing hasTag
-choosing-tag tag row e = eqb-true (word its.tag row) tag (and-true (eqb (word its.tag row) tag) (bit 2 (word its.flags row)) e .0)
+choosing-tag tag row e = eqb-true (word its.tag row) tag (both (eqb (word its.tag row) tag) (bit 2 (word its.flags row)) e .0)
 
 pub choosing-bit : (tag : ℕ) (row : List ℕ) → choosing tag row ≡ true → bit 2 (word its.flags row) ≡ true
 unfolding choosing
-choosing-bit tag row e = and-true (hasTag tag row) (bit 2 (word its.flags row)) e .1
+choosing-bit tag row e = both (hasTag tag row) (bit 2 (word its.flags row)) e .1
 
 -- a row that one type's pass changes is not of the other type
 not-both : (row : List ℕ) → choosing ie.createEndpoint row ≡ true → choosing 1 row ≡ false

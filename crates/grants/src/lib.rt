@@ -19,9 +19,6 @@ ghost use Rattle.grants.specs.Steps.{Gives};
 // A CHOOSE ID is one octet.
 const IDS: usize = 256;
 
-// The kind of a UE IP Address that is a CHOOSE.
-const CHOOSE: u64 = 2;
-
 // A TEID, and the offset from which the next search for a free one starts.
 struct Given {
     teid: u64,
@@ -42,7 +39,7 @@ fn chooses(row: &[u64], tag: u64, anything: bool) -> bool
     if !anything {
         return false;
     }
-    row[words::UE_KIND] == CHOOSE
+    row[words::UE_KIND] == words::UE_CHOOSE
 }
 
 // Writes to `places`, from the k-th on and as far as there is room, where the rows begin that choose; the answer is how many places there are then.
@@ -208,7 +205,7 @@ fn chooses_address(row: &[u64]) -> bool
     requires { ⌜ length (now row) ≡ rowWidth ⌝ }
     ensures { λ r. ⌜ r ≡ choosesAddress (now (row .entry)) ⌝ }
 {
-    if row[words::UE_KIND] != CHOOSE {
+    if row[words::UE_KIND] != words::UE_CHOOSE {
         return false;
     }
     if row[words::TAG] == types::CREATE_ENDPOINT {

@@ -8,7 +8,7 @@ use lib.Dec.{T}
 use lib.ListN.{length, replicate, length-replicate}
 use Rattle.octets.specs.Lists.{member, anyIn, any, all, allPairs}
 use Rattle.octets.proofs.Tests.{all-head, all-tail}
-use Rattle.lists.proofs.Bools.{and-four, or-four, and-swap}
+use Rattle.octets.proofs.Bools.{and-four, or-four, and-swap}
 use Rattle.lists.proofs.Questions.{any-nil, any-cons, any-turn, member-append}
 use Rattle.lists.proofs.EachTwo.{all-step, pairs-step}
 use Rattle.rules.specs.Model.{Settings, Session, Sessions, sessionAddresses}

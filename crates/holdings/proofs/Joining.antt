@@ -14,7 +14,7 @@ use Rattle.octets.proofs.Ordered.{pairs-head, pairs-tail}
 use Rattle.rules.specs.Model.{Holding, teidOf}
 use Rattle.rules.specs.Sound.{shareTests, agree}
 use Rattle.holdings.specs.Walk.{onSame, sharedWith, joins}
-use Rattle.lists.proofs.Bools.{not-or}
+use Rattle.octets.proofs.Bools.{not-or}
 
 abbrev Share : Holding → Holding → Type 0
 Share h k = T (allOf (shareTests h k))

@@ -10,7 +10,7 @@ use lib.ListN.{length, replicate, length-replicate}
 use Rattle.octets.specs.Choice.{consOption, mapOption}
 use Rattle.octets.specs.Lists.{all, allPairs, collect}
 use Rattle.octets.proofs.Tests.{each, all-head, all-tail, all-cons}
-use Rattle.lists.proofs.Bools.{and-swap, and-four}
+use Rattle.octets.proofs.Bools.{and-swap, and-four}
 use Rattle.lists.proofs.EachTwo.{all-step, all-append}
 use Rattle.rules.specs.Model.{Settings, Tunnel, Place, neither, tunnel, endpoint, Pdr, Endpoint, Holding, Session, Sessions, teidOf, placeTunnel, tunnelHolding, pdrHolding, endpointHolding, endpointId, sessionHoldings, sessionTeids, heldTeids}
 use Rattle.rules.specs.Sound.{inPool, tunnelTests, tunnelAllowed, placeAllowed, pdrTests, pdrAllowed, endpointTests, endpointAllowed, agree, sessionTests, sessionAllowed, sessionsTests, sessionsAllowed}

@@ -10,7 +10,7 @@ use lib.Dec.{T, eqb}
 use Rattle.octets.specs.Choice.{pick, sameBool, consOption}
 use Rattle.octets.specs.Lists.{all, collect}
 use Rattle.octets.proofs.Tests.{all-head, all-tail, all-cons, is-false}
-use Rattle.lists.proofs.Bools.{and-true}
+use Rattle.octets.proofs.Bools.{and-true}
 use Rattle.rules.specs.Model.{Holding, teidOf}
 use Rattle.rules.specs.Sound.{shareTests}
 use Rattle.pool.specs.Map.{marked, mark, marks, offsets}

@@ -8,7 +8,7 @@ use Prim.Native.Nat.{ℕ}
 use lib.Dec.{T, eqb}
 use Rattle.octets.specs.Lists.{member, anyIn, all, allPairs}
 use Rattle.octets.proofs.Tests.{both, and-left, and-right, all-head, all-tail, all-cons}
-use Rattle.lists.proofs.Bools.{both-ways, not-or, and-swap, and-four, or-swap}
+use Rattle.octets.proofs.Bools.{both-ways, not-or, and-swap, and-four, or-swap}
 use Rattle.lists.proofs.Questions.{member-nil, member-cons, any-cons, any-turn, member-middle}
 use Rattle.lists.proofs.EachTwo.{all-step, pairs-step, all-last, pairs-last, pairs-middle, all-map, pairs-map}
 use Rattle.rules.specs.Model.{Holding, Sessions, teidOf, sessionHoldings, sessionTeids}

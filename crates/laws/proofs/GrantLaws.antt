@@ -115,7 +115,7 @@ grants-fit-from cs free (c ∷ l) hc hf hl =
     (both (ltb (c .id) (256 ^ 2)) (fourOctets (teidFor o free)) (hl .0 .id) (given-fits o free (chosen-fits cs (c .chooseId) hc) hf))
     (grants-fit-from (chosenAfter o cs (c .chooseId) free) (freeAfter o free) l (remembered-fits o cs (c .chooseId) free hc hf) (after-fits o free hf) (hl .1))
 
-grants-length : (cs : List Chosen) (free : List ℕ) (l : List Choice) → length (grantFrom cs free l) ≡ length l
+pub grants-length : (cs : List Chosen) (free : List ℕ) (l : List Choice) → length (grantFrom cs free l) ≡ length l
 unfolding grantFrom
 grants-length cs free [] = refl
 grants-length cs free (c ∷ l) = let o = chosenTeid cs (c .chooseId) in ap suc (grants-length (chosenAfter o cs (c .chooseId) free) (freeAfter o free) l)

@@ -9,20 +9,21 @@ use mathlib.Core.Option.{Option, none, some}
 use mathlib.Core.List.{List, [], _∷_, _++_, map, append-assoc, append-nil}
 use lib.ListN.{length, take, drop, getD, length-append, length-drop, take-append-drop}
 use lib.Dec.{T, leb, ltb, eqb, eqb→eq, leb→le, ltb→lt, lit≤, lit<}
-use lib.Seq.{take-at, take-all, drop-at, drop-drop, length-take-le}
+use lib.Seq.{take-at, take-take, take-all, drop-at, drop-drop, length-take-le}
 use Rattle.octets.specs.Choice.{pick, flag, isSome, valueOr}
 use Rattle.octets.specs.Octets.{be, part, number, numberAt, octetAt, octets, bit, zeros, padded, concatMap, slices}
 use Rattle.octets.specs.Fields.{fieldsAt, fit}
 use Rattle.octets.specs.Lists.{all, member}
 use Rattle.octets.proofs.Tests.{each, Each, and-left, and-right, all-head, all-tail}
-use Rattle.octets.proofs.Digits.{number-below, take-octets, drop-octets, be-back}
+use Rattle.octets.proofs.Digits.{number-below, take-octets, drop-octets, be-back, be-part}
+use Rattle.octets.proofs.Put.{part-two}
 use Rattle.octets.proofs.FieldLaws.{all-fit, length-fieldOctets, octet-field, record-back}
 use Rattle.octets.proofs.Numbers.{number-be, length-padded, length-concatMap, slices-concatMap}
 use Rattle.rules.specs.Model.{Settings, Tunnel, Place, neither, tunnel, endpoint, Pdr, Endpoint, Csid, Session, endpointId}
 use Rattle.rules.specs.Limits.{maxPdrs, maxEndpoints, nodeTypes}
 use Rattle.rules.specs.Elements.{addressLength, nodeTypeKept, nodeAddressAllowed, nodeAddressTests, below16}
 use Rattle.rules.specs.Sound.{poolTests, settingsTests, settingsAllowed, inPool, tunnelTests, tunnelAllowed, placeAllowed, farAllowed, addressAllowed, pdrTests, pdrAllowed, endpointTests, endpointAllowed, csidTests, csidAllowed, sessionTests, sessionAllowed}
-use Rattle.rules.specs.Layout.{families, optionRead, tunnelRead, pdrWidths, matchKind, matchTeid, matchFamilies, matchEndpoint, placeRead, pdrNumbers, pdrFrom, endpointWidths, endpointNumbers, endpointFrom, csidSlotWidths, csidSlotNumbers, addressRead, csidFrom, pdrWidth, endpointWidth, csidWidth, sessionWidth, area, pdrOctets, endpointOctets, csidOctets, sessionOctets, viewPdr, viewEndpoint, viewCsid, viewArea, viewSession}
+use Rattle.rules.specs.Layout.{families, optionRead, tunnelRead, pdrWidths, matchKind, matchTeid, matchFamilies, matchEndpoint, placeRead, pdrNumbers, pdrFrom, endpointWidths, endpointNumbers, endpointFrom, csidSlotWidths, csidSlotNumbers, addressRead, csidFrom, pdrWidth, endpointWidth, csidWidth, sessionWidth, area, pdrOctets, endpointOctets, csidOctets, sessionOctets, viewPdr, viewEndpoint, viewCsid, viewArea, viewSession, viewSettings, limitAt}
 
 -- ---- areas
 
@@ -263,6 +264,19 @@ pdr-view xs = rw (octet-field 6 xs, octet-field 11 xs, octet-field 12 xs, octet-
 pub endpoint-view : (xs : List ℕ) → viewEndpoint xs ≡ record { id = getD xs 0 0; local = tunnelRead (number (part 1 4 xs)) (getD xs 5 0); address = optionRead (getD xs 6 0) (number (part 7 4 xs)) }
 unfolding viewEndpoint endpointFrom fieldsAt
 endpoint-view xs = rw (octet-field 0 xs, octet-field 5 xs, octet-field 6 xs)
+
+-- the address of an FQ-CSID's slot
+pub csid-address : (xs : List ℕ) → length xs ≡ csidWidth → T (octets xs)
+    → addressRead (number (part 1 1 xs)) (number (part 2 4 xs)) (number (part 6 12 xs)) ≡ part 2 (addressLength (getD xs 1 0)) xs
+unfolding addressRead
+csid-address xs long o =
+    rw (octet-field 1 xs, be-part 2 4 xs o (omega arith), be-part 6 12 xs o (omega arith))
+    (ap (take (addressLength (getD xs 1 0))) (part-two 2 4 12 xs) ∙ take-take (addressLength (getD xs 1 0)) 16 (drop 2 xs) (address-short (getD xs 1 0)))
+
+-- the session limit of a table
+pub limit-read : (t : List ℕ) → viewSettings t .limit ≡ number (part limitAt 2 t)
+unfolding viewSettings numberAt
+limit-read t = refl
 
 -- ---- sessions
 

@@ -16,6 +16,7 @@ use Rattle.octets.proofs.Tests.{pick-either, both, and-left, and-right, all-hea
 use Rattle.octets.proofs.Ordered.{pairs-head, pairs-tail, pairs-cons, ne-of}
 use Rattle.octets.proofs.ListLaws.{by-test, or-right, or-by-left, or-by-right, all-imply, pairs-imply}
 use Rattle.octets.proofs.MemberLaws.{differ-turn, member-without}
+use Rattle.octets.proofs.Bools.{not-or}
 
 pub above-not-member : (x : ℕ) (xs : List ℕ) → T (all (λ n. ltb x n) xs) → T (not (member x xs))
 unfolding member
@@ -42,10 +43,6 @@ length-range x zero = refl
 length-range x (suc n) = ap suc (length-range (x + 1) n)
 
 -- ---- one more number held takes at most one away
-
-not-or : (a b : Bool) → T (not (a || b)) → T (not a) × T (not b)
-not-or true b h = absurd h
-not-or false b h = (tt, h)
 
 -- a number that is not there takes none away
 without-absent : (rs : List ℕ) (x : ℕ) (xs : List ℕ) → T (not (member x rs)) → without rs (x ∷ xs) ≡ without rs xs

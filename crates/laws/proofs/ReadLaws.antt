@@ -14,9 +14,10 @@ use lib.Pow.{areBytes}
 use Rattle.octets.specs.Choice.{pick, isNil, flag, allOf, headOr, sameBool}
 use Rattle.octets.specs.Octets.{number, part, numberAt, octetAt, bit, slices}
 use Rattle.octets.proofs.Tests.{Each, each, all-of-each, and-left, and-right, pick-either}
-use Rattle.octets.proofs.ListLaws.{pick-cases, not-not, or-fails, or-by-right, OnSome}
+use Rattle.octets.proofs.ListLaws.{pick-cases, not-not, or-by-right, OnSome}
 use Rattle.laws.proofs.BoundLaws.{field-bound, bytes-take, bytes-drop}
 use Rattle.octets.proofs.Ordered.{ne-of}
+use Rattle.octets.proofs.Bools.{not-or}
 use Rattle.rules.specs.Elements.{Refusal, tooShort, incorrect, Answer, refuse, value, Fteid, given, choose, v4Flag, v6Flag, chFlag, chidFlag, wrongFlags, fteidLength, chosenFields, givenFields, fteidFields, readFteid, hasV4, hasV6, chooseId, UeIp, ueGiven, ueChoose, ueOther, ueV4, ueChv4, ueUnsupported, ueFields, readUeIp, ueAddress, Fqcsid, sets, removal, addressLength, operatorAllowed, nodeAddressTests, nodeAddressAllowed, nodeTypeKept, csidsAt, csidFields, countAllowed, checkedCsid, csidRest, readFqcsid, below16, fseidLength, seidAnswer, readFseid}
 use Rattle.rules.specs.Reading.{Reading, faulty, done, andThen, named, need, once}
 
@@ -115,11 +116,11 @@ fields-read e f xs h right long = one (chFlag f) right long
         → FteidRead e (pick ch (chosenFields f xs) (givenFields f xs))
     one true r l =
         unfold chosenFields in (
-        let k = or-fails (not (v4Flag f || v6Flag f)) (chidFlag f && (e || false)) r in
+        let k = not-or (not (v4Flag f || v6Flag f)) (chidFlag f && (e || false)) r in
         chosen-read e (v4Flag f) (v6Flag f) (chidFlag f) true (octetAt xs 0) (first-octet xs h) (not-not (v4Flag f || v6Flag f) (k .0)) (k .1))
     one false r l =
         unfold givenFields in (
-        let k = or-fails (not (v4Flag f || v6Flag f)) (chidFlag f && (e || true)) r in
+        let k = not-or (not (v4Flag f || v6Flag f)) (chidFlag f && (e || true)) r in
         given-read e (v4Flag f) (v6Flag f) (numberAt 0 4 xs) xs (not-not (v4Flag f || v6Flag f) (k .0)) l)
 
 -- a read F-TEID keeps the rules of its flags

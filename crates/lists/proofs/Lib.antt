@@ -1,4 +1,3 @@
-pub mod Bools
 pub mod Loops
 pub mod Questions
 pub mod EachTwo

@@ -1,13 +1,12 @@
 -- The questions on lists of numbers, one element at a time, over lists joined, and turned round. Of use to every crate.
 -- Assumes nothing.
 use mathlib.Core.Path.{_≡_, refl, sym, _∙_, ap}
-use mathlib.Core.Bool.{Bool, true, false, not, _&&_, _||_, or-assoc}
+use mathlib.Core.Bool.{Bool, false, _&&_, _||_, or-assoc}
 use mathlib.Core.List.{List, [], _∷_, _++_}
 use Prim.Native.Nat.{ℕ, _+_}
 use lib.Dec.{eqb}
-use Rattle.octets.specs.Choice.{flag}
-use Rattle.lists.proofs.Bools.{eqb-turn, or-swap, or-four}
-use Rattle.octets.specs.Lists.{member, hasRepeat, anyIn, allIn, distinct}
+use Rattle.octets.proofs.Bools.{eqb-turn, or-swap, or-four}
+use Rattle.octets.specs.Lists.{member, anyIn}
 
 pub member-nil : (x : ℕ) → member x [] ≡ false
 unfolding member
@@ -17,14 +16,6 @@ pub member-cons : (x y : ℕ) (ys : List ℕ) → member x (y ∷ ys) ≡ (eqb x
 unfolding member
 member-cons x y ys = refl
 
-pub repeat-nil : hasRepeat [] ≡ false
-unfolding hasRepeat
-repeat-nil = refl
-
-pub repeat-cons : (x : ℕ) (xs : List ℕ) → hasRepeat (x ∷ xs) ≡ (member x xs || hasRepeat xs)
-unfolding hasRepeat
-repeat-cons x xs = refl
-
 pub any-nil : (ys : List ℕ) → anyIn [] ys ≡ false
 unfolding anyIn
 any-nil ys = refl
@@ -32,22 +23,6 @@ any-nil ys = refl
 pub any-cons : (x : ℕ) (xs ys : List ℕ) → anyIn (x ∷ xs) ys ≡ (member x ys || anyIn xs ys)
 unfolding anyIn
 any-cons x xs ys = refl
-
-pub all-in-nil : (ys : List ℕ) → allIn [] ys ≡ true
-unfolding allIn
-all-in-nil ys = refl
-
-pub all-in-cons : (x : ℕ) (xs ys : List ℕ) → allIn (x ∷ xs) ys ≡ (member x ys && allIn xs ys)
-unfolding allIn
-all-in-cons x xs ys = refl
-
-pub distinct-nil : distinct [] ≡ 0
-unfolding distinct
-distinct-nil = refl
-
-pub distinct-cons : (x : ℕ) (xs : List ℕ) → distinct (x ∷ xs) ≡ flag (not (member x xs)) + distinct xs
-unfolding distinct
-distinct-cons x xs = refl
 
 -- ---- lists joined
 

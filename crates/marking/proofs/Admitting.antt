@@ -22,17 +22,17 @@ use Rattle.pool.proofs.Marks.{length-marks}
 use Rattle.holdings.specs.Walk.{sessionMarks}
 use Rattle.holdings.proofs.MapWalk.{records-in-pool}
 use Rattle.holdings.proofs.SessionWalk.{session-split}
-use Rattle.slots.proofs.Lookup.{length-slices}
 use Rattle.unit.specs.declared.Settings.{Settings as Unit}
 use Rattle.unit.specs.Meaning.{settingsOf}
 use Rattle.records.specs.Kept.{pdrSound, endpointSound, csidSound, endpointIds}
-use Rattle.records.proofs.Cells.{and-false}
 use Rattle.sessions.specs.Slot.{areaSound, headSound, recordsAllowed, pdrArea, endpointArea, csidArea}
 use Rattle.sessions.proofs.SlotLaws.{Counts, counts-headed, slotOf, view-slot}
 use Rattle.sessions.proofs.Turns.{slot-areas}
 use Rattle.marking.specs.declared.Marks.{Marks}
 use Rattle.marking.specs.declared.Marks.the-variants.{Clash, New}
 use Rattle.marking.specs.Marking.{endpointHolds, pdrHolds, slotHolds, marksAfter, newAfter, walked, Marked, slotKeeps, Admitted}
+use Rattle.octets.proofs.Bools.{and-false}
+use Rattle.octets.proofs.Numbers.{length-slices}
 
 -- ---- marking one list of holds and then another
 

@@ -1,31 +1,31 @@
 -- A session with its addresses, and the loop over a table's sessions: both walks at once.
 -- Assumes nothing.
-use mathlib.Core.Path.{_≡_, refl, sym, ap, subst, _∙_}
+use mathlib.Core.Path.{_≡_, refl, sym, subst, _∙_}
 use Prim.Native.Nat.{ℕ, _+_, _-_, _*_, _≤_, _<_}
 use native.Mathlib.Omega.{arith}
 use mathlib.Core.Bool.{Bool, true, false, not, _&&_}
-use mathlib.Core.List.{List, [], _∷_, map}
+use mathlib.Core.List.{List, [], _∷_}
 use lib.Dec.{T}
-use lib.ListN.{length, take, drop}
+use lib.ListN.{take, drop}
 use Rattle.octets.specs.Choice.{pick}
 use Rattle.octets.specs.Octets.{part, slices}
 use Rattle.octets.specs.Lists.{any}
 use Rattle.octets.proofs.Tests.{each, of-true, and-left}
-use Rattle.rules.specs.Model.{Settings, teidOf}
+use Rattle.rules.specs.Model.{Settings}
 use Rattle.rules.specs.Layout.{sessionWidth}
-use Rattle.pool.specs.Map.{marked, marks, newMarks, offsets}
-use Rattle.records.proofs.Cells.{and-false}
+use Rattle.pool.specs.Map.{marked, marks, newMarks}
 use Rattle.sessions.specs.Slot.{headSound, slotTests, slotSound}
 use Rattle.addresses.specs.declared.Met.{Met}
-use Rattle.addresses.specs.declared.Met.the-variants as met
-use Rattle.addresses.specs.Offsets as held
 use Rattle.addresses.specs.Offsets.{heldOffsets}
 use Rattle.marking.specs.declared.Marks.{Marks}
 use Rattle.marking.specs.declared.Marks.the-variants.{Clash, New}
 use Rattle.marking.specs.declared.Seen.{Seen}
 use Rattle.marking.specs.declared.Seen.the-variants.{Broken, Held}
-use Rattle.marking.specs.Marking.{marksAfter, newAfter, slotHolds, slotKeeps, Admitted, slotTeids, slotFree, Entered, inTurn, slotsKeep, slotsFree, teidsIn, addressesIn, AllAdmitted}
-use Rattle.marking.proofs.Through.{Through, Whole, through-none, through-more, through-stop, through-all}
+use Rattle.marking.specs.Marking.{marksAfter, newAfter, slotHolds, slotKeeps, Admitted, slotTeids, slotFree, Entered, slotsKeep, slotsFree, teidsIn, addressesIn, AllAdmitted}
+use Rattle.marking.proofs.Through.{Through, through-none, through-more, through-stop, through-all}
+use Rattle.octets.proofs.Bools.{and-false}
+use Rattle.addresses.specs.declared.Met.the-variants as met
+use Rattle.addresses.specs.Offsets as held
 
 -- ---- what an answer says
 

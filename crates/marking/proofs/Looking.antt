@@ -1,7 +1,7 @@
 -- A PDR's hold by its octets, and the look back over the PDRs passed.
 -- Assumes nothing.
 use mathlib.Core.Path.{_≡_, refl, sym, ap₂, _∙_}
-use Prim.Native.Nat.{ℕ, zero, suc, _+_, _-_, _*_, _/_, _%_, _^_, _≤_, _<_}
+use Prim.Native.Nat.{ℕ, _+_, _-_, _*_, _/_, _%_, _^_, _≤_, _<_}
 use native.Mathlib.Omega.{arith}
 use mathlib.Core.Bool.{Bool, true, false, _&&_}
 use mathlib.Core.Option.{none, some}
@@ -15,12 +15,12 @@ use Rattle.octets.specs.Choice.{pick, mapOption, sameBool}
 use Rattle.octets.specs.Octets.{part, number, octetAt, bit, slices}
 use Rattle.octets.specs.Lists.{collect}
 use Rattle.octets.proofs.Tests.{and-left, and-right, both}
+use Rattle.octets.proofs.Bools.{both-ways, and-assoc, same-bit}
 use Rattle.rules.specs.Model.{neither, tunnel, endpoint, Pdr, tunnelHolding, placeTunnel, pdrHolding}
 use Rattle.rules.specs.Layout.{tunnelRead, placeRead, viewPdr, pdrWidth}
 use Rattle.laws.proofs.LayoutLaws.{pdr-view}
 use Rattle.holdings.specs.Walk.{joins}
 use Rattle.holdings.proofs.RecordWalk.{look-none, look-some, look-end}
-use Rattle.records.proofs.Cells.{same-test, and-assoc}
 use Rattle.sessions.proofs.Turns.{slices-more}
 use Rattle.marking.specs.Marking.{holdsTeid, alike, heldBy, pdrHolds}
 
@@ -38,15 +38,6 @@ hold-of xs = rw (pdr-view xs) (unfold pdrHolding placeRead in (go (eqb (getD xs 
 
 -- ---- families
 
-bit-same : (m n : ℕ) → m < 2 → n < 2 → sameBool (eqb m 1) (eqb n 1) ≡ eqb m n
-bit-same zero zero h k = refl
-bit-same zero (suc zero) h k = refl
-bit-same (suc zero) zero h k = refl
-bit-same (suc zero) (suc zero) h k = refl
-bit-same zero (suc (suc n)) h k = absurd (omega arith)
-bit-same (suc zero) (suc (suc n)) h k = absurd (omega arith)
-bit-same (suc (suc m)) n h k = absurd (omega arith)
-
 low-two : (f : ℕ) → f % 4 ≡ f / (2 ^ 0) % 2 + 2 * (f / (2 ^ 1) % 2)
 low-two f = omega arith
 
@@ -56,8 +47,8 @@ digits a b c d h k e = (omega arith, omega arith)
 two-bits : (f g : ℕ) → (sameBool (bit 0 f) (bit 0 g) && sameBool (bit 1 f) (bit 1 g)) ≡ eqb (f % 4) (g % 4)
 unfolding bit
 two-bits f g =
-    (λ i. bit-same (f / (2 ^ 0) % 2) (g / (2 ^ 0) % 2) (omega arith) (omega arith) i && bit-same (f / (2 ^ 1) % 2) (g / (2 ^ 1) % 2) (omega arith) (omega arith) i)
-    ∙ same-test (eqb (f / (2 ^ 0) % 2) (g / (2 ^ 0) % 2) && eqb (f / (2 ^ 1) % 2) (g / (2 ^ 1) % 2)) (eqb (f % 4) (g % 4))
+    (λ i. same-bit (f / (2 ^ 0) % 2) (g / (2 ^ 0) % 2) (omega arith) (omega arith) i && same-bit (f / (2 ^ 1) % 2) (g / (2 ^ 1) % 2) (omega arith) (omega arith) i)
+    ∙ both-ways (eqb (f / (2 ^ 0) % 2) (g / (2 ^ 0) % 2) && eqb (f / (2 ^ 1) % 2) (g / (2 ^ 1) % 2)) (eqb (f % 4) (g % 4))
     (λ h.
     let a = eqb→eq (f / (2 ^ 0) % 2) (g / (2 ^ 0) % 2) (and-left (eqb (f / (2 ^ 0) % 2) (g / (2 ^ 0) % 2)) (eqb (f / (2 ^ 1) % 2) (g / (2 ^ 1) % 2)) h) in
     let b = eqb→eq (f / (2 ^ 1) % 2) (g / (2 ^ 1) % 2) (and-right (eqb (f / (2 ^ 0) % 2) (g / (2 ^ 0) % 2)) (eqb (f / (2 ^ 1) % 2) (g / (2 ^ 1) % 2)) h) in

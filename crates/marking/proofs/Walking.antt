@@ -15,10 +15,10 @@ use lib.Seq.{drop-drop}
 use Rattle.octets.specs.Choice.{pick}
 use Rattle.octets.specs.Octets.{part, number, slices, allZero}
 use Rattle.octets.specs.Lists.{collect}
+use Rattle.octets.proofs.Bools.{and-false}
 use Rattle.rules.specs.Model.{Holding, Pdr, pdrHolding, endpointHolding}
 use Rattle.rules.specs.Layout.{viewPdr, viewEndpoint, pdrWidth, endpointWidth}
 use Rattle.holdings.specs.Walk.{sessionMarks}
-use Rattle.records.proofs.Cells.{and-false}
 use Rattle.sessions.specs.Slot.{areaSound}
 use Rattle.sessions.proofs.Turns.{slices-more, Rows, rows-none, rows-low, rows-bad, rows-more, rows-room}
 use Rattle.marking.specs.declared.Marks.{Marks}

@@ -10,12 +10,13 @@ use lib.Dec.{eqb, ltb, lit<}
 use lib.ListN.{length, getD, take, drop}
 use lib.Seq.{append-snoc}
 use Rattle.octets.specs.Octets.{part, be, number}
-use native.Mathlib.Nat.{add-assoc, add-mul, mul-assoc, mul-comm, mul-one, zero-mul, zero-add, div-div-eq-div-mul, div-one}
+use native.Mathlib.Nat.{mod-eq-of-lt, add-assoc, add-mul, mul-assoc, mul-comm, mul-one, zero-mul, zero-add, div-div-eq-div-mul, div-one}
 use lib.Pow.{areBytes}
 use lib.Dec.{T, ltb→lt, lt→ltb}
 use Rattle.octets.specs.Octets.{octets}
 use Rattle.octets.proofs.Tests.{and-left, and-right, both}
 use Rattle.octets.proofs.Parts.{part-first}
+use Rattle.octets.proofs.Put.{length-part}
 
 -- the number with v before the octets, as a loop over the octets has it
 unfoldable pub numberAfter : ℕ → List ℕ → ℕ
@@ -125,6 +126,15 @@ drop-octets (suc n) (x ∷ s) o = drop-octets n s (and-right (ltb x 256) (areByt
 
 pub part-octets : (at n : ℕ) (s : List ℕ) → T (octets s) → T (octets (part at n s))
 part-octets at n s o = take-octets n (drop at s) (drop-octets at s o)
+
+-- one octet is its number
+pub be-one : (n : ℕ) → n < 256 → be 1 n ≡ n ∷ []
+unfolding be
+be-one n h = rw (div-one, mod-eq-of-lt h)
+
+-- a field's number is written back as its octets
+pub be-part : (at n : ℕ) (s : List ℕ) → T (octets s) → at + n ≤ length s → be n (number (part at n s)) ≡ part at n s
+be-part at n s o h = be-back n (part at n s) (length-part at n s h) (part-octets at n s o)
 
 -- two lists of octets
 pub octets-append : (xs ys : List ℕ) → T (octets xs) → T (octets ys) → T (octets (xs ++ ys))

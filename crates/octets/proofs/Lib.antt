@@ -1,4 +1,5 @@
 pub mod Tests
+pub mod Bools
 pub mod Numbers
 pub mod Ordered
 pub mod Put

@@ -9,6 +9,7 @@ use Rattle.octets.specs.Choice.{pick, isSome, mapOption, bindOption, con
 use Rattle.octets.specs.Lists.{all, any, allPairs, keep, findBy, collect}
 use Rattle.octets.proofs.Tests.{all-head, all-tail, all-cons}
 use Rattle.octets.proofs.Ordered.{pairs-head, pairs-tail, pairs-cons, keep-all}
+use Rattle.octets.proofs.Bools.{not-or}
 
 -- ---- tests
 
@@ -21,11 +22,6 @@ pick-cases P false x y f g = g tt
 pub not-not : (b : Bool) → T (not (not b)) → T b
 not-not true h = tt
 not-not false h = h
-
--- a disjunction that fails fails on both sides
-pub or-fails : (a b : Bool) → T (not (a || b)) → T (not a) × T (not b)
-or-fails true b h = absurd h
-or-fails false b h = (tt, h)
 
 -- a disjunction whose left side fails holds on the right
 pub or-right : (a b : Bool) → T (a || b) → T (not a) → T b
@@ -129,7 +125,7 @@ module _ {A : Type 0} where
   pub none-any : (p : A → Bool) (xs : List A) → T (not (any p xs)) → T (all (λ a. not (p a)) xs)
   unfolding any all
   none-any p [] h = tt
-  none-any p (x ∷ xs) h = let k = or-fails (p x) (any p xs) h in all-cons (λ a. not (p a)) x xs (k .0) (none-any p xs (k .1))
+  none-any p (x ∷ xs) h = let k = not-or (p x) (any p xs) h in all-cons (λ a. not (p a)) x xs (k .0) (none-any p xs (k .1))
 
   -- ---- every two
 

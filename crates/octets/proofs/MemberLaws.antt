@@ -9,7 +9,8 @@ use Rattle.octets.specs.Choice.{pick}
 use Rattle.octets.specs.Lists.{member, anyIn, allIn, hasRepeat, without, all, allPairs, keep}
 use Rattle.octets.proofs.Tests.{and-left, and-right, neither-one, all-head, all-tail, all-cons, no-eqb}
 use Rattle.octets.proofs.Ordered.{pairs-cons, ne-of, all-perm}
-use Rattle.octets.proofs.ListLaws.{pick-cases, or-fails, or-right, or-by-left, or-by-right, by-test, all-imply}
+use Rattle.octets.proofs.ListLaws.{pick-cases, or-right, or-by-left, or-by-right, by-test, all-imply}
+use Rattle.octets.proofs.Bools.{not-or}
 
 -- two numbers differ, the other way round
 pub differ-turn : (a b : ℕ) → T (not (eqb a b)) → T (not (eqb b a))
@@ -19,7 +20,7 @@ differ-turn a b h = no-eqb b a (λ e. ne-of a b h (sym e))
 pub absent-each : (k : ℕ) (xs : List ℕ) → T (not (member k xs)) → T (all (λ n. not (eqb k n)) xs)
 unfolding member all
 absent-each k [] h = tt
-absent-each k (x ∷ xs) h = let e = or-fails (eqb k x) (member k xs) h in all-cons (λ n. not (eqb k n)) x xs (e .0) (absent-each k xs (e .1))
+absent-each k (x ∷ xs) h = let e = not-or (eqb k x) (member k xs) h in all-cons (λ n. not (eqb k n)) x xs (e .0) (absent-each k xs (e .1))
 
 -- and the other way round
 pub each-absent : (k : ℕ) (xs : List ℕ) → T (all (λ n. not (eqb k n)) xs) → T (not (member k xs))
@@ -78,7 +79,7 @@ member-perm k {xs} {ys} π h =
 pub none-in : (xs ys : List ℕ) → T (not (anyIn xs ys)) → T (all (λ n. not (member n ys)) xs)
 unfolding anyIn all
 none-in [] ys h = tt
-none-in (x ∷ xs) ys h = let e = or-fails (member x ys) (anyIn xs ys) h in all-cons (λ n. not (member n ys)) x xs (e .0) (none-in xs ys (e .1))
+none-in (x ∷ xs) ys h = let e = not-or (member x ys) (anyIn xs ys) h in all-cons (λ n. not (member n ys)) x xs (e .0) (none-in xs ys (e .1))
 
 -- and the other way round
 pub in-none : (xs ys : List ℕ) → T (all (λ n. not (member n ys)) xs) → T (not (anyIn xs ys))
@@ -96,7 +97,7 @@ all-in (x ∷ xs) ys h = all-cons (λ n. member n ys) x xs (and-left (member x y
 pub once-differ : (xs : List ℕ) → T (not (hasRepeat xs)) → T (allPairs (λ a b. not (eqb a b)) xs)
 unfolding hasRepeat allPairs
 once-differ [] h = tt
-once-differ (x ∷ xs) h = let e = or-fails (member x xs) (hasRepeat xs) h in pairs-cons (λ a b. not (eqb a b)) x xs (absent-each x xs (e .0)) (once-differ xs (e .1))
+once-differ (x ∷ xs) h = let e = not-or (member x xs) (hasRepeat xs) h in pairs-cons (λ a b. not (eqb a b)) x xs (absent-each x xs (e .0)) (once-differ xs (e .1))
 
 -- ---- keys
 

@@ -3,15 +3,17 @@
 use mathlib.Core.Path.{_≡_, refl, sym, ap, ap₂, _∙_}
 use Prim.Native.Nat.{ℕ, zero, suc, _+_, _-_, _*_, _/_, _%_, _^_, _≤_, _<_}
 use native.Mathlib.Nat.{zero-lt-suc, one-le-pow, pow-suc, mod-one, mod-lt, mod-eq-of-lt, mul-comm, add-sub-of-le, zero-mul, suc-mul, add-comm}
+use native.Mathlib.Omega.{arith}
 use mathlib.Core.Bool.{Bool, true, _&&_}
 use mathlib.Core.List.{List, [], _∷_, _++_, map, append-assoc}
-use lib.ListN.{length, length-append, length-replicate}
+use lib.ListN.{length, take, drop, length-append, length-replicate, replicate-append-replicate}
 use lib.Dec.{T, ltb, eqb, eqb-refl, eqb→eq, lt→ltb}
 use lib.Arith.{mod-mul}
 use lib.Pow.{areBytes}
 use lib.Seq.{take-at, drop-at}
 use Rattle.octets.specs.Lists.{all}
 use Rattle.octets.specs.Octets.{be, number, zeros, sameOctets, padded, concatMap, slices}
+use Rattle.octets.proofs.Bools.{and-assoc}
 use Rattle.octets.proofs.Tests.{and-left, and-right, both, is-true, all-head, all-tail}
 
 -- ---- big-endian numbers
@@ -82,3 +84,29 @@ module _ {A : Type 0} (f : A → List ℕ) (w : ℕ) (p : A → Bool) (fits : (a
       rw (append-assoc (f r) (concatMap f rs) rest)
       (ap₂ _∷_ (take-at (f r) (concatMap f rs ++ rest) w fit)
       (ap (slices w (length rs)) (drop-at (f r) (concatMap f rs ++ rest) w fit) ∙ slices-concatMap rs (all-tail p r rs h) rest))
+
+-- ---- slices
+
+pub length-slices : (w n : ℕ) (s : List ℕ) → length (slices w n s) ≡ n
+unfolding slices
+length-slices w zero s = refl
+length-slices w (suc n) s = ap suc (length-slices w n (drop w s))
+
+pub slices-next : (w n : ℕ) (s : List ℕ) → 0 < n → slices w n s ≡ take w s ∷ slices w (n - 1) (drop w s)
+unfolding slices
+slices-next w zero s h = absurd (omega arith)
+slices-next w (suc n) s h = let e : suc n - 1 ≡ n = omega arith in rw e
+
+-- ---- zeros, and octets compared part by part
+
+pub zeros-split : (n m : ℕ) → zeros (n + m) ≡ zeros n ++ zeros m
+unfolding zeros
+zeros-split n m = sym (replicate-append-replicate n m 0)
+
+pub same-append : (a b x y : List ℕ) → length a ≡ length x → sameOctets (a ++ b) (x ++ y) ≡ (sameOctets a x && sameOctets b y)
+unfolding sameOctets
+same-append [] b [] y e = refl
+same-append [] b (x ∷ xs) y e = absurd (omega arith)
+same-append (a ∷ as′) b [] y e = absurd (omega arith)
+same-append (a ∷ as′) b (x ∷ xs) y e =
+    ap (λ (t : Bool). eqb a x && t) (same-append as′ b xs y (omega arith)) ∙ sym (and-assoc (eqb a x) (sameOctets as′ xs) (sameOctets b y))

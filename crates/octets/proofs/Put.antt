@@ -1,13 +1,13 @@
 -- The laws of `put` and `part`: a store at either end of what is put makes it one octet longer, two puts side by side are one,
 -- what stands outside stays; and what holds in a loop that writes octets from the front or from the back. Assumes nothing.
 use mathlib.Core.Path.{_≡_, refl, sym, ap, ap₂, _∙_}
-use mathlib.Core.List.{List, [], _∷_, _++_, append-assoc}
-use Prim.Native.Nat.{ℕ, suc, _+_, _-_, _≤_, _<_}
-use native.Mathlib.Nat.{not-suc-le-zero, add-zero, add-suc, suc-add, add-assoc}
+use mathlib.Core.List.{List, [], _∷_, _++_, append-assoc, append-nil}
+use Prim.Native.Nat.{ℕ, zero, suc, _+_, _-_, _≤_, _<_}
+use native.Mathlib.Nat.{not-suc-le-zero, add-zero, zero-add, add-suc, suc-add, add-assoc}
 use native.Mathlib.Numerals.{add-one}
 use native.Mathlib.Omega.{arith}
 use lib.ListN.{length, take, drop, getD, set, length-append, length-drop, take-append-drop, length-set, drop-of-length-le, List·getD-append}
-use lib.Seq.{take-set-le, drop-set-lt, getD-set-same, set-split, take-append-le, take-take, take-at, drop-at, drop-drop, length-take-le, take-all, take-suc, drop-cons, append-snoc, set-at, getD-take, getD-drop, getD-append-add}
+use lib.Seq.{take-add, take-nil, take-set-le, drop-set-lt, getD-set-same, set-split, take-append-le, take-take, take-at, drop-at, drop-drop, length-take-le, take-all, take-suc, drop-cons, append-snoc, set-at, getD-take, getD-drop, getD-append-add}
 use Rattle.octets.specs.Octets.{put, part}
 
 pub put-nil : (at : ℕ) (s : List ℕ) → put at [] s ≡ s
@@ -219,3 +219,31 @@ put-put at n xs ys s e h = rw (← e) (put-behind at xs ys s (omega arith))
 pub set-put : (at b : ℕ) (s : List ℕ) → at < length s → set s at b ≡ put at (b ∷ []) s
 unfolding put
 set-put at b s h = rw (set-split s at b h, add-one)
+
+-- octets b at place q, behind the octets a at place `at`; and one octet there
+pub next-put : (at q : ℕ) (a b s : List ℕ) {s₁ s₂ : List ℕ} → s₁ ≡ put at a s → s₂ ≡ put q b s₁ → q ≡ at + length a → q ≤ length s → s₂ ≡ put at (a ++ b) s
+next-put at q a b s {s₁} {s₂} e f l h = f ∙ rw (e, l) (put-behind at a b s (omega arith))
+
+pub next-set : (at q : ℕ) (a : List ℕ) (x : ℕ) (s : List ℕ) {s₁ : List ℕ} → s₁ ≡ put at a s → q ≡ at + length a → q < length s → set s₁ q x ≡ put at (a ++ (x ∷ [])) s
+next-set at q a x s {s₁} e l h =
+    let long : length s₁ ≡ length s = ap length e ∙ length-put at a s (omega arith) in
+    next-put at q a (x ∷ []) s e (set-put q x s₁ (omega arith)) l (omega arith)
+
+-- octets over a whole list
+pub put-whole : (a s : List ℕ) → length a ≡ length s → put 0 a s ≡ a
+unfolding put
+put-whole a s e = ap (λ (l : List ℕ). a ++ l) (drop-of-length-le s {i = 0 + length a} (omega arith)) ∙ append-nil a
+
+-- two parts side by side
+pub part-two : (at n m : ℕ) (s : List ℕ) → part at n s ++ part (at + n) m s ≡ part at (n + m) s
+part-two at n m s = rw (take-add n m (drop at s), drop-drop n at s)
+
+-- the part `&s[n..]`
+pub part-from : (n : ℕ) (s : List ℕ) → take (length s - n) (drop n s) ≡ drop n s
+part-from n s = take-all (length s - n) (drop n s) (omega (arith, length-drop n s))
+
+-- a front without its own front
+pub drop-take : {A : Type 0} (m n : ℕ) (l : List A) → drop m (take (m + n) l) ≡ take n (drop m l)
+drop-take zero n l = rw zero-add
+drop-take (suc m) n [] = rw suc-add (sym (take-nil n))
+drop-take (suc m) n (x ∷ l) = rw suc-add (drop-take m n l)

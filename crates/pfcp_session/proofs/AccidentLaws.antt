@@ -9,11 +9,11 @@ use mathlib.Core.List.{List, [], _∷_, _++_, map}
 use lib.ListN.{length}
 use lib.Dec.{T, T-not, not-T, eqb, eqb→eq, leb→le}
 use Rattle.rules.specs.Elements.{UeIp, ueChooses}
-use Rattle.octets.specs.Choice.{pick, valueOr, mapOption, bindOption, isSome, consOption}
+use Rattle.octets.specs.Choice.{pick, valueOr, mapOption, isSome, consOption}
 use Rattle.octets.specs.Lists.{member, all, any, findBy, keep, collect}
 use Rattle.octets.proofs.Tests.{each, is-true, is-false, all-cons, pick-no, pick-yes, of-true}
 use Rattle.octets.proofs.Ordered.{keep-passes}
-use Rattle.octets.proofs.ListLaws.{Every, by-test, or-right, all-every, all-map, found-knows}
+use Rattle.octets.proofs.ListLaws.{Every, by-test, or-right, all-every, all-map, found-knows, or-by-right, or-by-left}
 use Rattle.octets.proofs.MemberLaws.{member-passes}
 use Rattle.rules.specs.Model.{Settings, Session, Sessions, teidOf, sessionHoldings, sessionTeids, heldTeids, freeCount, freeTeids, inAddressPool, sessionAddresses, heldAddresses, freeAddressCount, freeAddresses}
 use Rattle.rules.specs.Layout.{viewSettings, viewSessions}
@@ -32,7 +32,7 @@ use Rattle.pool.proofs.AddressLaws.{asPool, address-map-means}
 use Rattle.claim.proofs.GrantLaws.{enough}
 use Rattle.claim.proofs.GrantedTeids.{asGrant, grantedFrom, granted-grants, granted-all}
 use Rattle.claim.proofs.PoolLaws.{free-in-pool, free-not-held, addresses-in-pool, addresses-not-held}
-use Rattle.claim.proofs.FreeAddresses.{ChosenFree, address-free-there, free-address-count}
+use Rattle.claim.proofs.FreeAddresses.{address-free-there, free-address-count}
 use Rattle.claim.proofs.OneHolder.{one-teid-holder, one-address-holder}
 use Rattle.claim.proofs.ChangedAddresses.{stayingAddresses}
 use Rattle.claim.proofs.FreeTeids.{free-there, held-in-pool, free-count}
@@ -106,23 +106,15 @@ module _ (t : List ℕ) (k : TableKept t) where
 
 -- ---- members and tests
 
-or-left-true : (a b : Bool) → T a → T (a || b)
-or-left-true true b h = tt
-or-left-true false b h = absurd h
-
-or-right-true : (a b : Bool) → T b → T (a || b)
-or-right-true true b h = tt
-or-right-true false b h = h
-
 any-front : {A : Type 0} (p : A → Bool) (xs ys : List A) → T (any p xs) → T (any p (xs ++ ys))
 unfolding any
 any-front p [] ys h = absurd h
-any-front p (x ∷ xs) ys h = by-test (p x) (λ e. or-left-true (p x) (any p (xs ++ ys)) e) (λ e. or-right-true (p x) (any p (xs ++ ys)) (any-front p xs ys (or-right (p x) (any p xs) h e)))
+any-front p (x ∷ xs) ys h = by-test (p x) (λ e. or-by-left (p x) (any p (xs ++ ys)) e) (λ e. or-by-right (p x) (any p (xs ++ ys)) (any-front p xs ys (or-right (p x) (any p xs) h e)))
 
 any-behind : {A : Type 0} (p : A → Bool) (xs ys : List A) → T (any p ys) → T (any p (xs ++ ys))
 unfolding any
 any-behind p [] ys h = h
-any-behind p (x ∷ xs) ys h = or-right-true (p x) (any p (xs ++ ys)) (any-behind p xs ys h)
+any-behind p (x ∷ xs) ys h = or-by-right (p x) (any p (xs ++ ys)) (any-behind p xs ys h)
 
 -- a number that passes a test and is not among those of a list that pass it is not in the list
 stays : (p : ℕ → Bool) (n : ℕ) (xs : List ℕ) → T (p n) → T (member n xs) → T (member n (keep p xs))
@@ -130,11 +122,11 @@ unfolding member keep
 stays p n [] h e = absurd e
 stays p n (y ∷ ys) h e =
     by-test (eqb n y)
-    (λ s. subst (λ (b : Bool). T (member n (pick b (y ∷ keep p ys) (keep p ys)))) (sym (is-true (p y) (subst (λ (z : ℕ). T (p z)) (eqb→eq n y s) h))) (or-left-true (eqb n y) (member n (keep p ys)) s))
+    (λ s. subst (λ (b : Bool). T (member n (pick b (y ∷ keep p ys) (keep p ys)))) (sym (is-true (p y) (subst (λ (z : ℕ). T (p z)) (eqb→eq n y s) h))) (or-by-left (eqb n y) (member n (keep p ys)) s))
     (λ s. two (p y) (stays p n ys h (or-right (eqb n y) (member n ys) e s)))
   where
     two : (b : Bool) → T (member n (keep p ys)) → T (member n (pick b (y ∷ keep p ys) (keep p ys)))
-    two true f = or-right-true (eqb n y) (member n (keep p ys)) f
+    two true f = or-by-right (eqb n y) (member n (keep p ys)) f
     two false f = f
 
 not-kept : (p : ℕ → Bool) (n : ℕ) (xs : List ℕ) → T (p n) → T (not (member n (keep p xs))) → T (not (member n xs))
@@ -280,19 +272,19 @@ module _ (run : Run) (msg space : List ℕ) (r : RequestCall) (a : Accepted run 
     where
       here : (o : Option UeIp) → T (choosesIp o) → T (any ueChooses (consOption o (collect ip xs)))
       here none h = absurd h
-      here (some v) h = or-left-true (ueChooses v) (any ueChooses (collect ip xs)) h
+      here (some v) h = or-by-left (ueChooses v) (any ueChooses (collect ip xs)) h
 
       later : (o : Option UeIp) → T (any ueChooses (collect ip xs)) → T (any ueChooses (consOption o (collect ip xs)))
       later none h = h
-      later (some v) h = or-right-true (ueChooses v) (any ueChooses (collect ip xs)) h
+      later (some v) h = or-by-right (ueChooses v) (any ueChooses (collect ip xs)) h
 
       one : (o : Option UeIp) → (T (choosesAddress o) → createdAddress (out .space) k (key y) ≡ chosenAddress (viewSettings t) (viewSessions t)) → (T (choosesIp o) → T (any ueChooses (addressesOf (readRequest msg))))
           → T (freshAddress (r .space) held k (key y) o)
       one o g chosen = unfold freshAddress in (
           by-test (choosesIp o)
-          (λ h. or-right-true (not (choosesIp o)) (not (member (createdAddress (r .space) k (key y)) held))
+          (λ h. or-by-right (not (choosesIp o)) (not (member (createdAddress (r .space) k (key y)) held))
           (subst (λ (n : ℕ). T (not (member n held))) (sym (ap (λ (v : Served). createdAddress (v .space) k (key y)) same ∙ g (as-chosen o h))) (chosen-unheld (chosen h))))
-          (λ h. or-left-true (not (choosesIp o)) (not (member (createdAddress (r .space) k (key y)) held)) h))
+          (λ h. or-by-left (not (choosesIp o)) (not (member (createdAddress (r .space) k (key y)) held)) h))
 
   fresh-pdrs : T (all (freshPdr (r .space) held) (readRequest msg .pdrs))
   unfolding freshPdr

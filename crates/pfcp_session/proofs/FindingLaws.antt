@@ -23,7 +23,7 @@ use Rattle.rules.specs.Finding.{Finding, findingOf, placeFrom, sessionPlace, is
 use Rattle.claim.proofs.KeptRules.{SessionsKept, sessions-kept}
 use Rattle.claim.proofs.ServeLaws.{table-kept}
 use Rattle.claim.proofs.RestoreAll.{apart-teids}
-use Rattle.restoration.proofs.SoundSlots.{few-sessions}
+use Rattle.table.proofs.SoundSlots.{few-sessions}
 use Rattle.finding.proofs.PlaceLaws.{place-says, none-says, place-only}
 use Rattle.pfcp_session.specs.Calls.{sessionCountCall, findSessionCall, findTeidCall}
 use Rattle.pfcp_session.specs.Runs.{Run, tableAfter}

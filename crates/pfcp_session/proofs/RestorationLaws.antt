@@ -33,7 +33,8 @@ use Rattle.claim.proofs.Sequence.{made-empty}
 use Rattle.claim.proofs.Runs.{restores-table}
 use Rattle.table.proofs.Encoded.{Encoded, sound-encoded}
 use Rattle.restoration.proofs.RequestSteps.{take-put}
-use Rattle.restoration.proofs.SoundSlots.{session-kept, peer-kept, request-short, within-limit}
+use Rattle.table.proofs.SoundSlots.{session-kept, within-limit}
+use Rattle.restoration.proofs.SoundSlots.{peer-kept, request-short}
 use Rattle.pfcp_session.specs.Calls.{MakeCall, makeCall, restorationCall}
 use Rattle.pfcp_session.specs.Runs.{stepsOf}
 use Rattle.pfcp_session.specs.Restorations.{Wrote, Past, WroteAll, Emptied, RestorationShort, RestorationAccepted, Asking, messageOf, askingCall, askingAllowed, RestorationsGiveBack, RestorationsTellAll}

@@ -13,6 +13,7 @@ use lib.Dec.{eqb, lit<}
 use lib.Pow.{shl-exact, shl-shr, shr-shr, shr-le, pow-lt, pow-mono, pow-add, ones-lt}
 use Rattle.octets.specs.Choice.{flag}
 use Rattle.octets.specs.Octets.{bit}
+use Rattle.octets.proofs.Bools.{flag-bit}
 
 -- 1 shifted by less than a word's width
 pub one-shl : (b w : ℕ) → b < w → 1 * 2 ^ b % 2 ^ w ≡ 2 ^ b
@@ -71,14 +72,9 @@ digit-low w = omega arith
 digit-suc : (w j : ℕ) → digit w (suc j) ≡ digit (w / 2) j
 digit-suc w j = ap (λ (x : ℕ). w / 2 ^ x % 2) (sym (one-add j)) ∙ ap (λ (x : ℕ). x % 2) (sym (shr-shr w 1 j))
 
-flag-low : (b : ℕ) → b < 2 → flag (eqb b 1) ≡ b
-flag-low zero h = refl
-flag-low (suc zero) h = refl
-flag-low (suc (suc b)) h = absurd (omega arith)
-
 pub bit-low : (w : ℕ) → flag (bit 0 w) ≡ w % 2
 unfolding bit
-bit-low w = rw (digit-low w) (flag-low (w % 2) (omega arith))
+bit-low w = rw (digit-low w) (flag-bit (w % 2) (omega arith))
 
 pub bit-suc : (w j : ℕ) → bit (suc j) w ≡ bit j (w / 2)
 unfolding bit

@@ -13,6 +13,7 @@ use borrow.Author.Tests.{ne-eqb}
 use Rattle.octets.specs.Choice.{pick}
 use Rattle.octets.specs.Octets.{be}
 use Rattle.octets.specs.Lists.{member}
+use Rattle.octets.proofs.Put.{part-from}
 use Rattle.rules.specs.Elements.{Refusal, missing, conditional, incorrect, causeOf, Fteid}
 use Rattle.rules.specs.Message.{inside, Element, elements, placesOf}
 use Rattle.rules.specs.Reading.{Reading, faulty, done, refusal, andThen, need, Members, withPdi, holds, pdiIn, valueRead, memberRead, membersRead, unopened, pdiEnd, pdiRead, pdrFrom, endpointFrom, changeFrom, itemFrom}
@@ -21,7 +22,7 @@ use Rattle.rules.specs.Causes as why
 use Rattle.plan.specs.Rows.{word, present, rowLocal, rowFteid}
 use Rattle.plan.specs.Words as its
 use Rattle.frame.proofs.Among.{OneOf}
-use Rattle.frame.proofs.Walk.{part-from, value-places}
+use Rattle.frame.proofs.Walk.{value-places}
 use Rattle.laws.proofs.MessageLaws.{el}
 use Rattle.elements.proofs.Front.{Front, behind}
 use Rattle.reading.specs.declared.Verdict.{Verdict}

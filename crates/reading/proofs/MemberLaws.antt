@@ -13,6 +13,7 @@ use Rattle.octets.specs.Octets.{be, bit, number, part, numberAt, octetAt}
 use Rattle.octets.specs.Lists.{member, allIn}
 use Rattle.octets.proofs.Put.{length-part}
 use Rattle.octets.proofs.Tests.{pick-either, of-true}
+use Rattle.octets.proofs.Bools.{and-false}
 use Rattle.rules.specs.Elements as rules
 use Rattle.rules.specs.Elements.{Refusal, tooShort, incorrect, causeOf, refuse, value, Fteid, given, choose, v4Flag, v6Flag, chFlag, chidFlag, wrongFlags, fteidLength, chosenFields, givenFields, fteidFields, readFteid, readUeIp}
 use Rattle.rules.specs.Message.{placesOf, numberWidth}
@@ -179,10 +180,6 @@ ue-value x p v row z h e f = rw (e, f) (holding (put-ue row (kindIn x) (addressI
 nil-length : (xs : List ℕ) → eqb (length xs) 0 ≡ isNil xs
 nil-length [] = refl
 nil-length (x ∷ xs) = ne-eqb (suc (length xs)) 0 (λ e. absurd (omega arith))
-
-and-false : (a : Bool) → (a && false) ≡ false
-and-false true = refl
-and-false false = refl
 
 module _ (g t : ℕ) (v : List ℕ) where
   pub no-update : (g ≡ ie.updatePdr → ⊥) → false ≡ isNullFar g t v

@@ -101,9 +101,9 @@ fn kind_of(x: UeIp) -> u64
     ensures { λ r. ⌜ r ≡ kindIn x ⌝ }
 {
     match x {
-        UeIp::Given(_) => 1,
-        UeIp::Choose => 2,
-        UeIp::Other => 3,
+        UeIp::Given(_) => words::UE_GIVEN,
+        UeIp::Choose => words::UE_CHOOSE,
+        UeIp::Other => words::UE_OTHER,
     }
 }
 

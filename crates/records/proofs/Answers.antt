@@ -11,7 +11,7 @@ use lib.Seq.{getD-take, drop-drop, getD-drop}
 use lib.Dec.{T, leb, ltb, eqb, leb→le, ltb→lt, lit<}
 use Rattle.octets.specs.Choice.{pick, allOf}
 use Rattle.octets.specs.Octets.{part, number, allZero, octets, slices}
-use Rattle.octets.specs.Fields.{widthOf, fieldsAt}
+use Rattle.octets.specs.Fields.{fieldsAt}
 use Rattle.octets.specs.Lists.{member}
 use Rattle.octets.proofs.Ordered.{orders}
 use Rattle.octets.proofs.Tests.{and-left, and-right, of-true}
@@ -25,8 +25,8 @@ use Rattle.unit.specs.declared.Settings.{Settings as Unit}
 use Rattle.unit.specs.Meaning.{settingsOf}
 use Rattle.unit.proofs.FieldLaws.{ipv6-there}
 use Rattle.records.specs.Kept.{settingsSound, pdrSound, endpointSound, csidSound, endpointIds, hasIpv6, optionalTest, familiesTest, tunnelTest, placeTest, pdrTest, endpointTest, addressTest, csidTest}
-use Rattle.records.proofs.Cells.{and-true, and-false, or-true, or-false}
 use Rattle.records.proofs.Slots.{endpoint-law, pdr-law, csid-law, settings-law}
+use Rattle.octets.proofs.Bools.{and-false, and-true, or-true, or-false}
 
 -- ---- FQ-CSIDs
 

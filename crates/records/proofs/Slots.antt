@@ -13,10 +13,10 @@ use lib.Dec.{T, leb, ltb, eqb, lit≤, lit<}
 use lib.Pow.{areBytes}
 use Rattle.octets.specs.Choice.{pick, flag, isNil, isSome, valueOr}
 use Rattle.octets.specs.Octets.{part, number, numberAt, octetAt, be, zeros, padded, allZero, sameOctets, octets}
-use Rattle.octets.specs.Fields.{widthOf, fieldsAt}
+use Rattle.octets.specs.Fields.{fieldsAt}
 use Rattle.octets.specs.Lists.{member}
 use Rattle.octets.proofs.Tests.{is-true}
-use Rattle.octets.proofs.Numbers.{same-refl, length-padded, length-be, number-be, bytes-be}
+use Rattle.octets.proofs.Numbers.{same-refl, length-padded, length-be, number-be, bytes-be, same-append}
 use Rattle.octets.proofs.Put.{length-part}
 use Rattle.octets.proofs.Digits.{octets-append, part-octets, take-octets, be-back}
 use Rattle.octets.proofs.FieldLaws.{Fits, each-fit, fit-fields, slot-law, zero-number}
@@ -27,8 +27,9 @@ use Rattle.rules.specs.Layout.{families, optionRead, tunnelRead, pdrWidths, mat
 use Rattle.rules.specs.Sound.{settingsAllowed, tunnelAllowed, placeAllowed, farAllowed, addressAllowed, pdrTests, pdrAllowed, endpointTests, endpointAllowed, csidTests, csidAllowed}
 use Rattle.laws.proofs.LayoutLaws.{pdr-fits, endpoint-fits, csid-fits}
 use Rattle.records.specs.Kept.{kept, settingsSound, pdrSound, endpointSound, csidSound, optionalTest, tunnelTest, placeTest, pdrTest, endpointTest, csidTest}
-use Rattle.records.proofs.Cells.{and-true, interchange, eqb-same, eqb-turn, same-zeros, same-append, two-parts, and-comm, last-first}
+use Rattle.records.proofs.Cells.{eqb-same, same-zeros, two-parts, and-comm, last-first}
 use Rattle.records.proofs.Tunnels.{tunnel-law}
+use Rattle.octets.proofs.Bools.{eqb-turn, and-false, and-true, and-four}
 
 -- ---- fields one by one
 
@@ -42,7 +43,7 @@ beside : {a c r t : Bool} {us vs us′ vs′ : List ℕ} → Comes a us vs r →
 beside {a} {c} {r} {t} {us} {vs} {us′} {vs′} e f =
     record {
       long = length-append us us′ ∙ ap₂ _+_ (e .long) (f .long) ∙ sym (length-append vs vs′);
-      same = ap (λ (b : Bool). (a && c) && b) (same-append us us′ vs vs′ (e .long)) ∙ interchange a c (sameOctets us vs) (sameOctets us′ vs′) ∙ (λ i. e .same i && f .same i);
+      same = ap (λ (b : Bool). (a && c) && b) (same-append us us′ vs vs′ (e .long)) ∙ and-four a c (sameOctets us vs) (sameOctets us′ vs′) ∙ (λ i. e .same i && f .same i);
     }
 
 no-field : Comes true [] [] true

@@ -12,7 +12,7 @@ use Rattle.rules.specs.Model.{Settings}
 use Rattle.rules.specs.Layout.{families, tunnelRead}
 use Rattle.rules.specs.Sound.{inPool, unitFamilies, tunnelTests, tunnelAllowed}
 use Rattle.records.specs.Kept.{hasIpv6, familiesTest, tunnelTest}
-use Rattle.records.proofs.Cells.{and-false, and-assoc, flag-bit}
+use Rattle.octets.proofs.Bools.{and-false, flag-bit, and-assoc}
 
 families-law : (f : ℕ) (v6 : Bool)
     → (((bit 0 f || bit 1 f) && ((not (bit 1 f) || v6) && true)) && eqb (flag (bit 0 f) + 2 * flag (bit 1 f)) f) ≡ familiesTest f v6

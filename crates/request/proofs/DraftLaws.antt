@@ -1,7 +1,6 @@
 -- What was read so far, with one thing more. Assumes nothing.
 use mathlib.Core.Path.{_≡_, refl, sym, ap, ap₂, subst, _∙_}
 use Prim.Native.Nat.{ℕ, zero, suc, _+_, _-_, _*_, _≤_, _<_}
-use native.Mathlib.Nat.{zero-add, suc-add}
 use native.Mathlib.Numerals.{add-one}
 use native.Mathlib.Omega.{arith}
 use mathlib.Core.Bool.{Bool, true, false, not, _||_}
@@ -15,6 +14,7 @@ use Rattle.octets.specs.Choice.{pick, consOption, isSome, isNil}
 use Rattle.octets.specs.Octets.{put, slices}
 use Rattle.octets.specs.Lists.{member, any, keep, collect}
 use Rattle.octets.proofs.ListLaws.{collect-append, map-append}
+use Rattle.octets.proofs.Put.{drop-take}
 use Rattle.rules.specs.Reading as rules
 use Rattle.rules.specs.Reading.{Item, updatesEndpoint, Reading, done, NewPdr, withItem, withNode, pdrIn, createsAny}
 use Rattle.plan.specs.Rows.{rowWidth}
@@ -82,12 +82,6 @@ creates-more is i = ap (λ (l : List NewPdr). not (isNil l)) (collect-append pdr
     go (x ∷ l) o = refl
 
 -- ---- a row written behind n others
-
-drop-take : (m k : ℕ) (xs : List ℕ) → drop m (take (m + k) xs) ≡ take k (drop m xs)
-drop-take zero k xs = ap (λ (i : ℕ). take i xs) (zero-add k)
-drop-take (suc m) zero [] = rw suc-add
-drop-take (suc m) (suc k) [] = rw suc-add
-drop-take (suc m) k (x ∷ xs) = rw suc-add (drop-take m k xs)
 
 -- what stands before and behind a place one row further on
 module _ (k : ℕ) (row words : List ℕ) (fits : rowWidth + k ≤ length words) where

@@ -11,6 +11,7 @@ use lib.Dec.{eqb}
 use Rattle.octets.specs.Choice.{pick}
 use Rattle.octets.specs.Octets.{slices}
 use Rattle.octets.specs.Lists.{any, keep, collect}
+use Rattle.octets.proofs.Put.{part-from}
 use Rattle.rules.specs.Message.{bodyPlace, elements, headerLength, body, kindOf, frameFault, establishment}
 use Rattle.rules.specs.Reading as rules
 use Rattle.rules.specs.Reading.{Reading, faulty, done, andThen, Request, aloneIn, emptyDraft, elementsRead, finished, sessionRead, topRead, read}
@@ -18,7 +19,6 @@ use Rattle.laws.proofs.CsidLaws.{only-clear}
 use Rattle.plan.specs.Rows.{rowsOf, tagged, rowCsid, isNullRow}
 use Rattle.rules.specs.Types as ie
 use Rattle.rules.specs.Causes as why
-use Rattle.frame.proofs.Walk.{part-from}
 use Rattle.frame.specs.Framed.{faultIn}
 use Rattle.frame.specs.declared.Framing.{Framing}
 use Rattle.frame.specs.declared.Framing.the-variants as framing

@@ -12,6 +12,7 @@ use borrow.Author.Tests.{ne-eqb}
 use Rattle.octets.specs.Choice.{pick, valueOr}
 use Rattle.octets.specs.Octets.{slices}
 use Rattle.octets.specs.Lists.{member, any, keep, collect}
+use Rattle.octets.proofs.Put.{part-from}
 use Rattle.rules.specs.Elements.{causeOf, missing}
 use Rattle.rules.specs.Message.{bodyPlace, Element, elements, establishment}
 use Rattle.rules.specs.Reading as rules
@@ -20,7 +21,7 @@ use Rattle.rules.specs.Types as ie
 use Rattle.rules.specs.Causes as why
 use Rattle.plan.specs.Rows.{rowWidth}
 use Rattle.laws.proofs.WeightLaws.{Light, light-none, light-next, light-room, light-end}
-use Rattle.frame.proofs.Walk.{part-from, value-places}
+use Rattle.frame.proofs.Walk.{value-places}
 use Rattle.elements.proofs.Front.{Front, behind}
 use Rattle.reading.specs.Verdicts.{Outcome, stopped, numbered}
 use Rattle.reading.proofs.MemberLaws.{stops}

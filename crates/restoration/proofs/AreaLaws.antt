@@ -1,8 +1,7 @@
 -- What holds in the walk over an area's records: the elements of those passed stand in the space, and those left are still to be written.
 -- Assumes nothing.
 use mathlib.Core.Path.{_≡_, refl, sym, ap, _∙_, subst}
-use Prim.Native.Nat.{ℕ, zero, suc, _+_, _-_, _≤_, _<_}
-use native.Mathlib.Nat.{not-suc-le-zero}
+use Prim.Native.Nat.{ℕ, _+_, _-_, _≤_, _<_}
 use native.Mathlib.Omega.{arith}
 use mathlib.Core.List.{List, [], _∷_, _++_, append-assoc, append-nil}
 use lib.Dec.{T}
@@ -11,16 +10,12 @@ use lib.Seq.{take-all}
 use Rattle.octets.specs.Octets.{slices, concatMap}
 use Rattle.octets.specs.Lists.{all}
 use Rattle.octets.proofs.Tests.{all-head, all-tail}
+use Rattle.octets.proofs.Numbers.{slices-next}
 use Rattle.rules.specs.Model.{Settings}
 use Rattle.writing.specs.Placed.{Placed}
 use Rattle.writing.proofs.PlacedLaws.{placed-none, placed-then}
 use Rattle.restoration.specs.Records.{recordWidth, recordElement, recordFits}
 use Rattle.restoration.proofs.KindLaws.{fits-wide}
-
-pub slices-first : (w n : ℕ) (xs : List ℕ) → 0 < n → slices w n xs ≡ take w xs ∷ slices w (n - 1) (drop w xs)
-unfolding slices
-slices-first w zero xs h = absurd (not-suc-le-zero h)
-slices-first w (suc n) xs h = let e : suc n - 1 ≡ n = omega arith in rw e
 
 pub record Walk (k w : ℕ) (s : Settings) (records : List (List ℕ)) (at : ℕ) (out₀ rest : List ℕ) (left next : ℕ) (out : List ℕ) : Type 0 where
   pub done : List ℕ
@@ -56,10 +51,10 @@ module _ {k w : ℕ} {s : Settings} {at : ℕ} {out₀ : List ℕ} {records : Li
 
     first-split : concatMap (recordElement k s) (slices w left rest) ≡ first ++ later
     unfolding concatMap
-    first-split = rw (slices-first w left rest more)
+    first-split = rw (slices-next w left rest more)
 
     fits-all : T (all (recordFits k) (take w rest ∷ slices w (left - 1) (drop w rest)))
-    fits-all = subst (λ (l : List (List ℕ)). T (all (recordFits k) l)) (slices-first w left rest more) (walk .fits)
+    fits-all = subst (λ (l : List (List ℕ)). T (all (recordFits k) l)) (slices-next w left rest more) (walk .fits)
 
     pub walk-fits : T (recordFits k (take w rest))
     walk-fits = all-head (recordFits k) (take w rest) (slices w (left - 1) (drop w rest)) fits-all

@@ -1,32 +1,39 @@
 -- What the writers of records leave: for each, from what its calls leave. Assumes nothing.
 use mathlib.Core.Path.{_≡_, refl, sym, ap, ap₂, _∙_}
-use Prim.Native.Nat.{ℕ, _+_, _-_, _*_, _≤_, _<_}
+use Prim.Native.Nat.{ℕ, _+_, _-_, _*_, _/_, _≤_, _<_}
 use native.Mathlib.Omega.{arith}
 use mathlib.Core.Bool.{Bool, true, false}
 use mathlib.Core.Option.{Option, some}
-use mathlib.Core.List.{List, [], _∷_, _++_, append-assoc, append-nil}
+use mathlib.Core.List.{List, [], _∷_, _++_, append-nil}
 use borrow.Author.Tests.{eq-eqb, ne-eqb}
 use lib.Dec.{T, eqb}
-use lib.ListN.{length, set, getD, take, drop, length-append}
-use lib.Seq.{drop-cons, take-add, drop-drop, take-take}
+use lib.ListN.{length, getD, take, length-append}
+use lib.Seq.{drop-cons}
 use Rattle.octets.specs.Choice.{pick}
 use Rattle.octets.specs.Octets.{put, be, part, number, octets, concatMap}
-use Rattle.octets.specs.Fields.{fieldsAt}
+use Rattle.octets.specs.Fields.{widthOf, fieldsAt, fieldOctets}
 use Rattle.octets.proofs.Numbers.{length-be}
-use Rattle.octets.proofs.Put.{set-put, length-put, length-part}
-use Rattle.octets.proofs.Digits.{number-one, be-back, part-octets}
+use Rattle.octets.proofs.Put.{length-put, length-part, part-two}
+use Rattle.octets.proofs.FieldLaws.{octet-field, length-fieldOctets}
+use Rattle.octets.proofs.Digits.{be-part, be-one}
 use Rattle.rules.specs.Model.{Settings, endpoint, Pdr, Endpoint}
 use Rattle.rules.specs.Elements.{addressLength, fqcsidOctets}
-use Rattle.rules.specs.Layout.{optionRead, tunnelRead, placeRead, pdrFrom, endpointFrom, addressRead, csidFrom, viewPdr, viewEndpoint, viewCsid, pdrWidth, csidWidth, endpointWidth}
+use Rattle.rules.specs.Layout.{optionRead, tunnelRead, placeRead, pdrFrom, endpointFrom, csidFrom, viewPdr, viewEndpoint, viewCsid, pdrWidth, csidWidth, endpointWidth}
 use Rattle.rules.specs.Reply.{element, unitElement, addressPart}
 use Rattle.rules.specs.Restoration.{placeElement, farElement, pdiContent, pdrContent, pdrElement, endpointContent, endpointElement, recordCsid, csidElement}
 use Rattle.rules.specs.Types as ie
+use Rattle.laws.proofs.LayoutLaws.{csid-address}
+use Rattle.element.specs.declared.fqcsid.FqCsid.{FqCsid}
+use Rattle.element.specs.FqCsid.{addressWidths, csidWidths, fqcsidWidths, fqcsidNumbers}
+use Rattle.element.proofs.FqCsidLaws.{eight-widths}
+use Rattle.element.proofs.FqCsidWriting.{octets-split}
 use Rattle.unit.specs.declared.Settings.{Settings as Unit}
 use Rattle.unit.specs.Meaning.{settingsOf}
 use Rattle.writing.specs.Placed.{Placed}
+use Rattle.restoration.specs.Records.{CsidOf}
 use Rattle.writing.specs.Families.{tunnelIn}
 use Rattle.writing.proofs.ElementSteps.{length-ue}
-use Rattle.writing.proofs.PlacedLaws.{next-put, next-set, length-element, length-headed, placed-none, placed-then, placed-element, placed-group}
+use Rattle.writing.proofs.PlacedLaws.{length-element, placed-none, placed-then, placed-element, placed-group}
 
 -- ---- fields
 
@@ -34,15 +41,8 @@ use Rattle.writing.proofs.PlacedLaws.{next-put, next-set, length-element, lengt
 octet-is : (at : ℕ) (xs : List ℕ) → at < length xs → part at 1 xs ≡ getD xs at 0 ∷ []
 octet-is at xs h = rw (drop-cons xs at 0 h)
 
-pub octet-read : (at : ℕ) (xs : List ℕ) → at < length xs → number (part at 1 xs) ≡ getD xs at 0
-octet-read at xs h = ap number (octet-is at xs h) ∙ number-one (getD xs at 0)
-
 octet-part : (at : ℕ) (xs : List ℕ) → at < length xs → number (part at 1 xs) ∷ [] ≡ part at 1 xs
-octet-part at xs h = ap (λ (x : ℕ). x ∷ []) (octet-read at xs h) ∙ sym (octet-is at xs h)
-
--- a field's number is written back as its octets
-be-part : (at w : ℕ) (xs : List ℕ) → T (octets xs) → at + w ≤ length xs → be w (number (part at w xs)) ≡ part at w xs
-be-part at w xs o h = be-back w (part at w xs) (length-part at w xs h) (part-octets at w xs o)
+octet-part at xs h = ap (λ (x : ℕ). x ∷ []) (octet-field at xs) ∙ sym (octet-is at xs h)
 
 -- what is placed leaves the length
 placed-length : {s s₁ : List ℕ} {at e : ℕ} {xs : List ℕ} → Placed s at xs e s₁ → at + length xs ≤ length s → length s₁ ≡ length s
@@ -92,7 +92,7 @@ module _ (xs : List ℕ) (long : length xs ≡ pdrWidth) where
 
   pub pdr-address : pdr .address ≡ optionRead (getD xs 19 0) (number (part 20 4 xs))
   unfolding viewPdr pdrFrom fieldsAt
-  pdr-address = rw (octet-read 19 xs (omega arith))
+  pdr-address = rw (octet-field 19 xs)
 
   pub length-pdr-address : (address : ℕ) → address ≡ number (part 20 4 xs) → length (addressPart (pdr .address)) ≡ length (addressPart (optionRead (getD xs 19 0) address))
   length-pdr-address address w = rw (pdr-address, ← w)
@@ -108,7 +108,7 @@ module _ (xs : List ℕ) (long : length xs ≡ pdrWidth) where
     place-is : placeElement st (pdr .place) ≡ placeElement st (placeRead (getD xs 12 0) (number (part 13 4 xs)) (getD xs 17 0) (number (part 18 1 xs)))
     unfolding viewPdr pdrFrom fieldsAt
     place-is =
-        ap₂ (λ (k f : ℕ). placeElement st (placeRead k (number (part 13 4 xs)) f (number (part 18 1 xs)))) (octet-read 12 xs (omega arith)) (octet-read 17 xs (omega arith))
+        ap₂ (λ (k f : ℕ). placeElement st (placeRead k (number (part 13 4 xs)) f (number (part 18 1 xs)))) (octet-field 12 xs) (octet-field 17 xs)
 
     pub place-tunnel : getD xs 12 0 ≡ 1 → placeElement st (pdr .place) ≡ unitElement st (tunnelIn (number (part 13 4 xs)) (getD xs 17 0))
     unfolding placeElement placeRead tunnelRead tunnelIn
@@ -143,7 +143,7 @@ module _ (xs : List ℕ) (long : length xs ≡ pdrWidth) where
       pub pdi-steps : (address : ℕ) {m n e : ℕ} {out₁ out₂ out₃ out₄ : List ℕ} → at + length (element ie.pdi (pdiContent st pdr)) ≤ length out
           → Placed out (at + 4) (element ie.sourceInterface (part 11 1 xs)) m out₁ → Placed out₁ m (placeElement st (pdr .place)) n out₂
           → address ≡ number (part 20 4 xs) → Placed out₂ n (addressPart (optionRead (getD xs 19 0) address)) e out₃
-          → out₄ ≡ put at (be 2 2 ++ be 2 (e - (at + 4))) out₃ → Placed out at (element ie.pdi (pdiContent st pdr)) e out₄
+          → out₄ ≡ put at (be 2 ie.pdi ++ be 2 (e - (at + 4))) out₃ → Placed out at (element ie.pdi (pdiContent st pdr)) e out₄
       pdi-steps address {m} {n} {e} {out₁} {out₂} {out₃} h p q w v r =
           let l = length-pdi st pdr in
           let k : length (element ie.sourceInterface (part 11 1 xs)) ≡ 5 = length-element ie.sourceInterface (part 11 1 xs) ∙ ap (λ (n : ℕ). 4 + n) (length-part 11 1 xs (omega arith)) in
@@ -152,13 +152,13 @@ module _ (xs : List ℕ) (long : length xs ≡ pdrWidth) where
           let v′ : Placed out₂ n (addressPart (pdr .address)) e out₃ = rw (pdr-address, ← w) v in
           let both = placed-then q v′ (omega arith) in
           let all : Placed out (at + 4) (pdiContent st pdr) e out₃ = rw pdi-is (placed-then p both (omega arith)) in
-          placed-group 2 at (at + 4) (pdiContent st pdr) out refl (omega arith) all r
+          placed-group ie.pdi at (at + 4) (pdiContent st pdr) out refl (omega arith) all r
 
       pub pdr-steps : {a b c e : ℕ} {out₁ out₂ out₃ out₄ out₅ : List ℕ} → T (octets xs) → at + length (pdrElement st pdr) ≤ length out
           → Placed out (at + 4) (element ie.pdrId (take 2 xs)) a out₁ → Placed out₁ a (element ie.precedence (part 2 4 xs)) b out₂
           → Placed out₂ b (element ie.pdi (pdiContent st pdr)) c out₃ → Placed out₃ c (farElement (pdr .far)) e out₄
           → length out₁ ≡ length out → length out₂ ≡ length out
-          → out₅ ≡ put at (be 2 1 ++ be 2 (e - (at + 4))) out₄ → Placed out at (pdrElement st pdr) e out₅
+          → out₅ ≡ put at (be 2 ie.createPdr ++ be 2 (e - (at + 4))) out₄ → Placed out at (pdrElement st pdr) e out₅
       unfolding pdrElement pdrContent viewPdr pdrFrom fieldsAt
       pdr-steps {a} {b} {c} {e} {out₁} {out₂} {out₃} {out₄} o h p q r u same₁ same₂ v =
           let l = length-pdr st pdr in
@@ -172,16 +172,16 @@ module _ (xs : List ℕ) (long : length xs ≡ pdrWidth) where
           let later = placed-then q last (omega arith) in
           let all = placed-then p later (omega arith) in
           rw (be-part 0 2 xs o (omega arith), be-part 2 4 xs o (omega arith))
-          (placed-group 1 at (at + 4) (element ie.pdrId (take 2 xs) ++ (element ie.precedence (part 2 4 xs) ++ (element ie.pdi (pdiContent st pdr) ++ farElement (pdr .far)))) out refl (omega arith) all v)
+          (placed-group ie.createPdr at (at + 4) (element ie.pdrId (take 2 xs) ++ (element ie.precedence (part 2 4 xs) ++ (element ie.pdi (pdiContent st pdr) ++ farElement (pdr .far)))) out refl (omega arith) all v)
 
   module _ (at : ℕ) (out : List ℕ) where
     pub far-none : getD xs 6 0 ≡ 0 → farElement (pdr .far) ≡ []
     unfolding farElement viewPdr pdrFrom fieldsAt optionRead
-    far-none z = rw (octet-read 6 xs (omega arith), eq-eqb (getD xs 6 0) 0 z)
+    far-none z = rw (octet-field 6 xs, eq-eqb (getD xs 6 0) 0 z)
 
     pub far-some : T (octets xs) → (getD xs 6 0 ≡ 0 → ⊥) → farElement (pdr .far) ≡ element ie.farId (part 7 4 xs)
     unfolding farElement viewPdr pdrFrom fieldsAt optionRead
-    far-some o z = rw (octet-read 6 xs (omega arith), ne-eqb (getD xs 6 0) 0 z) (ap (element ie.farId) (be-part 7 4 xs o (omega arith)))
+    far-some o z = rw (octet-field 6 xs, ne-eqb (getD xs 6 0) 0 z) (ap (element ie.farId) (be-part 7 4 xs o (omega arith)))
 
     pub far-none-steps : getD xs 6 0 ≡ 0 → Placed out at (farElement (pdr .far)) at out
     far-none-steps z = rw (far-none z) (placed-none out at)
@@ -202,11 +202,11 @@ length-endpoint s e =
 module _ (xs : List ℕ) (long : length xs ≡ endpointWidth) (u : Unit) where
   pub endpoint-local : unitElement (settingsOf u) (viewEndpoint xs .local) ≡ unitElement (settingsOf u) (tunnelIn (number (part 1 4 xs)) (getD xs 5 0))
   unfolding viewEndpoint endpointFrom fieldsAt tunnelRead tunnelIn
-  endpoint-local = rw (octet-read 5 xs (omega arith))
+  endpoint-local = rw (octet-field 5 xs)
 
   pub endpoint-address : viewEndpoint xs .address ≡ optionRead (getD xs 6 0) (number (part 7 4 xs))
   unfolding viewEndpoint endpointFrom fieldsAt
-  endpoint-address = rw (octet-read 6 xs (omega arith))
+  endpoint-address = rw (octet-field 6 xs)
 
   pub length-local : (teid : ℕ) → teid ≡ number (part 1 4 xs) → length (unitElement (settingsOf u) (viewEndpoint xs .local)) ≡ length (unitElement (settingsOf u) (tunnelIn teid (getD xs 5 0)))
   length-local teid w = rw (endpoint-local, ← w)
@@ -243,66 +243,81 @@ module _ (xs : List ℕ) (long : length xs ≡ endpointWidth) (u : Unit) where
 
 -- ---- FQ-CSID
 
-pub address-most : (k : ℕ) → addressLength k ≤ 16
+be-none : (n : ℕ) → be 0 n ≡ []
+unfolding be
+be-none n = refl
+
+-- the second number of an address of n octets
+pub low-narrow : (t n : ℕ) → n ≡ addressLength t → n - 8 * (n / 16) ≤ 8
 unfolding addressLength
-address-most k = go (eqb k 1)
+low-narrow t n e = by (eqb t 1) e
   where
-    go : (b : Bool) → pick b 16 4 ≤ 16
-    go true = omega arith
-    go false = omega arith
+    by : (b : Bool) → n ≡ pick b 16 4 → n - 8 * (n / 16) ≤ 8
+    by true e = omega arith
+    by false e = omega arith
 
-pub address-long : (k : ℕ) → k ≡ 1 → (16 ≡ addressLength k) × (16 ≤ 16)
-unfolding addressLength
-address-long k e = (rw (eq-eqb k 1 e), omega arith)
-
-pub address-short : (k : ℕ) → (k ≡ 1 → ⊥) → (4 ≡ addressLength k) × (4 ≤ 16)
-unfolding addressLength
-address-short k e = (rw (ne-eqb k 1 e), omega arith)
+-- the words of one CSID
+one-word : (n : ℕ) → fieldOctets (csidWidths 1) (n ∷ 0 ∷ 0 ∷ 0 ∷ []) ≡ be 2 n
+unfolding csidWidths fieldOctets be
+one-word n = refl
 
 module _ (xs : List ℕ) (long : length xs ≡ csidWidth) (o : T (octets xs)) where
   abbrev width : ℕ
   width = addressLength (getD xs 1 0)
 
-  -- the address as the slot has it
-  csid-address : addressRead (number (part 1 1 xs)) (number (part 2 4 xs)) (number (part 6 12 xs)) ≡ part 2 width xs
-  unfolding addressRead
-  csid-address =
-      rw (octet-read 1 xs (omega arith), be-part 2 4 xs o (omega arith), be-part 6 12 xs o (omega arith))
-      (ap (take width) (ap (λ (l : List ℕ). take 4 (drop 2 xs) ++ take 12 l) (sym (drop-drop 4 2 xs)) ∙ sym (take-add 4 12 (drop 2 xs)))
-      ∙ take-take width 16 (drop 2 xs) (address-most (getD xs 1 0)))
+  csid-value : fqcsidOctets (recordCsid (viewCsid xs)) ≡ (getD xs 1 0 * 16 + 1) ∷ part 2 width xs ++ (part 18 2 xs ++ getD xs 0 0 ∷ [])
+  unfolding recordCsid fqcsidOctets viewCsid csidFrom fieldsAt concatMap
+  csid-value = rw (csid-address xs long o, octet-field 1 xs, octet-field 0 xs, be-part 18 2 xs o (omega arith), append-nil (part 18 2 xs))
 
-  pub csid-value : csidElement (viewCsid xs) ≡ element ie.fqcsid ((getD xs 1 0 * 16 + 1) ∷ part 2 width xs ++ (part 18 2 xs ++ getD xs 0 0 ∷ []))
-  unfolding csidElement recordCsid fqcsidOctets viewCsid csidFrom fieldsAt concatMap
-  csid-value =
-      rw (csid-address, octet-read 1 xs (omega arith), octet-read 0 xs (omega arith), be-part 18 2 xs o (omega arith), append-nil (part 18 2 xs))
+  -- the numbers of an address of n octets
+  halves : (b : Bool) (n high low : ℕ) → n ≡ pick b 16 4 → high ≡ number (part 2 (8 * (n / 16)) xs) → low ≡ number (part (2 + 8 * (n / 16)) (n - 8 * (n / 16)) xs)
+      → fieldOctets (pick b (8 ∷ 8 ∷ []) (0 ∷ 4 ∷ [])) (high ∷ low ∷ []) ≡ part 2 (pick b 16 4) xs
+  unfolding fieldOctets
+  halves true n high low e p q =
+      let p′ : high ≡ number (part 2 8 xs) = rw e at p in
+      let q′ : low ≡ number (part 10 8 xs) = rw e at q in
+      rw (p′, q′, be-part 2 8 xs o (omega arith), be-part 10 8 xs o (omega arith), append-nil (part 10 8 xs)) (part-two 2 8 8 xs)
+  halves false n high low e p q =
+      let q′ : low ≡ number (part 2 4 xs) = rw e at q in
+      rw (q′, be-none high, be-part 2 4 xs o (omega arith), append-nil (part 2 4 xs))
 
-  pub length-csid : length (csidElement (viewCsid xs)) ≡ 8 + width
-  length-csid =
-      let a = part 2 width xs in
-      let b = part 18 2 xs in
-      let n = getD xs 0 0 ∷ [] in
-      let la : length a ≡ width = length-part 2 width xs (omega (arith, address-most (getD xs 1 0))) in
-      let lb : length b ≡ 2 = length-part 18 2 xs (omega arith) in
-      rw csid-value (omega (arith, length-element ie.fqcsid ((getD xs 1 0 * 16 + 1) ∷ a ++ (b ++ n)), length-append a (b ++ n), length-append b n))
+  pub csid-of : (n high low one : ℕ) → getD xs 0 0 < 256 → getD xs 1 0 < 16 → n ≡ width → high ≡ number (part 2 (8 * (n / 16)) xs) → low ≡ number (part (2 + 8 * (n / 16)) (n - 8 * (n / 16)) xs)
+      → one ≡ number (part 18 2 xs)
+      → CsidOf xs (record { «id_type» = getD xs 1 0; count = 1; «address_high» = high; «address_low» = low; «csids_1» = one; «csids_2» = 0; «csids_3» = 0; «csids_4» = 0; «node_type» = getD xs 0 0 })
+  unfolding addressLength addressWidths
+  csid-of n high low one node few e p q r =
+      let v : FqCsid = record { «id_type» = getD xs 1 0; count = 1; «address_high» = high; «address_low» = low; «csids_1» = one; «csids_2» = 0; «csids_3» = 0; «csids_4» = 0; «node_type» = getD xs 0 0 } in
+      let first : 16 * getD xs 1 0 + 1 ≡ getD xs 1 0 * 16 + 1 = omega arith in
+      record {
+        kind = refl;
+        one = refl;
+        octets =
+            octets-split v
+            ∙ rw (first, be-one (getD xs 1 0 * 16 + 1) (omega arith), halves (eqb (getD xs 1 0) 1) n high low e p q, one-word one, r, be-part 18 2 xs o (omega arith), be-one (getD xs 0 0) node)
+            (sym csid-value);
+      }
 
-  pub csid-steps : (at n : ℕ) (out : List ℕ) {out₁ out₂ out₃ : List ℕ} → at + length (csidElement (viewCsid xs)) ≤ length out → n ≡ width
-      → out₁ ≡ put at (be 2 ie.fqcsid ++ be 2 (n + 4)) out → out₂ ≡ put (at + 5) (part 2 (2 + n - 2) xs) (set out₁ (at + 4) (getD xs 1 0 * 16 + 1))
-      → out₃ ≡ put (at + 5 + n) (part 18 2 xs) out₂ → Placed out at (csidElement (viewCsid xs)) (at + 8 + n) (set out₃ (at + 7 + n) (getD xs 0 0))
-  csid-steps at n out {out₁} {out₂} {out₃} h e p q r =
-      let first : ℕ = getD xs 1 0 * 16 + 1 in
-      let a = part 2 n xs in
-      let b = part 18 2 xs in
-      let l = length-csid in
-      let most = address-most (getD xs 1 0) in
-      let la : length a ≡ n = length-part 2 n xs (omega arith) in
-      let lb : length b ≡ 2 = length-part 18 2 xs (omega arith) in
-      let w : 2 + n - 2 ≡ n = omega arith in
-      let long₁ : length out₁ ≡ length out = length-headed at ie.fqcsid (n + 4) out p (omega arith) in
-      let one = next-put (at + 4) (at + 5) (first ∷ []) a out₁ (set-put (at + 4) first out₁ (omega arith)) (rw w at q) (omega arith) (omega arith) in
-      let two = next-put (at + 4) (at + 5 + n) (first ∷ a) b out₁ one r (omega arith) (omega arith) in
-      let m : length (first ∷ a ++ b) ≡ 3 + n = length-append (first ∷ a) b ∙ omega arith in
-      let three = next-set (at + 4) (at + 7 + n) (first ∷ a ++ b) (getD xs 0 0) out₁ two (omega arith) (omega arith) in
-      let whole : List ℕ = first ∷ (a ++ b) ++ getD xs 0 0 ∷ [] in
-      let k : length whole ≡ n + 4 = length-append (first ∷ a ++ b) (getD xs 0 0 ∷ []) ∙ omega arith in
-      rw (csid-value, ← e, ← append-assoc a b (getD xs 0 0 ∷ []))
-      (placed-element at ie.fqcsid (n + 4) out p (omega arith) (at + 4) (at + 8 + n) whole three refl k (omega arith))
+-- the element, from what is written of such an FQ-CSID
+module _ (xs : List ℕ) (v : FqCsid) (of : CsidOf xs v) where
+  abbrev wide : ℕ
+  wide = widthOf (fqcsidWidths (v .«id_type») (v .count))
+
+  length-value : length (fqcsidOctets (recordCsid (viewCsid xs))) ≡ wide
+  length-value =
+      ap length (sym (of .octets))
+      ∙ length-fieldOctets (fqcsidWidths (v .«id_type») (v .count)) (fqcsidNumbers v) (sym (eight-widths (v .«id_type») (v .count)))
+
+  pub csid-room : (at n : ℕ) → at + length (csidElement (viewCsid xs)) ≤ n → at + 4 + wide ≤ n
+  unfolding csidElement
+  csid-room at n h = omega (arith, length-element ie.fqcsid (fqcsidOctets (recordCsid (viewCsid xs))), length-value)
+
+  pub csid-steps : (at e : ℕ) (out : List ℕ) {out₁ out₂ : List ℕ} → at + length (csidElement (viewCsid xs)) ≤ length out → e ≡ at + 4 + wide
+      → out₁ ≡ put (at + 4) (fieldOctets (fqcsidWidths (v .«id_type») (v .count)) (fqcsidNumbers v)) out
+      → out₂ ≡ put at (be 2 ie.fqcsid ++ be 2 (e - (at + 4))) out₁ → Placed out at (csidElement (viewCsid xs)) e out₂
+  unfolding csidElement
+  csid-steps at e out {out₁} h g p q =
+      let x : List ℕ = fqcsidOctets (recordCsid (viewCsid xs)) in
+      let l = length-value in
+      let k = csid-room at (length out) h in
+      let w : out₁ ≡ put (at + 4) x out = rw (of .octets) at p in
+      placed-element ie.fqcsid at (at + 4) (e - (at + 4)) e x out refl (omega arith) (omega arith) (omega arith) w q

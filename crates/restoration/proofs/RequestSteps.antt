@@ -4,14 +4,15 @@ use Prim.Native.Nat.{ℕ, _+_, _-_, _≤_, _<_}
 use native.Mathlib.Nat.{zero-add}
 use native.Mathlib.Omega.{arith}
 use mathlib.Core.Bool.{Bool, true, false, not}
-use mathlib.Core.List.{List, _++_, append-nil}
+use mathlib.Core.List.{List, _++_}
 use borrow.Author.Tests.{lt-ltb, le-ltb, le-leb, lt-leb}
 use lib.Dec.{T}
-use lib.ListN.{length, take, drop, drop-of-length-le}
+use lib.ListN.{length, take, drop}
 use lib.Seq.{take-at}
 use Rattle.octets.specs.Octets.{put, be, part, number}
 use Rattle.octets.proofs.Tests.{of-true, is-true}
 use Rattle.octets.proofs.Numbers.{length-be}
+use Rattle.octets.proofs.Put.{put-whole}
 use Rattle.rules.specs.Limits.{maxRestoration}
 use Rattle.rules.specs.Layout.{viewSettings, viewSession, viewSessions, settingsWidth}
 use Rattle.rules.specs.Sound.{sound}
@@ -23,13 +24,10 @@ use Rattle.writing.proofs.ElementSteps.{placed-message}
 use Rattle.restoration.specs.declared.Answer.{Answer}
 use Rattle.restoration.specs.Records.{content}
 use Rattle.restoration.specs.Answers.{writingOf, Ready}
-use Rattle.restoration.proofs.SoundSlots.{slotAt, request-is, content-room, count-read}
+use Rattle.table.proofs.SoundSlots.{slotAt, count-read}
+use Rattle.restoration.proofs.SoundSlots.{request-is, content-room}
 
--- octets put over a whole list, and octets taken from where they were put
-put-whole : (xs s : List ℕ) → length xs ≡ length s → put 0 xs s ≡ xs
-unfolding put
-put-whole xs s e = ap (λ (l : List ℕ). xs ++ l) (drop-of-length-le s {i = 0 + length xs} (omega arith)) ∙ append-nil xs
-
+-- octets taken from where they were put
 pub take-put : (xs s : List ℕ) → take (length xs) (put 0 xs s) ≡ xs
 unfolding put
 take-put xs s = take-at xs (drop (0 + length xs) s) (length xs) refl

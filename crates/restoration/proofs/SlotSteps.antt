@@ -1,15 +1,13 @@
--- The elements of a session's records, and of the whole request: from what the calls leave. Assumes nothing.
+-- The elements of a session's records, and of the whole request: part-from what the calls leave. Assumes nothing.
 use mathlib.Core.Path.{_≡_, refl, ap, ap₂, _∙_}
 use Prim.Native.Nat.{ℕ, _+_, _-_, _≤_}
 use native.Mathlib.Omega.{arith}
 use mathlib.Core.List.{List, [], _∷_, _++_, map}
 use lib.Dec.{T}
-use lib.ListN.{length, getD, take, drop, length-append, length-drop}
-use lib.Seq.{take-all}
-use Rattle.octets.specs.Octets.{be, part, number, numberAt, octetAt, slices, concatMap}
+use lib.ListN.{length, getD, take, drop, length-append}
+use Rattle.octets.specs.Octets.{part, number, numberAt, octetAt, slices, concatMap}
 use Rattle.octets.specs.Lists.{all}
-use Rattle.octets.specs.Fields.{widthOf}
-use Rattle.octets.proofs.Numbers.{length-be}
+use Rattle.octets.proofs.Put.{part-from}
 use Rattle.rules.specs.Model.{Settings, Session}
 use Rattle.rules.specs.Elements.{fseidOctets}
 use Rattle.rules.specs.Reply.{element}
@@ -17,20 +15,16 @@ use Rattle.rules.specs.Layout.{pdrWidth, endpointWidth, csidWidth, viewArea, vi
 use Rattle.rules.specs.Restoration.{pdrElement, endpointElement, csidElement, recordElements}
 use Rattle.rules.specs.Types as ie
 use Rattle.writing.specs.Placed.{Placed}
-use Rattle.writing.specs.Heads.{fseidFlags}
+use Rattle.element.proofs.FSeidLaws.{length-fseid}
 use Rattle.writing.proofs.PlacedLaws.{length-element, placed-then}
 use Rattle.restoration.specs.Records.{recordWidth, recordElement, recordFits, areaFits, content}
-
--- octets from a place to the end, as a slice has them
-pub from : (at : ℕ) (xs : List ℕ) → take (length xs - at) (drop at xs) ≡ drop at xs
-from at xs = take-all (length xs - at) (drop at xs) (omega (arith, length-drop at xs))
 
 concatMap-map : {A : Type 0} (f : A → List ℕ) (g : List ℕ → A) (xs : List (List ℕ)) → concatMap f (map g xs) ≡ concatMap (λ x. f (g x)) xs
 unfolding concatMap
 concatMap-map f g [] = refl
 concatMap-map f g (x ∷ xs) = ap (λ (l : List ℕ). f (g x) ++ l) (concatMap-map f g xs)
 
--- the elements of n records of a kind from a place on
+-- the elements of n records of a kind part-from a place on
 abbrev pub areaElements : ℕ → Settings → ℕ → List ℕ → List ℕ
 areaElements k s n xs = concatMap (recordElement k s) (slices (recordWidth k) n xs)
 
@@ -54,10 +48,10 @@ module _ (s : Settings) (slot : List ℕ) where
   -- an area as it is lent
   pub area-fits : (k n at : ℕ) → T (areaFits k n at slot) → T (all (recordFits k) (slices (recordWidth k) n (take (length slot - at) (drop at slot))))
   unfolding areaFits
-  area-fits k n at h = rw (from at slot) h
+  area-fits k n at h = rw (part-from at slot) h
 
   pub area-length : (k n at : ℕ) → length (areaElements k s n (take (length slot - at) (drop at slot))) ≡ length (areaElements k s n (drop at slot))
-  area-length k n at = rw (from at slot)
+  area-length k n at = rw (part-from at slot)
 
   pub records-steps : (at : ℕ) (out : List ℕ) {a b e : ℕ} {out₁ out₂ out₃ : List ℕ} → at + length (recordElements s (viewSession slot)) ≤ length out
       → Placed out at (areaElements ie.createPdr s (getD slot pdrCountAt 0) (take (length slot - pdrsAt) (drop pdrsAt slot))) a out₁
@@ -65,9 +59,9 @@ module _ (s : Settings) (slot : List ℕ) where
       → Placed out₂ b (areaElements ie.fqcsid s (getD slot csidCountAt 0) (take (length slot - csidsAt) (drop csidsAt slot))) e out₃
       → length out₁ ≡ length out → Placed out at (recordElements s (viewSession slot)) e out₃
   records-steps at out {a} {b} {e} {out₁} {out₂} {out₃} h p q r l =
-      let p′ = rw (from 11 slot) at p in
-      let q′ = rw (from endpointsAt slot) at q in
-      let r′ = rw (from csidsAt slot) at r in
+      let p′ = rw (part-from 11 slot) at p in
+      let q′ = rw (part-from endpointsAt slot) at q in
+      let r′ = rw (part-from csidsAt slot) at r in
       let n = length-records in
       let m = p′ .ends in
       rw records-are (placed-then p′ (placed-then q′ r′ (omega arith)) (omega arith))
@@ -75,9 +69,7 @@ module _ (s : Settings) (slot : List ℕ) where
 -- ---- the request
 
 pub length-own : (seid : ℕ) (ipv4 ipv6 : List ℕ) → length (element ie.fseid (fseidOctets seid ipv4 ipv6)) ≡ 13 + length ipv4 + length ipv6
-unfolding fseidOctets
-length-own seid ipv4 ipv6 =
-    omega (arith, length-element ie.fseid (fseidFlags ipv4 ipv6 ∷ be 8 seid ++ (ipv4 ++ ipv6)), length-append (be 8 seid) (ipv4 ++ ipv6), length-append ipv4 ipv6, length-be 8 seid)
+length-own seid ipv4 ipv6 = omega (arith, length-element ie.fseid (fseidOctets seid ipv4 ipv6), length-fseid seid ipv4 ipv6)
 
 module _ (s : Settings) (x : Session) (ipv4 ipv6 : List ℕ) where
   abbrev own : List ℕ

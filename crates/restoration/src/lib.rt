@@ -10,23 +10,17 @@ ghost use Rattle.octets.specs.Octets.{slices, concatMap};
 ghost use Rattle.octets.specs.Lists.{all};
 ghost use Rattle.rules.specs.Limits.{maxRestoration};
 ghost use Rattle.rules.specs.Layout.{optionRead, viewSession, viewPdr, viewEndpoint, viewCsid, pdrWidth, csidWidth, endpointWidth};
-ghost use Rattle.rules.specs.Elements.{addressLength};
 ghost use Rattle.rules.specs.Reply.{element, addressPart};
 ghost use Rattle.rules.specs.Restoration.{placeElement, farElement, pdiContent, pdrElement, endpointElement, csidElement, recordElements, restoration};
 ghost use Rattle.rules.specs.Restoring.{addressed, restorationAt, writeInto, writeRestoration};
 ghost use Rattle.rules.specs.Types as ie;
 ghost use Rattle.unit.specs.Meaning.{settingsOf};
 ghost use Rattle.writing.specs.Placed.{Placed};
-ghost use Rattle.restoration.specs.Records.{recordWidth, recordElement, recordFits, SlotFits, content};
+ghost use Rattle.restoration.specs.Records.{recordWidth, recordElement, recordFits, CsidOf, SlotFits, content};
 ghost use Rattle.restoration.specs.Answers.{writingOf, Ready};
+use element::fqcsid::FqCsid;
+use format::types;
 use unit::Settings;
-
-// The kinds of records, by the type of their element.
-pub const PDR: usize = 1;
-
-pub const ENDPOINT: usize = 127;
-
-pub const CSID: usize = 65;
 
 // What a PDR matches on: its F-TEID with the unit's addresses, its endpoint's ID, or nothing.
 fn write_place(u: Settings, pdr: &[u8], out: &mut [u8], at: usize) -> usize
@@ -39,7 +33,7 @@ fn write_place(u: Settings, pdr: &[u8], out: &mut [u8], at: usize) -> usize
     }
     if pdr[format::PLACE] == 2 {
         return writing::write_value(
-            131,
+            types::ENDPOINT_ID,
             &pdr[format::NAMED_ENDPOINT..format::PDR_ADDRESS_THERE],
             out,
             at,
@@ -65,11 +59,16 @@ fn write_pdi(u: Settings, pdr: &[u8], out: &mut [u8], at: usize) -> usize
     ensures { λ r. ⌜ Placed (now (out .entry)) at (element ie.pdi (pdiContent (settingsOf u) (viewPdr (now (pdr .entry))))) r (now (out .exit)) ⌝ }
 {
     let front = at + 4;
-    let source = writing::write_value(20, &pdr[format::SOURCE..format::PLACE], out, front);
+    let source = writing::write_value(
+        types::SOURCE_INTERFACE,
+        &pdr[format::SOURCE..format::PLACE],
+        out,
+        front,
+    );
     let place = write_place(u, pdr, out, source);
     let address = octets::read(pdr, format::PDR_ADDRESS, 4);
     let end = write_address(pdr[format::PDR_ADDRESS_THERE], address, out, place);
-    writing::write_head(2, end - front, out, at);
+    writing::write_head(types::PDI, end - front, out, at);
     end
 }
 
@@ -81,7 +80,7 @@ fn write_far(pdr: &[u8], out: &mut [u8], at: usize) -> usize
     if pdr[format::FAR] == 0 {
         return at;
     }
-    writing::write_value(108, &pdr[format::FAR_ID..format::SOURCE], out, at)
+    writing::write_value(types::FAR_ID, &pdr[format::FAR_ID..format::SOURCE], out, at)
 }
 
 // Create PDR.
@@ -90,11 +89,16 @@ fn write_pdr(u: Settings, pdr: &[u8], out: &mut [u8], at: usize) -> usize
     ensures { λ r. ⌜ Placed (now (out .entry)) at (pdrElement (settingsOf u) (viewPdr (now (pdr .entry)))) r (now (out .exit)) ⌝ }
 {
     let front = at + 4;
-    let id = writing::write_value(56, &pdr[0..format::PRECEDENCE], out, front);
-    let precedence = writing::write_value(29, &pdr[format::PRECEDENCE..format::FAR], out, id);
+    let id = writing::write_value(types::PDR_ID, &pdr[0..format::PRECEDENCE], out, front);
+    let precedence = writing::write_value(
+        types::PRECEDENCE,
+        &pdr[format::PRECEDENCE..format::FAR],
+        out,
+        id,
+    );
     let pdi = write_pdi(u, pdr, out, precedence);
     let end = write_far(pdr, out, pdi);
-    writing::write_head(PDR, end - front, out, at);
+    writing::write_head(types::CREATE_PDR, end - front, out, at);
     end
 }
 
@@ -104,7 +108,7 @@ fn write_endpoint(u: Settings, endpoint: &[u8], out: &mut [u8], at: usize) -> us
     ensures { λ r. ⌜ Placed (now (out .entry)) at (endpointElement (settingsOf u) (viewEndpoint (now (endpoint .entry)))) r (now (out .exit)) ⌝ }
 {
     let front = at + 4;
-    let id = writing::write_value(131, &endpoint[0..1], out, front);
+    let id = writing::write_value(types::ENDPOINT_ID, &endpoint[0..1], out, front);
     let teid = octets::read(endpoint, 1, 4);
     let local = writing::write_fteid(u, teid, endpoint[5] as u64, out, id);
     let address = octets::read(endpoint, format::ENDPOINT_ADDRESS, 4);
@@ -114,63 +118,74 @@ fn write_endpoint(u: Settings, endpoint: &[u8], out: &mut [u8], at: usize) -> us
         out,
         local,
     );
-    writing::write_head(ENDPOINT, end - front, out, at);
+    writing::write_head(types::CREATE_ENDPOINT, end - front, out, at);
     end
 }
 
-// How many octets the address of a Node-ID type has.
-fn address_length(kind: u8) -> usize
-    ensures { λ r. ⌜ (r ≡ addressLength kind) × (r ≤ 16) ⌝ }
+// The FQ-CSID of a record. An address of 16 octets is two numbers of 8, one of 4 the second number.
+fn csid_of(csid: &[u8]) -> FqCsid
+    requires { ⌜ (length (now csid) ≡ csidWidth) × (getD (now csid) 1 0 < 16) ⌝ }
+    ensures { λ r. ⌜ CsidOf (now (csid .entry)) r ⌝ }
 {
-    if kind == 1 {
-        return 16;
+    let id_type = csid[1] as u64;
+    let n = element::fqcsid::address_length(id_type);
+    let half = 8 * (n / 16);
+    let high = octets::read(csid, 2, half);
+    let low = octets::read(csid, 2 + half, n - half);
+    let one = octets::read(csid, 18, 2);
+    FqCsid {
+        id_type: id_type,
+        count: 1,
+        address_high: high,
+        address_low: low,
+        csids_1: one,
+        csids_2: 0,
+        csids_3: 0,
+        csids_4: 0,
+        node_type: csid[0] as u64,
     }
-    4
 }
 
-// FQ-CSID: Node-ID type and one CSID, address, CSID, node type.
+// FQ-CSID.
 fn write_csid(csid: &[u8], out: &mut [u8], at: usize) -> usize
     requires { ⌜ (length (now csid) ≡ csidWidth) × (getD (now csid) 1 0 < 16) × (at + length (csidElement (viewCsid (now csid))) ≤ length (now out)) ⌝ }
     ensures { λ r. ⌜ Placed (now (out .entry)) at (csidElement (viewCsid (now (csid .entry)))) r (now (out .exit)) ⌝ }
 {
-    let n = address_length(csid[1]);
-    writing::write_head(CSID, n + 4, out, at);
-    out[at + 4] = csid[1] * 16 + 1;
-    octets::copy(out, at + 5, &csid[2..2 + n]);
-    octets::copy(out, at + 5 + n, &csid[18..20]);
-    out[at + 7 + n] = csid[0];
-    at + 8 + n
+    let v = csid_of(csid);
+    let end = element::fqcsid::write_at(v, out, at + 4);
+    writing::write_head(types::FQCSID, end - (at + 4), out, at);
+    end
 }
 
 // The width of a kind's records.
-fn record_width(kind: usize) -> usize
+fn record_width(kind: u64) -> usize
     ensures { λ r. ⌜ r ≡ recordWidth kind ⌝ }
 {
-    if kind == PDR {
+    if kind == types::CREATE_PDR {
         return format::PDR;
     }
-    if kind == ENDPOINT {
+    if kind == types::CREATE_ENDPOINT {
         return format::ENDPOINT;
     }
     format::CSID
 }
 
 // A record's element.
-pub fn write_record(u: Settings, kind: usize, slot: &[u8], out: &mut [u8], at: usize) -> usize
+pub fn write_record(u: Settings, kind: u64, slot: &[u8], out: &mut [u8], at: usize) -> usize
     requires { ⌜ T (recordFits kind (now slot)) × (at + length (recordElement kind (settingsOf u) (now slot)) ≤ length (now out)) ⌝ }
     ensures { λ r. ⌜ Placed (now (out .entry)) at (recordElement kind (settingsOf u) (now (slot .entry))) r (now (out .exit)) ⌝ }
 {
-    if kind == PDR {
+    if kind == types::CREATE_PDR {
         return write_pdr(u, slot, out, at);
     }
-    if kind == ENDPOINT {
+    if kind == types::CREATE_ENDPOINT {
         return write_endpoint(u, slot, out, at);
     }
     write_csid(slot, out, at)
 }
 
 // The elements of the first n records of an area.
-fn write_area(u: Settings, kind: usize, area: &[u8], n: usize, out: &mut [u8], at: usize) -> usize
+fn write_area(u: Settings, kind: u64, area: &[u8], n: usize, out: &mut [u8], at: usize) -> usize
     requires { ⌜ T (all (recordFits kind) (slices (recordWidth kind) n (now area))) × (at + length (concatMap (recordElement kind (settingsOf u)) (slices (recordWidth kind) n (now area))) ≤ length (now out)) ⌝ }
     ensures { λ r. ⌜ Placed (now (out .entry)) at (concatMap (recordElement kind (settingsOf u)) (slices (recordWidth kind) n (now (area .entry)))) r (now (out .exit)) ⌝ }
 {
@@ -193,7 +208,7 @@ fn write_records(u: Settings, slot: &[u8], out: &mut [u8], at: usize) -> usize
 {
     let pdrs = write_area(
         u,
-        PDR,
+        types::CREATE_PDR,
         &slot[format::PDRS..],
         slot[format::PDR_COUNT] as usize,
         out,
@@ -201,7 +216,7 @@ fn write_records(u: Settings, slot: &[u8], out: &mut [u8], at: usize) -> usize
     );
     let endpoints = write_area(
         u,
-        ENDPOINT,
+        types::CREATE_ENDPOINT,
         &slot[format::ENDPOINTS..],
         slot[format::ENDPOINT_COUNT] as usize,
         out,
@@ -209,7 +224,7 @@ fn write_records(u: Settings, slot: &[u8], out: &mut [u8], at: usize) -> usize
     );
     write_area(
         u,
-        CSID,
+        types::FQCSID,
         &slot[format::CSIDS..],
         slot[format::CSID_COUNT] as usize,
         out,
@@ -225,7 +240,7 @@ fn write_elements(u: Settings, slot: &[u8], ipv4: &[u8], ipv6: &[u8], out: &mut 
     let seid = octets::read(slot, 0, 8);
     let flags = [1u8; 1];
     let own = writing::write_fseid(seid, ipv4, ipv6, out, 16);
-    let next = writing::write_value(186, &flags, out, own);
+    let next = writing::write_value(types::SESSION_FLAGS, &flags, out, own);
     write_records(u, slot, out, next)
 }
 

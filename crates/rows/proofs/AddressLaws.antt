@@ -1,10 +1,8 @@
 -- Octets of two numbers compared, as their numbers are; and the addresses of a row against the unit's. Assumes nothing.
-use mathlib.Core.Path.{_≡_, refl, sym, ap, ap₂, _∙_}
-use mathlib.Core.Bool.{Bool, true, false, not, _&&_}
+use mathlib.Core.Path.{_≡_, sym, ap, ap₂, _∙_}
+use mathlib.Core.Bool.{true, false, not, _&&_}
 use mathlib.Core.List.{List, [], _∷_, _++_}
 use Prim.Native.Nat.{ℕ, _+_, _-_, _%_, _^_}
-use native.Mathlib.Omega.{arith}
-use lib.ListN.{length}
 use lib.Dec.{T, eqb, eqb→eq, eqb-refl}
 use Rattle.octets.specs.Choice.{isNil}
 use Rattle.octets.specs.Octets.{be, number, sameOctets}
@@ -12,7 +10,7 @@ use Rattle.octets.proofs.Tests.{of-true}
 use Rattle.octets.proofs.Numbers.{length-be, number-be-mod, bytes-be, same-refl, same-eq}
 use Rattle.octets.proofs.Digits.{be-number}
 use Rattle.rules.specs.Stages.{otherAddress}
-use Rattle.lists.proofs.Bools.{both-ways}
+use Rattle.octets.proofs.Bools.{both-ways}
 
 -- only the low octets count
 be-mod : (n a : ℕ) → be n (a % (256 ^ n)) ≡ be n a
@@ -31,18 +29,6 @@ same-be n a b = both-ways (sameOctets (be n a) (be n b)) (eqb (a % (256 ^ n)) (b
     back h =
         let e : be n a ≡ be n b = sym (be-mod n a) ∙ ap (be n) (eqb→eq (a % (256 ^ n)) (b % (256 ^ n)) h) ∙ be-mod n b in
         rw e (of-true (same-refl (be n b)))
-
-pub same-append : (a b c d : List ℕ) → length a ≡ length c → sameOctets (a ++ b) (c ++ d) ≡ (sameOctets a c && sameOctets b d)
-unfolding sameOctets
-same-append [] b [] d h = refl
-same-append [] b (y ∷ c) d h = absurd (omega arith)
-same-append (x ∷ a) b [] d h = absurd (omega arith)
-same-append (x ∷ a) b (y ∷ c) d h = first (eqb x y) (same-append a b c d (omega arith))
-  where
-    first : (t : Bool) → sameOctets (a ++ b) (c ++ d) ≡ (sameOctets a c && sameOctets b d)
-        → (t && sameOctets (a ++ b) (c ++ d)) ≡ ((t && sameOctets a c) && sameOctets b d)
-    first true e = e
-    first false e = refl
 
 -- ---- addresses
 

@@ -7,7 +7,7 @@ use Prim.Native.Nat.{ℕ}
 use lib.Dec.{eqb}
 use Rattle.octets.specs.Choice.{pick, consOption}
 use Rattle.octets.specs.Lists.{member, anyIn, allIn, hasRepeat, any, all, allPairs, keep, collect}
-use Rattle.lists.proofs.Bools.{or-four}
+use Rattle.octets.proofs.Bools.{or-four}
 use Rattle.rows.specs.RowRules.{onSome}
 
 -- ---- some element

@@ -7,7 +7,7 @@ use mathlib.Core.List.{List, [], _∷_, _++_}
 use Rattle.octets.specs.Choice.{pick, consOption}
 use Rattle.octets.specs.Lists.{any, keep, collect}
 use Rattle.rows.proofs.ListLaws.{anyPair}
-use Rattle.lists.proofs.Bools.{or-swap, or-four}
+use Rattle.octets.proofs.Bools.{or-swap, or-four}
 
 pub data Merge {A : Type 0} : List A → List A → List A → Type 0 where
   empty : Merge [] [] []

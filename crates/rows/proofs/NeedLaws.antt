@@ -18,12 +18,13 @@ use Rattle.rules.specs.Grants.{Choice, choices, need, needFrom, isFresh, noted,
 use Rattle.plan.specs.Rows.{rowWidth, hasTag, tagged, rowsOf, rowPdr, rowEndpoint, requestIn}
 use Rattle.rules.specs.Types as ie
 use Rattle.rows.specs.RowRules.{onSome, rowChoice, rowChooseId, choiceId, sharesChoice}
-use Rattle.lists.proofs.RowLaws.{rows-more, rows-none}
+use Rattle.lists.proofs.RowLaws.{rows-none}
 use Rattle.lists.proofs.Loops.{left-part}
 use Rattle.rows.proofs.ListLaws.{any-ext, any-collect}
 use Rattle.rows.proofs.MergeLaws.{Merge, empty, left, right, any-middle, any-merge, merged}
 use Rattle.rows.proofs.PairLaws.{same-none, tags-apart}
-use Rattle.lists.proofs.Bools.{eqb-turn, or-swap}
+use Rattle.octets.proofs.Bools.{eqb-turn, or-swap}
+use Rattle.octets.proofs.Numbers.{slices-next}
 
 -- a later CHOOSE has the CHOOSE ID
 abbrev shared : Option ℕ → List Choice → Bool
@@ -184,7 +185,7 @@ need-first : (s : List ℕ) (n : ℕ) → 0 < n
     ≡ flag (isSome (rowChoice (take rowWidth s)) && not (any (sharesChoice (take rowWidth s)) (rowsOf (n - 1) (take (length s - rowWidth) (drop rowWidth s)))))
     + needRows (rowsOf (n - 1) (take (length s - rowWidth) (drop rowWidth s)))
 unfolding needRows
-need-first s n h = rw (rows-more rowWidth n s h, left-part s rowWidth)
+need-first s n h = rw (slices-next rowWidth n s h, left-part s rowWidth)
 
 module _ (s : List ℕ) (n : ℕ) (h : 0 < n) where
   pub need-other : isSome (rowChoice (take rowWidth s)) ≡ false → needRows (rowsOf (n - 1) (take (length s - rowWidth) (drop rowWidth s))) ≡ needRows (rowsOf n s)

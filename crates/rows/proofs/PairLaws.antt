@@ -3,7 +3,7 @@ use mathlib.Core.Path.{_≡_, refl, sym, ap, ap₂, _∙_}
 use mathlib.Core.Bool.{Bool, true, false, not, _&&_, _||_, false≢true, or-false}
 use mathlib.Core.Option.{Option, none, some}
 use mathlib.Core.List.{List}
-use Prim.Native.Nat.{ℕ, zero, suc, _+_, _-_, _*_, _/_, _%_, _^_, _<_}
+use Prim.Native.Nat.{ℕ, _+_, _-_, _*_, _/_, _%_, _^_, _<_}
 use native.Mathlib.Omega.{arith}
 use native.Mathlib.Nat.{mod-lt, zero-lt-suc}
 use lib.Dec.{T, eqb, eqb→eq, eqb-refl}
@@ -22,18 +22,9 @@ use Rattle.plan.specs.Words as its
 use Rattle.rows.specs.RowRules.{hasFteid, rowHolding, rowChoice, rowChooseId, choiceId, alike, repeats, sameId, otherChoice, holdsApart, otherHold, disagree, sharesChoice}
 use Rattle.rows.proofs.FteidLaws.{v4-row, v6-row, chooses-some, choose-id-row, holding-row, holdOf}
 use Rattle.rows.proofs.RowTests.{tag-yes, tag-no}
-use Rattle.lists.proofs.Bools.{both-ways}
+use Rattle.octets.proofs.Bools.{both-ways, same-bit}
 
 -- ---- families and source interface
-
-same-bit : (x y : ℕ) → x < 2 → y < 2 → sameBool (eqb x 1) (eqb y 1) ≡ eqb x y
-same-bit zero zero h g = refl
-same-bit zero (suc zero) h g = refl
-same-bit (suc zero) zero h g = refl
-same-bit (suc zero) (suc zero) h g = refl
-same-bit zero (suc (suc y)) h g = absurd (omega arith)
-same-bit (suc zero) (suc (suc y)) h g = absurd (omega arith)
-same-bit (suc (suc x)) y h g = absurd (omega arith)
 
 same-bits : (k m n : ℕ) → sameBool (bit k m) (bit k n) ≡ eqb (m / (2 ^ k) % 2) (n / (2 ^ k) % 2)
 unfolding bit

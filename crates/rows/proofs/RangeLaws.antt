@@ -9,7 +9,7 @@ use borrow.Author.Tests.{le-leb, lt-leb, not-true, not-false}
 use Rattle.octets.proofs.Tests.{of-true, and-left, and-right}
 use Rattle.pool.specs.Map.{marked}
 use Rattle.rows.specs.RowRules.{inRange}
-use Rattle.lists.proofs.Bools.{both-ways}
+use Rattle.octets.proofs.Bools.{both-ways}
 
 module _ (first size n : ℕ) where
   pub range-below : n < first → not (inRange first size n) ≡ true

@@ -17,7 +17,7 @@ use Rattle.rows.specs.RowRules.{onSome, creates, hasFteid, ofFteid, ofUe
 use Rattle.rows.proofs.ListLaws.{any-ext, any-or, any-append, any-keep, any-map, any-collect}
 use Rattle.rows.proofs.UeLaws.{either}
 use Rattle.rows.proofs.WalkLaws.{isNamed, member-column}
-use Rattle.lists.proofs.Bools.{eqb-turn}
+use Rattle.octets.proofs.Bools.{eqb-turn}
 
 -- ---- F-TEIDs
 

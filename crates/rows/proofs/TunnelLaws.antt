@@ -8,7 +8,7 @@ use native.Mathlib.Nat.{mod-eq-of-lt}
 use lib.Dec.{eqb}
 use Rattle.octets.specs.Choice.{isSome, isNil, sameBool}
 use Rattle.octets.specs.Octets.{be, bit, sameOctets}
-use Rattle.octets.proofs.Numbers.{length-be}
+use Rattle.octets.proofs.Numbers.{length-be, same-append}
 use Rattle.rules.specs.Model.{Settings, Holding}
 use Rattle.rules.specs.Sound.{inPool, unitFamilies}
 use Rattle.rules.specs.Stages.{wrongAllocation, lacksFamily, strange, otherAddress}
@@ -18,7 +18,7 @@ use Rattle.pool.specs.Map.{marked}
 use Rattle.unit.specs.declared.Settings.{Settings as Unit}
 use Rattle.unit.specs.Meaning.{settingsOf}
 use Rattle.rows.specs.RowRules.{hasFteid, ofFteid, rowHolding, rowIpv4, rowIpv6, restores, heldIn, inRange}
-use Rattle.rows.proofs.AddressLaws.{other-none, other-four, same-be, same-append}
+use Rattle.rows.proofs.AddressLaws.{other-none, other-four, same-be}
 use Rattle.rows.proofs.FteidLaws.{chooses-row, v6-row, given-row, row-is, fteidBy, holding-row, restores-row}
 use Rattle.rows.proofs.RowTests.{of-none, of-some}
 

@@ -11,8 +11,9 @@ use lib.Seq.{length-take-le}
 use Rattle.octets.specs.Choice.{pick}
 use Rattle.octets.specs.Octets.{slices}
 use Rattle.octets.specs.Lists.{member, any, keep}
+use Rattle.octets.proofs.Numbers.{slices-next}
 use Rattle.lists.specs.Rows.{column}
-use Rattle.lists.proofs.RowLaws.{rows-more, rows-none, column-nil, column-cons}
+use Rattle.lists.proofs.RowLaws.{rows-none, column-nil, column-cons}
 use Rattle.lists.proofs.Loops.{left-part, width-more}
 use Rattle.lists.proofs.Questions.{member-nil, member-cons}
 use Rattle.plan.specs.Rows.{rowWidth, word, hasTag, tagged, rowsOf}
@@ -29,7 +30,7 @@ module _ (p : List ℕ → Bool) (w : ℕ) where
 
   any-first : (s : List ℕ) (left : ℕ) → 0 < left → any p (slices w left s) ≡ (p (take w s) || any p (slices w (left - 1) (drop w s)))
   unfolding any
-  any-first s left h = rw (rows-more w left s h)
+  any-first s left h = rw (slices-next w left s h)
 
   pub any-hit : (s : List ℕ) (left : ℕ) → 0 < left → p (take w s) ≡ true → any p (slices w left s) ≡ true
   any-hit s left h e = any-first s left h ∙ rw e
@@ -65,7 +66,7 @@ tagged-none tag s left h =
 tagged-first : (tag : ℕ) (s : List ℕ) (left : ℕ) → 0 < left
     → length (tagged tag (rowsOf left s)) ≡ pick (hasTag tag (take rowWidth s)) 1 0 + length (tagged tag (rowsOf (left - 1) (drop rowWidth s)))
 unfolding tagged keep
-tagged-first tag s left h = rw (rows-more rowWidth left s h) (one (hasTag tag (take rowWidth s)))
+tagged-first tag s left h = rw (slices-next rowWidth left s h) (one (hasTag tag (take rowWidth s)))
   where
     rest : List (List ℕ)
     rest = keep (hasTag tag) (rowsOf (left - 1) (drop rowWidth s))

@@ -11,11 +11,6 @@ ghost use Rattle.plan.specs.Rows.{rowWidth};
 ghost use Rattle.unit.specs.Meaning.{settingsOf};
 ghost use Rattle.rows.specs.RowRules.{creates, ofAddress, ofUeKind, takesAddress, addressIn};
 
-// What word 18 says of an address, and of a CHOOSE.
-const GIVEN: u64 = 1;
-
-const CHOOSE: u64 = 2;
-
 // Does the row create a record?
 fn creates(row: &[u64]) -> bool
     requires { ⌜ length (now row) ≡ rowWidth ⌝ }
@@ -36,9 +31,9 @@ pub fn is_kind(row: &[u64], choose: bool) -> bool
         return false;
     }
     if choose {
-        return row[words::UE_KIND] == CHOOSE;
+        return row[words::UE_KIND] == words::UE_CHOOSE;
     }
-    CHOOSE < row[words::UE_KIND]
+    words::UE_CHOOSE < row[words::UE_KIND]
 }
 
 // Cause 73: an address of the pool outside restoration, or a CHOOSE inside it.
@@ -49,10 +44,10 @@ pub fn wrong(row: &[u64], u: Settings, restoring: bool) -> bool
     if !creates(row) {
         return false;
     }
-    if row[words::UE_KIND] == CHOOSE {
+    if row[words::UE_KIND] == words::UE_CHOOSE {
         return restoring;
     }
-    if row[words::UE_KIND] != GIVEN {
+    if row[words::UE_KIND] != words::UE_GIVEN {
         return false;
     }
     if restoring {
@@ -69,7 +64,7 @@ pub fn is_held(row: &[u64], u: Settings, taken: &[u64]) -> bool
     if !creates(row) {
         return false;
     }
-    if row[words::UE_KIND] != GIVEN {
+    if row[words::UE_KIND] != words::UE_GIVEN {
         return false;
     }
     range::is_taken(row[words::UE_ADDRESS], u.first_address, u.addresses, taken)

@@ -13,7 +13,7 @@
 -- its octets, its view and its width follow.
 --
 -- Assumes nothing.
-use Prim.Native.Nat.{ℕ, _+_, _*_}
+use Prim.Native.Nat.{ℕ, _+_, _-_, _*_}
 use mathlib.Core.Bool.{not}
 use mathlib.Core.Option.{Option, none, some}
 use mathlib.Core.List.{List, [], _∷_, _++_, map}
@@ -130,6 +130,10 @@ settingsWidths = 4 ∷ 1 ∷ 16 ∷ 4 ∷ 4 ∷ 4 ∷ 4 ∷ 2 ∷ []
 abbrev pub settingsWidth : ℕ
 settingsWidth = widthOf settingsWidths
 
+-- the session limit is the last of them
+abbrev pub limitAt : ℕ
+limitAt = settingsWidth - 2
+
 -- the settings, and the number of sessions after them
 abbrev pub headWidth : ℕ
 headWidth = settingsWidth + 2
@@ -233,7 +237,7 @@ viewSettings xs =
       size = numberAt 25 4 xs;
       firstAddress = numberAt 29 4 xs;
       addressCount = numberAt 33 4 xs;
-      limit = numberAt 37 2 xs;
+      limit = numberAt limitAt 2 xs;
     }
 
 unfoldable pub viewSessions : List ℕ → Sessions

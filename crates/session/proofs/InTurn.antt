@@ -12,11 +12,8 @@ use Rattle.octets.specs.Choice.{pick, headOr}
 use Rattle.octets.specs.Lists.{member, anyIn, hasRepeat, ascending, all, keep, insertBy, insertAll}
 use Rattle.octets.proofs.Tests.{and-left, all-tail, pick-either, neither-one, no-eqb, ascending-head, ascending-tail}
 use Rattle.octets.proofs.Ordered.{ne-of, insert-length, keep-length}
+use Rattle.octets.proofs.Bools.{not-or}
 use Rattle.slots.proofs.Places.{otherThan}
-
-neither : (a b : Bool) → T (not (a || b)) → T (not a) × T (not b)
-neither true b h = absurd h
-neither false b h = (tt, h)
 
 -- ---- taking out
 
@@ -72,7 +69,7 @@ module _ {A : Type 0} (key : A → ℕ) where
   unfolding member keep
   other-key x [] h = refl
   other-key x (r ∷ rs) h =
-      let n = neither (eqb x (key r)) (member x (map key rs)) h in
+      let n = not-or (eqb x (key r)) (member x (map key rs)) h in
       rw (ne-eqb (key r) x (λ e. ne-of x (key r) (n .0) (sym e))) (ap (λ (l : List A). r ∷ l) (other-key x rs (n .1)))
 
   -- a key that is not there is not there after another was put in
@@ -80,7 +77,7 @@ module _ {A : Type 0} (key : A → ℕ) where
   unfolding member insertBy
   not-put a y [] n h = neither-one (eqb y (key a)) false n tt
   not-put a y (r ∷ rs) n h =
-      let k = neither (eqb y (key r)) (member y (map key rs)) h in
+      let k = not-or (eqb y (key r)) (member y (map key rs)) h in
       pick-either (λ (l : List A). T (not (member y (map key l)))) (leb (key a) (key r)) (a ∷ r ∷ rs) (r ∷ insertBy key a rs)
       (neither-one (eqb y (key a)) (eqb y (key r) || member y (map key rs)) n h)
       (neither-one (eqb y (key r)) (member y (map key (insertBy key a rs))) (k .0) (not-put a y rs n (k .1)))
@@ -89,8 +86,8 @@ module _ {A : Type 0} (key : A → ℕ) where
   unfolding member anyIn
   none-put a [] rs n h = tt
   none-put a (y ∷ ys) rs n h =
-      let k = neither (eqb (key a) y) (member (key a) ys) n in
-      let g = neither (member y (map key rs)) (anyIn ys (map key rs)) h in
+      let k = not-or (eqb (key a) y) (member (key a) ys) n in
+      let g = not-or (member y (map key rs)) (anyIn ys (map key rs)) h in
       neither-one (member y (map key (insertBy key a rs))) (anyIn ys (map key (insertBy key a rs)))
       (not-put a y rs (no-eqb y (key a) (λ e. ne-of (key a) y (k .0) (sym e))) (g .0))
       (none-put a ys rs (k .1) (g .1))
@@ -100,8 +97,8 @@ module _ {A : Type 0} (key : A → ℕ) where
   unfolding putIn insertAll hasRepeat anyIn
   put-in [] rs d h = refl
   put-in (a ∷ as′) rs d h =
-      let k = neither (member (key a) (map key as′)) (hasRepeat (map key as′)) d in
-      let g = neither (member (key a) (map key rs)) (anyIn (map key as′) (map key rs)) h in
+      let k = not-or (member (key a) (map key as′)) (hasRepeat (map key as′)) d in
+      let g = not-or (member (key a) (map key rs)) (anyIn (map key as′) (map key rs)) h in
       ap (λ (l : List A). putIn as′ (insertBy key a l)) (other-key (key a) rs (g .0))
       ∙ put-in as′ (insertBy key a rs) (k .1) (none-put a (map key as′) rs (k .0) (g .1))
 
@@ -127,7 +124,7 @@ none-kept : {A : Type 0} (key : A → ℕ) (q : A → Bool) (y : ℕ) (rs : List
 unfolding member keep
 none-kept key q y [] h = tt
 none-kept {A} key q y (r ∷ rs) h =
-    let n = neither (eqb y (key r)) (member y (map key rs)) h in
+    let n = not-or (eqb y (key r)) (member y (map key rs)) h in
     let ih = none-kept key q y rs (n .1) in
     pick-either (λ (l : List A). T (not (member y (map key l)))) (q r) (r ∷ keep q rs) (keep q rs) (neither-one (eqb y (key r)) (member y (map key (keep q rs))) (n .0) ih) ih
 
@@ -135,5 +132,5 @@ pub none-of-kept : {A : Type 0} (key : A → ℕ) (q : A → Bool) (ys : List �
 unfolding anyIn
 none-of-kept key q [] rs h = tt
 none-of-kept key q (y ∷ ys) rs h =
-    let n = neither (member y (map key rs)) (anyIn ys (map key rs)) h in
+    let n = not-or (member y (map key rs)) (anyIn ys (map key rs)) h in
     neither-one (member y (map key (keep q rs))) (anyIn ys (map key (keep q rs))) (none-kept key q y rs (n .0)) (none-of-kept key q ys rs (n .1))

@@ -6,7 +6,7 @@ use mathlib.Core.Option.{none, some}
 use mathlib.Core.List.{List, [], _∷_, _++_}
 use Prim.Native.Nat.{ℕ, _+_, _*_, _/_, _%_, _<_}
 use native.Mathlib.Omega.{arith}
-use native.Mathlib.Nat.{mod-eq-of-lt, div-one}
+use native.Mathlib.Nat.{div-one}
 use borrow.Author.Tests.{eqb-true, eqb-false}
 use lib.Dec.{eqb}
 use lib.ListN.{take, drop}
@@ -23,11 +23,6 @@ use Rattle.rules.specs.Apply.{tunnelFrom, namedPlace, placeFrom, addressGot, ad
 use Rattle.plan.specs.Rows.{word, present, fteidFrom, rowFteid, rowLocal, ueFrom, rowUe, rowPdr, rowEndpoint, rowAddress}
 use Rattle.plan.specs.Words as its
 use Rattle.session.specs.Records.{ifIs, addressThere, placeKind, pdrValues, pdrRecord, endpointValues, endpointRecord, csidWidths, csidValues, csidRecord}
-
--- a number of one octet
-pub one-octet : (n : ℕ) → n < 256 → be 1 n ≡ n ∷ []
-unfolding be
-one-octet n h = ap (λ (x : ℕ). x ∷ []) (ap (λ (x : ℕ). x % 256) (div-one n) ∙ mod-eq-of-lt h)
 
 -- ---- tunnels
 

@@ -13,6 +13,7 @@ use Rattle.octets.specs.Lists.{all, ascending}
 use Rattle.octets.specs.Fields.{fieldOctets}
 use Rattle.octets.proofs.Tests.{and-left}
 use Rattle.octets.proofs.Numbers.{length-be, number-be, length-padded, length-concatMap}
+use Rattle.octets.proofs.Digits.{be-one}
 use Rattle.rules.specs.Model.{Pdr, Endpoint, Csid, Session, pdrId, endpointId, nodeTypeOf}
 use Rattle.rules.specs.Layout.{area, pdrNumbers, endpointNumbers, csidSlotNumbers, pdrWidth, endpointWidth, csidWidth, pdrOctets, endpointOctets, csidOctets, sessionOctets}
 use Rattle.rules.specs.Limits.{maxPdrs, maxEndpoints, nodeTypes}
@@ -20,7 +21,6 @@ use Rattle.laws.proofs.LayoutLaws.{length-pdr, length-endpoint, length-csid}
 use Rattle.slots.specs.Records.{keyOf}
 use Rattle.areas.proofs.Held.{Held}
 use Rattle.session.specs.Areas.{pdrArea, endpointArea, csidArea}
-use Rattle.session.proofs.RowRecords.{one-octet}
 
 -- ---- what a record has to keep, so that it has the area's width and its key in front
 
@@ -115,15 +115,15 @@ module _ (n : ℕ) (ps : List Pdr) (es : List Endpoint) (cs : List Csid) where
   -- the same octets grouped round each area
   by-pdrs : length ps ≤ 16 → octetsBy n ps es cs ≡ pdrPre ++ (be 1 (length ps) ++ (pdrMid ++ (padded (maxPdrs * pdrWidth) (concatMap pdrOctets ps) ++ pdrPost)))
   unfolding octetsBy
-  by-pdrs h = rw (one-octet (length ps) (omega arith))
+  by-pdrs h = rw (be-one (length ps) (omega arith))
 
   by-endpoints : length es ≤ 8 → octetsBy n ps es cs ≡ endpointPre ++ (be 1 (length es) ++ (endpointMid ++ (padded (maxEndpoints * endpointWidth) (concatMap endpointOctets es) ++ endpointPost)))
   unfolding octetsBy
-  by-endpoints h = rw (one-octet (length es) (omega arith)) (simp append-assoc)
+  by-endpoints h = rw (be-one (length es) (omega arith)) (simp append-assoc)
 
   by-csids : length cs ≤ 6 → octetsBy n ps es cs ≡ csidPre ++ (be 1 (length cs) ++ (csidMid ++ (padded (nodeTypes * csidWidth) (concatMap csidOctets cs) ++ [])))
   unfolding octetsBy
-  by-csids h = rw (one-octet (length cs) (omega arith), append-nil) (simp append-assoc)
+  by-csids h = rw (be-one (length cs) (omega arith), append-nil) (simp append-assoc)
 
 all-true : {A : Type 0} (rs : List A) → T (all (λ r. true) rs)
 unfolding all

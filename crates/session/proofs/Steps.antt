@@ -2,20 +2,20 @@
 -- Assumes nothing.
 use mathlib.Core.Path.{_≡_, refl, sym, ap, _∙_}
 use mathlib.Core.Bool.{Bool, true, false}
-use mathlib.Core.List.{List, [], _∷_, _++_, append-nil}
-use Prim.Native.Nat.{ℕ, zero, suc, _+_, _-_, _*_, _%_, _≤_, _<_}
+use mathlib.Core.List.{List, [], _∷_, _++_}
+use Prim.Native.Nat.{ℕ, _+_, _-_, _*_, _%_, _≤_, _<_}
 use native.Mathlib.Numerals.{add-one}
-use native.Mathlib.Nat.{zero-add, suc-add}
 use native.Mathlib.Omega.{arith}
 use borrow.Author.Tests.{eq-eqb, ne-eqb}
 use lib.Dec.{eqb}
 use lib.ListN.{length, take, drop, getD, drop-of-length-le}
-use lib.Seq.{drop-cons, take-nil, take-take, drop-drop}
-use Rattle.octets.proofs.Put.{length-part, getD-part}
+use lib.Seq.{drop-cons, take-take, drop-drop}
+use Rattle.octets.proofs.Put.{length-part, getD-part, put-whole, drop-take}
 use Rattle.octets.specs.Choice.{pick}
 use Rattle.octets.specs.Octets.{be, part, put, zeros, slices}
 use Rattle.octets.specs.Fields.{widthOf, fieldOctets}
 use Rattle.octets.proofs.FieldLaws.{length-fieldOctets}
+use Rattle.octets.proofs.Numbers.{length-slices}
 use Rattle.plan.specs.Rows.{word, hasTag, rowWidth}
 use Rattle.rules.specs.Types as ie
 use Rattle.rules.specs.Layout.{pdrWidths, endpointWidths, pdrWidth, endpointWidth, csidWidth, pdrsAt, sessionWidth}
@@ -23,7 +23,7 @@ use Rattle.rules.specs.Limits.{maxPdrs}
 use Rattle.plan.specs.Words as its
 use Rattle.slots.specs.declared.Place.{Place}
 use Rattle.slots.specs.declared.Place.the-variants.{Found, Absent}
-use Rattle.slots.proofs.Lookup.{length-slices, getD-slices}
+use Rattle.slots.proofs.Lookup.{getD-slices}
 use Rattle.areas.specs.declared.Area.{Area}
 use Rattle.areas.specs.Counted.{Fits, areaIn, placeIn, replacedIn, clearedIn, withRecord, withoutRecord}
 use Rattle.areas.proofs.Steps.{found-room}
@@ -57,13 +57,8 @@ csid-wide a n e h = rw (e, h)
 
 -- ---- records
 
--- octets put over all there is
-pub put-all : (xs s : List ℕ) → length xs ≡ length s → put 0 xs s ≡ xs
-unfolding put
-put-all xs s e = ap (λ (l : List ℕ). xs ++ l) (drop-of-length-le s {i = 0 + length xs} (omega arith)) ∙ append-nil xs
-
 pub written-whole : (ws vs s out : List ℕ) → length vs ≡ length ws → widthOf ws ≡ length s → out ≡ put 0 (fieldOctets ws vs) s → out ≡ fieldOctets ws vs
-written-whole ws vs s out e w q = q ∙ put-all (fieldOctets ws vs) s (length-fieldOctets ws vs e ∙ w)
+written-whole ws vs s out e w q = q ∙ put-whole (fieldOctets ws vs) s (length-fieldOctets ws vs e ∙ w)
 
 pub pdr-written : (row s out : List ℕ) (there far kind teid families endpoint held address : ℕ) → pdrWidth ≡ length s
     → kind ≡ placeKind row → there ≡ ifIs (word its.hasFarId row) 1 1 → far ≡ ifIs (word its.hasFarId row) 1 (word its.farId row) → teid ≡ ifIs kind 1 (word its.teid row)
@@ -124,11 +119,6 @@ pub far-kept : (row s : List ℕ) → (word its.hasFarId row ≡ 1 → ⊥) → 
 unfolding withFar
 far-kept row s n m = rw (ne-eqb _ _ n, ne-eqb _ _ m)
 
-drop-take : (i n : ℕ) (l : List ℕ) → drop i (take (i + n) l) ≡ take n (drop i l)
-drop-take zero n l = ap (λ (k : ℕ). take k l) (zero-add n)
-drop-take (suc i) n [] = rw (suc-add, take-nil)
-drop-take (suc i) n (x ∷ l) = rw suc-add (drop-take i n l)
-
 -- a part of a part
 pub part-part : (at n i k : ℕ) (s : List ℕ) → i + k ≤ n → part i k (part at n s) ≡ part (at + i) k s
 part-part at n i k s h =
@@ -144,7 +134,7 @@ pub updated-at : (row s fresh rec mid new done : List ℕ) (p end : ℕ) (a : Ar
 unfolding updatedAt updatedRecord areaIn
 updated-at row s fresh rec mid new done p end a long less ea lf ee er em en ed =
     let e : end - (11 + p * pdrWidth) ≡ pdrWidth = omega arith in
-    let whole : rec ≡ part (11 + p * pdrWidth) pdrWidth s = er ∙ rw e (put-all (part (11 + p * pdrWidth) pdrWidth s) fresh (length-part (11 + p * pdrWidth) pdrWidth s (omega arith) ∙ sym lf)) in
+    let whole : rec ≡ part (11 + p * pdrWidth) pdrWidth s = er ∙ rw e (put-whole (part (11 + p * pdrWidth) pdrWidth s) fresh (length-part (11 + p * pdrWidth) pdrWidth s (omega arith) ∙ sym lf)) in
     ed ∙ rw (ea, en, em, whole, ← part-part pdrsAt (maxPdrs * pdrWidth) (p * pdrWidth) pdrWidth s (omega arith))
 
 pub update-place : (row s : List ℕ) (a : Area) (place : Place) (p : ℕ) → a ≡ pdrArea → place ≡ placeIn a (word its.pdrId row) s → place ≡ Found p → p < 16

@@ -13,13 +13,13 @@ use lib.Dec.{T}
 use Rattle.octets.specs.Octets.{zeros, padded, concatMap, slices, sameOctets, allZero}
 use Rattle.octets.specs.Lists.{all, ascending}
 use Rattle.octets.proofs.Tests.{and-left, and-right, both, of-true, all-head, all-tail, all-cons}
-use Rattle.octets.proofs.Numbers.{same-refl, same-eq, length-concatMap}
+use Rattle.octets.proofs.Numbers.{same-refl, same-eq, length-concatMap, length-slices}
+use Rattle.octets.proofs.Put.{drop-take}
 use Rattle.rules.specs.Layout.{area}
 use Rattle.laws.proofs.LayoutLaws.{slices-area}
 use Rattle.slots.specs.Records.{keyOf}
-use Rattle.slots.proofs.Lookup.{length-slices}
 use Rattle.records.specs.Kept.{kept}
-use Rattle.records.proofs.Cells.{same-padded, drop-take}
+use Rattle.records.proofs.Cells.{same-padded}
 use Rattle.sessions.specs.Slot.{areaSound}
 
 -- ---- slices

@@ -16,18 +16,17 @@ use Rattle.octets.specs.Octets.{part, be, number, numberAt, octetAt, slices, sa
 use Rattle.octets.specs.Fields.{fieldsAt}
 use Rattle.octets.specs.Lists.{all, ascending, allPairs}
 use Rattle.octets.proofs.Tests.{each, all-of-each, both, and-left, and-right, of-true}
-use Rattle.octets.proofs.Numbers.{same-refl, same-eq}
+use Rattle.octets.proofs.Numbers.{same-refl, same-eq, length-slices}
 use Rattle.octets.proofs.Digits.{be-back, number-below, part-octets}
 use Rattle.octets.proofs.Put.{length-part, part-of}
+use Rattle.octets.proofs.Bools.{both-ways, and-assoc}
 use Rattle.rules.specs.Limits.{maxPdrs, maxEndpoints, nodeTypes}
 use Rattle.rules.specs.Model.{Settings, Session, pdrId, endpointId, nodeTypeOf, seidOf, sessionHoldings}
 use Rattle.rules.specs.Layout.{area, pdrFrom, endpointFrom, csidFrom, pdrWidth, endpointWidth, csidWidth, pdrOctets, endpointOctets, csidOctets, sessionOctets, viewArea, viewPdr, viewEndpoint, viewCsid, viewSession, pdrCountAt, endpointCountAt, csidCountAt, pdrsAt, endpointsAt, csidsAt, sessionWidth}
 use Rattle.rules.specs.Sound.{pdrAllowed, endpointAllowed, csidAllowed, agree, sessionTests, sessionAllowed}
 use Rattle.laws.proofs.LayoutLaws.{length-area, length-pdr, length-endpoint, length-csid}
 use Rattle.slots.specs.Records.{keyOf}
-use Rattle.slots.proofs.Lookup.{length-slices}
 use Rattle.records.specs.Kept.{kept, pdrSound, endpointSound, csidSound, endpointIds}
-use Rattle.records.proofs.Cells.{same-test, and-assoc}
 use Rattle.sessions.specs.Slot.{pdrArea, endpointArea, csidArea, headSound, slotTests, slotSound, recordsAllowed}
 use Rattle.sessions.proofs.Areas.{slices-take, area-from, area-to}
 
@@ -279,7 +278,7 @@ module _ (xs : List ℕ) (long : length xs ≡ sessionWidth) where
   pub slot-law : (s : Settings) → T (octets xs) → slotSound s xs ≡ kept (recordsAllowed s) sessionOctets viewSession xs
   unfolding kept
   slot-law s o =
-      same-test (slotSound s xs) (recordsAllowed s (viewSession xs) && sameOctets (sessionOctets (viewSession xs)) xs)
+      both-ways (slotSound s xs) (recordsAllowed s (viewSession xs) && sameOctets (sessionOctets (viewSession xs)) xs)
       (λ h.
       let c = counts-tested s h in
       let r = slot-from s o c h in

@@ -13,12 +13,12 @@ use lib.Dec.{leb, ltb}
 use Rattle.rules.specs.Model.{Settings}
 use Rattle.octets.specs.Octets.{part, number, numberAt, octetAt, slices, allZero}
 use Rattle.octets.specs.Lists.{all, ascending}
+use Rattle.octets.proofs.Bools.{and-false, and-true, and-four, and-assoc}
 use Rattle.rules.specs.Layout.{pdrWidth, endpointWidth, csidWidth, pdrCountAt, endpointCountAt, csidCountAt}
 use Rattle.rules.specs.Limits.{maxPdrs, maxEndpoints, nodeTypes}
 use Rattle.slots.specs.Records.{keyOf}
 use Rattle.slots.proofs.Lookup.{keys, key-at}
 use Rattle.records.specs.Kept.{pdrSound, endpointSound, csidSound, endpointIds}
-use Rattle.records.proofs.Cells.{and-true, and-false, and-assoc}
 use Rattle.sessions.specs.Slot.{areaSound, headSound, slotTests, slotSound, pdrArea, endpointArea, csidArea}
 
 -- ---- ascending keys
@@ -87,12 +87,6 @@ unfolding risesFrom ascending
 rises-all [] = refl
 rises-all (x ∷ xs) = rw (le-leb 0 x zero-le) (rises-after x xs)
 
-pairs : (a b c d : Bool) → ((a && b) && (c && d)) ≡ ((a && c) && (b && d))
-pairs true true c d = refl
-pairs true false true d = refl
-pairs true false false d = refl
-pairs false b c d = refl
-
 module _ (p : List ℕ → Bool) (w k : ℕ) (a : List ℕ) (n : ℕ) where
   -- those from place i on pass their test, and their keys rise from b
   abbrev pub soundFrom : ℕ → ℕ → Bool
@@ -121,7 +115,7 @@ module _ (p : List ℕ → Bool) (w k : ℕ) (a : List ℕ) (n : ℕ) where
         let here : List ℕ = part (i * w) w a in
         let left : List (List ℕ) = slices w (n - (i + 1)) (drop ((i + 1) * w) a) in
         ap (λ (l : List (List ℕ)). all p l && risesFrom next (map (keyOf k) l)) (slices-more w a n i h)
-        ∙ pairs (p here) (all p left) (leb next (keyOf k here)) (risesFrom (keyOf k here + 1) (map (keyOf k) left))
+        ∙ and-four (p here) (all p left) (leb next (keyOf k here)) (risesFrom (keyOf k here + 1) (map (keyOf k) left))
 
     pub rows-bad : p (part (i * w) w a) ≡ false → areaSound p w k n a ≡ false
     rows-bad e = area-not (sym (r .rest) ∙ turn ∙ rw e)

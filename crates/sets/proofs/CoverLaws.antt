@@ -1,45 +1,23 @@
 -- What an FQ-CSID covers, octet by octet. Assumes nothing.
-use mathlib.Core.Path.{_≡_, refl, sym, ap, ap₂, _∙_}
+use mathlib.Core.Path.{_≡_, refl, sym, ap, _∙_}
 use Prim.Native.Nat.{ℕ, zero, suc, _+_, _-_, _*_, _/_, _%_, _≤_, _<_}
 use native.Mathlib.Omega.{arith}
 use mathlib.Core.Bool.{Bool, true, false, _&&_, _||_}
 use mathlib.Core.List.{List, [], _∷_, _++_, map}
-use lib.ListN.{length, take, drop, getD, length-drop, length-take}
-use lib.Seq.{take-add, drop-drop, take-take}
+use lib.ListN.{length, take, drop, getD, length-drop}
 use lib.Dec.{T, eqb}
 use borrow.Author.Tests.{eq-eqb, ne-eqb}
-use Rattle.octets.specs.Choice.{pick}
-use Rattle.octets.specs.Octets.{be, number, part, octets, octetAt, sameOctets, slices}
+use Rattle.octets.specs.Octets.{number, part, octets, octetAt, sameOctets, slices}
 use Rattle.octets.specs.Fields.{fieldsAt}
 use Rattle.octets.specs.Lists.{member, any}
-use Rattle.octets.proofs.Put.{length-part}
-use Rattle.octets.proofs.Digits.{be-back, part-octets}
-use Rattle.octets.proofs.FieldLaws.{octet-read}
-use Rattle.rules.specs.Model.{Csid, Session}
-use Rattle.rules.specs.Layout.{addressRead, csidFrom, viewCsid, viewArea, viewSession, csidWidth, csidsAt, csidCountAt, sessionWidth}
+use Rattle.octets.proofs.FieldLaws.{octet-field}
+use Rattle.octets.proofs.Put.{part-from}
+use Rattle.laws.proofs.LayoutLaws.{csid-address}
+use Rattle.rules.specs.Layout.{csidFrom, viewCsid, viewArea, viewSession, csidWidth, csidsAt, csidCountAt, sessionWidth}
 use Rattle.rules.specs.Elements as rules
-use Rattle.rules.specs.Elements.{Fqcsid, addressLength}
+use Rattle.rules.specs.Elements.{addressLength}
 use Rattle.rules.specs.Apply.{covers, coversSession}
-use Rattle.frame.proofs.Walk.{part-from}
-use Rattle.sets.specs.Listed.{addressOctets, csidCount, Sized, listedIn}
-
--- ---- the address's length
-
-address-most : (k : ℕ) → addressLength k ≤ 16
-unfolding addressLength
-address-most k = go (eqb k 1)
-  where
-    go : (b : Bool) → pick b 16 4 ≤ 16
-    go true = omega arith
-    go false = omega arith
-
-pub address-long : (k : ℕ) → k ≡ 1 → (16 ≡ addressLength k) × (16 ≤ 16)
-unfolding addressLength
-address-long k e = (rw (eq-eqb k 1 e), omega arith)
-
-pub address-short : (k : ℕ) → (k ≡ 1 → ⊥) → (4 ≡ addressLength k) × (4 ≤ 16)
-unfolding addressLength
-address-short k e = (rw (ne-eqb k 1 e), omega arith)
+use Rattle.sets.specs.Listed.{addressOctets, csidCount, listedIn}
 
 -- ---- one of the CSIDs
 
@@ -76,21 +54,9 @@ module _ {csid m : ℕ} {cs : List ℕ} {left : ℕ} {rest : List ℕ} (l : Look
 
 -- ---- one of a session's
 
--- a field's number is written back as its octets
-be-part : (at w : ℕ) (xs : List ℕ) → T (octets xs) → at + w ≤ length xs → be w (number (part at w xs)) ≡ part at w xs
-be-part at w xs o h = be-back w (part at w xs) (length-part at w xs h) (part-octets at w xs o)
-
 module _ (v xs : List ℕ) (long : length xs ≡ csidWidth) (o : T (octets xs)) where
   abbrev width : ℕ
   width = addressLength (getD xs 1 0)
-
-  -- the address as the slot has it
-  csid-address : addressRead (number (part 1 1 xs)) (number (part 2 4 xs)) (number (part 6 12 xs)) ≡ part 2 width xs
-  unfolding addressRead
-  csid-address =
-      rw (octet-read 1 xs (omega arith), be-part 2 4 xs o (omega arith), be-part 6 12 xs o (omega arith))
-      (ap (take width) (ap (λ (l : List ℕ). take 4 (drop 2 xs) ++ take 12 l) (sym (drop-drop 4 2 xs)) ∙ sym (take-add 4 12 (drop 2 xs)))
-      ∙ take-take width 16 (drop 2 xs) (address-most (getD xs 1 0)))
 
   abbrev node : ℕ
   node = getD v (1 + addressOctets v + 2 * csidCount v) 0 % 16
@@ -100,7 +66,7 @@ module _ (v xs : List ℕ) (long : length xs ≡ csidWidth) (o : T (octets xs)) 
       ≡ (eqb (getD xs 0 0) node && eqb (getD xs 1 0) (getD v 0 0 / 16) && sameOctets (part 2 width xs) (part 1 (addressOctets v) v)
       && member (number (part 18 2 xs)) (rules.csidsAt (csidCount v) (drop (1 + addressOctets v) v)))
   unfolding covers listedIn viewCsid csidFrom fieldsAt octetAt
-  by-octets = rw (csid-address, octet-read 0 xs (omega arith), octet-read 1 xs (omega arith))
+  by-octets = rw (csid-address xs long o, octet-field 0 xs, octet-field 1 xs)
 
   module _ (a : ℕ) (is : a ≡ addressOctets v) where
     pub other-node : (getD v (1 + a + 2 * csidCount v) 0 % 16 ≡ getD xs 0 0 → ⊥) → false ≡ covers (listedIn v) (viewCsid xs)

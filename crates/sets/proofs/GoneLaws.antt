@@ -14,7 +14,7 @@ use Rattle.octets.specs.Lists.{keep, any, all, ascending}
 use Rattle.octets.proofs.Tests.{all-head, all-tail, ascending-head, ascending-tail}
 use Rattle.rules.specs.Limits.{nodeTypes}
 use Rattle.rules.specs.Model.{Settings, Session, Sessions, seidOf}
-use Rattle.rules.specs.Layout.{csidCountAt, sessionOctets, viewSession, viewSettings, viewSessions, encode, headWidth, sessionWidth, tableLength, settingsWidth}
+use Rattle.rules.specs.Layout.{csidCountAt, sessionOctets, viewSession, viewSettings, viewSessions, encode, headWidth, sessionWidth, tableLength, settingsWidth, limitAt}
 use Rattle.rules.specs.Sound.{settingsAllowed, sessionAllowed, sessionsAllowed}
 use Rattle.rules.specs.Sound as rules
 use Rattle.rules.specs.Elements.{Fqcsid}
@@ -22,7 +22,7 @@ use Rattle.rules.specs.Message.{elements, listPlace}
 use Rattle.rules.specs.Reading.{done, listRead}
 use Rattle.rules.specs.Stages.{hasSeid, newSession}
 use Rattle.rules.specs.Apply.{coversSession, goesSession, staysSession, otherSession, removeSession}
-use Rattle.laws.proofs.LayoutLaws.{session-back}
+use Rattle.laws.proofs.LayoutLaws.{session-back, limit-read}
 use Rattle.laws.proofs.TableLaws.{sessions-back, encoded-settings, sound-encode}
 use Rattle.claim.proofs.KeptRules.{session-kept, sessions-kept}
 use Rattle.claim.proofs.After.{keep-allowed, remove-allowed}
@@ -221,16 +221,12 @@ pub record Going (t₀ v t : List ℕ) (room p : ℕ) : Type 0 where
   pub within : p ≤ length (viewSessions t₀)
   pub encodes : Encodes (viewSettings t₀) (half (stays (listedIn v)) p (viewSessions t₀)) t
 
-read-limit : (t : List ℕ) → viewSettings t .limit ≡ number (part 37 2 t)
-unfolding viewSettings numberAt
-read-limit t = refl
+pub count-room : {t : List ℕ} {room : ℕ} → Sound t → room ≡ number (part limitAt 2 t) → settingsWidth + 2 + room * sessionWidth ≤ length t
+count-room {t} {room} h r = let l = h .long in let e : room ≡ viewSettings t .limit = r ∙ sym (limit-read t) in omega arith
 
-pub count-room : {t : List ℕ} {room : ℕ} → Sound t → room ≡ number (part 37 2 t) → settingsWidth + 2 + room * sessionWidth ≤ length t
-count-room {t} {room} h r = let l = h .long in let e : room ≡ viewSettings t .limit = r ∙ sym (read-limit t) in omega arith
-
-pub going-none : {t v : List ℕ} {room n : ℕ} → Sound t → room ≡ number (part 37 2 t) → n ≡ countIn (tableArea room) t → Going t v t room n
+pub going-none : {t v : List ℕ} {room n : ℕ} → Sound t → room ≡ number (part limitAt 2 t) → n ≡ countIn (tableArea room) t → Going t v t room n
 going-none {t} {v} {room} {n} h r e =
-    let l : room ≡ viewSettings t .limit = r ∙ sym (read-limit t) in
+    let l : room ≡ viewSettings t .limit = r ∙ sym (limit-read t) in
     let k = sound-encodes h in
     let c : n ≡ length (viewSessions t) = e ∙ ap (λ (i : ℕ). countIn (tableArea i) t) l ∙ ap (countIn (tableArea (viewSettings t .limit))) (k .octets) ∙ sessions-counted (viewSettings t) (k .settings) (viewSessions t) (k .sessions) in
     record {

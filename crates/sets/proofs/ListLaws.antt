@@ -3,15 +3,16 @@ use mathlib.Core.Path.{_≡_, refl, sym, ap, _∙_}
 use Prim.Native.Nat.{ℕ, zero, suc, _+_, _*_, _/_, _%_, _≤_, _<_, _-_}
 use native.Mathlib.Omega.{arith}
 use mathlib.Core.Bool.{Bool, true, false, or-false}
-use mathlib.Core.Option.{Option, none, some}
+use mathlib.Core.Option.{none, some}
 use mathlib.Core.List.{List, [], _∷_, _++_}
 use lib.ListN.{length, take, drop, getD, length-drop}
 use lib.Seq.{drop-drop}
-use lib.Dec.{T, ltb, eqb}
+use lib.Dec.{ltb, eqb}
 use borrow.Author.Tests.{eq-eqb, ne-eqb, ltb-false}
 use Rattle.octets.specs.Choice.{pick, allOf, mapOption}
 use Rattle.octets.specs.Octets.{octetAt, part}
 use Rattle.octets.specs.Lists.{member}
+use Rattle.octets.proofs.Put.{part-from}
 use Rattle.rules.specs.Types as ie
 use Rattle.rules.specs.Elements.{Refusal, incorrect, tooShort, causeOf, Answer, refuse, value, Fqcsid, sets, addressLength, nodeTypeKept, operatorAllowed, countAllowed, csidsAt, csidFields, checkedCsid, csidRest, readFqcsid}
 use Rattle.rules.specs.Message.{Element, setDeletion, actedOn, elements, listPlace}
@@ -24,12 +25,11 @@ use Rattle.element.specs.declared.Refusal as codes
 use Rattle.element.specs.declared.fqcsid.Answer as code
 use Rattle.element.specs.declared.fqcsid.Answer.the-variants as answers
 use Rattle.element.specs.declared.fqcsid.FqCsid.{FqCsid}
-use Rattle.reading.specs.Verdicts.{stopped, numbered, outcome}
+use Rattle.reading.specs.Verdicts.{numbered, outcome}
 use Rattle.reading.specs.declared.Verdict.{Verdict}
 use Rattle.reading.specs.declared.Verdict.the-variants.{Fine, Refused}
-use Rattle.sets.specs.Listed.{blank, gotten, listStep, listedIn, listsIn, Sized, addressOctets, csidCount}
+use Rattle.sets.specs.Listed.{blank, gotten, listStep, listedIn, listsIn, Sized}
 use Rattle.elements.proofs.Front.{Front, behind}
-use Rattle.frame.proofs.Walk.{part-from}
 
 -- ---- one element
 

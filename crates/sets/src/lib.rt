@@ -13,7 +13,7 @@ ghost use Rattle.octets.specs.Octets.{octetAt};
 ghost use Rattle.octets.specs.Lists.{member, keep};
 ghost use Rattle.rules.specs.Limits.{maxMessage, nodeTypes};
 ghost use Rattle.rules.specs.Layout.{tableLength, sessionWidth, csidWidth, csidCountAt, viewSession, viewCsid, viewSettings, viewSessions, encode};
-ghost use Rattle.rules.specs.Elements.{addressLength, csidsAt};
+ghost use Rattle.rules.specs.Elements.{csidsAt};
 ghost use Rattle.rules.specs.Message.{listPlace, elements};
 ghost use Rattle.rules.specs.Reading.{done, listRead};
 ghost use Rattle.rules.specs.Apply.{covers, coversSession, staysSession};
@@ -65,16 +65,6 @@ pub fn list_fault(s: &[u8]) -> Verdict
 
 // ---- what an FQ-CSID covers
 
-// How many octets the address of a Node-ID type has.
-fn address_length(id_type: u8) -> usize
-    ensures { λ r. ⌜ (r ≡ addressLength «id_type») × (r ≤ 16) ⌝ }
-{
-    if id_type == 1 {
-        return 16;
-    }
-    4
-}
-
 // Whether a CSID is one of the m that cs starts with.
 fn has_csid(cs: &[u8], m: usize, csid: u64) -> bool
     requires { ⌜ 2 * m ≤ length (now cs) ⌝ }
@@ -97,7 +87,7 @@ fn covers(v: &[u8], slot: &[u8]) -> bool
     requires { ⌜ Sized (now v) × (length (now slot) ≡ csidWidth) ⌝ }
     ensures { λ r. ⌜ r ≡ covers (listedIn (now (v .entry))) (viewCsid (now (slot .entry))) ⌝ }
 {
-    let a = address_length(v[0] / 16);
+    let a = element::fqcsid::address_length((v[0] / 16) as u64);
     let m = (v[0] % 16) as usize;
     if v[1 + a + 2 * m] % 16 != slot[0] {
         return false;

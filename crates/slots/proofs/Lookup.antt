@@ -10,15 +10,11 @@ use borrow.Author.Tests.{le-leb, lt-leb, eq-eqb, ne-eqb}
 use lib.ListN.{length, take, drop, getD, length-map, drop-of-length-le, List·getD-map}
 use lib.Seq.{drop-cons, drop-drop, take-nil, take-take}
 use Rattle.octets.specs.Octets.{part, number, slices}
+use Rattle.octets.proofs.Numbers.{length-slices}
 use Rattle.slots.specs.declared.Place.the-variants.{Found, Absent}
 use Rattle.slots.specs.Records.{keyOf, lookup, lookupFrom}
 
 -- the ith record starts at i * w
-pub length-slices : (w n : ℕ) (s : List ℕ) → length (slices w n s) ≡ n
-unfolding slices
-length-slices w zero s = refl
-length-slices w (suc n) s = ap suc (length-slices w n (drop w s))
-
 pub getD-slices : (w n i : ℕ) (s : List ℕ) → i < n → getD (slices w n s) i [] ≡ part (i * w) w s
 unfolding slices
 getD-slices w zero i s h = absurd (omega arith)

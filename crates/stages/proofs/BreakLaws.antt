@@ -7,9 +7,10 @@ use native.Mathlib.Omega.{arith}
 use lib.ListN.{length, take, drop}
 use Rattle.octets.specs.Choice.{oneOf}
 use Rattle.octets.specs.Lists.{any}
+use Rattle.octets.proofs.Numbers.{slices-next}
 use Rattle.rules.specs.Model.{Settings}
 use Rattle.plan.specs.Rows.{rowWidth, rowsOf}
-use Rattle.lists.proofs.RowLaws.{rows-more, rows-none}
+use Rattle.lists.proofs.RowLaws.{rows-none}
 use Rattle.lists.proofs.Loops.{left-part}
 use Rattle.rows.specs.RowRules.{disagree}
 use Rattle.stages.specs.RowRules.{breaksId, breaksFteid, breaksAddress, breaksRow, someRow}
@@ -31,7 +32,7 @@ module _ (held heldAddress : ℕ → Bool) (set′ : Settings) (restoring : Bool
   module _ (s : List ℕ) (left : ℕ) (h : 0 < left) where
     first : someRow p (rowsOf left s) ≡ oneOf (p (take rowWidth s) ∷ any (disagree (take rowWidth s)) (rowsOf (left - 1) (rest s)) ∷ someRow p (rowsOf (left - 1) (rest s)) ∷ [])
     unfolding someRow
-    first = rw (rows-more rowWidth left s h, left-part s rowWidth)
+    first = rw (slices-next rowWidth left s h, left-part s rowWidth)
 
     pub some-id : breaksId pdrs endpoints gone rows (take rowWidth s) ≡ true → someRow p (rowsOf left s) ≡ true
     unfolding breaksRow

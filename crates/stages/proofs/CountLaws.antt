@@ -2,7 +2,7 @@
 use mathlib.Core.Path.{_≡_, refl, sym, ap, _∙_}
 use mathlib.Core.Bool.{Bool, true, false, or-false, and-true, and-false}
 use mathlib.Core.List.{List, [], _∷_}
-use Prim.Native.Nat.{ℕ, zero, suc, _+_, _-_, _≤_, _<_}
+use Prim.Native.Nat.{ℕ, suc, _+_, _-_, _≤_, _<_}
 use native.Mathlib.Omega.{arith}
 use lib.Dec.{ltb, leb}
 use lib.ListN.{length, drop, getD, length-map}
@@ -10,6 +10,7 @@ use borrow.Author.Tests.{ne-eqb}
 use Rattle.octets.specs.Choice.{pick, isNil}
 use Rattle.octets.specs.Octets.{number, numberAt, octetAt, part, slices}
 use Rattle.octets.specs.Lists.{any, keep}
+use Rattle.octets.proofs.Numbers.{length-slices}
 use Rattle.rules.specs.Model.{Settings, Session, Sessions, freeCount, heldAddresses, freeAddresses, freeAddressCount}
 use Rattle.rules.specs.Elements.{ueChooses}
 use Rattle.rules.specs.Sound.{inPool}
@@ -29,11 +30,6 @@ use Rattle.rules.specs.Message.{establishment}
 
 -- ---- counts
 
-pub slices-length : (w n : ℕ) (s : List ℕ) → length (slices w n s) ≡ n
-unfolding slices
-slices-length w zero s = refl
-slices-length w (suc n) s = ap suc (slices-length w n (drop w s))
-
 keep-length : {A : Type 0} (t : A → Bool) (xs : List A) → length (keep t xs) ≤ length xs
 unfolding keep
 keep-length t [] = omega arith
@@ -45,11 +41,11 @@ keep-length t (x ∷ xs) = one (t x) (keep-length t xs)
 
 pub tagged-length : (tag n : ℕ) (s : List ℕ) → length (tagged tag (rowsOf n s)) ≤ n
 unfolding tagged
-tagged-length tag n s = omega (arith, keep-length (hasTag tag) (rowsOf n s), slices-length rowWidth n s)
+tagged-length tag n s = omega (arith, keep-length (hasTag tag) (rowsOf n s), length-slices rowWidth n s)
 
 pub session-count : (t : List ℕ) → length (viewSessions t) ≡ number (part settingsWidth 2 t)
 unfolding viewSessions viewArea numberAt
-session-count t = length-map (slices _ (number (part settingsWidth 2 t)) _) viewSession ∙ slices-length _ (number (part settingsWidth 2 t)) _
+session-count t = length-map (slices _ (number (part settingsWidth 2 t)) _) viewSession ∙ length-slices _ (number (part settingsWidth 2 t)) _
 
 pub full-other : (s : Settings) (kind : ℕ) (m : Sessions) → (kind ≡ establishment → ⊥) → tooManySessions s kind m ≡ false
 unfolding tooManySessions
@@ -70,13 +66,13 @@ module _ (slot : List ℕ) (seid : ℕ) (restoring noted : Bool) (rows : List (L
       → tooManyPdrs (viewSession slot) (requestIn seid restoring noted rows) ≡ ltb 16 (getD slot pdrCountAt 0 - length gone + length (tagged ie.createPdr rows))
   unfolding tooManyPdrs viewSession viewArea requestIn octetAt
   many-pdrs gone e =
-      rw (e, length-map (slices pdrWidth (getD slot pdrCountAt 0) (drop pdrsAt slot)) viewPdr, slices-length pdrWidth (getD slot pdrCountAt 0) (drop pdrsAt slot), length-map (tagged ie.createPdr rows) rowPdr)
+      rw (e, length-map (slices pdrWidth (getD slot pdrCountAt 0) (drop pdrsAt slot)) viewPdr, length-slices pdrWidth (getD slot pdrCountAt 0) (drop pdrsAt slot), length-map (tagged ie.createPdr rows) rowPdr)
 
   pub many-endpoints : (gone : ℕ) → gone ≡ length (tagged ie.removeEndpoint rows)
       → tooManyEndpoints (viewSession slot) (requestIn seid restoring noted rows) ≡ ltb 8 (getD slot endpointCountAt 0 - gone + length (tagged ie.createEndpoint rows))
   unfolding tooManyEndpoints viewSession viewArea requestIn octetAt
   many-endpoints gone e =
-      rw (e, length-map (slices endpointWidth (getD slot endpointCountAt 0) (drop endpointsAt slot)) viewEndpoint, slices-length endpointWidth (getD slot endpointCountAt 0) (drop endpointsAt slot), length-map (tagged ie.removeEndpoint rows) rowEndpointId, length-map (tagged ie.createEndpoint rows) rowEndpoint)
+      rw (e, length-map (slices endpointWidth (getD slot endpointCountAt 0) (drop endpointsAt slot)) viewEndpoint, length-slices endpointWidth (getD slot endpointCountAt 0) (drop endpointsAt slot), length-map (tagged ie.removeEndpoint rows) rowEndpointId, length-map (tagged ie.createEndpoint rows) rowEndpoint)
 
 -- the tests one after the other
 module _ (kind : ℕ) (s : Settings) (m : Sessions) (x : Session) (r : Request) where

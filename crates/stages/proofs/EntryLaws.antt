@@ -11,6 +11,7 @@ use Rattle.octets.specs.Octets.{octetAt, slices}
 use Rattle.octets.specs.Lists.{keep}
 use Rattle.octets.proofs.Tests.{each}
 use Rattle.octets.proofs.Ordered.{keep-length}
+use Rattle.octets.proofs.Numbers.{length-slices}
 use Rattle.lists.proofs.Loops.{stored}
 use Rattle.rules.specs.Limits.{maxPdrs, maxEndpoints, maxPool, mapWords, addressWords}
 use Rattle.rules.specs.Model.{Settings, Session, pdrId, heldTeids, freeCount, heldAddresses, freeAddressCount}
@@ -24,17 +25,16 @@ use Rattle.rows.specs.RowRules.{requestOf}
 use Rattle.pool.proofs.TakenLaws.{Means}
 use Rattle.pool.proofs.AddressLaws.{addresses-fit}
 use Rattle.stages.specs.Rules.{Slot, Gone, AtEntry}
-use Rattle.stages.proofs.CountLaws.{slices-length}
 
 -- ---- the slot
 
 pub pdr-count : (slot : List ℕ) → length (viewSession slot .pdrs) ≡ getD slot pdrCountAt 0
 unfolding viewSession viewArea octetAt
-pdr-count slot = length-map (slices pdrWidth (getD slot pdrCountAt 0) (drop pdrsAt slot)) viewPdr ∙ slices-length pdrWidth (getD slot pdrCountAt 0) (drop pdrsAt slot)
+pdr-count slot = length-map (slices pdrWidth (getD slot pdrCountAt 0) (drop pdrsAt slot)) viewPdr ∙ length-slices pdrWidth (getD slot pdrCountAt 0) (drop pdrsAt slot)
 
 pub endpoint-count : (slot : List ℕ) → length (viewSession slot .endpoints) ≡ getD slot endpointCountAt 0
 unfolding viewSession viewArea octetAt
-endpoint-count slot = length-map (slices endpointWidth (getD slot endpointCountAt 0) _) viewEndpoint ∙ slices-length endpointWidth (getD slot endpointCountAt 0) _
+endpoint-count slot = length-map (slices endpointWidth (getD slot endpointCountAt 0) _) viewEndpoint ∙ length-slices endpointWidth (getD slot endpointCountAt 0) _
 
 pub slot-of : (slot : List ℕ) (x : Session) → length slot ≡ sessionWidth → viewSession slot ≡ x → length (x .pdrs) ≤ maxPdrs → length (x .endpoints) ≤ maxEndpoints → Slot slot
 slot-of slot x long e p q =

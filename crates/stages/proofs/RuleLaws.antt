@@ -25,7 +25,7 @@ use Rattle.rows.proofs.RequestLaws.{created-pdrs, created-endpoints, updated-pd
 use Rattle.rows.proofs.PairLaws.{tags-apart}
 use Rattle.stages.proofs.SlotLaws.{removed-rows}
 use Rattle.stages.specs.RowRules.{createsLive, namesDead, updatesGone, pdiNamesBoth, absentFrom, pdiNamesAbsent}
-use Rattle.lists.proofs.Bools.{eqb-turn, and-swap}
+use Rattle.octets.proofs.Bools.{eqb-turn, and-swap}
 
 -- ---- lists of tests
 

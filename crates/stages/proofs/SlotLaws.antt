@@ -13,10 +13,10 @@ use Rattle.octets.specs.Choice.{pick}
 use Rattle.octets.specs.Octets.{number, numberAt, part, octetAt, slices}
 use Rattle.octets.specs.Fields.{fieldsAt}
 use Rattle.octets.specs.Lists.{member, keep}
+use Rattle.octets.proofs.Numbers.{length-slices, slices-next}
 use Rattle.lists.specs.Rows.{column}
-use Rattle.lists.proofs.RowLaws.{rows-more, rows-none}
+use Rattle.lists.proofs.RowLaws.{rows-none}
 use Rattle.lists.proofs.Loops.{left-part, stored}
-use Rattle.stages.proofs.CountLaws.{slices-length}
 use Rattle.rules.specs.Model.{Pdr, neither, tunnel, endpoint, pdrId, endpointId, pdrEndpoint, placeEndpoint}
 use Rattle.rules.specs.Layout.{tunnelRead, placeRead, pdrFrom, endpointFrom, viewPdr, viewEndpoint, viewArea, viewSession, pdrWidth, endpointWidth, pdrCountAt, endpointCountAt, pdrsAt, endpointsAt}
 use Rattle.laws.proofs.LayoutLaws.{pdr-view}
@@ -42,7 +42,7 @@ ids-none width idw n s h =
 pub ids-more : (width idw n : ℕ) (s : List ℕ) → 0 < n → idw ≤ width
     → idsIn width idw n s ≡ number (part 0 idw s) ∷ idsIn width idw (n - 1) (take (length s - width) (drop width s))
 unfolding numberAt
-ids-more width idw n s h g = rw (rows-more width n s h, left-part s width) (ap (λ (l : List ℕ). number l ∷ idsIn width idw (n - 1) (drop width s)) (take-take idw width s g))
+ids-more width idw n s h g = rw (slices-next width n s h, left-part s width) (ap (λ (l : List ℕ). number l ∷ idsIn width idw (n - 1) (drop width s)) (take-take idw width s g))
 
 pub live-pdrs : (slot : List ℕ) → livePdrs (viewSession slot) ≡ idsIn pdrWidth 2 (getD slot pdrCountAt 0) (drop pdrsAt slot)
 unfolding livePdrs viewSession viewArea viewPdr pdrFrom fieldsAt numberAt octetAt
@@ -114,7 +114,7 @@ module _ (rows : List (List ℕ)) where
   gone-first : (s : List ℕ) (left : ℕ) → 0 < left
       → goneIn left s ≡ map pdrId (pick (goesPdr (requestOf false rows) (viewPdr (take pdrWidth s))) (viewPdr (take pdrWidth s) ∷ keep (goesPdr (requestOf false rows)) (map viewPdr (slices pdrWidth (left - 1) (drop pdrWidth s)))) (keep (goesPdr (requestOf false rows)) (map viewPdr (slices pdrWidth (left - 1) (drop pdrWidth s)))))
   unfolding removedPdrs keep
-  gone-first s left h = rw (rows-more pdrWidth left s h)
+  gone-first s left h = rw (slices-next pdrWidth left s h)
 
   module _ (s : List ℕ) (left : ℕ) (h : 0 < left) where
     pub gone-hit : goesPdr (requestOf false rows) (viewPdr (take pdrWidth s)) ≡ true → goneIn left s ≡ number (part 0 2 (take pdrWidth s)) ∷ goneIn (left - 1) (take (length s - pdrWidth) (drop pdrWidth s))
@@ -135,7 +135,7 @@ pdrs-fit slot h = rw (left-part slot 11, length-drop pdrsAt slot) (omega arith)
 -- ---- live IDs as they were stored in an array
 
 ids-length : (width idw n : ℕ) (s : List ℕ) → length (idsIn width idw n s) ≡ n
-ids-length width idw n s = length-map (slices width n s) (numberAt 0 idw) ∙ slices-length width n s
+ids-length width idw n s = length-map (slices width n s) (numberAt 0 idw) ∙ length-slices width n s
 
 module _ (slot : List ℕ) (h : Slot slot) where
   pub pdrs-stored : (out : List ℕ) → out ≡ sets (replicate 16 0) 0 (idsIn pdrWidth 2 (getD slot pdrCountAt 0) (take (length slot - pdrsAt) (drop pdrsAt slot))) → take (getD slot pdrCountAt 0) out ≡ livePdrs (viewSession slot)

@@ -6,14 +6,14 @@ use Prim.Native.Nat.{ℕ, _+_, _-_, _*_, _≤_, _<_}
 use native.Mathlib.Omega.{arith}
 use lib.ListN.{length, take, drop}
 use Rattle.octets.specs.Octets.{be, part, put, zeros}
-use Rattle.octets.proofs.Put.{length-part}
+use Rattle.octets.proofs.Put.{length-part, put-whole}
 use Rattle.octets.proofs.Numbers.{length-zeros}
 use Rattle.rules.specs.Layout.{sessionWidth}
 use Rattle.areas.specs.declared.Area.{Area}
 use Rattle.areas.specs.Counted.{Fits, countIn, areaIn, placeIn, withRecord, withoutRecord}
 use Rattle.slots.specs.declared.Place.{Place}
 use Rattle.session.specs.Areas.{sessionArea}
-use Rattle.session.proofs.Steps.{put-all, part-part}
+use Rattle.session.proofs.Steps.{part-part}
 
 module _ (room base : ℕ) where
   abbrev sessions : Area
@@ -42,7 +42,7 @@ module _ (room base : ℕ) where
   unfolding areaIn
   loaded p end t slot done long less size ee q =
       let e : end - (base + 2 + p * sessionWidth) ≡ sessionWidth = omega arith in
-      q ∙ rw e (put-all (part (base + 2 + p * sessionWidth) sessionWidth t) slot (length-part (base + 2 + p * sessionWidth) sessionWidth t (omega arith) ∙ sym size)) ∙ sym (part-part (base + 2) (room * sessionWidth) (p * sessionWidth) sessionWidth t (omega arith))
+      q ∙ rw e (put-whole (part (base + 2 + p * sessionWidth) sessionWidth t) slot (length-part (base + 2 + p * sessionWidth) sessionWidth t (omega arith) ∙ sym size)) ∙ sym (part-part (base + 2) (room * sessionWidth) (p * sessionWidth) sessionWidth t (omega arith))
 
 pub fresh-made : (seid : ℕ) (slot mid done : List ℕ) → length slot ≡ sessionWidth → mid ≡ put 0 (zeros sessionWidth) slot → done ≡ put 0 (be 8 seid) mid → done ≡ put 0 (be 8 seid) (zeros sessionWidth)
-fresh-made seid slot mid done size m d = d ∙ ap (put 0 (be 8 seid)) (m ∙ put-all (zeros sessionWidth) slot (length-zeros sessionWidth ∙ sym size))
+fresh-made seid slot mid done size m d = d ∙ ap (put 0 (be 8 seid)) (m ∙ put-whole (zeros sessionWidth) slot (length-zeros sessionWidth ∙ sym size))

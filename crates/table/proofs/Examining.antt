@@ -29,15 +29,15 @@ use Rattle.unit.specs.declared.Settings.{Settings as Unit}
 use Rattle.unit.specs.Meaning.{settingsOf}
 use Rattle.unit.proofs.FieldLaws.{size-is, addresses-is, limit-is}
 use Rattle.records.specs.Kept.{settingsSound}
-use Rattle.records.proofs.Cells.{and-true}
 use Rattle.marking.specs.declared.Seen.{Seen}
-use Rattle.marking.specs.declared.Seen.the-variants as marked
 use Rattle.marking.specs.declared.Seen.the-variants.{Held}
 use Rattle.marking.specs.Marking.{teidsIn, addressesIn, AllAdmitted}
 use Rattle.table.specs.Tests.{limitOf, slotsOf, orderSound, frontTests, frontSound, walkSound}
 use Rattle.table.specs.Answers.{Examined, countOf}
 use Rattle.table.proofs.SoundLaws.{settings-front, settings-from, sessions-are, sound-law}
 use Rattle.table.proofs.Walks.{teids-are, addresses-are}
+use Rattle.octets.proofs.Bools.{and-true}
+use Rattle.marking.specs.declared.Seen.the-variants as marked
 
 -- ---- the front
 

@@ -6,27 +6,23 @@ use native.Mathlib.Omega.{arith}
 use mathlib.Core.Bool.{Bool, true, false, not, _&&_, _||_}
 use mathlib.Core.List.{List, [], _∷_, _++_, append-nil}
 use borrow.Author.Tests.{eq-eqb, ne-eqb, not-true, not-false}
-use lib.ListN.{length, take, drop, replicate-append-replicate, drop-of-length-le}
+use lib.ListN.{length, take, drop, drop-of-length-le}
 use lib.Seq.{take-at, drop-at}
 use lib.Dec.{T, eqb}
 use Rattle.octets.specs.Choice.{allOf, isNil}
 use Rattle.octets.specs.Octets.{put, be, zeros, padded, octets, concatMap}
 use Rattle.octets.proofs.Tests.{is-true, of-true}
-use Rattle.octets.proofs.Numbers.{length-be, bytes-be, length-zeros}
+use Rattle.octets.proofs.Numbers.{length-be, bytes-be, length-zeros, zeros-split}
+use Rattle.octets.proofs.Bools.{and-false, and-true}
 use Rattle.rules.specs.Model.{Settings}
 use Rattle.rules.specs.Layout.{sessionWidth, tableLength, area, settingsOctets, encode, settingsWidth}
 use Rattle.rules.specs.Sound.{poolTests, addressPoolTests, limitTests, ipv6Allowed, settingsTests, settingsAllowed, lengthFor, make}
 use Rattle.laws.proofs.TableLaws.{ipv6-short}
-use Rattle.records.proofs.Cells.{and-true, and-false}
 use Rattle.table.specs.declared.Making.the-variants.{Made, Refused}
 use Rattle.unit.specs.Meaning.{settingsGiven}
 use Rattle.table.specs.Answers.{madeOf}
 
 -- ---- zeros
-
-zeros-split : (n m : ℕ) → zeros (n + m) ≡ zeros n ++ zeros m
-unfolding zeros
-zeros-split n m = sym (replicate-append-replicate n m 0)
 
 take-zeros : (n m : ℕ) → take n (zeros (n + m)) ≡ zeros n
 take-zeros n m = ap (take n) (zeros-split n m) ∙ take-at (zeros n) (zeros m) n (length-zeros n)

@@ -14,9 +14,9 @@ use Rattle.octets.specs.Choice.{pick}
 use Rattle.octets.specs.Octets.{part, be, number, numberAt, octetAt, sameOctets, allZero, octets}
 use Rattle.octets.specs.Lists.{all, allPairs, ascending}
 use Rattle.octets.proofs.Tests.{each, all-of-each, both, and-left, and-right, of-true, all-head, all-tail, all-cons}
-use Rattle.octets.proofs.Numbers.{same-refl, same-eq}
+use Rattle.octets.proofs.Numbers.{same-refl, same-eq, length-slices}
 use Rattle.octets.proofs.Digits.{be-back, part-octets, drop-octets}
-use Rattle.octets.proofs.Put.{length-part}
+use Rattle.octets.proofs.Put.{length-part, drop-take}
 use Rattle.rules.specs.Limits.{mapWords, addressWords}
 use Rattle.rules.specs.Model.{Settings, Session, seidOf}
 use Rattle.rules.specs.Layout.{headWidth, sessionWidth, tableLength, area, sessionOctets, settingsOctets, encode, viewArea, viewSession, viewSettings, viewSessions, settingsWidth}
@@ -28,14 +28,13 @@ use Rattle.pool.proofs.AddressLaws.{addresses-fit}
 use Rattle.holdings.specs.Walk.{apartTeids, apartAddresses}
 use Rattle.holdings.proofs.AddressWalk.{apart-both}
 use Rattle.slots.specs.Records.{keyOf}
-use Rattle.slots.proofs.Lookup.{length-slices}
 use Rattle.records.specs.Kept.{kept, settingsSound}
-use Rattle.records.proofs.Cells.{and-true, and-false, same-test, drop-take}
 use Rattle.sessions.specs.Slot.{areaSound}
 use Rattle.sessions.proofs.Areas.{area-from, area-to, kept-allowed, kept-same}
 use Rattle.sessions.proofs.SlotLaws.{key-session}
 use Rattle.table.specs.Tests.{sessionCount, limitOf, slotsOf, orderSound, frontTests, frontSound, walkSound}
 use Rattle.table.proofs.Walks.{canonical, slots-whole, slots-law, free-law}
+use Rattle.octets.proofs.Bools.{and-false, both-ways, and-true}
 
 -- ---- what the settings and sessions are read from
 
@@ -207,7 +206,7 @@ long-sound t h = eqb→eq (length t) (tableLength (limitOf t)) (each (soundTests
 -- the tests on the octets say just that the table is not broken
 pub sound-law : (t : List ℕ) → T (octets t) → sound t ≡ (frontSound t && walkSound t)
 sound-law t o =
-    same-test (sound t) (frontSound t && walkSound t)
+    both-ways (sound t) (frontSound t && walkSound t)
     (λ h. let r = sound-to t (long-sound t h) o h in both (frontSound t) (walkSound t) (r .0) (r .1))
     (λ h.
     let a = and-left (frontSound t) (walkSound t) h in

@@ -23,11 +23,11 @@ use Rattle.pool.specs.Map.{marked, marks, offsets}
 use Rattle.pool.proofs.Marks.{offsets-append}
 use Rattle.addresses.specs.Offsets.{heldOffsets}
 use Rattle.records.specs.Kept.{kept}
-use Rattle.records.proofs.Cells.{and-false}
 use Rattle.sessions.specs.Slot.{slotSound, recordsAllowed}
 use Rattle.sessions.proofs.SlotLaws.{allowed-split, slot-law}
 use Rattle.marking.specs.Marking.{slotHolds, slotTeids, slotFree, inTurn, slotKeeps, slotsKeep, slotsFree, teidsIn, addressesIn}
 use Rattle.marking.proofs.Admitting.{records-pooled}
+use Rattle.octets.proofs.Bools.{and-false}
 
 -- every slot is whole, and of octets
 abbrev pub Whole : List (List ℕ) → Type 0

@@ -1,31 +1,24 @@
 -- Which settings are allowed, return by return. The value's addresses are whole by its widths; the pools and the session limit are left to test.
 -- Assumes nothing.
-use mathlib.Core.Path.{_≡_, refl, sym, ap, _∙_}
+use mathlib.Core.Path.{_≡_, refl, sym, _∙_}
 use mathlib.Core.Bool.{Bool, true, false, not, _&&_, true≢false}
-use mathlib.Core.List.{List, [], _∷_, _++_}
+use mathlib.Core.List.{[], _∷_, _++_}
 use Prim.Native.Nat.{ℕ, _+_, _-_, _≤_, _<_, _^_}
 use native.Mathlib.Omega.{arith}
 use borrow.Author.Tests.{lt-leb, le-leb, eq-eqb}
-use lib.Dec.{T, leb, eqb}
-use lib.ListN.{length, length-append}
+use lib.Dec.{leb}
+use lib.ListN.{length}
 use Rattle.octets.specs.Choice.{pick, allOf}
 use Rattle.octets.specs.Octets.{be, octets}
 use Rattle.octets.proofs.Tests.{is-true}
 use Rattle.octets.proofs.Ordered.{orders}
 use Rattle.octets.proofs.Numbers.{length-be, bytes-be}
 use Rattle.octets.proofs.Digits.{octets-append}
+use Rattle.octets.proofs.Bools.{and-false, and-true}
 use Rattle.rules.specs.Limits.{maxSessions, maxPool, maxAddresses}
 use Rattle.rules.specs.Sound.{poolTests, addressPoolTests, limitTests, ipv6Allowed, settingsTests, settingsAllowed}
 use Rattle.unit.specs.declared.Settings.{Settings as Unit}
 use Rattle.unit.specs.Meaning.{settingsOf, rangeTests}
-
-and-true : (b : Bool) → (b && true) ≡ b
-and-true true = refl
-and-true false = refl
-
-and-false : (b : Bool) → (b && false) ≡ false
-and-false true = refl
-and-false false = refl
 
 -- an IPv6 address of two halves, or none
 module _ (a b : ℕ) where

@@ -2,15 +2,14 @@
 use mathlib.Core.Path.{_≡_, refl, sym, ap, _∙_}
 use mathlib.Core.Bool.{Bool, true, false, not}
 use mathlib.Core.List.{List, [], _∷_, _++_}
-use Prim.Native.Nat.{ℕ, zero, suc, _+_, _/_, _≤_, _<_}
+use Prim.Native.Nat.{ℕ, _+_, _/_, _≤_, _<_}
 use native.Mathlib.Omega.{arith}
 use lib.Dec.{T, eqb, ltb, eqb→eq}
 use lib.ListN.{length, take, drop, getD}
 use lib.Seq.{take-add, drop-drop, take-all}
-use Rattle.octets.specs.Choice.{pick, isNil}
+use Rattle.octets.specs.Choice.{pick}
 use Rattle.octets.specs.Octets.{be, number, numberAt, octetAt, part, octets}
-use Rattle.octets.proofs.Put.{length-part}
-use Rattle.octets.proofs.Digits.{be-back, part-octets, octets-known}
+use Rattle.octets.proofs.Digits.{octets-known, be-part}
 use Rattle.rules.specs.Model.{Settings}
 use Rattle.rules.specs.Layout.{viewSettings, settingsWidth}
 use Rattle.rules.specs.Sound.{ipv6Allowed}
@@ -21,10 +20,6 @@ settings-eq : {a a′ b b′ : List ℕ} {f f′ n n′ x x′ y y′ l l′ : �
     → _≡_ {A = Settings} (record { ipv4 = a; ipv6 = b; first = f; size = n; firstAddress = x; addressCount = y; limit = l })
     (record { ipv4 = a′; ipv6 = b′; first = f′; size = n′; firstAddress = x′; addressCount = y′; limit = l′ })
 settings-eq p q r s t u v = λ i. record { ipv4 = p i; ipv6 = q i; first = r i; size = s i; firstAddress = t i; addressCount = u i; limit = v i }
-
--- octets of a list read as a number and written again
-again : (at n : ℕ) (s : List ℕ) → T (octets s) → at + n ≤ length s → be n (number (part at n s)) ≡ part at n s
-again at n s h g = be-back n (part at n s) (length-part at n s g) (part-octets at n s h)
 
 two-halves : (at : ℕ) (s : List ℕ) → part at 16 s ≡ part at 8 s ++ part (at + 8) 8 s
 two-halves at s = take-add 8 8 (drop at s) ∙ ap (λ (l : List ℕ). part at 8 s ++ take 8 l) (drop-drop 8 at s)
@@ -37,8 +32,8 @@ unfolding settingsOf viewSettings octetAt numberAt
 read-is t u k long a b h l f n x y m =
     let bytes = octets-known t k in
     settings-eq
-    (rw a (again 0 4 t bytes (omega arith)))
-    (rw (b, h, l, again 5 8 t bytes (omega arith), again 13 8 t bytes (omega arith), ← two-halves 5 t) (one (eqb (getD t 4 0) 0)))
+    (rw a (be-part 0 4 t bytes (omega arith)))
+    (rw (b, h, l, be-part 5 8 t bytes (omega arith), be-part 13 8 t bytes (omega arith), ← two-halves 5 t) (one (eqb (getD t 4 0) 0)))
     f
     n
     x
@@ -58,7 +53,7 @@ six-given [] o h = refl
 six-given (x ∷ v) o h =
     let xs : List ℕ = x ∷ v in
     let e : length xs ≡ 16 = eqb→eq (length xs) 16 h in
-    rw (e, again 0 8 xs o (omega arith), again 8 8 xs o (omega arith)) (sym (two-halves 0 xs) ∙ take-all 16 xs (omega arith))
+    rw (e, be-part 0 8 xs o (omega arith), be-part 8 8 xs o (omega arith)) (sym (two-halves 0 xs) ∙ take-all 16 xs (omega arith))
 
 pub given-is : (a f z x y l : ℕ) (v : List ℕ) (u : Unit) → ((i : ℕ) → getD v i 0 < 256) → T (ipv6Allowed v)
     → u .ipv4 ≡ a → u .«has_ipv6» ≡ ltb 0 (length v / 2) → u .high ≡ number (part 0 (length v / 2) v) → u .low ≡ number (part (length v / 2) (length v / 2) v)

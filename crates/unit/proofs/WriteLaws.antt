@@ -4,18 +4,14 @@ use mathlib.Core.Bool.{Bool, true, false, not}
 use mathlib.Core.List.{List, [], _∷_, _++_, append-assoc, append-nil}
 use Prim.Native.Nat.{ℕ, _+_, _-_, _*_, _≤_}
 use native.Mathlib.Omega.{arith}
-use lib.ListN.{length, take, drop, length-append, replicate-append-replicate}
+use lib.ListN.{length, length-append}
 use Rattle.octets.specs.Choice.{pick, flag, isNil}
 use Rattle.octets.specs.Octets.{put, be, zeros, padded}
-use Rattle.octets.proofs.Numbers.{length-be, length-zeros, length-padded}
+use Rattle.octets.proofs.Numbers.{length-be, length-zeros, length-padded, zeros-split}
 use Rattle.octets.proofs.Put.{put-over, put-put}
 use Rattle.rules.specs.Layout.{settingsOctets, settingsWidth}
 use Rattle.unit.specs.declared.Settings.{Settings as Unit}
 use Rattle.unit.specs.Meaning.{settingsOf, numbersAt, numberOctets}
-
-zeros-split : (n m : ℕ) → zeros (n + m) ≡ zeros n ++ zeros m
-unfolding zeros
-zeros-split n m = sym (replicate-append-replicate n m 0)
 
 -- octets over the front of zeros
 over-zeros : (at : ℕ) (p v z : List ℕ) → length p ≡ at → length v ≤ 16 → put at v (p ++ (zeros 16 ++ z)) ≡ p ++ (padded 16 v ++ z)

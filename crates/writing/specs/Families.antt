@@ -1,12 +1,10 @@
 -- The families of an F-TEID with the unit's addresses.
 -- Assumes nothing.
 use Prim.Native.Nat.{ℕ, _+_, _*_, _/_, _%_}
-use mathlib.Core.List.{List, _++_}
 use mathlib.Core.Bool.{not, _&&_}
 use Rattle.octets.specs.Choice.{flag, isNil}
-use Rattle.octets.specs.Octets.{bit, be}
+use Rattle.octets.specs.Octets.{bit}
 use Rattle.rules.specs.Model.{Settings, Tunnel}
-use Rattle.unit.specs.declared.Settings.{Settings as Unit}
 
 -- a TEID with its families: V4 = 1, V6 = 2
 unfoldable pub tunnelIn : ℕ → ℕ → Tunnel
@@ -19,10 +17,6 @@ unitFamilies s families = flag (bit 0 families && not (isNil (s .ipv4))) + 2 * f
 -- how many octets its addresses take
 abbrev pub addressOctets : ℕ → ℕ
 addressOctets f = 4 * (f % 2) + 16 * (f / 2)
-
--- these addresses, of no octets where a family is not there
-abbrev pub addressesIn : Unit → ℕ → List ℕ
-addressesIn u f = be (4 * (f % 2)) (u .ipv4) ++ (be (8 * (f / 2)) (u .high) ++ be (8 * (f / 2)) (u .low))
 
 abbrev pub unitAddresses : Settings → ℕ → ℕ
 unitAddresses s families = addressOctets (unitFamilies s families)

@@ -1,4 +1,4 @@
--- `Placed`: what a writer leaves and answers. `Families`: an F-TEID with the unit's addresses. `Heads`: an F-SEID's flags, a message's header.
+-- `Placed`: what a writer leaves and answers. `Families`: an F-TEID with the unit's addresses. `Heads`: a message's header.
 pub mod Placed
 pub mod Families
 pub mod Heads

@@ -2,36 +2,35 @@
 -- Assumes nothing.
 use native.Mathlib.Omega.{arith}
 use borrow.Author.Needs.{needs}
-use Rattle.created.proofs.GroupSteps.{group-steps}
+use Rattle.created.proofs.GroupSteps.{length-number, group-steps}
 use Rattle.created.proofs.write_group.Statement.{statement}
 use Rattle.created.proofs.write_group.Tie as tie
 
 write-tunnel-requires : tie.Need-write-tunnel-requires
 write-tunnel-requires c κs =
-    let w = c .before .before .before in
-    let h = w .before .before .before .before in
-    omega (arith, h .before .before .before .pre .1, h .write-head .kept .1 .1 .0, w .write .kept .0)
+    let n = c .before .before .before in
+    let s = n .before .before .before in
+    omega (arith, s .pre .1, n .write-number .kept .1 .1 .1 .0, n .write-number .ensures .ends, length-number (s .args .member) (s .args .width) (s .args .g .id))
 
 write-address-requires : tie.Need-write-address-requires
 write-address-requires c κs =
     let t = c .before .before .before in
-    let w = t .before .before .before .before in
-    let h = w .before .before .before .before in
-    omega (arith, h .before .before .before .pre .1, h .write-head .kept .1 .1 .0, w .write .kept .0, t .write-tunnel .kept .1 .1 .0, t .write-tunnel .ensures .ends)
+    let n = t .before .before .before .before in
+    let s = n .before .before .before in
+    omega (arith, s .pre .1, n .write-number .kept .1 .1 .1 .0, n .write-number .ensures .ends, length-number (s .args .member) (s .args .width) (s .args .g .id), t .write-tunnel .kept .1 .1 .0, t .write-tunnel .ensures .ends)
 
 sub-write-head : tie.Need-sub-write-head
 sub-write-head c =
     let a = c .before .before in
     let t = a .before .before .before .before in
-    omega (arith, t .write-tunnel .ensures .ends, a .write-address .ensures .ends)
+    omega (arith, t .before .before .before .before .write-number .ensures .ends, t .write-tunnel .ensures .ends, a .write-address .ensures .ends)
 
-write-head-requires-2 : tie.Need-write-head-requires-2
-write-head-requires-2 c κs =
+write-head-requires : tie.Need-write-head-requires
+write-head-requires c κs =
     let a = c .before .before .before in
     let t = a .before .before .before .before in
-    let w = t .before .before .before .before in
-    let h = w .before .before .before .before in
-    omega (arith, h .before .before .before .pre .1, h .write-head .kept .1 .1 .0, w .write .kept .0, t .write-tunnel .kept .1 .1 .0, a .write-address .kept .1 .0)
+    let n = t .before .before .before .before in
+    omega (arith, n .before .before .before .pre .1, n .write-number .kept .1 .1 .1 .0, t .write-tunnel .kept .1 .1 .0, a .write-address .kept .1 .0)
 
 returns : tie.Need-returns
 returns c = search group-steps
@@ -42,14 +41,10 @@ write-group-spec =
     (tie.spec
     (λ c. search needs)
     (λ c κs. search needs)
-    (λ c. search needs)
-    (λ c κs. search needs)
-    (λ c. search needs)
-    (λ c. search needs)
     write-tunnel-requires
     write-address-requires
     (λ c. search needs)
     sub-write-head
-    write-head-requires-2
+    write-head-requires
     (λ c. search needs)
     returns)

@@ -2,7 +2,7 @@
 -- Assumes nothing.
 use native.Mathlib.Omega.{arith}
 use borrow.Author.Needs.{needs}
-use Rattle.restoration.proofs.SoundSlots.{table-long}
+use Rattle.table.proofs.SoundSlots.{table-long}
 use Rattle.finding.proofs.Steps.{is-sound, sessions-counted, teid-broken, teid-told}
 use Rattle.finding.proofs.find_holder.Statement.{statement}
 use Rattle.finding.proofs.find_holder.Tie as tie

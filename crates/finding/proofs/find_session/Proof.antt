@@ -2,7 +2,7 @@
 -- Assumes nothing.
 use native.Mathlib.Omega.{arith}
 use borrow.Author.Needs.{needs}
-use Rattle.restoration.proofs.SoundSlots.{table-long}
+use Rattle.table.proofs.SoundSlots.{table-long}
 use Rattle.finding.proofs.Steps.{is-sound, seid-broken, room-there, seid-told, seid-none}
 use Rattle.finding.proofs.find_session.Statement.{statement}
 use Rattle.finding.proofs.find_session.Tie as tie

@@ -8,7 +8,7 @@ use lib.ListN.{length, drop}
 use Rattle.rules.specs.Limits.{maxSessions}
 use Rattle.rules.specs.Layout.{tableLength, viewSettings, viewSessions}
 use Rattle.rules.specs.Finding.{placeFrom, isHolder, holderPlace}
-use Rattle.restoration.proofs.SoundSlots.{table-long, within-limit, few-sessions}
+use Rattle.table.proofs.SoundSlots.{table-long, within-limit, few-sessions}
 use Rattle.finding.proofs.Steps.{slot-counted, holder-here, holder-later, holder-none}
 use Rattle.finding.proofs.holder.Statement.{statement}
 use Rattle.finding.proofs.holder.Tie as tie

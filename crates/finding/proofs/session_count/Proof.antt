@@ -2,7 +2,7 @@
 -- Assumes nothing.
 use native.Mathlib.Omega.{arith}
 use borrow.Author.Needs.{needs}
-use Rattle.restoration.proofs.SoundSlots.{table-long}
+use Rattle.table.proofs.SoundSlots.{table-long}
 use Rattle.finding.proofs.Steps.{is-sound, count-broken, count-told}
 use Rattle.finding.proofs.session_count.Statement.{statement}
 use Rattle.finding.proofs.session_count.Tie as tie

@@ -2,7 +2,8 @@
 -- Assumes nothing.
 use mathlib.Core.Path.{refl}
 use native.Mathlib.Omega.{arith}
-use Rattle.restoration.proofs.SoundSlots.{table-long, few-sessions, within-limit, place-fits}
+use Rattle.table.proofs.SoundSlots.{table-long, few-sessions, within-limit}
+use Rattle.restoration.proofs.SoundSlots.{place-fits}
 use Rattle.restoration.proofs.RequestSteps.{elements-room, request-steps}
 use borrow.Author.Needs.{needs}
 use Rattle.restoration.proofs.write_request.Statement.{statement}

@@ -2,7 +2,7 @@
 -- Assumes nothing.
 use native.Mathlib.Omega.{arith}
 use Rattle.restoration.proofs.RequestSteps.{answer-broken, sound-is, answer-past, answer-unaddressed, ready-now, answer-written}
-use Rattle.restoration.proofs.SoundSlots.{table-long}
+use Rattle.table.proofs.SoundSlots.{table-long}
 use borrow.Author.Needs.{needs}
 use Rattle.restoration.proofs.write_restoration.Statement.{statement}
 use Rattle.restoration.proofs.write_restoration.Tie as tie

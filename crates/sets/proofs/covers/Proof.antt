@@ -43,6 +43,7 @@ covers-spec =
     tie.close
     (tie.spec
     (λ c. search needs)
+    (λ c. omega (arith, c .before .before .shared-slice-known .given 0))
     (λ c κs. search needs)
     (λ c. search needs)
     (λ c. search needs)

@@ -1,25 +1,9 @@
--- `writing::write_fseid` meets its contract: the head, the flags, the SEID and the addresses are one element.
+-- `writing::write_fseid` meets its contract: the value and the head before it are one element.
 -- Assumes nothing.
-use mathlib.Core.Path.{_∙_}
-use native.Mathlib.Omega.{arith}
-use lib.ListN.{length-set}
 use Rattle.writing.proofs.ElementSteps.{fseid-steps}
 use borrow.Author.Needs.{needs}
 use Rattle.writing.proofs.write_fseid.Statement.{statement}
 use Rattle.writing.proofs.write_fseid.Tie as tie
-
-write-requires : tie.Need-write-requires
-write-requires c κs = simp length-set (omega arith)
-
-copy-requires : tie.Need-copy-requires
-copy-requires c κs = omega (arith, c .before .before .before .before .before .before .before .before .before .before .before .before .before .pre, simp length-set at (c .before .before .before .write .kept .0), c .before .before .before .before .before .before .before .before .write-head .kept .1 .1 .0)
-
-copy-requires-2 : tie.Need-copy-requires-2
-copy-requires-2 c κs =
-    omega (arith, c .before .before .before .before .before .before .before .before .before .before .before .before .before .before .before .before .before .pre, c .before .before .before .copy .kept .0, simp length-set at (c .before .before .before .before .before .before .before .write .kept .0), c .before .before .before .before .before .before .before .before .before .before .before .before .write-head .kept .1 .1 .0)
-
-same-length : tie.Need-same-length
-same-length c = c .before .before .copy2 .kept .0 ∙ c .before .before .before .before .before .before .copy .kept .0 ∙ (simp length-set at (c .before .before .before .before .before .before .before .before .before .before .write .kept .0)) ∙ c .before .before .before .before .before .before .before .before .before .before .before .before .before .before .before .write-head .kept .1 .1 .0
 
 returns : tie.Need-returns
 returns c = search fseid-steps
@@ -29,18 +13,9 @@ write-fseid-spec =
     tie.close
     (tie.spec
     (λ c. search needs)
-    (λ c. search needs)
-    (λ c. search needs)
-    (λ c. search needs)
-    (λ c. search needs)
-    (λ c κs. search needs)
     (λ c κs. search needs)
     (λ c. search needs)
     (λ c. search needs)
+    (λ c κs. search needs)
     (λ c. search needs)
-    write-requires
-    (λ c. search needs)
-    copy-requires
-    copy-requires-2
-    same-length
     returns)

@@ -1,20 +1,9 @@
--- `writing::write_head` meets its contract: four stores are one put.
+-- `writing::write_head` meets its contract: two numbers are one put.
 -- Assumes nothing.
-use native.Mathlib.Omega.{arith}
-use borrow.Author.Needs.{needs}
-use lib.ListN.{length-set}
 use Rattle.writing.proofs.ElementSteps.{head-steps}
+use borrow.Author.Needs.{needs}
 use Rattle.writing.proofs.write_head.Statement.{statement}
 use Rattle.writing.proofs.write_head.Tie as tie
-
-slice-write-out-2 : tie.Need-slice-write-out-2
-slice-write-out-2 c = simp length-set (omega arith)
-
-slice-write-out-3 : tie.Need-slice-write-out-3
-slice-write-out-3 c = simp length-set (omega arith)
-
-slice-write-out-4 : tie.Need-slice-write-out-4
-slice-write-out-4 c = simp length-set (omega arith)
 
 returns : tie.Need-returns
 returns c = search head-steps
@@ -23,16 +12,8 @@ pub write-head-spec : {M : Type 1} → statement M
 write-head-spec =
     tie.close
     (tie.spec
+    (λ c κs. search needs)
     (λ c. search needs)
-    (λ c. search needs)
-    (λ c. search needs)
-    (λ c. search needs)
-    slice-write-out-2
-    (λ c. search needs)
-    (λ c. search needs)
-    slice-write-out-3
-    (λ c. search needs)
-    (λ c. search needs)
-    slice-write-out-4
+    (λ c κs. search needs)
     (λ c. search needs)
     returns)

@@ -17,7 +17,7 @@ write-own-fseid-spec =
     (tie.spec
     returns
     (λ c. search needs)
-    (λ c. search needs)
+    (λ c κs. search needs)
     (λ c. search needs)
     (λ c. search needs)
     (λ c. search needs)

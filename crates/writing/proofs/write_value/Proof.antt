@@ -1,4 +1,4 @@
--- `writing::write_value` meets its contract: the head and a copy are one element.
+-- `writing::write_value` meets its contract: what it holds and the head before it are one element.
 -- Assumes nothing.
 use Rattle.writing.proofs.ElementSteps.{value-steps}
 use borrow.Author.Needs.{needs}
@@ -12,8 +12,8 @@ pub write-value-spec : {M : Type 1} → statement M
 write-value-spec =
     tie.close
     (tie.spec
-    (λ c κs. search needs)
     (λ c. search needs)
+    (λ c κs. search needs)
     (λ c κs. search needs)
     (λ c. search needs)
     (λ c. search needs)

@@ -2,9 +2,9 @@
 use mathlib.Core.Path.{sym, _∙_}
 use borrow.Author.Needs.{needs}
 use borrow.Author.Tests.{not-true, not-false}
-use Rattle.element.proofs.FlagLaws.{and-true}
 use Rattle.element.proofs.fqcsid.keeps_rules.Statement.{statement}
 use Rattle.element.proofs.fqcsid.keeps_rules.Tie as tie
+use Rattle.octets.proofs.Bools.{and-true}
 
 returns : tie.Need-returns
 returns c = rw (sym (c .before .is-kept .ensures) ∙ not-true (c .before .is-kept .result) (c .if1 .taken))

@@ -1,13 +1,10 @@
 -- `element::fqcsid::write` meets its contract: at each return the tests that led there say what the rules leave.
 -- Assumes nothing.
-use mathlib.Core.List.{List}
 use mathlib.Core.Path.{sym, ap, _∙_}
-use Prim.Native.Nat.{ℕ}
 use native.Mathlib.Omega.{arith}
 use borrow.Author.Needs.{needs}
 use borrow.Author.Tests.{not-true, not-false}
-use Rattle.octets.specs.Octets.{put}
-use Rattle.octets.specs.Fields.{fieldOctets}
+use Rattle.octets.specs.Fields.{widthOf}
 use Rattle.octets.proofs.Tests.{of-true}
 use Rattle.element.proofs.FqCsidLaws.{narrow-widths}
 use Rattle.element.proofs.FqCsidWriting.{right, write-refused, write-no-room, write-done}
@@ -34,24 +31,22 @@ returns-2 c =
     let a = w .before .before .before .before .args in
     write-no-room (a .v) (a .out .now) (w .widths-of .result) (w .widths-of .ensures) (omega arith)
 
-numbers-of-requires : tie.Need-numbers-of-requires
-numbers-of-requires c κs =
-    let i = c .before .before .before .before in
+write-at-requires : tie.Need-write-at-requires
+write-at-requires c κs =
+    let i = c .before .before .before .before .before in
     let b = i .before in
     let r = right (b .before .before .args .v) (of-true (sym (b .is-allowed .ensures) ∙ not-false (b .is-allowed .result) (i .if1 .left))) in
-    (omega (arith, r .kind), omega (arith, r .few))
+    (omega (arith, r .kind), r .few, omega (arith, c .before .if2 .left, c .before .before .width .ensures ∙ ap widthOf (c .before .before .before .before .widths-of .ensures)))
 
 returns-3 : tie.Need-returns-3
 returns-3 c =
-    let n = c .before .before .before .before .before .before in
-    let i = n .before in
+    let i = c .before .before .before .before in
     let w = i .before .before .before in
     let b = w .before .before in
     let a = b .before .before .args in
-    rw (i .before .width .ensures)
-    (write-done (a .v) (a .out .now) (w .widths-of .result) (w .widths-of .ensures) (c .before .before .write-fields .last .0)
+    write-done (a .v) (a .out .now) (w .widths-of .result) (w .widths-of .ensures) (c .before .before .write-at .result) (c .before .before .write-at .last .1 .0)
     (sym (b .is-allowed .ensures) ∙ not-false (b .is-allowed .result) (w .before .if1 .left)) (omega (arith, i .if2 .left, i .before .width .ensures))
-    (c .before .before .write-fields .ensures ∙ ap (λ (l : List ℕ). put 0 (fieldOctets (w .widths-of .result) l) (a .out .now)) (n .numbers-of .ensures)))
+    (c .before .before .write-at .ensures)
 
 pub write-spec : {M : Type 1} → statement M
 write-spec =
@@ -63,9 +58,6 @@ write-spec =
     (λ c. search needs)
     width-requires
     returns-2
-    numbers-of-requires
-    (λ c. search needs)
-    (λ c. search needs)
-    (λ c κs. search needs)
+    write-at-requires
     (λ c. search needs)
     returns-3)

@@ -1,9 +1,10 @@
 -- `element::fteid::write` meets its contract: at each return the tests that led there say what the rules leave.
 -- Assumes nothing.
-use mathlib.Core.Path.{sym, _∙_}
+use mathlib.Core.Path.{sym, ap, _∙_}
 use borrow.Author.Needs.{needs}
 use borrow.Author.Tests.{not-true, not-false}
 use native.Mathlib.Omega.{arith}
+use Rattle.octets.specs.Fields.{widthOf}
 use Rattle.element.proofs.FTeidLaws.{narrow-widths, write-refused, write-no-room, write-done}
 use Rattle.element.proofs.fteid.write.Statement.{statement}
 use Rattle.element.proofs.fteid.write.Tie as tie
@@ -22,16 +23,18 @@ returns-2 c =
     let a = w .before .before .before .before .args in
     write-no-room (a .endpoint) (a .v) (a .out .now) (w .widths-of .result) (w .widths-of .ensures) (omega arith)
 
+write-at-requires : tie.Need-write-at-requires
+write-at-requires c κs = omega (arith, c .before .if2 .left, c .before .before .width .ensures ∙ ap widthOf (c .before .before .before .before .widths-of .ensures))
+
 returns-3 : tie.Need-returns-3
 returns-3 c =
-    let i = c .before .before .before .before .before .before in
+    let i = c .before .before .before .before in
     let w = i .before .before .before in
     let b = w .before .before in
     let a = b .before .before .args in
-    rw (i .before .width .ensures)
-    (write-done (a .endpoint) (a .v) (a .out .now) (w .widths-of .result) (w .widths-of .ensures) (c .before .before .write-fields .last .0)
+    write-done (a .endpoint) (a .v) (a .out .now) (w .widths-of .result) (w .widths-of .ensures) (c .before .before .write-at .result) (c .before .before .write-at .last .1 .0)
     (sym (b .is-allowed .ensures) ∙ not-false (b .is-allowed .result) (w .before .if1 .left)) (omega (arith, i .if2 .left, i .before .width .ensures))
-    (c .before .before .write-fields .ensures))
+    (c .before .before .write-at .ensures)
 
 pub write-spec : {M : Type 1} → statement M
 write-spec =
@@ -43,8 +46,6 @@ write-spec =
     (λ c. search needs)
     width-requires
     returns-2
-    (λ c. search needs)
-    (λ c. search needs)
-    (λ c κs. search needs)
+    write-at-requires
     (λ c. search needs)
     returns-3)

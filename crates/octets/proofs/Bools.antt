@@ -1,10 +1,12 @@
 -- Laws of tests joined by `and` and `or`, of use to every crate. Assumes nothing.
 use mathlib.Core.Path.{_≡_, refl, sym, _∙_}
 use mathlib.Core.Bool.{Bool, true, false, not, _&&_, _||_}
-use Prim.Native.Nat.{ℕ}
+use Prim.Native.Nat.{ℕ, zero, suc, _<_}
+use native.Mathlib.Omega.{arith}
 use native.Mathlib.Decide.{ℕ-discrete}
 use borrow.Author.Tests.{eq-eqb, ne-eqb}
 use lib.Dec.{T, eqb}
+use Rattle.octets.specs.Choice.{flag, sameBool}
 
 -- two tests that follow from each other are one
 pub both-ways : (a b : Bool) → (T a → T b) → (T b → T a) → a ≡ b
@@ -26,6 +28,14 @@ eqb-turn a b = go (ℕ-discrete a b)
 
 -- ---- and
 
+pub and-false : (b : Bool) → (b && false) ≡ false
+and-false true = refl
+and-false false = refl
+
+pub and-assoc : (a b c : Bool) → ((a && b) && c) ≡ (a && (b && c))
+and-assoc true b c = refl
+and-assoc false b c = refl
+
 pub and-true : (b : Bool) → (b && true) ≡ b
 and-true true = refl
 and-true false = refl
@@ -43,6 +53,14 @@ and-four false b c d = refl
 
 -- ---- or
 
+pub or-true : (b : Bool) → (b || true) ≡ true
+or-true true = refl
+or-true false = refl
+
+pub or-false : (b : Bool) → (b || false) ≡ b
+or-false true = refl
+or-false false = refl
+
 pub or-swap : (a b c : Bool) → (a || (b || c)) ≡ (b || (a || c))
 or-swap true true c = refl
 or-swap true false c = refl
@@ -53,3 +71,20 @@ or-four true b c d = refl
 or-four false true true d = refl
 or-four false true false d = refl
 or-four false false c d = refl
+
+-- ---- bits
+
+-- a number below 2 as a test, and back
+pub flag-bit : (n : ℕ) → n < 2 → flag (eqb n 1) ≡ n
+flag-bit zero h = refl
+flag-bit (suc zero) h = refl
+flag-bit (suc (suc n)) h = absurd (omega arith)
+
+pub same-bit : (m n : ℕ) → m < 2 → n < 2 → sameBool (eqb m 1) (eqb n 1) ≡ eqb m n
+same-bit zero zero h k = refl
+same-bit zero (suc zero) h k = refl
+same-bit (suc zero) zero h k = refl
+same-bit (suc zero) (suc zero) h k = refl
+same-bit zero (suc (suc n)) h k = absurd (omega arith)
+same-bit (suc zero) (suc (suc n)) h k = absurd (omega arith)
+same-bit (suc (suc m)) n h k = absurd (omega arith)
