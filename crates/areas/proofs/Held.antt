@@ -19,13 +19,13 @@ use Rattle.octets.proofs.Put.{put-over, part-of}
 use Rattle.octets.proofs.Numbers.{length-be, number-be}
 use Rattle.octets.proofs.Tests.{all-head, all-tail, all-cons, no-eqb}
 use Rattle.octets.proofs.Ordered.{ne-of, keep-all, keep-passes, keep-ascending, otherKey, insert-all, insert-length, insert-ascending}
-use Rattle.slots.specs.Records.{keyOf, lookup, inserted, removed, replaced}
-use Rattle.slots.specs.declared.Place.{Place}
-use Rattle.slots.specs.declared.Place.the-variants.{Found, Absent}
-use Rattle.slots.proofs.Lookup.{getD-slices}
-use Rattle.slots.proofs.Area as slot
-use Rattle.slots.proofs.Area.{Wide, insert-held, remove-held, replace-held, held-slices, held-length}
-use Rattle.slots.proofs.Places.{insertAt, removeAt, otherThan, found-within, absent-within, absent-record, remove-found, change-found, insert-absent, replace-found}
+use Rattle.areas.specs.Records.{keyOf, lookup, inserted, removed, replaced}
+use Rattle.areas.specs.declared.Lookup.{Lookup}
+use Rattle.areas.specs.declared.Lookup.the-variants.{Found, Absent}
+use Rattle.areas.proofs.LookupLaws.{getD-slices}
+use Rattle.areas.proofs.AreaLaws as slot
+use Rattle.areas.proofs.AreaLaws.{Wide, insert-held, remove-held, replace-held, held-slices, held-length}
+use Rattle.areas.proofs.Places.{insertAt, removeAt, otherThan, found-within, absent-within, absent-record, remove-found, change-found, insert-absent, replace-found}
 use Rattle.areas.specs.declared.Area.{Area}
 use Rattle.areas.specs.Counted.{countIn, areaIn, placeIn, insertedIn, removedIn, replacedIn, clearedIn, atPlace, withRecord, withoutRecord}
 
@@ -222,10 +222,10 @@ module _ {A : Type 0} (f : A → List ℕ) (key : A → ℕ) (a : Area) (p : A �
       pub with-held : length with ≤ a .room → Held pre mid post with (withRecord a (f r) s)
       unfolding withRecord
       with-held l =
-          subst (λ (q : Place). Held pre mid post with (atPlace q (λ n. replacedIn a n (f r) s) (λ n. pick (ltb (countIn a s) (a .room)) (insertedIn a n (f r) s) s)))
+          subst (λ (q : Lookup). Held pre mid post with (atPlace q (λ n. replacedIn a n (f r) s) (λ n. pick (ltb (countIn a s) (a .room)) (insertedIn a n (f r) s) s)))
           (sym place-key) (go (lookup (key r) (map key rs)) refl)
         where
-          go : (q : Place) → lookup (key r) (map key rs) ≡ q
+          go : (q : Lookup) → lookup (key r) (map key rs) ≡ q
               → Held pre mid post with (atPlace q (λ n. replacedIn a n (f r) s) (λ n. pick (ltb (countIn a s) (a .room)) (insertedIn a n (f r) s) s))
           go (Found n) e = over-found n e
           go (Absent n) e =
@@ -255,9 +255,9 @@ module _ {A : Type 0} (f : A → List ℕ) (key : A → ℕ) (a : Area) (p : A �
       pub without-held : Held pre mid post left (withoutRecord a x s)
       unfolding withoutRecord
       without-held =
-          subst (λ (q : Place). Held pre mid post left (atPlace q (λ n. removedIn a n s) (λ n. s))) (sym (place-held x)) (go (lookup x (map key rs)) refl)
+          subst (λ (q : Lookup). Held pre mid post left (atPlace q (λ n. removedIn a n s) (λ n. s))) (sym (place-held x)) (go (lookup x (map key rs)) refl)
         where
-          go : (q : Place) → lookup x (map key rs) ≡ q → Held pre mid post left (atPlace q (λ n. removedIn a n s) (λ n. s))
+          go : (q : Lookup) → lookup x (map key rs) ≡ q → Held pre mid post left (atPlace q (λ n. removedIn a n s) (λ n. s))
           go (Found n) e = out-found n e
           go (Absent n) e = subst (λ (l : List A). Held pre mid post l s) (sym (keep-none (λ y. eqb (key y) x) rs (absent-record key x n rs (h .up) e))) h
 

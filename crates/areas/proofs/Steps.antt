@@ -13,10 +13,10 @@ use Rattle.octets.specs.Choice.{pick}
 use Rattle.octets.specs.Octets.{be, number, part, put, zeros, slices}
 use Rattle.octets.proofs.Put.{put-lent, length-part}
 use Rattle.octets.proofs.Numbers.{length-slices}
-use Rattle.slots.specs.Records.{keyOf, lookup, inserted, removed, replaced}
-use Rattle.slots.specs.declared.Place.{Place}
-use Rattle.slots.specs.declared.Place.the-variants.{Found, Absent}
-use Rattle.slots.proofs.Places.{found-within, absent-within}
+use Rattle.areas.specs.Records.{keyOf, lookup, inserted, removed, replaced}
+use Rattle.areas.specs.declared.Lookup.{Lookup}
+use Rattle.areas.specs.declared.Lookup.the-variants.{Found, Absent}
+use Rattle.areas.proofs.Places.{found-within, absent-within}
 use Rattle.areas.specs.declared.Area.{Area}
 use Rattle.areas.specs.Counted.{Fits, countIn, areaIn, placeIn, insertedIn, removedIn, replacedIn, clearedIn, withRecord, withoutRecord}
 
@@ -63,7 +63,7 @@ module _ (a : Area) (s : List ℕ) where
   unfolding placeIn
   place-none n x e h = rw (← e, lt-ltb (a .room) n h)
 
-  pub place-found : (end n x : ℕ) (p : Place) → End end → n ≡ countIn a s → n ≤ a .room → p ≡ lookup x (map (keyOf (a .key)) (slices (a .width) n (between (a .at) end s)))
+  pub place-found : (end n x : ℕ) (p : Lookup) → End end → n ≡ countIn a s → n ≤ a .room → p ≡ lookup x (map (keyOf (a .key)) (slices (a .width) n (between (a .at) end s)))
       → p ≡ placeIn a x s
   unfolding placeIn
   place-found end n x p d e h q = q ∙ rw (← e, le-ltb (a .room) n h, exact end d)
@@ -110,7 +110,7 @@ module _ (a : Area) (s : List ℕ) where
       go false q = rw (← length-slices (a .width) (countIn a s) (areaIn a s)) (absent-within (keyOf (a .key)) x p (slices (a .width) (countIn a s) (areaIn a s)) q)
 
   -- the cases of putting a record in and taking one out
-  module _ (x p : ℕ) (place : Place) (q : place ≡ placeIn a x s) where
+  module _ (x p : ℕ) (place : Lookup) (q : place ≡ placeIn a x s) where
     pub put-over-found : (r done : List ℕ) → x ≡ number (part 0 (a .key) r) → place ≡ Found p → done ≡ replacedIn a p r s → done ≡ withRecord a r s
     unfolding withRecord keyOf
     put-over-found r done k e d = d ∙ rw (← k, ← q, e)

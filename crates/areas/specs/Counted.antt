@@ -5,9 +5,9 @@ use Prim.Native.Nat.{ℕ, _+_, _-_, _*_, _≤_}
 use lib.Dec.{ltb}
 use Rattle.octets.specs.Choice.{pick}
 use Rattle.octets.specs.Octets.{be, numberAt, part, put, zeros, slices}
-use Rattle.slots.specs.Records.{keyOf, lookup, inserted, removed, replaced}
-use Rattle.slots.specs.declared.Place.{Place}
-use Rattle.slots.specs.declared.Place.the-variants.{Found, Absent}
+use Rattle.areas.specs.Records.{keyOf, lookup, inserted, removed, replaced}
+use Rattle.areas.specs.declared.Lookup.{Lookup}
+use Rattle.areas.specs.declared.Lookup.the-variants.{Found, Absent}
 use Rattle.areas.specs.declared.Area.{Area}
 
 -- octets of a length have room for the count and the records
@@ -26,7 +26,7 @@ unfoldable pub areaIn : Area → List ℕ → List ℕ
 areaIn a s = part (a .at) (a .room * a .width) s
 
 -- where a key stands or has its place; an area that counts more than it has room for has none
-unfoldable pub placeIn : Area → ℕ → List ℕ → Place
+unfoldable pub placeIn : Area → ℕ → List ℕ → Lookup
 placeIn a x s = pick (ltb (a .room) (countIn a s)) (Absent 0) (lookup x (map (keyOf (a .key)) (slices (a .width) (countIn a s) (areaIn a s))))
 
 -- ---- what is left after a change at a place
@@ -46,7 +46,7 @@ clearedIn a s = put (a .«count_at») (be (a .«count_width») 0) (put (a .at) (
 -- ---- by key
 
 -- by whether the key is there
-abbrev pub atPlace : Place → (ℕ → List ℕ) → (ℕ → List ℕ) → List ℕ
+abbrev pub atPlace : Lookup → (ℕ → List ℕ) → (ℕ → List ℕ) → List ℕ
 atPlace (Found p) there absent = there p
 atPlace (Absent p) there absent = absent p
 

@@ -4,7 +4,14 @@ ghost use mathlib.Core.Path.{_≡_};
 ghost use Prim.Native.Nat.{_≤_, _<_};
 ghost use lib.ListN.{length};
 ghost use Rattle.areas.specs.Counted.{Fits, countIn, placeIn, insertedIn, removedIn, replacedIn, clearedIn, withRecord, withoutRecord};
-use slots::Place;
+
+pub mod slots;
+
+// Where a key stands, or where a record with that key has its place.
+pub enum Lookup {
+    Found(usize),
+    Absent(usize),
+}
 
 // Where an area stands: its count, of count_width octets at count_at; its records, room for `room` of them of `width` octets
 // each from `at` on; a record's key is the number of its first `key` octets.
@@ -26,13 +33,13 @@ pub fn count(s: &[u8], a: Area) -> usize
 }
 
 // Where the record of a key stands, or has its place. An area that counts more records than it has room for has none.
-pub fn find(s: &[u8], a: Area, x: u64) -> Place
+pub fn find(s: &[u8], a: Area, x: u64) -> Lookup
     requires { ⌜ Fits a (length (now s)) ⌝ }
     ensures { λ r. ⌜ r ≡ placeIn a x (now (s .entry)) ⌝ }
 {
     let n = count(s, a);
     if a.room < n {
-        return Place::Absent(0);
+        return Lookup::Absent(0);
     }
     let at = a.at;
     let end = at + a.room * a.width;
@@ -90,8 +97,8 @@ pub fn put_record(s: &mut [u8], a: Area, r: &[u8])
     let x = octets::read(r, 0, a.key);
     let place = find(s, a, x);
     match place {
-        Place::Found(p) => replace(s, a, p, r),
-        Place::Absent(p) => {
+        Lookup::Found(p) => replace(s, a, p, r),
+        Lookup::Absent(p) => {
             if count(s, a) < a.room {
                 insert(s, a, p, r);
             }
@@ -105,7 +112,7 @@ pub fn drop_record(s: &mut [u8], a: Area, x: u64)
     ensures { λ _. ⌜ now (s .exit) ≡ withoutRecord a x (now (s .entry)) ⌝ }
 {
     let place = find(s, a, x);
-    let Place::Found(p) = place else {
+    let Lookup::Found(p) = place else {
         return;
     };
     remove(s, a, p);

@@ -15,22 +15,22 @@ use Rattle.octets.specs.Choice.{pick, mapOption}
 use Rattle.octets.specs.Lists.{keep, all, ascending, insertBy, insertAll, anyIn}
 use Rattle.octets.specs.Octets.{put}
 use Rattle.octets.proofs.Tests.{pick-yes, pick-no, each, all-head, all-tail, all-cons, no-eqb, ascending-head, ascending-tail}
-use Rattle.rules.specs.Model.{Settings, Tunnel, Place, neither, tunnel, endpoint, Pdr, Endpoint, Csid, Session, Sessions, endpointId, pdrId, nodeTypeOf, placeTunnel, placeEndpoint, sessionTeids, heldTeids, sessionAddresses, heldAddresses}
+use Rattle.rules.specs.Model.{Settings, Tunnel, Match, neither, tunnel, endpoint, Pdr, Endpoint, Csid, Session, Sessions, endpointId, pdrId, nodeTypeOf, matchedTunnel, matchedEndpoint, sessionTeids, heldTeids, sessionAddresses, heldAddresses}
 use Rattle.rules.specs.Elements.{unitFteid, ueGiven}
 use Rattle.rules.specs.Limits.{maxMessage, minSpace}
 use Rattle.rules.specs.Layout.{encode}
-use Rattle.rules.specs.Sound.{settingsAllowed, tunnelAllowed, placeAllowed, pdrTests, pdrAllowed, endpointTests, endpointAllowed, sessionTests, sessionAllowed, sessionsAllowed, sound}
+use Rattle.rules.specs.Sound.{settingsAllowed, tunnelAllowed, matchAllowed, pdrTests, pdrAllowed, endpointTests, endpointAllowed, sessionTests, sessionAllowed, sessionsAllowed, sound}
 use Rattle.laws.proofs.LayoutLaws.{pdrsOk, endpointsOk, tests}
 use Rattle.laws.proofs.TableLaws.{sound-encode, encoded-settings, sessions-back}
 use Rattle.rules.specs.Message.{headerSeid, headerAllowed, served, frameFault, establishment, modification, deletion, setDeletion}
-use Rattle.rules.specs.Reading.{Request}
+use Rattle.rules.specs.Request.{Request}
 use Rattle.rules.specs.Grants.{Kind, Got, granted}
 use Rattle.rules.specs.Stages.{newSession, atEntry, isLive, plain, judge, entrySession, judged, fromReading, fromFraming, unknownSession, verdict, unnamed}
-use Rattle.rules.specs.Apply.{tunnelFrom, namedPlace, placeFrom, addressGot, addressFrom, createPdr, createEndpoint, updateAll, otherNode, setCsid, setCsids, followCsids, pdrsAfter, endpointsAfter, apply, putSession, follow}
+use Rattle.rules.specs.Apply.{tunnelFrom, namedMatch, matchFrom, addressGot, addressFrom, createPdr, createEndpoint, updateAll, otherNode, setCsid, setCsids, followCsids, pdrsAfter, endpointsAfter, apply, putSession, follow}
 use Rattle.rules.specs.Serve.{unserved, sessionsAfter, replyTo, answered, answer, serveSound, serve}
-use Rattle.rules.specs.Restoration.{Peer, peerAllowed, restoration, restoredPdr, restoredEndpoint, restoredRequest, recordCsid}
+use Rattle.rules.specs.Restoration.{Sender, senderAllowed, restoration, restoredPdr, restoredEndpoint, restoredRequest, recordCsid}
 use Rattle.rules.specs.Causes as why
-use Rattle.claim.proofs.RestorationRead.{msg-allowed, msg-kind, msg-short, msg-framed, msg-sound, msg-request}
+use Rattle.laws.proofs.RestorationRead.{msg-allowed, msg-kind, msg-short, msg-framed, msg-sound, msg-request}
 use Rattle.claim.proofs.RestorationJudge.{v4-same, v6-same, unit-families, restored-judged}
 
 -- ---- putting in what ascends
@@ -93,11 +93,11 @@ module _ (s : Settings) (hs : T (settingsAllowed s)) where
   unfolding tunnelFrom unitFteid
   tunnel-again n t h = λ i. record { teid = t .teid; v4 = v4-same s hs (t .v4) i; v6 = v6-same s hs (t .v6) (unit-families s hs t h) i }
 
-  place-again : (n : ℕ) (live : List ℕ) (l : Place) → T (placeAllowed s live l) → placeFrom n (mapOption (unitFteid s) (placeTunnel l)) (placeEndpoint l) ≡ l
-  unfolding placeFrom namedPlace placeTunnel placeEndpoint placeAllowed
-  place-again n live neither h = refl
-  place-again n live (tunnel t) h = ap tunnel (tunnel-again n t h)
-  place-again n live (endpoint e) h = refl
+  match-again : (n : ℕ) (live : List ℕ) (l : Match) → T (matchAllowed s live l) → matchFrom n (mapOption (unitFteid s) (matchedTunnel l)) (matchedEndpoint l) ≡ l
+  unfolding matchFrom namedMatch matchedTunnel matchedEndpoint matchAllowed
+  match-again n live neither h = refl
+  match-again n live (tunnel t) h = ap tunnel (tunnel-again n t h)
+  match-again n live (endpoint e) h = refl
 
   address-again : (n : ℕ) (o : Option ℕ) → addressFrom n (mapOption ueGiven o) ≡ o
   unfolding addressFrom addressGot
@@ -109,7 +109,7 @@ module _ (s : Settings) (hs : T (settingsAllowed s)) where
   pdrs-again got live [] h = refl
   pdrs-again got live (p ∷ ps) h =
       let e = each (pdrTests s live p) (all-head (pdrAllowed s live) p ps h) in
-      λ i. record { id = p .id; precedence = p .precedence; far = p .far; source = p .source; place = place-again (got Kind.ofPdr (p .id) .teid) live (p .place) (e .1 .1 .1 .1 .0) i; address = address-again (got Kind.ofPdr (p .id) .address) (p .address) i }
+      λ i. record { id = p .id; precedence = p .precedence; far = p .far; source = p .source; match = match-again (got Kind.ofPdr (p .id) .teid) live (p .match) (e .1 .1 .1 .1 .0) i; address = address-again (got Kind.ofPdr (p .id) .address) (p .address) i }
       ∷ pdrs-again got live ps (all-tail (pdrAllowed s live) p ps h) i
 
   endpoints-again : (got : Kind → ℕ → Got) (es : List Endpoint) → T (all (endpointAllowed s) es) → map (createEndpoint got) (map (restoredEndpoint s) es) ≡ es
@@ -148,7 +148,7 @@ module _ (s : Settings) (hs : T (settingsAllowed s)) where
     -- ---- the call
 
     module _ (m : Sessions) (fresh : isLive (x .seid) m ≡ false) (room : length m < s .limit)
-        (separate : T (not (anyIn (sessionTeids x) (heldTeids m)))) (separateAddresses : T (not (anyIn (sessionAddresses s x) (heldAddresses s m)))) (p : Peer) (hp : T (peerAllowed p)) where
+        (separate : T (not (anyIn (sessionTeids x) (heldTeids m)))) (separateAddresses : T (not (anyIn (sessionAddresses s x) (heldAddresses s m)))) (p : Sender) (hp : T (senderAllowed p)) where
       abbrev msg : List ℕ
       msg = restoration s p x
 

@@ -8,47 +8,27 @@ use mathlib.Core.Bool.{Bool, true, false, not, _&&_, _||_}
 use mathlib.Core.Option.{none, some}
 use mathlib.Core.List.{List, [], _∷_, _++_, map}
 use lib.ListN.{length, length-map}
-use lib.Dec.{T, leb, ltb, ltb→lt, lt→ltb, leb·suc-zero}
+use lib.Dec.{T, leb, ltb, leb·suc-zero}
 use mir.Facts.{no-ltb, no-leb}
 use Rattle.octets.specs.Choice.{pick, mapOption, bindOption, consOption, isNil, isSome}
 use Rattle.octets.specs.Lists.{collect, member, anyIn, allIn, hasRepeat, without, any, all, allPairs, ascending, keep}
-use Rattle.octets.proofs.Tests.{each, both, and-right, all-head, all-tail, all-cons, neither-one, ascending-head, ascending-tail, is-true, is-false}
+use Rattle.octets.proofs.Tests.{each, both, and-right, all-head, all-tail, is-true, is-false}
 use Rattle.octets.proofs.Numbers.{same-refl}
 use Rattle.octets.proofs.ListLaws.{map-append, collect-map, map-collect}
-use Rattle.laws.proofs.RangeLaws.{above-not-member}
-use Rattle.rules.specs.Model.{Settings, Tunnel, Place, neither, tunnel, endpoint, Pdr, Endpoint, Session, Sessions, Holding, endpointId, pdrId, placeTunnel, placeEndpoint, tunnelHolding, pdrHolding, endpointHolding, sessionHoldings, teidOf, sessionTeids, heldTeids, freeCount, endpointAddress, pdrAddress, inAddressPool, sessionAddresses, heldAddresses, freeAddresses}
+use Rattle.rules.specs.Model.{Settings, Tunnel, Match, neither, tunnel, endpoint, Pdr, Endpoint, Session, Sessions, Holding, endpointId, pdrId, matchedTunnel, matchedEndpoint, tunnelHolding, pdrHolding, endpointHolding, sessionHoldings, teidOf, sessionTeids, heldTeids, freeCount, endpointAddress, pdrAddress, inAddressPool, sessionAddresses, heldAddresses, freeAddresses}
 use Rattle.rules.specs.Elements.{Fteid, unitFteid, hasV6, chooses, chooseId, UeIp, ueGiven, ueAddress, ueChooses}
-use Rattle.rules.specs.Sound.{settingsAllowed, inPool, unitFamilies, tunnelTests, tunnelAllowed, placeAllowed, pdrTests, pdrAllowed, endpointTests, endpointAllowed, sessionTests, sessionAllowed, agree}
+use Rattle.rules.specs.Sound.{settingsAllowed, inPool, unitFamilies, tunnelTests, tunnelAllowed, matchAllowed, pdrTests, pdrAllowed, endpointTests, endpointAllowed, sessionTests, sessionAllowed, agree}
 use Rattle.laws.proofs.LayoutLaws.{pdrsOk, endpointsOk, fewPdrs, fewEndpoints, tests}
 use Rattle.laws.proofs.TableLaws.{ipv4-four}
-use Rattle.rules.specs.Reading.{Request}
+use Rattle.rules.specs.Request.{Request}
 use Rattle.rules.specs.Grants.{Kind, choiceOf, endpointChoice, pdrChoice, choices, needFrom, need}
 use Rattle.rules.specs.Stages.{newSession, isLive, newPdrId, newEndpointId, namedEndpoint, pdrLocal, endpointLocal, createdPdrs, createdEndpoints, updatedPdrs, livePdrs, liveEndpoints, fteidsOf, wrongAllocation, invalidAllocation, idTwice, createdLive, absentId, updatesRemoved, namesBoth, endpointIdsAfter, namesAbsent, removedPdrs, sameChoice, fteidsMayShare, localsMayShare, choicesAgree, lacksFamily, otherAddress, strange, restoredHolding, endpointRestored, pdrRestored, restoredHoldings, clash, newPdrAddress, newEndpointAddress, addressesOf, wrongAddress, restoredAddresses, addressClash, requestRules, brokenRules, breaksRule, tooManySessions, tooManyPdrs, tooManyEndpoints, tooFewTeids, noRoom, noAddress, plain, judge}
 use Rattle.rules.specs.Restoration.{restoredPdr, restoredEndpoint, restoredRequest}
 use Rattle.rules.specs.Causes as why
 use Rattle.rules.specs.Message.{establishment}
+use Rattle.invariants.proofs.InsertLaws.{ascending-once}
 
 -- ---- lists
-
-pub ascending-above : (x : ℕ) (xs : List ℕ) → T (ascending (x ∷ xs)) → T (all (λ n. ltb x n) xs)
-unfolding all
-ascending-above x [] h = tt
-ascending-above x (y ∷ xs) h =
-    let up = ascending-head x y xs h in
-    all-cons (λ n. ltb x n) y xs (lt→ltb x y up) (raise xs up (ascending-above y xs (ascending-tail x (y ∷ xs) h)))
-  where
-    raise : (ns : List ℕ) → x < y → T (all (λ n. ltb y n) ns) → T (all (λ n. ltb x n) ns)
-    raise [] up g = tt
-    raise (n ∷ ns) up g =
-        let over = ltb→lt y n (all-head (λ m. ltb y m) n ns g) in
-        all-cons (λ m. ltb x m) n ns (lt→ltb x n (omega arith)) (raise ns up (all-tail (λ m. ltb y m) n ns g))
-
--- ascending numbers do not repeat
-pub ascending-once : (xs : List ℕ) → T (ascending xs) → T (not (hasRepeat xs))
-unfolding hasRepeat
-ascending-once [] h = tt
-ascending-once (x ∷ xs) h =
-    neither-one (member x xs) (hasRepeat xs) (above-not-member x xs (ascending-above x xs h)) (ascending-once xs (ascending-tail x xs h))
 
 pub anyIn-nil : (xs : List ℕ) → anyIn xs [] ≡ false
 unfolding anyIn member
@@ -127,18 +107,18 @@ module _ (s : Settings) (hs : T (settingsAllowed s)) where
 
   -- a test that fails on every unit F-TEID fails on those of PDRs and endpoints
   module _ (q : Fteid → Bool) (no-unit : (t : Tunnel) → T (tunnelAllowed s t) → q (unitFteid s t) ≡ false) where
-    any-place : (live : List ℕ) (l : Place) → T (placeAllowed s live l) → (vs : List Fteid) → any q vs ≡ false
-        → any q (consOption (mapOption (unitFteid s) (placeTunnel l)) vs) ≡ false
-    unfolding placeAllowed placeTunnel any
-    any-place live neither h vs k = k
-    any-place live (tunnel t) h vs k = ap₂ _||_ (no-unit t h) k
-    any-place live (endpoint e) h vs k = k
+    any-match : (live : List ℕ) (l : Match) → T (matchAllowed s live l) → (vs : List Fteid) → any q vs ≡ false
+        → any q (consOption (mapOption (unitFteid s) (matchedTunnel l)) vs) ≡ false
+    unfolding matchAllowed matchedTunnel any
+    any-match live neither h vs k = k
+    any-match live (tunnel t) h vs k = ap₂ _||_ (no-unit t h) k
+    any-match live (endpoint e) h vs k = k
 
     any-pdrs : (live : List ℕ) (ps : List Pdr) → T (all (pdrAllowed s live) ps) → any q (collect pdrLocal (map (restoredPdr s) ps)) ≡ false
     unfolding collect restoredPdr any pdrAllowed pdrTests
     any-pdrs live [] h = refl
     any-pdrs live (p ∷ ps) h =
-        any-place live (p .place) (each (pdrTests s live p) (all-head (pdrAllowed s live) p ps h) .1 .1 .1 .1 .0) (collect pdrLocal (map (restoredPdr s) ps))
+        any-match live (p .match) (each (pdrTests s live p) (all-head (pdrAllowed s live) p ps h) .1 .1 .1 .1 .0) (collect pdrLocal (map (restoredPdr s) ps))
         (any-pdrs live ps (all-tail (pdrAllowed s live) p ps h))
 
     any-both : (es : List Endpoint) → T (all (endpointAllowed s) es) → (vs : List Fteid) → any q vs ≡ false
@@ -158,59 +138,59 @@ module _ (s : Settings) (hs : T (settingsAllowed s)) where
   ids-endpoints [] = refl
   ids-endpoints (e ∷ es) = ap (λ (ns : List ℕ). e .id ∷ ns) (ids-endpoints es)
 
-  one-place : (l : Place) → (isSome (mapOption (unitFteid s) (placeTunnel l)) && isSome (placeEndpoint l)) ≡ false
-  unfolding placeTunnel placeEndpoint
-  one-place neither = refl
-  one-place (tunnel t) = refl
-  one-place (endpoint e) = refl
+  one-match : (l : Match) → (isSome (mapOption (unitFteid s) (matchedTunnel l)) && isSome (matchedEndpoint l)) ≡ false
+  unfolding matchedTunnel matchedEndpoint
+  one-match neither = refl
+  one-match (tunnel t) = refl
+  one-match (endpoint e) = refl
 
   none-both : (ps : List Pdr) → any namesBoth (map (restoredPdr s) ps) ≡ false
   unfolding any namesBoth restoredPdr
   none-both [] = refl
-  none-both (p ∷ ps) = ap₂ _||_ (one-place (p .place)) (none-both ps)
+  none-both (p ∷ ps) = ap₂ _||_ (one-match (p .match)) (none-both ps)
 
-  named-place : (live : List ℕ) (l : Place) → T (placeAllowed s live l) → (ns : List ℕ) → T (allIn ns live) → T (allIn (consOption (placeEndpoint l) ns) live)
-  unfolding placeAllowed placeEndpoint allIn
-  named-place live neither h ns k = k
-  named-place live (tunnel t) h ns k = k
-  named-place live (endpoint e) h ns k = both (member e live) (allIn ns live) (and-right (ltb e 256) (member e live) h) k
+  named-match : (live : List ℕ) (l : Match) → T (matchAllowed s live l) → (ns : List ℕ) → T (allIn ns live) → T (allIn (consOption (matchedEndpoint l) ns) live)
+  unfolding matchAllowed matchedEndpoint allIn
+  named-match live neither h ns k = k
+  named-match live (tunnel t) h ns k = k
+  named-match live (endpoint e) h ns k = both (member e live) (allIn ns live) (and-right (ltb e 256) (member e live) h) k
 
   named-there : (live : List ℕ) (ps : List Pdr) → T (all (pdrAllowed s live) ps) → T (allIn (collect namedEndpoint (map (restoredPdr s) ps)) live)
   unfolding collect restoredPdr allIn pdrAllowed pdrTests
   named-there live [] h = tt
   named-there live (p ∷ ps) h =
-      named-place live (p .place) (each (pdrTests s live p) (all-head (pdrAllowed s live) p ps h) .1 .1 .1 .1 .0) (collect namedEndpoint (map (restoredPdr s) ps))
+      named-match live (p .match) (each (pdrTests s live p) (all-head (pdrAllowed s live) p ps h) .1 .1 .1 .1 .0) (collect namedEndpoint (map (restoredPdr s) ps))
       (named-there live ps (all-tail (pdrAllowed s live) p ps h))
 
-  places-agree : (k l : Place) (i j : ℕ)
-      → localsMayShare (mapOption (unitFteid s) (placeTunnel k)) i (mapOption (unitFteid s) (placeTunnel l)) j ≡ true
-  unfolding localsMayShare placeTunnel fteidsMayShare sameChoice chooseId unitFteid
-  places-agree neither l i j = refl
-  places-agree (tunnel t) neither i j = refl
-  places-agree (tunnel t) (tunnel u) i j = refl
-  places-agree (tunnel t) (endpoint e) i j = refl
-  places-agree (endpoint e) l i j = refl
+  matches-agree : (k l : Match) (i j : ℕ)
+      → localsMayShare (mapOption (unitFteid s) (matchedTunnel k)) i (mapOption (unitFteid s) (matchedTunnel l)) j ≡ true
+  unfolding localsMayShare matchedTunnel fteidsMayShare sameChoice chooseId unitFteid
+  matches-agree neither l i j = refl
+  matches-agree (tunnel t) neither i j = refl
+  matches-agree (tunnel t) (tunnel u) i j = refl
+  matches-agree (tunnel t) (endpoint e) i j = refl
+  matches-agree (endpoint e) l i j = refl
 
   choices-agree : (ps : List Pdr) → allPairs choicesAgree (map (restoredPdr s) ps) ≡ true
-  choices-agree ps = allPairs-map (restoredPdr s) choicesAgree (λ p q. unfold choicesAgree restoredPdr in (places-agree (p .place) (q .place) (p .source) (q .source))) ps
+  choices-agree ps = allPairs-map (restoredPdr s) choicesAgree (λ p q. unfold choicesAgree restoredPdr in (matches-agree (p .match) (q .match) (p .source) (q .source))) ps
 
   -- ---- holds
 
-  place-holds : (live : List ℕ) (p : Pdr) → T (placeAllowed s live (p .place)) → pdrRestored (restoredPdr s p) ≡ pdrHolding p
+  match-holds : (live : List ℕ) (p : Pdr) → T (matchAllowed s live (p .match)) → pdrRestored (restoredPdr s p) ≡ pdrHolding p
   unfolding pdrRestored restoredPdr pdrHolding
-  place-holds live p h = go (p .place) h
+  match-holds live p h = go (p .match) h
     where
-      go : (l : Place) → T (placeAllowed s live l)
-          → bindOption (mapOption (unitFteid s) (placeTunnel l)) (restoredHolding true (p .source)) ≡ mapOption (tunnelHolding true (p .source)) (placeTunnel l)
-      go neither g = unfold placeTunnel in refl
-      go (tunnel t) g = unfold placeTunnel placeAllowed in (unit-holding true (p .source) t g)
-      go (endpoint e) g = unfold placeTunnel in refl
+      go : (l : Match) → T (matchAllowed s live l)
+          → bindOption (mapOption (unitFteid s) (matchedTunnel l)) (restoredHolding true (p .source)) ≡ mapOption (tunnelHolding true (p .source)) (matchedTunnel l)
+      go neither g = unfold matchedTunnel in refl
+      go (tunnel t) g = unfold matchedTunnel matchAllowed in (unit-holding true (p .source) t g)
+      go (endpoint e) g = unfold matchedTunnel in refl
 
   pdr-holds : (live : List ℕ) (ps : List Pdr) → T (all (pdrAllowed s live) ps) → collect pdrRestored (map (restoredPdr s) ps) ≡ collect pdrHolding ps
   unfolding collect pdrAllowed pdrTests
   pdr-holds live [] h = refl
   pdr-holds live (p ∷ ps) h =
-      ap₂ consOption (place-holds live p (each (pdrTests s live p) (all-head (pdrAllowed s live) p ps h) .1 .1 .1 .1 .0))
+      ap₂ consOption (match-holds live p (each (pdrTests s live p) (all-head (pdrAllowed s live) p ps h) .1 .1 .1 .1 .0))
       (pdr-holds live ps (all-tail (pdrAllowed s live) p ps h))
 
   endpoint-holds : (es : List Endpoint) → T (all (endpointAllowed s) es) → collect endpointRestored (map (restoredEndpoint s) es) ≡ map endpointHolding es
@@ -225,12 +205,12 @@ module _ (s : Settings) (hs : T (settingsAllowed s)) where
   no-pdr-choice : (ps : List Pdr) → collect pdrChoice (map (restoredPdr s) ps) ≡ []
   unfolding collect pdrChoice restoredPdr choiceOf unitFteid
   no-pdr-choice [] = refl
-  no-pdr-choice (p ∷ ps) = ap₂ consOption (go (p .place)) (no-pdr-choice ps)
+  no-pdr-choice (p ∷ ps) = ap₂ consOption (go (p .match)) (no-pdr-choice ps)
     where
-      go : (l : Place) → bindOption (mapOption (unitFteid s) (placeTunnel l)) (choiceOf Kind.ofPdr (p .id)) ≡ none
-      go neither = unfold placeTunnel in refl
-      go (tunnel t) = unfold placeTunnel choiceOf unitFteid in refl
-      go (endpoint e) = unfold placeTunnel in refl
+      go : (l : Match) → bindOption (mapOption (unitFteid s) (matchedTunnel l)) (choiceOf Kind.ofPdr (p .id)) ≡ none
+      go neither = unfold matchedTunnel in refl
+      go (tunnel t) = unfold matchedTunnel choiceOf unitFteid in refl
+      go (endpoint e) = unfold matchedTunnel in refl
 
   no-endpoint-choice : (es : List Endpoint) → collect endpointChoice (map (restoredEndpoint s) es) ≡ []
   unfolding collect endpointChoice restoredEndpoint choiceOf unitFteid

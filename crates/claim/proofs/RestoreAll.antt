@@ -1,124 +1,46 @@
 -- Sessions restored one after the other, in any order, into an empty table make the table that holds them.
 -- Assumes nothing.
 use mathlib.Core.Path.{_≡_, refl, sym, ap, ap₂, _∙_, subst}
-use Prim.Native.Nat.{ℕ, suc, _+_, _≤_, _<_, zero-le}
+use Prim.Native.Nat.{ℕ, suc, _+_, _≤_, _<_}
 use native.Mathlib.Nat.{le-trans, le-of-eq}
 use native.Mathlib.Omega.{arith}
-use mathlib.Core.Bool.{Bool, true, false, not, _&&_}
+use mathlib.Core.Bool.{Bool, true, _&&_}
 use mathlib.Core.List.{List, [], _∷_, map, List·Permᴰ}
 use lib.ListN.{length, length-map}
 use lib.Dec.{T, leb, eqb, leb→le}
-use mir.Facts.{yes-leb}
-use Rattle.octets.specs.Choice.{isSome}
 use Rattle.octets.specs.Octets.{octets, put}
-use Rattle.octets.specs.Lists.{anyIn, all, allPairs, keep, findBy, ascending, insertBy, insertAll}
-use Rattle.octets.proofs.Tests.{pick-yes, pick-no, each, Each, all-of-each, both, and-left, and-right, all-head, all-tail, all-cons, of-true}
-use Rattle.octets.proofs.Ordered.{perm-length, all-perm, pairs-head, pairs-tail, pairs-perm, otherKey, insertAll-perm, insert-length, insert-all, insert-pairs, insert-ascending, ascending-other}
-use Rattle.octets.proofs.ListLaws.{all-imply}
-use Rattle.rules.specs.Model.{Settings, Session, Sessions, seidOf, sessionTeids, heldTeids, sessionAddresses, heldAddresses}
+use Rattle.octets.specs.Lists.{all, allPairs, ascending, insertBy, insertAll}
+use Rattle.octets.proofs.Tests.{each, Each, all-head, all-tail, all-cons, of-true}
+use Rattle.octets.proofs.Ordered.{perm-length, all-perm, pairs-head, pairs-tail, pairs-perm, otherKey, insertAll-perm, insert-length, insert-all, ascending-other}
+use Rattle.rules.specs.Model.{Settings, Session, Sessions, seidOf}
 use Rattle.rules.specs.Limits.{minSpace}
 use Rattle.rules.specs.Layout.{encode}
 use Rattle.laws.proofs.LayoutLaws.{fewPdrs, fewEndpoints}
 use Rattle.laws.proofs.ReportLaws.{few-pdr-reports, few-endpoint-reports}
 use Rattle.rules.specs.Sound.{settingsAllowed, sessionAllowed, apart, sessionsTests, sessionsAllowed}
-use Rattle.rules.specs.Reading.{readRequest, Request}
+use Rattle.rules.specs.Reading.{readRequest}
+use Rattle.rules.specs.Request.{Request}
 use Rattle.rules.specs.Grants.{granted}
-use Rattle.rules.specs.Stages.{hasSeid, sessionOf, isLive, plain}
-use Rattle.rules.specs.Apply.{otherSession, removeSession, putSession}
+use Rattle.rules.specs.Stages.{plain}
+use Rattle.rules.specs.Apply.{putSession}
 use Rattle.rules.specs.Reply.{reports}
 use Rattle.rules.specs.Serve.{Served, replyTo, serve}
 use Rattle.rules.specs.Live.{accepted, replyCause}
-use Rattle.rules.specs.Restoration.{Peer, peerAllowed, restoration, restoredPdr, restoredEndpoint, restoredRequest}
-use Rattle.claim.proofs.RestorationRead.{msg-allowed, msg-request}
-use Rattle.claim.proofs.HeldLaws.{turn-eqb, disjoint-turn, apart-held, apart-addresses-held}
-use Rattle.claim.proofs.ReplyLength.{FewReports}
-use Rattle.claim.proofs.GrantReply.{accepted-cause}
+use Rattle.rules.specs.Restoration.{Sender, senderAllowed, restoration, restoredPdr, restoredEndpoint, restoredRequest}
+use Rattle.laws.proofs.RestorationRead.{msg-allowed, msg-request}
+use Rattle.invariants.proofs.ReplyLength.{FewReports}
+use Rattle.invariants.proofs.GrantReply.{accepted-cause}
 use Rattle.claim.proofs.RestorationApply.{restored-call, insertAll-up, under-nil}
 use Rattle.rules.specs.Calls.{tableAfter, eventOf, tableAfterAll, eventsOf}
 use Rattle.rules.specs.Claim.{Restore, restored, restoreAllowed, restoreCall, restoreCalls}
 use Rattle.rules.specs.Causes as why
 use Rattle.laws.proofs.HeaderLaws.{header-long}
-
--- ---- a session beside others
-
-pub apart-turn : (s : Settings) (x y : Session) → T (apart s x y) → T (apart s y x)
-unfolding apart
-apart-turn s x y h =
-    let a = not (anyIn (sessionTeids x) (sessionTeids y)) in
-    let b = not (anyIn (sessionAddresses s x) (sessionAddresses s y)) in
-    both (not (anyIn (sessionTeids y) (sessionTeids x))) (not (anyIn (sessionAddresses s y) (sessionAddresses s x)))
-    (disjoint-turn (sessionTeids x) (sessionTeids y) (and-left a b h)) (disjoint-turn (sessionAddresses s x) (sessionAddresses s y) (and-right a b h))
-
--- what two sessions that are apart have not in common
-pub apart-teids : (s : Settings) (x y : Session) → T (apart s x y) → T (not (anyIn (sessionTeids x) (sessionTeids y)))
-unfolding apart
-apart-teids s x y h = and-left (not (anyIn (sessionTeids x) (sessionTeids y))) (not (anyIn (sessionAddresses s x) (sessionAddresses s y))) h
-
-pub apart-addresses : (s : Settings) (x y : Session) → T (apart s x y) → T (not (anyIn (sessionAddresses s x) (sessionAddresses s y)))
-unfolding apart
-apart-addresses s x y h = and-right (not (anyIn (sessionTeids x) (sessionTeids y))) (not (anyIn (sessionAddresses s x) (sessionAddresses s y))) h
-
-other-seid-turn : (x y : Session) → T (otherKey seidOf x y) → T (otherKey seidOf y x)
-other-seid-turn x y h = turn-eqb (x .seid) (y .seid) h
-
--- no TEID in common with any session
-pub separate-all : (s : Settings) (x : Session) (m : Sessions) → T (all (apart s x) m) → T (not (anyIn (sessionTeids x) (heldTeids m)))
-separate-all s x m h = apart-held (sessionTeids x) m (all-imply (apart s x) (λ z. not (anyIn (sessionTeids x) (sessionTeids z))) (apart-teids s x) m h)
-
--- and no address of the pool
-pub separate-addresses : (s : Settings) (x : Session) (m : Sessions) → T (all (apart s x) m) → T (not (anyIn (sessionAddresses s x) (heldAddresses s m)))
-separate-addresses s x m h =
-    apart-addresses-held s (sessionAddresses s x) m (all-imply (apart s x) (λ z. not (anyIn (sessionAddresses s x) (sessionAddresses s z))) (apart-addresses s x) m h)
-
-pub fresh-seid : (x : Session) (m : Sessions) → T (all (otherKey seidOf x) m) → isLive (x .seid) m ≡ false
-unfolding isLive sessionOf findBy hasSeid
-fresh-seid x [] h = refl
-fresh-seid x (y ∷ m) h =
-    ap isSome (pick-no (eqb (y .seid) (x .seid)) _ _ (turn-eqb (x .seid) (y .seid) (all-head (otherKey seidOf x) y m h)))
-    ∙ fresh-seid x m (all-tail (otherKey seidOf x) y m h)
-
-remove-none : (x : Session) (m : Sessions) → T (all (otherKey seidOf x) m) → removeSession (x .seid) m ≡ m
-unfolding removeSession keep otherSession hasSeid
-remove-none x [] h = refl
-remove-none x (y ∷ m) h =
-    pick-yes (not (eqb (y .seid) (x .seid))) _ _ (turn-eqb (x .seid) (y .seid) (all-head (otherKey seidOf x) y m h))
-    ∙ ap (λ (n : Sessions). y ∷ n) (remove-none x m (all-tail (otherKey seidOf x) y m h))
-
-pub put-fresh : (x : Session) (m : Sessions) → T (all (otherKey seidOf x) m) → putSession x m ≡ insertBy seidOf x m
-unfolding putSession
-put-fresh x m h = ap (insertBy seidOf x) (remove-none x m h)
-
-turn-all : (r : Session → Session → Bool) → ((x y : Session) → T (r x y) → T (r y x)) → (x : Session) (m : Sessions) → T (all (r x) m) → T (all (λ y. r y x) m)
-unfolding all
-turn-all r turn x [] h = tt
-turn-all r turn x (y ∷ m) h = all-cons (λ z. r z x) y m (turn x y (all-head (r x) y m h)) (turn-all r turn x m (all-tail (r x) y m h))
-
--- one more session keeps the rules
-pub insert-allowed : (s : Settings) (x : Session) (m : Sessions) → T (sessionsAllowed s m) → T (sessionAllowed s x)
-    → T (all (otherKey seidOf x) m) → T (all (apart s x) m) → length m < s .limit → T (sessionsAllowed s (insertBy seidOf x m))
-unfolding sessionsAllowed sessionsTests
-insert-allowed s x m hm hx other sep room =
-    let e = each (sessionsTests s m) hm in
-    all-of-each (sessionsTests s (insertBy seidOf x m)) (
-      yes-leb (le-trans (le-of-eq (insert-length seidOf x m)) room),
-      (
-        insert-ascending seidOf x m other (e .1 .0),
-        (
-          insert-all seidOf (sessionAllowed s) x m hx (e .1 .1 .0),
-          (insert-pairs seidOf (apart s) x m sep (turn-all (apart s) (apart-turn s) x m sep) (e .1 .1 .1 .0), tt),
-        ),
-      ),
-    )
-
--- an empty table keeps the rules
-pub empty-allowed : (s : Settings) → T (sessionsAllowed s [])
-unfolding sessionsAllowed sessionsTests ascending all allPairs
-empty-allowed s = all-of-each (sessionsTests s []) (yes-leb {a = 0} {b = s .limit} zero-le, (tt, (tt, (tt, tt))))
+use Rattle.invariants.proofs.Beside.{apart-turn, other-seid-turn, separate-all, separate-addresses, fresh-seid, put-fresh, insert-allowed, empty-allowed}
 
 -- ---- the reply is an acceptance
 
 module _ (s : Settings) (hs : T (settingsAllowed s)) where
-  module _ (x : Session) (hx : T (sessionAllowed s x)) (p : Peer) (hp : T (peerAllowed p)) (m : Sessions) where
+  module _ (x : Session) (hx : T (sessionAllowed s x)) (p : Sender) (hp : T (senderAllowed p)) (m : Sessions) where
     abbrev msg : List ℕ
     msg = restoration s p x
 
@@ -187,9 +109,9 @@ ready-next s m x xs r =
 module _ (s : Settings) (hs : T (settingsAllowed s)) where
   -- one restoration: the table after it, and its acceptance
   module _ (m : Sessions) (r : Restore) (ok : T (restoreAllowed r)) (xs : Sessions) (ready : Ready s m (r .session ∷ xs)) where
-    okFacts : Each (peerAllowed (r .peer) ∷ octets (r .space) ∷ leb minSpace (length (r .space)) ∷ [])
+    okFacts : Each (senderAllowed (r .sender) ∷ octets (r .space) ∷ leb minSpace (length (r .space)) ∷ [])
     unfolding restoreAllowed
-    okFacts = each (peerAllowed (r .peer) ∷ octets (r .space) ∷ leb minSpace (length (r .space)) ∷ []) ok
+    okFacts = each (senderAllowed (r .sender) ∷ octets (r .space) ∷ leb minSpace (length (r .space)) ∷ []) ok
 
     abbrev x : Session
     x = r .session
@@ -206,11 +128,11 @@ module _ (s : Settings) (hs : T (settingsAllowed s)) where
         fit : (a b c : ℕ) → a + suc b ≤ c → a < c
         fit a b c h = omega arith
 
-    call : serve (encode s m) (restoration s (r .peer) x) (r .space)
-        ≡ record { outcome = 0; place = 0; space = put 0 (replyTo s m (restoration s (r .peer) x) (plain why.accepted)) (r .space); table = encode s (putSession x m) }
+    call : serve (encode s m) (restoration s (r .sender) x) (r .space)
+        ≡ record { outcome = 0; place = 0; space = put 0 (replyTo s m (restoration s (r .sender) x) (plain why.accepted)) (r .space); table = encode s (putSession x m) }
     call =
         restored-call s hs x hx m (fresh-seid x m other) fits (separate-all s x m (all-head (λ y. all (apart s y) m) x xs (ready .beside)))
-        (separate-addresses s x m (all-head (λ y. all (apart s y) m) x xs (ready .beside))) (r .peer) (okFacts .0)
+        (separate-addresses s x m (all-head (λ y. all (apart s y) m) x xs (ready .beside))) (r .sender) (okFacts .0)
         (ready .sound) (r .space) (leb→le minSpace (length (r .space)) (okFacts .1 .1 .0))
 
     table-after : tableAfter (encode s m) (restoreCall s r) ≡ encode s (insertBy seidOf x m)
@@ -219,7 +141,7 @@ module _ (s : Settings) (hs : T (settingsAllowed s)) where
 
     is-accepted : T (accepted (eventOf (encode s m) (restoreCall s r)))
     unfolding accepted eventOf restoreCall
-    is-accepted = of-true (ap₂ (λ (o : ℕ) (l : List ℕ). eqb o 0 && eqb (replyCause l) 1) (ap (λ (v : Served). v .outcome) call) (ap (λ (v : Served). v .space) call) ∙ ap (λ (c : ℕ). eqb c 1) (restored-cause s hs x hx (r .peer) (okFacts .0) m (r .space)))
+    is-accepted = of-true (ap₂ (λ (o : ℕ) (l : List ℕ). eqb o 0 && eqb (replyCause l) 1) (ap (λ (v : Served). v .outcome) call) (ap (λ (v : Served). v .space) call) ∙ ap (λ (c : ℕ). eqb c 1) (restored-cause s hs x hx (r .sender) (okFacts .0) m (r .space)))
 
   run-table : (rs : List Restore) (m : Sessions) → T (all restoreAllowed rs) → Ready s m (map restored rs)
       → tableAfterAll (encode s m) (restoreCalls s rs) ≡ encode s (insertAll seidOf (map restored rs) m)

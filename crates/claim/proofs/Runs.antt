@@ -15,8 +15,10 @@ use Rattle.rules.specs.Live.{Event, replied, accepted, live, liveFrom}
 use Rattle.rules.specs.Calls.{Call, callAllowed, tableAfter, eventOf, tableAfterAll, eventsOf}
 use Rattle.rules.specs.Claim.{Step, asked, told, toldAddresses, stepAllowed, Ran, lastTable, eventIn, liveSet, Restore, restored, restoreAllowed, restoreCalls, callIn, mapOf, addressMapOf, Holds, Restores, Demand3}
 use Rattle.laws.proofs.TableLaws.{sessions-back, encoded-settings, sound-encode}
-use Rattle.claim.proofs.RestoreAll.{empty-allowed, restored-table, restored-accepted}
-use Rattle.claim.proofs.Sequence.{Keeps, kept-all, made-empty, made-settings}
+use Rattle.claim.proofs.RestoreAll.{restored-table, restored-accepted}
+use Rattle.invariants.proofs.Beside.{empty-allowed}
+use Rattle.claim.proofs.Sequence.{kept-all, made-empty, made-settings}
+use Rattle.invariants.proofs.Steps.{Keeps}
 
 -- ---- a run leaves what its calls compute
 

@@ -13,23 +13,9 @@ use Rattle.octets.proofs.Tests.{and-left, and-right, all-head, all-tail}
 use Rattle.rules.specs.Model.{Settings, Sessions}
 use Rattle.rules.specs.Layout.{tableLength, encode}
 use Rattle.rules.specs.Sound.{settingsAllowed, sessionsAllowed, make, Made}
-use Rattle.rules.specs.Serve.{serve}
-use Rattle.rules.specs.Live.{Event, replied, accepted, liveStep, liveFrom, live}
+use Rattle.rules.specs.Live.{accepted, liveStep, liveFrom, live}
 use Rattle.rules.specs.Calls.{Call, request, count, countIps, callAllowed, tableAfter, eventOf, tableAfterAll, eventsOf}
-
--- what one call does to a table and to the live set: both go to sessions m′ that keep the rules
-pub record Kept (s : Settings) (m : Sessions) (t : List ℕ) (e : Event) : Type 0 where
-  pub after : Sessions
-  pub sound : T (sessionsAllowed s after)
-  pub table : t ≡ encode s after
-  pub live : liveStep m e ≡ after
-
--- the fact about one request
-unfoldable pub Keeps : Type 0
-Keeps =
-    (s : Settings) (m : Sessions) (msg space : List ℕ) → T (settingsAllowed s) → T (sessionsAllowed s m) → T (octets msg) → T (octets space)
-    → Kept s m (serve (encode s m) msg space .table)
-    (replied msg (serve (encode s m) msg space .outcome) (serve (encode s m) msg space .space))
+use Rattle.invariants.proofs.Steps.{Kept, Keeps}
 
 module _ (keeps : Keeps) (s : Settings) (hs : T (settingsAllowed s)) where
   one : (m : Sessions) (c : Call) → T (sessionsAllowed s m) → T (callAllowed c) → Kept s m (tableAfter (encode s m) c) (eventOf (encode s m) c)

@@ -1,1 +1,1 @@
-// The sequence claim's proof stands in proofs/; this crate has no code.
+// The sequence theorem (demand 3) stands in proofs/; this crate has no code.

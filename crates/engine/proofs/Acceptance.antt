@@ -11,7 +11,8 @@ use Rattle.octets.specs.Lists.{all, hasRepeat}
 use Rattle.octets.proofs.Tests.{is-false}
 use Rattle.rules.specs.Model.{Settings, Sessions, heldTeids, heldAddresses}
 use Rattle.rules.specs.Layout.{viewSettings, viewSessions}
-use Rattle.rules.specs.Reading.{Request, readRequest}
+use Rattle.rules.specs.Reading.{readRequest}
+use Rattle.rules.specs.Request.{Request}
 use Rattle.rules.specs.Grants.{Kind, Got, choices, grants, chosenAddress, granted}
 use Rattle.rules.specs.Stages.{Verdict, plain, entrySession, createdPdrs, createdEndpoints}
 use Rattle.rules.specs.Reply.{reports, reply}
@@ -19,10 +20,10 @@ use Rattle.rules.specs.Serve.{replyTo}
 use Rattle.rules.specs.Causes as why
 use Rattle.laws.proofs.RequestLaws.{RequestRead, request-read}
 use Rattle.laws.proofs.GrantLaws.{choices-few}
-use Rattle.claim.proofs.VerdictLaws.{Passed, passed, few-new-pdrs, few-new-endpoints}
-use Rattle.claim.proofs.KeptRules.{RulesKept, rules-kept}
-use Rattle.claim.proofs.ServeLaws.{TableKept, table-kept}
-use Rattle.claim.proofs.FreeTeids.{held-in-pool}
+use Rattle.invariants.proofs.VerdictLaws.{Passed, passed, few-new-pdrs, few-new-endpoints}
+use Rattle.invariants.proofs.KeptRules.{RulesKept, rules-kept}
+use Rattle.invariants.proofs.ServeLaws.{TableKept, table-kept}
+use Rattle.invariants.proofs.FreeTeids.{held-in-pool}
 use Rattle.pool.proofs.TakenLaws.{Means, map-means}
 use Rattle.pool.proofs.AddressLaws.{address-map-means}
 use Rattle.plan.specs.Rows.{rowsOf, requestIn}

@@ -10,16 +10,17 @@ use lib.ListN.{length, length-map}
 use Rattle.octets.specs.Lists.{anyIn, hasRepeat, all, keep}
 use Rattle.rules.specs.Model.{Settings, Session, Sessions, pdrId, endpointId}
 use Rattle.rules.specs.Message.{kindOf}
-use Rattle.rules.specs.Reading.{Request, readRequest}
+use Rattle.rules.specs.Reading.{readRequest}
+use Rattle.rules.specs.Request.{Request}
 use Rattle.rules.specs.Grants.{Kind, Got, granted}
 use Rattle.rules.specs.Stages.{entrySession, newPdrId, newEndpointId, createdPdrs, createdEndpoints, livePdrs, liveEndpoints, removedPdrs}
 use Rattle.rules.specs.Apply.{createPdr, createEndpoint, keptPdr, keptEndpoint}
 use Rattle.plan.specs.Rows.{tagged, rowEndpointId, rowPdr, rowEndpoint, requestIn}
 use Rattle.rules.specs.Types as ie
-use Rattle.claim.proofs.VerdictLaws.{Passed}
-use Rattle.claim.proofs.KeptRules.{RulesKept, rules-kept, RoomLeft, room-left}
-use Rattle.claim.proofs.InsertLaws.{removed-length}
-use Rattle.claim.proofs.RemovedPdrs.{removed-few}
+use Rattle.invariants.proofs.VerdictLaws.{Passed}
+use Rattle.invariants.proofs.KeptRules.{RulesKept, rules-kept, RoomLeft, room-left}
+use Rattle.invariants.proofs.InsertLaws.{removed-length}
+use Rattle.invariants.proofs.RemovedPdrs.{removed-few}
 use Rattle.octets.proofs.MemberLaws.{all-in}
 use Rattle.session.proofs.RowRecords.{pdrOf, endpointOf}
 use Rattle.session.proofs.Passes.{endpointRow, pdrRow, csidRow}

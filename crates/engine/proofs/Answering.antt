@@ -13,8 +13,8 @@ use Rattle.rules.specs.Stages.{Verdict, isLive, unknownSession, unnamed}
 use Rattle.rules.specs.Causes as why
 use Rattle.areas.specs.Counted.{placeIn}
 use Rattle.session.specs.Areas.{tableArea}
-use Rattle.slots.specs.declared.Place.{Place}
-use Rattle.slots.specs.declared.Place.the-variants.{Found, Absent}
+use Rattle.areas.specs.declared.Lookup.{Lookup}
+use Rattle.areas.specs.declared.Lookup.the-variants.{Found, Absent}
 use Rattle.reply.specs.declared.Offending.the-variants.{Nothing}
 use Rattle.engine.specs.Answers.{Asked, Live, Answers, Replies, Refusing}
 use Rattle.engine.specs.Steps.{Changing}
@@ -36,7 +36,7 @@ module _ {t msg out : List ℕ} {kind : ℕ} (a : Asked t msg out) (is : kind �
       let k : kindOf msg ≡ establishment = sym is ∙ e in
       record { asked = a; live = new-known (viewSessions t) msg k; kindIs = is; other = ap (λ (n : ℕ). eqb n deletion) k; found = λ o. absurd (o e) }
 
-  module _ {seid : ℕ} (o : kind ≡ establishment → ⊥) (seidIs : seid ≡ headerSeid msg) {room : ℕ} (l : room ≡ viewSettings t .limit) {r : Place} (at : r ≡ placeIn (tableArea room) seid t) where
+  module _ {seid : ℕ} (o : kind ≡ establishment → ⊥) (seidIs : seid ≡ headerSeid msg) {room : ℕ} (l : room ≡ viewSettings t .limit) {r : Lookup} (at : r ≡ placeIn (tableArea room) seid t) where
     at-header : r ≡ placeIn (tableArea room) (headerSeid msg) t
     at-header = at ∙ ap (λ (n : ℕ). placeIn (tableArea room) n t) seidIs
 

@@ -12,7 +12,8 @@ use Rattle.rules.specs.Elements.{causeOf}
 use Rattle.rules.specs.Message.{Spot, frameFault, kindOf}
 use Rattle.rules.specs.Stages.{Verdict, entrySession, judged}
 use Rattle.rules.specs.Reading as rules
-use Rattle.rules.specs.Reading.{Request, faulty, done, read, faultIn, readFault, askedIn, readRequest}
+use Rattle.rules.specs.Reading.{faulty, done, read, faultIn, readFault, askedIn, readRequest}
+use Rattle.rules.specs.Request.{Request}
 use Rattle.plan.specs.Rows.{rowWidth, rowsOf, requestIn}
 use Rattle.stages.proofs.VerdictLaws.{judge-plain}
 use Rattle.request.specs.Requests.{refused, whole, resultOf, fromFraming, readingOf, meant, rowsLeft, Read}

@@ -19,9 +19,9 @@ use Rattle.rules.specs.Grants.{granted}
 use Rattle.rules.specs.Reply.{noReports, reply}
 use Rattle.rules.specs.Serve.{replyTo}
 use Rattle.rules.specs.Causes as why
-use Rattle.claim.proofs.ServeLaws.{TableKept, table-kept}
-use Rattle.claim.proofs.VerdictLaws.{passed}
-use Rattle.claim.proofs.Changed.{entry-known}
+use Rattle.invariants.proofs.ServeLaws.{TableKept, table-kept}
+use Rattle.invariants.proofs.VerdictLaws.{passed}
+use Rattle.invariants.proofs.Changed.{entry-known}
 use Rattle.areas.specs.Counted.{withoutRecord}
 use Rattle.unit.specs.declared.Settings.{Settings as Unit}
 use Rattle.unit.specs.Meaning.{settingsOf}

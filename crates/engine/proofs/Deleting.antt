@@ -16,7 +16,8 @@ use Rattle.rules.specs.Limits.{maxPdrs, maxEndpoints}
 use Rattle.rules.specs.Model.{Settings, Session, Sessions, freeCount}
 use Rattle.rules.specs.Elements.{Fqcsid}
 use Rattle.rules.specs.Message.{Element, kindOf, headerLength, body, elements, actedOn, establishment, deletion}
-use Rattle.rules.specs.Reading.{Request, done, Draft, emptyDraft, elementRead, elementsRead, requestOf, finished, aloneIn, sessionRead, topRead, read, faultIn, readFault, askedIn, readRequest, listing}
+use Rattle.rules.specs.Reading.{done, elementRead, elementsRead, finished, aloneIn, sessionRead, topRead, read, faultIn, readFault, askedIn, readRequest}
+use Rattle.rules.specs.Request.{Request, Draft, emptyDraft, requestOf, listing}
 use Rattle.rules.specs.Grants.{Kind, Got, choices, needFrom, need}
 use Rattle.rules.specs.Reply.{Reports, noReports, reports}
 use Rattle.rules.specs.Stages.{plain, fteidsOf, addressesOf, restoredAddresses, addressClash, noAddress, invalidAllocation, createdPdrs, createdEndpoints, updatedPdrs, idTwice, createdLive, absentId, removedPdrs, updatesRemoved, namesAbsent, restoredHoldings, clash, requestRules, brokenRules, breaksRule, tooManySessions, tooManyPdrs, tooManyEndpoints, tooFewTeids, noRoom, judge}

@@ -22,13 +22,13 @@ use Rattle.rules.specs.Message.{kindOf, headerSeid, establishment, setDeletion}
 use Rattle.rules.specs.Reading.{readRequest}
 use Rattle.rules.specs.Stages.{hasSeid, sessionOf, isLive, newSession, atEntry, entrySession, unnamed}
 use Rattle.laws.proofs.LayoutLaws.{session-back}
-use Rattle.claim.proofs.ServeLaws.{TableKept, table-kept}
-use Rattle.slots.specs.declared.Place.{Place}
-use Rattle.slots.specs.declared.Place.the-variants.{Found, Absent}
+use Rattle.invariants.proofs.ServeLaws.{TableKept, table-kept}
+use Rattle.areas.specs.declared.Lookup.{Lookup}
+use Rattle.areas.specs.declared.Lookup.the-variants.{Found, Absent}
 use Rattle.areas.specs.declared.Area.{Area}
 use Rattle.areas.specs.Counted.{areaIn, placeIn}
 use Rattle.session.specs.Areas.{tableArea}
-use Rattle.store.proofs.Stored.{session-found, session-absent, session-loaded, fresh-slot}
+use Rattle.session.proofs.Saved.{session-found, session-absent, session-loaded, fresh-slot}
 use Rattle.stages.proofs.EntryLaws.{slot-live, slot-new}
 use Rattle.engine.specs.Steps.{Fetching, Fetched, Entered}
 
@@ -60,14 +60,14 @@ module _ (t : List ℕ) (h : T (sound t)) where
   kept : TableKept t
   kept = table-kept t h
 
-  at-place : (n room : ℕ) (r q : Place) → room ≡ s .limit → r ≡ placeIn (tableArea room) n t → r ≡ q → placeIn area n (encode s m) ≡ q
+  at-place : (n room : ℕ) (r q : Lookup) → room ≡ s .limit → r ≡ placeIn (tableArea room) n t → r ≡ q → placeIn area n (encode s m) ≡ q
   at-place n room r q l e d = ap (placeIn area n) (kept .encoded) ∙ ap (λ (z : ℕ). placeIn (tableArea z) n t) (sym l) ∙ sym e ∙ d
 
-  pub live-found : (n p room : ℕ) (r : Place) → room ≡ s .limit → r ≡ placeIn (tableArea room) n t → r ≡ Found p → true ≡ isLive n (viewSessions t)
+  pub live-found : (n p room : ℕ) (r : Lookup) → room ≡ s .limit → r ≡ placeIn (tableArea room) n t → r ≡ Found p → true ≡ isLive n (viewSessions t)
   unfolding isLive
   live-found n p room r l e d = sym (ap isSome (session-found s (kept .settings) m (kept .sessions) n p (newSession 0) (at-place n room r (Found p) l e d) .1))
 
-  pub live-absent : (n p room : ℕ) (r : Place) → room ≡ s .limit → r ≡ placeIn (tableArea room) n t → r ≡ Absent p → false ≡ isLive n (viewSessions t)
+  pub live-absent : (n p room : ℕ) (r : Lookup) → room ≡ s .limit → r ≡ placeIn (tableArea room) n t → r ≡ Absent p → false ≡ isLive n (viewSessions t)
   unfolding isLive
   live-absent n p room r l e d = sym (ap isSome (session-absent s (kept .settings) m (kept .sessions) n p (at-place n room r (Absent p) l e d)))
 

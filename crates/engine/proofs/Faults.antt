@@ -9,7 +9,8 @@ use Rattle.rules.specs.Layout.{viewSettings, viewSessions}
 use Rattle.rules.specs.Elements.{Refusal, missing, conditional, tooShort, incorrect, causeOf}
 use Rattle.rules.specs.Message.{Spot, spot, frameFault}
 use Rattle.rules.specs.Stages as rules
-use Rattle.rules.specs.Reading.{Fault, Request, Reading, faulty, done, read, faultIn, readFault, readRequest}
+use Rattle.rules.specs.Reading.{Fault, Reading, faulty, done, read, faultIn, readFault, readRequest}
+use Rattle.rules.specs.Request.{Request}
 use Rattle.rules.specs.Causes as why
 use Rattle.frame.specs.Framed as frame
 use Rattle.frame.specs.declared.Framing.{Framing}

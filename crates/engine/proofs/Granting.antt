@@ -18,9 +18,9 @@ use Rattle.octets.proofs.Ordered.{keep-passes}
 use Rattle.octets.proofs.ListLaws.{Every, OnSome, map-map}
 use Rattle.rules.specs.Model.{Tunnel, tunnel}
 use Rattle.rules.specs.Elements.{given, choose, ueGiven, ueChoose, ueOther, Fqcsid, sets, removal, nodeTypeKept, nodeAddressAllowed, nodeAddressTests}
-use Rattle.rules.specs.Reading.{cleared, changed}
+use Rattle.rules.specs.Request.{cleared, changed}
 use Rattle.rules.specs.Grants.{Kind, ofPdr, ofEndpoint, Got, Grant, grantedTeid}
-use Rattle.rules.specs.Apply.{tunnelFrom, placeFrom, addressGot, addressFrom, createPdr, createEndpoint}
+use Rattle.rules.specs.Apply.{tunnelFrom, matchFrom, addressGot, addressFrom, createPdr, createEndpoint}
 use Rattle.laws.proofs.RequestLaws.{PdrRead, EndpointRead, CsidsRead, RequestRead}
 use Rattle.laws.proofs.ReadLaws.{CsidRead}
 use Rattle.plan.specs.Rows.{word, hasTag, tagged, present, fteidFrom, rowFteid, ueFrom, rowUe, rowLocal, rowPdr, rowEndpoint, rowCsid, rowAddress, isNullRow, requestIn, rowsOf, rowWidth}
@@ -30,7 +30,7 @@ use Rattle.grants.specs.Choosing.{choosing, rowWith}
 use Rattle.grants.proofs.RequestLaws.{Alike}
 use Rattle.grants.proofs.ReportLaws.{gets, rowGot, alike-got, address-word, address-got}
 use Rattle.grants.proofs.GrantLaws.{pdr-teid, endpoint-teid}
-use Rattle.session.specs.Records.{ifIs, placeKind}
+use Rattle.session.specs.Records.{ifIs, rowMatch}
 use Rattle.session.proofs.RowRecords.{pdrOf, endpointOf}
 use Rattle.session.proofs.Passes.{endpointRow, pdrRow, setsFit, csidRow}
 use Rattle.engine.specs.Answers.{OnlyNull}
@@ -47,8 +47,8 @@ endpoint-fits (q ∷ qs) t h =
     (endpoint-fits qs (all-tail (hasTag ie.createEndpoint) q qs t) (h .1))
 
 -- an endpoint ID counts where the PDR names one
-named-fits : (q : List ℕ) → OnSome (λ e. T (ltb e 256)) (present (word its.hasEndpointId q) (word its.endpointId q)) → T (ltb (ifIs (placeKind q) 2 (word its.endpointId q)) 256)
-unfolding present ifIs placeKind
+named-fits : (q : List ℕ) → OnSome (λ e. T (ltb e 256)) (present (word its.hasEndpointId q) (word its.endpointId q)) → T (ltb (ifIs (rowMatch q) 2 (word its.endpointId q)) 256)
+unfolding present ifIs rowMatch
 named-fits q h = go (eqb (word its.flags q) 0) (eqb (word its.hasEndpointId q) 1) h
   where
     go : (none? ep : Bool) → OnSome (λ e. T (ltb e 256)) (pick ep (some (word its.endpointId q)) none) → T (ltb (pick (eqb (pick none? (pick ep 2 0) 1) 2) (word its.endpointId q) 0) 256)
@@ -63,10 +63,10 @@ pdr-fits : (qs : List (List ℕ)) → T (all (hasTag ie.createPdr) qs) → Every
 unfolding all pdrRow
 pdr-fits [] t h = tt
 pdr-fits (q ∷ qs) t h =
-    both (hasTag ie.createPdr q && (ltb (word its.pdrId q) 65536 && (ltb (word its.source q) 256 && ltb (ifIs (placeKind q) 2 (word its.endpointId q)) 256))) (all pdrRow qs)
-    (both (hasTag ie.createPdr q) (ltb (word its.pdrId q) 65536 && (ltb (word its.source q) 256 && ltb (ifIs (placeKind q) 2 (word its.endpointId q)) 256)) (all-head (hasTag ie.createPdr) q qs t)
-    (both (ltb (word its.pdrId q) 65536) (ltb (word its.source q) 256 && ltb (ifIs (placeKind q) 2 (word its.endpointId q)) 256) (unfold rowPdr in (h .0 .id))
-    (both (ltb (word its.source q) 256) (ltb (ifIs (placeKind q) 2 (word its.endpointId q)) 256) (source-fits (word its.source q) (unfold rowPdr in (h .0 .source))) (named-fits q (unfold rowPdr in (h .0 .endpoint))))))
+    both (hasTag ie.createPdr q && (ltb (word its.pdrId q) 65536 && (ltb (word its.source q) 256 && ltb (ifIs (rowMatch q) 2 (word its.endpointId q)) 256))) (all pdrRow qs)
+    (both (hasTag ie.createPdr q) (ltb (word its.pdrId q) 65536 && (ltb (word its.source q) 256 && ltb (ifIs (rowMatch q) 2 (word its.endpointId q)) 256)) (all-head (hasTag ie.createPdr) q qs t)
+    (both (ltb (word its.pdrId q) 65536) (ltb (word its.source q) 256 && ltb (ifIs (rowMatch q) 2 (word its.endpointId q)) 256) (unfold rowPdr in (h .0 .id))
+    (both (ltb (word its.source q) 256) (ltb (ifIs (rowMatch q) 2 (word its.endpointId q)) 256) (source-fits (word its.source q) (unfold rowPdr in (h .0 .source))) (named-fits q (unfold rowPdr in (h .0 .endpoint))))))
     (pdr-fits qs (all-tail (hasTag ie.createPdr) q qs t) (h .1))
 
 type-fits : (t : ℕ) (a : List ℕ) → T (nodeAddressAllowed t a) → T (ltb t 256)
@@ -150,26 +150,26 @@ endpoint-stored got row e f =
     let address = address-of row (got ofEndpoint (word its.endpointId row) .address) f in
     λ i. record { id = word its.endpointId row; local = local i; address = address i }
 
-place-of : (row : List ℕ) (n : ℕ) → (bit 2 (word its.flags row) ≡ true → n ≡ word its.teid row) → (e : Option ℕ) → placeFrom n (rowLocal row) e ≡ placeFrom (word its.teid row) (rowLocal row) e
-unfolding rowLocal placeFrom
-place-of row n h e = go (eqb (word its.flags row) 0)
+match-of : (row : List ℕ) (n : ℕ) → (bit 2 (word its.flags row) ≡ true → n ≡ word its.teid row) → (e : Option ℕ) → matchFrom n (rowLocal row) e ≡ matchFrom (word its.teid row) (rowLocal row) e
+unfolding rowLocal matchFrom
+match-of row n h e = go (eqb (word its.flags row) 0)
   where
-    go : (b : Bool) → placeFrom n (pick b none (some (rowFteid row))) e ≡ placeFrom (word its.teid row) (pick b none (some (rowFteid row))) e
-    go true = unfold placeFrom in refl
-    go false = unfold placeFrom in (ap (λ (t : Tunnel). tunnel t) (tunnel-of row n h))
+    go : (b : Bool) → matchFrom n (pick b none (some (rowFteid row))) e ≡ matchFrom (word its.teid row) (pick b none (some (rowFteid row))) e
+    go true = unfold matchFrom in refl
+    go false = unfold matchFrom in (ap (λ (t : Tunnel). tunnel t) (tunnel-of row n h))
 
 pdr-stored : (got : Kind → ℕ → Got) (row : List ℕ) → (bit 2 (word its.flags row) ≡ true → got ofPdr (word its.pdrId row) .teid ≡ word its.teid row)
     → (eqb (word its.ueKind row) 2 ≡ true → got ofPdr (word its.pdrId row) .address ≡ word its.ueAddress row) → createPdr got (rowPdr row) ≡ pdrOf row
 unfolding createPdr pdrOf rowPdr
 pdr-stored got row e f =
-    let place = place-of row (got ofPdr (word its.pdrId row) .teid) e (present (word its.hasEndpointId row) (word its.endpointId row)) in
+    let matched = match-of row (got ofPdr (word its.pdrId row) .teid) e (present (word its.hasEndpointId row) (word its.endpointId row)) in
     let address = address-of row (got ofPdr (word its.pdrId row) .address) f in
     λ i. record {
       id = word its.pdrId row;
       precedence = word its.precedence row;
       far = present (word its.hasFarId row) (word its.farId row);
       source = word its.source row;
-      place = place i;
+      match = matched i;
       address = address i;
     }
 

@@ -15,7 +15,8 @@ use Rattle.rules.specs.Layout.{encode, viewSettings, viewSessions}
 use Rattle.rules.specs.Elements.{Fqcsid}
 use Rattle.rules.specs.Message.{listPlace, elements, headerLength, body, kindOf, establishment, frameFault}
 use Rattle.rules.specs.Reading as reading
-use Rattle.rules.specs.Reading.{Reading, faulty, done, andThen, listRead, listing, topRead, askedIn, faultIn, readFault, readRequest}
+use Rattle.rules.specs.Reading.{Reading, faulty, done, andThen, listRead, topRead, askedIn, faultIn, readFault, readRequest}
+use Rattle.rules.specs.Request.{listing}
 use Rattle.rules.specs.Stages.{Verdict, plain, newSession, atEntry, entrySession, judged, unknownSession}
 use Rattle.rules.specs.Apply.{staysSession, follow}
 use Rattle.rules.specs.Grants.{granted}

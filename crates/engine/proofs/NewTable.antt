@@ -16,24 +16,25 @@ use Rattle.rules.specs.Elements.{nodeTypeKept}
 use Rattle.rules.specs.Layout.{sessionOctets, encode}
 use Rattle.rules.specs.Sound.{settingsAllowed, sessionAllowed, sessionsAllowed, pdrAllowed, endpointAllowed, csidAllowed}
 use Rattle.rules.specs.Message.{kindOf, headerSeid, served, deletion, setDeletion}
-use Rattle.rules.specs.Reading.{readRequest, Request}
+use Rattle.rules.specs.Reading.{readRequest}
+use Rattle.rules.specs.Request.{Request}
 use Rattle.rules.specs.Grants.{Kind, Got, granted}
 use Rattle.rules.specs.Stages.{entrySession, removedPdrs}
 use Rattle.rules.specs.Apply.{apply, putSession, follow}
 use Rattle.rules.specs.Serve.{sessionsAfter}
 use Rattle.laws.proofs.LayoutLaws.{csid-address-length, address-short}
-use Rattle.claim.proofs.VerdictLaws.{Passed}
-use Rattle.claim.proofs.KeptRules.{SessionKept, pdr-kept, endpoint-kept, csid-kept, sessions-kept}
-use Rattle.claim.proofs.Changed.{entry-sound, changed-sound}
-use Rattle.claim.proofs.After.{changed, ChangedSound, sound-after}
-use Rattle.claim.proofs.Accepting.{SoundAfter}
+use Rattle.invariants.proofs.VerdictLaws.{Passed}
+use Rattle.invariants.proofs.KeptRules.{SessionKept, pdr-kept, endpoint-kept, csid-kept, sessions-kept}
+use Rattle.invariants.proofs.Changed.{entry-sound, changed-sound}
+use Rattle.invariants.proofs.After.{changed, ChangedSound, sound-after}
+use Rattle.invariants.proofs.Accepting.{SoundAfter}
 use Rattle.plan.specs.Rows.{requestIn}
 use Rattle.areas.specs.Counted.{withRecord, withoutRecord}
 use Rattle.session.specs.Areas.{tableArea}
 use Rattle.session.specs.Build.{built}
 use Rattle.session.proofs.Slot.{Slot, pdrFits, endpointFits, csidFits}
 use Rattle.session.proofs.Built.{Ready, built-session}
-use Rattle.store.proofs.Stored.{session-saved, session-removed}
+use Rattle.session.proofs.Saved.{session-saved, session-removed}
 
 pdrs-fit : (s : Settings) (live : List ℕ) (ps : List Pdr) → T (all (pdrAllowed s live) ps) → T (all pdrFits ps)
 unfolding all

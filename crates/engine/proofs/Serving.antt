@@ -18,7 +18,7 @@ use Rattle.rules.specs.Layout.{viewSettings, viewSessions, tableLength, headWid
 use Rattle.rules.specs.Sound.{sound}
 use Rattle.rules.specs.Message.{kindOf, headerSeid, served, establishment, modification, deletion, setDeletion}
 use Rattle.rules.specs.Serve.{unserved, replyTo, answered, answer, serveSound, serve}
-use Rattle.claim.proofs.ServeLaws.{table-kept}
+use Rattle.invariants.proofs.ServeLaws.{table-kept}
 use Rattle.frame.specs.HeaderOf.{outcome, request, sets, opened, headerOf}
 use Rattle.frame.specs.declared.header.Header.{Header}
 use Rattle.frame.specs.declared.header.Header.the-variants.{Request, Sets}

@@ -13,11 +13,12 @@ use Rattle.rules.specs.Model.{Settings, Session, Sessions, heldTeids, heldAddre
 use Rattle.rules.specs.Layout.{viewSession, viewSettings, viewSessions}
 use Rattle.rules.specs.Sound.{poolTests, addressPoolTests, settingsTests, settingsAllowed}
 use Rattle.rules.specs.Message.{establishment}
-use Rattle.rules.specs.Reading.{readRequest, Request}
+use Rattle.rules.specs.Reading.{readRequest}
+use Rattle.rules.specs.Request.{Request}
 use Rattle.rules.specs.Stages.{removedPdrs, entrySession, Verdict, plain, isLive, invalidAllocation, breaksRule, noRoom, noAddress, judge, judged}
 use Rattle.rules.specs.Causes as why
-use Rattle.claim.proofs.ServeLaws.{TableKept, table-kept}
-use Rattle.claim.proofs.FreeTeids.{held-in-pool}
+use Rattle.invariants.proofs.ServeLaws.{TableKept, table-kept}
+use Rattle.invariants.proofs.FreeTeids.{held-in-pool}
 use Rattle.pool.proofs.TakenLaws.{Means, map-means}
 use Rattle.pool.proofs.AddressLaws.{address-map-means}
 use Rattle.plan.specs.Rows.{rowsOf, requestIn}

@@ -21,7 +21,7 @@ use Rattle.areas.specs.Counted.{areaIn, placeIn}
 use Rattle.session.specs.Areas.{tableArea}
 use Rattle.unit.specs.declared.Settings.{Settings as Unit}
 use Rattle.unit.specs.Meaning.{settingsOf}
-use Rattle.slots.specs.declared.Place.the-variants.{Found}
+use Rattle.areas.specs.declared.Lookup.the-variants.{Found}
 use Rattle.created.specs.Entries.{maxGrants}
 use Rattle.grants.specs.Choosing.{Granted, addressed, lowestAddress, reportPlaces}
 use Rattle.stages.specs.Rules.{Slot}

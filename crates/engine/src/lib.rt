@@ -9,23 +9,24 @@ ghost use Rattle.unit.specs.Meaning.{settingsOf};
 ghost use Rattle.areas.specs.Counted.{withRecord};
 ghost use Rattle.session.specs.Areas.{tableArea};
 ghost use Rattle.session.specs.Build.{built};
-ghost use Rattle.engine.specs.Answers.{Asked, AskedList, Live, Answers, Replies, Refusing, Accepting};
+ghost use Rattle.engine.specs.Answers.{Asked, Live, Answers, Replies, Refusing, Accepting};
 ghost use Rattle.engine.specs.Steps.{Counted, Giving, Given, Fetching, Fetched, Entered, Readable, Changing, Serves};
 ghost use lib.Dec.{T};
 ghost use Rattle.rules.specs.Layout.{viewSettings, viewSessions, sessionWidth, tableLength};
 ghost use Rattle.rules.specs.Sound.{sound};
 ghost use Rattle.rules.specs.Stages.{isLive};
+use areas::Lookup;
 use format::causes;
 use format::kinds;
 use frame::Framing;
 use frame::header::Header;
 use pool::Taken;
-use reading::Verdict;
 use reply::Offending;
 use request::Plan;
 use request::Reading;
-use slots::Place;
 use unit::Settings;
+
+mod set_deletion;
 
 // A reply: how many octets of the reply space hold it, and the place in the message of a fault of stages 2 and 3, else 0.
 pub struct Replied {
@@ -77,58 +78,7 @@ fn delete(t: &mut [u8], u: Settings, msg: &[u8], seid: u64, out: &mut [u8]) -> R
     let plan = [0u64; 1];
     let places = [0usize; 1];
     let used = reply::accepted(u, msg, 0, &plan[0..0], &places[0..0], out);
-    store::remove(t, u.limit as usize, format::COUNT, seid);
-    Replied {
-        used: used,
-        place: 0,
-    }
-}
-
-// The reply of a set deletion that is refused; the table stays.
-fn refuse_list(
-    t: &[u8],
-    u: Settings,
-    msg: &[u8],
-    cause: u64,
-    offending: Offending,
-    out: &mut [u8],
-) -> usize
-    requires { ⌜ AskedList (now t) (now msg) (now out) × Refusing (now t) (now msg) (now out) cause offending × (settingsOf u ≡ viewSettings (now t)) ⌝ }
-    ensures { λ r. ⌜ Answers (now (t .entry)) (now (msg .entry)) (now (out .entry)) r (now (out .exit)) (now (t .entry)) ⌝ }
-{
-    reply::listed(u, msg, cause as u8, offending, out)
-}
-
-// A set deletion (02 (vii)): every check comes first, then the reply, then every match goes.
-fn delete_list(t: &mut [u8], u: Settings, msg: &[u8], out: &mut [u8]) -> Replied
-    requires { ⌜ AskedList (now t) (now msg) (now out) × (settingsOf u ≡ viewSettings (now t)) ⌝ }
-    ensures { λ r. ⌜ Replies (now (t .entry)) (now (msg .entry)) (now (out .entry)) (r .used) (r .place) (now (out .exit)) (now (t .exit)) ⌝ }
-{
-    let framing = frame::frame_fault(msg);
-    if let Framing::Fault(kind, place) = framing {
-        let used = refuse_list(
-            t,
-            u,
-            msg,
-            causes::WRONG_LENGTH,
-            Offending::Element(kind),
-            out,
-        );
-        return Replied {
-            used: used,
-            place: place,
-        };
-    }
-    let verdict = sets::list_fault(&msg[8..]);
-    if let Verdict::Refused(cause, kind, place) = verdict {
-        let used = refuse_list(t, u, msg, cause, Offending::Element(kind), out);
-        return Replied {
-            used: used,
-            place: place,
-        };
-    }
-    let used = reply::listed(u, msg, causes::ACCEPTED as u8, Offending::Nothing, out);
-    sets::remove_listed(t, &msg[8..]);
+    session::remove(t, u.limit as usize, format::COUNT, seid);
     Replied {
         used: used,
         place: 0,
@@ -141,7 +91,7 @@ fn keep(t: &mut [u8], room: usize, slot: &mut [u8], gone: &[u64], plan: &[u64], 
     ensures { λ _. ⌜ (now (slot .exit) ≡ built (now (gone .entry)) (rowsOf n (now (plan .entry))) (now (slot .entry))) × (now (t .exit) ≡ withRecord (tableArea room) (built (now (gone .entry)) (rowsOf n (now (plan .entry))) (now (slot .entry))) (now (t .entry))) ⌝ }
 {
     session::build(slot, gone, plan, n);
-    store::save(t, room, format::COUNT, slot);
+    session::save(t, room, format::COUNT, slot);
 }
 
 // Gives the TEIDs and the address that rows choose, by the maps of taken ones. `places` gets where the rows with something chosen begin,
@@ -193,10 +143,10 @@ fn is_live(t: &[u8], room: usize, seid: u64) -> bool
     requires { ⌜ T (sound (now t)) × (length (now t) ≡ tableLength room) × (room ≡ viewSettings (now t) .limit) ⌝ }
     ensures { λ r. ⌜ r ≡ isLive seid (viewSessions (now (t .entry))) ⌝ }
 {
-    let place = store::find(t, room, format::COUNT, seid);
+    let place = session::find(t, room, format::COUNT, seid);
     match place {
-        Place::Found(p) => return true,
-        Place::Absent(p) => return false,
+        Lookup::Found(p) => return true,
+        Lookup::Absent(p) => return false,
     }
 }
 
@@ -207,10 +157,10 @@ fn enter(t: &[u8], room: usize, kind: u64, seid: u64, p: usize, slot: &mut [u8])
     ensures { λ r. ⌜ Fetched (now (t .entry)) room kind seid p r (now (slot .exit)) ⌝ }
 {
     if kind == kinds::ESTABLISHMENT {
-        store::fresh(slot, seid);
+        session::fresh(slot, seid);
         return is_live(t, room, seid);
     }
-    store::load(t, room, format::COUNT, p, slot);
+    session::load(t, room, format::COUNT, p, slot);
     false
 }
 
@@ -342,16 +292,16 @@ fn answer(
     if kind == kinds::ESTABLISHMENT {
         return change(t, u, taken, free, addresses, msg, kind, 0, out);
     }
-    let place = store::find(t, u.limit as usize, format::COUNT, seid);
+    let place = session::find(t, u.limit as usize, format::COUNT, seid);
     match place {
-        Place::Absent(p) => {
+        Lookup::Absent(p) => {
             let used = refuse(t, u, msg, causes::NO_SESSION, Offending::Nothing, out);
             return Replied {
                 used: used,
                 place: 0,
             };
         }
-        Place::Found(p) => {
+        Lookup::Found(p) => {
             if kind == kinds::DELETION {
                 return delete(t, u, msg, seid, out);
             }
@@ -399,7 +349,7 @@ pub fn serve(t: &mut [u8], msg: &[u8], out: &mut [u8]) -> Served
         Header::Malformed => return unserved(4),
         Header::NotServed => return unserved(5),
         Header::Sets => {
-            let replied = delete_list(t, u, msg, out);
+            let replied = set_deletion::delete_list(t, u, msg, out);
             return Served {
                 outcome: 0,
                 used: replied.used,

@@ -13,14 +13,14 @@ use Rattle.octets.specs.Choice.{pick, consOption}
 use Rattle.octets.specs.Octets.{part, number, octetAt, slices}
 use Rattle.octets.specs.Lists.{member, collect}
 use Rattle.octets.proofs.ListLaws.{map-append}
-use Rattle.lists.proofs.Questions.{member-append}
+use Rattle.octets.proofs.Questions.{member-append}
 use Rattle.octets.proofs.Bools.{eqb-turn}
 use Rattle.octets.proofs.Put.{part-from}
 use Rattle.rules.specs.Model.{Holding, teidOf, tunnelHolding, pdrHolding, endpointHolding, sessionHoldings, sessionTeids}
 use Rattle.rules.specs.Layout.{tunnelRead, viewArea, viewPdr, viewEndpoint, viewSession, pdrWidth, endpointWidth, pdrCountAt, endpointCountAt, pdrsAt, endpointsAt}
 use Rattle.rules.specs.Finding.{isHolder}
 use Rattle.laws.proofs.LayoutLaws.{endpoint-view}
-use Rattle.sessions.proofs.Turns.{slices-more}
+use Rattle.records.proofs.Turns.{slices-more}
 use Rattle.session.proofs.Steps.{part-part}
 use Rattle.marking.specs.Marking.{holdsTeid, heldBy, pdrHolds, endpointHolds}
 use Rattle.marking.proofs.Looking.{hold-of, teid-of}

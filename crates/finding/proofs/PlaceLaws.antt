@@ -19,8 +19,8 @@ use Rattle.rules.specs.Model.{Session, Sessions, seidOf}
 use Rattle.rules.specs.Stages.{hasSeid, newSession}
 use Rattle.rules.specs.Restoring.{sessionAt}
 use Rattle.rules.specs.Finding.{placeFrom}
-use Rattle.slots.specs.declared.Place.the-variants.{Found, Absent}
-use Rattle.slots.specs.Records.{lookupFrom}
+use Rattle.areas.specs.declared.Lookup.the-variants.{Found, Absent}
+use Rattle.areas.specs.Records.{lookupFrom}
 
 -- ---- the walk: what is left gives the same answer
 

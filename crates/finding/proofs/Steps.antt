@@ -16,12 +16,12 @@ use Rattle.rules.specs.Sound.{sessionAllowed, sound}
 use Rattle.rules.specs.Stages.{hasSeid, sessionOf}
 use Rattle.rules.specs.Restoring.{sessionAt}
 use Rattle.rules.specs.Finding.{Finding, findingOf, placeFrom, sessionPlace, isHolder, holderPlace, findIn, countSessions, findSession, findHolder}
-use Rattle.slots.specs.declared.Place.{Place}
-use Rattle.slots.specs.declared.Place.the-variants.{Found, Absent}
+use Rattle.areas.specs.declared.Lookup.{Lookup}
+use Rattle.areas.specs.declared.Lookup.the-variants.{Found, Absent}
 use Rattle.areas.specs.declared.Area.{Area}
 use Rattle.areas.specs.Counted.{placeIn}
 use Rattle.session.specs.Areas.{tableArea}
-use Rattle.store.proofs.Stored.{session-place, session-absent}
+use Rattle.session.proofs.Saved.{session-place, session-absent}
 use Rattle.table.proofs.Encoded.{Encoded, sound-encoded}
 use Rattle.table.proofs.SoundSlots.{slotAt, few-pdrs, few-endpoints, slot-long, slot-session, session-kept, count-read, table-long}
 use Rattle.finding.specs.declared.Answer.{Answer}
@@ -72,14 +72,14 @@ module _ (t : List ℕ) (b : Bool) (e : b ≡ sound t) where
     unfolding findSession
     seid-broken z = told-broken (sessionPlace seid (viewSessions t)) z
 
-    module _ (z : not b ≡ false) (room : ℕ) (l : room ≡ number (part limitAt 2 t)) (r : Place) (q : r ≡ placeIn (tableArea room) seid t) where
+    module _ (z : not b ≡ false) (room : ℕ) (l : room ≡ number (part limitAt 2 t)) (r : Lookup) (q : r ≡ placeIn (tableArea room) seid t) where
       abbrev area : Area
       area = tableArea (viewSettings t .limit)
 
       k : Encoded t (viewSettings t) (viewSessions t)
       k = sound-encoded t (is-sound z)
 
-      there : (u : Place) → r ≡ u → placeIn area seid (encode (viewSettings t) (viewSessions t)) ≡ u
+      there : (u : Lookup) → r ≡ u → placeIn area seid (encode (viewSettings t) (viewSessions t)) ≡ u
       there u f = ap (placeIn area seid) (sym (k .whole)) ∙ ap (λ (n : ℕ). placeIn (tableArea n) seid t) (limit-read t ∙ sym l) ∙ sym q ∙ f
 
       pub seid-told : (p : ℕ) → r ≡ Found p → findingOf (some p) ≡ findSession t seid

@@ -117,13 +117,13 @@ pub fn find_session(t: &[u8], seid: u64) -> Answer
         };
     }
     let room = octets::read(t, format::LIMIT, 2) as usize;
-    let place = store::find(t, room, format::COUNT, seid);
+    let place = session::find(t, room, format::COUNT, seid);
     match place {
-        slots::Place::Found(p) => Answer {
+        areas::Lookup::Found(p) => Answer {
             outcome: FOUND,
             number: p,
         },
-        slots::Place::Absent(p) => Answer {
+        areas::Lookup::Absent(p) => Answer {
             outcome: NONE,
             number: 0,
         },

@@ -47,9 +47,9 @@ pub const FAR_ID: usize = FAR + 1;
 
 pub const SOURCE: usize = FAR_ID + 4;
 
-pub const PLACE: usize = SOURCE + 1;
+pub const MATCH: usize = SOURCE + 1;
 
-pub const TEID: usize = PLACE + 1;
+pub const TEID: usize = MATCH + 1;
 
 pub const FAMILIES: usize = TEID + 4;
 

@@ -1,12 +1,16 @@
-// The frame of a message: its header (header.rt), and stage 2, the framing of its elements and groups.
+// The frame of a message: its header (header.rt), the walk over its elements, and stage 2, the framing of its elements and groups.
+//
+// The walk takes any octets: an element that runs past the end has the octets that are there. So each promise is an equation with no
+// assumption, and stage 2 need not have been passed.
 use format::kinds;
 use format::types;
 ghost use mathlib.Core.Path.{_≡_};
-ghost use Rattle.octets.specs.Lists.{member};
+ghost use Rattle.octets.specs.Lists.{member, keep};
 ghost use Prim.Native.Nat.{_+_, _<_, _^_};
 ghost use lib.ListN.{length};
-ghost use Rattle.rules.specs.Message.{opened, spot, frame, frameFault};
+ghost use Rattle.rules.specs.Message.{opened, spot, frame, frameFault, elements, hasType};
 ghost use Rattle.frame.specs.Framed.{faultIn};
+ghost use Rattle.frame.specs.FirstOf.{firstOf};
 
 pub mod header;
 
@@ -91,4 +95,44 @@ pub fn frame_fault(msg: &[u8]) -> Framing
         return Framing::Framed;
     }
     first_fault(&msg[at..], octets::read(msg, 1, 1), 0, 0, at, 3)
+}
+
+// What stands at the front of some octets.
+pub enum First {
+    // Under 4 octets.
+    Done,
+    // An element: its type, and the octets that it takes. Its value starts at octet 4.
+    Element(u64, usize),
+}
+
+// The element at the front of s.
+pub fn first_of(s: &[u8]) -> First
+    ensures { λ r. ⌜ r ≡ firstOf (now (s .entry)) ⌝ }
+{
+    if s.len() < 4 {
+        return First::Done;
+    }
+    let kind = octets::read(s, 0, 2);
+    let end = 4 + octets::read(s, 2, 2) as usize;
+    if s.len() < end {
+        return First::Element(kind, s.len());
+    }
+    First::Element(kind, end)
+}
+
+// How many elements of s have the type kind; their places do not matter.
+pub fn count(s: &[u8], kind: u64) -> usize
+    ensures { λ r. ⌜ r ≡ length (keep (hasType kind) (elements 0 (now (s .entry)))) ⌝ }
+{
+    let mut rest = s;
+    let mut n = 0;
+    loop {
+        let First::Element(found, end) = first_of(rest) else {
+            return n;
+        };
+        if found == kind {
+            n += 1;
+        }
+        rest = &rest[end..];
+    }
 }

@@ -13,7 +13,7 @@ use Rattle.octets.specs.Lists.{all}
 use Rattle.octets.proofs.Tests.{is-true}
 use Rattle.octets.proofs.ListLaws.{Every}
 use Rattle.rules.specs.Model.{Settings, Sessions, heldAddresses}
-use Rattle.rules.specs.Reading.{Request}
+use Rattle.rules.specs.Request.{Request}
 use Rattle.rules.specs.Grants.{Grant, grants, chosenAddress, granted}
 use Rattle.rules.specs.Reply.{Reports, reports}
 use Rattle.rules.specs.Types as ie

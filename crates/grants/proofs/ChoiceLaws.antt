@@ -16,7 +16,7 @@ use Rattle.octets.specs.Lists.{all, keep, collect}
 use Rattle.octets.proofs.Tests.{pick-yes, and-left, all-head, all-tail}
 use Rattle.octets.proofs.ListLaws.{onSome, all-front, all-behind, map-append}
 use Rattle.rules.specs.Elements.{given, choose}
-use Rattle.rules.specs.Reading.{Request}
+use Rattle.rules.specs.Request.{Request}
 use Rattle.rules.specs.Grants.{Kind, ofPdr, ofEndpoint, Choice, sameKind, choiceOf, endpointChoice, pdrChoice, choices}
 use Rattle.plan.specs.Rows.{rowWidth, word, rowsOf, hasTag, tagged, fteidFrom, rowFteid, rowLocal, rowPdr, rowEndpoint, requestIn}
 use Rattle.rules.specs.Types as ie

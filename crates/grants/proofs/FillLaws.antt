@@ -13,7 +13,7 @@ use lib.Seq.{sets, set-out, getD-set-same, getD-set-other}
 use Rattle.octets.specs.Choice.{pick, valueOr, mapOption}
 use Rattle.octets.specs.Octets.{bit, part}
 use Rattle.octets.specs.Lists.{findBy}
-use Rattle.lists.proofs.Loops.{left-more, left-none, sets-more}
+use Rattle.octets.proofs.Loops.{left-more, left-none, sets-more}
 use Rattle.rules.specs.Grants.{Choice, Chosen, chosen, isChoice, chosenTeid, remember, grantOf, grantTeid, teidFor, freeAfter, chosenAfter, grantFrom}
 use Rattle.plan.specs.Rows.{rowWidth}
 use Rattle.pool.specs.Map.{teidsFrom}

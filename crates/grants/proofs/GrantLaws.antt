@@ -7,7 +7,7 @@ use lib.Dec.{T}
 use lib.ListN.{length, drop}
 use Rattle.octets.specs.Lists.{hasRepeat, all}
 use Rattle.rules.specs.Model.{Settings, Sessions, heldTeids}
-use Rattle.rules.specs.Reading.{Request}
+use Rattle.rules.specs.Request.{Request}
 use Rattle.rules.specs.Stages.{createdPdrs, createdEndpoints}
 use Rattle.rules.specs.Grants.{ofPdr, ofEndpoint, Grant, choices, grantTeid, grantFrom, grants, grantedTeid}
 use Rattle.plan.specs.Rows.{rowWidth, word, rowsOf, tagged, rowPdr, rowEndpoint, requestIn}

@@ -19,7 +19,7 @@ use Rattle.octets.proofs.ListLaws.{Every, all-append}
 use Rattle.laws.proofs.RequestLaws.{EndpointRead}
 use Rattle.rules.specs.Model.{Tunnel}
 use Rattle.rules.specs.Elements.{given, choose, ueGiven, ueChoose, ueOther, ueChooses}
-use Rattle.rules.specs.Reading.{Request}
+use Rattle.rules.specs.Request.{Request}
 use Rattle.rules.specs.Grants.{Kind, ofPdr, ofEndpoint, Grant, Got, sameKind, grantedTeid}
 use Rattle.rules.specs.Reply.{Report, chosenTunnel, chosenIp, pdrReport, endpointReport, somethingChosen, reports}
 use Rattle.rules.specs.Types as ie

@@ -14,7 +14,7 @@ use Rattle.octets.specs.Octets.{be, bit}
 use Rattle.octets.specs.Lists.{any, keep, collect}
 use Rattle.octets.proofs.ListLaws.{map-same, map-map, collect-same, collect-map}
 use Rattle.rules.specs.Elements.{sets, removal}
-use Rattle.rules.specs.Reading.{cleared, changed}
+use Rattle.rules.specs.Request.{cleared, changed}
 use Rattle.rules.specs.Grants.{Grant}
 use Rattle.plan.specs.Rows.{word, hasTag, tagged, fteidFrom, rowFteid, ueFrom, rowUe, rowStrange, rowLocal, present, rowPdr, rowEndpoint, rowFar, rowChange, rowPdi, rowPdrId, rowEndpointId, rowAddress, rowCsid, isNullRow, requestIn}
 use Rattle.rules.specs.Types as ie

@@ -5,7 +5,7 @@ use Prim.Native.Nat.{ℕ, _+_, _≤_, _<_}
 use native.Mathlib.Omega.{arith}
 use lib.ListN.{length, drop, getD, set, length-set}
 use Rattle.octets.specs.Choice.{headOr, rest}
-use Rattle.lists.proofs.Loops.{left-more}
+use Rattle.octets.proofs.Loops.{left-more}
 use Rattle.grants.specs.Choosing.{stores}
 
 pub stores-more : (plan ps ts : List ℕ) (i : ℕ) → i < length ps → i < length ts

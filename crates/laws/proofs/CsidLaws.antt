@@ -15,7 +15,8 @@ use Rattle.octets.proofs.ListLaws.{collect-append}
 use Rattle.rules.specs.Elements.{Fqcsid, readFseid, readFqcsid}
 use Rattle.rules.specs.Types as ie
 use Rattle.rules.specs.Message.{inside, Element, hasType, elements}
-use Rattle.rules.specs.Reading.{Item, clearsCsids, setsCsid, updatesEndpoint, done, Members, pdiRead, noMembers, membersRead, pdrFrom, endpointFrom, changeFrom, itemFrom, groupRead, Draft, emptyDraft, elementRead, elementsRead, csidIn, clears, aloneIn}
+use Rattle.rules.specs.Reading.{done, Members, pdiRead, noMembers, membersRead, pdrFrom, endpointFrom, changeFrom, itemFrom, groupRead, elementRead, elementsRead, aloneIn}
+use Rattle.rules.specs.Request.{Item, clearsCsids, setsCsid, updatesEndpoint, Draft, emptyDraft, csidIn, clears}
 use Rattle.laws.proofs.ReadLaws.{OnDone, anything, any-value, then-done, need-any}
 use Rattle.laws.proofs.RequestLaws.{element-step}
 

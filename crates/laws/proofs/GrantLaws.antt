@@ -17,7 +17,8 @@ use Rattle.octets.proofs.ListLaws.{Every, OnSome, every-append, every-collect}
 use Rattle.rules.specs.Model.{Settings, Sessions, heldTeids, freeTeids, heldAddresses, freeAddresses}
 use Rattle.rules.specs.Elements.{Fteid, given, choose, chooseId}
 use Rattle.rules.specs.Sound.{settingsAllowed}
-use Rattle.rules.specs.Reading.{NewPdr, NewEndpoint, Request, readRequest}
+use Rattle.rules.specs.Reading.{readRequest}
+use Rattle.rules.specs.Request.{NewPdr, NewEndpoint, Request}
 use Rattle.rules.specs.Grants.{Kind, ofPdr, ofEndpoint, sameKind, Choice, Chosen, Grant, choiceOf, endpointChoice, pdrChoice, choices, chosen, isChoice, chosenTeid, remember, grantOf, teidFor, freeAfter, chosenAfter, grantFrom, grants, chosenAddress, grantTeid, grantedTeid}
 use Rattle.laws.proofs.TableLaws.{pool-fits, address-pool-fits}
 use Rattle.laws.proofs.ReadLaws.{FteidRead}

@@ -19,11 +19,11 @@ use Rattle.octets.proofs.Digits.{number-below, take-octets, drop-octets, be-bac
 use Rattle.octets.proofs.Put.{part-two}
 use Rattle.octets.proofs.FieldLaws.{all-fit, length-fieldOctets, octet-field, record-back}
 use Rattle.octets.proofs.Numbers.{number-be, length-padded, length-concatMap, slices-concatMap}
-use Rattle.rules.specs.Model.{Settings, Tunnel, Place, neither, tunnel, endpoint, Pdr, Endpoint, Csid, Session, endpointId}
+use Rattle.rules.specs.Model.{Settings, Tunnel, Match, neither, tunnel, endpoint, Pdr, Endpoint, Csid, Session, endpointId}
 use Rattle.rules.specs.Limits.{maxPdrs, maxEndpoints, nodeTypes}
 use Rattle.rules.specs.Elements.{addressLength, nodeTypeKept, nodeAddressAllowed, nodeAddressTests, below16}
-use Rattle.rules.specs.Sound.{poolTests, settingsTests, settingsAllowed, inPool, tunnelTests, tunnelAllowed, placeAllowed, farAllowed, addressAllowed, pdrTests, pdrAllowed, endpointTests, endpointAllowed, csidTests, csidAllowed, sessionTests, sessionAllowed}
-use Rattle.rules.specs.Layout.{families, optionRead, tunnelRead, pdrWidths, matchKind, matchTeid, matchFamilies, matchEndpoint, placeRead, pdrNumbers, pdrFrom, endpointWidths, endpointNumbers, endpointFrom, csidSlotWidths, csidSlotNumbers, addressRead, csidFrom, pdrWidth, endpointWidth, csidWidth, sessionWidth, area, pdrOctets, endpointOctets, csidOctets, sessionOctets, viewPdr, viewEndpoint, viewCsid, viewArea, viewSession, viewSettings, limitAt}
+use Rattle.rules.specs.Sound.{poolTests, settingsTests, settingsAllowed, inPool, tunnelTests, tunnelAllowed, matchAllowed, farAllowed, addressAllowed, pdrTests, pdrAllowed, endpointTests, endpointAllowed, csidTests, csidAllowed, sessionTests, sessionAllowed}
+use Rattle.rules.specs.Layout.{families, optionRead, tunnelRead, pdrWidths, matchKind, matchTeid, matchFamilies, matchEndpoint, matchRead, pdrNumbers, pdrFrom, endpointWidths, endpointNumbers, endpointFrom, csidSlotWidths, csidSlotNumbers, addressRead, csidFrom, pdrWidth, endpointWidth, csidWidth, sessionWidth, area, pdrOctets, endpointOctets, csidOctets, sessionOctets, viewPdr, viewEndpoint, viewCsid, viewArea, viewSession, viewSettings, limitAt}
 
 -- ---- areas
 
@@ -114,38 +114,38 @@ unfolding addressAllowed
 ue-fits none h = lit< tt
 ue-fits (some a) h = ltb→lt a (2 ^ 32) h
 
-place-back : (l : Place) → placeRead (matchKind l) (matchTeid l) (matchFamilies l) (matchEndpoint l) ≡ l
-unfolding placeRead matchKind matchTeid matchFamilies matchEndpoint
-place-back neither = refl
-place-back (tunnel t) = ap tunnel (tunnel-back t)
-place-back (endpoint e) = refl
+match-back : (l : Match) → matchRead (matchKind l) (matchTeid l) (matchFamilies l) (matchEndpoint l) ≡ l
+unfolding matchRead matchKind matchTeid matchFamilies matchEndpoint
+match-back neither = refl
+match-back (tunnel t) = ap tunnel (tunnel-back t)
+match-back (endpoint e) = refl
 
 pdr-numbers : (p : Pdr) → pdrFrom (pdrNumbers p) ≡ p
 unfolding pdrFrom pdrNumbers
-pdr-numbers p = λ j. record { id = p .id; precedence = p .precedence; far = option-back (p .far) j; source = p .source; place = place-back (p .place) j; address = option-back (p .address) j }
+pdr-numbers p = λ j. record { id = p .id; precedence = p .precedence; far = option-back (p .far) j; source = p .source; match = match-back (p .match) j; address = option-back (p .address) j }
 
 endpoint-numbers : (e : Endpoint) → endpointFrom (endpointNumbers e) ≡ e
 unfolding endpointFrom endpointNumbers
 endpoint-numbers e = λ j. record { id = e .id; local = tunnel-back (e .local) j; address = option-back (e .address) j }
 
-record PlaceFits (l : Place) : Type 0 where
+record MatchFits (l : Match) : Type 0 where
   kind : matchKind l < 256
   teid : matchTeid l < 256 ^ 4
   families : matchFamilies l < 256
   endpoint : matchEndpoint l < 256
 
 module _ (s : Settings) (hs : s .first + s .size ≤ 2 ^ 32) where
-  place-fits : (live : List ℕ) (l : Place) → T (placeAllowed s live l) → PlaceFits l
-  unfolding placeAllowed matchKind matchTeid matchFamilies matchEndpoint
-  place-fits live neither h = record { kind = lit< tt; teid = lit< tt; families = lit< tt; endpoint = lit< tt }
-  place-fits live (tunnel t) h = record { kind = lit< tt; teid = teid-below s hs t h; families = families-fit t; endpoint = lit< tt }
-  place-fits live (endpoint e) h = record { kind = lit< tt; teid = lit< tt; families = lit< tt; endpoint = ltb→lt e 256 (and-left (ltb e 256) (member e live) h) }
+  match-fits : (live : List ℕ) (l : Match) → T (matchAllowed s live l) → MatchFits l
+  unfolding matchAllowed matchKind matchTeid matchFamilies matchEndpoint
+  match-fits live neither h = record { kind = lit< tt; teid = lit< tt; families = lit< tt; endpoint = lit< tt }
+  match-fits live (tunnel t) h = record { kind = lit< tt; teid = teid-below s hs t h; families = families-fit t; endpoint = lit< tt }
+  match-fits live (endpoint e) h = record { kind = lit< tt; teid = lit< tt; families = lit< tt; endpoint = ltb→lt e 256 (and-left (ltb e 256) (member e live) h) }
 
   pub pdr-fits : (live : List ℕ) (p : Pdr) → T (pdrAllowed s live p) → fit pdrWidths (pdrNumbers p) ≡ true
   unfolding pdrAllowed pdrTests pdrNumbers
   pdr-fits live p h =
       let e = each (pdrTests s live p) h in
-      let l = place-fits live (p .place) (e .1 .1 .1 .1 .0) in
+      let l = match-fits live (p .match) (e .1 .1 .1 .1 .0) in
       all-fit pdrWidths _ (
         ltb→lt (p .id) (2 ^ 16) (e .0),
         (
@@ -257,7 +257,7 @@ length-csid c = length-fieldOctets csidSlotWidths (csidSlotNumbers c) refl
 
 -- ---- what is read, octet by octet
 
-pub pdr-view : (xs : List ℕ) → viewPdr xs ≡ record { id = number (part 0 2 xs); precedence = number (part 2 4 xs); far = optionRead (getD xs 6 0) (number (part 7 4 xs)); source = getD xs 11 0; place = placeRead (getD xs 12 0) (number (part 13 4 xs)) (getD xs 17 0) (getD xs 18 0); address = optionRead (getD xs 19 0) (number (part 20 4 xs)) }
+pub pdr-view : (xs : List ℕ) → viewPdr xs ≡ record { id = number (part 0 2 xs); precedence = number (part 2 4 xs); far = optionRead (getD xs 6 0) (number (part 7 4 xs)); source = getD xs 11 0; match = matchRead (getD xs 12 0) (number (part 13 4 xs)) (getD xs 17 0) (getD xs 18 0); address = optionRead (getD xs 19 0) (number (part 20 4 xs)) }
 unfolding viewPdr pdrFrom fieldsAt
 pdr-view xs = rw (octet-field 6 xs, octet-field 11 xs, octet-field 12 xs, octet-field 17 xs, octet-field 18 xs, octet-field 19 xs)
 

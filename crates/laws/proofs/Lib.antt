@@ -12,3 +12,6 @@ pub mod RequestLaws
 pub mod GrantLaws
 pub mod CsidLaws
 pub mod WeightLaws
+pub mod MessageHeader
+pub mod RestorationElements
+pub mod RestorationRead

@@ -17,7 +17,8 @@ use Rattle.octets.proofs.ListLaws.{onSome, all-map, all-know, all-always}
 use Rattle.rules.specs.Model.{Settings, Sessions}
 use Rattle.rules.specs.Elements.{Fteid, given, choose, UeIp, ueChooses}
 use Rattle.rules.specs.Sound.{settingsAllowed}
-use Rattle.rules.specs.Reading.{NewPdr, NewEndpoint, Request, readRequest}
+use Rattle.rules.specs.Reading.{readRequest}
+use Rattle.rules.specs.Request.{NewPdr, NewEndpoint, Request}
 use Rattle.rules.specs.Grants.{Kind, ofPdr, ofEndpoint, Got, granted}
 use Rattle.rules.specs.Reply.{Report, chosenTunnel, chosenIp, pdrReport, endpointReport, somethingChosen, reports}
 use Rattle.laws.proofs.RequestLaws.{PdrRead, EndpointRead, RequestRead, request-read}

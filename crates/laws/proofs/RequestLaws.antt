@@ -21,7 +21,8 @@ use Rattle.rules.specs.Elements.{missing, conditional, incorrect, Fteid, Fqcsid
 use Rattle.rules.specs.Sound.{farAllowed}
 use Rattle.rules.specs.Types as ie
 use Rattle.rules.specs.Message.{establishment, modification, setDeletion, kindOf, headerLength, body, inside, Element, elements, actedOn, placesOf, numberWidth}
-use Rattle.rules.specs.Reading.{NewPdr, NewEndpoint, Change, Item, createsPdr, createsEndpoint, updatesPdr, removesPdr, removesEndpoint, setsCsid, clearsCsids, updatesEndpoint, CsidChanges, cleared, changed, Request, Reading, faulty, done, refusal, named, Members, noMembers, withPdi, withLocal, withAddress, holds, numberRead, farRead, pdiIn, valueRead, memberRead, membersRead, unopened, pdiEnd, pdiRead, pdrFrom, endpointFrom, changeFrom, itemFrom, groupRead, Draft, emptyDraft, withSeid, withRestores, withNode, withItem, seidRead, flagsRead, csidCountAllowed, withCsid, csidRead, actedRead, elementRead, elementsRead, pdrIn, endpointIn, changeIn, csidIn, clears, restoringIn, requestOf, createsAny, finished, aloneIn, sessionRead, listRead, listing, topRead, read, faultIn, readFault, askedIn, readRequest}
+use Rattle.rules.specs.Reading.{Reading, faulty, done, refusal, named, Members, noMembers, withPdi, withLocal, withAddress, holds, numberRead, farRead, pdiIn, valueRead, memberRead, membersRead, unopened, pdiEnd, pdiRead, pdrFrom, endpointFrom, changeFrom, itemFrom, groupRead, seidRead, flagsRead, csidCountAllowed, withCsid, csidRead, actedRead, elementRead, elementsRead, finished, aloneIn, sessionRead, listRead, topRead, read, faultIn, readFault, askedIn, readRequest}
+use Rattle.rules.specs.Request.{NewPdr, NewEndpoint, Change, Item, createsPdr, createsEndpoint, updatesPdr, removesPdr, removesEndpoint, setsCsid, clearsCsids, updatesEndpoint, CsidChanges, cleared, changed, Request, Draft, emptyDraft, withSeid, withRestores, withNode, withItem, pdrIn, endpointIn, changeIn, csidIn, clears, restoringIn, requestOf, createsAny, listing}
 
 -- ---- the records
 

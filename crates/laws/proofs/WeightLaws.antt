@@ -15,7 +15,8 @@ use Rattle.octets.proofs.ListLaws.{Every, OnSome, pick-cases}
 use Rattle.rules.specs.Elements.{Answer, refuse, value, missing, tooShort, incorrect, Fqcsid, addressLength, csidRest, readFseid, readFqcsid, readFteid, readUeIp}
 use Rattle.rules.specs.Types as ie
 use Rattle.rules.specs.Message.{inside, Element, elementLength, elementsUpTo, elements, hasType, placesOf, numberWidth}
-use Rattle.rules.specs.Reading.{Item, clearsCsids, setsCsid, updatesEndpoint, Reading, done, andThen, named, need, Members, noMembers, withPdi, holds, numberRead, farRead, pdiIn, valueRead, memberRead, membersRead, unopened, pdiEnd, pdiRead, pdrFrom, endpointFrom, changeFrom, itemFrom, groupRead, Draft, emptyDraft, elementRead, clears, aloneIn}
+use Rattle.rules.specs.Reading.{Reading, done, andThen, named, need, Members, noMembers, withPdi, holds, numberRead, farRead, pdiIn, valueRead, memberRead, membersRead, unopened, pdiEnd, pdiRead, pdrFrom, endpointFrom, changeFrom, itemFrom, groupRead, elementRead, aloneIn}
+use Rattle.rules.specs.Request.{Item, clearsCsids, setsCsid, updatesEndpoint, Draft, emptyDraft, clears}
 use Rattle.laws.proofs.ReadLaws.{OnValue, OnDone, anything, any-value, then-done, need-done, need-any}
 use Rattle.laws.proofs.RequestLaws.{element-step}
 use Rattle.laws.proofs.MessageLaws.{el, counts-alike}

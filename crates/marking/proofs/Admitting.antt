@@ -19,15 +19,15 @@ use Rattle.rules.specs.Layout.{viewPdr, viewEndpoint, pdrWidth, endpointWidth, 
 use Rattle.rules.specs.Sound.{inPool, sessionTests}
 use Rattle.pool.specs.Map.{marked, mark, marks, newMarks, offsets}
 use Rattle.pool.proofs.Marks.{length-marks}
-use Rattle.holdings.specs.Walk.{sessionMarks}
-use Rattle.holdings.proofs.MapWalk.{records-in-pool}
-use Rattle.holdings.proofs.SessionWalk.{session-split}
+use Rattle.marking.specs.Walk.{sessionMarks}
+use Rattle.marking.proofs.MapWalk.{records-in-pool}
+use Rattle.marking.proofs.SessionWalk.{session-split}
 use Rattle.unit.specs.declared.Settings.{Settings as Unit}
 use Rattle.unit.specs.Meaning.{settingsOf}
 use Rattle.records.specs.Kept.{pdrSound, endpointSound, csidSound, endpointIds}
-use Rattle.sessions.specs.Slot.{areaSound, headSound, recordsAllowed, pdrArea, endpointArea, csidArea}
-use Rattle.sessions.proofs.SlotLaws.{Counts, counts-headed, slotOf, view-slot}
-use Rattle.sessions.proofs.Turns.{slot-areas}
+use Rattle.records.specs.Slot.{areaSound, headSound, recordsAllowed, pdrArea, endpointArea, csidArea}
+use Rattle.records.proofs.SlotLaws.{Counts, counts-headed, slotOf, view-slot}
+use Rattle.records.proofs.Turns.{slot-areas}
 use Rattle.marking.specs.declared.Marks.{Marks}
 use Rattle.marking.specs.declared.Marks.the-variants.{Clash, New}
 use Rattle.marking.specs.Marking.{endpointHolds, pdrHolds, slotHolds, marksAfter, newAfter, walked, Marked, slotKeeps, Admitted}

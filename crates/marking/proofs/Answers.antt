@@ -16,8 +16,8 @@ use Rattle.octets.specs.Lists.{collect}
 use Rattle.rules.specs.Model.{Holding, pdrHolding, endpointHolding, tunnelHolding}
 use Rattle.rules.specs.Layout.{tunnelRead, endpointFrom, viewEndpoint, pdrWidth, endpointWidth}
 use Rattle.pool.specs.Map.{marked, mark}
-use Rattle.holdings.specs.Walk.{joins}
-use Rattle.holdings.proofs.RecordWalk.{look-end}
+use Rattle.marking.specs.Walk.{joins}
+use Rattle.marking.proofs.RecordWalk.{look-end}
 use Rattle.unit.specs.declared.Settings.{Settings as Unit}
 use Rattle.unit.specs.Meaning.{settingsOf}
 use Rattle.records.specs.Kept.{pdrSound, endpointSound}

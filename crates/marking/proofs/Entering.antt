@@ -14,9 +14,9 @@ use Rattle.octets.proofs.Tests.{each, of-true, and-left}
 use Rattle.rules.specs.Model.{Settings}
 use Rattle.rules.specs.Layout.{sessionWidth}
 use Rattle.pool.specs.Map.{marked, marks, newMarks}
-use Rattle.sessions.specs.Slot.{headSound, slotTests, slotSound}
-use Rattle.addresses.specs.declared.Met.{Met}
-use Rattle.addresses.specs.Offsets.{heldOffsets}
+use Rattle.records.specs.Slot.{headSound, slotTests, slotSound}
+use Rattle.marking.specs.declared.addresses.Met.{Met}
+use Rattle.marking.specs.Offsets.{heldOffsets}
 use Rattle.marking.specs.declared.Marks.{Marks}
 use Rattle.marking.specs.declared.Marks.the-variants.{Clash, New}
 use Rattle.marking.specs.declared.Seen.{Seen}
@@ -24,8 +24,8 @@ use Rattle.marking.specs.declared.Seen.the-variants.{Broken, Held}
 use Rattle.marking.specs.Marking.{marksAfter, newAfter, slotHolds, slotKeeps, Admitted, slotTeids, slotFree, Entered, slotsKeep, slotsFree, teidsIn, addressesIn, AllAdmitted}
 use Rattle.marking.proofs.Through.{Through, through-none, through-more, through-stop, through-all}
 use Rattle.octets.proofs.Bools.{and-false}
-use Rattle.addresses.specs.declared.Met.the-variants as met
-use Rattle.addresses.specs.Offsets as held
+use Rattle.marking.specs.declared.addresses.Met.the-variants as met
+use Rattle.marking.specs.Offsets as held
 
 -- ---- what an answer says
 
@@ -50,7 +50,7 @@ module _ {s : Settings} {ws xs : List ℕ} {r : Marks} {ws′ : List ℕ} (m : A
   unfolding slotKeeps slotSound slotTests
   admitted-head k e = each (slotTests s xs) (and-left (slotSound s xs) _ (of-true (admitted-new k e .0))) .0
 
-module _ {s : Settings} {as′ xs : List ℕ} {r : Met} {as₁ : List ℕ} (m : held.Admitted s as′ xs r as₁) where
+module _ {s : Settings} {as′ xs : List ℕ} {r : Met} {as₁ : List ℕ} (m : held.AddressesAdmitted s as′ xs r as₁) where
   taken-new : (k : ℕ) → r ≡ met.New k → (slotFree s as′ xs ≡ true) × (k ≡ newMarks as′ (heldOffsets s xs))
   unfolding slotFree
   taken-new k e = go (any (marked as′) (heldOffsets s xs)) (sym (m .answer) ∙ e)
@@ -81,7 +81,7 @@ module _ (s : Settings) (ws as′ xs : List ℕ) (r : Marks) (w : List ℕ) (m :
   pub entered-clash : r ≡ Clash → Entered s ws as′ xs Broken w as′
   entered-clash e = broken w as′ (rw (admitted-clash m e))
 
-  module _ (n : ℕ) (e : r ≡ New n) (t : Met) (b : List ℕ) (q : held.Admitted s as′ xs t b) where
+  module _ (n : ℕ) (e : r ≡ New n) (t : Met) (b : List ℕ) (q : held.AddressesAdmitted s as′ xs t b) where
     pub entered-taken : t ≡ met.Clash → Entered s ws as′ xs Broken w b
     entered-taken z = broken w b (rw (taken-clash q z) (and-false (slotKeeps s ws xs)))
 

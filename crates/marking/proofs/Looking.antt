@@ -16,25 +16,25 @@ use Rattle.octets.specs.Octets.{part, number, octetAt, bit, slices}
 use Rattle.octets.specs.Lists.{collect}
 use Rattle.octets.proofs.Tests.{and-left, and-right, both}
 use Rattle.octets.proofs.Bools.{both-ways, and-assoc, same-bit}
-use Rattle.rules.specs.Model.{neither, tunnel, endpoint, Pdr, tunnelHolding, placeTunnel, pdrHolding}
-use Rattle.rules.specs.Layout.{tunnelRead, placeRead, viewPdr, pdrWidth}
+use Rattle.rules.specs.Model.{neither, tunnel, endpoint, Pdr, tunnelHolding, matchedTunnel, pdrHolding}
+use Rattle.rules.specs.Layout.{tunnelRead, matchRead, viewPdr, pdrWidth}
 use Rattle.laws.proofs.LayoutLaws.{pdr-view}
-use Rattle.holdings.specs.Walk.{joins}
-use Rattle.holdings.proofs.RecordWalk.{look-none, look-some, look-end}
-use Rattle.sessions.proofs.Turns.{slices-more}
+use Rattle.marking.specs.Walk.{joins}
+use Rattle.marking.proofs.RecordWalk.{look-none, look-some, look-end}
+use Rattle.records.proofs.Turns.{slices-more}
 use Rattle.marking.specs.Marking.{holdsTeid, alike, heldBy, pdrHolds}
 
 -- ---- a PDR's hold
 
 pub hold-of : (xs : List ℕ) → pdrHolding (viewPdr xs) ≡ pick (eqb (getD xs 12 0) 1) (some (heldBy xs)) none
-hold-of xs = rw (pdr-view xs) (unfold pdrHolding placeRead in (go (eqb (getD xs 12 0) 1) (eqb (getD xs 12 0) 2)))
+hold-of xs = rw (pdr-view xs) (unfold pdrHolding matchRead in (go (eqb (getD xs 12 0) 1) (eqb (getD xs 12 0) 2)))
   where
     go : (b c : Bool)
-        → mapOption (tunnelHolding true (getD xs 11 0)) (placeTunnel (pick b (tunnel (tunnelRead (number (part 13 4 xs)) (getD xs 17 0))) (pick c (endpoint (getD xs 18 0)) neither)))
+        → mapOption (tunnelHolding true (getD xs 11 0)) (matchedTunnel (pick b (tunnel (tunnelRead (number (part 13 4 xs)) (getD xs 17 0))) (pick c (endpoint (getD xs 18 0)) neither)))
         ≡ pick b (some (heldBy xs)) none
-    go true c = unfold placeTunnel heldBy octetAt in refl
-    go false true = unfold placeTunnel in refl
-    go false false = unfold placeTunnel in refl
+    go true c = unfold matchedTunnel heldBy octetAt in refl
+    go false true = unfold matchedTunnel in refl
+    go false false = unfold matchedTunnel in refl
 
 -- ---- families
 

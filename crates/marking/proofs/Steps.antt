@@ -15,9 +15,9 @@ use Rattle.octets.proofs.Bools.{or-false}
 use Rattle.rules.specs.Model.{Holding, Pdr, Endpoint, pdrHolding, endpointHolding, tunnelHolding}
 use Rattle.pool.specs.Map.{marked, mark, marks, newMarks, offsets}
 use Rattle.pool.proofs.Marks.{length-mark}
-use Rattle.holdings.specs.Walk.{joins, sessionMarks}
-use Rattle.holdings.proofs.RecordWalk.{marks-nil, record-none, record-some, look-end}
-use Rattle.holdings.proofs.SessionWalk.{endpoint-step}
+use Rattle.marking.specs.Walk.{joins, sessionMarks}
+use Rattle.marking.proofs.RecordWalk.{marks-nil, record-none, record-some, look-end}
+use Rattle.marking.proofs.SessionWalk.{endpoint-step}
 use Rattle.marking.specs.declared.Marks.the-variants.{Clash, New}
 use Rattle.marking.specs.Marking.{marksAfter, newAfter, stepOf, wordsOf, walked, Marked}
 

@@ -12,7 +12,7 @@ use Rattle.octets.specs.Octets.{part, slices, concatMap}
 use Rattle.rules.specs.Layout.{sessionWidth}
 use Rattle.pool.specs.Map.{marks, newMarks}
 use Rattle.pool.proofs.Marks.{marks-append, new-append, length-marks}
-use Rattle.sessions.proofs.Turns.{slices-more}
+use Rattle.records.proofs.Turns.{slices-more}
 use Rattle.marking.specs.Marking.{inTurn}
 
 -- what a walk that is not refused says

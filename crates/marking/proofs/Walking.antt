@@ -18,9 +18,9 @@ use Rattle.octets.specs.Lists.{collect}
 use Rattle.octets.proofs.Bools.{and-false}
 use Rattle.rules.specs.Model.{Holding, Pdr, pdrHolding, endpointHolding}
 use Rattle.rules.specs.Layout.{viewPdr, viewEndpoint, pdrWidth, endpointWidth}
-use Rattle.holdings.specs.Walk.{sessionMarks}
-use Rattle.sessions.specs.Slot.{areaSound}
-use Rattle.sessions.proofs.Turns.{slices-more, Rows, rows-none, rows-low, rows-bad, rows-more, rows-room}
+use Rattle.marking.specs.Walk.{sessionMarks}
+use Rattle.records.specs.Slot.{areaSound}
+use Rattle.records.proofs.Turns.{slices-more, Rows, rows-none, rows-low, rows-bad, rows-more, rows-room}
 use Rattle.marking.specs.declared.Marks.{Marks}
 use Rattle.marking.specs.declared.Marks.the-variants.{Clash, New}
 use Rattle.marking.specs.Marking.{holdAt, endpointHold, pdrHolds, endpointHolds, stepOf, wordsOf, Stepped, walked, Marked}

@@ -14,9 +14,9 @@ use Rattle.octets.specs.Lists.{any, collect}
 use Rattle.rules.specs.Model.{Settings, Holding, tunnelHolding, pdrHolding, endpointHolding, sessionHoldings, teidOf}
 use Rattle.rules.specs.Layout.{tunnelRead, viewPdr, viewEndpoint, viewSession, pdrWidth, endpointWidth}
 use Rattle.pool.specs.Map.{marked, mark, marks, newMarks, offsets}
-use Rattle.holdings.specs.Walk.{joins, sessionMarks}
-use Rattle.sessions.specs.Slot.{slotSound}
-use Rattle.addresses.specs.Offsets.{heldOffsets}
+use Rattle.marking.specs.Walk.{joins, sessionMarks}
+use Rattle.records.specs.Slot.{slotSound}
+use Rattle.marking.specs.Offsets.{heldOffsets}
 use Rattle.marking.specs.declared.Marks.{Marks}
 use Rattle.marking.specs.declared.Marks.the-variants.{Clash, New}
 use Rattle.marking.specs.declared.Seen.{Seen}

@@ -1,9 +1,9 @@
 // The walk over the records of sessions that tests each, compares its place in the order, and marks its TEID in a map. It refuses a TEID
 // held against the rule: one that is marked already has to be held by an earlier PDR of the same session with equal families and
 // source interface. On a refusal nothing is said of the map, so each record is tested and marked in one turn. The addresses of a session
-// follow in a second map (crate addresses).
+// follow in a second map (addresses.rt).
 //
-// A PDR that matches on an F-TEID has 1 at PLACE.
+// A PDR that matches on an F-TEID has 1 at MATCH.
 ghost use mathlib.Core.Path.{_≡_};
 ghost use mathlib.Core.List.{[]};
 ghost use Prim.Native.Nat.{_+_, _*_, _^_, _≤_};
@@ -11,10 +11,10 @@ ghost use lib.ListN.{length};
 ghost use Rattle.octets.specs.Octets.{part, slices};
 ghost use Rattle.rules.specs.Layout.{pdrWidth, endpointWidth, sessionWidth};
 ghost use Rattle.rules.specs.Limits.{maxSessions};
-ghost use Rattle.holdings.specs.Walk.{joins};
+ghost use Rattle.marking.specs.Walk.{joins};
 ghost use Rattle.unit.specs.Meaning.{settingsOf};
 ghost use Rattle.records.specs.Kept.{pdrSound, endpointSound, endpointIds};
-ghost use Rattle.sessions.specs.Slot.{areaSound};
+ghost use Rattle.records.specs.Slot.{areaSound};
 ghost use Rattle.marking.specs.Marking.{holdsTeid, alike, heldBy, holdAt, endpointHold, pdrHolds, endpointHolds, Stepped, Marked, Admitted, Entered, AllAdmitted};
 use format::CSID_COUNT;
 use format::CSIDS;
@@ -22,14 +22,16 @@ use format::ENDPOINT;
 use format::ENDPOINT_COUNT;
 use format::ENDPOINTS;
 use format::FAMILIES;
+use format::MATCH;
 use format::PDR;
 use format::PDR_COUNT;
 use format::PDRS;
-use format::PLACE;
 use format::SLOT;
 use format::SOURCE;
 use format::TEID;
 use unit::Settings;
+
+pub mod addresses;
 
 // What became of records that were to be tested and marked: one is broken or holds a TEID against the rule, or so many TEIDs were new.
 pub enum Marks {
@@ -42,7 +44,7 @@ pub fn holds(slot: &[u8], teid: u64) -> bool
     requires { ⌜ length (now slot) ≡ pdrWidth ⌝ }
     ensures { λ r. ⌜ r ≡ holdsTeid (now (slot .entry)) teid ⌝ }
 {
-    if slot[PLACE] != 1 {
+    if slot[MATCH] != 1 {
         return false;
     }
     octets::read(slot, TEID, 4) == teid
@@ -130,7 +132,7 @@ fn admit_pdr(words: &mut [u64], pdrs: &[u8], i: usize, ends: &[u8], m: usize, u:
     if !records::pdr_sound(slot, ends, m, u) {
         return Marks::Clash;
     }
-    if slot[PLACE] != 1 {
+    if slot[MATCH] != 1 {
         return Marks::New(0);
     }
     let teid = octets::read(slot, TEID, 4);
@@ -175,10 +177,10 @@ fn admit(words: &mut [u64], slot: &[u8], u: Settings) -> Marks
     requires { ⌜ (length (now slot) ≡ sessionWidth) × (u .first + u .size ≤ 2 ^ 32) × (u .size ≤ 64 * length (now words)) ⌝ }
     ensures { λ r. ⌜ Admitted (settingsOf u) (now (words .entry)) (now (slot .entry)) r (now (words .exit)) ⌝ }
 {
-    if !sessions::head_sound(slot) {
+    if !records::slot::head_sound(slot) {
         return Marks::Clash;
     }
-    if !sessions::csids_sound(&slot[CSIDS..SLOT], slot[CSID_COUNT] as usize) {
+    if !records::slot::csids_sound(&slot[CSIDS..SLOT], slot[CSID_COUNT] as usize) {
         return Marks::Clash;
     }
     let ends = &slot[ENDPOINTS..CSIDS];

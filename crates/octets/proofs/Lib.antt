@@ -8,3 +8,8 @@ pub mod Digits
 pub mod FieldLaws
 pub mod ListLaws
 pub mod MemberLaws
+pub mod Loops
+pub mod Questions
+pub mod EachTwo
+pub mod Counting
+pub mod RowLaws

@@ -4,3 +4,4 @@ pub mod Choice
 pub mod Octets
 pub mod Lists
 pub mod Fields
+pub mod Rows

@@ -19,7 +19,8 @@ use Rattle.rules.specs.Model.{Settings, Session, Sessions, teidOf, sessionHoldi
 use Rattle.rules.specs.Layout.{viewSettings, viewSessions}
 use Rattle.rules.specs.Sound.{poolTests, settingsTests, settingsAllowed, inPool, sessionsAllowed, sound, broken, free, countFree}
 use Rattle.rules.specs.Message.{kindOf, deletion, setDeletion}
-use Rattle.rules.specs.Reading.{readRequest, Request, NewPdr, NewEndpoint}
+use Rattle.rules.specs.Reading.{readRequest}
+use Rattle.rules.specs.Request.{Request, NewPdr, NewEndpoint}
 use Rattle.rules.specs.Grants.{Kind, ofPdr, ofEndpoint, chosenAddress, choices, Grant, grantOf, grantTeid, isGrantFor, grants, grantedTeid, need}
 use Rattle.rules.specs.Stages.{newSession, newPdrAddress, newEndpointAddress, addressesOf, entrySession, unnamed, atEntry}
 use Rattle.rules.specs.Apply.{keptPdr, keptEndpoint, goesSession}
@@ -29,17 +30,17 @@ use Rattle.rules.specs.Claim.{mapOf, addressMapOf, Holds}
 use Rattle.pool.specs.Map.{marked}
 use Rattle.pool.proofs.TakenLaws.{means-test, map-means, pool-from}
 use Rattle.pool.proofs.AddressLaws.{asPool, address-map-means}
-use Rattle.claim.proofs.GrantLaws.{enough}
-use Rattle.claim.proofs.GrantedTeids.{asGrant, grantedFrom, granted-grants, granted-all}
-use Rattle.claim.proofs.PoolLaws.{free-in-pool, free-not-held, addresses-in-pool, addresses-not-held}
-use Rattle.claim.proofs.FreeAddresses.{address-free-there, free-address-count}
-use Rattle.claim.proofs.OneHolder.{one-teid-holder, one-address-holder}
-use Rattle.claim.proofs.ChangedAddresses.{stayingAddresses}
-use Rattle.claim.proofs.FreeTeids.{free-there, held-in-pool, free-count}
-use Rattle.claim.proofs.KeptRules.{sessions-kept}
-use Rattle.claim.proofs.ChangedHolds.{stayingHoldings}
-use Rattle.claim.proofs.ServeLaws.{TableKept, table-kept, serve-sound}
-use Rattle.claim.proofs.AcceptedCall.{choosesAddress, AcceptedCall, accepted-call, next-removed, next-deleted, next-listed, next-removed-address, next-deleted-address, next-listed-address, address-chosen}
+use Rattle.invariants.proofs.GrantLaws.{enough}
+use Rattle.invariants.proofs.GrantedTeids.{asGrant, grantedFrom, granted-grants, granted-all}
+use Rattle.invariants.proofs.PoolLaws.{free-in-pool, free-not-held, addresses-in-pool, addresses-not-held}
+use Rattle.invariants.proofs.FreeAddresses.{address-free-there, free-address-count}
+use Rattle.invariants.proofs.OneHolder.{one-teid-holder, one-address-holder}
+use Rattle.invariants.proofs.ChangedAddresses.{stayingAddresses}
+use Rattle.invariants.proofs.FreeTeids.{free-there, held-in-pool, free-count}
+use Rattle.invariants.proofs.KeptRules.{sessions-kept}
+use Rattle.invariants.proofs.ChangedHolds.{stayingHoldings}
+use Rattle.invariants.proofs.ServeLaws.{TableKept, table-kept, serve-sound}
+use Rattle.invariants.proofs.AcceptedCall.{choosesAddress, AcceptedCall, accepted-call, next-removed, next-deleted, next-listed, next-removed-address, next-deleted-address, next-listed-address, address-chosen}
 use Rattle.pfcp_session.specs.Calls.{countAnswer, countCall, addressCountCall, RequestCall}
 use Rattle.pfcp_session.specs.Runs.{Run, liveAfter, tableAfter, HostClaim}
 use Rattle.pfcp_session.specs.Accident.{entriesAfter, Accepted, OutOfUse, Released, AddressReleased, unremoved, spared, ReleasedIsRemoved, holds, OneHolder, choosesIp, freshAddress, freshPdr, freshEndpoint, NoTwoPatients}

@@ -20,9 +20,9 @@ use Rattle.rules.specs.Sound.{apart, sound}
 use Rattle.rules.specs.Stages.{hasSeid}
 use Rattle.rules.specs.Restoring.{sessionAt}
 use Rattle.rules.specs.Finding.{Finding, findingOf, placeFrom, sessionPlace, isHolder, holderPlace, findIn, countSessions, findSession, findHolder}
-use Rattle.claim.proofs.KeptRules.{SessionsKept, sessions-kept}
-use Rattle.claim.proofs.ServeLaws.{table-kept}
-use Rattle.claim.proofs.RestoreAll.{apart-teids}
+use Rattle.invariants.proofs.KeptRules.{SessionsKept, sessions-kept}
+use Rattle.invariants.proofs.ServeLaws.{table-kept}
+use Rattle.invariants.proofs.Beside.{apart-teids}
 use Rattle.table.proofs.SoundSlots.{few-sessions}
 use Rattle.finding.proofs.PlaceLaws.{place-says, none-says, place-only}
 use Rattle.pfcp_session.specs.Calls.{sessionCountCall, findSessionCall, findTeidCall}

@@ -23,18 +23,19 @@ use Rattle.rules.specs.Apply.{putSession}
 use Rattle.rules.specs.Serve.{Served, replyTo, serve}
 use Rattle.rules.specs.Live.{accepted, replyCause}
 use Rattle.rules.specs.Calls.{Call, request, tableAfterAll}
-use Rattle.rules.specs.Restoration.{peerAllowed, restoration}
-use Rattle.rules.specs.Restoring.{sessionAt, addressed, peerAt, restorationAt, Writing, unwritten, writeInto, writeRestoration}
+use Rattle.rules.specs.Restoration.{senderAllowed, restoration}
+use Rattle.rules.specs.Restoring.{sessionAt, addressed, senderAt, restorationAt, Writing, unwritten, writeInto, writeRestoration}
 use Rattle.rules.specs.Claim.{Step, Ran, Restore, restored, restoreAllowed, restoreCall, restoreCalls, callIn, Restores}
 use Rattle.rules.specs.Causes as why
 use Rattle.claim.proofs.RestorationApply.{restored-call}
-use Rattle.claim.proofs.RestoreAll.{separate-all, separate-addresses, empty-allowed, restored-cause, restored-table}
+use Rattle.claim.proofs.RestoreAll.{restored-cause, restored-table}
+use Rattle.invariants.proofs.Beside.{separate-all, separate-addresses, empty-allowed}
 use Rattle.claim.proofs.Sequence.{made-empty}
 use Rattle.claim.proofs.Runs.{restores-table}
 use Rattle.table.proofs.Encoded.{Encoded, sound-encoded}
 use Rattle.restoration.proofs.RequestSteps.{take-put}
 use Rattle.table.proofs.SoundSlots.{session-kept, within-limit}
-use Rattle.restoration.proofs.SoundSlots.{peer-kept, request-short}
+use Rattle.restoration.proofs.SoundSlots.{sender-kept, request-short}
 use Rattle.pfcp_session.specs.Calls.{MakeCall, makeCall, restorationCall}
 use Rattle.pfcp_session.specs.Runs.{stepsOf}
 use Rattle.pfcp_session.specs.Restorations.{Wrote, Past, WroteAll, Emptied, RestorationShort, RestorationAccepted, Asking, messageOf, askingCall, askingAllowed, RestorationsGiveBack, RestorationsTellAll}
@@ -107,8 +108,8 @@ restoration-accepted t place r made space answer w e long call =
     let hs = sound-encoded t (k .sound) .settings in
     let x = sessionAt (viewSessions t) place in
     let hx = session-kept t (k .sound) place (k .live) in
-    let p = peerAt place (w .ipv4) (w .ipv6) in
-    let hp = peer-kept t (k .sound) place (k .live) (w .ipv4) (w .ipv6) (k .address) in
+    let p = senderAt place (w .ipv4) (w .ipv6) in
+    let hp = sender-kept t (k .sound) place (k .live) (w .ipv4) (w .ipv6) (k .address) in
     let m = emptied t made e in
     let empty : made .table ≡ encode s [] = m .1 ∙ made-empty s (e .found) (m .0) in
     let served : _≡_ {A = Served} (record { outcome = answer .outcome; place = answer .place; space = answer .space; table = answer .table })
@@ -126,7 +127,7 @@ restoration-accepted t place r made space answer w e long call =
 restoresFrom : (t : List ℕ) (place : ℕ) (asked : List Asking) → WroteAll t place (map messageOf asked) → List Restore
 restoresFrom t place [] w = []
 restoresFrom t place (a ∷ asked) w =
-    record { session = sessionAt (viewSessions t) place; peer = peerAt place (w .0 .ipv4) (w .0 .ipv6); space = a .reply } ∷ restoresFrom t (place + 1) asked (w .1)
+    record { session = sessionAt (viewSessions t) place; sender = senderAt place (w .0 .ipv4) (w .0 .ipv6); space = a .reply } ∷ restoresFrom t (place + 1) asked (w .1)
 
 -- the table is not broken
 all-sound : (t : List ℕ) (place : ℕ) (rs : List (List ℕ)) → WroteAll t place rs → T (sound t)
@@ -147,9 +148,9 @@ all-allowed t place [] w h = tt
 all-allowed t place (a ∷ asked) w h =
     let k = wrote t place (a .message) (w .0) in
     let f = all-head askingAllowed a asked h in
-    let p = peerAt place (w .0 .ipv4) (w .0 .ipv6) in
-    all-cons restoreAllowed (record { session = sessionAt (viewSessions t) place; peer = p; space = a .reply }) (restoresFrom t (place + 1) asked (w .1))
-    (all-of-each (peerAllowed p ∷ octets (a .reply) ∷ leb minSpace (length (a .reply)) ∷ []) (peer-kept t (k .sound) place (k .live) (w .0 .ipv4) (w .0 .ipv6) (k .address), (and-left (octets (a .reply)) (leb minSpace (length (a .reply))) f, (and-right (octets (a .reply)) (leb minSpace (length (a .reply))) f, tt))))
+    let p = senderAt place (w .0 .ipv4) (w .0 .ipv6) in
+    all-cons restoreAllowed (record { session = sessionAt (viewSessions t) place; sender = p; space = a .reply }) (restoresFrom t (place + 1) asked (w .1))
+    (all-of-each (senderAllowed p ∷ octets (a .reply) ∷ leb minSpace (length (a .reply)) ∷ []) (sender-kept t (k .sound) place (k .live) (w .0 .ipv4) (w .0 .ipv6) (k .address), (and-left (octets (a .reply)) (leb minSpace (length (a .reply))) f, (and-right (octets (a .reply)) (leb minSpace (length (a .reply))) f, tt))))
     (all-allowed t (place + 1) asked (w .1) (all-tail askingAllowed a asked h))
 
 all-calls : (t : List ℕ) (place : ℕ) (asked : List Asking) (w : WroteAll t place (map messageOf asked)) → map askingCall asked ≡ restoreCalls (viewSettings t) (restoresFrom t place asked w)

@@ -10,7 +10,7 @@ use Rattle.octets.specs.Choice.{pick}
 use Rattle.rules.specs.Sound.{Made, make, Count, broken, free, countFree, countAddresses}
 use Rattle.rules.specs.Serve.{Served, serve}
 use Rattle.rules.specs.Claim.{Ran, lastTable, liveSet, Promise, Demand3}
-use Rattle.claim.proofs.Changed.{demand3}
+use Rattle.claim.proofs.Demand3.{demand3}
 use Rattle.pfcp_session.specs.Calls.{MakeCall, makeAnswer, makeCall, CountCall, countAnswer, countCall, addressCountCall, RequestCall, requestAnswer, requestCall}
 use Rattle.pfcp_session.specs.Runs.{HostStep, requested, counted, countedAddresses, HostRan, countOf, stepOf, stepsOf, liveAfter, tableAfter, HostClaim}
 

@@ -16,7 +16,8 @@ use Rattle.rules.specs.Elements.{UeIp, ueChooses}
 use Rattle.rules.specs.Layout.{viewSettings, viewSessions}
 use Rattle.rules.specs.Sound.{inPool}
 use Rattle.rules.specs.Message.{deletion, kindOf, setDeletion}
-use Rattle.rules.specs.Reading.{readRequest, Request, NewPdr, NewEndpoint}
+use Rattle.rules.specs.Reading.{readRequest}
+use Rattle.rules.specs.Request.{Request, NewPdr, NewEndpoint}
 use Rattle.rules.specs.Grants.{Kind, ofPdr, ofEndpoint}
 use Rattle.rules.specs.Stages.{hasSeid, newSession, removedPdrs, entrySession}
 use Rattle.rules.specs.Apply.{keptPdr, keptEndpoint, goesSession}

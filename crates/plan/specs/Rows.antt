@@ -10,7 +10,7 @@ use Rattle.octets.specs.Choice.{pick}
 use Rattle.octets.specs.Octets.{be, bit, slices}
 use Rattle.octets.specs.Lists.{any, keep, collect}
 use Rattle.rules.specs.Elements.{Fteid, given, choose, UeIp, ueGiven, ueChoose, ueOther, Fqcsid, sets, removal}
-use Rattle.rules.specs.Reading.{NewPdr, NewEndpoint, Change, cleared, changed, Request}
+use Rattle.rules.specs.Request.{NewPdr, NewEndpoint, Change, cleared, changed, Request}
 use Rattle.rules.specs.Types as ie
 use Rattle.plan.specs.Words as its
 

@@ -10,7 +10,7 @@ use lib.ListN.{length, replicate}
 use Rattle.octets.specs.Lists.{distinct, all}
 use Rattle.octets.proofs.Tests.{each}
 use Rattle.octets.proofs.Ordered.{keep-passes}
-use Rattle.lists.proofs.EachTwo.{all-append}
+use Rattle.octets.proofs.EachTwo.{all-append}
 use Rattle.rules.specs.Limits.{maxAddresses, addressWords}
 use Rattle.rules.specs.Model.{Settings, Session, Sessions, inAddressPool, sessionAddresses, heldAddresses, freeAddresses}
 use Rattle.rules.specs.Sound.{addressPoolTests, settingsTests, settingsAllowed, inPool, addressMap}

@@ -3,7 +3,7 @@ use mathlib.Core.Path.{_≡_, sym, ap}
 use mathlib.Core.List.{List, []}
 use Prim.Native.Nat.{ℕ}
 use Rattle.rules.specs.Model.{Settings, Sessions, heldTeids}
-use Rattle.rules.specs.Reading.{Request}
+use Rattle.rules.specs.Request.{Request}
 use Rattle.rules.specs.Grants.{choices, grantFrom, grants}
 use Rattle.pool.specs.Map.{teidsFrom}
 use Rattle.pool.proofs.TakenLaws.{Means, free-teids}

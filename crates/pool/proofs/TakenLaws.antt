@@ -24,8 +24,8 @@ use Rattle.pool.specs.Map.{marked, mark, marks, newMarks, freeFrom, offs
 use Rattle.pool.proofs.Bits.{bit-low, bit-suc}
 use Rattle.pool.proofs.Marks.{allWords, marked-mark, marked-zeros, length-mark, length-marks, words-map}
 use Rattle.pool.proofs.Free.{lowest-at, lowest-full}
-use Rattle.lists.proofs.Questions.{member-middle}
-use Rattle.lists.proofs.Counting.{newIn, new-distinct}
+use Rattle.octets.proofs.Questions.{member-middle}
+use Rattle.octets.proofs.Counting.{newIn, new-distinct}
 
 -- ---- words
 

@@ -24,7 +24,7 @@ use Rattle.plan.specs.Words as its
 use Rattle.frame.proofs.Among.{OneOf}
 use Rattle.frame.proofs.Walk.{value-places}
 use Rattle.laws.proofs.MessageLaws.{el}
-use Rattle.elements.proofs.Front.{Front, behind}
+use Rattle.frame.proofs.Front.{Front, behind}
 use Rattle.reading.specs.declared.Verdict.{Verdict}
 use Rattle.reading.specs.declared.Verdict.the-variants.{Fine, Refused}
 use Rattle.reading.specs.Verdicts.{stopped, numbered, outcome}

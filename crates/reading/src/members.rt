@@ -4,10 +4,10 @@ use crate::Verdict;
 use element::fteid::Answer;
 use element::ueip;
 use element::ueip::UeIp;
-use elements::First;
 use format::causes;
 use format::types;
 use format::words;
+use frame::First;
 ghost use mathlib.Core.Path.{_≡_};
 ghost use Prim.Native.Nat.{_+_, _≤_, _<_, _^_};
 ghost use lib.Dec.{eqb};
@@ -277,7 +277,7 @@ pub fn read_group(s: &[u8], group: u64, place: usize, row: &mut [u64]) -> Verdic
     let mut rest = s;
     let mut at = place + 4;
     loop {
-        let First::Element(kind, end) = elements::first_of(rest) else {
+        let First::Element(kind, end) = frame::first_of(rest) else {
             return lacking(row, group, place);
         };
         let v = &rest[4..end];

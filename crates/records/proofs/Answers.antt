@@ -24,7 +24,7 @@ use Rattle.laws.proofs.LayoutLaws.{endpoint-view}
 use Rattle.unit.specs.declared.Settings.{Settings as Unit}
 use Rattle.unit.specs.Meaning.{settingsOf}
 use Rattle.unit.proofs.FieldLaws.{ipv6-there}
-use Rattle.records.specs.Kept.{settingsSound, pdrSound, endpointSound, csidSound, endpointIds, hasIpv6, optionalTest, familiesTest, tunnelTest, placeTest, pdrTest, endpointTest, addressTest, csidTest}
+use Rattle.records.specs.Kept.{settingsSound, pdrSound, endpointSound, csidSound, endpointIds, hasIpv6, optionalTest, familiesTest, tunnelTest, matchTest, pdrTest, endpointTest, addressTest, csidTest}
 use Rattle.records.proofs.Slots.{endpoint-law, pdr-law, csid-law, settings-law}
 use Rattle.octets.proofs.Bools.{and-false, and-true, or-true, or-false}
 
@@ -105,27 +105,27 @@ module _ (u : Unit) where
 module _ (u : Unit) (live xs : List ℕ) where
   -- what it matches on
   abbrev matches : Bool
-  matches = placeTest (settingsOf u) live (getD xs 12 0) (number (part 13 4 xs)) (getD xs 17 0) (getD xs 18 0)
+  matches = matchTest (settingsOf u) live (getD xs 12 0) (number (part 13 4 xs)) (getD xs 17 0) (getD xs 18 0)
 
-  pub place-both : getD xs 12 0 ≡ 1 → (getD xs 18 0 ≡ 0 → ⊥) → false ≡ matches
-  place-both k h = sym (rw (k, ne-eqb (getD xs 18 0) 0 h))
+  pub match-both : getD xs 12 0 ≡ 1 → (getD xs 18 0 ≡ 0 → ⊥) → false ≡ matches
+  match-both k h = sym (rw (k, ne-eqb (getD xs 18 0) 0 h))
 
-  pub place-tunnel : (r : Bool) → getD xs 12 0 ≡ 1 → getD xs 18 0 ≡ 0 → r ≡ tunnelTest (settingsOf u) (number (part 13 4 xs)) (getD xs 17 0) → r ≡ matches
-  place-tunnel r k h y = y ∙ sym (rw (k, h))
+  pub match-tunnel : (r : Bool) → getD xs 12 0 ≡ 1 → getD xs 18 0 ≡ 0 → r ≡ tunnelTest (settingsOf u) (number (part 13 4 xs)) (getD xs 17 0) → r ≡ matches
+  match-tunnel r k h y = y ∙ sym (rw (k, h))
 
   stray : allZero (part 13 5 xs) ≡ allZero (number (part 13 4 xs) ∷ getD xs 17 0 ∷ [])
   unfolding fieldsAt
   stray = zero-fields 13 (4 ∷ 1 ∷ []) xs ∙ rw (octet-field 17 xs)
 
-  pub place-stray : (z : Bool) → getD xs 12 0 ≡ 2 → z ≡ allZero (part 13 5 xs) → not z ≡ true → false ≡ matches
-  place-stray z k y h = sym (rw (k, ← stray, ← y, not-true z h))
+  pub match-stray : (z : Bool) → getD xs 12 0 ≡ 2 → z ≡ allZero (part 13 5 xs) → not z ≡ true → false ≡ matches
+  match-stray z k y h = sym (rw (k, ← stray, ← y, not-true z h))
 
-  pub place-named : (z r : Bool) → getD xs 12 0 ≡ 2 → z ≡ allZero (part 13 5 xs) → not z ≡ false → r ≡ member (getD xs 18 0) live → r ≡ matches
-  place-named z r k y h m = m ∙ sym (rw (k, ← stray, ← y, not-false z h))
+  pub match-named : (z r : Bool) → getD xs 12 0 ≡ 2 → z ≡ allZero (part 13 5 xs) → not z ≡ false → r ≡ member (getD xs 18 0) live → r ≡ matches
+  match-named z r k y h m = m ∙ sym (rw (k, ← stray, ← y, not-false z h))
 
-  pub place-none : (z : Bool) → (getD xs 12 0 ≡ 1 → ⊥) → (getD xs 12 0 ≡ 2 → ⊥) → z ≡ allZero (part 12 7 xs) → z ≡ matches
+  pub match-none : (z : Bool) → (getD xs 12 0 ≡ 1 → ⊥) → (getD xs 12 0 ≡ 2 → ⊥) → z ≡ allZero (part 12 7 xs) → z ≡ matches
   unfolding fieldsAt
-  place-none z k h y =
+  match-none z k h y =
       y ∙ zero-fields 12 (1 ∷ 4 ∷ 1 ∷ 1 ∷ []) xs
       ∙ sym (rw (ne-eqb (getD xs 12 0) 1 k, ne-eqb (getD xs 12 0) 2 h, octet-field 12 xs, octet-field 17 xs, octet-field 18 xs))
 
@@ -151,8 +151,8 @@ module _ (u : Unit) (live xs : List ℕ) where
         pub pdr-address : not a ≡ true → false ≡ pdrSound (settingsOf u) live xs
         pdr-address k = sym (pdr-is ∙ rw (lt-ltb (getD xs 11 0) 16 (omega arith), ← q, not-false f h, ← qa, not-true a k) (and-false matches))
 
-        pub pdr-place : not a ≡ false → (r : Bool) → r ≡ matches → r ≡ pdrSound (settingsOf u) live xs
-        pdr-place k r y = y ∙ sym (pdr-is ∙ rw (lt-ltb (getD xs 11 0) 16 (omega arith), ← q, not-false f h, ← qa, not-false a k) (and-true matches))
+        pub pdr-match : not a ≡ false → (r : Bool) → r ≡ matches → r ≡ pdrSound (settingsOf u) live xs
+        pdr-match k r y = y ∙ sym (pdr-is ∙ rw (lt-ltb (getD xs 11 0) 16 (omega arith), ← q, not-false f h, ← qa, not-false a k) (and-true matches))
 
 -- ---- single fields
 
@@ -269,6 +269,6 @@ module _ (u : Unit) (pool : u .first + u .size ≤ 2 ^ 32) where
       let m : Bool = matches u live xs in
       let held : Bool = tunnelTest (settingsOf u) (number (part 13 4 xs)) (getD xs 17 0) in
       let t : T (allOf (far ∷ source ∷ m ∷ address ∷ [])) = of-true (sym (pdr-is u live xs pool e o) ∙ k) in
-      let place : T m = and-left m (address && true) (and-right source (m && (address && true)) (and-right far (source && (m && (address && true))) t)) in
-      let one : T (eqb (getD xs 18 0) 0 && held) = rw there at place in
+      let matched : T m = and-left m (address && true) (and-right source (m && (address && true)) (and-right far (source && (m && (address && true))) t)) in
+      let one : T (eqb (getD xs 18 0) 0 && held) = rw there at matched in
       tunnel-pool (number (part 13 4 xs)) (getD xs 17 0) (and-right (eqb (getD xs 18 0) 0) held one)

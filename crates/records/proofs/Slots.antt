@@ -23,10 +23,10 @@ use Rattle.octets.proofs.FieldLaws.{Fits, each-fit, fit-fields, slot-law, zero-
 use Rattle.rules.specs.Model.{Settings, neither, tunnel, endpoint}
 use Rattle.rules.specs.Limits.{maxOperator}
 use Rattle.rules.specs.Elements.{addressLength, operatorAllowed, nodeAddressTests, nodeAddressAllowed, nodeTypeKept, below16}
-use Rattle.rules.specs.Layout.{families, optionRead, tunnelRead, pdrWidths, matchKind, matchTeid, matchFamilies, matchEndpoint, placeRead, pdrNumbers, pdrFrom, endpointWidths, endpointNumbers, endpointFrom, csidSlotWidths, csidSlotNumbers, addressRead, csidFrom, pdrOctets, endpointOctets, csidOctets, settingsOctets, viewSettings, viewPdr, viewEndpoint, viewCsid, settingsWidth, pdrWidth, endpointWidth, csidWidth}
-use Rattle.rules.specs.Sound.{settingsAllowed, tunnelAllowed, placeAllowed, farAllowed, addressAllowed, pdrTests, pdrAllowed, endpointTests, endpointAllowed, csidTests, csidAllowed}
+use Rattle.rules.specs.Layout.{families, optionRead, tunnelRead, pdrWidths, matchKind, matchTeid, matchFamilies, matchEndpoint, matchRead, pdrNumbers, pdrFrom, endpointWidths, endpointNumbers, endpointFrom, csidSlotWidths, csidSlotNumbers, addressRead, csidFrom, pdrOctets, endpointOctets, csidOctets, settingsOctets, viewSettings, viewPdr, viewEndpoint, viewCsid, settingsWidth, pdrWidth, endpointWidth, csidWidth}
+use Rattle.rules.specs.Sound.{settingsAllowed, tunnelAllowed, matchAllowed, farAllowed, addressAllowed, pdrTests, pdrAllowed, endpointTests, endpointAllowed, csidTests, csidAllowed}
 use Rattle.laws.proofs.LayoutLaws.{pdr-fits, endpoint-fits, csid-fits}
-use Rattle.records.specs.Kept.{kept, settingsSound, pdrSound, endpointSound, csidSound, optionalTest, tunnelTest, placeTest, pdrTest, endpointTest, csidTest}
+use Rattle.records.specs.Kept.{kept, settingsSound, pdrSound, endpointSound, csidSound, optionalTest, tunnelTest, matchTest, pdrTest, endpointTest, csidTest}
 use Rattle.records.proofs.Cells.{eqb-same, same-zeros, two-parts, and-comm, last-first}
 use Rattle.records.proofs.Tunnels.{tunnel-law}
 use Rattle.octets.proofs.Bools.{eqb-turn, and-false, and-true, and-four}
@@ -101,29 +101,29 @@ module _ (s : Settings) where
 
   -- ---- what a PDR matches on
 
-  place-law : (live : List ℕ) (k t f e : ℕ) → e < 256
-      → let l = placeRead k t f e in
-      (placeAllowed s live l && sameOctets (matchKind l ∷ matchTeid l ∷ matchFamilies l ∷ matchEndpoint l ∷ []) (k ∷ t ∷ f ∷ e ∷ [])) ≡ placeTest s live k t f e
-  unfolding placeRead tunnelRead
-  place-law live k t f e h = go (eqb k 1) (eqb k 2) refl refl
+  match-law : (live : List ℕ) (k t f e : ℕ) → e < 256
+      → let l = matchRead k t f e in
+      (matchAllowed s live l && sameOctets (matchKind l ∷ matchTeid l ∷ matchFamilies l ∷ matchEndpoint l ∷ []) (k ∷ t ∷ f ∷ e ∷ [])) ≡ matchTest s live k t f e
+  unfolding matchRead tunnelRead
+  match-law live k t f e h = go (eqb k 1) (eqb k 2) refl refl
     where
       go : (b c : Bool) → eqb k 1 ≡ b → eqb k 2 ≡ c
           → let l = pick b (tunnel (tunnelRead t f)) (pick c (endpoint e) neither) in
-          (placeAllowed s live l && sameOctets (matchKind l ∷ matchTeid l ∷ matchFamilies l ∷ matchEndpoint l ∷ []) (k ∷ t ∷ f ∷ e ∷ []))
+          (matchAllowed s live l && sameOctets (matchKind l ∷ matchTeid l ∷ matchFamilies l ∷ matchEndpoint l ∷ []) (k ∷ t ∷ f ∷ e ∷ []))
           ≡ pick b (eqb e 0 && tunnelTest s t f) (pick c (allZero (t ∷ f ∷ []) && member e live) (allZero (k ∷ t ∷ f ∷ e ∷ [])))
       go true c eb ec =
-          unfold placeAllowed matchKind matchTeid matchFamilies matchEndpoint sameOctets in
+          unfold matchAllowed matchKind matchTeid matchFamilies matchEndpoint sameOctets in
           (rw (eqb-turn 1 k, eb, eqb-turn 0 e, eqb-same t, and-true (eqb e 0))
           (last-first (tunnelAllowed s (tunnelRead t f)) (eqb (families (tunnelRead t f)) f) (eqb e 0) ∙ ap (λ (b : Bool). eqb e 0 && b) (tunnel-law s t f)))
       go false true eb ec =
-          unfold placeAllowed matchKind matchTeid matchFamilies matchEndpoint sameOctets allZero in
+          unfold matchAllowed matchKind matchTeid matchFamilies matchEndpoint sameOctets allZero in
           (rw (lt-ltb e 256 h, eqb-turn 2 k, ec, eqb-turn 0 t, eqb-turn 0 f, eqb-same e) (and-comm (member e live) (eqb t 0 && (eqb f 0 && true))))
-      go false false eb ec = unfold placeAllowed matchKind matchTeid matchFamilies matchEndpoint zeros in (same-zeros (k ∷ t ∷ f ∷ e ∷ []))
+      go false false eb ec = unfold matchAllowed matchKind matchTeid matchFamilies matchEndpoint zeros in (same-zeros (k ∷ t ∷ f ∷ e ∷ []))
 
   matched : (live : List ℕ) (k t f e : ℕ) → e < 256
-      → let l = placeRead k t f e in
-      Comes (placeAllowed s live l) (matchKind l ∷ matchTeid l ∷ matchFamilies l ∷ matchEndpoint l ∷ []) (k ∷ t ∷ f ∷ e ∷ []) (placeTest s live k t f e)
-  matched live k t f e h = record { long = refl; same = place-law live k t f e h }
+      → let l = matchRead k t f e in
+      Comes (matchAllowed s live l) (matchKind l ∷ matchTeid l ∷ matchFamilies l ∷ matchEndpoint l ∷ []) (k ∷ t ∷ f ∷ e ∷ []) (matchTest s live k t f e)
+  matched live k t f e h = record { long = refl; same = match-law live k t f e h }
 
   -- ---- the whole PDR
 

@@ -54,8 +54,8 @@ abbrev pub tunnelTest : Settings → ℕ → ℕ → Bool
 tunnelTest s t f = leb (s .first) t && (ltb t (s .first + s .size) && familiesTest f (hasIpv6 s))
 
 -- what a PDR matches on: a number that says which, an F-TEID and an endpoint ID
-abbrev pub placeTest : Settings → List ℕ → ℕ → ℕ → ℕ → ℕ → Bool
-placeTest s live k t f e =
+abbrev pub matchTest : Settings → List ℕ → ℕ → ℕ → ℕ → ℕ → Bool
+matchTest s live k t f e =
     pick (eqb k 1) (eqb e 0 && tunnelTest s t f)
     (pick (eqb k 2) (allZero (t ∷ f ∷ []) && member e live) (allZero (k ∷ t ∷ f ∷ e ∷ [])))
 
@@ -64,7 +64,7 @@ pdrTest s live vs =
     allOf (
     optionalTest (getD vs 2 0) (getD vs 3 0)
     ∷ ltb (getD vs 4 0) 16
-    ∷ placeTest s live (getD vs 5 0) (getD vs 6 0) (getD vs 7 0) (getD vs 8 0)
+    ∷ matchTest s live (getD vs 5 0) (getD vs 6 0) (getD vs 7 0) (getD vs 8 0)
     ∷ optionalTest (getD vs 9 0) (getD vs 10 0)
     ∷ []
     )

@@ -1,6 +1,5 @@
 // Tests of the records in the session table's slots, for any octets of a slot: the record keeps the rules, and the slot has
 // just that record's octets. Each reads the fields where they stand; proofs/Slots.antt says why these tests of a record's numbers are enough.
-
 ghost use mathlib.Core.Path.{_≡_};
 ghost use Prim.Native.Nat.{_+_, _*_, _^_, _≤_};
 ghost use lib.ListN.{length, getD};
@@ -9,8 +8,10 @@ ghost use Rattle.octets.specs.Lists.{member};
 ghost use Rattle.octets.specs.Octets.{part, number};
 ghost use Rattle.rules.specs.Layout.{viewSettings, settingsWidth, pdrWidth, endpointWidth, csidWidth};
 ghost use Rattle.unit.specs.Meaning.{settingsOf};
-ghost use Rattle.records.specs.Kept.{settingsSound, pdrSound, endpointSound, csidSound, endpointIds, optionalTest, familiesTest, tunnelTest, placeTest};
+ghost use Rattle.records.specs.Kept.{settingsSound, pdrSound, endpointSound, csidSound, endpointIds, optionalTest, familiesTest, tunnelTest, matchTest};
 use unit::Settings;
+
+pub mod slot;
 
 // A field of n octets that may be absent: 1 and the field, or zeros.
 fn optional_sound(slot: &[u8], at: usize, n: usize) -> bool
@@ -108,11 +109,11 @@ fn names_endpoint(ends: &[u8], n: usize, id: u8) -> bool
 }
 
 // What a PDR matches on, in its slot. ends has the session's n endpoints.
-fn place_sound(slot: &[u8], ends: &[u8], n: usize, u: Settings) -> bool
+fn match_sound(slot: &[u8], ends: &[u8], n: usize, u: Settings) -> bool
     requires { ⌜ (length (now slot) ≡ pdrWidth) × (n * endpointWidth ≤ length (now ends)) × (u .first + u .size ≤ 2 ^ 32) ⌝ }
-    ensures { λ r. ⌜ r ≡ placeTest (settingsOf u) (endpointIds n (now (ends .entry))) (getD (now (slot .entry)) 12 0) (number (part 13 4 (now (slot .entry)))) (getD (now (slot .entry)) 17 0) (getD (now (slot .entry)) 18 0) ⌝ }
+    ensures { λ r. ⌜ r ≡ matchTest (settingsOf u) (endpointIds n (now (ends .entry))) (getD (now (slot .entry)) 12 0) (number (part 13 4 (now (slot .entry)))) (getD (now (slot .entry)) 17 0) (getD (now (slot .entry)) 18 0) ⌝ }
 {
-    let kind = slot[format::PLACE];
+    let kind = slot[format::MATCH];
     let id = slot[format::NAMED_ENDPOINT];
     if kind == 1 {
         if id != 0 {
@@ -126,7 +127,7 @@ fn place_sound(slot: &[u8], ends: &[u8], n: usize, u: Settings) -> bool
         }
         return names_endpoint(ends, n, id);
     }
-    octets::is_zero(slot, format::PLACE, 7)
+    octets::is_zero(slot, format::MATCH, 7)
 }
 
 // A PDR's slot. ends has the session's n endpoints.
@@ -143,7 +144,7 @@ pub fn pdr_sound(slot: &[u8], ends: &[u8], n: usize, u: Settings) -> bool
     if !field_sound(slot, format::PDR_ADDRESS_THERE) {
         return false;
     }
-    place_sound(slot, ends, n, u)
+    match_sound(slot, ends, n, u)
 }
 
 // An FQ-CSID's slot.

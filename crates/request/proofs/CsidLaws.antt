@@ -14,7 +14,8 @@ use Rattle.octets.specs.Fields.{fit, fieldOctets}
 use Rattle.octets.proofs.Tests.{and-left, each}
 use Rattle.octets.proofs.Numbers.{number-be}
 use Rattle.rules.specs.Elements.{Fqcsid, sets, removal, csidsAt, csidFields, nodeOf}
-use Rattle.rules.specs.Reading.{setsCsid, clearsCsids, csidCountAllowed}
+use Rattle.rules.specs.Reading.{csidCountAllowed}
+use Rattle.rules.specs.Request.{setsCsid, clearsCsids}
 use Rattle.rules.specs.Message.{modification}
 use Rattle.plan.specs.Rows.{rowAddress}
 use Rattle.element.specs.FqCsid.{addressWidths, csidWidths, csidNumbers, addressIn, fqcsidTests, fqcsidMeant, fqcsidOf}

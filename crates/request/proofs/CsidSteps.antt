@@ -13,8 +13,9 @@ use Rattle.octets.specs.Octets.{put}
 use Rattle.octets.specs.Lists.{member, keep}
 use Rattle.rules.specs.Elements.{Refusal, incorrect, causeOf, refuse, value, readFqcsid, Fqcsid}
 use Rattle.rules.specs.Message.{bodyPlace, elements, hasType, modification}
-use Rattle.rules.specs.Reading as rules
-use Rattle.rules.specs.Reading.{setsCsid, clearsCsids, Reading, done, refusal, withItem, withNode, withCsid, csidRead, pdrIn, aloneIn}
+use Rattle.rules.specs.Request as rules
+use Rattle.rules.specs.Reading.{Reading, done, refusal, withCsid, csidRead, aloneIn}
+use Rattle.rules.specs.Request.{setsCsid, clearsCsids, withItem, withNode, pdrIn}
 use Rattle.rules.specs.Types as ie
 use Rattle.rules.specs.Causes as why
 use Rattle.plan.specs.Rows.{rowWidth}

@@ -15,8 +15,9 @@ use Rattle.octets.specs.Octets.{put, slices}
 use Rattle.octets.specs.Lists.{member, any, keep, collect}
 use Rattle.octets.proofs.ListLaws.{collect-append, map-append}
 use Rattle.octets.proofs.Put.{drop-take}
-use Rattle.rules.specs.Reading as rules
-use Rattle.rules.specs.Reading.{Item, updatesEndpoint, Reading, done, NewPdr, withItem, withNode, pdrIn, createsAny}
+use Rattle.rules.specs.Request as rules
+use Rattle.rules.specs.Reading.{Reading, done}
+use Rattle.rules.specs.Request.{Item, updatesEndpoint, NewPdr, withItem, withNode, pdrIn, createsAny}
 use Rattle.plan.specs.Rows.{rowWidth}
 use Rattle.reading.specs.Verdicts.{Outcome, stopped, numbered}
 use Rattle.request.specs.Items.{rowItem, isUpdate, hasRow, met, Means, Read, Steps, withNote, withRow}

@@ -10,8 +10,9 @@ use Rattle.octets.specs.Choice.{pick}
 use Rattle.octets.specs.Lists.{member}
 use Rattle.octets.proofs.Tests.{of-true}
 use Rattle.rules.specs.Message.{actedOn, establishment, modification, setDeletion}
-use Rattle.rules.specs.Reading as rules
-use Rattle.rules.specs.Reading.{updatesEndpoint, Reading, done, withItem, seidRead, flagsRead, csidRead, actedRead, elementRead}
+use Rattle.rules.specs.Request as rules
+use Rattle.rules.specs.Reading.{Reading, done, seidRead, flagsRead, csidRead, actedRead, elementRead}
+use Rattle.rules.specs.Request.{updatesEndpoint, withItem}
 use Rattle.rules.specs.Types as ie
 use Rattle.frame.proofs.Among.{OneOf}
 use Rattle.reading.proofs.Places.{one-of}

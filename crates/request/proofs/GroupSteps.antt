@@ -16,7 +16,8 @@ use Rattle.octets.proofs.Tests.{of-true}
 use Rattle.rules.specs.Elements.{missing, conditional}
 use Rattle.rules.specs.Message.{inside, elements}
 use Rattle.rules.specs.Reading as rules
-use Rattle.rules.specs.Reading.{Item, createsPdr, createsEndpoint, updatesPdr, removesPdr, removesEndpoint, Reading, faulty, done, refusal, andThen, need, Members, noMembers, withItem, membersRead, pdiRead, pdrFrom, endpointFrom, changeFrom, itemFrom, groupRead, pdrIn}
+use Rattle.rules.specs.Reading.{Reading, faulty, done, refusal, andThen, need, Members, noMembers, membersRead, pdiRead, pdrFrom, endpointFrom, changeFrom, itemFrom, groupRead}
+use Rattle.rules.specs.Request.{Item, createsPdr, createsEndpoint, updatesPdr, removesPdr, removesEndpoint, withItem, pdrIn}
 use Rattle.rules.specs.Types as ie
 use Rattle.plan.specs.Rows.{word, rowPdr, rowEndpoint, rowChange, rowLocal, rowFteid, rowUe, ueFrom, rowFar, rowAddress, present, rowWidth}
 use Rattle.plan.specs.Words as its

@@ -11,8 +11,9 @@ use borrow.Author.Tests.{ne-eqb, lt-ltb, le-ltb}
 use Rattle.octets.specs.Choice.{pick, valueOr}
 use Rattle.octets.specs.Octets.{bit, numberAt, octetAt}
 use Rattle.rules.specs.Elements.{Refusal, tooShort, incorrect, causeOf, refuse, value, readFseid, seidAnswer, fseidLength}
-use Rattle.rules.specs.Reading as rules
-use Rattle.rules.specs.Reading.{Reading, done, andThen, named, once, withSeid, withRestores, seidRead, flagsRead}
+use Rattle.rules.specs.Request as rules
+use Rattle.rules.specs.Reading.{Reading, done, andThen, named, once, seidRead, flagsRead}
+use Rattle.rules.specs.Request.{withSeid, withRestores}
 use Rattle.rules.specs.Types as ie
 use Rattle.rules.specs.Causes as why
 use Rattle.element.proofs.FlagLaws.{bit-first}

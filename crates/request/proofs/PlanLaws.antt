@@ -11,8 +11,8 @@ use borrow.Author.Tests.{ne-eqb, eqb-true, eqb-false, lt-ltb}
 use Rattle.octets.specs.Choice.{pick, valueOr, mapOption, consOption}
 use Rattle.octets.specs.Lists.{any, keep, collect}
 use Rattle.octets.proofs.Tests.{pick-either}
-use Rattle.rules.specs.Reading as rules
-use Rattle.rules.specs.Reading.{Item, createsPdr, createsEndpoint, updatesPdr, removesPdr, removesEndpoint, setsCsid, clearsCsids, updatesEndpoint, cleared, changed, pdrIn, endpointIn, changeIn, gonePdrIn, goneEndpointIn, csidIn, clears, strangeAddress, isUnsupported, restoringIn, requestOf, NewPdr, NewEndpoint}
+use Rattle.rules.specs.Request as rules
+use Rattle.rules.specs.Request.{Item, createsPdr, createsEndpoint, updatesPdr, removesPdr, removesEndpoint, setsCsid, clearsCsids, updatesEndpoint, cleared, changed, pdrIn, endpointIn, changeIn, gonePdrIn, goneEndpointIn, csidIn, clears, strangeAddress, isUnsupported, restoringIn, requestOf, NewPdr, NewEndpoint}
 use Rattle.rules.specs.Elements.{Fqcsid, sets, removal, ueStrange}
 use Rattle.plan.specs.Rows.{word, hasTag, tagged, rowsOf, rowPdr, rowEndpoint, rowUe, ueFrom, rowChange, rowPdi, rowStrange, rowPdrId, rowEndpointId, rowAddress, rowCsid, isNullRow, requestIn}
 use Rattle.rules.specs.Types as ie

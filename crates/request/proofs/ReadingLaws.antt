@@ -13,8 +13,9 @@ use Rattle.octets.specs.Octets.{slices}
 use Rattle.octets.specs.Lists.{any, keep, collect}
 use Rattle.octets.proofs.Put.{part-from}
 use Rattle.rules.specs.Message.{bodyPlace, elements, headerLength, body, kindOf, frameFault, establishment}
-use Rattle.rules.specs.Reading as rules
-use Rattle.rules.specs.Reading.{Reading, faulty, done, andThen, Request, aloneIn, emptyDraft, elementsRead, finished, sessionRead, topRead, read}
+use Rattle.rules.specs.Request as rules
+use Rattle.rules.specs.Reading.{Reading, faulty, done, andThen, aloneIn, elementsRead, finished, sessionRead, topRead, read}
+use Rattle.rules.specs.Request.{Request, emptyDraft}
 use Rattle.laws.proofs.CsidLaws.{only-clear}
 use Rattle.plan.specs.Rows.{rowsOf, tagged, rowCsid, isNullRow}
 use Rattle.rules.specs.Types as ie

@@ -15,14 +15,16 @@ use Rattle.octets.specs.Lists.{member, any, keep, collect}
 use Rattle.octets.proofs.Put.{part-from}
 use Rattle.rules.specs.Elements.{causeOf, missing}
 use Rattle.rules.specs.Message.{bodyPlace, Element, elements, establishment}
+use Rattle.rules.specs.Request as asked
 use Rattle.rules.specs.Reading as rules
-use Rattle.rules.specs.Reading.{Reading, done, andThen, need, aloneIn, emptyDraft, elementsRead, finished, restoringIn, createsAny, requestOf, read}
+use Rattle.rules.specs.Reading.{Reading, done, andThen, need, aloneIn, elementsRead, finished, read}
+use Rattle.rules.specs.Request.{emptyDraft, restoringIn, createsAny, requestOf}
 use Rattle.rules.specs.Types as ie
 use Rattle.rules.specs.Causes as why
 use Rattle.plan.specs.Rows.{rowWidth}
 use Rattle.laws.proofs.WeightLaws.{Light, light-none, light-next, light-room, light-end}
 use Rattle.frame.proofs.Walk.{value-places}
-use Rattle.elements.proofs.Front.{Front, behind}
+use Rattle.frame.proofs.Front.{Front, behind}
 use Rattle.reading.specs.Verdicts.{Outcome, stopped, numbered}
 use Rattle.reading.proofs.MemberLaws.{stops}
 use Rattle.request.specs.Items.{rowItem, hasRow, met, SeidThere, Means, Follows, Roomy, Enough, Ended, AllRead, elementAt, planOf, concluded}
@@ -38,7 +40,7 @@ use Rattle.request.proofs.PlanLaws.{no-row, restoring-same, request-sam
 
 -- what is left, from its place on, gives the same draft from this one as the whole from the first
 pub record Going (kind : ℕ) (s words₀ : List ℕ) (at : ℕ) (rest words nodes : List ℕ) (c : Draft) : Type 0 where
-  pub draft : rules.Draft
+  pub draft : asked.Draft
   pub means : Means draft c nodes words
   pub same : elementsRead kind (aloneIn (elements bodyPlace s)) (elements bodyPlace s) emptyDraft ≡ elementsRead kind (aloneIn (elements bodyPlace s)) (elements at rest) draft
   pub placed : at + length rest ≤ bodyPlace + length s
@@ -96,10 +98,10 @@ module _ {kind : ℕ} {s words₀ : List ℕ} {at : ℕ} {rest words nodes : Lis
       turn-fault {n} {x} {y} q =
           let o = step .follows (g .draft) (g .means) .fault n x y q in
           let all : numbered (elementsRead kind (aloneIn (elements bodyPlace s)) (elements bodyPlace s) emptyDraft) ≡ stopped n x y =
-          ap (λ (z : Reading rules.Draft). numbered z) ahead ∙ stops (elementAt kind (aloneIn (elements bodyPlace s)) t at v (g .draft)) (elementsRead kind (aloneIn (elements bodyPlace s)) (elements (at + e) (behind rest e))) o in
+          ap (λ (z : Reading asked.Draft). numbered z) ahead ∙ stops (elementAt kind (aloneIn (elements bodyPlace s)) t at v (g .draft)) (elementsRead kind (aloneIn (elements bodyPlace s)) (elements (at + e) (behind rest e))) o in
           record { fault = λ m k p h. all ∙ same-fault (sym q ∙ h); next = λ d h. no-next (sym q ∙ h) }
         where
-          same-fault : {m k p : ℕ} → Fault n x y ≡ Fault m k p → _≡_ {A = Outcome rules.Draft} (stopped n x y) (stopped m k p)
+          same-fault : {m k p : ℕ} → Fault n x y ≡ Fault m k p → _≡_ {A = Outcome asked.Draft} (stopped n x y) (stopped m k p)
           same-fault h = cc
 
           no-next : {d : Draft} {X : Type 0} → Fault n x y ≡ Next d → X
@@ -115,7 +117,7 @@ module _ {kind : ℕ} {s words₀ : List ℕ} {at : ℕ} {rest words nodes : Lis
           record {
             draft = w .draft;
             means = w .means;
-            same = ahead ∙ ap (λ (x : Reading rules.Draft). andThen x (elementsRead kind (aloneIn (elements bodyPlace s)) (elements (at + e) (behind rest e)))) (w .is);
+            same = ahead ∙ ap (λ (x : Reading asked.Draft). andThen x (elementsRead kind (aloneIn (elements bodyPlace s)) (elements (at + e) (behind rest e)))) (w .is);
             placed = let p = g .placed in omega arith;
             light = light-next hasRow no-row kind (at + e) (f .cons at) (omega arith) (g .light) (w .is);
             long = long ∙ g .long;
@@ -139,7 +141,7 @@ module _ {kind : ℕ} {s words₀ : List ℕ} {at : ℕ} {rest words nodes : Lis
 
 -- ---- the end of a message
 
-module _ {d : rules.Draft} {c : Draft} {nodes words : List ℕ} (m : Means d c nodes words) where
+module _ {d : asked.Draft} {c : Draft} {nodes words : List ℕ} (m : Means d c nodes words) where
   pub concluded-same : (kind : ℕ) → meant (concluded kind c) words ≡ resultOf (finished kind d)
   unfolding concluded finished causeOf
   concluded-same kind = go (eqb kind establishment)

@@ -13,8 +13,9 @@ use Rattle.octets.specs.Lists.{member, keep, any}
 use Rattle.rules.specs.Types as ie
 use Rattle.rules.specs.Elements.{sets, removal}
 use Rattle.rules.specs.Message.{establishment}
-use Rattle.rules.specs.Reading as rules
-use Rattle.rules.specs.Reading.{Item, createsPdr, createsEndpoint, updatesPdr, removesPdr, removesEndpoint, setsCsid, clearsCsids, updatesEndpoint, Reading, done, andThen, withItem, groupRead, elementRead, createsAny}
+use Rattle.rules.specs.Request as rules
+use Rattle.rules.specs.Reading.{Reading, done, andThen, groupRead, elementRead}
+use Rattle.rules.specs.Request.{Item, createsPdr, createsEndpoint, updatesPdr, removesPdr, removesEndpoint, setsCsid, clearsCsids, updatesEndpoint, withItem, createsAny}
 use Rattle.rules.specs.Causes as why
 use Rattle.plan.specs.Rows.{rowWidth, word, rowsOf, rowPdr, rowEndpoint, rowChange, rowAddress}
 use Rattle.plan.specs.Words as its

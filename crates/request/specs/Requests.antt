@@ -10,7 +10,8 @@ use Rattle.octets.specs.Lists.{any, collect}
 use Rattle.rules.specs.Elements.{causeOf}
 use Rattle.rules.specs.Message.{Spot, frameFault}
 use Rattle.rules.specs.Reading as rules
-use Rattle.rules.specs.Reading.{Request, faulty, done, read}
+use Rattle.rules.specs.Reading.{faulty, done, read}
+use Rattle.rules.specs.Request.{Request}
 use Rattle.plan.specs.Rows.{rowWidth, rowsOf, tagged, rowCsid, isNullRow, requestIn}
 use Rattle.rules.specs.Types as ie
 use Rattle.rules.specs.Causes as why

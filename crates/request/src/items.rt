@@ -1,15 +1,16 @@
 // Stage 3 at the top of a message: its elements in turn, each read once.
 use element::fseid::Answer;
-use elements::First;
 use format::causes;
 use format::kinds;
 use format::types;
+use frame::First;
 ghost use mathlib.Core.Path.{_≡_};
 ghost use Prim.Native.Nat.{_+_, _≤_, _<_, _^_};
 ghost use lib.ListN.{length};
 ghost use Rattle.octets.specs.Lists.{member};
 ghost use Rattle.rules.specs.Message.{bodyPlace, elements, actedOn};
-ghost use Rattle.rules.specs.Reading.{aloneIn, seidRead, flagsRead, emptyDraft, elementsRead};
+ghost use Rattle.rules.specs.Reading.{aloneIn, seidRead, flagsRead, elementsRead};
+ghost use Rattle.rules.specs.Request.{emptyDraft};
 ghost use Rattle.request.specs.Items.{Passes, Follows, Roomy, Enough, AllRead, elementAt, withNote};
 ghost use Rattle.request.specs.Csids.{seidRefusal};
 
@@ -164,7 +165,7 @@ pub(crate) fn read_elements(s: &[u8], message: u64, words: &mut [u64]) -> Step
     let mut rest = s;
     let mut at = 16;
     loop {
-        let First::Element(kind, end) = elements::first_of(rest) else {
+        let First::Element(kind, end) = frame::first_of(rest) else {
             return Step::Next(d);
         };
         let step = read_element(s, &rest[4..end], message, kind, at, &mut nodes, words, d);

@@ -150,7 +150,7 @@ fn is_clearing(s: &[u8], v: &[u8], message: u64) -> bool
     if message != kinds::MODIFICATION {
         return false;
     }
-    elements::count(s, types::FQCSID) == 1
+    frame::count(s, types::FQCSID) == 1
 }
 
 // Whether so many CSIDs are allowed: one in an establishment, one or none in a modification.

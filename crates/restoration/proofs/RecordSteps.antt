@@ -18,9 +18,9 @@ use Rattle.octets.proofs.FieldLaws.{octet-field, length-fieldOctets}
 use Rattle.octets.proofs.Digits.{be-part, be-one}
 use Rattle.rules.specs.Model.{Settings, endpoint, Pdr, Endpoint}
 use Rattle.rules.specs.Elements.{addressLength, fqcsidOctets}
-use Rattle.rules.specs.Layout.{optionRead, tunnelRead, placeRead, pdrFrom, endpointFrom, csidFrom, viewPdr, viewEndpoint, viewCsid, pdrWidth, csidWidth, endpointWidth}
+use Rattle.rules.specs.Layout.{optionRead, tunnelRead, matchRead, pdrFrom, endpointFrom, csidFrom, viewPdr, viewEndpoint, viewCsid, pdrWidth, csidWidth, endpointWidth}
 use Rattle.rules.specs.Reply.{element, unitElement, addressPart}
-use Rattle.rules.specs.Restoration.{placeElement, farElement, pdiContent, pdrContent, pdrElement, endpointContent, endpointElement, recordCsid, csidElement}
+use Rattle.rules.specs.Restoration.{matchElement, farElement, pdiContent, pdrContent, pdrElement, endpointContent, endpointElement, recordCsid, csidElement}
 use Rattle.rules.specs.Types as ie
 use Rattle.laws.proofs.LayoutLaws.{csid-address}
 use Rattle.element.specs.declared.fqcsid.FqCsid.{FqCsid}
@@ -68,11 +68,11 @@ module _ (there address : ℕ) where
 -- ---- PDR
 
 module _ (s : Settings) (p : Pdr) where
-  pub length-pdi : length (element ie.pdi (pdiContent s p)) ≡ 9 + (length (placeElement s (p .place)) + length (addressPart (p .address)))
+  pub length-pdi : length (element ie.pdi (pdiContent s p)) ≡ 9 + (length (matchElement s (p .match)) + length (addressPart (p .address)))
   unfolding pdiContent
   length-pdi =
       let a = element ie.sourceInterface (p .source ∷ []) in
-      let b = placeElement s (p .place) in
+      let b = matchElement s (p .match) in
       let c = addressPart (p .address) in
       rw (length-element) (omega (arith, length-append a (b ++ c), length-append b c, length-element ie.sourceInterface (p .source ∷ [])))
 
@@ -105,43 +105,43 @@ module _ (xs : List ℕ) (long : length xs ≡ pdrWidth) where
     abbrev st : Settings
     st = settingsOf u
 
-    place-is : placeElement st (pdr .place) ≡ placeElement st (placeRead (getD xs 12 0) (number (part 13 4 xs)) (getD xs 17 0) (number (part 18 1 xs)))
+    match-is : matchElement st (pdr .match) ≡ matchElement st (matchRead (getD xs 12 0) (number (part 13 4 xs)) (getD xs 17 0) (number (part 18 1 xs)))
     unfolding viewPdr pdrFrom fieldsAt
-    place-is =
-        ap₂ (λ (k f : ℕ). placeElement st (placeRead k (number (part 13 4 xs)) f (number (part 18 1 xs)))) (octet-field 12 xs) (octet-field 17 xs)
+    match-is =
+        ap₂ (λ (k f : ℕ). matchElement st (matchRead k (number (part 13 4 xs)) f (number (part 18 1 xs)))) (octet-field 12 xs) (octet-field 17 xs)
 
-    pub place-tunnel : getD xs 12 0 ≡ 1 → placeElement st (pdr .place) ≡ unitElement st (tunnelIn (number (part 13 4 xs)) (getD xs 17 0))
-    unfolding placeElement placeRead tunnelRead tunnelIn
-    place-tunnel k = place-is ∙ rw (eq-eqb (getD xs 12 0) 1 k)
+    pub match-tunnel : getD xs 12 0 ≡ 1 → matchElement st (pdr .match) ≡ unitElement st (tunnelIn (number (part 13 4 xs)) (getD xs 17 0))
+    unfolding matchElement matchRead tunnelRead tunnelIn
+    match-tunnel k = match-is ∙ rw (eq-eqb (getD xs 12 0) 1 k)
 
-    pub place-endpoint : getD xs 12 0 ≡ 2 → placeElement st (pdr .place) ≡ element ie.endpointId (part 18 1 xs)
-    unfolding placeElement placeRead
-    place-endpoint k =
+    pub match-endpoint : getD xs 12 0 ≡ 2 → matchElement st (pdr .match) ≡ element ie.endpointId (part 18 1 xs)
+    unfolding matchElement matchRead
+    match-endpoint k =
         let one : getD xs 12 0 ≡ 1 → ⊥ = λ e. absurd (omega arith) in
-        place-is ∙ rw (ne-eqb (getD xs 12 0) 1 one, eq-eqb (getD xs 12 0) 2 k) (ap (element ie.endpointId) (octet-part 18 xs (omega arith)))
+        match-is ∙ rw (ne-eqb (getD xs 12 0) 1 one, eq-eqb (getD xs 12 0) 2 k) (ap (element ie.endpointId) (octet-part 18 xs (omega arith)))
 
-    pub place-neither : (getD xs 12 0 ≡ 1 → ⊥) → (getD xs 12 0 ≡ 2 → ⊥) → placeElement st (pdr .place) ≡ []
-    unfolding placeElement placeRead
-    place-neither k l = place-is ∙ rw (ne-eqb (getD xs 12 0) 1 k, ne-eqb (getD xs 12 0) 2 l)
+    pub match-neither : (getD xs 12 0 ≡ 1 → ⊥) → (getD xs 12 0 ≡ 2 → ⊥) → matchElement st (pdr .match) ≡ []
+    unfolding matchElement matchRead
+    match-neither k l = match-is ∙ rw (ne-eqb (getD xs 12 0) 1 k, ne-eqb (getD xs 12 0) 2 l)
 
-    pdi-is : pdiContent st pdr ≡ element ie.sourceInterface (part 11 1 xs) ++ (placeElement st (pdr .place) ++ addressPart (pdr .address))
+    pdi-is : pdiContent st pdr ≡ element ie.sourceInterface (part 11 1 xs) ++ (matchElement st (pdr .match) ++ addressPart (pdr .address))
     unfolding pdiContent
-    pdi-is = ap (λ (l : List ℕ). element ie.sourceInterface l ++ (placeElement st (pdr .place) ++ addressPart (pdr .address))) source-is
+    pdi-is = ap (λ (l : List ℕ). element ie.sourceInterface l ++ (matchElement st (pdr .match) ++ addressPart (pdr .address))) source-is
 
     module _ (at : ℕ) (out : List ℕ) where
-      pub place-tunnel-steps : (teid : ℕ) {e : ℕ} {out′ : List ℕ} → getD xs 12 0 ≡ 1 → teid ≡ number (part 13 4 xs)
-          → Placed out at (unitElement st (tunnelIn teid (getD xs 17 0))) e out′ → Placed out at (placeElement st (pdr .place)) e out′
-      place-tunnel-steps teid k e p = rw (place-tunnel k, ← e) p
+      pub match-tunnel-steps : (teid : ℕ) {e : ℕ} {out′ : List ℕ} → getD xs 12 0 ≡ 1 → teid ≡ number (part 13 4 xs)
+          → Placed out at (unitElement st (tunnelIn teid (getD xs 17 0))) e out′ → Placed out at (matchElement st (pdr .match)) e out′
+      match-tunnel-steps teid k e p = rw (match-tunnel k, ← e) p
 
-      pub place-endpoint-steps : {e : ℕ} {out′ : List ℕ} → getD xs 12 0 ≡ 2
-          → Placed out at (element ie.endpointId (part 18 1 xs)) e out′ → Placed out at (placeElement st (pdr .place)) e out′
-      place-endpoint-steps k p = rw (place-endpoint k) p
+      pub match-endpoint-steps : {e : ℕ} {out′ : List ℕ} → getD xs 12 0 ≡ 2
+          → Placed out at (element ie.endpointId (part 18 1 xs)) e out′ → Placed out at (matchElement st (pdr .match)) e out′
+      match-endpoint-steps k p = rw (match-endpoint k) p
 
-      pub place-neither-steps : (getD xs 12 0 ≡ 1 → ⊥) → (getD xs 12 0 ≡ 2 → ⊥) → Placed out at (placeElement st (pdr .place)) at out
-      place-neither-steps k l = rw (place-neither k l) (placed-none out at)
+      pub match-neither-steps : (getD xs 12 0 ≡ 1 → ⊥) → (getD xs 12 0 ≡ 2 → ⊥) → Placed out at (matchElement st (pdr .match)) at out
+      match-neither-steps k l = rw (match-neither k l) (placed-none out at)
 
       pub pdi-steps : (address : ℕ) {m n e : ℕ} {out₁ out₂ out₃ out₄ : List ℕ} → at + length (element ie.pdi (pdiContent st pdr)) ≤ length out
-          → Placed out (at + 4) (element ie.sourceInterface (part 11 1 xs)) m out₁ → Placed out₁ m (placeElement st (pdr .place)) n out₂
+          → Placed out (at + 4) (element ie.sourceInterface (part 11 1 xs)) m out₁ → Placed out₁ m (matchElement st (pdr .match)) n out₂
           → address ≡ number (part 20 4 xs) → Placed out₂ n (addressPart (optionRead (getD xs 19 0) address)) e out₃
           → out₄ ≡ put at (be 2 ie.pdi ++ be 2 (e - (at + 4))) out₃ → Placed out at (element ie.pdi (pdiContent st pdr)) e out₄
       pdi-steps address {m} {n} {e} {out₁} {out₂} {out₃} h p q w v r =

@@ -21,12 +21,12 @@ use Rattle.rules.specs.Elements.{nodeAddressTests, nodeAddressAllowed}
 use Rattle.rules.specs.Layout.{pdrWidth, endpointWidth, csidWidth, sessionWidth, csidFrom, viewCsid, viewSession, viewSettings, viewSessions, pdrCountAt, endpointCountAt, csidCountAt, pdrsAt, endpointsAt, csidsAt}
 use Rattle.rules.specs.Sound.{csidTests, csidAllowed, sessionAllowed, sound}
 use Rattle.rules.specs.Reply.{message}
-use Rattle.rules.specs.Restoration.{peerTests, peerAllowed, restoration}
-use Rattle.rules.specs.Restoring.{sessionAt, addressTests, addressed, peerAt, restorationAt}
+use Rattle.rules.specs.Restoration.{senderTests, senderAllowed, restoration}
+use Rattle.rules.specs.Restoring.{sessionAt, addressTests, addressed, senderAt, restorationAt}
 use Rattle.rules.specs.Types as ie
 use Rattle.rules.specs.Message.{establishment}
-use Rattle.claim.proofs.MessageHeader.{message-length}
-use Rattle.claim.proofs.RestorationRead.{msg-short}
+use Rattle.laws.proofs.MessageHeader.{message-length}
+use Rattle.laws.proofs.RestorationRead.{msg-short}
 use Rattle.table.proofs.SoundSlots.{few-pdrs, few-endpoints, few-csids, csids-kept, slotAt, settings-kept, few-sessions, slot-long, slot-session, session-kept}
 use Rattle.restoration.specs.Records.{recordWidth, recordFits, areaFits, SlotFits, content}
 
@@ -74,20 +74,20 @@ module _ (t : List ℕ) (h : T (sound t)) (place : ℕ) (live : place < length (
   place-fits = slot-fits st slot (slot-long t h place live) (rw (slot-session t h place live) (session-kept t h place live))
 
   module _ (ipv4 ipv6 : List ℕ) (address : T (addressed ipv4 ipv6)) where
-    pub peer-kept : T (peerAllowed (peerAt place ipv4 ipv6))
-    unfolding peerAllowed peerTests peerAt addressed addressTests
-    peer-kept =
+    pub sender-kept : T (senderAllowed (senderAt place ipv4 ipv6))
+    unfolding senderAllowed senderTests senderAt addressed addressTests
+    sender-kept =
         let a = each (addressTests ipv4 ipv6) address in
         let f = few-sessions t h in
-        all-of-each (peerTests (peerAt place ipv4 ipv6)) (lt→ltb 0 (2 ^ 64) (omega arith), (lt→ltb (place + 1) (2 ^ 24) (omega arith), (a .0, (a .1 .0, (a .1 .1 .0, tt)))))
+        all-of-each (senderTests (senderAt place ipv4 ipv6)) (lt→ltb 0 (2 ^ 64) (omega arith), (lt→ltb (place + 1) (2 ^ 24) (omega arith), (a .0, (a .1 .0, (a .1 .1 .0, tt)))))
 
     pub request-is : restorationAt t place ipv4 ipv6 ≡ message establishment 0 (be 3 (place + 1)) (content st (viewSession slot) ipv4 ipv6)
-    unfolding restorationAt restoration peerAt content
+    unfolding restorationAt restoration senderAt content
     request-is = rw (slot-session t h place live)
 
     pub request-short : length (restorationAt t place ipv4 ipv6) ≤ maxRestoration
     unfolding restorationAt
-    request-short = msg-short st (settings-kept t h) (peerAt place ipv4 ipv6) peer-kept (sessionAt (viewSessions t) place) (session-kept t h place live)
+    request-short = msg-short st (settings-kept t h) (senderAt place ipv4 ipv6) sender-kept (sessionAt (viewSessions t) place) (session-kept t h place live)
 
     -- the elements stand after a header of 16 octets
     pub content-room : 16 + length (content st (viewSession slot) ipv4 ipv6) ≤ maxRestoration

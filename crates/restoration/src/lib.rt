@@ -11,7 +11,7 @@ ghost use Rattle.octets.specs.Lists.{all};
 ghost use Rattle.rules.specs.Limits.{maxRestoration};
 ghost use Rattle.rules.specs.Layout.{optionRead, viewSession, viewPdr, viewEndpoint, viewCsid, pdrWidth, csidWidth, endpointWidth};
 ghost use Rattle.rules.specs.Reply.{element, addressPart};
-ghost use Rattle.rules.specs.Restoration.{placeElement, farElement, pdiContent, pdrElement, endpointElement, csidElement, recordElements, restoration};
+ghost use Rattle.rules.specs.Restoration.{matchElement, farElement, pdiContent, pdrElement, endpointElement, csidElement, recordElements, restoration};
 ghost use Rattle.rules.specs.Restoring.{addressed, restorationAt, writeInto, writeRestoration};
 ghost use Rattle.rules.specs.Types as ie;
 ghost use Rattle.unit.specs.Meaning.{settingsOf};
@@ -23,15 +23,15 @@ use format::types;
 use unit::Settings;
 
 // What a PDR matches on: its F-TEID with the unit's addresses, its endpoint's ID, or nothing.
-fn write_place(u: Settings, pdr: &[u8], out: &mut [u8], at: usize) -> usize
-    requires { ⌜ (length (now pdr) ≡ pdrWidth) × (at + length (placeElement (settingsOf u) (viewPdr (now pdr) .place)) ≤ length (now out)) ⌝ }
-    ensures { λ r. ⌜ Placed (now (out .entry)) at (placeElement (settingsOf u) (viewPdr (now (pdr .entry)) .place)) r (now (out .exit)) ⌝ }
+fn write_match(u: Settings, pdr: &[u8], out: &mut [u8], at: usize) -> usize
+    requires { ⌜ (length (now pdr) ≡ pdrWidth) × (at + length (matchElement (settingsOf u) (viewPdr (now pdr) .match)) ≤ length (now out)) ⌝ }
+    ensures { λ r. ⌜ Placed (now (out .entry)) at (matchElement (settingsOf u) (viewPdr (now (pdr .entry)) .match)) r (now (out .exit)) ⌝ }
 {
-    if pdr[format::PLACE] == 1 {
+    if pdr[format::MATCH] == 1 {
         let teid = octets::read(pdr, format::TEID, 4);
         return writing::write_fteid(u, teid, pdr[format::FAMILIES] as u64, out, at);
     }
-    if pdr[format::PLACE] == 2 {
+    if pdr[format::MATCH] == 2 {
         return writing::write_value(
             types::ENDPOINT_ID,
             &pdr[format::NAMED_ENDPOINT..format::PDR_ADDRESS_THERE],
@@ -61,13 +61,13 @@ fn write_pdi(u: Settings, pdr: &[u8], out: &mut [u8], at: usize) -> usize
     let front = at + 4;
     let source = writing::write_value(
         types::SOURCE_INTERFACE,
-        &pdr[format::SOURCE..format::PLACE],
+        &pdr[format::SOURCE..format::MATCH],
         out,
         front,
     );
-    let place = write_place(u, pdr, out, source);
+    let matched = write_match(u, pdr, out, source);
     let address = octets::read(pdr, format::PDR_ADDRESS, 4);
-    let end = write_address(pdr[format::PDR_ADDRESS_THERE], address, out, place);
+    let end = write_address(pdr[format::PDR_ADDRESS_THERE], address, out, matched);
     writing::write_head(types::PDI, end - front, out, at);
     end
 }

@@ -24,7 +24,7 @@ unfoldable pub holder : ℕ → ℕ → Endpoint
 holder i n = record { id = i; local = record { teid = n; v4 = true; v6 = false }; address = none }
 
 unfoldable pub named : ℕ → ℕ → Pdr
-named i e = record { id = i; precedence = 7; far = some 8; source = 1; place = endpoint e; address = none }
+named i e = record { id = i; precedence = 7; far = some 8; source = 1; match = endpoint e; address = none }
 
 unfoldable pub session : List Pdr → Sessions
 session ps = record { seid = 1; pdrs = ps; endpoints = holder 3 4096 ∷ holder 4 4097 ∷ []; csids = [] } ∷ []

@@ -9,7 +9,7 @@ use Rattle.rules.specs.Model.{Session}
 use Rattle.rules.specs.Layout.{encode}
 use Rattle.rules.specs.Reply.{element}
 use Rattle.rules.specs.Live.{accepted}
-use Rattle.rules.specs.Restoration.{Peer, restoration}
+use Rattle.rules.specs.Restoration.{Sender, restoration}
 use Rattle.rules.specs.Calls.{Call, request, count, tableAfterAll, eventsOf, liveAfter}
 use Rattle.rules.proofs.Computing.{computing}
 use Rattle.rules.proofs.CallExamples.{unit, space, create, remove, own, withId, establish, modify, calls}
@@ -37,15 +37,15 @@ history =
     ∷ request (establish 4 (create 1 own)) space
     ∷ []
 
-unfoldable pub peer : Peer
-peer = record { header = 77; sequence = 3; ipv4 = []; ipv6 = zeros 16 }
+unfoldable pub sender : Sender
+sender = record { header = 77; sequence = 3; ipv4 = []; ipv6 = zeros 16 }
 
 unfoldable pub restores : List Session → List Call
 restores [] = []
-restores (x ∷ xs) = request (restoration (unit 2 4) peer x) space ∷ restores xs
+restores (x ∷ xs) = request (restoration (unit 2 4) sender x) space ∷ restores xs
 
 past : ℕ
-unfolding computing calls endpointOf naming csidOf update history peer restores
+unfolding computing calls endpointOf naming csidOf update history sender restores
 past = 0
 
 unfoldable pub turned : {A : Type 0} → List A → List A

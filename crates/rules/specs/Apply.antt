@@ -10,10 +10,10 @@ use lib.Dec.{eqb}
 use Rattle.octets.specs.Choice.{pick, bindOption, isNil, headOr}
 use Rattle.octets.specs.Octets.{sameOctets}
 use Rattle.octets.specs.Lists.{keep, member, any, insertBy, insertAll}
-use Rattle.rules.specs.Model.{Tunnel, Place, neither, tunnel, endpoint, Pdr, Endpoint, Csid, Session, Sessions, pdrId, endpointId, nodeTypeOf, seidOf}
+use Rattle.rules.specs.Model.{Tunnel, Match, neither, tunnel, endpoint, Pdr, Endpoint, Csid, Session, Sessions, pdrId, endpointId, nodeTypeOf, seidOf}
 use Rattle.rules.specs.Elements.{Fteid, given, choose, UeIp, ueGiven, ueChoose, ueOther, Fqcsid, sets, removal}
 use Rattle.rules.specs.Message.{deletion, setDeletion}
-use Rattle.rules.specs.Reading.{NewPdr, NewEndpoint, Change, CsidChanges, cleared, changed, Request}
+use Rattle.rules.specs.Request.{NewPdr, NewEndpoint, Change, CsidChanges, cleared, changed, Request}
 use Rattle.rules.specs.Grants.{Kind, ofPdr, ofEndpoint, Got}
 use Rattle.rules.specs.Stages.{hasSeid, atEntry, removedPdrs}
 
@@ -24,13 +24,13 @@ unfoldable pub tunnelFrom : ℕ → Fteid → Tunnel
 tunnelFrom chosen (given t a b) = record { teid = t; v4 = not (isNil a); v6 = not (isNil b) }
 tunnelFrom chosen (choose v4 v6 i) = record { teid = chosen; v4 = v4; v6 = v6 }
 
-unfoldable pub namedPlace : Option ℕ → Place
-namedPlace none = neither
-namedPlace (some e) = endpoint e
+unfoldable pub namedMatch : Option ℕ → Match
+namedMatch none = neither
+namedMatch (some e) = endpoint e
 
-unfoldable pub placeFrom : ℕ → Option Fteid → Option ℕ → Place
-placeFrom chosen none e = namedPlace e
-placeFrom chosen (some v) e = tunnel (tunnelFrom chosen v)
+unfoldable pub matchFrom : ℕ → Option Fteid → Option ℕ → Match
+matchFrom chosen none e = namedMatch e
+matchFrom chosen (some v) e = tunnel (tunnelFrom chosen v)
 
 -- the address is the request's, or the one that was chosen (02 (v))
 unfoldable pub addressGot : ℕ → UeIp → Option ℕ
@@ -48,7 +48,7 @@ createPdr got p =
       precedence = p .precedence;
       far = p .far;
       source = p .source;
-      place = placeFrom (got ofPdr (p .id) .teid) (p .local) (p .endpoint);
+      match = matchFrom (got ofPdr (p .id) .teid) (p .local) (p .endpoint);
       address = addressFrom (got ofPdr (p .id) .address) (p .address);
     }
 
@@ -64,7 +64,7 @@ orOld a (some b) = b
 unfoldable pub updatePdr : Change → Pdr → Pdr
 updatePdr c p =
     pick (eqb (p .id) (c .id))
-    (record { id = p .id; precedence = orOld (p .precedence) (c .precedence); far = orOld (p .far) (c .far); source = p .source; place = p .place; address = p .address })
+    (record { id = p .id; precedence = orOld (p .precedence) (c .precedence); far = orOld (p .far) (c .far); source = p .source; match = p .match; address = p .address })
     p
 
 unfoldable pub updateAll : List Change → List Pdr → List Pdr
@@ -153,5 +153,5 @@ follow got kind header r m =
     (pick (eqb kind deletion) (removeSession header m) (putSession (apply got r (atEntry kind header r m)) m))
 
 unfoldable pub computing : ℕ
-unfolding tunnelFrom namedPlace placeFrom addressGot addressFrom createPdr createEndpoint orOld updatePdr updateAll otherNode setCsid setCsids followCsids keptPdr keptEndpoint pdrsAfter endpointsAfter apply otherSession removeSession putSession covers coversSession goesSession staysSession follow
+unfolding tunnelFrom namedMatch matchFrom addressGot addressFrom createPdr createEndpoint orOld updatePdr updateAll otherNode setCsid setCsids followCsids keptPdr keptEndpoint pdrsAfter endpointsAfter apply otherSession removeSession putSession covers coversSession goesSession staysSession follow
 computing = 0

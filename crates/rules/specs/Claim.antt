@@ -21,7 +21,7 @@ use Rattle.rules.specs.Layout.{encode, viewSettings, viewSessions}
 use Rattle.rules.specs.Sound.{make, Count, free, countFree, takenMap, countAddresses, addressMap}
 use Rattle.rules.specs.Serve.{serve, Served}
 use Rattle.rules.specs.Live.{Event, replied, counted, accepted, live}
-use Rattle.rules.specs.Restoration.{Peer, peerAllowed, restoration}
+use Rattle.rules.specs.Restoration.{Sender, senderAllowed, restoration}
 use Rattle.rules.specs.Calls.{Call, request, count, countIps}
 
 -- ---- a run
@@ -66,7 +66,7 @@ liveSet steps = live (map eventIn steps)
 -- one live session's restoration: the session, what may be any, and the reply space
 pub record Restore : Type 0 where
   pub session : Session
-  pub peer : Peer
+  pub sender : Sender
   pub space : List ℕ
 
 abbrev pub restored : Restore → Session
@@ -74,10 +74,10 @@ restored r = r .session
 
 -- a reply space is any that outcome 2 lets pass
 unfoldable pub restoreAllowed : Restore → Bool
-restoreAllowed r = allOf (peerAllowed (r .peer) ∷ octets (r .space) ∷ leb minSpace (length (r .space)) ∷ [])
+restoreAllowed r = allOf (senderAllowed (r .sender) ∷ octets (r .space) ∷ leb minSpace (length (r .space)) ∷ [])
 
 unfoldable pub restoreCall : Settings → Restore → Call
-restoreCall s r = request (restoration s (r .peer) (r .session)) (r .space)
+restoreCall s r = request (restoration s (r .sender) (r .session)) (r .space)
 
 unfoldable pub restoreCalls : Settings → List Restore → List Call
 restoreCalls s rs = map (restoreCall s) rs

@@ -9,7 +9,7 @@ use Rattle.octets.specs.Choice.{pick, valueOr, mapOption, bindOption, headOr, r
 use Rattle.octets.specs.Lists.{findBy, keep, collect, member}
 use Rattle.rules.specs.Model.{Settings, Tunnel, Sessions, freeTeids, freeAddresses}
 use Rattle.rules.specs.Elements.{Fteid, given, choose}
-use Rattle.rules.specs.Reading.{NewPdr, NewEndpoint, Request}
+use Rattle.rules.specs.Request.{NewPdr, NewEndpoint, Request}
 
 -- the two kinds of record that hold TEIDs
 pub data Kind : Type 0 where

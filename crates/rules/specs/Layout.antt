@@ -4,7 +4,7 @@
 --   table     settings 39, session count 2, as many session slots as the settings' limit says
 --   settings  IPv4 4, IPv6 there 1, IPv6 16, first TEID 4, pool size 4, first address 4, number of addresses 4, session limit 2
 --   session   SEID 8, PDR count 1, endpoint count 1, FQ-CSID count 1, 16 PDR slots, 8 endpoint slots, 6 FQ-CSID slots
---   PDR       ID 2, precedence 4, FAR there 1, FAR ID 4, source interface 1, place 1 (0 neither, 1 F-TEID, 2 endpoint),
+--   PDR       ID 2, precedence 4, FAR there 1, FAR ID 4, source interface 1, match 1 (0 neither, 1 F-TEID, 2 endpoint),
 --             TEID 4, families 1 (V4 = 1, V6 = 2), endpoint ID 1, address there 1, address 4
 --   endpoint  ID 1, TEID 4, families 1, address there 1, address 4
 --   FQ-CSID   node type 1, Node-ID type 1, address 16 (4 used by types 0 and 2), CSID 2
@@ -22,7 +22,7 @@ use lib.Dec.{eqb}
 use Rattle.octets.specs.Choice.{pick, flag, isNil, isSome, valueOr}
 use Rattle.octets.specs.Octets.{be, part, number, numberAt, octetAt, bit, padded, slices, concatMap}
 use Rattle.octets.specs.Fields.{widthOf, fieldsAt, fieldOctets}
-use Rattle.rules.specs.Model.{Settings, Tunnel, Place, neither, tunnel, endpoint, Pdr, Endpoint, Csid, Session, Sessions}
+use Rattle.rules.specs.Model.{Settings, Tunnel, Match, neither, tunnel, endpoint, Pdr, Endpoint, Csid, Session, Sessions}
 use Rattle.rules.specs.Limits.{maxPdrs, maxEndpoints, nodeTypes}
 use Rattle.rules.specs.Elements.{addressLength}
 
@@ -44,28 +44,28 @@ abbrev pub pdrWidths : List ℕ
 pdrWidths = 2 ∷ 4 ∷ 1 ∷ 4 ∷ 1 ∷ 1 ∷ 4 ∷ 1 ∷ 1 ∷ 1 ∷ 4 ∷ []
 
 -- what a PDR matches on is four fields
-unfoldable pub matchKind : Place → ℕ
+unfoldable pub matchKind : Match → ℕ
 matchKind neither = 0
 matchKind (tunnel t) = 1
 matchKind (endpoint e) = 2
 
-unfoldable pub matchTeid : Place → ℕ
+unfoldable pub matchTeid : Match → ℕ
 matchTeid neither = 0
 matchTeid (tunnel t) = t .teid
 matchTeid (endpoint e) = 0
 
-unfoldable pub matchFamilies : Place → ℕ
+unfoldable pub matchFamilies : Match → ℕ
 matchFamilies neither = 0
 matchFamilies (tunnel t) = families t
 matchFamilies (endpoint e) = 0
 
-unfoldable pub matchEndpoint : Place → ℕ
+unfoldable pub matchEndpoint : Match → ℕ
 matchEndpoint neither = 0
 matchEndpoint (tunnel t) = 0
 matchEndpoint (endpoint e) = e
 
-unfoldable pub placeRead : ℕ → ℕ → ℕ → ℕ → Place
-placeRead k t f e = pick (eqb k 1) (tunnel (tunnelRead t f)) (pick (eqb k 2) (endpoint e) neither)
+unfoldable pub matchRead : ℕ → ℕ → ℕ → ℕ → Match
+matchRead k t f e = pick (eqb k 1) (tunnel (tunnelRead t f)) (pick (eqb k 2) (endpoint e) neither)
 
 unfoldable pub pdrNumbers : Pdr → List ℕ
 pdrNumbers p =
@@ -74,10 +74,10 @@ pdrNumbers p =
     ∷ flag (isSome (p .far))
     ∷ valueOr 0 (p .far)
     ∷ p .source
-    ∷ matchKind (p .place)
-    ∷ matchTeid (p .place)
-    ∷ matchFamilies (p .place)
-    ∷ matchEndpoint (p .place)
+    ∷ matchKind (p .match)
+    ∷ matchTeid (p .match)
+    ∷ matchFamilies (p .match)
+    ∷ matchEndpoint (p .match)
     ∷ flag (isSome (p .address))
     ∷ valueOr 0 (p .address)
     ∷ []
@@ -89,7 +89,7 @@ pdrFrom vs =
       precedence = getD vs 1 0;
       far = optionRead (getD vs 2 0) (getD vs 3 0);
       source = getD vs 4 0;
-      place = placeRead (getD vs 5 0) (getD vs 6 0) (getD vs 7 0) (getD vs 8 0);
+      match = matchRead (getD vs 5 0) (getD vs 6 0) (getD vs 7 0) (getD vs 8 0);
       address = optionRead (getD vs 9 0) (getD vs 10 0);
     }
 
@@ -244,5 +244,5 @@ unfoldable pub viewSessions : List ℕ → Sessions
 viewSessions xs = viewArea viewSession sessionWidth (numberAt settingsWidth 2 xs) headWidth xs
 
 unfoldable pub computing : ℕ
-unfolding fieldsAt fieldOctets optionRead families tunnelRead matchKind matchTeid matchFamilies matchEndpoint placeRead pdrNumbers pdrFrom endpointNumbers endpointFrom csidSlotNumbers addressRead csidFrom area pdrOctets endpointOctets csidOctets sessionOctets settingsOctets encode viewPdr viewEndpoint viewCsid viewArea viewSession viewSettings viewSessions
+unfolding fieldsAt fieldOctets optionRead families tunnelRead matchKind matchTeid matchFamilies matchEndpoint matchRead pdrNumbers pdrFrom endpointNumbers endpointFrom csidSlotNumbers addressRead csidFrom area pdrOctets endpointOctets csidOctets sessionOctets settingsOctets encode viewPdr viewEndpoint viewCsid viewArea viewSession viewSettings viewSessions
 computing = 0

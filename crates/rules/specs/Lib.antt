@@ -7,6 +7,7 @@ pub mod Elements
 pub mod Layout
 pub mod Sound
 pub mod Message
+pub mod Request
 pub mod Reading
 pub mod Grants
 pub mod Stages

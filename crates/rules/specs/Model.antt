@@ -28,17 +28,17 @@ pub record Tunnel : Type 0 where
   pub v6 : Bool
 
 -- what a PDR matches on: nothing, a local F-TEID, or a traffic endpoint by its ID
-pub data Place : Type 0 where
-  neither : Place
-  tunnel : Tunnel → Place
-  endpoint : ℕ → Place
+pub data Match : Type 0 where
+  neither : Match
+  tunnel : Tunnel → Match
+  endpoint : ℕ → Match
 
 pub record Pdr : Type 0 where
   pub id : ℕ
   pub precedence : ℕ
   pub far : Option ℕ
   pub source : ℕ
-  pub place : Place
+  pub match : Match
   pub address : Option ℕ
 
 pub record Endpoint : Type 0 where
@@ -74,25 +74,25 @@ pub record Holding : Type 0 where
   pub v6 : Bool
   pub source : ℕ
 
-unfoldable pub placeTunnel : Place → Option Tunnel
-placeTunnel neither = none
-placeTunnel (tunnel t) = some t
-placeTunnel (endpoint e) = none
+unfoldable pub matchedTunnel : Match → Option Tunnel
+matchedTunnel neither = none
+matchedTunnel (tunnel t) = some t
+matchedTunnel (endpoint e) = none
 
-unfoldable pub placeEndpoint : Place → Option ℕ
-placeEndpoint neither = none
-placeEndpoint (tunnel t) = none
-placeEndpoint (endpoint e) = some e
+unfoldable pub matchedEndpoint : Match → Option ℕ
+matchedEndpoint neither = none
+matchedEndpoint (tunnel t) = none
+matchedEndpoint (endpoint e) = some e
 
 unfoldable pub pdrEndpoint : Pdr → Option ℕ
-pdrEndpoint p = placeEndpoint (p .place)
+pdrEndpoint p = matchedEndpoint (p .match)
 
 unfoldable pub tunnelHolding : Bool → ℕ → Tunnel → Holding
 tunnelHolding shared source t = record { shared = shared; teid = t .teid; v4 = t .v4; v6 = t .v6; source = source }
 
 -- a PDR's hold, which other PDRs of its session may share
 unfoldable pub pdrHolding : Pdr → Option Holding
-pdrHolding p = mapOption (tunnelHolding true (p .source)) (placeTunnel (p .place))
+pdrHolding p = mapOption (tunnelHolding true (p .source)) (matchedTunnel (p .match))
 
 -- an endpoint's hold, its own alone
 unfoldable pub endpointHolding : Endpoint → Holding
@@ -163,5 +163,5 @@ abbrev pub seidOf : Session → ℕ
 seidOf s = s .seid
 
 unfoldable pub computing : ℕ
-unfolding placeTunnel placeEndpoint pdrEndpoint tunnelHolding pdrHolding endpointHolding sessionHoldings sessionTeids heldTeids freeCount freeTeids inAddressPool sessionAddresses heldAddresses freeAddressCount freeAddresses
+unfolding matchedTunnel matchedEndpoint pdrEndpoint tunnelHolding pdrHolding endpointHolding sessionHoldings sessionTeids heldTeids freeCount freeTeids inAddressPool sessionAddresses heldAddresses freeAddressCount freeAddresses
 computing = 0

@@ -12,7 +12,7 @@ use Rattle.octets.specs.Lists.{keep}
 use Rattle.rules.specs.Model.{Settings, Tunnel}
 use Rattle.rules.specs.Elements.{Fteid, given, choose, fteidOctets, unitFteid, UeIp, ueGiven, ueOctets, ueChooses, fseidOctets}
 use Rattle.rules.specs.Message.{establishment, setDeletion, kindOf, seidThere, headerSeid, sequenceOf}
-use Rattle.rules.specs.Reading.{NewPdr, NewEndpoint, Request}
+use Rattle.rules.specs.Request.{NewPdr, NewEndpoint, Request}
 use Rattle.rules.specs.Grants.{Kind, ofPdr, ofEndpoint, Got}
 use Rattle.rules.specs.Stages.{Verdict}
 use Rattle.rules.specs.Types as ie

@@ -8,17 +8,17 @@ use mathlib.Core.List.{List, [], _∷_, _++_, map}
 use lib.Dec.{ltb}
 use Rattle.octets.specs.Octets.{be, concatMap}
 use Rattle.octets.specs.Choice.{mapOption, allOf, isNil}
-use Rattle.rules.specs.Model.{Settings, Place, neither, tunnel, endpoint, Pdr, Endpoint, Csid, Session, placeTunnel, placeEndpoint}
+use Rattle.rules.specs.Model.{Settings, Match, neither, tunnel, endpoint, Pdr, Endpoint, Csid, Session, matchedTunnel, matchedEndpoint}
 use Rattle.rules.specs.Elements.{ueGiven, Fqcsid, unitFteid, fqcsidOctets, sets, fseidOctets, addressOf}
 use Rattle.rules.specs.Message.{establishment}
-use Rattle.rules.specs.Reading.{NewPdr, NewEndpoint, changed, Request}
+use Rattle.rules.specs.Request.{NewPdr, NewEndpoint, changed, Request}
 use Rattle.rules.specs.Reply.{element, message, unitElement, addressPart}
 use Rattle.rules.specs.Types as ie
 
-unfoldable pub placeElement : Settings → Place → List ℕ
-placeElement s neither = []
-placeElement s (tunnel t) = unitElement s t
-placeElement s (endpoint e) = element ie.endpointId (e ∷ [])
+unfoldable pub matchElement : Settings → Match → List ℕ
+matchElement s neither = []
+matchElement s (tunnel t) = unitElement s t
+matchElement s (endpoint e) = element ie.endpointId (e ∷ [])
 
 unfoldable pub farElement : Option ℕ → List ℕ
 farElement none = []
@@ -26,7 +26,7 @@ farElement (some n) = element ie.farId (be 4 n)
 
 -- the address stands last in its group (02 (v))
 unfoldable pub pdiContent : Settings → Pdr → List ℕ
-pdiContent s p = element ie.sourceInterface (p .source ∷ []) ++ (placeElement s (p .place) ++ addressPart (p .address))
+pdiContent s p = element ie.sourceInterface (p .source ∷ []) ++ (matchElement s (p .match) ++ addressPart (p .address))
 
 unfoldable pub pdrContent : Settings → Pdr → List ℕ
 pdrContent s p = element ie.pdrId (be 2 (p .id)) ++ (element ie.precedence (be 4 (p .precedence)) ++ (element ie.pdi (pdiContent s p) ++ farElement (p .far)))
@@ -55,8 +55,8 @@ restoredPdr s p =
       precedence = p .precedence;
       far = p .far;
       source = p .source;
-      local = mapOption (unitFteid s) (placeTunnel (p .place));
-      endpoint = placeEndpoint (p .place);
+      local = mapOption (unitFteid s) (matchedTunnel (p .match));
+      endpoint = matchedEndpoint (p .match);
       address = mapOption ueGiven (p .address);
     }
 
@@ -79,28 +79,28 @@ restoredRequest s x =
     }
 
 -- what may be any: header SEID, sequence number, and the F-SEID's addresses (empty where that one is not there)
-pub record Peer : Type 0 where
+pub record Sender : Type 0 where
   pub header : ℕ
   pub sequence : ℕ
   pub ipv4 : List ℕ
   pub ipv6 : List ℕ
 
-unfoldable pub peerTests : Peer → List Bool
-peerTests p =
+unfoldable pub senderTests : Sender → List Bool
+senderTests p =
     ltb (p .header) (2 ^ 64) ∷ ltb (p .sequence) (2 ^ 24) ∷ addressOf 4 (p .ipv4) ∷ addressOf 16 (p .ipv6) ∷ not (isNil (p .ipv4) && isNil (p .ipv6)) ∷ []
 
-unfoldable pub peerAllowed : Peer → Bool
-peerAllowed p = allOf (peerTests p)
+unfoldable pub senderAllowed : Sender → Bool
+senderAllowed p = allOf (senderTests p)
 
 -- the records, in the order of the establishment line
 unfoldable pub recordElements : Settings → Session → List ℕ
 recordElements s x = concatMap (pdrElement s) (x .pdrs) ++ (concatMap (endpointElement s) (x .endpoints) ++ concatMap csidElement (x .csids))
 
-unfoldable pub restoration : Settings → Peer → Session → List ℕ
+unfoldable pub restoration : Settings → Sender → Session → List ℕ
 restoration s p x =
     message establishment (p .header) (be 3 (p .sequence))
     (element ie.fseid (fseidOctets (x .seid) (p .ipv4) (p .ipv6)) ++ (element ie.sessionFlags (1 ∷ []) ++ recordElements s x))
 
 unfoldable pub computing : ℕ
-unfolding placeElement farElement pdiContent pdrContent pdrElement endpointContent endpointElement recordCsid csidElement restoredPdr restoredEndpoint restoredRequest peerTests peerAllowed recordElements restoration
+unfolding matchElement farElement pdiContent pdrContent pdrElement endpointContent endpointElement recordCsid csidElement restoredPdr restoredEndpoint restoredRequest senderTests senderAllowed recordElements restoration
 computing = 0

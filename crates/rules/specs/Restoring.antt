@@ -12,7 +12,7 @@ use Rattle.rules.specs.Elements.{addressOf}
 use Rattle.rules.specs.Layout.{viewSettings, viewSessions}
 use Rattle.rules.specs.Sound.{sound}
 use Rattle.rules.specs.Stages.{newSession}
-use Rattle.rules.specs.Restoration.{Peer, restoration}
+use Rattle.rules.specs.Restoration.{Sender, restoration}
 
 -- the session at a place, from 0
 unfoldable pub sessionAt : Sessions → ℕ → Session
@@ -26,12 +26,12 @@ unfoldable pub addressed : List ℕ → List ℕ → Bool
 addressed ipv4 ipv6 = allOf (addressTests ipv4 ipv6)
 
 -- header SEID 0, and the place plus 1 as the sequence number
-unfoldable pub peerAt : ℕ → List ℕ → List ℕ → Peer
-peerAt place ipv4 ipv6 = record { header = 0; sequence = place + 1; ipv4 = ipv4; ipv6 = ipv6 }
+unfoldable pub senderAt : ℕ → List ℕ → List ℕ → Sender
+senderAt place ipv4 ipv6 = record { header = 0; sequence = place + 1; ipv4 = ipv4; ipv6 = ipv6 }
 
 -- the restoration request of the session at a place of the table t
 unfoldable pub restorationAt : List ℕ → ℕ → List ℕ → List ℕ → List ℕ
-restorationAt t place ipv4 ipv6 = restoration (viewSettings t) (peerAt place ipv4 ipv6) (sessionAt (viewSessions t) place)
+restorationAt t place ipv4 ipv6 = restoration (viewSettings t) (senderAt place ipv4 ipv6) (sessionAt (viewSessions t) place)
 
 -- the outcome, how many octets of the space hold the request, and the space at exit
 pub record Writing : Type 0 where
@@ -57,5 +57,5 @@ writeRestoration t place ipv4 ipv6 space =
     (writeInto (restorationAt t place ipv4 ipv6) space)))
 
 unfoldable pub computing : ℕ
-unfolding sessionAt addressTests addressed peerAt restorationAt writeInto writeRestoration
+unfolding sessionAt addressTests addressed senderAt restorationAt writeInto writeRestoration
 computing = 0

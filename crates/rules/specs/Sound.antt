@@ -9,7 +9,7 @@ use lib.Dec.{leb, ltb, eqb}
 use Rattle.octets.specs.Choice.{pick, allOf, isNil, sameBool, flag}
 use Rattle.octets.specs.Octets.{octets, sameOctets}
 use Rattle.octets.specs.Lists.{member, anyIn, ascending, all, allPairs}
-use Rattle.rules.specs.Model.{Settings, Tunnel, Place, neither, tunnel, endpoint, Pdr, Endpoint, Csid, Session, Sessions, Holding, sessionHoldings, sessionTeids, heldTeids, freeCount, sessionAddresses, heldAddresses, freeAddressCount, pdrId, endpointId, nodeTypeOf, seidOf}
+use Rattle.rules.specs.Model.{Settings, Tunnel, Match, neither, tunnel, endpoint, Pdr, Endpoint, Csid, Session, Sessions, Holding, sessionHoldings, sessionTeids, heldTeids, freeCount, sessionAddresses, heldAddresses, freeAddressCount, pdrId, endpointId, nodeTypeOf, seidOf}
 use Rattle.rules.specs.Limits.{maxPdrs, maxEndpoints, nodeTypes, maxSessions, maxPool, maxAddresses}
 use Rattle.rules.specs.Elements.{nodeAddressAllowed, nodeTypeKept, below16}
 use Rattle.rules.specs.Layout.{tableLength, encode, viewSettings, viewSessions}
@@ -63,10 +63,10 @@ unfoldable pub tunnelAllowed : Settings → Tunnel → Bool
 tunnelAllowed s t = allOf (tunnelTests s t)
 
 -- a named endpoint exists
-unfoldable pub placeAllowed : Settings → List ℕ → Place → Bool
-placeAllowed s live neither = true
-placeAllowed s live (tunnel t) = tunnelAllowed s t
-placeAllowed s live (endpoint e) = ltb e 256 && member e live
+unfoldable pub matchAllowed : Settings → List ℕ → Match → Bool
+matchAllowed s live neither = true
+matchAllowed s live (tunnel t) = tunnelAllowed s t
+matchAllowed s live (endpoint e) = ltb e 256 && member e live
 
 unfoldable pub farAllowed : Option ℕ → Bool
 farAllowed none = true
@@ -84,7 +84,7 @@ pdrTests s live p =
     ∷ ltb (p .precedence) (2 ^ 32)
     ∷ farAllowed (p .far)
     ∷ ltb (p .source) 16
-    ∷ placeAllowed s live (p .place)
+    ∷ matchAllowed s live (p .match)
     ∷ addressAllowed (p .address)
     ∷ []
 
@@ -206,5 +206,5 @@ unfoldable pub addressMap : Settings → Sessions → List ℕ
 addressMap s m = takenWords (s .firstAddress) (heldAddresses s m) addressWords 0
 
 unfoldable pub computing : ℕ
-unfolding poolTests addressPoolTests limitTests ipv6Allowed settingsTests settingsAllowed inPool unitFamilies tunnelTests tunnelAllowed placeAllowed farAllowed addressAllowed pdrTests pdrAllowed endpointTests endpointAllowed csidTests csidAllowed sessionTests shareTests agree sessionAllowed apart sessionsTests sessionsAllowed soundTests sound lengthFor make countFree countAddresses taken takenBits takenWords takenMap addressMap
+unfolding poolTests addressPoolTests limitTests ipv6Allowed settingsTests settingsAllowed inPool unitFamilies tunnelTests tunnelAllowed matchAllowed farAllowed addressAllowed pdrTests pdrAllowed endpointTests endpointAllowed csidTests csidAllowed sessionTests shareTests agree sessionAllowed apart sessionsTests sessionsAllowed soundTests sound lengthFor make countFree countAddresses taken takenBits takenWords takenMap addressMap
 computing = 0

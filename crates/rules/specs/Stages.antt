@@ -14,7 +14,8 @@ use Rattle.rules.specs.Limits.{maxPdrs, maxEndpoints}
 use Rattle.rules.specs.Elements.{causeOf, Fteid, given, choose, hasV4, hasV6, chooses, chooseId, UeIp, ueGiven, ueChoose, ueOther, ueAddress, ueChooses}
 use Rattle.rules.specs.Sound.{inPool, unitFamilies, agree}
 use Rattle.rules.specs.Message.{establishment, setDeletion, kindOf, headerSeid, Spot, frameFault}
-use Rattle.rules.specs.Reading.{readFault, readRequest, Fault, NewPdr, NewEndpoint, Change, Request}
+use Rattle.rules.specs.Reading.{readFault, readRequest, Fault}
+use Rattle.rules.specs.Request.{NewPdr, NewEndpoint, Change, Request}
 use Rattle.rules.specs.Grants.{need}
 use Rattle.rules.specs.Causes as why
 

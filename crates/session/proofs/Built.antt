@@ -13,14 +13,14 @@ use Rattle.octets.specs.Lists.{anyIn, hasRepeat, all, any, keep, insertBy, inse
 use Rattle.octets.proofs.Ordered.{keep-passes}
 use Rattle.rules.specs.Model.{Pdr, Endpoint, Csid, Session, pdrId, endpointId, nodeTypeOf}
 use Rattle.rules.specs.Elements.{Fqcsid, sets, removal}
-use Rattle.rules.specs.Reading.{cleared, changed}
+use Rattle.rules.specs.Request.{cleared, changed}
 use Rattle.rules.specs.Grants.{Kind, Got}
 use Rattle.rules.specs.Stages.{removedPdrs}
 use Rattle.rules.specs.Apply.{createPdr, createEndpoint, updateAll, otherNode, setCsid, setCsids, followCsids, keptPdr, keptEndpoint, pdrsAfter, endpointsAfter, apply}
 use Rattle.plan.specs.Rows.{word, hasTag, tagged, rowEndpointId, rowPdr, rowEndpoint, rowChange, rowAddress, rowCsid, isNullRow, requestIn}
 use Rattle.rules.specs.Types as ie
 use Rattle.plan.specs.Words as its
-use Rattle.slots.proofs.Places.{otherThan}
+use Rattle.areas.proofs.Places.{otherThan}
 use Rattle.session.specs.Build.{withoutPdrs, passed, built}
 use Rattle.session.proofs.RowRecords.{pdrOf, endpointOf, csidOf}
 use Rattle.session.proofs.Slot.{Slot}

@@ -13,7 +13,7 @@ use Rattle.octets.specs.Lists.{member, anyIn, hasRepeat, ascending, all, keep, 
 use Rattle.octets.proofs.Tests.{and-left, all-tail, pick-either, neither-one, no-eqb, ascending-head, ascending-tail}
 use Rattle.octets.proofs.Ordered.{ne-of, insert-length, keep-length}
 use Rattle.octets.proofs.Bools.{not-or}
-use Rattle.slots.proofs.Places.{otherThan}
+use Rattle.areas.proofs.Places.{otherThan}
 
 -- ---- taking out
 

@@ -5,3 +5,5 @@ pub mod Slot
 pub mod InTurn
 pub mod Passes
 pub mod Built
+pub mod SavedSteps
+pub mod Saved

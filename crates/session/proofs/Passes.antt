@@ -18,14 +18,14 @@ use Rattle.plan.specs.Rows.{word, hasTag, tagged, rowEndpointId, rowPdr, rowEnd
 use Rattle.rules.specs.Apply.{createPdr, createEndpoint, orOld, updatePdr, updateAll}
 use Rattle.rules.specs.Types as ie
 use Rattle.plan.specs.Words as its
-use Rattle.slots.specs.Records.{lookup}
-use Rattle.slots.specs.declared.Place.{Place}
-use Rattle.slots.specs.declared.Place.the-variants.{Found, Absent}
-use Rattle.slots.proofs.Places.{otherThan, found-within, found-record, absent-record}
+use Rattle.areas.specs.Records.{lookup}
+use Rattle.areas.specs.declared.Lookup.{Lookup}
+use Rattle.areas.specs.declared.Lookup.the-variants.{Found, Absent}
+use Rattle.areas.proofs.Places.{otherThan, found-within, found-record, absent-record}
 use Rattle.areas.specs.Counted.{areaIn, replacedIn, atPlace, withRecord, withoutRecord, clearedIn}
 use Rattle.areas.proofs.Held.{place-held, record-held, with-passes, with-up, with-held, without-held, cleared-held, changed-held}
 use Rattle.session.specs.Areas.{pdrArea, endpointArea, csidArea}
-use Rattle.session.specs.Records.{ifIs, placeKind, csidRecord, updatedRecord}
+use Rattle.session.specs.Records.{ifIs, rowMatch, csidRecord, updatedRecord}
 use Rattle.session.specs.Build.{withoutPdrs, updatedAt, updatedPdr, followedCsid, rowApplied, passed}
 use Rattle.session.proofs.Steps.{row-130, row-127, row-1, row-9, row-65}
 use Rattle.session.proofs.RowRecords.{pdrOf, pdr-record, endpointOf, endpoint-record, csidOf, csid-record}
@@ -90,7 +90,7 @@ unfoldable pub endpointRow : List ℕ → Bool
 endpointRow row = hasTag ie.createEndpoint row && ltb (word its.endpointId row) 256
 
 unfoldable pub pdrRow : List ℕ → Bool
-pdrRow row = hasTag ie.createPdr row && (ltb (word its.pdrId row) 65536 && (ltb (word its.source row) 256 && ltb (ifIs (placeKind row) 2 (word its.endpointId row)) 256))
+pdrRow row = hasTag ie.createPdr row && (ltb (word its.pdrId row) 65536 && (ltb (word its.source row) 256 && ltb (ifIs (rowMatch row) 2 (word its.endpointId row)) 256))
 
 pub endpoints-in : (qs : List (List ℕ)) → T (all endpointRow qs) → {x : Session} {s : List ℕ} → length (x .endpoints) + length qs ≤ 8 → Slot x s
     → Slot (setEndpoints x (putIn endpointId (map endpointOf qs) (x .endpoints))) (applied qs s)
@@ -114,9 +114,9 @@ unfolding applied putIn pdrRow
 pdrs-in [] t room h = h
 pdrs-in (row ∷ qs) t {x} {s} room h =
     let q = all-head pdrRow row qs t in
-    let tag = tag-is ie.createPdr row (and-left (hasTag ie.createPdr row) (ltb (word its.pdrId row) 65536 && (ltb (word its.source row) 256 && ltb (ifIs (placeKind row) 2 (word its.endpointId row)) 256)) q) in
-    let k = and-right (hasTag ie.createPdr row) (ltb (word its.pdrId row) 65536 && (ltb (word its.source row) 256 && ltb (ifIs (placeKind row) 2 (word its.endpointId row)) 256)) q in
-    let kid = and-left (ltb (word its.pdrId row) 65536) (ltb (word its.source row) 256 && ltb (ifIs (placeKind row) 2 (word its.endpointId row)) 256) k in
+    let tag = tag-is ie.createPdr row (and-left (hasTag ie.createPdr row) (ltb (word its.pdrId row) 65536 && (ltb (word its.source row) 256 && ltb (ifIs (rowMatch row) 2 (word its.endpointId row)) 256)) q) in
+    let k = and-right (hasTag ie.createPdr row) (ltb (word its.pdrId row) 65536 && (ltb (word its.source row) 256 && ltb (ifIs (rowMatch row) 2 (word its.endpointId row)) 256)) q in
+    let kid = and-left (ltb (word its.pdrId row) 65536) (ltb (word its.source row) 256 && ltb (ifIs (rowMatch row) 2 (word its.endpointId row)) 256) k in
     let p = pdrOf row in
     let long = put-long pdrId p (x .pdrs) in
     let fits : T (pdrFits p) = unfold pdrOf createPdr rowPdr in kid in
@@ -149,7 +149,7 @@ update-id : (row : List ℕ) (p : Pdr) → pdrId (updatePdr (rowChange row) p) �
 unfolding updatePdr
 update-id row p = go (eqb (p .id) (rowChange row .id))
   where
-    go : (b : Bool) → pdrId (pick {X = Pdr} b (record { id = p .id; precedence = orOld (p .precedence) (rowChange row .precedence); far = orOld (p .far) (rowChange row .far); source = p .source; place = p .place; address = p .address }) p) ≡ p .id
+    go : (b : Bool) → pdrId (pick {X = Pdr} b (record { id = p .id; precedence = orOld (p .precedence) (rowChange row .precedence); far = orOld (p .far) (rowChange row .far); source = p .source; match = p .match; address = p .address }) p) ≡ p .id
     go true = refl
     go false = refl
 
@@ -170,16 +170,16 @@ updated-by row n s v e = ap (λ (u : List ℕ). replacedIn pdrArea n u s) e
 one-update : (row : List ℕ) {x : Session} {s : List ℕ} → Slot x s → Slot (setPdrs x (map (updatePdr (rowChange row)) (x .pdrs))) (updatedPdr row s)
 unfolding updatedPdr
 one-update row {x} {s} h =
-    subst (λ (q : Place). Slot (setPdrs x (map (updatePdr (rowChange row)) (x .pdrs))) (atPlace q (λ p. updatedAt row p s) (λ p. s)))
+    subst (λ (q : Lookup). Slot (setPdrs x (map (updatePdr (rowChange row)) (x .pdrs))) (atPlace q (λ p. updatedAt row p s) (λ p. s)))
     (sym (place-held pdrOctets pdrId pdrArea pdrFits pdr-good k (word its.pdrId row))) (go (lookup (word its.pdrId row) (map pdrId (x .pdrs))) refl)
   where
     k : HeldPdrs (pdrPre (x .seid) (x .pdrs) (x .endpoints) (x .csids)) (pdrMid (x .seid) (x .pdrs) (x .endpoints) (x .csids)) (pdrPost (x .seid) (x .pdrs) (x .endpoints) (x .csids)) (x .pdrs) s
     k = held-pdrs h
 
     d : Pdr
-    d = record { id = 0; precedence = 0; far = none; source = 0; place = neither; address = none }
+    d = record { id = 0; precedence = 0; far = none; source = 0; match = neither; address = none }
 
-    go : (q : Place) → lookup (word its.pdrId row) (map pdrId (x .pdrs)) ≡ q → Slot (setPdrs x (map (updatePdr (rowChange row)) (x .pdrs))) (atPlace q (λ p. updatedAt row p s) (λ p. s))
+    go : (q : Lookup) → lookup (word its.pdrId row) (map pdrId (x .pdrs)) ≡ q → Slot (setPdrs x (map (updatePdr (rowChange row)) (x .pdrs))) (atPlace q (λ p. updatedAt row p s) (λ p. s))
     go (Found n) e =
         let r : Pdr = getD (x .pdrs) n d in
         let own : T (eqb (pdrId r) (word its.pdrId row)) = find-some (λ p. eqb (pdrId p) (word its.pdrId row)) (x .pdrs) r (found-record pdrId (word its.pdrId row) n (x .pdrs) d e) in

@@ -15,14 +15,14 @@ use Rattle.octets.specs.Octets.{be, number, bit}
 use Rattle.octets.specs.Fields.{fieldOctets}
 use Rattle.octets.proofs.Numbers.{bytes-be}
 use Rattle.octets.proofs.Digits.{be-back, octets-append, take-octets, drop-octets}
-use Rattle.rules.specs.Model.{Tunnel, Place, Pdr, Endpoint, Csid}
+use Rattle.rules.specs.Model.{Tunnel, Match, Pdr, Endpoint, Csid}
 use Rattle.rules.specs.Elements.{given, choose, ueGiven, ueChoose, ueOther}
 use Rattle.rules.specs.Layout.{families, pdrWidths, endpointWidths, matchKind, matchTeid, matchFamilies, matchEndpoint, pdrNumbers, endpointNumbers, csidSlotWidths, csidSlotNumbers, pdrOctets, endpointOctets, csidOctets}
 use Rattle.rules.specs.Grants.{Kind, Got}
-use Rattle.rules.specs.Apply.{tunnelFrom, namedPlace, placeFrom, addressGot, addressFrom, createPdr, createEndpoint}
+use Rattle.rules.specs.Apply.{tunnelFrom, namedMatch, matchFrom, addressGot, addressFrom, createPdr, createEndpoint}
 use Rattle.plan.specs.Rows.{word, present, fteidFrom, rowFteid, rowLocal, ueFrom, rowUe, rowPdr, rowEndpoint, rowAddress}
 use Rattle.plan.specs.Words as its
-use Rattle.session.specs.Records.{ifIs, addressThere, placeKind, pdrValues, pdrRecord, endpointValues, endpointRecord, csidWidths, csidValues, csidRecord}
+use Rattle.session.specs.Records.{ifIs, addressThere, rowMatch, pdrValues, pdrRecord, endpointValues, endpointRecord, csidWidths, csidValues, csidRecord}
 
 -- ---- tunnels
 
@@ -78,20 +78,20 @@ far-numbers there v rest = go (eqb there 1)
     go true = refl
     go false = refl
 
-place-numbers : (row rest : List ℕ)
-    → let l = placeFrom (word its.teid row) (rowLocal row) (present (word its.hasEndpointId row) (word its.endpointId row)) in
-    placeKind row ∷ ifIs (placeKind row) 1 (word its.teid row) ∷ ifIs (placeKind row) 1 (word its.flags row % 4) ∷ ifIs (placeKind row) 2 (word its.endpointId row) ∷ rest
+match-numbers : (row rest : List ℕ)
+    → let l = matchFrom (word its.teid row) (rowLocal row) (present (word its.hasEndpointId row) (word its.endpointId row)) in
+    rowMatch row ∷ ifIs (rowMatch row) 1 (word its.teid row) ∷ ifIs (rowMatch row) 1 (word its.flags row % 4) ∷ ifIs (rowMatch row) 2 (word its.endpointId row) ∷ rest
     ≡ matchKind l ∷ matchTeid l ∷ matchFamilies l ∷ matchEndpoint l ∷ rest
-unfolding placeKind rowLocal present ifIs
-place-numbers row rest = go (eqb (word its.flags row) 0) (eqb (word its.hasEndpointId row) 1)
+unfolding rowMatch rowLocal present ifIs
+match-numbers row rest = go (eqb (word its.flags row) 0) (eqb (word its.hasEndpointId row) 1)
   where
     go : (none? ep : Bool)
         → let k : ℕ = pick none? (pick ep 2 0) 1 in
-        let l = placeFrom (word its.teid row) (pick none? none (some (rowFteid row))) (pick ep (some (word its.endpointId row)) none) in
+        let l = matchFrom (word its.teid row) (pick none? none (some (rowFteid row))) (pick ep (some (word its.endpointId row)) none) in
         k ∷ pick (eqb k 1) (word its.teid row) 0 ∷ pick (eqb k 1) (word its.flags row % 4) 0 ∷ pick (eqb k 2) (word its.endpointId row) 0 ∷ rest ≡ matchKind l ∷ matchTeid l ∷ matchFamilies l ∷ matchEndpoint l ∷ rest
-    go true true = unfold placeFrom namedPlace matchKind matchTeid matchFamilies matchEndpoint in refl
-    go true false = unfold placeFrom namedPlace matchKind matchTeid matchFamilies matchEndpoint in refl
-    go false ep = let e = tunnel-octets row in unfold placeFrom matchKind matchTeid matchFamilies matchEndpoint rowTunnel in (rw (e .1, e .0))
+    go true true = unfold matchFrom namedMatch matchKind matchTeid matchFamilies matchEndpoint in refl
+    go true false = unfold matchFrom namedMatch matchKind matchTeid matchFamilies matchEndpoint in refl
+    go false ep = let e = tunnel-octets row in unfold matchFrom matchKind matchTeid matchFamilies matchEndpoint rowTunnel in (rw (e .1, e .0))
 
 -- ---- addresses
 
@@ -120,10 +120,10 @@ unfolding pdrRecord pdrValues pdrOctets pdrNumbers pdrOf createPdr rowPdr
 pdr-record row =
     ap (λ (l : List ℕ). fieldOctets pdrWidths (word its.pdrId row ∷ word its.precedence row ∷ l))
     (far-numbers (word its.hasFarId row) (word its.farId row) _
-    ∙ ap (λ (l : List ℕ). flag (isSome (present (word its.hasFarId row) (word its.farId row))) ∷ valueOr 0 (present (word its.hasFarId row) (word its.farId row)) ∷ word its.source row ∷ l) (place-numbers row _ ∙ ap (λ (l : List ℕ). matchKind place ∷ matchTeid place ∷ matchFamilies place ∷ matchEndpoint place ∷ l) (address-numbers row)))
+    ∙ ap (λ (l : List ℕ). flag (isSome (present (word its.hasFarId row) (word its.farId row))) ∷ valueOr 0 (present (word its.hasFarId row) (word its.farId row)) ∷ word its.source row ∷ l) (match-numbers row _ ∙ ap (λ (l : List ℕ). matchKind matched ∷ matchTeid matched ∷ matchFamilies matched ∷ matchEndpoint matched ∷ l) (address-numbers row)))
   where
-    place : Place
-    place = placeFrom (word its.teid row) (rowLocal row) (present (word its.hasEndpointId row) (word its.endpointId row))
+    matched : Match
+    matched = matchFrom (word its.teid row) (rowLocal row) (present (word its.hasEndpointId row) (word its.endpointId row))
 
 -- ---- endpoint
 

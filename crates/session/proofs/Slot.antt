@@ -18,7 +18,7 @@ use Rattle.rules.specs.Model.{Pdr, Endpoint, Csid, Session, pdrId, endpointId, 
 use Rattle.rules.specs.Layout.{area, pdrNumbers, endpointNumbers, csidSlotNumbers, pdrWidth, endpointWidth, csidWidth, pdrOctets, endpointOctets, csidOctets, sessionOctets}
 use Rattle.rules.specs.Limits.{maxPdrs, maxEndpoints, nodeTypes}
 use Rattle.laws.proofs.LayoutLaws.{length-pdr, length-endpoint, length-csid}
-use Rattle.slots.specs.Records.{keyOf}
+use Rattle.areas.specs.Records.{keyOf}
 use Rattle.areas.proofs.Held.{Held}
 use Rattle.session.specs.Areas.{pdrArea, endpointArea, csidArea}
 

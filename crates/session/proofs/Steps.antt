@@ -21,14 +21,14 @@ use Rattle.rules.specs.Types as ie
 use Rattle.rules.specs.Layout.{pdrWidths, endpointWidths, pdrWidth, endpointWidth, csidWidth, pdrsAt, sessionWidth}
 use Rattle.rules.specs.Limits.{maxPdrs}
 use Rattle.plan.specs.Words as its
-use Rattle.slots.specs.declared.Place.{Place}
-use Rattle.slots.specs.declared.Place.the-variants.{Found, Absent}
-use Rattle.slots.proofs.Lookup.{getD-slices}
+use Rattle.areas.specs.declared.Lookup.{Lookup}
+use Rattle.areas.specs.declared.Lookup.the-variants.{Found, Absent}
+use Rattle.areas.proofs.LookupLaws.{getD-slices}
 use Rattle.areas.specs.declared.Area.{Area}
 use Rattle.areas.specs.Counted.{Fits, areaIn, placeIn, replacedIn, clearedIn, withRecord, withoutRecord}
 use Rattle.areas.proofs.Steps.{found-room}
 use Rattle.session.specs.Areas.{pdrArea, endpointArea, csidArea}
-use Rattle.session.specs.Records.{ifIs, addressThere, placeKind, pdrValues, pdrRecord, endpointValues, endpointRecord, csidWidths, csidValues, csidRecord, withPrecedence, withFar, updatedRecord}
+use Rattle.session.specs.Records.{ifIs, addressThere, rowMatch, pdrValues, pdrRecord, endpointValues, endpointRecord, csidWidths, csidValues, csidRecord, withPrecedence, withFar, updatedRecord}
 use Rattle.session.specs.Build.{withoutPdrs, updatedAt, updatedPdr, followedCsid, rowApplied, passed, built}
 
 -- ---- the areas fit a slot
@@ -61,7 +61,7 @@ pub written-whole : (ws vs s out : List ℕ) → length vs ≡ length ws → wid
 written-whole ws vs s out e w q = q ∙ put-whole (fieldOctets ws vs) s (length-fieldOctets ws vs e ∙ w)
 
 pub pdr-written : (row s out : List ℕ) (there far kind teid families endpoint held address : ℕ) → pdrWidth ≡ length s
-    → kind ≡ placeKind row → there ≡ ifIs (word its.hasFarId row) 1 1 → far ≡ ifIs (word its.hasFarId row) 1 (word its.farId row) → teid ≡ ifIs kind 1 (word its.teid row)
+    → kind ≡ rowMatch row → there ≡ ifIs (word its.hasFarId row) 1 1 → far ≡ ifIs (word its.hasFarId row) 1 (word its.farId row) → teid ≡ ifIs kind 1 (word its.teid row)
     → families ≡ ifIs kind 1 (word its.flags row % 4) → endpoint ≡ ifIs kind 2 (word its.endpointId row)
     → held ≡ addressThere row → address ≡ ifIs held 1 (word its.ueAddress row)
     → out ≡ put 0 (fieldOctets pdrWidths (word its.pdrId row ∷ word its.precedence row ∷ there ∷ far ∷ word its.source row ∷ kind ∷ teid ∷ families ∷ endpoint ∷ held ∷ address ∷ [])) s
@@ -137,16 +137,16 @@ updated-at row s fresh rec mid new done p end a long less ea lf ee er em en ed =
     let whole : rec ≡ part (11 + p * pdrWidth) pdrWidth s = er ∙ rw e (put-whole (part (11 + p * pdrWidth) pdrWidth s) fresh (length-part (11 + p * pdrWidth) pdrWidth s (omega arith) ∙ sym lf)) in
     ed ∙ rw (ea, en, em, whole, ← part-part pdrsAt (maxPdrs * pdrWidth) (p * pdrWidth) pdrWidth s (omega arith))
 
-pub update-place : (row s : List ℕ) (a : Area) (place : Place) (p : ℕ) → a ≡ pdrArea → place ≡ placeIn a (word its.pdrId row) s → place ≡ Found p → p < 16
+pub update-place : (row s : List ℕ) (a : Area) (place : Lookup) (p : ℕ) → a ≡ pdrArea → place ≡ placeIn a (word its.pdrId row) s → place ≡ Found p → p < 16
 update-place row s a place p ea e f =
     let h = found-room pdrArea s (word its.pdrId row) p (rw ea at (sym e ∙ f)) in
     omega (arith, h .0, h .1)
 
-pub update-found : (row s done : List ℕ) (a : Area) (place : Place) (p : ℕ) → a ≡ pdrArea → place ≡ placeIn a (word its.pdrId row) s → place ≡ Found p → done ≡ updatedAt row p s → done ≡ updatedPdr row s
+pub update-found : (row s done : List ℕ) (a : Area) (place : Lookup) (p : ℕ) → a ≡ pdrArea → place ≡ placeIn a (word its.pdrId row) s → place ≡ Found p → done ≡ updatedAt row p s → done ≡ updatedPdr row s
 unfolding updatedPdr
 update-found row s done a place p ea e f d = d ∙ rw (← ea, ← e, f)
 
-pub update-none : (row s : List ℕ) (a : Area) (place : Place) (p : ℕ) → a ≡ pdrArea → place ≡ placeIn a (word its.pdrId row) s → place ≡ Absent p → s ≡ updatedPdr row s
+pub update-none : (row s : List ℕ) (a : Area) (place : Lookup) (p : ℕ) → a ≡ pdrArea → place ≡ placeIn a (word its.pdrId row) s → place ≡ Absent p → s ≡ updatedPdr row s
 unfolding updatedPdr
 update-none row s a place p ea e f = rw (← ea, ← e, f)
 

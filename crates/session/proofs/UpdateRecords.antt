@@ -15,7 +15,7 @@ use Rattle.octets.specs.Fields.{widthOf}
 use Rattle.octets.proofs.Put.{put-put}
 use Rattle.octets.proofs.Numbers.{length-be}
 use Rattle.octets.proofs.FieldLaws.{put-field}
-use Rattle.rules.specs.Model.{Pdr, Place}
+use Rattle.rules.specs.Model.{Pdr, Match}
 use Rattle.rules.specs.Layout.{pdrWidths, pdrNumbers, pdrOctets, pdrWidth}
 use Rattle.laws.proofs.LayoutLaws.{length-pdr}
 use Rattle.rules.specs.Apply.{orOld}
@@ -26,24 +26,24 @@ use Rattle.session.specs.Records.{withPrecedence, withFar, updatedRecord
 -- a PDR with what a row names replaced
 unfoldable pub changed : List ℕ → Pdr → Pdr
 changed row p =
-    record { id = p .id; precedence = orOld (p .precedence) (rowChange row .precedence); far = orOld (p .far) (rowChange row .far); source = p .source; place = p .place; address = p .address }
+    record { id = p .id; precedence = orOld (p .precedence) (rowChange row .precedence); far = orOld (p .far) (rowChange row .far); source = p .source; match = p .match; address = p .address }
 
 -- the octets of a PDR by its fields
-pdr-fields : ℕ → ℕ → Option ℕ → ℕ → Place → Option ℕ → Pdr
-pdr-fields i n f s q u = record { id = i; precedence = n; far = f; source = s; place = q; address = u }
+pdr-fields : ℕ → ℕ → Option ℕ → ℕ → Match → Option ℕ → Pdr
+pdr-fields i n f s q u = record { id = i; precedence = n; far = f; source = s; match = q; address = u }
 
-put-precedence : (i n m : ℕ) (f : Option ℕ) (s : ℕ) (q : Place) (u : Option ℕ) → put 2 (be 4 m) (pdrOctets (pdr-fields i n f s q u)) ≡ pdrOctets (pdr-fields i m f s q u)
+put-precedence : (i n m : ℕ) (f : Option ℕ) (s : ℕ) (q : Match) (u : Option ℕ) → put 2 (be 4 m) (pdrOctets (pdr-fields i n f s q u)) ≡ pdrOctets (pdr-fields i m f s q u)
 unfolding pdrOctets pdrNumbers pdr-fields
 put-precedence i n m f s q u = put-field 1 pdrWidths (pdrNumbers (pdr-fields i n f s q u)) m (lit< tt) refl
 
 -- a FAR ID is two fields
-put-far : (i n : ℕ) (f g : Option ℕ) (s : ℕ) (q : Place) (u : Option ℕ) → put 7 (be 4 (valueOr 0 g)) (put 6 (be 1 (flag (isSome g))) (pdrOctets (pdr-fields i n f s q u))) ≡ pdrOctets (pdr-fields i n g s q u)
+put-far : (i n : ℕ) (f g : Option ℕ) (s : ℕ) (q : Match) (u : Option ℕ) → put 7 (be 4 (valueOr 0 g)) (put 6 (be 1 (flag (isSome g))) (pdrOctets (pdr-fields i n f s q u))) ≡ pdrOctets (pdr-fields i n g s q u)
 unfolding pdrOctets pdrNumbers pdr-fields
 put-far i n f g s q u =
     ap (put 7 (be 4 (valueOr 0 g))) (put-field 2 pdrWidths (pdrNumbers (pdr-fields i n f s q u)) (flag (isSome g)) (lit< tt) refl)
     ∙ put-field 3 pdrWidths (set (pdrNumbers (pdr-fields i n f s q u)) 2 (flag (isSome g))) (valueOr 0 g) (lit< tt) refl
 
-precedence-changed : (row : List ℕ) (i n : ℕ) (f : Option ℕ) (s : ℕ) (q : Place) (u : Option ℕ)
+precedence-changed : (row : List ℕ) (i n : ℕ) (f : Option ℕ) (s : ℕ) (q : Match) (u : Option ℕ)
     → withPrecedence row (pdrOctets (pdr-fields i n f s q u)) ≡ pdrOctets (pdr-fields i (orOld n (rowChange row .precedence)) f s q u)
 unfolding withPrecedence rowChange present
 precedence-changed row i n f s q u = go (eqb (word its.hasPrecedence row) 1)
@@ -63,7 +63,7 @@ far-none t h =
     let e : zeros 5 ≡ be 1 0 ++ be 4 0 = unfold be zeros in refl in
     ap (λ (l : List ℕ). put 6 l t) e ∙ sym (put-put 6 1 (be 1 0) (be 4 0) t (length-be 1 0) h)
 
-far-changed : (row : List ℕ) (i n : ℕ) (f : Option ℕ) (s : ℕ) (q : Place) (u : Option ℕ)
+far-changed : (row : List ℕ) (i n : ℕ) (f : Option ℕ) (s : ℕ) (q : Match) (u : Option ℕ)
     → withFar row (pdrOctets (pdr-fields i n f s q u)) ≡ pdrOctets (pdr-fields i n (orOld f (rowChange row .far)) s q u)
 unfolding withFar rowChange rowFar
 far-changed row i n f s q u = go (eqb (word its.hasFarId row) 1) (eqb (word its.hasFarId row) 2) (not-both (word its.hasFarId row))
@@ -82,5 +82,5 @@ far-changed row i n f s q u = go (eqb (word its.hasFarId row) 1) (eqb (word its.
 pub record-changed : (row : List ℕ) (p : Pdr) → updatedRecord row (pdrOctets p) ≡ pdrOctets (changed row p)
 unfolding updatedRecord changed pdr-fields
 record-changed row p =
-    ap (withFar row) (precedence-changed row (p .id) (p .precedence) (p .far) (p .source) (p .place) (p .address))
-    ∙ far-changed row (p .id) (orOld (p .precedence) (rowChange row .precedence)) (p .far) (p .source) (p .place) (p .address)
+    ap (withFar row) (precedence-changed row (p .id) (p .precedence) (p .far) (p .source) (p .match) (p .address))
+    ∙ far-changed row (p .id) (orOld (p .precedence) (rowChange row .precedence)) (p .far) (p .source) (p .match) (p .address)

@@ -22,8 +22,8 @@ addressThere row = pick (eqb (word its.ueKind row) 1) 1 (pick (eqb (word its.ueK
 -- ---- PDR
 
 -- 0 neither, 1 a local F-TEID, 2 an endpoint ID
-unfoldable pub placeKind : List ℕ → ℕ
-placeKind row = pick (eqb (word its.flags row) 0) (pick (eqb (word its.hasEndpointId row) 1) 2 0) 1
+unfoldable pub rowMatch : List ℕ → ℕ
+rowMatch row = pick (eqb (word its.flags row) 0) (pick (eqb (word its.hasEndpointId row) 1) 2 0) 1
 
 unfoldable pub pdrValues : List ℕ → List ℕ
 pdrValues row =
@@ -32,10 +32,10 @@ pdrValues row =
     ∷ ifIs (word its.hasFarId row) 1 1
     ∷ ifIs (word its.hasFarId row) 1 (word its.farId row)
     ∷ word its.source row
-    ∷ placeKind row
-    ∷ ifIs (placeKind row) 1 (word its.teid row)
-    ∷ ifIs (placeKind row) 1 (word its.flags row % 4)
-    ∷ ifIs (placeKind row) 2 (word its.endpointId row)
+    ∷ rowMatch row
+    ∷ ifIs (rowMatch row) 1 (word its.teid row)
+    ∷ ifIs (rowMatch row) 1 (word its.flags row % 4)
+    ∷ ifIs (rowMatch row) 2 (word its.endpointId row)
     ∷ addressThere row
     ∷ ifIs (addressThere row) 1 (word its.ueAddress row)
     ∷ []

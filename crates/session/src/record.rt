@@ -2,7 +2,7 @@
 use format::words;
 ghost use mathlib.Core.Path.{_≡_};
 ghost use lib.ListN.{length};
-ghost use Rattle.session.specs.Records.{ifIs, addressThere, placeKind, pdrRecord, endpointRecord, csidRecord, withPrecedence, withFar};
+ghost use Rattle.session.specs.Records.{ifIs, addressThere, rowMatch, pdrRecord, endpointRecord, csidRecord, withPrecedence, withFar};
 ghost use Rattle.rules.specs.Layout.{pdrWidth};
 ghost use Rattle.plan.specs.Rows.{rowWidth};
 
@@ -17,9 +17,9 @@ fn if_is(there: u64, n: u64, v: u64) -> u64
 }
 
 // What a PDR matches on: 0 neither, 1 a local F-TEID, 2 an endpoint.
-fn place_kind(row: &[u64]) -> u64
+fn match_kind(row: &[u64]) -> u64
     requires { ⌜ length (now row) ≡ rowWidth ⌝ }
-    ensures { λ r. ⌜ r ≡ placeKind (now (row .entry)) ⌝ }
+    ensures { λ r. ⌜ r ≡ rowMatch (now (row .entry)) ⌝ }
 {
     if row[words::FLAGS] == 0 {
         if row[words::HAS_ENDPOINT_ID] == 1 {
@@ -49,7 +49,7 @@ pub fn pdr(row: &[u64]) -> [u8; format::PDR]
     requires { ⌜ length (now row) ≡ rowWidth ⌝ }
     ensures { λ r. ⌜ r ≡ pdrRecord (now (row .entry)) ⌝ }
 {
-    let kind = place_kind(row);
+    let kind = match_kind(row);
     let there = address_there(row);
     let ws = [2usize, 4, 1, 4, 1, 1, 4, 1, 1, 1, 4];
     let vs = [

@@ -24,16 +24,16 @@ use Rattle.rules.specs.Stages.{hasSeid, newSession}
 use Rattle.rules.specs.Apply.{coversSession, goesSession, staysSession, otherSession, removeSession}
 use Rattle.laws.proofs.LayoutLaws.{session-back, limit-read}
 use Rattle.laws.proofs.TableLaws.{sessions-back, encoded-settings, sound-encode}
-use Rattle.claim.proofs.KeptRules.{session-kept, sessions-kept}
-use Rattle.claim.proofs.After.{keep-allowed, remove-allowed}
-use Rattle.claim.proofs.ServeLaws.{table-kept}
-use Rattle.slots.specs.Records.{keyOf, lookupFrom, lookup}
-use Rattle.slots.specs.declared.Place.the-variants.{Found}
-use Rattle.slots.proofs.Places.{removeAt, remove-found}
+use Rattle.invariants.proofs.KeptRules.{session-kept, sessions-kept}
+use Rattle.invariants.proofs.After.{keep-allowed, remove-allowed}
+use Rattle.invariants.proofs.ServeLaws.{table-kept}
+use Rattle.areas.specs.Records.{keyOf, lookupFrom, lookup}
+use Rattle.areas.specs.declared.Lookup.the-variants.{Found}
+use Rattle.areas.proofs.Places.{removeAt, remove-found}
 use Rattle.areas.specs.Counted.{countIn, withoutRecord, areaIn}
 use Rattle.session.specs.Areas.{tableArea}
-use Rattle.store.proofs.Stored.{good, sessions-counted, session-at, session-removed}
-use Rattle.elements.proofs.Front.{Front, behind}
+use Rattle.session.proofs.Saved.{good, sessions-counted, session-at, session-removed}
+use Rattle.frame.proofs.Front.{Front, behind}
 use Rattle.sets.specs.Listed.{blank, gotten, listedIn, listsIn, Sized, slotAt, afterOne, Sound}
 use Rattle.sets.proofs.ListLaws.{rest-fine, listed-sized, lists-more}
 use Rattle.octets.proofs.Put.{length-part}

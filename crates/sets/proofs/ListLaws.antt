@@ -29,7 +29,7 @@ use Rattle.reading.specs.Verdicts.{numbered, outcome}
 use Rattle.reading.specs.declared.Verdict.{Verdict}
 use Rattle.reading.specs.declared.Verdict.the-variants.{Fine, Refused}
 use Rattle.sets.specs.Listed.{blank, gotten, listStep, listedIn, listsIn, Sized}
-use Rattle.elements.proofs.Front.{Front, behind}
+use Rattle.frame.proofs.Front.{Front, behind}
 
 -- ---- one element
 

@@ -13,7 +13,7 @@ use Rattle.rules.specs.Elements.{Fqcsid, sets, addressLength, csidsAt}
 use Rattle.rules.specs.Reading.{Reading, faulty, done, listedRead}
 use Rattle.rules.specs.Apply.{coversSession}
 use Rattle.rules.specs.Types as ie
-use Rattle.slots.specs.Records.{keyOf}
+use Rattle.areas.specs.Records.{keyOf}
 use Rattle.areas.specs.Counted.{areaIn, withoutRecord}
 use Rattle.session.specs.Areas.{tableArea}
 

@@ -1,8 +1,8 @@
 // Session sets (02 (vii)): the FQ-CSIDs that a Session Set Deletion Request lists, and the sessions that go.
 use element::fqcsid::Answer;
-use elements::First;
 use format::causes;
 use format::types;
+use frame::First;
 use reading::Verdict;
 ghost use mathlib.Core.Path.{_≡_};
 ghost use Prim.Native.Nat.{_+_, _*_, _/_, _≤_, _<_};
@@ -51,7 +51,7 @@ pub fn list_fault(s: &[u8]) -> Verdict
     let mut rest = s;
     let mut at = 8;
     loop {
-        let First::Element(kind, end) = elements::first_of(rest) else {
+        let First::Element(kind, end) = frame::first_of(rest) else {
             return Verdict::Fine;
         };
         let verdict = element_fault(kind, &rest[4..end], at);
@@ -139,7 +139,7 @@ fn remove_one(t: &mut [u8], room: usize, p: usize, v: &[u8])
         return;
     }
     let seid = octets::read(t, format::HEAD + p * format::SLOT, 8);
-    store::remove(t, room, format::COUNT, seid);
+    session::remove(t, room, format::COUNT, seid);
 }
 
 // Takes out every session that the FQ-CSID of value v covers, from the last place to the first, so that no place moves before it is looked at.
@@ -148,7 +148,7 @@ fn remove_covered(t: &mut [u8], v: &[u8])
     ensures { λ _. ⌜ now (t .exit) ≡ encode (viewSettings (now (t .entry))) (keep (staysSession (listedIn (now (v .entry)) ∷ [])) (viewSessions (now (t .entry)))) ⌝ }
 {
     let room = octets::read(t, format::LIMIT, 2) as usize;
-    let mut p = store::count(t, room, format::COUNT);
+    let mut p = session::count(t, room, format::COUNT);
     while 0 < p {
         p -= 1;
         remove_one(t, room, p, v);
@@ -173,7 +173,7 @@ pub fn remove_listed(t: &mut [u8], s: &[u8])
 {
     let mut rest = s;
     loop {
-        let First::Element(kind, end) = elements::first_of(rest) else {
+        let First::Element(kind, end) = frame::first_of(rest) else {
             return;
         };
         remove_by(t, kind, &rest[4..end]);

@@ -10,9 +10,9 @@ use Rattle.octets.specs.Lists.{any}
 use Rattle.octets.proofs.Numbers.{slices-next}
 use Rattle.rules.specs.Model.{Settings}
 use Rattle.plan.specs.Rows.{rowWidth, rowsOf}
-use Rattle.lists.proofs.RowLaws.{rows-none}
-use Rattle.lists.proofs.Loops.{left-part}
-use Rattle.rows.specs.RowRules.{disagree}
+use Rattle.octets.proofs.RowLaws.{rows-none}
+use Rattle.octets.proofs.Loops.{left-part}
+use Rattle.plan.specs.RowRules.{disagree}
 use Rattle.stages.specs.RowRules.{breaksId, breaksFteid, breaksAddress, breaksRow, someRow}
 
 -- the rest of the rows as a loop has it

@@ -11,17 +11,17 @@ use Rattle.octets.specs.Lists.{member, any, allPairs, collect}
 use Rattle.octets.proofs.Tests.{and-left, and-right, of-true}
 use Rattle.rules.specs.Model.{Settings, Session, Sessions, Holding, teidOf, heldTeids, inAddressPool, heldAddresses}
 use Rattle.rules.specs.Elements.{UeIp, ueGiven, ueChoose, ueOther, ueAddress}
-use Rattle.rules.specs.Reading.{Request}
+use Rattle.rules.specs.Request.{Request}
 use Rattle.rules.specs.Sound.{inPool, agree}
 use Rattle.rules.specs.Stages.{removedPdrs, lacksFamily, strange, restoredHoldings, clash, addressesOf, wrongAddress, restoredAddresses, addressClash, requestRules, brokenRules, breaksRule, livePdrs, liveEndpoints}
 use Rattle.plan.specs.Rows.{word, rowUe, requestIn}
 use Rattle.plan.specs.Words as its
 use Rattle.pool.specs.Map.{marked}
-use Rattle.rows.specs.RowRules.{onSome, requestOf, ofFteid, creates, ofAddress, takesAddress, addressIn, rowHolding, restores, heldIn, sameId, otherChoice, otherHold, disagree}
-use Rattle.rows.proofs.ListLaws.{any-ext, any-or, any-keep, any-map, any-collect, any-in, anyPair}
-use Rattle.rows.proofs.RequestLaws.{any-fteids}
-use Rattle.rows.proofs.UeLaws.{any-addresses}
-use Rattle.rows.proofs.TunnelLaws.{held-none, held-some, strange-some}
+use Rattle.plan.specs.RowRules.{onSome, requestOf, ofFteid, creates, ofAddress, takesAddress, addressIn, rowHolding, restores, heldIn, sameId, otherChoice, otherHold, disagree}
+use Rattle.plan.proofs.ListLaws.{any-ext, any-or, any-keep, any-map, any-collect, any-in, anyPair}
+use Rattle.plan.proofs.RequestLaws.{any-fteids}
+use Rattle.plan.proofs.UeLaws.{any-addresses}
+use Rattle.plan.proofs.TunnelLaws.{held-none, held-some, strange-some}
 use Rattle.stages.specs.RowRules.{createsLive, namesDead, updatesGone, pdiNamesBoth, pdiNamesAbsent, breaksId, breaksFteid, breaksAddress, breaksRow, someRow}
 use Rattle.stages.specs.Rules.{clashBy, breaksRuleBy}
 use Rattle.stages.proofs.RuleLaws.{any-ones, pair-ones, twice-rows, created-rows, dead-rows, updates-rows, both-rows, absent-rows, choices-rows, held-rows, shared-rows}

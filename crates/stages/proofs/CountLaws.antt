@@ -16,11 +16,11 @@ use Rattle.rules.specs.Elements.{ueChooses}
 use Rattle.rules.specs.Sound.{inPool}
 use Rattle.laws.proofs.RangeLaws.{unheld-count}
 use Rattle.pool.proofs.AddressLaws.{held-pooled}
-use Rattle.rows.specs.RowRules.{ofUeKind}
-use Rattle.rows.proofs.UeLaws.{choose-rows}
+use Rattle.plan.specs.RowRules.{ofUeKind}
+use Rattle.plan.proofs.UeLaws.{choose-rows}
 use Rattle.rules.specs.Layout.{viewSession, viewSessions, viewArea, viewPdr, viewEndpoint, pdrWidth, endpointWidth, settingsWidth, pdrCountAt, endpointCountAt, pdrsAt, endpointsAt}
 use Rattle.rules.specs.Grants.{need}
-use Rattle.rules.specs.Reading.{Request}
+use Rattle.rules.specs.Request.{Request}
 use Rattle.rules.specs.Stages.{removedPdrs, tooManySessions, tooManyPdrs, tooManyEndpoints, tooFewTeids, noRoom, addressesOf, noAddress}
 use Rattle.plan.specs.Rows.{rowWidth, tagged, hasTag, rowsOf, rowPdr, rowEndpoint, rowEndpointId, requestIn}
 use Rattle.unit.specs.declared.Settings.{Settings as Unit}

@@ -12,16 +12,16 @@ use Rattle.octets.specs.Lists.{keep}
 use Rattle.octets.proofs.Tests.{each}
 use Rattle.octets.proofs.Ordered.{keep-length}
 use Rattle.octets.proofs.Numbers.{length-slices}
-use Rattle.lists.proofs.Loops.{stored}
+use Rattle.octets.proofs.Loops.{stored}
 use Rattle.rules.specs.Limits.{maxPdrs, maxEndpoints, maxPool, mapWords, addressWords}
 use Rattle.rules.specs.Model.{Settings, Session, pdrId, heldTeids, freeCount, heldAddresses, freeAddressCount}
-use Rattle.rules.specs.Reading.{Request}
+use Rattle.rules.specs.Request.{Request}
 use Rattle.rules.specs.Layout.{viewPdr, viewEndpoint, viewArea, viewSession, viewSettings, viewSessions, pdrWidth, endpointWidth, tableLength, sessionWidth, pdrCountAt, endpointCountAt, pdrsAt}
 use Rattle.rules.specs.Sound.{sessionTests, sessionAllowed, poolTests, settingsTests, settingsAllowed, soundTests, sound}
 use Rattle.rules.specs.Stages.{newSession, isLive, goesPdr, removedPdrs}
 use Rattle.rules.specs.Message.{establishment}
 use Rattle.plan.specs.Rows.{rowWidth, rowsOf}
-use Rattle.rows.specs.RowRules.{requestOf}
+use Rattle.plan.specs.RowRules.{requestOf}
 use Rattle.pool.proofs.TakenLaws.{Means}
 use Rattle.pool.proofs.AddressLaws.{addresses-fit}
 use Rattle.stages.specs.Rules.{Slot, Gone, AtEntry}

@@ -8,16 +8,16 @@ use lib.Dec.{eqb}
 use borrow.Author.Tests.{eq-eqb, ne-eqb, eqb-true}
 use Rattle.octets.specs.Choice.{pick, isSome}
 use Rattle.octets.specs.Lists.{member, without}
-use Rattle.lists.specs.Rows.{column}
+use Rattle.octets.specs.Rows.{column}
 use Rattle.rules.specs.Stages.{namesBoth, lacksFamily, strange, wrongAddress}
 use Rattle.plan.specs.Rows.{word, hasTag, present, rowFteid, rowLocal, rowPdr}
-use Rattle.rows.proofs.RowTests.{tag-yes, tag-no}
+use Rattle.plan.proofs.RowTests.{tag-yes, tag-no}
 use Rattle.stages.specs.RowRules.{createsLive, namesDead, updatesGone, pdiNamesBoth, absentFrom, pdiNamesAbsent, breaksId, breaksFteid, breaksAddress}
 use Rattle.rules.specs.Model.{Settings}
 use Rattle.rules.specs.Types as ie
 use Rattle.plan.specs.Words as its
-use Rattle.rows.specs.RowRules.{ofFteid, ofAddress, takesAddress, rowHolding, restores}
-use Rattle.lists.proofs.Questions.{member-append}
+use Rattle.plan.specs.RowRules.{ofFteid, ofAddress, takesAddress, rowHolding, restores}
+use Rattle.octets.proofs.Questions.{member-append}
 
 -- ---- live IDs
 

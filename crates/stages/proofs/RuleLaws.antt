@@ -10,19 +10,19 @@ use lib.ListN.{getD}
 use Rattle.octets.specs.Choice.{pick, oneOf, sameBool, consOption}
 use Rattle.octets.specs.Lists.{member, anyIn, allIn, hasRepeat, any, allPairs, keep, collect, without}
 use Rattle.octets.proofs.ListLaws.{collect-map}
-use Rattle.lists.specs.Rows.{column, wordAt}
+use Rattle.octets.specs.Rows.{column, wordAt}
 use Rattle.rules.specs.Model.{Session, Holding}
-use Rattle.rules.specs.Reading.{NewPdr}
+use Rattle.rules.specs.Request.{NewPdr}
 use Rattle.rules.specs.Sound.{agree, shareTests}
 use Rattle.rules.specs.Stages.{idTwice, createdLive, absentId, removedPdrs, updatesRemoved, namesBoth, namedEndpoint, endpointIdsAfter, namesAbsent, choicesAgree, endpointRestored, pdrRestored, restoredHoldings, livePdrs, liveEndpoints}
 use Rattle.plan.specs.Rows.{word, hasTag, tagged, rowPdr, rowEndpoint, requestIn}
 use Rattle.rules.specs.Types as ie
 use Rattle.plan.specs.Words as its
-use Rattle.rows.specs.RowRules.{onSome, requestOf, rowHolding, repeats, sameId, otherChoice, holdsApart, otherHold}
-use Rattle.rows.proofs.ListLaws.{any-ext, any-or, any-keep, any-map, any-collect, any-in, not-all-in, anyPair, pair-or, not-pairs, pair-keep, pair-map, repeat-pairs}
-use Rattle.rows.proofs.MergeLaws.{merged, any-merge, pair-merge}
-use Rattle.rows.proofs.RequestLaws.{created-pdrs, created-endpoints, updated-pdrs, gone-pdrs, gone-endpoints}
-use Rattle.rows.proofs.PairLaws.{tags-apart}
+use Rattle.plan.specs.RowRules.{onSome, requestOf, rowHolding, repeats, sameId, otherChoice, holdsApart, otherHold}
+use Rattle.plan.proofs.ListLaws.{any-ext, any-or, any-keep, any-map, any-collect, any-in, not-all-in, anyPair, pair-or, not-pairs, pair-keep, pair-map, repeat-pairs}
+use Rattle.plan.proofs.MergeLaws.{merged, any-merge, pair-merge}
+use Rattle.plan.proofs.RequestLaws.{created-pdrs, created-endpoints, updated-pdrs, gone-pdrs, gone-endpoints}
+use Rattle.plan.proofs.PairLaws.{tags-apart}
 use Rattle.stages.proofs.SlotLaws.{removed-rows}
 use Rattle.stages.specs.RowRules.{createsLive, namesDead, updatesGone, pdiNamesBoth, absentFrom, pdiNamesAbsent}
 use Rattle.octets.proofs.Bools.{eqb-turn, and-swap}

@@ -14,18 +14,18 @@ use Rattle.octets.specs.Octets.{number, numberAt, part, octetAt, slices}
 use Rattle.octets.specs.Fields.{fieldsAt}
 use Rattle.octets.specs.Lists.{member, keep}
 use Rattle.octets.proofs.Numbers.{length-slices, slices-next}
-use Rattle.lists.specs.Rows.{column}
-use Rattle.lists.proofs.RowLaws.{rows-none}
-use Rattle.lists.proofs.Loops.{left-part, stored}
-use Rattle.rules.specs.Model.{Pdr, neither, tunnel, endpoint, pdrId, endpointId, pdrEndpoint, placeEndpoint}
-use Rattle.rules.specs.Layout.{tunnelRead, placeRead, pdrFrom, endpointFrom, viewPdr, viewEndpoint, viewArea, viewSession, pdrWidth, endpointWidth, pdrCountAt, endpointCountAt, pdrsAt, endpointsAt}
+use Rattle.octets.specs.Rows.{column}
+use Rattle.octets.proofs.RowLaws.{rows-none}
+use Rattle.octets.proofs.Loops.{left-part, stored}
+use Rattle.rules.specs.Model.{Pdr, neither, tunnel, endpoint, pdrId, endpointId, pdrEndpoint, matchedEndpoint}
+use Rattle.rules.specs.Layout.{tunnelRead, matchRead, pdrFrom, endpointFrom, viewPdr, viewEndpoint, viewArea, viewSession, pdrWidth, endpointWidth, pdrCountAt, endpointCountAt, pdrsAt, endpointsAt}
 use Rattle.laws.proofs.LayoutLaws.{pdr-view}
 use Rattle.rules.specs.Stages.{livePdrs, liveEndpoints, namesOneOf, goesPdr, removedPdrs}
 use Rattle.plan.specs.Rows.{requestIn}
 use Rattle.rules.specs.Types as ie
 use Rattle.plan.specs.Words as its
-use Rattle.rows.specs.RowRules.{requestOf}
-use Rattle.rows.proofs.RequestLaws.{gone-pdrs, gone-endpoints}
+use Rattle.plan.specs.RowRules.{requestOf}
+use Rattle.plan.proofs.RequestLaws.{gone-pdrs, gone-endpoints}
 use Rattle.stages.specs.Rules.{Slot}
 
 -- ---- IDs
@@ -63,12 +63,12 @@ unfolding viewPdr pdrFrom fieldsAt
 id-is pdr = refl
 
 module _ (rows : List (List ℕ)) (pdr : List ℕ) where
-  place-is : pdrEndpoint (viewPdr pdr) ≡ pick (eqb (getD pdr 12 0) 1) none (pick (eqb (getD pdr 12 0) 2) (some (getD pdr 18 0)) none)
-  unfolding pdrEndpoint placeRead placeEndpoint
-  place-is = rw (pdr-view pdr) (one (eqb (getD pdr 12 0) 1) (eqb (getD pdr 12 0) 2))
+  match-is : pdrEndpoint (viewPdr pdr) ≡ pick (eqb (getD pdr 12 0) 1) none (pick (eqb (getD pdr 12 0) 2) (some (getD pdr 18 0)) none)
+  unfolding pdrEndpoint matchRead matchedEndpoint
+  match-is = rw (pdr-view pdr) (one (eqb (getD pdr 12 0) 1) (eqb (getD pdr 12 0) 2))
     where
       one : (a b : Bool)
-          → placeEndpoint (pick a (tunnel (tunnelRead (number (part 13 4 pdr)) (getD pdr 17 0))) (pick b (endpoint (getD pdr 18 0)) neither))
+          → matchedEndpoint (pick a (tunnel (tunnelRead (number (part 13 4 pdr)) (getD pdr 17 0))) (pick b (endpoint (getD pdr 18 0)) neither))
           ≡ pick a none (pick b (some (getD pdr 18 0)) none)
       one true b = refl
       one false true = refl
@@ -87,11 +87,11 @@ module _ (rows : List (List ℕ)) (pdr : List ℕ) where
     module _ (h : member id (column ie.removePdr its.pdrId rows) ≡ false) where
       pub goes-not : (getD pdr 12 0 ≡ 2 → ⊥) → goesPdr (requestOf false rows) (viewPdr pdr) ≡ false
       unfolding namesOneOf
-      goes-not g = goes-is ∙ rw (← e, h, place-is, ne-eqb (getD pdr 12 0) 2 g, none-none (eqb (getD pdr 12 0) 1))
+      goes-not g = goes-is ∙ rw (← e, h, match-is, ne-eqb (getD pdr 12 0) 2 g, none-none (eqb (getD pdr 12 0) 1))
 
       pub goes-along : getD pdr 12 0 ≡ 2 → goesPdr (requestOf false rows) (viewPdr pdr) ≡ member (getD pdr 18 0) (column ie.removeEndpoint its.endpointId rows)
       unfolding namesOneOf
-      goes-along g = goes-is ∙ rw (← e, h, place-is, g)
+      goes-along g = goes-is ∙ rw (← e, h, match-is, g)
 
 -- ---- the IDs of the PDRs that go
 

@@ -8,16 +8,16 @@ use borrow.Author.Tests.{eqb-true}
 use Rattle.octets.specs.Choice.{pick, oneOf, isNil}
 use Rattle.rules.specs.Model.{Settings, Session, Sessions, freeCount, freeAddresses}
 use Rattle.rules.specs.Message.{establishment}
-use Rattle.rules.specs.Reading.{Request}
+use Rattle.rules.specs.Request.{Request}
 use Rattle.rules.specs.Layout.{viewSession, viewSessions}
 use Rattle.rules.specs.Grants.{need}
 use Rattle.rules.specs.Stages.{isLive, goesPdr, removedPdrs, invalidAllocation, breaksRule, tooManySessions, tooManyPdrs, tooManyEndpoints, tooFewTeids, noRoom, noAddress, judge, plain}
 use Rattle.rules.specs.Causes as why
 use Rattle.plan.specs.Rows.{rowsOf, requestIn}
-use Rattle.rows.specs.RowRules.{heldIn, addressIn}
-use Rattle.rows.proofs.RequestLaws.{invalid-rows, unsupported-rows}
-use Rattle.rows.proofs.UeLaws.{choose-rows}
-use Rattle.rows.proofs.NeedLaws.{need-rows}
+use Rattle.plan.specs.RowRules.{heldIn, addressIn}
+use Rattle.plan.proofs.RequestLaws.{invalid-rows, unsupported-rows}
+use Rattle.plan.proofs.UeLaws.{choose-rows}
+use Rattle.plan.proofs.NeedLaws.{need-rows}
 use Rattle.stages.specs.Rules.{AtEntry, breaksRuleBy}
 use Rattle.stages.proofs.CauseLaws.{breaks-by, map-agrees, addresses-agree, rule-rows}
 

@@ -10,9 +10,9 @@ use Rattle.rules.specs.Limits.{maxPdrs, maxEndpoints}
 use Rattle.rules.specs.Layout.{viewSession, viewSessions, headWidth, pdrCountAt, endpointCountAt, sessionWidth}
 use Rattle.rules.specs.Model.{Settings, Session, teidOf, heldTeids, freeCount, heldAddresses, freeAddressCount}
 use Rattle.plan.specs.Rows.{rowWidth, rowsOf}
-use Rattle.rows.specs.RowRules.{requestOf}
+use Rattle.plan.specs.RowRules.{requestOf}
 use Rattle.pool.specs.Map.{marked}
-use Rattle.rules.specs.Reading.{Request}
+use Rattle.rules.specs.Request.{Request}
 use Rattle.rules.specs.Sound.{agree}
 use Rattle.rules.specs.Stages.{isLive, removedPdrs, requestRules, restoredHoldings, restoredAddresses}
 use Rattle.rules.specs.Message.{establishment}

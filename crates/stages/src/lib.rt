@@ -10,7 +10,7 @@ ghost use Rattle.rules.specs.Model.{freeCount, freeAddressCount};
 ghost use Rattle.rules.specs.Layout.{viewSession, viewSessions, headWidth};
 ghost use Rattle.rules.specs.Stages.{tooManySessions, noRoom, noAddress, judge};
 ghost use Rattle.plan.specs.Rows.{rowWidth, rowsOf, tagged, requestIn};
-ghost use Rattle.rows.specs.RowRules.{requestOf, heldIn, addressIn};
+ghost use Rattle.plan.specs.RowRules.{requestOf, heldIn, addressIn};
 ghost use Rattle.unit.specs.Meaning.{settingsOf};
 ghost use Rattle.stages.specs.RowRules.{breaksRow, someRow};
 ghost use Rattle.stages.specs.Rules.{Slot, Gone, AtEntry, breaksRuleBy};
@@ -53,7 +53,7 @@ fn breaks_rows(
         if row::breaks_address(row, u, restoring, addresses) {
             return true;
         }
-        if rows::disagrees(row, rest, left) {
+        if plan::disagrees(row, rest, left) {
             return true;
         }
     }
@@ -104,7 +104,7 @@ fn too_many(live: usize, limit: usize, removed: usize, plan: &[u64], n: usize, n
     requires { ⌜ (live ≤ 255) × (n * rowWidth ≤ length (now plan)) ⌝ }
     ensures { λ r. ⌜ r ≡ ltb limit (live - removed + length (tagged new (rowsOf n (now (plan .entry))))) ⌝ }
 {
-    let created = rows::count(plan, n, new);
+    let created = plan::count(plan, n, new);
     if live < removed {
         return limit < created;
     }
@@ -152,14 +152,14 @@ pub fn no_room(
     if too_many(
         slot[format::ENDPOINT_COUNT] as usize,
         format::MAX_ENDPOINTS,
-        rows::count(plan, n, types::REMOVE_ENDPOINT),
+        plan::count(plan, n, types::REMOVE_ENDPOINT),
         plan,
         n,
         127,
     ) {
         return true;
     }
-    free < rows::need(plan, n)
+    free < plan::need(plan, n)
 }
 
 // Cause 79: a record chooses an address, and none is free at entry.
@@ -170,7 +170,7 @@ fn no_address(t: &[u8], u: Settings, free: usize, plan: &[u64], n: usize) -> boo
     if 0 < free {
         return false;
     }
-    rows::some_address(plan, n, true)
+    plan::some_address(plan, n, true)
 }
 
 // Cause 64: an establishment of a live SEID.
@@ -207,10 +207,10 @@ pub fn judge(
     if already_live(kind, live) {
         return causes::REJECTED;
     }
-    if rows::invalid_allocation(plan, n, restoring) {
+    if plan::invalid_allocation(plan, n, restoring) {
         return causes::WRONG_ALLOCATION;
     }
-    if rows::unsupported(plan, n, noted) {
+    if plan::unsupported(plan, n, noted) {
         return causes::NOT_SUPPORTED;
     }
     if breaks_rule(u, taken, addresses, slot, gone, plan, n, restoring) {

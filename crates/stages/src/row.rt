@@ -7,7 +7,7 @@ ghost use mathlib.Core.Path.{_≡_};
 ghost use Prim.Native.Nat.{_*_, _≤_};
 ghost use lib.ListN.{length};
 ghost use Rattle.plan.specs.Rows.{rowWidth, rowsOf};
-ghost use Rattle.rows.specs.RowRules.{heldIn, addressIn};
+ghost use Rattle.plan.specs.RowRules.{heldIn, addressIn};
 ghost use Rattle.unit.specs.Meaning.{settingsOf};
 ghost use Rattle.stages.specs.RowRules.{createsLive, namesDead, updatesGone, pdiNamesBoth, pdiNamesAbsent, breaksId, breaksFteid, breaksAddress};
 
@@ -17,10 +17,10 @@ fn created_live(row: &[u64], pdrs: &[u64], endpoints: &[u64]) -> bool
     ensures { λ r. ⌜ r ≡ createsLive (now (pdrs .entry)) (now (endpoints .entry)) (now (row .entry)) ⌝ }
 {
     if row[words::TAG] == types::CREATE_PDR {
-        return lists::is_in(row[words::PDR_ID], pdrs);
+        return octets::is_in(row[words::PDR_ID], pdrs);
     }
     if row[words::TAG] == types::CREATE_ENDPOINT {
-        return lists::is_in(row[words::ENDPOINT_ID], endpoints);
+        return octets::is_in(row[words::ENDPOINT_ID], endpoints);
     }
     false
 }
@@ -31,13 +31,13 @@ fn absent_id(row: &[u64], pdrs: &[u64], endpoints: &[u64]) -> bool
     ensures { λ r. ⌜ r ≡ namesDead (now (pdrs .entry)) (now (endpoints .entry)) (now (row .entry)) ⌝ }
 {
     if row[words::TAG] == types::REMOVE_PDR {
-        return !lists::is_in(row[words::PDR_ID], pdrs);
+        return !octets::is_in(row[words::PDR_ID], pdrs);
     }
     if row[words::TAG] == types::UPDATE_PDR {
-        return !lists::is_in(row[words::PDR_ID], pdrs);
+        return !octets::is_in(row[words::PDR_ID], pdrs);
     }
     if row[words::TAG] == types::REMOVE_ENDPOINT {
-        return !lists::is_in(row[words::ENDPOINT_ID], endpoints);
+        return !octets::is_in(row[words::ENDPOINT_ID], endpoints);
     }
     false
 }
@@ -50,7 +50,7 @@ fn updates_removed(row: &[u64], gone: &[u64]) -> bool
     if row[words::TAG] != types::UPDATE_PDR {
         return false;
     }
-    lists::is_in(row[words::PDR_ID], gone)
+    octets::is_in(row[words::PDR_ID], gone)
 }
 
 // F-TEID and endpoint ID in one PDI.
@@ -79,13 +79,13 @@ fn names_absent(row: &[u64], plan: &[u64], n: usize, endpoints: &[u64]) -> bool
         return false;
     }
     let id = row[words::ENDPOINT_ID];
-    if rows::named(plan, n, types::CREATE_ENDPOINT, words::ENDPOINT_ID, id) {
+    if plan::named(plan, n, types::CREATE_ENDPOINT, words::ENDPOINT_ID, id) {
         return false;
     }
-    if rows::named(plan, n, types::REMOVE_ENDPOINT, words::ENDPOINT_ID, id) {
+    if plan::named(plan, n, types::REMOVE_ENDPOINT, words::ENDPOINT_ID, id) {
         return true;
     }
-    !lists::is_in(id, endpoints)
+    !octets::is_in(id, endpoints)
 }
 
 // The rules on a row's IDs.
@@ -120,13 +120,13 @@ pub fn breaks_fteid(row: &[u64], u: Settings, taken: &[u64]) -> bool
     requires { ⌜ (length (now row) ≡ rowWidth) × (u .size ≤ 64 * length (now taken)) ⌝ }
     ensures { λ r. ⌜ r ≡ breaksFteid (heldIn (settingsOf u) (now (taken .entry))) (settingsOf u) (now (row .entry)) ⌝ }
 {
-    if rows::tunnel::lacks_family(row, u) {
+    if plan::tunnel::lacks_family(row, u) {
         return true;
     }
-    if rows::tunnel::strange(row, u) {
+    if plan::tunnel::strange(row, u) {
         return true;
     }
-    rows::tunnel::is_held(row, u, taken)
+    plan::tunnel::is_held(row, u, taken)
 }
 
 // The rules on a row's address (02 (v)). Only an address of the pool is looked up in the map.
@@ -134,8 +134,8 @@ pub fn breaks_address(row: &[u64], u: Settings, restoring: bool, taken: &[u64]) 
     requires { ⌜ (length (now row) ≡ rowWidth) × (u .addresses ≤ 64 * length (now taken)) ⌝ }
     ensures { λ r. ⌜ r ≡ breaksAddress (addressIn (settingsOf u) (now (taken .entry))) (settingsOf u) restoring (now (row .entry)) ⌝ }
 {
-    if rows::address::wrong(row, u, restoring) {
+    if plan::address::wrong(row, u, restoring) {
         return true;
     }
-    rows::address::is_held(row, u, taken)
+    plan::address::is_held(row, u, taken)
 }

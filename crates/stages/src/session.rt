@@ -12,7 +12,7 @@ ghost use Rattle.rules.specs.Limits.{maxPdrs};
 ghost use Rattle.rules.specs.Layout.{viewPdr, viewSession, pdrWidth};
 ghost use Rattle.rules.specs.Stages.{goesPdr, removedPdrs};
 ghost use Rattle.plan.specs.Rows.{rowWidth, rowsOf};
-ghost use Rattle.rows.specs.RowRules.{requestOf};
+ghost use Rattle.plan.specs.RowRules.{requestOf};
 ghost use Rattle.stages.specs.Rules.{Slot};
 
 // Writes to out the ID of each of the n records of an area, which is the first idw of a record's octets.
@@ -37,13 +37,13 @@ fn goes(pdr: &[u8], plan: &[u64], n: usize) -> bool
     ensures { λ r. ⌜ r ≡ goesPdr (requestOf false (rowsOf n (now (plan .entry)))) (viewPdr (now (pdr .entry))) ⌝ }
 {
     let id = octets::read(pdr, 0, 2);
-    if rows::named(plan, n, types::REMOVE_PDR, words::PDR_ID, id) {
+    if plan::named(plan, n, types::REMOVE_PDR, words::PDR_ID, id) {
         return true;
     }
-    if pdr[format::PLACE] != 2 {
+    if pdr[format::MATCH] != 2 {
         return false;
     }
-    rows::named(
+    plan::named(
         plan,
         n,
         types::REMOVE_ENDPOINT,

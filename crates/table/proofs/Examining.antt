@@ -21,10 +21,10 @@ use Rattle.laws.proofs.TableLaws.{limit-most}
 use Rattle.pool.specs.Map.{marks, newMarks, offsets}
 use Rattle.pool.proofs.TakenLaws.{pool-fits, pool-from, pool-below, new-marks-distinct, map-is}
 use Rattle.pool.proofs.AddressLaws.{asPool, held-pooled, address-map-is, address-marks-distinct}
-use Rattle.lists.proofs.Counting.{free-distinct}
+use Rattle.octets.proofs.Counting.{free-distinct}
 use Rattle.table.specs.declared.Count.the-variants.{Broken, Free}
-use Rattle.holdings.proofs.MapWalk.{held-in-pool}
-use Rattle.slots.specs.Records.{keyOf}
+use Rattle.marking.proofs.MapWalk.{held-in-pool}
+use Rattle.areas.specs.Records.{keyOf}
 use Rattle.unit.specs.declared.Settings.{Settings as Unit}
 use Rattle.unit.specs.Meaning.{settingsOf}
 use Rattle.unit.proofs.FieldLaws.{size-is, addresses-is, limit-is}

@@ -25,13 +25,13 @@ use Rattle.laws.proofs.LayoutLaws.{length-session}
 use Rattle.laws.proofs.TableLaws.{length-settings}
 use Rattle.pool.proofs.TakenLaws.{pool-fits}
 use Rattle.pool.proofs.AddressLaws.{addresses-fit}
-use Rattle.holdings.specs.Walk.{apartTeids, apartAddresses}
-use Rattle.holdings.proofs.AddressWalk.{apart-both}
-use Rattle.slots.specs.Records.{keyOf}
+use Rattle.marking.specs.Walk.{apartTeids, apartAddresses}
+use Rattle.marking.proofs.AddressWalk.{apart-both}
+use Rattle.areas.specs.Records.{keyOf}
 use Rattle.records.specs.Kept.{kept, settingsSound}
-use Rattle.sessions.specs.Slot.{areaSound}
-use Rattle.sessions.proofs.Areas.{area-from, area-to, kept-allowed, kept-same}
-use Rattle.sessions.proofs.SlotLaws.{key-session}
+use Rattle.records.specs.Slot.{areaSound}
+use Rattle.records.proofs.Areas.{area-from, area-to, kept-allowed, kept-same}
+use Rattle.records.proofs.SlotLaws.{key-session}
 use Rattle.table.specs.Tests.{sessionCount, limitOf, slotsOf, orderSound, frontTests, frontSound, walkSound}
 use Rattle.table.proofs.Walks.{canonical, slots-whole, slots-law, free-law}
 use Rattle.octets.proofs.Bools.{and-false, both-ways, and-true}

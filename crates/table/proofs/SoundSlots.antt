@@ -13,7 +13,7 @@ use Rattle.octets.proofs.Tests.{each, Each, all-head, all-tail}
 use Rattle.octets.proofs.ListLaws.{all-map}
 use Rattle.octets.proofs.Put.{length-part}
 use Rattle.octets.proofs.Numbers.{length-slices}
-use Rattle.slots.proofs.Lookup.{getD-slices}
+use Rattle.areas.proofs.LookupLaws.{getD-slices}
 use Rattle.rules.specs.Limits.{maxSessions, maxPdrs, maxEndpoints, nodeTypes}
 use Rattle.rules.specs.Model.{Settings, Session, Sessions}
 use Rattle.rules.specs.Layout.{pdrWidth, endpointWidth, csidWidth, headWidth, sessionWidth, tableLength, viewArea, viewPdr, viewEndpoint, viewCsid, viewSession, viewSettings, viewSessions, settingsWidth, pdrCountAt, endpointCountAt, csidCountAt, pdrsAt, endpointsAt, csidsAt}

@@ -16,15 +16,15 @@ use Rattle.octets.proofs.Digits.{take-octets, drop-octets}
 use Rattle.rules.specs.Model.{Settings, sessionTeids, heldTeids, sessionAddresses, heldAddresses}
 use Rattle.rules.specs.Layout.{sessionOctets, viewSession, sessionWidth}
 use Rattle.rules.specs.Sound.{sessionAllowed}
-use Rattle.holdings.specs.Walk.{sessionMarks, tableMarks, apartTeids, apartAddresses, addressOffsets, addressMarks}
-use Rattle.holdings.proofs.MapWalk.{sessions-marks}
-use Rattle.holdings.proofs.AddressWalk.{address-marks}
+use Rattle.marking.specs.Walk.{sessionMarks, tableMarks, apartTeids, apartAddresses, addressOffsets, addressMarks}
+use Rattle.marking.proofs.MapWalk.{sessions-marks}
+use Rattle.marking.proofs.AddressWalk.{address-marks}
 use Rattle.pool.specs.Map.{marked, marks, offsets}
 use Rattle.pool.proofs.Marks.{offsets-append}
-use Rattle.addresses.specs.Offsets.{heldOffsets}
+use Rattle.marking.specs.Offsets.{heldOffsets}
 use Rattle.records.specs.Kept.{kept}
-use Rattle.sessions.specs.Slot.{slotSound, recordsAllowed}
-use Rattle.sessions.proofs.SlotLaws.{allowed-split, slot-law}
+use Rattle.records.specs.Slot.{slotSound, recordsAllowed}
+use Rattle.records.proofs.SlotLaws.{allowed-split, slot-law}
 use Rattle.marking.specs.Marking.{slotHolds, slotTeids, slotFree, inTurn, slotKeeps, slotsKeep, slotsFree, teidsIn, addressesIn}
 use Rattle.marking.proofs.Admitting.{records-pooled}
 use Rattle.octets.proofs.Bools.{and-false}

@@ -11,7 +11,7 @@ use Rattle.octets.specs.Octets.{part, number, slices, allZero}
 use Rattle.octets.specs.Lists.{ascending}
 use Rattle.rules.specs.Limits.{mapWords, addressWords}
 use Rattle.rules.specs.Layout.{settingsWidth, headWidth, sessionWidth, tableLength, viewSettings}
-use Rattle.slots.specs.Records.{keyOf}
+use Rattle.areas.specs.Records.{keyOf}
 use Rattle.records.specs.Kept.{settingsSound}
 use Rattle.marking.specs.Marking.{slotsKeep, slotsFree}
 

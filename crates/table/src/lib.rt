@@ -40,7 +40,7 @@ fn front_sound(t: &[u8], u: Settings) -> bool
     if u.limit < n {
         return false;
     }
-    sessions::ordered(&t[HEAD..], SLOT, 8, n as usize)
+    records::slot::ordered(&t[HEAD..], SLOT, 8, n as usize)
 }
 
 // Tests the whole table and fills the maps of its TEIDs and addresses, which have to be empty: broken, or how many TEIDs and addresses

@@ -7,7 +7,7 @@ use native.Mathlib.Omega.{arith}
 use lib.ListN.{length, take}
 use lib.Seq.{length-take-le}
 use Rattle.plan.specs.Rows.{rowsOf}
-use Rattle.rows.specs.RowRules.{requestOf}
+use Rattle.plan.specs.RowRules.{requestOf}
 use Rattle.stages.specs.Rules.{Gone}
 use Rattle.stages.proofs.EntryLaws.{gone-few, gone-stored}
 use Rattle.engine.proofs.Settling.{entry-asks, settle-refuses, settle-accepts}

@@ -5,7 +5,7 @@ use Prim.Native.Nat.{ℕ, _-_, _≤_, _+_}
 use native.Mathlib.Omega.{arith}
 use borrow.Author.Needs.{needs}
 use lib.ListN.{length, drop, length-set, getD}
-use Rattle.lists.proofs.Loops.{left-none}
+use Rattle.octets.proofs.Loops.{left-none}
 use Rattle.plan.specs.Rows.{rowWidth}
 use Rattle.created.proofs.EntryLaws.{row-inside}
 use Rattle.grants.proofs.StoreLaws.{stores-more, stores-none}

@@ -5,7 +5,7 @@ use Prim.Native.Nat.{_≤_, _-_, _*_}
 use native.Mathlib.Omega.{arith}
 use borrow.Author.Needs.{needs}
 use lib.ListN.{drop}
-use Rattle.holdings.specs.Walk.{joins}
+use Rattle.marking.specs.Walk.{joins}
 use Rattle.marking.specs.Marking.{pdrHolds, heldBy}
 use Rattle.marking.proofs.Looking.{look-here, look-later, look-none-left}
 use Rattle.marking.proofs.shares.Statement.{statement}

@@ -3,7 +3,7 @@
 use lib.Dec.{T}
 use Rattle.octets.specs.Octets.{octets}
 use Rattle.octets.proofs.Digits.{octets-known}
-use Rattle.records.proofs.Answers.{pdr-source, pdr-far, pdr-address, pdr-place}
+use Rattle.records.proofs.Answers.{pdr-source, pdr-far, pdr-address, pdr-match}
 use borrow.Author.Needs.{needs}
 use Rattle.records.proofs.pdr_sound.Statement.{statement}
 use Rattle.records.proofs.pdr_sound.Tie as tie
@@ -32,13 +32,13 @@ returns-3 c =
     let o : T (octets (c .before .before .before .before .before .before .before .before .args .slot .now)) = octets-known (c .before .before .before .before .before .before .before .before .args .slot .now) (λ i. c .before .before .before .before .before .before .before .shared-slice-known .given i .fits) in
     search pdr-address
 
-place-sound-requires : tie.Need-place-sound-requires
-place-sound-requires c κs = search needs
+match-sound-requires : tie.Need-match-sound-requires
+match-sound-requires c κs = search needs
 
 returns-4 : tie.Need-returns-4
 returns-4 c =
     let o : T (octets (c .before .before .before .before .before .before .before .before .before .args .slot .now)) = octets-known (c .before .before .before .before .before .before .before .before .before .args .slot .now) (λ i. c .before .before .before .before .before .before .before .before .shared-slice-known .given i .fits) in
-    search pdr-place
+    search pdr-match
 
 pub pdr-sound-spec : {M : Type 1} → statement M
 pdr-sound-spec =
@@ -50,5 +50,5 @@ pdr-sound-spec =
     returns-2
     field-sound-requires-2
     returns-3
-    place-sound-requires
+    match-sound-requires
     returns-4)

@@ -17,8 +17,8 @@ write-value-requires c κs =
     let s = c .before .before .before .before in
     omega (arith, s .pre, length-pdi (settingsOf (s .args .u)) (viewPdr (s .args .pdr .now)), length-part 11 1 (s .args .pdr .now) (omega arith))
 
-write-place-requires : tie.Need-write-place-requires
-write-place-requires c κs =
+write-match-requires : tie.Need-write-match-requires
+write-match-requires c κs =
     let s = c .before .before .before .before .before .before .before .before in
     let w = c .before .before .before .write-value in (
       s .pre .0,
@@ -30,13 +30,13 @@ write-address-requires c κs =
     let s = c .before .before .before .before .before .before .before .before .before .before .before .before .before .before in
     let xs = s .args .pdr .now in
     let w = c .before .before .before .before .before .before .before .before .before .write-value in
-    let q = c .before .before .before .before .before .write-place in
+    let q = c .before .before .before .before .before .write-match in
     omega (arith, s .pre .1, w .ensures .ends, q .ensures .ends, w .kept .1 .1 .0, q .kept .1 .1 .0, length-pdi (settingsOf (s .args .u)) (viewPdr xs), length-pdr-address xs (s .pre .0) (c .before .before .read .result) (c .before .before .read .ensures .0), length-element ie.sourceInterface (part 11 1 xs), length-part 11 1 xs (omega (arith, s .pre .0)))
 
 write-head-requires : tie.Need-write-head-requires
 write-head-requires c κs =
     let s = c .before .before .before .before .before .before .before .before .before .before .before .before .before .before .before .before .before .before in
-    omega (arith, s .pre .1, c .before .before .before .before .before .before .before .before .before .before .before .before .before .write-value .kept .1 .1 .0, c .before .before .before .before .before .before .before .before .before .write-place .kept .1 .1 .0, c .before .before .before .write-address .kept .1 .1 .0, length-pdi (settingsOf (s .args .u)) (viewPdr (s .args .pdr .now)))
+    omega (arith, s .pre .1, c .before .before .before .before .before .before .before .before .before .before .before .before .before .write-value .kept .1 .1 .0, c .before .before .before .before .before .before .before .before .before .write-match .kept .1 .1 .0, c .before .before .before .write-address .kept .1 .1 .0, length-pdi (settingsOf (s .args .u)) (viewPdr (s .args .pdr .now)))
 
 returns : tie.Need-returns
 returns c = search pdi-steps
@@ -50,7 +50,7 @@ write-pdi-spec =
     (λ c. search needs)
     (λ c. search needs)
     write-value-requires
-    write-place-requires
+    write-match-requires
     (λ c κs. search needs)
     (λ c. search needs)
     write-address-requires

@@ -3,7 +3,7 @@ use borrow.Author.Needs.{needs}
 use mathlib.Core.Path.{sym, _∙_}
 use native.Mathlib.Omega.{arith}
 use lib.ListN.{length}
-use Rattle.elements.proofs.Front.{Front, front, none-left}
+use Rattle.frame.proofs.Front.{Front, front, none-left}
 use Rattle.sets.proofs.ListLaws.{Lists, lists-none, lists-end, lists-stop, lists-on}
 use Rattle.sets.proofs.list_fault.Statement.{statement}
 use Rattle.sets.proofs.list_fault.Tie as tie

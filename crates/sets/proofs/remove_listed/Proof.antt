@@ -3,7 +3,7 @@ use borrow.Author.Needs.{needs}
 use mathlib.Core.Path.{sym, _∙_}
 use native.Mathlib.Omega.{arith}
 use lib.ListN.{length}
-use Rattle.elements.proofs.Front.{Front, front, none-left}
+use Rattle.frame.proofs.Front.{Front, front, none-left}
 use Rattle.sets.proofs.GoneLaws.{Left, left-none, left-sound, left-same, left-sized, left-more, left-end}
 use Rattle.sets.proofs.remove_listed.Statement.{statement}
 use Rattle.sets.proofs.remove_listed.Tie as tie

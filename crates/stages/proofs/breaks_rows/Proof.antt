@@ -4,9 +4,9 @@ use Prim.Native.Nat.{_*_, _≤_}
 use native.Mathlib.Omega.{arith}
 use lib.ListN.{length}
 use Rattle.plan.specs.Rows.{rowWidth, rowsOf}
-use Rattle.rows.specs.RowRules.{heldIn, addressIn}
+use Rattle.plan.specs.RowRules.{heldIn, addressIn}
 use Rattle.unit.specs.Meaning.{settingsOf}
-use Rattle.rows.proofs.WalkLaws.{row-length, rest-length}
+use Rattle.plan.proofs.WalkLaws.{row-length, rest-length}
 use Rattle.stages.specs.RowRules.{breaksRow, someRow}
 use Rattle.stages.proofs.BreakLaws.{some-none, some-id, some-fteid, some-address, some-pair, some-rest}
 use borrow.Author.Needs.{needs}

@@ -12,13 +12,13 @@ use borrow.Fn.Kinds.{In}
 use borrow.Fn.PlainCycle.{Measures, is, falls, and}
 use Rattle.octets.specs.Choice.{flag}
 use Rattle.rules.specs.Types as ie
-use Rattle.elements.proofs.Front.{Front, front, none-left, behind}
+use Rattle.frame.proofs.Front.{Front, front, none-left, behind}
 use Rattle.reading.proofs.Places.{pdi-in-create}
 use Rattle.reading.proofs.GroupLaws.{Going, value-fits, turn-refused, turn-shut, turn-inside, turn-open, turns-done}
 use Rattle.reading.proofs.members.read_group.Reads as reads
 use Rattle.reading.proofs.members.read_group.Kinds as kinds
 use Rattle.reading.proofs.members.+read_group.Lts-read_group as lts
-use Rattle.elements.proofs.first_of.Reads as first-of-reads
+use Rattle.frame.proofs.first_of.Reads as first-of-reads
 use Rattle.reading.proofs.members.lacking.Reads as lacking-reads
 use Rattle.reading.proofs.members.read_own.Reads as read-own-reads
 use Rattle.reading.proofs.group.is_pdi.Reads as is-pdi-reads

@@ -3,7 +3,7 @@ use mathlib.Core.Path.{sym, _∙_}
 use native.Mathlib.Omega.{arith}
 use lib.ListN.{length}
 use borrow.Author.Needs.{needs}
-use Rattle.elements.proofs.Front.{Front, front, none-left}
+use Rattle.frame.proofs.Front.{Front, front, none-left}
 use Rattle.request.proofs.TurnLaws.{Going, going-none, turn-room, turn-fits, turn-fault, turn-next, turns-end}
 use Rattle.request.proofs.items.read_elements.Statement.{statement}
 use Rattle.request.proofs.items.read_elements.Tie as tie

@@ -4,8 +4,8 @@ use Prim.Native.Nat.{_+_, _*_, _≤_}
 use native.Mathlib.Omega.{arith}
 use lib.ListN.{length, length-set}
 use lib.Seq.{sets}
-use Rattle.lists.proofs.Loops.{sets-more}
-use Rattle.rows.proofs.WalkLaws.{row-fits, rest-length}
+use Rattle.octets.proofs.Loops.{sets-more}
+use Rattle.plan.proofs.WalkLaws.{row-fits, rest-length}
 use Rattle.stages.proofs.SlotLaws.{idsIn, ids-none, ids-more}
 use borrow.Author.Needs.{needs}
 use Rattle.stages.proofs.session.ids.Statement.{statement}

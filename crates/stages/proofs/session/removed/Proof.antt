@@ -11,9 +11,9 @@ use lib.Seq.{sets}
 use Rattle.rules.specs.Layout.{viewSession, pdrWidth}
 use Rattle.rules.specs.Stages.{removedPdrs}
 use Rattle.plan.specs.Rows.{rowsOf}
-use Rattle.rows.specs.RowRules.{requestOf}
-use Rattle.rows.proofs.WalkLaws.{row-length, rest-length}
-use Rattle.lists.proofs.Loops.{sets-more}
+use Rattle.plan.specs.RowRules.{requestOf}
+use Rattle.plan.proofs.WalkLaws.{row-length, rest-length}
+use Rattle.octets.proofs.Loops.{sets-more}
 use Rattle.stages.proofs.SlotLaws.{pdrs-fit, goneIn, gone-none, gone-hit, gone-miss, gone-slot}
 use borrow.Author.Needs.{needs}
 use Rattle.stages.proofs.session.removed.Statement.{statement}

@@ -1,2 +1,0 @@
--- What the proofs of several functions and of other crates use.
-pub mod Front

@@ -1,2 +1,0 @@
--- `FirstOf`: the element at the front of some octets.
-pub mod FirstOf

@@ -1,6 +1,0 @@
-pub mod Joining
-pub mod WalkLaws
-pub mod MapWalk
-pub mod RecordWalk
-pub mod SessionWalk
-pub mod AddressWalk

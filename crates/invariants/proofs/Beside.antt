@@ -1,0 +1,94 @@
+-- A session beside others: it shares no TEID, no address and no SEID with them, and so may be put among them.
+-- Assumes nothing.
+use mathlib.Core.Path.{_≡_, refl, ap, _∙_}
+use Prim.Native.Nat.{_<_, zero-le}
+use native.Mathlib.Nat.{le-trans, le-of-eq}
+use mathlib.Core.Bool.{Bool, false, not}
+use mathlib.Core.List.{[], _∷_}
+use lib.ListN.{length}
+use lib.Dec.{T, eqb}
+use mir.Facts.{yes-leb}
+use Rattle.octets.specs.Choice.{isSome}
+use Rattle.octets.specs.Lists.{anyIn, all, allPairs, keep, findBy, ascending, insertBy}
+use Rattle.octets.proofs.Tests.{pick-yes, pick-no, each, all-of-each, both, and-left, and-right, all-head, all-tail, all-cons}
+use Rattle.octets.proofs.Ordered.{otherKey, insert-length, insert-all, insert-pairs, insert-ascending}
+use Rattle.octets.proofs.ListLaws.{all-imply}
+use Rattle.rules.specs.Model.{Settings, Session, Sessions, seidOf, sessionTeids, heldTeids, sessionAddresses, heldAddresses}
+use Rattle.rules.specs.Sound.{sessionAllowed, apart, sessionsTests, sessionsAllowed}
+use Rattle.rules.specs.Stages.{hasSeid, sessionOf, isLive}
+use Rattle.rules.specs.Apply.{otherSession, removeSession, putSession}
+use Rattle.invariants.proofs.HeldLaws.{turn-eqb, disjoint-turn, apart-held, apart-addresses-held}
+
+pub apart-turn : (s : Settings) (x y : Session) → T (apart s x y) → T (apart s y x)
+unfolding apart
+apart-turn s x y h =
+    let a = not (anyIn (sessionTeids x) (sessionTeids y)) in
+    let b = not (anyIn (sessionAddresses s x) (sessionAddresses s y)) in
+    both (not (anyIn (sessionTeids y) (sessionTeids x))) (not (anyIn (sessionAddresses s y) (sessionAddresses s x)))
+    (disjoint-turn (sessionTeids x) (sessionTeids y) (and-left a b h)) (disjoint-turn (sessionAddresses s x) (sessionAddresses s y) (and-right a b h))
+
+-- what two sessions that are apart have not in common
+pub apart-teids : (s : Settings) (x y : Session) → T (apart s x y) → T (not (anyIn (sessionTeids x) (sessionTeids y)))
+unfolding apart
+apart-teids s x y h = and-left (not (anyIn (sessionTeids x) (sessionTeids y))) (not (anyIn (sessionAddresses s x) (sessionAddresses s y))) h
+
+pub apart-addresses : (s : Settings) (x y : Session) → T (apart s x y) → T (not (anyIn (sessionAddresses s x) (sessionAddresses s y)))
+unfolding apart
+apart-addresses s x y h = and-right (not (anyIn (sessionTeids x) (sessionTeids y))) (not (anyIn (sessionAddresses s x) (sessionAddresses s y))) h
+
+pub other-seid-turn : (x y : Session) → T (otherKey seidOf x y) → T (otherKey seidOf y x)
+other-seid-turn x y h = turn-eqb (x .seid) (y .seid) h
+
+-- no TEID in common with any session
+pub separate-all : (s : Settings) (x : Session) (m : Sessions) → T (all (apart s x) m) → T (not (anyIn (sessionTeids x) (heldTeids m)))
+separate-all s x m h = apart-held (sessionTeids x) m (all-imply (apart s x) (λ z. not (anyIn (sessionTeids x) (sessionTeids z))) (apart-teids s x) m h)
+
+-- and no address of the pool
+pub separate-addresses : (s : Settings) (x : Session) (m : Sessions) → T (all (apart s x) m) → T (not (anyIn (sessionAddresses s x) (heldAddresses s m)))
+separate-addresses s x m h =
+    apart-addresses-held s (sessionAddresses s x) m (all-imply (apart s x) (λ z. not (anyIn (sessionAddresses s x) (sessionAddresses s z))) (apart-addresses s x) m h)
+
+pub fresh-seid : (x : Session) (m : Sessions) → T (all (otherKey seidOf x) m) → isLive (x .seid) m ≡ false
+unfolding isLive sessionOf findBy hasSeid
+fresh-seid x [] h = refl
+fresh-seid x (y ∷ m) h =
+    ap isSome (pick-no (eqb (y .seid) (x .seid)) _ _ (turn-eqb (x .seid) (y .seid) (all-head (otherKey seidOf x) y m h)))
+    ∙ fresh-seid x m (all-tail (otherKey seidOf x) y m h)
+
+remove-none : (x : Session) (m : Sessions) → T (all (otherKey seidOf x) m) → removeSession (x .seid) m ≡ m
+unfolding removeSession keep otherSession hasSeid
+remove-none x [] h = refl
+remove-none x (y ∷ m) h =
+    pick-yes (not (eqb (y .seid) (x .seid))) _ _ (turn-eqb (x .seid) (y .seid) (all-head (otherKey seidOf x) y m h))
+    ∙ ap (λ (n : Sessions). y ∷ n) (remove-none x m (all-tail (otherKey seidOf x) y m h))
+
+pub put-fresh : (x : Session) (m : Sessions) → T (all (otherKey seidOf x) m) → putSession x m ≡ insertBy seidOf x m
+unfolding putSession
+put-fresh x m h = ap (insertBy seidOf x) (remove-none x m h)
+
+turn-all : (r : Session → Session → Bool) → ((x y : Session) → T (r x y) → T (r y x)) → (x : Session) (m : Sessions) → T (all (r x) m) → T (all (λ y. r y x) m)
+unfolding all
+turn-all r turn x [] h = tt
+turn-all r turn x (y ∷ m) h = all-cons (λ z. r z x) y m (turn x y (all-head (r x) y m h)) (turn-all r turn x m (all-tail (r x) y m h))
+
+-- one more session keeps the rules
+pub insert-allowed : (s : Settings) (x : Session) (m : Sessions) → T (sessionsAllowed s m) → T (sessionAllowed s x)
+    → T (all (otherKey seidOf x) m) → T (all (apart s x) m) → length m < s .limit → T (sessionsAllowed s (insertBy seidOf x m))
+unfolding sessionsAllowed sessionsTests
+insert-allowed s x m hm hx other sep room =
+    let e = each (sessionsTests s m) hm in
+    all-of-each (sessionsTests s (insertBy seidOf x m)) (
+      yes-leb (le-trans (le-of-eq (insert-length seidOf x m)) room),
+      (
+        insert-ascending seidOf x m other (e .1 .0),
+        (
+          insert-all seidOf (sessionAllowed s) x m hx (e .1 .1 .0),
+          (insert-pairs seidOf (apart s) x m sep (turn-all (apart s) (apart-turn s) x m sep) (e .1 .1 .1 .0), tt),
+        ),
+      ),
+    )
+
+-- an empty table keeps the rules
+pub empty-allowed : (s : Settings) → T (sessionsAllowed s [])
+unfolding sessionsAllowed sessionsTests ascending all allPairs
+empty-allowed s = all-of-each (sessionsTests s []) (yes-leb {a = 0} {b = s .limit} zero-le, (tt, (tt, (tt, tt))))

@@ -1,0 +1,1 @@
+// What every accepted request keeps stands in proofs/; this crate has no code.

@@ -1,0 +1,23 @@
+-- `plan::tunnel::restored` meets its contract. Assumes nothing.
+use mathlib.Core.Path.{sym, _∙_}
+use borrow.Author.Tests.{not-true, not-false}
+use Rattle.octets.specs.Octets.{bit}
+use Rattle.plan.proofs.FteidLaws.{restores-row}
+use borrow.Author.Needs.{needs}
+use Rattle.plan.proofs.tunnel.restored.Statement.{statement}
+use Rattle.plan.proofs.tunnel.restored.Tie as tie
+
+returns : tie.Need-returns
+returns c =
+    let h = c .before .has-fteid in
+    rw (restores-row (c .before .before .before .args .row .now), sym (h .ensures) ∙ not-true (h .result) (c .if1 .taken))
+
+returns-2 : tie.Need-returns-2
+unfolding bit
+returns-2 c =
+    let b = c .before .before in
+    let h = b .has-fteid in
+    rw (restores-row (b .before .before .args .row .now), sym (h .ensures) ∙ not-false (h .result) (c .before .if1 .left))
+
+pub restored-spec : {M : Type 1} → statement M
+restored-spec = tie.close (tie.spec (λ c κs. search needs) returns (λ c. search needs) returns-2)

@@ -1,0 +1,294 @@
+-- A session's slot: its tests, area by area, say that the session that it is read as keeps the rules but for the last one, and that
+-- its octets are just what that session is written as.
+-- Assumes nothing.
+use mathlib.Core.Path.{_≡_, refl, sym, ap, subst, _∙_}
+use Prim.Native.Nat.{ℕ, _+_, _*_, _^_, _≤_, _<_}
+use native.Mathlib.Nat.{le-trans, le-of-eq}
+use native.Mathlib.Omega.{arith}
+use mathlib.Core.Bool.{Bool, true, false, _&&_}
+use mathlib.Core.List.{List, [], _∷_, _++_, map, append-assoc}
+use lib.ListN.{length, take, drop, getD, length-map, length-drop, length-append, take-append-drop}
+use lib.Seq.{take-at, drop-at, drop-drop, drop-cons, take-all}
+use lib.Dec.{T, leb, leb→le, lt→ltb}
+use mir.Facts.{yes-leb}
+use Rattle.octets.specs.Choice.{allOf}
+use Rattle.octets.specs.Octets.{part, be, number, numberAt, octetAt, slices, sameOctets, octets}
+use Rattle.octets.specs.Fields.{fieldsAt}
+use Rattle.octets.specs.Lists.{all, ascending, allPairs}
+use Rattle.octets.proofs.Tests.{each, all-of-each, both, and-left, and-right, of-true}
+use Rattle.octets.proofs.Numbers.{same-refl, same-eq, length-slices}
+use Rattle.octets.proofs.Digits.{be-back, number-below, part-octets}
+use Rattle.octets.proofs.Put.{length-part, part-of}
+use Rattle.octets.proofs.Bools.{both-ways, and-assoc}
+use Rattle.rules.specs.Limits.{maxPdrs, maxEndpoints, nodeTypes}
+use Rattle.rules.specs.Model.{Settings, Session, pdrId, endpointId, nodeTypeOf, seidOf, sessionHoldings}
+use Rattle.rules.specs.Layout.{area, pdrFrom, endpointFrom, csidFrom, pdrWidth, endpointWidth, csidWidth, pdrOctets, endpointOctets, csidOctets, sessionOctets, viewArea, viewPdr, viewEndpoint, viewCsid, viewSession, pdrCountAt, endpointCountAt, csidCountAt, pdrsAt, endpointsAt, csidsAt, sessionWidth}
+use Rattle.rules.specs.Sound.{pdrAllowed, endpointAllowed, csidAllowed, agree, sessionTests, sessionAllowed}
+use Rattle.laws.proofs.LayoutLaws.{length-area, length-pdr, length-endpoint, length-csid}
+use Rattle.areas.specs.Records.{keyOf}
+use Rattle.records.specs.Kept.{kept, pdrSound, endpointSound, csidSound, endpointIds}
+use Rattle.records.specs.Slot.{pdrArea, endpointArea, csidArea, headSound, slotTests, slotSound, recordsAllowed}
+use Rattle.records.proofs.Areas.{slices-take, area-from, area-to}
+
+-- ---- all tests but the last
+
+all-last : (bs : List Bool) (b : Bool) → allOf (bs ++ (b ∷ [])) ≡ (allOf bs && b)
+all-last [] true = refl
+all-last [] false = refl
+all-last (c ∷ bs) b = ap (λ (t : Bool). c && t) (all-last bs b) ∙ sym (and-assoc c (allOf bs) b)
+
+pub allowed-split : (s : Settings) (x : Session) → sessionAllowed s x ≡ (recordsAllowed s x && allPairs agree (sessionHoldings x))
+unfolding sessionAllowed recordsAllowed sessionTests
+allowed-split s x = all-last (take 11 (sessionTests s x)) (allPairs agree (sessionHoldings x))
+
+-- ---- keys are the first octets
+
+pub key-pdr : (xs : List ℕ) → pdrId (viewPdr xs) ≡ keyOf 2 xs
+unfolding viewPdr pdrFrom fieldsAt keyOf
+key-pdr xs = refl
+
+pub key-endpoint : (xs : List ℕ) → endpointId (viewEndpoint xs) ≡ keyOf 1 xs
+unfolding viewEndpoint endpointFrom fieldsAt keyOf
+key-endpoint xs = refl
+
+pub key-csid : (xs : List ℕ) → nodeTypeOf (viewCsid xs) ≡ keyOf 1 xs
+unfolding viewCsid csidFrom fieldsAt keyOf
+key-csid xs = refl
+
+pub key-session : (xs : List ℕ) → seidOf (viewSession xs) ≡ keyOf 8 xs
+unfolding viewSession numberAt keyOf
+key-session xs = refl
+
+-- ---- the session that a slot is read as, by its areas
+
+unfoldable pub slotOf : List ℕ → Session
+slotOf xs =
+    record {
+      seid = number (part 0 8 xs);
+      pdrs = map viewPdr (slices pdrWidth (getD xs pdrCountAt 0) (pdrArea xs));
+      endpoints = map viewEndpoint (slices endpointWidth (getD xs endpointCountAt 0) (endpointArea xs));
+      csids = map viewCsid (slices csidWidth (getD xs csidCountAt 0) (csidArea xs));
+    }
+
+pub record Counts (xs : List ℕ) : Type 0 where
+  pub pdrs : getD xs pdrCountAt 0 ≤ maxPdrs
+  pub endpoints : getD xs endpointCountAt 0 ≤ maxEndpoints
+  pub csids : getD xs csidCountAt 0 ≤ nodeTypes
+
+pub view-slot : (xs : List ℕ) → Counts xs → viewSession xs ≡ slotOf xs
+unfolding viewSession slotOf viewArea numberAt octetAt
+view-slot xs c =
+    λ i. record {
+      seid = number (part 0 8 xs);
+      pdrs = map viewPdr (sym (slices-take pdrWidth (getD xs pdrCountAt 0) (maxPdrs * pdrWidth) (drop pdrsAt xs) (omega (arith, c .pdrs))) i);
+      endpoints = map viewEndpoint (sym (slices-take endpointWidth (getD xs endpointCountAt 0) (maxEndpoints * endpointWidth) (drop endpointsAt xs) (omega (arith, c .endpoints))) i);
+      csids = map viewCsid (sym (slices-take csidWidth (getD xs csidCountAt 0) (nodeTypes * csidWidth) (drop csidsAt xs) (omega (arith, c .csids))) i);
+    }
+
+-- ---- the slot's octets, part by part
+
+cut : (at n : ℕ) (xs : List ℕ) → drop at xs ≡ part at n xs ++ drop (at + n) xs
+cut at n xs = sym (take-append-drop n (drop at xs)) ∙ rw (drop-drop n at xs)
+
+abbrev headTests : List ℕ → List Bool
+headTests xs = leb 1 (number (part 0 8 xs)) ∷ leb (getD xs pdrCountAt 0) maxPdrs ∷ leb (getD xs endpointCountAt 0) maxEndpoints ∷ leb (getD xs csidCountAt 0) nodeTypes ∷ []
+
+pub counts-headed : (xs : List ℕ) → T (headSound xs) → Counts xs
+unfolding headSound octetAt numberAt
+counts-headed xs h =
+    let t = each (headTests xs) h in
+    record { pdrs = leb→le (getD xs pdrCountAt 0) maxPdrs (t .1 .0); endpoints = leb→le (getD xs endpointCountAt 0) maxEndpoints (t .1 .1 .0); csids = leb→le (getD xs csidCountAt 0) nodeTypes (t .1 .1 .1 .0) }
+
+module _ (xs : List ℕ) (long : length xs ≡ sessionWidth) where
+  slot-parts : part 0 8 xs ++ (getD xs pdrCountAt 0 ∷ getD xs endpointCountAt 0 ∷ getD xs csidCountAt 0 ∷ pdrArea xs ++ (endpointArea xs ++ csidArea xs)) ≡ xs
+  slot-parts =
+      let last : drop csidsAt xs ≡ csidArea xs = sym (take-all (nodeTypes * csidWidth) (drop csidsAt xs) (rw length-drop (omega arith))) in
+      let areas : drop pdrsAt xs ≡ pdrArea xs ++ (endpointArea xs ++ csidArea xs) =
+      cut pdrsAt (maxPdrs * pdrWidth) xs ∙ ap (λ (l : List ℕ). pdrArea xs ++ l) (cut endpointsAt (maxEndpoints * endpointWidth) xs ∙ ap (λ (l : List ℕ). endpointArea xs ++ l) last) in
+      let counts : drop 8 xs ≡ getD xs pdrCountAt 0 ∷ getD xs endpointCountAt 0 ∷ getD xs csidCountAt 0 ∷ drop pdrsAt xs =
+      drop-cons xs 8 0 (omega arith)
+      ∙ ap (λ (l : List ℕ). getD xs pdrCountAt 0 ∷ l) (drop-cons xs 9 0 (omega arith) ∙ ap (λ (l : List ℕ). getD xs endpointCountAt 0 ∷ l) (drop-cons xs 10 0 (omega arith))) in
+      sym (cut 0 8 xs ∙ ap (λ (l : List ℕ). part 0 8 xs ++ l) (counts ∙ ap (λ (l : List ℕ). getD xs pdrCountAt 0 ∷ getD xs endpointCountAt 0 ∷ getD xs csidCountAt 0 ∷ l) areas))
+
+  -- how many records the slot is read as
+  count-pdrs : length (map viewPdr (slices pdrWidth (getD xs pdrCountAt 0) (pdrArea xs))) ≡ getD xs pdrCountAt 0
+  count-pdrs = length-map (slices pdrWidth (getD xs pdrCountAt 0) (pdrArea xs)) viewPdr ∙ length-slices pdrWidth (getD xs pdrCountAt 0) (pdrArea xs)
+
+  count-endpoints : length (map viewEndpoint (slices endpointWidth (getD xs endpointCountAt 0) (endpointArea xs))) ≡ getD xs endpointCountAt 0
+  count-endpoints = length-map (slices endpointWidth (getD xs endpointCountAt 0) (endpointArea xs)) viewEndpoint ∙ length-slices endpointWidth (getD xs endpointCountAt 0) (endpointArea xs)
+
+  count-csids : length (map viewCsid (slices csidWidth (getD xs csidCountAt 0) (csidArea xs))) ≡ getD xs csidCountAt 0
+  count-csids = length-map (slices csidWidth (getD xs csidCountAt 0) (csidArea xs)) viewCsid ∙ length-slices csidWidth (getD xs csidCountAt 0) (csidArea xs)
+
+  long-pdrs : length (pdrArea xs) ≡ maxPdrs * pdrWidth
+  long-pdrs = length-part pdrsAt (maxPdrs * pdrWidth) xs (omega arith)
+
+  long-endpoints : length (endpointArea xs) ≡ maxEndpoints * endpointWidth
+  long-endpoints = length-part endpointsAt (maxEndpoints * endpointWidth) xs (omega arith)
+
+  long-csids : length (csidArea xs) ≡ nodeTypes * csidWidth
+  long-csids = length-part csidsAt (nodeTypes * csidWidth) xs (omega arith)
+
+  counts-viewed : (s : Settings) → T (recordsAllowed s (viewSession xs)) → Counts xs
+  unfolding recordsAllowed sessionTests viewSession viewArea octetAt
+  counts-viewed s h =
+      let t = each (take 11 (sessionTests s (viewSession xs))) h in
+      let lp = leb→le (length (viewSession xs .pdrs)) 16 (t .1 .1 .0) in
+      let le′ = leb→le (length (viewSession xs .endpoints)) 8 (t .1 .1 .1 .1 .1 .0) in
+      let lc = leb→le (length (viewSession xs .csids)) 6 (t .1 .1 .1 .1 .1 .1 .1 .1 .0) in
+      record {
+        pdrs = le-trans (le-of-eq (sym (length-map (slices pdrWidth (getD xs pdrCountAt 0) (drop pdrsAt xs)) viewPdr ∙ length-slices pdrWidth (getD xs pdrCountAt 0) (drop pdrsAt xs)))) lp;
+        endpoints = le-trans (le-of-eq (sym (length-map (slices endpointWidth (getD xs endpointCountAt 0) (drop endpointsAt xs)) viewEndpoint ∙ length-slices endpointWidth (getD xs endpointCountAt 0) (drop endpointsAt xs)))) le′;
+        csids = le-trans (le-of-eq (sym (length-map (slices csidWidth (getD xs csidCountAt 0) (drop csidsAt xs)) viewCsid ∙ length-slices csidWidth (getD xs csidCountAt 0) (drop csidsAt xs)))) lc;
+      }
+
+  counts-tested : (s : Settings) → T (slotSound s xs) → Counts xs
+  unfolding slotSound slotTests
+  counts-tested s h = counts-headed xs (each (slotTests s xs) h .0)
+
+  module _ (s : Settings) (o : T (octets xs)) (c : Counts xs) where
+    live : List ℕ
+    live = endpointIds (getD xs endpointCountAt 0) (endpointArea xs)
+
+    -- the areas as the records that they are read as are written
+    pdrsWritten : List ℕ
+    pdrsWritten = area pdrOctets pdrWidth maxPdrs (map viewPdr (slices pdrWidth (getD xs pdrCountAt 0) (pdrArea xs)))
+
+    endpointsWritten : List ℕ
+    endpointsWritten = area endpointOctets endpointWidth maxEndpoints (map viewEndpoint (slices endpointWidth (getD xs endpointCountAt 0) (endpointArea xs)))
+
+    csidsWritten : List ℕ
+    csidsWritten = area csidOctets csidWidth nodeTypes (map viewCsid (slices csidWidth (getD xs csidCountAt 0) (csidArea xs)))
+
+    seid-written : be 8 (number (part 0 8 xs)) ≡ part 0 8 xs
+    seid-written = be-back 8 (part 0 8 xs) (length-part 0 8 xs (omega arith)) (part-octets 0 8 xs o)
+
+    written-is : sessionOctets (slotOf xs) ≡ part 0 8 xs ++ (getD xs pdrCountAt 0 ∷ getD xs endpointCountAt 0 ∷ getD xs csidCountAt 0 ∷ pdrsWritten ++ (endpointsWritten ++ csidsWritten))
+    unfolding sessionOctets slotOf pdrsWritten endpointsWritten csidsWritten
+    written-is = λ i. seid-written i ++ (count-pdrs i ∷ count-endpoints i ∷ count-csids i ∷ pdrsWritten ++ (endpointsWritten ++ csidsWritten))
+
+    -- the facts that the rules but for the last give of the records read
+    record Facts : Type 0 where
+      seid : 1 ≤ number (part 0 8 xs)
+      pdrs : T (all (pdrAllowed s live) (map viewPdr (slices pdrWidth (getD xs pdrCountAt 0) (pdrArea xs))))
+      pdrs-up : T (ascending (map pdrId (map viewPdr (slices pdrWidth (getD xs pdrCountAt 0) (pdrArea xs)))))
+      endpoints : T (all (endpointAllowed s) (map viewEndpoint (slices endpointWidth (getD xs endpointCountAt 0) (endpointArea xs))))
+      endpoints-up : T (ascending (map endpointId (map viewEndpoint (slices endpointWidth (getD xs endpointCountAt 0) (endpointArea xs)))))
+      csids : T (all csidAllowed (map viewCsid (slices csidWidth (getD xs csidCountAt 0) (csidArea xs))))
+      csids-up : T (ascending (map nodeTypeOf (map viewCsid (slices csidWidth (getD xs csidCountAt 0) (csidArea xs)))))
+
+    facts-from : T (recordsAllowed s (slotOf xs)) → Facts
+    unfolding recordsAllowed sessionTests slotOf live endpointIds
+    facts-from h =
+        let t = each (take 11 (sessionTests s (slotOf xs))) h in
+        record {
+          seid = leb→le 1 (number (part 0 8 xs)) (t .0);
+          pdrs = t .1 .1 .1 .1 .0;
+          pdrs-up = t .1 .1 .1 .0;
+          endpoints = t .1 .1 .1 .1 .1 .1 .1 .0;
+          endpoints-up = t .1 .1 .1 .1 .1 .1 .0;
+          csids = t .1 .1 .1 .1 .1 .1 .1 .1 .1 .1 .0;
+          csids-up = t .1 .1 .1 .1 .1 .1 .1 .1 .1 .0;
+        }
+
+    facts-to : Facts → T (recordsAllowed s (slotOf xs))
+    unfolding recordsAllowed sessionTests slotOf live endpointIds
+    facts-to f =
+        let below : number (part 0 8 xs) < 256 ^ 8 = rw (length-part 0 8 xs (omega arith)) at (number-below (part 0 8 xs) (part-octets 0 8 xs o)) in
+        all-of-each (take 11 (sessionTests s (slotOf xs))) (
+          yes-leb (f .seid),
+          (
+            lt→ltb (number (part 0 8 xs)) (2 ^ 64) below,
+            (
+              yes-leb (le-trans (le-of-eq count-pdrs) (c .pdrs)),
+              (
+                f .pdrs-up,
+                (
+                  f .pdrs,
+                  (
+                    yes-leb (le-trans (le-of-eq count-endpoints) (c .endpoints)),
+                    (
+                      f .endpoints-up,
+                      (
+                        f .endpoints,
+                        (
+                          yes-leb (le-trans (le-of-eq count-csids) (c .csids)),
+                          (
+                            f .csids-up,
+                            (f .csids, tt),
+                          ),
+                        ),
+                      ),
+                    ),
+                  ),
+                ),
+              ),
+            ),
+          ),
+        )
+
+    -- from the slot's tests
+    slot-from : T (slotSound s xs) → T (recordsAllowed s (slotOf xs)) × (sessionOctets (slotOf xs) ≡ xs)
+    unfolding slotSound slotTests headSound octetAt numberAt pdrSound endpointSound csidSound live pdrsWritten endpointsWritten csidsWritten
+    slot-from h =
+        let t = each (slotTests s xs) h in
+        let ps = area-from (pdrAllowed s live) pdrOctets viewPdr pdrId pdrWidth 2 (λ p q. length-pdr p) key-pdr maxPdrs (getD xs pdrCountAt 0) (pdrArea xs) long-pdrs (c .pdrs) (t .1 .0) in
+        let es = area-from (endpointAllowed s) endpointOctets viewEndpoint endpointId endpointWidth 1 (λ e q. length-endpoint e) key-endpoint maxEndpoints (getD xs endpointCountAt 0) (endpointArea xs) long-endpoints (c .endpoints) (t .1 .1 .0) in
+        let cs = area-from csidAllowed csidOctets viewCsid nodeTypeOf csidWidth 1 (λ r q. length-csid r) key-csid nodeTypes (getD xs csidCountAt 0) (csidArea xs) long-csids (c .csids) (t .1 .1 .1 .0) in (
+          facts-to (record {
+            seid = leb→le 1 (number (part 0 8 xs)) (each (headTests xs) (t .0) .0);
+            pdrs = ps .0;
+            pdrs-up = ps .1;
+            endpoints = es .0;
+            endpoints-up = es .1;
+            csids = cs .0;
+            csids-up = cs .1;
+          }),
+          written-is ∙ (λ i. part 0 8 xs ++ (getD xs pdrCountAt 0 ∷ getD xs endpointCountAt 0 ∷ getD xs csidCountAt 0 ∷ ps .2 i ++ (es .2 i ++ cs .2 i))) ∙ slot-parts,
+        )
+
+    -- to the slot's tests
+    slot-to : T (recordsAllowed s (slotOf xs)) → sessionOctets (slotOf xs) ≡ xs → T (slotSound s xs)
+    unfolding slotSound slotTests headSound octetAt numberAt pdrSound endpointSound csidSound live pdrsWritten endpointsWritten csidsWritten
+    slot-to h e =
+        let f = facts-from h in
+        let lp : length pdrsWritten ≡ maxPdrs * pdrWidth = length-area pdrOctets pdrWidth (pdrAllowed s live) (λ p q. length-pdr p) maxPdrs _ (f .pdrs) (le-trans (le-of-eq count-pdrs) (c .pdrs)) in
+        let le′ : length endpointsWritten ≡ maxEndpoints * endpointWidth = length-area endpointOctets endpointWidth (endpointAllowed s) (λ e q. length-endpoint e) maxEndpoints _ (f .endpoints) (le-trans (le-of-eq count-endpoints) (c .endpoints)) in
+        let lc : length csidsWritten ≡ nodeTypes * csidWidth = length-area csidOctets csidWidth csidAllowed (λ r q. length-csid r) nodeTypes _ (f .csids) (le-trans (le-of-eq count-csids) (c .csids)) in
+        let head : List ℕ = part 0 8 xs ++ (getD xs pdrCountAt 0 ∷ getD xs endpointCountAt 0 ∷ getD xs csidCountAt 0 ∷ []) in
+        let long-head : length head ≡ 11 = length-append (part 0 8 xs) (getD xs pdrCountAt 0 ∷ getD xs endpointCountAt 0 ∷ getD xs csidCountAt 0 ∷ []) ∙ ap (λ (n : ℕ). n + 3) (length-part 0 8 xs (omega arith)) in
+        let same : head ++ (pdrsWritten ++ (endpointsWritten ++ csidsWritten)) ≡ xs = append-assoc (part 0 8 xs) (getD xs pdrCountAt 0 ∷ getD xs endpointCountAt 0 ∷ getD xs csidCountAt 0 ∷ []) _ ∙ sym written-is ∙ e in
+        let behind : endpointsWritten ++ csidsWritten ≡ drop endpointsAt xs = sym (drop-at pdrsWritten (endpointsWritten ++ csidsWritten) (maxPdrs * pdrWidth) lp) ∙ ap (drop (maxPdrs * pdrWidth)) (sym (drop-at head _ 11 long-head) ∙ ap (drop pdrsAt) same) ∙ drop-drop (maxPdrs * pdrWidth) 11 xs in
+        let pe : pdrsWritten ≡ pdrArea xs = sym (part-of head pdrsWritten (endpointsWritten ++ csidsWritten) pdrsAt (maxPdrs * pdrWidth) long-head lp) ∙ ap (part pdrsAt (maxPdrs * pdrWidth)) same in
+        let ee : endpointsWritten ≡ endpointArea xs = sym (take-at endpointsWritten csidsWritten (maxEndpoints * endpointWidth) le′) ∙ ap (take (maxEndpoints * endpointWidth)) behind in
+        let ce : csidsWritten ≡ csidArea xs =
+        sym (take-all (nodeTypes * csidWidth) csidsWritten (le-of-eq lc)) ∙ ap (take (nodeTypes * csidWidth)) (sym (drop-at endpointsWritten csidsWritten (maxEndpoints * endpointWidth) le′) ∙ ap (drop (maxEndpoints * endpointWidth)) behind ∙ drop-drop (maxEndpoints * endpointWidth) endpointsAt xs) in
+        all-of-each (slotTests s xs) (
+          all-of-each (headTests xs) (yes-leb (f .seid), (yes-leb (c .pdrs), (yes-leb (c .endpoints), (yes-leb (c .csids), tt)))),
+          (
+            area-to (pdrAllowed s live) pdrOctets viewPdr pdrId pdrWidth 2 (λ p q. length-pdr p) key-pdr maxPdrs (getD xs pdrCountAt 0) (pdrArea xs) long-pdrs (c .pdrs) (f .pdrs) (f .pdrs-up) pe,
+            (
+              area-to (endpointAllowed s) endpointOctets viewEndpoint endpointId endpointWidth 1 (λ e q. length-endpoint e) key-endpoint maxEndpoints (getD xs endpointCountAt 0) (endpointArea xs) long-endpoints (c .endpoints) (f .endpoints) (f .endpoints-up) ee,
+              (area-to csidAllowed csidOctets viewCsid nodeTypeOf csidWidth 1 (λ r q. length-csid r) key-csid nodeTypes (getD xs csidCountAt 0) (csidArea xs) long-csids (c .csids) (f .csids) (f .csids-up) ce, tt),
+            ),
+          ),
+        )
+
+  -- a slot's tests say just that it is the slot of a session that keeps the rules but for the last one
+  pub slot-law : (s : Settings) → T (octets xs) → slotSound s xs ≡ kept (recordsAllowed s) sessionOctets viewSession xs
+  unfolding kept
+  slot-law s o =
+      both-ways (slotSound s xs) (recordsAllowed s (viewSession xs) && sameOctets (sessionOctets (viewSession xs)) xs)
+      (λ h.
+      let c = counts-tested s h in
+      let r = slot-from s o c h in
+      let v = sym (view-slot xs c) in
+      both (recordsAllowed s (viewSession xs)) (sameOctets (sessionOctets (viewSession xs)) xs)
+      (subst (λ (x : Session). T (recordsAllowed s x)) v (r .0))
+      (of-true (ap (λ (x : Session). sameOctets (sessionOctets x) xs) (sym v) ∙ ap (λ (l : List ℕ). sameOctets l xs) (r .1) ∙ same-refl xs)))
+      (λ h.
+      let a = and-left (recordsAllowed s (viewSession xs)) (sameOctets (sessionOctets (viewSession xs)) xs) h in
+      let e = same-eq (sessionOctets (viewSession xs)) xs (and-right (recordsAllowed s (viewSession xs)) (sameOctets (sessionOctets (viewSession xs)) xs) h) in
+      let c = counts-viewed s a in
+      let v = view-slot xs c in
+      slot-to s o c (subst (λ (x : Session). T (recordsAllowed s x)) v a) (ap sessionOctets (sym v) ∙ e))

@@ -1,2 +1,0 @@
--- `Slot`: which octets of a session's slot are those of a session that keeps the rules but for the one on shared TEIDs.
-pub mod Slot

@@ -1,2 +1,0 @@
--- `Records`: records of one width, the search for a key, and what the calls write.
-pub mod Records
