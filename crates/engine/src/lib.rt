@@ -116,8 +116,8 @@ fn give(
 fn accept(
     t: &mut [u8],
     u: Settings,
-    taken: Taken,
-    addresses: TakenAddresses,
+    words: &[u64],
+    ips: &[u64],
     msg: &[u8],
     seid: u64,
     slot: &mut [u8],
@@ -126,13 +126,11 @@ fn accept(
     n: usize,
     out: &mut [u8],
 ) -> usize
-    requires { ⌜ Accepting u (now t) (taken .words) (addresses .words) (now msg) (now slot) (now gone) (now plan) (now out) seid n ⌝ }
+    requires { ⌜ Accepting u (now t) (now words) (now ips) (now msg) (now slot) (now gone) (now plan) (now out) seid n ⌝ }
     ensures { λ r. ⌜ Answers (now (t .entry)) (now (msg .entry)) (now (out .entry)) r (now (out .exit)) (now (t .exit)) ⌝ }
 {
-    let words = taken.words;
-    let ips = addresses.words;
     let mut places = [0usize; format::GRANTS];
-    let k = give(plan, n, u, &words, &ips, &mut places);
+    let k = give(plan, n, u, words, ips, &mut places);
     let used = reply::accepted(u, msg, seid, plan, &places[..k], out);
     keep(t, u.limit as usize, slot, gone, plan, n);
     used
@@ -168,9 +166,10 @@ fn enter(t: &[u8], room: usize, kind: u64, seid: u64, p: usize, slot: &mut [u8])
 fn settle(
     t: &mut [u8],
     u: Settings,
-    taken: Taken,
+    words: &[u64],
     free: usize,
-    addresses: TakenAddresses,
+    ips: &[u64],
+    left: usize,
     msg: &[u8],
     kind: u64,
     live: bool,
@@ -179,20 +178,18 @@ fn settle(
     read: Plan,
     out: &mut [u8],
 ) -> usize
-    requires { ⌜ Readable (now t) (now msg) (now out) (now plan) kind (read .seid) (read .rows) (read .restoring) (read .noted) × Counted u (now t) (taken .words) free (addresses .words) (addresses .free) × Entered (now t) (now msg) kind (read .seid) live (now slot) ⌝ }
+    requires { ⌜ Readable (now t) (now msg) (now out) (now plan) kind (read .seid) (read .rows) (read .restoring) (read .noted) × Counted u (now t) (now words) free (now ips) left × Entered (now t) (now msg) kind (read .seid) live (now slot) ⌝ }
     ensures { λ r. ⌜ Answers (now (t .entry)) (now (msg .entry)) (now (out .entry)) r (now (out .exit)) (now (t .exit)) ⌝ }
 {
-    let words = taken.words;
-    let ips = addresses.words;
     let mut gone = [0u64; format::MAX_PDRS];
     let k = stages::session::removed(slot, plan, read.rows, &mut gone);
     let cause = stages::judge(
         t,
         u,
-        &words,
-        &ips,
+        words,
+        ips,
         free,
-        addresses.free,
+        left,
         kind,
         read.seid,
         live,
@@ -209,11 +206,8 @@ fn settle(
     accept(
         t,
         u,
-        Taken { words: words },
-        TakenAddresses {
-            words: ips,
-            free: addresses.free,
-        },
+        words,
+        ips,
         msg,
         read.seid,
         slot,
@@ -228,15 +222,16 @@ fn settle(
 fn change(
     t: &mut [u8],
     u: Settings,
-    taken: Taken,
+    words: &[u64],
     free: usize,
-    addresses: TakenAddresses,
+    ips: &[u64],
+    left: usize,
     msg: &[u8],
     kind: u64,
     p: usize,
     out: &mut [u8],
 ) -> Replied
-    requires { ⌜ Changing (now t) (now msg) (now out) kind p × Counted u (now t) (taken .words) free (addresses .words) (addresses .free) ⌝ }
+    requires { ⌜ Changing (now t) (now msg) (now out) kind p × Counted u (now t) (now words) free (now ips) left ⌝ }
     ensures { λ r. ⌜ Replies (now (t .entry)) (now (msg .entry)) (now (out .entry)) (r .used) (r .place) (now (out .exit)) (now (t .exit)) ⌝ }
 {
     let mut plan = [0u64; format::PLAN];
@@ -255,9 +250,10 @@ fn change(
             let used = settle(
                 t,
                 u,
-                taken,
+                words,
                 free,
-                addresses,
+                ips,
+                left,
                 msg,
                 kind,
                 live,
@@ -274,7 +270,7 @@ fn change(
     }
 }
 
-// A request whose header is allowed.
+// A request whose header is allowed. The maps come by value and are lent on; a deletion reads neither, so it copies neither.
 fn answer(
     t: &mut [u8],
     u: Settings,
@@ -290,7 +286,9 @@ fn answer(
     ensures { λ r. ⌜ Replies (now (t .entry)) (now (msg .entry)) (now (out .entry)) (r .used) (r .place) (now (out .exit)) (now (t .exit)) ⌝ }
 {
     if kind == kinds::ESTABLISHMENT {
-        return change(t, u, taken, free, addresses, msg, kind, 0, out);
+        let words = taken.words;
+        let ips = addresses.words;
+        return change(t, u, &words, free, &ips, addresses.free, msg, kind, 0, out);
     }
     let place = session::find(t, u.limit as usize, format::COUNT, seid);
     match place {
@@ -305,7 +303,9 @@ fn answer(
             if kind == kinds::DELETION {
                 return delete(t, u, msg, seid, out);
             }
-            return change(t, u, taken, free, addresses, msg, kind, p, out);
+            let words = taken.words;
+            let ips = addresses.words;
+            return change(t, u, &words, free, &ips, addresses.free, msg, kind, p, out);
         }
     }
 }

@@ -27,14 +27,14 @@ module _ (s : Settings) (w at : ℕ) (a : List ℕ) (n : ℕ) where
   abbrev pub offsetAt : ℕ → Option ℕ
   offsetAt i = offsetOf s (addressAt at (part (i * w) w a))
 
-  left-start : leftFrom 0 ≡ offsetsIn s w at n a
+  pub left-start : leftFrom 0 ≡ offsetsIn s w at n a
   left-start = let e : n - 0 ≡ n = omega arith in let z : 0 * w ≡ 0 = omega arith in rw (e, z)
 
-  left-more : (i : ℕ) → i < n → leftFrom i ≡ consOption (offsetAt i) (leftFrom (i + 1))
+  pub left-more : (i : ℕ) → i < n → leftFrom i ≡ consOption (offsetAt i) (leftFrom (i + 1))
   unfolding offsetsIn collect
   left-more i h = rw (slices-more w a n i h)
 
-  left-none : (i : ℕ) → n ≤ i → leftFrom i ≡ []
+  pub left-none : (i : ℕ) → n ≤ i → leftFrom i ≡ []
   unfolding offsetsIn collect slices
   left-none i h = let e : n - i ≡ 0 = omega arith in rw e
 

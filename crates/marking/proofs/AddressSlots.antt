@@ -73,7 +73,7 @@ module _ (s : Settings) (ws xs : List ℕ) where
   abbrev pub pdrsOf : List ℕ
   pdrsOf = offsetsIn s pdrWidth 19 (getD xs pdrCountAt 0) (pdrArea xs)
 
-  offsets-are : slotOffsets s xs ≡ endsOf ++ pdrsOf
+  pub offsets-are : slotOffsets s xs ≡ endsOf ++ pdrsOf
   unfolding slotOffsets octetAt
   offsets-are = refl
 

@@ -50,7 +50,7 @@ module _ (u : Unit) (at : ℕ) (xs : List ℕ) where
     offset-in g h = sym (offset-is ∙ rw (le-leb (u .«first_address») a g, lt-ltb a (u .«first_address» + u .addresses) (omega arith)))
 
 -- an offset of the pool is below the number of addresses
-below : (s : Settings) (i : ℕ) (o : Option ℕ) → some i ≡ offsetOf s o → i < s .addressCount
+pub below : (s : Settings) (i : ℕ) (o : Option ℕ) → some i ≡ offsetOf s o → i < s .addressCount
 unfolding offsetOf inAddressPool
 below s i none e = let z : _≡_ {A = ℕ} 0 1 = cc in absurd (omega arith)
 below s i (some a) e = go (leb (s .firstAddress) a) (ltb a (s .firstAddress + s .addressCount)) refl refl e

@@ -1,11 +1,12 @@
 -- Which addresses of the pool stand in the octets of a session's slot, and the walk that marks them (02 (v)). An offset is an address less the
 -- pool's first.
 -- Assumes nothing.
-use Prim.Native.Nat.{ℕ, _+_, _-_, _≤_}
+use Prim.Native.Nat.{ℕ, zero, suc, _+_, _-_, _≤_}
 use mathlib.Core.Path.{_≡_}
-use mathlib.Core.Bool.{not}
+use mathlib.Core.Bool.{Bool, false, not}
 use mathlib.Core.Option.{Option, none, some}
-use mathlib.Core.List.{List, _++_}
+use mathlib.Core.List.{List, [], _∷_, _++_}
+use lib.Dec.{eqb}
 use lib.ListN.{length, getD}
 use Rattle.octets.specs.Choice.{pick, flag}
 use Rattle.octets.specs.Octets.{part, number, octetAt, slices}
@@ -17,6 +18,8 @@ use Rattle.marking.specs.Walk.{addressOffsets}
 use Rattle.records.specs.Slot.{pdrArea, endpointArea}
 use Rattle.marking.specs.declared.addresses.Offset.{Offset}
 use Rattle.marking.specs.declared.addresses.Offset.the-variants.{At, Outside}
+use Rattle.marking.specs.declared.addresses.Few.{Few}
+use Rattle.marking.specs.declared.addresses.Few.the-variants.{Two, More}
 use Rattle.marking.specs.declared.addresses.Met.{Met}
 use Rattle.marking.specs.declared.addresses.Met.the-variants.{Clash, New}
 
@@ -42,6 +45,37 @@ offsetsIn s w at n a = collect (λ xs. offsetOf s (addressAt at xs)) (slices w n
 unfoldable pub slotOffsets : Settings → List ℕ → List ℕ
 slotOffsets s xs =
     offsetsIn s endpointWidth 6 (octetAt xs endpointCountAt) (endpointArea xs) ++ offsetsIn s pdrWidth 19 (octetAt xs pdrCountAt) (pdrArea xs)
+
+-- ---- the different ones, two at most: 0 for none, 1 and the offset for one
+
+unfoldable pub joined : ℕ → ℕ → Option ℕ → Few
+joined a b none = Two a b
+joined a b (some i) =
+    pick (eqb (suc i) a) (Two a b) (pick (eqb (suc i) b) (Two a b) (pick (eqb a 0) (Two (suc i) b) (pick (eqb b 0) (Two a (suc i)) More)))
+
+unfoldable pub gathered : ℕ → ℕ → List ℕ → Few
+gathered a b [] = Two a b
+gathered a b (i ∷ is) =
+    pick (eqb (suc i) a) (gathered a b is)
+    (pick (eqb (suc i) b) (gathered a b is) (pick (eqb a 0) (gathered (suc i) b is) (pick (eqb b 0) (gathered a (suc i) is) More)))
+
+-- it is that, and the offsets are of the pool
+pub record Joined (c : Few) (most : ℕ) (r : Few) : Type 0 where
+  pub is : r ≡ c
+  pub few : (a b : ℕ) → r ≡ Two a b → (a ≤ most) × (b ≤ most)
+
+-- one of the two is entered: no change for none
+unfoldable pub markUp : List ℕ → ℕ → List ℕ
+markUp words zero = words
+markUp words (suc i) = mark words i
+
+unfoldable pub markedUp : List ℕ → ℕ → Bool
+markedUp words zero = false
+markedUp words (suc i) = marked words i
+
+pub record AddressMarked (ws : List ℕ) (k : ℕ) (r : Met) (ws′ : List ℕ) : Type 0 where
+  pub answer : r ≡ pick (markedUp ws k) Clash (New (flag (not (eqb k 0))))
+  pub words : ws′ ≡ markUp ws k
 
 -- ---- one record
 

@@ -2,13 +2,14 @@
 use mathlib.Core.Path.{_≡_, refl, sym, _∙_, ap}
 use mathlib.Core.Logic.{_≢_}
 use mathlib.Core.Bool.{true, false}
-use Prim.Native.Nat.{ℕ, zero, suc, _+_, _-_, _*_, _/_, _%_, _^_, _<_}
-use native.Mathlib.Nat.{one-mul, mod-lt, pow-suc, div-eq-of-lt, zero-div, lt-of-lt-of-le, lt-of-le-of-lt}
+use Prim.Native.Nat.{ℕ, zero, suc, _+_, _-_, _*_, _/_, _%_, _^_, _<_, max}
+use native.Mathlib.Nat.{max-zero, one-mul, mod-lt, pow-suc, div-eq-of-lt, zero-div, lt-of-lt-of-le, lt-of-le-of-lt}
 use native.Mathlib.Decide.{decLt}
 use native.Mathlib.Numerals.{one-add}
 use native.Mathlib.Omega.{arith}
-use lib.Bits.{bitOr, or-shr, or-mod, or-zero-r}
+use lib.Bits.{bitOr, or-shr, or-mod, or-zero-r, or-step}
 use lib.Count.{trailingZeros, under}
+use borrow.Author.Tests.{eqb-true}
 use lib.Dec.{eqb, lit<}
 use lib.Pow.{shl-exact, shl-shr, shr-shr, shr-le, pow-lt, pow-mono, pow-add, ones-lt}
 use Rattle.octets.specs.Choice.{flag}
@@ -71,6 +72,20 @@ digit-low w = omega arith
 
 digit-suc : (w j : ℕ) → digit w (suc j) ≡ digit (w / 2) j
 digit-suc w j = ap (λ (x : ℕ). w / 2 ^ x % 2) (sym (one-add j)) ∙ ap (λ (x : ℕ). x % 2) (sym (shr-shr w 1 j))
+
+-- setting a bit that is set changes nothing
+pub or-set : (j w : ℕ) → bit j w ≡ true → bitOr w (2 ^ j) ≡ w
+unfolding bit
+or-set zero w e =
+    let one : w / 2 ^ 0 % 2 ≡ 1 = eqb-true (w / 2 ^ 0 % 2) 1 e in
+    let odd : w % 2 ≡ 1 = sym (digit-low w) ∙ one in
+    or-step w 1 ∙ (λ i. or-zero-r (w / 2) i * 2 + max (odd i) 1) ∙ omega (arith, odd)
+or-set (suc j) w e =
+    let p : 2 ^ suc j ≡ 2 ^ j * 2 = pow-suc 2 j in
+    let low : 2 ^ suc j / 2 ≡ 2 ^ j = omega arith in
+    let even : 2 ^ suc j % 2 ≡ 0 = omega arith in
+    let ih = or-set j (w / 2) (ap (λ (x : ℕ). eqb x 1) (sym (digit-suc w j)) ∙ e) in
+    or-step w (2 ^ suc j) ∙ (λ i. bitOr (w / 2) (low i) * 2 + max (w % 2) (even i)) ∙ (λ i. ih i * 2 + max-zero (w % 2) i) ∙ omega arith
 
 pub bit-low : (w : ℕ) → flag (bit 0 w) ≡ w % 2
 unfolding bit

@@ -1,6 +1,6 @@
 -- Which offsets are marked after marking, over the number of words. Assumes nothing.
 use mathlib.Core.Path.{_≡_, refl, sym, _∙_, ap}
-use mathlib.Core.Bool.{Bool, false, _||_}
+use mathlib.Core.Bool.{Bool, true, false, _||_}
 use mathlib.Core.List.{List, [], _∷_, _++_}
 use Prim.Native.Nat.{ℕ, zero, suc, _+_, _-_, _*_, _/_, _%_, _^_, _<_}
 use native.Mathlib.Decide.{ℕ-discrete}
@@ -14,7 +14,7 @@ use lib.Seq.{getD-set-same, getD-set-other}
 use Rattle.octets.specs.Lists.{all}
 use Rattle.octets.proofs.Tests.{all-head, all-tail, all-cons}
 use Rattle.pool.specs.Map.{marked, mark, marks, newMarks, offsets}
-use Rattle.pool.proofs.Bits.{bit-set-same, bit-set-other, bit-of-zero}
+use Rattle.pool.proofs.Bits.{or-set, bit-set-same, bit-set-other, bit-of-zero}
 
 -- ---- one mark
 
@@ -36,6 +36,16 @@ marked-mark ws t i h = go (ℕ-discrete (i / 64) (t / 64)) (ℕ-discrete (t % 64
 pub length-mark : (ws : List ℕ) (t : ℕ) → length (mark ws t) ≡ length ws
 unfolding mark
 length-mark ws t = length-set ws (t / 64) _
+
+-- a mark that is there changes nothing
+set-same : (ws : List ℕ) (k v : ℕ) → v ≡ getD ws k 0 → set ws k v ≡ ws
+set-same [] k v e = refl
+set-same (x ∷ ws) zero v e = ap (λ (y : ℕ). y ∷ ws) e
+set-same (x ∷ ws) (suc k) v e = ap (λ (l : List ℕ). x ∷ l) (set-same ws k v e)
+
+pub mark-there : (ws : List ℕ) (t : ℕ) → marked ws t ≡ true → mark ws t ≡ ws
+unfolding marked mark
+mark-there ws t e = set-same ws (t / 64) _ (or-set (t % 64) (getD ws (t / 64) 0) e)
 
 -- in a map of zeros nothing is marked
 pub zeros-at : (n k : ℕ) → _≡_ {A = ℕ} (getD (replicate n 0) k 0) 0

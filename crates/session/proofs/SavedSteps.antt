@@ -25,6 +25,9 @@ module _ (room base : ℕ) where
   pub session-wide : (a : Area) (n : ℕ) → a ≡ sessions → n ≡ sessionWidth → n ≡ a .width
   session-wide a n e h = rw (e, h)
 
+  pub key-within : (a : Area) (n : ℕ) → a ≡ sessions → n ≡ sessionWidth → (0 + a .key ≤ n) × (a .key ≤ 8)
+  key-within a n e h = rw (e, h) (omega arith, omega arith)
+
   pub counted-there : (a : Area) (t : List ℕ) (n : ℕ) → a ≡ sessions → n ≡ countIn a t → n ≡ countIn sessions t
   counted-there a t n e q = q ∙ ap (λ (b : Area). countIn b t) e
 

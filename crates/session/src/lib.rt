@@ -168,12 +168,23 @@ pub fn fresh(slot: &mut [u8], seid: u64)
     octets::write(slot, 0, 8, seid);
 }
 
-// Makes the slot that of its SEID: over the one that is there, or put in.
+// Makes the slot that of its SEID: over the one that is there, or put in where there is room. As areas::put_record, written out for
+// slots: where their width is known, all that come after move at once.
 pub fn save(t: &mut [u8], room: usize, base: usize, slot: &[u8])
     requires { ⌜ (base + 2 + room * sessionWidth ≤ length (now t)) × (length (now slot) ≡ sessionWidth) ⌝ }
     ensures { λ _. ⌜ now (t .exit) ≡ withRecord (sessionArea room base) (now (slot .entry)) (now (t .entry)) ⌝ }
 {
-    areas::put_record(t, layout::sessions(room, base), slot);
+    let a = layout::sessions(room, base);
+    let seid = octets::read(slot, 0, a.key);
+    let place = areas::find(t, a, seid);
+    match place {
+        Lookup::Found(p) => areas::replace(t, a, p, slot),
+        Lookup::Absent(p) => {
+            if areas::count(t, a) < a.room {
+                areas::insert(t, a, p, slot);
+            }
+        }
+    }
 }
 
 // Takes the session of a SEID out, if there is one.

@@ -13,20 +13,20 @@ use Rattle.rules.specs.Layout.{sessionWidth}
 
 refuse-requires : tie.Need-refuse-requires
 refuse-requires c κs =
-    let p = c .before .before .before .before .before .before .before .before .before .before .before .pre in
+    let p = c .before .before .before .before .before .before .before .before .before .before .before .before .before .pre in
     (p .0 .asked, fault-refuses (p .0) (c .before .before .before .before .before .before .read-request .ensures) _ _ _ (c .before .before .before .reading .given .1) .refusing, p .1 .settings)
 
 enter-requires : tie.Need-enter-requires
-enter-requires c κs = fetch-asks _ _ _ _ _ _ (enter-asks (c .before .before .before .before .before .before .before .before .before .before .before .pre .0) (c .before .before .before .before .before .before .read-request .ensures) (c .before .before .before .reading2 .given .1) _ (search needs) refl) _ (limit-is _ _ (c .before .before .before .before .before .before .before .before .before .before .before .pre .1 .settings))
+enter-requires c κs = fetch-asks _ _ _ _ _ _ (enter-asks (c .before .before .before .before .before .before .before .before .before .before .before .before .before .pre .0) (c .before .before .before .before .before .before .read-request .ensures) (c .before .before .before .reading2 .given .1) _ (search needs) refl) _ (limit-is _ _ (c .before .before .before .before .before .before .before .before .before .before .before .before .before .pre .1 .settings))
 
 settle-requires : tie.Need-settle-requires
-settle-requires c κs = (readable (c .before .before .before .before .before .before .before .before .before .before .before .before .before .before .before .before .before .pre .0) (c .before .before .before .before .before .before .before .before .before .before .before .before .read-request .ensures) (c .before .before .before .before .before .before .before .before .before .reading2 .given .1), c .before .before .before .before .before .before .before .before .before .before .before .before .before .before .before .before .before .pre .1, entered _ _ _ _ _ _ (enter-asks (c .before .before .before .before .before .before .before .before .before .before .before .before .before .before .before .before .before .pre .0) (c .before .before .before .before .before .before .before .before .before .before .before .before .read-request .ensures) (c .before .before .before .before .before .before .before .before .before .reading2 .given .1) (replicate sessionWidth 0) (search needs) refl) _ _ _ (limit-is _ _ (c .before .before .before .before .before .before .before .before .before .before .before .before .before .before .before .before .before .pre .1 .settings)) (c .before .before .before .before .before .enter .ensures))
+settle-requires c κs = (readable (c .before .before .before .before .before .before .before .before .before .before .before .before .before .before .before .before .before .before .before .pre .0) (c .before .before .before .before .before .before .before .before .before .before .before .before .read-request .ensures) (c .before .before .before .before .before .before .before .before .before .reading2 .given .1), c .before .before .before .before .before .before .before .before .before .before .before .before .before .before .before .before .before .before .before .pre .1, entered _ _ _ _ _ _ (enter-asks (c .before .before .before .before .before .before .before .before .before .before .before .before .before .before .before .before .before .before .before .pre .0) (c .before .before .before .before .before .before .before .before .before .before .before .before .read-request .ensures) (c .before .before .before .before .before .before .before .before .before .reading2 .given .1) (replicate sessionWidth 0) (search needs) refl) _ _ _ (limit-is _ _ (c .before .before .before .before .before .before .before .before .before .before .before .before .before .before .before .before .before .before .before .pre .1 .settings)) (c .before .before .before .before .before .enter .ensures))
 
 returns : tie.Need-returns
-returns c = replies-fault (fault-refuses (c .before .before .before .before .before .before .before .before .before .before .before .before .before .before .pre .0) (c .before .before .before .before .before .before .before .before .before .read-request .ensures) _ _ _ (c .before .before .before .before .before .before .reading .given .1)) (c .before .before .refuse .ensures)
+returns c = replies-fault (fault-refuses (c .before .before .before .before .before .before .before .before .before .before .before .before .before .before .before .before .pre .0) (c .before .before .before .before .before .before .before .before .before .read-request .ensures) _ _ _ (c .before .before .before .before .before .before .reading .given .1)) (c .before .before .refuse .ensures)
 
 returns-2 : tie.Need-returns-2
-returns-2 c = replies-judged (readable (c .before .before .before .before .before .before .before .before .before .before .before .before .before .before .before .before .before .before .before .before .before .before .before .before .pre .0) (c .before .before .before .before .before .before .before .before .before .before .before .before .before .before .before .before .before .before .before .read-request .ensures) (c .before .before .before .before .before .before .before .before .before .before .before .before .before .before .before .before .reading2 .given .1)) (c .before .before .before .before .before .before .settle .ensures)
+returns-2 c = replies-judged (readable (c .before .before .before .before .before .before .before .before .before .before .before .before .before .before .before .before .before .before .before .before .before .before .before .before .before .before .pre .0) (c .before .before .before .before .before .before .before .before .before .before .before .before .before .before .before .before .before .before .before .read-request .ensures) (c .before .before .before .before .before .before .before .before .before .before .before .before .before .before .before .before .reading2 .given .1)) (c .before .before .before .before .before .before .settle .ensures)
 
 pub change-spec : {M : Type 1} → statement M
 change-spec =

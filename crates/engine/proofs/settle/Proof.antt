@@ -32,18 +32,18 @@ found c = gone-stored _ _ _ _ (c .before .before .before .before .before .before
 
 judge-requires : tie.Need-judge-requires
 judge-requires c κs =
-    let p = c .before .before .before .before .before .before .before .before .before .before .before .before .before .before .before .before .before .before .pre in
-    entry-asks (p .0) (p .1) (p .2) (found (c .before .before .before .before .before .before .before))
+    let p = c .before .before .before .before .before .before .before .before .before .before .before .before .before .before .before .before .pre in
+    entry-asks (p .0) (p .1) (p .2) (found (c .before .before .before .before .before))
 
 refuse-requires : tie.Need-refuse-requires
 refuse-requires c κs =
-    let p = c .before .before .before .before .before .before .before .before .before .before .before .before .before .before .before .before .before .before .before .before .before .before .pre in
-    (p .0 .asked, settle-refuses (p .0) (p .1) (p .2) (found (c .before .before .before .before .before .before .before .before .before .before .before)) _ (c .before .before .before .judge .ensures) (c .before .before .if1 .taken), p .1 .settings)
+    let p = c .before .before .before .before .before .before .before .before .before .before .before .before .before .before .before .before .before .before .before .before .pre in
+    (p .0 .asked, settle-refuses (p .0) (p .1) (p .2) (found (c .before .before .before .before .before .before .before .before .before)) _ (c .before .before .before .judge .ensures) (c .before .before .if1 .taken), p .1 .settings)
 
 accept-requires : tie.Need-accept-requires
 accept-requires c κs =
-    let p = c .before .before .before .before .before .before .before .before .before .before .before .before .before .before .before .before .before .before .before .before .before .before .before .before .before .pre in
-    settle-accepts (p .0) (p .1) (p .2) (found (c .before .before .before .before .before .before .before .before .before .before .before .before .before .before)) _ (c .before .before .before .before .before .before .judge .ensures) (c .before .before .before .before .before .if1 .left)
+    let p = c .before .before .before .before .before .before .before .before .before .before .before .before .before .before .before .before .before .before .before .before .before .before .before .pre in
+    settle-accepts (p .0) (p .1) (p .2) (found (c .before .before .before .before .before .before .before .before .before .before .before .before)) _ (c .before .before .before .before .before .before .judge .ensures) (c .before .before .before .before .before .if1 .left)
 
 pub settle-spec : {M : Type 1} → statement M
 settle-spec =
@@ -51,10 +51,8 @@ settle-spec =
     (tie.spec
     (λ c. search needs)
     removed-requires
-    (λ c. search needs)
-    (λ c. search needs)
-    (λ c. within (c .before .before .before .before .before))
-    (λ c. sym (length-take-le _ _ (within (c .before .before .before .before .before .before))))
+    (λ c. within (c .before .before .before))
+    (λ c. sym (length-take-le _ _ (within (c .before .before .before .before))))
     judge-requires
     refuse-requires
     (λ c. search needs)
@@ -62,8 +60,8 @@ settle-spec =
     (λ c. search needs)
     (λ c. search needs)
     (λ c. search needs)
-    (λ c. within (c .before .before .before .before .before .before .before .before .before .before .before))
-    (λ c. sym (length-take-le _ _ (within (c .before .before .before .before .before .before .before .before .before .before .before .before))))
+    (λ c. within (c .before .before .before .before .before .before .before .before .before))
+    (λ c. sym (length-take-le _ _ (within (c .before .before .before .before .before .before .before .before .before .before))))
     accept-requires
     (λ c. search needs)
     (λ c. search needs)

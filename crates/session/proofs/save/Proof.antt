@@ -1,17 +1,60 @@
-use Rattle.session.proofs.SavedSteps.{sessions-fit, session-wide, saved-there}
+use Rattle.areas.proofs.Steps.{found-room, absent-room, put-over-found, put-in-absent, put-nowhere}
+use Rattle.session.proofs.SavedSteps.{sessions-fit, session-wide, key-within, saved-there}
+use mathlib.Core.Path.{sym, _∙_}
+use native.Mathlib.Omega.{arith}
 use borrow.Author.Needs.{needs}
 use Rattle.session.proofs.save.Statement.{statement}
 use Rattle.session.proofs.save.Tie as tie
 
--- src/lib.rt:42:26
--- src/lib.rt:42:5
-put-record-requires : tie.Need-put-record-requires
-put-record-requires c κs = (search sessions-fit, search session-wide)
+read-requires : tie.Need-read-requires
+read-requires c κs = key-within _ _ _ _ (c .sessions .ensures) (c .before .before .before .pre .1)
 
--- src/lib.rt:38:1
--- src/lib.rt:38:1
+find-requires : tie.Need-find-requires
+find-requires c κs = sessions-fit _ _ _ _ (c .before .before .sessions .ensures) (c .before .before .before .before .before .pre .0)
+
+replace-requires : tie.Need-replace-requires
+replace-requires c κs =
+    let f = found-room _ (c .before .before .before .before .before .before .before .before .before .before .args .t .now) (c .before .before .before .before .before .before .read .result) (c .before .before .place .given .0 .0) (sym (c .before .before .before .before .find .ensures) ∙ c .before .before .place .given .1) in
+    (sessions-fit _ _ _ _ (c .before .before .before .before .before .before .before .sessions .ensures) (c .before .before .before .before .before .before .before .before .before .before .pre .0), omega (arith, f), session-wide _ _ _ _ (c .before .before .before .before .before .before .before .sessions .ensures) (c .before .before .before .before .before .before .before .before .before .before .pre .1))
+
+count-requires : tie.Need-count-requires
+count-requires c κs = sessions-fit _ _ _ _ (c .before .before .before .before .before .before .before .sessions .ensures) (c .before .before .before .before .before .before .before .before .before .before .pre .0)
+
+insert-requires : tie.Need-insert-requires
+insert-requires c κs =
+    let f = absent-room _ (c .before .before .before .before .before .before .before .before .before .before .before .before .before .before .args .t .now) (c .before .before .before .before .before .before .before .before .before .before .read .result) (c .before .before .before .before .before .before .place2 .given .0 .0) (sym (c .before .before .before .before .before .before .before .before .find .ensures) ∙ c .before .before .before .before .before .before .place2 .given .1) in
+    (sessions-fit _ _ _ _ (c .before .before .before .before .before .before .before .before .before .before .before .sessions .ensures) (c .before .before .before .before .before .before .before .before .before .before .before .before .before .before .pre .0), f, search needs, session-wide _ _ _ _ (c .before .before .before .before .before .before .before .before .before .before .before .sessions .ensures) (c .before .before .before .before .before .before .before .before .before .before .before .before .before .before .pre .1))
+
 returns : tie.Need-returns
-returns c = search saved-there
+returns c =
+    saved-there _ _ _ _ _ _ (c .before .before .before .before .before .before .before .before .before .before .sessions .ensures)
+    (put-over-found _ _ _ (c .before .before .before .before .before .place .given .0 .0) _ (c .before .before .before .before .before .before .before .find .ensures) _ _ (c .before .before .before .before .before .before .before .before .before .read .ensures .0) (c .before .before .before .before .before .place .given .1) (c .before .before .replace .ensures))
+
+returns-2 : tie.Need-returns-2
+returns-2 c =
+    saved-there _ _ _ _ _ _ (c .before .before .before .before .before .before .before .before .before .before .before .before .before .before .sessions .ensures)
+    (put-in-absent _ _ _ (c .before .before .before .before .before .before .before .before .before .place2 .given .0 .0) _ (c .before .before .before .before .before .before .before .before .before .before .before .find .ensures) _ _ _ (c .before .before .before .before .before .before .before .before .before .before .before .before .before .read .ensures .0) (c .before .before .before .before .before .before .before .before .before .place2 .given .1) (c .before .before .before .before .before .before .count .ensures) (c .before .before .before .before .if1 .taken) (c .before .before .insert .ensures))
+
+returns-3 : tie.Need-returns-3
+returns-3 c =
+    saved-there _ _ _ _ _ _ (c .before .before .before .before .before .before .before .before .before .before .sessions .ensures)
+    (put-nowhere _ _ _ (c .before .before .before .before .before .place2 .given .0 .0) _ (c .before .before .before .before .before .before .before .find .ensures) _ _ (c .before .before .before .before .before .before .before .before .before .read .ensures .0) (c .before .before .before .before .before .place2 .given .1) (c .before .before .count .ensures) (c .if1 .left))
 
 pub save-spec : {M : Type 1} → statement M
-save-spec = tie.close (tie.spec (λ c κs. search needs) put-record-requires (λ c. search needs) returns)
+save-spec =
+    tie.close
+    (tie.spec
+    (λ c κs. search needs)
+    read-requires
+    find-requires
+    (λ c. search needs)
+    replace-requires
+    (λ c. search needs)
+    count-requires
+    insert-requires
+    (λ c. search needs)
+    returns
+    (λ c. search needs)
+    returns-2
+    (λ c. search needs)
+    returns-3)
