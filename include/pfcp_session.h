@@ -29,8 +29,8 @@
  * the table, and reads the copy. A copy that was made without the lock may mix two states, and need
  * not be a broken table for that.
  *
- * Stack. A request takes 75,032 octets of stack (docs/benchmarks.md has how it was measured), the
- * other calls take less. There is no heap. A thread of 96 KiB is large enough.
+ * Stack. A request takes 58,288 octets of stack (docs/benchmarks.md has how it was measured), the
+ * other calls take less. There is no heap. A thread of 64 KiB is large enough.
  *
  * Architecture. The archive is for x86-64 Linux, any processor of that kind. It needs memcpy, memmove
  * and memset of the C library and nothing else, and can be linked into position independent code.
