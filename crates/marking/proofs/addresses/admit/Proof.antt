@@ -1,7 +1,7 @@
 -- `marking::addresses::admit` meets its contract.
 -- Assumes nothing.
 use native.Mathlib.Omega.{arith}
-use Rattle.marking.proofs.AddressGathering.{first-fits, second-fits, two-first, two-second, two-few, two-new}
+use Rattle.marking.proofs.AddressAnswers.{first-fits, second-fits, two-first, two-second, two-few, two-new}
 use borrow.Author.Needs.{needs}
 use Rattle.marking.proofs.addresses.admit.Statement.{statement}
 use Rattle.marking.proofs.addresses.admit.Tie as tie

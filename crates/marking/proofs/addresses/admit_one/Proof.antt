@@ -1,6 +1,6 @@
 -- `marking::addresses::admit_one` meets its contract.
 -- Assumes nothing.
-use Rattle.marking.proofs.AddressGathering.{one-none, one-clash, one-new}
+use Rattle.marking.proofs.AddressAnswers.{one-none, one-clash, one-new}
 use borrow.Author.Needs.{needs}
 use Rattle.marking.proofs.addresses.admit_one.Statement.{statement}
 use Rattle.marking.proofs.addresses.admit_one.Tie as tie
