@@ -1,14 +1,14 @@
 -- A session's slot: endpoints first, then PDRs; and its offsets are those that the session holds.
 -- Assumes nothing.
 use mathlib.Core.Path.{_≡_, refl, sym, ap, ap₂, _∙_}
-use mathlib.Core.Bool.{Bool, true, false, _||_, or-assoc}
+use mathlib.Core.Bool.{Bool, true, false, not, _&&_, _||_, or-assoc}
 use mathlib.Core.Option.{Option, none, some}
 use mathlib.Core.List.{List, [], _∷_, _++_, map}
-use Prim.Native.Nat.{ℕ, suc, _+_, _-_, _≤_, zero-le, suc-le-suc}
-use native.Mathlib.Nat.{le-trans, le-of-eq}
+use Prim.Native.Nat.{ℕ, _+_, _-_, _≤_, _<_}
 use native.Mathlib.Omega.{arith}
-use lib.Dec.{T}
-use lib.ListN.{length, getD, length-append}
+use borrow.Author.Tests.{lt-ltb}
+use lib.Dec.{T, eqb, ltb}
+use lib.ListN.{length, getD}
 use Rattle.octets.specs.Choice.{pick, consOption}
 use Rattle.octets.specs.Octets.{octetAt, slices}
 use Rattle.octets.specs.Lists.{any, keep, collect}
@@ -17,107 +17,53 @@ use Rattle.rules.specs.Model.{Settings, Pdr, Endpoint, pdrAddress, endpointAddr
 use Rattle.rules.specs.Layout.{viewPdr, viewEndpoint, pdrWidth, endpointWidth, pdrCountAt, endpointCountAt}
 use Rattle.laws.proofs.LayoutLaws.{pdr-view, endpoint-view}
 use Rattle.pool.specs.Map.{marked, marks, newMarks, offsets}
-use Rattle.pool.proofs.Marks.{marks-append, new-append}
+use Rattle.pool.proofs.Marks.{marks-append, length-marks, new-append}
 use Rattle.marking.specs.Walk.{addressOffsets}
 use Rattle.records.specs.Slot.{headSound, pdrArea, endpointArea}
 use Rattle.records.proofs.SlotLaws.{counts-headed, slotOf, view-slot}
 use Rattle.marking.specs.declared.addresses.Met.{Met}
 use Rattle.marking.specs.declared.addresses.Met.the-variants.{Clash, New}
-use Rattle.marking.specs.Offsets.{addressAt, offsetOf, offsetsIn, slotOffsets, meets, heldOffsets, AddressesMarked, AddressesAdmitted}
-use Rattle.octets.proofs.Numbers.{length-slices}
+use Rattle.marking.specs.Offsets.{addressAt, offsetOf, pdrAddressAt, endpointAddressAt, offsetsIn, slotOffsets, heldOffsets, earlier, Agrees, AreaClaimed, AddressesAdmitted, SlotClaimed}
+use Rattle.marking.proofs.AddressSteps.{below}
+use Rattle.marking.proofs.AddressAreas.{any-same}
 
 -- ---- one list of offsets and then another
 
-any-both : (ws is js : List ℕ) → any (marked ws) (is ++ js) ≡ (any (marked ws) is || any (marked ws) js)
+any-both : (p : ℕ → Bool) (is js : List ℕ) → any p (is ++ js) ≡ (any p is || any p js)
 unfolding any
-any-both ws [] js = refl
-any-both ws (i ∷ is) js = ap (λ (b : Bool). marked ws i || b) (any-both ws is js) ∙ sym (or-assoc (marked ws i) (any (marked ws) is) (any (marked ws) js))
+any-both p [] js = refl
+any-both p (i ∷ is) js = ap (λ (b : Bool). p i || b) (any-both p is js) ∙ sym (or-assoc (p i) (any p is) (any p js))
 
 -- what an answer says
-module _ (ws is : List ℕ) (r : Met) (q : r ≡ meets ws is) where
-  pub meets-clash : r ≡ Clash → any (marked ws) is ≡ true
-  unfolding meets
-  meets-clash e = go (any (marked ws) is) (sym q ∙ e)
+module _ {turn count : ℕ} {is : List ℕ} {most : ℕ} {hs ws : List ℕ} {r : Met} {hs′ ws′ : List ℕ} (c : AreaClaimed turn count is most hs ws r hs′ ws′) where
+  area-clash : r ≡ Clash → any (earlier turn hs) is ≡ true
+  area-clash e = go (any (earlier turn hs) is) (sym (c .answer) ∙ e)
     where
-      go : (b : Bool) → pick b Clash (New (length is)) ≡ Clash → b ≡ true
+      go : (b : Bool) → pick b Clash (New (newMarks ws is)) ≡ Clash → b ≡ true
       go true z = refl
       go false z = absurd (let u : _≡_ {A = ℕ} 0 1 = cc in omega arith)
 
-  pub meets-new : (k : ℕ) → r ≡ New k → (any (marked ws) is ≡ false) × (k ≡ length is)
-  unfolding meets
-  meets-new k e = go (any (marked ws) is) (sym q ∙ e)
+  area-new : (k : ℕ) → r ≡ New k → (any (earlier turn hs) is ≡ false) × (k ≡ newMarks ws is)
+  area-new k e = go (any (earlier turn hs) is) (sym (c .answer) ∙ e)
     where
-      go : (b : Bool) → pick b Clash (New (length is)) ≡ New k → (b ≡ false) × (k ≡ length is)
+      go : (b : Bool) → pick b Clash (New (newMarks ws is)) ≡ New k → (b ≡ false) × (k ≡ newMarks ws is)
       go true z = absurd (let u : _≡_ {A = ℕ} 0 1 = cc in omega arith)
       go false z = (refl, (cc))
 
--- a record has one at most
-length-collect : (f : List ℕ → Option ℕ) (xss : List (List ℕ)) → length (collect f xss) ≤ length xss
-unfolding collect
-length-collect f [] = zero-le
-length-collect f (xs ∷ xss) = one (f xs) (length-collect f xss)
-  where
-    one : (o : Option ℕ) → length (collect f xss) ≤ length xss → length (consOption o (collect f xss)) ≤ suc (length xss)
-    one none h = le-trans h (omega arith)
-    one (some k) h = suc-le-suc h
+  pub area-long : (k : ℕ) → r ≡ New k → length ws′ ≡ length ws
+  area-long k e = ap length (c .words k e) ∙ length-marks ws is
 
-length-offsets : (s : Settings) (w at n : ℕ) (a : List ℕ) → length (offsetsIn s w at n a) ≤ n
-unfolding offsetsIn
-length-offsets s w at n a =
-    le-trans (length-collect (λ xs. offsetOf s (addressAt at xs)) (slices w n a)) (le-of-eq (length-slices w n a))
-
-module _ (s : Settings) (ws xs : List ℕ) where
+-- the offsets of an area, and of a slot
+module _ (s : Settings) (xs : List ℕ) where
   abbrev pub endsOf : List ℕ
-  endsOf = offsetsIn s endpointWidth 6 (getD xs endpointCountAt 0) (endpointArea xs)
+  endsOf = offsetsIn s endpointWidth endpointAddressAt (getD xs endpointCountAt 0) (endpointArea xs)
 
   abbrev pub pdrsOf : List ℕ
-  pdrsOf = offsetsIn s pdrWidth 19 (getD xs pdrCountAt 0) (pdrArea xs)
+  pdrsOf = offsetsIn s pdrWidth pdrAddressAt (getD xs pdrCountAt 0) (pdrArea xs)
 
-  pub offsets-are : slotOffsets s xs ≡ endsOf ++ pdrsOf
+  offsets-are : slotOffsets s xs ≡ endsOf ++ pdrsOf
   unfolding slotOffsets octetAt
   offsets-are = refl
-
-  any-slot : any (marked ws) (slotOffsets s xs) ≡ (any (marked ws) endsOf || any (marked ws) pdrsOf)
-  any-slot = ap (any (marked ws)) offsets-are ∙ any-both ws endsOf pdrsOf
-
-  module _ (e : Met) (qe : e ≡ meets ws endsOf) where
-    pub meet-ends : e ≡ Clash → Clash ≡ meets ws (slotOffsets s xs)
-    unfolding meets
-    meet-ends z = let t : any (marked ws) (slotOffsets s xs) ≡ true = any-slot ∙ rw (meets-clash ws endsOf e qe z) in sym (rw t)
-
-    module _ (k : ℕ) (ze : e ≡ New k) (p : Met) (qp : p ≡ meets ws pdrsOf) where
-      pub meet-pdrs : p ≡ Clash → Clash ≡ meets ws (slotOffsets s xs)
-      unfolding meets
-      meet-pdrs z =
-          let t : any (marked ws) (slotOffsets s xs) ≡ true = any-slot ∙ rw (meets-new ws endsOf e qe k ze .0) (meets-clash ws pdrsOf p qp z) in
-          sym (rw t)
-
-      pub meet-whole : (j : ℕ) → p ≡ New j → New (k + j) ≡ meets ws (slotOffsets s xs)
-      unfolding meets
-      meet-whole j zp =
-          let a = meets-new ws endsOf e qe k ze in
-          let b = meets-new ws pdrsOf p qp j zp in
-          let t : any (marked ws) (slotOffsets s xs) ≡ false = any-slot ∙ rw (a .0) (b .0) in
-          let n : length (slotOffsets s xs) ≡ k + j = ap length offsets-are ∙ length-append endsOf pdrsOf ∙ sym (ap₂ _+_ (a .1) (b .1)) in
-          sym (λ i. pick (t i) Clash (New (n i)))
-
-      pub meet-few : T (headSound xs) → (j : ℕ) → p ≡ New j → k + j ≤ 24
-      meet-few h j zp =
-          let c = counts-headed xs h in
-          let a = meets-new ws endsOf e qe k ze .1 in
-          let b = meets-new ws pdrsOf p qp j zp .1 in
-          omega (arith, a, b, length-offsets s endpointWidth 6 (getD xs endpointCountAt 0) (endpointArea xs), length-offsets s pdrWidth 19 (getD xs pdrCountAt 0) (pdrArea xs), c .endpoints, c .pdrs)
-
-  pub mark-whole : T (headSound xs) → (e : ℕ) (w : List ℕ) → AddressesMarked ws endsOf (getD xs endpointCountAt 0) e w → (p : ℕ) (u : List ℕ) → AddressesMarked w pdrsOf (getD xs pdrCountAt 0) p u
-      → AddressesMarked ws (slotOffsets s xs) 24 (e + p) u
-  mark-whole h e w qe p u qp =
-      let c = counts-headed xs h in
-      let after : p ≡ newMarks (marks ws endsOf) pdrsOf = qp .new ∙ ap (λ (v : List ℕ). newMarks v pdrsOf) (qe .words) in
-      record {
-        new = ap₂ _+_ (qe .new) after ∙ sym (new-append ws endsOf pdrsOf) ∙ ap (newMarks ws) (sym offsets-are);
-        words = qp .words ∙ ap (λ (v : List ℕ). marks v pdrsOf) (qe .words) ∙ sym (marks-append ws endsOf pdrsOf) ∙ ap (marks ws) (sym offsets-are);
-        few = omega (arith, qe .few, qp .few, c .endpoints, c .pdrs);
-      }
 
 -- ---- the offsets that the session in a slot holds
 
@@ -156,15 +102,15 @@ module _ (s : Settings) where
       collect-map view (λ r. offsetOf s (f r)) (slices w n a)
       ∙ collect-same (λ xs. offsetOf s (f (view xs))) (λ xs. offsetOf s (addressAt at xs)) (λ xs. ap (offsetOf s) (e xs)) (slices w n a)
 
-  address-pdr : (xs : List ℕ) → pdrAddress (viewPdr xs) ≡ addressAt 19 xs
+  address-pdr : (xs : List ℕ) → pdrAddress (viewPdr xs) ≡ addressAt pdrAddressAt xs
   address-pdr xs = ap pdrAddress (pdr-view xs)
 
-  address-endpoint : (xs : List ℕ) → endpointAddress (viewEndpoint xs) ≡ addressAt 6 xs
+  address-endpoint : (xs : List ℕ) → endpointAddress (viewEndpoint xs) ≡ addressAt endpointAddressAt xs
   address-endpoint xs = ap endpointAddress (endpoint-view xs)
 
-  pub held-are : (xs : List ℕ) → T (headSound xs) → heldOffsets s xs ≡ slotOffsets s xs
+  held-are : (xs : List ℕ) → T (headSound xs) → heldOffsets s xs ≡ slotOffsets s xs
   unfolding heldOffsets addressOffsets
-  held-are xs h = ap (addressOffsets s) (view-slot xs (counts-headed xs h)) ∙ go ∙ sym (offsets-are s [] xs)
+  held-are xs h = ap (addressOffsets s) (view-slot xs (counts-headed xs h)) ∙ go ∙ sym (offsets-are s xs)
     where
       ends : List Endpoint
       ends = map viewEndpoint (slices endpointWidth (getD xs endpointCountAt 0) (endpointArea xs))
@@ -172,51 +118,91 @@ module _ (s : Settings) where
       pdrs : List Pdr
       pdrs = map viewPdr (slices pdrWidth (getD xs pdrCountAt 0) (pdrArea xs))
 
-      go : addressOffsets s (slotOf xs) ≡ endsOf s [] xs ++ pdrsOf s [] xs
+      go : addressOffsets s (slotOf xs) ≡ endsOf s xs ++ pdrsOf s xs
       go =
           unfold addressOffsets sessionAddresses slotOf held in
           (held-all (collect endpointAddress ends ++ collect pdrAddress pdrs)
           ∙ collect-append (λ a. offsetOf s (some a)) (collect endpointAddress ends) (collect pdrAddress pdrs)
-          ∙ ap₂ _++_ (held-collect endpointAddress ends ∙ of-records endpointAddress viewEndpoint 6 address-endpoint endpointWidth (getD xs endpointCountAt 0) (endpointArea xs))
-          (held-collect pdrAddress pdrs ∙ of-records pdrAddress viewPdr 19 address-pdr pdrWidth (getD xs pdrCountAt 0) (pdrArea xs)))
+          ∙ ap₂ _++_ (held-collect endpointAddress ends ∙ of-records endpointAddress viewEndpoint endpointAddressAt address-endpoint endpointWidth (getD xs endpointCountAt 0) (endpointArea xs))
+          (held-collect pdrAddress pdrs ∙ of-records pdrAddress viewPdr pdrAddressAt address-pdr pdrWidth (getD xs pdrCountAt 0) (pdrArea xs)))
 
 -- ---- the answers
 
-module _ (s : Settings) (ws xs : List ℕ) (h : T (headSound xs)) (m : Met) (q : m ≡ meets ws (slotOffsets s xs)) where
-  is : slotOffsets s xs ≡ heldOffsets s xs
-  is = sym (held-are s xs h)
+-- before its turn a session's holders are those of the map
+before-turn : (turn count : ℕ) (hs ws : List ℕ) → 1 ≤ turn → Agrees (turn - 1) count hs ws → (i : ℕ) → i < count → earlier turn hs i ≡ marked ws i
+unfolding earlier
+before-turn turn count hs ws one g i h = rw (lt-ltb (getD hs i 0) turn (omega (arith, g .until i h)), g .free i h) (go (marked ws i))
+  where
+    go : (b : Bool) → (not (not b) && true) ≡ b
+    go true = refl
+    go false = refl
 
-  pub admit-clash : m ≡ Clash → AddressesAdmitted s ws xs Clash ws
-  admit-clash e =
-      let t : any (marked ws) (heldOffsets s xs) ≡ true = ap (any (marked ws)) (sym is) ∙ meets-clash ws (slotOffsets s xs) m q e in
+pub later : (turn count : ℕ) (hs ws : List ℕ) → Agrees (turn - 1) count hs ws → Agrees turn count hs ws
+later turn count hs ws g = record { long = g .long; most = g .most; last = g .last; free = g .free; until = λ i h. omega (arith, g .until i h) }
+
+-- so is any of the offsets of a list that are all of the pool
+any-before : (p q : ℕ → Bool) (count : ℕ) → ((i : ℕ) → i < count → p i ≡ q i) → (f : List ℕ → Option ℕ) → ((xs : List ℕ) (i : ℕ) → some i ≡ f xs → i < count) → (xss : List (List ℕ)) → any p (collect f xss) ≡ any q (collect f xss)
+unfolding collect any
+any-before p q count e f b [] = refl
+any-before p q count e f b (xs ∷ xss) = go (f xs) (b xs) (any-before p q count e f b xss)
+  where
+    go : (o : Option ℕ) → ((i : ℕ) → some i ≡ o → i < count) → any p (collect f xss) ≡ any q (collect f xss) → any p (consOption o (collect f xss)) ≡ any q (consOption o (collect f xss))
+    go none b z = z
+    go (some i) b z = λ j. e i (b i refl) j || z j
+
+module _ (s : Settings) (turn : ℕ) (hs ws xs : List ℕ) (h : T (headSound xs)) (one : 1 ≤ turn) (g : Agrees (turn - 1) (s .addressCount) hs ws) where
+  any-in : (w at n : ℕ) (a : List ℕ) → any (earlier turn hs) (offsetsIn s w at n a) ≡ any (marked ws) (offsetsIn s w at n a)
+  unfolding offsetsIn
+  any-in w at n a =
+      any-before (earlier turn hs) (marked ws) (s .addressCount) (before-turn turn (s .addressCount) hs ws one g) (λ ys. offsetOf s (addressAt at ys)) (λ ys i e. below s i (addressAt at ys) e) (slices w n a)
+
+  held-both : heldOffsets s xs ≡ endsOf s xs ++ pdrsOf s xs
+  held-both = held-are s xs h ∙ offsets-are s xs
+
+  any-held : any (marked ws) (heldOffsets s xs) ≡ (any (earlier turn hs) (endsOf s xs) || any (earlier turn hs) (pdrsOf s xs))
+  any-held =
+      ap (any (marked ws)) held-both
+      ∙ any-both (marked ws) (endsOf s xs) (pdrsOf s xs)
+      ∙ (λ j. sym (any-in endpointWidth endpointAddressAt (getD xs endpointCountAt 0) (endpointArea xs)) j || sym (any-in pdrWidth pdrAddressAt (getD xs pdrCountAt 0) (pdrArea xs)) j)
+
+  clash : any (marked ws) (heldOffsets s xs) ≡ true → (hs′ ws′ : List ℕ) → SlotClaimed s turn ws xs Clash hs′ ws′
+  clash t hs′ ws′ =
       record {
-        answer = sym (rw t);
-        words = λ n z. absurd (let u : _≡_ {A = ℕ} 0 1 = cc in omega arith);
-        few = λ n z. absurd (let u : _≡_ {A = ℕ} 0 1 = cc in omega arith);
+        admitted = record {
+          answer = sym (rw t);
+          words = λ n z. absurd (let u : _≡_ {A = ℕ} 0 1 = cc in omega arith);
+          few = λ n z. absurd (let u : _≡_ {A = ℕ} 0 1 = cc in omega arith);
+        };
+        agrees = λ n z. absurd (let u : _≡_ {A = ℕ} 0 1 = cc in omega arith);
       }
 
-  module _ (k : ℕ) (e : m ≡ New k) where
-    none-met : any (marked ws) (heldOffsets s xs) ≡ false
-    none-met = ap (any (marked ws)) (sym is) ∙ meets-new ws (slotOffsets s xs) m q k e .0
+  module _ (e : Met) (hs₁ ws₁ : List ℕ) (qe : AreaClaimed turn (s .addressCount) (endsOf s xs) (getD xs endpointCountAt 0) hs ws e hs₁ ws₁) where
+    pub slot-ends : e ≡ Clash → SlotClaimed s turn ws xs Clash hs₁ ws₁
+    slot-ends z = clash (any-held ∙ rw (area-clash qe z)) hs₁ ws₁
 
-    no-offsets : (l : List ℕ) → 0 ≡ length l → l ≡ []
-    no-offsets [] z = refl
-    no-offsets (i ∷ l) z = absurd (omega arith)
+    module _ (k : ℕ) (ze : e ≡ New k) (p : Met) (hs₂ ws₂ : List ℕ) (qp : AreaClaimed turn (s .addressCount) (pdrsOf s xs) (getD xs pdrCountAt 0) hs₁ ws₁ p hs₂ ws₂) where
+      pdrs-same : any (earlier turn hs₁) (pdrsOf s xs) ≡ any (earlier turn hs) (pdrsOf s xs)
+      pdrs-same = any-same (earlier turn hs₁) (earlier turn hs) (qe .same k ze) (pdrsOf s xs)
 
-    pub admit-none : k ≡ 0 → AddressesAdmitted s ws xs (New 0) ws
-    unfolding marks newMarks
-    admit-none z =
-        let empty : heldOffsets s xs ≡ [] = sym is ∙ no-offsets (slotOffsets s xs) (sym z ∙ meets-new ws (slotOffsets s xs) m q k e .1) in
-        record {
-          answer = sym (rw (none-met) (ap (λ (l : List ℕ). New (newMarks ws l)) empty));
-          words = λ n y. ap (marks ws) (sym empty);
-          few = λ n y. let same : 0 ≡ n = cc in omega arith;
-        }
+      pub slot-pdrs : p ≡ Clash → SlotClaimed s turn ws xs Clash hs₂ ws₂
+      slot-pdrs z = clash (any-held ∙ rw (area-new qe k ze .0, ← pdrs-same, area-clash qp z)) hs₂ ws₂
 
-    pub admit-marked : (n : ℕ) (u : List ℕ) → AddressesMarked ws (slotOffsets s xs) 24 n u → AddressesAdmitted s ws xs (New n) u
-    admit-marked n u r =
-        record {
-          answer = sym (rw (none-met) (ap (λ (l : List ℕ). New (newMarks ws l)) (sym is) ∙ ap New (sym (r .new))));
-          words = λ j y. r .words ∙ ap (marks ws) is;
-          few = λ j y. let same : n ≡ j = cc in omega (arith, r .few);
-        }
+      pub slot-few : (j : ℕ) → p ≡ New j → k + j ≤ 24
+      slot-few j zp = let c = counts-headed xs h in omega (arith, qe .few k ze, qp .few j zp, c .endpoints, c .pdrs)
+
+      pub slot-whole : (j : ℕ) → p ≡ New j → SlotClaimed s turn ws xs (New (k + j)) hs₂ ws₂
+      slot-whole j zp =
+          let a = area-new qe k ze in
+          let b = area-new qp j zp in
+          let we = qe .words k ze in
+          let unmet : any (marked ws) (heldOffsets s xs) ≡ false = any-held ∙ rw (a .0, ← pdrs-same, b .0) in
+          let new : newMarks ws (heldOffsets s xs) ≡ k + j =
+          ap (newMarks ws) held-both ∙ new-append ws (endsOf s xs) (pdrsOf s xs) ∙ sym (ap₂ _+_ (a .1) (b .1 ∙ ap (λ (v : List ℕ). newMarks v (pdrsOf s xs)) we)) in
+          record {
+            admitted = record {
+              answer = sym (rw unmet (ap New new));
+              words = λ n _. qp .words j zp ∙ ap (λ (v : List ℕ). marks v (pdrsOf s xs)) we ∙ sym (marks-append ws (endsOf s xs) (pdrsOf s xs)) ∙ ap (marks ws) (sym held-both);
+              few = λ n v. let same : k + j ≡ n = cc in let t = slot-few j zp in omega arith;
+            };
+            agrees = λ n _. qp .agrees j zp;
+          }

@@ -5,23 +5,26 @@ use Prim.Native.Nat.{ℕ, _+_, _-_, _*_, _≤_, _<_}
 use native.Mathlib.Omega.{arith}
 use mathlib.Core.Bool.{Bool, true, false, not, _&&_}
 use mathlib.Core.List.{List, [], _∷_}
-use lib.Dec.{T}
-use lib.ListN.{take, drop}
+use lib.Dec.{T, lit≤, lit<}
+use lib.ListN.{take, drop, set, replicate, getD, length-set, length-replicate}
+use lib.Seq.{getD-set-same, getD-set-other}
 use Rattle.octets.specs.Choice.{pick}
 use Rattle.octets.specs.Octets.{part, slices}
 use Rattle.octets.specs.Lists.{any}
 use Rattle.octets.proofs.Tests.{each, of-true, and-left}
+use Rattle.rules.specs.Limits.{maxAddresses}
 use Rattle.rules.specs.Model.{Settings}
 use Rattle.rules.specs.Layout.{sessionWidth}
 use Rattle.pool.specs.Map.{marked, marks, newMarks}
+use Rattle.pool.proofs.Marks.{zeros-at, marked-zeros}
 use Rattle.records.specs.Slot.{headSound, slotTests, slotSound}
 use Rattle.marking.specs.declared.addresses.Met.{Met}
-use Rattle.marking.specs.Offsets.{heldOffsets}
+use Rattle.marking.specs.Offsets.{heldOffsets, holdersLength, Agrees}
 use Rattle.marking.specs.declared.Marks.{Marks}
 use Rattle.marking.specs.declared.Marks.the-variants.{Clash, New}
 use Rattle.marking.specs.declared.Seen.{Seen}
 use Rattle.marking.specs.declared.Seen.the-variants.{Broken, Held}
-use Rattle.marking.specs.Marking.{marksAfter, newAfter, slotHolds, slotKeeps, Admitted, slotTeids, slotFree, Entered, slotsKeep, slotsFree, teidsIn, addressesIn, AllAdmitted}
+use Rattle.marking.specs.Marking.{marksAfter, newAfter, slotHolds, slotKeeps, Admitted, slotTeids, slotFree, Entered, SessionClaimed, slotsKeep, slotsFree, teidsIn, addressesIn, AllAdmitted}
 use Rattle.marking.proofs.Through.{Through, through-none, through-more, through-stop, through-all}
 use Rattle.octets.proofs.Bools.{and-false}
 use Rattle.marking.specs.declared.addresses.Met.the-variants as met
@@ -78,22 +81,31 @@ module _ (s : Settings) (ws as′ xs : List ℕ) (r : Marks) (w : List ℕ) (m :
     few = λ n k q. absurd (let z : _≡_ {A = ℕ} 0 1 = cc in omega arith);
   }
 
-  pub entered-clash : r ≡ Clash → Entered s ws as′ xs Broken w as′
-  entered-clash e = broken w as′ (rw (admitted-clash m e))
+  not-held : (turn : ℕ) (v hs b : List ℕ) → Entered s ws as′ xs Broken v b → SessionClaimed s turn ws as′ xs Broken v hs b
+  not-held turn v hs b x = record { entered = x; agrees = λ n k q. absurd (let z : _≡_ {A = ℕ} 0 1 = cc in omega arith) }
 
-  module _ (n : ℕ) (e : r ≡ New n) (t : Met) (b : List ℕ) (q : held.AddressesAdmitted s as′ xs t b) where
-    pub entered-taken : t ≡ met.Clash → Entered s ws as′ xs Broken w b
-    entered-taken z = broken w b (rw (taken-clash q z) (and-false (slotKeeps s ws xs)))
+  pub entered-clash : (turn : ℕ) (hs : List ℕ) → r ≡ Clash → SessionClaimed s turn ws as′ xs Broken w hs as′
+  entered-clash turn hs e = not-held turn w hs as′ (broken w as′ (rw (admitted-clash m e)))
 
-    pub entered-whole : (k : ℕ) → t ≡ met.New k → Entered s ws as′ xs (Held n k) w b
+  module _ (n : ℕ) (e : r ≡ New n) (turn : ℕ) (t : Met) (hs b : List ℕ) (c : held.SlotClaimed s turn as′ xs t hs b) where
+    q : held.AddressesAdmitted s as′ xs t b
+    q = c .admitted
+
+    pub entered-taken : t ≡ met.Clash → SessionClaimed s turn ws as′ xs Broken w hs b
+    entered-taken z = not-held turn w hs b (broken w b (rw (taken-clash q z) (and-false (slotKeeps s ws xs))))
+
+    pub entered-whole : (k : ℕ) → t ≡ met.New k → SessionClaimed s turn ws as′ xs (Held n k) w hs b
     entered-whole k z =
         let f = admitted-new m n e in
         let g = taken-new q k z in
         record {
-          answer = sym (λ i. pick (f .0 i && g .0 i) (Held (sym (f .1) i) (sym (g .1) i)) Broken);
-          words = λ i j y. f .2;
-          addresses = λ i j y. q .words k z;
-          few = λ i j y. let x : n ≡ i = cc in let u : k ≡ j = cc in (omega (arith, m .few n e), omega (arith, q .few k z));
+          entered = record {
+            answer = sym (λ i. pick (f .0 i && g .0 i) (Held (sym (f .1) i) (sym (g .1) i)) Broken);
+            words = λ i j y. f .2;
+            addresses = λ i j y. q .words k z;
+            few = λ i j y. let x : n ≡ i = cc in let u : k ≡ j = cc in (omega (arith, m .few n e), omega (arith, q .few k z));
+          };
+          agrees = λ i j y. c .agrees k z;
         }
 
 module _ {s : Settings} {ws as′ xs : List ℕ} {r : Seen} {ws₁ as₁ : List ℕ} (m : Entered s ws as′ xs r ws₁ as₁) where
@@ -116,13 +128,32 @@ module _ {s : Settings} {ws as′ xs : List ℕ} {r : Seen} {ws₁ as₁ : List 
 
 -- ---- the loop
 
+-- before the first session no address has a holder; the last place is never free
+pub holders-none : (count k : ℕ) (as₀ : List ℕ) → count ≤ maxAddresses → as₀ ≡ replicate k 0 → Agrees 0 count (set (replicate holdersLength 0) maxAddresses 65535) as₀
+holders-none count k as₀ h e =
+    record {
+      long = length-set zeros maxAddresses 65535 ∙ length-replicate {A = ℕ} holdersLength 0;
+      most = h;
+      last = rw (getD-set-same zeros maxAddresses 65535 0 (rw (length-replicate {A = ℕ} holdersLength 0) (lit< tt))) (lit≤ tt);
+      free = λ i l. rw (other i l, e, marked-zeros k i);
+      until = λ i l. rw (other i l) (omega arith);
+    }
+  where
+    zeros : List ℕ
+    zeros = replicate holdersLength 0
+
+    other : (i : ℕ) → i < count → _≡_ {A = ℕ} (getD (set zeros maxAddresses 65535) i 0) 0
+    other i l = getD-set-other zeros maxAddresses i 65535 0 (λ q. omega arith) ∙ zeros-at holdersLength i
+
 module _ (s : Settings) (ws₀ as₀ a : List ℕ) (n : ℕ) where
-  pub record Passing (ws as′ : List ℕ) (i new taken : ℕ) : Type 0 where
+  pub record Passing (ws hs as′ : List ℕ) (i new taken : ℕ) : Type 0 where
     pub teids : Through (slotKeeps s) (slotTeids s) ws₀ a n ws i new
     pub addresses : Through (slotFree s) (heldOffsets s) as₀ a n as′ i taken
+    pub agrees : Agrees i (s .addressCount) hs as′
 
-  pub passing-none : Passing ws₀ as₀ 0 0 0
-  passing-none = record { teids = through-none (slotKeeps s) (slotTeids s) ws₀ a n; addresses = through-none (slotFree s) (heldOffsets s) as₀ a n }
+  pub passing-none : (hs : List ℕ) → Agrees 0 (s .addressCount) hs as₀ → Passing ws₀ hs as₀ 0 0 0
+  passing-none hs g =
+      record { teids = through-none (slotKeeps s) (slotTeids s) ws₀ a n; addresses = through-none (slotFree s) (heldOffsets s) as₀ a n; agrees = g }
 
   not-all : (v b : List ℕ) → (slotsKeep s ws₀ (slices sessionWidth n a) && slotsFree s as₀ (slices sessionWidth n a)) ≡ false → AllAdmitted s ws₀ as₀ (slices sessionWidth n a) Broken v b
   not-all v b e = record {
@@ -131,21 +162,26 @@ module _ (s : Settings) (ws₀ as₀ a : List ℕ) (n : ℕ) where
     addresses = λ j k q. absurd (let z : _≡_ {A = ℕ} 0 1 = cc in omega arith);
   }
 
-  module _ {ws as′ : List ℕ} {i new taken : ℕ} (p : Passing ws as′ i new taken) where
-    module _ (h : i < n) (r : Seen) (ws₁ as₁ : List ℕ)
-        (m : Entered s ws as′ (take (i * sessionWidth + sessionWidth - i * sessionWidth) (drop (i * sessionWidth) a)) r ws₁ as₁) where
+  module _ {ws hs as′ : List ℕ} {i new taken : ℕ} (p : Passing ws hs as′ i new taken) where
+    -- before the session's turn
+    pub passing-turn : Agrees (i + 1 - 1) (s .addressCount) hs as′
+    passing-turn = let e : i + 1 - 1 ≡ i = omega arith in rw e (p .agrees)
+
+    module _ (h : i < n) (r : Seen) (ws₁ hs₁ as₁ : List ℕ)
+        (m : SessionClaimed s (i + 1) ws as′ (take (i * sessionWidth + sessionWidth - i * sessionWidth) (drop (i * sessionWidth) a)) r ws₁ hs₁ as₁) where
       here : Entered s ws as′ (part (i * sessionWidth) sessionWidth a) r ws₁ as₁
       here =
           let span : i * sessionWidth + sessionWidth - i * sessionWidth ≡ sessionWidth = omega arith in
-          subst (λ (k : ℕ). Entered s ws as′ (take k (drop (i * sessionWidth) a)) r ws₁ as₁) span m
+          subst (λ (k : ℕ). Entered s ws as′ (take k (drop (i * sessionWidth) a)) r ws₁ as₁) span (m .entered)
 
-      pub passing-more : (j k : ℕ) → r ≡ Held j k → Passing ws₁ as₁ (i + 1) (new + j) (taken + k)
+      pub passing-more : (j k : ℕ) → r ≡ Held j k → Passing ws₁ hs₁ as₁ (i + 1) (new + j) (taken + k)
       passing-more j k e =
           let f = entered-new here j k e in
           let few = here .few j k e in
           record {
             teids = through-more (slotKeeps s) (slotTeids s) ws₀ a n (p .teids) h j ws₁ (f .0) (f .2) (here .words j k e) (few .0);
             addresses = through-more (slotFree s) (heldOffsets s) as₀ a n (p .addresses) h k as₁ (f .1) (f .3) (here .addresses j k e) (few .1);
+            agrees = m .agrees j k e;
           }
 
       pub passing-stop : (v b : List ℕ) → r ≡ Broken → AllAdmitted s ws₀ as₀ (slices sessionWidth n a) Broken v b

@@ -1,7 +1,6 @@
 -- `Looking`: holds by octets, and the look back. `Steps`: one hold more. `Answers`: the answers for one record. `Walking`: the walk over
 -- an area. `Admitting`: a session's slot. `Through`: the slots of a table. `Entering`: with the addresses.
--- `AddressSteps`: one record. `AddressAreas`: an area. `AddressSlots`: a session's slot. `AddressGathering`: its one or two different
--- addresses. `AddressAnswers`: what these say of the map.
+-- `AddressSteps`: one record. `AddressAreas`: an area. `AddressSlots`: a session's slot.
 pub mod Looking
 pub mod Steps
 pub mod Answers
@@ -18,5 +17,3 @@ pub mod AddressWalk
 pub mod AddressSteps
 pub mod AddressAreas
 pub mod AddressSlots
-pub mod AddressGathering
-pub mod AddressAnswers

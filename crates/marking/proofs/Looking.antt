@@ -15,7 +15,7 @@ use Rattle.octets.specs.Choice.{pick, mapOption, sameBool}
 use Rattle.octets.specs.Octets.{part, number, octetAt, bit, slices}
 use Rattle.octets.specs.Lists.{collect}
 use Rattle.octets.proofs.Tests.{and-left, and-right, both}
-use Rattle.octets.proofs.Bools.{both-ways, and-assoc, same-bit}
+use Rattle.octets.proofs.Bools.{both-ways, and-assoc, and-false, and-true, same-bit}
 use Rattle.rules.specs.Model.{neither, tunnel, endpoint, Pdr, tunnelHolding, matchedTunnel, pdrHolding}
 use Rattle.rules.specs.Layout.{tunnelRead, matchRead, viewPdr, pdrWidth}
 use Rattle.laws.proofs.LayoutLaws.{pdr-view}
@@ -115,13 +115,13 @@ look-none-left a n i ys h = let e : n - i ≡ 0 = omega arith in rw e (look-end 
 
 -- ---- the answers of the two tests
 
-pub holds-not : (xs : List ℕ) (t : ℕ) → (getD xs 12 0 ≡ 1 → ⊥) → false ≡ holdsTeid xs t
+pub holds-not : (xs : List ℕ) (t v : ℕ) → v ≡ number (part 13 4 xs) → (v ≡ t → ⊥) → false ≡ holdsTeid xs t
 unfolding holdsTeid octetAt
-holds-not xs t h = sym (rw (ne-eqb (getD xs 12 0) 1 h))
+holds-not xs t v q h = sym (rw (← q, ne-eqb v t h) (and-false (eqb (getD xs 12 0) 1)))
 
-pub holds-test : (xs : List ℕ) (t v : ℕ) → getD xs 12 0 ≡ 1 → v ≡ number (part 13 4 xs) → eqb v t ≡ holdsTeid xs t
+pub holds-test : (xs : List ℕ) (t v : ℕ) → v ≡ number (part 13 4 xs) → v ≡ t → eqb (getD xs 12 0) 1 ≡ holdsTeid xs t
 unfolding holdsTeid octetAt
-holds-test xs t v h q = sym (rw (h, ← q))
+holds-test xs t v q h = sym (rw (← q, eq-eqb v t h) (and-true (eqb (getD xs 12 0) 1)))
 
 pub alike-not : (xs ys : List ℕ) → (getD xs 17 0 % 4 ≡ getD ys 17 0 % 4 → ⊥) → false ≡ alike xs ys
 unfolding alike octetAt

@@ -16,7 +16,7 @@ use Rattle.rules.specs.Layout.{tunnelRead, viewPdr, viewEndpoint, viewSession, 
 use Rattle.pool.specs.Map.{marked, mark, marks, newMarks, offsets}
 use Rattle.marking.specs.Walk.{joins, sessionMarks}
 use Rattle.records.specs.Slot.{slotSound}
-use Rattle.marking.specs.Offsets.{heldOffsets}
+use Rattle.marking.specs.Offsets.{heldOffsets, Agrees}
 use Rattle.marking.specs.declared.Marks.{Marks}
 use Rattle.marking.specs.declared.Marks.the-variants.{Clash, New}
 use Rattle.marking.specs.declared.Seen.{Seen}
@@ -114,6 +114,11 @@ pub record Entered (s : Settings) (ws as′ xs : List ℕ) (r : Seen) (ws₁ as�
   pub words : (n k : ℕ) → r ≡ Held n k → ws₁ ≡ marks ws (slotTeids s xs)
   pub addresses : (n k : ℕ) → r ≡ Held n k → as₁ ≡ marks as′ (heldOffsets s xs)
   pub few : (n k : ℕ) → r ≡ Held n k → (n ≤ 24) × (k ≤ 24)
+
+-- and the holders of addresses follow
+pub record SessionClaimed (s : Settings) (turn : ℕ) (ws as′ xs : List ℕ) (r : Seen) (ws₁ hs₁ as₁ : List ℕ) : Type 0 where
+  pub entered : Entered s ws as′ xs r ws₁ as₁
+  pub agrees : (n k : ℕ) → r ≡ Held n k → Agrees turn (s .addressCount) hs₁ as₁
 
 -- ---- the slots of a table, in turn
 

@@ -6,16 +6,17 @@
 // A PDR that matches on an F-TEID has 1 at MATCH.
 ghost use mathlib.Core.Path.{_≡_};
 ghost use mathlib.Core.List.{[]};
-ghost use Prim.Native.Nat.{_+_, _*_, _^_, _≤_};
-ghost use lib.ListN.{length};
+ghost use Prim.Native.Nat.{_+_, _-_, _*_, _^_, _≤_};
+ghost use lib.ListN.{length, replicate};
 ghost use Rattle.octets.specs.Octets.{part, slices};
 ghost use Rattle.rules.specs.Layout.{pdrWidth, endpointWidth, sessionWidth};
-ghost use Rattle.rules.specs.Limits.{maxSessions};
+ghost use Rattle.rules.specs.Limits.{maxSessions, maxAddresses, addressWords};
 ghost use Rattle.marking.specs.Walk.{joins};
 ghost use Rattle.unit.specs.Meaning.{settingsOf};
 ghost use Rattle.records.specs.Kept.{pdrSound, endpointSound, endpointIds};
 ghost use Rattle.records.specs.Slot.{areaSound};
-ghost use Rattle.marking.specs.Marking.{holdsTeid, alike, heldBy, holdAt, endpointHold, pdrHolds, endpointHolds, Stepped, Marked, Admitted, Entered, AllAdmitted};
+ghost use Rattle.marking.specs.Marking.{holdsTeid, alike, heldBy, holdAt, endpointHold, pdrHolds, endpointHolds, Stepped, Marked, Admitted, SessionClaimed, AllAdmitted};
+ghost use Rattle.marking.specs.Offsets.{Agrees};
 use format::CSID_COUNT;
 use format::CSIDS;
 use format::ENDPOINT;
@@ -39,15 +40,15 @@ pub enum Marks {
     New(usize),
 }
 
-// Whether a PDR's slot holds a TEID.
+// Whether a PDR's slot holds a TEID. Nearly all have another number there, so that is looked at first, and no branch goes by what they match on.
 pub fn holds(slot: &[u8], teid: u64) -> bool
     requires { ⌜ length (now slot) ≡ pdrWidth ⌝ }
     ensures { λ r. ⌜ r ≡ holdsTeid (now (slot .entry)) teid ⌝ }
 {
-    if slot[MATCH] != 1 {
+    if octets::read(slot, TEID, 4) != teid {
         return false;
     }
-    octets::read(slot, TEID, 4) == teid
+    slot[MATCH] == 1
 }
 
 // Whether two PDRs have equal families and source interface.
@@ -209,35 +210,44 @@ pub enum Seen {
     Held(usize, usize),
 }
 
-// Tests a session's slot and marks its TEIDs, and its addresses of the pool.
-fn admit_session(words: &mut [u64], addresses: &mut [u64], slot: &[u8], u: Settings) -> Seen
-    requires { ⌜ (length (now slot) ≡ sessionWidth) × (u .first + u .size ≤ 2 ^ 32) × (u .size ≤ 64 * length (now words)) × (u .addresses ≤ 64 * length (now addresses)) ⌝ }
+// Tests a session's slot and marks its TEIDs, and its addresses of the pool. turn counts the sessions, from 1.
+fn admit_session(
+    words: &mut [u64],
+    holders: &mut [u16],
+    addresses: &mut [u64],
+    slot: &[u8],
+    turn: u16,
+    u: Settings,
+) -> Seen
+    requires { ⌜ (length (now slot) ≡ sessionWidth) × (u .first + u .size ≤ 2 ^ 32) × (u .size ≤ 64 * length (now words)) × (u .«first_address» + u .addresses ≤ 2 ^ 32) × (u .addresses ≤ 64 * length (now addresses)) × (1 ≤ turn) × (turn ≤ maxSessions) × Agrees (turn - 1) (u .addresses) (now holders) (now addresses) ⌝ }
     ensures { λ r.
-        ⌜ Entered (settingsOf u) (now (words .entry)) (now (addresses .entry)) (now (slot .entry)) r (now (words .exit)) (now (addresses .exit)) ⌝ }
+        ⌜ SessionClaimed (settingsOf u) turn (now (words .entry)) (now (addresses .entry)) (now (slot .entry)) r (now (words .exit)) (now (holders .exit)) (now (addresses .exit)) ⌝ }
 {
     let teids = admit(words, slot, u);
     let Marks::New(n) = teids else {
         return Seen::Broken;
     };
-    let held = addresses::admit(addresses, slot, u);
+    let held = addresses::admit(holders, addresses, slot, turn, u);
     let addresses::Met::New(k) = held else {
         return Seen::Broken;
     };
     Seen::Held(n, k)
 }
 
-// Tests n slots and marks their TEIDs and addresses, one after the other.
+// Tests n slots and marks their TEIDs and addresses, one after the other. The map of addresses has to be empty.
 pub fn admit_all(words: &mut [u64], addresses: &mut [u64], a: &[u8], n: usize, u: Settings) -> Seen
-    requires { ⌜ (n * sessionWidth ≤ length (now a)) × (n ≤ maxSessions) × (u .first + u .size ≤ 2 ^ 32) × (u .size ≤ 64 * length (now words)) × (u .addresses ≤ 64 * length (now addresses)) ⌝ }
+    requires { ⌜ (n * sessionWidth ≤ length (now a)) × (n ≤ maxSessions) × (u .first + u .size ≤ 2 ^ 32) × (u .size ≤ 64 * length (now words)) × (u .«first_address» + u .addresses ≤ 2 ^ 32) × (u .addresses ≤ maxAddresses) × (now addresses ≡ replicate addressWords 0) ⌝ }
     ensures { λ r.
         ⌜ AllAdmitted (settingsOf u) (now (words .entry)) (now (addresses .entry)) (slices sessionWidth n (now (a .entry))) r (now (words .exit)) (now (addresses .exit)) ⌝ }
 {
+    let mut holders = [0u16; addresses::HOLDERS];
+    holders[addresses::NO_ADDRESS] = 65535;
     let mut new: usize = 0;
     let mut taken: usize = 0;
     for i in 0..n {
         let at = i * SLOT;
         let slot = &a[at..at + SLOT];
-        let step = admit_session(words, addresses, slot, u);
+        let step = admit_session(words, &mut holders, addresses, slot, (i + 1) as u16, u);
         let Seen::Held(j, k) = step else {
             return Seen::Broken;
         };

@@ -86,6 +86,7 @@ pub record Front (t : List ℕ) (u : Unit) : Type 0 where
   pub pool : u .first + u .size ≤ 2 ^ 32
   pub size : u .size ≤ maxPool
   pub count : u .addresses ≤ maxAddresses
+  pub last : u .«first_address» + u .addresses ≤ 2 ^ 32
 
 pub front-facts : (t : List ℕ) (u : Unit) → settingsOf u ≡ viewSettings t → (f : Bool) → f ≡ frontSound t → not f ≡ false → Front t u
 unfolding frontSound frontTests settingsAllowed settingsTests poolTests addressPoolTests settingsOf
@@ -102,6 +103,7 @@ front-facts t u is f q h =
       pool = leb→le (u .first + u .size) (2 ^ 32) (pool .1 .1 .1 .0);
       size = leb→le (u .size) maxPool (pool .1 .1 .0);
       count = leb→le (u .addresses) maxAddresses (addresses .1 .0);
+      last = leb→le (u .«first_address» + u .addresses) (2 ^ 32) (addresses .1 .1 .0);
     }
 
 -- ---- examining

@@ -8,7 +8,7 @@ use lib.Dec.{T}
 use Rattle.octets.specs.Octets.{part, octets}
 use Rattle.octets.proofs.Digits.{octets-known}
 use Rattle.octets.proofs.Put.{length-part}
-use Rattle.rules.specs.Limits.{mapWords, addressWords}
+use Rattle.rules.specs.Limits.{mapWords}
 use Rattle.rules.specs.Layout.{headWidth}
 use Rattle.table.proofs.Examining.{front-facts, examined-short, examined-broken, examined-walk}
 use borrow.Author.Needs.{needs}
@@ -33,9 +33,8 @@ admit-all-requires c κs =
     let known = front-facts t (read .result) (read .ensures) (front .result) (front .ensures) (c .before .before .before .before .if2 .left) in
     let n = c .before .before .before .read2 .ensures .0 in
     let words : length (start .args .words .now) ≡ mapWords = ap length (start .pre .0) in
-    let addresses : length (start .args .addresses .now) ≡ addressWords = ap length (start .pre .1) in
     let room : length (part headWidth (length t - headWidth) t) ≡ length t - headWidth = length-part headWidth (length t - headWidth) t (omega (arith, known .long)) in
-    (omega (arith, n, known .few, known .long, room), omega (arith, n, known .few, known .room), known .pool, omega (arith, known .size, words), omega (arith, known .count, addresses))
+    (omega (arith, n, known .few, known .long, room), omega (arith, n, known .few, known .room), known .pool, omega (arith, known .size, words), known .last, known .count, start .pre .1)
 
 returns-3 : tie.Need-returns-3
 returns-3 c =
