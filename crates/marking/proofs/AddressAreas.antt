@@ -7,7 +7,7 @@ use mathlib.Core.List.{List, [], _∷_}
 use Prim.Native.Nat.{ℕ, _+_, _-_, _*_, _≤_, _<_, zero-le}
 use native.Mathlib.Omega.{arith}
 use native.Mathlib.Nat.{add-zero, zero-add, add-assoc}
-use lib.ListN.{length, take, drop}
+use lib.ListN.{length, take, drop, getD}
 use Rattle.octets.specs.Choice.{pick, consOption}
 use Rattle.octets.specs.Octets.{part, slices}
 use Rattle.octets.specs.Lists.{any, collect}
@@ -17,7 +17,7 @@ use Rattle.pool.specs.Map.{marks, newMarks}
 use Rattle.records.proofs.Turns.{slices-more}
 use Rattle.marking.specs.declared.addresses.Met.{Met}
 use Rattle.marking.specs.declared.addresses.Met.the-variants.{Clash, New}
-use Rattle.marking.specs.Offsets.{addressAt, offsetOf, offsetsIn, newBy, markBy, holderAt, earlier, Agrees, Claimable, Claimed, AreaClaimed}
+use Rattle.marking.specs.Offsets.{addressAt, offsetOf, offsetsIn, newBy, markBy, Present, holderAt, earlier, Agrees, Claimable, Claimed, AreaClaimed}
 use Rattle.marking.proofs.AddressSteps.{below, claimable, Entering, entering, marks-more, new-more, new-few, length-markBy}
 
 -- the same answer about each is the same about any
@@ -48,6 +48,10 @@ module _ (s : Settings) (w at : ℕ) (a : List ℕ) (n : ℕ) where
   -- as the code has the slot
   slot-at : (i : ℕ) → offsetOf s (addressAt at (take (i * w + w - i * w) (drop (i * w) a))) ≡ offsetAt i
   slot-at i = let span : i * w + w - i * w ≡ w = omega arith in rw span
+
+  -- it says by 0 or 1 whether it has an address
+  pub there-at : Present w at n a → (i : ℕ) → i < n → getD (take (i * w + w - i * w) (drop (i * w) a)) at 0 ≤ 1
+  there-at e i h = let span : i * w + w - i * w ≡ w = omega arith in rw span (e .there i h)
 
   module _ (turn : ℕ) (hs₀ ws₀ : List ℕ) where
     pub record Claiming (hs ws : List ℕ) (i new : ℕ) : Type 0 where

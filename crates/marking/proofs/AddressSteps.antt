@@ -5,7 +5,7 @@ use mathlib.Core.Path.{_≡_, refl, sym, ap, subst, _∙_}
 use mathlib.Core.Bool.{Bool, true, false, not, _&&_, _||_}
 use mathlib.Core.Option.{Option, none, some}
 use mathlib.Core.List.{List, [], _∷_}
-use Prim.Native.Nat.{ℕ, _+_, _-_, _*_, _/_, _%_, _^_, _≤_, _<_}
+use Prim.Native.Nat.{ℕ, _+_, _-_, _*_, _%_, _^_, _≤_, _<_}
 use native.Mathlib.Decide.{ℕ-discrete}
 use native.Mathlib.Omega.{arith}
 use borrow.Author.Tests.{le-leb, lt-leb, lt-ltb, le-ltb, eq-eqb, ne-eqb, eqb-true}
@@ -41,8 +41,8 @@ module _ (u : Unit) (at : ℕ) (xs : List ℕ) where
       address-is : addressAt at xs ≡ some a
       address-is = unfold optionRead in rw (ne-eqb (getD xs at 0) 0 h, ← q)
 
-  module _ (there : getD xs at 0 < 256) (a : ℕ) (q : a ≡ number (part (at + 1) 4 xs)) (small : a < 4294967296) (pool : u .«first_address» + u .addresses ≤ 2 ^ 32) (i : ℕ)
-      (wraps : (i + (4294967296 + u .«first_address»)) % 2 ^ 64 ≡ (getD xs at 0 + 255) / 256 * 4294967296 + a) where
+  module _ (there : getD xs at 0 ≤ 1) (a : ℕ) (q : a ≡ number (part (at + 1) 4 xs)) (small : a < 4294967296) (pool : u .«first_address» + u .addresses ≤ 2 ^ 32) (i : ℕ)
+      (wraps : (i + (4294967296 + u .«first_address»)) % 2 ^ 64 ≡ getD xs at 0 * 4294967296 + a) where
     pub holder-in : i < u .addresses → i ≡ holderAt (offsetOf (settingsOf u) (addressAt at xs))
     holder-in h = go (ℕ-discrete (getD xs at 0) 0)
       where

@@ -11,13 +11,13 @@ use lib.Seq.{getD-set-same, getD-set-other}
 use Rattle.octets.specs.Choice.{pick}
 use Rattle.octets.specs.Octets.{part, slices}
 use Rattle.octets.specs.Lists.{any}
-use Rattle.octets.proofs.Tests.{each, of-true, and-left}
+use Rattle.octets.proofs.Tests.{of-true, and-left}
 use Rattle.rules.specs.Limits.{maxAddresses}
 use Rattle.rules.specs.Model.{Settings}
 use Rattle.rules.specs.Layout.{sessionWidth}
 use Rattle.pool.specs.Map.{marked, marks, newMarks}
 use Rattle.pool.proofs.Marks.{zeros-at, marked-zeros}
-use Rattle.records.specs.Slot.{headSound, slotTests, slotSound}
+use Rattle.records.specs.Slot.{slotSound}
 use Rattle.marking.specs.declared.addresses.Met.{Met}
 use Rattle.marking.specs.Offsets.{heldOffsets, holdersLength, Agrees}
 use Rattle.marking.specs.declared.Marks.{Marks}
@@ -48,10 +48,10 @@ module _ {s : Settings} {ws xs : List ℕ} {r : Marks} {ws′ : List ℕ} (m : A
       go true q = absurd (let z : _≡_ {A = ℕ} 0 1 = cc in omega arith)
       go false q = refl
 
-  -- the head of a slot that is admitted is sound
-  pub admitted-head : (k : ℕ) → r ≡ New k → T (headSound xs)
-  unfolding slotKeeps slotSound slotTests
-  admitted-head k e = each (slotTests s xs) (and-left (slotSound s xs) _ (of-true (admitted-new k e .0))) .0
+  -- a slot that is admitted is sound
+  pub admitted-sound : (k : ℕ) → r ≡ New k → T (slotSound s xs)
+  unfolding slotKeeps
+  admitted-sound k e = and-left (slotSound s xs) _ (of-true (admitted-new k e .0))
 
 module _ {s : Settings} {as′ xs : List ℕ} {r : Met} {as₁ : List ℕ} (m : held.AddressesAdmitted s as′ xs r as₁) where
   taken-new : (k : ℕ) → r ≡ met.New k → (slotFree s as′ xs ≡ true) × (k ≡ newMarks as′ (heldOffsets s xs))

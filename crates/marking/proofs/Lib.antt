@@ -1,6 +1,7 @@
 -- `Looking`: holds by octets, and the look back. `Steps`: one hold more. `Answers`: the answers for one record. `Walking`: the walk over
 -- an area. `Admitting`: a session's slot. `Through`: the slots of a table. `Entering`: with the addresses.
 -- `AddressSteps`: one record. `AddressAreas`: an area. `AddressSlots`: a session's slot.
+-- `AddressThere`: what a sound slot says of its addresses.
 pub mod Looking
 pub mod Steps
 pub mod Answers
@@ -17,3 +18,4 @@ pub mod AddressWalk
 pub mod AddressSteps
 pub mod AddressAreas
 pub mod AddressSlots
+pub mod AddressThere

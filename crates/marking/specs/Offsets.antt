@@ -47,6 +47,10 @@ unfoldable pub slotOffsets : Settings → List ℕ → List ℕ
 slotOffsets s xs =
     offsetsIn s endpointWidth endpointAddressAt (octetAt xs endpointCountAt) (endpointArea xs) ++ offsetsIn s pdrWidth pdrAddressAt (octetAt xs pdrCountAt) (pdrArea xs)
 
+-- each of n records of w octets says by 0 or 1 whether it has an address, as sound ones do
+pub record Present (w at n : ℕ) (a : List ℕ) : Type 0 where
+  pub there : (i : ℕ) → i < n → getD (part (i * w) w a) at 0 ≤ 1
+
 -- ---- holders: which session holds an address of the pool, by its turn in the walk, from 1; 0 for none. After those of the pool stands one that is
 -- never free: records without an address of the pool are sent there.
 

@@ -6,13 +6,13 @@
 // An offset is an address less the pool's first. A record has at `at` whether it has an address, and the address after it.
 ghost use mathlib.Core.Path.{_≡_};
 ghost use Prim.Native.Nat.{_+_, _-_, _*_, _^_, _≤_};
-ghost use lib.ListN.{length};
+ghost use lib.ListN.{length, getD};
 ghost use lib.Dec.{T};
 ghost use Rattle.rules.specs.Layout.{sessionWidth};
 ghost use Rattle.rules.specs.Limits.{maxSessions};
 ghost use Rattle.unit.specs.Meaning.{settingsOf};
-ghost use Rattle.records.specs.Slot.{headSound};
-ghost use Rattle.marking.specs.Offsets.{offsetOf, addressAt, offsetsIn, holderAt, Agrees, Claimable, Claimed, AreaClaimed, SlotClaimed};
+ghost use Rattle.records.specs.Slot.{slotSound};
+ghost use Rattle.marking.specs.Offsets.{offsetOf, addressAt, offsetsIn, holderAt, Present, Agrees, Claimable, Claimed, AreaClaimed, SlotClaimed};
 use format::CSIDS;
 use format::ENDPOINT;
 use format::ENDPOINT_ADDRESS_THERE;
@@ -36,14 +36,12 @@ pub enum Met {
     New(usize),
 }
 
-// Where the holder of a record's address stands. An address that is there is 2^32 more than its number, so that one that is not there, whose
-// number is 0, is below every pool.
+// Where the holder of a record's address stands. An address that is there counts 2^32 more, so that one that is not there is below every pool.
 fn holder_of(slot: &[u8], at: usize, u: Settings) -> usize
-    requires { ⌜ (at + 5 ≤ length (now slot)) × (u .«first_address» + u .addresses ≤ 2 ^ 32) ⌝ }
+    requires { ⌜ (at + 5 ≤ length (now slot)) × (u .«first_address» + u .addresses ≤ 2 ^ 32) × (getD (now slot) at 0 ≤ 1) ⌝ }
     ensures { λ r. ⌜ r ≡ holderAt (offsetOf (settingsOf u) (addressAt at (now (slot .entry)))) ⌝ }
 {
-    let there = (slot[at] as u64 + 255) / 256;
-    let address = there * 4294967296 + octets::read(slot, at + 1, 4);
+    let address = slot[at] as u64 * 4294967296 + octets::read(slot, at + 1, 4);
     let i = std::num::wrapping_sub_u64(address, 4294967296 + u.first_address);
     if i < u.addresses {
         return i as usize;
@@ -79,7 +77,7 @@ fn claim_all(
     turn: u16,
     u: Settings,
 ) -> Met
-    requires { ⌜ (n * w ≤ length (now a)) × (at + 5 ≤ w) × (u .«first_address» + u .addresses ≤ 2 ^ 32) × (u .addresses ≤ 64 * length (now words)) × (1 ≤ turn) × (turn ≤ maxSessions) × Agrees turn (u .addresses) (now holders) (now words) ⌝ }
+    requires { ⌜ (n * w ≤ length (now a)) × (at + 5 ≤ w) × (u .«first_address» + u .addresses ≤ 2 ^ 32) × (u .addresses ≤ 64 * length (now words)) × (1 ≤ turn) × (turn ≤ maxSessions) × Agrees turn (u .addresses) (now holders) (now words) × Present w at n (now a) ⌝ }
     ensures { λ r.
         ⌜ AreaClaimed turn (u .addresses) (offsetsIn (settingsOf u) w at n (now (a .entry))) n (now (holders .entry)) (now (words .entry)) r (now (holders .exit)) (now (words .exit)) ⌝ }
 {
@@ -98,7 +96,7 @@ fn claim_all(
 
 // The addresses of a session's records.
 pub fn admit(holders: &mut [u16], words: &mut [u64], slot: &[u8], turn: u16, u: Settings) -> Met
-    requires { ⌜ (length (now slot) ≡ sessionWidth) × T (headSound (now slot)) × (u .«first_address» + u .addresses ≤ 2 ^ 32) × (u .addresses ≤ 64 * length (now words)) × (1 ≤ turn) × (turn ≤ maxSessions) × Agrees (turn - 1) (u .addresses) (now holders) (now words) ⌝ }
+    requires { ⌜ (length (now slot) ≡ sessionWidth) × T (slotSound (settingsOf u) (now slot)) × (u .first + u .size ≤ 2 ^ 32) × (u .«first_address» + u .addresses ≤ 2 ^ 32) × (u .addresses ≤ 64 * length (now words)) × (1 ≤ turn) × (turn ≤ maxSessions) × Agrees (turn - 1) (u .addresses) (now holders) (now words) ⌝ }
     ensures { λ r. ⌜ SlotClaimed (settingsOf u) turn (now (words .entry)) (now (slot .entry)) r (now (holders .exit)) (now (words .exit)) ⌝ }
 {
     let m = slot[ENDPOINT_COUNT] as usize;

@@ -1,6 +1,6 @@
 -- `marking::admit_session` meets its contract.
 -- Assumes nothing.
-use Rattle.marking.proofs.Entering.{admitted-head, entered-clash, entered-taken, entered-whole}
+use Rattle.marking.proofs.Entering.{admitted-sound, entered-clash, entered-taken, entered-whole}
 use borrow.Author.Needs.{needs}
 use Rattle.marking.proofs.admit_session.Statement.{statement}
 use Rattle.marking.proofs.admit_session.Tie as tie
@@ -11,7 +11,7 @@ returns c = search entered-clash
 admit-requires-2 : tie.Need-admit-requires-2
 admit-requires-2 c κs =
     let start = c .before .before .before .before .before .before .before .before .before .before .before .before .before in
-    (start .pre .0, admitted-head (c .before .before .before .before .before .before .before .admit .ensures) (c .before .before .before .teids .given .0 .0) (c .before .before .before .teids .given .1), start .pre .3, start .pre .4, start .pre .5, start .pre .6, start .pre .7)
+    (start .pre .0, admitted-sound (c .before .before .before .before .before .before .before .admit .ensures) (c .before .before .before .teids .given .0 .0) (c .before .before .before .teids .given .1), start .pre .1, start .pre .3, start .pre .4, start .pre .5, start .pre .6, start .pre .7)
 
 returns-2 : tie.Need-returns-2
 returns-2 c = search entered-taken

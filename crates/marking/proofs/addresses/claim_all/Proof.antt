@@ -6,7 +6,7 @@ use native.Mathlib.Nat.{le-refl}
 use borrow.Author.Needs.{needs}
 use Rattle.areas.proofs.Rows.{row-within}
 use Rattle.unit.specs.Meaning.{settingsOf}
-use Rattle.marking.proofs.AddressAreas.{Claiming, claiming-none, claiming-here, claiming-clash, claiming-more, claiming-all}
+use Rattle.marking.proofs.AddressAreas.{there-at, Claiming, claiming-none, claiming-here, claiming-clash, claiming-more, claiming-all}
 use Rattle.marking.proofs.addresses.claim_all.Statement.{statement}
 use Rattle.marking.proofs.addresses.claim_all.Tie as tie
 
@@ -44,7 +44,10 @@ part-holder-of-end c =
     omega (arith, row-within (g .w) (g .w) (c .loop-test .taken) (c .before .before .before .before .before .pre .0) (le-refl (g .w)))
 
 holder-of-requires : tie.Need-holder-of-requires Inv-loop μ-loop
-holder-of-requires c κs = search needs
+holder-of-requires c κs =
+    let start = c .before .before .before .before .before .before in
+    let g = start .args in
+    (search needs, start .pre .2, there-at (settingsOf (g .u)) (g .w) (g .at) (g .a .now) (g .n) (start .pre .7) (c .before .before .loop .i) (c .before .loop-test .taken))
 
 claim-requires : tie.Need-claim-requires Inv-loop μ-loop
 unfolding settingsOf

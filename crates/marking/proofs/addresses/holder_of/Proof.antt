@@ -6,17 +6,14 @@ use borrow.Author.Needs.{needs}
 use Rattle.marking.proofs.addresses.holder_of.Statement.{statement}
 use Rattle.marking.proofs.addresses.holder_of.Tie as tie
 
-cast-there : tie.Need-cast-there
-cast-there c = omega (arith, c .shared-slice-known2 .given (c .before .before .args .at))
-
-add-there : tie.Need-add-there
-add-there c = omega (arith, c .shared-slice-known2 .given (c .before .before .args .at))
+cast-address : tie.Need-cast-address
+cast-address c = omega (arith, c .shared-slice-known2 .given (c .before .before .args .at))
 
 mul-address : tie.Need-mul-address
-mul-address c = omega (arith, c .shared-slice-known2 .given (c .before .before .args .at))
+mul-address c = omega (arith, c .before .before .pre .2)
 
 add-address : tie.Need-add-address
-add-address c = omega (arith, c .before .shared-slice-known2 .given (c .before .before .before .args .at), c .read .ensures .1)
+add-address c = omega (arith, c .before .before .before .pre .2, c .read .ensures .1)
 
 returns : tie.Need-returns
 returns c =
@@ -24,7 +21,7 @@ returns c =
     let g = start .args in
     let read = c .before .before .before .before .read in
     let wraps = c .before .before .wrapping-sub-u64 in
-    holder-in (g .u) (g .at) (g .slot .now) (omega (arith, c .before .before .before .before .before .shared-slice-known2 .given (g .at))) (read .result) (read .ensures .0) (omega (arith, read .ensures .1)) (start .pre .1) (wraps .result) (wraps .ensures) (c .if1 .taken)
+    holder-in (g .u) (g .at) (g .slot .now) (start .pre .2) (read .result) (read .ensures .0) (omega (arith, read .ensures .1)) (start .pre .1) (wraps .result) (wraps .ensures) (c .if1 .taken)
 
 returns-2 : tie.Need-returns-2
 returns-2 c =
@@ -32,15 +29,14 @@ returns-2 c =
     let g = start .args in
     let read = c .before .before .before .before .read in
     let wraps = c .before .before .wrapping-sub-u64 in
-    holder-out (g .u) (g .at) (g .slot .now) (omega (arith, c .before .before .before .before .before .shared-slice-known2 .given (g .at))) (read .result) (read .ensures .0) (omega (arith, read .ensures .1)) (start .pre .1) (wraps .result) (wraps .ensures) (c .if1 .left) (wraps .ok)
+    holder-out (g .u) (g .at) (g .slot .now) (start .pre .2) (read .result) (read .ensures .0) (omega (arith, read .ensures .1)) (start .pre .1) (wraps .result) (wraps .ensures) (c .if1 .left) (wraps .ok)
 
 pub holder-of-spec : {M : Type 1} → statement M
 holder-of-spec =
     tie.close
     (tie.spec
     (λ c. search needs)
-    cast-there
-    add-there
+    cast-address
     mul-address
     (λ c. search needs)
     (λ c κs. search needs)
