@@ -17,7 +17,7 @@ use Rattle.rules.specs.Model.{Holding, pdrHolding, endpointHolding, tunnelHoldi
 use Rattle.rules.specs.Layout.{tunnelRead, endpointFrom, viewEndpoint, pdrWidth, endpointWidth}
 use Rattle.pool.specs.Map.{marked, mark}
 use Rattle.marking.specs.Walk.{joins}
-use Rattle.marking.proofs.RecordWalk.{look-end}
+use Rattle.marking.proofs.RecordWalk.{look-none}
 use Rattle.unit.specs.declared.Settings.{Settings as Unit}
 use Rattle.unit.specs.Meaning.{settingsOf}
 use Rattle.records.specs.Kept.{pdrSound, endpointSound}
@@ -61,7 +61,7 @@ module _ (xs : List ℕ) (u : Unit) (ws : List ℕ) (b : Bool) (qb : b ≡ endpo
     module _ (m : Bool) (ws′ : List ℕ) (qm : m ≡ marked ws (t - u .first)) (qw : ws′ ≡ mark ws (t - u .first)) where
       endpoint-step-is : stepOf (u .first) ws [] (endpointHold xs) ≡ pick m Clash (New 1)
       unfolding stepOf endpointHold endpointHolding tunnelHolding viewEndpoint endpointFrom tunnelRead fieldsAt collect
-      endpoint-step-is = λ i. pick ((ap (λ (n : ℕ). marked ws (n - u .first)) (sym q) ∙ sym qm) i) (pick (look-end pdrHolding (endpointHolding (viewEndpoint xs)) i) (New 0) Clash) (New 1)
+      endpoint-step-is = λ i. pick ((ap (λ (n : ℕ). marked ws (n - u .first)) (sym q) ∙ sym qm) i) (pick (look-none (endpointHolding (viewEndpoint xs)) i) (New 0) Clash) (New 1)
 
       pub endpoint-met : m ≡ true → Stepped (endpointSound (settingsOf u) xs) (u .first) ws [] (endpointHold xs) Clash ws′
       endpoint-met h = step-clash (sym (endpoint-step-is ∙ rw h))

@@ -1,15 +1,14 @@
--- One hold and the earlier ones of its session: the first earlier one on its TEID decides for all of them.
+-- One hold and the earlier ones of its session: one of them that it may share its TEID with speaks for all of them.
 -- Assumes nothing.
-use mathlib.Core.Path.{_≡_, refl, sym, _∙_, subst}
-use mathlib.Core.Bool.{Bool, true, false, not, _||_}
-use mathlib.Core.List.{List, [], _∷_, map}
+use mathlib.Core.Path.{_≡_, refl, sym, ap, _∙_, subst}
+use mathlib.Core.Bool.{Bool, true, false, not, _&&_, _||_, or-assoc}
+use mathlib.Core.List.{List, [], _∷_, _++_, map}
 use Prim.Native.Nat.{ℕ}
-use mathlib.Core.Option.{some}
 use lib.Dec.{T, T-not, eqb, eqb→eq}
 use mir.Facts.{yes-eqb}
-use Rattle.octets.specs.Choice.{pick, allOf, sameBool, valueOr, mapOption}
-use Rattle.octets.specs.Lists.{member, findBy, all, allPairs}
-use Rattle.octets.proofs.Tests.{pick-yes, both, and-right, each, all-of-each, all-head, all-tail, all-cons}
+use Rattle.octets.specs.Choice.{allOf, sameBool}
+use Rattle.octets.specs.Lists.{member, any, all, allPairs}
+use Rattle.octets.proofs.Tests.{both, and-right, each, all-of-each, all-head, all-tail, all-cons}
 use Rattle.octets.proofs.Ordered.{pairs-head, pairs-tail}
 use Rattle.rules.specs.Model.{Holding, teidOf}
 use Rattle.rules.specs.Sound.{shareTests, agree}
@@ -73,6 +72,23 @@ share-third x k h f g =
     let source = eqb-third (x .source) (k .source) (h .source) (a .1 .1 .1 .1 .0) (b .1 .1 .1 .1 .0) in
     all-of-each (shareTests k h) (a .1 .0, (b .1 .0, (v4, (v6, (source, tt)))))
 
+-- one that shares with another shares with what that shares with
+share-on : (x k h : Holding) → Share x k → Share k h → Share x h
+unfolding shareTests
+share-on x k h f g =
+    let a = each (shareTests x k) f in
+    let b = each (shareTests k h) g in
+    let v4 = same-third (k .v4) (x .v4) (h .v4) (same-turn (x .v4) (k .v4) (a .1 .1 .0)) (b .1 .1 .0) in
+    let v6 = same-third (k .v6) (x .v6) (h .v6) (same-turn (x .v6) (k .v6) (a .1 .1 .1 .0)) (b .1 .1 .1 .0) in
+    let source = yes-eqb (eqb→eq (x .source) (k .source) (a .1 .1 .1 .1 .0) ∙ eqb→eq (k .source) (h .source) (b .1 .1 .1 .1 .0)) in
+    all-of-each (shareTests x h) (a .0, (b .1 .0, (v4, (v6, (source, tt)))))
+  where
+    same-turn : (a b : Bool) → T (sameBool a b) → T (sameBool b a)
+    same-turn true true g = tt
+    same-turn true false g = absurd g
+    same-turn false true g = absurd g
+    same-turn false false g = tt
+
 share-left : (h k : Holding) → Share h k → T (h .shared)
 unfolding shareTests
 share-left h k g = each (shareTests h k) g .0
@@ -81,16 +97,17 @@ share-left h k g = each (shareTests h k) g .0
 
 module _ (h : Holding) where
   pub joins-nil : joins [] h ≡ false
-  unfolding joins findBy
+  unfolding joins any
   joins-nil = refl
 
-  pub joins-cons : (x : Holding) (xs : List Holding) → joins (x ∷ xs) h ≡ pick (onSame h x) (sharedWith h x) (joins xs h)
-  unfolding joins findBy
-  joins-cons x xs = one (onSame h x)
-    where
-      one : (b : Bool) → valueOr false (mapOption (sharedWith h) (pick b (some x) (findBy (onSame h) xs))) ≡ pick b (sharedWith h x) (valueOr false (mapOption (sharedWith h) (findBy (onSame h) xs)))
-      one true = refl
-      one false = refl
+  pub joins-cons : (x : Holding) (xs : List Holding) → joins (x ∷ xs) h ≡ ((onSame h x && sharedWith h x) || joins xs h)
+  unfolding joins any
+  joins-cons x xs = refl
+
+  pub joins-append : (xs ys : List Holding) → joins (xs ++ ys) h ≡ (joins xs h || joins ys h)
+  unfolding joins any
+  joins-append [] ys = refl
+  joins-append (x ∷ xs) ys = ap (λ (b : Bool). (onSame h x && sharedWith h x) || b) (joins-append xs ys) ∙ sym (or-assoc (onSame h x && sharedWith h x) (joins xs h) (joins ys h))
 
   on-same : (x : Holding) → T (onSame h x) → x .teid ≡ h .teid
   unfolding onSame
@@ -100,22 +117,23 @@ module _ (h : Holding) where
   unfolding onSame
   same-on x g e = both (x .shared) (eqb (x .teid) (h .teid)) g (yes-eqb e)
 
-  -- by the first of them: it is the one that decides, or it is not
-  by-first {ℓ} : {X : Type ℓ} (x : Holding) (xs : List Holding) → T (joins (x ∷ xs) h) → (T (onSame h x) → Share x h → X) → (T (not (onSame h x)) → T (joins xs h) → X) → X
+  -- it is the first of them, or one of the others
+  by-first {ℓ} : {X : Type ℓ} (x : Holding) (xs : List Holding) → T (joins (x ∷ xs) h) → (T (onSame h x) → Share x h → X) → (T (joins xs h) → X) → X
   unfolding sharedWith
-  by-first {X = X} x xs g f k = one (onSame h x) (subst T (joins-cons x xs) g) f k
+  by-first {X = X} x xs g f k = one (onSame h x) (sharedWith h x) (subst T (joins-cons x xs) g) f k
     where
-      one : (b : Bool) → T (pick b (sharedWith h x) (joins xs h)) → (T b → Share x h → X) → (T (not b) → T (joins xs h) → X) → X
-      one true g′ f′ k′ = f′ tt g′
-      one false g′ f′ k′ = k′ tt g′
+      one : (b c : Bool) → T ((b && c) || joins xs h) → (T b → T c → X) → (T (joins xs h) → X) → X
+      one true true g′ f′ k′ = f′ tt tt
+      one true false g′ f′ k′ = k′ g′
+      one false c g′ f′ k′ = k′ g′
 
-  -- one that agrees with all of them, and is on the same TEID, is a PDR's
-  is-shared : (x : Holding) (xs : List Holding) → T (joins xs h) → T (all (agree x) xs) → x .teid ≡ h .teid → T (x .shared)
-  is-shared x [] g a e = absurd (subst T joins-nil g)
-  is-shared x (y ∷ ys) g a e =
+  -- one that agrees with all of them, and is on the same TEID, may share it
+  shares-on : (x : Holding) (xs : List Holding) → T (joins xs h) → T (all (agree x) xs) → x .teid ≡ h .teid → Share x h
+  shares-on x [] g a e = absurd (subst T joins-nil g)
+  shares-on x (y ∷ ys) g a e =
       by-first y ys g
-      (λ o s. share-left x y (agree-share x y (all-head (agree x) y ys a) (e ∙ sym (on-same y o))))
-      (λ o k. is-shared x ys k (all-tail (agree x) y ys a) e)
+      (λ o s. share-on x y h (agree-share x y (all-head (agree x) y ys a) (e ∙ sym (on-same y o))) s)
+      (λ k. shares-on x ys k (all-tail (agree x) y ys a) e)
 
   with-first : (x : Holding) (xs : List Holding) → T (all (agree x) xs) → Share x h → x .teid ≡ h .teid → T (all (λ k. agree k h) xs)
   with-first x [] a s e = unfold all in tt
@@ -130,9 +148,7 @@ module _ (h : Holding) where
   joins-agree (x ∷ xs) a g =
       by-first x xs g
       (λ o s. all-cons (λ k. agree k h) x xs (share-agree x h s) (with-first x xs (pairs-head agree x xs a) s (on-same x o)))
-      (λ o k. all-cons (λ k. agree k h) x xs
-      (by-teid x h (λ e. absurd (T-not (onSame h x) o (same-on x (is-shared x xs k (pairs-head agree x xs a) e) e))))
-      (joins-agree xs (pairs-tail agree x xs a) k))
+      (λ k. all-cons (λ k. agree k h) x xs (by-teid x h (λ e. shares-on x xs k (pairs-head agree x xs a) e)) (joins-agree xs (pairs-tail agree x xs a) k))
 
   -- and its TEID is where theirs are
   pub joins-test : (p : ℕ → Bool) (xs : List Holding) → T (joins xs h) → T (all (λ k. p (k .teid)) xs) → T (p (h .teid))
@@ -140,7 +156,7 @@ module _ (h : Holding) where
   joins-test p (x ∷ xs) g a =
       by-first x xs g
       (λ o s. subst (λ (t : ℕ). T (p t)) (on-same x o) (all-head (λ k. p (k .teid)) x xs a))
-      (λ o k. joins-test p xs k (all-tail (λ k. p (k .teid)) x xs a))
+      (λ k. joins-test p xs k (all-tail (λ k. p (k .teid)) x xs a))
 
   -- one on a TEID of its own agrees with all of them
   pub alone-agrees : (xs : List Holding) → T (not (member (h .teid) (map teidOf xs))) → T (all (λ k. agree k h) xs)
@@ -154,19 +170,21 @@ module _ (h : Holding) where
   pub agree-joins : (xs : List Holding) → T (member (h .teid) (map teidOf xs)) → T (all (λ k. agree k h) xs) → T (joins xs h)
   unfolding member sharedWith
   agree-joins [] g a = absurd g
-  agree-joins (x ∷ xs) g a =
-      subst T (sym (joins-cons x xs)) (one (eqb (h .teid) (x .teid)) refl (onSame h x) refl g (λ m. agree-joins xs m (all-tail (λ k. agree k h) x xs a)))
+  agree-joins (x ∷ xs) g a = subst T (sym (joins-cons x xs)) (one (eqb (h .teid) (x .teid)) refl g (λ m. agree-joins xs m (all-tail (λ k. agree k h) x xs a)))
     where
       share : x .teid ≡ h .teid → Share x h
       share e = agree-share x h (all-head (λ k. agree k h) x xs a) e
 
-      one : (b : Bool) → eqb (h .teid) (x .teid) ≡ b → (c : Bool) → onSame h x ≡ c → T (b || member (h .teid) (map teidOf xs)) → (T (member (h .teid) (map teidOf xs)) → T (joins xs h))
-          → T (pick c (sharedWith h x) (joins xs h))
-      one true e c f m ih =
+      left : (b c : Bool) → T b → T (b || c)
+      left true c t = tt
+      left false c t = absurd t
+
+      right : (b c : Bool) → T c → T (b || c)
+      right true c t = tt
+      right false c t = t
+
+      one : (b : Bool) → eqb (h .teid) (x .teid) ≡ b → T (b || member (h .teid) (map teidOf xs)) → (T (member (h .teid) (map teidOf xs)) → T (joins xs h)) → T ((onSame h x && sharedWith h x) || joins xs h)
+      one true e m ih =
           let same : x .teid ≡ h .teid = sym (eqb→eq (h .teid) (x .teid) (subst T (sym e) tt)) in
-          let is : T c = subst T f (same-on x (share-left x h (share same)) same) in
-          subst T (sym (pick-yes c (sharedWith h x) (joins xs h) is)) (share same)
-      one false e true f m ih =
-          let same : x .teid ≡ h .teid = on-same x (subst T (sym f) tt) in
-          share same
-      one false e false f m ih = ih m
+          left (onSame h x && sharedWith h x) (joins xs h) (both (onSame h x) (sharedWith h x) (same-on x (share-left x h (share same)) same) (share same))
+      one false e m ih = right (onSame h x && sharedWith h x) (joins xs h) (ih m)

@@ -1,27 +1,27 @@
 -- A PDR's hold by its octets, and the look back over the PDRs passed.
 -- Assumes nothing.
-use mathlib.Core.Path.{_≡_, refl, sym, ap₂, _∙_}
-use Prim.Native.Nat.{ℕ, _+_, _-_, _*_, _/_, _%_, _^_, _≤_, _<_}
+use mathlib.Core.Path.{_≡_, refl, sym, ap, ap₂, _∙_}
+use Prim.Native.Nat.{ℕ, zero, suc, _+_, _-_, _*_, _/_, _%_, _^_, _≤_, _<_}
 use native.Mathlib.Omega.{arith}
-use mathlib.Core.Bool.{Bool, true, false, _&&_}
-use mathlib.Core.Option.{none, some}
-use mathlib.Core.List.{List, _∷_, map}
+use mathlib.Core.Bool.{Bool, true, false, _&&_, _||_, or-false}
+use mathlib.Core.Option.{Option, none, some}
+use mathlib.Core.List.{List, [], _∷_, _++_, map}
 use borrow.Author.Tests.{eq-eqb, ne-eqb}
 use lib.ListN.{take, drop, getD}
 use lib.Dec.{eqb, eqb→eq, lit<}
-use native.Mathlib.Nat.{mod-lt}
+use native.Mathlib.Nat.{mod-lt, zero-mul, suc-mul, add-comm}
+use lib.Seq.{drop-drop}
 use mir.Facts.{yes-eqb}
-use Rattle.octets.specs.Choice.{pick, mapOption, sameBool}
+use Rattle.octets.specs.Choice.{pick, mapOption, sameBool, consOption}
 use Rattle.octets.specs.Octets.{part, number, octetAt, bit, slices}
 use Rattle.octets.specs.Lists.{collect}
 use Rattle.octets.proofs.Tests.{and-left, and-right, both}
-use Rattle.octets.proofs.Bools.{both-ways, and-assoc, and-false, and-true, same-bit}
-use Rattle.rules.specs.Model.{neither, tunnel, endpoint, Pdr, tunnelHolding, matchedTunnel, pdrHolding}
+use Rattle.octets.proofs.Bools.{both-ways, and-assoc, and-false, and-true, or-true, same-bit}
+use Rattle.rules.specs.Model.{neither, tunnel, endpoint, Pdr, Holding, tunnelHolding, matchedTunnel, pdrHolding}
 use Rattle.rules.specs.Layout.{tunnelRead, matchRead, viewPdr, pdrWidth}
 use Rattle.laws.proofs.LayoutLaws.{pdr-view}
 use Rattle.marking.specs.Walk.{joins}
-use Rattle.marking.proofs.RecordWalk.{look-none, look-some, look-end}
-use Rattle.records.proofs.Turns.{slices-more}
+use Rattle.marking.proofs.RecordWalk.{look-back, look-none, look-some}
 use Rattle.marking.specs.Marking.{holdsTeid, alike, heldBy, pdrHolds}
 
 -- ---- a PDR's hold
@@ -71,47 +71,65 @@ teid-of xs = refl
 
 -- ---- the look back
 
-look-with : (b : Bool) (xs : List ℕ) (ds : List Pdr) (ys : List ℕ) → pdrHolding (viewPdr xs) ≡ pick b (some (heldBy xs)) none
-    → joins (collect pdrHolding (viewPdr xs ∷ ds)) (heldBy ys)
-    ≡ pick (b && eqb (number (part 13 4 xs)) (number (part 13 4 ys))) (alike xs ys) (joins (collect pdrHolding ds) (heldBy ys))
-unfolding tunnelHolding
-look-with false xs ds ys e = look-none pdrHolding (viewPdr xs) ds (heldBy ys) e
-look-with true xs ds ys e =
-    look-some pdrHolding (viewPdr xs) ds (heldBy ys) (heldBy xs) e (unfold heldBy in refl) (unfold heldBy in refl)
-    ∙ (λ i. pick (eqb (teid-of xs i) (teid-of ys i)) (kinds-alike xs ys i) (joins (collect pdrHolding ds) (heldBy ys)))
+-- the last of a number of records
+pub slices-snoc : (w i : ℕ) (a : List ℕ) → slices w (suc i) a ≡ slices w i a ++ (part (i * w) w a ∷ [])
+unfolding slices
+slices-snoc w zero a = rw zero-mul
+slices-snoc w (suc i) a =
+    ap (λ (l : List (List ℕ)). take w a ∷ l) (slices-snoc w i (drop w a))
+    ∙ ap (λ (l : List ℕ). take w a ∷ (slices w i (drop w a) ++ (take w l ∷ []))) (drop-drop (i * w) w a ∙ ap (λ (k : ℕ). drop k a) (add-comm w (i * w) ∙ sym (suc-mul i w)))
 
-look-step : (xs : List ℕ) (ds : List Pdr) (ys : List ℕ)
-    → joins (collect pdrHolding (viewPdr xs ∷ ds)) (heldBy ys) ≡ pick (holdsTeid xs (number (part 13 4 ys))) (alike xs ys) (joins (collect pdrHolding ds) (heldBy ys))
+pub map-snoc : (xs : List (List ℕ)) (x : List ℕ) → map viewPdr (xs ++ (x ∷ [])) ≡ map viewPdr xs ++ (viewPdr x ∷ [])
+map-snoc [] x = refl
+map-snoc (y ∷ xs) x = ap (λ (l : List Pdr). viewPdr y ∷ l) (map-snoc xs x)
+
+-- one PDR: it holds the TEID, with the same use
+look-one : (xs ys : List ℕ) → joins (consOption (pdrHolding (viewPdr xs)) []) (heldBy ys) ≡ (holdsTeid xs (number (part 13 4 ys)) && alike xs ys)
 unfolding holdsTeid octetAt
-look-step xs ds ys = look-with (eqb (getD xs 12 0) 1) xs ds ys (hold-of xs)
+look-one xs ys = ap (λ (o : Option Holding). joins (consOption o []) (heldBy ys)) (hold-of xs) ∙ go (eqb (getD xs 12 0) 1)
+  where
+    go : (b : Bool) → joins (consOption (pick b (some (heldBy xs)) none) []) (heldBy ys) ≡ ((b && eqb (number (part 13 4 xs)) (number (part 13 4 ys))) && alike xs ys)
+    go false = look-none (heldBy ys)
+    go true = look-some (heldBy ys) (heldBy xs) (unfold heldBy tunnelHolding in refl) (unfold heldBy tunnelHolding in refl) ∙ (λ i. eqb (teid-of xs i) (teid-of ys i) && kinds-alike xs ys i)
 
--- the loop: what is left of the PDRs gives the same answer
-module _ (a : List ℕ) (n i : ℕ) (ys : List ℕ) where
-  abbrev pub looksFrom : ℕ → Bool
-  looksFrom j = joins (pdrHolds (n - j) (drop (j * pdrWidth) a)) (heldBy ys)
+-- the loop: those before give the same answer
+module _ (a : List ℕ) (i : ℕ) (ys : List ℕ) (h : 0 < i) where
+  abbrev pub looksTo : ℕ → Bool
+  looksTo n = joins (pdrHolds n a) (heldBy ys)
 
-  module _ (h : i < n) where
-    here : looksFrom i ≡ pick (holdsTeid (part (i * pdrWidth) pdrWidth a) (number (part 13 4 ys))) (alike (part (i * pdrWidth) pdrWidth a) ys) (looksFrom (i + 1))
-    unfolding pdrHolds
-    here = rw (slices-more pdrWidth a n i h) (look-step (part (i * pdrWidth) pdrWidth a) (map viewPdr (slices pdrWidth (n - (i + 1)) (drop ((i + 1) * pdrWidth) a))) ys)
+  abbrev last : List ℕ
+  last = part ((i - 1) * pdrWidth) pdrWidth a
 
-    -- as the code has the slot
-    module _ (t : ℕ) (q : t ≡ number (part 13 4 ys)) (r : Bool) (e : r ≡ holdsTeid (take (i * pdrWidth + pdrWidth - i * pdrWidth) (drop (i * pdrWidth) a)) t) where
-      held : r ≡ holdsTeid (part (i * pdrWidth) pdrWidth a) (number (part 13 4 ys))
-      held = let span : i * pdrWidth + pdrWidth - i * pdrWidth ≡ pdrWidth = omega arith in rw (span, q) at e
+  here : looksTo i ≡ (looksTo (i - 1) || (holdsTeid last (number (part 13 4 ys)) && alike last ys))
+  unfolding pdrHolds
+  here =
+      let e : i ≡ suc (i - 1) = omega arith in
+      ap (λ (n : ℕ). joins (pdrHolds n a) (heldBy ys)) e
+      ∙ ap (λ (ps : List Pdr). joins (collect pdrHolding ps) (heldBy ys)) (ap (map viewPdr) (slices-snoc pdrWidth (i - 1) a) ∙ map-snoc (slices pdrWidth (i - 1) a) last)
+      ∙ look-back pdrHolding (map viewPdr (slices pdrWidth (i - 1) a)) (viewPdr last) (heldBy ys)
+      ∙ ap (λ (b : Bool). looksTo (i - 1) || b) (look-one last ys)
 
-      pub look-here : (k : Bool) → r ≡ true → k ≡ alike (take (i * pdrWidth + pdrWidth - i * pdrWidth) (drop (i * pdrWidth) a)) ys → k ≡ looksFrom i
-      look-here k g u =
-          let span : i * pdrWidth + pdrWidth - i * pdrWidth ≡ pdrWidth = omega arith in
-          let v : k ≡ alike (part (i * pdrWidth) pdrWidth a) ys = rw span at u in
-          v ∙ sym (here ∙ rw (← held, g))
+  -- as the code has the slot
+  module _ (t : ℕ) (q : t ≡ number (part 13 4 ys)) (r : Bool) (e : r ≡ holdsTeid (take ((i - 1) * pdrWidth + pdrWidth - (i - 1) * pdrWidth) (drop ((i - 1) * pdrWidth) a)) t) where
+    held : r ≡ holdsTeid last (number (part 13 4 ys))
+    held = let span : (i - 1) * pdrWidth + pdrWidth - (i - 1) * pdrWidth ≡ pdrWidth = omega arith in rw (span, q) at e
 
-      pub look-later : r ≡ false → looksFrom i ≡ looksFrom (i + 1)
-      look-later g = here ∙ rw (← held, g)
+    pub look-other : r ≡ false → looksTo i ≡ looksTo (i - 1)
+    look-other g = here ∙ rw (← held, g) (or-false (looksTo (i - 1)))
 
-pub look-none-left : (a : List ℕ) (n i : ℕ) (ys : List ℕ) → n ≤ i → joins (pdrHolds (n - i) (drop (i * pdrWidth) a)) (heldBy ys) ≡ false
-unfolding pdrHolds slices
-look-none-left a n i ys h = let e : n - i ≡ 0 = omega arith in rw e (look-end pdrHolding (heldBy ys))
+    module _ (k : Bool) (u : k ≡ alike (take ((i - 1) * pdrWidth + pdrWidth - (i - 1) * pdrWidth) (drop ((i - 1) * pdrWidth) a)) ys) where
+      same : k ≡ alike last ys
+      same = let span : (i - 1) * pdrWidth + pdrWidth - (i - 1) * pdrWidth ≡ pdrWidth = omega arith in rw span at u
+
+      pub look-here : r ≡ true → k ≡ true → true ≡ looksTo i
+      look-here g f = sym (here ∙ rw (← held, g, ← same, f) (or-true (looksTo (i - 1))))
+
+      pub look-unlike : r ≡ true → k ≡ false → looksTo i ≡ looksTo (i - 1)
+      look-unlike g f = here ∙ rw (← held, g, ← same, f) (or-false (looksTo (i - 1)))
+
+pub look-end : (a : List ℕ) (i : ℕ) (ys : List ℕ) → i ≤ 0 → joins (pdrHolds i a) (heldBy ys) ≡ false
+unfolding pdrHolds slices collect
+look-end a i ys h = let e : i ≡ 0 = omega arith in rw e (look-none (heldBy ys))
 
 -- ---- the answers of the two tests
 

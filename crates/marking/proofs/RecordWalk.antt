@@ -7,7 +7,7 @@ use mathlib.Core.Option.{Option, none, some}
 use mathlib.Core.List.{List, [], _∷_, _++_, map, append-assoc, append-nil}
 use Prim.Native.Nat.{ℕ, _-_}
 use lib.Dec.{T, eqb}
-use Rattle.octets.specs.Choice.{pick, sameBool, consOption}
+use Rattle.octets.specs.Choice.{sameBool, consOption}
 use Rattle.octets.specs.Lists.{all, collect}
 use Rattle.octets.proofs.Tests.{all-head, all-tail, all-cons, is-false}
 use Rattle.octets.proofs.Bools.{and-true}
@@ -15,7 +15,7 @@ use Rattle.rules.specs.Model.{Holding, teidOf}
 use Rattle.rules.specs.Sound.{shareTests}
 use Rattle.pool.specs.Map.{marked, mark, marks, offsets}
 use Rattle.marking.specs.Walk.{onSame, sharedWith, joins, sessionMarks}
-use Rattle.marking.proofs.Joining.{joins-nil, joins-cons}
+use Rattle.marking.proofs.Joining.{joins-nil, joins-cons, joins-append}
 
 -- ---- lists of holds
 
@@ -53,7 +53,7 @@ unfolding onSame
 joins-past [] hs h g = refl
 joins-past (u ∷ us) hs h g =
     joins-cons h u (us ++ hs)
-    ∙ ap (λ (b : Bool). pick (b && eqb (u .teid) (h .teid)) (sharedWith h u) (joins (us ++ hs) h)) (is-false (u .shared) (all-head unshared u us g))
+    ∙ ap (λ (b : Bool). ((b && eqb (u .teid) (h .teid)) && sharedWith h u) || joins (us ++ hs) h) (is-false (u .shared) (all-head unshared u us g))
     ∙ joins-past us hs h (all-tail unshared u us g)
 
 marks-past : (first : ℕ) (ws : List ℕ) (us earlier hs : List Holding) → T (all unshared us) → sessionMarks first ws (us ++ earlier) hs ≡ sessionMarks first ws earlier hs
@@ -88,8 +88,8 @@ joins-no : (earlier : List Holding) (h : Holding) → T (unshared h) → joins e
 joins-no [] h g = joins-nil h
 joins-no (k ∷ ks) h g = joins-cons h k ks ∙ one (onSame h k) (share-no h k g) (joins-no ks h g)
   where
-    one : (b : Bool) {c d : Bool} → c ≡ false → d ≡ false → pick b c d ≡ false
-    one true e f = e
+    one : (b : Bool) {c d : Bool} → c ≡ false → d ≡ false → ((b && c) || d) ≡ false
+    one true e f = λ i. e i || f i
     one false e f = f
 
 pub marks-own : (first : ℕ) (ws : List ℕ) (h : Holding) (hs : List Holding) → T (unshared h)
@@ -104,13 +104,14 @@ marks-own first ws h hs g =
 
 -- ---- PDRs
 
--- the look back: a PDR's hold on the same TEID decides
-pub look-pdr : (h k : Holding) (ks : List Holding) → h .shared ≡ true → k .shared ≡ true
-    → joins (k ∷ ks) h ≡ pick (eqb (k .teid) (h .teid)) (sameBool (k .v4) (h .v4) && (sameBool (k .v6) (h .v6) && eqb (k .source) (h .source))) (joins ks h)
+-- the look back: a PDR's hold on the same TEID, with the same use
+look-pdr : (h k : Holding) → h .shared ≡ true → k .shared ≡ true
+    → joins (k ∷ []) h ≡ (eqb (k .teid) (h .teid) && (sameBool (k .v4) (h .v4) && (sameBool (k .v6) (h .v6) && eqb (k .source) (h .source))))
 unfolding onSame sharedWith shareTests
-look-pdr h k ks e f =
-    joins-cons h k ks
-    ∙ (λ i. pick (f i && eqb (k .teid) (h .teid)) (f i && (e i && (sameBool (k .v4) (h .v4) && (sameBool (k .v6) (h .v6) && and-true (eqb (k .source) (h .source)) i)))) (joins ks h))
+look-pdr h k e f =
+    joins-cons h k []
+    ∙ (λ i. ((f i && eqb (k .teid) (h .teid)) && (f i && (e i && (sameBool (k .v4) (h .v4) && (sameBool (k .v6) (h .v6) && and-true (eqb (k .source) (h .source)) i))))) || joins-nil h i)
+    ∙ or-false _
 
 -- ---- records of one kind
 
@@ -149,15 +150,13 @@ module _ {A : Type 0} (hold : A → Option Holding) where
       ∙ marks-step first ws (collect hold done) h (collect hold left)
       ∙ ap (λ (l : List Holding). (not (marked ws (h .teid - first)) || joins (collect hold done) h) && sessionMarks first (mark ws (h .teid - first)) l (collect hold left)) (sym passed)
 
-  -- the look back over records
-  pub look-none : (d : A) (ds : List A) (h : Holding) → hold d ≡ none → joins (collect hold (d ∷ ds)) h ≡ joins (collect hold ds) h
-  look-none d ds h e = ap (λ (hs : List Holding). joins hs h) (collect-none d ds e)
+  -- the look back from the last of some records
+  pub look-back : (ds : List A) (d : A) (h : Holding) → joins (collect hold (ds ++ d ∷ [])) h ≡ (joins (collect hold ds) h || joins (consOption (hold d) []) h)
+  look-back ds d h = ap (λ (hs : List Holding). joins hs h) (collect-last ds d) ∙ joins-append h (collect hold ds) (consOption (hold d) [])
 
-  pub look-some : (d : A) (ds : List A) (h k : Holding) → hold d ≡ some k → h .shared ≡ true → k .shared ≡ true
-      → joins (collect hold (d ∷ ds)) h
-      ≡ pick (eqb (k .teid) (h .teid)) (sameBool (k .v4) (h .v4) && (sameBool (k .v6) (h .v6) && eqb (k .source) (h .source))) (joins (collect hold ds) h)
-  look-some d ds h k e f g = ap (λ (hs : List Holding). joins hs h) (collect-some d k ds e) ∙ look-pdr h k (collect hold ds) f g
+pub look-none : (h : Holding) → joins (consOption none []) h ≡ false
+look-none h = joins-nil h
 
-  pub look-end : (h : Holding) → joins (collect hold []) h ≡ false
-  unfolding collect
-  look-end h = joins-nil h
+pub look-some : (h k : Holding) → h .shared ≡ true → k .shared ≡ true
+    → joins (consOption (some k) []) h ≡ (eqb (k .teid) (h .teid) && (sameBool (k .v4) (h .v4) && (sameBool (k .v6) (h .v6) && eqb (k .source) (h .source))))
+look-some h k e f = look-pdr h k e f

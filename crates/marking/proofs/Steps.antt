@@ -16,7 +16,7 @@ use Rattle.rules.specs.Model.{Holding, Pdr, Endpoint, pdrHolding, endpointHoldi
 use Rattle.pool.specs.Map.{marked, mark, marks, newMarks, offsets}
 use Rattle.pool.proofs.Marks.{length-mark}
 use Rattle.marking.specs.Walk.{joins, sessionMarks}
-use Rattle.marking.proofs.RecordWalk.{marks-nil, record-none, record-some, look-end}
+use Rattle.marking.proofs.RecordWalk.{marks-nil, record-none, record-some, look-none}
 use Rattle.marking.proofs.SessionWalk.{endpoint-step}
 use Rattle.marking.specs.declared.Marks.the-variants.{Clash, New}
 use Rattle.marking.specs.Marking.{marksAfter, newAfter, stepOf, wordsOf, walked, Marked}
@@ -124,7 +124,7 @@ module _ {first : ℕ} {ws₀ : List ℕ} {hs : List Holding} where
 
     first-on : (not (marked ws offset) || joins [] (endpointHolding e)) ≡ not (marked ws offset)
     unfolding collect
-    first-on = ap (λ (j : Bool). not (marked ws offset) || j) (look-end pdrHolding (endpointHolding e)) ∙ or-false (not (marked ws offset))
+    first-on = ap (λ (j : Bool). not (marked ws offset) || j) (look-none (endpointHolding e)) ∙ or-false (not (marked ws offset))
 
     pub endpoint-turn : (k : ℕ) → stepOf first ws [] (some (endpointHolding e)) ≡ New k
         → Marking first ws₀ hs (wordsOf first ws (some (endpointHolding e))) [] (map endpointHolding es) (new + k)

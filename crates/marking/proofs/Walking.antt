@@ -5,13 +5,11 @@ use mathlib.Core.Path.{_≡_, refl, sym, ap, subst, _∙_}
 use Prim.Native.Nat.{ℕ, zero, suc, _+_, _-_, _*_, _≤_, _<_, zero-le}
 use native.Mathlib.Omega.{arith}
 use native.Mathlib.Numerals.{add-one}
-use native.Mathlib.Nat.{zero-mul, suc-mul, add-comm}
 use mathlib.Core.Bool.{Bool, true, false, not, _&&_}
 use mathlib.Core.Option.{Option}
 use mathlib.Core.List.{List, [], _∷_, _++_, map}
 use borrow.Author.Tests.{not-true, not-false}
 use lib.ListN.{length, take, drop}
-use lib.Seq.{drop-drop}
 use Rattle.octets.specs.Choice.{pick}
 use Rattle.octets.specs.Octets.{part, number, slices, allZero}
 use Rattle.octets.specs.Lists.{collect}
@@ -24,6 +22,7 @@ use Rattle.records.proofs.Turns.{slices-more, Rows, rows-none, rows-low, rows-b
 use Rattle.marking.specs.declared.Marks.{Marks}
 use Rattle.marking.specs.declared.Marks.the-variants.{Clash, New}
 use Rattle.marking.specs.Marking.{holdAt, endpointHold, pdrHolds, endpointHolds, stepOf, wordsOf, Stepped, walked, Marked}
+use Rattle.marking.proofs.Looking.{slices-snoc, map-snoc}
 use Rattle.marking.proofs.Steps.{Marking, marking-start, marking-end, endpoint-turn, endpoint-clash, pdr-turn, pdr-clash, step-few}
 
 -- ---- what an answer for one record says
@@ -140,17 +139,6 @@ module _ (first : ℕ) (ws₀ a : List ℕ) (n : ℕ) where
       }
 
 -- ---- PDRs
-
-slices-snoc : (w i : ℕ) (a : List ℕ) → slices w (suc i) a ≡ slices w i a ++ (part (i * w) w a ∷ [])
-unfolding slices
-slices-snoc w zero a = rw zero-mul
-slices-snoc w (suc i) a =
-    ap (λ (l : List (List ℕ)). take w a ∷ l) (slices-snoc w i (drop w a))
-    ∙ ap (λ (l : List ℕ). take w a ∷ (slices w i (drop w a) ++ (take w l ∷ []))) (drop-drop (i * w) w a ∙ ap (λ (k : ℕ). drop k a) (add-comm w (i * w) ∙ sym (suc-mul i w)))
-
-map-snoc : (xs : List (List ℕ)) (x : List ℕ) → map viewPdr (xs ++ (x ∷ [])) ≡ map viewPdr xs ++ (viewPdr x ∷ [])
-map-snoc [] x = refl
-map-snoc (y ∷ xs) x = ap (λ (l : List Pdr). viewPdr y ∷ l) (map-snoc xs x)
 
 module _ (first : ℕ) (ws₀ a : List ℕ) (n : ℕ) where
   abbrev pub pdrsTo : ℕ → List Holding

@@ -1,13 +1,13 @@
 -- 01's rule on TEIDs ("a TEID is held by one endpoint, or by PDRs of one session with equal family flags and source interface") as a walk over
 -- the records in the table's order, which remembers the TEIDs seen. A TEID seen before is allowed only where an earlier hold of the same session
--- lets it be shared, and the first such one decides.
+-- lets it be shared.
 -- Assumes nothing.
 use Prim.Native.Nat.{ℕ, _-_}
-use mathlib.Core.Bool.{Bool, true, false, not, _&&_, _||_}
+use mathlib.Core.Bool.{Bool, true, not, _&&_, _||_}
 use mathlib.Core.List.{List, [], _∷_, _++_}
 use lib.Dec.{eqb}
-use Rattle.octets.specs.Choice.{allOf, valueOr, mapOption}
-use Rattle.octets.specs.Lists.{member, anyIn, any, findBy}
+use Rattle.octets.specs.Choice.{allOf}
+use Rattle.octets.specs.Lists.{member, anyIn, any}
 use Rattle.rules.specs.Model.{Settings, Holding, Session, Sessions, sessionHoldings, sessionTeids, sessionAddresses}
 use Rattle.rules.specs.Sound.{shareTests}
 use Rattle.pool.specs.Map.{marked, mark, marks, offsets}
@@ -19,9 +19,9 @@ onSame h k = k .shared && eqb (k .teid) (h .teid)
 unfoldable pub sharedWith : Holding → Holding → Bool
 sharedWith h k = allOf (shareTests k h)
 
--- the first earlier hold of a PDR on the same TEID may be shared with this one
+-- an earlier hold of a PDR on the same TEID may be shared with this one
 unfoldable pub joins : List Holding → Holding → Bool
-joins earlier h = valueOr false (mapOption (sharedWith h) (findBy (onSame h) earlier))
+joins earlier h = any (λ k. onSame h k && sharedWith h k) earlier
 
 -- with the TEIDs seen so far and the session's earlier holds
 unfoldable pub accepts : List ℕ → List Holding → Holding → Bool

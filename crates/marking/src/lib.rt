@@ -62,17 +62,22 @@ fn same_kind(a: &[u8], b: &[u8]) -> bool
     a[SOURCE] == b[SOURCE]
 }
 
-// Whether the PDR in slot may share its TEID with the first of the n PDRs that holds it.
+// Whether the PDR in slot may share its TEID with one of the n PDRs. It is looked for from the last on: PDRs that share one are mostly made
+// one after the other.
 fn shares(pdrs: &[u8], n: usize, slot: &[u8]) -> bool
     requires { ⌜ (n * pdrWidth ≤ length (now pdrs)) × (length (now slot) ≡ pdrWidth) ⌝ }
     ensures { λ r. ⌜ r ≡ joins (pdrHolds n (now (pdrs .entry))) (heldBy (now (slot .entry))) ⌝ }
 {
     let teid = octets::read(slot, TEID, 4);
-    for i in 0..n {
+    let mut i = n;
+    while 0 < i {
+        i -= 1;
         let at = i * PDR;
         let earlier = &pdrs[at..at + PDR];
         if holds(earlier, teid) {
-            return same_kind(earlier, slot);
+            if same_kind(earlier, slot) {
+                return true;
+            }
         }
     }
     false
