@@ -6,6 +6,7 @@ pub mod RangeLaws
 pub mod TunnelLaws
 pub mod UeLaws
 pub mod PairLaws
+pub mod AloneLaws
 pub mod WalkLaws
 pub mod RequestLaws
 pub mod MergeLaws

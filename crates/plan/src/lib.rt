@@ -12,7 +12,7 @@ ghost use Rattle.octets.specs.Rows.{column};
 ghost use Rattle.rules.specs.Grants.{need};
 ghost use Rattle.rules.specs.Stages.{invalidAllocation};
 ghost use Rattle.plan.specs.Rows.{rowWidth, word, hasTag, tagged, rowsOf, requestIn};
-ghost use Rattle.plan.specs.RowRules.{requestOf, ofUeKind, disagree, sharesChoice};
+ghost use Rattle.plan.specs.RowRules.{requestOf, ofUeKind, sameId, disagree, sharesChoice};
 
 pub mod address;
 pub mod pair;
@@ -114,8 +114,25 @@ pub fn unsupported(plan: &[u64], n: usize, noted: bool) -> bool
     some_address(plan, n, false)
 }
 
-// Cause 73: does a row disagree with one of the rows after it?
-pub fn disagrees(row: &[u64], later: &[u64], n: usize) -> bool
+// Has one of the rows after it the ID of a row, in an element of the same type?
+fn repeated_later(row: &[u64], later: &[u64], n: usize) -> bool
+    requires { ⌜ (length (now row) ≡ rowWidth) × (n * rowWidth ≤ length (now later)) ⌝ }
+    ensures { λ r. ⌜ r ≡ any (sameId (now (row .entry))) (rowsOf n (now (later .entry))) ⌝ }
+{
+    let mut rest = later;
+    let mut left = n;
+    while 0 < left {
+        if pair::same_id(row, &rest[..format::ROW]) {
+            return true;
+        }
+        rest = &rest[format::ROW..];
+        left -= 1;
+    }
+    false
+}
+
+// Does a row disagree with one of the rows after it, by any of the rules on two rows?
+fn opposed_later(row: &[u64], later: &[u64], n: usize) -> bool
     requires { ⌜ (length (now row) ≡ rowWidth) × (n * rowWidth ≤ length (now later)) ⌝ }
     ensures { λ r. ⌜ r ≡ any (disagree (now (row .entry))) (rowsOf n (now (later .entry))) ⌝ }
 {
@@ -131,8 +148,19 @@ pub fn disagrees(row: &[u64], later: &[u64], n: usize) -> bool
     false
 }
 
-// Has one of the rows after it the CHOOSE ID of a row?
-fn shared_later(row: &[u64], later: &[u64], n: usize) -> bool
+// Cause 73: does a row disagree with one of the rows after it? Most rows share nothing with others, so that their IDs alone are compared.
+pub fn disagrees(row: &[u64], later: &[u64], n: usize) -> bool
+    requires { ⌜ (length (now row) ≡ rowWidth) × (n * rowWidth ≤ length (now later)) ⌝ }
+    ensures { λ r. ⌜ r ≡ any (disagree (now (row .entry))) (rowsOf n (now (later .entry))) ⌝ }
+{
+    if pair::stands_alone(row) {
+        return repeated_later(row, later, n);
+    }
+    opposed_later(row, later, n)
+}
+
+// Has one of the rows after it the CHOOSE ID of a row that has one?
+fn chosen_later(row: &[u64], later: &[u64], n: usize) -> bool
     requires { ⌜ (length (now row) ≡ rowWidth) × (n * rowWidth ≤ length (now later)) ⌝ }
     ensures { λ r. ⌜ r ≡ any (sharesChoice (now (row .entry))) (rowsOf n (now (later .entry))) ⌝ }
 {
@@ -146,6 +174,17 @@ fn shared_later(row: &[u64], later: &[u64], n: usize) -> bool
         left -= 1;
     }
     false
+}
+
+// Has one of the rows after it the CHOOSE ID of a row?
+fn shared_later(row: &[u64], later: &[u64], n: usize) -> bool
+    requires { ⌜ (length (now row) ≡ rowWidth) × (n * rowWidth ≤ length (now later)) ⌝ }
+    ensures { λ r. ⌜ r ≡ any (sharesChoice (now (row .entry))) (rowsOf n (now (later .entry))) ⌝ }
+{
+    if !pair::with_id(row) {
+        return false;
+    }
+    chosen_later(row, later, n)
 }
 
 // How many TEIDs the rows need: one for each CHOOSE without an ID and one for each different CHOOSE ID, counted at the last CHOOSE that has it.

@@ -3,13 +3,14 @@ use crate::tunnel;
 use format::types;
 use format::words;
 ghost use mathlib.Core.Path.{_≡_};
+ghost use mathlib.Core.Bool.{not, _&&_};
 ghost use lib.ListN.{length};
 ghost use Rattle.octets.specs.Choice.{isSome};
 ghost use Rattle.plan.specs.Rows.{rowWidth};
-ghost use Rattle.plan.specs.RowRules.{rowChooseId, alike, sameId, otherChoice, otherHold, disagree, sharesChoice};
+ghost use Rattle.plan.specs.RowRules.{rowChooseId, rowHolding, alike, sameId, otherChoice, otherHold, disagree, sharesChoice};
 
 // An ID removed, created or updated twice.
-fn same_id(a: &[u64], b: &[u64]) -> bool
+pub fn same_id(a: &[u64], b: &[u64]) -> bool
     requires { ⌜ (length (now a) ≡ rowWidth) × (length (now b) ≡ rowWidth) ⌝ }
     ensures { λ r. ⌜ r ≡ sameId (now (a .entry)) (now (b .entry)) ⌝ }
 {
@@ -42,7 +43,7 @@ pub fn shares_choice(a: &[u64], b: &[u64]) -> bool
 }
 
 // A CHOOSE with a CHOOSE ID.
-fn with_id(row: &[u64]) -> bool
+pub fn with_id(row: &[u64]) -> bool
     requires { ⌜ length (now row) ≡ rowWidth ⌝ }
     ensures { λ r. ⌜ r ≡ isSome (rowChooseId (now (row .entry))) ⌝ }
 {
@@ -101,6 +102,17 @@ fn other_hold(a: &[u64], b: &[u64]) -> bool
         return true;
     }
     !alike(a, b)
+}
+
+// Does a row share nothing with others, neither a CHOOSE ID nor a restored TEID? Then only its ID can disagree with theirs.
+pub fn stands_alone(row: &[u64]) -> bool
+    requires { ⌜ length (now row) ≡ rowWidth ⌝ }
+    ensures { λ r. ⌜ r ≡ (not (isSome (rowChooseId (now (row .entry)))) && not (isSome (rowHolding (now (row .entry))))) ⌝ }
+{
+    if with_id(row) {
+        return false;
+    }
+    !tunnel::restored(row)
 }
 
 // The rules on two rows.
