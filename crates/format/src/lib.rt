@@ -69,7 +69,11 @@ pub const ENDPOINT_ADDRESS: usize = ENDPOINT_ADDRESS_THERE + 1;
 pub const ENDPOINT: usize = ENDPOINT_ADDRESS + 4;
 
 // An FQ-CSID: node type (1 octet), Node-ID type (1), address (16), CSID (2).
-pub const CSID: usize = 20;
+pub const CSID_ID_TYPE: usize = 1;
+
+pub const CSID_ADDRESS: usize = 2;
+
+pub const CSID: usize = CSID_ADDRESS + 16 + 2;
 
 // A session's slot: the SEID (8 octets), the numbers of PDRs, endpoints and FQ-CSIDs (1 each), and an area for each.
 pub const PDR_COUNT: usize = 8;

@@ -1,21 +1,23 @@
 -- The answers of the record tests, return by return: premises are what the code knows there.
 -- Assumes nothing.
 use mathlib.Core.Path.{_≡_, refl, sym, ap, _∙_}
-use Prim.Native.Nat.{ℕ, zero, suc, _+_, _-_, _*_, _/_, _^_, _≤_, _<_}
+use Prim.Native.Nat.{ℕ, zero, suc, _+_, _-_, _*_, _/_, _%_, _^_, _≤_, _<_}
 use native.Mathlib.Omega.{arith}
 use mathlib.Core.Bool.{Bool, true, false, not, _&&_, _||_}
-use mathlib.Core.List.{List, [], _∷_}
-use borrow.Author.Tests.{lt-ltb, le-ltb, le-leb, lt-leb, eq-eqb, ne-eqb, not-true, not-false}
+use mathlib.Core.List.{List, [], _∷_, _++_}
+use borrow.Author.Tests.{lt-ltb, le-ltb, le-leb, lt-leb, eqb-true, eq-eqb, ne-eqb, not-true, not-false}
 use lib.ListN.{length, take, drop, getD}
 use lib.Seq.{getD-take, drop-drop, getD-drop}
 use lib.Dec.{T, leb, ltb, eqb, leb→le, ltb→lt, lit<}
-use Rattle.octets.specs.Choice.{pick, allOf}
+use Rattle.octets.specs.Choice.{pick, allOf, flag}
 use Rattle.octets.specs.Octets.{part, number, allZero, octets, slices}
 use Rattle.octets.specs.Fields.{fieldsAt}
 use Rattle.octets.specs.Lists.{member}
 use Rattle.octets.proofs.Ordered.{orders}
 use Rattle.octets.proofs.Tests.{and-left, and-right, of-true}
-use Rattle.octets.proofs.FieldLaws.{octet-field, zero-number, zero-fields}
+use Rattle.octets.proofs.Digits.{numberAfter, after-number, from-zero, number-below, part-octets}
+use Rattle.octets.proofs.Put.{part-two, length-part}
+use Rattle.octets.proofs.FieldLaws.{octet-field, zero-number, zero-append, zero-fields}
 use Rattle.rules.specs.Model.{Settings}
 use Rattle.rules.specs.Layout.{viewSettings, endpointWidth, settingsWidth, pdrWidth, csidWidth}
 use native.Mathlib.Nat.{add-zero}
@@ -24,36 +26,97 @@ use Rattle.laws.proofs.LayoutLaws.{endpoint-view}
 use Rattle.unit.specs.declared.Settings.{Settings as Unit}
 use Rattle.unit.specs.Meaning.{settingsOf}
 use Rattle.unit.proofs.FieldLaws.{ipv6-there}
-use Rattle.records.specs.Kept.{settingsSound, pdrSound, endpointSound, csidSound, endpointIds, hasIpv6, optionalTest, familiesTest, tunnelTest, matchTest, pdrTest, endpointTest, addressTest, csidTest}
+use Rattle.records.specs.Kept.{settingsSound, pdrSound, endpointSound, csidSound, endpointIds, hasIpv6, optionalTest, familiesTest, tunnelTest, matchTest, pdrTest, endpointTest, addressTest, typeTest, csidTest}
 use Rattle.records.proofs.Slots.{endpoint-law, pdr-law, csid-law, settings-law}
-use Rattle.octets.proofs.Bools.{and-false, and-true, or-true, or-false}
+use Rattle.octets.proofs.Bools.{and-false, and-true, and-assoc, or-true, or-false}
 
 -- ---- FQ-CSIDs
 
-module _ (xs : List ℕ) (e : length xs ≡ csidWidth) (o : T (octets xs)) where
-  csid-is : csidSound xs ≡ (ltb (getD xs 0 0) 6 && (leb (getD xs 1 0) 2 && addressTest (getD xs 1 0) (number (part 2 4 xs)) (number (part 6 12 xs))))
-  unfolding fieldsAt csidTest
-  csid-is = csid-law xs e o ∙ rw (octet-field 0 xs, octet-field 1 xs)
+after-append : (v : ℕ) (xs ys : List ℕ) → numberAfter v (xs ++ ys) ≡ numberAfter (numberAfter v xs) ys
+unfolding numberAfter
+after-append v [] ys = refl
+after-append v (x ∷ xs) ys = after-append (v * 256 + x) xs ys
 
-  pub csid-node : 5 < getD xs 0 0 → false ≡ csidSound xs
-  csid-node h = sym (csid-is ∙ rw (le-ltb (getD xs 0 0) 6 (omega arith)))
+number-append : (xs ys : List ℕ) → number (xs ++ ys) ≡ number xs * (256 ^ length ys) + number ys
+number-append xs ys = sym (from-zero (xs ++ ys)) ∙ after-append 0 xs ys ∙ ap (λ (v : ℕ). numberAfter v ys) (from-zero xs) ∙ after-number (number xs) ys
 
-  pub csid-long : getD xs 0 0 ≤ 5 → getD xs 1 0 ≡ 1 → true ≡ csidSound xs
-  csid-long h k = sym (csid-is ∙ rw (lt-ltb (getD xs 0 0) 6 (omega arith), k))
+-- the type and the first two octets of the address, as one number
+type-below : (k a x y : ℕ) → a ≡ x * 65536 + y → x < 65536 → y < 65536 → ltb (k * 65536 + x) 193572 ≡ typeTest k a
+type-below k a x y e hx hy =
+    orders k 1
+    (λ h. lt-ltb (k * 65536 + x) 193572 (omega arith) ∙ sym (rw (le-leb k 2 (omega arith), ne-eqb k 2 (λ q. omega arith))))
+    (λ h. orders k 2
+    (λ j. let q : k ≡ 2 = omega arith in
+    rw q
+    (orders 62500 x
+    (λ m. le-ltb (131072 + x) 193572 (omega arith) ∙ sym (lt-leb (a / 4096) 999999 (omega arith)))
+    (λ m. lt-ltb (131072 + x) 193572 (omega arith) ∙ sym (le-leb (a / 4096) 999999 (omega arith)))))
+    (λ j. le-ltb (k * 65536 + x) 193572 (omega arith) ∙ sym (rw (lt-leb k 2 j))))
 
-  pub csid-type : 2 < getD xs 1 0 → false ≡ csidSound xs
-  csid-type h = sym (csid-is ∙ rw (lt-leb (getD xs 1 0) 2 h) (and-false (ltb (getD xs 0 0) 6)))
+pub type-small : (t : Bool) (k a : ℕ) → t ≡ typeTest k a → not t ≡ false → k ≤ 2
+type-small t k a q h = orders k 2 (λ j. j) (λ j. let z : _≡_ {A = ℕ} 0 1 = ap flag (sym (rw (lt-leb k 2 j) at q) ∙ not-false t h) in omega arith)
 
-  pub csid-operator : (v : ℕ) → v ≡ number (part 2 4 xs) → getD xs 1 0 ≡ 2 → 999999 < v / 4096 → false ≡ csidSound xs
-  csid-operator v q k h = sym (csid-is ∙ rw (k, ← q, lt-leb (v / 4096) 999999 h) (and-false (ltb (getD xs 0 0) 6)))
+-- the test of type and address: of what tells in the first four octets of the address, and of the other twelve
+type-apart : (k a b : ℕ) → (leb k 2 && addressTest k a b) ≡ (typeTest k a && (eqb k 1 || eqb b 0))
+type-apart k a b = go (eqb k 1) refl
+  where
+    go : (t : Bool) → eqb k 1 ≡ t → (leb k 2 && addressTest k a b) ≡ (typeTest k a && (eqb k 1 || eqb b 0))
+    go true e = let q : k ≡ 1 = eqb-true k 1 e in rw q
+    go false e = rw e (sym (and-assoc (leb k 2) (not (eqb k 2) || leb (a / 4096) 999999) (eqb b 0)))
 
-  pub csid-two : (v : ℕ) (z : Bool) → v ≡ number (part 2 4 xs) → getD xs 0 0 ≤ 5 → getD xs 1 0 ≡ 2 → v / 4096 ≤ 999999 → z ≡ allZero (part 6 12 xs) → z ≡ csidSound xs
-  csid-two v z q g k h y =
-      y ∙ zero-number (part 6 12 xs) ∙ sym (csid-is ∙ rw (k, ← q, le-leb (v / 4096) 999999 h, lt-ltb (getD xs 0 0) 6 (omega arith)))
+-- none of two numbers is set, or the type is 1
+set-law : (k x y : ℕ) → k ≤ 2 → leb (flag (not (eqb x 0)) + flag (not (eqb y 0))) (k % 2 * 2) ≡ (eqb k 1 || (eqb x 0 && eqb y 0))
+set-law k x y h =
+    orders k 0
+    (λ j. let q : k ≡ 0 = omega arith in rw q (few (eqb x 0) (eqb y 0)))
+    (λ j. orders k 1
+    (λ m. let q : k ≡ 1 = omega arith in rw q (any (eqb x 0) (eqb y 0)))
+    (λ m. let q : k ≡ 2 = omega arith in rw q (few (eqb x 0) (eqb y 0))))
+  where
+    few : (p q : Bool) → leb (flag (not p) + flag (not q)) 0 ≡ (p && q)
+    few true true = refl
+    few true false = refl
+    few false true = refl
+    few false false = refl
 
-  pub csid-rest : (z : Bool) → getD xs 0 0 ≤ 5 → getD xs 1 0 ≤ 2 → (getD xs 1 0 ≡ 1 → ⊥) → (getD xs 1 0 ≡ 2 → ⊥) → z ≡ allZero (part 6 12 xs) → z ≡ csidSound xs
-  csid-rest z g t k h y =
-      y ∙ zero-number (part 6 12 xs) ∙ sym (csid-is ∙ rw (le-leb (getD xs 1 0) 2 t, lt-ltb (getD xs 0 0) 6 (omega arith), ne-eqb (getD xs 1 0) 1 k, ne-eqb (getD xs 1 0) 2 h))
+    any : (p q : Bool) → leb (flag (not p) + flag (not q)) 2 ≡ true
+    any true true = refl
+    any true false = refl
+    any false true = refl
+    any false false = refl
+
+module _ (xs : List ℕ) (e : length xs ≡ csidWidth) where
+  pub rest-law : (x y a b : ℕ) → getD xs 1 0 ≤ 2 → x ≡ number (part 6 8 xs) → y ≡ number (part 14 4 xs) → a ≡ flag (not (eqb x 0)) → b ≡ flag (not (eqb y 0))
+      → leb (a + b) (getD xs 1 0 % 2 * 2) ≡ (eqb (getD xs 1 0) 1 || allZero (part 6 12 xs))
+  rest-law x y a b h p q f g =
+      let z : allZero (part 6 12 xs) ≡ (eqb x 0 && eqb y 0) =
+      ap allZero (sym (part-two 6 8 4 xs)) ∙ zero-append (part 6 8 xs) (part 14 4 xs) ∙ rw (zero-number (part 6 8 xs), zero-number (part 14 4 xs), p, q) in
+      rw (f, g, z) (set-law (getD xs 1 0) x y h)
+
+  module _ (o : T (octets xs)) where
+    pub type-law : (v : ℕ) → v ≡ number (part 2 2 xs) → v < 256 ^ 2 → ltb (getD xs 1 0 * 65536 + v) 193572 ≡ typeTest (getD xs 1 0) (number (part 2 4 xs))
+    type-law v q l =
+        let n : length (part 4 2 xs) ≡ 2 = length-part 4 2 xs (omega arith) in
+        let m : number (part 2 4 xs) ≡ v * 65536 + number (part 4 2 xs) =
+        ap number (sym (part-two 2 2 2 xs)) ∙ number-append (part 2 2 xs) (part 4 2 xs) ∙ rw (n, ← q) in
+        let b : number (part 4 2 xs) < 65536 = rw n at (number-below (part 4 2 xs) (part-octets 4 2 xs o)) in
+        type-below (getD xs 1 0) (number (part 2 4 xs)) v (number (part 4 2 xs)) m (omega arith) b
+
+    csid-is : csidSound xs ≡ (ltb (getD xs 0 0) 6 && (typeTest (getD xs 1 0) (number (part 2 4 xs)) && (eqb (getD xs 1 0) 1 || allZero (part 6 12 xs))))
+    unfolding fieldsAt csidTest
+    csid-is =
+        csid-law xs e o
+        ∙ rw (octet-field 0 xs, octet-field 1 xs, zero-number (part 6 12 xs))
+        (ap (λ (b : Bool). ltb (getD xs 0 0) 6 && b) (type-apart (getD xs 1 0) (number (part 2 4 xs)) (number (part 6 12 xs))))
+
+    pub csid-node : 5 < getD xs 0 0 → false ≡ csidSound xs
+    csid-node h = sym (csid-is ∙ rw (le-ltb (getD xs 0 0) 6 (omega arith)))
+
+    pub csid-type : (t : Bool) → t ≡ typeTest (getD xs 1 0) (number (part 2 4 xs)) → not t ≡ true → false ≡ csidSound xs
+    csid-type t q h = sym (csid-is ∙ rw (← q, not-true t h) (and-false (ltb (getD xs 0 0) 6)))
+
+    pub csid-rest : (t r : Bool) → getD xs 0 0 ≤ 5 → t ≡ typeTest (getD xs 1 0) (number (part 2 4 xs)) → not t ≡ false → r ≡ (eqb (getD xs 1 0) 1 || allZero (part 6 12 xs)) → r ≡ csidSound xs
+    csid-rest t r h q j y = y ∙ sym (csid-is ∙ rw (← q, not-false t j, lt-ltb (getD xs 0 0) 6 (omega arith)))
 
 -- ---- settings
 

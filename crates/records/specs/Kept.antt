@@ -72,6 +72,10 @@ pdrTest s live vs =
 unfoldable pub endpointTest : Settings → List ℕ → Bool
 endpointTest s vs = allOf (tunnelTest s (getD vs 1 0) (getD vs 2 0) ∷ optionalTest (getD vs 3 0) (getD vs 4 0) ∷ [])
 
+-- the Node-ID type, and of type 2 an operator that is allowed
+abbrev pub typeTest : ℕ → ℕ → Bool
+typeTest t a = leb t 2 && (not (eqb t 2) || leb (a / 4096) maxOperator)
+
 -- the address of sixteen octets, or one of four and zeros; of type 2 with an operator that is allowed
 abbrev pub addressTest : ℕ → ℕ → ℕ → Bool
 addressTest t a b = pick (eqb t 1) true ((not (eqb t 2) || leb (a / 4096) maxOperator) && eqb b 0)

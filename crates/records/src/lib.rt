@@ -3,15 +3,22 @@
 ghost use mathlib.Core.Path.{_≡_};
 ghost use Prim.Native.Nat.{_+_, _*_, _^_, _≤_};
 ghost use lib.ListN.{length, getD};
-ghost use Rattle.octets.specs.Choice.{pick};
+ghost use lib.Dec.{eqb};
+ghost use mathlib.Core.Bool.{not, _||_};
+ghost use Rattle.octets.specs.Choice.{pick, flag};
 ghost use Rattle.octets.specs.Lists.{member};
-ghost use Rattle.octets.specs.Octets.{part, number};
+ghost use Rattle.octets.specs.Octets.{part, number, allZero};
 ghost use Rattle.rules.specs.Layout.{viewSettings, settingsWidth, pdrWidth, endpointWidth, csidWidth};
 ghost use Rattle.unit.specs.Meaning.{settingsOf};
-ghost use Rattle.records.specs.Kept.{settingsSound, pdrSound, endpointSound, csidSound, endpointIds, optionalTest, familiesTest, tunnelTest, matchTest};
+ghost use Rattle.records.specs.Kept.{settingsSound, pdrSound, endpointSound, csidSound, endpointIds, optionalTest, familiesTest, tunnelTest, matchTest, typeTest};
+use format::CSID_ADDRESS;
+use format::CSID_ID_TYPE;
 use unit::Settings;
 
 pub mod slot;
+
+// Operators of an FQ-CSID are below this number.
+const OPERATORS: u64 = 1000000;
 
 // A field of n octets that may be absent: 1 and the field, or zeros.
 fn optional_sound(slot: &[u8], at: usize, n: usize) -> bool
@@ -147,26 +154,43 @@ pub fn pdr_sound(slot: &[u8], ends: &[u8], n: usize, u: Settings) -> bool
     match_sound(slot, ends, n, u)
 }
 
+// 1 where x is not zero.
+fn is_set(x: u64) -> u64
+    ensures { λ r. ⌜ (r ≡ flag (not (eqb x 0))) × (r ≤ 1) ⌝ }
+{
+    (x != 0) as u64
+}
+
+// An FQ-CSID's Node-ID type, at most 2, and of type 2 the operator, the first 20 bits of the address. The type and the two octets after it
+// tell, as one number: no branch goes by the type.
+fn type_sound(slot: &[u8]) -> bool
+    requires { ⌜ length (now slot) ≡ csidWidth ⌝ }
+    ensures { λ r. ⌜ r ≡ typeTest (getD (now (slot .entry)) 1 0) (number (part 2 4 (now (slot .entry)))) ⌝ }
+{
+    slot[CSID_ID_TYPE] as u64 * 65536 + octets::read(slot, CSID_ADDRESS, 2)
+        < 2 * 65536 + OPERATORS / 16
+}
+
+// The last twelve octets of an FQ-CSID's address, zero unless its type is 1. No branch goes by the type.
+fn rest_sound(slot: &[u8]) -> bool
+    requires { ⌜ (length (now slot) ≡ csidWidth) × (getD (now slot) 1 0 ≤ 2) ⌝ }
+    ensures { λ r. ⌜ r ≡ (eqb (getD (now (slot .entry)) 1 0) 1 || allZero (part 6 12 (now (slot .entry)))) ⌝ }
+{
+    let set = is_set(octets::read(slot, CSID_ADDRESS + 4, 8))
+        + is_set(octets::read(slot, CSID_ADDRESS + 12, 4));
+    set <= slot[CSID_ID_TYPE] as u64 % 2 * 2
+}
+
 // An FQ-CSID's slot.
 pub fn csid_sound(slot: &[u8]) -> bool
     requires { ⌜ length (now slot) ≡ csidWidth ⌝ }
     ensures { λ r. ⌜ r ≡ csidSound (now (slot .entry)) ⌝ }
 {
-    let kind = slot[1];
     if 5 < slot[0] {
         return false;
     }
-    if kind == 1 {
-        return true;
-    }
-    if 2 < kind {
+    if !type_sound(slot) {
         return false;
     }
-    if kind == 2 {
-        if 999999 < octets::read(slot, 2, 4) / 4096 {
-            return false;
-        }
-        return octets::is_zero(slot, 6, 12);
-    }
-    octets::is_zero(slot, 6, 12)
+    rest_sound(slot)
 }
