@@ -1,7 +1,7 @@
 // One request: the stages on the plan and the table, the grants, the new session, the reply. A refusal never writes the table: every
 // check comes first, then the session is built in a slot of its own and stored by one splice.
 ghost use mathlib.Core.Path.{_≡_};
-ghost use Prim.Native.Nat.{_*_, _≤_};
+ghost use Prim.Native.Nat.{_*_, _-_, _≤_};
 ghost use lib.ListN.{length};
 ghost use Rattle.rules.specs.Message.{kindOf, headerSeid, deletion};
 ghost use Rattle.plan.specs.Rows.{rowWidth, rowsOf};
@@ -9,6 +9,7 @@ ghost use Rattle.unit.specs.Meaning.{settingsOf};
 ghost use Rattle.areas.specs.Counted.{withRecord};
 ghost use Rattle.session.specs.Areas.{tableArea};
 ghost use Rattle.session.specs.Build.{built};
+ghost use Rattle.request.specs.Requests.{RoomFor};
 ghost use Rattle.engine.specs.Answers.{Asked, Live, Answers, Replies, Refusing, Accepting};
 ghost use Rattle.engine.specs.Steps.{Counted, Giving, Given, Fetching, Fetched, Entered, Readable, Changing, Serves};
 ghost use lib.Dec.{T};
@@ -218,8 +219,8 @@ fn settle(
     )
 }
 
-// An establishment, or the modification of the session at the place p.
-fn change(
+// An establishment, or the modification of the session at the place p, with room for its plan.
+fn change_with(
     t: &mut [u8],
     u: Settings,
     words: &[u64],
@@ -229,13 +230,13 @@ fn change(
     msg: &[u8],
     kind: u64,
     p: usize,
+    plan: &mut [u64],
     out: &mut [u8],
 ) -> Replied
-    requires { ⌜ Changing (now t) (now msg) (now out) kind p × Counted u (now t) (now words) free (now ips) left ⌝ }
+    requires { ⌜ Changing (now t) (now msg) (now out) kind p × Counted u (now t) (now words) free (now ips) left × RoomFor (length (now msg) - 16) (now plan) ⌝ }
     ensures { λ r. ⌜ Replies (now (t .entry)) (now (msg .entry)) (now (out .entry)) (r .used) (r .place) (now (out .exit)) (now (t .exit)) ⌝ }
 {
-    let mut plan = [0u64; format::PLAN];
-    let reading = request::read_request(msg, &mut plan);
+    let reading = request::read_request(msg, plan);
     match reading {
         Reading::Fault(cause, element, place) => {
             let used = refuse(t, u, msg, cause, Offending::Element(element), out);
@@ -258,7 +259,7 @@ fn change(
                 kind,
                 live,
                 &mut slot,
-                &mut plan,
+                plan,
                 read,
                 out,
             );
@@ -268,6 +269,91 @@ fn change(
             };
         }
     }
+}
+
+// The same of a short message. Each of these has its plan in a frame of its own.
+fn change_short(
+    t: &mut [u8],
+    u: Settings,
+    words: &[u64],
+    free: usize,
+    ips: &[u64],
+    left: usize,
+    msg: &[u8],
+    kind: u64,
+    p: usize,
+    out: &mut [u8],
+) -> Replied
+    requires { ⌜ Changing (now t) (now msg) (now out) kind p × Counted u (now t) (now words) free (now ips) left × (length (now msg) ≤ 374) ⌝ }
+    ensures { λ r. ⌜ Replies (now (t .entry)) (now (msg .entry)) (now (out .entry)) (r .used) (r .place) (now (out .exit)) (now (t .exit)) ⌝ }
+{
+    let mut plan = [0u64; format::SHORT_PLAN];
+    change_with(t, u, words, free, ips, left, msg, kind, p, &mut plan, out)
+}
+
+// The same of a message of middle length.
+fn change_middle(
+    t: &mut [u8],
+    u: Settings,
+    words: &[u64],
+    free: usize,
+    ips: &[u64],
+    left: usize,
+    msg: &[u8],
+    kind: u64,
+    p: usize,
+    out: &mut [u8],
+) -> Replied
+    requires { ⌜ Changing (now t) (now msg) (now out) kind p × Counted u (now t) (now words) free (now ips) left × (length (now msg) ≤ 1094) ⌝ }
+    ensures { λ r. ⌜ Replies (now (t .entry)) (now (msg .entry)) (now (out .entry)) (r .used) (r .place) (now (out .exit)) (now (t .exit)) ⌝ }
+{
+    let mut plan = [0u64; format::MIDDLE_PLAN];
+    change_with(t, u, words, free, ips, left, msg, kind, p, &mut plan, out)
+}
+
+// The same of any message.
+fn change_long(
+    t: &mut [u8],
+    u: Settings,
+    words: &[u64],
+    free: usize,
+    ips: &[u64],
+    left: usize,
+    msg: &[u8],
+    kind: u64,
+    p: usize,
+    out: &mut [u8],
+) -> Replied
+    requires { ⌜ Changing (now t) (now msg) (now out) kind p × Counted u (now t) (now words) free (now ips) left ⌝ }
+    ensures { λ r. ⌜ Replies (now (t .entry)) (now (msg .entry)) (now (out .entry)) (r .used) (r .place) (now (out .exit)) (now (t .exit)) ⌝ }
+{
+    let mut plan = [0u64; format::PLAN];
+    change_with(t, u, words, free, ips, left, msg, kind, p, &mut plan, out)
+}
+
+// The same, with a plan by the message's length: a short one is soon cleared.
+fn change(
+    t: &mut [u8],
+    u: Settings,
+    words: &[u64],
+    free: usize,
+    ips: &[u64],
+    left: usize,
+    msg: &[u8],
+    kind: u64,
+    p: usize,
+    out: &mut [u8],
+) -> Replied
+    requires { ⌜ Changing (now t) (now msg) (now out) kind p × Counted u (now t) (now words) free (now ips) left ⌝ }
+    ensures { λ r. ⌜ Replies (now (t .entry)) (now (msg .entry)) (now (out .entry)) (r .used) (r .place) (now (out .exit)) (now (t .exit)) ⌝ }
+{
+    if msg.len() <= format::SHORT {
+        return change_short(t, u, words, free, ips, left, msg, kind, p, out);
+    }
+    if msg.len() <= format::MIDDLE {
+        return change_middle(t, u, words, free, ips, left, msg, kind, p, out);
+    }
+    change_long(t, u, words, free, ips, left, msg, kind, p, out)
 }
 
 // A request whose header is allowed. The maps come by value and are lent on; a deletion reads neither, so it copies neither.

@@ -104,8 +104,16 @@ pub const RESTORATION: usize = 1742;
 
 pub const GRANTS: usize = MAX_PDRS + MAX_ENDPOINTS;
 
-// Words of a plan's row, and of the plan of the longest message, which has at most 226 rows.
+// Words of a plan's row, and of the plans that messages of at most so many octets have room in: n rows are enough for 14 + 9 * n octets.
 pub const ROW: usize = 20;
+
+pub const SHORT_PLAN: usize = 40 * ROW;
+
+pub const SHORT: usize = 14 + 9 * 40;
+
+pub const MIDDLE_PLAN: usize = 120 * ROW;
+
+pub const MIDDLE: usize = 14 + 9 * 120;
 
 pub const PLAN: usize = 226 * ROW;
 

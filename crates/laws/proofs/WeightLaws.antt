@@ -226,10 +226,10 @@ module _ (hasRow : Item → Bool) (no : hasRow updatesEndpoint ≡ false) where
           ∙ ap (λ (k : ℕ). flag (eqb t ie.fqcsid) + k) (counts-alike ie.fqcsid q 0 after))
           (h .few)
 
-  -- there is room for one more row among 226
-  pub light-room : {alone : Bool} {s rest : List ℕ} {d : Draft} → 4 ≤ length rest → length s ≤ 2032 → Light hasRow alone s rest d → length (keep hasRow (d .items)) ≤ 225
-  light-room {alone} {s} {rest} {d} a b h = omega (arith, flag-few (any clears (d .items)))
+  -- where an element is left, there is one row more than there are among as many as the octets allow
+  pub light-room : {alone : Bool} {s rest : List ℕ} {d : Draft} → 4 ≤ length rest → Light hasRow alone s rest d → length (keep hasRow (d .items)) + 1 ≤ (length s + 10) / 9
+  light-room {alone} {s} {rest} {d} a h = omega (arith, flag-few (any clears (d .items)))
 
-  -- and in the end there are no more than 226
-  pub light-end : {alone : Bool} {s rest : List ℕ} {d : Draft} → length s ≤ 2032 → Light hasRow alone s rest d → length (keep hasRow (d .items)) ≤ 226
-  light-end {alone} {s} {rest} {d} b h = omega (arith, flag-few (any clears (d .items)))
+  -- and in the end there are no more than these
+  pub light-end : {alone : Bool} {s rest : List ℕ} {d : Draft} → Light hasRow alone s rest d → length (keep hasRow (d .items)) ≤ (length s + 10) / 9
+  light-end {alone} {s} {rest} {d} h = omega (arith, flag-few (any clears (d .items)))

@@ -1,6 +1,6 @@
 -- What reading a request gives, by the answers of stages 2 and 3. Assumes nothing.
 use mathlib.Core.Path.{_≡_, refl, sym, ap, ap₂, subst, _∙_}
-use Prim.Native.Nat.{ℕ, _-_, _≤_}
+use Prim.Native.Nat.{ℕ, _*_, _-_, _≤_}
 use native.Mathlib.Omega.{arith}
 use mathlib.Core.Bool.{Bool, true, false, _||_}
 use mathlib.Core.Option.{none}
@@ -17,7 +17,7 @@ use Rattle.rules.specs.Request as rules
 use Rattle.rules.specs.Reading.{Reading, faulty, done, andThen, aloneIn, elementsRead, finished, sessionRead, topRead, read}
 use Rattle.rules.specs.Request.{Request, emptyDraft}
 use Rattle.laws.proofs.CsidLaws.{only-clear}
-use Rattle.plan.specs.Rows.{rowsOf, tagged, rowCsid, isNullRow}
+use Rattle.plan.specs.Rows.{rowWidth, rowsOf, tagged, rowCsid, isNullRow}
 use Rattle.rules.specs.Types as ie
 use Rattle.rules.specs.Causes as why
 use Rattle.frame.specs.Framed.{faultIn}
@@ -26,7 +26,7 @@ use Rattle.frame.specs.declared.Framing.the-variants as framing
 use Rattle.reading.specs.Verdicts.{stopped, numbered}
 use Rattle.frame.specs.HeaderOf.{SessionHeader}
 use Rattle.request.specs.Items.{Enough, AllRead, planOf, concluded}
-use Rattle.request.specs.Requests.{maxItems, maxWords, refused, resultOf, fromFraming, readingOf, meant, rowsLeft, Read}
+use Rattle.request.specs.Requests.{RoomFor, refused, resultOf, fromFraming, readingOf, meant, rowsLeft, Read}
 use Rattle.request.specs.declared.Reading as code
 use Rattle.request.specs.declared.Reading.the-variants as reading
 use Rattle.request.specs.declared.items.Draft.{Draft}
@@ -52,11 +52,14 @@ module _ (msg : List ℕ) (head : SessionHeader msg) where
   abbrev tail : List ℕ
   tail = take (length msg - 16) (drop 16 msg)
 
-  tail-short : length msg ≤ 2048 → length (take (length msg - 16) (drop 16 msg)) ≤ 2032
-  tail-short h = let long = head .long in let size : length tail ≡ length msg - 16 = ap length (part-from 16 msg) ∙ length-drop 16 msg in omega arith
+  tail-long : length (take (length msg - 16) (drop 16 msg)) ≡ length msg - 16
+  tail-long = ap length (part-from 16 msg) ∙ length-drop 16 msg
 
-  pub message-room : {words : List ℕ} → length msg ≤ 2048 → maxWords ≤ length words → Enough (take (length msg - 16) (drop 16 msg)) words
-  message-room short room = record { short = tail-short short; row = room }
+  tail-short : length msg ≤ 2048 → length (take (length msg - 16) (drop 16 msg)) ≤ 2032
+  tail-short h = let long = head .long in omega (arith, tail-long)
+
+  pub message-room : {words : List ℕ} → length msg ≤ 2048 → RoomFor (length msg - 16) words → Enough (take (length msg - 16) (drop 16 msg)) words
+  message-room {words} short room = record { short = tail-short short; row = subst (λ (n : ℕ). RoomFor n words) (sym tail-long) room }
 
   module _ {k : ℕ} (kind : k ≡ kindOf msg) where
     abbrev drafted : Reading rules.Draft
@@ -87,15 +90,15 @@ module _ (msg : List ℕ) (head : SessionHeader msg) where
         pub read-refused : {exit : List ℕ} (c t p : ℕ) → r ≡ Fault c t p → Read msg (reading.Fault c t p) exit
         read-refused c t p q = refused-whole (stopped-read c t p q ∙ sym by-reading)
 
-        pub read-whole : maxWords ≤ length words → (d : Draft) → r ≡ Next d → {q : code.Reading} → q ≡ concluded k d → Read msg q words
-        read-whole room d e {q} h =
+        pub read-whole : (d : Draft) → r ≡ Next d → {q : code.Reading} → q ≡ concluded k d → Read msg q words
+        read-whole d e {q} h =
             let w = all .next d e in
             let m = w .read .means in
             let same : meant (concluded k d) words ≡ readingOf msg =
             concluded-same m k ∙ ap (λ (x : Reading rules.Draft). resultOf (andThen x (finished k))) (sym (w .read .is)) ∙ sym (ap (λ (x : Reading Request). resultOf x) read-is) ∙ sym by-reading in
             let alone : any isNullRow (tagged ie.fqcsid (rowsOf (d .rows) words)) ≡ true → collect rowCsid (tagged ie.fqcsid (rowsOf (d .rows) words)) ≡ [] =
             λ n. csids-same m ∙ only-clear k (elements bodyPlace tail) (w .read .draft) (w .read .is) (sym (nulls-same m) ∙ n) in
-            rw h (by-plan d (w .few) room alone (concluded k d) (planned d) same)
+            rw h (by-plan d (w .room) alone (concluded k d) (planned d) same)
           where
             -- all of the rows, or none
             planned : (d : Draft) → (rowsLeft (concluded k d) ≡ d .rows) ⊎ (rowsLeft (concluded k d) ≡ 0)
@@ -108,7 +111,7 @@ module _ (msg : List ℕ) (head : SessionHeader msg) where
                 go true false e = inr refl
                 go false b e = inl refl
 
-            by-plan : (d : Draft) → d .rows ≤ maxItems → maxWords ≤ length words → (any isNullRow (tagged ie.fqcsid (rowsOf (d .rows) words)) ≡ true → collect rowCsid (tagged ie.fqcsid (rowsOf (d .rows) words)) ≡ [])
+            by-plan : (d : Draft) → rowWidth * d .rows ≤ length words → (any isNullRow (tagged ie.fqcsid (rowsOf (d .rows) words)) ≡ true → collect rowCsid (tagged ie.fqcsid (rowsOf (d .rows) words)) ≡ [])
                 → (q : code.Reading) → (rowsLeft q ≡ d .rows) ⊎ (rowsLeft q ≡ 0) → meant q words ≡ readingOf msg → Read msg q words
-            by-plan d few room alone q (inl n) s = record { result = s; room = omega arith; onlyNull = subst (λ (i : ℕ). any isNullRow (tagged ie.fqcsid (rowsOf i words)) ≡ true → collect rowCsid (tagged ie.fqcsid (rowsOf i words)) ≡ []) (sym n) alone }
-            by-plan d few room alone q (inr n) s = record { result = s; room = omega arith; onlyNull = subst (λ (i : ℕ). any isNullRow (tagged ie.fqcsid (rowsOf i words)) ≡ true → collect rowCsid (tagged ie.fqcsid (rowsOf i words)) ≡ []) (sym n) (λ e. no-rows words e) }
+            by-plan d room alone q (inl n) s = record { result = s; room = omega arith; onlyNull = subst (λ (i : ℕ). any isNullRow (tagged ie.fqcsid (rowsOf i words)) ≡ true → collect rowCsid (tagged ie.fqcsid (rowsOf i words)) ≡ []) (sym n) alone }
+            by-plan d room alone q (inr n) s = record { result = s; room = omega arith; onlyNull = subst (λ (i : ℕ). any isNullRow (tagged ie.fqcsid (rowsOf i words)) ≡ true → collect rowCsid (tagged ie.fqcsid (rowsOf i words)) ≡ []) (sym n) (λ e. no-rows words e) }

@@ -80,9 +80,10 @@ module _ {kind : ℕ} {s words₀ : List ℕ} {at : ℕ} {rest words nodes : Lis
 
     pub turn-room : Roomy c nodes words
     turn-room =
-        let few = light-room hasRow no-row (let l = f .low in let h = f .high in omega arith) (enough .short) (g .light) in
+        let few = light-room hasRow no-row (let l = f .low in let h = f .high in omega arith) (g .light) in
         let n = rows-are in
         let l = g .long in
+        let short = enough .short in
         record { wide = g .wide; row = let r = enough .row in omega arith; few = omega arith }
 
     -- the places of the element's value
@@ -128,9 +129,9 @@ module _ {kind : ℕ} {s words₀ : List ℕ} {at : ℕ} {rest words nodes : Lis
   unfolding elementsRead
   turns-end e enough =
       let whole : elementsRead kind (aloneIn (elements bodyPlace s)) (elements bodyPlace s) emptyDraft ≡ done (g .draft) = g .same ∙ ap (λ (es : List Element). elementsRead kind (aloneIn (elements bodyPlace s)) es (g .draft)) e in
-      let few = light-end hasRow no-row (enough .short) (g .light) in
+      let few = light-end hasRow no-row (g .light) in
       let n = rows-are in
-      let ended : Ended (elementsRead kind (aloneIn (elements bodyPlace s)) (elements bodyPlace s) emptyDraft) c words = record { nodes = nodes; read = record { draft = g .draft; is = whole; means = g .means }; few = omega arith } in
+      let ended : Ended (elementsRead kind (aloneIn (elements bodyPlace s)) (elements bodyPlace s) emptyDraft) c words = record { nodes = nodes; read = record { draft = g .draft; is = whole; means = g .means }; room = let l = g .long in let r = enough .row in omega arith } in
       record { fault = λ m x y h. no-fault h; next = λ b h. subst (λ (k : Draft). Ended (elementsRead kind (aloneIn (elements bodyPlace s)) (elements bodyPlace s) emptyDraft) k words) (same-draft h) ended }
     where
       no-fault : {m x y : ℕ} {X : Type 0} → Next c ≡ Fault m x y → X

@@ -22,7 +22,7 @@ use Rattle.plan.specs.Words as its
 use Rattle.reading.specs.declared.Verdict.{Verdict}
 use Rattle.reading.specs.declared.Verdict.the-variants.{Fine, Refused}
 use Rattle.reading.specs.Verdicts.{stopped, numbered}
-use Rattle.request.specs.Requests.{maxItems, maxWords}
+use Rattle.request.specs.Requests.{RoomFor}
 use Rattle.request.specs.declared.Plan.{Plan}
 use Rattle.request.specs.declared.Reading as code
 use Rattle.request.specs.declared.Reading.the-variants as reading
@@ -142,13 +142,13 @@ elementAt kind alone t p v d = elementRead kind alone (record { type = t; conten
 -- octets that fit a message, and room for their rows
 pub record Enough (s words : List ℕ) : Type 0 where
   pub short : length s ≤ 2032
-  pub row : maxWords ≤ length words
+  pub row : RoomFor (length s) words
 
 -- all elements: the fault that the rules find, or a draft
 pub record Ended (result : Reading rules.Draft) (c : Draft) (words : List ℕ) : Type 0 where
   pub nodes : List ℕ
   pub read : Read result c nodes words
-  pub few : c .rows ≤ maxItems
+  pub room : rowWidth * c .rows ≤ length words
 
 pub record AllRead (result : Reading rules.Draft) (r : Step) (words : List ℕ) : Type 0 where
   pub fault : (c t p : ℕ) → r ≡ Fault c t p → numbered result ≡ stopped c t p

@@ -1,7 +1,7 @@
 -- What reading a request gives: the first fault of stages 2 and 3, or the request that the rows of its plan mean.
 -- Assumes nothing.
 use mathlib.Core.Path.{_≡_}
-use Prim.Native.Nat.{ℕ, _*_, _≤_}
+use Prim.Native.Nat.{ℕ, _+_, _*_, _/_, _≤_}
 use mathlib.Core.Bool.{true}
 use mathlib.Core.Option.{Option, none, some}
 use mathlib.Core.List.{List, []}
@@ -18,13 +18,14 @@ use Rattle.rules.specs.Causes as why
 use Rattle.request.specs.declared.Reading.{Reading}
 use Rattle.request.specs.declared.Reading.the-variants as reading
 
--- Items of the longest message: each takes 9 octets at least, a Remove Traffic Endpoint, but for one FQ-CSID of null length.
-abbrev pub maxItems : ℕ
-maxItems = 226
+-- Rows of a message with so many octets after its header, and one more while octets of an element are left: each takes 9 octets at least, a
+-- Remove Traffic Endpoint, but for one FQ-CSID of null length.
+abbrev pub mostRows : ℕ → ℕ
+mostRows n = (n + 10) / 9
 
--- the words of their rows
-abbrev pub maxWords : ℕ
-maxWords = rowWidth * maxItems
+-- words that they have room in
+abbrev pub RoomFor : ℕ → List ℕ → Type 0
+RoomFor n words = rowWidth * mostRows n ≤ length words
 
 -- a cause with the type at fault and its place, or a request
 pub data Result : Type 0 where

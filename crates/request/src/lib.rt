@@ -7,14 +7,14 @@ use frame::Framing;
 use items::Draft;
 use items::Step;
 ghost use mathlib.Core.Path.{_≡_};
-ghost use Prim.Native.Nat.{_≤_};
+ghost use Prim.Native.Nat.{_-_, _≤_};
 ghost use lib.ListN.{length};
 ghost use Rattle.rules.specs.Limits.{maxMessage};
 ghost use mathlib.Core.Bool.{not, _||_};
 ghost use lib.Dec.{eqb};
 ghost use Rattle.request.specs.Items.{planOf, concluded};
 ghost use Rattle.frame.specs.HeaderOf.{SessionHeader};
-ghost use Rattle.request.specs.Requests.{maxWords, Read};
+ghost use Rattle.request.specs.Requests.{RoomFor, Read};
 
 pub mod items;
 pub mod row;
@@ -75,7 +75,7 @@ fn conclude(message: u64, d: Draft) -> Reading
 
 // Reads a message whose header is allowed and has a SEID.
 pub fn read_request(msg: &[u8], words: &mut [u64]) -> Reading
-    requires { ⌜ SessionHeader (now msg) × (length (now msg) ≤ maxMessage) × (maxWords ≤ length (now words)) ⌝ }
+    requires { ⌜ SessionHeader (now msg) × (length (now msg) ≤ maxMessage) × RoomFor (length (now msg) - 16) (now words) ⌝ }
     ensures { λ r. ⌜ Read (now (msg .entry)) r (now (words .exit)) ⌝ }
 {
     if let Framing::Fault(kind, place) = frame::frame_fault(msg) {

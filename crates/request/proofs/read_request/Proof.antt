@@ -1,10 +1,8 @@
 -- `read_request` meets its contract. Assumes nothing.
-use mathlib.Core.Path.{sym, subst}
 use Prim.Native.Nat.{ℕ, _≤_}
 use Rattle.frame.proofs.HeaderLaws.{read-kind}
 use Rattle.request.proofs.ReadingLaws.{message-room, not-framed, read-refused, read-whole}
 use borrow.Author.Needs.{needs}
-use Rattle.request.specs.Requests.{maxWords}
 use Rattle.request.proofs.read_request.Statement.{statement}
 use Rattle.request.proofs.read_request.Tie as tie
 use native.Mathlib.Omega.{arith}
@@ -58,7 +56,7 @@ same-length-2 : tie.Need-same-length-2
 same-length-2 c = search needs
 
 returns-3 : tie.Need-returns-3
-returns-3 c = let p = c .before .before .before .before .before .before .before .before .before .before .before .before .before .before .before .pre in read-whole _ (p .0) (read-kind _ (eight (p .0 .long)) _ (c .before .before .before .before .before .before .before .before .before .read .ensures .0)) _ (c .before .before .before .before .before .before .read-elements .ensures) _ (c .before .before .before .before .before .before .before .before .before .before .before .before .frame-fault .ensures) (c .before .before .before .before .before .before .before .before .before .before .enum-told .given .1) (subst (λ (n : ℕ). maxWords ≤ n) (sym (c .before .before .before .before .before .before .read-elements .kept .1 .1 .0)) (p .2)) _ (c .before .before .step2 .given .1) (c .conclude .ensures)
+returns-3 c = let p = c .before .before .before .before .before .before .before .before .before .before .before .before .before .before .before .pre in read-whole _ (p .0) (read-kind _ (eight (p .0 .long)) _ (c .before .before .before .before .before .before .before .before .before .read .ensures .0)) _ (c .before .before .before .before .before .before .read-elements .ensures) _ (c .before .before .before .before .before .before .before .before .before .before .before .before .frame-fault .ensures) (c .before .before .before .before .before .before .before .before .before .before .enum-told .given .1) _ (c .before .before .step2 .given .1) (c .conclude .ensures)
 
 pub read-request-spec : {M : Type 1} → statement M
 read-request-spec =
