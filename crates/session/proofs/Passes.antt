@@ -106,7 +106,7 @@ endpoints-in (row ∷ qs) t {x} {s} room h =
     let one : Slot (setEndpoints x (insertBy endpointId e (keep (otherThan endpointId (e .id)) (x .endpoints)))) (withRecord endpointArea (endpointOctets e) s)
     = with-endpoints h (with-held endpointOctets endpointId endpointArea endpointFits endpoint-good (held-endpoints h) e fits (omega arith)) in
     endpoints-in qs (all-tail endpointRow row qs t) (omega arith)
-    (same-slot (row-127 row s (withRecord endpointArea (endpointOctets e) s) endpointArea (endpointOctets e) refl tag (sym (endpoint-record row)) refl) one)
+    (same-slot (row-127 row s (withRecord endpointArea (endpointOctets e) s) (endpointOctets e) tag (sym (endpoint-record row)) refl) one)
 
 pub pdrs-in : (qs : List (List ℕ)) → T (all pdrRow qs) → {x : Session} {s : List ℕ} → length (x .pdrs) + length qs ≤ 16 → Slot x s
     → Slot (setPdrs x (putIn pdrId (map pdrOf qs) (x .pdrs))) (applied qs s)
@@ -123,7 +123,7 @@ pdrs-in (row ∷ qs) t {x} {s} room h =
     let one : Slot (setPdrs x (insertBy pdrId p (keep (otherThan pdrId (p .id)) (x .pdrs)))) (withRecord pdrArea (pdrOctets p) s)
     = with-pdrs h (with-held pdrOctets pdrId pdrArea pdrFits pdr-good (held-pdrs h) p fits (omega arith)) in
     pdrs-in qs (all-tail pdrRow row qs t) (omega arith)
-    (same-slot (row-1 row s (withRecord pdrArea (pdrOctets p) s) pdrArea (pdrOctets p) refl tag (sym (pdr-record row)) refl) one)
+    (same-slot (row-1 row s (withRecord pdrArea (pdrOctets p) s) (pdrOctets p) tag (sym (pdr-record row)) refl) one)
 
 -- ---- updates
 

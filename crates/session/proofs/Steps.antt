@@ -46,11 +46,21 @@ csids-fit a n e h = rw (e, h) (record { count = omega arith; narrow = omega arit
 pub pdr-wide : (a : Area) (n : ℕ) → a ≡ pdrArea → n ≡ pdrWidth → n ≡ a .width
 pdr-wide a n e h = rw (e, h)
 
+pub pdr-keyed : (a : Area) (n : ℕ) → a ≡ pdrArea → n ≡ pdrWidth → (0 + a .key ≤ n) × (a .key ≤ 8)
+pdr-keyed a n e h = rw (e, h) (omega arith, omega arith)
+
 pub pdr-room : (a : Area) (p : ℕ) → a ≡ pdrArea → p < 16 → p < a .room
 pdr-room a p e h = rw e h
 
 pub endpoint-wide : (a : Area) (n : ℕ) → a ≡ endpointArea → n ≡ endpointWidth → n ≡ a .width
 endpoint-wide a n e h = rw (e, h)
+
+pub endpoint-keyed : (a : Area) (n : ℕ) → a ≡ endpointArea → n ≡ endpointWidth → (0 + a .key ≤ n) × (a .key ≤ 8)
+endpoint-keyed a n e h = rw (e, h) (omega arith, omega arith)
+
+-- a record put into an area is put into its like
+pub put-there : (a b : Area) (r s done : List ℕ) → a ≡ b → done ≡ withRecord a r s → done ≡ withRecord b r s
+put-there a b r s done e q = q ∙ ap (λ (x : Area). withRecord x r s) e
 
 pub csid-wide : (a : Area) (n : ℕ) → a ≡ csidArea → n ≡ csidWidth → n ≡ a .width
 csid-wide a n e h = rw (e, h)
@@ -170,18 +180,17 @@ csids-kept row s n m k = rw (ne-eqb _ _ n, ne-eqb _ _ m, ne-eqb _ _ k)
 
 -- ---- rows
 
-module _ (row s done : List ℕ) (a : Area) where
-  pub row-130 : a ≡ endpointArea → word its.tag row ≡ ie.removeEndpoint → done ≡ withoutRecord a (word its.endpointId row) s → done ≡ rowApplied row s
-  unfolding rowApplied
-  row-130 ea e d = d ∙ rw (ea, e)
+pub row-130 : (row s done : List ℕ) (a : Area) → a ≡ endpointArea → word its.tag row ≡ ie.removeEndpoint → done ≡ withoutRecord a (word its.endpointId row) s → done ≡ rowApplied row s
+unfolding rowApplied
+row-130 row s done a ea e d = d ∙ rw (ea, e)
 
-  pub row-127 : (rec : List ℕ) → a ≡ endpointArea → word its.tag row ≡ ie.createEndpoint → rec ≡ endpointRecord row → done ≡ withRecord a rec s → done ≡ rowApplied row s
-  unfolding rowApplied
-  row-127 rec ea e r d = d ∙ rw (ea, e, r)
+pub row-127 : (row s done rec : List ℕ) → word its.tag row ≡ ie.createEndpoint → rec ≡ endpointRecord row → done ≡ withRecord endpointArea rec s → done ≡ rowApplied row s
+unfolding rowApplied
+row-127 row s done rec e r d = d ∙ rw (e, r)
 
-  pub row-1 : (rec : List ℕ) → a ≡ pdrArea → word its.tag row ≡ ie.createPdr → rec ≡ pdrRecord row → done ≡ withRecord a rec s → done ≡ rowApplied row s
-  unfolding rowApplied
-  row-1 rec ea e r d = d ∙ rw (ea, e, r)
+pub row-1 : (row s done rec : List ℕ) → word its.tag row ≡ ie.createPdr → rec ≡ pdrRecord row → done ≡ withRecord pdrArea rec s → done ≡ rowApplied row s
+unfolding rowApplied
+row-1 row s done rec e r d = d ∙ rw (e, r)
 
 pub row-9 : (row s done : List ℕ) → word its.tag row ≡ ie.updatePdr → done ≡ updatedPdr row s → done ≡ rowApplied row s
 unfolding rowApplied

@@ -6,14 +6,14 @@ ghost use mathlib.Core.Path.{_≡_};
 ghost use Prim.Native.Nat.{_*_, _≤_, _<_, _+_};
 ghost use lib.ListN.{length};
 ghost use Rattle.octets.specs.Octets.{slices, be, part, put, zeros};
-ghost use Rattle.rules.specs.Layout.{sessionWidth};
+ghost use Rattle.rules.specs.Layout.{sessionWidth, pdrWidth, endpointWidth};
 ghost use Rattle.plan.specs.Rows.{rowWidth};
 ghost use Rattle.session.specs.Build.{withoutPdrs, updatedAt, updatedPdr, followedCsid, rowApplied, passed, built};
 use areas::Lookup;
 use format::types;
 use format::words;
 ghost use Rattle.areas.specs.Counted.{countIn, areaIn, placeIn, withRecord, withoutRecord};
-ghost use Rattle.session.specs.Areas.{sessionArea};
+ghost use Rattle.session.specs.Areas.{pdrArea, endpointArea, sessionArea};
 
 pub mod layout;
 mod record;
@@ -56,6 +56,43 @@ fn update_pdr(slot: &mut [u8], row: &[u64])
     update_at(slot, row, p);
 }
 
+// Makes a PDR that of its ID: over the one that is there, or put in where there is room. As areas::put_record, written out for PDRs and below
+// for endpoints: where their width and key are known, a record takes a third of the instructions.
+fn put_pdr(slot: &mut [u8], rec: &[u8])
+    requires { ⌜ (length (now slot) ≡ sessionWidth) × (length (now rec) ≡ pdrWidth) ⌝ }
+    ensures { λ _. ⌜ now (slot .exit) ≡ withRecord pdrArea (now (rec .entry)) (now (slot .entry)) ⌝ }
+{
+    let a = layout::pdrs();
+    let id = octets::read(rec, 0, a.key);
+    let place = areas::find(slot, a, id);
+    match place {
+        Lookup::Found(p) => areas::replace(slot, a, p, rec),
+        Lookup::Absent(p) => {
+            if areas::count(slot, a) < a.room {
+                areas::insert(slot, a, p, rec);
+            }
+        }
+    }
+}
+
+// The same for an endpoint.
+fn put_endpoint(slot: &mut [u8], rec: &[u8])
+    requires { ⌜ (length (now slot) ≡ sessionWidth) × (length (now rec) ≡ endpointWidth) ⌝ }
+    ensures { λ _. ⌜ now (slot .exit) ≡ withRecord endpointArea (now (rec .entry)) (now (slot .entry)) ⌝ }
+{
+    let a = layout::endpoints();
+    let id = octets::read(rec, 0, a.key);
+    let place = areas::find(slot, a, id);
+    match place {
+        Lookup::Found(p) => areas::replace(slot, a, p, rec),
+        Lookup::Absent(p) => {
+            if areas::count(slot, a) < a.room {
+                areas::insert(slot, a, p, rec);
+            }
+        }
+    }
+}
+
 // An FQ-CSID's row: it sets or removes a node type's, or removes all.
 fn follow_csid(slot: &mut [u8], row: &[u64])
     requires { ⌜ (length (now slot) ≡ sessionWidth) × (length (now row) ≡ rowWidth) ⌝ }
@@ -91,11 +128,11 @@ fn apply_row(slot: &mut [u8], row: &[u64])
         ),
         types::CREATE_ENDPOINT => {
             let rec = record::endpoint(row);
-            areas::put_record(slot, layout::endpoints(), &rec);
+            put_endpoint(slot, &rec);
         }
         types::CREATE_PDR => {
             let rec = record::pdr(row);
-            areas::put_record(slot, layout::pdrs(), &rec);
+            put_pdr(slot, &rec);
         }
         types::UPDATE_PDR => update_pdr(slot, row),
         types::FQCSID => follow_csid(slot, row),

@@ -1,23 +1,10 @@
-use mathlib.Core.Path.{_≡_}
-use lib.ListN.{length}
-use Rattle.session.proofs.Steps.{pdrs-fit, endpoints-fit, pdr-wide, endpoint-wide, row-130, row-127, row-1, row-9, row-65, row-none}
+use Rattle.session.proofs.Steps.{endpoints-fit, row-130, row-127, row-1, row-9, row-65, row-none}
 use borrow.Author.Needs.{needs}
 use Rattle.session.proofs.apply_row.Statement.{statement}
 use Rattle.session.proofs.apply_row.Tie as tie
-use Rattle.rules.specs.Layout.{pdrWidth, endpointWidth}
 
 drop-record-requires : tie.Need-drop-record-requires
 drop-record-requires c κs = search endpoints-fit
-
-put-record-requires : tie.Need-put-record-requires
-put-record-requires c κs =
-    let n : length (c .before .before .before .endpoint .result) ≡ endpointWidth = search needs in
-    (search endpoints-fit, endpoint-wide _ _ (c .before .endpoints2 .ensures) n)
-
-put-record-requires-2 : tie.Need-put-record-requires-2
-put-record-requires-2 c κs =
-    let n : length (c .before .before .before .pdr .result) ≡ pdrWidth = search needs in
-    (search pdrs-fit, pdr-wide _ _ (c .before .pdrs .ensures) n)
 
 returns : tie.Need-returns
 returns c = search row-130
@@ -46,13 +33,11 @@ apply-row-spec =
     (λ c. search needs)
     drop-record-requires
     (λ c κs. search needs)
-    (λ c κs. search needs)
     (λ c. search needs)
-    put-record-requires
     (λ c κs. search needs)
     (λ c κs. search needs)
     (λ c. search needs)
-    put-record-requires-2
+    (λ c κs. search needs)
     (λ c κs. search needs)
     (λ c κs. search needs)
     (λ c. search needs)
