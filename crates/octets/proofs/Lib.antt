@@ -6,6 +6,7 @@ pub mod Put
 pub mod Parts
 pub mod Digits
 pub mod FieldLaws
+pub mod Apart
 pub mod ListLaws
 pub mod MemberLaws
 pub mod Loops

@@ -45,6 +45,11 @@ unfoldable pub allZero : List ℕ → Bool
 allZero [] = true
 allZero (x ∷ xs) = eqb x 0 && allZero xs
 
+-- whether the octets at k places are zero, each place q after the one before
+unfoldable pub zeroApart : ℕ → ℕ → ℕ → List ℕ → Bool
+zeroApart zero q at s = true
+zeroApart (suc k) q at s = eqb (getD s at 0) 0 && zeroApart k q (at + q) s
+
 unfoldable pub sameOctets : List ℕ → List ℕ → Bool
 sameOctets [] [] = true
 sameOctets [] (y ∷ ys) = false

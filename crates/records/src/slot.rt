@@ -58,7 +58,7 @@ pub fn ordered(a: &[u8], w: usize, k: usize, n: usize) -> bool
         return false;
     }
     let used = n * w;
-    octets::is_zero(a, used, a.len() - used)
+    octets::is_zero_long(a, used, a.len() - used)
 }
 
 // The area of n FQ-CSIDs, in one walk: each is tested, their node types ascend, and the room after them is zero.
