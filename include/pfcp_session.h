@@ -29,7 +29,7 @@
  * the table, and reads the copy. A copy that was made without the lock may mix two states, and need
  * not be a broken table for that.
  *
- * Stack. A request takes 58,288 octets of stack (docs/benchmarks.md has how it was measured), the
+ * Stack. A request takes 58,560 octets of stack (docs/benchmarks.md has how it was measured), the
  * other calls take less. There is no heap. A thread of 64 KiB is large enough.
  *
  * Architecture. The archive is for x86-64 Linux, any processor of that kind. It needs memcpy, memmove
