@@ -17,7 +17,7 @@ use Rattle.octets.proofs.Questions.{member-append}
 use Rattle.octets.proofs.Bools.{eqb-turn}
 use Rattle.octets.proofs.Put.{part-from}
 use Rattle.rules.specs.Model.{Holding, teidOf, tunnelHolding, pdrHolding, endpointHolding, sessionHoldings, sessionTeids}
-use Rattle.rules.specs.Layout.{tunnelRead, viewArea, viewPdr, viewEndpoint, viewSession, pdrWidth, endpointWidth, pdrCountAt, endpointCountAt, pdrsAt, endpointsAt}
+use Rattle.rules.specs.Layout.{tunnelRead, viewArea, viewPdr, viewEndpoint, viewSession, pdrWidth, endpointWidth, pdrCountAt, endpointCountAt, pdrsAt, endpointsAt, matchAt, teidAt, endpointTeidAt}
 use Rattle.rules.specs.Finding.{isHolder}
 use Rattle.laws.proofs.LayoutLaws.{endpoint-view}
 use Rattle.records.proofs.Turns.{slices-more}
@@ -28,7 +28,7 @@ use Rattle.finding.specs.Holds.{endpointsHold, pdrsHold}
 
 -- ---- endpoints
 
-endpoint-teid : (xs : List ℕ) → teidOf (endpointHolding (viewEndpoint xs)) ≡ number (part 1 4 xs)
+endpoint-teid : (xs : List ℕ) → teidOf (endpointHolding (viewEndpoint xs)) ≡ number (part endpointTeidAt 4 xs)
 unfolding endpointHolding tunnelHolding tunnelRead
 endpoint-teid xs = rw (endpoint-view xs)
 
@@ -41,7 +41,7 @@ module _ (teid n i : ℕ) (a : List ℕ) where
     unfolding endpointsHold endpointHolds member
     endpoint-turn =
         let one : teidOf (endpointHolding (viewEndpoint (part (i * endpointWidth) endpointWidth a))) ≡ v =
-        endpoint-teid (part (i * endpointWidth) endpointWidth a) ∙ ap number (part-part (i * endpointWidth) endpointWidth 1 4 a (omega arith)) ∙ sym e in
+        endpoint-teid (part (i * endpointWidth) endpointWidth a) ∙ ap number (part-part (i * endpointWidth) endpointWidth endpointTeidAt 4 a (omega arith)) ∙ sym e in
         rw (slices-more endpointWidth a n i h, one, eqb-turn teid v)
 
     pub endpoint-here : v ≡ teid → endpointsFrom i ≡ endpointsHold teid n a → true ≡ endpointsHold teid n a
@@ -57,10 +57,10 @@ module _ (teid n i : ℕ) (a : List ℕ) where
 -- ---- PDRs
 
 pdr-with : (b : Bool) (xs : List ℕ) (teid : ℕ) (hs : List Holding)
-    → member teid (map teidOf (consOption (pick b (some (heldBy xs)) none) hs)) ≡ ((b && eqb (number (part 13 4 xs)) teid) || member teid (map teidOf hs))
+    → member teid (map teidOf (consOption (pick b (some (heldBy xs)) none) hs)) ≡ ((b && eqb (number (part teidAt 4 xs)) teid) || member teid (map teidOf hs))
 unfolding member
 pdr-with false xs teid hs = refl
-pdr-with true xs teid hs = rw (teid-of xs, eqb-turn teid (number (part 13 4 xs)))
+pdr-with true xs teid hs = rw (teid-of xs, eqb-turn teid (number (part teidAt 4 xs)))
 
 module _ (teid n i : ℕ) (a : List ℕ) where
   abbrev pub pdrsFrom : ℕ → Bool
@@ -72,9 +72,9 @@ module _ (teid n i : ℕ) (a : List ℕ) where
     pdr-turn =
         let xs : List ℕ = part (i * pdrWidth) pdrWidth a in
         let span : i * pdrWidth + pdrWidth - i * pdrWidth ≡ pdrWidth = omega arith in
-        let test : r ≡ (eqb (getD xs 12 0) 1 && eqb (number (part 13 4 xs)) teid) = rw span at e in
+        let test : r ≡ (eqb (getD xs matchAt 0) 1 && eqb (number (part teidAt 4 xs)) teid) = rw span at e in
         rw (slices-more pdrWidth a n i h, hold-of xs, test)
-        (pdr-with (eqb (getD xs 12 0) 1) xs teid (collect pdrHolding (map viewPdr (slices pdrWidth (n - (i + 1)) (drop ((i + 1) * pdrWidth) a)))))
+        (pdr-with (eqb (getD xs matchAt 0) 1) xs teid (collect pdrHolding (map viewPdr (slices pdrWidth (n - (i + 1)) (drop ((i + 1) * pdrWidth) a)))))
 
     pub pdr-here : r ≡ true → pdrsFrom i ≡ pdrsHold teid n a → true ≡ pdrsHold teid n a
     pdr-here s k = sym (pdr-turn ∙ rw s) ∙ k

@@ -21,21 +21,21 @@ pub const IPV4: usize = 0;
 
 pub const IPV6_THERE: usize = 4;
 
-pub const IPV6: usize = 5;
+pub const IPV6: usize = IPV6_THERE + 1;
 
 pub const IPV6_LOW: usize = IPV6 + 8;
 
-pub const FIRST: usize = 21;
+pub const FIRST: usize = IPV6 + 16;
 
-pub const SIZE: usize = 25;
+pub const SIZE: usize = FIRST + 4;
 
-pub const FIRST_ADDRESS: usize = 29;
+pub const FIRST_ADDRESS: usize = SIZE + 4;
 
-pub const ADDRESS_COUNT: usize = 33;
+pub const ADDRESS_COUNT: usize = FIRST_ADDRESS + 4;
 
-pub const LIMIT: usize = 37;
+pub const LIMIT: usize = ADDRESS_COUNT + 4;
 
-pub const SETTINGS: usize = 39;
+pub const SETTINGS: usize = LIMIT + 2;
 
 // A PDR: ID (2 octets), precedence (4), whether there is a FAR ID (1), the FAR ID (4), source interface (1), what it matches on (1: 0
 // nothing, 1 an F-TEID, 2 an endpoint), TEID (4), families (1), endpoint ID (1), whether there is an address (1), the address (4).
@@ -62,7 +62,11 @@ pub const PDR_ADDRESS: usize = PDR_ADDRESS_THERE + 1;
 pub const PDR: usize = PDR_ADDRESS + 4;
 
 // A traffic endpoint: ID (1 octet), TEID (4), families (1), whether there is an address (1), the address (4).
-pub const ENDPOINT_ADDRESS_THERE: usize = 6;
+pub const ENDPOINT_TEID: usize = 1;
+
+pub const ENDPOINT_FAMILIES: usize = ENDPOINT_TEID + 4;
+
+pub const ENDPOINT_ADDRESS_THERE: usize = ENDPOINT_FAMILIES + 1;
 
 pub const ENDPOINT_ADDRESS: usize = ENDPOINT_ADDRESS_THERE + 1;
 
@@ -71,18 +75,20 @@ pub const ENDPOINT: usize = ENDPOINT_ADDRESS + 4;
 // An FQ-CSID: node type (1 octet), Node-ID type (1), address (16), CSID (2).
 pub const CSID_ID_TYPE: usize = 1;
 
-pub const CSID_ADDRESS: usize = 2;
+pub const CSID_ADDRESS: usize = CSID_ID_TYPE + 1;
 
-pub const CSID: usize = CSID_ADDRESS + 16 + 2;
+pub const CSID_NUMBER: usize = CSID_ADDRESS + 16;
+
+pub const CSID: usize = CSID_NUMBER + 2;
 
 // A session's slot: the SEID (8 octets), the numbers of PDRs, endpoints and FQ-CSIDs (1 each), and an area for each.
 pub const PDR_COUNT: usize = 8;
 
-pub const ENDPOINT_COUNT: usize = 9;
+pub const ENDPOINT_COUNT: usize = PDR_COUNT + 1;
 
-pub const CSID_COUNT: usize = 10;
+pub const CSID_COUNT: usize = ENDPOINT_COUNT + 1;
 
-pub const PDRS: usize = 11;
+pub const PDRS: usize = CSID_COUNT + 1;
 
 pub const ENDPOINTS: usize = PDRS + MAX_PDRS * PDR;
 

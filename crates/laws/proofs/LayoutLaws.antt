@@ -23,7 +23,7 @@ use Rattle.rules.specs.Model.{Settings, Tunnel, Match, neither, tunnel, endpoin
 use Rattle.rules.specs.Limits.{maxPdrs, maxEndpoints, nodeTypes}
 use Rattle.rules.specs.Elements.{addressLength, nodeTypeKept, nodeAddressAllowed, nodeAddressTests, below16}
 use Rattle.rules.specs.Sound.{poolTests, settingsTests, settingsAllowed, inPool, tunnelTests, tunnelAllowed, matchAllowed, farAllowed, addressAllowed, pdrTests, pdrAllowed, endpointTests, endpointAllowed, csidTests, csidAllowed, sessionTests, sessionAllowed}
-use Rattle.rules.specs.Layout.{families, optionRead, tunnelRead, pdrWidths, matchKind, matchTeid, matchFamilies, matchEndpoint, matchRead, pdrNumbers, pdrFrom, endpointWidths, endpointNumbers, endpointFrom, csidSlotWidths, csidSlotNumbers, addressRead, csidFrom, pdrWidth, endpointWidth, csidWidth, sessionWidth, area, pdrOctets, endpointOctets, csidOctets, sessionOctets, viewPdr, viewEndpoint, viewCsid, viewArea, viewSession, viewSettings, limitAt}
+use Rattle.rules.specs.Layout.{families, optionRead, tunnelRead, pdrWidths, matchKind, matchTeid, matchFamilies, matchEndpoint, matchRead, pdrNumbers, pdrFrom, endpointWidths, endpointNumbers, endpointFrom, csidSlotWidths, csidSlotNumbers, addressRead, csidFrom, pdrWidth, endpointWidth, csidWidth, sessionWidth, area, pdrOctets, endpointOctets, csidOctets, sessionOctets, viewPdr, viewEndpoint, viewCsid, viewArea, viewSession, viewSettings, limitAt, precedenceAt, farAt, farIdAt, sourceAt, matchAt, teidAt, familiesAt, namedEndpointAt, pdrAddressThereAt, pdrAddressAt, endpointTeidAt, endpointFamiliesAt, endpointAddressThereAt, endpointAddressAt, csidIdTypeAt, csidAddressAt, csidAddressRestAt}
 
 -- ---- areas
 
@@ -257,21 +257,21 @@ length-csid c = length-fieldOctets csidSlotWidths (csidSlotNumbers c) refl
 
 -- ---- what is read, octet by octet
 
-pub pdr-view : (xs : List ℕ) → viewPdr xs ≡ record { id = number (part 0 2 xs); precedence = number (part 2 4 xs); far = optionRead (getD xs 6 0) (number (part 7 4 xs)); source = getD xs 11 0; match = matchRead (getD xs 12 0) (number (part 13 4 xs)) (getD xs 17 0) (getD xs 18 0); address = optionRead (getD xs 19 0) (number (part 20 4 xs)) }
+pub pdr-view : (xs : List ℕ) → viewPdr xs ≡ record { id = number (part 0 2 xs); precedence = number (part precedenceAt 4 xs); far = optionRead (getD xs farAt 0) (number (part farIdAt 4 xs)); source = getD xs sourceAt 0; match = matchRead (getD xs matchAt 0) (number (part teidAt 4 xs)) (getD xs familiesAt 0) (getD xs namedEndpointAt 0); address = optionRead (getD xs pdrAddressThereAt 0) (number (part pdrAddressAt 4 xs)) }
 unfolding viewPdr pdrFrom fieldsAt
-pdr-view xs = rw (octet-field 6 xs, octet-field 11 xs, octet-field 12 xs, octet-field 17 xs, octet-field 18 xs, octet-field 19 xs)
+pdr-view xs = rw (octet-field farAt xs, octet-field sourceAt xs, octet-field matchAt xs, octet-field familiesAt xs, octet-field namedEndpointAt xs, octet-field pdrAddressThereAt xs)
 
-pub endpoint-view : (xs : List ℕ) → viewEndpoint xs ≡ record { id = getD xs 0 0; local = tunnelRead (number (part 1 4 xs)) (getD xs 5 0); address = optionRead (getD xs 6 0) (number (part 7 4 xs)) }
+pub endpoint-view : (xs : List ℕ) → viewEndpoint xs ≡ record { id = getD xs 0 0; local = tunnelRead (number (part endpointTeidAt 4 xs)) (getD xs endpointFamiliesAt 0); address = optionRead (getD xs endpointAddressThereAt 0) (number (part endpointAddressAt 4 xs)) }
 unfolding viewEndpoint endpointFrom fieldsAt
-endpoint-view xs = rw (octet-field 0 xs, octet-field 5 xs, octet-field 6 xs)
+endpoint-view xs = rw (octet-field 0 xs, octet-field endpointFamiliesAt xs, octet-field endpointAddressThereAt xs)
 
 -- the address of an FQ-CSID's slot
 pub csid-address : (xs : List ℕ) → length xs ≡ csidWidth → T (octets xs)
-    → addressRead (number (part 1 1 xs)) (number (part 2 4 xs)) (number (part 6 12 xs)) ≡ part 2 (addressLength (getD xs 1 0)) xs
+    → addressRead (number (part csidIdTypeAt 1 xs)) (number (part csidAddressAt 4 xs)) (number (part csidAddressRestAt 12 xs)) ≡ part csidAddressAt (addressLength (getD xs csidIdTypeAt 0)) xs
 unfolding addressRead
 csid-address xs long o =
-    rw (octet-field 1 xs, be-part 2 4 xs o (omega arith), be-part 6 12 xs o (omega arith))
-    (ap (take (addressLength (getD xs 1 0))) (part-two 2 4 12 xs) ∙ take-take (addressLength (getD xs 1 0)) 16 (drop 2 xs) (address-short (getD xs 1 0)))
+    rw (octet-field csidIdTypeAt xs, be-part csidAddressAt 4 xs o (omega arith), be-part csidAddressRestAt 12 xs o (omega arith))
+    (ap (take (addressLength (getD xs csidIdTypeAt 0))) (part-two csidAddressAt 4 12 xs) ∙ take-take (addressLength (getD xs csidIdTypeAt 0)) 16 (drop csidAddressAt xs) (address-short (getD xs csidIdTypeAt 0)))
 
 -- the session limit of a table
 pub limit-read : (t : List ℕ) → viewSettings t .limit ≡ number (part limitAt 2 t)

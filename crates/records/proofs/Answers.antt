@@ -19,7 +19,7 @@ use Rattle.octets.proofs.Digits.{numberAfter, after-number, from-zero, number-b
 use Rattle.octets.proofs.Put.{part-two, length-part}
 use Rattle.octets.proofs.FieldLaws.{octet-field, zero-number, zero-append, zero-fields}
 use Rattle.rules.specs.Model.{Settings}
-use Rattle.rules.specs.Layout.{viewSettings, endpointWidth, settingsWidth, pdrWidth, csidWidth}
+use Rattle.rules.specs.Layout.{viewSettings, endpointWidth, settingsWidth, pdrWidth, csidWidth, ipv6ThereAt, ipv6At, farAt, farIdAt, sourceAt, matchAt, teidAt, familiesAt, namedEndpointAt, pdrAddressThereAt, pdrAddressAt, endpointTeidAt, endpointFamiliesAt, endpointAddressThereAt, endpointAddressAt}
 use native.Mathlib.Nat.{add-zero}
 use Rattle.rules.specs.Sound.{settingsAllowed}
 use Rattle.laws.proofs.LayoutLaws.{endpoint-view}
@@ -120,7 +120,7 @@ module _ (xs : List ℕ) (e : length xs ≡ csidWidth) where
 
 -- ---- settings
 
-module _ (xs : List ℕ) (e : length xs ≡ settingsWidth) (o : T (octets xs)) (r : Bool) (q : r ≡ optionalTest (getD xs 4 0) (number (part 5 16 xs))) where
+module _ (xs : List ℕ) (e : length xs ≡ settingsWidth) (o : T (octets xs)) (r : Bool) (q : r ≡ optionalTest (getD xs ipv6ThereAt 0) (number (part ipv6At 16 xs))) where
   pub settings-absent : not r ≡ true → false ≡ settingsSound xs
   settings-absent h = sym (settings-law xs e o ∙ rw (← q, not-true r h) (and-false (settingsAllowed (viewSettings xs))))
 
@@ -152,70 +152,70 @@ module _ (u : Unit) where
     tunnel-in r g h y = y ∙ sym (tunnel-is ∙ rw (le-leb (u .first) v g, lt-ltb v (u .first + u .size) h))
 
   module _ (pool : u .first + u .size ≤ 2 ^ 32) (xs : List ℕ) (e : length xs ≡ endpointWidth) (o : T (octets xs)) where
-    endpoint-is : endpointSound s xs ≡ (tunnelTest s (number (part 1 4 xs)) (getD xs 5 0) && (optionalTest (getD xs 6 0) (number (part 7 4 xs)) && true))
+    endpoint-is : endpointSound s xs ≡ (tunnelTest s (number (part endpointTeidAt 4 xs)) (getD xs endpointFamiliesAt 0) && (optionalTest (getD xs endpointAddressThereAt 0) (number (part endpointAddressAt 4 xs)) && true))
     unfolding fieldsAt endpointTest
-    endpoint-is = endpoint-law s (fits pool) xs e o ∙ rw (octet-field 5 xs, octet-field 6 xs)
+    endpoint-is = endpoint-law s (fits pool) xs e o ∙ rw (octet-field endpointFamiliesAt xs, octet-field endpointAddressThereAt xs)
 
-    module _ (a : Bool) (q : a ≡ optionalTest (getD xs 6 0) (number (part 7 4 xs))) where
+    module _ (a : Bool) (q : a ≡ optionalTest (getD xs endpointAddressThereAt 0) (number (part endpointAddressAt 4 xs))) where
       pub endpoint-address : not a ≡ true → false ≡ endpointSound s xs
-      endpoint-address h = sym (endpoint-is ∙ rw (← q, not-true a h) (and-false (tunnelTest s (number (part 1 4 xs)) (getD xs 5 0))))
+      endpoint-address h = sym (endpoint-is ∙ rw (← q, not-true a h) (and-false (tunnelTest s (number (part endpointTeidAt 4 xs)) (getD xs endpointFamiliesAt 0))))
 
-      pub endpoint-in : not a ≡ false → (r : Bool) → r ≡ tunnelTest s (number (part 1 4 xs)) (getD xs 5 0) → r ≡ endpointSound s xs
-      endpoint-in h r y = y ∙ sym (endpoint-is ∙ rw (← q, not-false a h) (and-true (tunnelTest s (number (part 1 4 xs)) (getD xs 5 0))))
+      pub endpoint-in : not a ≡ false → (r : Bool) → r ≡ tunnelTest s (number (part endpointTeidAt 4 xs)) (getD xs endpointFamiliesAt 0) → r ≡ endpointSound s xs
+      endpoint-in h r y = y ∙ sym (endpoint-is ∙ rw (← q, not-false a h) (and-true (tunnelTest s (number (part endpointTeidAt 4 xs)) (getD xs endpointFamiliesAt 0))))
 
 -- ---- PDRs
 
 module _ (u : Unit) (live xs : List ℕ) where
   -- what it matches on
   abbrev matches : Bool
-  matches = matchTest (settingsOf u) live (getD xs 12 0) (number (part 13 4 xs)) (getD xs 17 0) (getD xs 18 0)
+  matches = matchTest (settingsOf u) live (getD xs matchAt 0) (number (part teidAt 4 xs)) (getD xs familiesAt 0) (getD xs namedEndpointAt 0)
 
-  pub match-both : getD xs 12 0 ≡ 1 → (getD xs 18 0 ≡ 0 → ⊥) → false ≡ matches
-  match-both k h = sym (rw (k, ne-eqb (getD xs 18 0) 0 h))
+  pub match-both : getD xs matchAt 0 ≡ 1 → (getD xs namedEndpointAt 0 ≡ 0 → ⊥) → false ≡ matches
+  match-both k h = sym (rw (k, ne-eqb (getD xs namedEndpointAt 0) 0 h))
 
-  pub match-tunnel : (r : Bool) → getD xs 12 0 ≡ 1 → getD xs 18 0 ≡ 0 → r ≡ tunnelTest (settingsOf u) (number (part 13 4 xs)) (getD xs 17 0) → r ≡ matches
+  pub match-tunnel : (r : Bool) → getD xs matchAt 0 ≡ 1 → getD xs namedEndpointAt 0 ≡ 0 → r ≡ tunnelTest (settingsOf u) (number (part teidAt 4 xs)) (getD xs familiesAt 0) → r ≡ matches
   match-tunnel r k h y = y ∙ sym (rw (k, h))
 
-  stray : allZero (part 13 5 xs) ≡ allZero (number (part 13 4 xs) ∷ getD xs 17 0 ∷ [])
+  stray : allZero (part teidAt 5 xs) ≡ allZero (number (part teidAt 4 xs) ∷ getD xs familiesAt 0 ∷ [])
   unfolding fieldsAt
-  stray = zero-fields 13 (4 ∷ 1 ∷ []) xs ∙ rw (octet-field 17 xs)
+  stray = zero-fields teidAt (4 ∷ 1 ∷ []) xs ∙ rw (octet-field familiesAt xs)
 
-  pub match-stray : (z : Bool) → getD xs 12 0 ≡ 2 → z ≡ allZero (part 13 5 xs) → not z ≡ true → false ≡ matches
+  pub match-stray : (z : Bool) → getD xs matchAt 0 ≡ 2 → z ≡ allZero (part teidAt 5 xs) → not z ≡ true → false ≡ matches
   match-stray z k y h = sym (rw (k, ← stray, ← y, not-true z h))
 
-  pub match-named : (z r : Bool) → getD xs 12 0 ≡ 2 → z ≡ allZero (part 13 5 xs) → not z ≡ false → r ≡ member (getD xs 18 0) live → r ≡ matches
+  pub match-named : (z r : Bool) → getD xs matchAt 0 ≡ 2 → z ≡ allZero (part teidAt 5 xs) → not z ≡ false → r ≡ member (getD xs namedEndpointAt 0) live → r ≡ matches
   match-named z r k y h m = m ∙ sym (rw (k, ← stray, ← y, not-false z h))
 
-  pub match-none : (z : Bool) → (getD xs 12 0 ≡ 1 → ⊥) → (getD xs 12 0 ≡ 2 → ⊥) → z ≡ allZero (part 12 7 xs) → z ≡ matches
+  pub match-none : (z : Bool) → (getD xs matchAt 0 ≡ 1 → ⊥) → (getD xs matchAt 0 ≡ 2 → ⊥) → z ≡ allZero (part matchAt 7 xs) → z ≡ matches
   unfolding fieldsAt
   match-none z k h y =
-      y ∙ zero-fields 12 (1 ∷ 4 ∷ 1 ∷ 1 ∷ []) xs
-      ∙ sym (rw (ne-eqb (getD xs 12 0) 1 k, ne-eqb (getD xs 12 0) 2 h, octet-field 12 xs, octet-field 17 xs, octet-field 18 xs))
+      y ∙ zero-fields matchAt (1 ∷ 4 ∷ 1 ∷ 1 ∷ []) xs
+      ∙ sym (rw (ne-eqb (getD xs matchAt 0) 1 k, ne-eqb (getD xs matchAt 0) 2 h, octet-field matchAt xs, octet-field familiesAt xs, octet-field namedEndpointAt xs))
 
   module _ (pool : u .first + u .size ≤ 2 ^ 32) (e : length xs ≡ pdrWidth) (o : T (octets xs)) where
     abbrev far : Bool
-    far = optionalTest (getD xs 6 0) (number (part 7 4 xs))
+    far = optionalTest (getD xs farAt 0) (number (part farIdAt 4 xs))
 
     abbrev address : Bool
-    address = optionalTest (getD xs 19 0) (number (part 20 4 xs))
+    address = optionalTest (getD xs pdrAddressThereAt 0) (number (part pdrAddressAt 4 xs))
 
-    pdr-is : pdrSound (settingsOf u) live xs ≡ allOf (far ∷ ltb (getD xs 11 0) 16 ∷ matches ∷ address ∷ [])
+    pdr-is : pdrSound (settingsOf u) live xs ≡ allOf (far ∷ ltb (getD xs sourceAt 0) 16 ∷ matches ∷ address ∷ [])
     unfolding fieldsAt pdrTest
-    pdr-is = pdr-law (settingsOf u) (fits u pool) live xs e o ∙ rw (octet-field 6 xs, octet-field 11 xs, octet-field 12 xs, octet-field 17 xs, octet-field 18 xs, octet-field 19 xs)
+    pdr-is = pdr-law (settingsOf u) (fits u pool) live xs e o ∙ rw (octet-field farAt xs, octet-field sourceAt xs, octet-field matchAt xs, octet-field familiesAt xs, octet-field namedEndpointAt xs, octet-field pdrAddressThereAt xs)
 
-    pub pdr-source : 15 < getD xs 11 0 → false ≡ pdrSound (settingsOf u) live xs
-    pdr-source h = sym (pdr-is ∙ rw (le-ltb (getD xs 11 0) 16 (omega arith)) (and-false far))
+    pub pdr-source : 15 < getD xs sourceAt 0 → false ≡ pdrSound (settingsOf u) live xs
+    pdr-source h = sym (pdr-is ∙ rw (le-ltb (getD xs sourceAt 0) 16 (omega arith)) (and-false far))
 
-    module _ (g : getD xs 11 0 ≤ 15) (f : Bool) (q : f ≡ far) where
+    module _ (g : getD xs sourceAt 0 ≤ 15) (f : Bool) (q : f ≡ far) where
       pub pdr-far : not f ≡ true → false ≡ pdrSound (settingsOf u) live xs
       pdr-far h = sym (pdr-is ∙ rw (← q, not-true f h))
 
       module _ (h : not f ≡ false) (a : Bool) (qa : a ≡ address) where
         pub pdr-address : not a ≡ true → false ≡ pdrSound (settingsOf u) live xs
-        pdr-address k = sym (pdr-is ∙ rw (lt-ltb (getD xs 11 0) 16 (omega arith), ← q, not-false f h, ← qa, not-true a k) (and-false matches))
+        pdr-address k = sym (pdr-is ∙ rw (lt-ltb (getD xs sourceAt 0) 16 (omega arith), ← q, not-false f h, ← qa, not-true a k) (and-false matches))
 
         pub pdr-match : not a ≡ false → (r : Bool) → r ≡ matches → r ≡ pdrSound (settingsOf u) live xs
-        pdr-match k r y = y ∙ sym (pdr-is ∙ rw (lt-ltb (getD xs 11 0) 16 (omega arith), ← q, not-false f h, ← qa, not-false a k) (and-true matches))
+        pdr-match k r y = y ∙ sym (pdr-is ∙ rw (lt-ltb (getD xs sourceAt 0) 16 (omega arith), ← q, not-false f h, ← qa, not-false a k) (and-true matches))
 
 -- ---- single fields
 
@@ -318,20 +318,20 @@ module _ (u : Unit) (pool : u .first + u .size ≤ 2 ^ 32) where
       let r = and-right (leb (u .first) t) (ltb t (u .first + u .size) && families) k in
       (leb→le (u .first) t (and-left (leb (u .first) t) (ltb t (u .first + u .size) && families) k), ltb→lt t (u .first + u .size) (and-left (ltb t (u .first + u .size)) families r))
 
-  pub endpoint-pool : (xs : List ℕ) → length xs ≡ endpointWidth → T (octets xs) → endpointSound (settingsOf u) xs ≡ true → (u .first ≤ number (part 1 4 xs)) × (number (part 1 4 xs) < u .first + u .size)
+  pub endpoint-pool : (xs : List ℕ) → length xs ≡ endpointWidth → T (octets xs) → endpointSound (settingsOf u) xs ≡ true → (u .first ≤ number (part endpointTeidAt 4 xs)) × (number (part endpointTeidAt 4 xs) < u .first + u .size)
   endpoint-pool xs e o k =
-      tunnel-pool (number (part 1 4 xs)) (getD xs 5 0)
-      (and-left (tunnelTest (settingsOf u) (number (part 1 4 xs)) (getD xs 5 0)) (optionalTest (getD xs 6 0) (number (part 7 4 xs)) && true) (of-true (sym (endpoint-is u pool xs e o) ∙ k)))
+      tunnel-pool (number (part endpointTeidAt 4 xs)) (getD xs endpointFamiliesAt 0)
+      (and-left (tunnelTest (settingsOf u) (number (part endpointTeidAt 4 xs)) (getD xs endpointFamiliesAt 0)) (optionalTest (getD xs endpointAddressThereAt 0) (number (part endpointAddressAt 4 xs)) && true) (of-true (sym (endpoint-is u pool xs e o) ∙ k)))
 
-  pub pdr-pool : (live xs : List ℕ) → length xs ≡ pdrWidth → T (octets xs) → pdrSound (settingsOf u) live xs ≡ true → getD xs 12 0 ≡ 1
-      → (u .first ≤ number (part 13 4 xs)) × (number (part 13 4 xs) < u .first + u .size)
+  pub pdr-pool : (live xs : List ℕ) → length xs ≡ pdrWidth → T (octets xs) → pdrSound (settingsOf u) live xs ≡ true → getD xs matchAt 0 ≡ 1
+      → (u .first ≤ number (part teidAt 4 xs)) × (number (part teidAt 4 xs) < u .first + u .size)
   pdr-pool live xs e o k there =
-      let far : Bool = optionalTest (getD xs 6 0) (number (part 7 4 xs)) in
-      let address : Bool = optionalTest (getD xs 19 0) (number (part 20 4 xs)) in
-      let source : Bool = ltb (getD xs 11 0) 16 in
+      let far : Bool = optionalTest (getD xs farAt 0) (number (part farIdAt 4 xs)) in
+      let address : Bool = optionalTest (getD xs pdrAddressThereAt 0) (number (part pdrAddressAt 4 xs)) in
+      let source : Bool = ltb (getD xs sourceAt 0) 16 in
       let m : Bool = matches u live xs in
-      let held : Bool = tunnelTest (settingsOf u) (number (part 13 4 xs)) (getD xs 17 0) in
+      let held : Bool = tunnelTest (settingsOf u) (number (part teidAt 4 xs)) (getD xs familiesAt 0) in
       let t : T (allOf (far ∷ source ∷ m ∷ address ∷ [])) = of-true (sym (pdr-is u live xs pool e o) ∙ k) in
       let matched : T m = and-left m (address && true) (and-right source (m && (address && true)) (and-right far (source && (m && (address && true))) t)) in
-      let one : T (eqb (getD xs 18 0) 0 && held) = rw there at matched in
-      tunnel-pool (number (part 13 4 xs)) (getD xs 17 0) (and-right (eqb (getD xs 18 0) 0) held one)
+      let one : T (eqb (getD xs namedEndpointAt 0) 0 && held) = rw there at matched in
+      tunnel-pool (number (part teidAt 4 xs)) (getD xs familiesAt 0) (and-right (eqb (getD xs namedEndpointAt 0) 0) held one)

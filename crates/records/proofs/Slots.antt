@@ -23,7 +23,7 @@ use Rattle.octets.proofs.FieldLaws.{Fits, each-fit, fit-fields, slot-law, zero-
 use Rattle.rules.specs.Model.{Settings, neither, tunnel, endpoint}
 use Rattle.rules.specs.Limits.{maxOperator}
 use Rattle.rules.specs.Elements.{addressLength, operatorAllowed, nodeAddressTests, nodeAddressAllowed, nodeTypeKept, below16}
-use Rattle.rules.specs.Layout.{families, optionRead, tunnelRead, pdrWidths, matchKind, matchTeid, matchFamilies, matchEndpoint, matchRead, pdrNumbers, pdrFrom, endpointWidths, endpointNumbers, endpointFrom, csidSlotWidths, csidSlotNumbers, addressRead, csidFrom, pdrOctets, endpointOctets, csidOctets, settingsOctets, viewSettings, viewPdr, viewEndpoint, viewCsid, settingsWidth, pdrWidth, endpointWidth, csidWidth}
+use Rattle.rules.specs.Layout.{families, optionRead, tunnelRead, pdrWidths, matchKind, matchTeid, matchFamilies, matchEndpoint, matchRead, pdrNumbers, pdrFrom, endpointWidths, endpointNumbers, endpointFrom, csidSlotWidths, csidSlotNumbers, addressRead, csidFrom, pdrOctets, endpointOctets, csidOctets, settingsOctets, viewSettings, viewPdr, viewEndpoint, viewCsid, settingsWidth, pdrWidth, endpointWidth, csidWidth, ipv6ThereAt, ipv6At, firstAt, sizeAt, firstAddressAt, addressCountAt, limitAt}
 use Rattle.rules.specs.Sound.{settingsAllowed, tunnelAllowed, matchAllowed, farAllowed, addressAllowed, pdrTests, pdrAllowed, endpointTests, endpointAllowed, csidTests, csidAllowed}
 use Rattle.laws.proofs.LayoutLaws.{pdr-fits, endpoint-fits, csid-fits}
 use Rattle.records.specs.Kept.{kept, settingsSound, pdrSound, endpointSound, csidSound, optionalTest, tunnelTest, matchTest, pdrTest, endpointTest, csidTest}
@@ -254,24 +254,24 @@ settings-parts a₀ a₁ a₂ a₃ g v f z u k l lv lf lz lu lk ll of′ oz ou o
 from : (at m n : ℕ) (xs : List ℕ) → at + (m + n) ≡ length xs → part at (m + n) xs ≡ part at m xs ++ part (at + m) n xs
 from at m n xs e = take-all (m + n) (drop at xs) (rw length-drop (omega arith)) ∙ two-parts at m n xs e
 
-settings-same : (xs : List ℕ) → length xs ≡ settingsWidth → T (octets xs) → sameOctets (settingsOctets (viewSettings xs)) xs ≡ optionalTest (getD xs 4 0) (number (part 5 16 xs))
+settings-same : (xs : List ℕ) → length xs ≡ settingsWidth → T (octets xs) → sameOctets (settingsOctets (viewSettings xs)) xs ≡ optionalTest (getD xs ipv6ThereAt 0) (number (part ipv6At 16 xs))
 settings-same xs e o =
     let cell : (j : ℕ) → j < settingsWidth → drop j xs ≡ getD xs j 0 ∷ drop (suc j) xs = λ j h. drop-cons xs j 0 (omega arith) in
-    let front : xs ≡ getD xs 0 0 ∷ getD xs 1 0 ∷ getD xs 2 0 ∷ getD xs 3 0 ∷ getD xs 4 0 ∷ drop 5 xs =
+    let front : xs ≡ getD xs 0 0 ∷ getD xs 1 0 ∷ getD xs 2 0 ∷ getD xs 3 0 ∷ getD xs ipv6ThereAt 0 ∷ drop ipv6At xs =
     cell 0 (lit< tt) ∙ ap (λ (l : List ℕ). getD xs 0 0 ∷ l)
     (cell 1 (lit< tt) ∙ ap (λ (l : List ℕ). getD xs 1 0 ∷ l)
-    (cell 2 (lit< tt) ∙ ap (λ (l : List ℕ). getD xs 2 0 ∷ l) (cell 3 (lit< tt) ∙ ap (λ (l : List ℕ). getD xs 3 0 ∷ l) (cell 4 (lit< tt))))) in
-    let numbers : part 21 18 xs ≡ part 21 4 xs ++ (part 25 4 xs ++ (part 29 4 xs ++ (part 33 4 xs ++ part 37 2 xs))) =
-    from 21 4 14 xs (sym e) ∙ ap (λ (l : List ℕ). part 21 4 xs ++ l)
-    (from 25 4 10 xs (sym e) ∙ ap (λ (l : List ℕ). part 25 4 xs ++ l) (from 29 4 6 xs (sym e) ∙ ap (λ (l : List ℕ). part 29 4 xs ++ l) (from 33 4 2 xs (sym e)))) in
-    let back = two-parts 5 16 18 xs (sym e) ∙ ap (λ (l : List ℕ). part 5 16 xs ++ l) numbers in
-    let whole = front ∙ ap (λ (l : List ℕ). getD xs 0 0 ∷ getD xs 1 0 ∷ getD xs 2 0 ∷ getD xs 3 0 ∷ getD xs 4 0 ∷ l) back in
+    (cell 2 (lit< tt) ∙ ap (λ (l : List ℕ). getD xs 2 0 ∷ l) (cell 3 (lit< tt) ∙ ap (λ (l : List ℕ). getD xs 3 0 ∷ l) (cell ipv6ThereAt (lit< tt))))) in
+    let numbers : part firstAt (settingsWidth - firstAt) xs ≡ part firstAt 4 xs ++ (part sizeAt 4 xs ++ (part firstAddressAt 4 xs ++ (part addressCountAt 4 xs ++ part limitAt 2 xs))) =
+    from firstAt 4 (settingsWidth - sizeAt) xs (sym e) ∙ ap (λ (l : List ℕ). part firstAt 4 xs ++ l)
+    (from sizeAt 4 (settingsWidth - firstAddressAt) xs (sym e) ∙ ap (λ (l : List ℕ). part sizeAt 4 xs ++ l) (from firstAddressAt 4 (settingsWidth - addressCountAt) xs (sym e) ∙ ap (λ (l : List ℕ). part firstAddressAt 4 xs ++ l) (from addressCountAt 4 (settingsWidth - limitAt) xs (sym e)))) in
+    let back = two-parts ipv6At 16 (settingsWidth - firstAt) xs (sym e) ∙ ap (λ (l : List ℕ). part ipv6At 16 xs ++ l) numbers in
+    let whole = front ∙ ap (λ (l : List ℕ). getD xs 0 0 ∷ getD xs 1 0 ∷ getD xs 2 0 ∷ getD xs 3 0 ∷ getD xs ipv6ThereAt 0 ∷ l) back in
     ap (λ (l : List ℕ). sameOctets (settingsOctets (viewSettings l)) l) whole
-    ∙ settings-parts (getD xs 0 0) (getD xs 1 0) (getD xs 2 0) (getD xs 3 0) (getD xs 4 0) (part 5 16 xs) (part 21 4 xs) (part 25 4 xs) (part 29 4 xs) (part 33 4 xs) (part 37 2 xs)
-    (length-part 5 16 xs (omega arith)) (length-part 21 4 xs (omega arith)) (length-part 25 4 xs (omega arith)) (length-part 29 4 xs (omega arith)) (length-part 33 4 xs (omega arith)) (length-part 37 2 xs (omega arith))
-    (part-octets 21 4 xs o) (part-octets 25 4 xs o) (part-octets 29 4 xs o) (part-octets 33 4 xs o) (part-octets 37 2 xs o)
+    ∙ settings-parts (getD xs 0 0) (getD xs 1 0) (getD xs 2 0) (getD xs 3 0) (getD xs ipv6ThereAt 0) (part ipv6At 16 xs) (part firstAt 4 xs) (part sizeAt 4 xs) (part firstAddressAt 4 xs) (part addressCountAt 4 xs) (part limitAt 2 xs)
+    (length-part ipv6At 16 xs (omega arith)) (length-part firstAt 4 xs (omega arith)) (length-part sizeAt 4 xs (omega arith)) (length-part firstAddressAt 4 xs (omega arith)) (length-part addressCountAt 4 xs (omega arith)) (length-part limitAt 2 xs (omega arith))
+    (part-octets firstAt 4 xs o) (part-octets sizeAt 4 xs o) (part-octets firstAddressAt 4 xs o) (part-octets addressCountAt 4 xs o) (part-octets limitAt 2 xs o)
 
 pub settings-law : (xs : List ℕ) → length xs ≡ settingsWidth → T (octets xs)
-    → settingsSound xs ≡ (settingsAllowed (viewSettings xs) && optionalTest (getD xs 4 0) (number (part 5 16 xs)))
+    → settingsSound xs ≡ (settingsAllowed (viewSettings xs) && optionalTest (getD xs ipv6ThereAt 0) (number (part ipv6At 16 xs)))
 unfolding settingsSound kept
 settings-law xs e o = ap (λ (b : Bool). settingsAllowed (viewSettings xs) && b) (settings-same xs e o)

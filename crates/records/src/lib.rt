@@ -8,7 +8,7 @@ ghost use mathlib.Core.Bool.{not, _||_};
 ghost use Rattle.octets.specs.Choice.{pick, flag};
 ghost use Rattle.octets.specs.Lists.{member};
 ghost use Rattle.octets.specs.Octets.{part, number, allZero};
-ghost use Rattle.rules.specs.Layout.{viewSettings, settingsWidth, pdrWidth, endpointWidth, csidWidth};
+ghost use Rattle.rules.specs.Layout.{viewSettings, settingsWidth, pdrWidth, endpointWidth, csidWidth, matchAt, teidAt, familiesAt, namedEndpointAt};
 ghost use Rattle.unit.specs.Meaning.{settingsOf};
 ghost use Rattle.records.specs.Kept.{settingsSound, pdrSound, endpointSound, csidSound, endpointIds, optionalTest, familiesTest, tunnelTest, matchTest, typeTest};
 use format::CSID_ADDRESS;
@@ -98,7 +98,7 @@ pub fn endpoint_sound(slot: &[u8], u: Settings) -> bool
     if !field_sound(slot, format::ENDPOINT_ADDRESS_THERE) {
         return false;
     }
-    tunnel_sound(slot, 1, u)
+    tunnel_sound(slot, format::ENDPOINT_TEID, u)
 }
 
 // Whether one of the first n endpoints in ends has the ID id. Every ID is read, so that no branch goes by which one it is.
@@ -118,7 +118,7 @@ fn names_endpoint(ends: &[u8], n: usize, id: u8) -> bool
 // What a PDR matches on, in its slot. ends has the session's n endpoints.
 fn match_sound(slot: &[u8], ends: &[u8], n: usize, u: Settings) -> bool
     requires { ⌜ (length (now slot) ≡ pdrWidth) × (n * endpointWidth ≤ length (now ends)) × (u .first + u .size ≤ 2 ^ 32) ⌝ }
-    ensures { λ r. ⌜ r ≡ matchTest (settingsOf u) (endpointIds n (now (ends .entry))) (getD (now (slot .entry)) 12 0) (number (part 13 4 (now (slot .entry)))) (getD (now (slot .entry)) 17 0) (getD (now (slot .entry)) 18 0) ⌝ }
+    ensures { λ r. ⌜ r ≡ matchTest (settingsOf u) (endpointIds n (now (ends .entry))) (getD (now (slot .entry)) matchAt 0) (number (part teidAt 4 (now (slot .entry)))) (getD (now (slot .entry)) familiesAt 0) (getD (now (slot .entry)) namedEndpointAt 0) ⌝ }
 {
     let kind = slot[format::MATCH];
     let id = slot[format::NAMED_ENDPOINT];

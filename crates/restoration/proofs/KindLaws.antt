@@ -13,7 +13,7 @@ use Rattle.octets.specs.Octets.{octets, octetAt}
 use Rattle.octets.proofs.Tests.{and-left, and-right, is-true}
 use Rattle.rules.specs.Model.{Settings}
 use Rattle.rules.specs.Elements.{addressOf}
-use Rattle.rules.specs.Layout.{viewPdr, viewEndpoint, viewCsid, pdrWidth, csidWidth, endpointWidth}
+use Rattle.rules.specs.Layout.{viewPdr, viewEndpoint, viewCsid, pdrWidth, csidWidth, endpointWidth, csidIdTypeAt}
 use Rattle.rules.specs.Restoration.{pdrElement, endpointElement, csidElement}
 use Rattle.rules.specs.Restoring.{addressTests, addressed}
 use Rattle.rules.specs.Types as ie
@@ -56,11 +56,11 @@ module _ (k : ℕ) (n : k ≡ 1 → ⊥) (e : k ≡ ie.createEndpoint → ⊥) w
   unfolding recordElement
   element-csid s xs = rw (ne-eqb k 1 n, ne-eqb k ie.createEndpoint e)
 
-  pub fits-csid : (xs : List ℕ) → T (recordFits k xs) → (length xs ≡ csidWidth) × (getD xs 1 0 < 16)
+  pub fits-csid : (xs : List ℕ) → T (recordFits k xs) → (length xs ≡ csidWidth) × (getD xs csidIdTypeAt 0 < 16)
   unfolding recordFits octetAt
   fits-csid xs h =
-      let g : T (eqb (length xs) csidWidth && ltb (getD xs 1 0) 16) = rw (ne-eqb k 1 n, ne-eqb k ie.createEndpoint e) at h in
-      (eqb→eq (length xs) csidWidth (and-left (eqb (length xs) csidWidth) (ltb (getD xs 1 0) 16) g), ltb→lt (getD xs 1 0) 16 (and-right (eqb (length xs) csidWidth) (ltb (getD xs 1 0) 16) g))
+      let g : T (eqb (length xs) csidWidth && ltb (getD xs csidIdTypeAt 0) 16) = rw (ne-eqb k 1 n, ne-eqb k ie.createEndpoint e) at h in
+      (eqb→eq (length xs) csidWidth (and-left (eqb (length xs) csidWidth) (ltb (getD xs csidIdTypeAt 0) 16) g), ltb→lt (getD xs csidIdTypeAt 0) 16 (and-right (eqb (length xs) csidWidth) (ltb (getD xs csidIdTypeAt 0) 16) g))
 
 -- a slot that fits is as wide as its kind
 pub fits-wide : (k : ℕ) (xs : List ℕ) → T (recordFits k xs) → length xs ≡ recordWidth k

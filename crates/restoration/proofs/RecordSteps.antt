@@ -18,7 +18,7 @@ use Rattle.octets.proofs.FieldLaws.{octet-field, length-fieldOctets}
 use Rattle.octets.proofs.Digits.{be-part, be-one}
 use Rattle.rules.specs.Model.{Settings, endpoint, Pdr, Endpoint}
 use Rattle.rules.specs.Elements.{addressLength, fqcsidOctets}
-use Rattle.rules.specs.Layout.{optionRead, tunnelRead, matchRead, pdrFrom, endpointFrom, csidFrom, viewPdr, viewEndpoint, viewCsid, pdrWidth, csidWidth, endpointWidth}
+use Rattle.rules.specs.Layout.{optionRead, tunnelRead, matchRead, pdrFrom, endpointFrom, csidFrom, viewPdr, viewEndpoint, viewCsid, pdrWidth, csidWidth, endpointWidth, precedenceAt, farAt, farIdAt, sourceAt, matchAt, teidAt, familiesAt, namedEndpointAt, pdrAddressThereAt, pdrAddressAt, endpointTeidAt, endpointFamiliesAt, endpointAddressThereAt, endpointAddressAt, csidIdTypeAt, csidAddressAt, csidNumberAt}
 use Rattle.rules.specs.Reply.{element, unitElement, addressPart}
 use Rattle.rules.specs.Restoration.{matchElement, farElement, pdiContent, pdrContent, pdrElement, endpointContent, endpointElement, recordCsid, csidElement}
 use Rattle.rules.specs.Types as ie
@@ -90,63 +90,63 @@ module _ (xs : List ℕ) (long : length xs ≡ pdrWidth) where
   abbrev pdr : Pdr
   pdr = viewPdr xs
 
-  pub pdr-address : pdr .address ≡ optionRead (getD xs 19 0) (number (part 20 4 xs))
+  pub pdr-address : pdr .address ≡ optionRead (getD xs pdrAddressThereAt 0) (number (part pdrAddressAt 4 xs))
   unfolding viewPdr pdrFrom fieldsAt
-  pdr-address = rw (octet-field 19 xs)
+  pdr-address = rw (octet-field pdrAddressThereAt xs)
 
-  pub length-pdr-address : (address : ℕ) → address ≡ number (part 20 4 xs) → length (addressPart (pdr .address)) ≡ length (addressPart (optionRead (getD xs 19 0) address))
+  pub length-pdr-address : (address : ℕ) → address ≡ number (part pdrAddressAt 4 xs) → length (addressPart (pdr .address)) ≡ length (addressPart (optionRead (getD xs pdrAddressThereAt 0) address))
   length-pdr-address address w = rw (pdr-address, ← w)
 
-  source-is : pdr .source ∷ [] ≡ part 11 1 xs
+  source-is : pdr .source ∷ [] ≡ part sourceAt 1 xs
   unfolding viewPdr pdrFrom fieldsAt
-  source-is = octet-part 11 xs (omega arith)
+  source-is = octet-part sourceAt xs (omega arith)
 
   module _ (u : Unit) where
     abbrev st : Settings
     st = settingsOf u
 
-    match-is : matchElement st (pdr .match) ≡ matchElement st (matchRead (getD xs 12 0) (number (part 13 4 xs)) (getD xs 17 0) (number (part 18 1 xs)))
+    match-is : matchElement st (pdr .match) ≡ matchElement st (matchRead (getD xs matchAt 0) (number (part teidAt 4 xs)) (getD xs familiesAt 0) (number (part namedEndpointAt 1 xs)))
     unfolding viewPdr pdrFrom fieldsAt
     match-is =
-        ap₂ (λ (k f : ℕ). matchElement st (matchRead k (number (part 13 4 xs)) f (number (part 18 1 xs)))) (octet-field 12 xs) (octet-field 17 xs)
+        ap₂ (λ (k f : ℕ). matchElement st (matchRead k (number (part teidAt 4 xs)) f (number (part namedEndpointAt 1 xs)))) (octet-field matchAt xs) (octet-field familiesAt xs)
 
-    pub match-tunnel : getD xs 12 0 ≡ 1 → matchElement st (pdr .match) ≡ unitElement st (tunnelIn (number (part 13 4 xs)) (getD xs 17 0))
+    pub match-tunnel : getD xs matchAt 0 ≡ 1 → matchElement st (pdr .match) ≡ unitElement st (tunnelIn (number (part teidAt 4 xs)) (getD xs familiesAt 0))
     unfolding matchElement matchRead tunnelRead tunnelIn
-    match-tunnel k = match-is ∙ rw (eq-eqb (getD xs 12 0) 1 k)
+    match-tunnel k = match-is ∙ rw (eq-eqb (getD xs matchAt 0) 1 k)
 
-    pub match-endpoint : getD xs 12 0 ≡ 2 → matchElement st (pdr .match) ≡ element ie.endpointId (part 18 1 xs)
+    pub match-endpoint : getD xs matchAt 0 ≡ 2 → matchElement st (pdr .match) ≡ element ie.endpointId (part namedEndpointAt 1 xs)
     unfolding matchElement matchRead
     match-endpoint k =
-        let one : getD xs 12 0 ≡ 1 → ⊥ = λ e. absurd (omega arith) in
-        match-is ∙ rw (ne-eqb (getD xs 12 0) 1 one, eq-eqb (getD xs 12 0) 2 k) (ap (element ie.endpointId) (octet-part 18 xs (omega arith)))
+        let one : getD xs matchAt 0 ≡ 1 → ⊥ = λ e. absurd (omega arith) in
+        match-is ∙ rw (ne-eqb (getD xs matchAt 0) 1 one, eq-eqb (getD xs matchAt 0) 2 k) (ap (element ie.endpointId) (octet-part namedEndpointAt xs (omega arith)))
 
-    pub match-neither : (getD xs 12 0 ≡ 1 → ⊥) → (getD xs 12 0 ≡ 2 → ⊥) → matchElement st (pdr .match) ≡ []
+    pub match-neither : (getD xs matchAt 0 ≡ 1 → ⊥) → (getD xs matchAt 0 ≡ 2 → ⊥) → matchElement st (pdr .match) ≡ []
     unfolding matchElement matchRead
-    match-neither k l = match-is ∙ rw (ne-eqb (getD xs 12 0) 1 k, ne-eqb (getD xs 12 0) 2 l)
+    match-neither k l = match-is ∙ rw (ne-eqb (getD xs matchAt 0) 1 k, ne-eqb (getD xs matchAt 0) 2 l)
 
-    pdi-is : pdiContent st pdr ≡ element ie.sourceInterface (part 11 1 xs) ++ (matchElement st (pdr .match) ++ addressPart (pdr .address))
+    pdi-is : pdiContent st pdr ≡ element ie.sourceInterface (part sourceAt 1 xs) ++ (matchElement st (pdr .match) ++ addressPart (pdr .address))
     unfolding pdiContent
     pdi-is = ap (λ (l : List ℕ). element ie.sourceInterface l ++ (matchElement st (pdr .match) ++ addressPart (pdr .address))) source-is
 
     module _ (at : ℕ) (out : List ℕ) where
-      pub match-tunnel-steps : (teid : ℕ) {e : ℕ} {out′ : List ℕ} → getD xs 12 0 ≡ 1 → teid ≡ number (part 13 4 xs)
-          → Placed out at (unitElement st (tunnelIn teid (getD xs 17 0))) e out′ → Placed out at (matchElement st (pdr .match)) e out′
+      pub match-tunnel-steps : (teid : ℕ) {e : ℕ} {out′ : List ℕ} → getD xs matchAt 0 ≡ 1 → teid ≡ number (part teidAt 4 xs)
+          → Placed out at (unitElement st (tunnelIn teid (getD xs familiesAt 0))) e out′ → Placed out at (matchElement st (pdr .match)) e out′
       match-tunnel-steps teid k e p = rw (match-tunnel k, ← e) p
 
-      pub match-endpoint-steps : {e : ℕ} {out′ : List ℕ} → getD xs 12 0 ≡ 2
-          → Placed out at (element ie.endpointId (part 18 1 xs)) e out′ → Placed out at (matchElement st (pdr .match)) e out′
+      pub match-endpoint-steps : {e : ℕ} {out′ : List ℕ} → getD xs matchAt 0 ≡ 2
+          → Placed out at (element ie.endpointId (part namedEndpointAt 1 xs)) e out′ → Placed out at (matchElement st (pdr .match)) e out′
       match-endpoint-steps k p = rw (match-endpoint k) p
 
-      pub match-neither-steps : (getD xs 12 0 ≡ 1 → ⊥) → (getD xs 12 0 ≡ 2 → ⊥) → Placed out at (matchElement st (pdr .match)) at out
+      pub match-neither-steps : (getD xs matchAt 0 ≡ 1 → ⊥) → (getD xs matchAt 0 ≡ 2 → ⊥) → Placed out at (matchElement st (pdr .match)) at out
       match-neither-steps k l = rw (match-neither k l) (placed-none out at)
 
       pub pdi-steps : (address : ℕ) {m n e : ℕ} {out₁ out₂ out₃ out₄ : List ℕ} → at + length (element ie.pdi (pdiContent st pdr)) ≤ length out
-          → Placed out (at + 4) (element ie.sourceInterface (part 11 1 xs)) m out₁ → Placed out₁ m (matchElement st (pdr .match)) n out₂
-          → address ≡ number (part 20 4 xs) → Placed out₂ n (addressPart (optionRead (getD xs 19 0) address)) e out₃
+          → Placed out (at + 4) (element ie.sourceInterface (part sourceAt 1 xs)) m out₁ → Placed out₁ m (matchElement st (pdr .match)) n out₂
+          → address ≡ number (part pdrAddressAt 4 xs) → Placed out₂ n (addressPart (optionRead (getD xs pdrAddressThereAt 0) address)) e out₃
           → out₄ ≡ put at (be 2 ie.pdi ++ be 2 (e - (at + 4))) out₃ → Placed out at (element ie.pdi (pdiContent st pdr)) e out₄
       pdi-steps address {m} {n} {e} {out₁} {out₂} {out₃} h p q w v r =
           let l = length-pdi st pdr in
-          let k : length (element ie.sourceInterface (part 11 1 xs)) ≡ 5 = length-element ie.sourceInterface (part 11 1 xs) ∙ ap (λ (n : ℕ). 4 + n) (length-part 11 1 xs (omega arith)) in
+          let k : length (element ie.sourceInterface (part sourceAt 1 xs)) ≡ 5 = length-element ie.sourceInterface (part sourceAt 1 xs) ∙ ap (λ (n : ℕ). 4 + n) (length-part sourceAt 1 xs (omega arith)) in
           let z = placed-length p (omega arith) in
           let y = p .ends in
           let v′ : Placed out₂ n (addressPart (pdr .address)) e out₃ = rw (pdr-address, ← w) v in
@@ -155,7 +155,7 @@ module _ (xs : List ℕ) (long : length xs ≡ pdrWidth) where
           placed-group ie.pdi at (at + 4) (pdiContent st pdr) out refl (omega arith) all r
 
       pub pdr-steps : {a b c e : ℕ} {out₁ out₂ out₃ out₄ out₅ : List ℕ} → T (octets xs) → at + length (pdrElement st pdr) ≤ length out
-          → Placed out (at + 4) (element ie.pdrId (take 2 xs)) a out₁ → Placed out₁ a (element ie.precedence (part 2 4 xs)) b out₂
+          → Placed out (at + 4) (element ie.pdrId (take 2 xs)) a out₁ → Placed out₁ a (element ie.precedence (part precedenceAt 4 xs)) b out₂
           → Placed out₂ b (element ie.pdi (pdiContent st pdr)) c out₃ → Placed out₃ c (farElement (pdr .far)) e out₄
           → length out₁ ≡ length out → length out₂ ≡ length out
           → out₅ ≡ put at (be 2 ie.createPdr ++ be 2 (e - (at + 4))) out₄ → Placed out at (pdrElement st pdr) e out₅
@@ -164,29 +164,29 @@ module _ (xs : List ℕ) (long : length xs ≡ pdrWidth) where
           let l = length-pdr st pdr in
           let j = length-element ie.pdrId (take 2 xs) in
           let j′ = length-part 0 2 xs (omega arith) in
-          let k = length-element ie.precedence (part 2 4 xs) in
-          let k′ = length-part 2 4 xs (omega arith) in
+          let k = length-element ie.precedence (part precedenceAt 4 xs) in
+          let k′ = length-part precedenceAt 4 xs (omega arith) in
           let m = p .ends in
           let n = q .ends in
           let last = placed-then r u (omega arith) in
           let later = placed-then q last (omega arith) in
           let all = placed-then p later (omega arith) in
-          rw (be-part 0 2 xs o (omega arith), be-part 2 4 xs o (omega arith))
-          (placed-group ie.createPdr at (at + 4) (element ie.pdrId (take 2 xs) ++ (element ie.precedence (part 2 4 xs) ++ (element ie.pdi (pdiContent st pdr) ++ farElement (pdr .far)))) out refl (omega arith) all v)
+          rw (be-part 0 2 xs o (omega arith), be-part precedenceAt 4 xs o (omega arith))
+          (placed-group ie.createPdr at (at + 4) (element ie.pdrId (take 2 xs) ++ (element ie.precedence (part precedenceAt 4 xs) ++ (element ie.pdi (pdiContent st pdr) ++ farElement (pdr .far)))) out refl (omega arith) all v)
 
   module _ (at : ℕ) (out : List ℕ) where
-    pub far-none : getD xs 6 0 ≡ 0 → farElement (pdr .far) ≡ []
+    pub far-none : getD xs farAt 0 ≡ 0 → farElement (pdr .far) ≡ []
     unfolding farElement viewPdr pdrFrom fieldsAt optionRead
-    far-none z = rw (octet-field 6 xs, eq-eqb (getD xs 6 0) 0 z)
+    far-none z = rw (octet-field farAt xs, eq-eqb (getD xs farAt 0) 0 z)
 
-    pub far-some : T (octets xs) → (getD xs 6 0 ≡ 0 → ⊥) → farElement (pdr .far) ≡ element ie.farId (part 7 4 xs)
+    pub far-some : T (octets xs) → (getD xs farAt 0 ≡ 0 → ⊥) → farElement (pdr .far) ≡ element ie.farId (part farIdAt 4 xs)
     unfolding farElement viewPdr pdrFrom fieldsAt optionRead
-    far-some o z = rw (octet-field 6 xs, ne-eqb (getD xs 6 0) 0 z) (ap (element ie.farId) (be-part 7 4 xs o (omega arith)))
+    far-some o z = rw (octet-field farAt xs, ne-eqb (getD xs farAt 0) 0 z) (ap (element ie.farId) (be-part farIdAt 4 xs o (omega arith)))
 
-    pub far-none-steps : getD xs 6 0 ≡ 0 → Placed out at (farElement (pdr .far)) at out
+    pub far-none-steps : getD xs farAt 0 ≡ 0 → Placed out at (farElement (pdr .far)) at out
     far-none-steps z = rw (far-none z) (placed-none out at)
 
-    pub far-some-steps : {e : ℕ} {out′ : List ℕ} → T (octets xs) → (getD xs 6 0 ≡ 0 → ⊥) → Placed out at (element ie.farId (part 7 4 xs)) e out′ → Placed out at (farElement (pdr .far)) e out′
+    pub far-some-steps : {e : ℕ} {out′ : List ℕ} → T (octets xs) → (getD xs farAt 0 ≡ 0 → ⊥) → Placed out at (element ie.farId (part farIdAt 4 xs)) e out′ → Placed out at (farElement (pdr .far)) e out′
     far-some-steps o z p = rw (far-some o z) p
 
 -- ---- endpoint
@@ -200,18 +200,18 @@ length-endpoint s e =
     rw (length-element) (omega (arith, length-append a (b ++ c), length-append b c, length-element ie.endpointId (e .id ∷ [])))
 
 module _ (xs : List ℕ) (long : length xs ≡ endpointWidth) (u : Unit) where
-  pub endpoint-local : unitElement (settingsOf u) (viewEndpoint xs .local) ≡ unitElement (settingsOf u) (tunnelIn (number (part 1 4 xs)) (getD xs 5 0))
+  pub endpoint-local : unitElement (settingsOf u) (viewEndpoint xs .local) ≡ unitElement (settingsOf u) (tunnelIn (number (part endpointTeidAt 4 xs)) (getD xs endpointFamiliesAt 0))
   unfolding viewEndpoint endpointFrom fieldsAt tunnelRead tunnelIn
-  endpoint-local = rw (octet-field 5 xs)
+  endpoint-local = rw (octet-field endpointFamiliesAt xs)
 
-  pub endpoint-address : viewEndpoint xs .address ≡ optionRead (getD xs 6 0) (number (part 7 4 xs))
+  pub endpoint-address : viewEndpoint xs .address ≡ optionRead (getD xs endpointAddressThereAt 0) (number (part endpointAddressAt 4 xs))
   unfolding viewEndpoint endpointFrom fieldsAt
-  endpoint-address = rw (octet-field 6 xs)
+  endpoint-address = rw (octet-field endpointAddressThereAt xs)
 
-  pub length-local : (teid : ℕ) → teid ≡ number (part 1 4 xs) → length (unitElement (settingsOf u) (viewEndpoint xs .local)) ≡ length (unitElement (settingsOf u) (tunnelIn teid (getD xs 5 0)))
+  pub length-local : (teid : ℕ) → teid ≡ number (part endpointTeidAt 4 xs) → length (unitElement (settingsOf u) (viewEndpoint xs .local)) ≡ length (unitElement (settingsOf u) (tunnelIn teid (getD xs endpointFamiliesAt 0)))
   length-local teid w = rw (endpoint-local, ← w)
 
-  pub length-endpoint-address : (address : ℕ) → address ≡ number (part 7 4 xs) → length (addressPart (viewEndpoint xs .address)) ≡ length (addressPart (optionRead (getD xs 6 0) address))
+  pub length-endpoint-address : (address : ℕ) → address ≡ number (part endpointAddressAt 4 xs) → length (addressPart (viewEndpoint xs .address)) ≡ length (addressPart (optionRead (getD xs endpointAddressThereAt 0) address))
   length-endpoint-address address w = rw (endpoint-address, ← w)
 
   id-is : viewEndpoint xs .id ∷ [] ≡ take 1 xs
@@ -224,9 +224,9 @@ module _ (xs : List ℕ) (long : length xs ≡ endpointWidth) (u : Unit) where
   endpoint-is = ap (λ (l : List ℕ). element ie.endpointId l ++ (unitElement (settingsOf u) (viewEndpoint xs .local) ++ addressPart (viewEndpoint xs .address))) id-is
 
   pub endpoint-steps : (at teid address : ℕ) (out : List ℕ) {a b e : ℕ} {out₁ out₂ out₃ out₄ : List ℕ} → at + length (endpointElement (settingsOf u) (viewEndpoint xs)) ≤ length out
-      → Placed out (at + 4) (element ie.endpointId (take 1 xs)) a out₁ → teid ≡ number (part 1 4 xs)
-      → Placed out₁ a (unitElement (settingsOf u) (tunnelIn teid (getD xs 5 0))) b out₂
-      → address ≡ number (part 7 4 xs) → Placed out₂ b (addressPart (optionRead (getD xs 6 0) address)) e out₃
+      → Placed out (at + 4) (element ie.endpointId (take 1 xs)) a out₁ → teid ≡ number (part endpointTeidAt 4 xs)
+      → Placed out₁ a (unitElement (settingsOf u) (tunnelIn teid (getD xs endpointFamiliesAt 0))) b out₂
+      → address ≡ number (part endpointAddressAt 4 xs) → Placed out₂ b (addressPart (optionRead (getD xs endpointAddressThereAt 0) address)) e out₃
       → out₄ ≡ put at (be 2 ie.createEndpoint ++ be 2 (e - (at + 4))) out₃ → Placed out at (endpointElement (settingsOf u) (viewEndpoint xs)) e out₄
   unfolding endpointElement
   endpoint-steps at teid address out {a} {b} {e} {out₁} {out₂} {out₃} h p w q z v r =
@@ -263,37 +263,37 @@ one-word n = refl
 
 module _ (xs : List ℕ) (long : length xs ≡ csidWidth) (o : T (octets xs)) where
   abbrev width : ℕ
-  width = addressLength (getD xs 1 0)
+  width = addressLength (getD xs csidIdTypeAt 0)
 
-  csid-value : fqcsidOctets (recordCsid (viewCsid xs)) ≡ (getD xs 1 0 * 16 + 1) ∷ part 2 width xs ++ (part 18 2 xs ++ getD xs 0 0 ∷ [])
+  csid-value : fqcsidOctets (recordCsid (viewCsid xs)) ≡ (getD xs csidIdTypeAt 0 * 16 + 1) ∷ part csidAddressAt width xs ++ (part csidNumberAt 2 xs ++ getD xs 0 0 ∷ [])
   unfolding recordCsid fqcsidOctets viewCsid csidFrom fieldsAt concatMap
-  csid-value = rw (csid-address xs long o, octet-field 1 xs, octet-field 0 xs, be-part 18 2 xs o (omega arith), append-nil (part 18 2 xs))
+  csid-value = rw (csid-address xs long o, octet-field csidIdTypeAt xs, octet-field 0 xs, be-part csidNumberAt 2 xs o (omega arith), append-nil (part csidNumberAt 2 xs))
 
   -- the numbers of an address of n octets
-  halves : (b : Bool) (n high low : ℕ) → n ≡ pick b 16 4 → high ≡ number (part 2 (8 * (n / 16)) xs) → low ≡ number (part (2 + 8 * (n / 16)) (n - 8 * (n / 16)) xs)
-      → fieldOctets (pick b (8 ∷ 8 ∷ []) (0 ∷ 4 ∷ [])) (high ∷ low ∷ []) ≡ part 2 (pick b 16 4) xs
+  halves : (b : Bool) (n high low : ℕ) → n ≡ pick b 16 4 → high ≡ number (part csidAddressAt (8 * (n / 16)) xs) → low ≡ number (part (csidAddressAt + 8 * (n / 16)) (n - 8 * (n / 16)) xs)
+      → fieldOctets (pick b (8 ∷ 8 ∷ []) (0 ∷ 4 ∷ [])) (high ∷ low ∷ []) ≡ part csidAddressAt (pick b 16 4) xs
   unfolding fieldOctets
   halves true n high low e p q =
-      let p′ : high ≡ number (part 2 8 xs) = rw e at p in
-      let q′ : low ≡ number (part 10 8 xs) = rw e at q in
-      rw (p′, q′, be-part 2 8 xs o (omega arith), be-part 10 8 xs o (omega arith), append-nil (part 10 8 xs)) (part-two 2 8 8 xs)
+      let p′ : high ≡ number (part csidAddressAt 8 xs) = rw e at p in
+      let q′ : low ≡ number (part (csidAddressAt + 8) 8 xs) = rw e at q in
+      rw (p′, q′, be-part csidAddressAt 8 xs o (omega arith), be-part (csidAddressAt + 8) 8 xs o (omega arith), append-nil (part (csidAddressAt + 8) 8 xs)) (part-two csidAddressAt 8 8 xs)
   halves false n high low e p q =
-      let q′ : low ≡ number (part 2 4 xs) = rw e at q in
-      rw (q′, be-none high, be-part 2 4 xs o (omega arith), append-nil (part 2 4 xs))
+      let q′ : low ≡ number (part csidAddressAt 4 xs) = rw e at q in
+      rw (q′, be-none high, be-part csidAddressAt 4 xs o (omega arith), append-nil (part csidAddressAt 4 xs))
 
-  pub csid-of : (n high low one : ℕ) → getD xs 0 0 < 256 → getD xs 1 0 < 16 → n ≡ width → high ≡ number (part 2 (8 * (n / 16)) xs) → low ≡ number (part (2 + 8 * (n / 16)) (n - 8 * (n / 16)) xs)
-      → one ≡ number (part 18 2 xs)
-      → CsidOf xs (record { «id_type» = getD xs 1 0; count = 1; «address_high» = high; «address_low» = low; «csids_1» = one; «csids_2» = 0; «csids_3» = 0; «csids_4» = 0; «node_type» = getD xs 0 0 })
+  pub csid-of : (n high low one : ℕ) → getD xs 0 0 < 256 → getD xs csidIdTypeAt 0 < 16 → n ≡ width → high ≡ number (part csidAddressAt (8 * (n / 16)) xs) → low ≡ number (part (csidAddressAt + 8 * (n / 16)) (n - 8 * (n / 16)) xs)
+      → one ≡ number (part csidNumberAt 2 xs)
+      → CsidOf xs (record { «id_type» = getD xs csidIdTypeAt 0; count = 1; «address_high» = high; «address_low» = low; «csids_1» = one; «csids_2» = 0; «csids_3» = 0; «csids_4» = 0; «node_type» = getD xs 0 0 })
   unfolding addressLength addressWidths
   csid-of n high low one node few e p q r =
-      let v : FqCsid = record { «id_type» = getD xs 1 0; count = 1; «address_high» = high; «address_low» = low; «csids_1» = one; «csids_2» = 0; «csids_3» = 0; «csids_4» = 0; «node_type» = getD xs 0 0 } in
-      let first : 16 * getD xs 1 0 + 1 ≡ getD xs 1 0 * 16 + 1 = omega arith in
+      let v : FqCsid = record { «id_type» = getD xs csidIdTypeAt 0; count = 1; «address_high» = high; «address_low» = low; «csids_1» = one; «csids_2» = 0; «csids_3» = 0; «csids_4» = 0; «node_type» = getD xs 0 0 } in
+      let first : 16 * getD xs csidIdTypeAt 0 + 1 ≡ getD xs csidIdTypeAt 0 * 16 + 1 = omega arith in
       record {
         kind = refl;
         one = refl;
         octets =
             octets-split v
-            ∙ rw (first, be-one (getD xs 1 0 * 16 + 1) (omega arith), halves (eqb (getD xs 1 0) 1) n high low e p q, one-word one, r, be-part 18 2 xs o (omega arith), be-one (getD xs 0 0) node)
+            ∙ rw (first, be-one (getD xs csidIdTypeAt 0 * 16 + 1) (omega arith), halves (eqb (getD xs csidIdTypeAt 0) 1) n high low e p q, one-word one, r, be-part csidNumberAt 2 xs o (omega arith), be-one (getD xs 0 0) node)
             (sym csid-value);
       }
 

@@ -18,7 +18,7 @@ use Rattle.octets.proofs.FieldLaws.{octet-field}
 use Rattle.rules.specs.Limits.{maxRestoration}
 use Rattle.rules.specs.Model.{Settings}
 use Rattle.rules.specs.Elements.{nodeAddressTests, nodeAddressAllowed}
-use Rattle.rules.specs.Layout.{pdrWidth, endpointWidth, csidWidth, sessionWidth, csidFrom, viewCsid, viewSession, viewSettings, viewSessions, pdrCountAt, endpointCountAt, csidCountAt, pdrsAt, endpointsAt, csidsAt}
+use Rattle.rules.specs.Layout.{pdrWidth, endpointWidth, csidWidth, sessionWidth, csidFrom, viewCsid, viewSession, viewSettings, viewSessions, pdrCountAt, endpointCountAt, csidCountAt, pdrsAt, endpointsAt, csidsAt, csidIdTypeAt}
 use Rattle.rules.specs.Sound.{csidTests, csidAllowed, sessionAllowed, sound}
 use Rattle.rules.specs.Reply.{message}
 use Rattle.rules.specs.Restoration.{senderTests, senderAllowed, restoration}
@@ -47,8 +47,8 @@ csid-type : (ys : List ℕ) → length ys ≡ csidWidth → T (csidAllowed (view
 unfolding csidAllowed csidTests nodeAddressAllowed nodeAddressTests viewCsid csidFrom fieldsAt recordFits octetAt
 csid-type ys l h =
     let c = viewCsid ys in
-    let t = leb→le (number (part 1 1 ys)) 2 (each (nodeAddressTests (c .idType) (c .address)) (each (csidTests c) h .1 .0) .0) in
-    both (eqb (length ys) csidWidth) (ltb (getD ys 1 0) 16) (yes-eqb l) (lt→ltb (getD ys 1 0) 16 (let e = octet-field 1 ys in omega arith))
+    let t = leb→le (number (part csidIdTypeAt 1 ys)) 2 (each (nodeAddressTests (c .idType) (c .address)) (each (csidTests c) h .1 .0) .0) in
+    both (eqb (length ys) csidWidth) (ltb (getD ys csidIdTypeAt 0) 16) (yes-eqb l) (lt→ltb (getD ys csidIdTypeAt 0) 16 (let e = octet-field csidIdTypeAt ys in omega arith))
 
 module _ (s : Settings) (slot : List ℕ) (long : length slot ≡ sessionWidth) (h : T (sessionAllowed s (viewSession slot))) where
   pub slot-fits : SlotFits slot

@@ -12,7 +12,7 @@ use Rattle.octets.specs.Lists.{all}
 use Rattle.octets.specs.Fields.{fieldOctets}
 use Rattle.rules.specs.Model.{Settings, Session}
 use Rattle.rules.specs.Elements.{fseidOctets, fqcsidOctets}
-use Rattle.rules.specs.Layout.{viewPdr, viewEndpoint, viewCsid, pdrWidth, csidWidth, pdrCountAt, endpointCountAt, csidCountAt, pdrsAt, endpointsAt, csidsAt, sessionWidth, endpointWidth}
+use Rattle.rules.specs.Layout.{viewPdr, viewEndpoint, viewCsid, pdrWidth, csidWidth, pdrCountAt, endpointCountAt, csidCountAt, pdrsAt, endpointsAt, csidsAt, sessionWidth, endpointWidth, csidIdTypeAt}
 use Rattle.rules.specs.Reply.{element}
 use Rattle.rules.specs.Restoration.{pdrElement, endpointElement, recordCsid, csidElement, recordElements}
 use Rattle.rules.specs.Types as ie
@@ -32,7 +32,7 @@ recordFits k xs = pick (eqb k ie.createPdr) (eqb (length xs) pdrWidth) (pick (eq
 
 -- the FQ-CSID of a slot: one CSID, and the octets that it is written as
 pub record CsidOf (xs : List ℕ) (v : FqCsid) : Type 0 where
-  pub kind : v .«id_type» ≡ getD xs 1 0
+  pub kind : v .«id_type» ≡ getD xs csidIdTypeAt 0
   pub one : v .count ≡ 1
   pub octets : fieldOctets (fqcsidWidths (v .«id_type») (v .count)) (fqcsidNumbers v) ≡ fqcsidOctets (recordCsid (viewCsid xs))
 

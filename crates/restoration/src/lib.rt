@@ -9,7 +9,7 @@ ghost use lib.ListN.{length, getD};
 ghost use Rattle.octets.specs.Octets.{slices, concatMap};
 ghost use Rattle.octets.specs.Lists.{all};
 ghost use Rattle.rules.specs.Limits.{maxRestoration};
-ghost use Rattle.rules.specs.Layout.{optionRead, viewSession, viewPdr, viewEndpoint, viewCsid, pdrWidth, csidWidth, endpointWidth};
+ghost use Rattle.rules.specs.Layout.{optionRead, viewSession, viewPdr, viewEndpoint, viewCsid, pdrWidth, csidWidth, endpointWidth, csidIdTypeAt};
 ghost use Rattle.rules.specs.Reply.{element, addressPart};
 ghost use Rattle.rules.specs.Restoration.{matchElement, farElement, pdiContent, pdrElement, endpointElement, csidElement, recordElements, restoration};
 ghost use Rattle.rules.specs.Restoring.{addressed, restorationAt, writeInto, writeRestoration};
@@ -109,8 +109,8 @@ fn write_endpoint(u: Settings, endpoint: &[u8], out: &mut [u8], at: usize) -> us
 {
     let front = at + 4;
     let id = writing::write_value(types::ENDPOINT_ID, &endpoint[0..1], out, front);
-    let teid = octets::read(endpoint, 1, 4);
-    let local = writing::write_fteid(u, teid, endpoint[5] as u64, out, id);
+    let teid = octets::read(endpoint, format::ENDPOINT_TEID, 4);
+    let local = writing::write_fteid(u, teid, endpoint[format::ENDPOINT_FAMILIES] as u64, out, id);
     let address = octets::read(endpoint, format::ENDPOINT_ADDRESS, 4);
     let end = write_address(
         endpoint[format::ENDPOINT_ADDRESS_THERE],
@@ -124,15 +124,15 @@ fn write_endpoint(u: Settings, endpoint: &[u8], out: &mut [u8], at: usize) -> us
 
 // The FQ-CSID of a record. An address of 16 octets is two numbers of 8, one of 4 the second number.
 fn csid_of(csid: &[u8]) -> FqCsid
-    requires { ⌜ (length (now csid) ≡ csidWidth) × (getD (now csid) 1 0 < 16) ⌝ }
+    requires { ⌜ (length (now csid) ≡ csidWidth) × (getD (now csid) csidIdTypeAt 0 < 16) ⌝ }
     ensures { λ r. ⌜ CsidOf (now (csid .entry)) r ⌝ }
 {
-    let id_type = csid[1] as u64;
+    let id_type = csid[format::CSID_ID_TYPE] as u64;
     let n = element::fqcsid::address_length(id_type);
     let half = 8 * (n / 16);
-    let high = octets::read(csid, 2, half);
-    let low = octets::read(csid, 2 + half, n - half);
-    let one = octets::read(csid, 18, 2);
+    let high = octets::read(csid, format::CSID_ADDRESS, half);
+    let low = octets::read(csid, format::CSID_ADDRESS + half, n - half);
+    let one = octets::read(csid, format::CSID_NUMBER, 2);
     FqCsid {
         id_type: id_type,
         count: 1,
@@ -148,7 +148,7 @@ fn csid_of(csid: &[u8]) -> FqCsid
 
 // FQ-CSID.
 fn write_csid(csid: &[u8], out: &mut [u8], at: usize) -> usize
-    requires { ⌜ (length (now csid) ≡ csidWidth) × (getD (now csid) 1 0 < 16) × (at + length (csidElement (viewCsid (now csid))) ≤ length (now out)) ⌝ }
+    requires { ⌜ (length (now csid) ≡ csidWidth) × (getD (now csid) csidIdTypeAt 0 < 16) × (at + length (csidElement (viewCsid (now csid))) ≤ length (now out)) ⌝ }
     ensures { λ r. ⌜ Placed (now (out .entry)) at (csidElement (viewCsid (now (csid .entry)))) r (now (out .exit)) ⌝ }
 {
     let v = csid_of(csid);

@@ -130,9 +130,30 @@ settingsWidths = 4 ∷ 1 ∷ 16 ∷ 4 ∷ 4 ∷ 4 ∷ 4 ∷ 2 ∷ []
 abbrev pub settingsWidth : ℕ
 settingsWidth = widthOf settingsWidths
 
--- the session limit is the last of them
+-- where the settings' fields stand: after those before them
+abbrev pub ipv6ThereAt : ℕ
+ipv6ThereAt = widthOf (take 1 settingsWidths)
+
+abbrev pub ipv6At : ℕ
+ipv6At = widthOf (take 2 settingsWidths)
+
+abbrev pub ipv6LowAt : ℕ
+ipv6LowAt = ipv6At + 8
+
+abbrev pub firstAt : ℕ
+firstAt = widthOf (take 3 settingsWidths)
+
+abbrev pub sizeAt : ℕ
+sizeAt = widthOf (take 4 settingsWidths)
+
+abbrev pub firstAddressAt : ℕ
+firstAddressAt = widthOf (take 5 settingsWidths)
+
+abbrev pub addressCountAt : ℕ
+addressCountAt = widthOf (take 6 settingsWidths)
+
 abbrev pub limitAt : ℕ
-limitAt = settingsWidth - 2
+limitAt = widthOf (take 7 settingsWidths)
 
 -- the settings, and the number of sessions after them
 abbrev pub headWidth : ℕ
@@ -146,6 +167,63 @@ endpointWidth = widthOf endpointWidths
 
 abbrev pub csidWidth : ℕ
 csidWidth = widthOf csidSlotWidths
+
+-- where a PDR's fields stand
+abbrev pub precedenceAt : ℕ
+precedenceAt = widthOf (take 1 pdrWidths)
+
+abbrev pub farAt : ℕ
+farAt = widthOf (take 2 pdrWidths)
+
+abbrev pub farIdAt : ℕ
+farIdAt = widthOf (take 3 pdrWidths)
+
+abbrev pub sourceAt : ℕ
+sourceAt = widthOf (take 4 pdrWidths)
+
+abbrev pub matchAt : ℕ
+matchAt = widthOf (take 5 pdrWidths)
+
+abbrev pub teidAt : ℕ
+teidAt = widthOf (take 6 pdrWidths)
+
+abbrev pub familiesAt : ℕ
+familiesAt = widthOf (take 7 pdrWidths)
+
+abbrev pub namedEndpointAt : ℕ
+namedEndpointAt = widthOf (take 8 pdrWidths)
+
+abbrev pub pdrAddressThereAt : ℕ
+pdrAddressThereAt = widthOf (take 9 pdrWidths)
+
+abbrev pub pdrAddressAt : ℕ
+pdrAddressAt = widthOf (take 10 pdrWidths)
+
+-- where an endpoint's fields stand
+abbrev pub endpointTeidAt : ℕ
+endpointTeidAt = widthOf (take 1 endpointWidths)
+
+abbrev pub endpointFamiliesAt : ℕ
+endpointFamiliesAt = widthOf (take 2 endpointWidths)
+
+abbrev pub endpointAddressThereAt : ℕ
+endpointAddressThereAt = widthOf (take 3 endpointWidths)
+
+abbrev pub endpointAddressAt : ℕ
+endpointAddressAt = widthOf (take 4 endpointWidths)
+
+-- where an FQ-CSID's fields stand: the address in four octets and twelve
+abbrev pub csidIdTypeAt : ℕ
+csidIdTypeAt = widthOf (take 1 csidSlotWidths)
+
+abbrev pub csidAddressAt : ℕ
+csidAddressAt = widthOf (take 2 csidSlotWidths)
+
+abbrev pub csidAddressRestAt : ℕ
+csidAddressRestAt = widthOf (take 3 csidSlotWidths)
+
+abbrev pub csidNumberAt : ℕ
+csidNumberAt = widthOf (take 4 csidSlotWidths)
 
 -- in a session's slot: the numbers of its records after the SEID, and the areas of its records
 abbrev pub pdrCountAt : ℕ
@@ -232,11 +310,11 @@ unfoldable pub viewSettings : List ℕ → Settings
 viewSettings xs =
     record {
       ipv4 = part 0 4 xs;
-      ipv6 = pick (eqb (octetAt xs 4) 0) [] (part 5 16 xs);
-      first = numberAt 21 4 xs;
-      size = numberAt 25 4 xs;
-      firstAddress = numberAt 29 4 xs;
-      addressCount = numberAt 33 4 xs;
+      ipv6 = pick (eqb (octetAt xs ipv6ThereAt) 0) [] (part ipv6At 16 xs);
+      first = numberAt firstAt 4 xs;
+      size = numberAt sizeAt 4 xs;
+      firstAddress = numberAt firstAddressAt 4 xs;
+      addressCount = numberAt addressCountAt 4 xs;
       limit = numberAt limitAt 2 xs;
     }
 

@@ -18,7 +18,7 @@ use Rattle.octets.proofs.FieldLaws.{length-fieldOctets}
 use Rattle.octets.proofs.Numbers.{length-slices}
 use Rattle.plan.specs.Rows.{word, hasTag, rowWidth}
 use Rattle.rules.specs.Types as ie
-use Rattle.rules.specs.Layout.{pdrWidths, endpointWidths, pdrWidth, endpointWidth, csidWidth, pdrsAt, sessionWidth}
+use Rattle.rules.specs.Layout.{pdrWidths, endpointWidths, pdrWidth, endpointWidth, csidWidth, pdrsAt, sessionWidth, precedenceAt, farAt, farIdAt}
 use Rattle.rules.specs.Limits.{maxPdrs}
 use Rattle.plan.specs.Words as its
 use Rattle.areas.specs.declared.Lookup.{Lookup}
@@ -109,7 +109,7 @@ csid-short row s out long e q = written-whole _ _ s out refl long q ∙ rw (ne-e
 
 -- ---- updates
 
-pub precedence-set : (row s out : List ℕ) → word its.hasPrecedence row ≡ 1 → out ≡ put 2 (be 4 (word its.precedence row)) s → out ≡ withPrecedence row s
+pub precedence-set : (row s out : List ℕ) → word its.hasPrecedence row ≡ 1 → out ≡ put precedenceAt (be 4 (word its.precedence row)) s → out ≡ withPrecedence row s
 unfolding withPrecedence
 precedence-set row s out e q = q ∙ rw (eq-eqb _ _ e)
 
@@ -117,11 +117,11 @@ pub precedence-kept : (row s : List ℕ) → (word its.hasPrecedence row ≡ 1 �
 unfolding withPrecedence
 precedence-kept row s e = rw (ne-eqb _ _ e)
 
-pub far-set : (row s mid out : List ℕ) → word its.hasFarId row ≡ 1 → mid ≡ put 6 (be 1 1) s → out ≡ put 7 (be 4 (word its.farId row)) mid → out ≡ withFar row s
+pub far-set : (row s mid out : List ℕ) → word its.hasFarId row ≡ 1 → mid ≡ put farAt (be 1 1) s → out ≡ put farIdAt (be 4 (word its.farId row)) mid → out ≡ withFar row s
 unfolding withFar
 far-set row s mid out e m q = q ∙ rw (m, eq-eqb _ _ e)
 
-pub far-gone : (row s out : List ℕ) → (word its.hasFarId row ≡ 1 → ⊥) → word its.hasFarId row ≡ 2 → out ≡ put 6 (zeros 5) s → out ≡ withFar row s
+pub far-gone : (row s out : List ℕ) → (word its.hasFarId row ≡ 1 → ⊥) → word its.hasFarId row ≡ 2 → out ≡ put farAt (zeros 5) s → out ≡ withFar row s
 unfolding withFar
 far-gone row s out n e q = q ∙ rw (ne-eqb _ _ n, eq-eqb _ _ e)
 
@@ -138,13 +138,13 @@ part-part at n i k s h =
     ∙ take-take k (n - i) (drop i (drop at s)) (omega arith)
     ∙ ap (take k) (drop-drop i at s)
 
-pub updated-at : (row s fresh rec mid new done : List ℕ) (p end : ℕ) (a : Area) → length s ≡ sessionWidth → p < 16 → a ≡ pdrArea → length fresh ≡ pdrWidth → end ≡ 11 + p * pdrWidth + pdrWidth
-    → rec ≡ put 0 (take (end - (11 + p * pdrWidth)) (drop (11 + p * pdrWidth) s)) fresh → mid ≡ withPrecedence row rec → new ≡ withFar row mid → done ≡ replacedIn a p new s
+pub updated-at : (row s fresh rec mid new done : List ℕ) (p end : ℕ) (a : Area) → length s ≡ sessionWidth → p < 16 → a ≡ pdrArea → length fresh ≡ pdrWidth → end ≡ pdrsAt + p * pdrWidth + pdrWidth
+    → rec ≡ put 0 (take (end - (pdrsAt + p * pdrWidth)) (drop (pdrsAt + p * pdrWidth) s)) fresh → mid ≡ withPrecedence row rec → new ≡ withFar row mid → done ≡ replacedIn a p new s
     → done ≡ updatedAt row p s
 unfolding updatedAt updatedRecord areaIn
 updated-at row s fresh rec mid new done p end a long less ea lf ee er em en ed =
-    let e : end - (11 + p * pdrWidth) ≡ pdrWidth = omega arith in
-    let whole : rec ≡ part (11 + p * pdrWidth) pdrWidth s = er ∙ rw e (put-whole (part (11 + p * pdrWidth) pdrWidth s) fresh (length-part (11 + p * pdrWidth) pdrWidth s (omega arith) ∙ sym lf)) in
+    let e : end - (pdrsAt + p * pdrWidth) ≡ pdrWidth = omega arith in
+    let whole : rec ≡ part (pdrsAt + p * pdrWidth) pdrWidth s = er ∙ rw e (put-whole (part (pdrsAt + p * pdrWidth) pdrWidth s) fresh (length-part (pdrsAt + p * pdrWidth) pdrWidth s (omega arith) ∙ sym lf)) in
     ed ∙ rw (ea, en, em, whole, ← part-part pdrsAt (maxPdrs * pdrWidth) (p * pdrWidth) pdrWidth s (omega arith))
 
 pub update-place : (row s : List ℕ) (a : Area) (place : Lookup) (p : ℕ) → a ≡ pdrArea → place ≡ placeIn a (word its.pdrId row) s → place ≡ Found p → p < 16

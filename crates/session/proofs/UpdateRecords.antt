@@ -16,7 +16,7 @@ use Rattle.octets.proofs.Put.{put-put}
 use Rattle.octets.proofs.Numbers.{length-be}
 use Rattle.octets.proofs.FieldLaws.{put-field}
 use Rattle.rules.specs.Model.{Pdr, Match}
-use Rattle.rules.specs.Layout.{pdrWidths, pdrNumbers, pdrOctets, pdrWidth}
+use Rattle.rules.specs.Layout.{pdrWidths, pdrNumbers, pdrOctets, pdrWidth, precedenceAt, farAt, farIdAt}
 use Rattle.laws.proofs.LayoutLaws.{length-pdr}
 use Rattle.rules.specs.Apply.{orOld}
 use Rattle.plan.specs.Rows.{word, present, rowFar, rowChange}
@@ -32,15 +32,15 @@ changed row p =
 pdr-fields : ℕ → ℕ → Option ℕ → ℕ → Match → Option ℕ → Pdr
 pdr-fields i n f s q u = record { id = i; precedence = n; far = f; source = s; match = q; address = u }
 
-put-precedence : (i n m : ℕ) (f : Option ℕ) (s : ℕ) (q : Match) (u : Option ℕ) → put 2 (be 4 m) (pdrOctets (pdr-fields i n f s q u)) ≡ pdrOctets (pdr-fields i m f s q u)
+put-precedence : (i n m : ℕ) (f : Option ℕ) (s : ℕ) (q : Match) (u : Option ℕ) → put precedenceAt (be 4 m) (pdrOctets (pdr-fields i n f s q u)) ≡ pdrOctets (pdr-fields i m f s q u)
 unfolding pdrOctets pdrNumbers pdr-fields
 put-precedence i n m f s q u = put-field 1 pdrWidths (pdrNumbers (pdr-fields i n f s q u)) m (lit< tt) refl
 
 -- a FAR ID is two fields
-put-far : (i n : ℕ) (f g : Option ℕ) (s : ℕ) (q : Match) (u : Option ℕ) → put 7 (be 4 (valueOr 0 g)) (put 6 (be 1 (flag (isSome g))) (pdrOctets (pdr-fields i n f s q u))) ≡ pdrOctets (pdr-fields i n g s q u)
+put-far : (i n : ℕ) (f g : Option ℕ) (s : ℕ) (q : Match) (u : Option ℕ) → put farIdAt (be 4 (valueOr 0 g)) (put farAt (be 1 (flag (isSome g))) (pdrOctets (pdr-fields i n f s q u))) ≡ pdrOctets (pdr-fields i n g s q u)
 unfolding pdrOctets pdrNumbers pdr-fields
 put-far i n f g s q u =
-    ap (put 7 (be 4 (valueOr 0 g))) (put-field 2 pdrWidths (pdrNumbers (pdr-fields i n f s q u)) (flag (isSome g)) (lit< tt) refl)
+    ap (put farIdAt (be 4 (valueOr 0 g))) (put-field 2 pdrWidths (pdrNumbers (pdr-fields i n f s q u)) (flag (isSome g)) (lit< tt) refl)
     ∙ put-field 3 pdrWidths (set (pdrNumbers (pdr-fields i n f s q u)) 2 (flag (isSome g))) (valueOr 0 g) (lit< tt) refl
 
 precedence-changed : (row : List ℕ) (i n : ℕ) (f : Option ℕ) (s : ℕ) (q : Match) (u : Option ℕ)
@@ -48,20 +48,20 @@ precedence-changed : (row : List ℕ) (i n : ℕ) (f : Option ℕ) (s : ℕ) (q 
 unfolding withPrecedence rowChange present
 precedence-changed row i n f s q u = go (eqb (word its.hasPrecedence row) 1)
   where
-    go : (b : Bool) → pick b (put 2 (be 4 (word its.precedence row)) (pdrOctets (pdr-fields i n f s q u))) (pdrOctets (pdr-fields i n f s q u)) ≡ pdrOctets (pdr-fields i (orOld n (pick b (some (word its.precedence row)) none)) f s q u)
+    go : (b : Bool) → pick b (put precedenceAt (be 4 (word its.precedence row)) (pdrOctets (pdr-fields i n f s q u))) (pdrOctets (pdr-fields i n f s q u)) ≡ pdrOctets (pdr-fields i (orOld n (pick b (some (word its.precedence row)) none)) f s q u)
     go true = unfold orOld in (put-precedence i n (word its.precedence row) f s q u)
     go false = unfold orOld in refl
 
 not-both : (n : ℕ) → eqb n 1 ≡ true → eqb n 2 ≡ false
 not-both n e = let h = eqb-true n 1 e in rw h
 
-pdr-long : (p : Pdr) → 6 + 1 ≤ length (pdrOctets p)
+pdr-long : (p : Pdr) → farAt + 1 ≤ length (pdrOctets p)
 pdr-long p = omega (arith, length-pdr p)
 
-far-none : (t : List ℕ) → 6 + 1 ≤ length t → put 6 (zeros 5) t ≡ put 7 (be 4 0) (put 6 (be 1 0) t)
+far-none : (t : List ℕ) → farAt + 1 ≤ length t → put farAt (zeros 5) t ≡ put farIdAt (be 4 0) (put farAt (be 1 0) t)
 far-none t h =
     let e : zeros 5 ≡ be 1 0 ++ be 4 0 = unfold be zeros in refl in
-    ap (λ (l : List ℕ). put 6 l t) e ∙ sym (put-put 6 1 (be 1 0) (be 4 0) t (length-be 1 0) h)
+    ap (λ (l : List ℕ). put farAt l t) e ∙ sym (put-put farAt 1 (be 1 0) (be 4 0) t (length-be 1 0) h)
 
 far-changed : (row : List ℕ) (i n : ℕ) (f : Option ℕ) (s : ℕ) (q : Match) (u : Option ℕ)
     → withFar row (pdrOctets (pdr-fields i n f s q u)) ≡ pdrOctets (pdr-fields i n (orOld f (rowChange row .far)) s q u)
@@ -72,7 +72,7 @@ far-changed row i n f s q u = go (eqb (word its.hasFarId row) 1) (eqb (word its.
     t = pdrOctets (pdr-fields i n f s q u)
 
     go : (one two : Bool) → (one ≡ true → two ≡ false)
-        → pick one (put 7 (be 4 (word its.farId row)) (put 6 (be 1 1) t)) (pick two (put 6 (zeros 5) t) t)
+        → pick one (put farIdAt (be 4 (word its.farId row)) (put farAt (be 1 1) t)) (pick two (put farAt (zeros 5) t) t)
         ≡ pdrOctets (pdr-fields i n (orOld f (pick two (some none) (pick one (some (some (word its.farId row))) none))) s q u)
     go true true h = absurd (false≢true (sym (h refl)))
     go true false h = unfold orOld in (put-far i n f (some (word its.farId row)) s q u)

@@ -7,7 +7,7 @@ use lib.Dec.{eqb}
 use Rattle.octets.specs.Choice.{pick}
 use Rattle.octets.specs.Octets.{be, put, zeros}
 use Rattle.octets.specs.Fields.{fieldOctets}
-use Rattle.rules.specs.Layout.{pdrWidths, endpointWidths}
+use Rattle.rules.specs.Layout.{pdrWidths, endpointWidths, precedenceAt, farAt, farIdAt}
 use Rattle.plan.specs.Rows.{word}
 use Rattle.plan.specs.Words as its
 
@@ -74,12 +74,12 @@ csidRecord row = fieldOctets (csidWidths (word its.idType row)) (csidValues row)
 -- ---- Update PDR
 
 unfoldable pub withPrecedence : List ℕ → List ℕ → List ℕ
-withPrecedence row s = pick (eqb (word its.hasPrecedence row) 1) (put 2 (be 4 (word its.precedence row)) s) s
+withPrecedence row s = pick (eqb (word its.hasPrecedence row) 1) (put precedenceAt (be 4 (word its.precedence row)) s) s
 
 -- a null FAR ID takes it away
 unfoldable pub withFar : List ℕ → List ℕ → List ℕ
 withFar row s =
-    pick (eqb (word its.hasFarId row) 1) (put 7 (be 4 (word its.farId row)) (put 6 (be 1 1) s)) (pick (eqb (word its.hasFarId row) 2) (put 6 (zeros 5) s) s)
+    pick (eqb (word its.hasFarId row) 1) (put farIdAt (be 4 (word its.farId row)) (put farAt (be 1 1) s)) (pick (eqb (word its.hasFarId row) 2) (put farAt (zeros 5) s) s)
 
 unfoldable pub updatedRecord : List ℕ → List ℕ → List ℕ
 updatedRecord row s = withFar row (withPrecedence row s)

@@ -19,7 +19,7 @@ use Rattle.octets.proofs.Digits.{be-back, part-octets, drop-octets}
 use Rattle.octets.proofs.Put.{length-part, drop-take}
 use Rattle.rules.specs.Limits.{mapWords, addressWords}
 use Rattle.rules.specs.Model.{Settings, Session, seidOf}
-use Rattle.rules.specs.Layout.{headWidth, sessionWidth, tableLength, area, sessionOctets, settingsOctets, encode, viewArea, viewSession, viewSettings, viewSessions, settingsWidth}
+use Rattle.rules.specs.Layout.{headWidth, sessionWidth, tableLength, area, sessionOctets, settingsOctets, encode, viewArea, viewSession, viewSettings, viewSessions, settingsWidth, ipv6ThereAt, ipv6At, firstAt, sizeAt, firstAddressAt, addressCountAt, limitAt}
 use Rattle.rules.specs.Sound.{settingsAllowed, sessionAllowed, apart, sessionsTests, sessionsAllowed, soundTests, sound}
 use Rattle.laws.proofs.LayoutLaws.{length-session}
 use Rattle.laws.proofs.TableLaws.{length-settings}
@@ -46,12 +46,12 @@ unfolding viewSettings octetAt numberAt
 settings-front t =
     λ i. record {
       ipv4 = within 0 settingsWidth 4 t (lit≤ tt) i;
-      ipv6 = pick (eqb (getD-take settingsWidth t 4 0 (lit< tt) i) 0) [] (within 5 34 16 t (lit≤ tt) i);
-      first = number (within 21 18 4 t (lit≤ tt) i);
-      size = number (within 25 14 4 t (lit≤ tt) i);
-      firstAddress = number (within 29 10 4 t (lit≤ tt) i);
-      addressCount = number (within 33 6 4 t (lit≤ tt) i);
-      limit = number (within 37 2 2 t (lit≤ tt) i);
+      ipv6 = pick (eqb (getD-take settingsWidth t ipv6ThereAt 0 (lit< tt) i) 0) [] (within ipv6At (settingsWidth - ipv6At) 16 t (lit≤ tt) i);
+      first = number (within firstAt (settingsWidth - firstAt) 4 t (lit≤ tt) i);
+      size = number (within sizeAt (settingsWidth - sizeAt) 4 t (lit≤ tt) i);
+      firstAddress = number (within firstAddressAt (settingsWidth - firstAddressAt) 4 t (lit≤ tt) i);
+      addressCount = number (within addressCountAt (settingsWidth - addressCountAt) 4 t (lit≤ tt) i);
+      limit = number (within limitAt (settingsWidth - limitAt) 2 t (lit≤ tt) i);
     }
 
 pub sessions-are : (t : List ℕ) → viewSessions t ≡ map viewSession (slotsOf t)

@@ -11,7 +11,7 @@ use Rattle.octets.specs.Choice.{pick}
 use Rattle.octets.specs.Octets.{be, number, numberAt, octetAt, part, octets}
 use Rattle.octets.proofs.Digits.{octets-known, be-part}
 use Rattle.rules.specs.Model.{Settings}
-use Rattle.rules.specs.Layout.{viewSettings, settingsWidth}
+use Rattle.rules.specs.Layout.{viewSettings, settingsWidth, ipv6ThereAt, ipv6At, ipv6LowAt, firstAt, sizeAt, firstAddressAt, addressCountAt, limitAt}
 use Rattle.rules.specs.Sound.{ipv6Allowed}
 use Rattle.unit.specs.declared.Settings.{Settings as Unit}
 use Rattle.unit.specs.Meaning.{settingsOf, settingsGiven}
@@ -25,22 +25,22 @@ two-halves : (at : ℕ) (s : List ℕ) → part at 16 s ≡ part at 8 s ++ part 
 two-halves at s = take-add 8 8 (drop at s) ∙ ap (λ (l : List ℕ). part at 8 s ++ take 8 l) (drop-drop 8 at s)
 
 pub read-is : (t : List ℕ) (u : Unit) → ((i : ℕ) → getD t i 0 < 256) → settingsWidth ≤ length t
-    → u .ipv4 ≡ number (part 0 4 t) → u .«has_ipv6» ≡ not (eqb (getD t 4 0) 0) → u .high ≡ number (part 5 8 t) → u .low ≡ number (part 13 8 t)
-    → u .first ≡ number (part 21 4 t) → u .size ≡ number (part 25 4 t) → u .«first_address» ≡ number (part 29 4 t) → u .addresses ≡ number (part 33 4 t) → u .limit ≡ number (part 37 2 t)
+    → u .ipv4 ≡ number (part 0 4 t) → u .«has_ipv6» ≡ not (eqb (getD t ipv6ThereAt 0) 0) → u .high ≡ number (part ipv6At 8 t) → u .low ≡ number (part ipv6LowAt 8 t)
+    → u .first ≡ number (part firstAt 4 t) → u .size ≡ number (part sizeAt 4 t) → u .«first_address» ≡ number (part firstAddressAt 4 t) → u .addresses ≡ number (part addressCountAt 4 t) → u .limit ≡ number (part limitAt 2 t)
     → settingsOf u ≡ viewSettings t
 unfolding settingsOf viewSettings octetAt numberAt
 read-is t u k long a b h l f n x y m =
     let bytes = octets-known t k in
     settings-eq
     (rw a (be-part 0 4 t bytes (omega arith)))
-    (rw (b, h, l, be-part 5 8 t bytes (omega arith), be-part 13 8 t bytes (omega arith), ← two-halves 5 t) (one (eqb (getD t 4 0) 0)))
+    (rw (b, h, l, be-part ipv6At 8 t bytes (omega arith), be-part ipv6LowAt 8 t bytes (omega arith), ← two-halves ipv6At t) (one (eqb (getD t ipv6ThereAt 0) 0)))
     f
     n
     x
     y
     m
   where
-    one : (z : Bool) → pick (not z) (part 5 16 t) [] ≡ pick z [] (part 5 16 t)
+    one : (z : Bool) → pick (not z) (part ipv6At 16 t) [] ≡ pick z [] (part ipv6At 16 t)
     one true = refl
     one false = refl
 

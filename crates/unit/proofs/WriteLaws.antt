@@ -9,9 +9,9 @@ use Rattle.octets.specs.Choice.{pick, flag, isNil}
 use Rattle.octets.specs.Octets.{put, be, zeros, padded}
 use Rattle.octets.proofs.Numbers.{length-be, length-zeros, length-padded, zeros-split}
 use Rattle.octets.proofs.Put.{put-over, put-put}
-use Rattle.rules.specs.Layout.{settingsOctets, settingsWidth}
+use Rattle.rules.specs.Layout.{settingsOctets, settingsWidth, ipv6ThereAt, ipv6At, firstAt, sizeAt, firstAddressAt, addressCountAt, limitAt}
 use Rattle.unit.specs.declared.Settings.{Settings as Unit}
-use Rattle.unit.specs.Meaning.{settingsOf, numbersAt, numberOctets}
+use Rattle.unit.specs.Meaning.{settingsOf, numberOctets}
 
 -- octets over the front of zeros
 over-zeros : (at : ℕ) (p v z : List ℕ) → length p ≡ at → length v ≤ 16 → put at v (p ++ (zeros 16 ++ z)) ≡ p ++ (padded 16 v ++ z)
@@ -25,14 +25,17 @@ over-zeros at p v z e h =
     ∙ ap (λ (l : List ℕ). p ++ l) (sym (append-assoc v (zeros n) z))
 
 -- what stands after the IPv6 address: the pools' four numbers and the session limit
-settings-room : zeros settingsWidth ≡ zeros 4 ++ (zeros 1 ++ (zeros 16 ++ zeros 18))
+abbrev numbersWidth : ℕ
+numbersWidth = settingsWidth - firstAt
+
+settings-room : zeros settingsWidth ≡ zeros 4 ++ (zeros 1 ++ (zeros 16 ++ zeros numbersWidth))
 unfolding zeros
 settings-room = refl
 
 -- numbers one after the other are one write
 pub number-steps : (u : Unit) (s₀ s₁ s₂ s₃ s₄ s₅ : List ℕ) → settingsWidth ≤ length s₀
-    → s₁ ≡ put 21 (be 4 (u .first)) s₀ → s₂ ≡ put 25 (be 4 (u .size)) s₁ → s₃ ≡ put 29 (be 4 (u .«first_address»)) s₂ → s₄ ≡ put 33 (be 4 (u .addresses)) s₃ → s₅ ≡ put 37 (be 2 (u .limit)) s₄
-    → s₅ ≡ put numbersAt (numberOctets (settingsOf u)) s₀
+    → s₁ ≡ put firstAt (be 4 (u .first)) s₀ → s₂ ≡ put sizeAt (be 4 (u .size)) s₁ → s₃ ≡ put firstAddressAt (be 4 (u .«first_address»)) s₂ → s₄ ≡ put addressCountAt (be 4 (u .addresses)) s₃ → s₅ ≡ put limitAt (be 2 (u .limit)) s₄
+    → s₅ ≡ put firstAt (numberOctets (settingsOf u)) s₀
 unfolding numberOctets settingsOf
 number-steps u s₀ s₁ s₂ s₃ s₄ s₅ long e₁ e₂ e₃ e₄ e₅ =
     let a = be 4 (u .first) in
@@ -48,12 +51,12 @@ number-steps u s₀ s₁ s₂ s₃ s₄ s₅ long e₁ e₂ e₃ e₄ e₅ =
     let lab = length-append a b in
     let labc = length-append (a ++ b) c in
     let labcd = length-append ((a ++ b) ++ c) d in
-    let two : s₂ ≡ put 21 (a ++ b) s₀ = e₂ ∙ ap (put 25 b) e₁ ∙ put-put 21 4 a b s₀ la (omega arith) in
-    let three : s₃ ≡ put 21 ((a ++ b) ++ c) s₀ = e₃ ∙ ap (put 29 c) two ∙ put-put 21 8 (a ++ b) c s₀ (omega arith) (omega arith) in
-    let four : s₄ ≡ put 21 (((a ++ b) ++ c) ++ d) s₀ = e₄ ∙ ap (put 33 d) three ∙ put-put 21 12 ((a ++ b) ++ c) d s₀ (omega arith) (omega arith) in
-    e₅ ∙ ap (put 37 f) four
-    ∙ put-put 21 16 (((a ++ b) ++ c) ++ d) f s₀ (omega arith) (omega arith)
-    ∙ ap (λ (xs : List ℕ). put 21 xs s₀) (append-assoc ((a ++ b) ++ c) d f ∙ append-assoc (a ++ b) c (d ++ f) ∙ append-assoc a b (c ++ (d ++ f)))
+    let two : s₂ ≡ put firstAt (a ++ b) s₀ = e₂ ∙ ap (put sizeAt b) e₁ ∙ put-put firstAt 4 a b s₀ la (omega arith) in
+    let three : s₃ ≡ put firstAt ((a ++ b) ++ c) s₀ = e₃ ∙ ap (put firstAddressAt c) two ∙ put-put firstAt 8 (a ++ b) c s₀ (omega arith) (omega arith) in
+    let four : s₄ ≡ put firstAt (((a ++ b) ++ c) ++ d) s₀ = e₄ ∙ ap (put addressCountAt d) three ∙ put-put firstAt 12 ((a ++ b) ++ c) d s₀ (omega arith) (omega arith) in
+    e₅ ∙ ap (put limitAt f) four
+    ∙ put-put firstAt 16 (((a ++ b) ++ c) ++ d) f s₀ (omega arith) (omega arith)
+    ∙ ap (λ (xs : List ℕ). put firstAt xs s₀) (append-assoc ((a ++ b) ++ c) d f ∙ append-assoc (a ++ b) c (d ++ f) ∙ append-assoc a b (c ++ (d ++ f)))
 
 -- the address in its halves, of no octets where there is none
 module _ (a b : ℕ) where
@@ -79,8 +82,8 @@ flag-small true = omega arith
 flag-small false = omega arith
 
 pub write-steps : (u : Unit) (n : ℕ) (s₀ s₁ s₂ s₃ s₄ s₅ : List ℕ) → s₀ ≡ zeros settingsWidth → n ≡ flag (u .«has_ipv6»)
-    → s₁ ≡ put 0 (be 4 (u .ipv4)) s₀ → s₂ ≡ put 4 (be 1 n) s₁ → s₃ ≡ put 5 (be (8 * n) (u .high)) s₂ → s₄ ≡ put (5 + 8 * n) (be (8 * n) (u .low)) s₃
-    → s₅ ≡ put numbersAt (numberOctets (settingsOf u)) s₄
+    → s₁ ≡ put 0 (be 4 (u .ipv4)) s₀ → s₂ ≡ put ipv6ThereAt (be 1 n) s₁ → s₃ ≡ put ipv6At (be (8 * n) (u .high)) s₂ → s₄ ≡ put (ipv6At + 8 * n) (be (8 * n) (u .low)) s₃
+    → s₅ ≡ put firstAt (numberOctets (settingsOf u)) s₄
     → s₅ ≡ settingsOctets (settingsOf u)
 unfolding settingsOctets settingsOf numberOctets
 write-steps u n s₀ s₁ s₂ s₃ s₄ s₅ e₀ en e₁ e₂ e₃ e₄ e₅ =
@@ -93,23 +96,23 @@ write-steps u n s₀ s₁ s₂ s₃ s₄ s₅ e₀ en e₁ e₂ e₃ e₄ e₅ =
     let short : length v ≤ 16 = six-short (u .high) (u .low) z in
     let lv : length pad ≡ 16 = length-padded 16 v short in
     let one : be 1 n ≡ there = ap (be 1) en ∙ six-flag (u .high) (u .low) z in
-    let r₁ : s₁ ≡ four ++ (zeros 1 ++ (zeros 16 ++ zeros 18)) =
-    e₁ ∙ ap (put 0 four) (e₀ ∙ settings-room) ∙ put-over [] (zeros 4) (zeros 1 ++ (zeros 16 ++ zeros 18)) four 0 refl (length-be 4 (u .ipv4) ∙ sym (length-zeros 4)) in
-    let r₂ : s₂ ≡ (four ++ there) ++ (zeros 16 ++ zeros 18) =
-    e₂ ∙ (λ i. put 4 (one i) (r₁ i)) ∙ put-over four (zeros 1) (zeros 16 ++ zeros 18) there 4 (length-be 4 (u .ipv4)) (sym (length-zeros 1)) ∙ sym (append-assoc four there _) in
-    let l₂ : length (four ++ there) ≡ 5 = length-append four there ∙ ap (λ (n : ℕ). n + 1) (length-be 4 (u .ipv4)) in
-    let long : 21 ≤ length s₂ = omega (arith, ap length r₂, length-append (four ++ there) (zeros 16 ++ zeros 18), length-append (zeros 16) (zeros 18), length-zeros 16, length-zeros 18) in
-    let both : s₄ ≡ put 5 v s₂ =
-    e₄ ∙ ap (put (5 + 8 * n) (be (8 * n) (u .low))) e₃ ∙ put-put 5 (8 * n) (be (8 * n) (u .high)) (be (8 * n) (u .low)) s₂ (length-be (8 * n) (u .high)) (omega arith)
-    ∙ ap (λ (xs : List ℕ). put 5 xs s₂) (ap (λ (k : ℕ). be (8 * k) (u .high) ++ be (8 * k) (u .low)) en ∙ halves (u .high) (u .low) z) in
-    let r₄ : s₄ ≡ ((four ++ there) ++ pad) ++ (zeros 18 ++ []) =
-    both ∙ ap (put 5 v) r₂ ∙ over-zeros 5 (four ++ there) v (zeros 18) l₂ short ∙ sym (append-assoc (four ++ there) pad (zeros 18)) ∙ ap (λ (l : List ℕ). ((four ++ there) ++ pad) ++ l) (sym (append-nil (zeros 18))) in
-    let l₄ : length ((four ++ there) ++ pad) ≡ 21 = length-append (four ++ there) pad ∙ ap₂ _+_ l₂ lv in
+    let r₁ : s₁ ≡ four ++ (zeros 1 ++ (zeros 16 ++ zeros numbersWidth)) =
+    e₁ ∙ ap (put 0 four) (e₀ ∙ settings-room) ∙ put-over [] (zeros 4) (zeros 1 ++ (zeros 16 ++ zeros numbersWidth)) four 0 refl (length-be 4 (u .ipv4) ∙ sym (length-zeros 4)) in
+    let r₂ : s₂ ≡ (four ++ there) ++ (zeros 16 ++ zeros numbersWidth) =
+    e₂ ∙ (λ i. put ipv6ThereAt (one i) (r₁ i)) ∙ put-over four (zeros 1) (zeros 16 ++ zeros numbersWidth) there ipv6ThereAt (length-be 4 (u .ipv4)) (sym (length-zeros 1)) ∙ sym (append-assoc four there _) in
+    let l₂ : length (four ++ there) ≡ ipv6At = length-append four there ∙ ap (λ (n : ℕ). n + 1) (length-be 4 (u .ipv4)) in
+    let long : firstAt ≤ length s₂ = omega (arith, ap length r₂, length-append (four ++ there) (zeros 16 ++ zeros numbersWidth), length-append (zeros 16) (zeros numbersWidth), length-zeros 16, length-zeros numbersWidth) in
+    let both : s₄ ≡ put ipv6At v s₂ =
+    e₄ ∙ ap (put (ipv6At + 8 * n) (be (8 * n) (u .low))) e₃ ∙ put-put ipv6At (8 * n) (be (8 * n) (u .high)) (be (8 * n) (u .low)) s₂ (length-be (8 * n) (u .high)) (omega arith)
+    ∙ ap (λ (xs : List ℕ). put ipv6At xs s₂) (ap (λ (k : ℕ). be (8 * k) (u .high) ++ be (8 * k) (u .low)) en ∙ halves (u .high) (u .low) z) in
+    let r₄ : s₄ ≡ ((four ++ there) ++ pad) ++ (zeros numbersWidth ++ []) =
+    both ∙ ap (put ipv6At v) r₂ ∙ over-zeros ipv6At (four ++ there) v (zeros numbersWidth) l₂ short ∙ sym (append-assoc (four ++ there) pad (zeros numbersWidth)) ∙ ap (λ (l : List ℕ). ((four ++ there) ++ pad) ++ l) (sym (append-nil (zeros numbersWidth))) in
+    let l₄ : length ((four ++ there) ++ pad) ≡ firstAt = length-append (four ++ there) pad ∙ ap₂ _+_ l₂ lv in
     let limit = be 2 (u .limit) in
     let ips = be 4 (u .addresses) ++ limit in
     let first-ip = be 4 (u .«first_address») ++ ips in
     let sizes = be 4 (u .size) ++ first-ip in
     let numbers : List ℕ = be 4 (u .first) ++ sizes in
-    let ln : length numbers ≡ 18 =
+    let ln : length numbers ≡ numbersWidth =
     omega (arith, length-append (be 4 (u .first)) sizes, length-append (be 4 (u .size)) first-ip, length-append (be 4 (u .«first_address»)) ips, length-append (be 4 (u .addresses)) limit, length-be 4 (u .first), length-be 4 (u .size), length-be 4 (u .«first_address»), length-be 4 (u .addresses), length-be 2 (u .limit)) in
-    e₅ ∙ ap (put 21 numbers) r₄ ∙ put-over ((four ++ there) ++ pad) (zeros 18) [] numbers 21 l₄ (ln ∙ sym (length-zeros 18)) ∙ simp (append-assoc, append-nil)
+    e₅ ∙ ap (put firstAt numbers) r₄ ∙ put-over ((four ++ there) ++ pad) (zeros numbersWidth) [] numbers firstAt l₄ (ln ∙ sym (length-zeros numbersWidth)) ∙ simp (append-assoc, append-nil)

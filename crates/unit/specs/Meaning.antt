@@ -27,10 +27,7 @@ abbrev pub settingsGiven : ℕ → List ℕ → ℕ → ℕ → ℕ → ℕ → 
 settingsGiven ipv4 ipv6 first size firstAddress addresses limit =
     record { ipv4 = be 4 ipv4; ipv6 = ipv6; first = first; size = size; firstAddress = firstAddress; addressCount = addresses; limit = limit }
 
--- the octets of the pools and the session limit, and where they stand in the settings: after the addresses
-abbrev pub numbersAt : ℕ
-numbersAt = 21
-
+-- the octets of the pools and the session limit, which stand after the unit's addresses
 unfoldable pub numberOctets : Settings → List ℕ
 numberOctets s = be 4 (s .first) ++ (be 4 (s .size) ++ (be 4 (s .firstAddress) ++ (be 4 (s .addressCount) ++ be 2 (s .limit))))
 

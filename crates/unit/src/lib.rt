@@ -6,9 +6,9 @@ ghost use lib.Dec.{T};
 ghost use lib.ListN.{length};
 ghost use Rattle.octets.specs.Choice.{flag, allOf};
 ghost use Rattle.octets.specs.Octets.{zeros, put};
-ghost use Rattle.rules.specs.Layout.{viewSettings, settingsOctets, settingsWidth};
+ghost use Rattle.rules.specs.Layout.{viewSettings, settingsOctets, settingsWidth, firstAt};
 ghost use Rattle.rules.specs.Sound.{settingsAllowed, ipv6Allowed, limitTests};
-ghost use Rattle.unit.specs.Meaning.{settingsOf, settingsGiven, rangeTests, numbersAt, numberOctets};
+ghost use Rattle.unit.specs.Meaning.{settingsOf, settingsGiven, rangeTests, numberOctets};
 
 // The IPv4 address as a number, whether there is an IPv6 address and that address in two halves, the first TEID and the pool's size, the
 // first address for patients and how many there are, and how many sessions there is room for.
@@ -134,7 +134,7 @@ fn flag(there: bool) -> usize
 // Writes the pools and the session limit behind the addresses.
 fn write_numbers(slot: &mut [u8], s: Settings)
     requires { ⌜ settingsWidth ≤ length (now slot) ⌝ }
-    ensures { λ _. ⌜ now (slot .exit) ≡ put numbersAt (numberOctets (settingsOf s)) (now (slot .entry)) ⌝ }
+    ensures { λ _. ⌜ now (slot .exit) ≡ put firstAt (numberOctets (settingsOf s)) (now (slot .entry)) ⌝ }
 {
     octets::write(slot, format::FIRST, 4, s.first);
     octets::write(slot, format::SIZE, 4, s.size);

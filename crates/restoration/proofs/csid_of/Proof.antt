@@ -2,6 +2,7 @@
 use native.Mathlib.Omega.{arith}
 use borrow.Author.Needs.{needs}
 use lib.Dec.{T}
+use Rattle.rules.specs.Layout.{csidIdTypeAt}
 use Rattle.octets.specs.Octets.{octets}
 use Rattle.octets.proofs.Digits.{octets-known}
 use Rattle.restoration.proofs.RecordSteps.{low-narrow, csid-of}
@@ -9,7 +10,7 @@ use Rattle.restoration.proofs.csid_of.Statement.{statement}
 use Rattle.restoration.proofs.csid_of.Tie as tie
 
 cast-id-type : tie.Need-cast-id-type
-cast-id-type c = omega (arith, c .shared-slice-known2 .given 1)
+cast-id-type c = omega (arith, c .shared-slice-known2 .given csidIdTypeAt)
 
 mul-half : tie.Need-mul-half
 mul-half c = omega (arith, c .address-length .ensures .1)

@@ -3,7 +3,7 @@
 use native.Mathlib.Omega.{arith}
 use lib.ListN.{getD, take}
 use Rattle.octets.specs.Octets.{number, part}
-use Rattle.rules.specs.Layout.{viewEndpoint}
+use Rattle.rules.specs.Layout.{viewEndpoint, endpointTeidAt, endpointFamiliesAt}
 use Rattle.unit.specs.Meaning.{settingsOf}
 use Rattle.rules.specs.Types as ie
 use Rattle.octets.proofs.Put.{length-part}
@@ -28,7 +28,7 @@ write-fteid-requires c κs =
     let xs = s .args .endpoint .now in
     let u = s .args .u in
     let w = c .before .before .before .before .before .write-value in
-    omega (arith, s .pre .1, w .ensures .ends, w .kept .1 .1 .0, rw (endpoint-local xs (s .pre .0) u) at (length-endpoint (settingsOf u) (viewEndpoint xs)), length-unit u (getD xs 5 0) (number (part 1 4 xs)), length-element ie.endpointId (take 1 xs), length-part 0 1 xs (omega (arith, s .pre .0)))
+    omega (arith, s .pre .1, w .ensures .ends, w .kept .1 .1 .0, rw (endpoint-local xs (s .pre .0) u) at (length-endpoint (settingsOf u) (viewEndpoint xs)), length-unit u (getD xs endpointFamiliesAt 0) (number (part endpointTeidAt 4 xs)), length-element ie.endpointId (take 1 xs), length-part 0 1 xs (omega (arith, s .pre .0)))
 
 write-address-requires : tie.Need-write-address-requires
 write-address-requires c κs =

@@ -2,6 +2,7 @@
 -- Assumes nothing.
 use lib.Dec.{T}
 use native.Mathlib.Omega.{arith}
+use Rattle.rules.specs.Layout.{farIdAt}
 use Rattle.octets.specs.Octets.{octets}
 use Rattle.octets.proofs.Digits.{octets-known}
 use Rattle.restoration.proofs.RecordSteps.{far-some, far-none-steps, far-some-steps}
@@ -20,7 +21,7 @@ write-value-requires c κs =
     let s = c .before .before .before .before .before .before in
     let xs = s .args .pdr .now in
     let o : T (octets xs) = octets-known xs (λ i. c .before .before .before .before .before .shared-slice-known .given i .fits) in
-    omega (arith, rw (far-some xs (s .pre .0) (s .args .at) (s .args .out .now) o (c .before .before .if1 .left)) at (s .pre .1), length-element ie.farId (part 7 4 xs))
+    omega (arith, rw (far-some xs (s .pre .0) (s .args .at) (s .args .out .now) o (c .before .before .if1 .left)) at (s .pre .1), length-element ie.farId (part farIdAt 4 xs))
 
 returns-2 : tie.Need-returns-2
 returns-2 c =

@@ -5,7 +5,7 @@ use lib.Dec.{T}
 use native.Mathlib.Omega.{arith}
 use lib.ListN.{take}
 use Rattle.octets.specs.Octets.{octets}
-use Rattle.rules.specs.Layout.{viewPdr}
+use Rattle.rules.specs.Layout.{viewPdr, precedenceAt}
 use Rattle.unit.specs.Meaning.{settingsOf}
 use Rattle.rules.specs.Types as ie
 use Rattle.octets.proofs.Digits.{octets-known}
@@ -27,7 +27,7 @@ write-value-requires-2 c κs =
     let s = c .before .before .before .before .before .before .before .before .before in
     let xs = s .args .pdr .now in
     let w = c .before .before .before .before .write-value in
-    omega (arith, s .pre .0, s .pre .1, w .ensures .ends, w .kept .1 .1 .0, length-pdr (settingsOf (s .args .u)) (viewPdr xs), length-element ie.pdrId (take 2 xs), length-part 0 2 xs (omega (arith, s .pre .0)), length-part 2 4 xs (omega (arith, s .pre .0)))
+    omega (arith, s .pre .0, s .pre .1, w .ensures .ends, w .kept .1 .1 .0, length-pdr (settingsOf (s .args .u)) (viewPdr xs), length-element ie.pdrId (take 2 xs), length-part 0 2 xs (omega (arith, s .pre .0)), length-part precedenceAt 4 xs (omega (arith, s .pre .0)))
 
 write-pdi-requires : tie.Need-write-pdi-requires
 write-pdi-requires c κs =
@@ -36,7 +36,7 @@ write-pdi-requires c κs =
     let v = c .before .before .before .before .before .before .before .before .write-value in
     let w = c .before .before .before .write-value2 in (
       s .pre .0,
-      omega (arith, s .pre .1, v .ensures .ends, w .ensures .ends, v .kept .1 .1 .0, w .kept .1 .1 .0, length-pdr (settingsOf (s .args .u)) (viewPdr xs), length-element ie.pdrId (take 2 xs), length-element ie.precedence (part 2 4 xs), length-part 0 2 xs (omega (arith, s .pre .0)), length-part 2 4 xs (omega (arith, s .pre .0))),
+      omega (arith, s .pre .1, v .ensures .ends, w .ensures .ends, v .kept .1 .1 .0, w .kept .1 .1 .0, length-pdr (settingsOf (s .args .u)) (viewPdr xs), length-element ie.pdrId (take 2 xs), length-element ie.precedence (part precedenceAt 4 xs), length-part 0 2 xs (omega (arith, s .pre .0)), length-part precedenceAt 4 xs (omega (arith, s .pre .0))),
     )
 
 write-far-requires : tie.Need-write-far-requires
@@ -47,7 +47,7 @@ write-far-requires c κs =
     let w = c .before .before .before .before .before .before .before .write-value2 in
     let d = c .before .before .before .write-pdi in (
       s .pre .0,
-      omega (arith, s .pre .1, v .ensures .ends, w .ensures .ends, d .ensures .ends, v .kept .1 .1 .0, w .kept .1 .1 .0, d .kept .1 .1 .0, length-pdr (settingsOf (s .args .u)) (viewPdr xs), length-element ie.pdrId (take 2 xs), length-element ie.precedence (part 2 4 xs), length-part 0 2 xs (omega (arith, s .pre .0)), length-part 2 4 xs (omega (arith, s .pre .0))),
+      omega (arith, s .pre .1, v .ensures .ends, w .ensures .ends, d .ensures .ends, v .kept .1 .1 .0, w .kept .1 .1 .0, d .kept .1 .1 .0, length-pdr (settingsOf (s .args .u)) (viewPdr xs), length-element ie.pdrId (take 2 xs), length-element ie.precedence (part precedenceAt 4 xs), length-part 0 2 xs (omega (arith, s .pre .0)), length-part precedenceAt 4 xs (omega (arith, s .pre .0))),
     )
 
 write-head-requires : tie.Need-write-head-requires
