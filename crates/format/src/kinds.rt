@@ -6,3 +6,8 @@ pub const MODIFICATION: u64 = 52;
 pub const DELETION: u64 = 54;
 
 pub const SET_DELETION: u64 = 14;
+
+// As the header's octet, for those that write it.
+pub const ESTABLISHMENT_OCTET: u8 = ESTABLISHMENT as u8;
+
+pub const SET_DELETION_OCTET: u8 = SET_DELETION as u8;

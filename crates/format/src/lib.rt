@@ -124,6 +124,7 @@ pub const MIDDLE: usize = 14 + 9 * 120;
 pub const PLAN: usize = 226 * ROW;
 
 pub mod causes;
+pub mod header;
 pub mod kinds;
 pub mod types;
 pub mod words;

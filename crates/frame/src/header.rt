@@ -1,4 +1,5 @@
 // The header of a message: host outcomes 3, 4 and 5, the type and the header's SEID.
+use format::header;
 use format::kinds;
 ghost use mathlib.Core.Path.{_≡_};
 ghost use Rattle.octets.specs.Choice.{pick};
@@ -24,9 +25,9 @@ pub(crate) fn length_of(x: u8) -> usize
     ensures { λ r. ⌜ r ≡ pick (bit 0 x) bodyPlace listPlace ⌝ }
 {
     if x % 2 == 1 {
-        return 16;
+        return header::BODY;
     }
-    8
+    header::LIST_BODY
 }
 
 // Whether the first octet of a message of a kind has version 1, FO 0 and its S. Other bits are ignored.
@@ -49,17 +50,17 @@ fn first_octet(kind: u64, x: u8) -> bool
 fn allowed(msg: &[u8]) -> bool
     ensures { λ r. ⌜ r ≡ headerAllowed (now (msg .entry)) ⌝ }
 {
-    if msg.len() < 8 {
+    if msg.len() < header::LIST_BODY {
         return false;
     }
     if msg.len() < length_of(msg[0]) {
         return false;
     }
-    let kind = octets::read(msg, 1, 1);
+    let kind = octets::read(msg, header::KIND, 1);
     if !first_octet(kind, msg[0]) {
         return false;
     }
-    4 + octets::read(msg, 2, 2) == msg.len() as u64
+    header::COUNTED as u64 + octets::read(msg, header::LENGTH, 2) == msg.len() as u64
 }
 
 fn is_served(kind: u64) -> bool
@@ -81,12 +82,12 @@ pub fn read_header(msg: &[u8]) -> Header
     if !allowed(msg) {
         return Header::Malformed;
     }
-    let kind = octets::read(msg, 1, 1);
+    let kind = octets::read(msg, header::KIND, 1);
     if !is_served(kind) {
         return Header::NotServed;
     }
     if kind == kinds::SET_DELETION {
         return Header::Sets;
     }
-    Header::Request(kind, octets::read(msg, 4, 8))
+    Header::Request(kind, octets::read(msg, header::SEID, 8))
 }

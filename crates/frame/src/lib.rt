@@ -87,14 +87,21 @@ fn first_fault(s: &[u8], message: u64, group: u64, place: usize, base: usize, de
 pub fn frame_fault(msg: &[u8]) -> Framing
     ensures { λ r. ⌜ faultIn r ≡ frameFault (now (msg .entry)) ⌝ }
 {
-    if msg.len() < 8 {
+    if msg.len() < format::header::LIST_BODY {
         return Framing::Framed;
     }
     let at = header::length_of(msg[0]);
     if msg.len() < at {
         return Framing::Framed;
     }
-    first_fault(&msg[at..], octets::read(msg, 1, 1), 0, 0, at, 3)
+    first_fault(
+        &msg[at..],
+        octets::read(msg, format::header::KIND, 1),
+        0,
+        0,
+        at,
+        3,
+    )
 }
 
 // What stands at the front of some octets.

@@ -18,6 +18,8 @@ ghost use Rattle.reply.specs.Parts.{WithSeid, Listing, replyHead, bodyFr
 ghost use Rattle.reply.specs.Naming.{offendingIn, refusal};
 ghost use Rattle.created.specs.Groups.{idFits};
 ghost use Rattle.created.specs.Entries.{maxGrants, toldsAt, reportsAt, within};
+use format::header;
+use format::kinds;
 use unit::Settings;
 
 // The element at fault, by its type, where the refusal names one.
@@ -31,7 +33,7 @@ fn reply_seid(msg: &[u8], cause: u8, seid: u64) -> u64
     requires { ⌜ 16 ≤ length (now msg) ⌝ }
     ensures { λ r. ⌜ r ≡ replySeid (kindOf (now (msg .entry))) cause (headerSeid (now (msg .entry))) seid ⌝ }
 {
-    if msg[1] == writing::ESTABLISHMENT {
+    if msg[header::KIND] == kinds::ESTABLISHMENT_OCTET {
         if cause == 1 {
             return seid;
         }
@@ -40,7 +42,7 @@ fn reply_seid(msg: &[u8], cause: u8, seid: u64) -> u64
     if cause == 65 {
         return 0;
     }
-    octets::read(msg, 4, 8)
+    octets::read(msg, header::SEID, 8)
 }
 
 // What every reply has after its header, from a place on: the Node ID in those that have it, and the cause.
@@ -69,7 +71,13 @@ fn finish(msg: &[u8], cause: u8, seid: u64, end: usize, out: &mut [u8])
     ensures { λ _. ⌜ now (out .exit) ≡ put 0 (replyHead (now (msg .entry)) seid cause (end - 16)) (now (out .entry)) ⌝ }
 {
     let s = reply_seid(msg, cause, seid);
-    writing::write_header(msg[1] + 1, s, &msg[12..15], end - 16, out);
+    writing::write_header(
+        msg[header::KIND] + 1,
+        s,
+        &msg[header::SEQUENCE..header::SPARE],
+        end - header::BODY,
+        out,
+    );
 }
 
 // The whole reply of a refusal, at the front of out; the answer is its length.
@@ -77,7 +85,7 @@ pub fn refused(u: Settings, msg: &[u8], cause: u8, offending: Offending, out: &m
     requires { ⌜ WithSeid (now msg) × (kindOf (now msg) < 255) × (cause ≡ why.accepted → ⊥) × (minSpace ≤ length (now out)) ⌝ }
     ensures { λ r. ⌜ (r, now (out .exit)) ≡ written (reply (settingsOf u) (now (msg .entry)) 0 (refusal cause offending) noReports) (now (out .entry)) ⌝ }
 {
-    let next = write_front(u, msg[1], cause, out, 16);
+    let next = write_front(u, msg[header::KIND], cause, out, header::BODY);
     let end = write_offending(offending, out, next);
     finish(msg, cause, 0, end, out);
     end
@@ -96,8 +104,8 @@ pub fn accepted(
     requires { ⌜ WithSeid (now msg) × (kindOf (now msg) < 255) × (length (now places) ≤ maxGrants) × T (within (now plan) (now places)) × (all idFits (toldsAt (now plan) (now places)) ≡ true) × (minSpace ≤ length (now out)) ⌝ }
     ensures { λ r. ⌜ (r, now (out .exit)) ≡ written (reply (settingsOf u) (now (msg .entry)) seid (plain why.accepted) (reportsAt (now (plan .entry)) (now (places .entry)))) (now (out .entry)) ⌝ }
 {
-    let next = write_front(u, msg[1], 1, out, 16);
-    let own = writing::write_own_fseid(u, msg[1], seid, out, next);
+    let next = write_front(u, msg[header::KIND], 1, out, header::BODY);
+    let own = writing::write_own_fseid(u, msg[header::KIND], seid, out, next);
     let end = created::write_created(u, plan, places, out, own);
     finish(msg, 1, seid, end, out);
     end
@@ -108,8 +116,13 @@ pub fn listed(u: Settings, msg: &[u8], cause: u8, offending: Offending, out: &mu
     requires { ⌜ Listing (now msg) × (minSpace ≤ length (now out)) ⌝ }
     ensures { λ r. ⌜ (r, now (out .exit)) ≡ written (reply (settingsOf u) (now (msg .entry)) 0 (refusal cause offending) noReports) (now (out .entry)) ⌝ }
 {
-    let next = write_front(u, writing::SET_DELETION, cause, out, 8);
+    let next = write_front(u, kinds::SET_DELETION_OCTET, cause, out, header::LIST_BODY);
     let end = write_offending(offending, out, next);
-    writing::write_list_header(writing::SET_DELETION + 1, &msg[4..7], end - 8, out);
+    writing::write_list_header(
+        kinds::SET_DELETION_OCTET + 1,
+        &msg[header::LIST_SEQUENCE..header::LIST_SPARE],
+        end - header::LIST_BODY,
+        out,
+    );
     end
 }

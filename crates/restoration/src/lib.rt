@@ -19,6 +19,8 @@ ghost use Rattle.writing.specs.Placed.{Placed};
 ghost use Rattle.restoration.specs.Records.{recordWidth, recordElement, recordFits, CsidOf, SlotFits, content};
 ghost use Rattle.restoration.specs.Answers.{writingOf, Ready};
 use element::fqcsid::FqCsid;
+use format::header;
+use format::kinds;
 use format::types;
 use unit::Settings;
 
@@ -239,7 +241,7 @@ fn write_elements(u: Settings, slot: &[u8], ipv4: &[u8], ipv6: &[u8], out: &mut 
 {
     let seid = octets::read(slot, 0, 8);
     let flags = [1u8; 1];
-    let own = writing::write_fseid(seid, ipv4, ipv6, out, 16);
+    let own = writing::write_fseid(seid, ipv4, ipv6, out, header::BODY);
     let next = writing::write_value(types::SESSION_FLAGS, &flags, out, own);
     write_records(u, slot, out, next)
 }
@@ -254,7 +256,13 @@ fn write_request(t: &[u8], place: usize, ipv4: &[u8], ipv6: &[u8], out: &mut [u8
     let end = write_elements(u, &t[at..at + format::SLOT], ipv4, ipv6, out);
     let mut sequence = [0u8; 3];
     octets::write(&mut sequence, 0, 3, place as u64 + 1);
-    writing::write_header(writing::ESTABLISHMENT, 0, &sequence, end - 16, out);
+    writing::write_header(
+        kinds::ESTABLISHMENT_OCTET,
+        0,
+        &sequence,
+        end - header::BODY,
+        out,
+    );
     end
 }
 

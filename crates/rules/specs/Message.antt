@@ -38,12 +38,23 @@ kindOf msg = octetAt msg 1
 unfoldable pub seidThere : List ℕ → Bool
 seidThere msg = bit 0 (octetAt msg 0)
 
--- octets of a header with a SEID, and of one without
+-- the first octet that the unit writes: version 1, and S where there is a SEID
+abbrev pub firstWithSeid : ℕ
+firstWithSeid = 33
+
+abbrev pub firstWithoutSeid : ℕ
+firstWithoutSeid = 32
+
+-- what the header's length counts begins after that length: with the SEID, or with the sequence number
+abbrev pub countedPlace : ℕ
+countedPlace = 4
+
+-- octets of a header with a SEID, and of one without; its last four are the sequence number and a spare octet
 abbrev pub bodyPlace : ℕ
-bodyPlace = 16
+bodyPlace = countedPlace + 8 + 4
 
 abbrev pub listPlace : ℕ
-listPlace = 8
+listPlace = countedPlace + 4
 
 unfoldable pub headerLength : List ℕ → ℕ
 headerLength msg = pick (seidThere msg) bodyPlace listPlace
@@ -54,11 +65,11 @@ firstOctetAllowed kind x = eqb (x / 32) 1 && not (bit 2 x) && sameBool (bit 0 x)
 
 -- what outcome 4 asks: the whole header, its first octet, and the exact length
 unfoldable pub headerAllowed : List ℕ → Bool
-headerAllowed msg = leb (headerLength msg) (length msg) && firstOctetAllowed (kindOf msg) (octetAt msg 0) && eqb (4 + numberAt 2 2 msg) (length msg)
+headerAllowed msg = leb (headerLength msg) (length msg) && firstOctetAllowed (kindOf msg) (octetAt msg 0) && eqb (countedPlace + numberAt 2 2 msg) (length msg)
 
 -- the SEID of a header that has one
 unfoldable pub headerSeid : List ℕ → ℕ
-headerSeid msg = numberAt 4 8 msg
+headerSeid msg = numberAt countedPlace 8 msg
 
 -- the sequence number's three octets, before the header's last
 unfoldable pub sequenceOf : List ℕ → List ℕ

@@ -1,6 +1,6 @@
 -- Writing messages: elements, headers, and the reply (01, "Reply"; 02 (vii)).
 -- Assumes nothing.
-use Prim.Native.Nat.{ℕ, _+_}
+use Prim.Native.Nat.{ℕ, _+_, _-_}
 use mathlib.Core.Option.{Option, none, some}
 use mathlib.Core.Bool.{Bool, _||_}
 use mathlib.Core.List.{List, [], _∷_, _++_, map}
@@ -11,7 +11,7 @@ use Rattle.octets.specs.Octets.{be, concatMap}
 use Rattle.octets.specs.Lists.{keep}
 use Rattle.rules.specs.Model.{Settings, Tunnel}
 use Rattle.rules.specs.Elements.{Fteid, given, choose, fteidOctets, unitFteid, UeIp, ueGiven, ueOctets, ueChooses, fseidOctets}
-use Rattle.rules.specs.Message.{establishment, setDeletion, kindOf, seidThere, headerSeid, sequenceOf}
+use Rattle.rules.specs.Message.{establishment, setDeletion, firstWithSeid, firstWithoutSeid, countedPlace, bodyPlace, listPlace, kindOf, seidThere, headerSeid, sequenceOf}
 use Rattle.rules.specs.Request.{NewPdr, NewEndpoint, Request}
 use Rattle.rules.specs.Grants.{Kind, ofPdr, ofEndpoint, Got}
 use Rattle.rules.specs.Stages.{Verdict}
@@ -24,11 +24,11 @@ element t xs = be 2 t ++ (be 2 (length xs) ++ xs)
 
 -- version 1 with S; kind, length, SEID, sequence number (three octets), a spare octet, then the elements
 unfoldable pub message : ℕ → ℕ → List ℕ → List ℕ → List ℕ
-message kind seid sequence xs = 33 ∷ kind ∷ be 2 (12 + length xs) ++ (be 8 seid ++ (sequence ++ 0 ∷ xs))
+message kind seid sequence xs = firstWithSeid ∷ kind ∷ be 2 (bodyPlace - countedPlace + length xs) ++ (be 8 seid ++ (sequence ++ 0 ∷ xs))
 
 -- the same without S and SEID
 unfoldable pub listMessage : ℕ → List ℕ → List ℕ → List ℕ
-listMessage kind sequence xs = 32 ∷ kind ∷ be 2 (4 + length xs) ++ (sequence ++ 0 ∷ xs)
+listMessage kind sequence xs = firstWithoutSeid ∷ kind ∷ be 2 (listPlace - countedPlace + length xs) ++ (sequence ++ 0 ∷ xs)
 
 -- an F-TEID element with the unit's addresses
 unfoldable pub unitElement : Settings → Tunnel → List ℕ

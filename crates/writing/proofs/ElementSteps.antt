@@ -19,7 +19,7 @@ use Rattle.rules.specs.Model.{Settings}
 use Rattle.rules.specs.Elements.{given, fteidOctets, unitFteid, ueGiven, ueOctets, fseidOctets}
 use Rattle.rules.specs.Reply.{element, message, nodeIdElement, offendingElement, unitFseid, unitElement, addressPart, listMessage}
 use Rattle.rules.specs.Types as ie
-use Rattle.rules.specs.Message.{establishment, setDeletion}
+use Rattle.rules.specs.Message.{establishment, setDeletion, firstWithSeid, firstWithoutSeid, countedPlace, bodyPlace, listPlace}
 use Rattle.element.specs.FTeid.{fteidWidths}
 use Rattle.element.proofs.FTeidLaws.{six, octets-given}
 use Rattle.element.proofs.UeIpLaws.{length-given}
@@ -206,15 +206,15 @@ module _ (flags kind n : ℕ) (out : List ℕ) {out₁ : List ℕ} (room : 8 ≤
   front-steps =
       next-put 0 2 (flags ∷ kind ∷ []) (be 2 n) out (next-set 0 1 (flags ∷ []) kind out (set-put 0 flags out (omega arith)) refl (omega arith)) p refl (omega arith)
 
-pub header-steps : (kind seid n : ℕ) (q out : List ℕ) {out₁ out₂ out₃ : List ℕ} → length q ≡ 3 → 16 ≤ length out
-    → out₁ ≡ put 2 (be 2 (12 + n)) (set (set out 0 33) 1 kind) → out₂ ≡ put 4 (be 8 seid) out₁ → out₃ ≡ put 12 q out₂
+pub header-steps : (kind seid n : ℕ) (q out : List ℕ) {out₁ out₂ out₃ : List ℕ} → length q ≡ 3 → bodyPlace ≤ length out
+    → out₁ ≡ put 2 (be 2 (bodyPlace - countedPlace + n)) (set (set out 0 firstWithSeid) 1 kind) → out₂ ≡ put countedPlace (be 8 seid) out₁ → out₃ ≡ put 12 q out₂
     → set out₃ 15 0 ≡ put 0 (messageHead kind seid q n) out
 unfolding messageHead
 header-steps kind seid n q out three room p r w =
-    let a : List ℕ = 33 ∷ kind ∷ be 2 (12 + n) in
-    let l : length a ≡ 4 = four 33 kind (12 + n) out (omega arith) p in
+    let a : List ℕ = firstWithSeid ∷ kind ∷ be 2 (bodyPlace - countedPlace + n) in
+    let l : length a ≡ 4 = four firstWithSeid kind (bodyPlace - countedPlace + n) out (omega arith) p in
     let eight = length-be 8 seid in
-    let first = next-put 0 4 a (be 8 seid) out (front-steps 33 kind (12 + n) out (omega arith) p) r (omega arith) (omega arith) in
+    let first = next-put 0 4 a (be 8 seid) out (front-steps firstWithSeid kind (bodyPlace - countedPlace + n) out (omega arith) p) r (omega arith) (omega arith) in
     let m : length (a ++ be 8 seid) ≡ 12 = length-append a (be 8 seid) ∙ omega arith in
     let second = next-put 0 12 (a ++ be 8 seid) q out first w (omega arith) (omega arith) in
     let k : length ((a ++ be 8 seid) ++ q) ≡ 15 = length-append (a ++ be 8 seid) q ∙ omega arith in
@@ -225,20 +225,20 @@ pub message-headed : (kind seid : ℕ) (q xs : List ℕ) → message kind seid q
 unfolding message messageHead
 message-headed kind seid q xs = simp append-assoc
 
-pub length-head : (kind seid : ℕ) (q : List ℕ) (n : ℕ) → length q ≡ 3 → length (messageHead kind seid q n) ≡ 16
+pub length-head : (kind seid : ℕ) (q : List ℕ) (n : ℕ) → length q ≡ 3 → length (messageHead kind seid q n) ≡ bodyPlace
 unfolding messageHead
 length-head kind seid q n e =
-    omega (arith, length-append (be 2 (12 + n)) (be 8 seid ++ (q ++ 0 ∷ [])), length-append (be 8 seid) (q ++ 0 ∷ []), length-append q (0 ∷ []), length-be 2 (12 + n), length-be 8 seid)
+    omega (arith, length-append (be 2 (bodyPlace - countedPlace + n)) (be 8 seid ++ (q ++ 0 ∷ [])), length-append (be 8 seid) (q ++ 0 ∷ []), length-append q (0 ∷ []), length-be 2 (bodyPlace - countedPlace + n), length-be 8 seid)
 
 -- elements from octet 16 on with the header before them are the message
-pub placed-message : (kind seid : ℕ) (q xs out : List ℕ) {out₁ out₂ : List ℕ} {end : ℕ} → length q ≡ 3 → 16 + length xs ≤ length out
-    → Placed out 16 xs end out₁ → out₂ ≡ put 0 (messageHead kind seid q (end - 16)) out₁ → Placed out 0 (message kind seid q xs) end out₂
+pub placed-message : (kind seid : ℕ) (q xs out : List ℕ) {out₁ out₂ : List ℕ} {end : ℕ} → length q ≡ 3 → bodyPlace + length xs ≤ length out
+    → Placed out bodyPlace xs end out₁ → out₂ ≡ put 0 (messageHead kind seid q (end - bodyPlace)) out₁ → Placed out 0 (message kind seid q xs) end out₂
 placed-message kind seid q xs out {out₁} {out₂} {end} three room p r =
     let ends = p .ends in
-    let n : end - 16 ≡ length xs = omega arith in
+    let n : end - bodyPlace ≡ length xs = omega arith in
     let head : List ℕ = messageHead kind seid q (length xs) in
-    let l : length head ≡ 16 = length-head kind seid q (length xs) three in
-    let place : 16 ≡ 0 + length head = omega arith in
+    let l : length head ≡ bodyPlace = length-head kind seid q (length xs) three in
+    let place : bodyPlace ≡ 0 + length head = omega arith in
     rw (message-headed kind seid q xs)
     (record {
       ends = let k = length-append head xs in omega arith;
@@ -249,14 +249,14 @@ placed-message kind seid q xs out {out₁} {out₂} {end} three room p r =
 
 -- ---- the same without a SEID
 
-pub list-steps : (kind n : ℕ) (q out : List ℕ) {out₁ out₂ : List ℕ} → length q ≡ 3 → 8 ≤ length out
-    → out₁ ≡ put 2 (be 2 (4 + n)) (set (set out 0 32) 1 kind) → out₂ ≡ put 4 q out₁
+pub list-steps : (kind n : ℕ) (q out : List ℕ) {out₁ out₂ : List ℕ} → length q ≡ 3 → listPlace ≤ length out
+    → out₁ ≡ put 2 (be 2 (listPlace - countedPlace + n)) (set (set out 0 firstWithoutSeid) 1 kind) → out₂ ≡ put countedPlace q out₁
     → set out₂ 7 0 ≡ put 0 (listHead kind q n) out
 unfolding listHead
 list-steps kind n q out three room p r =
-    let a : List ℕ = 32 ∷ kind ∷ be 2 (4 + n) in
-    let l : length a ≡ 4 = four 32 kind (4 + n) out room p in
-    let first = next-put 0 4 a q out (front-steps 32 kind (4 + n) out room p) r (omega arith) (omega arith) in
+    let a : List ℕ = firstWithoutSeid ∷ kind ∷ be 2 (listPlace - countedPlace + n) in
+    let l : length a ≡ 4 = four firstWithoutSeid kind (listPlace - countedPlace + n) out room p in
+    let first = next-put 0 4 a q out (front-steps firstWithoutSeid kind (listPlace - countedPlace + n) out room p) r (omega arith) (omega arith) in
     let m : length (a ++ q) ≡ 7 = length-append a q ∙ omega arith in
     next-set 0 7 (a ++ q) 0 out first (omega arith) (omega arith) ∙ ap (λ (xs : List ℕ). put 0 xs out) (simp append-assoc)
 
@@ -264,19 +264,19 @@ list-headed : (kind : ℕ) (q xs : List ℕ) → listMessage kind q xs ≡ listH
 unfolding listMessage listHead
 list-headed kind q xs = simp append-assoc
 
-length-list-head : (kind : ℕ) (q : List ℕ) (n : ℕ) → length q ≡ 3 → length (listHead kind q n) ≡ 8
+length-list-head : (kind : ℕ) (q : List ℕ) (n : ℕ) → length q ≡ 3 → length (listHead kind q n) ≡ listPlace
 unfolding listHead
-length-list-head kind q n e = omega (arith, length-append (be 2 (4 + n)) (q ++ 0 ∷ []), length-append q (0 ∷ []), length-be 2 (4 + n))
+length-list-head kind q n e = omega (arith, length-append (be 2 (listPlace - countedPlace + n)) (q ++ 0 ∷ []), length-append q (0 ∷ []), length-be 2 (listPlace - countedPlace + n))
 
 -- elements from octet 8 on with the header before them are the message
-pub placed-list : (kind : ℕ) (q xs out : List ℕ) {out₁ out₂ : List ℕ} {end : ℕ} → length q ≡ 3 → 8 + length xs ≤ length out
-    → Placed out 8 xs end out₁ → out₂ ≡ put 0 (listHead kind q (end - 8)) out₁ → Placed out 0 (listMessage kind q xs) end out₂
+pub placed-list : (kind : ℕ) (q xs out : List ℕ) {out₁ out₂ : List ℕ} {end : ℕ} → length q ≡ 3 → listPlace + length xs ≤ length out
+    → Placed out listPlace xs end out₁ → out₂ ≡ put 0 (listHead kind q (end - listPlace)) out₁ → Placed out 0 (listMessage kind q xs) end out₂
 placed-list kind q xs out {out₁} {out₂} {end} three room p r =
     let ends = p .ends in
-    let n : end - 8 ≡ length xs = omega arith in
+    let n : end - listPlace ≡ length xs = omega arith in
     let head : List ℕ = listHead kind q (length xs) in
-    let l : length head ≡ 8 = length-list-head kind q (length xs) three in
-    let place : 8 ≡ 0 + length head = omega arith in
+    let l : length head ≡ listPlace = length-list-head kind q (length xs) three in
+    let place : listPlace ≡ 0 + length head = omega arith in
     rw (list-headed kind q xs)
     (record {
       ends = let k = length-append head xs in omega arith;

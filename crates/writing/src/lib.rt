@@ -6,7 +6,7 @@ ghost use mathlib.Core.List.{[], _∷_, _++_};
 ghost use mathlib.Core.Option.{some};
 ghost use mathlib.Core.Bool.{_||_};
 ghost use lib.Dec.{eqb};
-ghost use Rattle.rules.specs.Message.{establishment, setDeletion};
+ghost use Rattle.rules.specs.Message.{establishment, setDeletion, bodyPlace, listPlace};
 ghost use Rattle.octets.specs.Octets.{put, be};
 ghost use Rattle.rules.specs.Elements.{fseidOctets};
 ghost use Rattle.rules.specs.Reply.{element, nodeIdElement, offendingElement, unitFseid, unitElement, addressPart};
@@ -16,14 +16,10 @@ ghost use Rattle.writing.specs.Families.{unitFamilies, unitAddresses, tu
 ghost use Rattle.writing.specs.Placed.{Placed};
 ghost use Rattle.writing.specs.Heads.{messageHead, listHead};
 use element::fteid::FTeid;
+use format::header;
+use format::kinds;
 use format::types;
 use unit::Settings;
-
-// The type of a Session Establishment Request.
-pub const ESTABLISHMENT: u8 = 50;
-
-// The type of a Session Set Deletion Request.
-pub const SET_DELETION: u8 = 14;
 
 // Type and length.
 pub fn write_head(kind: u64, n: usize, out: &mut [u8], at: usize)
@@ -58,10 +54,10 @@ pub fn write_number(kind: u64, n: usize, value: u64, out: &mut [u8], at: usize) 
 fn has_node_id(kind: u8) -> bool
     ensures { λ r. ⌜ r ≡ (eqb kind establishment || eqb kind setDeletion) ⌝ }
 {
-    if kind == ESTABLISHMENT {
+    if kind == kinds::ESTABLISHMENT_OCTET {
         return true;
     }
-    kind == SET_DELETION
+    kind == kinds::SET_DELETION_OCTET
 }
 
 // Node ID, in the replies to establishments and set deletions only.
@@ -109,7 +105,7 @@ pub fn write_own_fseid(u: Settings, kind: u8, seid: u64, out: &mut [u8], at: usi
     requires { ⌜ at + 17 ≤ length (now out) ⌝ }
     ensures { λ r. ⌜ Placed (now (out .entry)) at (unitFseid kind (settingsOf u) seid) r (now (out .exit)) ⌝ }
 {
-    if kind != ESTABLISHMENT {
+    if kind != kinds::ESTABLISHMENT_OCTET {
         return at;
     }
     let mut ipv4 = [0u8; 4];
@@ -158,27 +154,27 @@ pub fn write_ue_address(address: u64, out: &mut [u8], at: usize) -> usize
 
 // A message's header, for elements of n octets: type, SEID and sequence number.
 pub fn write_header(kind: u8, seid: u64, sequence: &[u8], n: usize, out: &mut [u8])
-    requires { ⌜ (length (now sequence) ≡ 3) × (n ≤ 2032) × (16 ≤ length (now out)) ⌝ }
+    requires { ⌜ (length (now sequence) ≡ 3) × (n ≤ 2032) × (bodyPlace ≤ length (now out)) ⌝ }
     ensures { λ _. ⌜ now (out .exit) ≡ put 0 (messageHead kind seid (now (sequence .entry)) n) (now (out .entry)) ⌝ }
 {
-    let total = 12 + n;
-    out[0] = 33;
-    out[1] = kind;
-    octets::write(out, 2, 2, total as u64);
-    octets::write(out, 4, 8, seid);
-    octets::copy(out, 12, sequence);
-    out[15] = 0;
+    let total = header::BODY - header::COUNTED + n;
+    out[0] = header::WITH_SEID;
+    out[header::KIND] = kind;
+    octets::write(out, header::LENGTH, 2, total as u64);
+    octets::write(out, header::SEID, 8, seid);
+    octets::copy(out, header::SEQUENCE, sequence);
+    out[header::SPARE] = 0;
 }
 
 // The header of a message without a SEID.
 pub fn write_list_header(kind: u8, sequence: &[u8], n: usize, out: &mut [u8])
-    requires { ⌜ (length (now sequence) ≡ 3) × (n ≤ 2032) × (8 ≤ length (now out)) ⌝ }
+    requires { ⌜ (length (now sequence) ≡ 3) × (n ≤ 2032) × (listPlace ≤ length (now out)) ⌝ }
     ensures { λ _. ⌜ now (out .exit) ≡ put 0 (listHead kind (now (sequence .entry)) n) (now (out .entry)) ⌝ }
 {
-    let total = 4 + n;
-    out[0] = 32;
-    out[1] = kind;
-    octets::write(out, 2, 2, total as u64);
-    octets::copy(out, 4, sequence);
-    out[7] = 0;
+    let total = header::LIST_BODY - header::COUNTED + n;
+    out[0] = header::WITHOUT_SEID;
+    out[header::KIND] = kind;
+    octets::write(out, header::LENGTH, 2, total as u64);
+    octets::copy(out, header::LIST_SEQUENCE, sequence);
+    out[header::LIST_SPARE] = 0;
 }

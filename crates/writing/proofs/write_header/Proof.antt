@@ -35,6 +35,7 @@ write-header-spec =
     (tie.spec
     (λ c. search needs)
     (λ c. search needs)
+    (λ c. search needs)
     slice-write-out-2
     write-requires
     write-requires-2

@@ -32,6 +32,7 @@ write-list-header-spec =
     (tie.spec
     (λ c. search needs)
     (λ c. search needs)
+    (λ c. search needs)
     slice-write-out-2
     write-requires
     copy-requires
