@@ -25,8 +25,8 @@ use Rattle.laws.proofs.TableLaws.{sound-encode, encoded-settings, sessions-back
 use Rattle.rules.specs.Message.{headerSeid, headerAllowed, served, frameFault, establishment, modification, deletion, setDeletion}
 use Rattle.rules.specs.Request.{Request}
 use Rattle.rules.specs.Grants.{Kind, Got, granted}
-use Rattle.rules.specs.Stages.{newSession, atEntry, isLive, plain, judge, entrySession, judged, fromReading, fromFraming, unknownSession, verdict, unnamed}
-use Rattle.rules.specs.Apply.{tunnelFrom, namedMatch, matchFrom, addressGot, addressFrom, createPdr, createEndpoint, updateAll, otherNode, setCsid, setCsids, followCsids, pdrsAfter, endpointsAfter, apply, putSession, follow}
+use Rattle.rules.specs.Stages.{newSession, atEntry, isLive, plain, judge, entrySession, judged, fromReading, verdictFrom, unknownSession, verdict, unnamed}
+use Rattle.rules.specs.Apply.{tunnelFrom, namedMatch, matchFrom, addressGot, addressFrom, madePdr, madeEndpoint, updateAll, otherNode, setCsid, setCsids, followCsids, pdrsAfter, endpointsAfter, apply, putSession, follow}
 use Rattle.rules.specs.Serve.{unserved, sessionsAfter, replyTo, answered, answer, serveSound, serve}
 use Rattle.rules.specs.Restoration.{Sender, senderAllowed, restoration, restoredPdr, restoredEndpoint, restoredRequest, recordCsid}
 use Rattle.rules.specs.Causes as why
@@ -104,16 +104,16 @@ module _ (s : Settings) (hs : T (settingsAllowed s)) where
   address-again n none = refl
   address-again n (some a) = refl
 
-  pdrs-again : (got : Kind → ℕ → Got) (live : List ℕ) (ps : List Pdr) → T (all (pdrAllowed s live) ps) → map (createPdr got) (map (restoredPdr s) ps) ≡ ps
-  unfolding createPdr restoredPdr pdrAllowed pdrTests
+  pdrs-again : (got : Kind → ℕ → Got) (live : List ℕ) (ps : List Pdr) → T (all (pdrAllowed s live) ps) → map (madePdr got) (map (restoredPdr s) ps) ≡ ps
+  unfolding madePdr restoredPdr pdrAllowed pdrTests
   pdrs-again got live [] h = refl
   pdrs-again got live (p ∷ ps) h =
       let e = each (pdrTests s live p) (all-head (pdrAllowed s live) p ps h) in
       λ i. record { id = p .id; precedence = p .precedence; far = p .far; source = p .source; match = match-again (got Kind.ofPdr (p .id) .teid) live (p .match) (e .1 .1 .1 .1 .0) i; address = address-again (got Kind.ofPdr (p .id) .address) (p .address) i }
       ∷ pdrs-again got live ps (all-tail (pdrAllowed s live) p ps h) i
 
-  endpoints-again : (got : Kind → ℕ → Got) (es : List Endpoint) → T (all (endpointAllowed s) es) → map (createEndpoint got) (map (restoredEndpoint s) es) ≡ es
-  unfolding createEndpoint restoredEndpoint endpointAllowed endpointTests
+  endpoints-again : (got : Kind → ℕ → Got) (es : List Endpoint) → T (all (endpointAllowed s) es) → map (madeEndpoint got) (map (restoredEndpoint s) es) ≡ es
+  unfolding madeEndpoint restoredEndpoint endpointAllowed endpointTests
   endpoints-again got [] h = refl
   endpoints-again got (e ∷ es) h =
       λ i. record { id = e .id; local = tunnel-again (got Kind.ofEndpoint (e .id) .teid) (e .local) (each (endpointTests s e) (all-head (endpointAllowed s) e es h) .1 .0) i; address = address-again (got Kind.ofEndpoint (e .id) .address) (e .address) i }
@@ -153,10 +153,10 @@ module _ (s : Settings) (hs : T (settingsAllowed s)) where
       msg = restoration s p x
 
       msg-verdict : verdict s m msg ≡ plain why.accepted
-      unfolding verdict unknownSession unnamed fromFraming fromReading judged entrySession
+      unfolding verdict unknownSession unnamed verdictFrom fromReading judged entrySession
       msg-verdict =
-          ap (λ (k : ℕ). pick (not (unnamed k) && not (isLive (headerSeid msg) m)) (plain why.noSession) (fromFraming s m msg (frameFault msg))) (msg-kind s hs p hp x hx)
-          ∙ ap (fromFraming s m msg) (msg-framed s hs p hp x hx)
+          ap (λ (k : ℕ). pick (not (unnamed k) && not (isLive (headerSeid msg) m)) (plain why.noSession) (verdictFrom s m msg (frameFault msg))) (msg-kind s hs p hp x hx)
+          ∙ ap (verdictFrom s m msg) (msg-framed s hs p hp x hx)
           ∙ ap (fromReading s m msg) (msg-sound s hs p hp x hx)
           ∙ ap₂ (λ (k : ℕ) (r : Request). judge k s m (atEntry k (headerSeid msg) r m) r) (msg-kind s hs p hp x hx) (msg-request s hs p hp x hx)
           ∙ at-new

@@ -16,13 +16,13 @@ use Rattle.octets.proofs.Tests.{each, both, and-right, all-head, all-tail, is-t
 use Rattle.octets.proofs.Numbers.{same-refl}
 use Rattle.octets.proofs.ListLaws.{map-append, collect-map, map-collect}
 use Rattle.rules.specs.Model.{Settings, Tunnel, Match, neither, tunnel, endpoint, Pdr, Endpoint, Session, Sessions, Holding, endpointId, pdrId, matchedTunnel, matchedEndpoint, tunnelHolding, pdrHolding, endpointHolding, sessionHoldings, teidOf, sessionTeids, heldTeids, freeCount, endpointAddress, pdrAddress, inAddressPool, sessionAddresses, heldAddresses, freeAddresses}
-use Rattle.rules.specs.Elements.{Fteid, unitFteid, hasV6, chooses, chooseId, UeIp, ueGiven, ueAddress, ueChooses}
+use Rattle.rules.specs.Elements.{Fteid, unitFteid, hasV6, chooses, chooseIdOf, UeIp, ueGiven, ueAddressOf, ueChooses}
 use Rattle.rules.specs.Sound.{settingsAllowed, inPool, unitFamilies, tunnelTests, tunnelAllowed, matchAllowed, pdrTests, pdrAllowed, endpointTests, endpointAllowed, sessionTests, sessionAllowed, agree}
 use Rattle.laws.proofs.LayoutLaws.{pdrsOk, endpointsOk, fewPdrs, fewEndpoints, tests}
 use Rattle.laws.proofs.TableLaws.{ipv4-four}
 use Rattle.rules.specs.Request.{Request}
 use Rattle.rules.specs.Grants.{Kind, choiceOf, endpointChoice, pdrChoice, choices, needFrom, need}
-use Rattle.rules.specs.Stages.{newSession, isLive, newPdrId, newEndpointId, namedEndpoint, pdrLocal, endpointLocal, createdPdrs, createdEndpoints, updatedPdrs, livePdrs, liveEndpoints, fteidsOf, wrongAllocation, invalidAllocation, idTwice, createdLive, absentId, updatesRemoved, namesBoth, endpointIdsAfter, namesAbsent, removedPdrs, sameChoice, fteidsMayShare, localsMayShare, choicesAgree, lacksFamily, otherAddress, strange, restoredHolding, endpointRestored, pdrRestored, restoredHoldings, clash, newPdrAddress, newEndpointAddress, addressesOf, wrongAddress, restoredAddresses, addressClash, requestRules, brokenRules, breaksRule, tooManySessions, tooManyPdrs, tooManyEndpoints, tooFewTeids, noRoom, noAddress, plain, judge}
+use Rattle.rules.specs.Stages.{newSession, isLive, newPdrId, newEndpointId, namedEndpoint, pdrLocal, endpointLocal, createdPdrs, createdEndpoints, updatedPdrs, livePdrs, liveEndpoints, fteidsOf, allocationWrong, invalidAllocation, idTwice, createdLive, absentId, updatesRemoved, namesBoth, endpointIdsAfter, namesAbsent, removedPdrs, sameChoice, fteidsMayShare, localsMayShare, choicesAgree, lacksFamily, otherAddress, strange, restoredHolding, endpointRestored, pdrRestored, restoredHoldings, clash, newPdrAddress, newEndpointAddress, addressesOf, wrongAddress, restoredAddresses, addressClash, requestRules, brokenRules, breaksRule, tooManySessions, tooManyPdrs, tooManyEndpoints, tooFewTeids, roomLacks, addressLacks, plain, judge}
 use Rattle.rules.specs.Restoration.{restoredPdr, restoredEndpoint, restoredRequest}
 use Rattle.rules.specs.Causes as why
 use Rattle.rules.specs.Message.{establishment}
@@ -92,8 +92,8 @@ module _ (s : Settings) (hs : T (settingsAllowed s)) where
   unit-strange t h =
       λ i. not (is-true (inPool s (t .teid)) (unit-in-pool t h) i) || own-address (t .v4) (s .ipv4) i || own-address (t .v6) (s .ipv6) i
 
-  unit-given : (t : Tunnel) → T (tunnelAllowed s t) → wrongAllocation true (unitFteid s t) ≡ false
-  unfolding wrongAllocation chooses unitFteid
+  unit-given : (t : Tunnel) → T (tunnelAllowed s t) → allocationWrong true (unitFteid s t) ≡ false
+  unfolding allocationWrong chooses unitFteid
   unit-given t h = refl
 
   -- a hold of the unit's F-TEID is the record's hold
@@ -164,7 +164,7 @@ module _ (s : Settings) (hs : T (settingsAllowed s)) where
 
   matches-agree : (k l : Match) (i j : ℕ)
       → localsMayShare (mapOption (unitFteid s) (matchedTunnel k)) i (mapOption (unitFteid s) (matchedTunnel l)) j ≡ true
-  unfolding localsMayShare matchedTunnel fteidsMayShare sameChoice chooseId unitFteid
+  unfolding localsMayShare matchedTunnel fteidsMayShare sameChoice chooseIdOf unitFteid
   matches-agree neither l i j = refl
   matches-agree (tunnel t) neither i j = refl
   matches-agree (tunnel t) (tunnel u) i j = refl
@@ -224,8 +224,8 @@ module _ (s : Settings) (hs : T (settingsAllowed s)) where
   any-given q f [] = refl
   any-given q f (a ∷ l) = ap₂ _||_ (f a) (any-given q f l)
 
-  collect-given : (l : List ℕ) → collect ueAddress (map ueGiven l) ≡ l
-  unfolding collect ueAddress
+  collect-given : (l : List ℕ) → collect ueAddressOf (map ueGiven l) ≡ l
+  unfolding collect ueAddressOf
   collect-given [] = refl
   collect-given (a ∷ l) = ap (λ (k : List ℕ). a ∷ k) (collect-given l)
 
@@ -298,7 +298,7 @@ module _ (s : Settings) (hs : T (settingsAllowed s)) where
 
     restored-addresses : restoredAddresses s request ≡ sessionAddresses s x
     unfolding restoredAddresses sessionAddresses own-addresses
-    restored-addresses = ap (λ (l : List UeIp). keep (inAddressPool s) (collect ueAddress l)) addresses ∙ ap (keep (inAddressPool s)) (collect-given own-addresses)
+    restored-addresses = ap (λ (l : List UeIp). keep (inAddressPool s) (collect ueAddressOf l)) addresses ∙ ap (keep (inAddressPool s)) (collect-given own-addresses)
 
     given-right : (a : ℕ) → wrongAddress s true (ueGiven a) ≡ false
     unfolding wrongAddress
@@ -342,8 +342,8 @@ module _ (s : Settings) (hs : T (settingsAllowed s)) where
           λ i. once i || (not-live i || (absent i || (false || (none-both (x .pdrs) i || (names i || (not (choices-agree (x .pdrs) i)
           || (no-fteid (lacksFamily s) unit-lacks i || (no-fteid (strange s) unit-strange i || (no-address (wrongAddress s true) given-right i || (no-clash i || (no-address-clash i || false)))))))))))
 
-      enough-room : noRoom establishment s m (newSession (x .seid)) request ≡ false
-      unfolding noRoom tooManySessions tooManyPdrs removedPdrs keep tooManyEndpoints tooFewTeids newSession request restoredRequest
+      enough-room : roomLacks establishment s m (newSession (x .seid)) request ≡ false
+      unfolding roomLacks tooManySessions tooManyPdrs removedPdrs keep tooManyEndpoints tooFewTeids newSession request restoredRequest
       enough-room =
           λ i. sessions-fit i || (pdrs-fit i || (endpoints-fit i || (teids-fit i || false)))
         where
@@ -364,7 +364,7 @@ module _ (s : Settings) (hs : T (settingsAllowed s)) where
 
       -- accepted
       pub restored-judged : judge establishment s m (newSession (x .seid)) (restoredRequest s x) ≡ plain why.accepted
-      unfolding judge request restoredRequest invalidAllocation noAddress
+      unfolding judge request restoredRequest invalidAllocation addressLacks
       restored-judged =
-          λ i. pick (fresh i) (plain why.rejected) (pick (no-fteid (wrongAllocation true) unit-given i) (plain why.wrongAllocation) (pick false (plain why.notSupported) (pick (rules-kept i) (plain why.brokenRule) (pick (enough-room i) (plain why.noRoom)
+          λ i. pick (fresh i) (plain why.rejected) (pick (no-fteid (allocationWrong true) unit-given i) (plain why.wrongAllocation) (pick false (plain why.notSupported) (pick (rules-kept i) (plain why.brokenRule) (pick (enough-room i) (plain why.noRoom)
           (pick (no-address ueChooses no-ue-choice i && isNil (freeAddresses s m)) (plain why.noAddress) (plain why.accepted))))))

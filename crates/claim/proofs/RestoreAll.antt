@@ -25,13 +25,13 @@ use Rattle.rules.specs.Stages.{plain}
 use Rattle.rules.specs.Apply.{putSession}
 use Rattle.rules.specs.Reply.{reports}
 use Rattle.rules.specs.Serve.{Served, replyTo, serve}
-use Rattle.rules.specs.Live.{accepted, replyCause}
+use Rattle.rules.specs.Live.{acceptedEvent, replyCause}
 use Rattle.rules.specs.Restoration.{Sender, senderAllowed, restoration, restoredPdr, restoredEndpoint, restoredRequest}
 use Rattle.laws.proofs.RestorationRead.{msg-allowed, msg-request}
 use Rattle.invariants.proofs.ReplyLength.{FewReports}
 use Rattle.invariants.proofs.GrantReply.{accepted-cause}
 use Rattle.claim.proofs.RestorationApply.{restored-call, insertAll-up, under-nil}
-use Rattle.rules.specs.Calls.{tableAfter, eventOf, tableAfterAll, eventsOf}
+use Rattle.rules.specs.Calls.{tableAfterCall, eventOf, tableAfterAll, eventsOf}
 use Rattle.rules.specs.Claim.{Restore, restored, restoreAllowed, restoreCall, restoreCalls}
 use Rattle.rules.specs.Causes as why
 use Rattle.laws.proofs.HeaderLaws.{header-long}
@@ -135,12 +135,12 @@ module _ (s : Settings) (hs : T (settingsAllowed s)) where
         (separate-addresses s x m (all-head (λ y. all (apart s y) m) x xs (ready .beside))) (r .sender) (okFacts .0)
         (ready .sound) (r .space) (leb→le minSpace (length (r .space)) (okFacts .1 .1 .0))
 
-    table-after : tableAfter (encode s m) (restoreCall s r) ≡ encode s (insertBy seidOf x m)
-    unfolding tableAfter restoreCall
+    table-after : tableAfterCall (encode s m) (restoreCall s r) ≡ encode s (insertBy seidOf x m)
+    unfolding tableAfterCall restoreCall
     table-after = ap (λ (v : Served). v .table) call ∙ ap (encode s) (put-fresh x m other)
 
-    is-accepted : T (accepted (eventOf (encode s m) (restoreCall s r)))
-    unfolding accepted eventOf restoreCall
+    is-accepted : T (acceptedEvent (eventOf (encode s m) (restoreCall s r)))
+    unfolding acceptedEvent eventOf restoreCall
     is-accepted = of-true (ap₂ (λ (o : ℕ) (l : List ℕ). eqb o 0 && eqb (replyCause l) 1) (ap (λ (v : Served). v .outcome) call) (ap (λ (v : Served). v .space) call) ∙ ap (λ (c : ℕ). eqb c 1) (restored-cause s hs x hx (r .sender) (okFacts .0) m (r .space)))
 
   run-table : (rs : List Restore) (m : Sessions) → T (all restoreAllowed rs) → Ready s m (map restored rs)
@@ -152,13 +152,13 @@ module _ (s : Settings) (hs : T (settingsAllowed s)) where
       ∙ run-table rs (insertBy seidOf (r .session) m) (all-tail restoreAllowed r rs ok) (ready-next s m (r .session) (map restored rs) ready)
 
   run-accepted : (rs : List Restore) (m : Sessions) → T (all restoreAllowed rs) → Ready s m (map restored rs)
-      → T (all accepted (eventsOf (encode s m) (restoreCalls s rs)))
+      → T (all acceptedEvent (eventsOf (encode s m) (restoreCalls s rs)))
   unfolding eventsOf restoreCalls all
   run-accepted [] m ok ready = tt
   run-accepted (r ∷ rs) m ok ready =
-      all-cons accepted (eventOf (encode s m) (restoreCall s r)) (eventsOf (tableAfter (encode s m) (restoreCall s r)) (restoreCalls s rs))
+      all-cons acceptedEvent (eventOf (encode s m) (restoreCall s r)) (eventsOf (tableAfterCall (encode s m) (restoreCall s r)) (restoreCalls s rs))
       (is-accepted m r (all-head restoreAllowed r rs ok) (map restored rs) ready)
-      (subst (λ (t : List ℕ). T (all accepted (eventsOf t (restoreCalls s rs)))) (sym (table-after m r (all-head restoreAllowed r rs ok) (map restored rs) ready))
+      (subst (λ (t : List ℕ). T (all acceptedEvent (eventsOf t (restoreCalls s rs)))) (sym (table-after m r (all-head restoreAllowed r rs ok) (map restored rs) ready))
       (run-accepted rs (insertBy seidOf (r .session) m) (all-tail restoreAllowed r rs ok) (ready-next s m (r .session) (map restored rs) ready)))
 
   -- ---- in any order
@@ -199,5 +199,5 @@ module _ (s : Settings) (hs : T (settingsAllowed s)) where
         ∙ ap (encode s) (sym (insertAll-perm seidOf order (ascending-other seidOf m up) []) ∙ insertAll-up seidOf m [] up (under-nil seidOf m))
 
     -- and every restoration is accepted
-    pub restored-accepted : T (all accepted (eventsOf (encode s []) (restoreCalls s rs)))
+    pub restored-accepted : T (all acceptedEvent (eventsOf (encode s []) (restoreCalls s rs)))
     restored-accepted = run-accepted rs [] ok ready

@@ -11,8 +11,8 @@ use Rattle.rules.specs.Model.{Settings, Sessions, freeCount, freeAddressCount}
 use Rattle.rules.specs.Layout.{encode, viewSettings, viewSessions}
 use Rattle.rules.specs.Sound.{settingsAllowed, sessionsAllowed, sound, make, free, broken, countFree, takenMap, countAddresses, addressMap}
 use Rattle.rules.specs.Serve.{Served}
-use Rattle.rules.specs.Live.{Event, replied, accepted, live, liveFrom}
-use Rattle.rules.specs.Calls.{Call, callAllowed, tableAfter, eventOf, tableAfterAll, eventsOf}
+use Rattle.rules.specs.Live.{Event, replied, acceptedEvent, live, liveFrom}
+use Rattle.rules.specs.Calls.{Call, callAllowed, tableAfterCall, eventOf, tableAfterAll, eventsOf}
 use Rattle.rules.specs.Claim.{Step, asked, told, toldAddresses, stepAllowed, Ran, lastTable, eventIn, liveSet, Restore, restored, restoreAllowed, restoreCalls, callIn, mapOf, addressMapOf, Holds, Restores, Demand3}
 use Rattle.laws.proofs.TableLaws.{sessions-back, encoded-settings, sound-encode}
 use Rattle.claim.proofs.RestoreAll.{restored-table, restored-accepted}
@@ -26,7 +26,7 @@ abbrev calls : List Step → List Call
 calls steps = map callIn steps
 
 run-table : (t : List ℕ) (steps : List Step) → Ran t steps → lastTable t steps ≡ tableAfterAll t (calls steps)
-unfolding lastTable callIn tableAfterAll tableAfter
+unfolding lastTable callIn tableAfterAll tableAfterCall
 run-table t [] h = refl
 run-table t (asked msg space r ∷ steps) h =
     run-table (r .table) steps (h .1) ∙ ap (λ (q : Served). tableAfterAll (q .table) (calls steps)) (h .0)
@@ -34,7 +34,7 @@ run-table t (told c ∷ steps) h = run-table t steps (h .1)
 run-table t (toldAddresses c ∷ steps) h = run-table t steps (h .1)
 
 run-events : (t : List ℕ) (steps : List Step) → Ran t steps → map eventIn steps ≡ eventsOf t (calls steps)
-unfolding eventIn callIn eventsOf eventOf tableAfter
+unfolding eventIn callIn eventsOf eventOf tableAfterCall
 run-events t [] h = refl
 run-events t (asked msg space r ∷ steps) h =
     ap (λ (es : List Event). replied msg (r .outcome) (r .space) ∷ es) (run-events (r .table) steps (h .1))
@@ -68,7 +68,7 @@ module _ (s : Settings) (hs : T (settingsAllowed s)) (m : Sessions) (hm : T (ses
       ∙ sym encoded in
       record {
         each =
-            subst (λ (es : List Event). T (all accepted es))
+            subst (λ (es : List Event). T (all acceptedEvent es))
             (sym (run-events (make s b .table) again ran ∙ ap₂ (λ (u : List ℕ) (cs : List Call). eventsOf u cs) e are))
             (restored-accepted s hs m hm rs ok order);
         octetsEqual = same;

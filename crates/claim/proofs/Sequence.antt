@@ -13,13 +13,13 @@ use Rattle.octets.proofs.Tests.{and-left, and-right, all-head, all-tail}
 use Rattle.rules.specs.Model.{Settings, Sessions}
 use Rattle.rules.specs.Layout.{tableLength, encode}
 use Rattle.rules.specs.Sound.{settingsAllowed, sessionsAllowed, make, Made}
-use Rattle.rules.specs.Live.{accepted, liveStep, liveFrom, live}
-use Rattle.rules.specs.Calls.{Call, request, count, countIps, callAllowed, tableAfter, eventOf, tableAfterAll, eventsOf}
+use Rattle.rules.specs.Live.{acceptedEvent, liveStep, liveFrom, live}
+use Rattle.rules.specs.Calls.{Call, request, count, countIps, callAllowed, tableAfterCall, eventOf, tableAfterAll, eventsOf}
 use Rattle.invariants.proofs.Steps.{Kept, Keeps}
 
 module _ (keeps : Keeps) (s : Settings) (hs : T (settingsAllowed s)) where
-  one : (m : Sessions) (c : Call) → T (sessionsAllowed s m) → T (callAllowed c) → Kept s m (tableAfter (encode s m) c) (eventOf (encode s m) c)
-  unfolding Keeps callAllowed tableAfter eventOf liveStep accepted
+  one : (m : Sessions) (c : Call) → T (sessionsAllowed s m) → T (callAllowed c) → Kept s m (tableAfterCall (encode s m) c) (eventOf (encode s m) c)
+  unfolding Keeps callAllowed tableAfterCall eventOf liveStep acceptedEvent
   one m (request msg space) hm hc = keeps s m msg space hs hm (and-left (octets msg) (octets space) hc) (and-right (octets msg) (octets space) hc)
   one m count hm hc = record { after = m; sound = hm; table = refl; live = refl }
   one m countIps hm hc = record { after = m; sound = hm; table = refl; live = refl }
@@ -35,7 +35,7 @@ module _ (keeps : Keeps) (s : Settings) (hs : T (settingsAllowed s)) where
   kept-all (c ∷ cs) m hm hc =
       let k = one m c hm (all-head callAllowed c cs hc) in
       let ih = kept-all cs (k .after) (k .sound) (all-tail callAllowed c cs hc) in
-      let same : liveFrom (k .after) (eventsOf (encode s (k .after)) cs) ≡ liveFrom (liveStep m (eventOf (encode s m) c)) (eventsOf (tableAfter (encode s m) c) cs)
+      let same : liveFrom (k .after) (eventsOf (encode s (k .after)) cs) ≡ liveFrom (liveStep m (eventOf (encode s m) c)) (eventsOf (tableAfterCall (encode s m) c) cs)
       = ap₂ (λ (n : Sessions) (t : List ℕ). liveFrom n (eventsOf t cs)) (sym (k .live)) (sym (k .table)) in
       record {
         sound = subst (λ (n : Sessions). T (sessionsAllowed s n)) same (ih .sound);

@@ -15,7 +15,7 @@ use Rattle.octets.proofs.Numbers.{length-be}
 use Rattle.octets.proofs.Digits.{be-one}
 use Rattle.rules.specs.Model.{Settings}
 use Rattle.rules.specs.Grants.{Kind, sameKind}
-use Rattle.rules.specs.Reply.{Report, element, unitElement, tunnelPart, addressPart, chosenElements, createdPdr, createdPdrContent, createdEndpoint, createdEndpointContent, created}
+use Rattle.rules.specs.Reply.{Report, element, unitElement, tunnelPart, addressPart, chosenElements, createdPdrElement, createdPdrContent, createdEndpointElement, createdEndpointContent, created}
 use Rattle.unit.specs.declared.Settings.{Settings as Unit}
 use Rattle.unit.specs.Meaning.{settingsOf}
 use Rattle.created.specs.declared.Grant.{Grant as Entry}
@@ -120,12 +120,12 @@ module _ (v : Unit) (kind : ℕ) (g : Entry) where
 
   -- of this kind: the group that is written
   pdr-group : kind ≡ 1 → g .kind ≡ 1 → of-kind ≡ element 8 (element 56 (be 2 (g .id)) ++ chosenElements st (toldOf g .report))
-  unfolding groups group reportsOf keep isTold sameKind kindIn toldOf concatMap createdPdr createdPdrContent
+  unfolding groups group reportsOf keep isTold sameKind kindIn toldOf concatMap createdPdrElement createdPdrContent
   pdr-group e n = rw (eq-eqb kind 1 e, eq-eqb (g .kind) 1 n) (append-nil _)
 
   endpoint-group : (kind ≡ 1 → ⊥) → (g .kind ≡ 1 → ⊥) → idFits (toldOf g) ≡ true
       → of-kind ≡ element 128 (element 131 (be 1 (g .id)) ++ chosenElements st (toldOf g .report))
-  unfolding groups group reportsOf keep isTold sameKind kindIn toldOf concatMap createdEndpoint createdEndpointContent idFits
+  unfolding groups group reportsOf keep isTold sameKind kindIn toldOf concatMap createdEndpointElement createdEndpointContent idFits
   endpoint-group e n f =
       let h : g .id < 256 = ltb-true (g .id) 256 (rw (ne-eqb (g .kind) 1 n) at f) in
       rw (ne-eqb kind 1 e, ne-eqb (g .kind) 1 n, be-one (g .id) h) (append-nil _)

@@ -9,7 +9,7 @@ use Rattle.octets.specs.Octets.{concatMap}
 use Rattle.octets.specs.Lists.{keep}
 use Rattle.rules.specs.Model.{Settings}
 use Rattle.rules.specs.Grants.{Kind, ofPdr, ofEndpoint, sameKind}
-use Rattle.rules.specs.Reply.{Report, Reports, createdPdr, createdEndpoint}
+use Rattle.rules.specs.Reply.{Report, Reports, createdPdrElement, createdEndpointElement}
 
 -- a record's kind with its report
 pub record Told : Type 0 where
@@ -35,8 +35,8 @@ allReports ts = record { pdrs = reportsOf ofPdr ts; endpoints = reportsOf ofEndp
 
 -- the group of a report
 unfoldable pub group : Kind → Settings → Report → List ℕ
-group ofPdr s g = createdPdr s g
-group ofEndpoint s g = createdEndpoint s g
+group ofPdr s g = createdPdrElement s g
+group ofEndpoint s g = createdEndpointElement s g
 
 -- the groups of one kind, in request order
 unfoldable pub groups : Kind → Settings → List Told → List ℕ

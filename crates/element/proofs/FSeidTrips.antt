@@ -21,7 +21,7 @@ use Rattle.laws.proofs.ElementLaws.{fseid-back}
 use Rattle.element.specs.declared.Written as code
 use Rattle.element.specs.declared.fseid.Answer as fseid
 use Rattle.element.specs.declared.fseid.Answer.the-variants as fseid-case
-use Rattle.element.specs.Answers.{countOf, left}
+use Rattle.element.specs.Answers.{writtenCount, left}
 use Rattle.element.specs.FSeid as FSeidSpec
 use Rattle.element.proofs.OctetLaws.{part-front}
 use Rattle.element.proofs.FlagLaws.{two-bits}
@@ -82,7 +82,7 @@ fseid-written-read (f ∷ xs) n o h p =
     ap (λ (l : List ℕ). part 1 8 s ++ l) (part-two 9 (4 * a) (16 * b) s) ∙ part-two 1 8 (4 * a + 16 * b) s ∙ take-all (8 + (4 * a + 16 * b)) xs (omega arith) in
     rw (address-there (bit 1 f) 9 s (omega arith), address6-there (bit 0 f) (9 + 4 * a) s (omega arith), seid, flags) (ap (λ (l : List ℕ). f ∷ l) all)
 
-fseid-answer : (n : ℕ) (a : fseid.Answer) → FSeidSpec.answerOf a ≡ value n → a ≡ fseid-case.Value n
+fseid-answer : (n : ℕ) (a : fseid.Answer) → FSeidSpec.fseidAnswer a ≡ value n → a ≡ fseid-case.Value n
 fseid-answer n (fseid-case.Value m) q = ap fseid-case.Value (value-same q)
 fseid-answer n (fseid-case.Refused r) q = refused-is-not q
 
@@ -100,8 +100,8 @@ four-there n = tt
 
 -- By the contracts: what `write` wrote is read as the same SEID, whatever follows.
 pub fseid-code-back : (n ipv4 : ℕ) (r : code.Written) (space after rest : List ℕ) (a : fseid.Answer) → n < 256 ^ 8
-    → left r after ≡ writeIf (not (eqb n 0)) (fseidOctets n (be 4 ipv4) []) space → 0 < countOf r
-    → FSeidSpec.answerOf a ≡ readFseid (take (countOf r) after ++ rest) → a ≡ fseid-case.Value n
+    → left r after ≡ writeIf (not (eqb n 0)) (fseidOctets n (be 4 ipv4) []) space → 0 < writtenCount r
+    → FSeidSpec.fseidAnswer a ≡ readFseid (take (writtenCount r) after ++ rest) → a ≡ fseid-case.Value n
 unfolding addressOf
 fseid-code-back n ipv4 r space after rest a k c h d =
     let w = wrote (λ m. not (eqb m 0)) (λ m. fseidOctets m (be 4 ipv4) []) r space after (some n) c h in

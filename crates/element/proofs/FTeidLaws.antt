@@ -20,13 +20,13 @@ use Rattle.octets.proofs.Digits.{be-part, octets-append}
 use Rattle.octets.proofs.FieldLaws.{octet-read, length-fieldOctets}
 use Rattle.octets.proofs.Bools.{and-true, or-true, or-false}
 use Rattle.rules.specs.Elements as rules
-use Rattle.rules.specs.Elements.{Fteid, given, choose, v4Flag, v6Flag, chFlag, chidFlag, wrongFlags, fteidLength, chosenFields, givenFields, fteidFields, addressOf, givenTests, hasV4, hasV6, chooses, chooseId, fteidAllowed, fteidOctets, readFteid, writeFteid, refuse, value, tooShort, incorrect}
+use Rattle.rules.specs.Elements.{Fteid, given, choose, v4Flag, v6Flag, chFlag, chidFlag, wrongFlags, fteidLength, chosenFields, givenFields, fteidFields, addressOf, givenTests, hasV4, hasV6, chooses, chooseIdOf, fteidAllowed, fteidOctets, readFteid, writeFteid, refuse, value, tooShort, incorrect}
 use Rattle.element.specs.declared.Refusal.{Refusal}
 use Rattle.element.specs.declared.fteid.FTeid.{FTeid}
 use Rattle.element.specs.declared.fteid.Answer.{Answer}
 use Rattle.element.specs.declared.fteid.Answer.the-variants.{Value, Refused}
 use Rattle.element.specs.Answers.{refusalOf, allowedIn, writeMeant}
-use Rattle.element.specs.FTeid.{answerOf, fteidWidths, fteidNumbers, fteidTests, fteidMeant, fteidOf}
+use Rattle.element.specs.FTeid.{fteidAnswer, fteidWidths, fteidNumbers, fteidTests, fteidMeant, fteidOf}
 use Rattle.element.proofs.OctetLaws.{part-after, one-octet, fit-at}
 use Rattle.element.proofs.FlagLaws.{low-bit-0, low-bit-1, low-bit-2, low-bit-3, flag-low, bit-number, bit-first, bit-set, bit-clear, four-bits, one-set, none-set}
 use Rattle.element.proofs.AnswerLaws.{ReadAs, read-as, some-same, picked, not-allowed, no-room, done}
@@ -387,11 +387,11 @@ pub record Parts (v : FTeid) (x : Fteid) : Type 0 where
   pub v4 : hasV4 x ≡ v4Flag (v .flags)
   pub v6 : hasV6 x ≡ v6Flag (v .flags)
   pub ch : chooses x ≡ chFlag (v .flags)
-  pub id : chooseId x ≡ pick (chidFlag (v .flags)) (some (v .«choose_id»)) none
+  pub id : chooseIdOf x ≡ pick (chidFlag (v .flags)) (some (v .«choose_id»)) none
 
 -- the reader's answer, where its case is known: a struct means the value that the rules answer, and a refusal is theirs
-pub answer-value : {a : Answer} {v : FTeid} {y : rules.Answer Fteid} → a ≡ Value v → answerOf a ≡ some y → ReadAs (fteidOf v) y
-answer-value {a} {v} {y} p q = read-as (fteidOf v) y (sym (ap answerOf p) ∙ q)
+pub answer-value : {a : Answer} {v : FTeid} {y : rules.Answer Fteid} → a ≡ Value v → fteidAnswer a ≡ some y → ReadAs (fteidOf v) y
+answer-value {a} {v} {y} p q = read-as (fteidOf v) y (sym (ap fteidAnswer p) ∙ q)
 
-pub answer-refused : {a : Answer} {r : Refusal} {y : rules.Answer Fteid} → a ≡ Refused r → answerOf a ≡ some y → y ≡ refuse (refusalOf r)
-answer-refused p q = sym (some-same (sym (ap answerOf p) ∙ q))
+pub answer-refused : {a : Answer} {r : Refusal} {y : rules.Answer Fteid} → a ≡ Refused r → fteidAnswer a ≡ some y → y ≡ refuse (refusalOf r)
+answer-refused p q = sym (some-same (sym (ap fteidAnswer p) ∙ q))

@@ -19,7 +19,7 @@ use Rattle.element.specs.declared.Written as code
 use Rattle.element.specs.declared.fteid.FTeid.{FTeid}
 use Rattle.element.specs.declared.fteid.Answer as fteid
 use Rattle.element.specs.declared.fteid.Answer.the-variants as fteid-case
-use Rattle.element.specs.Answers.{countOf, left, writeMeant}
+use Rattle.element.specs.Answers.{writtenCount, left, writeMeant}
 use Rattle.element.specs.FTeid as FTeidSpec
 use Rattle.element.specs.FTeid.{fteidWidths, fteidNumbers, fteidTests, fteidMeant, fteidOf}
 use Rattle.element.proofs.OctetLaws.{part-front, part-below}
@@ -172,14 +172,14 @@ fteid-struct v w x p q =
     ∙ fields-octets 0 [] (fteidWidths (w .flags)) (fteidNumbers w) [] refl (b .fitting))
 
 -- an answer of the reader that means the value of a struct is that struct
-fteid-answer : (v : FTeid) (x : Fteid) (a : fteid.Answer) → fteidOf v ≡ some x → FTeidSpec.answerOf a ≡ some (value x) → a ≡ fteid-case.Value v
+fteid-answer : (v : FTeid) (x : Fteid) (a : fteid.Answer) → fteidOf v ≡ some x → FTeidSpec.fteidAnswer a ≡ some (value x) → a ≡ fteid-case.Value v
 fteid-answer v x (fteid-case.Value w) p q = ap fteid-case.Value (fteid-struct w v x (map-value (fteidOf w) x q) p)
 fteid-answer v x (fteid-case.Refused r) p q = refused-is-not (some-same q)
 
 -- By the contracts: what `write` wrote is read as the same struct, whatever follows;
 pub fteid-code-back : (e : Bool) (v : FTeid) (r : code.Written) (space after rest : List ℕ) (a : fteid.Answer)
-    → left r after ≡ writeMeant (writeFteid e) (fteidOf v) space → 0 < countOf r
-    → FTeidSpec.answerOf a ≡ some (readFteid e (take (countOf r) after ++ rest)) → a ≡ fteid-case.Value v
+    → left r after ≡ writeMeant (writeFteid e) (fteidOf v) space → 0 < writtenCount r
+    → FTeidSpec.fteidAnswer a ≡ some (readFteid e (take (writtenCount r) after ++ rest)) → a ≡ fteid-case.Value v
 unfolding writeFteid
 fteid-code-back e v r space after rest a c h d =
     let w = wrote (fteidAllowed e) fteidOctets r space after (fteidOf v) c h in
@@ -188,8 +188,8 @@ fteid-code-back e v r space after rest a c h d =
 
 -- and what `read` read, with nothing ignored, is what `write` writes of its struct.
 pub fteid-code-again : (e : Bool) (s : List ℕ) (v : FTeid) (r : code.Written) (space after : List ℕ) → T (octets s) → WholeFteid s
-    → FTeidSpec.answerOf (fteid-case.Value v) ≡ some (readFteid e s) → length s ≤ length space → left r after ≡ writeMeant (writeFteid e) (fteidOf v) space
-    → (countOf r ≡ length s) × (after ≡ put 0 s space)
+    → FTeidSpec.fteidAnswer (fteid-case.Value v) ≡ some (readFteid e s) → length s ≤ length space → left r after ≡ writeMeant (writeFteid e) (fteidOf v) space
+    → (writtenCount r ≡ length s) × (after ≡ put 0 s space)
 unfolding writeFteid
 fteid-code-again e s v r space after o p h l c =
     again (fteidAllowed e) fteidOctets r space after s (fteidOf v) (readFteid e s) h (λ x q. fteid-written-read e s x o q p) l c

@@ -18,14 +18,14 @@ use Rattle.octets.proofs.Put.{length-part}
 use Rattle.octets.proofs.Numbers.{number-be, same-eq}
 use Rattle.octets.proofs.FieldLaws.{last-read, octets-fields, fit-fields}
 use Rattle.rules.specs.Elements as rules
-use Rattle.rules.specs.Elements.{Fqcsid, addressLength, operatorAllowed, nodeTypeKept, csidsAt, countAllowed, checkedCsid, csidRest, readFqcsid, value, refuse, tooShort, incorrect}
+use Rattle.rules.specs.Elements.{Fqcsid, addressLength, operatorAllowed, nodeTypeKept, csidsRead, countAllowed, checkedCsid, csidRest, readFqcsid, value, refuse, tooShort, incorrect}
 use Rattle.rules.specs.Limits.{maxOperator}
 use Rattle.element.specs.declared.Refusal.{Refusal}
 use Rattle.element.specs.declared.fqcsid.FqCsid.{FqCsid}
 use Rattle.element.specs.declared.fqcsid.Answer.{Answer}
 use Rattle.element.specs.declared.fqcsid.Answer.the-variants.{Value, Refused}
 use Rattle.element.specs.Answers.{refusalOf}
-use Rattle.element.specs.FqCsid.{answerOf, addressWidths, wordWidth, csidWidths, fqcsidWidths, addressNumbers, csidNumbers, addressIn, csidsIn, fqcsidTests, fqcsidMeant, fqcsidOf}
+use Rattle.element.specs.FqCsid.{fqcsidAnswer, addressWidths, wordWidth, csidWidths, fqcsidWidths, addressNumbers, csidNumbers, csidAddress, csidsIn, fqcsidTests, fqcsidMeant, fqcsidOf}
 use Rattle.element.proofs.OctetLaws.{fit-at, widthOf-two, slices-front}
 use Rattle.element.proofs.AnswerLaws.{ReadAs, read-as, some-same}
 
@@ -165,7 +165,7 @@ ruleTests v =
     ∷ []
 
 pub rules-are : (v : FqCsid) → fit (addressWidths (v .«id_type»)) (addressNumbers v) ≡ true
-    → ruleTests v ≡ nodeTypeKept (v .«node_type») ∷ operatorAllowed (v .«id_type») (addressIn v) ∷ countAllowed (v .count) (v .«id_type») (addressIn v) ∷ []
+    → ruleTests v ≡ nodeTypeKept (v .«node_type») ∷ operatorAllowed (v .«id_type») (csidAddress v) ∷ countAllowed (v .count) (v .«id_type») (csidAddress v) ∷ []
 rules-are v h = rw (operator-is (v .«id_type») (v .«address_high») (v .«address_low») h, count-is (v .count) (v .«id_type») (v .«address_high») (v .«address_low») h)
 
 -- ---- the answers of the reader: t the Node-ID type and m the count of the octets s
@@ -196,7 +196,7 @@ read-short (x ∷ s) ws h t w l =
 
 pub read-checked : (s ws : List ℕ) → 0 < length s → typeOf s ≤ 2 → ws ≡ fqcsidWidths (typeOf s) (countIn s) → widthOf ws ≤ length s
     → readFqcsid s
-    ≡ checkedCsid (countIn s) (typeOf s) (part 1 (addressLength (typeOf s)) s) (csidsAt (countIn s) (drop (1 + addressLength (typeOf s)) s))
+    ≡ checkedCsid (countIn s) (typeOf s) (part 1 (addressLength (typeOf s)) s) (csidsRead (countIn s) (drop (1 + addressLength (typeOf s)) s))
     (getD s (1 + (addressLength (typeOf s) + 2 * countIn s)) 0 % 16)
 unfolding readFqcsid csidRest octetAt
 read-checked [] ws h t w l = absurd (not-suc-le-zero h)
@@ -204,7 +204,7 @@ read-checked (x ∷ s) ws h t w l =
     let e = width-all (x / 16) (x % 16) (omega arith) in
     let n : addressLength (x / 16) + 2 * (x % 16) + 1 ≤ length s = omega (arith, ap widthOf w) in
     rw (le-ltb 2 (x / 16) t, le-ltb (length s) (addressLength (x / 16) + 2 * (x % 16) + 1) n)
-    (ap₂ (λ (xs : List ℕ) (k : ℕ). checkedCsid (x % 16) (x / 16) (part 0 (addressLength (x / 16)) s) (csidsAt (x % 16) xs) (k % 16))
+    (ap₂ (λ (xs : List ℕ) (k : ℕ). checkedCsid (x % 16) (x / 16) (part 0 (addressLength (x / 16)) s) (csidsRead (x % 16) xs) (k % 16))
     (drop-drop (addressLength (x / 16)) 1 (x ∷ s)) (getD-drop 1 (x ∷ s) (addressLength (x / 16) + 2 * (x % 16)) 0))
 
 -- the struct that the code makes of the type, the count and the numbers vs
@@ -260,14 +260,14 @@ node-number t m s h l =
 
 -- the address, the CSIDs and the node type of the octets
 module _ (s : List ℕ) (o : T (octets s)) (t m : ℕ) (h : m < 16) (l : widthOf (fqcsidWidths t m) ≤ length s) where
-  address-read : addressIn (structOf t m (fieldsAt 0 (fqcsidWidths t m) s)) ≡ part 1 (addressLength t) s
+  address-read : csidAddress (structOf t m (fieldsAt 0 (fqcsidWidths t m) s)) ≡ part 1 (addressLength t) s
   address-read =
       let e = width-all t m h in
       let a = width-address t in
       ap (fieldOctets (addressWidths t)) (address-numbers t m s) ∙ octets-fields 1 (addressWidths t) s o (omega arith) ∙ ap (λ (n : ℕ). part 1 n s) a
 
-  csids-read : csidsIn (structOf t m (fieldsAt 0 (fqcsidWidths t m) s)) ≡ csidsAt m (drop (1 + addressLength t) s)
-  unfolding csidsAt
+  csids-read : csidsIn (structOf t m (fieldsAt 0 (fqcsidWidths t m) s)) ≡ csidsRead m (drop (1 + addressLength t) s)
+  unfolding csidsRead
   csids-read =
       let e = width-all t m h in
       let c = width-csids m h in
@@ -296,7 +296,7 @@ module _ (s : List ℕ) (o : T (octets s)) (t m : ℕ) (h : m < 16) (l : widthOf
 
 -- a struct whose numbers fit means a value, if no CSIDs go with type and address zero
 pub meant : (v : FqCsid) → v .«id_type» < 16 → v .count < 16 → v .«node_type» < 16 → fit (addressWidths (v .«id_type»)) (addressNumbers v) ≡ true
-    → fit (csidWidths (v .count)) (csidNumbers v) ≡ true → countAllowed (v .count) (v .«id_type») (addressIn v) ≡ true → fqcsidOf v ≡ some (fqcsidMeant v)
+    → fit (csidWidths (v .count)) (csidNumbers v) ≡ true → countAllowed (v .count) (v .«id_type») (csidAddress v) ≡ true → fqcsidOf v ≡ some (fqcsidMeant v)
 unfolding fqcsidOf fqcsidTests
 meant v h i j k l n = rw (lt-ltb (v .«id_type») 16 h, lt-ltb (v .count) 16 i, lt-ltb (v .«node_type») 16 j, k, l, n)
 
@@ -313,7 +313,7 @@ module _ (s ws vs : List ℕ) (o : T (octets s)) (h : 0 < length s) (type : type
   small = omega arith
 
   checked : readFqcsid s
-      ≡ checkedCsid (countIn s) (typeOf s) (addressIn (structOf (typeOf s) (countIn s) vs)) (csidsIn (structOf (typeOf s) (countIn s) vs)) (structOf (typeOf s) (countIn s) vs .«node_type»)
+      ≡ checkedCsid (countIn s) (typeOf s) (csidAddress (structOf (typeOf s) (countIn s) vs)) (csidsIn (structOf (typeOf s) (countIn s) vs)) (structOf (typeOf s) (countIn s) vs .«node_type»)
   checked =
       read-checked s ws h type w l
       ∙ rw fields
@@ -322,7 +322,7 @@ module _ (s ws vs : List ℕ) (o : T (octets s)) (h : 0 < length s) (type : type
       (sym (node-read s o (typeOf s) (countIn s) small enough) i))
 
   tests-are : allOf (ruleTests (structOf (typeOf s) (countIn s) vs))
-      ≡ allOf (nodeTypeKept (getD vs 7 0 % 16) ∷ operatorAllowed (typeOf s) (addressIn (structOf (typeOf s) (countIn s) vs)) ∷ countAllowed (countIn s) (typeOf s) (addressIn (structOf (typeOf s) (countIn s) vs)) ∷ [])
+      ≡ allOf (nodeTypeKept (getD vs 7 0 % 16) ∷ operatorAllowed (typeOf s) (csidAddress (structOf (typeOf s) (countIn s) vs)) ∷ countAllowed (countIn s) (typeOf s) (csidAddress (structOf (typeOf s) (countIn s) vs)) ∷ [])
   tests-are = ap allOf (rules-are (structOf (typeOf s) (countIn s) vs) (rw fields (address-fits s o (typeOf s) (countIn s) small enough)))
 
   pub read-incorrect : allOf (ruleTests (structOf (typeOf s) (countIn s) vs)) ≡ false → readFqcsid s ≡ refuse incorrect
@@ -334,7 +334,7 @@ module _ (s ws vs : List ℕ) (o : T (octets s)) (h : 0 < length s) (type : type
   read-value b =
       let v : FqCsid = structOf (typeOf s) (countIn s) vs in
       let t = sym tests-are ∙ b in
-      let c : countAllowed (countIn s) (typeOf s) (addressIn v) ≡ true = is-true _ (each (nodeTypeKept (getD vs 7 0 % 16) ∷ operatorAllowed (typeOf s) (addressIn v) ∷ countAllowed (countIn s) (typeOf s) (addressIn v) ∷ []) (of-true t) .1 .1 .0) in
+      let c : countAllowed (countIn s) (typeOf s) (csidAddress v) ≡ true = is-true _ (each (nodeTypeKept (getD vs 7 0 % 16) ∷ operatorAllowed (typeOf s) (csidAddress v) ∷ countAllowed (countIn s) (typeOf s) (csidAddress v) ∷ []) (of-true t) .1 .1 .0) in
       ap (mapOption value)
       (meant v (omega arith) small (omega arith) (rw fields (address-fits s o (typeOf s) (countIn s) small enough)) (rw fields (csids-fit s o (typeOf s) (countIn s) small enough)) c)
       ∙ ap some (sym (checked ∙ rw t))
@@ -342,8 +342,8 @@ module _ (s ws vs : List ℕ) (o : T (octets s)) (h : 0 < length s) (type : type
 -- ---- what callers ask of a value, by the struct that means it
 
 -- the reader's answer, where its case is known: a struct means the value that the rules answer, and a refusal is theirs
-pub answer-value : {a : Answer} {v : FqCsid} {y : rules.Answer Fqcsid} → a ≡ Value v → answerOf a ≡ some y → ReadAs (fqcsidOf v) y
-answer-value {a} {v} {y} p q = read-as (fqcsidOf v) y (sym (ap answerOf p) ∙ q)
+pub answer-value : {a : Answer} {v : FqCsid} {y : rules.Answer Fqcsid} → a ≡ Value v → fqcsidAnswer a ≡ some y → ReadAs (fqcsidOf v) y
+answer-value {a} {v} {y} p q = read-as (fqcsidOf v) y (sym (ap fqcsidAnswer p) ∙ q)
 
-pub answer-refused : {a : Answer} {r : Refusal} {y : rules.Answer Fqcsid} → a ≡ Refused r → answerOf a ≡ some y → y ≡ refuse (refusalOf r)
-answer-refused p q = sym (some-same (sym (ap answerOf p) ∙ q))
+pub answer-refused : {a : Answer} {r : Refusal} {y : rules.Answer Fqcsid} → a ≡ Refused r → fqcsidAnswer a ≡ some y → y ≡ refuse (refusalOf r)
+answer-refused p q = sym (some-same (sym (ap fqcsidAnswer p) ∙ q))

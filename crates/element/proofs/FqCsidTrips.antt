@@ -18,12 +18,12 @@ use Rattle.octets.proofs.Tests.{each, of-true, is-true, and-left, and-right}
 use Rattle.octets.proofs.Numbers.{length-be, number-be, length-concatMap, slices-concatMap}
 use Rattle.octets.proofs.FieldLaws.{first-written, fields-octets, octets-fields-all, first-read, elements-all, length-fieldsAt, fit-fields}
 use Rattle.rules.specs.Elements as rules
-use Rattle.rules.specs.Elements.{Written, Fqcsid, sets, removal, addressLength, operatorAllowed, nodeAddressTests, nodeAddressAllowed, nodeTypeKept, csidsAt, csidFields, countAllowed, checkedCsid, csidRest, readFqcsid, below16, setsTests, fqcsidAllowed, fqcsidOctets, writeFqcsid, value, tooShort, incorrect}
+use Rattle.rules.specs.Elements.{Written, Fqcsid, sets, removal, addressLength, operatorAllowed, nodeAddressTests, nodeAddressAllowed, nodeTypeKept, csidsRead, csidFields, countAllowed, checkedCsid, csidRest, readFqcsid, below16, setsTests, fqcsidAllowed, fqcsidOctets, writeFqcsid, value, tooShort, incorrect}
 use Rattle.element.specs.declared.Written as code
 use Rattle.element.specs.declared.fqcsid.FqCsid.{FqCsid}
 use Rattle.element.specs.declared.fqcsid.Answer as fqcsid
 use Rattle.element.specs.declared.fqcsid.Answer.the-variants as fqcsid-case
-use Rattle.element.specs.Answers.{countOf, left, allowedIn, writeMeant}
+use Rattle.element.specs.Answers.{writtenCount, left, allowedIn, writeMeant}
 use Rattle.element.specs.FqCsid as FqCsidSpec
 use Rattle.element.specs.FqCsid.{fqcsidNumbers, fqcsidWidths, fqcsidOf}
 use Rattle.element.proofs.OctetLaws.{part-front, slices-front}
@@ -34,8 +34,8 @@ use Rattle.element.proofs.FqCsidWriting.{fqcsid-octets, right-allowed, 
 use Rattle.element.proofs.Writers.{refused-is-not, not-refused, map-value, wrote, again}
 
 -- octets after the value are ignored
-csids-more : (m a : ℕ) (xs rest : List ℕ) → a + 2 * m ≤ length xs → csidsAt m (drop a (xs ++ rest)) ≡ csidsAt m (drop a xs)
-unfolding csidsAt
+csids-more : (m a : ℕ) (xs rest : List ℕ) → a + 2 * m ≤ length xs → csidsRead m (drop a (xs ++ rest)) ≡ csidsRead m (drop a xs)
+unfolding csidsRead
 csids-more m a xs rest h =
     ap (map number)
     (ap (slices 2 m) (drop-append-le a xs rest (omega arith)) ∙ slices-front 2 m (drop a xs) rest (rw length-drop (omega arith)))
@@ -82,8 +82,8 @@ module _ (t : ℕ) (a cs : List ℕ) (n : ℕ) (ha : length a ≡ addressLength 
       let g = length-csids in
       omega arith
 
-  after-csids : csidsAt (length cs) (drop (addressLength t) after-first) ≡ cs
-  unfolding after-first csidsAt
+  after-csids : csidsRead (length cs) (drop (addressLength t) after-first) ≡ cs
+  unfolding after-first csidsRead
   after-csids =
       ap (λ (xs : List ℕ). map number (slices 2 (length cs) xs)) (drop-at a (concatMap (be 2) cs ++ n ∷ []) (addressLength t) ha)
       ∙ ap (map number) (slices-concatMap (be 2) 2 below16 (λ c h. length-be 2 c) cs hc (n ∷ []))
@@ -246,14 +246,14 @@ fqcsid-struct v w x p q =
     ∙ (λ i. fieldsAt 0 (fqcsidWidths (t i) (m i)) (o i ++ []))
     ∙ fields-octets 0 [] (fqcsidWidths (w .«id_type») (w .count)) (fqcsidNumbers w) [] refl (b .fits))
 
-fqcsid-answer : (v : FqCsid) (x : Fqcsid) (a : fqcsid.Answer) → fqcsidOf v ≡ some x → FqCsidSpec.answerOf a ≡ some (value x) → a ≡ fqcsid-case.Value v
+fqcsid-answer : (v : FqCsid) (x : Fqcsid) (a : fqcsid.Answer) → fqcsidOf v ≡ some x → FqCsidSpec.fqcsidAnswer a ≡ some (value x) → a ≡ fqcsid-case.Value v
 fqcsid-answer v x (fqcsid-case.Value w) p q = ap fqcsid-case.Value (fqcsid-struct w v x (map-value (fqcsidOf w) x q) p)
 fqcsid-answer v x (fqcsid-case.Refused r) p q = refused-is-not (some-same q)
 
 -- By the contracts: what `write` wrote is read as the same struct, whatever follows;
 pub fqcsid-code-back : (v : FqCsid) (r : code.Written) (space after rest : List ℕ) (a : fqcsid.Answer)
-    → left r after ≡ writeMeant writeFqcsid (fqcsidOf v) space → 0 < countOf r
-    → FqCsidSpec.answerOf a ≡ some (readFqcsid (take (countOf r) after ++ rest)) → a ≡ fqcsid-case.Value v
+    → left r after ≡ writeMeant writeFqcsid (fqcsidOf v) space → 0 < writtenCount r
+    → FqCsidSpec.fqcsidAnswer a ≡ some (readFqcsid (take (writtenCount r) after ++ rest)) → a ≡ fqcsid-case.Value v
 unfolding writeFqcsid
 fqcsid-code-back v r space after rest a c h d =
     let w = wrote fqcsidAllowed fqcsidOctets r space after (fqcsidOf v) c h in
@@ -262,8 +262,8 @@ fqcsid-code-back v r space after rest a c h d =
 
 -- and what `read` read, with nothing ignored, is what `write` writes of its struct.
 pub fqcsid-code-again : (s : List ℕ) (v : FqCsid) (r : code.Written) (space after : List ℕ) → T (octets s) → WholeFqcsid s
-    → FqCsidSpec.answerOf (fqcsid-case.Value v) ≡ some (readFqcsid s) → length s ≤ length space → left r after ≡ writeMeant writeFqcsid (fqcsidOf v) space
-    → (countOf r ≡ length s) × (after ≡ put 0 s space)
+    → FqCsidSpec.fqcsidAnswer (fqcsid-case.Value v) ≡ some (readFqcsid s) → length s ≤ length space → left r after ≡ writeMeant writeFqcsid (fqcsidOf v) space
+    → (writtenCount r ≡ length s) × (after ≡ put 0 s space)
 unfolding writeFqcsid
 fqcsid-code-again s v r space after o p h l c =
     again fqcsidAllowed fqcsidOctets r space after s (fqcsidOf v) (readFqcsid s) h (λ x q. fqcsid-written-read s x q o p) l c

@@ -17,17 +17,17 @@ use Rattle.octets.proofs.Numbers.{same-eq, length-slices}
 use Rattle.octets.proofs.FieldLaws.{length-fieldOctets}
 use Rattle.octets.proofs.Bools.{both-ways}
 use Rattle.rules.specs.Elements as rules
-use Rattle.rules.specs.Elements.{Fqcsid, addressLength, operatorAllowed, nodeAddressTests, nodeAddressAllowed, nodeTypeKept, csidsAt, csidFields, countAllowed, below16, setsTests, fqcsidAllowed, fqcsidOctets, writeFqcsid}
+use Rattle.rules.specs.Elements.{Fqcsid, addressLength, operatorAllowed, nodeAddressTests, nodeAddressAllowed, nodeTypeKept, csidsRead, csidFields, countAllowed, below16, setsTests, fqcsidAllowed, fqcsidOctets, writeFqcsid}
 use Rattle.element.specs.declared.fqcsid.FqCsid.{FqCsid}
 use Rattle.element.specs.Answers.{allowedIn, writeMeant}
-use Rattle.element.specs.FqCsid.{fqcsidNumbers, addressWidths, csidWidths, fqcsidWidths, addressNumbers, csidNumbers, addressIn, csidsIn, fqcsidTests, fqcsidMeant, fqcsidOf}
+use Rattle.element.specs.FqCsid.{fqcsidNumbers, addressWidths, csidWidths, fqcsidWidths, addressNumbers, csidNumbers, csidAddress, csidsIn, fqcsidTests, fqcsidMeant, fqcsidOf}
 use Rattle.element.proofs.OctetLaws.{one-octet, octets-fieldOctets, fieldOctets-two, fit-two, concat-slices, below-slices}
 use Rattle.element.proofs.AnswerLaws.{picked, allowed-picked, never, not-allowed, no-room, done}
 use Rattle.element.proofs.FqCsidLaws.{two-widths, width-address, width-csids, eight-widths, ruleTests, rules-are, meant, small}
 
 -- ---- the values that are written: the numbers as they stand in the octets
 
-length-address : (v : FqCsid) → length (addressIn v) ≡ addressLength (v .«id_type»)
+length-address : (v : FqCsid) → length (csidAddress v) ≡ addressLength (v .«id_type»)
 length-address v = length-fieldOctets (addressWidths (v .«id_type»)) (addressNumbers v) (sym (two-widths (v .«id_type»))) ∙ width-address (v .«id_type»)
 
 length-words : (v : FqCsid) → v .count < 16 → length (fieldOctets (csidWidths (v .count)) (csidNumbers v)) ≡ 2 * v .count
@@ -35,7 +35,7 @@ unfolding csidWidths
 length-words v h = length-fieldOctets (csidWidths (v .count)) (csidNumbers v) refl ∙ width-csids (v .count) h
 
 pub octets-split : (v : FqCsid) → fieldOctets (fqcsidWidths (v .«id_type») (v .count)) (fqcsidNumbers v)
-    ≡ be 1 (16 * v .«id_type» + v .count) ++ (addressIn v ++ (fieldOctets (csidWidths (v .count)) (csidNumbers v) ++ be 1 (v .«node_type»)))
+    ≡ be 1 (16 * v .«id_type» + v .count) ++ (csidAddress v ++ (fieldOctets (csidWidths (v .count)) (csidNumbers v) ++ be 1 (v .«node_type»)))
 unfolding fieldOctets csidWidths
 octets-split v =
     let aw : List ℕ = addressWidths (v .«id_type») in
@@ -43,7 +43,7 @@ octets-split v =
     let last : fieldOctets (cw ++ 1 ∷ []) (csidNumbers v ++ v .«node_type» ∷ []) ≡ fieldOctets cw (csidNumbers v) ++ be 1 (v .«node_type») =
     fieldOctets-two cw (csidNumbers v) (1 ∷ []) (v .«node_type» ∷ []) refl ∙ ap (λ (l : List ℕ). fieldOctets cw (csidNumbers v) ++ l) (append-nil (be 1 (v .«node_type»))) in
     ap (λ (l : List ℕ). be 1 (16 * v .«id_type» + v .count) ++ l)
-    (fieldOctets-two aw (addressNumbers v) (cw ++ 1 ∷ []) (csidNumbers v ++ v .«node_type» ∷ []) (sym (two-widths (v .«id_type»))) ∙ ap (λ (l : List ℕ). addressIn v ++ l) last)
+    (fieldOctets-two aw (addressNumbers v) (cw ++ 1 ∷ []) (csidNumbers v ++ v .«node_type» ∷ []) (sym (two-widths (v .«id_type»))) ∙ ap (λ (l : List ℕ). csidAddress v ++ l) last)
 
 pub fit-split : (v : FqCsid) → fit (fqcsidWidths (v .«id_type») (v .count)) (fqcsidNumbers v)
     ≡ allOf (ltb (16 * v .«id_type» + v .count) 256 ∷ fit (addressWidths (v .«id_type»)) (addressNumbers v) ∷ fit (csidWidths (v .count)) (csidNumbers v) ∷ ltb (v .«node_type») 256 ∷ [])
@@ -61,8 +61,8 @@ no-octets [] e = refl
 no-octets (y ∷ ys) e = absurd (omega arith)
 
 octets-of : (m t : ℕ) (address ys : List ℕ) (n : ℕ) → T (countAllowed m t address) → T (octets ys) → length ys ≡ 2 * m → m < 16 → t < 16 → n < 16
-    → fqcsidOctets (csidFields m t address (csidsAt m ys) n) ≡ be 1 (16 * t + m) ++ (address ++ (ys ++ be 1 n))
-unfolding countAllowed csidFields csidsAt fqcsidOctets be zeros
+    → fqcsidOctets (csidFields m t address (csidsRead m ys) n) ≡ be 1 (16 * t + m) ++ (address ++ (ys ++ be 1 n))
+unfolding countAllowed csidFields csidsRead fqcsidOctets be zeros
 octets-of zero t address ys n c o e h i j =
     let z : t ≡ 0 = eqb→eq t 0 (and-left (eqb t 0) (sameOctets address (zeros 4)) c) in
     let a : address ≡ zeros 4 = same-eq address (zeros 4) (and-right (eqb t 0) (sameOctets address (zeros 4)) c) in
@@ -80,7 +80,7 @@ fqcsid-octets v x e =
     let t = each (fqcsidTests v) (p .0) in
     let few : v .count < 16 = ltb→lt (v .count) 16 (t .1 .0) in
     ap fqcsidOctets (p .1)
-    ∙ octets-of (v .count) (v .«id_type») (addressIn v) (fieldOctets (csidWidths (v .count)) (csidNumbers v)) (v .«node_type») (t .1 .1 .1 .1 .1 .0)
+    ∙ octets-of (v .count) (v .«id_type») (csidAddress v) (fieldOctets (csidWidths (v .count)) (csidNumbers v)) (v .«node_type») (t .1 .1 .1 .1 .1 .0)
     (octets-fieldOctets (csidWidths (v .count)) (csidNumbers v)) (length-words v few) few (ltb→lt (v .«id_type») 16 (t .0)) (ltb→lt (v .«node_type») 16 (t .1 .1 .0))
     ∙ sym (octets-split v)
 
@@ -101,8 +101,8 @@ facts-of (suc m) t address cs n c h =
     (leb→le t 2 (a .0), s .1 .1 .1 .1 .0, a .1 .1 .1 .0)
 
 allowed-from : (m t : ℕ) (address ys : List ℕ) (n : ℕ) → t ≤ 2 → T (nodeTypeKept n) → T (operatorAllowed t address) → length address ≡ addressLength t
-    → T (octets address) → T (octets ys) → length ys ≡ 2 * m → m < 16 → T (fqcsidAllowed (csidFields m t address (csidsAt m ys) n))
-unfolding csidFields csidsAt fqcsidAllowed setsTests nodeAddressAllowed nodeAddressTests below16
+    → T (octets address) → T (octets ys) → length ys ≡ 2 * m → m < 16 → T (fqcsidAllowed (csidFields m t address (csidsRead m ys) n))
+unfolding csidFields csidsRead fqcsidAllowed setsTests nodeAddressAllowed nodeAddressTests below16
 allowed-from zero t address ys n h k o l b p e f = k
 allowed-from (suc m) t address ys n h k o l b p e f =
     let cs : List ℕ = map number (slices 2 (suc m) ys) in
@@ -158,14 +158,14 @@ right v h =
     let a = t .1 .1 .1 .0 in
     let c = t .1 .1 .1 .1 .1 .0 in
     let z = fits-tests v (p .0) in
-    let f = facts-of (v .count) (v .«id_type») (addressIn v) (csidsIn v) (v .«node_type») c (p .1) in
+    let f = facts-of (v .count) (v .«id_type») (csidAddress v) (csidsIn v) (v .«node_type») c (p .1) in
     record {
       kind = f .0;
       few = z .few;
       rules =
           ap allOf (rules-are v (is-true _ a))
           ∙ is-true _
-          (all-of-each (nodeTypeKept (v .«node_type») ∷ operatorAllowed (v .«id_type») (addressIn v) ∷ countAllowed (v .count) (v .«id_type») (addressIn v) ∷ [])
+          (all-of-each (nodeTypeKept (v .«node_type») ∷ operatorAllowed (v .«id_type») (csidAddress v) ∷ countAllowed (v .count) (v .«id_type») (csidAddress v) ∷ [])
           (f .1, (f .2, (c, tt))));
       fits = z .fits;
     }
@@ -175,13 +175,13 @@ right-allowed v r =
     let g = each (ltb (16 * v .«id_type» + v .count) 256 ∷ fit (addressWidths (v .«id_type»)) (addressNumbers v) ∷ fit (csidWidths (v .count)) (csidNumbers v) ∷ ltb (v .«node_type») 256 ∷ [])
     (of-true (sym (fit-split v) ∙ r .fits)) in
     let a = is-true _ (g .1 .0) in
-    let k = each (nodeTypeKept (v .«node_type») ∷ operatorAllowed (v .«id_type») (addressIn v) ∷ countAllowed (v .count) (v .«id_type») (addressIn v) ∷ [])
+    let k = each (nodeTypeKept (v .«node_type») ∷ operatorAllowed (v .«id_type») (csidAddress v) ∷ countAllowed (v .count) (v .«id_type») (csidAddress v) ∷ [])
     (of-true (sym (ap allOf (rules-are v a)) ∙ r .rules)) in
     let kind : v .«id_type» ≤ 2 = r .kind in
     let small = kept-small (v .«node_type») (k .0) in
     ap (allowedIn fqcsidAllowed) (meant v (omega arith) (r .few) (omega arith) a (is-true _ (g .1 .1 .0)) (is-true _ (k .1 .1 .0)))
     ∙ is-true _
-    (allowed-from (v .count) (v .«id_type») (addressIn v) (fieldOctets (csidWidths (v .count)) (csidNumbers v)) (v .«node_type») (r .kind) (k .0) (k .1 .0) (length-address v)
+    (allowed-from (v .count) (v .«id_type») (csidAddress v) (fieldOctets (csidWidths (v .count)) (csidNumbers v)) (v .«node_type») (r .kind) (k .0) (k .1 .0) (length-address v)
     (octets-fieldOctets (addressWidths (v .«id_type»)) (addressNumbers v)) (octets-fieldOctets (csidWidths (v .count)) (csidNumbers v)) (length-words v (r .few)) (r .few))
 
 pub not-right : (v : FqCsid) → (Right v → ⊥) → allowedIn fqcsidAllowed (fqcsidOf v) ≡ false

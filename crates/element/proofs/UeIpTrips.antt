@@ -20,7 +20,7 @@ use Rattle.element.specs.declared.ueip.UeIp as ue
 use Rattle.element.specs.declared.ueip.UeIp.the-variants as ue-case
 use Rattle.element.specs.declared.ueip.Answer as ueip
 use Rattle.element.specs.declared.ueip.Answer.the-variants as ueip-case
-use Rattle.element.specs.Answers.{countOf, left}
+use Rattle.element.specs.Answers.{writtenCount, left}
 use Rattle.element.specs.UeIp as UeIpSpec
 use Rattle.element.specs.UeIp.{ueOf, canonical}
 use Rattle.element.proofs.OctetLaws.{part-below}
@@ -74,13 +74,13 @@ case-of (ue-case.Given a) = refl
 case-of ue-case.Choose = refl
 case-of ue-case.Other = refl
 
-ueip-answer : (v : ue.UeIp) (a : ueip.Answer) → UeIpSpec.answerOf a ≡ value (ueOf v) → a ≡ ueip-case.Value v
+ueip-answer : (v : ue.UeIp) (a : ueip.Answer) → UeIpSpec.ueAnswer a ≡ value (ueOf v) → a ≡ ueip-case.Value v
 ueip-answer v (ueip-case.Value w) q = ap ueip-case.Value (sym (case-of w) ∙ ap caseOf (value-same q) ∙ case-of v)
 ueip-answer v (ueip-case.Refused r) q = refused-is-not q
 
 -- By the contracts: what `write` wrote is read as the same value, whatever follows;
-pub ueip-code-back : (v : ue.UeIp) (r : code.Written) (space after rest : List ℕ) (a : ueip.Answer) → left r after ≡ writeUeIp (ueOf v) space → 0 < countOf r
-    → UeIpSpec.answerOf a ≡ readUeIp (take (countOf r) after ++ rest) → a ≡ ueip-case.Value v
+pub ueip-code-back : (v : ue.UeIp) (r : code.Written) (space after rest : List ℕ) (a : ueip.Answer) → left r after ≡ writeUeIp (ueOf v) space → 0 < writtenCount r
+    → UeIpSpec.ueAnswer a ≡ readUeIp (take (writtenCount r) after ++ rest) → a ≡ ueip-case.Value v
 unfolding writeUeIp
 ueip-code-back v r space after rest a c h d =
     let w = wrote ueAllowed ueOctets r space after (some (ueOf v)) c h in
@@ -89,8 +89,8 @@ ueip-code-back v r space after rest a c h d =
 
 -- and of an address or a CHOOSE that `read` read `write` writes the octets, without what was ignored.
 pub ueip-code-again : (s : List ℕ) (v : ue.UeIp) (r : code.Written) (space after : List ℕ) → T (octets s)
-    → UeIpSpec.answerOf (ueip-case.Value v) ≡ readUeIp s → ueStrange (ueOf v) ≡ false → length (canonical s) ≤ length space
-    → left r after ≡ writeUeIp (ueOf v) space → (countOf r ≡ length (canonical s)) × (after ≡ put 0 (canonical s) space)
+    → UeIpSpec.ueAnswer (ueip-case.Value v) ≡ readUeIp s → ueStrange (ueOf v) ≡ false → length (canonical s) ≤ length space
+    → left r after ≡ writeUeIp (ueOf v) space → (writtenCount r ≡ length (canonical s)) × (after ≡ put 0 (canonical s) space)
 unfolding writeUeIp
 ueip-code-again s v r space after o h k l c =
     again ueAllowed ueOctets r space after (canonical s) (some (ueOf v)) (readUeIp s) (ap some h)

@@ -15,7 +15,7 @@ use Rattle.octets.proofs.Tests.{of-true, is-true}
 use Rattle.rules.specs.Elements as rules
 use Rattle.rules.specs.Elements.{Written, writeIf, value, refuse, Refusal}
 use Rattle.element.specs.declared.Written as code
-use Rattle.element.specs.Answers.{countOf, left, writeMeant}
+use Rattle.element.specs.Answers.{writtenCount, left, writeMeant}
 use Rattle.element.proofs.AnswerLaws.{none-is-not-some, some-same}
 
 -- ---- answers
@@ -46,12 +46,12 @@ pub record Wrote {A : Type 0} (allowed : A → Bool) (octetsOf : A → List ℕ)
 
 module _ {A : Type 0} (allowed : A → Bool) (octetsOf : A → List ℕ) (r : code.Written) (space after : List ℕ) where
   -- something was written: the octets of an allowed value
-  pub wrote : (o : Option A) → left r after ≡ writeMeant (λ v s. writeIf (allowed v) (octetsOf v) s) o space → 0 < countOf r → Wrote allowed octetsOf o (countOf r) after
+  pub wrote : (o : Option A) → left r after ≡ writeMeant (λ v s. writeIf (allowed v) (octetsOf v) s) o space → 0 < writtenCount r → Wrote allowed octetsOf o (writtenCount r) after
   unfolding writeIf put
-  wrote none e h = let z : countOf r ≡ 0 = ap (λ (w : Written). w .count) e in absurd (omega arith)
+  wrote none e h = let z : writtenCount r ≡ 0 = ap (λ (w : Written). w .count) e in absurd (omega arith)
   wrote (some x) e h = by (allowed x) refl (leb (length (octetsOf x)) (length space)) refl
     where
-      by : (a : Bool) → allowed x ≡ a → (b : Bool) → leb (length (octetsOf x)) (length space) ≡ b → Wrote allowed octetsOf (some x) (countOf r) after
+      by : (a : Bool) → allowed x ≡ a → (b : Bool) → leb (length (octetsOf x)) (length space) ≡ b → Wrote allowed octetsOf (some x) (writtenCount r) after
       by true p true q =
           let g : left r after ≡ record { count = length (octetsOf x); space = octetsOf x ++ drop (0 + length (octetsOf x)) space } = rw (p, q) at e in
           record {
@@ -64,16 +64,16 @@ module _ {A : Type 0} (allowed : A → Bool) (octetsOf : A → List ℕ) (r : co
           }
       by true p false q =
           let g : left r after ≡ record { count = 0; space = space } = rw (p, q) at e in
-          let z : countOf r ≡ 0 = ap (λ (w : Written). w .count) g in
+          let z : writtenCount r ≡ 0 = ap (λ (w : Written). w .count) g in
           absurd (omega arith)
       by false p b q =
           let g : left r after ≡ record { count = 0; space = space } = rw p at e in
-          let z : countOf r ≡ 0 = ap (λ (w : Written). w .count) g in
+          let z : writtenCount r ≡ 0 = ap (λ (w : Written). w .count) g in
           absurd (omega arith)
 
   -- the octets s of an allowed value are written, where there is room
   pub again : (s : List ℕ) (o : Option A) (y : rules.Answer A) → mapOption value o ≡ some y → ((x : A) → y ≡ value x → (octetsOf x ≡ s) × T (allowed x))
-      → length s ≤ length space → left r after ≡ writeMeant (λ v s. writeIf (allowed v) (octetsOf v) s) o space → (countOf r ≡ length s) × (after ≡ put 0 s space)
+      → length s ≤ length space → left r after ≡ writeMeant (λ v s. writeIf (allowed v) (octetsOf v) s) o space → (writtenCount r ≡ length s) × (after ≡ put 0 s space)
   unfolding writeIf
   again s none y e f l g = none-is-not-some e
   again s (some x) y e f l g =

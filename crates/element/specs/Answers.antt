@@ -17,13 +17,13 @@ refusalOf TooShort = tooShort
 refusalOf Incorrect = incorrect
 
 -- how many octets a writer says that it wrote
-abbrev pub countOf : Written → ℕ
-countOf (Octets n) = n
-countOf Refused = 0
+abbrev pub writtenCount : Written → ℕ
+writtenCount (Octets n) = n
+writtenCount Refused = 0
 
 -- what a writer leaves: its count, and the space at exit
 abbrev pub left : Written → List ℕ → rules.Written
-left r space = record { count = countOf r; space = space }
+left r space = record { count = writtenCount r; space = space }
 
 -- what a writer has to leave for a struct that means a value, or none: none is refused, and nothing is written
 abbrev pub writeMeant : {A : Type 0} → (A → List ℕ → rules.Written) → Option A → List ℕ → rules.Written

@@ -13,11 +13,11 @@ use Rattle.element.specs.declared.fseid.Answer.the-variants.{Value, Refu
 abbrev pub fseidFlags : List ℕ → List ℕ → ℕ
 fseidFlags ipv4 ipv6 = 2 * flag (not (isNil ipv4)) + flag (not (isNil ipv6))
 
-abbrev pub answerOf : Answer → rules.Answer ℕ
-answerOf (Value seid) = value seid
-answerOf (Refused r) = refuse (refusalOf r)
+abbrev pub fseidAnswer : Answer → rules.Answer ℕ
+fseidAnswer (Value seid) = value seid
+fseidAnswer (Refused r) = refuse (refusalOf r)
 
 -- the cause of each case, 0 of a value
-abbrev pub causeIn : Answer → ℕ
-causeIn (Value seid) = 0
-causeIn (Refused r) = causeOf (refusalOf r)
+abbrev pub fseidCause : Answer → ℕ
+fseidCause (Value seid) = 0
+fseidCause (Refused r) = causeOf (refusalOf r)

@@ -38,11 +38,11 @@ unfoldable pub fteidOf : FTeid → Option Fteid
 fteidOf v = pick (allOf (fteidTests v)) (some (fteidMeant v)) none
 
 -- the rules' answer for each case of the reader's
-abbrev pub answerOf : Answer → Option (rules.Answer Fteid)
-answerOf (Value v) = mapOption value (fteidOf v)
-answerOf (Refused r) = some (refuse (refusalOf r))
+abbrev pub fteidAnswer : Answer → Option (rules.Answer Fteid)
+fteidAnswer (Value v) = mapOption value (fteidOf v)
+fteidAnswer (Refused r) = some (refuse (refusalOf r))
 
 -- the cause of each case, 0 of a value
-abbrev pub causeIn : Answer → ℕ
-causeIn (Value v) = 0
-causeIn (Refused r) = causeOf (refusalOf r)
+abbrev pub fteidCause : Answer → ℕ
+fteidCause (Value v) = 0
+fteidCause (Refused r) = causeOf (refusalOf r)

@@ -7,7 +7,7 @@ use lib.Dec.{eqb, ltb}
 use Rattle.octets.specs.Choice.{pick, allOf, mapOption}
 use Rattle.octets.specs.Fields.{fit, fieldOctets}
 use Rattle.rules.specs.Elements as rules
-use Rattle.rules.specs.Elements.{Fqcsid, csidsAt, csidFields, countAllowed, value, refuse, causeOf}
+use Rattle.rules.specs.Elements.{Fqcsid, csidsRead, csidFields, countAllowed, value, refuse, causeOf}
 use Rattle.element.specs.Answers.{refusalOf}
 use Rattle.element.specs.declared.fqcsid.FqCsid.{FqCsid}
 use Rattle.element.specs.declared.fqcsid.Answer.{Answer}
@@ -39,11 +39,11 @@ abbrev pub fqcsidNumbers : FqCsid → List ℕ
 fqcsidNumbers v = (16 * v .«id_type» + v .count) ∷ addressNumbers v ++ (csidNumbers v ++ v .«node_type» ∷ [])
 
 -- the address, and the CSIDs
-abbrev pub addressIn : FqCsid → List ℕ
-addressIn v = fieldOctets (addressWidths (v .«id_type»)) (addressNumbers v)
+abbrev pub csidAddress : FqCsid → List ℕ
+csidAddress v = fieldOctets (addressWidths (v .«id_type»)) (addressNumbers v)
 
 abbrev pub csidsIn : FqCsid → List ℕ
-csidsIn v = csidsAt (v .count) (fieldOctets (csidWidths (v .count)) (csidNumbers v))
+csidsIn v = csidsRead (v .count) (fieldOctets (csidWidths (v .count)) (csidNumbers v))
 
 -- four bits for the types and the count, and each number within its octets; no CSIDs only with type and address zero
 unfoldable pub fqcsidTests : FqCsid → List Bool
@@ -53,22 +53,22 @@ fqcsidTests v =
     ∷ ltb (v .«node_type») 16
     ∷ fit (addressWidths (v .«id_type»)) (addressNumbers v)
     ∷ fit (csidWidths (v .count)) (csidNumbers v)
-    ∷ countAllowed (v .count) (v .«id_type») (addressIn v)
+    ∷ countAllowed (v .count) (v .«id_type») (csidAddress v)
     ∷ []
 
 abbrev pub fqcsidMeant : FqCsid → Fqcsid
-fqcsidMeant v = csidFields (v .count) (v .«id_type») (addressIn v) (csidsIn v) (v .«node_type»)
+fqcsidMeant v = csidFields (v .count) (v .«id_type») (csidAddress v) (csidsIn v) (v .«node_type»)
 
 -- the value that a struct means, if any
 unfoldable pub fqcsidOf : FqCsid → Option Fqcsid
 fqcsidOf v = pick (allOf (fqcsidTests v)) (some (fqcsidMeant v)) none
 
 -- the rules' answer for each case of the reader's
-abbrev pub answerOf : Answer → Option (rules.Answer Fqcsid)
-answerOf (Value v) = mapOption value (fqcsidOf v)
-answerOf (Refused r) = some (refuse (refusalOf r))
+abbrev pub fqcsidAnswer : Answer → Option (rules.Answer Fqcsid)
+fqcsidAnswer (Value v) = mapOption value (fqcsidOf v)
+fqcsidAnswer (Refused r) = some (refuse (refusalOf r))
 
 -- the cause of each case, 0 of a value
-abbrev pub causeIn : Answer → ℕ
-causeIn (Value v) = 0
-causeIn (Refused r) = causeOf (refusalOf r)
+abbrev pub fqcsidCause : Answer → ℕ
+fqcsidCause (Value v) = 0
+fqcsidCause (Refused r) = causeOf (refusalOf r)

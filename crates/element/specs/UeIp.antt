@@ -16,14 +16,14 @@ ueOf (Given a) = ueGiven a
 ueOf Choose = ueChoose
 ueOf Other = ueOther
 
-abbrev pub answerOf : Answer → rules.Answer rules.UeIp
-answerOf (Value v) = value (ueOf v)
-answerOf (Refused r) = refuse (refusalOf r)
+abbrev pub ueAnswer : Answer → rules.Answer rules.UeIp
+ueAnswer (Value v) = value (ueOf v)
+ueAnswer (Refused r) = refuse (refusalOf r)
 
 -- the cause of each case, 0 of a value
-abbrev pub causeIn : Answer → ℕ
-causeIn (Value v) = 0
-causeIn (Refused r) = causeOf (refusalOf r)
+abbrev pub ueCause : Answer → ℕ
+ueCause (Value v) = 0
+ueCause (Refused r) = causeOf (refusalOf r)
 
 -- octets without what a reader ignores: the flag V4 with four octets, or CHV4 alone
 unfoldable pub canonical : List ℕ → List ℕ

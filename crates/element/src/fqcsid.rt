@@ -14,7 +14,7 @@ ghost use Rattle.octets.specs.Fields.{widthOf, fieldOctets};
 ghost use Rattle.rules.specs.Limits.{maxOperator};
 ghost use Rattle.rules.specs.Elements.{addressLength, nodeTypeKept, readFqcsid, fqcsidAllowed, writeFqcsid};
 ghost use Rattle.element.specs.Answers.{left, writeMeant, allowedIn};
-ghost use Rattle.element.specs.FqCsid.{wordWidth, fqcsidWidths, fqcsidNumbers, fqcsidOf, answerOf, causeIn};
+ghost use Rattle.element.specs.FqCsid.{wordWidth, fqcsidWidths, fqcsidNumbers, fqcsidOf, fqcsidAnswer, fqcsidCause};
 
 // A Node-ID of 4 octets has its address in address_low alone. The CSIDs, of which there are count, stand two octets each in
 // four words, the first of them in csids_1, eight octets or what is left of them in each. So a single CSID is csids_1.
@@ -129,7 +129,7 @@ fn widths_of(id_type: u64, count: u64) -> [usize; 8]
 
 // Reads a value. Octets after it are ignored, and so is the high half of its last octet.
 pub fn read(s: &[u8]) -> Answer
-    ensures { λ r. ⌜ answerOf r ≡ some (readFqcsid (now (s .entry))) ⌝ }
+    ensures { λ r. ⌜ fqcsidAnswer r ≡ some (readFqcsid (now (s .entry))) ⌝ }
 {
     if s.len() == 0 {
         return Answer::Refused(Refusal::TooShort);
@@ -230,7 +230,7 @@ pub fn write(v: FqCsid, out: &mut [u8]) -> Written
 
 // The cause of the reply for a refusal, and 0 for a value.
 pub fn cause_of(a: Answer) -> u64
-    ensures { λ r. ⌜ r ≡ causeIn a ⌝ }
+    ensures { λ r. ⌜ r ≡ fqcsidCause a ⌝ }
 {
     match a {
         Answer::Value(_) => 0,

@@ -11,7 +11,7 @@ ghost use lib.ListN.{length};
 ghost use Rattle.octets.specs.Octets.{put, be};
 ghost use Rattle.rules.specs.Elements.{readFseid, fseidOctets, writeIf};
 ghost use Rattle.element.specs.Answers.{left};
-ghost use Rattle.element.specs.FSeid.{fseidFlags, answerOf, causeIn};
+ghost use Rattle.element.specs.FSeid.{fseidFlags, fseidAnswer, fseidCause};
 
 // The SEID, or why the value is refused.
 pub enum Answer {
@@ -21,7 +21,7 @@ pub enum Answer {
 
 // Reads a value, of which only the SEID is kept. Octets after it and other flags are ignored.
 pub fn read(s: &[u8]) -> Answer
-    ensures { λ r. ⌜ answerOf r ≡ readFseid (now (s .entry)) ⌝ }
+    ensures { λ r. ⌜ fseidAnswer r ≡ readFseid (now (s .entry)) ⌝ }
 {
     if s.len() == 0 {
         return Answer::Refused(Refusal::TooShort);
@@ -89,7 +89,7 @@ pub fn write(seid: u64, ipv4: u32, out: &mut [u8]) -> Written
 
 // The cause of the reply for a refusal, and 0 for a value.
 pub fn cause_of(a: Answer) -> u64
-    ensures { λ r. ⌜ r ≡ causeIn a ⌝ }
+    ensures { λ r. ⌜ r ≡ fseidCause a ⌝ }
 {
     match a {
         Answer::Value(_) => 0,

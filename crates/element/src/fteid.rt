@@ -10,7 +10,7 @@ ghost use Rattle.octets.specs.Octets.{put};
 ghost use Rattle.octets.specs.Fields.{widthOf, fieldOctets};
 ghost use Rattle.rules.specs.Elements.{wrongFlags, fteidLength, fteidFields, readFteid, fteidAllowed, writeFteid};
 ghost use Rattle.element.specs.Answers.{left, writeMeant, allowedIn};
-ghost use Rattle.element.specs.FTeid.{fteidWidths, fteidNumbers, fteidOf, answerOf, causeIn};
+ghost use Rattle.element.specs.FTeid.{fteidWidths, fteidNumbers, fteidOf, fteidAnswer, fteidCause};
 
 // Flags (V4 1, V6 2, CH 4, CHID 8) and fields. A field that the flags leave out is 0. The IPv6 address is two numbers
 // of 8 octets.
@@ -91,7 +91,7 @@ fn fields(s: &[u8], flags: u64) -> FTeid
 
 // Reads a value, in a traffic endpoint or not. Octets after it are ignored, and so are the high four bits of the flags.
 pub fn read(s: &[u8], endpoint: bool) -> Answer
-    ensures { λ r. ⌜ answerOf r ≡ some (readFteid endpoint (now (s .entry))) ⌝ }
+    ensures { λ r. ⌜ fteidAnswer r ≡ some (readFteid endpoint (now (s .entry))) ⌝ }
 {
     if s.len() == 0 {
         return Answer::Refused(Refusal::TooShort);
@@ -170,7 +170,7 @@ pub fn write(v: FTeid, endpoint: bool, out: &mut [u8]) -> Written
 
 // The cause of the reply for a refusal, and 0 for a value.
 pub fn cause_of(a: Answer) -> u64
-    ensures { λ r. ⌜ r ≡ causeIn a ⌝ }
+    ensures { λ r. ⌜ r ≡ fteidCause a ⌝ }
 {
     match a {
         Answer::Value(_) => 0,

@@ -7,7 +7,7 @@ ghost use lib.ListN.{length};
 ghost use Rattle.octets.specs.Octets.{put};
 ghost use Rattle.rules.specs.Elements.{ueOctets, ueGiven, ueChoose, ueUnsupported, readUeIp, writeUeIp};
 ghost use Rattle.element.specs.Answers.{left};
-ghost use Rattle.element.specs.UeIp.{ueOf, answerOf, causeIn};
+ghost use Rattle.element.specs.UeIp.{ueOf, ueAnswer, ueCause};
 
 // An address; a CHOOSE; or a value with what the unit does not have, of which no more is read.
 pub enum UeIp {
@@ -34,7 +34,7 @@ fn is_unsupported(flags: u64) -> bool
 
 // Reads a value. Octets after it are ignored, and so are S/D (4) and bit 8 of the flags.
 pub fn read(s: &[u8]) -> Answer
-    ensures { λ r. ⌜ answerOf r ≡ readUeIp (now (s .entry)) ⌝ }
+    ensures { λ r. ⌜ ueAnswer r ≡ readUeIp (now (s .entry)) ⌝ }
 {
     if s.len() == 0 {
         return Answer::Refused(Refusal::TooShort);
@@ -104,7 +104,7 @@ pub fn write(v: UeIp, out: &mut [u8]) -> Written
 
 // The cause of the reply for a refusal, and 0 for a value.
 pub fn cause_of(a: Answer) -> u64
-    ensures { λ r. ⌜ r ≡ causeIn a ⌝ }
+    ensures { λ r. ⌜ r ≡ ueCause a ⌝ }
 {
     match a {
         Answer::Value(_) => 0,

@@ -14,7 +14,7 @@ use Rattle.rules.specs.Reading.{readRequest}
 use Rattle.rules.specs.Request.{Request}
 use Rattle.rules.specs.Grants.{Kind, Got, granted}
 use Rattle.rules.specs.Stages.{entrySession, newPdrId, newEndpointId, createdPdrs, createdEndpoints, livePdrs, liveEndpoints, removedPdrs}
-use Rattle.rules.specs.Apply.{createPdr, createEndpoint, keptPdr, keptEndpoint}
+use Rattle.rules.specs.Apply.{madePdr, madeEndpoint, keptPdr, keptEndpoint}
 use Rattle.plan.specs.Rows.{tagged, rowEndpointId, rowPdr, rowEndpoint, requestIn}
 use Rattle.rules.specs.Types as ie
 use Rattle.invariants.proofs.VerdictLaws.{Passed}
@@ -35,16 +35,16 @@ pub record RowsFit (rows : List (List ℕ)) : Type 0 where
 
 -- the TEID and address words of the rows hold what was granted
 pub record GotStored (got : Kind → ℕ → Got) (rows : List (List ℕ)) : Type 0 where
-  pub endpointGot : map (createEndpoint got) (map rowEndpoint (tagged ie.createEndpoint rows)) ≡ map endpointOf (tagged ie.createEndpoint rows)
-  pub pdrGot : map (createPdr got) (map rowPdr (tagged ie.createPdr rows)) ≡ map pdrOf (tagged ie.createPdr rows)
+  pub endpointGot : map (madeEndpoint got) (map rowEndpoint (tagged ie.createEndpoint rows)) ≡ map endpointOf (tagged ie.createEndpoint rows)
+  pub pdrGot : map (madePdr got) (map rowPdr (tagged ie.createPdr rows)) ≡ map pdrOf (tagged ie.createPdr rows)
 
 endpoint-ids : (qs : List (List ℕ)) → map newEndpointId (map rowEndpoint qs) ≡ map endpointId (map endpointOf qs)
-unfolding endpointOf createEndpoint
+unfolding endpointOf madeEndpoint
 endpoint-ids [] = refl
 endpoint-ids (q ∷ qs) = ap (λ (l : List ℕ). rowEndpoint q .id ∷ l) (endpoint-ids qs)
 
 pdr-ids : (qs : List (List ℕ)) → map newPdrId (map rowPdr qs) ≡ map pdrId (map pdrOf qs)
-unfolding pdrOf createPdr
+unfolding pdrOf madePdr
 pdr-ids [] = refl
 pdr-ids (q ∷ qs) = ap (λ (l : List ℕ). rowPdr q .id ∷ l) (pdr-ids qs)
 

@@ -30,7 +30,7 @@ use Rattle.session.specs.Areas.{tableArea}
 use Rattle.octets.specs.Lists.{keep}
 use Rattle.created.specs.Groups.{reportsOf, allReports}
 use Rattle.writing.specs.Placed.{written}
-use Rattle.frame.specs.Framed.{faultIn}
+use Rattle.frame.specs.Framed.{framingFault}
 use Rattle.frame.specs.declared.Framing.{Framing}
 use Rattle.frame.specs.declared.Framing.the-variants as framings
 use Rattle.engine.proofs.Faults.{framed}
@@ -88,7 +88,7 @@ nothing-told = refl
 
 -- from what the code's readers answer
 pub deleted-through : (u : Unit) (t msg out : List ℕ) (f : Framing) (seid used : ℕ) (out′ t′ : List ℕ) → Asked t msg out → Live t msg → kindOf msg ≡ deletion → seid ≡ headerSeid msg → settingsOf u ≡ viewSettings t
-    → faultIn f ≡ frameFault msg → f ≡ framings.Framed
+    → framingFault f ≡ frameFault msg → f ≡ framings.Framed
     → (used, out′) ≡ written (reply (settingsOf u) msg 0 (plain why.accepted) (allReports [])) out → t′ ≡ withoutRecord (tableArea (u .limit)) seid t → Replies t msg out used 0 out′ t′
 deleted-through u t msg out f seid used out′ t′ a live del es is fe fq w d =
     let fr = framed t msg out live f fe fq in

@@ -17,10 +17,10 @@ use Rattle.rules.specs.Model.{Settings, Session, Sessions, freeCount}
 use Rattle.rules.specs.Elements.{Fqcsid}
 use Rattle.rules.specs.Message.{Element, kindOf, headerLength, body, elements, actedOn, establishment, deletion}
 use Rattle.rules.specs.Reading.{done, elementRead, elementsRead, finished, aloneIn, sessionRead, topRead, read, faultIn, readFault, askedIn, readRequest}
-use Rattle.rules.specs.Request.{Request, Draft, emptyDraft, requestOf, listing}
+use Rattle.rules.specs.Request.{Request, Draft, emptyDraft, requestFrom, listing}
 use Rattle.rules.specs.Grants.{Kind, Got, choices, needFrom, need}
 use Rattle.rules.specs.Reply.{Reports, noReports, reports}
-use Rattle.rules.specs.Stages.{plain, fteidsOf, addressesOf, restoredAddresses, addressClash, noAddress, invalidAllocation, createdPdrs, createdEndpoints, updatedPdrs, idTwice, createdLive, absentId, removedPdrs, updatesRemoved, namesAbsent, restoredHoldings, clash, requestRules, brokenRules, breaksRule, tooManySessions, tooManyPdrs, tooManyEndpoints, tooFewTeids, noRoom, judge}
+use Rattle.rules.specs.Stages.{plain, fteidsOf, addressesOf, restoredAddresses, addressClash, addressLacks, invalidAllocation, createdPdrs, createdEndpoints, updatedPdrs, idTwice, createdLive, absentId, removedPdrs, updatesRemoved, namesAbsent, restoredHoldings, clash, requestRules, brokenRules, breaksRule, tooManySessions, tooManyPdrs, tooManyEndpoints, tooFewTeids, roomLacks, judge}
 use Rattle.rules.specs.Causes as why
 
 -- a request without records
@@ -39,7 +39,7 @@ unfolding elementsRead elementRead actedOn member
 unread alone [] d = refl
 unread alone (e ∷ es) d = unread alone es d
 
-pub deletion-read : (msg : List ℕ) → kindOf msg ≡ deletion → read msg ≡ done (requestOf 0 emptyDraft)
+pub deletion-read : (msg : List ℕ) → kindOf msg ≡ deletion → read msg ≡ done (requestFrom 0 emptyDraft)
 unfolding read topRead sessionRead finished
 deletion-read msg e = let es = elements (headerLength msg) (body msg) in rw (e, unread (aloneIn es) es emptyDraft)
 
@@ -49,7 +49,7 @@ unfolding readFault faultIn
 deletion-fine msg e = rw (deletion-read msg e)
 
 pub deletion-empty : (msg : List ℕ) → kindOf msg ≡ deletion → Empty (readRequest msg)
-unfolding readRequest askedIn requestOf collect any
+unfolding readRequest askedIn requestFrom collect any
 deletion-empty msg e = rw (deletion-read msg e) (record { seid = refl; pdrs = refl; endpoints = refl; changes = refl; gonePdrs = refl; goneEndpoints = refl; unsupported = refl })
 
 -- and neither has what a set deletion lists
@@ -83,8 +83,8 @@ module _ (s : Settings) (m : Sessions) (x : Session) (r : Request) (e : Empty r)
   unfolding need needFrom choices collect
   needs-none = rw (e .endpoints, e .pdrs)
 
-  addressed : noAddress s m r ≡ false
-  unfolding noAddress any
+  addressed : addressLacks s m r ≡ false
+  unfolding addressLacks any
   addressed = rw no-addresses
 
   pub no-reports : (got : Kind → ℕ → Got) → reports got r ≡ noReports
@@ -99,8 +99,8 @@ module _ (s : Settings) (m : Sessions) (x : Session) (r : Request) (e : Empty r)
   unfolding tooManyEndpoints
   few-endpoints b = let n = ap length (e .endpoints) in le-ltb maxEndpoints (length (x .endpoints) - length (r .goneEndpoints) + length (r .endpoints)) (omega arith)
 
-  room : (kind : ℕ) → eqb kind establishment ≡ false → length (x .pdrs) ≤ 16 → length (x .endpoints) ≤ 8 → noRoom kind s m x r ≡ false
-  unfolding noRoom tooManySessions tooFewTeids
+  room : (kind : ℕ) → eqb kind establishment ≡ false → length (x .pdrs) ≤ 16 → length (x .endpoints) ≤ 8 → roomLacks kind s m x r ≡ false
+  unfolding roomLacks tooManySessions tooFewTeids
   room kind k a b =
       let f : ltb (freeCount s m) 0 ≡ false = le-ltb (freeCount s m) 0 (omega arith) in
       rw (needs-none, f, k, few-pdrs a, few-endpoints b)

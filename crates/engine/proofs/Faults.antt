@@ -56,11 +56,11 @@ module _ (t msg out : List ℕ) (live : Live t msg) where
       faulted c k p (not-read (viewSettings t) (viewSessions t) msg live fr x (ap faultIn e) ∙ (λ i. record { cause = ec i; offending = some (ek i); place = ep i }))
       (rw ec at (s .0)) (λ z. s .1 (ec ∙ z))
 
-  pub frame-refuses : (f : Framing) (k p : ℕ) → frame.faultIn f ≡ frameFault msg → f ≡ framings.Fault k p → Faulted t msg out why.wrongLength k p
-  frame-refuses f k p e q = not-framed-refuses (spot k p) (sym e ∙ ap frame.faultIn q)
+  pub frame-refuses : (f : Framing) (k p : ℕ) → frame.framingFault f ≡ frameFault msg → f ≡ framings.Fault k p → Faulted t msg out why.wrongLength k p
+  frame-refuses f k p e q = not-framed-refuses (spot k p) (sym e ∙ ap frame.framingFault q)
 
-  pub framed : (f : Framing) → frame.faultIn f ≡ frameFault msg → f ≡ framings.Framed → frameFault msg ≡ none
-  framed f e q = sym e ∙ ap frame.faultIn q
+  pub framed : (f : Framing) → frame.framingFault f ≡ frameFault msg → f ≡ framings.Framed → frameFault msg ≡ none
+  framed f e q = sym e ∙ ap frame.framingFault q
 
   pub read-fine : (v : Verdict) → outcome v (readRequest msg) ≡ numbered (read msg) → v ≡ Fine → readFault msg ≡ none
   unfolding readFault
@@ -71,7 +71,7 @@ module _ (t msg out : List ℕ) (live : Live t msg) where
       go (faulty x) g = absurd (let z : _≡_ {A = ℕ} 0 1 = cc in omega arith)
 
   -- stage 3 after stage 2
-  pub then-refuses : (f : Framing) (v : Verdict) (c k p : ℕ) → frame.faultIn f ≡ frameFault msg → f ≡ framings.Framed → outcome v (readRequest msg) ≡ numbered (read msg) → v ≡ Refused c k p → Faulted t msg out c k p
+  pub then-refuses : (f : Framing) (v : Verdict) (c k p : ℕ) → frame.framingFault f ≡ frameFault msg → f ≡ framings.Framed → outcome v (readRequest msg) ≡ numbered (read msg) → v ≡ Refused c k p → Faulted t msg out c k p
   then-refuses f v c k p fe fq e q = go (read msg) refl (sym e ∙ ap (λ (w : Verdict). outcome w (readRequest msg)) q)
     where
       go : (o : Reading Request) → read msg ≡ o → numbered o ≡ stopped c k p → Faulted t msg out c k p
@@ -83,15 +83,15 @@ module _ (t msg out : List ℕ) (live : Live t msg) where
           not-read-refuses (framed f fe fq) x r c k p ec ek ep
 
   -- what the code asks of `refuse`, and what it replies then
-  pub frame-asks : (f : Framing) (k p : ℕ) → frame.faultIn f ≡ frameFault msg → f ≡ framings.Fault k p → Refusing t msg out why.wrongLength (Element k)
+  pub frame-asks : (f : Framing) (k p : ℕ) → frame.framingFault f ≡ frameFault msg → f ≡ framings.Fault k p → Refusing t msg out why.wrongLength (Element k)
   frame-asks f k p e q = frame-refuses f k p e q .refusing
 
-  pub frame-replies : (f : Framing) (k p used : ℕ) (out′ : List ℕ) → frame.faultIn f ≡ frameFault msg → f ≡ framings.Fault k p → Answers t msg out used out′ t → Replies t msg out used p out′ t
+  pub frame-replies : (f : Framing) (k p used : ℕ) (out′ : List ℕ) → frame.framingFault f ≡ frameFault msg → f ≡ framings.Fault k p → Answers t msg out used out′ t → Replies t msg out used p out′ t
   frame-replies f k p used out′ e q a′ = replies-fault (frame-refuses f k p e q) a′
 
-  pub then-asks : (f : Framing) (v : Verdict) (c k p : ℕ) → frame.faultIn f ≡ frameFault msg → f ≡ framings.Framed → outcome v (readRequest msg) ≡ numbered (read msg) → v ≡ Refused c k p → Refusing t msg out c (Element k)
+  pub then-asks : (f : Framing) (v : Verdict) (c k p : ℕ) → frame.framingFault f ≡ frameFault msg → f ≡ framings.Framed → outcome v (readRequest msg) ≡ numbered (read msg) → v ≡ Refused c k p → Refusing t msg out c (Element k)
   then-asks f v c k p fe fq e q = then-refuses f v c k p fe fq e q .refusing
 
-  pub then-replies : (f : Framing) (v : Verdict) (c k p used : ℕ) (out′ : List ℕ) → frame.faultIn f ≡ frameFault msg → f ≡ framings.Framed → outcome v (readRequest msg) ≡ numbered (read msg) → v ≡ Refused c k p
+  pub then-replies : (f : Framing) (v : Verdict) (c k p used : ℕ) (out′ : List ℕ) → frame.framingFault f ≡ frameFault msg → f ≡ framings.Framed → outcome v (readRequest msg) ≡ numbered (read msg) → v ≡ Refused c k p
       → Answers t msg out used out′ t → Replies t msg out used p out′ t
   then-replies f v c k p used out′ fe fq e q a′ = replies-fault (then-refuses f v c k p fe fq e q) a′

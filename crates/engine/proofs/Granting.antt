@@ -13,6 +13,7 @@ use lib.Seq.{length-take-le}
 use Rattle.octets.specs.Choice.{pick, consOption}
 use Rattle.octets.specs.Octets.{be, bit, slices}
 use Rattle.octets.specs.Lists.{all, any, keep, collect}
+use Rattle.octets.specs.Rows.{hasTag}
 use Rattle.octets.proofs.Tests.{and-left, both, all-head, all-tail, is-true}
 use Rattle.octets.proofs.Ordered.{keep-passes}
 use Rattle.octets.proofs.ListLaws.{Every, OnSome, map-map}
@@ -20,10 +21,10 @@ use Rattle.rules.specs.Model.{Tunnel, tunnel}
 use Rattle.rules.specs.Elements.{given, choose, ueGiven, ueChoose, ueOther, Fqcsid, sets, removal, nodeTypeKept, nodeAddressAllowed, nodeAddressTests}
 use Rattle.rules.specs.Request.{cleared, changed}
 use Rattle.rules.specs.Grants.{Kind, ofPdr, ofEndpoint, Got, Grant, grantedTeid}
-use Rattle.rules.specs.Apply.{tunnelFrom, matchFrom, addressGot, addressFrom, createPdr, createEndpoint}
+use Rattle.rules.specs.Apply.{tunnelFrom, matchFrom, addressGot, addressFrom, madePdr, madeEndpoint}
 use Rattle.laws.proofs.RequestLaws.{PdrRead, EndpointRead, CsidsRead, RequestRead}
 use Rattle.laws.proofs.ReadLaws.{CsidRead}
-use Rattle.plan.specs.Rows.{word, hasTag, tagged, present, fteidFrom, rowFteid, ueFrom, rowUe, rowLocal, rowPdr, rowEndpoint, rowCsid, rowAddress, isNullRow, requestIn, rowsOf, rowWidth}
+use Rattle.plan.specs.Rows.{word, tagged, present, fteidFrom, rowFteid, ueFrom, rowUe, rowLocal, rowPdr, rowEndpoint, rowCsid, rowAddress, isNullRow, requestIn, rowsOf, rowWidth}
 use Rattle.rules.specs.Types as ie
 use Rattle.plan.specs.Words as its
 use Rattle.grants.specs.Choosing.{choosing, rowWith}
@@ -143,8 +144,8 @@ address-of row n e = go (eqb (word its.ueKind row) 0) (eqb (word its.ueKind row)
     go false false false g = unfold addressFrom addressGot in refl
 
 endpoint-stored : (got : Kind → ℕ → Got) (row : List ℕ) → (bit 2 (word its.flags row) ≡ true → got ofEndpoint (word its.endpointId row) .teid ≡ word its.teid row)
-    → (eqb (word its.ueKind row) 2 ≡ true → got ofEndpoint (word its.endpointId row) .address ≡ word its.ueAddress row) → createEndpoint got (rowEndpoint row) ≡ endpointOf row
-unfolding createEndpoint endpointOf rowEndpoint
+    → (eqb (word its.ueKind row) 2 ≡ true → got ofEndpoint (word its.endpointId row) .address ≡ word its.ueAddress row) → madeEndpoint got (rowEndpoint row) ≡ endpointOf row
+unfolding madeEndpoint endpointOf rowEndpoint
 endpoint-stored got row e f =
     let local = tunnel-of row (got ofEndpoint (word its.endpointId row) .teid) e in
     let address = address-of row (got ofEndpoint (word its.endpointId row) .address) f in
@@ -159,8 +160,8 @@ match-of row n h e = go (eqb (word its.flags row) 0)
     go false = unfold matchFrom in (ap (λ (t : Tunnel). tunnel t) (tunnel-of row n h))
 
 pdr-stored : (got : Kind → ℕ → Got) (row : List ℕ) → (bit 2 (word its.flags row) ≡ true → got ofPdr (word its.pdrId row) .teid ≡ word its.teid row)
-    → (eqb (word its.ueKind row) 2 ≡ true → got ofPdr (word its.pdrId row) .address ≡ word its.ueAddress row) → createPdr got (rowPdr row) ≡ pdrOf row
-unfolding createPdr pdrOf rowPdr
+    → (eqb (word its.ueKind row) 2 ≡ true → got ofPdr (word its.pdrId row) .address ≡ word its.ueAddress row) → madePdr got (rowPdr row) ≡ pdrOf row
+unfolding madePdr pdrOf rowPdr
 pdr-stored got row e f =
     let matched = match-of row (got ofPdr (word its.pdrId row) .teid) e (present (word its.hasEndpointId row) (word its.endpointId row)) in
     let address = address-of row (got ofPdr (word its.pdrId row) .address) f in
@@ -217,15 +218,15 @@ module _ (gs : List Grant) (a : ℕ) where
   got-stored rows h =
       record {
         endpointGot =
-            map-map rowEndpoint (createEndpoint (gets gs a)) (tagged ie.createEndpoint (map with rows))
-            ∙ rows-with (λ row. createEndpoint (gets gs a) (rowEndpoint row)) endpointOf ie.createEndpoint
+            map-map rowEndpoint (madeEndpoint (gets gs a)) (tagged ie.createEndpoint (map with rows))
+            ∙ rows-with (λ row. madeEndpoint (gets gs a) (rowEndpoint row)) endpointOf ie.createEndpoint
             (λ row l t. endpoint-stored (gets gs a) (with row)
             (λ e. ap (grantedTeid gs ofEndpoint) (like row .words 11 (λ z. omega arith) (λ z. omega arith))
             ∙ sym (teid-word row ∙ endpoint-teid gs row l (chooses-as ie.createEndpoint row t (flags-with row e))))
             (λ e. sym (address-got gs a row l (either-tag row .0 t) (ue-with row e)))) rows h;
         pdrGot =
-            map-map rowPdr (createPdr (gets gs a)) (tagged ie.createPdr (map with rows))
-            ∙ rows-with (λ row. createPdr (gets gs a) (rowPdr row)) pdrOf ie.createPdr
+            map-map rowPdr (madePdr (gets gs a)) (tagged ie.createPdr (map with rows))
+            ∙ rows-with (λ row. madePdr (gets gs a) (rowPdr row)) pdrOf ie.createPdr
             (λ row l t. pdr-stored (gets gs a) (with row)
             (λ e. ap (grantedTeid gs ofPdr) (like row .words 7 (λ z. omega arith) (λ z. omega arith))
             ∙ sym (teid-word row ∙ pdr-teid gs row l (chooses-as ie.createPdr row t (flags-with row e))))

@@ -110,17 +110,17 @@ module _ (t msg out : List ℕ) (a : AskedList t msg out) where
   abbrev head : Listing msg
   head = a .list
 
-  pub list-frame-asks : (f : Framing) (k p : ℕ) → frame.faultIn f ≡ frameFault msg → f ≡ framings.Fault k p → Refusing t msg out why.wrongLength (Element k)
+  pub list-frame-asks : (f : Framing) (k p : ℕ) → frame.framingFault f ≡ frameFault msg → f ≡ framings.Fault k p → Refusing t msg out why.wrongLength (Element k)
   list-frame-asks = frame-asks t msg out (listing-live t msg head)
 
-  pub list-frame-replies : (f : Framing) (k p used : ℕ) (out′ : List ℕ) → frame.faultIn f ≡ frameFault msg → f ≡ framings.Fault k p → Answers t msg out used out′ t → Replies t msg out used p out′ t
+  pub list-frame-replies : (f : Framing) (k p used : ℕ) (out′ : List ℕ) → frame.framingFault f ≡ frameFault msg → f ≡ framings.Fault k p → Answers t msg out used out′ t → Replies t msg out used p out′ t
   list-frame-replies = frame-replies t msg out (listing-live t msg head)
 
-  pub list-asks : (f : Framing) (v : code.Verdict) (c k p : ℕ) → frame.faultIn f ≡ frameFault msg → f ≡ framings.Framed
+  pub list-asks : (f : Framing) (v : code.Verdict) (c k p : ℕ) → frame.framingFault f ≡ frameFault msg → f ≡ framings.Framed
       → outcome v tt ≡ numbered (blank (listRead (elements listPlace (take (length msg - 8) (drop 8 msg))))) → v ≡ Refused c k p → Refusing t msg out c (Element k)
   list-asks f v c k p fe fq e q = then-asks t msg out (listing-live t msg head) f v c k p fe fq (list-read t msg head v e) q
 
-  pub list-replies : (f : Framing) (v : code.Verdict) (c k p used : ℕ) (out′ : List ℕ) → frame.faultIn f ≡ frameFault msg → f ≡ framings.Framed
+  pub list-replies : (f : Framing) (v : code.Verdict) (c k p used : ℕ) (out′ : List ℕ) → frame.framingFault f ≡ frameFault msg → f ≡ framings.Framed
       → outcome v tt ≡ numbered (blank (listRead (elements listPlace (take (length msg - 8) (drop 8 msg))))) → v ≡ Refused c k p → Answers t msg out used out′ t → Replies t msg out used p out′ t
   list-replies f v c k p used out′ fe fq e q x = then-replies t msg out (listing-live t msg head) f v c k p used out′ fe fq (list-read t msg head v e) q x
 
@@ -132,7 +132,7 @@ module _ (t msg out : List ℕ) (a : AskedList t msg out) where
       go (faulty f) h = let z : _≡_ {A = ℕ} 0 1 = cc in absurd (omega arith)
       go (done u) h = refl
 
-  pub listed-through : (s : Settings) (f : Framing) (v : code.Verdict) (used : ℕ) (out′ t′ : List ℕ) → s ≡ viewSettings t → frame.faultIn f ≡ frameFault msg → f ≡ framings.Framed
+  pub listed-through : (s : Settings) (f : Framing) (v : code.Verdict) (used : ℕ) (out′ t′ : List ℕ) → s ≡ viewSettings t → frame.framingFault f ≡ frameFault msg → f ≡ framings.Framed
       → outcome v tt ≡ numbered (blank (listRead (elements listPlace (take (length msg - 8) (drop 8 msg))))) → v ≡ Fine
       → (used, out′) ≡ written (reply s msg 0 (refusal why.accepted Nothing) noReports) out
       → t′ ≡ encode (viewSettings t) (keep (staysSession (gotten (listRead (elements listPlace (take (length msg - 8) (drop 8 msg)))))) (viewSessions t))

@@ -15,7 +15,7 @@ use Rattle.rules.specs.Sound.{poolTests, addressPoolTests, settingsTests, setti
 use Rattle.rules.specs.Message.{establishment}
 use Rattle.rules.specs.Reading.{readRequest}
 use Rattle.rules.specs.Request.{Request}
-use Rattle.rules.specs.Stages.{removedPdrs, entrySession, Verdict, plain, isLive, invalidAllocation, breaksRule, noRoom, noAddress, judge, judged}
+use Rattle.rules.specs.Stages.{removedPdrs, entrySession, Verdict, plain, isLive, invalidAllocation, breaksRule, roomLacks, addressLacks, judge, judged}
 use Rattle.rules.specs.Causes as why
 use Rattle.invariants.proofs.ServeLaws.{TableKept, table-kept}
 use Rattle.invariants.proofs.FreeTeids.{held-in-pool}
@@ -35,7 +35,7 @@ use Rattle.engine.specs.Steps.{Counted, Entered, Readable}
 -- a cause is one octet
 judge-small : (kind : ℕ) (s : Settings) (m : Sessions) (x : Session) (r : Request) → judge kind s m x r .cause < 256
 unfolding judge
-judge-small kind s m x r = one (eqb kind establishment && isLive (r .seid) m) (invalidAllocation r) (r .unsupported) (breaksRule s m x r) (noRoom kind s m x r) (noAddress s m r)
+judge-small kind s m x r = one (eqb kind establishment && isLive (r .seid) m) (invalidAllocation r) (r .unsupported) (breaksRule s m x r) (roomLacks kind s m x r) (addressLacks s m r)
   where
     one : (a b c d e f : Bool)
         → pick a (plain why.rejected) (pick b (plain why.wrongAllocation) (pick c (plain why.notSupported) (pick d (plain why.brokenRule) (pick e (plain why.noRoom) (pick f (plain why.noAddress) (plain why.accepted)))))) .cause < 256

@@ -9,7 +9,7 @@ use Rattle.rules.specs.Model.{Settings, Sessions}
 use Rattle.rules.specs.Elements.{causeOf}
 use Rattle.rules.specs.Message.{Spot, frameFault}
 use Rattle.rules.specs.Reading.{Fault, readFault}
-use Rattle.rules.specs.Stages.{plain, judged, fromReading, fromFraming, unknownSession, verdict}
+use Rattle.rules.specs.Stages.{plain, judged, fromReading, verdictFrom, unknownSession, verdict}
 use Rattle.rules.specs.Causes as why
 
 module _ (s : Settings) (m : Sessions) (msg : List ℕ) where
@@ -21,16 +21,16 @@ module _ (s : Settings) (m : Sessions) (msg : List ℕ) where
   module _ (known : unknownSession m msg ≡ false) where
     -- stage 2
     pub not-framed : (f : Spot) → frameFault msg ≡ some f → verdict s m msg ≡ record { cause = why.wrongLength; offending = some (f .type); place = f .place }
-    unfolding verdict fromFraming
+    unfolding verdict verdictFrom
     not-framed f e = rw (known, e)
 
     module _ (framed : frameFault msg ≡ none) where
       -- stage 3
       pub not-read : (f : Fault) → readFault msg ≡ some f → verdict s m msg ≡ record { cause = causeOf (f .cause); offending = some (f .type); place = f .place }
-      unfolding verdict fromFraming fromReading
+      unfolding verdict verdictFrom fromReading
       not-read f e = rw (known, framed, e)
 
       -- stages 4 to 6
       pub read-through : readFault msg ≡ none → verdict s m msg ≡ judged s m msg
-      unfolding verdict fromFraming fromReading
+      unfolding verdict verdictFrom fromReading
       read-through e = rw (known, framed, e)

@@ -25,8 +25,8 @@ use Rattle.session.proofs.Saved.{session-place, session-absent}
 use Rattle.table.proofs.Encoded.{Encoded, sound-encoded}
 use Rattle.table.proofs.SoundSlots.{slotAt, few-pdrs, few-endpoints, slot-long, slot-session, session-kept, count-read, table-long}
 use Rattle.finding.specs.declared.Answer.{Answer}
-use Rattle.finding.specs.Holds.{Counted}
-use Rattle.finding.specs.Answers.{answerOf}
+use Rattle.finding.specs.Holds.{SlotCounted}
+use Rattle.finding.specs.Answers.{findingTold}
 use Rattle.finding.proofs.PlaceLaws.{seid-found, place-none, place-here, place-later, place-end}
 
 -- ---- broken or not
@@ -99,7 +99,7 @@ module _ (t : List ℕ) (b : Bool) (e : b ≡ sound t) where
     unfolding findHolder
     teid-broken z = told-broken (holderPlace teid (viewSessions t)) z
 
-    pub teid-told : (r : Answer) → not b ≡ false → answerOf r ≡ findingOf (holderPlace teid (viewSessions t)) → answerOf r ≡ findHolder t teid
+    pub teid-told : (r : Answer) → not b ≡ false → findingTold r ≡ findingOf (holderPlace teid (viewSessions t)) → findingTold r ≡ findHolder t teid
     unfolding findHolder
     teid-told r z q = q ∙ told (holderPlace teid (viewSessions t)) z
 
@@ -112,7 +112,7 @@ module _ (t : List ℕ) (h : T (sound t)) (teid i n : ℕ) (count : n ≡ length
   less : i < length (viewSessions t)
   less = omega arith
 
-  pub slot-counted : Counted (slotAt t i)
+  pub slot-counted : SlotCounted (slotAt t i)
   slot-counted =
       let fine : T (sessionAllowed (viewSettings t) (viewSession (slotAt t i))) = rw (slot-session t h i less) (session-kept t h i less) in
       record {

@@ -3,5 +3,5 @@
 use Rattle.rules.specs.Finding.{Finding}
 use Rattle.finding.specs.declared.Answer.{Answer}
 
-abbrev pub answerOf : Answer → Finding
-answerOf r = record { outcome = r .outcome; number = r .number }
+abbrev pub findingTold : Answer → Finding
+findingTold r = record { outcome = r .outcome; number = r .number }

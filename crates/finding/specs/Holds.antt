@@ -19,7 +19,7 @@ unfoldable pub pdrsHold : ℕ → ℕ → List ℕ → Bool
 pdrsHold teid n a = member teid (map teidOf (pdrHolds n a))
 
 -- a slot whose areas have room for what it counts
-pub record Counted (slot : List ℕ) : Type 0 where
+pub record SlotCounted (slot : List ℕ) : Type 0 where
   pub long : length slot ≡ sessionWidth
   pub pdrs : getD slot pdrCountAt 0 ≤ maxPdrs
   pub endpoints : getD slot endpointCountAt 0 ≤ maxEndpoints

@@ -7,8 +7,8 @@ ghost use lib.ListN.{length};
 ghost use Rattle.rules.specs.Layout.{viewSession, viewSessions, pdrWidth, endpointWidth};
 ghost use Rattle.rules.specs.Sound.{sound};
 ghost use Rattle.rules.specs.Finding.{isHolder, holderPlace, findingOf, countSessions, findSession, findHolder};
-ghost use Rattle.finding.specs.Holds.{endpointsHold, pdrsHold, Counted};
-ghost use Rattle.finding.specs.Answers.{answerOf};
+ghost use Rattle.finding.specs.Holds.{endpointsHold, pdrsHold, SlotCounted};
+ghost use Rattle.finding.specs.Answers.{findingTold};
 use format::ENDPOINT;
 use format::ENDPOINT_COUNT;
 use format::ENDPOINTS;
@@ -59,7 +59,7 @@ fn pdrs_hold(pdrs: &[u8], n: usize, teid: u64) -> bool
 
 // Whether a record of the session in a slot holds a TEID.
 fn slot_holds(slot: &[u8], teid: u64) -> bool
-    requires { ⌜ Counted (now slot) ⌝ }
+    requires { ⌜ SlotCounted (now slot) ⌝ }
     ensures { λ r. ⌜ r ≡ isHolder teid (viewSession (now (slot .entry))) ⌝ }
 {
     let endpoints = slot[ENDPOINT_COUNT] as usize;
@@ -73,7 +73,7 @@ fn slot_holds(slot: &[u8], teid: u64) -> bool
 // The first of the n sessions that holds a TEID.
 fn holder(t: &[u8], n: usize, teid: u64) -> Answer
     requires { ⌜ T (sound (now t)) × (n ≡ length (viewSessions (now t))) ⌝ }
-    ensures { λ r. ⌜ answerOf r ≡ findingOf (holderPlace teid (viewSessions (now (t .entry)))) ⌝ }
+    ensures { λ r. ⌜ findingTold r ≡ findingOf (holderPlace teid (viewSessions (now (t .entry)))) ⌝ }
 {
     for i in 0..n {
         let at = HEAD + i * SLOT;
@@ -92,7 +92,7 @@ fn holder(t: &[u8], n: usize, teid: u64) -> Answer
 
 // How many sessions there are.
 pub fn session_count(t: &[u8]) -> Answer
-    ensures { λ r. ⌜ answerOf r ≡ countSessions (now (t .entry)) ⌝ }
+    ensures { λ r. ⌜ findingTold r ≡ countSessions (now (t .entry)) ⌝ }
 {
     if !table::is_sound(t) {
         return Answer {
@@ -108,7 +108,7 @@ pub fn session_count(t: &[u8]) -> Answer
 
 // The place of the session of a SEID.
 pub fn find_session(t: &[u8], seid: u64) -> Answer
-    ensures { λ r. ⌜ answerOf r ≡ findSession (now (t .entry)) seid ⌝ }
+    ensures { λ r. ⌜ findingTold r ≡ findSession (now (t .entry)) seid ⌝ }
 {
     if !table::is_sound(t) {
         return Answer {
@@ -132,7 +132,7 @@ pub fn find_session(t: &[u8], seid: u64) -> Answer
 
 // The place of the session that holds a TEID; no two do.
 pub fn find_holder(t: &[u8], teid: u64) -> Answer
-    ensures { λ r. ⌜ answerOf r ≡ findHolder (now (t .entry)) teid ⌝ }
+    ensures { λ r. ⌜ findingTold r ≡ findHolder (now (t .entry)) teid ⌝ }
 {
     if !table::is_sound(t) {
         return Answer {

@@ -14,8 +14,8 @@ use Rattle.octets.specs.Choice.{pick, orElse}
 use Rattle.octets.specs.Octets.{part}
 use Rattle.octets.specs.Lists.{member}
 use Rattle.octets.proofs.Put.{part-from}
-use Rattle.rules.specs.Message.{inside, elementType, elementLength, opened, Spot, spot, innerFault, frameUpTo, frame}
-use Rattle.frame.specs.Framed.{faultIn}
+use Rattle.rules.specs.Message.{inside, elementType, elementLength, openedIn, Spot, spot, innerFault, frameUpTo, frame}
+use Rattle.frame.specs.Framed.{framingFault}
 use Rattle.frame.specs.declared.Framing.{Framing}
 use Rattle.frame.specs.declared.Framing.the-variants.{Fault}
 use Rattle.laws.proofs.MessageLaws.{shorter, frame-enough}
@@ -49,7 +49,7 @@ module _ (inner : Spot → ℕ → List ℕ → Option Spot) (kind : ℕ) (group
 
 -- the fault inside an element of type t at a place, with the value v, in a group of type g
 unfoldable pub faultInside : ℕ → ℕ → ℕ → ℕ → ℕ → List ℕ → Option Spot
-faultInside d m g t at v = pick (member t (opened m g)) (frame (d - 1) m (spot t at) (inside at) v) none
+faultInside d m g t at v = pick (member t (openedIn m g)) (frame (d - 1) m (spot t at) (inside at) v) none
 
 pub frame-none : (d m : ℕ) (g : Spot) (at : ℕ) (s : List ℕ) → d ≡ 0 → frame d m g at s ≡ none
 unfolding frame
@@ -87,16 +87,16 @@ module _ (d m g p at : ℕ) (s : List ℕ) (deep : d ≡ 0 → ⊥) (some-left :
         let e : n - 4 ≡ elementLength s = omega arith in
         rw (by-front d m (spot g p) at s deep some-left, le-ltb (length s) 4 long, ← size, le-ltb (length s) n h, ← type, e)
 
-    pub fault-inside : {r : Framing} {x y : ℕ} → n ≤ length s → faultInside d m g t at (take (n - 4) (drop 4 s)) ≡ faultIn r → r ≡ Fault x y → faultIn r ≡ here at s
+    pub fault-inside : {r : Framing} {x y : ℕ} → n ≤ length s → faultInside d m g t at (take (n - 4) (drop 4 s)) ≡ framingFault r → r ≡ Fault x y → framingFault r ≡ here at s
     fault-inside h e q = rw (whole h, e, q)
 
     pub sound-inside : n ≤ length s → faultInside d m g t at (take (n - 4) (drop 4 s)) ≡ none → here at s ≡ here (at + n) (take (length s - n) (drop n s))
     sound-inside h e = rw (whole h, e, part-from)
 
-pub inside-shut : (d m g t at : ℕ) (v : List ℕ) → false ≡ member t (opened m g) → faultInside d m g t at v ≡ none
+pub inside-shut : (d m g t at : ℕ) (v : List ℕ) → false ≡ member t (openedIn m g) → faultInside d m g t at v ≡ none
 unfolding faultInside
 inside-shut d m g t at v h = rw (← h)
 
-pub inside-open : (d m g t at : ℕ) (v : List ℕ) → true ≡ member t (opened m g) → faultInside d m g t at v ≡ frame (d - 1) m (spot t at) (inside at) v
+pub inside-open : (d m g t at : ℕ) (v : List ℕ) → true ≡ member t (openedIn m g) → faultInside d m g t at v ≡ frame (d - 1) m (spot t at) (inside at) v
 unfolding faultInside
 inside-open d m g t at v h = rw (← h)

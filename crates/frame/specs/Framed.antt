@@ -6,6 +6,6 @@ use Rattle.frame.specs.declared.Framing.{Framing}
 use Rattle.frame.specs.declared.Framing.the-variants.{Framed, Fault}
 
 -- 01's cause is 68 for each fault of stage 2; Offending IE names the type
-abbrev pub faultIn : Framing → Option Spot
-faultIn Framed = none
-faultIn (Fault t p) = some (spot t p)
+abbrev pub framingFault : Framing → Option Spot
+framingFault Framed = none
+framingFault (Fault t p) = some (spot t p)

@@ -8,8 +8,8 @@ ghost use mathlib.Core.Path.{_≡_};
 ghost use Rattle.octets.specs.Lists.{member, keep};
 ghost use Prim.Native.Nat.{_+_, _<_, _^_};
 ghost use lib.ListN.{length};
-ghost use Rattle.rules.specs.Message.{opened, spot, frame, frameFault, elements, hasType};
-ghost use Rattle.frame.specs.Framed.{faultIn};
+ghost use Rattle.rules.specs.Message.{openedIn, spot, frame, frameFault, elements, hasType};
+ghost use Rattle.frame.specs.Framed.{framingFault};
 ghost use Rattle.frame.specs.FirstOf.{firstOf};
 
 pub mod header;
@@ -24,7 +24,7 @@ pub enum Framing {
 
 // Whether an element of type kind is a group that is opened at the place group (0: the message) of a message of type message.
 fn opens(message: u64, group: u64, kind: u64) -> bool
-    ensures { λ r. ⌜ r ≡ member kind (opened message group) ⌝ }
+    ensures { λ r. ⌜ r ≡ member kind (openedIn message group) ⌝ }
 {
     match kind {
         // Vendor elements.
@@ -55,7 +55,7 @@ fn opens(message: u64, group: u64, kind: u64) -> bool
 // The first octet of s stands at base. A group's value is handed on as a part of s.
 fn first_fault(s: &[u8], message: u64, group: u64, place: usize, base: usize, depth: u64) -> Framing
     requires { ⌜ base + length (now s) < 2 ^ 64 ⌝ }
-    ensures { λ r. ⌜ faultIn r ≡ frame depth message (spot group place) base (now (s .entry)) ⌝ }
+    ensures { λ r. ⌜ framingFault r ≡ frame depth message (spot group place) base (now (s .entry)) ⌝ }
 {
     if depth == 0 {
         return Framing::Framed;
@@ -85,7 +85,7 @@ fn first_fault(s: &[u8], message: u64, group: u64, place: usize, base: usize, de
 
 // Stage 2 of a message, the header of which is allowed: groups nest at most three deep, the message counted.
 pub fn frame_fault(msg: &[u8]) -> Framing
-    ensures { λ r. ⌜ faultIn r ≡ frameFault (now (msg .entry)) ⌝ }
+    ensures { λ r. ⌜ framingFault r ≡ frameFault (now (msg .entry)) ⌝ }
 {
     if msg.len() < format::header::LIST_BODY {
         return Framing::Framed;

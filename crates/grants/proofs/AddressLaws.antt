@@ -9,7 +9,7 @@ use lib.Seq.{length-take-le, take-at, drop-at, drop-drop, drop-append-add}
 use Rattle.octets.specs.Choice.{pick}
 use Rattle.octets.specs.Octets.{slices}
 use Rattle.plan.specs.Rows.{rowWidth, rowsOf}
-use Rattle.grants.specs.Choosing.{choosesAddress, withAddress, addressed, lowestAddress}
+use Rattle.grants.specs.Choosing.{choosesAddress, rowWithAddress, addressed, lowestAddress}
 use Rattle.pool.specs.declared.Lowest.the-variants.{At, Full}
 use Rattle.pool.specs.Answer.{lowest}
 use Rattle.pool.specs.Map.{freeFrom}
@@ -17,8 +17,8 @@ use Rattle.pool.proofs.TakenLaws.{next-teid, no-teid}
 use Rattle.grants.proofs.PassLaws.{set-row}
 
 module _ (a : ℕ) where
-  length-with : (row : List ℕ) → length (withAddress a row) ≡ length row
-  unfolding withAddress
+  length-with : (row : List ℕ) → length (rowWithAddress a row) ≡ length row
+  unfolding rowWithAddress
   length-with row = one (choosesAddress row)
     where
       one : (b : Bool) → length (pick b (set row 19 a) row) ≡ length row
@@ -65,16 +65,16 @@ module _ (a : ℕ) where
     split : plan ≡ pre ++ (row ++ after)
     split = sym (take-append-drop at plan) ∙ ap (λ (l : List ℕ). pre ++ l) (sym (take-append-drop rowWidth (drop at plan)))
 
-    next-is : (b : Bool) → b ≡ choosesAddress row → pick b (set plan (at + 19) a) plan ≡ (pre ++ withAddress a row) ++ after
-    unfolding withAddress
+    next-is : (b : Bool) → b ≡ choosesAddress row → pick b (set plan (at + 19) a) plan ≡ (pre ++ rowWithAddress a row) ++ after
+    unfolding rowWithAddress
     next-is true e =
         ap₂ (λ (l : List ℕ) (k : ℕ). set l (k + 19) a) split (sym pre-long) ∙ set-row 19 pre row after a (omega (arith, row-long)) ∙ ap (λ (b : Bool). (pre ++ pick b (set row 19 a) row) ++ after) e
     next-is false e = split ∙ sym (append-assoc pre row after) ∙ ap (λ (b : Bool). (pre ++ pick b (set row 19 a) row) ++ after) e
 
-    first-is : addressed a left (drop at plan) ≡ withAddress a row ++ addressed a (left - 1) after
+    first-is : addressed a left (drop at plan) ≡ rowWithAddress a row ++ addressed a (left - 1) after
     first-is = one left h
       where
-        one : (m : ℕ) → 0 < m → addressed a m (drop at plan) ≡ withAddress a row ++ addressed a (m - 1) after
+        one : (m : ℕ) → 0 < m → addressed a m (drop at plan) ≡ rowWithAddress a row ++ addressed a (m - 1) after
         one zero g = absurd (omega arith)
         one (suc m) g = let e : suc m - 1 ≡ m = omega arith in rw e (unfold addressed in refl)
 
@@ -85,7 +85,7 @@ module _ (a : ℕ) where
         let lw = length-with row in
         let lr = row-long in
         let lp = pre-long in
-        let l : length (pre ++ withAddress a row) ≡ at + rowWidth = length-append pre (withAddress a row) ∙ omega arith in
+        let l : length (pre ++ rowWithAddress a row) ≡ at + rowWidth = length-append pre (rowWithAddress a row) ∙ omega arith in
         let size : length (pick b (set plan (at + 19) a) plan) ≡ length plan = pick-length b in
         let i = w .inside in
         record {
@@ -93,8 +93,8 @@ module _ (a : ℕ) where
           long = size ∙ w .long;
           same =
               ap (λ (p : List ℕ). take (at + rowWidth) p ++ addressed a (left - 1) (drop (at + rowWidth) p)) is
-              ∙ ap₂ (λ (x y : List ℕ). x ++ addressed a (left - 1) y) (take-at (pre ++ withAddress a row) after (at + rowWidth) l) (drop-at (pre ++ withAddress a row) after (at + rowWidth) l)
-              ∙ append-assoc pre (withAddress a row) (addressed a (left - 1) after)
+              ∙ ap₂ (λ (x y : List ℕ). x ++ addressed a (left - 1) y) (take-at (pre ++ rowWithAddress a row) after (at + rowWidth) l) (drop-at (pre ++ rowWithAddress a row) after (at + rowWidth) l)
+              ∙ append-assoc pre (rowWithAddress a row) (addressed a (left - 1) after)
               ∙ ap (λ (x : List ℕ). pre ++ x) (sym first-is)
               ∙ w .same;
         }
@@ -111,35 +111,35 @@ module _ (a : ℕ) where
 
   -- ---- what stands in the plan then
 
-  pub rows-addressed : (n : ℕ) (plan : List ℕ) → n * rowWidth ≤ length plan → rowsOf n (addressed a n plan) ≡ map (withAddress a) (rowsOf n plan)
+  pub rows-addressed : (n : ℕ) (plan : List ℕ) → n * rowWidth ≤ length plan → rowsOf n (addressed a n plan) ≡ map (rowWithAddress a) (rowsOf n plan)
   unfolding slices addressed
   rows-addressed zero plan h = refl
   rows-addressed (suc n) plan h =
-      let w : length (withAddress a (take rowWidth plan)) ≡ rowWidth = length-with (take rowWidth plan) ∙ length-take-le rowWidth plan (omega arith) in
+      let w : length (rowWithAddress a (take rowWidth plan)) ≡ rowWidth = length-with (take rowWidth plan) ∙ length-take-le rowWidth plan (omega arith) in
       let d = length-drop rowWidth plan in
-      let here = take-at (withAddress a (take rowWidth plan)) (addressed a n (drop rowWidth plan)) rowWidth w in
-      let more = ap (slices rowWidth n) (drop-at (withAddress a (take rowWidth plan)) (addressed a n (drop rowWidth plan)) rowWidth w) ∙ rows-addressed n (drop rowWidth plan) (omega arith) in
+      let here = take-at (rowWithAddress a (take rowWidth plan)) (addressed a n (drop rowWidth plan)) rowWidth w in
+      let more = ap (slices rowWidth n) (drop-at (rowWithAddress a (take rowWidth plan)) (addressed a n (drop rowWidth plan)) rowWidth w) ∙ rows-addressed n (drop rowWidth plan) (omega arith) in
       λ j. here j ∷ more j
 
   pub length-addressed : (n : ℕ) (plan : List ℕ) → n * rowWidth ≤ length plan → length (addressed a n plan) ≡ length plan
   unfolding addressed
   length-addressed zero plan h = refl
   length-addressed (suc n) plan h =
-      let w : length (withAddress a (take rowWidth plan)) ≡ rowWidth = length-with (take rowWidth plan) ∙ length-take-le rowWidth plan (omega arith) in
+      let w : length (rowWithAddress a (take rowWidth plan)) ≡ rowWidth = length-with (take rowWidth plan) ∙ length-take-le rowWidth plan (omega arith) in
       let d = length-drop rowWidth plan in
       let more = length-addressed n (drop rowWidth plan) (omega arith) in
-      length-append (withAddress a (take rowWidth plan)) (addressed a n (drop rowWidth plan)) ∙ omega arith
+      length-append (rowWithAddress a (take rowWidth plan)) (addressed a n (drop rowWidth plan)) ∙ omega arith
 
   pub rest-addressed : (n : ℕ) (plan : List ℕ) → n * rowWidth ≤ length plan → drop (n * rowWidth) (addressed a n plan) ≡ drop (n * rowWidth) plan
   unfolding addressed
   rest-addressed zero plan h = refl
   rest-addressed (suc n) plan h =
-      let w : length (withAddress a (take rowWidth plan)) ≡ rowWidth = length-with (take rowWidth plan) ∙ length-take-le rowWidth plan (omega arith) in
+      let w : length (rowWithAddress a (take rowWidth plan)) ≡ rowWidth = length-with (take rowWidth plan) ∙ length-take-le rowWidth plan (omega arith) in
       let d = length-drop rowWidth plan in
-      let e : suc n * rowWidth ≡ length (withAddress a (take rowWidth plan)) + n * rowWidth = omega arith in
+      let e : suc n * rowWidth ≡ length (rowWithAddress a (take rowWidth plan)) + n * rowWidth = omega arith in
       let e′ : suc n * rowWidth ≡ rowWidth + n * rowWidth = omega arith in
-      ap (λ (k : ℕ). drop k (withAddress a (take rowWidth plan) ++ addressed a n (drop rowWidth plan))) e
-      ∙ drop-append-add (withAddress a (take rowWidth plan)) (addressed a n (drop rowWidth plan)) (n * rowWidth)
+      ap (λ (k : ℕ). drop k (rowWithAddress a (take rowWidth plan) ++ addressed a n (drop rowWidth plan))) e
+      ∙ drop-append-add (rowWithAddress a (take rowWidth plan)) (addressed a n (drop rowWidth plan)) (n * rowWidth)
       ∙ rest-addressed n (drop rowWidth plan) (omega arith) ∙ drop-drop (n * rowWidth) rowWidth plan ∙ ap (λ (k : ℕ). drop k plan) (sym e′)
 
 -- ---- the lowest free address

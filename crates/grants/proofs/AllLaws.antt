@@ -23,7 +23,7 @@ use Rattle.pool.proofs.TakenLaws.{Means}
 use Rattle.pool.proofs.AddressLaws.{free-addresses}
 use Rattle.created.specs.Groups.{allReports, idFits}
 use Rattle.created.specs.Entries.{maxGrants, toldsAt, reportsAt, within}
-use Rattle.grants.specs.Choosing.{chosenBy, placesBy, reportPlaces, rowWith, withAddress, addressed, lowestAddress}
+use Rattle.grants.specs.Choosing.{chosenBy, placesBy, reportPlaces, rowWith, rowWithAddress, addressed, lowestAddress}
 use Rattle.grants.proofs.PlaceLaws.{reports-within}
 use Rattle.grants.proofs.AddressLaws.{rows-addressed, length-addressed, rest-addressed}
 use Rattle.grants.proofs.RequestLaws.{alike-address, request-same}
@@ -59,12 +59,12 @@ module _ (seid : ℕ) (restoring noted : Bool) (n : ℕ) (plan : List ℕ) (h : 
   pub all-granted : (gs : List Grant) (a : ℕ) {plan′ plan″ : List ℕ} → IsGranted gs seid restoring noted n plan plan′ → plan″ ≡ addressed a n plan′ → AllGranted gs a seid restoring noted n plan plan″
   all-granted gs a {plan′} {plan″} g e =
       let h′ : n * rowWidth ≤ length plan′ = omega (arith, g .long) in
-      let rows′ : rowsOf n plan″ ≡ map (withAddress a) (rowsOf n plan′) = ap (rowsOf n) e ∙ rows-addressed a n plan′ h′ in
+      let rows′ : rowsOf n plan″ ≡ map (rowWithAddress a) (rowsOf n plan′) = ap (rowsOf n) e ∙ rows-addressed a n plan′ h′ in
       record {
         long = ap length e ∙ length-addressed a n plan′ h′ ∙ g .long;
-        rows = rows′ ∙ ap (map (withAddress a)) (g .rows) ∙ map-map (withAddress a) (rowWith gs) (rowsOf n plan);
+        rows = rows′ ∙ ap (map (rowWithAddress a)) (g .rows) ∙ map-map (rowWithAddress a) (rowWith gs) (rowsOf n plan);
         rest = ap (drop (n * rowWidth)) e ∙ rest-addressed a n plan′ h′ ∙ g .rest;
-        same = ap (requestIn seid restoring noted) rows′ ∙ request-same (withAddress a) (alike-address a) seid restoring noted (rowsOf n plan′) ∙ g .same;
+        same = ap (requestIn seid restoring noted) rows′ ∙ request-same (rowWithAddress a) (alike-address a) seid restoring noted (rowsOf n plan′) ∙ g .same;
       }
 
   pdr-count : (rows : List (List ℕ)) → length (requestIn seid restoring noted rows .pdrs) ≡ length (tagged ie.createPdr rows)

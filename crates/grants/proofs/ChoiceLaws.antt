@@ -13,17 +13,18 @@ use lib.Seq.{take-all, drop-drop}
 use Rattle.octets.specs.Choice.{pick, bindOption}
 use Rattle.octets.specs.Octets.{bit, part, slices}
 use Rattle.octets.specs.Lists.{all, keep, collect}
+use Rattle.octets.specs.Rows.{hasTag}
 use Rattle.octets.proofs.Tests.{pick-yes, and-left, all-head, all-tail}
 use Rattle.octets.proofs.ListLaws.{onSome, all-front, all-behind, map-append}
 use Rattle.rules.specs.Elements.{given, choose}
 use Rattle.rules.specs.Request.{Request}
 use Rattle.rules.specs.Grants.{Kind, ofPdr, ofEndpoint, Choice, sameKind, choiceOf, endpointChoice, pdrChoice, choices}
-use Rattle.plan.specs.Rows.{rowWidth, word, rowsOf, hasTag, tagged, fteidFrom, rowFteid, rowLocal, rowPdr, rowEndpoint, requestIn}
+use Rattle.plan.specs.Rows.{rowWidth, word, rowsOf, tagged, fteidFrom, rowFteid, rowLocal, rowPdr, rowEndpoint, requestIn}
 use Rattle.rules.specs.Types as ie
 use Rattle.plan.specs.Words as its
 use Rattle.created.specs.Groups.{kindIn}
 use Rattle.created.specs.Entries.{maxGrants, rowId}
-use Rattle.grants.specs.Choosing.{choosing, placesBy, placesFrom, places, octet, rowChooseId, choiceIn, choiceAt}
+use Rattle.grants.specs.Choosing.{choosing, placesBy, placesFrom, places, octet, chooseIdIn, choiceIn, choiceAt}
 
 -- ---- bounds
 
@@ -77,7 +78,7 @@ module _ {A : Type 0} (g : A → Option Choice) (h : List ℕ → A) (tag : ℕ)
     (kinds : kindIn tag ≡ k) (ids : (row : List ℕ) → word its.tag row ≡ tag → rowId row ≡ idOf row)
     (values : (row : List ℕ) → g (h row) ≡ pick (bit 2 (word its.flags row)) (some (rowChoice k (idOf row) row)) none) where
   same-choice : (row : List ℕ) → word its.tag row ≡ tag → T (choiceFits (rowChoice k (idOf row) row)) → rowChoice k (idOf row) row ≡ choiceIn row
-  unfolding choiceIn rowChooseId
+  unfolding choiceIn chooseIdIn
   same-choice row e f =
       let o = octet-id (bit 3 (word its.flags row)) (word its.chooseId row) (and-left (idIsOctet (pick (bit 3 (word its.flags row)) (some (word its.chooseId row)) none)) _ f) in
       let kind = sym kinds ∙ ap kindIn (sym e) in

@@ -18,15 +18,15 @@ use Rattle.rules.specs.Grants.{Choice, Chosen, chosen, isChoice, chosenTeid, re
 use Rattle.plan.specs.Rows.{rowWidth}
 use Rattle.pool.specs.Map.{teidsFrom}
 use Rattle.pool.proofs.Marks.{zeros-at}
-use Rattle.grants.specs.Choosing.{rowChooseId, choiceIn, choiceAt, chosenGrants, teidsAt}
-use Rattle.grants.specs.Steps.{kept, Gives}
+use Rattle.grants.specs.Choosing.{chooseIdIn, choiceIn, choiceAt, chosenGrants, teidsAt}
+use Rattle.grants.specs.Steps.{keptTeid, Gives}
 use Rattle.grants.specs.declared.Given.{Given}
 
 -- ---- CHOOSE IDs
 
 -- word i keeps the TEID of CHOOSE ID i
 abbrev pub Knows : List ℕ → List Chosen → Type 0
-Knows known cs = (i : ℕ) → chosenTeid cs (some i) ≡ kept (getD known i 0)
+Knows known cs = (i : ℕ) → chosenTeid cs (some i) ≡ keptTeid (getD known i 0)
 
 knows-none : (n : ℕ) → Knows (replicate n 0) []
 unfolding chosenTeid findBy
@@ -38,8 +38,8 @@ Fits known none = Unit {0}
 Fits known (some i) = i < length known
 
 -- of a row
-id-fits : (known row : List ℕ) → length known ≡ 256 → Fits known (rowChooseId row)
-unfolding rowChooseId
+id-fits : (known row : List ℕ) → length known ≡ 256 → Fits known (chooseIdIn row)
+unfolding chooseIdIn
 id-fits known row l = one (bit 3 (getD row 12 0)) (decLt (getD row 17 0) 256)
   where
     one : (b : Bool) → Dec (getD row 17 0 < 256) → Fits known (pick b (pick (ltb (getD row 17 0) 256) (some (getD row 17 0)) none) none)
@@ -48,7 +48,7 @@ id-fits known row l = one (bit 3 (getD row 12 0)) (decLt (getD row 17 0) 256)
     one true (no h) = rw (le-ltb (getD row 17 0) 256 (omega (arith, h))) tt
 
 -- what is known of a row's CHOOSE ID stands in the word of its number, or past the last word where it has none
-known-teid : (known : List ℕ) (cs : List Chosen) (o : Option ℕ) → length known ≡ 256 → Knows known cs → chosenTeid cs o ≡ kept (getD known (valueOr 256 o) 0)
+known-teid : (known : List ℕ) (cs : List Chosen) (o : Option ℕ) → length known ≡ 256 → Knows known cs → chosenTeid cs o ≡ keptTeid (getD known (valueOr 256 o) 0)
 known-teid known cs none l k = unfold chosenTeid in rw (List·getD-eq-default known 0 {n = 256} (omega arith))
 known-teid known cs (some i) l k = k i
 
@@ -58,7 +58,7 @@ unfolding chosenTeid remember findBy isChoice
 knows-more known cs i t k l j = go (ℕ-discrete j i)
   where
     go : Dec (j ≡ i)
-        → mapOption chosen (pick (eqb i j) (some (record { chooseId = i; teid = t })) (findBy (isChoice j) cs)) ≡ kept (getD (set known i (t + 1)) j 0)
+        → mapOption chosen (pick (eqb i j) (some (record { chooseId = i; teid = t })) (findBy (isChoice j) cs)) ≡ keptTeid (getD (set known i (t + 1)) j 0)
     go (yes e) =
         let back : t + 1 - 1 ≡ t = omega arith in
         rw (e, eq-eqb i i refl, getD-set-same known i (t + 1) 0 l, ne-eqb (t + 1) 0 (λ f. omega arith), back)
@@ -66,8 +66,8 @@ knows-more known cs i t k l j = go (ℕ-discrete j i)
 
 -- after one more CHOOSE
 knows-after : (known : List ℕ) (cs : List Chosen) (free : List ℕ) (o : Option ℕ) (t : ℕ) → length known ≡ 256 → Fits known o → Knows known cs
-    → t ≡ teidFor (kept (getD known (valueOr 256 o) 0)) free
-    → Knows (pick (eqb (getD known (valueOr 256 o) 0) 0) (set known (valueOr 256 o) (t + 1)) known) (chosenAfter (kept (getD known (valueOr 256 o) 0)) cs o free)
+    → t ≡ teidFor (keptTeid (getD known (valueOr 256 o) 0)) free
+    → Knows (pick (eqb (getD known (valueOr 256 o) 0) 0) (set known (valueOr 256 o) (t + 1)) known) (chosenAfter (keptTeid (getD known (valueOr 256 o) 0)) cs o free)
 unfolding chosenAfter teidFor
 knows-after known cs free o t l f k e = one (eqb (getD known (valueOr 256 o) 0) 0) o f e
   where
@@ -89,7 +89,7 @@ length-after : (b : Bool) (known : List ℕ) (i v : ℕ) → length (pick b (set
 length-after true known i v = length-set known i v
 length-after false known i v = refl
 
-choice-id : (row : List ℕ) → choiceIn row .chooseId ≡ rowChooseId row
+choice-id : (row : List ℕ) → choiceIn row .chooseId ≡ chooseIdIn row
 unfolding choiceIn
 choice-id row = refl
 
@@ -110,7 +110,7 @@ module _ (plan ps words : List ℕ) (first size : ℕ) (ts₀ : List ℕ) where
   filling-none = record { inside = omega arith; long = refl; ids = length-replicate {A = ℕ} 256 0; cs = []; knows = knows-none 256; same = refl }
 
   module _ {ts known : List ℕ} {from i : ℕ} (f : Filling plan ps words first size ts₀ ts known from i) where
-    filling-more : {known′ : List ℕ} {g : Given} {id : ℕ} → i < length ps → id ≡ valueOr 256 (rowChooseId (part (getD ps i 0) rowWidth plan))
+    filling-more : {known′ : List ℕ} {g : Given} {id : ℕ} → i < length ps → id ≡ valueOr 256 (chooseIdIn (part (getD ps i 0) rowWidth plan))
         → Gives first words from size known id g known′
         → Filling plan ps words first size ts₀ (set ts i (g .teid)) known′ (g .next) (i + 1)
     unfolding choiceAt
@@ -122,7 +122,7 @@ module _ (plan ps words : List ℕ) (first size : ℕ) (ts₀ : List ℕ) where
         let more : List Choice = map (choiceAt plan) (drop (i + 1) ps) in
         let place : id ≡ valueOr 256 o = e ∙ ap (λ (q : Option ℕ). valueOr 256 q) (sym (choice-id row)) in
         let w = rw place at v in
-        let has : Option ℕ = kept (getD known (valueOr 256 o) 0) in
+        let has : Option ℕ = keptTeid (getD known (valueOr 256 o) 0) in
         let cs′ : List Chosen = chosenAfter has (f .cs) o free in
         let one = teids-more (f .cs) free c more has (known-teid known (f .cs) o (f .ids) (f .knows)) in
         let left : List ℕ = map grantTeid (grantFrom cs′ (teidsFrom first words (g .next) size) more) in
@@ -138,7 +138,7 @@ module _ (plan ps words : List ℕ) (first size : ℕ) (ts₀ : List ℕ) where
 
     -- a turn as the code slices the row
     pub filling-turn : {known′ : List ℕ} {g : Given} {id : ℕ} → i < length ps
-        → id ≡ valueOr 256 (rowChooseId (take (getD ps i 0 + rowWidth - getD ps i 0) (drop (getD ps i 0) plan)))
+        → id ≡ valueOr 256 (chooseIdIn (take (getD ps i 0 + rowWidth - getD ps i 0) (drop (getD ps i 0) plan)))
         → Gives first words from size known id g known′
         → Filling plan ps words first size ts₀ (set ts i (g .teid)) known′ (g .next) (i + 1)
     filling-turn h e v =

@@ -11,10 +11,11 @@ use lib.Seq.{getD-set-other}
 use Rattle.octets.specs.Choice.{pick}
 use Rattle.octets.specs.Octets.{bit, slices}
 use Rattle.octets.specs.Lists.{hasRepeat, keep}
+use Rattle.octets.specs.Rows.{hasTag}
 use Rattle.octets.proofs.ListLaws.{map-append}
 use Rattle.octets.proofs.FieldLaws.{both}
 use Rattle.rules.specs.Grants.{Kind, ofPdr, ofEndpoint, Choice, Chosen, Grant, grantTeid, grantFrom, grantedTeid}
-use Rattle.plan.specs.Rows.{rowWidth, word, rowsOf, hasTag, tagged}
+use Rattle.plan.specs.Rows.{rowWidth, word, rowsOf, tagged}
 use Rattle.rules.specs.Types as ie
 use Rattle.plan.specs.Words as its
 use Rattle.created.specs.Groups.{kindIn}

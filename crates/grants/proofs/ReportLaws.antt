@@ -14,6 +14,7 @@ use lib.Seq.{length-take-le, take-all, getD-set-same, getD-set-other}
 use Rattle.octets.specs.Choice.{pick, isSome, bindOption}
 use Rattle.octets.specs.Octets.{bit, slices}
 use Rattle.octets.specs.Lists.{all, keep}
+use Rattle.octets.specs.Rows.{hasTag}
 use Rattle.octets.proofs.Tests.{all-cons}
 use Rattle.octets.proofs.ListLaws.{Every, all-append}
 use Rattle.laws.proofs.RequestLaws.{EndpointRead}
@@ -23,12 +24,12 @@ use Rattle.rules.specs.Request.{Request}
 use Rattle.rules.specs.Grants.{Kind, ofPdr, ofEndpoint, Grant, Got, sameKind, grantedTeid}
 use Rattle.rules.specs.Reply.{Report, chosenTunnel, chosenIp, pdrReport, endpointReport, somethingChosen, reports}
 use Rattle.rules.specs.Types as ie
-use Rattle.plan.specs.Rows.{rowWidth, word, rowsOf, hasTag, tagged, fteidFrom, rowFteid, rowLocal, ueFrom, rowUe, rowPdr, rowEndpoint, requestIn}
+use Rattle.plan.specs.Rows.{rowWidth, word, rowsOf, tagged, fteidFrom, rowFteid, rowLocal, ueFrom, rowUe, rowPdr, rowEndpoint, requestIn}
 use Rattle.plan.specs.Words as its
 use Rattle.writing.specs.Families.{tunnelIn}
 use Rattle.created.specs.Groups.{Told, reportIn, kindIn, isTold, reportsOf, allReports, idFits}
 use Rattle.created.specs.Entries.{maxGrants, rowId, rowEntry, grantedTunnel, grantedAddress, toldOf, rowTold, toldAt, toldsAt}
-use Rattle.grants.specs.Choosing.{choosing, chosenBy, placesBy, reportPlaces, rowWith, choosesAddress, withAddress}
+use Rattle.grants.specs.Choosing.{choosing, chosenBy, placesBy, reportPlaces, rowWith, choosesAddress, rowWithAddress}
 use Rattle.grants.proofs.ChoiceLaws.{rows-at}
 use Rattle.grants.proofs.RequestLaws.{Alike, alike-with, alike-address, alike-then, same-chosen}
 
@@ -101,13 +102,13 @@ module _ (gs : List Grant) (a : ℕ) where
 
   -- a row with all that it was granted
   abbrev pub rowGot : List ℕ → List ℕ
-  rowGot row = withAddress a (rowWith gs row)
+  rowGot row = rowWithAddress a (rowWith gs row)
 
   pub alike-got : (row : List ℕ) → Alike (rowGot row) row
   alike-got row = alike-then (alike-address a (rowWith gs row)) (alike-with gs row)
 
-  pub address-word : (row : List ℕ) (k : ℕ) → (k ≡ 19 → ⊥) → word k (withAddress a row) ≡ word k row
-  unfolding withAddress
+  pub address-word : (row : List ℕ) (k : ℕ) → (k ≡ 19 → ⊥) → word k (rowWithAddress a row) ≡ word k row
+  unfolding rowWithAddress
   address-word row k n = one (choosesAddress row)
     where
       one : (b : Bool) → word k (pick b (set row 19 a) row) ≡ word k row
@@ -141,7 +142,7 @@ module _ (gs : List Grant) (a : ℕ) where
         (λ j. (eqb (tag j) ie.createEndpoint || eqb (tag j) ie.createPdr) && eqb (kind j) 2) ∙ rw (e, tags)
 
     pub address-got : eqb (word its.ueKind row) 2 ≡ true → word its.ueAddress (rowGot row) ≡ a
-    unfolding withAddress
+    unfolding rowWithAddress
     address-got e = rw (address-chosen e) (getD-set-same (rowWith gs row) 19 a 0 (omega (arith, length-teid row)))
 
     got-tunnel : grantedTunnel (rowEntry (rowGot row)) ≡ tunnelOf (ownTeid gs row) row

@@ -12,14 +12,15 @@ use lib.ListN.{set}
 use Rattle.octets.specs.Choice.{pick}
 use Rattle.octets.specs.Octets.{be, bit}
 use Rattle.octets.specs.Lists.{any, keep, collect}
+use Rattle.octets.specs.Rows.{hasTag}
 use Rattle.octets.proofs.ListLaws.{map-same, map-map, collect-same, collect-map}
 use Rattle.rules.specs.Elements.{sets, removal}
 use Rattle.rules.specs.Request.{cleared, changed}
 use Rattle.rules.specs.Grants.{Grant}
-use Rattle.plan.specs.Rows.{word, hasTag, tagged, fteidFrom, rowFteid, ueFrom, rowUe, rowStrange, rowLocal, present, rowPdr, rowEndpoint, rowFar, rowChange, rowPdi, rowPdrId, rowEndpointId, rowAddress, rowCsid, isNullRow, requestIn}
+use Rattle.plan.specs.Rows.{word, tagged, fteidFrom, rowFteid, ueFrom, rowUe, rowStrange, rowLocal, present, rowPdr, rowEndpoint, rowFar, rowChange, rowPdi, rowPdrId, rowEndpointId, rowAddress, rowCsid, isNullRow, requestIn}
 use Rattle.rules.specs.Types as ie
 use Rattle.plan.specs.Words as its
-use Rattle.grants.specs.Choosing.{choosing, chosenBy, rowWith, choosesAddress, withAddress}
+use Rattle.grants.specs.Choosing.{choosing, chosenBy, rowWith, choosesAddress, rowWithAddress}
 use Rattle.grants.proofs.PlanLaws.{word-set, choosing-bit}
 
 -- ---- one row
@@ -81,8 +82,8 @@ address-fteid row a =
     let c = address-word row a 17 (λ z. omega arith) in
     λ j. fteidFrom (f j) (t j) (p j) (h j) (l j) (c j)
 
-pub alike-address : (a : ℕ) (row : List ℕ) → Alike (withAddress a row) row
-unfolding withAddress choosesAddress
+pub alike-address : (a : ℕ) (row : List ℕ) → Alike (rowWithAddress a row) row
+unfolding rowWithAddress choosesAddress
 alike-address a row = one (hasTag ie.createEndpoint row || hasTag ie.createPdr row) (eqb (word its.ueKind row) 2) refl
   where
     one : (b c : Bool) → eqb (word its.ueKind row) 2 ≡ c → Alike (pick (b && c) (set row 19 a) row) row

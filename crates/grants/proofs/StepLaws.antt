@@ -8,14 +8,14 @@ use lib.Dec.{eqb}
 use lib.ListN.{getD, set}
 use Rattle.octets.specs.Choice.{pick, valueOr}
 use Rattle.octets.specs.Octets.{bit}
+use Rattle.octets.specs.Rows.{hasTag}
 use Rattle.rules.specs.Grants.{teidFor, freeAfter}
 use Rattle.rules.specs.Types as ie
-use Rattle.plan.specs.Rows.{hasTag}
 use Rattle.pool.specs.declared.Lowest.the-variants.{At, Full}
 use Rattle.pool.specs.Answer.{lowest}
 use Rattle.pool.specs.Map.{freeFrom}
 use Rattle.pool.proofs.TakenLaws.{next-teid, no-teid}
-use Rattle.grants.specs.Choosing.{chosenBy, rowChooseId, choosesAddress}
+use Rattle.grants.specs.Choosing.{chosenBy, chooseIdIn, choosesAddress}
 use Rattle.grants.specs.Steps.{Gives}
 
 -- ---- one row
@@ -55,16 +55,16 @@ module _ (row : List ℕ) where
   unfolding choosesAddress hasTag
   address-pdr k n = rw (eq-eqb (getD row 18 0) 2 k, ne-eqb (getD row 0 0) ie.createEndpoint n) (sym (and-true (eqb (getD row 0 0) ie.createPdr)))
 
-  pub id-none : (getD row 12 0 / 8 % 2 ≡ 1 → ⊥) → 256 ≡ valueOr 256 (rowChooseId row)
-  unfolding rowChooseId bit
+  pub id-none : (getD row 12 0 / 8 % 2 ≡ 1 → ⊥) → 256 ≡ valueOr 256 (chooseIdIn row)
+  unfolding chooseIdIn bit
   id-none n = rw (ne-eqb (getD row 12 0 / 8 % 2) 1 n)
 
-  pub id-large : getD row 12 0 / 8 % 2 ≡ 1 → 256 ≤ getD row 17 0 → 256 ≡ valueOr 256 (rowChooseId row)
-  unfolding rowChooseId bit
+  pub id-large : getD row 12 0 / 8 % 2 ≡ 1 → 256 ≤ getD row 17 0 → 256 ≡ valueOr 256 (chooseIdIn row)
+  unfolding chooseIdIn bit
   id-large e h = rw (eq-eqb (getD row 12 0 / 8 % 2) 1 e, le-ltb (getD row 17 0) 256 h)
 
-  pub id-is : getD row 12 0 / 8 % 2 ≡ 1 → getD row 17 0 < 256 → getD row 17 0 ≡ valueOr 256 (rowChooseId row)
-  unfolding rowChooseId bit
+  pub id-is : getD row 12 0 / 8 % 2 ≡ 1 → getD row 17 0 < 256 → getD row 17 0 ≡ valueOr 256 (chooseIdIn row)
+  unfolding chooseIdIn bit
   id-is e h = rw (eq-eqb (getD row 12 0 / 8 % 2) 1 e, lt-ltb (getD row 17 0) 256 h)
 
 -- ---- a TEID

@@ -9,9 +9,10 @@ use lib.ListN.{length, take, drop, set}
 use lib.Dec.{ltb, eqb}
 use Rattle.octets.specs.Choice.{pick, headOr, rest}
 use Rattle.octets.specs.Octets.{bit, part}
+use Rattle.octets.specs.Rows.{hasTag}
 use Rattle.rules.specs.Grants.{Choice, Grant, grantTeid, grantFrom, grantedTeid}
 use Rattle.rules.specs.Types as ie
-use Rattle.plan.specs.Rows.{rowWidth, word, rowsOf, hasTag}
+use Rattle.plan.specs.Rows.{rowWidth, word, rowsOf}
 use Rattle.plan.specs.Words as its
 use Rattle.pool.specs.Map.{teidsFrom}
 use Rattle.created.specs.Groups.{kindIn}
@@ -50,11 +51,11 @@ reportPlaces n plan = take maxGrants (placesBy (chosenBy true ie.createEndpoint)
 abbrev pub octet : ℕ → Option ℕ
 octet c = pick (ltb c 256) (some c) none
 
-unfoldable pub rowChooseId : List ℕ → Option ℕ
-rowChooseId row = pick (bit 3 (word its.flags row)) (octet (word its.chooseId row)) none
+unfoldable pub chooseIdIn : List ℕ → Option ℕ
+chooseIdIn row = pick (bit 3 (word its.flags row)) (octet (word its.chooseId row)) none
 
 unfoldable pub choiceIn : List ℕ → Choice
-choiceIn row = record { kind = kindIn (word its.tag row); id = rowId row; v4 = bit 0 (word its.flags row); v6 = bit 1 (word its.flags row); chooseId = rowChooseId row }
+choiceIn row = record { kind = kindIn (word its.tag row); id = rowId row; v4 = bit 0 (word its.flags row); v6 = bit 1 (word its.flags row); chooseId = chooseIdIn row }
 
 -- of the row at a place
 unfoldable pub choiceAt : List ℕ → ℕ → Choice
@@ -91,13 +92,13 @@ unfoldable pub choosesAddress : List ℕ → Bool
 choosesAddress row = (hasTag ie.createEndpoint row || hasTag ie.createPdr row) && eqb (word its.ueKind row) 2
 
 -- a row with the address, if it chooses one
-unfoldable pub withAddress : ℕ → List ℕ → List ℕ
-withAddress a row = pick (choosesAddress row) (set row its.ueAddress a) row
+unfoldable pub rowWithAddress : ℕ → List ℕ → List ℕ
+rowWithAddress a row = pick (choosesAddress row) (set row its.ueAddress a) row
 
 -- the plan with each of its first n rows so
 unfoldable pub addressed : ℕ → ℕ → List ℕ → List ℕ
 addressed a zero plan = plan
-addressed a (suc n) plan = withAddress a (take rowWidth plan) ++ addressed a n (drop rowWidth plan)
+addressed a (suc n) plan = rowWithAddress a (take rowWidth plan) ++ addressed a n (drop rowWidth plan)
 
 -- the first free address by a map of taken ones, 0 if none is free
 abbrev pub lowestAddress : ℕ → List ℕ → ℕ → ℕ

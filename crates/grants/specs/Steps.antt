@@ -12,11 +12,11 @@ use Rattle.pool.specs.Map.{teidsFrom}
 use Rattle.grants.specs.declared.Given.{Given}
 
 -- a word that keeps a TEID: one more than it, or 0 for none
-abbrev pub kept : ℕ → Option ℕ
-kept w = pick (eqb w 0) none (some (w - 1))
+abbrev pub keptTeid : ℕ → Option ℕ
+keptTeid w = pick (eqb w 0) none (some (w - 1))
 
 -- a TEID for CHOOSE ID i of which word i of `known` keeps the TEID: the one kept, else the first that is free, which the word then keeps
 pub record Gives (first : ℕ) (words : List ℕ) (from size : ℕ) (known : List ℕ) (i : ℕ) (g : Given) (known′ : List ℕ) : Type 0 where
-  pub teid : g .teid ≡ teidFor (kept (getD known i 0)) (teidsFrom first words from size)
-  pub free : teidsFrom first words (g .next) size ≡ freeAfter (kept (getD known i 0)) (teidsFrom first words from size)
+  pub teid : g .teid ≡ teidFor (keptTeid (getD known i 0)) (teidsFrom first words from size)
+  pub free : teidsFrom first words (g .next) size ≡ freeAfter (keptTeid (getD known i 0)) (teidsFrom first words from size)
   pub knows : known′ ≡ pick (eqb (getD known i 0) 0) (set known i (g .teid + 1)) known

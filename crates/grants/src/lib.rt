@@ -13,7 +13,7 @@ ghost use Rattle.octets.specs.Choice.{valueOr};
 ghost use Rattle.rules.specs.Limits.{maxPool, maxAddresses};
 ghost use Rattle.plan.specs.Rows.{rowWidth, rowsOf};
 ghost use Rattle.created.specs.Entries.{maxGrants, within};
-ghost use Rattle.grants.specs.Choosing.{chosenBy, placesBy, rowChooseId, teidsAt, stores, Granted, reportPlaces, choosesAddress, addressed, lowestAddress};
+ghost use Rattle.grants.specs.Choosing.{chosenBy, placesBy, chooseIdIn, teidsAt, stores, Granted, reportPlaces, choosesAddress, addressed, lowestAddress};
 ghost use Rattle.grants.specs.Steps.{Gives};
 
 // A CHOOSE ID is one octet.
@@ -76,7 +76,7 @@ fn find_places(
 // The CHOOSE ID of a row, or one past the last ID where it has none.
 fn choose_id(row: &[u64]) -> usize
     requires { ⌜ length (now row) ≡ rowWidth ⌝ }
-    ensures { λ r. ⌜ r ≡ valueOr 256 (rowChooseId (now (row .entry))) ⌝ }
+    ensures { λ r. ⌜ r ≡ valueOr 256 (chooseIdIn (now (row .entry))) ⌝ }
 {
     if row[words::FLAGS] / 8 % 2 != 1 {
         return IDS;

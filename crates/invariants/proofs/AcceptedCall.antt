@@ -24,7 +24,7 @@ use Rattle.rules.specs.Stages.{sameChoice, addressesOf, verdict, entrySession}
 use Rattle.rules.specs.Elements.{UeIp, ueChooses}
 use Rattle.rules.specs.Reply.{chosenIp, pdrReport, endpointReport, reports}
 use Rattle.rules.specs.Serve.{Served, sessionsAfter, replyTo, answered, answer, serve}
-use Rattle.rules.specs.Live.{replied, accepted, replyCause, createdTeid, createdAddress, createdGot}
+use Rattle.rules.specs.Live.{replied, acceptedEvent, replyCause, createdTeid, createdAddress, createdGot}
 use Rattle.rules.specs.Causes as why
 use Rattle.invariants.proofs.VerdictLaws.{Passed, passed}
 use Rattle.invariants.proofs.GrantLaws.{enough}
@@ -144,8 +144,8 @@ module _ (t msg space : List ℕ) where
         (λ q f g. address-said ofEndpoint (q .id) ∙ f (reported _ (q .address) g)) (r .endpoints) (said-endpoint-addresses s m r (rules p .createdPdrsOnce) (rules p .createdEndpointsOnce))
 
   -- outcome 0 and the reply's cause 1
-  pub accepted-call : T (octets msg) → T (accepted (replied msg (out .outcome) (out .space))) → AcceptedCall
-  unfolding accepted
+  pub accepted-call : T (octets msg) → T (acceptedEvent (replied msg (out .outcome) (out .space))) → AcceptedCall
+  unfolding acceptedEvent
   accepted-call ho h =
       let zero′ = and-left (eqb (out .outcome) 0) (eqb (replyCause (out .space)) 1) h in
       let one′ = eqb→eq (replyCause (out .space)) 1 (and-right (eqb (out .outcome) 0) (eqb (replyCause (out .space)) 1) h) in

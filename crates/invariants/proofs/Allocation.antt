@@ -18,7 +18,7 @@ use Rattle.octets.proofs.ListLaws.{by-test, or-right, or-by-left, or-by-right, 
 use Rattle.octets.proofs.MemberLaws.{member-passes, member-first, member-behind}
 use Rattle.octets.proofs.Bools.{not-or}
 use Rattle.rules.specs.Model.{Settings, Sessions, heldTeids, freeTeids}
-use Rattle.rules.specs.Elements.{Fteid, given, choose, chooseId}
+use Rattle.rules.specs.Elements.{Fteid, given, choose, chooseIdOf}
 use Rattle.rules.specs.Sound.{inPool}
 use Rattle.rules.specs.Request.{NewPdr, Request}
 use Rattle.rules.specs.Grants.{Kind, ofPdr, Choice, Chosen, choiceOf, endpointChoice, pdrChoice, choices, chosen, isChoice, chosenTeid, remember, teidFor, freeAfter, chosenAfter, grants, grantedTeid, isFresh, noted, needFrom, need}
@@ -265,7 +265,7 @@ allocates s m r other enough =
 
 -- the CHOOSE ID of a Create PDR, if it has one
 abbrev pub pdrChooseId : NewPdr → Option ℕ
-pdrChooseId p = bindOption (p .local) chooseId
+pdrChooseId p = bindOption (p .local) chooseIdOf
 
 -- two PDRs with one CHOOSE ID have one TEID
 pub pdrs-share : (s : Settings) (m : Sessions) (r : Request) → Allocates s m r
@@ -289,9 +289,9 @@ pdrs-share s m r a =
     alike c d = not (sameChoice (c .chooseId) (d .chooseId)) || eqb (teid (c .kind) (c .id)) (teid (d .kind) (d .id))
 
     one : (i j : ℕ) (v w : Option Fteid) → T (onBoth alike (bindOption v (choiceOf ofPdr i)) (bindOption w (choiceOf ofPdr j)))
-        → T (not (sameChoice (bindOption v chooseId) (bindOption w chooseId)) || eqb (teid ofPdr i) (teid ofPdr j))
+        → T (not (sameChoice (bindOption v chooseIdOf) (bindOption w chooseIdOf)) || eqb (teid ofPdr i) (teid ofPdr j))
     one i j none w h = unfold sameChoice in tt
-    one i j (some (given t a b)) w h = unfold chooseId sameChoice in tt
-    one i j (some (choose a b c)) none h = unfold chooseId in (or-by-left (not (sameChoice c none)) (eqb (teid ofPdr i) (teid ofPdr j)) (subst (λ (k : Bool). T (not k)) (sym (no-choice c)) tt))
-    one i j (some (choose a b c)) (some (given t d e)) h = unfold chooseId in (or-by-left (not (sameChoice c none)) (eqb (teid ofPdr i) (teid ofPdr j)) (subst (λ (k : Bool). T (not k)) (sym (no-choice c)) tt))
-    one i j (some (choose a b c)) (some (choose d e f)) h = unfold chooseId choiceOf in h
+    one i j (some (given t a b)) w h = unfold chooseIdOf sameChoice in tt
+    one i j (some (choose a b c)) none h = unfold chooseIdOf in (or-by-left (not (sameChoice c none)) (eqb (teid ofPdr i) (teid ofPdr j)) (subst (λ (k : Bool). T (not k)) (sym (no-choice c)) tt))
+    one i j (some (choose a b c)) (some (given t d e)) h = unfold chooseIdOf in (or-by-left (not (sameChoice c none)) (eqb (teid ofPdr i) (teid ofPdr j)) (subst (λ (k : Bool). T (not k)) (sym (no-choice c)) tt))
+    one i j (some (choose a b c)) (some (choose d e f)) h = unfold chooseIdOf choiceOf in h

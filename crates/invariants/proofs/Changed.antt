@@ -17,7 +17,7 @@ use Rattle.rules.specs.Message.{kindOf, headerSeid, setDeletion}
 use Rattle.rules.specs.Reading.{readFault, readRequest}
 use Rattle.rules.specs.Request.{Request}
 use Rattle.rules.specs.Grants.{Kind, chosenAddress, Got, granted, need}
-use Rattle.rules.specs.Stages.{hasSeid, sessionOf, isLive, newSession, atEntry, entrySession, unknownSession, invalidAllocation, noAddress, unnamed}
+use Rattle.rules.specs.Stages.{hasSeid, sessionOf, isLive, newSession, atEntry, entrySession, unknownSession, invalidAllocation, addressLacks, unnamed}
 use Rattle.rules.specs.Apply.{apply, otherSession, removeSession}
 use Rattle.invariants.proofs.Beside.{apart-turn}
 use Rattle.invariants.proofs.VerdictLaws.{Passed}
@@ -112,7 +112,7 @@ entry-sound s m msg hm ho ns p = entry-known s m msg hm ho ns (p .known) (p .rea
 -- ---- the session afterwards
 
 module _ (kind : ℕ) (s : Settings) (m : Sessions) (x : Session) (r : Request) (entry : Entry s m x) (rules : RulesKept s m x r) (room : RoomLeft kind s m x r) (read : RequestRead r)
-    (enough′ : need r ≤ length (freeTeids s m)) (ok : T (not (invalidAllocation r))) (found : T (not (noAddress s m r))) (fits : T (ltb (chosenAddress s m) (2 ^ 32))) where
+    (enough′ : need r ≤ length (freeTeids s m)) (ok : T (not (invalidAllocation r))) (found : T (not (addressLacks s m r))) (fits : T (ltb (chosenAddress s m) (2 ^ 32))) where
   -- what the records get
   abbrev got : Kind → ℕ → Got
   got = granted s m r

@@ -15,12 +15,12 @@ use Rattle.octets.proofs.ListLaws.{or-right, or-by-left, or-by-right, by-test, 
 use Rattle.octets.proofs.MemberLaws.{absent-part, none-in, in-none, keptKey}
 use Rattle.invariants.proofs.InsertLaws.{collect-perm}
 use Rattle.rules.specs.Model.{Settings, Session, Sessions, pdrId, endpointId, sessionTeids, heldTeids, freeTeids, pdrAddress, endpointAddress, inAddressPool, sessionAddresses, heldAddresses, freeAddresses}
-use Rattle.rules.specs.Elements.{UeIp, ueGiven, ueChoose, ueOther, ueAddress, ueChooses}
+use Rattle.rules.specs.Elements.{UeIp, ueGiven, ueChoose, ueOther, ueAddressOf, ueChooses}
 use Rattle.rules.specs.Sound.{apart}
 use Rattle.rules.specs.Request.{Request}
 use Rattle.rules.specs.Grants.{granted, chosenAddress, need}
-use Rattle.rules.specs.Stages.{newPdrAddress, newEndpointAddress, addressesOf, removedPdrs, restoredAddresses, noAddress}
-use Rattle.rules.specs.Apply.{addressGot, addressFrom, createPdr, createEndpoint, pdrsAfter, endpointsAfter, apply}
+use Rattle.rules.specs.Stages.{newPdrAddress, newEndpointAddress, addressesOf, removedPdrs, restoredAddresses, addressLacks}
+use Rattle.rules.specs.Apply.{addressGot, addressFrom, madePdr, madeEndpoint, pdrsAfter, endpointsAfter, apply}
 use Rattle.laws.proofs.RequestLaws.{RequestRead}
 use Rattle.invariants.proofs.KeptRules.{SessionKept, RulesKept}
 use Rattle.invariants.proofs.HeldLaws.{all-held, all-addresses-held}
@@ -75,11 +75,11 @@ abbrev pub newAddresses : ℕ → Request → List ℕ
 newAddresses chosen r = collect (addressGot chosen) (addressesOf r)
 
 new-addresses : (s : Settings) (m : Sessions) (r : Request)
-    → collect endpointAddress (map (createEndpoint (granted s m r)) (r .endpoints)) ++ collect pdrAddress (map (createPdr (granted s m r)) (r .pdrs)) ≡ newAddresses (chosenAddress s m) r
-unfolding createEndpoint createPdr granted addressFrom addressesOf
+    → collect endpointAddress (map (madeEndpoint (granted s m r)) (r .endpoints)) ++ collect pdrAddress (map (madePdr (granted s m r)) (r .pdrs)) ≡ newAddresses (chosenAddress s m) r
+unfolding madeEndpoint madePdr granted addressFrom addressesOf
 new-addresses s m r =
-    ap₂ _++_ (collect-map (createEndpoint (granted s m r)) endpointAddress (r .endpoints) ∙ sym (collect-collect newEndpointAddress (addressGot (chosenAddress s m)) (r .endpoints)))
-    (collect-map (createPdr (granted s m r)) pdrAddress (r .pdrs) ∙ sym (collect-collect newPdrAddress (addressGot (chosenAddress s m)) (r .pdrs)))
+    ap₂ _++_ (collect-map (madeEndpoint (granted s m r)) endpointAddress (r .endpoints) ∙ sym (collect-collect newEndpointAddress (addressGot (chosenAddress s m)) (r .endpoints)))
+    (collect-map (madePdr (granted s m r)) pdrAddress (r .pdrs) ∙ sym (collect-collect newPdrAddress (addressGot (chosenAddress s m)) (r .pdrs)))
     ∙ sym (collect-append (addressGot (chosenAddress s m)) (collect newEndpointAddress (r .endpoints)) (collect newPdrAddress (r .pdrs)))
 
 -- the changed session's: the new ones and those that stay
@@ -93,21 +93,21 @@ changed-addresses s m r x =
 
 -- ---- the addresses that a request gives
 
-module _ (s : Settings) (m : Sessions) (x : Session) (r : Request) (rules : RulesKept s m x r) (found : T (not (noAddress s m r))) where
+module _ (s : Settings) (m : Sessions) (x : Session) (r : Request) (rules : RulesKept s m x r) (found : T (not (addressLacks s m r))) where
   -- no session holds it
   abbrev unheld : ℕ → Bool
   unheld a = not (member a (heldAddresses s m))
 
   -- a given one of the pool is held by no session
-  given-unheld : T (all (λ v. onSome (whenKept (inAddressPool s) unheld) (ueAddress v)) (addressesOf r))
+  given-unheld : T (all (λ v. onSome (whenKept (inAddressPool s) unheld) (ueAddressOf v)) (addressesOf r))
   unfolding restoredAddresses
   given-unheld =
-      subst T (all-collect ueAddress (whenKept (inAddressPool s) unheld) (addressesOf r))
-      (pass-kept (inAddressPool s) unheld (collect ueAddress (addressesOf r)) (none-in (restoredAddresses s r) (heldAddresses s m) (rules .addressesFree)))
+      subst T (all-collect ueAddressOf (whenKept (inAddressPool s) unheld) (addressesOf r))
+      (pass-kept (inAddressPool s) unheld (collect ueAddressOf (addressesOf r)) (none-in (restoredAddresses s r) (heldAddresses s m) (rules .addressesFree)))
 
   -- and so is the chosen one, if one is chosen
   chosen-unheld : T (all (λ v. not (ueChooses v) || unheld (chosenAddress s m)) (addressesOf r))
-  unfolding noAddress
+  unfolding addressLacks
   chosen-unheld =
       by-test (isNil (freeAddresses s m))
       (λ e. all-imply (λ v. not (ueChooses v)) (λ v. not (ueChooses v) || unheld (chosenAddress s m)) (λ v h. or-by-left (not (ueChooses v)) (unheld (chosenAddress s m)) h) (addressesOf r)
@@ -123,11 +123,11 @@ module _ (s : Settings) (m : Sessions) (x : Session) (r : Request) (rules : Rule
   pub new-addresses-free : T (all (whenKept (inAddressPool s) unheld) (newAddresses (chosenAddress s m) r))
   new-addresses-free =
       subst T (sym (all-collect (addressGot (chosenAddress s m)) (whenKept (inAddressPool s) unheld) (addressesOf r)))
-      (all-join (λ v. onSome (whenKept (inAddressPool s) unheld) (ueAddress v)) (λ v. not (ueChooses v) || unheld (chosenAddress s m))
+      (all-join (λ v. onSome (whenKept (inAddressPool s) unheld) (ueAddressOf v)) (λ v. not (ueChooses v) || unheld (chosenAddress s m))
       (λ v. onSome (whenKept (inAddressPool s) unheld) (addressGot (chosenAddress s m) v)) one (addressesOf r) given-unheld chosen-unheld)
     where
-      one : (v : UeIp) → T (onSome (whenKept (inAddressPool s) unheld) (ueAddress v)) → T (not (ueChooses v) || unheld (chosenAddress s m)) → T (onSome (whenKept (inAddressPool s) unheld) (addressGot (chosenAddress s m) v))
-      one (ueGiven a) h g = unfold addressGot ueAddress in h
+      one : (v : UeIp) → T (onSome (whenKept (inAddressPool s) unheld) (ueAddressOf v)) → T (not (ueChooses v) || unheld (chosenAddress s m)) → T (onSome (whenKept (inAddressPool s) unheld) (addressGot (chosenAddress s m) v))
+      one (ueGiven a) h g = unfold addressGot ueAddressOf in h
       one ueChoose h g = unfold addressGot in (or-by-right (not (inAddressPool s (chosenAddress s m))) (unheld (chosenAddress s m)) (unfold ueChooses in g))
       one ueOther h g = unfold addressGot in tt
 

@@ -20,7 +20,7 @@ use Rattle.rules.specs.Sound.{shareTests, agree}
 use Rattle.rules.specs.Request.{Change, Request}
 use Rattle.rules.specs.Grants.{Kind, grants, grantedTeid, Got, granted, need}
 use Rattle.rules.specs.Stages.{invalidAllocation, removedPdrs}
-use Rattle.rules.specs.Apply.{createPdr, createEndpoint, updateAll, keptPdr, keptEndpoint, pdrsAfter, endpointsAfter, apply}
+use Rattle.rules.specs.Apply.{madePdr, madeEndpoint, updateAll, keptPdr, keptEndpoint, pdrsAfter, endpointsAfter, apply}
 use Rattle.invariants.proofs.KeptRules.{shares, share-tests, SessionKept, RulesKept}
 use Rattle.invariants.proofs.NewHolds.{locals, localTunnel, localHolding, newHoldings, new-locals, locals-read}
 use Rattle.invariants.proofs.NewTeids.{new-not-held, new-agree}
@@ -99,12 +99,12 @@ module _ {B : Type 0} (fe : List Endpoint → List B) (fp : List Pdr → List B)
     (same : (cs : List Change) (ps : List Pdr) → fp (updateAll cs ps) ≡ fp ps) where
   pub changed-parts : (got : Kind → ℕ → Got) (r : Request) (x : Session)
       → List·Permᴰ (fe (endpointsAfter got r (x .endpoints)) ++ fp (pdrsAfter got r (x .pdrs)))
-      ((fe (map (createEndpoint got) (r .endpoints)) ++ fp (map (createPdr got) (r .pdrs)))
+      ((fe (map (madeEndpoint got) (r .endpoints)) ++ fp (map (madePdr got) (r .pdrs)))
       ++ (fe (keep (keptKey endpointId (r .goneEndpoints)) (x .endpoints)) ++ fp (keep (keptKey pdrId (removedPdrs r (x .pdrs))) (x .pdrs))))
   unfolding endpointsAfter pdrsAfter keptPdr keptEndpoint
   changed-parts got r x =
-      let newE = map (createEndpoint got) (r .endpoints) in
-      let newP = map (createPdr got) (r .pdrs) in
+      let newE = map (madeEndpoint got) (r .endpoints) in
+      let newP = map (madePdr got) (r .pdrs) in
       let oldE = keep (keptKey endpointId (r .goneEndpoints)) (x .endpoints) in
       let oldP = keep (keptKey pdrId (removedPdrs r (x .pdrs))) (x .pdrs) in
       let es = after endpointId (r .goneEndpoints) newE (x .endpoints) in

@@ -18,12 +18,12 @@ use Rattle.octets.proofs.MemberLaws.{all-in, keptKey, member-front, member-with
 use Rattle.invariants.proofs.RecordsAfter.{after, after-length, after-ascending, after-all, after-keys}
 use Rattle.rules.specs.Model.{Settings, Match, neither, tunnel, endpoint, Pdr, Endpoint, Session, Sessions, freeTeids, pdrId, endpointId, matchedEndpoint, pdrEndpoint, pdrHolding, pdrAddress}
 use Rattle.rules.specs.Limits.{maxPdrs, maxEndpoints}
-use Rattle.rules.specs.Elements.{Fteid, UeIp, ueGiven, ueChoose, ueOther, ueAddress}
+use Rattle.rules.specs.Elements.{Fteid, UeIp, ueGiven, ueChoose, ueOther, ueAddressOf}
 use Rattle.rules.specs.Sound.{tunnelAllowed, matchAllowed, farAllowed, addressAllowed, pdrAllowed, endpointAllowed}
 use Rattle.rules.specs.Request.{Change, Request}
 use Rattle.rules.specs.Grants.{Kind, ofPdr, grants, grantedTeid, chosenAddress, Got, granted, need}
 use Rattle.rules.specs.Stages.{namedEndpoint, createdPdrs, createdEndpoints, livePdrs, liveEndpoints, endpointIdsAfter, removedPdrs}
-use Rattle.rules.specs.Apply.{namedMatch, matchFrom, addressGot, addressFrom, createPdr, createEndpoint, orOld, updatePdr, updateAll, keptPdr, keptEndpoint, pdrsAfter, endpointsAfter}
+use Rattle.rules.specs.Apply.{namedMatch, matchFrom, addressGot, addressFrom, madePdr, madeEndpoint, orOld, changedPdr, updateAll, keptPdr, keptEndpoint, pdrsAfter, endpointsAfter}
 use Rattle.laws.proofs.ReadLaws.{UeRead}
 use Rattle.laws.proofs.RequestLaws.{PdrRead, EndpointRead, ChangeRead, RequestRead}
 use Rattle.invariants.proofs.RemovedPdrs.{removed-live, removed-once, stays-named}
@@ -34,37 +34,37 @@ use Rattle.invariants.proofs.NewTeids.{new-tunnels}
 -- ---- updates
 
 -- what no update changes
-module _ {B : Type 0} (f : Pdr → B) (same : (c : Change) (p : Pdr) → f (updatePdr c p) ≡ f p) where
+module _ {B : Type 0} (f : Pdr → B) (same : (c : Change) (p : Pdr) → f (changedPdr c p) ≡ f p) where
   -- in every PDR
   pub update-map : (cs : List Change) (ps : List Pdr) → map f (updateAll cs ps) ≡ map f ps
   unfolding updateAll
   update-map [] ps = refl
-  update-map (c ∷ cs) ps = update-map cs (map (updatePdr c) ps) ∙ map-map (updatePdr c) f ps ∙ map-same (λ p. f (updatePdr c p)) f (same c) ps
+  update-map (c ∷ cs) ps = update-map cs (map (changedPdr c) ps) ∙ map-map (changedPdr c) f ps ∙ map-same (λ p. f (changedPdr c p)) f (same c) ps
 
 -- the ID
-pub update-id : (c : Change) (p : Pdr) → pdrId (updatePdr c p) ≡ pdrId p
-unfolding updatePdr
+pub update-id : (c : Change) (p : Pdr) → pdrId (changedPdr c p) ≡ pdrId p
+unfolding changedPdr
 update-id c p = pick-either (λ (q : Pdr). q .id ≡ p .id) (eqb (p .id) (c .id)) _ p refl refl
 
 -- the hold
-pub update-holding : (c : Change) (p : Pdr) → pdrHolding (updatePdr c p) ≡ pdrHolding p
-unfolding updatePdr pdrHolding
+pub update-holding : (c : Change) (p : Pdr) → pdrHolding (changedPdr c p) ≡ pdrHolding p
+unfolding changedPdr pdrHolding
 update-holding c p = pick-either (λ (q : Pdr). pdrHolding q ≡ pdrHolding p) (eqb (p .id) (c .id)) _ p refl refl
 
 -- the address
-pub update-address : (c : Change) (p : Pdr) → pdrAddress (updatePdr c p) ≡ pdrAddress p
-unfolding updatePdr
+pub update-address : (c : Change) (p : Pdr) → pdrAddress (changedPdr c p) ≡ pdrAddress p
+unfolding changedPdr
 update-address c p = pick-either (λ (q : Pdr). q .address ≡ p .address) (eqb (p .id) (c .id)) _ p refl refl
 
 -- the holds of updated PDRs
 pub update-holds : (cs : List Change) (ps : List Pdr) → collect pdrHolding (updateAll cs ps) ≡ collect pdrHolding ps
 unfolding updateAll
 update-holds [] ps = refl
-update-holds (c ∷ cs) ps = update-holds cs (map (updatePdr c) ps) ∙ collect-map (updatePdr c) pdrHolding ps ∙ collect-same (λ p. pdrHolding (updatePdr c p)) pdrHolding (update-holding c) ps
+update-holds (c ∷ cs) ps = update-holds cs (map (changedPdr c) ps) ∙ collect-map (changedPdr c) pdrHolding ps ∙ collect-same (λ p. pdrHolding (changedPdr c p)) pdrHolding (update-holding c) ps
 
 -- an updated PDR keeps its rule
-update-one : (s : Settings) (live : List ℕ) (c : Change) → ChangeRead c → (p : Pdr) → T (pdrAllowed s live p) → T (pdrAllowed s live (updatePdr c p))
-unfolding updatePdr
+update-one : (s : Settings) (live : List ℕ) (c : Change) → ChangeRead c → (p : Pdr) → T (pdrAllowed s live p) → T (pdrAllowed s live (changedPdr c p))
+unfolding changedPdr
 update-one s live c k p h =
     let old = pdr-kept s live p h in
     let new : Pdr = record { id = p .id; precedence = orOld (p .precedence) (c .precedence); far = orOld (p .far) (c .far); source = p .source; match = p .match; address = p .address } in
@@ -91,8 +91,8 @@ pub update-allowed : (s : Settings) (live : List ℕ) (cs : List Change) (ps : L
 unfolding updateAll
 update-allowed s live [] ps k h = h
 update-allowed s live (c ∷ cs) ps k h =
-    update-allowed s live cs (map (updatePdr c) ps) (k .1)
-    (subst T (sym (all-map (updatePdr c) (pdrAllowed s live) ps)) (all-imply (pdrAllowed s live) (λ p. pdrAllowed s live (updatePdr c p)) (update-one s live c (k .0)) ps h))
+    update-allowed s live cs (map (changedPdr c) ps) (k .1)
+    (subst T (sym (all-map (changedPdr c) (pdrAllowed s live) ps)) (all-imply (pdrAllowed s live) (λ p. pdrAllowed s live (changedPdr c p)) (update-one s live c (k .0)) ps h))
 
 -- ---- addresses
 
@@ -101,11 +101,11 @@ pub update-addresses : (cs : List Change) (ps : List Pdr) → collect pdrAddress
 unfolding updateAll
 update-addresses [] ps = refl
 update-addresses (c ∷ cs) ps =
-    update-addresses cs (map (updatePdr c) ps) ∙ collect-map (updatePdr c) pdrAddress ps ∙ collect-same (λ p. pdrAddress (updatePdr c p)) pdrAddress (update-address c) ps
+    update-addresses cs (map (changedPdr c) ps) ∙ collect-map (changedPdr c) pdrAddress ps ∙ collect-same (λ p. pdrAddress (changedPdr c p)) pdrAddress (update-address c) ps
 
 -- a new record's address has four octets
 address-made : (n : ℕ) → T (ltb n (2 ^ 32)) → (o : Option UeIp) → OnSome UeRead o → T (addressAllowed (addressFrom n o))
-unfolding addressAllowed addressFrom addressGot ueAddress
+unfolding addressAllowed addressFrom addressGot ueAddressOf
 address-made n h none k = tt
 address-made n h (some (ueGiven a)) k = k
 address-made n h (some ueChoose) k = h
@@ -124,21 +124,21 @@ module _ (kind : ℕ) (s : Settings) (m : Sessions) (x : Session) (r : Request) 
 
   -- the endpoints that the request makes
   abbrev newEndpoints : List Endpoint
-  newEndpoints = map (createEndpoint got) (r .endpoints)
+  newEndpoints = map (madeEndpoint got) (r .endpoints)
 
   -- the PDRs that the request makes
   abbrev newPdrs : List Pdr
-  newPdrs = map (createPdr got) (r .pdrs)
+  newPdrs = map (madePdr got) (r .pdrs)
 
   -- the IDs of the new records are the created ones
   endpoint-ids : map endpointId newEndpoints ≡ createdEndpoints r
-  unfolding createEndpoint createdEndpoints
-  endpoint-ids = map-map (createEndpoint got) endpointId (r .endpoints)
+  unfolding madeEndpoint createdEndpoints
+  endpoint-ids = map-map (madeEndpoint got) endpointId (r .endpoints)
 
   -- the same for PDRs
   pdr-ids : map pdrId newPdrs ≡ createdPdrs r
-  unfolding createPdr createdPdrs
-  pdr-ids = map-map (createPdr got) pdrId (r .pdrs)
+  unfolding madePdr createdPdrs
+  pdr-ids = map-map (madePdr got) pdrId (r .pdrs)
 
   -- their F-TEIDs keep the rule of the table
   tunnels : T (all (λ l. tunnelAllowed s (localTunnel teids l)) (locals r))
@@ -151,7 +151,7 @@ module _ (kind : ℕ) (s : Settings) (m : Sessions) (x : Session) (r : Request) 
   unfolding endpointsAfter keptEndpoint
   endpoints-few =
       let a = after-length endpointId (r .goneEndpoints) newEndpoints (x .endpoints) (rules .goneEndpointsOnce) (unfold liveEndpoints in (rules .goneEndpointsLive)) in
-      let b = length-map (r .endpoints) (createEndpoint got) in
+      let b = length-map (r .endpoints) (madeEndpoint got) in
       let c = room .endpoints in
       let d : length (after endpointId (r .goneEndpoints) newEndpoints (x .endpoints)) ≤ maxEndpoints = omega arith in
       yes-leb d
@@ -168,9 +168,9 @@ module _ (kind : ℕ) (s : Settings) (m : Sessions) (x : Session) (r : Request) 
   unfolding endpointsAfter keptEndpoint
   endpoints-allowed =
       after-all endpointId (r .goneEndpoints) newEndpoints (x .endpoints) (endpointAllowed s)
-      (subst T (sym (all-map (createEndpoint got) (endpointAllowed s) (r .endpoints)))
-      (all-know EndpointRead (λ e. tunnelAllowed s (localTunnel teids (endpointNew e))) (λ e. endpointAllowed s (createEndpoint got e))
-      (λ e k h. unfold createEndpoint in (endpoint-allowed {s = s} {e = createEndpoint got e} (record { id = k .id; local = unfold granted in h; address = unfold granted in (address-made (chosenAddress s m) fits (e .address) (k .address)) }))) (r .endpoints) (read .endpoints)
+      (subst T (sym (all-map (madeEndpoint got) (endpointAllowed s) (r .endpoints)))
+      (all-know EndpointRead (λ e. tunnelAllowed s (localTunnel teids (endpointNew e))) (λ e. endpointAllowed s (madeEndpoint got e))
+      (λ e k h. unfold madeEndpoint in (endpoint-allowed {s = s} {e = madeEndpoint got e} (record { id = k .id; local = unfold granted in h; address = unfold granted in (address-made (chosenAddress s m) fits (e .address) (k .address)) }))) (r .endpoints) (read .endpoints)
       (subst T (all-map endpointNew (λ l. tunnelAllowed s (localTunnel teids l)) (r .endpoints))
       (all-front (λ l. tunnelAllowed s (localTunnel teids l)) (map endpointNew (r .endpoints)) (collect pdrNew (r .pdrs)) (unfold locals in tunnels)))))
       (keep-all (keptKey endpointId (r .goneEndpoints)) (endpointAllowed s) (x .endpoints) (kept .endpoints))
@@ -205,7 +205,7 @@ module _ (kind : ℕ) (s : Settings) (m : Sessions) (x : Session) (r : Request) 
   pub pdrs-few : T (leb (length (pdrsAfter got r (x .pdrs))) maxPdrs)
   pdrs-few =
       let a = after-length pdrId gone newPdrs (x .pdrs) (removed-once r (x .pdrs) (kept .pdrOrder)) (removed-live r (x .pdrs)) in
-      let b = length-map (r .pdrs) (createPdr got) in
+      let b = length-map (r .pdrs) (madePdr got) in
       let c = room .pdrs in
       let e = ap length pdr-keys in
       let f = length-map (pdrsAfter got r (x .pdrs)) pdrId in
@@ -223,9 +223,9 @@ module _ (kind : ℕ) (s : Settings) (m : Sessions) (x : Session) (r : Request) 
   -- a new PDR keeps its rule
   new-pdrs-allowed : T (all (pdrAllowed s liveAfter) newPdrs)
   new-pdrs-allowed =
-      subst T (sym (all-map (createPdr got) (pdrAllowed s liveAfter) (r .pdrs)))
-      (all-know PdrRead (λ p. onSome (λ l. tunnelAllowed s (localTunnel teids l)) (pdrNew p) && onSome (λ n. member n (endpointIdsAfter x r)) (p .endpoint)) (λ p. pdrAllowed s liveAfter (createPdr got p))
-      (λ p k h. unfold createPdr in (pdr-allowed {s = s} {live = liveAfter} {p = createPdr got p} (record {
+      subst T (sym (all-map (madePdr got) (pdrAllowed s liveAfter) (r .pdrs)))
+      (all-know PdrRead (λ p. onSome (λ l. tunnelAllowed s (localTunnel teids l)) (pdrNew p) && onSome (λ n. member n (endpointIdsAfter x r)) (p .endpoint)) (λ p. pdrAllowed s liveAfter (madePdr got p))
+      (λ p k h. unfold madePdr in (pdr-allowed {s = s} {live = liveAfter} {p = madePdr got p} (record {
         id = k .id;
         precedence = k .precedence;
         far = k .far;

@@ -19,7 +19,7 @@ use Rattle.rules.specs.Model.{Settings, Session, Sessions, inAddressPool, endpo
 use Rattle.rules.specs.Elements.{ueChooses}
 use Rattle.rules.specs.Request.{Request}
 use Rattle.rules.specs.Grants.{chosenAddress}
-use Rattle.rules.specs.Stages.{addressesOf, noAddress}
+use Rattle.rules.specs.Stages.{addressesOf, addressLacks}
 use Rattle.invariants.proofs.PoolLaws.{addresses-in-pool, addresses-not-held}
 
 -- ---- what is held is in the pool
@@ -84,8 +84,8 @@ module _ (s : Settings) (m : Sessions) where
               (λ e. le-of-lt (ltb→lt a b (member-passes (λ k. ltb a k) b l (or-right (eqb b a) (member b l) (unfold member in g) e) (pairs-head (λ c d. ltb c d) a l up))))
 
   -- where cause 79 does not stand, a request that chooses an address has one
-  pub chosen-there : (r : Request) → T (not (noAddress s m r)) → T (any ueChooses (addressesOf r)) → ChosenFree (chosenAddress s m)
-  unfolding noAddress
+  pub chosen-there : (r : Request) → T (not (addressLacks s m r)) → T (any ueChooses (addressesOf r)) → ChosenFree (chosenAddress s m)
+  unfolding addressLacks
   chosen-there r h g = chosen-free (one (any ueChooses (addressesOf r)) (isNil (freeAddresses s m)) h g)
     where
       one : (a b : Bool) → T (not (a && b)) → T a → T (not b)

@@ -22,9 +22,9 @@ use Rattle.rules.specs.Message.{Element, elements, hasType, contentIn, contentO
 use Rattle.laws.proofs.MessageLaws.{Fits, el, after, elements-cons, elements-nil, written, asElement, asElements, afterAll, elements-map}
 use Rattle.rules.specs.Grants.{Kind, ofPdr, ofEndpoint, Got}
 use Rattle.rules.specs.Stages.{Verdict}
-use Rattle.rules.specs.Reply.{Report, Reports, element, unitElement, tunnelPart, addressPart, chosenElements, createdPdrContent, createdPdr, createdEndpointContent, createdEndpoint, created, offendingElement, nodeIdElement, unitFseid, acceptedPart, replyBody, reply}
+use Rattle.rules.specs.Reply.{Report, Reports, element, unitElement, tunnelPart, addressPart, chosenElements, createdPdrContent, createdPdrElement, createdEndpointContent, createdEndpointElement, created, offendingElement, nodeIdElement, unitFseid, acceptedPart, replyBody, reply}
 use Rattle.laws.proofs.ReplyLaws.{reply-elements, sequence-three, reply-cause}
-use Rattle.rules.specs.Live.{replyCause, createdType, idType, isCreated, teidIn, addressIn, createdGroup, createdTeid, createdAddress, createdGot}
+use Rattle.rules.specs.Live.{replyCause, createdType, idElement, isCreated, teidIn, addressIn, createdGroup, createdTeid, createdAddress, createdGot}
 use Rattle.rules.specs.Types as ie
 use Rattle.rules.specs.Causes as why
 use Rattle.laws.proofs.RestorationElements.{unit-fits, small, one-fits, be-fits, number-one, addressElements, address-elements}
@@ -174,7 +174,7 @@ module _ (s : Settings) (hs : T (settingsAllowed s)) where
 
   found-pdr : (i at : ℕ) (gs : List Report) → T (all reportFits gs) → (es : List Element) → findBy (isCreated ofPdr i) es ≡ none
       → valueOf (findBy (isCreated ofPdr i) (asPdrs at gs ++ es)) ≡ saidIn (findBy (hasId i) gs)
-  unfolding findBy isCreated createdType idType hasType asElement asElements hasId
+  unfolding findBy isCreated createdType idElement hasType asElement asElements hasId
   found-pdr i at [] h es e = ap valueOf e ∙ value-none
   found-pdr i at (g ∷ gs) h es e =
       let ok = all-head reportFits g gs h in
@@ -188,7 +188,7 @@ module _ (s : Settings) (hs : T (settingsAllowed s)) where
       one false o p a c = c
 
   found-endpoint : (i at : ℕ) (gs : List Report) → T (all reportFits gs) → valueOf (findBy (isCreated ofEndpoint i) (asEndpoints at gs)) ≡ saidIn (findBy (hasId i) gs)
-  unfolding findBy isCreated createdType idType hasType asElement asElements hasId
+  unfolding findBy isCreated createdType idElement hasType asElement asElements hasId
   found-endpoint i at [] h = value-none
   found-endpoint i at (g ∷ gs) h =
       let ok = all-head reportFits g gs h in
@@ -212,11 +212,11 @@ module _ (s : Settings) (hs : T (settingsAllowed s)) where
   unfolding findBy isCreated hasType createdType
   skip-one ofPdr i n t v more fits e8 e128 h at =
       ap (λ (es : List Element). valueOf (findBy (isCreated ofPdr i) es)) (elements-cons t v more fits at)
-      ∙ ap (λ (b : Bool). valueOf (pick (b && eqb (fieldOr0 (idType ofPdr) (elements 0 v)) i) (some (el at t v)) (findBy (isCreated ofPdr i) (elements (after at v) more)))) e8
+      ∙ ap (λ (b : Bool). valueOf (pick (b && eqb (fieldOr0 (idElement ofPdr) (elements 0 v)) i) (some (el at t v)) (findBy (isCreated ofPdr i) (elements (after at v) more)))) e8
       ∙ h (after at v)
   skip-one ofEndpoint i n t v more fits e8 e128 h at =
       ap (λ (es : List Element). valueOf (findBy (isCreated ofEndpoint i) es)) (elements-cons t v more fits at)
-      ∙ ap (λ (b : Bool). valueOf (pick (b && eqb (fieldOr0 (idType ofEndpoint) (elements 0 v)) i) (some (el at t v)) (findBy (isCreated ofEndpoint i) (elements (after at v) more)))) e128
+      ∙ ap (λ (b : Bool). valueOf (pick (b && eqb (fieldOr0 (idElement ofEndpoint) (elements 0 v)) i) (some (el at t v)) (findBy (isCreated ofEndpoint i) (elements (after at v) more)))) e128
       ∙ h (after at v)
 
   skip-if : (k : Kind) (i : ℕ) (n : Got) (b : Bool) (t : ℕ) (v more : List ℕ) → Fits t v → eqb t ie.createdPdr ≡ false → eqb t ie.createdEndpoint ≡ false
@@ -251,11 +251,11 @@ module _ (s : Settings) (hs : T (settingsAllowed s)) where
     endpointsFrom at = afterAll ie.createdPdr (createdPdrContent s) reportFits at (gs .pdrs)
 
     created-elements : (at : ℕ) → elements at (created s gs) ≡ asPdrs at (gs .pdrs) ++ asEndpoints (endpointsFrom at) (gs .endpoints)
-    unfolding created endpointsFrom createdPdr createdEndpoint written
+    unfolding created endpointsFrom createdPdrElement createdEndpointElement written
     created-elements at =
-        elements-map ie.createdPdr (createdPdrContent s) reportFits pdr-content-fits (gs .pdrs) (fits .0) at (concatMap (createdEndpoint s) (gs .endpoints))
+        elements-map ie.createdPdr (createdPdrContent s) reportFits pdr-content-fits (gs .pdrs) (fits .0) at (concatMap (createdEndpointElement s) (gs .endpoints))
         ∙ ap (λ (es : List Element). asPdrs at (gs .pdrs) ++ es)
-        (ap (elements (endpointsFrom at)) (sym (append-nil (concatMap (createdEndpoint s) (gs .endpoints))))
+        (ap (elements (endpointsFrom at)) (sym (append-nil (concatMap (createdEndpointElement s) (gs .endpoints))))
         ∙ elements-map ie.createdEndpoint (createdEndpointContent s) reportFits endpoint-content-fits (gs .endpoints) (fits .1) (endpointsFrom at) []
         ∙ ap (λ (es : List Element). asEndpoints (endpointsFrom at) (gs .endpoints) ++ es) (elements-nil _)
         ∙ append-nil (asEndpoints (endpointsFrom at) (gs .endpoints)))

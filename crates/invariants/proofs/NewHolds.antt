@@ -15,7 +15,7 @@ use Rattle.rules.specs.Elements.{Fteid, given, choose}
 use Rattle.rules.specs.Request.{NewPdr, NewEndpoint, Request}
 use Rattle.rules.specs.Grants.{Kind, ofPdr, ofEndpoint, sameKind, Choice, choiceOf, endpointChoice, pdrChoice, choices, Got}
 use Rattle.rules.specs.Stages.{newPdrId, newEndpointId, pdrLocal, createdPdrs, createdEndpoints, fteidsOf, fteidsMayShare, localsMayShare, choicesAgree, restoredHolding, endpointRestored, pdrRestored, restoredHoldings}
-use Rattle.rules.specs.Apply.{tunnelFrom, namedMatch, matchFrom, createPdr, createEndpoint}
+use Rattle.rules.specs.Apply.{tunnelFrom, namedMatch, matchFrom, madePdr, madeEndpoint}
 use Rattle.laws.proofs.ReadLaws.{FteidRead}
 use Rattle.laws.proofs.RequestLaws.{PdrRead, EndpointRead}
 use Rattle.invariants.proofs.GrantedTeids.{otherRecord}
@@ -70,7 +70,7 @@ teidsOf got k i = got k i .teid
 
 -- the holds of the records that a request makes
 unfoldable pub newHoldings : (Kind → ℕ → Got) → Request → List Holding
-newHoldings got r = map endpointHolding (map (createEndpoint got) (r .endpoints)) ++ collect pdrHolding (map (createPdr got) (r .pdrs))
+newHoldings got r = map endpointHolding (map (madeEndpoint got) (r .endpoints)) ++ collect pdrHolding (map (madePdr got) (r .pdrs))
 
 -- ---- everything from the one list
 
@@ -113,11 +113,11 @@ module _ (r : Request) where
 
   -- the holds of the records made
   pub new-locals : (got : Kind → ℕ → Got) → newHoldings got r ≡ map (localHolding (teidsOf got)) (locals r)
-  unfolding newHoldings locals endpointHolding createEndpoint pdrHolding createPdr
+  unfolding newHoldings locals endpointHolding madeEndpoint pdrHolding madePdr
   new-locals got =
-      ap₂ _++_ (map-map (createEndpoint got) endpointHolding (r .endpoints) ∙ sym (map-map endpointNew (localHolding (teidsOf got)) (r .endpoints)))
-      (collect-map (createPdr got) pdrHolding (r .pdrs)
-      ∙ collect-same (λ p. pdrHolding (createPdr got p)) (λ p. mapOption (localHolding (teidsOf got)) (pdrNew p)) (λ p. one p (p .local) (p .endpoint)) (r .pdrs)
+      ap₂ _++_ (map-map (madeEndpoint got) endpointHolding (r .endpoints) ∙ sym (map-map endpointNew (localHolding (teidsOf got)) (r .endpoints)))
+      (collect-map (madePdr got) pdrHolding (r .pdrs)
+      ∙ collect-same (λ p. pdrHolding (madePdr got p)) (λ p. mapOption (localHolding (teidsOf got)) (pdrNew p)) (λ p. one p (p .local) (p .endpoint)) (r .pdrs)
       ∙ sym (map-collect pdrNew (localHolding (teidsOf got)) (r .pdrs)))
       ∙ sym (map-append (localHolding (teidsOf got)) (map endpointNew (r .endpoints)) (collect pdrNew (r .pdrs)))
     where

@@ -14,11 +14,11 @@ use Rattle.octets.proofs.ListLaws.{not-not, or-right, or-by-left, or-by-right, 
 use Rattle.octets.proofs.MemberLaws.{none-in}
 use Rattle.octets.proofs.Bools.{not-or}
 use Rattle.rules.specs.Model.{Settings, Session, Sessions, Holding, teidOf, tunnelHolding, heldTeids, freeTeids}
-use Rattle.rules.specs.Elements.{Fteid, given, choose, hasV4, hasV6, chooses, chooseId}
+use Rattle.rules.specs.Elements.{Fteid, given, choose, hasV4, hasV6, chooses, chooseIdOf}
 use Rattle.rules.specs.Sound.{inPool, unitFamilies, tunnelAllowed, shareTests, agree}
 use Rattle.rules.specs.Request.{Request}
 use Rattle.rules.specs.Grants.{Kind, ofPdr, ofEndpoint, Choice, Grant, choiceOf, choices, grants, grantedTeid, granted, need}
-use Rattle.rules.specs.Stages.{fteidsOf, wrongAllocation, invalidAllocation, sameChoice, alikeFteids, fteidsMayShare, lacksFamily, otherAddress, strange, restoredHolding, restoredHoldings}
+use Rattle.rules.specs.Stages.{fteidsOf, allocationWrong, invalidAllocation, sameChoice, alikeFteids, fteidsMayShare, lacksFamily, otherAddress, strange, restoredHolding, restoredHoldings}
 use Rattle.rules.specs.Apply.{tunnelFrom}
 use Rattle.invariants.proofs.PoolLaws.{free-in-pool, free-not-held}
 use Rattle.invariants.proofs.FreeTeids.{free-once}
@@ -94,10 +94,10 @@ sharing k k′ a b t u c d e f o p rv rw′ g al =
 
     one : (k k′ : Kind) → FteidRead (not (shared k)) (choose c d o) → FteidRead (not (shared k′)) (choose e f p)
         → T (not (shared k) || (not (shared k′) || fteidsMayShare (choose c d o) a (choose e f p) b)) → T (sameChoice o p) → T (allOf (shareTests (first k) (second k′)))
-    one ofEndpoint k′ rv rw′ al h = unfold chooseId sameChoice in (absurd (subst (λ (q : Option ℕ). T (sameChoice q p)) (rv .noChooseId tt) h))
-    one ofPdr ofEndpoint rv rw′ al h = unfold chooseId in (absurd (subst T (no-choice o) (subst (λ (q : Option ℕ). T (sameChoice o q)) (rw′ .noChooseId tt) h)))
+    one ofEndpoint k′ rv rw′ al h = unfold chooseIdOf sameChoice in (absurd (subst (λ (q : Option ℕ). T (sameChoice q p)) (rv .noChooseId tt) h))
+    one ofPdr ofEndpoint rv rw′ al h = unfold chooseIdOf in (absurd (subst T (no-choice o) (subst (λ (q : Option ℕ). T (sameChoice o q)) (rw′ .noChooseId tt) h)))
     one ofPdr ofPdr rv rw′ al h =
-        unfold fteidsMayShare alikeFteids hasV4 hasV6 chooseId in (
+        unfold fteidsMayShare alikeFteids hasV4 hasV6 chooseIdOf in (
         let both′ = or-right (not (sameChoice o p)) ((sameBool c e && sameBool d f) && eqb a b) al (not-T (not (sameChoice o p)) (λ n. T-not (sameChoice o p) n h)) in
         let alike = and-left (sameBool c e && sameBool d f) (eqb a b) both′ in
         share-tests {h = first ofPdr} {k = second ofPdr}
@@ -205,7 +205,7 @@ module _ (s : Settings) (m : Sessions) (x : Session) (r : Request) (rules : Rule
 
     -- every two new holds keep the rule of sharing
     pub new-agree : T (not (invalidAllocation r)) → T (allPairs agree (newHoldings (granted s m r) r))
-    unfolding invalidAllocation wrongAllocation granted
+    unfolding invalidAllocation allocationWrong granted
     new-agree h =
         subst (λ (l : List Holding). T (allPairs agree l)) (sym (new-locals r (granted s m r)))
         (subst T (sym (pairs-map (localHolding teids′) agree (locals r))) (one (r .restoring) (fteid-test (λ v. sameBool (chooses v) (r .restoring)) h)))

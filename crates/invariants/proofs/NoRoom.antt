@@ -29,8 +29,8 @@ use Rattle.rules.specs.Message.{kindOf, headerSeid, Spot, frameFault, establish
 use Rattle.rules.specs.Reading.{Fault, readFault, readRequest}
 use Rattle.rules.specs.Request.{Request}
 use Rattle.rules.specs.Grants.{Kind, Got, granted, need}
-use Rattle.rules.specs.Stages.{hasSeid, sessionOf, isLive, newSession, atEntry, liveEndpoints, removedPdrs, invalidAllocation, brokenRules, breaksRule, tooManySessions, tooManyPdrs, tooManyEndpoints, tooFewTeids, noRoom, noAddress, Verdict, plain, judge, entrySession, judged, fromReading, fromFraming, unknownSession, verdict, unnamed}
-use Rattle.rules.specs.Apply.{createPdr, createEndpoint, updateAll, keptPdr, keptEndpoint, pdrsAfter, endpointsAfter, apply, otherSession, removeSession, putSession, follow, staysSession}
+use Rattle.rules.specs.Stages.{hasSeid, sessionOf, isLive, newSession, atEntry, liveEndpoints, removedPdrs, invalidAllocation, brokenRules, breaksRule, tooManySessions, tooManyPdrs, tooManyEndpoints, tooFewTeids, roomLacks, addressLacks, Verdict, plain, judge, entrySession, judged, fromReading, verdictFrom, unknownSession, verdict, unnamed}
+use Rattle.rules.specs.Apply.{madePdr, madeEndpoint, updateAll, keptPdr, keptEndpoint, pdrsAfter, endpointsAfter, apply, otherSession, removeSession, putSession, follow, staysSession}
 use Rattle.rules.specs.Serve.{sessionsAfter, serve}
 use Rattle.rules.specs.Live.{replyCause}
 use Rattle.rules.specs.Causes as why
@@ -69,15 +69,15 @@ earlier = why.noSession ∷ why.mandatoryMissing ∷ why.conditionalMissing ∷ 
 module _ (s : Settings) (m : Sessions) (msg : List ℕ) where
   -- the limits leave no room for the request
   abbrev pub Full : Type 0
-  Full = T (noRoom (kindOf msg) s m (entrySession m msg) (readRequest msg))
+  Full = T (roomLacks (kindOf msg) s m (entrySession m msg) (readRequest msg))
 
   -- it chooses an address, and none is free
   abbrev pub Unaddressed : Type 0
-  Unaddressed = T (noAddress s m (readRequest msg))
+  Unaddressed = T (addressLacks s m (readRequest msg))
 
   -- stages 5 and 6
   abbrev last : Verdict
-  last = pick (noRoom (kindOf msg) s m (entrySession m msg) (readRequest msg)) (plain why.noRoom) (pick (noAddress s m (readRequest msg)) (plain why.noAddress) (plain why.accepted))
+  last = pick (roomLacks (kindOf msg) s m (entrySession m msg) (readRequest msg)) (plain why.noRoom) (pick (addressLacks s m (readRequest msg)) (plain why.noAddress) (plain why.accepted))
 
   -- any other cause n
   module _ (n : ℕ) (late : T (not (member n earlier))) where
@@ -85,8 +85,8 @@ module _ (s : Settings) (m : Sessions) (msg : List ℕ) where
     other c h e = T-not (member n earlier) late (subst (λ (k : ℕ). T (member k earlier)) e h)
 
     -- stage 2
-    past-framing : (o : Option Spot) → fromFraming s m msg o .cause ≡ n → (o ≡ none) × (fromReading s m msg (readFault msg) .cause ≡ n)
-    unfolding fromFraming
+    past-framing : (o : Option Spot) → verdictFrom s m msg o .cause ≡ n → (o ≡ none) × (fromReading s m msg (readFault msg) .cause ≡ n)
+    unfolding verdictFrom
     past-framing none e = (refl, e)
     past-framing (some t) e = absurd (other why.wrongLength (unfold earlier member in tt) e)
 
@@ -108,7 +108,7 @@ module _ (s : Settings) (m : Sessions) (msg : List ℕ) where
     reached : verdict s m msg .cause ≡ n → Reached s m msg × (last .cause ≡ n)
     unfolding verdict judged judge earlier member
     reached e =
-        let a = past n why.noSession (unknownSession m msg) (fromFraming s m msg (frameFault msg)) (other why.noSession tt) e in
+        let a = past n why.noSession (unknownSession m msg) (verdictFrom s m msg (frameFault msg)) (other why.noSession tt) e in
         let b = past-framing (frameFault msg) (a .1) in
         let c = past-reading (readFault msg) (b .1) in
         let x = entrySession m msg in
@@ -130,7 +130,7 @@ module _ (s : Settings) (m : Sessions) (msg : List ℕ) where
   pub cause-75 : verdict s m msg .cause ≡ why.noRoom → Reached s m msg × Full
   cause-75 e =
       let k = reached why.noRoom (unfold earlier member in tt) e in
-      (k .0, full-branch (noRoom (kindOf msg) s m (entrySession m msg) (readRequest msg)) (noAddress s m (readRequest msg)) (k .1))
+      (k .0, full-branch (roomLacks (kindOf msg) s m (entrySession m msg) (readRequest msg)) (addressLacks s m (readRequest msg)) (k .1))
 
   -- the branch of 79
   empty-branch : (b c : Bool) → pick b (plain why.noRoom) (pick c (plain why.noAddress) (plain why.accepted)) .cause ≡ why.noAddress → T (not b) × T c
@@ -139,10 +139,10 @@ module _ (s : Settings) (m : Sessions) (msg : List ℕ) where
   empty-branch false false e = absurd (omega arith)
 
   -- 79 only where there is room, and no address
-  pub cause-79 : verdict s m msg .cause ≡ why.noAddress → Reached s m msg × (T (not (noRoom (kindOf msg) s m (entrySession m msg) (readRequest msg))) × Unaddressed)
+  pub cause-79 : verdict s m msg .cause ≡ why.noAddress → Reached s m msg × (T (not (roomLacks (kindOf msg) s m (entrySession m msg) (readRequest msg))) × Unaddressed)
   cause-79 e =
       let k = reached why.noAddress (unfold earlier member in tt) e in
-      (k .0, empty-branch (noRoom (kindOf msg) s m (entrySession m msg) (readRequest msg)) (noAddress s m (readRequest msg)) (k .1))
+      (k .0, empty-branch (roomLacks (kindOf msg) s m (entrySession m msg) (readRequest msg)) (addressLacks s m (readRequest msg)) (k .1))
 
   -- the verdict of a request without an earlier fault
   reached-verdict : Reached s m msg → verdict s m msg ≡ last
@@ -150,7 +150,7 @@ module _ (s : Settings) (m : Sessions) (msg : List ℕ) where
   reached-verdict p =
       let r = readRequest msg in
       pick-no (unknownSession m msg) (plain why.noSession) _ (p .known)
-      ∙ ap (fromFraming s m msg) (p .framed)
+      ∙ ap (verdictFrom s m msg) (p .framed)
       ∙ framed
       ∙ ap (fromReading s m msg) (p .read)
       ∙ read
@@ -159,23 +159,23 @@ module _ (s : Settings) (m : Sessions) (msg : List ℕ) where
       ∙ pick-no (r .unsupported) (plain why.notSupported) _ (p .supported)
       ∙ pick-no (breaksRule s m (entrySession m msg) r) (plain why.brokenRule) _ (p .rules)
     where
-      framed : fromFraming s m msg none ≡ fromReading s m msg (readFault msg)
-      framed = unfold fromFraming in refl
+      framed : verdictFrom s m msg none ≡ fromReading s m msg (readFault msg)
+      framed = unfold verdictFrom in refl
 
       read : fromReading s m msg none ≡ judged s m msg
       read = unfold fromReading in refl
 
   -- 75 always then
   pub verdict-75 : Reached s m msg → Full → verdict s m msg .cause ≡ why.noRoom
-  verdict-75 p full = ap {B = ℕ} (λ (v : Verdict). v .cause) (reached-verdict p ∙ pick-yes (noRoom (kindOf msg) s m (entrySession m msg) (readRequest msg)) (plain why.noRoom) _ full)
+  verdict-75 p full = ap {B = ℕ} (λ (v : Verdict). v .cause) (reached-verdict p ∙ pick-yes (roomLacks (kindOf msg) s m (entrySession m msg) (readRequest msg)) (plain why.noRoom) _ full)
 
   -- 79 always then
-  pub verdict-79 : Reached s m msg → T (not (noRoom (kindOf msg) s m (entrySession m msg) (readRequest msg))) → Unaddressed → verdict s m msg .cause ≡ why.noAddress
+  pub verdict-79 : Reached s m msg → T (not (roomLacks (kindOf msg) s m (entrySession m msg) (readRequest msg))) → Unaddressed → verdict s m msg .cause ≡ why.noAddress
   verdict-79 p room full =
       ap {B = ℕ} (λ (v : Verdict). v .cause)
       (reached-verdict p
-      ∙ pick-no (noRoom (kindOf msg) s m (entrySession m msg) (readRequest msg)) (plain why.noRoom) _ room
-      ∙ pick-yes (noAddress s m (readRequest msg)) (plain why.noAddress) (plain why.accepted) full)
+      ∙ pick-no (roomLacks (kindOf msg) s m (entrySession m msg) (readRequest msg)) (plain why.noRoom) _ room
+      ∙ pick-yes (addressLacks s m (readRequest msg)) (plain why.noAddress) (plain why.accepted) full)
 
 -- ---- what would result
 
@@ -287,11 +287,11 @@ module _ (s : Settings) (m : Sessions) (msg : List ℕ) (hm : T (sessionsAllowed
   pdrs-exact : (got : Kind → ℕ → Got) → length (pdrsAfter got r (x .pdrs)) ≡ length (x .pdrs) - length (removedPdrs r (x .pdrs)) + length (r .pdrs)
   unfolding pdrsAfter keptPdr
   pdrs-exact got =
-      let new = map (createPdr got) (r .pdrs) in
+      let new = map (madePdr got) (r .pdrs) in
       let gone = removedPdrs r (x .pdrs) in
       let base = after pdrId gone new (x .pdrs) in
       let a = after-count pdrId gone new (x .pdrs) (removed-once r (x .pdrs) pdr-order) (removed-live r (x .pdrs)) pdr-order in
-      let b = length-map (r .pdrs) (createPdr got) in
+      let b = length-map (r .pdrs) (madePdr got) in
       let c = ap length (update-map pdrId update-id (r .changes) base) in
       let d = length-map (updateAll (r .changes) base) pdrId in
       let e = length-map base pdrId in
@@ -301,14 +301,14 @@ module _ (s : Settings) (m : Sessions) (msg : List ℕ) (hm : T (sessionsAllowed
   endpoints-exact : (got : Kind → ℕ → Got) → length (endpointsAfter got r (x .endpoints)) ≡ length (x .endpoints) - length (r .goneEndpoints) + length (r .endpoints)
   unfolding endpointsAfter keptEndpoint liveEndpoints
   endpoints-exact got =
-      let new = map (createEndpoint got) (r .endpoints) in
+      let new = map (madeEndpoint got) (r .endpoints) in
       let a = after-count endpointId (r .goneEndpoints) new (x .endpoints) (rules .goneEndpointsOnce) (rules .goneEndpointsLive) endpoint-order in
-      let b = length-map (r .endpoints) (createEndpoint got) in
+      let b = length-map (r .endpoints) (madeEndpoint got) in
       omega arith
 
   -- stage 5 tests just that
-  pub full-exact : noRoom (kindOf msg) s m x r ≡ oneOf (overLimits s m msg)
-  unfolding noRoom overLimits tooManyPdrs tooManyEndpoints tooFewTeids changed apply
+  pub full-exact : roomLacks (kindOf msg) s m x r ≡ oneOf (overLimits s m msg)
+  unfolding roomLacks overLimits tooManyPdrs tooManyEndpoints tooFewTeids changed apply
   full-exact =
       let got = granted s m r in
       ap₂ _||_ (sym sessions-exact) (ap₂ _||_ (ap (ltb maxPdrs) (sym (pdrs-exact got))) (ap₂ _||_ (ap (ltb maxEndpoints) (sym (endpoints-exact got)))
@@ -336,13 +336,13 @@ module _ (t msg space : List ℕ) (ho : T (octets msg)) (zero′ : T (eqb (serve
 
   -- 79 only where there is room, some record chooses an address and none is free
   pub served-79 : replyCause (serve t msg space .space) ≡ why.noAddress
-      → Reached (viewSettings t) (viewSessions t) msg × (T (not (oneOf (overLimits (viewSettings t) (viewSessions t) msg))) × T (noAddress (viewSettings t) (viewSessions t) (readRequest msg)))
+      → Reached (viewSettings t) (viewSessions t) msg × (T (not (oneOf (overLimits (viewSettings t) (viewSessions t) msg))) × T (addressLacks (viewSettings t) (viewSessions t) (readRequest msg)))
   served-79 e =
       let k = cause-79 (viewSettings t) (viewSessions t) msg (sym (served-cause t msg space ho zero′) ∙ e) in
       (k .0, (subst (λ (b : Bool). T (not b)) (full-exact (viewSettings t) (viewSessions t) msg sessions-entry ho (k .0)) (k .1 .0), k .1 .1))
 
   -- and always then
-  pub then-79 : Reached (viewSettings t) (viewSessions t) msg → T (not (oneOf (overLimits (viewSettings t) (viewSessions t) msg))) → T (noAddress (viewSettings t) (viewSessions t) (readRequest msg))
+  pub then-79 : Reached (viewSettings t) (viewSessions t) msg → T (not (oneOf (overLimits (viewSettings t) (viewSessions t) msg))) → T (addressLacks (viewSettings t) (viewSessions t) (readRequest msg))
       → replyCause (serve t msg space .space) ≡ why.noAddress
   then-79 p room full =
       served-cause t msg space ho zero′

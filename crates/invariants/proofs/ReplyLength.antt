@@ -22,7 +22,7 @@ use Rattle.rules.specs.Reading.{readRequest}
 use Rattle.laws.proofs.MessageLaws.{length-one, written, short-map}
 use Rattle.rules.specs.Grants.{granted}
 use Rattle.rules.specs.Stages.{Verdict, verdict}
-use Rattle.rules.specs.Reply.{Report, Reports, element, unitElement, tunnelPart, addressPart, reports, chosenElements, createdPdrContent, createdPdr, createdEndpointContent, createdEndpoint, created, offendingElement, nodeIdElement, unitFseid, acceptedPart, replyBody}
+use Rattle.rules.specs.Reply.{Report, Reports, element, unitElement, tunnelPart, addressPart, reports, chosenElements, createdPdrContent, createdPdrElement, createdEndpointContent, createdEndpointElement, created, offendingElement, nodeIdElement, unitFseid, acceptedPart, replyBody}
 use Rattle.rules.specs.Serve.{replyTo}
 use Rattle.rules.specs.Types as ie
 use Rattle.rules.specs.Causes as why
@@ -72,10 +72,10 @@ module _ (s : Settings) (hs : T (settingsAllowed s)) where
 
   -- 16 of at most 48 octets and 8 of at most 47
   created-short : (gs : Reports) → FewReports gs → length (created s gs) ≤ 1144
-  unfolding created createdPdr createdEndpoint written
+  unfolding created createdPdrElement createdEndpointElement written
   created-short gs few =
-      let ps = concatMap (createdPdr s) (gs .pdrs) in
-      let es = concatMap (createdEndpoint s) (gs .endpoints) in
+      let ps = concatMap (createdPdrElement s) (gs .pdrs) in
+      let es = concatMap (createdEndpointElement s) (gs .endpoints) in
       let a = length-append ps es in
       let b : length ps ≤ 16 * 48 = le-trans (short-map ie.createdPdr (createdPdrContent s) (λ _. true) 44 (λ g _. pdr-content-short g) (gs .pdrs) (all-always (λ _. true) (λ _. tt) (gs .pdrs))) (mul-le-mul-right 48 (few .pdrs)) in
       let c : length es ≤ 8 * 47 = le-trans (short-map ie.createdEndpoint (createdEndpointContent s) (λ _. true) 43 (λ g _. endpoint-content-short g) (gs .endpoints) (all-always (λ _. true) (λ _. tt) (gs .endpoints))) (mul-le-mul-right 47 (few .endpoints)) in

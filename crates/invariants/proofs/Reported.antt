@@ -19,7 +19,7 @@ use Rattle.rules.specs.Message.{deletion, setDeletion}
 use Rattle.rules.specs.Request.{NewPdr, NewEndpoint, Request}
 use Rattle.rules.specs.Grants.{Kind, ofPdr, ofEndpoint, sameKind, Choice, Chosen, Grant, choiceOf, endpointChoice, pdrChoice, choices, chosenTeid, grantOf, teidFor, freeAfter, chosenAfter, grantFrom, grants, grantTeid, isGrantFor, grantedTeid, chosenAddress, Got, granted}
 use Rattle.rules.specs.Stages.{newPdrId, newEndpointId, createdPdrs, createdEndpoints, removedPdrs, atEntry}
-use Rattle.rules.specs.Apply.{tunnelFrom, matchFrom, addressGot, addressFrom, createPdr, createEndpoint, updateAll, followCsids, keptPdr, keptEndpoint, pdrsAfter, endpointsAfter, apply, removeSession, putSession, staysSession, follow}
+use Rattle.rules.specs.Apply.{tunnelFrom, matchFrom, addressGot, addressFrom, madePdr, madeEndpoint, updateAll, followCsids, keptPdr, keptEndpoint, pdrsAfter, endpointsAfter, apply, removeSession, putSession, staysSession, follow}
 use Rattle.rules.specs.Reply.{Report, chosenTunnel, chosenIp, pdrReport, endpointReport, somethingChosen, reports}
 use Rattle.invariants.proofs.GrantReply.{reportTeid, reportAddress, hasId, said}
 
@@ -274,8 +274,8 @@ module _ (s : Settings) (m : Sessions) (r : Request) (oncePdrs : T (not (hasRepe
   address-same n (some ueChoose) f = ap (λ (a : ℕ). some a) (f tt)
   address-same n (some ueOther) f = refl
 
-  made-pdr : (p : NewPdr) → (T (isSome (reportAddress (pdrReport got p))) → saidOf ofPdr (p .id) .address ≡ chosenAddress s m) → createPdr saidOf p ≡ createPdr got p
-  unfolding createPdr granted
+  made-pdr : (p : NewPdr) → (T (isSome (reportAddress (pdrReport got p))) → saidOf ofPdr (p .id) .address ≡ chosenAddress s m) → madePdr saidOf p ≡ madePdr got p
+  unfolding madePdr granted
   made-pdr p f =
       λ j. record {
         id = p .id;
@@ -286,8 +286,8 @@ module _ (s : Settings) (m : Sessions) (r : Request) (oncePdrs : T (not (hasRepe
         address = address-same (saidOf ofPdr (p .id) .address) (p .address) (unfold pdrReport granted in f) j;
       }
 
-  made-endpoint : (e : NewEndpoint) → (T (isSome (reportAddress (endpointReport got e))) → saidOf ofEndpoint (e .id) .address ≡ chosenAddress s m) → createEndpoint saidOf e ≡ createEndpoint got e
-  unfolding createEndpoint granted
+  made-endpoint : (e : NewEndpoint) → (T (isSome (reportAddress (endpointReport got e))) → saidOf ofEndpoint (e .id) .address ≡ chosenAddress s m) → madeEndpoint saidOf e ≡ madeEndpoint got e
+  unfolding madeEndpoint granted
   made-endpoint e f =
       λ j. record {
         id = e .id;
@@ -299,15 +299,15 @@ module _ (s : Settings) (m : Sessions) (r : Request) (oncePdrs : T (not (hasRepe
   map-every f g [] h = refl
   map-every {A} {B} f g (x ∷ xs) h = ap₂ (λ (y : B) (ys : List B). y ∷ ys) (h .0) (map-every f g xs (h .1))
 
-  made-pdrs : map (createPdr saidOf) (r .pdrs) ≡ map (createPdr got) (r .pdrs)
+  made-pdrs : map (madePdr saidOf) (r .pdrs) ≡ map (madePdr got) (r .pdrs)
   made-pdrs =
-      map-every (createPdr saidOf) (createPdr got) (r .pdrs)
-      (every-imply (λ p. T (isSome (reportAddress (pdrReport got p))) → saidOf ofPdr (p .id) .address ≡ chosenAddress s m) (λ p. createPdr saidOf p ≡ createPdr got p) made-pdr (r .pdrs) said-pdr-addresses)
+      map-every (madePdr saidOf) (madePdr got) (r .pdrs)
+      (every-imply (λ p. T (isSome (reportAddress (pdrReport got p))) → saidOf ofPdr (p .id) .address ≡ chosenAddress s m) (λ p. madePdr saidOf p ≡ madePdr got p) made-pdr (r .pdrs) said-pdr-addresses)
 
-  made-endpoints : map (createEndpoint saidOf) (r .endpoints) ≡ map (createEndpoint got) (r .endpoints)
+  made-endpoints : map (madeEndpoint saidOf) (r .endpoints) ≡ map (madeEndpoint got) (r .endpoints)
   made-endpoints =
-      map-every (createEndpoint saidOf) (createEndpoint got) (r .endpoints)
-      (every-imply (λ e. T (isSome (reportAddress (endpointReport got e))) → saidOf ofEndpoint (e .id) .address ≡ chosenAddress s m) (λ e. createEndpoint saidOf e ≡ createEndpoint got e) made-endpoint (r .endpoints) said-endpoint-addresses)
+      map-every (madeEndpoint saidOf) (madeEndpoint got) (r .endpoints)
+      (every-imply (λ e. T (isSome (reportAddress (endpointReport got e))) → saidOf ofEndpoint (e .id) .address ≡ chosenAddress s m) (λ e. madeEndpoint saidOf e ≡ madeEndpoint got e) made-endpoint (r .endpoints) said-endpoint-addresses)
 
   -- the sessions after it are the same by what the reports say and by what was granted
   pub follow-said : (kind header : ℕ) → follow saidOf kind header r m ≡ follow got kind header r m

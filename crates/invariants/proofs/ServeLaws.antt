@@ -30,7 +30,7 @@ use Rattle.laws.proofs.ReplyLaws.{own-found, sequence-three, reply-cause}
 use Rattle.invariants.proofs.ReplyLength.{reply-body-short, reply-short}
 use Rattle.octets.proofs.Put.{length-put}
 use Rattle.rules.specs.Serve.{Served, unserved, sessionsAfter, replyTo, answered, answer, serveSound, serve}
-use Rattle.rules.specs.Live.{replied, accepted, replyIn, replyCause}
+use Rattle.rules.specs.Live.{replied, acceptedEvent, replyIn, replyCause}
 use Rattle.rules.specs.Causes as why
 use Rattle.invariants.proofs.Steps.{AcceptedKeeps, one-kept}
 use Rattle.invariants.proofs.Accepting.{SoundAfter, accepting}
@@ -142,10 +142,10 @@ module _ (t msg space : List ℕ) (ho : T (octets msg)) where
       accepted-keeps s m msg space (k .settings) (k .sessions) ho (a .header) (a .kind) (eqb→eq (v .cause) why.accepted (of-true e)) .cause
 
   -- a request that is not accepted, by its outcome and its reply's cause, leaves the table octet for octet
-  pub refused-same : T (not (accepted (replied msg (out .outcome) (out .space)))) → out .table ≡ t
+  pub refused-same : T (not (acceptedEvent (replied msg (out .outcome) (out .space)))) → out .table ≡ t
   refused-same =
-      serve-cases t msg space (λ (o : Served). T (not (accepted (replied msg (o .outcome) (o .space)))) → o .table ≡ t) (λ n e h. refl)
-      (λ a. unfold answer answered accepted in (go a (eqb (v .cause) why.accepted) refl))
+      serve-cases t msg space (λ (o : Served). T (not (acceptedEvent (replied msg (o .outcome) (o .space)))) → o .table ≡ t) (λ n e h. refl)
+      (λ a. unfold answer answered acceptedEvent in (go a (eqb (v .cause) why.accepted) refl))
     where
       go : Answers t msg space → (b : Bool) → eqb (v .cause) why.accepted ≡ b
           → T (not (eqb (replyCause (put 0 (replyTo s m msg v) space)) 1))
@@ -165,7 +165,7 @@ module _ (t msg space : List ℕ) (ho : T (octets msg)) where
 
   -- a refusal by its reply's cause
   pub refused-cause : T (eqb (out .outcome) 0) → T (not (eqb (replyCause (out .space)) 1)) → out .table ≡ t
-  refused-cause zero′ h = refused-same (unfold accepted in (not-T (eqb (out .outcome) 0 && eqb (replyCause (out .space)) 1)
+  refused-cause zero′ h = refused-same (unfold acceptedEvent in (not-T (eqb (out .outcome) 0 && eqb (replyCause (out .space)) 1)
       (λ b. T-not (eqb (replyCause (out .space)) 1) h (and-right (eqb (out .outcome) 0) (eqb (replyCause (out .space)) 1) b))))
 
   -- the reply is the one that 01 writes

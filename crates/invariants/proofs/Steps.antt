@@ -24,7 +24,7 @@ use Rattle.invariants.proofs.ReplyLength.{body-short}
 use Rattle.laws.proofs.HeaderLaws.{header-long}
 use Rattle.laws.proofs.ReplyLaws.{reply-cause, sequence-three}
 use Rattle.rules.specs.Serve.{Served, unserved, sessionsAfter, replyTo, answered, answer, serveSound, serve}
-use Rattle.rules.specs.Live.{replied, accepted, followEvent, liveStep, replyCause, createdGot, Event, live}
+use Rattle.rules.specs.Live.{replied, acceptedEvent, followEvent, liveStep, replyCause, createdGot, Event, live}
 use Rattle.rules.specs.Causes as why
 
 -- what one call does to a table and to the live set: both go to sessions m′ that keep the rules
@@ -70,14 +70,14 @@ module _ (accepts : AcceptedKeeps) (s : Settings) (m : Sessions) (msg space : Li
   P r = Kept s m (r .table) (replied msg (r .outcome) (r .space))
 
   -- nothing changes where the event is no acceptance
-  unchanged : (o : ℕ) (l : List ℕ) → accepted (replied msg o l) ≡ false → Kept s m t (replied msg o l)
+  unchanged : (o : ℕ) (l : List ℕ) → acceptedEvent (replied msg o l) ≡ false → Kept s m t (replied msg o l)
   unchanged o l e = record { after = m; sound = hm; table = refl; live = unfold liveStep in (ap (λ (b : Bool). pick b (followEvent m (replied msg o l)) m) e) }
 
   unserved-kept : (n : ℕ) → eqb n 0 ≡ false → P (unserved n space t)
-  unserved-kept n e = unchanged n space (unfold accepted in (ap (λ (b : Bool). b && eqb (replyCause space) 1) e))
+  unserved-kept n e = unchanged n space (unfold acceptedEvent in (ap (λ (b : Bool). b && eqb (replyCause space) 1) e))
 
-  refused-event : (v : Verdict) → T (headerAllowed msg) → eqb (v .cause) why.accepted ≡ false → accepted (replied msg 0 (put 0 (replyTo s m msg v) space)) ≡ false
-  unfolding accepted replyTo
+  refused-event : (v : Verdict) → T (headerAllowed msg) → eqb (v .cause) why.accepted ≡ false → acceptedEvent (replied msg 0 (put 0 (replyTo s m msg v) space)) ≡ false
+  unfolding acceptedEvent replyTo
   refused-event v hh e =
       let refused : T (not (eqb (v .cause) why.accepted)) = subst (λ (c : Bool). T (not c)) (sym e) tt in
       let gs = reports (granted s m (readRequest msg)) (readRequest msg) in
@@ -90,7 +90,7 @@ module _ (accepts : AcceptedKeeps) (s : Settings) (m : Sessions) (msg space : Li
   accepted-facts hh hk e = accepts s m msg space hs hm ho hh hk (eqb→eq (verdict s m msg .cause) why.accepted (subst T (sym e) tt))
 
   accepted-live : (l : List ℕ) → replyCause l ≡ 1 → liveStep m (replied msg 0 l) ≡ follow (createdGot l) (kindOf msg) (headerSeid msg) (readRequest msg) m
-  unfolding liveStep accepted followEvent
+  unfolding liveStep acceptedEvent followEvent
   accepted-live l e = ap (λ (c : ℕ). pick (eqb c 1) (follow (createdGot l) (kindOf msg) (headerSeid msg) (readRequest msg) m) m) e
 
   answered-kept : T (headerAllowed msg) → T (served (kindOf msg)) → P (answer s m msg space t)

@@ -14,7 +14,7 @@ use Rattle.rules.specs.Model.{Settings, Sessions}
 use Rattle.rules.specs.Elements.{Refusal, missing, conditional, tooShort, incorrect, causeOf}
 use Rattle.rules.specs.Message.{kindOf, Spot, frameFault, establishment}
 use Rattle.rules.specs.Reading.{Fault, readFault, readRequest}
-use Rattle.rules.specs.Stages.{isLive, removedPdrs, invalidAllocation, brokenRules, breaksRule, tooManySessions, tooManyPdrs, tooManyEndpoints, tooFewTeids, noRoom, noAddress, Verdict, plain, judge, entrySession, judged, fromReading, fromFraming, unknownSession, verdict}
+use Rattle.rules.specs.Stages.{isLive, removedPdrs, invalidAllocation, brokenRules, breaksRule, tooManySessions, tooManyPdrs, tooManyEndpoints, tooFewTeids, roomLacks, addressLacks, Verdict, plain, judge, entrySession, judged, fromReading, verdictFrom, unknownSession, verdict}
 use Rattle.rules.specs.Causes as why
 
 -- tests that all fail
@@ -41,7 +41,7 @@ pub record Passed (s : Settings) (m : Sessions) (msg : List ℕ) : Type 0 where
   pub supported : T (not (readRequest msg .unsupported))
   pub rules : NoneOf (brokenRules s m (entrySession m msg) (readRequest msg))
   pub room : NoneOf (tooManySessions s (kindOf msg) m ∷ tooManyPdrs (entrySession m msg) (readRequest msg) ∷ tooManyEndpoints (entrySession m msg) (readRequest msg) ∷ tooFewTeids s m (readRequest msg) ∷ [])
-  pub address : T (not (noAddress s m (readRequest msg)))
+  pub address : T (not (addressLacks s m (readRequest msg)))
 
 -- a refusal's cause is none of acceptance
 not-one : (f : Refusal) → causeOf f ≡ 1 → ⊥
@@ -53,8 +53,8 @@ not-one incorrect e = omega arith
 
 module _ (s : Settings) (m : Sessions) (msg : List ℕ) where
   -- the faults of stages 2 and 3 have other causes
-  unframed : (o : Option Spot) → fromFraming s m msg o .cause ≡ why.accepted → (o ≡ none) × (fromReading s m msg (readFault msg) .cause ≡ why.accepted)
-  unfolding fromFraming
+  unframed : (o : Option Spot) → verdictFrom s m msg o .cause ≡ why.accepted → (o ≡ none) × (fromReading s m msg (readFault msg) .cause ≡ why.accepted)
+  unfolding verdictFrom
   unframed none e = (refl, e)
   unframed (some t) e = absurd (omega arith)
 
@@ -64,9 +64,9 @@ module _ (s : Settings) (m : Sessions) (msg : List ℕ) where
   unread (some f) e = absurd (not-one (f .cause) e)
 
   pub passed : verdict s m msg .cause ≡ why.accepted → Passed s m msg
-  unfolding verdict judged judge breaksRule noRoom
+  unfolding verdict judged judge breaksRule roomLacks
   passed e =
-      let a = passes (unknownSession m msg) 65 (fromFraming s m msg (frameFault msg)) (λ p. absurd (omega arith)) e in
+      let a = passes (unknownSession m msg) 65 (verdictFrom s m msg (frameFault msg)) (λ p. absurd (omega arith)) e in
       let b = unframed (frameFault msg) (a .1) in
       let c = unread (readFault msg) (b .1) in
       let x = entrySession m msg in
@@ -77,7 +77,7 @@ module _ (s : Settings) (m : Sessions) (msg : List ℕ) where
       let g = passes (r .unsupported) 76 _ (λ p. absurd (omega arith)) (f .1) in
       let h = passes (oneOf (brokenRules s m x r)) 73 _ (λ p. absurd (omega arith)) (g .1) in
       let i = passes (oneOf (tooManySessions s k m ∷ tooManyPdrs x r ∷ tooManyEndpoints x r ∷ tooFewTeids s m r ∷ [])) 75 _ (λ p. absurd (omega arith)) (h .1) in
-      let j = passes (noAddress s m r) 79 (plain why.accepted) (λ p. absurd (omega arith)) (i .1) in
+      let j = passes (addressLacks s m r) 79 (plain why.accepted) (λ p. absurd (omega arith)) (i .1) in
       record {
         known = a .0;
         framed = b .0;

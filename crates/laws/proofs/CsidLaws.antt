@@ -15,7 +15,7 @@ use Rattle.octets.proofs.ListLaws.{collect-append}
 use Rattle.rules.specs.Elements.{Fqcsid, readFseid, readFqcsid}
 use Rattle.rules.specs.Types as ie
 use Rattle.rules.specs.Message.{inside, Element, hasType, elements}
-use Rattle.rules.specs.Reading.{done, Members, pdiRead, noMembers, membersRead, pdrFrom, endpointFrom, changeFrom, itemFrom, groupRead, elementRead, elementsRead, aloneIn}
+use Rattle.rules.specs.Reading.{done, Members, pdiRead, noMembers, membersRead, pdrItem, endpointItem, changeFrom, itemFrom, groupRead, elementRead, elementsRead, aloneIn}
 use Rattle.rules.specs.Request.{Item, clearsCsids, setsCsid, updatesEndpoint, Draft, emptyDraft, csidIn, clears}
 use Rattle.laws.proofs.ReadLaws.{OnDone, anything, any-value, then-done, need-any}
 use Rattle.laws.proofs.RequestLaws.{element-step}
@@ -30,7 +30,7 @@ abbrev Other : Item → Type 0
 Other i = weight i ≤ 0
 
 item-other : (g p : ℕ) (m : Members) → OnDone Other (itemFrom g p m)
-unfolding itemFrom pdrFrom endpointFrom changeFrom collect csidIn clears
+unfolding itemFrom pdrItem endpointItem changeFrom collect csidIn clears
 item-other g p m =
     pick-either (OnDone Other) (eqb g ie.createPdr) _ _
     (pick-either (OnDone Other) (m .pdi) _ _ (need-any Other _ _ p (m .precedence) _ (λ _. need-any Other _ _ p (m .pdrId) _ (λ _. need-any Other _ _ p (m .source) _ (λ _. zero-le)))) tt)

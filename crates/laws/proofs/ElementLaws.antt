@@ -15,7 +15,7 @@ use Rattle.octets.specs.Choice.{flag, allOf, isNil}
 use Rattle.octets.specs.Octets.{be, number, numberAt, octetAt, bit, octets, slices, concatMap}
 use Rattle.octets.proofs.Tests.{pick-yes, pick-no, each, all-of-each, and-left, and-right}
 use Rattle.octets.proofs.Numbers.{length-be, number-be}
-use Rattle.rules.specs.Elements.{value, Fteid, given, choose, v4Flag, v6Flag, chFlag, wrongFlags, fteidLength, chosenFields, givenFields, fteidFields, readFteid, addressOf, givenTests, fteidAllowed, fteidOctets, UeIp, ueGiven, ueChoose, ueOther, ueUnsupported, ueFields, readUeIp, ueAllowed, ueOctets, sets, addressLength, operatorAllowed, nodeAddressTests, nodeAddressAllowed, nodeTypeKept, csidsAt, csidFields, countAllowed, checkedCsid, csidRest, readFqcsid, below16, fqcsidOctets, fseidLength, seidAnswer, readFseid, fseidOctets}
+use Rattle.rules.specs.Elements.{value, Fteid, given, choose, v4Flag, v6Flag, chFlag, wrongFlags, fteidLength, chosenFields, givenFields, fteidFields, readFteid, addressOf, givenTests, fteidAllowed, fteidOctets, UeIp, ueGiven, ueChoose, ueOther, ueUnsupported, ueFields, readUeIp, ueAllowed, ueOctets, sets, addressLength, operatorAllowed, nodeAddressTests, nodeAddressAllowed, nodeTypeKept, csidsRead, csidFields, countAllowed, checkedCsid, csidRest, readFqcsid, below16, fqcsidOctets, fseidLength, seidAnswer, readFseid, fseidOctets}
 
 -- ---- F-TEID
 
@@ -127,8 +127,8 @@ module _ (t : ℕ) (a : List ℕ) (c n : ℕ) (ha : length a ≡ addressLength t
   unfolding octetsAfter be
   one-long = let e = length-append a (be 2 c ++ n ∷ []) in omega arith
 
-  one-code : csidsAt 1 (drop (addressLength t) octetsAfter) ≡ c ∷ []
-  unfolding octetsAfter csidsAt slices be
+  one-code : csidsRead 1 (drop (addressLength t) octetsAfter) ≡ c ∷ []
+  unfolding octetsAfter csidsRead slices be
   one-code =
       ap (λ (xs : List ℕ). number (take 2 xs) ∷ []) (drop-at a (be 2 c ++ n ∷ []) (addressLength t) ha) ∙ ap (λ (k : ℕ). k ∷ []) (number-be 2 c hc)
 

@@ -15,7 +15,7 @@ use Rattle.octets.specs.Lists.{member, all, findBy, collect, range, without}
 use Rattle.octets.proofs.Tests.{pick-either, both, and-right, all-head, all-tail, all-cons}
 use Rattle.octets.proofs.ListLaws.{Every, OnSome, every-append, every-collect}
 use Rattle.rules.specs.Model.{Settings, Sessions, heldTeids, freeTeids, heldAddresses, freeAddresses}
-use Rattle.rules.specs.Elements.{Fteid, given, choose, chooseId}
+use Rattle.rules.specs.Elements.{Fteid, given, choose, chooseIdOf}
 use Rattle.rules.specs.Sound.{settingsAllowed}
 use Rattle.rules.specs.Reading.{readRequest}
 use Rattle.rules.specs.Request.{NewPdr, NewEndpoint, Request}
@@ -33,7 +33,7 @@ pub record ChoiceRead (c : Choice) : Type 0 where
   pub endpointId : T (sameKind ofPdr (c .kind) || ltb (c .id) 256)
 
 choice-read : (k : Kind) (i : ℕ) (e : Bool) (v : Fteid) → T (ltb i (256 ^ 2)) → T (sameKind ofPdr k || ltb i 256) → FteidRead e v → OnSome ChoiceRead (choiceOf k i v)
-unfolding choiceOf chooseId
+unfolding choiceOf chooseIdOf
 choice-read k i e (given t a b) h g f = tt
 choice-read k i e (choose v4 v6 c) h g f = record { id = h; octet = f .octet; endpointId = g }
 

@@ -16,7 +16,7 @@ use Rattle.octets.specs.Octets.{be, part, numberAt, concatMap}
 use Rattle.octets.specs.Lists.{member, all, keep}
 use Rattle.octets.proofs.Tests.{pick-no, all-head, all-tail}
 use Rattle.octets.proofs.Numbers.{number-be}
-use Rattle.rules.specs.Message.{inside, Element, elementType, elementLength, elementsUpTo, elements, hasType, opened, Spot, spot, innerFault, frameUpTo, frame}
+use Rattle.rules.specs.Message.{inside, Element, elementType, elementLength, elementsUpTo, elements, hasType, openedIn, Spot, spot, innerFault, frameUpTo, frame}
 use Rattle.rules.specs.Reply.{element}
 
 -- ---- one element
@@ -157,14 +157,14 @@ module _ (t : ℕ) (v rest : List ℕ) (fits : Fits t v) where
       ∙ elements-enough (length all-of-it - 1) (length rest) (after at v) rest room (le-refl (length rest))) i)
 
   module _ (inner : Spot → ℕ → List ℕ → Option Spot) (kind : ℕ) (group : Spot) (at : ℕ) where
-    inner-read : innerFault inner kind group at all-of-it ≡ pick (member t (opened kind (group .type))) (inner (spot t at) (inside at) v) none
+    inner-read : innerFault inner kind group at all-of-it ≡ pick (member t (openedIn kind (group .type))) (inner (spot t at) (inside at) v) none
     unfolding innerFault all-of-it
     inner-read =
-        λ i. pick (member (read-type t v rest fits i) (opened kind (group .type))) (inner (spot (read-type t v rest fits i) at) (inside at) (read-content t v rest fits i)) none
+        λ i. pick (member (read-type t v rest fits i) (openedIn kind (group .type))) (inner (spot (read-type t v rest fits i) at) (inside at) (read-content t v rest fits i)) none
 
     -- the element is whole; what is left is inside it, and after it
     pub frame-cons : frameUpTo inner kind group (length (element t v ++ rest)) at (element t v ++ rest)
-        ≡ orElse (pick (member t (opened kind (group .type))) (inner (spot t at) (inside at) v) none) (frameUpTo inner kind group (length rest) (after at v) rest)
+        ≡ orElse (pick (member t (openedIn kind (group .type))) (inner (spot t at) (inside at) v) none) (frameUpTo inner kind group (length rest) (after at v) rest)
     unfolding frameUpTo all-of-it
     frame-cons =
         ap (λ (n : ℕ). frameUpTo inner kind group n at all-of-it) (suc-length all-of-it four-at-least)
@@ -191,7 +191,7 @@ Framed d kind g xs = (p at : ℕ) → frame d kind (spot g p) at xs ≡ none
 
 -- no fault inside an element: it is not opened here, or it is framed itself
 unfoldable pub Inside : ℕ → ℕ → ℕ → ℕ → List ℕ → Type 0
-Inside d kind g t v = (p at : ℕ) → pick (member t (opened kind g)) (frame d kind (spot t p) at v) none ≡ none
+Inside d kind g t v = (p at : ℕ) → pick (member t (openedIn kind g)) (frame d kind (spot t p) at v) none ≡ none
 
 pub framed-nil : (d kind g : ℕ) → Framed (suc d) kind g []
 unfolding frame frameUpTo Framed

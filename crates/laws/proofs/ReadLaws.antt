@@ -18,8 +18,8 @@ use Rattle.octets.proofs.ListLaws.{pick-cases, not-not, or-by-right, OnSome}
 use Rattle.laws.proofs.BoundLaws.{field-bound, bytes-take, bytes-drop}
 use Rattle.octets.proofs.Ordered.{ne-of}
 use Rattle.octets.proofs.Bools.{not-or}
-use Rattle.rules.specs.Elements.{Refusal, tooShort, incorrect, Answer, refuse, value, Fteid, given, choose, v4Flag, v6Flag, chFlag, chidFlag, wrongFlags, fteidLength, chosenFields, givenFields, fteidFields, readFteid, hasV4, hasV6, chooseId, UeIp, ueGiven, ueChoose, ueOther, ueV4, ueChv4, ueUnsupported, ueFields, readUeIp, ueAddress, Fqcsid, sets, removal, addressLength, operatorAllowed, nodeAddressTests, nodeAddressAllowed, nodeTypeKept, csidsAt, csidFields, countAllowed, checkedCsid, csidRest, readFqcsid, below16, fseidLength, seidAnswer, readFseid}
-use Rattle.rules.specs.Reading.{Reading, faulty, done, andThen, named, need, once}
+use Rattle.rules.specs.Elements.{Refusal, tooShort, incorrect, Answer, refuse, value, Fteid, given, choose, v4Flag, v6Flag, chFlag, chidFlag, wrongFlags, fteidLength, chosenFields, givenFields, fteidFields, readFteid, hasV4, hasV6, chooseIdOf, UeIp, ueGiven, ueChoose, ueOther, ueV4, ueChv4, ueUnsupported, ueFields, readUeIp, ueAddressOf, Fqcsid, sets, removal, addressLength, operatorAllowed, nodeAddressTests, nodeAddressAllowed, nodeTypeKept, csidsRead, csidFields, countAllowed, checkedCsid, csidRest, readFqcsid, below16, fseidLength, seidAnswer, readFseid}
+use Rattle.rules.specs.Reading.{Reading, faulty, done, andThen, named, requiring, once}
 
 -- ---- answers and readings
 
@@ -43,7 +43,7 @@ any-value (refuse c) = tt
 any-value (value a) = tt
 
 -- what is required, and whatever it is
-pub need-any : {A B : Type 0} (Q : B → Type 0) (c : Refusal) (t p : ℕ) (o : Option A) (next : A → Reading B) → ((a : A) → OnDone Q (next a)) → OnDone Q (need c t p o next)
+pub need-any : {A B : Type 0} (Q : B → Type 0) (c : Refusal) (t p : ℕ) (o : Option A) (next : A → Reading B) → ((a : A) → OnDone Q (next a)) → OnDone Q (requiring c t p o next)
 need-any Q c t p none next k = tt
 need-any Q c t p (some a) next k = k a
 
@@ -61,7 +61,7 @@ module _ {A : Type 0} (P : A → Type 0) where
     then-done (faulty f) next h k = tt
     then-done (done a) next h k = k a h
 
-    pub need-done : (c : Refusal) (t p : ℕ) (o : Option A) (next : A → Reading B) → OnSome P o → ((a : A) → P a → OnDone Q (next a)) → OnDone Q (need c t p o next)
+    pub need-done : (c : Refusal) (t p : ℕ) (o : Option A) (next : A → Reading B) → OnSome P o → ((a : A) → P a → OnDone Q (next a)) → OnDone Q (requiring c t p o next)
     need-done c t p none next h k = tt
     need-done c t p (some a) next h k = k a h
 
@@ -70,8 +70,8 @@ module _ {A : Type 0} (P : A → Type 0) where
 -- what is used of an F-TEID that was read: a family at least, a CHOOSE ID of one octet, and none in an endpoint
 pub record FteidRead (inEndpoint : Bool) (v : Fteid) : Type 0 where
   pub family : T (hasV4 v || hasV6 v)
-  pub octet : OnSome (λ i. T (ltb i 256)) (chooseId v)
-  pub noChooseId : T inEndpoint → chooseId v ≡ none
+  pub octet : OnSome (λ i. T (ltb i 256)) (chooseIdOf v)
+  pub noChooseId : T inEndpoint → chooseIdOf v ≡ none
 
 -- the first octet of octets, 0 where there is none
 first-octet : (xs : List ℕ) → T (areBytes xs) → T (ltb (octetAt xs 0) 256)
@@ -96,7 +96,7 @@ given-family false false xs h l = absurd h
 
 -- a CHOOSE that was read
 chosen-read : (e b4 b6 chid ch : Bool) (n : ℕ) → T (ltb n 256) → T (b4 || b6) → T (not (chid && (e || not ch))) → FteidRead e (choose b4 b6 (pick chid (some n) none))
-unfolding hasV4 hasV6 chooseId
+unfolding hasV4 hasV6 chooseIdOf
 chosen-read e b4 b6 false ch n o h g = record { family = h; octet = tt; noChooseId = λ _. refl }
 chosen-read true b4 b6 true ch n o h g = absurd g
 chosen-read false b4 b6 true ch n o h g = record { family = h; octet = o; noChooseId = λ k. absurd k }
@@ -104,7 +104,7 @@ chosen-read false b4 b6 true ch n o h g = record { family = h; octet = o; noChoo
 -- an F-TEID without CH that was read
 given-read : (e b4 b6 : Bool) (t : ℕ) (xs : List ℕ) → T (b4 || b6) → 4 + 4 * flag b4 + 16 * flag b6 ≤ length xs
     → FteidRead e (given t (part 4 (4 * flag b4) xs) (part (4 + 4 * flag b4) (16 * flag b6) xs))
-unfolding hasV4 hasV6 chooseId
+unfolding hasV4 hasV6 chooseIdOf
 given-read e b4 b6 t xs h l = record { family = given-family b4 b6 xs h l; octet = tt; noChooseId = λ _. refl }
 
 -- the fields after a flags octet that is not wrong
@@ -139,10 +139,10 @@ fteid-read e (f ∷ xs) h =
 
 -- what is used of one that was read: an address has four octets
 abbrev pub UeRead : UeIp → Type 0
-UeRead v = OnSome (λ a. T (ltb a (2 ^ 32))) (ueAddress v)
+UeRead v = OnSome (λ a. T (ltb a (2 ^ 32))) (ueAddressOf v)
 
 pub ue-read : (xs : List ℕ) → T (areBytes xs) → OnValue UeRead (readUeIp xs)
-unfolding readUeIp ueFields ueAddress
+unfolding readUeIp ueFields ueAddressOf
 ue-read [] h = tt
 ue-read (f ∷ xs) h =
     pick-either P (ueUnsupported f) (value ueOther) _ tt
@@ -168,8 +168,8 @@ CsidRead (sets t a cs n) = SetsRead t a cs n
 CsidRead (removal n) = Unit {0}
 
 -- the first of m CSIDs has two octets
-first-csid : (m : ℕ) (xs : List ℕ) → T (areBytes xs) → T (below16 (headOr 0 (csidsAt m xs)))
-unfolding csidsAt slices below16
+first-csid : (m : ℕ) (xs : List ℕ) → T (areBytes xs) → T (below16 (headOr 0 (csidsRead m xs)))
+unfolding csidsRead slices below16
 first-csid zero xs h = tt
 first-csid (suc m) xs h = lt→ltb (number (take 2 xs)) (2 ^ 16) (unfold numberAt in (field-bound 2 xs h))
 
@@ -184,16 +184,16 @@ address-allowed t xs h l k o =
 
 -- the rest of an FQ-CSID, once the octets are known to be there
 checked-read : (m t : ℕ) (xs : List ℕ) (n : ℕ) → T (areBytes xs) → t ≤ 2 → addressLength t ≤ length xs
-    → OnValue CsidRead (checkedCsid m t (part 0 (addressLength t) xs) (csidsAt m (drop (addressLength t) xs)) n)
+    → OnValue CsidRead (checkedCsid m t (part 0 (addressLength t) xs) (csidsRead m (drop (addressLength t) xs)) n)
 unfolding checkedCsid
 checked-read m t xs n h l k =
-    pick-cases (OnValue CsidRead) (allOf (nodeTypeKept n ∷ operatorAllowed t a ∷ countAllowed m t a ∷ [])) (value (csidFields m t a (csidsAt m (drop (addressLength t) xs)) n)) (refuse incorrect)
+    pick-cases (OnValue CsidRead) (allOf (nodeTypeKept n ∷ operatorAllowed t a ∷ countAllowed m t a ∷ [])) (value (csidFields m t a (csidsRead m (drop (addressLength t) xs)) n)) (refuse incorrect)
     (λ g. one m (each (nodeTypeKept n ∷ operatorAllowed t a ∷ countAllowed m t a ∷ []) g)) (λ _. tt)
   where
     a : List ℕ
     a = part 0 (addressLength t) xs
 
-    one : (m : ℕ) → Each (nodeTypeKept n ∷ operatorAllowed t a ∷ countAllowed m t a ∷ []) → CsidRead (csidFields m t a (csidsAt m (drop (addressLength t) xs)) n)
+    one : (m : ℕ) → Each (nodeTypeKept n ∷ operatorAllowed t a ∷ countAllowed m t a ∷ []) → CsidRead (csidFields m t a (csidsRead m (drop (addressLength t) xs)) n)
     one zero e = unfold csidFields in tt
     one (suc m) e = unfold csidFields in (record { node = e .0; address = address-allowed t xs h l k (e .1 .0); csid = first-csid (suc m) (drop (addressLength t) xs) (bytes-drop (addressLength t) xs h) })
 

@@ -21,8 +21,8 @@ use Rattle.rules.specs.Elements.{missing, conditional, incorrect, Fteid, Fqcsid
 use Rattle.rules.specs.Sound.{farAllowed}
 use Rattle.rules.specs.Types as ie
 use Rattle.rules.specs.Message.{establishment, modification, setDeletion, kindOf, headerLength, body, inside, Element, elements, actedOn, placesOf, numberWidth}
-use Rattle.rules.specs.Reading.{Reading, faulty, done, refusal, named, Members, noMembers, withPdi, withLocal, withAddress, holds, numberRead, farRead, pdiIn, valueRead, memberRead, membersRead, unopened, pdiEnd, pdiRead, pdrFrom, endpointFrom, changeFrom, itemFrom, groupRead, seidRead, flagsRead, csidCountAllowed, withCsid, csidRead, actedRead, elementRead, elementsRead, finished, aloneIn, sessionRead, listRead, topRead, read, faultIn, readFault, askedIn, readRequest}
-use Rattle.rules.specs.Request.{NewPdr, NewEndpoint, Change, Item, createsPdr, createsEndpoint, updatesPdr, removesPdr, removesEndpoint, setsCsid, clearsCsids, updatesEndpoint, CsidChanges, cleared, changed, Request, Draft, emptyDraft, withSeid, withRestores, withNode, withItem, pdrIn, endpointIn, changeIn, csidIn, clears, restoringIn, requestOf, createsAny, listing}
+use Rattle.rules.specs.Reading.{Reading, faulty, done, refusalAt, named, Members, noMembers, withPdi, withLocal, withAddress, memberThere, numberRead, farRead, pdiIn, valueRead, memberRead, membersRead, unopened, pdiEnd, pdiRead, pdrItem, endpointItem, changeFrom, itemFrom, groupRead, seidRead, flagsRead, csidCountAllowed, withCsid, csidRead, actedRead, elementRead, elementsRead, finished, aloneIn, sessionRead, listRead, topRead, read, faultIn, readFault, askedIn, readRequest}
+use Rattle.rules.specs.Request.{NewPdr, NewEndpoint, Change, Item, createsPdr, createsEndpoint, updatesPdr, removesPdr, removesEndpoint, setsCsid, clearsCsids, updatesEndpoint, CsidChanges, cleared, changed, Request, Draft, emptyDraft, withSeid, withRestores, withNode, withItem, pdrIn, endpointIn, changeIn, csidIn, clears, restoringIn, requestFrom, createsAny, listing}
 
 -- ---- the records
 
@@ -140,7 +140,7 @@ module _ (inner : ℕ → List ℕ → Members → Reading Members) (keeps : Kee
   member-read : (e : Element) (m : Members) → T (clean e) → Kept m → OnDone Kept (memberRead inner g e m)
   unfolding memberRead
   member-read e m h b =
-      pick-either (OnDone Kept) (member (e .type) (placesOf g)) _ _ (pick-either (OnDone Kept) (holds (e .type) m) _ _ tt (value-read (e .type) (e .place) (e .content) m h b)) b
+      pick-either (OnDone Kept) (member (e .type) (placesOf g)) _ _ (pick-either (OnDone Kept) (memberThere (e .type) m) _ _ tt (value-read (e .type) (e .place) (e .content) m h b)) b
 
   members-read : (es : List Element) (m : Members) → T (all clean es) → Kept m → OnDone Kept (membersRead inner g es m)
   unfolding membersRead
@@ -159,8 +159,8 @@ pdi-read p v m h b =
 -- ---- what a group makes
 
 module _ (e : Bool) (p : ℕ) (m : Members) (b : MembersRead e m) where
-  pdr-from : OnDone ItemRead (pdrFrom p m)
-  unfolding pdrFrom
+  pdr-from : OnDone ItemRead (pdrItem p m)
+  unfolding pdrItem
   pdr-from =
       pick-either (OnDone ItemRead) (m .pdi) _ _
       (need-done (λ n. T (ltb n (2 ^ 32))) ItemRead missing ie.precedence p (m .precedence) _ (b .precedence)
@@ -177,8 +177,8 @@ module _ (e : Bool) (p : ℕ) (m : Members) (b : MembersRead e m) where
       weaker none h = tt
       weaker (some v) h = record { family = h .family; octet = h .octet; noChooseId = λ k. absurd k }
 
-  endpoint-from : T e → OnDone ItemRead (endpointFrom p m)
-  unfolding endpointFrom
+  endpoint-from : T e → OnDone ItemRead (endpointItem p m)
+  unfolding endpointItem
   endpoint-from c =
       need-done (FteidRead true) ItemRead conditional ie.fteid p (m .local) _ (subst (λ (x : Bool). OnSome (FteidRead x) (m .local)) (is-true e c) (b .local))
       (λ v hv. need-done (λ i. T (ltb i 256)) ItemRead missing ie.endpointId p (m .endpointId) _ (b .endpointId) (λ i hi. record { id = hi; local = hv; address = b .address }))
@@ -230,8 +230,8 @@ element-step S C I kind alone e d Q hs hc hi k =
     (pick-cases (OnDone Q) (eqb (e .type) ie.fqcsid) _ _
     (λ t. pick-cases (OnDone Q) (isNil (e .content) && eqb kind modification && alone) _ _
     (λ c. k .clears t (last (isNil (e .content)) (eqb kind modification) c))
-    (λ _. then-done C Q (named ie.fqcsid (e .place) (readFqcsid (e .content))) (λ c. pick (csidCountAllowed kind c && not (member (nodeOf c) (d .nodes))) (done (withCsid c d)) (refusal incorrect ie.fqcsid (e .place))) (named-done C ie.fqcsid (e .place) (readFqcsid (e .content)) hc)
-    (λ c g. pick-either (OnDone Q) (csidCountAllowed kind c && not (member (nodeOf c) (d .nodes))) (done (withCsid c d)) (refusal incorrect ie.fqcsid (e .place)) (k .sets t c g) tt)))
+    (λ _. then-done C Q (named ie.fqcsid (e .place) (readFqcsid (e .content))) (λ c. pick (csidCountAllowed kind c && not (member (nodeOf c) (d .nodes))) (done (withCsid c d)) (refusalAt incorrect ie.fqcsid (e .place))) (named-done C ie.fqcsid (e .place) (readFqcsid (e .content)) hc)
+    (λ c g. pick-either (OnDone Q) (csidCountAllowed kind c && not (member (nodeOf c) (d .nodes))) (done (withCsid c d)) (refusalAt incorrect ie.fqcsid (e .place)) (k .sets t c g) tt)))
     (λ _. pick-either (OnDone Q) (eqb (e .type) ie.updateEndpoint) _ _ (k .updates) (then-done I Q (groupRead (e .type) (e .place) (e .content)) (λ i. done (withItem i d)) hi (k .makes))))))
     (k .skips)
   where
@@ -290,8 +290,8 @@ item-parts (setsCsid x) h = (tt, (tt, (tt, h)))
 item-parts clearsCsids h = (tt, (tt, (tt, tt)))
 item-parts updatesEndpoint h = (tt, (tt, (tt, tt)))
 
-request-of : (n : ℕ) (d : Draft) → Every ItemRead (d .items) → RequestRead (requestOf n d)
-unfolding requestOf
+request-of : (n : ℕ) (d : Draft) → Every ItemRead (d .items) → RequestRead (requestFrom n d)
+unfolding requestFrom
 request-of n d b =
     record {
       pdrs = every-collect pdrIn ItemRead PdrRead (λ i h. item-parts i h .0) (d .items) b;
@@ -307,7 +307,7 @@ abbrev Finished : ℕ → Request → Type 0
 Finished kind r = RequestRead r × (T (eqb kind establishment) → SeidRead (r .seid))
 
 finished-read : (kind : ℕ) (d : Draft) → DraftRead d → OnDone (Finished kind) (finished kind d)
-unfolding finished requestOf
+unfolding finished requestFrom
 finished-read kind d b =
     pick-cases (OnDone (Finished kind)) (eqb kind establishment) _ _
     (λ _. pick-either (OnDone (Finished kind)) (restoringIn d || createsAny (d .items)) _ _

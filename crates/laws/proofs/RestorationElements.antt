@@ -21,8 +21,8 @@ use Rattle.laws.proofs.ElementLaws.{fteid-back, ue-back, fqcsid-back}
 use Rattle.rules.specs.Sound.{ipv6Allowed, settingsTests, settingsAllowed, unitFamilies, tunnelTests, tunnelAllowed, matchAllowed, farAllowed, addressAllowed, pdrTests, pdrAllowed, csidTests, csidAllowed}
 use Rattle.laws.proofs.LayoutLaws.{csid-address-length, address-short, teid-fits}
 use Rattle.laws.proofs.TableLaws.{settingsFacts, ipv4-four, ipv6-ok, ipv6-short}
-use Rattle.rules.specs.Message.{inside, Element, elements, placesOf, opened, numberWidth, establishment}
-use Rattle.rules.specs.Reading.{done, andThen, Members, noMembers, holds, numberRead, farRead, pdiIn, valueRead, memberRead, membersRead, unopened, pdiEnd, pdiRead, pdrFrom, endpointFrom, itemFrom, groupRead}
+use Rattle.rules.specs.Message.{inside, Element, elements, placesOf, openedIn, numberWidth, establishment}
+use Rattle.rules.specs.Reading.{done, andThen, Members, noMembers, memberThere, numberRead, farRead, pdiIn, valueRead, memberRead, membersRead, unopened, pdiEnd, pdiRead, pdrItem, endpointItem, itemFrom, groupRead}
 use Rattle.rules.specs.Request.{createsPdr, createsEndpoint}
 use Rattle.laws.proofs.MessageLaws.{Fits, el, after, elements-cons, elements-nil, elements-last, Framed, Inside, framed-nil, framed-cons, framed-last, length-one}
 use Rattle.rules.specs.Reply.{element, unitElement, addressPart}
@@ -198,7 +198,7 @@ module _ (s : Settings) (hs : T (settingsAllowed s)) where
   pdi-members : (a at b q i n c : ℕ) (l : Match) (o : Option ℕ) (live : List ℕ) → c < 16 → T (matchAllowed s live l) → T (addressAllowed o)
       → andThen (membersRead unopened 2 (el a ie.sourceInterface (c ∷ []) ∷ (matchElements at l ++ addressElements b o)) (begun i n)) (pdiEnd q)
       ≡ done (placed i n c (mapOption (unitFteid s) (matchedTunnel l)) (matchedEndpoint l) (mapOption ueGiven o))
-  unfolding membersRead memberRead valueRead holds numberRead numberAt numberWidth placesOf member pdiEnd matchElements addressElements matchedTunnel matchedEndpoint matchAllowed
+  unfolding membersRead memberRead valueRead memberThere numberRead numberAt numberWidth placesOf member pdiEnd matchElements addressElements matchedTunnel matchedEndpoint matchAllowed
   pdi-members a at b q i n c neither none live h k g = λ j. done (placed i n (source-back c h j) none none none)
   pdi-members a at b q i n c neither (some u) live h k g = rw (address-back u g) (λ j. done (placed i n (source-back c h j) none none (some (ueGiven u))))
   pdi-members a at b q i n c (tunnel t) none live h k g = rw (unit-back false t k) (λ j. done (placed i n (source-back c h j) (some (unitFteid s t)) none none))
@@ -276,7 +276,7 @@ module _ (s : Settings) (hs : T (settingsAllowed s)) where
       → ((j k : ℕ) → pdiRead d v (begun j k) ≡ done (placed j k c o e u))
       → andThen (membersRead pdiRead 1 (el a ie.pdrId (be 2 i) ∷ el b ie.precedence (be 4 n) ∷ el d ie.pdi v ∷ farElements at f) noMembers) (itemFrom 1 q)
       ≡ done (createsPdr (record { id = i; precedence = n; far = f; source = c; local = o; endpoint = e; address = u }))
-  unfolding membersRead memberRead valueRead holds numberRead farRead pdiIn numberAt numberWidth placesOf member farElements farAllowed be itemFrom pdrFrom
+  unfolding membersRead memberRead valueRead memberThere numberRead farRead pdiIn numberAt numberWidth placesOf member farElements farAllowed be itemFrom pdrItem
   pdr-members a b d at q i n v none c o e u hi hn hf h =
       rw h (λ j. done (createsPdr (record { id = number-be 2 i hi j; precedence = number-be 4 n hn j; far = none; source = c; local = o; endpoint = e; address = u })))
   pdr-members a b d at q i n v (some f) c o e u hi hn hf h =
@@ -299,24 +299,24 @@ module _ (s : Settings) (hs : T (settingsAllowed s)) where
   address-framed d g (some a) h = framed-last d establishment g ie.ueIpAddress (ueOctets (ueGiven a)) (ue-fits a) (h a)
 
   match-framed : (l : Match) (o : Option ℕ) → Framed 1 establishment 2 (matchElement s l ++ addressPart o)
-  unfolding matchElement unitElement Inside opened member
+  unfolding matchElement unitElement Inside openedIn member
   match-framed neither o = address-framed 0 ie.pdi o (λ _ _ _. refl)
   match-framed (tunnel t) o = framed-cons 0 establishment ie.pdi ie.fteid (fteidOctets (unitFteid s t)) (addressPart o) (unit-fits t) (λ _ _. refl) (address-framed 0 ie.pdi o (λ _ _ _. refl))
   match-framed (endpoint e) o = framed-cons 0 establishment ie.pdi ie.endpointId (e ∷ []) (addressPart o) (one-fits ie.endpointId (lit< tt) e) (λ _ _. refl) (address-framed 0 ie.pdi o (λ _ _ _. refl))
 
   pdi-framed : (p : Pdr) → Framed 1 establishment 2 (pdiContent s p)
-  unfolding pdiContent Inside opened member
+  unfolding pdiContent Inside openedIn member
   pdi-framed p =
       framed-cons 0 establishment ie.pdi ie.sourceInterface (p .source ∷ []) (matchElement s (p .match) ++ addressPart (p .address)) (one-fits ie.sourceInterface (lit< tt) (p .source)) (λ _ _. refl)
       (match-framed (p .match) (p .address))
 
   far-framed : (f : Option ℕ) → Framed 2 establishment 1 (farElement f)
-  unfolding farElement Inside opened member
+  unfolding farElement Inside openedIn member
   far-framed none = framed-nil 1 establishment 1
   far-framed (some n) = framed-last 1 establishment ie.createPdr ie.farId (be 4 n) (be-fits ie.farId 4 n (lit< tt) (lit≤ tt)) (λ _ _. refl)
 
   pub pdr-framed : (p : Pdr) → Framed 2 establishment 1 (pdrContent s p)
-  unfolding pdrContent Framed Inside opened member
+  unfolding pdrContent Framed Inside openedIn member
   pdr-framed p =
       framed-cons 1 establishment ie.createPdr ie.pdrId (be 2 (p .id)) _ (be-fits ie.pdrId 2 (p .id) (lit< tt) (lit≤ tt)) (λ _ _. refl)
       (framed-cons 1 establishment ie.createPdr ie.precedence (be 4 (p .precedence)) _ (be-fits ie.precedence 4 (p .precedence) (lit< tt) (lit≤ tt)) (λ _ _. refl)
@@ -351,7 +351,7 @@ module _ (s : Settings) (hs : T (settingsAllowed s)) where
   endpoint-members : (a b c q i : ℕ) (t : Tunnel) (o : Option ℕ) → T (tunnelAllowed s t) → T (addressAllowed o)
       → andThen (membersRead pdiRead ie.createEndpoint (el a ie.endpointId (i ∷ []) ∷ el b ie.fteid (fteidOctets (unitFteid s t)) ∷ addressElements c o) noMembers) (itemFrom ie.createEndpoint q)
       ≡ done (createsEndpoint (record { id = i; local = unitFteid s t; address = mapOption ueGiven o }))
-  unfolding membersRead memberRead valueRead holds numberRead numberAt numberWidth placesOf member itemFrom endpointFrom addressElements
+  unfolding membersRead memberRead valueRead memberThere numberRead numberAt numberWidth placesOf member itemFrom endpointItem addressElements
   endpoint-members a b c q i t none h g = rw (unit-back true t h) (λ j. done (createsEndpoint (record { id = number-one i j; local = unitFteid s t; address = none })))
   endpoint-members a b c q i t (some u) h g =
       rw (unit-back true t h, address-back u g) (λ j. done (createsEndpoint (record { id = number-one i j; local = unitFteid s t; address = some (ueGiven u) })))
@@ -364,7 +364,7 @@ module _ (s : Settings) (hs : T (settingsAllowed s)) where
       ∙ endpoint-members _ _ _ q (e .id) (e .local) (e .address) h g
 
   pub endpoint-framed : (e : Endpoint) → Framed 2 establishment ie.createEndpoint (endpointContent s e)
-  unfolding endpointContent unitElement Inside opened member
+  unfolding endpointContent unitElement Inside openedIn member
   endpoint-framed e =
       framed-cons 1 establishment ie.createEndpoint ie.endpointId (e .id ∷ []) _ (one-fits ie.endpointId (lit< tt) (e .id)) (λ _ _. refl)
       (framed-cons 1 establishment ie.createEndpoint ie.fteid (fteidOctets (unitFteid s (e .local))) (addressPart (e .address)) (unit-fits (e .local)) (λ _ _. refl)

@@ -20,9 +20,9 @@ use Rattle.rules.specs.Elements.{incorrect, Answer, value, ueGiven, ueStrange, 
 use Rattle.laws.proofs.ElementLaws.{fseid-back}
 use Rattle.rules.specs.Sound.{settingsAllowed, pdrAllowed, endpointTests, endpointAllowed, csidAllowed, sessionTests, sessionAllowed}
 use Rattle.laws.proofs.LayoutLaws.{pdrsOk, endpointsOk, csidsOk, fewPdrs, fewEndpoints, fewCsids, seidFits, tests}
-use Rattle.rules.specs.Message.{Element, elements, body, bodyPlace, kindOf, headerAllowed, atMessage, frame, frameFault, opened, openedAtTop, actedOn, establishment, headerLength, seidThere, listPlace}
-use Rattle.rules.specs.Reading.{Reading, done, refusal, andThen, named, seidRead, flagsRead, csidCountAllowed, withCsid, csidRead, actedRead, elementRead, elementsRead, finished, aloneIn, topRead, read, faultIn, readFault, askedIn, readRequest, sessionRead}
-use Rattle.rules.specs.Request.{Item, createsPdr, createsEndpoint, setsCsid, cleared, changed, Draft, emptyDraft, withNode, withItem, pdrIn, endpointIn, changeIn, gonePdrIn, goneEndpointIn, csidIn, clears, strangeAddress, isUnsupported, restoringIn, requestOf}
+use Rattle.rules.specs.Message.{Element, elements, body, bodyPlace, kindOf, headerAllowed, atMessage, frame, frameFault, openedIn, openedAtTop, actedOn, establishment, headerLength, seidThere, listPlace}
+use Rattle.rules.specs.Reading.{Reading, done, refusalAt, andThen, named, seidRead, flagsRead, csidCountAllowed, withCsid, csidRead, actedRead, elementRead, elementsRead, finished, aloneIn, topRead, read, faultIn, readFault, askedIn, readRequest, sessionRead}
+use Rattle.rules.specs.Request.{Item, createsPdr, createsEndpoint, setsCsid, cleared, changed, Draft, emptyDraft, withNode, withItem, pdrIn, endpointIn, changeIn, gonePdrIn, goneEndpointIn, csidIn, clears, strangeAddress, isUnsupported, restoringIn, requestFrom}
 use Rattle.laws.proofs.MessageLaws.{Fits, el, after, elements-cons, elements-nil, Framed, Inside, framed-nil, framed-cons, length-one, written, asElement, asElements, afterAll, elements-map, framed-map, short-map}
 use Rattle.rules.specs.Reply.{element, message}
 use Rattle.rules.specs.Restoration.{pdrContent, pdrElement, endpointContent, endpointElement, recordCsid, csidElement, Sender, senderTests, senderAllowed, recordElements, restoration, restoredPdr, restoredEndpoint, restoredRequest}
@@ -180,7 +180,7 @@ module _ (s : Settings) (hs : T (settingsAllowed s)) (p : Sender) (hp : T (sende
   -- ---- framing
 
   content-framed : Framed 3 establishment 0 content
-  unfolding content pdrOctets endpointOctets csidOctets Framed Inside opened openedAtTop member
+  unfolding content pdrOctets endpointOctets csidOctets Framed Inside openedIn openedAtTop member
   content-framed =
       framed-cons 2 establishment 0 ie.fseid fseid _ fseid-fits (λ _ _. refl)
       (framed-cons 2 establishment 0 ie.sessionFlags (1 ∷ []) _ (one-fits s hs ie.sessionFlags (lit< tt) 1) (λ _ _. refl)
@@ -286,7 +286,7 @@ module _ (s : Settings) (hs : T (settingsAllowed s)) (p : Sender) (hp : T (sende
         → elementRead establishment alone (el at ie.fqcsid (csidContent c)) d ≡ done (withNode (c .nodeType) (withItem (csidItem c) d))
     unfolding elementRead actedRead actedOn member csidRead csidCountAllowed csidContent fqcsidOctets recordCsid nodeOf
     csid-item c h at d fresh =
-        ap (λ (a : Answer Fqcsid). andThen (named 65 at a) (λ v. pick (csidCountAllowed establishment v && not (member (nodeOf v) (d .nodes))) (done (withCsid v d)) (refusal incorrect 65 at))) (csid-read c h)
+        ap (λ (a : Answer Fqcsid). andThen (named 65 at a) (λ v. pick (csidCountAllowed establishment v && not (member (nodeOf v) (d .nodes))) (done (withCsid v d)) (refusalAt incorrect 65 at))) (csid-read c h)
         ∙ pick-yes (true && not (member (c .nodeType) (d .nodes))) _ _ fresh
 
     -- the node types ascend, so none is met twice: every one met before is below the next
@@ -302,7 +302,7 @@ module _ (s : Settings) (hs : T (settingsAllowed s)) (p : Sender) (hp : T (sende
 
     csids-read : (cs : List Csid) → T (all csidAllowed cs) → T (ascending (map nodeTypeOf cs)) → (at : ℕ) (d : Draft) → Below (d .nodes) cs
         → andThen (elementsRead establishment alone (asElements ie.fqcsid csidContent csidAllowed at cs) d) (finished establishment) ≡ finished establishment (withItems (map csidItem cs) d)
-    unfolding elementsRead asElement asElements finished requestOf restoringIn
+    unfolding elementsRead asElement asElements finished requestFrom restoringIn
     csids-read [] h up at d below = ap (λ (is : List Item). finished establishment (having is d)) (sym (append-nil (d .items)))
     csids-read (c ∷ cs) h up at d below =
         rw (csid-item c (all-head csidAllowed c cs h) at d (below-not-member (c .nodeType) (d .nodes) below))
@@ -353,8 +353,8 @@ module _ (s : Settings) (hs : T (settingsAllowed s)) (p : Sender) (hp : T (sende
   given none = refl
   given (some a) = refl
 
-  items-request : requestOf (x .seid) (having items started) ≡ restoredRequest s x
-  unfolding requestOf restoredRequest restoredPdr restoredEndpoint restoringIn pdrIn endpointIn changeIn gonePdrIn goneEndpointIn csidIn clears isUnsupported
+  items-request : requestFrom (x .seid) (having items started) ≡ restoredRequest s x
+  unfolding requestFrom restoredRequest restoredPdr restoredEndpoint restoringIn pdrIn endpointIn changeIn gonePdrIn goneEndpointIn csidIn clears isUnsupported
   items-request =
       let ps = x .pdrs in
       let es = x .endpoints in
@@ -380,7 +380,7 @@ module _ (s : Settings) (hs : T (settingsAllowed s)) (p : Sender) (hp : T (sende
       (λ i. topRead (msg-kind i) (elements (msg-place i) (msg-body i)))
       ∙ ap (topRead establishment) content-elements
       ∙ tops-read (aloneIn tops)
-      ∙ ap (λ (is : List Item). done (requestOf (x .seid) (having is started)))
+      ∙ ap (λ (is : List Item). done (requestFrom (x .seid) (having is started)))
       (append-assoc (map pdrItem (x .pdrs)) (map endpointItem (x .endpoints)) (map csidItem (x .csids)))
       ∙ ap done items-request
 

@@ -15,7 +15,7 @@ use Rattle.octets.proofs.ListLaws.{Every, OnSome, pick-cases}
 use Rattle.rules.specs.Elements.{Answer, refuse, value, missing, tooShort, incorrect, Fqcsid, addressLength, csidRest, readFseid, readFqcsid, readFteid, readUeIp}
 use Rattle.rules.specs.Types as ie
 use Rattle.rules.specs.Message.{inside, Element, elementLength, elementsUpTo, elements, hasType, placesOf, numberWidth}
-use Rattle.rules.specs.Reading.{Reading, done, andThen, named, need, Members, noMembers, withPdi, holds, numberRead, farRead, pdiIn, valueRead, memberRead, membersRead, unopened, pdiEnd, pdiRead, pdrFrom, endpointFrom, changeFrom, itemFrom, groupRead, elementRead, aloneIn}
+use Rattle.rules.specs.Reading.{Reading, done, andThen, named, requiring, Members, noMembers, withPdi, memberThere, numberRead, farRead, pdiIn, valueRead, memberRead, membersRead, unopened, pdiEnd, pdiRead, pdrItem, endpointItem, changeFrom, itemFrom, groupRead, elementRead, aloneIn}
 use Rattle.rules.specs.Request.{Item, clearsCsids, setsCsid, updatesEndpoint, Draft, emptyDraft, clears}
 use Rattle.laws.proofs.ReadLaws.{OnValue, OnDone, anything, any-value, then-done, need-done, need-any}
 use Rattle.laws.proofs.RequestLaws.{element-step}
@@ -87,7 +87,7 @@ module _ (n : ℕ) where
     members-heavy [] m h b = b
     members-heavy (e ∷ es) m h b =
         then-done Heavy Heavy (memberRead inner g e m) _
-        (pick-either (OnDone Heavy) (member (e .type) (placesOf g)) _ _ (pick-either (OnDone Heavy) (holds (e .type) m) _ _ tt (value-heavy (e .type) (e .place) (e .content) m (h .0) b)) b)
+        (pick-either (OnDone Heavy) (member (e .type) (placesOf g)) _ _ (pick-either (OnDone Heavy) (memberThere (e .type) m) _ _ tt (value-heavy (e .type) (e .place) (e .content) m (h .0) b)) b)
         (λ m′ b′. members-heavy es m′ (h .1) b′)
 
   pdi-heavy : (p : ℕ) (v : List ℕ) (m : Members) → length v ≤ n → Heavy m → OnDone Heavy (pdiRead p v m)
@@ -100,17 +100,17 @@ module _ (n : ℕ) where
   Enough _ = 5 ≤ n
 
   item-heavy : (g p : ℕ) (m : Members) → Heavy m → OnDone Enough (itemFrom g p m)
-  unfolding itemFrom pdrFrom endpointFrom changeFrom
+  unfolding itemFrom pdrItem endpointItem changeFrom
   item-heavy g p m b =
       pick-either (OnDone Enough) (eqb g ie.createPdr) _ _
       (pick-either (OnDone Enough) (m .pdi) _ _ (need-any Enough _ _ p (m .precedence) _ (λ _. of-pdr _ (λ i h. need-any Enough _ _ p (m .source) _ (λ _. h)))) tt)
       (pick-either (OnDone Enough) (eqb g ie.createEndpoint) _ _ (need-any Enough _ _ p (m .local) _ (λ _. of-endpoint _ (λ _ h. h)))
       (pick-either (OnDone Enough) (eqb g ie.updatePdr) _ _ (of-pdr _ (λ _ h. h)) (pick-either (OnDone Enough) (eqb g ie.removePdr) _ _ (of-pdr _ (λ _ h. h)) (of-endpoint _ (λ _ h. h)))))
     where
-      of-pdr : (next : ℕ → Reading Item) → ((i : ℕ) → 5 ≤ n → OnDone Enough (next i)) → OnDone Enough (need missing ie.pdrId p (m .pdrId) next)
+      of-pdr : (next : ℕ → Reading Item) → ((i : ℕ) → 5 ≤ n → OnDone Enough (next i)) → OnDone Enough (requiring missing ie.pdrId p (m .pdrId) next)
       of-pdr next k = need-done (λ _. 5 ≤ n) Enough missing ie.pdrId p (m .pdrId) next (b .0) k
 
-      of-endpoint : (next : ℕ → Reading Item) → ((i : ℕ) → 5 ≤ n → OnDone Enough (next i)) → OnDone Enough (need missing ie.endpointId p (m .endpointId) next)
+      of-endpoint : (next : ℕ → Reading Item) → ((i : ℕ) → 5 ≤ n → OnDone Enough (next i)) → OnDone Enough (requiring missing ie.endpointId p (m .endpointId) next)
       of-endpoint next k = need-done (λ _. 5 ≤ n) Enough missing ie.endpointId p (m .endpointId) next (b .1) k
 
 group-heavy : (g p : ℕ) (v : List ℕ) → OnDone (λ _. 5 ≤ length v) (groupRead g p v)

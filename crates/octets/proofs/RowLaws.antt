@@ -20,7 +20,7 @@ column-nil tag field = refl
 
 pub column-cons : (tag field : ℕ) (row : List ℕ) (rows : List (List ℕ))
     → column tag field (row ∷ rows) ≡ pick (eqb (getD row 0 0) tag) (getD row field 0 ∷ column tag field rows) (column tag field rows)
-unfolding column keep
+unfolding column keep hasTag
 column-cons tag field row rows = one (hasTag tag row)
   where
     one : (b : Bool) → map (wordAt field) (pick b (row ∷ keep (hasTag tag) rows) (keep (hasTag tag) rows))

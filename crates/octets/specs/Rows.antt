@@ -7,7 +7,7 @@ use lib.ListN.{getD}
 use lib.Dec.{eqb}
 use Rattle.octets.specs.Lists.{keep}
 
-abbrev pub hasTag : ℕ → List ℕ → Bool
+unfoldable pub hasTag : ℕ → List ℕ → Bool
 hasTag tag row = eqb (getD row 0 0) tag
 
 abbrev pub wordAt : ℕ → List ℕ → ℕ

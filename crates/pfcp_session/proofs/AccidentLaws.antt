@@ -25,7 +25,7 @@ use Rattle.rules.specs.Grants.{Kind, ofPdr, ofEndpoint, chosenAddress, choices,
 use Rattle.rules.specs.Stages.{newSession, newPdrAddress, newEndpointAddress, addressesOf, entrySession, unnamed, atEntry}
 use Rattle.rules.specs.Apply.{keptPdr, keptEndpoint, goesSession}
 use Rattle.rules.specs.Serve.{Served, serve}
-use Rattle.rules.specs.Live.{replied, accepted, createdTeid, createdAddress}
+use Rattle.rules.specs.Live.{replied, acceptedEvent, createdTeid, createdAddress}
 use Rattle.rules.specs.Claim.{mapOf, addressMapOf, Holds}
 use Rattle.pool.specs.Map.{marked}
 use Rattle.pool.proofs.TakenLaws.{means-test, map-means, pool-from}
@@ -172,7 +172,7 @@ module _ (run : Run) (msg space : List ℕ) (r : RequestCall) (a : Accepted run 
   same = request-step t msg space r (a .call)
 
   call : AcceptedCall t msg space
-  call = accepted-call t msg space (a .message) (subst (λ (o : Served). T (accepted (replied msg (o .outcome) (o .space)))) same (a .reply))
+  call = accepted-call t msg space (a .message) (subst (λ (o : Served). T (acceptedEvent (replied msg (o .outcome) (o .space)))) same (a .reply))
 
   -- the session that the request is about: in a set deletion, one without records
   abbrev x : Session

@@ -16,7 +16,7 @@ use Rattle.table.specs.declared.Making.{Making}
 use Rattle.table.specs.declared.Making.the-variants.{Made, Refused}
 use Rattle.table.specs.declared.Count as code
 use Rattle.table.specs.declared.Count.the-variants.{Broken, Free}
-use Rattle.table.specs.Answers.{madeOf, countOf}
+use Rattle.table.specs.Answers.{madeOf, countTold}
 use Rattle.engine.specs.Steps.{Serves}
 use Rattle.pfcp_session.specs.Calls.{MakeCall, makeAnswer, makeCall, CountCall, countAnswer, countCall, addressCountCall, CountFits, RequestCall, replyOf, requestAnswer, requestCall}
 
@@ -32,11 +32,11 @@ module _ (s : Settings) (t t′ : List ℕ) (r : Making) (e : madeOf r t′ ≡ 
 -- ---- counts
 
 module _ (r : code.Count) where
-  pub tell-broken : r ≡ Broken → _≡_ {A = CountCall} (record { outcome = 1; count = 0 }) (countAnswer (countOf r))
-  tell-broken z = ap (λ (c : code.Count). countAnswer (countOf c)) (sym z)
+  pub tell-broken : r ≡ Broken → _≡_ {A = CountCall} (record { outcome = 1; count = 0 }) (countAnswer (countTold r))
+  tell-broken z = ap (λ (c : code.Count). countAnswer (countTold c)) (sym z)
 
-  pub tell-free : (n : ℕ) → r ≡ Free n → _≡_ {A = CountCall} (record { outcome = 0; count = n }) (countAnswer (countOf r))
-  tell-free n z = ap (λ (c : code.Count). countAnswer (countOf c)) (sym z)
+  pub tell-free : (n : ℕ) → r ≡ Free n → _≡_ {A = CountCall} (record { outcome = 0; count = n }) (countAnswer (countTold r))
+  tell-free n z = ap (λ (c : code.Count). countAnswer (countTold c)) (sym z)
 
 -- a free count is at most the pool's size
 few-with : (b : Bool) (k n most : ℕ) → (T b → k ≤ most) → pick b (free k) broken ≡ free n → n ≤ most
@@ -63,20 +63,20 @@ module _ (t : List ℕ) (h : T (sound t)) where
       omega arith
 
 module _ (t : List ℕ) (r : code.Count) where
-  pub teids-fit : countOf r ≡ countFree t → CountFits r
+  pub teids-fit : countTold r ≡ countFree t → CountFits r
   unfolding countFree
-  teids-fit e = record { small = λ n z. let f = few-with (sound t) (freeCount (viewSettings t) (viewSessions t)) n maxPool (few-free t) (sym e ∙ ap countOf z) in omega arith }
+  teids-fit e = record { small = λ n z. let f = few-with (sound t) (freeCount (viewSettings t) (viewSessions t)) n maxPool (few-free t) (sym e ∙ ap countTold z) in omega arith }
 
-  pub addresses-fit : countOf r ≡ countAddresses t → CountFits r
+  pub addresses-fit : countTold r ≡ countAddresses t → CountFits r
   unfolding countAddresses
   addresses-fit e =
-      record { small = λ n z. let f = few-with (sound t) (freeAddressCount (viewSettings t) (viewSessions t)) n maxAddresses (few-addresses t) (sym e ∙ ap countOf z) in omega arith }
+      record { small = λ n z. let f = few-with (sound t) (freeAddressCount (viewSettings t) (viewSessions t)) n maxAddresses (few-addresses t) (sym e ∙ ap countTold z) in omega arith }
 
-  pub call-counted : (a : CountCall) → countOf r ≡ countFree t → a ≡ countAnswer (countOf r) → a ≡ countCall t
+  pub call-counted : (a : CountCall) → countTold r ≡ countFree t → a ≡ countAnswer (countTold r) → a ≡ countCall t
   unfolding countCall
   call-counted a e f = f ∙ ap countAnswer e
 
-  pub call-addresses : (a : CountCall) → countOf r ≡ countAddresses t → a ≡ countAnswer (countOf r) → a ≡ addressCountCall t
+  pub call-addresses : (a : CountCall) → countTold r ≡ countAddresses t → a ≡ countAnswer (countTold r) → a ≡ addressCountCall t
   unfolding addressCountCall
   call-addresses a e f = f ∙ ap countAnswer e
 

@@ -21,10 +21,10 @@ use Rattle.rules.specs.Sound.{sound, make}
 use Rattle.rules.specs.Stages.{newSession, sessionOf, isLive, plain}
 use Rattle.rules.specs.Apply.{putSession}
 use Rattle.rules.specs.Serve.{Served, replyTo, serve}
-use Rattle.rules.specs.Live.{accepted, replyCause}
+use Rattle.rules.specs.Live.{acceptedEvent, replyCause}
 use Rattle.rules.specs.Calls.{Call, request, tableAfterAll}
 use Rattle.rules.specs.Restoration.{senderAllowed, restoration}
-use Rattle.rules.specs.Restoring.{sessionAt, addressed, senderAt, restorationAt, Writing, unwritten, writeInto, writeRestoration}
+use Rattle.rules.specs.Restoring.{sessionAt, senderAddressed, senderAt, restorationAt, Writing, unwritten, writeInto, writeRestoration}
 use Rattle.rules.specs.Claim.{Step, Ran, Restore, restored, restoreAllowed, restoreCall, restoreCalls, callIn, Restores}
 use Rattle.rules.specs.Causes as why
 use Rattle.claim.proofs.RestorationApply.{restored-call}
@@ -47,7 +47,7 @@ use Rattle.pfcp_session.proofs.RunLaws.{request-step, ran, is-made}
 record Written (t : List ℕ) (place : ℕ) (ipv4 ipv6 r : List ℕ) : Type 0 where
   sound : T (sound t)
   live : place < length (viewSessions t)
-  address : T (addressed ipv4 ipv6)
+  address : T (senderAddressed ipv4 ipv6)
   is : r ≡ restorationAt t place ipv4 ipv6
 
 module _ (t : List ℕ) (place : ℕ) (ipv4 ipv6 space : List ℕ) where
@@ -76,13 +76,13 @@ module _ (t : List ℕ) (place : ℕ) where
   unfolding restorationCall writeRestoration writeInto
   wrote r w =
       let c = leb (length (viewSessions t)) place in
-      let f = by-outcome t place (w .ipv4) (w .ipv6) (w .space) (sound t) c (addressed (w .ipv4) (w .ipv6)) (ltb (length (w .space)) (length (restorationAt t place (w .ipv4) (w .ipv6)))) (w .answer) (w .call) (w .success) in
+      let f = by-outcome t place (w .ipv4) (w .ipv6) (w .space) (sound t) c (senderAddressed (w .ipv4) (w .ipv6)) (ltb (length (w .space)) (length (restorationAt t place (w .ipv4) (w .ipv6)))) (w .answer) (w .call) (w .success) in
       record { sound = f .0; live = leb-false (length (viewSessions t)) place (f .1); address = f .2; is = w .octetsOf ∙ f .3 }
 
   past : Past t place → T (sound t) × (length (viewSessions t) ≤ place)
   unfolding restorationCall writeRestoration writeInto
   past p =
-      let f = past-outcome t place (p .ipv4) (p .ipv6) (p .space) (sound t) (leb (length (viewSessions t)) place) (addressed (p .ipv4) (p .ipv6)) (ltb (length (p .space)) (length (restorationAt t place (p .ipv4) (p .ipv6)))) (p .outcome) in
+      let f = past-outcome t place (p .ipv4) (p .ipv6) (p .space) (sound t) (leb (length (viewSessions t)) place) (senderAddressed (p .ipv4) (p .ipv6)) (ltb (length (p .space)) (length (restorationAt t place (p .ipv4) (p .ipv6)))) (p .outcome) in
       (f .0, leb→le (length (viewSessions t)) place (f .1))
 
 -- ---- short
@@ -101,7 +101,7 @@ emptied t made e =
     (is-made (make (viewSettings t) (e .found)) (sym (ap (λ (x : MakeCall). x .outcome) (e .making)) ∙ e .success), ap (λ (x : MakeCall). x .table) (e .making))
 
 pub restoration-accepted : RestorationAccepted
-unfolding RestorationAccepted accepted restorationAt
+unfolding RestorationAccepted acceptedEvent restorationAt
 restoration-accepted t place r made space answer w e long call =
     let k = wrote t place r w in
     let s = viewSettings t in

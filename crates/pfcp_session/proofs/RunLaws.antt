@@ -12,7 +12,7 @@ use Rattle.rules.specs.Serve.{Served, serve}
 use Rattle.rules.specs.Claim.{Ran, lastTable, liveSet, Promise, Demand3}
 use Rattle.claim.proofs.Demand3.{demand3}
 use Rattle.pfcp_session.specs.Calls.{MakeCall, makeAnswer, makeCall, CountCall, countAnswer, countCall, addressCountCall, RequestCall, requestAnswer, requestCall}
-use Rattle.pfcp_session.specs.Runs.{HostStep, requested, counted, countedAddresses, HostRan, countOf, stepOf, stepsOf, liveAfter, tableAfter, HostClaim}
+use Rattle.pfcp_session.specs.Runs.{HostStep, requested, counted, countedAddresses, HostRan, countOf, claimStep, stepsOf, liveAfter, tableAfter, HostClaim}
 
 -- a request's outcome, place, space and table are those of `serve`
 pub request-step : (t msg space : List ℕ) (r : RequestCall) → r ≡ requestCall t msg space
@@ -35,7 +35,7 @@ unfolding countCall
 count-step t c e = ap countOf e ∙ count-back (countFree t)
 
 pub ran : (t : List ℕ) (hs : List HostStep) → HostRan t hs → Ran t (stepsOf hs)
-unfolding stepOf
+unfolding claimStep
 ran t [] h = tt
 ran t (requested msg space r ∷ hs) h = (request-step t msg space r (h .0), ran (r .table) hs (h .1))
 ran t (counted c ∷ hs) h = (count-step t c (h .0), ran t hs (h .1))

@@ -21,7 +21,7 @@ use Rattle.rules.specs.Request.{Request, NewPdr, NewEndpoint}
 use Rattle.rules.specs.Grants.{Kind, ofPdr, ofEndpoint}
 use Rattle.rules.specs.Stages.{hasSeid, newSession, removedPdrs, entrySession}
 use Rattle.rules.specs.Apply.{keptPdr, keptEndpoint, goesSession}
-use Rattle.rules.specs.Live.{replied, accepted, createdTeid, createdAddress}
+use Rattle.rules.specs.Live.{replied, acceptedEvent, createdTeid, createdAddress}
 use Rattle.rules.specs.Claim.{mapOf, addressMapOf}
 use Rattle.pool.specs.Map.{marked}
 use Rattle.pfcp_session.specs.Calls.{countCall, addressCountCall, RequestCall, requestCall}
@@ -37,7 +37,7 @@ entriesAfter run = viewSessions (tableAfter run)
 pub record Accepted (run : Run) (msg space : List ℕ) (r : RequestCall) : Type 0 where
   pub message : T (octets msg)
   pub call : r ≡ requestCall (tableAfter run) msg space
-  pub reply : T (accepted (replied msg (r .outcome) (r .space)))
+  pub reply : T (acceptedEvent (replied msg (r .outcome) (r .space)))
 
 -- ---- released is removed
 

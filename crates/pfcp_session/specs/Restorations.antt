@@ -11,7 +11,7 @@ use Rattle.octets.specs.Octets.{octets}
 use Rattle.octets.specs.Lists.{all}
 use Rattle.rules.specs.Limits.{minSpace, maxRestoration}
 use Rattle.rules.specs.Layout.{viewSettings}
-use Rattle.rules.specs.Live.{replied, accepted}
+use Rattle.rules.specs.Live.{replied, acceptedEvent}
 use Rattle.rules.specs.Calls.{Call, request}
 use Rattle.rules.specs.Claim.{callIn, Restores}
 use Rattle.rules.specs.Restoring.{Writing}
@@ -57,7 +57,7 @@ RestorationShort = (t : List ℕ) (place : ℕ) (r : List ℕ) → Wrote t place
 unfoldable pub RestorationAccepted : Type 0
 RestorationAccepted =
     (t : List ℕ) (place : ℕ) (r : List ℕ) (made : MakeCall) (space : List ℕ) (answer : RequestCall) → Wrote t place r → Emptied t made
-    → minSpace ≤ length space → answer ≡ requestCall (made .table) r space → T (accepted (replied r (answer .outcome) (answer .space)))
+    → minSpace ≤ length space → answer ≡ requestCall (made .table) r space → T (acceptedEvent (replied r (answer .outcome) (answer .space)))
 
 -- ---- all of them
 

@@ -27,13 +27,13 @@ HostRan t (countedAddresses c ∷ steps) = (c ≡ addressCountCall t) × HostRan
 unfoldable pub countOf : CountCall → Count
 countOf c = pick (eqb (c .outcome) 0) (free (c .count)) broken
 
-unfoldable pub stepOf : HostStep → Step
-stepOf (requested msg space r) = asked msg space (record { outcome = r .outcome; place = r .place; space = r .space; table = r .table })
-stepOf (counted c) = told (countOf c)
-stepOf (countedAddresses c) = toldAddresses (countOf c)
+unfoldable pub claimStep : HostStep → Step
+claimStep (requested msg space r) = asked msg space (record { outcome = r .outcome; place = r .place; space = r .space; table = r .table })
+claimStep (counted c) = told (countOf c)
+claimStep (countedAddresses c) = toldAddresses (countOf c)
 
 abbrev pub stepsOf : List HostStep → List Step
-stepsOf hs = map stepOf hs
+stepsOf hs = map claimStep hs
 
 -- pfcp_make_table said 0 of the octets found, and any calls with any octets followed, each of which left what its contract says
 pub record Run : Type 0 where

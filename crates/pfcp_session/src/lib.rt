@@ -4,7 +4,7 @@
 ghost use mathlib.Core.Path.{_≡_};
 ghost use Rattle.rules.specs.Sound.{lengthFor};
 ghost use Rattle.unit.specs.Meaning.{settingsGiven};
-ghost use Rattle.table.specs.Answers.{countOf};
+ghost use Rattle.table.specs.Answers.{countTold};
 ghost use Rattle.pfcp_session.specs.Calls.{CountFits, countAnswer, makeCall, countCall, addressCountCall, requestCall, restorationCall, sessionCountCall, findSessionCall, findTeidCall};
 
 // Outcomes of making a table.
@@ -61,7 +61,7 @@ pub extern "C" fn pfcp_make_table(
 // A count for the host: outcome 0 and the number, or 1 and 0 where the table is broken.
 fn tell(answer: table::Count, count: &mut u32) -> u32
     requires { ⌜ CountFits answer ⌝ }
-    ensures { λ r. ⌜ record { outcome = r; count = now (count .exit) } ≡ countAnswer (countOf answer) ⌝ }
+    ensures { λ r. ⌜ record { outcome = r; count = now (count .exit) } ≡ countAnswer (countTold answer) ⌝ }
 {
     match answer {
         table::Count::Broken => {

@@ -8,11 +8,12 @@ use Prim.Native.Nat.{ℕ, _+_, _-_}
 use lib.Dec.{eqb}
 use Rattle.octets.specs.Choice.{pick, isSome, isNil, bindOption}
 use Rattle.octets.specs.Octets.{be, bit}
+use Rattle.octets.specs.Rows.{hasTag}
 use Rattle.rules.specs.Model.{Holding}
-use Rattle.rules.specs.Elements.{Fteid, given, choose, hasV4, hasV6, chooses, chooseId}
+use Rattle.rules.specs.Elements.{Fteid, given, choose, hasV4, hasV6, chooses, chooseIdOf}
 use Rattle.rules.specs.Stages.{restoredHolding, endpointRestored, pdrRestored}
 use Rattle.rules.specs.Grants.{Kind, ofPdr, ofEndpoint, Choice, choiceOf, endpointChoice, pdrChoice}
-use Rattle.plan.specs.Rows.{word, hasTag, fteidFrom, rowFteid, rowLocal, rowPdr, rowEndpoint}
+use Rattle.plan.specs.Rows.{word, fteidFrom, rowFteid, rowLocal, rowPdr, rowEndpoint}
 use Rattle.rules.specs.Types as ie
 use Rattle.plan.specs.Words as its
 use Rattle.plan.specs.RowRules.{hasFteid, rowHolding, rowChoice, rowChooseId, choiceId, rowIpv4, rowIpv6}

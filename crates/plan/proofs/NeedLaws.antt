@@ -11,11 +11,12 @@ use borrow.Author.Tests.{eqb-true}
 use lib.ListN.{length, take, drop}
 use Rattle.octets.specs.Choice.{pick, flag, isSome, bindOption, consOption}
 use Rattle.octets.specs.Lists.{member, any, keep, collect}
+use Rattle.octets.specs.Rows.{hasTag}
 use Rattle.octets.proofs.Tests.{is-true}
 use Rattle.octets.proofs.ListLaws.{collect-map}
 use Rattle.rules.specs.Stages.{sameChoice}
 use Rattle.rules.specs.Grants.{Choice, choices, need, needFrom, isFresh, noted, endpointChoice, pdrChoice}
-use Rattle.plan.specs.Rows.{rowWidth, hasTag, tagged, rowsOf, rowPdr, rowEndpoint, requestIn}
+use Rattle.plan.specs.Rows.{rowWidth, tagged, rowsOf, rowPdr, rowEndpoint, requestIn}
 use Rattle.rules.specs.Types as ie
 use Rattle.plan.specs.RowRules.{onSome, rowChoice, rowChooseId, choiceId, sharesChoice}
 use Rattle.octets.proofs.RowLaws.{rows-none}

@@ -10,16 +10,17 @@ use lib.Dec.{T, eqb, eqb→eq, eqb-refl}
 use borrow.Author.Tests.{eq-eqb, ne-eqb, eqb-true}
 use Rattle.octets.specs.Choice.{pick, isSome, allOf, bindOption, sameBool}
 use Rattle.octets.specs.Octets.{bit}
+use Rattle.octets.specs.Rows.{hasTag}
 use Rattle.octets.proofs.Tests.{and-left, and-right, both}
 use Rattle.rules.specs.Model.{Holding}
-use Rattle.rules.specs.Elements.{Fteid, given, choose, chooseId}
+use Rattle.rules.specs.Elements.{Fteid, given, choose, chooseIdOf}
 use Rattle.rules.specs.Sound.{agree, shareTests}
 use Rattle.rules.specs.Stages.{sameChoice, alikeFteids, fteidsMayShare, localsMayShare, choicesAgree}
 use Rattle.rules.specs.Grants.{ofPdr, choiceOf, pdrChoice}
-use Rattle.plan.specs.Rows.{word, hasTag, rowFteid, rowLocal, rowPdr}
+use Rattle.plan.specs.Rows.{word, rowFteid, rowLocal, rowPdr}
 use Rattle.rules.specs.Types as ie
 use Rattle.plan.specs.Words as its
-use Rattle.plan.specs.RowRules.{hasFteid, rowHolding, rowChoice, rowChooseId, choiceId, alike, repeats, sameId, otherChoice, holdsApart, otherHold, disagree, sharesChoice}
+use Rattle.plan.specs.RowRules.{hasFteid, rowHolding, rowChoice, rowChooseId, choiceId, alikeRows, repeats, sameId, otherChoice, holdsApart, otherHold, disagree, sharesChoice}
 use Rattle.plan.proofs.FteidLaws.{v4-row, v6-row, chooses-some, choose-id-row, holding-row, holdOf}
 use Rattle.plan.proofs.RowTests.{tag-yes, tag-no}
 use Rattle.octets.proofs.Bools.{both-ways, same-bit}
@@ -52,8 +53,8 @@ families m n = ap₂ _&&_ (same-bits 0 m n) (same-bits 1 m n) ∙ both-ways _ _ 
         let high : m / (2 ^ 1) % 2 ≡ n / (2 ^ 1) % 2 = omega arith in
         rw (low, high) (both (eqb (n / (2 ^ 0) % 2) (n / (2 ^ 0) % 2)) _ (eqb-refl (n / (2 ^ 0) % 2)) (eqb-refl (n / (2 ^ 1) % 2)))
 
-pub alike-row : (a b : List ℕ) → alike a b ≡ (eqb (word its.flags a % 4) (word its.flags b % 4) && eqb (word its.source a) (word its.source b))
-unfolding alike alikeFteids
+pub alike-row : (a b : List ℕ) → alikeRows a b ≡ (eqb (word its.flags a % 4) (word its.flags b % 4) && eqb (word its.source a) (word its.source b))
+unfolding alikeRows alikeFteids
 alike-row a b = rw (v4-row a, v4-row b, v6-row a, v6-row b, families (word its.flags a) (word its.flags b))
 
 -- ---- CHOOSE IDs
@@ -87,30 +88,30 @@ unfolding sharesChoice sameChoice
 shares-both a b h g = rw (id-known a h, id-known b g)
 
 -- a Create PDR's CHOOSE ID is its F-TEID's
-local-id : (i : ℕ) (o : Option Fteid) → bindOption (bindOption o (choiceOf ofPdr i)) choiceId ≡ bindOption o chooseId
-unfolding choiceOf chooseId
+local-id : (i : ℕ) (o : Option Fteid) → bindOption (bindOption o (choiceOf ofPdr i)) choiceId ≡ bindOption o chooseIdOf
+unfolding choiceOf chooseIdOf
 local-id i none = refl
 local-id i (some (given t a b)) = refl
 local-id i (some (choose v4 v6 c)) = refl
 
-pdr-id : (row : List ℕ) → word its.tag row ≡ ie.createPdr → rowChooseId row ≡ bindOption (rowLocal row) chooseId
+pdr-id : (row : List ℕ) → word its.tag row ≡ ie.createPdr → rowChooseId row ≡ bindOption (rowLocal row) chooseIdOf
 unfolding rowChooseId rowChoice pdrChoice rowPdr hasTag
 pdr-id row h = rw h (local-id (word its.pdrId row) (rowLocal row))
 
 may-share : (x y : Bool) (v w : Fteid) (i j : ℕ)
     → not (localsMayShare (pick x none (some v)) i (pick y none (some w)) j)
-    ≡ (sameChoice (bindOption (pick x none (some v)) chooseId) (bindOption (pick y none (some w)) chooseId) && not (alikeFteids v w && eqb i j))
+    ≡ (sameChoice (bindOption (pick x none (some v)) chooseIdOf) (bindOption (pick y none (some w)) chooseIdOf) && not (alikeFteids v w && eqb i j))
 unfolding localsMayShare fteidsMayShare sameChoice
 may-share true y v w i j = refl
-may-share false true v w i j = rw (same-none (chooseId v))
-may-share false false v w i j = one (sameChoice (chooseId v) (chooseId w)) (alikeFteids v w && eqb i j)
+may-share false true v w i j = rw (same-none (chooseIdOf v))
+may-share false false v w i j = one (sameChoice (chooseIdOf v) (chooseIdOf w)) (alikeFteids v w && eqb i j)
   where
     one : (s t : Bool) → not (not s || t) ≡ (s && not t)
     one true t = refl
     one false t = refl
 
-pub choice-other : (a b : List ℕ) → word its.tag a ≡ ie.createPdr → word its.tag b ≡ ie.createPdr → otherChoice a b ≡ (sharesChoice a b && not (alike a b))
-unfolding otherChoice choicesAgree rowPdr sharesChoice alike
+pub choice-other : (a b : List ℕ) → word its.tag a ≡ ie.createPdr → word its.tag b ≡ ie.createPdr → otherChoice a b ≡ (sharesChoice a b && not (alikeRows a b))
+unfolding otherChoice choicesAgree rowPdr sharesChoice alikeRows
 choice-other a b h g =
     rw (tag-yes a ie.createPdr h, tag-yes b ie.createPdr g, pdr-id a h, pdr-id b g)
     (unfold rowLocal in (may-share (eqb (word its.flags a) 0) (eqb (word its.flags b) 0) (rowFteid a) (rowFteid b) (word its.source a) (word its.source b)))
@@ -174,8 +175,8 @@ module _ (a b : List ℕ) (e : word its.teid a ≡ word its.teid b) (h : isSome 
   unfolding shareTests
   hold-later s t = both-hold a b h g ∙ rw (eq-eqb (word its.teid a) (word its.teid b) e, tag-no a ie.createEndpoint s, tag-yes b ie.createEndpoint t)
 
-  pub hold-pdrs : (word its.tag a ≡ ie.createEndpoint → ⊥) → (word its.tag b ≡ ie.createEndpoint → ⊥) → otherHold a b ≡ not (alike a b)
-  unfolding shareTests alike alikeFteids
+  pub hold-pdrs : (word its.tag a ≡ ie.createEndpoint → ⊥) → (word its.tag b ≡ ie.createEndpoint → ⊥) → otherHold a b ≡ not (alikeRows a b)
+  unfolding shareTests alikeRows alikeFteids
   hold-pdrs s t =
       both-hold a b h g
       ∙ rw (eq-eqb (word its.teid a) (word its.teid b) e, tag-no a ie.createEndpoint s, tag-no b ie.createEndpoint t, v4-row a, v4-row b, v6-row a, v6-row b)

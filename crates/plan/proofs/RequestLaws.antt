@@ -7,10 +7,10 @@ use Prim.Native.Nat.{ℕ}
 use lib.Dec.{eqb}
 use Rattle.octets.specs.Choice.{pick}
 use Rattle.octets.specs.Lists.{member, any, keep, collect}
-use Rattle.octets.specs.Rows.{column}
+use Rattle.octets.specs.Rows.{hasTag, column}
 use Rattle.rules.specs.Elements.{Fteid}
-use Rattle.rules.specs.Stages.{fteidsOf, pdrLocal, endpointLocal, newPdrId, newEndpointId, changeId, createdPdrs, createdEndpoints, updatedPdrs, wrongAllocation, invalidAllocation}
-use Rattle.plan.specs.Rows.{word, hasTag, tagged, rowFteid, rowLocal, rowPdr, rowEndpoint, rowChange, rowPdi, rowStrange, requestIn}
+use Rattle.rules.specs.Stages.{fteidsOf, pdrLocal, endpointLocal, newPdrId, newEndpointId, changeId, createdPdrs, createdEndpoints, updatedPdrs, allocationWrong, invalidAllocation}
+use Rattle.plan.specs.Rows.{word, tagged, rowFteid, rowLocal, rowPdr, rowEndpoint, rowChange, rowPdi, rowStrange, requestIn}
 use Rattle.rules.specs.Types as ie
 use Rattle.plan.specs.Words as its
 use Rattle.plan.specs.RowRules.{onSome, creates, hasFteid, ofFteid, ofUeKind}
@@ -55,9 +55,9 @@ any-fteids p seid restoring noted rows =
     here : (row : List ℕ) → ((hasTag ie.createEndpoint row && p (rowFteid row)) || (hasTag ie.createPdr row && onSome p (rowLocal row))) ≡ ofFteid p row
     here row = unfold ofFteid hasFteid rowLocal in (one (hasTag ie.createEndpoint row) (hasTag ie.createPdr row) (eqb (word its.flags row) 0) (rowFteid row))
 
-pub invalid-rows : (seid : ℕ) (restoring noted : Bool) (rows : List (List ℕ)) → invalidAllocation (requestIn seid restoring noted rows) ≡ any (ofFteid (wrongAllocation restoring)) rows
+pub invalid-rows : (seid : ℕ) (restoring noted : Bool) (rows : List (List ℕ)) → invalidAllocation (requestIn seid restoring noted rows) ≡ any (ofFteid (allocationWrong restoring)) rows
 unfolding invalidAllocation requestIn
-invalid-rows seid restoring noted rows = any-fteids (wrongAllocation restoring) seid restoring noted rows
+invalid-rows seid restoring noted rows = any-fteids (allocationWrong restoring) seid restoring noted rows
 
 -- ---- columns
 

@@ -7,8 +7,9 @@ use native.Mathlib.Omega.{arith}
 use lib.Dec.{eqb}
 use borrow.Author.Tests.{eq-eqb, ne-eqb}
 use Rattle.octets.specs.Octets.{bit}
+use Rattle.octets.specs.Rows.{hasTag}
 use Rattle.rules.specs.Elements.{Fteid}
-use Rattle.plan.specs.Rows.{word, hasTag, rowFteid}
+use Rattle.plan.specs.Rows.{word, rowFteid}
 use Rattle.rules.specs.Types as ie
 use Rattle.plan.specs.Words as its
 use Rattle.plan.specs.RowRules.{hasFteid, ofFteid}

@@ -11,7 +11,7 @@ use Rattle.octets.specs.Octets.{be, bit, sameOctets}
 use Rattle.octets.proofs.Numbers.{length-be, same-append}
 use Rattle.rules.specs.Model.{Settings, Holding}
 use Rattle.rules.specs.Sound.{inPool, unitFamilies}
-use Rattle.rules.specs.Stages.{wrongAllocation, lacksFamily, strange, otherAddress}
+use Rattle.rules.specs.Stages.{allocationWrong, lacksFamily, strange, otherAddress}
 use Rattle.plan.specs.Rows.{word, rowFteid}
 use Rattle.plan.specs.Words as its
 use Rattle.pool.specs.Map.{marked}
@@ -23,9 +23,9 @@ use Rattle.plan.proofs.FteidLaws.{chooses-row, v6-row, given-row, row-i
 use Rattle.plan.proofs.RowTests.{of-none, of-some}
 
 -- cause 71
-pub wrong-row : (restoring : Bool) (row : List ℕ) → hasFteid row ≡ true → ofFteid (wrongAllocation restoring) row ≡ sameBool (bit 2 (word its.flags row)) restoring
-unfolding wrongAllocation
-wrong-row restoring row h = of-some (wrongAllocation restoring) row h ∙ ap (λ (b : Bool). sameBool b restoring) (chooses-row row)
+pub wrong-row : (restoring : Bool) (row : List ℕ) → hasFteid row ≡ true → ofFteid (allocationWrong restoring) row ≡ sameBool (bit 2 (word its.flags row)) restoring
+unfolding allocationWrong
+wrong-row restoring row h = of-some (allocationWrong restoring) row h ∙ ap (λ (b : Bool). sameBool b restoring) (chooses-row row)
 
 -- a family that the unit lacks
 has-six : (u : Unit) → u .«has_ipv6» ≡ true → isNil (settingsOf u .ipv6) ≡ false

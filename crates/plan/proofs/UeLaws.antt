@@ -9,16 +9,17 @@ use lib.Dec.{eqb, ltb}
 use borrow.Author.Tests.{ne-eqb}
 use Rattle.octets.specs.Choice.{pick}
 use Rattle.octets.specs.Lists.{any, keep, collect}
+use Rattle.octets.specs.Rows.{hasTag}
 use Rattle.rules.specs.Model.{inAddressPool}
-use Rattle.rules.specs.Elements.{UeIp, ueGiven, ueChoose, ueOther, ueAddress, ueChooses}
+use Rattle.rules.specs.Elements.{UeIp, ueGiven, ueChoose, ueOther, ueAddressOf, ueChooses}
 use Rattle.rules.specs.Stages.{addressesOf, newPdrAddress, newEndpointAddress, wrongAddress}
 use Rattle.rules.specs.Types as ie
-use Rattle.plan.specs.Rows.{word, hasTag, tagged, ueFrom, rowUe, rowPdr, rowEndpoint, requestIn}
+use Rattle.plan.specs.Rows.{word, tagged, ueFrom, rowUe, rowPdr, rowEndpoint, requestIn}
 use Rattle.plan.specs.Words as its
 use Rattle.pool.specs.Map.{marked}
 use Rattle.unit.specs.declared.Settings.{Settings as Unit}
 use Rattle.unit.specs.Meaning.{settingsOf}
-use Rattle.plan.specs.RowRules.{onSome, creates, ofAddress, ofUeKind, takesAddress, addressIn, inRange}
+use Rattle.plan.specs.RowRules.{onSome, creates, ofAddress, ofUeKind, takesAddress, markedAddress, inRange}
 use Rattle.plan.proofs.ListLaws.{any-ext, any-or, any-append, any-keep, any-map, any-collect}
 use Rattle.plan.proofs.RowTests.{tag-yes}
 
@@ -97,13 +98,13 @@ module _ (u : Unit) (row : List ℕ) (h : creates row ≡ true) where
       one false = refl
 
   pub taken-other : (held : ℕ → Bool) → (word its.ueKind row ≡ 1 → ⊥) → false ≡ ofAddress (takesAddress (settingsOf u) held) row
-  unfolding takesAddress ueAddress onSome
+  unfolding takesAddress ueAddressOf onSome
   taken-other held n = address-other row (takesAddress (settingsOf u) held) h refl refl n
 
   pub taken-given : (words : List ℕ) → word its.ueKind row ≡ 1
-      → (inRange (u .«first_address») (u .addresses) (word its.ueAddress row) && marked words (word its.ueAddress row - u .«first_address»)) ≡ ofAddress (takesAddress (settingsOf u) (addressIn (settingsOf u) words)) row
-  unfolding takesAddress ueAddress onSome inAddressPool settingsOf
-  taken-given words e = sym (address-given row (takesAddress (settingsOf u) (addressIn (settingsOf u) words)) h e)
+      → (inRange (u .«first_address») (u .addresses) (word its.ueAddress row) && marked words (word its.ueAddress row - u .«first_address»)) ≡ ofAddress (takesAddress (settingsOf u) (markedAddress (settingsOf u) words)) row
+  unfolding takesAddress ueAddressOf onSome inAddressPool settingsOf
+  taken-given words e = sym (address-given row (takesAddress (settingsOf u) (markedAddress (settingsOf u) words)) h e)
 
 -- ---- the addresses of a request
 

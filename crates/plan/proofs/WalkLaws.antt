@@ -12,11 +12,11 @@ use Rattle.octets.specs.Choice.{pick}
 use Rattle.octets.specs.Octets.{slices}
 use Rattle.octets.specs.Lists.{member, any, keep}
 use Rattle.octets.proofs.Numbers.{slices-next}
-use Rattle.octets.specs.Rows.{column}
+use Rattle.octets.specs.Rows.{hasTag, column}
 use Rattle.octets.proofs.RowLaws.{rows-none, column-nil, column-cons}
 use Rattle.octets.proofs.Loops.{left-part, width-more}
 use Rattle.octets.proofs.Questions.{member-nil, member-cons}
-use Rattle.plan.specs.Rows.{rowWidth, word, hasTag, tagged, rowsOf}
+use Rattle.plan.specs.Rows.{rowWidth, word, tagged, rowsOf}
 use Rattle.plan.specs.Words as its
 
 -- ---- a row for which a test holds

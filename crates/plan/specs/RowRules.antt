@@ -7,13 +7,14 @@ use mathlib.Core.List.{List, [], _∷_, _++_}
 use lib.Dec.{leb, ltb, eqb}
 use Rattle.octets.specs.Choice.{pick, oneOf, bindOption}
 use Rattle.octets.specs.Octets.{be, bit}
+use Rattle.octets.specs.Rows.{hasTag}
 use Rattle.rules.specs.Model.{Settings, Holding, inAddressPool}
-use Rattle.rules.specs.Elements.{Fteid, chooseId, UeIp, ueAddress}
+use Rattle.rules.specs.Elements.{Fteid, chooseIdOf, UeIp, ueAddressOf}
 use Rattle.rules.specs.Request.{Request}
 use Rattle.rules.specs.Sound.{inPool, agree}
 use Rattle.rules.specs.Stages.{choicesAgree, alikeFteids, sameChoice, endpointRestored, pdrRestored}
 use Rattle.rules.specs.Grants.{Choice, endpointChoice, pdrChoice}
-use Rattle.plan.specs.Rows.{word, hasTag, rowPdr, rowEndpoint, rowFteid, rowUe, requestIn}
+use Rattle.plan.specs.Rows.{word, rowPdr, rowEndpoint, rowFteid, rowUe, requestIn}
 use Rattle.rules.specs.Types as ie
 use Rattle.plan.specs.Words as its
 use Rattle.pool.specs.Map.{marked}
@@ -68,11 +69,11 @@ ofUeKind choose row = creates row && pick choose (eqb (word its.ueKind row) 2) (
 
 -- an address given, of the pool, for which a test holds
 unfoldable pub takesAddress : Settings → (ℕ → Bool) → UeIp → Bool
-takesAddress s held v = onSome (λ a. inAddressPool s a && held a) (ueAddress v)
+takesAddress s held v = onSome (λ a. inAddressPool s a && held a) (ueAddressOf v)
 
 -- an address that the map has marked
-abbrev pub addressIn : Settings → List ℕ → ℕ → Bool
-addressIn s words a = marked words (a - s .firstAddress)
+abbrev pub markedAddress : Settings → List ℕ → ℕ → Bool
+markedAddress s words a = marked words (a - s .firstAddress)
 
 -- ---- pools: of TEIDs, and of addresses
 
@@ -101,8 +102,8 @@ unfoldable pub sameId : List ℕ → List ℕ → Bool
 sameId a b = oneOf (repeats ie.removePdr its.pdrId a b ∷ repeats ie.removeEndpoint its.endpointId a b ∷ repeats ie.createPdr its.pdrId a b ∷ repeats ie.createEndpoint its.endpointId a b ∷ repeats ie.updatePdr its.pdrId a b ∷ [])
 
 -- equal families and source interface
-unfoldable pub alike : List ℕ → List ℕ → Bool
-alike a b = alikeFteids (rowFteid a) (rowFteid b) && eqb (word its.source a) (word its.source b)
+unfoldable pub alikeRows : List ℕ → List ℕ → Bool
+alikeRows a b = alikeFteids (rowFteid a) (rowFteid b) && eqb (word its.source a) (word its.source b)
 
 -- equal CHOOSE IDs with other families or source interface
 unfoldable pub otherChoice : List ℕ → List ℕ → Bool

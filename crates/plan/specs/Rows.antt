@@ -9,6 +9,7 @@ use lib.Dec.{eqb, ltb}
 use Rattle.octets.specs.Choice.{pick}
 use Rattle.octets.specs.Octets.{be, bit, slices}
 use Rattle.octets.specs.Lists.{any, keep, collect}
+use Rattle.octets.specs.Rows.{hasTag}
 use Rattle.rules.specs.Elements.{Fteid, given, choose, UeIp, ueGiven, ueChoose, ueOther, Fqcsid, sets, removal}
 use Rattle.rules.specs.Request.{NewPdr, NewEndpoint, Change, cleared, changed, Request}
 use Rattle.rules.specs.Types as ie
@@ -27,9 +28,6 @@ abbrev pub rowsOf : ℕ → List ℕ → List (List ℕ)
 rowsOf n plan = slices rowWidth n plan
 
 -- those of a type
-unfoldable pub hasTag : ℕ → List ℕ → Bool
-hasTag t row = eqb (word its.tag row) t
-
 unfoldable pub tagged : ℕ → List (List ℕ) → List (List ℕ)
 tagged t rows = keep (hasTag t) rows
 

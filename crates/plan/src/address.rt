@@ -9,7 +9,7 @@ ghost use lib.ListN.{length};
 ghost use Rattle.rules.specs.Stages.{wrongAddress};
 ghost use Rattle.plan.specs.Rows.{rowWidth};
 ghost use Rattle.unit.specs.Meaning.{settingsOf};
-ghost use Rattle.plan.specs.RowRules.{creates, ofAddress, ofUeKind, takesAddress, addressIn};
+ghost use Rattle.plan.specs.RowRules.{creates, ofAddress, ofUeKind, takesAddress, markedAddress};
 
 // Does the row create a record?
 fn creates(row: &[u64]) -> bool
@@ -59,7 +59,7 @@ pub fn wrong(row: &[u64], u: Settings, restoring: bool) -> bool
 // Cause 73: an address of the pool that a session holds, by the map.
 pub fn is_held(row: &[u64], u: Settings, taken: &[u64]) -> bool
     requires { ⌜ (length (now row) ≡ rowWidth) × (u .addresses ≤ 64 * length (now taken)) ⌝ }
-    ensures { λ r. ⌜ r ≡ ofAddress (takesAddress (settingsOf u) (addressIn (settingsOf u) (now (taken .entry)))) (now (row .entry)) ⌝ }
+    ensures { λ r. ⌜ r ≡ ofAddress (takesAddress (settingsOf u) (markedAddress (settingsOf u) (now (taken .entry)))) (now (row .entry)) ⌝ }
 {
     if !creates(row) {
         return false;

@@ -8,10 +8,10 @@ ghost use Prim.Native.Nat.{_*_, _≤_, _<_};
 ghost use lib.Dec.{eqb};
 ghost use lib.ListN.{length};
 ghost use Rattle.octets.specs.Lists.{member, any};
-ghost use Rattle.octets.specs.Rows.{column};
+ghost use Rattle.octets.specs.Rows.{hasTag, column};
 ghost use Rattle.rules.specs.Grants.{need};
 ghost use Rattle.rules.specs.Stages.{invalidAllocation};
-ghost use Rattle.plan.specs.Rows.{rowWidth, word, hasTag, tagged, rowsOf, requestIn};
+ghost use Rattle.plan.specs.Rows.{rowWidth, word, tagged, rowsOf, requestIn};
 ghost use Rattle.plan.specs.RowRules.{requestOf, ofUeKind, sameId, disagree, sharesChoice};
 
 pub mod address;

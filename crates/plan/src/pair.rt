@@ -7,7 +7,7 @@ ghost use mathlib.Core.Bool.{not, _&&_};
 ghost use lib.ListN.{length};
 ghost use Rattle.octets.specs.Choice.{isSome};
 ghost use Rattle.plan.specs.Rows.{rowWidth};
-ghost use Rattle.plan.specs.RowRules.{rowChooseId, rowHolding, alike, sameId, otherChoice, otherHold, disagree, sharesChoice};
+ghost use Rattle.plan.specs.RowRules.{rowChooseId, rowHolding, alikeRows, sameId, otherChoice, otherHold, disagree, sharesChoice};
 
 // An ID removed, created or updated twice.
 pub fn same_id(a: &[u64], b: &[u64]) -> bool
@@ -56,7 +56,7 @@ pub fn with_id(row: &[u64]) -> bool
 // Equal families and source interface.
 fn alike(a: &[u64], b: &[u64]) -> bool
     requires { ⌜ (length (now a) ≡ rowWidth) × (length (now b) ≡ rowWidth) ⌝ }
-    ensures { λ r. ⌜ r ≡ alike (now (a .entry)) (now (b .entry)) ⌝ }
+    ensures { λ r. ⌜ r ≡ alikeRows (now (a .entry)) (now (b .entry)) ⌝ }
 {
     if a[words::FLAGS] % 4 != b[words::FLAGS] % 4 {
         return false;

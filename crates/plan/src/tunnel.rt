@@ -7,7 +7,7 @@ ghost use mathlib.Core.Path.{_≡_};
 ghost use Prim.Native.Nat.{_*_, _≤_};
 ghost use lib.ListN.{length};
 ghost use Rattle.octets.specs.Choice.{isSome};
-ghost use Rattle.rules.specs.Stages.{wrongAllocation, lacksFamily, strange, otherAddress};
+ghost use Rattle.rules.specs.Stages.{allocationWrong, lacksFamily, strange, otherAddress};
 ghost use Rattle.plan.specs.Rows.{rowWidth};
 ghost use Rattle.plan.specs.RowRules.{hasFteid, ofFteid, rowIpv4, rowIpv6, rowHolding, rowChoice, restores, heldIn};
 ghost use Rattle.unit.specs.Meaning.{settingsOf};
@@ -51,7 +51,7 @@ pub fn restored(row: &[u64]) -> bool
 // Cause 71: without CH outside restoration, or with CH inside it.
 pub fn wrong_allocation(row: &[u64], restoring: bool) -> bool
     requires { ⌜ length (now row) ≡ rowWidth ⌝ }
-    ensures { λ r. ⌜ r ≡ ofFteid (wrongAllocation restoring) (now (row .entry)) ⌝ }
+    ensures { λ r. ⌜ r ≡ ofFteid (allocationWrong restoring) (now (row .entry)) ⌝ }
 {
     if !has_fteid(row) {
         return false;

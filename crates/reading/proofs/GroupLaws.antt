@@ -16,7 +16,7 @@ use Rattle.octets.specs.Lists.{member}
 use Rattle.octets.proofs.Put.{part-from}
 use Rattle.rules.specs.Elements.{Refusal, missing, conditional, incorrect, causeOf, Fteid}
 use Rattle.rules.specs.Message.{inside, Element, elements, placesOf}
-use Rattle.rules.specs.Reading.{Reading, faulty, done, refusal, andThen, need, Members, withPdi, holds, pdiIn, valueRead, memberRead, membersRead, unopened, pdiEnd, pdiRead, pdrFrom, endpointFrom, changeFrom, itemFrom}
+use Rattle.rules.specs.Reading.{Reading, faulty, done, refusalAt, andThen, requiring, Members, withPdi, memberThere, pdiIn, valueRead, memberRead, membersRead, unopened, pdiEnd, pdiRead, pdrItem, endpointItem, changeFrom, itemFrom}
 use Rattle.rules.specs.Types as ie
 use Rattle.rules.specs.Causes as why
 use Rattle.plan.specs.Rows.{word, present, rowLocal, rowFteid}
@@ -28,53 +28,53 @@ use Rattle.frame.proofs.Front.{Front, behind}
 use Rattle.reading.specs.declared.Verdict.{Verdict}
 use Rattle.reading.specs.declared.Verdict.the-variants.{Fine, Refused}
 use Rattle.reading.specs.Verdicts.{stopped, numbered, outcome}
-use Rattle.reading.specs.Rows.{column, rowMembers, Tidy, Reads, ownRead, isPdi, closing, closedRead}
+use Rattle.reading.specs.Rows.{thereWord, rowMembers, Tidy, Reads, ownRead, isPdi, closing, closedRead}
 use Rattle.reading.proofs.Places.{pdi-in-create, pdi-type}
 use Rattle.reading.proofs.MemberLaws.{stops, is-done}
 
 -- ---- what is missing
 
-need-then : {A B C : Type 0} (c : Refusal) (t p : ℕ) (o : Option A) (k : A → Reading B) (j : B → Reading C) → andThen (need c t p o k) j ≡ need c t p o (λ x. andThen (k x) j)
+need-then : {A B C : Type 0} (c : Refusal) (t p : ℕ) (o : Option A) (k : A → Reading B) (j : B → Reading C) → andThen (requiring c t p o k) j ≡ requiring c t p o (λ x. andThen (k x) j)
 need-then c t p none k j = refl
 need-then c t p (some a) k j = refl
 
 -- a word that is 0 is a member that is missing
 module _ {A : Type 0} (m : A) (next : Verdict) (c : Refusal) (t p : ℕ) where
-  lacks : (a v : ℕ) (k : ℕ → Reading A) → a ≤ 1 → outcome next m ≡ numbered (k v) → outcome (pick (eqb a 0) (Refused (causeOf c) t p) next) m ≡ numbered (need c t p (present a v) k)
+  lacks : (a v : ℕ) (k : ℕ → Reading A) → a ≤ 1 → outcome next m ≡ numbered (k v) → outcome (pick (eqb a 0) (Refused (causeOf c) t p) next) m ≡ numbered (requiring c t p (present a v) k)
   unfolding present
   lacks zero v k l h = refl
   lacks (suc zero) v k l h = h
   lacks (suc (suc a)) v k l h = absurd (omega arith)
 
   lacks-then : {B : Type 0} (a v : ℕ) (k : ℕ → Reading B) (j : B → Reading A) → a ≤ 1 → outcome next m ≡ numbered (andThen (k v) j)
-      → outcome (pick (eqb a 0) (Refused (causeOf c) t p) next) m ≡ numbered (andThen (need c t p (present a v) k) j)
+      → outcome (pick (eqb a 0) (Refused (causeOf c) t p) next) m ≡ numbered (andThen (requiring c t p (present a v) k) j)
   lacks-then a v k j l h = lacks a v (λ x. andThen (k x) j) l h ∙ sym (ap (λ (x : Reading A). numbered x) (need-then c t p (present a v) k j))
 
   lacks-pdi : {B : Type 0} (a : ℕ) (r : Reading B) (j : B → Reading A) → a ≤ 1 → outcome next m ≡ numbered (andThen r j)
-      → outcome (pick (eqb a 0) (Refused (causeOf c) t p) next) m ≡ numbered (andThen (pick (eqb a 1) r (refusal c t p)) j)
+      → outcome (pick (eqb a 0) (Refused (causeOf c) t p) next) m ≡ numbered (andThen (pick (eqb a 1) r (refusalAt c t p)) j)
   lacks-pdi zero r j l h = refl
   lacks-pdi (suc zero) r j l h = h
   lacks-pdi (suc (suc a)) r j l h = absurd (omega arith)
 
   lacks-local : {B : Type 0} (b : Bool) (v : Fteid) (k : Fteid → Reading B) (j : B → Reading A) → outcome next m ≡ numbered (andThen (k v) j)
-      → outcome (pick b (Refused (causeOf c) t p) next) m ≡ numbered (andThen (need c t p (pick b none (some v)) k) j)
+      → outcome (pick b (Refused (causeOf c) t p) next) m ≡ numbered (andThen (requiring c t p (pick b none (some v)) k) j)
   lacks-local true v k j h = refl
   lacks-local false v k j h = h
 
 -- the answers of `require`, one in the other, and a group's end
 abbrev Required : List ℕ → ℕ → ℕ → ℕ → Verdict → Verdict → Type 0
-Required row c p t next r = r ≡ pick (eqb (word (column t) row) 0) (Refused c t p) next
+Required row c p t next r = r ≡ pick (eqb (word (thereWord t) row) 0) (Refused c t p) next
 
 abbrev Ends : List ℕ → ℕ → ℕ → Verdict → Type 0
 Ends row g p r = outcome r (rowMembers row) ≡ numbered (closing g p (rowMembers row))
 
 module _ (row : List ℕ) (z : Tidy row) (g p : ℕ) where
   pub ends-pdi : {a : Verdict} → g ≡ ie.pdi → Required row why.mandatoryMissing p ie.sourceInterface Fine a → Ends row g p a
-  unfolding closing pdiEnd rowMembers causeOf column
+  unfolding closing pdiEnd rowMembers causeOf thereWord
   ends-pdi e a = rw (e, a) (lacks (rowMembers row) Fine missing ie.sourceInterface p (word its.hasSource row) (word its.source row) (λ n. done (rowMembers row)) (z .source) refl)
 
   pub ends-create : {a b c d : Verdict} → g ≡ ie.createPdr → Required row why.mandatoryMissing p ie.sourceInterface Fine a → Required row why.mandatoryMissing p ie.pdrId a b → Required row why.mandatoryMissing p ie.precedence b c → Required row why.mandatoryMissing p ie.pdi c d → Ends row g p d
-  unfolding closing itemFrom pdrFrom rowMembers causeOf column
+  unfolding closing itemFrom pdrItem rowMembers causeOf thereWord
   ends-create {a} {b} {c} {d} e h q r s =
       rw (e, s)
       (lacks-pdi (rowMembers row) c missing ie.pdi p (word its.hasPdi row) _ _ (z .pdi)
@@ -83,19 +83,19 @@ module _ (row : List ℕ) (z : Tidy row) (g p : ℕ) where
       (rw h (lacks-then (rowMembers row) Fine missing ie.sourceInterface p (word its.hasSource row) (word its.source row) _ _ (z .source) refl)))))))
 
   pub ends-endpoint : {a b : Verdict} → g ≡ ie.createEndpoint → Required row why.mandatoryMissing p ie.endpointId Fine a → Required row why.conditionalMissing p ie.fteid a b → Ends row g p b
-  unfolding closing itemFrom endpointFrom rowMembers rowLocal causeOf column
+  unfolding closing itemFrom endpointItem rowMembers rowLocal causeOf thereWord
   ends-endpoint {a} {b} e h q =
       rw (e, q)
       (lacks-local (rowMembers row) a conditional ie.fteid p (eqb (word its.flags row) 0) (rowFteid row) _ _
       (rw h (lacks-then (rowMembers row) Fine missing ie.endpointId p (word its.hasEndpointId row) (word its.endpointId row) _ _ (z .endpointId) refl)))
 
   pub ends-pdr : {a : Verdict} → OneOf g ie.updatePdr (ie.removePdr ∷ []) → Required row why.mandatoryMissing p ie.pdrId Fine a → Ends row g p a
-  unfolding closing itemFrom changeFrom rowMembers causeOf column
+  unfolding closing itemFrom changeFrom rowMembers causeOf thereWord
   ends-pdr (inl e) h = rw (e, h) (lacks-then (rowMembers row) Fine missing ie.pdrId p (word its.hasPdrId row) (word its.pdrId row) _ _ (z .pdrId) refl)
   ends-pdr (inr e) h = rw (e, h) (lacks-then (rowMembers row) Fine missing ie.pdrId p (word its.hasPdrId row) (word its.pdrId row) _ _ (z .pdrId) refl)
 
   pub ends-other : {a : Verdict} → (g ≡ ie.createPdr → ⊥) → (g ≡ ie.pdi → ⊥) → (g ≡ ie.createEndpoint → ⊥) → (OneOf g ie.updatePdr (ie.removePdr ∷ []) → ⊥) → Required row why.mandatoryMissing p ie.endpointId Fine a → Ends row g p a
-  unfolding closing itemFrom rowMembers causeOf column
+  unfolding closing itemFrom rowMembers causeOf thereWord
   ends-other h i j k l =
       rw (ne-eqb g ie.createPdr h, ne-eqb g ie.pdi i, ne-eqb g ie.createEndpoint j, ne-eqb g ie.updatePdr (λ q. k (inl q)), ne-eqb g ie.removePdr (λ q. k (inr q)), l)
       (lacks-then (rowMembers row) Fine missing ie.endpointId p (word its.hasEndpointId row) (word its.endpointId row) _ _ (z .endpointId) refl)
@@ -122,12 +122,12 @@ member-split : (g t p : ℕ) (v : List ℕ) (m : Members) → memberRead pdiRead
 unfolding ownRead
 member-split g t p v m = go (isPdi g t) refl
   where
-    in-pdi : (o : Bool) → pick o (refusal incorrect ie.pdi p) (pdiRead p v (withPdi m)) ≡ andThen (pick o (refusal incorrect ie.pdi p) (done (withPdi m))) (λ n. pdiRead p v n)
+    in-pdi : (o : Bool) → pick o (refusalAt incorrect ie.pdi p) (pdiRead p v (withPdi m)) ≡ andThen (pick o (refusalAt incorrect ie.pdi p) (done (withPdi m))) (λ n. pdiRead p v n)
     in-pdi true = refl
     in-pdi false = refl
 
     opened : g ≡ ie.createPdr → t ≡ ie.pdi → memberRead pdiRead g (el p t v) m ≡ andThen (memberRead unopened g (el p t v) m) (λ n. pdiRead p v n)
-    opened a b = rw (a, b) (unfold memberRead placesOf member holds valueRead pdiIn in (in-pdi (m .pdi)))
+    opened a b = rw (a, b) (unfold memberRead placesOf member memberThere valueRead pdiIn in (in-pdi (m .pdi)))
 
     go : (b : Bool) → isPdi g t ≡ b → memberRead pdiRead g (el p t v) m ≡ andThen (memberRead unopened g (el p t v) m) (λ n. pick b (pdiRead p v n) (done n))
     go true h = opened (pdi-in-create g t (sym h)) (pdi-type g t (sym h))

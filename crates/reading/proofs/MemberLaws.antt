@@ -17,7 +17,7 @@ use Rattle.octets.proofs.Bools.{and-false}
 use Rattle.rules.specs.Elements as rules
 use Rattle.rules.specs.Elements.{Refusal, tooShort, incorrect, causeOf, refuse, value, Fteid, given, choose, v4Flag, v6Flag, chFlag, chidFlag, wrongFlags, fteidLength, chosenFields, givenFields, fteidFields, readFteid, readUeIp}
 use Rattle.rules.specs.Message.{placesOf, numberWidth}
-use Rattle.rules.specs.Reading.{Reading, faulty, done, refusal, andThen, Members, withPdrId, withPrecedence, withFar, withPdi, withSource, withEndpointId, holds, numberRead, farRead, pdiIn, valueRead, memberRead, unopened}
+use Rattle.rules.specs.Reading.{Reading, faulty, done, refusalAt, andThen, Members, withPdrId, withPrecedence, withFar, withPdi, withSource, withEndpointId, memberThere, numberRead, farRead, pdiIn, valueRead, memberRead, unopened}
 use Rattle.rules.specs.Types as ie
 use Rattle.rules.specs.Causes as why
 use Rattle.element.specs.FTeid.{fteidTests, fteidMeant, fteidOf}
@@ -30,7 +30,7 @@ use Rattle.plan.specs.Rows.{ueFrom}
 use Rattle.reading.specs.declared.Verdict.{Verdict}
 use Rattle.reading.specs.declared.Verdict.the-variants.{Fine, Refused}
 use Rattle.reading.specs.Verdicts.{stopped, got, numbered}
-use Rattle.reading.specs.Rows.{memberTypes, plainTypes, column, rowMembers, Tidy, Reads, plainNumber, plainRead, fteidRead, ueRead, kindIn, addressIn, ownRead, isNullFar}
+use Rattle.reading.specs.Rows.{memberTypes, plainTypes, thereWord, rowMembers, Tidy, Reads, plainNumber, plainRead, fteidRead, ueRead, ueKindIn, ueAddressIn, ownRead, isNullFar}
 use Rattle.reading.proofs.Places.{keys-in, one-of}
 use Rattle.reading.proofs.RowLaws.{Holding, by-plain, by-member, plainPut, put-plain, put-null-far, put-pdi, sixSet, put-fteid, twoSet, put-ue, held, unheld, from-words}
 
@@ -68,21 +68,21 @@ module _ (t : ℕ) (v : List ℕ) where
   unfolding plainNumber numberAt
   number-other e h k = k ∙ ap (λ (w : ℕ). number (part 0 w v)) e ∙ sym (rw (ne-eqb t ie.sourceInterface h))
 
-then-pick : {A B : Type 0} (b : Bool) (c : Refusal) (t p : ℕ) (a : A) (k : A → Reading B) → andThen (pick b (refusal c t p) (done a)) k ≡ pick b (refusal c t p) (k a)
+then-pick : {A B : Type 0} (b : Bool) (c : Refusal) (t p : ℕ) (a : A) (k : A → Reading B) → andThen (pick b (refusalAt c t p) (done a)) k ≡ pick b (refusalAt c t p) (k a)
 then-pick true c t p a k = refl
 then-pick false c t p a k = refl
 
 then-twice : {A B C : Type 0} (b : Bool) (c : Refusal) (t p : ℕ) (a : A) (j : A → B) (k : B → Reading C)
-    → andThen (andThen (pick b (refusal c t p) (done a)) (λ x. done (j x))) k ≡ pick b (refusal c t p) (k (j a))
+    → andThen (andThen (pick b (refusalAt c t p) (done a)) (λ x. done (j x))) k ≡ pick b (refusalAt c t p) (k (j a))
 then-twice true c t p a j k = refl
 then-twice false c t p a j k = refl
 
 -- a plain member, short or read
 module _ (p : ℕ) (v : List ℕ) (m : Members) where
-  plain-is : (t : ℕ) → member t plainTypes ≡ true → plainRead t p v m ≡ pick (ltb (length v) (numberWidth t)) (refusal tooShort t p) (done (plainPut t (plainNumber t v) m))
+  plain-is : (t : ℕ) → member t plainTypes ≡ true → plainRead t p v m ≡ pick (ltb (length v) (numberWidth t)) (refusalAt tooShort t p) (done (plainPut t (plainNumber t v) m))
   unfolding plainRead valueRead numberRead farRead plainPut plainNumber numberWidth
   plain-is =
-      by-plain (λ t. plainRead t p v m ≡ pick (ltb (length v) (numberWidth t)) (refusal tooShort t p) (done (plainPut t (plainNumber t v) m)))
+      by-plain (λ t. plainRead t p v m ≡ pick (ltb (length v) (numberWidth t)) (refusalAt tooShort t p) (done (plainPut t (plainNumber t v) m)))
       (then-pick (ltb (length v) 2) tooShort ie.pdrId p (numberAt 0 2 v) (λ n. done (withPdrId n m)))
       (then-pick (ltb (length v) 4) tooShort ie.precedence p (numberAt 0 4 v) (λ n. done (withPrecedence n m)))
       (then-twice (ltb (length v) 4) tooShort ie.farId p (numberAt 0 4 v) some (λ f. done (withFar f m)))
@@ -93,10 +93,10 @@ module _ (t p : ℕ) (v row : List ℕ) (k : member t plainTypes ≡ true) (z : 
   pub plain-short : {w : ℕ} → w ≡ numberWidth t → length v < w → Reads (plainRead t p v (rowMembers row)) row (Refused why.wrongLength t p)
   unfolding causeOf
   plain-short e h =
-      let q : plainRead t p v (rowMembers row) ≡ refusal tooShort t p = plain-is p v (rowMembers row) t k ∙ rw (← e, lt-ltb _ _ h) in
+      let q : plainRead t p v (rowMembers row) ≡ refusalAt tooShort t p = plain-is p v (rowMembers row) t k ∙ rw (← e, lt-ltb _ _ h) in
       record { told = sym (ap (λ (x : Reading Members). numbered x) q); tidy = z }
 
-  pub plain-long : {w n at : ℕ} → w ≡ numberWidth t → w ≤ length v → n ≡ plainNumber t v → at ≡ column t
+  pub plain-long : {w n at : ℕ} → w ≡ numberWidth t → w ≤ length v → n ≡ plainNumber t v → at ≡ thereWord t
       → Reads (plainRead t p v (rowMembers row)) (set (set row at 1) (at + 6) n) Fine
   plain-long e h q a =
       rw (a, q) (holding (put-plain row t (plainNumber t v) k z) (plain-is p v (rowMembers row) t k ∙ rw (← e, le-ltb _ _ h)))
@@ -160,7 +160,7 @@ fteid-value x p e v row z = by-option (fteidOf x) refl
 -- ---- a UE IP Address
 
 -- its words give it back
-ue-words : (x : UeIp) → ueFrom (kindIn x) (addressIn x) ≡ some (ueOf x)
+ue-words : (x : UeIp) → ueFrom (ueKindIn x) (ueAddressIn x) ≡ some (ueOf x)
 unfolding ueFrom
 ue-words (ue-case.Given a) = refl
 ue-words ue-case.Choose = refl
@@ -170,10 +170,10 @@ pub ue-refused : (p : ℕ) (v row : List ℕ) (c : Refusal) {n : ℕ} → Tidy r
 unfolding ueRead
 ue-refused p v row c z h e = record { told = rw (← h, e); tidy = z }
 
-pub ue-value : (x : UeIp) (p : ℕ) (v row : List ℕ) {k a : ℕ} → Tidy row → value (ueOf x) ≡ readUeIp v → k ≡ kindIn x → a ≡ addressIn x
+pub ue-value : (x : UeIp) (p : ℕ) (v row : List ℕ) {k a : ℕ} → Tidy row → value (ueOf x) ≡ readUeIp v → k ≡ ueKindIn x → a ≡ ueAddressIn x
     → Reads (ueRead p (readUeIp v) (rowMembers row)) (twoSet row k a row) Fine
 unfolding ueRead
-ue-value x p v row z h e f = rw (e, f) (holding (put-ue row (kindIn x) (addressIn x) (ueOf x) (ue-words x) z) (rw (← h)))
+ue-value x p v row z h e f = rw (e, f) (holding (put-ue row (ueKindIn x) (ueAddressIn x) (ueOf x) (ue-words x) z) (rw (← h)))
 
 -- ---- a member
 
@@ -260,11 +260,11 @@ module _ (g t p : ℕ) (v row : List ℕ) (z : Tidy row) where
   unfolding ownRead memberRead
   own-skipped h = record { told = sym (rw (← h)); tidy = z }
 
-  pub own-repeat : {at : ℕ} → true ≡ member t (placesOf g) → at ≡ column t → (getD row at 0 ≡ 0 → ⊥) → Reads (ownRead g t p v (rowMembers row)) row (Refused why.incorrect t p)
+  pub own-repeat : {at : ℕ} → true ≡ member t (placesOf g) → at ≡ thereWord t → (getD row at 0 ≡ 0 → ⊥) → Reads (ownRead g t p v (rowMembers row)) row (Refused why.incorrect t p)
   unfolding ownRead memberRead causeOf
   own-repeat h a k = record { told = sym (rw (← h, held row z t (has-words g t h) (λ q. k (ap (λ (i : ℕ). getD row i 0) a ∙ q)))); tidy = z }
 
-  pub own-value : {at : ℕ} {row′ : List ℕ} {r : Verdict} → true ≡ member t (placesOf g) → at ≡ column t → getD row at 0 ≡ 0
+  pub own-value : {at : ℕ} {row′ : List ℕ} {r : Verdict} → true ≡ member t (placesOf g) → at ≡ thereWord t → getD row at 0 ≡ 0
       → Reads (valueRead unopened g t p v (rowMembers row)) row′ r → Reads (ownRead g t p v (rowMembers row)) row′ r
   unfolding ownRead memberRead
   own-value h a k e = record { told = e .told ∙ sym (rw (← h, unheld row z t (has-words g t h) (ap (λ (i : ℕ). getD row i 0) (sym a) ∙ k))); tidy = e .tidy }

@@ -14,12 +14,12 @@ use Rattle.octets.specs.Octets.{be, bit}
 use Rattle.octets.specs.Lists.{member}
 use Rattle.octets.proofs.Tests.{of-true}
 use Rattle.rules.specs.Elements.{Fteid, given, choose, UeIp, v4Flag, v6Flag, chFlag, chidFlag}
-use Rattle.rules.specs.Reading.{Members, withPdrId, withPrecedence, withFar, withPdi, withSource, withLocal, withEndpointId, withAddress, holds}
+use Rattle.rules.specs.Reading.{Members, withPdrId, withPrecedence, withFar, withPdi, withSource, withLocal, withEndpointId, withAddress, memberThere}
 use Rattle.rules.specs.Types as ie
 use Rattle.plan.specs.Rows.{rowWidth, word, fteidFrom, ueFrom, present, rowFteid, rowLocal, rowUe, rowFar}
 use Rattle.plan.specs.Words as its
 use Rattle.frame.proofs.Among.{OneOf}
-use Rattle.reading.specs.Rows.{memberTypes, plainTypes, column, rowMembers, Tidy}
+use Rattle.reading.specs.Rows.{memberTypes, plainTypes, thereWord, rowMembers, Tidy}
 use Rattle.reading.proofs.Places.{one-of}
 
 -- ---- a row taken apart
@@ -104,10 +104,10 @@ module _ (row : List ℕ) where
       → let x = a ∷ b ∷ c ∷ d ∷ e ∷ f′ ∷ g′ ∷ h ∷ i ∷ j ∷ k ∷ l ∷ m ∷ n ∷ o ∷ p ∷ q ∷ r ∷ s ∷ t ∷ [] in Tidy x → Holding (g (rowMembers x)) (f x)) → Writes f g
   wrote f g w z = apart (λ x. Tidy x → Holding (g (rowMembers x)) (f x)) w row (z .wide) z
 
-  pub put-plain : (t n : ℕ) → member t plainTypes ≡ true → Writes (λ x. set (set x (column t) 1) (column t + 6) n) (plainPut t n)
-  unfolding column plainPut rowMembers present rowFar rowLocal rowFteid rowUe
+  pub put-plain : (t n : ℕ) → member t plainTypes ≡ true → Writes (λ x. set (set x (thereWord t) 1) (thereWord t + 6) n) (plainPut t n)
+  unfolding thereWord plainPut rowMembers present rowFar rowLocal rowFteid rowUe
   put-plain t n =
-      by-plain (λ t. Writes (λ x. set (set x (column t) 1) (column t + 6) n) (plainPut t n))
+      by-plain (λ t. Writes (λ x. set (set x (thereWord t) 1) (thereWord t + 6) n) (plainPut t n))
       (wrote (λ x. set (set x 1 1) 7 n) (withPdrId n) (λ a b c d e f g h i j k l m n o p q r s t z. record { members = refl; tidy = tidied refl (omega arith) (z .precedence) (z .far) (z .source) (z .endpointId) (z .pdi) }))
       (wrote (λ x. set (set x 2 1) 8 n) (withPrecedence n) (λ a b c d e f g h i j k l m n o p q r s t z. record { members = refl; tidy = tidied refl (z .pdrId) (omega arith) (z .far) (z .source) (z .endpointId) (z .pdi) }))
       (wrote (λ x. set (set x 3 1) 9 n) (withFar (some n)) (λ a b c d e f g h i j k l m n o p q r s t z. record { members = refl; tidy = tidied refl (z .pdrId) (z .precedence) (omega arith) (z .source) (z .endpointId) (z .pdi) }))
@@ -165,10 +165,10 @@ present-none n v h = rw h
 
 module _ (row : List ℕ) (z : Tidy row) where
   -- a word that is set is a member that is there
-  pub held : (t : ℕ) → member t memberTypes ≡ true → (word (column t) row ≡ 0 → ⊥) → holds t (rowMembers row) ≡ true
-  unfolding column holds rowMembers rowFar rowLocal rowUe ueFrom
+  pub held : (t : ℕ) → member t memberTypes ≡ true → (word (thereWord t) row ≡ 0 → ⊥) → memberThere t (rowMembers row) ≡ true
+  unfolding thereWord memberThere rowMembers rowFar rowLocal rowUe ueFrom
   held =
-      by-member (λ t. (word (column t) row ≡ 0 → ⊥) → holds t (rowMembers row) ≡ true)
+      by-member (λ t. (word (thereWord t) row ≡ 0 → ⊥) → memberThere t (rowMembers row) ≡ true)
       (λ h. present-there _ _ h (z .pdrId))
       (λ h. present-there _ _ h (z .precedence))
       (λ h. far-there (word its.hasFarId row) (word its.farId row) h (z .far))
@@ -184,10 +184,10 @@ module _ (row : List ℕ) (z : Tidy row) where
       far-there (suc (suc zero)) v h l = refl
       far-there (suc (suc (suc n))) v h l = absurd (omega arith)
 
-  pub unheld : (t : ℕ) → member t memberTypes ≡ true → word (column t) row ≡ 0 → holds t (rowMembers row) ≡ false
-  unfolding column holds rowMembers rowFar rowLocal rowUe ueFrom
+  pub unheld : (t : ℕ) → member t memberTypes ≡ true → word (thereWord t) row ≡ 0 → memberThere t (rowMembers row) ≡ false
+  unfolding thereWord memberThere rowMembers rowFar rowLocal rowUe ueFrom
   unheld =
-      by-member (λ t. word (column t) row ≡ 0 → holds t (rowMembers row) ≡ false)
+      by-member (λ t. word (thereWord t) row ≡ 0 → memberThere t (rowMembers row) ≡ false)
       (λ h. present-none _ _ h)
       (λ h. present-none _ _ h)
       (λ h. rw h)
@@ -199,12 +199,12 @@ module _ (row : List ℕ) (z : Tidy row) where
 
 -- ---- columns
 
-pub column-low : (t : ℕ) → member t plainTypes ≡ true → column t ≤ 5
-unfolding column
-column-low = by-plain (λ t. column t ≤ 5) (omega arith) (omega arith) (omega arith) (omega arith) (omega arith)
+pub column-low : (t : ℕ) → member t plainTypes ≡ true → thereWord t ≤ 5
+unfolding thereWord
+column-low = by-plain (λ t. thereWord t ≤ 5) (omega arith) (omega arith) (omega arith) (omega arith) (omega arith)
 
-pub column-none : (t : ℕ) → (t ≡ ie.pdrId → ⊥) → (t ≡ ie.precedence → ⊥) → (t ≡ ie.farId → ⊥) → (t ≡ ie.sourceInterface → ⊥) → (t ≡ ie.endpointId → ⊥) → (t ≡ ie.pdi → ⊥) → (t ≡ ie.fteid → ⊥) → (t ≡ ie.ueIpAddress → ⊥) → 0 ≡ column t
-unfolding column
+pub column-none : (t : ℕ) → (t ≡ ie.pdrId → ⊥) → (t ≡ ie.precedence → ⊥) → (t ≡ ie.farId → ⊥) → (t ≡ ie.sourceInterface → ⊥) → (t ≡ ie.endpointId → ⊥) → (t ≡ ie.pdi → ⊥) → (t ≡ ie.fteid → ⊥) → (t ≡ ie.ueIpAddress → ⊥) → 0 ≡ thereWord t
+unfolding thereWord
 column-none t a b c d e f g h = rw (ne-eqb t ie.pdrId a, ne-eqb t ie.precedence b, ne-eqb t ie.farId c, ne-eqb t ie.sourceInterface d, ne-eqb t ie.endpointId e, ne-eqb t ie.pdi f, ne-eqb t ie.fteid g, ne-eqb t ie.ueIpAddress h)
 
 -- ---- an F-TEID from its words

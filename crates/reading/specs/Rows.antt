@@ -32,8 +32,8 @@ abbrev pub plainTypes : List ℕ
 plainTypes = ie.pdrId ∷ ie.precedence ∷ ie.farId ∷ ie.sourceInterface ∷ ie.endpointId ∷ []
 
 -- the word that says whether a member is there; that of an F-TEID holds its flags, that of a UE IP Address its kind
-unfoldable pub column : ℕ → ℕ
-column t =
+unfoldable pub thereWord : ℕ → ℕ
+thereWord t =
     pick (eqb t ie.pdrId) its.hasPdrId
     (pick (eqb t ie.precedence) its.hasPrecedence
     (pick (eqb t ie.farId) its.hasFarId
@@ -89,15 +89,15 @@ unfoldable pub ueRead : ℕ → Answer UeIp → Members → Reading Members
 ueRead p a m = andThen (named ie.ueIpAddress p a) (λ y. done (withAddress y m))
 
 -- the words of a UE IP Address: its kind, and its address, 0 where it gives none
-abbrev pub kindIn : code-ue.UeIp → ℕ
-kindIn (ue-case.Given a) = 1
-kindIn ue-case.Choose = 2
-kindIn ue-case.Other = 3
+abbrev pub ueKindIn : code-ue.UeIp → ℕ
+ueKindIn (ue-case.Given a) = 1
+ueKindIn ue-case.Choose = 2
+ueKindIn ue-case.Other = 3
 
-abbrev pub addressIn : code-ue.UeIp → ℕ
-addressIn (ue-case.Given a) = a
-addressIn ue-case.Choose = 0
-addressIn ue-case.Other = 0
+abbrev pub ueAddressIn : code-ue.UeIp → ℕ
+ueAddressIn (ue-case.Given a) = a
+ueAddressIn ue-case.Choose = 0
+ueAddressIn ue-case.Other = 0
 
 -- an element by itself: a PDI is noted and not opened
 unfoldable pub ownRead : ℕ → ℕ → ℕ → List ℕ → Members → Reading Members

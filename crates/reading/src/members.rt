@@ -20,12 +20,12 @@ ghost use Rattle.rules.specs.Message.{numberWidth};
 ghost use Rattle.rules.specs.Reading.{unopened, valueRead};
 ghost use Rattle.plan.specs.Rows.{word, rowWidth};
 ghost use Rattle.reading.specs.Verdicts.{outcome, numbered};
-ghost use Rattle.reading.specs.Rows.{memberTypes, plainTypes, column, rowMembers, Tidy, Reads, plainNumber, plainRead, fteidRead, ueRead, kindIn, addressIn, ownRead, isNullFar, closing, closedRead, fteidRefusal};
+ghost use Rattle.reading.specs.Rows.{memberTypes, plainTypes, thereWord, rowMembers, Tidy, Reads, plainNumber, plainRead, fteidRead, ueRead, ueKindIn, ueAddressIn, ownRead, isNullFar, closing, closedRead, fteidRefusal};
 ghost use Rattle.reading.specs.declared.Verdict.the-variants.{Refused};
 
 // The word of a row that says whether a member of type kind is there.
 fn column_of(kind: u64) -> usize
-    ensures { λ r. ⌜ (r ≡ column kind) × (r < rowWidth) ⌝ }
+    ensures { λ r. ⌜ (r ≡ thereWord kind) × (r < rowWidth) ⌝ }
 {
     match kind {
         types::PDR_ID => words::HAS_PDR_ID,
@@ -98,7 +98,7 @@ fn read_fteid(v: &[u8], endpoint: bool, place: usize, row: &mut [u64]) -> Verdic
 
 // The kind of a UE IP Address, as its row has it: 1 an address, 2 a CHOOSE, 3 one that is not supported.
 fn kind_of(x: UeIp) -> u64
-    ensures { λ r. ⌜ r ≡ kindIn x ⌝ }
+    ensures { λ r. ⌜ r ≡ ueKindIn x ⌝ }
 {
     match x {
         UeIp::Given(_) => words::UE_GIVEN,
@@ -109,7 +109,7 @@ fn kind_of(x: UeIp) -> u64
 
 // The address that it gives, else 0.
 fn address_of(x: UeIp) -> u64
-    ensures { λ r. ⌜ r ≡ addressIn x ⌝ }
+    ensures { λ r. ⌜ r ≡ ueAddressIn x ⌝ }
 {
     match x {
         UeIp::Given(address) => address,
@@ -192,7 +192,7 @@ fn read_own(v: &[u8], group: u64, kind: u64, place: usize, row: &mut [u64]) -> V
 // Refuses the row of a group at a place without a member of type kind, and else goes by next.
 fn require(row: &[u64], cause: u64, kind: u64, place: usize, next: Verdict) -> Verdict
     requires { ⌜ length (now row) ≡ rowWidth ⌝ }
-    ensures { λ r. ⌜ r ≡ pick (eqb (word (column kind) (now (row .entry))) 0) (Refused cause kind place) next ⌝ }
+    ensures { λ r. ⌜ r ≡ pick (eqb (word (thereWord kind) (now (row .entry))) 0) (Refused cause kind place) next ⌝ }
 {
     let at = column_of(kind);
     if row[at] == 0 {

@@ -17,7 +17,7 @@ use Rattle.unit.specs.Meaning.{settingsOf}
 use Rattle.rules.specs.Elements.{fteidOctets, unitFteid, fseidOctets}
 use Rattle.rules.specs.Grants.{Kind, ofPdr, ofEndpoint, sameKind}
 use Rattle.rules.specs.Stages.{Verdict}
-use Rattle.rules.specs.Reply.{Report, Reports, noReports, element, unitElement, tunnelPart, addressPart, chosenElements, createdPdr, createdPdrContent, createdEndpoint, createdEndpointContent, created, offendingElement, nodeIdElement, unitFseid, acceptedPart, replyBody}
+use Rattle.rules.specs.Reply.{Report, Reports, noReports, element, unitElement, tunnelPart, addressPart, chosenElements, createdPdrElement, createdPdrContent, createdEndpointElement, createdEndpointContent, created, offendingElement, nodeIdElement, unitFseid, acceptedPart, replyBody}
 use Rattle.rules.specs.Types as ie
 use Rattle.rules.specs.Causes as why
 use Rattle.rules.specs.Message.{establishment, setDeletion}
@@ -91,14 +91,14 @@ module _ (s : Settings) (four : length (s .ipv4) ≤ 4) where
         address-most none = unfold addressPart in (omega arith)
         address-most (some a) = omega (arith, length-ue a)
 
-    length-pdr : (g : Report) → length (createdPdr s g) ≤ 48
-    unfolding createdPdr createdPdrContent
+    length-pdr : (g : Report) → length (createdPdrElement s g) ≤ 48
+    unfolding createdPdrElement createdPdrContent
     length-pdr g =
         rw length-element
         (omega (arith, length-append (element ie.pdrId (be 2 (g .id))) (chosenElements s g), length-element ie.pdrId (be 2 (g .id)), length-be 2 (g .id), length-chosen g))
 
-    length-endpoint : (g : Report) → length (createdEndpoint s g) ≤ 48
-    unfolding createdEndpoint createdEndpointContent
+    length-endpoint : (g : Report) → length (createdEndpointElement s g) ≤ 48
+    unfolding createdEndpointElement createdEndpointContent
     length-endpoint g =
         rw length-element
         (omega (arith, length-append (element ie.endpointId (g .id ∷ [])) (chosenElements s g), length-element ie.endpointId (g .id ∷ []), length-chosen g))
@@ -106,8 +106,8 @@ module _ (s : Settings) (four : length (s .ipv4) ≤ 4) where
     -- a report has one group, of one kind or the other
     one-group : (k : Kind) (g : Report) → length (groups ofPdr s (told k g ∷ [])) + length (groups ofEndpoint s (told k g ∷ [])) ≤ 48
     unfolding groups group reportsOf keep isTold sameKind concatMap
-    one-group ofPdr g = omega (arith, length-append (createdPdr s g) [], length-pdr g)
-    one-group ofEndpoint g = omega (arith, length-append (createdEndpoint s g) [], length-endpoint g)
+    one-group ofPdr g = omega (arith, length-append (createdPdrElement s g) [], length-pdr g)
+    one-group ofEndpoint g = omega (arith, length-append (createdEndpointElement s g) [], length-endpoint g)
 
     length-groups : (gs : List Told) → length (groups ofPdr s gs) + length (groups ofEndpoint s gs) ≤ 48 * length gs
     length-groups [] = rw (groups-none ofPdr s, groups-none ofEndpoint s) (omega arith)

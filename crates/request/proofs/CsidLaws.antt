@@ -13,15 +13,15 @@ use Rattle.octets.specs.Octets.{be, number, slices}
 use Rattle.octets.specs.Fields.{fit, fieldOctets}
 use Rattle.octets.proofs.Tests.{and-left, each}
 use Rattle.octets.proofs.Numbers.{number-be}
-use Rattle.rules.specs.Elements.{Fqcsid, sets, removal, csidsAt, csidFields, nodeOf}
+use Rattle.rules.specs.Elements.{Fqcsid, sets, removal, csidsRead, csidFields, nodeOf}
 use Rattle.rules.specs.Reading.{csidCountAllowed}
 use Rattle.rules.specs.Request.{setsCsid, clearsCsids}
 use Rattle.rules.specs.Message.{modification}
 use Rattle.plan.specs.Rows.{rowAddress}
-use Rattle.element.specs.FqCsid.{addressWidths, csidWidths, csidNumbers, addressIn, fqcsidTests, fqcsidMeant, fqcsidOf}
+use Rattle.element.specs.FqCsid.{addressWidths, csidWidths, csidNumbers, csidAddress, fqcsidTests, fqcsidMeant, fqcsidOf}
 use Rattle.element.specs.declared.fqcsid.FqCsid.{FqCsid}
 use Rattle.request.specs.Items.{csidItem, itemOf, rowItem}
-use Rattle.request.specs.Csids.{countIn, bareCsid, csidWords, csidFrom}
+use Rattle.request.specs.Csids.{csidCountFits, bareCsid, csidWords, csidTaken}
 
 -- ---- the value that a struct means
 
@@ -35,8 +35,8 @@ unfolding slices
 length-slices zero xs = refl
 length-slices (suc m) xs = ap suc (length-slices m _)
 
-count-of : (k m t : ℕ) (a xs : List ℕ) (n : ℕ) → csidCountAllowed k (csidFields m t a (csidsAt m xs) n) ≡ countIn k m
-unfolding csidCountAllowed csidFields countIn csidsAt
+count-of : (k m t : ℕ) (a xs : List ℕ) (n : ℕ) → csidCountAllowed k (csidFields m t a (csidsRead m xs) n) ≡ csidCountFits k m
+unfolding csidCountAllowed csidFields csidCountFits csidsRead
 count-of k zero t a xs n = refl
 count-of k (suc m) t a xs n = rw (length-slices (suc m) xs, ne-eqb (suc m) 0 (λ e. absurd (omega arith)))
 
@@ -53,8 +53,8 @@ unfolding csidWidths fit
 first-fits m c cs e h = ltb→lt c (256 ^ 2) (and-left (ltb c (256 ^ 2)) (fit (0 ∷ 0 ∷ 0 ∷ []) cs) (subst (λ (k : ℕ). T (fit (csidWidths k) (c ∷ cs))) e h))
 
 one-of-them : (m t : ℕ) (a : List ℕ) (c b d e n : ℕ) → m ≡ 1 → c < 256 ^ 2
-    → csidFields m t a (csidsAt m (fieldOctets (csidWidths m) (c ∷ b ∷ d ∷ e ∷ []))) n ≡ sets t a (c ∷ []) n
-unfolding csidFields csidsAt csidWidths slices fieldOctets be
+    → csidFields m t a (csidsRead m (fieldOctets (csidWidths m) (c ∷ b ∷ d ∷ e ∷ []))) n ≡ sets t a (c ∷ []) n
+unfolding csidFields csidsRead csidWidths slices fieldOctets be
 one-of-them m t a c b d e n q h = rw q (ap (λ (k : ℕ). sets t a (k ∷ []) n) (number-be 2 c h))
 
 module _ (x : FqCsid) (y : Fqcsid) (means : fqcsidOf x ≡ some y) where
@@ -73,7 +73,7 @@ module _ (x : FqCsid) (y : Fqcsid) (means : fqcsidOf x ≡ some y) where
   unfolding fqcsidTests
   meant-small = ltb→lt (x .«node_type») 16 (each (fqcsidTests x) (meant .1) .1 .1 .0)
 
-  pub meant-count : (k : ℕ) → csidCountAllowed k y ≡ countIn k (x .count)
+  pub meant-count : (k : ℕ) → csidCountAllowed k y ≡ csidCountFits k (x .count)
   meant-count k = ap (csidCountAllowed k) (sym (meant .0)) ∙ count-of k (x .count) _ _ _ _
 
   fits : T (fit (csidWidths (x .count)) (csidNumbers x))
@@ -89,13 +89,13 @@ module _ (x : FqCsid) (y : Fqcsid) (means : fqcsidOf x ≡ some y) where
   sets-one e =
       let small = first-fits (x .count) (x .«csids_1») _ e fits in
       ap (λ (a : List ℕ). sets (x .«id_type») a (x .«csids_1» ∷ []) (x .«node_type»)) (address-same (x .«id_type») (x .«address_high») (x .«address_low»))
-      ∙ sym (one-of-them (x .count) (x .«id_type») (addressIn x) _ (x .«csids_2») (x .«csids_3») (x .«csids_4») (x .«node_type») e small) ∙ meant .0
+      ∙ sym (one-of-them (x .count) (x .«id_type») (csidAddress x) _ (x .«csids_2») (x .«csids_3») (x .«csids_4») (x .«node_type») e small) ∙ meant .0
 
-  pub csid-row : (k : ℕ) → true ≡ countIn k (x .count) → rowItem (csidWords (csidFrom x)) ≡ setsCsid y
-  unfolding rowItem itemOf csidItem csidFrom rowAddress countIn
+  pub csid-row : (k : ℕ) → true ≡ csidCountFits k (x .count) → rowItem (csidWords (csidTaken x)) ≡ setsCsid y
+  unfolding rowItem itemOf csidItem csidTaken rowAddress csidCountFits
   csid-row k h = go (x .count) refl
     where
-      go : (m : ℕ) → x .count ≡ m → rowItem (csidWords (csidFrom x)) ≡ setsCsid y
+      go : (m : ℕ) → x .count ≡ m → rowItem (csidWords (csidTaken x)) ≡ setsCsid y
       go zero e = rw e (ap setsCsid (removes e))
       go (suc zero) e = rw e (ap setsCsid (sets-one e))
       go (suc (suc m)) e =
@@ -110,14 +110,14 @@ null-row = refl
 -- ---- the number of CSIDs
 
 module _ (kind m : ℕ) where
-  pub no-csids : m ≡ 0 → eqb kind modification ≡ countIn kind m
-  unfolding countIn
+  pub no-csids : m ≡ 0 → eqb kind modification ≡ csidCountFits kind m
+  unfolding csidCountFits
   no-csids e = rw e
 
-  pub one-csid : m ≡ 1 → true ≡ countIn kind m
-  unfolding countIn
+  pub one-csid : m ≡ 1 → true ≡ csidCountFits kind m
+  unfolding csidCountFits
   one-csid e = rw e
 
-  pub more-csids : (m ≡ 0 → ⊥) → (m ≡ 1 → ⊥) → false ≡ countIn kind m
-  unfolding countIn
+  pub more-csids : (m ≡ 0 → ⊥) → (m ≡ 1 → ⊥) → false ≡ csidCountFits kind m
+  unfolding csidCountFits
   more-csids a b = rw (ne-eqb m 0 a, ne-eqb m 1 b)

@@ -14,7 +14,7 @@ use Rattle.octets.specs.Lists.{member, keep}
 use Rattle.rules.specs.Elements.{Refusal, incorrect, causeOf, refuse, value, readFqcsid, Fqcsid}
 use Rattle.rules.specs.Message.{bodyPlace, elements, hasType, modification}
 use Rattle.rules.specs.Request as rules
-use Rattle.rules.specs.Reading.{Reading, done, refusal, withCsid, csidRead, aloneIn}
+use Rattle.rules.specs.Reading.{Reading, done, refusalAt, withCsid, csidRead, aloneIn}
 use Rattle.rules.specs.Request.{setsCsid, clearsCsids, withItem, withNode, pdrIn}
 use Rattle.rules.specs.Types as ie
 use Rattle.rules.specs.Causes as why
@@ -26,7 +26,7 @@ use Rattle.request.specs.declared.row.Csid.{Csid}
 use Rattle.request.specs.declared.items.Draft.{Draft}
 use Rattle.request.specs.declared.items.Step.{Step}
 use Rattle.request.specs.declared.items.Step.the-variants.{Fault, Next}
-use Rattle.request.specs.Csids.{countIn, bareCsid, csidWords, csidFrom}
+use Rattle.request.specs.Csids.{csidCountFits, bareCsid, csidWords, csidTaken}
 use Rattle.element.specs.FqCsid.{fqcsidOf}
 use Rattle.element.specs.declared.fqcsid.FqCsid.{FqCsid}
 use Rattle.request.proofs.CsidLaws.{meant-node, meant-small, meant-count, csid-row, null-row}
@@ -66,45 +66,45 @@ module _ (kind : ℕ) (alone : Bool) (p : ℕ) (v nodes words : List ℕ) (c : D
 
       -- the rules' step, by what the code tests
       value-is : (y : Fqcsid) → fqcsidOf x ≡ some y → readFqcsid v ≡ value y → {d : rules.Draft} → Means d c nodes words
-          → csidRead kind alone p v d ≡ pick (countIn kind (x .count) && not (met (x .«node_type») nodes)) (done (withCsid y d)) (refusal incorrect ie.fqcsid p)
+          → csidRead kind alone p v d ≡ pick (csidCountFits kind (x .count) && not (met (x .«node_type») nodes)) (done (withCsid y d)) (refusalAt incorrect ie.fqcsid p)
       unfolding csidRead
       value-is y q h {d} m =
           rw (← other, h)
-          (ap₂ (λ (a b : Bool). pick (a && not b) (done (withCsid y d)) (refusal incorrect ie.fqcsid p)) (meant-count x y q kind) (ap (λ (n : ℕ). member n (d .nodes)) (meant-node x y q) ∙ sym (m .seen (x .«node_type»))))
+          (ap₂ (λ (a b : Bool). pick (a && not b) (done (withCsid y d)) (refusalAt incorrect ie.fqcsid p)) (meant-count x y q kind) (ap (λ (n : ℕ). member n (d .nodes)) (meant-node x y q) ∙ sym (m .seen (x .«node_type»))))
 
-      pub csid-count : false ≡ countIn kind (x .count) → Follows (csidRead kind alone p v) c nodes words (Fault why.incorrect ie.fqcsid p) nodes words
+      pub csid-count : false ≡ csidCountFits kind (x .count) → Follows (csidRead kind alone p v) c nodes words (Fault why.incorrect ie.fqcsid p) nodes words
       unfolding causeOf
       csid-count h =
           with-value _ (λ y q e. record {
             follows = λ d m.
-                let w : csidRead kind alone p v d ≡ refusal incorrect ie.fqcsid p = value-is y q e m ∙ rw (← h) in
+                let w : csidRead kind alone p v d ≡ refusalAt incorrect ie.fqcsid p = value-is y q e m ∙ rw (← h) in
                 step-fault (ap (λ (z : Reading rules.Draft). numbered z) w);
           })
 
-      pub csid-repeat : true ≡ countIn kind (x .count) → (getD nodes (x .«node_type») 0 ≡ 0 → ⊥) → Follows (csidRead kind alone p v) c nodes words (Fault why.incorrect ie.fqcsid p) nodes words
+      pub csid-repeat : true ≡ csidCountFits kind (x .count) → (getD nodes (x .«node_type») 0 ≡ 0 → ⊥) → Follows (csidRead kind alone p v) c nodes words (Fault why.incorrect ie.fqcsid p) nodes words
       unfolding causeOf
       csid-repeat h n =
           with-value _ (λ y q e. record {
             follows = λ d m.
-                let w : csidRead kind alone p v d ≡ refusal incorrect ie.fqcsid p = value-is y q e m ∙ rw (← h, ne-eqb _ 0 n) in
+                let w : csidRead kind alone p v d ≡ refusalAt incorrect ie.fqcsid p = value-is y q e m ∙ rw (← h, ne-eqb _ 0 n) in
                 step-fault (ap (λ (z : Reading rules.Draft). numbered z) w);
           })
 
-      module _ (h : true ≡ countIn kind (x .count)) (n : getD nodes (x .«node_type») 0 ≡ 0) (wide : length nodes ≡ 16) where
+      module _ (h : true ≡ csidCountFits kind (x .count)) (n : getD nodes (x .«node_type») 0 ≡ 0) (wide : length nodes ≡ 16) where
         went-on : (y : Fqcsid) → fqcsidOf x ≡ some y → readFqcsid v ≡ value y → {d : rules.Draft} → Means d c nodes words → csidRead kind alone p v d ≡ done (withCsid y d)
         went-on y q e m = value-is y q e m ∙ rw (← h, n)
 
         low : x .«node_type» < length nodes
         low = let l = node-small in omega arith
 
-        pub csid-taken : rowWidth * c .rows + rowWidth ≤ length words → {z : Csid} {b : Draft} {words′ : List ℕ} → z ≡ csidFrom x → (b ≡ withRow false c) × (words′ ≡ put (rowWidth * c .rows) (csidWords z) words)
+        pub csid-taken : rowWidth * c .rows + rowWidth ≤ length words → {z : Csid} {b : Draft} {words′ : List ℕ} → z ≡ csidTaken x → (b ≡ withRow false c) × (words′ ≡ put (rowWidth * c .rows) (csidWords z) words)
             → Follows (csidRead kind alone p v) c nodes words (Next b) (set nodes (x .«node_type») 1) words′
         csid-taken room i to =
             rw (to .0, to .1, i)
             (with-value _ (λ y q e. record {
               follows = λ d m.
                   went (withNode (x .«node_type») (withItem (setsCsid y) d)) (went-on y q e m ∙ rw (meant-node x y q))
-                  (node-added (row-added m (setsCsid y) (csidWords (csidFrom x)) false (csid-row x y q kind h) (unfold hasRow isUpdate in refl) (unfold pdrIn in refl) refl room) (x .«node_type») low);
+                  (node-added (row-added m (setsCsid y) (csidWords (csidTaken x)) false (csid-row x y q kind h) (unfold hasRow isUpdate in refl) (unfold pdrIn in refl) refl room) (x .«node_type») low);
             }))
 
 -- ---- a null FQ-CSID that stands alone

@@ -20,7 +20,7 @@ use Rattle.rules.specs.Reading.{Reading, done}
 use Rattle.rules.specs.Request.{Item, updatesEndpoint, NewPdr, withItem, withNode, pdrIn, createsAny}
 use Rattle.plan.specs.Rows.{rowWidth}
 use Rattle.reading.specs.Verdicts.{Outcome, stopped, numbered}
-use Rattle.request.specs.Items.{rowItem, isUpdate, hasRow, met, Means, Read, Steps, withNote, withRow}
+use Rattle.request.specs.Items.{rowItem, isUpdate, hasRow, met, Means, DraftRead, Steps, withNote, withRow}
 use Rattle.request.specs.declared.items.Draft.{Draft}
 use Rattle.request.specs.declared.items.Step.the-variants.{Fault, Next}
 
@@ -35,8 +35,8 @@ step-fault {x} {c} {t} {p} e = record { fault = λ c′ t′ p′ q. e ∙ same 
     other : {d : Draft} {X : Type 0} → Fault c t p ≡ Next d → X
     other q = let z : _≡_ {A = ℕ} 0 1 = cc in absurd (omega arith)
 
-pub step-next : {x : Reading rules.Draft} {c : Draft} {nodes words : List ℕ} → Read x c nodes words → Steps x (Next c) nodes words
-step-next {x} {c} {nodes} {words} h = record { fault = λ n t p q. other q; next = λ k q. subst (λ (j : Draft). Read x j nodes words) (same q) h }
+pub step-next : {x : Reading rules.Draft} {c : Draft} {nodes words : List ℕ} → DraftRead x c nodes words → Steps x (Next c) nodes words
+step-next {x} {c} {nodes} {words} h = record { fault = λ n t p q. other q; next = λ k q. subst (λ (j : Draft). DraftRead x j nodes words) (same q) h }
   where
     same : {k : Draft} → Next c ≡ Next k → c ≡ k
     same q = cc

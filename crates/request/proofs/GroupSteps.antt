@@ -16,7 +16,7 @@ use Rattle.octets.proofs.Tests.{of-true}
 use Rattle.rules.specs.Elements.{missing, conditional}
 use Rattle.rules.specs.Message.{inside, elements}
 use Rattle.rules.specs.Reading as rules
-use Rattle.rules.specs.Reading.{Reading, faulty, done, refusal, andThen, need, Members, noMembers, membersRead, pdiRead, pdrFrom, endpointFrom, changeFrom, itemFrom, groupRead}
+use Rattle.rules.specs.Reading.{Reading, faulty, done, refusalAt, andThen, requiring, Members, noMembers, membersRead, pdiRead, pdrItem, endpointItem, changeFrom, itemFrom, groupRead}
 use Rattle.rules.specs.Request.{Item, createsPdr, createsEndpoint, updatesPdr, removesPdr, removesEndpoint, withItem, pdrIn}
 use Rattle.rules.specs.Types as ie
 use Rattle.plan.specs.Rows.{word, rowPdr, rowEndpoint, rowChange, rowLocal, rowFteid, rowUe, ueFrom, rowFar, rowAddress, present, rowWidth}
@@ -80,8 +80,8 @@ module _ (row : List ℕ) where
   abbrev made : ℕ → ℕ → ℕ → Item
   made n k s = createsPdr (record { id = k; precedence = n; far = bindOption (rowFar row) (λ f. f); source = s; local = rowLocal row; endpoint = present (word its.hasEndpointId row) (word its.endpointId row); address = rowUe row })
 
-  pdr-is : (p : ℕ) (i : Item) → pdrFrom p (rowMembers row) ≡ done i → i ≡ createsPdr (rowPdr row)
-  unfolding pdrFrom rowMembers present rowPdr
+  pdr-is : (p : ℕ) (i : Item) → pdrItem p (rowMembers row) ≡ done i → i ≡ createsPdr (rowPdr row)
+  unfolding pdrItem rowMembers present rowPdr
   pdr-is p i h =
       go (eqb (word its.hasPdi row) 1) (eqb (word its.hasPrecedence row) 1) (eqb (word its.hasPdrId row) 1) (eqb (word its.hasSource row) 1) h
       ∙ ap (λ (f : Option ℕ). createsPdr (record { id = word its.pdrId row; precedence = word its.precedence row; far = f; source = word its.source row; local = rowLocal row; endpoint = present (word its.hasEndpointId row) (word its.endpointId row); address = rowUe row })) far-same
@@ -90,7 +90,7 @@ module _ (row : List ℕ) where
       never q = let z : _≡_ {A = ℕ} 0 1 = cc in absurd (omega arith)
 
       go : (a b c e : Bool)
-          → pick a (need missing ie.precedence p (pick b (some (word its.precedence row)) none) (λ n. need missing ie.pdrId p (pick c (some (word its.pdrId row)) none) (λ k. need missing ie.sourceInterface p (pick e (some (word its.source row)) none) (λ s. done (made n k s))))) (refusal missing ie.pdi p) ≡ done i
+          → pick a (requiring missing ie.precedence p (pick b (some (word its.precedence row)) none) (λ n. requiring missing ie.pdrId p (pick c (some (word its.pdrId row)) none) (λ k. requiring missing ie.sourceInterface p (pick e (some (word its.source row)) none) (λ s. done (made n k s))))) (refusalAt missing ie.pdi p) ≡ done i
           → i ≡ made (word its.precedence row) (word its.pdrId row) (word its.source row)
       go true true true true q = cc
       go true true true false q = never q
@@ -98,22 +98,22 @@ module _ (row : List ℕ) where
       go true false c e q = never q
       go false b c e q = never q
 
-  endpoint-is : (p : ℕ) (i : Item) → endpointFrom p (rowMembers row) ≡ done i → i ≡ createsEndpoint (rowEndpoint row)
-  unfolding endpointFrom rowMembers present rowLocal rowEndpoint
+  endpoint-is : (p : ℕ) (i : Item) → endpointItem p (rowMembers row) ≡ done i → i ≡ createsEndpoint (rowEndpoint row)
+  unfolding endpointItem rowMembers present rowLocal rowEndpoint
   endpoint-is p i h = go (eqb (word its.flags row) 0) (eqb (word its.hasEndpointId row) 1) h
     where
-      go : (a b : Bool) → need conditional ie.fteid p (pick a none (some (rowFteid row))) (λ v. need missing ie.endpointId p (pick b (some (word its.endpointId row)) none) (λ k. done (createsEndpoint (record { id = k; local = v; address = rowUe row })))) ≡ done i
+      go : (a b : Bool) → requiring conditional ie.fteid p (pick a none (some (rowFteid row))) (λ v. requiring missing ie.endpointId p (pick b (some (word its.endpointId row)) none) (λ k. done (createsEndpoint (record { id = k; local = v; address = rowUe row })))) ≡ done i
           → i ≡ createsEndpoint (record { id = word its.endpointId row; local = rowFteid row; address = rowUe row })
       go true b q = let z : _≡_ {A = ℕ} 0 1 = cc in absurd (omega arith)
       go false true q = cc
       go false false q = let z : _≡_ {A = ℕ} 0 1 = cc in absurd (omega arith)
 
   -- one with a number alone
-  one-is : (make : ℕ → Item) (t a n p : ℕ) (i : Item) → need missing t p (present a n) (λ k. done (make k)) ≡ done i → i ≡ make n
+  one-is : (make : ℕ → Item) (t a n p : ℕ) (i : Item) → requiring missing t p (present a n) (λ k. done (make k)) ≡ done i → i ≡ make n
   unfolding present
   one-is make t a n p i h = go (eqb a 1) h
     where
-      go : (b : Bool) → need missing t p (pick b (some n) none) (λ k. done (make k)) ≡ done i → i ≡ make n
+      go : (b : Bool) → requiring missing t p (pick b (some n) none) (λ k. done (make k)) ≡ done i → i ≡ make n
       go true q = cc
       go false q = let z : _≡_ {A = ℕ} 0 1 = cc in absurd (omega arith)
 

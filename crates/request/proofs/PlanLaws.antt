@@ -10,11 +10,12 @@ use lib.Dec.{eqb, ltb}
 use borrow.Author.Tests.{ne-eqb, eqb-true, eqb-false, lt-ltb}
 use Rattle.octets.specs.Choice.{pick, valueOr, mapOption, consOption}
 use Rattle.octets.specs.Lists.{any, keep, collect}
+use Rattle.octets.specs.Rows.{hasTag}
 use Rattle.octets.proofs.Tests.{pick-either}
 use Rattle.rules.specs.Request as rules
-use Rattle.rules.specs.Request.{Item, createsPdr, createsEndpoint, updatesPdr, removesPdr, removesEndpoint, setsCsid, clearsCsids, updatesEndpoint, cleared, changed, pdrIn, endpointIn, changeIn, gonePdrIn, goneEndpointIn, csidIn, clears, strangeAddress, isUnsupported, restoringIn, requestOf, NewPdr, NewEndpoint}
+use Rattle.rules.specs.Request.{Item, createsPdr, createsEndpoint, updatesPdr, removesPdr, removesEndpoint, setsCsid, clearsCsids, updatesEndpoint, cleared, changed, pdrIn, endpointIn, changeIn, gonePdrIn, goneEndpointIn, csidIn, clears, strangeAddress, isUnsupported, restoringIn, requestFrom, NewPdr, NewEndpoint}
 use Rattle.rules.specs.Elements.{Fqcsid, sets, removal, ueStrange}
-use Rattle.plan.specs.Rows.{word, hasTag, tagged, rowsOf, rowPdr, rowEndpoint, rowUe, ueFrom, rowChange, rowPdi, rowStrange, rowPdrId, rowEndpointId, rowAddress, rowCsid, isNullRow, requestIn}
+use Rattle.plan.specs.Rows.{word, tagged, rowsOf, rowPdr, rowEndpoint, rowUe, ueFrom, rowChange, rowPdi, rowStrange, rowPdrId, rowEndpointId, rowAddress, rowCsid, isNullRow, requestIn}
 use Rattle.rules.specs.Types as ie
 use Rattle.plan.specs.Words as its
 use Rattle.request.specs.Items.{csidItem, itemOf, rowItem, isUpdate, hasRow, flagsOf, Means}
@@ -290,8 +291,8 @@ module _ {d : rules.Draft} {c : Draft} {nodes words : List ℕ} (m : Means d c n
   unfolding restoringIn
   restoring-same = ap (λ (n : ℕ). eqb n 2) (m .flags) ∙ flags-restore (d .restores)
 
-  pub request-same : (n : ℕ) → requestIn n (eqb (c .flags) 2) (c .noted) rows ≡ requestOf n d
-  unfolding requestIn requestOf pdrIn endpointIn changeIn gonePdrIn goneEndpointIn withPdi strangePdr strangeEndpoint
+  pub request-same : (n : ℕ) → requestIn n (eqb (c .flags) 2) (c .noted) rows ≡ requestFrom n d
+  unfolding requestIn requestFrom pdrIn endpointIn changeIn gonePdrIn goneEndpointIn withPdi strangePdr strangeEndpoint
   request-same n =
       let pdrs = sym (collect-some rowPdr (tagged ie.createPdr rows)) ∙ part pdrIn (λ row. some (rowPdr row)) 1 pdr-part refl in
       let endpoints = sym (collect-some rowEndpoint (tagged ie.createEndpoint rows)) ∙ part endpointIn (λ row. some (rowEndpoint row)) ie.createEndpoint endpoint-part refl in

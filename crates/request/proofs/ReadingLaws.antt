@@ -20,7 +20,7 @@ use Rattle.laws.proofs.CsidLaws.{only-clear}
 use Rattle.plan.specs.Rows.{rowWidth, rowsOf, tagged, rowCsid, isNullRow}
 use Rattle.rules.specs.Types as ie
 use Rattle.rules.specs.Causes as why
-use Rattle.frame.specs.Framed.{faultIn}
+use Rattle.frame.specs.Framed.{framingFault}
 use Rattle.frame.specs.declared.Framing.{Framing}
 use Rattle.frame.specs.declared.Framing.the-variants as framing
 use Rattle.reading.specs.Verdicts.{stopped, numbered}
@@ -44,9 +44,9 @@ no-rows words h = let z : _≡_ {A = ℕ} 0 1 = cc in absurd (omega arith)
 refused-whole : {msg words : List ℕ} {c t p : ℕ} → refused c t p ≡ readingOf msg → Read msg (reading.Fault c t p) words
 refused-whole {words = words} h = record { result = h; room = omega arith; onlyNull = λ e. no-rows words e }
 
-pub not-framed : (msg : List ℕ) {words : List ℕ} (f : Framing) → faultIn f ≡ frameFault msg → (t p : ℕ) → f ≡ framing.Fault t p → Read msg (reading.Fault why.wrongLength t p) words
+pub not-framed : (msg : List ℕ) {words : List ℕ} (f : Framing) → framingFault f ≡ frameFault msg → (t p : ℕ) → f ≡ framing.Fault t p → Read msg (reading.Fault why.wrongLength t p) words
 unfolding readingOf fromFraming
-not-framed msg f framed t p h = refused-whole (ap (fromFraming msg) (sym (ap faultIn h) ∙ framed))
+not-framed msg f framed t p h = refused-whole (ap (fromFraming msg) (sym (ap framingFault h) ∙ framed))
 
 module _ (msg : List ℕ) (head : SessionHeader msg) where
   abbrev tail : List ℕ
@@ -82,10 +82,10 @@ module _ (msg : List ℕ) (head : SessionHeader msg) where
           go (faulty f) h = sym cc
           go (done d) h = let z : _≡_ {A = ℕ} 0 1 = cc in absurd (omega arith)
 
-      module _ (f : Framing) (framed : faultIn f ≡ frameFault msg) (fine : f ≡ framing.Framed) where
+      module _ (f : Framing) (framed : framingFault f ≡ frameFault msg) (fine : f ≡ framing.Framed) where
         by-reading : readingOf msg ≡ resultOf (read msg)
         unfolding readingOf fromFraming
-        by-reading = ap (fromFraming msg) (sym (sym (ap faultIn fine) ∙ framed))
+        by-reading = ap (fromFraming msg) (sym (sym (ap framingFault fine) ∙ framed))
 
         pub read-refused : {exit : List ℕ} (c t p : ℕ) → r ≡ Fault c t p → Read msg (reading.Fault c t p) exit
         read-refused c t p q = refused-whole (stopped-read c t p q ∙ sym by-reading)

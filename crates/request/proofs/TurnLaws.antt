@@ -17,8 +17,8 @@ use Rattle.rules.specs.Elements.{causeOf, missing}
 use Rattle.rules.specs.Message.{bodyPlace, Element, elements, establishment}
 use Rattle.rules.specs.Request as asked
 use Rattle.rules.specs.Reading as rules
-use Rattle.rules.specs.Reading.{Reading, done, andThen, need, aloneIn, elementsRead, finished, read}
-use Rattle.rules.specs.Request.{emptyDraft, restoringIn, createsAny, requestOf}
+use Rattle.rules.specs.Reading.{Reading, done, andThen, requiring, aloneIn, elementsRead, finished, read}
+use Rattle.rules.specs.Request.{emptyDraft, restoringIn, createsAny, requestFrom}
 use Rattle.rules.specs.Types as ie
 use Rattle.rules.specs.Causes as why
 use Rattle.plan.specs.Rows.{rowWidth}
@@ -148,17 +148,17 @@ module _ {d : asked.Draft} {c : Draft} {nodes words : List ℕ} (m : Means d c n
   concluded-same kind = go (eqb kind establishment)
     where
       by-seid : (o : Option ℕ) → valueOr 0 o ≡ c .seid → SeidThere o
-          → meant (pick (eqb (c .seid) 0) (reading.Fault why.mandatoryMissing ie.fseid 0) (reading.Whole (planOf c (c .seid)))) words ≡ resultOf (need missing ie.fseid 0 o (λ n. done (requestOf n d)))
+          → meant (pick (eqb (c .seid) 0) (reading.Fault why.mandatoryMissing ie.fseid 0) (reading.Whole (planOf c (c .seid)))) words ≡ resultOf (requiring missing ie.fseid 0 o (λ n. done (requestFrom n d)))
       by-seid none e t = rw (sym e)
       by-seid (some n) e t = rw (← e, ne-eqb n 0 t) (ap whole (request-same m n))
 
       go : (b : Bool) → meant (pick b (pick (eqb (c .flags) 2 || c .creates) (pick (eqb (c .seid) 0) (reading.Fault why.mandatoryMissing ie.fseid 0) (reading.Whole (planOf c (c .seid)))) (reading.Fault why.mandatoryMissing ie.createPdr 0)) (reading.Whole (planOf c 0))) words
-          ≡ resultOf (pick b (pick (restoringIn d || createsAny (d .items)) (need missing ie.fseid 0 (d .seid) (λ n. done (requestOf n d))) (rules.refusal missing ie.createPdr 0)) (done (requestOf 0 d)))
+          ≡ resultOf (pick b (pick (restoringIn d || createsAny (d .items)) (requiring missing ie.fseid 0 (d .seid) (λ n. done (requestFrom n d))) (rules.refusalAt missing ie.createPdr 0)) (done (requestFrom 0 d)))
       go false = ap whole (request-same m 0)
       go true = ap₂ (λ (x y : Bool). meant (pick (x || y) (pick (eqb (c .seid) 0) (reading.Fault why.mandatoryMissing ie.fseid 0) (reading.Whole (planOf c (c .seid)))) (reading.Fault why.mandatoryMissing ie.createPdr 0)) words) (restoring-same m) (m .creates) ∙ by-test (restoringIn d || createsAny (d .items))
         where
           by-test : (x : Bool) → meant (pick x (pick (eqb (c .seid) 0) (reading.Fault why.mandatoryMissing ie.fseid 0) (reading.Whole (planOf c (c .seid)))) (reading.Fault why.mandatoryMissing ie.createPdr 0)) words
-              ≡ resultOf (pick x (need missing ie.fseid 0 (d .seid) (λ n. done (requestOf n d))) (rules.refusal missing ie.createPdr 0))
+              ≡ resultOf (pick x (requiring missing ie.fseid 0 (d .seid) (λ n. done (requestFrom n d))) (rules.refusalAt missing ie.createPdr 0))
           by-test true = by-seid (d .seid) (sym (m .seid)) (m .seidThere)
           by-test false = unfold causeOf in refl
 

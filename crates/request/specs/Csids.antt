@@ -22,8 +22,8 @@ use Rattle.request.specs.declared.items.Step.the-variants.{Fault, Next}
 use Rattle.request.specs.declared.row.Csid.{Csid}
 
 -- m CSIDs: m = 0 is the removal
-unfoldable pub countIn : ℕ → ℕ → Bool
-countIn kind m = pick (eqb m 0) (eqb kind modification) (eqb m 1)
+unfoldable pub csidCountFits : ℕ → ℕ → Bool
+csidCountFits kind m = pick (eqb m 0) (eqb kind modification) (eqb m 1)
 
 -- an FQ-CSID without an address and a CSID
 abbrev pub bareCsid : ℕ → ℕ → Csid
@@ -34,8 +34,8 @@ abbrev pub csidWords : Csid → List ℕ
 csidWords x = ie.fqcsid ∷ x .state ∷ 0 ∷ 0 ∷ 0 ∷ 0 ∷ 0 ∷ x .node ∷ x .«id_type» ∷ x .high ∷ x .low ∷ x .csid ∷ replicate (rowWidth - 12) 0
 
 -- the words of a value with one CSID at most
-unfoldable pub csidFrom : FqCsid → Csid
-csidFrom x =
+unfoldable pub csidTaken : FqCsid → Csid
+csidTaken x =
     pick (eqb (x .count) 0) (bareCsid 2 (x .«node_type»))
     (record { state = 1; node = x .«node_type»; «id_type» = x .«id_type»; high = x .«address_high»; low = x .«address_low»; csid = x .«csids_1» })
 

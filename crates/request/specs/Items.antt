@@ -88,7 +88,7 @@ pub record Means (d : rules.Draft) (c : Draft) (nodes words : List ℕ) : Type 0
   pub rows : map rowItem (rowsOf (c .rows) words) ≡ keep hasRow (d .items)
 
 -- a reading that went well, and what it means
-pub record Read (result : Reading rules.Draft) (c : Draft) (nodes words : List ℕ) : Type 0 where
+pub record DraftRead (result : Reading rules.Draft) (c : Draft) (nodes words : List ℕ) : Type 0 where
   pub draft : rules.Draft
   pub is : result ≡ done draft
   pub means : Means draft c nodes words
@@ -96,7 +96,7 @@ pub record Read (result : Reading rules.Draft) (c : Draft) (nodes words : List �
 -- a step of the reading: the fault that the rules find, or a draft
 pub record Steps (result : Reading rules.Draft) (r : Step) (nodes words : List ℕ) : Type 0 where
   pub fault : (c t p : ℕ) → r ≡ Fault c t p → numbered result ≡ stopped c t p
-  pub next : (c : Draft) → r ≡ Next c → Read result c nodes words
+  pub next : (c : Draft) → r ≡ Next c → DraftRead result c nodes words
 
 -- it is the rules' step from any draft that the code's means
 pub record Follows (step : rules.Draft → Reading rules.Draft) (c : Draft) (nodes words : List ℕ) (r : Step) (nodes′ words′ : List ℕ) : Type 0 where
@@ -147,7 +147,7 @@ pub record Enough (s words : List ℕ) : Type 0 where
 -- all elements: the fault that the rules find, or a draft
 pub record Ended (result : Reading rules.Draft) (c : Draft) (words : List ℕ) : Type 0 where
   pub nodes : List ℕ
-  pub read : Read result c nodes words
+  pub read : DraftRead result c nodes words
   pub room : rowWidth * c .rows ≤ length words
 
 pub record AllRead (result : Reading rules.Draft) (r : Step) (words : List ℕ) : Type 0 where

@@ -20,7 +20,7 @@ ghost use Rattle.rules.specs.Message.{modification, bodyPlace, elements};
 ghost use Rattle.rules.specs.Reading.{aloneIn, csidRead};
 ghost use Rattle.plan.specs.Rows.{rowWidth};
 ghost use Rattle.request.specs.Items.{groupTypes, groupAt, Puts, Follows, Roomy, withRow, verdictStep};
-ghost use Rattle.request.specs.Csids.{countIn, bareCsid, csidWords, csidFrom, csidRefusal};
+ghost use Rattle.request.specs.Csids.{csidCountFits, bareCsid, csidWords, csidTaken, csidRefusal};
 
 // Writes the words of a row at index at.
 fn put_words(words: &mut [u64], at: usize, row: &[u64])
@@ -108,7 +108,7 @@ fn bare(state: u64, node: u64) -> Csid
 
 // The FQ-CSID of a value with one CSID at most.
 fn csid_from(x: FqCsid) -> Csid
-    ensures { λ r. ⌜ r ≡ csidFrom x ⌝ }
+    ensures { λ r. ⌜ r ≡ csidTaken x ⌝ }
 {
     if x.count == 0 {
         return bare(2, x.node_type);
@@ -155,7 +155,7 @@ fn is_clearing(s: &[u8], v: &[u8], message: u64) -> bool
 
 // Whether so many CSIDs are allowed: one in an establishment, one or none in a modification.
 fn is_count_allowed(message: u64, count: u64) -> bool
-    ensures { λ r. ⌜ r ≡ countIn message count ⌝ }
+    ensures { λ r. ⌜ r ≡ csidCountFits message count ⌝ }
 {
     match count {
         0 => message == kinds::MODIFICATION,

@@ -15,7 +15,7 @@ use Rattle.rules.specs.Model.{Settings}
 use Rattle.rules.specs.Elements.{addressOf}
 use Rattle.rules.specs.Layout.{viewPdr, viewEndpoint, viewCsid, pdrWidth, csidWidth, endpointWidth, csidIdTypeAt}
 use Rattle.rules.specs.Restoration.{pdrElement, endpointElement, csidElement}
-use Rattle.rules.specs.Restoring.{addressTests, addressed}
+use Rattle.rules.specs.Restoring.{addressTests, senderAddressed}
 use Rattle.rules.specs.Types as ie
 use Rattle.restoration.specs.Records.{recordWidth, recordElement, recordFits}
 
@@ -94,20 +94,20 @@ address-is n a o = rw (is-true (octets a) o, nil-length a) (and-true (eqb (lengt
     and-true false = refl
 
 module _ (a b : List ℕ) (oa : T (octets a)) (ob : T (octets b)) where
-  pub address-v4 : (f : Bool) → f ≡ (eqb (length a) 0 || eqb (length a) 4) → not f ≡ true → false ≡ addressed a b
-  unfolding addressed addressTests
+  pub address-v4 : (f : Bool) → f ≡ (eqb (length a) 0 || eqb (length a) 4) → not f ≡ true → false ≡ senderAddressed a b
+  unfolding senderAddressed addressTests
   address-v4 true e z = absurd (let w : _≡_ {A = ℕ} 0 1 = cc in omega arith)
   address-v4 false e z = rw (address-is 4 a oa, ← e)
 
-  pub address-v6 : (f g : Bool) → f ≡ (eqb (length a) 0 || eqb (length a) 4) → not f ≡ false → g ≡ (eqb (length b) 0 || eqb (length b) 16) → not g ≡ true → false ≡ addressed a b
-  unfolding addressed addressTests
+  pub address-v6 : (f g : Bool) → f ≡ (eqb (length a) 0 || eqb (length a) 4) → not f ≡ false → g ≡ (eqb (length b) 0 || eqb (length b) 16) → not g ≡ true → false ≡ senderAddressed a b
+  unfolding senderAddressed addressTests
   address-v6 false g e z d y = absurd (let w : _≡_ {A = ℕ} 0 1 = cc in omega arith)
   address-v6 true true e z d y = absurd (let w : _≡_ {A = ℕ} 0 1 = cc in omega arith)
   address-v6 true false e z d y = rw (address-is 4 a oa, ← e, address-is 16 b ob, ← d)
 
   pub address-one : (f g : Bool) → f ≡ (eqb (length a) 0 || eqb (length a) 4) → not f ≡ false → g ≡ (eqb (length b) 0 || eqb (length b) 16) → not g ≡ false
-      → ltb 0 (length a + length b) ≡ addressed a b
-  unfolding addressed addressTests
+      → ltb 0 (length a + length b) ≡ senderAddressed a b
+  unfolding senderAddressed addressTests
   address-one false g e z d y = absurd (let w : _≡_ {A = ℕ} 0 1 = cc in omega arith)
   address-one true false e z d y = absurd (let w : _≡_ {A = ℕ} 0 1 = cc in omega arith)
   address-one true true e z d y = rw (address-is 4 a oa, ← e, address-is 16 b ob, ← d) (some a b)

@@ -16,7 +16,7 @@ use Rattle.octets.proofs.Put.{put-whole}
 use Rattle.rules.specs.Limits.{maxRestoration}
 use Rattle.rules.specs.Layout.{viewSettings, viewSession, viewSessions, settingsWidth}
 use Rattle.rules.specs.Sound.{sound}
-use Rattle.rules.specs.Restoring.{Writing, unwritten, addressed, restorationAt, writeInto, writeRestoration}
+use Rattle.rules.specs.Restoring.{Writing, unwritten, senderAddressed, restorationAt, writeInto, writeRestoration}
 use Rattle.rules.specs.Message.{establishment}
 use Rattle.writing.specs.Placed.{Placed}
 use Rattle.writing.specs.Heads.{messageHead}
@@ -102,7 +102,7 @@ module _ (t : List ℕ) (place : ℕ) (ipv4 ipv6 space : List ℕ) where
       unfolding writeRestoration
       answer-past r h f = rw (is-true (sound t) sound-is, sessions, le-leb n place h) (refusal 2 r f)
 
-      module _ (below : place < n) (a : Bool) (g : a ≡ addressed ipv4 ipv6) where
+      module _ (below : place < n) (a : Bool) (g : a ≡ senderAddressed ipv4 ipv6) where
         pub answer-unaddressed : (r : Answer) → not a ≡ true → (r .outcome ≡ 3) × (r .used ≡ 0) → writingOf r space ≡ answer
         unfolding writeRestoration
         answer-unaddressed r y f =
@@ -111,7 +111,7 @@ module _ (t : List ℕ) (place : ℕ) (ipv4 ipv6 space : List ℕ) where
         pub ready-now : not a ≡ false → Ready t place ipv4 ipv6
         ready-now y = record { sound = sound-is; live = (let k = sessions in omega arith); address = go a g y }
           where
-            go : (c : Bool) → c ≡ addressed ipv4 ipv6 → not c ≡ false → T (addressed ipv4 ipv6)
+            go : (c : Bool) → c ≡ senderAddressed ipv4 ipv6 → not c ≡ false → T (senderAddressed ipv4 ipv6)
             go true g′ y′ = of-true (sym g′)
             go false g′ y′ = absurd (let w : _≡_ {A = ℕ} 0 1 = cc in omega arith)
 

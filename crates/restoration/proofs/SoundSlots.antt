@@ -22,7 +22,7 @@ use Rattle.rules.specs.Layout.{pdrWidth, endpointWidth, csidWidth, sessionWidth
 use Rattle.rules.specs.Sound.{csidTests, csidAllowed, sessionAllowed, sound}
 use Rattle.rules.specs.Reply.{message}
 use Rattle.rules.specs.Restoration.{senderTests, senderAllowed, restoration}
-use Rattle.rules.specs.Restoring.{sessionAt, addressTests, addressed, senderAt, restorationAt}
+use Rattle.rules.specs.Restoring.{sessionAt, addressTests, senderAddressed, senderAt, restorationAt}
 use Rattle.rules.specs.Types as ie
 use Rattle.rules.specs.Message.{establishment}
 use Rattle.laws.proofs.MessageHeader.{message-length}
@@ -73,9 +73,9 @@ module _ (t : List ℕ) (h : T (sound t)) (place : ℕ) (live : place < length (
   pub place-fits : SlotFits slot
   place-fits = slot-fits st slot (slot-long t h place live) (rw (slot-session t h place live) (session-kept t h place live))
 
-  module _ (ipv4 ipv6 : List ℕ) (address : T (addressed ipv4 ipv6)) where
+  module _ (ipv4 ipv6 : List ℕ) (address : T (senderAddressed ipv4 ipv6)) where
     pub sender-kept : T (senderAllowed (senderAt place ipv4 ipv6))
-    unfolding senderAllowed senderTests senderAt addressed addressTests
+    unfolding senderAllowed senderTests senderAt senderAddressed addressTests
     sender-kept =
         let a = each (addressTests ipv4 ipv6) address in
         let f = few-sessions t h in

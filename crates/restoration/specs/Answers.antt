@@ -6,7 +6,7 @@ use lib.Dec.{T}
 use lib.ListN.{length}
 use Rattle.rules.specs.Layout.{viewSessions}
 use Rattle.rules.specs.Sound.{sound}
-use Rattle.rules.specs.Restoring.{Writing, addressed}
+use Rattle.rules.specs.Restoring.{Writing, senderAddressed}
 use Rattle.restoration.specs.declared.Answer.{Answer}
 
 abbrev pub writingOf : Answer → List ℕ → Writing
@@ -16,4 +16,4 @@ writingOf r space = record { outcome = r .outcome; used = r .used; space = space
 pub record Ready (t : List ℕ) (place : ℕ) (ipv4 ipv6 : List ℕ) : Type 0 where
   pub sound : T (sound t)
   pub live : place < length (viewSessions t)
-  pub address : T (addressed ipv4 ipv6)
+  pub address : T (senderAddressed ipv4 ipv6)

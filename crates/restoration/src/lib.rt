@@ -12,7 +12,7 @@ ghost use Rattle.rules.specs.Limits.{maxRestoration};
 ghost use Rattle.rules.specs.Layout.{optionRead, viewSession, viewPdr, viewEndpoint, viewCsid, pdrWidth, csidWidth, endpointWidth, csidIdTypeAt};
 ghost use Rattle.rules.specs.Reply.{element, addressPart};
 ghost use Rattle.rules.specs.Restoration.{matchElement, farElement, pdiContent, pdrElement, endpointElement, csidElement, recordElements, restoration};
-ghost use Rattle.rules.specs.Restoring.{addressed, restorationAt, writeInto, writeRestoration};
+ghost use Rattle.rules.specs.Restoring.{senderAddressed, restorationAt, writeInto, writeRestoration};
 ghost use Rattle.rules.specs.Types as ie;
 ghost use Rattle.unit.specs.Meaning.{settingsOf};
 ghost use Rattle.writing.specs.Placed.{Placed};
@@ -278,7 +278,7 @@ fn address_fits(n: usize, whole: usize) -> bool
 
 // Whether the control plane has an address: whole ones, and one at least.
 fn has_address(ipv4: &[u8], ipv6: &[u8]) -> bool
-    ensures { λ r. ⌜ r ≡ addressed (now (ipv4 .entry)) (now (ipv6 .entry)) ⌝ }
+    ensures { λ r. ⌜ r ≡ senderAddressed (now (ipv4 .entry)) (now (ipv6 .entry)) ⌝ }
 {
     if !address_fits(ipv4.len(), 4) {
         return false;

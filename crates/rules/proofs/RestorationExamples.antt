@@ -8,9 +8,9 @@ use Rattle.octets.specs.Octets.{be, sameOctets, zeros}
 use Rattle.rules.specs.Model.{Session}
 use Rattle.rules.specs.Layout.{encode}
 use Rattle.rules.specs.Reply.{element}
-use Rattle.rules.specs.Live.{accepted}
+use Rattle.rules.specs.Live.{acceptedEvent}
 use Rattle.rules.specs.Restoration.{Sender, restoration}
-use Rattle.rules.specs.Calls.{Call, request, count, tableAfterAll, eventsOf, liveAfter}
+use Rattle.rules.specs.Calls.{Call, request, count, tableAfterAll, eventsOf, liveAfterCalls}
 use Rattle.rules.proofs.Computing.{computing}
 use Rattle.rules.proofs.CallExamples.{unit, space, create, remove, own, withId, establish, modify, calls}
 
@@ -53,25 +53,25 @@ turned [] = []
 turned (x ∷ xs) = turned xs ++ x ∷ []
 
 -- which calls were accepted
-pub historyAccepted : map accepted (eventsOf (encode (unit 2 4) []) history) ≡ true ∷ false ∷ true ∷ true ∷ true ∷ false ∷ []
+pub historyAccepted : map acceptedEvent (eventsOf (encode (unit 2 4) []) history) ≡ true ∷ false ∷ true ∷ true ∷ true ∷ false ∷ []
 unfolding past
 historyAccepted = refl
 
 -- the live set is what the table holds
-pub historyLive : sameOctets (encode (unit 2 4) (liveAfter (encode (unit 2 4) []) history)) (tableAfterAll (encode (unit 2 4) []) history) ≡ true
+pub historyLive : sameOctets (encode (unit 2 4) (liveAfterCalls (encode (unit 2 4) []) history)) (tableAfterAll (encode (unit 2 4) []) history) ≡ true
 unfolding past
 historyLive = refl
 
 -- restored in either order, it is the same table
 pub historyRestored :
-    sameOctets (tableAfterAll (encode (unit 2 4) []) (restores (liveAfter (encode (unit 2 4) []) history)))
+    sameOctets (tableAfterAll (encode (unit 2 4) []) (restores (liveAfterCalls (encode (unit 2 4) []) history)))
     (tableAfterAll (encode (unit 2 4) []) history)
     ≡ true
 unfolding past
 historyRestored = refl
 
 pub historyRestoredTurned :
-    sameOctets (tableAfterAll (encode (unit 2 4) []) (restores (turned (liveAfter (encode (unit 2 4) []) history))))
+    sameOctets (tableAfterAll (encode (unit 2 4) []) (restores (turned (liveAfterCalls (encode (unit 2 4) []) history))))
     (tableAfterAll (encode (unit 2 4) []) history)
     ≡ true
 unfolding past turned

@@ -41,8 +41,8 @@ addressGot chosen ueOther = none
 unfoldable pub addressFrom : ℕ → Option UeIp → Option ℕ
 addressFrom chosen v = bindOption v (addressGot chosen)
 
-unfoldable pub createPdr : (Kind → ℕ → Got) → NewPdr → Pdr
-createPdr got p =
+unfoldable pub madePdr : (Kind → ℕ → Got) → NewPdr → Pdr
+madePdr got p =
     record {
       id = p .id;
       precedence = p .precedence;
@@ -52,8 +52,8 @@ createPdr got p =
       address = addressFrom (got ofPdr (p .id) .address) (p .address);
     }
 
-unfoldable pub createEndpoint : (Kind → ℕ → Got) → NewEndpoint → Endpoint
-createEndpoint got e =
+unfoldable pub madeEndpoint : (Kind → ℕ → Got) → NewEndpoint → Endpoint
+madeEndpoint got e =
     record { id = e .id; local = tunnelFrom (got ofEndpoint (e .id) .teid) (e .local); address = addressFrom (got ofEndpoint (e .id) .address) (e .address) }
 
 -- what an Update PDR does not name stays
@@ -61,15 +61,15 @@ unfoldable pub orOld : {A : Type 0} → A → Option A → A
 orOld a none = a
 orOld a (some b) = b
 
-unfoldable pub updatePdr : Change → Pdr → Pdr
-updatePdr c p =
+unfoldable pub changedPdr : Change → Pdr → Pdr
+changedPdr c p =
     pick (eqb (p .id) (c .id))
     (record { id = p .id; precedence = orOld (p .precedence) (c .precedence); far = orOld (p .far) (c .far); source = p .source; match = p .match; address = p .address })
     p
 
 unfoldable pub updateAll : List Change → List Pdr → List Pdr
 updateAll [] ps = ps
-updateAll (c ∷ cs) ps = updateAll cs (map (updatePdr c) ps)
+updateAll (c ∷ cs) ps = updateAll cs (map (changedPdr c) ps)
 
 -- ---- FQ-CSIDs
 
@@ -100,10 +100,10 @@ keptEndpoint gone e = not (member (e .id) gone)
 
 -- PDRs that name a removed endpoint go with it
 unfoldable pub pdrsAfter : (Kind → ℕ → Got) → Request → List Pdr → List Pdr
-pdrsAfter got r ps = updateAll (r .changes) (insertAll pdrId (map (createPdr got) (r .pdrs)) (keep (keptPdr (removedPdrs r ps)) ps))
+pdrsAfter got r ps = updateAll (r .changes) (insertAll pdrId (map (madePdr got) (r .pdrs)) (keep (keptPdr (removedPdrs r ps)) ps))
 
 unfoldable pub endpointsAfter : (Kind → ℕ → Got) → Request → List Endpoint → List Endpoint
-endpointsAfter got r es = insertAll endpointId (map (createEndpoint got) (r .endpoints)) (keep (keptEndpoint (r .goneEndpoints)) es)
+endpointsAfter got r es = insertAll endpointId (map (madeEndpoint got) (r .endpoints)) (keep (keptEndpoint (r .goneEndpoints)) es)
 
 -- removals first, then endpoints, PDRs, updates, FQ-CSIDs
 unfoldable pub apply : (Kind → ℕ → Got) → Request → Session → Session
@@ -153,5 +153,5 @@ follow got kind header r m =
     (pick (eqb kind deletion) (removeSession header m) (putSession (apply got r (atEntry kind header r m)) m))
 
 unfoldable pub computing : ℕ
-unfolding tunnelFrom namedMatch matchFrom addressGot addressFrom createPdr createEndpoint orOld updatePdr updateAll otherNode setCsid setCsids followCsids keptPdr keptEndpoint pdrsAfter endpointsAfter apply otherSession removeSession putSession covers coversSession goesSession staysSession follow
+unfolding tunnelFrom namedMatch matchFrom addressGot addressFrom madePdr madeEndpoint orOld changedPdr updateAll otherNode setCsid setCsids followCsids keptPdr keptEndpoint pdrsAfter endpointsAfter apply otherSession removeSession putSession covers coversSession goesSession staysSession follow
 computing = 0

@@ -20,10 +20,10 @@ callAllowed count = true
 callAllowed countIps = true
 
 -- the table after a call, and what the host sees of it
-unfoldable pub tableAfter : List ℕ → Call → List ℕ
-tableAfter t (request msg space) = serve t msg space .table
-tableAfter t count = t
-tableAfter t countIps = t
+unfoldable pub tableAfterCall : List ℕ → Call → List ℕ
+tableAfterCall t (request msg space) = serve t msg space .table
+tableAfterCall t count = t
+tableAfterCall t countIps = t
 
 unfoldable pub eventOf : List ℕ → Call → Event
 eventOf t (request msg space) = replied msg (serve t msg space .outcome) (serve t msg space .space)
@@ -33,16 +33,16 @@ eventOf t countIps = counted
 -- the same for calls one after the other
 unfoldable pub tableAfterAll : List ℕ → List Call → List ℕ
 tableAfterAll t [] = t
-tableAfterAll t (c ∷ cs) = tableAfterAll (tableAfter t c) cs
+tableAfterAll t (c ∷ cs) = tableAfterAll (tableAfterCall t c) cs
 
 unfoldable pub eventsOf : List ℕ → List Call → List Event
 eventsOf t [] = []
-eventsOf t (c ∷ cs) = eventOf t c ∷ eventsOf (tableAfter t c) cs
+eventsOf t (c ∷ cs) = eventOf t c ∷ eventsOf (tableAfterCall t c) cs
 
 -- the live set that calls on a table leave
-unfoldable pub liveAfter : List ℕ → List Call → Sessions
-liveAfter t cs = live (eventsOf t cs)
+unfoldable pub liveAfterCalls : List ℕ → List Call → Sessions
+liveAfterCalls t cs = live (eventsOf t cs)
 
 unfoldable pub computing : ℕ
-unfolding callAllowed tableAfter eventOf tableAfterAll eventsOf liveAfter
+unfolding callAllowed tableAfterCall eventOf tableAfterAll eventsOf liveAfterCalls
 computing = 0

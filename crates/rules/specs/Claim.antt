@@ -20,7 +20,7 @@ use Rattle.rules.specs.Model.{Settings, Session, Sessions, heldTeids, he
 use Rattle.rules.specs.Layout.{encode, viewSettings, viewSessions}
 use Rattle.rules.specs.Sound.{make, Count, free, countFree, takenMap, countAddresses, addressMap}
 use Rattle.rules.specs.Serve.{serve, Served}
-use Rattle.rules.specs.Live.{Event, replied, counted, accepted, live}
+use Rattle.rules.specs.Live.{Event, replied, counted, acceptedEvent, live}
 use Rattle.rules.specs.Restoration.{Sender, senderAllowed, restoration}
 use Rattle.rules.specs.Calls.{Call, request, count, countIps}
 
@@ -108,7 +108,7 @@ pub record Holds (s : Settings) (m : Sessions) (t : List ℕ) : Type 0 where
 
 -- restorations that ran on an empty table t₀ left the table t
 pub record Restores (t : List ℕ) (t₀ : List ℕ) (steps : List Step) : Type 0 where
-  pub each : T (all accepted (map eventIn steps))
+  pub each : T (all acceptedEvent (map eventIn steps))
   pub octetsEqual : lastTable t₀ steps ≡ t
   pub countEqual : countFree (lastTable t₀ steps) ≡ countFree t
   pub mapEqual : mapOf (lastTable t₀ steps) ≡ mapOf t

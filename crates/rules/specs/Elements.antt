@@ -99,9 +99,9 @@ unfoldable pub chooses : Fteid → Bool
 chooses (given t a b) = false
 chooses (choose v4 v6 i) = true
 
-unfoldable pub chooseId : Fteid → Option ℕ
-chooseId (given t a b) = none
-chooseId (choose v4 v6 i) = i
+unfoldable pub chooseIdOf : Fteid → Option ℕ
+chooseIdOf (given t a b) = none
+chooseIdOf (choose v4 v6 i) = i
 
 -- an address is there whole or not at all
 unfoldable pub addressOf : ℕ → List ℕ → Bool
@@ -170,10 +170,10 @@ unfoldable pub writeUeIp : UeIp → List ℕ → Written
 writeUeIp v space = writeIf (ueAllowed v) (ueOctets v) space
 
 -- the address that it gives, if any; does it choose one; is it not supported
-unfoldable pub ueAddress : UeIp → Option ℕ
-ueAddress (ueGiven a) = some a
-ueAddress ueChoose = none
-ueAddress ueOther = none
+unfoldable pub ueAddressOf : UeIp → Option ℕ
+ueAddressOf (ueGiven a) = some a
+ueAddressOf ueChoose = none
+ueAddressOf ueOther = none
 
 unfoldable pub ueChooses : UeIp → Bool
 ueChooses (ueGiven a) = false
@@ -212,8 +212,8 @@ unfoldable pub nodeTypeKept : ℕ → Bool
 nodeTypeKept n = ltb n nodeTypes
 
 -- m CSIDs of two octets
-unfoldable pub csidsAt : ℕ → List ℕ → List ℕ
-csidsAt m xs = map number (slices 2 m xs)
+unfoldable pub csidsRead : ℕ → List ℕ → List ℕ
+csidsRead m xs = map number (slices 2 m xs)
 
 -- what m, the Node-ID type t, the address and the node type n say
 unfoldable pub csidFields : ℕ → ℕ → List ℕ → List ℕ → ℕ → Fqcsid
@@ -234,7 +234,7 @@ checkedCsid m t address cs n =
 unfoldable pub csidRest : ℕ → ℕ → ℕ → List ℕ → Answer Fqcsid
 csidRest m t a xs =
     pick (ltb (length xs) (a + 2 * m + 1)) (refuse tooShort)
-    (checkedCsid m t (part 0 a xs) (csidsAt m (drop a xs)) (octetAt xs (a + 2 * m) % 16))
+    (checkedCsid m t (part 0 a xs) (csidsRead m (drop a xs)) (octetAt xs (a + 2 * m) % 16))
 
 -- 01's order: empty 68; type 69; short 68; the rest 69
 unfoldable pub readFqcsid : List ℕ → Answer Fqcsid
@@ -282,5 +282,5 @@ unfoldable pub fseidOctets : ℕ → List ℕ → List ℕ → List ℕ
 fseidOctets seid a b = (2 * flag (not (isNil a)) + flag (not (isNil b))) ∷ be 8 seid ++ (a ++ b)
 
 unfoldable pub computing : ℕ
-unfolding causeOf writeIf wrongFlags fteidLength chosenFields givenFields fteidFields readFteid hasV4 hasV6 chooses chooseId addressOf givenTests fteidAllowed fteidOctets writeFteid unitFteid ueUnsupported ueFields readUeIp ueAllowed ueOctets writeUeIp ueAddress ueChooses ueStrange addressLength operatorAllowed nodeAddressTests nodeAddressAllowed nodeTypeKept csidsAt csidFields countAllowed checkedCsid csidRest readFqcsid nodeOf below16 setsTests fqcsidAllowed fqcsidOctets writeFqcsid fseidLength seidAnswer readFseid fseidOctets
+unfolding causeOf writeIf wrongFlags fteidLength chosenFields givenFields fteidFields readFteid hasV4 hasV6 chooses chooseIdOf addressOf givenTests fteidAllowed fteidOctets writeFteid unitFteid ueUnsupported ueFields readUeIp ueAllowed ueOctets writeUeIp ueAddressOf ueChooses ueStrange addressLength operatorAllowed nodeAddressTests nodeAddressAllowed nodeTypeKept csidsRead csidFields countAllowed checkedCsid csidRest readFqcsid nodeOf below16 setsTests fqcsidAllowed fqcsidOctets writeFqcsid fseidLength seidAnswer readFseid fseidOctets
 computing = 0

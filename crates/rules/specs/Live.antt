@@ -37,12 +37,12 @@ unfoldable pub createdType : Kind → ℕ
 createdType ofPdr = 8
 createdType ofEndpoint = ie.createdEndpoint
 
-unfoldable pub idType : Kind → ℕ
-idType ofPdr = ie.pdrId
-idType ofEndpoint = ie.endpointId
+unfoldable pub idElement : Kind → ℕ
+idElement ofPdr = ie.pdrId
+idElement ofEndpoint = ie.endpointId
 
 unfoldable pub isCreated : Kind → ℕ → Element → Bool
-isCreated k i e = hasType (createdType k) e && eqb (fieldOr0 (idType k) (elements 0 (e .content))) i
+isCreated k i e = hasType (createdType k) e && eqb (fieldOr0 (idElement k) (elements 0 (e .content))) i
 
 -- the TEID of the F-TEID in a Created group
 unfoldable pub teidIn : List Element → ℕ
@@ -69,16 +69,16 @@ createdGot space k i = record { teid = createdTeid space k i; address = createdA
 -- ---- the live set
 
 -- outcome 0 and the reply's cause 1
-unfoldable pub accepted : Event → Bool
-accepted (replied msg outcome space) = eqb outcome 0 && eqb (replyCause space) 1
-accepted counted = false
+unfoldable pub acceptedEvent : Event → Bool
+acceptedEvent (replied msg outcome space) = eqb outcome 0 && eqb (replyCause space) 1
+acceptedEvent counted = false
 
 unfoldable pub followEvent : Sessions → Event → Sessions
 followEvent m (replied msg outcome space) = follow (createdGot space) (kindOf msg) (headerSeid msg) (readRequest msg) m
 followEvent m counted = m
 
 unfoldable pub liveStep : Sessions → Event → Sessions
-liveStep m e = pick (accepted e) (followEvent m e) m
+liveStep m e = pick (acceptedEvent e) (followEvent m e) m
 
 -- the live set after calls, from the one before them
 unfoldable pub liveFrom : Sessions → List Event → Sessions
@@ -90,5 +90,5 @@ unfoldable pub live : List Event → Sessions
 live es = liveFrom [] es
 
 unfoldable pub computing : ℕ
-unfolding replyIn replyElements replyCause createdType idType isCreated teidIn addressIn createdGroup createdTeid createdAddress createdGot accepted followEvent liveStep liveFrom live
+unfolding replyIn replyElements replyCause createdType idElement isCreated teidIn addressIn createdGroup createdTeid createdAddress createdGot acceptedEvent followEvent liveStep liveFrom live
 computing = 0

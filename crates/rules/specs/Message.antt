@@ -114,8 +114,8 @@ openedAtTop kind =
     pick (eqb kind establishment) (ie.createPdr ∷ ie.createEndpoint ∷ [])
     (pick (eqb kind modification) (ie.createPdr ∷ ie.createEndpoint ∷ ie.updatePdr ∷ ie.removePdr ∷ ie.removeEndpoint ∷ []) [])
 
-unfoldable pub opened : ℕ → ℕ → List ℕ
-opened kind group = pick (eqb group 0) (openedAtTop kind) (pick (eqb group ie.createPdr || eqb group ie.updatePdr) (ie.pdi ∷ []) [])
+unfoldable pub openedIn : ℕ → ℕ → List ℕ
+openedIn kind group = pick (eqb group 0) (openedAtTop kind) (pick (eqb group ie.createPdr || eqb group ie.updatePdr) (ie.pdi ∷ []) [])
 
 -- what is acted on at top level, by the kind of message; 129 is not opened, and is refused in stage 4
 unfoldable pub actedOn : ℕ → List ℕ
@@ -150,7 +150,7 @@ atMessage = spot 0 0
 unfoldable pub innerFault : (Spot → ℕ → List ℕ → Option Spot) → ℕ → Spot → ℕ → List ℕ → Option Spot
 innerFault inner kind group at xs =
     let f = inner (spot (elementType xs) at) (inside at) (part 4 (elementLength xs) xs) in
-    pick (member (elementType xs) (opened kind (group .type))) f none
+    pick (member (elementType xs) (openedIn kind (group .type))) f none
 
 -- The first fault in the elements of a group, the first of which stands at a place, at most n of them: the element that runs over, or the
 -- group where under 4 octets are left.
@@ -194,5 +194,5 @@ unfoldable pub fieldOr0 : ℕ → List Element → ℕ
 fieldOr0 t es = valueOr 0 (field t es)
 
 unfoldable pub computing : ℕ
-unfolding served kindOf seidThere headerLength firstOctetAllowed headerAllowed headerSeid sequenceOf body elementType elementLength elementsUpTo elements openedAtTop opened actedOn placesOf innerFault frameUpTo frame frameFault hasType contentOf numberWidth field fieldOr0
+unfolding served kindOf seidThere headerLength firstOctetAllowed headerAllowed headerSeid sequenceOf body elementType elementLength elementsUpTo elements openedAtTop openedIn actedOn placesOf innerFault frameUpTo frame frameFault hasType contentOf numberWidth field fieldOr0
 computing = 0

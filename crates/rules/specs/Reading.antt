@@ -13,7 +13,7 @@ use Rattle.octets.specs.Lists.{member, keep}
 use Rattle.rules.specs.Types as ie
 use Rattle.rules.specs.Elements.{Refusal, missing, conditional, tooShort, incorrect, Answer, refuse, value, Fteid, UeIp, Fqcsid, sets, removal, readFteid, readUeIp, readFqcsid, readFseid, nodeOf}
 use Rattle.rules.specs.Message.{establishment, modification, setDeletion, kindOf, headerLength, body, inside, Element, elements, actedOn, placesOf, hasType, numberWidth}
-use Rattle.rules.specs.Request.{Item, createsPdr, createsEndpoint, updatesPdr, removesPdr, removesEndpoint, setsCsid, clearsCsids, updatesEndpoint, Request, Draft, emptyDraft, withSeid, withRestores, withNode, withItem, pdrIn, endpointIn, changeIn, gonePdrIn, goneEndpointIn, csidIn, clears, strangeAddress, isUnsupported, restoringIn, requestOf, createsAny, listing}
+use Rattle.rules.specs.Request.{Item, createsPdr, createsEndpoint, updatesPdr, removesPdr, removesEndpoint, setsCsid, clearsCsids, updatesEndpoint, Request, Draft, emptyDraft, withSeid, withRestores, withNode, withItem, pdrIn, endpointIn, changeIn, gonePdrIn, goneEndpointIn, csidIn, clears, strangeAddress, isUnsupported, restoringIn, requestFrom, createsAny, listing}
 
 -- ---- what reading gives
 
@@ -28,8 +28,8 @@ pub data Reading (A : Type 0) : Type 0 where
   faulty : Fault → Reading A
   done : A → Reading A
 
-abbrev pub refusal : {A : Type 0} → Refusal → ℕ → ℕ → Reading A
-refusal c t p = faulty (record { cause = c; type = t; place = p })
+abbrev pub refusalAt : {A : Type 0} → Refusal → ℕ → ℕ → Reading A
+refusalAt c t p = faulty (record { cause = c; type = t; place = p })
 
 -- a value read, and what is read after it
 abbrev pub andThen : {A B : Type 0} → Reading A → (A → Reading B) → Reading B
@@ -38,13 +38,13 @@ andThen (done a) next = next a
 
 -- the answer on the value of an element of type t at place p
 abbrev pub named : {A : Type 0} → ℕ → ℕ → Answer A → Reading A
-named t p (refuse c) = refusal c t p
+named t p (refuse c) = refusalAt c t p
 named t p (value a) = done a
 
 -- what a group at place p requires, and what is read of it
-abbrev pub need : {A B : Type 0} → Refusal → ℕ → ℕ → Option A → (A → Reading B) → Reading B
-need c t p none next = refusal c t p
-need c t p (some a) next = next a
+abbrev pub requiring : {A B : Type 0} → Refusal → ℕ → ℕ → Option A → (A → Reading B) → Reading B
+requiring c t p none next = refusalAt c t p
+requiring c t p (some a) next = next a
 
 -- ---- groups
 
@@ -89,8 +89,8 @@ abbrev pub withAddress : UeIp → Members → Members
 withAddress v m = record { pdrId = m .pdrId; precedence = m .precedence; far = m .far; pdi = m .pdi; source = m .source; local = m .local; endpointId = m .endpointId; address = some v }
 
 -- is a member of type t there
-unfoldable pub holds : ℕ → Members → Bool
-holds t m =
+unfoldable pub memberThere : ℕ → Members → Bool
+memberThere t m =
     pick (eqb t ie.pdrId) (isSome (m .pdrId))
     (pick (eqb t ie.precedence) (isSome (m .precedence))
     (pick (eqb t ie.farId) (isSome (m .far))
@@ -101,7 +101,7 @@ holds t m =
 
 -- the number of a member with so many octets
 unfoldable pub numberRead : ℕ → ℕ → List ℕ → Reading ℕ
-numberRead t p v = pick (ltb (length v) (numberWidth t)) (refusal tooShort t p) (done (numberAt 0 (numberWidth t) v))
+numberRead t p v = pick (ltb (length v) (numberWidth t)) (refusalAt tooShort t p) (done (numberAt 0 (numberWidth t) v))
 
 -- a FAR ID of null length takes the FAR ID away, in an Update PDR
 unfoldable pub farRead : ℕ → ℕ → List ℕ → Reading (Option ℕ)
@@ -127,7 +127,7 @@ valueRead inner g t p v m =
 unfoldable pub memberRead : (ℕ → List ℕ → Members → Reading Members) → ℕ → Element → Members → Reading Members
 memberRead inner g e m =
     pick (member (e .type) (placesOf g))
-    (pick (holds (e .type) m) (refusal incorrect (e .type) (e .place)) (valueRead inner g (e .type) (e .place) (e .content) m))
+    (pick (memberThere (e .type) m) (refusalAt incorrect (e .type) (e .place)) (valueRead inner g (e .type) (e .place) (e .content) m))
     (done m)
 
 unfoldable pub membersRead : (ℕ → List ℕ → Members → Reading Members) → ℕ → List Element → Members → Reading Members
@@ -140,7 +140,7 @@ unopened p v m = done m
 
 -- a PDI, at place p, requires its Source Interface
 unfoldable pub pdiEnd : ℕ → Members → Reading Members
-pdiEnd p m = need missing ie.sourceInterface p (m .source) (λ n. done m)
+pdiEnd p m = requiring missing ie.sourceInterface p (m .source) (λ n. done m)
 
 unfoldable pub pdiRead : ℕ → List ℕ → Members → Reading Members
 pdiRead p v m = andThen (membersRead unopened ie.pdi (elements (inside p) v) m) (pdiEnd p)
@@ -148,28 +148,28 @@ pdiRead p v m = andThen (membersRead unopened ie.pdi (elements (inside p) v) m) 
 -- what the members of a group at place p make, the required ones asked for from the lowest type up
 
 -- a PDI that is there has its Source Interface
-unfoldable pub pdrFrom : ℕ → Members → Reading Item
-pdrFrom p m =
+unfoldable pub pdrItem : ℕ → Members → Reading Item
+pdrItem p m =
     pick (m .pdi)
-    (need missing ie.precedence p (m .precedence) (λ n. need missing ie.pdrId p (m .pdrId) (λ i. need missing ie.sourceInterface p (m .source) (λ c.
+    (requiring missing ie.precedence p (m .precedence) (λ n. requiring missing ie.pdrId p (m .pdrId) (λ i. requiring missing ie.sourceInterface p (m .source) (λ c.
     done (createsPdr (record { id = i; precedence = n; far = bindOption (m .far) (λ f. f); source = c; local = m .local; endpoint = m .endpointId; address = m .address }))))))
-    (refusal missing ie.pdi p)
+    (refusalAt missing ie.pdi p)
 
-unfoldable pub endpointFrom : ℕ → Members → Reading Item
-endpointFrom p m =
-    need conditional ie.fteid p (m .local) (λ v. need missing ie.endpointId p (m .endpointId) (λ i. done (createsEndpoint (record { id = i; local = v; address = m .address }))))
+unfoldable pub endpointItem : ℕ → Members → Reading Item
+endpointItem p m =
+    requiring conditional ie.fteid p (m .local) (λ v. requiring missing ie.endpointId p (m .endpointId) (λ i. done (createsEndpoint (record { id = i; local = v; address = m .address }))))
 
 unfoldable pub changeFrom : ℕ → Members → Reading Item
 changeFrom p m =
-    need missing ie.pdrId p (m .pdrId) (λ i. done (updatesPdr (record { id = i; precedence = m .precedence; far = m .far; pdi = m .pdi })))
+    requiring missing ie.pdrId p (m .pdrId) (λ i. done (updatesPdr (record { id = i; precedence = m .precedence; far = m .far; pdi = m .pdi })))
 
 unfoldable pub itemFrom : ℕ → ℕ → Members → Reading Item
 itemFrom g p m =
-    pick (eqb g ie.createPdr) (pdrFrom p m)
-    (pick (eqb g ie.createEndpoint) (endpointFrom p m)
+    pick (eqb g ie.createPdr) (pdrItem p m)
+    (pick (eqb g ie.createEndpoint) (endpointItem p m)
     (pick (eqb g ie.updatePdr) (changeFrom p m)
-    (pick (eqb g ie.removePdr) (need missing ie.pdrId p (m .pdrId) (λ i. done (removesPdr i)))
-    (need missing ie.endpointId p (m .endpointId) (λ i. done (removesEndpoint i))))))
+    (pick (eqb g ie.removePdr) (requiring missing ie.pdrId p (m .pdrId) (λ i. done (removesPdr i)))
+    (requiring missing ie.endpointId p (m .endpointId) (λ i. done (removesEndpoint i))))))
 
 -- a group of type g at place p, of value v
 unfoldable pub groupRead : ℕ → ℕ → List ℕ → Reading Item
@@ -180,7 +180,7 @@ groupRead g p v = andThen (membersRead pdiRead g (elements (inside p) v) noMembe
 -- 57 and 186 may come once; a second one stands at place p
 abbrev pub once : {A B : Type 0} → Option A → ℕ → ℕ → Reading B → Reading B
 once none t p r = r
-once (some a) t p r = refusal incorrect t p
+once (some a) t p r = refusalAt incorrect t p
 
 unfoldable pub seidRead : ℕ → List ℕ → Draft → Reading Draft
 seidRead p v d = once (d .seid) ie.fseid p (andThen (named ie.fseid p (readFseid v)) (λ n. done (withSeid n d)))
@@ -188,7 +188,7 @@ seidRead p v d = once (d .seid) ie.fseid p (andThen (named ie.fseid p (readFseid
 -- bit 1 of the flags' octet
 unfoldable pub flagsRead : ℕ → List ℕ → Draft → Reading Draft
 flagsRead p v d =
-    once (d .restores) ie.sessionFlags p (pick (ltb (length v) 1) (refusal tooShort ie.sessionFlags p) (done (withRestores (bit 0 (octetAt v 0)) d)))
+    once (d .restores) ie.sessionFlags p (pick (ltb (length v) 1) (refusalAt tooShort ie.sessionFlags p) (done (withRestores (bit 0 (octetAt v 0)) d)))
 
 -- m = 1 in an establishment, 1 or the removal in a modification
 unfoldable pub csidCountAllowed : ℕ → Fqcsid → Bool
@@ -203,7 +203,7 @@ unfoldable pub csidRead : ℕ → Bool → ℕ → List ℕ → Draft → Readin
 csidRead kind alone p v d =
     pick (isNil v && eqb kind modification && alone) (done (withItem clearsCsids d))
     (andThen (named ie.fqcsid p (readFqcsid v)) (λ c.
-    pick (csidCountAllowed kind c && not (member (nodeOf c) (d .nodes))) (done (withCsid c d)) (refusal incorrect ie.fqcsid p)))
+    pick (csidCountAllowed kind c && not (member (nodeOf c) (d .nodes))) (done (withCsid c d)) (refusalAt incorrect ie.fqcsid p)))
 
 -- an element that is acted on, of type t and value v, at place p
 unfoldable pub actedRead : ℕ → Bool → ℕ → ℕ → List ℕ → Draft → Reading Draft
@@ -227,8 +227,8 @@ elementsRead kind alone (e ∷ es) d = andThen (elementRead kind alone e d) (ele
 unfoldable pub finished : ℕ → Draft → Reading Request
 finished kind d =
     pick (eqb kind establishment)
-    (pick (restoringIn d || createsAny (d .items)) (need missing ie.fseid 0 (d .seid) (λ n. done (requestOf n d))) (refusal missing ie.createPdr 0))
-    (done (requestOf 0 d))
+    (pick (restoringIn d || createsAny (d .items)) (requiring missing ie.fseid 0 (d .seid) (λ n. done (requestFrom n d))) (refusalAt missing ie.createPdr 0))
+    (done (requestFrom 0 d))
 
 -- is there one FQ-CSID alone
 unfoldable pub aloneIn : List Element → Bool
@@ -247,7 +247,7 @@ listable (removal n) = false
 
 -- an FQ-CSID at place p
 unfoldable pub listedRead : ℕ → List ℕ → Reading Fqcsid
-listedRead p v = andThen (named ie.fqcsid p (readFqcsid v)) (λ c. pick (listable c) (done c) (refusal incorrect ie.fqcsid p))
+listedRead p v = andThen (named ie.fqcsid p (readFqcsid v)) (λ c. pick (listable c) (done c) (refusalAt incorrect ie.fqcsid p))
 
 -- all of them, in order, a node type as often as it comes; any other element is skipped
 unfoldable pub listRead : List Element → Reading (List Fqcsid)
@@ -275,12 +275,12 @@ readFault msg = faultIn (read msg)
 
 -- what it asks for: nothing where it has a fault
 unfoldable pub askedIn : Reading Request → Request
-askedIn (faulty f) = requestOf 0 emptyDraft
+askedIn (faulty f) = requestFrom 0 emptyDraft
 askedIn (done r) = r
 
 unfoldable pub readRequest : List ℕ → Request
 readRequest msg = askedIn (read msg)
 
 unfoldable pub computing : ℕ
-unfolding holds numberRead farRead pdiIn valueRead memberRead membersRead pdiEnd pdiRead pdrFrom endpointFrom changeFrom itemFrom groupRead seidRead flagsRead csidCountAllowed csidRead actedRead elementRead elementsRead pdrIn endpointIn changeIn gonePdrIn goneEndpointIn csidIn clears strangeAddress isUnsupported restoringIn requestOf createsAny finished aloneIn sessionRead listable listedRead listRead listing topRead read faultIn readFault askedIn readRequest
+unfolding memberThere numberRead farRead pdiIn valueRead memberRead membersRead pdiEnd pdiRead pdrItem endpointItem changeFrom itemFrom groupRead seidRead flagsRead csidCountAllowed csidRead actedRead elementRead elementsRead pdrIn endpointIn changeIn gonePdrIn goneEndpointIn csidIn clears strangeAddress isUnsupported restoringIn requestFrom createsAny finished aloneIn sessionRead listable listedRead listRead listing topRead read faultIn readFault askedIn readRequest
 computing = 0

@@ -95,17 +95,17 @@ chosenElements s g = tunnelPart s (g .local) ++ addressPart (g .address)
 unfoldable pub createdPdrContent : Settings → Report → List ℕ
 createdPdrContent s g = element ie.pdrId (be 2 (g .id)) ++ chosenElements s g
 
-unfoldable pub createdPdr : Settings → Report → List ℕ
-createdPdr s g = element ie.createdPdr (createdPdrContent s g)
+unfoldable pub createdPdrElement : Settings → Report → List ℕ
+createdPdrElement s g = element ie.createdPdr (createdPdrContent s g)
 
 unfoldable pub createdEndpointContent : Settings → Report → List ℕ
 createdEndpointContent s g = element ie.endpointId (g .id ∷ []) ++ chosenElements s g
 
-unfoldable pub createdEndpoint : Settings → Report → List ℕ
-createdEndpoint s g = element ie.createdEndpoint (createdEndpointContent s g)
+unfoldable pub createdEndpointElement : Settings → Report → List ℕ
+createdEndpointElement s g = element ie.createdEndpoint (createdEndpointContent s g)
 
 unfoldable pub created : Settings → Reports → List ℕ
-created s gs = concatMap (createdPdr s) (gs .pdrs) ++ concatMap (createdEndpoint s) (gs .endpoints)
+created s gs = concatMap (createdPdrElement s) (gs .pdrs) ++ concatMap (createdEndpointElement s) (gs .endpoints)
 
 unfoldable pub offendingElement : Option ℕ → List ℕ
 offendingElement none = []
@@ -140,5 +140,5 @@ reply s msg seid v gs =
     (listMessage (kindOf msg + 1) (sequenceOf msg) xs)
 
 unfoldable pub computing : ℕ
-unfolding element message listMessage unitElement tunnelPart addressPart chosenTunnel chosenIp pdrReport endpointReport somethingChosen reports chosenElements createdPdrContent createdPdr createdEndpointContent createdEndpoint created offendingElement nodeIdElement unitFseid acceptedPart replyBody replySeid reply
+unfolding element message listMessage unitElement tunnelPart addressPart chosenTunnel chosenIp pdrReport endpointReport somethingChosen reports chosenElements createdPdrContent createdPdrElement createdEndpointContent createdEndpointElement created offendingElement nodeIdElement unitFseid acceptedPart replyBody replySeid reply
 computing = 0

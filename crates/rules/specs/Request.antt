@@ -177,8 +177,8 @@ isUnsupported updatesEndpoint = true
 unfoldable pub restoringIn : Draft → Bool
 restoringIn d = valueOr false (d .restores)
 
-unfoldable pub requestOf : ℕ → Draft → Request
-requestOf n d =
+unfoldable pub requestFrom : ℕ → Draft → Request
+requestFrom n d =
     record {
       seid = n;
       restoring = restoringIn d;

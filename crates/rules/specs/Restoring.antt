@@ -22,8 +22,8 @@ sessionAt m place = getD m place (newSession 0)
 unfoldable pub addressTests : List ℕ → List ℕ → List Bool
 addressTests ipv4 ipv6 = addressOf 4 ipv4 ∷ addressOf 16 ipv6 ∷ not (isNil ipv4 && isNil ipv6) ∷ []
 
-unfoldable pub addressed : List ℕ → List ℕ → Bool
-addressed ipv4 ipv6 = allOf (addressTests ipv4 ipv6)
+unfoldable pub senderAddressed : List ℕ → List ℕ → Bool
+senderAddressed ipv4 ipv6 = allOf (addressTests ipv4 ipv6)
 
 -- header SEID 0, and the place plus 1 as the sequence number
 unfoldable pub senderAt : ℕ → List ℕ → List ℕ → Sender
@@ -53,9 +53,9 @@ unfoldable pub writeRestoration : List ℕ → ℕ → List ℕ → List ℕ →
 writeRestoration t place ipv4 ipv6 space =
     pick (not (sound t)) (unwritten 1 space)
     (pick (leb (length (viewSessions t)) place) (unwritten 2 space)
-    (pick (not (addressed ipv4 ipv6)) (unwritten 3 space)
+    (pick (not (senderAddressed ipv4 ipv6)) (unwritten 3 space)
     (writeInto (restorationAt t place ipv4 ipv6) space)))
 
 unfoldable pub computing : ℕ
-unfolding sessionAt addressTests addressed senderAt restorationAt writeInto writeRestoration
+unfolding sessionAt addressTests senderAddressed senderAt restorationAt writeInto writeRestoration
 computing = 0

@@ -11,7 +11,7 @@ use Rattle.octets.specs.Octets.{sameOctets}
 use Rattle.octets.specs.Lists.{member, anyIn, allIn, hasRepeat, without, any, allPairs, keep, findBy, collect}
 use Rattle.rules.specs.Model.{Settings, Pdr, Session, Sessions, Holding, teidOf, heldTeids, freeCount, inAddressPool, heldAddresses, freeAddresses, pdrId, endpointId, pdrEndpoint}
 use Rattle.rules.specs.Limits.{maxPdrs, maxEndpoints}
-use Rattle.rules.specs.Elements.{causeOf, Fteid, given, choose, hasV4, hasV6, chooses, chooseId, UeIp, ueGiven, ueChoose, ueOther, ueAddress, ueChooses}
+use Rattle.rules.specs.Elements.{causeOf, Fteid, given, choose, hasV4, hasV6, chooses, chooseIdOf, UeIp, ueGiven, ueChoose, ueOther, ueAddressOf, ueChooses}
 use Rattle.rules.specs.Sound.{inPool, unitFamilies, agree}
 use Rattle.rules.specs.Message.{establishment, setDeletion, kindOf, headerSeid, Spot, frameFault}
 use Rattle.rules.specs.Reading.{readFault, readRequest, Fault}
@@ -109,11 +109,11 @@ addressesOf r = collect newEndpointAddress (r .endpoints) ++ collect newPdrAddre
 -- ---- stage 4, cause 71
 
 -- without CH outside restoration, or with CH inside it
-unfoldable pub wrongAllocation : Bool → Fteid → Bool
-wrongAllocation restoring v = sameBool (chooses v) restoring
+unfoldable pub allocationWrong : Bool → Fteid → Bool
+allocationWrong restoring v = sameBool (chooses v) restoring
 
 unfoldable pub invalidAllocation : Request → Bool
-invalidAllocation r = any (wrongAllocation (r .restoring)) (fteidsOf r)
+invalidAllocation r = any (allocationWrong (r .restoring)) (fteidsOf r)
 
 -- ---- stage 4, cause 73: 01's rules in their order, without the one that 02 (ii) withdraws
 
@@ -156,7 +156,7 @@ unfoldable pub alikeFteids : Fteid → Fteid → Bool
 alikeFteids v w = sameBool (hasV4 v) (hasV4 w) && sameBool (hasV6 v) (hasV6 w)
 
 unfoldable pub fteidsMayShare : Fteid → ℕ → Fteid → ℕ → Bool
-fteidsMayShare v i w j = not (sameChoice (chooseId v) (chooseId w)) || (alikeFteids v w && eqb i j)
+fteidsMayShare v i w j = not (sameChoice (chooseIdOf v) (chooseIdOf w)) || (alikeFteids v w && eqb i j)
 
 unfoldable pub localsMayShare : Option Fteid → ℕ → Option Fteid → ℕ → Bool
 localsMayShare none i w j = true
@@ -204,7 +204,7 @@ wrongAddress s restoring ueOther = false
 
 -- the addresses of the pool that restored records take, held by another session
 unfoldable pub restoredAddresses : Settings → Request → List ℕ
-restoredAddresses s r = keep (inAddressPool s) (collect ueAddress (addressesOf r))
+restoredAddresses s r = keep (inAddressPool s) (collect ueAddressOf (addressesOf r))
 
 unfoldable pub addressClash : Settings → Sessions → Request → Bool
 addressClash s m r = anyIn (restoredAddresses s r) (heldAddresses s m)
@@ -244,14 +244,14 @@ tooManyEndpoints x r = ltb maxEndpoints (length (x .endpoints) - length (r .gone
 unfoldable pub tooFewTeids : Settings → Sessions → Request → Bool
 tooFewTeids s m r = ltb (freeCount s m) (need r)
 
-unfoldable pub noRoom : ℕ → Settings → Sessions → Session → Request → Bool
-noRoom kind s m x r = oneOf (tooManySessions s kind m ∷ tooManyPdrs x r ∷ tooManyEndpoints x r ∷ tooFewTeids s m r ∷ [])
+unfoldable pub roomLacks : ℕ → Settings → Sessions → Session → Request → Bool
+roomLacks kind s m x r = oneOf (tooManySessions s kind m ∷ tooManyPdrs x r ∷ tooManyEndpoints x r ∷ tooFewTeids s m r ∷ [])
 
 -- ---- stage 5, cause 79, after 75 (02 (v))
 
 -- some record chooses, and no address is free at entry
-unfoldable pub noAddress : Settings → Sessions → Request → Bool
-noAddress s m r = any ueChooses (addressesOf r) && isNil (freeAddresses s m)
+unfoldable pub addressLacks : Settings → Sessions → Request → Bool
+addressLacks s m r = any ueChooses (addressesOf r) && isNil (freeAddresses s m)
 
 -- ---- the verdict
 
@@ -271,8 +271,8 @@ judge kind s m x r =
     (pick (invalidAllocation r) (plain why.wrongAllocation)
     (pick (r .unsupported) (plain why.notSupported)
     (pick (breaksRule s m x r) (plain why.brokenRule)
-    (pick (noRoom kind s m x r) (plain why.noRoom)
-    (pick (noAddress s m r) (plain why.noAddress) (plain why.accepted))))))
+    (pick (roomLacks kind s m x r) (plain why.noRoom)
+    (pick (addressLacks s m r) (plain why.noAddress) (plain why.accepted))))))
 
 -- the session at entry, in a request without a fault
 unfoldable pub entrySession : Sessions → List ℕ → Session
@@ -287,17 +287,17 @@ fromReading s m msg none = judged s m msg
 fromReading s m msg (some f) = record { cause = causeOf (f .cause); offending = some (f .type); place = f .place }
 
 -- stage 2, then 3 to 6
-unfoldable pub fromFraming : Settings → Sessions → List ℕ → Option Spot → Verdict
-fromFraming s m msg none = fromReading s m msg (readFault msg)
-fromFraming s m msg (some f) = record { cause = why.wrongLength; offending = some (f .type); place = f .place }
+unfoldable pub verdictFrom : Settings → Sessions → List ℕ → Option Spot → Verdict
+verdictFrom s m msg none = fromReading s m msg (readFault msg)
+verdictFrom s m msg (some f) = record { cause = why.wrongLength; offending = some (f .type); place = f .place }
 
 -- stage 1: no such session
 unfoldable pub unknownSession : Sessions → List ℕ → Bool
 unknownSession m msg = not (unnamed (kindOf msg)) && not (isLive (headerSeid msg) m)
 
 unfoldable pub verdict : Settings → Sessions → List ℕ → Verdict
-verdict s m msg = pick (unknownSession m msg) (plain why.noSession) (fromFraming s m msg (frameFault msg))
+verdict s m msg = pick (unknownSession m msg) (plain why.noSession) (verdictFrom s m msg (frameFault msg))
 
 unfoldable pub computing : ℕ
-unfolding hasSeid sessionOf isLive newSession unnamed atEntry createdPdrs createdEndpoints updatedPdrs livePdrs liveEndpoints namesOneOf goesPdr removedPdrs fteidsOf addressesOf wrongAllocation invalidAllocation idTwice createdLive absentId updatesRemoved namesBoth endpointIdsAfter namesAbsent sameChoice alikeFteids fteidsMayShare localsMayShare choicesAgree lacksFamily otherAddress strange restoredHolding endpointRestored pdrRestored restoredHoldings clash wrongAddress restoredAddresses addressClash requestRules brokenRules breaksRule tooManySessions tooManyPdrs tooManyEndpoints tooFewTeids noRoom noAddress judge entrySession judged fromReading fromFraming unknownSession verdict
+unfolding hasSeid sessionOf isLive newSession unnamed atEntry createdPdrs createdEndpoints updatedPdrs livePdrs liveEndpoints namesOneOf goesPdr removedPdrs fteidsOf addressesOf allocationWrong invalidAllocation idTwice createdLive absentId updatesRemoved namesBoth endpointIdsAfter namesAbsent sameChoice alikeFteids fteidsMayShare localsMayShare choicesAgree lacksFamily otherAddress strange restoredHolding endpointRestored pdrRestored restoredHoldings clash wrongAddress restoredAddresses addressClash requestRules brokenRules breaksRule tooManySessions tooManyPdrs tooManyEndpoints tooFewTeids roomLacks addressLacks judge entrySession judged fromReading verdictFrom unknownSession verdict
 computing = 0

@@ -10,14 +10,15 @@ use lib.Dec.{T, eqb}
 use lib.ListN.{length}
 use Rattle.octets.specs.Choice.{pick, consOption}
 use Rattle.octets.specs.Lists.{anyIn, hasRepeat, all, any, keep, insertBy, insertAll, collect}
+use Rattle.octets.specs.Rows.{hasTag}
 use Rattle.octets.proofs.Ordered.{keep-passes}
 use Rattle.rules.specs.Model.{Pdr, Endpoint, Csid, Session, pdrId, endpointId, nodeTypeOf}
 use Rattle.rules.specs.Elements.{Fqcsid, sets, removal}
 use Rattle.rules.specs.Request.{cleared, changed}
 use Rattle.rules.specs.Grants.{Kind, Got}
 use Rattle.rules.specs.Stages.{removedPdrs}
-use Rattle.rules.specs.Apply.{createPdr, createEndpoint, updateAll, otherNode, setCsid, setCsids, followCsids, keptPdr, keptEndpoint, pdrsAfter, endpointsAfter, apply}
-use Rattle.plan.specs.Rows.{word, hasTag, tagged, rowEndpointId, rowPdr, rowEndpoint, rowChange, rowAddress, rowCsid, isNullRow, requestIn}
+use Rattle.rules.specs.Apply.{madePdr, madeEndpoint, updateAll, otherNode, setCsid, setCsids, followCsids, keptPdr, keptEndpoint, pdrsAfter, endpointsAfter, apply}
+use Rattle.plan.specs.Rows.{word, tagged, rowEndpointId, rowPdr, rowEndpoint, rowChange, rowAddress, rowCsid, isNullRow, requestIn}
 use Rattle.rules.specs.Types as ie
 use Rattle.plan.specs.Words as its
 use Rattle.areas.proofs.Places.{otherThan}
@@ -108,8 +109,8 @@ pub record Ready (got : Kind → ℕ → Got) (gone : List ℕ) (rows : List (Li
   pub endpointsNew : T (not (anyIn (map endpointId (map endpointOf (tagged ie.createEndpoint rows))) (map endpointId (x .endpoints))))
   pub pdrsOnce : T (not (hasRepeat (map pdrId (map pdrOf (tagged ie.createPdr rows)))))
   pub pdrsNew : T (not (anyIn (map pdrId (map pdrOf (tagged ie.createPdr rows))) (map pdrId (x .pdrs))))
-  pub endpointGot : map (createEndpoint got) (map rowEndpoint (tagged ie.createEndpoint rows)) ≡ map endpointOf (tagged ie.createEndpoint rows)
-  pub pdrGot : map (createPdr got) (map rowPdr (tagged ie.createPdr rows)) ≡ map pdrOf (tagged ie.createPdr rows)
+  pub endpointGot : map (madeEndpoint got) (map rowEndpoint (tagged ie.createEndpoint rows)) ≡ map endpointOf (tagged ie.createEndpoint rows)
+  pub pdrGot : map (madePdr got) (map rowPdr (tagged ie.createPdr rows)) ≡ map pdrOf (tagged ie.createPdr rows)
   pub onlyNull : any isNullRow (tagged ie.fqcsid rows) ≡ true → collect rowCsid (tagged ie.fqcsid rows) ≡ []
 
 module _ (got : Kind → ℕ → Got) (gone : List ℕ) (rows : List (List ℕ)) {x : Session} {s : List ℕ} (h : Slot x s) (k : Ready got gone rows x) where
@@ -140,13 +141,13 @@ module _ (got : Kind → ℕ → Got) (gone : List ℕ) (rows : List (List ℕ))
       subst (λ (es : List Endpoint). Slot (setEndpoints (setPdrs x keptPs) es) (passed ie.removeEndpoint rows (withoutPdrs gone s))) kept-endpoints
       (by-pass ie.removeEndpoint (withoutPdrs gone s) (endpoints-out (q ie.removeEndpoint) (tagged-tags ie.removeEndpoint rows) a))
 
-  new-endpoints : putIn endpointId (map endpointOf (q ie.createEndpoint)) keptEs ≡ insertAll endpointId (map (createEndpoint got) (map rowEndpoint (q ie.createEndpoint))) keptEs
+  new-endpoints : putIn endpointId (map endpointOf (q ie.createEndpoint)) keptEs ≡ insertAll endpointId (map (madeEndpoint got) (map rowEndpoint (q ie.createEndpoint))) keptEs
   new-endpoints =
       put-in endpointId (map endpointOf (q ie.createEndpoint)) keptEs (k .endpointsOnce)
       (none-of-kept endpointId (keptEndpoint (map rowEndpointId (q ie.removeEndpoint))) (map endpointId (map endpointOf (q ie.createEndpoint))) (x .endpoints) (k .endpointsNew))
       ∙ ap (λ (es : List Endpoint). insertAll endpointId es keptEs) (sym (k .endpointGot))
 
-  new-pdrs : putIn pdrId (map pdrOf (q ie.createPdr)) keptPs ≡ insertAll pdrId (map (createPdr got) (map rowPdr (q ie.createPdr))) keptPs
+  new-pdrs : putIn pdrId (map pdrOf (q ie.createPdr)) keptPs ≡ insertAll pdrId (map (madePdr got) (map rowPdr (q ie.createPdr))) keptPs
   new-pdrs =
       put-in pdrId (map pdrOf (q ie.createPdr)) keptPs (k .pdrsOnce)
       (none-of-kept pdrId (keptPdr gone) (map pdrId (map pdrOf (q ie.createPdr))) (x .pdrs) (k .pdrsNew))
@@ -164,7 +165,7 @@ module _ (got : Kind → ℕ → Got) (gone : List ℕ) (rows : List (List ℕ))
       subst (λ (y : Session). Slot y (passed ie.fqcsid rows (passed ie.updatePdr rows (passed ie.createPdr rows (passed ie.createEndpoint rows (passed ie.removeEndpoint rows (withoutPdrs gone s)))))))
       (λ i. record {
         seid = x .seid;
-        pdrs = updateAll (map rowChange (q ie.updatePdr)) ((new-pdrs ∙ ap (λ (g : List ℕ). insertAll pdrId (map (createPdr got) (map rowPdr (q ie.createPdr))) (keep (keptPdr g) (x .pdrs))) e) i);
+        pdrs = updateAll (map rowChange (q ie.updatePdr)) ((new-pdrs ∙ ap (λ (g : List ℕ). insertAll pdrId (map (madePdr got) (map rowPdr (q ie.createPdr))) (keep (keptPdr g) (x .pdrs))) e) i);
         endpoints = new-endpoints i;
         csids = csids-in-turn (q ie.fqcsid) (x .csids) (k .onlyNull) i;
       }) d

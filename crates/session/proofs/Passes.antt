@@ -11,11 +11,12 @@ use lib.ListN.{length, getD, length-map}
 use Rattle.octets.specs.Choice.{pick}
 use Rattle.octets.specs.Octets.{be, part}
 use Rattle.octets.specs.Lists.{all, ascending, keep, findBy, insertBy}
+use Rattle.octets.specs.Rows.{hasTag}
 use Rattle.octets.proofs.Tests.{and-left, and-right, both, all-head, all-tail, is-true, is-false, pick-either}
 use Rattle.rules.specs.Model.{Pdr, neither, Endpoint, Csid, Session, pdrId, endpointId, nodeTypeOf}
 use Rattle.rules.specs.Layout.{pdrOctets, endpointOctets, csidOctets, pdrWidth}
-use Rattle.plan.specs.Rows.{word, hasTag, tagged, rowEndpointId, rowPdr, rowEndpoint, rowChange, rowAddress}
-use Rattle.rules.specs.Apply.{createPdr, createEndpoint, orOld, updatePdr, updateAll}
+use Rattle.plan.specs.Rows.{word, tagged, rowEndpointId, rowPdr, rowEndpoint, rowChange, rowAddress}
+use Rattle.rules.specs.Apply.{madePdr, madeEndpoint, orOld, changedPdr, updateAll}
 use Rattle.rules.specs.Types as ie
 use Rattle.plan.specs.Words as its
 use Rattle.areas.specs.Records.{lookup}
@@ -24,7 +25,7 @@ use Rattle.areas.specs.declared.Lookup.the-variants.{Found, Absent}
 use Rattle.areas.proofs.Places.{otherThan, found-within, found-record, absent-record}
 use Rattle.areas.specs.Counted.{areaIn, replacedIn, atPlace, withRecord, withoutRecord, clearedIn}
 use Rattle.areas.proofs.Held.{place-held, record-held, with-passes, with-up, with-held, without-held, cleared-held, changed-held}
-use Rattle.session.specs.Areas.{pdrArea, endpointArea, csidArea}
+use Rattle.session.specs.Areas.{areaOfPdrs, areaOfEndpoints, areaOfCsids}
 use Rattle.session.specs.Records.{ifIs, rowMatch, csidRecord, updatedRecord}
 use Rattle.session.specs.Build.{withoutPdrs, updatedAt, updatedPdr, followedCsid, rowApplied, passed}
 use Rattle.session.proofs.Steps.{row-130, row-127, row-1, row-9, row-65}
@@ -73,15 +74,15 @@ same-slot {x} e h = subst (λ (l : List ℕ). Slot x l) e h
 pub pdrs-out : (is : List ℕ) {x : Session} {s : List ℕ} → Slot x s → Slot (setPdrs x (takeOut pdrId is (x .pdrs))) (withoutPdrs is s)
 unfolding withoutPdrs takeOut
 pdrs-out [] h = h
-pdrs-out (i ∷ is) h = pdrs-out is (with-pdrs h (without-held pdrOctets pdrId pdrArea pdrFits pdr-good (held-pdrs h) i))
+pdrs-out (i ∷ is) h = pdrs-out is (with-pdrs h (without-held pdrOctets pdrId areaOfPdrs pdrFits pdr-good (held-pdrs h) i))
 
 pub endpoints-out : (qs : List (List ℕ)) → T (all (hasTag ie.removeEndpoint) qs) → {x : Session} {s : List ℕ} → Slot x s → Slot (setEndpoints x (takeOut endpointId (map rowEndpointId qs) (x .endpoints))) (applied qs s)
 unfolding applied takeOut
 endpoints-out [] t h = h
 endpoints-out (row ∷ qs) t {x} {s} h =
-    let one : Slot (setEndpoints x (keep (otherThan endpointId (word its.endpointId row)) (x .endpoints))) (withoutRecord endpointArea (word its.endpointId row) s)
-    = with-endpoints h (without-held endpointOctets endpointId endpointArea endpointFits endpoint-good (held-endpoints h) (word its.endpointId row)) in
-    endpoints-out qs (all-tail (hasTag ie.removeEndpoint) row qs t) (same-slot (row-130 row s (withoutRecord endpointArea (word its.endpointId row) s) endpointArea refl (tag-is ie.removeEndpoint row (all-head (hasTag ie.removeEndpoint) row qs t)) refl) one)
+    let one : Slot (setEndpoints x (keep (otherThan endpointId (word its.endpointId row)) (x .endpoints))) (withoutRecord areaOfEndpoints (word its.endpointId row) s)
+    = with-endpoints h (without-held endpointOctets endpointId areaOfEndpoints endpointFits endpoint-good (held-endpoints h) (word its.endpointId row)) in
+    endpoints-out qs (all-tail (hasTag ie.removeEndpoint) row qs t) (same-slot (row-130 row s (withoutRecord areaOfEndpoints (word its.endpointId row) s) areaOfEndpoints refl (tag-is ie.removeEndpoint row (all-head (hasTag ie.removeEndpoint) row qs t)) refl) one)
 
 -- ---- endpoints and PDRs put in
 
@@ -102,11 +103,11 @@ endpoints-in (row ∷ qs) t {x} {s} room h =
     let small = ltb→lt (word its.endpointId row) 256 (and-right (hasTag ie.createEndpoint row) (ltb (word its.endpointId row) 256) q) in
     let e = endpointOf row in
     let long = put-long endpointId e (x .endpoints) in
-    let fits : T (endpointFits e) = unfold endpointOf createEndpoint rowEndpoint in (lt→ltb (word its.endpointId row) 256 small) in
-    let one : Slot (setEndpoints x (insertBy endpointId e (keep (otherThan endpointId (e .id)) (x .endpoints)))) (withRecord endpointArea (endpointOctets e) s)
-    = with-endpoints h (with-held endpointOctets endpointId endpointArea endpointFits endpoint-good (held-endpoints h) e fits (omega arith)) in
+    let fits : T (endpointFits e) = unfold endpointOf madeEndpoint rowEndpoint in (lt→ltb (word its.endpointId row) 256 small) in
+    let one : Slot (setEndpoints x (insertBy endpointId e (keep (otherThan endpointId (e .id)) (x .endpoints)))) (withRecord areaOfEndpoints (endpointOctets e) s)
+    = with-endpoints h (with-held endpointOctets endpointId areaOfEndpoints endpointFits endpoint-good (held-endpoints h) e fits (omega arith)) in
     endpoints-in qs (all-tail endpointRow row qs t) (omega arith)
-    (same-slot (row-127 row s (withRecord endpointArea (endpointOctets e) s) (endpointOctets e) tag (sym (endpoint-record row)) refl) one)
+    (same-slot (row-127 row s (withRecord areaOfEndpoints (endpointOctets e) s) (endpointOctets e) tag (sym (endpoint-record row)) refl) one)
 
 pub pdrs-in : (qs : List (List ℕ)) → T (all pdrRow qs) → {x : Session} {s : List ℕ} → length (x .pdrs) + length qs ≤ 16 → Slot x s
     → Slot (setPdrs x (putIn pdrId (map pdrOf qs) (x .pdrs))) (applied qs s)
@@ -119,11 +120,11 @@ pdrs-in (row ∷ qs) t {x} {s} room h =
     let kid = and-left (ltb (word its.pdrId row) 65536) (ltb (word its.source row) 256 && ltb (ifIs (rowMatch row) 2 (word its.endpointId row)) 256) k in
     let p = pdrOf row in
     let long = put-long pdrId p (x .pdrs) in
-    let fits : T (pdrFits p) = unfold pdrOf createPdr rowPdr in kid in
-    let one : Slot (setPdrs x (insertBy pdrId p (keep (otherThan pdrId (p .id)) (x .pdrs)))) (withRecord pdrArea (pdrOctets p) s)
-    = with-pdrs h (with-held pdrOctets pdrId pdrArea pdrFits pdr-good (held-pdrs h) p fits (omega arith)) in
+    let fits : T (pdrFits p) = unfold pdrOf madePdr rowPdr in kid in
+    let one : Slot (setPdrs x (insertBy pdrId p (keep (otherThan pdrId (p .id)) (x .pdrs)))) (withRecord areaOfPdrs (pdrOctets p) s)
+    = with-pdrs h (with-held pdrOctets pdrId areaOfPdrs pdrFits pdr-good (held-pdrs h) p fits (omega arith)) in
     pdrs-in qs (all-tail pdrRow row qs t) (omega arith)
-    (same-slot (row-1 row s (withRecord pdrArea (pdrOctets p) s) (pdrOctets p) tag (sym (pdr-record row)) refl) one)
+    (same-slot (row-1 row s (withRecord areaOfPdrs (pdrOctets p) s) (pdrOctets p) tag (sym (pdr-record row)) refl) one)
 
 -- ---- updates
 
@@ -137,41 +138,41 @@ find-some {A} q (y ∷ rs) r e = go (q y) refl e (λ h. find-some q rs r h)
     go false t e k = k e
 
 -- a PDR with another ID is not changed, and a change keeps the ID
-update-other : (row : List ℕ) (p : Pdr) → T (otherThan pdrId (word its.pdrId row) p) → updatePdr (rowChange row) p ≡ p
-unfolding updatePdr rowChange
+update-other : (row : List ℕ) (p : Pdr) → T (otherThan pdrId (word its.pdrId row) p) → changedPdr (rowChange row) p ≡ p
+unfolding changedPdr rowChange
 update-other row p h = rw (is-false (eqb (p .id) (word its.pdrId row)) h)
 
-update-own : (row : List ℕ) (p : Pdr) → T (eqb (p .id) (word its.pdrId row)) → updatePdr (rowChange row) p ≡ changed row p
-unfolding updatePdr rowChange changed
+update-own : (row : List ℕ) (p : Pdr) → T (eqb (p .id) (word its.pdrId row)) → changedPdr (rowChange row) p ≡ changed row p
+unfolding changedPdr rowChange changed
 update-own row p h = rw (is-true (eqb (p .id) (word its.pdrId row)) h)
 
-update-id : (row : List ℕ) (p : Pdr) → pdrId (updatePdr (rowChange row) p) ≡ pdrId p
-unfolding updatePdr
+update-id : (row : List ℕ) (p : Pdr) → pdrId (changedPdr (rowChange row) p) ≡ pdrId p
+unfolding changedPdr
 update-id row p = go (eqb (p .id) (rowChange row .id))
   where
     go : (b : Bool) → pdrId (pick {X = Pdr} b (record { id = p .id; precedence = orOld (p .precedence) (rowChange row .precedence); far = orOld (p .far) (rowChange row .far); source = p .source; match = p .match; address = p .address }) p) ≡ p .id
     go true = refl
     go false = refl
 
-update-none : (row : List ℕ) (ps : List Pdr) → findBy (λ p. eqb (pdrId p) (word its.pdrId row)) ps ≡ none → map (updatePdr (rowChange row)) ps ≡ ps
+update-none : (row : List ℕ) (ps : List Pdr) → findBy (λ p. eqb (pdrId p) (word its.pdrId row)) ps ≡ none → map (changedPdr (rowChange row)) ps ≡ ps
 unfolding findBy
 update-none row [] e = refl
 update-none row (p ∷ ps) e = go (eqb (p .id) (word its.pdrId row)) refl e (λ h. update-none row ps h)
   where
     go : (b : Bool) → eqb (p .id) (word its.pdrId row) ≡ b → pick b (some p) (findBy (λ p. eqb (pdrId p) (word its.pdrId row)) ps) ≡ none
-        → (findBy (λ p. eqb (pdrId p) (word its.pdrId row)) ps ≡ none → map (updatePdr (rowChange row)) ps ≡ ps) → map (updatePdr (rowChange row)) (p ∷ ps) ≡ p ∷ ps
+        → (findBy (λ p. eqb (pdrId p) (word its.pdrId row)) ps ≡ none → map (changedPdr (rowChange row)) ps ≡ ps) → map (changedPdr (rowChange row)) (p ∷ ps) ≡ p ∷ ps
     go true t e k = absurd (let z : _≡_ {A = ℕ} 0 1 = cc in omega arith)
     go false t e k = λ i. update-other row p (subst (λ (b : Bool). T (not b)) (sym t) tt) i ∷ k e i
 
-updated-by : (row : List ℕ) (n : ℕ) (s v : List ℕ) → updatedRecord row (part (n * pdrWidth) pdrWidth (areaIn pdrArea s)) ≡ v → updatedAt row n s ≡ replacedIn pdrArea n v s
+updated-by : (row : List ℕ) (n : ℕ) (s v : List ℕ) → updatedRecord row (part (n * pdrWidth) pdrWidth (areaIn areaOfPdrs s)) ≡ v → updatedAt row n s ≡ replacedIn areaOfPdrs n v s
 unfolding updatedAt
-updated-by row n s v e = ap (λ (u : List ℕ). replacedIn pdrArea n u s) e
+updated-by row n s v e = ap (λ (u : List ℕ). replacedIn areaOfPdrs n u s) e
 
-one-update : (row : List ℕ) {x : Session} {s : List ℕ} → Slot x s → Slot (setPdrs x (map (updatePdr (rowChange row)) (x .pdrs))) (updatedPdr row s)
+one-update : (row : List ℕ) {x : Session} {s : List ℕ} → Slot x s → Slot (setPdrs x (map (changedPdr (rowChange row)) (x .pdrs))) (updatedPdr row s)
 unfolding updatedPdr
 one-update row {x} {s} h =
-    subst (λ (q : Lookup). Slot (setPdrs x (map (updatePdr (rowChange row)) (x .pdrs))) (atPlace q (λ p. updatedAt row p s) (λ p. s)))
-    (sym (place-held pdrOctets pdrId pdrArea pdrFits pdr-good k (word its.pdrId row))) (go (lookup (word its.pdrId row) (map pdrId (x .pdrs))) refl)
+    subst (λ (q : Lookup). Slot (setPdrs x (map (changedPdr (rowChange row)) (x .pdrs))) (atPlace q (λ p. updatedAt row p s) (λ p. s)))
+    (sym (place-held pdrOctets pdrId areaOfPdrs pdrFits pdr-good k (word its.pdrId row))) (go (lookup (word its.pdrId row) (map pdrId (x .pdrs))) refl)
   where
     k : HeldPdrs (pdrPre (x .seid) (x .pdrs) (x .endpoints) (x .csids)) (pdrMid (x .seid) (x .pdrs) (x .endpoints) (x .csids)) (pdrPost (x .seid) (x .pdrs) (x .endpoints) (x .csids)) (x .pdrs) s
     k = held-pdrs h
@@ -179,16 +180,16 @@ one-update row {x} {s} h =
     d : Pdr
     d = record { id = 0; precedence = 0; far = none; source = 0; match = neither; address = none }
 
-    go : (q : Lookup) → lookup (word its.pdrId row) (map pdrId (x .pdrs)) ≡ q → Slot (setPdrs x (map (updatePdr (rowChange row)) (x .pdrs))) (atPlace q (λ p. updatedAt row p s) (λ p. s))
+    go : (q : Lookup) → lookup (word its.pdrId row) (map pdrId (x .pdrs)) ≡ q → Slot (setPdrs x (map (changedPdr (rowChange row)) (x .pdrs))) (atPlace q (λ p. updatedAt row p s) (λ p. s))
     go (Found n) e =
         let r : Pdr = getD (x .pdrs) n d in
         let own : T (eqb (pdrId r) (word its.pdrId row)) = find-some (λ p. eqb (pdrId p) (word its.pdrId row)) (x .pdrs) r (found-record pdrId (word its.pdrId row) n (x .pdrs) d e) in
-        let new : updatedRecord row (part (n * pdrWidth) pdrWidth (areaIn pdrArea s)) ≡ pdrOctets (updatePdr (rowChange row) r)
-        = ap (updatedRecord row) (record-held pdrOctets pdrId pdrArea pdrFits pdr-good k d n (found-within pdrId (word its.pdrId row) n (x .pdrs) e))
+        let new : updatedRecord row (part (n * pdrWidth) pdrWidth (areaIn areaOfPdrs s)) ≡ pdrOctets (changedPdr (rowChange row) r)
+        = ap (updatedRecord row) (record-held pdrOctets pdrId areaOfPdrs pdrFits pdr-good k d n (found-within pdrId (word its.pdrId row) n (x .pdrs) e))
         ∙ record-changed row r ∙ ap pdrOctets (sym (update-own row r own)) in
-        same-slot (sym (updated-by row n s (pdrOctets (updatePdr (rowChange row) r)) new))
+        same-slot (sym (updated-by row n s (pdrOctets (changedPdr (rowChange row) r)) new))
         (with-pdrs h
-        (changed-held pdrOctets pdrId pdrArea pdrFits pdr-good k d (word its.pdrId row) n (updatePdr (rowChange row)) (update-other row)
+        (changed-held pdrOctets pdrId areaOfPdrs pdrFits pdr-good k d (word its.pdrId row) n (changedPdr (rowChange row)) (update-other row)
         (λ r fits. subst (λ (i : ℕ). T (ltb i 65536)) (sym (update-id row r)) fits) (update-id row) e))
     go (Absent n) e =
         subst (λ (ps : List Pdr). Slot (setPdrs x ps) s)
@@ -255,22 +256,22 @@ one-csid row t {x} {s} h = go (eqb (word its.verb row) 1) refl (eqb (word its.ve
     with : List Csid
     with = insertBy nodeTypeOf (csidOf row) (keep (otherThan nodeTypeOf (word its.nodeType row)) (x .csids))
 
-    set : T (setsFit row) → Slot (setCsidsOf x with) (withRecord csidArea (csidRecord row) s)
+    set : T (setsFit row) → Slot (setCsidsOf x with) (withRecord areaOfCsids (csidRecord row) s)
     set ok′ =
         let k = held-csids h in
         let fits : T (csidFits (csidOf row)) = csid-fits row ok′ in
-        let up = with-up csidOctets nodeTypeOf csidArea csidFits csid-good k (csidOf row) fits in
-        let ok = with-passes csidOctets nodeTypeOf csidArea csidFits csid-good k (csidOf row) fits in
+        let up = with-up csidOctets nodeTypeOf areaOfCsids csidFits csid-good k (csidOf row) fits in
+        let ok = with-passes csidOctets nodeTypeOf areaOfCsids csidFits csid-good k (csidOf row) fits in
         let few = few-csids (insertBy nodeTypeOf (csidOf row) (keep (otherThan nodeTypeOf (nodeTypeOf (csidOf row))) (x .csids))) ok up in
-        same-slot (ap (λ (v : List ℕ). withRecord csidArea v s) (sym (csid-record row)))
-        (with-csids h (with-held csidOctets nodeTypeOf csidArea csidFits csid-good k (csidOf row) fits few))
+        same-slot (ap (λ (v : List ℕ). withRecord areaOfCsids v s) (sym (csid-record row)))
+        (with-csids h (with-held csidOctets nodeTypeOf areaOfCsids csidFits csid-good k (csidOf row) fits few))
 
     go : (a : Bool) → eqb (word its.verb row) 1 ≡ a → (b d : Bool)
         → Slot (setCsidsOf x (pick a with (pick b (keep (otherThan nodeTypeOf (word its.nodeType row)) (x .csids)) (pick d [] (x .csids)))))
-        (pick a (withRecord csidArea (csidRecord row) s) (pick b (withoutRecord csidArea (word its.nodeType row) s) (pick d (clearedIn csidArea s) s)))
+        (pick a (withRecord areaOfCsids (csidRecord row) s) (pick b (withoutRecord areaOfCsids (word its.nodeType row) s) (pick d (clearedIn areaOfCsids s) s)))
     go true e b d = set (sets-fit row t e)
-    go false e true d = with-csids h (without-held csidOctets nodeTypeOf csidArea csidFits csid-good (held-csids h) (word its.nodeType row))
-    go false e false true = with-csids h (cleared-held csidOctets nodeTypeOf csidArea csidFits csid-good (held-csids h))
+    go false e true d = with-csids h (without-held csidOctets nodeTypeOf areaOfCsids csidFits csid-good (held-csids h) (word its.nodeType row))
+    go false e false true = with-csids h (cleared-held csidOctets nodeTypeOf areaOfCsids csidFits csid-good (held-csids h))
     go false e false false = h
 
 pub csids-followed : (qs : List (List ℕ)) → T (all csidRow qs) → {x : Session} {s : List ℕ} → Slot x s → Slot (setCsidsOf x (csidsFrom qs (x .csids))) (applied qs s)

@@ -19,10 +19,10 @@ use Rattle.rules.specs.Model.{Tunnel, Match, Pdr, Endpoint, Csid}
 use Rattle.rules.specs.Elements.{given, choose, ueGiven, ueChoose, ueOther}
 use Rattle.rules.specs.Layout.{families, pdrWidths, endpointWidths, matchKind, matchTeid, matchFamilies, matchEndpoint, pdrNumbers, endpointNumbers, csidSlotWidths, csidSlotNumbers, pdrOctets, endpointOctets, csidOctets}
 use Rattle.rules.specs.Grants.{Kind, Got}
-use Rattle.rules.specs.Apply.{tunnelFrom, namedMatch, matchFrom, addressGot, addressFrom, createPdr, createEndpoint}
+use Rattle.rules.specs.Apply.{tunnelFrom, namedMatch, matchFrom, addressGot, addressFrom, madePdr, madeEndpoint}
 use Rattle.plan.specs.Rows.{word, present, fteidFrom, rowFteid, rowLocal, ueFrom, rowUe, rowPdr, rowEndpoint, rowAddress}
 use Rattle.plan.specs.Words as its
-use Rattle.session.specs.Records.{ifIs, addressThere, rowMatch, pdrValues, pdrRecord, endpointValues, endpointRecord, csidWidths, csidValues, csidRecord}
+use Rattle.session.specs.Records.{ifIs, addressThere, rowMatch, pdrValues, pdrRecord, endpointValues, endpointRecord, csidRecordWidths, csidValues, csidRecord}
 
 -- ---- tunnels
 
@@ -68,7 +68,7 @@ abbrev pub ofRow : List ℕ → Kind → ℕ → Got
 ofRow row k i = record { teid = word its.teid row; address = word its.ueAddress row }
 
 unfoldable pub pdrOf : List ℕ → Pdr
-pdrOf row = createPdr (ofRow row) (rowPdr row)
+pdrOf row = madePdr (ofRow row) (rowPdr row)
 
 far-numbers : (there v : ℕ) (rest : List ℕ) → ifIs there 1 1 ∷ ifIs there 1 v ∷ rest ≡ flag (isSome (present there v)) ∷ valueOr 0 (present there v) ∷ rest
 unfolding ifIs present
@@ -116,7 +116,7 @@ address-numbers row = go (eqb (word its.ueKind row) 0) refl (eqb (word its.ueKin
     go false e₀ false e₁ false e₂ = unfold addressFrom addressGot in refl
 
 pub pdr-record : (row : List ℕ) → pdrRecord row ≡ pdrOctets (pdrOf row)
-unfolding pdrRecord pdrValues pdrOctets pdrNumbers pdrOf createPdr rowPdr
+unfolding pdrRecord pdrValues pdrOctets pdrNumbers pdrOf madePdr rowPdr
 pdr-record row =
     ap (λ (l : List ℕ). fieldOctets pdrWidths (word its.pdrId row ∷ word its.precedence row ∷ l))
     (far-numbers (word its.hasFarId row) (word its.farId row) _
@@ -128,10 +128,10 @@ pdr-record row =
 -- ---- endpoint
 
 unfoldable pub endpointOf : List ℕ → Endpoint
-endpointOf row = createEndpoint (ofRow row) (rowEndpoint row)
+endpointOf row = madeEndpoint (ofRow row) (rowEndpoint row)
 
 pub endpoint-record : (row : List ℕ) → endpointRecord row ≡ endpointOctets (endpointOf row)
-unfolding endpointRecord endpointValues endpointOctets endpointNumbers endpointOf createEndpoint rowEndpoint rowTunnel
+unfolding endpointRecord endpointValues endpointOctets endpointNumbers endpointOf madeEndpoint rowEndpoint rowTunnel
 endpoint-record row =
     let e = tunnel-octets row in
     ap (λ (l : List ℕ). fieldOctets endpointWidths (word its.endpointId row ∷ word its.teid row ∷ word its.flags row % 4 ∷ l)) (address-numbers row) ∙ rw (e .1, e .0)
@@ -142,7 +142,7 @@ unfoldable pub csidOf : List ℕ → Csid
 csidOf row = record { nodeType = word its.nodeType row; idType = word its.idType row; address = rowAddress row; csid = word its.csid row }
 
 pub csid-record : (row : List ℕ) → csidRecord row ≡ csidOctets (csidOf row)
-unfolding csidRecord csidWidths csidValues csidOctets csidSlotNumbers csidOf rowAddress fieldOctets
+unfolding csidRecord csidRecordWidths csidValues csidOctets csidSlotNumbers csidOf rowAddress fieldOctets
 csid-record row = go (eqb (word its.idType row) 1)
   where
     long : List ℕ

@@ -20,7 +20,7 @@ use Rattle.rules.specs.Limits.{maxPdrs, maxEndpoints, nodeTypes}
 use Rattle.laws.proofs.LayoutLaws.{length-pdr, length-endpoint, length-csid}
 use Rattle.areas.specs.Records.{keyOf}
 use Rattle.areas.proofs.Held.{Held}
-use Rattle.session.specs.Areas.{pdrArea, endpointArea, csidArea}
+use Rattle.session.specs.Areas.{areaOfPdrs, areaOfEndpoints, areaOfCsids}
 
 -- ---- what a record has to keep, so that it has the area's width and its key in front
 
@@ -38,15 +38,15 @@ key-first : (w v : ℕ) (ws vs : List ℕ) → v < 256 ^ w → keyOf w (fieldOct
 unfolding keyOf fieldOctets
 key-first w v ws vs h = ap number (take-at (be w v) (fieldOctets ws vs) w (length-be w v)) ∙ number-be w v h
 
-pub pdr-good : (p : Pdr) → T (pdrFits p) → (length (pdrOctets p) ≡ pdrArea .width) × (keyOf (pdrArea .key) (pdrOctets p) ≡ pdrId p)
+pub pdr-good : (p : Pdr) → T (pdrFits p) → (length (pdrOctets p) ≡ areaOfPdrs .width) × (keyOf (areaOfPdrs .key) (pdrOctets p) ≡ pdrId p)
 unfolding pdrOctets pdrNumbers
 pdr-good p h = (length-pdr p, key-first 2 (p .id) _ _ (ltb→lt (p .id) 65536 h))
 
-pub endpoint-good : (e : Endpoint) → T (endpointFits e) → (length (endpointOctets e) ≡ endpointArea .width) × (keyOf (endpointArea .key) (endpointOctets e) ≡ endpointId e)
+pub endpoint-good : (e : Endpoint) → T (endpointFits e) → (length (endpointOctets e) ≡ areaOfEndpoints .width) × (keyOf (areaOfEndpoints .key) (endpointOctets e) ≡ endpointId e)
 unfolding endpointOctets endpointNumbers
 endpoint-good e h = (length-endpoint e, key-first 1 (e .id) _ _ (ltb→lt (e .id) 256 h))
 
-pub csid-good : (c : Csid) → T (csidFits c) → (length (csidOctets c) ≡ csidArea .width) × (keyOf (csidArea .key) (csidOctets c) ≡ nodeTypeOf c)
+pub csid-good : (c : Csid) → T (csidFits c) → (length (csidOctets c) ≡ areaOfCsids .width) × (keyOf (areaOfCsids .key) (csidOctets c) ≡ nodeTypeOf c)
 unfolding csidOctets csidSlotNumbers
 csid-good c h =
     let n : c .nodeType < 6 = ltb→lt (c .nodeType) 6 (and-left (ltb (c .nodeType) 6) (leb (length (c .address)) 16) h) in
@@ -55,13 +55,13 @@ csid-good c h =
 -- ---- the areas of a slot
 
 abbrev pub HeldPdrs : List ℕ → List ℕ → List ℕ → List Pdr → List ℕ → Type 0
-HeldPdrs pre mid post rs s = Held pdrOctets pdrId pdrArea pdrFits pdr-good pre mid post rs s
+HeldPdrs pre mid post rs s = Held pdrOctets pdrId areaOfPdrs pdrFits pdr-good pre mid post rs s
 
 abbrev pub HeldEndpoints : List ℕ → List ℕ → List ℕ → List Endpoint → List ℕ → Type 0
-HeldEndpoints pre mid post rs s = Held endpointOctets endpointId endpointArea endpointFits endpoint-good pre mid post rs s
+HeldEndpoints pre mid post rs s = Held endpointOctets endpointId areaOfEndpoints endpointFits endpoint-good pre mid post rs s
 
 abbrev pub HeldCsids : List ℕ → List ℕ → List ℕ → List Csid → List ℕ → Type 0
-HeldCsids pre mid post rs s = Held csidOctets nodeTypeOf csidArea csidFits csid-good pre mid post rs s
+HeldCsids pre mid post rs s = Held csidOctets nodeTypeOf areaOfCsids csidFits csid-good pre mid post rs s
 
 -- s holds the session x
 pub record Slot (x : Session) (s : List ℕ) : Type 0 where

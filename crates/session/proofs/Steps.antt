@@ -14,9 +14,10 @@ use Rattle.octets.proofs.Put.{length-part, getD-part, put-whole, drop-take}
 use Rattle.octets.specs.Choice.{pick}
 use Rattle.octets.specs.Octets.{be, part, put, zeros, slices}
 use Rattle.octets.specs.Fields.{widthOf, fieldOctets}
+use Rattle.octets.specs.Rows.{hasTag}
 use Rattle.octets.proofs.FieldLaws.{length-fieldOctets}
 use Rattle.octets.proofs.Numbers.{length-slices}
-use Rattle.plan.specs.Rows.{word, hasTag, rowWidth}
+use Rattle.plan.specs.Rows.{word, rowWidth}
 use Rattle.rules.specs.Types as ie
 use Rattle.rules.specs.Layout.{pdrWidths, endpointWidths, pdrWidth, endpointWidth, csidWidth, pdrsAt, sessionWidth, precedenceAt, farAt, farIdAt}
 use Rattle.rules.specs.Limits.{maxPdrs}
@@ -27,42 +28,42 @@ use Rattle.areas.proofs.LookupLaws.{getD-slices}
 use Rattle.areas.specs.declared.Area.{Area}
 use Rattle.areas.specs.Counted.{Fits, areaIn, placeIn, replacedIn, clearedIn, withRecord, withoutRecord}
 use Rattle.areas.proofs.Steps.{found-room}
-use Rattle.session.specs.Areas.{pdrArea, endpointArea, csidArea}
-use Rattle.session.specs.Records.{ifIs, addressThere, rowMatch, pdrValues, pdrRecord, endpointValues, endpointRecord, csidWidths, csidValues, csidRecord, withPrecedence, withFar, updatedRecord}
+use Rattle.session.specs.Areas.{areaOfPdrs, areaOfEndpoints, areaOfCsids}
+use Rattle.session.specs.Records.{ifIs, addressThere, rowMatch, pdrValues, pdrRecord, endpointValues, endpointRecord, csidRecordWidths, csidValues, csidRecord, recordWithPrecedence, recordWithFar, updatedRecord}
 use Rattle.session.specs.Build.{withoutPdrs, updatedAt, updatedPdr, followedCsid, rowApplied, passed, built}
 
 -- ---- the areas fit a slot
 
-pub pdrs-fit : (a : Area) (n : ℕ) → a ≡ pdrArea → n ≡ sessionWidth → Fits a n
+pub pdrs-fit : (a : Area) (n : ℕ) → a ≡ areaOfPdrs → n ≡ sessionWidth → Fits a n
 pdrs-fit a n e h = rw (e, h) (record { count = omega arith; narrow = omega arith; records = omega arith; keyed = omega arith; small = omega arith })
 
-pub endpoints-fit : (a : Area) (n : ℕ) → a ≡ endpointArea → n ≡ sessionWidth → Fits a n
+pub endpoints-fit : (a : Area) (n : ℕ) → a ≡ areaOfEndpoints → n ≡ sessionWidth → Fits a n
 endpoints-fit a n e h = rw (e, h) (record { count = omega arith; narrow = omega arith; records = omega arith; keyed = omega arith; small = omega arith })
 
-pub csids-fit : (a : Area) (n : ℕ) → a ≡ csidArea → n ≡ sessionWidth → Fits a n
+pub csids-fit : (a : Area) (n : ℕ) → a ≡ areaOfCsids → n ≡ sessionWidth → Fits a n
 csids-fit a n e h = rw (e, h) (record { count = omega arith; narrow = omega arith; records = omega arith; keyed = omega arith; small = omega arith })
 
 -- a record of the area's width
-pub pdr-wide : (a : Area) (n : ℕ) → a ≡ pdrArea → n ≡ pdrWidth → n ≡ a .width
+pub pdr-wide : (a : Area) (n : ℕ) → a ≡ areaOfPdrs → n ≡ pdrWidth → n ≡ a .width
 pdr-wide a n e h = rw (e, h)
 
-pub pdr-keyed : (a : Area) (n : ℕ) → a ≡ pdrArea → n ≡ pdrWidth → (0 + a .key ≤ n) × (a .key ≤ 8)
+pub pdr-keyed : (a : Area) (n : ℕ) → a ≡ areaOfPdrs → n ≡ pdrWidth → (0 + a .key ≤ n) × (a .key ≤ 8)
 pdr-keyed a n e h = rw (e, h) (omega arith, omega arith)
 
-pub pdr-room : (a : Area) (p : ℕ) → a ≡ pdrArea → p < 16 → p < a .room
+pub pdr-room : (a : Area) (p : ℕ) → a ≡ areaOfPdrs → p < 16 → p < a .room
 pdr-room a p e h = rw e h
 
-pub endpoint-wide : (a : Area) (n : ℕ) → a ≡ endpointArea → n ≡ endpointWidth → n ≡ a .width
+pub endpoint-wide : (a : Area) (n : ℕ) → a ≡ areaOfEndpoints → n ≡ endpointWidth → n ≡ a .width
 endpoint-wide a n e h = rw (e, h)
 
-pub endpoint-keyed : (a : Area) (n : ℕ) → a ≡ endpointArea → n ≡ endpointWidth → (0 + a .key ≤ n) × (a .key ≤ 8)
+pub endpoint-keyed : (a : Area) (n : ℕ) → a ≡ areaOfEndpoints → n ≡ endpointWidth → (0 + a .key ≤ n) × (a .key ≤ 8)
 endpoint-keyed a n e h = rw (e, h) (omega arith, omega arith)
 
 -- a record put into an area is put into its like
 pub put-there : (a b : Area) (r s done : List ℕ) → a ≡ b → done ≡ withRecord a r s → done ≡ withRecord b r s
 put-there a b r s done e q = q ∙ ap (λ (x : Area). withRecord x r s) e
 
-pub csid-wide : (a : Area) (n : ℕ) → a ≡ csidArea → n ≡ csidWidth → n ≡ a .width
+pub csid-wide : (a : Area) (n : ℕ) → a ≡ areaOfCsids → n ≡ csidWidth → n ≡ a .width
 csid-wide a n e h = rw (e, h)
 
 -- ---- records
@@ -99,34 +100,34 @@ there-none row g h = sym (rw (ne-eqb (word its.ueKind row) 1 g, ne-eqb (word its
 
 pub csid-long : (row s out : List ℕ) → csidWidth ≡ length s → word its.idType row ≡ 1
     → out ≡ put 0 (fieldOctets (1 ∷ 1 ∷ 8 ∷ 8 ∷ 0 ∷ 2 ∷ []) (word its.nodeType row ∷ word its.idType row ∷ word its.addressHigh row ∷ word its.addressLow row ∷ 0 ∷ word its.csid row ∷ [])) s → out ≡ csidRecord row
-unfolding csidRecord csidWidths csidValues
+unfolding csidRecord csidRecordWidths csidValues
 csid-long row s out long e q = written-whole _ _ s out refl long q ∙ rw (eq-eqb _ _ e)
 
 pub csid-short : (row s out : List ℕ) → csidWidth ≡ length s → (word its.idType row ≡ 1 → ⊥)
     → out ≡ put 0 (fieldOctets (1 ∷ 1 ∷ 4 ∷ 8 ∷ 4 ∷ 2 ∷ []) (word its.nodeType row ∷ word its.idType row ∷ word its.addressLow row ∷ 0 ∷ 0 ∷ word its.csid row ∷ [])) s → out ≡ csidRecord row
-unfolding csidRecord csidWidths csidValues
+unfolding csidRecord csidRecordWidths csidValues
 csid-short row s out long e q = written-whole _ _ s out refl long q ∙ rw (ne-eqb _ _ e)
 
 -- ---- updates
 
-pub precedence-set : (row s out : List ℕ) → word its.hasPrecedence row ≡ 1 → out ≡ put precedenceAt (be 4 (word its.precedence row)) s → out ≡ withPrecedence row s
-unfolding withPrecedence
+pub precedence-set : (row s out : List ℕ) → word its.hasPrecedence row ≡ 1 → out ≡ put precedenceAt (be 4 (word its.precedence row)) s → out ≡ recordWithPrecedence row s
+unfolding recordWithPrecedence
 precedence-set row s out e q = q ∙ rw (eq-eqb _ _ e)
 
-pub precedence-kept : (row s : List ℕ) → (word its.hasPrecedence row ≡ 1 → ⊥) → s ≡ withPrecedence row s
-unfolding withPrecedence
+pub precedence-kept : (row s : List ℕ) → (word its.hasPrecedence row ≡ 1 → ⊥) → s ≡ recordWithPrecedence row s
+unfolding recordWithPrecedence
 precedence-kept row s e = rw (ne-eqb _ _ e)
 
-pub far-set : (row s mid out : List ℕ) → word its.hasFarId row ≡ 1 → mid ≡ put farAt (be 1 1) s → out ≡ put farIdAt (be 4 (word its.farId row)) mid → out ≡ withFar row s
-unfolding withFar
+pub far-set : (row s mid out : List ℕ) → word its.hasFarId row ≡ 1 → mid ≡ put farAt (be 1 1) s → out ≡ put farIdAt (be 4 (word its.farId row)) mid → out ≡ recordWithFar row s
+unfolding recordWithFar
 far-set row s mid out e m q = q ∙ rw (m, eq-eqb _ _ e)
 
-pub far-gone : (row s out : List ℕ) → (word its.hasFarId row ≡ 1 → ⊥) → word its.hasFarId row ≡ 2 → out ≡ put farAt (zeros 5) s → out ≡ withFar row s
-unfolding withFar
+pub far-gone : (row s out : List ℕ) → (word its.hasFarId row ≡ 1 → ⊥) → word its.hasFarId row ≡ 2 → out ≡ put farAt (zeros 5) s → out ≡ recordWithFar row s
+unfolding recordWithFar
 far-gone row s out n e q = q ∙ rw (ne-eqb _ _ n, eq-eqb _ _ e)
 
-pub far-kept : (row s : List ℕ) → (word its.hasFarId row ≡ 1 → ⊥) → (word its.hasFarId row ≡ 2 → ⊥) → s ≡ withFar row s
-unfolding withFar
+pub far-kept : (row s : List ℕ) → (word its.hasFarId row ≡ 1 → ⊥) → (word its.hasFarId row ≡ 2 → ⊥) → s ≡ recordWithFar row s
+unfolding recordWithFar
 far-kept row s n m = rw (ne-eqb _ _ n, ne-eqb _ _ m)
 
 -- a part of a part
@@ -138,8 +139,8 @@ part-part at n i k s h =
     ∙ take-take k (n - i) (drop i (drop at s)) (omega arith)
     ∙ ap (take k) (drop-drop i at s)
 
-pub updated-at : (row s fresh rec mid new done : List ℕ) (p end : ℕ) (a : Area) → length s ≡ sessionWidth → p < 16 → a ≡ pdrArea → length fresh ≡ pdrWidth → end ≡ pdrsAt + p * pdrWidth + pdrWidth
-    → rec ≡ put 0 (take (end - (pdrsAt + p * pdrWidth)) (drop (pdrsAt + p * pdrWidth) s)) fresh → mid ≡ withPrecedence row rec → new ≡ withFar row mid → done ≡ replacedIn a p new s
+pub updated-at : (row s fresh rec mid new done : List ℕ) (p end : ℕ) (a : Area) → length s ≡ sessionWidth → p < 16 → a ≡ areaOfPdrs → length fresh ≡ pdrWidth → end ≡ pdrsAt + p * pdrWidth + pdrWidth
+    → rec ≡ put 0 (take (end - (pdrsAt + p * pdrWidth)) (drop (pdrsAt + p * pdrWidth) s)) fresh → mid ≡ recordWithPrecedence row rec → new ≡ recordWithFar row mid → done ≡ replacedIn a p new s
     → done ≡ updatedAt row p s
 unfolding updatedAt updatedRecord areaIn
 updated-at row s fresh rec mid new done p end a long less ea lf ee er em en ed =
@@ -147,30 +148,30 @@ updated-at row s fresh rec mid new done p end a long less ea lf ee er em en ed =
     let whole : rec ≡ part (pdrsAt + p * pdrWidth) pdrWidth s = er ∙ rw e (put-whole (part (pdrsAt + p * pdrWidth) pdrWidth s) fresh (length-part (pdrsAt + p * pdrWidth) pdrWidth s (omega arith) ∙ sym lf)) in
     ed ∙ rw (ea, en, em, whole, ← part-part pdrsAt (maxPdrs * pdrWidth) (p * pdrWidth) pdrWidth s (omega arith))
 
-pub update-place : (row s : List ℕ) (a : Area) (place : Lookup) (p : ℕ) → a ≡ pdrArea → place ≡ placeIn a (word its.pdrId row) s → place ≡ Found p → p < 16
+pub update-place : (row s : List ℕ) (a : Area) (place : Lookup) (p : ℕ) → a ≡ areaOfPdrs → place ≡ placeIn a (word its.pdrId row) s → place ≡ Found p → p < 16
 update-place row s a place p ea e f =
-    let h = found-room pdrArea s (word its.pdrId row) p (rw ea at (sym e ∙ f)) in
+    let h = found-room areaOfPdrs s (word its.pdrId row) p (rw ea at (sym e ∙ f)) in
     omega (arith, h .0, h .1)
 
-pub update-found : (row s done : List ℕ) (a : Area) (place : Lookup) (p : ℕ) → a ≡ pdrArea → place ≡ placeIn a (word its.pdrId row) s → place ≡ Found p → done ≡ updatedAt row p s → done ≡ updatedPdr row s
+pub update-found : (row s done : List ℕ) (a : Area) (place : Lookup) (p : ℕ) → a ≡ areaOfPdrs → place ≡ placeIn a (word its.pdrId row) s → place ≡ Found p → done ≡ updatedAt row p s → done ≡ updatedPdr row s
 unfolding updatedPdr
 update-found row s done a place p ea e f d = d ∙ rw (← ea, ← e, f)
 
-pub update-none : (row s : List ℕ) (a : Area) (place : Lookup) (p : ℕ) → a ≡ pdrArea → place ≡ placeIn a (word its.pdrId row) s → place ≡ Absent p → s ≡ updatedPdr row s
+pub update-none : (row s : List ℕ) (a : Area) (place : Lookup) (p : ℕ) → a ≡ areaOfPdrs → place ≡ placeIn a (word its.pdrId row) s → place ≡ Absent p → s ≡ updatedPdr row s
 unfolding updatedPdr
 update-none row s a place p ea e f = rw (← ea, ← e, f)
 
 -- ---- FQ-CSIDs
 
-pub csid-set : (row s rec done : List ℕ) (a : Area) → a ≡ csidArea → word its.verb row ≡ 1 → rec ≡ csidRecord row → done ≡ withRecord a rec s → done ≡ followedCsid row s
+pub csid-set : (row s rec done : List ℕ) (a : Area) → a ≡ areaOfCsids → word its.verb row ≡ 1 → rec ≡ csidRecord row → done ≡ withRecord a rec s → done ≡ followedCsid row s
 unfolding followedCsid
 csid-set row s rec done a ea e r d = d ∙ rw (ea, r, eq-eqb _ _ e)
 
-pub csid-removed : (row s done : List ℕ) (a : Area) → a ≡ csidArea → (word its.verb row ≡ 1 → ⊥) → word its.verb row ≡ 2 → done ≡ withoutRecord a (word its.nodeType row) s → done ≡ followedCsid row s
+pub csid-removed : (row s done : List ℕ) (a : Area) → a ≡ areaOfCsids → (word its.verb row ≡ 1 → ⊥) → word its.verb row ≡ 2 → done ≡ withoutRecord a (word its.nodeType row) s → done ≡ followedCsid row s
 unfolding followedCsid
 csid-removed row s done a ea n e d = d ∙ rw (ea, ne-eqb _ _ n, eq-eqb _ _ e)
 
-pub csids-cleared : (row s done : List ℕ) (a : Area) → a ≡ csidArea → (word its.verb row ≡ 1 → ⊥) → (word its.verb row ≡ 2 → ⊥) → word its.verb row ≡ 3 → done ≡ clearedIn a s → done ≡ followedCsid row s
+pub csids-cleared : (row s done : List ℕ) (a : Area) → a ≡ areaOfCsids → (word its.verb row ≡ 1 → ⊥) → (word its.verb row ≡ 2 → ⊥) → word its.verb row ≡ 3 → done ≡ clearedIn a s → done ≡ followedCsid row s
 unfolding followedCsid
 csids-cleared row s done a ea n m e d = d ∙ rw (ea, ne-eqb _ _ n, ne-eqb _ _ m, eq-eqb _ _ e)
 
@@ -180,15 +181,15 @@ csids-kept row s n m k = rw (ne-eqb _ _ n, ne-eqb _ _ m, ne-eqb _ _ k)
 
 -- ---- rows
 
-pub row-130 : (row s done : List ℕ) (a : Area) → a ≡ endpointArea → word its.tag row ≡ ie.removeEndpoint → done ≡ withoutRecord a (word its.endpointId row) s → done ≡ rowApplied row s
+pub row-130 : (row s done : List ℕ) (a : Area) → a ≡ areaOfEndpoints → word its.tag row ≡ ie.removeEndpoint → done ≡ withoutRecord a (word its.endpointId row) s → done ≡ rowApplied row s
 unfolding rowApplied
 row-130 row s done a ea e d = d ∙ rw (ea, e)
 
-pub row-127 : (row s done rec : List ℕ) → word its.tag row ≡ ie.createEndpoint → rec ≡ endpointRecord row → done ≡ withRecord endpointArea rec s → done ≡ rowApplied row s
+pub row-127 : (row s done rec : List ℕ) → word its.tag row ≡ ie.createEndpoint → rec ≡ endpointRecord row → done ≡ withRecord areaOfEndpoints rec s → done ≡ rowApplied row s
 unfolding rowApplied
 row-127 row s done rec e r d = d ∙ rw (e, r)
 
-pub row-1 : (row s done rec : List ℕ) → word its.tag row ≡ ie.createPdr → rec ≡ pdrRecord row → done ≡ withRecord pdrArea rec s → done ≡ rowApplied row s
+pub row-1 : (row s done rec : List ℕ) → word its.tag row ≡ ie.createPdr → rec ≡ pdrRecord row → done ≡ withRecord areaOfPdrs rec s → done ≡ rowApplied row s
 unfolding rowApplied
 row-1 row s done rec e r d = d ∙ rw (e, r)
 
@@ -217,7 +218,7 @@ module _ {ids s₀ : List ℕ} where
   pub dropping-none : length s₀ ≡ sessionWidth → Dropping ids s₀ s₀ 0
   dropping-none e = record { within = omega arith; size = e; long = refl; rest = refl }
 
-  pub dropping-more : {s : List ℕ} {i : ℕ} → Dropping ids s₀ s i → i < length ids → (a : Area) (s′ : List ℕ) → a ≡ pdrArea → length s′ ≡ length s → s′ ≡ withoutRecord a (getD ids i 0) s
+  pub dropping-more : {s : List ℕ} {i : ℕ} → Dropping ids s₀ s i → i < length ids → (a : Area) (s′ : List ℕ) → a ≡ areaOfPdrs → length s′ ≡ length s → s′ ≡ withoutRecord a (getD ids i 0) s
       → Dropping ids s₀ s′ (i + 1)
   unfolding withoutPdrs
   dropping-more {s} {i} p less a s′ ea l e =

@@ -21,7 +21,7 @@ use Rattle.laws.proofs.LayoutLaws.{length-pdr}
 use Rattle.rules.specs.Apply.{orOld}
 use Rattle.plan.specs.Rows.{word, present, rowFar, rowChange}
 use Rattle.plan.specs.Words as its
-use Rattle.session.specs.Records.{withPrecedence, withFar, updatedRecord}
+use Rattle.session.specs.Records.{recordWithPrecedence, recordWithFar, updatedRecord}
 
 -- a PDR with what a row names replaced
 unfoldable pub changed : List ℕ → Pdr → Pdr
@@ -44,8 +44,8 @@ put-far i n f g s q u =
     ∙ put-field 3 pdrWidths (set (pdrNumbers (pdr-fields i n f s q u)) 2 (flag (isSome g))) (valueOr 0 g) (lit< tt) refl
 
 precedence-changed : (row : List ℕ) (i n : ℕ) (f : Option ℕ) (s : ℕ) (q : Match) (u : Option ℕ)
-    → withPrecedence row (pdrOctets (pdr-fields i n f s q u)) ≡ pdrOctets (pdr-fields i (orOld n (rowChange row .precedence)) f s q u)
-unfolding withPrecedence rowChange present
+    → recordWithPrecedence row (pdrOctets (pdr-fields i n f s q u)) ≡ pdrOctets (pdr-fields i (orOld n (rowChange row .precedence)) f s q u)
+unfolding recordWithPrecedence rowChange present
 precedence-changed row i n f s q u = go (eqb (word its.hasPrecedence row) 1)
   where
     go : (b : Bool) → pick b (put precedenceAt (be 4 (word its.precedence row)) (pdrOctets (pdr-fields i n f s q u))) (pdrOctets (pdr-fields i n f s q u)) ≡ pdrOctets (pdr-fields i (orOld n (pick b (some (word its.precedence row)) none)) f s q u)
@@ -64,8 +64,8 @@ far-none t h =
     ap (λ (l : List ℕ). put farAt l t) e ∙ sym (put-put farAt 1 (be 1 0) (be 4 0) t (length-be 1 0) h)
 
 far-changed : (row : List ℕ) (i n : ℕ) (f : Option ℕ) (s : ℕ) (q : Match) (u : Option ℕ)
-    → withFar row (pdrOctets (pdr-fields i n f s q u)) ≡ pdrOctets (pdr-fields i n (orOld f (rowChange row .far)) s q u)
-unfolding withFar rowChange rowFar
+    → recordWithFar row (pdrOctets (pdr-fields i n f s q u)) ≡ pdrOctets (pdr-fields i n (orOld f (rowChange row .far)) s q u)
+unfolding recordWithFar rowChange rowFar
 far-changed row i n f s q u = go (eqb (word its.hasFarId row) 1) (eqb (word its.hasFarId row) 2) (not-both (word its.hasFarId row))
   where
     t : List ℕ
@@ -82,5 +82,5 @@ far-changed row i n f s q u = go (eqb (word its.hasFarId row) 1) (eqb (word its.
 pub record-changed : (row : List ℕ) (p : Pdr) → updatedRecord row (pdrOctets p) ≡ pdrOctets (changed row p)
 unfolding updatedRecord changed pdr-fields
 record-changed row p =
-    ap (withFar row) (precedence-changed row (p .id) (p .precedence) (p .far) (p .source) (p .match) (p .address))
+    ap (recordWithFar row) (precedence-changed row (p .id) (p .precedence) (p .far) (p .source) (p .match) (p .address))
     ∙ far-changed row (p .id) (orOld (p .precedence) (rowChange row .precedence)) (p .far) (p .source) (p .match) (p .address)

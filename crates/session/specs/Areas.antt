@@ -5,14 +5,14 @@ use Rattle.areas.specs.declared.Area.{Area}
 use Rattle.rules.specs.Layout.{settingsWidth, pdrWidth, csidWidth, endpointsAt, csidsAt, sessionWidth, pdrCountAt, endpointCountAt, csidCountAt, endpointWidth, pdrsAt}
 use Rattle.rules.specs.Limits.{maxPdrs, maxEndpoints, nodeTypes}
 
-abbrev pub pdrArea : Area
-pdrArea = record { «count_at» = pdrCountAt; «count_width» = 1; at = pdrsAt; room = maxPdrs; width = pdrWidth; key = 2 }
+abbrev pub areaOfPdrs : Area
+areaOfPdrs = record { «count_at» = pdrCountAt; «count_width» = 1; at = pdrsAt; room = maxPdrs; width = pdrWidth; key = 2 }
 
-abbrev pub endpointArea : Area
-endpointArea = record { «count_at» = endpointCountAt; «count_width» = 1; at = endpointsAt; room = maxEndpoints; width = endpointWidth; key = 1 }
+abbrev pub areaOfEndpoints : Area
+areaOfEndpoints = record { «count_at» = endpointCountAt; «count_width» = 1; at = endpointsAt; room = maxEndpoints; width = endpointWidth; key = 1 }
 
-abbrev pub csidArea : Area
-csidArea = record { «count_at» = csidCountAt; «count_width» = 1; at = csidsAt; room = nodeTypes; width = csidWidth; key = 1 }
+abbrev pub areaOfCsids : Area
+areaOfCsids = record { «count_at» = csidCountAt; «count_width» = 1; at = csidsAt; room = nodeTypes; width = csidWidth; key = 1 }
 
 -- sessions: their number at the base, and room for so many after it
 abbrev pub sessionArea : ℕ → ℕ → Area

@@ -60,8 +60,8 @@ endpointRecord row = fieldOctets endpointWidths (endpointValues row)
 -- ---- FQ-CSID
 
 -- the address fills 16 octets, or four and zeros
-unfoldable pub csidWidths : ℕ → List ℕ
-csidWidths t = pick (eqb t 1) (1 ∷ 1 ∷ 8 ∷ 8 ∷ 0 ∷ 2 ∷ []) (1 ∷ 1 ∷ 4 ∷ 8 ∷ 4 ∷ 2 ∷ [])
+unfoldable pub csidRecordWidths : ℕ → List ℕ
+csidRecordWidths t = pick (eqb t 1) (1 ∷ 1 ∷ 8 ∷ 8 ∷ 0 ∷ 2 ∷ []) (1 ∷ 1 ∷ 4 ∷ 8 ∷ 4 ∷ 2 ∷ [])
 
 unfoldable pub csidValues : List ℕ → List ℕ
 csidValues row =
@@ -69,17 +69,17 @@ csidValues row =
     (word its.nodeType row ∷ word its.idType row ∷ word its.addressLow row ∷ 0 ∷ 0 ∷ word its.csid row ∷ [])
 
 unfoldable pub csidRecord : List ℕ → List ℕ
-csidRecord row = fieldOctets (csidWidths (word its.idType row)) (csidValues row)
+csidRecord row = fieldOctets (csidRecordWidths (word its.idType row)) (csidValues row)
 
 -- ---- Update PDR
 
-unfoldable pub withPrecedence : List ℕ → List ℕ → List ℕ
-withPrecedence row s = pick (eqb (word its.hasPrecedence row) 1) (put precedenceAt (be 4 (word its.precedence row)) s) s
+unfoldable pub recordWithPrecedence : List ℕ → List ℕ → List ℕ
+recordWithPrecedence row s = pick (eqb (word its.hasPrecedence row) 1) (put precedenceAt (be 4 (word its.precedence row)) s) s
 
 -- a null FAR ID takes it away
-unfoldable pub withFar : List ℕ → List ℕ → List ℕ
-withFar row s =
+unfoldable pub recordWithFar : List ℕ → List ℕ → List ℕ
+recordWithFar row s =
     pick (eqb (word its.hasFarId row) 1) (put farIdAt (be 4 (word its.farId row)) (put farAt (be 1 1) s)) (pick (eqb (word its.hasFarId row) 2) (put farAt (zeros 5) s) s)
 
 unfoldable pub updatedRecord : List ℕ → List ℕ → List ℕ
-updatedRecord row s = withFar row (withPrecedence row s)
+updatedRecord row s = recordWithFar row (recordWithPrecedence row s)

@@ -2,10 +2,10 @@
 use areas::Area;
 ghost use mathlib.Core.Path.{_≡_};
 ghost use Prim.Native.Nat.{_+_, _^_, _<_};
-ghost use Rattle.session.specs.Areas.{pdrArea, endpointArea, csidArea, sessionArea};
+ghost use Rattle.session.specs.Areas.{areaOfPdrs, areaOfEndpoints, areaOfCsids, sessionArea};
 
 pub fn pdrs() -> Area
-    ensures { λ r. ⌜ r ≡ pdrArea ⌝ }
+    ensures { λ r. ⌜ r ≡ areaOfPdrs ⌝ }
 {
     Area {
         count_at: format::PDR_COUNT,
@@ -18,7 +18,7 @@ pub fn pdrs() -> Area
 }
 
 pub fn endpoints() -> Area
-    ensures { λ r. ⌜ r ≡ endpointArea ⌝ }
+    ensures { λ r. ⌜ r ≡ areaOfEndpoints ⌝ }
 {
     Area {
         count_at: format::ENDPOINT_COUNT,
@@ -31,7 +31,7 @@ pub fn endpoints() -> Area
 }
 
 pub fn csids() -> Area
-    ensures { λ r. ⌜ r ≡ csidArea ⌝ }
+    ensures { λ r. ⌜ r ≡ areaOfCsids ⌝ }
 {
     Area {
         count_at: format::CSID_COUNT,

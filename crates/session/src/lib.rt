@@ -13,7 +13,7 @@ use areas::Lookup;
 use format::types;
 use format::words;
 ghost use Rattle.areas.specs.Counted.{countIn, areaIn, placeIn, withRecord, withoutRecord};
-ghost use Rattle.session.specs.Areas.{pdrArea, endpointArea, sessionArea};
+ghost use Rattle.session.specs.Areas.{areaOfPdrs, areaOfEndpoints, sessionArea};
 
 pub mod layout;
 mod record;
@@ -60,7 +60,7 @@ fn update_pdr(slot: &mut [u8], row: &[u64])
 // for endpoints: where their width and key are known, a record takes a third of the instructions.
 fn put_pdr(slot: &mut [u8], rec: &[u8])
     requires { ⌜ (length (now slot) ≡ sessionWidth) × (length (now rec) ≡ pdrWidth) ⌝ }
-    ensures { λ _. ⌜ now (slot .exit) ≡ withRecord pdrArea (now (rec .entry)) (now (slot .entry)) ⌝ }
+    ensures { λ _. ⌜ now (slot .exit) ≡ withRecord areaOfPdrs (now (rec .entry)) (now (slot .entry)) ⌝ }
 {
     let a = layout::pdrs();
     let id = octets::read(rec, 0, a.key);
@@ -78,7 +78,7 @@ fn put_pdr(slot: &mut [u8], rec: &[u8])
 // The same for an endpoint.
 fn put_endpoint(slot: &mut [u8], rec: &[u8])
     requires { ⌜ (length (now slot) ≡ sessionWidth) × (length (now rec) ≡ endpointWidth) ⌝ }
-    ensures { λ _. ⌜ now (slot .exit) ≡ withRecord endpointArea (now (rec .entry)) (now (slot .entry)) ⌝ }
+    ensures { λ _. ⌜ now (slot .exit) ≡ withRecord areaOfEndpoints (now (rec .entry)) (now (slot .entry)) ⌝ }
 {
     let a = layout::endpoints();
     let id = octets::read(rec, 0, a.key);

@@ -2,7 +2,7 @@
 use format::words;
 ghost use mathlib.Core.Path.{_≡_};
 ghost use lib.ListN.{length};
-ghost use Rattle.session.specs.Records.{ifIs, addressThere, rowMatch, pdrRecord, endpointRecord, csidRecord, withPrecedence, withFar};
+ghost use Rattle.session.specs.Records.{ifIs, addressThere, rowMatch, pdrRecord, endpointRecord, csidRecord, recordWithPrecedence, recordWithFar};
 ghost use Rattle.rules.specs.Layout.{pdrWidth};
 ghost use Rattle.plan.specs.Rows.{rowWidth};
 
@@ -123,7 +123,7 @@ pub fn csid(row: &[u64]) -> [u8; format::CSID]
 // The precedence that an Update PDR's row names, in a PDR's record.
 pub fn set_precedence(rec: &mut [u8], row: &[u64])
     requires { ⌜ (length (now rec) ≡ pdrWidth) × (length (now row) ≡ rowWidth) ⌝ }
-    ensures { λ _. ⌜ now (rec .exit) ≡ withPrecedence (now (row .entry)) (now (rec .entry)) ⌝ }
+    ensures { λ _. ⌜ now (rec .exit) ≡ recordWithPrecedence (now (row .entry)) (now (rec .entry)) ⌝ }
 {
     if row[words::HAS_PRECEDENCE] == 1 {
         octets::write(rec, format::PRECEDENCE, 4, row[words::PRECEDENCE]);
@@ -133,7 +133,7 @@ pub fn set_precedence(rec: &mut [u8], row: &[u64])
 // The FAR ID that it names; one of null length takes it away.
 pub fn set_far(rec: &mut [u8], row: &[u64])
     requires { ⌜ (length (now rec) ≡ pdrWidth) × (length (now row) ≡ rowWidth) ⌝ }
-    ensures { λ _. ⌜ now (rec .exit) ≡ withFar (now (row .entry)) (now (rec .entry)) ⌝ }
+    ensures { λ _. ⌜ now (rec .exit) ≡ recordWithFar (now (row .entry)) (now (rec .entry)) ⌝ }
 {
     let far = row[words::HAS_FAR_ID];
     if far == 1 {

@@ -17,17 +17,17 @@ use Rattle.rules.specs.Layout.{csidFrom, viewCsid, viewArea, viewSession, csidW
 use Rattle.rules.specs.Elements as rules
 use Rattle.rules.specs.Elements.{addressLength}
 use Rattle.rules.specs.Apply.{covers, coversSession}
-use Rattle.sets.specs.Listed.{addressOctets, csidCount, listedIn}
+use Rattle.sets.specs.Listed.{listedAddressOctets, csidCount, listedIn}
 
 -- ---- one of the CSIDs
 
 -- what is left to look at gives the same answer
 pub record Looks (csid m : ℕ) (cs : List ℕ) (left : ℕ) (rest : List ℕ) : Type 0 where
   pub room : 2 * left ≤ length rest
-  pub same : member csid (rules.csidsAt m cs) ≡ member csid (rules.csidsAt left rest)
+  pub same : member csid (rules.csidsRead m cs) ≡ member csid (rules.csidsRead left rest)
 
-next-csid : (n : ℕ) (xs : List ℕ) → 0 < n → rules.csidsAt n xs ≡ number (part 0 2 xs) ∷ rules.csidsAt (n - 1) (drop 2 xs)
-unfolding rules.csidsAt slices
+next-csid : (n : ℕ) (xs : List ℕ) → 0 < n → rules.csidsRead n xs ≡ number (part 0 2 xs) ∷ rules.csidsRead (n - 1) (drop 2 xs)
+unfolding rules.csidsRead slices
 next-csid zero xs h = absurd (omega arith)
 next-csid (suc n) xs h = let e : suc n - 1 ≡ n = omega arith in ap (λ (k : ℕ). number (take 2 xs) ∷ map number (slices 2 k (drop 2 xs))) (sym e)
 
@@ -35,7 +35,7 @@ pub looks-none : (csid m : ℕ) (cs : List ℕ) → 2 * m ≤ length cs → Look
 looks-none csid m cs h = record { room = h; same = refl }
 
 module _ {csid m : ℕ} {cs : List ℕ} {left : ℕ} {rest : List ℕ} (l : Looks csid m cs left rest) where
-  pub looks-found : 0 < left → (r : ℕ) → r ≡ number (part 0 2 rest) → r ≡ csid → true ≡ member csid (rules.csidsAt m cs)
+  pub looks-found : 0 < left → (r : ℕ) → r ≡ number (part 0 2 rest) → r ≡ csid → true ≡ member csid (rules.csidsRead m cs)
   unfolding member
   looks-found h r e q = sym (l .same ∙ ap (member csid) (next-csid left rest h) ∙ rw (eq-eqb csid (number (part 0 2 rest)) (sym q ∙ e)))
 
@@ -48,8 +48,8 @@ module _ {csid m : ℕ} {cs : List ℕ} {left : ℕ} {rest : List ℕ} (l : Look
         same = l .same ∙ ap (member csid) (next-csid left rest h) ∙ rw (ne-eqb csid (number (part 0 2 rest)) (λ z. q (e ∙ sym z)), part-from);
       }
 
-  pub looks-end : left ≤ 0 → false ≡ member csid (rules.csidsAt m cs)
-  unfolding member rules.csidsAt slices
+  pub looks-end : left ≤ 0 → false ≡ member csid (rules.csidsRead m cs)
+  unfolding member rules.csidsRead slices
   looks-end h = let e : left ≡ 0 = omega arith in sym (l .same ∙ rw e)
 
 -- ---- one of a session's
@@ -59,16 +59,16 @@ module _ (v xs : List ℕ) (long : length xs ≡ csidWidth) (o : T (octets xs)) 
   width = addressLength (getD xs 1 0)
 
   abbrev node : ℕ
-  node = getD v (1 + addressOctets v + 2 * csidCount v) 0 % 16
+  node = getD v (1 + listedAddressOctets v + 2 * csidCount v) 0 % 16
 
   -- the four tests
   by-octets : covers (listedIn v) (viewCsid xs)
-      ≡ (eqb (getD xs 0 0) node && eqb (getD xs 1 0) (getD v 0 0 / 16) && sameOctets (part 2 width xs) (part 1 (addressOctets v) v)
-      && member (number (part 18 2 xs)) (rules.csidsAt (csidCount v) (drop (1 + addressOctets v) v)))
+      ≡ (eqb (getD xs 0 0) node && eqb (getD xs 1 0) (getD v 0 0 / 16) && sameOctets (part 2 width xs) (part 1 (listedAddressOctets v) v)
+      && member (number (part 18 2 xs)) (rules.csidsRead (csidCount v) (drop (1 + listedAddressOctets v) v)))
   unfolding covers listedIn viewCsid csidFrom fieldsAt octetAt
   by-octets = rw (csid-address xs long o, octet-field 0 xs, octet-field 1 xs)
 
-  module _ (a : ℕ) (is : a ≡ addressOctets v) where
+  module _ (a : ℕ) (is : a ≡ listedAddressOctets v) where
     pub other-node : (getD v (1 + a + 2 * csidCount v) 0 % 16 ≡ getD xs 0 0 → ⊥) → false ≡ covers (listedIn v) (viewCsid xs)
     other-node n = sym (by-octets ∙ rw (ne-eqb (getD xs 0 0) node (λ e. n (ap (λ (k : ℕ). getD v (1 + k + 2 * csidCount v) 0 % 16) is ∙ sym e))))
 
@@ -80,7 +80,7 @@ module _ (v xs : List ℕ) (long : length xs ≡ csidWidth) (o : T (octets xs)) 
       other-type t = sym (by-octets ∙ rw (same-node, ne-eqb (getD xs 1 0) (getD v 0 0 / 16) (λ e. t (sym e))))
 
       module _ (t : getD v 0 0 / 16 ≡ getD xs 1 0) (b : Bool) (same : b ≡ sameOctets (part 2 a xs) (part 1 a v)) where
-        by-rest : covers (listedIn v) (viewCsid xs) ≡ (b && member (number (part 18 2 xs)) (rules.csidsAt (csidCount v) (drop (1 + a) v)))
+        by-rest : covers (listedIn v) (viewCsid xs) ≡ (b && member (number (part 18 2 xs)) (rules.csidsRead (csidCount v) (drop (1 + a) v)))
         unfolding octetAt
         by-rest =
             let w : width ≡ a = ap addressLength (sym t) ∙ sym is in
@@ -89,7 +89,7 @@ module _ (v xs : List ℕ) (long : length xs ≡ csidWidth) (o : T (octets xs)) 
         pub other-address : b ≡ false → false ≡ covers (listedIn v) (viewCsid xs)
         other-address e = sym (by-rest ∙ rw e)
 
-        pub by-csid : b ≡ true → (q n m : ℕ) → n ≡ 1 + a → q ≡ number (part 18 2 xs) → m ≡ csidCount v → {r : Bool} → r ≡ member q (rules.csidsAt m (take (length v - n) (drop n v))) → r ≡ covers (listedIn v) (viewCsid xs)
+        pub by-csid : b ≡ true → (q n m : ℕ) → n ≡ 1 + a → q ≡ number (part 18 2 xs) → m ≡ csidCount v → {r : Bool} → r ≡ member q (rules.csidsRead m (take (length v - n) (drop n v))) → r ≡ covers (listedIn v) (viewCsid xs)
         by-csid e q k m ek eq em h = h ∙ rw (part-from, ek, eq, em) (sym (by-rest ∙ rw e))
 
 -- ---- those of a session

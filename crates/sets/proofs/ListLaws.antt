@@ -14,13 +14,13 @@ use Rattle.octets.specs.Octets.{octetAt, part}
 use Rattle.octets.specs.Lists.{member}
 use Rattle.octets.proofs.Put.{part-from}
 use Rattle.rules.specs.Types as ie
-use Rattle.rules.specs.Elements.{Refusal, incorrect, tooShort, causeOf, Answer, refuse, value, Fqcsid, sets, addressLength, nodeTypeKept, operatorAllowed, countAllowed, csidsAt, csidFields, checkedCsid, csidRest, readFqcsid}
+use Rattle.rules.specs.Elements.{Refusal, incorrect, tooShort, causeOf, Answer, refuse, value, Fqcsid, sets, addressLength, nodeTypeKept, operatorAllowed, countAllowed, csidsRead, csidFields, checkedCsid, csidRest, readFqcsid}
 use Rattle.rules.specs.Message.{Element, setDeletion, actedOn, elements, listPlace}
-use Rattle.rules.specs.Reading.{Reading, faulty, done, refusal, andThen, named, listable, listedRead, listRead}
+use Rattle.rules.specs.Reading.{Reading, faulty, done, refusalAt, andThen, named, listable, listedRead, listRead}
 use Rattle.rules.specs.Causes as why
 use Rattle.laws.proofs.MessageLaws.{el}
 use Rattle.element.specs.Answers.{refusalOf}
-use Rattle.element.specs.FqCsid.{fqcsidTests, fqcsidMeant, fqcsidOf, answerOf}
+use Rattle.element.specs.FqCsid.{fqcsidTests, fqcsidMeant, fqcsidOf, fqcsidAnswer}
 use Rattle.element.specs.declared.Refusal as codes
 use Rattle.element.specs.declared.fqcsid.Answer as code
 use Rattle.element.specs.declared.fqcsid.Answer.the-variants as answers
@@ -64,13 +64,13 @@ module _ (t p : ℕ) (v : List ℕ) (is : t ≡ ie.fqcsid) where
   unfolding listStep
   step-is = rw (eq-eqb t ie.fqcsid is)
 
-  pub refused-fault : (a : code.Answer) (q : codes.Refusal) {n : ℕ} → answerOf a ≡ some (readFqcsid v) → a ≡ answers.Refused q → n ≡ causeOf (refusalOf q) → outcome (Refused n ie.fqcsid p) tt ≡ numbered (listStep t p v)
+  pub refused-fault : (a : code.Answer) (q : codes.Refusal) {n : ℕ} → fqcsidAnswer a ≡ some (readFqcsid v) → a ≡ answers.Refused q → n ≡ causeOf (refusalOf q) → outcome (Refused n ie.fqcsid p) tt ≡ numbered (listStep t p v)
   unfolding listedRead
-  refused-fault a q e h c = let k : some (refuse (refusalOf q)) ≡ some (readFqcsid v) = sym (ap answerOf h) ∙ e in let j : refuse (refusalOf q) ≡ readFqcsid v = cc in rw (step-is, c, ← j)
+  refused-fault a q e h c = let k : some (refuse (refusalOf q)) ≡ some (readFqcsid v) = sym (ap fqcsidAnswer h) ∙ e in let j : refuse (refusalOf q) ≡ readFqcsid v = cc in rw (step-is, c, ← j)
 
-  module _ (y : code.Answer) (x : FqCsid) (from : answerOf y ≡ some (readFqcsid v)) (is-value : y ≡ answers.Value x) where
+  module _ (y : code.Answer) (x : FqCsid) (from : fqcsidAnswer y ≡ some (readFqcsid v)) (is-value : y ≡ answers.Value x) where
     read : mapOption value (fqcsidOf x) ≡ some (readFqcsid v)
-    read = sym (ap answerOf is-value) ∙ from
+    read = sym (ap fqcsidAnswer is-value) ∙ from
 
     value-read : (c : Fqcsid) → fqcsidMeant x ≡ c → readFqcsid v ≡ value (fqcsidMeant x)
     unfolding fqcsidOf
@@ -88,7 +88,7 @@ module _ (t p : ℕ) (v : List ℕ) (is : t ≡ ie.fqcsid) where
     unfolding listedRead listable csidFields
     some-fine n = rw (step-is, value-read _ refl) (go (x .count) n _ _ _ _)
       where
-        go : (m : ℕ) → (m ≡ 0 → ⊥) → (k : ℕ) (y z : List ℕ) (j : ℕ) → outcome Fine tt ≡ numbered (blank (pick (listable (csidFields m k y z j)) (done (csidFields m k y z j)) (refusal incorrect ie.fqcsid p)))
+        go : (m : ℕ) → (m ≡ 0 → ⊥) → (k : ℕ) (y z : List ℕ) (j : ℕ) → outcome Fine tt ≡ numbered (blank (pick (listable (csidFields m k y z j)) (done (csidFields m k y z j)) (refusalAt incorrect ie.fqcsid p)))
         go zero h k y z j = absurd (h refl)
         go (suc m) h k y z j = refl
 
@@ -133,7 +133,7 @@ module _ {s : List ℕ} {at : ℕ} {rest : List ℕ} (l : Lists s at rest) where
 -- the octets of an FQ-CSID without a fault
 module _ (p : ℕ) (c : Fqcsid) where
   abbrev checked : Answer Fqcsid → Reading Fqcsid
-  checked a = andThen (named ie.fqcsid p a) (λ d. pick (listable d) (done d) (refusal incorrect ie.fqcsid p))
+  checked a = andThen (named ie.fqcsid p a) (λ d. pick (listable d) (done d) (refusalAt incorrect ie.fqcsid p))
 
   fields : (m t : ℕ) (a cs : List ℕ) (n : ℕ) → checked (value (csidFields m t a cs n)) ≡ done c → c ≡ sets t a cs n
   unfolding csidFields listable
@@ -150,7 +150,7 @@ module _ (p : ℕ) (c : Fqcsid) where
       (allOf (nodeTypeKept (octetAt xs (addressLength (x / 16) + 2 * (x % 16)) % 16) ∷ operatorAllowed (x / 16) (part 0 (addressLength (x / 16)) xs) ∷ countAllowed (x % 16) (x / 16) (part 0 (addressLength (x / 16)) xs) ∷ [])) refl h
     where
       go : (b d e : Bool) → ltb (length xs) (addressLength (x / 16) + 2 * (x % 16) + 1) ≡ d
-          → checked (pick b (refuse incorrect) (pick d (refuse tooShort) (pick e (value (csidFields (x % 16) (x / 16) (part 0 (addressLength (x / 16)) xs) (csidsAt (x % 16) (drop (addressLength (x / 16)) xs)) (octetAt xs (addressLength (x / 16) + 2 * (x % 16)) % 16))) (refuse incorrect)))) ≡ done c
+          → checked (pick b (refuse incorrect) (pick d (refuse tooShort) (pick e (value (csidFields (x % 16) (x / 16) (part 0 (addressLength (x / 16)) xs) (csidsRead (x % 16) (drop (addressLength (x / 16)) xs)) (octetAt xs (addressLength (x / 16) + 2 * (x % 16)) % 16))) (refuse incorrect)))) ≡ done c
           → (c ≡ listedIn (x ∷ xs)) × Sized (x ∷ xs)
       go true d e q g = refuses incorrect g
       go false true e q g = refuses tooShort g
@@ -159,7 +159,7 @@ module _ (p : ℕ) (c : Fqcsid) where
           let l = ltb-false (length xs) (addressLength (x / 16) + 2 * (x % 16) + 1) q in
           let k : 1 + addressLength (x / 16) + 2 * (x % 16) ≡ suc (addressLength (x / 16) + 2 * (x % 16)) = omega arith in (
             fields (x % 16) (x / 16) _ _ _ g
-                ∙ (λ i. sets (x / 16) (part 0 (addressLength (x / 16)) xs) (csidsAt (x % 16) (drop-drop (addressLength (x / 16)) 1 (x ∷ xs) i)) (getD (x ∷ xs) (sym k i) 0 % 16)),
+                ∙ (λ i. sets (x / 16) (part 0 (addressLength (x / 16)) xs) (csidsRead (x % 16) (drop-drop (addressLength (x / 16)) 1 (x ∷ xs) i)) (getD (x ∷ xs) (sym k i) 0 % 16)),
             record { long = omega arith },
           )
 

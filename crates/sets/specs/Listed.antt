@@ -9,7 +9,7 @@ use Rattle.octets.specs.Choice.{pick}
 use Rattle.octets.specs.Octets.{part}
 use Rattle.rules.specs.Layout.{sessionWidth, tableLength, viewSession, viewSettings}
 use Rattle.rules.specs.Sound.{sound}
-use Rattle.rules.specs.Elements.{Fqcsid, sets, addressLength, csidsAt}
+use Rattle.rules.specs.Elements.{Fqcsid, sets, addressLength, csidsRead}
 use Rattle.rules.specs.Reading.{Reading, faulty, done, listedRead}
 use Rattle.rules.specs.Apply.{coversSession}
 use Rattle.rules.specs.Types as ie
@@ -31,20 +31,20 @@ unfoldable pub listStep : ℕ → ℕ → List ℕ → Reading (Unit {0})
 listStep t p v = pick (eqb t ie.fqcsid) (blank (listedRead p v)) (done tt)
 
 -- the octets of the address, and the number of CSIDs, that an FQ-CSID's first octet says
-abbrev pub addressOctets : List ℕ → ℕ
-addressOctets v = addressLength (getD v 0 0 / 16)
+abbrev pub listedAddressOctets : List ℕ → ℕ
+listedAddressOctets v = addressLength (getD v 0 0 / 16)
 
 abbrev pub csidCount : List ℕ → ℕ
 csidCount v = getD v 0 0 % 16
 
 -- all of its octets are there
 pub record Sized (v : List ℕ) : Type 0 where
-  pub long : 2 + addressOctets v + 2 * csidCount v ≤ length v
+  pub long : 2 + listedAddressOctets v + 2 * csidCount v ≤ length v
 
 -- what it lists
 unfoldable pub listedIn : List ℕ → Fqcsid
 listedIn v =
-    sets (getD v 0 0 / 16) (part 1 (addressOctets v) v) (csidsAt (csidCount v) (drop (1 + addressOctets v) v)) (getD v (1 + addressOctets v + 2 * csidCount v) 0 % 16)
+    sets (getD v 0 0 / 16) (part 1 (listedAddressOctets v) v) (csidsRead (csidCount v) (drop (1 + listedAddressOctets v) v)) (getD v (1 + listedAddressOctets v + 2 * csidCount v) 0 % 16)
 
 -- and what an element of type t lists
 unfoldable pub listsIn : ℕ → List ℕ → List Fqcsid

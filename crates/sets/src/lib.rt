@@ -13,7 +13,7 @@ ghost use Rattle.octets.specs.Octets.{octetAt};
 ghost use Rattle.octets.specs.Lists.{member, keep};
 ghost use Rattle.rules.specs.Limits.{maxMessage, nodeTypes};
 ghost use Rattle.rules.specs.Layout.{tableLength, sessionWidth, csidWidth, csidCountAt, viewSession, viewCsid, viewSettings, viewSessions, encode};
-ghost use Rattle.rules.specs.Elements.{csidsAt};
+ghost use Rattle.rules.specs.Elements.{csidsRead};
 ghost use Rattle.rules.specs.Message.{listPlace, elements};
 ghost use Rattle.rules.specs.Reading.{done, listRead};
 ghost use Rattle.rules.specs.Apply.{covers, coversSession, staysSession};
@@ -68,7 +68,7 @@ pub fn list_fault(s: &[u8]) -> Verdict
 // Whether a CSID is one of the m that cs starts with.
 fn has_csid(cs: &[u8], m: usize, csid: u64) -> bool
     requires { ⌜ 2 * m ≤ length (now cs) ⌝ }
-    ensures { λ r. ⌜ r ≡ member csid (csidsAt m (now (cs .entry))) ⌝ }
+    ensures { λ r. ⌜ r ≡ member csid (csidsRead m (now (cs .entry))) ⌝ }
 {
     let mut rest = cs;
     let mut left = m;

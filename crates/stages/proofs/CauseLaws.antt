@@ -10,14 +10,14 @@ use Rattle.octets.specs.Choice.{oneOf, isSome}
 use Rattle.octets.specs.Lists.{member, any, allPairs, collect}
 use Rattle.octets.proofs.Tests.{and-left, and-right, of-true}
 use Rattle.rules.specs.Model.{Settings, Session, Sessions, Holding, teidOf, heldTeids, inAddressPool, heldAddresses}
-use Rattle.rules.specs.Elements.{UeIp, ueGiven, ueChoose, ueOther, ueAddress}
+use Rattle.rules.specs.Elements.{UeIp, ueGiven, ueChoose, ueOther, ueAddressOf}
 use Rattle.rules.specs.Request.{Request}
 use Rattle.rules.specs.Sound.{inPool, agree}
 use Rattle.rules.specs.Stages.{removedPdrs, lacksFamily, strange, restoredHoldings, clash, addressesOf, wrongAddress, restoredAddresses, addressClash, requestRules, brokenRules, breaksRule, livePdrs, liveEndpoints}
 use Rattle.plan.specs.Rows.{word, rowUe, requestIn}
 use Rattle.plan.specs.Words as its
 use Rattle.pool.specs.Map.{marked}
-use Rattle.plan.specs.RowRules.{onSome, requestOf, ofFteid, creates, ofAddress, takesAddress, addressIn, rowHolding, restores, heldIn, sameId, otherChoice, otherHold, disagree}
+use Rattle.plan.specs.RowRules.{onSome, requestOf, ofFteid, creates, ofAddress, takesAddress, markedAddress, rowHolding, restores, heldIn, sameId, otherChoice, otherHold, disagree}
 use Rattle.plan.proofs.ListLaws.{any-ext, any-or, any-keep, any-map, any-collect, any-in, anyPair}
 use Rattle.plan.proofs.RequestLaws.{any-fteids}
 use Rattle.plan.proofs.UeLaws.{any-addresses}
@@ -104,9 +104,9 @@ module _ (held heldAddress : ℕ → Bool) (s : Settings) (x : Session) (seid : 
   taken-rows : any heldAddress (restoredAddresses s (requestIn seid restoring noted rows)) ≡ any (ofAddress (takesAddress s heldAddress)) rows
   unfolding restoredAddresses takesAddress
   taken-rows =
-      any-keep heldAddress (inAddressPool s) (collect ueAddress (addressesOf (requestIn seid restoring noted rows)))
-      ∙ any-collect (λ a. inAddressPool s a && heldAddress a) ueAddress (addressesOf (requestIn seid restoring noted rows))
-      ∙ any-addresses (λ v. onSome (λ a. inAddressPool s a && heldAddress a) (ueAddress v)) seid restoring noted rows
+      any-keep heldAddress (inAddressPool s) (collect ueAddressOf (addressesOf (requestIn seid restoring noted rows)))
+      ∙ any-collect (λ a. inAddressPool s a && heldAddress a) ueAddressOf (addressesOf (requestIn seid restoring noted rows))
+      ∙ any-addresses (λ v. onSome (λ a. inAddressPool s a && heldAddress a) (ueAddressOf v)) seid restoring noted rows
 
   clash-rows : clashBy held (requestIn seid restoring noted rows) ≡ (any (λ row. restores held (rowHolding row)) rows || anyPair otherHold rows)
   unfolding clashBy
@@ -164,7 +164,7 @@ module _ (held other : ℕ → Bool) (s : Settings) (alike : (t : ℕ) → inPoo
 
 module _ (held other : ℕ → Bool) (s : Settings) (alike : (a : ℕ) → inAddressPool s a ≡ true → held a ≡ other a) where
   takes-same : (v : UeIp) → takesAddress s held v ≡ takesAddress s other v
-  unfolding takesAddress ueAddress onSome
+  unfolding takesAddress ueAddressOf onSome
   takes-same (ueGiven a) = one (inAddressPool s a) refl
     where
       one : (b : Bool) → inAddressPool s a ≡ b → (b && held a) ≡ (b && other a)
@@ -213,15 +213,15 @@ unfolding heldIn
 map-agrees s m words h t e = rw e (map-says (s .first) (s .size) words (heldTeids m) h t (unfold inPool in (of-true e)))
 
 pub addresses-agree : (s : Settings) (m : Sessions) (words : List ℕ) → ((i : ℕ) → i < s .addressCount → marked words i ≡ member (s .firstAddress + i) (heldAddresses s m))
-    → (a : ℕ) → inAddressPool s a ≡ true → addressIn s words a ≡ member a (heldAddresses s m)
+    → (a : ℕ) → inAddressPool s a ≡ true → markedAddress s words a ≡ member a (heldAddresses s m)
 addresses-agree s m words h a e = map-says (s .firstAddress) (s .addressCount) words (heldAddresses s m) h a (unfold inAddressPool in (of-true e))
 
 -- ---- what the code has found
 
 pub rule-found : (s′ s : Settings) (words addresses pdrs endpoints away : List ℕ) (x : Session) (restoring : Bool) (rows : List (List ℕ)) (r : Bool) → s′ ≡ s → pdrs ≡ livePdrs x → endpoints ≡ liveEndpoints x → away ≡ gone x rows
-    → r ≡ someRow (breaksRow (heldIn s′ words) (addressIn s′ addresses) s′ restoring pdrs endpoints away rows) rows → r ≡ breaksRuleBy (heldIn s words) (addressIn s addresses) s x (requestOf restoring rows)
+    → r ≡ someRow (breaksRow (heldIn s′ words) (markedAddress s′ addresses) s′ restoring pdrs endpoints away rows) rows → r ≡ breaksRuleBy (heldIn s words) (markedAddress s addresses) s x (requestOf restoring rows)
 rule-found s′ s words addresses pdrs endpoints away x restoring rows r e p q g a =
-    a ∙ (λ i. someRow (breaksRow (heldIn (e i) words) (addressIn (e i) addresses) (e i) restoring (p i) (q i) (g i) rows) rows) ∙ sym (breaks-rows (heldIn s words) (addressIn s addresses) s x 0 restoring false rows)
+    a ∙ (λ i. someRow (breaksRow (heldIn (e i) words) (markedAddress (e i) addresses) (e i) restoring (p i) (q i) (g i) rows) rows) ∙ sym (breaks-rows (heldIn s words) (markedAddress s addresses) s x 0 restoring false rows)
 
 -- the request's SEID and element 129 do not matter
 pub rule-rows : (held heldAddress : ℕ → Bool) (s : Settings) (x : Session) (seid : ℕ) (restoring noted : Bool) (rows : List (List ℕ))

@@ -10,6 +10,7 @@ use borrow.Author.Tests.{ne-eqb}
 use Rattle.octets.specs.Choice.{pick, isNil}
 use Rattle.octets.specs.Octets.{number, numberAt, octetAt, part, slices}
 use Rattle.octets.specs.Lists.{any, keep}
+use Rattle.octets.specs.Rows.{hasTag}
 use Rattle.octets.proofs.Numbers.{length-slices}
 use Rattle.rules.specs.Model.{Settings, Session, Sessions, freeCount, heldAddresses, freeAddresses, freeAddressCount}
 use Rattle.rules.specs.Elements.{ueChooses}
@@ -21,8 +22,8 @@ use Rattle.plan.proofs.UeLaws.{choose-rows}
 use Rattle.rules.specs.Layout.{viewSession, viewSessions, viewArea, viewPdr, viewEndpoint, pdrWidth, endpointWidth, settingsWidth, pdrCountAt, endpointCountAt, pdrsAt, endpointsAt}
 use Rattle.rules.specs.Grants.{need}
 use Rattle.rules.specs.Request.{Request}
-use Rattle.rules.specs.Stages.{removedPdrs, tooManySessions, tooManyPdrs, tooManyEndpoints, tooFewTeids, noRoom, addressesOf, noAddress}
-use Rattle.plan.specs.Rows.{rowWidth, tagged, hasTag, rowsOf, rowPdr, rowEndpoint, rowEndpointId, requestIn}
+use Rattle.rules.specs.Stages.{removedPdrs, tooManySessions, tooManyPdrs, tooManyEndpoints, tooFewTeids, roomLacks, addressesOf, addressLacks}
+use Rattle.plan.specs.Rows.{rowWidth, tagged, rowsOf, rowPdr, rowEndpoint, rowEndpointId, requestIn}
 use Rattle.unit.specs.declared.Settings.{Settings as Unit}
 use Rattle.unit.specs.Meaning.{settingsOf}
 use Rattle.rules.specs.Types as ie
@@ -76,22 +77,22 @@ module _ (slot : List ℕ) (seid : ℕ) (restoring noted : Bool) (rows : List (L
 
 -- the tests one after the other
 module _ (kind : ℕ) (s : Settings) (m : Sessions) (x : Session) (r : Request) where
-  pub room-1 : tooManySessions s kind m ≡ true → noRoom kind s m x r ≡ true
-  unfolding noRoom
+  pub room-1 : tooManySessions s kind m ≡ true → roomLacks kind s m x r ≡ true
+  unfolding roomLacks
   room-1 h = rw h
 
   module _ (a : tooManySessions s kind m ≡ false) where
-    pub room-2 : tooManyPdrs x r ≡ true → noRoom kind s m x r ≡ true
-    unfolding noRoom
+    pub room-2 : tooManyPdrs x r ≡ true → roomLacks kind s m x r ≡ true
+    unfolding roomLacks
     room-2 h = rw (a, h)
 
     module _ (b : tooManyPdrs x r ≡ false) where
-      pub room-3 : tooManyEndpoints x r ≡ true → noRoom kind s m x r ≡ true
-      unfolding noRoom
+      pub room-3 : tooManyEndpoints x r ≡ true → roomLacks kind s m x r ≡ true
+      unfolding roomLacks
       room-3 h = rw (a, b, h)
 
-      pub room-4 : (free n : ℕ) → tooManyEndpoints x r ≡ false → free ≡ freeCount s m → n ≡ need r → ltb free n ≡ noRoom kind s m x r
-      unfolding noRoom tooFewTeids
+      pub room-4 : (free n : ℕ) → tooManyEndpoints x r ≡ false → free ≡ freeCount s m → n ≡ need r → ltb free n ≡ roomLacks kind s m x r
+      unfolding roomLacks tooFewTeids
       room-4 free n h f e = rw (a, b, h, f, e) (sym (or-false (ltb (freeCount s m) (need r))))
 
 -- ---- cause 79
@@ -111,10 +112,10 @@ module _ (s : Settings) (m : Sessions) where
   none-free (a ∷ l) h = absurd (omega arith)
 
   module _ (rows : List (List ℕ)) (free : ℕ) (e : free ≡ freeAddressCount s m) where
-    pub address-free : 0 < free → false ≡ noAddress s m (requestIn 0 false false rows)
-    unfolding noAddress
+    pub address-free : 0 < free → false ≡ addressLacks s m (requestIn 0 false false rows)
+    unfolding addressLacks
     address-free h = rw (some-free (freeAddresses s m) (omega (arith, addresses-count))) (sym (and-false (any ueChooses (addressesOf (requestIn 0 false false rows)))))
 
-    pub address-full : free ≤ 0 → any (ofUeKind true) rows ≡ noAddress s m (requestIn 0 false false rows)
-    unfolding noAddress
+    pub address-full : free ≤ 0 → any (ofUeKind true) rows ≡ addressLacks s m (requestIn 0 false false rows)
+    unfolding addressLacks
     address-full h = rw (none-free (freeAddresses s m) (omega (arith, addresses-count)), choose-rows 0 false false rows) (sym (and-true (any (ofUeKind true) rows)))

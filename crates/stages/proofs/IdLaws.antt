@@ -8,9 +8,9 @@ use lib.Dec.{eqb}
 use borrow.Author.Tests.{eq-eqb, ne-eqb, eqb-true}
 use Rattle.octets.specs.Choice.{pick, isSome}
 use Rattle.octets.specs.Lists.{member, without}
-use Rattle.octets.specs.Rows.{column}
+use Rattle.octets.specs.Rows.{hasTag, column}
 use Rattle.rules.specs.Stages.{namesBoth, lacksFamily, strange, wrongAddress}
-use Rattle.plan.specs.Rows.{word, hasTag, present, rowFteid, rowLocal, rowPdr}
+use Rattle.plan.specs.Rows.{word, present, rowFteid, rowLocal, rowPdr}
 use Rattle.plan.proofs.RowTests.{tag-yes, tag-no}
 use Rattle.stages.specs.RowRules.{createsLive, namesDead, updatesGone, pdiNamesBoth, absentFrom, pdiNamesAbsent, breaksId, breaksFteid, breaksAddress}
 use Rattle.rules.specs.Model.{Settings}

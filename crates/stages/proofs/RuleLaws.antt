@@ -10,12 +10,12 @@ use lib.ListN.{getD}
 use Rattle.octets.specs.Choice.{pick, oneOf, sameBool, consOption}
 use Rattle.octets.specs.Lists.{member, anyIn, allIn, hasRepeat, any, allPairs, keep, collect, without}
 use Rattle.octets.proofs.ListLaws.{collect-map}
-use Rattle.octets.specs.Rows.{column, wordAt}
+use Rattle.octets.specs.Rows.{hasTag, column, wordAt}
 use Rattle.rules.specs.Model.{Session, Holding}
 use Rattle.rules.specs.Request.{NewPdr}
 use Rattle.rules.specs.Sound.{agree, shareTests}
 use Rattle.rules.specs.Stages.{idTwice, createdLive, absentId, removedPdrs, updatesRemoved, namesBoth, namedEndpoint, endpointIdsAfter, namesAbsent, choicesAgree, endpointRestored, pdrRestored, restoredHoldings, livePdrs, liveEndpoints}
-use Rattle.plan.specs.Rows.{word, hasTag, tagged, rowPdr, rowEndpoint, requestIn}
+use Rattle.plan.specs.Rows.{word, tagged, rowPdr, rowEndpoint, requestIn}
 use Rattle.rules.specs.Types as ie
 use Rattle.plan.specs.Words as its
 use Rattle.plan.specs.RowRules.{onSome, requestOf, rowHolding, repeats, sameId, otherChoice, holdsApart, otherHold}

@@ -11,10 +11,10 @@ use Rattle.rules.specs.Message.{establishment}
 use Rattle.rules.specs.Request.{Request}
 use Rattle.rules.specs.Layout.{viewSession, viewSessions}
 use Rattle.rules.specs.Grants.{need}
-use Rattle.rules.specs.Stages.{isLive, goesPdr, removedPdrs, invalidAllocation, breaksRule, tooManySessions, tooManyPdrs, tooManyEndpoints, tooFewTeids, noRoom, noAddress, judge, plain}
+use Rattle.rules.specs.Stages.{isLive, goesPdr, removedPdrs, invalidAllocation, breaksRule, tooManySessions, tooManyPdrs, tooManyEndpoints, tooFewTeids, roomLacks, addressLacks, judge, plain}
 use Rattle.rules.specs.Causes as why
 use Rattle.plan.specs.Rows.{rowsOf, requestIn}
-use Rattle.plan.specs.RowRules.{heldIn, addressIn}
+use Rattle.plan.specs.RowRules.{heldIn, markedAddress}
 use Rattle.plan.proofs.RequestLaws.{invalid-rows, unsupported-rows}
 use Rattle.plan.proofs.UeLaws.{choose-rows}
 use Rattle.plan.proofs.NeedLaws.{need-rows}
@@ -31,15 +31,15 @@ unfolding tooManyEndpoints requestIn
 endpoints-same x seid restoring noted rows = refl
 
 room-rows : (kind : ℕ) (s : Settings) (m : Sessions) (x : Session) (seid : ℕ) (restoring noted : Bool) (rows : List (List ℕ))
-    → noRoom kind s m x (requestIn 0 false false rows) ≡ noRoom kind s m x (requestIn seid restoring noted rows)
-unfolding noRoom tooFewTeids
+    → roomLacks kind s m x (requestIn 0 false false rows) ≡ roomLacks kind s m x (requestIn seid restoring noted rows)
+unfolding roomLacks tooFewTeids
 room-rows kind s m x seid restoring noted rows =
     let few : need (requestIn 0 false false rows) ≡ need (requestIn seid restoring noted rows) = need-rows 0 false false rows ∙ sym (need-rows seid restoring noted rows) in
     λ i. oneOf (tooManySessions s kind m ∷ pdrs-same x seid restoring noted rows i ∷ endpoints-same x seid restoring noted rows i ∷ ltb (freeCount s m) (few i) ∷ [])
 
 -- and to cause 79
-address-same : (s : Settings) (m : Sessions) (seid : ℕ) (restoring noted : Bool) (rows : List (List ℕ)) → noAddress s m (requestIn 0 false false rows) ≡ noAddress s m (requestIn seid restoring noted rows)
-unfolding noAddress
+address-same : (s : Settings) (m : Sessions) (seid : ℕ) (restoring noted : Bool) (rows : List (List ℕ)) → addressLacks s m (requestIn 0 false false rows) ≡ addressLacks s m (requestIn seid restoring noted rows)
+unfolding addressLacks
 address-same s m seid restoring noted rows =
     ap (λ (b : Bool). b && isNil (freeAddresses s m)) (choose-rows 0 false false rows ∙ sym (choose-rows seid restoring noted rows))
 
@@ -49,11 +49,11 @@ unfoldable pub chain : Bool → Bool → Bool → Bool → Bool → Bool → ℕ
 chain a b c d e f = pick a why.rejected (pick b why.wrongAllocation (pick c why.notSupported (pick d why.brokenRule (pick e why.noRoom (pick f why.noAddress why.accepted)))))
 
 judge-is : (kind : ℕ) (s : Settings) (m : Sessions) (x : Session) (r : Request) (seid : ℕ) → r .seid ≡ seid
-    → judge kind s m x r .cause ≡ chain (eqb kind establishment && isLive seid m) (invalidAllocation r) (r .unsupported) (breaksRule s m x r) (noRoom kind s m x r) (noAddress s m r)
+    → judge kind s m x r .cause ≡ chain (eqb kind establishment && isLive seid m) (invalidAllocation r) (r .unsupported) (breaksRule s m x r) (roomLacks kind s m x r) (addressLacks s m r)
 unfolding judge chain
 judge-is kind s m x r seid h =
-    one (eqb kind establishment && isLive (r .seid) m) (invalidAllocation r) (r .unsupported) (breaksRule s m x r) (noRoom kind s m x r) (noAddress s m r)
-    ∙ ap (λ (k : ℕ). chain (eqb kind establishment && isLive k m) (invalidAllocation r) (r .unsupported) (breaksRule s m x r) (noRoom kind s m x r) (noAddress s m r)) h
+    one (eqb kind establishment && isLive (r .seid) m) (invalidAllocation r) (r .unsupported) (breaksRule s m x r) (roomLacks kind s m x r) (addressLacks s m r)
+    ∙ ap (λ (k : ℕ). chain (eqb kind establishment && isLive k m) (invalidAllocation r) (r .unsupported) (breaksRule s m x r) (roomLacks kind s m x r) (addressLacks s m r)) h
   where
     one : (a b c d e f : Bool) → pick a (plain why.rejected) (pick b (plain why.wrongAllocation) (pick c (plain why.notSupported) (pick d (plain why.brokenRule) (pick e (plain why.noRoom) (pick f (plain why.noAddress) (plain why.accepted)))))) .cause ≡ chain a b c d e f
     one true b c d e f = refl
@@ -106,18 +106,18 @@ module _ {s : Settings} {t taken addresses slot gone plan : List ℕ} {n free fr
       one true e = known .known (eqb-true kind establishment e)
       one false e = refl
 
-  rule-same : breaksRuleBy (heldIn s taken) (addressIn s addresses) s (viewSession slot) (requestIn 0 restoring false (rowsOf n plan))
+  rule-same : breaksRuleBy (heldIn s taken) (markedAddress s addresses) s (viewSession slot) (requestIn 0 restoring false (rowsOf n plan))
       ≡ breaksRule s (viewSessions t) (viewSession slot) (requestIn seid restoring noted (rowsOf n plan))
   rule-same =
-      rule-rows (heldIn s taken) (addressIn s addresses) s (viewSession slot) seid restoring noted (rowsOf n plan)
-      ∙ breaks-by (heldIn s taken) (addressIn s addresses) s (viewSessions t) (viewSession slot) seid restoring noted (rowsOf n plan) (map-agrees s (viewSessions t) taken (known .marks)) (addresses-agree s (viewSessions t) addresses (known .marksAddresses))
+      rule-rows (heldIn s taken) (markedAddress s addresses) s (viewSession slot) seid restoring noted (rowsOf n plan)
+      ∙ breaks-by (heldIn s taken) (markedAddress s addresses) s (viewSessions t) (viewSession slot) seid restoring noted (rowsOf n plan) (map-agrees s (viewSessions t) taken (known .marks)) (addresses-agree s (viewSessions t) addresses (known .marksAddresses))
 
   -- the verdict by six tests, as code makes them
   pub verdict-is : judge kind s (viewSessions t) (viewSession slot) (requestIn seid restoring noted (rowsOf n plan)) .cause
       ≡ chain (eqb kind establishment && live) (invalidAllocation (requestIn 0 restoring false (rowsOf n plan))) (requestIn 0 false noted (rowsOf n plan) .unsupported)
-      (breaksRuleBy (heldIn s taken) (addressIn s addresses) s (viewSession slot) (requestIn 0 restoring false (rowsOf n plan)))
-      (noRoom kind s (viewSessions t) (viewSession slot) (requestIn 0 false false (rowsOf n plan)))
-      (noAddress s (viewSessions t) (requestIn 0 false false (rowsOf n plan)))
+      (breaksRuleBy (heldIn s taken) (markedAddress s addresses) s (viewSession slot) (requestIn 0 restoring false (rowsOf n plan)))
+      (roomLacks kind s (viewSessions t) (viewSession slot) (requestIn 0 false false (rowsOf n plan)))
+      (addressLacks s (viewSessions t) (requestIn 0 false false (rowsOf n plan)))
   verdict-is =
       let a = live-same in
       let b : invalidAllocation (requestIn 0 restoring false (rowsOf n plan)) ≡ invalidAllocation (requestIn seid restoring noted (rowsOf n plan)) = invalid-rows 0 restoring false (rowsOf n plan) ∙ sym (invalid-rows seid restoring noted (rowsOf n plan)) in
@@ -130,7 +130,7 @@ module _ {s : Settings} {t taken addresses slot gone plan : List ℕ} {n free fr
 -- these causes name no element
 pub judge-plain : (kind : ℕ) (s : Settings) (m : Sessions) (x : Session) (r : Request) → judge kind s m x r ≡ plain (judge kind s m x r .cause)
 unfolding judge
-judge-plain kind s m x r = one (eqb kind establishment && isLive (r .seid) m) (invalidAllocation r) (r .unsupported) (breaksRule s m x r) (noRoom kind s m x r) (noAddress s m r)
+judge-plain kind s m x r = one (eqb kind establishment && isLive (r .seid) m) (invalidAllocation r) (r .unsupported) (breaksRule s m x r) (roomLacks kind s m x r) (addressLacks s m r)
   where
     one : (a b c d e f : Bool)
         → pick a (plain why.rejected) (pick b (plain why.wrongAllocation) (pick c (plain why.notSupported) (pick d (plain why.brokenRule) (pick e (plain why.noRoom) (pick f (plain why.noAddress) (plain why.accepted))))))

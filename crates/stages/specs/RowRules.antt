@@ -7,10 +7,10 @@ use mathlib.Core.Option.{Option, none, some}
 use mathlib.Core.List.{List, [], _∷_, _++_}
 use Rattle.octets.specs.Choice.{oneOf}
 use Rattle.octets.specs.Lists.{member, any, without}
-use Rattle.octets.specs.Rows.{column}
+use Rattle.octets.specs.Rows.{hasTag, column}
 use Rattle.rules.specs.Model.{Settings}
 use Rattle.rules.specs.Stages.{namesBoth, namedEndpoint, lacksFamily, strange, wrongAddress}
-use Rattle.plan.specs.Rows.{word, hasTag, rowPdr}
+use Rattle.plan.specs.Rows.{word, rowPdr}
 use Rattle.rules.specs.Types as ie
 use Rattle.plan.specs.Words as its
 use Rattle.plan.specs.RowRules.{ofFteid, ofAddress, takesAddress, rowHolding, restores, disagree}

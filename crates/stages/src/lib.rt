@@ -8,9 +8,9 @@ ghost use lib.ListN.{length};
 ghost use Rattle.rules.specs.Message.{establishment};
 ghost use Rattle.rules.specs.Model.{freeCount, freeAddressCount};
 ghost use Rattle.rules.specs.Layout.{viewSession, viewSessions, headWidth};
-ghost use Rattle.rules.specs.Stages.{tooManySessions, noRoom, noAddress, judge};
+ghost use Rattle.rules.specs.Stages.{tooManySessions, roomLacks, addressLacks, judge};
 ghost use Rattle.plan.specs.Rows.{rowWidth, rowsOf, tagged, requestIn};
-ghost use Rattle.plan.specs.RowRules.{requestOf, heldIn, addressIn};
+ghost use Rattle.plan.specs.RowRules.{requestOf, heldIn, markedAddress};
 ghost use Rattle.unit.specs.Meaning.{settingsOf};
 ghost use Rattle.stages.specs.RowRules.{breaksRow, someRow};
 ghost use Rattle.stages.specs.Rules.{Slot, Gone, AtEntry, breaksRuleBy};
@@ -36,7 +36,7 @@ fn breaks_rows(
     restoring: bool,
 ) -> bool
     requires { ⌜ (n * rowWidth ≤ length (now plan)) × (u .size ≤ 64 * length (now taken)) × (u .addresses ≤ 64 * length (now addresses)) ⌝ }
-    ensures { λ r. ⌜ r ≡ someRow (breaksRow (heldIn (settingsOf u) (now (taken .entry))) (addressIn (settingsOf u) (now (addresses .entry))) (settingsOf u) restoring (now (pdrs .entry)) (now (endpoints .entry)) (now (gone .entry)) (rowsOf n (now (plan .entry)))) (rowsOf n (now (plan .entry))) ⌝ }
+    ensures { λ r. ⌜ r ≡ someRow (breaksRow (heldIn (settingsOf u) (now (taken .entry))) (markedAddress (settingsOf u) (now (addresses .entry))) (settingsOf u) restoring (now (pdrs .entry)) (now (endpoints .entry)) (now (gone .entry)) (rowsOf n (now (plan .entry)))) (rowsOf n (now (plan .entry))) ⌝ }
 {
     let mut rest = plan;
     let mut left = n;
@@ -72,7 +72,7 @@ pub fn breaks_rule(
     restoring: bool,
 ) -> bool
     requires { ⌜ (u .size ≤ 64 * length (now taken)) × Slot (now slot) × (n * rowWidth ≤ length (now plan)) × Gone (now slot) (rowsOf n (now plan)) (now gone) × (u .addresses ≤ 64 * length (now addresses)) ⌝ }
-    ensures { λ r. ⌜ r ≡ breaksRuleBy (heldIn (settingsOf u) (now (taken .entry))) (addressIn (settingsOf u) (now (addresses .entry))) (settingsOf u) (viewSession (now (slot .entry))) (requestOf restoring (rowsOf n (now (plan .entry)))) ⌝ }
+    ensures { λ r. ⌜ r ≡ breaksRuleBy (heldIn (settingsOf u) (now (taken .entry))) (markedAddress (settingsOf u) (now (addresses .entry))) (settingsOf u) (viewSession (now (slot .entry))) (requestOf restoring (rowsOf n (now (plan .entry)))) ⌝ }
 {
     let k = slot[format::PDR_COUNT] as usize;
     let j = slot[format::ENDPOINT_COUNT] as usize;
@@ -134,7 +134,7 @@ pub fn no_room(
     n: usize,
 ) -> bool
     requires { ⌜ (headWidth ≤ length (now t)) × (free ≡ freeCount (settingsOf u) (viewSessions (now t))) × Slot (now slot) × (n * rowWidth ≤ length (now plan)) × Gone (now slot) (rowsOf n (now plan)) (now gone) ⌝ }
-    ensures { λ r. ⌜ r ≡ noRoom kind (settingsOf u) (viewSessions (now (t .entry))) (viewSession (now (slot .entry))) (requestOf false (rowsOf n (now (plan .entry)))) ⌝ }
+    ensures { λ r. ⌜ r ≡ roomLacks kind (settingsOf u) (viewSessions (now (t .entry))) (viewSession (now (slot .entry))) (requestOf false (rowsOf n (now (plan .entry)))) ⌝ }
 {
     if full(t, u, kind) {
         return true;
@@ -165,7 +165,7 @@ pub fn no_room(
 // Cause 79: a record chooses an address, and none is free at entry.
 fn no_address(t: &[u8], u: Settings, free: usize, plan: &[u64], n: usize) -> bool
     requires { ⌜ (free ≡ freeAddressCount (settingsOf u) (viewSessions (now t))) × (n * rowWidth ≤ length (now plan)) ⌝ }
-    ensures { λ r. ⌜ r ≡ noAddress (settingsOf u) (viewSessions (now (t .entry))) (requestOf false (rowsOf n (now (plan .entry)))) ⌝ }
+    ensures { λ r. ⌜ r ≡ addressLacks (settingsOf u) (viewSessions (now (t .entry))) (requestOf false (rowsOf n (now (plan .entry)))) ⌝ }
 {
     if 0 < free {
         return false;

@@ -7,7 +7,7 @@ ghost use mathlib.Core.Path.{_≡_};
 ghost use Prim.Native.Nat.{_*_, _≤_};
 ghost use lib.ListN.{length};
 ghost use Rattle.plan.specs.Rows.{rowWidth, rowsOf};
-ghost use Rattle.plan.specs.RowRules.{heldIn, addressIn};
+ghost use Rattle.plan.specs.RowRules.{heldIn, markedAddress};
 ghost use Rattle.unit.specs.Meaning.{settingsOf};
 ghost use Rattle.stages.specs.RowRules.{createsLive, namesDead, updatesGone, pdiNamesBoth, pdiNamesAbsent, breaksId, breaksFteid, breaksAddress};
 
@@ -132,7 +132,7 @@ pub fn breaks_fteid(row: &[u64], u: Settings, taken: &[u64]) -> bool
 // The rules on a row's address (02 (v)). Only an address of the pool is looked up in the map.
 pub fn breaks_address(row: &[u64], u: Settings, restoring: bool, taken: &[u64]) -> bool
     requires { ⌜ (length (now row) ≡ rowWidth) × (u .addresses ≤ 64 * length (now taken)) ⌝ }
-    ensures { λ r. ⌜ r ≡ breaksAddress (addressIn (settingsOf u) (now (taken .entry))) (settingsOf u) restoring (now (row .entry)) ⌝ }
+    ensures { λ r. ⌜ r ≡ breaksAddress (markedAddress (settingsOf u) (now (taken .entry))) (settingsOf u) restoring (now (row .entry)) ⌝ }
 {
     if plan::address::wrong(row, u, restoring) {
         return true;

@@ -33,7 +33,7 @@ use Rattle.marking.specs.declared.Seen.{Seen}
 use Rattle.marking.specs.declared.Seen.the-variants.{Held}
 use Rattle.marking.specs.Marking.{teidsIn, addressesIn, AllAdmitted}
 use Rattle.table.specs.Tests.{limitOf, slotsOf, orderSound, frontTests, frontSound, walkSound}
-use Rattle.table.specs.Answers.{Examined, countOf}
+use Rattle.table.specs.Answers.{Examined, countTold}
 use Rattle.table.proofs.SoundLaws.{settings-front, settings-from, sessions-are, sound-law}
 use Rattle.table.proofs.Walks.{teids-are, addresses-are}
 use Rattle.octets.proofs.Bools.{and-true}
@@ -228,11 +228,11 @@ module _ (t : List ℕ) (r : Seen) (w u : List ℕ) (x : Examined t r w u) where
   pub sound-yes : (n k : ℕ) → r ≡ Held n k → true ≡ sound t
   sound-yes n k e = sym (examined-yes n k e .0)
 
-  pub count-broken : r ≡ marked.Broken → countOf Broken ≡ countFree t
+  pub count-broken : r ≡ marked.Broken → countTold Broken ≡ countFree t
   unfolding countFree
   count-broken e = sym (rw (examined-no e))
 
-  pub addresses-broken : r ≡ marked.Broken → countOf Broken ≡ countAddresses t
+  pub addresses-broken : r ≡ marked.Broken → countTold Broken ≡ countAddresses t
   unfolding countAddresses
   addresses-broken e = sym (rw (examined-no e))
 
@@ -265,13 +265,13 @@ module _ (t : List ℕ) (r : Seen) (w u : List ℕ) (x : Examined t r w u) where
     pub addresses-less : k ≤ s .addresses
     addresses-less = omega (arith, count-fits n k e .addresses, addresses-is s (viewSettings t) is)
 
-    pub count-free : countOf (Free (s .size - n)) ≡ countFree t
+    pub count-free : countTold (Free (s .size - n)) ≡ countFree t
     unfolding countFree freeCount
     count-free =
         let y = examined-yes n k e in
         (λ i. free (size-is s (viewSettings t) is i - y .1 i)) ∙ sym (rw (y .0))
 
-    pub addresses-free : countOf (Free (s .addresses - k)) ≡ countAddresses t
+    pub addresses-free : countTold (Free (s .addresses - k)) ≡ countAddresses t
     unfolding countAddresses freeAddressCount
     addresses-free =
         let y = examined-yes n k e in

@@ -24,9 +24,9 @@ pub record Examined (t : List ℕ) (r : Seen) (words′ addresses′ : List ℕ)
   pub addresses : (n k : ℕ) → r ≡ Held n k → addresses′ ≡ addressMap (viewSettings t) (viewSessions t)
 
 -- the free count, or outcome 1
-abbrev pub countOf : codeCount.Count → Count
-countOf Broken = broken
-countOf (Free n) = free n
+abbrev pub countTold : codeCount.Count → Count
+countTold Broken = broken
+countTold (Free n) = free n
 
 -- made or refused, with the table at exit
 abbrev pub madeOf : Making → List ℕ → Made

@@ -12,7 +12,7 @@ ghost use Rattle.rules.specs.Sound.{sound, countFree, countAddresses, lengthFor
 ghost use Rattle.rules.specs.Layout.{headWidth, viewSettings};
 ghost use Rattle.unit.specs.Meaning.{settingsOf, settingsGiven};
 ghost use Rattle.table.specs.Tests.{frontSound};
-ghost use Rattle.table.specs.Answers.{Examined, countOf, madeOf};
+ghost use Rattle.table.specs.Answers.{Examined, countTold, madeOf};
 use format::COUNT;
 use format::HEAD;
 use format::SETTINGS;
@@ -75,7 +75,7 @@ pub fn is_sound(t: &[u8]) -> bool
 
 // How many TEIDs of the pool no record holds.
 pub fn free_count(t: &[u8]) -> Count
-    ensures { λ r. ⌜ countOf r ≡ countFree (now (t .entry)) ⌝ }
+    ensures { λ r. ⌜ countTold r ≡ countFree (now (t .entry)) ⌝ }
 {
     let mut words = [0u64; pool::WORDS];
     let mut addresses = [0u64; pool::ADDRESS_WORDS];
@@ -89,7 +89,7 @@ pub fn free_count(t: &[u8]) -> Count
 
 // How many addresses of the pool no record holds.
 pub fn free_addresses(t: &[u8]) -> Count
-    ensures { λ r. ⌜ countOf r ≡ countAddresses (now (t .entry)) ⌝ }
+    ensures { λ r. ⌜ countTold r ≡ countAddresses (now (t .entry)) ⌝ }
 {
     let mut words = [0u64; pool::WORDS];
     let mut addresses = [0u64; pool::ADDRESS_WORDS];

@@ -26,7 +26,7 @@ use Rattle.element.proofs.UeIpLaws.{length-given}
 use Rattle.element.proofs.FSeidLaws.{length-fseid}
 use Rattle.unit.specs.declared.Settings.{Settings as Unit}
 use Rattle.unit.specs.Meaning.{settingsOf}
-use Rattle.writing.specs.Families.{unitFamilies, unitAddresses, tunnelIn}
+use Rattle.writing.specs.Families.{familiesWritten, unitAddresses, tunnelIn}
 use Rattle.writing.specs.Placed.{Placed}
 use Rattle.writing.specs.Heads.{messageHead, listHead}
 use Rattle.writing.proofs.PlacedLaws.{length-element, placed-none, placed-element}
@@ -107,8 +107,8 @@ module _ (v : Unit) (families : ℕ) where
   abbrev st : Settings
   st = settingsOf v
 
-  pub families-without : v .«has_ipv6» ≡ false → (families % 2 ≡ unitFamilies st families) × (families % 2 < 4)
-  unfolding unitFamilies settingsOf be
+  pub families-without : v .«has_ipv6» ≡ false → (families % 2 ≡ familiesWritten st families) × (families % 2 < 4)
+  unfolding familiesWritten settingsOf be
   families-without z = (rw z (plain (bit 0 families) (bit 1 families) (bit-first families)), omega arith)
     where
       plain : (p q : Bool) → flag p ≡ families % 2 → families % 2 ≡ flag (p && true) + 2 * flag (q && false)
@@ -117,8 +117,8 @@ module _ (v : Unit) (families : ℕ) where
       plain false true e = sym e
       plain false false e = sym e
 
-  pub families-with : v .«has_ipv6» ≡ true → (families % 4 ≡ unitFamilies st families) × (families % 4 < 4)
-  unfolding unitFamilies settingsOf be
+  pub families-with : v .«has_ipv6» ≡ true → (families % 4 ≡ familiesWritten st families) × (families % 4 < 4)
+  unfolding familiesWritten settingsOf be
   families-with z = (rw z (plain (bit 0 families) (bit 1 families) (bit-first families) (bit-number 1 families)), omega arith)
     where
       plain : (p q : Bool) → flag p ≡ families % 2 → flag q ≡ families / 2 % 2 → families % 4 ≡ flag (p && true) + 2 * flag (q && true)
@@ -128,10 +128,10 @@ module _ (v : Unit) (families : ℕ) where
       plain false false e g = omega arith
 
   abbrev has : ℕ
-  has = unitFamilies st families
+  has = familiesWritten st families
 
   has-small : has < 4
-  unfolding unitFamilies
+  unfolding familiesWritten
   has-small = by (bit 0 families && not (isNil (st .ipv4))) (bit 1 families && not (isNil (st .ipv6)))
     where
       by : (p q : Bool) → flag p + 2 * flag q < 4
@@ -143,7 +143,7 @@ module _ (v : Unit) (families : ℕ) where
   module _ (teid : ℕ) where
     -- the value's octets are the fields of the unit's numbers
     unit-value : fteidOctets (unitFteid st (tunnelIn teid families)) ≡ fieldOctets (fteidWidths has) (has ∷ teid ∷ v .ipv4 ∷ v .high ∷ v .low ∷ 0 ∷ [])
-    unfolding unitFteid tunnelIn unitFamilies settingsOf be fteidWidths bit
+    unfolding unitFteid tunnelIn familiesWritten settingsOf be fteidWidths bit
     unit-value = by (bit 0 families) (bit 1 families) (v .«has_ipv6»)
       where
         by : (p q z : Bool) → fteidOctets (given teid (pick p (be 4 (v .ipv4)) []) (pick q (pick z (be 8 (v .high) ++ be 8 (v .low)) []) []))

@@ -11,12 +11,12 @@ unfoldable pub tunnelIn : ℕ → ℕ → Tunnel
 tunnelIn teid families = record { teid = teid; v4 = bit 0 families; v6 = bit 1 families }
 
 -- the families that an F-TEID has with the unit's addresses, as its flags octet holds them
-unfoldable pub unitFamilies : Settings → ℕ → ℕ
-unitFamilies s families = flag (bit 0 families && not (isNil (s .ipv4))) + 2 * flag (bit 1 families && not (isNil (s .ipv6)))
+unfoldable pub familiesWritten : Settings → ℕ → ℕ
+familiesWritten s families = flag (bit 0 families && not (isNil (s .ipv4))) + 2 * flag (bit 1 families && not (isNil (s .ipv6)))
 
 -- how many octets its addresses take
 abbrev pub addressOctets : ℕ → ℕ
 addressOctets f = 4 * (f % 2) + 16 * (f / 2)
 
 abbrev pub unitAddresses : Settings → ℕ → ℕ
-unitAddresses s families = addressOctets (unitFamilies s families)
+unitAddresses s families = addressOctets (familiesWritten s families)

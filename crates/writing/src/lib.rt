@@ -12,7 +12,7 @@ ghost use Rattle.rules.specs.Elements.{fseidOctets};
 ghost use Rattle.rules.specs.Reply.{element, nodeIdElement, offendingElement, unitFseid, unitElement, addressPart};
 ghost use Rattle.rules.specs.Types as ie;
 ghost use Rattle.unit.specs.Meaning.{settingsOf};
-ghost use Rattle.writing.specs.Families.{unitFamilies, unitAddresses, tunnelIn};
+ghost use Rattle.writing.specs.Families.{familiesWritten, unitAddresses, tunnelIn};
 ghost use Rattle.writing.specs.Placed.{Placed};
 ghost use Rattle.writing.specs.Heads.{messageHead, listHead};
 use element::fteid::FTeid;
@@ -116,7 +116,7 @@ pub fn write_own_fseid(u: Settings, kind: u8, seid: u64, out: &mut [u8], at: usi
 
 // The families of an F-TEID with the unit's addresses: V4 = 1, V6 = 2 where the unit has an IPv6 address.
 pub fn unit_families(u: Settings, families: u64) -> u64
-    ensures { λ r. ⌜ (r ≡ unitFamilies (settingsOf u) families) × (r < 4) ⌝ }
+    ensures { λ r. ⌜ (r ≡ familiesWritten (settingsOf u) families) × (r < 4) ⌝ }
 {
     if u.has_ipv6 {
         return families % 4;

@@ -12,7 +12,7 @@ use borrow.Fn.Kinds.{In}
 use borrow.Fn.PlainCycle.{Measures, is, falls, and}
 use Rattle.octets.specs.Octets.{numberAt}
 use Rattle.rules.specs.Message.{elementType, elementLength, spot, frame}
-use Rattle.frame.specs.Framed.{faultIn}
+use Rattle.frame.specs.Framed.{framingFault}
 use Rattle.frame.proofs.Walk.{part-shorter, value-places, faultInside, inside-shut, inside-open, frame-none, frame-end, frame-cut, frame-over, fault-inside, sound-inside}
 use Rattle.frame.proofs.first_fault.Reads as reads
 use Rattle.frame.proofs.first_fault.Kinds as kinds
@@ -95,7 +95,7 @@ module _ (t : ℕ) where
       let a = k .before .before .before .args in
       let v = take (4 + o .before .before .read2 .result - 4) (drop 4 (k .loop .rest .now)) in
       let sound : faultInside (a .depth) (a .message) (a .group) (o .before .before .before .read .result) (k .loop .at) v ≡ none =
-      ⊎-elim {C = faultInside (a .depth) (a .message) (a .group) (o .before .before .before .read .result) (k .loop .at) v ≡ none} (λ w. inside-open _ _ _ _ _ _ (sym (w .0 .taken) ∙ o .opens .ensures) ∙ sym (w .2 .ensures) ∙ ap faultIn (w .4 .given .1))
+      ⊎-elim {C = faultInside (a .depth) (a .message) (a .group) (o .before .before .before .read .result) (k .loop .at) v ≡ none} (λ w. inside-open _ _ _ _ _ _ (sym (w .0 .taken) ∙ o .opens .ensures) ∙ sym (w .2 .ensures) ∙ ap framingFault (w .4 .given .1))
       (λ w. inside-shut _ _ _ _ _ _ (sym (w .left) ∙ o .opens .ensures)) (c .before .if4 .came) in (
         k .loop .inv .0
             ∙ sound-inside _ _ _ _ _ _ (k .before .if1 .left) (o .before .before .before .before .before .loop-test .taken) _ _ (type (o .before .before)) (size (o .before .before)) (o .before .before .before .before .if2 .left) (o .before .if3 .left) sound,

@@ -1,4 +1,4 @@
--- `frame::opens` meets its contract: the keys of the arms on the way are the lists of `opened`. Assumes nothing.
+-- `frame::opens` meets its contract: the keys of the arms on the way are the lists of `openedIn`. Assumes nothing.
 use Rattle.frame.proofs.Among.{any-open, any-shut, any-inside, change-open, change-shut, change-inside, pdi-open, pdi-shut, none-open}
 use Rattle.frame.proofs.opens.Statement.{statement}
 use Rattle.frame.proofs.opens.Tie as tie

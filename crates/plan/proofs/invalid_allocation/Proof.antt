@@ -4,7 +4,7 @@ use Prim.Native.Nat.{_*_, _≤_}
 use native.Mathlib.Omega.{arith}
 use lib.ListN.{length}
 use Rattle.octets.specs.Lists.{any}
-use Rattle.rules.specs.Stages.{wrongAllocation, invalidAllocation}
+use Rattle.rules.specs.Stages.{allocationWrong, invalidAllocation}
 use Rattle.plan.specs.Rows.{rowWidth, rowsOf}
 use Rattle.plan.specs.RowRules.{ofFteid, requestOf}
 use Rattle.plan.proofs.RequestLaws.{invalid-rows}
@@ -14,7 +14,7 @@ use Rattle.plan.proofs.invalid_allocation.Statement.{statement}
 use Rattle.plan.proofs.invalid_allocation.Tie as tie
 
 abbrev Inv-loop : tie.InvT-loop
-Inv-loop plan n restoring rest₀ left₀ rest left = (left * rowWidth ≤ length rest) × (any (ofFteid (wrongAllocation restoring)) (rowsOf left rest) ≡ invalidAllocation (requestOf restoring (rowsOf n plan)))
+Inv-loop plan n restoring rest₀ left₀ rest left = (left * rowWidth ≤ length rest) × (any (ofFteid (allocationWrong restoring)) (rowsOf left rest) ≡ invalidAllocation (requestOf restoring (rowsOf n plan)))
 
 abbrev μ-loop : tie.MeasureT-loop
 μ-loop plan n restoring rest₀ left₀ rest left = left

@@ -4,7 +4,7 @@ use Prim.Native.Nat.{_*_, _≤_}
 use native.Mathlib.Omega.{arith}
 use lib.ListN.{length}
 use Rattle.plan.specs.Rows.{rowWidth, rowsOf}
-use Rattle.plan.specs.RowRules.{heldIn, addressIn}
+use Rattle.plan.specs.RowRules.{heldIn, markedAddress}
 use Rattle.unit.specs.Meaning.{settingsOf}
 use Rattle.plan.proofs.WalkLaws.{row-length, rest-length}
 use Rattle.stages.specs.RowRules.{breaksRow, someRow}
@@ -14,7 +14,7 @@ use Rattle.stages.proofs.breaks_rows.Statement.{statement}
 use Rattle.stages.proofs.breaks_rows.Tie as tie
 
 abbrev Inv-loop : tie.InvT-loop
-Inv-loop plan n pdrs endpoints gone u taken addresses restoring rest₀ left₀ rest left = (left * rowWidth ≤ length rest) × (someRow (breaksRow (heldIn (settingsOf u) taken) (addressIn (settingsOf u) addresses) (settingsOf u) restoring pdrs endpoints gone (rowsOf n plan)) (rowsOf left rest) ≡ someRow (breaksRow (heldIn (settingsOf u) taken) (addressIn (settingsOf u) addresses) (settingsOf u) restoring pdrs endpoints gone (rowsOf n plan)) (rowsOf n plan))
+Inv-loop plan n pdrs endpoints gone u taken addresses restoring rest₀ left₀ rest left = (left * rowWidth ≤ length rest) × (someRow (breaksRow (heldIn (settingsOf u) taken) (markedAddress (settingsOf u) addresses) (settingsOf u) restoring pdrs endpoints gone (rowsOf n plan)) (rowsOf left rest) ≡ someRow (breaksRow (heldIn (settingsOf u) taken) (markedAddress (settingsOf u) addresses) (settingsOf u) restoring pdrs endpoints gone (rowsOf n plan)) (rowsOf n plan))
 
 abbrev μ-loop : tie.MeasureT-loop
 μ-loop plan n pdrs endpoints gone u taken addresses restoring rest₀ left₀ rest left = left

@@ -13,7 +13,7 @@ returns : tie.Need-returns
 returns c =
     let r = c .before .before .before in
     let is = c .before .enum-told2 .given .1 in
-    rw (tunnel.answer-refused is (r .read .ensures)) (c .cause-of .ensures ∙ ap fteid.causeIn is)
+    rw (tunnel.answer-refused is (r .read .ensures)) (c .cause-of .ensures ∙ ap fteid.fteidCause is)
 
 returns-2 : tie.Need-returns-2
 returns-2 c =
@@ -21,7 +21,7 @@ returns-2 c =
     let r = s .before .before .before in
     let is = c .before .enum-told4 .given .1 in
     let first = tunnel.answer-value (s .before .enum-told .given .1) (r .read .ensures) in
-    rw (first .answered, csid.answer-refused is (s .read2 .ensures)) (c .cause-of2 .ensures ∙ ap fqcsid.causeIn is)
+    rw (first .answered, csid.answer-refused is (s .read2 .ensures)) (c .cause-of2 .ensures ∙ ap fqcsid.fqcsidCause is)
 
 returns-3 : tie.Need-returns-3
 returns-3 c =

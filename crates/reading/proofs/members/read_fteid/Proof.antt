@@ -3,7 +3,7 @@ use mathlib.Core.Path.{sym, ap, _∙_}
 use native.Mathlib.Omega.{arith}
 use lib.ListN.{length-set}
 use borrow.Author.Needs.{needs}
-use Rattle.element.specs.FTeid.{answerOf}
+use Rattle.element.specs.FTeid.{fteidAnswer}
 use Rattle.reading.specs.Rows.{fteidRefusal}
 use Rattle.reading.proofs.MemberLaws.{fteid-refused, fteid-value}
 use Rattle.reading.proofs.members.read_fteid.Statement.{statement}
@@ -12,10 +12,10 @@ use Rattle.reading.proofs.members.read_fteid.Tie as tie
 returns : tie.Need-returns
 returns c =
     let p = c .before .before .before .before .before .before .pre in
-    fteid-refused _ _ _ _ p (ap answerOf (sym (c .before .enum-told .given .1)) ∙ c .before .before .before .read .ensures) (c .refused .ensures ∙ ap (fteidRefusal _) (c .before .enum-told .given .1))
+    fteid-refused _ _ _ _ p (ap fteidAnswer (sym (c .before .enum-told .given .1)) ∙ c .before .before .before .read .ensures) (c .refused .ensures ∙ ap (fteidRefusal _) (c .before .enum-told .given .1))
 
 returns-2 : tie.Need-returns-2
-returns-2 c = fteid-value _ _ _ _ _ (c .before .before .before .before .before .before .pre) (ap answerOf (sym (c .before .answer .given .1)) ∙ c .before .before .before .read .ensures)
+returns-2 c = fteid-value _ _ _ _ _ (c .before .before .before .before .before .before .pre) (ap fteidAnswer (sym (c .before .answer .given .1)) ∙ c .before .before .before .read .ensures)
 
 pub read-fteid-spec : {M : Type 1} → statement M
 read-fteid-spec =

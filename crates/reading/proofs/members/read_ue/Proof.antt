@@ -1,7 +1,7 @@
 -- `read_ue` meets its contract, by the arms of its match. Assumes nothing.
 use mathlib.Core.Path.{sym, ap, _∙_}
 use borrow.Author.Needs.{needs}
-use Rattle.element.specs.UeIp.{answerOf}
+use Rattle.element.specs.UeIp.{ueAnswer}
 use Rattle.reading.proofs.MemberLaws.{ue-refused, ue-value}
 use Rattle.reading.proofs.members.read_ue.Statement.{statement}
 use Rattle.reading.proofs.members.read_ue.Tie as tie
@@ -10,13 +10,13 @@ returns : tie.Need-returns
 returns c =
     let k = c .before .before in
     let r = k .before .before in
-    ue-refused _ _ _ _ (r .before .before .before .pre) (ap answerOf (sym (k .answer .given .1)) ∙ r .read .ensures) (c .cause-of .ensures)
+    ue-refused _ _ _ _ (r .before .before .before .pre) (ap ueAnswer (sym (k .answer .given .1)) ∙ r .read .ensures) (c .cause-of .ensures)
 
 returns-2 : tie.Need-returns-2
 returns-2 c =
     let k = c .before .before .before in
     let r = k .before .before in
-    ue-value (k .answer2 .given .0 .0) _ _ _ (r .before .before .before .pre) (ap answerOf (sym (k .answer2 .given .1)) ∙ r .read .ensures) (c .before .kind-of .ensures) (c .address-of .ensures)
+    ue-value (k .answer2 .given .0 .0) _ _ _ (r .before .before .before .pre) (ap ueAnswer (sym (k .answer2 .given .1)) ∙ r .read .ensures) (c .before .kind-of .ensures) (c .address-of .ensures)
 
 pub read-ue-spec : {M : Type 1} → statement M
 read-ue-spec =

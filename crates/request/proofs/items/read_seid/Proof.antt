@@ -1,6 +1,6 @@
 -- `read_seid` meets its contract. Assumes nothing.
 use mathlib.Core.Path.{sym, ap, _∙_}
-use Rattle.element.specs.FSeid.{answerOf}
+use Rattle.element.specs.FSeid.{fseidAnswer}
 use Rattle.request.specs.Csids.{seidRefusal}
 use Rattle.request.proofs.HeadSteps.{seid-repeat, seid-refused, seid-value}
 use borrow.Author.Needs.{needs}
@@ -23,10 +23,10 @@ refused-requires : tie.Need-refused-requires
 refused-requires c κs = search needs
 
 returns-2 : tie.Need-returns-2
-returns-2 c = seid-refused _ _ _ _ (c .before .before .before .before .if1 .left) (ap answerOf (sym (c .before .enum-told .given .1)) ∙ c .before .before .before .read .ensures) (c .refused .ensures ∙ ap (seidRefusal _ _) (c .before .enum-told .given .1))
+returns-2 c = seid-refused _ _ _ _ (c .before .before .before .before .if1 .left) (ap fseidAnswer (sym (c .before .enum-told .given .1)) ∙ c .before .before .before .read .ensures) (c .refused .ensures ∙ ap (seidRefusal _ _) (c .before .enum-told .given .1))
 
 returns-3 : tie.Need-returns-3
-returns-3 c = seid-value _ _ _ _ (c .before .before .before .before .if1 .left) (ap answerOf (sym (c .before .answer .given .1)) ∙ c .before .before .before .read .ensures)
+returns-3 c = seid-value _ _ _ _ (c .before .before .before .before .if1 .left) (ap fseidAnswer (sym (c .before .answer .given .1)) ∙ c .before .before .before .read .ensures)
 
 pub read-seid-spec : {M : Type 1} → statement M
 read-seid-spec =
