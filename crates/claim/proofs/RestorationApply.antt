@@ -26,7 +26,7 @@ use Rattle.rules.specs.Message.{headerSeid, headerAllowed, served, frameFault, 
 use Rattle.rules.specs.Request.{Request}
 use Rattle.rules.specs.Grants.{Kind, Got, granted}
 use Rattle.rules.specs.Stages.{newSession, atEntry, isLive, plain, judge, entrySession, judged, fromReading, verdictFrom, unknownSession, verdict, unnamed}
-use Rattle.rules.specs.Apply.{tunnelFrom, namedMatch, matchFrom, addressGot, addressFrom, madePdr, madeEndpoint, updateAll, otherNode, setCsid, setCsids, followCsids, pdrsAfter, endpointsAfter, apply, putSession, follow}
+use Rattle.rules.specs.Apply.{tunnelFrom, namedMatch, matchFrom, addressGot, addressFrom, madePdr, madeEndpoint, updateAll, otherNode, setCsid, setCsids, followCsids, pdrsAfter, endpointsAfter, apply, putSession, follow, pdrBy}
 use Rattle.rules.specs.Serve.{unserved, sessionsAfter, replyTo, answered, answer, serveSound, serve}
 use Rattle.rules.specs.Restoration.{Sender, senderAllowed, restoration, restoredPdr, restoredEndpoint, restoredRequest, recordCsid}
 use Rattle.rules.specs.Causes as why
@@ -109,7 +109,7 @@ module _ (s : Settings) (hs : T (settingsAllowed s)) where
   pdrs-again got live [] h = refl
   pdrs-again got live (p ∷ ps) h =
       let e = each (pdrTests s live p) (all-head (pdrAllowed s live) p ps h) in
-      λ i. record { id = p .id; precedence = p .precedence; far = p .far; source = p .source; match = match-again (got Kind.ofPdr (p .id) .teid) live (p .match) (e .1 .1 .1 .1 .0) i; address = address-again (got Kind.ofPdr (p .id) .address) (p .address) i }
+      λ i. pdrBy (restoredPdr s p) (match-again (got Kind.ofPdr (p .id) .teid) live (p .match) (e .1 .1 .1 .1 .0) i) (address-again (got Kind.ofPdr (p .id) .address) (p .address) i)
       ∷ pdrs-again got live ps (all-tail (pdrAllowed s live) p ps h) i
 
   endpoints-again : (got : Kind → ℕ → Got) (es : List Endpoint) → T (all (endpointAllowed s) es) → map (madeEndpoint got) (map (restoredEndpoint s) es) ≡ es

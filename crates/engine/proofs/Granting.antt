@@ -21,7 +21,7 @@ use Rattle.rules.specs.Model.{Tunnel, tunnel}
 use Rattle.rules.specs.Elements.{given, choose, ueGiven, ueChoose, ueOther, Fqcsid, sets, removal, nodeTypeKept, nodeAddressAllowed, nodeAddressTests}
 use Rattle.rules.specs.Request.{cleared, changed}
 use Rattle.rules.specs.Grants.{Kind, ofPdr, ofEndpoint, Got, Grant, grantedTeid}
-use Rattle.rules.specs.Apply.{tunnelFrom, matchFrom, addressGot, addressFrom, madePdr, madeEndpoint}
+use Rattle.rules.specs.Apply.{tunnelFrom, matchFrom, addressGot, addressFrom, madePdr, madeEndpoint, pdrBy}
 use Rattle.laws.proofs.RequestLaws.{PdrRead, EndpointRead, CsidsRead, RequestRead}
 use Rattle.laws.proofs.ReadLaws.{CsidRead}
 use Rattle.plan.specs.Rows.{word, tagged, present, fteidFrom, rowFteid, ueFrom, rowUe, rowLocal, rowPdr, rowEndpoint, rowCsid, rowAddress, isNullRow, requestIn, rowsOf, rowWidth}
@@ -165,14 +165,7 @@ unfolding madePdr pdrOf rowPdr
 pdr-stored got row e f =
     let matched = match-of row (got ofPdr (word its.pdrId row) .teid) e (present (word its.hasEndpointId row) (word its.endpointId row)) in
     let address = address-of row (got ofPdr (word its.pdrId row) .address) f in
-    λ i. record {
-      id = word its.pdrId row;
-      precedence = word its.precedence row;
-      far = present (word its.hasFarId row) (word its.farId row);
-      source = word its.source row;
-      match = matched i;
-      address = address i;
-    }
+    λ i. pdrBy (rowPdr row) (matched i) (address i)
 
 -- a row that chooses holds its grant
 chooses-as : (t : ℕ) (row : List ℕ) → T (hasTag t row) → bit 2 (word its.flags row) ≡ true → choosing t row ≡ true

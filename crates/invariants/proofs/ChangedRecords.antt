@@ -23,11 +23,11 @@ use Rattle.rules.specs.Sound.{tunnelAllowed, matchAllowed, farAllowed, addressA
 use Rattle.rules.specs.Request.{Change, Request}
 use Rattle.rules.specs.Grants.{Kind, ofPdr, grants, grantedTeid, chosenAddress, Got, granted, need}
 use Rattle.rules.specs.Stages.{namedEndpoint, createdPdrs, createdEndpoints, livePdrs, liveEndpoints, endpointIdsAfter, removedPdrs}
-use Rattle.rules.specs.Apply.{namedMatch, matchFrom, addressGot, addressFrom, madePdr, madeEndpoint, orOld, changedPdr, updateAll, keptPdr, keptEndpoint, pdrsAfter, endpointsAfter}
+use Rattle.rules.specs.Apply.{namedMatch, matchFrom, addressGot, addressFrom, madePdr, madeEndpoint, orOld, changedPdr, updateAll, keptPdr, keptEndpoint, pdrsAfter, endpointsAfter, pdrWith}
 use Rattle.laws.proofs.ReadLaws.{UeRead}
 use Rattle.laws.proofs.RequestLaws.{PdrRead, EndpointRead, ChangeRead, RequestRead}
 use Rattle.invariants.proofs.RemovedPdrs.{removed-live, removed-once, stays-named}
-use Rattle.invariants.proofs.KeptRules.{pdr-kept, pdr-allowed, endpoint-allowed, SessionKept, RulesKept, RoomLeft}
+use Rattle.invariants.proofs.KeptRules.{pdr-kept, pdr-allowed, kept-match, kept-with, endpoint-allowed, SessionKept, RulesKept, RoomLeft}
 use Rattle.invariants.proofs.NewHolds.{locals, endpointNew, pdrNew, localTunnel, locals-read}
 use Rattle.invariants.proofs.NewTeids.{new-tunnels}
 
@@ -67,16 +67,8 @@ update-one : (s : Settings) (live : List ℕ) (c : Change) → ChangeRead c → 
 unfolding changedPdr
 update-one s live c k p h =
     let old = pdr-kept s live p h in
-    let new : Pdr = record { id = p .id; precedence = orOld (p .precedence) (c .precedence); far = orOld (p .far) (c .far); source = p .source; match = p .match; address = p .address } in
-    pick-either (λ (q : Pdr). T (pdrAllowed s live q)) (eqb (p .id) (c .id)) new p
-    (pdr-allowed {s = s} {live = live} {p = new} (record {
-      id = old .id;
-      precedence = number (c .precedence) (k .precedence) (old .precedence);
-      far = far-id (c .far) (k .far) (old .far);
-      source = old .source;
-      match = old .match;
-      address = old .address;
-    })) h
+    pick-either (λ (q : Pdr). T (pdrAllowed s live q)) (eqb (p .id) (c .id)) (pdrWith (orOld (p .precedence) (c .precedence)) (orOld (p .far) (c .far)) p) p
+    (pdr-allowed (kept-with old (number (c .precedence) (k .precedence) (old .precedence)) (far-id (c .far) (k .far) (old .far)))) h
   where
     number : (o : Option ℕ) → OnSome (λ n. T (ltb n (2 ^ 32))) o → T (ltb (p .precedence) (2 ^ 32)) → T (ltb (orOld (p .precedence) o) (2 ^ 32))
     number none g old = unfold orOld in old
@@ -268,7 +260,7 @@ module _ (kind : ℕ) (s : Settings) (m : Sessions) (x : Session) (r : Request) 
       one : (p : Pdr) → T (pdrAllowed s (map endpointId (x .endpoints)) p) → T (onSome (λ n. not (member n (r .goneEndpoints))) (pdrEndpoint p)) → T (pdrAllowed s liveAfter p)
       one p h g =
           let k = pdr-kept s (map endpointId (x .endpoints)) p h in
-          pdr-allowed {s = s} {live = liveAfter} {p = p} (record { id = k .id; precedence = k .precedence; far = k .far; source = k .source; match = matched (p .match) (k .match) (unfold pdrEndpoint in g); address = k .address })
+          pdr-allowed (kept-match k (matched (p .match) (k .match) (unfold pdrEndpoint in g)))
 
   -- every PDR afterwards keeps its rule
   pub pdrs-allowed : T (all (pdrAllowed s liveAfter) (pdrsAfter got r (x .pdrs)))

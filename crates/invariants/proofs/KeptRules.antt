@@ -2,6 +2,7 @@
 -- Assumes nothing.
 use Prim.Native.Nat.{ℕ, _+_, _-_, _^_, _≤_}
 use mathlib.Core.Bool.{not, _||_}
+use mathlib.Core.Option.{Option}
 use mathlib.Core.List.{List, [], _∷_, map}
 use lib.ListN.{length}
 use lib.Dec.{T, leb, ltb, eqb, nltb→le}
@@ -15,6 +16,7 @@ use Rattle.rules.specs.Limits.{maxPdrs, maxEndpoints, nodeTypes}
 use Rattle.rules.specs.Elements.{nodeAddressAllowed, nodeTypeKept, below16}
 use Rattle.rules.specs.Sound.{inPool, unitFamilies, tunnelTests, tunnelAllowed, matchAllowed, farAllowed, addressAllowed, pdrTests, pdrAllowed, endpointTests, endpointAllowed, csidTests, csidAllowed, shareTests, agree, sessionTests, sessionAllowed, apart, sessionsTests, sessionsAllowed}
 use Rattle.rules.specs.Request.{Request}
+use Rattle.rules.specs.Apply.{pdrWith}
 use Rattle.rules.specs.Grants.{need}
 use Rattle.rules.specs.Stages.{createdPdrs, createdEndpoints, updatedPdrs, livePdrs, liveEndpoints, fteidsOf, idTwice, createdLive, absentId, updatesRemoved, namesBoth, namedEndpoint, endpointIdsAfter, namesAbsent, removedPdrs, choicesAgree, lacksFamily, strange, restoredHoldings, clash, addressesOf, wrongAddress, restoredAddresses, addressClash, requestRules, brokenRules, tooManySessions, tooManyPdrs, tooManyEndpoints, tooFewTeids}
 use Rattle.invariants.proofs.VerdictLaws.{NoneOf, none-hold}
@@ -57,6 +59,14 @@ pdr-kept s live p h = unfold pdrTests in (
 pub pdr-allowed : {s : Settings} {live : List ℕ} {p : Pdr} → PdrKept s live p → T (pdrAllowed s live p)
 unfolding pdrAllowed pdrTests
 pdr-allowed {s} {live} {p} k = all-of-each (pdrTests s live p) (k .id, (k .precedence, (k .far, (k .source, (k .match, (k .address, tt))))))
+
+-- with other endpoints, where what it matches on is allowed beside them
+pub kept-match : {s : Settings} {live live′ : List ℕ} {p : Pdr} → PdrKept s live p → T (matchAllowed s live′ (p .match)) → PdrKept s live′ p
+kept-match k h = record { id = k .id; precedence = k .precedence; far = k .far; source = k .source; match = h; address = k .address }
+
+-- with another precedence and FAR ID
+pub kept-with : {s : Settings} {live : List ℕ} {p : Pdr} {n : ℕ} {f : Option ℕ} → PdrKept s live p → T (ltb n (2 ^ 32)) → T (farAllowed f) → PdrKept s live (pdrWith n f p)
+kept-with k hn hf = record { id = k .id; precedence = hn; far = hf; source = k .source; match = k .match; address = k .address }
 
 -- Sound.endpointTests
 pub record EndpointKept (s : Settings) (e : Endpoint) : Type 0 where

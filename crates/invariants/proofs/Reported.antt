@@ -19,7 +19,7 @@ use Rattle.rules.specs.Message.{deletion, setDeletion}
 use Rattle.rules.specs.Request.{NewPdr, NewEndpoint, Request}
 use Rattle.rules.specs.Grants.{Kind, ofPdr, ofEndpoint, sameKind, Choice, Chosen, Grant, choiceOf, endpointChoice, pdrChoice, choices, chosenTeid, grantOf, teidFor, freeAfter, chosenAfter, grantFrom, grants, grantTeid, isGrantFor, grantedTeid, chosenAddress, Got, granted}
 use Rattle.rules.specs.Stages.{newPdrId, newEndpointId, createdPdrs, createdEndpoints, removedPdrs, atEntry}
-use Rattle.rules.specs.Apply.{tunnelFrom, matchFrom, addressGot, addressFrom, madePdr, madeEndpoint, updateAll, followCsids, keptPdr, keptEndpoint, pdrsAfter, endpointsAfter, apply, removeSession, putSession, staysSession, follow}
+use Rattle.rules.specs.Apply.{tunnelFrom, matchFrom, addressGot, addressFrom, madePdr, madeEndpoint, updateAll, followCsids, keptPdr, keptEndpoint, pdrsAfter, endpointsAfter, apply, removeSession, putSession, staysSession, follow, pdrBy}
 use Rattle.rules.specs.Reply.{Report, chosenTunnel, chosenIp, pdrReport, endpointReport, somethingChosen, reports}
 use Rattle.invariants.proofs.GrantReply.{reportTeid, reportAddress, hasId, said}
 
@@ -277,14 +277,8 @@ module _ (s : Settings) (m : Sessions) (r : Request) (oncePdrs : T (not (hasRepe
   made-pdr : (p : NewPdr) → (T (isSome (reportAddress (pdrReport got p))) → saidOf ofPdr (p .id) .address ≡ chosenAddress s m) → madePdr saidOf p ≡ madePdr got p
   unfolding madePdr granted
   made-pdr p f =
-      λ j. record {
-        id = p .id;
-        precedence = p .precedence;
-        far = p .far;
-        source = p .source;
-        match = matchFrom (said-teids ofPdr (p .id) j) (p .local) (p .endpoint);
-        address = address-same (saidOf ofPdr (p .id) .address) (p .address) (unfold pdrReport granted in f) j;
-      }
+      λ j. pdrBy p (matchFrom (said-teids ofPdr (p .id) j) (p .local) (p .endpoint))
+      (address-same (saidOf ofPdr (p .id) .address) (p .address) (unfold pdrReport granted in f) j)
 
   made-endpoint : (e : NewEndpoint) → (T (isSome (reportAddress (endpointReport got e))) → saidOf ofEndpoint (e .id) .address ≡ chosenAddress s m) → madeEndpoint saidOf e ≡ madeEndpoint got e
   unfolding madeEndpoint granted

@@ -41,16 +41,12 @@ addressGot chosen ueOther = none
 unfoldable pub addressFrom : ℕ → Option UeIp → Option ℕ
 addressFrom chosen v = bindOption v (addressGot chosen)
 
+-- a request's PDR, with what it matches on and its address
+abbrev pub pdrBy : NewPdr → Match → Option ℕ → Pdr
+pdrBy p q u = record { id = p .id; precedence = p .precedence; far = p .far; source = p .source; match = q; address = u }
+
 unfoldable pub madePdr : (Kind → ℕ → Got) → NewPdr → Pdr
-madePdr got p =
-    record {
-      id = p .id;
-      precedence = p .precedence;
-      far = p .far;
-      source = p .source;
-      match = matchFrom (got ofPdr (p .id) .teid) (p .local) (p .endpoint);
-      address = addressFrom (got ofPdr (p .id) .address) (p .address);
-    }
+madePdr got p = pdrBy p (matchFrom (got ofPdr (p .id) .teid) (p .local) (p .endpoint)) (addressFrom (got ofPdr (p .id) .address) (p .address))
 
 unfoldable pub madeEndpoint : (Kind → ℕ → Got) → NewEndpoint → Endpoint
 madeEndpoint got e =
@@ -61,11 +57,12 @@ unfoldable pub orOld : {A : Type 0} → A → Option A → A
 orOld a none = a
 orOld a (some b) = b
 
+-- a PDR with another precedence and FAR ID
+abbrev pub pdrWith : ℕ → Option ℕ → Pdr → Pdr
+pdrWith n f p = record { id = p .id; precedence = n; far = f; source = p .source; match = p .match; address = p .address }
+
 unfoldable pub changedPdr : Change → Pdr → Pdr
-changedPdr c p =
-    pick (eqb (p .id) (c .id))
-    (record { id = p .id; precedence = orOld (p .precedence) (c .precedence); far = orOld (p .far) (c .far); source = p .source; match = p .match; address = p .address })
-    p
+changedPdr c p = pick (eqb (p .id) (c .id)) (pdrWith (orOld (p .precedence) (c .precedence)) (orOld (p .far) (c .far)) p) p
 
 unfoldable pub updateAll : List Change → List Pdr → List Pdr
 updateAll [] ps = ps

@@ -13,10 +13,10 @@ use Rattle.octets.specs.Octets.{be, part}
 use Rattle.octets.specs.Lists.{all, ascending, keep, findBy, insertBy}
 use Rattle.octets.specs.Rows.{hasTag}
 use Rattle.octets.proofs.Tests.{and-left, and-right, both, all-head, all-tail, is-true, is-false, pick-either}
-use Rattle.rules.specs.Model.{Pdr, neither, Endpoint, Csid, Session, pdrId, endpointId, nodeTypeOf}
-use Rattle.rules.specs.Layout.{pdrOctets, endpointOctets, csidOctets, pdrWidth}
+use Rattle.rules.specs.Model.{Pdr, Endpoint, Csid, Session, pdrId, endpointId, nodeTypeOf}
+use Rattle.rules.specs.Layout.{pdrOctets, endpointOctets, csidOctets, pdrWidth, viewPdr}
 use Rattle.plan.specs.Rows.{word, tagged, rowEndpointId, rowPdr, rowEndpoint, rowChange, rowAddress}
-use Rattle.rules.specs.Apply.{madePdr, madeEndpoint, orOld, changedPdr, updateAll}
+use Rattle.rules.specs.Apply.{madePdr, madeEndpoint, orOld, changedPdr, updateAll, pdrWith}
 use Rattle.rules.specs.Types as ie
 use Rattle.plan.specs.Words as its
 use Rattle.areas.specs.Records.{lookup}
@@ -150,7 +150,7 @@ update-id : (row : List ℕ) (p : Pdr) → pdrId (changedPdr (rowChange row) p) 
 unfolding changedPdr
 update-id row p = go (eqb (p .id) (rowChange row .id))
   where
-    go : (b : Bool) → pdrId (pick {X = Pdr} b (record { id = p .id; precedence = orOld (p .precedence) (rowChange row .precedence); far = orOld (p .far) (rowChange row .far); source = p .source; match = p .match; address = p .address }) p) ≡ p .id
+    go : (b : Bool) → pdrId (pick {X = Pdr} b (pdrWith (orOld (p .precedence) (rowChange row .precedence)) (orOld (p .far) (rowChange row .far)) p) p) ≡ p .id
     go true = refl
     go false = refl
 
@@ -178,7 +178,7 @@ one-update row {x} {s} h =
     k = held-pdrs h
 
     d : Pdr
-    d = record { id = 0; precedence = 0; far = none; source = 0; match = neither; address = none }
+    d = viewPdr []
 
     go : (q : Lookup) → lookup (word its.pdrId row) (map pdrId (x .pdrs)) ≡ q → Slot (setPdrs x (map (changedPdr (rowChange row)) (x .pdrs))) (atPlace q (λ p. updatedAt row p s) (λ p. s))
     go (Found n) e =

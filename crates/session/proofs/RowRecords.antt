@@ -95,11 +95,11 @@ match-numbers row rest = go (eqb (word its.flags row) 0) (eqb (word its.hasEndpo
 
 -- ---- addresses
 
-address-numbers : (row : List ℕ)
+address-numbers : (row rest : List ℕ)
     → let o = addressFrom (word its.ueAddress row) (rowUe row) in
-    addressThere row ∷ ifIs (addressThere row) 1 (word its.ueAddress row) ∷ [] ≡ flag (isSome o) ∷ valueOr 0 o ∷ []
+    addressThere row ∷ ifIs (addressThere row) 1 (word its.ueAddress row) ∷ rest ≡ flag (isSome o) ∷ valueOr 0 o ∷ rest
 unfolding addressThere ifIs rowUe ueFrom addressFrom
-address-numbers row = go (eqb (word its.ueKind row) 0) refl (eqb (word its.ueKind row) 1) refl (eqb (word its.ueKind row) 2) refl
+address-numbers row rest = go (eqb (word its.ueKind row) 0) refl (eqb (word its.ueKind row) 1) refl (eqb (word its.ueKind row) 2) refl
   where
     a : ℕ
     a = word its.ueAddress row
@@ -107,7 +107,7 @@ address-numbers row = go (eqb (word its.ueKind row) 0) refl (eqb (word its.ueKin
     go : (none? : Bool) → eqb (word its.ueKind row) 0 ≡ none? → (one : Bool) → eqb (word its.ueKind row) 1 ≡ one → (two : Bool) → eqb (word its.ueKind row) 2 ≡ two
         → let there : ℕ = pick one 1 (pick two 1 0) in
         let o = addressFrom a (pick none? none (some (pick one (ueGiven a) (pick two ueChoose ueOther)))) in
-        there ∷ pick (eqb there 1) a 0 ∷ [] ≡ flag (isSome o) ∷ valueOr 0 o ∷ []
+        there ∷ pick (eqb there 1) a 0 ∷ rest ≡ flag (isSome o) ∷ valueOr 0 o ∷ rest
     go true e₀ true e₁ two e₂ = let z = eqb-true (word its.ueKind row) 0 e₀ in let y = eqb-true (word its.ueKind row) 1 e₁ in absurd (omega arith)
     go true e₀ false e₁ true e₂ = let z = eqb-true (word its.ueKind row) 0 e₀ in let y = eqb-true (word its.ueKind row) 2 e₂ in absurd (omega arith)
     go true e₀ false e₁ false e₂ = unfold addressFrom in refl
@@ -120,7 +120,7 @@ unfolding pdrRecord pdrValues pdrOctets pdrNumbers pdrOf madePdr rowPdr
 pdr-record row =
     ap (λ (l : List ℕ). fieldOctets pdrWidths (word its.pdrId row ∷ word its.precedence row ∷ l))
     (far-numbers (word its.hasFarId row) (word its.farId row) _
-    ∙ ap (λ (l : List ℕ). flag (isSome (present (word its.hasFarId row) (word its.farId row))) ∷ valueOr 0 (present (word its.hasFarId row) (word its.farId row)) ∷ word its.source row ∷ l) (match-numbers row _ ∙ ap (λ (l : List ℕ). matchKind matched ∷ matchTeid matched ∷ matchFamilies matched ∷ matchEndpoint matched ∷ l) (address-numbers row)))
+    ∙ ap (λ (l : List ℕ). flag (isSome (present (word its.hasFarId row) (word its.farId row))) ∷ valueOr 0 (present (word its.hasFarId row) (word its.farId row)) ∷ word its.source row ∷ l) (match-numbers row _ ∙ ap (λ (l : List ℕ). matchKind matched ∷ matchTeid matched ∷ matchFamilies matched ∷ matchEndpoint matched ∷ l) (address-numbers row _)))
   where
     matched : Match
     matched = matchFrom (word its.teid row) (rowLocal row) (present (word its.hasEndpointId row) (word its.endpointId row))
@@ -134,7 +134,7 @@ pub endpoint-record : (row : List ℕ) → endpointRecord row ≡ endpointOctets
 unfolding endpointRecord endpointValues endpointOctets endpointNumbers endpointOf madeEndpoint rowEndpoint rowTunnel
 endpoint-record row =
     let e = tunnel-octets row in
-    ap (λ (l : List ℕ). fieldOctets endpointWidths (word its.endpointId row ∷ word its.teid row ∷ word its.flags row % 4 ∷ l)) (address-numbers row) ∙ rw (e .1, e .0)
+    ap (λ (l : List ℕ). fieldOctets endpointWidths (word its.endpointId row ∷ word its.teid row ∷ word its.flags row % 4 ∷ l)) (address-numbers row _) ∙ rw (e .1, e .0)
 
 -- ---- FQ-CSID
 
