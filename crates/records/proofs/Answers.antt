@@ -14,7 +14,7 @@ use Rattle.octets.specs.Octets.{part, number, allZero, octets, slices}
 use Rattle.octets.specs.Fields.{fieldsAt}
 use Rattle.octets.specs.Lists.{member}
 use Rattle.octets.proofs.Ordered.{orders}
-use Rattle.octets.proofs.Tests.{and-left, and-right, of-true}
+use Rattle.octets.proofs.Tests.{and-left, and-right, of-true, each}
 use Rattle.octets.proofs.Digits.{numberAfter, after-number, from-zero, number-below, part-octets}
 use Rattle.octets.proofs.Put.{part-two, length-part}
 use Rattle.octets.proofs.FieldLaws.{octet-field, zero-number, zero-append, zero-fields}
@@ -199,7 +199,11 @@ module _ (u : Unit) (live xs : List ℕ) where
     abbrev address : Bool
     address = optionalTest (getD xs pdrAddressThereAt 0) (number (part pdrAddressAt 4 xs))
 
-    pdr-is : pdrSound (settingsOf u) live xs ≡ allOf (far ∷ ltb (getD xs sourceAt 0) 16 ∷ matches ∷ address ∷ [])
+    -- the tests of its fields
+    abbrev tests : List Bool
+    tests = far ∷ ltb (getD xs sourceAt 0) 16 ∷ matches ∷ address ∷ []
+
+    pdr-is : pdrSound (settingsOf u) live xs ≡ allOf tests
     unfolding fieldsAt pdrTest
     pdr-is = pdr-law (settingsOf u) (fits u pool) live xs e o ∙ rw (octet-field farAt xs, octet-field sourceAt xs, octet-field matchAt xs, octet-field familiesAt xs, octet-field namedEndpointAt xs, octet-field pdrAddressThereAt xs)
 
@@ -326,12 +330,7 @@ module _ (u : Unit) (pool : u .first + u .size ≤ 2 ^ 32) where
   pub pdr-pool : (live xs : List ℕ) → length xs ≡ pdrWidth → T (octets xs) → pdrSound (settingsOf u) live xs ≡ true → getD xs matchAt 0 ≡ 1
       → (u .first ≤ number (part teidAt 4 xs)) × (number (part teidAt 4 xs) < u .first + u .size)
   pdr-pool live xs e o k there =
-      let far : Bool = optionalTest (getD xs farAt 0) (number (part farIdAt 4 xs)) in
-      let address : Bool = optionalTest (getD xs pdrAddressThereAt 0) (number (part pdrAddressAt 4 xs)) in
-      let source : Bool = ltb (getD xs sourceAt 0) 16 in
-      let m : Bool = matches u live xs in
       let held : Bool = tunnelTest (settingsOf u) (number (part teidAt 4 xs)) (getD xs familiesAt 0) in
-      let t : T (allOf (far ∷ source ∷ m ∷ address ∷ [])) = of-true (sym (pdr-is u live xs pool e o) ∙ k) in
-      let matched : T m = and-left m (address && true) (and-right source (m && (address && true)) (and-right far (source && (m && (address && true))) t)) in
+      let matched : T (matches u live xs) = each (tests u live xs pool e o) (of-true (sym (pdr-is u live xs pool e o) ∙ k)) .1 .1 .0 in
       let one : T (eqb (getD xs namedEndpointAt 0) 0 && held) = rw there at matched in
       tunnel-pool (number (part teidAt 4 xs)) (getD xs familiesAt 0) (and-right (eqb (getD xs namedEndpointAt 0) 0) held one)
