@@ -17,7 +17,7 @@ use Rattle.octets.specs.Octets.{slices, be, number, numberAt, part, put, zeros,
 use Rattle.octets.specs.Lists.{all, keep, findBy, insertBy, ascending}
 use Rattle.octets.proofs.Put.{put-over, part-of}
 use Rattle.octets.proofs.Numbers.{length-be, number-be}
-use Rattle.octets.proofs.Tests.{all-head, all-tail, all-cons, no-eqb}
+use Rattle.octets.proofs.Tests.{all-head, all-tail, all-at, all-cons, no-eqb}
 use Rattle.octets.proofs.Ordered.{ne-of, keep-all, keep-passes, keep-ascending, otherKey, insert-all, insert-length, insert-ascending}
 use Rattle.areas.specs.Records.{keyOf, lookup, inserted, removed, replaced}
 use Rattle.areas.specs.declared.Lookup.{Lookup}
@@ -54,11 +54,6 @@ module _ {A : Type 0} (key : A → ℕ) where
   unfolding all
   map-all p g keeps [] h = tt
   map-all p g keeps (r ∷ rs) h = all-cons p (g r) (map g rs) (keeps r (all-head p r rs h)) (map-all p g keeps rs (all-tail p r rs h))
-
-  all-at : (p : A → Bool) (d : A) (rs : List A) (n : ℕ) → n < length rs → T (all p rs) → T (p (getD rs n d))
-  all-at p d [] n l h = absurd (omega arith)
-  all-at p d (r ∷ rs) zero l h = all-head p r rs h
-  all-at p d (r ∷ rs) (suc n) l h = all-at p d rs n (omega arith) (all-tail p r rs h)
 
   map-keys : (g : A → A) → ((r : A) → key (g r) ≡ key r) → (rs : List A) → map key (map g rs) ≡ map key rs
   map-keys g same [] = refl
@@ -271,7 +266,7 @@ module _ {A : Type 0} (f : A → List ℕ) (key : A → ℕ) (a : Area) (p : A �
         let within : n < length rs = found-within key x n rs e in
         let ok′ : T (all p (map g rs)) = map-all key p g keeps rs (h .passes) in
         let eq : set rs n r ≡ map g rs = change-found key x n rs (h .up) d g other e in
-        let okr : T (p r) = keeps (getD rs n d) (all-at key p d rs n within (h .passes)) in
+        let okr : T (p r) = keeps (getD rs n d) (all-at p d rs n within (h .passes)) in
         let k : slot.Area f (a .width) (a .room) (set rs n r) ar = replace-held f is-area refl within r (good r okr .0) (ap (replaced n (f r)) area-held) in
         let long : length (map g rs) ≡ length rs = sym (ap length eq) ∙ length-set rs n r in
         held-again (map g rs) (put (a .at) ar s) ar (subst (λ (l : List A). slot.Area f (a .width) (a .room) l ar) eq k)

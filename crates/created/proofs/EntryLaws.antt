@@ -9,7 +9,7 @@ use borrow.Author.Tests.{eq-eqb, ne-eqb}
 use lib.Dec.{T, leb→le}
 use lib.ListN.{length, take, drop, getD, length-take, length-drop}
 use Rattle.octets.specs.Lists.{all}
-use Rattle.octets.proofs.Tests.{all-head, all-tail}
+use Rattle.octets.proofs.Tests.{all-at}
 use Rattle.plan.specs.Rows.{rowWidth}
 use Rattle.created.specs.Entries.{rowId, rowEntry, entryAt, within}
 
@@ -24,15 +24,9 @@ module _ (row : List ℕ) where
   unfolding rowId
   row-endpoint n = rw (ne-eqb (getD row 0 0) 1 n)
 
-pub all-at : (p : ℕ → Bool) (xs : List ℕ) (i : ℕ) → i < length xs → T (all p xs) → T (p (getD xs i 0))
-unfolding all
-all-at p [] i h t = absurd (omega arith)
-all-at p (x ∷ xs) zero h t = all-head p x xs t
-all-at p (x ∷ xs) (suc i) h t = all-at p xs i (omega arith) (all-tail p x xs t)
-
 module _ (plan places : List ℕ) (i : ℕ) (h : i < length places) (t : T (within plan places)) where
   pub row-inside : getD places i 0 + rowWidth ≤ length plan
-  row-inside = leb→le (getD places i 0 + rowWidth) (length plan) (all-at _ places i h t)
+  row-inside = leb→le (getD places i 0 + rowWidth) (length plan) (all-at _ 0 places i h t)
 
   pub row-length : length (take (getD places i 0 + rowWidth - getD places i 0) (drop (getD places i 0) plan)) ≡ rowWidth
   row-length = omega (arith, row-inside, length-take (getD places i 0 + rowWidth - getD places i 0) (drop (getD places i 0) plan), length-drop (getD places i 0) plan)

@@ -12,9 +12,8 @@ use lib.ListN.{length, drop, getD, drop-of-length-le}
 use lib.Seq.{drop-cons}
 use Rattle.octets.specs.Choice.{pick}
 use Rattle.octets.specs.Lists.{findBy, allPairs}
-use Rattle.octets.proofs.Tests.{of-true}
+use Rattle.octets.proofs.Tests.{of-true, all-at}
 use Rattle.octets.proofs.Ordered.{orders, pairs-head, pairs-tail}
-use Rattle.table.proofs.SoundSlots.{all-at}
 use Rattle.rules.specs.Model.{Session, Sessions, seidOf}
 use Rattle.rules.specs.Stages.{hasSeid, newSession}
 use Rattle.rules.specs.Restoring.{sessionAt}

@@ -14,7 +14,7 @@ use Rattle.octets.specs.Octets.{octetAt, slices}
 use Rattle.octets.specs.Lists.{any, keep, collect}
 use Rattle.octets.proofs.ListLaws.{collect-append, collect-same, collect-map}
 use Rattle.rules.specs.Model.{Settings, Pdr, Endpoint, pdrAddress, endpointAddress, inAddressPool, sessionAddresses}
-use Rattle.rules.specs.Layout.{viewPdr, viewEndpoint, pdrWidth, endpointWidth, pdrCountAt, endpointCountAt}
+use Rattle.rules.specs.Layout.{viewPdr, viewEndpoint, pdrWidth, endpointWidth, pdrCountAt, endpointCountAt, pdrAddressThereAt, endpointAddressThereAt}
 use Rattle.laws.proofs.LayoutLaws.{pdr-view, endpoint-view}
 use Rattle.pool.specs.Map.{marked, marks, newMarks, offsets}
 use Rattle.pool.proofs.Marks.{marks-append, length-marks, new-append}
@@ -23,7 +23,7 @@ use Rattle.records.specs.Slot.{headSound, pdrArea, endpointArea}
 use Rattle.records.proofs.SlotLaws.{counts-headed, slotOf, view-slot}
 use Rattle.marking.specs.declared.addresses.Met.{Met}
 use Rattle.marking.specs.declared.addresses.Met.the-variants.{Clash, New}
-use Rattle.marking.specs.Offsets.{addressAt, offsetOf, pdrAddressAt, endpointAddressAt, offsetsIn, slotOffsets, heldOffsets, earlier, Agrees, AreaClaimed, AddressesAdmitted, SlotClaimed}
+use Rattle.marking.specs.Offsets.{addressAt, offsetOf, offsetsIn, slotOffsets, heldOffsets, earlier, Agrees, AreaClaimed, AddressesAdmitted, SlotClaimed}
 use Rattle.marking.proofs.AddressSteps.{below}
 use Rattle.marking.proofs.AddressAreas.{any-same}
 
@@ -56,10 +56,10 @@ module _ {turn count : ℕ} {is : List ℕ} {most : ℕ} {hs ws : List ℕ} {r :
 -- the offsets of an area, and of a slot
 module _ (s : Settings) (xs : List ℕ) where
   abbrev pub endsOf : List ℕ
-  endsOf = offsetsIn s endpointWidth endpointAddressAt (getD xs endpointCountAt 0) (endpointArea xs)
+  endsOf = offsetsIn s endpointWidth endpointAddressThereAt (getD xs endpointCountAt 0) (endpointArea xs)
 
   abbrev pub pdrsOf : List ℕ
-  pdrsOf = offsetsIn s pdrWidth pdrAddressAt (getD xs pdrCountAt 0) (pdrArea xs)
+  pdrsOf = offsetsIn s pdrWidth pdrAddressThereAt (getD xs pdrCountAt 0) (pdrArea xs)
 
   offsets-are : slotOffsets s xs ≡ endsOf ++ pdrsOf
   unfolding slotOffsets octetAt
@@ -102,10 +102,10 @@ module _ (s : Settings) where
       collect-map view (λ r. offsetOf s (f r)) (slices w n a)
       ∙ collect-same (λ xs. offsetOf s (f (view xs))) (λ xs. offsetOf s (addressAt at xs)) (λ xs. ap (offsetOf s) (e xs)) (slices w n a)
 
-  address-pdr : (xs : List ℕ) → pdrAddress (viewPdr xs) ≡ addressAt pdrAddressAt xs
+  address-pdr : (xs : List ℕ) → pdrAddress (viewPdr xs) ≡ addressAt pdrAddressThereAt xs
   address-pdr xs = ap pdrAddress (pdr-view xs)
 
-  address-endpoint : (xs : List ℕ) → endpointAddress (viewEndpoint xs) ≡ addressAt endpointAddressAt xs
+  address-endpoint : (xs : List ℕ) → endpointAddress (viewEndpoint xs) ≡ addressAt endpointAddressThereAt xs
   address-endpoint xs = ap endpointAddress (endpoint-view xs)
 
   held-are : (xs : List ℕ) → T (headSound xs) → heldOffsets s xs ≡ slotOffsets s xs
@@ -123,8 +123,8 @@ module _ (s : Settings) where
           unfold addressOffsets sessionAddresses slotOf held in
           (held-all (collect endpointAddress ends ++ collect pdrAddress pdrs)
           ∙ collect-append (λ a. offsetOf s (some a)) (collect endpointAddress ends) (collect pdrAddress pdrs)
-          ∙ ap₂ _++_ (held-collect endpointAddress ends ∙ of-records endpointAddress viewEndpoint endpointAddressAt address-endpoint endpointWidth (getD xs endpointCountAt 0) (endpointArea xs))
-          (held-collect pdrAddress pdrs ∙ of-records pdrAddress viewPdr pdrAddressAt address-pdr pdrWidth (getD xs pdrCountAt 0) (pdrArea xs)))
+          ∙ ap₂ _++_ (held-collect endpointAddress ends ∙ of-records endpointAddress viewEndpoint endpointAddressThereAt address-endpoint endpointWidth (getD xs endpointCountAt 0) (endpointArea xs))
+          (held-collect pdrAddress pdrs ∙ of-records pdrAddress viewPdr pdrAddressThereAt address-pdr pdrWidth (getD xs pdrCountAt 0) (pdrArea xs)))
 
 -- ---- the answers
 
@@ -163,7 +163,7 @@ module _ (s : Settings) (turn : ℕ) (hs ws xs : List ℕ) (h : T (headSound xs)
   any-held =
       ap (any (marked ws)) held-both
       ∙ any-both (marked ws) (endsOf s xs) (pdrsOf s xs)
-      ∙ (λ j. sym (any-in endpointWidth endpointAddressAt (getD xs endpointCountAt 0) (endpointArea xs)) j || sym (any-in pdrWidth pdrAddressAt (getD xs pdrCountAt 0) (pdrArea xs)) j)
+      ∙ (λ j. sym (any-in endpointWidth endpointAddressThereAt (getD xs endpointCountAt 0) (endpointArea xs)) j || sym (any-in pdrWidth pdrAddressThereAt (getD xs pdrCountAt 0) (pdrArea xs)) j)
 
   clash : any (marked ws) (heldOffsets s xs) ≡ true → (hs′ ws′ : List ℕ) → SlotClaimed s turn ws xs Clash hs′ ws′
   clash t hs′ ws′ =

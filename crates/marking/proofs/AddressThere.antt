@@ -3,7 +3,7 @@
 use mathlib.Core.Path.{_≡_, refl, subst, _∙_}
 use mathlib.Core.Bool.{Bool, true, false}
 use mathlib.Core.List.{List, [], _∷_}
-use Prim.Native.Nat.{ℕ, zero, suc, _+_, _*_, _^_, _≤_, _<_}
+use Prim.Native.Nat.{ℕ, _+_, _*_, _^_, _≤_, _<_}
 use native.Mathlib.Omega.{arith}
 use lib.Dec.{T, eqb, ltb, eqb→eq}
 use lib.ListN.{length, getD}
@@ -11,7 +11,7 @@ use Rattle.octets.specs.Choice.{pick}
 use Rattle.octets.specs.Octets.{part, slices, octetAt, octets}
 use Rattle.octets.specs.Fields.{fieldsAt}
 use Rattle.octets.specs.Lists.{all}
-use Rattle.octets.proofs.Tests.{each, of-true, and-left, all-head, all-tail}
+use Rattle.octets.proofs.Tests.{each, of-true, and-left, all-at}
 use Rattle.octets.proofs.Numbers.{length-slices}
 use Rattle.octets.proofs.Put.{length-part}
 use Rattle.octets.proofs.Digits.{part-octets}
@@ -20,12 +20,12 @@ use Rattle.areas.proofs.LookupLaws.{getD-slices}
 use Rattle.areas.proofs.Rows.{row-within}
 use Rattle.rules.specs.Limits.{maxPdrs, maxEndpoints}
 use Rattle.rules.specs.Model.{Settings}
-use Rattle.rules.specs.Layout.{pdrWidths, pdrWidth, endpointWidths, endpointWidth, pdrsAt, endpointsAt, pdrCountAt, endpointCountAt, sessionWidth}
+use Rattle.rules.specs.Layout.{pdrWidths, pdrWidth, endpointWidths, endpointWidth, pdrsAt, endpointsAt, pdrCountAt, endpointCountAt, pdrAddressThereAt, endpointAddressThereAt, sessionWidth}
 use Rattle.records.specs.Kept.{optionalTest, tunnelTest, matchTest, pdrSound, pdrTest, endpointSound, endpointTest, endpointIds}
 use Rattle.records.specs.Slot.{areaSound, headSound, slotTests, slotSound, pdrArea, endpointArea}
 use Rattle.records.proofs.Slots.{pdr-law, endpoint-law}
 use Rattle.records.proofs.SlotLaws.{counts-headed}
-use Rattle.marking.specs.Offsets.{pdrAddressAt, endpointAddressAt, Present}
+use Rattle.marking.specs.Offsets.{Present}
 
 optional-few : (g h : ℕ) → T (optionalTest g h) → g ≤ 1
 optional-few g h t = go (eqb g 0) refl t
@@ -54,22 +54,17 @@ endpoint-tested s vs t =
     optional-few (getD vs 3 0) (getD vs 4 0) (each (tunnelTest s (getD vs 1 0) (getD vs 2 0) ∷ optionalTest (getD vs 3 0) (getD vs 4 0) ∷ []) t .1 .0)
 
 module _ (s : Settings) (pool : s .first + s .size ≤ 2 ^ 32) where
-  pdr-there : (live xs : List ℕ) → length xs ≡ pdrWidth → T (octets xs) → T (pdrSound s live xs) → getD xs pdrAddressAt 0 ≤ 1
+  pdr-there : (live xs : List ℕ) → length xs ≡ pdrWidth → T (octets xs) → T (pdrSound s live xs) → getD xs pdrAddressThereAt 0 ≤ 1
   unfolding fieldsAt
   pdr-there live xs l o t =
-      subst (λ (k : ℕ). k ≤ 1) (octet-field pdrAddressAt xs) (pdr-tested s live (fieldsAt 0 pdrWidths xs) (subst T (pdr-law s pool live xs l o) t))
+      subst (λ (k : ℕ). k ≤ 1) (octet-field pdrAddressThereAt xs) (pdr-tested s live (fieldsAt 0 pdrWidths xs) (subst T (pdr-law s pool live xs l o) t))
 
-  endpoint-there : (xs : List ℕ) → length xs ≡ endpointWidth → T (octets xs) → T (endpointSound s xs) → getD xs endpointAddressAt 0 ≤ 1
+  endpoint-there : (xs : List ℕ) → length xs ≡ endpointWidth → T (octets xs) → T (endpointSound s xs) → getD xs endpointAddressThereAt 0 ≤ 1
   unfolding fieldsAt
   endpoint-there xs l o t =
-      subst (λ (k : ℕ). k ≤ 1) (octet-field endpointAddressAt xs) (endpoint-tested s (fieldsAt 0 endpointWidths xs) (subst T (endpoint-law s pool xs l o) t))
+      subst (λ (k : ℕ). k ≤ 1) (octet-field endpointAddressThereAt xs) (endpoint-tested s (fieldsAt 0 endpointWidths xs) (subst T (endpoint-law s pool xs l o) t))
 
 -- ---- an area of them
-
-all-at : (p : List ℕ → Bool) (xss : List (List ℕ)) (n : ℕ) → n < length xss → T (all p xss) → T (p (getD xss n []))
-all-at p [] n l h = absurd (omega arith)
-all-at p (xs ∷ xss) zero l h = all-head p xs xss h
-all-at p (xs ∷ xss) (suc n) l h = all-at p xss n (omega arith) (all-tail p xs xss h)
 
 present : (p : List ℕ → Bool) (w k at n : ℕ) (a : List ℕ) → T (octets a) → n * w ≤ length a → T (areaSound p w k n a)
     → ((xs : List ℕ) → length xs ≡ w → T (octets xs) → T (p xs) → getD xs at 0 ≤ 1) → Present w at n a
@@ -78,7 +73,7 @@ present p w k at n a o l t f =
     record {
       there = λ i h.
           f (part (i * w) w a) (length-part (i * w) w a (row-within w w h l (omega arith))) (part-octets (i * w) w a o)
-          (subst (λ (xs : List ℕ). T (p xs)) (getD-slices w n i a h) (all-at p (slices w n a) i (rw length-slices h) (and-left (all p (slices w n a)) _ t)));
+          (subst (λ (xs : List ℕ). T (p xs)) (getD-slices w n i a h) (all-at p [] (slices w n a) i (rw length-slices h) (and-left (all p (slices w n a)) _ t)));
     }
 
 -- ---- a slot
@@ -88,16 +83,16 @@ unfolding slotSound slotTests
 sound-head s xs t = each (slotTests s xs) t .0
 
 module _ (s : Settings) (pool : s .first + s .size ≤ 2 ^ 32) (xs : List ℕ) (long : length xs ≡ sessionWidth) (o : T (octets xs)) (t : T (slotSound s xs)) where
-  pub present-endpoints : Present endpointWidth endpointAddressAt (getD xs endpointCountAt 0) (endpointArea xs)
+  pub present-endpoints : Present endpointWidth endpointAddressThereAt (getD xs endpointCountAt 0) (endpointArea xs)
   unfolding slotSound slotTests octetAt
   present-endpoints =
       let counts = counts-headed xs (sound-head s xs t) in
-      present (endpointSound s) endpointWidth 1 endpointAddressAt (getD xs endpointCountAt 0) (endpointArea xs) (part-octets endpointsAt (maxEndpoints * endpointWidth) xs o)
+      present (endpointSound s) endpointWidth 1 endpointAddressThereAt (getD xs endpointCountAt 0) (endpointArea xs) (part-octets endpointsAt (maxEndpoints * endpointWidth) xs o)
       (omega (arith, counts .endpoints, length-part endpointsAt (maxEndpoints * endpointWidth) xs (omega arith))) (each (slotTests s xs) t .1 .1 .0) (endpoint-there s pool)
 
-  pub present-pdrs : Present pdrWidth pdrAddressAt (getD xs pdrCountAt 0) (pdrArea xs)
+  pub present-pdrs : Present pdrWidth pdrAddressThereAt (getD xs pdrCountAt 0) (pdrArea xs)
   unfolding slotSound slotTests octetAt
   present-pdrs =
       let counts = counts-headed xs (sound-head s xs t) in
-      present (pdrSound s (endpointIds (getD xs endpointCountAt 0) (endpointArea xs))) pdrWidth 2 pdrAddressAt (getD xs pdrCountAt 0) (pdrArea xs) (part-octets pdrsAt (maxPdrs * pdrWidth) xs o)
+      present (pdrSound s (endpointIds (getD xs endpointCountAt 0) (endpointArea xs))) pdrWidth 2 pdrAddressThereAt (getD xs pdrCountAt 0) (pdrArea xs) (part-octets pdrsAt (maxPdrs * pdrWidth) xs o)
       (omega (arith, counts .pdrs, length-part pdrsAt (maxPdrs * pdrWidth) xs (omega arith))) (each (slotTests s xs) t .1 .0) (pdr-there s pool (endpointIds (getD xs endpointCountAt 0) (endpointArea xs)))

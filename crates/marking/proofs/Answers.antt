@@ -14,7 +14,7 @@ use Rattle.octets.specs.Octets.{part, number, octets}
 use Rattle.octets.specs.Fields.{fieldsAt}
 use Rattle.octets.specs.Lists.{collect}
 use Rattle.rules.specs.Model.{Holding, pdrHolding, endpointHolding, tunnelHolding}
-use Rattle.rules.specs.Layout.{tunnelRead, endpointFrom, viewEndpoint, pdrWidth, endpointWidth}
+use Rattle.rules.specs.Layout.{tunnelRead, endpointFrom, viewEndpoint, pdrWidth, endpointWidth, matchAt, teidAt, endpointTeidAt}
 use Rattle.pool.specs.Map.{marked, mark}
 use Rattle.marking.specs.Walk.{joins}
 use Rattle.marking.proofs.RecordWalk.{look-none}
@@ -52,7 +52,7 @@ module _ (xs : List ℕ) (u : Unit) (ws : List ℕ) (b : Bool) (qb : b ≡ endpo
   pub endpoint-broken : not b ≡ true → Stepped (endpointSound (settingsOf u) xs) (u .first) ws [] (endpointHold xs) Clash ws
   endpoint-broken h = step-broken (sym qb ∙ not-true b h)
 
-  module _ (good : not b ≡ false) (t : ℕ) (q : t ≡ number (part 1 4 xs)) where
+  module _ (good : not b ≡ false) (t : ℕ) (q : t ≡ number (part endpointTeidAt 4 xs)) where
     pub endpoint-fits : length xs ≡ endpointWidth → T (octets xs) → u .first + u .size ≤ 2 ^ 32 → u .size ≤ 64 * length ws → (u .first ≤ t) × (t - u .first < 64 * length ws)
     endpoint-fits e o pool room =
         let f = endpoint-pool u pool xs e o (sym qb ∙ not-false b good) in
@@ -80,14 +80,14 @@ module _ (a : List ℕ) (i : ℕ) where
   slot-is : slotAt a i ≡ part (i * pdrWidth) pdrWidth a
   slot-is = let span : i * pdrWidth + pdrWidth - i * pdrWidth ≡ pdrWidth = omega arith in rw span
 
-  hold-is : holdAt a i ≡ pick (eqb (getD (slotAt a i) 12 0) 1) (some (heldBy (slotAt a i))) none
+  hold-is : holdAt a i ≡ pick (eqb (getD (slotAt a i) matchAt 0) 1) (some (heldBy (slotAt a i))) none
   unfolding holdAt
-  hold-is = hold-of (part (i * pdrWidth) pdrWidth a) ∙ ap (λ (x : List ℕ). pick (eqb (getD x 12 0) 1) (some (heldBy x)) none) (sym slot-is)
+  hold-is = hold-of (part (i * pdrWidth) pdrWidth a) ∙ ap (λ (x : List ℕ). pick (eqb (getD x matchAt 0) 1) (some (heldBy x)) none) (sym slot-is)
 
-  hold-absent : (getD (slotAt a i) 12 0 ≡ 1 → ⊥) → holdAt a i ≡ none
-  hold-absent h = hold-is ∙ rw (ne-eqb (getD (slotAt a i) 12 0) 1 h)
+  hold-absent : (getD (slotAt a i) matchAt 0 ≡ 1 → ⊥) → holdAt a i ≡ none
+  hold-absent h = hold-is ∙ rw (ne-eqb (getD (slotAt a i) matchAt 0) 1 h)
 
-  hold-there : getD (slotAt a i) 12 0 ≡ 1 → holdAt a i ≡ some (heldBy (slotAt a i))
+  hold-there : getD (slotAt a i) matchAt 0 ≡ 1 → holdAt a i ≡ some (heldBy (slotAt a i))
   hold-there h = hold-is ∙ rw h
 
   module _ (u : Unit) (live ws : List ℕ) (earlier : List Holding) (b : Bool) (qb : b ≡ pdrSound (settingsOf u) live (slotAt a i)) where
@@ -101,11 +101,11 @@ module _ (a : List ℕ) (i : ℕ) where
     pdr-broken h = step-broken (sym sound-is ∙ not-true b h)
 
     module _ (good : not b ≡ false) where
-      pub pdr-none : (getD (slotAt a i) 12 0 ≡ 1 → ⊥) → Stepped soundAt (u .first) ws earlier (holdAt a i) (New 0) ws
+      pub pdr-none : (getD (slotAt a i) matchAt 0 ≡ 1 → ⊥) → Stepped soundAt (u .first) ws earlier (holdAt a i) (New 0) ws
       unfolding stepOf wordsOf
       pdr-none h = step-good (sym sound-is ∙ not-false b good) (sym (rw (hold-absent h))) (sym (rw (hold-absent h)))
 
-      module _ (there : getD (slotAt a i) 12 0 ≡ 1) (t : ℕ) (q : t ≡ number (part 13 4 (slotAt a i))) where
+      module _ (there : getD (slotAt a i) matchAt 0 ≡ 1) (t : ℕ) (q : t ≡ number (part teidAt 4 (slotAt a i))) where
         pub pdr-fits : length (slotAt a i) ≡ pdrWidth → T (octets (slotAt a i)) → u .first + u .size ≤ 2 ^ 32 → u .size ≤ 64 * length ws → (u .first ≤ t) × (t - u .first < 64 * length ws)
         pdr-fits e o pool room =
             let f = pdr-pool u pool live (slotAt a i) e o (sym qb ∙ not-false b good) there in

@@ -18,7 +18,7 @@ use Rattle.octets.specs.Lists.{collect}
 use Rattle.octets.proofs.Tests.{and-left, and-right, both}
 use Rattle.octets.proofs.Bools.{both-ways, and-assoc, and-false, and-true, or-true, same-bit}
 use Rattle.rules.specs.Model.{neither, tunnel, endpoint, Pdr, Holding, tunnelHolding, matchedTunnel, pdrHolding}
-use Rattle.rules.specs.Layout.{tunnelRead, matchRead, viewPdr, pdrWidth}
+use Rattle.rules.specs.Layout.{tunnelRead, matchRead, viewPdr, pdrWidth, sourceAt, matchAt, teidAt, familiesAt, namedEndpointAt}
 use Rattle.laws.proofs.LayoutLaws.{pdr-view}
 use Rattle.marking.specs.Walk.{joins}
 use Rattle.marking.proofs.RecordWalk.{look-back, look-none, look-some}
@@ -26,11 +26,11 @@ use Rattle.marking.specs.Marking.{holdsTeid, alike, heldBy, pdrHolds}
 
 -- ---- a PDR's hold
 
-pub hold-of : (xs : List ℕ) → pdrHolding (viewPdr xs) ≡ pick (eqb (getD xs 12 0) 1) (some (heldBy xs)) none
-hold-of xs = rw (pdr-view xs) (unfold pdrHolding matchRead in (go (eqb (getD xs 12 0) 1) (eqb (getD xs 12 0) 2)))
+pub hold-of : (xs : List ℕ) → pdrHolding (viewPdr xs) ≡ pick (eqb (getD xs matchAt 0) 1) (some (heldBy xs)) none
+hold-of xs = rw (pdr-view xs) (unfold pdrHolding matchRead in (go (eqb (getD xs matchAt 0) 1) (eqb (getD xs matchAt 0) 2)))
   where
     go : (b c : Bool)
-        → mapOption (tunnelHolding true (getD xs 11 0)) (matchedTunnel (pick b (tunnel (tunnelRead (number (part 13 4 xs)) (getD xs 17 0))) (pick c (endpoint (getD xs 18 0)) neither)))
+        → mapOption (tunnelHolding true (getD xs sourceAt 0)) (matchedTunnel (pick b (tunnel (tunnelRead (number (part teidAt 4 xs)) (getD xs familiesAt 0))) (pick c (endpoint (getD xs namedEndpointAt 0)) neither)))
         ≡ pick b (some (heldBy xs)) none
     go true c = unfold matchedTunnel heldBy octetAt in refl
     go false true = unfold matchedTunnel in refl
@@ -62,10 +62,10 @@ kinds-alike : (xs ys : List ℕ)
     → (sameBool (heldBy xs .v4) (heldBy ys .v4) && (sameBool (heldBy xs .v6) (heldBy ys .v6) && eqb (heldBy xs .source) (heldBy ys .source))) ≡ alike xs ys
 unfolding heldBy tunnelHolding tunnelRead alike
 kinds-alike xs ys =
-    sym (and-assoc (sameBool (bit 0 (octetAt xs 17)) (bit 0 (octetAt ys 17))) (sameBool (bit 1 (octetAt xs 17)) (bit 1 (octetAt ys 17))) (eqb (octetAt xs 11) (octetAt ys 11)))
-    ∙ rw (two-bits (octetAt xs 17) (octetAt ys 17))
+    sym (and-assoc (sameBool (bit 0 (octetAt xs familiesAt)) (bit 0 (octetAt ys familiesAt))) (sameBool (bit 1 (octetAt xs familiesAt)) (bit 1 (octetAt ys familiesAt))) (eqb (octetAt xs sourceAt) (octetAt ys sourceAt)))
+    ∙ rw (two-bits (octetAt xs familiesAt) (octetAt ys familiesAt))
 
-pub teid-of : (xs : List ℕ) → heldBy xs .teid ≡ number (part 13 4 xs)
+pub teid-of : (xs : List ℕ) → heldBy xs .teid ≡ number (part teidAt 4 xs)
 unfolding heldBy tunnelHolding tunnelRead
 teid-of xs = refl
 
@@ -84,11 +84,11 @@ map-snoc [] x = refl
 map-snoc (y ∷ xs) x = ap (λ (l : List Pdr). viewPdr y ∷ l) (map-snoc xs x)
 
 -- one PDR: it holds the TEID, with the same use
-look-one : (xs ys : List ℕ) → joins (consOption (pdrHolding (viewPdr xs)) []) (heldBy ys) ≡ (holdsTeid xs (number (part 13 4 ys)) && alike xs ys)
+look-one : (xs ys : List ℕ) → joins (consOption (pdrHolding (viewPdr xs)) []) (heldBy ys) ≡ (holdsTeid xs (number (part teidAt 4 ys)) && alike xs ys)
 unfolding holdsTeid octetAt
-look-one xs ys = ap (λ (o : Option Holding). joins (consOption o []) (heldBy ys)) (hold-of xs) ∙ go (eqb (getD xs 12 0) 1)
+look-one xs ys = ap (λ (o : Option Holding). joins (consOption o []) (heldBy ys)) (hold-of xs) ∙ go (eqb (getD xs matchAt 0) 1)
   where
-    go : (b : Bool) → joins (consOption (pick b (some (heldBy xs)) none) []) (heldBy ys) ≡ ((b && eqb (number (part 13 4 xs)) (number (part 13 4 ys))) && alike xs ys)
+    go : (b : Bool) → joins (consOption (pick b (some (heldBy xs)) none) []) (heldBy ys) ≡ ((b && eqb (number (part teidAt 4 xs)) (number (part teidAt 4 ys))) && alike xs ys)
     go false = look-none (heldBy ys)
     go true = look-some (heldBy ys) (heldBy xs) (unfold heldBy tunnelHolding in refl) (unfold heldBy tunnelHolding in refl) ∙ (λ i. eqb (teid-of xs i) (teid-of ys i) && kinds-alike xs ys i)
 
@@ -100,7 +100,7 @@ module _ (a : List ℕ) (i : ℕ) (ys : List ℕ) (h : 0 < i) where
   abbrev last : List ℕ
   last = part ((i - 1) * pdrWidth) pdrWidth a
 
-  here : looksTo i ≡ (looksTo (i - 1) || (holdsTeid last (number (part 13 4 ys)) && alike last ys))
+  here : looksTo i ≡ (looksTo (i - 1) || (holdsTeid last (number (part teidAt 4 ys)) && alike last ys))
   unfolding pdrHolds
   here =
       let e : i ≡ suc (i - 1) = omega arith in
@@ -110,8 +110,8 @@ module _ (a : List ℕ) (i : ℕ) (ys : List ℕ) (h : 0 < i) where
       ∙ ap (λ (b : Bool). looksTo (i - 1) || b) (look-one last ys)
 
   -- as the code has the slot
-  module _ (t : ℕ) (q : t ≡ number (part 13 4 ys)) (r : Bool) (e : r ≡ holdsTeid (take ((i - 1) * pdrWidth + pdrWidth - (i - 1) * pdrWidth) (drop ((i - 1) * pdrWidth) a)) t) where
-    held : r ≡ holdsTeid last (number (part 13 4 ys))
+  module _ (t : ℕ) (q : t ≡ number (part teidAt 4 ys)) (r : Bool) (e : r ≡ holdsTeid (take ((i - 1) * pdrWidth + pdrWidth - (i - 1) * pdrWidth) (drop ((i - 1) * pdrWidth) a)) t) where
+    held : r ≡ holdsTeid last (number (part teidAt 4 ys))
     held = let span : (i - 1) * pdrWidth + pdrWidth - (i - 1) * pdrWidth ≡ pdrWidth = omega arith in rw (span, q) at e
 
     pub look-other : r ≡ false → looksTo i ≡ looksTo (i - 1)
@@ -133,18 +133,18 @@ look-end a i ys h = let e : i ≡ 0 = omega arith in rw e (look-none (heldBy ys)
 
 -- ---- the answers of the two tests
 
-pub holds-not : (xs : List ℕ) (t v : ℕ) → v ≡ number (part 13 4 xs) → (v ≡ t → ⊥) → false ≡ holdsTeid xs t
+pub holds-not : (xs : List ℕ) (t v : ℕ) → v ≡ number (part teidAt 4 xs) → (v ≡ t → ⊥) → false ≡ holdsTeid xs t
 unfolding holdsTeid octetAt
-holds-not xs t v q h = sym (rw (← q, ne-eqb v t h) (and-false (eqb (getD xs 12 0) 1)))
+holds-not xs t v q h = sym (rw (← q, ne-eqb v t h) (and-false (eqb (getD xs matchAt 0) 1)))
 
-pub holds-test : (xs : List ℕ) (t v : ℕ) → v ≡ number (part 13 4 xs) → v ≡ t → eqb (getD xs 12 0) 1 ≡ holdsTeid xs t
+pub holds-test : (xs : List ℕ) (t v : ℕ) → v ≡ number (part teidAt 4 xs) → v ≡ t → eqb (getD xs matchAt 0) 1 ≡ holdsTeid xs t
 unfolding holdsTeid octetAt
-holds-test xs t v q h = sym (rw (← q, eq-eqb v t h) (and-true (eqb (getD xs 12 0) 1)))
+holds-test xs t v q h = sym (rw (← q, eq-eqb v t h) (and-true (eqb (getD xs matchAt 0) 1)))
 
-pub alike-not : (xs ys : List ℕ) → (getD xs 17 0 % 4 ≡ getD ys 17 0 % 4 → ⊥) → false ≡ alike xs ys
+pub alike-not : (xs ys : List ℕ) → (getD xs familiesAt 0 % 4 ≡ getD ys familiesAt 0 % 4 → ⊥) → false ≡ alike xs ys
 unfolding alike octetAt
-alike-not xs ys h = sym (rw (ne-eqb (getD xs 17 0 % 4) (getD ys 17 0 % 4) h))
+alike-not xs ys h = sym (rw (ne-eqb (getD xs familiesAt 0 % 4) (getD ys familiesAt 0 % 4) h))
 
-pub alike-test : (xs ys : List ℕ) → getD xs 17 0 % 4 ≡ getD ys 17 0 % 4 → eqb (getD xs 11 0) (getD ys 11 0) ≡ alike xs ys
+pub alike-test : (xs ys : List ℕ) → getD xs familiesAt 0 % 4 ≡ getD ys familiesAt 0 % 4 → eqb (getD xs sourceAt 0) (getD ys sourceAt 0) ≡ alike xs ys
 unfolding alike octetAt
-alike-test xs ys h = sym (rw (eq-eqb (getD xs 17 0 % 4) (getD ys 17 0 % 4) h))
+alike-test xs ys h = sym (rw (eq-eqb (getD xs familiesAt 0 % 4) (getD ys familiesAt 0 % 4) h))

@@ -12,7 +12,7 @@ use Rattle.octets.specs.Choice.{pick}
 use Rattle.octets.specs.Octets.{part, number, octetAt, slices, concatMap}
 use Rattle.octets.specs.Lists.{any, collect}
 use Rattle.rules.specs.Model.{Settings, Holding, tunnelHolding, pdrHolding, endpointHolding, sessionHoldings, teidOf}
-use Rattle.rules.specs.Layout.{tunnelRead, viewPdr, viewEndpoint, viewSession, pdrWidth, endpointWidth}
+use Rattle.rules.specs.Layout.{tunnelRead, viewPdr, viewEndpoint, viewSession, pdrWidth, endpointWidth, sourceAt, matchAt, teidAt, familiesAt}
 use Rattle.pool.specs.Map.{marked, mark, marks, newMarks, offsets}
 use Rattle.marking.specs.Walk.{joins, sessionMarks}
 use Rattle.records.specs.Slot.{slotSound}
@@ -26,15 +26,15 @@ use Rattle.marking.specs.declared.Seen.the-variants.{Broken, Held}
 
 -- a PDR's slot holds a TEID
 unfoldable pub holdsTeid : List ℕ → ℕ → Bool
-holdsTeid xs teid = eqb (octetAt xs 12) 1 && eqb (number (part 13 4 xs)) teid
+holdsTeid xs teid = eqb (octetAt xs matchAt) 1 && eqb (number (part teidAt 4 xs)) teid
 
 -- two PDRs' slots have equal families and source interface
 unfoldable pub alike : List ℕ → List ℕ → Bool
-alike xs ys = eqb (octetAt xs 17 % 4) (octetAt ys 17 % 4) && eqb (octetAt xs 11) (octetAt ys 11)
+alike xs ys = eqb (octetAt xs familiesAt % 4) (octetAt ys familiesAt % 4) && eqb (octetAt xs sourceAt) (octetAt ys sourceAt)
 
 -- the hold of a PDR whose slot has an F-TEID
 unfoldable pub heldBy : List ℕ → Holding
-heldBy xs = tunnelHolding true (octetAt xs 11) (tunnelRead (number (part 13 4 xs)) (octetAt xs 17))
+heldBy xs = tunnelHolding true (octetAt xs sourceAt) (tunnelRead (number (part teidAt 4 xs)) (octetAt xs familiesAt))
 
 -- ---- holds by octets
 

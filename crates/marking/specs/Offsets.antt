@@ -7,14 +7,13 @@ use mathlib.Core.Bool.{Bool, not, _&&_}
 use mathlib.Core.Option.{Option, none, some}
 use mathlib.Core.List.{List, [], _∷_, _++_}
 use lib.Dec.{eqb, ltb}
-use lib.ListN.{length, take, getD, set}
+use lib.ListN.{length, getD, set}
 use Rattle.octets.specs.Choice.{pick, flag}
-use Rattle.octets.specs.Fields.{widthOf}
 use Rattle.octets.specs.Octets.{part, number, octetAt, slices}
 use Rattle.octets.specs.Lists.{any, collect}
 use Rattle.rules.specs.Limits.{maxSessions, maxAddresses}
 use Rattle.rules.specs.Model.{Settings, inAddressPool}
-use Rattle.rules.specs.Layout.{optionRead, viewSession, pdrWidths, endpointWidths, pdrWidth, endpointWidth, pdrCountAt, endpointCountAt}
+use Rattle.rules.specs.Layout.{optionRead, viewSession, pdrWidth, endpointWidth, pdrCountAt, endpointCountAt, pdrAddressThereAt, endpointAddressThereAt}
 use Rattle.pool.specs.Map.{marked, mark, marks, newMarks}
 use Rattle.marking.specs.Walk.{addressOffsets}
 use Rattle.records.specs.Slot.{pdrArea, endpointArea}
@@ -32,20 +31,13 @@ unfoldable pub offsetOf : Settings → Option ℕ → Option ℕ
 offsetOf s none = none
 offsetOf s (some a) = pick (inAddressPool s a) (some (a - s .firstAddress)) none
 
--- where a record says whether it has an address
-abbrev pub pdrAddressAt : ℕ
-pdrAddressAt = widthOf (take 9 pdrWidths)
-
-abbrev pub endpointAddressAt : ℕ
-endpointAddressAt = widthOf (take 3 endpointWidths)
-
 -- those of n records of w octets, and of a session's slot
 unfoldable pub offsetsIn : Settings → ℕ → ℕ → ℕ → List ℕ → List ℕ
 offsetsIn s w at n a = collect (λ xs. offsetOf s (addressAt at xs)) (slices w n a)
 
 unfoldable pub slotOffsets : Settings → List ℕ → List ℕ
 slotOffsets s xs =
-    offsetsIn s endpointWidth endpointAddressAt (octetAt xs endpointCountAt) (endpointArea xs) ++ offsetsIn s pdrWidth pdrAddressAt (octetAt xs pdrCountAt) (pdrArea xs)
+    offsetsIn s endpointWidth endpointAddressThereAt (octetAt xs endpointCountAt) (endpointArea xs) ++ offsetsIn s pdrWidth pdrAddressThereAt (octetAt xs pdrCountAt) (pdrArea xs)
 
 -- each of n records of w octets says by 0 or 1 whether it has an address, as sound ones do
 pub record Present (w at n : ℕ) (a : List ℕ) : Type 0 where

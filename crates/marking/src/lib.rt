@@ -21,6 +21,7 @@ use format::CSID_COUNT;
 use format::CSIDS;
 use format::ENDPOINT;
 use format::ENDPOINT_COUNT;
+use format::ENDPOINT_TEID;
 use format::ENDPOINTS;
 use format::FAMILIES;
 use format::MATCH;
@@ -92,7 +93,7 @@ fn admit_endpoint(words: &mut [u64], slot: &[u8], u: Settings) -> Marks
     if !records::endpoint_sound(slot, u) {
         return Marks::Clash;
     }
-    let teid = octets::read(slot, 1, 4);
+    let teid = octets::read(slot, ENDPOINT_TEID, 4);
     if pool::mark(words, (teid - u.first) as usize) {
         return Marks::Clash;
     }

@@ -1,12 +1,13 @@
 -- Tests that hold, lists of them, and choosing by them; numbers in ascending order.
 -- Assumes nothing.
 use mathlib.Core.Path.{_≡_, refl, sym, subst}
-use Prim.Native.Nat.{ℕ, _-_, _≤_, _<_}
+use Prim.Native.Nat.{ℕ, zero, suc, _-_, _≤_, _<_}
 use mathlib.Core.Logic.{_≢_}
 use native.Mathlib.Nat.{le-trans}
 use native.Mathlib.Omega.{arith}
 use mathlib.Core.Bool.{Bool, true, false, not, _&&_, _||_}
 use mathlib.Core.List.{List, [], _∷_}
+use lib.ListN.{length, getD}
 use lib.Dec.{T, ltb, eqb, eqb→eq, ltb→lt, lt→ltb, not-T}
 use Rattle.octets.specs.Choice.{pick, allOf, isNil, headOr}
 use Rattle.octets.specs.Lists.{member, ascending, all}
@@ -57,6 +58,12 @@ all-head p a as′ h = and-left (p a) (all p as′) h
 pub all-tail : {A : Type 0} (p : A → Bool) (a : A) (as′ : List A) → T (all p (a ∷ as′)) → T (all p as′)
 unfolding all
 all-tail p a as′ h = and-right (p a) (all p as′) h
+
+-- and of the one at a place
+pub all-at : {A : Type 0} (p : A → Bool) (d : A) (as′ : List A) (n : ℕ) → n < length as′ → T (all p as′) → T (p (getD as′ n d))
+all-at p d [] n l h = absurd (omega arith)
+all-at p d (a ∷ as′) zero l h = all-head p a as′ h
+all-at p d (a ∷ as′) (suc n) l h = all-at p d as′ n (omega arith) (all-tail p a as′ h)
 
 -- ---- choosing by a test
 

@@ -9,7 +9,7 @@ use lib.ListN.{length, getD, take, drop, length-map, List·getD-map}
 use lib.Seq.{drop-drop}
 use Rattle.octets.specs.Octets.{part, number, octetAt, slices}
 use Rattle.octets.specs.Lists.{all}
-use Rattle.octets.proofs.Tests.{each, Each, all-head, all-tail}
+use Rattle.octets.proofs.Tests.{each, Each, all-at}
 use Rattle.octets.proofs.ListLaws.{all-map}
 use Rattle.octets.proofs.Put.{length-part}
 use Rattle.octets.proofs.Numbers.{length-slices}
@@ -25,11 +25,6 @@ use Rattle.table.specs.Tests.{sessionCount, slotsOf}
 use Rattle.table.proofs.SoundLaws.{sessions-are}
 
 -- ---- the records of a slot
-
-pub all-at : {A : Type 0} (p : A → Bool) (d : A) (rs : List A) (n : ℕ) → n < length rs → T (all p rs) → T (p (getD rs n d))
-all-at p d [] n l h = absurd (omega arith)
-all-at p d (r ∷ rs) zero l h = all-head p r rs h
-all-at p d (r ∷ rs) (suc n) l h = all-at p d rs n (omega arith) (all-tail p r rs h)
 
 module _ (s : Settings) (slot : List ℕ) (long : length slot ≡ sessionWidth) (h : T (sessionAllowed s (viewSession slot))) where
   facts : Each (sessionTests s (viewSession slot))
