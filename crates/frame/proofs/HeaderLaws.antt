@@ -11,7 +11,7 @@ use borrow.Author.Tests.{lt-ltb, le-ltb, le-leb, lt-leb, eq-eqb, ne-eqb, ltb-fal
 use Rattle.octets.specs.Choice.{pick, sameBool}
 use Rattle.octets.specs.Octets.{bit, octetAt, number, numberAt, part}
 use Rattle.octets.proofs.Tests.{of-true}
-use Rattle.rules.specs.Message.{headerAllowed, firstOctetAllowed, served, kindOf, headerSeid, setDeletion, seidThere, headerLength}
+use Rattle.rules.specs.Message.{headerAllowed, firstOctetAllowed, served, kindOf, headerSeid, setDeletion, seidThere, headerLength, bodyPlace, listPlace, countedPlace}
 use Rattle.frame.specs.HeaderOf.{outcome, request, headerOf, sets, Opening, SessionHeader}
 use Rattle.laws.proofs.HeaderLaws.{header-long, long-there, seid-there, long-absent}
 
@@ -31,10 +31,10 @@ even zero h = refl
 even (suc zero) h = refl
 even (suc (suc n)) h = absurd (omega arith)
 
-pub length-with : (x : ℕ) → x % 2 ≡ 1 → _≡_ {A = ℕ} 16 (pick (bit 0 x) 16 8)
+pub length-with : (x : ℕ) → x % 2 ≡ 1 → _≡_ {A = ℕ} bodyPlace (pick (bit 0 x) bodyPlace listPlace)
 length-with x e = rw (← low-bit x, eq-eqb (x % 2) 1 e)
 
-pub length-without : (x : ℕ) → (x % 2 ≡ 1 → ⊥) → _≡_ {A = ℕ} 8 (pick (bit 0 x) 16 8)
+pub length-without : (x : ℕ) → (x % 2 ≡ 1 → ⊥) → _≡_ {A = ℕ} listPlace (pick (bit 0 x) bodyPlace listPlace)
 length-without x e = rw (← low-bit x, ne-eqb (x % 2) 1 e)
 
 module _ (k x : ℕ) where
@@ -59,28 +59,28 @@ module _ (k x : ℕ) where
 
 -- ---- the header
 
-pub least : (b : Bool) → 8 ≤ pick b 16 8
+pub least : (b : Bool) → listPlace ≤ pick b bodyPlace listPlace
 least true = omega arith
 least false = omega arith
 
 module _ (msg : List ℕ) where
-  pub allowed-long : true ≡ headerAllowed msg → 8 ≤ length msg
+  pub allowed-long : true ≡ headerAllowed msg → listPlace ≤ length msg
   unfolding headerLength
   allowed-long h = let a = header-long msg (of-true (sym h)) in let b = least (seidThere msg) in omega arith
 
   -- with a SEID unless it is a set deletion's
-  pub allowed-seid : true ≡ headerAllowed msg → (k : ℕ) → k ≡ kindOf msg → (k ≡ setDeletion → ⊥) → 16 ≤ length msg
+  pub allowed-seid : true ≡ headerAllowed msg → (k : ℕ) → k ≡ kindOf msg → (k ≡ setDeletion → ⊥) → bodyPlace ≤ length msg
   allowed-seid h k e n = long-there msg (of-true (sym h)) (subst (λ (b : Bool). T (not b)) (sym (ne-eqb (kindOf msg) setDeletion (λ z. n (e ∙ z)))) tt)
 
-  pub read-kind : 8 ≤ length msg → (k : ℕ) → k ≡ number (part 1 1 msg) → k ≡ kindOf msg
+  pub read-kind : listPlace ≤ length msg → (k : ℕ) → k ≡ number (part 1 1 msg) → k ≡ kindOf msg
   unfolding kindOf octetAt number
   read-kind long k e = rw (e, drop-cons msg 1 0 (omega arith)) (omega arith)
 
-  pub short-header : length msg < 8 → false ≡ headerAllowed msg
+  pub short-header : length msg < listPlace → false ≡ headerAllowed msg
   unfolding headerAllowed headerLength
-  short-header h = let b = least (seidThere msg) in rw (lt-leb (pick (seidThere msg) 16 8) (length msg) (omega arith))
+  short-header h = let b = least (seidThere msg) in rw (lt-leb (pick (seidThere msg) bodyPlace listPlace) (length msg) (omega arith))
 
-  module _ (n : ℕ) (size : n ≡ pick (bit 0 (getD msg 0 0)) 16 8) where
+  module _ (n : ℕ) (size : n ≡ pick (bit 0 (getD msg 0 0)) bodyPlace listPlace) where
     pub is-length : n ≡ headerLength msg
     unfolding headerLength seidThere octetAt
     is-length = size
@@ -89,7 +89,7 @@ module _ (msg : List ℕ) where
     unfolding headerAllowed
     cut-header h = rw (lt-leb (headerLength msg) (length msg) (rw (← is-length) h))
 
-    module _ (long : 8 ≤ length msg) (whole : n ≤ length msg) (k : ℕ) (kind : k ≡ number (part 1 1 msg)) (b : Bool) (first : b ≡ firstOctetAllowed k (getD msg 0 0)) where
+    module _ (long : listPlace ≤ length msg) (whole : n ≤ length msg) (k : ℕ) (kind : k ≡ number (part 1 1 msg)) (b : Bool) (first : b ≡ firstOctetAllowed k (getD msg 0 0)) where
       first-is : firstOctetAllowed (kindOf msg) (octetAt msg 0) ≡ b
       unfolding octetAt
       first-is = sym (first ∙ ap (λ (j : ℕ). firstOctetAllowed j (getD msg 0 0)) (read-kind long k kind))
@@ -98,7 +98,7 @@ module _ (msg : List ℕ) where
       unfolding headerAllowed
       wrong-octet e = rw (le-leb (headerLength msg) (length msg) (rw (← is-length) whole), first-is, e)
 
-      pub by-length : b ≡ true → (l : ℕ) → l ≡ number (part 2 2 msg) → eqb (4 + l) (length msg) ≡ headerAllowed msg
+      pub by-length : b ≡ true → (l : ℕ) → l ≡ number (part 2 2 msg) → eqb (countedPlace + l) (length msg) ≡ headerAllowed msg
       unfolding headerAllowed numberAt
       by-length e l q = rw (le-leb (headerLength msg) (length msg) (rw (← is-length) whole), first-is, e, q)
 
@@ -123,11 +123,11 @@ module _ (msg : List ℕ) where
       unfolding headerOf
       a-set e d = rw (le-ltb 2048 (length msg) fits, ← allowed, fine, ← is-kind, ← is, e, eq-eqb k setDeletion d)
 
-      pub a-request : s ≡ true → (k ≡ setDeletion → ⊥) → (n : ℕ) → n ≡ number (part 4 8 msg) → request k n ≡ headerOf msg
+      pub a-request : s ≡ true → (k ≡ setDeletion → ⊥) → (n : ℕ) → n ≡ number (part countedPlace 8 msg) → request k n ≡ headerOf msg
       unfolding headerOf headerSeid numberAt
       a-request e d n q = rw (le-ltb 2048 (length msg) fits, ← allowed, fine, ← is-kind, ← is, e, ne-eqb k setDeletion d, q)
 
-      pub request-long : (k ≡ setDeletion → ⊥) → 16 ≤ length msg
+      pub request-long : (k ≡ setDeletion → ⊥) → bodyPlace ≤ length msg
       request-long d = allowed-seid (sym fine ∙ allowed) k is-kind d
 
 -- ---- what an answer says
@@ -181,5 +181,5 @@ module _ (msg : List ℕ) where
       let ns : T (not (eqb (kindOf msg) setDeletion)) = subst (λ (b : Bool). T (not b)) (sym other) tt in
       (record { long = long-there msg (o .header) ns; seid = seid-there msg (o .header) ns; kind = other }, o .short)
 
-  pub sets-bounds : sets ≡ headerOf msg → (8 ≤ length msg) × (length msg ≤ 2048)
+  pub sets-bounds : sets ≡ headerOf msg → (listPlace ≤ length msg) × (length msg ≤ 2048)
   sets-bounds e = let o = sets-opens e in (long-absent msg (o .header) (sets-is e), o .short)

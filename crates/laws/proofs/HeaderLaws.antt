@@ -10,13 +10,13 @@ use borrow.Author.Tests.{eq-eqb}
 use Rattle.octets.specs.Choice.{pick, sameBool}
 use Rattle.octets.specs.Octets.{numberAt, octetAt, bit}
 use Rattle.octets.proofs.Tests.{and-left, and-right, is-false}
-use Rattle.rules.specs.Message.{establishment, setDeletion, kindOf, seidThere, headerLength, firstOctetAllowed, headerAllowed}
+use Rattle.rules.specs.Message.{establishment, setDeletion, kindOf, seidThere, headerLength, firstOctetAllowed, headerAllowed, bodyPlace, listPlace, countedPlace}
 use Rattle.rules.specs.Stages.{unnamed}
 
 module _ (msg : List ℕ) (h : T (headerAllowed msg)) where
   front : T (leb (headerLength msg) (length msg) && firstOctetAllowed (kindOf msg) (octetAt msg 0))
   unfolding headerAllowed
-  front = and-left (leb (headerLength msg) (length msg) && firstOctetAllowed (kindOf msg) (octetAt msg 0)) (eqb (4 + numberAt 2 2 msg) (length msg)) h
+  front = and-left (leb (headerLength msg) (length msg) && firstOctetAllowed (kindOf msg) (octetAt msg 0)) (eqb (countedPlace + numberAt 2 2 msg) (length msg)) h
 
   pub header-long : headerLength msg ≤ length msg
   header-long = leb→le (headerLength msg) (length msg) (and-left (leb (headerLength msg) (length msg)) (firstOctetAllowed (kindOf msg) (octetAt msg 0)) front)
@@ -42,13 +42,13 @@ module _ (msg : List ℕ) (h : T (headerAllowed msg)) where
   seid-absent e = seid-is ∙ ap not (eq-eqb (kindOf msg) setDeletion e)
 
   -- so each has its octets
-  pub long-there : T (not (eqb (kindOf msg) setDeletion)) → 16 ≤ length msg
+  pub long-there : T (not (eqb (kindOf msg) setDeletion)) → bodyPlace ≤ length msg
   unfolding headerLength
-  long-there n = subst (λ (b : Bool). pick b 16 8 ≤ length msg) (seid-there n) header-long
+  long-there n = subst (λ (b : Bool). pick b bodyPlace listPlace ≤ length msg) (seid-there n) header-long
 
-  pub long-absent : kindOf msg ≡ setDeletion → 8 ≤ length msg
+  pub long-absent : kindOf msg ≡ setDeletion → listPlace ≤ length msg
   unfolding headerLength
-  long-absent e = subst (λ (b : Bool). pick b 16 8 ≤ length msg) (seid-absent e) header-long
+  long-absent e = subst (λ (b : Bool). pick b bodyPlace listPlace ≤ length msg) (seid-absent e) header-long
 
 -- what names no session in its header and is no set deletion is an establishment
 pub unnamed-new : (kind : ℕ) → T (not (eqb kind setDeletion)) → unnamed kind ≡ eqb kind establishment

@@ -15,7 +15,7 @@ use Rattle.octets.specs.Octets.{be, part, bit, numberAt, octetAt, put}
 use Rattle.octets.specs.Lists.{findBy}
 use Rattle.octets.proofs.Numbers.{number-be}
 use Rattle.rules.specs.Model.{Settings}
-use Rattle.rules.specs.Message.{Element, elements, seidThere, headerLength, body, kindOf, headerSeid, sequenceOf, hasType, contentIn, contentOf, establishment, setDeletion}
+use Rattle.rules.specs.Message.{Element, elements, seidThere, headerLength, body, kindOf, headerSeid, sequenceOf, hasType, contentIn, contentOf, establishment, setDeletion, bodyPlace, listPlace, countedPlace}
 use Rattle.laws.proofs.MessageLaws.{Fits, el, elements-cons}
 use Rattle.rules.specs.Stages.{Verdict}
 use Rattle.rules.specs.Reply.{Reports, element, message, listMessage, nodeIdElement, offendingElement, acceptedPart, replyBody, replySeid, reply}
@@ -32,22 +32,22 @@ module _ (kind seid : ℕ) (q xs space : List ℕ) (three : length q ≡ 3) (sho
   abbrev msg : List ℕ
   msg = message kind seid q xs
 
-  length-message : length msg ≡ 16 + length xs
+  length-message : length msg ≡ bodyPlace + length xs
   unfolding message be
   length-message = let e = length-append q (0 ∷ xs) in omega arith
 
-  number-there : numberAt 2 2 (put 0 msg space) ≡ 12 + length xs
+  number-there : numberAt 2 2 (put 0 msg space) ≡ bodyPlace - countedPlace + length xs
   unfolding put numberAt message be
-  number-there = number-be 2 (12 + length xs) (small (omega arith))
+  number-there = number-be 2 (bodyPlace - countedPlace + length xs) (small (omega arith))
 
   -- the reply is found in its space
   pub found : replyIn (put 0 msg space) ≡ msg
   unfolding replyIn put
   found =
-      ap (λ (n : ℕ). take (4 + n) (put 0 msg space)) number-there
-      ∙ take-at msg (drop (0 + length msg) space) (4 + (12 + length xs)) (length-message ∙ regroup (length xs))
+      ap (λ (n : ℕ). take (countedPlace + n) (put 0 msg space)) number-there
+      ∙ take-at msg (drop (0 + length msg) space) (countedPlace + (bodyPlace - countedPlace + length xs)) (length-message ∙ regroup (length xs))
     where
-      regroup : (n : ℕ) → 16 + n ≡ 4 + (12 + n)
+      regroup : (n : ℕ) → bodyPlace + n ≡ countedPlace + (bodyPlace - countedPlace + n)
       regroup n = omega arith
 
   pub body-there : body msg ≡ xs
@@ -60,21 +60,21 @@ module _ (kind seid : ℕ) (q xs space : List ℕ) (three : length q ≡ 3) (sho
 
 -- the same of a message without a SEID
 module _ (kind : ℕ) (q xs space : List ℕ) (three : length q ≡ 3) (short : length xs ≤ 2000) where
-  length-list : length (listMessage kind q xs) ≡ 8 + length xs
+  length-list : length (listMessage kind q xs) ≡ listPlace + length xs
   unfolding listMessage be
   length-list = let e = length-append q (0 ∷ xs) in omega arith
 
-  list-number : numberAt 2 2 (put 0 (listMessage kind q xs) space) ≡ 4 + length xs
+  list-number : numberAt 2 2 (put 0 (listMessage kind q xs) space) ≡ listPlace - countedPlace + length xs
   unfolding put numberAt listMessage be
-  list-number = number-be 2 (4 + length xs) (small (omega arith))
+  list-number = number-be 2 (listPlace - countedPlace + length xs) (small (omega arith))
 
   list-found : replyIn (put 0 (listMessage kind q xs) space) ≡ listMessage kind q xs
   unfolding replyIn put
   list-found =
-      ap (λ (n : ℕ). take (4 + n) (put 0 (listMessage kind q xs) space)) list-number
-      ∙ take-at (listMessage kind q xs) (drop (0 + length (listMessage kind q xs)) space) (4 + (4 + length xs)) (length-list ∙ regroup (length xs))
+      ap (λ (n : ℕ). take (countedPlace + n) (put 0 (listMessage kind q xs) space)) list-number
+      ∙ take-at (listMessage kind q xs) (drop (0 + length (listMessage kind q xs)) space) (countedPlace + (listPlace - countedPlace + length xs)) (length-list ∙ regroup (length xs))
     where
-      regroup : (n : ℕ) → 8 + n ≡ 4 + (4 + n)
+      regroup : (n : ℕ) → listPlace + n ≡ countedPlace + (listPlace - countedPlace + n)
       regroup n = omega arith
 
   list-body : body (listMessage kind q xs) ≡ xs
@@ -113,11 +113,11 @@ module _ (s : Settings) (msg : List ℕ) (seid : ℕ) (v : Verdict) (gs : Report
       one true = elements-there kind own (sequenceOf msg) xs space three short
       one false = list-elements kind (sequenceOf msg) xs space three short
 
-  pub length-reply : length (reply s msg seid v gs) ≤ 16 + length (replyBody (kindOf msg) s seid v gs)
+  pub length-reply : length (reply s msg seid v gs) ≤ bodyPlace + length (replyBody (kindOf msg) s seid v gs)
   unfolding reply
   length-reply = one (seidThere msg)
     where
-      one : (b : Bool) → length (pick b (message kind own (sequenceOf msg) xs) (listMessage kind (sequenceOf msg) xs)) ≤ 16 + length xs
+      one : (b : Bool) → length (pick b (message kind own (sequenceOf msg) xs) (listMessage kind (sequenceOf msg) xs)) ≤ bodyPlace + length xs
       one true = le-of-eq (length-message kind own (sequenceOf msg) xs space three short)
       one false = let e = length-list kind (sequenceOf msg) xs space three short in omega arith
 
@@ -153,6 +153,6 @@ pub sequence-three : (msg : List ℕ) → headerLength msg ≤ length msg → le
 unfolding sequenceOf headerLength
 sequence-three msg = one (seidThere msg)
   where
-    one : (b : Bool) → pick b 16 8 ≤ length msg → length (part (pick b 16 8 - 4) 3 msg) ≡ 3
-    one true h = length-take-le 3 (drop 12 msg) (le-trans (omega arith) (le-of-eq (sym (length-drop 12 msg))))
-    one false h = length-take-le 3 (drop 4 msg) (le-trans (omega arith) (le-of-eq (sym (length-drop 4 msg))))
+    one : (b : Bool) → pick b bodyPlace listPlace ≤ length msg → length (part (pick b bodyPlace listPlace - 4) 3 msg) ≡ 3
+    one true h = length-take-le 3 (drop (bodyPlace - 4) msg) (le-trans (omega arith) (le-of-eq (sym (length-drop (bodyPlace - 4) msg))))
+    one false h = length-take-le 3 (drop (listPlace - 4) msg) (le-trans (omega arith) (le-of-eq (sym (length-drop (listPlace - 4) msg))))

@@ -13,7 +13,7 @@ use Rattle.octets.specs.Lists.{member, any}
 use Rattle.octets.proofs.FieldLaws.{octet-field}
 use Rattle.octets.proofs.Put.{part-from}
 use Rattle.laws.proofs.LayoutLaws.{csid-address}
-use Rattle.rules.specs.Layout.{csidFrom, viewCsid, viewArea, viewSession, csidWidth, csidsAt, csidCountAt, sessionWidth}
+use Rattle.rules.specs.Layout.{csidFrom, viewCsid, viewArea, viewSession, csidWidth, csidsAt, csidCountAt, sessionWidth, csidIdTypeAt, csidNumberAt, csidAddressAt}
 use Rattle.rules.specs.Elements as rules
 use Rattle.rules.specs.Elements.{addressLength}
 use Rattle.rules.specs.Apply.{covers, coversSession}
@@ -56,17 +56,17 @@ module _ {csid m : ℕ} {cs : List ℕ} {left : ℕ} {rest : List ℕ} (l : Look
 
 module _ (v xs : List ℕ) (long : length xs ≡ csidWidth) (o : T (octets xs)) where
   abbrev width : ℕ
-  width = addressLength (getD xs 1 0)
+  width = addressLength (getD xs csidIdTypeAt 0)
 
   abbrev node : ℕ
   node = getD v (1 + listedAddressOctets v + 2 * csidCount v) 0 % 16
 
   -- the four tests
   by-octets : covers (listedIn v) (viewCsid xs)
-      ≡ (eqb (getD xs 0 0) node && eqb (getD xs 1 0) (getD v 0 0 / 16) && sameOctets (part 2 width xs) (part 1 (listedAddressOctets v) v)
-      && member (number (part 18 2 xs)) (rules.csidsRead (csidCount v) (drop (1 + listedAddressOctets v) v)))
+      ≡ (eqb (getD xs 0 0) node && eqb (getD xs csidIdTypeAt 0) (getD v 0 0 / 16) && sameOctets (part csidAddressAt width xs) (part 1 (listedAddressOctets v) v)
+      && member (number (part csidNumberAt 2 xs)) (rules.csidsRead (csidCount v) (drop (1 + listedAddressOctets v) v)))
   unfolding covers listedIn viewCsid csidFrom fieldsAt octetAt
-  by-octets = rw (csid-address xs long o, octet-field 0 xs, octet-field 1 xs)
+  by-octets = rw (csid-address xs long o, octet-field 0 xs, octet-field csidIdTypeAt xs)
 
   module _ (a : ℕ) (is : a ≡ listedAddressOctets v) where
     pub other-node : (getD v (1 + a + 2 * csidCount v) 0 % 16 ≡ getD xs 0 0 → ⊥) → false ≡ covers (listedIn v) (viewCsid xs)
@@ -76,20 +76,20 @@ module _ (v xs : List ℕ) (long : length xs ≡ csidWidth) (o : T (octets xs)) 
       same-node : eqb (getD xs 0 0) node ≡ true
       same-node = eq-eqb (getD xs 0 0) node (sym n ∙ ap (λ (k : ℕ). getD v (1 + k + 2 * csidCount v) 0 % 16) is)
 
-      pub other-type : (getD v 0 0 / 16 ≡ getD xs 1 0 → ⊥) → false ≡ covers (listedIn v) (viewCsid xs)
-      other-type t = sym (by-octets ∙ rw (same-node, ne-eqb (getD xs 1 0) (getD v 0 0 / 16) (λ e. t (sym e))))
+      pub other-type : (getD v 0 0 / 16 ≡ getD xs csidIdTypeAt 0 → ⊥) → false ≡ covers (listedIn v) (viewCsid xs)
+      other-type t = sym (by-octets ∙ rw (same-node, ne-eqb (getD xs csidIdTypeAt 0) (getD v 0 0 / 16) (λ e. t (sym e))))
 
-      module _ (t : getD v 0 0 / 16 ≡ getD xs 1 0) (b : Bool) (same : b ≡ sameOctets (part 2 a xs) (part 1 a v)) where
-        by-rest : covers (listedIn v) (viewCsid xs) ≡ (b && member (number (part 18 2 xs)) (rules.csidsRead (csidCount v) (drop (1 + a) v)))
+      module _ (t : getD v 0 0 / 16 ≡ getD xs csidIdTypeAt 0) (b : Bool) (same : b ≡ sameOctets (part csidAddressAt a xs) (part 1 a v)) where
+        by-rest : covers (listedIn v) (viewCsid xs) ≡ (b && member (number (part csidNumberAt 2 xs)) (rules.csidsRead (csidCount v) (drop (1 + a) v)))
         unfolding octetAt
         by-rest =
             let w : width ≡ a = ap addressLength (sym t) ∙ sym is in
-            by-octets ∙ rw (same-node, eq-eqb (getD xs 1 0) (getD v 0 0 / 16) (sym t), w, ← is, same)
+            by-octets ∙ rw (same-node, eq-eqb (getD xs csidIdTypeAt 0) (getD v 0 0 / 16) (sym t), w, ← is, same)
 
         pub other-address : b ≡ false → false ≡ covers (listedIn v) (viewCsid xs)
         other-address e = sym (by-rest ∙ rw e)
 
-        pub by-csid : b ≡ true → (q n m : ℕ) → n ≡ 1 + a → q ≡ number (part 18 2 xs) → m ≡ csidCount v → {r : Bool} → r ≡ member q (rules.csidsRead m (take (length v - n) (drop n v))) → r ≡ covers (listedIn v) (viewCsid xs)
+        pub by-csid : b ≡ true → (q n m : ℕ) → n ≡ 1 + a → q ≡ number (part csidNumberAt 2 xs) → m ≡ csidCount v → {r : Bool} → r ≡ member q (rules.csidsRead m (take (length v - n) (drop n v))) → r ≡ covers (listedIn v) (viewCsid xs)
         by-csid e q k m ek eq em h = h ∙ rw (part-from, ek, eq, em) (sym (by-rest ∙ rw e))
 
 -- ---- those of a session

@@ -92,10 +92,10 @@ fn covers(v: &[u8], slot: &[u8]) -> bool
     if v[1 + a + 2 * m] % 16 != slot[0] {
         return false;
     }
-    if v[0] / 16 != slot[1] {
+    if v[0] / 16 != slot[format::CSID_ID_TYPE] {
         return false;
     }
-    if !octets::same(slot, 2, v, 1, a) {
+    if !octets::same(slot, format::CSID_ADDRESS, v, 1, a) {
         return false;
     }
     has_csid(&v[1 + a..], m, octets::read(slot, format::CSID - 2, 2))

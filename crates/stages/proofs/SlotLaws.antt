@@ -18,7 +18,7 @@ use Rattle.octets.specs.Rows.{column}
 use Rattle.octets.proofs.RowLaws.{rows-none}
 use Rattle.octets.proofs.Loops.{left-part, stored}
 use Rattle.rules.specs.Model.{Pdr, neither, tunnel, endpoint, pdrId, endpointId, pdrEndpoint, matchedEndpoint}
-use Rattle.rules.specs.Layout.{tunnelRead, matchRead, pdrFrom, endpointFrom, viewPdr, viewEndpoint, viewArea, viewSession, pdrWidth, endpointWidth, pdrCountAt, endpointCountAt, pdrsAt, endpointsAt}
+use Rattle.rules.specs.Layout.{tunnelRead, matchRead, pdrFrom, endpointFrom, viewPdr, viewEndpoint, viewArea, viewSession, pdrWidth, endpointWidth, pdrCountAt, endpointCountAt, pdrsAt, endpointsAt, matchAt, teidAt, familiesAt, namedEndpointAt}
 use Rattle.laws.proofs.LayoutLaws.{pdr-view}
 use Rattle.rules.specs.Stages.{livePdrs, liveEndpoints, namesOneOf, goesPdr, removedPdrs}
 use Rattle.plan.specs.Rows.{requestIn}
@@ -63,13 +63,13 @@ unfolding viewPdr pdrFrom fieldsAt
 id-is pdr = refl
 
 module _ (rows : List (List ℕ)) (pdr : List ℕ) where
-  match-is : pdrEndpoint (viewPdr pdr) ≡ pick (eqb (getD pdr 12 0) 1) none (pick (eqb (getD pdr 12 0) 2) (some (getD pdr 18 0)) none)
+  match-is : pdrEndpoint (viewPdr pdr) ≡ pick (eqb (getD pdr matchAt 0) 1) none (pick (eqb (getD pdr matchAt 0) 2) (some (getD pdr namedEndpointAt 0)) none)
   unfolding pdrEndpoint matchRead matchedEndpoint
-  match-is = rw (pdr-view pdr) (one (eqb (getD pdr 12 0) 1) (eqb (getD pdr 12 0) 2))
+  match-is = rw (pdr-view pdr) (one (eqb (getD pdr matchAt 0) 1) (eqb (getD pdr matchAt 0) 2))
     where
       one : (a b : Bool)
-          → matchedEndpoint (pick a (tunnel (tunnelRead (number (part 13 4 pdr)) (getD pdr 17 0))) (pick b (endpoint (getD pdr 18 0)) neither))
-          ≡ pick a none (pick b (some (getD pdr 18 0)) none)
+          → matchedEndpoint (pick a (tunnel (tunnelRead (number (part teidAt 4 pdr)) (getD pdr familiesAt 0))) (pick b (endpoint (getD pdr namedEndpointAt 0)) neither))
+          ≡ pick a none (pick b (some (getD pdr namedEndpointAt 0)) none)
       one true b = refl
       one false true = refl
       one false false = refl
@@ -85,11 +85,11 @@ module _ (rows : List (List ℕ)) (pdr : List ℕ) where
     goes-named h = goes-is ∙ rw (← e, h)
 
     module _ (h : member id (column ie.removePdr its.pdrId rows) ≡ false) where
-      pub goes-not : (getD pdr 12 0 ≡ 2 → ⊥) → goesPdr (requestOf false rows) (viewPdr pdr) ≡ false
+      pub goes-not : (getD pdr matchAt 0 ≡ 2 → ⊥) → goesPdr (requestOf false rows) (viewPdr pdr) ≡ false
       unfolding namesOneOf
-      goes-not g = goes-is ∙ rw (← e, h, match-is, ne-eqb (getD pdr 12 0) 2 g, none-none (eqb (getD pdr 12 0) 1))
+      goes-not g = goes-is ∙ rw (← e, h, match-is, ne-eqb (getD pdr matchAt 0) 2 g, none-none (eqb (getD pdr matchAt 0) 1))
 
-      pub goes-along : getD pdr 12 0 ≡ 2 → goesPdr (requestOf false rows) (viewPdr pdr) ≡ member (getD pdr 18 0) (column ie.removeEndpoint its.endpointId rows)
+      pub goes-along : getD pdr matchAt 0 ≡ 2 → goesPdr (requestOf false rows) (viewPdr pdr) ≡ member (getD pdr namedEndpointAt 0) (column ie.removeEndpoint its.endpointId rows)
       unfolding namesOneOf
       goes-along g = goes-is ∙ rw (← e, h, match-is, g)
 
