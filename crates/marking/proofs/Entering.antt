@@ -24,7 +24,7 @@ use Rattle.marking.specs.declared.Marks.{Marks}
 use Rattle.marking.specs.declared.Marks.the-variants.{Clash, New}
 use Rattle.marking.specs.declared.Seen.{Seen}
 use Rattle.marking.specs.declared.Seen.the-variants.{Broken, Held}
-use Rattle.marking.specs.Marking.{marksAfter, newAfter, slotHolds, slotKeeps, Admitted, slotTeids, slotFree, Entered, SessionClaimed, slotsKeep, slotsFree, teidsIn, addressesIn, AllAdmitted}
+use Rattle.marking.specs.Marking.{marksAfter, newAfter, slotHolds, slotKeeps, Admitted, slotTeids, slotFree, SlotEntered, SessionClaimed, slotsKeep, slotsFree, teidsIn, addressesIn, AllAdmitted}
 use Rattle.marking.proofs.Through.{Through, through-none, through-more, through-stop, through-all}
 use Rattle.octets.proofs.Bools.{and-false}
 use Rattle.marking.specs.declared.addresses.Met.the-variants as met
@@ -73,7 +73,7 @@ module _ {s : Settings} {as′ xs : List ℕ} {r : Met} {as₁ : List ℕ} (m : 
 -- ---- a session
 
 module _ (s : Settings) (ws as′ xs : List ℕ) (r : Marks) (w : List ℕ) (m : Admitted s ws xs r w) where
-  broken : (v b : List ℕ) → (slotKeeps s ws xs && slotFree s as′ xs) ≡ false → Entered s ws as′ xs Broken v b
+  broken : (v b : List ℕ) → (slotKeeps s ws xs && slotFree s as′ xs) ≡ false → SlotEntered s ws as′ xs Broken v b
   broken v b e = record {
     answer = sym (rw e);
     words = λ n k q. absurd (let z : _≡_ {A = ℕ} 0 1 = cc in omega arith);
@@ -81,7 +81,7 @@ module _ (s : Settings) (ws as′ xs : List ℕ) (r : Marks) (w : List ℕ) (m :
     few = λ n k q. absurd (let z : _≡_ {A = ℕ} 0 1 = cc in omega arith);
   }
 
-  not-held : (turn : ℕ) (v hs b : List ℕ) → Entered s ws as′ xs Broken v b → SessionClaimed s turn ws as′ xs Broken v hs b
+  not-held : (turn : ℕ) (v hs b : List ℕ) → SlotEntered s ws as′ xs Broken v b → SessionClaimed s turn ws as′ xs Broken v hs b
   not-held turn v hs b x = record { entered = x; agrees = λ n k q. absurd (let z : _≡_ {A = ℕ} 0 1 = cc in omega arith) }
 
   pub entered-clash : (turn : ℕ) (hs : List ℕ) → r ≡ Clash → SessionClaimed s turn ws as′ xs Broken w hs as′
@@ -108,7 +108,7 @@ module _ (s : Settings) (ws as′ xs : List ℕ) (r : Marks) (w : List ℕ) (m :
           agrees = λ i j y. c .agrees k z;
         }
 
-module _ {s : Settings} {ws as′ xs : List ℕ} {r : Seen} {ws₁ as₁ : List ℕ} (m : Entered s ws as′ xs r ws₁ as₁) where
+module _ {s : Settings} {ws as′ xs : List ℕ} {r : Seen} {ws₁ as₁ : List ℕ} (m : SlotEntered s ws as′ xs r ws₁ as₁) where
   entered-new : (n k : ℕ) → r ≡ Held n k → (slotKeeps s ws xs ≡ true) × (slotFree s as′ xs ≡ true) × (n ≡ newMarks ws (slotTeids s xs)) × (k ≡ newMarks as′ (heldOffsets s xs))
   entered-new n k e = go (slotKeeps s ws xs) (slotFree s as′ xs) (sym (m .answer) ∙ e)
     where
@@ -169,10 +169,10 @@ module _ (s : Settings) (ws₀ as₀ a : List ℕ) (n : ℕ) where
 
     module _ (h : i < n) (r : Seen) (ws₁ hs₁ as₁ : List ℕ)
         (m : SessionClaimed s (i + 1) ws as′ (take (i * sessionWidth + sessionWidth - i * sessionWidth) (drop (i * sessionWidth) a)) r ws₁ hs₁ as₁) where
-      here : Entered s ws as′ (part (i * sessionWidth) sessionWidth a) r ws₁ as₁
+      here : SlotEntered s ws as′ (part (i * sessionWidth) sessionWidth a) r ws₁ as₁
       here =
           let span : i * sessionWidth + sessionWidth - i * sessionWidth ≡ sessionWidth = omega arith in
-          subst (λ (k : ℕ). Entered s ws as′ (take k (drop (i * sessionWidth) a)) r ws₁ as₁) span (m .entered)
+          subst (λ (k : ℕ). SlotEntered s ws as′ (take k (drop (i * sessionWidth) a)) r ws₁ as₁) span (m .entered)
 
       pub passing-more : (j k : ℕ) → r ≡ Held j k → Passing ws₁ hs₁ as₁ (i + 1) (new + j) (taken + k)
       passing-more j k e =

@@ -109,7 +109,7 @@ slotTeids s xs = offsets (s .first) (map teidOf (slotHolds xs))
 unfoldable pub slotFree : Settings → List ℕ → List ℕ → Bool
 slotFree s as′ xs = not (any (marked as′) (heldOffsets s xs))
 
-pub record Entered (s : Settings) (ws as′ xs : List ℕ) (r : Seen) (ws₁ as₁ : List ℕ) : Type 0 where
+pub record SlotEntered (s : Settings) (ws as′ xs : List ℕ) (r : Seen) (ws₁ as₁ : List ℕ) : Type 0 where
   pub answer : r ≡ pick (slotKeeps s ws xs && slotFree s as′ xs) (Held (newMarks ws (slotTeids s xs)) (newMarks as′ (heldOffsets s xs))) Broken
   pub words : (n k : ℕ) → r ≡ Held n k → ws₁ ≡ marks ws (slotTeids s xs)
   pub addresses : (n k : ℕ) → r ≡ Held n k → as₁ ≡ marks as′ (heldOffsets s xs)
@@ -117,7 +117,7 @@ pub record Entered (s : Settings) (ws as′ xs : List ℕ) (r : Seen) (ws₁ as�
 
 -- and the holders of addresses follow
 pub record SessionClaimed (s : Settings) (turn : ℕ) (ws as′ xs : List ℕ) (r : Seen) (ws₁ hs₁ as₁ : List ℕ) : Type 0 where
-  pub entered : Entered s ws as′ xs r ws₁ as₁
+  pub entered : SlotEntered s ws as′ xs r ws₁ as₁
   pub agrees : (n k : ℕ) → r ≡ Held n k → Agrees turn (s .addressCount) hs₁ as₁
 
 -- ---- the slots of a table, in turn

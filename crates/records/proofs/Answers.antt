@@ -19,7 +19,7 @@ use Rattle.octets.proofs.Digits.{numberAfter, after-number, from-zero, number-b
 use Rattle.octets.proofs.Put.{part-two, length-part}
 use Rattle.octets.proofs.FieldLaws.{octet-field, zero-number, zero-append, zero-fields}
 use Rattle.rules.specs.Model.{Settings}
-use Rattle.rules.specs.Layout.{viewSettings, endpointWidth, settingsWidth, pdrWidth, csidWidth, ipv6ThereAt, ipv6At, farAt, farIdAt, sourceAt, matchAt, teidAt, familiesAt, namedEndpointAt, pdrAddressThereAt, pdrAddressAt, endpointTeidAt, endpointFamiliesAt, endpointAddressThereAt, endpointAddressAt}
+use Rattle.rules.specs.Layout.{viewSettings, endpointWidth, settingsWidth, pdrWidth, csidWidth, ipv6ThereAt, ipv6At, farAt, farIdAt, sourceAt, matchAt, teidAt, familiesAt, namedEndpointAt, pdrAddressThereAt, pdrAddressAt, endpointTeidAt, endpointFamiliesAt, endpointAddressThereAt, endpointAddressAt, csidIdTypeAt, csidAddressAt, csidAddressRestAt}
 use native.Mathlib.Nat.{add-zero}
 use Rattle.rules.specs.Sound.{settingsAllowed}
 use Rattle.laws.proofs.LayoutLaws.{endpoint-view}
@@ -86,36 +86,36 @@ set-law k x y h =
     any false false = refl
 
 module _ (xs : List ℕ) (e : length xs ≡ csidWidth) where
-  pub rest-law : (x y a b : ℕ) → getD xs 1 0 ≤ 2 → x ≡ number (part 6 8 xs) → y ≡ number (part 14 4 xs) → a ≡ flag (not (eqb x 0)) → b ≡ flag (not (eqb y 0))
-      → leb (a + b) (getD xs 1 0 % 2 * 2) ≡ (eqb (getD xs 1 0) 1 || allZero (part 6 12 xs))
+  pub rest-law : (x y a b : ℕ) → getD xs csidIdTypeAt 0 ≤ 2 → x ≡ number (part csidAddressRestAt 8 xs) → y ≡ number (part (csidAddressRestAt + 8) 4 xs) → a ≡ flag (not (eqb x 0)) → b ≡ flag (not (eqb y 0))
+      → leb (a + b) (getD xs csidIdTypeAt 0 % 2 * 2) ≡ (eqb (getD xs csidIdTypeAt 0) 1 || allZero (part csidAddressRestAt 12 xs))
   rest-law x y a b h p q f g =
-      let z : allZero (part 6 12 xs) ≡ (eqb x 0 && eqb y 0) =
-      ap allZero (sym (part-two 6 8 4 xs)) ∙ zero-append (part 6 8 xs) (part 14 4 xs) ∙ rw (zero-number (part 6 8 xs), zero-number (part 14 4 xs), p, q) in
-      rw (f, g, z) (set-law (getD xs 1 0) x y h)
+      let z : allZero (part csidAddressRestAt 12 xs) ≡ (eqb x 0 && eqb y 0) =
+      ap allZero (sym (part-two csidAddressRestAt 8 4 xs)) ∙ zero-append (part csidAddressRestAt 8 xs) (part (csidAddressRestAt + 8) 4 xs) ∙ rw (zero-number (part csidAddressRestAt 8 xs), zero-number (part (csidAddressRestAt + 8) 4 xs), p, q) in
+      rw (f, g, z) (set-law (getD xs csidIdTypeAt 0) x y h)
 
   module _ (o : T (octets xs)) where
-    pub type-law : (v : ℕ) → v ≡ number (part 2 2 xs) → v < 256 ^ 2 → ltb (getD xs 1 0 * 65536 + v) 193572 ≡ typeTest (getD xs 1 0) (number (part 2 4 xs))
+    pub type-law : (v : ℕ) → v ≡ number (part csidAddressAt 2 xs) → v < 256 ^ 2 → ltb (getD xs csidIdTypeAt 0 * 65536 + v) 193572 ≡ typeTest (getD xs csidIdTypeAt 0) (number (part csidAddressAt 4 xs))
     type-law v q l =
-        let n : length (part 4 2 xs) ≡ 2 = length-part 4 2 xs (omega arith) in
-        let m : number (part 2 4 xs) ≡ v * 65536 + number (part 4 2 xs) =
-        ap number (sym (part-two 2 2 2 xs)) ∙ number-append (part 2 2 xs) (part 4 2 xs) ∙ rw (n, ← q) in
-        let b : number (part 4 2 xs) < 65536 = rw n at (number-below (part 4 2 xs) (part-octets 4 2 xs o)) in
-        type-below (getD xs 1 0) (number (part 2 4 xs)) v (number (part 4 2 xs)) m (omega arith) b
+        let n : length (part (csidAddressAt + 2) 2 xs) ≡ 2 = length-part (csidAddressAt + 2) 2 xs (omega arith) in
+        let m : number (part csidAddressAt 4 xs) ≡ v * 65536 + number (part (csidAddressAt + 2) 2 xs) =
+        ap number (sym (part-two csidAddressAt 2 2 xs)) ∙ number-append (part csidAddressAt 2 xs) (part (csidAddressAt + 2) 2 xs) ∙ rw (n, ← q) in
+        let b : number (part (csidAddressAt + 2) 2 xs) < 65536 = rw n at (number-below (part (csidAddressAt + 2) 2 xs) (part-octets 4 2 xs o)) in
+        type-below (getD xs csidIdTypeAt 0) (number (part csidAddressAt 4 xs)) v (number (part (csidAddressAt + 2) 2 xs)) m (omega arith) b
 
-    csid-is : csidSound xs ≡ (ltb (getD xs 0 0) 6 && (typeTest (getD xs 1 0) (number (part 2 4 xs)) && (eqb (getD xs 1 0) 1 || allZero (part 6 12 xs))))
+    csid-is : csidSound xs ≡ (ltb (getD xs 0 0) 6 && (typeTest (getD xs csidIdTypeAt 0) (number (part csidAddressAt 4 xs)) && (eqb (getD xs csidIdTypeAt 0) 1 || allZero (part csidAddressRestAt 12 xs))))
     unfolding fieldsAt csidTest
     csid-is =
         csid-law xs e o
-        ∙ rw (octet-field 0 xs, octet-field 1 xs, zero-number (part 6 12 xs))
-        (ap (λ (b : Bool). ltb (getD xs 0 0) 6 && b) (type-apart (getD xs 1 0) (number (part 2 4 xs)) (number (part 6 12 xs))))
+        ∙ rw (octet-field 0 xs, octet-field csidIdTypeAt xs, zero-number (part csidAddressRestAt 12 xs))
+        (ap (λ (b : Bool). ltb (getD xs 0 0) 6 && b) (type-apart (getD xs csidIdTypeAt 0) (number (part csidAddressAt 4 xs)) (number (part csidAddressRestAt 12 xs))))
 
     pub csid-node : 5 < getD xs 0 0 → false ≡ csidSound xs
     csid-node h = sym (csid-is ∙ rw (le-ltb (getD xs 0 0) 6 (omega arith)))
 
-    pub csid-type : (t : Bool) → t ≡ typeTest (getD xs 1 0) (number (part 2 4 xs)) → not t ≡ true → false ≡ csidSound xs
+    pub csid-type : (t : Bool) → t ≡ typeTest (getD xs csidIdTypeAt 0) (number (part csidAddressAt 4 xs)) → not t ≡ true → false ≡ csidSound xs
     csid-type t q h = sym (csid-is ∙ rw (← q, not-true t h) (and-false (ltb (getD xs 0 0) 6)))
 
-    pub csid-rest : (t r : Bool) → getD xs 0 0 ≤ 5 → t ≡ typeTest (getD xs 1 0) (number (part 2 4 xs)) → not t ≡ false → r ≡ (eqb (getD xs 1 0) 1 || allZero (part 6 12 xs)) → r ≡ csidSound xs
+    pub csid-rest : (t r : Bool) → getD xs 0 0 ≤ 5 → t ≡ typeTest (getD xs csidIdTypeAt 0) (number (part csidAddressAt 4 xs)) → not t ≡ false → r ≡ (eqb (getD xs csidIdTypeAt 0) 1 || allZero (part csidAddressRestAt 12 xs)) → r ≡ csidSound xs
     csid-rest t r h q j y = y ∙ sym (csid-is ∙ rw (← q, not-false t j, lt-ltb (getD xs 0 0) 6 (omega arith)))
 
 -- ---- settings

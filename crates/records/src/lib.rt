@@ -8,7 +8,7 @@ ghost use mathlib.Core.Bool.{not, _||_};
 ghost use Rattle.octets.specs.Choice.{pick, flag};
 ghost use Rattle.octets.specs.Lists.{member};
 ghost use Rattle.octets.specs.Octets.{part, number, allZero};
-ghost use Rattle.rules.specs.Layout.{viewSettings, settingsWidth, pdrWidth, endpointWidth, csidWidth, matchAt, teidAt, familiesAt, namedEndpointAt};
+ghost use Rattle.rules.specs.Layout.{viewSettings, settingsWidth, pdrWidth, endpointWidth, csidWidth, matchAt, teidAt, familiesAt, namedEndpointAt, csidIdTypeAt, csidAddressAt, csidAddressRestAt};
 ghost use Rattle.unit.specs.Meaning.{settingsOf};
 ghost use Rattle.records.specs.Kept.{settingsSound, pdrSound, endpointSound, csidSound, endpointIds, optionalTest, familiesTest, tunnelTest, matchTest, typeTest};
 use format::CSID_ADDRESS;
@@ -165,7 +165,7 @@ fn is_set(x: u64) -> u64
 // tell, as one number: no branch goes by the type.
 fn type_sound(slot: &[u8]) -> bool
     requires { ⌜ length (now slot) ≡ csidWidth ⌝ }
-    ensures { λ r. ⌜ r ≡ typeTest (getD (now (slot .entry)) 1 0) (number (part 2 4 (now (slot .entry)))) ⌝ }
+    ensures { λ r. ⌜ r ≡ typeTest (getD (now (slot .entry)) csidIdTypeAt 0) (number (part csidAddressAt 4 (now (slot .entry)))) ⌝ }
 {
     slot[CSID_ID_TYPE] as u64 * 65536 + octets::read(slot, CSID_ADDRESS, 2)
         < 2 * 65536 + OPERATORS / 16
@@ -173,8 +173,8 @@ fn type_sound(slot: &[u8]) -> bool
 
 // The last twelve octets of an FQ-CSID's address, zero unless its type is 1. No branch goes by the type.
 fn rest_sound(slot: &[u8]) -> bool
-    requires { ⌜ (length (now slot) ≡ csidWidth) × (getD (now slot) 1 0 ≤ 2) ⌝ }
-    ensures { λ r. ⌜ r ≡ (eqb (getD (now (slot .entry)) 1 0) 1 || allZero (part 6 12 (now (slot .entry)))) ⌝ }
+    requires { ⌜ (length (now slot) ≡ csidWidth) × (getD (now slot) csidIdTypeAt 0 ≤ 2) ⌝ }
+    ensures { λ r. ⌜ r ≡ (eqb (getD (now (slot .entry)) csidIdTypeAt 0) 1 || allZero (part csidAddressRestAt 12 (now (slot .entry)))) ⌝ }
 {
     let set = is_set(octets::read(slot, CSID_ADDRESS + 4, 8))
         + is_set(octets::read(slot, CSID_ADDRESS + 12, 4));
