@@ -4,3 +4,4 @@ pub mod RestoreAll
 pub mod Runs
 pub mod Sequence
 pub mod Demand3
+pub mod Unwinding

@@ -15,3 +15,6 @@ pub mod WeightLaws
 pub mod MessageHeader
 pub mod RestorationElements
 pub mod RestorationRead
+pub mod BareLaws
+pub mod BareAfter
+pub mod BlankLaws

@@ -8,6 +8,7 @@ pub mod Digits
 pub mod FieldLaws
 pub mod Apart
 pub mod ListLaws
+pub mod Mapped
 pub mod MemberLaws
 pub mod Loops
 pub mod Questions

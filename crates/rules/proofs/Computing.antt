@@ -20,7 +20,8 @@ use Rattle.rules.specs.Restoring
 use Rattle.rules.specs.Finding
 use Rattle.rules.specs.Calls
 use Rattle.rules.specs.Claim
+use Rattle.rules.specs.Bare
 
 unfoldable pub computing : ℕ
-unfolding Octets.computing Lists.computing Model.computing Elements.computing Layout.computing Sound.computing Message.computing Reading.computing Grants.computing Stages.computing Apply.computing Reply.computing Serve.computing Live.computing Restoration.computing Restoring.computing Finding.computing Calls.computing Claim.computing
+unfolding Octets.computing Lists.computing Model.computing Elements.computing Layout.computing Sound.computing Message.computing Reading.computing Grants.computing Stages.computing Apply.computing Reply.computing Serve.computing Live.computing Restoration.computing Restoring.computing Finding.computing Calls.computing Claim.computing Bare.computing
 computing = 0

@@ -8,3 +8,4 @@ pub mod WriterExamples
 pub mod FindingExamples
 pub mod SetExamples
 pub mod SiteExamples
+pub mod BareExamples

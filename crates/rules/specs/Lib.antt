@@ -20,3 +20,4 @@ pub mod Restoring
 pub mod Finding
 pub mod Calls
 pub mod Claim
+pub mod Bare
