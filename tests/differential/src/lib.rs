@@ -9,8 +9,13 @@
 //! * `written`: the comparison of restoration requests.
 //! * `reading`: the comparison of the calls that read a table.
 //! * `crowded`: messages with as many records as fit.
+//! * `departed`: two tables of one product with different pasts, against each other.
+//! * `linked`: the archive that the programs link.
 
 pub mod crowded;
+pub mod departed;
+#[cfg(feature = "archive")]
+pub mod linked;
 mod making;
 pub mod product;
 mod reading;

@@ -32,6 +32,7 @@ pub(crate) const FILLING: u8 = 0xA5;
 const GUARD: usize = 64;
 
 /// Octets to lend, with guards before and after them.
+#[derive(Clone)]
 pub(crate) struct Lent {
     octets: Vec<u8>,
 }

@@ -1,0 +1,78 @@
+//! The archive that the programs of this package link, as a product.
+
+use crate::product::{Product, Reading, WriteRestoration};
+
+extern "C" {
+    fn pfcp_table_length(session_limit: u32) -> usize;
+    fn pfcp_make_table(
+        table: *mut u8,
+        table_len: usize,
+        ipv4: u32,
+        ipv6: *const u8,
+        ipv6_len: usize,
+        first_teid: u32,
+        pool_size: u32,
+        first_address: u32,
+        address_count: u32,
+        session_limit: u32,
+    ) -> u32;
+    fn pfcp_free_count(table: *const u8, table_len: usize, count: *mut u32) -> u32;
+    fn pfcp_free_addresses(table: *const u8, table_len: usize, count: *mut u32) -> u32;
+    fn pfcp_request(
+        table: *mut u8,
+        table_len: usize,
+        message: *const u8,
+        message_len: usize,
+        reply: *mut u8,
+        reply_len: usize,
+        reply_used: *mut usize,
+        place: *mut usize,
+    ) -> u32;
+    #[cfg(feature = "restoration")]
+    fn pfcp_write_restoration(
+        table: *const u8,
+        table_len: usize,
+        place: usize,
+        cp_ipv4: *const u8,
+        cp_ipv4_len: usize,
+        cp_ipv6: *const u8,
+        cp_ipv6_len: usize,
+        space: *mut u8,
+        space_len: usize,
+        used: *mut usize,
+    ) -> u32;
+    #[cfg(feature = "reading")]
+    fn pfcp_session_count(table: *const u8, table_len: usize, count: *mut u32) -> u32;
+    #[cfg(feature = "reading")]
+    fn pfcp_find_session(table: *const u8, table_len: usize, seid: u64, place: *mut usize) -> u32;
+    #[cfg(feature = "reading")]
+    fn pfcp_find_teid(table: *const u8, table_len: usize, teid: u32, place: *mut usize) -> u32;
+}
+
+#[cfg(feature = "restoration")]
+const WRITE_RESTORATION: Option<WriteRestoration> = Some(pfcp_write_restoration);
+
+#[cfg(not(feature = "restoration"))]
+const WRITE_RESTORATION: Option<WriteRestoration> = None;
+
+#[cfg(feature = "reading")]
+const READING: Option<Reading> = Some(Reading {
+    session_count: pfcp_session_count,
+    find_session: pfcp_find_session,
+    find_teid: pfcp_find_teid,
+});
+
+#[cfg(not(feature = "reading"))]
+const READING: Option<Reading> = None;
+
+pub fn product() -> Product {
+    Product {
+        table_length: pfcp_table_length,
+        make_table: pfcp_make_table,
+        free_count: pfcp_free_count,
+        free_addresses: pfcp_free_addresses,
+        request: pfcp_request,
+        write_restoration: WRITE_RESTORATION,
+        reading: READING,
+    }
+}
