@@ -1,5 +1,6 @@
 #!/usr/bin/env python3
-"""The exchanges of document 01's worked examples, of the errors it has seen, and of document 02's (ii), (v), (vi) and (vii).
+"""The exchanges of document 01's worked examples, of the errors it has seen, and of document 02's (ii), (v), (vi), (vii) and
+(xi).
 
   requests.py FOLDER          writes FOLDER/stdin: tables and requests, each after its length in two octets. FOLDER/stdout is what
                               second's program `exchanges` writes for it
@@ -301,6 +302,126 @@ refuse_table(size=65536, first=4294901761, free=65533)
 delete(1, free=65534)
 
 
+# Document 02 (xi): "Repeated requests get the old reply." From here on requests go through the store, each with its number. On paper are
+# the answers: those of new requests as above, and of a repeat the whole reply that the request got first.
+OLD = "outcome 6"
+replied = {}
+
+
+def message(kind, seid, number, *body):
+    elements = b"".join(body)
+    return bytes([0x21, kind]) + u16(12 + len(elements)) + u64(seid) + u32(number)[1:] + b"\0" + elements
+
+
+def sets(number, *body):
+    elements = b"".join(body)
+    return H("200E") + u16(4 + len(elements)) + u32(number)[1:] + b"\0" + elements
+
+
+def opening(seid, number, *body):
+    return message(50, 0, number, f_seid(seid), *body)
+
+
+def once(request, cause=ACCEPTED, *, free, left=2, teids=None):
+    """A new request."""
+    replied[request] = len(parts)
+    parts.append((b"\1" + request, "outcome 0", (cause, teids or [], []), None, (free, left)))
+
+
+def again(request, *, free, left=2):
+    """A repeat: the reply of the line where it was new, with place 0."""
+    parts.append((b"\1" + request, "outcome 0", None, replied[request], (free, left)))
+
+
+def unanswered(request, outcome, *, free, left=2):
+    parts.append((b"\1" + request, outcome, None, None, (free, left)))
+
+
+def octet(index, value):
+    """An octet of the store."""
+    parts.append((b"\2" + u16(index) + bytes([value]), f"octet {index}", None, None, None))
+
+
+# Equal octets get the stored reply and change nothing; without the store the session is one that exists.
+HALF = 8388608
+table(4)
+first = opening(1, 10, create(1, "05"))
+once(first, free=3, teids=[4096])
+again(first, free=3)
+again(first, free=3)
+parts.append((first, "outcome 0", (64, [], []), None, (3, 2)))
+# The last number with other octets, a number before it, and a difference of 8,388,608 are dropped; none of them moves the last number.
+unanswered(opening(2, 10, create(1, "05")), OLD, free=3)
+unanswered(opening(2, 9, create(1, "05")), OLD, free=3)
+unanswered(opening(2, 10 + HALF, create(1, "05")), OLD, free=3)
+# A difference of 8,388,607 is newer, also past the last number of 24 bits: 10, 8,388,617, 8.
+second = opening(2, 10 + HALF - 1, create(1, "05"))
+third = message(54, 2, 8)
+once(second, free=2, teids=[4097])
+once(third, free=3)
+unanswered(opening(3, 7, create(1, "05")), OLD, free=3)
+again(first, free=3)
+again(second, free=3)
+again(third, free=3)
+# Refused requests are stored too, and the place of their fault is told once: an empty Create PDR lacks its PDI.
+faulty = opening(3, 9, create(1, "05"), ie(1, b""))
+unknown = message(52, 3, 10)
+once(faulty, cause=66, free=3)
+again(faulty, free=3)
+once(unknown, cause=UNKNOWN, free=3)
+once(opening(3, 11, create(1, "05")), free=2, teids=[4097])
+again(unknown, free=2)
+# A set deletion's number stands in its own header, and moves the last number as any other.
+unanswered(sets(11, card(1, 5)), OLD, free=2)
+once(sets(12, card(1, 5)), free=2)
+again(sets(12, card(1, 5)), free=2)
+unanswered(message(54, 3, 12), OLD, free=2)
+# Outcomes 4 and 5 stand before the store's answer and leave the last number.
+unanswered(message(54, 3, 20)[:15], "outcome 4", free=2)
+unanswered(message(56, 3, 20), "outcome 5", free=2)
+# Eight are kept. The ninth takes the oldest along, which sent again is dropped.
+once(message(54, 3, 13), free=3)
+again(first, free=3)
+once(message(54, 3, 14), cause=UNKNOWN, free=3)
+unanswered(first, OLD, free=3)
+again(second, free=3)
+once(message(54, 3, 15), cause=UNKNOWN, free=3)
+again(third, free=3)
+# Gone from the store, a request is as any other: 8,388,617 is 8,388,602 after 15, so newer. The session that it made was deleted by then.
+once(second, free=2, teids=[4097])
+# A new table has an empty store, which takes any number; a refused one leaves the store.
+refuse_table(limit=0, free=2)
+unanswered(message(54, 3, 9), OLD, free=2)
+table(4)
+one, two = message(54, 1, 1), message(54, 1, 2)
+once(one, cause=UNKNOWN, free=4)
+once(two, cause=UNKNOWN, free=4)
+# Broken stores: each entry is 41 octets here, a message of 16 and a reply of 21. The octet, what breaks it, and what it was.
+for index, value, was in [
+    (0, 9, 2),  # counts nine
+    (0, 3, 2),  # counts an entry that is not there
+    (0, 1, 2),  # does not count its last
+    (4, 55, 54),  # a message of another type
+    (3, 0x25, 0x21),  # with FO
+    (1, 8, 0),  # over 2,048 octets
+    (20, 0, 21),  # no reply
+    (19, 5, 0),  # a reply of 1,301 octets
+    (17, 2, 1),  # two equal messages
+    (83, 1, 0),  # the first octet of unused room
+    (26656, 1, 0),  # the last one
+]:
+    octet(index, value)
+    unanswered(two, "outcome 1", free=4)
+    octet(index, was)
+    again(two, free=4)
+# Any reply of one octet or more is sound, and given.
+octet(82, 7)
+parts.append((b"\1" + two, "outcome 0", (7, [], []), None, (4, 2)))
+# Past the store's end there is nothing to change.
+octet(26657, 1)
+once(message(54, 1, 3), cause=UNKNOWN, free=4)
+
+
 def members(value):
     at, found = 0, {}
     while at < len(value):
@@ -329,13 +450,17 @@ def told(reply):
 def paper(lines):
     if len(lines) != len(parts):
         sys.exit(f"{len(lines)} lines for {len(parts)} parts")
-    for number, (line, (_, start, answer, whole, (free, left))) in enumerate(zip(lines, parts), 1):
+    for number, (line, (_, start, answer, whole, counts)) in enumerate(zip(lines, parts), 1):
         told_start, _, reply = line.partition(" reply ")
-        if told_start.partition(" place ")[0] != f"{start} free {free} addresses {left}":
-            sys.exit(f"line {number}: {line}: not {start}, free {free}, addresses {left}")
+        wanted = f"{start} free {counts[0]} addresses {counts[1]}" if counts else start
+        if told_start.partition(" place ")[0] != wanted:
+            sys.exit(f"line {number}: {line}: not {wanted}")
         if answer and told(H(reply)) != answer:
             sys.exit(f"line {number}: {line}: not {answer}")
-        if whole and H(reply) != whole:
+        if isinstance(whole, int):
+            if line.partition(" place ")[2] != "0 reply " + lines[whole].partition(" reply ")[2]:
+                sys.exit(f"line {number}: {line}: not the reply of line {whole + 1} with place 0")
+        elif whole and H(reply) != whole:
             sys.exit(f"line {number}: {line}: not the whole reply")
     print(f"{len(parts)} lines are as on paper")
 

@@ -18,7 +18,9 @@ use Rattle.table.specs.declared.Count as code
 use Rattle.table.specs.declared.Count.the-variants.{Broken, Free}
 use Rattle.table.specs.Answers.{madeOf, countTold}
 use Rattle.engine.specs.Steps.{Serves}
-use Rattle.pfcp_session.specs.Calls.{MakeCall, makeAnswer, makeCall, CountCall, countAnswer, countCall, addressCountCall, CountFits, RequestCall, replyOf, requestAnswer, requestCall}
+use Rattle.rules.specs.Store.{Emptied, empty}
+use Rattle.rules.specs.Repeats.{Once, requestOnce}
+use Rattle.pfcp_session.specs.Calls.{StoreCall, storeAnswer, storeCall, onceCall, MakeCall, makeAnswer, makeCall, CountCall, countAnswer, countCall, addressCountCall, CountFits, RequestCall, replyOf, requestAnswer, requestCall}
 
 module _ (s : Settings) (t t′ : List ℕ) (r : Making) (e : madeOf r t′ ≡ make s t) where
   pub call-made : r ≡ Made → _≡_ {A = MakeCall} (record { outcome = 0; table = t′ }) (makeCall s t)
@@ -86,3 +88,17 @@ pub call-request : {t msg out : List ℕ} {outcome used place : ℕ} {out′ t�
 unfolding requestCall requestAnswer replyOf
 call-request {t} {msg} {out} {outcome} {used} {place} {out′} {t′} s =
     (λ i. record { outcome = outcome; used = s .long i; place = place; space = out′; table = t′ }) ∙ ap (requestAnswer (replyOf t msg)) (s .served)
+
+-- the store's calls
+module _ (s s′ : List ℕ) (b : Bool) (e : record { done = b; store = s′ } ≡ empty s) where
+  pub call-emptied : b ≡ true → _≡_ {A = StoreCall} (record { outcome = 0; store = s′ }) (storeCall s)
+  unfolding storeCall
+  call-emptied z = ap (λ (x : Bool). storeAnswer (record { done = x; store = s′ })) (sym z) ∙ ap storeAnswer e
+
+  pub call-kept : b ≡ false → _≡_ {A = StoreCall} (record { outcome = 1; store = s′ }) (storeCall s)
+  unfolding storeCall
+  call-kept z = ap (λ (x : Bool). storeAnswer (record { done = x; store = s′ })) (sym z) ∙ ap storeAnswer e
+
+pub call-once : (t store msg out : List ℕ) (x : Once) → x ≡ requestOnce t store msg out → x ≡ onceCall t store msg out
+unfolding onceCall
+call-once t store msg out x e = e

@@ -6,4 +6,5 @@ pub mod RunLaws
 pub mod AccidentLaws
 pub mod RestorationLaws
 pub mod FindingLaws
+pub mod TrafficLaws
 pub mod DepartedLaws

@@ -14,6 +14,8 @@ use Rattle.table.specs.declared.Count.the-variants.{Free}
 use Rattle.rules.specs.Stages.{verdict}
 use Rattle.rules.specs.Serve.{Served, replyTo, serve}
 use Rattle.rules.specs.Restoring.{Writing, writeRestoration}
+use Rattle.rules.specs.Store.{Emptied, empty}
+use Rattle.rules.specs.Repeats.{Once, requestOnce}
 use Rattle.rules.specs.Finding.{Finding, countSessions, findSession, findHolder}
 
 -- making: 0 made, 1 refused; and the table at exit
@@ -65,6 +67,21 @@ requestAnswer answer s = record { outcome = s .outcome; used = pick (eqb (s .out
 
 unfoldable pub requestCall : List ℕ → List ℕ → List ℕ → RequestCall
 requestCall t msg space = requestAnswer (replyOf t msg) (serve t msg space)
+
+-- a store of repeated requests emptied (02 (xi)): 0 made, 1 refused; and the store at exit
+pub record StoreCall : Type 0 where
+  pub outcome : ℕ
+  pub store : List ℕ
+
+abbrev pub storeAnswer : Emptied → StoreCall
+storeAnswer e = record { outcome = pick (e .done) 0 1; store = e .store }
+
+unfoldable pub storeCall : List ℕ → StoreCall
+storeCall s = storeAnswer (empty s)
+
+-- a request of which a repeat gets the old reply: a request's answer, and the store at exit
+unfoldable pub onceCall : List ℕ → List ℕ → List ℕ → List ℕ → Once
+onceCall t store msg space = requestOnce t store msg space
 
 -- a restoration request of the session at a place, with the control plane's addresses: the outcome, the request's length (0 where there is
 -- none), and the space at exit

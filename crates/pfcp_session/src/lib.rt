@@ -5,7 +5,8 @@ ghost use mathlib.Core.Path.{_≡_};
 ghost use Rattle.rules.specs.Sound.{lengthFor};
 ghost use Rattle.unit.specs.Meaning.{settingsGiven};
 ghost use Rattle.table.specs.Answers.{countTold};
-ghost use Rattle.pfcp_session.specs.Calls.{CountFits, countAnswer, makeCall, countCall, addressCountCall, requestCall, restorationCall, sessionCountCall, findSessionCall, findTeidCall};
+ghost use Rattle.rules.specs.Store.{storeLength};
+ghost use Rattle.pfcp_session.specs.Calls.{storeCall, onceCall, CountFits, countAnswer, makeCall, countCall, addressCountCall, requestCall, restorationCall, sessionCountCall, findSessionCall, findTeidCall};
 
 // Outcomes of making a table.
 const MADE: u32 = 0;
@@ -113,6 +114,48 @@ pub extern "C" fn pfcp_request(
     *used = served.used;
     *place = served.place;
     served.outcome
+}
+
+// How many octets a store of repeated requests has.
+#[no_mangle]
+pub extern "C" fn pfcp_store_length() -> usize
+    ensures { λ r. ⌜ r ≡ storeLength ⌝ }
+{
+    store::LENGTH
+}
+
+// Empties a store of repeated requests: 0 made, 1 refused where its length is wrong (nothing is written). With a new table, and with one that
+// was read in, the host empties the store too.
+#[no_mangle]
+pub extern "C" fn pfcp_make_store(store: &mut [u8]) -> u32
+    ensures { λ r. ⌜ record { outcome = r; store = now (store .exit) } ≡ storeCall (now (store .entry)) ⌝ }
+{
+    if !store::clear(store) {
+        return REFUSED;
+    }
+    MADE
+}
+
+// Handles one request as pfcp_request does, but a repeat gets the old reply: octets equal to those of one of the last eight requests that were
+// replied to get the stored reply, at place 0, and change nothing. Otherwise the sequence number has to be newer than that of the request
+// stored last, or it is outcome 6. A broken store, or one of wrong length, is outcome 1.
+#[no_mangle]
+pub extern "C" fn pfcp_request_once(
+    table: &mut [u8],
+    store: &mut [u8],
+    message: &[u8],
+    reply: &mut [u8],
+    used: &mut usize,
+    place: &mut usize,
+) -> u32
+    ensures { λ r.
+        ⌜ record { outcome = r; used = now (used .exit); place = now (place .exit); space = now (reply .exit); table = now (table .exit); store = now (store .exit) }
+        ≡ onceCall (now (table .entry)) (now (store .entry)) (now (message .entry)) (now (reply .entry)) ⌝ }
+{
+    let told = repeats::serve_once(table, store, message, reply);
+    *used = told.used;
+    *place = told.place;
+    told.outcome
 }
 
 // Writes the restoration request of the session at a place, from 0, with the control plane's addresses (4 octets or none, 16 octets or

@@ -10,6 +10,14 @@ pub const MOST_SESSIONS: usize = 64;
 
 pub const LONGEST: usize = format::HEAD + MOST_SESSIONS * format::SLOT;
 
+// In the unit's file the stores of repeated requests of up to eight control planes follow the table, each after an address of 16 octets
+// (docs/layout.md). They are not read here.
+const STORE: usize = 16 + store::LENGTH;
+
+const MOST_STORES: usize = 8;
+
+const STORES: usize = MOST_STORES * STORE;
+
 // Whether there is no more to read from fd: 0 nothing, 1 something, 2 a failure, which errno tells.
 pub fn more(fd: i32) -> u8 {
     let mut one = [0u8; 1];
@@ -49,28 +57,40 @@ fn broken(path: &[u8]) -> usize
     refused(path, b"not a sound table")
 }
 
-// The length of the table t, if it is sound and as long as its session limit says; longer where the file has more octets than t.
-fn sound(path: &[u8], t: &[u8], longer: bool, said: usize) -> usize
+// Whether so many octets in t and so many more after it are nothing, or whole stores.
+fn are_stores(in_t: usize, after: usize) -> bool {
+    if in_t > LONGEST {
+        return false;
+    }
+    if after > STORES {
+        return false;
+    }
+    let all = in_t + after;
+    if all > STORES {
+        return false;
+    }
+    all % STORE == 0
+}
+
+// The length of the table at the front of t, if it is sound and stores or nothing follow; so many octets of the file stand after t.
+fn sound(path: &[u8], t: &[u8], after: usize, said: usize) -> usize
     ensures { λ r. ⌜ r ≤ length (now (t .entry)) ⌝ }
 {
-    if longer {
-        return too_long(path);
-    }
-    if said < t.len() {
-        return too_long(path);
-    }
     if t.len() < said {
         return too_short(path);
     }
+    if !are_stores(t.len() - said, after) {
+        return too_long(path);
+    }
     let mut free = 0u32;
-    if pfcp_session::pfcp_free_count(t, &mut free) != 0 {
+    if pfcp_session::pfcp_free_count(&t[0..said], &mut free) != 0 {
         return broken(path);
     }
-    t.len()
+    said
 }
 
-// The length of the table t, if this program takes it. A limit that is not allowed says no length.
-fn taken(path: &[u8], t: &[u8], longer: bool) -> usize
+// The length of the table at the front of t, if this program takes it. A limit that is not allowed says no length.
+fn taken(path: &[u8], t: &[u8], after: usize) -> usize
     ensures { λ r. ⌜ r ≤ length (now (t .entry)) ⌝ }
 {
     if t.len() < format::HEAD {
@@ -84,20 +104,43 @@ fn taken(path: &[u8], t: &[u8], longer: bool) -> usize
     if MOST_SESSIONS < limit as usize {
         return refused(path, b"the table has room for more than 64 sessions");
     }
-    sound(path, t, longer, said)
+    sound(path, t, after, said)
 }
 
-// Reads all of fd into t, which has room for the longest table.
+// How many octets fd still has, up to those of one store.
+fn store_of(fd: i32) -> usize {
+    let mut space = [0u8; STORE];
+    io::read_full(fd, &mut space)
+}
+
+// How many octets fd still has, up to those of all stores.
+fn rest_of(fd: i32) -> usize {
+    let mut stores: usize = 0;
+    while stores < MOST_STORES {
+        let n = store_of(fd);
+        if n < STORE {
+            return stores * STORE + n;
+        }
+        stores += 1;
+    }
+    STORES
+}
+
+// Reads the table at the front of fd into t, which has room for the longest one.
 fn fill_table(path: &[u8], fd: i32, t: &mut [u8]) -> usize
     ensures { λ r. ⌜ r ≤ length (now (t .exit)) ⌝ }
 {
     let n = io::read_full(fd, t);
+    let after = rest_of(fd);
     let rest = more(fd);
     if rest == 2 {
         say::failed(path);
         return 0;
     }
-    taken(path, &t[0..n], rest == 1)
+    if rest == 1 {
+        return too_long(path);
+    }
+    taken(path, &t[0..n], after)
 }
 
 // Reads the stored table at path, which has to be sound, into the front of t: its length, or 0 where it is refused, and that was said.

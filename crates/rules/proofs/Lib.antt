@@ -8,4 +8,5 @@ pub mod WriterExamples
 pub mod FindingExamples
 pub mod SetExamples
 pub mod SiteExamples
+pub mod RepeatExamples
 pub mod BareExamples

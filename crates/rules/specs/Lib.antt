@@ -18,6 +18,8 @@ pub mod Live
 pub mod Restoration
 pub mod Restoring
 pub mod Finding
+pub mod Store
+pub mod Repeats
 pub mod Calls
 pub mod Claim
 pub mod Bare

@@ -1,0 +1,2 @@
+-- `Steps`: what the code leaves on each way of a request.
+pub mod Steps

@@ -1,0 +1,9 @@
+pub mod RequestTests
+pub mod FrontLaws
+pub mod WalkLaws
+pub mod EntryLaws
+pub mod EntriesLaws
+pub mod StoreLaws
+pub mod NumberLaws
+pub mod HeldLaws
+pub mod KeepLaws
