@@ -28,6 +28,7 @@ int main(int argc, char **argv)
     time_eight();
     time_passes();
     time_longest();
+    time_repeats();
     printf("compared %" PRIu64 "\n", octets_compared());
     return EXIT_SUCCESS;
 }

@@ -12,6 +12,7 @@
 #include <stdlib.h>
 
 #include "longest.h"
+#include "repeats.h"
 #include "search.h"
 
 /* So many sessions of the cycle, which are spread over the table. */
@@ -23,12 +24,18 @@ static struct pair pair;
 static struct place place;
 
 __attribute__((noinline)) void counted_request(const struct message *message);
+__attribute__((noinline)) void counted_once(const struct message *message);
 __attribute__((noinline)) void counted_check(void);
 __attribute__((noinline)) void part_ends(void);
 
 void counted_request(const struct message *message)
 {
     ask(&place, message);
+}
+
+void counted_once(const struct message *message)
+{
+    ask_once(&place, message);
 }
 
 void counted_check(void)
@@ -129,6 +136,52 @@ static void count_longest(void)
     }
 }
 
+/* New requests of the cycle, through a full store and without one; then one call of each other kind,
+   and the slow store's long message without one. */
+static void count_new(void)
+{
+    for (size_t i = 0; i < KINDS * COUNTED; i++) {
+        renumber(&repeats_cycle[i]);
+        counted_once(&repeats_cycle[i]);
+        if (!answers_repeat(&place, NEW))
+            give_up("%s refuses request %zu with a store", place.side->name, i);
+    }
+    end_part("store", repeat_names[NEW], full, KINDS * COUNTED);
+}
+
+static void count_without(const struct pair *filled)
+{
+    for (int side = 0; side < 2; side++) {
+        place = side == 0 ? filled->ours : filled->theirs;
+        for (size_t i = 0; i < KINDS * COUNTED; i++)
+            counted_request(&repeats_cycle[i]);
+        end_part("store", "without", full, KINDS * COUNTED);
+    }
+}
+
+static void count_repeats(void)
+{
+    fill_for_repeats(&pair);
+    for (int kind = NEW; kind < REPEATS; kind++) {
+        write_repeat(&m, &pair, (enum repeats)kind);
+        if (kind == NEW)
+            count_without(&pair);
+        for (int side = 0; side < 2; side++) {
+            place = side == 0 ? pair.ours : pair.theirs;
+            if (kind == NEW) {
+                count_new();
+                continue;
+            }
+            counted_once(&m);
+            end_part("store", repeat_names[kind], full, 1);
+            if (kind == SLOW) {
+                counted_request(&m);
+                end_part("store", "slow-without", full, 1);
+            }
+        }
+    }
+}
+
 int main(void)
 {
     for (size_t k = 0; k < WORKLOADS; k++)
@@ -138,5 +191,6 @@ int main(void)
     count_search(SEARCHED_POOL / 2);
     count_search(SEARCHED_POOL - 1);
     count_longest();
+    count_repeats();
     return EXIT_SUCCESS;
 }

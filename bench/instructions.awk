@@ -111,6 +111,19 @@ function longest_row(n, z,    k, s, a) {
     printf "\n"
 }
 
+# Requests through a store: each side's instructions, and as a multiple of those without a store.
+function store_row(n, z,    k, s, a, r, base) {
+    base = n ~ /^slow/ ? "slow-without" : "without"
+    printf "%-28s", n
+    for (k = 1; k <= 2; k++) {
+        s = k == 1 ? "archive" : "ordinary"
+        a = mean(all, "store", n, z, s)
+        r = rest("store", n, z, s)
+        printf " %8.0f %8.0f %6.3f %6.3f", a, r, a / mean(all, "store", base, z, s), r / rest("store", base, z, s)
+    }
+    printf "\n"
+}
+
 # Ends the program where a part is missing or empty.
 function look_at_parts(    i) {
     if (file - 1 != parts || parts == 0) {
@@ -152,4 +165,10 @@ END {
     for (i = 1; i <= parts; i++)
         if (side[i] == "archive" && what[i] == "longest")
             longest_row(name[i], size[i])
+    print "== instructions for requests through a full store of repeated ones, and as a multiple of those without one"
+    printf "%-28s %-31s %-31s\n%-28s", "", "archive", "ordinary", ""
+    printf " %8s %8s %6s %6s %8s %8s %6s %6s\n", "all", "rest", "all", "rest", "all", "rest", "all", "rest"
+    for (i = 1; i <= parts; i++)
+        if (side[i] == "archive" && what[i] == "store")
+            store_row(name[i], size[i])
 }

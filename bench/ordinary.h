@@ -15,5 +15,10 @@ uint32_t ordinary_free_addresses(const uint8_t *table, size_t table_len, uint32_
 uint32_t ordinary_request(uint8_t *table, size_t table_len, const uint8_t *message,
                           size_t message_len, uint8_t *reply, size_t reply_len, size_t *reply_used,
                           size_t *place);
+size_t ordinary_store_length(void);
+uint32_t ordinary_make_store(uint8_t *store, size_t store_len);
+uint32_t ordinary_request_once(uint8_t *table, size_t table_len, uint8_t *store, size_t store_len,
+                               const uint8_t *message, size_t message_len, uint8_t *reply,
+                               size_t reply_len, size_t *reply_used, size_t *place);
 
 #endif

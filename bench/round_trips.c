@@ -71,6 +71,7 @@ static void take_reply(int unit)
         give_up("a request is refused");
 }
 
+/* The numbers go on from those of the requests before. */
 static double served_a_second(int unit, size_t requests)
 {
     double start = wall_time();
@@ -79,7 +80,7 @@ static double served_a_second(int unit, size_t requests)
         if (i >= AT_A_TIME)
             take_reply(unit);
         if (i < requests)
-            ask(unit, i);
+            ask(unit, requests + i);
     }
     return (double)requests * 1e6 / (wall_time() - start);
 }

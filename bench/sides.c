@@ -8,9 +8,11 @@
 #include "ordinary.h"
 
 const struct side archive = {"archive",       pfcp_table_length,   pfcp_make_table,
-                             pfcp_free_count, pfcp_free_addresses, pfcp_request};
+                             pfcp_free_count, pfcp_free_addresses, pfcp_request,
+                             pfcp_make_store, pfcp_request_once};
 const struct side ordinary = {"ordinary",          ordinary_table_length,   ordinary_make_table,
-                              ordinary_free_count, ordinary_free_addresses, ordinary_request};
+                              ordinary_free_count, ordinary_free_addresses, ordinary_request,
+                              ordinary_make_store, ordinary_request_once};
 
 const uint8_t unit_ipv4[4] = {192, 0, 2, 1};
 static const uint8_t unit_ipv6[16] = {0x20, 1, 0x0D, 0xB8, [15] = 1};
@@ -81,16 +83,46 @@ void must_accept(struct place *place, const struct message *m)
                 m->octets[1], place->outcome, cause_of(place));
 }
 
-void ask_both(struct pair *pair, const struct message *m)
+/* The answers of both sides to a message, and their tables. */
+static void compare_answers(const struct pair *pair, const struct message *m)
 {
-    ask(&pair->ours, m);
-    ask(&pair->theirs, m);
     if (pair->ours.outcome != pair->theirs.outcome || pair->ours.used != pair->theirs.used ||
         pair->ours.fault != pair->theirs.fault ||
         memcmp(pair->ours.reply, pair->theirs.reply, pair->ours.used) != 0)
         give_up("the sides answer a request of type %d differently", m->octets[1]);
     compared += pair->ours.used;
     compare_tables(pair);
+}
+
+void ask_both(struct pair *pair, const struct message *m)
+{
+    ask(&pair->ours, m);
+    ask(&pair->theirs, m);
+    compare_answers(pair, m);
+}
+
+void empty_both_stores(struct pair *pair)
+{
+    if (archive.make_store(pair->ours.store, sizeof pair->ours.store) != 0 ||
+        ordinary.make_store(pair->theirs.store, sizeof pair->theirs.store) != 0)
+        give_up("a store is not made");
+}
+
+void ask_once(struct place *place, const struct message *m)
+{
+    place->outcome = place->side->request_once(
+        place->table, place->length, place->store, sizeof place->store, m->octets, m->length,
+        place->reply, sizeof place->reply, &place->used, &place->fault);
+}
+
+void ask_both_once(struct pair *pair, const struct message *m)
+{
+    ask_once(&pair->ours, m);
+    ask_once(&pair->theirs, m);
+    compare_answers(pair, m);
+    if (memcmp(pair->ours.store, pair->theirs.store, sizeof pair->ours.store) != 0)
+        give_up("the stores of the sides differ");
+    compared += sizeof pair->ours.store;
 }
 
 void compare_tables(const struct pair *pair)

@@ -26,12 +26,15 @@ struct side {
     uint32_t (*free_addresses)(const uint8_t *, size_t, uint32_t *);
     uint32_t (*request)(uint8_t *, size_t, const uint8_t *, size_t, uint8_t *, size_t, size_t *,
                         size_t *);
+    uint32_t (*make_store)(uint8_t *, size_t);
+    uint32_t (*request_once)(uint8_t *, size_t, uint8_t *, size_t, const uint8_t *, size_t,
+                             uint8_t *, size_t, size_t *, size_t *);
 };
 
 extern const struct side archive;
 extern const struct side ordinary;
 
-/* One implementation with its table and its last answer. */
+/* One implementation with its table, its store and its last answer. */
 struct place {
     const struct side *side;
     uint32_t outcome;
@@ -40,6 +43,7 @@ struct place {
     size_t length; /* of the table, by its session limit */
     _Alignas(64) uint8_t table[PFCP_LONGEST_TABLE];
     _Alignas(64) uint8_t reply[PFCP_REPLY_SPACE];
+    _Alignas(64) uint8_t store[PFCP_STORE_LENGTH]; /* used by ask_once only */
 };
 
 /* Both implementations, with tables of the same octets. */
@@ -70,6 +74,13 @@ void must_accept(struct place *place, const struct message *m);
 
 /* One request on both sides. Outcomes, replies and tables must be the same. */
 void ask_both(struct pair *pair, const struct message *m);
+
+/* Empties the stores of both sides. */
+void empty_both_stores(struct pair *pair);
+
+/* One request through the store: of one side, and of both, where stores must be the same too. */
+void ask_once(struct place *place, const struct message *m);
+void ask_both_once(struct pair *pair, const struct message *m);
 
 /* Compares the two tables, and counts their octets as compared. */
 void compare_tables(const struct pair *pair);

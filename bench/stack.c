@@ -1,7 +1,7 @@
 /*
  * The stack that a request takes, on both sides: a thread runs one cycle of accepted requests, and
  * another one those of the greatest length, on a stack filled with one octet; the octets that
- * changed are counted from its far end.
+ * changed are counted from its far end. Then both again, through a store of repeated requests.
  */
 #include <pthread.h>
 #include <stdint.h>
@@ -10,6 +10,7 @@
 #include <string.h>
 
 #include "longest.h"
+#include "repeats.h"
 
 enum { STACK = 1 << 20, MARK = 0xA5 };
 
@@ -30,6 +31,32 @@ static void *cycle_requests(void *unused)
 {
     for (size_t i = 0; i < length; i++)
         must_accept(asked, &cycle[i]);
+    return unused;
+}
+
+static void *cycle_requests_once(void *unused)
+{
+    for (size_t i = 0; i < length; i++) {
+        renumber(&cycle[i]);
+        ask_once(asked, &cycle[i]);
+        if (cause_of(asked) != 1)
+            give_up("%s refuses request %zu with a store", asked->side->name, i);
+    }
+    return unused;
+}
+
+static void *longest_requests_once(void *unused)
+{
+    static struct place place;
+
+    for (size_t i = 0; i < LONGEST_MESSAGES; i++) {
+        place = *asked;
+        if (longest[i].octets[1] != SET_DELETION)
+            renumber(&longest[i]);
+        ask_once(&place, &longest[i]);
+        if (place.outcome != PFCP_ANSWERED)
+            give_up("%s gives %u with a store", place.side->name, place.outcome);
+    }
     return unused;
 }
 
@@ -81,6 +108,8 @@ static void measure_cycle(struct size size)
     length = write_cycle(cycle, &workloads[ALIKE], size.live);
     fill(&pair, &workloads[ALIKE], size);
     print_depths("of the cycle", size, cycle_requests);
+    empty_both_stores(&pair);
+    print_depths("of the cycle, with a store", size, cycle_requests_once);
 }
 
 static void measure_longest(void)
@@ -89,6 +118,8 @@ static void measure_longest(void)
     for (size_t i = 0; i < LONGEST_MESSAGES; i++)
         write_longest(&longest[i], &longest_messages[i], &pair);
     print_depths("of the greatest length", longest_size, longest_requests);
+    empty_both_stores(&pair);
+    print_depths("of the greatest length, store", longest_size, longest_requests_once);
 }
 
 int main(void)

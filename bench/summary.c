@@ -27,6 +27,8 @@ static const struct heading headings[] = {
     {"pass", "one check of a full table, and plain passes over its octets", "check", "pass"},
     {"longest", "requests of the greatest length, and one check of their table", "request",
      "check"},
+    {"store", "requests through a full store of repeated ones, and requests without one", "with",
+     "without"},
 };
 
 static void print_spread(struct spread s, int width)

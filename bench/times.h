@@ -31,6 +31,9 @@ void time_passes(void);
 /* longest: the archive's requests of the greatest length against its free count of their table. */
 void time_longest(void);
 
+/* store: requests through a full store against the same work without one, on full tables, by side. */
+void time_repeats(void);
+
 void print_times(const char *what, const char *name, struct size size, double measured,
                  double other);
 

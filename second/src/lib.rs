@@ -8,6 +8,7 @@
 //! * `live`: the live set, folded from messages, outcomes and replies alone.
 //! * `restoration`: the restoration request of a live session.
 //! * `layout`: a table's octets, written and read as docs/layout.md says.
+//! * `store`, `repeats`: the store of repeated requests, its octets, and a request with one.
 //! * `list`: the list of live sessions, as the unit's operators see it.
 //! * `coverage`: what a run of calls has met, and what it should meet.
 //! * `generate`: seeded sequences of calls; it uses none of the readers and writers above.
@@ -22,9 +23,11 @@ pub mod layout;
 pub mod list;
 pub mod live;
 pub mod program;
+pub mod repeats;
 pub mod request;
 pub mod restoration;
 pub mod selfcheck;
 pub mod session;
 pub mod settings;
+pub mod store;
 pub mod unit;

@@ -133,7 +133,7 @@ fn exchanges_of_the_worked_examples() {
     let output = run(env!("CARGO_BIN_EXE_exchanges"), &[], input);
     assert_eq!(output.status.code(), Some(0));
     assert_eq!(String::from_utf8(output.stdout).unwrap(), expected);
-    assert!(expected.lines().count() >= 61);
+    assert!(expected.lines().count() >= 231);
 }
 
 /// The tables of a run, by name: session limit, length and options.

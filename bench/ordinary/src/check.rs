@@ -246,6 +246,6 @@ fn ascend<T, K: Ord>(records: &[T], key: impl Fn(&T) -> K) -> bool {
     records.windows(2).all(|pair| key(&pair[0]) < key(&pair[1]))
 }
 
-fn is_zero(octets: &[u8]) -> bool {
+pub fn is_zero(octets: &[u8]) -> bool {
     octets.iter().fold(0, |all, octet| all | octet) == 0
 }

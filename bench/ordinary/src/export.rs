@@ -3,7 +3,7 @@
 
 use std::slice;
 
-use crate::{free_addresses, free_count, handle, make_table, Settings};
+use crate::{free_addresses, free_count, handle, handle_once, make_store, make_table, Settings};
 
 /// A slice from a pointer and a length; an empty one may have any pointer.
 ///
@@ -106,6 +106,44 @@ pub unsafe extern "C" fn request(
     let table = unsafe { lent_mut(table, table_len) };
     let (message, space) = unsafe { (lent(message, message_len), lent_mut(reply, reply_len)) };
     let answer = handle(table, message, space);
+    let (used, at) = answer.unwrap_or((0, 0));
+    unsafe { (*reply_used, *place) = (used, at) };
+    answer.err().unwrap_or(0)
+}
+
+#[cfg_attr(not(feature = "as_pfcp"), export_name = "ordinary_store_length")]
+#[cfg_attr(feature = "as_pfcp", export_name = "pfcp_store_length")]
+pub extern "C" fn store_length() -> usize {
+    crate::store::LENGTH
+}
+
+/// # Safety
+/// As the header says.
+#[cfg_attr(not(feature = "as_pfcp"), export_name = "ordinary_make_store")]
+#[cfg_attr(feature = "as_pfcp", export_name = "pfcp_make_store")]
+pub unsafe extern "C" fn make_a_store(store: *mut u8, store_len: usize) -> u32 {
+    u32::from(!make_store(unsafe { lent_mut(store, store_len) }))
+}
+
+/// # Safety
+/// As the header says.
+#[cfg_attr(not(feature = "as_pfcp"), export_name = "ordinary_request_once")]
+#[cfg_attr(feature = "as_pfcp", export_name = "pfcp_request_once")]
+pub unsafe extern "C" fn request_once(
+    table: *mut u8,
+    table_len: usize,
+    store: *mut u8,
+    store_len: usize,
+    message: *const u8,
+    message_len: usize,
+    reply: *mut u8,
+    reply_len: usize,
+    reply_used: *mut usize,
+    place: *mut usize,
+) -> u32 {
+    let (table, store) = unsafe { (lent_mut(table, table_len), lent_mut(store, store_len)) };
+    let (message, space) = unsafe { (lent(message, message_len), lent_mut(reply, reply_len)) };
+    let answer = handle_once(table, store, message, space);
     let (used, at) = answer.unwrap_or((0, 0));
     unsafe { (*reply_used, *place) = (used, at) };
     answer.err().unwrap_or(0)

@@ -6,6 +6,7 @@
 //! * `check`: whether a table is sound, and the maps of taken TEIDs and addresses.
 //! * `request`: from the octets of a message to a request (stages 2 and 3).
 //! * `unit`: one call: all stages, grants and the change to the table.
+//! * `store`: the store of repeated requests.
 //! * `reply`: the octets of a reply.
 //! * `export`: the C interface.
 
@@ -15,8 +16,10 @@ mod layout;
 mod list;
 mod reply;
 mod request;
+mod store;
 mod unit;
 
 pub use check::Settings;
 pub use layout::table_length;
-pub use unit::{free_addresses, free_count, handle, make_table};
+pub use store::make_store;
+pub use unit::{free_addresses, free_count, handle, handle_once, make_table};

@@ -29,7 +29,7 @@ pub const FLAGS: u16 = 186;
 const HEADER_OCTETS: usize = 16;
 /// Without a SEID.
 const PLAIN_HEADER_OCTETS: usize = 8;
-const LARGEST_MESSAGE: usize = 2048;
+pub const LARGEST_MESSAGE: usize = 2048;
 
 const MISSING: u8 = 66;
 const CONDITIONAL_MISSING: u8 = 67;

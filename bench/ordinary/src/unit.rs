@@ -4,8 +4,9 @@ use crate::check::{check, Checked, Settings, Taken};
 use crate::layout::*;
 use crate::reply;
 use crate::request::{self, Address, FqCsidChange, Header, Kind, Refusal, Request, Teid, Tunnel};
+use crate::store;
 
-const LEAST_REPLY_SPACE: usize = 1280;
+pub const LEAST_REPLY_SPACE: usize = 1280;
 
 /// Makes an empty table; whether it was made. A refusal writes nothing.
 pub fn make_table(table: &mut [u8], settings: &Settings) -> bool {
@@ -49,18 +50,56 @@ pub fn handle(table: &mut [u8], message: &[u8], space: &mut [u8]) -> Result<(usi
         return Err(2);
     }
     let (header, body) = request::header(message)?;
+    Ok(answer(table, &checked, &header, body, space))
+}
+
+/// One request with a store: a repeat gets the stored reply, and an older number is host outcome 6.
+pub fn handle_once(
+    table: &mut [u8],
+    store: &mut [u8],
+    message: &[u8],
+    space: &mut [u8],
+) -> Result<(usize, usize), u32> {
+    let mut taken = Taken::nothing();
+    let checked = check(table, &mut taken).ok_or(1_u32)?;
+    let entries = store::check(store).ok_or(1_u32)?;
+    if space.len() < LEAST_REPLY_SPACE {
+        return Err(2);
+    }
+    let (header, body) = request::header(message)?;
+    if let Some(reply) = entries.reply_to(store, message) {
+        put(space, 0, reply);
+        return Ok((reply.len(), 0));
+    }
+    if !entries.take(header.sequence) {
+        return Err(6);
+    }
+    let (used, place) = answer(table, &checked, &header, body, space);
+    entries.keep(store, message, &space[..used]);
+    Ok((used, place))
+}
+
+/// What a request with this header and body does, on a table that was checked: the length of the reply
+/// and the place of a fault.
+fn answer(
+    table: &mut [u8],
+    checked: &Checked,
+    header: &Header,
+    body: &[u8],
+    space: &mut [u8],
+) -> (usize, usize) {
     let mut request = Request::new(header.seid);
-    match decide(table, &checked, &header, body, &mut request) {
+    match decide(table, checked, header, body, &mut request) {
         Ok((at, got)) => {
             match header.kind {
                 Kind::SetDeletion => remove_listed(table, checked.sessions, &request.listed),
-                _ => change(table, checked.sessions, &header, &request, at, &got),
+                _ => change(table, checked.sessions, header, &request, at, &got),
             }
-            Ok((reply::accepted(space, &checked.settings, &header, &request, &got), 0))
+            (reply::accepted(space, &checked.settings, header, &request, &got), 0)
         }
         Err(refusal) => {
-            let used = reply::refused(space, &checked.settings, &header, &refusal);
-            Ok((used, refusal.place.unwrap_or(0)))
+            let used = reply::refused(space, &checked.settings, header, &refusal);
+            (used, refusal.place.unwrap_or(0))
         }
     }
 }

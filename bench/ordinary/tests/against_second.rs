@@ -9,6 +9,10 @@ extern "C" fn table_length(session_limit: u32) -> usize {
     export::table_length(session_limit)
 }
 
+extern "C" fn store_length() -> usize {
+    export::store_length()
+}
+
 fn compare(seed: u64, calls: usize) -> Report {
     let product = Product {
         table_length,
@@ -16,6 +20,9 @@ fn compare(seed: u64, calls: usize) -> Report {
         free_count: export::free,
         free_addresses: export::free_of_addresses,
         request: export::request,
+        store_length,
+        make_store: export::make_a_store,
+        request_once: export::request_once,
         write_restoration: None,
         reading: None,
     };

@@ -11,6 +11,7 @@ pub mod planner;
 pub mod random;
 pub mod requests;
 pub mod tables;
+pub mod traffic;
 
 use std::net::Ipv4Addr;
 

@@ -11,6 +11,8 @@
 //! * `crowded`: messages with as many records as fit.
 //! * `departed`: two tables of one product with different pasts, against each other.
 //! * `linked`: the archive that the programs link.
+//! * `repeats`: the comparison of requests with a store of repeated ones.
+//! * `spoil_store`: damage to such stores.
 
 pub mod crowded;
 pub mod departed;
@@ -19,7 +21,9 @@ pub mod linked;
 mod making;
 pub mod product;
 mod reading;
+pub mod repeats;
 pub mod run;
 mod site;
 pub mod spoil;
+mod spoil_store;
 mod written;

@@ -28,6 +28,20 @@ extern "C" {
         reply_used: *mut usize,
         place: *mut usize,
     ) -> u32;
+    fn pfcp_store_length() -> usize;
+    fn pfcp_make_store(store: *mut u8, store_len: usize) -> u32;
+    fn pfcp_request_once(
+        table: *mut u8,
+        table_len: usize,
+        store: *mut u8,
+        store_len: usize,
+        message: *const u8,
+        message_len: usize,
+        reply: *mut u8,
+        reply_len: usize,
+        reply_used: *mut usize,
+        place: *mut usize,
+    ) -> u32;
     #[cfg(feature = "restoration")]
     fn pfcp_write_restoration(
         table: *const u8,
@@ -72,6 +86,9 @@ pub fn product() -> Product {
         free_count: pfcp_free_count,
         free_addresses: pfcp_free_addresses,
         request: pfcp_request,
+        store_length: pfcp_store_length,
+        make_store: pfcp_make_store,
+        request_once: pfcp_request_once,
         write_restoration: WRITE_RESTORATION,
         reading: READING,
     }

@@ -30,6 +30,10 @@ fn print(report: &Report, calls: usize) {
     for (reason, count) in &report.reasons {
         println!("broken by {reason}: {count}");
     }
+    println!("calls with a store {}", report.calls_with_store);
+    for (kind, count) in report.met.counts() {
+        println!("with a store, {kind}: {count}");
+    }
     let expected = coverage::expected().len();
     let met = expected - report.coverage.unmet().len();
     let asked = match calls >= CALLS_FOR_WHOLE_COVERAGE {

@@ -23,6 +23,13 @@ pub type WriteRestoration = unsafe extern "C" fn(
     *const u8, usize, usize, *const u8, usize, *const u8, usize, *mut u8, usize, *mut usize,
 ) -> u32;
 
+pub type StoreLength = unsafe extern "C" fn() -> usize;
+pub type MakeStore = unsafe extern "C" fn(*mut u8, usize) -> u32;
+#[rustfmt::skip]
+pub type RequestOnce = unsafe extern "C" fn(
+    *mut u8, usize, *mut u8, usize, *const u8, usize, *mut u8, usize, *mut usize, *mut usize,
+) -> u32;
+
 pub type FindSession = unsafe extern "C" fn(*const u8, usize, u64, *mut usize) -> u32;
 pub type FindTeid = unsafe extern "C" fn(*const u8, usize, u32, *mut usize) -> u32;
 
@@ -64,6 +71,9 @@ pub struct Product {
     pub free_count: FreeCount,
     pub free_addresses: FreeCount,
     pub request: Request,
+    pub store_length: StoreLength,
+    pub make_store: MakeStore,
+    pub request_once: RequestOnce,
     /// Nothing where the product has no such call.
     pub write_restoration: Option<WriteRestoration>,
     /// Nothing where the product has no such calls.
@@ -126,6 +136,40 @@ impl Product {
             (self.request)(
                 pointer_mut(table),
                 table.len(),
+                pointer(message),
+                message.len(),
+                pointer_mut(space),
+                space.len(),
+                &mut used,
+                &mut place,
+            )
+        };
+        (outcome, used, place)
+    }
+
+    pub fn store_length(&self) -> usize {
+        unsafe { (self.store_length)() }
+    }
+
+    pub fn make_store(&self, store: &mut [u8]) -> u32 {
+        unsafe { (self.make_store)(pointer_mut(store), store.len()) }
+    }
+
+    /// The outcome, the length of the reply, and the place of a fault.
+    pub fn request_once(
+        &self,
+        table: &mut [u8],
+        store: &mut [u8],
+        message: &[u8],
+        space: &mut [u8],
+    ) -> (u32, usize, usize) {
+        let (mut used, mut place) = (usize::MAX, usize::MAX);
+        let outcome = unsafe {
+            (self.request_once)(
+                pointer_mut(table),
+                table.len(),
+                pointer_mut(store),
+                store.len(),
                 pointer(message),
                 message.len(),
                 pointer_mut(space),

@@ -18,6 +18,7 @@ use second::unit::{Decision, Reason, Unit};
 
 use crate::crowded;
 use crate::product::Product;
+use crate::repeats::Met;
 use crate::site;
 use crate::spoil::{self, REASONS};
 
@@ -126,6 +127,9 @@ pub struct Report {
     pub reasons: BTreeMap<&'static str, u64>,
     /// How often an establishment was refused only because the table was full, by session limit.
     pub full: BTreeMap<u16, u64>,
+    /// Calls with a store of repeated requests, and what was met in them.
+    pub calls_with_store: usize,
+    pub met: Met,
 }
 
 impl Report {
@@ -144,6 +148,8 @@ impl Report {
             outcomes: [0; 6],
             reasons: REASONS.iter().map(|reason| (*reason, 0)).collect(),
             full: site::LIMITS.iter().map(|limit| (*limit, 0)).collect(),
+            calls_with_store: 0,
+            met: Met::new(),
         }
     }
 
@@ -176,6 +182,7 @@ impl Report {
         if self.still_sound == 0 {
             unmet.push("a damaged table that is sound".to_string());
         }
+        unmet.extend(self.met.rare());
         unmet
     }
 }
@@ -192,13 +199,14 @@ pub fn run(product: &Product, seed: u64, calls: usize) -> Report {
     run.crowded_messages();
     run.written_of_random_tables();
     run.found_in_random_tables();
+    run.traffic(&mut Generator::new(seed.wrapping_add(1)), calls);
     let mut generator = Generator::new(seed);
     while run.report.calls < calls && run.report.failures.len() < 20 {
         run.sequence(&mut generator, calls);
     }
     if calls >= CALLS_FOR_WHOLE_COVERAGE {
         for what in run.report.unmet() {
-            run.report.check(false, || format!("never met: {what}"));
+            run.report.check(false, || format!("not met, or too rarely: {what}"));
         }
         let whole = run.report.unmet().is_empty();
         run.report.check(whole, || "the coverage is not whole".to_string());
@@ -608,6 +616,6 @@ fn restored_reply(settings: &Settings, seid: u64, sequence: u32) -> Vec<u8> {
     reply
 }
 
-fn hexadecimal(octets: &[u8]) -> String {
+pub(crate) fn hexadecimal(octets: &[u8]) -> String {
     octets.iter().map(|octet| format!("{octet:02X}")).collect()
 }
