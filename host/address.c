@@ -44,6 +44,15 @@ static const uint8_t *octets_of(const struct address *address)
     return v6->sin6_addr.s6_addr + (address_is_ipv4(address) ? 12 : 0);
 }
 
+void address_octets(const struct address *address, uint8_t *octets)
+{
+    static const uint8_t mapped[12] = {[10] = 0xFF, [11] = 0xFF};
+    bool v4 = address_is_ipv4(address);
+
+    memcpy(octets, mapped, sizeof mapped);
+    memcpy(octets + (v4 ? 12 : 0), octets_of(address), v4 ? 4 : ADDRESS_OCTETS);
+}
+
 const char *address_text(const struct address *address, char *room, size_t size)
 {
     char text[INET6_ADDRSTRLEN];

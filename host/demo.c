@@ -116,6 +116,13 @@ static bool establish(struct exchange *x, const char *title, uint64_t seid, uint
     return send_message(x, title, &m);
 }
 
+/* The same octets once more, as where the reply was lost; and a number that was there already. */
+static bool repeat(struct exchange *x)
+{
+    return establish(x, "The same request again, as if its reply was lost: the old reply", 2, 2) &&
+           establish(x, "Another request with that number: it is dropped", 4, 2);
+}
+
 static bool modify(struct exchange *x)
 {
     struct message m;
@@ -262,7 +269,7 @@ int run_demo(struct unit *unit)
     puts("A unit and its control-plane peer, over the loopback interface.");
     print_sessions(unit);
     bool done = establish_first(&x) &&
-                establish(&x, "Session 2: the next free TEID and address", 2, 2) &&
+                establish(&x, "Session 2: the next free TEID and address", 2, 2) && repeat(&x) &&
                 establish(&x, "Session 3: one TEID more", 3, 3) && modify(&x) && refusals(&x) &&
                 remove_alone(&x) && delete_and_restore(&x) && delete_sets(&x);
     close(x.peer);

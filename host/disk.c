@@ -103,14 +103,14 @@ static bool write_octets(int file, const uint8_t *octets, size_t length)
 }
 
 /* Writes FILE.new, for the unit's user only, in the place of one that a crash has left. */
-static bool write_beside(const struct disk *disk, const uint8_t *table)
+static bool write_beside(const struct disk *disk, const uint8_t *kept)
 {
     unlink(disk->beside);
     int file = open(disk->beside, O_WRONLY | O_CREAT | O_EXCL | O_CLOEXEC, 0600);
 
     if (file < 0)
         return false;
-    bool written = fchmod(file, 0600) == 0 && write_octets(file, table, disk->length) &&
+    bool written = fchmod(file, 0600) == 0 && write_octets(file, kept, disk->length) &&
                    (!disk->sync || fsync(file) == 0);
     int error = errno;
     if (close(file) != 0 && written) {
@@ -136,11 +136,11 @@ static bool sync_path(const char *path)
     return synced;
 }
 
-static bool write_table(struct disk *disk, const uint8_t *table)
+static bool write_file(struct disk *disk, const uint8_t *kept)
 {
     if (!take_lock(disk))
         return false;
-    if (!write_beside(disk, table))
+    if (!write_beside(disk, kept))
         return fail(disk, disk->beside, strerror(errno));
     if (rename(disk->beside, disk->path) != 0) {
         fail(disk, disk->path, strerror(errno));
@@ -154,26 +154,26 @@ static bool write_table(struct disk *disk, const uint8_t *table)
     return true;
 }
 
-void disk_remember(struct disk *disk, const uint8_t *table)
+void disk_remember(struct disk *disk, const uint8_t *kept)
 {
     if (disk->path)
-        memcpy(disk->before, table, disk->length);
+        memcpy(disk->before, kept, disk->length);
 }
 
-/* As long as it is not sure which table the disk has, nothing is answered before a write succeeds. */
-bool disk_keep(struct disk *disk, uint8_t *table)
+/* As long as it is not sure what the disk has, nothing is answered before a write succeeds. */
+bool disk_keep(struct disk *disk, uint8_t *kept)
 {
     if (!disk->path)
         return true;
-    if (!disk->unsure && memcmp(disk->before, table, disk->length) == 0)
+    if (!disk->unsure && memcmp(disk->before, kept, disk->length) == 0)
         return true;
-    disk->failing = !write_table(disk, table);
+    disk->failing = !write_file(disk, kept);
     if (disk->failing)
-        memcpy(table, disk->before, disk->length);
+        memcpy(kept, disk->before, disk->length);
     return !disk->failing;
 }
 
-/* Reads FILE, which is there and as long as a table, into the room. */
+/* Reads FILE, which is there and of this length, into the room. */
 static bool read_octets(struct disk *disk, uint8_t *room, size_t length)
 {
     int file = open(disk->path, O_RDONLY | O_NOFOLLOW | O_NONBLOCK | O_CLOEXEC);
@@ -187,15 +187,27 @@ static bool read_octets(struct disk *disk, uint8_t *room, size_t length)
            fail(disk, disk->path, got < 0 ? strerror(error) : "not read to its end");
 }
 
-/* The same, where FILE is a plain file of a length that some table has. */
-static bool read_table(struct disk *disk, const struct stat *found)
+/* Finds the session limit and the number of stores of a file of this length. No length is that of two
+   forms: up to MOST_PEERS stores do not take the room of a whole number of sessions. */
+static bool find_form(struct disk *disk, size_t length)
+{
+    for (size_t stores = 0; stores <= MOST_PEERS && stores * STORE_ROOM <= length; stores++) {
+        disk->stored_limit = table_limit(length - stores * STORE_ROOM);
+        disk->stored_stores = stores;
+        if (disk->stored_limit > 0)
+            return true;
+    }
+    return false;
+}
+
+/* The same, where FILE is a plain file of a length that a table has, with stores or without. */
+static bool read_file(struct disk *disk, const struct stat *found)
 {
     char why[64];
 
     if (!S_ISREG(found->st_mode))
         return fail(disk, disk->path, "not a plain file");
-    disk->stored_limit = table_limit((size_t)found->st_size);
-    if (disk->stored_limit == 0) {
+    if (found->st_size < 0 || !find_form(disk, (size_t)found->st_size)) {
         snprintf(why, sizeof why, "%lld octets long, which no table is", (long long)found->st_size);
         return fail(disk, disk->path, why);
     }
@@ -229,28 +241,61 @@ static bool restore(struct disk *disk, const struct options *options, uint8_t *t
                  disk->restored, options->session_limit);
         return fail(disk, disk->path, why);
     }
-    return table_restore(stored, length, table, disk->length) ||
+    return table_restore(stored, length, table, pfcp_table_length(options->session_limit)) ||
            fail(disk, disk->path, "its sessions cannot be restored");
+}
+
+/* A sound table with a broken store gets outcome 1, before the message is looked at. */
+static bool is_sound(uint8_t *table, size_t length, uint8_t *store)
+{
+    uint8_t reply[PFCP_REPLY_SPACE];
+    size_t used;
+    size_t place;
+
+    return pfcp_request_once(table, length, store, PFCP_STORE_LENGTH, NULL, 0, reply, sizeof reply,
+                             &used, &place) != PFCP_BROKEN_TABLE;
+}
+
+/* Brings the stores that were read to their control planes. Those of others are left out, and a control
+   plane that has none among them keeps an empty one. */
+static bool take_stores(struct disk *disk, const struct options *options, uint8_t *kept)
+{
+    const uint8_t *stored = disk->before + pfcp_table_length(disk->stored_limit);
+    size_t length = pfcp_table_length(options->session_limit);
+    uint8_t *stores = kept + length;
+    char name[STORE_WORDS];
+    char why[STORE_WORDS + 64];
+
+    for (size_t i = 0; i < stores_count(options); i++) {
+        disk->taken[i] = stores_take(stores, i, stored, disk->stored_stores);
+        if (disk->taken[i] && !is_sound(kept, length, stores_at(stores, i))) {
+            snprintf(why, sizeof why, "%s is broken (--no-repeats leaves it out)",
+                     stores_name(stores, i, name, sizeof name));
+            return fail(disk, disk->path, why);
+        }
+    }
+    return true;
 }
 
 /* The file may be of a unit that was killed between the renaming and the disk: so the disk is waited
    for here, before anything is answered. */
-static bool read_stored(struct disk *disk, const struct options *options, uint8_t *table)
+static bool read_stored(struct disk *disk, const struct options *options, uint8_t *kept)
 {
     struct stat found;
 
     if (lstat(disk->path, &found) != 0) {
         disk->made = errno == ENOENT;
-        return disk->made ? write_table(disk, table) : fail(disk, disk->path, strerror(errno));
+        return disk->made ? write_file(disk, kept) : fail(disk, disk->path, strerror(errno));
     }
-    if (!read_table(disk, &found) || !restore(disk, options, table))
+    if (!read_file(disk, &found) || !restore(disk, options, kept) ||
+        !take_stores(disk, options, kept))
         return false;
     if (disk->sync && !(sync_path(disk->path) && sync_path(disk->folder)))
         return fail(disk, disk->path, strerror(errno));
     return true;
 }
 
-bool disk_start(struct disk *disk, const struct options *options, uint8_t *table)
+bool disk_start(struct disk *disk, const struct options *options, uint8_t *kept)
 {
     struct stat found;
 
@@ -258,12 +303,12 @@ bool disk_start(struct disk *disk, const struct options *options, uint8_t *table
     disk->lock = -1;
     disk->path = options->table;
     disk->sync = options->table_sync;
-    disk->length = pfcp_table_length(options->session_limit);
+    disk->length = pfcp_table_length(options->session_limit) + stores_count(options) * STORE_ROOM;
     if (!disk->path)
         return true;
     bool usable = name_files(disk) && take_lock(disk);
     disk->unfinished = usable && lstat(disk->beside, &found) == 0;
-    if (usable && read_stored(disk, options, table))
+    if (usable && read_stored(disk, options, kept))
         return true;
     fprintf(stderr, "pfcp_unit: --table %s\n", disk->trouble);
     return false;

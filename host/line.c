@@ -5,11 +5,15 @@
 #include "unit.h"
 #include "words.h"
 
-/* Which element is at fault, where it stands in the message, and the octets there. */
+/* Which element is at fault, where it stands in the message, and the octets there. An old reply comes
+   without the place. */
 static void add_fault(struct text *text, const struct served *served)
 {
-    text_add(text, ", Offending IE %u (%s), place %zu, octets", served->offending,
-             element_in_words(served->offending), served->place);
+    text_add(text, ", Offending IE %u (%s)", served->offending,
+             element_in_words(served->offending));
+    if (served->repeated)
+        return;
+    text_add(text, ", place %zu, octets", served->place);
     for (size_t i = 0; i < served->there_length; i++)
         text_add(text, " %02X", served->there[i]);
 }
@@ -42,6 +46,8 @@ void served_facts(struct text *text, const struct served *served)
     else
         text_add(text, ", outcome %" PRIu32 " (%s)", served->outcome,
                  outcome_in_words(served->outcome, served->has_type, served->type));
+    if (served->repeated && !served->undone)
+        text_add(text, ", a repeat: the old reply");
     if (served->cause != 0)
         text_add(text, ", cause %u (%s)", served->cause, cause_in_words(served->cause));
     if (served->has_offending)

@@ -176,14 +176,16 @@ static void add_counters(struct text *text, const struct listing *listing)
     add_counts(text, json, "outcomes", c->outcomes, sizeof c->outcomes / sizeof c->outcomes[0],
                outcome_in_general);
     text_add(text,
-             json ? ",\"not_pfcp\":%lu,\"undone\":%lu,\"replies_not_sent\":%lu,\"from_others\":%lu,"
-                    "\"dropped_by_system\":%lu,\"lines_dropped\":%lu}"
-                  : "messages that are not PFCP: %lu\n"
+             json ? ",\"repeats\":%lu,\"not_pfcp\":%lu,\"undone\":%lu,\"replies_not_sent\":%lu,"
+                    "\"from_others\":%lu,\"dropped_by_system\":%lu,\"lines_dropped\":%lu}"
+                  : "repeated requests that got the old reply: %lu\n"
+                    "messages that are not PFCP: %lu\n"
                     "requests undone, since the table could not be kept on the disk: %lu\n"
                     "replies not sent: %lu\n"
                     "datagrams from others than the peer: %lu\n"
                     "datagrams dropped by the system: %lu\nlines of output dropped: %lu\n",
-             c->untyped, c->undone, c->unsent, c->strangers, c->dropped, listing->lines_dropped);
+             c->repeats, c->untyped, c->undone, c->unsent, c->strangers, c->dropped,
+             listing->lines_dropped);
 }
 
 static void start(struct listing *listing, const struct unit *unit, unsigned form)

@@ -16,10 +16,14 @@ const char usage[] =
     "Serves PFCP requests for sessions and sets of sessions over UDP and says a line for each.\n"
     "  --address ADDRESS   where to listen, IPv4 or IPv6 (127.0.0.1)\n"
     "  --port PORT         the UDP port, 1 to 65535 (8805)\n"
-    "  --peer ADDRESS      the control plane: nobody else is answered (anybody is)\n"
+    "  --peer ADDRESS      a control plane: nobody else is answered (anybody is). Given up to 8\n"
+    "                      times; each control plane counts its own requests\n"
+    "  --no-repeats        do not look for repeated requests (a repeat gets the old reply, any "
+    "other\n"
+    "                      request whose sequence number is not newer is dropped)\n"
     "  --control PATH      a Unix socket on which pfcp-list asks for the live sessions (none)\n"
-    "  --table FILE        keep the table in FILE: it is there before a reply is sent, and the\n"
-    "                      next start restores it (the table is in memory only)\n"
+    "  --table FILE        keep the table in FILE, and what repeats need: they are there before a\n"
+    "                      reply is sent, and the next start restores them (in memory only)\n"
     "  --table-sync yes|no whether a reply waits until the disk has the table (yes)\n"
     "  --ipv4 ADDRESS      the unit's own IPv4 address (192.0.2.1)\n"
     "  --ipv6 ADDRESS      the unit's own IPv6 address (none)\n"
@@ -64,6 +68,24 @@ static bool read_setting(const char *name, const char *value, uint64_t most, con
     return true;
 }
 
+/* One more control plane. */
+static bool add_peer(struct options *options, const char *name, const char *value)
+{
+    struct address peer;
+
+    if (!address_read(&peer, value, 0))
+        return complain(name, value, "not an IPv4 or IPv6 address");
+    if (address_is_any(&peer))
+        return complain(name, value, "nobody sends from there");
+    for (size_t i = 0; i < options->peer_count; i++)
+        if (address_same(&options->peers[i], &peer))
+            return complain(name, value, "named twice");
+    if (options->peer_count == MOST_PEERS)
+        return complain(name, value, "more than 8 control planes");
+    options->peers[options->peer_count++] = peer;
+    return true;
+}
+
 static bool read_option(struct options *options, const char *name, const char *value)
 {
     uint64_t number;
@@ -77,9 +99,7 @@ static bool read_option(struct options *options, const char *name, const char *v
             return complain(name, value, "not a port from 1 to 65535");
         options->port = (uint16_t)number;
     } else if (strcmp(name, "--peer") == 0) {
-        if (!address_read(&options->peer, value, 0))
-            return complain(name, value, "not an IPv4 or IPv6 address");
-        options->has_peer = true;
+        return add_peer(options, name, value);
     } else if (strcmp(name, "--control") == 0) {
         options->control = value;
     } else if (strcmp(name, "--table") == 0) {
@@ -138,12 +158,16 @@ static void fill_in(struct options *options)
 }
 
 /* An IPv6 socket for every address hears IPv4 too. */
-static bool can_hear_peer(const struct options *options)
+static bool can_hear_peers(const struct options *options)
 {
     bool listens_v4 = address_is_ipv4(&options->listen);
 
-    return !options->has_peer || listens_v4 == address_is_ipv4(&options->peer) ||
-           (!listens_v4 && address_is_any(&options->listen));
+    if (!listens_v4 && address_is_any(&options->listen))
+        return true;
+    for (size_t i = 0; i < options->peer_count; i++)
+        if (listens_v4 != address_is_ipv4(&options->peers[i]))
+            return false;
+    return true;
 }
 
 static bool is_possible(const struct options *options)
@@ -161,7 +185,7 @@ static bool is_possible(const struct options *options)
                 (unsigned)(options->first_address & 255));
         return false;
     }
-    if (!can_hear_peer(options)) {
+    if (!can_hear_peers(options)) {
         fprintf(stderr, "pfcp_unit: the peer and %s are not both IPv4 or both IPv6\n",
                 options->listen_text);
         return false;
@@ -182,9 +206,12 @@ bool read_options(struct options *options, int argc, char **argv)
     options->first_address = 0x0A2D0001;
     options->session_limit = USUAL_SESSIONS;
     options->table_sync = true;
+    options->repeats = true;
     for (int i = 1; i < argc; i++) {
         if (strcmp(argv[i], "--demo") == 0) {
             options->demo = true;
+        } else if (strcmp(argv[i], "--no-repeats") == 0) {
+            options->repeats = false;
         } else if (strcmp(argv[i], "--help") == 0) {
             options->help = true;
         } else if (strcmp(argv[i], "--version") == 0) {

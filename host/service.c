@@ -15,6 +15,7 @@
 #include "datagrams.h"
 #include "listing.h"
 #include "output.h"
+#include "stores.h"
 #include "unit.h"
 #include "words.h"
 
@@ -127,8 +128,8 @@ static void say_disk(struct service *service)
     service->disk_failing = unit->disk.failing;
     if (unit->disk.failing)
         snprintf(words, sizeof words,
-                 "the table cannot be kept on the disk (%s): requests that change it are undone "
-                 "and not answered",
+                 "the table cannot be kept on the disk (%s): what cannot be kept is undone and not "
+                 "answered",
                  unit->disk.trouble);
     else
         snprintf(words, sizeof words, "the table is kept on the disk again; requests undone: %lu",
@@ -186,6 +187,33 @@ static void serve(struct service *service)
     }
 }
 
+/* Which stores of repeats the file lacks, and which of it are of others. */
+static void say_stores(struct service *service)
+{
+    const struct unit *unit = &service->unit;
+    const struct disk *disk = &unit->disk;
+    size_t left = disk->stored_stores;
+    char words[PATH_MAX + STORE_WORDS + 128];
+    char name[STORE_WORDS];
+
+    for (size_t i = 0; i < stores_count(unit->options) && !disk->made; i++) {
+        left -= disk->taken[i];
+        if (disk->taken[i])
+            continue;
+        snprintf(words, sizeof words,
+                 "%s lacks %s: a repeat from before is taken for a new request", disk->path,
+                 stores_name(unit->stores, i, name, sizeof name));
+        say(service, words);
+    }
+    if (left == 0)
+        return;
+    snprintf(words, sizeof words,
+             "stores of repeats in %s that no option asks for: %zu; from the next change on they "
+             "are not there",
+             disk->path, left);
+    say(service, words);
+}
+
 /* Where the table comes from. */
 static void say_table(struct service *service)
 {
@@ -214,9 +242,21 @@ static void say_table(struct service *service)
                  disk->path, disk->stored_limit, limit);
         say(service, words);
     }
+    say_stores(service);
     if (!disk->sync)
         warn(service, "warning: --table-sync no: after a power failure the table's file may lack "
                       "what was answered, or be broken");
+}
+
+/* Without a peer there is one store of repeats, so all who ask should count as one. */
+static void say_anybody(struct service *service)
+{
+    char words[128];
+
+    snprintf(words, sizeof words,
+             "warning: no --peer is given, so requests from any address are answered%s",
+             service->unit.options->repeats ? ", as those of one control plane" : "");
+    warn(service, words);
 }
 
 static void say_start(struct service *service)
@@ -234,8 +274,10 @@ static void say_start(struct service *service)
              options->session_limit, service->unit.free_teids, options->pool_size,
              service->unit.free_addresses, options->address_count);
     say(service, words);
-    if (!options->has_peer)
-        warn(service, "warning: no --peer is given, so requests from any address are answered");
+    if (!options->repeats)
+        say(service, "repeated requests are not looked for (--no-repeats)");
+    if (options->peer_count == 0)
+        say_anybody(service);
     if (buffer < WANTED_BUFFER) {
         snprintf(words, sizeof words,
                  "warning: the receive buffer has %zu octets, not %d (net.core.rmem_max)", buffer,

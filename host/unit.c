@@ -8,6 +8,7 @@
 
 #include "datagrams.h"
 #include "message.h"
+#include "stores.h"
 #include "table.h"
 
 /* The sessions, free TEIDs and free addresses, after a request that may have changed them. */
@@ -21,11 +22,11 @@ static bool count_table(struct unit *unit)
            pfcp_free_addresses(table, length, &unit->free_addresses) == PFCP_ANSWERED;
 }
 
-/* An empty table in memory of just its length. */
+/* An empty table and empty stores in memory of just their length. */
 static bool start_table(struct unit *unit, const struct options *options)
 {
     unit->table_length = pfcp_table_length(options->session_limit);
-    unit->table = malloc(unit->table_length);
+    unit->table = malloc(unit->table_length + stores_count(options) * STORE_ROOM);
     if (!unit->table) {
         fputs("pfcp_unit: no memory for the table\n", stderr);
         return false;
@@ -34,6 +35,8 @@ static bool start_table(struct unit *unit, const struct options *options)
         fputs("pfcp_unit: these settings are refused\n", stderr);
         return false;
     }
+    unit->stores = unit->table + unit->table_length;
+    stores_make(unit->stores, options);
     return true;
 }
 
@@ -66,6 +69,7 @@ void unit_stop(struct unit *unit)
     disk_stop(&unit->disk);
     free(unit->table);
     unit->table = NULL;
+    unit->stores = NULL;
 }
 
 /* What the octets tell of the message. A header without S has no SEID. */
@@ -123,9 +127,11 @@ static void count(struct counters *counters, const struct served *served)
         counters->undone++;
         return;
     }
-    if (served->outcome <= PFCP_NOT_SERVED)
+    if (served->outcome <= PFCP_OLD_NUMBER)
         counters->outcomes[served->outcome]++;
-    if (served->cause != 0)
+    if (served->repeated)
+        counters->repeats++;
+    else if (served->cause != 0)
         counters->causes[served->cause]++;
     if (served->send_error != 0)
         counters->unsent++;
@@ -140,12 +146,34 @@ unsigned long unit_unanswered(const struct unit *unit)
 {
     unsigned long sum = unit->counters.undone;
 
-    for (size_t i = PFCP_ANSWERED + 1; i <= PFCP_NOT_SERVED; i++)
+    for (size_t i = PFCP_ANSWERED + 1; i <= PFCP_OLD_NUMBER; i++)
         sum += unit->counters.outcomes[i];
     return sum;
 }
 
-/* Hands the message on, has the table on the disk if it has changed, and sends the reply. */
+/* Hands the message on, with the store of its control plane where there is one. Whatever the engine
+   answers is stored, so an answer that leaves the store as it was is an old one. */
+static void hand_on(struct unit *unit, struct served *served, const uint8_t *message,
+                    uint8_t *reply, size_t *used)
+{
+    static uint8_t before[PFCP_STORE_LENGTH];
+
+    if (!unit->options->repeats) {
+        served->outcome = pfcp_request(unit->table, unit->table_length, message, served->length,
+                                       reply, PFCP_REPLY_SPACE, used, &served->place);
+        return;
+    }
+    uint8_t *store = stores_at(unit->stores, served->store);
+    memcpy(before, store, PFCP_STORE_LENGTH);
+    served->outcome =
+        pfcp_request_once(unit->table, unit->table_length, store, PFCP_STORE_LENGTH, message,
+                          served->length, reply, PFCP_REPLY_SPACE, used, &served->place);
+    served->repeated =
+        served->outcome == PFCP_ANSWERED && memcmp(before, store, PFCP_STORE_LENGTH) == 0;
+}
+
+/* Has the message answered, has table and stores on the disk if they have changed, and sends the
+   reply. */
 static void answer(struct unit *unit, struct served *served, struct datagram *from,
                    const uint8_t *message)
 {
@@ -153,8 +181,7 @@ static void answer(struct unit *unit, struct served *served, struct datagram *fr
     size_t used;
 
     disk_remember(&unit->disk, unit->table);
-    served->outcome = pfcp_request(unit->table, unit->table_length, message, served->length, reply,
-                                   sizeof reply, &used, &served->place);
+    hand_on(unit, served, message, reply, &used);
     if (served->outcome != PFCP_ANSWERED)
         return;
     if (!disk_keep(&unit->disk, unit->table)) {
@@ -163,6 +190,8 @@ static void answer(struct unit *unit, struct served *served, struct datagram *fr
     }
     served->send_error = datagrams_answer(unit->socket, from, reply, used);
     read_reply(served, reply, used);
+    if (served->repeated)
+        return;
     if (served->has_offending)
         keep_octets(served, message);
     if (served->cause == ACCEPTED && !count_table(unit))
@@ -179,12 +208,25 @@ static void answer_set(struct unit *unit, struct served *served, struct datagram
 
     memcpy(before, unit->table, unit->table_length);
     answer(unit, served, from, message);
-    if (served->outcome != PFCP_ANSWERED || served->cause != ACCEPTED)
+    if (served->outcome != PFCP_ANSWERED || served->cause != ACCEPTED || served->repeated)
         return;
     served->is_set = true;
     if (unit->live_sessions < lived)
         served->removed_count = sessions_gone(before, unit->table, unit->table_length,
                                               served->removed, PFCP_MOST_SESSIONS);
+}
+
+/* Finds the store of the control plane that sent a message; gives false for a stranger. */
+static bool find_store(const struct options *options, struct served *served)
+{
+    if (options->peer_count == 0)
+        return true;
+    for (size_t i = 0; i < options->peer_count; i++)
+        if (address_same(&served->peer, &options->peers[i])) {
+            served->store = i;
+            return true;
+        }
+    return false;
 }
 
 enum turn unit_serve(struct unit *unit, struct served *served)
@@ -201,7 +243,7 @@ enum turn unit_serve(struct unit *unit, struct served *served)
     served->peer = from.peer;
     unit->counters.dropped += (uint32_t)(from.dropped - unit->system_dropped);
     unit->system_dropped = from.dropped;
-    if (unit->options->has_peer && !address_same(&from.peer, &unit->options->peer)) {
+    if (!find_store(unit->options, served)) {
         unit->counters.strangers++;
         return TURN_STRANGER;
     }

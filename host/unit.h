@@ -17,12 +17,13 @@
 struct counters {
     unsigned long messages[256]; /* by type */
     unsigned long untyped;       /* too short for a type, or not PFCP version 1 */
-    unsigned long outcomes[PFCP_NOT_SERVED + 1];
-    unsigned long causes[256];
-    unsigned long undone;    /* requests undone since the table could not be kept on the disk */
-    unsigned long unsent;    /* replies that could not be sent */
-    unsigned long strangers; /* datagrams from elsewhere than the control plane */
-    unsigned long dropped;   /* datagrams that the system dropped */
+    unsigned long outcomes[PFCP_OLD_NUMBER + 1];
+    unsigned long causes[256]; /* of requests; a repeat's is not counted again */
+    unsigned long repeats;     /* requests that came again and got the old reply */
+    unsigned long undone;      /* requests undone since the table could not be kept on the disk */
+    unsigned long unsent;      /* replies that could not be sent */
+    unsigned long strangers;   /* datagrams from elsewhere than the control plane */
+    unsigned long dropped;     /* datagrams that the system dropped */
 };
 
 struct unit {
@@ -31,6 +32,7 @@ struct unit {
     const struct options *options;
     uint8_t *table; /* as long as the session limit asks for; NULL: there is none */
     size_t table_length;
+    uint8_t *stores; /* of repeated requests; after the table, as stores.h has them */
     struct disk disk;
     uint32_t live_sessions;
     uint32_t free_teids;
@@ -46,6 +48,7 @@ enum { OCTETS_THERE = 8 };
 struct served {
     struct timespec time;
     struct address peer;
+    size_t store; /* the place of its control plane's store */
     size_t length;
     bool has_type; /* the octets are PFCP version 1 and long enough */
     uint8_t type;
@@ -54,6 +57,7 @@ struct served {
     bool has_sequence;
     uint32_t sequence;
     uint32_t outcome;
+    bool repeated; /* the request was answered before: this is the old reply */
     uint8_t cause; /* 0: there is no reply */
     bool has_offending;
     uint16_t offending;

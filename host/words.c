@@ -50,7 +50,7 @@ const char *outcome_in_words(unsigned outcome, bool has_type, unsigned type)
     case 0:
         return "answered";
     case 1:
-        return "the table is broken";
+        return "the table or its store of repeats is broken";
     case 2:
         return "the reply space is too small";
     case 3:
@@ -60,6 +60,8 @@ const char *outcome_in_words(unsigned outcome, bool has_type, unsigned type)
                                              : "no reply: the header is wrong";
     case 5:
         return "no reply: this type is not served";
+    case 6:
+        return "no reply: dropped, its number is not newer";
     default:
         return "unknown outcome";
     }

@@ -22,7 +22,7 @@ const char *message_in_words(unsigned type);
 const char *cause_in_words(unsigned cause);
 const char *element_in_words(unsigned type);
 
-/* What a host outcome of pfcp_request means for a message, whose type is known or not. */
+/* What a host outcome of pfcp_request_once means for a message, whose type is known or not. */
 const char *outcome_in_words(unsigned outcome, bool has_type, unsigned type);
 
 /* A time as UTC to the millisecond; NULL is the time now. */

@@ -29,8 +29,9 @@
  * the table, and reads the copy. A copy that was made without the lock may mix two states, and need
  * not be a broken table for that.
  *
- * Stack. A request takes 58,560 octets of stack (docs/benchmarks.md has how it was measured), the
- * other calls take less. There is no heap. A thread of 64 KiB is large enough.
+ * Stack. A request takes 67,088 octets of stack with a store, and 58,624 without one; the other calls
+ * take less (docs/benchmarks.md has how it was measured). There is no heap. A thread of 128 KiB is
+ * large enough, also where it has the message and the reply on its stack; one of 64 KiB is not.
  *
  * Architecture. The archive is for x86-64 Linux, any processor of that kind. It needs memcpy, memmove
  * and memset of the C library and nothing else, and can be linked into position independent code.
@@ -49,9 +50,9 @@ extern "C" {
 
 /* The version of this header and its archive: as numbers and as text. */
 #define PFCP_VERSION_MAJOR 0
-#define PFCP_VERSION_MINOR 5
+#define PFCP_VERSION_MINOR 6
 #define PFCP_VERSION_PATCH 0
-#define PFCP_VERSION "0.5.0"
+#define PFCP_VERSION "0.6.0"
 
 /* The greatest session limit of a table, ... */
 #define PFCP_MOST_SESSIONS 256
@@ -65,6 +66,9 @@ extern "C" {
 /* ... and is at most this long. */
 #define PFCP_LONGEST_REQUEST 2048
 
+/* A store of repeated requests has this many octets, as pfcp_store_length says. */
+#define PFCP_STORE_LENGTH 26657
+
 /* A restoration request is at most this long. */
 #define PFCP_LONGEST_RESTORATION 1742
 
@@ -75,6 +79,7 @@ extern "C" {
 #define PFCP_LONG_MESSAGE 3      /* message_len is over 2,048 */
 #define PFCP_WRONG_HEADER 4      /* too short a header, or version, S, FO or length wrong */
 #define PFCP_NOT_SERVED 5        /* another message type than 14, 50, 52, 54 */
+#define PFCP_OLD_NUMBER 6        /* pfcp_request_once only: not newer than the request stored last */
 
 /* Outcomes of pfcp_write_restoration. */
 #define PFCP_WRITTEN 0            /* a restoration request was written */
@@ -146,6 +151,37 @@ uint32_t pfcp_free_addresses(const uint8_t *table, size_t table_len, uint32_t *c
  */
 uint32_t pfcp_request(uint8_t *table, size_t table_len, const uint8_t *message, size_t message_len,
                       uint8_t *reply, size_t reply_len, size_t *reply_used, size_t *place);
+
+/* The number of octets of a store of repeated requests: PFCP_STORE_LENGTH. */
+size_t pfcp_store_length(void);
+
+/*
+ * Empties a store of repeated requests, whatever its octets were. A host does so whenever it makes a
+ * table, or takes one up from elsewhere.
+ *
+ * Gives 0 if the store was emptied, and 1 if store_len is not pfcp_store_length(); then nothing is
+ * written.
+ */
+uint32_t pfcp_make_store(uint8_t *store, size_t store_len);
+
+/*
+ * Handles one request as pfcp_request does, but a repeat gets the old reply. The store, which the
+ * caller lends with the table and which nobody else alters, holds the last eight requests that were
+ * replied to, accepted or refused, with their replies.
+ *
+ * Gives 1 (PFCP_BROKEN_TABLE) where the table or the store is broken or of another length, then 2 to 5
+ * as pfcp_request. Octets equal to those of a stored message then get the stored reply, with 0 in
+ * *place, and neither the table nor the store changes. Any other request has to have a sequence number
+ * that is newer than that of the request stored last: their difference, of 24 bits, is 1 to 8,388,607.
+ * An empty store takes any number. An older one is given 6 (PFCP_OLD_NUMBER), and nothing is written
+ * but *reply_used and *place, which are 0. A newer one is handled and, with its reply, stored; of eight
+ * the oldest goes.
+ *
+ * Restorations, and messages that a host makes itself, go to pfcp_request, which knows no store.
+ */
+uint32_t pfcp_request_once(uint8_t *table, size_t table_len, uint8_t *store, size_t store_len,
+                           const uint8_t *message, size_t message_len, uint8_t *reply,
+                           size_t reply_len, size_t *reply_used, size_t *place);
 
 /*
  * Writes the restoration request of one session: the establishment, with the restoration flag, that

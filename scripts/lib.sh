@@ -96,7 +96,7 @@ find_archive() {
 strict=(-std=c11 -D_POSIX_C_SOURCE=200809L -Wall -Wextra -Werror -pedantic -Iinclude -Ihost)
 sanitizers=(-g -O1 -fsanitize=address,undefined -fno-sanitize-recover=all -fno-omit-frame-pointer)
 bench_sources=(-O2 -Ibench bench/workload.c bench/sides.c bench/measure.c host/message.c)
-unit_sources=(host/main.c host/options.c host/number.c host/service.c host/unit.c host/table.c host/disk.c host/datagrams.c host/address.c
+unit_sources=(host/main.c host/options.c host/number.c host/service.c host/unit.c host/table.c host/stores.c host/disk.c host/datagrams.c host/address.c
     host/line.c host/sessions.c host/listing.c host/control.c host/output.c host/text.c host/words.c host/message.c host/demo.c -pthread)
 list_sources=(host/pfcp_list.c host/number.c)
 # the program restore, which adds to its C file a proved library and the kit's C code for it, and the unit's list of a stored table
@@ -126,6 +126,7 @@ compile_times() {
     compile sum_by_vector.o -c -O3 -DSUM=sum_by_vector bench/sum.c || return 1
     compile floor.o -c -O3 bench/floor.c || return 1
     compile_bench "$1" bench/bench.c bench/tables.c bench/kinds.c bench/eight.c bench/passes.c bench/longest.c bench/longest_time.c \
+        bench/repeats.c bench/repeats_time.c \
         target/c/sum_by_octet.o target/c/sum_by_vector.o target/c/floor.o -DPADDING="\"$2\"" bench/padding.c
 }
 

@@ -71,9 +71,17 @@ end_unit() {
 # to_unit [ADDRESS]: opens a socket to the unit as 3
 to_unit() { exec 3<>"/dev/udp/${1:-127.0.0.1}/$port"; }
 
+# numbered NUMBER OCTETS: a request or a reply, given in hexadecimal, with this sequence number
+numbered() {
+    local octets=${2// /} at=8
+    [[ $octets == ?[13579BDF]* ]] && at=24 # after a SEID
+    printf '%s%06X%s' "${octets:0:at}" "$1" "${octets:at + 6}"
+}
+
 # send_octets OCTETS: sends octets given in hexadecimal in one datagram
 send_octets() {
-    printf '%b' "\\x${1// /\\x}" >"$work/message"
+    local octets=${1// /} i
+    for ((i = 0; i < ${#octets}; i += 2)); do printf '%b' "\\x${octets:i:2}"; done >"$work/message"
     dd if="$work/message" bs=4096 count=1 status=none >&3
 }
 
@@ -92,13 +100,13 @@ no_answer() {
     exec 3<&-
 }
 
-# burst COUNT: sends so many deletions of session 1 while the unit stands still, then has it go on
+# burst COUNT: sends so many times the same deletion of session 1, with the number 65536, while the unit stands still, then has it go on
 burst() {
     local i
     kill -STOP "$unit_pid"
     to_unit
     for ((i = 0; i < $1; i++)); do
-        printf '\x21\x36\x00\x0C\x00\x00\x00\x00\x00\x00\x00\x01\x00\x00\x01\x00' >&3
+        printf '\x21\x36\x00\x0C\x00\x00\x00\x00\x00\x00\x00\x01\x01\x00\x00\x00' >&3
     done
     kill -CONT "$unit_pid"
     exec 3<&-
@@ -110,7 +118,7 @@ said() {
         s/^TIME (127\.0\.0\.[0-9]+):[0-9]+ /TIME \1:PORT /' "$1"
 }
 
-anybody='pfcp_unit: warning: no --peer is given, so requests from any address are answered'
+anybody='pfcp_unit: warning: no --peer is given, so requests from any address are answered, as those of one control plane'
 # Session 2: an endpoint with a TEID for IPv4, a PDR that names it and has FAR 10, an FQ-CSID of an operator's node.
 second='21 32 00 5F 00 00 00 00 00 00 00 00 00 00 02 00 00 39 00 0D 02 00 00 00 00 00 00 00 02 7F 00 00 01'
 second+=' 00 01 00 24 00 38 00 02 00 03 00 1D 00 04 00 00 00 32 00 02 00 0A 00 14 00 01 01 00 83 00 01 01 00 6C 00 04 00 00 00 0A'

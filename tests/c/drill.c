@@ -3,9 +3,13 @@
  * SEED, where SYNC is the unit's --table-sync.
  *
  * Requests go to the unit, several at a time, and through the archive here as well. Each reply must be
- * the same to the octet. After each kill the table's file must be the table after all requests whose
+ * the same to the octet. After each kill the file must be table and store after all requests whose
  * reply came or, since a unit may be killed between its disk and its reply, after one request more;
  * so every session whose reply was sent is there and no other. The next unit goes on from it.
+ *
+ * As a control plane does, the drill sends each request that has no reply again, with the same octets.
+ * Its reply must be the one that the archive gave the first time, whether the unit had it on the disk
+ * already or not: a unit that took it for a new request would refuse it.
  */
 #define _DEFAULT_SOURCE /* usleep */
 
@@ -20,6 +24,7 @@
 #include <stdlib.h>
 #include <string.h>
 #include <sys/socket.h>
+#include <sys/stat.h>
 #include <sys/wait.h>
 #include <time.h>
 #include <unistd.h>
@@ -31,14 +36,20 @@ enum {
     SESSIONS = 64, /* the unit's session limit where no option says it */
     WINDOW = 8,
     MOMENT = 250 /* milliseconds at most until a kill */,
-    PATIENCE = 60 /* seconds for a start */
+    PATIENCE = 60 /* seconds for a start */,
+    FIRST_NUMBER = 0xFFFFFF - 100 /* so that numbers come to their end and start again */
 };
 
-/* A request that is not answered yet: its reply, and the table after it. */
+/* The file: a table, the control plane's address, its store (docs/layout.md). */
+enum { OWNER = 16, MOST_KEPT = PFCP_LONGEST_TABLE + OWNER + PFCP_STORE_LENGTH };
+
+/* A request: its number and octets, its reply, and the file after it. */
 struct asked {
-    uint8_t table[PFCP_LONGEST_TABLE];
+    uint32_t sequence;
+    struct message message;
     uint8_t reply[PFCP_REPLY_SPACE];
     size_t used;
+    uint8_t kept[MOST_KEPT];
 };
 
 struct drill {
@@ -46,15 +57,17 @@ struct drill {
     const char *file;
     const char *sync;
     char port[8];
-    size_t length;                     /* of a table */
-    uint8_t table[PFCP_LONGEST_TABLE]; /* after all requests that were answered */
-    struct asked asked[WINDOW];        /* in the order in which they were sent */
+    size_t table_length;
+    struct asked last;          /* the request that was answered last */
+    struct asked asked[WINDOW]; /* those without a reply, in the order in which they were sent */
     size_t waiting;
-    uint32_t sequence; /* 0 is a probe's */
+    bool is_ahead; /* the first of these is in the file already */
+    uint32_t sequence;
     int socket;
     pid_t pid;
-    useconds_t moment;
-    unsigned long answered, accepted, served, ahead;
+    useconds_t moment; /* of the kill, after the start, ... */
+    bool at_write;     /* ... or as soon as the file is replaced after that */
+    unsigned long answered, accepted, served, ahead, ahead_accepted, old_replies;
 };
 
 static void give_up(const char *what)
@@ -109,26 +122,56 @@ static bool is_accepted(const struct asked *asked)
     return number_in(&cause, 0, 1) == ACCEPTED;
 }
 
-/* Sends a request and works out what becomes of it. */
+static size_t kept_length(const struct drill *drill)
+{
+    return drill->table_length + OWNER + PFCP_STORE_LENGTH;
+}
+
+/* A unit that was killed does not hear it. */
+static void send_request(const struct drill *drill, const struct asked *asked)
+{
+    send(drill->socket, asked->message.octets, asked->message.length, 0);
+}
+
+/* Sends a new request and works out what becomes of it. */
 static void ask(struct drill *drill)
 {
     struct asked *asked = &drill->asked[drill->waiting];
-    const uint8_t *before =
-        drill->waiting > 0 ? drill->asked[drill->waiting - 1].table : drill->table;
-    struct message m;
+    const struct asked *before =
+        drill->waiting > 0 ? &drill->asked[drill->waiting - 1] : &drill->last;
+    uint8_t *store = asked->kept + drill->table_length + OWNER;
     size_t place;
 
-    write_request(&m, ++drill->sequence);
-    memcpy(asked->table, before, drill->length);
-    if (pfcp_request(asked->table, drill->length, m.octets, m.length, asked->reply,
-                     sizeof asked->reply, &asked->used, &place) != PFCP_ANSWERED)
+    drill->sequence = (drill->sequence + 1) & 0xFFFFFF;
+    asked->sequence = drill->sequence;
+    write_request(&asked->message, drill->sequence);
+    memcpy(asked->kept, before->kept, kept_length(drill));
+    if (pfcp_request_once(asked->kept, drill->table_length, store, PFCP_STORE_LENGTH,
+                          asked->message.octets, asked->message.length, asked->reply,
+                          sizeof asked->reply, &asked->used, &place) != PFCP_ANSWERED)
         give_up("a request is not answered by the archive");
     drill->waiting++;
-    /* A unit that was killed does not hear it. */
-    send(drill->socket, m.octets, m.length, 0);
+    send_request(drill, asked);
 }
 
-/* Takes a reply, if there is one; it is that of the request that has waited longest. */
+static bool is_reply_to(const struct asked *asked, const uint8_t *reply, size_t length)
+{
+    return length == asked->used && memcmp(reply, asked->reply, length) == 0;
+}
+
+/* The first request that waits has its reply. */
+static void take_answered(struct drill *drill)
+{
+    drill->last = drill->asked[0];
+    drill->answered++;
+    drill->accepted += is_accepted(&drill->last);
+    drill->old_replies += drill->is_ahead;
+    drill->is_ahead = false;
+    memmove(drill->asked, drill->asked + 1, --drill->waiting * sizeof drill->asked[0]);
+}
+
+/* Takes a reply, if there is one; it is that of the request that has waited longest, or once more that
+   of the one before, which was sent again until a reply came. */
 static bool take_reply(struct drill *drill)
 {
     uint8_t reply[PFCP_REPLY_SPACE];
@@ -140,17 +183,14 @@ static bool take_reply(struct drill *drill)
     while (length < 0 && errno == ECONNREFUSED);
     if (length < 16)
         return false;
-    if (number_at(reply + 12, 3) == 0)
+    if (is_reply_to(&drill->last, reply, (size_t)length))
         return true;
-    if (drill->waiting == 0)
+    if (drill->waiting == 0 || number_at(reply + 12, 3) != drill->asked[0].sequence)
         give_up("a reply came that nobody waits for");
-    if ((size_t)length != drill->asked[0].used ||
-        memcmp(reply, drill->asked[0].reply, (size_t)length))
-        give_up("a reply is not the archive's: the unit's table is another one");
-    memcpy(drill->table, drill->asked[0].table, drill->length);
-    drill->answered++;
-    drill->accepted += is_accepted(&drill->asked[0]);
-    memmove(drill->asked, drill->asked + 1, --drill->waiting * sizeof drill->asked[0]);
+    if (!is_reply_to(&drill->asked[0], reply, (size_t)length))
+        give_up(drill->is_ahead ? "a request that is on the disk does not get its old reply"
+                                : "a reply is not the archive's: the unit's table is another one");
+    take_answered(drill);
     return true;
 }
 
@@ -198,32 +238,48 @@ static bool has_ended(const struct drill *drill)
            ended.si_pid != 0;
 }
 
-/* Waits for a reply to a deletion of no session; gives false where the unit has ended before. The
-   system tells at once where nobody listens yet, so each try has its pause. */
+/* Sends the request that has waited longest, or a new one, until its reply comes, then the others that
+   wait; gives false where the unit has ended before. The system tells at once where nobody listens yet,
+   so each try has its pause. */
 static bool wait_for_unit(struct drill *drill)
 {
     time_t limit = time(NULL) + PATIENCE;
-    struct message m;
+    unsigned long answered = drill->answered;
 
-    message_start(&m, DELETION, 0, 0);
-    message_end(&m);
-    while (time(NULL) < limit) {
-        send(drill->socket, m.octets, m.length, 0);
-        usleep(1000);
-        if (take_reply(drill))
-            return true;
+    if (drill->waiting == 0)
+        ask(drill);
+    while (drill->answered == answered) {
+        if (time(NULL) >= limit)
+            give_up("the unit does not answer");
         if (has_ended(drill))
             return false;
+        send_request(drill, &drill->asked[0]);
+        usleep(1000);
+        take_reply(drill);
     }
-    give_up("the unit does not answer");
-    return false;
+    for (size_t i = 0; i < drill->waiting; i++)
+        send_request(drill, &drill->asked[i]);
+    return true;
 }
 
+/* The file's inode, which is another one after each write; 0 where there is no file. */
+static ino_t inode_of(const char *path)
+{
+    struct stat found;
+
+    return stat(path, &found) == 0 ? found.st_ino : 0;
+}
+
+/* A kill just after the file was replaced comes, as a rule, before the reply is sent. */
 static void *kill_unit(void *argument)
 {
     const struct drill *drill = argument;
 
     usleep(drill->moment);
+    ino_t before = inode_of(drill->file);
+    time_t limit = time(NULL) + 2;
+    while (drill->at_write && inode_of(drill->file) == before && time(NULL) < limit)
+        ;
     kill(drill->pid, SIGKILL);
     return NULL;
 }
@@ -242,34 +298,38 @@ static void load(struct drill *drill, uint32_t most)
     }
 }
 
-static void read_file(const struct drill *drill, uint8_t *table)
+static void read_file(const struct drill *drill, uint8_t *kept)
 {
+    size_t length = kept_length(drill);
     FILE *file = fopen(drill->file, "rb");
 
-    if (!file || fread(table, 1, drill->length, file) != drill->length || getc(file) != EOF)
-        give_up("the file is not there, or not as long as a table");
+    if (!file || fread(kept, 1, length, file) != length || getc(file) != EOF)
+        give_up("the file is not there, or not as long as a table and a store");
     fclose(file);
 }
 
-/* What the unit has left: the table as answered, or after one request more. */
+/* What the unit has left: table and store as answered, or after one request more. */
 static void compare(struct drill *drill)
 {
-    static uint8_t found[PFCP_LONGEST_TABLE];
+    static uint8_t found[MOST_KEPT];
+    size_t length = kept_length(drill);
 
     while (take_reply(drill))
         ;
-    read_file(drill, found);
-    if (memcmp(found, drill->table, drill->length) != 0) {
-        if (drill->waiting == 0 || memcmp(found, drill->asked[0].table, drill->length) != 0)
-            give_up("the file is not what was answered");
-        memcpy(drill->table, found, drill->length);
-        drill->ahead++;
-    }
-    drill->waiting = 0;
     close(drill->socket);
+    read_file(drill, found);
+    if (!drill->is_ahead && memcmp(found, drill->last.kept, length) == 0)
+        return;
+    if (drill->waiting == 0 || memcmp(found, drill->asked[0].kept, length) != 0)
+        give_up("the file is not what was answered");
+    if (drill->is_ahead)
+        return;
+    drill->is_ahead = true;
+    drill->ahead++;
+    drill->ahead_accepted += is_accepted(&drill->asked[0]);
 }
 
-/* One kill of five comes while the unit starts, the others while it serves. */
+/* One kill of five comes while the unit starts, the others while it serves, half of them at a write. */
 static void run_round(struct drill *drill)
 {
     bool early = draw(5) == 0;
@@ -277,6 +337,7 @@ static void run_round(struct drill *drill)
     int status;
 
     drill->moment = early ? draw(4000) : draw(MOMENT * 1000);
+    drill->at_write = !early && draw(2) == 0;
     start_unit(drill);
     if (!early && !wait_for_unit(drill))
         give_up("a unit does not start");
@@ -313,9 +374,23 @@ static void run_in_order(struct drill *drill)
         give_up("SIGTERM does not end a unit in order");
 }
 
+/* What a unit starts with: no session, and no request of the control plane 127.0.0.1. */
+static void make_kept(struct drill *drill)
+{
+    static const uint8_t owner[OWNER] = {[10] = 0xFF, [11] = 0xFF, [12] = 127, [15] = 1};
+    uint8_t *after = drill->last.kept + pfcp_table_length(SESSIONS);
+
+    drill->table_length = pfcp_table_length(SESSIONS);
+    if (pfcp_make_table(drill->last.kept, drill->table_length, 0xC0000201, NULL, 0, 4096, 100,
+                        0x0A2D0001, 254, SESSIONS) != 0 ||
+        pfcp_make_store(after + OWNER, PFCP_STORE_LENGTH) != 0)
+        give_up("no table");
+    memcpy(after, owner, OWNER);
+}
+
 int main(int argc, char **argv)
 {
-    static struct drill drill;
+    static struct drill drill = {.sequence = FIRST_NUMBER};
 
     if (argc != 6)
         give_up("usage: drill UNIT FILE SYNC ROUNDS SEED");
@@ -325,10 +400,7 @@ int main(int argc, char **argv)
     for (unsigned long seed = strtoul(argv[5], NULL, 10) % 100000; seed > 0; seed--)
         draw(1);
     find_port(&drill);
-    drill.length = pfcp_table_length(SESSIONS);
-    if (pfcp_make_table(drill.table, drill.length, 0xC0000201, NULL, 0, 4096, 100, 0x0A2D0001, 254,
-                        SESSIONS) != 0)
-        give_up("no table");
+    make_kept(&drill);
     /* The first unit makes the file, and is not killed before. */
     run_in_order(&drill);
     unsigned long rounds = strtoul(argv[4], NULL, 10);
@@ -336,8 +408,9 @@ int main(int argc, char **argv)
         run_round(&drill);
     run_in_order(&drill);
     printf(
-        "kills: %lu, of them while it served: %lu; one request ahead of the replies: %lu; replies: "
-        "%lu, accepted: %lu\n",
-        rounds, drill.served, drill.ahead, drill.answered, drill.accepted);
+        "kills: %lu, of them while it served: %lu; one request ahead of the replies: %lu, of them "
+        "accepted: %lu; then the old reply: %lu; replies: %lu, accepted: %lu\n",
+        rounds, drill.served, drill.ahead, drill.ahead_accepted, drill.old_replies, drill.answered,
+        drill.accepted);
     return EXIT_SUCCESS;
 }

@@ -1,6 +1,6 @@
 /*
  * Loaded before the C library (LD_PRELOAD), it sees the unit's steps on the way from a request to its
- * reply: the table's write, the synchronising of a file or a folder, the renaming, the sending.
+ * reply: the file's write, the synchronising of a file or a folder, the renaming, the sending.
  *
  *   STEPS_LOG=FILE  a line for each step
  *   STEPS_KILL=N    the process is killed before step N; a write is done by half
@@ -20,8 +20,11 @@
 #include <sys/stat.h>
 #include <unistd.h>
 
-/* The length of a table of the unit's usual 64 sessions (docs/layout.md). */
-enum { TABLE_LENGTH = 41 + 64 * 603 };
+#include "pfcp_session.h"
+
+/* The length of the file: a table of the unit's usual 64 sessions, and one store of repeats with its
+   address (docs/layout.md). */
+enum { FILE_LENGTH = 41 + 64 * 603 + 16 + PFCP_STORE_LENGTH };
 
 static int steps;
 
@@ -67,13 +70,13 @@ static bool is_folder(int file)
     return fstat(file, &found) == 0 && S_ISDIR(found.st_mode);
 }
 
-/* Only a table is written in one piece of this length. */
+/* Only the file is written in one piece of this length. */
 ssize_t write(int file, const void *octets, size_t length)
 {
     ssize_t (*next)(int, const void *, size_t);
 
     *(void **)&next = dlsym(RTLD_NEXT, "write");
-    if (length != TABLE_LENGTH)
+    if (length != FILE_LENGTH)
         return next(file, octets, length);
     if (is_marked() && next(file, octets, length / 2) < 0)
         return -1;

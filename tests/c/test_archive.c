@@ -1,7 +1,8 @@
 /*
  * The archive from C: document 01's whole replies, its story of a pool of two, the errors that were
- * seen before, addresses, empty slices, lengths, session limits, broken tables, restorations and the
- * calls that read a table. The last line is "N passed, M failed".
+ * seen before, addresses, empty slices, lengths, session limits, broken tables, restorations, the
+ * calls that read a table, and repeated requests with their store. The last line is "N passed, M
+ * failed".
  *
  * Every slice is lent from a block of its own and of exactly its length, so that a memory checker
  * sees an octet read or written outside.
@@ -1583,6 +1584,441 @@ static void last_teid(void)
     free(table);
 }
 
+/* A store's layout (docs/layout.md): its number of entries, and so many octets at most for each. */
+enum {
+    ENTRIES = 8,
+    ENTRY_ROOM = 2 + PFCP_LONGEST_REQUEST + 2 + PFCP_REPLY_SPACE,
+    STORE_LENGTH = 1 + ENTRIES * ENTRY_ROOM
+};
+
+static uint8_t *new_store(void)
+{
+    uint8_t *store = block(STORE_LENGTH, FILLING);
+
+    CHECK(pfcp_make_store(store, STORE_LENGTH) == 0);
+    return store;
+}
+
+/* One request through a store, with this reply space; checks what holds of every answer: with another
+   outcome than 0 nothing is written, and no octet after the reply ever is. */
+static uint32_t ask_once_in(uint8_t *table, uint8_t *store, const struct message *m, size_t space)
+{
+    size_t length = length_of(table);
+    uint8_t *message = copy_of(m->octets, m->length);
+    uint8_t *reply = block(space, FILLING);
+    uint8_t *table_before = copy_of(table, length);
+    uint8_t *store_before = copy_of(store, STORE_LENGTH);
+
+    answer.used = SIZE_MAX;
+    answer.place = SIZE_MAX;
+    answer.outcome = pfcp_request_once(table, length, store, STORE_LENGTH, message, m->length,
+                                       reply, space, &answer.used, &answer.place);
+    CHECK(memcmp(message, m->octets, m->length) == 0);
+    if (CHECK(answer.used <= space && answer.used <= PFCP_REPLY_SPACE)) {
+        CHECK((answer.outcome == PFCP_ANSWERED) == (answer.used > 0));
+        CHECK(all_are(reply + answer.used, space - answer.used, FILLING));
+        memcpy(answer.octets, reply, answer.used);
+    }
+    if (answer.outcome != PFCP_ANSWERED) {
+        CHECK(answer.place == 0);
+        CHECK(memcmp(table, table_before, length) == 0);
+        CHECK(memcmp(store, store_before, STORE_LENGTH) == 0);
+    }
+    free(message);
+    free(reply);
+    free(table_before);
+    free(store_before);
+    return answer.outcome;
+}
+
+static uint32_t ask_once(uint8_t *table, uint8_t *store, const struct message *m)
+{
+    return ask_once_in(table, store, m, PFCP_REPLY_SPACE);
+}
+
+/* Whether a request gets this reply again, in the least space and in a larger one, with place 0, and
+   neither table nor store changes. */
+static int is_old_reply(uint8_t *table, uint8_t *store, const struct message *m,
+                        const uint8_t *reply, size_t used)
+{
+    size_t length = length_of(table);
+    uint8_t *table_before = copy_of(table, length);
+    uint8_t *store_before = copy_of(store, STORE_LENGTH);
+    int same = 1;
+
+    for (size_t space = PFCP_REPLY_SPACE; space <= 2 * PFCP_REPLY_SPACE; space += PFCP_REPLY_SPACE)
+        same = same && ask_once_in(table, store, m, space) == PFCP_ANSWERED && answer.place == 0 &&
+               answer.used == used && memcmp(answer.octets, reply, used) == 0;
+    same = same && memcmp(table, table_before, length) == 0 &&
+           memcmp(store, store_before, STORE_LENGTH) == 0;
+    free(table_before);
+    free(store_before);
+    return same;
+}
+
+/* A deletion of session 9, which is not there, and of another one. */
+static void numbered(struct message *m, uint32_t sequence)
+{
+    message_start(m, DELETION, 9, sequence);
+    message_end(m);
+}
+
+static void numbered_other(struct message *m, uint32_t sequence)
+{
+    message_start(m, DELETION, 8, sequence);
+    message_end(m);
+}
+
+static void store_lengths(void)
+{
+    static const size_t lengths[] = {0, 1, STORE_LENGTH - 1, STORE_LENGTH + 1, 2 * STORE_LENGTH};
+    uint8_t *table = new_table(4096, 10);
+    uint8_t *before = copy_of(table, TABLE_LENGTH);
+    uint8_t *reply = block(PFCP_REPLY_SPACE, FILLING);
+    struct message m;
+
+    CHECK(pfcp_store_length() == STORE_LENGTH && PFCP_STORE_LENGTH == STORE_LENGTH);
+    numbered(&m, 1);
+    for (size_t i = 0; i < sizeof lengths / sizeof lengths[0]; i++) {
+        uint8_t *store = block(lengths[i], FILLING);
+        size_t used = 7;
+        size_t place = 7;
+
+        CHECK(pfcp_make_store(lengths[i] > 0 ? store : NULL, lengths[i]) == 1);
+        CHECK(all_are(store, lengths[i], FILLING));
+        memset(store, 0, lengths[i]);
+        CHECK(pfcp_request_once(table, TABLE_LENGTH, lengths[i] > 0 ? store : NULL, lengths[i],
+                                m.octets, m.length, reply, PFCP_REPLY_SPACE, &used,
+                                &place) == PFCP_BROKEN_TABLE);
+        CHECK(used == 0 && place == 0 && all_are(reply, PFCP_REPLY_SPACE, FILLING));
+        CHECK(all_are(store, lengths[i], 0) && memcmp(table, before, TABLE_LENGTH) == 0);
+        free(store);
+    }
+    uint8_t *store = new_store();
+    CHECK(all_are(store, STORE_LENGTH, 0));
+    free(store);
+    free(reply);
+    free(before);
+    free(table);
+}
+
+/* A repeat gets the old reply, where the request was accepted and where it was refused; and what the
+   store holds then. */
+static void repeats(void)
+{
+    uint8_t *table = new_table(4096, 10);
+    uint8_t *store = new_store();
+    uint8_t first[PFCP_REPLY_SPACE];
+    uint8_t second[PFCP_REPLY_SPACE];
+    struct message m;
+    struct message fault;
+
+    start_establishment(&m, 1);
+    create_pdr(&m, 1, &choose);
+    message_end(&m);
+    CHECK(ask_once(table, store, &m) == PFCP_ANSWERED && answer.octets[29] == 1);
+    size_t first_used = answer.used;
+    memcpy(first, answer.octets, first_used);
+    CHECK(store[0] == 1 && number_at(store + 1, 2) == m.length);
+    CHECK(memcmp(store + 3, m.octets, m.length) == 0);
+    CHECK(number_at(store + 3 + m.length, 2) == first_used);
+    CHECK(memcmp(store + 5 + m.length, first, first_used) == 0);
+    CHECK(all_are(store + 5 + m.length + first_used, STORE_LENGTH - 5 - m.length - first_used, 0));
+    CHECK(is_old_reply(table, store, &m, first, first_used) && free_teids(table) == 9);
+    CHECK(ask_once_in(table, store, &m, PFCP_REPLY_SPACE - 1) == PFCP_SMALL_REPLY_SPACE);
+    CHECK(ask_once_in(table, store, &m, 0) == PFCP_SMALL_REPLY_SPACE);
+
+    message_start(&fault, MODIFICATION, 1, 2);
+    group_start(&fault, IE_CREATE_PDR);
+    group_end(&fault);
+    message_end(&fault);
+    CHECK(ask_once(table, store, &fault) == PFCP_ANSWERED && answer.octets[20] == 66);
+    CHECK(answer.place == 16 && store[0] == 2);
+    size_t second_used = answer.used;
+    memcpy(second, answer.octets, second_used);
+    CHECK(is_old_reply(table, store, &fault, second, second_used));
+    CHECK(is_old_reply(table, store, &m, first, first_used));
+    /* The session's end does not change the old reply. */
+    message_start(&fault, DELETION, 1, 3);
+    message_end(&fault);
+    CHECK(ask_once(table, store, &fault) == PFCP_ANSWERED && answer.octets[20] == 1);
+    CHECK(is_old_reply(table, store, &m, first, first_used) && free_teids(table) == 10);
+    free(store);
+    free(table);
+}
+
+/* What is newer than the last number: 1 to 8,388,607 more, by 24 bits. Other octets with any other
+   number are dropped. */
+static void numbers(void)
+{
+    static const uint32_t lasts[] = {0, 1, 5, 0x7FFFFF, 0x800000, 0x800001, 0xFFFFFE, 0xFFFFFF};
+    static const struct {
+        uint32_t more, outcome;
+    } steps[] = {{0, 6},        {1, 0},        {2, 0},        {0x7FFFFE, 0}, {0x7FFFFF, 0},
+                 {0x800000, 6}, {0x800001, 6}, {0xFFFFFE, 6}, {0xFFFFFF, 6}};
+    uint8_t *table = new_table(4096, 10);
+    struct message m;
+
+    for (size_t i = 0; i < sizeof lasts / sizeof lasts[0]; i++)
+        for (size_t k = 0; k < sizeof steps / sizeof steps[0]; k++) {
+            uint8_t *store = new_store();
+
+            numbered(&m, lasts[i]);
+            CHECK(ask_once(table, store, &m) == PFCP_ANSWERED);
+            numbered_other(&m, (lasts[i] + steps[k].more) & 0xFFFFFF);
+            m.octets[15] = 0xFF; /* the octet after the number is none of it */
+            CHECK(ask_once(table, store, &m) == steps[k].outcome);
+            CHECK(store[0] == (steps[k].outcome == 0 ? 2 : 1));
+            free(store);
+        }
+    free(table);
+}
+
+/* A set deletion's number stands at another place; there is one row of numbers for all types. */
+static void numbers_of_sets(void)
+{
+    static const struct {
+        uint32_t first, second, outcome;
+    } rows[] = {{100, 100, 6}, {100, 101, 0}, {100, 99, 6}, {0xFFFFFF, 0, 0}, {0, 0xFFFFFF, 6}};
+    uint8_t *table = new_table(4096, 10);
+    struct message set;
+    struct message single;
+
+    for (size_t i = 0; i < sizeof rows / sizeof rows[0]; i++)
+        for (int sets_first = 0; sets_first < 2; sets_first++) {
+            uint8_t *store = new_store();
+
+            plain_message_start(&set, SET_DELETION, sets_first ? rows[i].first : rows[i].second);
+            put_fq_csid(&set, 1, 5);
+            message_end(&set);
+            numbered(&single, sets_first ? rows[i].second : rows[i].first);
+            CHECK(ask_once(table, store, sets_first ? &set : &single) == PFCP_ANSWERED);
+            CHECK(ask_once(table, store, sets_first ? &single : &set) == rows[i].outcome);
+            CHECK(ask_once(table, store, sets_first ? &set : &single) == PFCP_ANSWERED);
+            free(store);
+        }
+    free(table);
+}
+
+/* Eight requests are kept; of nine the first is gone, and dropped. A repeat neither makes its request
+   younger nor its number the last. */
+static void evictions(void)
+{
+    uint8_t *table = new_table(4096, 10);
+    uint8_t *store = new_store();
+    uint8_t replies[11][32];
+    struct message m;
+
+    for (uint32_t i = 1; i <= 8; i++) {
+        numbered(&m, i);
+        CHECK(ask_once(table, store, &m) == PFCP_ANSWERED && answer.used <= sizeof replies[i]);
+        memcpy(replies[i], answer.octets, answer.used);
+        CHECK(store[0] == i);
+    }
+    size_t used = answer.used;
+    for (uint32_t i = 1; i <= 8; i++) {
+        numbered(&m, i);
+        CHECK(is_old_reply(table, store, &m, replies[i], used));
+    }
+    numbered_other(&m, 8);
+    CHECK(ask_once(table, store, &m) == PFCP_OLD_NUMBER);
+    for (uint32_t i = 9; i <= 10; i++) {
+        numbered(&m, i);
+        CHECK(ask_once(table, store, &m) == PFCP_ANSWERED && store[0] == 8);
+        memcpy(replies[i], answer.octets, used);
+        numbered(&m, i - 8);
+        CHECK(ask_once(table, store, &m) == PFCP_OLD_NUMBER);
+        for (uint32_t k = i - 7; k <= i; k++) {
+            numbered(&m, k);
+            CHECK(is_old_reply(table, store, &m, replies[k], used));
+        }
+    }
+    free(store);
+    free(table);
+}
+
+/* The outcomes in their order, each where the later ones are due too. */
+static void outcomes_with_store(void)
+{
+    static const uint8_t zeros[PFCP_LONGEST_REQUEST];
+    uint8_t *table = new_table(4096, 10);
+    uint8_t *store = new_store();
+    struct message old;
+    struct message m;
+
+    numbered(&m, 5);
+    CHECK(ask_once(table, store, &m) == PFCP_ANSWERED);
+    numbered_other(&old, 4);
+    numbered(&m, 4);
+    put_element(&m, 40000, zeros, PFCP_LONGEST_REQUEST - m.length - 3);
+    message_end(&m);
+    m.octets[1] = 56;
+    table[TABLE_LENGTH - 1] = 1;
+    CHECK(ask_once_in(table, store, &m, 0) == PFCP_BROKEN_TABLE);
+    table[TABLE_LENGTH - 1] = 0;
+    store[STORE_LENGTH - 1] = 1;
+    CHECK(ask_once_in(table, store, &m, 0) == PFCP_BROKEN_TABLE);
+    CHECK(ask_once(table, store, &old) == PFCP_BROKEN_TABLE);
+    store[STORE_LENGTH - 1] = 0;
+    CHECK(ask_once_in(table, store, &m, PFCP_REPLY_SPACE - 1) == PFCP_SMALL_REPLY_SPACE);
+    CHECK(ask_once_in(table, store, &old, PFCP_REPLY_SPACE - 1) == PFCP_SMALL_REPLY_SPACE);
+    CHECK(ask_once(table, store, &m) == PFCP_LONG_MESSAGE);
+    m = old;
+    m.octets[1] = 56;
+    m.octets[3]++;
+    CHECK(ask_once(table, store, &m) == PFCP_WRONG_HEADER);
+    m.octets[3]--;
+    CHECK(ask_once(table, store, &m) == PFCP_NOT_SERVED);
+    CHECK(ask_once(table, store, &old) == PFCP_OLD_NUMBER);
+    m.length = 0;
+    CHECK(ask_once(table, store, &m) == PFCP_WRONG_HEADER);
+    free(store);
+    free(table);
+}
+
+/* Adds an entry by hand to a store that ends so far; its reply is 0xEE throughout. Gives the new end. */
+static size_t put_entry(uint8_t *store, size_t at, const struct message *m, size_t reply_length)
+{
+    store[0]++;
+    store[at] = (uint8_t)(m->length >> 8);
+    store[at + 1] = (uint8_t)m->length;
+    memcpy(store + at + 2, m->octets, m->length);
+    at += 2 + m->length;
+    store[at] = (uint8_t)(reply_length >> 8);
+    store[at + 1] = (uint8_t)reply_length;
+    memset(store + at + 2, 0xEE, reply_length);
+    return at + 2 + reply_length;
+}
+
+/* A message that another element makes as long as is asked for. */
+static void fill_up(struct message *m, uint32_t sequence, size_t length)
+{
+    static const uint8_t zeros[PFCP_LONGEST_REQUEST + 1];
+
+    numbered(m, sequence);
+    put_element(m, 40000, zeros, length - m->length - 4);
+    message_end(m);
+}
+
+/* Stores that were made by hand, of entries after one that is sound: what breaks them and what does not. */
+static void entries_by_hand(void)
+{
+    enum { SOUND, TYPE, VERSION, NO_SEID, FOLLOW_ON, LENGTH, SHORT };
+    static const struct {
+        int fault;
+        size_t message_length, reply_length;
+        uint32_t sequence, outcome;
+    } entries[] = {
+        {SOUND, 16, 21, 2, 0},   {SOUND, 16, 1, 2, 0},         {SOUND, 16, 1280, 2, 0},
+        {SOUND, 16, 0, 2, 1},    {SOUND, 16, 1281, 2, 1},      {SOUND, 2048, 1280, 2, 0},
+        {SOUND, 2049, 21, 2, 1}, {SOUND, 16, 21, 1, 1},        {SOUND, 30, 21, 1, 0},
+        {SOUND, 16, 21, 0, 0},   {SOUND, 16, 21, 0xFFFFFF, 0}, {TYPE, 16, 21, 2, 1},
+        {VERSION, 16, 21, 2, 1}, {NO_SEID, 16, 21, 2, 1},      {FOLLOW_ON, 16, 21, 2, 1},
+        {LENGTH, 16, 21, 2, 1},  {SHORT, 15, 21, 2, 1},        {SHORT, 0, 21, 2, 1},
+    };
+    uint8_t *table = new_table(4096, 10);
+    struct message first;
+    struct message m;
+
+    numbered(&first, 1);
+    for (size_t i = 0; i < sizeof entries / sizeof entries[0]; i++) {
+        uint8_t *store = new_store();
+
+        if (entries[i].message_length > 20)
+            fill_up(&m, entries[i].sequence, entries[i].message_length);
+        else
+            numbered(&m, entries[i].sequence);
+        m.octets[1] = entries[i].fault == TYPE ? 56 : DELETION;
+        m.octets[0] = entries[i].fault == VERSION     ? 0x41
+                      : entries[i].fault == NO_SEID   ? 0x20
+                      : entries[i].fault == FOLLOW_ON ? 0x25
+                                                      : 0x21;
+        m.octets[3] += entries[i].fault == LENGTH;
+        m.length = entries[i].message_length;
+        put_entry(store, put_entry(store, 1, &first, 33), &m, entries[i].reply_length);
+        CHECK(ask_once(table, store, &first) == entries[i].outcome);
+        CHECK(answer.used == (entries[i].outcome == 0 ? 33 : 0));
+        CHECK(all_are(answer.octets, answer.used, 0xEE));
+        free(store);
+    }
+    free(table);
+}
+
+/* Eight of the longest entries fill a store; a ninth is counted, an entry is not counted, or the octets
+   after the entries are not zero. */
+static void broken_stores(void)
+{
+    uint8_t *table = new_table(4096, 10);
+    uint8_t *store = new_store();
+    struct message m;
+    size_t at = 1;
+
+    for (uint32_t i = 1; i <= ENTRIES; i++) {
+        fill_up(&m, i, PFCP_LONGEST_REQUEST);
+        at = put_entry(store, at, &m, PFCP_REPLY_SPACE);
+    }
+    CHECK(at == STORE_LENGTH);
+    CHECK(ask_once(table, store, &m) == PFCP_ANSWERED && answer.used == PFCP_REPLY_SPACE);
+    for (unsigned count = 0; count < 256; count++) {
+        store[0] = (uint8_t)count;
+        CHECK(ask_once(table, store, &m) == (count == ENTRIES ? PFCP_ANSWERED : PFCP_BROKEN_TABLE));
+    }
+    store[0] = ENTRIES;
+    numbered(&m, ENTRIES + 1);
+    CHECK(ask_once(table, store, &m) == PFCP_ANSWERED && store[0] == ENTRIES);
+    CHECK(pfcp_make_store(store, STORE_LENGTH) == 0 && all_are(store, STORE_LENGTH, 0));
+
+    at = put_entry(store, 1, &m, 21);
+    const size_t unused[] = {at, at + 1, at + 2, STORE_LENGTH / 2, STORE_LENGTH - 1};
+    for (size_t i = 0; i < sizeof unused / sizeof unused[0]; i++) {
+        store[unused[i]] = 1;
+        CHECK(ask_once(table, store, &m) == PFCP_BROKEN_TABLE);
+        store[unused[i]] = 0;
+    }
+    for (unsigned count = 0; count < 256; count++) {
+        store[0] = (uint8_t)count;
+        CHECK(ask_once(table, store, &m) == (count == 1 ? PFCP_ANSWERED : PFCP_BROKEN_TABLE));
+    }
+    free(store);
+    free(table);
+}
+
+/* Requests with numbers that grow get exactly what pfcp_request gives, and make the same table; each one
+   again gets its reply again. */
+static void once_is_the_same(void)
+{
+    uint8_t *table = new_table(4096, 6);
+    uint8_t *plain = new_table(4096, 6);
+    uint8_t *store = new_store();
+    struct message m;
+
+    for (uint32_t i = 0; i < 120; i++) {
+        uint8_t reply[PFCP_REPLY_SPACE];
+        uint64_t seid = 1 + i * 7 % 5;
+
+        if (i % 3 == 2) {
+            message_start(&m, DELETION, seid, 0xFFFFC0 + i);
+        } else {
+            message_start(&m, i % 3 == 0 ? ESTABLISHMENT : MODIFICATION, seid, 0xFFFFC0 + i);
+            if (i % 3 == 0)
+                put_f_seid(&m, seid);
+            create_pdr(&m, (uint16_t)(1 + i % 4), i % 4 == 0 ? &choose_7 : &choose);
+        }
+        message_end(&m);
+        CHECK(ask_octets(plain, m.octets, m.length) == PFCP_ANSWERED);
+        size_t used = answer.used;
+        size_t place = answer.place;
+        memcpy(reply, answer.octets, used);
+        CHECK(ask_once(table, store, &m) == PFCP_ANSWERED && answer.used == used);
+        CHECK(memcmp(answer.octets, reply, used) == 0 && answer.place == place);
+        CHECK(memcmp(table, plain, TABLE_LENGTH) == 0);
+        CHECK(is_old_reply(table, store, &m, reply, used));
+    }
+    free(store);
+    free(plain);
+    free(table);
+}
+
 int main(void)
 {
     whole_replies();
@@ -1611,6 +2047,15 @@ int main(void)
     changed_limits();
     most_sessions();
     last_teid();
+    store_lengths();
+    repeats();
+    numbers();
+    numbers_of_sets();
+    evictions();
+    outcomes_with_store();
+    entries_by_hand();
+    broken_stores();
+    once_is_the_same();
     printf("%lu passed, %lu failed\n", passed, failed);
     return failed == 0 ? EXIT_SUCCESS : EXIT_FAILURE;
 }
