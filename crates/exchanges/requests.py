@@ -1,9 +1,9 @@
 #!/usr/bin/env python3
-"""The exchanges of document 01's worked examples, of the errors it has seen, and of document 02's (ii), (v), (vi), (vii) and
-(xi).
+"""The exchanges of document 01's worked examples, of the errors it has seen, and of document 02's (ii), (v), (vi), (vii), (xi) and
+(xiv).
 
-  requests.py FOLDER          writes FOLDER/stdin: tables and requests, each after its length in two octets. FOLDER/stdout is what
-                              second's program `exchanges` writes for it
+  requests.py FOLDER          writes FOLDER/stdin: tables, requests with their peers, and changes of stores, each after its length in two
+                              octets. FOLDER/stdout is what second's program `exchanges` writes for it
   requests.py --paper < LINES holds such lines to what they say of each exchange, where they say something
 
 On paper are the cause, the TEIDs and the addresses of the created PDRs, the free TEIDs and addresses after the call, and sometimes the
@@ -16,8 +16,10 @@ H = bytes.fromhex
 u16 = lambda n: struct.pack(">H", n)
 u32 = lambda n: struct.pack(">I", n)
 u64 = lambda n: struct.pack(">Q", n)
-ACCEPTED, UNKNOWN, LENGTH, INCORRECT, RULE, FULL, STRANGE, NO_ADDRESS = 1, 65, 68, 69, 73, 75, 76, 79
+ACCEPTED, LIVE, UNKNOWN, LENGTH, INCORRECT, RULE, FULL, STRANGE, NO_ADDRESS = 1, 64, 65, 68, 69, 73, 75, 76, 79
+MAKING, ONCE, OCTET, PLAIN = 0, 1, 2, 3  # what a part is, by its first octet
 POOL = 0x0A2D0001  # 10.45.0.1
+UNIT, OTHER = 0xC0000201, 0xC0000202  # 192.0.2.1, which is peer 1's address too, and 192.0.2.2
 parts = []
 
 
@@ -63,44 +65,53 @@ def given(address):
     return "02" + u32(address).hex()
 
 
-def making(size, first, limit, addresses=2):
-    return b"\0" + H("C0000201") + u32(first) + u32(size) + u32(POOL) + u32(addresses) + u32(limit)
+def making(size, first, limit, addresses=2, peers=None):
+    """With these addresses, guarantees and limits of the peers; otherwise both share the pool without a guarantee."""
+    unit = u32(UNIT) + u32(first) + u32(size) + u32(POOL) + u32(addresses) + u32(limit)
+    return bytes([MAKING]) + unit + b"".join(u32(number) for peer in peers or [(UNIT, 0, size), (OTHER, 0, size)] for number in peer)
 
 
-def table(size, first=4096, addresses=2, limit=8):
-    parts.append((making(size, first, limit, addresses), "table 0", None, None, (size, addresses)))
+def table(size, first=4096, addresses=2, limit=16, peers=None):
+    parts.append((making(size, first, limit, addresses, peers), "table 0", None, None, (size, addresses)))
 
 
-def refuse_table(size=2, first=4096, limit=8, *, free, left=2):
+def refuse_table(size=2, first=4096, limit=16, peers=None, *, free, left=2):
     """Settings that are not allowed: the table before stays."""
-    parts.append((making(size, first, limit), "table 1", None, None, (free, left)))
+    parts.append((making(size, first, limit, 2, peers), "table 1", None, None, (free, left)))
 
 
-def call(kind, seid, body, cause, free, left, teids=None, chosen=None, whole=None):
-    head = bytes([0x21, kind]) + u16(12 + len(body)) + u64(seid) + u32(1)[1:] + b"\0"
-    parts.append((head + body, "outcome 0", (cause, teids or [], chosen or []), whole and H(whole), (free, left)))
+def ask(peer, message, cause, free, left, teids=None, chosen=None, whole=None):
+    parts.append((bytes([PLAIN, peer]) + message, "outcome 0", (cause, teids or [], chosen or []), whole and H(whole), (free, left)))
 
 
-def establish(seid, *body, cause=ACCEPTED, free, left=2, teids=None, chosen=None, whole=None, f_seid_is=None):
-    call(50, 0, (f_seid_is or f_seid(seid)) + b"".join(body), cause, free, left, teids, chosen, whole)
+def ask_no_peer(peer, message, *, free, left=2):
+    """Any number but 1 and 2: outcome 7, whatever the message is."""
+    parts.append((bytes([PLAIN, peer]) + message, "outcome 7", None, None, (free, left)))
 
 
-def restore(seid, *body, cause=ACCEPTED, free, left=2):
-    call(50, 0, f_seid(seid) + ie(186, b"\1") + b"".join(body), cause, free, left)
+def head(kind, seid, body):
+    return bytes([0x21, kind]) + u16(12 + len(body)) + u64(seid) + u32(1)[1:] + b"\0" + body
 
 
-def modify(seid, *body, cause=ACCEPTED, free, left=2, teids=None, chosen=None):
-    call(52, seid, b"".join(body), cause, free, left, teids, chosen)
+def establish(seid, *body, of=1, cause=ACCEPTED, free, left=2, teids=None, chosen=None, whole=None, f_seid_is=None):
+    ask(of, head(50, 0, (f_seid_is or f_seid(seid)) + b"".join(body)), cause, free, left, teids, chosen, whole)
 
 
-def delete(seid, *body, cause=ACCEPTED, free, left=2, whole=None):
-    call(54, seid, b"".join(body), cause, free, left, whole=whole)
+def restore(seid, *body, of=1, cause=ACCEPTED, free, left=2):
+    ask(of, head(50, 0, f_seid(seid) + ie(186, b"\1") + b"".join(body)), cause, free, left)
 
 
-def delete_sets(*body, cause=ACCEPTED, free, left=2, whole=None):
+def modify(seid, *body, of=1, cause=ACCEPTED, free, left=2, teids=None, chosen=None):
+    ask(of, head(52, seid, b"".join(body)), cause, free, left, teids, chosen)
+
+
+def delete(seid, *body, of=1, cause=ACCEPTED, free, left=2, whole=None):
+    ask(of, head(54, seid, b"".join(body)), cause, free, left, whole=whole)
+
+
+def delete_sets(*body, of=1, cause=ACCEPTED, free, left=2, whole=None):
     elements = b"".join(body)
-    head = H("200E") + u16(4 + len(elements)) + H("00000100")
-    parts.append((head + elements, "outcome 0", (cause, [], []), whole and H(whole), (free, left)))
+    ask(of, H("200E") + u16(4 + len(elements)) + H("00000100") + elements, cause, free, left, whole=whole)
 
 
 def card(node_type, *csids, address="C000020A", id_type=0):
@@ -264,9 +275,9 @@ delete_sets(card(1, 5), free=1, left=1)
 establish(3, addressed(1, "10"), card(1, 5), free=1, left=0, chosen=[POOL])
 delete_sets(card(1, 5, 6), free=2)
 
-# 02 (vi): "The session limit, 1 to 256, becomes a setting, also in cause 75". Room for one session: the second is 75 though TEIDs are
-# left, a restored one too, and an address that cannot be chosen either is tested after that.
-table(4, addresses=1, limit=1)
+# 02 (vi): "The session limit [..] becomes a setting, also in cause 75", with (xiv) half of it for each peer. Room for one session: the
+# second is 75 though TEIDs are left, a restored one too, and an address that cannot be chosen either is tested after that.
+table(4, addresses=1, limit=2)
 establish(1, addressed(1, "10", "05"), free=3, left=0, teids=[4096], chosen=[POOL])
 establish(2, create(1, "05"), cause=FULL, free=3, left=0)
 establish(2, addressed(1, "10", "05"), cause=FULL, free=3, left=0)
@@ -275,18 +286,19 @@ restore(2, cause=FULL, free=3, left=0)
 # A modification needs no room, and 73 is tested before 75.
 modify(1, create(2, "05"), free=2, left=0, teids=[4097])
 restore(2, create(1, "0100001001C0000201"), cause=RULE, free=2, left=0)
-# Limits that are not allowed: 0, and one too many.
+# Limits that are not allowed: 0, 1, and one too many.
 refuse_table(limit=0, free=2, left=0)
+refuse_table(limit=1, free=2, left=0)
 refuse_table(limit=257, free=2, left=0)
-refuse_table(limit=65537, free=2, left=0)
+refuse_table(limit=65538, free=2, left=0)
 # The room is free with the session that had it.
 delete(1, free=4, left=1)
 establish(2, create(1, "05"), card(1, 5), free=3, left=1, teids=[4096])
 establish(3, create(1, "05"), cause=FULL, free=3, left=1)
 delete_sets(card(1, 5), free=4, left=1)
 restore(3, create(1, "0100001001C0000201"), free=3, left=1)
-# Room for two: the third is 75.
-table(4, limit=2)
+# Room for two, rounded down: the third is 75.
+table(4, limit=5)
 establish(9, create(1, "05"), free=3, teids=[4096])
 restore(5, free=3)
 establish(1, create(1, "05"), cause=FULL, free=3)
@@ -300,6 +312,62 @@ restore(3, create(1, "01FFFEFFFFC0000201"), cause=RULE, free=65533)
 refuse_table(size=65537, free=65533)
 refuse_table(size=65536, first=4294901761, free=65533)
 delete(1, free=65534)
+
+# 02 (xiv): "Two control planes, each with its due." A pool of 8; guarantees 3 and 3, limits 8 and 5.
+DUES = [(UNIT, 3, 8), (OTHER, 3, 5)]
+table(8, limit=6, peers=DUES)
+# "all holdings at entry, the need, and the other peer's unused guarantee together": the first takes five and is refused the sixth.
+establish(1, create(1, "05"), create(2, "05"), create(3, "05"), create(4, "05"), create(5, "05"), free=3,
+    teids=[4096, 4097, 4098, 4099, 4100])
+modify(1, create(6, "05"), cause=FULL, free=3)
+establish(2, create(1, "05"), cause=FULL, free=3)
+modify(1, addressed(6, given(POOL + 9)), free=3)
+# The second still gets its three, "so equal SEIDs may live on both"; its address stands in its replies.
+establish(1, create(1, "05"), of=2, free=2, teids=[4101], whole="""21 33 00 42 00 00 00 00 00 00 00 01 00 00 01 00 00 3C 00 05 00 C0
+    00 02 02 00 13 00 01 01 00 39 00 0D 02 00 00 00 00 00 00 00 01 C0 00 02 02 00 08 00 13 00 38 00 02 00 01 00 15 00 09 01 00 00 10 05
+    C0 00 02 01""")
+delete(2, of=2, cause=UNKNOWN, free=2)
+modify(1, create(2, "05"), create(3, "05"), of=2, free=0, teids=[4102, 4103])
+modify(1, create(4, "05"), of=2, cause=FULL, free=0)
+# "any other number is outcome 7, tested first", of the message too
+ask_no_peer(3, head(54, 1, b""), free=0)
+ask_no_peer(0, b"", free=0)
+# What the first gives back beyond its guarantee the second may take, up to its limit.
+modify(1, remove(1), remove(2), remove(3), free=3)
+modify(1, create(4, "0D07"), create(5, "0D07"), create(6, "05"), of=2, free=1, teids=[4096, 4096, 4097])
+modify(1, create(7, "05"), of=2, cause=FULL, free=1)
+modify(1, create(7, "05"), free=0, teids=[4098])
+# Settings that are not allowed: the addresses are equal, a limit passes the pool, a guarantee its limit, both guarantees the pool.
+refuse_table(8, peers=[(UNIT, 3, 8), (UNIT, 3, 5)], free=0)
+refuse_table(8, peers=[(UNIT, 3, 9), (OTHER, 3, 5)], free=0)
+refuse_table(8, peers=[(UNIT, 3, 8), (OTHER, 6, 5)], free=0)
+refuse_table(8, peers=[(UNIT, 4, 8), (OTHER, 5, 5)], free=0)
+# "the peer's holdings at entry plus its need pass its limit", where the pool would do: nobody else holds or is due anything.
+table(8, limit=6, peers=[(UNIT, 0, 8), (OTHER, 0, 5)])
+establish(1, *(create(at, "05") for at in range(1, 7)), of=2, cause=FULL, free=8)
+establish(1, *(create(at, "05") for at in range(1, 6)), of=2, free=3, teids=[4096, 4097, 4098, 4099, 4100])
+modify(1, remove(1), create(6, "05"), of=2, cause=FULL, free=3)
+restore(2, create(1, "0100001007C0000201"), of=2, cause=FULL, free=3)
+restore(2, create(1, "0100001007C0000201"), free=2)
+# "Restorations use the same test, with the different TEIDs they name as their need."
+held = ["01" + u32(4096 + at).hex() + "C0000201" for at in range(8)]
+table(8, limit=6, peers=DUES)
+restore(1, *(create(at + 1, held[at]) for at in range(6)), of=2, cause=FULL, free=8)
+restore(1, *(create(at + 1, held[at]) for at in range(6)), cause=FULL, free=8)
+restore(1, create(1, held[0]), create(2, held[0]), endpoint(1, held[1]), of=2, free=6)
+restore(1, create(1, held[1]), cause=RULE, free=6)
+restore(1, *(create(at + 1, held[at + 2]) for at in range(5)), free=1)
+restore(2, create(1, held[7]), cause=FULL, free=1)
+restore(2, free=1)
+restore(2, create(1, held[7]), of=2, free=0)
+# "Sessions, set deletions [..] are kept by peer": the other's session of the same card stays.
+table(4, limit=4)
+establish(1, create(1, "05"), card(1, 5), free=3, teids=[4096])
+establish(1, create(1, "05"), card(1, 5), of=2, free=2, teids=[4097])
+establish(1, create(1, "05"), of=2, cause=LIVE, free=2)
+delete_sets(card(1, 5), of=2, free=3, whole="200F0012 00000100 003C000500C0000202 0013000101")
+delete(1, of=2, cause=UNKNOWN, free=3)
+modify(1, create(2, "05"), free=2, teids=[4097])
 
 
 # Document 02 (xi): "Repeated requests get the old reply." From here on requests go through the store, each with its number. On paper are
@@ -322,24 +390,24 @@ def opening(seid, number, *body):
     return message(50, 0, number, f_seid(seid), *body)
 
 
-def once(request, cause=ACCEPTED, *, free, left=2, teids=None):
+def once(request, cause=ACCEPTED, *, of=1, free, left=2, teids=None):
     """A new request."""
-    replied[request] = len(parts)
-    parts.append((b"\1" + request, "outcome 0", (cause, teids or [], []), None, (free, left)))
+    replied[of, request] = len(parts)
+    parts.append((bytes([ONCE, of]) + request, "outcome 0", (cause, teids or [], []), None, (free, left)))
 
 
-def again(request, *, free, left=2):
+def again(request, *, of=1, free, left=2):
     """A repeat: the reply of the line where it was new, with place 0."""
-    parts.append((b"\1" + request, "outcome 0", None, replied[request], (free, left)))
+    parts.append((bytes([ONCE, of]) + request, "outcome 0", None, replied[of, request], (free, left)))
 
 
-def unanswered(request, outcome, *, free, left=2):
-    parts.append((b"\1" + request, outcome, None, None, (free, left)))
+def unanswered(request, outcome, *, of=1, free, left=2):
+    parts.append((bytes([ONCE, of]) + request, outcome, None, None, (free, left)))
 
 
-def octet(index, value):
-    """An octet of the store."""
-    parts.append((b"\2" + u16(index) + bytes([value]), f"octet {index}", None, None, None))
+def octet(index, value, of=1):
+    """An octet of a peer's store."""
+    parts.append((bytes([OCTET, of]) + u16(index) + bytes([value]), f"octet {index}", None, None, None))
 
 
 # Equal octets get the stored reply and change nothing; without the store the session is one that exists.
@@ -349,7 +417,7 @@ first = opening(1, 10, create(1, "05"))
 once(first, free=3, teids=[4096])
 again(first, free=3)
 again(first, free=3)
-parts.append((first, "outcome 0", (64, [], []), None, (3, 2)))
+ask(1, first, LIVE, 3, 2)
 # The last number with other octets, a number before it, and a difference of 8,388,608 are dropped; none of them moves the last number.
 unanswered(opening(2, 10, create(1, "05")), OLD, free=3)
 unanswered(opening(2, 9, create(1, "05")), OLD, free=3)
@@ -416,10 +484,29 @@ for index, value, was in [
     again(two, free=4)
 # Any reply of one octet or more is sound, and given.
 octet(82, 7)
-parts.append((b"\1" + two, "outcome 0", (7, [], []), None, (4, 2)))
+parts.append((bytes([ONCE, 1]) + two, "outcome 0", (7, [], []), None, (4, 2)))
 # Past the store's end there is nothing to change.
 octet(26657, 1)
 once(message(54, 1, 3), cause=UNKNOWN, free=4)
+
+# 02 (xi) and (xiv): "stores of repeats are kept by peer (outcome 1 looks at the named peer's store)". Equal octets of both peers are two
+# requests, each peer counts its own numbers, and any other peer is outcome 7 before store and table are looked at.
+table(4, limit=4)
+shared = opening(1, 100, create(1, "05"))
+once(shared, free=3, teids=[4096])
+once(shared, of=2, free=2, teids=[4097])
+again(shared, free=2)
+again(shared, of=2, free=2)
+once(message(54, 9, 200), cause=UNKNOWN, free=2)
+once(message(54, 9, 150), cause=UNKNOWN, of=2, free=2)
+unanswered(message(54, 9, 150), OLD, free=2)
+octet(0, 9, of=2)
+unanswered(message(54, 9, 201), "outcome 1", of=2, free=2)
+unanswered(message(54, 9, 201), "outcome 7", of=3, free=2)
+unanswered(b"", "outcome 7", of=0, free=2)
+once(message(54, 1, 201), free=3)
+octet(0, 2, of=2)
+again(shared, of=2, free=3)
 
 
 def members(value):

@@ -4,5 +4,6 @@ pub mod Steps
 pub mod Held
 pub mod Rows
 pub mod LookupLaws
+pub mod PairLaws
 pub mod Places
 pub mod AreaLaws

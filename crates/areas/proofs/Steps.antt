@@ -1,6 +1,6 @@
 -- What the calls inside each function leave, over plain lists: the part from a place to the end that is lent, and the count.
 -- Assumes nothing.
-use mathlib.Core.Path.{_≡_, refl, ap, _∙_}
+use mathlib.Core.Path.{_≡_, refl, sym, ap, _∙_}
 use mathlib.Core.Bool.{Bool, true, false}
 use mathlib.Core.List.{List, _++_, map}
 use Prim.Native.Nat.{ℕ, _+_, _-_, _*_, _≤_, _<_}
@@ -67,6 +67,14 @@ module _ (a : Area) (s : List ℕ) where
       → p ≡ placeIn a x s
   unfolding placeIn
   place-found end n x p d e h q = q ∙ rw (← e, le-ltb (a .room) n h, exact end d)
+
+  -- a key of nine octets
+  pub place-pair : (end n x : ℕ) (p : Lookup) → End end → n ≡ countIn a s → n ≤ a .room → a .key ≡ 9 → p ≡ lookup x (map (keyOf 9) (slices (a .width) n (between (a .at) end s)))
+      → p ≡ placeIn a x s
+  place-pair end n x p d e h k q = place-found end n x p d e h (q ∙ ap (λ (j : ℕ). lookup x (map (keyOf j) (slices (a .width) n (between (a .at) end s)))) (sym k))
+
+  pub pair-wide : Fits a (length s) → a .key ≡ 9 → 9 ≤ a .width
+  pair-wide f k = let h = f .keyed in omega arith
 
   pub inserted-in : (end n p : ℕ) (r lent done : List ℕ) → End end → Fits a (length s) → n ≡ countIn a s → length lent ≡ length (between (a .at) end s) → lent ≡ inserted n p r (between (a .at) end s)
       → done ≡ put (a .«count_at») (be (a .«count_width») (n + 1)) (take (a .at) s ++ (lent ++ drop (end - a .at) (drop (a .at) s)))

@@ -16,7 +16,6 @@ pub record Fits (a : Area) (n : ℕ) : Type 0 where
   pub narrow : a .«count_width» ≤ 4
   pub records : a .at + a .room * a .width ≤ n
   pub keyed : a .key ≤ a .width
-  pub small : a .key ≤ 8
 
 unfoldable pub countIn : Area → List ℕ → ℕ
 countIn a s = numberAt (a .«count_at») (a .«count_width») s

@@ -1,7 +1,7 @@
 -- Records of one width that stand one after the other in octets, each with a key in its first octets.
 -- Assumes nothing.
 use mathlib.Core.List.{List, [], _∷_, _++_}
-use Prim.Native.Nat.{ℕ, suc, _+_, _-_, _*_}
+use Prim.Native.Nat.{ℕ, suc, _+_, _-_, _*_, _^_}
 use lib.Dec.{leb, eqb}
 use lib.ListN.{length, take}
 use Rattle.octets.specs.Choice.{pick}
@@ -12,6 +12,10 @@ use Rattle.areas.specs.declared.Lookup.the-variants.{Found, Absent}
 -- a record's key: the number of its first k octets
 unfoldable pub keyOf : ℕ → List ℕ → ℕ
 keyOf k r = number (take k r)
+
+-- a key of nine octets in two numbers: the first octet, and the other eight
+abbrev pub pairKey : ℕ → ℕ → ℕ
+pairKey hi lo = hi * 2 ^ 64 + lo
 
 -- where the key x stands among the keys, or has its place, counted from i: the first key that is not below x
 unfoldable pub lookupFrom : ℕ → ℕ → List ℕ → Lookup

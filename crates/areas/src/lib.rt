@@ -3,6 +3,7 @@
 ghost use mathlib.Core.Path.{_≡_};
 ghost use Prim.Native.Nat.{_≤_, _<_};
 ghost use lib.ListN.{length};
+ghost use Rattle.areas.specs.Records.{pairKey};
 ghost use Rattle.areas.specs.Counted.{Fits, countIn, placeIn, insertedIn, removedIn, replacedIn, clearedIn, withRecord, withoutRecord};
 
 pub mod slots;
@@ -34,7 +35,7 @@ pub fn count(s: &[u8], a: Area) -> usize
 
 // Where the record of a key stands, or has its place. An area that counts more records than it has room for has none.
 pub fn find(s: &[u8], a: Area, x: u64) -> Lookup
-    requires { ⌜ Fits a (length (now s)) ⌝ }
+    requires { ⌜ Fits a (length (now s)) × (a .key ≤ 8) ⌝ }
     ensures { λ r. ⌜ r ≡ placeIn a x (now (s .entry)) ⌝ }
 {
     let n = count(s, a);
@@ -44,6 +45,20 @@ pub fn find(s: &[u8], a: Area, x: u64) -> Lookup
     let at = a.at;
     let end = at + a.room * a.width;
     slots::find(&s[at..end], a.width, a.key, n, x)
+}
+
+// The same for a key of nine octets, in two numbers.
+pub fn find_pair(s: &[u8], a: Area, hi: u64, lo: u64) -> Lookup
+    requires { ⌜ Fits a (length (now s)) × (a .key ≡ 9) ⌝ }
+    ensures { λ r. ⌜ r ≡ placeIn a (pairKey hi lo) (now (s .entry)) ⌝ }
+{
+    let n = count(s, a);
+    if a.room < n {
+        return Lookup::Absent(0);
+    }
+    let at = a.at;
+    let end = at + a.room * a.width;
+    slots::find_pair(&s[at..end], a.width, n, hi, lo)
 }
 
 // Puts the record r in at place p.
@@ -91,7 +106,7 @@ pub fn clear(s: &mut [u8], a: Area)
 
 // Makes r the record of its key: over the one that is there, or put in where there is room.
 pub fn put_record(s: &mut [u8], a: Area, r: &[u8])
-    requires { ⌜ Fits a (length (now s)) × (length (now r) ≡ a .width) ⌝ }
+    requires { ⌜ Fits a (length (now s)) × (length (now r) ≡ a .width) × (a .key ≤ 8) ⌝ }
     ensures { λ _. ⌜ now (s .exit) ≡ withRecord a (now (r .entry)) (now (s .entry)) ⌝ }
 {
     let x = octets::read(r, 0, a.key);
@@ -108,10 +123,22 @@ pub fn put_record(s: &mut [u8], a: Area, r: &[u8])
 
 // Takes the record of a key out, if there is one.
 pub fn drop_record(s: &mut [u8], a: Area, x: u64)
-    requires { ⌜ Fits a (length (now s)) ⌝ }
+    requires { ⌜ Fits a (length (now s)) × (a .key ≤ 8) ⌝ }
     ensures { λ _. ⌜ now (s .exit) ≡ withoutRecord a x (now (s .entry)) ⌝ }
 {
     let place = find(s, a, x);
+    let Lookup::Found(p) = place else {
+        return;
+    };
+    remove(s, a, p);
+}
+
+// The same for a key of nine octets, in two numbers.
+pub fn drop_pair(s: &mut [u8], a: Area, hi: u64, lo: u64)
+    requires { ⌜ Fits a (length (now s)) × (a .key ≡ 9) ⌝ }
+    ensures { λ _. ⌜ now (s .exit) ≡ withoutRecord a (pairKey hi lo) (now (s .entry)) ⌝ }
+{
+    let place = find_pair(s, a, hi, lo);
     let Lookup::Found(p) = place else {
         return;
     };

@@ -6,8 +6,9 @@ ghost use mathlib.Core.Path.{_≡_};
 ghost use mathlib.Core.List.{map};
 ghost use Prim.Native.Nat.{_+_, _*_, _≤_, _<_};
 ghost use lib.ListN.{length};
+ghost use lib.Dec.{leb, eqb};
 ghost use Rattle.octets.specs.Octets.{slices};
-ghost use Rattle.areas.specs.Records.{keyOf, lookup, inserted, removed, replaced};
+ghost use Rattle.areas.specs.Records.{keyOf, pairKey, lookup, inserted, removed, replaced};
 use crate::Lookup;
 
 // Looks for the key x among the n records: the first record whose key is not below x.
@@ -19,6 +20,51 @@ pub fn find(s: &[u8], w: usize, k: usize, n: usize, x: u64) -> Lookup
         let y = octets::read(s, i * w, k);
         if x <= y {
             if y == x {
+                return Lookup::Found(i);
+            }
+            return Lookup::Absent(i);
+        }
+    }
+    Lookup::Absent(n)
+}
+
+// Whether a key of nine octets, in two numbers, is not below another.
+pub fn reaches(y: u64, z: u64, hi: u64, lo: u64) -> bool
+    ensures { λ r. ⌜ r ≡ leb (pairKey hi lo) (pairKey y z) ⌝ }
+{
+    if y < hi {
+        return false;
+    }
+    if hi < y {
+        return true;
+    }
+    lo <= z
+}
+
+// Whether two such keys are equal.
+fn is_pair(y: u64, z: u64, hi: u64, lo: u64) -> bool
+    ensures { λ r. ⌜ r ≡ eqb (pairKey y z) (pairKey hi lo) ⌝ }
+{
+    if y < hi {
+        return false;
+    }
+    if hi < y {
+        return false;
+    }
+    z == lo
+}
+
+// Looks for a key of nine octets, the first octet and the other eight as a number, among the n records.
+pub fn find_pair(s: &[u8], w: usize, n: usize, hi: u64, lo: u64) -> Lookup
+    requires { ⌜ (n * w ≤ length (now s)) × (9 ≤ w) ⌝ }
+    ensures { λ r. ⌜ r ≡ lookup (pairKey hi lo) (map (keyOf 9) (slices w n (now (s .entry)))) ⌝ }
+{
+    for i in 0..n {
+        let at = i * w;
+        let y = octets::read(s, at, 1);
+        let z = octets::read(s, at + 1, 8);
+        if reaches(y, z, hi, lo) {
+            if is_pair(y, z, hi, lo) {
                 return Lookup::Found(i);
             }
             return Lookup::Absent(i);

@@ -1,5 +1,6 @@
 pub mod RestorationApply
 pub mod RestorationJudge
+pub mod PeersRestored
 pub mod RestoreAll
 pub mod Runs
 pub mod Sequence

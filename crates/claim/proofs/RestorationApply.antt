@@ -15,7 +15,7 @@ use Rattle.octets.specs.Choice.{pick, mapOption}
 use Rattle.octets.specs.Lists.{keep, all, ascending, insertBy, insertAll, anyIn}
 use Rattle.octets.specs.Octets.{put}
 use Rattle.octets.proofs.Tests.{pick-yes, pick-no, each, all-head, all-tail, all-cons, no-eqb, ascending-head, ascending-tail}
-use Rattle.rules.specs.Model.{Settings, Tunnel, Match, neither, tunnel, endpoint, Pdr, Endpoint, Csid, Session, Sessions, endpointId, pdrId, nodeTypeOf, matchedTunnel, matchedEndpoint, sessionTeids, heldTeids, sessionAddresses, heldAddresses}
+use Rattle.rules.specs.Model.{Settings, Tunnel, Match, neither, tunnel, endpoint, Pdr, Endpoint, Csid, Session, Sessions, endpointId, pdrId, nodeTypeOf, matchedTunnel, matchedEndpoint, sessionTeids, heldTeids, sessionAddresses, heldAddresses, keyFor, sessionKey, isPeer}
 use Rattle.rules.specs.Elements.{unitFteid, ueGiven}
 use Rattle.rules.specs.Limits.{maxMessage, minSpace}
 use Rattle.rules.specs.Layout.{encode}
@@ -27,11 +27,12 @@ use Rattle.rules.specs.Request.{Request}
 use Rattle.rules.specs.Grants.{Kind, Got, granted}
 use Rattle.rules.specs.Stages.{newSession, atEntry, isLive, plain, judge, entrySession, judged, fromReading, verdictFrom, unknownSession, verdict, unnamed}
 use Rattle.rules.specs.Apply.{tunnelFrom, namedMatch, matchFrom, addressGot, addressFrom, madePdr, madeEndpoint, updateAll, otherNode, setCsid, setCsids, followCsids, pdrsAfter, endpointsAfter, apply, putSession, follow, pdrBy}
-use Rattle.rules.specs.Serve.{unserved, sessionsAfter, replyTo, answered, answer, serveSound, serve}
+use Rattle.rules.specs.Serve.{unserved, sessionsAfter, replyTo, answered, answer, serveSound, serve, serveOf}
 use Rattle.rules.specs.Restoration.{Sender, senderAllowed, restoration, restoredPdr, restoredEndpoint, restoredRequest, recordCsid}
 use Rattle.rules.specs.Causes as why
 use Rattle.laws.proofs.RestorationRead.{msg-allowed, msg-kind, msg-short, msg-framed, msg-sound, msg-request}
-use Rattle.claim.proofs.RestorationJudge.{v4-same, v6-same, unit-families, restored-judged}
+use Rattle.claim.proofs.RestorationJudge.{v4-same, v6-same, unit-families, restored-judged, RoomFor}
+use Rattle.laws.proofs.PeerLaws.{known-peer}
 
 -- ---- putting in what ascends
 
@@ -133,10 +134,11 @@ module _ (s : Settings) (hs : T (settingsAllowed s)) where
     up-csids = tests s hs x hx .1 .1 .1 .1 .1 .1 .1 .1 .1 .0
 
     -- the request makes the session
-    pub applied : (got : Kind → ℕ → Got) → apply got (restoredRequest s x) (newSession (x .seid)) ≡ x
+    pub applied : (got : Kind → ℕ → Got) → apply got (restoredRequest s x) (newSession (x .peer) (x .seid)) ≡ x
     unfolding apply restoredRequest newSession pdrsAfter endpointsAfter followCsids updateAll keep
     applied got =
         λ i. record {
+          peer = x .peer;
           seid = x .seid;
           pdrs = (ap (λ (ps : List Pdr). insertAll pdrId ps []) (pdrs-again got (map endpointId (x .endpoints)) (x .pdrs) (pdrsOk s hs x hx))
               ∙ insertAll-up pdrId (x .pdrs) [] up-pdrs (under-nil pdrId (x .pdrs))) i;
@@ -147,47 +149,48 @@ module _ (s : Settings) (hs : T (settingsAllowed s)) where
 
     -- ---- the call
 
-    module _ (m : Sessions) (fresh : isLive (x .seid) m ≡ false) (room : length m < s .limit)
+    module _ (m : Sessions) (fresh : isLive (sessionKey x) m ≡ false) (room : RoomFor s x m)
         (separate : T (not (anyIn (sessionTeids x) (heldTeids m)))) (separateAddresses : T (not (anyIn (sessionAddresses s x) (heldAddresses s m)))) (p : Sender) (hp : T (senderAllowed p)) where
       abbrev msg : List ℕ
       msg = restoration s p x
 
-      msg-verdict : verdict s m msg ≡ plain why.accepted
+      msg-verdict : verdict s (x .peer) m msg ≡ plain why.accepted
       unfolding verdict unknownSession unnamed verdictFrom fromReading judged entrySession
       msg-verdict =
-          ap (λ (k : ℕ). pick (not (unnamed k) && not (isLive (headerSeid msg) m)) (plain why.noSession) (verdictFrom s m msg (frameFault msg))) (msg-kind s hs p hp x hx)
-          ∙ ap (verdictFrom s m msg) (msg-framed s hs p hp x hx)
-          ∙ ap (fromReading s m msg) (msg-sound s hs p hp x hx)
-          ∙ ap₂ (λ (k : ℕ) (r : Request). judge k s m (atEntry k (headerSeid msg) r m) r) (msg-kind s hs p hp x hx) (msg-request s hs p hp x hx)
+          ap (λ (k : ℕ). pick (not (unnamed k) && not (isLive (keyFor (x .peer) (headerSeid msg)) m)) (plain why.noSession) (verdictFrom s (x .peer) m msg (frameFault msg))) (msg-kind s hs p hp x hx)
+          ∙ ap (verdictFrom s (x .peer) m msg) (msg-framed s hs p hp x hx)
+          ∙ ap (fromReading s (x .peer) m msg) (msg-sound s hs p hp x hx)
+          ∙ ap₂ (λ (k : ℕ) (r : Request). judge k s (x .peer) m (atEntry k (x .peer) (headerSeid msg) r m) r) (msg-kind s hs p hp x hx) (msg-request s hs p hp x hx)
           ∙ at-new
         where
-          at-new : judge establishment s m (atEntry establishment (headerSeid msg) (restoredRequest s x) m) (restoredRequest s x) ≡ plain why.accepted
+          at-new : judge establishment s (x .peer) m (atEntry establishment (x .peer) (headerSeid msg) (restoredRequest s x) m) (restoredRequest s x) ≡ plain why.accepted
           at-new = unfold atEntry unnamed restoredRequest in (restored-judged s hs x hx m fresh room separate separateAddresses)
 
-      msg-after : sessionsAfter s m msg ≡ putSession x m
+      msg-after : sessionsAfter s (x .peer) m msg ≡ putSession x m
       unfolding sessionsAfter follow atEntry unnamed
       msg-after =
-          ap₂ (λ (k : ℕ) (r : Request). follow (granted s m r) k (headerSeid msg) r m) (msg-kind s hs p hp x hx) (msg-request s hs p hp x hx)
+          ap₂ (λ (k : ℕ) (r : Request). follow (granted s m r) k (x .peer) (headerSeid msg) r m) (msg-kind s hs p hp x hx) (msg-request s hs p hp x hx)
           ∙ ap (λ (y : Session). putSession y m) made
         where
-          made : apply (granted s m (restoredRequest s x)) (restoredRequest s x) (newSession (restoredRequest s x .seid)) ≡ x
+          made : apply (granted s m (restoredRequest s x)) (restoredRequest s x) (newSession (x .peer) (restoredRequest s x .seid)) ≡ x
           made = unfold restoredRequest in (applied (granted s m (restoredRequest s x)))
 
       -- a restoration into a table of other sessions is accepted, and puts its session in
       pub restored-call : T (sessionsAllowed s m) → (space : List ℕ) → minSpace ≤ length space
-          → serve (encode s m) msg space ≡ record { outcome = 0; place = 0; space = put 0 (replyTo s m msg (plain why.accepted)) space; table = encode s (putSession x m) }
-      unfolding serve serveSound answer answered served
+          → serve (encode s m) (x .peer) msg space ≡ record { outcome = 0; place = 0; space = put 0 (replyTo s (x .peer) m msg (plain why.accepted)) space; table = encode s (putSession x m) }
+      unfolding serve serveOf serveSound answer answered served
       restored-call hm space long =
           let t = encode s m in
           let short : length msg ≤ maxMessage = le-trans (msg-short s hs p hp x hx) (lit≤ tt) in
-          pick-yes (sound t) _ _ (sound-encode s hs m hm)
-          ∙ ap₂ (λ (s′ : Settings) (m′ : Sessions). serveSound s′ m′ t msg space) (encoded-settings s hs m hm) (sessions-back s hs m hm)
+          pick-yes (isPeer (x .peer)) _ _ (known-peer s x hx)
+          ∙ pick-yes (sound t) _ _ (sound-encode s hs m hm)
+          ∙ ap₂ (λ (s′ : Settings) (m′ : Sessions). serveSound s′ (x .peer) m′ t msg space) (encoded-settings s hs m hm) (sessions-back s hs m hm)
           ∙ pick-no (ltb (length space) minSpace) _ _ (no-ltb long)
           ∙ pick-no (ltb maxMessage (length msg)) _ _ (no-ltb short)
           ∙ pick-no (not (headerAllowed msg)) _ _ (twice (headerAllowed msg) (msg-allowed s hs p hp x hx))
-          ∙ ap (λ (k : ℕ). pick (not (eqb k establishment || eqb k modification || eqb k deletion || eqb k setDeletion)) (unserved 5 space t) (answer s m msg space t)) (msg-kind s hs p hp x hx)
-          ∙ ap (answered s m msg space t) msg-verdict
-          ∙ ap (λ (m′ : Sessions). record { outcome = 0; place = 0; space = put 0 (replyTo s m msg (plain why.accepted)) space; table = encode s m′ }) msg-after
+          ∙ ap (λ (k : ℕ). pick (not (eqb k establishment || eqb k modification || eqb k deletion || eqb k setDeletion)) (unserved 5 space t) (answer s (x .peer) m msg space t)) (msg-kind s hs p hp x hx)
+          ∙ ap (answered s (x .peer) m msg space t) msg-verdict
+          ∙ ap (λ (m′ : Sessions). record { outcome = 0; place = 0; space = put 0 (replyTo s (x .peer) m msg (plain why.accepted)) space; table = encode s m′ }) msg-after
         where
           twice : (b : Bool) → T b → T (not (not b))
           twice true h = tt

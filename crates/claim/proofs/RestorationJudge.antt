@@ -11,22 +11,30 @@ use lib.ListN.{length, length-map}
 use lib.Dec.{T, leb, ltb, leb·suc-zero}
 use mir.Facts.{no-ltb, no-leb}
 use Rattle.octets.specs.Choice.{pick, mapOption, bindOption, consOption, isNil, isSome}
-use Rattle.octets.specs.Lists.{collect, member, anyIn, allIn, hasRepeat, without, any, all, allPairs, ascending, keep}
+use Rattle.octets.specs.Lists.{collect, member, anyIn, allIn, hasRepeat, without, any, all, allPairs, ascending, keep, distinct}
 use Rattle.octets.proofs.Tests.{each, both, and-right, all-head, all-tail, is-true, is-false}
 use Rattle.octets.proofs.Numbers.{same-refl}
 use Rattle.octets.proofs.ListLaws.{map-append, collect-map, map-collect}
-use Rattle.rules.specs.Model.{Settings, Tunnel, Match, neither, tunnel, endpoint, Pdr, Endpoint, Session, Sessions, Holding, endpointId, pdrId, matchedTunnel, matchedEndpoint, tunnelHolding, pdrHolding, endpointHolding, sessionHoldings, teidOf, sessionTeids, heldTeids, freeCount, endpointAddress, pdrAddress, inAddressPool, sessionAddresses, heldAddresses, freeAddresses}
+use Rattle.rules.specs.Model.{Settings, Tunnel, Match, neither, tunnel, endpoint, Pdr, Endpoint, Session, Sessions, Holding, endpointId, pdrId, matchedTunnel, matchedEndpoint, tunnelHolding, pdrHolding, endpointHolding, sessionHoldings, teidOf, sessionTeids, heldTeids, freeCount, endpointAddress, pdrAddress, inAddressPool, sessionAddresses, heldAddresses, freeAddresses, sessionKey, peerOf, otherPeer, half, ofPeer, holdings, unused}
 use Rattle.rules.specs.Elements.{Fteid, unitFteid, hasV6, chooses, chooseIdOf, UeIp, ueGiven, ueAddressOf, ueChooses}
 use Rattle.rules.specs.Sound.{settingsAllowed, inPool, unitFamilies, tunnelTests, tunnelAllowed, matchAllowed, pdrTests, pdrAllowed, endpointTests, endpointAllowed, sessionTests, sessionAllowed, agree}
 use Rattle.laws.proofs.LayoutLaws.{pdrsOk, endpointsOk, fewPdrs, fewEndpoints, tests}
 use Rattle.laws.proofs.TableLaws.{ipv4-four}
 use Rattle.rules.specs.Request.{Request}
-use Rattle.rules.specs.Grants.{Kind, choiceOf, endpointChoice, pdrChoice, choices, needFrom, need}
-use Rattle.rules.specs.Stages.{newSession, isLive, newPdrId, newEndpointId, namedEndpoint, pdrLocal, endpointLocal, createdPdrs, createdEndpoints, updatedPdrs, livePdrs, liveEndpoints, fteidsOf, allocationWrong, invalidAllocation, idTwice, createdLive, absentId, updatesRemoved, namesBoth, endpointIdsAfter, namesAbsent, removedPdrs, sameChoice, fteidsMayShare, localsMayShare, choicesAgree, lacksFamily, otherAddress, strange, restoredHolding, endpointRestored, pdrRestored, restoredHoldings, clash, newPdrAddress, newEndpointAddress, addressesOf, wrongAddress, restoredAddresses, addressClash, requestRules, brokenRules, breaksRule, tooManySessions, tooManyPdrs, tooManyEndpoints, tooFewTeids, roomLacks, addressLacks, plain, judge}
+use Rattle.rules.specs.Grants.{Kind, choiceOf, endpointChoice, pdrChoice, choices, needFrom, need, Choice}
+use Rattle.rules.specs.Stages.{newSession, isLive, newPdrId, newEndpointId, namedEndpoint, pdrLocal, endpointLocal, createdPdrs, createdEndpoints, updatedPdrs, livePdrs, liveEndpoints, fteidsOf, allocationWrong, invalidAllocation, idTwice, createdLive, absentId, updatesRemoved, namesBoth, endpointIdsAfter, namesAbsent, removedPdrs, sameChoice, fteidsMayShare, localsMayShare, choicesAgree, lacksFamily, otherAddress, strange, restoredHolding, endpointRestored, pdrRestored, restoredHoldings, clash, newPdrAddress, newEndpointAddress, addressesOf, wrongAddress, restoredAddresses, addressClash, requestRules, brokenRules, breaksRule, tooManySessions, tooManyPdrs, tooManyEndpoints, tooFewTeids, roomLacks, addressLacks, plain, judge, needed, passesLimit, passesPool}
 use Rattle.rules.specs.Restoration.{restoredPdr, restoredEndpoint, restoredRequest}
 use Rattle.rules.specs.Causes as why
 use Rattle.rules.specs.Message.{establishment}
 use Rattle.invariants.proofs.InsertLaws.{ascending-once}
+
+-- ---- room for a session
+
+-- among its peer's sessions, and for its TEIDs by the peer's limit and by what the other is due
+pub record RoomFor (s : Settings) (x : Session) (m : Sessions) : Type 0 where
+  pub sessions : length (ofPeer (x .peer) m) < half s
+  pub limit : holdings (x .peer) m + distinct (sessionTeids x) ≤ peerOf s (x .peer) .limit
+  pub pool : holdings (x .peer) m + holdings (otherPeer (x .peer)) m + distinct (sessionTeids x) + unused s (otherPeer (x .peer)) m ≤ s .size
 
 -- ---- lists
 
@@ -261,15 +269,15 @@ module _ (s : Settings) (hs : T (settingsAllowed s)) where
         endpoints-once : T (not (hasRepeat (map newEndpointId (map (restoredEndpoint s) (x .endpoints)))))
         endpoints-once = subst (λ (ns : List ℕ). T (not (hasRepeat ns))) (sym (ids-endpoints (x .endpoints))) (ascending-once (map endpointId (x .endpoints)) endpointIdsUp)
 
-    not-live : createdLive (newSession (x .seid)) request ≡ false
+    not-live : createdLive (newSession (x .peer) (x .seid)) request ≡ false
     unfolding createdLive livePdrs liveEndpoints newSession
     not-live = ap₂ _||_ (anyIn-nil (createdPdrs request)) (anyIn-nil (createdEndpoints request))
 
-    absent : absentId (newSession (x .seid)) request ≡ false
+    absent : absentId (newSession (x .peer) (x .seid)) request ≡ false
     unfolding absentId request restoredRequest updatedPdrs allIn
     absent = refl
 
-    names : namesAbsent (newSession (x .seid)) request ≡ false
+    names : namesAbsent (newSession (x .peer) (x .seid)) request ≡ false
     unfolding namesAbsent endpointIdsAfter liveEndpoints newSession without request restoredRequest createdEndpoints
     names =
         ap (λ (ns : List ℕ). not (allIn (collect namedEndpoint (map (restoredPdr s) (x .pdrs))) ns)) (ids-endpoints (x .endpoints))
@@ -316,15 +324,16 @@ module _ (s : Settings) (hs : T (settingsAllowed s)) where
     unfolding choices restoredRequest
     no-choices = ap₂ _++_ (no-endpoint-choice (x .endpoints)) (no-pdr-choice (x .pdrs))
 
-    needs-none : need request ≡ 0
-    unfolding need needFrom request
-    needs-none = ap (needFrom []) no-choices
+    -- it needs the TEIDs of the session
+    needs : needed request ≡ distinct (sessionTeids x)
+    unfolding needed need needFrom sessionTeids request
+    needs = let e = ap₂ (λ (l : List Choice) (hs′ : List Holding). needFrom [] l + distinct (map teidOf hs′)) no-choices holds in omega arith
 
-    module _ (m : Sessions) (fresh : isLive (x .seid) m ≡ false) (room : length m < s .limit)
+    module _ (m : Sessions) (fresh : isLive (sessionKey x) m ≡ false) (room : RoomFor s x m)
         (separate : T (not (anyIn (sessionTeids x) (heldTeids m)))) (separateAddresses : T (not (anyIn (sessionAddresses s x) (heldAddresses s m)))) where
       own : T (allPairs agree (sessionHoldings x))
       unfolding sessionTests
-      own = tests s hs x hx .1 .1 .1 .1 .1 .1 .1 .1 .1 .1 .1 .0
+      own = tests s hs x hx .1 .1 .1 .1 .1 .1 .1 .1 .1 .1 .1 .1 .0
 
       no-clash : clash m request ≡ false
       unfolding clash sessionTeids
@@ -336,19 +345,19 @@ module _ (s : Settings) (hs : T (settingsAllowed s)) where
       unfolding addressClash
       no-address-clash = ap (λ (l : List ℕ). anyIn l (heldAddresses s m)) restored-addresses ∙ is-false (anyIn (sessionAddresses s x) (heldAddresses s m)) separateAddresses
 
-      rules-kept : breaksRule s m (newSession (x .seid)) request ≡ false
+      rules-kept : breaksRule s m (newSession (x .peer) (x .seid)) request ≡ false
       unfolding breaksRule requestRules brokenRules updatesRemoved updatedPdrs anyIn request restoredRequest
       rules-kept =
           λ i. once i || (not-live i || (absent i || (false || (none-both (x .pdrs) i || (names i || (not (choices-agree (x .pdrs) i)
           || (no-fteid (lacksFamily s) unit-lacks i || (no-fteid (strange s) unit-strange i || (no-address (wrongAddress s true) given-right i || (no-clash i || (no-address-clash i || false)))))))))))
 
-      enough-room : roomLacks establishment s m (newSession (x .seid)) request ≡ false
-      unfolding roomLacks tooManySessions tooManyPdrs removedPdrs keep tooManyEndpoints tooFewTeids newSession request restoredRequest
+      enough-room : roomLacks establishment s (x .peer) m (newSession (x .peer) (x .seid)) request ≡ false
+      unfolding roomLacks tooManySessions tooManyPdrs removedPdrs keep tooManyEndpoints tooFewTeids passesLimit passesPool newSession request restoredRequest
       enough-room =
           λ i. sessions-fit i || (pdrs-fit i || (endpoints-fit i || (teids-fit i || false)))
         where
-          sessions-fit : leb (s .limit) (length m) ≡ false
-          sessions-fit = is-false (leb (s .limit) (length m)) (no-leb room)
+          sessions-fit : leb (half s) (length (ofPeer (x .peer) m)) ≡ false
+          sessions-fit = is-false (leb (half s) (length (ofPeer (x .peer) m))) (no-leb (room .sessions))
 
           few : (k n l : ℕ) → l ≡ n → n ≤ k → ltb k (0 - 0 + l) ≡ false
           few k n l e h = is-false (ltb k (0 - 0 + l)) (no-ltb (le-trans (omega arith) h))
@@ -359,11 +368,26 @@ module _ (s : Settings) (hs : T (settingsAllowed s)) where
           endpoints-fit : ltb 8 (0 - 0 + length (map (restoredEndpoint s) (x .endpoints))) ≡ false
           endpoints-fit = few 8 (length (x .endpoints)) (length (map (restoredEndpoint s) (x .endpoints))) (length-map (x .endpoints) (restoredEndpoint s)) (fewEndpoints s hs x hx)
 
-          teids-fit : ltb (freeCount s m) (need request) ≡ false
-          teids-fit = ap (ltb (freeCount s m)) needs-none ∙ leb·suc-zero (freeCount s m)
+          within : holdings (x .peer) m + needed request ≤ peerOf s (x .peer) .limit
+          within = let a = needs in let b = room .limit in omega arith
+
+          inside : holdings (x .peer) m + holdings (otherPeer (x .peer)) m + needed request + unused s (otherPeer (x .peer)) m ≤ s .size
+          inside = let a = needs in let b = room .pool in omega arith
+
+          limit-fits : ltb (peerOf s (x .peer) .limit) (holdings (x .peer) m + needed request) ≡ false
+          limit-fits = is-false (ltb (peerOf s (x .peer) .limit) (holdings (x .peer) m + needed request)) (no-ltb within)
+
+          pool-fits : ltb (s .size) (holdings (x .peer) m + holdings (otherPeer (x .peer)) m + needed request + unused s (otherPeer (x .peer)) m) ≡ false
+          pool-fits =
+              is-false (ltb (s .size) (holdings (x .peer) m + holdings (otherPeer (x .peer)) m + needed request + unused s (otherPeer (x .peer)) m))
+              (no-ltb inside)
+
+          teids-fit : (ltb (peerOf s (x .peer) .limit) (holdings (x .peer) m + needed request)
+              || ltb (s .size) (holdings (x .peer) m + holdings (otherPeer (x .peer)) m + needed request + unused s (otherPeer (x .peer)) m)) ≡ false
+          teids-fit = λ i. limit-fits i || pool-fits i
 
       -- accepted
-      pub restored-judged : judge establishment s m (newSession (x .seid)) (restoredRequest s x) ≡ plain why.accepted
+      pub restored-judged : judge establishment s (x .peer) m (newSession (x .peer) (x .seid)) (restoredRequest s x) ≡ plain why.accepted
       unfolding judge request restoredRequest invalidAllocation addressLacks
       restored-judged =
           λ i. pick (fresh i) (plain why.rejected) (pick (no-fteid (allocationWrong true) unit-given i) (plain why.wrongAllocation) (pick false (plain why.notSupported) (pick (rules-kept i) (plain why.brokenRule) (pick (enough-room i) (plain why.noRoom)

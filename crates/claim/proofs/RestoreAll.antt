@@ -12,7 +12,7 @@ use Rattle.octets.specs.Octets.{octets, put}
 use Rattle.octets.specs.Lists.{all, allPairs, ascending, insertBy, insertAll}
 use Rattle.octets.proofs.Tests.{each, Each, all-head, all-tail, all-cons, of-true}
 use Rattle.octets.proofs.Ordered.{perm-length, all-perm, pairs-head, pairs-tail, pairs-perm, otherKey, insertAll-perm, insert-length, insert-all, ascending-other}
-use Rattle.rules.specs.Model.{Settings, Session, Sessions, seidOf}
+use Rattle.rules.specs.Model.{Settings, Session, Sessions, sessionKey}
 use Rattle.rules.specs.Limits.{minSpace}
 use Rattle.rules.specs.Layout.{encode}
 use Rattle.laws.proofs.LayoutLaws.{fewPdrs, fewEndpoints}
@@ -35,7 +35,11 @@ use Rattle.rules.specs.Calls.{tableAfterCall, eventOf, tableAfterAll, eventsOf}
 use Rattle.rules.specs.Claim.{Restore, restored, restoreAllowed, restoreCall, restoreCalls}
 use Rattle.rules.specs.Causes as why
 use Rattle.laws.proofs.HeaderLaws.{header-long}
-use Rattle.invariants.proofs.Beside.{apart-turn, other-seid-turn, separate-all, separate-addresses, fresh-seid, put-fresh, insert-allowed, empty-allowed}
+use Rattle.invariants.proofs.Beside.{apart-turn, other-seid-turn, separate-all, separate-addresses, fresh-seid, put-fresh, insert-allowed, empty-allowed, insert-apart}
+use Rattle.laws.proofs.PeerLaws.{known-peer, peers-kept}
+use Rattle.invariants.proofs.KeptRules.{sessions-kept}
+use Rattle.claim.proofs.PeersRestored.{Weighs, weighs-first, weighs-next, weighs-kept, room-next}
+use Rattle.claim.proofs.RestorationJudge.{RoomFor}
 
 -- ---- the reply is an acceptance
 
@@ -60,51 +64,46 @@ module _ (s : Settings) (hs : T (settingsAllowed s)) where
         restored-endpoints : length (restoredRequest s x .endpoints) ≡ length (x .endpoints)
         restored-endpoints = unfold restoredRequest in (length-map (x .endpoints) (restoredEndpoint s))
 
-    pub restored-cause : (space : List ℕ) → replyCause (put 0 (replyTo s m msg (plain why.accepted)) space) ≡ 1
+    pub restored-cause : (space : List ℕ) → replyCause (put 0 (replyTo s (x .peer) m msg (plain why.accepted)) space) ≡ 1
     unfolding replyTo
-    restored-cause space = accepted-cause s hs msg (header-long msg (msg-allowed s hs p hp x hx)) (readRequest msg .seid) (plain why.accepted) refl (reports (granted s m (readRequest msg)) (readRequest msg)) few space
+    restored-cause space = accepted-cause s hs (x .peer) msg (header-long msg (msg-allowed s hs p hp x hx)) (readRequest msg .seid) (plain why.accepted) refl (reports (granted s m (readRequest msg)) (readRequest msg)) few space
 
 -- ---- one after the other
 
 -- what stands beside a list of sessions stands beside it with one more
 beside-insert : (r : Session → Session → Bool) → ((x y : Session) → T (r x y) → T (r y x)) → (x : Session) (m xs : Sessions)
-    → T (all (r x) xs) → T (all (λ y. all (r y) m) xs) → T (all (λ y. all (r y) (insertBy seidOf x m)) xs)
+    → T (all (r x) xs) → T (all (λ y. all (r y) m) xs) → T (all (λ y. all (r y) (insertBy sessionKey x m)) xs)
 unfolding all
 beside-insert r turn x m [] h k = tt
 beside-insert r turn x m (y ∷ xs) h k =
-    all-cons (λ z. all (r z) (insertBy seidOf x m)) y xs
-    (insert-all seidOf (r y) x m (turn x y (all-head (r x) y xs h)) (all-head (λ z. all (r z) m) y xs k))
+    all-cons (λ z. all (r z) (insertBy sessionKey x m)) y xs
+    (insert-all sessionKey (r y) x m (turn x y (all-head (r x) y xs h)) (all-head (λ z. all (r z) m) y xs k))
     (beside-insert r turn x m xs (all-tail (r x) y xs h) (all-tail (λ z. all (r z) m) y xs k))
 
 -- sessions that can be put in one after the other
 pub record Ready (s : Settings) (m : Sessions) (xs : Sessions) : Type 0 where
   pub sound : T (sessionsAllowed s m)
   pub allowed : T (all (sessionAllowed s) xs)
-  pub seids : T (allPairs (otherKey seidOf) xs)
+  pub seids : T (allPairs (otherKey sessionKey) xs)
   pub separate : T (allPairs (apart s) xs)
-  pub newSeids : T (all (λ x. all (otherKey seidOf x) m) xs)
+  pub newSeids : T (all (λ x. all (otherKey sessionKey x) m) xs)
   pub beside : T (all (λ x. all (apart s x) m) xs)
-  pub room : length m + length xs ≤ s .limit
+  pub weighs : Weighs s m xs
 
-ready-next : (s : Settings) (m : Sessions) (x : Session) (xs : Sessions) → Ready s m (x ∷ xs) → Ready s (insertBy seidOf x m) xs
+ready-next : (s : Settings) (m : Sessions) (x : Session) (xs : Sessions) → Ready s m (x ∷ xs) → Ready s (insertBy sessionKey x m) xs
 ready-next s m x xs r =
-    let fits : length m < s .limit = fit (length m) (length xs) (s .limit) (r .room) in
+    let next = weighs-next s x m xs (r .weighs) in
+    let far = insert-apart s x m (all-head (λ y. all (apart s y) m) x xs (r .beside)) (sessions-kept s m (r .sound) .separate) in
     record {
-      sound = insert-allowed s x m (r .sound) (all-head (sessionAllowed s) x xs (r .allowed)) (all-head (λ y. all (otherKey seidOf y) m) x xs (r .newSeids))
-          (all-head (λ y. all (apart s y) m) x xs (r .beside)) fits;
+      sound = insert-allowed s x m (r .sound) (all-head (sessionAllowed s) x xs (r .allowed)) (all-head (λ y. all (otherKey sessionKey y) m) x xs (r .newSeids))
+          (all-head (λ y. all (apart s y) m) x xs (r .beside)) (weighs-kept s (insertBy sessionKey x m) xs far next);
       allowed = all-tail (sessionAllowed s) x xs (r .allowed);
-      seids = pairs-tail (otherKey seidOf) x xs (r .seids);
+      seids = pairs-tail (otherKey sessionKey) x xs (r .seids);
       separate = pairs-tail (apart s) x xs (r .separate);
-      newSeids = beside-insert (otherKey seidOf) other-seid-turn x m xs (pairs-head (otherKey seidOf) x xs (r .seids)) (all-tail (λ y. all (otherKey seidOf y) m) x xs (r .newSeids));
+      newSeids = beside-insert (otherKey sessionKey) other-seid-turn x m xs (pairs-head (otherKey sessionKey) x xs (r .seids)) (all-tail (λ y. all (otherKey sessionKey y) m) x xs (r .newSeids));
       beside = beside-insert (apart s) (apart-turn s) x m xs (pairs-head (apart s) x xs (r .separate)) (all-tail (λ y. all (apart s y) m) x xs (r .beside));
-      room = more (length (insertBy seidOf x m)) (length m) (length xs) (s .limit) (insert-length seidOf x m) (r .room);
+      weighs = next;
     }
-  where
-    fit : (a b c : ℕ) → a + suc b ≤ c → a < c
-    fit a b c h = omega arith
-
-    more : (k a b c : ℕ) → k ≡ suc a → a + suc b ≤ c → k + b ≤ c
-    more k a b c e h = omega arith
 
 module _ (s : Settings) (hs : T (settingsAllowed s)) where
   -- one restoration: the table after it, and its acceptance
@@ -119,23 +118,20 @@ module _ (s : Settings) (hs : T (settingsAllowed s)) where
     hx : T (sessionAllowed s x)
     hx = all-head (sessionAllowed s) x xs (ready .allowed)
 
-    other : T (all (otherKey seidOf x) m)
-    other = all-head (λ y. all (otherKey seidOf y) m) x xs (ready .newSeids)
+    other : T (all (otherKey sessionKey x) m)
+    other = all-head (λ y. all (otherKey sessionKey y) m) x xs (ready .newSeids)
 
-    fits : length m < s .limit
-    fits = fit (length m) (length xs) (s .limit) (ready .room)
-      where
-        fit : (a b c : ℕ) → a + suc b ≤ c → a < c
-        fit a b c h = omega arith
+    fits : RoomFor s x m
+    fits = room-next s x m xs (known-peer s x hx) (sessions-kept s m (ready .sound) .separate) (ready .weighs)
 
-    call : serve (encode s m) (restoration s (r .sender) x) (r .space)
-        ≡ record { outcome = 0; place = 0; space = put 0 (replyTo s m (restoration s (r .sender) x) (plain why.accepted)) (r .space); table = encode s (putSession x m) }
+    call : serve (encode s m) (x .peer) (restoration s (r .sender) x) (r .space)
+        ≡ record { outcome = 0; place = 0; space = put 0 (replyTo s (x .peer) m (restoration s (r .sender) x) (plain why.accepted)) (r .space); table = encode s (putSession x m) }
     call =
         restored-call s hs x hx m (fresh-seid x m other) fits (separate-all s x m (all-head (λ y. all (apart s y) m) x xs (ready .beside)))
         (separate-addresses s x m (all-head (λ y. all (apart s y) m) x xs (ready .beside))) (r .sender) (okFacts .0)
         (ready .sound) (r .space) (leb→le minSpace (length (r .space)) (okFacts .1 .1 .0))
 
-    table-after : tableAfterCall (encode s m) (restoreCall s r) ≡ encode s (insertBy seidOf x m)
+    table-after : tableAfterCall (encode s m) (restoreCall s r) ≡ encode s (insertBy sessionKey x m)
     unfolding tableAfterCall restoreCall
     table-after = ap (λ (v : Served). v .table) call ∙ ap (encode s) (put-fresh x m other)
 
@@ -144,12 +140,12 @@ module _ (s : Settings) (hs : T (settingsAllowed s)) where
     is-accepted = of-true (ap₂ (λ (o : ℕ) (l : List ℕ). eqb o 0 && eqb (replyCause l) 1) (ap (λ (v : Served). v .outcome) call) (ap (λ (v : Served). v .space) call) ∙ ap (λ (c : ℕ). eqb c 1) (restored-cause s hs x hx (r .sender) (okFacts .0) m (r .space)))
 
   run-table : (rs : List Restore) (m : Sessions) → T (all restoreAllowed rs) → Ready s m (map restored rs)
-      → tableAfterAll (encode s m) (restoreCalls s rs) ≡ encode s (insertAll seidOf (map restored rs) m)
+      → tableAfterAll (encode s m) (restoreCalls s rs) ≡ encode s (insertAll sessionKey (map restored rs) m)
   unfolding tableAfterAll restoreCalls insertAll
   run-table [] m ok ready = refl
   run-table (r ∷ rs) m ok ready =
       ap (λ (t : List ℕ). tableAfterAll t (restoreCalls s rs)) (table-after m r (all-head restoreAllowed r rs ok) (map restored rs) ready)
-      ∙ run-table rs (insertBy seidOf (r .session) m) (all-tail restoreAllowed r rs ok) (ready-next s m (r .session) (map restored rs) ready)
+      ∙ run-table rs (insertBy sessionKey (r .session) m) (all-tail restoreAllowed r rs ok) (ready-next s m (r .session) (map restored rs) ready)
 
   run-accepted : (rs : List Restore) (m : Sessions) → T (all restoreAllowed rs) → Ready s m (map restored rs)
       → T (all acceptedEvent (eventsOf (encode s m) (restoreCalls s rs)))
@@ -159,7 +155,7 @@ module _ (s : Settings) (hs : T (settingsAllowed s)) where
       all-cons acceptedEvent (eventOf (encode s m) (restoreCall s r)) (eventsOf (tableAfterCall (encode s m) (restoreCall s r)) (restoreCalls s rs))
       (is-accepted m r (all-head restoreAllowed r rs ok) (map restored rs) ready)
       (subst (λ (t : List ℕ). T (all acceptedEvent (eventsOf t (restoreCalls s rs)))) (sym (table-after m r (all-head restoreAllowed r rs ok) (map restored rs) ready))
-      (run-accepted rs (insertBy seidOf (r .session) m) (all-tail restoreAllowed r rs ok) (ready-next s m (r .session) (map restored rs) ready)))
+      (run-accepted rs (insertBy sessionKey (r .session) m) (all-tail restoreAllowed r rs ok) (ready-next s m (r .session) (map restored rs) ready)))
 
   -- ---- in any order
 
@@ -168,7 +164,7 @@ module _ (s : Settings) (hs : T (settingsAllowed s)) where
     unfolding sessionsAllowed
     facts = each (sessionsTests s m) hm
 
-    up : T (ascending (map seidOf m))
+    up : T (ascending (map sessionKey m))
     unfolding sessionsTests
     up = facts .1 .0
 
@@ -176,27 +172,24 @@ module _ (s : Settings) (hs : T (settingsAllowed s)) where
     unfolding sessionsTests all
     ready =
         record {
-          sound = empty-allowed s;
+          sound = empty-allowed s hs;
           allowed = all-perm (sessionAllowed s) order (facts .1 .1 .0);
-          seids = pairs-perm (otherKey seidOf) other-seid-turn order (ascending-other seidOf m up);
+          seids = pairs-perm (otherKey sessionKey) other-seid-turn order (ascending-other sessionKey m up);
           separate = pairs-perm (apart s) (apart-turn s) order (facts .1 .1 .1 .0);
           newSeids = nothing (map restored rs);
           beside = nothing (map restored rs);
-          room = few (length (map restored rs)) (length m) (s .limit) (perm-length order) (leb→le (length m) (s .limit) (facts .0));
+          weighs = weighs-first s m (map restored rs) (facts .1 .1 .1 .0) (peers-kept s m hm) order;
         }
       where
         nothing : (xs : Sessions) → T (all (λ x. true) xs)
         nothing [] = tt
         nothing (y ∷ ys) = nothing ys
 
-        few : (a b c : ℕ) → b ≡ a → b ≤ c → 0 + a ≤ c
-        few a b c e h = omega arith
-
     -- the restored table is the table of the sessions
     pub restored-table : tableAfterAll (encode s []) (restoreCalls s rs) ≡ encode s m
     restored-table =
         run-table rs [] ok ready
-        ∙ ap (encode s) (sym (insertAll-perm seidOf order (ascending-other seidOf m up) []) ∙ insertAll-up seidOf m [] up (under-nil seidOf m))
+        ∙ ap (encode s) (sym (insertAll-perm sessionKey order (ascending-other sessionKey m up) []) ∙ insertAll-up sessionKey m [] up (under-nil sessionKey m))
 
     -- and every restoration is accepted
     pub restored-accepted : T (all acceptedEvent (eventsOf (encode s []) (restoreCalls s rs)))

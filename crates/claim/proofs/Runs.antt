@@ -10,15 +10,27 @@ use Rattle.octets.proofs.Tests.{all-head, all-tail, all-cons, pick-yes}
 use Rattle.rules.specs.Model.{Settings, Sessions, freeCount, freeAddressCount}
 use Rattle.rules.specs.Layout.{encode, viewSettings, viewSessions}
 use Rattle.rules.specs.Sound.{settingsAllowed, sessionsAllowed, sound, make, free, broken, countFree, takenMap, countAddresses, addressMap}
-use Rattle.rules.specs.Serve.{Served}
-use Rattle.rules.specs.Live.{Event, replied, acceptedEvent, live, liveFrom}
+use Rattle.rules.specs.Serve.{Served, serve}
+use Rattle.rules.specs.Live.{Event, replied, acceptedEvent, live, liveFrom, replyCause}
 use Rattle.rules.specs.Calls.{Call, callAllowed, tableAfterCall, eventOf, tableAfterAll, eventsOf}
-use Rattle.rules.specs.Claim.{Step, asked, told, toldAddresses, stepAllowed, Ran, lastTable, eventIn, liveSet, Restore, restored, restoreAllowed, restoreCalls, callIn, mapOf, addressMapOf, Holds, Restores, Demand3}
+use Rattle.rules.specs.Causes as why
+use Rattle.rules.specs.Claim.{Step, asked, told, toldAddresses, stepAllowed, Ran, lastTable, eventIn, liveSet, Restore, restored, restoreAllowed, restoreCalls, callIn, mapOf, addressMapOf, Holds, Restores, Demand3, EachItsDue}
 use Rattle.laws.proofs.TableLaws.{sessions-back, encoded-settings, sound-encode}
 use Rattle.claim.proofs.RestoreAll.{restored-table, restored-accepted}
 use Rattle.invariants.proofs.Beside.{empty-allowed}
 use Rattle.claim.proofs.Sequence.{kept-all, made-empty, made-settings}
 use Rattle.invariants.proofs.Steps.{Keeps}
+use Rattle.laws.proofs.PeerLaws.{peers-kept}
+use Rattle.invariants.proofs.PeersAfter.{guaranteed-passes}
+use Rattle.invariants.proofs.ServeLaws.{answers, served-cause}
+use Rattle.invariants.proofs.NoRoom.{cause-75}
+use Rattle.octets.specs.Choice.{oneOf}
+use mathlib.Core.Bool.{Bool, true, false, not}
+use mir.Facts.{yes-eqb}
+use Rattle.rules.specs.Stages.{verdict, tooManySessions, tooManyPdrs, tooManyEndpoints, tooFewTeids, roomLacks, entrySession}
+use Rattle.rules.specs.Message.{kindOf}
+use Rattle.rules.specs.Reading.{readRequest}
+use Rattle.octets.specs.Octets.{octets}
 
 -- ---- a run leaves what its calls compute
 
@@ -28,7 +40,7 @@ calls steps = map callIn steps
 run-table : (t : List ℕ) (steps : List Step) → Ran t steps → lastTable t steps ≡ tableAfterAll t (calls steps)
 unfolding lastTable callIn tableAfterAll tableAfterCall
 run-table t [] h = refl
-run-table t (asked msg space r ∷ steps) h =
+run-table t (asked who msg space r ∷ steps) h =
     run-table (r .table) steps (h .1) ∙ ap (λ (q : Served). tableAfterAll (q .table) (calls steps)) (h .0)
 run-table t (told c ∷ steps) h = run-table t steps (h .1)
 run-table t (toldAddresses c ∷ steps) h = run-table t steps (h .1)
@@ -36,17 +48,17 @@ run-table t (toldAddresses c ∷ steps) h = run-table t steps (h .1)
 run-events : (t : List ℕ) (steps : List Step) → Ran t steps → map eventIn steps ≡ eventsOf t (calls steps)
 unfolding eventIn callIn eventsOf eventOf tableAfterCall
 run-events t [] h = refl
-run-events t (asked msg space r ∷ steps) h =
-    ap (λ (es : List Event). replied msg (r .outcome) (r .space) ∷ es) (run-events (r .table) steps (h .1))
-    ∙ ap (λ (q : Served). replied msg (q .outcome) (q .space) ∷ eventsOf (q .table) (calls steps)) (h .0)
+run-events t (asked who msg space r ∷ steps) h =
+    ap (λ (es : List Event). replied who msg (r .outcome) (r .space) ∷ es) (run-events (r .table) steps (h .1))
+    ∙ ap (λ (q : Served). replied who msg (q .outcome) (q .space) ∷ eventsOf (q .table) (calls steps)) (h .0)
 run-events t (told c ∷ steps) h = ap (λ (es : List Event). eventIn (told c) ∷ es) (run-events t steps (h .1))
 run-events t (toldAddresses c ∷ steps) h = ap (λ (es : List Event). eventIn (toldAddresses c) ∷ es) (run-events t steps (h .1))
 
 run-allowed : (steps : List Step) → T (all stepAllowed steps) → T (all callAllowed (calls steps))
 unfolding stepAllowed callIn callAllowed all
 run-allowed [] h = tt
-run-allowed (asked msg space r ∷ steps) h =
-    all-cons callAllowed (callIn (asked msg space r)) (calls steps) (all-head stepAllowed (asked msg space r) steps h) (run-allowed steps (all-tail stepAllowed (asked msg space r) steps h))
+run-allowed (asked who msg space r ∷ steps) h =
+    all-cons callAllowed (callIn (asked who msg space r)) (calls steps) (all-head stepAllowed (asked who msg space r) steps h) (run-allowed steps (all-tail stepAllowed (asked who msg space r) steps h))
 run-allowed (told c ∷ steps) h =
     all-cons callAllowed (callIn (told c)) (calls steps) tt (run-allowed steps (all-tail stepAllowed (told c) steps h))
 run-allowed (toldAddresses c ∷ steps) h =
@@ -114,7 +126,7 @@ module _ (keeps : Keeps) (s : Settings) where
     left =
         let hs = made-settings s a ha in
         let e : make s a .table ≡ encode s [] = made-empty s a ha in
-        let k = kept-all keeps s hs (calls steps) [] (empty-allowed s) (run-allowed steps ho) in
+        let k = kept-all keeps s hs (calls steps) [] (empty-allowed s hs) (run-allowed steps ho) in
         let same : liveFrom [] (eventsOf (encode s []) (calls steps)) ≡ liveFrom [] (map eventIn steps)
         = ap (λ (t : List ℕ). liveFrom [] (eventsOf t (calls steps))) (sym e) ∙ ap (liveFrom []) (sym (run-events (make s a .table) steps hr)) in
         record {
@@ -137,4 +149,40 @@ claim keeps s a steps ha ho hr =
       noHistory = λ b again hb hc ran lives.
           let k = left keeps s b again hb hc ran in
           k .table ∙ ap (encode s) lives ∙ sym (l .table);
+    }
+
+-- ---- each peer its due (02 (xiv))
+
+-- the first three of four tests, where the last one fails
+first-three : (a b c d : Bool) → T (oneOf (a ∷ b ∷ c ∷ d ∷ [])) → T (not d) → T (oneOf (a ∷ b ∷ c ∷ []))
+first-three true b c d h g = tt
+first-three false true c d h g = tt
+first-three false false true d h g = tt
+first-three false false false true h g = absurd g
+first-three false false false false h g = absurd h
+
+-- a 75 that is not for want of TEIDs
+for-others : (t : List ℕ) (who : ℕ) (msg space : List ℕ) → T (octets msg) → (s : Settings) (m : Sessions) → viewSettings t ≡ s → viewSessions t ≡ m
+    → serve t who msg space .outcome ≡ 0 → replyCause (serve t who msg space .space) ≡ why.noRoom → T (not (tooFewTeids s who m (readRequest msg)))
+    → T (oneOf (tooManySessions s who (kindOf msg) m ∷ tooManyPdrs (entrySession who m msg) (readRequest msg) ∷ tooManyEndpoints (entrySession who m msg) (readRequest msg) ∷ []))
+unfolding roomLacks
+for-others t who msg space hm s m es em zero′ e passes =
+    let cause = ap₂ (λ (s′ : Settings) (m′ : Sessions). verdict s′ who m′ msg .cause) (sym es) (sym em) ∙ sym (served-cause t who msg space hm (yes-eqb zero′)) ∙ e in
+    first-three (tooManySessions s who (kindOf msg) m) (tooManyPdrs (entrySession who m msg) (readRequest msg)) (tooManyEndpoints (entrySession who m msg) (readRequest msg)) (tooFewTeids s who m (readRequest msg))
+    (cause-75 s who m msg cause .1) passes
+
+pub dues : Keeps → EachItsDue
+unfolding EachItsDue
+dues keeps s a steps ha ho hr =
+    let l = left keeps s a steps ha ho hr in
+    let m = liveSet steps in
+    let t = lastTable (make s a .table) steps in
+    let k = peers-kept s m (l .sessions) in
+    let h = held keeps s (l .settings) m (l .sessions) t (l .table) in
+    record {
+      limited = k .teids;
+      guaranteed = λ who r hw g. guaranteed-passes s who m r hw (l .settings) k g;
+      answered = λ who msg space hm g zero′ e.
+          for-others t who msg space hm s m (h .settings) (h .records) zero′ e
+          (guaranteed-passes s who m (readRequest msg) (answers t who msg space (yes-eqb zero′) .peer) (l .settings) k g);
     }

@@ -20,7 +20,7 @@ use Rattle.invariants.proofs.Steps.{Kept, Keeps}
 module _ (keeps : Keeps) (s : Settings) (hs : T (settingsAllowed s)) where
   one : (m : Sessions) (c : Call) → T (sessionsAllowed s m) → T (callAllowed c) → Kept s m (tableAfterCall (encode s m) c) (eventOf (encode s m) c)
   unfolding Keeps callAllowed tableAfterCall eventOf liveStep acceptedEvent
-  one m (request msg space) hm hc = keeps s m msg space hs hm (and-left (octets msg) (octets space) hc) (and-right (octets msg) (octets space) hc)
+  one m (request who msg space) hm hc = keeps s who m msg space hs hm (and-left (octets msg) (octets space) hc) (and-right (octets msg) (octets space) hc)
   one m count hm hc = record { after = m; sound = hm; table = refl; live = refl }
   one m countIps hm hc = record { after = m; sound = hm; table = refl; live = refl }
 

@@ -12,7 +12,7 @@ use Rattle.octets.proofs.Tests.{of-true, pick-yes}
 use Rattle.octets.proofs.Put.{put-nil}
 use Rattle.octets.proofs.ListLaws.{not-not}
 use Rattle.rules.specs.Limits.{maxMessage, minSpace}
-use Rattle.rules.specs.Model.{Settings, Sessions, freeCount, freeAddressCount}
+use Rattle.rules.specs.Model.{isPeer, Settings, Sessions, freeCount, freeAddressCount}
 use Rattle.rules.specs.Layout.{encode}
 use Rattle.rules.specs.Sound.{settingsAllowed, sessionsAllowed, sound, free, broken, countFree, countAddresses}
 use Rattle.rules.specs.Message.{kindOf, headerAllowed, served}
@@ -20,7 +20,7 @@ use Rattle.rules.specs.Reading.{readRequest}
 use Rattle.rules.specs.Grants.{Kind, Got}
 use Rattle.rules.specs.Stages.{Verdict, verdict}
 use Rattle.rules.specs.Reply.{reports, reply}
-use Rattle.rules.specs.Serve.{Served, unserved, sessionsAfter, replyTo, answered, answer, serveSound, serve}
+use Rattle.rules.specs.Serve.{Served, unserved, sessionsAfter, replyTo, answered, answer, serveSound, serveOf, serve}
 use Rattle.rules.specs.Causes as why
 use Rattle.laws.proofs.TableLaws.{sound-encode, encoded-settings, sessions-back}
 use Rattle.invariants.proofs.Steps.{AcceptedKeeps}
@@ -57,20 +57,20 @@ either-same : (R : Served → Served → Type 0) (b c : Bool) → b ≡ c → (v
 either-same R b c e v v′ w w′ f g = subst (λ (d : Bool). R (pick b v w) (pick d v′ w′)) e (either R b v v′ w w′ f g)
 
 -- on a table that holds sessions
-served-encoded : (s : Settings) → T (settingsAllowed s) → (m : Sessions) → T (sessionsAllowed s m) → (msg space : List ℕ)
-    → serve (encode s m) msg space ≡ serveSound s m (encode s m) msg space
-unfolding serve
-served-encoded s hs m hm msg space =
+served-encoded : (s : Settings) → T (settingsAllowed s) → (m : Sessions) → T (sessionsAllowed s m) → (who : ℕ) (msg space : List ℕ)
+    → serveOf (encode s m) who msg space ≡ serveSound s who m (encode s m) msg space
+unfolding serveOf
+served-encoded s hs m hm who msg space =
     pick-yes (sound (encode s m)) _ _ (sound-encode s hs m hm)
-    ∙ ap₂ (λ (s′ : Settings) (m′ : Sessions). serveSound s′ m′ (encode s m) msg space) (encoded-settings s hs m hm) (sessions-back s hs m hm)
+    ∙ ap₂ (λ (s′ : Settings) (m′ : Sessions). serveSound s′ who m′ (encode s m) msg space) (encoded-settings s hs m hm) (sessions-back s hs m hm)
 
 module _ (s : Settings) (hs : T (settingsAllowed s)) (m n : Sessions) (hm : T (sessionsAllowed s m)) (hn : T (sessionsAllowed s n)) (e : Alike m n) where
   -- ---- the reply
 
-  pub reply-alike : (msg : List ℕ) → replyTo s m msg (verdict s m msg) ≡ replyTo s n msg (verdict s n msg)
+  pub reply-alike : (who : ℕ) (msg : List ℕ) → replyTo s who m msg (verdict s who m msg) ≡ replyTo s who n msg (verdict s who n msg)
   unfolding replyTo
-  reply-alike msg =
-      ap₂ (λ (v : Verdict) (got : Kind → ℕ → Got). reply s msg (readRequest msg .seid) v (reports got (readRequest msg))) (verdict-alike s m n e msg) (granted-alike s m n e (readRequest msg))
+  reply-alike who msg =
+      ap₂ (λ (v : Verdict) (got : Kind → ℕ → Got). reply s who msg (readRequest msg .seid) v (reports got (readRequest msg))) (verdict-alike s m n e who msg) (granted-alike s m n e (readRequest msg))
 
   -- ---- the counts
 
@@ -94,9 +94,9 @@ module _ (s : Settings) (hs : T (settingsAllowed s)) (m n : Sessions) (hm : T (s
 
   -- ---- a request
 
-  module _ (msg space other : List ℕ) (ho : T (octets msg)) (long : length space ≡ length other) where
+  module _ (who : ℕ) (msg space other : List ℕ) (ho : T (octets msg)) (long : length space ≡ length other) where
     abbrev answerOctets : List ℕ
-    answerOctets = replyTo s m msg (verdict s m msg)
+    answerOctets = replyTo s who m msg (verdict s who m msg)
 
     abbrev R : Served → Served → Type 0
     R a b = Agreed s answerOctets space other a b
@@ -115,47 +115,57 @@ module _ (s : Settings) (hs : T (settingsAllowed s)) (m n : Sessions) (hm : T (s
         kept l = sym (ap (λ (b : Bool). put 0 (pick b answerOctets []) l) z ∙ put-nil 0 l)
 
     -- the sessions after an accepted request
-    after-kept : (l : Sessions) (sp : List ℕ) → T (sessionsAllowed s l) → T (headerAllowed msg) → T (served (kindOf msg)) → verdict s l msg .cause ≡ why.accepted → T (sessionsAllowed s (sessionsAfter s l msg))
+    after-kept : T (isPeer who) → (l : Sessions) (sp : List ℕ) → T (sessionsAllowed s l) → T (headerAllowed msg) → T (served (kindOf msg)) → verdict s who l msg .cause ≡ why.accepted → T (sessionsAllowed s (sessionsAfter s who l msg))
     unfolding AcceptedKeeps
-    after-kept l sp hl hh hk c = accepted-keeps s l msg sp hs hl ho hh hk c .sound
+    after-kept hw l sp hl hh hk c = accepted-keeps s who l msg sp hw hs hl ho hh hk c .sound
 
-    tables-after : T (headerAllowed msg) → T (served (kindOf msg)) → (b : Bool) → eqb (verdict s m msg .cause) why.accepted ≡ b
-        → Pair s (pick b (encode s (sessionsAfter s m msg)) (encode s m)) (pick b (encode s (sessionsAfter s n msg)) (encode s n))
-    tables-after hh hk false z = record { one = m; other = n; oneKept = hm; otherKept = hn; oneTable = refl; otherTable = refl; alike = e }
-    tables-after hh hk true z =
-        let c = eqb→eq (verdict s m msg .cause) why.accepted (of-true z) in
+    tables-after : T (isPeer who) → T (headerAllowed msg) → T (served (kindOf msg)) → (b : Bool) → eqb (verdict s who m msg .cause) why.accepted ≡ b
+        → Pair s (pick b (encode s (sessionsAfter s who m msg)) (encode s m)) (pick b (encode s (sessionsAfter s who n msg)) (encode s n))
+    tables-after hw hh hk false z = record { one = m; other = n; oneKept = hm; otherKept = hn; oneTable = refl; otherTable = refl; alike = e }
+    tables-after hw hh hk true z =
+        let c = eqb→eq (verdict s who m msg .cause) why.accepted (of-true z) in
         record {
-          one = sessionsAfter s m msg;
-          other = sessionsAfter s n msg;
-          oneKept = after-kept m space hm hh hk c;
-          otherKept = after-kept n other hn hh hk (sym (ap (λ (v : Verdict). v .cause) (verdict-alike s m n e msg)) ∙ c);
+          one = sessionsAfter s who m msg;
+          other = sessionsAfter s who n msg;
+          oneKept = after-kept hw m space hm hh hk c;
+          otherKept = after-kept hw n other hn hh hk (sym (ap (λ (v : Verdict). v .cause) (verdict-alike s m n e who msg)) ∙ c);
           oneTable = refl;
           otherTable = refl;
-          alike = after-alike s m n msg e;
+          alike = after-alike s who m n msg e;
         }
 
-    answers-agree : T (headerAllowed msg) → T (served (kindOf msg)) → R (answer s m msg space (encode s m)) (answer s n msg other (encode s n))
+    answers-agree : T (isPeer who) → T (headerAllowed msg) → T (served (kindOf msg)) → R (answer s who m msg space (encode s m)) (answer s who n msg other (encode s n))
     unfolding answer answered
-    answers-agree hh hk =
-        let v = verdict-alike s m n e msg in
+    answers-agree hw hh hk =
+        let v = verdict-alike s m n e who msg in
         record {
           outcome = refl;
           place = ap (λ (w : Verdict). w .place) v;
           oneSpace = refl;
-          otherSpace = ap (λ (l : List ℕ). put 0 l other) (sym (reply-alike msg));
+          otherSpace = ap (λ (l : List ℕ). put 0 l other) (sym (reply-alike who msg));
           tables =
-              subst (λ (w : Verdict). Pair s (pick (eqb (verdict s m msg .cause) why.accepted) (encode s (sessionsAfter s m msg)) (encode s m)) (pick (eqb (w .cause) why.accepted) (encode s (sessionsAfter s n msg)) (encode s n))) v
-              (tables-after hh hk (eqb (verdict s m msg .cause) why.accepted) refl);
+              subst (λ (w : Verdict). Pair s (pick (eqb (verdict s who m msg .cause) why.accepted) (encode s (sessionsAfter s who m msg)) (encode s m)) (pick (eqb (w .cause) why.accepted) (encode s (sessionsAfter s who n msg)) (encode s n))) v
+              (tables-after hw hh hk (eqb (verdict s who m msg .cause) why.accepted) refl);
         }
 
-    sound-agree : R (serveSound s m (encode s m) msg space) (serveSound s n (encode s n) msg other)
+    sound-agree : T (isPeer who) → R (serveSound s who m (encode s m) msg space) (serveSound s who n (encode s n) msg other)
     unfolding serveSound
-    sound-agree =
+    sound-agree hw =
         either-same R (ltb (length space) minSpace) (ltb (length other) minSpace) (ap (λ (k : ℕ). ltb k minSpace) long) _ _ _ _ (as-found 2 refl)
         (λ h2. either R (ltb maxMessage (length msg)) _ _ _ _ (as-found 3 refl)
         (λ h3. either R (not (headerAllowed msg)) _ _ _ _ (as-found 4 refl)
         (λ h4. either R (not (served (kindOf msg))) _ _ _ _ (as-found 5 refl)
-        (λ h5. answers-agree (not-not (headerAllowed msg) h4) (not-not (served (kindOf msg)) h5)))))
+        (λ h5. answers-agree hw (not-not (headerAllowed msg) h4) (not-not (served (kindOf msg)) h5)))))
 
-    pub serve-agree : R (serve (encode s m) msg space) (serve (encode s n) msg other)
-    serve-agree = subst (λ (b : Served). R (serve (encode s m) msg space) b) (sym (served-encoded s hs n hn msg other)) (subst (λ (a : Served). R a (serveSound s n (encode s n) msg other)) (sym (served-encoded s hs m hm msg space)) sound-agree)
+    of-agree : T (isPeer who) → R (serveOf (encode s m) who msg space) (serveOf (encode s n) who msg other)
+    of-agree hw =
+        subst (λ (b : Served). R (serveOf (encode s m) who msg space) b) (sym (served-encoded s hs n hn who msg other))
+        (subst (λ (a : Served). R a (serveSound s who n (encode s n) msg other)) (sym (served-encoded s hs m hm who msg space)) (sound-agree hw))
+
+    pub serve-agree : R (serve (encode s m) who msg space) (serve (encode s n) who msg other)
+    unfolding serve
+    serve-agree = by-peer (isPeer who) refl
+      where
+        by-peer : (b : Bool) → isPeer who ≡ b → R (pick b (serveOf (encode s m) who msg space) (unserved 7 space (encode s m))) (pick b (serveOf (encode s n) who msg other) (unserved 7 other (encode s n)))
+        by-peer true z = of-agree (of-true z)
+        by-peer false z = as-found 7 refl

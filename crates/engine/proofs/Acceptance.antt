@@ -49,7 +49,7 @@ use Rattle.engine.proofs.Accepted.{RowsFit, GotStored, ready}
 use Rattle.engine.proofs.Granting.{rows-fit, got-stored, whole-rows}
 use Rattle.engine.proofs.NewTable.{changed-table}
 
-module _ {u : Unit} {t words ips msg slot gone plan out : List ℕ} {seid n : ℕ} (a : Accepting u t words ips msg slot gone plan out seid n) where
+module _ {u : Unit} {t : List ℕ} {who : ℕ} {words ips msg slot gone plan out : List ℕ} {seid n : ℕ} (a : Accepting u t who words ips msg slot gone plan out seid n) where
   abbrev s : Settings
   s = viewSettings t
 
@@ -62,11 +62,11 @@ module _ {u : Unit} {t words ips msg slot gone plan out : List ℕ} {seid n : �
   kept : TableKept t
   kept = table-kept t (a .asked .table)
 
-  passes : Passed s m msg
-  passes = passed s m msg (ap (λ (v : Verdict). v .cause) (a .verdict))
+  passes : Passed s who m msg
+  passes = passed s who m msg (ap (λ (v : Verdict). v .cause) (a .verdict))
 
-  rules : RulesKept s m (entrySession m msg) q
-  rules = subst (λ (r : Request). RulesKept s m (entrySession m msg) r) (a .means) (rules-kept s m (entrySession m msg) (readRequest msg) (passes .rules))
+  rules : RulesKept s m (entrySession who m msg) q
+  rules = subst (λ (r : Request). RulesKept s m (entrySession who m msg) r) (a .means) (rules-kept s m (entrySession who m msg) (readRequest msg) (passes .rules))
 
   read : RequestRead q
   read = subst RequestRead (a .means) (request-read msg (a .asked .octets))
@@ -149,8 +149,8 @@ module _ {u : Unit} {t words ips msg slot gone plan out : List ℕ} {seid n : �
     fit : RowsFit (rowsOf n plan′)
     fit = rows-fit seid (a .restoring) (a .noted) (rowsOf n plan′) only (subst RequestRead means′ (request-read msg (a .asked .octets)))
 
-    is-ready : Ready (granted s m (readRequest msg)) gone (rowsOf n plan′) (entrySession m msg)
-    is-ready = ready s m msg passes seid (a .restoring) (a .noted) (rowsOf n plan′) means′ gone (a .removed) fit only stored
+    is-ready : Ready (granted s m (readRequest msg)) gone (rowsOf n plan′) (entrySession who m msg)
+    is-ready = ready s who m msg passes seid (a .restoring) (a .noted) (rowsOf n plan′) means′ gone (a .removed) fit only stored
 
     same-seid : seid ≡ readRequest msg .seid
     unfolding requestIn
@@ -159,12 +159,12 @@ module _ {u : Unit} {t words ips msg slot gone plan out : List ℕ} {seid n : �
     same-reports : reportsAt plan′ (take k places′) ≡ reports (granted s m (readRequest msg)) (readRequest msg)
     same-reports = told .are ∙ ap (λ (r : Request). reports (granted s m r) r) (sym (a .means))
 
-    same-reply : reply s msg seid (plain why.accepted) (reportsAt plan′ (take k places′)) ≡ replyTo s m msg (verdictOn t msg)
+    same-reply : reply s who msg seid (plain why.accepted) (reportsAt plan′ (take k places′)) ≡ replyTo s who m msg (verdictOn t who msg)
     unfolding replyTo
-    same-reply = λ i. reply s msg (same-seid i) (sym (a .verdict) i) (same-reports i)
+    same-reply = λ i. reply s who msg (same-seid i) (sym (a .verdict) i) (same-reports i)
 
-    pub accepted-answers : (used : ℕ) (out′ t′ : List ℕ) → (used, out′) ≡ written (reply (settingsOf u) msg seid (plain why.accepted) (reportsAt plan′ (take k places′))) out
-        → t′ ≡ withRecord (tableArea (u .limit)) (built gone (rowsOf n plan′) slot) t → Answers t msg out used out′ t′
+    pub accepted-answers : (used : ℕ) (out′ t′ : List ℕ) → (used, out′) ≡ written (reply (settingsOf u) who msg seid (plain why.accepted) (reportsAt plan′ (take k places′))) out
+        → t′ ≡ withRecord (tableArea (u .limit)) (built gone (rowsOf n plan′) slot) t → Answers t who msg out used out′ t′
     accepted-answers used out′ t′ w′ d =
         let w = rw (a .settings) at w′ in
         record {
@@ -172,7 +172,7 @@ module _ {u : Unit} {t words ips msg slot gone plan out : List ℕ} {seid n : �
           space = ap (λ (p : ℕ × List ℕ). p .1) w ∙ ap (λ (l : List ℕ). put 0 l out) same-reply;
           table =
               d ∙ ap₂ (λ (l : ℕ) (x : List ℕ). withRecord (tableArea l) (built gone (rowsOf n plan′) slot) x) (limit-is u s (a .settings)) (sym (kept .encoded))
-              ∙ changed-table s (kept .settings) m (kept .sessions) msg (a .asked .octets) (a .asked .kind) (a .asked .named) passes (a .other) seid (a .restoring) (a .noted) gone (rowsOf n plan′) slot means′ (a .removed) (a .entry) is-ready
+              ∙ changed-table s (kept .settings) who (a .asked .peer) m (kept .sessions) msg (a .asked .octets) (a .asked .kind) (a .asked .named) passes (a .other) seid (a .restoring) (a .noted) gone (rowsOf n plan′) slot means′ (a .removed) (a .entry) is-ready
               ∙ rw (a .verdict);
         }
 

@@ -52,10 +52,10 @@ pdr-ids (q ∷ qs) = ap (λ (l : List ℕ). rowPdr q .id ∷ l) (pdr-ids qs)
 room-for : (old gone new a b most : ℕ) → a + gone ≤ old → old - gone + new ≤ most → b ≡ new → a + b ≤ most
 room-for old gone new a b most h k e = omega arith
 
-module _ (s : Settings) (m : Sessions) (msg : List ℕ) (p : Passed s m msg) (seid : ℕ) (restoring noted : Bool) (rows : List (List ℕ))
-    (means : readRequest msg ≡ requestIn seid restoring noted rows) (gone : List ℕ) (away : gone ≡ removedPdrs (readRequest msg) (entrySession m msg .pdrs)) where
+module _ (s : Settings) (who : ℕ) (m : Sessions) (msg : List ℕ) (p : Passed s who m msg) (seid : ℕ) (restoring noted : Bool) (rows : List (List ℕ))
+    (means : readRequest msg ≡ requestIn seid restoring noted rows) (gone : List ℕ) (away : gone ≡ removedPdrs (readRequest msg) (entrySession who m msg .pdrs)) where
   abbrev x : Session
-  x = entrySession m msg
+  x = entrySession who m msg
 
   abbrev r : Request
   r = requestIn seid restoring noted rows
@@ -63,8 +63,8 @@ module _ (s : Settings) (m : Sessions) (msg : List ℕ) (p : Passed s m msg) (se
   rules : RulesKept s m x r
   rules = subst (λ (q : Request). RulesKept s m x q) means (rules-kept s m x (readRequest msg) (p .rules))
 
-  room : RoomLeft (kindOf msg) s m x r
-  room = subst (λ (q : Request). RoomLeft (kindOf msg) s m x q) means (room-left (kindOf msg) s m x (readRequest msg) (p .room))
+  room : RoomLeft (kindOf msg) s who m x r
+  room = subst (λ (q : Request). RoomLeft (kindOf msg) s who m x q) means (room-left (kindOf msg) s who m x (readRequest msg) (p .room))
 
   endpoint-room : length (keep (keptEndpoint (map rowEndpointId (tagged ie.removeEndpoint rows))) (x .endpoints)) + length (tagged ie.createEndpoint rows) ≤ 8
   unfolding keptEndpoint requestIn

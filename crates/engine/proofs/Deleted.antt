@@ -10,7 +10,7 @@ use lib.Dec.{T, eqb, leb→le}
 use lib.ListN.{length}
 use Rattle.octets.specs.Octets.{put}
 use Rattle.rules.specs.Limits.{maxPdrs, maxEndpoints}
-use Rattle.rules.specs.Model.{Settings, Sessions}
+use Rattle.rules.specs.Model.{Settings, Sessions, keyFor}
 use Rattle.rules.specs.Layout.{viewSettings, viewSessions}
 use Rattle.rules.specs.Message.{kindOf, headerSeid, frameFault, establishment, deletion}
 use Rattle.rules.specs.Reading.{readFault, readRequest}
@@ -19,6 +19,8 @@ use Rattle.rules.specs.Grants.{granted}
 use Rattle.rules.specs.Reply.{noReports, reply}
 use Rattle.rules.specs.Serve.{replyTo}
 use Rattle.rules.specs.Causes as why
+use Rattle.laws.proofs.PeerLaws.{peers-kept}
+use Rattle.areas.specs.Records.{pairKey}
 use Rattle.invariants.proofs.ServeLaws.{TableKept, table-kept}
 use Rattle.invariants.proofs.VerdictLaws.{passed}
 use Rattle.invariants.proofs.Changed.{entry-known}
@@ -39,7 +41,7 @@ use Rattle.engine.proofs.VerdictSteps.{read-through}
 use Rattle.engine.proofs.Deleting.{deletion-fine, deletion-empty, no-reports, accepted-empty}
 use Rattle.engine.proofs.NewTable.{deleted-table}
 
-module _ (t msg out : List ℕ) (a : Asked t msg out) (live : Live t msg) (fr : frameFault msg ≡ none) where
+module _ (t : List ℕ) (who : ℕ) (msg out : List ℕ) (a : Asked t who msg out) (live : Live t who msg) (fr : frameFault msg ≡ none) where
   abbrev s : Settings
   s = viewSettings t
 
@@ -49,35 +51,36 @@ module _ (t msg out : List ℕ) (a : Asked t msg out) (live : Live t msg) (fr : 
   kept : TableKept t
   kept = table-kept t (a .table)
 
-  known : T (not (unknownSession m msg))
+  known : T (not (unknownSession who m msg))
   known = subst (λ (b : Bool). T (not b)) (sym live) tt
 
   module _ (del : kindOf msg ≡ deletion) where
     rd : readFault msg ≡ none
     rd = deletion-fine msg del
 
-    accepts : verdictOn t msg ≡ plain why.accepted
+    accepts : verdictOn t who msg ≡ plain why.accepted
     unfolding judged
     accepts =
-        let k = entry-known s m msg (kept .sessions) (a .octets) (subst (λ (b : Bool). T (not b)) (sym (a .named)) tt) known rd .kept in
-        read-through s m msg live fr rd
-        ∙ accepted-empty s m (entrySession m msg) (readRequest msg) (deletion-empty msg del) (kindOf msg) (ap (λ (n : ℕ). eqb n establishment) del)
-        (leb→le (length (entrySession m msg .pdrs)) maxPdrs (k .fewPdrs)) (leb→le (length (entrySession m msg .endpoints)) maxEndpoints (k .fewEndpoints))
+        let k = entry-known s who m msg (a .peer) (kept .sessions) (a .octets) (subst (λ (b : Bool). T (not b)) (sym (a .named)) tt) known rd .kept in
+        read-through s who m msg live fr rd
+        ∙ accepted-empty s m (entrySession who m msg) (readRequest msg) (deletion-empty msg del) who (a .peer) (peers-kept s m (kept .sessions)) (kindOf msg) (ap (λ (n : ℕ). eqb n establishment) del)
+        (leb→le (length (entrySession who m msg .pdrs)) maxPdrs (k .fewPdrs)) (leb→le (length (entrySession who m msg .endpoints)) maxEndpoints (k .fewEndpoints))
 
-    same-reply : reply s msg 0 (plain why.accepted) noReports ≡ replyTo s m msg (verdictOn t msg)
+    same-reply : reply s who msg 0 (plain why.accepted) noReports ≡ replyTo s who m msg (verdictOn t who msg)
     unfolding replyTo
     same-reply =
         let e = deletion-empty msg del in
-        λ i. reply s msg (sym (e .seid) i) (sym accepts i) (sym (no-reports s m (entrySession m msg) (readRequest msg) e (granted s m (readRequest msg))) i)
+        λ i. reply s who msg (sym (e .seid) i) (sym accepts i) (sym (no-reports s m (entrySession who m msg) (readRequest msg) e (granted s m (readRequest msg))) i)
 
-    pub deleted-answers : (seid used : ℕ) (out′ t′ : List ℕ) → seid ≡ headerSeid msg → (used, out′) ≡ written (reply s msg 0 (plain why.accepted) noReports) out → t′ ≡ withoutRecord (tableArea (s .limit)) seid t
-        → Answers t msg out used out′ t′
+    pub deleted-answers : (seid used : ℕ) (out′ t′ : List ℕ) → seid ≡ headerSeid msg → (used, out′) ≡ written (reply s who msg 0 (plain why.accepted) noReports) out → t′ ≡ withoutRecord (tableArea (s .limit)) (pairKey who seid) t
+        → Answers t who msg out used out′ t′
+    unfolding keyFor
     deleted-answers seid used out′ t′ es w d =
         record {
           long = ap (λ (p : ℕ × List ℕ). p .0) w ∙ ap length same-reply;
           space = ap (λ (p : ℕ × List ℕ). p .1) w ∙ ap (λ (l : List ℕ). put 0 l out) same-reply;
-          table = d ∙ ap₂ (λ (n : ℕ) (l : List ℕ). withoutRecord (tableArea (s .limit)) n l) es (sym (kept .encoded))
-              ∙ deleted-table s (kept .settings) m (kept .sessions) msg (a .octets) (a .kind) (a .named) (passed s m msg (ap (λ (v : Verdict). v .cause) accepts)) (eq-eqb (kindOf msg) deletion del)
+          table = d ∙ ap₂ (λ (n : ℕ) (l : List ℕ). withoutRecord (tableArea (s .limit)) (pairKey who n) l) es (sym (kept .encoded))
+              ∙ deleted-table s (kept .settings) who (a .peer) m (kept .sessions) msg (a .octets) (a .kind) (a .named) (passed s who m msg (ap (λ (v : Verdict). v .cause) accepts)) (eq-eqb (kindOf msg) deletion del)
               ∙ rw accepts;
         }
 
@@ -87,9 +90,9 @@ unfolding reportsOf keep
 nothing-told = refl
 
 -- from what the code's readers answer
-pub deleted-through : (u : Unit) (t msg out : List ℕ) (f : Framing) (seid used : ℕ) (out′ t′ : List ℕ) → Asked t msg out → Live t msg → kindOf msg ≡ deletion → seid ≡ headerSeid msg → settingsOf u ≡ viewSettings t
+pub deleted-through : (u : Unit) (t : List ℕ) (who : ℕ) (msg out : List ℕ) (f : Framing) (seid used : ℕ) (out′ t′ : List ℕ) → Asked t who msg out → Live t who msg → kindOf msg ≡ deletion → seid ≡ headerSeid msg → settingsOf u ≡ viewSettings t
     → framingFault f ≡ frameFault msg → f ≡ framings.Framed
-    → (used, out′) ≡ written (reply (settingsOf u) msg 0 (plain why.accepted) (allReports [])) out → t′ ≡ withoutRecord (tableArea (u .limit)) seid t → Replies t msg out used 0 out′ t′
-deleted-through u t msg out f seid used out′ t′ a live del es is fe fq w d =
-    let fr = framed t msg out live f fe fq in
-    record { answers = deleted-answers t msg out a live fr del seid used out′ t′ es (rw (is, nothing-told) at w) (d ∙ ap (λ (n : ℕ). withoutRecord (tableArea n) seid t) (limit-is u (viewSettings t) is)); placed = sym (ap (λ (x : Verdict). x .place) (accepts t msg out a live fr del)) }
+    → (used, out′) ≡ written (reply (settingsOf u) who msg 0 (plain why.accepted) (allReports [])) out → t′ ≡ withoutRecord (tableArea (u .limit)) (pairKey who seid) t → Replies t who msg out used 0 out′ t′
+deleted-through u t who msg out f seid used out′ t′ a live del es is fe fq w d =
+    let fr = framed t who msg out live f fe fq in
+    record { answers = deleted-answers t who msg out a live fr del seid used out′ t′ es (rw (is, nothing-told) at w) (d ∙ ap (λ (n : ℕ). withoutRecord (tableArea n) (pairKey who seid) t) (limit-is u (viewSettings t) is)); placed = sym (ap (λ (x : Verdict). x .place) (accepts t who msg out a live fr del)) }

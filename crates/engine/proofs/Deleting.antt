@@ -2,26 +2,28 @@
 -- be short.
 -- Assumes nothing.
 use mathlib.Core.Path.{_≡_, refl, ap}
-use mathlib.Core.Bool.{Bool, true, false, not, _&&_, _||_}
+use mathlib.Core.Bool.{Bool, false, not}
 use mathlib.Core.Option.{none}
 use mathlib.Core.List.{List, [], _∷_}
 use Prim.Native.Nat.{ℕ, _+_, _-_, _≤_}
 use native.Mathlib.Omega.{arith}
 use borrow.Author.Tests.{le-ltb}
-use lib.Dec.{eqb, ltb}
+use lib.Dec.{T, eqb}
 use lib.ListN.{length}
-use Rattle.octets.specs.Choice.{pick}
-use Rattle.octets.specs.Lists.{member, any, keep, collect, anyIn, allIn, hasRepeat, allPairs}
+use Rattle.octets.specs.Lists.{distinct, member, any, keep, collect, anyIn, allIn, hasRepeat, allPairs}
 use Rattle.rules.specs.Limits.{maxPdrs, maxEndpoints}
-use Rattle.rules.specs.Model.{Settings, Session, Sessions, freeCount}
+use Rattle.rules.specs.Model.{Settings, Session, Sessions, isPeer}
 use Rattle.rules.specs.Elements.{Fqcsid}
 use Rattle.rules.specs.Message.{Element, kindOf, headerLength, body, elements, actedOn, establishment, deletion}
 use Rattle.rules.specs.Reading.{done, elementRead, elementsRead, finished, aloneIn, sessionRead, topRead, read, faultIn, readFault, askedIn, readRequest}
 use Rattle.rules.specs.Request.{Request, Draft, emptyDraft, requestFrom, listing}
 use Rattle.rules.specs.Grants.{Kind, Got, choices, needFrom, need}
-use Rattle.rules.specs.Reply.{Reports, noReports, reports}
-use Rattle.rules.specs.Stages.{plain, fteidsOf, addressesOf, restoredAddresses, addressClash, addressLacks, invalidAllocation, createdPdrs, createdEndpoints, updatedPdrs, idTwice, createdLive, absentId, removedPdrs, updatesRemoved, namesAbsent, restoredHoldings, clash, requestRules, brokenRules, breaksRule, tooManySessions, tooManyPdrs, tooManyEndpoints, tooFewTeids, roomLacks, judge}
+use Rattle.rules.specs.Reply.{noReports, reports}
+use Rattle.rules.specs.Stages.{plain, fteidsOf, addressesOf, restoredAddresses, addressClash, addressLacks, invalidAllocation, createdPdrs, createdEndpoints, updatedPdrs, idTwice, createdLive, absentId, removedPdrs, updatesRemoved, namesAbsent, restoredHoldings, clash, requestRules, brokenRules, breaksRule, tooManySessions, tooManyPdrs, tooManyEndpoints, needed, tooFewTeids, roomLacks, judge}
 use Rattle.rules.specs.Causes as why
+use Rattle.octets.proofs.Tests.{is-false}
+use Rattle.laws.proofs.PeerLaws.{PeersKept}
+use Rattle.invariants.proofs.PeersAfter.{nothing-needed}
 
 -- a request without records
 pub record Empty (r : Request) : Type 0 where
@@ -79,9 +81,9 @@ module _ (s : Settings) (m : Sessions) (x : Session) (r : Request) (e : Empty r)
   unfolding breaksRule requestRules brokenRules idTwice createdLive absentId updatesRemoved namesAbsent clash addressClash restoredAddresses createdPdrs createdEndpoints updatedPdrs hasRepeat anyIn allIn any allPairs keep collect
   kept = rw (no-fteids, no-addresses, no-holdings, e .pdrs, e .endpoints, e .changes, e .gonePdrs, e .goneEndpoints)
 
-  needs-none : need r ≡ 0
-  unfolding need needFrom choices collect
-  needs-none = rw (e .endpoints, e .pdrs)
+  needs-none : needed r ≡ 0
+  unfolding needed need needFrom choices collect distinct
+  needs-none = rw (no-holdings, e .endpoints, e .pdrs)
 
   addressed : addressLacks s m r ≡ false
   unfolding addressLacks any
@@ -99,12 +101,12 @@ module _ (s : Settings) (m : Sessions) (x : Session) (r : Request) (e : Empty r)
   unfolding tooManyEndpoints
   few-endpoints b = let n = ap length (e .endpoints) in le-ltb maxEndpoints (length (x .endpoints) - length (r .goneEndpoints) + length (r .endpoints)) (omega arith)
 
-  room : (kind : ℕ) → eqb kind establishment ≡ false → length (x .pdrs) ≤ 16 → length (x .endpoints) ≤ 8 → roomLacks kind s m x r ≡ false
-  unfolding roomLacks tooManySessions tooFewTeids
-  room kind k a b =
-      let f : ltb (freeCount s m) 0 ≡ false = le-ltb (freeCount s m) 0 (omega arith) in
-      rw (needs-none, f, k, few-pdrs a, few-endpoints b)
+  -- of either peer, on a table that is not broken
+  module _ (who : ℕ) (known : T (isPeer who)) (peers : PeersKept s m) where
+    room : (kind : ℕ) → eqb kind establishment ≡ false → length (x .pdrs) ≤ 16 → length (x .endpoints) ≤ 8 → roomLacks kind s who m x r ≡ false
+    unfolding roomLacks tooManySessions
+    room kind k a b = rw (is-false (tooFewTeids s who m r) (nothing-needed s who m r known peers needs-none), k, few-pdrs a, few-endpoints b)
 
-  pub accepted-empty : (kind : ℕ) → eqb kind establishment ≡ false → length (x .pdrs) ≤ 16 → length (x .endpoints) ≤ 8 → judge kind s m x r ≡ plain why.accepted
-  unfolding judge
-  accepted-empty kind k a b = rw (kept, room kind k a b, addressed, allocated, k, e .unsupported)
+    pub accepted-empty : (kind : ℕ) → eqb kind establishment ≡ false → length (x .pdrs) ≤ 16 → length (x .endpoints) ≤ 8 → judge kind s who m x r ≡ plain why.accepted
+    unfolding judge
+    accepted-empty kind k a b = rw (kept, room kind k a b, addressed, allocated, k, e .unsupported)

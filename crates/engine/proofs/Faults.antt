@@ -31,32 +31,32 @@ small-cause tooShort = (omega arith, λ e. omega arith)
 small-cause incorrect = (omega arith, λ e. omega arith)
 
 -- the verdict of a fault: what refusing asks, and its place
-pub record Faulted (t msg out : List ℕ) (c k p : ℕ) : Type 0 where
-  pub refusing : Refusing t msg out c (Element k)
-  pub placed : p ≡ verdictOn t msg .place
+pub record Faulted (t : List ℕ) (who : ℕ) (msg out : List ℕ) (c k p : ℕ) : Type 0 where
+  pub refusing : Refusing t who msg out c (Element k)
+  pub placed : p ≡ verdictOn t who msg .place
 
 -- the reply and the place
-pub replies-fault : {t msg out : List ℕ} {c k p used : ℕ} {out′ : List ℕ} → Faulted t msg out c k p → Answers t msg out used out′ t → Replies t msg out used p out′ t
+pub replies-fault : {t : List ℕ} {who : ℕ} {msg out : List ℕ} {c k p used : ℕ} {out′ : List ℕ} → Faulted t who msg out c k p → Answers t who msg out used out′ t → Replies t who msg out used p out′ t
 replies-fault f a = record { answers = a; placed = f .placed }
 
-module _ (t msg out : List ℕ) (live : Live t msg) where
-  faulted : (c k p : ℕ) → verdictOn t msg ≡ record { cause = c; offending = some k; place = p } → c < 256 → (c ≡ 1 → ⊥) → Faulted t msg out c k p
+module _ (t : List ℕ) (who : ℕ) (msg out : List ℕ) (live : Live t who msg) where
+  faulted : (c k p : ℕ) → verdictOn t who msg ≡ record { cause = c; offending = some k; place = p } → c < 256 → (c ≡ 1 → ⊥) → Faulted t who msg out c k p
   faulted c k p e small other =
       record { refusing = record { place = p; verdict = e; small = small; other = other }; placed = sym (ap (λ (v : rules.Verdict). v .place) e) }
 
   -- stage 2
-  pub not-framed-refuses : (f : Spot) → frameFault msg ≡ some f → Faulted t msg out why.wrongLength (f .type) (f .place)
-  not-framed-refuses f e = faulted why.wrongLength (f .type) (f .place) (not-framed (viewSettings t) (viewSessions t) msg live f e) (omega arith) (λ z. omega arith)
+  pub not-framed-refuses : (f : Spot) → frameFault msg ≡ some f → Faulted t who msg out why.wrongLength (f .type) (f .place)
+  not-framed-refuses f e = faulted why.wrongLength (f .type) (f .place) (not-framed (viewSettings t) who (viewSessions t) msg live f e) (omega arith) (λ z. omega arith)
 
   -- stage 3
-  pub not-read-refuses : frameFault msg ≡ none → (x : Fault) → read msg ≡ faulty x → (c k p : ℕ) → causeOf (x .cause) ≡ c → x .type ≡ k → x .place ≡ p → Faulted t msg out c k p
+  pub not-read-refuses : frameFault msg ≡ none → (x : Fault) → read msg ≡ faulty x → (c k p : ℕ) → causeOf (x .cause) ≡ c → x .type ≡ k → x .place ≡ p → Faulted t who msg out c k p
   unfolding readFault faultIn
   not-read-refuses fr x e c k p ec ek ep =
       let s = small-cause (x .cause) in
-      faulted c k p (not-read (viewSettings t) (viewSessions t) msg live fr x (ap faultIn e) ∙ (λ i. record { cause = ec i; offending = some (ek i); place = ep i }))
+      faulted c k p (not-read (viewSettings t) who (viewSessions t) msg live fr x (ap faultIn e) ∙ (λ i. record { cause = ec i; offending = some (ek i); place = ep i }))
       (rw ec at (s .0)) (λ z. s .1 (ec ∙ z))
 
-  pub frame-refuses : (f : Framing) (k p : ℕ) → frame.framingFault f ≡ frameFault msg → f ≡ framings.Fault k p → Faulted t msg out why.wrongLength k p
+  pub frame-refuses : (f : Framing) (k p : ℕ) → frame.framingFault f ≡ frameFault msg → f ≡ framings.Fault k p → Faulted t who msg out why.wrongLength k p
   frame-refuses f k p e q = not-framed-refuses (spot k p) (sym e ∙ ap frame.framingFault q)
 
   pub framed : (f : Framing) → frame.framingFault f ≡ frameFault msg → f ≡ framings.Framed → frameFault msg ≡ none
@@ -71,10 +71,10 @@ module _ (t msg out : List ℕ) (live : Live t msg) where
       go (faulty x) g = absurd (let z : _≡_ {A = ℕ} 0 1 = cc in omega arith)
 
   -- stage 3 after stage 2
-  pub then-refuses : (f : Framing) (v : Verdict) (c k p : ℕ) → frame.framingFault f ≡ frameFault msg → f ≡ framings.Framed → outcome v (readRequest msg) ≡ numbered (read msg) → v ≡ Refused c k p → Faulted t msg out c k p
+  pub then-refuses : (f : Framing) (v : Verdict) (c k p : ℕ) → frame.framingFault f ≡ frameFault msg → f ≡ framings.Framed → outcome v (readRequest msg) ≡ numbered (read msg) → v ≡ Refused c k p → Faulted t who msg out c k p
   then-refuses f v c k p fe fq e q = go (read msg) refl (sym e ∙ ap (λ (w : Verdict). outcome w (readRequest msg)) q)
     where
-      go : (o : Reading Request) → read msg ≡ o → numbered o ≡ stopped c k p → Faulted t msg out c k p
+      go : (o : Reading Request) → read msg ≡ o → numbered o ≡ stopped c k p → Faulted t who msg out c k p
       go (done q) r g = absurd (let z : _≡_ {A = ℕ} 0 1 = cc in omega arith)
       go (faulty x) r g =
           let ec : causeOf (x .cause) ≡ c = cc in
@@ -83,15 +83,15 @@ module _ (t msg out : List ℕ) (live : Live t msg) where
           not-read-refuses (framed f fe fq) x r c k p ec ek ep
 
   -- what the code asks of `refuse`, and what it replies then
-  pub frame-asks : (f : Framing) (k p : ℕ) → frame.framingFault f ≡ frameFault msg → f ≡ framings.Fault k p → Refusing t msg out why.wrongLength (Element k)
+  pub frame-asks : (f : Framing) (k p : ℕ) → frame.framingFault f ≡ frameFault msg → f ≡ framings.Fault k p → Refusing t who msg out why.wrongLength (Element k)
   frame-asks f k p e q = frame-refuses f k p e q .refusing
 
-  pub frame-replies : (f : Framing) (k p used : ℕ) (out′ : List ℕ) → frame.framingFault f ≡ frameFault msg → f ≡ framings.Fault k p → Answers t msg out used out′ t → Replies t msg out used p out′ t
+  pub frame-replies : (f : Framing) (k p used : ℕ) (out′ : List ℕ) → frame.framingFault f ≡ frameFault msg → f ≡ framings.Fault k p → Answers t who msg out used out′ t → Replies t who msg out used p out′ t
   frame-replies f k p used out′ e q a′ = replies-fault (frame-refuses f k p e q) a′
 
-  pub then-asks : (f : Framing) (v : Verdict) (c k p : ℕ) → frame.framingFault f ≡ frameFault msg → f ≡ framings.Framed → outcome v (readRequest msg) ≡ numbered (read msg) → v ≡ Refused c k p → Refusing t msg out c (Element k)
+  pub then-asks : (f : Framing) (v : Verdict) (c k p : ℕ) → frame.framingFault f ≡ frameFault msg → f ≡ framings.Framed → outcome v (readRequest msg) ≡ numbered (read msg) → v ≡ Refused c k p → Refusing t who msg out c (Element k)
   then-asks f v c k p fe fq e q = then-refuses f v c k p fe fq e q .refusing
 
   pub then-replies : (f : Framing) (v : Verdict) (c k p used : ℕ) (out′ : List ℕ) → frame.framingFault f ≡ frameFault msg → f ≡ framings.Framed → outcome v (readRequest msg) ≡ numbered (read msg) → v ≡ Refused c k p
-      → Answers t msg out used out′ t → Replies t msg out used p out′ t
+      → Answers t who msg out used out′ t → Replies t who msg out used p out′ t
   then-replies f v c k p used out′ fe fq e q a′ = replies-fault (then-refuses f v c k p fe fq e q) a′

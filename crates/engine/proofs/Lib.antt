@@ -12,4 +12,5 @@ pub mod Entering
 pub mod Settling
 pub mod Changing
 pub mod Answering
+pub mod Sharing
 pub mod Serving

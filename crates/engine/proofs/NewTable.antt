@@ -11,7 +11,7 @@ use Rattle.octets.specs.Octets.{octets}
 use Rattle.octets.specs.Lists.{all}
 use Rattle.octets.proofs.Tests.{both, all-head, all-tail, all-cons}
 use Rattle.rules.specs.Limits.{maxPdrs, maxEndpoints, nodeTypes}
-use Rattle.rules.specs.Model.{Settings, Session, Sessions, Pdr, Endpoint, Csid, endpointId}
+use Rattle.rules.specs.Model.{Settings, Session, Sessions, Pdr, Endpoint, Csid, endpointId, isPeer, keyFor}
 use Rattle.rules.specs.Elements.{nodeTypeKept}
 use Rattle.rules.specs.Layout.{sessionOctets, encode}
 use Rattle.rules.specs.Sound.{settingsAllowed, sessionAllowed, sessionsAllowed, pdrAllowed, endpointAllowed, csidAllowed}
@@ -24,7 +24,8 @@ use Rattle.rules.specs.Apply.{apply, putSession, follow}
 use Rattle.rules.specs.Serve.{sessionsAfter}
 use Rattle.laws.proofs.LayoutLaws.{csid-address-length, address-short}
 use Rattle.invariants.proofs.VerdictLaws.{Passed}
-use Rattle.invariants.proofs.KeptRules.{SessionKept, pdr-kept, endpoint-kept, csid-kept, sessions-kept}
+use Rattle.laws.proofs.PeerLaws.{all-sessions}
+use Rattle.invariants.proofs.KeptRules.{SessionKept, pdr-kept, endpoint-kept, csid-kept}
 use Rattle.invariants.proofs.Changed.{entry-sound, changed-sound}
 use Rattle.invariants.proofs.After.{changed, ChangedSound, sound-after}
 use Rattle.invariants.proofs.Accepting.{SoundAfter}
@@ -74,12 +75,12 @@ slot-holds s x slot k e =
       csidsUp = k .csidOrder;
     }
 
-module _ (s : Settings) (hs : T (settingsAllowed s)) (m : Sessions) (hm : T (sessionsAllowed s m)) (msg : List ℕ) (ho : T (octets msg)) (hk : T (served (kindOf msg)))
-    (ns : eqb (kindOf msg) setDeletion ≡ false) (p : Passed s m msg) where
+module _ (s : Settings) (hs : T (settingsAllowed s)) (who : ℕ) (hw : T (isPeer who)) (m : Sessions) (hm : T (sessionsAllowed s m)) (msg : List ℕ) (ho : T (octets msg)) (hk : T (served (kindOf msg)))
+    (ns : eqb (kindOf msg) setDeletion ≡ false) (p : Passed s who m msg) where
   -- a deletion
-  pub deleted-table : eqb (kindOf msg) deletion ≡ true → withoutRecord (tableArea (s .limit)) (headerSeid msg) (encode s m) ≡ encode s (sessionsAfter s m msg)
+  pub deleted-table : eqb (kindOf msg) deletion ≡ true → withoutRecord (tableArea (s .limit)) (keyFor who (headerSeid msg)) (encode s m) ≡ encode s (sessionsAfter s who m msg)
   unfolding sessionsAfter follow
-  deleted-table e = session-removed s hs m hm (headerSeid msg) ∙ ap (encode s) (rw (ns, e))
+  deleted-table e = session-removed s hs m hm (keyFor who (headerSeid msg)) ∙ ap (encode s) (rw (ns, e))
 
   -- an establishment or a modification
   module _ (other : eqb (kindOf msg) deletion ≡ false) where
@@ -93,27 +94,26 @@ module _ (s : Settings) (hs : T (settingsAllowed s)) (m : Sessions) (hm : T (ses
     got = granted s m (readRequest msg)
 
     abbrev new : Session
-    new = apply got (readRequest msg) (entrySession m msg)
+    new = apply got (readRequest msg) (entrySession who m msg)
 
-    after-is : sessionsAfter s m msg ≡ putSession new m
+    after-is : sessionsAfter s who m msg ≡ putSession new m
     unfolding sessionsAfter follow entrySession
     after-is = rw (ns, other)
 
     new-allowed : T (sessionAllowed s new)
     unfolding changed ChangedSound
-    new-allowed = changed-sound s m msg hs hm ho hk not-sets not-deletion p .sound
+    new-allowed = changed-sound s who m msg hw hs hm ho hk not-sets not-deletion p .sound
 
     few-after : length (putSession new m) ≤ s .limit
     unfolding SoundAfter
     few-after =
-        leb→le (length (putSession new m)) (s .limit)
-        (subst (λ (n : Sessions). T (leb (length n) (s .limit))) after-is (sessions-kept s (sessionsAfter s m msg) (sound-after changed-sound s m msg hs hm ho hk p) .few))
+        subst (λ (n : Sessions). length n ≤ s .limit) after-is (all-sessions s (sessionsAfter s who m msg) (sound-after changed-sound s who m msg hw hs hm ho hk p))
 
     pub changed-table : (seid : ℕ) (restoring noted : Bool) (gone : List ℕ) (rows : List (List ℕ)) (slot : List ℕ) → readRequest msg ≡ requestIn seid restoring noted rows
-        → gone ≡ removedPdrs (readRequest msg) (entrySession m msg .pdrs) → slot ≡ sessionOctets (entrySession m msg)
-        → Ready got gone rows (entrySession m msg) → withRecord (tableArea (s .limit)) (built gone rows slot) (encode s m) ≡ encode s (sessionsAfter s m msg)
+        → gone ≡ removedPdrs (readRequest msg) (entrySession who m msg .pdrs) → slot ≡ sessionOctets (entrySession who m msg)
+        → Ready got gone rows (entrySession who m msg) → withRecord (tableArea (s .limit)) (built gone rows slot) (encode s m) ≡ encode s (sessionsAfter s who m msg)
     changed-table seid restoring noted gone rows slot means g e ready =
-        let holds = slot-holds s (entrySession m msg) slot (entry-sound s m msg hm ho not-sets p .kept) e in
-        let g′ : gone ≡ removedPdrs (requestIn seid restoring noted rows) (entrySession m msg .pdrs) = g ∙ ap (λ (q : Request). removedPdrs q (entrySession m msg .pdrs)) means in
-        let b : built gone rows slot ≡ sessionOctets new = built-session got gone rows holds ready seid restoring noted g′ .octets ∙ ap (λ (q : Request). sessionOctets (apply got q (entrySession m msg))) (sym means) in
+        let holds = slot-holds s (entrySession who m msg) slot (entry-sound s who m msg hw hm ho not-sets p .kept) e in
+        let g′ : gone ≡ removedPdrs (requestIn seid restoring noted rows) (entrySession who m msg .pdrs) = g ∙ ap (λ (q : Request). removedPdrs q (entrySession who m msg .pdrs)) means in
+        let b : built gone rows slot ≡ sessionOctets new = built-session got gone rows holds ready seid restoring noted g′ .octets ∙ ap (λ (q : Request). sessionOctets (apply got q (entrySession who m msg))) (sym means) in
         ap (λ (l : List ℕ). withRecord (tableArea (s .limit)) l (encode s m)) b ∙ session-saved s hs m hm new new-allowed few-after ∙ ap (encode s) (sym after-is)

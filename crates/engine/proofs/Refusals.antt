@@ -19,17 +19,17 @@ use Rattle.reply.specs.Naming.{refusal}
 use Rattle.reply.proofs.CallerLaws.{refusal-alone}
 use Rattle.engine.specs.Answers.{verdictOn, placedAt, Answers, Refusing}
 
-module _ (t msg out : List ℕ) where
+module _ (t : List ℕ) (who : ℕ) (msg out : List ℕ) where
   -- the reply of a refusal, whatever was read
-  alone : (c : ℕ) (o : Offending) (p : ℕ) → (c ≡ 1 → ⊥) → verdictOn t msg ≡ placedAt p (refusal c o) → reply (viewSettings t) msg 0 (refusal c o) noReports ≡ replyTo (viewSettings t) (viewSessions t) msg (verdictOn t msg)
+  alone : (c : ℕ) (o : Offending) (p : ℕ) → (c ≡ 1 → ⊥) → verdictOn t who msg ≡ placedAt p (refusal c o) → reply (viewSettings t) who msg 0 (refusal c o) noReports ≡ replyTo (viewSettings t) who (viewSessions t) msg (verdictOn t who msg)
   unfolding replyTo reply replyBody
   alone c o p h e =
-      refusal-alone (viewSettings t) msg 0 (readRequest msg .seid) (refusal c o) noReports (reports (granted (viewSettings t) (viewSessions t) (readRequest msg)) (readRequest msg)) h
-      ∙ ap (λ (v : Verdict). reply (viewSettings t) msg (readRequest msg .seid) v (reports (granted (viewSettings t) (viewSessions t) (readRequest msg)) (readRequest msg))) (sym e)
+      refusal-alone (viewSettings t) who msg 0 (readRequest msg .seid) (refusal c o) noReports (reports (granted (viewSettings t) (viewSessions t) (readRequest msg)) (readRequest msg)) h
+      ∙ ap (λ (v : Verdict). reply (viewSettings t) who msg (readRequest msg .seid) v (reports (granted (viewSettings t) (viewSessions t) (readRequest msg)) (readRequest msg))) (sym e)
 
-  pub refused-answers : (s : Settings) (c : ℕ) (o : Offending) (used : ℕ) (out′ : List ℕ) → Refusing t msg out c o → s ≡ viewSettings t → (used, out′) ≡ written (reply s msg 0 (refusal c o) noReports) out → Answers t msg out used out′ t
+  pub refused-answers : (s : Settings) (c : ℕ) (o : Offending) (used : ℕ) (out′ : List ℕ) → Refusing t who msg out c o → s ≡ viewSettings t → (used, out′) ≡ written (reply s who msg 0 (refusal c o) noReports) out → Answers t who msg out used out′ t
   refused-answers s c o used out′ k is w′ =
-      let w : (used, out′) ≡ written (reply (viewSettings t) msg 0 (refusal c o) noReports) out = rw is at w′ in
+      let w : (used, out′) ≡ written (reply (viewSettings t) who msg 0 (refusal c o) noReports) out = rw is at w′ in
       let e = k .verdict in
       let h = k .other in
       let same = alone c o (k .place) h e in

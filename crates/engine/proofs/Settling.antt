@@ -9,7 +9,7 @@ use lib.Dec.{T, eqb, leb→le}
 use Rattle.octets.specs.Choice.{pick}
 use Rattle.octets.proofs.Tests.{each}
 use Rattle.rules.specs.Limits.{maxPool, maxAddresses}
-use Rattle.rules.specs.Model.{Settings, Session, Sessions, heldTeids, heldAddresses}
+use Rattle.rules.specs.Model.{Settings, Session, Sessions, heldTeids, heldAddresses, keyFor}
 use Rattle.rules.specs.Layout.{viewSession, viewSettings, viewSessions}
 use Rattle.rules.specs.Sound.{poolTests, addressPoolTests, settingsTests, settingsAllowed}
 use Rattle.rules.specs.Message.{establishment}
@@ -26,6 +26,7 @@ use Rattle.unit.specs.declared.Settings.{Settings as Unit}
 use Rattle.unit.specs.Meaning.{settingsOf}
 use Rattle.reply.specs.declared.Offending.the-variants.{Nothing}
 use Rattle.stages.specs.Rules.{Gone, AtEntry}
+use Rattle.stages.specs.declared.Share.{Share}
 use Rattle.stages.proofs.SlotLaws.{removed-rows}
 use Rattle.stages.proofs.EntryLaws.{at-entry}
 use Rattle.stages.proofs.VerdictLaws.{judge-plain}
@@ -33,9 +34,9 @@ use Rattle.engine.specs.Answers.{verdictOn, Refusing, Accepting}
 use Rattle.engine.specs.Steps.{Counted, Entered, Readable}
 
 -- a cause is one octet
-judge-small : (kind : ℕ) (s : Settings) (m : Sessions) (x : Session) (r : Request) → judge kind s m x r .cause < 256
+judge-small : (kind : ℕ) (s : Settings) (who : ℕ) (m : Sessions) (x : Session) (r : Request) → judge kind s who m x r .cause < 256
 unfolding judge
-judge-small kind s m x r = one (eqb kind establishment && isLive (r .seid) m) (invalidAllocation r) (r .unsupported) (breaksRule s m x r) (roomLacks kind s m x r) (addressLacks s m r)
+judge-small kind s who m x r = one (eqb kind establishment && isLive (keyFor who (r .seid)) m) (invalidAllocation r) (r .unsupported) (breaksRule s m x r) (roomLacks kind s who m x r) (addressLacks s m r)
   where
     one : (a b c d e f : Bool)
         → pick a (plain why.rejected) (pick b (plain why.wrongAllocation) (pick c (plain why.notSupported) (pick d (plain why.brokenRule) (pick e (plain why.noRoom) (pick f (plain why.noAddress) (plain why.accepted)))))) .cause < 256
@@ -75,7 +76,11 @@ addresses-below s h =
     let last = leb→le (s .firstAddress + s .addressCount) (2 ^ 32) (pool .1 .1 .0) in
     omega arith
 
-module _ {u : Unit} {t msg out plan words ips slot gone : List ℕ} {kind seid n free left : ℕ} {restoring noted live : Bool} (r : Readable t msg out plan kind seid n restoring noted) (k : Counted u t words free ips left) (e : Entered t msg kind seid live slot) (g : Gone slot (rowsOf n plan) gone) where
+module _ {u : Unit} {t msg out plan words ips slot gone : List ℕ} {share : Share} {kind seid n left : ℕ} {restoring noted live : Bool} (r : Readable t (share .peer) msg out plan kind seid n restoring noted)
+    (k : Counted u t words share ips left) (e : Entered t (share .peer) msg kind seid live slot) (g : Gone slot (rowsOf n plan) gone) where
+  abbrev who : ℕ
+  who = share .peer
+
   kept : TableKept t
   kept = table-kept t (r .asked .table)
 
@@ -90,37 +95,37 @@ module _ {u : Unit} {t msg out plan words ips slot gone : List ℕ} {kind seid n
       (address-map-means (viewSettings t) (viewSessions t) (kept .settings))
 
   -- what stages 4 to 6 ask
-  pub entry-asks : AtEntry (settingsOf u) t words ips slot gone plan n free left kind seid live
+  pub entry-asks : AtEntry (settingsOf u) t words ips slot gone plan n (share .peer) (share .teids) (share .sessions) left kind seid live
   entry-asks =
-      at-entry (settingsOf u) t words ips slot gone plan n free left kind seid live (k .settings) (r .asked .table) (e .place) (r .rows) g (k .long) marked-held (k .count)
+      at-entry (settingsOf u) t words ips slot gone plan n (share .peer) (share .teids) (share .sessions) left kind seid live (k .settings) (r .asked .table) (e .place) (r .rows) g (k .long) marked-held (k .own)
       (k .addressLong) marked-addresses (k .addressCount) (e .known)
 
   abbrev judgement : Verdict
-  judgement = judge kind (settingsOf u) (viewSessions t) (viewSession slot) (requestIn seid restoring noted (rowsOf n plan))
+  judgement = judge kind (settingsOf u) who (viewSessions t) (viewSession slot) (requestIn seid restoring noted (rowsOf n plan))
 
-  same-judgement : verdictOn t msg ≡ judgement
+  same-judgement : verdictOn t who msg ≡ judgement
   unfolding judged
-  same-judgement = r .verdict ∙ (λ i. judge (sym (r .kindIs) i) (sym (k .settings) i) (viewSessions t) (sym (e .viewed) i) (r .means i))
+  same-judgement = r .verdict ∙ (λ i. judge (sym (r .kindIs) i) (sym (k .settings) i) who (viewSessions t) (sym (e .viewed) i) (r .means i))
 
-  same-verdict : (c : ℕ) → c ≡ judgement .cause → verdictOn t msg ≡ plain c
+  same-verdict : (c : ℕ) → c ≡ judgement .cause → verdictOn t who msg ≡ plain c
   same-verdict c q =
-      same-judgement ∙ judge-plain kind (settingsOf u) (viewSessions t) (viewSession slot) (requestIn seid restoring noted (rowsOf n plan)) ∙ ap plain (sym q)
+      same-judgement ∙ judge-plain kind (settingsOf u) who (viewSessions t) (viewSession slot) (requestIn seid restoring noted (rowsOf n plan)) ∙ ap plain (sym q)
 
-  same-removed : gone ≡ removedPdrs (readRequest msg) (entrySession (viewSessions t) msg .pdrs)
+  same-removed : gone ≡ removedPdrs (readRequest msg) (entrySession who (viewSessions t) msg .pdrs)
   same-removed =
       g ∙ sym (removed-rows seid restoring noted (rowsOf n plan) (viewSession slot .pdrs))
       ∙ (λ i. removedPdrs (sym (r .means) i) (e .viewed i .pdrs))
 
-  pub settle-refuses : (c : ℕ) → c ≡ judgement .cause → (c ≡ 1 → ⊥) → Refusing t msg out c Nothing
+  pub settle-refuses : (c : ℕ) → c ≡ judgement .cause → (c ≡ 1 → ⊥) → Refusing t who msg out c Nothing
   settle-refuses c q o =
       record {
         place = 0;
         verdict = same-verdict c q;
-        small = subst (λ (z : ℕ). z < 256) (sym q) (judge-small kind (settingsOf u) (viewSessions t) (viewSession slot) (requestIn seid restoring noted (rowsOf n plan)));
+        small = subst (λ (z : ℕ). z < 256) (sym q) (judge-small kind (settingsOf u) who (viewSessions t) (viewSession slot) (requestIn seid restoring noted (rowsOf n plan)));
         other = o;
       }
 
-  pub settle-accepts : (c : ℕ) → c ≡ judgement .cause → c ≡ 1 → Accepting u t words ips msg slot gone plan out seid n
+  pub settle-accepts : (c : ℕ) → c ≡ judgement .cause → c ≡ 1 → Accepting u t who words ips msg slot gone plan out seid n
   settle-accepts c q o =
       record {
         asked = r .asked;

@@ -10,6 +10,7 @@ use Rattle.octets.specs.Choice.{pick}
 use Rattle.octets.specs.Octets.{octets, put}
 use Rattle.octets.specs.Lists.{any, collect}
 use Rattle.rules.specs.Limits.{maxPool, mapWords, maxAddresses, addressWords, maxMessage, minSpace}
+use Rattle.rules.specs.Model.{isPeer}
 use Rattle.rules.specs.Layout.{sessionOctets, encode, viewSettings, viewSessions, sessionWidth, tableLength}
 use Rattle.rules.specs.Sound.{sound, takenMap, addressMap}
 use Rattle.rules.specs.Message.{kindOf, headerAllowed, served, deletion, setDeletion}
@@ -26,8 +27,9 @@ use Rattle.reply.specs.Naming.{refusal}
 use Rattle.reply.specs.Parts.{WithSeid, Listing}
 use Rattle.sets.specs.Listed.{Sound}
 
--- outcomes 1 to 5 have been passed, by a request whose header has a SEID
-pub record Asked (t msg out : List ℕ) : Type 0 where
+-- outcomes 7 and 1 to 5 have been passed, by a peer's request whose header has a SEID
+pub record Asked (t : List ℕ) (who : ℕ) (msg out : List ℕ) : Type 0 where
+  pub peer : T (isPeer who)
   pub table : T (sound t)
   pub space : minSpace ≤ length out
   pub short : length msg ≤ maxMessage
@@ -40,39 +42,40 @@ pub record Asked (t msg out : List ℕ) : Type 0 where
   pub below : kindOf msg < 255
 
 -- the same by a set deletion
-pub record AskedList (t msg out : List ℕ) : Type 0 where
+pub record AskedList (t : List ℕ) (who : ℕ) (msg out : List ℕ) : Type 0 where
+  pub peer : T (isPeer who)
   pub table : Sound t
   pub space : minSpace ≤ length out
   pub short : length msg ≤ maxMessage
   pub list : Listing msg
 
--- and stage 1: the session that the request names is live, or the request makes one
-abbrev pub Live : List ℕ → List ℕ → Type 0
-Live t msg = unknownSession (viewSessions t) msg ≡ false
+-- and stage 1: the session of the peer's that the request names is live, or the request makes one
+abbrev pub Live : List ℕ → ℕ → List ℕ → Type 0
+Live t who msg = unknownSession who (viewSessions t) msg ≡ false
 
--- the verdict on a request
-abbrev pub verdictOn : List ℕ → List ℕ → Verdict
-verdictOn t msg = verdict (viewSettings t) (viewSessions t) msg
+-- the verdict on a peer's request
+abbrev pub verdictOn : List ℕ → ℕ → List ℕ → Verdict
+verdictOn t who msg = verdict (viewSettings t) who (viewSessions t) msg
 
 -- its reply stands at the front of the space, and on acceptance the table is that of the sessions after it
-pub record Answers (t msg out : List ℕ) (used : ℕ) (out′ t′ : List ℕ) : Type 0 where
-  pub long : used ≡ length (replyTo (viewSettings t) (viewSessions t) msg (verdictOn t msg))
-  pub space : out′ ≡ put 0 (replyTo (viewSettings t) (viewSessions t) msg (verdictOn t msg)) out
-  pub table : t′ ≡ pick (eqb (verdictOn t msg .cause) why.accepted) (encode (viewSettings t) (sessionsAfter (viewSettings t) (viewSessions t) msg)) t
+pub record Answers (t : List ℕ) (who : ℕ) (msg out : List ℕ) (used : ℕ) (out′ t′ : List ℕ) : Type 0 where
+  pub long : used ≡ length (replyTo (viewSettings t) who (viewSessions t) msg (verdictOn t who msg))
+  pub space : out′ ≡ put 0 (replyTo (viewSettings t) who (viewSessions t) msg (verdictOn t who msg)) out
+  pub table : t′ ≡ pick (eqb (verdictOn t who msg .cause) why.accepted) (encode (viewSettings t) (sessionsAfter (viewSettings t) who (viewSessions t) msg)) t
 
 -- and the place told beside it is the verdict's
-pub record Replies (t msg out : List ℕ) (used place : ℕ) (out′ t′ : List ℕ) : Type 0 where
-  pub answers : Answers t msg out used out′ t′
-  pub placed : place ≡ verdictOn t msg .place
+pub record Replies (t : List ℕ) (who : ℕ) (msg out : List ℕ) (used place : ℕ) (out′ t′ : List ℕ) : Type 0 where
+  pub answers : Answers t who msg out used out′ t′
+  pub placed : place ≡ verdictOn t who msg .place
 
 -- a verdict with another place
 abbrev pub placedAt : ℕ → Verdict → Verdict
 placedAt p v = record { cause = v .cause; offending = v .offending; place = p }
 
 -- the verdict is a refusal, by its cause and the element that it names, at any place
-pub record Refusing (t msg out : List ℕ) (c : ℕ) (o : Offending) : Type 0 where
+pub record Refusing (t : List ℕ) (who : ℕ) (msg out : List ℕ) (c : ℕ) (o : Offending) : Type 0 where
   pub place : ℕ
-  pub verdict : verdictOn t msg ≡ placedAt place (refusal c o)
+  pub verdict : verdictOn t who msg ≡ placedAt place (refusal c o)
   pub small : c < 256
   pub other : c ≡ 1 → ⊥
 
@@ -82,18 +85,18 @@ OnlyNull rows = any isNullRow (tagged ie.fqcsid rows) ≡ true → collect rowCs
 
 -- the verdict is acceptance: the plan is the request's, the slot holds the session at entry, those of its PDRs that go are the rules', and the
 -- maps mark the TEIDs and addresses held
-pub record Accepting (u : Unit) (t words ips msg slot gone plan out : List ℕ) (seid n : ℕ) : Type 0 where
-  pub asked : Asked t msg out
-  pub verdict : verdictOn t msg ≡ plain why.accepted
+pub record Accepting (u : Unit) (t : List ℕ) (who : ℕ) (words ips msg slot gone plan out : List ℕ) (seid n : ℕ) : Type 0 where
+  pub asked : Asked t who msg out
+  pub verdict : verdictOn t who msg ≡ plain why.accepted
   pub other : eqb (kindOf msg) deletion ≡ false
   pub restoring : Bool
   pub noted : Bool
   pub means : readRequest msg ≡ requestIn seid restoring noted (rowsOf n plan)
   pub rows : n * rowWidth ≤ length plan
   pub onlyNull : OnlyNull (rowsOf n plan)
-  pub entry : slot ≡ sessionOctets (entrySession (viewSessions t) msg)
+  pub entry : slot ≡ sessionOctets (entrySession who (viewSessions t) msg)
   pub slotLong : length slot ≡ sessionWidth
-  pub removed : gone ≡ removedPdrs (readRequest msg) (entrySession (viewSessions t) msg .pdrs)
+  pub removed : gone ≡ removedPdrs (readRequest msg) (entrySession who (viewSessions t) msg .pdrs)
   pub marks : words ≡ takenMap (viewSettings t) (viewSessions t)
   pub mapLong : length words ≡ mapWords
   pub settings : settingsOf u ≡ viewSettings t

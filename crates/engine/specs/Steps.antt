@@ -9,7 +9,7 @@ use lib.ListN.{length, take}
 use Rattle.octets.specs.Choice.{pick}
 use Rattle.octets.specs.Octets.{be, part, put, zeros}
 use Rattle.rules.specs.Limits.{maxPool, mapWords, maxAddresses, addressWords}
-use Rattle.rules.specs.Model.{freeCount, freeAddressCount}
+use Rattle.rules.specs.Model.{freeAddressCount, ofPeer, holdings, keyFor}
 use Rattle.rules.specs.Layout.{sessionOctets, viewSession, viewSettings, viewSessions, sessionWidth, tableLength}
 use Rattle.rules.specs.Sound.{sound, takenMap, addressMap}
 use Rattle.rules.specs.Message.{kindOf, headerSeid, establishment, deletion}
@@ -24,15 +24,24 @@ use Rattle.unit.specs.Meaning.{settingsOf}
 use Rattle.areas.specs.declared.Lookup.the-variants.{Found}
 use Rattle.created.specs.Entries.{maxGrants}
 use Rattle.grants.specs.Choosing.{Granted, addressed, lowestAddress, reportPlaces}
-use Rattle.stages.specs.Rules.{Slot}
+use Rattle.stages.specs.Rules.{Slot, ShareOf}
+use Rattle.stages.specs.declared.Share.{Share}
 use Rattle.engine.specs.Answers.{Asked, Live, verdictOn, OnlyNull}
 
--- the settings, the maps of taken TEIDs and addresses and the free counts are the table's
-pub record Counted (u : Unit) (t words : List ℕ) (free : ℕ) (ips : List ℕ) (left : ℕ) : Type 0 where
+-- what the walk over the sessions of a table that is not broken told: how many TEIDs each peer holds, and how many sessions are peer 1's
+pub record Tallied (u : Unit) (t : List ℕ) (one two first : ℕ) : Type 0 where
+  pub table : T (sound t)
+  pub settings : settingsOf u ≡ viewSettings t
+  pub firstHolds : one ≡ holdings 1 (viewSessions t)
+  pub secondHolds : two ≡ holdings 2 (viewSessions t)
+  pub firstSessions : first ≡ length (ofPeer 1 (viewSessions t))
+
+-- the settings, the maps of taken TEIDs and addresses, the peer's share and the free addresses are the table's
+pub record Counted (u : Unit) (t words : List ℕ) (share : Share) (ips : List ℕ) (left : ℕ) : Type 0 where
   pub settings : settingsOf u ≡ viewSettings t
   pub marks : words ≡ takenMap (viewSettings t) (viewSessions t)
   pub long : length words ≡ mapWords
-  pub count : free ≡ freeCount (viewSettings t) (viewSessions t)
+  pub own : ShareOf (viewSettings t) (viewSessions t) (share .peer) (share .teids) (share .sessions)
   pub addressMarks : ips ≡ addressMap (viewSettings t) (viewSessions t)
   pub addressLong : length ips ≡ addressWords
   pub addressCount : left ≡ freeAddressCount (viewSettings t) (viewSessions t)
@@ -67,39 +76,39 @@ pub record Fetching (t slot : List ℕ) (room kind seid p : ℕ) : Type 0 where
   pub there : (kind ≡ establishment → ⊥) → p < room
   pub long : length slot ≡ sessionWidth
 
--- what it leaves and answers: a new session's slot and whether its SEID is live, or the slot at the place
-pub record Fetched (t : List ℕ) (room kind seid p : ℕ) (live : Bool) (slot : List ℕ) : Type 0 where
+-- what it leaves and answers: the slot of a peer's new session and whether its SEID is live, or the slot at the place
+pub record Fetched (t : List ℕ) (room kind who seid p : ℕ) (live : Bool) (slot : List ℕ) : Type 0 where
   pub long : length slot ≡ sessionWidth
-  pub new : kind ≡ establishment → slot ≡ put 0 (be 8 seid) (zeros sessionWidth)
-  pub known : kind ≡ establishment → live ≡ isLive seid (viewSessions t)
+  pub new : kind ≡ establishment → slot ≡ put 1 (be 8 seid) (put 0 (be 1 who) (zeros sessionWidth))
+  pub known : kind ≡ establishment → live ≡ isLive (keyFor who seid) (viewSessions t)
   pub old : (kind ≡ establishment → ⊥) → slot ≡ part (p * sessionWidth) sessionWidth (areaIn (tableArea room) t)
 
 -- the session at entry in its slot, and whether the SEID of an establishment is live
-pub record Entered (t msg : List ℕ) (kind seid : ℕ) (live : Bool) (slot : List ℕ) : Type 0 where
-  pub entry : slot ≡ sessionOctets (entrySession (viewSessions t) msg)
-  pub viewed : viewSession slot ≡ entrySession (viewSessions t) msg
+pub record Entered (t : List ℕ) (who : ℕ) (msg : List ℕ) (kind seid : ℕ) (live : Bool) (slot : List ℕ) : Type 0 where
+  pub entry : slot ≡ sessionOctets (entrySession who (viewSessions t) msg)
+  pub viewed : viewSession slot ≡ entrySession who (viewSessions t) msg
   pub place : Slot slot
-  pub known : kind ≡ establishment → live ≡ isLive seid (viewSessions t)
+  pub known : kind ≡ establishment → live ≡ isLive (keyFor who seid) (viewSessions t)
 
 -- a request without a fault, as the rows of its plan, that is not a deletion
-pub record Readable (t msg out plan : List ℕ) (kind seid n : ℕ) (restoring noted : Bool) : Type 0 where
-  pub asked : Asked t msg out
+pub record Readable (t : List ℕ) (who : ℕ) (msg out plan : List ℕ) (kind seid n : ℕ) (restoring noted : Bool) : Type 0 where
+  pub asked : Asked t who msg out
   pub kindIs : kind ≡ kindOf msg
   pub other : eqb (kindOf msg) deletion ≡ false
-  pub verdict : verdictOn t msg ≡ judged (viewSettings t) (viewSessions t) msg
+  pub verdict : verdictOn t who msg ≡ judged (viewSettings t) who (viewSessions t) msg
   pub means : readRequest msg ≡ requestIn seid restoring noted (rowsOf n plan)
   pub rows : n * rowWidth ≤ length plan
   pub onlyNull : OnlyNull (rowsOf n plan)
 
 -- an establishment, or the modification of the session at the place p
-pub record Changing (t msg out : List ℕ) (kind p : ℕ) : Type 0 where
-  pub asked : Asked t msg out
-  pub live : Live t msg
+pub record Changing (t : List ℕ) (who : ℕ) (msg out : List ℕ) (kind p : ℕ) : Type 0 where
+  pub asked : Asked t who msg out
+  pub live : Live t who msg
   pub kindIs : kind ≡ kindOf msg
   pub other : eqb (kindOf msg) deletion ≡ false
-  pub found : (kind ≡ establishment → ⊥) → placeIn (tableArea (viewSettings t .limit)) (headerSeid msg) t ≡ Found p
+  pub found : (kind ≡ establishment → ⊥) → placeIn (tableArea (viewSettings t .limit)) (keyFor who (headerSeid msg)) t ≡ Found p
 
 -- the whole call: outcome, place of a fault, reply space and table are the rules', and `used` is the length of the reply, 0 where there is none
-pub record Serves (t msg out : List ℕ) (outcome used place : ℕ) (out′ t′ : List ℕ) : Type 0 where
-  pub served : record { outcome = outcome; place = place; space = out′; table = t′ } ≡ serve t msg out
-  pub long : used ≡ pick (eqb outcome 0) (length (replyTo (viewSettings t) (viewSessions t) msg (verdictOn t msg))) 0
+pub record Serves (t : List ℕ) (who : ℕ) (msg out : List ℕ) (outcome used place : ℕ) (out′ t′ : List ℕ) : Type 0 where
+  pub served : record { outcome = outcome; place = place; space = out′; table = t′ } ≡ serve t who msg out
+  pub long : used ≡ pick (eqb outcome 0) (length (replyTo (viewSettings t) who (viewSessions t) msg (verdictOn t who msg))) 0

@@ -14,27 +14,29 @@ use unit::Settings;
 fn refuse_list(
     t: &[u8],
     u: Settings,
+    peer: u32,
     msg: &[u8],
     cause: u64,
     offending: Offending,
     out: &mut [u8],
 ) -> usize
-    requires { ⌜ AskedList (now t) (now msg) (now out) × Refusing (now t) (now msg) (now out) cause offending × (settingsOf u ≡ viewSettings (now t)) ⌝ }
-    ensures { λ r. ⌜ Answers (now (t .entry)) (now (msg .entry)) (now (out .entry)) r (now (out .exit)) (now (t .entry)) ⌝ }
+    requires { ⌜ AskedList (now t) peer (now msg) (now out) × Refusing (now t) peer (now msg) (now out) cause offending × (settingsOf u ≡ viewSettings (now t)) ⌝ }
+    ensures { λ r. ⌜ Answers (now (t .entry)) peer (now (msg .entry)) (now (out .entry)) r (now (out .exit)) (now (t .entry)) ⌝ }
 {
-    reply::listed(u, msg, cause as u8, offending, out)
+    reply::listed(u, peer, msg, cause as u8, offending, out)
 }
 
-// A set deletion, and its reply.
-pub fn delete_list(t: &mut [u8], u: Settings, msg: &[u8], out: &mut [u8]) -> Replied
-    requires { ⌜ AskedList (now t) (now msg) (now out) × (settingsOf u ≡ viewSettings (now t)) ⌝ }
-    ensures { λ r. ⌜ Replies (now (t .entry)) (now (msg .entry)) (now (out .entry)) (r .used) (r .place) (now (out .exit)) (now (t .exit)) ⌝ }
+// A peer's set deletion, and its reply.
+pub fn delete_list(t: &mut [u8], u: Settings, peer: u32, msg: &[u8], out: &mut [u8]) -> Replied
+    requires { ⌜ AskedList (now t) peer (now msg) (now out) × (settingsOf u ≡ viewSettings (now t)) ⌝ }
+    ensures { λ r. ⌜ Replies (now (t .entry)) peer (now (msg .entry)) (now (out .entry)) (r .used) (r .place) (now (out .exit)) (now (t .exit)) ⌝ }
 {
     let framing = frame::frame_fault(msg);
     if let Framing::Fault(kind, place) = framing {
         let used = refuse_list(
             t,
             u,
+            peer,
             msg,
             causes::WRONG_LENGTH,
             Offending::Element(kind),
@@ -47,14 +49,21 @@ pub fn delete_list(t: &mut [u8], u: Settings, msg: &[u8], out: &mut [u8]) -> Rep
     }
     let verdict = sets::list_fault(&msg[8..]);
     if let Verdict::Refused(cause, kind, place) = verdict {
-        let used = refuse_list(t, u, msg, cause, Offending::Element(kind), out);
+        let used = refuse_list(t, u, peer, msg, cause, Offending::Element(kind), out);
         return Replied {
             used: used,
             place: place,
         };
     }
-    let used = reply::listed(u, msg, causes::ACCEPTED as u8, Offending::Nothing, out);
-    sets::remove_listed(t, &msg[8..]);
+    let used = reply::listed(
+        u,
+        peer,
+        msg,
+        causes::ACCEPTED as u8,
+        Offending::Nothing,
+        out,
+    );
+    sets::remove_listed(t, peer, &msg[8..]);
     Replied {
         used: used,
         place: 0,

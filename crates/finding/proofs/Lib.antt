@@ -1,3 +1,4 @@
 pub mod PlaceLaws
 pub mod HoldLaws
 pub mod Steps
+pub mod ShareLaws

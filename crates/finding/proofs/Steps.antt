@@ -13,12 +13,14 @@ use Rattle.octets.proofs.Tests.{of-true, is-true}
 use Rattle.laws.proofs.LayoutLaws.{limit-read}
 use Rattle.rules.specs.Layout.{viewSettings, viewSessions, viewSession, encode, settingsWidth, sessionWidth, limitAt}
 use Rattle.rules.specs.Sound.{sessionAllowed, sound}
-use Rattle.rules.specs.Stages.{hasSeid, sessionOf}
+use Rattle.rules.specs.Model.{keyFor}
+use Rattle.rules.specs.Stages.{hasKey, sessionOf}
 use Rattle.rules.specs.Restoring.{sessionAt}
 use Rattle.rules.specs.Finding.{Finding, findingOf, placeFrom, sessionPlace, isHolder, holderPlace, findIn, countSessions, findSession, findHolder}
 use Rattle.areas.specs.declared.Lookup.{Lookup}
 use Rattle.areas.specs.declared.Lookup.the-variants.{Found, Absent}
 use Rattle.areas.specs.declared.Area.{Area}
+use Rattle.areas.specs.Records.{pairKey}
 use Rattle.areas.specs.Counted.{placeIn}
 use Rattle.session.specs.Areas.{tableArea}
 use Rattle.session.proofs.Saved.{session-place, session-absent}
@@ -27,7 +29,7 @@ use Rattle.table.proofs.SoundSlots.{slotAt, few-pdrs, few-endpoints, slot-long,
 use Rattle.finding.specs.declared.Answer.{Answer}
 use Rattle.finding.specs.Holds.{SlotCounted}
 use Rattle.finding.specs.Answers.{findingTold}
-use Rattle.finding.proofs.PlaceLaws.{seid-found, place-none, place-here, place-later, place-end}
+use Rattle.finding.proofs.PlaceLaws.{key-found, place-none, place-here, place-later, place-end}
 
 -- ---- broken or not
 
@@ -67,32 +69,39 @@ module _ (t : List ℕ) (b : Bool) (e : b ≡ sound t) where
   pub room-there : (room : ℕ) → not b ≡ false → room ≡ number (part limitAt 2 t) → settingsWidth + 2 + room * sessionWidth ≤ length t
   room-there room z l = let e = table-long t (is-sound z) in let f = l ∙ sym (limit-read t) in omega arith
 
-  module _ (seid : ℕ) where
-    pub seid-broken : not b ≡ true → broken ≡ findSession t seid
-    unfolding findSession
-    seid-broken z = told-broken (sessionPlace seid (viewSessions t)) z
+  module _ (who seid : ℕ) where
+    abbrev key : ℕ
+    key = keyFor who seid
 
-    module _ (z : not b ≡ false) (room : ℕ) (l : room ≡ number (part limitAt 2 t)) (r : Lookup) (q : r ≡ placeIn (tableArea room) seid t) where
+    pub seid-broken : not b ≡ true → broken ≡ findSession t who seid
+    unfolding findSession
+    seid-broken z = told-broken (sessionPlace who seid (viewSessions t)) z
+
+    module _ (z : not b ≡ false) (room : ℕ) (l : room ≡ number (part limitAt 2 t)) (r : Lookup) (q : r ≡ placeIn (tableArea room) (pairKey who seid) t) where
+      by-key : r ≡ placeIn (tableArea room) key t
+      unfolding keyFor
+      by-key = q
+
       abbrev area : Area
       area = tableArea (viewSettings t .limit)
 
       k : Encoded t (viewSettings t) (viewSessions t)
       k = sound-encoded t (is-sound z)
 
-      there : (u : Lookup) → r ≡ u → placeIn area seid (encode (viewSettings t) (viewSessions t)) ≡ u
-      there u f = ap (placeIn area seid) (sym (k .whole)) ∙ ap (λ (n : ℕ). placeIn (tableArea n) seid t) (limit-read t ∙ sym l) ∙ sym q ∙ f
+      there : (u : Lookup) → r ≡ u → placeIn area key (encode (viewSettings t) (viewSessions t)) ≡ u
+      there u f = ap (placeIn area key) (sym (k .whole)) ∙ ap (λ (n : ℕ). placeIn (tableArea n) key t) (limit-read t ∙ sym l) ∙ sym by-key ∙ f
 
-      pub seid-told : (p : ℕ) → r ≡ Found p → findingOf (some p) ≡ findSession t seid
+      pub seid-told : (p : ℕ) → r ≡ Found p → findingOf (some p) ≡ findSession t who seid
       unfolding findSession sessionPlace
       seid-told p f =
-          sym (ap findingOf (seid-found 0 seid p (viewSessions t) (sym (session-place (viewSettings t) (k .settings) (viewSessions t) (k .sessions) seid) ∙ there (Found p) f)))
-          ∙ told (sessionPlace seid (viewSessions t)) z
+          sym (ap findingOf (key-found 0 key p (viewSessions t) (sym (session-place (viewSettings t) (k .settings) (viewSessions t) (k .sessions) key) ∙ there (Found p) f)))
+          ∙ told (sessionPlace who seid (viewSessions t)) z
 
-      pub seid-none : (p : ℕ) → r ≡ Absent p → findingOf none ≡ findSession t seid
+      pub seid-none : (p : ℕ) → r ≡ Absent p → findingOf none ≡ findSession t who seid
       unfolding findSession sessionPlace
       seid-none p f =
-          sym (ap findingOf (place-none 0 (hasSeid seid) (viewSessions t) (unfold sessionOf in session-absent (viewSettings t) (k .settings) (viewSessions t) (k .sessions) seid p (there (Absent p) f))))
-          ∙ told (sessionPlace seid (viewSessions t)) z
+          sym (ap findingOf (place-none 0 (hasKey key) (viewSessions t) (unfold sessionOf in session-absent (viewSettings t) (k .settings) (viewSessions t) (k .sessions) key p (there (Absent p) f))))
+          ∙ told (sessionPlace who seid (viewSessions t)) z
 
   module _ (teid : ℕ) where
     pub teid-broken : not b ≡ true → broken ≡ findHolder t teid

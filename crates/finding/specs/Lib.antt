@@ -1,3 +1,4 @@
--- `Holds`: who holds a TEID, by the octets of a slot; `Answers`: the code's answer as the rules have it.
+-- `Holds`: who holds a TEID, by the octets of a slot; `Answers`: the code's answer as the rules have it; `Peers`: what a peer has.
 pub mod Holds
 pub mod Answers
+pub mod Peers

@@ -1,14 +1,16 @@
-// What a table tells beside its requests: how many sessions there are, the place of a SEID, and for a TEID the place of the session that
-// holds it. Each is asked of any octets; a broken table is told first.
+// What a table tells beside its requests: how many sessions there are, the place of a peer's SEID, for a TEID the place of the session that
+// holds it, and how many sessions and TEIDs a peer has. Each is asked of any octets; a broken table is told first, but a number that is no
+// peer's before it.
 ghost use mathlib.Core.Path.{_≡_};
 ghost use Prim.Native.Nat.{_*_, _≤_};
 ghost use lib.Dec.{T};
 ghost use lib.ListN.{length};
 ghost use Rattle.rules.specs.Layout.{viewSession, viewSessions, pdrWidth, endpointWidth};
 ghost use Rattle.rules.specs.Sound.{sound};
-ghost use Rattle.rules.specs.Finding.{isHolder, holderPlace, findingOf, countSessions, findSession, findHolder};
+ghost use Rattle.rules.specs.Finding.{isHolder, holderPlace, findingOf, countSessions, findSession, findHolder, Share, unshared, countPeer};
 ghost use Rattle.finding.specs.Holds.{endpointsHold, pdrsHold, SlotCounted};
 ghost use Rattle.finding.specs.Answers.{findingTold};
+ghost use Rattle.finding.specs.Peers.{shareTold, shareOf};
 use format::ENDPOINT;
 use format::ENDPOINT_COUNT;
 use format::ENDPOINTS;
@@ -25,9 +27,19 @@ const BROKEN: u32 = 1;
 
 const NONE: u32 = 2;
 
+// A number that is no peer's.
+const NO_PEER: u32 = 7;
+
 pub struct Answer {
     pub outcome: u32,
     pub number: usize,
+}
+
+// What a peer has; zeros beside any outcome but 0.
+pub struct Share {
+    pub outcome: u32,
+    pub sessions: usize,
+    pub teids: usize,
 }
 
 // Whether one of n endpoints holds a TEID, which stands after the ID.
@@ -106,9 +118,9 @@ pub fn session_count(t: &[u8]) -> Answer
     }
 }
 
-// The place of the session of a SEID.
-pub fn find_session(t: &[u8], seid: u64) -> Answer
-    ensures { λ r. ⌜ findingTold r ≡ findSession (now (t .entry)) seid ⌝ }
+// The place of the session of a peer's SEID.
+pub fn find_session(t: &[u8], peer: u32, seid: u64) -> Answer
+    ensures { λ r. ⌜ findingTold r ≡ findSession (now (t .entry)) peer seid ⌝ }
 {
     if !table::is_sound(t) {
         return Answer {
@@ -117,7 +129,7 @@ pub fn find_session(t: &[u8], seid: u64) -> Answer
         };
     }
     let room = octets::read(t, format::LIMIT, 2) as usize;
-    let place = session::find(t, room, format::COUNT, seid);
+    let place = session::find(t, room, format::COUNT, peer as u64, seid);
     match place {
         areas::Lookup::Found(p) => Answer {
             outcome: FOUND,
@@ -142,4 +154,51 @@ pub fn find_holder(t: &[u8], teid: u64) -> Answer
     }
     let n = octets::read(t, format::COUNT, 2) as usize;
     holder(t, n, teid)
+}
+
+// An answer without numbers.
+fn untold(outcome: u32) -> Share
+    ensures { λ r. ⌜ shareTold r ≡ unshared outcome ⌝ }
+{
+    Share {
+        outcome: outcome,
+        sessions: 0,
+        teids: 0,
+    }
+}
+
+// What a peer has, of what the check counts: the TEIDs of each, the sessions of peer 1 and all.
+fn tell(peer: u32, one: usize, two: usize, first: usize, n: usize) -> Share
+    requires { ⌜ first ≤ n ⌝ }
+    ensures { λ r. ⌜ shareTold r ≡ shareOf peer one two first n ⌝ }
+{
+    if peer == 1 {
+        return Share {
+            outcome: FOUND,
+            sessions: first,
+            teids: one,
+        };
+    }
+    Share {
+        outcome: FOUND,
+        sessions: n - first,
+        teids: two,
+    }
+}
+
+// How many sessions a peer has, and how many different TEIDs their records hold.
+pub fn peer_count(t: &[u8], peer: u32) -> Share
+    ensures { λ r. ⌜ shareTold r ≡ countPeer (now (t .entry)) peer ⌝ }
+{
+    if !unit::is_peer(peer) {
+        return untold(NO_PEER);
+    }
+    let mut words = [0u64; pool::WORDS];
+    let mut addresses = [0u64; pool::ADDRESS_WORDS];
+    let seen = table::examine(t, &mut words, &mut addresses);
+    let marking::Walked::Held(one, two, first, taken) = seen else {
+        return untold(BROKEN);
+    };
+    let n = octets::read(t, format::COUNT, 2) as usize;
+    tell(peer, one, two, first, n)
 }

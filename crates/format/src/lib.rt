@@ -16,7 +16,7 @@ pub const MAX_POOL: u64 = 65536;
 pub const MAX_ADDRESSES: u64 = 1024;
 
 // The settings: the IPv4 address (4 octets), whether there is an IPv6 address (1), the IPv6 address (16), the first TEID (4), the
-// pool's size (4), the first address (4), the number of addresses (4), the session limit (2).
+// pool's size (4), the first address (4), the number of addresses (4), the session limit (2), then for each peer its signalling address, its guarantee and its limit (4 each).
 pub const IPV4: usize = 0;
 
 pub const IPV6_THERE: usize = 4;
@@ -35,7 +35,18 @@ pub const ADDRESS_COUNT: usize = FIRST_ADDRESS + 4;
 
 pub const LIMIT: usize = ADDRESS_COUNT + 4;
 
-pub const SETTINGS: usize = LIMIT + 2;
+// A peer: its signalling address, its guarantee and its limit (4 octets each).
+pub const PEER1: usize = LIMIT + 2;
+
+pub const PEER2: usize = PEER1 + PEER_SETTINGS;
+
+pub const GUARANTEE: usize = 4;
+
+pub const PEER_LIMIT: usize = GUARANTEE + 4;
+
+pub const PEER_SETTINGS: usize = PEER_LIMIT + 4;
+
+pub const SETTINGS: usize = PEER2 + PEER_SETTINGS;
 
 // A PDR: ID (2 octets), precedence (4), whether there is a FAR ID (1), the FAR ID (4), source interface (1), what it matches on (1: 0
 // nothing, 1 an F-TEID, 2 an endpoint), TEID (4), families (1), endpoint ID (1), whether there is an address (1), the address (4).
@@ -81,8 +92,13 @@ pub const CSID_NUMBER: usize = CSID_ADDRESS + 16;
 
 pub const CSID: usize = CSID_NUMBER + 2;
 
-// A session's slot: the SEID (8 octets), the numbers of PDRs, endpoints and FQ-CSIDs (1 each), and an area for each.
-pub const PDR_COUNT: usize = 8;
+// A session's slot: the peer (1 octet) and the SEID (8), together its key; the numbers of PDRs, endpoints and FQ-CSIDs (1 each), and an area
+// for each.
+pub const SEID: usize = 1;
+
+pub const KEY: usize = SEID + 8;
+
+pub const PDR_COUNT: usize = KEY;
 
 pub const ENDPOINT_COUNT: usize = PDR_COUNT + 1;
 

@@ -1,21 +1,21 @@
 -- A session beside others: it shares no TEID, no address and no SEID with them, and so may be put among them.
 -- Assumes nothing.
 use mathlib.Core.Path.{_≡_, refl, ap, _∙_}
-use Prim.Native.Nat.{_<_, zero-le}
-use native.Mathlib.Nat.{le-trans, le-of-eq}
+use Prim.Native.Nat.{ℕ, _+_, _-_, _≤_, zero-le}
+use native.Mathlib.Omega.{arith}
 use mathlib.Core.Bool.{Bool, false, not}
 use mathlib.Core.List.{[], _∷_}
 use lib.ListN.{length}
 use lib.Dec.{T, eqb}
-use mir.Facts.{yes-leb}
-use Rattle.octets.specs.Choice.{isSome}
-use Rattle.octets.specs.Lists.{anyIn, all, allPairs, keep, findBy, ascending, insertBy}
+use Rattle.octets.specs.Choice.{pick, isSome}
+use Rattle.octets.specs.Lists.{distinct, anyIn, all, allPairs, keep, findBy, ascending, insertBy}
 use Rattle.octets.proofs.Tests.{pick-yes, pick-no, each, all-of-each, both, and-left, and-right, all-head, all-tail, all-cons}
-use Rattle.octets.proofs.Ordered.{otherKey, insert-length, insert-all, insert-pairs, insert-ascending}
+use Rattle.octets.proofs.Ordered.{otherKey, insert-all, insert-pairs, insert-ascending}
 use Rattle.octets.proofs.ListLaws.{all-imply}
-use Rattle.rules.specs.Model.{Settings, Session, Sessions, seidOf, sessionTeids, heldTeids, sessionAddresses, heldAddresses}
-use Rattle.rules.specs.Sound.{sessionAllowed, apart, sessionsTests, sessionsAllowed}
-use Rattle.rules.specs.Stages.{hasSeid, sessionOf, isLive}
+use Rattle.rules.specs.Model.{Settings, Session, Sessions, sessionKey, sessionTeids, heldTeids, sessionAddresses, heldAddresses, ofPeer, holdings, unused, otherPeer, peerOf}
+use Rattle.rules.specs.Sound.{settingsAllowed, sessionAllowed, apart, due, sessionsTests, sessionsAllowed}
+use Rattle.laws.proofs.PeerLaws.{peer-cases, guarantees-fit, PeersKept, peers-keep}
+use Rattle.rules.specs.Stages.{hasKey, sessionOf, isLive}
 use Rattle.rules.specs.Apply.{otherSession, removeSession, putSession}
 use Rattle.invariants.proofs.HeldLaws.{turn-eqb, disjoint-turn, apart-held, apart-addresses-held}
 
@@ -36,8 +36,8 @@ pub apart-addresses : (s : Settings) (x y : Session) → T (apart s x y) → T (
 unfolding apart
 apart-addresses s x y h = and-right (not (anyIn (sessionTeids x) (sessionTeids y))) (not (anyIn (sessionAddresses s x) (sessionAddresses s y))) h
 
-pub other-seid-turn : (x y : Session) → T (otherKey seidOf x y) → T (otherKey seidOf y x)
-other-seid-turn x y h = turn-eqb (x .seid) (y .seid) h
+pub other-seid-turn : (x y : Session) → T (otherKey sessionKey x y) → T (otherKey sessionKey y x)
+other-seid-turn x y h = turn-eqb (sessionKey x) (sessionKey y) h
 
 -- no TEID in common with any session
 pub separate-all : (s : Settings) (x : Session) (m : Sessions) → T (all (apart s x) m) → T (not (anyIn (sessionTeids x) (heldTeids m)))
@@ -48,47 +48,61 @@ pub separate-addresses : (s : Settings) (x : Session) (m : Sessions) → T (all 
 separate-addresses s x m h =
     apart-addresses-held s (sessionAddresses s x) m (all-imply (apart s x) (λ z. not (anyIn (sessionAddresses s x) (sessionAddresses s z))) (apart-addresses s x) m h)
 
-pub fresh-seid : (x : Session) (m : Sessions) → T (all (otherKey seidOf x) m) → isLive (x .seid) m ≡ false
-unfolding isLive sessionOf findBy hasSeid
+pub fresh-seid : (x : Session) (m : Sessions) → T (all (otherKey sessionKey x) m) → isLive (sessionKey x) m ≡ false
+unfolding isLive sessionOf findBy hasKey
 fresh-seid x [] h = refl
 fresh-seid x (y ∷ m) h =
-    ap isSome (pick-no (eqb (y .seid) (x .seid)) _ _ (turn-eqb (x .seid) (y .seid) (all-head (otherKey seidOf x) y m h)))
-    ∙ fresh-seid x m (all-tail (otherKey seidOf x) y m h)
+    ap isSome (pick-no (eqb (sessionKey y) (sessionKey x)) _ _ (turn-eqb (sessionKey x) (sessionKey y) (all-head (otherKey sessionKey x) y m h)))
+    ∙ fresh-seid x m (all-tail (otherKey sessionKey x) y m h)
 
-remove-none : (x : Session) (m : Sessions) → T (all (otherKey seidOf x) m) → removeSession (x .seid) m ≡ m
-unfolding removeSession keep otherSession hasSeid
+remove-none : (x : Session) (m : Sessions) → T (all (otherKey sessionKey x) m) → removeSession (sessionKey x) m ≡ m
+unfolding removeSession keep otherSession hasKey
 remove-none x [] h = refl
 remove-none x (y ∷ m) h =
-    pick-yes (not (eqb (y .seid) (x .seid))) _ _ (turn-eqb (x .seid) (y .seid) (all-head (otherKey seidOf x) y m h))
-    ∙ ap (λ (n : Sessions). y ∷ n) (remove-none x m (all-tail (otherKey seidOf x) y m h))
+    pick-yes (not (eqb (sessionKey y) (sessionKey x))) _ _ (turn-eqb (sessionKey x) (sessionKey y) (all-head (otherKey sessionKey x) y m h))
+    ∙ ap (λ (n : Sessions). y ∷ n) (remove-none x m (all-tail (otherKey sessionKey x) y m h))
 
-pub put-fresh : (x : Session) (m : Sessions) → T (all (otherKey seidOf x) m) → putSession x m ≡ insertBy seidOf x m
+pub put-fresh : (x : Session) (m : Sessions) → T (all (otherKey sessionKey x) m) → putSession x m ≡ insertBy sessionKey x m
 unfolding putSession
-put-fresh x m h = ap (insertBy seidOf x) (remove-none x m h)
+put-fresh x m h = ap (insertBy sessionKey x) (remove-none x m h)
 
 turn-all : (r : Session → Session → Bool) → ((x y : Session) → T (r x y) → T (r y x)) → (x : Session) (m : Sessions) → T (all (r x) m) → T (all (λ y. r y x) m)
 unfolding all
 turn-all r turn x [] h = tt
 turn-all r turn x (y ∷ m) h = all-cons (λ z. r z x) y m (turn x y (all-head (r x) y m h)) (turn-all r turn x m (all-tail (r x) y m h))
 
--- one more session keeps the rules
+-- one more session beside others that are apart
+pub insert-apart : (s : Settings) (x : Session) (m : Sessions) → T (all (apart s x) m) → T (allPairs (apart s) m) → T (allPairs (apart s) (insertBy sessionKey x m))
+insert-apart s x m sep h = insert-pairs sessionKey (apart s) x m sep (turn-all (apart s) (apart-turn s) x m sep) h
+
+-- one more session keeps the rules, if both peers have what is theirs then
 pub insert-allowed : (s : Settings) (x : Session) (m : Sessions) → T (sessionsAllowed s m) → T (sessionAllowed s x)
-    → T (all (otherKey seidOf x) m) → T (all (apart s x) m) → length m < s .limit → T (sessionsAllowed s (insertBy seidOf x m))
+    → T (all (otherKey sessionKey x) m) → T (all (apart s x) m) → PeersKept s (insertBy sessionKey x m) → T (sessionsAllowed s (insertBy sessionKey x m))
 unfolding sessionsAllowed sessionsTests
 insert-allowed s x m hm hx other sep room =
     let e = each (sessionsTests s m) hm in
-    all-of-each (sessionsTests s (insertBy seidOf x m)) (
-      yes-leb (le-trans (le-of-eq (insert-length seidOf x m)) room),
+    all-of-each (sessionsTests s (insertBy sessionKey x m)) (
+      peers-keep s (insertBy sessionKey x m) room,
       (
-        insert-ascending seidOf x m other (e .1 .0),
+        insert-ascending sessionKey x m other (e .1 .0),
         (
-          insert-all seidOf (sessionAllowed s) x m hx (e .1 .1 .0),
-          (insert-pairs seidOf (apart s) x m sep (turn-all (apart s) (apart-turn s) x m sep) (e .1 .1 .1 .0), tt),
+          insert-all sessionKey (sessionAllowed s) x m hx (e .1 .1 .0),
+          (insert-apart s x m sep (e .1 .1 .1 .0), tt),
         ),
       ),
     )
 
 -- an empty table keeps the rules
-pub empty-allowed : (s : Settings) → T (sessionsAllowed s [])
+empty-kept : (s : Settings) → T (settingsAllowed s) → PeersKept s []
+unfolding ofPeer keep holdings heldTeids distinct due unused otherPeer peerOf
+empty-kept s hs =
+    let g = guarantees-fit s hs in
+    record {
+      sessions = λ who h. zero-le;
+      teids = λ who h. zero-le;
+      pool = peer-cases (λ (who : ℕ). 0 + (pick (eqb who 1) (s .peer1) (s .peer2) .guarantee - 0) + (0 + (pick (eqb (pick (eqb who 1) 2 1) 1) (s .peer1) (s .peer2) .guarantee - 0)) ≤ s .size) (omega arith) (omega arith);
+    }
+
+pub empty-allowed : (s : Settings) → T (settingsAllowed s) → T (sessionsAllowed s [])
 unfolding sessionsAllowed sessionsTests ascending all allPairs
-empty-allowed s = all-of-each (sessionsTests s []) (yes-leb {a = 0} {b = s .limit} zero-le, (tt, (tt, (tt, tt))))
+empty-allowed s hs = all-of-each (sessionsTests s []) (peers-keep s [] (empty-kept s hs), (tt, (tt, (tt, tt))))

@@ -72,7 +72,7 @@ stayingHoldings r x = map endpointHolding (keep (keptKey endpointId (r .goneEndp
 
 module _ (r : Request) (x : Session) where
   -- a test of all holds
-  staying-all : (p : Holding → Bool) → T (all p (sessionHoldings x)) → T (all p (stayingHoldings r x))
+  pub staying-all : (p : Holding → Bool) → T (all p (sessionHoldings x)) → T (all p (stayingHoldings r x))
   unfolding sessionHoldings
   staying-all p h =
       all-append p (map endpointHolding (keep (keptKey endpointId (r .goneEndpoints)) (x .endpoints))) (collect pdrHolding (keep (keptKey pdrId (removedPdrs r (x .pdrs))) (x .pdrs)))

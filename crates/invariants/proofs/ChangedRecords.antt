@@ -105,7 +105,7 @@ address-made n h (some ueOther) k = tt
 
 -- ---- a session that keeps the rules, and a request that keeps them and finds room
 
-module _ (kind : ℕ) (s : Settings) (m : Sessions) (x : Session) (r : Request) (kept : SessionKept s x) (rules : RulesKept s m x r) (room : RoomLeft kind s m x r) (read : RequestRead r) (enough : need r ≤ length (freeTeids s m))
+module _ (kind : ℕ) (s : Settings) (who : ℕ) (m : Sessions) (x : Session) (r : Request) (kept : SessionKept s x) (rules : RulesKept s m x r) (room : RoomLeft kind s who m x r) (read : RequestRead r) (enough : need r ≤ length (freeTeids s m))
     (fits : T (ltb (chosenAddress s m) (2 ^ 32))) where
   -- what the records get, and the TEIDs of it
   abbrev got : Kind → ℕ → Got

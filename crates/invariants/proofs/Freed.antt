@@ -13,7 +13,7 @@ use Rattle.octets.proofs.Tests.{pick-yes, pick-no, all-cons}
 use Rattle.octets.proofs.Ordered.{all-perm, insert-all, keep-all, pairs-head, pairs-tail}
 use Rattle.octets.proofs.ListLaws.{not-not, or-right, or-by-left, or-by-right, by-test, all-imply, all-append, all-map}
 use Rattle.octets.proofs.MemberLaws.{absent-each, each-absent, member-passes, none-in}
-use Rattle.rules.specs.Model.{Settings, Session, Sessions, teidOf, seidOf, sessionHoldings, sessionTeids, heldTeids, freeTeids, endpointAddress, pdrAddress, inAddressPool, sessionAddresses, heldAddresses, freeAddresses}
+use Rattle.rules.specs.Model.{Settings, Session, Sessions, teidOf, sessionKey, sessionHoldings, sessionTeids, heldTeids, freeTeids, endpointAddress, pdrAddress, inAddressPool, sessionAddresses, heldAddresses, freeAddresses, keyFor, isPeer, hasPeer}
 use Rattle.rules.specs.Sound.{sessionsAllowed, apart, inPool}
 use Rattle.rules.specs.Message.{kindOf, headerSeid, establishment, deletion, setDeletion}
 use Rattle.rules.specs.Reading.{readRequest}
@@ -24,7 +24,7 @@ use Rattle.rules.specs.Apply.{apply, removeSession, putSession, follow, goesSes
 use Rattle.rules.specs.Serve.{sessionsAfter}
 use Rattle.invariants.proofs.VerdictLaws.{Passed}
 use Rattle.invariants.proofs.GrantLaws.{enough}
-use Rattle.invariants.proofs.After.{found-seid, keep-allowed}
+use Rattle.invariants.proofs.After.{found-key, keep-allowed}
 use Rattle.invariants.proofs.KeptRules.{RulesKept, rules-kept, sessions-kept}
 use Rattle.invariants.proofs.FreeTeids.{free-there, held-in-pool}
 use Rattle.invariants.proofs.FreeAddresses.{address-free-there, held-addresses-pool}
@@ -42,19 +42,19 @@ others-not : (s : Settings) (of : Session → List ℕ) → ((y z : Session) →
 others-not s of common n x l h far =
     all-imply (apart s x) (λ z. not (member n (of z))) (λ z g. member-passes (λ k. not (member k (of z))) n (of x) h (none-in (of x) (of z) (common x z g))) l far
 
-module _ (s : Settings) (m : Sessions) (msg : List ℕ) (hm : T (sessionsAllowed s m)) (ho : T (octets msg)) (ns : T (not (eqb (kindOf msg) setDeletion)))
-    (p : Passed s m msg) where
+module _ (s : Settings) (who : ℕ) (m : Sessions) (msg : List ℕ) (hw : T (isPeer who)) (hm : T (sessionsAllowed s m)) (ho : T (octets msg)) (ns : T (not (eqb (kindOf msg) setDeletion)))
+    (p : Passed s who m msg) where
   -- the session at entry
   abbrev x : Session
-  x = entrySession m msg
+  x = entrySession who m msg
 
   -- the request
   abbrev r : Request
   r = readRequest msg
 
   -- what is known of the session at entry
-  entry : Entry s m x
-  entry = entry-sound s m msg hm ho ns p
+  entry : Entry s who m x
+  entry = entry-sound s who m msg hw hm ho ns p
 
   rules : RulesKept s m x r
   rules = rules-kept s m x r (p .rules)
@@ -64,21 +64,21 @@ module _ (s : Settings) (m : Sessions) (msg : List ℕ) (hm : T (sessionsAllowed
   module _ (of : Session → List ℕ) (held : Sessions → List ℕ) (absent : (n : ℕ) (l : Sessions) → T (all (λ z. not (member n (of z))) l) → T (not (member n (held l))))
       (common : (y z : Session) → T (apart s y z) → T (not (anyIn (of y) (of z)))) (n : ℕ) (there : T (member n (of x))) where
     -- an establishment's or a modification's: where the changed session does not hold it, nobody does
-    unheld-changed : T (not (eqb (kindOf msg) deletion)) → T (not (member n (of (apply (granted s m r) r x)))) → T (not (member n (held (sessionsAfter s m msg))))
+    unheld-changed : T (not (eqb (kindOf msg) deletion)) → T (not (member n (of (apply (granted s m r) r x)))) → T (not (member n (held (sessionsAfter s who m msg))))
     unheld-changed nd own =
         subst (λ (l : Sessions). T (not (member n (held l)))) (sym put)
-        (absent n (insertBy seidOf y (removeSession (y .seid) m))
-        (insert-all seidOf (λ z. not (member n (of z))) y (removeSession (y .seid) m) own (unfold apply in (others-not s of common n x (removeSession (x .seid) m) there (entry .separate)))))
+        (absent n (insertBy sessionKey y (removeSession (sessionKey y) m))
+        (insert-all sessionKey (λ z. not (member n (of z))) y (removeSession (sessionKey y) m) own (unfold apply in (others-not s of common n x (removeSession (sessionKey x) m) there (entry .separate)))))
       where
         y : Session
         y = apply (granted s m r) r x
 
-        put : sessionsAfter s m msg ≡ insertBy seidOf y (removeSession (y .seid) m)
-        put = unfold sessionsAfter follow putSession entrySession in (pick-no (eqb (kindOf msg) setDeletion) _ _ ns ∙ pick-no (eqb (kindOf msg) deletion) (removeSession (headerSeid msg) m) _ nd)
+        put : sessionsAfter s who m msg ≡ insertBy sessionKey y (removeSession (sessionKey y) m)
+        put = unfold sessionsAfter follow putSession entrySession in (pick-no (eqb (kindOf msg) setDeletion) _ _ ns ∙ pick-no (eqb (kindOf msg) deletion) (removeSession (keyFor who (headerSeid msg)) m) _ nd)
 
     -- a deletion's
-    unheld-deleted : T (eqb (kindOf msg) deletion) → T (not (member n (held (sessionsAfter s m msg))))
-    unheld-deleted d = subst (λ (l : Sessions). T (not (member n (held l)))) (sym gone) (absent n (removeSession (x .seid) m) (others-not s of common n x (removeSession (x .seid) m) there (entry .separate)))
+    unheld-deleted : T (eqb (kindOf msg) deletion) → T (not (member n (held (sessionsAfter s who m msg))))
+    unheld-deleted d = subst (λ (l : Sessions). T (not (member n (held l)))) (sym gone) (absent n (removeSession (sessionKey x) m) (others-not s of common n x (removeSession (sessionKey x) m) there (entry .separate)))
       where
         kind : kindOf msg ≡ deletion
         kind = eqb→eq (kindOf msg) deletion d
@@ -86,15 +86,15 @@ module _ (s : Settings) (m : Sessions) (msg : List ℕ) (hm : T (sessionsAllowed
         not-new : unnamed (kindOf msg) ≡ false
         not-new = unfold unnamed in (ap (λ (k : ℕ). eqb k establishment || eqb k setDeletion) kind)
 
-        live : T (isLive (headerSeid msg) m)
-        live = unfold unknownSession in (not-not (isLive (headerSeid msg) m) (subst (λ (b : Bool). T (not (not b && not (isLive (headerSeid msg) m)))) not-new (p .known)))
+        live : T (isLive (keyFor who (headerSeid msg)) m)
+        live = unfold unknownSession in (not-not (isLive (keyFor who (headerSeid msg)) m) (subst (λ (b : Bool). T (not (not b && not (isLive (keyFor who (headerSeid msg)) m)))) not-new (p .known)))
 
-        seid : entrySession m msg .seid ≡ headerSeid msg
-        seid = unfold entrySession atEntry in (
-            ap {B = ℕ} (λ (b : Bool). pick b (newSession (readRequest msg .seid)) (valueOr (newSession (headerSeid msg)) (sessionOf (headerSeid msg) m)) .seid) not-new ∙ found-seid (headerSeid msg) m live)
+        key : sessionKey (entrySession who m msg) ≡ keyFor who (headerSeid msg)
+        key = unfold entrySession atEntry in (
+            ap {B = ℕ} (λ (b : Bool). sessionKey (pick b (newSession who (readRequest msg .seid)) (valueOr (newSession who (headerSeid msg)) (sessionOf (keyFor who (headerSeid msg)) m)))) not-new ∙ found-key who (headerSeid msg) m live)
 
-        gone : sessionsAfter s m msg ≡ removeSession (entrySession m msg .seid) m
-        gone = unfold sessionsAfter follow in (pick-no (eqb (kindOf msg) setDeletion) _ _ ns ∙ pick-yes (eqb (kindOf msg) deletion) (removeSession (headerSeid msg) m) _ d ∙ ap (λ (k : ℕ). removeSession k m) (sym seid))
+        gone : sessionsAfter s who m msg ≡ removeSession (sessionKey (entrySession who m msg)) m
+        gone = unfold sessionsAfter follow in (pick-no (eqb (kindOf msg) setDeletion) _ _ ns ∙ pick-yes (eqb (kindOf msg) deletion) (removeSession (keyFor who (headerSeid msg)) m) _ d ∙ ap (λ (k : ℕ). removeSession k m) (sym key))
 
   -- ---- TEIDs
 
@@ -119,15 +119,15 @@ module _ (s : Settings) (m : Sessions) (msg : List ℕ) (hm : T (sessionsAllowed
         new-other =
             all-imply (λ g. not (member (g .teid) (heldTeids m))) (λ g. not (eqb n (g .teid)))
             (λ g free. not-T (eqb n (g .teid)) (λ e. T-not (member (g .teid) (heldTeids m)) free (subst (λ (k : ℕ). T (member k (heldTeids m))) (eqb→eq n (g .teid) e) held-n)))
-            (newHoldings (granted s m r) r) (new-free s m x r (entry .kept) rules (request-read msg ho) (enough p) (entry .held))
+            (newHoldings (granted s m r) r) (new-free s m x r (entry .kept) rules (request-read msg ho) (enough hw hm p) (entry .held))
 
     -- an establishment's or a modification's removals
-    pub removed-free : T (not (eqb (kindOf msg) deletion)) → T (not (member n (map teidOf (stayingHoldings r x)))) → T (member n (freeTeids s (sessionsAfter s m msg)))
-    removed-free nd gone = free-there s (sessionsAfter s m msg) n pool-n (unheld-changed sessionTeids heldTeids absent-held (apart-teids s) n h nd (changed-unheld gone))
+    pub removed-free : T (not (eqb (kindOf msg) deletion)) → T (not (member n (map teidOf (stayingHoldings r x)))) → T (member n (freeTeids s (sessionsAfter s who m msg)))
+    removed-free nd gone = free-there s (sessionsAfter s who m msg) n pool-n (unheld-changed sessionTeids heldTeids absent-held (apart-teids s) n h nd (changed-unheld gone))
 
     -- a deletion's: every TEID of its session
-    pub deleted-free : T (eqb (kindOf msg) deletion) → T (member n (freeTeids s (sessionsAfter s m msg)))
-    deleted-free d = free-there s (sessionsAfter s m msg) n pool-n (unheld-deleted sessionTeids heldTeids absent-held (apart-teids s) n h d)
+    pub deleted-free : T (eqb (kindOf msg) deletion) → T (member n (freeTeids s (sessionsAfter s who m msg)))
+    deleted-free d = free-there s (sessionsAfter s who m msg) n pool-n (unheld-deleted sessionTeids heldTeids absent-held (apart-teids s) n h d)
 
   -- ---- addresses of the pool (02 (v))
 
@@ -162,12 +162,12 @@ module _ (s : Settings) (m : Sessions) (msg : List ℕ) (hm : T (sessionsAllowed
         new-other : T (all (whenKept (inAddressPool s) other) (newAddresses (chosenAddress s m) r))
         new-other = all-imply (whenKept (inAddressPool s) unheld) (whenKept (inAddressPool s) other) one (newAddresses (chosenAddress s m) r) (new-addresses-free s m x r rules (p .address))
 
-    pub removed-address-free : T (not (eqb (kindOf msg) deletion)) → T (not (member a (stayingAddresses r x))) → T (member a (freeAddresses s (sessionsAfter s m msg)))
+    pub removed-address-free : T (not (eqb (kindOf msg) deletion)) → T (not (member a (stayingAddresses r x))) → T (member a (freeAddresses s (sessionsAfter s who m msg)))
     removed-address-free nd gone =
-        address-free-there s (sessionsAfter s m msg) a pool-a (unheld-changed (sessionAddresses s) (heldAddresses s) (absent-address-held s) (apart-addresses s) a h nd (address-unheld gone))
+        address-free-there s (sessionsAfter s who m msg) a pool-a (unheld-changed (sessionAddresses s) (heldAddresses s) (absent-address-held s) (apart-addresses s) a h nd (address-unheld gone))
 
-    pub deleted-address-free : T (eqb (kindOf msg) deletion) → T (member a (freeAddresses s (sessionsAfter s m msg)))
-    deleted-address-free d = address-free-there s (sessionsAfter s m msg) a pool-a (unheld-deleted (sessionAddresses s) (heldAddresses s) (absent-address-held s) (apart-addresses s) a h d)
+    pub deleted-address-free : T (eqb (kindOf msg) deletion) → T (member a (freeAddresses s (sessionsAfter s who m msg)))
+    deleted-address-free d = address-free-there s (sessionsAfter s who m msg) a pool-a (unheld-deleted (sessionAddresses s) (heldAddresses s) (absent-address-held s) (apart-addresses s) a h d)
 
 -- ---- set deletions (02 (vii))
 
@@ -203,26 +203,26 @@ module _ (s : Settings) (of : Session → List ℕ) (held : Sessions → List �
           (more h)
 
 -- so every TEID and every address of the pool of a session that a set deletion takes out is free afterwards
-module _ (s : Settings) (m : Sessions) (msg : List ℕ) (hm : T (sessionsAllowed s m)) (d : T (eqb (kindOf msg) setDeletion)) where
+module _ (s : Settings) (who : ℕ) (m : Sessions) (msg : List ℕ) (hm : T (sessionsAllowed s m)) (d : T (eqb (kindOf msg) setDeletion)) where
   abbrev goes : Session → Bool
-  goes = goesSession (readRequest msg .listed)
+  goes z = hasPeer who z && goesSession (readRequest msg .listed) z
 
-  left : sessionsAfter s m msg ≡ keep (λ z. not (goes z)) m
+  left : sessionsAfter s who m msg ≡ keep (λ z. not (goes z)) m
   left = unfold sessionsAfter follow staysSession in (pick-yes (eqb (kindOf msg) setDeletion) (keep (λ z. not (goes z)) m) _ d)
 
   apart-all : T (allPairs (apart s) m)
   apart-all = sessions-kept s m hm .separate
 
-  pub listed-free : (n : ℕ) → T (member n (heldTeids (keep (goesSession (readRequest msg .listed)) m))) → T (member n (freeTeids s (sessionsAfter s m msg)))
+  pub listed-free : (n : ℕ) → T (member n (heldTeids (keep (λ z. hasPeer who z && goesSession (readRequest msg .listed) z) m))) → T (member n (freeTeids s (sessionsAfter s who m msg)))
   unfolding heldTeids
   listed-free n h =
-      free-there s (sessionsAfter s m msg) n (member-passes (inPool s) n (heldTeids (keep goes m)) h (held-in-pool s (keep goes m) (keep-allowed s goes m hm)))
+      free-there s (sessionsAfter s who m msg) n (member-passes (inPool s) n (heldTeids (keep goes m)) h (held-in-pool s (keep goes m) (keep-allowed s goes m hm)))
       (subst (λ (l : Sessions). T (not (member n (heldTeids l)))) (sym left)
       (absent-held n (keep (λ z. not (goes z)) m) (none-stays s sessionTeids heldTeids absent-held (λ y l. refl) (apart-teids s) goes n m apart-all h)))
 
-  pub listed-address-free : (a : ℕ) → T (member a (heldAddresses s (keep (goesSession (readRequest msg .listed)) m))) → T (member a (freeAddresses s (sessionsAfter s m msg)))
+  pub listed-address-free : (a : ℕ) → T (member a (heldAddresses s (keep (λ z. hasPeer who z && goesSession (readRequest msg .listed) z) m))) → T (member a (freeAddresses s (sessionsAfter s who m msg)))
   unfolding heldAddresses
   listed-address-free a h =
-      address-free-there s (sessionsAfter s m msg) a (member-passes (inAddressPool s) a (heldAddresses s (keep goes m)) h (held-addresses-pool s (keep goes m)))
+      address-free-there s (sessionsAfter s who m msg) a (member-passes (inAddressPool s) a (heldAddresses s (keep goes m)) h (held-addresses-pool s (keep goes m)))
       (subst (λ (l : Sessions). T (not (member a (heldAddresses s l)))) (sym left)
       (absent-address-held s a (keep (λ z. not (goes z)) m) (none-stays s (sessionAddresses s) (heldAddresses s) (absent-address-held s) (λ y l. refl) (apart-addresses s) goes a m apart-all h)))

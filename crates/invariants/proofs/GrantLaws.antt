@@ -13,12 +13,17 @@ use Rattle.octets.specs.Choice.{pick, isSome, headOr, rest}
 use Rattle.octets.specs.Lists.{member, all, findBy}
 use Rattle.octets.proofs.Tests.{all-head, all-tail}
 use Rattle.octets.proofs.Bools.{eqb-turn}
-use Rattle.rules.specs.Model.{Settings, Sessions, freeCount, freeTeids}
+use Rattle.rules.specs.Model.{Settings, Sessions, freeCount, freeTeids, isPeer}
 use Rattle.rules.specs.Reading.{readRequest}
 use Rattle.rules.specs.Grants.{Chosen, isChoice, need}
-use Rattle.rules.specs.Stages.{tooFewTeids}
+use Rattle.rules.specs.Stages.{tooFewTeids, needed, entrySession}
 use Rattle.invariants.proofs.VerdictLaws.{Passed}
 use Rattle.invariants.proofs.PoolLaws.{free-enough}
+use Rattle.rules.specs.Sound.{sessionsAllowed}
+use Rattle.rules.specs.Message.{kindOf}
+use Rattle.laws.proofs.PeerLaws.{known-peers}
+use Rattle.invariants.proofs.KeptRules.{sessions-kept, room-left}
+use Rattle.invariants.proofs.Totals.{both-hold}
 
 -- the CHOOSE IDs seen are those that have a TEID
 abbrev pub Matches : List ℕ → List Chosen → Type 0
@@ -47,7 +52,12 @@ module _ (p : ℕ → Bool) where
   next-ok (t ∷ ts) n h k = (all-head p t ts k, all-tail p t ts k, omega arith)
 
 -- as many TEIDs are free as an accepted request needs
-module _ {s : Settings} {m : Sessions} {msg : List ℕ} (passed : Passed s m msg) where
+module _ {s : Settings} {who : ℕ} {m : Sessions} {msg : List ℕ} (hw : T (isPeer who)) (hm : T (sessionsAllowed s m)) (passed : Passed s who m msg) where
   pub enough : need (readRequest msg) ≤ length (freeTeids s m)
-  unfolding tooFewTeids
-  enough = le-trans (nltb→le (freeCount s m) (need (readRequest msg)) (passed .room .1 .1 .1 .0)) (free-enough s m)
+  unfolding freeCount needed
+  enough =
+      let a = room-left (kindOf msg) s who m (entrySession who m msg) (readRequest msg) (passed .room) .pool in
+      let k = sessions-kept s m hm in
+      let b = both-hold s who hw m (known-peers s m (k .sessions)) (k .separate) in
+      let c = free-enough s m in
+      omega arith

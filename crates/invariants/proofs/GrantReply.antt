@@ -13,8 +13,8 @@ use Rattle.octets.specs.Octets.{be, number, numberAt, put, concatMap}
 use Rattle.octets.specs.Lists.{all, findBy}
 use Rattle.octets.proofs.Tests.{and-left, and-right, all-head, all-tail}
 use Rattle.octets.proofs.ListLaws.{onSome}
-use Rattle.octets.proofs.Numbers.{number-be}
-use Rattle.rules.specs.Model.{Settings, Tunnel}
+use Rattle.octets.proofs.Numbers.{number-be, length-be}
+use Rattle.rules.specs.Model.{Settings, Tunnel, peerOf}
 use Rattle.rules.specs.Elements.{fteidOctets, unitFteid, ueGiven, ueOctets, fseidOctets}
 use Rattle.rules.specs.Sound.{settingsAllowed}
 use Rattle.laws.proofs.TableLaws.{ipv4-four}
@@ -229,13 +229,13 @@ module _ (s : Settings) (hs : T (settingsAllowed s)) where
   skip-offending k i n none more h = h
   skip-offending k i n (some t) more h = skip-one k i n ie.offendingIe (be 2 t) more (be-fits s hs ie.offendingIe 2 t (lit< tt) (lit≤ tt)) refl refl h
 
-  node-fits : Fits ie.nodeId (0 ∷ s .ipv4)
+  node-fits : (home : ℕ) → Fits ie.nodeId (0 ∷ be 4 home)
   unfolding Fits
-  node-fits = (lit< tt, small s hs (le-trans (le-of-eq (ap suc (ipv4-four s hs))) (lit≤ tt)))
+  node-fits home = (lit< tt, small s hs (le-trans (le-of-eq (ap suc (length-be 4 home))) (lit≤ tt)))
 
-  fseid-fits : (n : ℕ) → Fits ie.fseid (fseidOctets n (s .ipv4) [])
+  fseid-fits : (home n : ℕ) → Fits ie.fseid (fseidOctets n (be 4 home) [])
   unfolding Fits
-  fseid-fits n = (lit< tt, small s hs (le-trans (le-of-eq (fseid-length s hs n)) (lit≤ tt)))
+  fseid-fits home n = (lit< tt, small s hs (le-trans (le-of-eq (fseid-length s hs home n)) (lit≤ tt)))
 
   pdr-content-fits : (g : Report) → T (reportFits g) → Fits ie.createdPdr (createdPdrContent s g)
   unfolding Fits
@@ -271,30 +271,30 @@ module _ (s : Settings) (hs : T (settingsAllowed s)) where
         ∙ ap valueOf (skip-pdrs i at (gs .pdrs) (asEndpoints (endpointsFrom at) (gs .endpoints)))
         ∙ found-endpoint i (endpointsFrom at) (gs .endpoints) (fits .1)
 
-    module _ (kind n : ℕ) (v : Verdict) (yes′ : v .cause ≡ why.accepted) where
-      body-found : (k : Kind) (i : ℕ) → Gives k i (said gs k i) (replyBody kind s n v gs)
+    module _ (kind home n : ℕ) (v : Verdict) (yes′ : v .cause ≡ why.accepted) where
+      body-found : (k : Kind) (i : ℕ) → Gives k i (said gs k i) (replyBody kind s home n v gs)
       unfolding replyBody nodeIdElement acceptedPart unitFseid
       body-found k i =
           let t = said gs k i in
-          skip-if k i t (eqb kind establishment || eqb kind setDeletion) ie.nodeId (0 ∷ s .ipv4) _ node-fits refl refl
+          skip-if k i t (eqb kind establishment || eqb kind setDeletion) ie.nodeId (0 ∷ be 4 home) _ (node-fits home) refl refl
           (skip-one k i t ie.cause (v .cause ∷ []) _ (one-fits s hs ie.cause (lit< tt) (v .cause)) refl refl
           (skip-offending k i t (v .offending) _
-          (subst (λ (c : ℕ). Gives k i t (pick (eqb c 1) (acceptedPart kind s n gs) [])) (sym yes′)
-          (skip-if k i t (eqb kind establishment) ie.fseid (fseidOctets n (s .ipv4) []) (created s gs) (fseid-fits n) refl refl (created-value k i)))))
+          (subst (λ (c : ℕ). Gives k i t (pick (eqb c 1) (acceptedPart kind s home n gs) [])) (sym yes′)
+          (skip-if k i t (eqb kind establishment) ie.fseid (fseidOctets n (be 4 home) []) (created s gs) (fseid-fits home n) refl refl (created-value k i)))))
 
 -- ---- what the live set reads
 
-module _ (s : Settings) (hs : T (settingsAllowed s)) (msg : List ℕ) (long : headerLength msg ≤ length msg) (n : ℕ) (v : Verdict) (yes′ : v .cause ≡ why.accepted) (gs : Reports) (few : FewReports gs)
+module _ (s : Settings) (hs : T (settingsAllowed s)) (who : ℕ) (msg : List ℕ) (long : headerLength msg ≤ length msg) (n : ℕ) (v : Verdict) (yes′ : v .cause ≡ why.accepted) (gs : Reports) (few : FewReports gs)
     (space : List ℕ) where
-  body-fits : length (replyBody (kindOf msg) s n v gs) ≤ 2000
-  body-fits = le-trans (body-short s hs (kindOf msg) n v gs (λ _. few)) (lit≤ tt)
+  body-fits : length (replyBody (kindOf msg) s (peerOf s who .address) n v gs) ≤ 2000
+  body-fits = le-trans (body-short s hs (kindOf msg) (peerOf s who .address) n v gs (λ _. few)) (lit≤ tt)
 
-  pub accepted-cause : replyCause (put 0 (reply s msg n v gs) space) ≡ 1
-  accepted-cause = reply-cause s msg n v gs space (ipv4-four s hs) (sequence-three msg long) body-fits ∙ yes′
+  pub accepted-cause : replyCause (put 0 (reply s who msg n v gs) space) ≡ 1
+  accepted-cause = reply-cause s who msg n v gs space (sequence-three msg long) body-fits ∙ yes′
 
-  pub accepted-got : T (all reportFits (gs .pdrs)) × T (all reportFits (gs .endpoints)) → (k : Kind) (i : ℕ) → createdGot (put 0 (reply s msg n v gs) space) k i ≡ said gs k i
+  pub accepted-got : T (all reportFits (gs .pdrs)) × T (all reportFits (gs .endpoints)) → (k : Kind) (i : ℕ) → createdGot (put 0 (reply s who msg n v gs) space) k i ≡ said gs k i
   unfolding createdGot createdTeid createdAddress createdGroup
   accepted-got fits k i =
       ap (λ (es : List Element). valueOf (findBy (isCreated k i) es))
-      (reply-elements s msg n v gs space (sequence-three msg long) body-fits)
-      ∙ body-found s hs gs fits (kindOf msg) n v yes′ k i 0
+      (reply-elements s who msg n v gs space (sequence-three msg long) body-fits)
+      ∙ body-found s hs gs fits (kindOf msg) (peerOf s who .address) n v yes′ k i 0

@@ -11,15 +11,16 @@ use Rattle.octets.specs.Lists.{anyIn, allIn, hasRepeat, ascending, all, any, al
 use Rattle.octets.proofs.Tests.{each, all-of-each}
 use Rattle.octets.proofs.ListLaws.{not-not}
 use Rattle.octets.proofs.Bools.{not-or}
-use Rattle.rules.specs.Model.{Settings, Tunnel, Pdr, Endpoint, Csid, Session, Sessions, Holding, teidOf, heldTeids, freeCount, heldAddresses, sessionHoldings, pdrId, endpointId, nodeTypeOf, seidOf}
+use Rattle.rules.specs.Model.{Settings, Tunnel, Pdr, Endpoint, Csid, Session, Sessions, Holding, teidOf, heldTeids, freeCount, heldAddresses, sessionHoldings, pdrId, endpointId, nodeTypeOf, sessionKey, isPeer, holdings, unused, peerOf, otherPeer}
 use Rattle.rules.specs.Limits.{maxPdrs, maxEndpoints, nodeTypes}
 use Rattle.rules.specs.Elements.{nodeAddressAllowed, nodeTypeKept, below16}
 use Rattle.rules.specs.Sound.{inPool, unitFamilies, tunnelTests, tunnelAllowed, matchAllowed, farAllowed, addressAllowed, pdrTests, pdrAllowed, endpointTests, endpointAllowed, csidTests, csidAllowed, shareTests, agree, sessionTests, sessionAllowed, apart, sessionsTests, sessionsAllowed}
 use Rattle.rules.specs.Request.{Request}
 use Rattle.rules.specs.Apply.{pdrWith}
 use Rattle.rules.specs.Grants.{need}
-use Rattle.rules.specs.Stages.{createdPdrs, createdEndpoints, updatedPdrs, livePdrs, liveEndpoints, fteidsOf, idTwice, createdLive, absentId, updatesRemoved, namesBoth, namedEndpoint, endpointIdsAfter, namesAbsent, removedPdrs, choicesAgree, lacksFamily, strange, restoredHoldings, clash, addressesOf, wrongAddress, restoredAddresses, addressClash, requestRules, brokenRules, tooManySessions, tooManyPdrs, tooManyEndpoints, tooFewTeids}
+use Rattle.rules.specs.Stages.{createdPdrs, createdEndpoints, updatedPdrs, livePdrs, liveEndpoints, fteidsOf, idTwice, createdLive, absentId, updatesRemoved, namesBoth, namedEndpoint, endpointIdsAfter, namesAbsent, removedPdrs, choicesAgree, lacksFamily, strange, restoredHoldings, clash, addressesOf, wrongAddress, restoredAddresses, addressClash, requestRules, brokenRules, tooManySessions, tooManyPdrs, tooManyEndpoints, tooFewTeids, needed, passesLimit, passesPool}
 use Rattle.invariants.proofs.VerdictLaws.{NoneOf, none-hold}
+use Rattle.laws.proofs.PeerLaws.{PeersKept, peers-kept}
 
 -- ---- records of the table
 
@@ -131,6 +132,7 @@ pub record SessionKept (s : Settings) (x : Session) : Type 0 where
   pub fewCsids : T (leb (length (x .csids)) nodeTypes)
   pub csidOrder : T (ascending (map nodeTypeOf (x .csids)))
   pub csids : T (all csidAllowed (x .csids))
+  pub peer : T (isPeer (x .peer))
   pub holds : T (allPairs agree (sessionHoldings x))
 
 -- from the tests to the names
@@ -152,26 +154,27 @@ session-kept s x h =
       fewCsids = g .0;
       csidOrder = g .1 .0;
       csids = g .1 .1 .0;
-      holds = g .1 .1 .1 .0;
+      peer = g .1 .1 .1 .0;
+      holds = g .1 .1 .1 .1 .0;
     }
 
 -- and back
 pub session-allowed : {s : Settings} {x : Session} → SessionKept s x → T (sessionAllowed s x)
 unfolding sessionAllowed sessionTests
 session-allowed {s} {x} k =
-    all-of-each (sessionTests s x) (k .seid, (k .seidFits, (k .fewPdrs, (k .pdrOrder, (k .pdrs, (k .fewEndpoints, (k .endpointOrder, (k .endpoints, (k .fewCsids, (k .csidOrder, (k .csids, (k .holds, tt))))))))))))
+    all-of-each (sessionTests s x) (k .seid, (k .seidFits, (k .fewPdrs, (k .pdrOrder, (k .pdrs, (k .fewEndpoints, (k .endpointOrder, (k .endpoints, (k .fewCsids, (k .csidOrder, (k .csids, (k .peer, (k .holds, tt)))))))))))))
 
 -- Sound.sessionsTests
 pub record SessionsKept (s : Settings) (m : Sessions) : Type 0 where
-  pub few : T (leb (length m) (s .limit))
-  pub order : T (ascending (map seidOf m))
+  pub peers : PeersKept s m
+  pub order : T (ascending (map sessionKey m))
   pub sessions : T (all (sessionAllowed s) m)
   pub separate : T (allPairs (apart s) m)
 
 -- from the tests to the names
 pub sessions-kept : (s : Settings) (m : Sessions) → T (sessionsAllowed s m) → SessionsKept s m
 unfolding sessionsAllowed sessionsTests
-sessions-kept s m h = let e = each (sessionsTests s m) h in record { few = e .0; order = e .1 .0; sessions = e .1 .1 .0; separate = e .1 .1 .1 .0 }
+sessions-kept s m h = let e = each (sessionsTests s m) h in record { peers = peers-kept s m h; order = e .1 .0; sessions = e .1 .1 .0; separate = e .1 .1 .1 .0 }
 
 -- ---- the rules of cause 73 that a request keeps
 
@@ -234,20 +237,23 @@ rules-kept s m x r n =
 -- ---- the room of cause 75 that a request finds
 
 -- Stages.noRoom, of which no test holds
-pub record RoomLeft (kind : ℕ) (s : Settings) (m : Sessions) (x : Session) (r : Request) : Type 0 where
-  pub sessions : T (not (tooManySessions s kind m))
+pub record RoomLeft (kind : ℕ) (s : Settings) (who : ℕ) (m : Sessions) (x : Session) (r : Request) : Type 0 where
+  pub sessions : T (not (tooManySessions s who kind m))
   pub pdrs : length (x .pdrs) - length (removedPdrs r (x .pdrs)) + length (r .pdrs) ≤ maxPdrs
   pub endpoints : length (x .endpoints) - length (r .goneEndpoints) + length (r .endpoints) ≤ maxEndpoints
-  pub teids : need r ≤ freeCount s m
+  pub limit : holdings who m + needed r ≤ peerOf s who .limit
+  pub pool : holdings who m + holdings (otherPeer who) m + needed r + unused s (otherPeer who) m ≤ s .size
 
 -- from the tests to the names
-pub room-left : (kind : ℕ) (s : Settings) (m : Sessions) (x : Session) (r : Request)
-    → NoneOf (tooManySessions s kind m ∷ tooManyPdrs x r ∷ tooManyEndpoints x r ∷ tooFewTeids s m r ∷ []) → RoomLeft kind s m x r
-unfolding tooManyPdrs tooManyEndpoints tooFewTeids
-room-left kind s m x r n =
+pub room-left : (kind : ℕ) (s : Settings) (who : ℕ) (m : Sessions) (x : Session) (r : Request)
+    → NoneOf (tooManySessions s who kind m ∷ tooManyPdrs x r ∷ tooManyEndpoints x r ∷ tooFewTeids s who m r ∷ []) → RoomLeft kind s who m x r
+unfolding tooManyPdrs tooManyEndpoints tooFewTeids passesLimit passesPool
+room-left kind s who m x r n =
+    let few = not-or (passesLimit s who m r) (passesPool s who m r) (n .1 .1 .1 .0) in
     record {
       sessions = n .0;
       pdrs = nltb→le maxPdrs (length (x .pdrs) - length (removedPdrs r (x .pdrs)) + length (r .pdrs)) (n .1 .0);
       endpoints = nltb→le maxEndpoints (length (x .endpoints) - length (r .goneEndpoints) + length (r .endpoints)) (n .1 .1 .0);
-      teids = nltb→le (freeCount s m) (need r) (n .1 .1 .1 .0);
+      limit = nltb→le (peerOf s who .limit) (holdings who m + needed r) (few .0);
+      pool = nltb→le (s .size) (holdings who m + holdings (otherPeer who) m + needed r + unused s (otherPeer who) m) (few .1);
     }

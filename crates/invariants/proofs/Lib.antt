@@ -29,3 +29,6 @@ pub mod ServeLaws
 pub mod Steps
 pub mod VerdictLaws
 pub mod Beside
+pub mod Totals
+pub mod NeededTeids
+pub mod PeersAfter

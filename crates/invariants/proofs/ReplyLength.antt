@@ -13,7 +13,7 @@ use Rattle.octets.specs.Choice.{pick}
 use Rattle.octets.specs.Octets.{be, concatMap}
 use Rattle.octets.proofs.Numbers.{length-be}
 use Rattle.octets.proofs.ListLaws.{all-always}
-use Rattle.rules.specs.Model.{Settings, Tunnel, Sessions}
+use Rattle.rules.specs.Model.{Settings, Tunnel, Sessions, peerOf}
 use Rattle.laws.proofs.TableLaws.{ipv4-four}
 use Rattle.rules.specs.Elements.{fteidOctets, unitFteid, fseidOctets}
 use Rattle.rules.specs.Sound.{settingsAllowed}
@@ -89,24 +89,29 @@ module _ (s : Settings) (hs : T (settingsAllowed s)) where
   if-short false xs k h = zero-le
 
   -- Node ID
-  node-short : (kind : ℕ) → length (nodeIdElement kind s) ≤ 9
+  node-short : (kind home : ℕ) → length (nodeIdElement kind home) ≤ 9
   unfolding nodeIdElement
-  node-short kind =
-      let a = length-one ie.nodeId (0 ∷ s .ipv4) in
-      let b = ipv4-four s hs in
-      if-short (eqb kind establishment || eqb kind setDeletion) (element ie.nodeId (0 ∷ s .ipv4)) 9 (omega arith)
+  node-short kind home =
+      let a = length-one ie.nodeId (0 ∷ be 4 home) in
+      let b = length-be 4 home in
+      if-short (eqb kind establishment || eqb kind setDeletion) (element ie.nodeId (0 ∷ be 4 home)) 9 (omega arith)
 
   -- F-SEID
-  pub fseid-length : (n : ℕ) → length (fseidOctets n (s .ipv4) []) ≡ 13
-  unfolding fseidOctets be
-  fseid-length n = let e = ap length (append-nil (s .ipv4)) in let f = ipv4-four s hs in omega arith
+  pub fseid-length : (home n : ℕ) → length (fseidOctets n (be 4 home) []) ≡ 13
+  unfolding fseidOctets
+  fseid-length home n =
+      let a = length-append (be 8 n) (be 4 home ++ []) in
+      let b = length-be 8 n in
+      let e = ap length (append-nil (be 4 home)) in
+      let f = length-be 4 home in
+      omega arith
 
-  fseid-short : (kind n : ℕ) → length (unitFseid kind s n) ≤ 17
+  fseid-short : (kind home n : ℕ) → length (unitFseid kind home n) ≤ 17
   unfolding unitFseid
-  fseid-short kind n =
-      let a = length-one ie.fseid (fseidOctets n (s .ipv4) []) in
-      let b = fseid-length n in
-      if-short (eqb kind establishment) (element ie.fseid (fseidOctets n (s .ipv4) [])) 17 (omega arith)
+  fseid-short kind home n =
+      let a = length-one ie.fseid (fseidOctets n (be 4 home) []) in
+      let b = fseid-length home n in
+      if-short (eqb kind establishment) (element ie.fseid (fseidOctets n (be 4 home) [])) 17 (omega arith)
 
   -- Offending IE
   offending-short : (o : Option ℕ) → length (offendingElement o) ≤ 6
@@ -115,60 +120,60 @@ module _ (s : Settings) (hs : T (settingsAllowed s)) where
   offending-short (some t) = le-of-eq (length-one ie.offendingIe (be 2 t) ∙ ap (λ (k : ℕ). 4 + k) (length-be 2 t))
 
   -- what an acceptance adds
-  accepted-short : (kind n : ℕ) (v : Verdict) (gs : Reports) → (T (eqb (v .cause) why.accepted) → FewReports gs) → length (pick (eqb (v .cause) why.accepted) (acceptedPart kind s n gs) []) ≤ 1161
+  accepted-short : (kind home n : ℕ) (v : Verdict) (gs : Reports) → (T (eqb (v .cause) why.accepted) → FewReports gs) → length (pick (eqb (v .cause) why.accepted) (acceptedPart kind s home n gs) []) ≤ 1161
   unfolding acceptedPart
-  accepted-short kind n v gs few = one (eqb (v .cause) why.accepted) few
+  accepted-short kind home n v gs few = one (eqb (v .cause) why.accepted) few
     where
-      one : (b : Bool) → (T b → FewReports gs) → length (pick b (unitFseid kind s n ++ created s gs) []) ≤ 1161
+      one : (b : Bool) → (T b → FewReports gs) → length (pick b (unitFseid kind home n ++ created s gs) []) ≤ 1161
       one true f =
-          let a = length-append (unitFseid kind s n) (created s gs) in
-          let b = fseid-short kind n in
+          let a = length-append (unitFseid kind home n) (created s gs) in
+          let b = fseid-short kind home n in
           let c = created-short gs (f tt) in
           omega arith
       one false f = zero-le
 
   -- all elements of a reply
-  pub body-short : (kind n : ℕ) (v : Verdict) (gs : Reports) → (T (eqb (v .cause) why.accepted) → FewReports gs) → length (replyBody kind s n v gs) ≤ 1181
+  pub body-short : (kind home n : ℕ) (v : Verdict) (gs : Reports) → (T (eqb (v .cause) why.accepted) → FewReports gs) → length (replyBody kind s home n v gs) ≤ 1181
   unfolding replyBody
-  body-short kind n v gs few =
-      let node = nodeIdElement kind s in
+  body-short kind home n v gs few =
+      let node = nodeIdElement kind home in
       let cause = element ie.cause (v .cause ∷ []) in
       let named = offendingElement (v .offending) in
-      let last = pick (eqb (v .cause) why.accepted) (acceptedPart kind s n gs) [] in
+      let last = pick (eqb (v .cause) why.accepted) (acceptedPart kind s home n gs) [] in
       let a = length-append node (cause ++ (named ++ last)) in
       let b = length-append cause (named ++ last) in
       let c = length-append named last in
-      let d = node-short kind in
+      let d = node-short kind home in
       let e = length-one ie.cause (v .cause ∷ []) in
       let f = offending-short (v .offending) in
-      let g = accepted-short kind n v gs few in
+      let g = accepted-short kind home n v gs few in
       omega arith
 
 -- ---- every reply
 
-module _ (s : Settings) (hs : T (settingsAllowed s)) (m : Sessions) (msg : List ℕ) where
+module _ (s : Settings) (hs : T (settingsAllowed s)) (who : ℕ) (m : Sessions) (msg : List ℕ) where
   -- what an accepted request reports
   abbrev reported : Reports
   reported = reports (granted s m (readRequest msg)) (readRequest msg)
 
   -- its reports are few
-  pub reports-few : verdict s m msg .cause ≡ why.accepted → FewReports reported
+  pub reports-few : verdict s who m msg .cause ≡ why.accepted → FewReports reported
   reports-few e =
-      let p = passed s m msg e in
+      let p = passed s who m msg e in
       record {
         pdrs = le-trans (few-pdr-reports (granted s m (readRequest msg)) (readRequest msg)) (few-new-pdrs p);
         endpoints = le-trans (few-endpoint-reports (granted s m (readRequest msg)) (readRequest msg)) (few-new-endpoints p);
       }
 
   -- what stands behind the header
-  pub reply-body-short : length (replyBody (kindOf msg) s (readRequest msg .seid) (verdict s m msg) reported) ≤ 1181
+  pub reply-body-short : length (replyBody (kindOf msg) s (peerOf s who .address) (readRequest msg .seid) (verdict s who m msg) reported) ≤ 1181
   reply-body-short =
-      body-short s hs (kindOf msg) (readRequest msg .seid) (verdict s m msg) reported (λ h. reports-few (eqb→eq (verdict s m msg .cause) why.accepted h))
+      body-short s hs (kindOf msg) (peerOf s who .address) (readRequest msg .seid) (verdict s who m msg) reported (λ h. reports-few (eqb→eq (verdict s who m msg .cause) why.accepted h))
 
   -- a reply has at most 1,197 octets, and so at most 1,280
-  pub reply-short : headerLength msg ≤ length msg → length (replyTo s m msg (verdict s m msg)) ≤ 1197
+  pub reply-short : headerLength msg ≤ length msg → length (replyTo s who m msg (verdict s who m msg)) ≤ 1197
   unfolding replyTo
   reply-short long =
       let c = reply-body-short in
-      let a = length-reply s msg (readRequest msg .seid) (verdict s m msg) reported [] (sequence-three msg long) (omega arith) in
+      let a = length-reply s who msg (readRequest msg .seid) (verdict s who m msg) reported [] (sequence-three msg long) (omega arith) in
       omega arith

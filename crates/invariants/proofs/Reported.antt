@@ -13,7 +13,7 @@ use Rattle.octets.proofs.Tests.{both, all-head, all-tail, is-true, is-false}
 use Rattle.octets.proofs.Ordered.{pairs-head, pairs-tail}
 use Rattle.octets.proofs.ListLaws.{Every, OnSome, onSome, every-imply, or-by-left, or-by-right, all-imply, all-append, all-always, none-any, all-collect, pairs-map}
 use Rattle.octets.proofs.MemberLaws.{once-differ}
-use Rattle.rules.specs.Model.{Settings, Tunnel, Pdr, Endpoint, Sessions, pdrId, endpointId}
+use Rattle.rules.specs.Model.{Settings, Tunnel, Pdr, Endpoint, Sessions, pdrId, endpointId, keyFor}
 use Rattle.rules.specs.Elements.{Fteid, given, choose, UeIp, ueGiven, ueChoose, ueOther, ueChooses}
 use Rattle.rules.specs.Message.{deletion, setDeletion}
 use Rattle.rules.specs.Request.{NewPdr, NewEndpoint, Request}
@@ -304,11 +304,12 @@ module _ (s : Settings) (m : Sessions) (r : Request) (oncePdrs : T (not (hasRepe
       (every-imply (λ e. T (isSome (reportAddress (endpointReport got e))) → saidOf ofEndpoint (e .id) .address ≡ chosenAddress s m) (λ e. madeEndpoint saidOf e ≡ madeEndpoint got e) made-endpoint (r .endpoints) said-endpoint-addresses)
 
   -- the sessions after it are the same by what the reports say and by what was granted
-  pub follow-said : (kind header : ℕ) → follow saidOf kind header r m ≡ follow got kind header r m
+  pub follow-said : (kind who header : ℕ) → follow saidOf kind who header r m ≡ follow got kind who header r m
   unfolding follow apply pdrsAfter endpointsAfter
-  follow-said kind header =
-      let x = atEntry kind header r m in
-      ap₂ {C = Sessions} (λ (ps : List Pdr) (es : List Endpoint). pick (eqb kind setDeletion) (keep (staysSession (r .listed)) m) (pick (eqb kind deletion) (removeSession header m) (putSession (record {
+  follow-said kind who header =
+      let x = atEntry kind who header r m in
+      ap₂ {C = Sessions} (λ (ps : List Pdr) (es : List Endpoint). pick (eqb kind setDeletion) (keep (staysSession who (r .listed)) m) (pick (eqb kind deletion) (removeSession (keyFor who header) m) (putSession (record {
+        peer = x .peer;
         seid = x .seid;
         pdrs = updateAll (r .changes) (insertAll pdrId ps (keep (keptPdr (removedPdrs r (x .pdrs))) (x .pdrs)));
         endpoints = insertAll endpointId es (keep (keptEndpoint (r .goneEndpoints)) (x .endpoints));

@@ -9,13 +9,13 @@ use lib.Dec.{eqb}
 use Rattle.octets.specs.Choice.{pick}
 use Rattle.octets.specs.Lists.{keep, insertBy, insertAll}
 use Rattle.octets.proofs.ListLaws.{map-map}
-use Rattle.rules.specs.Model.{Settings, Pdr, Session, Sessions, pdrId, seidOf}
+use Rattle.rules.specs.Model.{Settings, Pdr, Session, Sessions, pdrId, keyFor, sessionKey, hasPeer}
 use Rattle.rules.specs.Message.{deletion, setDeletion, kindOf, headerSeid}
 use Rattle.rules.specs.Elements.{Fqcsid}
 use Rattle.rules.specs.Reading.{readRequest}
 use Rattle.rules.specs.Request.{Change, Request}
 use Rattle.rules.specs.Grants.{Kind, Got, granted}
-use Rattle.rules.specs.Stages.{hasSeid, atEntry, removedPdrs}
+use Rattle.rules.specs.Stages.{hasKey, atEntry, removedPdrs}
 use Rattle.rules.specs.Apply.{madePdr, orOld, pdrWith, changedPdr, updateAll, keptPdr, pdrsAfter, apply, otherSession, removeSession, putSession, coversSession, goesSession, staysSession, follow}
 use Rattle.rules.specs.Serve.{sessionsAfter}
 use Rattle.rules.specs.Bare.{barePdr, bareSession, bare, Alike}
@@ -62,48 +62,48 @@ module _ (got : Kind → ℕ → Got) (r : Request) where
 
   apply-bare : (x : Session) → bareSession (apply got r (bareSession x)) ≡ bareSession (apply got r x)
   unfolding apply
-  apply-bare x = λ i. record { seid = x .seid; pdrs = pdrs-bare (x .pdrs) i; endpoints = apply got r x .endpoints; csids = apply got r x .csids }
+  apply-bare x = λ i. record { peer = x .peer; seid = x .seid; pdrs = pdrs-bare (x .pdrs) i; endpoints = apply got r x .endpoints; csids = apply got r x .csids }
 
 -- ---- the sessions
 
 remove-bare : (n : ℕ) (m : Sessions) → bare (removeSession n m) ≡ removeSession n (bare m)
-unfolding removeSession otherSession hasSeid
+unfolding removeSession otherSession hasKey
 remove-bare n m = sym (keep-map bareSession (otherSession n) m)
 
 put-bare : (x : Session) (m : Sessions) → bare (putSession x m) ≡ putSession (bareSession x) (bare m)
 unfolding putSession
-put-bare x m = sym (insert-map bareSession seidOf x (removeSession (x .seid) m)) ∙ ap (insertBy seidOf (bareSession x)) (remove-bare (x .seid) m)
+put-bare x m = sym (insert-map bareSession sessionKey x (removeSession (sessionKey x) m)) ∙ ap (insertBy sessionKey (bareSession x)) (remove-bare (sessionKey x) m)
 
-stays-bare : (ls : List Fqcsid) (m : Sessions) → bare (keep (staysSession ls) m) ≡ keep (staysSession ls) (bare m)
-unfolding staysSession goesSession coversSession
-stays-bare ls m = sym (keep-map bareSession (staysSession ls) m)
+stays-bare : (who : ℕ) (ls : List Fqcsid) (m : Sessions) → bare (keep (staysSession who ls) m) ≡ keep (staysSession who ls) (bare m)
+unfolding staysSession hasPeer goesSession coversSession
+stays-bare who ls m = sym (keep-map bareSession (staysSession who ls) m)
 
-module _ (got : Kind → ℕ → Got) (kind header : ℕ) (r : Request) where
+module _ (got : Kind → ℕ → Got) (kind who header : ℕ) (r : Request) where
   -- the sessions afterwards, bare, from the bare sessions
   abbrev bareFollow : Sessions → Sessions
   bareFollow m =
-      pick (eqb kind setDeletion) (keep (staysSession (r .listed)) m)
-      (pick (eqb kind deletion) (removeSession header m) (putSession (bareSession (apply got r (atEntry kind header r m))) m))
+      pick (eqb kind setDeletion) (keep (staysSession who (r .listed)) m)
+      (pick (eqb kind deletion) (removeSession (keyFor who header) m) (putSession (bareSession (apply got r (atEntry kind who header r m))) m))
 
-  follow-are : (m : Sessions) → bare (follow got kind header r m) ≡ bareFollow (bare m)
+  follow-are : (m : Sessions) → bare (follow got kind who header r m) ≡ bareFollow (bare m)
   unfolding follow
   follow-are m =
       of-pick bare (eqb kind setDeletion) _ _
-      ∙ ap₂ (pick (eqb kind setDeletion)) (stays-bare (r .listed) m)
-      (of-pick bare (eqb kind deletion) _ _ ∙ ap₂ (pick (eqb kind deletion)) (remove-bare header m) put)
+      ∙ ap₂ (pick (eqb kind setDeletion)) (stays-bare who (r .listed) m)
+      (of-pick bare (eqb kind deletion) _ _ ∙ ap₂ (pick (eqb kind deletion)) (remove-bare (keyFor who header) m) put)
     where
-      put : bare (putSession (apply got r (atEntry kind header r m)) m) ≡ putSession (bareSession (apply got r (atEntry kind header r (bare m)))) (bare m)
+      put : bare (putSession (apply got r (atEntry kind who header r m)) m) ≡ putSession (bareSession (apply got r (atEntry kind who header r (bare m)))) (bare m)
       put =
-          put-bare (apply got r (atEntry kind header r m)) m
-          ∙ ap (λ (x : Session). putSession x (bare m)) (sym (apply-bare got r (atEntry kind header r m)) ∙ ap (λ (x : Session). bareSession (apply got r x)) (sym (entry-bare kind header r m)))
+          put-bare (apply got r (atEntry kind who header r m)) m
+          ∙ ap (λ (x : Session). putSession x (bare m)) (sym (apply-bare got r (atEntry kind who header r m)) ∙ ap (λ (x : Session). bareSession (apply got r x)) (sym (entry-bare kind who header r m)))
 
-  pub follow-alike : (m n : Sessions) → Alike m n → Alike (follow got kind header r m) (follow got kind header r n)
+  pub follow-alike : (m n : Sessions) → Alike m n → Alike (follow got kind who header r m) (follow got kind who header r n)
   follow-alike m n e = follow-are m ∙ ap bareFollow e ∙ sym (follow-are n)
 
 -- ---- after an accepted request
 
-pub after-alike : (s : Settings) (m n : Sessions) (msg : List ℕ) → Alike m n → Alike (sessionsAfter s m msg) (sessionsAfter s n msg)
+pub after-alike : (s : Settings) (who : ℕ) (m n : Sessions) (msg : List ℕ) → Alike m n → Alike (sessionsAfter s who m msg) (sessionsAfter s who n msg)
 unfolding sessionsAfter
-after-alike s m n msg e =
-    follow-alike (granted s m (readRequest msg)) (kindOf msg) (headerSeid msg) (readRequest msg) m n e
-    ∙ ap (λ (got : Kind → ℕ → Got). bare (follow got (kindOf msg) (headerSeid msg) (readRequest msg) n)) (granted-alike s m n e (readRequest msg))
+after-alike s who m n msg e =
+    follow-alike (granted s m (readRequest msg)) (kindOf msg) who (headerSeid msg) (readRequest msg) m n e
+    ∙ ap (λ (got : Kind → ℕ → Got). bare (follow got (kindOf msg) who (headerSeid msg) (readRequest msg) n)) (granted-alike s m n e (readRequest msg))

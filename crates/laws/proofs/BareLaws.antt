@@ -11,12 +11,12 @@ use Rattle.octets.specs.Choice.{pick, oneOf, valueOr, mapOption, isSome, headOr
 use Rattle.octets.specs.Lists.{member, anyIn, allIn, distinct, without, range, keep}
 use Rattle.octets.proofs.ListLaws.{map-map, collect-map}
 use Rattle.octets.proofs.Mapped.{of-pick, keep-map, find-map}
-use Rattle.rules.specs.Model.{Settings, Pdr, Session, Sessions, Holding, teidOf, pdrHolding, sessionHoldings, sessionTeids, heldTeids, freeCount, freeTeids, sessionAddresses, heldAddresses, freeAddressCount, freeAddresses, pdrId, pdrEndpoint}
+use Rattle.rules.specs.Model.{peerOf, otherPeer, hasPeer, ofPeer, holdings, unused, keyFor, Settings, Pdr, Session, Sessions, Holding, teidOf, pdrHolding, sessionHoldings, sessionTeids, heldTeids, freeCount, freeTeids, sessionAddresses, heldAddresses, freeAddressCount, freeAddresses, pdrId, pdrEndpoint}
 use Rattle.rules.specs.Message.{kindOf, headerSeid, Spot, frameFault}
 use Rattle.rules.specs.Reading.{Fault, readFault, readRequest}
 use Rattle.rules.specs.Request.{Request}
 use Rattle.rules.specs.Grants.{choices, grantFrom, grants, grantedTeid, chosenAddress, granted}
-use Rattle.rules.specs.Stages.{Verdict, plain, hasSeid, sessionOf, isLive, newSession, unnamed, atEntry, createdPdrs, createdEndpoints, updatedPdrs, livePdrs, liveEndpoints, goesPdr, removedPdrs, createdLive, absentId, updatesRemoved, endpointIdsAfter, namesAbsent, clash, addressClash, requestRules, brokenRules, breaksRule, tooManySessions, tooManyPdrs, tooManyEndpoints, tooFewTeids, roomLacks, addressLacks, judge, entrySession, judged, fromReading, verdictFrom, unknownSession, verdict}
+use Rattle.rules.specs.Stages.{Verdict, plain, hasKey, sessionOf, isLive, newSession, unnamed, atEntry, createdPdrs, createdEndpoints, updatedPdrs, livePdrs, liveEndpoints, goesPdr, removedPdrs, createdLive, absentId, updatesRemoved, endpointIdsAfter, namesAbsent, clash, addressClash, requestRules, brokenRules, breaksRule, tooManySessions, tooManyPdrs, tooManyEndpoints, needed, passesLimit, passesPool, tooFewTeids, roomLacks, addressLacks, judge, entrySession, judged, fromReading, verdictFrom, unknownSession, verdict}
 use Rattle.rules.specs.Finding.{placeFrom, sessionPlace, isHolder, holderPlace}
 use Rattle.rules.specs.Causes as why
 use Rattle.rules.specs.Bare.{barePdr, bareSession, bare, Alike}
@@ -45,11 +45,21 @@ unfolding heldAddresses
 held-addresses-bare s [] = refl
 held-addresses-bare s (x ∷ m) = ap₂ _++_ (addresses-bare s x) (held-addresses-bare s m)
 
+-- and those of one peer
+
+peer-bare : (who : ℕ) (m : Sessions) → ofPeer who (bare m) ≡ bare (ofPeer who m)
+unfolding ofPeer hasPeer
+peer-bare who m = keep-map bareSession (hasPeer who) m
+
+holdings-of-bare : (who : ℕ) (m : Sessions) → holdings who (bare m) ≡ holdings who m
+unfolding holdings
+holdings-of-bare who m = ap (λ (l : Sessions). distinct (heldTeids l)) (peer-bare who m) ∙ ap distinct (held-bare (ofPeer who m))
+
 -- ---- the session at entry
 
 session-bare : (n : ℕ) (m : Sessions) → sessionOf n (bare m) ≡ mapOption bareSession (sessionOf n m)
-unfolding sessionOf hasSeid
-session-bare n m = find-map bareSession (hasSeid n) m
+unfolding sessionOf hasKey
+session-bare n m = find-map bareSession (hasKey n) m
 
 live-bare : (n : ℕ) (m : Sessions) → isLive n (bare m) ≡ isLive n m
 unfolding isLive
@@ -59,14 +69,14 @@ live-bare n m = ap isSome (session-bare n m) ∙ there (sessionOf n m)
     there none = refl
     there (some x) = refl
 
-pub entry-bare : (kind header : ℕ) (r : Request) (m : Sessions) → atEntry kind header r (bare m) ≡ bareSession (atEntry kind header r m)
+pub entry-bare : (kind who header : ℕ) (r : Request) (m : Sessions) → atEntry kind who header r (bare m) ≡ bareSession (atEntry kind who header r m)
 unfolding atEntry newSession
-entry-bare kind header r m =
-    ap (λ (o : Option Session). pick (unnamed kind) (newSession (r .seid)) (valueOr (newSession header) o)) (session-bare header m)
-    ∙ ap (pick (unnamed kind) (newSession (r .seid))) (there (sessionOf header m))
-    ∙ sym (of-pick bareSession (unnamed kind) (newSession (r .seid)) (valueOr (newSession header) (sessionOf header m)))
+entry-bare kind who header r m =
+    ap (λ (o : Option Session). pick (unnamed kind) (newSession who (r .seid)) (valueOr (newSession who header) o)) (session-bare (keyFor who header) m)
+    ∙ ap (pick (unnamed kind) (newSession who (r .seid))) (there (sessionOf (keyFor who header) m))
+    ∙ sym (of-pick bareSession (unnamed kind) (newSession who (r .seid)) (valueOr (newSession who header) (sessionOf (keyFor who header) m)))
   where
-    there : (o : Option Session) → valueOr (newSession header) (mapOption bareSession o) ≡ bareSession (valueOr (newSession header) o)
+    there : (o : Option Session) → valueOr (newSession who header) (mapOption bareSession o) ≡ bareSession (valueOr (newSession who header) o)
     there none = refl
     there (some x) = refl
 
@@ -115,13 +125,13 @@ module _ (s : Settings) (m : Sessions) (r : Request) where
   unfolding addressClash
   address-clash-bare = rw (held-addresses-bare s m)
 
-  sessions-bare : (kind : ℕ) → tooManySessions s kind (bare m) ≡ tooManySessions s kind m
+  sessions-bare : (who kind : ℕ) → tooManySessions s who kind (bare m) ≡ tooManySessions s who kind m
   unfolding tooManySessions
-  sessions-bare kind = rw length-map
+  sessions-bare who kind = rw (peer-bare who m, length-map)
 
-  few-teids-bare : tooFewTeids s (bare m) r ≡ tooFewTeids s m r
-  unfolding tooFewTeids freeCount
-  few-teids-bare = rw (held-bare m)
+  few-teids-bare : (who : ℕ) → tooFewTeids s who (bare m) r ≡ tooFewTeids s who m r
+  unfolding tooFewTeids passesLimit passesPool unused
+  few-teids-bare who = rw (holdings-of-bare who m, holdings-of-bare (otherPeer who) m)
 
   address-lacks-bare : addressLacks s (bare m) r ≡ addressLacks s m r
   unfolding addressLacks freeAddresses
@@ -133,35 +143,35 @@ module _ (s : Settings) (m : Sessions) (x : Session) (r : Request) where
   unfolding breaksRule brokenRules requestRules
   breaks-bare = simp (created-live-bare x r, absent-bare x r, updates-bare x r, names-bare x r, clash-bare s m r, address-clash-bare s m r)
 
-  room-bare : (kind : ℕ) → roomLacks kind s (bare m) (bareSession x) r ≡ roomLacks kind s m x r
+  room-bare : (who kind : ℕ) → roomLacks kind s who (bare m) (bareSession x) r ≡ roomLacks kind s who m x r
   unfolding roomLacks
-  room-bare kind = simp (sessions-bare s m r kind, pdrs-bare x r, endpoints-bare x r, few-teids-bare s m r)
+  room-bare who kind = simp (sessions-bare s m r who kind, pdrs-bare x r, endpoints-bare x r, few-teids-bare s m r who)
 
-  judge-bare : (kind : ℕ) → judge kind s (bare m) (bareSession x) r ≡ judge kind s m x r
+  judge-bare : (who kind : ℕ) → judge kind s who (bare m) (bareSession x) r ≡ judge kind s who m x r
   unfolding judge
-  judge-bare kind = simp (live-bare (r .seid) m, breaks-bare, room-bare kind, address-lacks-bare s m r)
+  judge-bare who kind = simp (live-bare (keyFor who (r .seid)) m, breaks-bare, room-bare who kind, address-lacks-bare s m r)
 
-module _ (s : Settings) (m : Sessions) (msg : List ℕ) where
-  judged-bare : judged s (bare m) msg ≡ judged s m msg
+module _ (s : Settings) (who : ℕ) (m : Sessions) (msg : List ℕ) where
+  judged-bare : judged s who (bare m) msg ≡ judged s who m msg
   unfolding judged entrySession
   judged-bare =
-      ap (λ (x : Session). judge (kindOf msg) s (bare m) x (readRequest msg)) (entry-bare (kindOf msg) (headerSeid msg) (readRequest msg) m)
-      ∙ judge-bare s m (entrySession m msg) (readRequest msg) (kindOf msg)
+      ap (λ (x : Session). judge (kindOf msg) s who (bare m) x (readRequest msg)) (entry-bare (kindOf msg) who (headerSeid msg) (readRequest msg) m)
+      ∙ judge-bare s m (entrySession who m msg) (readRequest msg) who (kindOf msg)
 
-  reading-bare : (f : Option Fault) → fromReading s (bare m) msg f ≡ fromReading s m msg f
+  reading-bare : (f : Option Fault) → fromReading s who (bare m) msg f ≡ fromReading s who m msg f
   unfolding fromReading
   reading-bare none = judged-bare
   reading-bare (some f) = refl
 
-  frame-bare : (f : Option Spot) → verdictFrom s (bare m) msg f ≡ verdictFrom s m msg f
+  frame-bare : (f : Option Spot) → verdictFrom s who (bare m) msg f ≡ verdictFrom s who m msg f
   unfolding verdictFrom
   frame-bare none = reading-bare (readFault msg)
   frame-bare (some f) = refl
 
-  verdict-bare : verdict s (bare m) msg ≡ verdict s m msg
+  verdict-bare : verdict s who (bare m) msg ≡ verdict s who m msg
   unfolding verdict unknownSession
   verdict-bare =
-      ap₂ (λ (b : Bool) (v : Verdict). pick (not (unnamed (kindOf msg)) && not b) (plain why.noSession) v) (live-bare (headerSeid msg) m) (frame-bare (frameFault msg))
+      ap₂ (λ (b : Bool) (v : Verdict). pick (not (unnamed (kindOf msg)) && not b) (plain why.noSession) v) (live-bare (keyFor who (headerSeid msg)) m) (frame-bare (frameFault msg))
 
 -- ---- what is granted
 
@@ -187,9 +197,9 @@ unfolding placeFrom
 place-bare p same i [] = refl
 place-bare p same i (x ∷ m) = ap₂ (λ (b : Bool) (o : Option ℕ). pick b (some i) o) (same x) (place-bare p same (i + 1) m)
 
-seid-place-bare : (seid : ℕ) (m : Sessions) → sessionPlace seid (bare m) ≡ sessionPlace seid m
-unfolding sessionPlace hasSeid
-seid-place-bare seid m = place-bare (hasSeid seid) (λ x. refl) 0 m
+seid-place-bare : (who seid : ℕ) (m : Sessions) → sessionPlace who seid (bare m) ≡ sessionPlace who seid m
+unfolding sessionPlace hasKey
+seid-place-bare who seid m = place-bare (hasKey (keyFor who seid)) (λ x. refl) 0 m
 
 holder-place-bare : (teid : ℕ) (m : Sessions) → holderPlace teid (bare m) ≡ holderPlace teid m
 unfolding holderPlace isHolder
@@ -202,8 +212,8 @@ pub same-of : {X : Type 0} (f : Sessions → X) → ((m : Sessions) → f (bare 
 same-of f through m n e = sym (through m) ∙ ap f e ∙ through n
 
 module _ (s : Settings) (m n : Sessions) (e : Alike m n) where
-  pub verdict-alike : (msg : List ℕ) → verdict s m msg ≡ verdict s n msg
-  verdict-alike msg = same-of (λ (l : Sessions). verdict s l msg) (λ l. verdict-bare s l msg) m n e
+  pub verdict-alike : (who : ℕ) (msg : List ℕ) → verdict s who m msg ≡ verdict s who n msg
+  verdict-alike who msg = same-of (λ (l : Sessions). verdict s who l msg) (λ l. verdict-bare s who l msg) m n e
 
   pub granted-alike : (r : Request) → granted s m r ≡ granted s n r
   granted-alike r = same-of (λ (l : Sessions). granted s l r) (λ l. granted-bare s l r) m n e
@@ -218,8 +228,14 @@ module _ (m n : Sessions) (e : Alike m n) where
   pub length-alike : length m ≡ length n
   length-alike = same-of length (λ l. length-map l bareSession) m n e
 
-  pub seid-place-alike : (seid : ℕ) → sessionPlace seid m ≡ sessionPlace seid n
-  seid-place-alike seid = same-of (sessionPlace seid) (seid-place-bare seid) m n e
+  pub seid-place-alike : (who seid : ℕ) → sessionPlace who seid m ≡ sessionPlace who seid n
+  seid-place-alike who seid = same-of (sessionPlace who seid) (seid-place-bare who seid) m n e
+
+  pub peer-sessions-alike : (who : ℕ) → length (ofPeer who m) ≡ length (ofPeer who n)
+  peer-sessions-alike who = same-of (λ (l : Sessions). length (ofPeer who l)) (λ l. ap length (peer-bare who l) ∙ length-map (ofPeer who l) bareSession) m n e
+
+  pub peer-holdings-alike : (who : ℕ) → holdings who m ≡ holdings who n
+  peer-holdings-alike who = same-of (holdings who) (holdings-of-bare who) m n e
 
   pub holder-place-alike : (teid : ℕ) → holderPlace teid m ≡ holderPlace teid n
   holder-place-alike teid = same-of (holderPlace teid) (holder-place-bare teid) m n e

@@ -7,7 +7,7 @@ use native.Mathlib.Omega.{arith}
 use mathlib.Core.Bool.{Bool, true}
 use mathlib.Core.List.{List, [], _∷_, _++_, map, append-assoc, append-nil}
 use lib.ListN.{length, take, drop, length-append, length-map}
-use lib.Dec.{T, leb→le}
+use lib.Dec.{T}
 use lib.Seq.{take-at, drop-at}
 use Rattle.octets.specs.Octets.{be, put, zeros, padded, concatMap}
 use Rattle.octets.specs.Fields.{fieldOctets}
@@ -20,6 +20,7 @@ use Rattle.rules.specs.Limits.{maxPdrs, maxEndpoints, nodeTypes}
 use Rattle.rules.specs.Layout.{pdrWidth, endpointWidth, csidWidth, sessionWidth, headWidth, pdrNumbers, area, pdrOctets, endpointOctets, csidOctets, sessionOctets, settingsOctets, encode}
 use Rattle.rules.specs.Sound.{settingsAllowed, pdrAllowed, sessionAllowed, sessionsTests, sessionsAllowed}
 use Rattle.laws.proofs.LayoutLaws.{length-area, length-pdr, length-session, pdrsOk, fewPdrs}
+use Rattle.laws.proofs.PeerLaws.{all-sessions}
 use Rattle.laws.proofs.TableLaws.{length-settings, encoded-settings}
 use Rattle.rules.specs.Bare.{barePdr, bareSession, bare, Alike, eachPart, blankPdr, blankSession, blankTable}
 
@@ -85,7 +86,7 @@ module _ (s : Settings) (hs : T (settingsAllowed s)) where
   unfolding blankSession sessionOctets be
   blank-session x hx =
       let rest : List ℕ = area endpointOctets endpointWidth maxEndpoints (x .endpoints) ++ area csidOctets csidWidth nodeTypes (x .csids) in
-      ap₂ (λ (n : ℕ) (l : List ℕ). be 8 (x .seid) ++ (n ∷ length (x .endpoints) ∷ length (x .csids) ∷ l)) (sym (length-map (x .pdrs) barePdr))
+      ap₂ (λ (n : ℕ) (l : List ℕ). x .peer ∷ be 8 (x .seid) ++ (n ∷ length (x .endpoints) ∷ length (x .csids) ∷ l)) (sym (length-map (x .pdrs) barePdr))
       (each-area pdrOctets pdrOctets barePdr pdrWidth blankPdr (pdrAllowed s (map endpointId (x .endpoints))) (λ p h. length-pdr p) (λ p h. length-pdr (barePdr p)) (λ p h. blank-pdr p) blank-room
       maxPdrs (x .pdrs) (pdrsOk s hs x hx) (fewPdrs s hs x hx) rest)
 
@@ -118,7 +119,7 @@ module _ (s : Settings) (hs : T (settingsAllowed s)) where
       ∙ ap₂ (λ (l r : List ℕ). l ++ eachPart blankSession sessionWidth (s .limit) r) (take-at head slots headWidth long) (drop-at head slots headWidth long ∙ sym (append-nil slots))
       ∙ ap (λ (l : List ℕ). head ++ l)
       (each-area sessionOctets sessionOctets bareSession sessionWidth blankSession (sessionAllowed s) (length-session s hs) bare-wide blank-session session-room
-      (s .limit) m (tests .1 .1 .0) (leb→le (length m) (s .limit) (tests .0)) []
+      (s .limit) m (tests .1 .1 .0) (all-sessions s m hm) []
       ∙ append-nil (area sessionOctets sessionWidth (s .limit) (bare m)))
       ∙ ap (λ (k : ℕ). (settingsOctets s ++ be 2 k) ++ area sessionOctets sessionWidth (s .limit) (bare m)) (sym (length-map m bareSession))
       ∙ sym (encoded (bare m))

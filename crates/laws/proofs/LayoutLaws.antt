@@ -281,8 +281,8 @@ limit-read t = refl
 -- ---- sessions
 
 -- the octets before a session's areas
-abbrev eleven : ℕ → ℕ
-eleven n = suc (suc (suc (suc (suc (suc (suc (suc (suc (suc (suc n))))))))))
+abbrev twelve : ℕ → ℕ
+twelve n = suc (suc (suc (suc (suc (suc (suc (suc (suc (suc (suc (suc n)))))))))))
 
 module _ (s : Settings) (hs : T (settingsAllowed s)) (x : Session) (hx : T (sessionAllowed s x)) where
   -- the facts that a session's tests give
@@ -343,7 +343,7 @@ module _ (s : Settings) (hs : T (settingsAllowed s)) (x : Session) (hx : T (sess
   pub length-session : length (sessionOctets x) ≡ sessionWidth
   unfolding sessionOctets be pdrArea endpointArea csidArea
   length-session =
-      ap eleven
+      ap twelve
       (length-append pdrArea (endpointArea ++ csidArea)
       ∙ ap₂ _+_ length-pdrArea (length-append endpointArea csidArea ∙ ap₂ _+_ length-endpointArea length-csidArea))
 
@@ -370,4 +370,4 @@ module _ (s : Settings) (hs : T (settingsAllowed s)) (x : Session) (hx : T (sess
   -- a session's octets are read back
   pub session-back : viewSession (sessionOctets x) ≡ x
   unfolding viewSession sessionOctets viewArea be numberAt octetAt pdrArea endpointArea csidArea
-  session-back = λ j. record { seid = number-be 8 (x .seid) seidFits j; pdrs = pdrs-back j; endpoints = endpoints-back j; csids = csids-back j }
+  session-back = λ j. record { peer = x .peer; seid = number-be 8 (x .seid) seidFits j; pdrs = pdrs-back j; endpoints = endpoints-back j; csids = csids-back j }

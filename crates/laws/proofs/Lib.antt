@@ -1,6 +1,8 @@
 pub mod BoundLaws
 pub mod ElementLaws
 pub mod LayoutLaws
+pub mod DistinctLaws
+pub mod PeerLaws
 pub mod TableLaws
 pub mod HeaderLaws
 pub mod MessageLaws

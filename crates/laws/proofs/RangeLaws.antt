@@ -133,7 +133,7 @@ without-fewer (r ∷ rs) x held h g = one (eqb r x) refl (member r held) refl (w
         later false k = suc-le-suc k
 
 -- different numbers of a list that are held, and those that are left, are no more than the list
-without-count : (rs held : List ℕ) → T (all (λ n. member n rs) held) → length (without rs held) + distinct held ≤ length rs
+pub without-count : (rs held : List ℕ) → T (all (λ n. member n rs) held) → length (without rs held) + distinct held ≤ length rs
 unfolding distinct
 without-count rs [] h = let k = without-short rs [] in omega arith
   where

@@ -13,8 +13,8 @@ use lib.Seq.{take-at, drop-at, drop-drop, length-take-le}
 use Rattle.octets.specs.Choice.{pick, valueOr, mapOption}
 use Rattle.octets.specs.Octets.{be, part, bit, numberAt, octetAt, put}
 use Rattle.octets.specs.Lists.{findBy}
-use Rattle.octets.proofs.Numbers.{number-be}
-use Rattle.rules.specs.Model.{Settings}
+use Rattle.octets.proofs.Numbers.{number-be, length-be}
+use Rattle.rules.specs.Model.{Settings, peerOf}
 use Rattle.rules.specs.Message.{Element, elements, seidThere, headerLength, body, kindOf, headerSeid, sequenceOf, hasType, contentIn, contentOf, establishment, setDeletion, bodyPlace, listPlace, countedPlace}
 use Rattle.laws.proofs.MessageLaws.{Fits, el, elements-cons}
 use Rattle.rules.specs.Stages.{Verdict}
@@ -87,7 +87,7 @@ module _ (kind : ℕ) (q xs space : List ℕ) (three : length q ≡ 3) (short : 
 
 -- ---- a reply in its space
 
-module _ (s : Settings) (msg : List ℕ) (seid : ℕ) (v : Verdict) (gs : Reports) (space : List ℕ) (three : length (sequenceOf msg) ≡ 3) (short : length (replyBody (kindOf msg) s seid v gs) ≤ 2000) where
+module _ (s : Settings) (who : ℕ) (msg : List ℕ) (seid : ℕ) (v : Verdict) (gs : Reports) (space : List ℕ) (three : length (sequenceOf msg) ≡ 3) (short : length (replyBody (kindOf msg) s (peerOf s who .address) seid v gs) ≤ 2000) where
   abbrev kind : ℕ
   kind = kindOf msg + 1
 
@@ -95,9 +95,9 @@ module _ (s : Settings) (msg : List ℕ) (seid : ℕ) (v : Verdict) (gs : Report
   own = replySeid (kindOf msg) (v .cause) (headerSeid msg) seid
 
   abbrev xs : List ℕ
-  xs = replyBody (kindOf msg) s seid v gs
+  xs = replyBody (kindOf msg) s (peerOf s who .address) seid v gs
 
-  pub own-found : replyIn (put 0 (reply s msg seid v gs) space) ≡ reply s msg seid v gs
+  pub own-found : replyIn (put 0 (reply s who msg seid v gs) space) ≡ reply s who msg seid v gs
   unfolding reply
   own-found = one (seidThere msg)
     where
@@ -105,7 +105,7 @@ module _ (s : Settings) (msg : List ℕ) (seid : ℕ) (v : Verdict) (gs : Report
       one true = found kind own (sequenceOf msg) xs space three short
       one false = list-found kind (sequenceOf msg) xs space three short
 
-  pub reply-elements : replyElements (put 0 (reply s msg seid v gs) space) ≡ elements 0 (replyBody (kindOf msg) s seid v gs)
+  pub reply-elements : replyElements (put 0 (reply s who msg seid v gs) space) ≡ elements 0 (replyBody (kindOf msg) s (peerOf s who .address) seid v gs)
   unfolding reply
   reply-elements = one (seidThere msg)
     where
@@ -113,7 +113,7 @@ module _ (s : Settings) (msg : List ℕ) (seid : ℕ) (v : Verdict) (gs : Report
       one true = elements-there kind own (sequenceOf msg) xs space three short
       one false = list-elements kind (sequenceOf msg) xs space three short
 
-  pub length-reply : length (reply s msg seid v gs) ≤ bodyPlace + length (replyBody (kindOf msg) s seid v gs)
+  pub length-reply : length (reply s who msg seid v gs) ≤ bodyPlace + length (replyBody (kindOf msg) s (peerOf s who .address) seid v gs)
   unfolding reply
   length-reply = one (seidThere msg)
     where
@@ -128,26 +128,26 @@ unfolding Fits
 one-fits t h c = (h, lit< tt)
 
 -- Node ID where there is one, then the cause
-cause-first : (establishing : Bool) (s : Settings) (c : ℕ) (rest : List ℕ) → length (s .ipv4) ≡ 4
-    → contentOf ie.cause (elements 0 (pick establishing (element ie.nodeId (0 ∷ s .ipv4)) [] ++ (element ie.cause (c ∷ []) ++ rest))) ≡ some (c ∷ [])
+cause-first : (establishing : Bool) (home c : ℕ) (rest : List ℕ)
+    → contentOf ie.cause (elements 0 (pick establishing (element ie.nodeId (0 ∷ be 4 home)) [] ++ (element ie.cause (c ∷ []) ++ rest))) ≡ some (c ∷ [])
 unfolding contentOf findBy hasType
-cause-first true s c rest four =
+cause-first true home c rest =
     ap (λ (es : List Element). mapOption contentIn (findBy (hasType ie.cause) es))
-    (elements-cons ie.nodeId (0 ∷ s .ipv4) (element ie.cause (c ∷ []) ++ rest) node-fits 0 ∙ ap (λ (es : List Element). el 0 ie.nodeId (0 ∷ s .ipv4) ∷ es) (elements-cons ie.cause (c ∷ []) rest (one-fits ie.cause (lit< tt) c) _))
+    (elements-cons ie.nodeId (0 ∷ be 4 home) (element ie.cause (c ∷ []) ++ rest) node-fits 0 ∙ ap (λ (es : List Element). el 0 ie.nodeId (0 ∷ be 4 home) ∷ es) (elements-cons ie.cause (c ∷ []) rest (one-fits ie.cause (lit< tt) c) _))
   where
-    node-fits : Fits ie.nodeId (0 ∷ s .ipv4)
-    node-fits = unfold Fits in (lit< tt, small (le-trans (le-of-eq (ap suc four)) (lit≤ tt)))
-cause-first false s c rest four = ap (λ (es : List Element). mapOption contentIn (findBy (hasType ie.cause) es)) (elements-cons ie.cause (c ∷ []) rest (one-fits ie.cause (lit< tt) c) 0)
+    node-fits : Fits ie.nodeId (0 ∷ be 4 home)
+    node-fits = unfold Fits in (lit< tt, small (le-trans (le-of-eq (ap suc (length-be 4 home))) (lit≤ tt)))
+cause-first false home c rest = ap (λ (es : List Element). mapOption contentIn (findBy (hasType ie.cause) es)) (elements-cons ie.cause (c ∷ []) rest (one-fits ie.cause (lit< tt) c) 0)
 
 -- the reply's cause is the verdict's
-pub reply-cause : (s : Settings) (msg : List ℕ) (seid : ℕ) (v : Verdict) (gs : Reports) (space : List ℕ)
-    → length (s .ipv4) ≡ 4 → length (sequenceOf msg) ≡ 3 → length (replyBody (kindOf msg) s seid v gs) ≤ 2000
-    → replyCause (put 0 (reply s msg seid v gs) space) ≡ v .cause
+pub reply-cause : (s : Settings) (who : ℕ) (msg : List ℕ) (seid : ℕ) (v : Verdict) (gs : Reports) (space : List ℕ)
+    → length (sequenceOf msg) ≡ 3 → length (replyBody (kindOf msg) s (peerOf s who .address) seid v gs) ≤ 2000
+    → replyCause (put 0 (reply s who msg seid v gs) space) ≡ v .cause
 unfolding replyCause replyBody nodeIdElement octetAt
-reply-cause s msg seid v gs space four three short =
-    ap (λ (es : List Element). octetAt (valueOr [] (contentOf ie.cause es)) 0) (reply-elements s msg seid v gs space three short)
+reply-cause s who msg seid v gs space three short =
+    ap (λ (es : List Element). octetAt (valueOr [] (contentOf ie.cause es)) 0) (reply-elements s who msg seid v gs space three short)
     ∙ ap (λ (o : Option (List ℕ)). octetAt (valueOr [] o) 0)
-    (cause-first (eqb (kindOf msg) establishment || eqb (kindOf msg) setDeletion) s (v .cause) (offendingElement (v .offending) ++ pick (eqb (v .cause) why.accepted) (acceptedPart (kindOf msg) s seid gs) []) four)
+    (cause-first (eqb (kindOf msg) establishment || eqb (kindOf msg) setDeletion) (peerOf s who .address) (v .cause) (offendingElement (v .offending) ++ pick (eqb (v .cause) why.accepted) (acceptedPart (kindOf msg) s (peerOf s who .address) seid gs) []))
 
 pub sequence-three : (msg : List ℕ) → headerLength msg ≤ length msg → length (sequenceOf msg) ≡ 3
 unfolding sequenceOf headerLength

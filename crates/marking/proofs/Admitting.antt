@@ -116,7 +116,7 @@ module _ {sound : Bool} {first : ℕ} {ws : List ℕ} {hs : List Holding} {r : M
 pub records-pooled : (s : Settings) (x : Session) → T (recordsAllowed s x) → T (all (inPool s) (sessionTeids x))
 unfolding recordsAllowed sessionTests
 records-pooled s x a =
-    let t = each (take 11 (sessionTests s x)) a in
+    let t = each (take 12 (sessionTests s x)) a in
     records-in-pool s x (map endpointId (x .endpoints)) (t .1 .1 .1 .1 .0) (t .1 .1 .1 .1 .1 .1 .1 .0)
 
 -- ---- the slot's tests in the order of the code

@@ -1,34 +1,40 @@
 -- A session with its addresses, and the loop over a table's sessions: both walks at once.
 -- Assumes nothing.
-use mathlib.Core.Path.{_≡_, refl, sym, subst, _∙_}
-use Prim.Native.Nat.{ℕ, _+_, _-_, _*_, _≤_, _<_}
+use mathlib.Core.Path.{_≡_, refl, sym, subst, _∙_, ap, transport}
+use Prim.Native.Nat.{ℕ, _+_, _-_, _*_, _≤_, _<_, zero-le, _^_}
 use native.Mathlib.Omega.{arith}
 use mathlib.Core.Bool.{Bool, true, false, not, _&&_}
 use mathlib.Core.List.{List, [], _∷_}
-use lib.Dec.{T, lit≤, lit<}
+use lib.Dec.{T, lit≤, lit<, eqb}
 use lib.ListN.{take, drop, set, replicate, getD, length-set, length-replicate}
 use lib.Seq.{getD-set-same, getD-set-other}
-use Rattle.octets.specs.Choice.{pick}
-use Rattle.octets.specs.Octets.{part, slices}
+use Rattle.octets.specs.Choice.{pick, flag}
+use Rattle.octets.specs.Octets.{part, slices, octetAt}
 use Rattle.octets.specs.Lists.{any}
 use Rattle.octets.proofs.Tests.{of-true, and-left}
-use Rattle.rules.specs.Limits.{maxAddresses}
-use Rattle.rules.specs.Model.{Settings}
+use Rattle.rules.specs.Limits.{maxAddresses, maxSessions}
+use Rattle.rules.specs.Model.{Settings, isPeer}
 use Rattle.rules.specs.Layout.{sessionWidth}
 use Rattle.pool.specs.Map.{marked, marks, newMarks}
 use Rattle.pool.proofs.Marks.{zeros-at, marked-zeros}
-use Rattle.records.specs.Slot.{slotSound}
+use Rattle.records.specs.Slot.{slotSound, slotTests, headSound}
 use Rattle.marking.specs.declared.addresses.Met.{Met}
 use Rattle.marking.specs.Offsets.{heldOffsets, holdersLength, Agrees}
 use Rattle.marking.specs.declared.Marks.{Marks}
 use Rattle.marking.specs.declared.Marks.the-variants.{Clash, New}
 use Rattle.marking.specs.declared.Seen.{Seen}
 use Rattle.marking.specs.declared.Seen.the-variants.{Broken, Held}
-use Rattle.marking.specs.Marking.{marksAfter, newAfter, slotHolds, slotKeeps, Admitted, slotTeids, slotFree, SlotEntered, SessionClaimed, slotsKeep, slotsFree, teidsIn, addressesIn, AllAdmitted}
+use Rattle.marking.specs.declared.Walked.the-variants as walk
+use Rattle.marking.specs.Marking.{marksAfter, newAfter, slotHolds, slotKeeps, Admitted, slotTeids, slotFree, SlotEntered, SessionClaimed, slotsKeep, slotsFree, teidsIn, addressesIn, AllAdmitted, newBy, slotsBy, Tallied}
 use Rattle.marking.proofs.Through.{Through, through-none, through-more, through-stop, through-all}
 use Rattle.octets.proofs.Bools.{and-false}
 use Rattle.marking.specs.declared.addresses.Met.the-variants as met
 use Rattle.marking.specs.Offsets as held
+use Rattle.laws.proofs.PeerLaws.{peer-cases}
+use native.Mathlib.Nat.{add-zero, zero-add}
+use Rattle.records.proofs.Turns.{slices-more}
+use Rattle.marking.specs.Walk.{sessionMarks}
+use Rattle.octets.proofs.Ordered.{orders}
 
 -- ---- what an answer says
 
@@ -145,59 +151,171 @@ holders-none count k as₀ h e =
     other : (i : ℕ) → i < count → _≡_ {A = ℕ} (getD (set zeros maxAddresses 65535) i 0) 0
     other i l = getD-set-other zeros maxAddresses i 65535 0 (λ q. omega arith) ∙ zeros-at holdersLength i
 
+-- a slot that is admitted has a peer, which shares out its number
+entered-peer : (s : Settings) (ws xs : List ℕ) → slotKeeps s ws xs ≡ true → T (isPeer (getD xs 0 0))
+unfolding slotKeeps slotSound slotTests headSound octetAt
+entered-peer s ws xs e = and-left (isPeer (getD xs 0 0)) _ (and-left (headSound xs) _ (and-left (slotSound s xs) (sessionMarks (s .first) ws [] (slotHolds xs)) (of-true e)))
+
+peer-one : (j p : ℕ) → T (isPeer p) → j * (2 - p) ≡ pick {X = ℕ} (eqb p 1) j 0
+peer-one j = peer-cases (λ (p : ℕ). j * (2 - p) ≡ pick {X = ℕ} (eqb p 1) j 0) (omega arith) (omega arith)
+
+peer-two : (j p : ℕ) → T (isPeer p) → j * (p - 1) ≡ pick {X = ℕ} (eqb p 2) j 0
+peer-two j = peer-cases (λ (p : ℕ). j * (p - 1) ≡ pick {X = ℕ} (eqb p 2) j 0) (omega arith) (omega arith)
+
+peer-both : (j p : ℕ) → T (isPeer p) → j * (2 - p) + j * (p - 1) ≡ j
+peer-both j = peer-cases (λ (p : ℕ). j * (2 - p) + j * (p - 1) ≡ j) (omega arith) (omega arith)
+
+peer-count : (p : ℕ) → T (isPeer p) → 2 - p ≡ flag (eqb p 1)
+peer-count = peer-cases (λ (p : ℕ). 2 - p ≡ flag (eqb p 1)) refl refl
+
+pub peer-within : (p : ℕ) → T (isPeer p) → (1 ≤ p) × (p ≤ 2)
+peer-within = peer-cases (λ (p : ℕ). (1 ≤ p) × (p ≤ 2)) (omega arith) (omega arith)
+
+-- a share is no more than the whole
+pub share-small : (j p : ℕ) → j ≤ 24 → 1 ≤ p → p ≤ 2 → (j * (2 - p) ≤ 24) × (j * (p - 1) ≤ 24)
+share-small j p h a b = orders p 1 (λ c. let e : p ≡ 1 = omega arith in rw e (omega arith)) (λ c. let e : p ≡ 2 = omega arith in rw e (omega arith))
+
+module _ {one two first taken j k p : ℕ} (t : Tallied one two first taken j k p) where
+  small : (j * (2 - p) ≤ 24) × (j * (p - 1) ≤ 24)
+  small = share-small j p (t .teids) (t .least) (t .most)
+
+  pub fits-one : j * (2 - p) < 2 ^ 64
+  fits-one = let a = small in omega arith
+
+  pub fits-ones : one + j * (2 - p) < 2 ^ 64
+  fits-ones = let a = small in let b = t .ones in omega arith
+
+  pub fits-two : j * (p - 1) < 2 ^ 64
+  fits-two = let a = small in omega arith
+
+  pub fits-twos : two + j * (p - 1) < 2 ^ 64
+  fits-twos = let a = small in let b = t .twos in omega arith
+
 module _ (s : Settings) (ws₀ as₀ a : List ℕ) (n : ℕ) where
-  pub record Passing (ws hs as′ : List ℕ) (i new taken : ℕ) : Type 0 where
-    pub teids : Through (slotKeeps s) (slotTeids s) ws₀ a n ws i new
+  abbrev slots : List (List ℕ)
+  slots = slices sessionWidth n a
+
+  abbrev left : ℕ → List (List ℕ)
+  left i = slices sessionWidth (n - i) (drop (i * sessionWidth) a)
+
+  pub record Passing (ws hs as′ : List ℕ) (i one two first taken : ℕ) : Type 0 where
+    pub teids : Through (slotKeeps s) (slotTeids s) ws₀ a n ws i (one + two)
     pub addresses : Through (slotFree s) (heldOffsets s) as₀ a n as′ i taken
     pub agrees : Agrees i (s .addressCount) hs as′
+    pub ones : one + newBy s 1 ws (left i) ≡ newBy s 1 ws₀ slots
+    pub twos : two + newBy s 2 ws (left i) ≡ newBy s 2 ws₀ slots
+    pub firsts : first + slotsBy 1 (left i) ≡ slotsBy 1 slots
+    pub few : first ≤ i
 
-  pub passing-none : (hs : List ℕ) → Agrees 0 (s .addressCount) hs as₀ → Passing ws₀ hs as₀ 0 0 0
+  pub passing-none : (hs : List ℕ) → Agrees 0 (s .addressCount) hs as₀ → Passing ws₀ hs as₀ 0 0 0 0 0
   passing-none hs g =
-      record { teids = through-none (slotKeeps s) (slotTeids s) ws₀ a n; addresses = through-none (slotFree s) (heldOffsets s) as₀ a n; agrees = g }
+      let e : n - 0 ≡ n = omega arith in
+      record {
+        teids = through-none (slotKeeps s) (slotTeids s) ws₀ a n;
+        addresses = through-none (slotFree s) (heldOffsets s) as₀ a n;
+        agrees = g;
+        ones = rw e (zero-add (newBy s 1 ws₀ slots));
+        twos = rw e (zero-add (newBy s 2 ws₀ slots));
+        firsts = rw e (zero-add (slotsBy 1 slots));
+        few = zero-le;
+      }
 
-  not-all : (v b : List ℕ) → (slotsKeep s ws₀ (slices sessionWidth n a) && slotsFree s as₀ (slices sessionWidth n a)) ≡ false → AllAdmitted s ws₀ as₀ (slices sessionWidth n a) Broken v b
+  not-all : (v b : List ℕ) → (slotsKeep s ws₀ slots && slotsFree s as₀ slots) ≡ false → AllAdmitted s ws₀ as₀ slots walk.Broken v b
   not-all v b e = record {
     answer = sym (rw e);
-    words = λ j k q. absurd (let z : _≡_ {A = ℕ} 0 1 = cc in omega arith);
-    addresses = λ j k q. absurd (let z : _≡_ {A = ℕ} 0 1 = cc in omega arith);
+    words = λ p q f k z. absurd (let y : _≡_ {A = ℕ} 0 1 = cc in omega arith);
+    addresses = λ p q f k z. absurd (let y : _≡_ {A = ℕ} 0 1 = cc in omega arith);
   }
 
-  module _ {ws hs as′ : List ℕ} {i new taken : ℕ} (p : Passing ws hs as′ i new taken) where
+  module _ {ws hs as′ : List ℕ} {i one two first taken : ℕ} (p : Passing ws hs as′ i one two first taken) where
     -- before the session's turn
     pub passing-turn : Agrees (i + 1 - 1) (s .addressCount) hs as′
     passing-turn = let e : i + 1 - 1 ≡ i = omega arith in rw e (p .agrees)
 
     module _ (h : i < n) (r : Seen) (ws₁ hs₁ as₁ : List ℕ)
         (m : SessionClaimed s (i + 1) ws as′ (take (i * sessionWidth + sessionWidth - i * sessionWidth) (drop (i * sessionWidth) a)) r ws₁ hs₁ as₁) where
-      here : SlotEntered s ws as′ (part (i * sessionWidth) sessionWidth a) r ws₁ as₁
+      abbrev slot : List ℕ
+      slot = part (i * sessionWidth) sessionWidth a
+
+      here : SlotEntered s ws as′ slot r ws₁ as₁
       here =
           let span : i * sessionWidth + sessionWidth - i * sessionWidth ≡ sessionWidth = omega arith in
           subst (λ (k : ℕ). SlotEntered s ws as′ (take k (drop (i * sessionWidth) a)) r ws₁ as₁) span (m .entered)
 
-      pub passing-more : (j k : ℕ) → r ≡ Held j k → Passing ws₁ hs₁ as₁ (i + 1) (new + j) (taken + k)
-      passing-more j k e =
+      -- whose the session is
+      pub passing-peer : (j k : ℕ) → r ≡ Held j k → T (isPeer (getD slot 0 0))
+      passing-peer j k e = entered-peer s ws slot (entered-new here j k e .0)
+
+      -- so it can be added
+      pub passing-tally : (j k q : ℕ) → r ≡ Held j k → q ≡ getD slot 0 0 → n ≤ maxSessions → Tallied one two first taken j k q
+      passing-tally j k q e z few =
+          let w = peer-within q (subst (λ (x : ℕ). T (isPeer x)) (sym z) (passing-peer j k e)) in
+          let t = p .teids .few in
+          let u = p .addresses .few in
+          let f = p .few in
+          let g = here .few j k e in
+          record { ones = omega arith; twos = omega arith; firsts = omega arith; addresses = omega arith; teids = g .0; new = g .1; least = w .0; most = w .1 }
+
+      pub passing-few : (j k : ℕ) → r ≡ Held j k → (j ≤ 24) × (k ≤ 24)
+      passing-few j k e = here .few j k e
+
+      pub passing-more : (j k q : ℕ) → r ≡ Held j k → q ≡ getD slot 0 0 → Passing ws₁ hs₁ as₁ (i + 1) (one + j * (2 - q)) (two + j * (q - 1)) (first + (2 - q)) (taken + k)
+      unfolding newBy slotsBy octetAt
+      passing-more j k q e z =
           let f = entered-new here j k e in
           let few = here .few j k e in
+          let who : T (isPeer q) = subst (λ (x : ℕ). T (isPeer x)) (sym z) (passing-peer j k e) in
+          let w = here .words j k e in
+          let more : left i ≡ slot ∷ left (i + 1) = slices-more sessionWidth a n i h in
+          let sum : one + j * (2 - q) + (two + j * (q - 1)) ≡ one + two + j = let b = peer-both j q who in omega arith in
+          let own : (x : ℕ) → newBy s x ws (left i) ≡ pick (eqb q x) j 0 + newBy s x ws₁ (left (i + 1)) =
+          λ x. ap (newBy s x ws) more ∙ (λ y. pick (eqb (sym z y) x) (sym (f .2) y) 0 + newBy s x (sym w y) (left (i + 1))) in
+          let count : slotsBy 1 (left i) ≡ flag (eqb q 1) + slotsBy 1 (left (i + 1)) = ap (slotsBy 1) more ∙ (λ y. flag (eqb (sym z y) 1) + slotsBy 1 (left (i + 1))) in
           record {
-            teids = through-more (slotKeeps s) (slotTeids s) ws₀ a n (p .teids) h j ws₁ (f .0) (f .2) (here .words j k e) (few .0);
+            teids = subst (λ (x : ℕ). Through (slotKeeps s) (slotTeids s) ws₀ a n ws₁ (i + 1) x) (sym sum) (through-more (slotKeeps s) (slotTeids s) ws₀ a n (p .teids) h j ws₁ (f .0) (f .2) w (few .0));
             addresses = through-more (slotFree s) (heldOffsets s) as₀ a n (p .addresses) h k as₁ (f .1) (f .3) (here .addresses j k e) (few .1);
             agrees = m .agrees j k e;
+            ones = let b = peer-one j q who in let c = own 1 in let d = p .ones in omega arith;
+            twos = let b = peer-two j q who in let c = own 2 in let d = p .twos in omega arith;
+            firsts = let b = peer-count q who in let d = p .firsts in omega (arith, count);
+            few = let b = peer-within q who in let d = p .few in omega arith;
           }
 
-      pub passing-stop : (v b : List ℕ) → r ≡ Broken → AllAdmitted s ws₀ as₀ (slices sessionWidth n a) Broken v b
+      -- the same by the numbers that the code has
+      abbrev lent : List ℕ
+      lent = take (i * sessionWidth + sessionWidth - i * sessionWidth) (drop (i * sessionWidth) a)
+
+      front : getD lent 0 0 ≡ getD slot 0 0
+      front = let span : i * sessionWidth + sessionWidth - i * sessionWidth ≡ sessionWidth = omega arith in ap (λ (k : ℕ). getD (take k (drop (i * sessionWidth) a)) 0 0) span
+
+      pub turn-tally : (j k : ℕ) → r ≡ Held j k → n ≤ maxSessions → Tallied one two first taken j k (getD lent 0 0)
+      turn-tally j k e few = passing-tally j k (getD lent 0 0) e front few
+
+      pub turn-added : (j k one′ two′ first′ taken′ : ℕ) → r ≡ Held j k
+          → (one′ ≡ one + j * (2 - getD lent 0 0)) × (two′ ≡ two + j * (getD lent 0 0 - 1)) × (first′ ≡ first + (2 - getD lent 0 0)) × (taken′ ≡ taken + k)
+          → Passing ws₁ hs₁ as₁ (i + 1) one′ two′ first′ taken′
+      turn-added j k one′ two′ first′ taken′ e y =
+          transport (λ x. Passing ws₁ hs₁ as₁ (i + 1) (sym (y .0) x) (sym (y .1) x) (sym (y .2) x) (sym (y .3) x)) (passing-more j k (getD lent 0 0) e front)
+
+      pub passing-stop : (v b : List ℕ) → r ≡ Broken → AllAdmitted s ws₀ as₀ slots walk.Broken v b
       unfolding slotsKeep slotsFree
       passing-stop v b e =
           entered-not here e
           (λ f. not-all v b (rw (through-stop (slotKeeps s) (slotTeids s) ws₀ a n (p .teids) h f)))
-          (λ f. not-all v b (rw (through-stop (slotFree s) (heldOffsets s) as₀ a n (p .addresses) h f) (and-false (slotsKeep s ws₀ (slices sessionWidth n a)))))
+          (λ f. not-all v b (rw (through-stop (slotFree s) (heldOffsets s) as₀ a n (p .addresses) h f) (and-false (slotsKeep s ws₀ slots))))
 
-    pub passing-all : n ≤ i → AllAdmitted s ws₀ as₀ (slices sessionWidth n a) (Held new taken) ws as′
-    unfolding slotsKeep slotsFree teidsIn addressesIn
+    pub passing-all : n ≤ i → AllAdmitted s ws₀ as₀ slots (walk.Held one two first taken) ws as′
+    unfolding slotsKeep slotsFree teidsIn addressesIn newBy slotsBy slices
     passing-all h =
         let t = through-all (slotKeeps s) (slotTeids s) ws₀ a n (p .teids) h in
         let u = through-all (slotFree s) (heldOffsets s) as₀ a n (p .addresses) h in
+        let e : n - i ≡ 0 = omega arith in
+        let none-left : left i ≡ [] = rw e in
+        let ones : newBy s 1 ws₀ slots ≡ one = sym (p .ones) ∙ ap (λ (l : List (List ℕ)). one + newBy s 1 ws l) none-left ∙ add-zero one in
+        let twos : newBy s 2 ws₀ slots ≡ two = sym (p .twos) ∙ ap (λ (l : List (List ℕ)). two + newBy s 2 ws l) none-left ∙ add-zero two in
+        let firsts : slotsBy 1 slots ≡ first = sym (p .firsts) ∙ ap (λ (l : List (List ℕ)). first + slotsBy 1 l) none-left ∙ add-zero first in
         record {
-          answer = sym (λ j. pick (t .yes′ j && u .yes′ j) (Held (sym (t .count) j) (sym (u .count) j)) Broken);
-          words = λ j k q. t .words;
-          addresses = λ j k q. u .words;
+          answer = sym (λ j. pick (t .yes′ j && u .yes′ j) (walk.Held (ones j) (twos j) (firsts j) (sym (u .count) j)) walk.Broken);
+          words = λ a′ b c d q. t .words;
+          addresses = λ a′ b c d q. u .words;
         }

@@ -127,7 +127,7 @@ module _ (s : Settings) where
       let t = each (sessionTests s x) h in
       records-in-pool x (map endpointId (x .endpoints)) (t .1 .1 .1 .1 .0) (t .1 .1 .1 .1 .1 .1 .1 .0)
 
-  all-in-pool : (m : Sessions) → T (all (sessionAllowed s) m) → T (all (inPool s) (heldTeids m))
+  pub all-in-pool : (m : Sessions) → T (all (sessionAllowed s) m) → T (all (inPool s) (heldTeids m))
   unfolding all heldTeids
   all-in-pool [] h = tt
   all-in-pool (x ∷ m) h =

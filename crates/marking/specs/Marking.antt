@@ -1,14 +1,14 @@
 -- Who holds which TEID by the octets of slots, and the walk that marks TEIDs and addresses (01: "a TEID is held by one endpoint, or by PDRs of one session
 -- with equal family flags and source interface").
 -- Assumes nothing.
-use Prim.Native.Nat.{ℕ, _*_, _-_, _%_, _≤_}
+use Prim.Native.Nat.{ℕ, _+_, _*_, _-_, _%_, _≤_}
 use mathlib.Core.Path.{_≡_}
 use mathlib.Core.Bool.{Bool, true, not, _&&_}
 use mathlib.Core.Option.{Option, none, some}
 use mathlib.Core.List.{List, [], _∷_, map}
 use lib.Dec.{eqb}
 use lib.ListN.{length}
-use Rattle.octets.specs.Choice.{pick}
+use Rattle.octets.specs.Choice.{pick, flag}
 use Rattle.octets.specs.Octets.{part, number, octetAt, slices, concatMap}
 use Rattle.octets.specs.Lists.{any, collect}
 use Rattle.rules.specs.Model.{Settings, Holding, tunnelHolding, pdrHolding, endpointHolding, sessionHoldings, teidOf}
@@ -21,6 +21,8 @@ use Rattle.marking.specs.declared.Marks.{Marks}
 use Rattle.marking.specs.declared.Marks.the-variants.{Clash, New}
 use Rattle.marking.specs.declared.Seen.{Seen}
 use Rattle.marking.specs.declared.Seen.the-variants.{Broken, Held}
+use Rattle.marking.specs.declared.Walked.{Walked}
+use Rattle.marking.specs.declared.Walked.the-variants as walk
 
 -- ---- one PDR
 
@@ -140,7 +142,27 @@ teidsIn s xss = concatMap (slotTeids s) xss
 unfoldable pub addressesIn : Settings → List (List ℕ) → List ℕ
 addressesIn s xss = concatMap (heldOffsets s) xss
 
-pub record AllAdmitted (s : Settings) (ws as′ : List ℕ) (xss : List (List ℕ)) (r : Seen) (ws₁ as₁ : List ℕ) : Type 0 where
-  pub answer : r ≡ pick (slotsKeep s ws xss && slotsFree s as′ xss) (Held (newMarks ws (teidsIn s xss)) (newMarks as′ (addressesIn s xss))) Broken
-  pub words : (n k : ℕ) → r ≡ Held n k → ws₁ ≡ marks ws (teidsIn s xss)
-  pub addresses : (n k : ℕ) → r ≡ Held n k → as₁ ≡ marks as′ (addressesIn s xss)
+-- how many of the TEIDs that a peer's slots hold are new, and how many slots it has (02 (xiv))
+unfoldable pub newBy : Settings → ℕ → List ℕ → List (List ℕ) → ℕ
+newBy s who ws [] = 0
+newBy s who ws (xs ∷ xss) = pick (eqb (octetAt xs 0) who) (newMarks ws (slotTeids s xs)) 0 + newBy s who (marks ws (slotTeids s xs)) xss
+
+unfoldable pub slotsBy : ℕ → List (List ℕ) → ℕ
+slotsBy who [] = 0
+slotsBy who (xs ∷ xss) = flag (eqb (octetAt xs 0) who) + slotsBy who xss
+
+pub record AllAdmitted (s : Settings) (ws as′ : List ℕ) (xss : List (List ℕ)) (r : Walked) (ws₁ as₁ : List ℕ) : Type 0 where
+  pub answer : r ≡ pick (slotsKeep s ws xss && slotsFree s as′ xss) (walk.Held (newBy s 1 ws xss) (newBy s 2 ws xss) (slotsBy 1 xss) (newMarks as′ (addressesIn s xss))) walk.Broken
+  pub words : (p q f k : ℕ) → r ≡ walk.Held p q f k → ws₁ ≡ marks ws (teidsIn s xss)
+  pub addresses : (p q f k : ℕ) → r ≡ walk.Held p q f k → as₁ ≡ marks as′ (addressesIn s xss)
+
+-- numbers that another session can be added to
+pub record Tallied (one two first taken j k peer : ℕ) : Type 0 where
+  pub ones : one ≤ 6144
+  pub twos : two ≤ 6144
+  pub firsts : first ≤ 256
+  pub addresses : taken ≤ 6144
+  pub teids : j ≤ 24
+  pub new : k ≤ 24
+  pub least : 1 ≤ peer
+  pub most : peer ≤ 2

@@ -15,7 +15,7 @@ ghost use Rattle.marking.specs.Walk.{joins};
 ghost use Rattle.unit.specs.Meaning.{settingsOf};
 ghost use Rattle.records.specs.Kept.{pdrSound, endpointSound, endpointIds};
 ghost use Rattle.records.specs.Slot.{areaSound};
-ghost use Rattle.marking.specs.Marking.{holdsTeid, alike, heldBy, holdAt, endpointHold, pdrHolds, endpointHolds, Stepped, Marked, Admitted, SessionClaimed, AllAdmitted};
+ghost use Rattle.marking.specs.Marking.{Tallied, holdsTeid, alike, heldBy, holdAt, endpointHold, pdrHolds, endpointHolds, Stepped, Marked, Admitted, SessionClaimed, AllAdmitted};
 ghost use Rattle.marking.specs.Offsets.{Agrees};
 use format::CSID_COUNT;
 use format::CSIDS;
@@ -240,25 +240,63 @@ fn admit_session(
     Seen::Held(n, k)
 }
 
-// Tests n slots and marks their TEIDs and addresses, one after the other. The map of addresses has to be empty.
-pub fn admit_all(words: &mut [u64], addresses: &mut [u64], a: &[u8], n: usize, u: Settings) -> Seen
+// What became of the whole walk: a session is broken or holds what another one holds; or how many TEIDs peer 1's sessions hold and peer 2's, how many
+// sessions peer 1 has, and how many addresses were new.
+pub enum Walked {
+    Broken,
+    Held(usize, usize, usize, usize),
+}
+
+// What was counted so far, in that order.
+pub struct Tally {
+    pub one: usize,
+    pub two: usize,
+    pub first: usize,
+    pub taken: usize,
+}
+
+// With a session of a peer that has j TEIDs and k addresses. No branch goes by whose it is.
+fn added(c: Tally, j: usize, k: usize, peer: u8) -> Tally
+    requires { ⌜ Tallied (c .one) (c .two) (c .first) (c .taken) j k peer ⌝ }
+    ensures { λ r. ⌜ (r .one ≡ c .one + j * (2 - peer)) × (r .two ≡ c .two + j * (peer - 1)) × (r .first ≡ c .first + (2 - peer)) × (r .taken ≡ c .taken + k) ⌝ }
+{
+    let p = peer as usize;
+    Tally {
+        one: c.one + j * (2 - p),
+        two: c.two + j * (p - 1),
+        first: c.first + (2 - p),
+        taken: c.taken + k,
+    }
+}
+
+// Tests n slots and marks their TEIDs and addresses, one after the other. The map of addresses has to be empty. No branch goes by whose a session is.
+pub fn admit_all(
+    words: &mut [u64],
+    addresses: &mut [u64],
+    a: &[u8],
+    n: usize,
+    u: Settings,
+) -> Walked
     requires { ⌜ (n * sessionWidth ≤ length (now a)) × (n ≤ maxSessions) × (u .first + u .size ≤ 2 ^ 32) × (u .size ≤ 64 * length (now words)) × (u .«first_address» + u .addresses ≤ 2 ^ 32) × (u .addresses ≤ maxAddresses) × (now addresses ≡ replicate addressWords 0) ⌝ }
     ensures { λ r.
         ⌜ AllAdmitted (settingsOf u) (now (words .entry)) (now (addresses .entry)) (slices sessionWidth n (now (a .entry))) r (now (words .exit)) (now (addresses .exit)) ⌝ }
 {
     let mut holders = [0u16; addresses::HOLDERS];
     holders[addresses::NO_ADDRESS] = 65535;
-    let mut new: usize = 0;
-    let mut taken: usize = 0;
+    let mut sum = Tally {
+        one: 0,
+        two: 0,
+        first: 0,
+        taken: 0,
+    };
     for i in 0..n {
         let at = i * SLOT;
         let slot = &a[at..at + SLOT];
         let step = admit_session(words, &mut holders, addresses, slot, (i + 1) as u16, u);
         let Seen::Held(j, k) = step else {
-            return Seen::Broken;
+            return Walked::Broken;
         };
-        new += j;
-        taken += k;
+        sum = added(sum, j, k, slot[0]);
     }
-    Seen::Held(new, taken)
+    Walked::Held(sum.one, sum.two, sum.first, sum.taken)
 }

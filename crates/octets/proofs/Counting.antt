@@ -20,7 +20,7 @@ newIn seen [] = 0
 newIn seen (t ∷ ts) = flag (not (member t seen)) + newIn (t ∷ seen) ts
 
 -- a number counts the same wherever it stands
-distinct-middle : (t : ℕ) (xs ys : List ℕ) → distinct (xs ++ t ∷ ys) ≡ flag (not (member t (xs ++ ys))) + distinct (xs ++ ys)
+pub distinct-middle : (t : ℕ) (xs ys : List ℕ) → distinct (xs ++ t ∷ ys) ≡ flag (not (member t (xs ++ ys))) + distinct (xs ++ ys)
 unfolding distinct member
 distinct-middle t [] ys = refl
 distinct-middle t (x ∷ xs) ys = go (ℕ-discrete x t) (distinct-middle t xs ys)

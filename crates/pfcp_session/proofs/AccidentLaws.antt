@@ -23,7 +23,7 @@ use Rattle.rules.specs.Reading.{readRequest}
 use Rattle.rules.specs.Request.{Request, NewPdr, NewEndpoint}
 use Rattle.rules.specs.Grants.{Kind, ofPdr, ofEndpoint, chosenAddress, choices, Grant, grantOf, grantTeid, isGrantFor, grants, grantedTeid, need}
 use Rattle.rules.specs.Stages.{newSession, newPdrAddress, newEndpointAddress, addressesOf, entrySession, unnamed, atEntry}
-use Rattle.rules.specs.Apply.{keptPdr, keptEndpoint, goesSession}
+use Rattle.rules.specs.Apply.{keptPdr, keptEndpoint}
 use Rattle.rules.specs.Serve.{Served, serve}
 use Rattle.rules.specs.Live.{replied, acceptedEvent, createdTeid, createdAddress}
 use Rattle.rules.specs.Claim.{mapOf, addressMapOf, Holds}
@@ -43,7 +43,7 @@ use Rattle.invariants.proofs.ServeLaws.{TableKept, table-kept, serve-sound}
 use Rattle.invariants.proofs.AcceptedCall.{choosesAddress, AcceptedCall, accepted-call, next-removed, next-deleted, next-listed, next-removed-address, next-deleted-address, next-listed-address, address-chosen}
 use Rattle.pfcp_session.specs.Calls.{countAnswer, countCall, addressCountCall, RequestCall}
 use Rattle.pfcp_session.specs.Runs.{Run, liveAfter, tableAfter, HostClaim}
-use Rattle.pfcp_session.specs.Accident.{entriesAfter, Accepted, OutOfUse, Released, AddressReleased, unremoved, spared, ReleasedIsRemoved, holds, OneHolder, choosesIp, freshAddress, freshPdr, freshEndpoint, NoTwoPatients}
+use Rattle.pfcp_session.specs.Accident.{entriesAfter, Accepted, OutOfUse, Released, AddressReleased, unremoved, spared, goesOf, ReleasedIsRemoved, holds, OneHolder, choosesIp, freshAddress, freshPdr, freshEndpoint, NoTwoPatients}
 use Rattle.pfcp_session.proofs.RunLaws.{request-step, host-claim}
 use Rattle.laws.proofs.HeaderLaws.{unnamed-sets}
 
@@ -160,36 +160,36 @@ grants-unheld s m r few =
     (subst T (sym (all-map asGrant (λ g. unheld (grantTeid g)) given))
     (granted-all unheld (λ i n. unheld n) (λ i n h. h) (choices r) [] (freeTeids s m) [] (λ i. unfold member findBy in refl) (unfold all in tt) (free-not-held s m) few))
 
-module _ (run : Run) (msg space : List ℕ) (r : RequestCall) (a : Accepted run msg space r) where
+module _ (run : Run) (who : ℕ) (msg space : List ℕ) (r : RequestCall) (a : Accepted run who msg space r) where
   -- the table at entry, and what the rules leave
   abbrev t : List ℕ
   t = tableAfter run
 
   abbrev out : Served
-  out = serve t msg space
+  out = serve t who msg space
 
   same : _≡_ {A = Served} (record { outcome = r .outcome; place = r .place; space = r .space; table = r .table }) out
-  same = request-step t msg space r (a .call)
+  same = request-step t who msg space r (a .call)
 
-  call : AcceptedCall t msg space
-  call = accepted-call t msg space (a .message) (subst (λ (o : Served). T (acceptedEvent (replied msg (o .outcome) (o .space)))) same (a .reply))
+  call : AcceptedCall t who msg space
+  call = accepted-call t who msg space (a .message) (subst (λ (o : Served). T (acceptedEvent (replied who msg (o .outcome) (o .space)))) same (a .reply))
 
   -- the session that the request is about: in a set deletion, one without records
   abbrev x : Session
-  x = entrySession (viewSessions t) msg
+  x = entrySession who (viewSessions t) msg
 
-  about-none : T (eqb (kindOf msg) setDeletion) → x ≡ newSession (readRequest msg .seid)
+  about-none : T (eqb (kindOf msg) setDeletion) → x ≡ newSession who (readRequest msg .seid)
   unfolding entrySession atEntry
-  about-none d = pick-yes (unnamed (kindOf msg)) (newSession (readRequest msg .seid)) _ (of-true (unnamed-sets (kindOf msg) (eqb→eq (kindOf msg) setDeletion d)))
+  about-none d = pick-yes (unnamed (kindOf msg)) (newSession who (readRequest msg .seid)) _ (of-true (unnamed-sets (kindOf msg) (eqb→eq (kindOf msg) setDeletion d)))
 
   -- what it spares of a session that it does not delete
   spared-is : T (not (eqb (kindOf msg) deletion)) → spared msg x ≡ unremoved (readRequest msg) x
   unfolding spared
-  spared-is d = pick-no (eqb (kindOf msg) deletion) (newSession (x .seid)) (unremoved (readRequest msg) x) d
+  spared-is d = pick-no (eqb (kindOf msg) deletion) (newSession (x .peer) (x .seid)) (unremoved (readRequest msg) x) d
 
   -- the table that it leaves
   kept-out : TableKept (out .table)
-  kept-out = table-kept (out .table) (serve-sound t msg space (a .message) (call .answered .table))
+  kept-out = table-kept (out .table) (serve-sound t who msg space (a .message) (call .answered .table))
 
   next-out : (n : ℕ) → T (member n (freeTeids (viewSettings (out .table)) (viewSessions (out .table)))) → Released (r .table) n
   next-out n h = subst (λ (o : Served). Released (o .table) n) (sym same) (free-out (out .table) kept-out n h)
@@ -202,9 +202,9 @@ module _ (run : Run) (msg space : List ℕ) (r : RequestCall) (a : Accepted run 
   removed-out n h gone =
       next-out n
       (by-test (eqb (kindOf msg) setDeletion) (λ d. absurd (none d (subst (λ (y : Session). T (member n (sessionTeids y))) (about-none d) h)))
-      (λ ns. by-test (eqb (kindOf msg) deletion) (λ d. next-deleted t msg space (a .message) call d n h) (λ d. next-removed t msg space (a .message) call ns d n h (staying d))))
+      (λ ns. by-test (eqb (kindOf msg) deletion) (λ d. next-deleted t who msg space (a .message) call d n h) (λ d. next-removed t who msg space (a .message) call ns d n h (staying d))))
     where
-      none : T (eqb (kindOf msg) setDeletion) → T (member n (sessionTeids (newSession (readRequest msg .seid)))) → ⊥
+      none : T (eqb (kindOf msg) setDeletion) → T (member n (sessionTeids (newSession who (readRequest msg .seid)))) → ⊥
       none d g = unfold newSession sessionTeids sessionHoldings collect member in g
 
       staying : T (not (eqb (kindOf msg) deletion)) → T (not (member n (map teidOf (stayingHoldings (readRequest msg) x))))
@@ -215,10 +215,10 @@ module _ (run : Run) (msg space : List ℕ) (r : RequestCall) (a : Accepted run 
   address-removed-out n h gone =
       next-address-out n
       (by-test (eqb (kindOf msg) setDeletion) (λ d. absurd (none d (subst (λ (y : Session). T (member n (sessionAddresses (viewSettings t) y))) (about-none d) h)))
-      (λ ns. by-test (eqb (kindOf msg) deletion) (λ d. next-deleted-address t msg space (a .message) call d n h)
-      (λ d. next-removed-address t msg space (a .message) call ns d n h (staying d))))
+      (λ ns. by-test (eqb (kindOf msg) deletion) (λ d. next-deleted-address t who msg space (a .message) call d n h)
+      (λ d. next-removed-address t who msg space (a .message) call ns d n h (staying d))))
     where
-      none : T (eqb (kindOf msg) setDeletion) → T (member n (sessionAddresses (viewSettings t) (newSession (readRequest msg .seid)))) → ⊥
+      none : T (eqb (kindOf msg) setDeletion) → T (member n (sessionAddresses (viewSettings t) (newSession who (readRequest msg .seid)))) → ⊥
       none d g = unfold newSession sessionAddresses collect keep member in g
 
       pooled : T (inAddressPool (viewSettings t) n)
@@ -231,11 +231,11 @@ module _ (run : Run) (msg space : List ℕ) (r : RequestCall) (a : Accepted run 
           (subst (λ (y : Session). T (not (member n (sessionAddresses (viewSettings t) y)))) (spared-is d) gone))
 
   -- what the sessions held that a set deletion takes out
-  listed-out : T (eqb (kindOf msg) setDeletion) → (n : ℕ) → T (member n (heldTeids (keep (goesSession (readRequest msg .listed)) (viewSessions t)))) → Released (r .table) n
-  listed-out d n h = next-out n (next-listed t msg space (a .message) call d n h)
+  listed-out : T (eqb (kindOf msg) setDeletion) → (n : ℕ) → T (member n (heldTeids (keep (goesOf who msg) (viewSessions t)))) → Released (r .table) n
+  listed-out d n h = next-out n (next-listed t who msg space (a .message) call d n (unfold goesOf in h))
 
-  address-listed-out : T (eqb (kindOf msg) setDeletion) → (n : ℕ) → T (member n (heldAddresses (viewSettings t) (keep (goesSession (readRequest msg .listed)) (viewSessions t)))) → AddressReleased (r .table) n
-  address-listed-out d n h = next-address-out n (next-listed-address t msg space (a .message) call d n h)
+  address-listed-out : T (eqb (kindOf msg) setDeletion) → (n : ℕ) → T (member n (heldAddresses (viewSettings t) (keep (goesOf who msg) (viewSessions t)))) → AddressReleased (r .table) n
+  address-listed-out d n h = next-address-out n (next-listed-address t who msg space (a .message) call d n (unfold goesOf in h))
 
   -- a TEID that the reply grants
   granted-unheld : (k : Kind) (id : ℕ) → T (not (member (createdTeid (r .space) k id) (heldTeids (viewSessions t))))
@@ -253,14 +253,14 @@ module _ (run : Run) (msg space : List ℕ) (r : RequestCall) (a : Accepted run 
       one none e = zero-unheld t (kept run)
       one (some g) e =
           found-knows (λ g′. T (not (member (grantTeid g′) (heldTeids m)))) (isGrantFor k id) gs g
-          (all-every (λ g′. not (member (grantTeid g′) (heldTeids m))) gs (grants-unheld (viewSettings t) m (readRequest msg) (enough (call .passed)))) e
+          (all-every (λ g′. not (member (grantTeid g′) (heldTeids m))) gs (grants-unheld (viewSettings t) m (readRequest msg) (enough (call .answered .peer) (kept run .sessions) (call .passed)))) e
 
   -- an address that the reply grants to a record that chooses one
   abbrev held : List ℕ
   held = heldAddresses (viewSettings t) (viewSessions t)
 
   chosen-unheld : T (any ueChooses (addressesOf (readRequest msg))) → T (not (member (chosenAddress (viewSettings t) (viewSessions t)) held))
-  chosen-unheld h = address-chosen t msg space (a .message) call h .unheld
+  chosen-unheld h = address-chosen t who msg space (a .message) call h .unheld
 
   fresh-each : {A : Type 0} (key : A → ℕ) (ip : A → Option UeIp) (k : Kind) (xs : List A) → Every (λ y. T (choosesAddress (ip y)) → createdAddress (out .space) k (key y) ≡ chosenAddress (viewSettings t) (viewSessions t)) xs
       → (T (any ueChooses (collect ip xs)) → T (any ueChooses (addressesOf (readRequest msg))))
@@ -302,7 +302,7 @@ unfolding holds
 one-holder s m h =
     let k = sessions-kept s m h in
     record {
-      seids = k .order;
+      keys = k .order;
       teids = λ i j n d a. not-T (holds sessionTeids m j n) (λ b. one-teid-holder s m i j n (k .separate) d a b);
       addresses = λ i j n d a. not-T (holds (sessionAddresses s) m j n) (λ b. one-address-holder s m i j n (k .separate) d a b);
     }
@@ -328,8 +328,8 @@ released-is-removed run =
           ∙ ap (λ (w : Sessions). member n (heldTeids w)) (l .records);
       count = ap countAnswer (l .count) ∙ ap (λ (n : ℕ). record { outcome = 0; count = n }) (sym (free-count s m allowed));
       unheld = λ n h g. out-of-use t k n (in-table n h) (subst (λ (w : Sessions). T (not (member n (heldTeids w)))) (sym (l .records)) g);
-      removed = λ msg space r a n h g. removed-out run msg space r a n h g;
-      listed = λ msg space r a d n h. listed-out run msg space r a d n h;
+      removed = λ who msg space r a n h g. removed-out run who msg space r a n h g;
+      listed = λ who msg space r a d n h. listed-out run who msg space r a d n h;
       addressRecords = ap (heldAddresses s) (l .records);
       addressMarks = λ a h.
           ap (λ (u : Settings). marked (addressMapOf t) (a - u .firstAddress)) (sym (l .settings))
@@ -339,11 +339,11 @@ released-is-removed run =
       addressUnheld = λ a h g.
           address-out-of-use t k a (address-in-table a h)
           (subst (λ (u : Settings). T (not (member a (heldAddresses u (viewSessions t))))) (sym (l .settings)) (subst (λ (w : Sessions). T (not (member a (heldAddresses s w)))) (sym (l .records)) g));
-      addressRemoved = λ msg space r a n h g.
-          address-removed-out run msg space r a n (subst (λ (u : Settings). T (member n (sessionAddresses u (entrySession (viewSessions t) msg)))) (sym (l .settings)) h)
-          (subst (λ (u : Settings). T (not (member n (sessionAddresses u (spared msg (entrySession (viewSessions t) msg)))))) (sym (l .settings)) g);
-      addressListed = λ msg space r a d n h.
-          address-listed-out run msg space r a d n (subst (λ (u : Settings). T (member n (heldAddresses u (keep (goesSession (readRequest msg .listed)) (viewSessions t))))) (sym (l .settings)) h);
+      addressRemoved = λ who msg space r a n h g.
+          address-removed-out run who msg space r a n (subst (λ (u : Settings). T (member n (sessionAddresses u (entrySession who (viewSessions t) msg)))) (sym (l .settings)) h)
+          (subst (λ (u : Settings). T (not (member n (sessionAddresses u (spared msg (entrySession who (viewSessions t) msg)))))) (sym (l .settings)) g);
+      addressListed = λ who msg space r a d n h.
+          address-listed-out run who msg space r a d n (subst (λ (u : Settings). T (member n (heldAddresses u (keep (goesOf who msg) (viewSessions t))))) (sym (l .settings)) h);
     }
 
 pub no-two-patients : (run : Run) → NoTwoPatients run
@@ -355,7 +355,7 @@ no-two-patients run =
     record {
       live = subst (OneHolder (run .settings)) (l .records) table′;
       table = table′;
-      granted = λ msg space r a k id. granted-unheld run msg space r a k id;
-      pdrAddresses = λ msg space r a. subst (λ (u : Settings). T (all (freshPdr (r .space) (heldAddresses u (viewSessions t))) (readRequest msg .pdrs))) (l .settings) (fresh-pdrs run msg space r a);
-      endpointAddresses = λ msg space r a. subst (λ (u : Settings). T (all (freshEndpoint (r .space) (heldAddresses u (viewSessions t))) (readRequest msg .endpoints))) (l .settings) (fresh-endpoints run msg space r a);
+      granted = λ who msg space r a k id. granted-unheld run who msg space r a k id;
+      pdrAddresses = λ who msg space r a. subst (λ (u : Settings). T (all (freshPdr (r .space) (heldAddresses u (viewSessions t))) (readRequest msg .pdrs))) (l .settings) (fresh-pdrs run who msg space r a);
+      endpointAddresses = λ who msg space r a. subst (λ (u : Settings). T (all (freshEndpoint (r .space) (heldAddresses u (viewSessions t))) (readRequest msg .endpoints))) (l .settings) (fresh-endpoints run who msg space r a);
     }

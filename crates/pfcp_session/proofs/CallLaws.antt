@@ -83,11 +83,11 @@ module _ (t : List ℕ) (r : code.Count) where
   call-addresses a e f = f ∙ ap countAnswer e
 
 -- the request call
-pub call-request : {t msg out : List ℕ} {outcome used place : ℕ} {out′ t′ : List ℕ} → Serves t msg out outcome used place out′ t′
-    → _≡_ {A = RequestCall} (record { outcome = outcome; used = used; place = place; space = out′; table = t′ }) (requestCall t msg out)
+pub call-request : {t : List ℕ} {who : ℕ} {msg out : List ℕ} {outcome used place : ℕ} {out′ t′ : List ℕ} → Serves t who msg out outcome used place out′ t′
+    → _≡_ {A = RequestCall} (record { outcome = outcome; used = used; place = place; space = out′; table = t′ }) (requestCall t who msg out)
 unfolding requestCall requestAnswer replyOf
-call-request {t} {msg} {out} {outcome} {used} {place} {out′} {t′} s =
-    (λ i. record { outcome = outcome; used = s .long i; place = place; space = out′; table = t′ }) ∙ ap (requestAnswer (replyOf t msg)) (s .served)
+call-request {t} {who} {msg} {out} {outcome} {used} {place} {out′} {t′} s =
+    (λ i. record { outcome = outcome; used = s .long i; place = place; space = out′; table = t′ }) ∙ ap (requestAnswer (replyOf t who msg)) (s .served)
 
 -- the store's calls
 module _ (s s′ : List ℕ) (b : Bool) (e : record { done = b; store = s′ } ≡ empty s) where
@@ -99,6 +99,6 @@ module _ (s s′ : List ℕ) (b : Bool) (e : record { done = b; store = s′ } �
   unfolding storeCall
   call-kept z = ap (λ (x : Bool). storeAnswer (record { done = x; store = s′ })) (sym z) ∙ ap storeAnswer e
 
-pub call-once : (t store msg out : List ℕ) (x : Once) → x ≡ requestOnce t store msg out → x ≡ onceCall t store msg out
+pub call-once : (t : List ℕ) (who : ℕ) (store msg out : List ℕ) (x : Once) → x ≡ requestOnce t who store msg out → x ≡ onceCall t who store msg out
 unfolding onceCall
-call-once t store msg out x e = e
+call-once t who store msg out x e = e

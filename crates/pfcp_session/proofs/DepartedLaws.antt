@@ -15,23 +15,23 @@ use Rattle.octets.specs.Lists.{all}
 use Rattle.octets.proofs.Tests.{and-left, all-head, all-tail, is-true, of-true}
 use Rattle.octets.proofs.Mapped.{of-pick}
 use Rattle.rules.specs.Limits.{maxRestoration}
-use Rattle.rules.specs.Model.{Settings, Sessions}
+use Rattle.rules.specs.Model.{Settings, Sessions, isPeer, ofPeer, holdings}
 use Rattle.rules.specs.Layout.{encode, viewSettings, viewSessions}
 use Rattle.rules.specs.Sound.{settingsAllowed, sessionsAllowed, sound}
 use Rattle.rules.specs.Stages.{newSession, verdict}
 use Rattle.rules.specs.Serve.{Served, replyTo, serve}
 use Rattle.rules.specs.Restoring.{sessionAt, senderAddressed, restorationAt, Writing, unwritten, writeInto, writeRestoration}
-use Rattle.rules.specs.Finding.{findingOf, sessionPlace, holderPlace, findIn, countSessions, findSession, findHolder}
+use Rattle.rules.specs.Finding.{findingOf, sessionPlace, holderPlace, findIn, countSessions, findSession, findHolder, Share, unshared, countPeer}
 use Rattle.rules.specs.Bare.{bareSession, bare, Alike}
 use Rattle.rules.specs.Claim.{stepAllowed, lastTable}
 use Rattle.laws.proofs.TableLaws.{sound-encode, encoded-settings, sessions-back, length-encode}
-use Rattle.laws.proofs.BareLaws.{length-alike, seid-place-alike, holder-place-alike}
+use Rattle.laws.proofs.BareLaws.{length-alike, seid-place-alike, holder-place-alike, peer-sessions-alike, peer-holdings-alike}
 use Rattle.laws.proofs.BlankLaws.{blank-alike}
 use Rattle.invariants.proofs.ServeLaws.{TableKept, table-kept}
 use Rattle.restoration.proofs.RequestSteps.{take-put}
 use Rattle.restoration.proofs.SoundSlots.{request-short}
 use Rattle.claim.proofs.Unwinding.{Pair, reply-alike, counts-alike, address-counts-alike, serve-agree}
-use Rattle.pfcp_session.specs.Calls.{countAnswer, countCall, addressCountCall, RequestCall, replyOf, requestAnswer, requestCall, restorationCall, sessionCountCall, findSessionCall, findTeidCall}
+use Rattle.pfcp_session.specs.Calls.{countAnswer, countCall, addressCountCall, RequestCall, replyOf, requestAnswer, requestCall, restorationCall, sessionCountCall, findSessionCall, findTeidCall, peerCountCall}
 use Rattle.pfcp_session.specs.Runs.{HostStep, requested, counted, countedAddresses, HostRan, claimStep, stepsOf, Run, liveAfter, tableAfter}
 use Rattle.pfcp_session.specs.Departed.{calledIn, hearsReply, hearsCount, heardIn, Differ, ReadAlike, WriteAlike, NoMemory}
 use Rattle.pfcp_session.proofs.AccidentLaws.{left, counted-sound}
@@ -39,30 +39,30 @@ use Rattle.pfcp_session.proofs.AccidentLaws.{left, counted-sound}
 -- ---- what is heard of a request
 
 -- the reply is what was written
-module _ (t msg space w : List ℕ) (same : replyOf t msg ≡ w) where
+module _ (t : List ℕ) (who : ℕ) (msg space w : List ℕ) (same : replyOf t who msg ≡ w) where
   abbrev out : Served
-  out = serve t msg space
+  out = serve t who msg space
 
   -- nothing, where the outcome is not 0
   abbrev written : List ℕ
   written = pick (eqb (out .outcome) 0) w []
 
-  heard-by : out .space ≡ put 0 written space → heardIn (requested msg space (requestCall t msg space)) ≡ hearsReply (out .outcome) (out .place) (length written) written
+  heard-by : out .space ≡ put 0 written space → heardIn (requested who msg space (requestCall t who msg space)) ≡ hearsReply (out .outcome) (out .place) (length written) written
   unfolding heardIn requestCall requestAnswer
   heard-by e =
       ap (λ (n : ℕ). hearsReply (out .outcome) (out .place) n (take n (out .space))) long
       ∙ ap (λ (l : List ℕ). hearsReply (out .outcome) (out .place) (length written) (take (length written) l)) e
       ∙ ap (hearsReply (out .outcome) (out .place) (length written)) (take-put written space)
     where
-      long : pick (eqb (out .outcome) 0) (length (replyOf t msg)) 0 ≡ length written
+      long : pick (eqb (out .outcome) 0) (length (replyOf t who msg)) 0 ≡ length written
       long = ap (λ (l : List ℕ). pick (eqb (out .outcome) 0) (length l) 0) same ∙ sym (of-pick {A = List ℕ} {B = ℕ} length (eqb (out .outcome) 0) w [])
 
 -- ---- one call
 
 module _ (s : Settings) (hs : T (settingsAllowed s)) where
-  reply-encoded : (m : Sessions) → T (sessionsAllowed s m) → (msg : List ℕ) → replyOf (encode s m) msg ≡ replyTo s m msg (verdict s m msg)
+  reply-encoded : (m : Sessions) → T (sessionsAllowed s m) → (who : ℕ) (msg : List ℕ) → replyOf (encode s m) who msg ≡ replyTo s who m msg (verdict s who m msg)
   unfolding replyOf
-  reply-encoded m hm msg = ap₂ (λ (s′ : Settings) (m′ : Sessions). replyTo s′ m′ msg (verdict s′ m′ msg)) (encoded-settings s hs m hm) (sessions-back s hs m hm)
+  reply-encoded m hm who msg = ap₂ (λ (s′ : Settings) (m′ : Sessions). replyTo s′ who m′ msg (verdict s′ who m′ msg)) (encoded-settings s hs m hm) (sessions-back s hs m hm)
 
   -- what holds of tables that encode sessions which are alike
   of-pair : (P : List ℕ → List ℕ → Type 0) → ((m n : Sessions) → T (sessionsAllowed s m) → T (sessionsAllowed s n) → Alike m n → P (encode s m) (encode s n)) → (t u : List ℕ) → Pair s t u → P t u
@@ -70,30 +70,30 @@ module _ (s : Settings) (hs : T (settingsAllowed s)) where
       subst (λ (x : List ℕ). P x u) (sym (p .oneTable)) (subst (P (encode s (p .one))) (sym (p .otherTable)) (f (p .one) (p .other) (p .oneKept) (p .otherKept) (p .alike)))
 
   -- what two requests left: the same answer, and two tables again
-  record Next (msg space other : List ℕ) (r r′ : RequestCall) : Type 0 where
-    answer : heardIn (requested msg space r) ≡ heardIn (requested msg other r′)
+  record Next (who : ℕ) (msg space other : List ℕ) (r r′ : RequestCall) : Type 0 where
+    answer : heardIn (requested who msg space r) ≡ heardIn (requested who msg other r′)
     tables : Pair s (r .table) (r′ .table)
 
-  module _ (msg space other : List ℕ) (ho : T (octets msg)) (long : length space ≡ length other) where
+  module _ (who : ℕ) (msg space other : List ℕ) (ho : T (octets msg)) (long : length space ≡ length other) where
     encoded-next : (m n : Sessions) → T (sessionsAllowed s m) → T (sessionsAllowed s n) → Alike m n
-        → Next msg space other (requestCall (encode s m) msg space) (requestCall (encode s n) msg other)
+        → Next who msg space other (requestCall (encode s m) who msg space) (requestCall (encode s n) who msg other)
     unfolding requestCall requestAnswer
     encoded-next m n hm hn e =
-        let w : List ℕ = replyTo s m msg (verdict s m msg) in
-        let g = serve-agree s hs m n hm hn e msg space other ho long in
+        let w : List ℕ = replyTo s who m msg (verdict s who m msg) in
+        let g = serve-agree s hs m n hm hn e who msg space other ho long in
         record {
           answer =
-              heard-by (encode s m) msg space w (reply-encoded m hm msg) (g .oneSpace)
+              heard-by (encode s m) who msg space w (reply-encoded m hm who msg) (g .oneSpace)
               ∙ ap₂ (λ (o k : ℕ). hearsReply o k (length (pick (eqb o 0) w [])) (pick (eqb o 0) w [])) (g .outcome) (g .place)
-              ∙ sym (heard-by (encode s n) msg other w (reply-encoded n hn msg ∙ sym (reply-alike s hs m n hm hn e msg)) (g .otherSpace));
+              ∙ sym (heard-by (encode s n) who msg other w (reply-encoded n hn who msg ∙ sym (reply-alike s hs m n hm hn e who msg)) (g .otherSpace));
           tables = g .tables;
         }
 
     -- by the calls' contracts
-    request-next : (t u : List ℕ) → Pair s t u → (r r′ : RequestCall) → r ≡ requestCall t msg space → r′ ≡ requestCall u msg other → Next msg space other r r′
+    request-next : (t u : List ℕ) → Pair s t u → (r r′ : RequestCall) → r ≡ requestCall t who msg space → r′ ≡ requestCall u who msg other → Next who msg space other r r′
     request-next t u p r r′ g h =
-        subst (λ (x : RequestCall). Next msg space other x r′) (sym g) (subst (Next msg space other (requestCall t msg space)) (sym h)
-        (of-pair (λ (t′ u′ : List ℕ). Next msg space other (requestCall t′ msg space) (requestCall u′ msg other)) encoded-next t u p))
+        subst (λ (x : RequestCall). Next who msg space other x r′) (sym g) (subst (Next who msg space other (requestCall t who msg space)) (sym h)
+        (of-pair (λ (t′ u′ : List ℕ). Next who msg space other (requestCall t′ who msg space) (requestCall u′ who msg other)) encoded-next t u p))
 
   -- ---- all calls
 
@@ -116,11 +116,11 @@ module _ (s : Settings) (hs : T (settingsAllowed s)) where
   went [] [] t u p ho g h e = record { answers = refl; tables = p }
   went [] (b ∷ others) t u p ho g h e = absurd (let z : _≡_ {A = ℕ} 0 1 = cc in omega arith)
   went (a ∷ steps) [] t u p ho g h e = absurd (let z : _≡_ {A = ℕ} 0 1 = cc in omega arith)
-  went (requested msg space r ∷ steps) (counted c ∷ others) t u p ho g h e = absurd (let z : _≡_ {A = ℕ} 0 1 = cc in omega arith)
-  went (requested msg space r ∷ steps) (countedAddresses c ∷ others) t u p ho g h e = absurd (let z : _≡_ {A = ℕ} 0 1 = cc in omega arith)
-  went (counted c ∷ steps) (requested msg space r ∷ others) t u p ho g h e = absurd (let z : _≡_ {A = ℕ} 0 1 = cc in omega arith)
+  went (requested who msg space r ∷ steps) (counted c ∷ others) t u p ho g h e = absurd (let z : _≡_ {A = ℕ} 0 1 = cc in omega arith)
+  went (requested who msg space r ∷ steps) (countedAddresses c ∷ others) t u p ho g h e = absurd (let z : _≡_ {A = ℕ} 0 1 = cc in omega arith)
+  went (counted c ∷ steps) (requested who msg space r ∷ others) t u p ho g h e = absurd (let z : _≡_ {A = ℕ} 0 1 = cc in omega arith)
   went (counted c ∷ steps) (countedAddresses d ∷ others) t u p ho g h e = absurd (let z : _≡_ {A = ℕ} 0 1 = cc in omega arith)
-  went (countedAddresses c ∷ steps) (requested msg space r ∷ others) t u p ho g h e = absurd (let z : _≡_ {A = ℕ} 0 1 = cc in omega arith)
+  went (countedAddresses c ∷ steps) (requested who msg space r ∷ others) t u p ho g h e = absurd (let z : _≡_ {A = ℕ} 0 1 = cc in omega arith)
   went (countedAddresses c ∷ steps) (counted d ∷ others) t u p ho g h e = absurd (let z : _≡_ {A = ℕ} 0 1 = cc in omega arith)
   went (counted c ∷ steps) (counted d ∷ others) t u p ho g h e =
       let more : map calledIn steps ≡ map calledIn others = cc in
@@ -130,13 +130,14 @@ module _ (s : Settings) (hs : T (settingsAllowed s)) where
       let more : map calledIn steps ≡ map calledIn others = cc in
       let w = went steps others t u p (all-tail stepAllowed (claimStep (countedAddresses c)) (stepsOf steps) ho) (g .1) (h .1) more in
       record { answers = ap₂ _∷_ (ap hearsCount (g .0 ∙ address-count-next t u p ∙ sym (h .0))) (w .answers); tables = w .tables }
-  went (requested msg space r ∷ steps) (requested msg′ space′ r′ ∷ others) t u p ho g h e =
+  went (requested who msg space r ∷ steps) (requested who′ msg′ space′ r′ ∷ others) t u p ho g h e =
       let more : map calledIn steps ≡ map calledIn others = cc in
+      let peer : who ≡ who′ = cc in
       let same : msg ≡ msg′ = cc in
       let long : length space ≡ length space′ = cc in
-      let okay : T (octets msg) = and-left (octets msg) (octets space) (all-head stepAllowed (claimStep (requested msg space r)) (stepsOf steps) ho) in
-      let n = request-next msg space space′ okay long t u p r r′ (g .0) (h .0 ∙ ap (λ (z : List ℕ). requestCall u z space′) (sym same)) in
-      let w = went steps others (r .table) (r′ .table) (n .tables) (all-tail stepAllowed (claimStep (requested msg space r)) (stepsOf steps) ho) (g .1) (h .1) more in
+      let okay : T (octets msg) = and-left (octets msg) (octets space) (all-head stepAllowed (claimStep (requested who msg space r)) (stepsOf steps) ho) in
+      let n = request-next who msg space space′ okay long t u p r r′ (g .0) (h .0 ∙ ap₂ (λ (q : ℕ) (z : List ℕ). requestCall u q z space′) (sym peer) (sym same)) in
+      let w = went steps others (r .table) (r′ .table) (n .tables) (all-tail stepAllowed (claimStep (requested who msg space r)) (stepsOf steps) ho) (g .1) (h .1) more in
       record { answers = ap₂ _∷_ (n .answer) (w .answers); tables = w .tables }
 
   -- ---- the tables
@@ -163,7 +164,7 @@ module _ (s : Settings) (hs : T (settingsAllowed s)) where
       whole = restorationAt t place ipv4 ipv6
 
       written : Writing
-      written = pick (ltb (length space) (length whole)) (unwritten 4 space) (record { outcome = 0; used = length whole; space = put 0 whole space })
+      written = pick (ltb (length space) (length whole)) (unwritten 4 space) (record { outcome = 0; used = length whole; peer = sessionAt (viewSessions t) place .peer; space = put 0 whole space })
 
       fits : leb (length m) place ≡ false → T (senderAddressed ipv4 ipv6) → written .outcome ≡ 0
       fits c d =
@@ -181,6 +182,14 @@ module _ (s : Settings) (hs : T (settingsAllowed s)) where
   unfolding findIn
   found-encoded m hm o = rw (is-true (sound (encode s m)) (sound-encode s hs m hm)) (ap (λ (l : Sessions). findingOf (o l)) (sessions-back s hs m hm))
 
+  -- what a peer has
+  abbrev shareOf : ℕ → ℕ → Share
+  shareOf sessions teids = record { outcome = 0; sessions = sessions; teids = teids }
+
+  shared : (who : ℕ) (m : Sessions) → T (sessionsAllowed s m) → countPeer (encode s m) who ≡ pick (isPeer who) (shareOf (length (ofPeer who m)) (holdings who m)) (unshared 7)
+  unfolding countPeer
+  shared who m hm = rw (is-true (sound (encode s m)) (sound-encode s hs m hm)) (ap (λ (l : Sessions). pick (isPeer who) (shareOf (length (ofPeer who l)) (holdings who l)) (unshared 7)) (sessions-back s hs m hm))
+
   module _ (m n : Sessions) (hm : T (sessionsAllowed s m)) (hn : T (sessionsAllowed s n)) (e : Alike m n) where
     found-same : (o : Sessions → Option ℕ) → o m ≡ o n → findIn (encode s m) (o (viewSessions (encode s m))) ≡ findIn (encode s n) (o (viewSessions (encode s n)))
     found-same o same = found-encoded m hm o ∙ ap findingOf same ∙ sym (found-encoded n hn o)
@@ -195,14 +204,15 @@ module _ (s : Settings) (hs : T (settingsAllowed s)) where
         }
 
     read-alike : ReadAlike (encode s m) (encode s n)
-    unfolding countCall addressCountCall sessionCountCall countSessions findSessionCall findSession findTeidCall findHolder
+    unfolding countCall addressCountCall sessionCountCall countSessions findSessionCall findSession findTeidCall findHolder peerCountCall
     read-alike =
         record {
           count = ap countAnswer (counts-alike s hs m n hm hn e);
           addresses = ap countAnswer (address-counts-alike s hs m n hm hn e);
           sessions = found-same (λ (l : Sessions). some (length l)) (ap some (length-alike m n e));
-          seids = λ seid. found-same (sessionPlace seid) (seid-place-alike m n e seid);
+          seids = λ who seid. found-same (sessionPlace who seid) (seid-place-alike m n e who seid);
           teids = λ teid. found-same (holderPlace teid) (holder-place-alike m n e teid);
+          peers = λ who. shared who m hm ∙ (λ i. pick (isPeer who) (shareOf (peer-sessions-alike m n e who i) (peer-holdings-alike m n e who i)) (unshared 7)) ∙ sym (shared who n hn);
         }
 
     write-alike : WriteAlike (encode s m) (encode s n)
@@ -215,9 +225,9 @@ module _ (s : Settings) (hs : T (settingsAllowed s)) where
               ∙ sym (writer-encoded n hn place ipv4 ipv6 other room′);
           requests = λ place.
               ap (λ (l : Sessions). bareSession (sessionAt l place)) (sessions-back s hs m hm)
-              ∙ sym (List·getD-map bareSession m place (newSession 0))
-              ∙ ap (λ (l : Sessions). getD l place (bareSession (newSession 0))) e
-              ∙ List·getD-map bareSession n place (newSession 0)
+              ∙ sym (List·getD-map bareSession m place (newSession 0 0))
+              ∙ ap (λ (l : Sessions). getD l place (bareSession (newSession 0 0))) e
+              ∙ List·getD-map bareSession n place (newSession 0 0)
               ∙ ap (λ (l : Sessions). bareSession (sessionAt l place)) (sym (sessions-back s hs n hn));
         }
 

@@ -1,7 +1,7 @@
 -- What the reading calls answer: as numbers, and that a place found is the one place there is, of the table and of the live set after any run.
 -- Assumes nothing.
 use mathlib.Core.Path.{_≡_, refl, sym, ap, subst, _∙_}
-use Prim.Native.Nat.{ℕ, _-_, _≤_, _<_}
+use Prim.Native.Nat.{ℕ, _-_, _/_, _^_, _≤_, _<_}
 use native.Mathlib.Omega.{arith}
 use mathlib.Core.Bool.{Bool, true, false, not}
 use mathlib.Core.Option.{Option, none, some}
@@ -14,23 +14,26 @@ use Rattle.octets.proofs.Tests.{is-true}
 use Rattle.octets.proofs.Ordered.{up-pairs, belowKey}
 use Rattle.octets.proofs.MemberLaws.{member-passes, none-in}
 use Rattle.rules.specs.Limits.{maxSessions}
-use Rattle.rules.specs.Model.{Settings, Session, Sessions, seidOf, sessionTeids}
+use Rattle.rules.specs.Model.{Settings, Session, Sessions, sessionKey, keyFor, isPeer, half, ofPeer, holdings, sessionTeids}
 use Rattle.rules.specs.Layout.{viewSettings, viewSessions}
 use Rattle.rules.specs.Sound.{apart, sound}
-use Rattle.rules.specs.Stages.{hasSeid}
+use Rattle.rules.specs.Stages.{hasKey}
 use Rattle.rules.specs.Restoring.{sessionAt}
-use Rattle.rules.specs.Finding.{Finding, findingOf, placeFrom, sessionPlace, isHolder, holderPlace, findIn, countSessions, findSession, findHolder}
+use Rattle.rules.specs.Finding.{Finding, findingOf, placeFrom, sessionPlace, isHolder, holderPlace, findIn, countSessions, findSession, findHolder, Share, unshared, countPeer}
+use Rattle.laws.proofs.PeerLaws.{peers-kept, peer-known, key-peer}
+use Rattle.laws.proofs.TableLaws.{limit-most}
+use Rattle.pool.proofs.TakenLaws.{pool-fits}
 use Rattle.invariants.proofs.KeptRules.{SessionsKept, sessions-kept}
 use Rattle.invariants.proofs.ServeLaws.{table-kept}
 use Rattle.invariants.proofs.Beside.{apart-teids}
 use Rattle.table.proofs.SoundSlots.{few-sessions}
 use Rattle.finding.proofs.PlaceLaws.{place-says, none-says, place-only}
-use Rattle.pfcp_session.specs.Calls.{sessionCountCall, findSessionCall, findTeidCall}
+use Rattle.pfcp_session.specs.Calls.{sessionCountCall, findSessionCall, findTeidCall, peerCountCall}
 use Rattle.pfcp_session.specs.Runs.{Run, tableAfter}
-use Rattle.pfcp_session.specs.Findings.{At, foundAt, nowhere, TheOne, SessionFound, HolderFound, LiveFound}
+use Rattle.pfcp_session.specs.Findings.{At, foundAt, nowhere, TheOne, SessionFound, HolderFound, KeysApart, LiveFound}
 use Rattle.pfcp_session.proofs.AccidentLaws.{left, counted-sound}
 
--- ---- the number of sessions fits its width
+-- ---- the numbers fit their width
 
 pub count-fits : (t : List ℕ) (r : Finding) → r ≡ countSessions t → r .number ≤ maxSessions
 unfolding countSessions findIn
@@ -39,6 +42,33 @@ count-fits t r e = let f = ap (λ (x : Finding). x .number) e in go (sound t) re
     go : (b : Bool) → sound t ≡ b → r .number ≡ pick b (foundAt (length (viewSessions t))) (record { outcome = 1; number = 0 }) .number → r .number ≤ maxSessions
     go true s f = let few = few-sessions t (subst T (sym s) tt) in omega arith
     go false s f = omega arith
+
+few-half : (n k : ℕ) → k ≤ n / 2 → n ≤ maxSessions → k < 2 ^ 32
+few-half n k h l = omega arith
+
+pub share-fits : (t : List ℕ) (who : ℕ) (r : Share) → r ≡ countPeer t who → (r .sessions < 2 ^ 32) × (r .teids < 2 ^ 32)
+unfolding countPeer half
+share-fits t who r e = go (isPeer who) (sound t) refl refl e
+  where
+    m : Sessions
+    m = viewSessions t
+
+    go : (a b : Bool) → isPeer who ≡ a → sound t ≡ b → r ≡ pick a (pick b (record { outcome = 0; sessions = length (ofPeer who m); teids = holdings who m }) (unshared 1)) (unshared 7)
+        → (r .sessions < 2 ^ 32) × (r .teids < 2 ^ 32)
+    go false b i h f = let x = ap (λ (q : Share). q .sessions) f in let y = ap (λ (q : Share). q .teids) f in (omega arith, omega arith)
+    go true false i h f = let x = ap (λ (q : Share). q .sessions) f in let y = ap (λ (q : Share). q .teids) f in (omega arith, omega arith)
+    go true true i h f =
+        let hw : T (isPeer who) = subst T (sym i) tt in
+        let k = table-kept t (subst T (sym h) tt) in
+        let p = peers-kept (viewSettings t) m (k .sessions) in
+        let x = ap (λ (q : Share). q .sessions) f in
+        let y = ap (λ (q : Share). q .teids) f in
+        let c = p .sessions who hw in
+        let d = p .teids who hw in
+        let l = limit-most (viewSettings t) (k .settings) in
+        let g = peer-known (viewSettings t) (k .settings) who hw .limit in
+        let z = pool-fits (viewSettings t) (k .settings) in
+        (few-half (viewSettings t .limit) (r .sessions) (subst (λ (n : ℕ). n ≤ viewSettings t .limit / 2) (sym x) c) l, omega arith)
 
 -- ---- one place, by a test
 
@@ -82,14 +112,20 @@ module _ (p : Session → Bool) (m : Sessions) (only : (i j : ℕ) → i < lengt
 
 -- ---- SEIDs and TEIDs
 
--- SEIDs ascend, so no two sessions have one
-seid-clash : (seid : ℕ) (x y : Session) → T (belowKey seidOf x y) → T (hasSeid seid x) → T (hasSeid seid y) → ⊥
-unfolding hasSeid
-seid-clash seid x y l a b =
-    let below = ltb→lt (x .seid) (y .seid) l in
-    let one = eqb→eq (x .seid) seid a in
-    let other = eqb→eq (y .seid) seid b in
+-- keys ascend, so no two sessions have one
+key-clash : (key : ℕ) (x y : Session) → T (belowKey sessionKey x y) → T (hasKey key x) → T (hasKey key y) → ⊥
+unfolding hasKey
+key-clash key x y l a b =
+    let below = ltb→lt (sessionKey x) (sessionKey y) l in
+    let one = eqb→eq (sessionKey x) key a in
+    let other = eqb→eq (sessionKey y) key b in
     omega arith
+
+pub keys-apart : KeysApart
+unfolding KeysApart keyFor
+keys-apart who seid other n h g e =
+    let a = key-peer who seid other n h g (unfold keyFor in e) in
+    (a, omega arith)
 
 -- sessions are apart, so no two hold one TEID
 teid-clash : (s : Settings) (teid : ℕ) (x y : Session) → T (apart s x y) → T (isHolder teid x) → T (isHolder teid y) → ⊥
@@ -101,11 +137,12 @@ module _ (t : List ℕ) (h : T (sound t)) where
   rules : SessionsKept (viewSettings t) (viewSessions t)
   rules = sessions-kept (viewSettings t) (viewSessions t) (table-kept t h .sessions)
 
-  seid-one : (seid : ℕ) → TheOne (At (hasSeid seid) (viewSessions t)) (findSessionCall t seid)
+  seid-one : (who seid : ℕ) → TheOne (At (hasKey (keyFor who seid)) (viewSessions t)) (findSessionCall t who seid)
   unfolding findSessionCall findSession sessionPlace
-  seid-one seid =
-      subst (TheOne (At (hasSeid seid) (viewSessions t))) (sym (told t (sessionPlace seid (viewSessions t)) h))
-      (the-one (hasSeid seid) (viewSessions t) (place-only (hasSeid seid) (belowKey seidOf) (seid-clash seid) (viewSessions t) (up-pairs seidOf (viewSessions t) (rules .order))))
+  seid-one who seid =
+      let key = keyFor who seid in
+      subst (TheOne (At (hasKey key) (viewSessions t))) (sym (told t (sessionPlace who seid (viewSessions t)) h))
+      (the-one (hasKey key) (viewSessions t) (place-only (hasKey key) (belowKey sessionKey) (key-clash key) (viewSessions t) (up-pairs sessionKey (viewSessions t) (rules .order))))
 
   teid-one : (teid : ℕ) → TheOne (At (isHolder teid) (viewSessions t)) (findTeidCall t teid)
   unfolding findTeidCall findHolder holderPlace
@@ -115,7 +152,7 @@ module _ (t : List ℕ) (h : T (sound t)) where
 
 pub session-found : SessionFound
 unfolding SessionFound
-session-found t seid h = seid-one t h seid
+session-found t who seid h = seid-one t h who seid
 
 pub holder-found : HolderFound
 unfolding HolderFound
@@ -124,13 +161,14 @@ holder-found t teid h = teid-one t h teid
 -- ---- after any run
 
 pub live-found : (run : Run) → LiveFound run
-unfolding sessionCountCall countSessions SessionFound HolderFound
+unfolding sessionCountCall countSessions SessionFound HolderFound peerCountCall countPeer
 live-found run =
     let t = tableAfter run in
     let l = left run in
     let h = counted-sound t _ (l .count) in
     record {
       count = told t (some (length (viewSessions t))) h ∙ ap (λ (m : Sessions). foundAt (length m)) (l .records);
-      seids = λ seid. subst (λ (m : Sessions). TheOne (At (hasSeid seid) m) (findSessionCall t seid)) (l .records) (session-found t seid h);
+      seids = λ who seid. subst (λ (m : Sessions). TheOne (At (hasKey (keyFor who seid)) m) (findSessionCall t who seid)) (l .records) (session-found t who seid h);
       teids = λ teid. subst (λ (m : Sessions). TheOne (At (isHolder teid) m) (findTeidCall t teid)) (l .records) (holder-found t teid h);
+      peers = λ who hw. rw (is-true (isPeer who) hw, is-true (sound t) h) (ap (λ (m : Sessions). record { outcome = 0; sessions = length (ofPeer who m); teids = holdings who m }) (l .records));
     }

@@ -15,10 +15,10 @@ use Rattle.pfcp_session.specs.Calls.{MakeCall, makeAnswer, makeCall, Cou
 use Rattle.pfcp_session.specs.Runs.{HostStep, requested, counted, countedAddresses, HostRan, countOf, claimStep, stepsOf, liveAfter, tableAfter, HostClaim}
 
 -- a request's outcome, place, space and table are those of `serve`
-pub request-step : (t msg space : List ℕ) (r : RequestCall) → r ≡ requestCall t msg space
-    → _≡_ {A = Served} (record { outcome = r .outcome; place = r .place; space = r .space; table = r .table }) (serve t msg space)
+pub request-step : (t : List ℕ) (who : ℕ) (msg space : List ℕ) (r : RequestCall) → r ≡ requestCall t who msg space
+    → _≡_ {A = Served} (record { outcome = r .outcome; place = r .place; space = r .space; table = r .table }) (serve t who msg space)
 unfolding requestCall requestAnswer
-request-step t msg space r e = ap (λ (x : RequestCall). record { outcome = x .outcome; place = x .place; space = x .space; table = x .table }) e
+request-step t who msg space r e = ap (λ (x : RequestCall). record { outcome = x .outcome; place = x .place; space = x .space; table = x .table }) e
 
 -- a count is that of `countFree`, or of `countAddresses`
 count-back : (c : Count) → countOf (countAnswer c) ≡ c
@@ -37,7 +37,7 @@ count-step t c e = ap countOf e ∙ count-back (countFree t)
 pub ran : (t : List ℕ) (hs : List HostStep) → HostRan t hs → Ran t (stepsOf hs)
 unfolding claimStep
 ran t [] h = tt
-ran t (requested msg space r ∷ hs) h = (request-step t msg space r (h .0), ran (r .table) hs (h .1))
+ran t (requested who msg space r ∷ hs) h = (request-step t who msg space r (h .0), ran (r .table) hs (h .1))
 ran t (counted c ∷ hs) h = (count-step t c (h .0), ran t hs (h .1))
 ran t (countedAddresses c ∷ hs) h = (address-count-step t c (h .0), ran t hs (h .1))
 

@@ -16,7 +16,7 @@ use Rattle.rules.specs.Serve.{Served, replyTo, serve}
 use Rattle.rules.specs.Restoring.{Writing, writeRestoration}
 use Rattle.rules.specs.Store.{Emptied, empty}
 use Rattle.rules.specs.Repeats.{Once, requestOnce}
-use Rattle.rules.specs.Finding.{Finding, countSessions, findSession, findHolder}
+use Rattle.rules.specs.Finding.{Finding, countSessions, findSession, findHolder, Share, countPeer}
 
 -- making: 0 made, 1 refused; and the table at exit
 pub record MakeCall : Type 0 where
@@ -58,15 +58,15 @@ pub record RequestCall : Type 0 where
   pub space : List ℕ
   pub table : List ℕ
 
--- the reply to a request on a table
-unfoldable pub replyOf : List ℕ → List ℕ → List ℕ
-replyOf t msg = replyTo (viewSettings t) (viewSessions t) msg (verdict (viewSettings t) (viewSessions t) msg)
+-- the reply to a peer's request on a table
+unfoldable pub replyOf : List ℕ → ℕ → List ℕ → List ℕ
+replyOf t who msg = replyTo (viewSettings t) who (viewSessions t) msg (verdict (viewSettings t) who (viewSessions t) msg)
 
 unfoldable pub requestAnswer : List ℕ → Served → RequestCall
 requestAnswer answer s = record { outcome = s .outcome; used = pick (eqb (s .outcome) 0) (length answer) 0; place = s .place; space = s .space; table = s .table }
 
-unfoldable pub requestCall : List ℕ → List ℕ → List ℕ → RequestCall
-requestCall t msg space = requestAnswer (replyOf t msg) (serve t msg space)
+unfoldable pub requestCall : List ℕ → ℕ → List ℕ → List ℕ → RequestCall
+requestCall t who msg space = requestAnswer (replyOf t who msg) (serve t who msg space)
 
 -- a store of repeated requests emptied (02 (xi)): 0 made, 1 refused; and the store at exit
 pub record StoreCall : Type 0 where
@@ -79,22 +79,26 @@ storeAnswer e = record { outcome = pick (e .done) 0 1; store = e .store }
 unfoldable pub storeCall : List ℕ → StoreCall
 storeCall s = storeAnswer (empty s)
 
--- a request of which a repeat gets the old reply: a request's answer, and the store at exit
-unfoldable pub onceCall : List ℕ → List ℕ → List ℕ → List ℕ → Once
-onceCall t store msg space = requestOnce t store msg space
+-- a request of which a repeat gets the old reply, with its peer's store: a request's answer, and the store at exit
+unfoldable pub onceCall : List ℕ → ℕ → List ℕ → List ℕ → List ℕ → Once
+onceCall t who store msg space = requestOnce t who store msg space
 
--- a restoration request of the session at a place, with the control plane's addresses: the outcome, the request's length (0 where there is
--- none), and the space at exit
+-- a restoration request of the session at a place, with the control plane's addresses: the outcome, the request's length and the peer
+-- to run it under (0 where there is none), and the space at exit
 unfoldable pub restorationCall : List ℕ → ℕ → List ℕ → List ℕ → List ℕ → Writing
 restorationCall t place ipv4 ipv6 space = writeRestoration t place ipv4 ipv6 space
 
--- the reading calls: 0 and the number of sessions, the place of a SEID's session or that of the session that holds a TEID; 1 a broken table,
--- 2 none, and the number 0
+-- the reading calls: 0 and the number of sessions, the place of the session of a peer's SEID or that of the session that holds a TEID; 1 a broken
+-- table, 2 none, and the number 0
 unfoldable pub sessionCountCall : List ℕ → Finding
 sessionCountCall t = countSessions t
 
-unfoldable pub findSessionCall : List ℕ → ℕ → Finding
-findSessionCall t seid = findSession t seid
+unfoldable pub findSessionCall : List ℕ → ℕ → ℕ → Finding
+findSessionCall t who seid = findSession t who seid
 
 unfoldable pub findTeidCall : List ℕ → ℕ → Finding
 findTeidCall t teid = findHolder t teid
+
+-- and what a peer has (02 (xiv)): 0, its sessions and the different TEIDs that their records hold; 7 no peer, 1 a broken table, and zeros
+unfoldable pub peerCountCall : List ℕ → ℕ → Share
+peerCountCall t who = countPeer t who

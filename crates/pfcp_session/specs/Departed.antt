@@ -12,18 +12,18 @@ use Rattle.rules.specs.Layout.{viewSettings, viewSessions}
 use Rattle.rules.specs.Restoring.{sessionAt}
 use Rattle.rules.specs.Bare.{bareSession, Alike, blankTable}
 use Rattle.rules.specs.Claim.{stepAllowed, lastTable}
-use Rattle.pfcp_session.specs.Calls.{CountCall, countCall, addressCountCall, restorationCall, sessionCountCall, findSessionCall, findTeidCall}
+use Rattle.pfcp_session.specs.Calls.{CountCall, countCall, addressCountCall, restorationCall, sessionCountCall, findSessionCall, findTeidCall, peerCountCall}
 use Rattle.pfcp_session.specs.Runs.{HostStep, requested, counted, countedAddresses, HostRan, stepsOf, Run, liveAfter, tableAfter}
 
 -- ---- the same calls and the same answers
 
--- what the same calls have in common: a request's message and the length of its reply space, whatever stands in it; or that it is a count
+-- what the same calls have in common: a request's peer, its message and the length of its reply space, whatever stands in it; or that it is a count
 pub data Called : Type 0 where
-  callsRequest : List ℕ → ℕ → Called
+  callsRequest : ℕ → List ℕ → ℕ → Called
   callsCount callsAddresses : Called
 
 unfoldable pub calledIn : HostStep → Called
-calledIn (requested msg space r) = callsRequest msg (length space)
+calledIn (requested who msg space r) = callsRequest who msg (length space)
 calledIn (counted c) = callsCount
 calledIn (countedAddresses c) = callsAddresses
 
@@ -34,7 +34,7 @@ pub data Heard : Type 0 where
 
 -- the reply is what was written of the space
 unfoldable pub heardIn : HostStep → Heard
-heardIn (requested msg space r) = hearsReply (r .outcome) (r .place) (r .used) (take (r .used) (r .space))
+heardIn (requested who msg space r) = hearsReply (r .outcome) (r .place) (r .used) (take (r .used) (r .space))
 heardIn (counted c) = hearsCount c
 heardIn (countedAddresses c) = hearsCount c
 
@@ -52,8 +52,9 @@ pub record ReadAlike (t u : List ℕ) : Type 0 where
   pub count : countCall t ≡ countCall u
   pub addresses : addressCountCall t ≡ addressCountCall u
   pub sessions : sessionCountCall t ≡ sessionCountCall u
-  pub seids : (seid : ℕ) → findSessionCall t seid ≡ findSessionCall u seid
+  pub seids : (who seid : ℕ) → findSessionCall t who seid ≡ findSessionCall u who seid
   pub teids : (teid : ℕ) → findTeidCall t teid ≡ findTeidCall u teid
+  pub peers : (who : ℕ) → peerCountCall t who ≡ peerCountCall u who
 
 -- but for the writer of restorations, which writes these fields: where any request fits, its outcomes are the same, and the session at a place, whose
 -- restoration it writes, agrees in all but these fields
@@ -71,7 +72,7 @@ pub record Indistinct (t u : List ℕ) (steps others : List HostStep) : Type 0 w
   pub readings : ReadAlike (lastTable t (stepsOf steps)) (lastTable u (stepsOf others))
   pub restorations : WriteAlike (lastTable t (stepsOf steps)) (lastTable u (stepsOf others))
 
--- after any two runs any same calls of any octets, any number of them; a live set stands in ascending order of SEID, its records of ID
+-- after any two runs any same calls of any octets, any number of them; a live set stands in ascending order of peer, then SEID, its records of ID
 unfoldable pub NoMemory : Type 0
 NoMemory =
     (one other : Run) → one .settings ≡ other .settings → Alike (liveAfter one) (liveAfter other)

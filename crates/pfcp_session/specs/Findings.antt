@@ -1,19 +1,19 @@
 -- What the places of pfcp_find_session and pfcp_find_teid say: the answer is about the one session that has the SEID or holds the TEID, of the table
 -- and, after any run of the exported calls, of the live set. The reading calls change nothing, so a run with them is the run without them.
 -- Assumes nothing.
-use Prim.Native.Nat.{ℕ, _<_}
+use Prim.Native.Nat.{ℕ, _<_, _^_}
 use mathlib.Core.Path.{_≡_}
 use mathlib.Core.Bool.{Bool}
 use mathlib.Core.List.{List}
 use lib.Dec.{T}
 use lib.ListN.{length}
-use Rattle.rules.specs.Model.{Session, Sessions}
+use Rattle.rules.specs.Model.{Session, Sessions, isPeer, ofPeer, holdings, keyFor}
 use Rattle.rules.specs.Layout.{viewSessions}
 use Rattle.rules.specs.Sound.{sound}
-use Rattle.rules.specs.Stages.{hasSeid}
+use Rattle.rules.specs.Stages.{hasKey}
 use Rattle.rules.specs.Restoring.{sessionAt}
 use Rattle.rules.specs.Finding.{Finding, isHolder}
-use Rattle.pfcp_session.specs.Calls.{sessionCountCall, findSessionCall, findTeidCall}
+use Rattle.pfcp_session.specs.Calls.{sessionCountCall, findSessionCall, findTeidCall, peerCountCall}
 use Rattle.pfcp_session.specs.Runs.{Run, liveAfter, tableAfter}
 
 -- there is a session at the place, and it passes the test
@@ -38,13 +38,18 @@ pub record TheOne (at : ℕ → Type 0) (answer : Finding) : Type 0 where
 
 -- of any table that is not broken
 unfoldable pub SessionFound : Type 0
-SessionFound = (t : List ℕ) (seid : ℕ) → T (sound t) → TheOne (At (hasSeid seid) (viewSessions t)) (findSessionCall t seid)
+SessionFound = (t : List ℕ) (who seid : ℕ) → T (sound t) → TheOne (At (hasKey (keyFor who seid)) (viewSessions t)) (findSessionCall t who seid)
 
 unfoldable pub HolderFound : Type 0
 HolderFound = (t : List ℕ) (teid : ℕ) → T (sound t) → TheOne (At (isHolder teid) (viewSessions t)) (findTeidCall t teid)
 
--- after any run: the number of live sessions, the live session of a SEID, and the live session that holds a TEID
+-- a key is that of one peer and one SEID
+unfoldable pub KeysApart : Type 0
+KeysApart = (who seid other n : ℕ) → seid < 2 ^ 64 → n < 2 ^ 64 → keyFor who seid ≡ keyFor other n → (who ≡ other) × (seid ≡ n)
+
+-- after any run: the number of live sessions, the live session of a peer's SEID, the live session that holds a TEID, and what a peer has
 pub record LiveFound (run : Run) : Type 0 where
   pub count : sessionCountCall (tableAfter run) ≡ foundAt (length (liveAfter run))
-  pub seids : (seid : ℕ) → TheOne (At (hasSeid seid) (liveAfter run)) (findSessionCall (tableAfter run) seid)
+  pub seids : (who seid : ℕ) → TheOne (At (hasKey (keyFor who seid)) (liveAfter run)) (findSessionCall (tableAfter run) who seid)
   pub teids : (teid : ℕ) → TheOne (At (isHolder teid) (liveAfter run)) (findTeidCall (tableAfter run) teid)
+  pub peers : (who : ℕ) → T (isPeer who) → peerCountCall (tableAfter run) who ≡ record { outcome = 0; sessions = length (ofPeer who (liveAfter run)); teids = holdings who (liveAfter run) }

@@ -11,15 +11,15 @@ use Rattle.rules.specs.Sound.{Count, broken, free}
 use Rattle.rules.specs.Claim.{Step, asked, told, toldAddresses, stepAllowed, lastTable, liveSet, Promise}
 use Rattle.pfcp_session.specs.Calls.{MakeCall, makeCall, CountCall, countCall, addressCountCall, RequestCall, requestCall}
 
--- a call of pfcp_request with its message and reply space, or one of pfcp_free_count or pfcp_free_addresses, and what it left
+-- a call of pfcp_request with the number of its peer, its message and reply space, or one of pfcp_free_count or pfcp_free_addresses, and what it left
 pub data HostStep : Type 0 where
-  requested : List ℕ → List ℕ → RequestCall → HostStep
+  requested : ℕ → List ℕ → List ℕ → RequestCall → HostStep
   counted countedAddresses : CountCall → HostStep
 
 -- each call left what its contract says on the table t, and the next one had the table that it left
 abbrev pub HostRan : List ℕ → List HostStep → Type 0
 HostRan t [] = Unit
-HostRan t (requested msg space r ∷ steps) = (r ≡ requestCall t msg space) × HostRan (r .table) steps
+HostRan t (requested who msg space r ∷ steps) = (r ≡ requestCall t who msg space) × HostRan (r .table) steps
 HostRan t (counted c ∷ steps) = (c ≡ countCall t) × HostRan t steps
 HostRan t (countedAddresses c ∷ steps) = (c ≡ addressCountCall t) × HostRan t steps
 
@@ -28,7 +28,7 @@ unfoldable pub countOf : CountCall → Count
 countOf c = pick (eqb (c .outcome) 0) (free (c .count)) broken
 
 unfoldable pub claimStep : HostStep → Step
-claimStep (requested msg space r) = asked msg space (record { outcome = r .outcome; place = r .place; space = r .space; table = r .table })
+claimStep (requested who msg space r) = asked who msg space (record { outcome = r .outcome; place = r .place; space = r .space; table = r .table })
 claimStep (counted c) = told (countOf c)
 claimStep (countedAddresses c) = toldAddresses (countOf c)
 

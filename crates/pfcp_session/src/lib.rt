@@ -6,7 +6,8 @@ ghost use Rattle.rules.specs.Sound.{lengthFor};
 ghost use Rattle.unit.specs.Meaning.{settingsGiven};
 ghost use Rattle.table.specs.Answers.{countTold};
 ghost use Rattle.rules.specs.Store.{storeLength};
-ghost use Rattle.pfcp_session.specs.Calls.{storeCall, onceCall, CountFits, countAnswer, makeCall, countCall, addressCountCall, requestCall, restorationCall, sessionCountCall, findSessionCall, findTeidCall};
+ghost use Rattle.pfcp_session.specs.Calls.{storeCall, onceCall, CountFits, countAnswer, makeCall, countCall, addressCountCall, requestCall, restorationCall, sessionCountCall, findSessionCall, findTeidCall, peerCountCall};
+use unit::Peer;
 
 // Outcomes of making a table.
 const MADE: u32 = 0;
@@ -18,7 +19,7 @@ const COUNTED: u32 = 0;
 
 const BROKEN: u32 = 1;
 
-// How many octets a table with room for so many sessions has; 0 for a limit that is not allowed: 1 to 256 are.
+// How many octets a table with room for so many sessions has; 0 for a limit that is not allowed: 2 to 256 are.
 #[no_mangle]
 pub extern "C" fn pfcp_table_length(session_limit: u32) -> usize
     ensures { λ r. ⌜ r ≡ lengthFor «session_limit» ⌝ }
@@ -27,7 +28,8 @@ pub extern "C" fn pfcp_table_length(session_limit: u32) -> usize
 }
 
 // Makes an empty table: 0 made, 1 refused (nothing is written). No IPv6 address is a length of 0. The pool of TEIDs has size of them from
-// first on, the pool of patients' addresses address_count of them from first_address on; there is room for session_limit sessions.
+// first on, the pool of patients' addresses address_count of them from first_address on; there is room for session_limit sessions, half of
+// it for each peer. Of each peer: its signalling address on the unit, how many TEIDs it is guaranteed, and how many it may hold.
 #[no_mangle]
 pub extern "C" fn pfcp_make_table(
     table: &mut [u8],
@@ -38,11 +40,31 @@ pub extern "C" fn pfcp_make_table(
     first_address: u32,
     address_count: u32,
     session_limit: u32,
+    address1: u32,
+    guarantee1: u32,
+    limit1: u32,
+    address2: u32,
+    guarantee2: u32,
+    limit2: u32,
 ) -> u32
     ensures { λ r.
         ⌜ record { outcome = r; table = now (table .exit) }
-        ≡ makeCall (settingsGiven ipv4 (now (ipv6 .entry)) first size «first_address» «address_count» «session_limit») (now (table .entry)) ⌝ }
+        ≡ makeCall
+        (settingsGiven ipv4 (now (ipv6 .entry)) first size «first_address» «address_count» «session_limit»
+        (record { address = address1; guarantee = guarantee1; limit = limit1 })
+        (record { address = address2; guarantee = guarantee2; limit = limit2 }))
+        (now (table .entry)) ⌝ }
 {
+    let peer1 = Peer {
+        address: address1 as u64,
+        guarantee: guarantee1 as u64,
+        limit: limit1 as u64,
+    };
+    let peer2 = Peer {
+        address: address2 as u64,
+        guarantee: guarantee2 as u64,
+        limit: limit2 as u64,
+    };
     let answer = table::make(
         table,
         ipv4,
@@ -52,6 +74,8 @@ pub extern "C" fn pfcp_make_table(
         first_address,
         address_count,
         session_limit,
+        peer1,
+        peer2,
     );
     match answer {
         table::Making::Made => MADE,
@@ -94,13 +118,14 @@ pub extern "C" fn pfcp_free_addresses(table: &[u8], count: &mut u32) -> u32
     tell(answer, count)
 }
 
-// Handles one request: 01's outcome. With outcome 0 the reply stands at the front of the reply space, and used is its length; any other
-// outcome writes nothing but 0 there. The place is that of a fault found in stages 2 and 3: the index in the message, from 0, of the type's
-// first octet of the element at fault, or of the group that lacks a member or has under 4 octets left; 0 for the message, and where there is
-// no such fault.
+// Handles one request of a peer, 1 or 2: 01's outcome; 7 for any other number, before anything else. With outcome 0 the reply stands at the
+// front of the reply space, and used is its length; any other outcome writes nothing but 0 there. The place is that of a fault found in
+// stages 2 and 3: the index in the message, from 0, of the type's first octet of the element at fault, or of the group that lacks a member or
+// has under 4 octets left; 0 for the message, and where there is no such fault.
 #[no_mangle]
 pub extern "C" fn pfcp_request(
     table: &mut [u8],
+    peer: u32,
     message: &[u8],
     reply: &mut [u8],
     used: &mut usize,
@@ -108,15 +133,15 @@ pub extern "C" fn pfcp_request(
 ) -> u32
     ensures { λ r.
         ⌜ record { outcome = r; used = now (used .exit); place = now (place .exit); space = now (reply .exit); table = now (table .exit) }
-        ≡ requestCall (now (table .entry)) (now (message .entry)) (now (reply .entry)) ⌝ }
+        ≡ requestCall (now (table .entry)) peer (now (message .entry)) (now (reply .entry)) ⌝ }
 {
-    let served = engine::serve(table, message, reply);
+    let served = engine::serve(table, peer, message, reply);
     *used = served.used;
     *place = served.place;
     served.outcome
 }
 
-// How many octets a store of repeated requests has.
+// How many octets a store of repeated requests has; each peer has one.
 #[no_mangle]
 pub extern "C" fn pfcp_store_length() -> usize
     ensures { λ r. ⌜ r ≡ storeLength ⌝ }
@@ -138,10 +163,11 @@ pub extern "C" fn pfcp_make_store(store: &mut [u8]) -> u32
 
 // Handles one request as pfcp_request does, but a repeat gets the old reply: octets equal to those of one of the last eight requests that were
 // replied to get the stored reply, at place 0, and change nothing. Otherwise the sequence number has to be newer than that of the request
-// stored last, or it is outcome 6. A broken store, or one of wrong length, is outcome 1.
+// stored last, or it is outcome 6. A broken store, or one of wrong length, is outcome 1. The store is the named peer's.
 #[no_mangle]
 pub extern "C" fn pfcp_request_once(
     table: &mut [u8],
+    peer: u32,
     store: &mut [u8],
     message: &[u8],
     reply: &mut [u8],
@@ -150,16 +176,17 @@ pub extern "C" fn pfcp_request_once(
 ) -> u32
     ensures { λ r.
         ⌜ record { outcome = r; used = now (used .exit); place = now (place .exit); space = now (reply .exit); table = now (table .exit); store = now (store .exit) }
-        ≡ onceCall (now (table .entry)) (now (store .entry)) (now (message .entry)) (now (reply .entry)) ⌝ }
+        ≡ onceCall (now (table .entry)) peer (now (store .entry)) (now (message .entry)) (now (reply .entry)) ⌝ }
 {
-    let told = repeats::serve_once(table, store, message, reply);
+    let told = repeats::serve_once(table, peer, store, message, reply);
     *used = told.used;
     *place = told.place;
     told.outcome
 }
 
 // Writes the restoration request of the session at a place, from 0, with the control plane's addresses (4 octets or none, 16 octets or
-// none): outcome 0, and used is the request's length. A refusal, 1 to 4, writes nothing but 0 there.
+// none): outcome 0, used is the request's length, and peer the peer to run it under. A refusal, 1 to 4, writes nothing but 0 there. Places
+// count the sessions of both peers, peer 1's first.
 #[no_mangle]
 pub extern "C" fn pfcp_write_restoration(
     table: &[u8],
@@ -168,13 +195,15 @@ pub extern "C" fn pfcp_write_restoration(
     ipv6: &[u8],
     space: &mut [u8],
     used: &mut usize,
+    peer: &mut u32,
 ) -> u32
     ensures { λ r.
-        ⌜ record { outcome = r; used = now (used .exit); space = now (space .exit) }
+        ⌜ record { outcome = r; used = now (used .exit); peer = now (peer .exit); space = now (space .exit) }
         ≡ restorationCall (now (table .entry)) place (now (ipv4 .entry)) (now (ipv6 .entry)) (now (space .entry)) ⌝ }
 {
     let answer = restoration::write_restoration(table, place, ipv4, ipv6, space);
     *used = answer.used;
+    *peer = answer.peer;
     answer.outcome
 }
 
@@ -188,13 +217,13 @@ pub extern "C" fn pfcp_session_count(table: &[u8], count: &mut u32) -> u32
     counted.outcome
 }
 
-// Writes the place, from 0, of the session of a SEID: outcome 0, or 1 where the table is broken or of wrong length, 2 where no session has
-// it, and 0 there.
+// Writes the place, from 0, of the session of a peer's SEID: outcome 0, or 1 where the table is broken or of wrong length, 2 where no session
+// of the peer has it, as with any number that is no peer's, and 0 there.
 #[no_mangle]
-pub extern "C" fn pfcp_find_session(table: &[u8], seid: u64, place: &mut usize) -> u32
-    ensures { λ r. ⌜ record { outcome = r; number = now (place .exit) } ≡ findSessionCall (now (table .entry)) seid ⌝ }
+pub extern "C" fn pfcp_find_session(table: &[u8], peer: u32, seid: u64, place: &mut usize) -> u32
+    ensures { λ r. ⌜ record { outcome = r; number = now (place .exit) } ≡ findSessionCall (now (table .entry)) peer seid ⌝ }
 {
-    let found = finding::find_session(table, seid);
+    let found = finding::find_session(table, peer, seid);
     *place = found.number;
     found.outcome
 }
@@ -208,4 +237,21 @@ pub extern "C" fn pfcp_find_teid(table: &[u8], teid: u32, place: &mut usize) -> 
     let holder = finding::find_holder(table, teid as u64);
     *place = holder.number;
     holder.outcome
+}
+
+// Writes how many sessions a peer has, and how many different TEIDs their records hold: outcome 0, or 7 for a number that is no peer's, 1 where
+// the table is broken or of wrong length, and zeros there.
+#[no_mangle]
+pub extern "C" fn pfcp_peer_count(
+    table: &[u8],
+    peer: u32,
+    sessions: &mut u32,
+    teids: &mut u32,
+) -> u32
+    ensures { λ r. ⌜ record { outcome = r; sessions = now (sessions .exit); teids = now (teids .exit) } ≡ peerCountCall (now (table .entry)) peer ⌝ }
+{
+    let share = finding::peer_count(table, peer);
+    *sessions = share.sessions as u32;
+    *teids = share.teids as u32;
+    share.outcome
 }

@@ -11,3 +11,4 @@ pub mod WalkLaws
 pub mod RequestLaws
 pub mod MergeLaws
 pub mod NeedLaws
+pub mod NeededLaws

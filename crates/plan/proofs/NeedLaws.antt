@@ -8,7 +8,6 @@ use native.Mathlib.Nat.{zero-add}
 use native.Mathlib.Omega.{arith}
 use lib.Dec.{eqb, eqb-refl}
 use borrow.Author.Tests.{eqb-true}
-use lib.ListN.{length, take, drop}
 use Rattle.octets.specs.Choice.{pick, flag, isSome, bindOption, consOption}
 use Rattle.octets.specs.Lists.{member, any, keep, collect}
 use Rattle.octets.specs.Rows.{hasTag}
@@ -16,16 +15,13 @@ use Rattle.octets.proofs.Tests.{is-true}
 use Rattle.octets.proofs.ListLaws.{collect-map}
 use Rattle.rules.specs.Stages.{sameChoice}
 use Rattle.rules.specs.Grants.{Choice, choices, need, needFrom, isFresh, noted, endpointChoice, pdrChoice}
-use Rattle.plan.specs.Rows.{rowWidth, tagged, rowsOf, rowPdr, rowEndpoint, requestIn}
+use Rattle.plan.specs.Rows.{tagged, rowPdr, rowEndpoint, requestIn}
 use Rattle.rules.specs.Types as ie
 use Rattle.plan.specs.RowRules.{onSome, rowChoice, rowChooseId, choiceId, sharesChoice}
-use Rattle.octets.proofs.RowLaws.{rows-none}
-use Rattle.octets.proofs.Loops.{left-part}
 use Rattle.plan.proofs.ListLaws.{any-ext, any-collect}
 use Rattle.plan.proofs.MergeLaws.{Merge, empty, left, right, any-middle, any-merge, merged}
 use Rattle.plan.proofs.PairLaws.{same-none, tags-apart}
 use Rattle.octets.proofs.Bools.{eqb-turn, or-swap}
-use Rattle.octets.proofs.Numbers.{slices-next}
 
 -- a later CHOOSE has the CHOOSE ID
 abbrev shared : Option ℕ → List Choice → Bool
@@ -172,30 +168,3 @@ need-rows seid restoring noted′ rows =
     ∙ ap₂ (λ (a b : List Choice). needLast (a ++ b)) (collect-map rowEndpoint endpointChoice (keep (hasTag ie.createEndpoint) rows)) (collect-map rowPdr pdrChoice (keep (hasTag ie.createPdr) rows))
     ∙ need-merge (merged (hasTag ie.createEndpoint) (hasTag ie.createPdr) (λ row. tags-apart ie.createEndpoint 1 row (λ e. omega arith)) (λ row. endpointChoice (rowEndpoint row)) (λ row. pdrChoice (rowPdr row)) rows)
     ∙ last-rows rows
-
--- ---- the walk
-
-pub need-none : (s : List ℕ) (n : ℕ) → n ≤ 0 → needRows (rowsOf n s) ≡ 0
-unfolding needRows
-need-none s n h =
-    let e : n ≡ 0 = omega arith in
-    rw (e, rows-none rowWidth s)
-
-need-first : (s : List ℕ) (n : ℕ) → 0 < n
-    → needRows (rowsOf n s)
-    ≡ flag (isSome (rowChoice (take rowWidth s)) && not (any (sharesChoice (take rowWidth s)) (rowsOf (n - 1) (take (length s - rowWidth) (drop rowWidth s)))))
-    + needRows (rowsOf (n - 1) (take (length s - rowWidth) (drop rowWidth s)))
-unfolding needRows
-need-first s n h = rw (slices-next rowWidth n s h, left-part s rowWidth)
-
-module _ (s : List ℕ) (n : ℕ) (h : 0 < n) where
-  pub need-other : isSome (rowChoice (take rowWidth s)) ≡ false → needRows (rowsOf (n - 1) (take (length s - rowWidth) (drop rowWidth s))) ≡ needRows (rowsOf n s)
-  need-other e = sym (need-first s n h ∙ rw e (zero-add _))
-
-  pub need-again : isSome (rowChoice (take rowWidth s)) ≡ true → any (sharesChoice (take rowWidth s)) (rowsOf (n - 1) (take (length s - rowWidth) (drop rowWidth s))) ≡ true
-      → needRows (rowsOf (n - 1) (take (length s - rowWidth) (drop rowWidth s))) ≡ needRows (rowsOf n s)
-  need-again e f = sym (need-first s n h ∙ rw (e, f) (zero-add _))
-
-  pub need-one : isSome (rowChoice (take rowWidth s)) ≡ true → any (sharesChoice (take rowWidth s)) (rowsOf (n - 1) (take (length s - rowWidth) (drop rowWidth s))) ≡ false
-      → 1 + needRows (rowsOf (n - 1) (take (length s - rowWidth) (drop rowWidth s))) ≡ needRows (rowsOf n s)
-  need-one e f = sym (need-first s n h ∙ rw (e, f))

@@ -5,11 +5,12 @@ use mathlib.Core.Bool.{Bool, false, not, _&&_, _||_}
 use mathlib.Core.Option.{Option, none, some}
 use mathlib.Core.List.{List, [], _∷_, _++_}
 use lib.Dec.{leb, ltb, eqb}
-use Rattle.octets.specs.Choice.{pick, oneOf, bindOption}
+use Rattle.octets.specs.Choice.{pick, oneOf, isSome, bindOption}
+use Rattle.octets.specs.Lists.{any}
 use Rattle.octets.specs.Octets.{be, bit}
 use Rattle.octets.specs.Rows.{hasTag}
 use Rattle.rules.specs.Model.{Settings, Holding, inAddressPool}
-use Rattle.rules.specs.Elements.{Fteid, chooseIdOf, UeIp, ueAddressOf}
+use Rattle.rules.specs.Elements.{Fteid, UeIp, ueAddressOf}
 use Rattle.rules.specs.Request.{Request}
 use Rattle.rules.specs.Sound.{inPool, agree}
 use Rattle.rules.specs.Stages.{choicesAgree, alikeFteids, sameChoice, endpointRestored, pdrRestored}
@@ -133,3 +134,13 @@ rowChooseId row = bindOption (rowChoice row) choiceId
 -- two CHOOSEs with the same CHOOSE ID
 unfoldable pub sharesChoice : List ℕ → List ℕ → Bool
 sharesChoice a b = sameChoice (rowChooseId a) (rowChooseId b)
+
+-- ---- cause 75: the TEIDs that rows need (02 (xiv))
+
+-- two restored F-TEIDs with one TEID
+unfoldable pub sameTeid : List ℕ → List ℕ → Bool
+sameTeid a b = restores (λ t. restores (λ u. eqb t u) (rowHolding b)) (rowHolding a)
+
+-- a row is counted if it chooses and no later one has its CHOOSE ID, or names a TEID that no later one names
+unfoldable pub counted : List ℕ → List (List ℕ) → Bool
+counted row later = pick (isSome (rowChoice row)) (not (any (sharesChoice row) later)) (isSome (rowHolding row) && not (any (sameTeid row) later))

@@ -9,10 +9,9 @@ ghost use lib.Dec.{eqb};
 ghost use lib.ListN.{length};
 ghost use Rattle.octets.specs.Lists.{member, any};
 ghost use Rattle.octets.specs.Rows.{hasTag, column};
-ghost use Rattle.rules.specs.Grants.{need};
-ghost use Rattle.rules.specs.Stages.{invalidAllocation};
+ghost use Rattle.rules.specs.Stages.{invalidAllocation, needed};
 ghost use Rattle.plan.specs.Rows.{rowWidth, word, tagged, rowsOf, requestIn};
-ghost use Rattle.plan.specs.RowRules.{requestOf, ofUeKind, sameId, disagree, sharesChoice};
+ghost use Rattle.plan.specs.RowRules.{requestOf, ofUeKind, sameId, disagree, sharesChoice, sameTeid, counted};
 
 pub mod address;
 pub mod pair;
@@ -187,10 +186,42 @@ fn shared_later(row: &[u64], later: &[u64], n: usize) -> bool
     chosen_later(row, later, n)
 }
 
-// How many TEIDs the rows need: one for each CHOOSE without an ID and one for each different CHOOSE ID, counted at the last CHOOSE that has it.
-pub fn need(plan: &[u64], n: usize) -> usize
+// Does one of the rows after it name the TEID that a row names?
+fn named_later(row: &[u64], later: &[u64], n: usize) -> bool
+    requires { ⌜ (length (now row) ≡ rowWidth) × (n * rowWidth ≤ length (now later)) ⌝ }
+    ensures { λ r. ⌜ r ≡ any (sameTeid (now (row .entry))) (rowsOf n (now (later .entry))) ⌝ }
+{
+    let mut rest = later;
+    let mut left = n;
+    while 0 < left {
+        if pair::same_teid(row, &rest[..format::ROW]) {
+            return true;
+        }
+        rest = &rest[format::ROW..];
+        left -= 1;
+    }
+    false
+}
+
+// Is a row the last that chooses by its CHOOSE ID, or that names its TEID?
+fn counts(row: &[u64], later: &[u64], n: usize) -> bool
+    requires { ⌜ (length (now row) ≡ rowWidth) × (n * rowWidth ≤ length (now later)) ⌝ }
+    ensures { λ r. ⌜ r ≡ counted (now (row .entry)) (rowsOf n (now (later .entry))) ⌝ }
+{
+    if tunnel::chooses(row) {
+        return !shared_later(row, later, n);
+    }
+    if !tunnel::restored(row) {
+        return false;
+    }
+    !named_later(row, later, n)
+}
+
+// How many TEIDs the rows need: one for each CHOOSE without an ID and one for each different CHOOSE ID, or, in a restoration, one for each different
+// TEID; counted at the last row that has it.
+pub fn needed(plan: &[u64], n: usize) -> usize
     requires { ⌜ n * rowWidth ≤ length (now plan) ⌝ }
-    ensures { λ r. ⌜ r ≡ need (requestOf false (rowsOf n (now (plan .entry)))) ⌝ }
+    ensures { λ r. ⌜ (r ≡ needed (requestOf false (rowsOf n (now (plan .entry))))) × (r ≤ n) ⌝ }
 {
     let mut rest = plan;
     let mut left = n;
@@ -199,10 +230,7 @@ pub fn need(plan: &[u64], n: usize) -> usize
         let row = &rest[..format::ROW];
         rest = &rest[format::ROW..];
         left -= 1;
-        if !tunnel::chooses(row) {
-            continue;
-        }
-        if shared_later(row, rest, left) {
+        if !counts(row, rest, left) {
             continue;
         }
         teids += 1;

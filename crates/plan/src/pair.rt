@@ -7,7 +7,7 @@ ghost use mathlib.Core.Bool.{not, _&&_};
 ghost use lib.ListN.{length};
 ghost use Rattle.octets.specs.Choice.{isSome};
 ghost use Rattle.plan.specs.Rows.{rowWidth};
-ghost use Rattle.plan.specs.RowRules.{rowChooseId, rowHolding, alikeRows, sameId, otherChoice, otherHold, disagree, sharesChoice};
+ghost use Rattle.plan.specs.RowRules.{rowChooseId, rowHolding, alikeRows, sameId, otherChoice, otherHold, disagree, sharesChoice, sameTeid};
 
 // An ID removed, created or updated twice.
 pub fn same_id(a: &[u64], b: &[u64]) -> bool
@@ -102,6 +102,20 @@ fn other_hold(a: &[u64], b: &[u64]) -> bool
         return true;
     }
     !alike(a, b)
+}
+
+// Two restored F-TEIDs with one TEID.
+pub fn same_teid(a: &[u64], b: &[u64]) -> bool
+    requires { ⌜ (length (now a) ≡ rowWidth) × (length (now b) ≡ rowWidth) ⌝ }
+    ensures { λ r. ⌜ r ≡ sameTeid (now (a .entry)) (now (b .entry)) ⌝ }
+{
+    if !tunnel::restored(a) {
+        return false;
+    }
+    if !tunnel::restored(b) {
+        return false;
+    }
+    a[words::TEID] == b[words::TEID]
 }
 
 // Does a row share nothing with others, neither a CHOOSE ID nor a restored TEID? Then only its ID can disagree with theirs.

@@ -7,8 +7,8 @@ use native.Mathlib.Nat.{mul-le-mul-right, zero-mul, suc-mul, add-comm}
 use native.Mathlib.Omega.{arith}
 use mathlib.Core.Bool.{Bool, _&&_}
 use mathlib.Core.List.{List, [], _∷_, _++_, map, append-nil}
-use lib.ListN.{length, take, drop, length-map}
-use lib.Seq.{take-at, take-add, take-take}
+use lib.ListN.{length, take, drop, length-map, length-drop}
+use lib.Seq.{take-at, take-add, take-take, length-take-le}
 use lib.Dec.{T}
 use Rattle.octets.specs.Octets.{zeros, padded, concatMap, slices, sameOctets, allZero}
 use Rattle.octets.specs.Lists.{all, ascending}
@@ -78,10 +78,13 @@ module _ {A : Type 0} (p : A → Bool) (f : A → List ℕ) (g : List ℕ → A)
 
   -- ---- areas
 
-  module _ (key : A → ℕ) (w k : ℕ) (fits : (a : A) → T (p a) → length (f a) ≡ w) (same : (x : List ℕ) → key (g x) ≡ keyOf k x) where
-    keys-same : (ss : List (List ℕ)) → map key (map g ss) ≡ map (keyOf k) ss
-    keys-same [] = refl
-    keys-same (x ∷ ss) = λ i. same x i ∷ keys-same ss i
+  module _ (key : A → ℕ) (w k : ℕ) (fits : (a : A) → T (p a) → length (f a) ≡ w) (same : (x : List ℕ) → length x ≡ w → key (g x) ≡ keyOf k x) where
+    keys-same : (n : ℕ) (a : List ℕ) → n * w ≤ length a → map key (map g (slices w n a)) ≡ map (keyOf k) (slices w n a)
+    unfolding slices
+    keys-same zero a h = refl
+    keys-same (suc n) a h =
+        let rows : suc n * w ≡ n * w + w = suc-mul n w in
+        λ i. same (take w a) (length-take-le w a (omega arith)) i ∷ keys-same n (drop w a) (rw length-drop (omega arith)) i
 
     module _ (cap n : ℕ) (a : List ℕ) (long : length a ≡ cap * w) (few : n ≤ cap) where
       -- the records that the area's octets are read as
@@ -107,7 +110,7 @@ module _ {A : Type 0} (p : A → Bool) (f : A → List ℕ) (g : List ℕ → A)
           let up = and-left (ascending (map (keyOf k) ss)) (allZero (drop (n * w) a)) rest in
           let room = and-right (ascending (map (keyOf k) ss)) (allZero (drop (n * w) a)) rest in (
             all-allowed ss records,
-            subst (λ (ks : List ℕ). T (ascending ks)) (sym (keys-same ss)) up,
+            subst (λ (ks : List ℕ). T (ascending ks)) (sym (keys-same n a within)) up,
             same-eq (area f w cap recordsOf) a (subst T (sym (padded-same (all-same ss records ∙ join-slices w n a))) room),
           )
 
@@ -119,7 +122,7 @@ module _ {A : Type 0} (p : A → Bool) (f : A → List ℕ) (g : List ℕ → A)
           let wide : length (concatMap f recordsOf) ≡ n * w = length-concatMap f w p fits recordsOf h ∙ ap (λ (m : ℕ). m * w) count in
           let front : concatMap f recordsOf ≡ take (n * w) a = sym (ap (take (n * w)) (sym e) ∙ taken wide) in
           both (all (kept p f g) ss) (ascending (map (keyOf k) ss) && allZero (drop (n * w) a)) (all-kept ss h read)
-          (both (ascending (map (keyOf k) ss)) (allZero (drop (n * w) a)) (subst (λ (ks : List ℕ). T (ascending ks)) (keys-same ss) up)
+          (both (ascending (map (keyOf k) ss)) (allZero (drop (n * w) a)) (subst (λ (ks : List ℕ). T (ascending ks)) (keys-same n a within) up)
           (of-true (sym (padded-same front) ∙ ap (λ (l : List ℕ). sameOctets l a) e ∙ same-refl a)))
         where
           taken : length (concatMap f recordsOf) ≡ n * w → take (n * w) (area f w cap recordsOf) ≡ concatMap f recordsOf

@@ -2,7 +2,7 @@
 -- its octets are just what that session is written as.
 -- Assumes nothing.
 use mathlib.Core.Path.{_≡_, refl, sym, ap, subst, _∙_}
-use Prim.Native.Nat.{ℕ, _+_, _*_, _^_, _≤_, _<_}
+use Prim.Native.Nat.{ℕ, _+_, _*_, _^_, _≤_, _<_, suc}
 use native.Mathlib.Nat.{le-trans, le-of-eq}
 use native.Mathlib.Omega.{arith}
 use mathlib.Core.Bool.{Bool, true, false, _&&_}
@@ -21,14 +21,16 @@ use Rattle.octets.proofs.Digits.{be-back, number-below, part-octets}
 use Rattle.octets.proofs.Put.{length-part, part-of}
 use Rattle.octets.proofs.Bools.{both-ways, and-assoc}
 use Rattle.rules.specs.Limits.{maxPdrs, maxEndpoints, nodeTypes}
-use Rattle.rules.specs.Model.{Settings, Session, pdrId, endpointId, nodeTypeOf, seidOf, sessionHoldings}
-use Rattle.rules.specs.Layout.{area, pdrFrom, endpointFrom, csidFrom, pdrWidth, endpointWidth, csidWidth, pdrOctets, endpointOctets, csidOctets, sessionOctets, viewArea, viewPdr, viewEndpoint, viewCsid, viewSession, pdrCountAt, endpointCountAt, csidCountAt, pdrsAt, endpointsAt, csidsAt, sessionWidth}
+use Rattle.rules.specs.Model.{Settings, Session, pdrId, endpointId, nodeTypeOf, keyFor, sessionKey, isPeer, sessionHoldings}
+use Rattle.rules.specs.Layout.{area, pdrFrom, endpointFrom, csidFrom, pdrWidth, endpointWidth, csidWidth, pdrOctets, endpointOctets, csidOctets, sessionOctets, viewArea, viewPdr, viewEndpoint, viewCsid, viewSession, pdrCountAt, endpointCountAt, csidCountAt, pdrsAt, endpointsAt, csidsAt, sessionWidth, seidAt, keyWidth}
 use Rattle.rules.specs.Sound.{pdrAllowed, endpointAllowed, csidAllowed, agree, sessionTests, sessionAllowed}
 use Rattle.laws.proofs.LayoutLaws.{length-area, length-pdr, length-endpoint, length-csid}
 use Rattle.areas.specs.Records.{keyOf}
 use Rattle.records.specs.Kept.{kept, pdrSound, endpointSound, csidSound, endpointIds}
 use Rattle.records.specs.Slot.{pdrArea, endpointArea, csidArea, headSound, slotTests, slotSound, recordsAllowed}
 use Rattle.records.proofs.Areas.{slices-take, area-from, area-to}
+use Rattle.areas.proofs.PairLaws.{number-pair}
+use Rattle.octets.proofs.FieldLaws.{octet-read}
 
 -- ---- all tests but the last
 
@@ -39,32 +41,33 @@ all-last (c ∷ bs) b = ap (λ (t : Bool). c && t) (all-last bs b) ∙ sym (and-
 
 pub allowed-split : (s : Settings) (x : Session) → sessionAllowed s x ≡ (recordsAllowed s x && allPairs agree (sessionHoldings x))
 unfolding sessionAllowed recordsAllowed sessionTests
-allowed-split s x = all-last (take 11 (sessionTests s x)) (allPairs agree (sessionHoldings x))
+allowed-split s x = all-last (take 12 (sessionTests s x)) (allPairs agree (sessionHoldings x))
 
 -- ---- keys are the first octets
 
-pub key-pdr : (xs : List ℕ) → pdrId (viewPdr xs) ≡ keyOf 2 xs
+pub key-pdr : (xs : List ℕ) → length xs ≡ pdrWidth → pdrId (viewPdr xs) ≡ keyOf 2 xs
 unfolding viewPdr pdrFrom fieldsAt keyOf
-key-pdr xs = refl
+key-pdr xs e = refl
 
-pub key-endpoint : (xs : List ℕ) → endpointId (viewEndpoint xs) ≡ keyOf 1 xs
+pub key-endpoint : (xs : List ℕ) → length xs ≡ endpointWidth → endpointId (viewEndpoint xs) ≡ keyOf 1 xs
 unfolding viewEndpoint endpointFrom fieldsAt keyOf
-key-endpoint xs = refl
+key-endpoint xs e = refl
 
-pub key-csid : (xs : List ℕ) → nodeTypeOf (viewCsid xs) ≡ keyOf 1 xs
+pub key-csid : (xs : List ℕ) → length xs ≡ csidWidth → nodeTypeOf (viewCsid xs) ≡ keyOf 1 xs
 unfolding viewCsid csidFrom fieldsAt keyOf
-key-csid xs = refl
+key-csid xs e = refl
 
-pub key-session : (xs : List ℕ) → seidOf (viewSession xs) ≡ keyOf 8 xs
-unfolding viewSession numberAt keyOf
-key-session xs = refl
+pub key-session : (xs : List ℕ) → length xs ≡ sessionWidth → sessionKey (viewSession xs) ≡ keyOf keyWidth xs
+unfolding viewSession numberAt octetAt keyOf keyFor
+key-session xs e = sym (number-pair 0 xs (omega arith) ∙ ap (λ (n : ℕ). n * 2 ^ 64 + number (part seidAt 8 xs)) (octet-read 0 xs (omega arith)))
 
 -- ---- the session that a slot is read as, by its areas
 
 unfoldable pub slotOf : List ℕ → Session
 slotOf xs =
     record {
-      seid = number (part 0 8 xs);
+      peer = getD xs 0 0;
+      seid = number (part seidAt 8 xs);
       pdrs = map viewPdr (slices pdrWidth (getD xs pdrCountAt 0) (pdrArea xs));
       endpoints = map viewEndpoint (slices endpointWidth (getD xs endpointCountAt 0) (endpointArea xs));
       csids = map viewCsid (slices csidWidth (getD xs csidCountAt 0) (csidArea xs));
@@ -79,7 +82,8 @@ pub view-slot : (xs : List ℕ) → Counts xs → viewSession xs ≡ slotOf xs
 unfolding viewSession slotOf viewArea numberAt octetAt
 view-slot xs c =
     λ i. record {
-      seid = number (part 0 8 xs);
+      peer = getD xs 0 0;
+      seid = number (part seidAt 8 xs);
       pdrs = map viewPdr (sym (slices-take pdrWidth (getD xs pdrCountAt 0) (maxPdrs * pdrWidth) (drop pdrsAt xs) (omega (arith, c .pdrs))) i);
       endpoints = map viewEndpoint (sym (slices-take endpointWidth (getD xs endpointCountAt 0) (maxEndpoints * endpointWidth) (drop endpointsAt xs) (omega (arith, c .endpoints))) i);
       csids = map viewCsid (sym (slices-take csidWidth (getD xs csidCountAt 0) (nodeTypes * csidWidth) (drop csidsAt xs) (omega (arith, c .csids))) i);
@@ -91,24 +95,24 @@ cut : (at n : ℕ) (xs : List ℕ) → drop at xs ≡ part at n xs ++ drop (at +
 cut at n xs = sym (take-append-drop n (drop at xs)) ∙ rw (drop-drop n at xs)
 
 abbrev headTests : List ℕ → List Bool
-headTests xs = leb 1 (number (part 0 8 xs)) ∷ leb (getD xs pdrCountAt 0) maxPdrs ∷ leb (getD xs endpointCountAt 0) maxEndpoints ∷ leb (getD xs csidCountAt 0) nodeTypes ∷ []
+headTests xs = isPeer (getD xs 0 0) ∷ leb 1 (number (part seidAt 8 xs)) ∷ leb (getD xs pdrCountAt 0) maxPdrs ∷ leb (getD xs endpointCountAt 0) maxEndpoints ∷ leb (getD xs csidCountAt 0) nodeTypes ∷ []
 
 pub counts-headed : (xs : List ℕ) → T (headSound xs) → Counts xs
 unfolding headSound octetAt numberAt
 counts-headed xs h =
     let t = each (headTests xs) h in
-    record { pdrs = leb→le (getD xs pdrCountAt 0) maxPdrs (t .1 .0); endpoints = leb→le (getD xs endpointCountAt 0) maxEndpoints (t .1 .1 .0); csids = leb→le (getD xs csidCountAt 0) nodeTypes (t .1 .1 .1 .0) }
+    record { pdrs = leb→le (getD xs pdrCountAt 0) maxPdrs (t .1 .1 .0); endpoints = leb→le (getD xs endpointCountAt 0) maxEndpoints (t .1 .1 .1 .0); csids = leb→le (getD xs csidCountAt 0) nodeTypes (t .1 .1 .1 .1 .0) }
 
 module _ (xs : List ℕ) (long : length xs ≡ sessionWidth) where
-  slot-parts : part 0 8 xs ++ (getD xs pdrCountAt 0 ∷ getD xs endpointCountAt 0 ∷ getD xs csidCountAt 0 ∷ pdrArea xs ++ (endpointArea xs ++ csidArea xs)) ≡ xs
+  slot-parts : getD xs 0 0 ∷ part seidAt 8 xs ++ (getD xs pdrCountAt 0 ∷ getD xs endpointCountAt 0 ∷ getD xs csidCountAt 0 ∷ pdrArea xs ++ (endpointArea xs ++ csidArea xs)) ≡ xs
   slot-parts =
       let last : drop csidsAt xs ≡ csidArea xs = sym (take-all (nodeTypes * csidWidth) (drop csidsAt xs) (rw length-drop (omega arith))) in
       let areas : drop pdrsAt xs ≡ pdrArea xs ++ (endpointArea xs ++ csidArea xs) =
       cut pdrsAt (maxPdrs * pdrWidth) xs ∙ ap (λ (l : List ℕ). pdrArea xs ++ l) (cut endpointsAt (maxEndpoints * endpointWidth) xs ∙ ap (λ (l : List ℕ). endpointArea xs ++ l) last) in
-      let counts : drop 8 xs ≡ getD xs pdrCountAt 0 ∷ getD xs endpointCountAt 0 ∷ getD xs csidCountAt 0 ∷ drop pdrsAt xs =
-      drop-cons xs 8 0 (omega arith)
-      ∙ ap (λ (l : List ℕ). getD xs pdrCountAt 0 ∷ l) (drop-cons xs 9 0 (omega arith) ∙ ap (λ (l : List ℕ). getD xs endpointCountAt 0 ∷ l) (drop-cons xs 10 0 (omega arith))) in
-      sym (cut 0 8 xs ∙ ap (λ (l : List ℕ). part 0 8 xs ++ l) (counts ∙ ap (λ (l : List ℕ). getD xs pdrCountAt 0 ∷ getD xs endpointCountAt 0 ∷ getD xs csidCountAt 0 ∷ l) areas))
+      let counts : drop keyWidth xs ≡ getD xs pdrCountAt 0 ∷ getD xs endpointCountAt 0 ∷ getD xs csidCountAt 0 ∷ drop pdrsAt xs =
+      drop-cons xs 9 0 (omega arith)
+      ∙ ap (λ (l : List ℕ). getD xs pdrCountAt 0 ∷ l) (drop-cons xs 10 0 (omega arith) ∙ ap (λ (l : List ℕ). getD xs endpointCountAt 0 ∷ l) (drop-cons xs 11 0 (omega arith))) in
+      sym (drop-cons xs 0 0 (omega arith) ∙ ap (λ (l : List ℕ). getD xs 0 0 ∷ l) (cut seidAt 8 xs ∙ ap (λ (l : List ℕ). part seidAt 8 xs ++ l) (counts ∙ ap (λ (l : List ℕ). getD xs pdrCountAt 0 ∷ getD xs endpointCountAt 0 ∷ getD xs csidCountAt 0 ∷ l) areas)))
 
   -- how many records the slot is read as
   count-pdrs : length (map viewPdr (slices pdrWidth (getD xs pdrCountAt 0) (pdrArea xs))) ≡ getD xs pdrCountAt 0
@@ -132,7 +136,7 @@ module _ (xs : List ℕ) (long : length xs ≡ sessionWidth) where
   counts-viewed : (s : Settings) → T (recordsAllowed s (viewSession xs)) → Counts xs
   unfolding recordsAllowed sessionTests viewSession viewArea octetAt
   counts-viewed s h =
-      let t = each (take 11 (sessionTests s (viewSession xs))) h in
+      let t = each (take 12 (sessionTests s (viewSession xs))) h in
       let lp = leb→le (length (viewSession xs .pdrs)) 16 (t .1 .1 .0) in
       let le′ = leb→le (length (viewSession xs .endpoints)) 8 (t .1 .1 .1 .1 .1 .0) in
       let lc = leb→le (length (viewSession xs .csids)) 6 (t .1 .1 .1 .1 .1 .1 .1 .1 .0) in
@@ -160,16 +164,17 @@ module _ (xs : List ℕ) (long : length xs ≡ sessionWidth) where
     csidsWritten : List ℕ
     csidsWritten = area csidOctets csidWidth nodeTypes (map viewCsid (slices csidWidth (getD xs csidCountAt 0) (csidArea xs)))
 
-    seid-written : be 8 (number (part 0 8 xs)) ≡ part 0 8 xs
-    seid-written = be-back 8 (part 0 8 xs) (length-part 0 8 xs (omega arith)) (part-octets 0 8 xs o)
+    seid-written : be 8 (number (part seidAt 8 xs)) ≡ part seidAt 8 xs
+    seid-written = be-back 8 (part seidAt 8 xs) (length-part seidAt 8 xs (omega arith)) (part-octets seidAt 8 xs o)
 
-    written-is : sessionOctets (slotOf xs) ≡ part 0 8 xs ++ (getD xs pdrCountAt 0 ∷ getD xs endpointCountAt 0 ∷ getD xs csidCountAt 0 ∷ pdrsWritten ++ (endpointsWritten ++ csidsWritten))
+    written-is : sessionOctets (slotOf xs) ≡ getD xs 0 0 ∷ part seidAt 8 xs ++ (getD xs pdrCountAt 0 ∷ getD xs endpointCountAt 0 ∷ getD xs csidCountAt 0 ∷ pdrsWritten ++ (endpointsWritten ++ csidsWritten))
     unfolding sessionOctets slotOf pdrsWritten endpointsWritten csidsWritten
-    written-is = λ i. seid-written i ++ (count-pdrs i ∷ count-endpoints i ∷ count-csids i ∷ pdrsWritten ++ (endpointsWritten ++ csidsWritten))
+    written-is = λ i. getD xs 0 0 ∷ seid-written i ++ (count-pdrs i ∷ count-endpoints i ∷ count-csids i ∷ pdrsWritten ++ (endpointsWritten ++ csidsWritten))
 
     -- the facts that the rules but for the last give of the records read
     record Facts : Type 0 where
-      seid : 1 ≤ number (part 0 8 xs)
+      peer : T (isPeer (getD xs 0 0))
+      seid : 1 ≤ number (part seidAt 8 xs)
       pdrs : T (all (pdrAllowed s live) (map viewPdr (slices pdrWidth (getD xs pdrCountAt 0) (pdrArea xs))))
       pdrs-up : T (ascending (map pdrId (map viewPdr (slices pdrWidth (getD xs pdrCountAt 0) (pdrArea xs)))))
       endpoints : T (all (endpointAllowed s) (map viewEndpoint (slices endpointWidth (getD xs endpointCountAt 0) (endpointArea xs))))
@@ -180,9 +185,10 @@ module _ (xs : List ℕ) (long : length xs ≡ sessionWidth) where
     facts-from : T (recordsAllowed s (slotOf xs)) → Facts
     unfolding recordsAllowed sessionTests slotOf live endpointIds
     facts-from h =
-        let t = each (take 11 (sessionTests s (slotOf xs))) h in
+        let t = each (take 12 (sessionTests s (slotOf xs))) h in
         record {
-          seid = leb→le 1 (number (part 0 8 xs)) (t .0);
+          peer = t .1 .1 .1 .1 .1 .1 .1 .1 .1 .1 .1 .0;
+          seid = leb→le 1 (number (part seidAt 8 xs)) (t .0);
           pdrs = t .1 .1 .1 .1 .0;
           pdrs-up = t .1 .1 .1 .0;
           endpoints = t .1 .1 .1 .1 .1 .1 .1 .0;
@@ -194,11 +200,11 @@ module _ (xs : List ℕ) (long : length xs ≡ sessionWidth) where
     facts-to : Facts → T (recordsAllowed s (slotOf xs))
     unfolding recordsAllowed sessionTests slotOf live endpointIds
     facts-to f =
-        let below : number (part 0 8 xs) < 256 ^ 8 = rw (length-part 0 8 xs (omega arith)) at (number-below (part 0 8 xs) (part-octets 0 8 xs o)) in
-        all-of-each (take 11 (sessionTests s (slotOf xs))) (
+        let below : number (part seidAt 8 xs) < 256 ^ 8 = rw (length-part seidAt 8 xs (omega arith)) at (number-below (part seidAt 8 xs) (part-octets seidAt 8 xs o)) in
+        all-of-each (take 12 (sessionTests s (slotOf xs))) (
           yes-leb (f .seid),
           (
-            lt→ltb (number (part 0 8 xs)) (2 ^ 64) below,
+            lt→ltb (number (part seidAt 8 xs)) (2 ^ 64) below,
             (
               yes-leb (le-trans (le-of-eq count-pdrs) (c .pdrs)),
               (
@@ -215,7 +221,7 @@ module _ (xs : List ℕ) (long : length xs ≡ sessionWidth) where
                           yes-leb (le-trans (le-of-eq count-csids) (c .csids)),
                           (
                             f .csids-up,
-                            (f .csids, tt),
+                            (f .csids, (f .peer, tt)),
                           ),
                         ),
                       ),
@@ -236,7 +242,8 @@ module _ (xs : List ℕ) (long : length xs ≡ sessionWidth) where
         let es = area-from (endpointAllowed s) endpointOctets viewEndpoint endpointId endpointWidth 1 (λ e q. length-endpoint e) key-endpoint maxEndpoints (getD xs endpointCountAt 0) (endpointArea xs) long-endpoints (c .endpoints) (t .1 .1 .0) in
         let cs = area-from csidAllowed csidOctets viewCsid nodeTypeOf csidWidth 1 (λ r q. length-csid r) key-csid nodeTypes (getD xs csidCountAt 0) (csidArea xs) long-csids (c .csids) (t .1 .1 .1 .0) in (
           facts-to (record {
-            seid = leb→le 1 (number (part 0 8 xs)) (each (headTests xs) (t .0) .0);
+            peer = each (headTests xs) (t .0) .0;
+            seid = leb→le 1 (number (part seidAt 8 xs)) (each (headTests xs) (t .0) .1 .0);
             pdrs = ps .0;
             pdrs-up = ps .1;
             endpoints = es .0;
@@ -244,7 +251,7 @@ module _ (xs : List ℕ) (long : length xs ≡ sessionWidth) where
             csids = cs .0;
             csids-up = cs .1;
           }),
-          written-is ∙ (λ i. part 0 8 xs ++ (getD xs pdrCountAt 0 ∷ getD xs endpointCountAt 0 ∷ getD xs csidCountAt 0 ∷ ps .2 i ++ (es .2 i ++ cs .2 i))) ∙ slot-parts,
+          written-is ∙ (λ i. getD xs 0 0 ∷ part seidAt 8 xs ++ (getD xs pdrCountAt 0 ∷ getD xs endpointCountAt 0 ∷ getD xs csidCountAt 0 ∷ ps .2 i ++ (es .2 i ++ cs .2 i))) ∙ slot-parts,
         )
 
     -- to the slot's tests
@@ -255,16 +262,16 @@ module _ (xs : List ℕ) (long : length xs ≡ sessionWidth) where
         let lp : length pdrsWritten ≡ maxPdrs * pdrWidth = length-area pdrOctets pdrWidth (pdrAllowed s live) (λ p q. length-pdr p) maxPdrs _ (f .pdrs) (le-trans (le-of-eq count-pdrs) (c .pdrs)) in
         let le′ : length endpointsWritten ≡ maxEndpoints * endpointWidth = length-area endpointOctets endpointWidth (endpointAllowed s) (λ e q. length-endpoint e) maxEndpoints _ (f .endpoints) (le-trans (le-of-eq count-endpoints) (c .endpoints)) in
         let lc : length csidsWritten ≡ nodeTypes * csidWidth = length-area csidOctets csidWidth csidAllowed (λ r q. length-csid r) nodeTypes _ (f .csids) (le-trans (le-of-eq count-csids) (c .csids)) in
-        let head : List ℕ = part 0 8 xs ++ (getD xs pdrCountAt 0 ∷ getD xs endpointCountAt 0 ∷ getD xs csidCountAt 0 ∷ []) in
-        let long-head : length head ≡ 11 = length-append (part 0 8 xs) (getD xs pdrCountAt 0 ∷ getD xs endpointCountAt 0 ∷ getD xs csidCountAt 0 ∷ []) ∙ ap (λ (n : ℕ). n + 3) (length-part 0 8 xs (omega arith)) in
-        let same : head ++ (pdrsWritten ++ (endpointsWritten ++ csidsWritten)) ≡ xs = append-assoc (part 0 8 xs) (getD xs pdrCountAt 0 ∷ getD xs endpointCountAt 0 ∷ getD xs csidCountAt 0 ∷ []) _ ∙ sym written-is ∙ e in
-        let behind : endpointsWritten ++ csidsWritten ≡ drop endpointsAt xs = sym (drop-at pdrsWritten (endpointsWritten ++ csidsWritten) (maxPdrs * pdrWidth) lp) ∙ ap (drop (maxPdrs * pdrWidth)) (sym (drop-at head _ 11 long-head) ∙ ap (drop pdrsAt) same) ∙ drop-drop (maxPdrs * pdrWidth) 11 xs in
+        let head : List ℕ = getD xs 0 0 ∷ part seidAt 8 xs ++ (getD xs pdrCountAt 0 ∷ getD xs endpointCountAt 0 ∷ getD xs csidCountAt 0 ∷ []) in
+        let long-head : length head ≡ pdrsAt = ap suc (length-append (part seidAt 8 xs) (getD xs pdrCountAt 0 ∷ getD xs endpointCountAt 0 ∷ getD xs csidCountAt 0 ∷ []) ∙ ap (λ (n : ℕ). n + 3) (length-part seidAt 8 xs (omega arith))) in
+        let same : head ++ (pdrsWritten ++ (endpointsWritten ++ csidsWritten)) ≡ xs = ap (λ (l : List ℕ). getD xs 0 0 ∷ l) (append-assoc (part seidAt 8 xs) (getD xs pdrCountAt 0 ∷ getD xs endpointCountAt 0 ∷ getD xs csidCountAt 0 ∷ []) _) ∙ sym written-is ∙ e in
+        let behind : endpointsWritten ++ csidsWritten ≡ drop endpointsAt xs = sym (drop-at pdrsWritten (endpointsWritten ++ csidsWritten) (maxPdrs * pdrWidth) lp) ∙ ap (drop (maxPdrs * pdrWidth)) (sym (drop-at head _ pdrsAt long-head) ∙ ap (drop pdrsAt) same) ∙ drop-drop (maxPdrs * pdrWidth) pdrsAt xs in
         let pe : pdrsWritten ≡ pdrArea xs = sym (part-of head pdrsWritten (endpointsWritten ++ csidsWritten) pdrsAt (maxPdrs * pdrWidth) long-head lp) ∙ ap (part pdrsAt (maxPdrs * pdrWidth)) same in
         let ee : endpointsWritten ≡ endpointArea xs = sym (take-at endpointsWritten csidsWritten (maxEndpoints * endpointWidth) le′) ∙ ap (take (maxEndpoints * endpointWidth)) behind in
         let ce : csidsWritten ≡ csidArea xs =
         sym (take-all (nodeTypes * csidWidth) csidsWritten (le-of-eq lc)) ∙ ap (take (nodeTypes * csidWidth)) (sym (drop-at endpointsWritten csidsWritten (maxEndpoints * endpointWidth) le′) ∙ ap (drop (maxEndpoints * endpointWidth)) behind ∙ drop-drop (maxEndpoints * endpointWidth) endpointsAt xs) in
         all-of-each (slotTests s xs) (
-          all-of-each (headTests xs) (yes-leb (f .seid), (yes-leb (c .pdrs), (yes-leb (c .endpoints), (yes-leb (c .csids), tt)))),
+          all-of-each (headTests xs) (f .peer, (yes-leb (f .seid), (yes-leb (c .pdrs), (yes-leb (c .endpoints), (yes-leb (c .csids), tt))))),
           (
             area-to (pdrAllowed s live) pdrOctets viewPdr pdrId pdrWidth 2 (λ p q. length-pdr p) key-pdr maxPdrs (getD xs pdrCountAt 0) (pdrArea xs) long-pdrs (c .pdrs) (f .pdrs) (f .pdrs-up) pe,
             (

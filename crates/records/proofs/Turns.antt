@@ -6,20 +6,22 @@ use native.Mathlib.Numerals.{add-one}
 use native.Mathlib.Omega.{arith}
 use mathlib.Core.Bool.{Bool, true, false, not, _&&_}
 use mathlib.Core.List.{List, [], _∷_, map}
-use borrow.Author.Tests.{lt-ltb, le-ltb, le-leb, lt-leb, not-true, not-false}
+use borrow.Author.Tests.{lt-ltb, le-ltb, le-leb, lt-leb, not-true, not-false, leb-true, leb-false, eq-eqb, ne-eqb}
 use lib.ListN.{length, take, drop, getD, drop-of-length-le, length-drop}
 use lib.Seq.{drop-cons, drop-drop, take-all, take-take}
 use lib.Dec.{leb, ltb}
-use Rattle.rules.specs.Model.{Settings}
+use Rattle.rules.specs.Model.{Settings, isPeer}
 use Rattle.octets.specs.Octets.{part, number, numberAt, octetAt, slices, allZero}
 use Rattle.octets.specs.Lists.{all, ascending}
 use Rattle.octets.proofs.Bools.{and-false, and-true, and-four, and-assoc}
-use Rattle.rules.specs.Layout.{pdrWidth, endpointWidth, csidWidth, pdrCountAt, endpointCountAt, csidCountAt}
+use Rattle.rules.specs.Layout.{pdrWidth, endpointWidth, csidWidth, pdrCountAt, endpointCountAt, csidCountAt, seidAt}
 use Rattle.rules.specs.Limits.{maxPdrs, maxEndpoints, nodeTypes}
-use Rattle.areas.specs.Records.{keyOf}
-use Rattle.areas.proofs.LookupLaws.{keys, key-at}
+use Rattle.areas.specs.Records.{keyOf, pairKey}
+use Rattle.areas.proofs.LookupLaws.{keys, key-at, length-keys}
 use Rattle.records.specs.Kept.{pdrSound, endpointSound, csidSound, endpointIds}
-use Rattle.records.specs.Slot.{areaSound, headSound, slotTests, slotSound, pdrArea, endpointArea, csidArea}
+use Rattle.records.specs.Slot.{areaSound, headSound, slotTests, slotSound, pdrArea, endpointArea, csidArea, countsSound}
+use Rattle.octets.proofs.Ordered.{orders}
+use Rattle.areas.proofs.PairLaws.{pair-at}
 
 -- ---- ascending keys
 
@@ -156,22 +158,44 @@ module _ (w k n : ℕ) (a : List ℕ) (r : Bool) (e : r ≡ ascending (keys w k 
 
 -- ---- a slot's head
 
+-- a peer is 1 or 2
+pub peer-none : (n : ℕ) → n < 1 → false ≡ isPeer n
+unfolding isPeer
+peer-none n h = sym (rw (ne-eqb n 1 (λ e. omega arith), ne-eqb n 2 (λ e. omega arith)))
+
+pub peer-some : (n : ℕ) → 1 ≤ n → leb n 2 ≡ isPeer n
+unfolding isPeer
+peer-some n h =
+    orders n 2
+    (λ g. le-leb n 2 g ∙ orders n 1 (λ j. let e : n ≡ 1 = omega arith in sym (rw (eq-eqb n 1 e))) (λ j. let e : n ≡ 2 = omega arith in sym (rw (ne-eqb n 1 (λ k. omega arith), eq-eqb n 2 e))))
+    (λ g. lt-leb n 2 g ∙ sym (rw (ne-eqb n 1 (λ e. omega arith), ne-eqb n 2 (λ e. omega arith))))
+
+module _ (xs : List ℕ) (b : Bool) (p : b ≡ isPeer (getD xs 0 0)) where
+  pub head-peer : not b ≡ true → false ≡ headSound xs
+  unfolding headSound octetAt
+  head-peer h = sym (rw (← p, not-true b h))
+
+  module _ (k : not b ≡ false) where
+    pub head-seid : (v : ℕ) → v ≡ number (part seidAt 8 xs) → v < 1 → false ≡ headSound xs
+    unfolding headSound numberAt octetAt
+    head-seid v q h = sym (rw (← p, not-false b k, ← q, lt-leb 1 v h))
+
+    pub head-counts : (v : ℕ) (r : Bool) → v ≡ number (part seidAt 8 xs) → 1 ≤ v → r ≡ countsSound xs → r ≡ headSound xs
+    unfolding headSound countsSound numberAt octetAt
+    head-counts v r q g e = e ∙ sym (rw (← p, not-false b k, ← q, le-leb 1 v g))
+
 module _ (xs : List ℕ) where
-  pub head-seid : (v : ℕ) → v ≡ number (part 0 8 xs) → v < 1 → false ≡ headSound xs
-  unfolding headSound numberAt
-  head-seid v q h = sym (rw (← q, lt-leb 1 v h))
+  pub counts-pdrs : maxPdrs < getD xs pdrCountAt 0 → false ≡ countsSound xs
+  unfolding countsSound octetAt
+  counts-pdrs h = sym (rw (lt-leb (getD xs pdrCountAt 0) maxPdrs h))
 
-  pub head-pdrs : (v : ℕ) → v ≡ number (part 0 8 xs) → 1 ≤ v → maxPdrs < getD xs pdrCountAt 0 → false ≡ headSound xs
-  unfolding headSound numberAt octetAt
-  head-pdrs v q g h = sym (rw (← q, le-leb 1 v g, lt-leb (getD xs pdrCountAt 0) maxPdrs h))
+  pub counts-endpoints : getD xs pdrCountAt 0 ≤ maxPdrs → maxEndpoints < getD xs endpointCountAt 0 → false ≡ countsSound xs
+  unfolding countsSound octetAt
+  counts-endpoints c h = sym (rw (le-leb (getD xs pdrCountAt 0) maxPdrs c, lt-leb (getD xs endpointCountAt 0) maxEndpoints h))
 
-  pub head-endpoints : (v : ℕ) → v ≡ number (part 0 8 xs) → 1 ≤ v → getD xs pdrCountAt 0 ≤ maxPdrs → maxEndpoints < getD xs endpointCountAt 0 → false ≡ headSound xs
-  unfolding headSound numberAt octetAt
-  head-endpoints v q g b h = sym (rw (← q, le-leb 1 v g, le-leb (getD xs pdrCountAt 0) maxPdrs b, lt-leb (getD xs endpointCountAt 0) maxEndpoints h))
-
-  pub head-csids : (v : ℕ) → v ≡ number (part 0 8 xs) → 1 ≤ v → getD xs pdrCountAt 0 ≤ maxPdrs → getD xs endpointCountAt 0 ≤ maxEndpoints → leb (getD xs csidCountAt 0) nodeTypes ≡ headSound xs
-  unfolding headSound numberAt octetAt
-  head-csids v q g b c = sym (rw (← q, le-leb 1 v g, le-leb (getD xs pdrCountAt 0) maxPdrs b, le-leb (getD xs endpointCountAt 0) maxEndpoints c) (and-true (leb (getD xs csidCountAt 0) nodeTypes)))
+  pub counts-csids : getD xs pdrCountAt 0 ≤ maxPdrs → getD xs endpointCountAt 0 ≤ maxEndpoints → leb (getD xs csidCountAt 0) nodeTypes ≡ countsSound xs
+  unfolding countsSound octetAt
+  counts-csids c d = sym (rw (le-leb (getD xs pdrCountAt 0) maxPdrs c, le-leb (getD xs endpointCountAt 0) maxEndpoints d) (and-true (leb (getD xs csidCountAt 0) nodeTypes)))
 
 pub ascends-none : (w k n : ℕ) (a : List ℕ) → n ≡ 0 → true ≡ ascending (keys w k n a)
 unfolding slices ascending
@@ -180,6 +204,24 @@ ascends-none w k n a e = rw e
 -- the key read at i
 pub key-read : (w k n i r : ℕ) (a : List ℕ) → k ≤ w → i < n → r ≡ number (part (i * w) k a) → r ≡ getD (keys w k n a) i 0
 key-read w k n i r a h l q = q ∙ sym (key-at w k n i a h l)
+
+-- ---- keys of nine octets
+
+pub rising-from : (w n : ℕ) (a : List ℕ) (y z : ℕ) → 9 ≤ w → n * w ≤ length a → 0 < n → y ≡ number (part 0 1 a) → z ≡ number (part 1 8 a) → Rising (keys w 9 n a) n 0 (pairKey y z)
+rising-from w n a y z wide long h e f =
+    let none : 0 * w ≡ 0 = omega arith in
+    rising-first (pairKey y z) (length-keys w 9 n a) h (pair-at w n 0 a y z wide long h (rw none e) (rw none f))
+
+module _ (w n i : ℕ) (a : List ℕ) (y z high last : ℕ) (wide : 9 ≤ w) (long : n * w ≤ length a) (r : Rising (keys w 9 n a) n i (pairKey high last)) (h : i < n - 1)
+    (e : y ≡ number (part ((i + 1) * w) 1 a)) (f : z ≡ number (part ((i + 1) * w + 1) 8 a)) (b : Bool) (q : b ≡ leb (pairKey y z) (pairKey high last)) where
+  key : pairKey y z ≡ getD (keys w 9 n a) (i + 1) 0
+  key = pair-at w n (i + 1) a y z wide long (omega arith) e f
+
+  pub rising-pair : b ≡ false → Rising (keys w 9 n a) n (i + 1) (pairKey y z)
+  rising-pair g = rising-more r h key (leb-false (pairKey y z) (pairKey high last) (sym q ∙ g))
+
+  pub rising-pair-not : b ≡ true → false ≡ ascending (keys w 9 n a)
+  rising-pair-not g = rising-not r h key (leb-true (pairKey y z) (pairKey high last) (sym q ∙ g))
 
 -- ---- a slot
 

@@ -9,8 +9,8 @@ use Rattle.octets.specs.Choice.{allOf}
 use Rattle.octets.specs.Octets.{part, numberAt, octetAt, allZero, slices}
 use Rattle.octets.specs.Lists.{all, ascending}
 use Rattle.rules.specs.Limits.{maxPdrs, maxEndpoints, nodeTypes}
-use Rattle.rules.specs.Model.{Settings, Session}
-use Rattle.rules.specs.Layout.{pdrWidth, endpointWidth, csidWidth, pdrCountAt, endpointCountAt, csidCountAt, pdrsAt, endpointsAt, csidsAt}
+use Rattle.rules.specs.Model.{Settings, Session, isPeer}
+use Rattle.rules.specs.Layout.{pdrWidth, endpointWidth, csidWidth, seidAt, pdrCountAt, endpointCountAt, csidCountAt, pdrsAt, endpointsAt, csidsAt}
 use Rattle.rules.specs.Sound.{sessionTests}
 use Rattle.areas.specs.Records.{keyOf}
 use Rattle.records.specs.Kept.{pdrSound, endpointSound, csidSound, endpointIds}
@@ -29,9 +29,13 @@ endpointArea xs = part endpointsAt (maxEndpoints * endpointWidth) xs
 abbrev pub csidArea : List ℕ → List ℕ
 csidArea xs = part csidsAt (nodeTypes * csidWidth) xs
 
--- the SEID, and the three counts
+-- the three counts
+unfoldable pub countsSound : List ℕ → Bool
+countsSound xs = allOf (leb (octetAt xs pdrCountAt) maxPdrs ∷ leb (octetAt xs endpointCountAt) maxEndpoints ∷ leb (octetAt xs csidCountAt) nodeTypes ∷ [])
+
+-- the peer, the SEID, and the three counts
 unfoldable pub headSound : List ℕ → Bool
-headSound xs = allOf (leb 1 (numberAt 0 8 xs) ∷ leb (octetAt xs pdrCountAt) maxPdrs ∷ leb (octetAt xs endpointCountAt) maxEndpoints ∷ leb (octetAt xs csidCountAt) nodeTypes ∷ [])
+headSound xs = allOf (isPeer (octetAt xs 0) ∷ leb 1 (numberAt seidAt 8 xs) ∷ leb (octetAt xs pdrCountAt) maxPdrs ∷ leb (octetAt xs endpointCountAt) maxEndpoints ∷ leb (octetAt xs csidCountAt) nodeTypes ∷ [])
 
 -- and the areas
 unfoldable pub slotTests : Settings → List ℕ → List Bool
@@ -47,4 +51,4 @@ slotSound s xs = allOf (slotTests s xs)
 
 -- a session's rules but for the last one, on shared TEIDs
 unfoldable pub recordsAllowed : Settings → Session → Bool
-recordsAllowed s x = allOf (take 11 (sessionTests s x))
+recordsAllowed s x = allOf (take 12 (sessionTests s x))

@@ -10,9 +10,10 @@ use lib.Dec.{T, ltb, eqb}
 use borrow.Author.Tests.{eq-eqb, ne-eqb, lt-ltb, le-ltb, ltb-false}
 use Rattle.octets.specs.Choice.{pick}
 use Rattle.octets.specs.Octets.{put, part}
-use Rattle.octets.proofs.Tests.{of-true}
+use Rattle.octets.proofs.Tests.{of-true, is-true}
 use Rattle.octets.proofs.Put.{length-part}
 use Rattle.rules.specs.Limits.{minSpace}
+use Rattle.rules.specs.Model.{isPeer}
 use Rattle.rules.specs.Sound.{sound}
 use Rattle.rules.specs.Serve.{Served, unserved, serve}
 use Rattle.engine.specs.Steps.{Serves}
@@ -75,24 +76,24 @@ module _ (t space : List ℕ) where
 
 -- ---- what the engine leaves
 
-module _ (t store msg out : List ℕ) (o u p : ℕ) (out′ t′ : List ℕ) (s : Serves t msg out o u p out′ t′) where
-  outcome-is : serve t msg out .outcome ≡ o
+module _ (t : List ℕ) (who : ℕ) (store msg out : List ℕ) (o u p : ℕ) (out′ t′ : List ℕ) (s : Serves t who msg out o u p out′ t′) where
+  outcome-is : serve t who msg out .outcome ≡ o
   outcome-is = ap (λ (v : Served). v .outcome) (sym (s .served))
 
   -- nothing, where the outcome is another
-  pub left-nothing : (o ≡ 0 → ⊥) → _≡_ {A = Once} (record { outcome = o; used = u; place = p; space = out′; table = t′; store = store }) (unanswered (serve t msg out .outcome) t store out)
+  pub left-nothing : (o ≡ 0 → ⊥) → _≡_ {A = Once} (record { outcome = o; used = u; place = p; space = out′; table = t′; store = store }) (unanswered (serve t who msg out .outcome) t store out)
   left-nothing n =
-      let e : record { outcome = o; place = p; space = out′; table = t′ } ≡ unserved (serve t msg out .outcome) out t = s .served ∙ nothing-written t msg out (λ z. n (sym outcome-is ∙ z)) in
+      let e : record { outcome = o; place = p; space = out′; table = t′ } ≡ unserved (serve t who msg out .outcome) out t = s .served ∙ nothing-written t who msg out (λ z. n (sym outcome-is ∙ z)) in
       let z : u ≡ 0 = s .long ∙ rw (ne-eqb o 0 n) in
       (λ i. record { outcome = e i .outcome; used = z i; place = e i .place; space = e i .space; table = e i .table; store = store })
 
-  pub renew-none : (o ≡ 0 → ⊥) → _≡_ {A = Once} (record { outcome = o; used = u; place = p; space = out′; table = t′; store = store }) (renewed t store msg out)
+  pub renew-none : (o ≡ 0 → ⊥) → _≡_ {A = Once} (record { outcome = o; used = u; place = p; space = out′; table = t′; store = store }) (renewed t who store msg out)
   unfolding renewed
-  renew-none n = left-nothing n ∙ rw (ne-eqb (serve t msg out .outcome) 0 (λ z. n (sym outcome-is ∙ z)))
+  renew-none n = left-nothing n ∙ rw (ne-eqb (serve t who msg out .outcome) 0 (λ z. n (sym outcome-is ∙ z)))
 
   module _ (z : o ≡ 0) where
-    is-replied : Replied t msg out u out′
-    is-replied = replied t msg out o u p out′ t′ s z
+    is-replied : Replied t who msg out u out′
+    is-replied = replied t who msg out o u p out′ t′ s z
 
     pub reply-fits : u ≤ length out′
     reply-fits = is-replied .fits
@@ -101,41 +102,50 @@ module _ (t store msg out : List ℕ) (o u p : ℕ) (out′ t′ : List ℕ) (s 
     keepable h = record { store = h; entry = is-allowed (entry msg (take u out′)) (is-replied .request) (is-replied .some) (is-replied .few) }
 
     pub renew-some : (store′ : List ℕ) → store′ ≡ storeOctets (remember (entry msg (take u out′)) (storeEntries store))
-        → _≡_ {A = Once} (record { outcome = o; used = u; place = p; space = out′; table = t′; store = store′ }) (renewed t store msg out)
+        → _≡_ {A = Once} (record { outcome = o; used = u; place = p; space = out′; table = t′; store = store′ }) (renewed t who store msg out)
     unfolding renewed
     renew-some store′ e =
         let v = s .served in
         let l = is-replied .long in
-        let k : store′ ≡ storeOctets (remember (entry msg (engineReply t msg)) (storeEntries store)) = e ∙ ap (λ (x : List ℕ). storeOctets (remember (entry msg x) (storeEntries store))) (is-replied .is) in
+        let k : store′ ≡ storeOctets (remember (entry msg (engineReply t who msg)) (storeEntries store)) = e ∙ ap (λ (x : List ℕ). storeOctets (remember (entry msg x) (storeEntries store))) (is-replied .is) in
         (λ i. record { outcome = v i .outcome; used = l i; place = v i .place; space = v i .space; table = v i .table; store = k i })
-        ∙ rw (eq-eqb (serve t msg out .outcome) 0 (outcome-is ∙ z))
+        ∙ rw (eq-eqb (serve t who msg out .outcome) 0 (outcome-is ∙ z))
 
 -- ---- the whole
 
-module _ (t store msg space : List ℕ) where
-  pub once-broken : (b : Bool) (n u p : ℕ) → b ≡ storeSound store → b ≡ false → (n ≡ 1) × (u ≡ 0) × (p ≡ 0)
-      → _≡_ {A = Once} (record { outcome = n; used = u; place = p; space = space; table = t; store = store }) (requestOnce t store msg space)
+module _ (t : List ℕ) (who : ℕ) (store msg space : List ℕ) where
+  pub once-stranger : (b : Bool) (n u p : ℕ) → b ≡ isPeer who → b ≡ false → (n ≡ 7) × (u ≡ 0) × (p ≡ 0)
+      → _≡_ {A = Once} (record { outcome = n; used = u; place = p; space = space; table = t; store = store }) (requestOnce t who store msg space)
   unfolding requestOnce
-  once-broken b n u p e h i = rw (← e, h) (λ j. record { outcome = i .0 j; used = i .1 j; place = i .2 j; space = space; table = t; store = store })
+  once-stranger b n u p e h i = rw (← e, h) (λ j. record { outcome = i .0 j; used = i .1 j; place = i .2 j; space = space; table = t; store = store })
+
+module _ (t : List ℕ) (who : ℕ) (hw : T (isPeer who)) (store msg space : List ℕ) where
+  mine : isPeer who ≡ true
+  mine = is-true (isPeer who) hw
+
+  pub once-broken : (b : Bool) (n u p : ℕ) → b ≡ storeSound store → b ≡ false → (n ≡ 1) × (u ≡ 0) × (p ≡ 0)
+      → _≡_ {A = Once} (record { outcome = n; used = u; place = p; space = space; table = t; store = store }) (requestOnce t who store msg space)
+  unfolding requestOnce
+  once-broken b n u p e h i = rw (mine, ← e, h) (λ j. record { outcome = i .0 j; used = i .1 j; place = i .2 j; space = space; table = t; store = store })
 
   module _ (b : Bool) (e : b ≡ storeSound store) (h : b ≡ true) where
     pub is-sound : T (storeSound store)
     is-sound = of-true (sym e ∙ h)
 
     module _ (q : Bool) (f : q ≡ requestAllowed msg) where
-      pub once-other : q ≡ false → (o u p : ℕ) (out′ t′ : List ℕ) → Serves t msg space o u p out′ t′
-          → _≡_ {A = Once} (record { outcome = o; used = u; place = p; space = out′; table = t′; store = store }) (requestOnce t store msg space)
+      pub once-other : q ≡ false → (o u p : ℕ) (out′ t′ : List ℕ) → Serves t who msg space o u p out′ t′
+          → _≡_ {A = Once} (record { outcome = o; used = u; place = p; space = out′; table = t′; store = store }) (requestOnce t who store msg space)
       unfolding requestOnce
       once-other g o u p out′ t′ s =
-          let n : serve t msg space .outcome ≡ 0 → ⊥ = other-outcome t msg space (sym f ∙ g) in
-          left-nothing t store msg space o u p out′ t′ s (λ z. n (outcome-is t store msg space o u p out′ t′ s ∙ z)) ∙ rw (← e, h, ne-eqb (serve t msg space .outcome) 0 n)
+          let n : serve t who msg space .outcome ≡ 0 → ⊥ = other-outcome t who msg space (sym f ∙ g) in
+          left-nothing t who store msg space o u p out′ t′ s (λ z. n (outcome-is t who store msg space o u p out′ t′ s ∙ z)) ∙ rw (mine, ← e, h, ne-eqb (serve t who msg space .outcome) 0 n)
 
       module _ (g : q ≡ true) where
         pub is-request : T (requestAllowed msg)
         is-request = of-true (sym f ∙ g)
 
-        rests : serve t msg space .outcome ≡ restingOutcome t space
-        rests = resting-is t msg space is-request
+        rests : serve t who msg space .outcome ≡ restingOutcome t space
+        rests = resting-is t who msg space hw is-request
 
         pub sendable : (r : Found) (from to : ℕ) → Recalls store msg r → r ≡ found.Reply from to → Sendable store from to
         sendable r from to c i =
@@ -146,11 +156,11 @@ module _ (t store msg space : List ℕ) where
 
         pub once-again : (r : Found) (from to : ℕ) → Recalls store msg r → r ≡ found.Reply from to → (n u p : ℕ) (out′ : List ℕ)
             → _≡_ {A = Resting} (record { outcome = n; used = u; place = p; space = out′ }) (repeated t (part from (to - from) store) space)
-            → _≡_ {A = Once} (record { outcome = n; used = u; place = p; space = out′; table = t; store = store }) (requestOnce t store msg space)
+            → _≡_ {A = Once} (record { outcome = n; used = u; place = p; space = out′; table = t; store = store }) (requestOnce t who store msg space)
         unfolding requestOnce repeated
         once-again r from to c i n u p out′ w =
             let m : storedReply msg (storeEntries store) ≡ some (part from (to - from) store) = sym (ap (foundIn store) (sym i) ∙ c .means) in
-            ap (stays t store) w ∙ sym (rw (← e, h, m, rests) (unfold byStore in (go (eqb (restingOutcome t space) 0))))
+            ap (stays t store) w ∙ sym (rw (mine, ← e, h, m, rests) (unfold byStore in (go (eqb (restingOutcome t space) 0))))
           where
             go : (z : Bool)
                 → pick z (again (part from (to - from) store) t store space) (unanswered (restingOutcome t space) t store space)
@@ -165,9 +175,9 @@ module _ (t store msg space : List ℕ) where
           module _ (k : Bool) (j : k ≡ takes (storeEntries store) msg) where
             pub once-dropped : k ≡ false → (n u p : ℕ)
                 → _≡_ {A = Resting} (record { outcome = n; used = u; place = p; space = space }) (dropped t space)
-                → _≡_ {A = Once} (record { outcome = n; used = u; place = p; space = space; table = t; store = store }) (requestOnce t store msg space)
+                → _≡_ {A = Once} (record { outcome = n; used = u; place = p; space = space; table = t; store = store }) (requestOnce t who store msg space)
             unfolding requestOnce dropped
-            once-dropped l n u p w = ap (stays t store) w ∙ sym (rw (← e, h, not-stored, rests) (unfold byStore in (rw (← j, l) (go (eqb (restingOutcome t space) 0)))))
+            once-dropped l n u p w = ap (stays t store) w ∙ sym (rw (mine, ← e, h, not-stored, rests) (unfold byStore in (rw (← j, l) (go (eqb (restingOutcome t space) 0)))))
               where
                 go : (z : Bool)
                     → pick z (unanswered 6 t store space) (unanswered (restingOutcome t space) t store space)
@@ -175,6 +185,6 @@ module _ (t store msg space : List ℕ) where
                 go true = refl
                 go false = refl
 
-            pub once-renewed : k ≡ true → (x : Once) → x ≡ renewed t store msg space → x ≡ requestOnce t store msg space
+            pub once-renewed : k ≡ true → (x : Once) → x ≡ renewed t who store msg space → x ≡ requestOnce t who store msg space
             unfolding requestOnce renewed
-            once-renewed l x w = w ∙ sym (rw (← e, h, not-stored) (unfold byStore in (rw (← j, l))))
+            once-renewed l x w = w ∙ sym (rw (mine, ← e, h, not-stored) (unfold byStore in (rw (← j, l))))

@@ -9,6 +9,7 @@ use lib.Dec.{T, T-not, eqb}
 use borrow.Author.Tests.{eq-eqb}
 use Rattle.octets.specs.Choice.{pick, isSome}
 use Rattle.octets.proofs.Tests.{and-left, and-right, of-true, is-true, is-false}
+use Rattle.rules.specs.Model.{isPeer}
 use Rattle.rules.specs.Serve.{Served, serve}
 use Rattle.invariants.proofs.ServeLaws.{answers, unserved-nothing}
 use Rattle.rules.specs.Store.{Entry, entry, storeOctets, storeEntries, storeSound, storedReply, remember}
@@ -21,10 +22,10 @@ use Rattle.repeats.proofs.StoreKept.{once-cases, keeps, engine-space}
 abbrev pub asServed : Once → Served
 asServed x = record { outcome = x .outcome; place = x .place; space = x .space; table = x .table }
 
-abbrev pub usedOf : List ℕ → List ℕ → ℕ → ℕ
-usedOf t msg o = pick (eqb o 0) (length (engineReply t msg)) 0
+abbrev pub usedOf : List ℕ → ℕ → List ℕ → ℕ → ℕ
+usedOf t who msg o = pick (eqb o 0) (length (engineReply t who msg)) 0
 
-module _ (t store msg space : List ℕ) where
+module _ (t : List ℕ) (who : ℕ) (store msg space : List ℕ) where
   stored-or : Bool
   stored-or = isSome (storedReply msg (storeEntries store))
 
@@ -40,34 +41,36 @@ module _ (t store msg space : List ℕ) where
   unfolding reaches
   newer-there h = and-right (storeSound store && not (isSome (storedReply msg (storeEntries store)))) (takes (storeEntries store) msg) h
 
-  pub reaches-engine : T (reaches store msg) → asServed (requestOnce t store msg space) ≡ serve t msg space
-  reaches-engine r =
-      once-cases t store msg space (λ (x : Once). asServed x ≡ serve t msg space)
+  pub reaches-engine : T (isPeer who) → T (reaches store msg) → asServed (requestOnce t who store msg space) ≡ serve t who msg space
+  reaches-engine hw r =
+      once-cases t who store msg space (λ (x : Once). asServed x ≡ serve t who msg space)
+      (λ n. absurd (T-not (isPeer who) n hw))
       (λ h. absurd (T-not (storeSound store) h (sound-there r)))
-      (λ h n. sym (unserved-nothing t msg space n))
+      (λ h n. sym (unserved-nothing t who msg space n))
       (λ h z q i. absurd (subst (λ (o : Option (List ℕ)). T (not (isSome o))) i (none-there r)))
       (λ h z i k. absurd (T-not (takes (storeEntries store) msg) k (newer-there r)))
       (λ h z i k. refl)
 
-  pub reaches-used : T (reaches store msg) → requestOnce t store msg space .used ≡ usedOf t msg (serve t msg space .outcome)
-  reaches-used r =
-      once-cases t store msg space (λ (x : Once). x .used ≡ usedOf t msg (serve t msg space .outcome))
+  pub reaches-used : T (isPeer who) → T (reaches store msg) → requestOnce t who store msg space .used ≡ usedOf t who msg (serve t who msg space .outcome)
+  reaches-used hw r =
+      once-cases t who store msg space (λ (x : Once). x .used ≡ usedOf t who msg (serve t who msg space .outcome))
+      (λ n. absurd (T-not (isPeer who) n hw))
       (λ h. absurd (T-not (storeSound store) h (sound-there r)))
-      (λ h n. sym (ap (λ (b : Bool). pick b (length (engineReply t msg)) 0) (is-false (eqb (serve t msg space .outcome) 0) n)))
+      (λ h n. sym (ap (λ (b : Bool). pick b (length (engineReply t who msg)) 0) (is-false (eqb (serve t who msg space .outcome) 0) n)))
       (λ h z q i. absurd (subst (λ (o : Option (List ℕ)). T (not (isSome o))) i (none-there r)))
       (λ h z i k. absurd (T-not (takes (storeEntries store) msg) k (newer-there r)))
-      (λ h z i k. sym (ap (λ (b : Bool). pick b (length (engineReply t msg)) 0) (eq-eqb (serve t msg space .outcome) 0 z)))
+      (λ h z i k. sym (ap (λ (b : Bool). pick b (length (engineReply t who msg)) 0) (eq-eqb (serve t who msg space .outcome) 0 z)))
 
   -- any other request leaves the table
-  pub rests-table : T (not (reaches store msg)) → requestOnce t store msg space .table ≡ t
+  pub rests-table : T (not (isPeer who && reaches store msg)) → requestOnce t who store msg space .table ≡ t
   unfolding reaches
   rests-table r =
-      once-cases t store msg space (λ (x : Once). x .table ≡ t) (λ h. refl) (λ h n. refl) (λ h z q i. refl) (λ h z i k. refl)
-      (λ h z i k. absurd (subst (λ (b : Bool). T (not b)) (all-three h i k) r))
+      once-cases t who store msg space (λ (x : Once). x .table ≡ t) (λ n. refl) (λ h. refl) (λ h n. refl) (λ h z q i. refl) (λ h z i k. refl)
+      (λ h z i k. absurd (subst (λ (b : Bool). T (not b)) (all-four (answers t who msg space (of-true (eq-eqb (serve t who msg space .outcome) 0 z)) .peer) h i k) r))
     where
-      all-three : T (storeSound store) → storedReply msg (storeEntries store) ≡ none → T (takes (storeEntries store) msg)
-          → (storeSound store && not (isSome (storedReply msg (storeEntries store))) && takes (storeEntries store) msg) ≡ true
-      all-three h i k = rw (is-true (storeSound store) h, i, is-true (takes (storeEntries store) msg) k)
+      all-four : T (isPeer who) → T (storeSound store) → storedReply msg (storeEntries store) ≡ none → T (takes (storeEntries store) msg)
+          → (isPeer who && (storeSound store && not (isSome (storedReply msg (storeEntries store))) && takes (storeEntries store) msg)) ≡ true
+      all-four w h i k = rw (is-true (isPeer who) w, is-true (storeSound store) h, i, is-true (takes (storeEntries store) msg) k)
 
 -- ---- what the calls say is stored
 
@@ -86,20 +89,21 @@ told-new : (es : List Entry) (msg : List ℕ) (x : Once) (q : List ℕ) → take
     → (eqb (x .outcome) 0 && not (isSome (storedReply msg es))) ≡ true → Told es msg x
 told-new es msg x q t k e h = record { store = rw (h, t) e; keeping = rw (h, t) k }
 
-pub told : (t msg space : List ℕ) (es : List Entry) → Keeping es → Told es msg (requestOnce t (storeOctets es) msg space)
-told t msg space es k =
-    once-cases t (storeOctets es) msg space (λ (x : Once). Told es msg x)
+pub told : (t : List ℕ) (who : ℕ) (msg space : List ℕ) (es : List Entry) → Keeping es → Told es msg (requestOnce t who (storeOctets es) msg space)
+told t who msg space es k =
+    once-cases t who (storeOctets es) msg space (λ (x : Once). Told es msg x)
+    (λ n. told-same es msg _ k refl refl)
     (λ h. absurd (T-not (storeSound (storeOctets es)) h (octets-sound k)))
-    (λ h n. told-same es msg _ k refl (rw (is-false (eqb (serve t msg space .outcome) 0) n)))
+    (λ h n. told-same es msg _ k refl (rw (is-false (eqb (serve t who msg space .outcome) 0) n)))
     (λ h z r i. told-same es msg _ k refl (rw (sym (ap (storedReply msg) back) ∙ i)))
     (λ h z i j. told-same es msg _ k refl refl)
     (λ h z i j.
-    let a = answers t msg space (of-true (eq-eqb (serve t msg space .outcome) 0 z)) in
-    let q = engineReply t msg in
-    told-new es msg _ q (ap (take (length q)) (engine-space t msg space a) ∙ front-of q space)
-    (subst (λ (l : List Entry). Keeping (remember (entry msg q) l)) back (keeps t (storeOctets es) msg space h z i))
+    let a = answers t who msg space (of-true (eq-eqb (serve t who msg space .outcome) 0 z)) in
+    let q = engineReply t who msg in
+    told-new es msg _ q (ap (take (length q)) (engine-space t who msg space a) ∙ front-of q space)
+    (subst (λ (l : List Entry). Keeping (remember (entry msg q) l)) back (keeps t who (storeOctets es) msg space h z i))
     (ap (λ (l : List Entry). storeOctets (remember (entry msg q) l)) back)
-    (rw (eq-eqb (serve t msg space .outcome) 0 z, sym (ap (storedReply msg) back) ∙ i)))
+    (rw (eq-eqb (serve t who msg space .outcome) 0 z, sym (ap (storedReply msg) back) ∙ i)))
   where
     back : storeEntries (storeOctets es) ≡ es
     back = entries-back k

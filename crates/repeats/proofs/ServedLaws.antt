@@ -13,11 +13,12 @@ use Rattle.octets.specs.Octets.{put}
 use Rattle.octets.proofs.Tests.{and-left, and-right, both, is-true, of-true}
 use Rattle.octets.proofs.Put.{length-put}
 use Rattle.rules.specs.Limits.{maxMessage, minSpace}
+use Rattle.rules.specs.Model.{isPeer}
 use Rattle.rules.specs.Layout.{viewSettings, viewSessions}
 use Rattle.rules.specs.Sound.{sound}
 use Rattle.rules.specs.Message.{kindOf, headerAllowed, served, seidThere}
 use Rattle.rules.specs.Reply.{message, listMessage, reply}
-use Rattle.rules.specs.Serve.{Served, unserved, answered, answer, serveSound, serve, replyTo}
+use Rattle.rules.specs.Serve.{Served, unserved, answered, answer, serveSound, serveOf, serve, replyTo}
 use Rattle.laws.proofs.HeaderLaws.{header-long}
 use Rattle.invariants.proofs.ReplyLength.{reply-short}
 use Rattle.invariants.proofs.ServeLaws.{Answers, answers, answered-zero, unserved-nothing, table-kept}
@@ -49,35 +50,35 @@ pub is-request : (msg : List ℕ) → length msg ≤ maxMessage → T (headerAll
 unfolding requestAllowed
 is-request msg s h k = both (leb (length msg) maxMessage && headerAllowed msg) (served (kindOf msg)) (both (leb (length msg) maxMessage) (headerAllowed msg) (le→leb (length msg) maxMessage s) h) k
 
-module _ (t msg space : List ℕ) where
-  pub resting-is : T (requestAllowed msg) → serve t msg space .outcome ≡ restingOutcome t space
-  unfolding serve serveSound restingOutcome
-  resting-is h = by-sound (sound t)
+module _ (t : List ℕ) (who : ℕ) (msg space : List ℕ) where
+  pub resting-is : T (isPeer who) → T (requestAllowed msg) → serve t who msg space .outcome ≡ restingOutcome t space
+  unfolding serve serveOf serveSound restingOutcome
+  resting-is hw h = rw (is-true (isPeer who) hw) (by-sound (sound t))
     where
       r : Requests msg
       r = requests msg h
 
       by-space : (b : Bool)
-          → pick b (unserved 2 space t) (pick (ltb maxMessage (length msg)) (unserved 3 space t) (pick (not (headerAllowed msg)) (unserved 4 space t) (pick (not (served (kindOf msg))) (unserved 5 space t) (answer (viewSettings t) (viewSessions t) msg space t)))) .outcome ≡ pick b 2 0
+          → pick b (unserved 2 space t) (pick (ltb maxMessage (length msg)) (unserved 3 space t) (pick (not (headerAllowed msg)) (unserved 4 space t) (pick (not (served (kindOf msg))) (unserved 5 space t) (answer (viewSettings t) who (viewSessions t) msg space t)))) .outcome ≡ pick b 2 0
       by-space true = refl
       by-space false = rw (le-ltb maxMessage (length msg) (r .short), is-true (headerAllowed msg) (r .header), is-true (served (kindOf msg)) (r .kind)) (unfold answer answered in refl)
 
       by-sound : (b : Bool)
-          → pick b (pick (ltb (length space) minSpace) (unserved 2 space t) (pick (ltb maxMessage (length msg)) (unserved 3 space t) (pick (not (headerAllowed msg)) (unserved 4 space t) (pick (not (served (kindOf msg))) (unserved 5 space t) (answer (viewSettings t) (viewSessions t) msg space t))))) (unserved 1 space t) .outcome
+          → pick b (pick (ltb (length space) minSpace) (unserved 2 space t) (pick (ltb maxMessage (length msg)) (unserved 3 space t) (pick (not (headerAllowed msg)) (unserved 4 space t) (pick (not (served (kindOf msg))) (unserved 5 space t) (answer (viewSettings t) who (viewSessions t) msg space t))))) (unserved 1 space t) .outcome
           ≡ pick b (pick (ltb (length space) minSpace) 2 0) 1
       by-sound true = by-space (ltb (length space) minSpace)
       by-sound false = refl
 
   -- what is answered is a request
-  pub answered-request : serve t msg space .outcome ≡ 0 → T (requestAllowed msg)
-  answered-request e = let a = answers t msg space (of-true (eq-eqb (serve t msg space .outcome) 0 e)) in is-request msg (a .short) (a .header) (a .kind)
+  pub answered-request : serve t who msg space .outcome ≡ 0 → T (requestAllowed msg)
+  answered-request e = let a = answers t who msg space (of-true (eq-eqb (serve t who msg space .outcome) 0 e)) in is-request msg (a .short) (a .header) (a .kind)
 
   -- so another message has an outcome, and nothing is written
-  pub other-outcome : requestAllowed msg ≡ false → serve t msg space .outcome ≡ 0 → ⊥
+  pub other-outcome : requestAllowed msg ≡ false → serve t who msg space .outcome ≡ 0 → ⊥
   other-outcome f e = subst T f (answered-request e)
 
-  pub nothing-written : (serve t msg space .outcome ≡ 0 → ⊥) → serve t msg space ≡ unserved (serve t msg space .outcome) space t
-  nothing-written n = unserved-nothing t msg space (subst (λ (b : Bool). T (not b)) (sym (ne-eqb (serve t msg space .outcome) 0 n)) tt)
+  pub nothing-written : (serve t who msg space .outcome ≡ 0 → ⊥) → serve t who msg space ≡ unserved (serve t who msg space .outcome) space t
+  nothing-written n = unserved-nothing t who msg space (subst (λ (b : Bool). T (not b)) (sym (ne-eqb (serve t who msg space .outcome) 0 n)) tt)
 
 -- ---- its reply
 
@@ -86,21 +87,21 @@ unfolding message listMessage
 some-octets true k n q xs = omega arith
 some-octets false k n q xs = omega arith
 
-pub reply-some : (t msg : List ℕ) → 0 < length (engineReply t msg)
+pub reply-some : (t : List ℕ) (who : ℕ) (msg : List ℕ) → 0 < length (engineReply t who msg)
 unfolding engineReply replyTo reply
-reply-some t msg = some-octets (seidThere msg) _ _ _ _
+reply-some t who msg = some-octets (seidThere msg) _ _ _ _
 
-pub reply-few : (t msg space : List ℕ) → Answers t msg space → length (engineReply t msg) ≤ maxReply
+pub reply-few : (t : List ℕ) (who : ℕ) (msg space : List ℕ) → Answers t who msg space → length (engineReply t who msg) ≤ maxReply
 unfolding engineReply
-reply-few t msg space a = let h = reply-short (viewSettings t) (table-kept t (a .table) .settings) (viewSessions t) msg (header-long msg (a .header)) in omega arith
+reply-few t who msg space a = let h = reply-short (viewSettings t) (table-kept t (a .table) .settings) who (viewSessions t) msg (header-long msg (a .header)) in omega arith
 
 -- a reply at the front of the space, as a slice has it
-pub record Replied (t msg out : List ℕ) (used : ℕ) (out′ : List ℕ) : Type 0 where
+pub record Replied (t : List ℕ) (who : ℕ) (msg out : List ℕ) (used : ℕ) (out′ : List ℕ) : Type 0 where
   pub request : T (requestAllowed msg)
-  pub long : used ≡ length (engineReply t msg)
-  pub written : out′ ≡ put 0 (engineReply t msg) out
+  pub long : used ≡ length (engineReply t who msg)
+  pub written : out′ ≡ put 0 (engineReply t who msg) out
   pub fits : used ≤ length out′
-  pub is : take used out′ ≡ engineReply t msg
+  pub is : take used out′ ≡ engineReply t who msg
   pub some : 0 < length (take used out′)
   pub few : length (take used out′) ≤ maxReply
 
@@ -108,14 +109,14 @@ pub front-of : (a s : List ℕ) → take (length a) (put 0 a s) ≡ a
 unfolding put
 front-of a s = take-at a _ (length a) refl
 
-pub replied : (t msg out : List ℕ) (o u p : ℕ) (out′ t′ : List ℕ) → Serves t msg out o u p out′ t′ → o ≡ 0 → Replied t msg out u out′
-replied t msg out o u p out′ t′ s z =
-    let so : serve t msg out .outcome ≡ 0 = ap (λ (v : Served). v .outcome) (sym (s .served)) ∙ z in
-    let a = answers t msg out (of-true (eq-eqb (serve t msg out .outcome) 0 so)) in
-    let q = engineReply t msg in
-    let w : out′ ≡ put 0 q out = ap (λ (v : Served). v .space) (s .served ∙ answered-zero t msg out a) ∙ (unfold answer answered engineReply in refl) in
+pub replied : (t : List ℕ) (who : ℕ) (msg out : List ℕ) (o u p : ℕ) (out′ t′ : List ℕ) → Serves t who msg out o u p out′ t′ → o ≡ 0 → Replied t who msg out u out′
+replied t who msg out o u p out′ t′ s z =
+    let so : serve t who msg out .outcome ≡ 0 = ap (λ (v : Served). v .outcome) (sym (s .served)) ∙ z in
+    let a = answers t who msg out (of-true (eq-eqb (serve t who msg out .outcome) 0 so)) in
+    let q = engineReply t who msg in
+    let w : out′ ≡ put 0 q out = ap (λ (v : Served). v .space) (s .served ∙ answered-zero t who msg out a) ∙ (unfold answer answered engineReply in refl) in
     let l : u ≡ length q = s .long ∙ (unfold engineReply in (rw (eq-eqb o 0 z))) in
-    let few = reply-few t msg out a in
+    let few = reply-few t who msg out a in
     let room = a .room in
     let same : length out′ ≡ length out = ap length w ∙ length-put 0 q out (omega arith) in
     let i : take u out′ ≡ q = ap (λ (n : ℕ). take n out′) l ∙ ap (take (length q)) w ∙ front-of q out in
@@ -125,6 +126,6 @@ replied t msg out o u p out′ t′ s z =
       written = w;
       fits = omega arith;
       is = i;
-      some = rw i (reply-some t msg);
+      some = rw i (reply-some t who msg);
       few = rw i few;
     }

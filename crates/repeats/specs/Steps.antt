@@ -34,10 +34,10 @@ repeated t r space = pick (eqb (restingOutcome t space) 0) (record { outcome = 0
 unfoldable pub dropped : List ℕ → List ℕ → Resting
 dropped t space = pick (eqb (restingOutcome t space) 0) (silent 6 space) (silent (restingOutcome t space) space)
 
--- what a request leaves that the engine was asked; the store keeps a reply
-unfoldable pub renewed : List ℕ → List ℕ → List ℕ → List ℕ → Once
-renewed t store msg space =
-    pick (eqb (serve t msg space .outcome) 0) (anew (serve t msg space) (engineReply t msg) store msg) (unanswered (serve t msg space .outcome) t store space)
+-- what a peer's request leaves that the engine was asked; the store keeps a reply
+unfoldable pub renewed : List ℕ → ℕ → List ℕ → List ℕ → List ℕ → Once
+renewed t who store msg space =
+    pick (eqb (serve t who msg space .outcome) 0) (anew (serve t who msg space) (engineReply t who msg) store msg) (unanswered (serve t who msg space .outcome) t store space)
 
 -- a part of a store that may be sent as a reply
 pub record Sendable (store : List ℕ) (from to : ℕ) : Type 0 where

@@ -4,6 +4,7 @@ ghost use mathlib.Core.Path.{_≡_};
 ghost use Prim.Native.Nat.{_-_};
 ghost use lib.Dec.{T};
 ghost use Rattle.octets.specs.Octets.{part};
+ghost use Rattle.rules.specs.Model.{isPeer};
 ghost use Rattle.rules.specs.Store.{storeSound};
 ghost use Rattle.rules.specs.Repeats.{requestOnce};
 ghost use Rattle.repeats.specs.Steps.{restingOutcome, repeated, dropped, renewed, Sendable};
@@ -62,14 +63,14 @@ fn drop_old(t: &[u8], out: &[u8]) -> Served
     unanswered(6)
 }
 
-// A request that the engine is asked; the store keeps it with its reply.
-fn renew(t: &mut [u8], store: &mut [u8], msg: &[u8], out: &mut [u8]) -> Served
+// A peer's request that the engine is asked; the store keeps it with its reply.
+fn renew(t: &mut [u8], peer: u32, store: &mut [u8], msg: &[u8], out: &mut [u8]) -> Served
     requires { ⌜ T (storeSound (now store)) ⌝ }
     ensures { λ r.
         ⌜ record { outcome = r .outcome; used = r .used; place = r .place; space = now (out .exit); table = now (t .exit); store = now (store .exit) }
-        ≡ renewed (now (t .entry)) (now (store .entry)) (now (msg .entry)) (now (out .entry)) ⌝ }
+        ≡ renewed (now (t .entry)) peer (now (store .entry)) (now (msg .entry)) (now (out .entry)) ⌝ }
 {
-    let served = engine::serve(t, msg, out);
+    let served = engine::serve(t, peer, msg, out);
     if served.outcome != 0 {
         return served;
     }
@@ -78,17 +79,18 @@ fn renew(t: &mut [u8], store: &mut [u8], msg: &[u8], out: &mut [u8]) -> Served
     served
 }
 
-// One request on any octets: the table, the store, the message and the reply space.
-pub fn serve_once(t: &mut [u8], store: &mut [u8], msg: &[u8], out: &mut [u8]) -> Served
+// A peer's request, with its store.
+fn serve_peer(t: &mut [u8], peer: u32, store: &mut [u8], msg: &[u8], out: &mut [u8]) -> Served
+    requires { ⌜ T (isPeer peer) ⌝ }
     ensures { λ r.
         ⌜ record { outcome = r .outcome; used = r .used; place = r .place; space = now (out .exit); table = now (t .exit); store = now (store .exit) }
-        ≡ requestOnce (now (t .entry)) (now (store .entry)) (now (msg .entry)) (now (out .entry)) ⌝ }
+        ≡ requestOnce (now (t .entry)) peer (now (store .entry)) (now (msg .entry)) (now (out .entry)) ⌝ }
 {
     if !store::is_sound(store) {
         return unanswered(1);
     }
     if !store::is_request(msg) {
-        return engine::serve(t, msg, out);
+        return engine::serve(t, peer, msg, out);
     }
     let found = store::recall(store, msg);
     match found {
@@ -97,7 +99,20 @@ pub fn serve_once(t: &mut [u8], store: &mut [u8], msg: &[u8], out: &mut [u8]) ->
             if !store::takes(store, msg) {
                 return drop_old(t, out);
             }
-            return renew(t, store, msg, out);
+            return renew(t, peer, store, msg, out);
         }
     }
+}
+
+// One request on any octets, the table, the store of the peer, the message and the reply space, under any number as its peer's: where that is no
+// peer's, neither table nor store is looked at (02 (xiv)).
+pub fn serve_once(t: &mut [u8], peer: u32, store: &mut [u8], msg: &[u8], out: &mut [u8]) -> Served
+    ensures { λ r.
+        ⌜ record { outcome = r .outcome; used = r .used; place = r .place; space = now (out .exit); table = now (t .exit); store = now (store .exit) }
+        ≡ requestOnce (now (t .entry)) peer (now (store .entry)) (now (msg .entry)) (now (out .entry)) ⌝ }
+{
+    if !unit::is_peer(peer) {
+        return unanswered(7);
+    }
+    serve_peer(t, peer, store, msg, out)
 }

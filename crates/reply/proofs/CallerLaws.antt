@@ -8,6 +8,6 @@ use Rattle.rules.specs.Stages.{Verdict}
 use Rattle.rules.specs.Reply.{Reports, replyBody, replySeid, reply}
 use Rattle.rules.specs.Causes as why
 
-pub refusal-alone : (s : Settings) (msg : List ℕ) (seid seid′ : ℕ) (v : Verdict) (gs gs′ : Reports) → (v .cause ≡ why.accepted → ⊥) → reply s msg seid v gs ≡ reply s msg seid′ v gs′
+pub refusal-alone : (s : Settings) (who : ℕ) (msg : List ℕ) (seid seid′ : ℕ) (v : Verdict) (gs gs′ : Reports) → (v .cause ≡ why.accepted → ⊥) → reply s who msg seid v gs ≡ reply s who msg seid′ v gs′
 unfolding reply replyBody replySeid
-refusal-alone s msg seid seid′ v gs gs′ n = rw (ne-eqb (v .cause) why.accepted n)
+refusal-alone s who msg seid seid′ v gs gs′ n = rw (ne-eqb (v .cause) why.accepted n)

@@ -7,7 +7,7 @@ use native.Mathlib.Omega.{arith}
 use lib.Dec.{eqb}
 use lib.ListN.{length, drop, length-append, length-take}
 use Rattle.octets.specs.Choice.{pick}
-use Rattle.octets.specs.Octets.{be, part, octetAt, concatMap}
+use Rattle.octets.specs.Octets.{be, part, concatMap}
 use Rattle.octets.specs.Lists.{keep}
 use Rattle.octets.proofs.Numbers.{length-be}
 use Rattle.octets.proofs.Tests.{pick-either}
@@ -52,23 +52,24 @@ unfolding offendingElement
 length-offending none = omega arith
 length-offending (some t) = rw length-element (omega (arith, length-be 2 t))
 
-module _ (s : Settings) (four : length (s .ipv4) ≤ 4) where
-  pub length-node : (kind : ℕ) → length (nodeIdElement kind s) ≤ 9
+module _ (home : ℕ) where
+  pub length-node : (kind : ℕ) → length (nodeIdElement kind home) ≤ 9
   unfolding nodeIdElement
-  length-node kind = pick-either (atMost 9) (eqb kind establishment || eqb kind setDeletion) _ [] (rw length-element (omega arith)) (omega arith)
+  length-node kind = pick-either (atMost 9) (eqb kind establishment || eqb kind setDeletion) _ [] (rw length-element (omega (arith, length-be 4 home))) (omega arith)
 
-  pub length-front : (kind cause : ℕ) → length (bodyFront kind s cause) ≤ 14
+  pub length-front : (kind cause : ℕ) → length (bodyFront kind home cause) ≤ 14
   unfolding bodyFront
   length-front kind cause =
-      omega (arith, length-append (nodeIdElement kind s) (element ie.cause (cause ∷ [])), length-node kind, length-element 19 (cause ∷ []))
+      omega (arith, length-append (nodeIdElement kind home) (element ie.cause (cause ∷ [])), length-node kind, length-element 19 (cause ∷ []))
 
-  pub length-fseid : (kind seid : ℕ) → length (unitFseid kind s seid) ≤ 17
+  pub length-fseid : (kind seid : ℕ) → length (unitFseid kind home seid) ≤ 17
   unfolding unitFseid fseidOctets
   length-fseid kind seid =
       pick-either (atMost 17) (eqb kind establishment) _ []
-      (rw length-element (omega (arith, length-append (be 8 seid) (s .ipv4 ++ []), length-append (s .ipv4) [], length-be 8 seid)))
+      (rw length-element (omega (arith, length-append (be 8 seid) (be 4 home ++ []), length-append (be 4 home) [], length-be 8 seid, length-be 4 home)))
       (omega arith)
 
+module _ (s : Settings) (four : length (s .ipv4) ≤ 4) where
   module _ (sixteen : length (s .ipv6) ≤ 16) where
     length-unit-most : (t : Tunnel) → length (unitElement s t) ≤ 29
     unfolding unitElement unitFteid fteidOctets
@@ -125,20 +126,20 @@ module _ (s : Settings) (four : length (s .ipv4) ≤ 4) where
   unfolding created concatMap
   length-none = omega arith
 
-  pub length-body : (kind seid : ℕ) (v : Verdict) (gs : Reports) → length (created s gs) ≤ 1152 → length (replyBody kind s seid v gs) ≤ 1189
+  pub length-body : (home kind seid : ℕ) (v : Verdict) (gs : Reports) → length (created s gs) ≤ 1152 → length (replyBody kind s home seid v gs) ≤ 1189
   unfolding replyBody acceptedPart
-  length-body kind seid v gs h =
+  length-body home kind seid v gs h =
       let o = offendingElement (v .offending) in
-      let a = unitFseid kind s seid ++ created s gs in
+      let a = unitFseid kind home seid ++ created s gs in
       let b = pick (eqb (v .cause) why.accepted) a [] in
       let la : length b ≤ 1169 =
-      pick-either (atMost 1169) (eqb (v .cause) why.accepted) a [] (omega (arith, length-append (unitFseid kind s seid) (created s gs), length-fseid kind seid)) (omega arith) in
+      pick-either (atMost 1169) (eqb (v .cause) why.accepted) a [] (omega (arith, length-append (unitFseid kind home seid) (created s gs), length-fseid home kind seid)) (omega arith) in
       omega (
         arith,
-        length-append (nodeIdElement kind s) (element ie.cause (v .cause ∷ []) ++ (o ++ b)),
+        length-append (nodeIdElement kind home) (element ie.cause (v .cause ∷ []) ++ (o ++ b)),
         length-append (element ie.cause (v .cause ∷ [])) (o ++ b),
         length-append o b,
-        length-node kind,
+        length-node home kind,
         length-element 19 (v .cause ∷ []),
         length-offending (v .offending),
       )

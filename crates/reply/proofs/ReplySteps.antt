@@ -1,5 +1,5 @@
 -- The header before the elements, and the whole replies: from what the calls leave. Assumes nothing.
-use mathlib.Core.Path.{_≡_, ap₂, _∙_, refl, sym, ap}
+use mathlib.Core.Path.{_≡_, ap₂, _∙_, refl, sym, ap, subst}
 use mathlib.Core.Option.{Option}
 use mathlib.Core.List.{List, [], _∷_, _++_, append-assoc, append-nil}
 use Prim.Native.Nat.{ℕ, _+_, _-_, _≤_}
@@ -10,7 +10,7 @@ use lib.ListN.{length, getD, take, drop}
 use Rattle.octets.specs.Octets.{put, part, number, numberAt, octetAt, concatMap}
 use Rattle.laws.proofs.ReplyLaws.{sequence-three}
 use Rattle.rules.specs.Limits.{minSpace}
-use Rattle.rules.specs.Model.{Settings}
+use Rattle.rules.specs.Model.{Settings, peerOf}
 use Rattle.unit.specs.declared.Settings.{Settings as Unit}
 use Rattle.unit.specs.Meaning.{settingsOf}
 use Rattle.rules.specs.Message.{kindOf, headerSeid, sequenceOf, establishment, setDeletion, headerLength}
@@ -31,13 +31,13 @@ use Rattle.octets.specs.Choice.{pick}
 
 -- ---- the first elements
 
-module _ (u : Unit) (kind cause at : ℕ) (out : List ℕ) (room : at + 14 ≤ length out) {next : ℕ} {out₁ : List ℕ} (p : Placed out at (nodeIdElement kind (settingsOf u)) next out₁) where
+module _ (home kind cause at : ℕ) (out : List ℕ) (room : at + 14 ≤ length out) {next : ℕ} {out₁ : List ℕ} (p : Placed out at (nodeIdElement kind home) next out₁) where
   pub front-room : length out₁ ≡ length out → next + 5 ≤ length out₁
-  front-room l = let e = p .ends in omega (arith, length-node (settingsOf u) (unit-ipv4 u) kind)
+  front-room l = let e = p .ends in omega (arith, length-node home kind)
 
-  pub front-steps : {end : ℕ} {out₂ : List ℕ} → Placed out₁ next (element ie.cause (cause ∷ [])) end out₂ → Placed out at (bodyFront kind (settingsOf u) cause) end out₂
+  pub front-steps : {end : ℕ} {out₂ : List ℕ} → Placed out₁ next (element ie.cause (cause ∷ [])) end out₂ → Placed out at (bodyFront kind home cause) end out₂
   unfolding bodyFront
-  front-steps q = placed-then p q (omega (arith, length-node (settingsOf u) (unit-ipv4 u) kind))
+  front-steps q = placed-then p q (omega (arith, length-node home kind))
 
 -- ---- the header
 
@@ -74,49 +74,54 @@ seid-three : (msg : List ℕ) → WithSeid msg → length (sequenceOf msg) ≡ 3
 unfolding headerLength
 seid-three msg h = sequence-three msg (rw (h .seid) (h .long))
 
-seid-reply : (s : Settings) (msg : List ℕ) (seid : ℕ) (v : Verdict) (gs : Reports) → WithSeid msg
-    → reply s msg seid v gs ≡ message (kindOf msg + 1) (replySeid (kindOf msg) (v .cause) (headerSeid msg) seid) (sequenceOf msg) (replyBody (kindOf msg) s seid v gs)
+seid-reply : (s : Settings) (who : ℕ) (msg : List ℕ) (seid : ℕ) (v : Verdict) (gs : Reports) → WithSeid msg
+    → reply s who msg seid v gs
+    ≡ message (kindOf msg + 1) (replySeid (kindOf msg) (v .cause) (headerSeid msg) seid) (sequenceOf msg) (replyBody (kindOf msg) s (peerOf s who .address) seid v gs)
 unfolding reply
-seid-reply s msg seid v gs h = rw (h .seid)
+seid-reply s who msg seid v gs h = rw (h .seid)
 
 -- elements from octet 16 on with the header before them are the reply
-pub whole : (s : Settings) (msg : List ℕ) (seid : ℕ) (v : Verdict) (gs : Reports) (out : List ℕ) {out₁ out₂ : List ℕ} {end : ℕ}
-    → WithSeid msg → 16 + length (replyBody (kindOf msg) s seid v gs) ≤ length out
-    → Placed out 16 (replyBody (kindOf msg) s seid v gs) end out₁ → out₂ ≡ put 0 (replyHead msg seid (v .cause) (end - 16)) out₁
-    → (end, out₂) ≡ written (reply s msg seid v gs) out
+pub whole : (s : Settings) (who : ℕ) (msg : List ℕ) (seid : ℕ) (v : Verdict) (gs : Reports) (out : List ℕ) {out₁ out₂ : List ℕ} {end : ℕ}
+    → WithSeid msg → 16 + length (replyBody (kindOf msg) s (peerOf s who .address) seid v gs) ≤ length out
+    → Placed out 16 (replyBody (kindOf msg) s (peerOf s who .address) seid v gs) end out₁ → out₂ ≡ put 0 (replyHead msg seid (v .cause) (end - 16)) out₁
+    → (end, out₂) ≡ written (reply s who msg seid v gs) out
 unfolding reply replyHead
-whole s msg seid v gs out h room p q =
-    let e = seid-reply s msg seid v gs h in
-    let w = placed-message (kindOf msg + 1) (replySeid (kindOf msg) (v .cause) (headerSeid msg) seid) (sequenceOf msg) (replyBody (kindOf msg) s seid v gs) out (seid-three msg h) room p q in
+whole s who msg seid v gs out h room p q =
+    let e = seid-reply s who msg seid v gs h in
+    let w = placed-message (kindOf msg + 1) (replySeid (kindOf msg) (v .cause) (headerSeid msg) seid) (sequenceOf msg) (replyBody (kindOf msg) s (peerOf s who .address) seid v gs) out (seid-three msg h) room p q in
     ap₂ (λ (m : ℕ) (o : List ℕ). (m, o)) (w .ends ∙ zero-add _) (w .holds) ∙ ap (λ (l : List ℕ). written l out) (sym e)
 
-module _ (s : Settings) (kind : ℕ) where
+module _ (s : Settings) (home kind : ℕ) where
   pub refused-body : (cause : ℕ) (o : Option ℕ) → (cause ≡ why.accepted → ⊥)
-      → bodyFront kind s cause ++ offendingElement o ≡ replyBody kind s 0 (record { cause = cause; offending = o; place = 0 }) noReports
+      → bodyFront kind home cause ++ offendingElement o ≡ replyBody kind s home 0 (record { cause = cause; offending = o; place = 0 }) noReports
   unfolding bodyFront replyBody
-  refused-body cause o n = rw (ne-eqb cause why.accepted n, append-nil) (append-assoc (nodeIdElement kind s) (element ie.cause (cause ∷ [])) (offendingElement o))
+  refused-body cause o n = rw (ne-eqb cause why.accepted n, append-nil) (append-assoc (nodeIdElement kind home) (element ie.cause (cause ∷ [])) (offendingElement o))
 
-  pub accepted-body : (seid : ℕ) (gs : Reports) → bodyFront kind s 1 ++ (unitFseid kind s seid ++ created s gs) ≡ replyBody kind s seid (plain why.accepted) gs
+  pub accepted-body : (seid : ℕ) (gs : Reports) → bodyFront kind home 1 ++ (unitFseid kind home seid ++ created s gs) ≡ replyBody kind s home seid (plain why.accepted) gs
   unfolding bodyFront replyBody offendingElement acceptedPart
-  accepted-body seid gs = append-assoc (nodeIdElement kind s) (element ie.cause (1 ∷ [])) (unitFseid kind s seid ++ created s gs)
+  accepted-body seid gs = append-assoc (nodeIdElement kind home) (element ie.cause (1 ∷ [])) (unitFseid kind home seid ++ created s gs)
 
 -- ---- what a refusal and an acceptance write
 
-module _ (u : Unit) (msg out : List ℕ) (header : WithSeid msg) (space : minSpace ≤ length out) where
+module _ (u : Unit) (who home : ℕ) (whose : home ≡ peerOf (settingsOf u) who .address) (msg out : List ℕ) (header : WithSeid msg) (space : minSpace ≤ length out) where
   abbrev st : Settings
   st = settingsOf u
+
+  -- elements of one address are those of the other
+  moved : (xs : ℕ → List ℕ) {end : ℕ} {out₁ : List ℕ} → Placed out 16 (xs home) end out₁ → Placed out 16 (xs (peerOf st who .address)) end out₁
+  moved xs {end} {out₁} p = subst (λ (x : ℕ). Placed out 16 (xs x) end out₁) whose p
 
   abbrev kind : ℕ
   kind = getD msg 1 0
 
   pub refused-steps : (cause : ℕ) (o : Option ℕ) {out₁ out₂ out₃ : List ℕ} {next end : ℕ} → (cause ≡ why.accepted → ⊥)
-      → Placed out 16 (bodyFront kind st cause) next out₁ → Placed out₁ next (offendingElement o) end out₂ → out₃ ≡ put 0 (replyHead msg 0 cause (end - 16)) out₂
-      → (end, out₃) ≡ written (reply st msg 0 (record { cause = cause; offending = o; place = 0 }) noReports) out
+      → Placed out 16 (bodyFront kind home cause) next out₁ → Placed out₁ next (offendingElement o) end out₂ → out₃ ≡ put 0 (replyHead msg 0 cause (end - 16)) out₂
+      → (end, out₃) ≡ written (reply st who msg 0 (record { cause = cause; offending = o; place = 0 }) noReports) out
   unfolding kindOf octetAt
   refused-steps cause o n p q r =
       let v : Verdict = record { cause = cause; offending = o; place = 0 } in
-      whole st msg 0 v noReports out header (omega (arith, length-body st (unit-ipv4 u) kind 0 v noReports (omega (arith, length-none st (unit-ipv4 u)))))
-      (rw (refused-body st kind cause o n) at (placed-then p q (omega (arith, length-front st (unit-ipv4 u) kind cause)))) r
+      whole st who msg 0 v noReports out header (omega (arith, length-body st (unit-ipv4 u) (peerOf st who .address) kind 0 v noReports (omega (arith, length-none st (unit-ipv4 u)))))
+      (moved (λ x. replyBody kind st x 0 v noReports) (rw (refused-body st home kind cause o n) at (placed-then p q (omega (arith, length-front home kind cause))))) r
 
   module _ (ts : List Told) (few : length ts ≤ 24) (seid : ℕ) where
     abbrev gs : Reports
@@ -126,50 +131,60 @@ module _ (u : Unit) (msg out : List ℕ) (header : WithSeid msg) (space : minSpa
     created-most = omega (arith, length-created-most st (unit-ipv4 u) (unit-ipv6 u) ts)
 
     -- how long the elements are at most
-    pub accepted-room : length (bodyFront kind st 1) + (length (unitFseid kind st seid) + length (created st gs)) ≤ 1183
-    accepted-room = omega (arith, length-front st (unit-ipv4 u) kind 1, length-fseid st (unit-ipv4 u) kind seid, created-most)
+    pub accepted-room : length (bodyFront kind home 1) + (length (unitFseid kind home seid) + length (created st gs)) ≤ 1183
+    accepted-room = omega (arith, length-front home kind 1, length-fseid home kind seid, created-most)
 
     pub accepted-steps : {out₁ out₂ out₃ out₄ : List ℕ} {next own end : ℕ}
-        → Placed out 16 (bodyFront kind st 1) next out₁ → Placed out₁ next (unitFseid kind st seid) own out₂ → Placed out₂ own (created st gs) end out₃
+        → Placed out 16 (bodyFront kind home 1) next out₁ → Placed out₁ next (unitFseid kind home seid) own out₂ → Placed out₂ own (created st gs) end out₃
         → length out₁ ≡ length out → out₄ ≡ put 0 (replyHead msg seid 1 (end - 16)) out₃
-        → (end, out₄) ≡ written (reply st msg seid (plain why.accepted) gs) out
+        → (end, out₄) ≡ written (reply st who msg seid (plain why.accepted) gs) out
     unfolding kindOf octetAt
     accepted-steps {next = next} p q w same r =
         let ends = p .ends in
         let rest = placed-then q w (omega (arith, accepted-room)) in
-        whole st msg seid (plain why.accepted) gs out header (omega (arith, length-body st (unit-ipv4 u) kind seid (plain why.accepted) gs created-most))
-        (rw (accepted-body st kind seid gs) at (placed-then p rest (omega (arith, accepted-room)))) r
+        whole st who msg seid (plain why.accepted) gs out header (omega (arith, length-body st (unit-ipv4 u) (peerOf st who .address) kind seid (plain why.accepted) gs created-most))
+        (moved (λ x. replyBody kind st x seid (plain why.accepted) gs) (rw (accepted-body st home kind seid gs) at (placed-then p rest (omega (arith, accepted-room))))) r
 
 -- ---- set deletions
 
 -- nothing is created, so an acceptance has the same elements
-listed-body : (s : Settings) (cause : ℕ) (o : Option ℕ) → bodyFront setDeletion s cause ++ offendingElement o ≡ replyBody setDeletion s 0 (record { cause = cause; offending = o; place = 0 }) noReports
+listed-body : (s : Settings) (home cause : ℕ) (o : Option ℕ) → bodyFront setDeletion home cause ++ offendingElement o ≡ replyBody setDeletion s home 0 (record { cause = cause; offending = o; place = 0 }) noReports
 unfolding bodyFront replyBody acceptedPart unitFseid created concatMap
-listed-body s cause o =
-    rw (alike (eqb cause why.accepted), append-nil) (append-assoc (nodeIdElement setDeletion s) (element ie.cause (cause ∷ [])) (offendingElement o))
+listed-body s home cause o =
+    rw (alike (eqb cause why.accepted), append-nil) (append-assoc (nodeIdElement setDeletion home) (element ie.cause (cause ∷ [])) (offendingElement o))
   where
     alike : (b : Bool) → _≡_ {A = List ℕ} (pick b [] []) []
     alike true = refl
     alike false = refl
 
-module _ (u : Unit) (msg out : List ℕ) (header : Listing msg) (space : minSpace ≤ length out) where
+module _ (u : Unit) (who home : ℕ) (whose : home ≡ peerOf (settingsOf u) who .address) (msg out : List ℕ) (header : Listing msg) (space : minSpace ≤ length out) where
   list-three : length (sequenceOf msg) ≡ 3
   unfolding headerLength
   list-three = sequence-three msg (rw (header .seid) (header .long))
 
   pub listed-steps : (cause : ℕ) (o : Option ℕ) {out₁ out₂ out₃ : List ℕ} {next end : ℕ}
-      → Placed out 8 (bodyFront setDeletion (settingsOf u) cause) next out₁ → Placed out₁ next (offendingElement o) end out₂ → out₃ ≡ put 0 (listHead 15 (take 3 (drop 4 msg)) (end - 8)) out₂
-      → (end, out₃) ≡ written (reply (settingsOf u) msg 0 (record { cause = cause; offending = o; place = 0 }) noReports) out
+      → Placed out 8 (bodyFront setDeletion home cause) next out₁ → Placed out₁ next (offendingElement o) end out₂ → out₃ ≡ put 0 (listHead 15 (take 3 (drop 4 msg)) (end - 8)) out₂
+      → (end, out₃) ≡ written (reply (settingsOf u) who msg 0 (record { cause = cause; offending = o; place = 0 }) noReports) out
   unfolding reply sequenceOf headerLength
-  listed-steps cause o p q r =
+  listed-steps cause o {out₂ = out₂} {end = end} p q r =
       let st = settingsOf u in
       let v : Verdict = record { cause = cause; offending = o; place = 0 } in
-      let xs = replyBody setDeletion st 0 v noReports in
-      let l : length xs ≤ 1189 = length-body st (unit-ipv4 u) setDeletion 0 v noReports (omega (arith, length-none st (unit-ipv4 u))) in
-      let a : Placed out 8 xs _ _ = rw (listed-body st cause o) at (placed-then p q (omega (arith, length-front st (unit-ipv4 u) setDeletion cause))) in
+      let xs = replyBody setDeletion st (peerOf st who .address) 0 v noReports in
+      let l : length xs ≤ 1189 = length-body st (unit-ipv4 u) (peerOf st who .address) setDeletion 0 v noReports (omega (arith, length-none st (unit-ipv4 u))) in
+      let a : Placed out 8 xs end out₂ = subst (λ (x : ℕ). Placed out 8 (replyBody setDeletion st x 0 v noReports) end out₂) whose (rw (listed-body st home cause o) at (placed-then p q (omega (arith, length-front home setDeletion cause)))) in
       let w = placed-list 15 (take 3 (drop 4 msg)) xs out (rw (header .seid) at list-three) (omega arith) a r in
       rw (header .seid, header .kind) (ap₂ (λ (m : ℕ) (o : List ℕ). (m, o)) (w .ends ∙ zero-add _) (w .holds))
 
   -- how far they reach
-  pub listed-room : (cause : ℕ) (o : Option ℕ) → length (bodyFront setDeletion (settingsOf u) cause) + length (offendingElement o) ≤ 20
-  listed-room cause o = omega (arith, length-front (settingsOf u) (unit-ipv4 u) setDeletion cause, length-offending o)
+  pub listed-room : (cause : ℕ) (o : Option ℕ) → length (bodyFront setDeletion home cause) + length (offendingElement o) ≤ 20
+  listed-room cause o = omega (arith, length-front home setDeletion cause, length-offending o)
+
+-- ---- the address
+
+pub home-first : (u : Unit) (who : ℕ) → who ≡ 1 → u .peer1 .address ≡ peerOf (settingsOf u) who .address
+unfolding peerOf settingsOf
+home-first u who e = rw (eq-eqb who 1 e)
+
+pub home-second : (u : Unit) (who : ℕ) → (who ≡ 1 → ⊥) → u .peer2 .address ≡ peerOf (settingsOf u) who .address
+unfolding peerOf settingsOf
+home-second u who e = rw (ne-eqb who 1 e)

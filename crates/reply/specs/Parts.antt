@@ -5,7 +5,6 @@ use Prim.Native.Nat.{ℕ, _+_, _≤_}
 use mathlib.Core.Bool.{true, false}
 use lib.ListN.{length}
 use mathlib.Core.List.{List, [], _∷_, _++_}
-use Rattle.rules.specs.Model.{Settings}
 use Rattle.rules.specs.Message.{setDeletion, kindOf, seidThere, headerSeid, sequenceOf}
 use Rattle.rules.specs.Reply.{element, nodeIdElement, replySeid}
 use Rattle.rules.specs.Types as ie
@@ -25,6 +24,6 @@ pub record Listing (msg : List ℕ) : Type 0 where
 unfoldable pub replyHead : List ℕ → ℕ → ℕ → ℕ → List ℕ
 replyHead msg seid cause n = messageHead (kindOf msg + 1) (replySeid (kindOf msg) cause (headerSeid msg) seid) (sequenceOf msg) n
 
--- what every reply has after its header: the Node ID in those that have it, and the cause
-unfoldable pub bodyFront : ℕ → Settings → ℕ → List ℕ
-bodyFront kind s cause = nodeIdElement kind s ++ element ie.cause (cause ∷ [])
+-- what every reply has after its header: the Node ID with the peer's signalling address in those that have it, and the cause
+unfoldable pub bodyFront : ℕ → ℕ → ℕ → List ℕ
+bodyFront kind home cause = nodeIdElement kind home ++ element ie.cause (cause ∷ [])

@@ -8,6 +8,7 @@ ghost use lib.ListN.{length};
 ghost use Rattle.octets.specs.Octets.{put};
 ghost use Rattle.octets.specs.Lists.{all};
 ghost use Rattle.rules.specs.Limits.{minSpace};
+ghost use Rattle.rules.specs.Model.{peerOf};
 ghost use Rattle.rules.specs.Message.{kindOf, headerSeid};
 ghost use Rattle.rules.specs.Stages.{plain};
 ghost use Rattle.rules.specs.Reply.{noReports, replySeid, offendingElement, reply};
@@ -45,12 +46,22 @@ fn reply_seid(msg: &[u8], cause: u8, seid: u64) -> u64
     octets::read(msg, header::SEID, 8)
 }
 
-// What every reply has after its header, from a place on: the Node ID in those that have it, and the cause.
-fn write_front(u: Settings, kind: u8, cause: u8, out: &mut [u8], at: usize) -> usize
-    requires { ⌜ at + 14 ≤ length (now out) ⌝ }
-    ensures { λ r. ⌜ Placed (now (out .entry)) at (bodyFront kind (settingsOf u) cause) r (now (out .exit)) ⌝ }
+// The peer's signalling address on the unit.
+fn home(u: Settings, peer: u32) -> u64
+    ensures { λ r. ⌜ r ≡ peerOf (settingsOf u) peer .address ⌝ }
 {
-    let next = writing::write_node_id(u, kind, out, at);
+    if peer == 1 {
+        return u.peer1.address;
+    }
+    u.peer2.address
+}
+
+// What every reply has after its header, from a place on: the Node ID in those that have it, and the cause.
+fn write_front(home: u64, kind: u8, cause: u8, out: &mut [u8], at: usize) -> usize
+    requires { ⌜ at + 14 ≤ length (now out) ⌝ }
+    ensures { λ r. ⌜ Placed (now (out .entry)) at (bodyFront kind home cause) r (now (out .exit)) ⌝ }
+{
+    let next = writing::write_node_id(home, kind, out, at);
     writing::write_cause(cause, out, next)
 }
 
@@ -81,11 +92,19 @@ fn finish(msg: &[u8], cause: u8, seid: u64, end: usize, out: &mut [u8])
 }
 
 // The whole reply of a refusal, at the front of out; the answer is its length.
-pub fn refused(u: Settings, msg: &[u8], cause: u8, offending: Offending, out: &mut [u8]) -> usize
+pub fn refused(
+    u: Settings,
+    peer: u32,
+    msg: &[u8],
+    cause: u8,
+    offending: Offending,
+    out: &mut [u8],
+) -> usize
     requires { ⌜ WithSeid (now msg) × (kindOf (now msg) < 255) × (cause ≡ why.accepted → ⊥) × (minSpace ≤ length (now out)) ⌝ }
-    ensures { λ r. ⌜ (r, now (out .exit)) ≡ written (reply (settingsOf u) (now (msg .entry)) 0 (refusal cause offending) noReports) (now (out .entry)) ⌝ }
+    ensures { λ r. ⌜ (r, now (out .exit)) ≡ written (reply (settingsOf u) peer (now (msg .entry)) 0 (refusal cause offending) noReports) (now (out .entry)) ⌝ }
 {
-    let next = write_front(u, msg[header::KIND], cause, out, header::BODY);
+    let at = home(u, peer);
+    let next = write_front(at, msg[header::KIND], cause, out, header::BODY);
     let end = write_offending(offending, out, next);
     finish(msg, cause, 0, end, out);
     end
@@ -95,6 +114,7 @@ pub fn refused(u: Settings, msg: &[u8], cause: u8, offending: Offending, out: &m
 // places, which stand in request order for each kind of record.
 pub fn accepted(
     u: Settings,
+    peer: u32,
     msg: &[u8],
     seid: u64,
     plan: &[u64],
@@ -102,21 +122,30 @@ pub fn accepted(
     out: &mut [u8],
 ) -> usize
     requires { ⌜ WithSeid (now msg) × (kindOf (now msg) < 255) × (length (now places) ≤ maxGrants) × T (within (now plan) (now places)) × (all idFits (toldsAt (now plan) (now places)) ≡ true) × (minSpace ≤ length (now out)) ⌝ }
-    ensures { λ r. ⌜ (r, now (out .exit)) ≡ written (reply (settingsOf u) (now (msg .entry)) seid (plain why.accepted) (reportsAt (now (plan .entry)) (now (places .entry)))) (now (out .entry)) ⌝ }
+    ensures { λ r. ⌜ (r, now (out .exit)) ≡ written (reply (settingsOf u) peer (now (msg .entry)) seid (plain why.accepted) (reportsAt (now (plan .entry)) (now (places .entry)))) (now (out .entry)) ⌝ }
 {
-    let next = write_front(u, msg[header::KIND], 1, out, header::BODY);
-    let own = writing::write_own_fseid(u, msg[header::KIND], seid, out, next);
+    let at = home(u, peer);
+    let next = write_front(at, msg[header::KIND], 1, out, header::BODY);
+    let own = writing::write_own_fseid(at, msg[header::KIND], seid, out, next);
     let end = created::write_created(u, plan, places, out, own);
     finish(msg, 1, seid, end, out);
     end
 }
 
 // The whole reply to a set deletion, accepted or refused, at the front of out; the answer is its length. Its header has no SEID.
-pub fn listed(u: Settings, msg: &[u8], cause: u8, offending: Offending, out: &mut [u8]) -> usize
+pub fn listed(
+    u: Settings,
+    peer: u32,
+    msg: &[u8],
+    cause: u8,
+    offending: Offending,
+    out: &mut [u8],
+) -> usize
     requires { ⌜ Listing (now msg) × (minSpace ≤ length (now out)) ⌝ }
-    ensures { λ r. ⌜ (r, now (out .exit)) ≡ written (reply (settingsOf u) (now (msg .entry)) 0 (refusal cause offending) noReports) (now (out .entry)) ⌝ }
+    ensures { λ r. ⌜ (r, now (out .exit)) ≡ written (reply (settingsOf u) peer (now (msg .entry)) 0 (refusal cause offending) noReports) (now (out .entry)) ⌝ }
 {
-    let next = write_front(u, kinds::SET_DELETION_OCTET, cause, out, header::LIST_BODY);
+    let at = home(u, peer);
+    let next = write_front(at, kinds::SET_DELETION_OCTET, cause, out, header::LIST_BODY);
     let end = write_offending(offending, out, next);
     writing::write_list_header(
         kinds::SET_DELETION_OCTET + 1,

@@ -16,7 +16,7 @@ use Rattle.octets.proofs.Put.{put-whole}
 use Rattle.rules.specs.Limits.{maxRestoration}
 use Rattle.rules.specs.Layout.{viewSettings, viewSession, viewSessions, settingsWidth}
 use Rattle.rules.specs.Sound.{sound}
-use Rattle.rules.specs.Restoring.{Writing, unwritten, senderAddressed, restorationAt, writeInto, writeRestoration}
+use Rattle.rules.specs.Restoring.{Writing, unwritten, senderAddressed, sessionAt, restorationAt, writeInto, writeRestoration}
 use Rattle.rules.specs.Message.{establishment}
 use Rattle.writing.specs.Placed.{Placed}
 use Rattle.writing.specs.Heads.{messageHead}
@@ -52,24 +52,24 @@ module _ (t : List ℕ) (place : ℕ) (ipv4 ipv6 : List ℕ) (ready : Ready t pl
 
 -- ---- the space
 
-module _ (request space : List ℕ) {used : ℕ} {out out′ : List ℕ} (p : Placed out 0 request used out′) where
+module _ (who : ℕ) (request space : List ℕ) {used : ℕ} {out out′ : List ℕ} (p : Placed out 0 request used out′) where
   length-used : used ≡ length request
   length-used = p .ends ∙ zero-add (length request)
 
-  pub into-short : (r : Answer) → length space < used → (r .outcome ≡ 4) × (r .used ≡ 0) → writingOf r space ≡ writeInto request space
+  pub into-short : (r : Answer) → length space < used → (r .outcome ≡ 4) × (r .used ≡ 0) × (r .peer ≡ 0) → writingOf r space ≡ writeInto who request space
   unfolding writeInto
   into-short r h e =
       let n = length-used in
-      rw (lt-ltb (length space) (length request) (omega arith)) (λ i. record { outcome = e .0 i; used = e .1 i; space = space })
+      rw (lt-ltb (length space) (length request) (omega arith)) (λ i. record { outcome = e .0 i; used = e .1 i; peer = e .2 i; space = space })
 
-  pub into-written : (space′ : List ℕ) → used ≤ length space → space′ ≡ put 0 (take used out′) space
-      → _≡_ {A = Writing} (record { outcome = 0; used = used; space = space′ }) (writeInto request space)
+  pub into-written : (peer : ℕ) (space′ : List ℕ) → used ≤ length space → space′ ≡ put 0 (take used out′) space → peer ≡ who
+      → _≡_ {A = Writing} (record { outcome = 0; used = used; peer = peer; space = space′ }) (writeInto who request space)
   unfolding writeInto
-  into-written space′ h e =
+  into-written peer space′ h e w =
       let n = length-used in
       let taken : take used out′ ≡ request = ap₂ (λ (k : ℕ) (l : List ℕ). take k l) n (p .holds) ∙ take-put request out in
       rw (le-ltb (length space) (length request) (omega arith))
-      (λ i. record { outcome = 0; used = n i; space = (e ∙ ap (λ (xs : List ℕ). put 0 xs space) taken) i })
+      (λ i. record { outcome = 0; used = n i; peer = w i; space = (e ∙ ap (λ (xs : List ℕ). put 0 xs space) taken) i })
 
 -- ---- the tests
 
@@ -78,10 +78,10 @@ module _ (t : List ℕ) (place : ℕ) (ipv4 ipv6 space : List ℕ) where
   answer = writeRestoration t place ipv4 ipv6 space
 
   -- a refusal's answer
-  refusal : (n : ℕ) (r : Answer) → (r .outcome ≡ n) × (r .used ≡ 0) → writingOf r space ≡ unwritten n space
-  refusal n r e = λ i. record { outcome = e .0 i; used = e .1 i; space = space }
+  refusal : (n : ℕ) (r : Answer) → (r .outcome ≡ n) × (r .used ≡ 0) × (r .peer ≡ 0) → writingOf r space ≡ unwritten n space
+  refusal n r e = λ i. record { outcome = e .0 i; used = e .1 i; peer = e .2 i; space = space }
 
-  pub answer-broken : (b : Bool) (r : Answer) → b ≡ sound t → not b ≡ true → (r .outcome ≡ 1) × (r .used ≡ 0) → writingOf r space ≡ answer
+  pub answer-broken : (b : Bool) (r : Answer) → b ≡ sound t → not b ≡ true → (r .outcome ≡ 1) × (r .used ≡ 0) × (r .peer ≡ 0) → writingOf r space ≡ answer
   unfolding writeRestoration
   answer-broken true r e z f = absurd (let w : _≡_ {A = ℕ} 0 1 = cc in omega arith)
   answer-broken false r e z f = rw (← e) (refusal 1 r f)
@@ -98,12 +98,12 @@ module _ (t : List ℕ) (place : ℕ) (ipv4 ipv6 space : List ℕ) where
       sessions : length (viewSessions t) ≡ n
       sessions = count-read t sound-is ∙ sym count
 
-      pub answer-past : (r : Answer) → n ≤ place → (r .outcome ≡ 2) × (r .used ≡ 0) → writingOf r space ≡ answer
+      pub answer-past : (r : Answer) → n ≤ place → (r .outcome ≡ 2) × (r .used ≡ 0) × (r .peer ≡ 0) → writingOf r space ≡ answer
       unfolding writeRestoration
       answer-past r h f = rw (is-true (sound t) sound-is, sessions, le-leb n place h) (refusal 2 r f)
 
       module _ (below : place < n) (a : Bool) (g : a ≡ senderAddressed ipv4 ipv6) where
-        pub answer-unaddressed : (r : Answer) → not a ≡ true → (r .outcome ≡ 3) × (r .used ≡ 0) → writingOf r space ≡ answer
+        pub answer-unaddressed : (r : Answer) → not a ≡ true → (r .outcome ≡ 3) × (r .used ≡ 0) × (r .peer ≡ 0) → writingOf r space ≡ answer
         unfolding writeRestoration
         answer-unaddressed r y f =
             rw (is-true (sound t) sound-is, sessions, lt-leb n place below, ← g, y) (refusal 3 r f)
@@ -115,7 +115,7 @@ module _ (t : List ℕ) (place : ℕ) (ipv4 ipv6 space : List ℕ) where
             go true g′ y′ = of-true (sym g′)
             go false g′ y′ = absurd (let w : _≡_ {A = ℕ} 0 1 = cc in omega arith)
 
-        pub answer-written : (r : Answer) (space′ : List ℕ) → not a ≡ false → writingOf r space′ ≡ writeInto (restorationAt t place ipv4 ipv6) space → writingOf r space′ ≡ answer
+        pub answer-written : (r : Answer) (space′ : List ℕ) → not a ≡ false → writingOf r space′ ≡ writeInto (sessionAt (viewSessions t) place .peer) (restorationAt t place ipv4 ipv6) space → writingOf r space′ ≡ answer
         unfolding writeRestoration
         answer-written r space′ y f =
             rw (is-true (sound t) sound-is, sessions, lt-leb n place below, ← g, y) f

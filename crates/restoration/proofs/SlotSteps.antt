@@ -11,7 +11,7 @@ use Rattle.octets.proofs.Put.{part-from}
 use Rattle.rules.specs.Model.{Settings, Session}
 use Rattle.rules.specs.Elements.{fseidOctets}
 use Rattle.rules.specs.Reply.{element}
-use Rattle.rules.specs.Layout.{pdrWidth, endpointWidth, csidWidth, viewArea, viewPdr, viewEndpoint, viewCsid, viewSession, pdrCountAt, endpointCountAt, csidCountAt, pdrsAt, endpointsAt, csidsAt}
+use Rattle.rules.specs.Layout.{pdrWidth, endpointWidth, csidWidth, viewArea, viewPdr, viewEndpoint, viewCsid, viewSession, pdrCountAt, endpointCountAt, csidCountAt, seidAt, pdrsAt, endpointsAt, csidsAt}
 use Rattle.rules.specs.Restoration.{pdrElement, endpointElement, csidElement, recordElements}
 use Rattle.rules.specs.Types as ie
 use Rattle.writing.specs.Placed.{Placed}
@@ -59,7 +59,7 @@ module _ (s : Settings) (slot : List ℕ) where
       → Placed out₂ b (areaElements ie.fqcsid s (getD slot csidCountAt 0) (take (length slot - csidsAt) (drop csidsAt slot))) e out₃
       → length out₁ ≡ length out → Placed out at (recordElements s (viewSession slot)) e out₃
   records-steps at out {a} {b} {e} {out₁} {out₂} {out₃} h p q r l =
-      let p′ = rw (part-from 11 slot) at p in
+      let p′ = rw (part-from pdrsAt slot) at p in
       let q′ = rw (part-from endpointsAt slot) at q in
       let r′ = rw (part-from csidsAt slot) at r in
       let n = length-records in
@@ -92,7 +92,7 @@ module _ (s : Settings) (x : Session) (ipv4 ipv6 : List ℕ) where
       let k = length-element ie.sessionFlags (1 ∷ []) in
       placed-then p′ (placed-then q r (omega arith)) (omega arith)
 
--- the session's SEID is in the slot's first eight octets
-pub slot-seid : (slot : List ℕ) → number (part 0 8 slot) ≡ viewSession slot .seid
+-- the session's SEID is in eight octets of the slot
+pub slot-seid : (slot : List ℕ) → number (part seidAt 8 slot) ≡ viewSession slot .seid
 unfolding viewSession numberAt
 slot-seid slot = refl

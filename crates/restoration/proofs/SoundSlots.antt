@@ -1,5 +1,5 @@
 -- A slot of a sound table can be written from, holds the session at its place, and its restoration is short. Assumes nothing.
-use mathlib.Core.Path.{_≡_, ap, _∙_}
+use mathlib.Core.Path.{_≡_, sym, ap, _∙_}
 use Prim.Native.Nat.{ℕ, zero, suc, _+_, _-_, _*_, _^_, _≤_, _<_}
 use native.Mathlib.Nat.{suc-mul}
 use native.Mathlib.Omega.{arith}
@@ -14,11 +14,12 @@ use Rattle.octets.specs.Lists.{all}
 use Rattle.octets.specs.Fields.{widthOf, fieldsAt}
 use Rattle.octets.proofs.Tests.{each, all-of-each, both, all-head, all-tail, all-cons}
 use Rattle.octets.proofs.ListLaws.{all-always}
+use Rattle.octets.proofs.Put.{getD-part}
 use Rattle.octets.proofs.FieldLaws.{octet-field}
 use Rattle.rules.specs.Limits.{maxRestoration}
-use Rattle.rules.specs.Model.{Settings}
+use Rattle.rules.specs.Model.{Settings, Session}
 use Rattle.rules.specs.Elements.{nodeAddressTests, nodeAddressAllowed}
-use Rattle.rules.specs.Layout.{pdrWidth, endpointWidth, csidWidth, sessionWidth, csidFrom, viewCsid, viewSession, viewSettings, viewSessions, pdrCountAt, endpointCountAt, csidCountAt, pdrsAt, endpointsAt, csidsAt, csidIdTypeAt}
+use Rattle.rules.specs.Layout.{headWidth, pdrWidth, endpointWidth, csidWidth, sessionWidth, csidFrom, viewCsid, viewSession, viewSettings, viewSessions, pdrCountAt, endpointCountAt, csidCountAt, pdrsAt, endpointsAt, csidsAt, csidIdTypeAt}
 use Rattle.rules.specs.Sound.{csidTests, csidAllowed, sessionAllowed, sound}
 use Rattle.rules.specs.Reply.{message}
 use Rattle.rules.specs.Restoration.{senderTests, senderAllowed, restoration}
@@ -27,7 +28,7 @@ use Rattle.rules.specs.Types as ie
 use Rattle.rules.specs.Message.{establishment}
 use Rattle.laws.proofs.MessageHeader.{message-length}
 use Rattle.laws.proofs.RestorationRead.{msg-short}
-use Rattle.table.proofs.SoundSlots.{few-pdrs, few-endpoints, few-csids, csids-kept, slotAt, settings-kept, few-sessions, slot-long, slot-session, session-kept}
+use Rattle.table.proofs.SoundSlots.{few-pdrs, few-endpoints, few-csids, csids-kept, slotAt, table-long, settings-kept, within-limit, few-sessions, slot-long, slot-session, session-kept}
 use Rattle.restoration.specs.Records.{recordWidth, recordFits, areaFits, SlotFits, content}
 
 -- ---- the records of an area
@@ -72,6 +73,19 @@ module _ (t : List ℕ) (h : T (sound t)) (place : ℕ) (live : place < length (
 
   pub place-fits : SlotFits slot
   place-fits = slot-fits st slot (slot-long t h place live) (rw (slot-session t h place live) (session-kept t h place live))
+
+  -- the peer stands first in the slot
+  pub slot-place : headWidth + place * sessionWidth < length t
+  slot-place = let f = table-long t h in let g = within-limit t h in omega arith
+
+  pub slot-peer : getD t (headWidth + place * sessionWidth) 0 ≡ sessionAt (viewSessions t) place .peer
+  unfolding viewSession octetAt
+  slot-peer =
+      let at = headWidth + place * sessionWidth in
+      let same : at + 0 ≡ at = omega arith in
+      ap (λ (i : ℕ). getD t i 0) (sym same)
+      ∙ sym (getD-part at (at + sessionWidth - at) 0 t (omega arith))
+      ∙ ap (λ (x : Session). x .peer) (slot-session t h place live)
 
   module _ (ipv4 ipv6 : List ℕ) (address : T (senderAddressed ipv4 ipv6)) where
     pub sender-kept : T (senderAllowed (senderAt place ipv4 ipv6))

@@ -10,7 +10,7 @@ use Rattle.rules.specs.Restoring.{Writing, senderAddressed}
 use Rattle.restoration.specs.declared.Answer.{Answer}
 
 abbrev pub writingOf : Answer → List ℕ → Writing
-writingOf r space = record { outcome = r .outcome; used = r .used; space = space }
+writingOf r space = record { outcome = r .outcome; used = r .used; peer = r .peer; space = space }
 
 -- the first three refusals do not apply
 pub record Ready (t : List ℕ) (place : ℕ) (ipv4 ipv6 : List ℕ) : Type 0 where

@@ -9,10 +9,11 @@ ghost use lib.ListN.{length, getD};
 ghost use Rattle.octets.specs.Octets.{slices, concatMap};
 ghost use Rattle.octets.specs.Lists.{all};
 ghost use Rattle.rules.specs.Limits.{maxRestoration};
-ghost use Rattle.rules.specs.Layout.{optionRead, viewSession, viewPdr, viewEndpoint, viewCsid, pdrWidth, csidWidth, endpointWidth, csidIdTypeAt};
+ghost use Rattle.rules.specs.Layout.{optionRead, viewSession, viewSessions, viewPdr, viewEndpoint, viewCsid, pdrWidth, csidWidth, endpointWidth, csidIdTypeAt};
+ghost use Rattle.rules.specs.Sound.{sound};
 ghost use Rattle.rules.specs.Reply.{element, addressPart};
 ghost use Rattle.rules.specs.Restoration.{matchElement, farElement, pdiContent, pdrElement, endpointElement, csidElement, recordElements, restoration};
-ghost use Rattle.rules.specs.Restoring.{senderAddressed, restorationAt, writeInto, writeRestoration};
+ghost use Rattle.rules.specs.Restoring.{senderAddressed, sessionAt, restorationAt, writeInto, writeRestoration};
 ghost use Rattle.rules.specs.Types as ie;
 ghost use Rattle.unit.specs.Meaning.{settingsOf};
 ghost use Rattle.writing.specs.Placed.{Placed};
@@ -239,7 +240,7 @@ fn write_elements(u: Settings, slot: &[u8], ipv4: &[u8], ipv6: &[u8], out: &mut 
     requires { ⌜ SlotFits (now slot) × (16 + length (content (settingsOf u) (viewSession (now slot)) (now ipv4) (now ipv6)) ≤ length (now out)) ⌝ }
     ensures { λ r. ⌜ Placed (now (out .entry)) 16 (content (settingsOf u) (viewSession (now (slot .entry))) (now (ipv4 .entry)) (now (ipv6 .entry))) r (now (out .exit)) ⌝ }
 {
-    let seid = octets::read(slot, 0, 8);
+    let seid = octets::read(slot, format::SEID, 8);
     let flags = [1u8; 1];
     let own = writing::write_fseid(seid, ipv4, ipv6, out, header::BODY);
     let next = writing::write_value(types::SESSION_FLAGS, &flags, out, own);
@@ -289,26 +290,37 @@ fn has_address(ipv4: &[u8], ipv6: &[u8]) -> bool
     0 < ipv4.len() + ipv6.len()
 }
 
-// What the host gets: the outcome, and how many octets of the space hold the request.
+// What the host gets: the outcome, how many octets of the space hold the request, and the peer under which it is to be run (02 (xiv)).
 pub struct Answer {
     pub outcome: u32,
     pub used: usize,
+    pub peer: u32,
 }
 
 // A refusal.
 fn refused(outcome: u32) -> Answer
-    ensures { λ r. ⌜ (r .outcome ≡ outcome) × (r .used ≡ 0) ⌝ }
+    ensures { λ r. ⌜ (r .outcome ≡ outcome) × (r .used ≡ 0) × (r .peer ≡ 0) ⌝ }
 {
     Answer {
         outcome: outcome,
         used: 0,
+        peer: 0,
     }
+}
+
+// The peer of the session at a place: it stands first in the slot.
+fn peer_at(t: &[u8], place: usize) -> u32
+    requires { ⌜ T (sound (now t)) × (place < length (viewSessions (now t))) ⌝ }
+    ensures { λ r. ⌜ r ≡ sessionAt (viewSessions (now (t .entry))) place .peer ⌝ }
+{
+    let at = format::HEAD + place * format::SLOT;
+    t[at] as u32
 }
 
 // The restoration request of the session at a place, in a space that is lent.
 fn write_at(t: &[u8], place: usize, ipv4: &[u8], ipv6: &[u8], space: &mut [u8]) -> Answer
     requires { ⌜ Ready (now t) place (now ipv4) (now ipv6) ⌝ }
-    ensures { λ r. ⌜ writingOf r (now (space .exit)) ≡ writeInto (restorationAt (now (t .entry)) place (now (ipv4 .entry)) (now (ipv6 .entry))) (now (space .entry)) ⌝ }
+    ensures { λ r. ⌜ writingOf r (now (space .exit)) ≡ writeInto (sessionAt (viewSessions (now (t .entry))) place .peer) (restorationAt (now (t .entry)) place (now (ipv4 .entry)) (now (ipv6 .entry))) (now (space .entry)) ⌝ }
 {
     let mut request = [0u8; format::RESTORATION];
     let used = write_request(t, place, ipv4, ipv6, &mut request);
@@ -319,6 +331,7 @@ fn write_at(t: &[u8], place: usize, ipv4: &[u8], ipv6: &[u8], space: &mut [u8]) 
     Answer {
         outcome: 0,
         used: used,
+        peer: peer_at(t, place),
     }
 }
 

@@ -10,13 +10,20 @@ pub const MOST_SESSIONS: usize = 64;
 
 pub const LONGEST: usize = format::HEAD + MOST_SESSIONS * format::SLOT;
 
-// In the unit's file the stores of repeated requests of up to eight control planes follow the table, each after an address of 16 octets
-// (docs/layout.md). They are not read here.
-const STORE: usize = 16 + store::LENGTH;
+// In the unit's file the stores of repeated requests of both peers follow the table (docs/layout.md). They are not read here.
+const STORES: usize = 2 * store::LENGTH;
 
-const MOST_STORES: usize = 8;
+// Before there were two peers the settings and the number of sessions took 41 octets and a session 603, and the stores of up to eight control
+// planes followed, each after an address of 16 octets. The limit stood where it stands now.
+const OLD_HEAD: usize = 41;
 
-const STORES: usize = MOST_STORES * STORE;
+const OLD_SLOT: usize = 603;
+
+const OLD_STORE: usize = 16 + store::LENGTH;
+
+const MOST_OLD_STORES: usize = 8;
+
+const OLD_STORES: usize = MOST_OLD_STORES * OLD_STORE;
 
 // Whether there is no more to read from fd: 0 nothing, 1 something, 2 a failure, which errno tells.
 pub fn more(fd: i32) -> u8 {
@@ -39,10 +46,51 @@ fn refused(path: &[u8], why: &[u8]) -> usize
     0
 }
 
-fn too_short(path: &[u8]) -> usize
+// Whether a file of so many octets has the layout before two peers, its session limit being this.
+fn is_old(all: usize, limit: usize) -> bool {
+    if limit > format::MAX_SESSIONS as usize {
+        return false;
+    }
+    let table = OLD_HEAD + limit * OLD_SLOT;
+    if all < table {
+        return false;
+    }
+    if all - table > OLD_STORES {
+        return false;
+    }
+    (all - table) % OLD_STORE == 0
+}
+
+fn old(path: &[u8]) -> usize
     ensures { λ r. ⌜ r ≡ 0 ⌝ }
 {
-    refused(path, b"shorter than its session limit says")
+    refused(
+        path,
+        b"of the layout before two control planes; its sessions can be brought over (docs/operators.md)",
+    )
+}
+
+// No table, though its length may be one. A few lengths are both an old and a new layout's, so this is said of a broken one too.
+fn broken(path: &[u8], all: usize, limit: usize) -> usize
+    ensures { λ r. ⌜ r ≡ 0 ⌝ }
+{
+    if is_old(all, limit) {
+        return old(path);
+    }
+    refused(path, b"not a sound table")
+}
+
+// A file of so many octets, which is not the length that its session limit says.
+fn wrong_length(path: &[u8], all: usize, said: usize, limit: usize) -> usize
+    ensures { λ r. ⌜ r ≡ 0 ⌝ }
+{
+    if is_old(all, limit) {
+        return old(path);
+    }
+    if all < said {
+        return refused(path, b"shorter than its session limit says");
+    }
+    too_long(path)
 }
 
 fn too_long(path: &[u8]) -> usize
@@ -51,87 +99,83 @@ fn too_long(path: &[u8]) -> usize
     refused(path, b"longer than its session limit says")
 }
 
-fn broken(path: &[u8]) -> usize
-    ensures { λ r. ⌜ r ≡ 0 ⌝ }
-{
-    refused(path, b"not a sound table")
+// Whether a file of so many octets is a table of that length alone, or with both stores.
+fn has_form(all: usize, said: usize) -> bool {
+    if all < said {
+        return false;
+    }
+    if all == said {
+        return true;
+    }
+    all - said == STORES
 }
 
-// Whether so many octets in t and so many more after it are nothing, or whole stores.
-fn are_stores(in_t: usize, after: usize) -> bool {
-    if in_t > LONGEST {
-        return false;
-    }
-    if after > STORES {
-        return false;
-    }
-    let all = in_t + after;
-    if all > STORES {
-        return false;
-    }
-    all % STORE == 0
-}
-
-// The length of the table at the front of t, if it is sound and stores or nothing follow; so many octets of the file stand after t.
-fn sound(path: &[u8], t: &[u8], after: usize, said: usize) -> usize
+// The length of the table at the front of t, if it is sound and the stores or nothing follow; the file has so many octets in all.
+fn sound(path: &[u8], t: &[u8], all: usize, said: usize, limit: usize) -> usize
     ensures { λ r. ⌜ r ≤ length (now (t .entry)) ⌝ }
 {
     if t.len() < said {
-        return too_short(path);
+        return wrong_length(path, all, said, limit);
     }
-    if !are_stores(t.len() - said, after) {
-        return too_long(path);
+    if !has_form(all, said) {
+        return wrong_length(path, all, said, limit);
     }
     let mut free = 0u32;
     if pfcp_session::pfcp_free_count(&t[0..said], &mut free) != 0 {
-        return broken(path);
+        return broken(path, all, limit);
     }
     said
 }
 
-// The length of the table at the front of t, if this program takes it. A limit that is not allowed says no length.
-fn taken(path: &[u8], t: &[u8], after: usize) -> usize
+// The length of the table at the front of t, if this program takes it; the file has so many octets in all. A limit that is not allowed says
+// no length.
+fn taken(path: &[u8], t: &[u8], all: usize) -> usize
     ensures { λ r. ⌜ r ≤ length (now (t .entry)) ⌝ }
 {
     if t.len() < format::HEAD {
-        return too_short(path);
+        return refused(path, b"shorter than its session limit says");
     }
-    let limit = octets::read(t, format::LIMIT, 2);
+    let limit = octets::read(t, format::LIMIT, 2) as usize;
     let said = pfcp_session::pfcp_table_length(limit as u32);
     if said == 0 {
-        return broken(path);
+        return broken(path, all, limit);
     }
-    if MOST_SESSIONS < limit as usize {
+    if MOST_SESSIONS < limit {
         return refused(path, b"the table has room for more than 64 sessions");
     }
-    sound(path, t, after, said)
+    sound(path, t, all, said, limit)
 }
 
-// How many octets fd still has, up to those of one store.
-fn store_of(fd: i32) -> usize {
-    let mut space = [0u8; STORE];
+// How many octets fd still has, up to those of one store of the layout before.
+fn store_of(fd: i32) -> usize
+    ensures { λ r. ⌜ r ≤ 26673 ⌝ }
+{
+    let mut space = [0u8; OLD_STORE];
     io::read_full(fd, &mut space)
 }
 
-// How many octets fd still has, up to those of all stores.
-fn rest_of(fd: i32) -> usize {
+// How many octets fd still has, up to those of all stores that may follow a table.
+fn rest_of(fd: i32) -> usize
+    ensures { λ r. ⌜ r ≤ 213384 ⌝ }
+{
     let mut stores: usize = 0;
-    while stores < MOST_STORES {
+    while stores < MOST_OLD_STORES {
         let n = store_of(fd);
-        if n < STORE {
-            return stores * STORE + n;
+        if n < OLD_STORE {
+            return stores * OLD_STORE + n;
         }
         stores += 1;
     }
-    STORES
+    OLD_STORES
 }
 
 // Reads the table at the front of fd into t, which has room for the longest one.
 fn fill_table(path: &[u8], fd: i32, t: &mut [u8]) -> usize
+    requires { ⌜ length (now t) ≤ 38721 ⌝ }
     ensures { λ r. ⌜ r ≤ length (now (t .exit)) ⌝ }
 {
     let n = io::read_full(fd, t);
-    let after = rest_of(fd);
+    let all = n + rest_of(fd);
     let rest = more(fd);
     if rest == 2 {
         say::failed(path);
@@ -140,11 +184,12 @@ fn fill_table(path: &[u8], fd: i32, t: &mut [u8]) -> usize
     if rest == 1 {
         return too_long(path);
     }
-    taken(path, &t[0..n], after)
+    taken(path, &t[0..n], all)
 }
 
 // Reads the stored table at path, which has to be sound, into the front of t: its length, or 0 where it is refused, and that was said.
 pub fn read_table(path: &[u8], t: &mut [u8]) -> usize
+    requires { ⌜ length (now t) ≤ 38721 ⌝ }
     ensures { λ r. ⌜ r ≤ length (now (t .exit)) ⌝ }
 {
     let fd = os::open_read(path);

@@ -3,6 +3,8 @@
 //     restore write TABLE FILE [IPV4] [IPV6]    the requests of a stored table, in its order, nothing between
 //     restore run FILE TABLE NEW                an empty table with TABLE's settings, the file's requests run on it, the result into NEW
 //
+// Before each request of the file stands an octet with its peer, 1 or 2 (02 (xiv)): a request does not say whose session it restores.
+//
 // A Rattle program has no exit status, so the work is a call that answers it: 0 done, 1 refused, 2 wrong arguments. Every refusal is one
 // line on standard error. What is written stands beside its place until all of it is there, and is then renamed; a refusal leaves nothing.
 mod address;

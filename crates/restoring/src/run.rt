@@ -1,6 +1,6 @@
 // restore run FILE TABLE NEW
 ghost use mathlib.Core.Path.{_≡_};
-ghost use Prim.Native.Nat.{_≤_};
+ghost use Prim.Native.Nat.{_+_, _≤_};
 ghost use lib.ListN.{length};
 use crate::file;
 use crate::names;
@@ -16,38 +16,60 @@ const STOPPED: u8 = 2;
 
 const CAUSE_OF_ACCEPTANCE: u8 = 1;
 
-// The empty table with the settings of s.
-fn make(s: &[u8], new: &mut [u8]) -> u32
-    requires { ⌜ length (now s) ≡ 39 ⌝ }
+// A peer's settings.
+struct Peer {
+    address: u32,
+    guarantee: u32,
+    limit: u32,
+}
+
+// The peer's settings at a place of s.
+fn peer_at(s: &[u8], at: usize) -> Peer
+    requires { ⌜ at + 12 ≤ length (now s) ⌝ }
 {
-    let ipv4 = octets::read(s, format::IPV4, 4) as u32;
-    let first = octets::read(s, format::FIRST, 4) as u32;
-    let size = octets::read(s, format::SIZE, 4) as u32;
-    let address = octets::read(s, format::FIRST_ADDRESS, 4) as u32;
-    let count = octets::read(s, format::ADDRESS_COUNT, 4) as u32;
-    let limit = octets::read(s, format::LIMIT, 2) as u32;
-    if s[format::IPV6_THERE] == 0 {
-        return pfcp_session::pfcp_make_table(
-            new,
-            ipv4,
-            &s[0..0],
-            first,
-            size,
-            address,
-            count,
-            limit,
-        );
+    let address = octets::read(s, at, 4) as u32;
+    let guarantee = octets::read(s, at + format::GUARANTEE, 4) as u32;
+    let limit = octets::read(s, at + format::PEER_LIMIT, 4) as u32;
+    Peer {
+        address,
+        guarantee,
+        limit,
     }
+}
+
+// The empty table with the settings of s, both peers' among them, and this IPv6 address. Under other guarantees and limits the requests
+// could be refused that restore its sessions.
+fn make_with(s: &[u8], ipv6: &[u8], new: &mut [u8]) -> u32
+    requires { ⌜ length (now s) ≡ 63 ⌝ }
+{
+    let peer1 = peer_at(s, format::PEER1);
+    let peer2 = peer_at(s, format::PEER2);
     pfcp_session::pfcp_make_table(
         new,
-        ipv4,
-        &s[format::IPV6..format::FIRST],
-        first,
-        size,
-        address,
-        count,
-        limit,
+        octets::read(s, format::IPV4, 4) as u32,
+        ipv6,
+        octets::read(s, format::FIRST, 4) as u32,
+        octets::read(s, format::SIZE, 4) as u32,
+        octets::read(s, format::FIRST_ADDRESS, 4) as u32,
+        octets::read(s, format::ADDRESS_COUNT, 4) as u32,
+        octets::read(s, format::LIMIT, 2) as u32,
+        peer1.address,
+        peer1.guarantee,
+        peer1.limit,
+        peer2.address,
+        peer2.guarantee,
+        peer2.limit,
     )
+}
+
+// The empty table with the settings of s.
+fn make(s: &[u8], new: &mut [u8]) -> u32
+    requires { ⌜ length (now s) ≡ 63 ⌝ }
+{
+    if s[format::IPV6_THERE] == 0 {
+        return make_with(s, &s[0..0], new);
+    }
+    make_with(s, &s[format::IPV6..format::FIRST], new)
 }
 
 // The cause of a reply.
@@ -63,12 +85,19 @@ fn cause(reply: &[u8]) -> u8
     reply[20]
 }
 
-// One request on the new table.
-fn serve(new: &mut [u8], message: &[u8], path: &[u8], number: u64) -> u8 {
+// One request on the new table, under its peer.
+fn serve(new: &mut [u8], peer: u8, message: &[u8], path: &[u8], number: u64) -> u8 {
     let mut reply = [0u8; format::SPACE];
     let mut used = 0usize;
     let mut place = 0usize;
-    let outcome = pfcp_session::pfcp_request(new, message, &mut reply, &mut used, &mut place);
+    let outcome = pfcp_session::pfcp_request(
+        new,
+        peer as u32,
+        message,
+        &mut reply,
+        &mut used,
+        &mut place,
+    );
     if outcome != 0 {
         say::refused_request(
             path,
@@ -106,20 +135,18 @@ fn end(fd: i32, path: &[u8]) -> u8 {
     STOPPED
 }
 
-// The next request of the file on the new table. Its length is that of its header's length field and the four octets up to there.
-fn next_in(message: &mut [u8], new: &mut [u8], fd: i32, path: &[u8], number: u64) -> u8
+// The next request of the file on the new table, after its peer. Its length is that of its header's length field and the four octets up to
+// there.
+fn next_in(message: &mut [u8], new: &mut [u8], fd: i32, peer: u8, path: &[u8], number: u64) -> u8
     requires { ⌜ length (now message) ≡ 2048 ⌝ }
 {
     let got = io::read_full(fd, &mut message[0..4]);
-    if got == 0 {
-        return end(fd, path);
-    }
     if got < 4 {
         return cut(
             fd,
             path,
             number,
-            b"is not there: under 4 octets are left over",
+            b"is not there: under 5 octets are left over",
         );
     }
     let length = octets::read(message, 2, 2) as usize + 4;
@@ -132,12 +159,34 @@ fn next_in(message: &mut [u8], new: &mut [u8], fd: i32, path: &[u8], number: u64
         return cut(fd, path, number, b"is cut short");
     }
     let whole = &message[..];
-    serve(new, &whole[0..length], path, number)
+    serve(new, peer, &whole[0..length], path, number)
 }
 
-fn next(new: &mut [u8], fd: i32, path: &[u8], number: u64) -> u8 {
+// The next request of the file, if its peer is one. The engine would say outcome 7 of any other; here the operator is told which request it
+// is. A file that was written before there were two peers is refused so too.
+fn next_of(peer: u8, new: &mut [u8], fd: i32, path: &[u8], number: u64) -> u8 {
+    if peer != 1 {
+        if peer != 2 {
+            say::refused_request(
+                path,
+                number,
+                b"is of no peer: the octet before it is neither 1 nor 2",
+            );
+            return STOPPED;
+        }
+    }
     let mut message = [0u8; format::MESSAGE];
-    next_in(&mut message, new, fd, path, number)
+    next_in(&mut message, new, fd, peer, path, number)
+}
+
+// The next peer of the file and its request.
+fn next(new: &mut [u8], fd: i32, path: &[u8], number: u64) -> u8 {
+    let mut peer = [0u8; 1];
+    let got = io::read_full(fd, &mut peer);
+    if got == 0 {
+        return end(fd, path);
+    }
+    next_of(peer[0], new, fd, path, number)
 }
 
 // How many requests were accepted, or that one was not.
@@ -198,7 +247,7 @@ fn write_table(new: &[u8], path: &[u8], done: Done) -> u32 {
 
 // The file's requests on an empty table with the settings of the stored table, and the result into the file at path.
 fn run_on(file: &[u8], stored: &[u8], new: &mut [u8], path: &[u8]) -> u32
-    requires { ⌜ 39 ≤ length (now stored) ⌝ }
+    requires { ⌜ 63 ≤ length (now stored) ⌝ }
 {
     let made = make(&stored[0..format::SETTINGS], new);
     if made != 0 {

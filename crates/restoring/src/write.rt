@@ -96,7 +96,32 @@ const PAST: u8 = 1;
 
 const FAILED: u8 = 2;
 
-// Writes the request of the session at place to fd.
+// Writes the octet with a peer to fd: a request does not say whose session it restores.
+fn write_peer(peer: u32, fd: i32) -> bool {
+    let mut octet = [0u8; 1];
+    octets::write(&mut octet, 0, 1, peer as u64);
+    io::write_all(fd, &octet)
+}
+
+// Writes the peer and the request of so many octets at the front of space to fd.
+fn write_request(space: &[u8], used: usize, peer: u32, path: &[u8], fd: i32) -> u8
+    requires { ⌜ length (now space) ≡ 2048 ⌝ }
+{
+    if used > format::MESSAGE {
+        return FAILED;
+    }
+    if !write_peer(peer, fd) {
+        say::failed(path);
+        return FAILED;
+    }
+    if !io::write_all(fd, &space[0..used]) {
+        say::failed(path);
+        return FAILED;
+    }
+    WRITTEN
+}
+
+// Writes the peer and the request of the session at place to fd.
 fn request_in(
     space: &mut [u8],
     t: &[u8],
@@ -109,7 +134,16 @@ fn request_in(
     requires { ⌜ length (now space) ≡ 2048 ⌝ }
 {
     let mut used = 0usize;
-    let outcome = pfcp_session::pfcp_write_restoration(t, place, ipv4, ipv6, space, &mut used);
+    let mut peer = 0u32;
+    let outcome = pfcp_session::pfcp_write_restoration(
+        t,
+        place,
+        ipv4,
+        ipv6,
+        space,
+        &mut used,
+        &mut peer,
+    );
     if outcome == 2 {
         return PAST;
     }
@@ -117,15 +151,7 @@ fn request_in(
         say::refused_alone(b"a request cannot be written");
         return FAILED;
     }
-    if used > format::MESSAGE {
-        return FAILED;
-    }
-    let whole = &space[..];
-    if !io::write_all(fd, &whole[0..used]) {
-        say::failed(path);
-        return FAILED;
-    }
-    WRITTEN
+    write_request(space, used, peer, path, fd)
 }
 
 fn request(t: &[u8], place: usize, ipv4: &[u8], ipv6: &[u8], path: &[u8], fd: i32) -> u8 {

@@ -62,7 +62,7 @@ addresses r = map (λ (x : Session). map (λ (p : Pdr). p .address) (x .pdrs)) (
 
 -- PDRs 1 and 2 of session 1 choose in one request, and share the lowest
 unfoldable pub shared : Served
-shared = ask (encode (unit 2 2) []) (establish 1 (createIp 1 any ++ createIp 2 any))
+shared = ask (encode (unit 4 2) []) (establish 1 (createIp 1 any ++ createIp 2 any))
 
 -- then PDR 1 is removed, then PDR 2
 unfoldable pub first : Served
@@ -90,7 +90,7 @@ unfolding story
 addressCounted = refl
 
 -- an endpoint's Created group lists both that it chose
-pub endpointBoth : createdAddress (ask (encode (unit 2 2) []) (establish 1 (endpointIp 3 any ++ createIp 1 any)) .space) ofEndpoint 3 ≡ low
+pub endpointBoth : createdAddress (ask (encode (unit 4 2) []) (establish 1 (endpointIp 3 any ++ createIp 1 any)) .space) ofEndpoint 3 ≡ low
 unfolding story
 endpointBoth = refl
 
@@ -152,6 +152,6 @@ unfolding story full
 roomBefore = refl
 
 -- two sessions hold an address outside the pool
-pub outsideTwice : left (ask (ask (encode (unit 2 2) []) (establish 1 (createIp 1 (ip other))) .table) (establish 2 (createIp 1 (ip other)))) ≡ leftAs 1 2
+pub outsideTwice : left (ask (ask (encode (unit 4 2) []) (establish 1 (createIp 1 (ip other))) .table) (establish 2 (createIp 1 (ip other)))) ≡ leftAs 1 2
 unfolding story
 outsideTwice = refl

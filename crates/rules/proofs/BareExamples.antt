@@ -23,11 +23,11 @@ ranked i n far = element 1 (element 56 (be 2 i) ++ element 29 (be 4 n) ++ elemen
 
 -- PDR 1 has precedence 100 and no FAR ID
 unfoldable pub plainPast : List Call
-plainPast = request (establish 1 (ranked 1 100 [])) space ∷ []
+plainPast = request 1 (establish 1 (ranked 1 100 [])) space ∷ []
 
 -- a session came and went before, and PDR 1 has precedence 7 and FAR ID 5
 unfoldable pub otherPast : List Call
-otherPast = request (establish 9 (create 1 own)) space ∷ request (delete 9) space ∷ request (establish 1 (ranked 1 7 (element 108 (be 4 5)))) space ∷ []
+otherPast = request 1 (establish 9 (create 1 own)) space ∷ request 1 (delete 9) space ∷ request 1 (establish 1 (ranked 1 7 (element 108 (be 4 5)))) space ∷ []
 
 unfoldable pub plainUnit : List ℕ
 plainUnit = tableAfterAll (encode (unit 2 2) []) plainPast
@@ -59,15 +59,15 @@ unfolding past
 livesAlike = refl
 
 -- the last octet of the precedence, whether there is a FAR ID, and its last octet; and nothing where these fields are blank
-pub unitsApart : apartFrom 0 plainUnit otherUnit ∷ apartFrom 0 (blankTable plainUnit) (blankTable otherUnit) ∷ [] ≡ (57 ∷ 58 ∷ 62 ∷ []) ∷ [] ∷ []
+pub unitsApart : apartFrom 0 plainUnit otherUnit ∷ apartFrom 0 (blankTable plainUnit) (blankTable otherUnit) ∷ [] ≡ (82 ∷ 83 ∷ 87 ∷ []) ∷ [] ∷ []
 unfolding past
 unitsApart = refl
 
 -- the same request gets the same reply, after which the precedences are equal too
-pub sameReply : sameOctets (replyIn (serve plainUnit sameRequest space .space)) (replyIn (serve otherUnit sameRequest space .space)) ≡ true
+pub sameReply : sameOctets (replyIn (serve plainUnit 1 sameRequest space .space)) (replyIn (serve otherUnit 1 sameRequest space .space)) ≡ true
 unfolding past
 sameReply = refl
 
-pub thenApart : apartFrom 0 (serve plainUnit sameRequest space .table) (serve otherUnit sameRequest space .table) ≡ 58 ∷ 62 ∷ []
+pub thenApart : apartFrom 0 (serve plainUnit 1 sameRequest space .table) (serve otherUnit 1 sameRequest space .table) ≡ 83 ∷ 87 ∷ []
 unfolding past
 thenApart = refl

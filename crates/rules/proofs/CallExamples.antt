@@ -15,9 +15,21 @@ use Rattle.rules.proofs.Computing.{computing}
 
 -- ---- the calls
 
--- the unit of the examples: 192.0.2.1, no IPv6, room for k sessions, a pool of n TEIDs from 4096 on, and the two addresses 10.0.0.1 and 10.0.0.2
+-- the unit of the examples: 192.0.2.1, no IPv6, room for k sessions, a pool of n TEIDs from 4096 on, and the two addresses 10.0.0.1 and 10.0.0.2;
+-- its peers at 192.0.2.1 and 192.0.2.2, with no guarantee and no limit but the pool. What follows is of peer 1.
 unfoldable pub unit : ℕ → ℕ → Settings
-unit k n = record { ipv4 = 192 ∷ 0 ∷ 2 ∷ 1 ∷ []; ipv6 = []; first = 4096; size = n; firstAddress = 167772161; addressCount = 2; limit = k }
+unit k n =
+    record {
+      ipv4 = 192 ∷ 0 ∷ 2 ∷ 1 ∷ [];
+      ipv6 = [];
+      first = 4096;
+      size = n;
+      firstAddress = 167772161;
+      addressCount = 2;
+      limit = k;
+      peer1 = record { address = 3221225985; guarantee = 0; limit = n };
+      peer2 = record { address = 3221225986; guarantee = 0; limit = n };
+    }
 
 unfoldable pub space : List ℕ
 space = zeros 1280
@@ -56,7 +68,7 @@ calls = 0
 -- ---- whole replies, at the product's table
 
 pub unknownDeletion :
-    serve (encode (unit 64 2) []) (delete 9) space
+    serve (encode (unit 64 2) []) 1 (delete 9) space
     ≡ record {
       outcome = 0;
       place = 0;
@@ -69,7 +81,7 @@ unfolding computing calls
 unknownDeletion = refl
 
 pub firstEstablishment :
-    replyIn (serve (encode (unit 64 4096) []) (establish 1 (create 1 own)) space .space)
+    replyIn (serve (encode (unit 64 4096) []) 1 (establish 1 (create 1 own)) space .space)
     ≡ 0x21 ∷ 0x33 ∷ 0x00 ∷ 0x42 ∷ 0x00 ∷ 0x00 ∷ 0x00 ∷ 0x00 ∷ 0x00 ∷ 0x00 ∷ 0x00 ∷ 0x01 ∷ 0x00 ∷ 0x00 ∷ 0x01 ∷ 0x00
     ∷ 0x00 ∷ 0x3c ∷ 0x00 ∷ 0x05 ∷ 0x00 ∷ 0xc0 ∷ 0x00 ∷ 0x02 ∷ 0x01
     ∷ 0x00 ∷ 0x13 ∷ 0x00 ∷ 0x01 ∷ 0x01
@@ -86,12 +98,12 @@ outcomeOf r = r .outcome
 
 pub outcomes :
     map outcomeOf
-    (serve (zeros 1245) (zeros 2049) (zeros 1279)
-    ∷ serve (encode (unit 2 2) []) (zeros 2049) (zeros 1279)
-    ∷ serve (encode (unit 2 2) []) (zeros 2049) (zeros 1280)
-    ∷ serve (encode (unit 2 2) []) (zeros 2048) (zeros 1280)
-    ∷ serve (encode (unit 2 2) []) (message 56 1 (0 ∷ 0 ∷ 1 ∷ []) []) (zeros 1280)
-    ∷ serve (encode (unit 2 2) []) (message 54 1 (0 ∷ 0 ∷ 1 ∷ []) []) (zeros 1280)
+    (serve (zeros 1270) 1 (zeros 2049) (zeros 1279)
+    ∷ serve (encode (unit 4 2) []) 1 (zeros 2049) (zeros 1279)
+    ∷ serve (encode (unit 4 2) []) 1 (zeros 2049) (zeros 1280)
+    ∷ serve (encode (unit 4 2) []) 1 (zeros 2048) (zeros 1280)
+    ∷ serve (encode (unit 4 2) []) 1 (message 56 1 (0 ∷ 0 ∷ 1 ∷ []) []) (zeros 1280)
+    ∷ serve (encode (unit 4 2) []) 1 (message 54 1 (0 ∷ 0 ∷ 1 ∷ []) []) (zeros 1280)
     ∷ [])
     ≡ 1 ∷ 2 ∷ 3 ∷ 4 ∷ 5 ∷ 0 ∷ []
 unfolding computing calls outcomeOf
@@ -108,13 +120,13 @@ pub record Seen : Type 0 where
 unfoldable pub seen : Served → Seen
 seen r = record { outcome = r .outcome; cause = replyCause (r .space); left = countFree (r .table) }
 
--- a request on a table with two session slots
+-- a request on a table with two session slots for its peer
 unfoldable pub ask : List ℕ → List ℕ → Served
-ask t msg = serve t msg space
+ask t msg = serve t 1 msg space
 
 -- PDRs 1 and 2 with CHOOSE ID 7, PDR 3 without
 unfoldable pub three : Served
-three = ask (encode (unit 2 2) []) (establish 1 (create 1 (withId 7) ++ create 2 (withId 7) ++ create 3 own))
+three = ask (encode (unit 4 2) []) (establish 1 (create 1 (withId 7) ++ create 2 (withId 7) ++ create 3 own))
 
 unfoldable pub removed1 : Served
 removed1 = ask (three .table) (modify 1 (remove 1))
@@ -168,7 +180,7 @@ poolSameRequestCause = refl
 
 -- a CHOOSE ID is not remembered: the next request's ID 9 gets a TEID of its own
 unfoldable pub first9 : Served
-first9 = ask (encode (unit 2 3) []) (establish 1 (create 1 (withId 9)))
+first9 = ask (encode (unit 4 3) []) (establish 1 (create 1 (withId 9)))
 
 pub chooseIdForgotten : createdTeid (ask (first9 .table) (modify 1 (create 2 (withId 9))) .space) ofPdr 2 ≡ 4097
 unfolding story first9
@@ -190,7 +202,7 @@ createWith v = element 1 (element 56 (be 2 1) ++ element 29 (be 4 100) ++ elemen
 
 -- an establishment's F-SEID takes octets 16 to 32, its Create PDR starts at 33, that PDR's PDI at 51
 unfoldable pub establishing : List ℕ → Told
-establishing v = told (ask (encode (unit 2 2) []) (establish 1 (createWith v)))
+establishing v = told (ask (encode (unit 4 2) []) (establish 1 (createWith v)))
 
 abbrev pub toldAs : ℕ → ℕ → Told
 toldAs c p = record { cause = c; place = p }
@@ -211,10 +223,10 @@ placesOfFaults = refl
 -- what the message itself lacks is at place 0, what a group lacks at the group's
 pub placesOfMissing :
     map told
-    (ask (encode (unit 2 2) []) (establish 1 [])
-    ∷ ask (encode (unit 2 2) []) (establish 1 (element 1 (element 56 (be 2 1))))
-    ∷ ask (encode (unit 2 2) []) (establish 1 (0 ∷ 1 ∷ 0 ∷ []))
-    ∷ ask (encode (unit 2 2) []) (delete 9)
+    (ask (encode (unit 4 2) []) (establish 1 [])
+    ∷ ask (encode (unit 4 2) []) (establish 1 (element 1 (element 56 (be 2 1))))
+    ∷ ask (encode (unit 4 2) []) (establish 1 (0 ∷ 1 ∷ 0 ∷ []))
+    ∷ ask (encode (unit 4 2) []) (delete 9)
     ∷ [])
     ≡ toldAs 66 0 ∷ toldAs 66 33 ∷ toldAs 68 0 ∷ toldAs 65 0 ∷ []
 unfolding computing calls ask told

@@ -27,11 +27,11 @@ unfoldable pub named : ℕ → ℕ → Pdr
 named i e = record { id = i; precedence = 7; far = some 8; source = 1; match = endpoint e; address = none }
 
 unfoldable pub session : List Pdr → Sessions
-session ps = record { seid = 1; pdrs = ps; endpoints = holder 3 4096 ∷ holder 4 4097 ∷ []; csids = [] } ∷ []
+session ps = record { peer = 1; seid = 1; pdrs = ps; endpoints = holder 3 4096 ∷ holder 4 4097 ∷ []; csids = [] } ∷ []
 
 -- PDRs 1 and 2 name endpoint 3, PDR 5 names endpoint 4
 unfoldable pub two : List ℕ
-two = encode (unit 2 2) (session (named 1 3 ∷ named 2 3 ∷ named 5 4 ∷ []))
+two = encode (unit 4 2) (session (named 1 3 ∷ named 2 3 ∷ named 5 4 ∷ []))
 
 -- a modification of it
 unfoldable pub then : List ℕ → Served
@@ -59,14 +59,14 @@ namedFrom e i (suc n) = named i e ∷ namedFrom e (i + 1) n
 
 -- 16 PDRs, of which 1 to 4 name endpoint 3
 unfoldable pub sixteen : List ℕ
-sixteen = encode (unit 2 2) (session (namedFrom 3 1 4 ++ namedFrom 4 5 12))
+sixteen = encode (unit 4 2) (session (namedFrom 3 1 4 ++ namedFrom 4 5 12))
 
 story : ℕ
 unfolding computing calls seen ask endpointOf naming update removeEndpoint holder named session two then alone pdrsLeft endpointsLeft namings namedFrom sixteen
 story = 0
 
 -- an establishment makes it
-pub endpointsTwo : sameOctets (ask (encode (unit 2 2) []) (establish 1 (endpointOf 3 own ++ endpointOf 4 own ++ naming 1 3 ++ naming 2 3 ++ naming 5 4)) .table) two ≡ true
+pub endpointsTwo : sameOctets (ask (encode (unit 4 2) []) (establish 1 (endpointOf 3 own ++ endpointOf 4 own ++ naming 1 3 ++ naming 2 3 ++ naming 5 4)) .table) two ≡ true
 unfolding story
 endpointsTwo = refl
 

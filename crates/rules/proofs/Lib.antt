@@ -7,6 +7,7 @@ pub mod AddressExamples
 pub mod WriterExamples
 pub mod FindingExamples
 pub mod SetExamples
+pub mod PeerExamples
 pub mod SiteExamples
 pub mod RepeatExamples
 pub mod BareExamples

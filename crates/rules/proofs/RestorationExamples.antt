@@ -29,12 +29,12 @@ update i = element 9 (element 56 (be 2 i) ++ element 108 [])
 
 unfoldable pub history : List Call
 history =
-    request (establish 9 (create 1 (withId 7) ++ create 2 (withId 7) ++ create 3 own ++ csidOf 5)) space
+    request 1 (establish 9 (create 1 (withId 7) ++ create 2 (withId 7) ++ create 3 own ++ csidOf 5)) space
     ∷ count
-    ∷ request (establish 4 (naming 6 3 ++ naming 5 3 ++ endpointOf 3 own ++ csidOf 2 ++ csidOf 1)) space
-    ∷ request (modify 4 (update 6 ++ element 65 [])) space
-    ∷ request (modify 9 (remove 1)) space
-    ∷ request (establish 4 (create 1 own)) space
+    ∷ request 1 (establish 4 (naming 6 3 ++ naming 5 3 ++ endpointOf 3 own ++ csidOf 2 ++ csidOf 1)) space
+    ∷ request 1 (modify 4 (update 6 ++ element 65 [])) space
+    ∷ request 1 (modify 9 (remove 1)) space
+    ∷ request 1 (establish 4 (create 1 own)) space
     ∷ []
 
 unfoldable pub sender : Sender
@@ -42,7 +42,7 @@ sender = record { header = 77; sequence = 3; ipv4 = []; ipv6 = zeros 16 }
 
 unfoldable pub restores : List Session → List Call
 restores [] = []
-restores (x ∷ xs) = request (restoration (unit 2 4) sender x) space ∷ restores xs
+restores (x ∷ xs) = request (x .peer) (restoration (unit 4 4) sender x) space ∷ restores xs
 
 past : ℕ
 unfolding computing calls endpointOf naming csidOf update history sender restores
@@ -53,26 +53,26 @@ turned [] = []
 turned (x ∷ xs) = turned xs ++ x ∷ []
 
 -- which calls were accepted
-pub historyAccepted : map acceptedEvent (eventsOf (encode (unit 2 4) []) history) ≡ true ∷ false ∷ true ∷ true ∷ true ∷ false ∷ []
+pub historyAccepted : map acceptedEvent (eventsOf (encode (unit 4 4) []) history) ≡ true ∷ false ∷ true ∷ true ∷ true ∷ false ∷ []
 unfolding past
 historyAccepted = refl
 
 -- the live set is what the table holds
-pub historyLive : sameOctets (encode (unit 2 4) (liveAfterCalls (encode (unit 2 4) []) history)) (tableAfterAll (encode (unit 2 4) []) history) ≡ true
+pub historyLive : sameOctets (encode (unit 4 4) (liveAfterCalls (encode (unit 4 4) []) history)) (tableAfterAll (encode (unit 4 4) []) history) ≡ true
 unfolding past
 historyLive = refl
 
 -- restored in either order, it is the same table
 pub historyRestored :
-    sameOctets (tableAfterAll (encode (unit 2 4) []) (restores (liveAfterCalls (encode (unit 2 4) []) history)))
-    (tableAfterAll (encode (unit 2 4) []) history)
+    sameOctets (tableAfterAll (encode (unit 4 4) []) (restores (liveAfterCalls (encode (unit 4 4) []) history)))
+    (tableAfterAll (encode (unit 4 4) []) history)
     ≡ true
 unfolding past
 historyRestored = refl
 
 pub historyRestoredTurned :
-    sameOctets (tableAfterAll (encode (unit 2 4) []) (restores (turned (liveAfterCalls (encode (unit 2 4) []) history))))
-    (tableAfterAll (encode (unit 2 4) []) history)
+    sameOctets (tableAfterAll (encode (unit 4 4) []) (restores (turned (liveAfterCalls (encode (unit 4 4) []) history))))
+    (tableAfterAll (encode (unit 4 4) []) history)
     ≡ true
 unfolding past turned
 historyRestoredTurned = refl

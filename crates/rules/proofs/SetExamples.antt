@@ -4,7 +4,7 @@ use mathlib.Core.Path.{_≡_, refl}
 use Prim.Native.Nat.{ℕ}
 use mathlib.Core.List.{List, [], _∷_, _++_, map}
 use Rattle.octets.specs.Octets.{be, zeros}
-use Rattle.rules.specs.Model.{Csid, Session, Sessions, seidOf}
+use Rattle.rules.specs.Model.{Csid, Session, Sessions}
 use Rattle.rules.specs.Layout.{encode, viewSessions}
 use Rattle.rules.specs.Reply.{element, message, listMessage}
 use Rattle.rules.specs.Serve.{serve, Served}
@@ -19,7 +19,7 @@ unfoldable pub held : ℕ → ℕ → ℕ → List Csid
 held n a c = record { nodeType = n; idType = 0; address = 198 ∷ 51 ∷ 100 ∷ a ∷ []; csid = c } ∷ []
 
 unfoldable pub holding : ℕ → List Csid → Session
-holding i cs = record { seid = i; pdrs = []; endpoints = []; csids = cs }
+holding i cs = record { peer = 1; seid = i; pdrs = []; endpoints = []; csids = cs }
 
 -- 1 and 3 are of one card, 2 has its CSID on another node type, 4 on another node
 unfoldable pub sessions : Sessions
@@ -38,17 +38,20 @@ unfoldable pub sets : List ℕ → List ℕ
 sets xs = listMessage 14 (0 ∷ 0 ∷ 9 ∷ []) xs
 
 unfoldable pub served : List ℕ → Served
-served xs = serve (encode (unit 4 2) sessions) (sets xs) space
+served xs = serve (encode (unit 8 2) sessions) 1 (sets xs) space
+
+unfoldable pub seidIn : Session → ℕ
+seidIn x = x .seid
 
 -- the SEIDs that are left, in the table and in the live set
 unfoldable pub left : List ℕ → List ℕ
-left xs = map seidOf (viewSessions (served xs .table))
+left xs = map seidIn (viewSessions (served xs .table))
 
 unfoldable pub living : List ℕ → List ℕ
-living xs = map seidOf (liveStep sessions (replied (sets xs) (served xs .outcome) (served xs .space)))
+living xs = map seidIn (liveStep sessions (replied 1 (sets xs) (served xs .outcome) (served xs .space)))
 
 story : ℕ
-unfolding computing calls told outcomeOf held holding sessions lists listsNone sets served left living
+unfolding computing calls told outcomeOf held holding sessions lists listsNone sets served seidIn left living
 story = 0
 
 -- ---- what goes
@@ -88,11 +91,11 @@ setsRefusedLeft = refl
 -- with S it is malformed, and so is every other type without; 8 octets alone are answered
 pub setsOutcomes :
     map outcomeOf
-    (serve (encode (unit 4 2) []) (message 14 0 (0 ∷ 0 ∷ 9 ∷ []) []) space
-    ∷ serve (encode (unit 4 2) []) (listMessage 15 (0 ∷ 0 ∷ 9 ∷ []) (zeros 8)) space
-    ∷ serve (encode (unit 4 2) []) (listMessage 54 (0 ∷ 0 ∷ 9 ∷ []) (zeros 8)) space
-    ∷ serve (encode (unit 4 2) []) (32 ∷ 14 ∷ 0 ∷ 3 ∷ 0 ∷ 0 ∷ 9 ∷ []) space
-    ∷ serve (encode (unit 4 2) []) (sets []) space
+    (serve (encode (unit 8 2) []) 1 (message 14 0 (0 ∷ 0 ∷ 9 ∷ []) []) space
+    ∷ serve (encode (unit 8 2) []) 1 (listMessage 15 (0 ∷ 0 ∷ 9 ∷ []) (zeros 8)) space
+    ∷ serve (encode (unit 8 2) []) 1 (listMessage 54 (0 ∷ 0 ∷ 9 ∷ []) (zeros 8)) space
+    ∷ serve (encode (unit 8 2) []) 1 (32 ∷ 14 ∷ 0 ∷ 3 ∷ 0 ∷ 0 ∷ 9 ∷ []) space
+    ∷ serve (encode (unit 8 2) []) 1 (sets []) space
     ∷ [])
     ≡ 4 ∷ 4 ∷ 4 ∷ 4 ∷ 0 ∷ []
 unfolding story
@@ -117,7 +120,7 @@ setsRefusal = refl
 -- ---- a deletion's FQ-CSID is skipped, but framed
 
 unfoldable pub deletes : List ℕ → Told
-deletes xs = told (serve (encode (unit 4 2) sessions) (message 54 1 (0 ∷ 0 ∷ 9 ∷ []) xs) space)
+deletes xs = told (serve (encode (unit 8 2) sessions) 1 (message 54 1 (0 ∷ 0 ∷ 9 ∷ []) xs) space)
 
 pub setsSkipped : map deletes (listsNone ∷ element 65 [] ∷ (0 ∷ 65 ∷ 0 ∷ 9 ∷ []) ∷ []) ≡ toldAs 1 0 ∷ toldAs 1 0 ∷ toldAs 68 16 ∷ []
 unfolding story deletes

@@ -13,7 +13,7 @@ use Rattle.rules.proofs.RestorationExamples.{history, endpointOf, namin
 
 -- two sessions, 4 and 9
 unfoldable pub kept : List ℕ
-kept = tableAfterAll (encode (unit 2 4) []) history
+kept = tableAfterAll (encode (unit 4 4) []) history
 
 -- the control plane at 198.51.100.1
 unfoldable pub plane : List ℕ
@@ -50,6 +50,7 @@ pub writerRequest :
     ≡ record {
       outcome = 0;
       used = 132;
+      peer = 1;
       space =
           0x21 ∷ 0x32 ∷ 0x00 ∷ 0x80 ∷ 0x00 ∷ 0x00 ∷ 0x00 ∷ 0x00 ∷ 0x00 ∷ 0x00 ∷ 0x00 ∷ 0x00 ∷ 0x00 ∷ 0x00 ∷ 0x01 ∷ 0x00
           ∷ 0x00 ∷ 0x39 ∷ 0x00 ∷ 0x0d ∷ 0x02 ∷ 0x00 ∷ 0x00 ∷ 0x00 ∷ 0x00 ∷ 0x00 ∷ 0x00 ∷ 0x00 ∷ 0x04 ∷ 0xc6 ∷ 0x33 ∷ 0x64 ∷ 0x01

@@ -10,12 +10,12 @@ use lib.Dec.{eqb}
 use Rattle.octets.specs.Choice.{pick, bindOption, isNil, headOr}
 use Rattle.octets.specs.Octets.{sameOctets}
 use Rattle.octets.specs.Lists.{keep, member, any, insertBy, insertAll}
-use Rattle.rules.specs.Model.{Tunnel, Match, neither, tunnel, endpoint, Pdr, Endpoint, Csid, Session, Sessions, pdrId, endpointId, nodeTypeOf, seidOf}
+use Rattle.rules.specs.Model.{keyFor, Tunnel, Match, neither, tunnel, endpoint, Pdr, Endpoint, Csid, Session, Sessions, pdrId, endpointId, nodeTypeOf, sessionKey, hasPeer}
 use Rattle.rules.specs.Elements.{Fteid, given, choose, UeIp, ueGiven, ueChoose, ueOther, Fqcsid, sets, removal}
 use Rattle.rules.specs.Message.{deletion, setDeletion}
 use Rattle.rules.specs.Request.{NewPdr, NewEndpoint, Change, CsidChanges, cleared, changed, Request}
 use Rattle.rules.specs.Grants.{Kind, ofPdr, ofEndpoint, Got}
-use Rattle.rules.specs.Stages.{hasSeid, atEntry, removedPdrs}
+use Rattle.rules.specs.Stages.{hasKey, atEntry, removedPdrs}
 
 -- ---- records
 
@@ -106,6 +106,7 @@ endpointsAfter got r es = insertAll endpointId (map (madeEndpoint got) (r .endpo
 unfoldable pub apply : (Kind → ℕ → Got) → Request → Session → Session
 apply got r x =
     record {
+      peer = x .peer;
       seid = x .seid;
       pdrs = pdrsAfter got r (x .pdrs);
       endpoints = endpointsAfter got r (x .endpoints);
@@ -115,14 +116,14 @@ apply got r x =
 -- ---- the sessions
 
 unfoldable pub otherSession : ℕ → Session → Bool
-otherSession n x = not (hasSeid n x)
+otherSession k x = not (hasKey k x)
 
--- the sessions without the one of a SEID, and with another in its place
+-- the sessions without the one of a key, and with another in its place
 unfoldable pub removeSession : ℕ → Sessions → Sessions
-removeSession n m = keep (otherSession n) m
+removeSession k m = keep (otherSession k) m
 
 unfoldable pub putSession : Session → Sessions → Sessions
-putSession x m = insertBy seidOf x (removeSession (x .seid) m)
+putSession x m = insertBy sessionKey x (removeSession (sessionKey x) m)
 
 -- ---- set deletions (02 (vii))
 
@@ -138,16 +139,17 @@ coversSession x l = any (covers l) (x .csids)
 unfoldable pub goesSession : List Fqcsid → Session → Bool
 goesSession ls x = any (coversSession x) ls
 
-unfoldable pub staysSession : List Fqcsid → Session → Bool
-staysSession ls x = not (goesSession ls x)
+-- of the peer's own sessions (02 (xiv))
+unfoldable pub staysSession : ℕ → List Fqcsid → Session → Bool
+staysSession who ls x = not (hasPeer who x && goesSession ls x)
 
 -- ---- what an accepted request makes of them
 
--- establishment adds, modification changes, deletion takes out, set deletion takes out every match
-unfoldable pub follow : (Kind → ℕ → Got) → ℕ → ℕ → Request → Sessions → Sessions
-follow got kind header r m =
-    pick (eqb kind setDeletion) (keep (staysSession (r .listed)) m)
-    (pick (eqb kind deletion) (removeSession header m) (putSession (apply got r (atEntry kind header r m)) m))
+-- establishment adds, modification changes, deletion takes out, set deletion takes out every match, each of its peer's sessions alone
+unfoldable pub follow : (Kind → ℕ → Got) → ℕ → ℕ → ℕ → Request → Sessions → Sessions
+follow got kind who header r m =
+    pick (eqb kind setDeletion) (keep (staysSession who (r .listed)) m)
+    (pick (eqb kind deletion) (removeSession (keyFor who header) m) (putSession (apply got r (atEntry kind who header r m)) m))
 
 unfoldable pub computing : ℕ
 unfolding tunnelFrom namedMatch matchFrom addressGot addressFrom madePdr madeEndpoint orOld changedPdr updateAll otherNode setCsid setCsids followCsids keptPdr keptEndpoint pdrsAfter endpointsAfter apply otherSession removeSession putSession covers coversSession goesSession staysSession follow

@@ -19,7 +19,7 @@ abbrev pub barePdr : Pdr → Pdr
 barePdr p = pdrWith 0 none p
 
 abbrev pub bareSession : Session → Session
-bareSession x = record { seid = x .seid; pdrs = map barePdr (x .pdrs); endpoints = x .endpoints; csids = x .csids }
+bareSession x = record { peer = x .peer; seid = x .seid; pdrs = map barePdr (x .pdrs); endpoints = x .endpoints; csids = x .csids }
 
 abbrev pub bare : Sessions → Sessions
 bare m = map bareSession m

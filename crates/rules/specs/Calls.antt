@@ -8,25 +8,25 @@ use Rattle.rules.specs.Model.{Sessions}
 use Rattle.rules.specs.Serve.{serve}
 use Rattle.rules.specs.Live.{Event, replied, counted, live}
 
--- a call: a request with its message and reply space, or a count of free TEIDs or addresses
+-- a call: a request with its peer's number, its message and reply space, or a count of free TEIDs or addresses
 pub data Call : Type 0 where
-  request : List ℕ → List ℕ → Call
+  request : ℕ → List ℕ → List ℕ → Call
   count countIps : Call
 
 -- any octets at all
 unfoldable pub callAllowed : Call → Bool
-callAllowed (request msg space) = octets msg && octets space
+callAllowed (request who msg space) = octets msg && octets space
 callAllowed count = true
 callAllowed countIps = true
 
 -- the table after a call, and what the host sees of it
 unfoldable pub tableAfterCall : List ℕ → Call → List ℕ
-tableAfterCall t (request msg space) = serve t msg space .table
+tableAfterCall t (request who msg space) = serve t who msg space .table
 tableAfterCall t count = t
 tableAfterCall t countIps = t
 
 unfoldable pub eventOf : List ℕ → Call → Event
-eventOf t (request msg space) = replied msg (serve t msg space .outcome) (serve t msg space .space)
+eventOf t (request who msg space) = replied who msg (serve t who msg space .outcome) (serve t who msg space .space)
 eventOf t count = counted
 eventOf t countIps = counted
 

@@ -1,5 +1,5 @@
--- What a table tells beside its requests (the library's reading calls): how many sessions there are, the place of a SEID, and for a TEID the
--- place of the session that holds it. A place counts sessions from 0, in the table's order.
+-- What a table tells beside its requests (the library's reading calls): how many sessions there are, the place of a peer's SEID, for a TEID the
+-- place of the session that holds it, and what a peer has. A place counts sessions from 0, in the table's order.
 -- Assumes nothing.
 use Prim.Native.Nat.{ℕ, _+_}
 use mathlib.Core.Bool.{Bool}
@@ -8,18 +8,19 @@ use mathlib.Core.List.{List, [], _∷_}
 use lib.ListN.{length}
 use Rattle.octets.specs.Choice.{pick}
 use Rattle.octets.specs.Lists.{member}
-use Rattle.rules.specs.Model.{Session, Sessions, sessionTeids}
+use Rattle.rules.specs.Model.{Session, Sessions, keyFor, sessionTeids, isPeer, ofPeer, holdings}
 use Rattle.rules.specs.Layout.{viewSessions}
 use Rattle.rules.specs.Sound.{sound}
-use Rattle.rules.specs.Stages.{hasSeid}
+use Rattle.rules.specs.Stages.{hasKey}
 
 -- the place of the first session for which a test holds; the list's first one stands at i
 unfoldable pub placeFrom : ℕ → (Session → Bool) → Sessions → Option ℕ
 placeFrom i p [] = none
 placeFrom i p (x ∷ m) = let t = placeFrom (i + 1) p m in pick (p x) (some i) t
 
-unfoldable pub sessionPlace : ℕ → Sessions → Option ℕ
-sessionPlace seid m = placeFrom 0 (hasSeid seid) m
+-- of a peer's SEID
+unfoldable pub sessionPlace : ℕ → ℕ → Sessions → Option ℕ
+sessionPlace who seid m = placeFrom 0 (hasKey (keyFor who seid)) m
 
 -- a record of the session holds the TEID
 unfoldable pub isHolder : ℕ → Session → Bool
@@ -44,12 +45,28 @@ findIn t o = pick (sound t) (findingOf o) (record { outcome = 1; number = 0 })
 unfoldable pub countSessions : List ℕ → Finding
 countSessions t = findIn t (some (length (viewSessions t)))
 
-unfoldable pub findSession : List ℕ → ℕ → Finding
-findSession t seid = findIn t (sessionPlace seid (viewSessions t))
+unfoldable pub findSession : List ℕ → ℕ → ℕ → Finding
+findSession t who seid = findIn t (sessionPlace who seid (viewSessions t))
 
 unfoldable pub findHolder : List ℕ → ℕ → Finding
 findHolder t teid = findIn t (holderPlace teid (viewSessions t))
 
+-- what a peer has (02 (xiv)), by which an operator understands a 75: 0, its sessions and the different TEIDs that their records hold; or 7 no peer, 1 a
+-- broken table, and zeros
+pub record Share : Type 0 where
+  pub outcome : ℕ
+  pub sessions : ℕ
+  pub teids : ℕ
+
+abbrev pub unshared : ℕ → Share
+unshared n = record { outcome = n; sessions = 0; teids = 0 }
+
+unfoldable pub countPeer : List ℕ → ℕ → Share
+countPeer t who =
+    pick (isPeer who)
+    (pick (sound t) (record { outcome = 0; sessions = length (ofPeer who (viewSessions t)); teids = holdings who (viewSessions t) }) (unshared 1))
+    (unshared 7)
+
 unfoldable pub computing : ℕ
-unfolding placeFrom sessionPlace isHolder holderPlace findIn countSessions findSession findHolder
+unfolding placeFrom sessionPlace isHolder holderPlace findIn countSessions findSession findHolder countPeer
 computing = 0

@@ -1,9 +1,10 @@
 -- The table's octets: `encode` writes settings and sessions, `view` reads any octets back.
 -- The layout is the team's (01: "fixed by the team and written in docs/"); every number is big-endian, unused room is zero.
 --
---   table     settings 39, session count 2, as many session slots as the settings' limit says
---   settings  IPv4 4, IPv6 there 1, IPv6 16, first TEID 4, pool size 4, first address 4, number of addresses 4, session limit 2
---   session   SEID 8, PDR count 1, endpoint count 1, FQ-CSID count 1, 16 PDR slots, 8 endpoint slots, 6 FQ-CSID slots
+--   table     settings 63, session count 2, as many session slots as the settings' limit says
+--   settings  IPv4 4, IPv6 there 1, IPv6 16, first TEID 4, pool size 4, first address 4, number of addresses 4, session limit 2,
+--             then for each peer its address 4, guarantee 4, limit 4
+--   session   peer 1, SEID 8, PDR count 1, endpoint count 1, FQ-CSID count 1, 16 PDR slots, 8 endpoint slots, 6 FQ-CSID slots
 --   PDR       ID 2, precedence 4, FAR there 1, FAR ID 4, source interface 1, match 1 (0 neither, 1 F-TEID, 2 endpoint),
 --             TEID 4, families 1 (V4 = 1, V6 = 2), endpoint ID 1, address there 1, address 4
 --   endpoint  ID 1, TEID 4, families 1, address there 1, address 4
@@ -22,7 +23,7 @@ use lib.Dec.{eqb}
 use Rattle.octets.specs.Choice.{pick, flag, isNil, isSome, valueOr}
 use Rattle.octets.specs.Octets.{be, part, number, numberAt, octetAt, bit, padded, slices, concatMap}
 use Rattle.octets.specs.Fields.{widthOf, fieldsAt, fieldOctets}
-use Rattle.rules.specs.Model.{Settings, Tunnel, Match, neither, tunnel, endpoint, Pdr, Endpoint, Csid, Session, Sessions}
+use Rattle.rules.specs.Model.{Settings, Tunnel, Match, neither, tunnel, endpoint, Pdr, Endpoint, Csid, Session, Sessions, Peer}
 use Rattle.rules.specs.Limits.{maxPdrs, maxEndpoints, nodeTypes}
 use Rattle.rules.specs.Elements.{addressLength}
 
@@ -123,9 +124,10 @@ csidFrom vs =
 
 -- ---- widths and places
 
--- the settings: IPv4 address, whether there is an IPv6 address, that address, first TEID, pool size, first address, number of addresses, session limit
+-- the settings: IPv4 address, whether there is an IPv6 address, that address, first TEID, pool size, first address, number of addresses, session limit;
+-- each peer's address, guarantee and limit
 abbrev pub settingsWidths : List ℕ
-settingsWidths = 4 ∷ 1 ∷ 16 ∷ 4 ∷ 4 ∷ 4 ∷ 4 ∷ 2 ∷ []
+settingsWidths = 4 ∷ 1 ∷ 16 ∷ 4 ∷ 4 ∷ 4 ∷ 4 ∷ 2 ∷ 4 ∷ 4 ∷ 4 ∷ 4 ∷ 4 ∷ 4 ∷ []
 
 abbrev pub settingsWidth : ℕ
 settingsWidth = widthOf settingsWidths
@@ -154,6 +156,13 @@ addressCountAt = widthOf (take 6 settingsWidths)
 
 abbrev pub limitAt : ℕ
 limitAt = widthOf (take 7 settingsWidths)
+
+-- where the peers' stand
+abbrev pub peer1At : ℕ
+peer1At = widthOf (take 8 settingsWidths)
+
+abbrev pub peer2At : ℕ
+peer2At = widthOf (take 11 settingsWidths)
 
 -- the settings, and the number of sessions after them
 abbrev pub headWidth : ℕ
@@ -225,9 +234,15 @@ csidAddressRestAt = widthOf (take 3 csidSlotWidths)
 abbrev pub csidNumberAt : ℕ
 csidNumberAt = widthOf (take 4 csidSlotWidths)
 
--- in a session's slot: the numbers of its records after the SEID, and the areas of its records
+-- in a session's slot: the SEID after the peer, the two together its key; the numbers of its records; and the areas of its records
+abbrev pub seidAt : ℕ
+seidAt = 1
+
+abbrev pub keyWidth : ℕ
+keyWidth = seidAt + 8
+
 abbrev pub pdrCountAt : ℕ
-pdrCountAt = 8
+pdrCountAt = keyWidth
 
 abbrev pub endpointCountAt : ℕ
 endpointCountAt = pdrCountAt + 1
@@ -268,16 +283,20 @@ csidOctets c = fieldOctets csidSlotWidths (csidSlotNumbers c)
 
 unfoldable pub sessionOctets : Session → List ℕ
 sessionOctets x =
-    be 8 (x .seid)
+    x .peer
+    ∷ be 8 (x .seid)
     ++ (length (x .pdrs) ∷ length (x .endpoints) ∷ length (x .csids)
     ∷ area pdrOctets pdrWidth maxPdrs (x .pdrs)
     ++ (area endpointOctets endpointWidth maxEndpoints (x .endpoints) ++ area csidOctets csidWidth nodeTypes (x .csids)))
+
+unfoldable pub peerOctets : Peer → List ℕ
+peerOctets q = be 4 (q .address) ++ (be 4 (q .guarantee) ++ be 4 (q .limit))
 
 unfoldable pub settingsOctets : Settings → List ℕ
 settingsOctets s =
     s .ipv4
     ++ (flag (not (isNil (s .ipv6)))
-    ∷ padded 16 (s .ipv6) ++ (be 4 (s .first) ++ (be 4 (s .size) ++ (be 4 (s .firstAddress) ++ (be 4 (s .addressCount) ++ be 2 (s .limit))))))
+    ∷ padded 16 (s .ipv6) ++ (be 4 (s .first) ++ (be 4 (s .size) ++ (be 4 (s .firstAddress) ++ (be 4 (s .addressCount) ++ (be 2 (s .limit) ++ (peerOctets (s .peer1) ++ peerOctets (s .peer2))))))))
 
 unfoldable pub encode : Settings → Sessions → List ℕ
 encode s m = settingsOctets s ++ (be 2 (length m) ++ area sessionOctets sessionWidth (s .limit) m)
@@ -300,11 +319,15 @@ viewArea g w n at xs = map g (slices w n (drop at xs))
 unfoldable pub viewSession : List ℕ → Session
 viewSession xs =
     record {
-      seid = numberAt 0 8 xs;
+      peer = octetAt xs 0;
+      seid = numberAt seidAt 8 xs;
       pdrs = viewArea viewPdr pdrWidth (octetAt xs pdrCountAt) pdrsAt xs;
       endpoints = viewArea viewEndpoint endpointWidth (octetAt xs endpointCountAt) endpointsAt xs;
       csids = viewArea viewCsid csidWidth (octetAt xs csidCountAt) csidsAt xs;
     }
+
+unfoldable pub viewPeer : ℕ → List ℕ → Peer
+viewPeer at xs = record { address = numberAt at 4 xs; guarantee = numberAt (at + 4) 4 xs; limit = numberAt (at + 8) 4 xs }
 
 unfoldable pub viewSettings : List ℕ → Settings
 viewSettings xs =
@@ -316,11 +339,13 @@ viewSettings xs =
       firstAddress = numberAt firstAddressAt 4 xs;
       addressCount = numberAt addressCountAt 4 xs;
       limit = numberAt limitAt 2 xs;
+      peer1 = viewPeer peer1At xs;
+      peer2 = viewPeer peer2At xs;
     }
 
 unfoldable pub viewSessions : List ℕ → Sessions
 viewSessions xs = viewArea viewSession sessionWidth (numberAt settingsWidth 2 xs) headWidth xs
 
 unfoldable pub computing : ℕ
-unfolding fieldsAt fieldOctets optionRead families tunnelRead matchKind matchTeid matchFamilies matchEndpoint matchRead pdrNumbers pdrFrom endpointNumbers endpointFrom csidSlotNumbers addressRead csidFrom area pdrOctets endpointOctets csidOctets sessionOctets settingsOctets encode viewPdr viewEndpoint viewCsid viewArea viewSession viewSettings viewSessions
+unfolding fieldsAt fieldOctets optionRead families tunnelRead matchKind matchTeid matchFamilies matchEndpoint matchRead pdrNumbers pdrFrom endpointNumbers endpointFrom csidSlotNumbers addressRead csidFrom area pdrOctets endpointOctets csidOctets sessionOctets peerOctets settingsOctets encode viewPdr viewEndpoint viewCsid viewArea viewSession viewPeer viewSettings viewSessions
 computing = 0

@@ -15,9 +15,9 @@ use Rattle.rules.specs.Grants.{Kind, ofPdr, ofEndpoint, Got}
 use Rattle.rules.specs.Apply.{follow}
 use Rattle.rules.specs.Types as ie
 
--- what the host sees of a call: a request with its message, the outcome and the reply space at exit; or a free count
+-- what the host sees of a call: a request with its peer, its message, the outcome and the reply space at exit; or a free count
 pub data Event : Type 0 where
-  replied : List ℕ → ℕ → List ℕ → Event
+  replied : ℕ → List ℕ → ℕ → List ℕ → Event
   counted : Event
 
 -- ---- reading a reply
@@ -70,11 +70,11 @@ createdGot space k i = record { teid = createdTeid space k i; address = createdA
 
 -- outcome 0 and the reply's cause 1
 unfoldable pub acceptedEvent : Event → Bool
-acceptedEvent (replied msg outcome space) = eqb outcome 0 && eqb (replyCause space) 1
+acceptedEvent (replied who msg outcome space) = eqb outcome 0 && eqb (replyCause space) 1
 acceptedEvent counted = false
 
 unfoldable pub followEvent : Sessions → Event → Sessions
-followEvent m (replied msg outcome space) = follow (createdGot space) (kindOf msg) (headerSeid msg) (readRequest msg) m
+followEvent m (replied who msg outcome space) = follow (createdGot space) (kindOf msg) who (headerSeid msg) (readRequest msg) m
 followEvent m counted = m
 
 unfoldable pub liveStep : Sessions → Event → Sessions

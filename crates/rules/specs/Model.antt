@@ -1,17 +1,23 @@
 -- The unit's settings and the live sessions, as the table holds them (01, "Settings and table").
 -- Assumes nothing.
-use Prim.Native.Nat.{ℕ, _+_, _-_}
-use mathlib.Core.Bool.{Bool, true, false, _&&_}
+use Prim.Native.Nat.{ℕ, _+_, _-_, _*_, _/_, _^_}
+use mathlib.Core.Bool.{Bool, true, false, _&&_, _||_}
 use mathlib.Core.Option.{Option, none, some}
 use mathlib.Core.List.{List, [], _∷_, _++_, map}
-use lib.Dec.{leb, ltb}
-use Rattle.octets.specs.Choice.{mapOption}
+use lib.Dec.{leb, ltb, eqb}
+use Rattle.octets.specs.Choice.{mapOption, pick}
 use Rattle.octets.specs.Lists.{distinct, without, range, keep, collect}
 
 -- ---- records
 
+-- A control plane (02 (xiv)): its signalling IPv4 address on the unit, as a number; how many TEIDs it is guaranteed, and how many it may hold.
+pub record Peer : Type 0 where
+  pub address : ℕ
+  pub guarantee : ℕ
+  pub limit : ℕ
+
 -- The settings: the unit's addresses (the IPv6 one empty where there is none), its pool of TEIDs, its pool of IPv4 addresses for patients
--- (02 (v)), an address as a number, and how many sessions it has room for (02 (vi)).
+-- (02 (v)), an address as a number, how many sessions it has room for (02 (vi)), and its two peers (02 (xiv)).
 pub record Settings : Type 0 where
   pub ipv4 : List ℕ
   pub ipv6 : List ℕ
@@ -20,6 +26,8 @@ pub record Settings : Type 0 where
   pub firstAddress : ℕ
   pub addressCount : ℕ
   pub limit : ℕ
+  pub peer1 : Peer
+  pub peer2 : Peer
 
 -- a held F-TEID: its addresses are the unit's
 pub record Tunnel : Type 0 where
@@ -53,14 +61,15 @@ pub record Csid : Type 0 where
   pub address : List ℕ
   pub csid : ℕ
 
--- PDRs and endpoints in ascending order of ID, FQ-CSIDs of node type
+-- its peer, 1 or 2, and its SEID among that peer's sessions; PDRs and endpoints in ascending order of ID, FQ-CSIDs of node type
 pub record Session : Type 0 where
+  pub peer : ℕ
   pub seid : ℕ
   pub pdrs : List Pdr
   pub endpoints : List Endpoint
   pub csids : List Csid
 
--- sessions in ascending order of SEID
+-- sessions in ascending order of peer, then SEID
 abbrev pub Sessions : Type 0
 Sessions = List Session
 
@@ -148,6 +157,36 @@ freeAddressCount s m = s .addressCount - distinct (heldAddresses s m)
 unfoldable pub freeAddresses : Settings → Sessions → List ℕ
 freeAddresses s m = without (range (s .firstAddress) (s .addressCount)) (heldAddresses s m)
 
+-- ---- the two peers (02 (xiv))
+
+unfoldable pub isPeer : ℕ → Bool
+isPeer who = eqb who 1 || eqb who 2
+
+unfoldable pub otherPeer : ℕ → ℕ
+otherPeer who = pick (eqb who 1) 2 1
+
+unfoldable pub peerOf : Settings → ℕ → Peer
+peerOf s who = pick (eqb who 1) (s .peer1) (s .peer2)
+
+-- how many sessions each may have: half the session limit, rounded down
+unfoldable pub half : Settings → ℕ
+half s = s .limit / 2
+
+unfoldable pub hasPeer : ℕ → Session → Bool
+hasPeer who x = eqb (x .peer) who
+
+-- the sessions of one
+unfoldable pub ofPeer : ℕ → Sessions → Sessions
+ofPeer who m = keep (hasPeer who) m
+
+-- how many different TEIDs its records hold
+unfoldable pub holdings : ℕ → Sessions → ℕ
+holdings who m = distinct (heldTeids (ofPeer who m))
+
+-- and how many of those guaranteed to it they don't
+unfoldable pub unused : Settings → ℕ → Sessions → ℕ
+unused s who m = peerOf s who .guarantee - holdings who m
+
 -- ---- keys
 
 abbrev pub pdrId : Pdr → ℕ
@@ -159,9 +198,13 @@ endpointId e = e .id
 abbrev pub nodeTypeOf : Csid → ℕ
 nodeTypeOf c = c .nodeType
 
-abbrev pub seidOf : Session → ℕ
-seidOf s = s .seid
+-- one number for a peer and a SEID, which is below 2 ^ 64: by it sessions are told apart, and stand in order of peer, then SEID
+unfoldable pub keyFor : ℕ → ℕ → ℕ
+keyFor who n = who * 2 ^ 64 + n
+
+abbrev pub sessionKey : Session → ℕ
+sessionKey x = keyFor (x .peer) (x .seid)
 
 unfoldable pub computing : ℕ
-unfolding matchedTunnel matchedEndpoint pdrEndpoint tunnelHolding pdrHolding endpointHolding sessionHoldings sessionTeids heldTeids freeCount freeTeids inAddressPool sessionAddresses heldAddresses freeAddressCount freeAddresses
+unfolding matchedTunnel matchedEndpoint pdrEndpoint tunnelHolding pdrHolding endpointHolding sessionHoldings sessionTeids heldTeids freeCount freeTeids inAddressPool sessionAddresses heldAddresses freeAddressCount freeAddresses isPeer otherPeer peerOf half hasPeer ofPeer holdings unused keyFor
 computing = 0

@@ -9,6 +9,7 @@ use lib.Dec.{leb, eqb}
 use lib.ListN.{length}
 use Rattle.octets.specs.Choice.{pick, isSome}
 use Rattle.octets.specs.Octets.{number, put}
+use Rattle.rules.specs.Model.{isPeer}
 use Rattle.rules.specs.Layout.{viewSettings, viewSessions}
 use Rattle.rules.specs.Message.{sequenceOf}
 use Rattle.rules.specs.Stages.{verdict}
@@ -56,8 +57,8 @@ abbrev pub again : List ℕ → List ℕ → List ℕ → List ℕ → Once
 again r t store space = record { outcome = 0; used = length r; place = 0; space = put 0 r space; table = t; store = store }
 
 -- the engine's reply to a request
-unfoldable pub engineReply : List ℕ → List ℕ → List ℕ
-engineReply t msg = replyTo (viewSettings t) (viewSessions t) msg (verdict (viewSettings t) (viewSessions t) msg)
+unfoldable pub engineReply : List ℕ → ℕ → List ℕ → List ℕ
+engineReply t who msg = replyTo (viewSettings t) who (viewSessions t) msg (verdict (viewSettings t) who (viewSessions t) msg)
 
 -- the engine's answer with a reply, which the store keeps
 abbrev pub anew : Served → List ℕ → List ℕ → List ℕ → Once
@@ -65,16 +66,19 @@ anew s reply store msg =
     record { outcome = s .outcome; used = length reply; place = s .place; space = s .space; table = s .table; store = storeOctets (remember (entry msg reply) (storeEntries store)) }
 
 -- a request that passed outcomes 1 to 5: it is stored, or its number is newer, or it is dropped
-unfoldable pub byStore : Option (List ℕ) → List ℕ → List ℕ → List ℕ → List ℕ → Once
-byStore (some r) t store msg space = again r t store space
-byStore none t store msg space = pick (takes (storeEntries store) msg) (anew (serve t msg space) (engineReply t msg) store msg) (unanswered 6 t store space)
+unfoldable pub byStore : Option (List ℕ) → List ℕ → ℕ → List ℕ → List ℕ → List ℕ → Once
+byStore (some r) t who store msg space = again r t store space
+byStore none t who store msg space = pick (takes (storeEntries store) msg) (anew (serve t who msg space) (engineReply t who msg) store msg) (unanswered 6 t store space)
 
--- outcome 1 for a broken store too; outcomes 1 to 5 as the engine has them, then the store
-unfoldable pub requestOnce : List ℕ → List ℕ → List ℕ → List ℕ → Once
-requestOnce t store msg space =
-    pick (storeSound store)
-    (pick (eqb (serve t msg space .outcome) 0) (byStore (storedReply msg (storeEntries store)) t store msg space) (unanswered (serve t msg space .outcome) t store space))
-    (unanswered 1 t store space)
+-- outcome 7 for a number that is no peer's (02 (xiv)), whatever the store; outcome 1 for a broken store of the peer's too; outcomes 1 to 5 as the engine
+-- has them, then that store
+unfoldable pub requestOnce : List ℕ → ℕ → List ℕ → List ℕ → List ℕ → Once
+requestOnce t who store msg space =
+    pick (isPeer who)
+    (pick (storeSound store)
+    (pick (eqb (serve t who msg space .outcome) 0) (byStore (storedReply msg (storeEntries store)) t who store msg space) (unanswered (serve t who msg space .outcome) t store space))
+    (unanswered 1 t store space))
+    (unanswered 7 t store space)
 
 -- whether a request with a reply reaches the engine: it is not stored, and its number is newer
 unfoldable pub reaches : List ℕ → List ℕ → Bool

@@ -9,7 +9,7 @@ use lib.Dec.{eqb}
 use Rattle.octets.specs.Choice.{pick, bindOption, isSome}
 use Rattle.octets.specs.Octets.{be, concatMap}
 use Rattle.octets.specs.Lists.{keep}
-use Rattle.rules.specs.Model.{Settings, Tunnel}
+use Rattle.rules.specs.Model.{Settings, peerOf, Tunnel}
 use Rattle.rules.specs.Elements.{Fteid, given, choose, fteidOctets, unitFteid, UeIp, ueGiven, ueOctets, ueChooses, fseidOctets}
 use Rattle.rules.specs.Message.{establishment, setDeletion, firstWithSeid, firstWithoutSeid, countedPlace, bodyPlace, listPlace, kindOf, seidThere, headerSeid, sequenceOf}
 use Rattle.rules.specs.Request.{NewPdr, NewEndpoint, Request}
@@ -111,30 +111,30 @@ unfoldable pub offendingElement : Option ℕ → List ℕ
 offendingElement none = []
 offendingElement (some t) = element ie.offendingIe (be 2 t)
 
--- Node ID, in the replies to establishments and set deletions only
-unfoldable pub nodeIdElement : ℕ → Settings → List ℕ
-nodeIdElement kind s = pick (eqb kind establishment || eqb kind setDeletion) (element ie.nodeId (0 ∷ s .ipv4)) []
+-- Node ID, in the replies to establishments and set deletions only: home is the peer's signalling address on the unit (02 (xiv))
+unfoldable pub nodeIdElement : ℕ → ℕ → List ℕ
+nodeIdElement kind home = pick (eqb kind establishment || eqb kind setDeletion) (element ie.nodeId (0 ∷ be 4 home)) []
 
 -- the unit's F-SEID, in an accepted establishment's reply only: its SEID equals the peer's
-unfoldable pub unitFseid : ℕ → Settings → ℕ → List ℕ
-unitFseid kind s seid = pick (eqb kind establishment) (element ie.fseid (fseidOctets seid (s .ipv4) [])) []
+unfoldable pub unitFseid : ℕ → ℕ → ℕ → List ℕ
+unitFseid kind home seid = pick (eqb kind establishment) (element ie.fseid (fseidOctets seid (be 4 home) [])) []
 
-unfoldable pub acceptedPart : ℕ → Settings → ℕ → Reports → List ℕ
-acceptedPart kind s seid gs = unitFseid kind s seid ++ created s gs
+unfoldable pub acceptedPart : ℕ → Settings → ℕ → ℕ → Reports → List ℕ
+acceptedPart kind s home seid gs = unitFseid kind home seid ++ created s gs
 
-unfoldable pub replyBody : ℕ → Settings → ℕ → Verdict → Reports → List ℕ
-replyBody kind s seid v gs =
-    nodeIdElement kind s
-    ++ (element ie.cause (v .cause ∷ []) ++ (offendingElement (v .offending) ++ pick (eqb (v .cause) why.accepted) (acceptedPart kind s seid gs) []))
+unfoldable pub replyBody : ℕ → Settings → ℕ → ℕ → Verdict → Reports → List ℕ
+replyBody kind s home seid v gs =
+    nodeIdElement kind home
+    ++ (element ie.cause (v .cause ∷ []) ++ (offendingElement (v .offending) ++ pick (eqb (v .cause) why.accepted) (acceptedPart kind s home seid gs) []))
 
 -- the session's SEID, but 0 for cause 65 and refused establishments
 unfoldable pub replySeid : ℕ → ℕ → ℕ → ℕ → ℕ
 replySeid kind cause header seid = pick (eqb kind establishment) (pick (eqb cause why.accepted) seid 0) (pick (eqb cause why.noSession) 0 header)
 
 -- with a SEID where the request has one; seid is the F-SEID's, gs are the reports of an accepted request
-unfoldable pub reply : Settings → List ℕ → ℕ → Verdict → Reports → List ℕ
-reply s msg seid v gs =
-    let xs = replyBody (kindOf msg) s seid v gs in
+unfoldable pub reply : Settings → ℕ → List ℕ → ℕ → Verdict → Reports → List ℕ
+reply s who msg seid v gs =
+    let xs = replyBody (kindOf msg) s (peerOf s who .address) seid v gs in
     pick (seidThere msg)
     (message (kindOf msg + 1) (replySeid (kindOf msg) (v .cause) (headerSeid msg) seid) (sequenceOf msg) xs)
     (listMessage (kindOf msg + 1) (sequenceOf msg) xs)

@@ -16,7 +16,7 @@ use Rattle.rules.specs.Restoration.{Sender, restoration}
 
 -- the session at a place, from 0
 unfoldable pub sessionAt : Sessions → ℕ → Session
-sessionAt m place = getD m place (newSession 0)
+sessionAt m place = getD m place (newSession 0 0)
 
 -- the control plane's addresses: 4 octets or none, 16 octets or none, and one of them at least
 unfoldable pub addressTests : List ℕ → List ℕ → List Bool
@@ -33,20 +33,21 @@ senderAt place ipv4 ipv6 = record { header = 0; sequence = place + 1; ipv4 = ipv
 unfoldable pub restorationAt : List ℕ → ℕ → List ℕ → List ℕ → List ℕ
 restorationAt t place ipv4 ipv6 = restoration (viewSettings t) (senderAt place ipv4 ipv6) (sessionAt (viewSessions t) place)
 
--- the outcome, how many octets of the space hold the request, and the space at exit
+-- the outcome, how many octets of the space hold the request, the peer under which it is to be run (02 (xiv)), and the space at exit
 pub record Writing : Type 0 where
   pub outcome : ℕ
   pub used : ℕ
+  pub peer : ℕ
   pub space : List ℕ
 
 -- a refusal writes nothing
 abbrev pub unwritten : ℕ → List ℕ → Writing
-unwritten n space = record { outcome = n; used = 0; space = space }
+unwritten n space = record { outcome = n; used = 0; peer = 0; space = space }
 
 -- the request at the front of the space; what stands past it stays
-unfoldable pub writeInto : List ℕ → List ℕ → Writing
-writeInto request space =
-    pick (ltb (length space) (length request)) (unwritten 4 space) (record { outcome = 0; used = length request; space = put 0 request space })
+unfoldable pub writeInto : ℕ → List ℕ → List ℕ → Writing
+writeInto who request space =
+    pick (ltb (length space) (length request)) (unwritten 4 space) (record { outcome = 0; used = length request; peer = who; space = put 0 request space })
 
 -- a broken table 1, a place past the last session 2, no control-plane address 3, too little space 4; tested in this order
 unfoldable pub writeRestoration : List ℕ → ℕ → List ℕ → List ℕ → List ℕ → Writing
@@ -54,7 +55,7 @@ writeRestoration t place ipv4 ipv6 space =
     pick (not (sound t)) (unwritten 1 space)
     (pick (leb (length (viewSessions t)) place) (unwritten 2 space)
     (pick (not (senderAddressed ipv4 ipv6)) (unwritten 3 space)
-    (writeInto (restorationAt t place ipv4 ipv6) space)))
+    (writeInto (sessionAt (viewSessions t) place .peer) (restorationAt t place ipv4 ipv6) space)))
 
 unfoldable pub computing : ℕ
 unfolding sessionAt addressTests senderAddressed senderAt restorationAt writeInto writeRestoration

@@ -9,7 +9,7 @@ use lib.Dec.{leb, ltb, eqb}
 use Rattle.octets.specs.Choice.{pick, allOf, isNil, sameBool, flag}
 use Rattle.octets.specs.Octets.{octets, sameOctets}
 use Rattle.octets.specs.Lists.{member, anyIn, ascending, all, allPairs}
-use Rattle.rules.specs.Model.{Settings, Tunnel, Match, neither, tunnel, endpoint, Pdr, Endpoint, Csid, Session, Sessions, Holding, sessionHoldings, sessionTeids, heldTeids, freeCount, sessionAddresses, heldAddresses, freeAddressCount, pdrId, endpointId, nodeTypeOf, seidOf}
+use Rattle.rules.specs.Model.{Peer, isPeer, peerOf, half, ofPeer, holdings, unused, Settings, Tunnel, Match, neither, tunnel, endpoint, Pdr, Endpoint, Csid, Session, Sessions, Holding, sessionHoldings, sessionTeids, heldTeids, freeCount, sessionAddresses, heldAddresses, freeAddressCount, pdrId, endpointId, nodeTypeOf, sessionKey}
 use Rattle.rules.specs.Limits.{maxPdrs, maxEndpoints, nodeTypes, maxSessions, maxPool, maxAddresses}
 use Rattle.rules.specs.Elements.{nodeAddressAllowed, nodeTypeKept, below16}
 use Rattle.rules.specs.Layout.{tableLength, encode, viewSettings, viewSessions}
@@ -25,12 +25,21 @@ poolTests first size = leb 1 first ∷ leb 1 size ∷ leb size maxPool ∷ leb (
 unfoldable pub addressPoolTests : ℕ → ℕ → List Bool
 addressPoolTests first count = leb 1 count ∷ leb count maxAddresses ∷ leb (first + count) (2 ^ 32) ∷ []
 
--- room for 1 to 256 sessions (02 (vi))
+-- room for 2 to 256 sessions (02 (vi) and (xiv))
 unfoldable pub limitTests : ℕ → List Bool
-limitTests limit = leb 1 limit ∷ leb limit maxSessions ∷ []
+limitTests limit = leb 2 limit ∷ leb limit maxSessions ∷ []
 
 unfoldable pub ipv6Allowed : List ℕ → Bool
 ipv6Allowed a = isNil a || eqb (length a) 16
+
+-- a peer's limit is from its guarantee to the pool's size (02 (xiv))
+unfoldable pub peerTests : ℕ → Peer → List Bool
+peerTests size q = ltb (q .address) (2 ^ 32) ∷ leb (q .guarantee) (q .limit) ∷ leb (q .limit) size ∷ []
+
+-- the two have other addresses, and their guarantees together don't exceed the pool
+unfoldable pub peersTests : ℕ → Peer → Peer → List Bool
+peersTests size q r =
+    allOf (peerTests size q) ∷ allOf (peerTests size r) ∷ not (eqb (q .address) (r .address)) ∷ leb (q .guarantee + r .guarantee) size ∷ []
 
 unfoldable pub settingsTests : Settings → List Bool
 settingsTests s =
@@ -41,6 +50,7 @@ settingsTests s =
     ∷ allOf (poolTests (s .first) (s .size))
     ∷ allOf (addressPoolTests (s .firstAddress) (s .addressCount))
     ∷ allOf (limitTests (s .limit))
+    ∷ allOf (peersTests (s .size) (s .peer1) (s .peer2))
     ∷ []
 
 unfoldable pub settingsAllowed : Settings → Bool
@@ -124,6 +134,7 @@ sessionTests s x =
     ∷ leb (length (x .csids)) nodeTypes
     ∷ ascending (map nodeTypeOf (x .csids))
     ∷ all csidAllowed (x .csids)
+    ∷ isPeer (x .peer)
     ∷ allPairs agree (sessionHoldings x)
     ∷ []
 
@@ -134,8 +145,23 @@ sessionAllowed s x = allOf (sessionTests s x)
 unfoldable pub apart : Settings → Session → Session → Bool
 apart s x y = not (anyIn (sessionTeids x) (sessionTeids y)) && not (anyIn (sessionAddresses s x) (sessionAddresses s y))
 
+-- a peer has its half of the sessions at most (02 (xiv))
+unfoldable pub fewSessions : Settings → ℕ → Sessions → Bool
+fewSessions s who m = leb (length (ofPeer who m)) (half s)
+
+-- and its limit of TEIDs
+unfoldable pub fewTeids : Settings → ℕ → Sessions → Bool
+fewTeids s who m = leb (holdings who m) (peerOf s who .limit)
+
+-- its holdings or its guarantee, whichever is more
+unfoldable pub due : Settings → ℕ → Sessions → ℕ
+due s who m = holdings who m + unused s who m
+
+unfoldable pub peersKept : Settings → Sessions → List Bool
+peersKept s m = fewSessions s 1 m ∷ fewSessions s 2 m ∷ fewTeids s 1 m ∷ fewTeids s 2 m ∷ leb (due s 1 m + due s 2 m) (s .size) ∷ []
+
 unfoldable pub sessionsTests : Settings → Sessions → List Bool
-sessionsTests s m = leb (length m) (s .limit) ∷ ascending (map seidOf m) ∷ all (sessionAllowed s) m ∷ allPairs (apart s) m ∷ []
+sessionsTests s m = allOf (peersKept s m) ∷ ascending (map sessionKey m) ∷ all (sessionAllowed s) m ∷ allPairs (apart s) m ∷ []
 
 unfoldable pub sessionsAllowed : Settings → Sessions → Bool
 sessionsAllowed s m = allOf (sessionsTests s m)
@@ -206,5 +232,5 @@ unfoldable pub addressMap : Settings → Sessions → List ℕ
 addressMap s m = takenWords (s .firstAddress) (heldAddresses s m) addressWords 0
 
 unfoldable pub computing : ℕ
-unfolding poolTests addressPoolTests limitTests ipv6Allowed settingsTests settingsAllowed inPool unitFamilies tunnelTests tunnelAllowed matchAllowed farAllowed addressAllowed pdrTests pdrAllowed endpointTests endpointAllowed csidTests csidAllowed sessionTests shareTests agree sessionAllowed apart sessionsTests sessionsAllowed soundTests sound lengthFor make countFree countAddresses taken takenBits takenWords takenMap addressMap
+unfolding poolTests addressPoolTests limitTests peerTests peersTests ipv6Allowed settingsTests settingsAllowed inPool unitFamilies tunnelTests tunnelAllowed matchAllowed farAllowed addressAllowed pdrTests pdrAllowed endpointTests endpointAllowed csidTests csidAllowed sessionTests shareTests agree sessionAllowed apart fewSessions fewTeids due peersKept sessionsTests sessionsAllowed soundTests sound lengthFor make countFree countAddresses taken takenBits takenWords takenMap addressMap
 computing = 0

@@ -8,8 +8,8 @@ use lib.ListN.{length}
 use lib.Dec.{leb, ltb, eqb}
 use Rattle.octets.specs.Choice.{pick, oneOf, valueOr, bindOption, isSome, isNil, sameBool}
 use Rattle.octets.specs.Octets.{sameOctets}
-use Rattle.octets.specs.Lists.{member, anyIn, allIn, hasRepeat, without, any, allPairs, keep, findBy, collect}
-use Rattle.rules.specs.Model.{Settings, Pdr, Session, Sessions, Holding, teidOf, heldTeids, freeCount, inAddressPool, heldAddresses, freeAddresses, pdrId, endpointId, pdrEndpoint}
+use Rattle.octets.specs.Lists.{distinct, member, anyIn, allIn, hasRepeat, without, any, allPairs, keep, findBy, collect}
+use Rattle.rules.specs.Model.{peerOf, otherPeer, half, ofPeer, holdings, unused, keyFor, sessionKey, Settings, Pdr, Session, Sessions, Holding, teidOf, heldTeids, inAddressPool, heldAddresses, freeAddresses, pdrId, endpointId, pdrEndpoint}
 use Rattle.rules.specs.Limits.{maxPdrs, maxEndpoints}
 use Rattle.rules.specs.Elements.{causeOf, Fteid, given, choose, hasV4, hasV6, chooses, chooseIdOf, UeIp, ueGiven, ueChoose, ueOther, ueAddressOf, ueChooses}
 use Rattle.rules.specs.Sound.{inPool, unitFamilies, agree}
@@ -21,26 +21,27 @@ use Rattle.rules.specs.Causes as why
 
 -- ---- the session at entry
 
-unfoldable pub hasSeid : ℕ → Session → Bool
-hasSeid n x = eqb (x .seid) n
+-- by its key: a peer and a SEID
+unfoldable pub hasKey : ℕ → Session → Bool
+hasKey k x = eqb (sessionKey x) k
 
 unfoldable pub sessionOf : ℕ → Sessions → Option Session
-sessionOf n m = findBy (hasSeid n) m
+sessionOf k m = findBy (hasKey k) m
 
 unfoldable pub isLive : ℕ → Sessions → Bool
-isLive n m = isSome (sessionOf n m)
+isLive k m = isSome (sessionOf k m)
 
-unfoldable pub newSession : ℕ → Session
-newSession n = record { seid = n; pdrs = []; endpoints = []; csids = [] }
+unfoldable pub newSession : ℕ → ℕ → Session
+newSession who n = record { peer = who; seid = n; pdrs = []; endpoints = []; csids = [] }
 
 -- whether the header names no session of the table: an establishment makes one, a set deletion is about none in particular
 unfoldable pub unnamed : ℕ → Bool
 unnamed kind = eqb kind establishment || eqb kind setDeletion
 
--- the session that a request is about: one without records for those, else the header's
-unfoldable pub atEntry : ℕ → ℕ → Request → Sessions → Session
-atEntry kind header r m =
-    pick (unnamed kind) (newSession (r .seid)) (valueOr (newSession header) (sessionOf header m))
+-- the session that a request of a peer is about: one without records for those, else the header's
+unfoldable pub atEntry : ℕ → ℕ → ℕ → Request → Sessions → Session
+atEntry kind who header r m =
+    pick (unnamed kind) (newSession who (r .seid)) (valueOr (newSession who header) (sessionOf (keyFor who header) m))
 
 -- ---- numbers of the request
 
@@ -232,8 +233,9 @@ breaksRule s m x r = oneOf (brokenRules s m x r)
 
 -- ---- stage 5, cause 75
 
-unfoldable pub tooManySessions : Settings → ℕ → Sessions → Bool
-tooManySessions s kind m = eqb kind establishment && leb (s .limit) (length m)
+-- of the peer's own
+unfoldable pub tooManySessions : Settings → ℕ → ℕ → Sessions → Bool
+tooManySessions s who kind m = eqb kind establishment && leb (half s) (length (ofPeer who m))
 
 unfoldable pub tooManyPdrs : Session → Request → Bool
 tooManyPdrs x r = ltb maxPdrs (length (x .pdrs) - length (removedPdrs r (x .pdrs)) + length (r .pdrs))
@@ -241,11 +243,24 @@ tooManyPdrs x r = ltb maxPdrs (length (x .pdrs) - length (removedPdrs r (x .pdrs
 unfoldable pub tooManyEndpoints : Session → Request → Bool
 tooManyEndpoints x r = ltb maxEndpoints (length (x .endpoints) - length (r .goneEndpoints) + length (r .endpoints))
 
-unfoldable pub tooFewTeids : Settings → Sessions → Request → Bool
-tooFewTeids s m r = ltb (freeCount s m) (need r)
+-- how many TEIDs a request needs: those that its CHOOSEs take, and the different ones that it names: outside a restoration it names none, and
+-- inside it chooses none (71)
+unfoldable pub needed : Request → ℕ
+needed r = need r + distinct (map teidOf (restoredHoldings r))
 
-unfoldable pub roomLacks : ℕ → Settings → Sessions → Session → Request → Bool
-roomLacks kind s m x r = oneOf (tooManySessions s kind m ∷ tooManyPdrs x r ∷ tooManyEndpoints x r ∷ tooFewTeids s m r ∷ [])
+-- the peer's holdings at entry and the need pass its limit; or all holdings, the need and the other's unused guarantee pass the pool (02 (xiv)).
+-- A request that needs none never does on a table that is not broken.
+unfoldable pub passesLimit : Settings → ℕ → Sessions → Request → Bool
+passesLimit s who m r = ltb (peerOf s who .limit) (holdings who m + needed r)
+
+unfoldable pub passesPool : Settings → ℕ → Sessions → Request → Bool
+passesPool s who m r = ltb (s .size) (holdings who m + holdings (otherPeer who) m + needed r + unused s (otherPeer who) m)
+
+unfoldable pub tooFewTeids : Settings → ℕ → Sessions → Request → Bool
+tooFewTeids s who m r = passesLimit s who m r || passesPool s who m r
+
+unfoldable pub roomLacks : ℕ → Settings → ℕ → Sessions → Session → Request → Bool
+roomLacks kind s who m x r = oneOf (tooManySessions s who kind m ∷ tooManyPdrs x r ∷ tooManyEndpoints x r ∷ tooFewTeids s who m r ∷ [])
 
 -- ---- stage 5, cause 79, after 75 (02 (v))
 
@@ -264,40 +279,40 @@ pub record Verdict : Type 0 where
 abbrev pub plain : ℕ → Verdict
 plain c = record { cause = c; offending = none; place = 0 }
 
--- stages 4 to 6, of a request without a fault
-unfoldable pub judge : ℕ → Settings → Sessions → Session → Request → Verdict
-judge kind s m x r =
-    pick (eqb kind establishment && isLive (r .seid) m) (plain why.rejected)
+-- stages 4 to 6, of a peer's request without a fault
+unfoldable pub judge : ℕ → Settings → ℕ → Sessions → Session → Request → Verdict
+judge kind s who m x r =
+    pick (eqb kind establishment && isLive (keyFor who (r .seid)) m) (plain why.rejected)
     (pick (invalidAllocation r) (plain why.wrongAllocation)
     (pick (r .unsupported) (plain why.notSupported)
     (pick (breaksRule s m x r) (plain why.brokenRule)
-    (pick (roomLacks kind s m x r) (plain why.noRoom)
+    (pick (roomLacks kind s who m x r) (plain why.noRoom)
     (pick (addressLacks s m r) (plain why.noAddress) (plain why.accepted))))))
 
 -- the session at entry, in a request without a fault
-unfoldable pub entrySession : Sessions → List ℕ → Session
-entrySession m msg = atEntry (kindOf msg) (headerSeid msg) (readRequest msg) m
+unfoldable pub entrySession : ℕ → Sessions → List ℕ → Session
+entrySession who m msg = atEntry (kindOf msg) who (headerSeid msg) (readRequest msg) m
 
-unfoldable pub judged : Settings → Sessions → List ℕ → Verdict
-judged s m msg = judge (kindOf msg) s m (entrySession m msg) (readRequest msg)
+unfoldable pub judged : Settings → ℕ → Sessions → List ℕ → Verdict
+judged s who m msg = judge (kindOf msg) s who m (entrySession who m msg) (readRequest msg)
 
 -- stage 3, then 4 to 6
-unfoldable pub fromReading : Settings → Sessions → List ℕ → Option Fault → Verdict
-fromReading s m msg none = judged s m msg
-fromReading s m msg (some f) = record { cause = causeOf (f .cause); offending = some (f .type); place = f .place }
+unfoldable pub fromReading : Settings → ℕ → Sessions → List ℕ → Option Fault → Verdict
+fromReading s who m msg none = judged s who m msg
+fromReading s who m msg (some f) = record { cause = causeOf (f .cause); offending = some (f .type); place = f .place }
 
 -- stage 2, then 3 to 6
-unfoldable pub verdictFrom : Settings → Sessions → List ℕ → Option Spot → Verdict
-verdictFrom s m msg none = fromReading s m msg (readFault msg)
-verdictFrom s m msg (some f) = record { cause = why.wrongLength; offending = some (f .type); place = f .place }
+unfoldable pub verdictFrom : Settings → ℕ → Sessions → List ℕ → Option Spot → Verdict
+verdictFrom s who m msg none = fromReading s who m msg (readFault msg)
+verdictFrom s who m msg (some f) = record { cause = why.wrongLength; offending = some (f .type); place = f .place }
 
--- stage 1: no such session
-unfoldable pub unknownSession : Sessions → List ℕ → Bool
-unknownSession m msg = not (unnamed (kindOf msg)) && not (isLive (headerSeid msg) m)
+-- stage 1: no such session of the peer's
+unfoldable pub unknownSession : ℕ → Sessions → List ℕ → Bool
+unknownSession who m msg = not (unnamed (kindOf msg)) && not (isLive (keyFor who (headerSeid msg)) m)
 
-unfoldable pub verdict : Settings → Sessions → List ℕ → Verdict
-verdict s m msg = pick (unknownSession m msg) (plain why.noSession) (verdictFrom s m msg (frameFault msg))
+unfoldable pub verdict : Settings → ℕ → Sessions → List ℕ → Verdict
+verdict s who m msg = pick (unknownSession who m msg) (plain why.noSession) (verdictFrom s who m msg (frameFault msg))
 
 unfoldable pub computing : ℕ
-unfolding hasSeid sessionOf isLive newSession unnamed atEntry createdPdrs createdEndpoints updatedPdrs livePdrs liveEndpoints namesOneOf goesPdr removedPdrs fteidsOf addressesOf allocationWrong invalidAllocation idTwice createdLive absentId updatesRemoved namesBoth endpointIdsAfter namesAbsent sameChoice alikeFteids fteidsMayShare localsMayShare choicesAgree lacksFamily otherAddress strange restoredHolding endpointRestored pdrRestored restoredHoldings clash wrongAddress restoredAddresses addressClash requestRules brokenRules breaksRule tooManySessions tooManyPdrs tooManyEndpoints tooFewTeids roomLacks addressLacks judge entrySession judged fromReading verdictFrom unknownSession verdict
+unfolding hasKey sessionOf isLive newSession unnamed atEntry createdPdrs createdEndpoints updatedPdrs livePdrs liveEndpoints namesOneOf goesPdr removedPdrs fteidsOf addressesOf allocationWrong invalidAllocation idTwice createdLive absentId updatesRemoved namesBoth endpointIdsAfter namesAbsent sameChoice alikeFteids fteidsMayShare localsMayShare choicesAgree lacksFamily otherAddress strange restoredHolding endpointRestored pdrRestored restoredHoldings clash wrongAddress restoredAddresses addressClash requestRules brokenRules breaksRule tooManySessions tooManyPdrs tooManyEndpoints needed passesLimit passesPool tooFewTeids roomLacks addressLacks judge entrySession judged fromReading verdictFrom unknownSession verdict
 computing = 0

@@ -164,6 +164,7 @@ module _ (got : Kind → ℕ → Got) (gone : List ℕ) (rows : List (List ℕ))
       let d = by-pass ie.fqcsid (passed ie.updatePdr rows (passed ie.createPdr rows (passed ie.createEndpoint rows s₂))) (csids-followed (q ie.fqcsid) (k .csidRows) c) in
       subst (λ (y : Session). Slot y (passed ie.fqcsid rows (passed ie.updatePdr rows (passed ie.createPdr rows (passed ie.createEndpoint rows (passed ie.removeEndpoint rows (withoutPdrs gone s)))))))
       (λ i. record {
+        peer = x .peer;
         seid = x .seid;
         pdrs = updateAll (map rowChange (q ie.updatePdr)) ((new-pdrs ∙ ap (λ (g : List ℕ). insertAll pdrId (map (madePdr got) (map rowPdr (q ie.createPdr))) (keep (keptPdr g) (x .pdrs))) e) i);
         endpoints = new-endpoints i;

@@ -57,13 +57,13 @@ tag-is t row h = eqb→eq (word its.tag row) t h
 -- ---- a session with other records of one kind
 
 abbrev pub setPdrs : Session → List Pdr → Session
-setPdrs x ps = record { seid = x .seid; pdrs = ps; endpoints = x .endpoints; csids = x .csids }
+setPdrs x ps = record { peer = x .peer; seid = x .seid; pdrs = ps; endpoints = x .endpoints; csids = x .csids }
 
 abbrev pub setEndpoints : Session → List Endpoint → Session
-setEndpoints x es = record { seid = x .seid; pdrs = x .pdrs; endpoints = es; csids = x .csids }
+setEndpoints x es = record { peer = x .peer; seid = x .seid; pdrs = x .pdrs; endpoints = es; csids = x .csids }
 
 abbrev pub setCsidsOf : Session → List Csid → Session
-setCsidsOf x cs = record { seid = x .seid; pdrs = x .pdrs; endpoints = x .endpoints; csids = cs }
+setCsidsOf x cs = record { peer = x .peer; seid = x .seid; pdrs = x .pdrs; endpoints = x .endpoints; csids = cs }
 
 -- a slot's octets said otherwise
 same-slot : {x : Session} {s t : List ℕ} → s ≡ t → Slot x s → Slot x t
@@ -174,7 +174,7 @@ one-update row {x} {s} h =
     subst (λ (q : Lookup). Slot (setPdrs x (map (changedPdr (rowChange row)) (x .pdrs))) (atPlace q (λ p. updatedAt row p s) (λ p. s)))
     (sym (place-held pdrOctets pdrId areaOfPdrs pdrFits pdr-good k (word its.pdrId row))) (go (lookup (word its.pdrId row) (map pdrId (x .pdrs))) refl)
   where
-    k : HeldPdrs (pdrPre (x .seid) (x .pdrs) (x .endpoints) (x .csids)) (pdrMid (x .seid) (x .pdrs) (x .endpoints) (x .csids)) (pdrPost (x .seid) (x .pdrs) (x .endpoints) (x .csids)) (x .pdrs) s
+    k : HeldPdrs (pdrPre (x .peer) (x .seid) (x .pdrs) (x .endpoints) (x .csids)) (pdrMid (x .peer) (x .seid) (x .pdrs) (x .endpoints) (x .csids)) (pdrPost (x .peer) (x .seid) (x .pdrs) (x .endpoints) (x .csids)) (x .pdrs) s
     k = held-pdrs h
 
     d : Pdr

@@ -3,23 +3,25 @@
 -- Assumes nothing.
 use mathlib.Core.Path.{_≡_, refl, sym, ap, _∙_}
 use mathlib.Core.Option.{none, some}
-use mathlib.Core.List.{List, [], _++_, append-nil, map}
-use Prim.Native.Nat.{ℕ, _*_, _≤_, _<_}
+use mathlib.Core.List.{List, [], _∷_, _++_, append-nil, map}
+use Prim.Native.Nat.{ℕ, _+_, _*_, _^_, _≤_, _<_}
 use native.Mathlib.Omega.{arith}
-use lib.Dec.{T, leb→le}
+use lib.Dec.{T}
 use lib.ListN.{length, getD}
 use lib.Seq.{take-at}
 use Rattle.octets.specs.Octets.{be, number, part, put, zeros, padded, concatMap}
 use Rattle.octets.specs.Lists.{all, ascending, keep, insertBy}
 use Rattle.octets.proofs.Tests.{Each, each}
 use Rattle.octets.proofs.Numbers.{length-be, number-be}
-use Rattle.rules.specs.Model.{Settings, Session, Sessions, seidOf}
-use Rattle.rules.specs.Layout.{area, sessionWidth, sessionOctets, settingsOctets, encode}
+use Rattle.octets.proofs.Digits.{be-one}
+use Rattle.rules.specs.Model.{Settings, Session, Sessions, keyFor, sessionKey}
+use Rattle.rules.specs.Layout.{area, keyWidth, sessionWidth, sessionOctets, settingsOctets, encode}
 use Rattle.rules.specs.Sound.{settingsAllowed, sessionAllowed, sessionsTests, sessionsAllowed}
-use Rattle.rules.specs.Stages.{hasSeid, sessionOf, newSession}
+use Rattle.rules.specs.Stages.{hasKey, sessionOf, newSession}
 use Rattle.rules.specs.Apply.{otherSession, removeSession, putSession}
 use Rattle.laws.proofs.LayoutLaws.{length-session, seidFits}
 use Rattle.laws.proofs.TableLaws.{length-settings, limit-fits}
+use Rattle.laws.proofs.PeerLaws.{all-sessions}
 use Rattle.areas.specs.Records.{keyOf, lookup}
 use Rattle.areas.specs.declared.Lookup.the-variants.{Found, Absent}
 use Rattle.areas.proofs.Places.{otherThan, found-within, found-record, absent-record}
@@ -28,18 +30,20 @@ use Rattle.areas.proofs.Held.{Held, count-held, place-held, record-held, with-h
 use Rattle.session.specs.Areas.{tableArea}
 
 module _ (s : Settings) (hs : T (settingsAllowed s)) where
-  key-of : (x : Session) → T (sessionAllowed s x) → keyOf 8 (sessionOctets x) ≡ x .seid
-  unfolding keyOf sessionOctets
-  key-of x h = ap number (take-at (be 8 (x .seid)) _ 8 (length-be 8 (x .seid))) ∙ number-be 8 (x .seid) (seidFits s hs x h)
+  key-of : (x : Session) → T (sessionAllowed s x) → keyOf keyWidth (sessionOctets x) ≡ sessionKey x
+  unfolding keyOf sessionOctets number keyFor
+  key-of x h =
+      ap (λ (l : List ℕ). number (x .peer ∷ l)) (take-at (be 8 (x .seid)) _ 8 (length-be 8 (x .seid)))
+      ∙ (λ i. x .peer * 256 ^ length-be 8 (x .seid) i + number-be 8 (x .seid) (seidFits s hs x h) i)
 
   wide : (x : Session) → T (sessionAllowed s x) → length (sessionOctets x) ≡ sessionWidth
   wide x h = length-session s hs x h
 
-  pub good : (x : Session) → T (sessionAllowed s x) → (length (sessionOctets x) ≡ tableArea (s .limit) .width) × (keyOf (tableArea (s .limit) .key) (sessionOctets x) ≡ seidOf x)
+  pub good : (x : Session) → T (sessionAllowed s x) → (length (sessionOctets x) ≡ tableArea (s .limit) .width) × (keyOf (tableArea (s .limit) .key) (sessionOctets x) ≡ sessionKey x)
   good x h = (wide x h, key-of x h)
 
   abbrev HeldSessions : Sessions → List ℕ → Type 0
-  HeldSessions m t = Held sessionOctets seidOf (tableArea (s .limit)) (sessionAllowed s) good (settingsOctets s) [] [] m t
+  HeldSessions m t = Held sessionOctets sessionKey (tableArea (s .limit)) (sessionAllowed s) good (settingsOctets s) [] [] m t
 
   grouped : (m : Sessions) → encode s m ≡ settingsOctets s ++ (be 2 (length m) ++ ([] ++ (padded (s .limit * sessionWidth) (concatMap sessionOctets m) ++ [])))
   unfolding encode area
@@ -51,10 +55,9 @@ module _ (s : Settings) (hs : T (settingsAllowed s)) where
     tests = each (sessionsTests s m) hm
 
     few : length m ≤ s .limit
-    unfolding sessionsTests
-    few = leb→le (length m) (s .limit) (tests .0)
+    few = all-sessions s m hm
 
-    up : T (ascending (map seidOf m))
+    up : T (ascending (map sessionKey m))
     unfolding sessionsTests
     up = tests .1 .0
 
@@ -75,44 +78,44 @@ module _ (s : Settings) (hs : T (settingsAllowed s)) where
         }
 
     -- a SEID's place in the area is its place among the sessions
-    pub session-place : (n : ℕ) → placeIn (tableArea (s .limit)) n (encode s m) ≡ lookup n (map seidOf m)
-    session-place n = place-held sessionOctets seidOf (tableArea (s .limit)) (sessionAllowed s) good held n
+    pub session-place : (n : ℕ) → placeIn (tableArea (s .limit)) n (encode s m) ≡ lookup n (map sessionKey m)
+    session-place n = place-held sessionOctets sessionKey (tableArea (s .limit)) (sessionAllowed s) good held n
 
     -- a session found is the rules' session, and its slot its octets
     pub session-found : (n p : ℕ) (d : Session) → placeIn (tableArea (s .limit)) n (encode s m) ≡ Found p → (p < s .limit) × (sessionOf n m ≡ some (getD m p d))
-    unfolding sessionOf hasSeid
+    unfolding sessionOf hasKey
     session-found n p d e =
         let f = sym (session-place n) ∙ e in
-        let l = found-within seidOf n p m f in
-        (omega (arith, few, l), found-record seidOf n p m d f)
+        let l = found-within sessionKey n p m f in
+        (omega (arith, few, l), found-record sessionKey n p m d f)
 
     pub session-absent : (n p : ℕ) → placeIn (tableArea (s .limit)) n (encode s m) ≡ Absent p → sessionOf n m ≡ none
-    unfolding sessionOf hasSeid
-    session-absent n p e = absent-record seidOf n p m up (sym (session-place n) ∙ e)
+    unfolding sessionOf hasKey
+    session-absent n p e = absent-record sessionKey n p m up (sym (session-place n) ∙ e)
 
     pub session-loaded : (n p : ℕ) (d : Session) → placeIn (tableArea (s .limit)) n (encode s m) ≡ Found p
         → part (p * sessionWidth) sessionWidth (areaIn (tableArea (s .limit)) (encode s m)) ≡ sessionOctets (getD m p d)
     session-loaded n p d e =
-        record-held sessionOctets seidOf (tableArea (s .limit)) (sessionAllowed s) good held d p
-        (found-within seidOf n p m (sym (session-place n) ∙ e))
+        record-held sessionOctets sessionKey (tableArea (s .limit)) (sessionAllowed s) good held d p
+        (found-within sessionKey n p m (sym (session-place n) ∙ e))
 
     -- how many there are, and the slot of the one at a place
     pub sessions-counted : countIn (tableArea (s .limit)) (encode s m) ≡ length m
-    sessions-counted = count-held sessionOctets seidOf (tableArea (s .limit)) (sessionAllowed s) good held
+    sessions-counted = count-held sessionOctets sessionKey (tableArea (s .limit)) (sessionAllowed s) good held
 
     pub session-at : (p : ℕ) (d : Session) → p < length m → part (p * sessionWidth) sessionWidth (areaIn (tableArea (s .limit)) (encode s m)) ≡ sessionOctets (getD m p d)
-    session-at p d l = record-held sessionOctets seidOf (tableArea (s .limit)) (sessionAllowed s) good held d p l
+    session-at p d l = record-held sessionOctets sessionKey (tableArea (s .limit)) (sessionAllowed s) good held d p l
 
     -- a session put in or replaced, and one taken out
     pub session-saved : (x : Session) → T (sessionAllowed s x) → length (putSession x m) ≤ s .limit → withRecord (tableArea (s .limit)) (sessionOctets x) (encode s m) ≡ encode s (putSession x m)
-    unfolding putSession removeSession otherSession hasSeid
-    session-saved x hx room = with-held sessionOctets seidOf (tableArea (s .limit)) (sessionAllowed s) good held x hx room .octets ∙ sym (grouped (insertBy seidOf x (keep (otherThan seidOf (x .seid)) m)))
+    unfolding putSession removeSession otherSession hasKey
+    session-saved x hx room = with-held sessionOctets sessionKey (tableArea (s .limit)) (sessionAllowed s) good held x hx room .octets ∙ sym (grouped (insertBy sessionKey x (keep (otherThan sessionKey (sessionKey x)) m)))
 
     pub session-removed : (n : ℕ) → withoutRecord (tableArea (s .limit)) n (encode s m) ≡ encode s (removeSession n m)
-    unfolding removeSession otherSession hasSeid
-    session-removed n = without-held sessionOctets seidOf (tableArea (s .limit)) (sessionAllowed s) good held n .octets ∙ sym (grouped (keep (otherThan seidOf n) m))
+    unfolding removeSession otherSession hasKey
+    session-removed n = without-held sessionOctets sessionKey (tableArea (s .limit)) (sessionAllowed s) good held n .octets ∙ sym (grouped (keep (otherThan sessionKey n) m))
 
 -- the slot of a new session
-pub fresh-slot : (n : ℕ) → put 0 (be 8 n) (zeros sessionWidth) ≡ sessionOctets (newSession n)
+pub fresh-slot : (who n : ℕ) → who < 256 → put 1 (be 8 n) (put 0 (be 1 who) (zeros sessionWidth)) ≡ sessionOctets (newSession who n)
 unfolding put zeros sessionOctets newSession area be padded concatMap
-fresh-slot n = refl
+fresh-slot who n h = ap (λ (l : List ℕ). put 1 (be 8 n) (put 0 l (zeros sessionWidth))) (be-one who h)

@@ -3,7 +3,7 @@
 use mathlib.Core.Path.{_≡_, refl, sym, ap, _∙_}
 use mathlib.Core.Bool.{Bool, true, _&&_}
 use mathlib.Core.List.{List, [], _∷_, _++_, append-assoc, append-nil, map}
-use Prim.Native.Nat.{ℕ, _+_, _*_, _^_, _≤_, _<_}
+use Prim.Native.Nat.{ℕ, suc, _+_, _*_, _^_, _≤_, _<_}
 use native.Mathlib.Omega.{arith}
 use lib.Dec.{T, ltb, leb, ltb→lt, lit<}
 use lib.ListN.{length, length-append}
@@ -76,20 +76,24 @@ pub record Slot (x : Session) (s : List ℕ) : Type 0 where
   pub csidsFew : length (x .csids) ≤ 6
   pub csidsUp : T (ascending (map nodeTypeOf (x .csids)))
 
--- the octets of a session by its records
-unfoldable pub octetsBy : ℕ → List Pdr → List Endpoint → List Csid → List ℕ
-octetsBy n ps es cs =
+-- the octets of a session by its records, after its peer
+unfoldable pub tailBy : ℕ → List Pdr → List Endpoint → List Csid → List ℕ
+tailBy n ps es cs =
     be 8 n
     ++ (length ps ∷ length es ∷ length cs
     ∷ padded (maxPdrs * pdrWidth) (concatMap pdrOctets ps) ++ (padded (maxEndpoints * endpointWidth) (concatMap endpointOctets es) ++ padded (nodeTypes * csidWidth) (concatMap csidOctets cs)))
 
-by-octets : (x : Session) → sessionOctets x ≡ octetsBy (x .seid) (x .pdrs) (x .endpoints) (x .csids)
-unfolding sessionOctets octetsBy area
+-- and with it
+unfoldable pub octetsBy : ℕ → ℕ → List Pdr → List Endpoint → List Csid → List ℕ
+octetsBy q n ps es cs = q ∷ tailBy n ps es cs
+
+by-octets : (x : Session) → sessionOctets x ≡ octetsBy (x .peer) (x .seid) (x .pdrs) (x .endpoints) (x .csids)
+unfolding sessionOctets octetsBy tailBy area
 by-octets x = refl
 
-module _ (n : ℕ) (ps : List Pdr) (es : List Endpoint) (cs : List Csid) where
+module _ (q n : ℕ) (ps : List Pdr) (es : List Endpoint) (cs : List Csid) where
   abbrev pub pdrPre : List ℕ
-  pdrPre = be 8 n
+  pdrPre = q ∷ be 8 n
 
   abbrev pub pdrMid : List ℕ
   pdrMid = length es ∷ length cs ∷ []
@@ -98,7 +102,7 @@ module _ (n : ℕ) (ps : List Pdr) (es : List Endpoint) (cs : List Csid) where
   pdrPost = padded (maxEndpoints * endpointWidth) (concatMap endpointOctets es) ++ padded (nodeTypes * csidWidth) (concatMap csidOctets cs)
 
   abbrev pub endpointPre : List ℕ
-  endpointPre = be 8 n ++ (length ps ∷ [])
+  endpointPre = q ∷ be 8 n ++ (length ps ∷ [])
 
   abbrev pub endpointMid : List ℕ
   endpointMid = length cs ∷ padded (maxPdrs * pdrWidth) (concatMap pdrOctets ps)
@@ -107,23 +111,29 @@ module _ (n : ℕ) (ps : List Pdr) (es : List Endpoint) (cs : List Csid) where
   endpointPost = padded (nodeTypes * csidWidth) (concatMap csidOctets cs)
 
   abbrev pub csidPre : List ℕ
-  csidPre = be 8 n ++ (length ps ∷ length es ∷ [])
+  csidPre = q ∷ be 8 n ++ (length ps ∷ length es ∷ [])
 
   abbrev pub csidMid : List ℕ
   csidMid = padded (maxPdrs * pdrWidth) (concatMap pdrOctets ps) ++ padded (maxEndpoints * endpointWidth) (concatMap endpointOctets es)
 
   -- the same octets grouped round each area
-  by-pdrs : length ps ≤ 16 → octetsBy n ps es cs ≡ pdrPre ++ (be 1 (length ps) ++ (pdrMid ++ (padded (maxPdrs * pdrWidth) (concatMap pdrOctets ps) ++ pdrPost)))
-  unfolding octetsBy
+  by-pdrs : length ps ≤ 16 → octetsBy q n ps es cs ≡ pdrPre ++ (be 1 (length ps) ++ (pdrMid ++ (padded (maxPdrs * pdrWidth) (concatMap pdrOctets ps) ++ pdrPost)))
+  unfolding octetsBy tailBy
   by-pdrs h = rw (be-one (length ps) (omega arith))
 
-  by-endpoints : length es ≤ 8 → octetsBy n ps es cs ≡ endpointPre ++ (be 1 (length es) ++ (endpointMid ++ (padded (maxEndpoints * endpointWidth) (concatMap endpointOctets es) ++ endpointPost)))
+  by-endpoints : length es ≤ 8 → octetsBy q n ps es cs ≡ endpointPre ++ (be 1 (length es) ++ (endpointMid ++ (padded (maxEndpoints * endpointWidth) (concatMap endpointOctets es) ++ endpointPost)))
   unfolding octetsBy
-  by-endpoints h = rw (be-one (length es) (omega arith)) (simp append-assoc)
+  by-endpoints h = ap (λ (l : List ℕ). q ∷ l) (tail-endpoints h)
+    where
+      tail-endpoints : length es ≤ 8 → tailBy n ps es cs ≡ (be 8 n ++ (length ps ∷ [])) ++ (be 1 (length es) ++ (endpointMid ++ (padded (maxEndpoints * endpointWidth) (concatMap endpointOctets es) ++ endpointPost)))
+      tail-endpoints g = unfold tailBy in rw (be-one (length es) (omega arith)) (simp append-assoc)
 
-  by-csids : length cs ≤ 6 → octetsBy n ps es cs ≡ csidPre ++ (be 1 (length cs) ++ (csidMid ++ (padded (nodeTypes * csidWidth) (concatMap csidOctets cs) ++ [])))
+  by-csids : length cs ≤ 6 → octetsBy q n ps es cs ≡ csidPre ++ (be 1 (length cs) ++ (csidMid ++ (padded (nodeTypes * csidWidth) (concatMap csidOctets cs) ++ [])))
   unfolding octetsBy
-  by-csids h = rw (be-one (length cs) (omega arith), append-nil) (simp append-assoc)
+  by-csids h = ap (λ (l : List ℕ). q ∷ l) (tail-csids h)
+    where
+      tail-csids : length cs ≤ 6 → tailBy n ps es cs ≡ (be 8 n ++ (length ps ∷ length es ∷ [])) ++ (be 1 (length cs) ++ (csidMid ++ (padded (nodeTypes * csidWidth) (concatMap csidOctets cs) ++ [])))
+      tail-csids g = unfold tailBy in rw (be-one (length cs) (omega arith), append-nil) (simp append-assoc)
 
 all-true : {A : Type 0} (rs : List A) → T (all (λ r. true) rs)
 unfolding all
@@ -142,6 +152,9 @@ endpoints-long es h =
     (let l = length-concatMap endpointOctets endpointWidth (λ e. true) (λ e _. (length-endpoint e)) es (all-true es) in omega (arith, l))
 
 module _ {x : Session} {s : List ℕ} (h : Slot x s) where
+  abbrev q : ℕ
+  q = x .peer
+
   abbrev n : ℕ
   n = x .seid
 
@@ -154,11 +167,11 @@ module _ {x : Session} {s : List ℕ} (h : Slot x s) where
   abbrev cs : List Csid
   cs = x .csids
 
-  pub held-pdrs : HeldPdrs (pdrPre n ps es cs) (pdrMid n ps es cs) (pdrPost n ps es cs) ps s
+  pub held-pdrs : HeldPdrs (pdrPre q n ps es cs) (pdrMid q n ps es cs) (pdrPost q n ps es cs) ps s
   held-pdrs =
       record {
-        octets = h .octets ∙ by-octets x ∙ by-pdrs n ps es cs (h .pdrsFew);
-        before = length-be 8 n;
+        octets = h .octets ∙ by-octets x ∙ by-pdrs q n ps es cs (h .pdrsFew);
+        before = ap suc (length-be 8 n);
         gap = refl;
         counted = lit< tt;
         passes = h .pdrsFit;
@@ -166,11 +179,11 @@ module _ {x : Session} {s : List ℕ} (h : Slot x s) where
         up = h .pdrsUp;
       }
 
-  pub held-endpoints : HeldEndpoints (endpointPre n ps es cs) (endpointMid n ps es cs) (endpointPost n ps es cs) es s
+  pub held-endpoints : HeldEndpoints (endpointPre q n ps es cs) (endpointMid q n ps es cs) (endpointPost q n ps es cs) es s
   held-endpoints =
       record {
-        octets = h .octets ∙ by-octets x ∙ by-endpoints n ps es cs (h .endpointsFew);
-        before = length-append (be 8 n) (length ps ∷ []) ∙ rw length-be;
+        octets = h .octets ∙ by-octets x ∙ by-endpoints q n ps es cs (h .endpointsFew);
+        before = ap suc (length-append (be 8 n) (length ps ∷ []) ∙ rw length-be);
         gap = let l = pdrs-long ps (h .pdrsFew) in omega (arith, l);
         counted = lit< tt;
         passes = h .endpointsFit;
@@ -178,11 +191,11 @@ module _ {x : Session} {s : List ℕ} (h : Slot x s) where
         up = h .endpointsUp;
       }
 
-  pub held-csids : HeldCsids (csidPre n ps es cs) (csidMid n ps es cs) [] cs s
+  pub held-csids : HeldCsids (csidPre q n ps es cs) (csidMid q n ps es cs) [] cs s
   held-csids =
       record {
-        octets = h .octets ∙ by-octets x ∙ by-csids n ps es cs (h .csidsFew);
-        before = length-append (be 8 n) (length ps ∷ length es ∷ []) ∙ rw length-be;
+        octets = h .octets ∙ by-octets x ∙ by-csids q n ps es cs (h .csidsFew);
+        before = ap suc (length-append (be 8 n) (length ps ∷ length es ∷ []) ∙ rw length-be);
         gap =
             let l = pdrs-long ps (h .pdrsFew) in
             let m = endpoints-long es (h .endpointsFew) in
@@ -195,11 +208,11 @@ module _ {x : Session} {s : List ℕ} (h : Slot x s) where
       }
 
   -- another list of records in an area
-  pub with-pdrs : {ps′ : List Pdr} {s′ : List ℕ} → HeldPdrs (pdrPre n ps es cs) (pdrMid n ps es cs) (pdrPost n ps es cs) ps′ s′
-      → Slot (record { seid = n; pdrs = ps′; endpoints = es; csids = cs }) s′
+  pub with-pdrs : {ps′ : List Pdr} {s′ : List ℕ} → HeldPdrs (pdrPre q n ps es cs) (pdrMid q n ps es cs) (pdrPost q n ps es cs) ps′ s′
+      → Slot (record { peer = q; seid = n; pdrs = ps′; endpoints = es; csids = cs }) s′
   with-pdrs {ps′} {s′} k =
       record {
-        octets = k .octets ∙ sym (by-octets (record { seid = n; pdrs = ps′; endpoints = es; csids = cs }) ∙ by-pdrs n ps′ es cs (k .fits));
+        octets = k .octets ∙ sym (by-octets (record { peer = q; seid = n; pdrs = ps′; endpoints = es; csids = cs }) ∙ by-pdrs q n ps′ es cs (k .fits));
         pdrsFit = k .passes;
         pdrsFew = k .fits;
         pdrsUp = k .up;
@@ -211,11 +224,11 @@ module _ {x : Session} {s : List ℕ} (h : Slot x s) where
         csidsUp = h .csidsUp;
       }
 
-  pub with-endpoints : {es′ : List Endpoint} {s′ : List ℕ} → HeldEndpoints (endpointPre n ps es cs) (endpointMid n ps es cs) (endpointPost n ps es cs) es′ s′
-      → Slot (record { seid = n; pdrs = ps; endpoints = es′; csids = cs }) s′
+  pub with-endpoints : {es′ : List Endpoint} {s′ : List ℕ} → HeldEndpoints (endpointPre q n ps es cs) (endpointMid q n ps es cs) (endpointPost q n ps es cs) es′ s′
+      → Slot (record { peer = q; seid = n; pdrs = ps; endpoints = es′; csids = cs }) s′
   with-endpoints {es′} {s′} k =
       record {
-        octets = k .octets ∙ sym (by-octets (record { seid = n; pdrs = ps; endpoints = es′; csids = cs }) ∙ by-endpoints n ps es′ cs (k .fits));
+        octets = k .octets ∙ sym (by-octets (record { peer = q; seid = n; pdrs = ps; endpoints = es′; csids = cs }) ∙ by-endpoints q n ps es′ cs (k .fits));
         pdrsFit = h .pdrsFit;
         pdrsFew = h .pdrsFew;
         pdrsUp = h .pdrsUp;
@@ -227,11 +240,11 @@ module _ {x : Session} {s : List ℕ} (h : Slot x s) where
         csidsUp = h .csidsUp;
       }
 
-  pub with-csids : {cs′ : List Csid} {s′ : List ℕ} → HeldCsids (csidPre n ps es cs) (csidMid n ps es cs) [] cs′ s′
-      → Slot (record { seid = n; pdrs = ps; endpoints = es; csids = cs′ }) s′
+  pub with-csids : {cs′ : List Csid} {s′ : List ℕ} → HeldCsids (csidPre q n ps es cs) (csidMid q n ps es cs) [] cs′ s′
+      → Slot (record { peer = q; seid = n; pdrs = ps; endpoints = es; csids = cs′ }) s′
   with-csids {cs′} {s′} k =
       record {
-        octets = k .octets ∙ sym (by-octets (record { seid = n; pdrs = ps; endpoints = es; csids = cs′ }) ∙ by-csids n ps es cs′ (k .fits));
+        octets = k .octets ∙ sym (by-octets (record { peer = q; seid = n; pdrs = ps; endpoints = es; csids = cs′ }) ∙ by-csids q n ps es cs′ (k .fits));
         pdrsFit = h .pdrsFit;
         pdrsFew = h .pdrsFew;
         pdrsUp = h .pdrsUp;

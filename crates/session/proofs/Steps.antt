@@ -35,13 +35,25 @@ use Rattle.session.specs.Build.{withoutPdrs, updatedAt, updatedPdr, foll
 -- ---- the areas fit a slot
 
 pub pdrs-fit : (a : Area) (n : ℕ) → a ≡ areaOfPdrs → n ≡ sessionWidth → Fits a n
-pdrs-fit a n e h = rw (e, h) (record { count = omega arith; narrow = omega arith; records = omega arith; keyed = omega arith; small = omega arith })
+pdrs-fit a n e h = rw (e, h) (record { count = omega arith; narrow = omega arith; records = omega arith; keyed = omega arith })
+
+-- and keys of theirs are numbers
+pub pdrs-key : (a : Area) → a ≡ areaOfPdrs → a .key ≤ 8
+pdrs-key a e = rw e (omega arith)
 
 pub endpoints-fit : (a : Area) (n : ℕ) → a ≡ areaOfEndpoints → n ≡ sessionWidth → Fits a n
-endpoints-fit a n e h = rw (e, h) (record { count = omega arith; narrow = omega arith; records = omega arith; keyed = omega arith; small = omega arith })
+endpoints-fit a n e h = rw (e, h) (record { count = omega arith; narrow = omega arith; records = omega arith; keyed = omega arith })
+
+-- and keys of theirs are numbers
+pub endpoints-key : (a : Area) → a ≡ areaOfEndpoints → a .key ≤ 8
+endpoints-key a e = rw e (omega arith)
 
 pub csids-fit : (a : Area) (n : ℕ) → a ≡ areaOfCsids → n ≡ sessionWidth → Fits a n
-csids-fit a n e h = rw (e, h) (record { count = omega arith; narrow = omega arith; records = omega arith; keyed = omega arith; small = omega arith })
+csids-fit a n e h = rw (e, h) (record { count = omega arith; narrow = omega arith; records = omega arith; keyed = omega arith })
+
+-- and keys of theirs are numbers
+pub csids-key : (a : Area) → a ≡ areaOfCsids → a .key ≤ 8
+csids-key a e = rw e (omega arith)
 
 -- a record of the area's width
 pub pdr-wide : (a : Area) (n : ℕ) → a ≡ areaOfPdrs → n ≡ pdrWidth → n ≡ a .width

@@ -16,7 +16,7 @@ areaOfCsids = record { «count_at» = csidCountAt; «count_width» = 1; at = csi
 
 -- sessions: their number at the base, and room for so many after it
 abbrev pub sessionArea : ℕ → ℕ → Area
-sessionArea room base = record { «count_at» = base; «count_width» = 2; at = base + 2; room = room; width = sessionWidth; key = 8 }
+sessionArea room base = record { «count_at» = base; «count_width» = 2; at = base + 2; room = room; width = sessionWidth; key = 9 }
 
 -- a table's sessions stand after the settings; room: its session limit
 abbrev pub tableArea : ℕ → Area

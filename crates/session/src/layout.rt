@@ -54,6 +54,6 @@ pub fn sessions(room: usize, base: usize) -> Area
         at: base + 2,
         room: room,
         width: format::SLOT,
-        key: 8,
+        key: 9,
     }
 }

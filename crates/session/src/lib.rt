@@ -1,4 +1,4 @@
-// A session's slot: found by its SEID in an area of sessions, which has its room and its base; copied out or made anew; built from the IDs of
+// A session's slot: found by its peer and SEID in an area of sessions, which has its room and its base; copied out or made anew; built from the IDs of
 // the PDRs that go and the rows of a plan, after every check has passed; put back, or taken out.
 //
 // The functions work on any octets of the slot's length; proofs/ says that on a session's octets they make the rules' session.
@@ -12,6 +12,7 @@ ghost use Rattle.session.specs.Build.{withoutPdrs, updatedAt, updatedPdr
 use areas::Lookup;
 use format::types;
 use format::words;
+ghost use Rattle.areas.specs.Records.{pairKey};
 ghost use Rattle.areas.specs.Counted.{countIn, areaIn, placeIn, withRecord, withoutRecord};
 ghost use Rattle.session.specs.Areas.{areaOfPdrs, areaOfEndpoints, sessionArea};
 
@@ -178,12 +179,12 @@ pub fn count(t: &[u8], room: usize, base: usize) -> usize
     areas::count(t, layout::sessions(room, base))
 }
 
-// Where the session of a SEID stands, or has its place.
-pub fn find(t: &[u8], room: usize, base: usize, seid: u64) -> Lookup
+// Where the session of a peer's SEID stands, or has its place.
+pub fn find(t: &[u8], room: usize, base: usize, peer: u64, seid: u64) -> Lookup
     requires { ⌜ base + 2 + room * sessionWidth ≤ length (now t) ⌝ }
-    ensures { λ r. ⌜ r ≡ placeIn (sessionArea room base) seid (now (t .entry)) ⌝ }
+    ensures { λ r. ⌜ r ≡ placeIn (sessionArea room base) (pairKey peer seid) (now (t .entry)) ⌝ }
 {
-    areas::find(t, layout::sessions(room, base), seid)
+    areas::find_pair(t, layout::sessions(room, base), peer, seid)
 }
 
 // Copies the slot at place p.
@@ -196,24 +197,26 @@ pub fn load(t: &[u8], room: usize, base: usize, p: usize, slot: &mut [u8])
     octets::copy(slot, 0, &t[at..end]);
 }
 
-// The slot of a new session.
-pub fn fresh(slot: &mut [u8], seid: u64)
+// The slot of a peer's new session.
+pub fn fresh(slot: &mut [u8], peer: u64, seid: u64)
     requires { ⌜ length (now slot) ≡ sessionWidth ⌝ }
-    ensures { λ _. ⌜ now (slot .exit) ≡ put 0 (be 8 seid) (zeros sessionWidth) ⌝ }
+    ensures { λ _. ⌜ now (slot .exit) ≡ put 1 (be 8 seid) (put 0 (be 1 peer) (zeros sessionWidth)) ⌝ }
 {
     octets::clear(slot, 0, format::SLOT);
-    octets::write(slot, 0, 8, seid);
+    octets::write(slot, 0, 1, peer);
+    octets::write(slot, format::SEID, 8, seid);
 }
 
-// Makes the slot that of its SEID: over the one that is there, or put in where there is room. As areas::put_record, written out for
+// Makes the slot that of its peer and SEID: over the one that is there, or put in where there is room. As areas::put_record, written out for
 // slots: where their width is known, all that come after move at once.
 pub fn save(t: &mut [u8], room: usize, base: usize, slot: &[u8])
     requires { ⌜ (base + 2 + room * sessionWidth ≤ length (now t)) × (length (now slot) ≡ sessionWidth) ⌝ }
     ensures { λ _. ⌜ now (t .exit) ≡ withRecord (sessionArea room base) (now (slot .entry)) (now (t .entry)) ⌝ }
 {
     let a = layout::sessions(room, base);
-    let seid = octets::read(slot, 0, a.key);
-    let place = areas::find(t, a, seid);
+    let peer = octets::read(slot, 0, 1);
+    let seid = octets::read(slot, format::SEID, 8);
+    let place = areas::find_pair(t, a, peer, seid);
     match place {
         Lookup::Found(p) => areas::replace(t, a, p, slot),
         Lookup::Absent(p) => {
@@ -224,10 +227,10 @@ pub fn save(t: &mut [u8], room: usize, base: usize, slot: &[u8])
     }
 }
 
-// Takes the session of a SEID out, if there is one.
-pub fn remove(t: &mut [u8], room: usize, base: usize, seid: u64)
+// Takes the session of a peer's SEID out, if there is one.
+pub fn remove(t: &mut [u8], room: usize, base: usize, peer: u64, seid: u64)
     requires { ⌜ base + 2 + room * sessionWidth ≤ length (now t) ⌝ }
-    ensures { λ _. ⌜ now (t .exit) ≡ withoutRecord (sessionArea room base) seid (now (t .entry)) ⌝ }
+    ensures { λ _. ⌜ now (t .exit) ≡ withoutRecord (sessionArea room base) (pairKey peer seid) (now (t .entry)) ⌝ }
 {
-    areas::drop_record(t, layout::sessions(room, base), seid);
+    areas::drop_pair(t, layout::sessions(room, base), peer, seid);
 }

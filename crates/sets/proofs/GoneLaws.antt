@@ -6,37 +6,41 @@ use native.Mathlib.Omega.{arith}
 use mathlib.Core.Bool.{Bool, true, false, not, _&&_, _||_}
 use mathlib.Core.List.{List, [], _∷_, _++_, map}
 use lib.ListN.{length, take, drop, getD}
-use lib.Dec.{T, leb→le}
+use lib.Dec.{T, eqb, eqb→eq, leb→le}
 use borrow.Author.Tests.{eq-eqb, ne-eqb, le-leb, lt-leb}
 use Rattle.octets.specs.Choice.{pick}
-use Rattle.octets.specs.Octets.{octetAt, be, part, number, numberAt}
+use Rattle.octets.specs.Octets.{octetAt, be, part, number}
 use Rattle.octets.specs.Lists.{keep, any, all, ascending}
-use Rattle.octets.proofs.Tests.{all-head, all-tail, ascending-head, ascending-tail}
+use Rattle.octets.proofs.Tests.{all-head, all-tail, ascending-head, ascending-tail, and-left, of-true}
 use Rattle.rules.specs.Limits.{nodeTypes}
-use Rattle.rules.specs.Model.{Settings, Session, Sessions, seidOf}
-use Rattle.rules.specs.Layout.{csidCountAt, sessionOctets, viewSession, viewSettings, viewSessions, encode, headWidth, sessionWidth, tableLength, settingsWidth, limitAt}
+use Rattle.rules.specs.Model.{Settings, Session, Sessions, sessionKey, hasPeer}
+use Rattle.rules.specs.Layout.{csidCountAt, sessionOctets, viewSession, viewSettings, viewSessions, encode, headWidth, seidAt, keyWidth, sessionWidth, tableLength, settingsWidth, limitAt}
 use Rattle.rules.specs.Sound.{settingsAllowed, sessionAllowed, sessionsAllowed}
 use Rattle.rules.specs.Sound as rules
 use Rattle.rules.specs.Elements.{Fqcsid}
 use Rattle.rules.specs.Message.{elements, listPlace}
 use Rattle.rules.specs.Reading.{done, listRead}
-use Rattle.rules.specs.Stages.{hasSeid, newSession}
+use Rattle.rules.specs.Stages.{hasKey, newSession}
 use Rattle.rules.specs.Apply.{coversSession, goesSession, staysSession, otherSession, removeSession}
 use Rattle.laws.proofs.LayoutLaws.{session-back, limit-read}
 use Rattle.laws.proofs.TableLaws.{sessions-back, encoded-settings, sound-encode}
+use Rattle.laws.proofs.PeerLaws.{all-sessions}
 use Rattle.invariants.proofs.KeptRules.{session-kept, sessions-kept}
 use Rattle.invariants.proofs.After.{keep-allowed, remove-allowed}
 use Rattle.invariants.proofs.ServeLaws.{table-kept}
-use Rattle.areas.specs.Records.{keyOf, lookupFrom, lookup}
+use Rattle.areas.specs.Records.{keyOf, pairKey, lookupFrom, lookup}
 use Rattle.areas.specs.declared.Lookup.the-variants.{Found}
 use Rattle.areas.proofs.Places.{removeAt, remove-found}
+use Rattle.areas.proofs.PairLaws.{number-pair}
 use Rattle.areas.specs.Counted.{countIn, withoutRecord, areaIn}
 use Rattle.session.specs.Areas.{tableArea}
 use Rattle.session.proofs.Saved.{good, sessions-counted, session-at, session-removed}
 use Rattle.frame.proofs.Front.{Front, behind}
-use Rattle.sets.specs.Listed.{blank, gotten, listedIn, listsIn, Sized, slotAt, afterOne, Sound}
+use Rattle.sets.specs.Listed.{blank, gotten, listedIn, listsIn, Sized, slotAt, goesBy, afterOne, Sound}
 use Rattle.sets.proofs.ListLaws.{rest-fine, listed-sized, lists-more}
-use Rattle.octets.proofs.Put.{length-part}
+use Rattle.octets.proofs.Put.{length-part, getD-part}
+use Rattle.octets.proofs.FieldLaws.{octet-read}
+use Rattle.octets.proofs.Bools.{and-false}
 use Rattle.session.proofs.Steps.{part-part}
 use lib.Seq.{take-take}
 
@@ -82,23 +86,23 @@ own-place i (k ∷ ks) (suc p) up l =
     let e : suc i + p ≡ i + suc p = omega arith in
     rw (lt-leb (getD ks p 0) k (above k ks p up (omega arith))) (own-place (suc i) ks p (ascending-tail k ks up) (omega arith) ∙ ap (λ (n : ℕ). Found n) e)
 
-keys-at : (m : Sessions) (p : ℕ) (d : Session) → p < length m → getD (map seidOf m) p 0 ≡ getD m p d .seid
+keys-at : (m : Sessions) (p : ℕ) (d : Session) → p < length m → getD (map sessionKey m) p 0 ≡ sessionKey (getD m p d)
 keys-at [] p d l = absurd (omega arith)
 keys-at (x ∷ m) zero d l = refl
 keys-at (x ∷ m) (suc p) d l = keys-at m p d (omega arith)
 
-map-long : (m : Sessions) → length (map seidOf m) ≡ length m
+map-long : (m : Sessions) → length (map sessionKey m) ≡ length m
 map-long [] = refl
 map-long (x ∷ m) = ap suc (map-long m)
 
--- so taking the session of its SEID out takes the one at the place out
-remove-place : (m : Sessions) (p : ℕ) (d : Session) → T (ascending (map seidOf m)) → p < length m → removeSession (getD m p d .seid) m ≡ removeAt p m
-unfolding removeSession otherSession hasSeid
+-- so taking the session of its key out takes the one at the place out
+remove-place : (m : Sessions) (p : ℕ) (d : Session) → T (ascending (map sessionKey m)) → p < length m → removeSession (sessionKey (getD m p d)) m ≡ removeAt p m
+unfolding removeSession otherSession hasKey
 remove-place m p d up l =
-    let n = getD m p d .seid in
-    let found : lookup n (map seidOf m) ≡ Found p =
-    ap (λ (k : ℕ). lookupFrom 0 k (map seidOf m)) (sym (keys-at m p d l)) ∙ own-place 0 (map seidOf m) p up (let e = map-long m in omega arith) ∙ ap (λ (k : ℕ). Found k) (let z : 0 + p ≡ p = omega arith in z) in
-    sym (remove-found seidOf n p m up found)
+    let n = sessionKey (getD m p d) in
+    let found : lookup n (map sessionKey m) ≡ Found p =
+    ap (λ (k : ℕ). lookupFrom 0 k (map sessionKey m)) (sym (keys-at m p d l)) ∙ own-place 0 (map sessionKey m) p up (let e = map-long m in omega arith) ∙ ap (λ (k : ℕ). Found k) (let z : 0 + p ≡ p = omega arith in z) in
+    sym (remove-found sessionKey n p m up found)
 
 -- ---- one place
 
@@ -114,39 +118,39 @@ csids-counted x = refl
 module _ {s : Settings} {m : Sessions} {t : List ℕ} (h : Encodes s m t) (p : ℕ) (less : p < length m) where
   -- the session there
   abbrev x : Session
-  x = getD m p (newSession 0)
+  x = getD m p (newSession 0 0)
 
   allowed : T (sessionAllowed s x)
-  allowed = known s m p (newSession 0) (sessions-kept s m (h .sessions) .sessions) less
+  allowed = known s m p (newSession 0 0) (sessions-kept s m (h .sessions) .sessions) less
 
   slot-is : slotAt (s .limit) p t ≡ sessionOctets x
   unfolding slotAt
-  slot-is = rw (h .octets) (session-at s (h .settings) m (h .sessions) p (newSession 0) less)
+  slot-is = rw (h .octets) (session-at s (h .settings) m (h .sessions) p (newSession 0 0) less)
 
   pub slot-few : octetAt (slotAt (s .limit) p t) csidCountAt ≤ nodeTypes
   slot-few = rw (slot-is, csids-counted x) (leb→le (length (x .csids)) nodeTypes (session-kept s x allowed .fewCsids))
 
   pub place-room : p < s .limit
-  place-room = let f = leb→le (length m) (s .limit) (sessions-kept s m (h .sessions) .few) in omega arith
+  place-room = let f = all-sessions s m (h .sessions) in omega arith
 
   -- with it, or without
-  pub one-after : (l : Fqcsid) → Encodes s (pick (coversSession x l) (removeAt p m) m) (afterOne (s .limit) p l t)
+  pub one-after : (who : ℕ) (l : Fqcsid) → Encodes s (pick (goesBy who l x) (removeAt p m) m) (afterOne (s .limit) p who l t)
   unfolding afterOne
-  one-after l =
-      subst (λ (y : List ℕ). Encodes s (pick (coversSession x l) (removeAt p m) m) (pick (coversSession (viewSession y) l) (withoutRecord (tableArea (s .limit)) (keyOf 8 y) t) t)) (sym slot-is)
-      (subst (λ (y : Session). Encodes s (pick (coversSession x l) (removeAt p m) m) (pick (coversSession y l) (withoutRecord (tableArea (s .limit)) (keyOf 8 (sessionOctets x)) t) t)) (sym (session-back s (h .settings) x allowed))
-      (go (coversSession x l)))
+  one-after who l =
+      subst (λ (y : List ℕ). Encodes s (pick (goesBy who l x) (removeAt p m) m) (pick (goesBy who l (viewSession y)) (withoutRecord (tableArea (s .limit)) (keyOf keyWidth y) t) t)) (sym slot-is)
+      (subst (λ (y : Session). Encodes s (pick (goesBy who l x) (removeAt p m) m) (pick (goesBy who l y) (withoutRecord (tableArea (s .limit)) (keyOf keyWidth (sessionOctets x)) t) t)) (sym (session-back s (h .settings) x allowed))
+      (go (goesBy who l x)))
     where
-      gone : removeSession (x .seid) m ≡ removeAt p m
-      gone = remove-place m p (newSession 0) (sessions-kept s m (h .sessions) .order) less
+      gone : removeSession (sessionKey x) m ≡ removeAt p m
+      gone = remove-place m p (newSession 0 0) (sessions-kept s m (h .sessions) .order) less
 
-      go : (b : Bool) → Encodes s (pick b (removeAt p m) m) (pick b (withoutRecord (tableArea (s .limit)) (keyOf 8 (sessionOctets x)) t) t)
+      go : (b : Bool) → Encodes s (pick b (removeAt p m) m) (pick b (withoutRecord (tableArea (s .limit)) (keyOf keyWidth (sessionOctets x)) t) t)
       go true =
           record {
             settings = h .settings;
-            sessions = subst (λ (l : Sessions). T (sessionsAllowed s l)) gone (remove-allowed s (x .seid) m (h .sessions));
+            sessions = subst (λ (l : Sessions). T (sessionsAllowed s l)) gone (remove-allowed s (sessionKey x) m (h .sessions));
             octets = ap₂ (λ (n : ℕ) (u : List ℕ). withoutRecord (tableArea (s .limit)) n u) (good s (h .settings) x allowed .1) (h .octets)
-                ∙ session-removed s (h .settings) m (h .sessions) (x .seid) ∙ ap (encode s) gone;
+                ∙ session-removed s (h .settings) m (h .sessions) (sessionKey x) ∙ ap (encode s) gone;
           }
       go false = h
 
@@ -169,25 +173,50 @@ module _ (room p : ℕ) (t : List ℕ) (long : length t ≡ tableLength room) (l
   pub slot-count : octetAt (slotAt room p t) csidCountAt ≤ nodeTypes → octetAt (take (headWidth + p * sessionWidth + sessionWidth - (headWidth + p * sessionWidth)) (drop (headWidth + p * sessionWidth) t)) csidCountAt ≤ nodeTypes
   slot-count h = rw slice-is h
 
-  pub slot-here : (v : List ℕ) {r : Bool} → r ≡ coversSession (viewSession (take (headWidth + p * sessionWidth + sessionWidth - (headWidth + p * sessionWidth)) (drop (headWidth + p * sessionWidth) t))) (listedIn v) → r ≡ coversSession (viewSession (slotAt room p t)) (listedIn v)
-  slot-here v h = h ∙ ap (λ (y : List ℕ). coversSession (viewSession y) (listedIn v)) slice-is
+  -- whose it is
+  slot-peer : viewSession (slotAt room p t) .peer ≡ getD t (headWidth + p * sessionWidth) 0
+  unfolding viewSession octetAt
+  slot-peer =
+      let at : headWidth + p * sessionWidth + 0 ≡ headWidth + p * sessionWidth = omega arith in
+      ap (λ (y : List ℕ). getD y 0 0) (sym part-is) ∙ getD-part (headWidth + p * sessionWidth) sessionWidth 0 t (omega arith) ∙ ap (λ (i : ℕ). getD t i 0) at
 
-  module _ (v : List ℕ) {b : Bool} (is : b ≡ coversSession (viewSession (slotAt room p t)) (listedIn v)) where
-    pub stays-one : b ≡ false → t ≡ afterOne room p (listedIn v) t
-    unfolding afterOne
-    stays-one e = rw (← is, e)
+  module _ (who : ℕ) (v : List ℕ) where
+    pub not-theirs : (getD t (headWidth + p * sessionWidth) 0 ≡ who → ⊥) → false ≡ goesBy who (listedIn v) (viewSession (slotAt room p t))
+    unfolding goesBy hasPeer
+    not-theirs n = sym (rw (slot-peer, ne-eqb (getD t (headWidth + p * sessionWidth) 0) who n))
 
-    pub goes-one : b ≡ true → (n : ℕ) {t′ : List ℕ} → n ≡ number (part (headWidth + p * sessionWidth) 8 t) → t′ ≡ withoutRecord (tableArea room) n t → t′ ≡ afterOne room p (listedIn v) t
-    unfolding afterOne keyOf
-    goes-one e n k h =
-        let front : number (part (headWidth + p * sessionWidth) 8 t) ≡ number (take 8 (slotAt room p t)) =
-        ap number (sym (take-take 8 sessionWidth (drop (headWidth + p * sessionWidth) t) (omega arith)) ∙ ap (take 8) part-is) in
-        h ∙ rw (← is, e) (ap (λ (i : ℕ). withoutRecord (tableArea room) i t) (k ∙ front))
+    pub slot-here : getD t (headWidth + p * sessionWidth) 0 ≡ who → {r : Bool}
+        → r ≡ coversSession (viewSession (take (headWidth + p * sessionWidth + sessionWidth - (headWidth + p * sessionWidth)) (drop (headWidth + p * sessionWidth) t))) (listedIn v)
+        → r ≡ goesBy who (listedIn v) (viewSession (slotAt room p t))
+    unfolding goesBy hasPeer
+    slot-here e h = h ∙ ap (λ (y : List ℕ). coversSession (viewSession y) (listedIn v)) slice-is ∙ sym (rw (slot-peer, eq-eqb (getD t (headWidth + p * sessionWidth) 0) who e))
+
+    module _ {b : Bool} (is : b ≡ goesBy who (listedIn v) (viewSession (slotAt room p t))) where
+      pub stays-one : b ≡ false → t ≡ afterOne room p who (listedIn v) t
+      unfolding afterOne
+      stays-one e = rw (← is, e)
+
+      -- the peer's, as it goes
+      theirs : b ≡ true → number (part (headWidth + p * sessionWidth) 1 t) ≡ who
+      unfolding goesBy hasPeer
+      theirs e =
+          octet-read (headWidth + p * sessionWidth) t (omega arith) ∙ sym slot-peer
+          ∙ eqb→eq (viewSession (slotAt room p t) .peer) who (and-left (eqb (viewSession (slotAt room p t) .peer) who) (coversSession (viewSession (slotAt room p t)) (listedIn v)) (of-true (sym is ∙ e)))
+
+      pub goes-one : b ≡ true → (n : ℕ) {t′ : List ℕ} → n ≡ number (part (headWidth + p * sessionWidth + seidAt) 8 t) → t′ ≡ withoutRecord (tableArea room) (pairKey who n) t
+          → t′ ≡ afterOne room p who (listedIn v) t
+      unfolding afterOne keyOf
+      goes-one e n k h =
+          let front : number (part (headWidth + p * sessionWidth) keyWidth t) ≡ number (take keyWidth (slotAt room p t)) =
+          ap number (sym (take-take keyWidth sessionWidth (drop (headWidth + p * sessionWidth) t) (omega arith)) ∙ ap (take keyWidth) part-is) in
+          let key : pairKey who n ≡ number (part (headWidth + p * sessionWidth) keyWidth t) =
+          (λ i. pairKey (sym (theirs e) i) (k i)) ∙ sym (number-pair (headWidth + p * sessionWidth) t (omega arith)) in
+          h ∙ rw (← is, e) (ap (λ (i : ℕ). withoutRecord (tableArea room) i t) (key ∙ front))
 
 -- ---- from the last place to the first
 
-abbrev stays : Fqcsid → Session → Bool
-stays l = staysSession (l ∷ [])
+abbrev stays : ℕ → Fqcsid → Session → Bool
+stays who l = staysSession who (l ∷ [])
 
 all-taken : (q : Session → Bool) (m : Sessions) → take (length m) m ++ keep q (drop (length m) m) ≡ m
 unfolding keep
@@ -216,125 +245,127 @@ half-next q zero (x ∷ m) d l false e = rw e
 half-next q (suc n) (x ∷ m) d l true e = ap (λ (y : Sessions). x ∷ y) (half-next q n m d (omega arith) true e)
 half-next q (suc n) (x ∷ m) d l false e = ap (λ (y : Sessions). x ∷ y) (half-next q n m d (omega arith) false e)
 
-pub record Going (t₀ v t : List ℕ) (room p : ℕ) : Type 0 where
+pub record Going (t₀ : List ℕ) (who : ℕ) (v t : List ℕ) (room p : ℕ) : Type 0 where
   pub limit : room ≡ viewSettings t₀ .limit
   pub within : p ≤ length (viewSessions t₀)
-  pub encodes : Encodes (viewSettings t₀) (half (stays (listedIn v)) p (viewSessions t₀)) t
+  pub encodes : Encodes (viewSettings t₀) (half (stays who (listedIn v)) p (viewSessions t₀)) t
 
 pub count-room : {t : List ℕ} {room : ℕ} → Sound t → room ≡ number (part limitAt 2 t) → settingsWidth + 2 + room * sessionWidth ≤ length t
 count-room {t} {room} h r = let l = h .long in let e : room ≡ viewSettings t .limit = r ∙ sym (limit-read t) in omega arith
 
-pub going-none : {t v : List ℕ} {room n : ℕ} → Sound t → room ≡ number (part limitAt 2 t) → n ≡ countIn (tableArea room) t → Going t v t room n
-going-none {t} {v} {room} {n} h r e =
+pub going-none : {t v : List ℕ} {who room n : ℕ} → Sound t → room ≡ number (part limitAt 2 t) → n ≡ countIn (tableArea room) t → Going t who v t room n
+going-none {t} {v} {who} {room} {n} h r e =
     let l : room ≡ viewSettings t .limit = r ∙ sym (limit-read t) in
     let k = sound-encodes h in
     let c : n ≡ length (viewSessions t) = e ∙ ap (λ (i : ℕ). countIn (tableArea i) t) l ∙ ap (countIn (tableArea (viewSettings t .limit))) (k .octets) ∙ sessions-counted (viewSettings t) (k .settings) (viewSessions t) (k .sessions) in
     record {
       limit = l;
       within = omega arith;
-      encodes = subst (λ (m : Sessions). Encodes (viewSettings t) m t) (sym (ap (λ (i : ℕ). half (stays (listedIn v)) i (viewSessions t)) c ∙ all-taken (stays (listedIn v)) (viewSessions t))) k;
+      encodes = subst (λ (m : Sessions). Encodes (viewSettings t) m t) (sym (ap (λ (i : ℕ). half (stays who (listedIn v)) i (viewSessions t)) c ∙ all-taken (stays who (listedIn v)) (viewSessions t))) k;
     }
 
-module _ {t₀ v t : List ℕ} {room p : ℕ} (g : Going t₀ v t room p) (more : 0 < p) where
+module _ {t₀ v t : List ℕ} {who room p : ℕ} (g : Going t₀ who v t room p) (more : 0 < p) where
   abbrev at : ℕ
   at = p - 1
 
-  here : Encodes (viewSettings t₀) (half (stays (listedIn v)) (suc at) (viewSessions t₀)) t
-  here = let e : p ≡ suc (p - 1) = omega arith in subst (λ (i : ℕ). Encodes (viewSettings t₀) (half (stays (listedIn v)) i (viewSessions t₀)) t) e (g .encodes)
+  here : Encodes (viewSettings t₀) (half (stays who (listedIn v)) (suc at) (viewSessions t₀)) t
+  here = let e : p ≡ suc (p - 1) = omega arith in subst (λ (i : ℕ). Encodes (viewSettings t₀) (half (stays who (listedIn v)) i (viewSessions t₀)) t) e (g .encodes)
 
   low : at < length (viewSessions t₀)
   low = let w = g .within in omega arith
 
   pub going-place : p - 1 < room
-  going-place = rw (g .limit) (place-room here at (half-long (stays (listedIn v)) at (viewSessions t₀) low))
+  going-place = rw (g .limit) (place-room here at (half-long (stays who (listedIn v)) at (viewSessions t₀) low))
 
   pub going-few : octetAt (slotAt room (p - 1) t) csidCountAt ≤ nodeTypes
-  going-few = rw (g .limit) (slot-few here at (half-long (stays (listedIn v)) at (viewSessions t₀) low))
+  going-few = rw (g .limit) (slot-few here at (half-long (stays who (listedIn v)) at (viewSessions t₀) low))
 
-  pub going-more : {t′ : List ℕ} → t′ ≡ afterOne room (p - 1) (listedIn v) t → Going t₀ v t′ room (p - 1)
+  pub going-more : {t′ : List ℕ} → t′ ≡ afterOne room (p - 1) who (listedIn v) t → Going t₀ who v t′ room (p - 1)
   going-more {t′} e =
       let l = listedIn v in
       let m = viewSessions t₀ in
-      let k = one-after here at (half-long (stays l) at m low) l in
+      let k = one-after here at (half-long (stays who l) at m low) who l in
       record {
         limit = g .limit;
         within = let w = g .within in omega arith;
-        encodes = rw (e, g .limit) (subst (λ (n : Sessions). Encodes (viewSettings t₀) n (afterOne (viewSettings t₀ .limit) (p - 1) l t)) same k);
+        encodes = rw (e, g .limit) (subst (λ (n : Sessions). Encodes (viewSettings t₀) n (afterOne (viewSettings t₀ .limit) (p - 1) who l t)) same k);
       }
     where
-      is-kept : (x : Session) → stays (listedIn v) x ≡ not (coversSession x (listedIn v))
-      is-kept x = unfold staysSession goesSession any in (go (coversSession x (listedIn v)))
+      is-kept : (x : Session) → stays who (listedIn v) x ≡ not (goesBy who (listedIn v) x)
+      is-kept x = unfold staysSession goesSession goesBy any in (go (hasPeer who x) (coversSession x (listedIn v)))
         where
-          go : (b : Bool) → not (b || false) ≡ not b
-          go true = refl
-          go false = refl
+          go : (a b : Bool) → not (a && (b || false)) ≡ not (a && b)
+          go true true = refl
+          go true false = refl
+          go false b = refl
 
-      same : pick (coversSession (getD (half (stays (listedIn v)) (suc at) (viewSessions t₀)) at (newSession 0)) (listedIn v)) (removeAt at (half (stays (listedIn v)) (suc at) (viewSessions t₀))) (half (stays (listedIn v)) (suc at) (viewSessions t₀))
-          ≡ half (stays (listedIn v)) at (viewSessions t₀)
+      same : pick (goesBy who (listedIn v) (getD (half (stays who (listedIn v)) (suc at) (viewSessions t₀)) at (newSession 0 0))) (removeAt at (half (stays who (listedIn v)) (suc at) (viewSessions t₀))) (half (stays who (listedIn v)) (suc at) (viewSessions t₀))
+          ≡ half (stays who (listedIn v)) at (viewSessions t₀)
       same =
           let m = viewSessions t₀ in
-          let q = stays (listedIn v) in
-          ap (λ (x : Session). pick (coversSession x (listedIn v)) (removeAt at (half q (suc at) m)) (half q (suc at) m)) (half-at q at m (newSession 0) low)
-          ∙ half-next q at m (newSession 0) low (coversSession (getD m at (newSession 0)) (listedIn v)) (is-kept (getD m at (newSession 0)))
+          let q = stays who (listedIn v) in
+          ap (λ (x : Session). pick (goesBy who (listedIn v) x) (removeAt at (half q (suc at) m)) (half q (suc at) m)) (half-at q at m (newSession 0 0) low)
+          ∙ half-next q at m (newSession 0 0) low (goesBy who (listedIn v) (getD m at (newSession 0 0))) (is-kept (getD m at (newSession 0 0)))
 
-pub going-end : {t₀ v t : List ℕ} {room p : ℕ} → Going t₀ v t room p → p ≤ 0 → t ≡ encode (viewSettings t₀) (keep (staysSession (listedIn v ∷ [])) (viewSessions t₀))
-going-end {t₀} {v} {t} {room} {p} g h = let e : p ≡ 0 = omega arith in g .encodes .octets ∙ ap (λ (i : ℕ). encode (viewSettings t₀) (half (stays (listedIn v)) i (viewSessions t₀))) e
+pub going-end : {t₀ v t : List ℕ} {who room p : ℕ} → Going t₀ who v t room p → p ≤ 0 → t ≡ encode (viewSettings t₀) (keep (staysSession who (listedIn v ∷ [])) (viewSessions t₀))
+going-end {t₀} {v} {t} {who} {room} {p} g h = let e : p ≡ 0 = omega arith in g .encodes .octets ∙ ap (λ (i : ℕ). encode (viewSettings t₀) (half (stays who (listedIn v)) i (viewSessions t₀))) e
 
-pub going-same : {t₀ v t : List ℕ} {room p : ℕ} → Going t₀ v t room p → Sound t₀ → length t ≡ length t₀
+pub going-same : {t₀ v t : List ℕ} {who room p : ℕ} → Going t₀ who v t room p → Sound t₀ → length t ≡ length t₀
 going-same g h = encodes-long (g .encodes) ∙ sym (h .long)
 
-pub going-long : {t₀ v t : List ℕ} {room p : ℕ} → Going t₀ v t room p → length t ≡ tableLength room
+pub going-long : {t₀ v t : List ℕ} {who room p : ℕ} → Going t₀ who v t room p → length t ≡ tableLength room
 going-long g = encodes-long (g .encodes) ∙ ap tableLength (sym (g .limit))
 
 -- ---- by one element, and by all
 
 -- what stays after those, then after these, stays after all of them
-stays-both : (cs bs : List Fqcsid) (x : Session) → staysSession (cs ++ bs) x ≡ (staysSession cs x && staysSession bs x)
+stays-both : (who : ℕ) (cs bs : List Fqcsid) (x : Session) → staysSession who (cs ++ bs) x ≡ (staysSession who cs x && staysSession who bs x)
 unfolding staysSession goesSession any
-stays-both [] bs x = refl
-stays-both (a ∷ cs) bs x = go (coversSession x a) (stays-both cs bs x)
+stays-both who [] bs x = rw (and-false (hasPeer who x))
+stays-both who (a ∷ cs) bs x = go (hasPeer who x) (coversSession x a) (stays-both who cs bs x)
   where
-    go : (b : Bool) → not (any (coversSession x) (cs ++ bs)) ≡ (not (any (coversSession x) cs) && not (any (coversSession x) bs))
-        → not (b || any (coversSession x) (cs ++ bs)) ≡ (not (b || any (coversSession x) cs) && not (any (coversSession x) bs))
-    go true h = refl
-    go false h = h
+    go : (p b : Bool) → not (p && any (coversSession x) (cs ++ bs)) ≡ (not (p && any (coversSession x) cs) && not (p && any (coversSession x) bs))
+        → not (p && (b || any (coversSession x) (cs ++ bs))) ≡ (not (p && (b || any (coversSession x) cs)) && not (p && any (coversSession x) bs))
+    go false b h = refl
+    go true true h = refl
+    go true false h = h
 
-keep-both : (cs bs : List Fqcsid) (m : Sessions) → keep (staysSession bs) (keep (staysSession cs) m) ≡ keep (staysSession (cs ++ bs)) m
+keep-both : (who : ℕ) (cs bs : List Fqcsid) (m : Sessions) → keep (staysSession who bs) (keep (staysSession who cs) m) ≡ keep (staysSession who (cs ++ bs)) m
 unfolding keep
-keep-both cs bs [] = refl
-keep-both cs bs (x ∷ m) = rw (stays-both cs bs x) (go (staysSession cs x) (staysSession bs x) refl (keep-both cs bs m))
+keep-both who cs bs [] = refl
+keep-both who cs bs (x ∷ m) = rw (stays-both who cs bs x) (go (staysSession who cs x) (staysSession who bs x) refl (keep-both who cs bs m))
   where
-    go : (a b : Bool) → staysSession bs x ≡ b → keep (staysSession bs) (keep (staysSession cs) m) ≡ keep (staysSession (cs ++ bs)) m
-        → keep (staysSession bs) (pick a (x ∷ keep (staysSession cs) m) (keep (staysSession cs) m)) ≡ pick (a && b) (x ∷ keep (staysSession (cs ++ bs)) m) (keep (staysSession (cs ++ bs)) m)
+    go : (a b : Bool) → staysSession who bs x ≡ b → keep (staysSession who bs) (keep (staysSession who cs) m) ≡ keep (staysSession who (cs ++ bs)) m
+        → keep (staysSession who bs) (pick a (x ∷ keep (staysSession who cs) m) (keep (staysSession who cs) m)) ≡ pick (a && b) (x ∷ keep (staysSession who (cs ++ bs)) m) (keep (staysSession who (cs ++ bs)) m)
     go true true e h = rw e (ap (λ (l : Sessions). x ∷ l) h)
     go true false e h = rw e h
     go false b e h = h
 
-keep-none : (m : Sessions) → keep (staysSession []) m ≡ m
+keep-none : (who : ℕ) (m : Sessions) → keep (staysSession who []) m ≡ m
 unfolding keep staysSession goesSession any
-keep-none [] = refl
-keep-none (x ∷ m) = ap (λ (l : Sessions). x ∷ l) (keep-none m)
+keep-none who [] = refl
+keep-none who (x ∷ m) = rw (and-false (hasPeer who x)) (ap (λ (l : Sessions). x ∷ l) (keep-none who m))
 
-pub by-other : (t v : List ℕ) (k : ℕ) → Sound t → (k ≡ 65 → ⊥) → t ≡ encode (viewSettings t) (keep (staysSession (listsIn k v)) (viewSessions t))
+pub by-other : (t v : List ℕ) (who k : ℕ) → Sound t → (k ≡ 65 → ⊥) → t ≡ encode (viewSettings t) (keep (staysSession who (listsIn k v)) (viewSessions t))
 unfolding listsIn
-by-other t v k h n = sound-encodes h .octets ∙ sym (rw (ne-eqb k 65 n) (ap (encode (viewSettings t)) (keep-none (viewSessions t))))
+by-other t v who k h n = sound-encodes h .octets ∙ sym (rw (ne-eqb k 65 n) (ap (encode (viewSettings t)) (keep-none who (viewSessions t))))
 
-pub by-listed : (t v : List ℕ) (k : ℕ) {t′ : List ℕ} → k ≡ 65 → t′ ≡ encode (viewSettings t) (keep (staysSession (listedIn v ∷ [])) (viewSessions t))
-    → t′ ≡ encode (viewSettings t) (keep (staysSession (listsIn k v)) (viewSessions t))
+pub by-listed : (t v : List ℕ) (who k : ℕ) {t′ : List ℕ} → k ≡ 65 → t′ ≡ encode (viewSettings t) (keep (staysSession who (listedIn v ∷ [])) (viewSessions t))
+    → t′ ≡ encode (viewSettings t) (keep (staysSession who (listsIn k v)) (viewSessions t))
 unfolding listsIn
-by-listed t v k e h = h ∙ rw (eq-eqb k 65 e)
+by-listed t v who k e h = h ∙ rw (eq-eqb k 65 e)
 
-pub record Left (t₀ s t rest : List ℕ) : Type 0 where
+pub record Left (t₀ : List ℕ) (who : ℕ) (s t rest : List ℕ) : Type 0 where
   pub at : ℕ
   pub sessions : Sessions
   pub encodes : Encodes (viewSettings t₀) sessions t
   pub fine : blank (listRead (elements at rest)) ≡ done tt
-  pub same : keep (staysSession (gotten (listRead (elements at rest)))) sessions ≡ keep (staysSession (gotten (listRead (elements listPlace s)))) (viewSessions t₀)
+  pub same : keep (staysSession who (gotten (listRead (elements at rest)))) sessions ≡ keep (staysSession who (gotten (listRead (elements listPlace s)))) (viewSessions t₀)
 
-pub left-none : {t s : List ℕ} → Sound t → blank (listRead (elements listPlace s)) ≡ done tt → Left t s t s
+pub left-none : {t s : List ℕ} {who : ℕ} → Sound t → blank (listRead (elements listPlace s)) ≡ done tt → Left t who s t s
 left-none {t} h f = record { at = listPlace; sessions = viewSessions t; encodes = sound-encodes h; fine = f; same = refl }
 
-module _ {t₀ s t rest : List ℕ} (l : Left t₀ s t rest) where
+module _ {t₀ s t rest : List ℕ} {who : ℕ} (l : Left t₀ who s t rest) where
   pub left-sound : Sound t
   left-sound = encodes-sound (l .encodes)
 
@@ -351,26 +382,26 @@ module _ {t₀ s t rest : List ℕ} (l : Left t₀ s t rest) where
     pub left-sized : k ≡ 65 → Sized (take (e - 4) (drop 4 rest))
     left-sized is = listed-sized k (l .at) value (elements (l .at + e) (behind rest e)) fine-here is
 
-    pub left-more : {t′ : List ℕ} → t′ ≡ encode (viewSettings t) (keep (staysSession (listsIn k (take (e - 4) (drop 4 rest)))) (viewSessions t)) → Left t₀ s t′ (behind rest e)
+    pub left-more : {t′ : List ℕ} → t′ ≡ encode (viewSettings t) (keep (staysSession who (listsIn k (take (e - 4) (drop 4 rest)))) (viewSessions t)) → Left t₀ who s t′ (behind rest e)
     left-more {t′} g =
         let cs = listsIn k value in
         let es = elements (l .at + e) (behind rest e) in
         let m = l .sessions in
         record {
           at = l .at + e;
-          sessions = keep (staysSession cs) m;
+          sessions = keep (staysSession who cs) m;
           encodes = record {
             settings = l .encodes .settings;
-            sessions = keep-allowed (viewSettings t₀) (staysSession cs) m (l .encodes .sessions);
-            octets = g ∙ ap₂ (λ (u : Settings) (n : Sessions). encode u (keep (staysSession cs) n)) (settings-are (l .encodes)) (sessions-are (l .encodes));
+            sessions = keep-allowed (viewSettings t₀) (staysSession who cs) m (l .encodes .sessions);
+            octets = g ∙ ap₂ (λ (u : Settings) (n : Sessions). encode u (keep (staysSession who cs) n)) (settings-are (l .encodes)) (sessions-are (l .encodes));
           };
           fine = rest-fine k (l .at) value es fine-here;
           same =
-              keep-both cs (gotten (listRead es)) m
-              ∙ ap (λ (ds : List Fqcsid). keep (staysSession ds) m) (lists-more k (l .at) value es fine-here ∙ ap (λ ds. gotten (listRead ds)) (sym (f .cons (l .at))))
+              keep-both who cs (gotten (listRead es)) m
+              ∙ ap (λ (ds : List Fqcsid). keep (staysSession who ds) m) (lists-more k (l .at) value es fine-here ∙ ap (λ ds. gotten (listRead ds)) (sym (f .cons (l .at))))
               ∙ l .same;
         }
 
-  pub left-end : ((at : ℕ) → elements at rest ≡ []) → t ≡ encode (viewSettings t₀) (keep (staysSession (gotten (listRead (elements listPlace s)))) (viewSessions t₀))
+  pub left-end : ((at : ℕ) → elements at rest ≡ []) → t ≡ encode (viewSettings t₀) (keep (staysSession who (gotten (listRead (elements listPlace s)))) (viewSessions t₀))
   unfolding listRead
-  left-end nil = l .encodes .octets ∙ ap (encode (viewSettings t₀)) (sym (keep-none (l .sessions)) ∙ ap (λ es. keep (staysSession (gotten (listRead es))) (l .sessions)) (sym (nil (l .at))) ∙ l .same)
+  left-end nil = l .encodes .octets ∙ ap (encode (viewSettings t₀)) (sym (keep-none who (l .sessions)) ∙ ap (λ es. keep (staysSession who (gotten (listRead es))) (l .sessions)) (sym (nil (l .at))) ∙ l .same)

@@ -2,12 +2,14 @@
 -- Assumes nothing.
 use Prim.Native.Nat.{ℕ, _+_, _*_, _/_, _%_, _≤_}
 use mathlib.Core.Path.{_≡_}
+use mathlib.Core.Bool.{Bool, _&&_}
 use mathlib.Core.List.{List, [], _∷_}
 use lib.Dec.{T, eqb}
 use lib.ListN.{length, drop, getD}
 use Rattle.octets.specs.Choice.{pick}
 use Rattle.octets.specs.Octets.{part}
-use Rattle.rules.specs.Layout.{sessionWidth, tableLength, viewSession, viewSettings}
+use Rattle.rules.specs.Model.{Session, hasPeer}
+use Rattle.rules.specs.Layout.{keyWidth, sessionWidth, tableLength, viewSession, viewSettings}
 use Rattle.rules.specs.Sound.{sound}
 use Rattle.rules.specs.Elements.{Fqcsid, sets, addressLength, csidsRead}
 use Rattle.rules.specs.Reading.{Reading, faulty, done, listedRead}
@@ -56,9 +58,13 @@ listsIn t v = pick (eqb t ie.fqcsid) (listedIn v ∷ []) []
 unfoldable pub slotAt : ℕ → ℕ → List ℕ → List ℕ
 slotAt room p t = part (p * sessionWidth) sessionWidth (areaIn (tableArea room) t)
 
+-- a session goes that is the peer's and that the listed FQ-CSID covers
+unfoldable pub goesBy : ℕ → Fqcsid → Session → Bool
+goesBy who l x = hasPeer who x && coversSession x l
+
 -- the table without the session at place p, if that goes
-unfoldable pub afterOne : ℕ → ℕ → Fqcsid → List ℕ → List ℕ
-afterOne room p l t = pick (coversSession (viewSession (slotAt room p t)) l) (withoutRecord (tableArea room) (keyOf 8 (slotAt room p t)) t) t
+unfoldable pub afterOne : ℕ → ℕ → ℕ → Fqcsid → List ℕ → List ℕ
+afterOne room p who l t = pick (goesBy who l (viewSession (slotAt room p t))) (withoutRecord (tableArea room) (keyOf keyWidth (slotAt room p t)) t) t
 
 -- a table that is not broken
 pub record Sound (t : List ℕ) : Type 0 where

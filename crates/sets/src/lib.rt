@@ -8,7 +8,6 @@ ghost use mathlib.Core.Path.{_≡_};
 ghost use Prim.Native.Nat.{_+_, _*_, _/_, _≤_, _<_};
 ghost use mathlib.Core.List.{[], _∷_};
 ghost use lib.ListN.{length};
-ghost use Rattle.octets.specs.Choice.{pick};
 ghost use Rattle.octets.specs.Octets.{octetAt};
 ghost use Rattle.octets.specs.Lists.{member, keep};
 ghost use Rattle.rules.specs.Limits.{maxMessage, nodeTypes};
@@ -18,7 +17,7 @@ ghost use Rattle.rules.specs.Message.{listPlace, elements};
 ghost use Rattle.rules.specs.Reading.{done, listRead};
 ghost use Rattle.rules.specs.Apply.{covers, coversSession, staysSession};
 ghost use Rattle.reading.specs.Verdicts.{outcome, numbered};
-ghost use Rattle.sets.specs.Listed.{blank, gotten, listStep, listedIn, listsIn, Sized, slotAt, afterOne, Sound};
+ghost use Rattle.sets.specs.Listed.{blank, gotten, listStep, listedIn, listsIn, Sized, slotAt, goesBy, afterOne, Sound};
 ghost use Rattle.rules.specs.Types as ie;
 
 // ---- stage 3
@@ -120,63 +119,66 @@ fn covers_session(v: &[u8], slot: &[u8]) -> bool
 
 // ---- the sessions that go
 
-// Whether the session at place p goes; room is the table's session limit.
-fn goes(t: &[u8], room: usize, p: usize, v: &[u8]) -> bool
+// Whether the session at place p goes: it is the peer's, and the FQ-CSID covers it. room is the table's session limit.
+fn goes(t: &[u8], room: usize, p: usize, peer: u32, v: &[u8]) -> bool
     requires { ⌜ (length (now t) ≡ tableLength room) × (p < room) × (octetAt (slotAt room p (now t)) csidCountAt ≤ nodeTypes) × Sized (now v) ⌝ }
-    ensures { λ r. ⌜ r ≡ coversSession (viewSession (slotAt room p (now (t .entry)))) (listedIn (now (v .entry))) ⌝ }
+    ensures { λ r. ⌜ r ≡ goesBy peer (listedIn (now (v .entry))) (viewSession (slotAt room p (now (t .entry)))) ⌝ }
 {
     let at = format::HEAD + p * format::SLOT;
     let end = at + format::SLOT;
+    if t[at] as u32 != peer {
+        return false;
+    }
     covers_session(v, &t[at..end])
 }
 
 // Takes the session at place p out if it goes.
-fn remove_one(t: &mut [u8], room: usize, p: usize, v: &[u8])
+fn remove_one(t: &mut [u8], room: usize, p: usize, peer: u32, v: &[u8])
     requires { ⌜ (length (now t) ≡ tableLength room) × (p < room) × (octetAt (slotAt room p (now t)) csidCountAt ≤ nodeTypes) × Sized (now v) ⌝ }
-    ensures { λ _. ⌜ now (t .exit) ≡ afterOne room p (listedIn (now (v .entry))) (now (t .entry)) ⌝ }
+    ensures { λ _. ⌜ now (t .exit) ≡ afterOne room p peer (listedIn (now (v .entry))) (now (t .entry)) ⌝ }
 {
-    if !goes(t, room, p, v) {
+    if !goes(t, room, p, peer, v) {
         return;
     }
-    let seid = octets::read(t, format::HEAD + p * format::SLOT, 8);
-    session::remove(t, room, format::COUNT, seid);
+    let seid = octets::read(t, format::HEAD + p * format::SLOT + format::SEID, 8);
+    session::remove(t, room, format::COUNT, peer as u64, seid);
 }
 
-// Takes out every session that the FQ-CSID of value v covers, from the last place to the first, so that no place moves before it is looked at.
-fn remove_covered(t: &mut [u8], v: &[u8])
+// Takes out every session of the peer that the FQ-CSID of value v covers, from the last place to the first, so that no place moves before it is looked at.
+fn remove_covered(t: &mut [u8], peer: u32, v: &[u8])
     requires { ⌜ Sound (now t) × Sized (now v) ⌝ }
-    ensures { λ _. ⌜ now (t .exit) ≡ encode (viewSettings (now (t .entry))) (keep (staysSession (listedIn (now (v .entry)) ∷ [])) (viewSessions (now (t .entry)))) ⌝ }
+    ensures { λ _. ⌜ now (t .exit) ≡ encode (viewSettings (now (t .entry))) (keep (staysSession peer (listedIn (now (v .entry)) ∷ [])) (viewSessions (now (t .entry)))) ⌝ }
 {
     let room = octets::read(t, format::LIMIT, 2) as usize;
     let mut p = session::count(t, room, format::COUNT);
     while 0 < p {
         p -= 1;
-        remove_one(t, room, p, v);
+        remove_one(t, room, p, peer, v);
     }
 }
 
-// Takes out every session that goes by an element of type kind with the value v, which has no fault.
-fn remove_by(t: &mut [u8], kind: u64, v: &[u8])
+// Takes out every session of the peer that goes by an element of type kind with the value v, which has no fault.
+fn remove_by(t: &mut [u8], peer: u32, kind: u64, v: &[u8])
     requires { ⌜ Sound (now t) × (kind ≡ ie.fqcsid → Sized (now v)) ⌝ }
-    ensures { λ _. ⌜ now (t .exit) ≡ encode (viewSettings (now (t .entry))) (keep (staysSession (listsIn kind (now (v .entry)))) (viewSessions (now (t .entry)))) ⌝ }
+    ensures { λ _. ⌜ now (t .exit) ≡ encode (viewSettings (now (t .entry))) (keep (staysSession peer (listsIn kind (now (v .entry)))) (viewSessions (now (t .entry)))) ⌝ }
 {
     if kind != types::FQCSID {
         return;
     }
-    remove_covered(t, v);
+    remove_covered(t, peer, v);
 }
 
-// Takes out every session that goes by the elements s of a set deletion, which have no fault.
-pub fn remove_listed(t: &mut [u8], s: &[u8])
+// Takes out every session of the peer that goes by the elements s of a set deletion, which have no fault.
+pub fn remove_listed(t: &mut [u8], peer: u32, s: &[u8])
     requires { ⌜ Sound (now t) × (blank (listRead (elements listPlace (now s))) ≡ done tt) ⌝ }
-    ensures { λ _. ⌜ now (t .exit) ≡ encode (viewSettings (now (t .entry))) (keep (staysSession (gotten (listRead (elements listPlace (now (s .entry)))))) (viewSessions (now (t .entry)))) ⌝ }
+    ensures { λ _. ⌜ now (t .exit) ≡ encode (viewSettings (now (t .entry))) (keep (staysSession peer (gotten (listRead (elements listPlace (now (s .entry)))))) (viewSessions (now (t .entry)))) ⌝ }
 {
     let mut rest = s;
     loop {
         let First::Element(kind, end) = frame::first_of(rest) else {
             return;
         };
-        remove_by(t, kind, &rest[4..end]);
+        remove_by(t, peer, kind, &rest[4..end]);
         rest = &rest[end..];
     }
 }

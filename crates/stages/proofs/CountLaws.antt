@@ -2,27 +2,26 @@
 use mathlib.Core.Path.{_≡_, refl, sym, ap, _∙_}
 use mathlib.Core.Bool.{Bool, true, false, or-false, and-true, and-false}
 use mathlib.Core.List.{List, [], _∷_}
-use Prim.Native.Nat.{ℕ, suc, _+_, _-_, _≤_, _<_}
+use Prim.Native.Nat.{ℕ, suc, _+_, _-_, _/_, _≤_, _<_}
 use native.Mathlib.Omega.{arith}
 use lib.Dec.{ltb, leb}
 use lib.ListN.{length, drop, getD, length-map}
 use borrow.Author.Tests.{ne-eqb}
 use Rattle.octets.specs.Choice.{pick, isNil}
-use Rattle.octets.specs.Octets.{number, numberAt, octetAt, part, slices}
+use Rattle.octets.specs.Octets.{octetAt, slices}
 use Rattle.octets.specs.Lists.{any, keep}
 use Rattle.octets.specs.Rows.{hasTag}
 use Rattle.octets.proofs.Numbers.{length-slices}
-use Rattle.rules.specs.Model.{Settings, Session, Sessions, freeCount, heldAddresses, freeAddresses, freeAddressCount}
+use Rattle.rules.specs.Model.{Settings, Session, Sessions, half, ofPeer, heldAddresses, freeAddresses, freeAddressCount}
 use Rattle.rules.specs.Elements.{ueChooses}
 use Rattle.rules.specs.Sound.{inPool}
 use Rattle.laws.proofs.RangeLaws.{unheld-count}
 use Rattle.pool.proofs.AddressLaws.{held-pooled}
 use Rattle.plan.specs.RowRules.{ofUeKind}
 use Rattle.plan.proofs.UeLaws.{choose-rows}
-use Rattle.rules.specs.Layout.{viewSession, viewSessions, viewArea, viewPdr, viewEndpoint, pdrWidth, endpointWidth, settingsWidth, pdrCountAt, endpointCountAt, pdrsAt, endpointsAt}
-use Rattle.rules.specs.Grants.{need}
+use Rattle.rules.specs.Layout.{viewSession, viewArea, viewPdr, viewEndpoint, pdrWidth, endpointWidth, pdrCountAt, endpointCountAt, pdrsAt, endpointsAt}
 use Rattle.rules.specs.Request.{Request}
-use Rattle.rules.specs.Stages.{removedPdrs, tooManySessions, tooManyPdrs, tooManyEndpoints, tooFewTeids, roomLacks, addressesOf, addressLacks}
+use Rattle.rules.specs.Stages.{removedPdrs, tooManySessions, tooManyPdrs, tooManyEndpoints, needed, tooFewTeids, roomLacks, addressesOf, addressLacks}
 use Rattle.plan.specs.Rows.{rowWidth, tagged, rowsOf, rowPdr, rowEndpoint, rowEndpointId, requestIn}
 use Rattle.unit.specs.declared.Settings.{Settings as Unit}
 use Rattle.unit.specs.Meaning.{settingsOf}
@@ -44,17 +43,13 @@ pub tagged-length : (tag n : ℕ) (s : List ℕ) → length (tagged tag (rowsOf 
 unfolding tagged
 tagged-length tag n s = omega (arith, keep-length (hasTag tag) (rowsOf n s), length-slices rowWidth n s)
 
-pub session-count : (t : List ℕ) → length (viewSessions t) ≡ number (part settingsWidth 2 t)
-unfolding viewSessions viewArea numberAt
-session-count t = length-map (slices _ (number (part settingsWidth 2 t)) _) viewSession ∙ length-slices _ (number (part settingsWidth 2 t)) _
-
-pub full-other : (s : Settings) (kind : ℕ) (m : Sessions) → (kind ≡ establishment → ⊥) → tooManySessions s kind m ≡ false
+pub full-other : (s : Settings) (who kind : ℕ) (m : Sessions) → (kind ≡ establishment → ⊥) → tooManySessions s who kind m ≡ false
 unfolding tooManySessions
-full-other s kind m h = rw (ne-eqb kind establishment h)
+full-other s who kind m h = rw (ne-eqb kind establishment h)
 
-pub full-new : (u : Unit) (kind : ℕ) (t : List ℕ) (n : ℕ) → kind ≡ establishment → n ≡ number (part settingsWidth 2 t) → leb (u .limit) n ≡ tooManySessions (settingsOf u) kind (viewSessions t)
-unfolding tooManySessions settingsOf
-full-new u kind t n h e = rw (h, e, session-count t)
+pub full-new : (u : Unit) (who kind : ℕ) (m : Sessions) (n : ℕ) → kind ≡ establishment → n ≡ length (ofPeer who m) → leb (u .limit / 2) n ≡ tooManySessions (settingsOf u) who kind m
+unfolding tooManySessions half settingsOf
+full-new u who kind m n h e = rw (h, e)
 
 -- more removed than live
 pub too-many-none : (live limit g n : ℕ) → live < g → ltb limit n ≡ ltb limit (live - g + n)
@@ -76,24 +71,24 @@ module _ (slot : List ℕ) (seid : ℕ) (restoring noted : Bool) (rows : List (L
       rw (e, length-map (slices endpointWidth (getD slot endpointCountAt 0) (drop endpointsAt slot)) viewEndpoint, length-slices endpointWidth (getD slot endpointCountAt 0) (drop endpointsAt slot), length-map (tagged ie.removeEndpoint rows) rowEndpointId, length-map (tagged ie.createEndpoint rows) rowEndpoint)
 
 -- the tests one after the other
-module _ (kind : ℕ) (s : Settings) (m : Sessions) (x : Session) (r : Request) where
-  pub room-1 : tooManySessions s kind m ≡ true → roomLacks kind s m x r ≡ true
+module _ (kind : ℕ) (s : Settings) (who : ℕ) (m : Sessions) (x : Session) (r : Request) where
+  pub room-1 : tooManySessions s who kind m ≡ true → roomLacks kind s who m x r ≡ true
   unfolding roomLacks
   room-1 h = rw h
 
-  module _ (a : tooManySessions s kind m ≡ false) where
-    pub room-2 : tooManyPdrs x r ≡ true → roomLacks kind s m x r ≡ true
+  module _ (a : tooManySessions s who kind m ≡ false) where
+    pub room-2 : tooManyPdrs x r ≡ true → roomLacks kind s who m x r ≡ true
     unfolding roomLacks
     room-2 h = rw (a, h)
 
     module _ (b : tooManyPdrs x r ≡ false) where
-      pub room-3 : tooManyEndpoints x r ≡ true → roomLacks kind s m x r ≡ true
+      pub room-3 : tooManyEndpoints x r ≡ true → roomLacks kind s who m x r ≡ true
       unfolding roomLacks
       room-3 h = rw (a, b, h)
 
-      pub room-4 : (free n : ℕ) → tooManyEndpoints x r ≡ false → free ≡ freeCount s m → n ≡ need r → ltb free n ≡ roomLacks kind s m x r
-      unfolding roomLacks tooFewTeids
-      room-4 free n h f e = rw (a, b, h, f, e) (sym (or-false (ltb (freeCount s m) (need r))))
+      pub room-4 : (teids n : ℕ) → tooManyEndpoints x r ≡ false → tooFewTeids s who m r ≡ ltb teids (needed r) → n ≡ needed r → ltb teids n ≡ roomLacks kind s who m x r
+      unfolding roomLacks
+      room-4 teids n h f e = rw (a, b, h, f, e) (sym (or-false (ltb teids (needed r))))
 
 -- ---- cause 79
 

@@ -4,7 +4,7 @@ use mathlib.Core.Bool.{Bool, false}
 use mathlib.Core.List.{List}
 use Prim.Native.Nat.{ℕ, _*_, _≤_}
 use native.Mathlib.Omega.{arith}
-use lib.Dec.{T, leb→le, eqb→eq}
+use lib.Dec.{T, leb→le}
 use lib.ListN.{length, take, drop, getD, replicate, length-map}
 use lib.Seq.{sets}
 use Rattle.octets.specs.Octets.{octetAt, slices}
@@ -14,9 +14,9 @@ use Rattle.octets.proofs.Ordered.{keep-length}
 use Rattle.octets.proofs.Numbers.{length-slices}
 use Rattle.octets.proofs.Loops.{stored}
 use Rattle.rules.specs.Limits.{maxPdrs, maxEndpoints, maxPool, mapWords, addressWords}
-use Rattle.rules.specs.Model.{Settings, Session, pdrId, heldTeids, freeCount, heldAddresses, freeAddressCount}
+use Rattle.rules.specs.Model.{Settings, Session, pdrId, heldTeids, heldAddresses, freeAddressCount, keyFor}
 use Rattle.rules.specs.Request.{Request}
-use Rattle.rules.specs.Layout.{viewPdr, viewEndpoint, viewArea, viewSession, viewSettings, viewSessions, pdrWidth, endpointWidth, tableLength, sessionWidth, pdrCountAt, endpointCountAt, pdrsAt}
+use Rattle.rules.specs.Layout.{viewPdr, viewEndpoint, viewArea, viewSession, viewSettings, viewSessions, pdrWidth, endpointWidth, sessionWidth, pdrCountAt, endpointCountAt, pdrsAt}
 use Rattle.rules.specs.Sound.{sessionTests, sessionAllowed, poolTests, settingsTests, settingsAllowed, soundTests, sound}
 use Rattle.rules.specs.Stages.{newSession, isLive, goesPdr, removedPdrs}
 use Rattle.rules.specs.Message.{establishment}
@@ -24,7 +24,7 @@ use Rattle.plan.specs.Rows.{rowWidth, rowsOf}
 use Rattle.plan.specs.RowRules.{requestOf}
 use Rattle.pool.proofs.TakenLaws.{Means}
 use Rattle.pool.proofs.AddressLaws.{addresses-fit}
-use Rattle.stages.specs.Rules.{Slot, Gone, AtEntry}
+use Rattle.stages.specs.Rules.{Slot, Gone, ShareOf, AtEntry}
 
 -- ---- the slot
 
@@ -52,9 +52,9 @@ slot-live s slot x long e h =
     slot-of slot x long e (leb→le (length (x .pdrs)) maxPdrs (tests .1 .1 .0)) (leb→le (length (x .endpoints)) maxEndpoints (tests .1 .1 .1 .1 .1 .0))
 
 -- of a new one
-pub slot-new : (slot : List ℕ) (seid : ℕ) → length slot ≡ sessionWidth → viewSession slot ≡ newSession seid → Slot slot
+pub slot-new : (slot : List ℕ) (who seid : ℕ) → length slot ≡ sessionWidth → viewSession slot ≡ newSession who seid → Slot slot
 unfolding newSession
-slot-new slot seid long e = slot-of slot (newSession seid) long e (omega arith) (omega arith)
+slot-new slot who seid long e = slot-of slot (newSession who seid) long e (omega arith) (omega arith)
 
 -- ---- the PDRs that go, as they were stored in an array
 
@@ -83,26 +83,24 @@ pool-wide s words h e =
 
 -- ---- a sound table, with its maps and free counts
 
-pub at-entry : (s : Settings) (t taken addresses slot gone plan : List ℕ) (n free freed kind seid : ℕ) (live : Bool) → s ≡ viewSettings t → T (sound t) → Slot slot → n * rowWidth ≤ length plan → Gone slot (rowsOf n plan) gone
+pub at-entry : (s : Settings) (t taken addresses slot gone plan : List ℕ) (n who teids sessions freed kind seid : ℕ) (live : Bool) → s ≡ viewSettings t → T (sound t) → Slot slot → n * rowWidth ≤ length plan → Gone slot (rowsOf n plan) gone
     → length taken ≡ mapWords → Means (viewSettings t .first) taken (heldTeids (viewSessions t))
-    → free ≡ freeCount (viewSettings t) (viewSessions t)
+    → ShareOf (viewSettings t) (viewSessions t) who teids sessions
     → length addresses ≡ addressWords → Means (viewSettings t .firstAddress) addresses (heldAddresses (viewSettings t) (viewSessions t))
     → freed ≡ freeAddressCount (viewSettings t) (viewSessions t)
-    → (kind ≡ establishment → live ≡ isLive seid (viewSessions t))
-    → AtEntry s t taken addresses slot gone plan n free freed kind seid live
+    → (kind ≡ establishment → live ≡ isLive (keyFor who seid) (viewSessions t))
+    → AtEntry s t taken addresses slot gone plan n who teids sessions freed kind seid live
 unfolding sound soundTests
-at-entry s t taken addresses slot gone plan n free freed kind seid live same h place rows removed words means count wordsA meansA countA known =
+at-entry s t taken addresses slot gone plan n who teids sessions freed kind seid live same h place rows removed words means count wordsA meansA countA known =
     let tests = each (soundTests t (viewSettings t) (viewSessions t)) h in
-    let size : length t ≡ tableLength (viewSettings t .limit) = (eqb→eq (length t) (tableLength (viewSettings t .limit)) (tests .0)) in
-    subst (λ (x : Settings). AtEntry x t taken addresses slot gone plan n free freed kind seid live) (sym same)
+    subst (λ (x : Settings). AtEntry x t taken addresses slot gone plan n who teids sessions freed kind seid live) (sym same)
     (record {
-      long = omega arith;
       place = place;
       rows = rows;
       removed = removed;
       wide = pool-wide (viewSettings t) taken (tests .1 .0) words;
       marks = λ i below. means i;
-      count = count;
+      share = count;
       wideAddresses = omega (arith, wordsA, addresses-fit (viewSettings t) (tests .1 .0));
       marksAddresses = λ i below. meansA i;
       countAddresses = countA;

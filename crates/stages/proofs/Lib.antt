@@ -6,3 +6,4 @@ pub mod RuleLaws
 pub mod CauseLaws
 pub mod VerdictLaws
 pub mod EntryLaws
+pub mod ShareLaws

@@ -130,7 +130,7 @@ module _ (rows : List (List ℕ)) where
   gone-slot slot = rw (left-part slot pdrsAt)
 
 pub pdrs-fit : (slot : List ℕ) → Slot slot → getD slot pdrCountAt 0 * pdrWidth ≤ length (take (length slot - pdrsAt) (drop pdrsAt slot))
-pdrs-fit slot h = rw (left-part slot 11, length-drop pdrsAt slot) (omega arith)
+pdrs-fit slot h = rw (left-part slot pdrsAt, length-drop pdrsAt slot) (omega arith)
 
 -- ---- live IDs as they were stored in an array
 

@@ -1,23 +1,22 @@
 -- The verdict of stages 4 to 6, one cause after the other, from what the code has found. Assumes nothing.
 use mathlib.Core.Path.{_≡_, refl, sym, ap, _∙_}
-use mathlib.Core.Bool.{Bool, true, false, _&&_}
+use mathlib.Core.Bool.{Bool, true, false, _&&_, _||_}
 use mathlib.Core.List.{List, [], _∷_}
-use Prim.Native.Nat.{ℕ}
+use Prim.Native.Nat.{ℕ, _+_}
 use lib.Dec.{eqb, ltb}
 use borrow.Author.Tests.{eqb-true}
 use Rattle.octets.specs.Choice.{pick, oneOf, isNil}
-use Rattle.rules.specs.Model.{Settings, Session, Sessions, freeCount, freeAddresses}
+use Rattle.rules.specs.Model.{Settings, Session, Sessions, peerOf, otherPeer, holdings, unused, keyFor, freeAddresses}
 use Rattle.rules.specs.Message.{establishment}
 use Rattle.rules.specs.Request.{Request}
 use Rattle.rules.specs.Layout.{viewSession, viewSessions}
-use Rattle.rules.specs.Grants.{need}
-use Rattle.rules.specs.Stages.{isLive, goesPdr, removedPdrs, invalidAllocation, breaksRule, tooManySessions, tooManyPdrs, tooManyEndpoints, tooFewTeids, roomLacks, addressLacks, judge, plain}
+use Rattle.rules.specs.Stages.{isLive, goesPdr, removedPdrs, invalidAllocation, breaksRule, tooManySessions, tooManyPdrs, tooManyEndpoints, passesLimit, passesPool, tooFewTeids, roomLacks, addressLacks, judge, plain}
 use Rattle.rules.specs.Causes as why
 use Rattle.plan.specs.Rows.{rowsOf, requestIn}
 use Rattle.plan.specs.RowRules.{heldIn, markedAddress}
 use Rattle.plan.proofs.RequestLaws.{invalid-rows, unsupported-rows}
 use Rattle.plan.proofs.UeLaws.{choose-rows}
-use Rattle.plan.proofs.NeedLaws.{need-rows}
+use Rattle.plan.proofs.NeededLaws.{needed-rows}
 use Rattle.stages.specs.Rules.{AtEntry, breaksRuleBy}
 use Rattle.stages.proofs.CauseLaws.{breaks-by, map-agrees, addresses-agree, rule-rows}
 
@@ -30,12 +29,18 @@ endpoints-same : (x : Session) (seid : ℕ) (restoring noted : Bool) (rows : Lis
 unfolding tooManyEndpoints requestIn
 endpoints-same x seid restoring noted rows = refl
 
-room-rows : (kind : ℕ) (s : Settings) (m : Sessions) (x : Session) (seid : ℕ) (restoring noted : Bool) (rows : List (List ℕ))
-    → roomLacks kind s m x (requestIn 0 false false rows) ≡ roomLacks kind s m x (requestIn seid restoring noted rows)
-unfolding roomLacks tooFewTeids
-room-rows kind s m x seid restoring noted rows =
-    let few : need (requestIn 0 false false rows) ≡ need (requestIn seid restoring noted rows) = need-rows 0 false false rows ∙ sym (need-rows seid restoring noted rows) in
-    λ i. oneOf (tooManySessions s kind m ∷ pdrs-same x seid restoring noted rows i ∷ endpoints-same x seid restoring noted rows i ∷ ltb (freeCount s m) (few i) ∷ [])
+teids-same : (s : Settings) (who : ℕ) (m : Sessions) (seid : ℕ) (restoring noted : Bool) (rows : List (List ℕ))
+    → tooFewTeids s who m (requestIn 0 false false rows) ≡ tooFewTeids s who m (requestIn seid restoring noted rows)
+unfolding tooFewTeids passesLimit passesPool
+teids-same s who m seid restoring noted rows =
+    ap (λ (k : ℕ). ltb (peerOf s who .limit) (holdings who m + k) || ltb (s .size) (holdings who m + holdings (otherPeer who) m + k + unused s (otherPeer who) m))
+    (needed-rows 0 false false rows ∙ sym (needed-rows seid restoring noted rows))
+
+room-rows : (kind : ℕ) (s : Settings) (who : ℕ) (m : Sessions) (x : Session) (seid : ℕ) (restoring noted : Bool) (rows : List (List ℕ))
+    → roomLacks kind s who m x (requestIn 0 false false rows) ≡ roomLacks kind s who m x (requestIn seid restoring noted rows)
+unfolding roomLacks
+room-rows kind s who m x seid restoring noted rows =
+    λ i. oneOf (tooManySessions s who kind m ∷ pdrs-same x seid restoring noted rows i ∷ endpoints-same x seid restoring noted rows i ∷ teids-same s who m seid restoring noted rows i ∷ [])
 
 -- and to cause 79
 address-same : (s : Settings) (m : Sessions) (seid : ℕ) (restoring noted : Bool) (rows : List (List ℕ)) → addressLacks s m (requestIn 0 false false rows) ≡ addressLacks s m (requestIn seid restoring noted rows)
@@ -48,12 +53,12 @@ address-same s m seid restoring noted rows =
 unfoldable pub chain : Bool → Bool → Bool → Bool → Bool → Bool → ℕ
 chain a b c d e f = pick a why.rejected (pick b why.wrongAllocation (pick c why.notSupported (pick d why.brokenRule (pick e why.noRoom (pick f why.noAddress why.accepted)))))
 
-judge-is : (kind : ℕ) (s : Settings) (m : Sessions) (x : Session) (r : Request) (seid : ℕ) → r .seid ≡ seid
-    → judge kind s m x r .cause ≡ chain (eqb kind establishment && isLive seid m) (invalidAllocation r) (r .unsupported) (breaksRule s m x r) (roomLacks kind s m x r) (addressLacks s m r)
+judge-is : (kind : ℕ) (s : Settings) (who : ℕ) (m : Sessions) (x : Session) (r : Request) (seid : ℕ) → r .seid ≡ seid
+    → judge kind s who m x r .cause ≡ chain (eqb kind establishment && isLive (keyFor who seid) m) (invalidAllocation r) (r .unsupported) (breaksRule s m x r) (roomLacks kind s who m x r) (addressLacks s m r)
 unfolding judge chain
-judge-is kind s m x r seid h =
-    one (eqb kind establishment && isLive (r .seid) m) (invalidAllocation r) (r .unsupported) (breaksRule s m x r) (roomLacks kind s m x r) (addressLacks s m r)
-    ∙ ap (λ (k : ℕ). chain (eqb kind establishment && isLive k m) (invalidAllocation r) (r .unsupported) (breaksRule s m x r) (roomLacks kind s m x r) (addressLacks s m r)) h
+judge-is kind s who m x r seid h =
+    one (eqb kind establishment && isLive (keyFor who (r .seid)) m) (invalidAllocation r) (r .unsupported) (breaksRule s m x r) (roomLacks kind s who m x r) (addressLacks s m r)
+    ∙ ap (λ (k : ℕ). chain (eqb kind establishment && isLive (keyFor who k) m) (invalidAllocation r) (r .unsupported) (breaksRule s m x r) (roomLacks kind s who m x r) (addressLacks s m r)) h
   where
     one : (a b c d e f : Bool) → pick a (plain why.rejected) (pick b (plain why.wrongAllocation) (pick c (plain why.notSupported) (pick d (plain why.brokenRule) (pick e (plain why.noRoom) (pick f (plain why.noAddress) (plain why.accepted)))))) .cause ≡ chain a b c d e f
     one true b c d e f = refl
@@ -98,11 +103,11 @@ module _ (a b c d e f : Bool) where
             unfolding chain
             is-1 h = rw (p, q, r, s, t, h)
 
-module _ {s : Settings} {t taken addresses slot gone plan : List ℕ} {n free freed kind seid : ℕ} {live : Bool} (restoring noted : Bool) (known : AtEntry s t taken addresses slot gone plan n free freed kind seid live) where
-  live-same : (eqb kind establishment && live) ≡ (eqb kind establishment && isLive seid (viewSessions t))
+module _ {s : Settings} {t taken addresses slot gone plan : List ℕ} {n who teids sessions freed kind seid : ℕ} {live : Bool} (restoring noted : Bool) (known : AtEntry s t taken addresses slot gone plan n who teids sessions freed kind seid live) where
+  live-same : (eqb kind establishment && live) ≡ (eqb kind establishment && isLive (keyFor who seid) (viewSessions t))
   live-same = one (eqb kind establishment) refl
     where
-      one : (b : Bool) → eqb kind establishment ≡ b → (b && live) ≡ (b && isLive seid (viewSessions t))
+      one : (b : Bool) → eqb kind establishment ≡ b → (b && live) ≡ (b && isLive (keyFor who seid) (viewSessions t))
       one true e = known .known (eqb-true kind establishment e)
       one false e = refl
 
@@ -113,24 +118,24 @@ module _ {s : Settings} {t taken addresses slot gone plan : List ℕ} {n free fr
       ∙ breaks-by (heldIn s taken) (markedAddress s addresses) s (viewSessions t) (viewSession slot) seid restoring noted (rowsOf n plan) (map-agrees s (viewSessions t) taken (known .marks)) (addresses-agree s (viewSessions t) addresses (known .marksAddresses))
 
   -- the verdict by six tests, as code makes them
-  pub verdict-is : judge kind s (viewSessions t) (viewSession slot) (requestIn seid restoring noted (rowsOf n plan)) .cause
+  pub verdict-is : judge kind s who (viewSessions t) (viewSession slot) (requestIn seid restoring noted (rowsOf n plan)) .cause
       ≡ chain (eqb kind establishment && live) (invalidAllocation (requestIn 0 restoring false (rowsOf n plan))) (requestIn 0 false noted (rowsOf n plan) .unsupported)
       (breaksRuleBy (heldIn s taken) (markedAddress s addresses) s (viewSession slot) (requestIn 0 restoring false (rowsOf n plan)))
-      (roomLacks kind s (viewSessions t) (viewSession slot) (requestIn 0 false false (rowsOf n plan)))
+      (roomLacks kind s who (viewSessions t) (viewSession slot) (requestIn 0 false false (rowsOf n plan)))
       (addressLacks s (viewSessions t) (requestIn 0 false false (rowsOf n plan)))
   verdict-is =
       let a = live-same in
       let b : invalidAllocation (requestIn 0 restoring false (rowsOf n plan)) ≡ invalidAllocation (requestIn seid restoring noted (rowsOf n plan)) = invalid-rows 0 restoring false (rowsOf n plan) ∙ sym (invalid-rows seid restoring noted (rowsOf n plan)) in
       let c : requestIn 0 false noted (rowsOf n plan) .unsupported ≡ requestIn seid restoring noted (rowsOf n plan) .unsupported = unsupported-rows 0 false noted (rowsOf n plan) ∙ sym (unsupported-rows seid restoring noted (rowsOf n plan)) in
-      let e = room-rows kind s (viewSessions t) (viewSession slot) seid restoring noted (rowsOf n plan) in
+      let e = room-rows kind s who (viewSessions t) (viewSession slot) seid restoring noted (rowsOf n plan) in
       let f = address-same s (viewSessions t) seid restoring noted (rowsOf n plan) in
-      judge-is kind s (viewSessions t) (viewSession slot) (requestIn seid restoring noted (rowsOf n plan)) seid (unfold requestIn in refl)
+      judge-is kind s who (viewSessions t) (viewSession slot) (requestIn seid restoring noted (rowsOf n plan)) seid (unfold requestIn in refl)
       ∙ sym (λ i. chain (a i) (b i) (c i) (rule-same i) (e i) (f i))
 
 -- these causes name no element
-pub judge-plain : (kind : ℕ) (s : Settings) (m : Sessions) (x : Session) (r : Request) → judge kind s m x r ≡ plain (judge kind s m x r .cause)
+pub judge-plain : (kind : ℕ) (s : Settings) (who : ℕ) (m : Sessions) (x : Session) (r : Request) → judge kind s who m x r ≡ plain (judge kind s who m x r .cause)
 unfolding judge
-judge-plain kind s m x r = one (eqb kind establishment && isLive (r .seid) m) (invalidAllocation r) (r .unsupported) (breaksRule s m x r) (roomLacks kind s m x r) (addressLacks s m r)
+judge-plain kind s who m x r = one (eqb kind establishment && isLive (keyFor who (r .seid)) m) (invalidAllocation r) (r .unsupported) (breaksRule s m x r) (roomLacks kind s who m x r) (addressLacks s m r)
   where
     one : (a b c d e f : Bool)
         → pick a (plain why.rejected) (pick b (plain why.wrongAllocation) (pick c (plain why.notSupported) (pick d (plain why.brokenRule) (pick e (plain why.noRoom) (pick f (plain why.noAddress) (plain why.accepted))))))

@@ -1,20 +1,21 @@
 -- Cause 73 with tests in place of the lists of held TEIDs and addresses, and what is known of table, maps and slot before stages 4 and 5. Assumes nothing.
-use Prim.Native.Nat.{ℕ, _+_, _*_, _≤_, _<_}
+use Prim.Native.Nat.{ℕ, _+_, _-_, _*_, _≤_, _<_}
 use mathlib.Core.Path.{_≡_}
 use mathlib.Core.Bool.{Bool, false, not, _||_}
 use mathlib.Core.List.{List}
+use lib.Dec.{ltb}
 use lib.ListN.{length, getD}
-use Rattle.octets.specs.Choice.{oneOf}
+use Rattle.octets.specs.Choice.{oneOf, pick}
 use Rattle.octets.specs.Lists.{member, any, allPairs}
 use Rattle.rules.specs.Limits.{maxPdrs, maxEndpoints}
-use Rattle.rules.specs.Layout.{viewSession, viewSessions, headWidth, pdrCountAt, endpointCountAt, sessionWidth}
-use Rattle.rules.specs.Model.{Settings, Session, teidOf, heldTeids, freeCount, heldAddresses, freeAddressCount}
+use Rattle.rules.specs.Layout.{viewSession, viewSessions, pdrCountAt, endpointCountAt, sessionWidth}
+use Rattle.rules.specs.Model.{Settings, Session, Sessions, teidOf, heldTeids, heldAddresses, freeAddressCount, peerOf, otherPeer, ofPeer, holdings, keyFor}
 use Rattle.plan.specs.Rows.{rowWidth, rowsOf}
 use Rattle.plan.specs.RowRules.{requestOf}
 use Rattle.pool.specs.Map.{marked}
 use Rattle.rules.specs.Request.{Request}
-use Rattle.rules.specs.Sound.{agree}
-use Rattle.rules.specs.Stages.{isLive, removedPdrs, requestRules, restoredHoldings, restoredAddresses}
+use Rattle.rules.specs.Sound.{agree, due}
+use Rattle.rules.specs.Stages.{needed, tooFewTeids, isLive, removedPdrs, requestRules, restoredHoldings, restoredAddresses}
 use Rattle.rules.specs.Message.{establishment}
 
 -- a restored TEID that is held, or shared against the table's rule
@@ -34,18 +35,30 @@ pub record Slot (slot : List ℕ) : Type 0 where
 abbrev pub Gone : List ℕ → List (List ℕ) → List ℕ → Type 0
 Gone slot rows gone = gone ≡ removedPdrs (requestOf false rows) (viewSession slot .pdrs)
 
--- What is known before stages 4 and 5, s being the settings: the table's session count can be read; each map, of TEIDs and of addresses, has a
--- bit for each number of its pool, set where a session holds the number; the removed PDRs are the rules', the free counts are the rules', and for
--- an establishment (50) it is known whether the SEID is live.
-pub record AtEntry (s : Settings) (t taken addresses slot gone plan : List ℕ) (n free freeAddresses kind seid : ℕ) (live : Bool) : Type 0 where
-  pub long : headWidth ≤ length t
+-- what a peer has at entry: so many TEIDs may it still take, and so many sessions has it (02 (xiv))
+pub record ShareOf (s : Settings) (m : Sessions) (who teids sessions : ℕ) : Type 0 where
+  pub few : (r : Request) → tooFewTeids s who m r ≡ ltb teids (needed r)
+  pub own : sessions ≡ length (ofPeer who m)
+
+-- how many TEIDs a peer that holds so many may still take: to its limit, and to what the pool has beside what the other is due
+unfoldable pub roomBy : ℕ → ℕ → ℕ → ℕ → ℕ
+roomBy limit size own due = pick (ltb (size - (own + due)) (limit - own)) (size - (own + due)) (limit - own)
+
+-- the same of a peer, the other being due what it holds or is guaranteed, whichever is more
+unfoldable pub roomFor : Settings → ℕ → Sessions → ℕ
+roomFor s who m = roomBy (peerOf s who .limit) (s .size) (holdings who m) (due s (otherPeer who) m)
+
+-- What is known before stages 4 and 5, s being the settings: each map, of TEIDs and of addresses, has a bit for each number of its pool, set
+-- where a session holds the number; the removed PDRs are the rules', the peer's share and the free addresses are the rules', and for an
+-- establishment (50) it is known whether the SEID is live.
+pub record AtEntry (s : Settings) (t taken addresses slot gone plan : List ℕ) (n who teids sessions freeAddresses kind seid : ℕ) (live : Bool) : Type 0 where
   pub place : Slot slot
   pub rows : n * rowWidth ≤ length plan
   pub removed : Gone slot (rowsOf n plan) gone
   pub wide : s .size ≤ 64 * length taken
   pub marks : (i : ℕ) → i < s .size → marked taken i ≡ member (s .first + i) (heldTeids (viewSessions t))
-  pub count : free ≡ freeCount s (viewSessions t)
+  pub share : ShareOf s (viewSessions t) who teids sessions
   pub wideAddresses : s .addressCount ≤ 64 * length addresses
   pub marksAddresses : (i : ℕ) → i < s .addressCount → marked addresses i ≡ member (s .firstAddress + i) (heldAddresses s (viewSessions t))
   pub countAddresses : freeAddresses ≡ freeAddressCount s (viewSessions t)
-  pub known : kind ≡ establishment → live ≡ isLive seid (viewSessions t)
+  pub known : kind ≡ establishment → live ≡ isLive (keyFor who seid) (viewSessions t)

@@ -6,14 +6,14 @@ ghost use Prim.Native.Nat.{_*_, _+_, _-_, _≤_};
 ghost use lib.Dec.{eqb, ltb};
 ghost use lib.ListN.{length};
 ghost use Rattle.rules.specs.Message.{establishment};
-ghost use Rattle.rules.specs.Model.{freeCount, freeAddressCount};
-ghost use Rattle.rules.specs.Layout.{viewSession, viewSessions, headWidth};
+ghost use Rattle.rules.specs.Model.{freeAddressCount, ofPeer};
+ghost use Rattle.rules.specs.Layout.{viewSession, viewSessions};
 ghost use Rattle.rules.specs.Stages.{tooManySessions, roomLacks, addressLacks, judge};
 ghost use Rattle.plan.specs.Rows.{rowWidth, rowsOf, tagged, requestIn};
 ghost use Rattle.plan.specs.RowRules.{requestOf, heldIn, markedAddress};
 ghost use Rattle.unit.specs.Meaning.{settingsOf};
 ghost use Rattle.stages.specs.RowRules.{breaksRow, someRow};
-ghost use Rattle.stages.specs.Rules.{Slot, Gone, AtEntry, breaksRuleBy};
+ghost use Rattle.stages.specs.Rules.{Slot, Gone, ShareOf, AtEntry, breaksRuleBy};
 
 pub mod row;
 pub mod session;
@@ -22,6 +22,13 @@ use format::causes;
 use format::kinds;
 use format::types;
 use unit::Settings;
+
+// What the peer of a request has at entry: how many TEIDs it may still take, and how many sessions it has.
+pub struct Share {
+    pub peer: u32,
+    pub teids: usize,
+    pub sessions: usize,
+}
 
 // Cause 73: does one of the n rows break a rule?
 fn breaks_rows(
@@ -111,32 +118,32 @@ fn too_many(live: usize, limit: usize, removed: usize, plan: &[u64], n: usize, n
     limit < live - removed + created
 }
 
-// Would an establishment be one session too many?
-fn full(t: &[u8], u: Settings, kind: u64) -> bool
-    requires { ⌜ headWidth ≤ length (now t) ⌝ }
-    ensures { λ r. ⌜ r ≡ tooManySessions (settingsOf u) kind (viewSessions (now (t .entry))) ⌝ }
+// Would an establishment be one session too many for its peer?
+fn full(t: &[u8], u: Settings, share: Share, kind: u64) -> bool
+    requires { ⌜ share .sessions ≡ length (ofPeer (share .peer) (viewSessions (now t))) ⌝ }
+    ensures { λ r. ⌜ r ≡ tooManySessions (settingsOf u) (share .peer) kind (viewSessions (now (t .entry))) ⌝ }
 {
     if kind != kinds::ESTABLISHMENT {
         return false;
     }
-    u.limit <= octets::read(t, format::COUNT, 2)
+    u.limit / 2 <= share.sessions as u64
 }
 
-// Cause 75: more sessions than the settings' limit, 16 PDRs or 8 endpoints would result, or more TEIDs are needed than are free at entry.
+// Cause 75: more sessions of the peer than half the settings' limit, 16 PDRs or 8 endpoints would result, or more TEIDs are needed than the peer may take.
 pub fn no_room(
     t: &[u8],
     u: Settings,
-    free: usize,
+    share: Share,
     kind: u64,
     slot: &[u8],
     gone: &[u64],
     plan: &[u64],
     n: usize,
 ) -> bool
-    requires { ⌜ (headWidth ≤ length (now t)) × (free ≡ freeCount (settingsOf u) (viewSessions (now t))) × Slot (now slot) × (n * rowWidth ≤ length (now plan)) × Gone (now slot) (rowsOf n (now plan)) (now gone) ⌝ }
-    ensures { λ r. ⌜ r ≡ roomLacks kind (settingsOf u) (viewSessions (now (t .entry))) (viewSession (now (slot .entry))) (requestOf false (rowsOf n (now (plan .entry)))) ⌝ }
+    requires { ⌜ ShareOf (settingsOf u) (viewSessions (now t)) (share .peer) (share .teids) (share .sessions) × Slot (now slot) × (n * rowWidth ≤ length (now plan)) × Gone (now slot) (rowsOf n (now plan)) (now gone) ⌝ }
+    ensures { λ r. ⌜ r ≡ roomLacks kind (settingsOf u) (share .peer) (viewSessions (now (t .entry))) (viewSession (now (slot .entry))) (requestOf false (rowsOf n (now (plan .entry)))) ⌝ }
 {
-    if full(t, u, kind) {
+    if full(t, u, share, kind) {
         return true;
     }
     if too_many(
@@ -159,7 +166,7 @@ pub fn no_room(
     ) {
         return true;
     }
-    free < plan::need(plan, n)
+    share.teids < plan::needed(plan, n)
 }
 
 // Cause 79: a record chooses an address, and none is free at entry.
@@ -189,7 +196,7 @@ pub fn judge(
     u: Settings,
     taken: &[u64],
     addresses: &[u64],
-    free: usize,
+    share: Share,
     free_addresses: usize,
     kind: u64,
     seid: u64,
@@ -201,8 +208,8 @@ pub fn judge(
     restoring: bool,
     noted: bool,
 ) -> u64
-    requires { ⌜ AtEntry (settingsOf u) (now t) (now taken) (now addresses) (now slot) (now gone) (now plan) n free «free_addresses» kind seid live ⌝ }
-    ensures { λ r. ⌜ r ≡ judge kind (settingsOf u) (viewSessions (now (t .entry))) (viewSession (now (slot .entry))) (requestIn seid restoring noted (rowsOf n (now (plan .entry)))) .cause ⌝ }
+    requires { ⌜ AtEntry (settingsOf u) (now t) (now taken) (now addresses) (now slot) (now gone) (now plan) n (share .peer) (share .teids) (share .sessions) «free_addresses» kind seid live ⌝ }
+    ensures { λ r. ⌜ r ≡ judge kind (settingsOf u) (share .peer) (viewSessions (now (t .entry))) (viewSession (now (slot .entry))) (requestIn seid restoring noted (rowsOf n (now (plan .entry)))) .cause ⌝ }
 {
     if already_live(kind, live) {
         return causes::REJECTED;
@@ -216,7 +223,7 @@ pub fn judge(
     if breaks_rule(u, taken, addresses, slot, gone, plan, n, restoring) {
         return causes::BROKEN_RULE;
     }
-    if no_room(t, u, free, kind, slot, gone, plan, n) {
+    if no_room(t, u, share, kind, slot, gone, plan, n) {
         return causes::NO_ROOM;
     }
     if no_address(t, u, free_addresses, plan, n) {

@@ -1,43 +1,47 @@
 -- The answers of the calls that examine a table, return by return: premises are what the code knows there.
 -- Assumes nothing.
 use mathlib.Core.Path.{_≡_, refl, sym, ap, subst, transport, _∙_}
-use Prim.Native.Nat.{ℕ, _+_, _-_, _*_, _^_, _≤_, _<_}
+use Prim.Native.Nat.{ℕ, _+_, _-_, _*_, _/_, _^_, _≤_, _<_}
 use native.Mathlib.Omega.{arith}
 use mathlib.Core.Bool.{Bool, true, false, not, _&&_}
 use mathlib.Core.List.{List, [], _∷_, map}
 use borrow.Author.Tests.{eq-eqb, ne-eqb, le-leb, lt-leb, not-true, not-false}
 use lib.ListN.{length, drop, replicate, length-drop}
 use lib.Seq.{take-all}
-use lib.Dec.{T, ltb, eqb→eq, leb→le, lt→ltb}
+use lib.Dec.{T, leb, ltb, eqb→eq, leb→le, lt→ltb}
 use Rattle.octets.specs.Choice.{pick}
 use Rattle.octets.specs.Octets.{part, number, slices, allZero, octets}
-use Rattle.octets.specs.Lists.{all, ascending, distinct}
+use Rattle.octets.specs.Lists.{all, allPairs, ascending, distinct}
 use Rattle.octets.proofs.Tests.{each, of-true, all-head, all-tail, all-cons}
 use Rattle.rules.specs.Limits.{maxSessions, maxPool, maxAddresses, mapWords, addressWords}
-use Rattle.rules.specs.Model.{Settings, Session, heldTeids, freeCount, heldAddresses, freeAddressCount}
-use Rattle.rules.specs.Layout.{headWidth, sessionWidth, tableLength, viewSettings, viewSessions, settingsWidth}
-use Rattle.rules.specs.Sound.{poolTests, addressPoolTests, settingsTests, settingsAllowed, inPool, soundTests, sound, takenMap, addressMap, free, countFree, countAddresses}
+use Rattle.rules.specs.Model.{Settings, Session, Sessions, heldTeids, freeCount, heldAddresses, freeAddressCount, isPeer, otherPeer, peerOf, half, ofPeer, holdings, unused}
+use Rattle.rules.specs.Layout.{headWidth, keyWidth, sessionWidth, tableLength, viewSettings, viewSessions, settingsWidth}
+use Rattle.rules.specs.Sound.{poolTests, addressPoolTests, settingsTests, settingsAllowed, apart, inPool, peersKept, fewSessions, fewTeids, due, sessionsTests, sessionsAllowed, soundTests, sound, free, countFree, countAddresses}
 use Rattle.laws.proofs.TableLaws.{limit-most}
+use Rattle.laws.proofs.PeerLaws.{known-peers, count-peers}
+use Rattle.invariants.proofs.Totals.{both-hold}
 use Rattle.pool.specs.Map.{marks, newMarks, offsets}
-use Rattle.pool.proofs.TakenLaws.{pool-fits, pool-from, pool-below, new-marks-distinct, map-is}
+use Rattle.pool.proofs.TakenLaws.{pool-fits, pool-from, pool-below, map-is}
 use Rattle.pool.proofs.AddressLaws.{asPool, held-pooled, address-map-is, address-marks-distinct}
 use Rattle.octets.proofs.Counting.{free-distinct}
 use Rattle.table.specs.declared.Count.the-variants.{Broken, Free}
-use Rattle.marking.proofs.MapWalk.{held-in-pool}
+use Rattle.marking.proofs.MapWalk.{all-in-pool}
 use Rattle.areas.specs.Records.{keyOf}
 use Rattle.unit.specs.declared.Settings.{Settings as Unit}
 use Rattle.unit.specs.Meaning.{settingsOf}
 use Rattle.unit.proofs.FieldLaws.{size-is, addresses-is, limit-is}
 use Rattle.records.specs.Kept.{settingsSound}
-use Rattle.marking.specs.declared.Seen.{Seen}
-use Rattle.marking.specs.declared.Seen.the-variants.{Held}
-use Rattle.marking.specs.Marking.{teidsIn, addressesIn, AllAdmitted}
-use Rattle.table.specs.Tests.{limitOf, slotsOf, orderSound, frontTests, frontSound, walkSound}
-use Rattle.table.specs.Answers.{Examined, countTold}
-use Rattle.table.proofs.SoundLaws.{settings-front, settings-from, sessions-are, sound-law}
-use Rattle.table.proofs.Walks.{teids-are, addresses-are}
-use Rattle.octets.proofs.Bools.{and-true}
-use Rattle.marking.specs.declared.Seen.the-variants as marked
+use Rattle.marking.specs.declared.Walked.{Walked}
+use Rattle.marking.specs.declared.Walked.the-variants.{Held}
+use Rattle.marking.specs.Marking.{teidsIn, addressesIn, newBy, slotsBy, AllAdmitted}
+use Rattle.table.specs.Tests.{limitOf, slotsOf, orderSound, frontTests, frontSound, walkSound, peersSound, sessionsFit, teidsFit}
+use Rattle.table.specs.Answers.{Examined, counted, countTold}
+use Rattle.table.proofs.SoundLaws.{settings-front, settings-from, sessions-are, count-are, sound-law, walk-says}
+use Rattle.table.proofs.Walks.{teids-are, addresses-are, by-peer, slots-by}
+use Rattle.octets.proofs.Bools.{and-true, and-false, both-ways}
+use mir.Facts.{yes-leb}
+use Rattle.octets.proofs.Tests.{is-true}
+use Rattle.marking.specs.declared.Walked.the-variants as marked
 
 -- ---- the front
 
@@ -72,10 +76,10 @@ module _ (t : List ℕ) where
           unfolding frontSound frontTests
           front-count l = sym (rw (← room, ← q, not-false r h, eq-eqb (length t) (tableLength (u .limit)) long, ← e, lt-leb n (u .limit) l))
 
-          pub front-order : (o : Bool) → n ≤ u .limit → o ≡ (ascending (map (keyOf 8) (slices sessionWidth n (part headWidth (length t - headWidth) t))) && allZero (drop (n * sessionWidth) (part headWidth (length t - headWidth) t))) → o ≡ frontSound t
+          pub front-order : (o : Bool) → n ≤ u .limit → o ≡ (ascending (map (keyOf keyWidth) (slices sessionWidth n (part headWidth (length t - headWidth) t))) && allZero (drop (n * sessionWidth) (part headWidth (length t - headWidth) t))) → o ≡ frontSound t
           unfolding frontSound frontTests orderSound
           front-order o l p =
-              p ∙ sym (rw (← room, ← q, not-false r h, eq-eqb (length t) (tableLength (u .limit)) long, ← e, le-leb n (u .limit) l, area-is) (and-true (ascending (map (keyOf 8) (slices sessionWidth n (drop headWidth t))) && allZero (drop (n * sessionWidth) (drop headWidth t)))))
+              p ∙ sym (rw (← room, ← q, not-false r h, eq-eqb (length t) (tableLength (u .limit)) long, ← e, le-leb n (u .limit) l, area-is) (and-true (ascending (map (keyOf keyWidth) (slices sessionWidth n (drop headWidth t))) && allZero (drop (n * sessionWidth) (drop headWidth t)))))
 
 -- ---- what is known once the front is sound
 
@@ -106,15 +110,82 @@ front-facts t u is f q h =
       last = leb→le (u .«first_address» + u .addresses) (2 ^ 32) (addresses .1 .1 .0);
     }
 
+-- ---- the peers by numbers
+
+module _ (u : Unit) where
+  pub half-short : (first second : ℕ) → u .limit / 2 < first → false ≡ sessionsFit (settingsOf u) first second
+  unfolding sessionsFit half settingsOf
+  half-short first second h = sym (rw (lt-leb first (u .limit / 2) h))
+
+  pub half-last : (first second : ℕ) → first ≤ u .limit / 2 → leb second (u .limit / 2) ≡ sessionsFit (settingsOf u) first second
+  unfolding sessionsFit half settingsOf
+  half-last first second h = sym (rw (le-leb first (u .limit / 2) h))
+
+  module _ (one two : ℕ) where
+    pub teids-first : u .peer1 .limit < one → false ≡ teidsFit (settingsOf u) one two
+    unfolding teidsFit peerOf settingsOf
+    teids-first h = sym (rw (lt-leb one (u .peer1 .limit) h))
+
+    module _ (a : one ≤ u .peer1 .limit) where
+      pub teids-second : u .peer2 .limit < two → false ≡ teidsFit (settingsOf u) one two
+      unfolding teidsFit peerOf settingsOf
+      teids-second h = sym (rw (le-leb one (u .peer1 .limit) a, lt-leb two (u .peer2 .limit) h))
+
+      module _ (b : two ≤ u .peer2 .limit) (rest : ℕ) (e : rest ≡ two + (u .peer2 .guarantee - two)) where
+        pub teids-large : u .size < rest → false ≡ teidsFit (settingsOf u) one two
+        unfolding teidsFit peerOf settingsOf
+        teids-large h =
+            sym (rw (le-leb one (u .peer1 .limit) a, le-leb two (u .peer2 .limit) b)
+            (lt-leb (one + (u .peer1 .guarantee - one) + (two + (u .peer2 .guarantee - two))) (u .size) (omega arith)))
+
+        pub teids-last : (d : ℕ) → rest ≤ u .size → d ≡ one + (u .peer1 .guarantee - one) → leb d (u .size - rest) ≡ teidsFit (settingsOf u) one two
+        unfolding teidsFit peerOf settingsOf
+        teids-last d l f =
+            sym (rw (le-leb one (u .peer1 .limit) a, le-leb two (u .peer2 .limit) b)
+            ((λ i. leb (sym f i + sym e i) (u .size)) ∙ moved d rest (u .size) l))
+          where
+            moved : (x y z : ℕ) → y ≤ z → leb (x + y) z ≡ leb x (z - y)
+            moved x y z l =
+                both-ways (leb (x + y) z) (leb x (z - y))
+                (λ h. let g = leb→le (x + y) z h in let k : x ≤ z - y = omega arith in yes-leb k)
+                (λ h. let g = leb→le x (z - y) h in let k : x + y ≤ z = omega arith in yes-leb k)
+
+pub due-more : (n g : ℕ) → n < g → g ≡ n + (g - n)
+due-more n g h = omega arith
+
+pub due-held : (n g : ℕ) → g ≤ n → n ≡ n + (g - n)
+due-held n g h = omega arith
+
+module _ (s : Settings) (first second one two : ℕ) (a : Bool) (e : a ≡ sessionsFit s first second) where
+  pub fit-not : not a ≡ true → false ≡ (sessionsFit s first second && teidsFit s one two)
+  fit-not h = sym (rw (← e, not-true a h))
+
+  pub fit-both : not a ≡ false → (b : Bool) → b ≡ teidsFit s one two → b ≡ (sessionsFit s first second && teidsFit s one two)
+  fit-both h b f = f ∙ sym (rw (← e, not-false a h))
+
 -- ---- examining
 
-held-same : (b : Bool) (n d k e : ℕ) → (T b → (n ≡ d) × (k ≡ e)) → pick b (Held n k) marked.Broken ≡ pick b (Held d e) marked.Broken
-held-same true n d k e q = λ i. Held (q tt .0 i) (q tt .1 i)
-held-same false n d k e q = refl
+held-holds : (b : Bool) (x : Walked) (p q f k : ℕ) → pick b x marked.Broken ≡ Held p q f k → T b
+held-holds true x p q f k e = tt
+held-holds false x p q f k e = absurd (let z : _≡_ {A = ℕ} 0 1 = cc in omega arith)
 
-held-holds : (b : Bool) (d e n k : ℕ) → pick b (Held d e) marked.Broken ≡ Held n k → T b
-held-holds true d e n k q = tt
-held-holds false d e n k q = absurd (let z : _≡_ {A = ℕ} 0 1 = cc in omega arith)
+held-is : (b : Bool) (x : Walked) (p q f k : ℕ) → pick b x marked.Broken ≡ Held p q f k → x ≡ Held p q f k
+held-is true x p q f k e = e
+held-is false x p q f k e = absurd (let z : _≡_ {A = ℕ} 0 1 = cc in omega arith)
+
+held-same : (a b c d p q f k : ℕ) → Held a b c d ≡ Held p q f k → (p ≡ a) × (q ≡ b) × (f ≡ c) × (k ≡ d)
+held-same a b c d p q f k e = (cc, cc, cc, cc)
+
+refused : (b : Bool) (p q f k : ℕ) → pick b (Held p q f k) marked.Broken ≡ marked.Broken → b ≡ false
+refused true p q f k e = absurd (let z : _≡_ {A = ℕ} 0 1 = cc in omega arith)
+refused false p q f k e = refl
+
+regroup : (a b c d e : Bool) → ((a && b) && (c && (d && e))) ≡ (a && (b && (c && (d && (e && true)))))
+regroup true true true true e = sym (and-true e)
+regroup true true true false e = refl
+regroup true true false d e = refl
+regroup true false c d e = refl
+regroup false b c d e = refl
 
 -- different numbers of a pool are not more than the pool has
 held-few : (s : Settings) (held : List ℕ) → T (all (inPool s) held) → distinct held ≤ s .size
@@ -133,9 +204,9 @@ held-few s held h = omega (arith, free-distinct (s .first) (s .size) held (below
 broken : (t w v : List ℕ) → sound t ≡ false → Examined t marked.Broken w v
 broken t w v e =
     record {
-      answer = sym (ap (λ (b : Bool). pick b (Held (distinct (heldTeids (viewSessions t))) (distinct (heldAddresses (viewSettings t) (viewSessions t)))) marked.Broken) e);
-      words = λ n k e. absurd (let z : _≡_ {A = ℕ} 0 1 = cc in omega arith);
-      addresses = λ n k e. absurd (let z : _≡_ {A = ℕ} 0 1 = cc in omega arith);
+      answer = sym (ap (λ (b : Bool). pick b (counted t) marked.Broken) e);
+      words = λ p q f k e. absurd (let z : _≡_ {A = ℕ} 0 1 = cc in omega arith);
+      addresses = λ p q f k e. absurd (let z : _≡_ {A = ℕ} 0 1 = cc in omega arith);
     }
 
 -- a table that is shorter than its head
@@ -145,88 +216,117 @@ examined-short t w v h = broken t w v short
     short : sound t ≡ false
     short = unfold sound soundTests in rw (ne-eqb (length t) (tableLength (limitOf t)) (λ e. omega arith))
 
-module _ (t : List ℕ) (o : T (octets t)) (f : Bool) (q : f ≡ frontSound t) where
-  abbrev teids : ℕ
-  teids = distinct (heldTeids (viewSessions t))
+-- what the walk tells is the sessions', where it is not refused
+pub record Told (t : List ℕ) (p q f k : ℕ) : Type 0 where
+  pub walk : T (walkSound t)
+  pub one : p ≡ holdings 1 (viewSessions t)
+  pub two : q ≡ holdings 2 (viewSessions t)
+  pub first : f ≡ length (ofPeer 1 (viewSessions t))
+  pub taken : k ≡ distinct (heldAddresses (viewSettings t) (viewSessions t))
+  pub all : number (part settingsWidth 2 t) ≡ length (ofPeer 1 (viewSessions t)) + length (ofPeer 2 (viewSessions t))
 
-  abbrev addresses : ℕ
-  addresses = distinct (heldAddresses (viewSettings t) (viewSessions t))
+module _ (t : List ℕ) (o : T (octets t)) (f : Bool) (q : f ≡ frontSound t) where
+  abbrev st : Settings
+  st = viewSettings t
+
+  abbrev zs : List ℕ
+  zs = replicate mapWords 0
+
+  abbrev as₀ : List ℕ
+  as₀ = replicate addressWords 0
 
   pub examined-broken : (w v : List ℕ) → not f ≡ true → Examined t marked.Broken w v
-  examined-broken w v h = broken t w v (sound-law t o ∙ ap (λ (b : Bool). b && walkSound t) (sym q ∙ not-true f h))
+  examined-broken w v h = broken t w v (sound-law t o ∙ ap (λ (b : Bool). b && (walkSound t && peersSound t)) (sym q ∙ not-true f h))
 
-  -- of a sound table: the walk's counts and maps
-  sound-facts : T (sound t) → T (settingsAllowed (viewSettings t)) × T (all (inPool (viewSettings t)) (heldTeids (viewSessions t)))
-  unfolding sound soundTests
-  sound-facts h =
-      let e = each (soundTests t (viewSettings t) (viewSessions t)) h in
-      (e .1 .0, held-in-pool (viewSettings t) (viewSessions t) (e .1 .1 .0))
+  teids-held : teidsIn st (slotsOf t) ≡ offsets (st .first) (heldTeids (viewSessions t))
+  teids-held = teids-are st (slotsOf t) ∙ ap (λ (m : List Session). offsets (st .first) (heldTeids m)) (sym (sessions-are t))
 
-  teids-held : teidsIn (viewSettings t) (slotsOf t) ≡ offsets (viewSettings t .first) (heldTeids (viewSessions t))
-  teids-held = teids-are (viewSettings t) (slotsOf t) ∙ ap (λ (m : List Session). offsets (viewSettings t .first) (heldTeids m)) (sym (sessions-are t))
-
-  addresses-held : addressesIn (viewSettings t) (slotsOf t) ≡ offsets (viewSettings t .firstAddress) (heldAddresses (viewSettings t) (viewSessions t))
+  addresses-held : addressesIn st (slotsOf t) ≡ offsets (st .firstAddress) (heldAddresses st (viewSessions t))
   addresses-held =
-      addresses-are (viewSettings t) (slotsOf t)
-      ∙ ap (λ (m : List Session). offsets (viewSettings t .firstAddress) (heldAddresses (viewSettings t) m)) (sym (sessions-are t))
+      addresses-are st (slotsOf t)
+      ∙ ap (λ (m : List Session). offsets (st .firstAddress) (heldAddresses st m)) (sym (sessions-are t))
 
-  counts-are : T (sound t)
-      → (newMarks (replicate mapWords 0) (teidsIn (viewSettings t) (slotsOf t)) ≡ teids) × (newMarks (replicate addressWords 0) (addressesIn (viewSettings t) (slotsOf t)) ≡ addresses)
-  counts-are h =
-      let e = sound-facts h in (
-        ap (newMarks (replicate mapWords 0)) teids-held ∙ new-marks-distinct (viewSettings t) mapWords (heldTeids (viewSessions t)) (pool-fits (viewSettings t) (e .0)) (e .1),
-        ap (newMarks (replicate addressWords 0)) addresses-held ∙ address-marks-distinct (viewSettings t) (viewSessions t) (e .0),
-      )
+  module _ (h : not f ≡ false) where
+    front-holds : T (frontSound t)
+    front-holds = of-true (sym q ∙ not-false f h)
 
-  words-are : T (sound t) → marks (replicate mapWords 0) (teidsIn (viewSettings t) (slotsOf t)) ≡ takenMap (viewSettings t) (viewSessions t)
-  words-are h = let e = sound-facts h in ap (marks (replicate mapWords 0)) teids-held ∙ map-is (viewSettings t) (viewSessions t) (e .0) (e .1)
+    sound-is : sound t ≡ (walkSound t && peersSound t)
+    sound-is = sound-law t o ∙ ap (λ (b : Bool). b && (walkSound t && peersSound t)) (sym q ∙ not-false f h)
 
-  map-is′ : T (sound t) → marks (replicate addressWords 0) (addressesIn (viewSettings t) (slotsOf t)) ≡ addressMap (viewSettings t) (viewSessions t)
-  map-is′ h = let e = sound-facts h in ap (marks (replicate addressWords 0)) addresses-held ∙ address-map-is (viewSettings t) (viewSessions t) (e .0)
+    held-pool : T (walkSound t) → T (all (inPool st) (heldTeids (viewSessions t)))
+    held-pool w = all-in-pool st (viewSessions t) (walk-says t o front-holds w .1)
 
-  walk-done : not f ≡ false → (r : Seen) (w u : List ℕ) → AllAdmitted (viewSettings t) (replicate mapWords 0) (replicate addressWords 0) (slotsOf t) r w u → Examined t r w u
-  unfolding walkSound
-  walk-done h r w u x =
-      let keeps : walkSound t ≡ sound t = sym (sound-law t o ∙ ap (λ (b : Bool). b && walkSound t) (sym q ∙ not-false f h)) in
-      let n : ℕ = newMarks (replicate mapWords 0) (teidsIn (viewSettings t) (slotsOf t)) in
-      let k : ℕ = newMarks (replicate addressWords 0) (addressesIn (viewSettings t) (slotsOf t)) in
-      let is : r ≡ pick (sound t) (Held teids addresses) marked.Broken =
-      x .answer ∙ ap (λ (b : Bool). pick b (Held n k) marked.Broken) keeps ∙ held-same (sound t) n teids k addresses counts-are in
-      record {
-        answer = is;
-        words = λ i j e. x .words i j e ∙ words-are (held-holds (sound t) teids addresses i j (sym is ∙ e));
-        addresses = λ i j e. x .addresses i j e ∙ map-is′ (held-holds (sound t) teids addresses i j (sym is ∙ e));
-      }
+    by-peer-is : T (walkSound t) → (who : ℕ) → newBy st who zs (slotsOf t) ≡ holdings who (viewSessions t)
+    by-peer-is w who =
+        let says = walk-says t o front-holds w in
+        by-peer st mapWords (pool-fits st (says .0)) who (slotsOf t)
+        (subst (λ (m : Sessions). T (all (inPool st) (heldTeids m))) (sessions-are t) (held-pool w))
+        (subst (λ (m : Sessions). T (allPairs (apart st) m)) (sessions-are t) (says .2))
+        ∙ ap (holdings who) (sym (sessions-are t))
 
-  pub examined-walk : not f ≡ false → (u : Unit) → settingsOf u ≡ viewSettings t → (n : ℕ) (ws as′ : List ℕ) (r : Seen) (w v : List ℕ)
-      → n ≡ number (part settingsWidth 2 t) → ws ≡ replicate mapWords 0 → as′ ≡ replicate addressWords 0
-      → AllAdmitted (settingsOf u) ws as′ (slices sessionWidth n (part headWidth (length t - headWidth) t)) r w v → Examined t r w v
-  examined-walk h u is n ws as′ r w v en ew ev m =
-      walk-done h r w v (transport (λ i. AllAdmitted (is i) (ew i) (ev i) (slices sessionWidth (en i) (area-is t i)) r w v) m)
+    module _ (u : Unit) (is : settingsOf u ≡ st) (n : ℕ) (ws as′ : List ℕ) (r : Walked) (w v : List ℕ) (en : n ≡ number (part settingsWidth 2 t)) (ew : ws ≡ zs) (ev : as′ ≡ as₀)
+        (x : AllAdmitted (settingsOf u) ws as′ (slices sessionWidth n (part headWidth (length t - headWidth) t)) r w v) where
+      admitted : AllAdmitted st zs as₀ (slotsOf t) r w v
+      admitted = transport (λ i. AllAdmitted (is i) (ew i) (ev i) (slices sessionWidth (en i) (area-is t i)) r w v) x
+
+      answered : r ≡ pick (walkSound t) (Held (newBy st 1 zs (slotsOf t)) (newBy st 2 zs (slotsOf t)) (slotsBy 1 (slotsOf t)) (newMarks as₀ (addressesIn st (slotsOf t)))) marked.Broken
+      unfolding walkSound
+      answered = admitted .answer
+
+      pub walk-broken : r ≡ marked.Broken → Examined t marked.Broken w v
+      walk-broken e = broken t w v (sound-is ∙ ap (λ (b : Bool). b && peersSound t) (refused (walkSound t) _ _ _ _ (sym answered ∙ e)))
+
+      module _ (one two first taken : ℕ) (e : r ≡ Held one two first taken) where
+        pub walk-told : Told t one two first taken
+        walk-told =
+            let walk = held-holds (walkSound t) _ one two first taken (sym answered ∙ e) in
+            let same = held-same _ _ _ _ one two first taken (held-is (walkSound t) _ one two first taken (sym answered ∙ e)) in
+            let says = walk-says t o front-holds walk in
+            record {
+              walk = walk;
+              one = same .0 ∙ by-peer-is walk 1;
+              two = same .1 ∙ by-peer-is walk 2;
+              first = same .2 ∙ slots-by 1 (slotsOf t) ∙ ap (λ (m : Sessions). length (ofPeer 1 m)) (sym (sessions-are t));
+              taken = same .3 ∙ ap (newMarks as₀) addresses-held ∙ address-marks-distinct st (viewSessions t) (says .0);
+              all = sym (count-are t) ∙ count-peers (viewSessions t) (known-peers st (viewSessions t) (says .1));
+            }
+
+        pub walk-first : first ≤ n
+        walk-first = omega (arith, en, walk-told .first, walk-told .all)
+
+        module _ (b : Bool) (eb : b ≡ (sessionsFit (settingsOf u) first (n - first) && teidsFit (settingsOf u) one two)) where
+          peers-are : b ≡ peersSound t
+          unfolding peersSound peersKept fewSessions fewTeids due unused sessionsFit teidsFit
+          peers-are =
+              let told = walk-told in
+              let m = viewSessions t in
+              let second : n - first ≡ length (ofPeer 2 m) = omega (arith, en, told .first, told .all) in
+              eb
+              ∙ (λ i. sessionsFit (is i) (told .first i) (second i) && teidsFit (is i) (told .one i) (told .two i))
+              ∙ regroup (leb (length (ofPeer 1 m)) (half st)) (leb (length (ofPeer 2 m)) (half st)) (leb (holdings 1 m) (peerOf st 1 .limit)) (leb (holdings 2 m) (peerOf st 2 .limit)) (leb (due st 1 m + due st 2 m) (st .size))
+
+          pub peers-broken : not b ≡ true → Examined t marked.Broken w v
+          peers-broken g = broken t w v (sound-is ∙ ap (λ (c : Bool). walkSound t && c) (sym peers-are ∙ not-true b g) ∙ and-false (walkSound t))
+
+          pub examined-walk : not b ≡ false → Examined t (Held one two first taken) w v
+          examined-walk g =
+              let told = walk-told in
+              let says = walk-says t o front-holds (told .walk) in
+              let yes : sound t ≡ true = sound-is ∙ (λ i. is-true (walkSound t) (told .walk) i && (sym peers-are ∙ not-false b g) i) in
+              record {
+                answer = (λ i. Held (told .one i) (told .two i) (told .first i) (told .taken i)) ∙ sym (ap (λ (c : Bool). pick c (counted t) marked.Broken) yes);
+                words = λ a b c d z. admitted .words one two first taken e ∙ ap (marks zs) teids-held ∙ map-is st (viewSessions t) (says .0) (held-pool (told .walk));
+                addresses = λ a b c d z. admitted .addresses one two first taken e ∙ ap (marks as₀) addresses-held ∙ address-map-is st (viewSessions t) (says .0);
+              }
 
 -- ---- from the examination to the answers
 
-module _ (t : List ℕ) (r : Seen) (w u : List ℕ) (x : Examined t r w u) where
+module _ (t : List ℕ) (r : Walked) (w u : List ℕ) (x : Examined t r w u) where
   examined-no : r ≡ marked.Broken → sound t ≡ false
-  examined-no e = go (sound t) (sym (x .answer) ∙ e)
-    where
-      go : (b : Bool) → pick b (Held (distinct (heldTeids (viewSessions t))) (distinct (heldAddresses (viewSettings t) (viewSessions t)))) marked.Broken ≡ marked.Broken → b ≡ false
-      go true z = absurd (let u : _≡_ {A = ℕ} 0 1 = cc in omega arith)
-      go false z = refl
-
-  examined-yes : (n k : ℕ) → r ≡ Held n k → (sound t ≡ true) × (n ≡ distinct (heldTeids (viewSessions t))) × (k ≡ distinct (heldAddresses (viewSettings t) (viewSessions t)))
-  examined-yes n k e = go (sound t) (sym (x .answer) ∙ e)
-    where
-      go : (b : Bool) → pick b (Held (distinct (heldTeids (viewSessions t))) (distinct (heldAddresses (viewSettings t) (viewSessions t)))) marked.Broken ≡ Held n k
-          → (b ≡ true) × (n ≡ distinct (heldTeids (viewSessions t))) × (k ≡ distinct (heldAddresses (viewSettings t) (viewSessions t)))
-      go true z = (refl, (cc), (cc))
-      go false z = absurd (let u : _≡_ {A = ℕ} 0 1 = cc in omega arith)
+  examined-no e = refused (sound t) _ _ _ _ (sym (x .answer) ∙ e)
 
   pub sound-no : r ≡ marked.Broken → false ≡ sound t
   sound-no e = sym (examined-no e)
-
-  pub sound-yes : (n k : ℕ) → r ≡ Held n k → true ≡ sound t
-  sound-yes n k e = sym (examined-yes n k e .0)
 
   pub count-broken : r ≡ marked.Broken → countTold Broken ≡ countFree t
   unfolding countFree
@@ -236,43 +336,56 @@ module _ (t : List ℕ) (r : Seen) (w u : List ℕ) (x : Examined t r w u) where
   unfolding countAddresses
   addresses-broken e = sym (rw (examined-no e))
 
-  -- the length, and that what is held is not more than the pools have
-  record Fits (n k : ℕ) : Type 0 where
-    long : length t ≡ tableLength (limitOf t)
-    teids : n ≤ viewSettings t .size
-    addresses : k ≤ viewSettings t .addressCount
+  module _ (p q f k : ℕ) (e : r ≡ Held p q f k) where
+    examined-yes : T (sound t)
+    examined-yes = held-holds (sound t) (counted t) p q f k (sym (x .answer) ∙ e)
 
-  count-fits : (n k : ℕ) → r ≡ Held n k → Fits n k
-  unfolding sound soundTests
-  count-fits n k e =
-      let y = examined-yes n k e in
-      let h = each (soundTests t (viewSettings t) (viewSessions t)) (of-true (y .0)) in
-      let p = held-in-pool (viewSettings t) (viewSessions t) (h .1 .1 .0) in
-      record {
-        long = eqb→eq (length t) (tableLength (limitOf t)) (h .0);
-        teids = omega (arith, y .1, held-few (viewSettings t) (heldTeids (viewSessions t)) p);
-        addresses = omega (arith, y .2, held-few (asPool (viewSettings t)) (heldAddresses (viewSettings t) (viewSessions t)) (held-pooled (viewSettings t) (viewSessions t)));
-      }
+    pub sound-yes : true ≡ sound t
+    sound-yes = sym (is-true (sound t) examined-yes)
 
-  -- where the settings are read
-  pub count-long : (n k : ℕ) → r ≡ Held n k → length t ≡ tableLength (limitOf t)
-  count-long n k e = count-fits n k e .long
+    pub numbers : (p ≡ holdings 1 (viewSessions t)) × (q ≡ holdings 2 (viewSessions t)) × (f ≡ length (ofPeer 1 (viewSessions t))) × (k ≡ distinct (heldAddresses (viewSettings t) (viewSessions t)))
+    numbers = held-same _ _ _ _ p q f k (held-is (sound t) (counted t) p q f k (sym (x .answer) ∙ e))
 
-  module _ (n k : ℕ) (e : r ≡ Held n k) (s : Unit) (is : settingsOf s ≡ viewSettings t) where
-    pub count-less : n ≤ s .size
-    count-less = omega (arith, count-fits n k e .teids, size-is s (viewSettings t) is)
+    tests : (length t ≡ tableLength (limitOf t)) × T (sessionsAllowed (viewSettings t) (viewSessions t))
+    unfolding sound soundTests
+    tests = let h = each (soundTests t (viewSettings t) (viewSessions t)) examined-yes in (eqb→eq (length t) (tableLength (limitOf t)) (h .0), h .1 .1 .0)
 
-    pub addresses-less : k ≤ s .addresses
-    addresses-less = omega (arith, count-fits n k e .addresses, addresses-is s (viewSettings t) is)
+    -- where the settings are read
+    pub count-long : length t ≡ tableLength (limitOf t)
+    count-long = tests .0
 
-    pub count-free : countTold (Free (s .size - n)) ≡ countFree t
-    unfolding countFree freeCount
-    count-free =
-        let y = examined-yes n k e in
-        (λ i. free (size-is s (viewSettings t) is i - y .1 i)) ∙ sym (rw (y .0))
+    -- the two hold all that is held
+    held-both : p + q ≡ distinct (heldTeids (viewSessions t))
+    unfolding sessionsAllowed sessionsTests otherPeer
+    held-both =
+        let g = each (sessionsTests (viewSettings t) (viewSessions t)) (tests .1) in
+        let b = both-hold (viewSettings t) 1 (unfold isPeer in tt) (viewSessions t) (known-peers (viewSettings t) (viewSessions t) (g .1 .1 .0)) (g .1 .1 .1 .0) in
+        omega (arith, numbers .0, numbers .1)
 
-    pub addresses-free : countTold (Free (s .addresses - k)) ≡ countAddresses t
-    unfolding countAddresses freeAddressCount
-    addresses-free =
-        let y = examined-yes n k e in
-        (λ i. free (addresses-is s (viewSettings t) is i - y .2 i)) ∙ sym (rw (y .0))
+    pub held-less : p + q ≤ viewSettings t .size
+    unfolding sessionsAllowed sessionsTests
+    held-less =
+        let g = each (sessionsTests (viewSettings t) (viewSessions t)) (tests .1) in
+        omega (arith, held-both, held-few (viewSettings t) (heldTeids (viewSessions t)) (all-in-pool (viewSettings t) (viewSessions t) (g .1 .1 .0)))
+
+    settings-kept : T (settingsAllowed (viewSettings t))
+    unfolding sound soundTests
+    settings-kept = each (soundTests t (viewSettings t) (viewSessions t)) examined-yes .1 .0
+
+    pub count-add : p + q < 2 ^ 64
+    count-add = omega (arith, held-less, pool-fits (viewSettings t) settings-kept)
+
+    module _ (s : Unit) (is : settingsOf s ≡ viewSettings t) where
+      pub count-less : p + q ≤ s .size
+      count-less = omega (arith, held-less, size-is s (viewSettings t) is)
+
+      pub addresses-less : k ≤ s .addresses
+      addresses-less = omega (arith, numbers .3, held-few (asPool (viewSettings t)) (heldAddresses (viewSettings t) (viewSessions t)) (held-pooled (viewSettings t) (viewSessions t)), addresses-is s (viewSettings t) is)
+
+      pub count-free : countTold (Free (s .size - (p + q))) ≡ countFree t
+      unfolding countFree freeCount
+      count-free = (λ i. free (size-is s (viewSettings t) is i - held-both i)) ∙ sym (rw (sym sound-yes))
+
+      pub addresses-free : countTold (Free (s .addresses - k)) ≡ countAddresses t
+      unfolding countAddresses freeAddressCount
+      addresses-free = (λ i. free (addresses-is s (viewSettings t) is i - numbers .3 i)) ∙ sym (rw (sym sound-yes))

@@ -10,7 +10,7 @@ use lib.ListN.{length, take, drop, length-drop, length-map, take-append-drop}
 use lib.Seq.{take-take, take-at, drop-at, drop-drop, getD-take}
 use lib.Dec.{T, eqb, eqb→eq, leb→le, lit≤, lit<}
 use mir.Facts.{yes-leb, yes-eqb}
-use Rattle.octets.specs.Choice.{pick}
+use Rattle.octets.specs.Choice.{pick, allOf}
 use Rattle.octets.specs.Octets.{part, be, number, numberAt, octetAt, sameOctets, allZero, octets}
 use Rattle.octets.specs.Lists.{all, allPairs, ascending}
 use Rattle.octets.proofs.Tests.{each, all-of-each, both, and-left, and-right, of-true, all-head, all-tail, all-cons}
@@ -18,11 +18,12 @@ use Rattle.octets.proofs.Numbers.{same-refl, same-eq, length-slices}
 use Rattle.octets.proofs.Digits.{be-back, part-octets, drop-octets}
 use Rattle.octets.proofs.Put.{length-part, drop-take}
 use Rattle.rules.specs.Limits.{mapWords, addressWords}
-use Rattle.rules.specs.Model.{Settings, Session, seidOf}
-use Rattle.rules.specs.Layout.{headWidth, sessionWidth, tableLength, area, sessionOctets, settingsOctets, encode, viewArea, viewSession, viewSettings, viewSessions, settingsWidth, ipv6ThereAt, ipv6At, firstAt, sizeAt, firstAddressAt, addressCountAt, limitAt}
-use Rattle.rules.specs.Sound.{settingsAllowed, sessionAllowed, apart, sessionsTests, sessionsAllowed, soundTests, sound}
+use Rattle.rules.specs.Model.{Settings, Session, sessionKey}
+use Rattle.rules.specs.Layout.{headWidth, keyWidth, viewPeer, peer1At, peer2At, sessionWidth, tableLength, area, sessionOctets, settingsOctets, encode, viewArea, viewSession, viewSettings, viewSessions, settingsWidth, ipv6ThereAt, ipv6At, firstAt, sizeAt, firstAddressAt, addressCountAt, limitAt}
+use Rattle.rules.specs.Sound.{settingsAllowed, sessionAllowed, apart, peersKept, sessionsTests, sessionsAllowed, soundTests, sound}
 use Rattle.laws.proofs.LayoutLaws.{length-session}
 use Rattle.laws.proofs.TableLaws.{length-settings}
+use Rattle.laws.proofs.PeerLaws.{all-sessions}
 use Rattle.pool.proofs.TakenLaws.{pool-fits}
 use Rattle.pool.proofs.AddressLaws.{addresses-fit}
 use Rattle.marking.specs.Walk.{apartTeids, apartAddresses}
@@ -32,7 +33,7 @@ use Rattle.records.specs.Kept.{kept, settingsSound}
 use Rattle.records.specs.Slot.{areaSound}
 use Rattle.records.proofs.Areas.{area-from, area-to, kept-allowed, kept-same}
 use Rattle.records.proofs.SlotLaws.{key-session}
-use Rattle.table.specs.Tests.{sessionCount, limitOf, slotsOf, orderSound, frontTests, frontSound, walkSound}
+use Rattle.table.specs.Tests.{sessionCount, limitOf, slotsOf, orderSound, frontTests, frontSound, walkSound, peersSound}
 use Rattle.table.proofs.Walks.{canonical, slots-whole, slots-law, free-law}
 use Rattle.octets.proofs.Bools.{and-false, both-ways, and-true}
 
@@ -42,7 +43,7 @@ within : (at n k : ℕ) (t : List ℕ) → k ≤ n → part at k (take (at + n) 
 within at n k t h = ap (take k) (drop-take at n t) ∙ take-take k n (drop at t) h
 
 pub settings-front : (t : List ℕ) → viewSettings (part 0 settingsWidth t) ≡ viewSettings t
-unfolding viewSettings octetAt numberAt
+unfolding viewSettings viewPeer octetAt numberAt
 settings-front t =
     λ i. record {
       ipv4 = within 0 settingsWidth 4 t (lit≤ tt) i;
@@ -52,13 +53,23 @@ settings-front t =
       firstAddress = number (within firstAddressAt (settingsWidth - firstAddressAt) 4 t (lit≤ tt) i);
       addressCount = number (within addressCountAt (settingsWidth - addressCountAt) 4 t (lit≤ tt) i);
       limit = number (within limitAt (settingsWidth - limitAt) 2 t (lit≤ tt) i);
+      peer1 = record {
+        address = number (within peer1At (settingsWidth - peer1At) 4 t (lit≤ tt) i);
+        guarantee = number (within (peer1At + 4) (settingsWidth - (peer1At + 4)) 4 t (lit≤ tt) i);
+        limit = number (within (peer1At + 8) (settingsWidth - (peer1At + 8)) 4 t (lit≤ tt) i);
+      };
+      peer2 = record {
+        address = number (within peer2At (settingsWidth - peer2At) 4 t (lit≤ tt) i);
+        guarantee = number (within (peer2At + 4) (settingsWidth - (peer2At + 4)) 4 t (lit≤ tt) i);
+        limit = number (within (peer2At + 8) (settingsWidth - (peer2At + 8)) 4 t (lit≤ tt) i);
+      };
     }
 
 pub sessions-are : (t : List ℕ) → viewSessions t ≡ map viewSession (slotsOf t)
 unfolding viewSessions viewArea numberAt
 sessions-are t = refl
 
-count-are : (t : List ℕ) → length (viewSessions t) ≡ sessionCount t
+pub count-are : (t : List ℕ) → length (viewSessions t) ≡ sessionCount t
 count-are t = ap length (sessions-are t) ∙ length-map (slotsOf t) viewSession ∙ length-slices sessionWidth (sessionCount t) (drop headWidth t)
 
 -- the settings' slot
@@ -114,15 +125,15 @@ module _ (t : List ℕ) (long : length t ≡ tableLength (limitOf t)) (o : T (oc
   count-written = ap (be 2) (count-are t) ∙ be-back 2 (part settingsWidth 2 t) (length-part settingsWidth 2 t (omega arith)) (part-octets settingsWidth 2 t o)
 
   -- the area of sessions
-  sessions-from : T (settingsAllowed s) → sessionCount t ≤ s .limit → T (areaSound (kept (sessionAllowed s) sessionOctets viewSession) sessionWidth 8 (sessionCount t) (drop headWidth t))
-      → T (all (sessionAllowed s) (map viewSession (slotsOf t))) × T (ascending (map seidOf (map viewSession (slotsOf t)))) × (area sessionOctets sessionWidth (s .limit) (map viewSession (slotsOf t)) ≡ drop headWidth t)
+  sessions-from : T (settingsAllowed s) → sessionCount t ≤ s .limit → T (areaSound (kept (sessionAllowed s) sessionOctets viewSession) sessionWidth keyWidth (sessionCount t) (drop headWidth t))
+      → T (all (sessionAllowed s) (map viewSession (slotsOf t))) × T (ascending (map sessionKey (map viewSession (slotsOf t)))) × (area sessionOctets sessionWidth (s .limit) (map viewSession (slotsOf t)) ≡ drop headWidth t)
   sessions-from hs few h =
-      area-from (sessionAllowed s) sessionOctets viewSession seidOf sessionWidth 8 (length-session s hs) key-session (s .limit) (sessionCount t) (drop headWidth t) area-long few h
+      area-from (sessionAllowed s) sessionOctets viewSession sessionKey sessionWidth keyWidth (length-session s hs) key-session (s .limit) (sessionCount t) (drop headWidth t) area-long few h
 
-  sessions-to : T (settingsAllowed s) → sessionCount t ≤ s .limit → T (all (sessionAllowed s) (map viewSession (slotsOf t))) → T (ascending (map seidOf (map viewSession (slotsOf t))))
-      → area sessionOctets sessionWidth (s .limit) (map viewSession (slotsOf t)) ≡ drop headWidth t → T (areaSound (kept (sessionAllowed s) sessionOctets viewSession) sessionWidth 8 (sessionCount t) (drop headWidth t))
+  sessions-to : T (settingsAllowed s) → sessionCount t ≤ s .limit → T (all (sessionAllowed s) (map viewSession (slotsOf t))) → T (ascending (map sessionKey (map viewSession (slotsOf t))))
+      → area sessionOctets sessionWidth (s .limit) (map viewSession (slotsOf t)) ≡ drop headWidth t → T (areaSound (kept (sessionAllowed s) sessionOctets viewSession) sessionWidth keyWidth (sessionCount t) (drop headWidth t))
   sessions-to hs few h up e =
-      area-to (sessionAllowed s) sessionOctets viewSession seidOf sessionWidth 8 (length-session s hs) key-session (s .limit) (sessionCount t) (drop headWidth t) area-long few h up e
+      area-to (sessionAllowed s) sessionOctets viewSession sessionKey sessionWidth keyWidth (length-session s hs) key-session (s .limit) (sessionCount t) (drop headWidth t) area-long few h up e
 
   -- the walk
   walk-is : T (settingsAllowed s) → sessionCount t ≤ s .limit
@@ -148,9 +159,9 @@ module _ (t : List ℕ) (long : length t ≡ tableLength (limitOf t)) (o : T (oc
 
   -- ---- both ways
 
-  sound-from : T (frontSound t) → T (walkSound t) → T (sound t)
-  unfolding frontSound frontTests orderSound sound soundTests areaSound
-  sound-from h w =
+  sound-from : T (frontSound t) → T (walkSound t) → T (peersSound t) → T (sound t)
+  unfolding frontSound frontTests orderSound sound soundTests areaSound peersSound
+  sound-from h w pk =
       let f = each (frontTests t) h in
       let st = settings-from t (f .0) in
       let few = leb→le (sessionCount t) (s .limit) (f .1 .1 .0) in
@@ -160,24 +171,24 @@ module _ (t : List ℕ) (long : length t ≡ tableLength (limitOf t)) (o : T (oc
       let allowed = and-left (all (sessionAllowed s) (map viewSession (slotsOf t))) (allPairs (apart s) (map viewSession (slotsOf t))) allowed-apart in
       let apart′ = and-right (all (sessionAllowed s) (map viewSession (slotsOf t))) (allPairs (apart s) (map viewSession (slotsOf t))) allowed-apart in
       let k = kept (sessionAllowed s) sessionOctets viewSession in
-      let ar = sessions-from (st .0) few (both (all k (slotsOf t)) (ascending (map (keyOf 8) (slotsOf t)) && allZero (drop (sessionCount t * sessionWidth) (drop headWidth t))) (all-kept s (slotsOf t) allowed canon) (f .1 .1 .1 .0)) in
+      let ar = sessions-from (st .0) few (both (all k (slotsOf t)) (ascending (map (keyOf keyWidth) (slotsOf t)) && allZero (drop (sessionCount t * sessionWidth) (drop headWidth t))) (all-kept s (slotsOf t) allowed canon) (f .1 .1 .1 .0)) in
       let whole : encode s (viewSessions t) ≡ t = encoded-is ∙ (λ i. st .1 i ++ (part settingsWidth 2 t ++ ar .2 i)) ∙ parts in
       all-of-each (soundTests t s (viewSessions t))
-      (yes-eqb long, (st .0, (subst (λ (m : List Session). T (sessionsAllowed s m)) (sym (sessions-are t)) (sessions-ok s (map viewSession (slotsOf t)) (le-trans (le-of-eq (ap length (sym (sessions-are t)) ∙ count-are t)) few) (ar .1) (ar .0) apart′), (of-true (ap (λ (l : List ℕ). sameOctets l t) whole ∙ same-refl t), tt))))
+      (yes-eqb long, (st .0, (subst (λ (m : List Session). T (sessionsAllowed s m)) (sym (sessions-are t)) (sessions-ok s (map viewSession (slotsOf t)) (subst (λ (m : List Session). T (allOf (peersKept s m))) (sessions-are t) pk) (ar .1) (ar .0) apart′), (of-true (ap (λ (l : List ℕ). sameOctets l t) whole ∙ same-refl t), tt))))
     where
-      sessions-ok : (x : Settings) (m : List Session) → length m ≤ x .limit → T (ascending (map seidOf m)) → T (all (sessionAllowed x) m) → T (allPairs (apart x) m) → T (sessionsAllowed x m)
-      sessions-ok x m a b c d = unfold sessionsAllowed sessionsTests in all-of-each (sessionsTests x m) (yes-leb a, (b, (c, (d, tt))))
+      sessions-ok : (x : Settings) (m : List Session) → T (allOf (peersKept x m)) → T (ascending (map sessionKey m)) → T (all (sessionAllowed x) m) → T (allPairs (apart x) m) → T (sessionsAllowed x m)
+      sessions-ok x m a b c d = unfold sessionsAllowed sessionsTests in all-of-each (sessionsTests x m) (a, (b, (c, (d, tt))))
 
-  sound-to : T (sound t) → T (frontSound t) × T (walkSound t)
-  unfolding frontSound frontTests orderSound sound soundTests sessionsAllowed sessionsTests areaSound
+  sound-to : T (sound t) → T (frontSound t) × T (walkSound t) × T (peersSound t)
+  unfolding frontSound frontTests orderSound sound soundTests sessionsAllowed sessionsTests areaSound peersSound
   sound-to h =
       let f = each (soundTests t s (viewSessions t)) h in
       let hs : T (settingsAllowed s) = f .1 .0 in
       let g = each (sessionsTests s (viewSessions t)) (f .1 .1 .0) in
       let same : encode s (viewSessions t) ≡ t = same-eq (encode s (viewSessions t)) t (f .1 .1 .1 .0) in
-      let few : sessionCount t ≤ s .limit = le-trans (le-of-eq (sym (count-are t))) (leb→le (length (viewSessions t)) (s .limit) (g .0)) in
+      let few : sessionCount t ≤ s .limit = le-trans (le-of-eq (sym (count-are t))) (all-sessions s (viewSessions t) (f .1 .1 .0)) in
       let m = map viewSession (slotsOf t) in
-      let up : T (ascending (map seidOf m)) = subst (λ (x : List Session). T (ascending (map seidOf x))) (sessions-are t) (g .1 .0) in
+      let up : T (ascending (map sessionKey m)) = subst (λ (x : List Session). T (ascending (map sessionKey x))) (sessions-are t) (g .1 .0) in
       let allowed : T (all (sessionAllowed s) m) = subst (λ (x : List Session). T (all (sessionAllowed s) x)) (sessions-are t) (g .1 .1 .0) in
       let apart′ : T (allPairs (apart s) m) = subst (λ (x : List Session). T (allPairs (apart s) x)) (sessions-are t) (g .1 .1 .1 .0) in
       let rest : List ℕ = part settingsWidth 2 t ++ area sessionOctets sessionWidth (s .limit) m in
@@ -187,10 +198,11 @@ module _ (t : List ℕ) (long : length t ≡ tableLength (limitOf t)) (o : T (oc
       let ae : area sessionOctets sessionWidth (s .limit) m ≡ drop headWidth t = sym (drop-at (part settingsWidth 2 t) (area sessionOctets sessionWidth (s .limit) m) 2 (length-part settingsWidth 2 t (omega arith))) ∙ ap (drop 2) after ∙ drop-drop 2 settingsWidth t in
       let k = kept (sessionAllowed s) sessionOctets viewSession in
       let ar = sessions-to hs few allowed up ae in
-      let kepts = and-left (all k (slotsOf t)) (ascending (map (keyOf 8) (slotsOf t)) && allZero (drop (sessionCount t * sessionWidth) (drop headWidth t))) ar in
-      let order = and-right (all k (slotsOf t)) (ascending (map (keyOf 8) (slotsOf t)) && allZero (drop (sessionCount t * sessionWidth) (drop headWidth t))) ar in (
+      let kepts = and-left (all k (slotsOf t)) (ascending (map (keyOf keyWidth) (slotsOf t)) && allZero (drop (sessionCount t * sessionWidth) (drop headWidth t))) ar in
+      let order = and-right (all k (slotsOf t)) (ascending (map (keyOf keyWidth) (slotsOf t)) && allZero (drop (sessionCount t * sessionWidth) (drop headWidth t))) ar in (
         all-of-each (frontTests t) (settings-to t hs se, (yes-eqb long, (yes-leb few, (order, tt)))),
         subst T (sym (walk-is hs few)) (both (all (sessionAllowed s) m && allPairs (apart s) m) (all canonical (slotsOf t)) (both (all (sessionAllowed s) m) (allPairs (apart s) m) allowed apart′) (all-canonical s (slotsOf t) kepts)),
+        g .0,
       )
 
 -- ---- for any octets
@@ -204,10 +216,27 @@ unfolding sound soundTests
 long-sound t h = eqb→eq (length t) (tableLength (limitOf t)) (each (soundTests t (viewSettings t) (viewSessions t)) h .0)
 
 -- the tests on the octets say just that the table is not broken
-pub sound-law : (t : List ℕ) → T (octets t) → sound t ≡ (frontSound t && walkSound t)
+pub sound-law : (t : List ℕ) → T (octets t) → sound t ≡ (frontSound t && (walkSound t && peersSound t))
 sound-law t o =
-    both-ways (sound t) (frontSound t && walkSound t)
-    (λ h. let r = sound-to t (long-sound t h) o h in both (frontSound t) (walkSound t) (r .0) (r .1))
+    both-ways (sound t) (frontSound t && (walkSound t && peersSound t))
+    (λ h. let r = sound-to t (long-sound t h) o h in both (frontSound t) (walkSound t && peersSound t) (r .0) (both (walkSound t) (peersSound t) (r .1) (r .2)))
     (λ h.
-    let a = and-left (frontSound t) (walkSound t) h in
-    sound-from t (long-of t a) o a (and-right (frontSound t) (walkSound t) h))
+    let a = and-left (frontSound t) (walkSound t && peersSound t) h in
+    let b = and-right (frontSound t) (walkSound t && peersSound t) h in
+    sound-from t (long-of t a) o a (and-left (walkSound t) (peersSound t) b) (and-right (walkSound t) (peersSound t) b))
+
+-- what the walk says of the sessions, once the front is sound
+pub walk-says : (t : List ℕ) → T (octets t) → T (frontSound t) → T (walkSound t)
+    → T (settingsAllowed (viewSettings t)) × T (all (sessionAllowed (viewSettings t)) (viewSessions t)) × T (allPairs (apart (viewSettings t)) (viewSessions t))
+unfolding frontSound frontTests
+walk-says t o h w =
+    let f = each (frontTests t) h in
+    let st = settings-from t (f .0) in
+    let x = viewSettings t in
+    let m = map viewSession (slotsOf t) in
+    let few = leb→le (sessionCount t) (x .limit) (f .1 .1 .0) in
+    let both′ = and-left (all (sessionAllowed x) m && allPairs (apart x) m) (all canonical (slotsOf t)) (subst T (walk-is t (long-of t h) o (st .0) few) w) in (
+      st .0,
+      subst (λ (y : List Session). T (all (sessionAllowed x) y)) (sym (sessions-are t)) (and-left (all (sessionAllowed x) m) (allPairs (apart x) m) both′),
+      subst (λ (y : List Session). T (allPairs (apart x) y)) (sym (sessions-are t)) (and-right (all (sessionAllowed x) m) (allPairs (apart x) m) both′),
+    )

@@ -2,7 +2,6 @@
 use mathlib.Core.Path.{_≡_, refl, sym, ap, _∙_, subst}
 use Prim.Native.Nat.{ℕ, zero, suc, _+_, _-_, _*_, _≤_, _<_}
 use native.Mathlib.Omega.{arith}
-use mathlib.Core.Bool.{Bool}
 use mathlib.Core.List.{List, [], _∷_, map}
 use lib.Dec.{T, leb→le, eqb→eq}
 use lib.ListN.{length, getD, take, drop, length-map, List·getD-map}
@@ -21,6 +20,7 @@ use Rattle.rules.specs.Sound.{settingsAllowed, csidAllowed, sessionTests, sessi
 use Rattle.rules.specs.Stages.{newSession}
 use Rattle.rules.specs.Restoring.{sessionAt}
 use Rattle.laws.proofs.TableLaws.{limit-most}
+use Rattle.laws.proofs.PeerLaws.{all-sessions}
 use Rattle.table.specs.Tests.{sessionCount, slotsOf}
 use Rattle.table.proofs.SoundLaws.{sessions-are}
 
@@ -86,8 +86,8 @@ module _ (t : List ℕ) (h : T (sound t)) where
   sessions-kept = each (sessionsTests st (viewSessions t)) (tests .1 .1 .0)
 
   pub within-limit : length (viewSessions t) ≤ viewSettings t .limit
-  unfolding sessionsTests
-  within-limit = leb→le (length (viewSessions t)) (viewSettings t .limit) (sessions-kept .0)
+  unfolding soundTests
+  within-limit = all-sessions st (viewSessions t) (tests .1 .1 .0)
 
   pub few-sessions : length (viewSessions t) ≤ maxSessions
   few-sessions = omega (arith, within-limit, limit-most st settings-kept)
@@ -114,8 +114,8 @@ module _ (t : List ℕ) (h : T (sound t)) where
         (ap (λ (xs : List ℕ). viewSession (take sessionWidth xs)) (sym (drop-drop (place * sessionWidth) headWidth t))
         ∙ ap viewSession (sym (getD-slices sessionWidth (sessionCount t) place (drop headWidth t) within))
         ∙ sym (List·getD-map viewSession (slotsOf t) place [])
-        ∙ getD-any (map viewSession (slotsOf t)) place (viewSession []) (newSession 0) (let e = count-read in let f = ap length (sessions-are t) in omega arith)
-        ∙ ap (λ (m : Sessions). getD m place (newSession 0)) (sym (sessions-are t)))
+        ∙ getD-any (map viewSession (slotsOf t)) place (viewSession []) (newSession 0 0) (let e = count-read in let f = ap length (sessions-are t) in omega arith)
+        ∙ ap (λ (m : Sessions). getD m place (newSession 0 0)) (sym (sessions-are t)))
       where
         getD-any : (m : Sessions) (i : ℕ) (a b : Session) → i < length m → getD m i a ≡ getD m i b
         getD-any [] i a b l = absurd (omega arith)
@@ -124,4 +124,4 @@ module _ (t : List ℕ) (h : T (sound t)) where
 
     pub session-kept : T (sessionAllowed st (sessionAt (viewSessions t) place))
     unfolding sessionsTests sessionAt
-    session-kept = all-at (sessionAllowed st) (newSession 0) (viewSessions t) place live (sessions-kept .1 .1 .0)
+    session-kept = all-at (sessionAllowed st) (newSession 0 0) (viewSessions t) place live (sessions-kept .1 .1 .0)

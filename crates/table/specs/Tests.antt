@@ -1,7 +1,7 @@
 -- The tests of a table on its octets, in the order in which they are made: the settings, the length by the session limit, the number of sessions, the order
--- of the SEIDs with the unused room, and the sessions with their TEIDs and addresses.
+-- of the keys with the unused room, the sessions with their TEIDs and addresses, and what the peers may hold.
 -- Assumes nothing.
-use Prim.Native.Nat.{ℕ, _*_}
+use Prim.Native.Nat.{ℕ, _+_, _*_, _-_}
 use mathlib.Core.Bool.{Bool, _&&_}
 use mathlib.Core.List.{List, [], _∷_, map}
 use lib.Dec.{leb, eqb}
@@ -10,7 +10,9 @@ use Rattle.octets.specs.Choice.{allOf}
 use Rattle.octets.specs.Octets.{part, number, slices, allZero}
 use Rattle.octets.specs.Lists.{ascending}
 use Rattle.rules.specs.Limits.{mapWords, addressWords}
-use Rattle.rules.specs.Layout.{settingsWidth, headWidth, sessionWidth, tableLength, viewSettings}
+use Rattle.rules.specs.Model.{Settings, half, peerOf}
+use Rattle.rules.specs.Layout.{settingsWidth, headWidth, sessionWidth, keyWidth, tableLength, viewSettings, viewSessions}
+use Rattle.rules.specs.Sound.{peersKept}
 use Rattle.areas.specs.Records.{keyOf}
 use Rattle.records.specs.Kept.{settingsSound}
 use Rattle.marking.specs.Marking.{slotsKeep, slotsFree}
@@ -26,9 +28,9 @@ slotsOf t = slices sessionWidth (sessionCount t) (drop headWidth t)
 abbrev pub limitOf : List ℕ → ℕ
 limitOf t = viewSettings t .limit
 
--- the slots stand in ascending order of SEIDs, and the room after them is zero
+-- the slots stand in ascending order of peers, then SEIDs, and the room after them is zero
 unfoldable pub orderSound : List ℕ → Bool
-orderSound t = ascending (map (keyOf 8) (slotsOf t)) && allZero (drop (sessionCount t * sessionWidth) (drop headWidth t))
+orderSound t = ascending (map (keyOf keyWidth) (slotsOf t)) && allZero (drop (sessionCount t * sessionWidth) (drop headWidth t))
 
 -- the tests before the walk over the sessions
 unfoldable pub frontTests : List ℕ → List Bool
@@ -40,3 +42,17 @@ frontSound t = allOf (frontTests t)
 -- the walk
 unfoldable pub walkSound : List ℕ → Bool
 walkSound t = slotsKeep (viewSettings t) (replicate mapWords 0) (slotsOf t) && slotsFree (viewSettings t) (replicate addressWords 0) (slotsOf t)
+
+-- ---- the peers (02 (xiv))
+
+unfoldable pub peersSound : List ℕ → Bool
+peersSound t = allOf (peersKept (viewSettings t) (viewSessions t))
+
+-- the same by numbers: the sessions of each, and the TEIDs that each holds
+unfoldable pub sessionsFit : Settings → ℕ → ℕ → Bool
+sessionsFit s first second = leb first (half s) && leb second (half s)
+
+unfoldable pub teidsFit : Settings → ℕ → ℕ → Bool
+teidsFit s one two =
+    leb one (peerOf s 1 .limit)
+    && (leb two (peerOf s 2 .limit) && leb (one + (peerOf s 1 .guarantee - one) + (two + (peerOf s 2 .guarantee - two))) (s .size))

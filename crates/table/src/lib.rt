@@ -1,6 +1,6 @@
 // The lent session table: whether it is broken, the maps of its TEIDs and addresses and how many are free; making an empty one.
 //
-// A table is the settings (39 octets), the number of sessions (2) and as many slots of 603 octets as the settings' limit says; docs/ has
+// A table is the settings (63 octets), the number of sessions (2) and as many slots of 604 octets as the settings' limit says; docs/ has
 // the layout.
 ghost use mathlib.Core.Path.{_≡_};
 ghost use mathlib.Core.Bool.{_||_};
@@ -10,13 +10,16 @@ ghost use lib.ListN.{length, replicate};
 ghost use Rattle.rules.specs.Limits.{mapWords, addressWords};
 ghost use Rattle.rules.specs.Sound.{sound, countFree, countAddresses, lengthFor, make};
 ghost use Rattle.rules.specs.Layout.{headWidth, viewSettings};
-ghost use Rattle.unit.specs.Meaning.{settingsOf, settingsGiven};
-ghost use Rattle.table.specs.Tests.{frontSound};
+ghost use Prim.Native.Nat.{_+_, _-_};
+ghost use mathlib.Core.Bool.{_&&_};
+ghost use Rattle.unit.specs.Meaning.{settingsOf, settingsGiven, peerFrom};
+ghost use Rattle.table.specs.Tests.{frontSound, sessionsFit, teidsFit};
 ghost use Rattle.table.specs.Answers.{Examined, countTold, madeOf};
 use format::COUNT;
 use format::HEAD;
 use format::SETTINGS;
 use format::SLOT;
+use unit::Peer;
 use unit::Settings;
 
 // The number of free TEIDs or addresses, or that the table is broken (01's outcome 1).
@@ -25,7 +28,7 @@ pub enum Count {
     Free(u64),
 }
 
-// The tests before the walk over the sessions: settings, length, number of sessions, order of SEIDs, unused room. u has the settings.
+// The tests before the walk over the sessions: settings, length, number of sessions, order of keys, unused room. u has the settings.
 fn front_sound(t: &[u8], u: Settings) -> bool
     requires { ⌜ (headWidth ≤ length (now t)) × (settingsOf u ≡ viewSettings (now t)) ⌝ }
     ensures { λ r. ⌜ r ≡ frontSound (now (t .entry)) ⌝ }
@@ -40,24 +43,79 @@ fn front_sound(t: &[u8], u: Settings) -> bool
     if u.limit < n {
         return false;
     }
-    records::slot::ordered(&t[HEAD..], SLOT, 8, n as usize)
+    records::slot::ordered(&t[HEAD..], SLOT, n as usize)
 }
 
-// Tests the whole table and fills the maps of its TEIDs and addresses, which have to be empty: broken, or how many TEIDs and addresses
-// of the pool it holds.
-pub fn examine(t: &[u8], words: &mut [u64], addresses: &mut [u64]) -> marking::Seen
+// The more of what a peer holds and what it is guaranteed.
+pub fn due(n: u64, guarantee: u64) -> u64
+    ensures { λ r. ⌜ r ≡ n + (guarantee - n) ⌝ }
+{
+    if n < guarantee {
+        return guarantee;
+    }
+    n
+}
+
+// Whether each peer has its half of the sessions at most.
+fn sessions_fit(u: Settings, first: usize, second: usize) -> bool
+    ensures { λ r. ⌜ r ≡ sessionsFit (settingsOf u) first second ⌝ }
+{
+    let half = u.limit / 2;
+    if half < first as u64 {
+        return false;
+    }
+    second as u64 <= half
+}
+
+// Whether each peer holds its limit of TEIDs at most, and what the two hold or are guaranteed is not more than the pool.
+fn teids_fit(u: Settings, one: usize, two: usize) -> bool
+    ensures { λ r. ⌜ r ≡ teidsFit (settingsOf u) one two ⌝ }
+{
+    if u.peer1.limit < one as u64 {
+        return false;
+    }
+    if u.peer2.limit < two as u64 {
+        return false;
+    }
+    let rest = due(two as u64, u.peer2.guarantee);
+    if u.size < rest {
+        return false;
+    }
+    due(one as u64, u.peer1.guarantee) <= u.size - rest
+}
+
+// Both.
+fn peers_fit(u: Settings, one: usize, two: usize, first: usize, second: usize) -> bool
+    ensures { λ r. ⌜ r ≡ (sessionsFit (settingsOf u) first second && teidsFit (settingsOf u) one two) ⌝ }
+{
+    if !sessions_fit(u, first, second) {
+        return false;
+    }
+    teids_fit(u, one, two)
+}
+
+// Tests the whole table and fills the maps of its TEIDs and addresses, which have to be empty: broken, or how many TEIDs each peer
+// holds, how many sessions are peer 1's, and how many addresses of the pool are held.
+pub fn examine(t: &[u8], words: &mut [u64], addresses: &mut [u64]) -> marking::Walked
     requires { ⌜ (now words ≡ replicate mapWords 0) × (now addresses ≡ replicate addressWords 0) ⌝ }
     ensures { λ r. ⌜ Examined (now (t .entry)) r (now (words .exit)) (now (addresses .exit)) ⌝ }
 {
     if t.len() < HEAD {
-        return marking::Seen::Broken;
+        return marking::Walked::Broken;
     }
     let u = unit::read(t);
     if !front_sound(t, u) {
-        return marking::Seen::Broken;
+        return marking::Walked::Broken;
     }
     let n = octets::read(t, COUNT, 2) as usize;
-    marking::admit_all(words, addresses, &t[HEAD..], n, u)
+    let walked = marking::admit_all(words, addresses, &t[HEAD..], n, u);
+    let marking::Walked::Held(one, two, first, taken) = walked else {
+        return marking::Walked::Broken;
+    };
+    if !peers_fit(u, one, two, first, n - first) {
+        return marking::Walked::Broken;
+    }
+    marking::Walked::Held(one, two, first, taken)
 }
 
 // Whether the table is not broken.
@@ -67,7 +125,7 @@ pub fn is_sound(t: &[u8]) -> bool
     let mut words = [0u64; pool::WORDS];
     let mut addresses = [0u64; pool::ADDRESS_WORDS];
     let seen = examine(t, &mut words, &mut addresses);
-    let marking::Seen::Held(n, k) = seen else {
+    let marking::Walked::Held(one, two, first, taken) = seen else {
         return false;
     };
     true
@@ -80,11 +138,11 @@ pub fn free_count(t: &[u8]) -> Count
     let mut words = [0u64; pool::WORDS];
     let mut addresses = [0u64; pool::ADDRESS_WORDS];
     let seen = examine(t, &mut words, &mut addresses);
-    let marking::Seen::Held(n, k) = seen else {
+    let marking::Walked::Held(one, two, first, taken) = seen else {
         return Count::Broken;
     };
     let u = unit::read(t);
-    Count::Free(u.size - n as u64)
+    Count::Free(u.size - (one + two) as u64)
 }
 
 // How many addresses of the pool no record holds.
@@ -94,11 +152,11 @@ pub fn free_addresses(t: &[u8]) -> Count
     let mut words = [0u64; pool::WORDS];
     let mut addresses = [0u64; pool::ADDRESS_WORDS];
     let seen = examine(t, &mut words, &mut addresses);
-    let marking::Seen::Held(n, k) = seen else {
+    let marking::Walked::Held(one, two, first, taken) = seen else {
         return Count::Broken;
     };
     let u = unit::read(t);
-    Count::Free(u.addresses - k as u64)
+    Count::Free(u.addresses - taken as u64)
 }
 
 // How many octets a table of so many sessions has; none for a limit that is not allowed.
@@ -128,7 +186,7 @@ fn address_fits(n: usize) -> bool
 }
 
 // Makes an empty table of the unit's IPv4 address, IPv6 address (16 octets, or none), first TEID and number of TEIDs, first address and
-// number of addresses, and session limit. Nothing is written where it is refused.
+// number of addresses, session limit, and the two peers. Nothing is written where it is refused.
 pub fn make(
     t: &mut [u8],
     ipv4: u32,
@@ -138,9 +196,11 @@ pub fn make(
     address: u32,
     count: u32,
     limit: u32,
+    peer1: Peer,
+    peer2: Peer,
 ) -> Making
     ensures { λ r.
-        ⌜ madeOf r (now (t .exit)) ≡ make (settingsGiven ipv4 (now (ipv6 .entry)) first size address count limit) (now (t .entry)) ⌝ }
+        ⌜ madeOf r (now (t .exit)) ≡ make (settingsGiven ipv4 (now (ipv6 .entry)) first size address count limit (peerFrom peer1) (peerFrom peer2)) (now (t .entry)) ⌝ }
 {
     let n = HEAD + limit as usize * SLOT;
     if t.len() != n {
@@ -149,7 +209,7 @@ pub fn make(
     if !address_fits(ipv6.len()) {
         return Making::Refused;
     }
-    let u = unit::given(ipv4, ipv6, first, size, address, count, limit);
+    let u = unit::given(ipv4, ipv6, first, size, address, count, limit, peer1, peer2);
     if !unit::allowed(u) {
         return Making::Refused;
     }

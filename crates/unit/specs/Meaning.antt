@@ -6,8 +6,13 @@ use mathlib.Core.List.{List, [], _∷_, _++_}
 use lib.Dec.{leb}
 use Rattle.octets.specs.Choice.{pick}
 use Rattle.octets.specs.Octets.{be}
-use Rattle.rules.specs.Model.{Settings}
+use Rattle.rules.specs.Model.{Settings, Peer}
+use Rattle.rules.specs.Layout.{peerOctets}
 use Rattle.unit.specs.declared.Settings.{Settings as Unit}
+use Rattle.unit.specs.declared.Peer as declared
+
+abbrev pub peerFrom : declared.Peer → Peer
+peerFrom q = record { address = q .address; guarantee = q .guarantee; limit = q .limit }
 
 -- the IPv4 address is a number of four octets, the IPv6 address two of eight
 unfoldable pub settingsOf : Unit → Settings
@@ -20,16 +25,18 @@ settingsOf u =
       firstAddress = u .«first_address»;
       addressCount = u .addresses;
       limit = u .limit;
+      peer1 = peerFrom (u .peer1);
+      peer2 = peerFrom (u .peer2);
     }
 
 -- the parameters of a call: the IPv4 address as a number, the IPv6 address as octets, empty where there is none
-abbrev pub settingsGiven : ℕ → List ℕ → ℕ → ℕ → ℕ → ℕ → ℕ → Settings
-settingsGiven ipv4 ipv6 first size firstAddress addresses limit =
-    record { ipv4 = be 4 ipv4; ipv6 = ipv6; first = first; size = size; firstAddress = firstAddress; addressCount = addresses; limit = limit }
+abbrev pub settingsGiven : ℕ → List ℕ → ℕ → ℕ → ℕ → ℕ → ℕ → Peer → Peer → Settings
+settingsGiven ipv4 ipv6 first size firstAddress addresses limit peer1 peer2 =
+    record { ipv4 = be 4 ipv4; ipv6 = ipv6; first = first; size = size; firstAddress = firstAddress; addressCount = addresses; limit = limit; peer1 = peer1; peer2 = peer2 }
 
--- the octets of the pools and the session limit, which stand after the unit's addresses
+-- the octets of the pools, the session limit and the peers, which stand after the unit's addresses
 unfoldable pub numberOctets : Settings → List ℕ
-numberOctets s = be 4 (s .first) ++ (be 4 (s .size) ++ (be 4 (s .firstAddress) ++ (be 4 (s .addressCount) ++ be 2 (s .limit))))
+numberOctets s = be 4 (s .first) ++ (be 4 (s .size) ++ (be 4 (s .firstAddress) ++ (be 4 (s .addressCount) ++ (be 2 (s .limit) ++ (peerOctets (s .peer1) ++ peerOctets (s .peer2))))))
 
 -- a pool of at least one number and at most so many, the last of which has four octets
 abbrev pub rangeTests : ℕ → ℕ → ℕ → List Bool

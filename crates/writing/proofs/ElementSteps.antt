@@ -61,7 +61,7 @@ fseid-steps seid at e a b s h g p q =
     let l = length-fseid seid a b in
     placed-element ie.fseid at (at + 4) (e - (at + 4)) e (fseidOctets seid a b) s refl (omega arith) (omega arith) (omega arith) p q
 
--- ---- elements with the unit's IPv4 address
+-- ---- elements with the peer's signalling address
 
 module _ (kind : ℕ) where
   pub node-yes : kind ≡ establishment → true ≡ (eqb kind establishment || eqb kind setDeletion)
@@ -70,26 +70,26 @@ module _ (kind : ℕ) where
   pub node-second : (kind ≡ establishment → ⊥) → eqb kind setDeletion ≡ (eqb kind establishment || eqb kind setDeletion)
   node-second k = rw (ne-eqb kind establishment k)
 
-module _ (kind at : ℕ) (v : Unit) (s : List ℕ) where
-  pub node-not : {b : Bool} → b ≡ (eqb kind establishment || eqb kind setDeletion) → b ≡ false → Placed s at (nodeIdElement kind (settingsOf v)) at s
+module _ (kind at home : ℕ) (s : List ℕ) where
+  pub node-not : {b : Bool} → b ≡ (eqb kind establishment || eqb kind setDeletion) → b ≡ false → Placed s at (nodeIdElement kind home) at s
   unfolding nodeIdElement
   node-not e n = rw (← e, n) (placed-none s at)
 
-  pub own-not : (seid : ℕ) → (kind ≡ establishment → ⊥) → Placed s at (unitFseid kind (settingsOf v) seid) at s
+  pub own-not : (seid : ℕ) → (kind ≡ establishment → ⊥) → Placed s at (unitFseid kind home seid) at s
   unfolding unitFseid
   own-not seid k = rw (ne-eqb kind establishment k) (placed-none s at)
 
   abbrev ipv4 : List ℕ
-  ipv4 = be 4 (v .ipv4)
+  ipv4 = be 4 home
 
   pub node-steps : {b : Bool} → b ≡ (eqb kind establishment || eqb kind setDeletion) → b ≡ true → (a : List ℕ) {e : ℕ} {s₁ : List ℕ} → a ≡ put 1 ipv4 (0 ∷ 0 ∷ 0 ∷ 0 ∷ 0 ∷ [])
-      → Placed s at (element ie.nodeId a) e s₁ → Placed s at (nodeIdElement kind (settingsOf v)) e s₁
-  unfolding nodeIdElement settingsOf put be
+      → Placed s at (element ie.nodeId a) e s₁ → Placed s at (nodeIdElement kind home) e s₁
+  unfolding nodeIdElement put be
   node-steps e y a q p = rw (← e, y, ← q) p
 
-  pub own-steps : kind ≡ establishment → (seid : ℕ) (a₀ a : List ℕ) {e : ℕ} {s₁ : List ℕ} → length a₀ ≡ 4 → a ≡ put 0 ipv4 a₀ → Placed s at (element ie.fseid (fseidOctets seid a [])) e s₁ → Placed s at (unitFseid kind (settingsOf v) seid) e s₁
-  unfolding unitFseid settingsOf
-  own-steps k seid a₀ a l q p = rw (eq-eqb kind establishment k, ← put-whole ipv4 a₀ (omega (arith, length-be 4 (v .ipv4))), ← q) p
+  pub own-steps : kind ≡ establishment → (seid : ℕ) (a₀ a : List ℕ) {e : ℕ} {s₁ : List ℕ} → length a₀ ≡ 4 → a ≡ put 0 ipv4 a₀ → Placed s at (element ie.fseid (fseidOctets seid a [])) e s₁ → Placed s at (unitFseid kind home seid) e s₁
+  unfolding unitFseid
+  own-steps k seid a₀ a l q p = rw (eq-eqb kind establishment k, ← put-whole ipv4 a₀ (omega (arith, length-be 4 home)), ← q) p
 
 -- ---- F-TEID
 

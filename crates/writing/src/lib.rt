@@ -60,16 +60,16 @@ fn has_node_id(kind: u8) -> bool
     kind == kinds::SET_DELETION_OCTET
 }
 
-// Node ID, in the replies to establishments and set deletions only.
-pub fn write_node_id(u: Settings, kind: u8, out: &mut [u8], at: usize) -> usize
+// Node ID with the peer's signalling address, in the replies to establishments and set deletions only.
+pub fn write_node_id(home: u64, kind: u8, out: &mut [u8], at: usize) -> usize
     requires { ⌜ at + 9 ≤ length (now out) ⌝ }
-    ensures { λ r. ⌜ Placed (now (out .entry)) at (nodeIdElement kind (settingsOf u)) r (now (out .exit)) ⌝ }
+    ensures { λ r. ⌜ Placed (now (out .entry)) at (nodeIdElement kind home) r (now (out .exit)) ⌝ }
 {
     if !has_node_id(kind) {
         return at;
     }
     let mut v = [0u8; 5];
-    octets::write(&mut v, 1, 4, u.ipv4);
+    octets::write(&mut v, 1, 4, home);
     write_value(types::NODE_ID, &v, out, at)
 }
 
@@ -100,16 +100,16 @@ pub fn write_fseid(seid: u64, ipv4: &[u8], ipv6: &[u8], out: &mut [u8], at: usiz
     end
 }
 
-// The unit's F-SEID, in an accepted establishment's reply only.
-pub fn write_own_fseid(u: Settings, kind: u8, seid: u64, out: &mut [u8], at: usize) -> usize
+// The unit's F-SEID with the peer's signalling address, in an accepted establishment's reply only.
+pub fn write_own_fseid(home: u64, kind: u8, seid: u64, out: &mut [u8], at: usize) -> usize
     requires { ⌜ at + 17 ≤ length (now out) ⌝ }
-    ensures { λ r. ⌜ Placed (now (out .entry)) at (unitFseid kind (settingsOf u) seid) r (now (out .exit)) ⌝ }
+    ensures { λ r. ⌜ Placed (now (out .entry)) at (unitFseid kind home seid) r (now (out .exit)) ⌝ }
 {
     if kind != kinds::ESTABLISHMENT_OCTET {
         return at;
     }
     let mut ipv4 = [0u8; 4];
-    octets::write(&mut ipv4, 0, 4, u.ipv4);
+    octets::write(&mut ipv4, 0, 4, home);
     let none = [0u8; 1];
     write_fseid(seid, &ipv4, &none[0..0], out, at)
 }

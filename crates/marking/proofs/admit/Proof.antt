@@ -34,7 +34,7 @@ shared-slice-read-csids-sound : tie.Need-shared-slice-read-csids-sound
 shared-slice-read-csids-sound c = search needs
 
 cast-csids-sound : tie.Need-cast-csids-sound
-cast-csids-sound c = omega (arith, c .shared-slice-known2 .given 10)
+cast-csids-sound c = omega (arith, c .shared-slice-known2 .given 11)
 
 csids-sound-requires : tie.Need-csids-sound-requires
 csids-sound-requires c κs =
@@ -66,7 +66,7 @@ shared-slice-read-m : tie.Need-shared-slice-read-m
 shared-slice-read-m c = search needs
 
 cast-m : tie.Need-cast-m
-cast-m c = omega (arith, c .shared-slice-known3 .given 9)
+cast-m c = omega (arith, c .shared-slice-known3 .given 10)
 
 admit-endpoints-requires : tie.Need-admit-endpoints-requires
 admit-endpoints-requires c κs =
@@ -107,7 +107,7 @@ shared-slice-read-admit-pdrs : tie.Need-shared-slice-read-admit-pdrs
 shared-slice-read-admit-pdrs c = search needs
 
 cast-admit-pdrs : tie.Need-cast-admit-pdrs
-cast-admit-pdrs c = omega (arith, c .shared-slice-known4 .given 8)
+cast-admit-pdrs c = omega (arith, c .shared-slice-known4 .given 9)
 
 admit-pdrs-requires : tie.Need-admit-pdrs-requires
 admit-pdrs-requires c κs =

@@ -7,16 +7,16 @@ use native.Mathlib.Omega.{arith}
 use borrow.Author.Needs.{needs}
 use Rattle.unit.specs.Meaning.{settingsOf}
 use Rattle.rules.specs.Limits.{addressWords}
-use Rattle.marking.proofs.Entering.{holders-none, Passing, passing-none, passing-turn, passing-more, passing-stop, passing-all}
+use Rattle.marking.proofs.Entering.{holders-none, Passing, passing-none, passing-turn, turn-tally, turn-added, passing-stop, passing-all}
 use Rattle.marking.proofs.admit_all.Statement.{statement}
 use Rattle.marking.proofs.admit_all.Tie as tie
 
 abbrev Inv-loop : tie.InvT-loop
-Inv-loop words₀ addresses₀ a n u holders₀ new₀ taken₀ i₀ words addresses holders new taken i =
-    Passing (settingsOf u) words₀ addresses₀ a n words holders addresses i new taken
+Inv-loop words₀ addresses₀ a n u holders₀ sum₀ i₀ words addresses holders sum i =
+    Passing (settingsOf u) words₀ addresses₀ a n words holders addresses i (sum .one) (sum .two) (sum .first) (sum .taken)
 
 abbrev μ-loop : tie.MeasureT-loop
-μ-loop words₀ addresses₀ a n u holders₀ new₀ taken₀ i₀ words addresses holders new taken i = n - i
+μ-loop words₀ addresses₀ a n u holders₀ sum₀ i₀ words addresses holders sum i = n - i
 
 array-write-holders : tie.Need-array-write-holders Inv-loop μ-loop
 array-write-holders c = search needs
@@ -81,21 +81,15 @@ returns c =
     let t = c .before .before .before .before .before .before .before .admit-session in
     passing-stop (settingsOf (g .u)) (g .words .now) (g .addresses .now) (g .a .now) (g .n) (l .inv) (c .before .before .before .before .before .before .before .before .before .before .before .before .loop-test .taken) (t .result) (t .last .0) (t .last .1 .0) (t .last .1 .1 .0) (t .ensures) (t .last .0) (t .last .1 .1 .0) (c .enum-told .given .1)
 
-add-new : tie.Need-add-new Inv-loop μ-loop
-add-new c =
-    let g = c .before .before .before .before .before .before .before .before .before .before .before .before .before .before .before .before .before .before .args in
-    let l = c .before .before .before .before .before .before .before .before .before .before .before .before .before .before .loop in
-    let t = c .before .before .before .before .before .before .before .before .admit-session in
-    let more = passing-more (settingsOf (g .u)) (g .words .now) (g .addresses .now) (g .a .now) (g .n) (l .inv) (c .before .before .before .before .before .before .before .before .before .before .before .before .before .loop-test .taken) (t .result) (t .last .0) (t .last .1 .0) (t .last .1 .1 .0) (t .ensures) (c .before .step .given .0 .0) (c .before .step .given .0 .1 .0) (c .before .step .given .1) in
-    omega (arith, more .teids .few, c .before .before .before .before .before .before .before .before .before .before .before .before .before .before .before .before .before .before .pre .1)
+shared-slice-read-added : tie.Need-shared-slice-read-added Inv-loop μ-loop
+shared-slice-read-added c = search needs
 
-add-taken : tie.Need-add-taken Inv-loop μ-loop
-add-taken c =
-    let g = c .before .before .before .before .before .before .before .before .before .before .before .before .before .before .before .before .before .before .args in
-    let l = c .before .before .before .before .before .before .before .before .before .before .before .before .before .before .loop in
-    let t = c .before .before .before .before .before .before .before .before .admit-session in
-    let more = passing-more (settingsOf (g .u)) (g .words .now) (g .addresses .now) (g .a .now) (g .n) (l .inv) (c .before .before .before .before .before .before .before .before .before .before .before .before .before .loop-test .taken) (t .result) (t .last .0) (t .last .1 .0) (t .last .1 .1 .0) (t .ensures) (c .before .step .given .0 .0) (c .before .step .given .0 .1 .0) (c .before .step .given .1) in
-    omega (arith, more .addresses .few, c .before .before .before .before .before .before .before .before .before .before .before .before .before .before .before .before .before .before .pre .1)
+added-requires : tie.Need-added-requires Inv-loop μ-loop
+added-requires c κs =
+    let g = c .before .before .before .before .before .before .before .before .before .before .before .before .before .before .before .before .before .before .before .args in
+    let l = c .before .before .before .before .before .before .before .before .before .before .before .before .before .before .before .loop in
+    let t = c .before .before .before .before .before .before .before .before .before .admit-session in
+    turn-tally (settingsOf (g .u)) (g .words .now) (g .addresses .now) (g .a .now) (g .n) (l .inv) (c .before .before .before .before .before .before .before .before .before .before .before .before .before .before .loop-test .taken) (t .result) (t .last .0) (t .last .1 .0) (t .last .1 .1 .0) (t .ensures) (c .before .before .step .given .0 .0) (c .before .before .step .given .0 .1 .0) (c .before .before .step .given .1) (c .before .before .before .before .before .before .before .before .before .before .before .before .before .before .before .before .before .before .before .pre .1)
 
 add-i : tie.Need-add-i Inv-loop μ-loop
 add-i c = search needs
@@ -105,10 +99,10 @@ loop-less c = search needs
 
 loop-again : tie.Need-loop-again Inv-loop μ-loop
 loop-again c =
-    let g = c .before .before .before .before .before .before .before .before .before .before .before .before .before .before .before .before .before .before .args in
-    let l = c .before .before .before .before .before .before .before .before .before .before .before .before .before .before .loop in
-    let t = c .before .before .before .before .before .before .before .before .admit-session in
-    passing-more (settingsOf (g .u)) (g .words .now) (g .addresses .now) (g .a .now) (g .n) (l .inv) (c .before .before .before .before .before .before .before .before .before .before .before .before .before .loop-test .taken) (t .result) (t .last .0) (t .last .1 .0) (t .last .1 .1 .0) (t .ensures) (c .before .step .given .0 .0) (c .before .step .given .0 .1 .0) (c .before .step .given .1)
+    let g = c .before .before .before .before .before .before .before .before .before .before .before .before .before .before .before .before .before .before .before .before .args in
+    let l = c .before .before .before .before .before .before .before .before .before .before .before .before .before .before .before .before .loop in
+    let t = c .before .before .before .before .before .before .before .before .before .before .admit-session in
+    turn-added (settingsOf (g .u)) (g .words .now) (g .addresses .now) (g .a .now) (g .n) (l .inv) (c .before .before .before .before .before .before .before .before .before .before .before .before .before .before .before .loop-test .taken) (t .result) (t .last .0) (t .last .1 .0) (t .last .1 .1 .0) (t .ensures) (c .before .before .before .step .given .0 .0) (c .before .before .before .step .given .0 .1 .0) _ _ _ _ (c .before .before .before .step .given .1) (c .added .ensures)
 
 same-length-3 : tie.Need-same-length-3 Inv-loop μ-loop
 same-length-3 c = search needs
@@ -143,8 +137,8 @@ admit-all-spec =
     same-length
     same-length-2
     returns
-    add-new
-    add-taken
+    shared-slice-read-added
+    added-requires
     add-i
     loop-less
     loop-again

@@ -7,19 +7,19 @@ use Rattle.repeats.proofs.renew.Statement.{statement}
 use Rattle.repeats.proofs.renew.Tie as tie
 
 returns : tie.Need-returns
-returns c = renew-none _ _ _ _ _ _ _ _ _ (c .before .before .before .before .before .before .serve .ensures) (c .if1 .taken)
+returns c = renew-none _ _ _ _ _ _ _ _ _ _ (c .before .before .before .before .before .before .serve .ensures) (c .if1 .taken)
 
 slice-reshare-prefix-push : tie.Need-slice-reshare-prefix-push
-slice-reshare-prefix-push c = reply-fits _ (c .before .before .before .before .before .before .before .before .before .before .before .before .before .before .args .store .now) _ _ _ _ _ _ _ (c .before .before .before .before .before .before .before .serve .ensures) (c .before .if1 .left)
+slice-reshare-prefix-push c = reply-fits _ _ (c .before .before .before .before .before .before .before .before .before .before .before .before .before .before .args .store .now) _ _ _ _ _ _ _ (c .before .before .before .before .before .before .before .serve .ensures) (c .before .if1 .left)
 
 slice-aggregate-push : tie.Need-slice-aggregate-push
-slice-aggregate-push c = sym (length-take-le _ _ (reply-fits _ (c .before .before .before .before .before .before .before .before .before .before .before .before .before .before .before .args .store .now) _ _ _ _ _ _ _ (c .before .before .before .before .before .before .before .before .serve .ensures) (c .before .before .if1 .left)))
+slice-aggregate-push c = sym (length-take-le _ _ (reply-fits _ _ (c .before .before .before .before .before .before .before .before .before .before .before .before .before .before .before .args .store .now) _ _ _ _ _ _ _ (c .before .before .before .before .before .before .before .before .serve .ensures) (c .before .before .if1 .left)))
 
 push-requires : tie.Need-push-requires
-push-requires c κs = keepable _ _ _ _ _ _ _ _ _ (c .before .before .before .before .before .before .before .before .serve .ensures) (c .before .before .if1 .left) (c .before .before .before .before .before .before .before .before .before .before .before .before .before .before .before .pre)
+push-requires c κs = keepable _ _ _ _ _ _ _ _ _ _ (c .before .before .before .before .before .before .before .before .serve .ensures) (c .before .before .if1 .left) (c .before .before .before .before .before .before .before .before .before .before .before .before .before .before .before .pre)
 
 returns-2 : tie.Need-returns-2
-returns-2 c = renew-some _ _ _ _ _ _ _ _ _ (c .before .before .before .before .before .before .before .before .before .before .before .serve .ensures) (c .before .before .before .before .before .if1 .left) _ (c .before .before .push .ensures)
+returns-2 c = renew-some _ _ _ _ _ _ _ _ _ _ (c .before .before .before .before .before .before .before .before .before .before .before .serve .ensures) (c .before .before .before .before .before .if1 .left) _ (c .before .before .push .ensures)
 
 pub renew-spec : {M : Type 1} → statement M
 renew-spec =

@@ -9,7 +9,7 @@ write-cause-requires : tie.Need-write-cause-requires
 write-cause-requires c κs =
     let s = c .before .before .before .before .before .before in
     let n = c .before .before .before .write-node-id in
-    front-room (s .args .u) (s .args .kind) (s .args .cause) (s .args .at) (s .args .out .now) (s .pre) (n .ensures) (n .kept .1 .1 .0)
+    front-room (s .args .home) (s .args .kind) (s .args .cause) (s .args .at) (s .args .out .now) (s .pre) (n .ensures) (n .kept .1 .1 .0)
 
 returns : tie.Need-returns
 returns c = search front-steps

@@ -2,7 +2,8 @@
 -- Assumes nothing.
 use native.Mathlib.Omega.{arith}
 use lib.ListN.{length-take}
-use Rattle.rules.specs.Restoring.{restorationAt}
+use Rattle.rules.specs.Layout.{viewSessions}
+use Rattle.rules.specs.Restoring.{sessionAt, restorationAt}
 use Rattle.restoration.proofs.SoundSlots.{request-short}
 use Rattle.restoration.proofs.RequestSteps.{into-short, into-written}
 use borrow.Author.Needs.{needs}
@@ -12,7 +13,7 @@ use Rattle.restoration.proofs.write_at.Tie as tie
 returns : tie.Need-returns
 returns c =
     let a = c .before .before .before .before .before .before .before .before .before .args in
-    into-short (restorationAt (a .t .now) (a .place) (a .ipv4 .now) (a .ipv6 .now)) (a .space .now) (c .before .before .before .write-request .ensures) (c .refused .result) (c .before .if1 .taken) (c .refused .ensures)
+    into-short (sessionAt (viewSessions (a .t .now)) (a .place) .peer) (restorationAt (a .t .now) (a .place) (a .ipv4 .now) (a .ipv6 .now)) (a .space .now) (c .before .before .before .write-request .ensures) (c .refused .result) (c .before .if1 .taken) (c .refused .ensures)
 
 array-share-prefix-request : tie.Need-array-share-prefix-request
 array-share-prefix-request c =
@@ -47,10 +48,13 @@ copy-requires c κs =
     let l = w .kept .1 .1 .1 .1 .0 in
     omega (arith, c .before .before .if1 .left, length-take (w .result) (w .last .1 .1 .1 .1 .0))
 
+peer-at-requires : tie.Need-peer-at-requires
+peer-at-requires c κs = let r = c .before .before .before .before .before .before .before .before .before .before .before .before .before .pre in (r .sound, r .live)
+
 returns-2 : tie.Need-returns-2
 returns-2 c =
-    let a = c .before .before .before .before .before .before .before .before .before .before .before .before .before .args in
-    into-written (restorationAt (a .t .now) (a .place) (a .ipv4 .now) (a .ipv6 .now)) (a .space .now) (c .before .before .before .before .before .before .before .write-request .ensures) _ (c .before .before .before .before .before .if1 .left) (c .before .before .copy .ensures)
+    let a = c .before .before .before .before .before .before .before .before .before .before .before .before .before .before .args in
+    into-written (sessionAt (viewSessions (a .t .now)) (a .place) .peer) (restorationAt (a .t .now) (a .place) (a .ipv4 .now) (a .ipv6 .now)) (a .space .now) (c .before .before .before .before .before .before .before .before .write-request .ensures) _ _ (c .before .before .before .before .before .before .if1 .left) (c .before .before .before .copy .ensures) (c .peer-at .ensures)
 
 pub write-at-spec : {M : Type 1} → statement M
 write-at-spec =
@@ -63,5 +67,6 @@ write-at-spec =
     array-share-prefix-request
     slice-aggregate-copy
     copy-requires
+    peer-at-requires
     (λ c. search needs)
     returns-2)

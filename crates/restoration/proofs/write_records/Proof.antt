@@ -3,7 +3,7 @@
 use native.Mathlib.Omega.{arith}
 use lib.ListN.{getD}
 use Rattle.octets.specs.Octets.{octetAt}
-use Rattle.rules.specs.Layout.{pdrCountAt, endpointCountAt, csidCountAt, endpointsAt, csidsAt}
+use Rattle.rules.specs.Layout.{pdrCountAt, endpointCountAt, csidCountAt, pdrsAt, endpointsAt, csidsAt}
 use Rattle.unit.specs.Meaning.{settingsOf}
 use Rattle.rules.specs.Types as ie
 use Rattle.restoration.proofs.SlotSteps.{length-records, area-fits, area-length, records-steps}
@@ -12,19 +12,19 @@ use Rattle.restoration.proofs.write_records.Statement.{statement}
 use Rattle.restoration.proofs.write_records.Tie as tie
 
 cast-write-area : tie.Need-cast-write-area
-cast-write-area c = omega (arith, c .shared-slice-known2 .given 8)
+cast-write-area c = omega (arith, c .shared-slice-known2 .given pdrCountAt)
 
 write-area-requires : tie.Need-write-area-requires
 write-area-requires c κs =
     let s = c .before .before .before .before .before in
     let xs = s .args .slot .now in
     let st = settingsOf (s .args .u) in (
-      area-fits st xs 1 (getD xs pdrCountAt 0) 11 (unfold octetAt in s .pre .0 .pdrs),
-      omega (arith, s .pre .1, length-records st xs, area-length st xs ie.createPdr (getD xs pdrCountAt 0) 11, area-length st xs ie.createEndpoint (getD xs endpointCountAt 0) endpointsAt, area-length st xs ie.fqcsid (getD xs csidCountAt 0) csidsAt),
+      area-fits st xs ie.createPdr (getD xs pdrCountAt 0) pdrsAt (unfold octetAt in s .pre .0 .pdrs),
+      omega (arith, s .pre .1, length-records st xs, area-length st xs ie.createPdr (getD xs pdrCountAt 0) pdrsAt, area-length st xs ie.createEndpoint (getD xs endpointCountAt 0) endpointsAt, area-length st xs ie.fqcsid (getD xs csidCountAt 0) csidsAt),
     )
 
 cast-write-area-2 : tie.Need-cast-write-area-2
-cast-write-area-2 c = omega (arith, c .shared-slice-known3 .given 9)
+cast-write-area-2 c = omega (arith, c .shared-slice-known3 .given endpointCountAt)
 
 write-area-requires-2 : tie.Need-write-area-requires-2
 write-area-requires-2 c κs =
@@ -32,19 +32,19 @@ write-area-requires-2 c κs =
     let xs = s .args .slot .now in
     let st = settingsOf (s .args .u) in (
       area-fits st xs ie.createEndpoint (getD xs endpointCountAt 0) endpointsAt (unfold octetAt in s .pre .0 .endpoints),
-      omega (arith, s .pre .1, c .before .before .before .before .before .write-area .ensures .ends, c .before .before .before .before .before .write-area .kept .1 .1 .1 .1 .0, length-records st xs, area-length st xs ie.createPdr (getD xs pdrCountAt 0) 11, area-length st xs ie.createEndpoint (getD xs endpointCountAt 0) endpointsAt, area-length st xs ie.fqcsid (getD xs csidCountAt 0) csidsAt),
+      omega (arith, s .pre .1, c .before .before .before .before .before .write-area .ensures .ends, c .before .before .before .before .before .write-area .kept .1 .1 .1 .1 .0, length-records st xs, area-length st xs ie.createPdr (getD xs pdrCountAt 0) pdrsAt, area-length st xs ie.createEndpoint (getD xs endpointCountAt 0) endpointsAt, area-length st xs ie.fqcsid (getD xs csidCountAt 0) csidsAt),
     )
 
 cast-write-area-3 : tie.Need-cast-write-area-3
-cast-write-area-3 c = omega (arith, c .shared-slice-known4 .given 10)
+cast-write-area-3 c = omega (arith, c .shared-slice-known4 .given csidCountAt)
 
 write-area-requires-3 : tie.Need-write-area-requires-3
 write-area-requires-3 c κs =
     let s = c .before .before .before .before .before .before .before .before .before .before .before .before .before .before .before .before .before in
     let xs = s .args .slot .now in
     let st = settingsOf (s .args .u) in (
-      area-fits st xs 65 (getD xs csidCountAt 0) csidsAt (unfold octetAt in s .pre .0 .csids),
-      omega (arith, s .pre .1, c .before .before .before .before .before .before .before .before .before .before .before .write-area .ensures .ends, c .before .before .before .before .before .before .before .before .before .before .before .write-area .kept .1 .1 .1 .1 .0, c .before .before .before .before .before .write-area2 .ensures .ends, c .before .before .before .before .before .write-area2 .kept .1 .1 .1 .1 .0, length-records st xs, area-length st xs ie.createPdr (getD xs pdrCountAt 0) 11, area-length st xs ie.createEndpoint (getD xs endpointCountAt 0) endpointsAt, area-length st xs ie.fqcsid (getD xs csidCountAt 0) csidsAt),
+      area-fits st xs ie.fqcsid (getD xs csidCountAt 0) csidsAt (unfold octetAt in s .pre .0 .csids),
+      omega (arith, s .pre .1, c .before .before .before .before .before .before .before .before .before .before .before .write-area .ensures .ends, c .before .before .before .before .before .before .before .before .before .before .before .write-area .kept .1 .1 .1 .1 .0, c .before .before .before .before .before .write-area2 .ensures .ends, c .before .before .before .before .before .write-area2 .kept .1 .1 .1 .1 .0, length-records st xs, area-length st xs ie.createPdr (getD xs pdrCountAt 0) pdrsAt, area-length st xs ie.createEndpoint (getD xs endpointCountAt 0) endpointsAt, area-length st xs ie.fqcsid (getD xs csidCountAt 0) csidsAt),
     )
 
 returns : tie.Need-returns

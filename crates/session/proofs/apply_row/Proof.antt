@@ -1,10 +1,10 @@
-use Rattle.session.proofs.Steps.{endpoints-fit, row-130, row-127, row-1, row-9, row-65, row-none}
+use Rattle.session.proofs.Steps.{endpoints-fit, endpoints-key, row-130, row-127, row-1, row-9, row-65, row-none}
 use borrow.Author.Needs.{needs}
 use Rattle.session.proofs.apply_row.Statement.{statement}
 use Rattle.session.proofs.apply_row.Tie as tie
 
 drop-record-requires : tie.Need-drop-record-requires
-drop-record-requires c κs = search endpoints-fit
+drop-record-requires c κs = (search endpoints-fit, search endpoints-key)
 
 returns : tie.Need-returns
 returns c = search row-130

@@ -2,7 +2,7 @@ use mathlib.Core.Path.{_∙_}
 use Prim.Native.Nat.{_-_}
 use native.Mathlib.Omega.{arith}
 use lib.ListN.{length}
-use Rattle.session.proofs.Steps.{pdrs-fit, Dropping, dropping-none, dropping-more, dropping-all}
+use Rattle.session.proofs.Steps.{pdrs-fit, pdrs-key, Dropping, dropping-none, dropping-more, dropping-all}
 use borrow.Author.Needs.{needs}
 use Rattle.session.proofs.drop_pdrs.Statement.{statement}
 use Rattle.session.proofs.drop_pdrs.Tie as tie
@@ -19,7 +19,7 @@ loop-holds c = search dropping-none
 drop-record-requires : tie.Need-drop-record-requires Inv-loop μ-loop
 drop-record-requires c κs =
     let p = c .before .before .before .before .loop .inv in
-    pdrs-fit _ _ (c .before .pdrs .ensures) (p .long ∙ p .size)
+    (pdrs-fit _ _ (c .before .pdrs .ensures) (p .long ∙ p .size), pdrs-key _ (c .before .pdrs .ensures))
 
 loop-again : tie.Need-loop-again Inv-loop μ-loop
 loop-again c =

@@ -1,6 +1,6 @@
 use mathlib.Core.Path.{_≡_}
 use lib.ListN.{length}
-use Rattle.session.proofs.Steps.{csids-fit, csid-set, csid-removed, csids-cleared, csids-kept, csid-wide}
+use Rattle.session.proofs.Steps.{csids-fit, csids-key, csid-set, csid-removed, csids-cleared, csids-kept, csid-wide}
 use borrow.Author.Needs.{needs}
 use Rattle.session.proofs.follow_csid.Statement.{statement}
 use Rattle.session.proofs.follow_csid.Tie as tie
@@ -9,13 +9,13 @@ use Rattle.rules.specs.Layout.{csidWidth}
 put-record-requires : tie.Need-put-record-requires
 put-record-requires c κs =
     let n : length (c .before .before .csid .result) ≡ csidWidth = search needs in
-    (search csids-fit, csid-wide _ _ (c .before .before .before .before .csids .ensures) n)
+    (search csids-fit, csid-wide _ _ (c .before .before .before .before .csids .ensures) n, csids-key _ (c .before .before .before .before .csids .ensures))
 
 returns : tie.Need-returns
 returns c = search csid-set
 
 drop-record-requires : tie.Need-drop-record-requires
-drop-record-requires c κs = search csids-fit
+drop-record-requires c κs = (search csids-fit, search csids-key)
 
 returns-2 : tie.Need-returns-2
 returns-2 c = search csid-removed

@@ -1,5 +1,5 @@
 use Rattle.areas.proofs.Steps.{found-room, absent-room, put-over-found, put-in-absent, put-nowhere}
-use Rattle.session.proofs.Steps.{endpoints-fit, endpoint-wide, endpoint-keyed, put-there}
+use Rattle.session.proofs.Steps.{endpoints-fit, endpoints-key, endpoint-wide, endpoint-keyed, put-there}
 use mathlib.Core.Path.{sym, _∙_}
 use native.Mathlib.Omega.{arith}
 use borrow.Author.Needs.{needs}
@@ -10,7 +10,7 @@ read-requires : tie.Need-read-requires
 read-requires c κs = endpoint-keyed _ _ (c .endpoints .ensures) (c .before .before .before .pre .1)
 
 find-requires : tie.Need-find-requires
-find-requires c κs = endpoints-fit _ _ (c .before .before .endpoints .ensures) (c .before .before .before .before .before .pre .0)
+find-requires c κs = (endpoints-fit _ _ (c .before .before .endpoints .ensures) (c .before .before .before .before .before .pre .0), endpoints-key _ (c .before .before .endpoints .ensures))
 
 replace-requires : tie.Need-replace-requires
 replace-requires c κs =

@@ -1,5 +1,5 @@
 use Rattle.areas.proofs.Steps.{found-room, absent-room, put-over-found, put-in-absent, put-nowhere}
-use Rattle.session.proofs.Steps.{pdrs-fit, pdr-wide, pdr-keyed, put-there}
+use Rattle.session.proofs.Steps.{pdrs-fit, pdrs-key, pdr-wide, pdr-keyed, put-there}
 use mathlib.Core.Path.{sym, _∙_}
 use native.Mathlib.Omega.{arith}
 use borrow.Author.Needs.{needs}
@@ -10,7 +10,7 @@ read-requires : tie.Need-read-requires
 read-requires c κs = pdr-keyed _ _ (c .pdrs .ensures) (c .before .before .before .pre .1)
 
 find-requires : tie.Need-find-requires
-find-requires c κs = pdrs-fit _ _ (c .before .before .pdrs .ensures) (c .before .before .before .before .before .pre .0)
+find-requires c κs = (pdrs-fit _ _ (c .before .before .pdrs .ensures) (c .before .before .before .before .before .pre .0), pdrs-key _ (c .before .before .pdrs .ensures))
 
 replace-requires : tie.Need-replace-requires
 replace-requires c κs =

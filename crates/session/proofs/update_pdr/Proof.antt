@@ -1,10 +1,10 @@
-use Rattle.session.proofs.Steps.{pdrs-fit, update-none, update-place, update-found}
+use Rattle.session.proofs.Steps.{pdrs-fit, pdrs-key, update-none, update-place, update-found}
 use borrow.Author.Needs.{needs}
 use Rattle.session.proofs.update_pdr.Statement.{statement}
 use Rattle.session.proofs.update_pdr.Tie as tie
 
 find-requires : tie.Need-find-requires
-find-requires c κs = search pdrs-fit
+find-requires c κs = (search pdrs-fit, search pdrs-key)
 
 returns : tie.Need-returns
 returns c = search update-none

@@ -1,12 +1,11 @@
 -- `sets::covers` meets its contract: each test in turn. Assumes nothing.
 use borrow.Author.Needs.{needs}
-use mathlib.Core.Path.{sym, ap, _∙_, refl}
+use mathlib.Core.Path.{refl}
 use native.Mathlib.Omega.{arith}
 use lib.Dec.{T}
 use borrow.Author.Tests.{not-true, not-false}
-use Rattle.octets.specs.Octets.{octets, octetAt}
+use Rattle.octets.specs.Octets.{octets}
 use Rattle.octets.proofs.Digits.{octets-known}
-use Rattle.octets.proofs.Put.{length-part}
 use Rattle.sets.proofs.CoverLaws.{other-node, other-type, other-address, by-csid}
 use Rattle.sets.proofs.covers.Statement.{statement}
 use Rattle.sets.proofs.covers.Tie as tie

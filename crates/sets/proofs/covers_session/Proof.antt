@@ -1,9 +1,8 @@
 -- `sets::covers_session` meets its contract: what is left to look at gives the same answer. Assumes nothing.
 use borrow.Author.Needs.{needs}
-use mathlib.Core.Path.{sym}
 use native.Mathlib.Omega.{arith}
-use borrow.Author.Tests.{not-true, not-false}
 use lib.ListN.{length-take}
+use Rattle.rules.specs.Layout.{csidCountAt}
 use Rattle.sets.proofs.CoverLaws.{Covers, covers-none, covers-room, covers-found, covers-more, covers-end}
 use Rattle.sets.proofs.covers_session.Statement.{statement}
 use Rattle.sets.proofs.covers_session.Tie as tie
@@ -15,7 +14,7 @@ abbrev μ-loop : tie.MeasureT-loop
 μ-loop v slot rest₀ left₀ rest left = left
 
 cast-left : tie.Need-cast-left Inv-loop μ-loop
-cast-left c = omega (arith, c .shared-slice-known3 .given 10)
+cast-left c = omega (arith, c .shared-slice-known3 .given csidCountAt)
 
 loop-holds : tie.Need-loop-holds Inv-loop μ-loop
 loop-holds c = covers-none _ _ (c .before .before .before .before .pre .1) (c .before .before .before .before .pre .2)

@@ -1,16 +1,23 @@
 -- `sets::goes` meets its contract: the slot at the place. Assumes nothing.
 use borrow.Author.Needs.{needs}
-use mathlib.Core.Path.{_≡_}
+use Prim.Native.Nat.{_+_, _*_}
+use Rattle.rules.specs.Layout.{headWidth, sessionWidth}
 use native.Mathlib.Omega.{arith}
-use Rattle.sets.proofs.GoneLaws.{slot-here, slot-long, slot-count}
+use Rattle.sets.proofs.GoneLaws.{not-theirs, slot-here, slot-long, slot-count}
 use Rattle.sets.proofs.goes.Statement.{statement}
 use Rattle.sets.proofs.goes.Tie as tie
 
+cast-if1 : tie.Need-cast-if1
+cast-if1 c = omega (arith, c .shared-slice-known3 .given (headWidth + c .before .before .before .args .p * sessionWidth))
+
 covers-session-requires : tie.Need-covers-session-requires
-covers-session-requires c κs = let p = c .before .before .before .pre in (p .3, slot-long _ _ _ (p .0) (p .1), slot-count _ _ _ (p .0) (p .1) (p .2))
+covers-session-requires c κs = (search needs, search slot-long, search slot-count)
 
 returns : tie.Need-returns
-returns c = search slot-here
+returns c = search not-theirs
+
+returns-2 : tie.Need-returns-2
+returns-2 c = search slot-here
 
 pub goes-spec : {M : Type 1} → statement M
 goes-spec =
@@ -20,7 +27,10 @@ goes-spec =
     (λ c. search needs)
     (λ c. search needs)
     (λ c. search needs)
+    cast-if1
+    returns
+    (λ c. search needs)
     (λ c. search needs)
     (λ c. search needs)
     covers-session-requires
-    returns)
+    returns-2)

@@ -6,10 +6,10 @@ use Rattle.sets.proofs.remove_covered.Statement.{statement}
 use Rattle.sets.proofs.remove_covered.Tie as tie
 
 abbrev Inv-loop : tie.InvT-loop
-Inv-loop t₀ v room p₀ t p = Going t₀ v t room p
+Inv-loop t₀ peer v room p₀ t p = Going t₀ peer v t room p
 
 abbrev μ-loop : tie.MeasureT-loop
-μ-loop t₀ v room p₀ t p = p
+μ-loop t₀ peer v room p₀ t p = p
 
 read-requires : tie.Need-read-requires Inv-loop μ-loop
 read-requires c κs = let l = c .before .before .before .pre .0 .long in omega arith

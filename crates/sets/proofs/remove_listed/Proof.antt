@@ -9,10 +9,10 @@ use Rattle.sets.proofs.remove_listed.Statement.{statement}
 use Rattle.sets.proofs.remove_listed.Tie as tie
 
 abbrev Inv-loop : tie.InvT-loop
-Inv-loop t₀ s rest₀ t rest = Left t₀ s t rest
+Inv-loop t₀ peer s rest₀ t rest = Left t₀ peer s t rest
 
 abbrev μ-loop : tie.MeasureT-loop
-μ-loop t₀ s rest₀ t rest = length rest
+μ-loop t₀ peer s rest₀ t rest = length rest
 
 at-front : (k : tie.After-kind Inv-loop μ-loop) → Front (k .before .before .before .loop .rest .now) (k .kind .given .0 .0) (k .kind .given .0 .1 .0)
 at-front k = front _ _ _ (sym (k .kind .given .1) ∙ k .before .before .first-of .ensures)

@@ -48,7 +48,7 @@ returns-4 c =
 no-room-requires : tie.Need-no-room-requires
 no-room-requires c κs =
     let b = c .before .before .before .before .before .before .before .before .before .before .before .before .before .before in
-    (b .pre .long, b .pre .count, b .pre .place, b .pre .rows, b .pre .removed)
+    (b .pre .share, b .pre .place, b .pre .rows, b .pre .removed)
 
 returns-5 : tie.Need-returns-5
 returns-5 c =

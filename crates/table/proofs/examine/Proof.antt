@@ -10,7 +10,7 @@ use Rattle.octets.proofs.Digits.{octets-known}
 use Rattle.octets.proofs.Put.{length-part}
 use Rattle.rules.specs.Limits.{mapWords}
 use Rattle.rules.specs.Layout.{headWidth}
-use Rattle.table.proofs.Examining.{front-facts, examined-short, examined-broken, examined-walk}
+use Rattle.table.proofs.Examining.{front-facts, examined-short, examined-broken, walk-broken, walk-first, peers-broken, examined-walk}
 use borrow.Author.Needs.{needs}
 use Rattle.table.proofs.examine.Statement.{statement}
 use Rattle.table.proofs.examine.Tie as tie
@@ -38,8 +38,26 @@ admit-all-requires c κs =
 
 returns-3 : tie.Need-returns-3
 returns-3 c =
-    let t = c .before .before .before .before .before .before .before .before .before .before .before .before .before .before .before .before .args .t .now in
-    let o : T (octets t) = octets-known t (λ i. c .before .before .before .before .before .before .before .before .before .before .before .before .before .before .before .shared-slice-known .given i .fits) in
+    let t = c .before .before .before .before .before .before .before .before .before .before .before .before .before .before .before .before .before .before .args .t .now in
+    let o : T (octets t) = octets-known t (λ i. c .before .before .before .before .before .before .before .before .before .before .before .before .before .before .before .before .before .shared-slice-known .given i .fits) in
+    search walk-broken
+
+sub-peers-fit : tie.Need-sub-peers-fit
+sub-peers-fit c =
+    let t = c .before .before .before .before .before .before .before .before .before .before .before .before .before .before .before .before .before .before .before .args .t .now in
+    let o : T (octets t) = octets-known t (λ i. c .before .before .before .before .before .before .before .before .before .before .before .before .before .before .before .before .before .before .shared-slice-known .given i .fits) in
+    search walk-first
+
+returns-4 : tie.Need-returns-4
+returns-4 c =
+    let t = c .before .before .before .before .before .before .before .before .before .before .before .before .before .before .before .before .before .before .before .before .before .args .t .now in
+    let o : T (octets t) = octets-known t (λ i. c .before .before .before .before .before .before .before .before .before .before .before .before .before .before .before .before .before .before .before .before .shared-slice-known .given i .fits) in
+    search peers-broken
+
+returns-5 : tie.Need-returns-5
+returns-5 c =
+    let t = c .before .before .before .before .before .before .before .before .before .before .before .before .before .before .before .before .before .before .before .before .before .args .t .now in
+    let o : T (octets t) = octets-known t (λ i. c .before .before .before .before .before .before .before .before .before .before .before .before .before .before .before .before .before .before .before .before .shared-slice-known .given i .fits) in
     search examined-walk
 
 pub examine-spec : {M : Type 1} → statement M
@@ -57,4 +75,14 @@ examine-spec =
     admit-all-requires
     (λ c. search needs)
     (λ c. search needs)
-    returns-3)
+    (λ c. search needs)
+    (λ c. search needs)
+    returns-3
+    sub-peers-fit
+    (λ c κs. search needs)
+    (λ c. search needs)
+    (λ c. search needs)
+    returns-4
+    (λ c. search needs)
+    (λ c. search needs)
+    returns-5)

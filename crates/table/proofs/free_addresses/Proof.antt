@@ -26,10 +26,10 @@ returns c = search addresses-broken
 
 read-requires : tie.Need-read-requires
 read-requires c κs =
-    omega (arith, count-long (c .before .before .before .before .before .before .before .before .before .args .t .now) _ _ _ (c .before .before .before .before .before .examine .ensures) (c .before .seen .given .0 .0) (c .before .seen .given .0 .1 .0) (c .before .seen .given .1))
+    omega (arith, count-long (c .before .before .before .before .before .before .before .before .before .args .t .now) _ _ _ (c .before .before .before .before .before .examine .ensures) (c .before .seen .given .0 .0) (c .before .seen .given .0 .1 .0) (c .before .seen .given .0 .1 .1 .0) (c .before .seen .given .0 .1 .1 .1 .0) (c .before .seen .given .1))
 
-sub-t13 : tie.Need-sub-t13
-sub-t13 c = search addresses-less
+sub-t15 : tie.Need-sub-t15
+sub-t15 c = search addresses-less
 
 returns-2 : tie.Need-returns-2
 returns-2 c = search addresses-free
@@ -45,5 +45,5 @@ free-addresses-spec =
     enum-told
     returns
     read-requires
-    sub-t13
+    sub-t15
     returns-2)

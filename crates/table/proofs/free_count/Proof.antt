@@ -1,6 +1,6 @@
 -- `table::free_count` meets its contract.
 -- Assumes nothing.
-use Rattle.table.proofs.Examining.{count-broken, count-free, count-long, count-less}
+use Rattle.table.proofs.Examining.{count-broken, count-free, count-long, count-add, count-less}
 use native.Mathlib.Omega.{arith}
 use borrow.Author.Needs.{needs}
 use Rattle.table.proofs.free_count.Statement.{statement}
@@ -26,10 +26,13 @@ returns c = search count-broken
 
 read-requires : tie.Need-read-requires
 read-requires c κs =
-    omega (arith, count-long (c .before .before .before .before .before .before .before .before .before .args .t .now) _ _ _ (c .before .before .before .before .before .examine .ensures) (c .before .seen .given .0 .0) (c .before .seen .given .0 .1 .0) (c .before .seen .given .1))
+    omega (arith, count-long (c .before .before .before .before .before .before .before .before .before .args .t .now) _ _ _ (c .before .before .before .before .before .examine .ensures) (c .before .seen .given .0 .0) (c .before .seen .given .0 .1 .0) (c .before .seen .given .0 .1 .1 .0) (c .before .seen .given .0 .1 .1 .1 .0) (c .before .seen .given .1))
 
-sub-t13 : tie.Need-sub-t13
-sub-t13 c = search count-less
+add-t14 : tie.Need-add-t14
+add-t14 c = search count-add
+
+sub-t16 : tie.Need-sub-t16
+sub-t16 c = search count-less
 
 returns-2 : tie.Need-returns-2
 returns-2 c = search count-free
@@ -45,5 +48,6 @@ free-count-spec =
     enum-told
     returns
     read-requires
-    sub-t13
+    add-t14
+    sub-t16
     returns-2)

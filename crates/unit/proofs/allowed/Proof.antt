@@ -1,5 +1,5 @@
 -- `unit::allowed` meets its contract. Assumes nothing.
-use Rattle.unit.proofs.AllowedLaws.{allowed-room, allowed-first, allowed-teids, allowed-ips}
+use Rattle.unit.proofs.AllowedLaws.{allowed-room, allowed-first, allowed-teids, allowed-ips, allowed-peers}
 use borrow.Author.Needs.{needs}
 use Rattle.unit.proofs.allowed.Statement.{statement}
 use Rattle.unit.proofs.allowed.Tie as tie
@@ -16,5 +16,8 @@ returns-3 c = search allowed-teids
 returns-4 : tie.Need-returns-4
 returns-4 c = search allowed-ips
 
+returns-5 : tie.Need-returns-5
+returns-5 c = search allowed-peers
+
 pub allowed-spec : {M : Type 1} → statement M
-allowed-spec = tie.close (tie.spec (λ c κs. search needs) returns returns-2 (λ c κs. search needs) returns-3 (λ c κs. search needs) returns-4)
+allowed-spec = tie.close (tie.spec (λ c κs. search needs) returns returns-2 (λ c κs. search needs) returns-3 (λ c κs. search needs) returns-4 (λ c κs. search needs) returns-5)

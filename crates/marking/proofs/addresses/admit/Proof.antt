@@ -17,7 +17,7 @@ use Rattle.marking.proofs.addresses.admit.Statement.{statement}
 use Rattle.marking.proofs.addresses.admit.Tie as tie
 
 cast-m : tie.Need-cast-m
-cast-m c = omega (arith, c .shared-slice-known2 .given 9)
+cast-m c = omega (arith, c .shared-slice-known2 .given 10)
 
 claim-all-requires : tie.Need-claim-all-requires
 unfolding settingsOf
@@ -38,7 +38,7 @@ returns c =
     slot-ends (settingsOf (g .u)) (g .turn) (g .holders .now) (g .words .now) (g .slot .now) (sound-head (settingsOf (g .u)) (g .slot .now) (start .pre .1)) (start .pre .5) (start .pre .7) (ends .result) (ends .last .0) (ends .last .1 .0) (ends .ensures) (c .enum-told .given .1)
 
 cast-n : tie.Need-cast-n
-cast-n c = omega (arith, c .shared-slice-known3 .given 8)
+cast-n c = omega (arith, c .shared-slice-known3 .given 9)
 
 claim-all-requires-2 : tie.Need-claim-all-requires-2
 unfolding settingsOf
