@@ -30,7 +30,7 @@ static struct {
     size_t small_octets; /* in pieces that are not large */
 } counted;
 
-static struct message cycle[MOST_CYCLE];
+static struct request cycle[MOST_CYCLE];
 static struct pair pair;
 
 void *__real_memcpy(void *to, const void *from, size_t length);

@@ -18,24 +18,24 @@
 /* So many sessions of the cycle, which are spread over the table. */
 enum { COUNTED = 16 };
 
-static struct message cycle[MOST_CYCLE];
-static struct message m;
+static struct request cycle[MOST_CYCLE];
+static struct request r;
 static struct pair pair;
 static struct place place;
 
-__attribute__((noinline)) void counted_request(const struct message *message);
-__attribute__((noinline)) void counted_once(const struct message *message);
+__attribute__((noinline)) void counted_request(const struct request *request);
+__attribute__((noinline)) void counted_once(const struct request *request);
 __attribute__((noinline)) void counted_check(void);
 __attribute__((noinline)) void part_ends(void);
 
-void counted_request(const struct message *message)
+void counted_request(const struct request *request)
 {
-    ask(&place, message);
+    ask(&place, request);
 }
 
-void counted_once(const struct message *message)
+void counted_once(const struct request *request)
 {
-    ask_once(&place, message);
+    ask_once(&place, request);
 }
 
 void counted_check(void)
@@ -108,10 +108,10 @@ static void count_search(uint32_t taken)
     char name[64];
 
     for (int from = FROM_FIRST; from <= FROM_SECOND; from++) {
-        fill_for_search(&pair, &m, taken, (enum first_taken)from);
+        fill_for_search(&pair, &r, taken, (enum first_taken)from);
         for (int side = 0; side < 2; side++) {
             place = side == 0 ? pair.ours : pair.theirs;
-            counted_request(&m);
+            counted_request(&r);
             snprintf(name, sizeof name, "%u/%s", taken, names[from]);
             end_part("search", name, full, 1);
         }
@@ -127,10 +127,10 @@ static void count_longest(void)
         end_part("longest", "one-check", longest_size, 1);
     }
     for (size_t i = 0; i < LONGEST_MESSAGES; i++) {
-        write_longest(&m, &longest_messages[i], &pair);
+        write_longest(&r, &longest_messages[i], &pair);
         for (int side = 0; side < 2; side++) {
             place = side == 0 ? pair.ours : pair.theirs;
-            counted_request(&m);
+            counted_request(&r);
             end_part("longest", longest_messages[i].name, longest_size, 1);
         }
     }
@@ -163,7 +163,7 @@ static void count_repeats(void)
 {
     fill_for_repeats(&pair);
     for (int kind = NEW; kind < REPEATS; kind++) {
-        write_repeat(&m, &pair, (enum repeats)kind);
+        write_repeat(&r, &pair, (enum repeats)kind);
         if (kind == NEW)
             count_without(&pair);
         for (int side = 0; side < 2; side++) {
@@ -172,10 +172,10 @@ static void count_repeats(void)
                 count_new();
                 continue;
             }
-            counted_once(&m);
+            counted_once(&r);
             end_part("store", repeat_names[kind], full, 1);
             if (kind == SLOW) {
-                counted_request(&m);
+                counted_request(&r);
                 end_part("store", "slow-without", full, 1);
             }
         }

@@ -7,7 +7,7 @@
 
 enum { CYCLES = 2, SAMPLES = CYCLES * MOST_SESSIONS };
 
-static struct message cycle[MOST_CYCLE];
+static struct request cycle[MOST_CYCLE];
 static struct pair pair;
 static double ours[KINDS][SAMPLES];
 static double theirs[KINDS][SAMPLES];

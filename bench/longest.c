@@ -343,14 +343,16 @@ void fill_for_longest(struct pair *pair)
     fill(pair, &workloads[ALIKE], longest_size);
 }
 
-void write_longest(struct message *m, const struct longest *longest, struct pair *pair)
+void write_longest(struct request *r, const struct longest *longest, struct pair *pair)
 {
     static struct pair tried;
 
-    longest->write(m);
+    longest->write(&r->message);
+    /* An establishment is of the session that there is room for, any other of the first one. */
+    r->peer = peer_of(r->message.octets[1] == ESTABLISHMENT ? LONGEST_LIVE : 0);
     tried = *pair;
-    ask_both(&tried, m);
-    if (m->length != LONGEST || cause_of(&tried.ours) != longest->cause)
+    ask_both(&tried, r);
+    if (r->message.length != LONGEST || cause_of(&tried.ours) != longest->cause)
         give_up("the message '%s' has %zu octets and gets outcome %u, cause %d", longest->name,
-                m->length, tried.ours.outcome, cause_of(&tried.ours));
+                r->message.length, tried.ours.outcome, cause_of(&tried.ours));
 }

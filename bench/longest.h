@@ -20,6 +20,6 @@ extern const struct longest longest_messages[LONGEST_MESSAGES];
 void fill_for_longest(struct pair *pair);
 
 /* Writes the request, and sees that both sides answer it with its cause; the tables stay. */
-void write_longest(struct message *m, const struct longest *longest, struct pair *pair);
+void write_longest(struct request *r, const struct longest *longest, struct pair *pair);
 
 #endif

@@ -8,7 +8,7 @@
 enum { REPEATS = 101 };
 
 static struct pair pair;
-static struct message m;
+static struct request r;
 static double requests[REPEATS];
 static double checks[REPEATS];
 
@@ -20,7 +20,7 @@ static void run(void)
 
         check(&pair.ours);
         double middle = wall_time();
-        ask(&pair.ours, &m);
+        ask(&pair.ours, &r);
         requests[i] = wall_time() - middle;
         checks[i] = middle - start;
         memcpy(pair.ours.table, pair.theirs.table, pair.ours.length);
@@ -33,7 +33,7 @@ void time_longest(void)
 
     fill_for_longest(&pair);
     for (size_t i = 0; i < LONGEST_MESSAGES; i++) {
-        write_longest(&m, &longest_messages[i], &pair);
+        write_longest(&r, &longest_messages[i], &pair);
         run();
         print_times("longest", longest_messages[i].name, longest_size,
                     median(requests, REPEATS) - cost, median(checks, REPEATS) - cost);

@@ -6,14 +6,14 @@ enum { ENTRIES = 8, VENDOR = 0x8000, NUMBER_AT = 12, SPARE_AT = 15 };
 
 const char *const repeat_names[REPEATS] = {"new", "repeat", "dropped", "slow-repeat"};
 
-struct message repeats_cycle[MOST_CYCLE];
+struct request repeats_cycle[MOST_CYCLE];
 static uint32_t number;
 
-void renumber(struct message *m)
+void renumber(struct request *r)
 {
     number = (number + 1) % (1 << 24);
     for (size_t i = 0; i < 3; i++)
-        m->octets[NUMBER_AT + i] = (uint8_t)(number >> (16 - 8 * i));
+        r->message.octets[NUMBER_AT + i] = (uint8_t)(number >> (16 - 8 * i));
 }
 
 void fill_for_repeats(struct pair *pair)
@@ -55,7 +55,7 @@ static void forge_slow_store(uint8_t *store)
     }
 }
 
-/* A whole cycle through the store, so that it is full. */
+/* A whole cycle through the stores, so that they are full. */
 static void run_cycle(struct pair *pair)
 {
     empty_both_stores(pair);
@@ -67,21 +67,22 @@ static void run_cycle(struct pair *pair)
     }
 }
 
-void write_repeat(struct message *m, struct pair *pair, enum repeats kind)
+void write_repeat(struct request *r, struct pair *pair, enum repeats kind)
 {
     if (kind == SLOW) {
-        forge_slow_store(pair->ours.store);
-        forge_slow_store(pair->theirs.store);
-        write_slow(m, ENTRIES - 1);
+        r->peer = peer_of(0);
+        forge_slow_store(pair->ours.stores[r->peer - 1]);
+        forge_slow_store(pair->theirs.stores[r->peer - 1]);
+        write_slow(&r->message, ENTRIES - 1);
     } else {
         run_cycle(pair);
-        *m = repeats_cycle[kind == NEW ? 0 : MOST_CYCLE - 1];
+        *r = repeats_cycle[kind == NEW ? 0 : MOST_CYCLE - 1];
     }
     if (kind == DROPPED)
-        m->octets[SPARE_AT] ^= 1;
+        r->message.octets[SPARE_AT] ^= 1;
     if (kind == NEW)
         return;
-    ask_both_once(pair, m);
+    ask_both_once(pair, r);
     if (!answers_repeat(&pair->ours, kind))
         give_up("another answer to %s: outcome %u", repeat_names[kind], pair->ours.outcome);
 }

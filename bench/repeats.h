@@ -11,15 +11,15 @@ enum repeats { NEW, REPEAT, DROPPED, SLOW, REPEATS };
 extern const char *const repeat_names[REPEATS];
 
 /* The table that they go to, and the cycle whose requests are new. */
-extern struct message repeats_cycle[MOST_CYCLE];
+extern struct request repeats_cycle[MOST_CYCLE];
 void fill_for_repeats(struct pair *pair);
 
 /* Gives a request the number after the last one that was given. */
-void renumber(struct message *m);
+void renumber(struct request *r);
 
 /* Fills the stores of both sides for this kind, compares all that they answer, and writes the request
    that is asked for; for NEW it is the next one of the cycle. */
-void write_repeat(struct message *m, struct pair *pair, enum repeats kind);
+void write_repeat(struct request *r, struct pair *pair, enum repeats kind);
 
 /* Whether an answer to this kind is the right one. */
 bool answers_repeat(const struct place *place, enum repeats kind);

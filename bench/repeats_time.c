@@ -10,7 +10,7 @@ enum { TURNS = 7, CALLS = MOST_CYCLE };
 
 static struct pair with;    /* a store */
 static struct pair without; /* one */
-static struct message m;
+static struct request r;
 
 /* Requests of one kind through the store; the time of one. */
 static double run_with(struct place *place, enum repeats kind)
@@ -18,7 +18,7 @@ static double run_with(struct place *place, enum repeats kind)
     double start = processor_time();
 
     for (size_t i = 0; i < CALLS; i++) {
-        struct message *asked = kind == NEW ? &repeats_cycle[i] : &m;
+        struct request *asked = kind == NEW ? &repeats_cycle[i] : &r;
 
         if (kind == NEW)
             renumber(asked);
@@ -35,7 +35,7 @@ static double run_without(struct place *place, enum repeats kind)
     double start = processor_time();
 
     for (size_t i = 0; i < CALLS; i++)
-        must_accept(place, kind == SLOW ? &m : &repeats_cycle[i]);
+        must_accept(place, kind == SLOW ? &r : &repeats_cycle[i]);
     return (processor_time() - start) / CALLS;
 }
 
@@ -58,7 +58,7 @@ void time_repeats(void)
     fill_for_repeats(&without);
     fill_for_repeats(&with);
     for (int kind = NEW; kind < REPEATS; kind++) {
-        write_repeat(&m, &with, (enum repeats)kind);
+        write_repeat(&r, &with, (enum repeats)kind);
         time_side(&with.ours, &without.ours, (enum repeats)kind);
         time_side(&with.theirs, &without.theirs, (enum repeats)kind);
         compare_tables(&without);

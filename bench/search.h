@@ -11,6 +11,6 @@ enum { SEARCHED_POOL = MOST_SESSIONS * (MOST_PDRS + MOST_ENDPOINTS) };
    the pool's first or second one on, and writes a request for one more. So two tables with the same
    number of TEIDs differ only in where the lowest free one stands: after all of them, or first. */
 enum first_taken { FROM_FIRST, FROM_SECOND };
-void fill_for_search(struct pair *pair, struct message *m, uint32_t taken, enum first_taken from);
+void fill_for_search(struct pair *pair, struct request *r, uint32_t taken, enum first_taken from);
 
 #endif

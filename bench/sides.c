@@ -15,6 +15,8 @@ const struct side ordinary = {"ordinary",          ordinary_table_length,   ordi
                               ordinary_make_store, ordinary_request_once};
 
 const uint8_t unit_ipv4[4] = {192, 0, 2, 1};
+static const uint32_t home1 = 0xC0000201; /* 192.0.2.1 for peer 1, ... */
+static const uint32_t home2 = 0xC0000202; /* ... and 192.0.2.2 for peer 2 */
 static const uint8_t unit_ipv6[16] = {0x20, 1, 0x0D, 0xB8, [15] = 1};
 
 static uint64_t compared;
@@ -38,7 +40,8 @@ static void make_empty(struct place *place, const struct side *side, uint32_t po
     if (place->length != HEAD + (size_t)limit * SLOT || place->length > sizeof place->table)
         give_up("%s has tables of %zu octets for %u sessions", side->name, place->length, limit);
     if (side->make_table(place->table, place->length, (uint32_t)number_at(unit_ipv4, 4), unit_ipv6,
-                         sizeof unit_ipv6, FIRST_TEID, pool, FIRST_ADDRESS, ADDRESSES, limit) != 0)
+                         sizeof unit_ipv6, FIRST_TEID, pool, FIRST_ADDRESS, ADDRESSES, limit, home1,
+                         pool / GUARANTEED_PART, pool, home2, pool / GUARANTEED_PART, pool) != 0)
         give_up("%s makes no table", side->name);
 }
 
@@ -49,11 +52,11 @@ void make_both_empty(struct pair *pair, uint32_t pool, size_t limit)
     compare_tables(pair);
 }
 
-void ask(struct place *place, const struct message *m)
+void ask(struct place *place, const struct request *r)
 {
-    place->outcome =
-        place->side->request(place->table, place->length, m->octets, m->length, place->reply,
-                             sizeof place->reply, &place->used, &place->fault);
+    place->outcome = place->side->request(place->table, place->length, r->peer, r->message.octets,
+                                          r->message.length, place->reply, sizeof place->reply,
+                                          &place->used, &place->fault);
 }
 
 void check(const struct place *place)
@@ -75,54 +78,56 @@ uint8_t cause_of(const struct place *place)
     return place->outcome == PFCP_ANSWERED ? place->reply[cause] : 0;
 }
 
-void must_accept(struct place *place, const struct message *m)
+void must_accept(struct place *place, const struct request *r)
 {
-    ask(place, m);
+    ask(place, r);
     if (cause_of(place) != 1)
         give_up("%s refuses a request of type %d: outcome %u, cause %d", place->side->name,
-                m->octets[1], place->outcome, cause_of(place));
+                r->message.octets[1], place->outcome, cause_of(place));
 }
 
-/* The answers of both sides to a message, and their tables. */
-static void compare_answers(const struct pair *pair, const struct message *m)
+/* The answers of both sides to a request, and their tables. */
+static void compare_answers(const struct pair *pair, const struct request *r)
 {
     if (pair->ours.outcome != pair->theirs.outcome || pair->ours.used != pair->theirs.used ||
         pair->ours.fault != pair->theirs.fault ||
         memcmp(pair->ours.reply, pair->theirs.reply, pair->ours.used) != 0)
-        give_up("the sides answer a request of type %d differently", m->octets[1]);
+        give_up("the sides answer a request of type %d differently", r->message.octets[1]);
     compared += pair->ours.used;
     compare_tables(pair);
 }
 
-void ask_both(struct pair *pair, const struct message *m)
+void ask_both(struct pair *pair, const struct request *r)
 {
-    ask(&pair->ours, m);
-    ask(&pair->theirs, m);
-    compare_answers(pair, m);
+    ask(&pair->ours, r);
+    ask(&pair->theirs, r);
+    compare_answers(pair, r);
 }
 
 void empty_both_stores(struct pair *pair)
 {
-    if (archive.make_store(pair->ours.store, sizeof pair->ours.store) != 0 ||
-        ordinary.make_store(pair->theirs.store, sizeof pair->theirs.store) != 0)
-        give_up("a store is not made");
+    for (size_t peer = 0; peer < 2; peer++)
+        if (archive.make_store(pair->ours.stores[peer], PFCP_STORE_LENGTH) != 0 ||
+            ordinary.make_store(pair->theirs.stores[peer], PFCP_STORE_LENGTH) != 0)
+            give_up("a store is not made");
 }
 
-void ask_once(struct place *place, const struct message *m)
+void ask_once(struct place *place, const struct request *r)
 {
-    place->outcome = place->side->request_once(
-        place->table, place->length, place->store, sizeof place->store, m->octets, m->length,
-        place->reply, sizeof place->reply, &place->used, &place->fault);
+    place->outcome =
+        place->side->request_once(place->table, place->length, r->peer, place->stores[r->peer - 1],
+                                  PFCP_STORE_LENGTH, r->message.octets, r->message.length,
+                                  place->reply, sizeof place->reply, &place->used, &place->fault);
 }
 
-void ask_both_once(struct pair *pair, const struct message *m)
+void ask_both_once(struct pair *pair, const struct request *r)
 {
-    ask_once(&pair->ours, m);
-    ask_once(&pair->theirs, m);
-    compare_answers(pair, m);
-    if (memcmp(pair->ours.store, pair->theirs.store, sizeof pair->ours.store) != 0)
+    ask_once(&pair->ours, r);
+    ask_once(&pair->theirs, r);
+    compare_answers(pair, r);
+    if (memcmp(pair->ours.stores, pair->theirs.stores, sizeof pair->ours.stores) != 0)
         give_up("the stores of the sides differ");
-    compared += sizeof pair->ours.store;
+    compared += sizeof pair->ours.stores;
 }
 
 void compare_tables(const struct pair *pair)

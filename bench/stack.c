@@ -14,9 +14,9 @@
 
 enum { STACK = 1 << 20, MARK = 0xA5 };
 
-static struct message cycle[MOST_CYCLE];
+static struct request cycle[MOST_CYCLE];
 static size_t length; /* of the cycle */
-static struct message longest[LONGEST_MESSAGES];
+static struct request longest[LONGEST_MESSAGES];
 static struct pair pair;
 static struct place *asked; /* of the two sides, the one that is measured */
 static _Alignas(4096) uint8_t stack[STACK];
@@ -51,7 +51,7 @@ static void *longest_requests_once(void *unused)
 
     for (size_t i = 0; i < LONGEST_MESSAGES; i++) {
         place = *asked;
-        if (longest[i].octets[1] != SET_DELETION)
+        if (longest[i].message.octets[1] != SET_DELETION)
             renumber(&longest[i]);
         ask_once(&place, &longest[i]);
         if (place.outcome != PFCP_ANSWERED)

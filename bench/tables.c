@@ -7,7 +7,7 @@
    beside it. */
 enum { LEAST_TURN = 256, CHECKS_FEWER = 4, MOST_TURNS = MOST_REQUESTS / LEAST_TURN + 1 };
 
-static struct message cycle[MOST_CYCLE];
+static struct request cycle[MOST_CYCLE];
 static size_t length; /* of the cycle */
 static struct pair pair;
 

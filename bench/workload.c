@@ -22,9 +22,14 @@ int is_full(struct size size)
     return size.live == full.live;
 }
 
+uint32_t peer_of(size_t session)
+{
+    return 1 + (uint32_t)(session % 2);
+}
+
 uint64_t seid_of(size_t session)
 {
-    return 1000003 * (uint64_t)(session + 1);
+    return 1000003 * (uint64_t)(session / 2 + 1);
 }
 
 /* A number that looks drawn, always the same for the same record. */
@@ -163,30 +168,34 @@ static void write_exchange(struct message *m, const struct workload *w, size_t s
     message_end(m);
 }
 
-size_t write_cycle(struct message cycle[MOST_CYCLE], const struct workload *w, size_t live)
+size_t write_cycle(struct request cycle[MOST_CYCLE], const struct workload *w, size_t live)
 {
     for (size_t i = 0; i < live; i++) {
         /* The sessions in an order that is not that of their SEIDs. */
         size_t session = i * 37 % live;
-        struct message *turn = &cycle[KINDS * i];
+        size_t updated = (session + live / 2) % live;
+        struct request *turn = &cycle[KINDS * i];
 
-        message_start(&turn[DELETES], DELETION, seid_of(session), (uint32_t)i);
-        message_end(&turn[DELETES]);
-        write_establishment(&turn[ESTABLISHES], w, session);
-        write_updates(&turn[UPDATES], w, (session + live / 2) % live);
-        write_exchange(&turn[EXCHANGES], w, session);
+        for (enum kind kind = 0; kind < KINDS; kind++)
+            turn[kind].peer = peer_of(kind == UPDATES ? updated : session);
+        message_start(&turn[DELETES].message, DELETION, seid_of(session), (uint32_t)i);
+        message_end(&turn[DELETES].message);
+        write_establishment(&turn[ESTABLISHES].message, w, session);
+        write_updates(&turn[UPDATES].message, w, updated);
+        write_exchange(&turn[EXCHANGES].message, w, session);
     }
     return KINDS * live;
 }
 
 void fill(struct pair *pair, const struct workload *w, struct size size)
 {
-    static struct message m;
+    static struct request r;
 
     make_both_empty(pair, POOL, size.limit);
     for (size_t session = 0; session < size.live; session++) {
-        write_establishment(&m, w, session);
-        ask_both(pair, &m);
+        r.peer = peer_of(session);
+        write_establishment(&r.message, w, session);
+        ask_both(pair, &r);
         if (cause_of(&pair->ours) != 1)
             give_up("session %zu of the table '%s' is refused", session, w->name);
     }

@@ -45,11 +45,13 @@ enum kind { DELETES, ESTABLISHES, UPDATES, EXCHANGES, KINDS };
 enum { MOST_CYCLE = KINDS * MOST_SESSIONS };
 extern const char *const kind_names[KINDS];
 
+/* A session's peer and SEID: the two peers have them in turn, with the same SEIDs. */
+uint32_t peer_of(size_t session);
 uint64_t seid_of(size_t session);
 void write_establishment(struct message *m, const struct workload *w, size_t session);
 
 /* The cycle of a table with so many sessions; gives its number of requests. */
-size_t write_cycle(struct message cycle[MOST_CYCLE], const struct workload *w, size_t live);
+size_t write_cycle(struct request cycle[MOST_CYCLE], const struct workload *w, size_t live);
 
 /* Makes both tables with so many sessions, and compares them after every request. */
 void fill(struct pair *pair, const struct workload *w, struct size size);

@@ -3,19 +3,26 @@
 use std::net::Ipv4Addr;
 
 use crate::element::fq_csid::NodeId;
-use crate::session::Endpoint;
 use crate::session::{records_hold, Families, HeldCsid, Local, Pdr, Session, Sessions, Tunnel};
-use crate::settings::{allowed_limit, Settings};
+use crate::session::{Endpoint, Key};
+use crate::settings::{allowed_limit, Peer, Settings};
 
+// In a table: the settings end with the session limit and the two peers.
 pub const LIMIT: usize = 37;
-pub const COUNT: usize = 39;
-pub const SLOTS: usize = 41;
-pub const SLOT: usize = 603;
-pub const PDRS: usize = 11;
+pub const PEERS: usize = 39;
+pub const PEER: usize = 12;
+pub const COUNT: usize = 63;
+pub const SLOTS: usize = 65;
+pub const SLOT: usize = 604;
+
+// In a session's slot: the peer stands before the SEID.
+pub const SEID: usize = 1;
+pub const COUNTS: usize = 9;
+pub const PDRS: usize = 12;
 pub const PDR: usize = 24;
-pub const ENDPOINTS: usize = 395;
+pub const ENDPOINTS: usize = 396;
 pub const ENDPOINT: usize = 11;
-pub const FQ_CSIDS: usize = 483;
+pub const FQ_CSIDS: usize = 484;
 pub const FQ_CSID: usize = 20;
 
 /// How long a table with this session limit is.
@@ -40,18 +47,24 @@ pub fn encode(settings: &Settings, sessions: &Sessions) -> Vec<u8> {
     table.extend(settings.first_address.octets());
     table.extend(settings.addresses.to_be_bytes());
     table.extend(settings.session_limit.to_be_bytes());
+    for peer in settings.peers {
+        table.extend(peer.address);
+        table.extend(peer.guarantee.to_be_bytes());
+        table.extend(peer.limit.to_be_bytes());
+    }
     table.extend((sessions.len() as u16).to_be_bytes());
-    for (seid, session) in sessions {
-        encode_session(&mut table, *seid, session);
+    for (key, session) in sessions {
+        encode_session(&mut table, *key, session);
     }
     assert!(table.len() <= length, "more sessions than there is room for");
     table.resize(length, 0);
     table
 }
 
-fn encode_session(table: &mut Vec<u8>, seid: u64, session: &Session) {
+fn encode_session(table: &mut Vec<u8>, key: Key, session: &Session) {
     let start = table.len();
-    table.extend(seid.to_be_bytes());
+    table.push(key.peer);
+    table.extend(key.seid.to_be_bytes());
     table.push(session.pdrs.len() as u8);
     table.push(session.endpoints.len() as u8);
     table.push(session.fq_csids.len() as u8);
@@ -142,16 +155,27 @@ pub fn decode(table: &[u8]) -> Option<(Settings, Sessions)> {
         first_address: Ipv4Addr::from(array(table, 29)),
         addresses: u32::from_be_bytes(array(table, 33)),
         session_limit,
+        peers: [decode_peer(table, PEERS), decode_peer(table, PEERS + PEER)],
     };
     let mut sessions = Sessions::new();
     for slot in table[SLOTS..].chunks(SLOT).take(count.into()) {
-        sessions.insert(u64::from_be_bytes(array(slot, 0)), decode_session(slot)?);
+        let key = Key { peer: slot[0], seid: u64::from_be_bytes(array(slot, SEID)) };
+        sessions.insert(key, decode_session(slot)?);
     }
     Some((settings, sessions))
 }
 
+fn decode_peer(table: &[u8], at: usize) -> Peer {
+    Peer {
+        address: array(table, at),
+        guarantee: u32::from_be_bytes(array(table, at + 4)),
+        limit: u32::from_be_bytes(array(table, at + 8)),
+    }
+}
+
 fn decode_session(slot: &[u8]) -> Option<Session> {
-    let counts = (usize::from(slot[8]), usize::from(slot[9]), usize::from(slot[10]));
+    let count = |place: usize| usize::from(slot[COUNTS + place]);
+    let counts = (count(0), count(1), count(2));
     if counts.0 > 16 || counts.1 > 8 || counts.2 > 6 {
         return None;
     }

@@ -6,7 +6,7 @@ use std::net::{Ipv4Addr, Ipv6Addr};
 
 use crate::element::fq_csid::NodeId;
 use crate::session::{
-    distinct_teids, taken_addresses, Families, Local, Pdr, Session, Sessions, Tunnel,
+    distinct_teids, taken_addresses, Families, Key, Local, Pdr, Session, Sessions, Tunnel,
 };
 use crate::settings::Settings;
 
@@ -32,15 +32,15 @@ pub fn text(settings: &Settings, sessions: &Sessions) -> String {
         "live sessions: {live}; free TEIDs: {} of {}; free addresses: {} of {}\n",
         free.teids, settings.size, free.addresses, settings.addresses
     );
-    for (seid, session) in sessions {
-        add_text(&mut list, *seid, session);
+    for (key, session) in sessions {
+        add_text(&mut list, *key, session);
     }
     list
 }
 
-fn add_text(list: &mut String, seid: u64, session: &Session) {
+fn add_text(list: &mut String, key: Key, session: &Session) {
     let mut line = |text: String| writeln!(list, "{text}").expect("a string takes any text");
-    line(format!("  session {seid}"));
+    line(format!("  session {} of peer {}", key.seid, key.peer));
     for (id, pdr) in &session.pdrs {
         let far = pdr.far_id.map_or("no FAR".to_string(), |far_id| format!("FAR {far_id}"));
         let local = match &pdr.local {
@@ -106,7 +106,7 @@ fn ipv6_text(address: &[u8; 16]) -> String {
 pub fn json(settings: &Settings, sessions: &Sessions) -> String {
     let (live, free) = (sessions.len(), Free::of(settings, sessions));
     let sessions: Vec<String> =
-        sessions.iter().map(|(seid, session)| session_json(*seid, session)).collect();
+        sessions.iter().map(|(key, session)| session_json(*key, session)).collect();
     let of_teids = format!("\"free_teids\":{},\"pool_size\":{}", free.teids, settings.size);
     let of_addresses = format!(
         "\"free_addresses\":{},\"address_pool_size\":{}",
@@ -118,7 +118,8 @@ pub fn json(settings: &Settings, sessions: &Sessions) -> String {
     )
 }
 
-fn session_json(seid: u64, session: &Session) -> String {
+fn session_json(key: Key, session: &Session) -> String {
+    let Key { peer, seid } = key;
     let pdrs: Vec<String> = session.pdrs.iter().map(|(id, pdr)| pdr_json(*id, pdr)).collect();
     let endpoints: Vec<String> = session
         .endpoints
@@ -137,7 +138,7 @@ fn session_json(seid: u64, session: &Session) -> String {
         })
         .collect();
     format!(
-        "{{\"seid\":\"{seid}\",\"pdrs\":[{}],\"endpoints\":[{}],\"fq_csids\":[{}]}}",
+        "{{\"peer\":{peer},\"seid\":\"{seid}\",\"pdrs\":[{}],\"endpoints\":[{}],\"fq_csids\":[{}]}}",
         pdrs.join(","),
         endpoints.join(","),
         fq_csids.join(",")

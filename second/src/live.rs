@@ -1,5 +1,6 @@
 //! The live set: "from the calls in turn, each with its message, outcome and reply, and never from
-//! the table". Nothing here looks at a unit or its settings.
+//! the table"; with 02 (xiv) it is read "over the pairs of peer and SEID, each request with its peer".
+//! Nothing here looks at a unit or its settings.
 
 use std::collections::BTreeMap;
 use std::net::Ipv4Addr;
@@ -9,7 +10,8 @@ use crate::element::ue_ip::{self, UeIp};
 use crate::ie;
 use crate::request::framing::{elements, Part};
 use crate::request::{self, FarChange, Kind, Record, Request};
-use crate::session::{Endpoint, HeldCsid, Local, Pdr, Session, Sessions, Tunnel};
+use crate::session::{Endpoint, HeldCsid, Key, Local, Pdr, Session, Sessions, Tunnel};
+use crate::settings::named_peer;
 
 #[derive(Clone, PartialEq, Eq, Debug, Default)]
 pub struct LiveSet {
@@ -36,9 +38,15 @@ impl LiveSet {
         LiveSet::default()
     }
 
-    /// Follows one call. An accepted call whose message or reply cannot be followed is an error
-    /// and changes nothing; it tells of a fault in whoever replied.
-    pub fn follow(&mut self, message: &[u8], outcome: u8, reply: &[u8]) -> Result<(), String> {
+    /// Follows one call of a peer. An accepted call whose message or reply cannot be followed is an
+    /// error and changes nothing; it tells of a fault in whoever replied.
+    pub fn follow(
+        &mut self,
+        peer: u32,
+        message: &[u8],
+        outcome: u8,
+        reply: &[u8],
+    ) -> Result<(), String> {
         // "A request is accepted when its outcome is 0 and its reply's cause 1; any other, and a
         // free count, changes nothing."
         if outcome != 0 {
@@ -48,36 +56,39 @@ impl LiveSet {
         if said.cause != Some(1) {
             return Ok(());
         }
+        let peer = named_peer(peer).ok_or("accepted for no peer")?;
         let header = request::header::test(message).map_err(|n| format!("outcome {n} accepted"))?;
+        let named = Key { peer, seid: header.seid };
         let request = request::read(&header, message)
             .map_err(|fault| format!("accepted with a fault of cause {}", fault.cause))?;
         match header.kind {
             Kind::Establishment => {
                 let seid = request.f_seid.as_ref().ok_or("accepted without an F-SEID")?.seid;
                 let session = changed(Session::default(), &request, &said)?;
-                self.sessions.insert(seid, session);
+                self.sessions.insert(Key { peer, seid }, session);
             }
             Kind::Modification => {
-                let session = self.sessions.get(&header.seid).ok_or("accepted for no session")?;
+                let session = self.sessions.get(&named).ok_or("accepted for no session")?;
                 let session = changed(session.clone(), &request, &said)?;
-                self.sessions.insert(header.seid, session);
+                self.sessions.insert(named, session);
             }
             Kind::Deletion => {
-                self.sessions.remove(&header.seid).ok_or("accepted for no session")?;
+                self.sessions.remove(&named).ok_or("accepted for no session")?;
             }
-            Kind::SetDeletion => self.lose(&request),
+            Kind::SetDeletion => self.lose(peer, &request),
         }
         Ok(())
     }
 
-    /// "the live set loses every match": what holds one of the CSIDs of a listed node, one by one.
-    fn lose(&mut self, request: &Request) {
+    /// "the live set loses every match" of the peer's: what holds one of the CSIDs of a listed node, one
+    /// by one.
+    fn lose(&mut self, peer: u8, request: &Request) {
         for record in &request.records {
             let Record::FqCsid(listed) = record else { continue };
             for &csid in &listed.csids {
                 let lost = HeldCsid { node: listed.node, csid };
                 let stays = |s: &Session| s.fq_csids.get(&listed.node_type) != Some(&lost);
-                self.sessions.retain(|_, session| stays(session));
+                self.sessions.retain(|key, session| key.peer != peer || stays(session));
             }
         }
     }

@@ -1,16 +1,20 @@
-//! 02 (xi): "Repeated requests get the old reply." A request with a store before the unit.
+//! 02 (xi): "Repeated requests get the old reply." A request with a store before the unit, with 02
+//! (xiv) "the named peer's store".
 //!
 //! A broken table or store (outcome 1) has no counterpart here: a unit and a list of entries stand
 //! for sound ones. Whoever has octets asks `layout::sound` and `store::sound` first.
 
 use crate::ie::LEAST_REPLY_SPACE;
 use crate::request::header;
+use crate::settings::named_peer;
 use crate::store::{Entry, MOST_ENTRIES};
 use crate::unit::{Outcome, Unit};
 
 /// What became of a request.
 #[derive(Clone, Copy, PartialEq, Eq, PartialOrd, Ord, Debug)]
 pub enum Way {
+    /// Outcome 7, for any number but a peer's: neither table nor store is looked at.
+    NoPeer,
     /// Outcomes 2 to 5.
     Unread,
     /// "Equal octets get the stored reply".
@@ -30,8 +34,12 @@ pub fn is_newer(number: u32, last: u32) -> bool {
     (1..=8_388_607).contains(&difference)
 }
 
-/// What becomes of a message, without doing it. Entries stand with the oldest first.
-pub fn way_of(entries: &[Entry], message: &[u8], reply_space: usize) -> Way {
+/// What becomes of a message of a peer, without doing it. Entries are those of the peer's store, the
+/// oldest first.
+pub fn way_of(peer: u32, entries: &[Entry], message: &[u8], reply_space: usize) -> Way {
+    if named_peer(peer).is_none() {
+        return Way::NoPeer;
+    }
     let Ok(header) = header::test(message) else { return Way::Unread };
     if reply_space < LEAST_REPLY_SPACE {
         return Way::Unread;
@@ -52,20 +60,22 @@ fn number_of(message: &[u8]) -> u32 {
     header::test(message).expect("an entry's message gets none of outcomes 3 to 5").sequence
 }
 
-/// One request: what became of it, and the outcome. The reply is written as `Unit::request` does.
+/// One request of a peer, with its store: what became of it, and the outcome. The reply is written as
+/// `Unit::request` does.
 pub fn request_once(
     unit: &mut Unit,
+    peer: u32,
     entries: &mut Vec<Entry>,
     message: &[u8],
     reply_space: &mut [u8],
 ) -> (Way, Outcome) {
-    let way = way_of(entries, message, reply_space.len());
+    let way = way_of(peer, entries, message, reply_space.len());
     let outcome = match way {
-        Way::Unread => unit.request(message, reply_space),
+        Way::NoPeer | Way::Unread => unit.request(peer, message, reply_space),
         Way::Repeat => repeat(entries, message, reply_space),
         Way::Dropped => Outcome { number: OLD_NUMBER, reply_length: 0, place: 0 },
         Way::Engine => {
-            let outcome = unit.request(message, reply_space);
+            let outcome = unit.request(peer, message, reply_space);
             let reply = reply_space[..outcome.reply_length].to_vec();
             keep(entries, Entry { message: message.to_vec(), reply });
             outcome

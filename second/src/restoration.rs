@@ -30,7 +30,7 @@ pub struct Envelope {
 impl Envelope {
     /// Any that is allowed, drawn at random for the restoration of this session.
     pub fn any(random: &mut Random, seid: u64) -> Envelope {
-        let (v4, v6) = random.pick(&[(true, false), (false, true), (true, true)]);
+        let (v4, v6) = random.pick(&[(true, false), (false, true), (true, true), (true, true)]);
         Envelope {
             header_seid: random.pick(&[0, seid, u64::MAX]),
             sequence: random.number() as u32 & 0xFF_FFFF,

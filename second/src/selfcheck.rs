@@ -7,11 +7,14 @@ use crate::generate::random::Random;
 use crate::generate::{Call, Generator};
 use crate::ie;
 use crate::live::LiveSet;
+use crate::request;
 use crate::request::framing::{elements, Part};
 use crate::restoration::{self, Envelope, LONGEST};
-use crate::session::{records_hold, Sessions};
-use crate::settings::Settings;
-use crate::unit::{Decision, Unit};
+use crate::session::{holdings, of_peer, records_hold, Key, Sessions};
+use crate::settings::{Settings, PEERS};
+use crate::unit::grants::needed;
+use crate::unit::limits::Limit;
+use crate::unit::{Decision, Reason, Refused, Unit};
 
 /// From this many calls on, a run must have met every counter of the coverage.
 pub const CALLS_FOR_WHOLE_COVERAGE: usize = 20_000;
@@ -80,17 +83,17 @@ fn refused_settings(report: &mut Report, generator: &mut Generator, allowed: &Se
     let ipv6 = other.ipv6.map_or(vec![], |address| address.to_vec());
     let teids = (other.first, other.size);
     let addresses = (other.first_address, other.addresses);
-    let made = Settings::make(other.ipv4, &ipv6, teids, addresses, limit);
+    let made = Settings::make(other.ipv4, &ipv6, teids, addresses, limit, other.peers);
     report.check(made.is_none(), || format!("{other:?} and the limit {limit} are allowed"));
 }
 
 fn one_call(report: &mut Report, unit: &mut Unit, live: &mut LiveSet, call: &Call) {
     let before = unit.sessions().clone();
-    let decision = unit.decide(&call.message, call.reply_space);
+    let decision = unit.decide(call.peer, &call.message, call.reply_space);
     let settings = unit.settings().clone();
-    report.coverage.decided(&call.message, call.reply_space, &decision, &settings, &before);
+    report.coverage.decided(call, &decision, &settings, &before);
     let mut space = vec![FILLING; call.reply_space];
-    let outcome = unit.request(&call.message, &mut space);
+    let outcome = unit.request(call.peer, &call.message, &mut space);
     let (reply, rest) = space.split_at(outcome.reply_length);
     report.longest_reply = report.longest_reply.max(reply.len());
     report.check(rest.iter().all(|octet| *octet == FILLING), || "space after the reply".into());
@@ -103,6 +106,7 @@ fn one_call(report: &mut Report, unit: &mut Unit, live: &mut LiveSet, call: &Cal
         Decision::Refused(refused) => {
             let cause = cause_of(&call.message, reply);
             report.check(cause == Ok(refused.cause()), || format!("reply of {cause:?}"));
+            guarantee_is_kept(report, &settings, &before, refused, call);
         }
         Decision::Accepted { .. } => {
             let cause = cause_of(&call.message, reply);
@@ -115,7 +119,7 @@ fn one_call(report: &mut Report, unit: &mut Unit, live: &mut LiveSet, call: &Cal
         report.check(*unit.sessions() == before, || "a refusal changed the sessions".into());
     }
     // The live set comes from the replies alone.
-    let followed = live.follow(&call.message, outcome.number, reply);
+    let followed = live.follow(call.peer, &call.message, outcome.number, reply);
     report.check(followed.is_ok(), || format!("the live set: {followed:?}"));
     report.check(live.sessions == *unit.sessions(), || "the live set differs".into());
     // The free count is counted from the live set.
@@ -137,6 +141,32 @@ fn one_call(report: &mut Report, unit: &mut Unit, live: &mut LiveSet, call: &Cal
     report.check(right, || "the map of addresses differs".into());
     let rules = records_hold(unit.settings(), unit.sessions());
     report.check(rules.is_ok(), || format!("the records: {rules:?}"));
+    for peer in PEERS {
+        let of_one: BTreeSet<u32> =
+            of_peer(&live.sessions, peer).flat_map(|(_, session)| session.teids()).collect();
+        let limited = of_one.len() <= unit.settings().peer(peer).limit as usize;
+        report.check(limited, || format!("peer {peer} holds more than its limit"));
+        let counted = (of_peer(&live.sessions, peer).count() as u32, of_one.len() as u32);
+        let right = unit.peer_count(peer.into()) == Some(counted);
+        report.check(right, || format!("other counts of peer {peer}"));
+    }
+}
+
+/// "a need that with the peer's holdings at entry is within its guarantee is never refused for want of
+/// TEIDs"
+fn guarantee_is_kept(
+    report: &mut Report,
+    settings: &Settings,
+    before: &Sessions,
+    refused: &Refused,
+    call: &Call,
+) {
+    let Ok(request) = request::read(&refused.header, &call.message) else { return };
+    let held = holdings(before, refused.peer);
+    let within = held + needed(&request) <= settings.peer(refused.peer).guarantee as usize;
+    let wanting = |reason: &Reason| matches!(reason, Reason::Limit(Limit::Teids(..)));
+    let kept = !within || !refused.reasons.iter().any(wanting);
+    report.check(kept, || "a need within the guarantee is refused".into());
 }
 
 /// The cause of a well-formed reply to this message.
@@ -185,24 +215,25 @@ fn cause_of(message: &[u8], reply: &[u8]) -> Result<u8, String> {
     Ok(cause)
 }
 
-/// Restores every live session, in any order, into a fresh unit.
+/// Restores every live session, in any order over both peers, each under its own, into a fresh unit.
 fn restore_all(report: &mut Report, random: &mut Random, settings: &Settings, live: &Sessions) {
     let mut unit = Unit::new(settings.clone()).expect("generated settings are allowed");
     let mut restored = LiveSet::new();
-    let mut seids: Vec<u64> = live.keys().copied().collect();
-    random.shuffle(&mut seids);
-    for seid in seids {
+    let mut keys: Vec<Key> = live.keys().copied().collect();
+    random.shuffle(&mut keys);
+    for key in keys {
+        let (peer, seid) = (u32::from(key.peer), key.seid);
         let envelope = Envelope::any(random, seid);
-        let message = restoration::request(settings, seid, &live[&seid], &envelope);
+        let message = restoration::request(settings, seid, &live[&key], &envelope);
         let message = message.expect("a live session can be restored");
         report.check(message.len() <= LONGEST, || format!("{} octets", message.len()));
         report.longest_restoration = report.longest_restoration.max(message.len());
         let mut space = vec![FILLING; random.pick(&[ie::LEAST_REPLY_SPACE, 1281, 3000])];
-        let outcome = unit.request(&message, &mut space);
+        let outcome = unit.request(peer, &message, &mut space);
         let reply = &space[..outcome.reply_length];
         let cause = cause_of(&message, reply);
         report.check(outcome.number == 0 && cause == Ok(1), || format!("restoration: {cause:?}"));
-        let followed = restored.follow(&message, outcome.number, reply);
+        let followed = restored.follow(peer, &message, outcome.number, reply);
         report.check(followed.is_ok(), || format!("the restored live set: {followed:?}"));
         report.restored += 1;
     }

@@ -1,12 +1,12 @@
 //! The records that live in a unit, and the rules that document 01 gives for them under "Settings
-//! and table", with the addresses of 02 (v) and the session limit of 02 (vi).
+//! and table", with the addresses of 02 (v), the session limit of 02 (vi) and the peers of 02 (xiv).
 
 use std::collections::{BTreeMap, BTreeSet};
 use std::net::Ipv4Addr;
 
 use crate::element::fq_csid::{NodeId, LAST_NODE_TYPE};
 use crate::request::{Record, Request};
-use crate::settings::Settings;
+use crate::settings::{named_peer, Settings, PEERS};
 
 /// Sessions "each with 16 PDRs, 8 traffic endpoints and one FQ-CSID per node type"; how many there
 /// may be is a setting.
@@ -67,7 +67,16 @@ pub struct HeldCsid {
     pub csid: u16,
 }
 
-/// A session without its SEID, which is its key. The maps keep "ascending order of SEID and ID".
+/// What a session is told apart by: "equal SEIDs may live on both". The order is that of the fields:
+/// "ascending order of peer, then as in 01".
+#[derive(Clone, Copy, PartialEq, Eq, PartialOrd, Ord, Debug)]
+pub struct Key {
+    pub peer: u8,
+    pub seid: u64,
+}
+
+/// A session without its peer and SEID, which are its key. The maps keep "ascending order of SEID and
+/// ID".
 #[derive(Clone, PartialEq, Eq, Debug, Default)]
 pub struct Session {
     pub pdrs: BTreeMap<u16, Pdr>,
@@ -75,7 +84,7 @@ pub struct Session {
     pub fq_csids: BTreeMap<u8, HeldCsid>,
 }
 
-pub type Sessions = BTreeMap<u64, Session>;
+pub type Sessions = BTreeMap<Key, Session>;
 
 impl Session {
     /// Every TEID in the session's records, one for each record that holds one.
@@ -137,14 +146,30 @@ pub fn distinct_teids(sessions: &Sessions) -> BTreeSet<u32> {
     sessions.values().flat_map(|session| session.teids()).collect()
 }
 
+/// The sessions of a peer.
+pub fn of_peer(sessions: &Sessions, peer: u8) -> impl Iterator<Item = (&Key, &Session)> {
+    sessions.iter().filter(move |(key, _)| key.peer == peer)
+}
+
+/// How many sessions a peer has.
+pub fn count_of(sessions: &Sessions, peer: u8) -> usize {
+    of_peer(sessions, peer).count()
+}
+
+/// A peer's holdings: how many different TEIDs stand in the records of its sessions.
+pub fn holdings(sessions: &Sessions, peer: u8) -> usize {
+    let teids: BTreeSet<u32> = of_peer(sessions, peer).flat_map(|(_, s)| s.teids()).collect();
+    teids.len()
+}
+
 /// The different addresses of the pool in the records.
 pub fn taken_addresses(settings: &Settings, sessions: &Sessions) -> BTreeSet<Ipv4Addr> {
     sessions.values().flat_map(|session| session.pool_addresses(settings)).collect()
 }
 
-/// The place of a session: from 0, in ascending order of SEID.
-pub fn place_of(sessions: &Sessions, seid: u64) -> Option<usize> {
-    sessions.keys().position(|key| *key == seid)
+/// The place of a session: from 0, over both peers, in ascending order of peer, then SEID.
+pub fn place_of(sessions: &Sessions, wanted: Key) -> Option<usize> {
+    sessions.keys().position(|key| *key == wanted)
 }
 
 /// The place of the session that holds each TEID.
@@ -157,15 +182,16 @@ pub fn holders(sessions: &Sessions) -> BTreeMap<u32, usize> {
 
 /// The rules for the records of a table, as 01 lists them. The answer names the first broken rule.
 pub fn records_hold(settings: &Settings, sessions: &Sessions) -> Result<(), String> {
-    if sessions.len() > usize::from(settings.session_limit) {
-        return Err("more sessions than its session limit".to_string());
-    }
     // Who holds a TEID: an endpoint alone, or PDRs of one session with one use of it.
     let mut of_endpoints: BTreeSet<u32> = BTreeSet::new();
-    let mut of_pdrs: BTreeMap<u32, (u64, Families, u8)> = BTreeMap::new();
+    let mut of_pdrs: BTreeMap<u32, (Key, Families, u8)> = BTreeMap::new();
     let mut of_earlier: BTreeSet<Ipv4Addr> = BTreeSet::new();
-    for (&seid, session) in sessions {
-        let fail = |what: &str| Err(format!("session {seid}: {what}"));
+    for (&key, session) in sessions {
+        let Key { peer, seid } = key;
+        let fail = |what: &str| Err(format!("session {seid} of peer {peer}: {what}"));
+        if named_peer(peer.into()).is_none() {
+            return fail("a peer that is neither 1 nor 2");
+        }
         if seid == 0 {
             return fail("SEID 0");
         }
@@ -198,7 +224,7 @@ pub fn records_hold(settings: &Settings, sessions: &Sessions) -> Result<(), Stri
                     if !tunnel_holds(settings, &tunnel) {
                         return fail("a PDR's F-TEID breaks a rule");
                     }
-                    let this_use = (seid, tunnel.families, pdr.source_interface);
+                    let this_use = (key, tunnel.families, pdr.source_interface);
                     if *of_pdrs.entry(tunnel.teid).or_insert(this_use) != this_use {
                         return fail("PDRs share a TEID against the rule");
                     }
@@ -219,7 +245,27 @@ pub fn records_hold(settings: &Settings, sessions: &Sessions) -> Result<(), Stri
     }
     match of_endpoints.iter().find(|teid| of_pdrs.contains_key(teid)) {
         Some(teid) => Err(format!("an endpoint and a PDR share TEID {teid}")),
-        None => Ok(()),
+        None => dues_hold(settings, sessions),
+    }
+}
+
+/// "A table is broken past a peer's limit of TEIDs or its half of the sessions, or when each peer's
+/// holdings or guarantee, whichever is more, together pass the pool."
+fn dues_hold(settings: &Settings, sessions: &Sessions) -> Result<(), String> {
+    let mut dues = 0;
+    for peer in PEERS {
+        let held = holdings(sessions, peer);
+        if count_of(sessions, peer) > settings.half() {
+            return Err(format!("peer {peer}: more sessions than its half"));
+        }
+        if held > settings.peer(peer).limit as usize {
+            return Err(format!("peer {peer}: more TEIDs than its limit"));
+        }
+        dues += held.max(settings.peer(peer).guarantee as usize);
+    }
+    match dues <= settings.size as usize {
+        true => Ok(()),
+        false => Err("holdings and guarantees that together pass the pool".to_string()),
     }
 }
 

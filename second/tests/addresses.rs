@@ -114,10 +114,10 @@ fn shared_and_listed() {
     // "The live set has the address given, or where one was chosen the one in the record's Created
     // group."
     let mut live = LiveSet::new();
-    assert_eq!(live.follow(&message, 0, &answer), Ok(()));
+    assert_eq!(live.follow(1, &message, 0, &answer), Ok(()));
     assert_eq!(live.sessions, *unit.sessions());
-    assert_eq!(live.sessions[&1].pdrs[&4].address, Some(OUTSIDE));
-    assert_eq!(live.sessions[&1].endpoints[&7].address, first);
+    assert_eq!(live.sessions[&key(1)].pdrs[&4].address, Some(OUTSIDE));
+    assert_eq!(live.sessions[&key(1)].endpoints[&7].address, first);
 }
 
 /// A unit whose only address session 1 holds in PDRs 1 and 2 and in endpoint 3.

@@ -162,7 +162,7 @@ fn tables_of_the_limit_that_was_asked_for() {
         let all = tables_of(wanted);
         assert_eq!(all.len(), 7 + 12);
         for (name, limit, length, options) in &all {
-            assert_eq!(*length, 41 + 603 * usize::from(*limit), "{name}");
+            assert_eq!(*length, 65 + 604 * usize::from(*limit), "{name}");
             assert!(options.ends_with(&format!(" --sessions {limit}\n")), "{name}");
             let is_random = wanted.is_empty() && name.starts_with("random");
             assert!(if is_random { *limit <= 64 } else { *limit == named }, "{name}");
@@ -176,7 +176,7 @@ fn tables_of_the_limit_that_was_asked_for() {
 fn tables_refuses_bad_arguments() {
     let counts = [&[][..], &["."], &[".", "1"], &[".", "1", "1", "1", "1"]];
     let words = [&[".", "x", "1"][..], &[".", "1", "x"], &[".", "1", "1", "x"]];
-    let limits = [&[".", "1", "1", "0"][..], &[".", "1", "1", "257"], &[".", "1", "1", "65537"]];
+    let limits = [&[".", "1", "1", "1"][..], &[".", "1", "1", "257"], &[".", "1", "1", "65538"]];
     for arguments in counts.into_iter().chain(words).chain(limits) {
         let output = run(env!("CARGO_BIN_EXE_tables"), arguments, "");
         assert_eq!(output.status.code(), Some(2), "{arguments:?}");

@@ -28,7 +28,7 @@ fn modified(parts: &[Vec<u8>]) -> u8 {
 
 /// The PDR IDs and the endpoint IDs of session 1.
 fn left(unit: &Unit) -> (Vec<u16>, Vec<u8>) {
-    let session = &unit.sessions()[&1];
+    let session = &unit.sessions()[&key(1)];
     (session.pdrs.keys().copied().collect(), session.endpoints.keys().copied().collect())
 }
 
@@ -56,8 +56,8 @@ fn removed_alone_it_takes_its_pdrs_along() {
     let other = [create_endpoint(1, &[5]), create_pdr(1, &[endpoint_id(1)])];
     assert_eq!(cause(&mut unit, &establishment(2, &other)), 1);
     assert_eq!(cause(&mut unit, &modification(1, &[remove_endpoint(1)])), 1);
-    assert_eq!(unit.sessions()[&2].pdrs.len(), 1);
-    assert_eq!(unit.sessions()[&2].endpoints.len(), 1);
+    assert_eq!(unit.sessions()[&key(2)].pdrs.len(), 1);
+    assert_eq!(unit.sessions()[&key(2)].endpoints.len(), 1);
 }
 
 #[test]
@@ -133,5 +133,5 @@ fn its_teid_is_free_from_the_next_call_on() {
     assert_eq!(unit.free_count(), 1);
     assert_eq!(cause(&mut unit, &modification(1, &[create_pdr(1, &[choose()])])), 1);
     assert_eq!(unit.free_count(), 0);
-    assert!(unit.sessions()[&1].teids().any(|teid| teid == 4096));
+    assert!(unit.sessions()[&key(1)].teids().any(|teid| teid == 4096));
 }

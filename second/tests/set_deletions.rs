@@ -5,6 +5,7 @@ mod common;
 
 use common::*;
 use second::request::{first_fault, first_place};
+use second::session::Key;
 use second::unit::Unit;
 
 const CARD: [u8; 4] = [192, 0, 2, 10];
@@ -43,13 +44,13 @@ fn lost(parts: &[Vec<u8>]) -> Vec<u64> {
     let mut unit = started();
     let before = unit.sessions().clone();
     assert_eq!(cause(&mut unit, &set_deletion(parts)), 1);
-    let (kept, lost): (Vec<u64>, Vec<u64>) =
-        before.keys().partition(|seid| unit.sessions().contains_key(seid));
-    for seid in kept {
-        assert_eq!(unit.sessions()[&seid], before[&seid], "session {seid} has changed");
+    let (kept, lost): (Vec<Key>, Vec<Key>) =
+        before.keys().partition(|key| unit.sessions().contains_key(key));
+    for key in kept {
+        assert_eq!(unit.sessions()[&key], before[&key], "session {key:?} has changed");
     }
     assert_eq!(unit.free_count() as usize, lost.len(), "what goes frees its TEIDs");
-    lost
+    lost.into_iter().map(|key| key.seid).collect()
 }
 
 /// Cause, offending type and place of a refusal, which changes nothing.

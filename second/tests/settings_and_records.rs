@@ -3,14 +3,17 @@
 mod common;
 
 use common::*;
-use second::session::{records_hold, Endpoint, Families, Local, Pdr, Session, Sessions, Tunnel};
+use second::session::{
+    records_hold, Endpoint, Families, Key, Local, Pdr, Session, Sessions, Tunnel,
+};
 use second::settings::Settings;
 use second::unit::Unit;
 
 #[test]
 fn allowed_settings() {
     let made = |ipv6: &[u8], first, size| {
-        Settings::make([0; 4], ipv6, (first, size), (POOL, 1), SESSION_LIMIT).is_some()
+        let peers = peers(size);
+        Settings::make([0; 4], ipv6, (first, size), (POOL, 1), SESSION_LIMIT, peers).is_some()
     };
     assert!(made(&[], 1, 1));
     assert!(made(&[0; 16], 1, 65_536));
@@ -24,6 +27,7 @@ fn allowed_settings() {
     assert!(Unit::new(Settings { addresses: 0, ..good.clone() }).is_none());
     assert!(Unit::new(Settings { size: 65_537, ..good.clone() }).is_none());
     assert!(Unit::new(Settings { session_limit: 0, ..good.clone() }).is_none());
+    assert!(Unit::new(Settings { session_limit: 1, ..good.clone() }).is_none());
     assert!(Unit::new(Settings { session_limit: 257, ..good }).is_none());
 }
 
@@ -31,7 +35,8 @@ fn allowed_settings() {
 #[test]
 fn allowed_pools_of_addresses() {
     let made = |first: [u8; 4], size| {
-        Settings::make(IPV4, &[], (1, 1), (first.into(), size), SESSION_LIMIT).is_some()
+        let (addresses, peers) = ((first.into(), size), peers(1));
+        Settings::make(IPV4, &[], (1, 1), addresses, SESSION_LIMIT, peers).is_some()
     };
     assert!(made([0; 4], 1) && made([0; 4], 1024) && made(IPV4, 3));
     assert!(!made([0; 4], 0) && !made([0; 4], 1025) && !made([0; 4], u32::MAX));
@@ -45,7 +50,7 @@ fn ids_of_zero_are_allowed() {
     let pdi = group(2, &[source(0), endpoint_id(0)]);
     let pdr = group(1, &[pdr_id(0), precedence(0), pdi, far(0)]);
     assert_eq!(cause(&mut unit, &establishment(1, &[pdr, create_endpoint(0, &[5])])), 1);
-    let session = &unit.sessions()[&1];
+    let session = &unit.sessions()[&key(1)];
     assert_eq!(session.pdrs[&0].far_id, Some(0));
     assert_eq!(session.pdrs[&0].local, Local::Endpoint(0));
 }
@@ -68,13 +73,14 @@ fn map_of_taken_teids() {
 /// The rules for records, each broken alone.
 #[test]
 fn broken_records() {
-    let settings = Settings::make(IPV4, &[], (10, 10), (POOL, 2), SESSION_LIMIT).unwrap();
+    let settings =
+        Settings::make(IPV4, &[], (10, 10), (POOL, 2), SESSION_LIMIT, peers(10)).unwrap();
     let v4 = Families { v4: true, v6: false };
     let tunnel = |teid| Tunnel { teid, families: v4 };
     let pdr =
         |local| Pdr { precedence: 0, far_id: None, source_interface: 0, local, address: None };
     let endpoint = |tunnel| Endpoint { tunnel, address: None };
-    let of = |session: Session| Sessions::from([(1, session)]);
+    let of = |session: Session| Sessions::from([(key(1), session)]);
     let mut good = Session::default();
     good.pdrs.insert(1, pdr(Local::Tunnel(tunnel(10))));
     good.pdrs.insert(2, pdr(Local::Tunnel(tunnel(10))));
@@ -102,16 +108,19 @@ fn broken_records() {
     for families in [Families { v4: true, v6: true }, Families { v4: false, v6: false }] {
         with_endpoint(Tunnel { teid: 15, families });
     }
-    let twice = Sessions::from([(1, good.clone()), (2, good.clone())]);
-    assert!(records_hold(&settings, &twice).is_err());
-    assert!(records_hold(&settings, &Sessions::from([(0, Session::default())])).is_err());
+    for other in [key(2), key2(1)] {
+        let twice = Sessions::from([(key(1), good.clone()), (other, good.clone())]);
+        assert!(records_hold(&settings, &twice).is_err());
+    }
+    assert!(records_hold(&settings, &Sessions::from([(key(0), Session::default())])).is_err());
 }
 
 /// "a restored pool address held by another session is 73 (a table so is broken)"; one outside the
 /// pool may be held by several, and the records of one session share freely.
 #[test]
 fn addresses_of_two_sessions() {
-    let settings = Settings::make(IPV4, &[], (10, 10), (POOL, 2), SESSION_LIMIT).unwrap();
+    let settings =
+        Settings::make(IPV4, &[], (10, 10), (POOL, 2), SESSION_LIMIT, peers(10)).unwrap();
     let pdr = |address| Pdr {
         precedence: 0,
         far_id: None,
@@ -127,7 +136,13 @@ fn addresses_of_two_sessions() {
         one.endpoints.insert(1, Endpoint { tunnel, address: first });
         let mut two = Session::default();
         two.pdrs.insert(1, pdr(second));
-        records_hold(&settings, &Sessions::from([(1, one), (2, two)])).is_ok()
+        let holds = |other: Key| {
+            let sessions = Sessions::from([(key(1), one.clone()), (other, two.clone())]);
+            records_hold(&settings, &sessions).is_ok()
+        };
+        // The other session may be this peer's or the other's: it is the same.
+        assert_eq!(holds(key(2)), holds(key2(1)));
+        holds(key(2))
     };
     assert!(of([10, 45, 0, 0], [10, 45, 0, 1]));
     assert!(!of([10, 45, 0, 0], [10, 45, 0, 0]) && !of([10, 45, 0, 1], [10, 45, 0, 1]));

@@ -38,7 +38,7 @@ fn host_outcomes_in_their_order() {
     let mut unit = started(100);
     let mut call = |message: &[u8], space: usize| {
         let mut octets = vec![0xEE; space];
-        let outcome = unit.request(message, &mut octets);
+        let outcome = unit.request(1, message, &mut octets);
         if outcome.number != 0 {
             assert_eq!((outcome.reply_length, octets), (0, vec![0xEE; space]));
         }
@@ -236,28 +236,28 @@ fn grants_go_to_endpoints_first() {
 fn updates() {
     let mut unit = started(100);
     assert_eq!(cause(&mut unit, &modification(1, &[update_pdr(3, &[far(9)])])), 1);
-    assert_eq!(unit.sessions()[&1].pdrs[&3].far_id, Some(9));
+    assert_eq!(unit.sessions()[&key(1)].pdrs[&3].far_id, Some(9));
     assert_eq!(cause(&mut unit, &modification(1, &[update_pdr(3, &[precedence(6)])])), 1);
-    let pdr = &unit.sessions()[&1].pdrs[&3];
+    let pdr = &unit.sessions()[&key(1)].pdrs[&3];
     assert_eq!((pdr.far_id, pdr.precedence), (Some(9), 6));
     let before = unit.clone();
     assert_eq!(cause(&mut unit, &modification(1, &[update_pdr(3, &[])])), 1);
     assert_eq!(cause(&mut unit, &modification(1, &[])), 1);
     assert_eq!(unit, before);
     assert_eq!(cause(&mut unit, &modification(1, &[update_pdr(3, &[ie(108, &[])])])), 1);
-    assert_eq!(unit.sessions()[&1].pdrs[&3].far_id, None);
+    assert_eq!(unit.sessions()[&key(1)].pdrs[&3].far_id, None);
 }
 
 #[test]
 fn fq_csids() {
     let mut unit = started(100);
-    let held = |unit: &Unit| unit.sessions()[&1].fq_csids.keys().copied().collect::<Vec<_>>();
+    let held = |unit: &Unit| unit.sessions()[&key(1)].fq_csids.keys().copied().collect::<Vec<_>>();
     let removal = |node_type| ie(65, &[0, 0, 0, 0, 0, node_type]);
     assert_eq!(cause(&mut unit, &modification(1, &[fq_csid(7, 4), fq_csid(8, 0)])), 1);
     assert_eq!(held(&unit), [0, 1, 4]);
     assert_eq!(cause(&mut unit, &modification(1, &[removal(1), removal(2), fq_csid(9, 4)])), 1);
     assert_eq!(held(&unit), [0, 4]);
-    assert_eq!(unit.sessions()[&1].fq_csids[&4].csid, 9);
+    assert_eq!(unit.sessions()[&key(1)].fq_csids[&4].csid, 9);
     assert_eq!(cause(&mut unit, &modification(1, &[ie(65, &[])])), 1);
     assert_eq!(held(&unit), []);
     assert_eq!(cause(&mut unit, &modification(1, &[ie(65, &[])])), 1);
@@ -346,7 +346,7 @@ fn restoration_request() {
         fq_csid(8, 4),
     ];
     let expected = message(50, 7, 0x01_02_03, &expected);
-    let session = &unit.sessions()[&0x0102];
+    let session = &unit.sessions()[&key(0x0102)];
     let request = second::restoration::request(unit.settings(), 0x0102, session, &envelope);
     assert_eq!(request, Some(expected.clone()));
     let mut fresh = dual_unit(4096, 10);

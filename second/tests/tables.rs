@@ -5,19 +5,19 @@ use second::generate::random::Random;
 use second::generate::tables::{self, Filling};
 use second::layout;
 use second::list;
-use second::session::{Endpoint, Families, HeldCsid, Local, Pdr, Session, Sessions, Tunnel};
-use second::settings::Settings;
+use second::session::{Endpoint, Families, HeldCsid, Key, Local, Pdr, Session, Sessions, Tunnel};
+use second::settings::{Peer, Settings};
 
 #[test]
 fn random_tables_are_sound_and_read_back() {
     let mut random = Random::new(7);
     for number in 0..60 {
-        let limit = [1, 2, 64, 5, 256, 20][number % 6];
+        let limit = [3, 2, 64, 5, 256, 20][number % 6];
         let settings = tables::settings(&mut random, number % 2 == 1, limit);
         let filling = if number % 10 == 0 { Filling::Full } else { Filling::Some };
         let sessions = tables::sessions(&mut random, &settings, filling);
         let octets = layout::encode(&settings, &sessions);
-        assert_eq!(octets.len(), 41 + 603 * usize::from(limit));
+        assert_eq!(octets.len(), 65 + 604 * usize::from(limit));
         assert_eq!(layout::sound(&octets), Ok((settings, sessions)));
     }
 }
@@ -53,7 +53,9 @@ fn random_tables_hold_every_kind_of_record() {
 
 fn example() -> (Settings, Sessions) {
     let addresses = ([10, 45, 0, 0].into(), 4);
-    let settings = Settings::make([192, 0, 2, 1], &[9; 16], (4096, 10), addresses, 2);
+    let peer = |octet| Peer { address: [192, 0, 2, octet], guarantee: 3, limit: 7 };
+    let peers = [peer(1), peer(2)];
+    let settings = Settings::make([192, 0, 2, 1], &[9; 16], (4096, 10), addresses, 4, peers);
     let settings = settings.expect("these are allowed");
     let tunnel = |teid, v4, v6| Tunnel { teid, families: Families { v4, v6 } };
     let mut session = Session::default();
@@ -79,15 +81,20 @@ fn example() -> (Settings, Sessions) {
     session.fq_csids.insert(3, held(NodeId::Ipv6(address)));
     let node = NodeId::Operator { country_and_network: 262_001, number: 5 };
     session.fq_csids.insert(5, held(node));
-    (settings, Sessions::from([(u64::MAX, session), (1, Session::default())]))
+    let key = |peer, seid| Key { peer, seid };
+    let empty = [key(1, u64::MAX), key(2, 1)].map(|key| (key, Session::default()));
+    let mut sessions = Sessions::from(empty);
+    sessions.insert(key(2, u64::MAX), session);
+    (settings, sessions)
 }
 
 #[test]
 fn the_list_as_text() {
     let (settings, sessions) = example();
-    let expected = "live sessions: 2; free TEIDs: 7 of 10; free addresses: 3 of 4
-  session 1
-  session 18446744073709551615
+    let expected = "live sessions: 3; free TEIDs: 7 of 10; free addresses: 3 of 4
+  session 18446744073709551615 of peer 1
+  session 1 of peer 2
+  session 18446744073709551615 of peer 2
     PDR 1: precedence 4294967295, no FAR, source interface 15, address 0.0.0.0
     PDR 2: precedence 4294967295, FAR 0, source interface 15, endpoint 255
     PDR 65535: precedence 4294967295, no FAR, source interface 15, TEID 4096 (IPv4 and IPv6), address 10.45.0.3
@@ -105,11 +112,13 @@ fn the_list_as_text() {
 fn the_list_as_json() {
     let (settings, sessions) = example();
     let expected = concat!(
-        r#"{"live_sessions":2,"free_teids":7,"pool_size":10,"#,
+        r#"{"live_sessions":3,"free_teids":7,"pool_size":10,"#,
         r#""free_addresses":3,"address_pool_size":4,"sessions":["#,
-        r#"{"seid":"1","pdrs":[],"endpoints":[],"fq_csids":[]},"#,
+        r#"{"peer":1,"seid":"18446744073709551615","pdrs":[],"endpoints":[],"fq_csids":[]},"#,
         "\n",
-        r#"{"seid":"18446744073709551615","pdrs":["#,
+        r#"{"peer":2,"seid":"1","pdrs":[],"endpoints":[],"fq_csids":[]},"#,
+        "\n",
+        r#"{"peer":2,"seid":"18446744073709551615","pdrs":["#,
         r#"{"id":1,"precedence":4294967295,"source_interface":15,"address":"0.0.0.0"},"#,
         r#"{"id":2,"precedence":4294967295,"far_id":0,"source_interface":15,"endpoint_id":255},"#,
         r#"{"id":65535,"precedence":4294967295,"source_interface":15,"#,

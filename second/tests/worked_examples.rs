@@ -188,7 +188,7 @@ fn largest_session() {
     };
     let settings = unit.settings().clone();
     let request =
-        second::restoration::request(&settings, 77, &unit.sessions()[&77], &envelope).unwrap();
+        second::restoration::request(&settings, 77, &unit.sessions()[&key(77)], &envelope).unwrap();
     assert_eq!(request.len(), 1742);
     let mut fresh = dual_unit(4096, 24);
     assert_eq!(cause(&mut fresh, &request), 1);

@@ -1,7 +1,16 @@
-//! Whether a table is sound, and the maps of the TEIDs and addresses that its records hold.
+//! Whether a table is sound, the maps of the TEIDs and addresses that its records hold, and what each
+//! peer has of it.
 
 use crate::layout::*;
 use crate::list::List;
+
+/// What a peer has of the unit.
+#[derive(Clone, Copy)]
+pub struct Peer {
+    pub address: [u8; 4],
+    pub guarantee: u32,
+    pub limit: u32,
+}
 
 #[derive(Clone, Copy)]
 pub struct Settings {
@@ -13,6 +22,7 @@ pub struct Settings {
     pub addresses: u32,
     /// The most sessions that the table has room for.
     pub limit: usize,
+    pub peers: [Peer; 2],
 }
 
 impl Settings {
@@ -23,6 +33,26 @@ impl Settings {
             && ends(self.first, self.size)
             && (1..=MOST_ADDRESSES).contains(&(self.addresses as usize))
             && ends(self.first_address, self.addresses)
+            && self.peers_are_allowed()
+    }
+
+    fn peers_are_allowed(&self) -> bool {
+        let [one, two] = &self.peers;
+        let holds = |peer: &Peer| peer.guarantee <= peer.limit && peer.limit <= self.size;
+        // Neither guarantee passes the pool by then, so their sum does not wrap around.
+        one.address != two.address
+            && holds(one)
+            && holds(two)
+            && one.guarantee + two.guarantee <= self.size
+    }
+
+    pub fn peer(&self, peer: u8) -> &Peer {
+        &self.peers[usize::from(peer) - 1]
+    }
+
+    /// The most sessions that a peer may have.
+    pub fn half(&self) -> usize {
+        self.limit / 2
     }
 
     /// The place of a TEID in the pool.
@@ -96,10 +126,32 @@ impl Taken {
     }
 }
 
+/// How many sessions and TEIDs a peer has.
+#[derive(Clone, Copy, Default)]
+pub struct Share {
+    pub sessions: usize,
+    pub teids: u32,
+}
+
 pub struct Checked<'a> {
     pub settings: Settings,
     pub sessions: usize,
+    pub shares: [Share; 2],
     pub taken: &'a Taken,
+}
+
+impl Checked<'_> {
+    pub fn share(&self, peer: u8) -> &Share {
+        &self.shares[usize::from(peer) - 1]
+    }
+
+    /// How many TEIDs a peer may still take: up to its limit, and to what the other holds or is
+    /// guaranteed.
+    pub fn room(&self, peer: u8) -> u32 {
+        let (own, other) = (self.share(peer).teids, 3 - peer);
+        let kept = self.share(other).teids.max(self.settings.peer(other).guarantee);
+        (self.settings.peer(peer).limit - own).min(self.settings.size - own - kept)
+    }
 }
 
 /// What a sound table says of itself, or nothing for a broken one. The maps, 8 KiB, are the
@@ -112,15 +164,27 @@ pub fn check<'a>(table: &[u8], taken: &'a mut Taken) -> Option<Checked<'a>> {
         return None;
     }
     let (used, room) = slots.as_chunks().0.split_at(sessions);
-    let mut last = 0;
+    let mut shares = [Share::default(); 2];
+    let mut last = (0, 0);
     for slot in used {
-        // From 0 on, ascending also says "not 0".
-        if seid(slot) <= last || !session_holds(&settings, slot, taken) {
+        let (peer, seid) = key(slot);
+        if (peer, seid) <= last || seid == 0 {
             return None;
         }
-        last = seid(slot);
+        let share = shares.get_mut(usize::from(peer.checked_sub(1)?))?;
+        share.sessions += 1;
+        share.teids += session_teids(&settings, slot, taken)?;
+        last = (peer, seid);
     }
-    is_zero(room.as_flattened()).then_some(Checked { settings, sessions, taken })
+    let sound = shares_hold(&settings, &shares) && is_zero(room.as_flattened());
+    sound.then_some(Checked { settings, sessions, shares, taken })
+}
+
+fn shares_hold(settings: &Settings, shares: &[Share; 2]) -> bool {
+    let due = |share: &Share, peer: &Peer| share.teids.max(peer.guarantee);
+    let pairs = || shares.iter().zip(&settings.peers);
+    pairs().all(|(share, peer)| share.sessions <= settings.half() && share.teids <= peer.limit)
+        && pairs().map(|(share, peer)| due(share, peer)).sum::<u32>() <= settings.size
 }
 
 fn settings(head: &[u8; SLOTS]) -> Option<Settings> {
@@ -140,66 +204,86 @@ fn settings(head: &[u8; SLOTS]) -> Option<Settings> {
         first_address: u32_at(head, 29),
         addresses: u32_at(head, 33),
         limit: usize::from(u16_at(head, LIMIT)),
+        peers: [peer_at(head, PEERS), peer_at(head, PEERS + PEER)],
     };
     settings.are_allowed().then_some(settings)
 }
 
-fn session_holds(settings: &Settings, slot: &Slot, taken: &mut Taken) -> bool {
-    let counts = (usize::from(slot[8]), usize::from(slot[9]), usize::from(slot[10]));
+fn peer_at(head: &[u8; SLOTS], at: usize) -> Peer {
+    Peer {
+        address: [head[at], head[at + 1], head[at + 2], head[at + 3]],
+        guarantee: u32_at(head, at + 4),
+        limit: u32_at(head, at + 8),
+    }
+}
+
+/// How many different TEIDs a session holds, or nothing if it breaks a rule.
+fn session_teids(settings: &Settings, slot: &Slot, taken: &mut Taken) -> Option<u32> {
+    let count = |at: usize| usize::from(slot[COUNTS + at]);
+    let counts = (count(0), count(1), count(2));
     if counts.0 > MOST_PDRS || counts.1 > MOST_ENDPOINTS || counts.2 > MOST_FQ_CSIDS {
-        return false;
+        return None;
     }
     let whole = areas(slot);
     let (pdrs, no_pdrs) = whole.pdrs.split_at(counts.0);
     let (endpoints, no_endpoints) = whole.endpoints.split_at(counts.1);
     let (fq_csids, no_fq_csids) = whole.fq_csids.split_at(counts.2);
-    ascend(pdrs, pdr_id)
+    let holds = ascend(pdrs, pdr_id)
         && ascend(endpoints, endpoint_id)
         && ascend(fq_csids, node_type)
         && endpoints.iter().all(|endpoint| {
             // A TEID of an endpoint is held by nothing else.
             tunnel_place(settings, u32_at(endpoint, 1), endpoint[5])
                 .is_some_and(|place| taken.teids.take(place))
-        })
-        && (0..pdrs.len())
-            .all(|index| pdr_holds(settings, pdrs, index, endpoints, &mut taken.teids))
-        && addresses_hold(settings, pdrs, endpoints, &mut taken.addresses)
+        });
+    if !holds {
+        return None;
+    }
+    let mut teids = endpoints.len() as u32;
+    for index in 0..pdrs.len() {
+        teids += pdr_teids(settings, pdrs, index, endpoints, &mut taken.teids)?;
+    }
+    let holds = addresses_hold(settings, pdrs, endpoints, &mut taken.addresses)
         && fq_csids.iter().all(fq_csid_holds)
         && is_zero(no_pdrs.as_flattened())
         && is_zero(no_endpoints.as_flattened())
-        && is_zero(no_fq_csids.as_flattened())
+        && is_zero(no_fq_csids.as_flattened());
+    holds.then_some(teids)
 }
 
-fn pdr_holds(
+/// How many TEIDs a PDR holds that none before it does, 1 or 0, or nothing if it breaks a rule.
+fn pdr_teids(
     settings: &Settings,
     pdrs: &[PdrSlot],
     index: usize,
     endpoints: &[EndpointSlot],
     taken: &mut TeidMap,
-) -> bool {
+) -> Option<u32> {
     let pdr = &pdrs[index];
     let (far_id, source_interface) = (u32_at(pdr, 7), pdr[11]);
     let (place, teid, families, endpoint) = (pdr[12], u32_at(pdr, 13), pdr[17], pdr[18]);
     if pdr[6] > 1 || (pdr[6] == 0 && far_id != 0) || source_interface > 15 {
-        return false;
+        return None;
     }
-    match place {
+    let holds = match place {
         NEITHER => teid == 0 && families == 0 && endpoint == 0,
         ENDPOINT => {
             teid == 0 && families == 0 && endpoints.iter().any(|other| other[0] == endpoint)
         }
-        TUNNEL if endpoint == 0 => match tunnel_place(settings, teid, families) {
-            None => false,
-            Some(place) if taken.take(place) => true,
+        TUNNEL if endpoint == 0 => {
+            if taken.take(tunnel_place(settings, teid, families)?) {
+                return Some(1);
+            }
             // Held already: by a PDR of this session with the same use, most likely one just
             // before, or against the rules.
-            Some(_) => pdrs[..index]
+            pdrs[..index]
                 .iter()
                 .rfind(|other| other[12] == TUNNEL && u32_at(*other, 13) == teid)
-                .is_some_and(|other| other[17] == families && other[11] == source_interface),
-        },
+                .is_some_and(|other| other[17] == families && other[11] == source_interface)
+        }
         _ => false,
-    }
+    };
+    holds.then_some(0)
 }
 
 /// An address of the pool is held by records of one session only.

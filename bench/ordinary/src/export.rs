@@ -3,7 +3,8 @@
 
 use std::slice;
 
-use crate::{free_addresses, free_count, handle, handle_once, make_store, make_table, Settings};
+use crate::{free_addresses, free_count, handle, handle_once, make_store, make_table};
+use crate::{Peer, Settings};
 
 /// A slice from a pointer and a length; an empty one may have any pointer.
 ///
@@ -46,6 +47,12 @@ pub unsafe extern "C" fn make(
     first_address: u32,
     address_count: u32,
     session_limit: u32,
+    address1: u32,
+    guarantee1: u32,
+    limit1: u32,
+    address2: u32,
+    guarantee2: u32,
+    limit2: u32,
 ) -> u32 {
     let (table, ipv6) = unsafe { (lent_mut(table, table_len), lent(ipv6, ipv6_len)) };
     let ipv6 = match (ipv6.len(), ipv6.try_into()) {
@@ -61,6 +68,10 @@ pub unsafe extern "C" fn make(
         first_address,
         addresses: address_count,
         limit: session_limit as usize,
+        peers: [
+            Peer { address: address1.to_be_bytes(), guarantee: guarantee1, limit: limit1 },
+            Peer { address: address2.to_be_bytes(), guarantee: guarantee2, limit: limit2 },
+        ],
     };
     u32::from(!make_table(table, &settings))
 }
@@ -96,6 +107,7 @@ pub unsafe extern "C" fn free_of_addresses(
 pub unsafe extern "C" fn request(
     table: *mut u8,
     table_len: usize,
+    peer: u32,
     message: *const u8,
     message_len: usize,
     reply: *mut u8,
@@ -105,7 +117,7 @@ pub unsafe extern "C" fn request(
 ) -> u32 {
     let table = unsafe { lent_mut(table, table_len) };
     let (message, space) = unsafe { (lent(message, message_len), lent_mut(reply, reply_len)) };
-    let answer = handle(table, message, space);
+    let answer = handle(table, peer, message, space);
     let (used, at) = answer.unwrap_or((0, 0));
     unsafe { (*reply_used, *place) = (used, at) };
     answer.err().unwrap_or(0)
@@ -132,6 +144,7 @@ pub unsafe extern "C" fn make_a_store(store: *mut u8, store_len: usize) -> u32 {
 pub unsafe extern "C" fn request_once(
     table: *mut u8,
     table_len: usize,
+    peer: u32,
     store: *mut u8,
     store_len: usize,
     message: *const u8,
@@ -143,7 +156,7 @@ pub unsafe extern "C" fn request_once(
 ) -> u32 {
     let (table, store) = unsafe { (lent_mut(table, table_len), lent_mut(store, store_len)) };
     let (message, space) = unsafe { (lent(message, message_len), lent_mut(reply, reply_len)) };
-    let answer = handle_once(table, store, message, space);
+    let answer = handle_once(table, peer, store, message, space);
     let (used, at) = answer.unwrap_or((0, 0));
     unsafe { (*reply_used, *place) = (used, at) };
     answer.err().unwrap_or(0)

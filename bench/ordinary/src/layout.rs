@@ -1,6 +1,7 @@
 //! The octets of the table, as `docs/layout.md` gives them.
 
-/// The largest session limit, and the largest pools of TEIDs and of addresses.
+/// The session limits, and the largest pools of TEIDs and of addresses.
+pub const LEAST_SESSIONS: usize = 2;
 pub const MOST_SESSIONS: usize = 256;
 pub const MOST_TEIDS: usize = 65_536;
 pub const MOST_ADDRESSES: usize = 1_024;
@@ -11,10 +12,12 @@ pub const MOST_FQ_CSIDS: usize = 6;
 
 /// Offsets in the table.
 pub const LIMIT: usize = 37;
-pub const COUNT: usize = 39;
-pub const SLOTS: usize = 41;
+pub const PEERS: usize = 39;
+pub const PEER: usize = 12;
+pub const COUNT: usize = 63;
+pub const SLOTS: usize = 65;
 
-pub type Slot = [u8; 603];
+pub type Slot = [u8; 604];
 pub type PdrSlot = [u8; 24];
 pub type EndpointSlot = [u8; 11];
 pub type FqCsidSlot = [u8; 20];
@@ -45,7 +48,8 @@ pub fn put(octets: &mut [u8], at: usize, value: &[u8]) {
 
 /// The length of a table for so many sessions, or nothing where a limit is not allowed.
 pub fn table_length(limit: usize) -> Option<usize> {
-    (1..=MOST_SESSIONS).contains(&limit).then(|| SLOTS + limit * size_of::<Slot>())
+    let allowed = (LEAST_SESSIONS..=MOST_SESSIONS).contains(&limit);
+    allowed.then(|| SLOTS + limit * size_of::<Slot>())
 }
 
 /// The session slots of a table.
@@ -57,8 +61,9 @@ pub fn slots_mut(table: &mut [u8]) -> &mut [Slot] {
     table[SLOTS..].as_chunks_mut().0
 }
 
-pub fn seid(slot: &Slot) -> u64 {
-    u64_at(slot, 0)
+/// A session's key: its peer, then its SEID.
+pub fn key(slot: &Slot) -> (u8, u64) {
+    (slot[0], u64_at(slot, SEID))
 }
 
 /// A session's records: those in use.
@@ -68,9 +73,12 @@ pub struct Records<'a> {
     pub fq_csids: &'a [FqCsidSlot],
 }
 
-const PDRS: usize = 11;
-const ENDPOINTS: usize = 395;
-const FQ_CSIDS: usize = 483;
+/// Offsets in a slot, after the peer.
+pub const SEID: usize = 1;
+pub const COUNTS: usize = 9;
+const PDRS: usize = 12;
+const ENDPOINTS: usize = 396;
+const FQ_CSIDS: usize = 484;
 
 /// The areas of a slot, whole.
 pub struct Areas<'a> {
@@ -90,9 +98,9 @@ pub fn areas(slot: &Slot) -> Areas<'_> {
 pub fn records(slot: &Slot) -> Records<'_> {
     let whole = areas(slot);
     Records {
-        pdrs: &whole.pdrs[..usize::from(slot[8])],
-        endpoints: &whole.endpoints[..usize::from(slot[9])],
-        fq_csids: &whole.fq_csids[..usize::from(slot[10])],
+        pdrs: &whole.pdrs[..usize::from(slot[COUNTS])],
+        endpoints: &whole.endpoints[..usize::from(slot[COUNTS + 1])],
+        fq_csids: &whole.fq_csids[..usize::from(slot[COUNTS + 2])],
     }
 }
 
@@ -107,7 +115,7 @@ pub fn areas_mut(slot: &mut Slot) -> (Area<'_, 24>, Area<'_, 11>, Area<'_, 20>) 
     let (head, rest) = slot.split_at_mut(PDRS);
     let (pdrs, rest) = rest.split_at_mut(ENDPOINTS - PDRS);
     let (endpoints, fq_csids) = rest.split_at_mut(FQ_CSIDS - ENDPOINTS);
-    let [.., of_pdrs, of_endpoints, of_fq_csids] = head else { unreachable!("a head of 11") };
+    let [.., of_pdrs, of_endpoints, of_fq_csids] = head else { unreachable!("a head of 12") };
     (
         Area { count: of_pdrs, room: pdrs.as_chunks_mut().0 },
         Area { count: of_endpoints, room: endpoints.as_chunks_mut().0 },

@@ -19,7 +19,7 @@ mod request;
 mod store;
 mod unit;
 
-pub use check::Settings;
+pub use check::{Peer, Settings};
 pub use layout::table_length;
 pub use store::make_store;
 pub use unit::{free_addresses, free_count, handle, handle_once, make_table};

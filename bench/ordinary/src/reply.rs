@@ -43,11 +43,11 @@ impl Writer<'_> {
         self.put(&[0]);
     }
 
-    fn node_id(&mut self, header: &Header, settings: &Settings) {
+    fn node_id(&mut self, header: &Header, home: &[u8; 4]) {
         if matches!(header.kind, Kind::Establishment | Kind::SetDeletion) {
             self.frame(NODE_ID, 5);
             self.put(&[0]);
-            self.put(&settings.ipv4);
+            self.put(home);
         }
     }
 
@@ -100,11 +100,12 @@ struct Grant<'a> {
     address: Option<u32>,
 }
 
-pub fn refused(space: &mut [u8], settings: &Settings, header: &Header, refusal: &Refusal) -> usize {
+/// A refusal, with the unit's signalling address for the peer.
+pub fn refused(space: &mut [u8], home: &[u8; 4], header: &Header, refusal: &Refusal) -> usize {
     let nameless = header.kind == Kind::Establishment || refusal.cause == 65;
     let mut writer = Writer { space, used: 0 };
     writer.header(header, if nameless { 0 } else { header.seid });
-    writer.node_id(header, settings);
+    writer.node_id(header, home);
     writer.element(CAUSE, &[refusal.cause]);
     if let Some(offending) = refusal.offending {
         writer.element(OFFENDING_IE, &offending.to_be_bytes());
@@ -119,15 +120,16 @@ pub fn accepted(
     request: &Request,
     got: &Got,
 ) -> usize {
+    let home = &settings.peer(request.peer).address;
     let mut writer = Writer { space, used: 0 };
     writer.header(header, request.seid);
-    writer.node_id(header, settings);
+    writer.node_id(header, home);
     writer.element(CAUSE, &[1]);
     if header.kind == Kind::Establishment {
         writer.frame(F_SEID, 13);
         writer.put(&[2]);
         writer.put(&request.seid.to_be_bytes());
-        writer.put(&settings.ipv4);
+        writer.put(home);
     }
     // A restoration carries its TEIDs and addresses and is granted none.
     if !request.restoration {

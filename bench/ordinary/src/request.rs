@@ -216,6 +216,8 @@ pub enum FqCsidChange {
 
 /// The records of a request. The rooms are what the largest message can carry.
 pub struct Request<'a> {
+    /// The peer that the host names, 1 or 2.
+    pub peer: u8,
     /// The F-SEID's SEID of an establishment, else the header's.
     pub seid: u64,
     pub restoration: bool,
@@ -239,9 +241,10 @@ impl Request<'_> {
         of_pdrs.chain(self.new_endpoints.iter().filter_map(|endpoint| endpoint.address))
     }
 
-    /// A request of this session with no records yet.
-    pub fn new(seid: u64) -> Self {
+    /// A request of a peer for this session with no records yet.
+    pub fn new(peer: u8, seid: u64) -> Self {
         Request {
+            peer,
             seid,
             restoration: false,
             unsupported: false,

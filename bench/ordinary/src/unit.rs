@@ -24,14 +24,28 @@ pub fn make_table(table: &mut [u8], settings: &Settings) -> bool {
     put(table, 29, &settings.first_address.to_be_bytes());
     put(table, 33, &settings.addresses.to_be_bytes());
     put(table, LIMIT, &(settings.limit as u16).to_be_bytes());
+    for (index, peer) in settings.peers.iter().enumerate() {
+        let at = PEERS + PEER * index;
+        put(table, at, &peer.address);
+        put(table, at + 4, &peer.guarantee.to_be_bytes());
+        put(table, at + 8, &peer.limit.to_be_bytes());
+    }
     true
+}
+
+/// A peer, or the host outcome for any other number.
+fn named(peer: u32) -> Result<u8, u32> {
+    match peer {
+        1 | 2 => Ok(peer as u8),
+        _ => Err(7),
+    }
 }
 
 /// The number of free TEIDs, or nothing for a broken table.
 pub fn free_count(table: &[u8]) -> Option<u32> {
     let mut taken = Taken::nothing();
     let checked = check(table, &mut taken)?;
-    Some(checked.settings.size - checked.taken.teids.count())
+    Some(checked.settings.size - checked.shares.iter().map(|share| share.teids).sum::<u32>())
 }
 
 /// The number of free addresses, or nothing for a broken table.
@@ -41,25 +55,34 @@ pub fn free_addresses(table: &[u8]) -> Option<u32> {
     Some(checked.settings.addresses - checked.taken.addresses.count())
 }
 
-/// One request: the length of the reply and the place of a fault of stages 2 and 3 (0 without one),
-/// or the host outcome 1 to 5.
-pub fn handle(table: &mut [u8], message: &[u8], space: &mut [u8]) -> Result<(usize, usize), u32> {
+/// One request of a peer: the length of the reply and the place of a fault of stages 2 and 3 (0 without
+/// one), or the host outcome 1 to 5 or 7.
+pub fn handle(
+    table: &mut [u8],
+    peer: u32,
+    message: &[u8],
+    space: &mut [u8],
+) -> Result<(usize, usize), u32> {
+    let peer = named(peer)?;
     let mut taken = Taken::nothing();
     let checked = check(table, &mut taken).ok_or(1_u32)?;
     if space.len() < LEAST_REPLY_SPACE {
         return Err(2);
     }
     let (header, body) = request::header(message)?;
-    Ok(answer(table, &checked, &header, body, space))
+    Ok(answer(table, &checked, peer, (&header, body), space))
 }
 
-/// One request with a store: a repeat gets the stored reply, and an older number is host outcome 6.
+/// One request of a peer with its store: a repeat gets the stored reply, and an older number is host
+/// outcome 6.
 pub fn handle_once(
     table: &mut [u8],
+    peer: u32,
     store: &mut [u8],
     message: &[u8],
     space: &mut [u8],
 ) -> Result<(usize, usize), u32> {
+    let peer = named(peer)?;
     let mut taken = Taken::nothing();
     let checked = check(table, &mut taken).ok_or(1_u32)?;
     let entries = store::check(store).ok_or(1_u32)?;
@@ -74,31 +97,32 @@ pub fn handle_once(
     if !entries.take(header.sequence) {
         return Err(6);
     }
-    let (used, place) = answer(table, &checked, &header, body, space);
+    let (used, place) = answer(table, &checked, peer, (&header, body), space);
     entries.keep(store, message, &space[..used]);
     Ok((used, place))
 }
 
-/// What a request with this header and body does, on a table that was checked: the length of the reply
-/// and the place of a fault.
+/// What a peer's request with this header and body does, on a table that was checked: the length of the
+/// reply and the place of a fault.
 fn answer(
     table: &mut [u8],
     checked: &Checked,
-    header: &Header,
-    body: &[u8],
+    peer: u8,
+    (header, body): (&Header, &[u8]),
     space: &mut [u8],
 ) -> (usize, usize) {
-    let mut request = Request::new(header.seid);
+    let mut request = Request::new(peer, header.seid);
     match decide(table, checked, header, body, &mut request) {
         Ok((at, got)) => {
             match header.kind {
-                Kind::SetDeletion => remove_listed(table, checked.sessions, &request.listed),
+                Kind::SetDeletion => remove_listed(table, checked.sessions, &request),
                 _ => change(table, checked.sessions, header, &request, at, &got),
             }
             (reply::accepted(space, &checked.settings, header, &request, &got), 0)
         }
         Err(refusal) => {
-            let used = reply::refused(space, &checked.settings, header, &refusal);
+            let home = &checked.settings.peer(peer).address;
+            let used = reply::refused(space, home, header, &refusal);
             (used, refusal.place.unwrap_or(0))
         }
     }
@@ -138,7 +162,8 @@ fn decide<'a>(
     let used = &slots(table)[..checked.sessions];
     let establishment = header.kind == Kind::Establishment;
     let names_session = matches!(header.kind, Kind::Modification | Kind::Deletion);
-    let mut found = used.binary_search_by_key(&header.seid, seid);
+    let peer = request.peer;
+    let mut found = used.binary_search_by_key(&(peer, header.seid), key);
     if names_session && found.is_err() {
         return Err(cause(65));
     }
@@ -146,7 +171,7 @@ fn decide<'a>(
     request::read(header, body, request)?;
     let request = &*request;
     if establishment {
-        found = used.binary_search_by_key(&request.seid, seid);
+        found = used.binary_search_by_key(&(peer, request.seid), key);
         if found.is_ok() {
             return Err(cause(64));
         }
@@ -178,9 +203,10 @@ fn decide<'a>(
     let pdrs = own.pdrs.iter().filter(|pdr| !goes(request, pdr)).count() + request.new_pdrs.len();
     let endpoints =
         own.endpoints.len() - request.removed_endpoints.len() + request.new_endpoints.len();
-    if (establishment && checked.sessions == checked.settings.limit)
+    if (establishment && checked.share(peer).sessions == checked.settings.half())
         || pdrs > MOST_PDRS
         || endpoints > MOST_ENDPOINTS
+        || needed(request) > checked.room(peer)
     {
         return Err(cause(75));
     }
@@ -290,6 +316,21 @@ fn may_be_restored(checked: &Checked, tunnel: &Tunnel) -> bool {
         && (ipv6.is_empty() || checked.settings.ipv6.is_some_and(|own| ipv6 == own))
 }
 
+/// How many different TEIDs a request takes, by CHOOSE or restored. By now what is shared is shared by
+/// PDRs alone.
+fn needed(request: &Request) -> u32 {
+    let of_pdrs = request.new_pdrs.iter().enumerate().filter(|(index, pdr)| {
+        let same = |other: &request::NewPdr, teid| {
+            other.tunnel.as_ref().is_some_and(|shared| shared.teid == teid)
+        };
+        pdr.tunnel.as_ref().is_some_and(|tunnel| {
+            tunnel.teid == Teid::Choose
+                || !request.new_pdrs[..*index].iter().any(|other| same(other, tunnel.teid))
+        })
+    });
+    (request.new_endpoints.len() + of_pdrs.count()) as u32
+}
+
 /// TEIDs for what is created, the lowest free ones for CHOOSE: to endpoints first, then to PDRs at
 /// the first use of a CHOOSE ID. Nothing if there are too few.
 fn allot(checked: &Checked, request: &Request) -> Option<Got> {
@@ -337,7 +378,8 @@ fn change(
         Kind::Establishment => {
             slots.copy_within(at..sessions, at + 1);
             slots[at].fill(0);
-            put(&mut slots[at], 0, &request.seid.to_be_bytes());
+            slots[at][0] = request.peer;
+            put(&mut slots[at], SEID, &request.seid.to_be_bytes());
             change_session(&mut slots[at], request, got);
             put(table, COUNT, &(sessions as u16 + 1).to_be_bytes());
         }
@@ -350,12 +392,17 @@ fn change(
     }
 }
 
-/// Takes out every session that holds a listed FQ-CSID, and clears the room after the others.
-fn remove_listed(table: &mut [u8], sessions: usize, listed: &[&[u8]]) {
+/// Takes out every session of the peer that holds a listed FQ-CSID, and clears the room after the
+/// others.
+fn remove_listed(table: &mut [u8], sessions: usize, request: &Request) {
     let slots = slots_mut(table);
+    let goes = |slot: &Slot| {
+        let held = records(slot).fq_csids;
+        slot[0] == request.peer && held.iter().any(|held| request::is_listed(held, &request.listed))
+    };
     let mut kept = 0;
     for index in 0..sessions {
-        if !records(&slots[index]).fq_csids.iter().any(|held| request::is_listed(held, listed)) {
+        if !goes(&slots[index]) {
             slots[kept] = slots[index];
             kept += 1;
         }

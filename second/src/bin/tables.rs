@@ -5,7 +5,7 @@
 //! random ones. For each NAME, which it prints with the control plane's addresses to give:
 //!
 //! * NAME.table: the table's octets,
-//! * NAME.requests: its sessions' restoration requests, in its order, nothing between,
+//! * NAME.requests: its sessions' restoration requests, in its order, each after an octet with its peer,
 //! * NAME.text and NAME.json: the list of its sessions,
 //! * NAME.options: what gives a unit its settings.
 
@@ -21,7 +21,7 @@ use second::layout;
 use second::list;
 use second::restoration::{self, Envelope};
 use second::session::Sessions;
-use second::settings::{allowed_limit, Settings, LARGEST_LIMIT};
+use second::settings::{allowed_limit, Peer, Settings, LARGEST_LIMIT, LEAST_LIMIT};
 
 /// The session limit unless said otherwise.
 const LIMIT: u16 = 64;
@@ -32,7 +32,9 @@ const IPV6: [u8; 16] = [0x20, 1, 0x0D, 0xB8, 0, 0, 0, 0, 0, 0, 0, 0, 0, 0, 0, 0x
 fn main() -> ExitCode {
     let arguments: Vec<String> = std::env::args().skip(1).collect();
     let Some((folder, wanted)) = read(&arguments) else {
-        eprintln!("usage: tables FOLDER SEED COUNT [LIMIT]; a LIMIT is 1 to {LARGEST_LIMIT}");
+        eprintln!(
+            "usage: tables FOLDER SEED COUNT [LIMIT]; a LIMIT is {LEAST_LIMIT} to {LARGEST_LIMIT}"
+        );
         return ExitCode::from(2);
     };
     match write_all(Path::new(folder), &wanted) {
@@ -70,7 +72,9 @@ fn write_all(folder: &Path, wanted: &Wanted) -> std::io::Result<()> {
     write(folder, "one", &settings, &sessions.clone().into_iter().take(1).collect(), 2)?;
     write(folder, "few", &settings, &sessions.into_iter().take(3).collect(), 2)?;
     let addresses = (Ipv4Addr::new(10, 45, 0, 0), 256);
-    let plain = Settings::make([192, 0, 2, 1], &[], (4096, 4096), addresses, limit.into());
+    let peer = |octet| Peer { address: [192, 0, 2, octet], guarantee: 1024, limit: 4096 };
+    let peers = [peer(1), peer(2)];
+    let plain = Settings::make([192, 0, 2, 1], &[], (4096, 4096), addresses, limit.into(), peers);
     let plain = plain.expect("these are allowed");
     write(folder, "empty", &plain, &Sessions::new(), 0)?;
     let settings = tables::settings(&mut random, true, limit);
@@ -83,7 +87,7 @@ fn write_all(folder: &Path, wanted: &Wanted) -> std::io::Result<()> {
     write(folder, "largest", &largest::settings(limit), &largest::sessions(limit), 2)?;
     for number in 0..wanted.count {
         let ipv6 = random.percent(70);
-        let any = random.pick(&[1, 2, 5, 40, LIMIT - 1, LIMIT]);
+        let any = random.pick(&[2, 3, 5, 40, LIMIT - 1, LIMIT]);
         let settings = tables::settings(&mut random, ipv6, wanted.limit.unwrap_or(any));
         let sessions = tables::sessions(&mut random, &settings, Filling::Some);
         write(folder, &format!("random{number}"), &settings, &sessions, number)?;
@@ -101,14 +105,15 @@ fn write(
 ) -> std::io::Result<()> {
     let (v4, v6) = [(true, false), (false, true), (true, true)][which % 3];
     let mut requests = Vec::new();
-    for (place, (seid, session)) in sessions.iter().enumerate() {
+    for (place, (key, session)) in sessions.iter().enumerate() {
         let envelope = Envelope {
             header_seid: 0,
             sequence: place as u32 + 1,
             ipv4: v4.then_some(IPV4),
             ipv6: v6.then_some(IPV6),
         };
-        let request = restoration::request(settings, *seid, session, &envelope);
+        let request = restoration::request(settings, key.seid, session, &envelope);
+        requests.push(key.peer);
         requests.extend(request.expect("a live session has a request"));
     }
     let file = |ending: &str| folder.join(format!("{name}.{ending}"));
@@ -133,5 +138,10 @@ fn options(settings: &Settings) -> String {
     let Settings { first, size, first_address, addresses, session_limit, .. } = settings;
     let of_teids = format!("--first-teid {first} --pool {size}");
     let of_addresses = format!("--first-address {first_address} --addresses {addresses}");
-    format!("--ipv4 {ipv4}{ipv6} {of_teids} {of_addresses} --sessions {session_limit}\n")
+    let of_peer = |number: usize| {
+        let Peer { address, guarantee, limit } = settings.peers[number - 1];
+        format!("--peer{number} {}:{guarantee}:{limit}", Ipv4Addr::from(address))
+    };
+    let of_peers = format!("{} {}", of_peer(1), of_peer(2));
+    format!("--ipv4 {ipv4}{ipv6} {of_teids} {of_addresses} {of_peers} --sessions {session_limit}\n")
 }

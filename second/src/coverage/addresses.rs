@@ -7,18 +7,16 @@ use super::deeds::Done;
 use crate::element::f_teid::FTeid;
 use crate::element::ue_ip::UeIp;
 use crate::request::{Kind, Record, Request};
-use crate::session::{taken_addresses, Session, Sessions};
+use crate::session::{of_peer, taken_addresses, Session, Sessions};
 use crate::settings::Settings;
+use crate::unit::AtEntry;
 
 /// Each thing once.
-pub fn deeds_of_addresses(
-    settings: &Settings,
-    request: &Request,
-    before: &Sessions,
-) -> BTreeSet<Done> {
+pub fn deeds_of_addresses(entry: AtEntry, request: &Request) -> BTreeSet<Done> {
+    let AtEntry { settings, sessions: before, peer } = entry;
     let mut done = BTreeSet::new();
     let holds = |session: &Session| !session.pool_addresses(settings).is_empty();
-    let own = before.get(&request.header.seid);
+    let own = entry.own(request);
     match (request.header.kind, request.restoration) {
         (Kind::Establishment, true) => restored(settings, request, before, &mut done),
         (Kind::Establishment, false) => {
@@ -33,10 +31,10 @@ pub fn deeds_of_addresses(
         (Kind::Deletion, _) if own.is_some_and(holds) => {
             done.insert(Done::AddressFreedByDeletion);
         }
-        (Kind::SetDeletion, _) => {
-            if before.values().any(|session| session.is_lost_by(request) && holds(session)) {
-                done.insert(Done::SetFreeingAddresses);
-            }
+        (Kind::SetDeletion, _)
+            if of_peer(before, peer).any(|(_, s)| s.is_lost_by(request) && holds(s)) =>
+        {
+            done.insert(Done::SetFreeingAddresses);
         }
         _ => {}
     }

@@ -8,7 +8,8 @@ use crate::element::fq_csid::{self, FqCsid, NodeId};
 use crate::ie;
 use crate::request::framing::{elements, Part};
 use crate::request::{FarChange, Kind, Record, Request};
-use crate::session::{Local, Session, Sessions};
+use crate::session::{of_peer, Local, Session};
+use crate::unit::AtEntry;
 
 /// What an accepted request has done.
 #[derive(Clone, Copy, PartialEq, Eq, PartialOrd, Ord, Debug)]
@@ -115,9 +116,20 @@ pub enum Done {
     RestoredHighTeid,
     RestoredLastTeidOfLargestPool,
     ChosenBelowHighTeid,
+    // The other peer has a session with the same SEID, or one that a set deletion names.
+    SeidOfOtherPeer,
+    SetSparingOtherPeer,
+    // The need goes just up to what the peer may hold: its limit, and the other's unused guarantee.
+    ChosenToLimit,
+    RestoredToLimit,
+    ChosenToOthersGuarantee,
+    RestoredToOthersGuarantee,
+    // Within the guarantee, while the other peer holds more than its own.
+    ChosenWithinGuarantee,
+    RestoredWithinGuarantee,
 }
 
-pub const ALL_DONE: [Done; 92] = [
+pub const ALL_DONE: [Done; 100] = [
     Done::Establishment,
     Done::Restoration,
     Done::Modification,
@@ -210,15 +222,20 @@ pub const ALL_DONE: [Done; 92] = [
     Done::RestoredHighTeid,
     Done::RestoredLastTeidOfLargestPool,
     Done::ChosenBelowHighTeid,
+    Done::SeidOfOtherPeer,
+    Done::SetSparingOtherPeer,
+    Done::ChosenToLimit,
+    Done::RestoredToLimit,
+    Done::ChosenToOthersGuarantee,
+    Done::RestoredToOthersGuarantee,
+    Done::ChosenWithinGuarantee,
+    Done::RestoredWithinGuarantee,
 ];
 
 /// What an accepted request does, each thing once.
-pub fn deeds(request: &Request, message: &[u8], before: &Sessions) -> BTreeSet<Done> {
+pub fn deeds(entry: AtEntry, request: &Request, message: &[u8]) -> BTreeSet<Done> {
     let nothing = Session::default();
-    let own = match request.header.kind {
-        Kind::Establishment => &nothing,
-        _ => before.get(&request.header.seid).unwrap_or(&nothing),
-    };
+    let own = entry.own(request).unwrap_or(&nothing);
     let mut done = BTreeSet::new();
     match (request.header.kind, request.restoration) {
         (Kind::Establishment, true) => {
@@ -249,7 +266,7 @@ pub fn deeds(request: &Request, message: &[u8], before: &Sessions) -> BTreeSet<D
         }
         (Kind::SetDeletion, _) => {
             done.insert(Done::SetDeletion);
-            deeds_of_set(request, before, &mut done);
+            deeds_of_set(entry, request, &mut done);
             return done;
         }
     }
@@ -264,7 +281,8 @@ pub fn deeds(request: &Request, message: &[u8], before: &Sessions) -> BTreeSet<D
     done
 }
 
-fn deeds_of_set(request: &Request, before: &Sessions, done: &mut BTreeSet<Done>) {
+fn deeds_of_set(entry: AtEntry, request: &Request, done: &mut BTreeSet<Done>) {
+    let before: Vec<&Session> = of_peer(entry.sessions, entry.peer).map(|(_, s)| s).collect();
     let listed: Vec<&FqCsid> = request
         .records
         .iter()
@@ -280,7 +298,7 @@ fn deeds_of_set(request: &Request, before: &Sessions, done: &mut BTreeSet<Done>)
     if listed.iter().any(|fq_csid| fq_csid.csids.len() == 15) {
         done.insert(Done::SetWithFifteenCsids);
     }
-    let lost = before.values().filter(|session| session.is_lost_by(request)).count();
+    let lost = before.iter().filter(|session| session.is_lost_by(request)).count();
     match (listed.len(), lost, before.len()) {
         (0, ..) => drop(done.insert(Done::SetWithoutFqCsid)),
         (_, 0, 1..) => drop(done.insert(Done::SetOfNone)),
@@ -289,7 +307,7 @@ fn deeds_of_set(request: &Request, before: &Sessions, done: &mut BTreeSet<Done>)
         (_, lost, live) if lost > 1 && lost == live => drop(done.insert(Done::SetOfAll)),
         _ => {}
     }
-    for session in before.values() {
+    for session in before {
         match session.is_lost_by(request) {
             true => deeds_of_lost(&listed, session, done),
             false => deeds_of_spared(&listed, session, done),

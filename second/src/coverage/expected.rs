@@ -10,7 +10,7 @@ use crate::element::Bad;
 use crate::ie;
 use crate::request::fault::Place;
 use crate::request::{FaultKind, Kind};
-use crate::unit::limits::{Limit, NoAddress};
+use crate::unit::limits::{Limit, Need, NoAddress, TeidTest};
 use crate::unit::rules::{Allocation, Rule, Unsupported};
 
 /// The places that can stand in a message.
@@ -36,7 +36,7 @@ fn places(message: Kind) -> &'static [Place] {
 /// Every counter that a run should meet.
 pub fn expected() -> BTreeSet<Counter> {
     let mut all = BTreeSet::new();
-    all.extend([0, 2, 3, 4, 5].map(Counter::Outcome));
+    all.extend([0, 2, 3, 4, 5, 7].map(Counter::Outcome));
     all.extend(ALL_HEADER_FAULTS.map(Counter::Header));
     all.extend(ALL_EDGES.map(Counter::Edge));
     for cause in [1, 64, 66, 67, 68, 69, 71, 73, 75, 76, 79] {
@@ -148,6 +148,7 @@ fn expected_of_order_and_stage_4() -> BTreeSet<Counter> {
     all.insert(Counter::Unsupported(modification, Unsupported::UpdateEndpoint));
     all.extend(ALL_RULES.iter().copied().map(Counter::Rule));
     all.insert(Counter::FramingBeforeReading);
+    all.extend([Kind::Modification, Kind::Deletion].map(Counter::OnlyOfOtherPeer));
     let of_stage_1 = [(65, 66), (65, 68), (65, 69)];
     all.extend(of_stage_1.map(|(first, later)| Counter::Before(first, later)));
     // "Down the table": each before every later one. A restoration that is 71 or 73 for a CHOOSE is
@@ -163,8 +164,11 @@ fn expected_of_order_and_stage_4() -> BTreeSet<Counter> {
 fn expected_of_stage_5() -> BTreeSet<Counter> {
     let mut all = BTreeSet::new();
     for kind in [Kind::Establishment, Kind::Modification] {
-        for limit in [Limit::Pdrs, Limit::Endpoints, Limit::Teids] {
+        for limit in [Limit::Pdrs, Limit::Endpoints] {
             all.insert(Counter::Limit(kind, limit));
+        }
+        for test in [TeidTest::PeersLimit, TeidTest::Pool, TeidTest::OthersGuarantee] {
+            all.insert(Counter::Limit(kind, Limit::Teids(test, Need::Chosen)));
         }
     }
     let of_establishments = [
@@ -174,7 +178,15 @@ fn expected_of_stage_5() -> BTreeSet<Counter> {
         Limit::EndpointsByRestoration,
     ];
     all.extend(of_establishments.map(|limit| Counter::Limit(Kind::Establishment, limit)));
-    all.insert(Counter::Limit(Kind::Modification, Limit::TeidsButForRemovals));
+    for test in [TeidTest::PeersLimit, TeidTest::Pool, TeidTest::OthersGuarantee] {
+        let limit = Limit::Teids(test, Need::ChosenButForRemovals);
+        all.insert(Counter::Limit(Kind::Modification, limit));
+    }
+    // What a restoration may name is free, so it passes the pool only by the other's guarantee.
+    for test in [TeidTest::PeersLimit, TeidTest::OthersGuarantee] {
+        let limit = Limit::Teids(test, Need::Restored);
+        all.insert(Counter::Limit(Kind::Establishment, limit));
+    }
     all.extend(ALL_SITES.map(Counter::Filled));
     all.extend(ALL_SITES.map(Counter::Full));
     all.insert(Counter::NoAddress(Kind::Establishment, NoAddress::AtAll));
@@ -183,7 +195,7 @@ fn expected_of_stage_5() -> BTreeSet<Counter> {
     all
 }
 
-const ALL_RULES: [Rule; 37] = [
+const ALL_RULES: [Rule; 39] = [
     Rule::PdrRemovedTwice,
     Rule::PdrCreatedTwice,
     Rule::PdrUpdatedTwice,
@@ -211,6 +223,7 @@ const ALL_RULES: [Rule; 37] = [
     Rule::RestoredWithOtherIpv4,
     Rule::RestoredWithOtherIpv6,
     Rule::RestoredHeldByAnotherSession,
+    Rule::RestoredHeldByOtherPeer,
     Rule::SharedByEndpoints,
     Rule::SharedByEndpointAndPdr,
     Rule::SharedWithOtherFamilies,
@@ -219,6 +232,7 @@ const ALL_RULES: [Rule; 37] = [
     Rule::EndpointAddressInsidePool,
     Rule::OwnAddressInsidePool,
     Rule::RestoredAddressOfAnotherSession,
+    Rule::RestoredAddressOfOtherPeer,
     Rule::PdrAddressChooseInRestoration,
     Rule::EndpointAddressChooseInRestoration,
 ];

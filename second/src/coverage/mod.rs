@@ -4,11 +4,13 @@ mod addresses;
 mod deeds;
 mod expected;
 mod host;
+mod peers;
 mod site;
 
 use std::collections::{BTreeMap, BTreeSet};
 use std::fmt;
 
+use crate::generate::Call;
 use crate::ie;
 use crate::request::fault::Place;
 use crate::request::framing::{elements, opens, Part};
@@ -17,12 +19,13 @@ use crate::session::Sessions;
 use crate::settings::Settings;
 use crate::unit::limits::{Limit, NoAddress};
 use crate::unit::rules::{Allocation, Rule, Unsupported};
-use crate::unit::{Decision, Reason};
+use crate::unit::{AtEntry, Decision, Reason, Refused};
 use addresses::deeds_of_addresses;
 use deeds::deeds;
 pub use deeds::Done;
 pub use expected::expected;
 pub use host::{Edge, HeaderFault};
+use peers::{deeds_of_peers, is_of_other};
 pub use site::Site;
 use site::{deeds_of_site, fills};
 
@@ -56,10 +59,12 @@ pub enum Counter {
     Rule(Rule),
     /// A kind of 75, counted where it is the only one.
     Limit(Kind, Limit),
-    /// An accepted establishment took the last place of a table with such a session limit.
+    /// An accepted establishment took the last place of a peer's half of such a session limit.
     Filled(Site),
-    /// An establishment was refused only because such a table was full.
+    /// An establishment was refused only because such a half was full.
     Full(Site),
+    /// No such session of the peer, while the other peer has one with this SEID.
+    OnlyOfOtherPeer(Kind),
     /// A kind of 79, which is always the only reason left.
     NoAddress(Kind, NoAddress),
     /// The first cause is reported while the second, of a later line, would hold as well.
@@ -119,18 +124,18 @@ impl Coverage {
     /// Counts one decision of a unit on a call, with its settings and the sessions before it.
     pub fn decided(
         &mut self,
-        message: &[u8],
-        reply_space: usize,
+        call: &Call,
         decision: &Decision,
         settings: &Settings,
         before: &Sessions,
     ) {
+        let Call { message, reply_space, .. } = call;
         let outcome = match decision {
             Decision::Outcome(number) => *number,
             _ => 0,
         };
         self.met(Counter::Outcome(outcome));
-        if let Some(edge) = host::edge(message, reply_space, outcome) {
+        if let Some(edge) = host::edge(message, *reply_space, outcome) {
             self.met(Counter::Edge(edge));
         }
         match decision {
@@ -141,42 +146,48 @@ impl Coverage {
             }
             Decision::Outcome(_) => {}
             Decision::Refused(refused) => {
-                let kind = refused.header.kind;
-                self.met(Counter::Cause(kind, refused.cause()));
-                self.refused(kind, &refused.reasons);
-                if matches!(
-                    refused.reasons[..],
-                    [Reason::Limit(Limit::Sessions | Limit::SessionsByRestoration)]
-                ) {
-                    self.met(Counter::Full(Site::of(settings)));
-                }
-                if let Reason::Fault(fault) = &refused.reasons[0] {
-                    if is_framing(fault) && passed_over(&refused.header, message) {
-                        self.met(Counter::FramingBeforeReading);
-                    }
-                }
+                let entry = AtEntry { settings, sessions: before, peer: refused.peer };
+                self.refused_at(entry, message, refused);
             }
-            Decision::Accepted { request, .. } => self.accepted(message, request, settings, before),
+            Decision::Accepted { peer, request, .. } => {
+                let entry = AtEntry { settings, sessions: before, peer: *peer };
+                self.accepted(entry, message, request);
+            }
         }
     }
 
-    fn accepted(
-        &mut self,
-        message: &[u8],
-        request: &Request,
-        settings: &Settings,
-        before: &Sessions,
-    ) {
+    fn refused_at(&mut self, entry: AtEntry, message: &[u8], refused: &Refused) {
+        let kind = refused.header.kind;
+        self.met(Counter::Cause(kind, refused.cause()));
+        self.refused(kind, &refused.reasons);
+        match refused.reasons[..] {
+            [Reason::Limit(Limit::Sessions | Limit::SessionsByRestoration)] => {
+                self.met(Counter::Full(Site::of(entry.settings)));
+            }
+            [Reason::NoSession, ..] if is_of_other(entry, refused.header.seid) => {
+                self.met(Counter::OnlyOfOtherPeer(kind));
+            }
+            [Reason::Fault(fault), ..]
+                if is_framing(&fault) && passed_over(&refused.header, message) =>
+            {
+                self.met(Counter::FramingBeforeReading);
+            }
+            _ => {}
+        }
+    }
+
+    fn accepted(&mut self, entry: AtEntry, message: &[u8], request: &Request) {
         let kind = request.header.kind;
         self.met(Counter::Cause(kind, 1));
         self.skipped(kind, Place::Top, Part::body(message));
-        if fills(settings, request, before) {
-            self.met(Counter::Filled(Site::of(settings)));
+        if fills(entry, request) {
+            self.met(Counter::Filled(Site::of(entry.settings)));
         }
-        let done = deeds(request, message, before)
+        let done = deeds(entry, request, message)
             .into_iter()
-            .chain(deeds_of_addresses(settings, request, before))
-            .chain(deeds_of_site(settings, request, before));
+            .chain(deeds_of_addresses(entry, request))
+            .chain(deeds_of_site(entry, request))
+            .chain(deeds_of_peers(entry, request));
         done.for_each(|done| self.met(Counter::Accepted(done)));
         for record in &request.records {
             if let Record::FqCsid(fq_csid) = record {

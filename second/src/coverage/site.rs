@@ -5,10 +5,11 @@ use std::collections::BTreeSet;
 use super::deeds::Done;
 use crate::element::f_teid::FTeid;
 use crate::request::{Kind, Request};
-use crate::session::{distinct_teids, Sessions};
+use crate::session::{count_of, distinct_teids, Sessions};
 use crate::settings::{Settings, LARGEST_LIMIT, LARGEST_POOL};
+use crate::unit::AtEntry;
 
-/// A session limit, by its size.
+/// A session limit, by how many sessions each peer has of it.
 #[derive(Clone, Copy, PartialEq, Eq, PartialOrd, Ord, Debug)]
 pub enum Site {
     One,
@@ -21,18 +22,19 @@ pub const ALL_SITES: [Site; 4] = [Site::One, Site::Few, Site::Many, Site::Larges
 
 impl Site {
     pub fn of(settings: &Settings) -> Site {
-        match settings.session_limit {
+        match settings.half() {
             1 => Site::One,
             2..=15 => Site::Few,
-            LARGEST_LIMIT => Site::Largest,
+            _ if settings.session_limit == LARGEST_LIMIT => Site::Largest,
             _ => Site::Many,
         }
     }
 }
 
-/// Whether a request that was accepted takes the last place.
-pub fn fills(settings: &Settings, request: &Request, before: &Sessions) -> bool {
-    request.header.kind == Kind::Establishment && settings.is_full(before.len() + 1)
+/// Whether a request that was accepted takes the peer's last place.
+pub fn fills(entry: AtEntry, request: &Request) -> bool {
+    let sessions = count_of(entry.sessions, entry.peer) + 1;
+    request.header.kind == Kind::Establishment && entry.settings.is_full(sessions)
 }
 
 /// Whether a TEID lies in the upper half of the map.
@@ -41,7 +43,8 @@ fn is_high(settings: &Settings, teid: u32) -> bool {
 }
 
 /// What an accepted request has done with TEIDs of a large pool, each thing once.
-pub fn deeds_of_site(settings: &Settings, request: &Request, before: &Sessions) -> BTreeSet<Done> {
+pub fn deeds_of_site(entry: AtEntry, request: &Request) -> BTreeSet<Done> {
+    let settings = entry.settings;
     let mut done = BTreeSet::new();
     for (f_teid, _) in request.f_teids() {
         match f_teid {
@@ -51,7 +54,7 @@ pub fn deeds_of_site(settings: &Settings, request: &Request, before: &Sessions) 
                     false => Done::RestoredHighTeid,
                 });
             }
-            FTeid::Choose { .. } if holds_high(settings, before) => {
+            FTeid::Choose { .. } if holds_high(settings, entry.sessions) => {
                 done.insert(Done::ChosenBelowHighTeid);
             }
             _ => {}

@@ -2,7 +2,7 @@
 
 use super::plan::*;
 use super::planner::Planner;
-use crate::session::{taken_addresses, Local, Session};
+use crate::session::{taken_addresses, Local, Session, MOST_PDRS};
 
 impl Planner<'_> {
     /// Adds one flaw that fits the plan's message. A flaw that finds nothing to work on adds none.
@@ -31,7 +31,7 @@ impl Planner<'_> {
 
     fn own(&self, plan: &Plan) -> Option<Session> {
         match plan.message_type {
-            MODIFICATION => self.live.get(&plan.seid).cloned(),
+            MODIFICATION => self.live_session(plan.seid).cloned(),
             _ => None,
         }
     }
@@ -189,10 +189,14 @@ impl Planner<'_> {
                     });
                 }
             }
+            14 => self.all_that_are_left(plan),
             _ => {
-                // A live SEID: 64.
+                // A live SEID: 64. Sometimes there is no address either.
                 if let (ESTABLISHMENT, Some(seid)) = (plan.message_type, self.live_seid()) {
                     plan.seid = seid;
+                    if self.random.percent(30) {
+                        self.push_address(plan, AddressAsk::Choose);
+                    }
                 }
             }
         }
@@ -200,8 +204,9 @@ impl Planner<'_> {
 
     fn flaw_of_restoration(&mut self, plan: &mut Plan) {
         let families = self.families();
-        match self.random.below(15) {
+        match self.random.below(18) {
             12..=14 => self.flaw_of_address(plan),
+            15..=17 => self.all_that_are_left(plan),
             0 | 1 => {
                 let last = self.settings.first + (self.settings.size - 1);
                 let outside = [
@@ -288,6 +293,19 @@ impl Planner<'_> {
         }
     }
 
+    /// As many TEIDs as the peer may still have, where they are few, or one more.
+    fn all_that_are_left(&mut self, plan: &mut Plan) {
+        let left = self.teids_left();
+        if left < MOST_PDRS {
+            plan.items.clear();
+            let families = self.families();
+            for _ in 0..left + self.random.below(2) {
+                let ask = self.fitting(plan, families);
+                self.push_pdr(plan, |pdr| pdr.ask = Some(ask));
+            }
+        }
+    }
+
     /// More than 16 PDRs.
     fn too_many_pdrs(&mut self, plan: &mut Plan) {
         let own = self.own(plan).map_or(0, |session| session.pdrs.len());
@@ -322,7 +340,7 @@ impl Planner<'_> {
         let pdr = pdrs.first().copied();
         let strange_pdr = self.unused_pdr_id(plan, Some(&own));
         let strange_endpoint = self.unused_endpoint_id(plan, Some(&own));
-        match (self.random.below(20), pdr) {
+        match (self.random.below(22), pdr) {
             (17, _) => {
                 // An address of the pool that the session holds.
                 let held: Vec<_> = own.pool_addresses(self.settings).into_iter().collect();
@@ -385,7 +403,7 @@ impl Planner<'_> {
                     }
                 }
             }
-            (flaw @ (9 | 10), _) => {
+            (flaw @ (9 | 10 | 20 | 21), _) => {
                 // A PDR that goes with its endpoint, and is updated or created again.
                 let mut along = pdrs.iter().filter_map(|id| match own.pdrs[id].local {
                     Local::Endpoint(endpoint) => Some((*id, endpoint)),
@@ -404,7 +422,7 @@ impl Planner<'_> {
                 plan.items.retain(|item| !names_it(item));
                 plan.items.push(Item::RemoveEndpoint(endpoint));
                 let item = match flaw {
-                    9 => self.update(id),
+                    9 | 20 => self.update(id),
                     _ => Item::CreatePdr(self.plain_pdr(id)),
                 };
                 plan.items.push(item);

@@ -6,6 +6,7 @@ pub mod damage;
 pub mod draft;
 pub mod flaws;
 pub mod largest;
+pub mod peers;
 pub mod plan;
 pub mod planner;
 pub mod random;
@@ -16,8 +17,8 @@ pub mod traffic;
 use std::net::Ipv4Addr;
 
 use crate::ie::LEAST_REPLY_SPACE;
-use crate::session::{Session, Sessions};
-use crate::settings::{Settings, LARGEST_LIMIT, LARGEST_POOL, MOST_ADDRESSES};
+use crate::session::{count_of, Key, Session, Sessions};
+use crate::settings::{Peer, Settings, LARGEST_LIMIT, LARGEST_POOL, MOST_ADDRESSES, PEERS};
 use draft::{lay_out, Draft, Node};
 use plan::{Plan, DELETION, ESTABLISHMENT, MODIFICATION, SET_DELETION};
 use planner::Planner;
@@ -51,12 +52,16 @@ pub struct Scenario {
     pub settings: Settings,
     pub calls: usize,
     pub flavour: Flavour,
+    /// The peer whose request comes next.
+    peer: u8,
     /// Sessions that were deleted, for restoring them.
     graves: Vec<(u64, Session)>,
 }
 
 #[derive(Clone, Debug)]
 pub struct Call {
+    /// The peer that the host names, mostly 1 or 2.
+    pub peer: u32,
     pub message: Vec<u8>,
     pub reply_space: usize,
 }
@@ -89,26 +94,30 @@ impl Generator {
             let address: [u8; 16] = std::array::from_fn(|_| random.octet());
             ipv6 = Some(address);
         }
+        let peers = match flavour.is_crowd() || random.percent(30) {
+            true => peers::generous(random, ipv4, size),
+            false => peers::any(random, ipv4, size),
+        };
         let settings =
-            Settings { ipv4, ipv6, first, size, first_address, addresses, session_limit };
-        Scenario { settings, calls, flavour, graves: vec![] }
+            Settings { ipv4, ipv6, first, size, first_address, addresses, session_limit, peers };
+        Scenario { settings, calls, flavour, peer: 1, graves: vec![] }
     }
 
     /// A crowd fills its table. The others have room enough for their SEIDs, or far too little.
     fn session_limit(&mut self, flavour: Flavour) -> u16 {
         self.random.pick(match flavour {
-            Flavour::Tight => &[1, 2, 4, 12, 12, 12],
-            Flavour::Middle => &[1, 2, 5, 12, 12, 64],
-            Flavour::Crowd => &[16, 17, 40, 64],
+            Flavour::Tight => &[2, 3, 4, 24, 24, 24],
+            Flavour::Middle => &[2, 5, 10, 24, 24, 64],
+            Flavour::Crowd => &[32, 33, 40, 64],
             Flavour::Site => &[LARGEST_LIMIT],
-            Flavour::Full => &[1, 2, 6, 6, 6, LARGEST_LIMIT],
+            Flavour::Full => &[2, 3, 12, 12, 12, LARGEST_LIMIT],
         })
     }
 
     fn teids(&mut self, flavour: Flavour) -> (u32, u32) {
         let random = &mut self.random;
         let size = match flavour {
-            Flavour::Tight => random.between(1, 6) as u32,
+            Flavour::Tight => random.between(1, 9) as u32,
             Flavour::Middle => random.between(8, 70) as u32,
             Flavour::Crowd => random.pick(&[200, 1000, LARGEST_POOL - 1, LARGEST_POOL]),
             Flavour::Site => LARGEST_POOL,
@@ -148,23 +157,30 @@ impl Generator {
         let mut limit = u32::from(settings.session_limit);
         let random = &mut self.random;
         let past_end = |first: u32| (u32::MAX - first).saturating_add(2);
-        match random.below(6) {
+        // With no dues at all any size is at fault by itself.
+        let no_dues = |peer: Peer| Peer { guarantee: 0, limit: 0, ..peer };
+        match random.below(9) {
             0 => settings.first = 0,
-            1 => settings.size = random.pick(&[0, LARGEST_POOL + 1, u32::MAX]),
+            1 => {
+                settings.size = random.pick(&[0, LARGEST_POOL + 1, u32::MAX]);
+                settings.peers = settings.peers.map(no_dues);
+            }
             2 => settings.addresses = random.pick(&[0, MOST_ADDRESSES + 1, u32::MAX]),
             3 => {
                 settings.first = u32::MAX - random.below(LARGEST_POOL as usize - 1) as u32;
                 settings.size = past_end(settings.first);
+                settings.peers = settings.peers.map(no_dues);
             }
             4 => {
                 let first = u32::MAX - random.below(MOST_ADDRESSES as usize - 1) as u32;
                 settings.first_address = first.into();
                 settings.addresses = past_end(first);
             }
-            _ => {
+            5 => {
                 let past = u32::from(LARGEST_LIMIT) + 1;
-                limit = random.pick(&[0, past, 0x1_0000, 0x1_0001, u32::MAX]);
+                limit = random.pick(&[0, 1, past, 0x1_0000, 0x1_0002, u32::MAX]);
             }
+            _ => settings.peers = peers::refused(random, settings.peers, settings.size),
         }
         (settings, limit)
     }
@@ -175,15 +191,31 @@ impl Generator {
             0 => self.random.between(LEAST_REPLY_SPACE, 4096),
             _ => LEAST_REPLY_SPACE,
         };
-        // A crowd has to gather first.
-        let gathering = scenario.flavour.is_crowd() && !scenario.settings.is_full(live.len());
+        scenario.peer = self.random.pick(&PEERS);
+        // A crowd has to gather first, of both peers.
+        let has_room = |peer: u8| !scenario.settings.is_full(count_of(live, peer));
+        let gathering = scenario.flavour.is_crowd() && PEERS.into_iter().any(has_room);
         let eager = if scenario.flavour == Flavour::Site { 95 } else { 60 };
+        if gathering && self.random.percent(eager) {
+            scenario.peer = PEERS.into_iter().rfind(|peer| has_room(*peer)).unwrap_or(1);
+            let message = self.sound(scenario, live).octets();
+            return Call { peer: scenario.peer.into(), message, reply_space };
+        }
+        let mut call = self.any_call(scenario, live, reply_space);
+        if self.random.percent(2) {
+            call.peer = self.random.pick(&[0, 3, 0x101, 0x0100_0000, u32::MAX]);
+        }
+        call
+    }
+
+    /// A call of the scenario's peer, of any kind.
+    fn any_call(&mut self, scenario: &mut Scenario, live: &Sessions, reply_space: usize) -> Call {
+        let peer = u32::from(scenario.peer);
         let message = match self.random.below(100) {
-            _ if gathering && self.random.percent(eager) => self.sound(scenario, live).octets(),
             0..=2 => {
                 let message = self.sound(scenario, live).octets();
                 let reply_space = self.random.pick(&[0, 1, 16, 1024, 1278, 1279]);
-                return Call { message, reply_space };
+                return Call { peer, message, reply_space };
             }
             3..=5 => self.of_edge_length(scenario, live),
             6..=9 => self.with_wrong_header(scenario, live),
@@ -197,12 +229,12 @@ impl Generator {
             53..=78 => self.flawed(scenario, live).octets(),
             _ => self.sound(scenario, live).octets(),
         };
-        Call { message, reply_space }
+        Call { peer, message, reply_space }
     }
 
     fn planner<'a>(&'a mut self, scenario: &'a Scenario, live: &'a Sessions) -> Planner<'a> {
-        let (settings, flavour) = (&scenario.settings, scenario.flavour);
-        Planner { random: &mut self.random, settings, live, flavour }
+        let (settings, flavour, peer) = (&scenario.settings, scenario.flavour, scenario.peer);
+        Planner { random: &mut self.random, settings, live, flavour, peer }
     }
 
     /// A plan that fits the live sessions.
@@ -210,7 +242,7 @@ impl Generator {
         let graves = scenario.graves.clone();
         let mut planner = self.planner(scenario, live);
         let Some(seid) = planner.live_seid() else { return planner.establishment() };
-        let nearly_full = planner.settings.is_full(live.len() + 2);
+        let nearly_full = planner.settings.is_full(count_of(live, planner.peer) + 2);
         // Of a hundred: establishments, modifications, restorations; the rest are deletions, one by
         // one or by sets.
         let (establishments, modifications, restorations) = match planner.flavour {
@@ -232,7 +264,8 @@ impl Generator {
             planner.set_deletion()
         } else {
             let plan = planner.deletion(seid);
-            scenario.graves.push((seid, live[&seid].clone()));
+            let key = Key { peer: scenario.peer, seid };
+            scenario.graves.push((seid, live[&key].clone()));
             if scenario.graves.len() > 8 {
                 scenario.graves.remove(0);
             }
@@ -387,7 +420,7 @@ impl Generator {
 
     /// A right header and random elements, most of them of types that the rules name.
     fn soup(&mut self, live: &Sessions) -> Vec<u8> {
-        let seids: Vec<u64> = live.keys().copied().collect();
+        let seids: Vec<u64> = live.keys().map(|key| key.seid).collect();
         let seid = if seids.is_empty() { 1 } else { self.random.pick(&seids) };
         let message_type =
             self.random.pick(&[ESTABLISHMENT, MODIFICATION, MODIFICATION, DELETION, SET_DELETION]);

@@ -7,8 +7,10 @@ use super::plan::*;
 use super::random::Random;
 use super::Flavour;
 use crate::element::fq_csid::NodeId;
-use crate::session::{distinct_teids, taken_addresses, HeldCsid, Session, Sessions};
-use crate::settings::Settings;
+use crate::session::{
+    distinct_teids, holdings, of_peer, taken_addresses, HeldCsid, Key, Session, Sessions,
+};
+use crate::settings::{other_peer, Settings};
 
 /// How many TEIDs of the pool are looked at for a restoration: more than a session holds.
 const MOST_LISTED: u32 = 100;
@@ -18,6 +20,8 @@ pub struct Planner<'a> {
     pub settings: &'a Settings,
     pub live: &'a Sessions,
     pub flavour: Flavour,
+    /// The peer whose request is planned.
+    pub peer: u8,
 }
 
 /// The Node-ID type and the address octets.
@@ -91,16 +95,31 @@ impl Planner<'_> {
             _ => 10,
         };
         let mut rest: Vec<u64> = (1..=last).chain([u64::MAX, 1 << 63]).collect();
-        rest.retain(|seid| !self.live.contains_key(seid));
+        rest.retain(|seid| self.live_session(*seid).is_none());
         match rest.is_empty() {
             true => self.random.number() | 1 << 40,
             false => self.random.pick(&rest),
         }
     }
 
+    /// The peer's session with this SEID.
+    pub fn live_session(&self, seid: u64) -> Option<&Session> {
+        self.live.get(&Key { peer: self.peer, seid })
+    }
+
+    /// A SEID that lives with the peer.
     pub fn live_seid(&mut self) -> Option<u64> {
-        let seids: Vec<u64> = self.live.keys().copied().collect();
+        let seids: Vec<u64> = of_peer(self.live, self.peer).map(|(key, _)| key.seid).collect();
         (!seids.is_empty()).then(|| self.random.pick(&seids))
+    }
+
+    /// How many TEIDs the peer may still have: up to its limit, and to what is kept for the other.
+    pub fn teids_left(&self) -> usize {
+        let other = other_peer(self.peer);
+        let (held, of_other) = (holdings(self.live, self.peer), holdings(self.live, other));
+        let kept = of_other.max(self.settings.peer(other).guarantee as usize);
+        let by_limit = self.settings.peer(self.peer).limit as usize - held;
+        by_limit.min(self.settings.size as usize - held - kept)
     }
 
     // Values.

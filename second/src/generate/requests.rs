@@ -89,7 +89,8 @@ impl Planner<'_> {
     pub fn restoration(&mut self, graves: &[(u64, Session)]) -> Plan {
         if !graves.is_empty() && self.random.percent(50) {
             let (seid, session) = self.random.pick(graves);
-            let seid = if self.live.contains_key(&seid) { self.unused_seid() } else { seid };
+            let lives = self.live_session(seid).is_some();
+            let seid = if lives { self.unused_seid() } else { seid };
             return self.restoration_of(seid, &session);
         }
         let seid = self.unused_seid();
@@ -187,7 +188,7 @@ impl Planner<'_> {
     }
 
     pub fn modification(&mut self, seid: u64) -> Plan {
-        let own = self.live[&seid].clone();
+        let own = self.live_session(seid).cloned().unwrap_or_default();
         let mut plan = Plan { message_type: MODIFICATION, seid, restoration: false, items: vec![] };
         if self.random.percent(4) {
             return plan;
@@ -269,8 +270,8 @@ impl Planner<'_> {
         plan
     }
 
-    /// Lists FQ-CSIDs that live sessions hold, near misses, and others; sometimes none, or one of
-    /// every session that holds any.
+    /// Lists FQ-CSIDs that live sessions of both peers hold, near misses, and others; sometimes none, or
+    /// one of every session that holds any.
     pub fn set_deletion(&mut self) -> Plan {
         let mut plan =
             Plan { message_type: SET_DELETION, seid: 0, restoration: false, items: vec![] };

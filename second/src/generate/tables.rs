@@ -5,14 +5,14 @@
 use std::collections::BTreeSet;
 use std::net::Ipv4Addr;
 
-use super::largest;
 use super::random::Random;
+use super::{largest, peers};
 use crate::element::fq_csid::{NodeId, LARGEST_COUNTRY_AND_NETWORK, LAST_NODE_TYPE};
 use crate::session::{
-    records_hold, Endpoint, Families, HeldCsid, Local, Pdr, Session, Sessions, Tunnel,
+    records_hold, Endpoint, Families, HeldCsid, Key, Local, Pdr, Session, Sessions, Tunnel,
     MOST_ENDPOINTS, MOST_PDRS,
 };
-use crate::settings::{Settings, LARGEST_POOL, MOST_ADDRESSES};
+use crate::settings::{Peer, Settings, LARGEST_POOL, MOST_ADDRESSES, PEERS};
 
 /// How many sessions and records a table has.
 #[derive(Clone, Copy, PartialEq, Eq, Debug)]
@@ -23,7 +23,8 @@ pub enum Filling {
     Full,
 }
 
-/// Settings with room for everything: the pool has as many TEIDs as a table can hold, or more.
+/// Settings with room for everything: the pool has as many TEIDs as a table can hold, or more, and each
+/// peer may have its half of them.
 pub fn settings(random: &mut Random, ipv6: bool, session_limit: u16) -> Settings {
     let needed = largest::TEIDS * u32::from(session_limit);
     let size = random.pick(&[needed, needed + 1, LARGEST_POOL]);
@@ -32,7 +33,18 @@ pub fn settings(random: &mut Random, ipv6: bool, session_limit: u16) -> Settings
     let ipv6 = ipv6.then(|| std::array::from_fn(|_| random.octet()));
     let addresses = random.pick(&[1, 64, 65, MOST_ADDRESSES - 1, MOST_ADDRESSES]);
     let first_address = random.pick(&[0, 0x0A2D_0000, u32::MAX - (addresses - 1)]).into();
-    Settings { ipv4, ipv6, first, size, first_address, addresses, session_limit }
+    let peers = dues(random, ipv4, size, session_limit);
+    Settings { ipv4, ipv6, first, size, first_address, addresses, session_limit, peers }
+}
+
+/// Guarantees of up to half of the pool, and limits from what a peer's sessions can hold.
+fn dues(random: &mut Random, ipv4: [u8; 4], size: u32, session_limit: u16) -> [Peer; 2] {
+    let most = largest::TEIDS * u32::from(session_limit / 2);
+    peers::addresses(random, ipv4).map(|address| {
+        let guarantee = random.pick(&[0, 1, most, size / 2]);
+        let limit = random.pick(&[most.max(guarantee), size]);
+        Peer { address, guarantee, limit }
+    })
 }
 
 /// What of the pools no session of the table holds yet.
@@ -78,15 +90,18 @@ impl Free {
 pub fn sessions(random: &mut Random, settings: &Settings, filling: Filling) -> Sessions {
     let mut free = Free::all(random, settings);
     let mut sessions = Sessions::new();
-    let limit = usize::from(settings.session_limit);
-    let many = match filling {
-        Filling::Some => random.between(1, limit),
-        Filling::Full => limit,
-    };
-    while sessions.len() < many {
-        let seid = any_of(random, u64::MAX).max(1);
-        let session = session(random, settings, filling, &mut free);
-        sessions.entry(seid).or_insert(session);
+    for peer in PEERS {
+        let before = sessions.len();
+        let many = match filling {
+            // Of both peers, or of one alone.
+            Filling::Some => random.between(usize::from(before == 0 && peer == 2), settings.half()),
+            Filling::Full => settings.half(),
+        };
+        while sessions.len() < before + many {
+            let seid = any_of(random, u64::MAX).max(1);
+            let session = session(random, settings, filling, &mut free);
+            sessions.entry(Key { peer, seid }).or_insert(session);
+        }
     }
     assert_eq!(records_hold(settings, &sessions), Ok(()));
     sessions

@@ -6,24 +6,25 @@ use super::grants::{self, Grant, Owner};
 use crate::element::f_teid::FTeid;
 use crate::element::ue_ip::UeIp;
 use crate::request::{FarChange, Kind, Record, Request};
-use crate::session::{Endpoint, HeldCsid, Local, Pdr, Session, Sessions, Tunnel};
+use crate::session::{Endpoint, HeldCsid, Key, Local, Pdr, Session, Sessions, Tunnel};
 
-pub fn apply(sessions: &mut Sessions, request: &Request, grants: &[Grant]) {
+/// "Sessions, set deletions and stores of repeats are kept by peer".
+pub fn apply(sessions: &mut Sessions, peer: u8, request: &Request, grants: &[Grant]) {
     let seid = match (&request.f_seid, request.header.kind) {
         // "only the SEID is kept"
         (Some(f_seid), _) => f_seid.seid,
         (None, Kind::Deletion) => {
             // "Deletion removes the session whole."
-            sessions.remove(&request.header.seid);
+            sessions.remove(&Key { peer, seid: request.header.seid });
             return;
         }
         (None, Kind::SetDeletion) => {
-            sessions.retain(|_, session| !session.is_lost_by(request));
+            sessions.retain(|key, session| key.peer != peer || !session.is_lost_by(request));
             return;
         }
         (None, _) => request.header.seid,
     };
-    let session = sessions.entry(seid).or_default();
+    let session = sessions.entry(Key { peer, seid }).or_default();
     remove(session, request);
     for record in &request.records {
         create_endpoint(session, record, grants);

@@ -7,17 +7,18 @@ use crate::request::{Fault, Header, Request};
 
 #[derive(Clone, PartialEq, Eq, Debug)]
 pub enum Decision {
-    /// Host outcomes 2 to 5: nothing is written.
+    /// Host outcomes 2 to 5 and 7: nothing is written.
     Outcome(u8),
     /// A cause other than 1.
     Refused(Refused),
     /// Cause 1.
-    Accepted { request: Request, grants: Vec<Grant> },
+    Accepted { peer: u8, request: Request, grants: Vec<Grant> },
 }
 
 /// A refusal. The first reason decides; the others hold as well and are kept for the tests.
 #[derive(Clone, PartialEq, Eq, Debug)]
 pub struct Refused {
+    pub peer: u8,
     pub header: Header,
     pub reasons: Vec<Reason>,
 }

@@ -25,20 +25,23 @@ pub struct Grant {
 }
 
 /// How many TEIDs the request needs: "Each CHOOSE without an ID takes a TEID of its own; CHOOSE IDs
-/// that are equal within one request share one."
+/// that are equal within one request share one." Restorations have "the different TEIDs they name as
+/// their need".
 pub fn needed(request: &Request) -> usize {
     let mut own = 0;
     let mut ids = BTreeSet::new();
+    let mut restored = BTreeSet::new();
     for (f_teid, _) in request.f_teids() {
         match f_teid {
-            FTeid::Choose { choose_id: Some(id), .. } => {
-                ids.insert(*id);
-            }
+            FTeid::Choose { choose_id: Some(id), .. } => drop(ids.insert(*id)),
             FTeid::Choose { choose_id: None, .. } => own += 1,
-            FTeid::Given { .. } => {}
+            FTeid::Given { teid, .. } => drop(restored.insert(*teid)),
         }
     }
-    own + ids.len()
+    match request.restoration {
+        true => restored.len(),
+        false => own + ids.len(),
+    }
 }
 
 /// "TEIDs are the lowest free at entry, to endpoints in request order and then to PDRs at first

@@ -1,13 +1,13 @@
-//! Stage 5, cause 75: more sessions than the session limit, "16 PDRs or 8 endpoints would result, or
-//! more TEIDs are needed than are free at entry"; then cause 79: "A CHOOSE with no free address".
+//! Stage 5, cause 75: more sessions than the peer's half, "16 PDRs or 8 endpoints would result", or the
+//! peer has too few TEIDs; then cause 79: "A CHOOSE with no free address".
 
 use std::collections::BTreeSet;
 
-use super::{grants, Reason};
+use super::{grants, AtEntry, Reason};
 use crate::request::{Kind, Record, Request};
-use crate::session::{distinct_teids, taken_addresses, Session, Sessions};
+use crate::session::{count_of, holdings, taken_addresses, Session};
 use crate::session::{MOST_ENDPOINTS, MOST_PDRS};
-use crate::settings::Settings;
+use crate::settings::other_peer;
 
 #[derive(Clone, Copy, PartialEq, Eq, PartialOrd, Ord, Debug)]
 pub enum Limit {
@@ -17,10 +17,28 @@ pub enum Limit {
     PdrsByRestoration,
     Endpoints,
     EndpointsByRestoration,
-    Teids,
+    /// Too few TEIDs: by which test, and for what need.
+    Teids(TeidTest, Need),
+}
+
+/// "A request needing TEIDs is 75 if the peer's holdings at entry plus its need pass its limit, or if
+/// all holdings at entry, the need, and the other peer's unused guarantee together pass the pool."
+#[derive(Clone, Copy, PartialEq, Eq, PartialOrd, Ord, Debug)]
+pub enum TeidTest {
+    PeersLimit,
+    /// The pool, also without what is kept for the other peer.
+    Pool,
+    /// The pool, only by what is kept for the other peer.
+    OthersGuarantee,
+}
+
+#[derive(Clone, Copy, PartialEq, Eq, PartialOrd, Ord, Debug)]
+pub enum Need {
+    Chosen,
     /// There would be enough if the request's own removals freed their TEIDs at once: "A TEID freed
     /// by a request is free from the next call on (H)."
-    TeidsButForRemovals,
+    ChosenButForRemovals,
+    Restored,
 }
 
 /// 79, and whether the request's own removals would leave an address free, which they do "from the
@@ -31,12 +49,9 @@ pub enum NoAddress {
     ButForRemovals,
 }
 
-pub fn passed(settings: &Settings, sessions: &Sessions, request: &Request) -> Vec<Reason> {
+pub fn passed(entry: AtEntry, request: &Request) -> Vec<Reason> {
     let mut found = Vec::new();
-    let own = match request.header.kind {
-        Kind::Establishment => None,
-        _ => sessions.get(&request.header.seid),
-    };
+    let own = entry.own(request);
     // The limits count live minus removed plus created; a PDR that goes with its endpoint is
     // removed.
     let mut pdrs: BTreeSet<u16> = own.map_or(BTreeSet::new(), |s| s.pdrs.keys().copied().collect());
@@ -58,7 +73,8 @@ pub fn passed(settings: &Settings, sessions: &Sessions, request: &Request) -> Ve
         };
     }
     let by = |restoration, otherwise| if request.restoration { restoration } else { otherwise };
-    if request.header.kind == Kind::Establishment && settings.is_full(sessions.len()) {
+    let sessions = count_of(entry.sessions, entry.peer);
+    if request.header.kind == Kind::Establishment && entry.settings.is_full(sessions) {
         found.push(by(Limit::SessionsByRestoration, Limit::Sessions));
     }
     if pdrs.len() > MOST_PDRS {
@@ -67,16 +83,40 @@ pub fn passed(settings: &Settings, sessions: &Sessions, request: &Request) -> Ve
     if endpoints.len() > MOST_ENDPOINTS {
         found.push(by(Limit::EndpointsByRestoration, Limit::Endpoints));
     }
-    let free = settings.size as usize - distinct_teids(sessions).len();
-    let needed = grants::needed(request);
-    if needed > free {
-        let freed = own.map_or(0, |own| freed_by_removals(own, &pdrs, &endpoints));
-        found.push(match needed <= free + freed {
-            true => Limit::TeidsButForRemovals,
-            false => Limit::Teids,
-        });
-    }
+    let freed = own.map_or(0, |own| freed_by_removals(own, &pdrs, &endpoints));
+    found.extend(too_few_teids(entry, request, freed));
     found.into_iter().map(Reason::Limit).collect()
+}
+
+/// The tests of TEIDs that a request does not pass. How many its removals free only names the kind.
+fn too_few_teids(entry: AtEntry, request: &Request, freed: usize) -> Vec<Limit> {
+    let AtEntry { settings, sessions, peer } = entry;
+    let need = grants::needed(request);
+    if need == 0 {
+        return vec![];
+    }
+    let other = other_peer(peer);
+    let (held, held_by_other) = (holdings(sessions, peer), holdings(sessions, other));
+    let kept = (settings.peer(other).guarantee as usize).saturating_sub(held_by_other);
+    let (limit, size) = (settings.peer(peer).limit as usize, settings.size as usize);
+    let taken = held + held_by_other + need;
+    let mut found = Vec::new();
+    let mut pass = |test, total: usize, most: usize| {
+        let why = match (request.restoration, total - freed <= most) {
+            (true, _) => Need::Restored,
+            (false, true) => Need::ChosenButForRemovals,
+            (false, false) => Need::Chosen,
+        };
+        if total > most {
+            found.push(Limit::Teids(test, why));
+        }
+    };
+    pass(TeidTest::PeersLimit, held + need, limit);
+    match taken > size {
+        true => pass(TeidTest::Pool, taken + kept, size),
+        false => pass(TeidTest::OthersGuarantee, taken + kept, size),
+    }
+    found
 }
 
 /// How many TEIDs the request's removals free, for naming the kind of 75 only.
@@ -90,7 +130,8 @@ fn freed_by_removals(own: &Session, pdrs: &BTreeSet<u16>, endpoints: &BTreeSet<u
 }
 
 /// Cause 79. All CHOOSE flags of a request share one address, so one that is free is enough.
-pub fn no_address(settings: &Settings, sessions: &Sessions, request: &Request) -> Option<Reason> {
+pub fn no_address(entry: AtEntry, request: &Request) -> Option<Reason> {
+    let AtEntry { settings, sessions, .. } = entry;
     let taken = taken_addresses(settings, sessions);
     if request.restoration
         || !request.chooses_address()
@@ -99,10 +140,7 @@ pub fn no_address(settings: &Settings, sessions: &Sessions, request: &Request) -
         return None;
     }
     let nothing = Session::default();
-    let own = match request.header.kind {
-        Kind::Modification => sessions.get(&request.header.seid).unwrap_or(&nothing),
-        _ => &nothing,
-    };
+    let own = entry.own(request).unwrap_or(&nothing);
     let mut after = own.clone();
     let removed = own.removed_by(request);
     after.pdrs.retain(|id, _| !removed.contains(id));

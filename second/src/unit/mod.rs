@@ -8,9 +8,10 @@ pub mod reply;
 pub mod rules;
 
 use crate::ie::LEAST_REPLY_SPACE;
-use crate::request;
-use crate::session::{distinct_teids, taken_addresses, Sessions};
-use crate::settings::{Settings, LARGEST_POOL, MOST_ADDRESSES};
+use crate::request::{self, Kind, Request};
+use crate::session::{count_of, distinct_teids, holdings, taken_addresses};
+use crate::session::{Key, Session, Sessions};
+use crate::settings::{named_peer, Settings, LARGEST_POOL, MOST_ADDRESSES};
 pub use decision::{Decision, Reason, Refused};
 pub use grants::{Grant, Owner};
 
@@ -22,6 +23,32 @@ pub struct Outcome {
     pub number: u8,
     pub reply_length: usize,
     pub place: usize,
+}
+
+/// The outcome for "any other number" than a peer's, "tested first".
+pub const NO_PEER: u8 = 7;
+
+/// What a request meets at entry: the settings, the live sessions, and the peer that the host names.
+#[derive(Clone, Copy)]
+pub struct AtEntry<'a> {
+    pub settings: &'a Settings,
+    pub sessions: &'a Sessions,
+    pub peer: u8,
+}
+
+impl<'a> AtEntry<'a> {
+    /// A session of this peer.
+    pub fn session(&self, seid: u64) -> Option<&'a Session> {
+        self.sessions.get(&Key { peer: self.peer, seid })
+    }
+
+    /// The session that a request changes; an establishment starts from none.
+    pub fn own(&self, request: &Request) -> Option<&'a Session> {
+        match request.header.kind {
+            Kind::Establishment => None,
+            _ => self.session(request.header.seid),
+        }
+    }
 }
 
 /// The words of the maps: as many as the largest pools need.
@@ -63,6 +90,13 @@ impl Unit {
         self.settings.size - distinct_teids(&self.sessions).len() as u32
     }
 
+    /// How many sessions a peer has, and its holdings of TEIDs; nothing where there is no such peer.
+    pub fn peer_count(&self, peer: u32) -> Option<(u32, u32)> {
+        let peer = named_peer(peer)?;
+        let sessions = count_of(&self.sessions, peer);
+        Some((sessions as u32, holdings(&self.sessions, peer) as u32))
+    }
+
     /// "The map of taken TEIDs", which "grows to 1,024 words": word k, bit i is the TEID first + 64 k
     /// + i; bits at or past the pool size are 0.
     pub fn taken_map(&self) -> [u64; TEID_WORDS] {
@@ -81,8 +115,10 @@ impl Unit {
         map_of(taken.into_iter().filter_map(|address| self.settings.address_place(address)))
     }
 
-    /// What the rules say about a message, without doing it.
-    pub fn decide(&self, message: &[u8], reply_space: usize) -> Decision {
+    /// What the rules say about a message of a peer, without doing it.
+    pub fn decide(&self, peer: u32, message: &[u8], reply_space: usize) -> Decision {
+        let Some(peer) = named_peer(peer) else { return Decision::Outcome(NO_PEER) };
+        let entry = AtEntry { settings: &self.settings, sessions: &self.sessions, peer };
         if reply_space < LEAST_REPLY_SPACE {
             return Decision::Outcome(2);
         }
@@ -90,10 +126,10 @@ impl Unit {
             Ok(header) => header,
             Err(outcome) => return Decision::Outcome(outcome),
         };
-        let refused = |reasons| Decision::Refused(Refused { header, reasons });
+        let refused = |reasons| Decision::Refused(Refused { peer, header, reasons });
         // Stage 1: "no such session (52, 54)".
         let mut reasons = Vec::new();
-        if header.kind.names_session() && !self.sessions.contains_key(&header.seid) {
+        if header.kind.names_session() && entry.session(header.seid).is_none() {
             reasons.push(Reason::NoSession);
         }
         // Stages 2 and 3.
@@ -104,28 +140,28 @@ impl Unit {
             _ => return refused(reasons),
         };
         // Stages 4 and 5, in the order of the causes table.
-        reasons.extend(rules::broken(&self.settings, &self.sessions, &request));
-        reasons.extend(limits::passed(&self.settings, &self.sessions, &request));
+        reasons.extend(rules::broken(entry, &request));
+        reasons.extend(limits::passed(entry, &request));
         // "tested after 75"
-        reasons.extend(limits::no_address(&self.settings, &self.sessions, &request));
+        reasons.extend(limits::no_address(entry, &request));
         if !reasons.is_empty() {
             return refused(reasons);
         }
         let grants = grants::allot(&self.settings, &self.sessions, &request);
-        Decision::Accepted { request, grants }
+        Decision::Accepted { peer, request, grants }
     }
 
-    /// One request: the reply is written at the front of the space, and the space after it stays.
-    /// "Any cause but 1 leaves the table unchanged."
-    pub fn request(&mut self, message: &[u8], reply_space: &mut [u8]) -> Outcome {
-        let (reply, place) = match self.decide(message, reply_space.len()) {
+    /// One request of a peer: the reply is written at the front of the space, and the space after it
+    /// stays. "Any cause but 1 leaves the table unchanged."
+    pub fn request(&mut self, peer: u32, message: &[u8], reply_space: &mut [u8]) -> Outcome {
+        let (reply, place) = match self.decide(peer, message, reply_space.len()) {
             Decision::Outcome(number) => return Outcome { number, reply_length: 0, place: 0 },
             Decision::Refused(refused) => {
                 (reply::refusal(&self.settings, &refused), refused.place())
             }
-            Decision::Accepted { request, grants } => {
-                apply::apply(&mut self.sessions, &request, &grants);
-                (reply::acceptance(&self.settings, &request, &grants), 0)
+            Decision::Accepted { peer, request, grants } => {
+                apply::apply(&mut self.sessions, peer, &request, &grants);
+                (reply::acceptance(&self.settings, peer, &request, &grants), 0)
             }
         };
         reply_space[..reply.len()].copy_from_slice(&reply);

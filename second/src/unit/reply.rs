@@ -2,6 +2,8 @@
 //! Offending IE, then on acceptance F-SEID [..], a Created PDR 8 for each CHOOSE, then a Created
 //! Traffic Endpoint 128 likewise, each kind in request order". To a set deletion "Node ID, Cause,
 //! Offending IE", behind a header without SEID. "A record's one Created group lists what was chosen".
+//! "Each peer has its own signalling IPv4 address on the unit [..], used in its replies' Node ID and
+//! F-SEID".
 
 use super::grants::{self, Grant, Owner};
 use super::Refused;
@@ -23,21 +25,21 @@ pub fn refusal(settings: &Settings, refused: &Refused) -> Vec<u8> {
         (Kind::Establishment, _) | (_, NO_SESSION) => 0,
         _ => header.seid,
     };
-    let mut body = front(settings, header.kind, refused.cause());
+    let mut body = front(settings, refused.peer, header.kind, refused.cause());
     if let Some(offending) = refused.offending() {
         body.extend(element(ie::OFFENDING_IE, &offending.to_be_bytes()));
     }
     with_header(header, seid, &body)
 }
 
-pub fn acceptance(settings: &Settings, request: &Request, grants: &[Grant]) -> Vec<u8> {
+pub fn acceptance(settings: &Settings, peer: u8, request: &Request, grants: &[Grant]) -> Vec<u8> {
     let header = &request.header;
     let mut seid = header.seid;
-    let mut body = front(settings, header.kind, ACCEPTED);
+    let mut body = front(settings, peer, header.kind, ACCEPTED);
     if let Some(asked) = &request.f_seid {
         // "IPv4 only; the unit's SEID equals the peer's, H"
         seid = asked.seid;
-        let own = FSeid { seid, ipv4: Some(settings.ipv4), ipv6: None };
+        let own = FSeid { seid, ipv4: Some(settings.peer(peer).address), ipv6: None };
         let mut space = [0; 13];
         let length = f_seid::write(&own, &mut space).expect("a live SEID is not 0");
         body.extend(element(ie::F_SEID, &space[..length]));
@@ -59,12 +61,12 @@ pub fn acceptance(settings: &Settings, request: &Request, grants: &[Grant]) -> V
     with_header(header, seid, &body)
 }
 
-/// What every reply of this kind starts with.
-fn front(settings: &Settings, kind: Kind, cause: u8) -> Vec<u8> {
+/// What every reply of this kind to this peer starts with.
+fn front(settings: &Settings, peer: u8, kind: Kind, cause: u8) -> Vec<u8> {
     let mut body = Vec::new();
     if matches!(kind, Kind::Establishment | Kind::SetDeletion) {
         let mut node = vec![0];
-        node.extend(settings.ipv4);
+        node.extend(settings.peer(peer).address);
         body.extend(element(ie::NODE_ID, &node));
     }
     body.extend(element(ie::CAUSE, &[cause]));

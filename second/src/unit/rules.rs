@@ -2,12 +2,13 @@
 //! given, in the order of the causes, so that the tests can see which rules stood alone.
 
 use std::collections::{BTreeMap, BTreeSet};
+use std::net::Ipv4Addr;
 
-use super::Reason;
+use super::{AtEntry, Reason};
 use crate::element::f_teid::FTeid;
 use crate::element::ue_ip::UeIp;
-use crate::request::{Kind, Pdi, Record, Request};
-use crate::session::{distinct_teids, taken_addresses, Families, Session, Sessions};
+use crate::request::{Pdi, Record, Request};
+use crate::session::{distinct_teids, of_peer, taken_addresses, Families, Session};
 use crate::settings::Settings;
 
 /// 71: "F-TEID without CH outside restoration, or with CH inside it".
@@ -68,8 +69,9 @@ pub enum Rule {
     // with another address,
     RestoredWithOtherIpv4,
     RestoredWithOtherIpv6,
-    // held by another session,
+    // held by another session, of this peer or of the other,
     RestoredHeldByAnotherSession,
+    RestoredHeldByOtherPeer,
     // or shared against the table's rule"
     SharedByEndpoints,
     SharedByEndpointAndPdr,
@@ -80,25 +82,26 @@ pub enum Rule {
     PdrAddressInsidePool,
     EndpointAddressInsidePool,
     OwnAddressInsidePool,
-    // "a restored pool address held by another session is 73"
+    // "a restored pool address held by another session is 73", of this peer or of the other
     RestoredAddressOfAnotherSession,
+    RestoredAddressOfOtherPeer,
     // "CHOOSE inside one is 73"
     PdrAddressChooseInRestoration,
     EndpointAddressChooseInRestoration,
 }
 
 /// Every reason of stage 4 that holds for a request.
-pub fn broken(settings: &Settings, sessions: &Sessions, request: &Request) -> Vec<Reason> {
+pub fn broken(entry: AtEntry, request: &Request) -> Vec<Reason> {
     let mut reasons = Vec::new();
     if let Some(f_seid) = &request.f_seid {
-        // 64: "establishment of a live SEID"
-        if sessions.contains_key(&f_seid.seid) {
+        // 64: "establishment of a live SEID", of this peer's
+        if entry.session(f_seid.seid).is_some() {
             reasons.push(Reason::LiveSeid);
         }
     }
     reasons.extend(allocations(request).into_iter().map(Reason::Allocation));
     reasons.extend(unsupported(request).into_iter().map(Reason::Unsupported));
-    reasons.extend(conflicts(settings, sessions, request).into_iter().map(Reason::Rule));
+    reasons.extend(conflicts(entry, request).into_iter().map(Reason::Rule));
     reasons
 }
 
@@ -166,13 +169,11 @@ fn has_repeat<T: Ord>(ids: &[T]) -> bool {
 }
 
 /// The broken rules of 73.
-fn conflicts(settings: &Settings, sessions: &Sessions, request: &Request) -> BTreeSet<Rule> {
+fn conflicts(entry: AtEntry, request: &Request) -> BTreeSet<Rule> {
+    let settings = entry.settings;
     let nothing = Session::default();
-    // What the request changes, as it stands at entry: an establishment starts from nothing.
-    let own = match request.header.kind {
-        Kind::Establishment => &nothing,
-        _ => sessions.get(&request.header.seid).unwrap_or(&nothing),
-    };
+    // What the request changes, as it stands at entry.
+    let own = entry.own(request).unwrap_or(&nothing);
     let named = Named::of(request);
     let mut found = BTreeSet::new();
     found.extend(verbs(own, &named, &own.removed_by(request)));
@@ -180,11 +181,11 @@ fn conflicts(settings: &Settings, sessions: &Sessions, request: &Request) -> BTr
     found.extend(choose_ids(request));
     found.extend(families(settings, request));
     found.extend(match request.restoration {
-        true => restored_addresses(settings, sessions, request),
+        true => restored_addresses(entry, request),
         false => given_addresses(settings, own, request),
     });
     if request.restoration {
-        found.extend(restored(settings, sessions, request));
+        found.extend(restored(entry, request));
     }
     found
 }
@@ -303,14 +304,21 @@ fn given_addresses(settings: &Settings, own: &Session, request: &Request) -> Vec
     found
 }
 
-/// The addresses that a restoration carries. One outside the pool may be anyone's.
-fn restored_addresses(settings: &Settings, sessions: &Sessions, request: &Request) -> Vec<Rule> {
-    let elsewhere = taken_addresses(settings, sessions);
+/// The addresses that a restoration carries. One outside the pool may be anyone's; one inside it may
+/// be no session's of either peer.
+fn restored_addresses(entry: AtEntry, request: &Request) -> Vec<Rule> {
+    let elsewhere = taken_addresses(entry.settings, entry.sessions);
+    let holds = |address: Ipv4Addr| {
+        of_peer(entry.sessions, entry.peer).any(|(_, s)| s.addresses().any(|a| a == address))
+    };
     let mut found = Vec::new();
     for (ue_ip, of_pdr) in request.ue_ips() {
         match ue_ip {
             UeIp::Given(address) if elsewhere.contains(&address) => {
-                found.push(Rule::RestoredAddressOfAnotherSession);
+                found.push(match holds(address) {
+                    true => Rule::RestoredAddressOfAnotherSession,
+                    false => Rule::RestoredAddressOfOtherPeer,
+                });
             }
             UeIp::Choose if of_pdr => found.push(Rule::PdrAddressChooseInRestoration),
             UeIp::Choose => found.push(Rule::EndpointAddressChooseInRestoration),
@@ -320,10 +328,12 @@ fn restored_addresses(settings: &Settings, sessions: &Sessions, request: &Reques
     found
 }
 
-/// The F-TEIDs that a restoration carries.
-fn restored(settings: &Settings, sessions: &Sessions, request: &Request) -> Vec<Rule> {
+/// The F-TEIDs that a restoration carries. A TEID is one session's over both peers.
+fn restored(entry: AtEntry, request: &Request) -> Vec<Rule> {
+    let AtEntry { settings, sessions, peer } = entry;
     let mut found = Vec::new();
     let elsewhere = distinct_teids(sessions);
+    let holds = |teid: u32| of_peer(sessions, peer).any(|(_, s)| s.teids().any(|t| t == teid));
     let mut of_endpoints: BTreeSet<u32> = BTreeSet::new();
     let mut of_pdrs: BTreeMap<u32, (Families, u8)> = BTreeMap::new();
     for (f_teid, source_interface) in request.f_teids() {
@@ -343,7 +353,10 @@ fn restored(settings: &Settings, sessions: &Sessions, request: &Request) -> Vec<
             }
         }
         if elsewhere.contains(teid) {
-            found.push(Rule::RestoredHeldByAnotherSession);
+            found.push(match holds(*teid) {
+                true => Rule::RestoredHeldByAnotherSession,
+                false => Rule::RestoredHeldByOtherPeer,
+            });
         }
         match source_interface {
             None => {

@@ -4,8 +4,8 @@
 use std::net::Ipv4Addr;
 
 use second::ie::LEAST_REPLY_SPACE;
-use second::session::Sessions;
-use second::settings::Settings;
+use second::session::{Key, Sessions};
+use second::settings::{Peer, Settings};
 use second::unit::{Outcome, Unit};
 
 pub const IPV4: [u8; 4] = [192, 0, 2, 1];
@@ -178,24 +178,42 @@ pub const POOL: Ipv4Addr = Ipv4Addr::new(10, 45, 0, 0);
 /// The units' session limit where a test does not choose one.
 pub const SESSION_LIMIT: u32 = 64;
 
+/// Peers that share a pool of this size without guarantees: the first one's address is the unit's.
+pub fn peers(size: u32) -> [Peer; 2] {
+    [1, 2].map(|octet| Peer { address: [192, 0, 2, octet], guarantee: 0, limit: size })
+}
+
+/// The key of a session of the first peer, whose requests most tests send.
+pub fn key(seid: u64) -> Key {
+    Key { peer: 1, seid }
+}
+
+/// The key of a session of the second peer.
+pub fn key2(seid: u64) -> Key {
+    Key { peer: 2, seid }
+}
+
 pub fn unit(first: u32, size: u32) -> Unit {
     unit_with_addresses((first, size), 4)
 }
 
 /// A unit whose pool has so many addresses.
 pub fn unit_with_addresses(teids: (u32, u32), addresses: u32) -> Unit {
-    let settings = Settings::make(IPV4, &[], teids, (POOL, addresses), SESSION_LIMIT);
+    let peers = peers(teids.1);
+    let settings = Settings::make(IPV4, &[], teids, (POOL, addresses), SESSION_LIMIT, peers);
     Unit::new(settings.unwrap()).unwrap()
 }
 
 pub fn dual_unit(first: u32, size: u32) -> Unit {
-    let settings = Settings::make(IPV4, &IPV6, (first, size), (POOL, 4), SESSION_LIMIT);
+    let (teids, addresses) = ((first, size), (POOL, 4));
+    let settings = Settings::make(IPV4, &IPV6, teids, addresses, SESSION_LIMIT, peers(size));
     Unit::new(settings.unwrap()).unwrap()
 }
 
 /// A unit with this session limit and pool of TEIDs.
 pub fn unit_with_limit(session_limit: u32, teids: (u32, u32)) -> Unit {
-    Unit::new(Settings::make(IPV4, &[], teids, (POOL, 4), session_limit).unwrap()).unwrap()
+    let settings = Settings::make(IPV4, &[], teids, (POOL, 4), session_limit, peers(teids.1));
+    Unit::new(settings.unwrap()).unwrap()
 }
 
 /// The value of a UE IP Address that is given.
@@ -208,10 +226,15 @@ pub fn choose_address() -> Vec<u8> {
     ie(93, &[0x10])
 }
 
-/// A call with the least reply space; the outcome must be 0.
+/// A call of the first peer with the least reply space; the outcome must be 0.
 pub fn reply(unit: &mut Unit, message: &[u8]) -> Vec<u8> {
+    reply_to(1, unit, message)
+}
+
+/// A call of a peer with the least reply space; the outcome must be 0.
+pub fn reply_to(peer: u32, unit: &mut Unit, message: &[u8]) -> Vec<u8> {
     let mut space = vec![0xEE; LEAST_REPLY_SPACE];
-    let Outcome { number, reply_length, .. } = unit.request(message, &mut space);
+    let Outcome { number, reply_length, .. } = unit.request(peer, message, &mut space);
     assert_eq!(number, 0, "outcome");
     assert!(space[reply_length..].iter().all(|octet| *octet == 0xEE), "space after the reply");
     space.truncate(reply_length);
@@ -238,10 +261,15 @@ pub fn verdict(reply: &[u8]) -> (u8, Option<u16>) {
     (cause, offending.map(|(_, value)| u16::from_be_bytes([value[0], value[1]])))
 }
 
-/// The cause of a call; a refusal must leave the sessions alone.
+/// The cause of a call of the first peer; a refusal must leave the sessions alone.
 pub fn cause(unit: &mut Unit, message: &[u8]) -> u8 {
+    cause_for(1, unit, message)
+}
+
+/// The cause of a call of a peer; a refusal must leave the sessions alone.
+pub fn cause_for(peer: u32, unit: &mut Unit, message: &[u8]) -> u8 {
     let before: Sessions = unit.sessions().clone();
-    let (cause, _) = verdict(&reply(unit, message));
+    let (cause, _) = verdict(&reply_to(peer, unit, message));
     if cause != 1 {
         assert_eq!(*unit.sessions(), before, "a refusal changed the sessions");
     }

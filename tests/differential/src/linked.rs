@@ -15,12 +15,19 @@ extern "C" {
         first_address: u32,
         address_count: u32,
         session_limit: u32,
+        address1: u32,
+        guarantee1: u32,
+        limit1: u32,
+        address2: u32,
+        guarantee2: u32,
+        limit2: u32,
     ) -> u32;
     fn pfcp_free_count(table: *const u8, table_len: usize, count: *mut u32) -> u32;
     fn pfcp_free_addresses(table: *const u8, table_len: usize, count: *mut u32) -> u32;
     fn pfcp_request(
         table: *mut u8,
         table_len: usize,
+        peer: u32,
         message: *const u8,
         message_len: usize,
         reply: *mut u8,
@@ -33,6 +40,7 @@ extern "C" {
     fn pfcp_request_once(
         table: *mut u8,
         table_len: usize,
+        peer: u32,
         store: *mut u8,
         store_len: usize,
         message: *const u8,
@@ -54,13 +62,28 @@ extern "C" {
         space: *mut u8,
         space_len: usize,
         used: *mut usize,
+        peer: *mut u32,
     ) -> u32;
     #[cfg(feature = "reading")]
     fn pfcp_session_count(table: *const u8, table_len: usize, count: *mut u32) -> u32;
     #[cfg(feature = "reading")]
-    fn pfcp_find_session(table: *const u8, table_len: usize, seid: u64, place: *mut usize) -> u32;
+    fn pfcp_find_session(
+        table: *const u8,
+        table_len: usize,
+        peer: u32,
+        seid: u64,
+        place: *mut usize,
+    ) -> u32;
     #[cfg(feature = "reading")]
     fn pfcp_find_teid(table: *const u8, table_len: usize, teid: u32, place: *mut usize) -> u32;
+    #[cfg(feature = "reading")]
+    fn pfcp_peer_count(
+        table: *const u8,
+        table_len: usize,
+        peer: u32,
+        sessions: *mut u32,
+        teids: *mut u32,
+    ) -> u32;
 }
 
 #[cfg(feature = "restoration")]
@@ -74,6 +97,7 @@ const READING: Option<Reading> = Some(Reading {
     session_count: pfcp_session_count,
     find_session: pfcp_find_session,
     find_teid: pfcp_find_teid,
+    peer_count: pfcp_peer_count,
 });
 
 #[cfg(not(feature = "reading"))]

@@ -22,8 +22,8 @@ fn compare(seed: u64, calls: usize) -> bool {
 }
 
 fn print(report: &Report, calls: usize) {
-    println!("outcomes 0 to 5: {:?}", report.outcomes);
-    println!("refused by a full table, by session limit: {:?}", report.full);
+    println!("outcomes 0 to 5: {:?}, 7: {}", &report.outcomes[..6], report.outcomes[7]);
+    println!("refused by a full half, by session limit: {:?}", report.full);
     println!("restored sessions {}, requests written {}", report.restored, report.written);
     println!("SEIDs and TEIDs asked for {}, of these found {}", report.asked, report.found);
     println!("damaged tables {}, of these sound {}", report.damaged, report.still_sound);

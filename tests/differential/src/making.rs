@@ -5,26 +5,45 @@ use std::net::Ipv4Addr;
 use second::generate::Generator;
 use second::layout;
 use second::session::Sessions;
-use second::settings::Settings;
+use second::settings::{Peer, Settings};
 
 use crate::run::{Lent, Run, FILLING};
 
 /// Session limits and the lengths of their tables; 0 where a limit is not allowed. The low two octets
 /// of the last ones would be.
-const LENGTHS: [(u32, usize); 13] = [
+const LENGTHS: [(u32, usize); 14] = [
     (0, 0),
-    (1, 644),
-    (2, 1247),
-    (5, 3056),
-    (64, 38_633),
-    (65, 39_236),
-    (255, 153_806),
-    (256, 154_409),
+    (1, 0),
+    (2, 1273),
+    (3, 1877),
+    (5, 3085),
+    (64, 38_721),
+    (65, 39_325),
+    (255, 154_085),
+    (256, 154_689),
     (257, 0),
     (u32::MAX, 0),
     (0x1_0000, 0),
-    (0x1_0001, 0),
+    (0x1_0002, 0),
     (0x8000_0040, 0),
+];
+
+/// Guarantees and limits around every edge of a pool of eight.
+const DUES: [(u32, u32); 14] = [
+    (0, 0),
+    (0, 1),
+    (0, 8),
+    (0, 9),
+    (1, 0),
+    (3, 2),
+    (3, 3),
+    (3, 8),
+    (5, 5),
+    (5, 8),
+    (6, 8),
+    (8, 8),
+    (9, 9),
+    (u32::MAX, u32::MAX),
 ];
 
 /// What a table is to be made of.
@@ -34,6 +53,7 @@ struct Wish {
     teids: (u32, u32),
     addresses: (Ipv4Addr, u32),
     limit: u32,
+    peers: [Peer; 2],
     table_length: usize,
 }
 
@@ -45,9 +65,14 @@ impl Wish {
             teids: (1, 1),
             addresses: (Ipv4Addr::new(10, 0, 0, 0), 254),
             limit: limit.into(),
+            peers: [1, 2].map(|octet| peer(octet, (0, 0))),
             table_length: layout::length(limit),
         }
     }
+}
+
+fn peer(octet: u8, (guarantee, limit): (u32, u32)) -> Peer {
+    Peer { address: [10, 0, 0, octet], guarantee, limit }
 }
 
 impl Run<'_> {
@@ -65,6 +90,27 @@ impl Run<'_> {
         self.made_of_teids();
         self.made_of_addresses();
         self.made_of_limits();
+        self.made_of_peers();
+    }
+
+    /// Every pair of these dues, and addresses that are equal, near to each other and the unit's.
+    fn made_of_peers(&mut self) {
+        let wish = || Wish { teids: (4096, 8), ..Wish::new(5) };
+        for (first, second) in DUES.into_iter().flat_map(|one| DUES.map(|two| (one, two))) {
+            self.one_making(Wish { peers: [peer(1, first), peer(2, second)], ..wish() });
+            self.one_making(Wish { peers: [peer(3, first), peer(3, second)], ..wish() });
+        }
+        let addresses = [[0; 4], [255; 4], [10, 0, 0, 1], [10, 0, 0, 2], [11, 0, 0, 1]];
+        for (first, second) in addresses.into_iter().flat_map(|a| addresses.map(|b| (a, b))) {
+            let one = |address| Peer { address, ..peer(1, (1, 8)) };
+            self.one_making(Wish { peers: [one(first), one(second)], ..wish() });
+        }
+        for size in [1, 65_535, 65_536] {
+            for (first, second) in [(size, 0), (size, 1), (size / 2, size - size / 2), (0, size)] {
+                let peers = [peer(1, (first, size)), peer(2, (second, size))];
+                self.one_making(Wish { teids: (1, size), peers, ..Wish::new(5) });
+            }
+        }
     }
 
     fn made_of_teids(&mut self) {
@@ -97,10 +143,10 @@ impl Run<'_> {
 
     /// Every limit with its own length, with another's, and with a slot or an octet more or less.
     fn made_of_limits(&mut self) {
-        for limit in [1, 2, 5, 64, 65, 255, 256] {
+        for limit in [2, 3, 5, 64, 65, 255, 256] {
             let length = layout::length(limit);
             let near = [length - 1, length, length + 1, length - layout::SLOT];
-            let far = [0, layout::SLOTS, length + layout::SLOT, layout::length(limit % 256 + 1)];
+            let far = [0, layout::SLOTS, length + layout::SLOT, layout::length(limit % 256 + 2)];
             for table_length in near.into_iter().chain(far) {
                 self.one_making(Wish { table_length, ..Wish::new(limit) });
             }
@@ -109,8 +155,8 @@ impl Run<'_> {
             // As long as the limit would say, or its low two octets; and of an allowed limit.
             let said = layout::SLOTS + layout::SLOT * limit.min(257) as usize;
             let low = layout::length(limit as u16 % 257);
-            for table_length in [0, said, low, layout::length(1), layout::length(64)] {
-                self.one_making(Wish { limit, table_length, ..Wish::new(1) });
+            for table_length in [0, said, low, layout::length(2), layout::length(64)] {
+                self.one_making(Wish { limit, table_length, ..Wish::new(2) });
             }
         }
     }
@@ -124,6 +170,7 @@ impl Run<'_> {
             teids: (other.first, other.size),
             addresses: (other.first_address, other.addresses),
             limit,
+            peers: other.peers,
             table_length: layout::length(allowed.session_limit),
         };
         let made = self.one_making(wish.clone());
@@ -133,10 +180,11 @@ impl Run<'_> {
     /// One call: the table that it makes, or that a refusal writes nothing. Gives what the call gave.
     fn one_making(&mut self, wish: Wish) -> u32 {
         let (ipv4, ipv6) = ([10, 0, 0, 1], &[7_u8; 17][..wish.ipv6_length]);
-        let Wish { teids, addresses, limit, table_length, .. } = wish;
+        let Wish { teids, addresses, limit, peers, table_length, .. } = wish;
         let mut table = Lent::filled(table_length);
-        let made = self.product.make_table(table.lend(), ipv4, ipv6, teids, addresses, limit);
-        let allowed = Settings::make(ipv4, ipv6, teids, addresses, limit);
+        let made =
+            self.product.make_table(table.lend(), ipv4, ipv6, teids, addresses, (limit, peers));
+        let allowed = Settings::make(ipv4, ipv6, teids, addresses, limit, peers);
         let right = match allowed.filter(|_| table_length == layout::length_for(limit)) {
             Some(settings) => {
                 made == 0 && table.content() == layout::encode(&settings, &Sessions::new())

@@ -2,36 +2,33 @@
 
 use std::net::Ipv4Addr;
 
+use second::settings::Peer;
+
 pub type TableLength = unsafe extern "C" fn(u32) -> usize;
 #[rustfmt::skip]
 pub type MakeTable = unsafe extern "C" fn(
-    *mut u8, usize, u32, *const u8, usize, u32, u32, u32, u32, u32,
+    *mut u8, usize, u32, *const u8, usize, u32, u32, u32, u32, u32, u32, u32, u32, u32, u32, u32,
 ) -> u32;
 pub type FreeCount = unsafe extern "C" fn(*const u8, usize, *mut u32) -> u32;
+#[rustfmt::skip]
 pub type Request = unsafe extern "C" fn(
-    *mut u8,
-    usize,
-    *const u8,
-    usize,
-    *mut u8,
-    usize,
-    *mut usize,
-    *mut usize,
+    *mut u8, usize, u32, *const u8, usize, *mut u8, usize, *mut usize, *mut usize,
 ) -> u32;
 #[rustfmt::skip]
 pub type WriteRestoration = unsafe extern "C" fn(
-    *const u8, usize, usize, *const u8, usize, *const u8, usize, *mut u8, usize, *mut usize,
+    *const u8, usize, usize, *const u8, usize, *const u8, usize, *mut u8, usize, *mut usize, *mut u32,
 ) -> u32;
 
 pub type StoreLength = unsafe extern "C" fn() -> usize;
 pub type MakeStore = unsafe extern "C" fn(*mut u8, usize) -> u32;
 #[rustfmt::skip]
 pub type RequestOnce = unsafe extern "C" fn(
-    *mut u8, usize, *mut u8, usize, *const u8, usize, *mut u8, usize, *mut usize, *mut usize,
+    *mut u8, usize, u32, *mut u8, usize, *const u8, usize, *mut u8, usize, *mut usize, *mut usize,
 ) -> u32;
 
-pub type FindSession = unsafe extern "C" fn(*const u8, usize, u64, *mut usize) -> u32;
+pub type FindSession = unsafe extern "C" fn(*const u8, usize, u32, u64, *mut usize) -> u32;
 pub type FindTeid = unsafe extern "C" fn(*const u8, usize, u32, *mut usize) -> u32;
+pub type PeerCount = unsafe extern "C" fn(*const u8, usize, u32, *mut u32, *mut u32) -> u32;
 
 /// The calls that read a table. The first has the same form as the free count.
 #[derive(Clone, Copy)]
@@ -39,6 +36,7 @@ pub struct Reading {
     pub session_count: FreeCount,
     pub find_session: FindSession,
     pub find_teid: FindTeid,
+    pub peer_count: PeerCount,
 }
 
 impl Reading {
@@ -49,11 +47,21 @@ impl Reading {
         (outcome, count as usize)
     }
 
-    /// The outcome and the place of a SEID.
-    pub fn find_session(&self, table: &[u8], seid: u64) -> (u32, usize) {
+    /// The outcome and the place of a peer's SEID.
+    pub fn find_session(&self, table: &[u8], peer: u32, seid: u64) -> (u32, usize) {
         let mut place = usize::MAX;
-        let outcome = unsafe { (self.find_session)(pointer(table), table.len(), seid, &mut place) };
+        let outcome =
+            unsafe { (self.find_session)(pointer(table), table.len(), peer, seid, &mut place) };
         (outcome, place)
+    }
+
+    /// The outcome, and how many sessions and TEIDs a peer has.
+    pub fn peer_count(&self, table: &[u8], peer: u32) -> (u32, u32, u32) {
+        let (mut sessions, mut teids) = (0xA5A5_A5A5, 0xA5A5_A5A5);
+        let outcome = unsafe {
+            (self.peer_count)(pointer(table), table.len(), peer, &mut sessions, &mut teids)
+        };
+        (outcome, sessions, teids)
     }
 
     /// The outcome and the place of the session that holds a TEID.
@@ -92,7 +100,7 @@ impl Product {
         ipv6: &[u8],
         (first, size): (u32, u32),
         (first_address, addresses): (Ipv4Addr, u32),
-        session_limit: u32,
+        (session_limit, [one, two]): (u32, [Peer; 2]),
     ) -> u32 {
         unsafe {
             (self.make_table)(
@@ -106,6 +114,12 @@ impl Product {
                 first_address.into(),
                 addresses,
                 session_limit,
+                u32::from_be_bytes(one.address),
+                one.guarantee,
+                one.limit,
+                u32::from_be_bytes(two.address),
+                two.guarantee,
+                two.limit,
             )
         }
     }
@@ -128,6 +142,7 @@ impl Product {
     pub fn request(
         &self,
         table: &mut [u8],
+        peer: u32,
         message: &[u8],
         space: &mut [u8],
     ) -> (u32, usize, usize) {
@@ -136,6 +151,7 @@ impl Product {
             (self.request)(
                 pointer_mut(table),
                 table.len(),
+                peer,
                 pointer(message),
                 message.len(),
                 pointer_mut(space),
@@ -159,6 +175,7 @@ impl Product {
     pub fn request_once(
         &self,
         table: &mut [u8],
+        peer: u32,
         store: &mut [u8],
         message: &[u8],
         space: &mut [u8],
@@ -168,6 +185,7 @@ impl Product {
             (self.request_once)(
                 pointer_mut(table),
                 table.len(),
+                peer,
                 pointer_mut(store),
                 store.len(),
                 pointer(message),
@@ -181,8 +199,8 @@ impl Product {
         (outcome, used, place)
     }
 
-    /// The outcome and the length of the request; a product without the call gives another outcome
-    /// than any of its.
+    /// The outcome, the length of the request and the peer to run it under; a product without the call
+    /// gives another outcome than any of its.
     pub fn write_restoration(
         &self,
         table: &[u8],
@@ -190,9 +208,9 @@ impl Product {
         ipv4: &[u8],
         ipv6: &[u8],
         space: &mut [u8],
-    ) -> (u32, usize) {
-        let Some(write) = self.write_restoration else { return (u32::MAX, 0) };
-        let mut used = usize::MAX;
+    ) -> (u32, usize, u32) {
+        let Some(write) = self.write_restoration else { return (u32::MAX, 0, 0) };
+        let (mut used, mut peer) = (usize::MAX, u32::MAX);
         let outcome = unsafe {
             write(
                 pointer(table),
@@ -205,9 +223,10 @@ impl Product {
                 pointer_mut(space),
                 space.len(),
                 &mut used,
+                &mut peer,
             )
         };
-        (outcome, used)
+        (outcome, used, peer)
     }
 }
 

@@ -1,19 +1,23 @@
-//! The calls that read a table: how many sessions, the place of a SEID, the place of a TEID's holder,
-//! each compared with the second implementation's answer.
+//! The calls that read a table: how many sessions, the place of a peer's SEID, the place of a TEID's
+//! holder, what a peer has, each compared with the second implementation's answer.
 
 use std::collections::BTreeMap;
 
 use second::generate::tables::{self, Filling};
 use second::layout;
-use second::session::{self, Sessions};
-use second::settings::Settings;
+use second::session::{self, Key, Sessions};
+use second::settings::{named_peer, Settings};
+use second::unit::NO_PEER;
 
 use crate::product::Reading;
 use crate::run::{Lent, Run};
 
 /// Tables drawn at random, before the sequences, and their session limits.
 const TABLES: usize = 40;
-const LIMITS: [u16; 7] = [64, 5, 40, 256, 1, 64, 20];
+const LIMITS: [u16; 7] = [64, 5, 40, 256, 2, 64, 20];
+
+/// Numbers that are no peer's.
+pub(crate) const NO_PEERS: [u32; 5] = [0, 3, 257, 1 << 24, u32::MAX];
 
 /// A pool of more TEIDs is asked for the ends of each word of its map only.
 const MOST_ASKED: u32 = 10_000;
@@ -54,12 +58,15 @@ impl Run<'_> {
         let count = reading.session_count(table.content());
         let right = count == (0, sessions.len());
         self.report.check(right, || format!("{count:?} for {} sessions", sessions.len()));
-        for seid in sessions.keys().flat_map(|seid| [*seid, seid.wrapping_add(1), seid ^ 1 << 32]) {
-            self.one_seid(reading, &table, sessions, seid);
+        let near = |seid: u64| [seid, seid.wrapping_add(1), seid ^ 1 << 32];
+        let edges = [0, 1, u64::from(settings.first), u64::MAX];
+        for seid in sessions.keys().flat_map(|key| near(key.seid)).chain(edges) {
+            let other = self.random.pick(&NO_PEERS);
+            for peer in [1, 2, other] {
+                self.one_seid(reading, &table, sessions, (peer, seid));
+            }
         }
-        for seid in [0, 1, u64::from(settings.first), u64::MAX] {
-            self.one_seid(reading, &table, sessions, seid);
-        }
+        self.counts_of_peers(reading, &table, sessions);
         let holders = session::holders(sessions);
         for teid in holders.keys() {
             self.one_teid(reading, &table, &holders, *teid);
@@ -79,20 +86,52 @@ impl Run<'_> {
         let table = Lent::new(content);
         let count = reading.session_count(table.content());
         let seid = self.random.number();
-        let by_seid = reading.find_session(table.content(), self.random.pick(&[0, 1, seid]));
+        let peer = self.random.pick(&[1, 2, 3]);
+        let by_seid = reading.find_session(table.content(), peer, self.random.pick(&[0, 1, seid]));
         let teid = self.random.number() as u32;
         let by_teid = reading.find_teid(table.content(), self.random.pick(&[0, 1, 4096, teid]));
         let right = [count, by_seid, by_teid] == [(1, 0); 3];
         self.report.check(right, || format!("{count:?} {by_seid:?} {by_teid:?}: a broken table"));
+        // Without a peer the table is not looked at.
+        let other = self.random.pick(&NO_PEERS);
+        let of_peers = [1, 2, other].map(|peer| reading.peer_count(table.content(), peer));
+        let right = of_peers == [(1, 0, 0), (1, 0, 0), (7, 0, 0)];
+        self.report.check(right, || format!("{of_peers:?}: the peers of a broken table"));
     }
 
-    fn one_seid(&mut self, reading: Reading, table: &Lent, sessions: &Sessions, seid: u64) {
-        let expected = told(session::place_of(sessions, seid));
-        let given = reading.find_session(table.content(), seid);
+    /// What each peer has, and that there is no other.
+    fn counts_of_peers(&mut self, reading: Reading, table: &Lent, sessions: &Sessions) {
+        let other = self.random.pick(&NO_PEERS);
+        for peer in [1, 2, other] {
+            let expected = match named_peer(peer) {
+                Some(peer) => {
+                    let (count, teids) =
+                        (session::count_of(sessions, peer), session::holdings(sessions, peer));
+                    (0, count as u32, teids as u32)
+                }
+                None => (NO_PEER.into(), 0, 0),
+            };
+            let given = reading.peer_count(table.content(), peer);
+            self.report
+                .check(given == expected, || format!("peer {peer}: {given:?}, not {expected:?}"));
+        }
+    }
+
+    fn one_seid(
+        &mut self,
+        reading: Reading,
+        table: &Lent,
+        sessions: &Sessions,
+        (peer, seid): (u32, u64),
+    ) {
+        let key = named_peer(peer).map(|peer| Key { peer, seid });
+        let expected = told(key.and_then(|key| session::place_of(sessions, key)));
+        let given = reading.find_session(table.content(), peer, seid);
         self.report.asked += 1;
         self.report.found += usize::from(expected.0 == 0);
-        self.report
-            .check(given == expected, || format!("SEID {seid}: {given:?} instead of {expected:?}"));
+        self.report.check(given == expected, || {
+            format!("SEID {seid} of peer {peer}: {given:?} instead of {expected:?}")
+        });
     }
 
     fn one_teid(

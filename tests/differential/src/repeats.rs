@@ -1,8 +1,9 @@
-//! Requests with a store of repeated requests: traffic of a peer that sends some of them again, each
-//! call compared whole; damaged stores and tables.
+//! Requests with a store of repeated requests: traffic of two peers that send some of them again, each
+//! with its store, each call compared whole; damaged stores and tables.
 
 use std::collections::BTreeMap;
 
+use second::generate::random::Random;
 use second::generate::traffic::Traffic;
 use second::generate::{Call, Generator};
 use second::ie::LEAST_REPLY_SPACE;
@@ -10,8 +11,9 @@ use second::layout;
 use second::live::LiveSet;
 use second::repeats::{request_once, way_of, Way};
 use second::request::header;
+use second::settings::named_peer;
 use second::store::{self, Entry, ALL_BROKEN, LENGTH, MOST_ENTRIES};
-use second::unit::Unit;
+use second::unit::{Unit, NO_PEER};
 
 use crate::run::{hexadecimal, Lent, Run, FILLING};
 use crate::spoil;
@@ -24,7 +26,7 @@ const CALLS_WITHOUT: usize = 5;
 const LEAST: u64 = 10;
 
 /// What calls with a store are counted by, beside the ways for one to be broken.
-pub const KINDS: [&str; 20] = [
+pub const KINDS: [&str; 26] = [
     "taken by an empty store",
     "taken and accepted",
     "taken and refused",
@@ -45,6 +47,12 @@ pub const KINDS: [&str; 20] = [
     "broken table with a sound store",
     "broken table with a broken store",
     "damaged store that is sound",
+    "taken, though the other peer's store holds it",
+    "dropped, though the other peer's store holds it",
+    "a repeat of the second peer's",
+    "no peer",
+    "no peer, and a broken store",
+    "no peer, and a broken table",
 ];
 
 /// How often each kind was met.
@@ -82,12 +90,35 @@ fn broken_by(broken: &store::Broken) -> String {
 /// What a sequence has brought about, on both sides.
 struct Served {
     unit: Unit,
-    entries: Vec<Entry>,
     table: Lent,
-    store: Lent,
     live: LiveSet,
+    peers: [Kept; 2],
+}
+
+/// What is kept of a peer's requests.
+struct Kept {
+    entries: Vec<Entry>,
+    store: Lent,
+    traffic: Traffic,
     /// Every message that was stored.
     stored: Vec<Vec<u8>>,
+}
+
+impl Kept {
+    fn new(random: &mut Random) -> Kept {
+        let (entries, stored) = (vec![], vec![]);
+        let store = Lent::new(&store::encode(&entries));
+        Kept { entries, store, traffic: Traffic::new(random), stored }
+    }
+
+    fn holds(&self, message: &[u8]) -> bool {
+        self.entries.iter().any(|entry| entry.message == message)
+    }
+}
+
+/// Which of the two stores is lent; where there is no such peer it may be any.
+fn lent_to(peer: u32) -> usize {
+    usize::from(peer == 2)
 }
 
 /// What a call is to answer and to leave.
@@ -101,17 +132,18 @@ struct Expected {
 }
 
 impl Expected {
-    /// A call on broken octets.
+    /// A call on broken octets, which are not looked at where there is no such peer.
     fn refusal(table: &[u8], store: &[u8], call: &Call) -> Expected {
+        let outcome = if named_peer(call.peer).is_some() { 1 } else { NO_PEER.into() };
         let space = vec![FILLING; call.reply_space];
         let (table, store) = (table.to_vec(), store.to_vec());
-        Expected { outcome: 1, used: 0, place: 0, space, table, store }
+        Expected { outcome, used: 0, place: 0, space, table, store }
     }
 
     /// A call on a unit and entries, which it changes.
     fn of(unit: &mut Unit, entries: &mut Vec<Entry>, call: &Call) -> Expected {
         let mut space = vec![FILLING; call.reply_space];
-        let (_, outcome) = request_once(unit, entries, &call.message, &mut space);
+        let (_, outcome) = request_once(unit, call.peer, entries, &call.message, &mut space);
         Expected {
             outcome: outcome.number.into(),
             used: outcome.reply_length,
@@ -156,21 +188,20 @@ impl Run<'_> {
         let mut scenario = generator.scenario();
         let unit = Unit::new(scenario.settings.clone()).expect("generated settings are allowed");
         let table = Lent::new(&layout::encode(&scenario.settings, unit.sessions()));
-        let store = Lent::new(&store::encode(&[]));
-        let (entries, stored, live) = (vec![], vec![], LiveSet::new());
-        let mut served = Served { unit, entries, table, store, live, stored };
-        let mut traffic = Traffic::new(&mut self.random);
+        let peers = [Kept::new(&mut self.random), Kept::new(&mut self.random)];
+        let mut served = Served { unit, table, live: LiveSet::new(), peers };
         let calls = scenario.calls.min(most);
         for number in 0..calls {
             let generated = generator.call(&mut scenario, &served.live.sessions);
-            let call = traffic.call(&mut self.random, generated);
-            if !self.one_request(&mut served, &mut traffic, &call) {
+            let call = self.next_call(&mut served, generated);
+            if !self.one_request(&mut served, &call) {
                 break;
             }
             if number % 2 == 1 {
                 self.damaged_store(&served, &call);
             }
             if number % 16 == 7 {
+                let call = self.of_any_number(call);
                 self.damaged_table_with_store(&served, &call);
             }
         }
@@ -178,16 +209,29 @@ impl Run<'_> {
         calls
     }
 
+    /// A generated call as one of its peer's traffic; now and then what the other peer has sent.
+    fn next_call(&mut self, served: &mut Served, generated: Call) -> Call {
+        let at = lent_to(generated.peer);
+        let others = &served.peers[1 - at].entries;
+        if !others.is_empty() && self.random.percent(6) {
+            return Call { message: self.random.pick(others).message, ..generated };
+        }
+        served.peers[at].traffic.call(&mut self.random, generated)
+    }
+
     /// One call on both sides; whether all was the same.
-    fn one_request(&mut self, served: &mut Served, traffic: &mut Traffic, call: &Call) -> bool {
-        let way = way_of(&served.entries, &call.message, call.reply_space);
-        self.note_before(served, call, way);
-        let expected = Expected::of(&mut served.unit, &mut served.entries, call);
-        let same = self.same_answer(&mut served.table, &mut served.store, call, &expected);
+    fn one_request(&mut self, served: &mut Served, call: &Call) -> bool {
+        let at = lent_to(call.peer);
+        let way = way_of(call.peer, &served.peers[at].entries, &call.message, call.reply_space);
+        self.note_of_peers(served, call, way);
+        self.note_before(&served.peers[at], call, way);
+        let kept = &mut served.peers[at];
+        let expected = Expected::of(&mut served.unit, &mut kept.entries, call);
+        let same = self.same_answer(&mut served.table, &mut kept.store, call, &expected);
         if way == Way::Engine {
             let reply = &expected.space[..expected.used];
             let before = served.live.sessions.clone();
-            let followed = served.live.follow(&call.message, 0, reply);
+            let followed = served.live.follow(call.peer, &call.message, 0, reply);
             self.report.check(followed.is_ok(), || format!("live set: {followed:?}"));
             let changed = served.live.sessions != before;
             self.report.met.note(if accepts(reply) {
@@ -197,8 +241,8 @@ impl Run<'_> {
             });
             self.report
                 .check(accepts(reply) || !changed, || "a refusal changed the live set".into());
-            traffic.was_stored(&call.message);
-            served.stored.push(call.message.clone());
+            kept.traffic.was_stored(&call.message);
+            kept.stored.push(call.message.clone());
         }
         // The live set is that of the requests that reached the engine.
         let live = served.live.sessions == *served.unit.sessions();
@@ -214,11 +258,13 @@ impl Run<'_> {
         expected: &Expected,
     ) -> bool {
         let mut space = Lent::filled(call.reply_space);
+        let (peer, message) = (call.peer, &call.message);
         let answer =
-            self.product.request_once(table.lend(), store.lend(), &call.message, space.lend());
+            self.product.request_once(table.lend(), peer, store.lend(), message, space.lend());
         let right = (expected.outcome, expected.used, expected.place);
         let report = &mut self.report;
-        let what = |part: &str| format!("{part} with a store, to {}", hexadecimal(&call.message));
+        let what =
+            |part: &str| format!("{part} with a store, to peer {peer}'s {}", hexadecimal(message));
         let mut same =
             report.check(answer == right, || what(&format!("{answer:?}, not {right:?},")));
         same &= report.check(space.content() == expected.space, || what("another reply space"));
@@ -230,11 +276,15 @@ impl Run<'_> {
 
     /// A call on a damaged store, and where it is sound also one with a message that it holds.
     fn damaged_store(&mut self, served: &Served, call: &Call) {
-        let content = spoil_store::spoil(&served.entries, &mut self.random);
+        let entries = &served.peers[lent_to(call.peer)].entries;
+        let content = spoil_store::spoil(entries, &mut self.random);
         let table = served.table.content();
         match store::sound(&content) {
             Err(broken) => {
-                self.report.met.note(&broken_by(&broken));
+                self.report.met.note(&match named_peer(call.peer) {
+                    Some(_) => broken_by(&broken),
+                    None => "no peer, and a broken store".to_string(),
+                });
                 self.changed_octets(table, &content, call, None);
             }
             Ok(entries) => {
@@ -243,26 +293,37 @@ impl Run<'_> {
                 self.changed_octets(table, &content, call, Some(pair));
                 if !entries.is_empty() {
                     let message = self.random.pick(&entries).message;
-                    let call = Call { message, reply_space: LEAST_REPLY_SPACE };
+                    let call = Call { message, reply_space: LEAST_REPLY_SPACE, ..*call };
                     self.changed_octets(table, &content, &call, Some(pair));
                 }
             }
         }
     }
 
+    /// The same call, sometimes with a number that is no peer's.
+    fn of_any_number(&mut self, call: Call) -> Call {
+        let other = self.random.pick(&[0, 3, u32::MAX]);
+        let peer = if self.random.percent(20) { other } else { call.peer };
+        Call { peer, ..call }
+    }
+
     /// A call on a damaged table, with the store as it is or damaged too.
     fn damaged_table_with_store(&mut self, served: &Served, call: &Call) {
         let mut table = served.table.content().to_vec();
         spoil::spoil(&mut table, &mut self.random);
+        let kept = &served.peers[lent_to(call.peer)];
         let content = match self.random.percent(50) {
-            true => served.store.content().to_vec(),
-            false => spoil_store::spoil(&served.entries, &mut self.random),
+            true => kept.store.content().to_vec(),
+            false => spoil_store::spoil(&kept.entries, &mut self.random),
         };
         let entries = store::sound(&content);
         let unit = match layout::sound(&table) {
             Err(_) => {
-                let word = if entries.is_ok() { "sound" } else { "broken" };
-                self.report.met.note(&format!("broken table with a {word} store"));
+                self.report.met.note(match (named_peer(call.peer), entries.is_ok()) {
+                    (None, _) => "no peer, and a broken table",
+                    (_, true) => "broken table with a sound store",
+                    (_, false) => "broken table with a broken store",
+                });
                 None
             }
             Ok((settings, sessions)) => self.unit_with(&settings, &sessions),
@@ -290,14 +351,14 @@ impl Run<'_> {
     /// message is none, so another outcome is 4.
     fn every_octet_of_a_store(&mut self) {
         let (mut scenario, mut generator) = (Generator::new(1).scenario(), Generator::new(2));
-        scenario.settings.session_limit = 1;
+        scenario.settings.session_limit = 2;
         let mut unit = Unit::new(scenario.settings.clone()).expect("settings that are allowed");
         let mut entries = vec![];
         let mut traffic = Traffic::new(&mut self.random);
         while entries.len() < MOST_ENTRIES {
             let generated = generator.call(&mut scenario, unit.sessions());
-            let call = traffic.call(&mut self.random, generated);
-            if way_of(&entries, &call.message, call.reply_space) == Way::Engine {
+            let call = Call { peer: 2, ..traffic.call(&mut self.random, generated) };
+            if way_of(2, &entries, &call.message, call.reply_space) == Way::Engine {
                 traffic.was_stored(&call.message);
             }
             Expected::of(&mut unit, &mut entries, &call);
@@ -308,7 +369,7 @@ impl Run<'_> {
             let flip = 1 << self.random.below(8);
             lent.lend()[at] ^= flip;
             let mut space = Lent::filled(LEAST_REPLY_SPACE);
-            let answer = self.product.request_once(table.lend(), lent.lend(), &[], space.lend());
+            let answer = self.product.request_once(table.lend(), 2, lent.lend(), &[], space.lend());
             let outcome = if store::sound(lent.content()).is_ok() { 4 } else { 1 };
             let right = answer == (outcome, 0, 0) && space.is_filled_from(0) && lent.guards_hold();
             self.report.check(right, || format!("octet {at} of a store changed: {answer:?}"));
@@ -318,30 +379,47 @@ impl Run<'_> {
         self.report.check(kept, || "a store that was only tested is written to".into());
     }
 
-    /// Counts what a call is, before it is made.
-    fn note_before(&mut self, served: &Served, call: &Call, way: Way) {
+    /// Counts what a call is beside the other peer's store, before it is made.
+    fn note_of_peers(&mut self, served: &Served, call: &Call, way: Way) {
         let met = &mut self.report.met;
-        let full = served.entries.len() == MOST_ENTRIES;
-        let place = served.entries.iter().position(|entry| entry.message == call.message);
+        let held_by_other = served.peers[1 - lent_to(call.peer)].holds(&call.message);
+        match way {
+            Way::NoPeer => met.note("no peer"),
+            Way::Engine if held_by_other => {
+                met.note("taken, though the other peer's store holds it")
+            }
+            Way::Dropped if held_by_other => {
+                met.note("dropped, though the other peer's store holds it")
+            }
+            Way::Repeat if call.peer == 2 => met.note("a repeat of the second peer's"),
+            _ => {}
+        }
+    }
+
+    /// Counts what a call is by its own store, before it is made.
+    fn note_before(&mut self, kept: &Kept, call: &Call, way: Way) {
+        let met = &mut self.report.met;
+        let full = kept.entries.len() == MOST_ENTRIES;
+        let place = kept.entries.iter().position(|entry| entry.message == call.message);
         let Ok(own) = header::test(&call.message) else { return };
-        let newest = served.entries.last().and_then(|entry| header::test(&entry.message).ok());
+        let newest = kept.entries.last().and_then(|entry| header::test(&entry.message).ok());
         let past = newest.map(|last| own.sequence.wrapping_sub(last.sequence) % (1 << 24));
         match way {
             Way::Unread if place.is_some() => met.note("repeat in too small a space"),
-            Way::Unread => {}
+            Way::Unread | Way::NoPeer => {}
             Way::Repeat => {
                 let place = place.expect("a repeat is stored");
-                met.note(match place + 1 == served.entries.len() {
+                met.note(match place + 1 == kept.entries.len() {
                     true => "repeat of the newest",
                     false if full && place == 0 => "repeat of the oldest of eight",
                     false => "repeat of another",
                 });
-                if !accepts(&served.entries[place].reply) {
+                if !accepts(&kept.entries[place].reply) {
                     met.note("repeat of a refused request");
                 }
             }
             Way::Dropped => met.note(match past {
-                _ if served.stored.contains(&call.message) => {
+                _ if kept.stored.contains(&call.message) => {
                     "dropped, a request that has gone from the store"
                 }
                 Some(0) => "dropped with the last number",

@@ -10,11 +10,12 @@ use second::generate::{Call, Flavour, Generator};
 use second::ie::LEAST_REPLY_SPACE;
 use second::layout;
 use second::live::LiveSet;
+use second::repeats::OLD_NUMBER;
 use second::restoration::{self, Envelope};
-use second::session::{distinct_teids, taken_addresses, Sessions};
-use second::settings::{Settings, LARGEST_LIMIT};
+use second::session::{distinct_teids, taken_addresses, Key, Sessions};
+use second::settings::{named_peer, Settings, LARGEST_LIMIT, PEERS};
 use second::unit::limits::Limit;
-use second::unit::{Decision, Reason, Unit};
+use second::unit::{Decision, Reason, Unit, NO_PEER};
 
 use crate::crowded;
 use crate::product::Product;
@@ -121,11 +122,11 @@ pub struct Report {
     pub passed: u64,
     pub failures: Vec<String>,
     pub coverage: Coverage,
-    /// How often the product gave each host outcome.
-    pub outcomes: [u64; 6],
+    /// How often the product gave each host outcome to a request without a store; 6 is of one with it.
+    pub outcomes: [u64; 8],
     /// How often a table was broken for each reason.
     pub reasons: BTreeMap<&'static str, u64>,
-    /// How often an establishment was refused only because the table was full, by session limit.
+    /// How often an establishment was refused only because its peer's half was full, by session limit.
     pub full: BTreeMap<u16, u64>,
     /// Calls with a store of repeated requests, and what was met in them.
     pub calls_with_store: usize,
@@ -145,7 +146,7 @@ impl Report {
             passed: 0,
             failures: Vec::new(),
             coverage: Coverage::new(),
-            outcomes: [0; 6],
+            outcomes: [0; 8],
             reasons: REASONS.iter().map(|reason| (*reason, 0)).collect(),
             full: site::LIMITS.iter().map(|limit| (*limit, 0)).collect(),
             calls_with_store: 0,
@@ -167,7 +168,7 @@ impl Report {
         let counters = self.coverage.unmet();
         let mut unmet: Vec<String> = counters.iter().map(|counter| counter.to_string()).collect();
         for (number, count) in self.outcomes.iter().enumerate() {
-            if *count == 0 {
+            if *count == 0 && number != usize::from(OLD_NUMBER) {
                 unmet.push(format!("outcome {number} of the product"));
             }
         }
@@ -259,7 +260,7 @@ impl Run<'_> {
             ipv6,
             (settings.first, settings.size),
             (settings.first_address, settings.addresses),
-            settings.session_limit.into(),
+            (settings.session_limit.into(), settings.peers),
         );
         let right = made == 0
             && table.guards_hold()
@@ -278,9 +279,10 @@ impl Run<'_> {
         [self.product.free_count(table), self.product.free_addresses(table)]
     }
 
-    pub(crate) fn ask(&mut self, table: &mut Lent, message: &[u8], space: usize) -> Answer {
-        let mut space = Lent::filled(space);
-        let (outcome, used, place) = self.product.request(table.lend(), message, space.lend());
+    pub(crate) fn ask(&mut self, table: &mut Lent, call: &Call) -> Answer {
+        let mut space = Lent::filled(call.reply_space);
+        let (outcome, used, place) =
+            self.product.request(table.lend(), call.peer, &call.message, space.lend());
         if let Some(count) = self.report.outcomes.get_mut(outcome as usize) {
             *count += 1;
         }
@@ -291,19 +293,20 @@ impl Run<'_> {
     pub(crate) fn one_call(&mut self, state: &mut State, call: &Call) -> bool {
         let before = state.unit.sessions().clone();
         let table_before = state.table.content().to_vec();
-        let decision = state.unit.decide(&call.message, call.reply_space);
+        let decision = state.unit.decide(call.peer, &call.message, call.reply_space);
         let settings = state.unit.settings().clone();
-        let coverage = &mut self.report.coverage;
-        coverage.decided(&call.message, call.reply_space, &decision, &settings, &before);
+        self.report.coverage.decided(call, &decision, &settings, &before);
         if is_full(&decision) {
             *self.report.full.entry(settings.session_limit).or_insert(0) += 1;
         }
         let mut expected = vec![FILLING; call.reply_space];
-        let outcome = state.unit.request(&call.message, &mut expected);
+        let outcome = state.unit.request(call.peer, &call.message, &mut expected);
         expected.truncate(outcome.reply_length);
 
-        let answer = self.ask(&mut state.table, &call.message, call.reply_space);
-        let what = |part: &str| format!("{part} to the message {}", hexadecimal(&call.message));
+        let answer = self.ask(&mut state.table, call);
+        let what = |part: &str| {
+            format!("{part} to peer {}'s message {}", call.peer, hexadecimal(&call.message))
+        };
         let report = &mut self.report;
         let mut same = report.check(answer.outcome == u32::from(outcome.number), || {
             what(&format!("outcome {} instead of {}", answer.outcome, outcome.number))
@@ -335,7 +338,8 @@ impl Run<'_> {
         same &= report.check(table == octets, || what("other octets of the table, "));
 
         // The live set comes from the product's replies alone.
-        let followed = state.live.follow(&call.message, answer.outcome as u8, answer.reply());
+        let followed =
+            state.live.follow(call.peer, &call.message, answer.outcome as u8, answer.reply());
         same &= report.check(followed.is_ok(), || what(&format!("live set: {followed:?}")));
         same &= report.check(state.live.sessions == *sessions, || what("another live set, "));
         let free = self.product.free_count(table);
@@ -359,14 +363,16 @@ impl Run<'_> {
     pub(crate) fn changed_table(&mut self, content: Vec<u8>, call: &Call) {
         let mut table = Lent::new(&content);
         let free = self.free(table.content());
-        let answer = self.ask(&mut table, &call.message, call.reply_space);
+        let answer = self.ask(&mut table, call);
         self.report.damaged += 1;
         match layout::sound(&content) {
             Err(reason) => {
                 self.broken(&reason);
                 let report = &mut self.report;
-                let right =
-                    free == BROKEN && (answer.outcome, answer.used, answer.place) == (1, 0, 0);
+                // Without a peer the table is not looked at.
+                let expected = if named_peer(call.peer).is_some() { 1 } else { NO_PEER.into() };
+                let given = (answer.outcome, answer.used, answer.place);
+                let right = free == BROKEN && given == (expected, 0, 0);
                 report.check(right, || format!("outcome {} for {reason}", answer.outcome));
                 let unchanged = table.content() == content && table.guards_hold();
                 report.check(unchanged, || format!("a table with {reason} was changed"));
@@ -381,7 +387,7 @@ impl Run<'_> {
                 let Some(mut unit) = self.unit_with(&settings, &sessions) else { return };
                 let counts = free_of(&unit);
                 let mut expected = vec![FILLING; call.reply_space];
-                let outcome = unit.request(&call.message, &mut expected);
+                let outcome = unit.request(call.peer, &call.message, &mut expected);
                 expected.truncate(outcome.reply_length);
                 let report = &mut self.report;
                 report.check(free == counts, || "the free counts of a changed table".into());
@@ -408,11 +414,11 @@ impl Run<'_> {
     /// A unit of the second implementation with these records.
     pub(crate) fn unit_with(&mut self, settings: &Settings, sessions: &Sessions) -> Option<Unit> {
         let mut unit = Unit::new(settings.clone())?;
-        for (seid, session) in sessions {
+        for (key, session) in sessions {
             let envelope =
                 Envelope { header_seid: 0, sequence: 0, ipv4: Some([127, 0, 0, 1]), ipv6: None };
-            let message = restoration::request(settings, *seid, session, &envelope)?;
-            unit.request(&message, &mut [0; LEAST_REPLY_SPACE]);
+            let message = restoration::request(settings, key.seid, session, &envelope)?;
+            unit.request(key.peer.into(), &message, &mut [0; LEAST_REPLY_SPACE]);
         }
         let same = unit.sessions() == sessions;
         self.report.check(same, || "a sound table that cannot be restored".into());
@@ -450,25 +456,27 @@ impl Run<'_> {
         self.report.check(guarded, || "octets around the table".into());
     }
 
-    /// Restores every live session, in any order, into an empty table: it becomes the same table.
+    /// Restores every live session, in any order over both peers, each under its own, into an empty
+    /// table: it becomes the same table.
     pub(crate) fn restore_all(&mut self, state: &State) {
         let (settings, live) = (state.unit.settings(), &state.live.sessions);
         let Some(mut table) = self.empty_table(settings) else { return };
-        let mut seids: Vec<u64> = live.keys().copied().collect();
-        self.random.shuffle(&mut seids);
-        for seid in seids {
-            let envelope = Envelope::any(&mut self.random, seid);
-            let space = self.random.pick(&[LEAST_REPLY_SPACE, LEAST_REPLY_SPACE + 1, 3000]);
-            let message = restoration::request(settings, seid, &live[&seid], &envelope);
+        let mut keys: Vec<Key> = live.keys().copied().collect();
+        self.random.shuffle(&mut keys);
+        for key in keys {
+            let envelope = Envelope::any(&mut self.random, key.seid);
+            let reply_space = self.random.pick(&[LEAST_REPLY_SPACE, LEAST_REPLY_SPACE + 1, 3000]);
+            let message = restoration::request(settings, key.seid, &live[&key], &envelope);
             let message = message.expect("a live session can be restored");
             let longest = message.len() <= restoration::LONGEST;
             self.report.check(longest, || format!("a restoration of {} octets", message.len()));
-            let answer = self.ask(&mut table, &message, space);
-            let expected = restored_reply(settings, seid, envelope.sequence);
+            let call = Call { peer: key.peer.into(), message, reply_space };
+            let answer = self.ask(&mut table, &call);
+            let expected = restored_reply(settings, key, envelope.sequence);
             let right = (answer.outcome, answer.place) == (0, 0)
                 && answer.reply() == expected
                 && answer.rest_is_unchanged();
-            self.report.check(right, || format!("restoration of session {seid}"));
+            self.report.check(right, || format!("restoration of {key:?}"));
             self.report.restored += 1;
         }
         let same = table.content() == state.table.content() && table.guards_hold();
@@ -518,13 +526,13 @@ impl Run<'_> {
 
     /// Every session is deleted, the table stays right, and nothing is left at the end.
     fn emptied_table(&mut self, mut state: State) {
-        let mut seids: Vec<u64> = state.live.sessions.keys().copied().collect();
-        self.random.shuffle(&mut seids);
-        for seid in seids {
+        let mut keys: Vec<Key> = state.live.sessions.keys().copied().collect();
+        self.random.shuffle(&mut keys);
+        for key in keys {
             let mut message = vec![0x21, 54, 0, 12];
-            message.extend(seid.to_be_bytes());
+            message.extend(key.seid.to_be_bytes());
             message.extend([0, 0, 9, 0]);
-            self.one_call(&mut state, &Call { message, reply_space: LEAST_REPLY_SPACE });
+            self.one_call(&mut state, &asked(key.peer, message));
         }
         let empty = state.unit.sessions().is_empty();
         self.report.check(empty, || "sessions left after their deletion".into());
@@ -542,9 +550,11 @@ impl Run<'_> {
         }
     }
 
-    /// Set deletions on the largest table: none, the first, the last, every second, all.
+    /// Set deletions of each peer on the largest table: of the numbers in its half none, the first, the
+    /// last, every second, all. What the other peer has of the same cards stays.
     fn sets_of_largest_table(&mut self, unit: &Unit) {
         let limit = unit.settings().session_limit;
+        let (count, half) = (largest::count(limit), limit / 2);
         let chosen: [fn(u16, u16) -> bool; 8] = [
             |_, _| false,
             |number, _| number == 0,
@@ -555,9 +565,10 @@ impl Run<'_> {
             |number, last| number != last,
             |_, _| true,
         ];
-        for (choice, node_type) in chosen.into_iter().flat_map(|c| (0..6).map(move |n| (c, n))) {
+        let by_type = chosen.into_iter().flat_map(|c| (0..6).map(move |n| (c, n)));
+        for (choice, node_type, peer) in by_type.flat_map(|(c, n)| PEERS.map(|peer| (c, n, peer))) {
             let mut state = State::of(unit.clone());
-            let numbers = (0..limit).filter(|number| choice(*number, limit - 1));
+            let numbers = (0..count).filter(|number| choice(*number % half, half - 1));
             let csids: BTreeSet<u16> = numbers.map(|n| largest::csid(node_type, n)).collect();
             let lists: Vec<u16> = csids.iter().copied().collect();
             let NodeId::Ipv6(address) = largest::node(node_type) else { return };
@@ -566,9 +577,12 @@ impl Run<'_> {
                 .map(|csids| crowded::fq_csid_of(1, &address, csids, node_type))
                 .collect();
             let message = crowded::set_deletion(&elements);
-            self.one_call(&mut state, &Call { message, reply_space: LEAST_REPLY_SPACE });
-            let stays = |number: &u16| !csids.contains(&largest::csid(node_type, *number));
-            let left = (0..limit).filter(stays).count();
+            self.one_call(&mut state, &asked(peer, message));
+            let stays = |number: &u16| {
+                largest::key(limit, *number).peer != peer
+                    || !csids.contains(&largest::csid(node_type, *number))
+            };
+            let left = (0..count).filter(stays).count();
             let right = state.live.sessions.len() == left;
             self.report.check(right, || format!("{left} sessions of the largest table stay"));
         }
@@ -579,15 +593,19 @@ impl Run<'_> {
         let (live, new) = (1, 2);
         for message in crowded::messages(live, new) {
             let Some(mut state) = self.empty_state(&largest::settings(64)) else { return };
-            let first = Call { message: crowded::first(live), reply_space: LEAST_REPLY_SPACE };
-            self.one_call(&mut state, &first);
-            self.one_call(&mut state, &Call { message, reply_space: LEAST_REPLY_SPACE });
+            self.one_call(&mut state, &asked(2, crowded::first(live)));
+            self.one_call(&mut state, &asked(2, message));
             self.restore_all(&state);
         }
     }
 }
 
-/// Whether an establishment is refused only because the table is full.
+/// A call of a peer with the least reply space.
+pub(crate) fn asked(peer: u8, message: Vec<u8>) -> Call {
+    Call { peer: peer.into(), message, reply_space: LEAST_REPLY_SPACE }
+}
+
+/// Whether an establishment is refused only because its peer's half is full.
 fn is_full(decision: &Decision) -> bool {
     let full = |reasons: &[Reason]| {
         matches!(reasons, [Reason::Limit(Limit::Sessions | Limit::SessionsByRestoration)])
@@ -604,15 +622,16 @@ fn free_of(unit: &Unit) -> [(u32, u32); 2] {
 }
 
 /// The whole reply to an accepted restoration: nothing is granted.
-fn restored_reply(settings: &Settings, seid: u64, sequence: u32) -> Vec<u8> {
+fn restored_reply(settings: &Settings, key: Key, sequence: u32) -> Vec<u8> {
+    let home = settings.peer(key.peer).address;
     let mut reply = vec![0x21, 51, 0, 43];
-    reply.extend(seid.to_be_bytes());
+    reply.extend(key.seid.to_be_bytes());
     reply.extend(&sequence.to_be_bytes()[1..]);
     reply.extend([0, 0, 60, 0, 5, 0]);
-    reply.extend(settings.ipv4);
+    reply.extend(home);
     reply.extend([0, 19, 0, 1, 1, 0, 57, 0, 13, 2]);
-    reply.extend(seid.to_be_bytes());
-    reply.extend(settings.ipv4);
+    reply.extend(key.seid.to_be_bytes());
+    reply.extend(home);
     reply
 }
 

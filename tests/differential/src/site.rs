@@ -6,18 +6,17 @@ use std::collections::BTreeSet;
 use second::generate::largest;
 use second::generate::random::Random;
 use second::generate::tables::{self, Filling};
-use second::generate::{Call, Flavour, Generator};
-use second::ie::LEAST_REPLY_SPACE;
+use second::generate::{Flavour, Generator};
 use second::layout::{self, COUNT, SLOT, SLOTS};
-use second::session::{Local, Sessions};
-use second::settings::{Settings, LARGEST_LIMIT, LARGEST_POOL};
+use second::session::{Key, Local, Sessions};
+use second::settings::{Peer, Settings, LARGEST_LIMIT, LARGEST_POOL, PEERS};
 
 use crate::crowded;
-use crate::run::{Lent, Run, State};
+use crate::run::{asked, Lent, Run, State};
 use crate::spoil::write_limit;
 
 /// The session limits that every run fills tables of.
-pub(crate) const LIMITS: [u16; 4] = [1, 5, 64, LARGEST_LIMIT];
+pub(crate) const LIMITS: [u16; 5] = [2, 3, 5, 64, LARGEST_LIMIT];
 
 /// Generated calls on a full table with TEIDs all over the largest pool.
 const CALLS_ON_SPREAD: usize = 30;
@@ -26,8 +25,10 @@ const CALLS_ON_SPREAD: usize = 30;
 const CAUSE_OF_51: usize = 29;
 const CAUSE_OF_53: usize = 20;
 
-fn call(message: Vec<u8>) -> Call {
-    Call { message, reply_space: LEAST_REPLY_SPACE }
+/// The same settings with the largest pool, of which each peer may have all.
+fn with_largest_pool(settings: Settings) -> Settings {
+    let peers = settings.peers.map(|peer| Peer { guarantee: 0, limit: LARGEST_POOL, ..peer });
+    Settings { size: LARGEST_POOL, peers, ..settings }
 }
 
 impl Run<'_> {
@@ -40,38 +41,47 @@ impl Run<'_> {
         self.spread_teids(generator);
     }
 
-    /// Both sides agree on a message, and the product's reply has this cause.
-    fn caused(&mut self, state: &mut State, message: Vec<u8>, at: usize, cause: u8) {
+    /// Both sides agree on a message of a peer, and the product's reply has this cause.
+    fn caused(&mut self, state: &mut State, peer: u8, message: Vec<u8>, (at, cause): (usize, u8)) {
         let limit = state.unit.settings().session_limit;
         let mut table = Lent::new(state.table.content());
-        let answer = self.ask(&mut table, &message, LEAST_REPLY_SPACE);
+        let call = asked(peer, message);
+        let answer = self.ask(&mut table, &call);
         let given = answer.reply().get(at).copied();
         self.report.check(given == Some(cause), || {
             format!("cause {given:?} instead of {cause} on a table of session limit {limit}")
         });
-        self.one_call(state, &call(message));
+        self.one_call(state, &call);
     }
 
-    /// Up to the limit every establishment is accepted; past it none is, a restoration no more than
-    /// another. What takes no further place is.
+    /// Up to its half every establishment of a peer is accepted; past it none is, a restoration no more
+    /// than another, though the other peer has room. What takes no further place is.
     fn full_table(&mut self, limit: u16) {
         let settings = Settings { addresses: 1, ..largest::settings(limit) };
         let Some(mut state) = self.empty_state(&settings) else { return };
-        let last = u64::from(limit);
+        for peer in PEERS {
+            self.full_half(&mut state, peer, u64::from(limit / 2));
+        }
+        self.restore_all(&state);
+        let count = state.live.sessions.len();
+        let right = count == usize::from(largest::count(limit));
+        self.report.check(right, || format!("{count} sessions of {limit}"));
+    }
+
+    fn full_half(&mut self, state: &mut State, peer: u8, last: u64) {
+        let (of_51, of_53) = (|cause| (CAUSE_OF_51, cause), |cause| (CAUSE_OF_53, cause));
         for seid in 1..=last {
-            self.caused(&mut state, crowded::first(seid), CAUSE_OF_51, 1);
+            self.caused(state, peer, crowded::first(seid), of_51(1));
         }
         let new = last + 1;
-        self.caused(&mut state, crowded::first(new), CAUSE_OF_51, 75);
-        self.caused(&mut state, crowded::restoration(new), CAUSE_OF_51, 75);
-        self.caused(&mut state, crowded::first(last), CAUSE_OF_51, 64);
-        self.caused(&mut state, crowded::modification(last), CAUSE_OF_53, 1);
-        self.restore_all(&state);
-        self.caused(&mut state, crowded::deletion(1), CAUSE_OF_53, 1);
-        self.caused(&mut state, crowded::restoration(new), CAUSE_OF_51, 1);
-        self.caused(&mut state, crowded::restoration(1), CAUSE_OF_51, 75);
-        let count = state.live.sessions.len();
-        self.report.check(count == usize::from(limit), || format!("{count} sessions of {limit}"));
+        self.caused(state, peer, crowded::first(new), of_51(75));
+        self.caused(state, peer, crowded::restoration(new), of_51(75));
+        self.caused(state, peer, crowded::first(last), of_51(64));
+        self.caused(state, peer, crowded::modification(last), of_53(1));
+        self.restore_all(state);
+        self.caused(state, peer, crowded::deletion(1), of_53(1));
+        self.caused(state, peer, crowded::restoration(new), of_51(1));
+        self.caused(state, peer, crowded::restoration(1), of_51(75));
     }
 
     /// A table whose limit or length is another: all limits near by and far off with the length kept,
@@ -83,7 +93,7 @@ impl Run<'_> {
             let most = if filling == Filling::Full { usize::MAX } else { 7 };
             let sessions = tables::sessions(&mut self.random, &settings, filling);
             let table = layout::encode(&settings, &sessions.into_iter().take(most).collect());
-            let ask = call(crowded::first(u64::MAX / 3));
+            let ask = asked(1, crowded::first(u64::MAX / 3));
             for changed in with_other_limits(&table, limit, &mut self.random) {
                 self.changed_table(changed, &ask);
             }
@@ -93,22 +103,23 @@ impl Run<'_> {
 
     /// 6,144 TEIDs are taken from the pool's first on: a CHOOSE finds the next one, past 96 full words.
     fn past_full_words(&mut self) {
-        let settings = Settings { size: LARGEST_POOL, ..largest::settings(LARGEST_LIMIT) };
+        let settings = with_largest_pool(largest::settings(LARGEST_LIMIT));
         let sessions = largest::sessions(LARGEST_LIMIT);
         let Some(unit) = self.unit_with(&settings, &sessions) else { return };
         let mut state = State::of(unit);
         let taken = largest::TEIDS * u32::from(LARGEST_LIMIT);
         let free = self.free(state.table.content())[0];
         self.report.check(free == (0, LARGEST_POOL - taken), || format!("free {free:?}"));
-        let seid = *state.live.sessions.keys().next_back().expect("the table is full");
-        self.one_call(&mut state, &call(crowded::exchanged_pdr(seid, 0, 1000)));
+        let last = *state.live.sessions.keys().next_back().expect("the table is full");
+        let Key { peer, seid } = last;
+        self.one_call(&mut state, &asked(peer, crowded::exchanged_pdr(seid, 0, 1000)));
         let next = settings.first + taken;
-        let found = state.live.sessions.get(&seid).is_some_and(|s| s.teids().any(|t| t == next));
+        let found = state.live.sessions.get(&last).is_some_and(|s| s.teids().any(|t| t == next));
         self.report.check(found, || format!("TEID {next} was not taken"));
         // The exchanged one is free since.
-        self.one_call(&mut state, &call(crowded::exchanged_pdr(seid, 1000, 0)));
-        let held = state.live.sessions.get(&seid);
-        let same = held.is_some_and(|session| session.teids().eq(sessions[&seid].teids()));
+        self.one_call(&mut state, &asked(peer, crowded::exchanged_pdr(seid, 1000, 0)));
+        let held = state.live.sessions.get(&last);
+        let same = held.is_some_and(|session| session.teids().eq(sessions[&last].teids()));
         self.report.check(same, || "the lowest free TEID was not taken".into());
     }
 
@@ -116,7 +127,7 @@ impl Run<'_> {
     /// and last: restored, damaged, and with some generated calls.
     fn spread_teids(&mut self, generator: &mut Generator) {
         let first = u32::MAX - (LARGEST_POOL - 1);
-        let settings = Settings { first, size: LARGEST_POOL, ..largest::settings(LARGEST_LIMIT) };
+        let settings = Settings { first, ..with_largest_pool(largest::settings(LARGEST_LIMIT)) };
         let sessions = spread(&settings);
         let words: BTreeSet<u32> =
             sessions.values().flat_map(|s| s.teids()).map(|teid| (teid - first) / 64).collect();

@@ -4,7 +4,9 @@ use std::net::Ipv4Addr;
 
 use second::element::fq_csid::{NodeId, LAST_NODE_TYPE};
 use second::generate::random::Random;
-use second::session::{Families, Local, Session, Tunnel, MOST_ENDPOINTS, MOST_PDRS};
+use second::session::{
+    holdings, Families, Key, Local, Session, Sessions, Tunnel, MOST_ENDPOINTS, MOST_PDRS,
+};
 use second::settings::{Settings, LARGEST_LIMIT, LARGEST_POOL};
 
 use second::layout::*;
@@ -47,7 +49,7 @@ fn change_limit(table: &mut Vec<u8>, random: &mut Random) {
 
 /// Writes a session limit into the settings.
 pub fn write_limit(table: &mut [u8], limit: u16) {
-    table[LIMIT..COUNT].copy_from_slice(&limit.to_be_bytes());
+    table[LIMIT..PEERS].copy_from_slice(&limit.to_be_bytes());
 }
 
 /// How many slots there are.
@@ -79,7 +81,8 @@ pub fn an_offset(table: &[u8], random: &mut Random) -> usize {
         _ if count == 0 => random.below(SLOTS + SLOT),
         chance => {
             let slot = SLOTS + SLOT * random.below(count);
-            let (pdrs, endpoints, fq_csids) = (table[slot + 8], table[slot + 9], table[slot + 10]);
+            let counts = &table[slot + COUNTS..slot + PDRS];
+            let (pdrs, endpoints, fq_csids) = (counts[0], counts[1], counts[2]);
             slot + match chance {
                 2 => random.below(PDRS),
                 3..=5 => PDRS + PDR * some(pdrs, 15, random) + random.below(PDR),
@@ -101,12 +104,12 @@ fn an_area(table: &[u8], random: &mut Random) -> (usize, usize, usize) {
     let count = count(table);
     let slot = SLOTS + SLOT * random.below(count.max(1));
     // Earlier damage may count more than there is room for.
-    let said = |at: usize, most: usize| usize::from(table[slot + at]).min(most);
+    let said = |at: usize, most: usize| usize::from(table[slot + COUNTS + at]).min(most);
     match random.below(4) {
         0 => (SLOTS, SLOT, count),
-        1 => (slot + PDRS, PDR, said(8, MOST_PDRS)),
-        2 => (slot + ENDPOINTS, ENDPOINT, said(9, MOST_ENDPOINTS)),
-        _ => (slot + FQ_CSIDS, FQ_CSID, said(10, usize::from(LAST_NODE_TYPE) + 1)),
+        1 => (slot + PDRS, PDR, said(0, MOST_PDRS)),
+        2 => (slot + ENDPOINTS, ENDPOINT, said(1, MOST_ENDPOINTS)),
+        _ => (slot + FQ_CSIDS, FQ_CSID, said(2, usize::from(LAST_NODE_TYPE) + 1)),
     }
 }
 
@@ -134,16 +137,18 @@ fn change_a_record(table: &mut Vec<u8>, random: &mut Random) {
     let Some((mut settings, mut sessions)) = decode(table) else { return };
     let teids: Vec<u32> = sessions.values().flat_map(|session| session.teids()).collect();
     let addresses: Vec<Ipv4Addr> = sessions.values().flat_map(|s| s.addresses()).collect();
-    let seids: Vec<u64> = sessions.keys().copied().collect();
-    if seids.is_empty() || random.percent(10) {
+    let keys: Vec<Key> = sessions.keys().copied().collect();
+    if keys.is_empty() || random.percent(10) {
         change_settings(&mut settings, random);
+    } else if random.percent(15) {
+        change_dues(&mut settings, &sessions, random);
     } else {
-        let seid = random.pick(&seids);
-        if random.percent(5) {
-            let session = sessions.remove(&seid).expect("a SEID of the table");
-            sessions.insert(0, session);
+        let key = random.pick(&keys);
+        if random.percent(12) {
+            let session = sessions.remove(&key).expect("a key of the table");
+            sessions.insert(another_key(key, random), session);
         } else {
-            let session = sessions.get_mut(&seid).expect("a SEID of the table");
+            let session = sessions.get_mut(&key).expect("a key of the table");
             match random.percent(25) {
                 true => change_address(session, &settings, &addresses, random),
                 false => change_session(session, &settings, &teids, random),
@@ -151,6 +156,47 @@ fn change_a_record(table: &mut Vec<u8>, random: &mut Random) {
         }
     }
     *table = encode(&settings, &sessions);
+}
+
+/// A session becomes the other peer's, no peer's, or one with SEID 0.
+fn another_key(key: Key, random: &mut Random) -> Key {
+    match random.below(4) {
+        0 => Key { seid: 0, ..key },
+        1 => Key { peer: random.pick(&[0, 3, 255]), ..key },
+        _ => Key { peer: 3 - key.peer.clamp(1, 2), ..key },
+    }
+}
+
+/// A peer's address, guarantee or limit becomes another: at the edges of what it holds, of the pool and
+/// of what the other has.
+fn change_dues(settings: &mut Settings, sessions: &Sessions, random: &mut Random) {
+    let at = random.below(2);
+    let held = holdings(sessions, at as u8 + 1) as u32;
+    let by_other = holdings(sessions, 2 - at as u8) as u32;
+    let (size, other) = (settings.size, settings.peers[1 - at]);
+    let peer = &mut settings.peers[at];
+    match random.below(6) {
+        0 => peer.address = random.pick(&[other.address, [0; 4], settings.ipv4]),
+        1 => {
+            let edges = [0, peer.limit, peer.limit.wrapping_add(1), u32::MAX];
+            peer.guarantee = random.pick(&edges);
+        }
+        2 => {
+            let most = size.wrapping_sub(other.guarantee.max(by_other));
+            peer.guarantee = random.pick(&[most, most.wrapping_add(1)]);
+            peer.limit = peer.limit.max(peer.guarantee);
+        }
+        3 => {
+            let most = size.wrapping_sub(other.guarantee);
+            peer.guarantee = random.pick(&[most, most.wrapping_add(1)]);
+            peer.limit = size;
+        }
+        4 => peer.limit = random.pick(&[peer.guarantee, size, size.wrapping_add(1), u32::MAX]),
+        _ => {
+            peer.limit = random.pick(&[held, held.wrapping_sub(1), peer.guarantee.wrapping_sub(1)]);
+            peer.guarantee = peer.guarantee.min(peer.limit);
+        }
+    }
 }
 
 fn change_settings(settings: &mut Settings, random: &mut Random) {
@@ -241,7 +287,7 @@ fn change_session(session: &mut Session, settings: &Settings, teids: &[u32], ran
 }
 
 /// The parts of `layout::sound`'s reasons by which a run of damage is counted.
-pub const REASONS: [&str; 17] = [
+pub const REASONS: [&str; 21] = [
     "a length under that of its settings",
     "a session limit that is not allowed",
     "another length than its session limit's",
@@ -249,6 +295,10 @@ pub const REASONS: [&str; 17] = [
     "an octet without a meaning",
     "settings that are not allowed",
     "octets that its records do not encode to",
+    "a peer that is neither 1 nor 2",
+    "more sessions than its half",
+    "more TEIDs than its limit",
+    "holdings and guarantees that together pass the pool",
     "SEID 0",
     "an endpoint's F-TEID breaks a rule",
     "two endpoints share a TEID",

@@ -4,14 +4,14 @@
 use second::generate::tables::{self, Filling};
 use second::layout;
 use second::restoration::{self, Envelope};
-use second::session::Sessions;
+use second::session::{Key, Sessions};
 use second::settings::Settings;
 
 use crate::run::{Lent, Run};
 
 /// Tables drawn at random, before the sequences, and their session limits.
 const TABLES: usize = 200;
-const LIMITS: [u16; 5] = [64, 5, 64, 1, 100];
+const LIMITS: [u16; 5] = [64, 5, 64, 2, 100];
 
 /// What is asked for: a place, the control plane's addresses and a space.
 struct Wish<'a> {
@@ -39,19 +39,20 @@ impl Run<'_> {
             return;
         }
         let mut table = Lent::new(&layout::encode(settings, sessions));
-        for (place, (seid, session)) in sessions.iter().enumerate() {
+        for (place, (key, session)) in sessions.iter().enumerate() {
+            let Key { peer, seid } = *key;
             let sequence = place as u32 + 1;
             let envelope =
-                Envelope { header_seid: 0, sequence, ..Envelope::any(&mut self.random, *seid) };
-            let expected = restoration::request(settings, *seid, session, &envelope);
+                Envelope { header_seid: 0, sequence, ..Envelope::any(&mut self.random, seid) };
+            let expected = restoration::request(settings, seid, session, &envelope);
             let expected = expected.expect("a live session can be restored");
             let (ipv4, ipv6) = octets_of(&envelope);
             let length = expected.len();
             let wish = |space| Wish { place, ipv4: &ipv4, ipv6: &ipv6, space };
             let more = self.random.pick(&[0, 1, 100, 2048]);
-            self.one_wish(&mut table, wish(length + more), 0, &expected);
+            self.one_wish(&mut table, wish(length + more), (0, peer.into()), &expected);
             let less = self.random.pick(&[1, 2, length]);
-            self.one_wish(&mut table, wish(length - less), 4, &[]);
+            self.one_wish(&mut table, wish(length - less), (4, 0), &[]);
             self.no_address(&mut table, place);
             self.report.written += 1;
         }
@@ -59,7 +60,7 @@ impl Run<'_> {
         for place in [sessions.len(), sessions.len() + 1, limit, limit + 1, usize::MAX] {
             if place >= sessions.len() {
                 let wish = self.any_wish(place);
-                self.one_wish(&mut table, wish, 2, &[]);
+                self.one_wish(&mut table, wish, (2, 0), &[]);
             }
         }
     }
@@ -71,7 +72,7 @@ impl Run<'_> {
         }
         let place = self.random.pick(&[0, 1, 63, 64, 255, 256, usize::MAX]);
         let wish = self.any_wish(place);
-        self.one_wish(&mut Lent::new(content), wish, 1, &[]);
+        self.one_wish(&mut Lent::new(content), wish, (1, 0), &[]);
     }
 
     /// A place of a sound table, with no address or with one of another length.
@@ -81,7 +82,7 @@ impl Run<'_> {
         self.one_wish(
             table,
             Wish { place, ipv4: &[1; 16][..v4], ipv6: &[2; 16][..v6], space },
-            3,
+            (3, 0),
             &[],
         );
     }
@@ -92,19 +93,21 @@ impl Run<'_> {
         Wish { place, ipv4: &[1; 16][..v4], ipv6: &[2; 16][..v6], space }
     }
 
-    /// One call: its outcome, the octets that it writes, and that nothing else is written.
-    fn one_wish(&mut self, table: &mut Lent, wish: Wish, outcome: u32, expected: &[u8]) {
+    /// One call: its outcome and the peer that it tells, the octets that it writes, and that nothing else
+    /// is written.
+    fn one_wish(&mut self, table: &mut Lent, wish: Wish, told: (u32, u32), expected: &[u8]) {
         let before = table.content().to_vec();
         let mut space = Lent::filled(wish.space);
         let Wish { place, ipv4, ipv6, .. } = wish;
-        let (given, used) =
+        let (outcome, used, peer) =
             self.product.write_restoration(table.content(), place, ipv4, ipv6, space.lend());
-        let right = given == outcome
+        let given = (outcome, peer);
+        let right = given == told
             && used == expected.len()
             && space.content()[..used.min(wish.space)] == *expected
             && space.is_filled_from(used);
         self.report.check(right, || {
-            format!("the request at place {place}: outcome {given} for {outcome}, {used} octets")
+            format!("the request at place {place}: {given:?} for {told:?}, {used} octets")
         });
         let unchanged = table.content() == before && table.guards_hold();
         self.report.check(unchanged, || format!("place {place}: the table is written to"));

@@ -10,6 +10,7 @@ use differential::departed::report::Report;
 use differential::departed::run;
 use differential::linked;
 use second::program;
+use second::settings::PEERS;
 
 const PROGRAM: &str = "departed";
 const DEFAULT_CALLS: usize = 12_000;
@@ -37,20 +38,27 @@ fn print(report: &Report) {
         report.different_pasts, report.different_departed
     );
     println!(
-        "sessions there {}, restored before {}, requests reworded before {}",
-        report.sessions, report.restored, report.reworded
+        "with a SEID on both peers {}; requests reworded before {}",
+        report.equal_seids, report.reworded
     );
     println!("there: {:?}", report.at_points);
     println!("after the same calls: {:?}", report.after_calls);
     println!("same calls: {}, tables that differ {}", report.calls, report.tables_that_differ);
     println!("outcomes: {:?}", report.outcomes);
-    println!("causes: {:?}", report.causes);
-    println!("accepted: {:?}", report.deeds);
-    println!("changes of sessions that differ: {}", report.on_differing);
     println!(
-        "SEIDs and TEIDs asked for {}, found {}; requests written {}",
+        "SEIDs and TEIDs asked for {}, TEIDs found {}; requests written {}",
         report.asked, report.found, report.written
     );
+    for (peer, of_peer) in PEERS.into_iter().zip(&report.peers) {
+        println!(
+            "peer {peer}: sessions there {}, restored before {}, found {}, answers that it holds TEIDs {}",
+            of_peer.sessions, of_peer.restored, of_peer.found, of_peer.holding
+        );
+        println!("peer {peer}: causes: {:?}", of_peer.causes);
+        println!("peer {peer}: refused TEIDs by: {:?}", of_peer.wants);
+        println!("peer {peer}: accepted: {:?}", of_peer.deeds);
+        println!("peer {peer}: changes of sessions that differ: {}", of_peer.on_differing);
+    }
     for failure in report.failures.iter().take(MOST_PRINTED) {
         println!("failed: {failure}");
     }

@@ -3,16 +3,13 @@
 
 use std::ops::AddAssign;
 
-use second::layout::{COUNT, PDR, PDRS, SLOT, SLOTS};
+use second::layout::{COUNT, COUNTS, PDR, PDRS, SLOT, SLOTS};
 use second::request::{header, read, Record, Request};
 use second::session::{Pdr, Session, Sessions};
 
 /// Where the fields stand in a PDR's slot, one after the other: the precedence, whether there is a
 /// FAR ID, the FAR ID.
 const FIELDS: std::ops::Range<usize> = 2..11;
-
-/// Where a session's slot has the number of its PDRs.
-const PDR_COUNT: usize = 8;
 
 pub(crate) fn bare_session(session: &Session) -> Session {
     let bare = |pdr: &Pdr| Pdr { precedence: 0, far_id: None, ..pdr.clone() };
@@ -21,7 +18,7 @@ pub(crate) fn bare_session(session: &Session) -> Session {
 }
 
 pub(crate) fn bare_sessions(sessions: &Sessions) -> Sessions {
-    sessions.iter().map(|(seid, session)| (*seid, bare_session(session))).collect()
+    sessions.iter().map(|(key, session)| (*key, bare_session(session))).collect()
 }
 
 /// A table with these fields zero in the slot of every PDR; room that no PDR uses stays as it is.
@@ -29,7 +26,8 @@ pub(crate) fn blank_table(table: &[u8]) -> Vec<u8> {
     let mut blank = table.to_vec();
     let sessions = usize::from(u16::from_be_bytes([table[COUNT], table[COUNT + 1]]));
     for slot in blank[SLOTS..].chunks_mut(SLOT).take(sessions) {
-        let pdrs = usize::from(slot[PDR_COUNT]);
+        // The number of PDRs is the first of a slot's counts.
+        let pdrs = usize::from(slot[COUNTS]);
         for pdr in slot[PDRS..].chunks_mut(PDR).take(pdrs) {
             pdr[FIELDS].fill(0);
         }

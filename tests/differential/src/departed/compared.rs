@@ -3,12 +3,15 @@
 use second::generate::Call;
 use second::layout::{PDR, PDRS, SLOT, SLOTS};
 use second::restoration::LONGEST;
-use second::session::Sessions;
+use second::session::{count_of, Key, Sessions};
+use second::settings::{named_peer, other_peer, PEERS};
+use second::unit::AtEntry;
 
 use super::bare::{bare_request, bare_sessions, blank_table, Differences};
 use super::side::{Heard, Side};
 use super::ways::Way;
 use super::{hexadecimal, Pair, Run, ONE, OTHER};
+use crate::reading::NO_PEERS;
 
 impl Run<'_> {
     /// Whether the live sets are alike now, in tables that hold them.
@@ -16,18 +19,22 @@ impl Run<'_> {
         let [one, other] = &pair.sides;
         let (live, twin) = (&one.live.sessions, &other.live.sessions);
         let alike = bare_sessions(live) == bare_sessions(twin);
-        let held = pair.sides.iter().all(|side| side.holds_live_set(pair.settings()));
+        let held = pair.sides.iter().all(|side| side.holds_live_set());
         let report = &mut self.report;
         report.points += 1;
         *report.ways.entry(format!("{way:?}")).or_insert(0) += 1;
         report.different_pasts += usize::from(one.past != other.past);
         report.different_departed += usize::from(one.engine.departed() != other.engine.departed());
-        report.sessions += live.len();
+        report.equal_seids += usize::from(live.keys().any(|key| live.contains_key(&twin_of(key))));
+        for peer in PEERS {
+            report.of(peer).sessions += count_of(live, peer);
+        }
         report.at_points += Differences::between_all(live, twin);
         report.check(held, || format!("{way:?}: a table does not hold its live set"))
             && report.check(alike, || format!("{way:?}: the live sets are not alike"))
             && self.same_tables(pair, &format!("{way:?}"))
             && self.same_counts(pair, &format!("{way:?}"))
+            && self.same_peers(pair, &format!("{way:?}"))
     }
 
     /// One same call on both; whether all was the same.
@@ -35,12 +42,9 @@ impl Run<'_> {
         let chosen = self.random.pick(&[ONE, OTHER]);
         let call = pair.scripts[chosen].next(&pair.sides[chosen].live.sessions);
         let before = pair.sides.each_ref().map(|side| side.live.sessions.clone());
-        let heard = pair
-            .sides
-            .each_mut()
-            .map(|side| side.ask(&call.message, call.reply_space, &mut self.random));
+        let heard = pair.sides.each_mut().map(|side| side.ask(&call, &mut self.random));
         self.report.calls += 1;
-        let after = format!("after {}", hexadecimal(&call.message));
+        let after = format!("after peer {}'s {}", call.peer, hexadecimal(&call.message));
         let [one, other] = match heard {
             [Ok(one), Ok(other)] => [one, other],
             [one, other] => {
@@ -52,6 +56,7 @@ impl Run<'_> {
         let same = self.same_heard(&one, &other, &after)
             && self.same_tables(pair, &after)
             && self.same_counts(pair, &after)
+            && self.same_peers(pair, &after)
             && self.same_places(pair, &after)
             && self.same_live_sets(pair, &after);
         if same {
@@ -104,6 +109,19 @@ impl Run<'_> {
         })
     }
 
+    /// What each peer has, and that there is no other; nothing where the product has no such call.
+    fn same_peers(&mut self, pair: &Pair, after: &str) -> bool {
+        let other = self.random.pick(&NO_PEERS);
+        [1, 2, other].into_iter().all(|peer| {
+            let counts = |side: &Side| side.engine.peer_count(side.table.content(), peer);
+            let [Some(one), Some(twin)] = pair.sides.each_ref().map(counts) else { return true };
+            if let (Some(peer), (0, _, 1..)) = (named_peer(peer), one) {
+                self.report.of(peer).holding += 1;
+            }
+            self.report.check(one == twin, || format!("peer {peer}: {one:?} and {twin:?} {after}"))
+        })
+    }
+
     /// The places of some SEIDs and TEIDs that are live, and of some that are not.
     fn same_places(&mut self, pair: &Pair, after: &str) -> bool {
         let sessions = &pair.sides[ONE].live.sessions;
@@ -112,35 +130,48 @@ impl Run<'_> {
         let mut teids = vec![pair.settings().first.wrapping_add(any as u32 % 100), any as u32];
         if !sessions.is_empty() {
             let chosen = self.random.below(sessions.len());
-            let (seid, session) = sessions.iter().nth(chosen).expect("a live session");
-            seids.push(*seid);
+            let (key, session) = sessions.iter().nth(chosen).expect("a live session");
+            seids.push(key.seid);
             teids.extend(session.teids().take(3));
         }
         self.found_alike(pair, &seids, &teids, after)
     }
 
+    /// The places of SEIDs, of each peer and of none, and of TEIDs.
     fn found_alike(&mut self, pair: &Pair, seids: &[u64], teids: &[u32], after: &str) -> bool {
-        let places = |side: &Side| {
-            let (engine, table) = (&side.engine, side.table.content());
-            let of_seid = |seid: &u64| Some(("SEID", *seid, engine.find_session(table, *seid)?));
-            let of_teid =
-                |teid: &u32| Some(("TEID", u64::from(*teid), engine.find_teid(table, *teid)?));
-            let found = seids.iter().filter_map(of_seid);
-            found.chain(teids.iter().filter_map(of_teid)).collect::<Vec<_>>()
-        };
-        let [one, other] = pair.sides.each_ref().map(places);
-        one.iter().zip(&other).all(|((what, number, found), (_, _, twin))| {
-            self.report.asked += 1;
-            self.report.found += usize::from(found.0 == 0);
-            self.report
-                .check(found == twin, || format!("{what} {number}: {found:?} and {twin:?} {after}"))
+        let other = self.random.pick(&NO_PEERS);
+        let of_peers = |seid: &u64| [1, 2, other].map(|peer| (peer, *seid));
+        seids.iter().flat_map(of_peers).all(|(peer, seid)| {
+            let find = |side: &Side| side.engine.find_session(side.table.content(), peer, seid);
+            let found = pair.sides.each_ref().map(find);
+            if let (Some(peer), Some((0, _))) = (named_peer(peer), found[ONE]) {
+                self.report.of(peer).found += 1;
+            }
+            self.same_place(found, || format!("peer {peer}'s SEID {seid}"), after)
+        }) && teids.iter().all(|teid| {
+            let find = |side: &Side| side.engine.find_teid(side.table.content(), *teid);
+            let found = pair.sides.each_ref().map(find);
+            self.report.found += usize::from(found[ONE].is_some_and(|found| found.0 == 0));
+            self.same_place(found, || format!("TEID {teid}"), after)
         })
+    }
+
+    /// One place that both were asked for; nothing where the product has no such call.
+    fn same_place(
+        &mut self,
+        found: [Option<(u32, usize)>; 2],
+        what: impl FnOnce() -> String,
+        after: &str,
+    ) -> bool {
+        let [Some(one), Some(twin)] = found else { return true };
+        self.report.asked += 1;
+        self.report.check(one == twin, || format!("{}: {one:?} and {twin:?} {after}", what()))
     }
 
     /// The live sets, folded from the replies alone: alike, and held by their tables.
     fn same_live_sets(&mut self, pair: &Pair, after: &str) -> bool {
         let [one, other] = pair.sides.each_ref().map(|side| bare_sessions(&side.live.sessions));
-        let held = pair.sides.iter().all(|side| side.holds_live_set(pair.settings()));
+        let held = pair.sides.iter().all(|side| side.holds_live_set());
         self.report.check(one == other, || format!("the live sets are not alike {after}"))
             && self.report.check(held, || format!("a table does not hold its live set {after}"))
     }
@@ -148,13 +179,14 @@ impl Run<'_> {
     /// The places of all SEIDs and TEIDs, and the restoration requests of all sessions.
     pub(crate) fn all_readings(&mut self, pair: &Pair) -> bool {
         let sessions = &pair.sides[ONE].live.sessions;
-        let seids: Vec<u64> = sessions.keys().flat_map(|seid| [*seid, seid ^ 1]).collect();
+        let seids: Vec<u64> = sessions.keys().flat_map(|key| [key.seid, key.seid ^ 1]).collect();
         let teids: Vec<u32> = sessions.values().flat_map(|session| session.teids()).collect();
         self.found_alike(pair, &seids, &teids, "at the end")
             && (0..=sessions.len()).all(|place| self.same_restoration(pair, place))
     }
 
-    /// The writer's requests, which have these fields, are alike without them.
+    /// The writer's requests, which have these fields, are alike without them, and are to run under
+    /// their session's peer.
     fn same_restoration(&mut self, pair: &Pair, place: usize) -> bool {
         if self.product.write_restoration.is_none() {
             return true;
@@ -162,13 +194,15 @@ impl Run<'_> {
         let written = pair.sides.each_ref().map(|side| {
             let mut space = vec![0; LONGEST];
             let table = side.table.content();
-            let (outcome, used) =
+            let (outcome, used, peer) =
                 self.product.write_restoration(table, place, &[127, 0, 0, 1], &[], &mut space);
-            (outcome, bare_request(&space[..used.min(LONGEST)]))
+            (outcome, peer, bare_request(&space[..used.min(LONGEST)]))
         });
         self.report.written += usize::from(written[ONE].0 == 0);
-        let live = place < pair.sides[ONE].live.sessions.len();
-        let right = written[ONE] == written[OTHER] && written[ONE].1.is_some() == live;
+        let live = pair.sides[ONE].live.sessions.keys().nth(place);
+        let right = written[ONE] == written[OTHER]
+            && written[ONE].2.is_some() == live.is_some()
+            && written[ONE].1 == live.map_or(0, |key| key.peer.into());
         self.report.check(right, || format!("the requests written of place {place}: {written:?}"))
     }
 
@@ -179,7 +213,16 @@ impl Run<'_> {
         self.report.tables_that_differ += usize::from(between.any());
         self.report.after_calls += between;
         self.report.met(call, heard, before, one);
+        if let (Some(peer), Some(75)) = (named_peer(call.peer), heard.cause()) {
+            let entry = AtEntry { settings: pair.settings(), sessions: &before[ONE], peer };
+            self.report.met_limit(entry, &call.message);
+        }
     }
+}
+
+/// The same SEID on the other peer.
+fn twin_of(key: &Key) -> Key {
+    Key { peer: other_peer(key.peer), ..*key }
 }
 
 /// Where an octet stands, by docs/layout.md.

@@ -2,7 +2,8 @@
 //! differ in any way but whose live sessions agree in all but PDRs' precedences and FAR IDs. From
 //! then on, any same sequence of calls to the engine, in equally long reply spaces, gets the same
 //! outcomes, places, replies and free counts, and leaves tables that differ at most in these
-//! fields."
+//! fields." With 02 (xiv) it is read "over the pairs of peer and SEID, each request with its peer and
+//! each restoration under its session's".
 //!
 //! * `side`: one of the two tables, with its past.
 //! * `ways`: how two tables come to be alike.

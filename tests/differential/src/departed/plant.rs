@@ -2,7 +2,8 @@
 
 use second::ie;
 use second::layout::{self, COUNT};
-use second::session::{Pdr, Session, Sessions};
+use second::session::{Key, Pdr, Session, Sessions};
+use second::settings::named_peer;
 
 use crate::product::Product;
 
@@ -19,6 +20,8 @@ pub enum Plant {
     Teids,
     /// One address less is free where an odd number of sessions has gone from the table.
     Past,
+    /// A peer holds one TEID more where an odd number of the other's sessions has gone.
+    Peers,
     /// A TEID is not found where the first PDR of its session has a FAR ID.
     Finder,
     /// The last octet of a table is set where the sum of the precedences is odd.
@@ -30,12 +33,13 @@ pub enum Plant {
 }
 
 impl Plant {
-    pub const ALL: [(&'static str, Plant); 9] = [
+    pub const ALL: [(&'static str, Plant); 10] = [
         ("outcome", Plant::Outcome),
         ("reply", Plant::Reply),
         ("place", Plant::Place),
         ("teids", Plant::Teids),
         ("past", Plant::Past),
+        ("peers", Plant::Peers),
         ("finder", Plant::Finder),
         ("table", Plant::Table),
         ("space", Plant::Space),
@@ -54,18 +58,18 @@ pub(crate) struct Engine<'a> {
     plant: Option<Plant>,
     /// The plant shows from the point on at which the live sets are alike; before, it remembers.
     shows: bool,
-    /// How many sessions have gone from the table.
-    departed: usize,
+    /// How many sessions of each peer have gone from the table.
+    departed: [usize; 2],
 }
 
 type Answered = (u32, usize, usize);
 
 impl<'a> Engine<'a> {
     pub(crate) fn new(product: &'a Product, plant: Option<Plant>) -> Engine<'a> {
-        Engine { product, plant, shows: false, departed: 0 }
+        Engine { product, plant, shows: false, departed: [0; 2] }
     }
 
-    pub(crate) fn departed(&self) -> usize {
+    pub(crate) fn departed(&self) -> [usize; 2] {
         self.departed
     }
 
@@ -81,17 +85,20 @@ impl<'a> Engine<'a> {
     pub(crate) fn request(
         &mut self,
         table: &mut [u8],
+        peer: u32,
         message: &[u8],
         space: &mut [u8],
     ) -> Answered {
         let (before, old) = (count(table), space.first().copied());
         let sessions = self.seen(table);
-        if self.shows(Plant::Outcome) && named(message, &sessions).is_some_and(is_odd) {
+        if self.shows(Plant::Outcome) && named(peer, message, &sessions).is_some_and(is_odd) {
             return (3, 0, 0);
         }
         let length = table.len();
-        let mut answered = self.product.request(table, message, space);
-        self.departed += before.saturating_sub(count(table));
+        let mut answered = self.product.request(table, peer, message, space);
+        if let Some(place) = place_of_peer(peer) {
+            self.departed[place] += before.saturating_sub(count(table));
+        }
         if let (true, Some(plant), (0, used, place)) = (self.shows, self.plant, &mut answered) {
             match plant {
                 Plant::Reply if odd_far_ids(&sessions) => space[last_of_header(space)] ^= 1,
@@ -113,7 +120,7 @@ impl<'a> Engine<'a> {
 
     pub(crate) fn free_addresses(&self, table: &[u8]) -> (u32, u32) {
         let (outcome, count) = self.product.free_addresses(table);
-        let odd = self.shows(Plant::Past) && self.departed % 2 == 1;
+        let odd = self.shows(Plant::Past) && self.departed.iter().sum::<usize>() % 2 == 1;
         (outcome, count.wrapping_sub(u32::from(odd)))
     }
 
@@ -123,8 +130,16 @@ impl<'a> Engine<'a> {
         Some((outcome, count as u32))
     }
 
-    pub(crate) fn find_session(&self, table: &[u8], seid: u64) -> Option<(u32, usize)> {
-        self.product.reading.map(|reading| reading.find_session(table, seid))
+    /// The outcome, and how many sessions and TEIDs a peer has.
+    pub(crate) fn peer_count(&self, table: &[u8], peer: u32) -> Option<(u32, u32, u32)> {
+        let (outcome, sessions, teids) = self.product.reading?.peer_count(table, peer);
+        let others = place_of_peer(peer).map_or(0, |place| self.departed[1 - place]);
+        let odd = self.shows(Plant::Peers) && others % 2 == 1;
+        Some((outcome, sessions, teids.wrapping_add(u32::from(odd))))
+    }
+
+    pub(crate) fn find_session(&self, table: &[u8], peer: u32, seid: u64) -> Option<(u32, usize)> {
+        self.product.reading.map(|reading| reading.find_session(table, peer, seid))
     }
 
     pub(crate) fn find_teid(&self, table: &[u8], teid: u32) -> Option<(u32, usize)> {
@@ -145,15 +160,21 @@ impl<'a> Engine<'a> {
     }
 }
 
+/// Where the counts by peer have this peer's.
+fn place_of_peer(peer: u32) -> Option<usize> {
+    named_peer(peer).map(|peer| usize::from(peer) - 1)
+}
+
 fn count(table: &[u8]) -> usize {
     usize::from(u16::from_be_bytes([table[COUNT], table[COUNT + 1]]))
 }
 
-/// The session that the header of a modification or deletion names.
-fn named<'s>(message: &[u8], sessions: &'s Sessions) -> Option<&'s Session> {
+/// The peer's session that the header of a modification or deletion names.
+fn named<'s>(peer: u32, message: &[u8], sessions: &'s Sessions) -> Option<&'s Session> {
     let served = matches!(message.get(1), Some(52 | 54));
     let seid = message.get(4..12).filter(|_| served)?;
-    sessions.get(&u64::from_be_bytes(seid.try_into().ok()?))
+    let seid = u64::from_be_bytes(seid.try_into().ok()?);
+    sessions.get(&Key { peer: named_peer(peer)?, seid })
 }
 
 fn is_odd(session: &Session) -> bool {

@@ -3,10 +3,12 @@
 use std::hash::{DefaultHasher, Hash, Hasher};
 
 use second::generate::random::Random;
+use second::generate::Call;
 use second::ie;
 use second::layout;
 use second::live::LiveSet;
 use second::request::framing::{elements, Part};
+use second::session::records_hold;
 use second::settings::Settings;
 
 use super::plant::Engine;
@@ -35,7 +37,8 @@ impl Heard {
     }
 }
 
-/// The past of a table: how many requests, how many of them accepted, and a digest of them all.
+/// The past of a table: how many requests, how many of them accepted, and a digest of them all with
+/// their peers.
 #[derive(Clone, PartialEq, Eq, Debug, Default)]
 pub(crate) struct Past {
     pub(crate) requests: usize,
@@ -44,9 +47,9 @@ pub(crate) struct Past {
 }
 
 impl Past {
-    fn follow(&mut self, message: &[u8], accepted: bool) {
+    fn follow(&mut self, call: &Call, accepted: bool) {
         let mut hasher = DefaultHasher::new();
-        (self.digest, message).hash(&mut hasher);
+        (self.digest, call.peer, &call.message).hash(&mut hasher);
         self.digest = hasher.finish();
         self.requests += 1;
         self.accepted += usize::from(accepted);
@@ -56,6 +59,7 @@ impl Past {
 #[derive(Clone)]
 pub(crate) struct Side<'a> {
     pub(crate) engine: Engine<'a>,
+    settings: Settings,
     pub(crate) table: Lent,
     pub(crate) live: LiveSet,
     pub(crate) past: Past,
@@ -76,33 +80,32 @@ impl<'a> Side<'a> {
             ipv6,
             (settings.first, settings.size),
             (settings.first_address, settings.addresses),
-            settings.session_limit.into(),
+            (settings.session_limit.into(), settings.peers),
         );
-        (made == 0).then(|| Side { engine, table, live: LiveSet::new(), past: Past::default() })
+        let (settings, live, past) = (settings.clone(), LiveSet::new(), Past::default());
+        (made == 0).then_some(Side { engine, settings, table, live, past })
     }
 
-    /// One request in a reply space with old contents of its own. An error tells of a reply that
-    /// the live set cannot follow.
-    pub(crate) fn ask(
-        &mut self,
-        message: &[u8],
-        space: usize,
-        random: &mut Random,
-    ) -> Result<Heard, String> {
-        let old = random.octets(space);
+    /// One request of a peer in a reply space with old contents of its own. An error tells of a reply
+    /// that the live set cannot follow, or that makes it one that no table may hold.
+    pub(crate) fn ask(&mut self, call: &Call, random: &mut Random) -> Result<Heard, String> {
+        let (peer, message) = (call.peer, &call.message);
+        let old = random.octets(call.reply_space);
         let mut space = Lent::new(&old);
-        let (outcome, used, place) = self.engine.request(self.table.lend(), message, space.lend());
+        let (outcome, used, place) =
+            self.engine.request(self.table.lend(), peer, message, space.lend());
         let written = used.min(old.len());
         let (reply, rest) = space.content().split_at(written);
         let rest_stays = rest == &old[written..] && space.guards_hold() && self.table.guards_hold();
         let heard = Heard { outcome, used, place, reply: reply.to_vec(), rest_stays };
-        self.past.follow(message, heard.is_accepted());
-        self.live.follow(message, outcome as u8, &heard.reply)?;
+        self.past.follow(call, heard.is_accepted());
+        self.live.follow(peer, message, outcome as u8, &heard.reply)?;
+        records_hold(&self.settings, &self.live.sessions)?;
         Ok(heard)
     }
 
     /// Whether the table holds its live set, to the octet.
-    pub(crate) fn holds_live_set(&self, settings: &Settings) -> bool {
-        self.table.content() == layout::encode(settings, &self.live.sessions)
+    pub(crate) fn holds_live_set(&self) -> bool {
+        self.table.content() == layout::encode(&self.settings, &self.live.sessions)
     }
 }

@@ -3,19 +3,20 @@
 use second::generate::{Call, Generator, Scenario};
 use second::ie::LEAST_REPLY_SPACE;
 use second::restoration::{self, Envelope};
-use second::session::Sessions;
+use second::session::{Key, Sessions};
 use second::settings::Settings;
 
 use super::bare::bare_session;
 use super::reworded::{deletion, reworded_request, reworded_session, updates};
 use super::side::{Heard, Side};
 use super::{hexadecimal, Pair, Run, ONE, OTHER};
+use crate::run::asked;
 
 /// How two tables come to be alike.
 #[derive(Clone, Copy, PartialEq, Eq, PartialOrd, Ord, Debug)]
 pub enum Way {
     /// Each has requests of its own; then one takes over the live set of the other by deletions and
-    /// restorations.
+    /// restorations, each under its session's peer.
     Restored,
     /// From alike ones: the same accepted requests with other precedences and FAR IDs, and between
     /// them refused requests and sessions that come and go.
@@ -53,8 +54,7 @@ impl Run<'_> {
             for _ in 0..self.past_length(pair) {
                 let live = &pair.sides[number].live.sessions;
                 let call = pair.scripts[number].next(live);
-                let (message, space) = (&call.message, call.reply_space);
-                pair.sides[number].ask(message, space, &mut self.random)?;
+                pair.sides[number].ask(&call, &mut self.random)?;
             }
         }
         let settings = pair.settings().clone();
@@ -74,7 +74,8 @@ impl Run<'_> {
     }
 
     /// Deletes what a table has else, and often what it has already, and restores what it lacks, in
-    /// any order.
+    /// any order over both peers. What is there on the way is part of a live set, so no peer's due
+    /// stands against a restoration.
     fn taken_over(
         &mut self,
         settings: &Settings,
@@ -82,26 +83,27 @@ impl Run<'_> {
         side: &mut Side,
     ) -> Result<(), String> {
         let all = self.random.percent(60);
-        let has = |seid: &u64, side: &Side| match (wanted.get(seid), side.live.sessions.get(seid)) {
+        let has = |key: &Key, side: &Side| match (wanted.get(key), side.live.sessions.get(key)) {
             (Some(session), Some(own)) => bare_session(session) == bare_session(own),
             _ => false,
         };
-        let mut seids: Vec<u64> = side.live.sessions.keys().copied().collect();
-        seids.retain(|seid| all || !has(seid, side));
-        self.random.shuffle(&mut seids);
-        for seid in seids {
-            let message = deletion(seid, &mut self.random);
-            self.must_accept(side, &message)?;
+        let mut keys: Vec<Key> = side.live.sessions.keys().copied().collect();
+        keys.retain(|key| all || !has(key, side));
+        self.random.shuffle(&mut keys);
+        for key in keys {
+            let message = deletion(key.seid, &mut self.random);
+            self.must_accept(side, &asked(key.peer, message))?;
         }
-        let mut seids: Vec<u64> = wanted.keys().copied().collect();
-        seids.retain(|seid| !has(seid, side));
-        self.random.shuffle(&mut seids);
-        for seid in seids {
-            let session = reworded_session(&wanted[&seid], &mut self.random);
-            let envelope = Envelope::any(&mut self.random, seid);
-            let message = restoration::request(settings, seid, &session, &envelope);
-            self.must_accept(side, &message.ok_or("a session that cannot be restored")?)?;
-            self.report.restored += 1;
+        let mut keys: Vec<Key> = wanted.keys().copied().collect();
+        keys.retain(|key| !has(key, side));
+        self.random.shuffle(&mut keys);
+        for key in keys {
+            let session = reworded_session(&wanted[&key], &mut self.random);
+            let envelope = Envelope::any(&mut self.random, key.seid);
+            let message = restoration::request(settings, key.seid, &session, &envelope);
+            let message = message.ok_or("a session that cannot be restored")?;
+            self.must_accept(side, &asked(key.peer, message))?;
+            self.report.of(key.peer).restored += 1;
         }
         Ok(())
     }
@@ -110,14 +112,14 @@ impl Run<'_> {
         for _ in 0..self.past_length(pair) {
             let [one, other] = &mut pair.sides;
             let call = pair.scripts[ONE].next(&one.live.sessions);
-            let heard = one.ask(&call.message, call.reply_space, &mut self.random)?;
+            let heard = one.ask(&call, &mut self.random)?;
             if heard.is_accepted() {
                 let message = reworded_request(&call.message, &mut self.random);
-                let reply = self.must_accept(other, &message)?.reply;
-                if reply != heard.reply {
-                    return Err(format!("another reply to {}", hexadecimal(&message)));
-                }
                 self.report.reworded += usize::from(message != call.message);
+                let reworded = Call { message, reply_space: LEAST_REPLY_SPACE, ..call };
+                if self.must_accept(other, &reworded)?.reply != heard.reply {
+                    return Err(format!("another reply to {}", hexadecimal(&reworded.message)));
+                }
             }
             let passing = self.random.pick(&[ONE, OTHER]);
             self.passing(&mut pair.sides[passing], &mut pair.scripts[passing])?;
@@ -128,37 +130,37 @@ impl Run<'_> {
     /// A refused request, or a session that comes and goes.
     fn passing(&mut self, side: &mut Side, script: &mut Script) -> Result<(), String> {
         let call = script.next(&side.live.sessions);
-        let (message, space) = (&call.message, call.reply_space);
         let mut tried = side.clone();
-        if !tried.ask(message, space, &mut self.random)?.is_accepted() {
-            side.ask(message, space, &mut self.random)?;
+        if !tried.ask(&call, &mut self.random)?.is_accepted() {
+            side.ask(&call, &mut self.random)?;
             return Ok(());
         }
-        let new = tried.live.sessions.keys().find(|seid| !side.live.sessions.contains_key(seid));
-        if let Some(seid) = new {
-            side.ask(message, space, &mut self.random)?;
-            let message = deletion(*seid, &mut self.random);
-            self.must_accept(side, &message)?;
+        let new = tried.live.sessions.keys().find(|key| !side.live.sessions.contains_key(key));
+        if let Some(key) = new {
+            side.ask(&call, &mut self.random)?;
+            let message = deletion(key.seid, &mut self.random);
+            self.must_accept(side, &asked(key.peer, message))?;
         }
         Ok(())
     }
 
     /// Other precedences and FAR IDs in some sessions.
     fn updated(&mut self, side: &mut Side) -> Result<(), String> {
-        for seid in side.live.sessions.keys().copied().collect::<Vec<_>>() {
+        for key in side.live.sessions.keys().copied().collect::<Vec<_>>() {
             if self.random.percent(40) {
-                let message = updates(seid, &side.live.sessions[&seid], &mut self.random);
-                self.must_accept(side, &message)?;
+                let message = updates(key.seid, &side.live.sessions[&key], &mut self.random);
+                self.must_accept(side, &asked(key.peer, message))?;
             }
         }
         Ok(())
     }
 
-    fn must_accept(&mut self, side: &mut Side, message: &[u8]) -> Result<Heard, String> {
-        let heard = side.ask(message, LEAST_REPLY_SPACE, &mut self.random)?;
+    fn must_accept(&mut self, side: &mut Side, call: &Call) -> Result<Heard, String> {
+        let heard = side.ask(call, &mut self.random)?;
+        let (peer, message) = (call.peer, hexadecimal(&call.message));
         match heard.is_accepted() {
             true => Ok(heard),
-            false => Err(format!("{:?} for {}", heard.cause(), hexadecimal(message))),
+            false => Err(format!("{:?} for peer {peer}'s {message}", heard.cause())),
         }
     }
 }
