@@ -4,7 +4,7 @@
 #include <stdio.h>
 #include <string.h>
 
-bool address_read(struct address *address, const char *text, uint16_t port)
+bool address_read(struct address *address, const char *text)
 {
     struct sockaddr_in *v4 = (struct sockaddr_in *)&address->socket;
     struct sockaddr_in6 *v6 = (struct sockaddr_in6 *)&address->socket;
@@ -12,18 +12,22 @@ bool address_read(struct address *address, const char *text, uint16_t port)
     memset(address, 0, sizeof *address);
     if (inet_pton(AF_INET, text, &v4->sin_addr) == 1) {
         v4->sin_family = AF_INET;
-        v4->sin_port = htons(port);
         address->length = sizeof *v4;
         return true;
     }
     memset(address, 0, sizeof *address);
     if (inet_pton(AF_INET6, text, &v6->sin6_addr) == 1) {
         v6->sin6_family = AF_INET6;
-        v6->sin6_port = htons(port);
         address->length = sizeof *v6;
         return true;
     }
     return false;
+}
+
+/* The port has the same place in both kinds of address. */
+void address_set_port(struct address *address, uint16_t port)
+{
+    ((struct sockaddr_in *)&address->socket)->sin_port = htons(port);
 }
 
 bool address_is_ipv4(const struct address *address)
@@ -44,22 +48,12 @@ static const uint8_t *octets_of(const struct address *address)
     return v6->sin6_addr.s6_addr + (address_is_ipv4(address) ? 12 : 0);
 }
 
-void address_octets(const struct address *address, uint8_t *octets)
-{
-    static const uint8_t mapped[12] = {[10] = 0xFF, [11] = 0xFF};
-    bool v4 = address_is_ipv4(address);
-
-    memcpy(octets, mapped, sizeof mapped);
-    memcpy(octets + (v4 ? 12 : 0), octets_of(address), v4 ? 4 : ADDRESS_OCTETS);
-}
-
 const char *address_text(const struct address *address, char *room, size_t size)
 {
     char text[INET6_ADDRSTRLEN];
     bool v4 = address_is_ipv4(address);
     const struct sockaddr_in *port = (const struct sockaddr_in *)&address->socket;
 
-    /* The port has the same place in both kinds of address. */
     if (!inet_ntop(v4 ? AF_INET : AF_INET6, octets_of(address), text, sizeof text))
         return "?";
     snprintf(room, size, v4 ? "%s:%u" : "[%s]:%u", text, (unsigned)ntohs(port->sin_port));

@@ -1,4 +1,4 @@
-/* Addresses of peers: as text, and whether two are the same. */
+/* Addresses of control planes and of the unit: as text, and whether two are the same. */
 #ifndef ADDRESS_H
 #define ADDRESS_H
 
@@ -16,15 +16,14 @@ struct address {
     socklen_t length;
 };
 
-/* Reads an address without a port; gives false where the text is none. */
-bool address_read(struct address *address, const char *text, uint16_t port);
+/* Reads an address, whose port is then 0; gives false where the text is none. */
+bool address_read(struct address *address, const char *text);
+
+/* Gives an address a port. */
+void address_set_port(struct address *address, uint16_t port);
 
 /* The address with its port. An IPv4 address that an IPv6 socket reports is shown as IPv4. */
 const char *address_text(const struct address *address, char *room, size_t size);
-
-/* The address as the 16 octets of IPv6; IPv4 stands in their end, after 80 zeros and 16 ones. */
-enum { ADDRESS_OCTETS = 16 };
-void address_octets(const struct address *address, uint8_t *octets);
 
 /* Whether two addresses are the same, whatever the ports. */
 bool address_same(const struct address *one, const struct address *other);

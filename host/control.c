@@ -111,35 +111,48 @@ static void take_client(struct control *control)
     control->answering = false;
 }
 
-/* Takes a question apart; gives false where it is none. A SEID of 0 stands for all sessions. */
-static bool understand(char *question, uint64_t *seid, unsigned *form)
+/* Cuts a question's ending off, if it has it. */
+static bool cut(char *question, const char *ending)
 {
-    char *last = strrchr(question, ' ');
+    size_t length = strlen(question);
+    size_t cut = strlen(ending);
 
-    *seid = 0;
-    if (!last)
+    if (length < cut || strcmp(question + length - cut, ending) != 0)
         return false;
-    if (strcmp(last, " text") != 0 && strcmp(last, " json") != 0)
+    question[length - cut] = '\0';
+    return true;
+}
+
+/* Takes a question apart; gives false where it is none. */
+static bool understand(char *question, struct wanted *wanted)
+{
+    memset(wanted, 0, sizeof *wanted);
+    if (cut(question, " json"))
+        wanted->form = LIST_JSON;
+    else if (!cut(question, " text"))
         return false;
-    *form = last[1] == 'j' ? LIST_JSON : 0;
-    *last = '\0';
+    if (cut(question, " peer 1"))
+        wanted->peer = 1;
+    else if (cut(question, " peer 2"))
+        wanted->peer = 2;
+    wanted->form |= LIST_COUNTERS;
     if (strcmp(question, "list") == 0)
         return true;
-    return strncmp(question, "session ", 8) == 0 && read_number(question + 8, 1, UINT64_MAX, seid);
+    return strncmp(question, "session ", 8) == 0 &&
+           read_number(question + 8, 1, UINT64_MAX, &wanted->seid);
 }
 
 /* Starts the answer: its first line, and the list that follows. */
 static void answer(struct control *control, const struct unit *unit, struct output *out)
 {
     const char *wrong = NULL;
-    uint64_t seid;
-    unsigned form;
+    struct wanted wanted;
 
-    if (!understand(control->question, &seid, &form))
+    if (!understand(control->question, &wanted))
         wrong = "the unit does not know this question";
-    else if (seid == 0)
-        listing_all(&control->listing, unit, output_dropped(out), form | LIST_COUNTERS);
-    else if (!listing_one(&control->listing, unit, seid, form))
+    else if (wanted.peer > unit->options->peer_count)
+        wrong = "the unit has one control plane, peer 1";
+    else if (!listing_start(&control->listing, unit, &wanted, output_dropped(out)))
         wrong = "this session is not live";
     control->answering = true;
     control->limit = seconds() + ANSWER_TIME;

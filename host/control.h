@@ -4,6 +4,8 @@
  *
  *   list text | list json | session SEID text | session SEID json
  *
+ * Before the last word "peer 1" or "peer 2" may stand: that peer's sessions only.
+ *
  * The answer is a line "ok" and the list, or a line that says what is wrong; a zero octet ends it.
  */
 #ifndef CONTROL_H
@@ -18,7 +20,7 @@
 #include "output.h"
 #include "unit.h"
 
-/* The longest question is "session 18446744073709551615 text". */
+/* The longest question is "session 18446744073709551615 peer 1 text". */
 enum { QUESTION_ROOM = 64 };
 
 /* The seconds that a client has for its question, and for the answer: a list of 256 sessions is given

@@ -89,8 +89,8 @@ ssize_t datagrams_receive(int socket, struct datagram *from, uint8_t *room, size
         size_t aligned;
     } control;
     struct iovec one = {.iov_base = room, .iov_len = size};
-    struct msghdr message = {.msg_name = &from->peer.socket,
-                             .msg_namelen = sizeof from->peer.socket,
+    struct msghdr message = {.msg_name = &from->sender.socket,
+                             .msg_namelen = sizeof from->sender.socket,
                              .msg_iov = &one,
                              .msg_iovlen = 1,
                              .msg_control = control.octets,
@@ -100,7 +100,7 @@ ssize_t datagrams_receive(int socket, struct datagram *from, uint8_t *room, size
     ssize_t length = recvmsg(socket, &message, MSG_DONTWAIT);
     if (length < 0)
         return -1;
-    from->peer.length = message.msg_namelen;
+    from->sender.length = message.msg_namelen;
     for (struct cmsghdr *c = CMSG_FIRSTHDR(&message); c; c = CMSG_NXTHDR(&message, c))
         read_control(from, c);
     return length;
@@ -109,8 +109,8 @@ ssize_t datagrams_receive(int socket, struct datagram *from, uint8_t *room, size
 int datagrams_answer(int socket, struct datagram *to, const uint8_t *octets, size_t length)
 {
     struct iovec one = {.iov_base = (void *)octets, .iov_len = length};
-    struct msghdr message = {.msg_name = &to->peer.socket,
-                             .msg_namelen = to->peer.length,
+    struct msghdr message = {.msg_name = &to->sender.socket,
+                             .msg_namelen = to->sender.length,
                              .msg_iov = &one,
                              .msg_iovlen = 1,
                              .msg_control = to->local_length > 0 ? to->local.octets : NULL,

@@ -1,4 +1,4 @@
-/* The unit's UDP socket: it answers from the address that it was asked on. */
+/* A UDP socket of the unit: it answers from the address that it was asked on. */
 #ifndef DATAGRAMS_H
 #define DATAGRAMS_H
 
@@ -14,7 +14,7 @@ enum { WANTED_BUFFER = 4 << 20, LOCAL_ROOM = 64 };
 
 /* Who sent a datagram, on which address it came, and how many the system has dropped until then. */
 struct datagram {
-    struct address peer;
+    struct address sender;
     union {
         uint8_t octets[LOCAL_ROOM];
         size_t aligned;

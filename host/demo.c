@@ -1,7 +1,7 @@
 /*
- * A scripted exchange: a control-plane peer with a socket of its own sends requests to the unit
- * over the loopback interface and reads the replies. Both run in one process, one after the other,
- * so the output is the same every time.
+ * Scripted exchanges: a control-plane peer with a socket of its own, then two that share a unit, send
+ * requests to the unit over the loopback interface and read the replies. All run in one process, one
+ * after the other, so the output is the same every time.
  */
 #include <arpa/inet.h>
 #include <errno.h>
@@ -19,23 +19,25 @@
 
 struct exchange {
     struct unit *unit;
-    int peer;
+    int sockets[PFCP_PEERS]; /* the control planes' own */
+    uint32_t peer;           /* who sends the next request */
     int step;
 };
 
 static void print_sessions(const struct unit *unit)
 {
     static struct listing listing;
+    static const struct wanted all;
     struct text text = {.length = 0};
 
-    listing_all(&listing, unit, 0, 0);
+    listing_start(&listing, unit, &all, 0);
     while (listing_next(&listing, &text)) {
         fwrite(text.octets, 1, text.length, stdout);
         text.length = 0;
     }
 }
 
-/* The unit's own line, without the time and the peer's port, which are others every time. */
+/* The unit's own line, without the time and the sender's port, which are others every time. */
 static void print_line(const struct served *served)
 {
     struct text text = {.length = 0};
@@ -49,18 +51,19 @@ static bool send_octets(struct exchange *x, const char *title, const uint8_t *oc
 {
     uint8_t reply[PFCP_REPLY_SPACE];
     struct served served;
+    int own = x->sockets[x->peer - 1];
 
     printf("\n%d. %s\n  request, %zu octets\n", ++x->step, title, length);
     print_octets(stdout, "    ", octets, length);
     print_message(stdout, octets, length);
     fflush(stdout);
-    if (send(x->peer, octets, length, 0) != (ssize_t)length) {
+    if (send(own, octets, length, 0) != (ssize_t)length) {
         fprintf(stderr, "pfcp_unit: the request could not be sent: %s\n", strerror(errno));
         return false;
     }
-    enum turn turn = unit_serve(x->unit, &served);
+    enum turn turn = unit_serve(x->unit, x->peer, &served);
     if (turn == TURN_REPLY) {
-        ssize_t used = recv(x->peer, reply, sizeof reply, 0);
+        ssize_t used = recv(own, reply, sizeof reply, 0);
 
         if (used < 0)
             turn = TURN_NOTHING;
@@ -238,43 +241,118 @@ static bool delete_sets(struct exchange *x)
            delete_set(x, "The card fails: sessions 2 and 7 go", 17, csids, 3);
 }
 
-/* A socket that is connected to the unit's. */
-static int connect_peer(const struct unit *unit)
+/* A session with so many PDRs that each want a TEID, of the card with CSID 5. */
+static bool take_teids(struct exchange *x, const char *title, uint64_t seid, uint32_t sequence,
+                       uint16_t count)
+{
+    struct message m;
+
+    message_start(&m, ESTABLISHMENT, 0, sequence);
+    put_f_seid(&m, seid);
+    for (uint16_t id = 1; id <= count; id++)
+        create_pdr(&m, id, &choose);
+    put_fq_csid(&m, 1, 5);
+    return send_message(x, title, &m);
+}
+
+/* Each has its due: peer 1 takes what is not kept back for peer 2, and peer 2 still gets it. */
+static bool share_teids(struct exchange *x)
+{
+    if (!take_teids(x, "Peer 1, session 1: five TEIDs", 1, 1, 5) ||
+        !take_teids(x, "Peer 1 wants one more: the rest is peer 2's due", 2, 2, 1))
+        return false;
+    x->peer = 2;
+    return take_teids(x, "Peer 2, session 1 too, and the same number: its three TEIDs", 1, 1, 3) &&
+           take_teids(x, "Peer 2 wants one more: none is free", 2, 2, 1);
+}
+
+/* Sessions and repeats are each peer's own. */
+static bool keep_apart(struct exchange *x)
+{
+    static const uint16_t csids[] = {5};
+
+    x->peer = 1;
+    if (!delete_set(x, "Peer 1: the card fails; of the two sessions its own goes", 3, csids, 1))
+        return false;
+    x->peer = 2;
+    return take_teids(x, "Peer 2 again, as if the reply was lost: its old reply", 1, 1, 3) &&
+           take_teids(x, "Peer 2 wants three more, and may hold five", 2, 3, 3) &&
+           take_teids(x, "Peer 2 wants two more", 2, 4, 2);
+}
+
+/* A socket that is connected to the unit's socket of a peer, or -1. */
+static int connect_peer(const struct unit *unit, size_t peer)
 {
     struct sockaddr_storage address;
     socklen_t length = sizeof address;
     struct timeval limit = {.tv_sec = 5};
 
-    if (getsockname(unit->socket, (struct sockaddr *)&address, &length) != 0)
+    if (getsockname(unit->sockets[peer], (struct sockaddr *)&address, &length) != 0)
         return -1;
-    int peer = socket(address.ss_family, SOCK_DGRAM, 0);
-    if (peer < 0)
+    int own = socket(address.ss_family, SOCK_DGRAM, 0);
+    if (own < 0)
         return -1;
-    if (connect(peer, (struct sockaddr *)&address, length) != 0 ||
-        setsockopt(peer, SOL_SOCKET, SO_RCVTIMEO, &limit, sizeof limit) != 0) {
-        close(peer);
+    if (connect(own, (struct sockaddr *)&address, length) != 0 ||
+        setsockopt(own, SOL_SOCKET, SO_RCVTIMEO, &limit, sizeof limit) != 0) {
+        close(own);
         return -1;
     }
-    return peer;
+    return own;
+}
+
+static bool exchange_start(struct exchange *x, struct unit *unit)
+{
+    x->unit = unit;
+    x->peer = 1;
+    x->step = 0;
+    for (size_t i = 0; i < PFCP_PEERS; i++)
+        x->sockets[i] = -1;
+    for (size_t i = 0; i < unit->options->peer_count; i++) {
+        x->sockets[i] = connect_peer(unit, i);
+        if (x->sockets[i] < 0) {
+            fprintf(stderr, "pfcp_unit: no socket for the demonstration: %s\n", strerror(errno));
+            return false;
+        }
+    }
+    return true;
+}
+
+/* Closes the control planes' sockets and says how many were answered; gives the exit status. */
+static int exchange_end(struct exchange *x, bool done)
+{
+    for (size_t i = 0; i < PFCP_PEERS; i++)
+        if (x->sockets[i] >= 0)
+            close(x->sockets[i]);
+    if (done)
+        printf("\nend; requests answered: %lu, messages without a reply: %lu\n",
+               unit_answered(x->unit), unit_unanswered(x->unit));
+    return done ? EXIT_SUCCESS : EXIT_FAILURE;
 }
 
 int run_demo(struct unit *unit)
 {
-    struct exchange x = {.unit = unit, .peer = connect_peer(unit), .step = 0};
+    struct exchange x;
 
-    if (x.peer < 0) {
-        fprintf(stderr, "pfcp_unit: no socket for the demonstration: %s\n", strerror(errno));
-        return EXIT_FAILURE;
-    }
+    if (!exchange_start(&x, unit))
+        return exchange_end(&x, false);
     puts("A unit and its control-plane peer, over the loopback interface.");
     print_sessions(unit);
     bool done = establish_first(&x) &&
                 establish(&x, "Session 2: the next free TEID and address", 2, 2) && repeat(&x) &&
                 establish(&x, "Session 3: one TEID more", 3, 3) && modify(&x) && refusals(&x) &&
                 remove_alone(&x) && delete_and_restore(&x) && delete_sets(&x);
-    close(x.peer);
-    if (done)
-        printf("\nend; requests answered: %lu, messages without a reply: %lu\n",
-               unit_answered(unit), unit_unanswered(unit));
-    return done ? EXIT_SUCCESS : EXIT_FAILURE;
+    return exchange_end(&x, done);
+}
+
+int run_shared_demo(struct unit *unit)
+{
+    struct exchange x;
+
+    if (!exchange_start(&x, unit))
+        return exchange_end(&x, false);
+    puts("\nA unit that two control planes share: 8 TEIDs, of which each is guaranteed 3; peer 1 "
+         "may "
+         "hold 8, peer 2 may hold 5.");
+    print_sessions(unit);
+    return exchange_end(&x, share_teids(&x) && keep_apart(&x));
 }

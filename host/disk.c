@@ -187,31 +187,49 @@ static bool read_octets(struct disk *disk, uint8_t *room, size_t length)
            fail(disk, disk->path, got < 0 ? strerror(error) : "not read to its end");
 }
 
-/* Finds the session limit and the number of stores of a file of this length. No length is that of two
-   forms: up to MOST_PEERS stores do not take the room of a whole number of sessions. */
+/* Finds the session limit of a file of this length, and whether it has the stores. No length is that of
+   two forms: the stores do not take the room of a whole number of sessions. */
 static bool find_form(struct disk *disk, size_t length)
 {
-    for (size_t stores = 0; stores <= MOST_PEERS && stores * STORE_ROOM <= length; stores++) {
-        disk->stored_limit = table_limit(length - stores * STORE_ROOM);
-        disk->stored_stores = stores;
-        if (disk->stored_limit > 0)
+    disk->stored_limit = table_limit(length);
+    disk->has_stores = disk->stored_limit == 0 && length > STORES_ROOM;
+    if (disk->has_stores)
+        disk->stored_limit = table_limit(length - STORES_ROOM);
+    return disk->stored_limit > 0;
+}
+
+/* Whether a file of this length is of the layout before two peers: a table, and up to eight stores, each
+   after an address of 16 octets. */
+static bool is_old(size_t length)
+{
+    enum { OLD_STORES = 8, OLD_STORE = 16 + 26657 };
+
+    for (size_t stores = 0; stores <= OLD_STORES && stores * OLD_STORE < length; stores++)
+        if (table_is_old(length - stores * OLD_STORE))
             return true;
-    }
     return false;
 }
 
-/* The same, where FILE is a plain file of a length that a table has, with stores or without. */
+/* Refuses FILE, whose octets are no table, and says it where they may be one of the old layout. */
+static bool refuse_form(struct disk *disk, size_t length, const char *why)
+{
+    if (is_old(length))
+        why = "of the layout before two control planes; its sessions can be brought over "
+              "(docs/operators.md)";
+    return fail(disk, disk->path, why);
+}
+
+/* Reads FILE where it is a plain file of a length that a table has, with stores or without. */
 static bool read_file(struct disk *disk, const struct stat *found)
 {
     char why[64];
 
     if (!S_ISREG(found->st_mode))
         return fail(disk, disk->path, "not a plain file");
-    if (found->st_size < 0 || !find_form(disk, (size_t)found->st_size)) {
-        snprintf(why, sizeof why, "%lld octets long, which no table is", (long long)found->st_size);
-        return fail(disk, disk->path, why);
-    }
-    return read_octets(disk, disk->before, (size_t)found->st_size);
+    if (find_form(disk, (size_t)found->st_size))
+        return read_octets(disk, disk->before, (size_t)found->st_size);
+    snprintf(why, sizeof why, "%lld octets long, which no table is", (long long)found->st_size);
+    return refuse_form(disk, (size_t)found->st_size, why);
 }
 
 /* Whether a stored table, which is sound, has the options' settings but for its session limit. With the
@@ -225,55 +243,70 @@ static bool has_settings(const struct options *options, const uint8_t *stored, u
            memcmp(stored, again, length) == 0;
 }
 
+/* Whether there is room for the sessions that a peer has in the table that was read. */
+static bool has_room(struct disk *disk, const struct options *options, uint32_t peer)
+{
+    uint32_t sessions;
+    uint32_t teids;
+    char why[96];
+
+    pfcp_peer_count(disk->before, pfcp_table_length(disk->stored_limit), peer, &sessions, &teids);
+    if (sessions <= sessions_of_peer(options))
+        return true;
+    snprintf(why, sizeof why,
+             "has %" PRIu32 " sessions of peer %" PRIu32 ", more than half of --sessions %" PRIu32,
+             sessions, peer, options->session_limit);
+    return fail(disk, disk->path, why);
+}
+
 /* Brings the sessions of the table that was read into one that is empty. */
 static bool restore(struct disk *disk, const struct options *options, uint8_t *table)
 {
     const uint8_t *stored = disk->before;
     size_t length = pfcp_table_length(disk->stored_limit);
-    char why[64];
 
     if (pfcp_session_count(stored, length, &disk->restored) != PFCP_FOUND)
-        return fail(disk, disk->path, "not a sound table");
+        return refuse_form(disk, length + (disk->has_stores ? STORES_ROOM : 0),
+                           "not a sound table");
     if (!has_settings(options, stored, disk->stored_limit))
         return fail(disk, disk->path, "made with other settings than the options say");
-    if (disk->restored > options->session_limit) {
-        snprintf(why, sizeof why, "has %" PRIu32 " sessions, more than --sessions %" PRIu32,
-                 disk->restored, options->session_limit);
-        return fail(disk, disk->path, why);
-    }
+    for (uint32_t peer = 1; peer <= PFCP_PEERS; peer++)
+        if (!has_room(disk, options, peer))
+            return false;
     return table_restore(stored, length, table, pfcp_table_length(options->session_limit)) ||
            fail(disk, disk->path, "its sessions cannot be restored");
 }
 
 /* A sound table with a broken store gets outcome 1, before the message is looked at. */
-static bool is_sound(uint8_t *table, size_t length, uint8_t *store)
+static bool is_sound(uint8_t *table, size_t length, uint32_t peer, uint8_t *store)
 {
     uint8_t reply[PFCP_REPLY_SPACE];
     size_t used;
     size_t place;
 
-    return pfcp_request_once(table, length, store, PFCP_STORE_LENGTH, NULL, 0, reply, sizeof reply,
-                             &used, &place) != PFCP_BROKEN_TABLE;
+    return pfcp_request_once(table, length, peer, store, PFCP_STORE_LENGTH, NULL, 0, reply,
+                             sizeof reply, &used, &place) != PFCP_BROKEN_TABLE;
 }
 
-/* Brings the stores that were read to their control planes. Those of others are left out, and a control
-   plane that has none among them keeps an empty one. */
+/* Takes the stores that were read, where the options ask for them. Where there are none they stay empty. */
 static bool take_stores(struct disk *disk, const struct options *options, uint8_t *kept)
 {
     const uint8_t *stored = disk->before + pfcp_table_length(disk->stored_limit);
     size_t length = pfcp_table_length(options->session_limit);
     uint8_t *stores = kept + length;
-    char name[STORE_WORDS];
-    char why[STORE_WORDS + 64];
+    char why[96];
 
-    for (size_t i = 0; i < stores_count(options); i++) {
-        disk->taken[i] = stores_take(stores, i, stored, disk->stored_stores);
-        if (disk->taken[i] && !is_sound(kept, length, stores_at(stores, i))) {
-            snprintf(why, sizeof why, "%s is broken (--no-repeats leaves it out)",
-                     stores_name(stores, i, name, sizeof name));
+    if (!disk->has_stores || !options->repeats)
+        return true;
+    memcpy(stores, stored, STORES_ROOM);
+    for (uint32_t peer = 1; peer <= PFCP_PEERS; peer++)
+        if (!is_sound(kept, length, peer, stores_at(stores, peer))) {
+            snprintf(why, sizeof why,
+                     "the store of repeats of peer %" PRIu32 " is broken (--no-repeats leaves it "
+                     "out)",
+                     peer);
             return fail(disk, disk->path, why);
         }
-    }
     return true;
 }
 
@@ -303,7 +336,7 @@ bool disk_start(struct disk *disk, const struct options *options, uint8_t *kept)
     disk->lock = -1;
     disk->path = options->table;
     disk->sync = options->table_sync;
-    disk->length = pfcp_table_length(options->session_limit) + stores_count(options) * STORE_ROOM;
+    disk->length = pfcp_table_length(options->session_limit) + stores_length(options);
     if (!disk->path)
         return true;
     bool usable = name_files(disk) && take_lock(disk);

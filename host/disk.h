@@ -1,7 +1,7 @@
 /*
  * The table's file. It is on the disk before a reply is sent, and the unit starts from it. It holds
- * the table's octets and after them those of the stores of repeated requests, as stores.h has them;
- * with --no-repeats the table's alone.
+ * the table's octets and after them those of both peers' stores of repeated requests, as stores.h has
+ * them; with --no-repeats the table's alone.
  *
  * It is written to FILE.new, which is then renamed, so FILE always has a whole table and its stores:
  * those before a request or those after it. FILE.lock is locked by the unit that keeps its table there.
@@ -18,7 +18,7 @@
 #include "pfcp_session.h"
 #include "stores.h"
 
-enum { TROUBLE_ROOM = PATH_MAX + 128, MOST_KEPT = PFCP_LONGEST_TABLE + MOST_PEERS * STORE_ROOM };
+enum { TROUBLE_ROOM = PATH_MAX + 128, MOST_KEPT = PFCP_LONGEST_TABLE + STORES_ROOM };
 
 struct disk {
     const char *path; /* FILE; NULL: the table is kept in memory only */
@@ -36,13 +36,12 @@ struct disk {
     bool unfinished;            /* at the start there was a FILE.new */
     uint32_t restored;          /* sessions that FILE had at the start */
     uint32_t stored_limit;      /* the session limit that FILE was made with */
-    size_t stored_stores;       /* the stores that FILE had at the start */
-    bool taken[MOST_PEERS];     /* which of the unit's stores were among these */
+    bool has_stores;            /* FILE had the stores at the start */
 };
 
 /* What is kept is an empty table with its empty stores after it. Locks the file and brings the sessions
    that are stored there into the table through their restoration requests; the file's session limit may
-   be another one than the table's. Takes the stores of the unit's control planes as they are. Writes what
+   be another one than the table's. Takes the stores, where the file has them, as they are. Writes what
    is kept where there is no file. Says on standard error what is wrong, leaves the file as it is and
    gives false. */
 bool disk_start(struct disk *disk, const struct options *options, uint8_t *kept);

@@ -2,6 +2,7 @@
 #include <inttypes.h>
 #include <string.h>
 
+#include "message.h"
 #include "unit.h"
 #include "words.h"
 
@@ -28,8 +29,24 @@ static void add_removed(struct text *text, const struct served *served)
         text_add(text, ")");
 }
 
+/* What a peer has against what it may have, and what it may not take since it is the other's due. */
+static void add_shortage(struct text *text, const struct served *served)
+{
+    const struct shortage *shortage = &served->shortage;
+
+    text_add(text,
+             ", peer %" PRIu32 " has %" PRIu32 " of %" PRIu32 " sessions and %" PRIu32
+             " of at most %" PRIu32 " TEIDs",
+             served->peer, shortage->has.sessions, shortage->most.sessions, shortage->has.teids,
+             shortage->most.teids);
+    if (shortage->is_shared)
+        text_add(text, ", kept back for peer %" PRIu32 ": %" PRIu32 " TEIDs",
+                 PFCP_PEERS + 1 - served->peer, shortage->kept_back);
+}
+
 void served_facts(struct text *text, const struct served *served)
 {
+    text_add(text, "peer %" PRIu32 ", ", served->peer);
     if (served->has_type)
         text_add(text, "%s (%u)", message_in_words(served->type), served->type);
     else
@@ -52,6 +69,8 @@ void served_facts(struct text *text, const struct served *served)
         text_add(text, ", cause %u (%s)", served->cause, cause_in_words(served->cause));
     if (served->has_offending)
         add_fault(text, served);
+    if (served->cause == NO_RESOURCES && !served->repeated)
+        add_shortage(text, served);
     if (served->is_set)
         add_removed(text, served);
     if (served->send_error != 0)
@@ -64,9 +83,9 @@ void served_facts(struct text *text, const struct served *served)
 void served_line(struct text *text, const struct served *served)
 {
     char time[TIME_ROOM];
-    char peer[ADDRESS_ROOM];
+    char sender[ADDRESS_ROOM];
 
     text_add(text, "%s %s ", time_in_words(&served->time, time, sizeof time),
-             address_text(&served->peer, peer, sizeof peer));
+             address_text(&served->sender, sender, sizeof sender));
     served_facts(text, served);
 }

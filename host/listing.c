@@ -74,7 +74,7 @@ static void session_text(struct text *text, const struct session *session)
 {
     char room[INET6_ADDRSTRLEN];
 
-    text_add(text, "  session %" PRIu64 "\n", session->seid);
+    text_add(text, "  session %" PRIu64 " of peer %" PRIu32 "\n", session->seid, session->peer);
     for (size_t i = 0; i < session->pdr_count; i++)
         pdr_text(text, &session->pdrs[i]);
     for (size_t i = 0; i < session->endpoint_count; i++)
@@ -113,7 +113,8 @@ static void session_json(struct text *text, const struct session *session)
 {
     char room[INET6_ADDRSTRLEN];
 
-    text_add(text, "{\"seid\":\"%" PRIu64 "\",\"pdrs\":[", session->seid);
+    text_add(text, "{\"peer\":%" PRIu32 ",\"seid\":\"%" PRIu64 "\",\"pdrs\":[", session->peer,
+             session->seid);
     for (size_t i = 0; i < session->pdr_count; i++) {
         text_add(text, i > 0 ? "," : "");
         pdr_json(text, &session->pdrs[i]);
@@ -163,11 +164,9 @@ static void add_counts(struct text *text, bool json, const char *title, const un
     text_add(text, json ? "]" : "");
 }
 
-static void add_counters(struct text *text, const struct listing *listing)
+/* What has happened to one peer's messages. */
+static void add_counters(struct text *text, const struct counters *c, bool json)
 {
-    const struct counters *c = &listing->counters;
-    bool json = (listing->form & LIST_JSON) != 0;
-
     text_add(text, json ? ",\"counters\":{" : "");
     add_counts(text, json, "messages", c->messages, 256, message_in_words);
     text_add(text, json ? "," : "");
@@ -177,88 +176,160 @@ static void add_counters(struct text *text, const struct listing *listing)
                outcome_in_general);
     text_add(text,
              json ? ",\"repeats\":%lu,\"not_pfcp\":%lu,\"undone\":%lu,\"replies_not_sent\":%lu,"
-                    "\"from_others\":%lu,\"dropped_by_system\":%lu,\"lines_dropped\":%lu}"
+                    "\"from_others\":%lu,\"dropped_by_system\":%lu}"
                   : "repeated requests that got the old reply: %lu\n"
                     "messages that are not PFCP: %lu\n"
                     "requests undone, since the table could not be kept on the disk: %lu\n"
                     "replies not sent: %lu\n"
                     "datagrams from others than the peer: %lu\n"
-                    "datagrams dropped by the system: %lu\nlines of output dropped: %lu\n",
-             c->repeats, c->untyped, c->undone, c->unsent, c->strangers, c->dropped,
-             listing->lines_dropped);
+                    "datagrams dropped by the system: %lu\n",
+             c->repeats, c->untyped, c->undone, c->unsent, c->strangers, c->dropped);
 }
 
-static void start(struct listing *listing, const struct unit *unit, unsigned form)
+/* What a peer has, against what it is due and may have. */
+static void add_holding(struct text *text, const struct listing *listing, uint32_t peer)
 {
-    memset(listing, 0, sizeof *listing);
-    memcpy(listing->table, unit->table, unit->table_length);
-    listing->table_length = unit->table_length;
-    listing->counters = unit->counters;
-    listing->free_teids = unit->free_teids;
-    listing->pool_size = unit->options->pool_size;
-    listing->free_addresses = unit->free_addresses;
-    listing->address_pool_size = unit->options->address_count;
-    listing->form = form;
+    const struct peer *of = &listing->options->peers[peer - 1];
+    const struct holding *has = &listing->holdings[peer - 1];
+    uint8_t octets[4] = {(uint8_t)(of->address >> 24), (uint8_t)(of->address >> 16),
+                         (uint8_t)(of->address >> 8), (uint8_t)of->address};
+    char room[INET6_ADDRSTRLEN];
+
+    text_add(text,
+             listing->wanted.form & LIST_JSON
+                 ? "{\"peer\":%" PRIu32 ",\"address\":\"%s\",\"sessions\":%" PRIu32
+                   ",\"most_sessions\":%" PRIu32 ",\"teids\":%" PRIu32 ",\"guarantee\":%" PRIu32
+                   ",\"limit\":%" PRIu32
+                 : "peer %" PRIu32 ", answered as %s: sessions %" PRIu32 " of %" PRIu32
+                   "; TEIDs %" PRIu32 ", guaranteed %" PRIu32 ", at most %" PRIu32 "\n",
+             peer, address_in_words(octets, sizeof octets, room, sizeof room), has->sessions,
+             sessions_of_peer(listing->options), has->teids, of->guarantee, of->limit);
 }
 
-void listing_all(struct listing *listing, const struct unit *unit, unsigned long lines_dropped,
-                 unsigned form)
+/* Whether this peer is among those that are asked for. */
+static bool is_wanted(const struct wanted *wanted, uint32_t peer)
 {
-    start(listing, unit, form);
-    listing->lines_dropped = lines_dropped;
-    listing->whole = true;
-    listing->end = unit->live_sessions;
+    return wanted->peer == 0 || wanted->peer == peer;
 }
 
-bool listing_one(struct listing *listing, const struct unit *unit, uint64_t seid, unsigned form)
+/* The end of the sessions, and what comes before the peers, which a list of one SEID does not have. */
+static void end_sessions(struct text *text, struct listing *listing)
 {
-    size_t place;
+    bool json = (listing->wanted.form & LIST_JSON) != 0;
 
-    if (pfcp_find_session(unit->table, unit->table_length, seid, &place) != PFCP_FOUND)
+    if (!json || listing->wanted.seid != 0)
+        return;
+    text_add(text, listing->wanted.form & LIST_COUNTERS ? "],\"peers\":[" : "]");
+}
+
+/* Adds what the next peer has, and its counters; gives false where there is none left. */
+static bool add_peer(struct text *text, struct listing *listing)
+{
+    bool json = (listing->wanted.form & LIST_JSON) != 0;
+    uint32_t peer = listing->peers_listed + 1;
+
+    if (!(listing->wanted.form & LIST_COUNTERS) || listing->wanted.seid != 0)
         return false;
-    start(listing, unit, form);
-    listing->first = place;
-    listing->next = place;
-    listing->end = place + 1;
+    while (peer <= listing->options->peer_count && !is_wanted(&listing->wanted, peer))
+        peer++;
+    if (peer > listing->options->peer_count)
+        return false;
+    text_add(text, json && listing->peers_listed > 0 ? "," : "");
+    add_holding(text, listing, peer);
+    add_counters(text, &listing->counters[peer - 1], json);
+    text_add(text, json ? "}" : "");
+    listing->peers_listed = peer;
     return true;
 }
 
-static void add_head(struct text *text, const struct listing *listing)
+/* The places of a peer's sessions that are asked for; those of peer 1 come first. */
+static void find_places(struct listing *listing, uint32_t peer)
 {
-    if (listing->whole)
-        text_add(text,
-                 listing->form & LIST_JSON
-                     ? "{\"live_sessions\":%zu,\"free_teids\":%" PRIu32 ",\"pool_size\":%" PRIu32
-                       ",\"free_addresses\":%" PRIu32 ",\"address_pool_size\":%" PRIu32
-                       ",\"sessions\":["
-                     : "live sessions: %zu; free TEIDs: %" PRIu32 " of %" PRIu32
-                       "; free addresses: %" PRIu32 " of %" PRIu32 "\n",
-                 listing->end, listing->free_teids, listing->pool_size, listing->free_addresses,
-                 listing->address_pool_size);
+    size_t *next = &listing->places[peer - 1].next;
+    size_t *end = &listing->places[peer - 1].end;
+
+    if (!is_wanted(&listing->wanted, peer))
+        return;
+    if (listing->wanted.seid == 0) {
+        *next = peer == 1 ? 0 : listing->holdings[0].sessions;
+        *end = *next + listing->holdings[peer - 1].sessions;
+    } else if (pfcp_find_session(listing->table, listing->table_length, peer, listing->wanted.seid,
+                                 next) == PFCP_FOUND) {
+        *end = *next + 1;
+    }
 }
 
-static void add_session(struct text *text, const struct listing *listing)
+bool listing_start(struct listing *listing, const struct unit *unit, const struct wanted *wanted,
+                   unsigned long lines_dropped)
+{
+    bool found = wanted->seid == 0;
+
+    memset(listing, 0, sizeof *listing);
+    memcpy(listing->table, unit->table, unit->table_length);
+    listing->table_length = unit->table_length;
+    listing->options = unit->options;
+    memcpy(listing->counters, unit->counters, sizeof listing->counters);
+    memcpy(listing->holdings, unit->holdings, sizeof listing->holdings);
+    listing->lines_dropped = lines_dropped;
+    listing->free_teids = unit->free_teids;
+    listing->free_addresses = unit->free_addresses;
+    listing->wanted = *wanted;
+    for (uint32_t peer = 1; peer <= PFCP_PEERS; peer++) {
+        find_places(listing, peer);
+        found = found || listing->places[peer - 1].next < listing->places[peer - 1].end;
+    }
+    return found;
+}
+
+/* One session alone has no head. */
+static void add_head(struct text *text, const struct listing *listing)
+{
+    size_t count = 0;
+
+    if (listing->wanted.seid != 0)
+        return;
+    for (size_t i = 0; i < PFCP_PEERS; i++)
+        count += listing->places[i].end - listing->places[i].next;
+    text_add(text,
+             listing->wanted.form & LIST_JSON
+                 ? "{\"live_sessions\":%zu,\"free_teids\":%" PRIu32 ",\"pool_size\":%" PRIu32
+                   ",\"free_addresses\":%" PRIu32 ",\"address_pool_size\":%" PRIu32
+                   ",\"sessions\":["
+                 : "live sessions: %zu; free TEIDs: %" PRIu32 " of %" PRIu32
+                   "; free addresses: %" PRIu32 " of %" PRIu32 "\n",
+             count, listing->free_teids, listing->options->pool_size, listing->free_addresses,
+             listing->options->address_count);
+}
+
+/* Adds the next session; gives false where there is none left. */
+static bool add_session(struct text *text, struct listing *listing)
 {
     struct session session;
+    size_t i = listing->places[0].next < listing->places[0].end ? 0 : 1;
 
-    if (!sessions_read(listing->table, listing->table_length, listing->next, &session))
-        return;
-    if (listing->form & LIST_JSON) {
-        text_add(text, listing->next > listing->first ? ",\n" : "");
+    if (listing->places[i].next == listing->places[i].end)
+        return false;
+    if (!sessions_read(listing->table, listing->table_length, listing->places[i].next++, &session))
+        return true;
+    if (listing->wanted.form & LIST_JSON) {
+        text_add(text, listing->listed == 0 ? "" : listing->wanted.seid == 0 ? ",\n" : "\n");
         session_json(text, &session);
     } else {
         session_text(text, &session);
     }
+    listing->listed++;
+    return true;
 }
 
 static void add_foot(struct text *text, const struct listing *listing)
 {
-    bool json = (listing->form & LIST_JSON) != 0;
+    bool json = (listing->wanted.form & LIST_JSON) != 0;
+    bool whole = listing->wanted.seid == 0;
 
-    text_add(text, listing->whole && json ? "]" : "");
-    if (listing->form & LIST_COUNTERS)
-        add_counters(text, listing);
-    text_add(text, json ? listing->whole ? "}\n" : "\n" : "");
+    if (whole && listing->wanted.form & LIST_COUNTERS)
+        text_add(text, json ? "],\"lines_dropped\":%lu" : "lines of output dropped: %lu\n",
+                 listing->lines_dropped);
+    text_add(text, json ? whole ? "}\n" : "\n" : "");
 }
 
 bool listing_next(struct listing *listing, struct text *text)
@@ -269,11 +340,14 @@ bool listing_next(struct listing *listing, struct text *text)
         listing->stage = LIST_SESSIONS;
         return true;
     case LIST_SESSIONS:
-        if (listing->next < listing->end) {
-            add_session(text, listing);
-            listing->next++;
+        if (add_session(text, listing))
             return true;
-        }
+        end_sessions(text, listing);
+        listing->stage = LIST_PEERS;
+        /* fall through */
+    case LIST_PEERS:
+        if (add_peer(text, listing))
+            return true;
         add_foot(text, listing);
         listing->stage = LIST_DONE;
         return true;

@@ -26,15 +26,41 @@ static int end_of_text(void)
     return EXIT_FAILURE;
 }
 
-/* Runs the demonstration; gives the exit status. */
-static int run_demonstration(const struct options *options)
+/* A scripted exchange with a unit of its own; gives the exit status. */
+static int run_with_unit(const struct options *options, int (*run)(struct unit *))
 {
     static struct unit unit;
 
     bool started = unit_start(&unit, options);
-    int status = started ? run_demo(&unit) : 2;
+    int status = started ? run(&unit) : 2;
     unit_stop(&unit);
-    if (!started)
+    return status;
+}
+
+/* The demonstration of two control planes, with a pool of its own. */
+static void share(struct options *options)
+{
+    options->first_teid = 4096;
+    options->pool_size = 8;
+    options->peer_count = PFCP_PEERS;
+    options->peers[0] = (struct peer){.address = 0x7F000001, .guarantee = 3, .limit = 8};
+    options->peers[1] = (struct peer){.address = 0x7F000002, .guarantee = 3, .limit = 5};
+    address_read(&options->peers[0].listen, "127.0.0.1");
+    address_read(&options->peers[1].listen, "127.0.0.2");
+    for (size_t i = 0; i < PFCP_PEERS; i++)
+        address_set_port(&options->peers[i].listen, options->port);
+}
+
+/* Runs the demonstration; gives the exit status. */
+static int run_demonstration(const struct options *options)
+{
+    struct options shared = *options;
+    int status = run_with_unit(options, run_demo);
+
+    share(&shared);
+    if (status == EXIT_SUCCESS)
+        status = run_with_unit(&shared, run_shared_demo);
+    if (status == 2)
         return status;
     return end_of_text() == EXIT_SUCCESS ? status : EXIT_FAILURE;
 }

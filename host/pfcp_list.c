@@ -14,10 +14,11 @@
 #include "pfcp_session.h"
 
 static const char usage[] =
-    "usage: pfcp-list --control PATH [--session SEID] [--json]\n"
-    "Prints the live sessions and the counters of a running pfcp_unit.\n"
+    "usage: pfcp-list --control PATH [--peer NUMBER] [--session SEID] [--json]\n"
+    "Prints the live sessions of a running pfcp_unit, what its peers have, and the counters.\n"
     "  --control PATH   the unit's control socket, as given to pfcp_unit --control\n"
-    "  --session SEID   that session only, without counters\n"
+    "  --peer NUMBER    those of one of the two control planes only, 1 or 2\n"
+    "  --session SEID   that session only, or both peers' with this SEID, without counters\n"
     "  --json           as JSON\n"
     "  --version        print the version\n"
     "  --help           print this\n"
@@ -26,7 +27,8 @@ static const char usage[] =
 
 struct question {
     const char *path;
-    const char *session; /* NULL: all */
+    uint64_t session; /* 0: all */
+    uint64_t peer;    /* 0: both */
     bool json;
 };
 
@@ -36,8 +38,6 @@ enum asked { ASKED_UNIT, ASKED_TEXT, ASKED_WRONG };
 /* Reads an option that has a value. */
 static bool read_option(struct question *question, const char *name, const char *value)
 {
-    uint64_t seid;
-
     if (!value) {
         fprintf(stderr, "pfcp-list: %s needs a value\n", name);
         return false;
@@ -46,12 +46,23 @@ static bool read_option(struct question *question, const char *name, const char 
         question->path = value;
         return true;
     }
-    question->session = value;
-    if (read_number(value, 1, UINT64_MAX, &seid))
+    if (strcmp(name, "--peer") == 0) {
+        if (read_number(value, 1, PFCP_PEERS, &question->peer))
+            return true;
+        fprintf(stderr, "pfcp-list: --peer %s: neither 1 nor 2\n", value);
+        return false;
+    }
+    if (read_number(value, 1, UINT64_MAX, &question->session))
         return true;
     fprintf(stderr, "pfcp-list: --session %s: not a SEID from 1 to %" PRIu64 "\n", value,
             UINT64_MAX);
     return false;
+}
+
+static bool takes_value(const char *name)
+{
+    return strcmp(name, "--control") == 0 || strcmp(name, "--session") == 0 ||
+           strcmp(name, "--peer") == 0;
 }
 
 static enum asked read_question(struct question *question, int argc, char **argv)
@@ -67,7 +78,7 @@ static enum asked read_question(struct question *question, int argc, char **argv
         }
         if (strcmp(argv[i], "--json") == 0) {
             question->json = true;
-        } else if (strcmp(argv[i], "--control") != 0 && strcmp(argv[i], "--session") != 0) {
+        } else if (!takes_value(argv[i])) {
             fprintf(stderr, "pfcp-list: unknown option %s (--help lists them)\n", argv[i]);
             return ASKED_WRONG;
         } else {
@@ -89,29 +100,37 @@ static bool complain(const struct question *question, const char *what)
     return false;
 }
 
+/* The question in words, as control.h has them; gives its length. */
+static size_t write_question(const struct question *question, char *line, size_t size)
+{
+    int length = question->session > 0 ? snprintf(line, size, "session %" PRIu64, question->session)
+                                       : snprintf(line, size, "list");
+
+    if (question->peer > 0)
+        length += snprintf(line + length, size - (size_t)length, " peer %" PRIu64, question->peer);
+    length +=
+        snprintf(line + length, size - (size_t)length, question->json ? " json\n" : " text\n");
+    return (size_t)length;
+}
+
 /* Connects and asks; gives -1 where that fails. */
 static int ask(const struct question *question)
 {
     struct sockaddr_un address = {.sun_family = AF_UNIX};
     struct timeval limit = {.tv_sec = 10};
     char line[64];
-    int length;
+    size_t length = write_question(question, line, sizeof line);
 
     if (strlen(question->path) >= sizeof address.sun_path) {
         complain(question, "too long for a socket's path");
         return -1;
     }
     strcpy(address.sun_path, question->path);
-    if (question->session)
-        length = snprintf(line, sizeof line, "session %s %s\n", question->session,
-                          question->json ? "json" : "text");
-    else
-        length = snprintf(line, sizeof line, "list %s\n", question->json ? "json" : "text");
     int unit = socket(AF_UNIX, SOCK_STREAM, 0);
     if (unit >= 0 && setsockopt(unit, SOL_SOCKET, SO_RCVTIMEO, &limit, sizeof limit) == 0 &&
         setsockopt(unit, SOL_SOCKET, SO_SNDTIMEO, &limit, sizeof limit) == 0 &&
         connect(unit, (const struct sockaddr *)&address, sizeof address) == 0 &&
-        send(unit, line, (size_t)length, MSG_NOSIGNAL) == length)
+        send(unit, line, length, MSG_NOSIGNAL) == (ssize_t)length)
         return unit;
     complain(question, errno == EAGAIN ? "the unit does not answer" : strerror(errno));
     if (unit >= 0)
@@ -158,8 +177,9 @@ static bool print_answer(const struct question *question, const char *answer)
     if (strncmp(answer, "ok\n", 3) != 0) {
         int length = (int)strcspn(answer, "\n");
 
-        if (question->session)
-            fprintf(stderr, "pfcp-list: session %s: %.*s\n", question->session, length, answer);
+        if (question->session > 0)
+            fprintf(stderr, "pfcp-list: session %" PRIu64 ": %.*s\n", question->session, length,
+                    answer);
         else
             fprintf(stderr, "pfcp-list: %.*s\n", length, answer);
         return false;

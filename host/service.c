@@ -15,7 +15,6 @@
 #include "datagrams.h"
 #include "listing.h"
 #include "output.h"
-#include "stores.h"
 #include "unit.h"
 #include "words.h"
 
@@ -29,9 +28,9 @@ struct service {
     struct output complaints;
     struct listing listing;
     int signals;
-    bool disk_failing;    /* it was said that the table cannot be kept on the disk */
-    time_t stranger_said; /* the second in which a stranger was last spoken of */
-    const char *end;      /* why it ends, or NULL */
+    bool disk_failing;                /* it was said that the table cannot be kept on the disk */
+    time_t stranger_said[PFCP_PEERS]; /* the second in which a stranger was last spoken of */
+    const char *end;                  /* why it ends, or NULL */
     int status;
 };
 
@@ -75,10 +74,11 @@ static void warn(struct service *service, const char *words)
 
 static void say_sessions(struct service *service)
 {
+    static const struct wanted all = {.form = LIST_COUNTERS};
     struct text text = {.length = 0};
 
     say(service, "live sessions and counters");
-    listing_all(&service->listing, &service->unit, output_dropped(&service->out), LIST_COUNTERS);
+    listing_start(&service->listing, &service->unit, &all, output_dropped(&service->out));
     while (listing_next(&service->listing, &text)) {
         output_say(&service->out, text.octets, text.length);
         text.length = 0;
@@ -103,17 +103,19 @@ static void take_signal(struct service *service)
     }
 }
 
-/* At most one line a second speaks of strangers, so that they cannot fill the output. */
+/* At most one line a second speaks of a peer's strangers, so that they cannot fill the output. */
 static void say_stranger(struct service *service, const struct served *served)
 {
-    char peer[ADDRESS_ROOM];
+    time_t *said = &service->stranger_said[served->peer - 1];
+    char sender[ADDRESS_ROOM];
     char words[ADDRESS_ROOM + 64];
 
-    if (served->time.tv_sec == service->stranger_said)
+    if (served->time.tv_sec == *said)
         return;
-    service->stranger_said = served->time.tv_sec;
-    snprintf(words, sizeof words, "%s is not the peer; datagrams from others: %lu",
-             address_text(&served->peer, peer, sizeof peer), service->unit.counters.strangers);
+    *said = served->time.tv_sec;
+    snprintf(words, sizeof words, "%s is not peer %" PRIu32 "; datagrams from others: %lu",
+             address_text(&served->sender, sender, sizeof sender), served->peer,
+             service->unit.counters[served->peer - 1].strangers);
     say(service, words);
 }
 
@@ -133,19 +135,19 @@ static void say_disk(struct service *service)
                  unit->disk.trouble);
     else
         snprintf(words, sizeof words, "the table is kept on the disk again; requests undone: %lu",
-                 unit->counters.undone);
+                 unit_undone(unit));
     warn(service, words);
 }
 
 /* A disk may be slow: where the table is kept on one, each message may be the last of its batch. */
-static void serve_batch(struct service *service)
+static void serve_batch(struct service *service, uint32_t peer)
 {
     int batch = service->unit.disk.path ? 1 : BATCH;
     struct served served;
     struct text line;
 
     for (int i = 0; i < batch; i++) {
-        enum turn turn = unit_serve(&service->unit, &served);
+        enum turn turn = unit_serve(&service->unit, peer, &served);
 
         if (turn == TURN_NOTHING)
             return;
@@ -165,52 +167,48 @@ static void serve_batch(struct service *service)
     }
 }
 
+/* What is waited for: signals, the control socket, then the peers' sockets. */
+enum { SIGNALS, CONTROL, FIRST_PEER, ALL_WAITS = FIRST_PEER + PFCP_PEERS };
+
 static void serve(struct service *service)
 {
     while (!service->end) {
         int timeout;
-        struct pollfd waits[3] = {{.fd = service->signals, .events = POLLIN},
-                                  {.fd = service->unit.socket, .events = POLLIN},
-                                  control_wait(&service->control, &timeout)};
+        struct pollfd waits[ALL_WAITS] = {{.fd = service->signals, .events = POLLIN},
+                                          control_wait(&service->control, &timeout)};
 
-        if (poll(waits, 3, timeout) < 0 && errno != EINTR) {
+        for (size_t i = 0; i < PFCP_PEERS; i++)
+            waits[FIRST_PEER + i] =
+                (struct pollfd){.fd = service->unit.sockets[i], .events = POLLIN};
+        if (poll(waits, ALL_WAITS, timeout) < 0 && errno != EINTR) {
             warn(service, strerror(errno));
             service->end = "a failure of poll";
             service->status = EXIT_FAILURE;
             return;
         }
-        if (waits[0].revents)
+        if (waits[SIGNALS].revents)
             take_signal(service);
-        if (waits[1].revents && !service->end)
-            serve_batch(service);
-        control_step(&service->control, waits[2].revents, &service->unit, &service->out);
+        for (uint32_t peer = 1; peer <= PFCP_PEERS; peer++)
+            if (waits[FIRST_PEER + peer - 1].revents && !service->end)
+                serve_batch(service, peer);
+        control_step(&service->control, waits[CONTROL].revents, &service->unit, &service->out);
     }
 }
 
-/* Which stores of repeats the file lacks, and which of it are of others. */
+/* Whether the file lacks the stores of repeats, or has some that are not used. */
 static void say_stores(struct service *service)
 {
-    const struct unit *unit = &service->unit;
-    const struct disk *disk = &unit->disk;
-    size_t left = disk->stored_stores;
-    char words[PATH_MAX + STORE_WORDS + 128];
-    char name[STORE_WORDS];
+    const struct disk *disk = &service->unit.disk;
+    char words[PATH_MAX + 128];
 
-    for (size_t i = 0; i < stores_count(unit->options) && !disk->made; i++) {
-        left -= disk->taken[i];
-        if (disk->taken[i])
-            continue;
-        snprintf(words, sizeof words,
-                 "%s lacks %s: a repeat from before is taken for a new request", disk->path,
-                 stores_name(unit->stores, i, name, sizeof name));
-        say(service, words);
-    }
-    if (left == 0)
+    if (disk->made || disk->has_stores == service->unit.options->repeats)
         return;
     snprintf(words, sizeof words,
-             "stores of repeats in %s that no option asks for: %zu; from the next change on they "
-             "are not there",
-             disk->path, left);
+             disk->has_stores ? "the stores of repeats in %s are not used; from the next change on "
+                                "they are not there"
+                              : "%s lacks the stores of repeats: a repeat from before is taken for "
+                                "a new request",
+             disk->path);
     say(service, words);
 }
 
@@ -237,8 +235,8 @@ static void say_table(struct service *service)
     say(service, words);
     if (!disk->made && disk->stored_limit != limit) {
         snprintf(words, sizeof words,
-                 "%s has room for %" PRIu32 " sessions; from the next change on it has room for "
-                 "%" PRIu32,
+                 "%s has a session limit of %" PRIu32
+                 "; from the next change on it has one of %" PRIu32,
                  disk->path, disk->stored_limit, limit);
         say(service, words);
     }
@@ -248,36 +246,66 @@ static void say_table(struct service *service)
                       "what was answered, or be broken");
 }
 
-/* Without a peer there is one store of repeats, so all who ask should count as one. */
-static void say_anybody(struct service *service)
+/* A peer has one store of repeats, so all who ask as this peer should count as one. */
+static void say_senders(struct service *service, uint32_t peer)
 {
-    char words[128];
+    const struct options *options = service->unit.options;
+    size_t count = options->peers[peer - 1].from_count;
+    char option[8] = "--peer";
+    char words[160];
 
-    snprintf(words, sizeof words,
-             "warning: no --peer is given, so requests from any address are answered%s",
-             service->unit.options->repeats ? ", as those of one control plane" : "");
+    if (options->peer_count > 1)
+        snprintf(option, sizeof option, "--from%" PRIu32, peer);
+    if (count == 0)
+        snprintf(words, sizeof words,
+                 "warning: no %s is given, so requests from any address are answered%s", option,
+                 options->repeats ? ", as those of one control plane" : "");
+    else if (count > 1 && options->repeats)
+        snprintf(words, sizeof words,
+                 "warning: %s names %zu addresses, which share one row of sequence numbers", option,
+                 count);
+    else
+        return;
     warn(service, words);
+}
+
+/* What a peer has, and may have. A single one has half of the session limit too. */
+static void say_peer(struct service *service, uint32_t peer)
+{
+    const struct options *options = service->unit.options;
+    const struct peer *of = &options->peers[peer - 1];
+    const struct holding *has = &service->unit.holdings[peer - 1];
+    char listen[ADDRESS_ROOM];
+    char words[256];
+
+    snprintf(
+        words, sizeof words,
+        "peer %" PRIu32 " on %s, sessions %" PRIu32 " of %" PRIu32 " (half of --sessions %" PRIu32
+        "), TEIDs %" PRIu32 ", guaranteed %" PRIu32 ", at most %" PRIu32,
+        peer, address_text(&of->listen, listen, sizeof listen), has->sessions,
+        sessions_of_peer(options), options->session_limit, has->teids, of->guarantee, of->limit);
+    say(service, words);
 }
 
 static void say_start(struct service *service)
 {
     const struct options *options = service->unit.options;
     size_t buffer = service->unit.receive_buffer;
-    char listen[ADDRESS_ROOM];
     char words[256];
 
     say_table(service);
+    for (uint32_t peer = 1; peer <= options->peer_count; peer++)
+        say_peer(service, peer);
     snprintf(words, sizeof words,
-             "serving PFCP session requests on %s, live sessions %" PRIu32 " of %" PRIu32
-             ", free TEIDs %" PRIu32 " of %" PRIu32 ", free addresses %" PRIu32 " of %" PRIu32,
-             address_text(&options->listen, listen, sizeof listen), service->unit.live_sessions,
-             options->session_limit, service->unit.free_teids, options->pool_size,
+             "serving PFCP session requests, live sessions %" PRIu32 ", free TEIDs %" PRIu32
+             " of %" PRIu32 ", free addresses %" PRIu32 " of %" PRIu32,
+             service->unit.live_sessions, service->unit.free_teids, options->pool_size,
              service->unit.free_addresses, options->address_count);
     say(service, words);
     if (!options->repeats)
         say(service, "repeated requests are not looked for (--no-repeats)");
-    if (options->peer_count == 0)
-        say_anybody(service);
+    for (uint32_t peer = 1; peer <= options->peer_count; peer++)
+        say_senders(service, peer);
     if (buffer < WANTED_BUFFER) {
         snprintf(words, sizeof words,
                  "warning: the receive buffer has %zu octets, not %d (net.core.rmem_max)", buffer,
@@ -314,7 +342,7 @@ static bool start_output(struct service *service)
     return error == 0;
 }
 
-/* The port is bound last: whoever finds the unit there finds the control socket too, and signals do
+/* The ports are bound last: whoever finds the unit there finds the control socket too, and signals do
    what they should. */
 int run_service(const struct options *options)
 {

@@ -125,7 +125,7 @@ static void read_request(struct session *session, struct elements rest)
     }
 }
 
-/* Both tables have their sessions in ascending order of SEID. */
+/* Both tables have their sessions in ascending order of peer, then of SEID. */
 size_t sessions_gone(const uint8_t *before, const uint8_t *after, size_t length, uint64_t *seids,
                      size_t room)
 {
@@ -136,7 +136,7 @@ size_t sessions_gone(const uint8_t *before, const uint8_t *after, size_t length,
     bool more = sessions_read(after, length, kept, &is);
 
     for (size_t place = 0; gone < room && sessions_read(before, length, place, &was); place++) {
-        if (more && was.seid == is.seid)
+        if (more && was.peer == is.peer && was.seid == is.seid)
             more = sessions_read(after, length, ++kept, &is);
         else
             seids[gone++] = was.seid;
@@ -148,10 +148,12 @@ bool sessions_read(const uint8_t *table, size_t length, size_t place, struct ses
 {
     uint8_t request[PFCP_LONGEST_RESTORATION];
     size_t used;
+    uint32_t peer;
 
     if (pfcp_write_restoration(table, length, place, nobody, sizeof nobody, NULL, 0, request,
-                               sizeof request, &used) != PFCP_WRITTEN)
+                               sizeof request, &used, &peer) != PFCP_WRITTEN)
         return false;
     read_request(session, elements_of(request, used));
+    session->peer = peer;
     return true;
 }

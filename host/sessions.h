@@ -44,6 +44,7 @@ struct fq_csid {
 };
 
 struct session {
+    uint32_t peer;
     uint64_t seid;
     size_t pdr_count;
     size_t endpoint_count;
@@ -53,9 +54,8 @@ struct session {
     struct fq_csid fq_csids[MOST_FQ_CSIDS];
 };
 
-/* The SEIDs, in ascending order, of sessions that a table of this length had before and has no more
-   after; gives their number, at most the room. No session has come or changed its SEID between the
-   two. */
+/* The SEIDs, in the table's order, of sessions that a table of this length had before and has no more
+   after; gives their number, at most the room. No session has come between the two. */
 size_t sessions_gone(const uint8_t *before, const uint8_t *after, size_t length, uint64_t *seids,
                      size_t room);
 

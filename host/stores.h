@@ -1,7 +1,7 @@
 /*
- * The stores of repeated requests: one for each control plane that --peer names, or one where it names
- * none. They stand after the table in one piece of memory, each after the address of its control plane,
- * so they go to the disk with the table in one write. With --no-repeats there is none.
+ * The stores of repeated requests: one for each peer, whoever asks as that peer. They stand after the
+ * table in one piece of memory, peer 1's first, so they go to the disk with the table in one write.
+ * With --no-repeats there are none.
  */
 #ifndef STORES_H
 #define STORES_H
@@ -12,23 +12,16 @@
 #include "options.h"
 #include "pfcp_session.h"
 
-/* A store with the address before it, which is all zeros where anybody may send. */
-enum { STORE_ROOM = ADDRESS_OCTETS + PFCP_STORE_LENGTH };
+/* The stores of both peers. */
+enum { STORES_ROOM = PFCP_PEERS * PFCP_STORE_LENGTH };
 
-/* The number of stores that the options ask for. */
-size_t stores_count(const struct options *options);
+/* The number of octets of the stores that the options ask for. */
+size_t stores_length(const struct options *options);
 
-/* Makes these stores, all of them empty. */
+/* Makes these stores, both of them empty. */
 void stores_make(uint8_t *stores, const struct options *options);
 
-/* The store at a place, from 0 on, in the order of the options. */
-uint8_t *stores_at(uint8_t *stores, size_t place);
-
-/* The same in words. */
-enum { STORE_WORDS = ADDRESS_ROOM + 32 };
-const char *stores_name(const uint8_t *stores, size_t place, char *room, size_t size);
-
-/* Takes the store at a place from among stored ones, if there is one of the same control plane. */
-bool stores_take(uint8_t *stores, size_t place, const uint8_t *stored, size_t stored_count);
+/* The store of a peer, 1 or 2. */
+uint8_t *stores_at(uint8_t *stores, uint32_t peer);
 
 #endif

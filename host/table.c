@@ -5,25 +5,40 @@
 #include "message.h"
 #include "pfcp_session.h"
 
-/* A session's restoration request. */
+/* The layout before two peers: a head, and a slot for each of 1 to 256 sessions. */
+enum { OLD_HEAD = 41, OLD_SLOT = 603 };
+
+/* A session's restoration request, and the peer to run it under. */
 struct restoration {
     uint8_t octets[PFCP_LONGEST_RESTORATION];
     size_t used;
+    uint32_t peer;
 };
 
 bool table_make(uint8_t *room, const struct options *options, uint32_t session_limit)
 {
+    const struct peer *one = &options->peers[0];
+    const struct peer *two = &options->peers[1];
+
     return pfcp_make_table(room, pfcp_table_length(session_limit), options->ipv4, options->ipv6,
                            options->ipv6_length, options->first_teid, options->pool_size,
-                           options->first_address, options->address_count, session_limit) == 0;
+                           options->first_address, options->address_count, session_limit,
+                           one->address, one->guarantee, one->limit, two->address, two->guarantee,
+                           two->limit) == 0;
 }
 
 uint32_t table_limit(size_t length)
 {
-    for (uint32_t limit = 1; limit <= PFCP_MOST_SESSIONS; limit++)
+    for (uint32_t limit = PFCP_LEAST_SESSIONS; limit <= PFCP_MOST_SESSIONS; limit++)
         if (pfcp_table_length(limit) == length)
             return limit;
     return 0;
+}
+
+bool table_is_old(size_t length)
+{
+    return length > OLD_HEAD && (length - OLD_HEAD) % OLD_SLOT == 0 &&
+           (length - OLD_HEAD) / OLD_SLOT <= PFCP_MOST_SESSIONS;
 }
 
 /* The control plane's address is in each request, and in no table. */
@@ -33,7 +48,8 @@ static uint32_t write_request(const uint8_t *table, size_t length, size_t place,
     static const uint8_t nobody[4] = {0, 0, 0, 0};
 
     return pfcp_write_restoration(table, length, place, nobody, sizeof nobody, NULL, 0,
-                                  request->octets, sizeof request->octets, &request->used);
+                                  request->octets, sizeof request->octets, &request->used,
+                                  &request->peer);
 }
 
 static bool is_accepted(uint8_t *table, size_t length, const struct restoration *request)
@@ -42,8 +58,8 @@ static bool is_accepted(uint8_t *table, size_t length, const struct restoration 
     size_t used;
     size_t place;
 
-    if (pfcp_request(table, length, request->octets, request->used, reply, sizeof reply, &used,
-                     &place) != PFCP_ANSWERED)
+    if (pfcp_request(table, length, request->peer, request->octets, request->used, reply,
+                     sizeof reply, &used, &place) != PFCP_ANSWERED)
         return false;
     struct element cause = element_of(reply, used, IE_CAUSE);
     return number_in(&cause, 0, 1) == ACCEPTED;
@@ -60,7 +76,8 @@ static bool have_same_sessions(const uint8_t *one, size_t one_length, const uint
 
     while ((outcome = write_request(one, one_length, place, &first)) == PFCP_WRITTEN &&
            write_request(other, other_length, place, &second) == PFCP_WRITTEN &&
-           first.used == second.used && memcmp(first.octets, second.octets, first.used) == 0)
+           first.peer == second.peer && first.used == second.used &&
+           memcmp(first.octets, second.octets, first.used) == 0)
         place++;
     return outcome == PFCP_PAST_LAST_SESSION &&
            write_request(other, other_length, place, &second) == PFCP_PAST_LAST_SESSION;

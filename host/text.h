@@ -4,7 +4,7 @@
 
 #include <stddef.h>
 
-/* Several times as much as the longest piece takes: the line of a set deletion of 256 sessions. */
+/* Several times as much as the longest piece takes: the line of a set deletion of 128 sessions. */
 enum { TEXT_ROOM = 32768 };
 
 struct text {

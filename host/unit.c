@@ -11,14 +11,21 @@
 #include "stores.h"
 #include "table.h"
 
-/* The sessions, free TEIDs and free addresses, after a request that may have changed them. */
+/* What the peers have, and the free TEIDs and addresses, after a request that may have changed them. */
 static bool count_table(struct unit *unit)
 {
     const uint8_t *table = unit->table;
     size_t length = unit->table_length;
 
-    return pfcp_session_count(table, length, &unit->live_sessions) == PFCP_FOUND &&
-           pfcp_free_count(table, length, &unit->free_teids) == PFCP_ANSWERED &&
+    unit->live_sessions = 0;
+    for (uint32_t peer = 1; peer <= PFCP_PEERS; peer++) {
+        struct holding *holding = &unit->holdings[peer - 1];
+
+        if (pfcp_peer_count(table, length, peer, &holding->sessions, &holding->teids) != PFCP_FOUND)
+            return false;
+        unit->live_sessions += holding->sessions;
+    }
+    return pfcp_free_count(table, length, &unit->free_teids) == PFCP_ANSWERED &&
            pfcp_free_addresses(table, length, &unit->free_addresses) == PFCP_ANSWERED;
 }
 
@@ -26,7 +33,7 @@ static bool count_table(struct unit *unit)
 static bool start_table(struct unit *unit, const struct options *options)
 {
     unit->table_length = pfcp_table_length(options->session_limit);
-    unit->table = malloc(unit->table_length + stores_count(options) * STORE_ROOM);
+    unit->table = malloc(unit->table_length + stores_length(options));
     if (!unit->table) {
         fputs("pfcp_unit: no memory for the table\n", stderr);
         return false;
@@ -40,10 +47,33 @@ static bool start_table(struct unit *unit, const struct options *options)
     return true;
 }
 
+/* A socket for each peer; the receive buffer is the smaller one. */
+static bool open_sockets(struct unit *unit)
+{
+    char text[ADDRESS_ROOM];
+
+    unit->receive_buffer = SIZE_MAX;
+    for (size_t i = 0; i < unit->options->peer_count; i++) {
+        const struct address *listen = &unit->options->peers[i].listen;
+        size_t buffer = 0;
+
+        unit->sockets[i] = datagrams_open(listen, &buffer);
+        if (unit->sockets[i] < 0) {
+            fprintf(stderr, "pfcp_unit: cannot listen on %s: %s\n",
+                    address_text(listen, text, sizeof text), strerror(errno));
+            return false;
+        }
+        if (buffer < unit->receive_buffer)
+            unit->receive_buffer = buffer;
+    }
+    return true;
+}
+
 bool unit_start(struct unit *unit, const struct options *options)
 {
     memset(unit, 0, sizeof *unit);
-    unit->socket = -1;
+    for (size_t i = 0; i < PFCP_PEERS; i++)
+        unit->sockets[i] = -1;
     unit->disk.lock = -1;
     unit->options = options;
     if (!start_table(unit, options) || !disk_start(&unit->disk, options, unit->table))
@@ -52,20 +82,16 @@ bool unit_start(struct unit *unit, const struct options *options)
         fputs("pfcp_unit: the table is broken\n", stderr);
         return false;
     }
-    unit->socket = datagrams_open(&options->listen, &unit->receive_buffer);
-    if (unit->socket < 0) {
-        fprintf(stderr, "pfcp_unit: cannot listen on %s port %u: %s\n", options->listen_text,
-                options->port, strerror(errno));
-        return false;
-    }
-    return true;
+    return open_sockets(unit);
 }
 
 void unit_stop(struct unit *unit)
 {
-    if (unit->socket >= 0)
-        close(unit->socket);
-    unit->socket = -1;
+    for (size_t i = 0; i < PFCP_PEERS; i++) {
+        if (unit->sockets[i] >= 0)
+            close(unit->sockets[i]);
+        unit->sockets[i] = -1;
+    }
     disk_stop(&unit->disk);
     free(unit->table);
     unit->table = NULL;
@@ -117,6 +143,21 @@ static void keep_octets(struct served *served, const uint8_t *message)
     memcpy(served->there, message + served->place, served->there_length);
 }
 
+/* What the peer has, may have, and may not take since it is the other's due. */
+static void keep_shortage(const struct unit *unit, struct served *served)
+{
+    size_t own = served->peer - 1;
+    size_t other = PFCP_PEERS - 1 - own;
+    uint32_t due = unit->options->peers[other].guarantee;
+    uint32_t held = unit->holdings[other].teids;
+
+    served->shortage.has = unit->holdings[own];
+    served->shortage.most.sessions = sessions_of_peer(unit->options);
+    served->shortage.most.teids = unit->options->peers[own].limit;
+    served->shortage.is_shared = unit->options->peer_count > 1;
+    served->shortage.kept_back = due > held ? due - held : 0;
+}
+
 static void count(struct counters *counters, const struct served *served)
 {
     if (served->has_type)
@@ -127,7 +168,7 @@ static void count(struct counters *counters, const struct served *served)
         counters->undone++;
         return;
     }
-    if (served->outcome <= PFCP_OLD_NUMBER)
+    if (served->outcome <= PFCP_NO_PEER)
         counters->outcomes[served->outcome]++;
     if (served->repeated)
         counters->repeats++;
@@ -139,35 +180,50 @@ static void count(struct counters *counters, const struct served *served)
 
 unsigned long unit_answered(const struct unit *unit)
 {
-    return unit->counters.outcomes[PFCP_ANSWERED];
+    unsigned long sum = 0;
+
+    for (size_t i = 0; i < PFCP_PEERS; i++)
+        sum += unit->counters[i].outcomes[PFCP_ANSWERED];
+    return sum;
+}
+
+unsigned long unit_undone(const struct unit *unit)
+{
+    unsigned long sum = 0;
+
+    for (size_t i = 0; i < PFCP_PEERS; i++)
+        sum += unit->counters[i].undone;
+    return sum;
 }
 
 unsigned long unit_unanswered(const struct unit *unit)
 {
-    unsigned long sum = unit->counters.undone;
+    unsigned long sum = unit_undone(unit);
 
-    for (size_t i = PFCP_ANSWERED + 1; i <= PFCP_OLD_NUMBER; i++)
-        sum += unit->counters.outcomes[i];
+    for (size_t i = 0; i < PFCP_PEERS; i++)
+        for (size_t k = PFCP_ANSWERED + 1; k <= PFCP_NO_PEER; k++)
+            sum += unit->counters[i].outcomes[k];
     return sum;
 }
 
-/* Hands the message on, with the store of its control plane where there is one. Whatever the engine
-   answers is stored, so an answer that leaves the store as it was is an old one. */
+/* Hands the message on, with the store of its peer where there is one. Whatever the engine answers is
+   stored, so an answer that leaves the store as it was is an old one. */
 static void hand_on(struct unit *unit, struct served *served, const uint8_t *message,
                     uint8_t *reply, size_t *used)
 {
     static uint8_t before[PFCP_STORE_LENGTH];
 
     if (!unit->options->repeats) {
-        served->outcome = pfcp_request(unit->table, unit->table_length, message, served->length,
-                                       reply, PFCP_REPLY_SPACE, used, &served->place);
+        served->outcome =
+            pfcp_request(unit->table, unit->table_length, served->peer, message, served->length,
+                         reply, PFCP_REPLY_SPACE, used, &served->place);
         return;
     }
-    uint8_t *store = stores_at(unit->stores, served->store);
+    uint8_t *store = stores_at(unit->stores, served->peer);
     memcpy(before, store, PFCP_STORE_LENGTH);
     served->outcome =
-        pfcp_request_once(unit->table, unit->table_length, store, PFCP_STORE_LENGTH, message,
-                          served->length, reply, PFCP_REPLY_SPACE, used, &served->place);
+        pfcp_request_once(unit->table, unit->table_length, served->peer, store, PFCP_STORE_LENGTH,
+                          message, served->length, reply, PFCP_REPLY_SPACE, used, &served->place);
     served->repeated =
         served->outcome == PFCP_ANSWERED && memcmp(before, store, PFCP_STORE_LENGTH) == 0;
 }
@@ -188,12 +244,14 @@ static void answer(struct unit *unit, struct served *served, struct datagram *fr
         served->undone = unit->disk.trouble;
         return;
     }
-    served->send_error = datagrams_answer(unit->socket, from, reply, used);
+    served->send_error = datagrams_answer(unit->sockets[served->peer - 1], from, reply, used);
     read_reply(served, reply, used);
     if (served->repeated)
         return;
     if (served->has_offending)
         keep_octets(served, message);
+    if (served->cause == NO_RESOURCES)
+        keep_shortage(unit, served);
     if (served->cause == ACCEPTED && !count_table(unit))
         served->outcome = PFCP_BROKEN_TABLE;
 }
@@ -216,35 +274,34 @@ static void answer_set(struct unit *unit, struct served *served, struct datagram
                                               served->removed, PFCP_MOST_SESSIONS);
 }
 
-/* Finds the store of the control plane that sent a message; gives false for a stranger. */
-static bool find_store(const struct options *options, struct served *served)
+/* Whether this sender may ask as the peer. */
+static bool may_ask(const struct peer *peer, const struct address *sender)
 {
-    if (options->peer_count == 0)
-        return true;
-    for (size_t i = 0; i < options->peer_count; i++)
-        if (address_same(&served->peer, &options->peers[i])) {
-            served->store = i;
+    for (size_t i = 0; i < peer->from_count; i++)
+        if (address_same(sender, &peer->from[i]))
             return true;
-        }
-    return false;
+    return peer->from_count == 0;
 }
 
-enum turn unit_serve(struct unit *unit, struct served *served)
+enum turn unit_serve(struct unit *unit, uint32_t peer, struct served *served)
 {
     /* Longer than any datagram, so that a message that is too long is seen as such. */
     static uint8_t message[65536];
-    struct datagram from = {.dropped = unit->system_dropped};
-    ssize_t length = datagrams_receive(unit->socket, &from, message, sizeof message);
+    struct counters *counters = &unit->counters[peer - 1];
+    uint32_t *system_dropped = &unit->system_dropped[peer - 1];
+    struct datagram from = {.dropped = *system_dropped};
+    ssize_t length = datagrams_receive(unit->sockets[peer - 1], &from, message, sizeof message);
 
     if (length < 0)
         return TURN_NOTHING;
     memset(served, 0, sizeof *served);
     clock_gettime(CLOCK_REALTIME, &served->time);
-    served->peer = from.peer;
-    unit->counters.dropped += (uint32_t)(from.dropped - unit->system_dropped);
-    unit->system_dropped = from.dropped;
-    if (!find_store(unit->options, served)) {
-        unit->counters.strangers++;
+    served->sender = from.sender;
+    served->peer = peer;
+    counters->dropped += (uint32_t)(from.dropped - *system_dropped);
+    *system_dropped = from.dropped;
+    if (!may_ask(&unit->options->peers[peer - 1], &from.sender)) {
+        counters->strangers++;
         return TURN_STRANGER;
     }
     read_head(served, message, (size_t)length);
@@ -255,7 +312,7 @@ enum turn unit_serve(struct unit *unit, struct served *served)
     served->live_sessions = unit->live_sessions;
     served->free_teids = unit->free_teids;
     served->free_addresses = unit->free_addresses;
-    count(&unit->counters, served);
+    count(counters, served);
     if (served->outcome == PFCP_ANSWERED)
         return served->undone ? TURN_NO_REPLY : TURN_REPLY;
     return served->outcome == PFCP_BROKEN_TABLE ? TURN_BROKEN : TURN_NO_REPLY;

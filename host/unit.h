@@ -1,4 +1,4 @@
-/* A unit: its table, its socket, and the service of one message. */
+/* A unit: its table, its sockets, and the service of one message. */
 #ifndef UNIT_H
 #define UNIT_H
 
@@ -13,11 +13,11 @@
 #include "sessions.h"
 #include "text.h"
 
-/* What has happened since the start. */
+/* What has happened since the start, by peer. */
 struct counters {
     unsigned long messages[256]; /* by type */
     unsigned long untyped;       /* too short for a type, or not PFCP version 1 */
-    unsigned long outcomes[PFCP_OLD_NUMBER + 1];
+    unsigned long outcomes[PFCP_NO_PEER + 1];
     unsigned long causes[256]; /* of requests; a repeat's is not counted again */
     unsigned long repeats;     /* requests that came again and got the old reply */
     unsigned long undone;      /* requests undone since the table could not be kept on the disk */
@@ -26,29 +26,44 @@ struct counters {
     unsigned long dropped;     /* datagrams that the system dropped */
 };
 
+/* What a peer has of the table. */
+struct holding {
+    uint32_t sessions;
+    uint32_t teids; /* different ones */
+};
+
 struct unit {
-    int socket;
-    size_t receive_buffer; /* octets that the system gave */
+    int sockets[PFCP_PEERS]; /* one for each peer; -1: this peer is not served */
+    size_t receive_buffer;   /* octets that the system gave */
     const struct options *options;
     uint8_t *table; /* as long as the session limit asks for; NULL: there is none */
     size_t table_length;
     uint8_t *stores; /* of repeated requests; after the table, as stores.h has them */
     struct disk disk;
+    struct holding holdings[PFCP_PEERS];
     uint32_t live_sessions;
     uint32_t free_teids;
     uint32_t free_addresses;
-    uint32_t system_dropped; /* what the system told last; it may wrap */
-    struct counters counters;
+    uint32_t system_dropped[PFCP_PEERS]; /* what the system told last; it may wrap */
+    struct counters counters[PFCP_PEERS];
 };
 
 /* So many octets at the place of a fault are shown. */
 enum { OCTETS_THERE = 8 };
 
-/* A message that was taken from the socket, and what became of it. */
+/* What a peer had, and may have, when a request got 75. */
+struct shortage {
+    struct holding has;
+    struct holding most;
+    bool is_shared; /* there is another peer, for which so many of the free TEIDs are kept back */
+    uint32_t kept_back;
+};
+
+/* A message that was taken from a peer's socket, and what became of it. */
 struct served {
     struct timespec time;
-    struct address peer;
-    size_t store; /* the place of its control plane's store */
+    struct address sender;
+    uint32_t peer; /* whose socket it was */
     size_t length;
     bool has_type; /* the octets are PFCP version 1 and long enough */
     uint8_t type;
@@ -64,8 +79,9 @@ struct served {
     size_t place; /* of the fault that Offending IE names, in the message; 0: the message itself */
     uint8_t there[OCTETS_THERE]; /* the octets at the place */
     size_t there_length;
-    const char *undone; /* why the table could not be kept: the request is undone; or NULL */
-    int send_error;     /* 0: the reply was sent, or there is none */
+    struct shortage shortage; /* where the cause is 75 and not an old reply's */
+    const char *undone;       /* why the table could not be kept: the request is undone; or NULL */
+    int send_error;           /* 0: the reply was sent, or there is none */
     uint32_t live_sessions;
     uint32_t free_teids;
     uint32_t free_addresses;
@@ -76,23 +92,26 @@ struct served {
 
 enum turn { TURN_REPLY, TURN_NO_REPLY, TURN_STRANGER, TURN_NOTHING, TURN_BROKEN };
 
-/* Makes or restores the table and binds the socket; says on standard error what failed and gives
+/* Makes or restores the table and binds the sockets; says on standard error what failed and gives
    false. A unit that could not start is stopped all the same. */
 bool unit_start(struct unit *unit, const struct options *options);
 void unit_stop(struct unit *unit);
 
-/* Receives one message if there is one, and answers it. */
-enum turn unit_serve(struct unit *unit, struct served *served);
+/* Receives one message of a peer if there is one, and answers it. */
+enum turn unit_serve(struct unit *unit, uint32_t peer, struct served *served);
 
-/* How many messages got a reply, and how many did not. */
+/* How many messages of both peers got a reply, how many did not, and how many of these were undone. */
 unsigned long unit_answered(const struct unit *unit);
 unsigned long unit_unanswered(const struct unit *unit);
+unsigned long unit_undone(const struct unit *unit);
 
-/* A message's line from its name on; and the whole line, with its time and its peer before that. */
+/* A message's line from its peer on; and the whole line, with its time and its sender before that. */
 void served_facts(struct text *text, const struct served *served);
 void served_line(struct text *text, const struct served *served);
 
-/* A scripted exchange with the unit over the loopback interface; gives the exit status. */
+/* A scripted exchange with the unit over the loopback interface, and one with a unit that two control
+   planes share; each gives the exit status. */
 int run_demo(struct unit *unit);
+int run_shared_demo(struct unit *unit);
 
 #endif

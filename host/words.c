@@ -62,6 +62,8 @@ const char *outcome_in_words(unsigned outcome, bool has_type, unsigned type)
         return "no reply: this type is not served";
     case 6:
         return "no reply: dropped, its number is not newer";
+    case 7:
+        return "no such peer";
     default:
         return "unknown outcome";
     }

@@ -59,6 +59,14 @@ start_unit() {
     return 1
 }
 
+# start_shared COMMAND..: the same for a unit that two control planes share, with a socket on 127.0.0.1 for peer 1 and one on 127.0.0.2 for
+# peer 2, both of which are there then
+shared=(--peer1 127.0.0.1:3:8 --peer2 127.0.0.2:3:5 --ipv4 192.0.2.1 --first-teid 4096 --pool 8 --first-address 10.45.0.1 --addresses 2)
+start_shared() {
+    local settings=("${shared[@]}")
+    start_unit "$@" && within 5 grep -q ' serving PFCP' "$out"
+}
+
 # end_unit SIGNAL: ends the unit within seconds, or kills it; sets ended_with to its exit status
 end_unit() {
     kill -"$1" "$unit_pid"
@@ -78,6 +86,15 @@ numbered() {
     printf '%s%06X%s' "${octets:0:at}" "$1" "${octets:at + 6}"
 }
 
+# wants SEID NUMBER COUNT: an establishment of a session, up to 255, with so many PDRs that each want a TEID
+wants() {
+    local pdr
+    printf '2132%04X0000000000000000%06X000039000D0200000000000000%02X7F000001' $((29 + 32 * $3)) "$2" "$1"
+    for ((pdr = 1; pdr <= $3; pdr++)); do
+        printf '0001001C00380002%04X001D0004000000640002000A00140001000015000105' "$pdr"
+    done
+}
+
 # send_octets OCTETS: sends octets given in hexadecimal in one datagram
 send_octets() {
     local octets=${1// /} i
@@ -93,9 +110,9 @@ exchange() {
     exec 3<&-
 }
 
-# no_answer MESSAGE: sends a message that gets no reply
+# no_answer MESSAGE [ADDRESS]: sends a message that gets no reply
 no_answer() {
-    to_unit || return 1
+    to_unit "${2:-127.0.0.1}" || return 1
     send_octets "$1"
     exec 3<&-
 }
@@ -112,7 +129,10 @@ burst() {
     exec 3<&-
 }
 
-# said FILE: the lines of a unit's output, with TIME and PORT in the place of the time and the peer's port
+# cause REPLY: the node that answers an establishment, as eight digits, and the cause; nothing where there is no reply
+cause() { [ ${#1} -ge 60 ] && printf '%s %d' "${1:42:8}" "0x${1:58:2}"; }
+
+# said FILE: the lines of a unit's output, with TIME and PORT in the place of the time and the sender's port
 said() {
     sed -E 's/^[0-9]{4}-[0-9]{2}-[0-9]{2}T[0-9]{2}:[0-9]{2}:[0-9]{2}\.[0-9]{3}Z /TIME /
         s/^TIME (127\.0\.0\.[0-9]+):[0-9]+ /TIME \1:PORT /' "$1"

@@ -33,15 +33,15 @@
 #include "pfcp_session.h"
 
 enum {
-    SESSIONS = 64, /* the unit's session limit where no option says it */
+    SESSIONS = 128, /* the unit's session limit where no option says it */
     WINDOW = 8,
     MOMENT = 250 /* milliseconds at most until a kill */,
     PATIENCE = 60 /* seconds for a start */,
     FIRST_NUMBER = 0xFFFFFF - 100 /* so that numbers come to their end and start again */
 };
 
-/* The file: a table, the control plane's address, its store (docs/layout.md). */
-enum { OWNER = 16, MOST_KEPT = PFCP_LONGEST_TABLE + OWNER + PFCP_STORE_LENGTH };
+/* The file: a table, and both peers' stores (docs/layout.md). The drill is peer 1. */
+enum { STORES = PFCP_PEERS * PFCP_STORE_LENGTH, MOST_KEPT = PFCP_LONGEST_TABLE + STORES };
 
 /* A request: its number and octets, its reply, and the file after it. */
 struct asked {
@@ -124,7 +124,7 @@ static bool is_accepted(const struct asked *asked)
 
 static size_t kept_length(const struct drill *drill)
 {
-    return drill->table_length + OWNER + PFCP_STORE_LENGTH;
+    return drill->table_length + STORES;
 }
 
 /* A unit that was killed does not hear it. */
@@ -139,14 +139,14 @@ static void ask(struct drill *drill)
     struct asked *asked = &drill->asked[drill->waiting];
     const struct asked *before =
         drill->waiting > 0 ? &drill->asked[drill->waiting - 1] : &drill->last;
-    uint8_t *store = asked->kept + drill->table_length + OWNER;
+    uint8_t *store = asked->kept + drill->table_length;
     size_t place;
 
     drill->sequence = (drill->sequence + 1) & 0xFFFFFF;
     asked->sequence = drill->sequence;
     write_request(&asked->message, drill->sequence);
     memcpy(asked->kept, before->kept, kept_length(drill));
-    if (pfcp_request_once(asked->kept, drill->table_length, store, PFCP_STORE_LENGTH,
+    if (pfcp_request_once(asked->kept, drill->table_length, 1, store, PFCP_STORE_LENGTH,
                           asked->message.octets, asked->message.length, asked->reply,
                           sizeof asked->reply, &asked->used, &place) != PFCP_ANSWERED)
         give_up("a request is not answered by the archive");
@@ -304,11 +304,11 @@ static void read_file(const struct drill *drill, uint8_t *kept)
     FILE *file = fopen(drill->file, "rb");
 
     if (!file || fread(kept, 1, length, file) != length || getc(file) != EOF)
-        give_up("the file is not there, or not as long as a table and a store");
+        give_up("the file is not there, or not as long as a table and two stores");
     fclose(file);
 }
 
-/* What the unit has left: table and store as answered, or after one request more. */
+/* What the unit has left: table and stores as answered, or after one request more. */
 static void compare(struct drill *drill)
 {
     static uint8_t found[MOST_KEPT];
@@ -374,18 +374,17 @@ static void run_in_order(struct drill *drill)
         give_up("SIGTERM does not end a unit in order");
 }
 
-/* What a unit starts with: no session, and no request of the control plane 127.0.0.1. */
+/* What a unit with one control plane starts with: no session, and no request of either peer. */
 static void make_kept(struct drill *drill)
 {
-    static const uint8_t owner[OWNER] = {[10] = 0xFF, [11] = 0xFF, [12] = 127, [15] = 1};
-    uint8_t *after = drill->last.kept + pfcp_table_length(SESSIONS);
+    uint8_t *stores = drill->last.kept + pfcp_table_length(SESSIONS);
 
     drill->table_length = pfcp_table_length(SESSIONS);
     if (pfcp_make_table(drill->last.kept, drill->table_length, 0xC0000201, NULL, 0, 4096, 100,
-                        0x0A2D0001, 254, SESSIONS) != 0 ||
-        pfcp_make_store(after + OWNER, PFCP_STORE_LENGTH) != 0)
+                        0x0A2D0001, 254, SESSIONS, 0xC0000201, 0, 100, 0, 0, 0) != 0 ||
+        pfcp_make_store(stores, PFCP_STORE_LENGTH) != 0 ||
+        pfcp_make_store(stores + PFCP_STORE_LENGTH, PFCP_STORE_LENGTH) != 0)
         give_up("no table");
-    memcpy(after, owner, OWNER);
 }
 
 int main(int argc, char **argv)

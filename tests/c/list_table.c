@@ -1,5 +1,5 @@
 /* Prints the list of a stored table's sessions as the unit does, without counters: list_table TABLE
-   text|json; list_table TABLE text|json SEID prints one session. */
+   text|json [SEID [PEER]]. A SEID of 0 stands for all sessions, a peer 0 for both. */
 #include <inttypes.h>
 #include <stdio.h>
 #include <stdlib.h>
@@ -14,6 +14,16 @@ static uint8_t table[PFCP_LONGEST_TABLE];
 static struct unit unit;
 static struct listing listing;
 static struct text piece;
+
+/* What the peers have. */
+static bool count_peers(void)
+{
+    for (uint32_t peer = 1; peer <= PFCP_PEERS; peer++)
+        if (pfcp_peer_count(table, unit.table_length, peer, &unit.holdings[peer - 1].sessions,
+                            &unit.holdings[peer - 1].teids) != PFCP_FOUND)
+            return false;
+    return true;
+}
 
 /* The pools' sizes stand in the settings (docs/layout.md). */
 static bool read_unit(const char *path)
@@ -30,22 +40,23 @@ static bool read_unit(const char *path)
     options.pool_size = (uint32_t)number_at(table + 25, 4);
     options.address_count = (uint32_t)number_at(table + 33, 4);
     unit.options = &options;
-    return whole &&
-           pfcp_session_count(table, unit.table_length, &unit.live_sessions) == PFCP_FOUND &&
+    return whole && count_peers() &&
            pfcp_free_count(table, unit.table_length, &unit.free_teids) == PFCP_ANSWERED &&
            pfcp_free_addresses(table, unit.table_length, &unit.free_addresses) == PFCP_ANSWERED;
 }
 
 int main(int argc, char **argv)
 {
-    if (argc < 3 || argc > 4 || !read_unit(argv[1])) {
-        fputs("usage: list_table TABLE text|json [SEID], with a sound table\n", stderr);
+    struct wanted wanted = {.seid = 0};
+
+    if (argc < 3 || argc > 5 || !read_unit(argv[1])) {
+        fputs("usage: list_table TABLE text|json [SEID [PEER]], with a sound table\n", stderr);
         return 2;
     }
-    unsigned form = strcmp(argv[2], "json") == 0 ? LIST_JSON : 0;
-    if (argc == 3)
-        listing_all(&listing, &unit, 0, form);
-    else if (!listing_one(&listing, &unit, strtoull(argv[3], NULL, 10), form))
+    wanted.form = strcmp(argv[2], "json") == 0 ? LIST_JSON : 0;
+    wanted.seid = argc > 3 ? strtoull(argv[3], NULL, 10) : 0;
+    wanted.peer = argc > 4 ? (uint32_t)strtoul(argv[4], NULL, 10) : 0;
+    if (!listing_start(&listing, &unit, &wanted, 0))
         return 1;
     while (listing_next(&listing, &piece)) {
         fwrite(piece.octets, 1, piece.length, stdout);

@@ -22,9 +22,9 @@
 
 #include "pfcp_session.h"
 
-/* The length of the file: a table of the unit's usual 64 sessions, and one store of repeats with its
-   address (docs/layout.md). */
-enum { FILE_LENGTH = 41 + 64 * 603 + 16 + PFCP_STORE_LENGTH };
+/* The length of the file: a table with the unit's usual session limit of 128, and both peers' stores of
+   repeats (docs/layout.md). */
+enum { FILE_LENGTH = 65 + 128 * 604 + PFCP_PEERS * PFCP_STORE_LENGTH };
 
 static int steps;
 

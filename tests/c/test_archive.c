@@ -1,8 +1,8 @@
 /*
  * The archive from C: document 01's whole replies, its story of a pool of two, the errors that were
  * seen before, addresses, empty slices, lengths, session limits, broken tables, restorations, the
- * calls that read a table, and repeated requests with their store. The last line is "N passed, M
- * failed".
+ * calls that read a table, repeated requests with their store, and two peers, each with its due. The
+ * last line is "N passed, M failed".
  *
  * Every slice is lent from a block of its own and of exactly its length, so that a memory checker
  * sees an octet read or written outside.
@@ -20,9 +20,10 @@ enum { FILLING = 0xA5 };
 /* The table's layout (docs/layout.md), and the session limit of tables where no other one is asked for. */
 enum {
     LIMIT_AT = 37,
-    COUNT_AT = 39,
-    HEAD = 41,
-    SLOT = 603,
+    DUES_AT = 39, /* a peer's address, guarantee and limit, then the other's */
+    COUNT_AT = 63,
+    HEAD = 65,
+    SLOT = 604,
     SESSIONS = 64,
     TABLE_LENGTH = HEAD + SESSIONS * SLOT
 };
@@ -87,14 +88,40 @@ static size_t length_of(const uint8_t *table)
     return length_for((uint32_t)number_at(table + LIMIT_AT, 2));
 }
 
-/* An empty table of the unit 192.0.2.1 without IPv6. */
+/* What a peer has of the unit. */
+struct due {
+    uint32_t address;
+    uint32_t guarantee;
+    uint32_t limit;
+};
+
+/* Who asks: peer 1 but where a test says another one. */
+static uint32_t peer = 1;
+
+/* The unit 192.0.2.1, whose peers 192.0.2.1 and 192.0.2.2 may both have the whole pool. */
+static uint32_t make_with(uint8_t *table, size_t length, const uint8_t *ipv6, size_t ipv6_len,
+                          uint32_t first_teid, uint32_t pool_size, uint32_t first_address,
+                          uint32_t addresses, uint32_t session_limit)
+{
+    return pfcp_make_table(table, length, 0xC0000201, ipv6, ipv6_len, first_teid, pool_size,
+                           first_address, addresses, session_limit, 0xC0000201, 0, pool_size,
+                           0xC0000202, 0, pool_size);
+}
+
+/* The same with one TEID and one address, for tables that are refused for another reason. */
+static uint32_t make_small(uint8_t *table, size_t length, uint32_t session_limit)
+{
+    return make_with(table, length, NULL, 0, 1, 1, 1, 1, session_limit);
+}
+
+/* An empty table of that unit without IPv6. */
 static uint8_t *new_table_for(uint32_t session_limit, uint32_t first_teid, uint32_t pool_size)
 {
     size_t length = length_for(session_limit);
     uint8_t *table = block(length, FILLING);
 
-    CHECK(pfcp_make_table(table, length, 0xC0000201, NULL, 0, first_teid, pool_size, FIRST_ADDRESS,
-                          ADDRESSES, session_limit) == 0);
+    CHECK(make_with(table, length, NULL, 0, first_teid, pool_size, FIRST_ADDRESS, ADDRESSES,
+                    session_limit) == 0);
     return table;
 }
 
@@ -119,8 +146,8 @@ static uint32_t ask_octets(uint8_t *table, const uint8_t *octets, size_t length)
 
     answer.used = SIZE_MAX;
     answer.place = SIZE_MAX;
-    answer.outcome = pfcp_request(table, length_of(table), message, length, reply, PFCP_REPLY_SPACE,
-                                  &answer.used, &answer.place);
+    answer.outcome = pfcp_request(table, length_of(table), peer, message, length, reply,
+                                  PFCP_REPLY_SPACE, &answer.used, &answer.place);
     CHECK(answer.place == 0 || (answer.outcome == 0 && answer.place < length));
     if (CHECK(answer.used <= PFCP_REPLY_SPACE)) {
         CHECK((answer.outcome == 0) == (answer.used >= 16));
@@ -578,8 +605,10 @@ static void longest_session(void)
     struct message m;
     size_t used = 0;
 
-    CHECK(pfcp_make_table(table, TABLE_LENGTH, 0xC0000201, ipv6, sizeof ipv6, 4096, 24,
-                          FIRST_ADDRESS, 1, SESSIONS) == 0);
+    uint32_t of_peer = 0;
+
+    CHECK(make_with(table, TABLE_LENGTH, ipv6, sizeof ipv6, 4096, 24, FIRST_ADDRESS, 1, SESSIONS) ==
+          0);
     start_establishment(&m, 1);
     for (uint16_t id = 1; id <= 16; id++) {
         create_pdr_start(&m, id, 1, 0);
@@ -602,8 +631,8 @@ static void longest_session(void)
     CHECK(answer.used == 1191);
     CHECK(free_teids(table) == 0 && free_addresses(table) == 0);
     CHECK(pfcp_write_restoration(table, TABLE_LENGTH, 0, ipv6, 4, ipv6, 16, request,
-                                 PFCP_LONGEST_RESTORATION, &used) == PFCP_WRITTEN);
-    CHECK(used == PFCP_LONGEST_RESTORATION);
+                                 PFCP_LONGEST_RESTORATION, &used, &of_peer) == PFCP_WRITTEN);
+    CHECK(used == PFCP_LONGEST_RESTORATION && of_peer == 1);
     free(request);
     free(table);
 }
@@ -618,22 +647,23 @@ static void empty_slices(void)
     size_t used = 7;
     size_t place = 7;
 
-    CHECK(pfcp_make_table(NULL, 0, 0, NULL, 0, 1, 1, 1, 1, SESSIONS) == 1);
-    CHECK(pfcp_make_table(NULL, 0, 0, NULL, 0, 1, 1, 1, 1, 0) == 1);
-    CHECK(pfcp_make_table(NULL, 0, 0, octet, 16, 1, 1, 1, 1, SESSIONS) == 1);
+    CHECK(make_small(NULL, 0, SESSIONS) == 1);
+    CHECK(make_small(NULL, 0, 0) == 1);
+    CHECK(make_with(NULL, 0, octet, 16, 1, 1, 1, 1, SESSIONS) == 1);
     CHECK(pfcp_free_count(NULL, 0, &count) == 1 && count == 0);
     count = 7;
     CHECK(pfcp_free_addresses(NULL, 0, &count) == 1 && count == 0);
-    CHECK(pfcp_request(NULL, 0, NULL, 0, NULL, 0, &used, &place) == 1 && used == 0);
+    CHECK(pfcp_request(NULL, 0, 1, NULL, 0, NULL, 0, &used, &place) == 1 && used == 0);
     CHECK(place == 0);
     used = 7;
-    CHECK(pfcp_request(table, TABLE_LENGTH, NULL, 0, NULL, 0, &used, &place) == 2);
+    CHECK(pfcp_request(table, TABLE_LENGTH, 1, NULL, 0, NULL, 0, &used, &place) == 2);
     CHECK(used == 0 && place == 0);
     used = 7;
-    CHECK(pfcp_request(table, TABLE_LENGTH, NULL, 0, reply, PFCP_REPLY_SPACE, &used, &place) == 4);
+    CHECK(pfcp_request(table, TABLE_LENGTH, 1, NULL, 0, reply, PFCP_REPLY_SPACE, &used, &place) ==
+          4);
     CHECK(used == 0 && all_are(reply, PFCP_REPLY_SPACE, FILLING));
     used = 7;
-    CHECK(pfcp_request(NULL, 0, octet, 16, reply, PFCP_REPLY_SPACE, &used, &place) == 1);
+    CHECK(pfcp_request(NULL, 0, 1, octet, 16, reply, PFCP_REPLY_SPACE, &used, &place) == 1);
     CHECK(used == 0 && place == 0);
     CHECK(all_are(reply, PFCP_REPLY_SPACE, FILLING));
     CHECK(free_teids(table) == 10);
@@ -848,7 +878,7 @@ static void lengths(void)
         uint8_t *reply = block(PFCP_REPLY_SPACE, FILLING);
         uint32_t count = 7;
 
-        CHECK(pfcp_make_table(table, length, 0xC0000201, NULL, 0, 1, 1, 1, 1, SESSIONS) == 1);
+        CHECK(make_small(table, length, SESSIONS) == 1);
         CHECK(all_are(table, length, FILLING));
         CHECK(pfcp_free_count(table, length, &count) == 1 && count == 0);
         count = 7;
@@ -856,7 +886,7 @@ static void lengths(void)
         message_start(&m, DELETION, 1, 1);
         message_end(&m);
         used = 7;
-        CHECK(pfcp_request(table, length, m.octets, m.length, reply, PFCP_REPLY_SPACE, &used,
+        CHECK(pfcp_request(table, length, 1, m.octets, m.length, reply, PFCP_REPLY_SPACE, &used,
                            &place) == 1);
         CHECK(used == 0 && all_are(reply, PFCP_REPLY_SPACE, FILLING));
         free(reply);
@@ -871,8 +901,8 @@ static void lengths(void)
     create_pdr(&m, 1, &choose);
     message_end(&m);
     used = 7;
-    CHECK(pfcp_request(table, TABLE_LENGTH, m.octets, m.length, small, PFCP_REPLY_SPACE - 1, &used,
-                       &place) == 2);
+    CHECK(pfcp_request(table, TABLE_LENGTH, 1, m.octets, m.length, small, PFCP_REPLY_SPACE - 1,
+                       &used, &place) == 2);
     CHECK(used == 0 && all_are(small, PFCP_REPLY_SPACE - 1, FILLING));
     free(small);
 
@@ -958,9 +988,9 @@ static void settings(void)
     for (size_t i = 0; i < sizeof cases / sizeof cases[0]; i++) {
         uint8_t *table = block(TABLE_LENGTH, FILLING);
         uint8_t *ipv6 = block(cases[i].ipv6_len, 0x20);
-        uint32_t made = pfcp_make_table(table, TABLE_LENGTH, 0xC0000201, ipv6, cases[i].ipv6_len,
-                                        cases[i].first_teid, cases[i].pool_size,
-                                        cases[i].first_address, cases[i].addresses, SESSIONS);
+        uint32_t made =
+            make_with(table, TABLE_LENGTH, ipv6, cases[i].ipv6_len, cases[i].first_teid,
+                      cases[i].pool_size, cases[i].first_address, cases[i].addresses, SESSIONS);
 
         CHECK(made == cases[i].expected);
         if (made == 0) {
@@ -972,6 +1002,10 @@ static void settings(void)
             CHECK(number_at(table + 29, 4) == cases[i].first_address);
             CHECK(number_at(table + 33, 4) == cases[i].addresses);
             CHECK(number_at(table + LIMIT_AT, 2) == SESSIONS);
+            CHECK(number_at(table + DUES_AT, 8) == 0xC000020100000000);
+            CHECK(number_at(table + DUES_AT + 8, 4) == cases[i].pool_size);
+            CHECK(number_at(table + DUES_AT + 12, 8) == 0xC000020200000000);
+            CHECK(number_at(table + DUES_AT + 20, 4) == cases[i].pool_size);
             CHECK(all_are(table + COUNT_AT, TABLE_LENGTH - COUNT_AT, 0));
             CHECK(free_teids(table) == cases[i].pool_size);
             CHECK(free_addresses(table) == cases[i].addresses);
@@ -998,25 +1032,37 @@ static void broken_tables(void)
         {LIMIT_AT + 1, 63},     /* session limit */
         {LIMIT_AT + 1, 65},     /* the same */
         {LIMIT_AT + 1, 0},      /* no session at all */
+        {LIMIT_AT + 1, 1},      /* one session: none for each peer */
         {LIMIT_AT, 1},          /* 320 sessions */
         {LIMIT_AT, 0xFF},       /* 65,344 */
         {COUNT_AT + 1, 0},      /* one session fewer: its slot is unused room */
         {COUNT_AT + 1, 65},     /* too many sessions */
         {COUNT_AT, 1},          /* 257 sessions */
-        {HEAD + 7, 0},          /* SEID 0 */
-        {HEAD + 8, 17},         /* too many PDRs */
-        {HEAD + 11 + 6, 2},     /* presence of the FAR ID */
-        {HEAD + 11 + 11, 16},   /* source interface */
-        {HEAD + 11 + 12, 3},    /* place */
-        {HEAD + 11 + 15, 0x20}, /* a TEID outside the pool */
-        {HEAD + 11 + 17, 0},    /* no family */
-        {HEAD + 11 + 17, 3},    /* a family that the unit lacks */
-        {HEAD + 11 + 18, 1},    /* an endpoint ID beside a TEID */
-        {HEAD + 11 + 19, 2},    /* presence of the address */
-        {HEAD + 11 + 23, 1},    /* an address that is not there */
-        {HEAD + 395, 1},        /* unused room of endpoints */
-        {HEAD + 483, 1},        /* unused room of FQ-CSIDs */
-        {HEAD + SLOT + 7, 1},   /* unused room of sessions */
+        {HEAD, 0},              /* no peer */
+        {HEAD, 3},              /* the same */
+        {HEAD, 255},            /* the same */
+        {HEAD + 8, 0},          /* SEID 0 */
+        {HEAD + 9, 17},         /* too many PDRs */
+        {HEAD + 12 + 6, 2},     /* presence of the FAR ID */
+        {HEAD + 12 + 11, 16},   /* source interface */
+        {HEAD + 12 + 12, 3},    /* place */
+        {HEAD + 12 + 15, 0x20}, /* a TEID outside the pool */
+        {HEAD + 12 + 17, 0},    /* no family */
+        {HEAD + 12 + 17, 3},    /* a family that the unit lacks */
+        {HEAD + 12 + 18, 1},    /* an endpoint ID beside a TEID */
+        {HEAD + 12 + 19, 2},    /* presence of the address */
+        {HEAD + 12 + 23, 1},    /* an address that is not there */
+        {HEAD + 396, 1},        /* unused room of endpoints */
+        {HEAD + 484, 1},        /* unused room of FQ-CSIDs */
+        {HEAD + SLOT, 1},       /* unused room of sessions: a peer */
+        {HEAD + SLOT + 8, 1},   /* the same: a SEID */
+        {DUES_AT + 3, 2},       /* both peers have one address */
+        {DUES_AT + 11, 0},      /* peer 1 holds more than its limit */
+        {DUES_AT + 11, 11},     /* a limit over the pool size */
+        {DUES_AT + 20, 1},      /* the same of peer 2 */
+        {DUES_AT + 7, 11},      /* a guarantee over the limit */
+        {DUES_AT + 19, 11},     /* the same of peer 2 */
+        {DUES_AT + 19, 10}, /* what peer 1 holds and peer 2 is guaranteed is over the pool size */
         {TABLE_LENGTH - 1, 1},
     };
     uint8_t *table = new_table(4096, 10);
@@ -1038,11 +1084,11 @@ static void broken_tables(void)
         CHECK(pfcp_free_count(table, TABLE_LENGTH, &count) == 1 && count == 0);
         count = 7;
         CHECK(pfcp_free_addresses(table, TABLE_LENGTH, &count) == 1 && count == 0);
-        CHECK(pfcp_request(table, TABLE_LENGTH, m.octets, m.length, reply, PFCP_REPLY_SPACE, &used,
-                           &place) == 1);
+        CHECK(pfcp_request(table, TABLE_LENGTH, 1, m.octets, m.length, reply, PFCP_REPLY_SPACE,
+                           &used, &place) == 1);
         CHECK(used == 0 && all_are(reply, PFCP_REPLY_SPACE, FILLING));
         used = 7;
-        CHECK(pfcp_request(table, TABLE_LENGTH, m.octets, 3, reply, 5, &used, &place) == 1 &&
+        CHECK(pfcp_request(table, TABLE_LENGTH, 1, m.octets, 3, reply, 5, &used, &place) == 1 &&
               used == 0 && place == 0);
         CHECK(memcmp(table, damaged, TABLE_LENGTH) == 0);
         free(damaged);
@@ -1098,10 +1144,11 @@ static void restoration(void)
 /* The last answer of a call that reads a table. */
 static struct {
     uint32_t count;
+    uint32_t teids;
     size_t place;
 } told;
 
-/* The three calls on a table of exactly this length; the table stays as it is. */
+/* The calls on a table of exactly this length; the table stays as it is. */
 static uint32_t count_in(const uint8_t *octets, size_t length)
 {
     uint8_t *table = length > 0 ? copy_of(octets, length) : NULL;
@@ -1118,10 +1165,29 @@ static uint32_t find_seid_in(const uint8_t *octets, size_t length, uint64_t seid
     uint8_t *table = length > 0 ? copy_of(octets, length) : NULL;
 
     told.place = SIZE_MAX;
-    uint32_t outcome = pfcp_find_session(table, length, seid, &told.place);
+    uint32_t outcome = pfcp_find_session(table, length, peer, seid, &told.place);
     CHECK(length == 0 || memcmp(table, octets, length) == 0);
     free(table);
     return outcome;
+}
+
+static uint32_t count_peer_in(const uint8_t *octets, size_t length)
+{
+    uint8_t *table = length > 0 ? copy_of(octets, length) : NULL;
+
+    told.count = 0xA5A5A5A5;
+    told.teids = 0xA5A5A5A5;
+    uint32_t outcome = pfcp_peer_count(table, length, peer, &told.count, &told.teids);
+    CHECK(length == 0 || memcmp(table, octets, length) == 0);
+    free(table);
+    return outcome;
+}
+
+/* Whether the asking peer has so many sessions and TEIDs. */
+static int has(const uint8_t *table, uint32_t sessions, uint32_t teids)
+{
+    return count_peer_in(table, length_of(table)) == PFCP_FOUND && told.count == sessions &&
+           told.teids == teids;
 }
 
 static uint32_t find_teid_in(const uint8_t *octets, size_t length, uint32_t teid)
@@ -1135,10 +1201,11 @@ static uint32_t find_teid_in(const uint8_t *octets, size_t length, uint32_t teid
     return outcome;
 }
 
-/* All three say that there is no table. */
+/* All of them say that there is no table. */
 static void nothing_told(const uint8_t *octets, size_t length)
 {
     CHECK(count_in(octets, length) == PFCP_BROKEN_TABLE && told.count == 0);
+    CHECK(count_peer_in(octets, length) == PFCP_BROKEN_TABLE && told.count == 0 && told.teids == 0);
     CHECK(find_seid_in(octets, length, 4) == PFCP_BROKEN_TABLE && told.place == 0);
     CHECK(find_teid_in(octets, length, 4096) == PFCP_BROKEN_TABLE && told.place == 0);
 }
@@ -1180,6 +1247,7 @@ static void read_tables(void)
     CHECK(ask(table, &m) == 1);
     CHECK(establish_one_pdr(table, 0xFFFFFFFFFFFFFFFF, &choose) == 1);
     CHECK(count_in(table, length) == PFCP_FOUND && told.count == 3);
+    CHECK(has(table, 3, 3));
     for (size_t i = 0; i < sizeof seids / sizeof seids[0]; i++) {
         CHECK(find_seid_in(table, length, seids[i].seid) == seids[i].outcome);
         CHECK(told.place == seids[i].place);
@@ -1213,6 +1281,7 @@ static void read_tables(void)
 static struct {
     uint8_t octets[PFCP_LONGEST_RESTORATION];
     size_t used;
+    uint32_t peer;
 } written;
 
 static const uint8_t plane_ipv4[4] = {198, 51, 100, 1};
@@ -1233,9 +1302,12 @@ static uint32_t write_octets(const uint8_t *octets, size_t length, size_t place,
     if (ipv6_length == 16)
         memcpy(ipv6, plane_ipv6, 16);
     written.used = SIZE_MAX;
-    uint32_t outcome = pfcp_write_restoration(table, length, place, ipv4, ipv4_length, ipv6,
-                                              ipv6_length, space, space_length, &written.used);
+    written.peer = 0xA5A5A5A5;
+    uint32_t outcome =
+        pfcp_write_restoration(table, length, place, ipv4, ipv4_length, ipv6, ipv6_length, space,
+                               space_length, &written.used, &written.peer);
     CHECK((outcome == PFCP_WRITTEN) == (written.used >= 16));
+    CHECK(outcome == PFCP_WRITTEN ? written.peer == 1 || written.peer == 2 : written.peer == 0);
     if (CHECK(written.used <= PFCP_LONGEST_RESTORATION && written.used <= space_length)) {
         CHECK(all_are(space + written.used, space_length - written.used, FILLING));
         if (written.used > 0)
@@ -1322,6 +1394,7 @@ static void written_restorations(void)
         place++;
         CHECK(number_at(written.octets + 4, 8) == 0);
         CHECK(number_at(written.octets + 12, 3) == place);
+        CHECK(written.peer == 1);
         CHECK(ask_octets(fresh, written.octets, written.used) == 0);
         CHECK(answer.octets[29] == 1);
     }
@@ -1396,19 +1469,19 @@ static void refused_restorations(void)
    whose last 16 bits are an allowed one is not allowed by that. */
 static void session_limits(void)
 {
-    static const uint32_t refused[] = {0, 257, 320, 65536, 65536 + SESSIONS, 0xFFFFFFFF};
+    static const uint32_t refused[] = {0, 1, 257, 320, 65536, 65536 + SESSIONS, 0xFFFFFFFF};
 
-    CHECK(PFCP_MOST_SESSIONS == 256 && PFCP_LONGEST_TABLE == 154409);
-    CHECK(pfcp_table_length(64) == 38633 && pfcp_table_length(256) == PFCP_LONGEST_TABLE);
-    for (uint32_t limit = 1; limit <= PFCP_MOST_SESSIONS; limit++)
+    CHECK(PFCP_LEAST_SESSIONS == 2 && PFCP_MOST_SESSIONS == 256 && PFCP_LONGEST_TABLE == 154689);
+    CHECK(pfcp_table_length(64) == 38721 && pfcp_table_length(256) == PFCP_LONGEST_TABLE);
+    for (uint32_t limit = PFCP_LEAST_SESSIONS; limit <= PFCP_MOST_SESSIONS; limit++)
         CHECK(pfcp_table_length(limit) == length_for(limit));
     for (size_t i = 0; i < sizeof refused / sizeof refused[0]; i++) {
         size_t length = length_for(refused[i] < 65536 ? refused[i] : SESSIONS);
         uint8_t *table = block(length, FILLING);
 
         CHECK(pfcp_table_length(refused[i]) == 0);
-        CHECK(pfcp_make_table(table, length, 0xC0000201, NULL, 0, 1, 1, 1, 1, refused[i]) == 1);
-        CHECK(pfcp_make_table(table, 0, 0xC0000201, NULL, 0, 1, 1, 1, 1, refused[i]) == 1);
+        CHECK(make_small(table, length, refused[i]) == 1);
+        CHECK(make_small(table, 0, refused[i]) == 1);
         CHECK(all_are(table, length, FILLING));
         free(table);
     }
@@ -1417,7 +1490,7 @@ static void session_limits(void)
 /* Tables of several limits, each with lengths that are those of others or none's. */
 static void lengths_of_limits(void)
 {
-    static const uint32_t limits[] = {1, 2, 5, 63, 65, 255, 256};
+    static const uint32_t limits[] = {2, 3, 5, 63, 65, 255, 256};
 
     for (size_t i = 0; i < sizeof limits / sizeof limits[0]; i++) {
         uint32_t limit = limits[i];
@@ -1428,7 +1501,7 @@ static void lengths_of_limits(void)
         for (size_t k = 0; k < sizeof lengths / sizeof lengths[0]; k++) {
             uint8_t *table = block(lengths[k], FILLING);
 
-            CHECK(pfcp_make_table(table, lengths[k], 0xC0000201, NULL, 0, 1, 1, 1, 1, limit) == 1);
+            CHECK(make_small(table, lengths[k], limit) == 1);
             CHECK(all_are(table, lengths[k], FILLING));
             free(table);
         }
@@ -1460,35 +1533,46 @@ static void no_room_for(uint8_t *table, uint64_t seid)
     free(before);
 }
 
-/* Five sessions, and the sixth is 75 until one goes; one that lives already is 64 all the same. */
+/* A limit of five: two sessions for each peer, and a third is 75 until one of the same peer goes; one
+   that lives already is 64 all the same. */
 static void limit_of_five(void)
 {
     uint8_t *table = new_table_for(5, 4096, 10);
 
-    for (uint64_t seid = 1; seid <= 5; seid++)
-        CHECK(establish_one_pdr(table, seid, &choose) == 1);
-    no_room_for(table, 6);
-    CHECK(establish_one_pdr(table, 5, NULL) == 64);
-    CHECK(delete_session(table, 2) == 1);
-    CHECK(establish_one_pdr(table, 6, &choose) == 1);
-    CHECK(granted(IE_CREATED_PDR, 1) == 4097);
-    no_room_for(table, 2);
+    for (peer = 1; peer <= PFCP_PEERS; peer++) {
+        CHECK(establish_one_pdr(table, 1, &choose) == 1);
+        CHECK(establish_one_pdr(table, 2, &choose) == 1);
+        no_room_for(table, 3);
+        CHECK(establish_one_pdr(table, 2, NULL) == 64);
+        CHECK(has(table, 2, 2));
+    }
+    peer = 2;
+    CHECK(delete_session(table, 1) == 1);
+    peer = 1;
+    no_room_for(table, 3);
+    peer = 2;
+    CHECK(establish_one_pdr(table, 3, &choose) == 1 && granted(IE_CREATED_PDR, 1) == 4098);
+    no_room_for(table, 1);
+    peer = 1;
     free(table);
 }
 
-/* The limit of a table with five sessions changed, and the table lent with the length of the new limit:
-   too few slots and limits that are not allowed break it; slots of zeros more make the table of the
-   larger limit. */
+/* The limit of a table with two sessions of each peer changed, and the table lent with the length of the
+   new limit: too few slots for a peer and limits that are not allowed break it; slots of zeros more make
+   the table of the larger limit. */
 static void changed_limits(void)
 {
     static const struct {
         uint32_t limit;
         int broken;
-    } changes[] = {{4, 1}, {0, 1}, {257, 1}, {65535, 1}, {5, 0}, {6, 0}, {256, 0}};
+    } changes[] = {{3, 1},     {2, 1}, {1, 1}, {0, 1}, {257, 1},
+                   {65535, 1}, {4, 0}, {5, 0}, {6, 0}, {256, 0}};
     uint8_t *five = new_table_for(5, 4096, 10);
 
-    for (uint64_t seid = 1; seid <= 5; seid++)
-        CHECK(establish_one_pdr(five, seid, &choose) == 1);
+    for (peer = 1; peer <= PFCP_PEERS; peer++)
+        for (uint64_t seid = 1; seid <= 2; seid++)
+            CHECK(establish_one_pdr(five, seid, &choose) == 1);
+    peer = 1;
     for (size_t i = 0; i < sizeof changes / sizeof changes[0]; i++) {
         size_t length = length_for(changes[i].limit);
         size_t kept = length < length_for(5) ? length : length_for(5);
@@ -1499,9 +1583,9 @@ static void changed_limits(void)
         table[LIMIT_AT] = (uint8_t)(changes[i].limit >> 8);
         table[LIMIT_AT + 1] = (uint8_t)changes[i].limit;
         CHECK(pfcp_free_count(table, length, &count) == (uint32_t)changes[i].broken);
-        CHECK(count == (changes[i].broken ? 0 : 5));
+        CHECK(count == (changes[i].broken ? 0 : 6));
         CHECK(pfcp_session_count(table, length, &count) == (uint32_t)changes[i].broken);
-        CHECK(count == (changes[i].broken ? 0 : 5));
+        CHECK(count == (changes[i].broken ? 0 : 4));
         free(table);
     }
     free(five);
@@ -1521,36 +1605,49 @@ static unsigned establish_full(uint8_t *table, uint64_t seid)
     return ask(table, &m);
 }
 
-/* 256 sessions with 6,144 TEIDs of the largest pool, then 75; all of them found, restored and removed. */
+/* 256 sessions, 128 of each peer with the same SEIDs, with 6,144 TEIDs of the largest pool, then 75 for
+   both; all of them found, restored and removed, each peer's by itself. */
 static void most_sessions(void)
 {
+    enum { HALF = PFCP_MOST_SESSIONS / PFCP_PEERS };
     const uint32_t first = 0xFFFF0000;
     const uint32_t teids = 24 * PFCP_MOST_SESSIONS;
     uint8_t *table = new_table_for(PFCP_MOST_SESSIONS, first, 65536);
     uint8_t *empty = copy_of(table, PFCP_LONGEST_TABLE);
     uint8_t *fresh = copy_of(table, PFCP_LONGEST_TABLE);
-    uint32_t count = 0;
     size_t place = 0;
     struct message m;
 
-    for (uint64_t seid = PFCP_MOST_SESSIONS; seid > 0; seid--)
-        CHECK(establish_full(table, seid) == 1);
+    for (uint64_t seid = HALF; seid > 0; seid--)
+        for (peer = PFCP_PEERS; peer > 0; peer--)
+            CHECK(establish_full(table, seid) == 1);
     CHECK(free_teids(table) == 65536 - teids);
-    no_room_for(table, PFCP_MOST_SESSIONS + 1);
-    CHECK(pfcp_session_count(table, PFCP_LONGEST_TABLE, &count) == PFCP_FOUND && count == 256);
-    CHECK(pfcp_find_session(table, PFCP_LONGEST_TABLE, 256, &place) == PFCP_FOUND && place == 255);
+    CHECK(count_in(table, PFCP_LONGEST_TABLE) == PFCP_FOUND && told.count == PFCP_MOST_SESSIONS);
+    for (peer = 1; peer <= PFCP_PEERS; peer++) {
+        no_room_for(table, HALF + 1);
+        CHECK(has(table, HALF, teids / PFCP_PEERS));
+        CHECK(find_seid_in(table, PFCP_LONGEST_TABLE, HALF) == PFCP_FOUND);
+        CHECK(told.place == peer * HALF - 1);
+    }
+    /* The first was given to peer 2's last session, the last to peer 1's first one. */
     CHECK(pfcp_find_teid(table, PFCP_LONGEST_TABLE, first, &place) == PFCP_FOUND && place == 255);
     CHECK(pfcp_find_teid(table, PFCP_LONGEST_TABLE, first + teids - 1, &place) == PFCP_FOUND &&
           place == 0);
     CHECK(pfcp_find_teid(table, PFCP_LONGEST_TABLE, first + teids, &place) == PFCP_NONE);
     for (place = 0; place < PFCP_MOST_SESSIONS; place++) {
         CHECK(write_place(table, place, PFCP_LONGEST_RESTORATION) == PFCP_WRITTEN);
+        CHECK(written.peer == (place < HALF ? 1 : 2));
+        peer = written.peer;
         CHECK(ask_octets(fresh, written.octets, written.used) == 0 && answer.octets[29] == 1);
     }
     CHECK(write_place(table, place, PFCP_LONGEST_RESTORATION) == PFCP_PAST_LAST_SESSION);
     CHECK(memcmp(table, fresh, PFCP_LONGEST_TABLE) == 0);
     plain_message_start(&m, SET_DELETION, 1);
     put_fq_csid(&m, 1, 5);
+    peer = 2;
+    CHECK(ask(table, &m) == 1 && has(table, 0, 0));
+    peer = 1;
+    CHECK(has(table, HALF, teids / PFCP_PEERS));
     CHECK(ask(table, &m) == 1);
     CHECK(memcmp(table, empty, PFCP_LONGEST_TABLE) == 0);
     free(fresh);
@@ -1611,7 +1708,7 @@ static uint32_t ask_once_in(uint8_t *table, uint8_t *store, const struct message
 
     answer.used = SIZE_MAX;
     answer.place = SIZE_MAX;
-    answer.outcome = pfcp_request_once(table, length, store, STORE_LENGTH, message, m->length,
+    answer.outcome = pfcp_request_once(table, length, peer, store, STORE_LENGTH, message, m->length,
                                        reply, space, &answer.used, &answer.place);
     CHECK(memcmp(message, m->octets, m->length) == 0);
     if (CHECK(answer.used <= space && answer.used <= PFCP_REPLY_SPACE)) {
@@ -1687,7 +1784,7 @@ static void store_lengths(void)
         CHECK(pfcp_make_store(lengths[i] > 0 ? store : NULL, lengths[i]) == 1);
         CHECK(all_are(store, lengths[i], FILLING));
         memset(store, 0, lengths[i]);
-        CHECK(pfcp_request_once(table, TABLE_LENGTH, lengths[i] > 0 ? store : NULL, lengths[i],
+        CHECK(pfcp_request_once(table, TABLE_LENGTH, 1, lengths[i] > 0 ? store : NULL, lengths[i],
                                 m.octets, m.length, reply, PFCP_REPLY_SPACE, &used,
                                 &place) == PFCP_BROKEN_TABLE);
         CHECK(used == 0 && place == 0 && all_are(reply, PFCP_REPLY_SPACE, FILLING));
@@ -2019,6 +2116,321 @@ static void once_is_the_same(void)
     free(table);
 }
 
+/* What peers may have: the settings that are made, with their octets, and those that are refused. */
+static void dues(void)
+{
+    static const struct {
+        struct due one, two;
+        uint32_t expected;
+    } cases[] = {
+        {{1, 0, 0}, {2, 0, 0}, 0},
+        {{1, 0, 8}, {2, 0, 8}, 0},
+        {{1, 8, 8}, {2, 0, 8}, 0},
+        {{1, 3, 8}, {2, 5, 5}, 0},
+        {{1, 3, 8}, {2, 6, 8}, 1}, /* the guarantees together */
+        {{1, 8, 8}, {2, 1, 1}, 1},
+        {{1, 0xFFFFFFFF, 8}, {2, 9, 8}, 1},
+        {{1, 3, 2}, {2, 0, 8}, 1}, /* a limit under the guarantee */
+        {{1, 0, 8}, {2, 3, 2}, 1},
+        {{1, 3, 9}, {2, 0, 8}, 1}, /* a limit over the pool size */
+        {{1, 0, 8}, {2, 0, 9}, 1},
+        {{1, 0, 0xFFFFFFFF}, {2, 0, 8}, 1},
+        {{1, 3, 8}, {1, 3, 5}, 1}, /* the same address */
+        {{0, 3, 8}, {0, 3, 5}, 1},
+        {{0, 3, 8}, {0xFFFFFFFF, 3, 5}, 0},
+        {{0xC0000201, 3, 8}, {0, 3, 5}, 0},
+    };
+
+    for (size_t i = 0; i < sizeof cases / sizeof cases[0]; i++) {
+        const struct due *one = &cases[i].one;
+        const struct due *two = &cases[i].two;
+        uint8_t *table = block(TABLE_LENGTH, FILLING);
+
+        CHECK(pfcp_make_table(table, TABLE_LENGTH, 0xC0000201, NULL, 0, 4096, 8, FIRST_ADDRESS,
+                              ADDRESSES, SESSIONS, one->address, one->guarantee, one->limit,
+                              two->address, two->guarantee, two->limit) == cases[i].expected);
+        if (cases[i].expected == 0) {
+            CHECK(number_at(table + DUES_AT, 4) == one->address);
+            CHECK(number_at(table + DUES_AT + 4, 4) == one->guarantee);
+            CHECK(number_at(table + DUES_AT + 8, 4) == one->limit);
+            CHECK(number_at(table + DUES_AT + 12, 4) == two->address);
+            CHECK(number_at(table + DUES_AT + 16, 4) == two->guarantee);
+            CHECK(number_at(table + DUES_AT + 20, 4) == two->limit);
+        } else {
+            CHECK(all_are(table, TABLE_LENGTH, FILLING));
+        }
+        free(table);
+    }
+}
+
+/* Any other number than a peer's is 7, whatever else is wrong, and nothing is written. */
+static void no_such_peer(void)
+{
+    static const uint32_t numbers[] = {0, 3, 256, 257, 65537, 0x10001, 0xFFFFFFFF};
+    uint8_t *table = new_table(4096, 10);
+    uint8_t *store = new_store();
+    struct message m;
+
+    CHECK(establish_one_pdr(table, 1, &choose) == 1);
+    start_establishment(&m, 2);
+    create_pdr(&m, 1, &choose);
+    message_end(&m);
+    for (size_t i = 0; i < 4 * sizeof numbers / sizeof numbers[0]; i++) {
+        peer = numbers[i / 4];
+        table[TABLE_LENGTH - 1] = i & 1;
+        store[STORE_LENGTH - 1] = i >> 1 & 1;
+        uint8_t *before = copy_of(table, TABLE_LENGTH);
+        CHECK(ask_octets(table, m.octets, m.length) == PFCP_NO_PEER && answer.place == 0);
+        CHECK(ask_octets(table, m.octets, 3) == PFCP_NO_PEER);
+        CHECK(memcmp(table, before, TABLE_LENGTH) == 0);
+        CHECK(ask_once(table, store, &m) == PFCP_NO_PEER && answer.used == 0);
+        CHECK(ask_once_in(table, store, &m, 0) == PFCP_NO_PEER);
+        CHECK(count_peer_in(table, TABLE_LENGTH) == PFCP_NO_PEER);
+        CHECK(told.count == 0 && told.teids == 0);
+        CHECK(count_peer_in(NULL, 0) == PFCP_NO_PEER && told.count == 0 && told.teids == 0);
+        CHECK(find_seid_in(table, TABLE_LENGTH, 1) == (i & 1 ? PFCP_BROKEN_TABLE : PFCP_NONE));
+        CHECK(told.place == 0);
+        free(before);
+    }
+    peer = 1;
+    free(store);
+    free(table);
+}
+
+/* A pool of 8 TEIDs from 4096 on, of which both peers are guaranteed 3; 127.0.0.1 may hold 8, 127.0.0.2
+   may hold 5. */
+static uint8_t *shared_table(void)
+{
+    uint8_t *table = block(TABLE_LENGTH, FILLING);
+
+    CHECK(pfcp_make_table(table, TABLE_LENGTH, 0xC0000201, NULL, 0, 4096, 8, FIRST_ADDRESS,
+                          ADDRESSES, SESSIONS, 0x7F000001, 3, 8, 0x7F000002, 3, 5) == 0);
+    return table;
+}
+
+/* Whether the last answer, of an establishment or a set deletion, has the asking peer's address in its
+   Node ID and, where there is one, in its F-SEID. */
+static int is_answered_as_peer(void)
+{
+    struct element node = element_of(answer.octets, answer.used, IE_NODE_ID);
+    struct element f_seid = element_of(answer.octets, answer.used, IE_F_SEID);
+
+    return number_in(&node, 0, 5) == 0x7F000000 + peer &&
+           (f_seid.length == 0 || number_in(&f_seid, 9, 4) == 0x7F000000 + peer);
+}
+
+/* An establishment or, for a live session, a modification that wants so many TEIDs for PDRs from an ID
+   on; gives the cause. */
+static unsigned want(uint8_t *table, uint64_t seid, uint16_t first_id, uint16_t count)
+{
+    struct message m;
+
+    if (find_seid_in(table, TABLE_LENGTH, seid) == PFCP_FOUND)
+        message_start(&m, MODIFICATION, seid, 1);
+    else
+        start_establishment(&m, seid);
+    for (uint16_t i = 0; i < count; i++)
+        create_pdr(&m, first_id + i, &choose);
+    return ask(table, &m);
+}
+
+/* The worked example: peer 1 takes five, is refused the sixth, and peer 2 still gets its three; equal
+   SEIDs on both; what one gives back the other may have, up to its limit. */
+static void each_its_due(void)
+{
+    uint8_t *table = shared_table();
+    struct message m;
+
+    CHECK(want(table, 1, 1, 5) == 1 && granted(IE_CREATED_PDR, 5) == 4100);
+    CHECK(is_answered_as_peer() && has(table, 1, 5));
+    CHECK(want(table, 2, 1, 1) == 75 && is_answered_as_peer());
+    CHECK(want(table, 1, 6, 1) == 75 && has(table, 1, 5) && free_teids(table) == 3);
+    CHECK(establish_one_pdr(table, 2, NULL) == 1 && has(table, 2, 5)); /* it needs none */
+    peer = 2;
+    CHECK(has(table, 0, 0) && delete_session(table, 1) == 65);
+    CHECK(want(table, 1, 1, 4) == 75 && want(table, 1, 1, 3) == 1);
+    CHECK(is_answered_as_peer() && granted(IE_CREATED_PDR, 1) == 4101 && has(table, 1, 3));
+    CHECK(want(table, 1, 4, 1) == 75 && free_teids(table) == 0);
+    CHECK(find_seid_in(table, TABLE_LENGTH, 1) == PFCP_FOUND && told.place == 2);
+    CHECK(find_seid_in(table, TABLE_LENGTH, 2) == PFCP_NONE && told.place == 0);
+    /* Peer 1 gives three back, and is still guaranteed one of them. */
+    peer = 1;
+    message_start(&m, MODIFICATION, 1, 1);
+    for (uint16_t id = 1; id <= 3; id++)
+        remove_pdr(&m, id);
+    CHECK(ask(table, &m) == 1 && has(table, 2, 2) && free_teids(table) == 3);
+    peer = 2;
+    CHECK(want(table, 1, 4, 3) == 75);
+    CHECK(want(table, 1, 4, 2) == 1 && has(table, 1, 5));
+    CHECK(granted(IE_CREATED_PDR, 4) == 4096 && granted(IE_CREATED_PDR, 5) == 4097);
+    CHECK(want(table, 1, 6, 1) == 75); /* its limit */
+    peer = 1;
+    CHECK(want(table, 2, 2, 1) == 1 && has(table, 2, 3) && free_teids(table) == 0);
+    free(table);
+}
+
+/* Limits that are met while the pool has more: of a need at once and bit by bit, by a restoration, and of
+   nothing at all. */
+static void limits_of_teids(void)
+{
+    static const uint8_t ipv4[4] = {192, 0, 2, 1};
+    struct tunnel existing = {.flags = V4, .teid = 4096, .ipv4 = ipv4};
+    uint8_t *table = block(TABLE_LENGTH, FILLING);
+    struct message m;
+
+    CHECK(pfcp_make_table(table, TABLE_LENGTH, 0xC0000201, NULL, 0, 4096, 10, FIRST_ADDRESS,
+                          ADDRESSES, SESSIONS, 0x7F000001, 0, 3, 0x7F000002, 0, 0) == 0);
+    CHECK(want(table, 1, 1, 4) == 75 && want(table, 1, 1, 2) == 1);
+    CHECK(want(table, 1, 3, 2) == 75 && want(table, 2, 1, 1) == 1);
+    CHECK(want(table, 2, 2, 1) == 75 && has(table, 2, 3) && free_teids(table) == 7);
+    CHECK(delete_session(table, 1) == 1 && delete_session(table, 2) == 1);
+    for (uint16_t count = 4; count >= 3; count--) {
+        start_establishment(&m, 1);
+        put_number(&m, IE_FLAGS, 1, 1);
+        for (uint16_t id = 1; id <= count; id++) {
+            existing.teid = 4100 + id;
+            create_pdr(&m, id, &existing);
+        }
+        CHECK(ask(table, &m) == (count > 3 ? 75 : 1));
+    }
+    CHECK(has(table, 1, 3));
+    peer = 2;
+    CHECK(want(table, 1, 1, 1) == 75 && establish_one_pdr(table, 1, NULL) == 1 && has(table, 1, 0));
+    peer = 1;
+    free(table);
+}
+
+/* Sessions of both peers, restored in both orders, make the same table; a restoration needs the TEIDs
+   that it names, each once. */
+static void both_restored(void)
+{
+    static const uint8_t ipv4[4] = {192, 0, 2, 1};
+    static const struct {
+        uint16_t count;
+        uint32_t first_teid;
+        unsigned cause;
+    } restored[] = {{6, 4096, 75}, {5, 4096, 1}, {1, 4101, 75}, {0, 0, 1}};
+    uint8_t *table = shared_table();
+    uint8_t *fresh = shared_table();
+    uint8_t *backward = shared_table();
+    struct message m;
+
+    for (size_t i = 0; i < sizeof restored / sizeof restored[0]; i++) {
+        struct tunnel existing = {.flags = V4, .teid = restored[i].first_teid, .ipv4 = ipv4};
+
+        start_establishment(&m, 1 + i);
+        put_number(&m, IE_FLAGS, 1, 1);
+        for (uint16_t id = 1; id <= restored[i].count; id++, existing.teid++) {
+            create_pdr(&m, 2 * id, &existing);
+            create_pdr(&m, 2 * id + 1, &existing); /* the same TEID: one */
+        }
+        CHECK(ask(table, &m) == restored[i].cause);
+    }
+    CHECK(has(table, 2, 5));
+    peer = 2;
+    CHECK(want(table, 2, 1, 2) == 1 && want(table, 9, 1, 1) == 1);
+    /* A TEID of the other peer's session. */
+    struct tunnel held = {.flags = V4, .teid = 4096, .ipv4 = ipv4};
+    start_establishment(&m, 3);
+    put_number(&m, IE_FLAGS, 1, 1);
+    create_pdr(&m, 1, &held);
+    CHECK(ask(table, &m) == 73);
+    for (size_t place = 0; place < 4; place++) {
+        CHECK(write_place(table, place, PFCP_LONGEST_RESTORATION) == PFCP_WRITTEN);
+        CHECK(written.peer == (place < 2 ? 1 : 2));
+        peer = written.peer;
+        CHECK(ask_octets(fresh, written.octets, written.used) == 0 && answer.octets[29] == 1);
+        CHECK(write_place(table, 3 - place, PFCP_LONGEST_RESTORATION) == PFCP_WRITTEN);
+        peer = written.peer;
+        CHECK(ask_octets(backward, written.octets, written.used) == 0 && answer.octets[29] == 1);
+    }
+    CHECK(memcmp(table, fresh, TABLE_LENGTH) == 0 && memcmp(table, backward, TABLE_LENGTH) == 0);
+    peer = 1;
+    free(backward);
+    free(fresh);
+    free(table);
+}
+
+/* A set deletion takes the sessions of its peer only; addresses are first come, first served. */
+static void kept_apart(void)
+{
+    static const uint8_t set[] = {0x01, 192, 0, 2, 10, 0, 5, 1};
+    uint8_t *table = shared_table();
+    struct message m;
+
+    for (peer = 1; peer <= PFCP_PEERS; peer++) {
+        start_establishment(&m, 7);
+        create_pdr_with_address(&m, 1, &choose);
+        put_fq_csid(&m, 1, 5);
+        CHECK(ask(table, &m) == 1);
+        CHECK(granted_address(IE_CREATED_PDR, 1) == FIRST_ADDRESS + peer - 1);
+    }
+    CHECK(free_addresses(table) == 0);
+    peer = 2;
+    CHECK(delete_set(table, set, sizeof set) == 1 && is_answered_as_peer());
+    CHECK(has(table, 0, 0) && free_addresses(table) == 1 && free_teids(table) == 7);
+    peer = 1;
+    CHECK(has(table, 1, 1) && modify_remove_pdr(table, 7, 1) == 1 && free_addresses(table) == 2);
+    free(table);
+}
+
+/* Each peer with its store: what is a repeat of one is a new request of the other. */
+static void stores_of_peers(void)
+{
+    uint8_t *table = shared_table();
+    uint8_t *stores[PFCP_PEERS] = {new_store(), new_store()};
+    uint8_t first[PFCP_REPLY_SPACE];
+    struct message m;
+
+    start_establishment(&m, 1);
+    create_pdr(&m, 1, &choose);
+    message_end(&m);
+    CHECK(ask_once(table, stores[0], &m) == PFCP_ANSWERED && granted(IE_CREATED_PDR, 1) == 4096);
+    size_t used = answer.used;
+    memcpy(first, answer.octets, used);
+    peer = 2;
+    CHECK(ask_once(table, stores[1], &m) == PFCP_ANSWERED && granted(IE_CREATED_PDR, 1) == 4097);
+    CHECK(is_answered_as_peer() && memcmp(first, answer.octets, used) != 0);
+    peer = 1;
+    CHECK(is_old_reply(table, stores[0], &m, first, used));
+    numbered(&m, 0);
+    CHECK(ask_once(table, stores[0], &m) == PFCP_OLD_NUMBER);
+    CHECK(stores[0][0] == 1 && stores[1][0] == 1);
+    free(stores[0]);
+    free(stores[1]);
+    free(table);
+}
+
+/* Tables that no call leaves: made with larger dues, whose octets are then lowered. Each peer holds
+   three of a pool of 8. */
+static void broken_dues(void)
+{
+    static const struct {
+        uint32_t guarantees[PFCP_PEERS], limits[PFCP_PEERS];
+        int broken;
+    } cases[] = {
+        {{0, 0}, {8, 8}, 0}, {{3, 3}, {3, 3}, 0}, {{0, 0}, {2, 8}, 1}, {{0, 0}, {8, 2}, 1},
+        {{5, 3}, {5, 8}, 0}, {{5, 0}, {5, 8}, 0}, {{6, 0}, {6, 8}, 1}, {{0, 6}, {8, 6}, 1},
+        {{4, 4}, {4, 4}, 0}, {{2, 6}, {8, 6}, 1}, {{0, 5}, {3, 5}, 0}, {{5, 4}, {5, 4}, 1},
+    };
+    uint8_t *table = block(TABLE_LENGTH, FILLING);
+    uint32_t count;
+
+    CHECK(make_with(table, TABLE_LENGTH, NULL, 0, 4096, 8, FIRST_ADDRESS, ADDRESSES, SESSIONS) ==
+          0);
+    for (peer = 1; peer <= PFCP_PEERS; peer++)
+        CHECK(want(table, 1, 1, 3) == 1);
+    peer = 1;
+    for (size_t i = 0; i < sizeof cases / sizeof cases[0]; i++) {
+        for (size_t k = 0; k < PFCP_PEERS; k++) {
+            table[DUES_AT + 12 * k + 7] = (uint8_t)cases[i].guarantees[k];
+            table[DUES_AT + 12 * k + 11] = (uint8_t)cases[i].limits[k];
+        }
+        CHECK(pfcp_free_count(table, TABLE_LENGTH, &count) == (uint32_t)cases[i].broken);
+    }
+    free(table);
+}
+
 int main(void)
 {
     whole_replies();
@@ -2056,6 +2468,14 @@ int main(void)
     entries_by_hand();
     broken_stores();
     once_is_the_same();
+    dues();
+    no_such_peer();
+    each_its_due();
+    limits_of_teids();
+    both_restored();
+    kept_apart();
+    stores_of_peers();
+    broken_dues();
     printf("%lu passed, %lu failed\n", passed, failed);
     return failed == 0 ? EXIT_SUCCESS : EXIT_FAILURE;
 }
