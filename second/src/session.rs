@@ -75,8 +75,8 @@ pub struct Key {
     pub seid: u64,
 }
 
-/// A session without its peer and SEID, which are its key. The maps keep "ascending order of SEID and
-/// ID".
+/// A session without its peer and SEID, which are its key. The maps keep the ascending order of peer,
+/// then "of SEID and ID".
 #[derive(Clone, PartialEq, Eq, Debug, Default)]
 pub struct Session {
     pub pdrs: BTreeMap<u16, Pdr>,
