@@ -1,15 +1,16 @@
 -- The answers of the calls as numbers.
 -- Assumes nothing.
-use mathlib.Core.Path.{_≡_, refl, sym, ap, _∙_}
-use Prim.Native.Nat.{ℕ, _-_, _≤_}
+use mathlib.Core.Path.{_≡_, refl, sym, ap, _∙_, subst}
+use Prim.Native.Nat.{ℕ, _-_, _/_, _^_, _≤_, _<_}
 use native.Mathlib.Omega.{arith}
 use mathlib.Core.Bool.{Bool, true, false}
 use mathlib.Core.List.{List}
 use lib.Dec.{T, leb→le}
+use lib.ListN.{length}
 use Rattle.octets.specs.Choice.{pick}
 use Rattle.octets.proofs.Tests.{each}
-use Rattle.rules.specs.Limits.{maxPool, maxAddresses}
-use Rattle.rules.specs.Model.{Settings, freeCount, freeAddressCount}
+use Rattle.rules.specs.Limits.{maxSessions, maxPool, maxAddresses}
+use Rattle.rules.specs.Model.{Settings, Sessions, freeCount, freeAddressCount, isPeer, half, ofPeer, holdings}
 use Rattle.rules.specs.Layout.{headWidth, sessionWidth, tableLength, viewSettings, viewSessions}
 use Rattle.rules.specs.Sound.{poolTests, addressPoolTests, settingsTests, settingsAllowed, soundTests, sound, make, Count, broken, free, countFree, countAddresses}
 use Rattle.table.specs.declared.Making.{Making}
@@ -20,6 +21,12 @@ use Rattle.table.specs.Answers.{madeOf, countTold}
 use Rattle.engine.specs.Steps.{Serves}
 use Rattle.rules.specs.Store.{Emptied, empty}
 use Rattle.rules.specs.Repeats.{Once, requestOnce}
+use Rattle.rules.specs.Finding.{Finding, findIn, countSessions, Share, unshared, countPeer}
+use Rattle.laws.proofs.PeerLaws.{peers-kept, peer-known}
+use Rattle.laws.proofs.TableLaws.{limit-most}
+use Rattle.pool.proofs.TakenLaws.{pool-fits}
+use Rattle.invariants.proofs.ServeLaws.{table-kept}
+use Rattle.table.proofs.SoundSlots.{few-sessions}
 use Rattle.pfcp_session.specs.Calls.{StoreCall, storeAnswer, storeCall, onceCall, MakeCall, makeAnswer, makeCall, CountCall, countAnswer, countCall, addressCountCall, CountFits, RequestCall, replyOf, requestAnswer, requestCall}
 
 module _ (s : Settings) (t t′ : List ℕ) (r : Making) (e : madeOf r t′ ≡ make s t) where
@@ -102,3 +109,40 @@ module _ (s s′ : List ℕ) (b : Bool) (e : record { done = b; store = s′ } �
 pub call-once : (t : List ℕ) (who : ℕ) (store msg out : List ℕ) (x : Once) → x ≡ requestOnce t who store msg out → x ≡ onceCall t who store msg out
 unfolding onceCall
 call-once t who store msg out x e = e
+
+-- ---- the numbers of the reading calls fit their width
+
+pub count-fits : (t : List ℕ) (r : Finding) → r ≡ countSessions t → r .number ≤ maxSessions
+unfolding countSessions findIn
+count-fits t r e = let f = ap (λ (x : Finding). x .number) e in go (sound t) refl f
+  where
+    go : (b : Bool) → sound t ≡ b → r .number ≡ pick {X = Finding} b (record { outcome = 0; number = length (viewSessions t) }) (record { outcome = 1; number = 0 }) .number → r .number ≤ maxSessions
+    go true s f = let few = few-sessions t (subst T (sym s) tt) in omega arith
+    go false s f = omega arith
+
+few-half : (n k : ℕ) → k ≤ n / 2 → n ≤ maxSessions → k < 2 ^ 32
+few-half n k h l = omega arith
+
+pub share-fits : (t : List ℕ) (who : ℕ) (r : Share) → r ≡ countPeer t who → (r .sessions < 2 ^ 32) × (r .teids < 2 ^ 32)
+unfolding countPeer half
+share-fits t who r e = go (isPeer who) (sound t) refl refl e
+  where
+    m : Sessions
+    m = viewSessions t
+
+    go : (a b : Bool) → isPeer who ≡ a → sound t ≡ b → r ≡ pick a (pick b (record { outcome = 0; sessions = length (ofPeer who m); teids = holdings who m }) (unshared 1)) (unshared 7)
+        → (r .sessions < 2 ^ 32) × (r .teids < 2 ^ 32)
+    go false b i h f = let x = ap (λ (q : Share). q .sessions) f in let y = ap (λ (q : Share). q .teids) f in (omega arith, omega arith)
+    go true false i h f = let x = ap (λ (q : Share). q .sessions) f in let y = ap (λ (q : Share). q .teids) f in (omega arith, omega arith)
+    go true true i h f =
+        let hw : T (isPeer who) = subst T (sym i) tt in
+        let k = table-kept t (subst T (sym h) tt) in
+        let p = peers-kept (viewSettings t) m (k .sessions) in
+        let x = ap (λ (q : Share). q .sessions) f in
+        let y = ap (λ (q : Share). q .teids) f in
+        let c = p .sessions who hw in
+        let d = p .teids who hw in
+        let l = limit-most (viewSettings t) (k .settings) in
+        let g = peer-known (viewSettings t) (k .settings) who hw .limit in
+        let z = pool-fits (viewSettings t) (k .settings) in
+        (few-half (viewSettings t .limit) (r .sessions) (subst (λ (n : ℕ). n ≤ viewSettings t .limit / 2) (sym x) c) l, omega arith)

@@ -3,7 +3,7 @@
 use native.Mathlib.Omega.{arith}
 use borrow.Author.Needs.{needs}
 use Rattle.pfcp_session.specs.Calls.{peerCountCall}
-use Rattle.pfcp_session.proofs.FindingLaws.{share-fits}
+use Rattle.pfcp_session.proofs.CallLaws.{share-fits}
 use Rattle.pfcp_session.proofs.pfcp_peer_count.Statement.{statement}
 use Rattle.pfcp_session.proofs.pfcp_peer_count.Tie as tie
 

@@ -3,7 +3,7 @@
 use native.Mathlib.Omega.{arith}
 use borrow.Author.Needs.{needs}
 use Rattle.pfcp_session.specs.Calls.{sessionCountCall}
-use Rattle.pfcp_session.proofs.FindingLaws.{count-fits}
+use Rattle.pfcp_session.proofs.CallLaws.{count-fits}
 use Rattle.pfcp_session.proofs.pfcp_session_count.Statement.{statement}
 use Rattle.pfcp_session.proofs.pfcp_session_count.Tie as tie
 

@@ -19,9 +19,9 @@ use Rattle.rules.specs.Stages.{needed, tooManySessions, tooManyPdrs, tooManyEnd
 use Rattle.rules.specs.Live.{replyElements, replyCause}
 use Rattle.rules.specs.Types as ie
 use Rattle.rules.specs.Causes as why
 use Rattle.pfcp_session.specs.Calls.{RequestCall, requestCall}
-use Rattle.pfcp_session.specs.Runs.{Run, liveAfter, tableAfter}
-use Rattle.pfcp_session.specs.Traffic.{Traffic, trafficLive, trafficAfter}
+use Rattle.promises.specs.Runs.{Run, liveAfter, tableAfter}
+use Rattle.promises.specs.Traffic.{Traffic, trafficLive, trafficAfter}
 
 -- the next call is a request of a peer, r is what it left, and its need, with what the peer holds at entry, is within the peer's guarantee
 pub record Guaranteed (s : Settings) (m : Sessions) (t : List ℕ) (who : ℕ) (msg space : List ℕ) (r : RequestCall) : Type 0 where

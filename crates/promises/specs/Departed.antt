@@ -12,8 +12,8 @@ use Rattle.rules.specs.Layout.{viewSettings, viewSessions}
 use Rattle.rules.specs.Restoring.{sessionAt}
 use Rattle.rules.specs.Bare.{bareSession, Alike, blankTable}
 use Rattle.rules.specs.Claim.{stepAllowed, lastTable}
 use Rattle.pfcp_session.specs.Calls.{CountCall, countCall, addressCountCall, restorationCall, sessionCountCall, findSessionCall, findTeidCall, peerCountCall}
-use Rattle.pfcp_session.specs.Runs.{HostStep, requested, counted, countedAddresses, HostRan, stepsOf, Run, liveAfter, tableAfter}
+use Rattle.promises.specs.Runs.{HostStep, requested, counted, countedAddresses, HostRan, stepsOf, Run, liveAfter, tableAfter}
 
 -- ---- the same calls and the same answers
 

@@ -15,8 +15,8 @@ use Rattle.rules.specs.Live.{replied, acceptedEvent}
 use Rattle.rules.specs.Calls.{Call, request}
 use Rattle.rules.specs.Claim.{callIn, Restores}
 use Rattle.rules.specs.Restoring.{Writing}
 use Rattle.pfcp_session.specs.Calls.{MakeCall, makeCall, RequestCall, requestCall, restorationCall}
-use Rattle.pfcp_session.specs.Runs.{HostStep, HostRan, stepsOf}
+use Rattle.promises.specs.Runs.{HostStep, HostRan, stepsOf}
 
 -- ---- what was written
 

@@ -28,11 +28,11 @@ use Rattle.invariants.proofs.Changed.{entry-sound}
 use Rattle.invariants.proofs.VerdictLaws.{Passed}
 use Rattle.invariants.proofs.ServeLaws.{table-kept, refused-same}
 use Rattle.invariants.proofs.AcceptedCall.{accepted-call}
 use Rattle.pfcp_session.specs.Calls.{RequestCall, requestCall}
-use Rattle.pfcp_session.specs.Runs.{Run, liveAfter, tableAfter}
-use Rattle.pfcp_session.specs.Due.{OthersStay}
-use Rattle.pfcp_session.proofs.RunLaws.{request-step}
-use Rattle.pfcp_session.proofs.AccidentLaws.{left}
+use Rattle.promises.specs.Runs.{Run, liveAfter, tableAfter}
+use Rattle.promises.specs.Due.{OthersStay}
+use Rattle.promises.proofs.RunLaws.{request-step}
+use Rattle.promises.proofs.AccidentLaws.{left}
 
 -- ---- lists
 

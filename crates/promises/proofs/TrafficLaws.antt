@@ -19,10 +19,10 @@ use Rattle.store.proofs.StoreLaws.{Keeping, none-kept, entries-back, octets-sou
 use Rattle.rules.specs.Repeats.{Once, engineReply, requestOnce, reaches}
 use Rattle.repeats.proofs.Reaching.{reaches-engine, reaches-used, rests-table, Told, told}
 use Rattle.repeats.proofs.Repeating.{stored-rests, stored-table, stored-store, stored-reply, stored-told}
 use Rattle.pfcp_session.specs.Calls.{requestCall, onceCall, requestAnswer, replyOf}
-use Rattle.pfcp_session.specs.Runs.{requested, counted, countedAddresses, HostRan, claimStep, stepsOf, Run, liveAfter, tableAfter, HostClaim}
-use Rattle.pfcp_session.specs.Traffic.{TrafficStep, once, other, tableOf, TrafficRan, engineCall, reached, trafficTable, trafficAllowed, Traffic, trafficLive, trafficAfter, TrafficClaim, Handed, lastStore, nowStored, toldStored, StoreTold, OnceEach, AtMostOnce}
-use Rattle.pfcp_session.proofs.RunLaws.{host-claim}
+use Rattle.promises.specs.Runs.{requested, counted, countedAddresses, HostRan, claimStep, stepsOf, Run, liveAfter, tableAfter, HostClaim}
+use Rattle.promises.specs.Traffic.{TrafficStep, once, other, tableOf, TrafficRan, engineCall, reached, trafficTable, trafficAllowed, Traffic, trafficLive, trafficAfter, TrafficClaim, Handed, lastStore, nowStored, toldStored, StoreTold, OnceEach, AtMostOnce}
+use Rattle.promises.proofs.RunLaws.{host-claim}
 
 -- ---- the requests that reach the engine
 

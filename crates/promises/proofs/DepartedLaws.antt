@@ -31,10 +31,10 @@ use Rattle.invariants.proofs.ServeLaws.{TableKept, table-kept}
 use Rattle.restoration.proofs.RequestSteps.{take-put}
 use Rattle.restoration.proofs.SoundSlots.{request-short}
 use Rattle.claim.proofs.Unwinding.{Pair, reply-alike, counts-alike, address-counts-alike, serve-agree}
 use Rattle.pfcp_session.specs.Calls.{countAnswer, countCall, addressCountCall, RequestCall, replyOf, requestAnswer, requestCall, restorationCall, sessionCountCall, findSessionCall, findTeidCall, peerCountCall}
-use Rattle.pfcp_session.specs.Runs.{HostStep, requested, counted, countedAddresses, HostRan, claimStep, stepsOf, Run, liveAfter, tableAfter}
-use Rattle.pfcp_session.specs.Departed.{calledIn, hearsReply, hearsCount, heardIn, Differ, ReadAlike, WriteAlike, NoMemory}
-use Rattle.pfcp_session.proofs.AccidentLaws.{left, counted-sound}
+use Rattle.promises.specs.Runs.{HostStep, requested, counted, countedAddresses, HostRan, claimStep, stepsOf, Run, liveAfter, tableAfter}
+use Rattle.promises.specs.Departed.{calledIn, hearsReply, hearsCount, heardIn, Differ, ReadAlike, WriteAlike, NoMemory}
+use Rattle.promises.proofs.AccidentLaws.{left, counted-sound}
 
 -- ---- what is heard of a request
 

@@ -41,10 +41,10 @@ use Rattle.invariants.proofs.KeptRules.{sessions-kept}
 use Rattle.invariants.proofs.ChangedHolds.{stayingHoldings}
 use Rattle.invariants.proofs.ServeLaws.{TableKept, table-kept, serve-sound}
 use Rattle.invariants.proofs.AcceptedCall.{choosesAddress, AcceptedCall, accepted-call, next-removed, next-deleted, next-listed, next-removed-address, next-deleted-address, next-listed-address, address-chosen}
 use Rattle.pfcp_session.specs.Calls.{countAnswer, countCall, addressCountCall, RequestCall}
-use Rattle.pfcp_session.specs.Runs.{Run, liveAfter, tableAfter, HostClaim}
-use Rattle.pfcp_session.specs.Accident.{entriesAfter, Accepted, OutOfUse, Released, AddressReleased, unremoved, spared, goesOf, ReleasedIsRemoved, holds, OneHolder, choosesIp, freshAddress, freshPdr, freshEndpoint, NoTwoPatients}
-use Rattle.pfcp_session.proofs.RunLaws.{request-step, host-claim}
+use Rattle.promises.specs.Runs.{Run, liveAfter, tableAfter, HostClaim}
+use Rattle.promises.specs.Accident.{entriesAfter, Accepted, OutOfUse, Released, AddressReleased, unremoved, spared, goesOf, ReleasedIsRemoved, holds, OneHolder, choosesIp, freshAddress, freshPdr, freshEndpoint, NoTwoPatients}
+use Rattle.promises.proofs.RunLaws.{request-step, host-claim}
 use Rattle.laws.proofs.HeaderLaws.{unnamed-sets}
 
 -- ---- what a run leaves

@@ -24,8 +24,8 @@ use Rattle.rules.specs.Apply.{keptPdr, keptEndpoint, goesSession}
 use Rattle.rules.specs.Live.{replied, acceptedEvent, createdTeid, createdAddress}
 use Rattle.rules.specs.Claim.{mapOf, addressMapOf}
 use Rattle.pool.specs.Map.{marked}
 use Rattle.pfcp_session.specs.Calls.{countCall, addressCountCall, RequestCall, requestCall}
-use Rattle.pfcp_session.specs.Runs.{Run, liveAfter, tableAfter}
+use Rattle.promises.specs.Runs.{Run, liveAfter, tableAfter}
 
 -- ---- a run, and one more request
 

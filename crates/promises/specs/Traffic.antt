@@ -19,8 +19,8 @@ use Rattle.rules.specs.Sound.{sound}
 use Rattle.rules.specs.Claim.{stepAllowed, liveSet, Promise}
 use Rattle.rules.specs.Store.{Entry, entry, maxEntries, storeOctets, differ, storedReply, remember}
 use Rattle.rules.specs.Repeats.{Once, again, reaches}
 use Rattle.pfcp_session.specs.Calls.{MakeCall, makeCall, RequestCall, onceCall}
-use Rattle.pfcp_session.specs.Runs.{HostStep, requested, counted, countedAddresses, HostRan, claimStep, stepsOf}
+use Rattle.promises.specs.Runs.{HostStep, requested, counted, countedAddresses, HostRan, claimStep, stepsOf}
 
 -- a call of pfcp_request_once with the number of its peer, its store, message and reply space, or another call, and what it left
 pub data TrafficStep : Type 0 where

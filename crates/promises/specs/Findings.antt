@@ -13,8 +13,8 @@ use Rattle.rules.specs.Sound.{sound}
 use Rattle.rules.specs.Stages.{hasKey}
 use Rattle.rules.specs.Restoring.{sessionAt}
 use Rattle.rules.specs.Finding.{Finding, isHolder}
 use Rattle.pfcp_session.specs.Calls.{sessionCountCall, findSessionCall, findTeidCall, peerCountCall}
-use Rattle.pfcp_session.specs.Runs.{Run, liveAfter, tableAfter}
+use Rattle.promises.specs.Runs.{Run, liveAfter, tableAfter}
 
 -- there is a session at the place, and it passes the test
 pub record At (test : Session → Bool) (m : Sessions) (place : ℕ) : Type 0 where

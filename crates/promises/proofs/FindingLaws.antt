@@ -1,74 +1,32 @@
--- What the reading calls answer: as numbers, and that a place found is the one place there is, of the table and of the live set after any run.
+-- A place that a reading call found is the one place there is, of the table and of the live set after any run.
 -- Assumes nothing.
 use mathlib.Core.Path.{_≡_, refl, sym, ap, subst, _∙_}
-use Prim.Native.Nat.{ℕ, _-_, _/_, _^_, _≤_, _<_}
+use Prim.Native.Nat.{ℕ, _-_, _<_}
 use native.Mathlib.Omega.{arith}
 use mathlib.Core.Bool.{Bool, true, false, not}
 use mathlib.Core.Option.{Option, none, some}
 use mathlib.Core.List.{List}
 use lib.Dec.{T, T-not, eqb→eq, ltb→lt}
 use lib.ListN.{length}
-use Rattle.octets.specs.Choice.{pick}
 use Rattle.octets.specs.Lists.{member}
 use Rattle.octets.proofs.Tests.{is-true}
 use Rattle.octets.proofs.Ordered.{up-pairs, belowKey}
 use Rattle.octets.proofs.MemberLaws.{member-passes, none-in}
-use Rattle.rules.specs.Limits.{maxSessions}
-use Rattle.rules.specs.Model.{Settings, Session, Sessions, sessionKey, keyFor, isPeer, half, ofPeer, holdings, sessionTeids}
+use Rattle.rules.specs.Model.{Settings, Session, Sessions, sessionKey, keyFor, isPeer, ofPeer, holdings, sessionTeids}
 use Rattle.rules.specs.Layout.{viewSettings, viewSessions}
 use Rattle.rules.specs.Sound.{apart, sound}
 use Rattle.rules.specs.Stages.{hasKey}
 use Rattle.rules.specs.Restoring.{sessionAt}
-use Rattle.rules.specs.Finding.{Finding, findingOf, placeFrom, sessionPlace, isHolder, holderPlace, findIn, countSessions, findSession, findHolder, Share, unshared, countPeer}
-use Rattle.laws.proofs.PeerLaws.{peers-kept, peer-known, key-peer}
-use Rattle.laws.proofs.TableLaws.{limit-most}
-use Rattle.pool.proofs.TakenLaws.{pool-fits}
+use Rattle.rules.specs.Finding.{Finding, findingOf, placeFrom, sessionPlace, isHolder, holderPlace, findIn, countSessions, findSession, findHolder, countPeer}
+use Rattle.laws.proofs.PeerLaws.{key-peer}
 use Rattle.invariants.proofs.KeptRules.{SessionsKept, sessions-kept}
 use Rattle.invariants.proofs.ServeLaws.{table-kept}
 use Rattle.invariants.proofs.Beside.{apart-teids}
-use Rattle.table.proofs.SoundSlots.{few-sessions}
 use Rattle.finding.proofs.PlaceLaws.{place-says, none-says, place-only}
 use Rattle.pfcp_session.specs.Calls.{sessionCountCall, findSessionCall, findTeidCall, peerCountCall}
-use Rattle.pfcp_session.specs.Runs.{Run, tableAfter}
-use Rattle.pfcp_session.specs.Findings.{At, foundAt, nowhere, TheOne, SessionFound, HolderFound, KeysApart, LiveFound}
-use Rattle.pfcp_session.proofs.AccidentLaws.{left, counted-sound}
-
--- ---- the numbers fit their width
-
-pub count-fits : (t : List ℕ) (r : Finding) → r ≡ countSessions t → r .number ≤ maxSessions
-unfolding countSessions findIn
-count-fits t r e = let f = ap (λ (x : Finding). x .number) e in go (sound t) refl f
-  where
-    go : (b : Bool) → sound t ≡ b → r .number ≡ pick b (foundAt (length (viewSessions t))) (record { outcome = 1; number = 0 }) .number → r .number ≤ maxSessions
-    go true s f = let few = few-sessions t (subst T (sym s) tt) in omega arith
-    go false s f = omega arith
-
-few-half : (n k : ℕ) → k ≤ n / 2 → n ≤ maxSessions → k < 2 ^ 32
-few-half n k h l = omega arith
-
-pub share-fits : (t : List ℕ) (who : ℕ) (r : Share) → r ≡ countPeer t who → (r .sessions < 2 ^ 32) × (r .teids < 2 ^ 32)
-unfolding countPeer half
-share-fits t who r e = go (isPeer who) (sound t) refl refl e
-  where
-    m : Sessions
-    m = viewSessions t
-
-    go : (a b : Bool) → isPeer who ≡ a → sound t ≡ b → r ≡ pick a (pick b (record { outcome = 0; sessions = length (ofPeer who m); teids = holdings who m }) (unshared 1)) (unshared 7)
-        → (r .sessions < 2 ^ 32) × (r .teids < 2 ^ 32)
-    go false b i h f = let x = ap (λ (q : Share). q .sessions) f in let y = ap (λ (q : Share). q .teids) f in (omega arith, omega arith)
-    go true false i h f = let x = ap (λ (q : Share). q .sessions) f in let y = ap (λ (q : Share). q .teids) f in (omega arith, omega arith)
-    go true true i h f =
-        let hw : T (isPeer who) = subst T (sym i) tt in
-        let k = table-kept t (subst T (sym h) tt) in
-        let p = peers-kept (viewSettings t) m (k .sessions) in
-        let x = ap (λ (q : Share). q .sessions) f in
-        let y = ap (λ (q : Share). q .teids) f in
-        let c = p .sessions who hw in
-        let d = p .teids who hw in
-        let l = limit-most (viewSettings t) (k .settings) in
-        let g = peer-known (viewSettings t) (k .settings) who hw .limit in
-        let z = pool-fits (viewSettings t) (k .settings) in
-        (few-half (viewSettings t .limit) (r .sessions) (subst (λ (n : ℕ). n ≤ viewSettings t .limit / 2) (sym x) c) l, omega arith)
+use Rattle.promises.specs.Runs.{Run, tableAfter}
+use Rattle.promises.specs.Findings.{At, foundAt, nowhere, TheOne, SessionFound, HolderFound, KeysApart, LiveFound}
+use Rattle.promises.proofs.AccidentLaws.{left, counted-sound}
 
 -- ---- one place, by a test
 

@@ -11,8 +11,8 @@ use Rattle.rules.specs.Sound.{Made, make, Count, broken, free, countFree, count
 use Rattle.rules.specs.Serve.{Served, serve}
 use Rattle.rules.specs.Claim.{Ran, lastTable, liveSet, Promise, Demand3}
 use Rattle.claim.proofs.Demand3.{demand3}
 use Rattle.pfcp_session.specs.Calls.{MakeCall, makeAnswer, makeCall, CountCall, countAnswer, countCall, addressCountCall, RequestCall, requestAnswer, requestCall}
-use Rattle.pfcp_session.specs.Runs.{HostStep, requested, counted, countedAddresses, HostRan, countOf, claimStep, stepsOf, liveAfter, tableAfter, HostClaim}
+use Rattle.promises.specs.Runs.{HostStep, requested, counted, countedAddresses, HostRan, countOf, claimStep, stepsOf, liveAfter, tableAfter, HostClaim}
 
 -- a request's outcome, place, space and table are those of `serve`
 pub request-step : (t : List ℕ) (who : ℕ) (msg space : List ℕ) (r : RequestCall) → r ≡ requestCall t who msg space

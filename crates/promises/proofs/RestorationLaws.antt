@@ -43,10 +43,10 @@ use Rattle.table.proofs.Encoded.{Encoded, sound-encoded}
 use Rattle.restoration.proofs.RequestSteps.{take-put}
 use Rattle.table.proofs.SoundSlots.{session-kept}
 use Rattle.restoration.proofs.SoundSlots.{sender-kept, request-short}
 use Rattle.pfcp_session.specs.Calls.{MakeCall, makeCall, restorationCall}
-use Rattle.pfcp_session.specs.Runs.{stepsOf}
-use Rattle.pfcp_session.specs.Restorations.{Written, Wrote, Past, WroteAll, Emptied, RestorationShort, RestorationAccepted, Asking, writtenOf, askingCall, askingAllowed, RestorationsGiveBack, RestorationsTellAll}
-use Rattle.pfcp_session.proofs.RunLaws.{request-step, ran, is-made}
+use Rattle.promises.specs.Runs.{stepsOf}
+use Rattle.promises.specs.Restorations.{Written, Wrote, Past, WroteAll, Emptied, RestorationShort, RestorationAccepted, Asking, writtenOf, askingCall, askingAllowed, RestorationsGiveBack, RestorationsTellAll}
+use Rattle.promises.proofs.RunLaws.{request-step, ran, is-made}
 
 -- ---- what an outcome says
 

@@ -34,11 +34,11 @@ use Rattle.laws.proofs.MessageLaws.{Fits, el, after, elements-cons}
 use Rattle.laws.proofs.ReplyLaws.{reply-elements, reply-cause, sequence-three}
 use Rattle.invariants.proofs.ReplyLength.{reply-body-short}
 use Rattle.invariants.proofs.ServeLaws.{table-kept, answers, answered-zero}
 use Rattle.pfcp_session.specs.Calls.{RequestCall, requestCall}
-use Rattle.pfcp_session.specs.Runs.{Run, tableAfter}
-use Rattle.pfcp_session.specs.Due.{NamedFor, RepliesNamed}
-use Rattle.pfcp_session.proofs.RunLaws.{request-step}
-use Rattle.pfcp_session.proofs.AccidentLaws.{left}
+use Rattle.promises.specs.Runs.{Run, tableAfter}
+use Rattle.promises.specs.Due.{NamedFor, RepliesNamed}
+use Rattle.promises.proofs.RunLaws.{request-step}
+use Rattle.promises.proofs.AccidentLaws.{left}
 
 -- ---- an element among others
 

@@ -10,12 +10,12 @@ use Rattle.rules.specs.Serve.{Served}
 use Rattle.rules.specs.Live.{replyCause}
 use Rattle.rules.specs.Claim.{Ran, lastTable, liveSet, Due, EachItsDue}
 use Rattle.claim.proofs.Demand3.{each-its-due}
 use Rattle.pfcp_session.specs.Calls.{MakeCall, makeCall}
-use Rattle.pfcp_session.specs.Runs.{stepsOf, Run, liveAfter, tableAfter}
-use Rattle.pfcp_session.specs.Traffic.{Traffic, trafficLive, trafficAfter}
-use Rattle.pfcp_session.specs.Due.{DueTo, HostDue, TrafficDue}
-use Rattle.pfcp_session.proofs.RunLaws.{request-step, ran, is-made}
-use Rattle.pfcp_session.proofs.TrafficLaws.{engineRun, engine-settings, engine-live, engine-table}
+use Rattle.promises.specs.Runs.{stepsOf, Run, liveAfter, tableAfter}
+use Rattle.promises.specs.Traffic.{Traffic, trafficLive, trafficAfter}
+use Rattle.promises.specs.Due.{DueTo, HostDue, TrafficDue}
+use Rattle.promises.proofs.RunLaws.{request-step, ran, is-made}
+use Rattle.promises.proofs.TrafficLaws.{engineRun, engine-settings, engine-live, engine-table}
 
 -- by the contract of the call
 due-to : (s : Settings) (m : Sessions) (t : List ℕ) → Due s m t → DueTo s m t
