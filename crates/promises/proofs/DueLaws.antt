@@ -1,20 +1,18 @@
 -- Each peer has its due after every run of the exported calls, and a request touches its peer's sessions alone.
 -- Assumes nothing.
-use mathlib.Core.Path.{_≡_, sym, ap, _∙_, subst}
+use mathlib.Core.Path.{sym, ap, _∙_, subst}
 use Prim.Native.Nat.{ℕ}
 use mathlib.Core.List.{List}
-use lib.Dec.{T}
 use Rattle.rules.specs.Model.{Settings, Sessions}
 use Rattle.rules.specs.Sound.{make}
 use Rattle.rules.specs.Serve.{Served}
 use Rattle.rules.specs.Live.{replyCause}
-use Rattle.rules.specs.Claim.{Ran, lastTable, liveSet, Due, EachItsDue}
+use Rattle.rules.specs.Claim.{lastTable, liveSet, Due, EachItsDue}
 use Rattle.claim.proofs.Demand3.{each-its-due}
-use Rattle.pfcp_session.specs.Calls.{MakeCall, makeCall}
 use Rattle.promises.specs.Runs.{stepsOf, Run, liveAfter, tableAfter}
 use Rattle.promises.specs.Traffic.{Traffic, trafficLive, trafficAfter}
 use Rattle.promises.specs.Due.{DueTo, HostDue, TrafficDue}
-use Rattle.promises.proofs.RunLaws.{request-step, ran, is-made}
+use Rattle.promises.proofs.RunLaws.{request-step, run-began}
 use Rattle.promises.proofs.TrafficLaws.{engineRun, engine-settings, engine-live, engine-table}
 
 -- by the contract of the call
@@ -28,15 +26,13 @@ due-to s m t d =
     }
 
 pub host-due : HostDue
-unfolding HostDue liveAfter tableAfter makeCall EachItsDue
+unfolding HostDue liveAfter tableAfter EachItsDue
 host-due run =
     let s = run .settings in
-    let a = run .found in
     let hs = stepsOf (run .steps) in
-    let same : run .made .table ≡ make s a .table = ap (λ (x : MakeCall). x .table) (run .making) in
-    let yes : T (make s a .made) = is-made (make s a) (sym (ap (λ (x : MakeCall). x .outcome) (run .making)) ∙ run .success) in
-    let went : Ran (make s a .table) hs = subst (λ (t : List ℕ). Ran t hs) same (ran (run .made .table) (run .steps) (run .ran)) in
-    subst (λ (t : List ℕ). DueTo s (liveSet hs) (lastTable t hs)) (sym same) (due-to s (liveSet hs) (lastTable (make s a .table) hs) (each-its-due s a hs yes (run .allowed) went))
+    let b = run-began run in
+    subst (λ (t : List ℕ). DueTo s (liveSet hs) (lastTable t hs)) (sym (b .table))
+    (due-to s (liveSet hs) (lastTable (make s (run .found) .table) hs) (each-its-due s (run .found) hs (b .yes) (run .allowed) (b .went)))
 
 pub traffic-due : TrafficDue
 unfolding TrafficDue HostDue

@@ -1,14 +1,15 @@
--- A host's run of the exported calls, each of which left what its contract says; and demand 3 of it.
+-- A host's run of the exported calls, each of which left what its contract says; and demand 3 of it, its restorations and its other runs by
+-- the exported calls too.
 -- Assumes nothing.
 use Prim.Native.Nat.{ℕ}
 use mathlib.Core.Path.{_≡_}
-use mathlib.Core.List.{List, [], _∷_, map}
+use mathlib.Core.List.{List, [], _∷_, map, List·Permᴰ}
 use lib.Dec.{T, eqb}
 use Rattle.octets.specs.Choice.{pick}
 use Rattle.octets.specs.Lists.{all}
 use Rattle.rules.specs.Model.{Settings, Sessions}
 use Rattle.rules.specs.Sound.{Count, broken, free}
-use Rattle.rules.specs.Claim.{Step, asked, told, toldAddresses, stepAllowed, lastTable, liveSet, Promise}
+use Rattle.rules.specs.Claim.{Step, asked, told, toldAddresses, stepAllowed, lastTable, liveSet, Restore, restored, restoreAllowed, restoreCalls, callIn, Restores, Promise}
 use Rattle.pfcp_session.specs.Calls.{MakeCall, makeCall, CountCall, countCall, addressCountCall, RequestCall, requestCall}
 
 -- a call of pfcp_request with the number of its peer, its message and reply space, or one of pfcp_free_count or pfcp_free_addresses, and what it left
@@ -57,3 +58,15 @@ tableAfter run = lastTable (run .made .table) (stepsOf (run .steps))
 -- the claim's promise holds of the table that any run left
 unfoldable pub HostClaim : Type 0
 HostClaim = (run : Run) → Promise (run .settings) (liveAfter run) (tableAfter run)
+
+-- One restoration request for each session that lives after a run, in any order, by calls of pfcp_request on a table that pfcp_make_table made with
+-- the same settings: each is accepted, by its call's outcome and reply, and they leave the same octets.
+unfoldable pub HostRestores : Type 0
+HostRestores =
+    (run : Run) (found : List ℕ) (made : MakeCall) (rs : List Restore) (steps : List HostStep) → made ≡ makeCall (run .settings) found → made .outcome ≡ 0
+    → T (all restoreAllowed rs) → HostRan (made .table) steps → map callIn (stepsOf steps) ≡ restoreCalls (run .settings) rs
+    → List·Permᴰ (liveAfter run) (map restored rs) → Restores (tableAfter run) (made .table) (stepsOf steps)
+
+-- two runs with equal settings and the same live set, whatever calls they were, left the same octets
+unfoldable pub TwoRuns : Type 0
+TwoRuns = (a b : Run) → a .settings ≡ b .settings → liveAfter a ≡ liveAfter b → tableAfter a ≡ tableAfter b
