@@ -17,10 +17,10 @@ use Rattle.session.specs.Areas.{tableArea}
 use Rattle.areas.specs.declared.Lookup.{Lookup}
 use Rattle.areas.specs.declared.Lookup.the-variants.{Found, Absent}
 use Rattle.reply.specs.declared.Offending.the-variants.{Nothing}
-use Rattle.engine.specs.Answers.{Asked, Live, Answers, Replies, Refusing}
-use Rattle.engine.specs.Steps.{Changing}
-use Rattle.engine.proofs.VerdictSteps.{no-session}
-use Rattle.engine.proofs.Entering.{live-found, live-absent, other-than}
+use Rattle.changes.specs.Answers.{Asked, Live, Answers, Replies, Refusing}
+use Rattle.changes.specs.Steps.{Changing}
+use Rattle.changes.proofs.VerdictSteps.{no-session}
+use Rattle.changes.proofs.Entering.{live-found, live-absent, other-than}
 
 new-known : (who : ℕ) (m : Sessions) (msg : List ℕ) → kindOf msg ≡ establishment → unknownSession who m msg ≡ false
 unfolding unknownSession unnamed

@@ -1,7 +1,7 @@
 -- What a deletion of a live session without a fault leaves.
 -- Assumes nothing.
 use mathlib.Core.Path.{_≡_, refl, sym, ap, ap₂, _∙_, subst}
-use mathlib.Core.Bool.{Bool, not}
+use mathlib.Core.Bool.{Bool, true, false, not}
 use mathlib.Core.Option.{none}
 use mathlib.Core.List.{List, []}
 use Prim.Native.Nat.{ℕ}
@@ -11,24 +11,26 @@ use lib.ListN.{length}
 use Rattle.octets.specs.Octets.{put}
 use Rattle.rules.specs.Limits.{maxPdrs, maxEndpoints}
 use Rattle.rules.specs.Model.{Settings, Sessions, keyFor}
-use Rattle.rules.specs.Layout.{viewSettings, viewSessions}
-use Rattle.rules.specs.Message.{kindOf, headerSeid, frameFault, establishment, deletion}
+use Rattle.rules.specs.Layout.{encode, viewSettings, viewSessions}
+use Rattle.rules.specs.Sound.{settingsAllowed, sessionsAllowed}
+use Rattle.rules.specs.Message.{kindOf, headerSeid, frameFault, establishment, deletion, setDeletion}
 use Rattle.rules.specs.Reading.{readFault, readRequest}
 use Rattle.rules.specs.Stages.{Verdict, plain, entrySession, judged, unknownSession}
 use Rattle.rules.specs.Grants.{granted}
 use Rattle.rules.specs.Reply.{noReports, reply}
-use Rattle.rules.specs.Serve.{replyTo}
+use Rattle.rules.specs.Apply.{follow}
+use Rattle.rules.specs.Serve.{sessionsAfter, replyTo}
 use Rattle.rules.specs.Causes as why
 use Rattle.laws.proofs.PeerLaws.{peers-kept}
 use Rattle.areas.specs.Records.{pairKey}
 use Rattle.invariants.proofs.ServeLaws.{TableKept, table-kept}
-use Rattle.invariants.proofs.VerdictLaws.{passed}
 use Rattle.invariants.proofs.Changed.{entry-known}
 use Rattle.areas.specs.Counted.{withoutRecord}
 use Rattle.unit.specs.declared.Settings.{Settings as Unit}
 use Rattle.unit.specs.Meaning.{settingsOf}
 use Rattle.unit.proofs.FieldLaws.{limit-is}
 use Rattle.session.specs.Areas.{tableArea}
+use Rattle.session.proofs.Saved.{session-removed}
 use Rattle.octets.specs.Lists.{keep}
 use Rattle.created.specs.Groups.{reportsOf, allReports}
 use Rattle.writing.specs.Placed.{written}
@@ -36,10 +38,15 @@ use Rattle.frame.specs.Framed.{framingFault}
 use Rattle.frame.specs.declared.Framing.{Framing}
 use Rattle.frame.specs.declared.Framing.the-variants as framings
 use Rattle.engine.proofs.Faults.{framed}
-use Rattle.engine.specs.Answers.{Asked, Live, verdictOn, Answers, Replies}
-use Rattle.engine.proofs.VerdictSteps.{read-through}
+use Rattle.changes.specs.Answers.{Asked, Live, verdictOn, Answers, Replies}
+use Rattle.changes.proofs.VerdictSteps.{read-through}
 use Rattle.engine.proofs.Deleting.{deletion-fine, deletion-empty, no-reports, accepted-empty}
-use Rattle.engine.proofs.NewTable.{deleted-table}
+
+-- the table without the session
+deleted-table : (s : Settings) → T (settingsAllowed s) → (who : ℕ) (m : Sessions) → T (sessionsAllowed s m) → (msg : List ℕ) → eqb (kindOf msg) setDeletion ≡ false → eqb (kindOf msg) deletion ≡ true
+    → withoutRecord (tableArea (s .limit)) (keyFor who (headerSeid msg)) (encode s m) ≡ encode s (sessionsAfter s who m msg)
+unfolding sessionsAfter follow
+deleted-table s hs who m hm msg ns e = session-removed s hs m hm (keyFor who (headerSeid msg)) ∙ ap (encode s) (rw (ns, e))
 
 module _ (t : List ℕ) (who : ℕ) (msg out : List ℕ) (a : Asked t who msg out) (live : Live t who msg) (fr : frameFault msg ≡ none) where
   abbrev s : Settings
@@ -80,7 +87,7 @@ module _ (t : List ℕ) (who : ℕ) (msg out : List ℕ) (a : Asked t who msg ou
           long = ap (λ (p : ℕ × List ℕ). p .0) w ∙ ap length same-reply;
           space = ap (λ (p : ℕ × List ℕ). p .1) w ∙ ap (λ (l : List ℕ). put 0 l out) same-reply;
           table = d ∙ ap₂ (λ (n : ℕ) (l : List ℕ). withoutRecord (tableArea (s .limit)) (pairKey who n) l) es (sym (kept .encoded))
-              ∙ deleted-table s (kept .settings) who (a .peer) m (kept .sessions) msg (a .octets) (a .kind) (a .named) (passed s who m msg (ap (λ (v : Verdict). v .cause) accepts)) (eq-eqb (kindOf msg) deletion del)
+              ∙ deleted-table s (kept .settings) who m (kept .sessions) msg (a .named) (eq-eqb (kindOf msg) deletion del)
               ∙ rw accepts;
         }
 

@@ -1,15 +1,13 @@
--- The verdict where stage 2 or 3 refuses, from what the code's readers answer.
+-- The verdict where stage 2 or 3 refuses a deletion or a set deletion, from what the code's readers answer.
 -- Assumes nothing.
 use mathlib.Core.Path.{_≡_, refl, sym, ap, _∙_}
-use mathlib.Core.Option.{none, some}
+use mathlib.Core.Option.{none}
 use mathlib.Core.List.{List}
-use Prim.Native.Nat.{ℕ, _<_}
+use Prim.Native.Nat.{ℕ}
 use native.Mathlib.Omega.{arith}
-use Rattle.rules.specs.Layout.{viewSettings, viewSessions}
-use Rattle.rules.specs.Elements.{Refusal, missing, conditional, tooShort, incorrect, causeOf}
-use Rattle.rules.specs.Message.{Spot, spot, frameFault}
-use Rattle.rules.specs.Stages as rules
-use Rattle.rules.specs.Reading.{Fault, Reading, faulty, done, read, faultIn, readFault, readRequest}
+use Rattle.rules.specs.Elements.{causeOf}
+use Rattle.rules.specs.Message.{spot, frameFault}
+use Rattle.rules.specs.Reading.{Reading, faulty, done, read, faultIn, readFault, readRequest}
 use Rattle.rules.specs.Request.{Request}
 use Rattle.rules.specs.Causes as why
 use Rattle.frame.specs.Framed as frame
@@ -19,45 +17,13 @@ use Rattle.reading.specs.Verdicts.{stopped, got, numbered, outcome}
 use Rattle.reading.specs.declared.Verdict.{Verdict}
 use Rattle.reading.specs.declared.Verdict.the-variants.{Fine, Refused}
 use Rattle.reply.specs.declared.Offending.the-variants.{Element}
-use Rattle.engine.specs.Answers.{Live, verdictOn, Answers, Replies, Refusing}
-use Rattle.engine.proofs.VerdictSteps.{not-framed, not-read}
-
--- a refusal's cause is one octet and not 1
-small-cause : (f : Refusal) → (causeOf f < 256) × (causeOf f ≡ 1 → ⊥)
-unfolding causeOf
-small-cause missing = (omega arith, λ e. omega arith)
-small-cause conditional = (omega arith, λ e. omega arith)
-small-cause tooShort = (omega arith, λ e. omega arith)
-small-cause incorrect = (omega arith, λ e. omega arith)
-
--- the verdict of a fault: what refusing asks, and its place
-pub record Faulted (t : List ℕ) (who : ℕ) (msg out : List ℕ) (c k p : ℕ) : Type 0 where
-  pub refusing : Refusing t who msg out c (Element k)
-  pub placed : p ≡ verdictOn t who msg .place
-
--- the reply and the place
-pub replies-fault : {t : List ℕ} {who : ℕ} {msg out : List ℕ} {c k p used : ℕ} {out′ : List ℕ} → Faulted t who msg out c k p → Answers t who msg out used out′ t → Replies t who msg out used p out′ t
-replies-fault f a = record { answers = a; placed = f .placed }
+use Rattle.changes.specs.Answers.{Live, Answers, Replies, Refusing}
+use Rattle.changes.proofs.Faults.{Faulted, replies-fault, not-framed-refuses, not-read-refuses}
 
 module _ (t : List ℕ) (who : ℕ) (msg out : List ℕ) (live : Live t who msg) where
-  faulted : (c k p : ℕ) → verdictOn t who msg ≡ record { cause = c; offending = some k; place = p } → c < 256 → (c ≡ 1 → ⊥) → Faulted t who msg out c k p
-  faulted c k p e small other =
-      record { refusing = record { place = p; verdict = e; small = small; other = other }; placed = sym (ap (λ (v : rules.Verdict). v .place) e) }
-
   -- stage 2
-  pub not-framed-refuses : (f : Spot) → frameFault msg ≡ some f → Faulted t who msg out why.wrongLength (f .type) (f .place)
-  not-framed-refuses f e = faulted why.wrongLength (f .type) (f .place) (not-framed (viewSettings t) who (viewSessions t) msg live f e) (omega arith) (λ z. omega arith)
-
-  -- stage 3
-  pub not-read-refuses : frameFault msg ≡ none → (x : Fault) → read msg ≡ faulty x → (c k p : ℕ) → causeOf (x .cause) ≡ c → x .type ≡ k → x .place ≡ p → Faulted t who msg out c k p
-  unfolding readFault faultIn
-  not-read-refuses fr x e c k p ec ek ep =
-      let s = small-cause (x .cause) in
-      faulted c k p (not-read (viewSettings t) who (viewSessions t) msg live fr x (ap faultIn e) ∙ (λ i. record { cause = ec i; offending = some (ek i); place = ep i }))
-      (rw ec at (s .0)) (λ z. s .1 (ec ∙ z))
-
   pub frame-refuses : (f : Framing) (k p : ℕ) → frame.framingFault f ≡ frameFault msg → f ≡ framings.Fault k p → Faulted t who msg out why.wrongLength k p
-  frame-refuses f k p e q = not-framed-refuses (spot k p) (sym e ∙ ap frame.framingFault q)
+  frame-refuses f k p e q = not-framed-refuses t who msg out live (spot k p) (sym e ∙ ap frame.framingFault q)
 
   pub framed : (f : Framing) → frame.framingFault f ≡ frameFault msg → f ≡ framings.Framed → frameFault msg ≡ none
   framed f e q = sym e ∙ ap frame.framingFault q
@@ -80,7 +46,7 @@ module _ (t : List ℕ) (who : ℕ) (msg out : List ℕ) (live : Live t who msg)
           let ec : causeOf (x .cause) ≡ c = cc in
           let ek : x .type ≡ k = cc in
           let ep : x .place ≡ p = cc in
-          not-read-refuses (framed f fe fq) x r c k p ec ek ep
+          not-read-refuses t who msg out live (framed f fe fq) x r c k p ec ek ep
 
   -- what the code asks of `refuse`, and what it replies then
   pub frame-asks : (f : Framing) (k p : ℕ) → frame.framingFault f ≡ frameFault msg → f ≡ framings.Fault k p → Refusing t who msg out why.wrongLength (Element k)

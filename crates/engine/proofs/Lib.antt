@@ -1,16 +1,7 @@
-pub mod VerdictSteps
-pub mod Accepted
-pub mod NewTable
-pub mod Refusals
-pub mod Deleting
 pub mod Faults
+pub mod Deleting
 pub mod Deleted
 pub mod Listing
-pub mod Granting
-pub mod Acceptance
-pub mod Entering
-pub mod Settling
-pub mod Changing
 pub mod Answering
 pub mod Sharing
 pub mod Serving

@@ -37,8 +37,9 @@ use Rattle.reply.specs.Parts.{Listing}
 use Rattle.reply.specs.Naming.{refusal}
 use Rattle.reply.specs.declared.Offending.the-variants.{Nothing, Element}
 use Rattle.sets.specs.Listed.{blank, gotten}
-use Rattle.engine.specs.Answers.{AskedList, Live, verdictOn, Answers, Replies, Refusing}
-use Rattle.engine.proofs.VerdictSteps.{read-through}
+use Rattle.changes.specs.Answers.{Live, verdictOn, Answers, Replies, Refusing}
+use Rattle.engine.specs.Steps.{AskedList}
+use Rattle.changes.proofs.VerdictSteps.{read-through}
 use Rattle.engine.proofs.Faults.{framed, read-fine, frame-asks, frame-replies, then-asks, then-replies}
 use Rattle.engine.proofs.Deleting.{listing-empty, no-reports, accepted-empty}
 

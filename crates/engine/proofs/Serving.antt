@@ -33,8 +33,9 @@ use Rattle.unit.specs.Meaning.{settingsOf}
 use Rattle.unit.proofs.FieldLaws.{addresses-is}
 use Rattle.stages.specs.Rules.{ShareOf}
 use Rattle.stages.specs.declared.Share.{Share}
-use Rattle.engine.specs.Answers.{Asked, AskedList, Replies, verdictOn}
-use Rattle.engine.specs.Steps.{Tallied, Counted, Serves}
+use Rattle.changes.specs.Answers.{Asked, Replies, verdictOn}
+use Rattle.changes.specs.Steps.{Counted}
+use Rattle.engine.specs.Steps.{Tallied, AskedList, Serves}
 
 small-kind : (k : ℕ) → served k ≡ true → k < 255
 unfolding served

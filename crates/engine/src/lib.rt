@@ -1,14 +1,16 @@
-// One request: the stages on the plan and the table, the grants, the new session, the reply. A refusal never writes the table: every
-// check comes first, then the session is built in a slot of its own and stored by one splice.
+// One call: the outcomes in their order, then what the header asks for: an establishment or a modification (crate `changes`), a deletion, or a set
+// deletion. A refusal never writes the table: every check comes first.
 ghost use mathlib.Core.Path.{_≡_};
 ghost use Rattle.rules.specs.Message.{kindOf, headerSeid, deletion};
 ghost use Rattle.unit.specs.Meaning.{settingsOf};
-ghost use Rattle.engine.specs.Answers.{Asked, Live, Answers, Replies, Refusing};
-ghost use Rattle.engine.specs.Steps.{Counted, Serves};
+ghost use Rattle.changes.specs.Answers.{Asked, Live, Replies};
+ghost use Rattle.changes.specs.Steps.{Counted};
+ghost use Rattle.engine.specs.Steps.{Serves};
 ghost use lib.Dec.{T};
 ghost use Rattle.rules.specs.Layout.{viewSettings};
 ghost use Rattle.rules.specs.Model.{isPeer};
 use areas::Lookup;
+use changes::Replied;
 use format::causes;
 use format::kinds;
 use frame::Framing;
@@ -18,36 +20,13 @@ use reply::Offending;
 use stages::Share;
 use unit::Settings;
 
-mod changes;
 mod set_deletion;
 mod shares;
-
-// A reply: how many octets of the reply space hold it, and the place in the message of a fault of stages 2 and 3, else 0.
-pub struct Replied {
-    pub used: usize,
-    pub place: usize,
-}
 
 // The addresses of the pool at entry: the map of taken ones, and how many are free.
 struct TakenAddresses {
     words: [u64; pool::ADDRESS_WORDS],
     free: usize,
-}
-
-// The reply of a refusal; the table stays.
-fn refuse(
-    t: &[u8],
-    u: Settings,
-    peer: u32,
-    msg: &[u8],
-    cause: u64,
-    offending: Offending,
-    out: &mut [u8],
-) -> usize
-    requires { ⌜ Asked (now t) peer (now msg) (now out) × Refusing (now t) peer (now msg) (now out) cause offending × (settingsOf u ≡ viewSettings (now t)) ⌝ }
-    ensures { λ r. ⌜ Answers (now (t .entry)) peer (now (msg .entry)) (now (out .entry)) r (now (out .exit)) (now (t .entry)) ⌝ }
-{
-    reply::refused(u, peer, msg, cause as u8, offending, out)
 }
 
 // A deletion of a live session.
@@ -57,7 +36,7 @@ fn delete(t: &mut [u8], u: Settings, peer: u32, msg: &[u8], seid: u64, out: &mut
 {
     let framing = frame::frame_fault(msg);
     if let Framing::Fault(kind, place) = framing {
-        let used = refuse(
+        let used = changes::refuse(
             t,
             u,
             peer,
@@ -104,7 +83,7 @@ fn answer(
     let place = session::find(t, u.limit as usize, format::COUNT, share.peer as u64, seid);
     match place {
         Lookup::Absent(p) => {
-            let used = refuse(
+            let used = changes::refuse(
                 t,
                 u,
                 share.peer,

@@ -1,9 +1,10 @@
 // Set deletions (02 (vii)): every check comes first, then the reply, then every session that the list covers goes.
 ghost use mathlib.Core.Path.{_≡_};
 ghost use Rattle.unit.specs.Meaning.{settingsOf};
-ghost use Rattle.engine.specs.Answers.{AskedList, Answers, Replies, Refusing};
+ghost use Rattle.changes.specs.Answers.{Answers, Replies, Refusing};
+ghost use Rattle.engine.specs.Steps.{AskedList};
 ghost use Rattle.rules.specs.Layout.{viewSettings};
-use crate::Replied;
+use changes::Replied;
 use format::causes;
 use frame::Framing;
 use reading::Verdict;

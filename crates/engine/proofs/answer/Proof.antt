@@ -4,7 +4,7 @@ use Rattle.engine.proofs.Answering.{establishes, absent-refuses, absent
 use Rattle.unit.proofs.FieldLaws.{limit-is}
 use mathlib.Core.Path.{sym, _∙_}
 use native.Mathlib.Omega.{arith}
-use Rattle.engine.proofs.Entering.{long-by}
+use Rattle.changes.proofs.Entering.{long-by}
 use borrow.Author.Needs.{needs}
 use Rattle.engine.proofs.answer.Statement.{statement}
 use Rattle.engine.proofs.answer.Tie as tie

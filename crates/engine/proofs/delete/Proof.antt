@@ -4,7 +4,7 @@ use Rattle.octets.specs.Lists.{all}
 use mathlib.Core.Path.{refl}
 use native.Mathlib.Omega.{arith}
 use Rattle.unit.proofs.FieldLaws.{limit-is}
-use Rattle.engine.proofs.Entering.{long-by}
+use Rattle.changes.proofs.Entering.{long-by}
 use Rattle.engine.proofs.Deleted.{deleted-through}
 use Rattle.engine.proofs.Faults.{frame-asks, frame-replies}
 use Rattle.engine.proofs.delete.Statement.{statement}

@@ -1,6 +1,6 @@
 -- `engine::set_deletion::refuse_list` meets its contract. Assumes nothing.
 use borrow.Author.Needs.{needs}
-use Rattle.engine.proofs.Refusals.{refused-answers}
+use Rattle.changes.proofs.Refusals.{refused-answers}
 use Rattle.engine.proofs.set_deletion.refuse_list.Statement.{statement}
 use Rattle.engine.proofs.set_deletion.refuse_list.Tie as tie
 

@@ -1,0 +1,167 @@
+-- The session at entry: whether a SEID is live, and the session in its slot.
+-- Assumes nothing.
+use mathlib.Core.Path.{_≡_, refl, sym, ap, _∙_}
+use mathlib.Core.Bool.{Bool, true, false}
+use mathlib.Core.Option.{some}
+use mathlib.Core.List.{List, []}
+use Prim.Native.Nat.{ℕ, _*_, _<_, _^_}
+use native.Mathlib.Omega.{arith}
+use native.Mathlib.Decide.{ℕ-discrete}
+use lib.Dec.{T, eqb}
+use borrow.Author.Tests.{eqb-true}
+use lib.ListN.{length, getD}
+use Rattle.octets.specs.Choice.{isSome}
+use Rattle.octets.specs.Octets.{be, numberAt, octetAt, part, put, zeros, slices}
+use Rattle.octets.specs.Lists.{all}
+use Rattle.octets.proofs.Tests.{each}
+use Rattle.octets.proofs.Numbers.{number-be}
+use Rattle.octets.proofs.ListLaws.{all-every, found-knows}
+use Rattle.rules.specs.Model.{Settings, Session, Sessions, isPeer, keyFor}
+use Rattle.rules.specs.Layout.{sessionOctets, encode, viewSession, viewArea, viewSettings, viewSessions, sessionWidth, tableLength}
+use Rattle.rules.specs.Sound.{sound, sessionAllowed, sessionsTests, sessionsAllowed}
+use Rattle.rules.specs.Message.{kindOf, headerSeid, establishment, setDeletion}
+use Rattle.rules.specs.Reading.{readRequest}
+use Rattle.rules.specs.Stages.{hasKey, sessionOf, isLive, newSession, atEntry, entrySession, unnamed}
+use Rattle.laws.proofs.LayoutLaws.{session-back}
+use Rattle.laws.proofs.PeerLaws.{peer-cases}
+use Rattle.invariants.proofs.ServeLaws.{TableKept, table-kept}
+use Rattle.areas.specs.declared.Lookup.{Lookup}
+use Rattle.areas.specs.declared.Lookup.the-variants.{Found, Absent}
+use Rattle.areas.specs.declared.Area.{Area}
+use Rattle.areas.specs.Records.{pairKey}
+use Rattle.areas.specs.Counted.{areaIn, placeIn}
+use Rattle.session.specs.Areas.{tableArea}
+use Rattle.session.proofs.Saved.{session-found, session-absent, session-loaded, fresh-slot}
+use Rattle.stages.proofs.EntryLaws.{slot-live, slot-new}
+use Rattle.changes.specs.Steps.{Fetching, Fetched, Entered}
+
+-- the table is as long as its room says
+pub long-by : (t : List ℕ) (room : ℕ) → room ≡ viewSettings t .limit → length t ≡ tableLength (viewSettings t .limit) → length t ≡ tableLength room
+long-by t room l long = long ∙ ap tableLength (sym l)
+
+-- where the session at entry comes from: the SEID of an establishment's F-SEID, or the place of the header's session in the table
+pub record Entering (t : List ℕ) (who : ℕ) (msg slot : List ℕ) (kind seid p : ℕ) : Type 0 where
+  pub peer : T (isPeer who)
+  pub table : T (sound t)
+  pub tableLong : length t ≡ tableLength (viewSettings t .limit)
+  pub kindIs : kind ≡ kindOf msg
+  pub named : eqb (kindOf msg) setDeletion ≡ false
+  pub new : kind ≡ establishment → seid ≡ readRequest msg .seid
+  pub fits : seid < 2 ^ 64
+  pub found : (kind ≡ establishment → ⊥) → placeIn (tableArea (viewSettings t .limit)) (keyFor who (headerSeid msg)) t ≡ Found p
+  pub long : length slot ≡ sessionWidth
+
+module _ (t : List ℕ) (h : T (sound t)) where
+  abbrev s : Settings
+  s = viewSettings t
+
+  abbrev m : Sessions
+  m = viewSessions t
+
+  abbrev area : Area
+  area = tableArea (s .limit)
+
+  kept : TableKept t
+  kept = table-kept t h
+
+  at-place : (n room : ℕ) (r q : Lookup) → room ≡ s .limit → r ≡ placeIn (tableArea room) n t → r ≡ q → placeIn area n (encode s m) ≡ q
+  at-place n room r q l e d = ap (placeIn area n) (kept .encoded) ∙ ap (λ (z : ℕ). placeIn (tableArea z) n t) (sym l) ∙ sym e ∙ d
+
+  pub live-found : (who n p room : ℕ) (r : Lookup) → room ≡ s .limit → r ≡ placeIn (tableArea room) (pairKey who n) t → r ≡ Found p → true ≡ isLive (keyFor who n) (viewSessions t)
+  unfolding isLive keyFor
+  live-found who n p room r l e d =
+      sym (ap isSome (session-found s (kept .settings) m (kept .sessions) (pairKey who n) p (newSession 0 0) (at-place (pairKey who n) room r (Found p) l e d) .1))
+
+  pub live-absent : (who n p room : ℕ) (r : Lookup) → room ≡ s .limit → r ≡ placeIn (tableArea room) (pairKey who n) t → r ≡ Absent p → false ≡ isLive (keyFor who n) (viewSessions t)
+  unfolding isLive keyFor
+  live-absent who n p room r l e d =
+      sym (ap isSome (session-absent s (kept .settings) m (kept .sessions) (pairKey who n) p (at-place (pairKey who n) room r (Absent p) l e d)))
+
+  each-allowed : T (all (sessionAllowed s) m)
+  unfolding sessionsAllowed sessionsTests
+  each-allowed = each (sessionsTests s m) (kept .sessions) .1 .1 .0
+
+  live-allowed : (n : ℕ) (x : Session) → sessionOf n m ≡ some x → T (sessionAllowed s x)
+  unfolding sessionOf
+  live-allowed n x e = found-knows (λ (y : Session). T (sessionAllowed s y)) (hasKey n) m x (all-every (sessionAllowed s) m each-allowed) e
+
+new-entry : (who : ℕ) (m : Sessions) (msg : List ℕ) → kindOf msg ≡ establishment → entrySession who m msg ≡ newSession who (readRequest msg .seid)
+unfolding entrySession atEntry unnamed
+new-entry who m msg e = rw e
+
+pub other-than : (k n : ℕ) → (k ≡ n → ⊥) → eqb k n ≡ false
+other-than k n h = go (eqb k n) refl
+  where
+    go : (b : Bool) → eqb k n ≡ b → b ≡ false
+    go true e = absurd (h (eqb-true k n e))
+    go false e = refl
+
+live-entry : (who : ℕ) (m : Sessions) (msg : List ℕ) (x : Session) → eqb (kindOf msg) setDeletion ≡ false → (kindOf msg ≡ establishment → ⊥) → sessionOf (keyFor who (headerSeid msg)) m ≡ some x → entrySession who m msg ≡ x
+unfolding entrySession atEntry unnamed
+live-entry who m msg x n h e = rw (other-than (kindOf msg) establishment h, n, e)
+
+new-viewed : (who n : ℕ) → n < 2 ^ 64 → viewSession (sessionOctets (newSession who n)) ≡ newSession who n
+unfolding newSession sessionOctets viewSession viewArea numberAt octetAt be slices
+new-viewed who n h = λ j. record { peer = who; seid = number-be 8 n h j; pdrs = []; endpoints = []; csids = [] }
+
+-- a new session in its slot
+entered-new : (t : List ℕ) (who : ℕ) (msg slot slot′ : List ℕ) (kind seid p : ℕ) (live : Bool) → Entering t who msg slot kind seid p → kind ≡ establishment → slot′ ≡ put 1 (be 8 seid) (put 0 (be 1 who) (zeros sessionWidth)) → length slot′ ≡ sessionWidth
+    → live ≡ isLive (keyFor who seid) (viewSessions t) → Entered t who msg kind seid live slot′
+entered-new t who msg slot slot′ kind seid p live a k e long l =
+    let small : who < 256 = peer-cases (λ (n : ℕ). n < 256) (omega arith) (omega arith) who (a .peer) in
+    let fresh : slot′ ≡ sessionOctets (newSession who seid) = e ∙ fresh-slot who seid small in
+    let at : newSession who seid ≡ entrySession who (viewSessions t) msg = ap (newSession who) (a .new k) ∙ sym (new-entry who (viewSessions t) msg (sym (a .kindIs) ∙ k)) in
+    let viewed : viewSession slot′ ≡ newSession who seid = ap viewSession fresh ∙ new-viewed who seid (a .fits) in
+    record { entry = fresh ∙ ap sessionOctets at; viewed = viewed ∙ at; place = slot-new slot′ who seid long viewed; known = λ z. l }
+
+-- a live session in its slot
+module _ (t : List ℕ) (who : ℕ) (msg slot : List ℕ) (kind seid p : ℕ) (a : Entering t who msg slot kind seid p) (other : kind ≡ establishment → ⊥) where
+  sound-table : T (sound t)
+  sound-table = a .table
+
+  k : TableKept t
+  k = table-kept t sound-table
+
+  x : Session
+  x = getD (viewSessions t) p (newSession 0 0)
+
+  abbrev area′ : Area
+  area′ = tableArea (viewSettings t .limit)
+
+  abbrev key : ℕ
+  key = keyFor who (headerSeid msg)
+
+  there : placeIn area′ key (encode (viewSettings t) (viewSessions t)) ≡ Found p
+  there = ap (placeIn area′ key) (k .encoded) ∙ a .found other
+
+  found : (p < viewSettings t .limit) × (sessionOf key (viewSessions t) ≡ some x)
+  unfolding x
+  found = session-found (viewSettings t) (k .settings) (viewSessions t) (k .sessions) key p (newSession 0 0) there
+
+  place-within : p < viewSettings t .limit
+  place-within = found .0
+
+  allowed : T (sessionAllowed (viewSettings t) x)
+  allowed = live-allowed t sound-table key x (found .1)
+
+  is-entry : x ≡ entrySession who (viewSessions t) msg
+  is-entry = sym (live-entry who (viewSessions t) msg x (a .named) (λ e. other (a .kindIs ∙ e)) (found .1))
+
+  entered-live : (live : Bool) (slot′ : List ℕ) → slot′ ≡ part (p * sessionWidth) sessionWidth (areaIn area′ t) → length slot′ ≡ sessionWidth → Entered t who msg kind seid live slot′
+  unfolding x
+  entered-live live slot′ e long =
+      let loaded : slot′ ≡ sessionOctets x = e ∙ ap (λ (u : List ℕ). part (p * sessionWidth) sessionWidth (areaIn area′ u)) (sym (k .encoded)) ∙ session-loaded (viewSettings t) (k .settings) (viewSessions t) (k .sessions) key p (newSession 0 0) there in
+      let viewed : viewSession slot′ ≡ x = ap viewSession loaded ∙ session-back (viewSettings t) (k .settings) x allowed in
+      record { entry = loaded ∙ ap sessionOctets is-entry; viewed = viewed ∙ is-entry; place = slot-live (viewSettings t) slot′ x long viewed allowed; known = λ z. absurd (other z) }
+
+-- what fetching it asks, and that what it leaves is the session at entry
+module _ (t : List ℕ) (who : ℕ) (msg slot : List ℕ) (kind seid p : ℕ) (a : Entering t who msg slot kind seid p) where
+  pub fetch-asks : (room : ℕ) → room ≡ viewSettings t .limit → Fetching t slot room kind seid p
+  fetch-asks room l = record { table = a .table; tableLong = long-by t room l (a .tableLong); limit = l; fits = a .fits; there = λ n. rw l (place-within t who msg slot kind seid p a n); long = a .long }
+
+  pub entered : (live : Bool) (slot′ : List ℕ) → (room : ℕ) → room ≡ viewSettings t .limit → Fetched t room kind who seid p live slot′ → Entered t who msg kind seid live slot′
+  entered live slot′ room l f = go (ℕ-discrete kind establishment)
+    where
+      go : Dec (kind ≡ establishment) → Entered t who msg kind seid live slot′
+      go (yes e) = entered-new t who msg slot slot′ kind seid p live a e (f .new e) (f .long) (f .known e)
+      go (no n) = entered-live t who msg slot kind seid p a n live slot′ (f .old n ∙ ap (λ (z : ℕ). part (p * sessionWidth) sessionWidth (areaIn (tableArea z) t)) l) (f .long)

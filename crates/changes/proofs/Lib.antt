@@ -1,0 +1,10 @@
+pub mod VerdictSteps
+pub mod Accepted
+pub mod NewTable
+pub mod Refusals
+pub mod Faults
+pub mod Granting
+pub mod Acceptance
+pub mod Entering
+pub mod Settling
+pub mod Changing

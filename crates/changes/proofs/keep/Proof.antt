@@ -1,0 +1,12 @@
+-- `changes::keep` meets its contract.
+-- Assumes nothing.
+use Rattle.changes.proofs.Acceptance.{kept-session}
+use borrow.Author.Needs.{needs}
+use Rattle.changes.proofs.keep.Statement.{statement}
+use Rattle.changes.proofs.keep.Tie as tie
+
+returns : tie.Need-returns
+returns c = kept-session _ _ _ _ _ _ _ _ (c .before .before .before .before .before .before .before .build .ensures) (c .before .before .save .ensures)
+
+pub keep-spec : {M : Type 1} → statement M
+keep-spec = tie.close (tie.spec (λ c κs. search needs) (λ c κs. search needs) (λ c. search needs) (λ c. search needs) returns)
