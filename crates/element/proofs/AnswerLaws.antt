@@ -1,16 +1,17 @@
 -- What a reader answers and what a writer leaves, by cases. Assumes nothing.
-use mathlib.Core.Bool.{Bool, true, false, _&&_, false≢true}
+use mathlib.Core.Bool.{Bool, true, false, false≢true}
 use mathlib.Core.List.{List}
 use mathlib.Core.Option.{Option, none, some}
-use mathlib.Core.Path.{_≡_, refl, sym, ap}
-use Prim.Native.Nat.{ℕ, _≤_, _<_}
-use native.Mathlib.Omega.{arith}
+use mathlib.Core.Path.{_≡_, refl, sym, ap, _∙_}
+use Prim.Native.Nat.{ℕ, _+_, _≤_, _<_}
+use native.Mathlib.Nat.{zero-add}
 use borrow.Author.Tests.{le-leb, lt-leb}
 use lib.Dec.{T}
 use lib.ListN.{length}
 use Rattle.octets.specs.Choice.{pick, isSome, mapOption}
 use Rattle.octets.specs.Octets.{put}
-use Rattle.octets.proofs.Bools.{and-false}
+use Rattle.octets.specs.Fields.{widthOf, fieldOctets}
+use Rattle.octets.proofs.FieldLaws.{length-fieldOctets}
 use Rattle.rules.specs.Elements as rules
 use Rattle.rules.specs.Elements.{value, writeIf}
 use Rattle.element.specs.Answers.{writeMeant, allowedIn}
@@ -48,21 +49,30 @@ never false f = refl
 
 -- a writer of values that are allowed, with their octets, into the space s
 module _ {A : Type 0} (allowed : A → Bool) (octetsOf : A → List ℕ) (s : List ℕ) where
-  pub not-allowed : (v : Option A) → allowedIn allowed v ≡ false → record { count = 0; space = s } ≡ writeMeant (λ v space. writeIf (allowed v) (octetsOf v) space) v s
+  pub not-allowed : (v : Option A) → allowedIn allowed v ≡ false → record { count = none; space = s } ≡ writeMeant (λ v space. writeIf (allowed v) (octetsOf v) space) v s
   unfolding writeIf
   not-allowed none e = refl
   not-allowed (some v) e = rw e
 
-  -- the octets of the value that a struct means are xs
-  module _ (xs : List ℕ) where
-    pub no-room : (v : Option A) → ((x : A) → v ≡ some x → octetsOf x ≡ xs) → length s < length xs
-        → record { count = 0; space = s } ≡ writeMeant (λ v space. writeIf (allowed v) (octetsOf v) space) v s
-    unfolding writeIf
-    no-room none is h = refl
-    no-room (some v) is h = rw (is v refl, lt-leb (length xs) (length s) h, and-false (allowed v))
+  -- the octets of the value that a struct means are those of the numbers vs at the widths ws; us and xs are these as the code has them
+  pub allowed-fields : (v : Option A) (ws vs us xs : List ℕ) {w : rules.Written} → ((x : A) → v ≡ some x → octetsOf x ≡ fieldOctets ws vs)
+      → allowedIn allowed v ≡ true → us ≡ ws → xs ≡ vs → w ≡ writeIf true (fieldOctets us xs) s
+      → w ≡ writeMeant (λ v space. writeIf (allowed v) (octetsOf v) space) v s
+  allowed-fields none ws vs us xs is ok p q e = absurd (false≢true ok)
+  allowed-fields (some v) ws vs us xs is ok p q e = e ∙ rw (is v refl, ok, p, q)
 
-    pub done : (v : Option A) → ((x : A) → v ≡ some x → octetsOf x ≡ xs) → allowedIn allowed v ≡ true → (n : ℕ) (t : List ℕ) → n ≡ length xs
-        → n ≤ length s → t ≡ put 0 xs s → record { count = n; space = t } ≡ writeMeant (λ v space. writeIf (allowed v) (octetsOf v) space) v s
-    unfolding writeIf
-    done none is ok n t l h q = absurd (false≢true ok)
-    done (some v) is ok n t l h q = rw (is v refl, ok, q, l, le-leb (length xs) (length s) (omega arith))
+-- what `write_fields` leaves: k the width as the code has it
+module _ (ws vs s : List ℕ) (k : ℕ) (same : length ws ≡ length vs) (e : k ≡ widthOf ws) where
+  length-fields : length (fieldOctets ws vs) ≡ k
+  length-fields = length-fieldOctets ws vs (sym same) ∙ sym e
+
+  pub fields-no-room : length s < k → record { count = none; space = s } ≡ writeIf true (fieldOctets ws vs) s
+  unfolding writeIf
+  fields-no-room l = rw (lt-leb (length (fieldOctets ws vs)) (length s) (rw length-fields l))
+
+  pub fields-done : (n : ℕ) (t : List ℕ) → k ≤ length s → (n ≡ 0 + widthOf ws) × (t ≡ put 0 (fieldOctets ws vs) s)
+      → record { count = some n; space = t } ≡ writeIf true (fieldOctets ws vs) s
+  unfolding writeIf
+  fields-done n t l q =
+      let c : n ≡ length (fieldOctets ws vs) = q .0 ∙ zero-add (widthOf ws) ∙ sym (length-fields ∙ e) in
+      rw (le-leb (length (fieldOctets ws vs)) (length s) (rw length-fields l), c, q .1)

@@ -1,5 +1,5 @@
 -- The bits of an octet of flags, as code tests them by quotient and remainder. Assumes nothing.
-use mathlib.Core.Bool.{Bool, true, false, _||_, _&&_}
+use mathlib.Core.Bool.{Bool, true, false, _||_}
 use mathlib.Core.Path.{_≡_, refl, ap, _∙_}
 use Prim.Native.Nat.{ℕ, _+_, _*_, _/_, _%_, _^_, _<_}
 use native.Mathlib.Nat.{zero-lt-suc, mod-lt, div-one, div-div-eq-div-mul}
@@ -42,6 +42,24 @@ four-bits f h =
     let three : f / 8 ≡ f / 8 % 2 = omega arith in
     let all : f ≡ f % 2 + 2 * (f / 2 % 2) + 4 * (f / 4 % 2) + 8 * (f / 8 % 2) = omega arith in
     rw (bit-first f, bit-number 1 f, bit-number 2 f, bit-number 3 f) all
+
+-- an octet by its eight bits
+halved : (m f : ℕ) → f / m ≡ 2 * (f / (m * 2)) + f / m % 2
+halved m f = let e : f / m / 2 ≡ f / (m * 2) = div-div-eq-div-mul f m 2 in omega arith
+
+summed : (f q r s t u v w : ℕ) (a b c d e g h : ℕ) → f ≡ 2 * q + a → q ≡ 2 * r + b → r ≡ 2 * s + c → s ≡ 2 * t + d → t ≡ 2 * u + e → u ≡ 2 * v + g → v ≡ 2 * w + h
+    → f ≡ a + 2 * b + 4 * c + 8 * d + 16 * e + 32 * g + 64 * h + 128 * w
+summed f q r s t u v w a b c d e g h i j k l m n o = omega arith
+
+pub eight-bits : (f : ℕ) → f < 256
+    → f ≡ flag (bit 0 f) + 2 * flag (bit 1 f) + 4 * flag (bit 2 f) + 8 * flag (bit 3 f) + 16 * flag (bit 4 f) + 32 * flag (bit 5 f) + 64 * flag (bit 6 f) + 128 * flag (bit 7 f)
+eight-bits f h =
+    let first : f ≡ 2 * (f / 2) + f % 2 = omega arith in
+    let last : f / 128 ≡ f / 128 % 2 = omega arith in
+    let all = summed f (f / 2) (f / 4) (f / 8) (f / 16) (f / 32) (f / 64) (f / 128) (f % 2) (f / 2 % 2) (f / 4 % 2) (f / 8 % 2) (f / 16 % 2) (f / 32 % 2) (f / 64 % 2)
+    first (halved 2 f) (halved 4 f) (halved 8 f) (halved 16 f) (halved 32 f) (halved 64 f) in
+    rw (bit-first f, bit-number 1 f, bit-number 2 f, bit-number 3 f, bit-number 4 f, bit-number 5 f, bit-number 6 f, bit-number 7 f)
+    (all ∙ ap (λ (n : ℕ). f % 2 + 2 * (f / 2 % 2) + 4 * (f / 4 % 2) + 8 * (f / 8 % 2) + 16 * (f / 16 % 2) + 32 * (f / 32 % 2) + 64 * (f / 64 % 2) + 128 * n) last)
 
 -- the bits of the low half of an octet
 pub low-bit-0 : (f : ℕ) → bit 0 (f % 16) ≡ bit 0 f

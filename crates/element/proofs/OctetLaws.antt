@@ -11,7 +11,8 @@ use lib.ListN.{length, getD, take, drop, length-drop, take-append-drop}
 use lib.Seq.{drop-drop, take-append-le, drop-append-le, length-take-le}
 use Rattle.octets.specs.Octets.{put, be, number, part, octets, slices, concatMap}
 use Rattle.octets.specs.Lists.{all}
-use Rattle.octets.specs.Fields.{widthOf, fit, fieldOctets}
+use Rattle.octets.specs.Fields.{widthOf, narrow, fit, fieldOctets}
+use Rattle.octets.proofs.Bools.{and-assoc}
 use Rattle.octets.proofs.Tests.{both as both-hold}
 use Rattle.octets.proofs.Put.{length-part}
 use Rattle.octets.proofs.Numbers.{bytes-be}
@@ -21,6 +22,10 @@ use Rattle.octets.proofs.FieldLaws.{both}
 -- a part of the octets after the first
 pub part-after : (at n : ℕ) (s : List ℕ) → part at n (drop 1 s) ≡ part (1 + at) n s
 part-after at n s = ap (take n) (drop-drop at 1 s)
+
+pub no-octets : (xs : List ℕ) → length xs ≡ 0 → xs ≡ []
+no-octets [] e = refl
+no-octets (x ∷ xs) e = absurd (omega arith)
 
 pub one-octet : (n : ℕ) → n < 256 → n / 1 % 256 ≡ n
 one-octet n h = omega arith
@@ -53,16 +58,12 @@ pub widthOf-two : (ws us : List ℕ) → widthOf (ws ++ us) ≡ widthOf ws + wid
 widthOf-two [] us = sym (zero-add (widthOf us))
 widthOf-two (w ∷ ws) us = ap (λ (n : ℕ). w + n) (widthOf-two ws us) ∙ sym (add-assoc w (widthOf ws) (widthOf us))
 
-and-assoc : (a b c : Bool) → (a && (b && c)) ≡ ((a && b) && c)
-and-assoc true b c = refl
-and-assoc false b c = refl
-
 pub fit-two : (ws vs us xs : List ℕ) → length vs ≡ length ws → fit (ws ++ us) (vs ++ xs) ≡ (fit ws vs && fit us xs)
 unfolding fit
 fit-two [] [] us xs e = refl
 fit-two [] (v ∷ vs) us xs e = absurd (omega arith)
 fit-two (w ∷ ws) [] us xs e = absurd (omega arith)
-fit-two (w ∷ ws) (v ∷ vs) us xs e = ap (λ (b : Bool). ltb v (256 ^ w) && b) (fit-two ws vs us xs (suc-inj e)) ∙ and-assoc (ltb v (256 ^ w)) (fit ws vs) (fit us xs)
+fit-two (w ∷ ws) (v ∷ vs) us xs e = ap (λ (b : Bool). ltb v (256 ^ w) && b) (fit-two ws vs us xs (suc-inj e)) ∙ sym (and-assoc (ltb v (256 ^ w)) (fit ws vs) (fit us xs))
 
 -- a part that lies within the first octets
 pub part-front : (at n : ℕ) (xs ys : List ℕ) → at + n ≤ length xs → part at n (xs ++ ys) ≡ part at n xs
@@ -101,7 +102,14 @@ below-slices w (suc m) xs o h =
 pub part-below : (at n : ℕ) (s : List ℕ) → T (octets s) → at + n ≤ length s → number (part at n s) < 256 ^ n
 part-below at n s o h = rw (length-part at n s h) at (number-below (part at n s) (part-octets at n s o))
 
--- fields from a place on, of the widths us and the numbers xs as the code has them
-pub fields-at : (at : ℕ) (ws us vs xs s : List ℕ) {t : List ℕ} {n : ℕ} → us ≡ ws → xs ≡ vs → t ≡ put at (fieldOctets us xs) s → n ≡ widthOf us
-    → (at + n ≡ at + widthOf ws) × (t ≡ put at (fieldOctets ws vs) s)
-fields-at at ws us vs xs s e f p q = (rw (q, e), p ∙ rw (e, f))
+-- fields of the widths us and the numbers xs as the code has them: what writing them asks, at the start and from a place on, and what it leaves
+pub fields-ready : (ws vs us xs : List ℕ) → length ws ≡ length vs → narrow ws ≡ true → us ≡ ws → xs ≡ vs → (length us ≡ length xs) × (narrow us ≡ true)
+fields-ready ws vs us xs l n e f = (rw (e, f) l, rw e n)
+
+pub fields-fit : (at : ℕ) (ws vs us xs s : List ℕ) → at + widthOf ws ≤ length s → length ws ≡ length vs → narrow ws ≡ true → us ≡ ws → xs ≡ vs
+    → (at + widthOf us ≤ length s) × (length us ≡ length xs) × (narrow us ≡ true)
+fields-fit at ws vs us xs s h l n e f = let r = fields-ready ws vs us xs l n e f in (rw e h, r .0, r .1)
+
+pub fields-at : (at : ℕ) (ws vs us xs s : List ℕ) {t : List ℕ} {n : ℕ} → us ≡ ws → xs ≡ vs → (n ≡ at + widthOf us) × (t ≡ put at (fieldOctets us xs) s)
+    → (n ≡ at + widthOf ws) × (t ≡ put at (fieldOctets ws vs) s)
+fields-at at ws vs us xs s e f p = (p .0 ∙ rw e, p .1 ∙ rw (e, f))

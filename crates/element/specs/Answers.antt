@@ -16,18 +16,18 @@ abbrev pub refusalOf : Refusal → rules.Refusal
 refusalOf TooShort = tooShort
 refusalOf Incorrect = incorrect
 
--- how many octets a writer says that it wrote
-abbrev pub writtenCount : Written → ℕ
-writtenCount (Octets n) = n
-writtenCount Refused = 0
+-- how many octets a writer says that it wrote, none where it says that it refused
+abbrev pub writtenCount : Written → Option ℕ
+writtenCount (Octets n) = some n
+writtenCount Refused = none
 
--- what a writer leaves: its count, and the space at exit
+-- what a writer leaves: its answer, and the space at exit
 abbrev pub left : Written → List ℕ → rules.Written
 left r space = record { count = writtenCount r; space = space }
 
 -- what a writer has to leave for a struct that means a value, or none: none is refused, and nothing is written
 abbrev pub writeMeant : {A : Type 0} → (A → List ℕ → rules.Written) → Option A → List ℕ → rules.Written
-writeMeant write none space = record { count = 0; space = space }
+writeMeant write none space = record { count = none; space = space }
 writeMeant write (some v) space = write v space
 
 -- whether a struct means a value that the rules allow

@@ -1,6 +1,3 @@
--- `Answers`: what the readers and writers answer, in the rules' terms. `FTeid`, `UeIp`, `FqCsid`, `FSeid`: what the structs mean.
+-- `Answers`: what the readers and writers answer, in the rules' terms. `Trips`: what it means that reading and writing are inverse.
 pub mod Answers
-pub mod FTeid
-pub mod UeIp
-pub mod FqCsid
-pub mod FSeid
+pub mod Trips

@@ -28,7 +28,7 @@ use Rattle.rules.specs.Serve.{Served, replyTo, answered, answer, serve}
 use Rattle.rules.specs.Live.{replyElements, replyCause}
 use Rattle.rules.specs.Types as ie
 use Rattle.rules.specs.Causes as why
-use Rattle.element.proofs.FSeidLaws.{length-fseid}
+use Rattle.fseid.proofs.ValueLaws.{length-fseid}
 use Rattle.laws.proofs.HeaderLaws.{header-long}
 use Rattle.laws.proofs.MessageLaws.{Fits, el, after, elements-cons}
 use Rattle.laws.proofs.ReplyLaws.{reply-elements, reply-cause, sequence-three}

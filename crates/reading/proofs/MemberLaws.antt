@@ -20,11 +20,11 @@ use Rattle.rules.specs.Message.{placesOf, numberWidth}
 use Rattle.rules.specs.Reading.{Reading, faulty, done, refusalAt, andThen, Members, withPdrId, withPrecedence, withFar, withPdi, withSource, withEndpointId, memberThere, numberRead, farRead, pdiIn, valueRead, memberRead, unopened}
 use Rattle.rules.specs.Types as ie
 use Rattle.rules.specs.Causes as why
-use Rattle.element.specs.FTeid.{fteidTests, fteidMeant, fteidOf}
-use Rattle.element.specs.declared.fteid.FTeid.{FTeid}
-use Rattle.element.specs.UeIp.{ueOf}
-use Rattle.element.specs.declared.ueip.UeIp.{UeIp}
-use Rattle.element.specs.declared.ueip.UeIp.the-variants as ue-case
+use Rattle.fteid.specs.Meaning.{fteidTests, fteidMeant, fteidOf}
+use Rattle.fteid.specs.declared.FTeid.{FTeid}
+use Rattle.ue_ip.specs.Meaning.{ueOf}
+use Rattle.ue_ip.specs.declared.UeIp.{UeIp}
+use Rattle.ue_ip.specs.declared.UeIp.the-variants as ue-case
 use Rattle.element.proofs.AnswerLaws.{picked}
 use Rattle.plan.specs.Rows.{ueFrom}
 use Rattle.reading.specs.declared.Verdict.{Verdict}

@@ -15,10 +15,10 @@ use Rattle.rules.specs.Reading.{Reading, done, andThen, named, Members, withLoc
 use Rattle.plan.specs.Rows.{rowWidth, word, present, rowFar, rowLocal, rowUe}
 use Rattle.plan.specs.Words as its
 use Rattle.element.specs.Answers.{refusalOf}
-use Rattle.element.specs.declared.fteid.Answer as code
-use Rattle.element.specs.declared.fteid.Answer.the-variants as code-case
-use Rattle.element.specs.declared.ueip.UeIp as code-ue
-use Rattle.element.specs.declared.ueip.UeIp.the-variants as ue-case
+use Rattle.fteid.specs.declared.Answer as code
+use Rattle.fteid.specs.declared.Answer.the-variants as code-case
+use Rattle.ue_ip.specs.declared.UeIp as code-ue
+use Rattle.ue_ip.specs.declared.UeIp.the-variants as ue-case
 use Rattle.reading.specs.declared.Verdict.{Verdict}
 use Rattle.reading.specs.declared.Verdict.the-variants.{Fine, Refused}
 use Rattle.reading.specs.Verdicts.{numbered, outcome}

@@ -1,13 +1,12 @@
 // A group read once, straight into its row: the members of a PDI in a Create PDR with it. One reader for all six groups: which members
 // have a place, which are required, and the word and the width of a plain member are tables.
 use crate::Verdict;
-use element::fteid::Answer;
-use element::ueip;
-use element::ueip::UeIp;
 use format::causes;
 use format::types;
 use format::words;
 use frame::First;
+use fteid::Answer;
+use ue_ip::UeIp;
 ghost use mathlib.Core.Path.{_≡_};
 ghost use Prim.Native.Nat.{_+_, _≤_, _<_, _^_};
 ghost use lib.Dec.{eqb};
@@ -83,7 +82,7 @@ fn read_fteid(v: &[u8], endpoint: bool, place: usize, row: &mut [u64]) -> Verdic
     requires { ⌜ Tidy (now row) ⌝ }
     ensures { λ r. ⌜ Reads (fteidRead place (readFteid endpoint (now (v .entry))) (rowMembers (now (row .entry)))) (now (row .exit)) r ⌝ }
 {
-    let answer = element::fteid::read(v, endpoint);
+    let answer = fteid::read(v, endpoint);
     let Answer::Value(x) = answer else {
         return refused(answer, place);
     };
@@ -123,14 +122,14 @@ fn read_ue(v: &[u8], place: usize, row: &mut [u64]) -> Verdict
     requires { ⌜ Tidy (now row) ⌝ }
     ensures { λ r. ⌜ Reads (ueRead place (readUeIp (now (v .entry))) (rowMembers (now (row .entry)))) (now (row .exit)) r ⌝ }
 {
-    let answer = element::ueip::read(v);
+    let answer = ue_ip::read(v);
     match answer {
-        ueip::Answer::Refused(refusal) => Verdict::Refused(
+        ue_ip::Answer::Refused(refusal) => Verdict::Refused(
             element::cause_of(refusal),
             types::UE_IP_ADDRESS,
             place,
         ),
-        ueip::Answer::Value(x) => {
+        ue_ip::Answer::Value(x) => {
             row[words::UE_KIND] = kind_of(x);
             row[words::UE_ADDRESS] = address_of(x);
             Verdict::Fine

@@ -18,8 +18,8 @@ use Rattle.rules.specs.Reading.{csidCountAllowed}
 use Rattle.rules.specs.Request.{setsCsid, clearsCsids}
 use Rattle.rules.specs.Message.{modification}
 use Rattle.plan.specs.Rows.{rowAddress}
-use Rattle.element.specs.FqCsid.{addressWidths, csidWidths, csidNumbers, csidAddress, fqcsidTests, fqcsidMeant, fqcsidOf}
-use Rattle.element.specs.declared.fqcsid.FqCsid.{FqCsid}
+use Rattle.fqcsid.specs.Meaning.{addressWidths, csidWidths, csidNumbers, csidAddress, fqcsidTests, fqcsidMeant, fqcsidOf}
+use Rattle.fqcsid.specs.declared.FqCsid.{FqCsid}
 use Rattle.request.specs.Items.{csidItem, itemOf, rowItem}
 use Rattle.request.specs.Csids.{csidCountFits, bareCsid, csidWords, csidTaken}
 

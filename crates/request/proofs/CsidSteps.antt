@@ -27,8 +27,8 @@ use Rattle.request.specs.declared.items.Draft.{Draft}
 use Rattle.request.specs.declared.items.Step.{Step}
 use Rattle.request.specs.declared.items.Step.the-variants.{Fault, Next}
 use Rattle.request.specs.Csids.{csidCountFits, bareCsid, csidWords, csidTaken}
-use Rattle.element.specs.FqCsid.{fqcsidOf}
-use Rattle.element.specs.declared.fqcsid.FqCsid.{FqCsid}
+use Rattle.fqcsid.specs.Meaning.{fqcsidOf}
+use Rattle.fqcsid.specs.declared.FqCsid.{FqCsid}
 use Rattle.request.proofs.CsidLaws.{meant-node, meant-small, meant-count, csid-row, null-row}
 use Rattle.request.proofs.DraftLaws.{step-fault, went, row-added, node-added}
 

@@ -11,11 +11,11 @@ use Rattle.rules.specs.Elements.{causeOf}
 use Rattle.rules.specs.Message.{modification}
 use Rattle.plan.specs.Rows.{rowWidth}
 use Rattle.element.specs.Answers.{refusalOf}
-use Rattle.element.specs.declared.fqcsid.FqCsid.{FqCsid}
-use Rattle.element.specs.declared.fqcsid.Answer as answer
-use Rattle.element.specs.declared.fqcsid.Answer.the-variants as answer-case
-use Rattle.element.specs.declared.fseid.Answer as seid
-use Rattle.element.specs.declared.fseid.Answer.the-variants as seid-case
+use Rattle.fqcsid.specs.declared.FqCsid.{FqCsid}
+use Rattle.fqcsid.specs.declared.Answer as answer
+use Rattle.fqcsid.specs.declared.Answer.the-variants as answer-case
+use Rattle.fseid.specs.declared.Answer as seid
+use Rattle.fseid.specs.declared.Answer.the-variants as seid-case
 use Rattle.request.specs.declared.items.Draft.{Draft}
 use Rattle.request.specs.declared.items.Step.{Step}
 use Rattle.request.specs.declared.items.Step.the-variants.{Fault, Next}

@@ -1,9 +1,9 @@
 // Stage 3 at the top of a message: its elements in turn, each read once.
-use element::fseid::Answer;
 use format::causes;
 use format::kinds;
 use format::types;
 use frame::First;
+use fseid::Answer;
 ghost use mathlib.Core.Path.{_≡_};
 ghost use Prim.Native.Nat.{_+_, _≤_, _<_, _^_};
 ghost use lib.ListN.{length};
@@ -47,7 +47,7 @@ fn read_seid(v: &[u8], place: usize, d: Draft) -> Step
     if d.seid != 0 {
         return Step::Fault(causes::INCORRECT, types::FSEID, place);
     }
-    let answer = element::fseid::read(v);
+    let answer = fseid::read(v);
     let Answer::Value(seid) = answer else {
         return refused(answer, place, d);
     };

@@ -1,12 +1,12 @@
 // The rows of a request: a group or an FQ-CSID is read into its row, which is put into the plan once it has no fault.
 use crate::items::Draft;
 use crate::items::Step;
-use element::fqcsid::Answer;
-use element::fqcsid::FqCsid;
 use format::causes;
 use format::kinds;
 use format::types;
 use format::words;
+use fqcsid::Answer;
+use fqcsid::FqCsid;
 use reading::Verdict;
 ghost use mathlib.Core.Path.{_≡_};
 ghost use mathlib.Core.Bool.{true, false, _&&_};
@@ -190,7 +190,7 @@ pub(crate) fn read_csid(
     if is_clearing(s, v, message) {
         return Step::Next(put_csid(bare(3, 0), words, d));
     }
-    let answer = element::fqcsid::read(v);
+    let answer = fqcsid::read(v);
     let Answer::Value(x) = answer else {
         return csid_refused(answer, place, d);
     };

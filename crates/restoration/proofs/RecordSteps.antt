@@ -23,10 +23,10 @@ use Rattle.rules.specs.Reply.{element, unitElement, addressPart}
 use Rattle.rules.specs.Restoration.{matchElement, farElement, pdiContent, pdrContent, pdrElement, endpointContent, endpointElement, recordCsid, csidElement}
 use Rattle.rules.specs.Types as ie
 use Rattle.laws.proofs.LayoutLaws.{csid-address}
-use Rattle.element.specs.declared.fqcsid.FqCsid.{FqCsid}
-use Rattle.element.specs.FqCsid.{addressWidths, csidWidths, fqcsidWidths, fqcsidNumbers}
-use Rattle.element.proofs.FqCsidLaws.{eight-widths}
-use Rattle.element.proofs.FqCsidWriting.{octets-split}
+use Rattle.fqcsid.specs.declared.FqCsid.{FqCsid}
+use Rattle.fqcsid.specs.Meaning.{addressWidths, csidWidths, fqcsidWidths, fqcsidNumbers}
+use Rattle.fqcsid.proofs.ValueLaws.{eight-widths}
+use Rattle.fqcsid.proofs.WriteLaws.{octets-split}
 use Rattle.unit.specs.declared.Settings.{Settings as Unit}
 use Rattle.unit.specs.Meaning.{settingsOf}
 use Rattle.writing.specs.Placed.{Placed}

@@ -15,7 +15,7 @@ use Rattle.rules.specs.Layout.{pdrWidth, endpointWidth, csidWidth, viewArea, vi
 use Rattle.rules.specs.Restoration.{pdrElement, endpointElement, csidElement, recordElements}
 use Rattle.rules.specs.Types as ie
 use Rattle.writing.specs.Placed.{Placed}
-use Rattle.element.proofs.FSeidLaws.{length-fseid}
+use Rattle.fseid.proofs.ValueLaws.{length-fseid}
 use Rattle.writing.proofs.PlacedLaws.{length-element, placed-then}
 use Rattle.restoration.specs.Records.{recordWidth, recordElement, recordFits, areaFits, content}
 

@@ -16,8 +16,8 @@ use Rattle.rules.specs.Layout.{viewPdr, viewEndpoint, viewCsid, pdrWidth, csidW
 use Rattle.rules.specs.Reply.{element}
 use Rattle.rules.specs.Restoration.{pdrElement, endpointElement, recordCsid, csidElement, recordElements}
 use Rattle.rules.specs.Types as ie
-use Rattle.element.specs.declared.fqcsid.FqCsid.{FqCsid}
-use Rattle.element.specs.FqCsid.{fqcsidWidths, fqcsidNumbers}
+use Rattle.fqcsid.specs.declared.FqCsid.{FqCsid}
+use Rattle.fqcsid.specs.Meaning.{fqcsidWidths, fqcsidNumbers}
 
 -- a kind of record is named by the type of its element: PDRs, endpoints, any other FQ-CSIDs
 unfoldable pub recordWidth : ℕ → ℕ

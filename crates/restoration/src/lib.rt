@@ -19,10 +19,10 @@ ghost use Rattle.unit.specs.Meaning.{settingsOf};
 ghost use Rattle.writing.specs.Placed.{Placed};
 ghost use Rattle.restoration.specs.Records.{recordWidth, recordElement, recordFits, CsidOf, SlotFits, content};
 ghost use Rattle.restoration.specs.Answers.{writingOf, Ready};
-use element::fqcsid::FqCsid;
 use format::header;
 use format::kinds;
 use format::types;
+use fqcsid::FqCsid;
 use unit::Settings;
 
 // What a PDR matches on: its F-TEID with the unit's addresses, its endpoint's ID, or nothing.
@@ -131,7 +131,7 @@ fn csid_of(csid: &[u8]) -> FqCsid
     ensures { λ r. ⌜ CsidOf (now (csid .entry)) r ⌝ }
 {
     let id_type = csid[format::CSID_ID_TYPE] as u64;
-    let n = element::fqcsid::address_length(id_type);
+    let n = fqcsid::address_length(id_type);
     let half = 8 * (n / 16);
     let high = octets::read(csid, format::CSID_ADDRESS, half);
     let low = octets::read(csid, format::CSID_ADDRESS + half, n - half);
@@ -155,7 +155,7 @@ fn write_csid(csid: &[u8], out: &mut [u8], at: usize) -> usize
     ensures { λ r. ⌜ Placed (now (out .entry)) at (csidElement (viewCsid (now (csid .entry)))) r (now (out .exit)) ⌝ }
 {
     let v = csid_of(csid);
-    let end = element::fqcsid::write_at(v, out, at + 4);
+    let end = fqcsid::write_at(v, out, at + 4);
     writing::write_head(types::FQCSID, end - (at + 4), out, at);
     end
 }

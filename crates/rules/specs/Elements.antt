@@ -30,17 +30,17 @@ pub data Answer (A : Type 0) : Type 0 where
   refuse : Refusal → Answer A
   value : A → Answer A
 
--- what a writer leaves: how many octets it wrote, 0 where it refused, and the space at exit
+-- what a writer leaves: how many octets it wrote, none where it refused, and the space at exit
 pub record Written : Type 0 where
-  pub count : ℕ
+  pub count : Option ℕ
   pub space : List ℕ
 
 -- octets written at the front of the space if they are allowed and fit; else nothing is written
 unfoldable pub writeIf : Bool → List ℕ → List ℕ → Written
 writeIf allowed xs space =
     pick (allowed && leb (length xs) (length space))
-    (record { count = length xs; space = put 0 xs space })
-    (record { count = 0; space = space })
+    (record { count = some (length xs); space = put 0 xs space })
+    (record { count = none; space = space })
 
 -- ---- F-TEID
 

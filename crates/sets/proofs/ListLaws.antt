@@ -20,11 +20,11 @@ use Rattle.rules.specs.Reading.{Reading, faulty, done, refusalAt, andThen, name
 use Rattle.rules.specs.Causes as why
 use Rattle.laws.proofs.MessageLaws.{el}
 use Rattle.element.specs.Answers.{refusalOf}
-use Rattle.element.specs.FqCsid.{fqcsidTests, fqcsidMeant, fqcsidOf, fqcsidAnswer}
+use Rattle.fqcsid.specs.Meaning.{fqcsidTests, fqcsidMeant, fqcsidOf, fqcsidAnswer}
 use Rattle.element.specs.declared.Refusal as codes
-use Rattle.element.specs.declared.fqcsid.Answer as code
-use Rattle.element.specs.declared.fqcsid.Answer.the-variants as answers
-use Rattle.element.specs.declared.fqcsid.FqCsid.{FqCsid}
+use Rattle.fqcsid.specs.declared.Answer as code
+use Rattle.fqcsid.specs.declared.Answer.the-variants as answers
+use Rattle.fqcsid.specs.declared.FqCsid.{FqCsid}
 use Rattle.reading.specs.Verdicts.{numbered, outcome}
 use Rattle.reading.specs.declared.Verdict.{Verdict}
 use Rattle.reading.specs.declared.Verdict.the-variants.{Fine, Refused}

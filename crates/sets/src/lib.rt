@@ -1,7 +1,7 @@
 // Session sets (02 (vii)): the FQ-CSIDs that a Session Set Deletion Request lists, and the sessions that go.
-use element::fqcsid::Answer;
 use format::causes;
 use format::types;
+use fqcsid::Answer;
 use frame::First;
 use reading::Verdict;
 ghost use mathlib.Core.Path.{_≡_};
@@ -29,7 +29,7 @@ fn element_fault(kind: u64, v: &[u8], place: usize) -> Verdict
     if kind != types::FQCSID {
         return Verdict::Fine;
     }
-    match element::fqcsid::read(v) {
+    match fqcsid::read(v) {
         Answer::Refused(refusal) => {
             Verdict::Refused(element::cause_of(refusal), types::FQCSID, place)
         }
@@ -86,7 +86,7 @@ fn covers(v: &[u8], slot: &[u8]) -> bool
     requires { ⌜ Sized (now v) × (length (now slot) ≡ csidWidth) ⌝ }
     ensures { λ r. ⌜ r ≡ covers (listedIn (now (v .entry))) (viewCsid (now (slot .entry))) ⌝ }
 {
-    let a = element::fqcsid::address_length((v[0] / 16) as u64);
+    let a = fqcsid::address_length((v[0] / 16) as u64);
     let m = (v[0] % 16) as usize;
     if v[1 + a + 2 * m] % 16 != slot[0] {
         return false;

@@ -10,10 +10,6 @@ use Rattle.unit.specs.declared.Settings.{Settings as Unit}
 use Rattle.unit.specs.Meaning.{settingsOf}
 
 module _ (u : Unit) where
-  pub ipv4-is : settingsOf u .ipv4 ≡ be 4 (u .ipv4)
-  unfolding settingsOf
-  ipv4-is = refl
-
   pub ipv6-there : not (isNil (settingsOf u .ipv6)) ≡ u .«has_ipv6»
   unfolding settingsOf be
   ipv6-there = one (u .«has_ipv6»)

@@ -1,14 +1,10 @@
 // Runs document 01's worked values of the elements and more rows of the same kind: reads each, prints the numbers of the value and
 // the octets written of it, or the cause; then writes values, allowed and not, into spaces of several lengths.
 use element::Written;
-use element::fqcsid;
-use element::fqcsid::FqCsid;
-use element::fseid;
-use element::fteid;
-use element::fteid::FTeid;
-use element::ueip;
-use element::ueip::UeIp;
+use fqcsid::FqCsid;
+use fteid::FTeid;
 use libc::STDOUT_FILENO;
+use ue_ip::UeIp;
 ghost use mathlib.Core.Path.{_≡_};
 ghost use mathlib.Core.Bool.{false};
 ghost use Rattle.rules.specs.Elements.{readFteid, readFqcsid};
@@ -133,9 +129,9 @@ fn kind(v: UeIp) {
 }
 
 fn address(s: &[u8]) {
-    let a = ueip::read(s);
-    let ueip::Answer::Value(v) = a else {
-        refused(ueip::cause_of(a));
+    let a = ue_ip::read(s);
+    let ue_ip::Answer::Value(v) = a else {
+        refused(ue_ip::cause_of(a));
         return;
     };
     kind(v);
@@ -160,7 +156,7 @@ fn write_seid(n: u64, out: &mut [u8]) {
 }
 
 fn write_address(v: UeIp, out: &mut [u8]) {
-    let w = ueip::write(v, out);
+    let w = ue_ip::write(v, out);
     written(w, out);
 }
 

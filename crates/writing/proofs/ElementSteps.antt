@@ -20,10 +20,10 @@ use Rattle.rules.specs.Elements.{given, fteidOctets, unitFteid, ueGiven, ueOcte
 use Rattle.rules.specs.Reply.{element, message, nodeIdElement, offendingElement, unitFseid, unitElement, addressPart, listMessage}
 use Rattle.rules.specs.Types as ie
 use Rattle.rules.specs.Message.{establishment, setDeletion, firstWithSeid, firstWithoutSeid, countedPlace, bodyPlace, listPlace}
-use Rattle.element.specs.FTeid.{fteidWidths}
-use Rattle.element.proofs.FTeidLaws.{six, octets-given}
-use Rattle.element.proofs.UeIpLaws.{length-given}
-use Rattle.element.proofs.FSeidLaws.{length-fseid}
+use Rattle.fteid.specs.Meaning.{fteidWidths}
+use Rattle.fteid.proofs.ValueLaws.{six, octets-given}
+use Rattle.ue_ip.proofs.ValueLaws.{length-given}
+use Rattle.fseid.proofs.ValueLaws.{length-fseid}
 use Rattle.unit.specs.declared.Settings.{Settings as Unit}
 use Rattle.unit.specs.Meaning.{settingsOf}
 use Rattle.writing.specs.Families.{familiesWritten, unitAddresses, tunnelIn}

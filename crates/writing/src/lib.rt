@@ -15,10 +15,10 @@ ghost use Rattle.unit.specs.Meaning.{settingsOf};
 ghost use Rattle.writing.specs.Families.{familiesWritten, unitAddresses, tunnelIn};
 ghost use Rattle.writing.specs.Placed.{Placed};
 ghost use Rattle.writing.specs.Heads.{messageHead, listHead};
-use element::fteid::FTeid;
 use format::header;
 use format::kinds;
 use format::types;
+use fteid::FTeid;
 use unit::Settings;
 
 // Type and length.
@@ -95,7 +95,7 @@ pub fn write_fseid(seid: u64, ipv4: &[u8], ipv6: &[u8], out: &mut [u8], at: usiz
     requires { ⌜ at + 13 + length (now ipv4) + length (now ipv6) ≤ length (now out) ⌝ }
     ensures { λ r. ⌜ Placed (now (out .entry)) at (element ie.fseid (fseidOctets seid (now (ipv4 .entry)) (now (ipv6 .entry)))) r (now (out .exit)) ⌝ }
 {
-    let end = element::fseid::write_at(seid, ipv4, ipv6, out, at + 4);
+    let end = fseid::write_at(seid, ipv4, ipv6, out, at + 4);
     write_head(types::FSEID, end - (at + 4), out, at);
     end
 }
@@ -137,7 +137,7 @@ pub fn write_fteid(u: Settings, teid: u64, families: u64, out: &mut [u8], at: us
         ipv6_low: u.low,
         choose_id: 0,
     };
-    let end = element::fteid::write_at(v, out, at + 4);
+    let end = fteid::write_at(v, out, at + 4);
     write_head(types::FTEID, end - (at + 4), out, at);
     end
 }
@@ -147,7 +147,7 @@ pub fn write_ue_address(address: u64, out: &mut [u8], at: usize) -> usize
     requires { ⌜ at + 9 ≤ length (now out) ⌝ }
     ensures { λ r. ⌜ Placed (now (out .entry)) at (addressPart (some address)) r (now (out .exit)) ⌝ }
 {
-    let end = element::ueip::write_at(address, out, at + 4);
+    let end = ue_ip::write_at(address, out, at + 4);
     write_head(types::UE_IP_ADDRESS, end - (at + 4), out, at);
     end
 }

@@ -2,10 +2,10 @@
 -- Assumes nothing.
 use mathlib.Core.Path.{ap, _∙_}
 use borrow.Author.Needs.{needs}
-use Rattle.element.specs.FTeid as fteid
-use Rattle.element.specs.FqCsid as fqcsid
-use Rattle.element.proofs.FTeidLaws as tunnel
-use Rattle.element.proofs.FqCsidLaws as csid
+use Rattle.fteid.specs.Meaning as fteid
+use Rattle.fqcsid.specs.Meaning as fqcsid
+use Rattle.fteid.proofs.ValueLaws as tunnel
+use Rattle.fqcsid.proofs.ValueLaws as csid
 use Rattle.vectors.proofs.first_refusal.Statement.{statement}
 use Rattle.vectors.proofs.first_refusal.Tie as tie
 

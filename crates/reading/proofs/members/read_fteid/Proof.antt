@@ -3,7 +3,7 @@ use mathlib.Core.Path.{sym, ap, _∙_}
 use native.Mathlib.Omega.{arith}
 use lib.ListN.{length-set}
 use borrow.Author.Needs.{needs}
-use Rattle.element.specs.FTeid.{fteidAnswer}
+use Rattle.fteid.specs.Meaning.{fteidAnswer}
 use Rattle.reading.specs.Rows.{fteidRefusal}
 use Rattle.reading.proofs.MemberLaws.{fteid-refused, fteid-value}
 use Rattle.reading.proofs.members.read_fteid.Statement.{statement}

@@ -1,7 +1,7 @@
 -- `read_ue` meets its contract, by the arms of its match. Assumes nothing.
 use mathlib.Core.Path.{sym, ap, _∙_}
 use borrow.Author.Needs.{needs}
-use Rattle.element.specs.UeIp.{ueAnswer}
+use Rattle.ue_ip.specs.Meaning.{ueAnswer}
 use Rattle.reading.proofs.MemberLaws.{ue-refused, ue-value}
 use Rattle.reading.proofs.members.read_ue.Statement.{statement}
 use Rattle.reading.proofs.members.read_ue.Tie as tie

@@ -1,6 +1,6 @@
 -- `read_seid` meets its contract. Assumes nothing.
 use mathlib.Core.Path.{sym, ap, _∙_}
-use Rattle.element.specs.FSeid.{fseidAnswer}
+use Rattle.fseid.specs.Meaning.{fseidAnswer}
 use Rattle.request.specs.Csids.{seidRefusal}
 use Rattle.request.proofs.HeadSteps.{seid-repeat, seid-refused, seid-value}
 use borrow.Author.Needs.{needs}

@@ -4,7 +4,7 @@ use native.Mathlib.Omega.{arith}
 use borrow.Author.Tests.{not-true, not-false}
 use Rattle.rules.specs.Message.{bodyPlace, elements}
 use Rattle.rules.specs.Reading.{aloneIn}
-use Rattle.element.specs.FqCsid.{fqcsidAnswer}
+use Rattle.fqcsid.specs.Meaning.{fqcsidAnswer}
 use Rattle.request.specs.Csids.{csidRefusal}
 use Rattle.request.proofs.CsidSteps.{csid-clears, csid-refused, node-small, csid-count, csid-repeat, csid-taken}
 use borrow.Author.Needs.{needs}
