@@ -21,8 +21,8 @@ use Rattle.rules.specs.Causes as why
 use Rattle.laws.proofs.RequestLaws.{RequestRead, request-read}
 use Rattle.laws.proofs.GrantLaws.{choices-few}
 use Rattle.invariants.proofs.VerdictLaws.{Passed, passed, few-new-pdrs, few-new-endpoints}
-use Rattle.invariants.proofs.KeptRules.{RulesKept, rules-kept}
-use Rattle.invariants.proofs.ServeLaws.{TableKept, table-kept}
+use Rattle.laws.proofs.KeptRequest.{RulesKept}
+use Rattle.laws.proofs.KeptRules.{TableKept, table-kept}
 use Rattle.invariants.proofs.FreeTeids.{held-in-pool}
 use Rattle.pool.proofs.TakenLaws.{Means, map-means}
 use Rattle.pool.proofs.AddressLaws.{address-map-means}
@@ -66,7 +66,7 @@ module _ {u : Unit} {t : List ℕ} {who : ℕ} {words ips msg slot gone plan out
   passes = passed s who m msg (ap (λ (v : Verdict). v .cause) (a .verdict))
 
   rules : RulesKept s m (entrySession who m msg) q
-  rules = subst (λ (r : Request). RulesKept s m (entrySession who m msg) r) (a .means) (rules-kept s m (entrySession who m msg) (readRequest msg) (passes .rules))
+  rules = subst (λ (r : Request). RulesKept s m (entrySession who m msg) r) (a .means) (passes .rules)
 
   read : RequestRead q
   read = subst RequestRead (a .means) (request-read msg (a .asked .octets))

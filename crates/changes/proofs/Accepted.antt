@@ -18,7 +18,7 @@ use Rattle.rules.specs.Apply.{madePdr, madeEndpoint, keptPdr, keptEndpoint}
 use Rattle.plan.specs.Rows.{tagged, rowEndpointId, rowPdr, rowEndpoint, requestIn}
 use Rattle.rules.specs.Types as ie
 use Rattle.invariants.proofs.VerdictLaws.{Passed}
-use Rattle.invariants.proofs.KeptRules.{RulesKept, rules-kept, RoomLeft, room-left}
+use Rattle.laws.proofs.KeptRequest.{RulesKept, RoomLeft}
 use Rattle.invariants.proofs.InsertLaws.{removed-length}
 use Rattle.invariants.proofs.RemovedPdrs.{removed-few}
 use Rattle.octets.proofs.MemberLaws.{all-in}
@@ -61,10 +61,10 @@ module _ (s : Settings) (who : ℕ) (m : Sessions) (msg : List ℕ) (p : Passed 
   r = requestIn seid restoring noted rows
 
   rules : RulesKept s m x r
-  rules = subst (λ (q : Request). RulesKept s m x q) means (rules-kept s m x (readRequest msg) (p .rules))
+  rules = subst (λ (q : Request). RulesKept s m x q) means (p .rules)
 
   room : RoomLeft (kindOf msg) s who m x r
-  room = subst (λ (q : Request). RoomLeft (kindOf msg) s who m x q) means (room-left (kindOf msg) s who m x (readRequest msg) (p .room))
+  room = subst (λ (q : Request). RoomLeft (kindOf msg) s who m x q) means (p .room)
 
   endpoint-room : length (keep (keptEndpoint (map rowEndpointId (tagged ie.removeEndpoint rows))) (x .endpoints)) + length (tagged ie.createEndpoint rows) ≤ 8
   unfolding keptEndpoint requestIn

@@ -13,18 +13,17 @@ use lib.ListN.{length, getD}
 use Rattle.octets.specs.Choice.{isSome}
 use Rattle.octets.specs.Octets.{be, numberAt, octetAt, part, put, zeros, slices}
 use Rattle.octets.specs.Lists.{all}
-use Rattle.octets.proofs.Tests.{each}
 use Rattle.octets.proofs.Numbers.{number-be}
 use Rattle.octets.proofs.ListLaws.{all-every, found-knows}
 use Rattle.rules.specs.Model.{Settings, Session, Sessions, isPeer, keyFor}
 use Rattle.rules.specs.Layout.{sessionOctets, encode, viewSession, viewArea, viewSettings, viewSessions, sessionWidth, tableLength}
-use Rattle.rules.specs.Sound.{sound, sessionAllowed, sessionsTests, sessionsAllowed}
+use Rattle.rules.specs.Sound.{sound, sessionAllowed}
 use Rattle.rules.specs.Message.{kindOf, headerSeid, establishment, setDeletion}
 use Rattle.rules.specs.Reading.{readRequest}
 use Rattle.rules.specs.Stages.{hasKey, sessionOf, isLive, newSession, atEntry, entrySession, unnamed}
 use Rattle.laws.proofs.LayoutLaws.{session-back}
 use Rattle.laws.proofs.PeerLaws.{peer-cases}
-use Rattle.invariants.proofs.ServeLaws.{TableKept, table-kept}
+use Rattle.laws.proofs.KeptRules.{TableKept, table-kept, sessions-kept}
 use Rattle.areas.specs.declared.Lookup.{Lookup}
 use Rattle.areas.specs.declared.Lookup.the-variants.{Found, Absent}
 use Rattle.areas.specs.declared.Area.{Area}
@@ -78,8 +77,7 @@ module _ (t : List ℕ) (h : T (sound t)) where
       sym (ap isSome (session-absent s (kept .settings) m (kept .sessions) (pairKey who n) p (at-place (pairKey who n) room r (Absent p) l e d)))
 
   each-allowed : T (all (sessionAllowed s) m)
-  unfolding sessionsAllowed sessionsTests
-  each-allowed = each (sessionsTests s m) (kept .sessions) .1 .1 .0
+  each-allowed = sessions-kept s m (kept .sessions) .sessions
 
   live-allowed : (n : ℕ) (x : Session) → sessionOf n m ≡ some x → T (sessionAllowed s x)
   unfolding sessionOf

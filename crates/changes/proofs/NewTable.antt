@@ -25,7 +25,7 @@ use Rattle.rules.specs.Serve.{sessionsAfter}
 use Rattle.laws.proofs.LayoutLaws.{csid-address-length, address-short}
 use Rattle.invariants.proofs.VerdictLaws.{Passed}
 use Rattle.laws.proofs.PeerLaws.{all-sessions}
-use Rattle.invariants.proofs.KeptRules.{SessionKept, pdr-kept, endpoint-kept, csid-kept}
+use Rattle.laws.proofs.KeptRules.{SessionKept, pdr-kept, endpoint-kept, csid-kept}
 use Rattle.invariants.proofs.Changed.{entry-sound, changed-sound}
 use Rattle.invariants.proofs.After.{changed, ChangedSound, sound-after}
 use Rattle.invariants.proofs.Accepting.{SoundAfter}
@@ -64,15 +64,15 @@ pub slot-holds : (s : Settings) (x : Session) (slot : List ℕ) → SessionKept 
 slot-holds s x slot k e =
     record {
       octets = e;
-      pdrsFit = pdrs-fit s (map endpointId (x .endpoints)) (x .pdrs) (k .pdrs);
-      pdrsFew = leb→le (length (x .pdrs)) maxPdrs (k .fewPdrs);
-      pdrsUp = k .pdrOrder;
-      endpointsFit = endpoints-fit s (x .endpoints) (k .endpoints);
-      endpointsFew = leb→le (length (x .endpoints)) maxEndpoints (k .fewEndpoints);
-      endpointsUp = k .endpointOrder;
-      csidsFit = csids-fit (x .csids) (k .csids);
-      csidsFew = leb→le (length (x .csids)) nodeTypes (k .fewCsids);
-      csidsUp = k .csidOrder;
+      pdrsFit = pdrs-fit s (map endpointId (x .endpoints)) (x .pdrs) (k .records .pdrs);
+      pdrsFew = leb→le (length (x .pdrs)) maxPdrs (k .records .fewPdrs);
+      pdrsUp = k .records .pdrOrder;
+      endpointsFit = endpoints-fit s (x .endpoints) (k .records .endpoints);
+      endpointsFew = leb→le (length (x .endpoints)) maxEndpoints (k .records .fewEndpoints);
+      endpointsUp = k .records .endpointOrder;
+      csidsFit = csids-fit (x .csids) (k .records .csids);
+      csidsFew = leb→le (length (x .csids)) nodeTypes (k .records .fewCsids);
+      csidsUp = k .records .csidOrder;
     }
 
 module _ (s : Settings) (hs : T (settingsAllowed s)) (who : ℕ) (hw : T (isPeer who)) (m : Sessions) (hm : T (sessionsAllowed s m)) (msg : List ℕ) (ho : T (octets msg)) (hk : T (served (kindOf msg)))

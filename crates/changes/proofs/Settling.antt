@@ -1,23 +1,23 @@
 -- Stages 4 to 6 of a request that was read: what the code's cause means.
 -- Assumes nothing.
 use mathlib.Core.Path.{_≡_, sym, ap, _∙_, subst}
-use mathlib.Core.Bool.{Bool, true, false, _&&_}
+use mathlib.Core.Bool.{Bool, _&&_}
 use mathlib.Core.List.{List}
 use Prim.Native.Nat.{ℕ, _+_, _≤_, _<_, _^_}
 use native.Mathlib.Omega.{arith}
-use lib.Dec.{T, eqb, leb→le}
-use Rattle.octets.specs.Choice.{pick}
-use Rattle.octets.proofs.Tests.{each}
+use lib.Dec.{T, ltb→lt, ltb}
+use Rattle.octets.specs.Lists.{all}
 use Rattle.rules.specs.Limits.{maxPool, maxAddresses}
-use Rattle.rules.specs.Model.{Settings, Session, Sessions, heldTeids, heldAddresses, keyFor}
+use Rattle.rules.specs.Model.{Settings, Session, Sessions, heldTeids, heldAddresses}
 use Rattle.rules.specs.Layout.{viewSession, viewSettings, viewSessions}
-use Rattle.rules.specs.Sound.{poolTests, addressPoolTests, settingsTests, settingsAllowed}
-use Rattle.rules.specs.Message.{establishment}
+use Rattle.rules.specs.Sound.{settingsAllowed}
 use Rattle.rules.specs.Reading.{readRequest}
 use Rattle.rules.specs.Request.{Request}
-use Rattle.rules.specs.Stages.{removedPdrs, entrySession, Verdict, plain, isLive, invalidAllocation, breaksRule, roomLacks, addressLacks, judge, judged}
+use Rattle.rules.specs.Stages.{removedPdrs, entrySession, Verdict, plain, judge, judged, reasons}
 use Rattle.rules.specs.Causes as why
-use Rattle.invariants.proofs.ServeLaws.{TableKept, table-kept}
+use Rattle.laws.proofs.ReasonLaws.{first-passes}
+use Rattle.laws.proofs.KeptSettings.{settings-kept}
+use Rattle.laws.proofs.KeptRules.{TableKept, table-kept}
 use Rattle.invariants.proofs.FreeTeids.{held-in-pool}
 use Rattle.pool.proofs.TakenLaws.{Means, map-means}
 use Rattle.pool.proofs.AddressLaws.{address-map-means}
@@ -35,46 +35,20 @@ use Rattle.changes.specs.Steps.{Counted, Entered, Readable}
 
 -- a cause is one octet
 judge-small : (kind : ℕ) (s : Settings) (who : ℕ) (m : Sessions) (x : Session) (r : Request) → judge kind s who m x r .cause < 256
-unfolding judge
-judge-small kind s who m x r = one (eqb kind establishment && isLive (keyFor who (r .seid)) m) (invalidAllocation r) (r .unsupported) (breaksRule s m x r) (roomLacks kind s who m x r) (addressLacks s m r)
-  where
-    one : (a b c d e f : Bool)
-        → pick a (plain why.rejected) (pick b (plain why.wrongAllocation) (pick c (plain why.notSupported) (pick d (plain why.brokenRule) (pick e (plain why.noRoom) (pick f (plain why.noAddress) (plain why.accepted)))))) .cause < 256
-    one true b c d e f = omega arith
-    one false true c d e f = omega arith
-    one false false true d e f = omega arith
-    one false false false true e f = omega arith
-    one false false false false true f = omega arith
-    one false false false false false true = omega arith
-    one false false false false false false = omega arith
+unfolding judge reasons all
+judge-small kind s who m x r = ltb→lt (judge kind s who m x r .cause) 256 (first-passes (λ n. ltb n 256) (reasons kind s who m x r) tt tt)
 
 pool-small : (s : Settings) → T (settingsAllowed s) → s .size ≤ maxPool
-unfolding settingsAllowed settingsTests poolTests
-pool-small s h =
-    let tests = each (settingsTests s) h in
-    let pool = each (poolTests (s .first) (s .size)) (tests .1 .1 .1 .1 .0) in
-    leb→le (s .size) maxPool (pool .1 .1 .0)
+pool-small s h = settings-kept s h .pool .few
 
 pool-below : (s : Settings) → T (settingsAllowed s) → s .first < 2 ^ 32
-unfolding settingsAllowed settingsTests poolTests
-pool-below s h =
-    let tests = each (settingsTests s) h in
-    let pool = each (poolTests (s .first) (s .size)) (tests .1 .1 .1 .1 .0) in
-    let some = leb→le 1 (s .size) (pool .1 .0) in
-    let last = leb→le (s .first + s .size) (2 ^ 32) (pool .1 .1 .1 .0) in
-    omega arith
+pool-below s h = omega (arith, settings-kept s h .pool .some, settings-kept s h .pool .last)
 
 addresses-few : (s : Settings) → T (settingsAllowed s) → s .addressCount ≤ maxAddresses
-unfolding settingsAllowed settingsTests addressPoolTests
-addresses-few s h = leb→le (s .addressCount) maxAddresses (each (addressPoolTests (s .firstAddress) (s .addressCount)) (each (settingsTests s) h .1 .1 .1 .1 .1 .0) .1 .0)
+addresses-few s h = settings-kept s h .addresses .few
 
 addresses-below : (s : Settings) → T (settingsAllowed s) → s .firstAddress < 2 ^ 32
-unfolding settingsAllowed settingsTests addressPoolTests
-addresses-below s h =
-    let pool = each (addressPoolTests (s .firstAddress) (s .addressCount)) (each (settingsTests s) h .1 .1 .1 .1 .1 .0) in
-    let some = leb→le 1 (s .addressCount) (pool .0) in
-    let last = leb→le (s .firstAddress + s .addressCount) (2 ^ 32) (pool .1 .1 .0) in
-    omega arith
+addresses-below s h = omega (arith, settings-kept s h .addresses .some, settings-kept s h .addresses .last)
 
 module _ {u : Unit} {t msg out plan words ips slot gone : List ℕ} {share : Share} {kind seid n left : ℕ} {restoring noted live : Bool} (r : Readable t (share .peer) msg out plan kind seid n restoring noted)
     (k : Counted u t words share ips left) (e : Entered t (share .peer) msg kind seid live slot) (g : Gone slot (rowsOf n plan) gone) where

@@ -14,13 +14,14 @@ use mir.Facts.{no-leb, no-ltb}
 use Rattle.octets.specs.Choice.{pick, mapOption}
 use Rattle.octets.specs.Lists.{keep, all, ascending, insertBy, insertAll, anyIn}
 use Rattle.octets.specs.Octets.{put}
-use Rattle.octets.proofs.Tests.{pick-yes, pick-no, each, all-head, all-tail, all-cons, no-eqb, ascending-head, ascending-tail}
+use Rattle.octets.proofs.Tests.{pick-yes, pick-no, all-head, all-tail, all-cons, no-eqb, ascending-head, ascending-tail}
 use Rattle.rules.specs.Model.{Settings, Tunnel, Match, neither, tunnel, endpoint, Pdr, Endpoint, Csid, Session, Sessions, endpointId, pdrId, nodeTypeOf, matchedTunnel, matchedEndpoint, sessionTeids, heldTeids, sessionAddresses, heldAddresses, keyFor, sessionKey, isPeer}
 use Rattle.rules.specs.Elements.{unitFteid, ueGiven}
 use Rattle.rules.specs.Limits.{maxMessage, minSpace}
 use Rattle.rules.specs.Layout.{encode}
-use Rattle.rules.specs.Sound.{settingsAllowed, tunnelAllowed, matchAllowed, pdrTests, pdrAllowed, endpointTests, endpointAllowed, sessionTests, sessionAllowed, sessionsAllowed, sound}
-use Rattle.laws.proofs.LayoutLaws.{pdrsOk, endpointsOk, tests}
+use Rattle.rules.specs.Sound.{settingsAllowed, tunnelAllowed, matchAllowed, pdrAllowed, endpointAllowed, sessionAllowed, sessionsAllowed, sound}
+use Rattle.laws.proofs.KeptRules.{pdr-kept, endpoint-kept, session-kept}
+use Rattle.laws.proofs.LayoutLaws.{pdrsOk, endpointsOk}
 use Rattle.laws.proofs.TableLaws.{sound-encode, encoded-settings, sessions-back}
 use Rattle.rules.specs.Message.{headerSeid, headerAllowed, served, frameFault, establishment, modification, deletion, setDeletion}
 use Rattle.rules.specs.Request.{Request}
@@ -106,32 +107,29 @@ module _ (s : Settings) (hs : T (settingsAllowed s)) where
   address-again n (some a) = refl
 
   pdrs-again : (got : Kind → ℕ → Got) (live : List ℕ) (ps : List Pdr) → T (all (pdrAllowed s live) ps) → map (madePdr got) (map (restoredPdr s) ps) ≡ ps
-  unfolding madePdr restoredPdr pdrAllowed pdrTests
+  unfolding madePdr restoredPdr
   pdrs-again got live [] h = refl
   pdrs-again got live (p ∷ ps) h =
-      let e = each (pdrTests s live p) (all-head (pdrAllowed s live) p ps h) in
-      λ i. pdrBy (restoredPdr s p) (match-again (got Kind.ofPdr (p .id) .teid) live (p .match) (e .1 .1 .1 .1 .0) i) (address-again (got Kind.ofPdr (p .id) .address) (p .address) i)
+      let e = pdr-kept s live p (all-head (pdrAllowed s live) p ps h) in
+      λ i. pdrBy (restoredPdr s p) (match-again (got Kind.ofPdr (p .id) .teid) live (p .match) (e .match) i) (address-again (got Kind.ofPdr (p .id) .address) (p .address) i)
       ∷ pdrs-again got live ps (all-tail (pdrAllowed s live) p ps h) i
 
   endpoints-again : (got : Kind → ℕ → Got) (es : List Endpoint) → T (all (endpointAllowed s) es) → map (madeEndpoint got) (map (restoredEndpoint s) es) ≡ es
-  unfolding madeEndpoint restoredEndpoint endpointAllowed endpointTests
+  unfolding madeEndpoint restoredEndpoint
   endpoints-again got [] h = refl
   endpoints-again got (e ∷ es) h =
-      λ i. record { id = e .id; local = tunnel-again (got Kind.ofEndpoint (e .id) .teid) (e .local) (each (endpointTests s e) (all-head (endpointAllowed s) e es h) .1 .0) i; address = address-again (got Kind.ofEndpoint (e .id) .address) (e .address) i }
+      λ i. record { id = e .id; local = tunnel-again (got Kind.ofEndpoint (e .id) .teid) (e .local) (endpoint-kept s e (all-head (endpointAllowed s) e es h) .local) i; address = address-again (got Kind.ofEndpoint (e .id) .address) (e .address) i }
       ∷ endpoints-again got es (all-tail (endpointAllowed s) e es h) i
 
   module _ (x : Session) (hx : T (sessionAllowed s x)) where
     up-pdrs : T (ascending (map pdrId (x .pdrs)))
-    unfolding sessionTests
-    up-pdrs = tests s hs x hx .1 .1 .1 .0
+    up-pdrs = session-kept s x hx .records .pdrOrder
 
     up-endpoints : T (ascending (map endpointId (x .endpoints)))
-    unfolding sessionTests
-    up-endpoints = tests s hs x hx .1 .1 .1 .1 .1 .1 .0
+    up-endpoints = session-kept s x hx .records .endpointOrder
 
     up-csids : T (ascending (map nodeTypeOf (x .csids)))
-    unfolding sessionTests
-    up-csids = tests s hs x hx .1 .1 .1 .1 .1 .1 .1 .1 .1 .0
+    up-csids = session-kept s x hx .records .csidOrder
 
     -- the request makes the session
     pub applied : (got : Kind → ℕ → Got) → apply got (restoredRequest s x) (newSession (x .peer) (x .seid)) ≡ x

@@ -8,21 +8,22 @@ use mathlib.Core.Bool.{Bool, true, false, not, _&&_, _||_}
 use mathlib.Core.Option.{none, some}
 use mathlib.Core.List.{List, [], _∷_, _++_, map}
 use lib.ListN.{length, length-map}
-use lib.Dec.{T, leb, ltb, leb·suc-zero}
+use lib.Dec.{T, leb, ltb}
 use mir.Facts.{no-ltb, no-leb}
 use Rattle.octets.specs.Choice.{pick, mapOption, bindOption, consOption, isNil, isSome}
 use Rattle.octets.specs.Lists.{collect, member, anyIn, allIn, hasRepeat, without, any, all, allPairs, ascending, keep, distinct}
-use Rattle.octets.proofs.Tests.{each, both, and-right, all-head, all-tail, is-true, is-false}
+use Rattle.octets.proofs.Tests.{both, and-right, all-head, all-tail, is-true, is-false}
 use Rattle.octets.proofs.Numbers.{same-refl}
 use Rattle.octets.proofs.ListLaws.{map-append, collect-map, map-collect}
-use Rattle.rules.specs.Model.{Settings, Tunnel, Match, neither, tunnel, endpoint, Pdr, Endpoint, Session, Sessions, Holding, endpointId, pdrId, matchedTunnel, matchedEndpoint, tunnelHolding, pdrHolding, endpointHolding, sessionHoldings, teidOf, sessionTeids, heldTeids, freeCount, endpointAddress, pdrAddress, inAddressPool, sessionAddresses, heldAddresses, freeAddresses, sessionKey, peerOf, otherPeer, half, ofPeer, holdings, unused}
+use Rattle.rules.specs.Model.{Settings, Tunnel, Match, neither, tunnel, endpoint, Pdr, Endpoint, Session, Sessions, Holding, endpointId, pdrId, matchedTunnel, matchedEndpoint, tunnelHolding, pdrHolding, endpointHolding, sessionHoldings, teidOf, sessionTeids, heldTeids, endpointAddress, pdrAddress, inAddressPool, sessionAddresses, heldAddresses, freeAddresses, sessionKey, peerOf, otherPeer, half, ofPeer, holdings, unused}
 use Rattle.rules.specs.Elements.{Fteid, unitFteid, hasV6, chooses, chooseIdOf, UeIp, ueGiven, ueAddressOf, ueChooses}
-use Rattle.rules.specs.Sound.{settingsAllowed, inPool, unitFamilies, tunnelTests, tunnelAllowed, matchAllowed, pdrTests, pdrAllowed, endpointTests, endpointAllowed, sessionTests, sessionAllowed, agree}
-use Rattle.laws.proofs.LayoutLaws.{pdrsOk, endpointsOk, fewPdrs, fewEndpoints, tests}
+use Rattle.rules.specs.Sound.{settingsAllowed, inPool, unitFamilies, tunnelAllowed, matchAllowed, pdrAllowed, endpointAllowed, sessionAllowed, agree}
+use Rattle.laws.proofs.KeptRules.{tunnel-kept, pdr-kept, endpoint-kept, session-kept}
+use Rattle.laws.proofs.LayoutLaws.{pdrsOk, endpointsOk, fewPdrs, fewEndpoints}
 use Rattle.laws.proofs.TableLaws.{ipv4-four}
 use Rattle.rules.specs.Request.{Request}
-use Rattle.rules.specs.Grants.{Kind, choiceOf, endpointChoice, pdrChoice, choices, needFrom, need, Choice}
-use Rattle.rules.specs.Stages.{newSession, isLive, newPdrId, newEndpointId, namedEndpoint, pdrLocal, endpointLocal, createdPdrs, createdEndpoints, updatedPdrs, livePdrs, liveEndpoints, fteidsOf, allocationWrong, invalidAllocation, idTwice, createdLive, absentId, updatesRemoved, namesBoth, endpointIdsAfter, namesAbsent, removedPdrs, sameChoice, fteidsMayShare, localsMayShare, choicesAgree, lacksFamily, otherAddress, strange, restoredHolding, endpointRestored, pdrRestored, restoredHoldings, clash, newPdrAddress, newEndpointAddress, addressesOf, wrongAddress, restoredAddresses, addressClash, requestRules, brokenRules, breaksRule, tooManySessions, tooManyPdrs, tooManyEndpoints, tooFewTeids, roomLacks, addressLacks, plain, judge, needed, passesLimit, passesPool}
+use Rattle.rules.specs.Grants.{Kind, choiceOf, endpointChoice, pdrChoice, choices, need, Choice, needOf}
+use Rattle.rules.specs.Stages.{newSession, isLive, newPdrId, newEndpointId, namedEndpoint, pdrLocal, endpointLocal, createdPdrs, createdEndpoints, updatedPdrs, livePdrs, liveEndpoints, fteidsOf, allocationWrong, invalidAllocation, idTwice, createdLive, absentId, updatesRemoved, namesBoth, endpointIdsAfter, namesAbsent, removedPdrs, sameChoice, fteidsMayShare, localsMayShare, choicesAgree, lacksFamily, otherAddress, strange, restoredHolding, endpointRestored, pdrRestored, restoredHoldings, clash, newPdrAddress, newEndpointAddress, addressesOf, wrongAddress, restoredAddresses, addressClash, requestRules, brokenRules, breaksRule, tooManySessions, tooManyPdrs, tooManyEndpoints, tooFewTeids, roomLacks, addressLacks, plain, judge, needed, passesLimit, passesPool, reasons, because, firstOf, alreadyLive}
 use Rattle.rules.specs.Restoration.{restoredPdr, restoredEndpoint, restoredRequest}
 use Rattle.rules.specs.Causes as why
 use Rattle.rules.specs.Message.{establishment}
@@ -74,12 +75,10 @@ module _ (s : Settings) (hs : T (settingsAllowed s)) where
   v6-same false h = refl
 
   pub unit-families : (t : Tunnel) → T (tunnelAllowed s t) → T (unitFamilies s (t .v6))
-  unfolding tunnelAllowed tunnelTests
-  unit-families t h = each (tunnelTests s t) h .1 .1 .0
+  unit-families t h = tunnel-kept s t h .unit
 
   unit-in-pool : (t : Tunnel) → T (tunnelAllowed s t) → T (inPool s (t .teid))
-  unfolding tunnelAllowed tunnelTests
-  unit-in-pool t h = each (tunnelTests s t) h .0
+  unit-in-pool t h = tunnel-kept s t h .pool
 
   unit-lacks : (t : Tunnel) → T (tunnelAllowed s t) → lacksFamily s (unitFteid s t) ≡ false
   unfolding lacksFamily unitFteid hasV6
@@ -123,18 +122,18 @@ module _ (s : Settings) (hs : T (settingsAllowed s)) where
     any-match live (endpoint e) h vs k = k
 
     any-pdrs : (live : List ℕ) (ps : List Pdr) → T (all (pdrAllowed s live) ps) → any q (collect pdrLocal (map (restoredPdr s) ps)) ≡ false
-    unfolding collect restoredPdr any pdrAllowed pdrTests
+    unfolding collect restoredPdr any
     any-pdrs live [] h = refl
     any-pdrs live (p ∷ ps) h =
-        any-match live (p .match) (each (pdrTests s live p) (all-head (pdrAllowed s live) p ps h) .1 .1 .1 .1 .0) (collect pdrLocal (map (restoredPdr s) ps))
+        any-match live (p .match) (pdr-kept s live p (all-head (pdrAllowed s live) p ps h) .match) (collect pdrLocal (map (restoredPdr s) ps))
         (any-pdrs live ps (all-tail (pdrAllowed s live) p ps h))
 
     any-both : (es : List Endpoint) → T (all (endpointAllowed s) es) → (vs : List Fteid) → any q vs ≡ false
         → any q (map endpointLocal (map (restoredEndpoint s) es) ++ vs) ≡ false
-    unfolding restoredEndpoint any endpointAllowed endpointTests
+    unfolding restoredEndpoint any
     any-both [] h vs k = k
     any-both (e ∷ es) h vs k =
-        ap₂ _||_ (no-unit (e .local) (each (endpointTests s e) (all-head (endpointAllowed s) e es h) .1 .0)) (any-both es (all-tail (endpointAllowed s) e es h) vs k)
+        ap₂ _||_ (no-unit (e .local) (endpoint-kept s e (all-head (endpointAllowed s) e es h) .local)) (any-both es (all-tail (endpointAllowed s) e es h) vs k)
 
   ids-pdrs : (ps : List Pdr) → map newPdrId (map (restoredPdr s) ps) ≡ map pdrId ps
   unfolding restoredPdr
@@ -164,10 +163,10 @@ module _ (s : Settings) (hs : T (settingsAllowed s)) where
   named-match live (endpoint e) h ns k = both (member e live) (allIn ns live) (and-right (ltb e 256) (member e live) h) k
 
   named-there : (live : List ℕ) (ps : List Pdr) → T (all (pdrAllowed s live) ps) → T (allIn (collect namedEndpoint (map (restoredPdr s) ps)) live)
-  unfolding collect restoredPdr allIn pdrAllowed pdrTests
+  unfolding collect restoredPdr allIn
   named-there live [] h = tt
   named-there live (p ∷ ps) h =
-      named-match live (p .match) (each (pdrTests s live p) (all-head (pdrAllowed s live) p ps h) .1 .1 .1 .1 .0) (collect namedEndpoint (map (restoredPdr s) ps))
+      named-match live (p .match) (pdr-kept s live p (all-head (pdrAllowed s live) p ps h) .match) (collect namedEndpoint (map (restoredPdr s) ps))
       (named-there live ps (all-tail (pdrAllowed s live) p ps h))
 
   matches-agree : (k l : Match) (i j : ℕ)
@@ -195,17 +194,17 @@ module _ (s : Settings) (hs : T (settingsAllowed s)) where
       go (endpoint e) g = unfold matchedTunnel in refl
 
   pdr-holds : (live : List ℕ) (ps : List Pdr) → T (all (pdrAllowed s live) ps) → collect pdrRestored (map (restoredPdr s) ps) ≡ collect pdrHolding ps
-  unfolding collect pdrAllowed pdrTests
+  unfolding collect
   pdr-holds live [] h = refl
   pdr-holds live (p ∷ ps) h =
-      ap₂ consOption (match-holds live p (each (pdrTests s live p) (all-head (pdrAllowed s live) p ps h) .1 .1 .1 .1 .0))
+      ap₂ consOption (match-holds live p (pdr-kept s live p (all-head (pdrAllowed s live) p ps h) .match))
       (pdr-holds live ps (all-tail (pdrAllowed s live) p ps h))
 
   endpoint-holds : (es : List Endpoint) → T (all (endpointAllowed s) es) → collect endpointRestored (map (restoredEndpoint s) es) ≡ map endpointHolding es
-  unfolding collect endpointRestored restoredEndpoint endpointHolding endpointAllowed endpointTests
+  unfolding collect endpointRestored restoredEndpoint endpointHolding
   endpoint-holds [] h = refl
   endpoint-holds (e ∷ es) h =
-      ap₂ consOption (unit-holding false 0 (e .local) (each (endpointTests s e) (all-head (endpointAllowed s) e es h) .1 .0))
+      ap₂ consOption (unit-holding false 0 (e .local) (endpoint-kept s e (all-head (endpointAllowed s) e es h) .local))
       (endpoint-holds es (all-tail (endpointAllowed s) e es h))
 
   -- ---- no CHOOSE
@@ -244,12 +243,10 @@ module _ (s : Settings) (hs : T (settingsAllowed s)) where
     request = restoredRequest s x
 
     idsUp : T (ascending (map pdrId (x .pdrs)))
-    unfolding sessionTests
-    idsUp = tests s hs x hx .1 .1 .1 .0
+    idsUp = session-kept s x hx .records .pdrOrder
 
     endpointIdsUp : T (ascending (map endpointId (x .endpoints)))
-    unfolding sessionTests
-    endpointIdsUp = tests s hs x hx .1 .1 .1 .1 .1 .1 .0
+    endpointIdsUp = session-kept s x hx .records .endpointOrder
 
     no-fteid : (q : Fteid → Bool) → ((t : Tunnel) → T (tunnelAllowed s t) → q (unitFteid s t) ≡ false) → any q (fteidsOf request) ≡ false
     unfolding fteidsOf request restoredRequest
@@ -326,14 +323,13 @@ module _ (s : Settings) (hs : T (settingsAllowed s)) where
 
     -- it needs the TEIDs of the session
     needs : needed request ≡ distinct (sessionTeids x)
-    unfolding needed need needFrom sessionTeids request
-    needs = let e = ap₂ (λ (l : List Choice) (hs′ : List Holding). needFrom [] l + distinct (map teidOf hs′)) no-choices holds in omega arith
+    unfolding needed need needOf keep collect distinct sessionTeids request
+    needs = let e = ap₂ (λ (l : List Choice) (hs′ : List Holding). needOf l + distinct (map teidOf hs′)) no-choices holds in omega arith
 
     module _ (m : Sessions) (fresh : isLive (sessionKey x) m ≡ false) (room : RoomFor s x m)
         (separate : T (not (anyIn (sessionTeids x) (heldTeids m)))) (separateAddresses : T (not (anyIn (sessionAddresses s x) (heldAddresses s m)))) where
       own : T (allPairs agree (sessionHoldings x))
-      unfolding sessionTests
-      own = tests s hs x hx .1 .1 .1 .1 .1 .1 .1 .1 .1 .1 .1 .1 .0
+      own = session-kept s x hx .holds
 
       no-clash : clash m request ≡ false
       unfolding clash sessionTeids
@@ -388,7 +384,14 @@ module _ (s : Settings) (hs : T (settingsAllowed s)) where
 
       -- accepted
       pub restored-judged : judge establishment s (x .peer) m (newSession (x .peer) (x .seid)) (restoredRequest s x) ≡ plain why.accepted
-      unfolding judge request restoredRequest invalidAllocation addressLacks
+      unfolding judge reasons alreadyLive request restoredRequest invalidAllocation addressLacks
       restored-judged =
-          λ i. pick (fresh i) (plain why.rejected) (pick (no-fteid (allocationWrong true) unit-given i) (plain why.wrongAllocation) (pick false (plain why.notSupported) (pick (rules-kept i) (plain why.brokenRule) (pick (enough-room i) (plain why.noRoom)
-          (pick (no-address ueChooses no-ue-choice i && isNil (freeAddresses s m)) (plain why.noAddress) (plain why.accepted))))))
+          λ i. plain (firstOf (
+          because why.rejected (fresh i)
+          ∷ because why.wrongAllocation (no-fteid (allocationWrong true) unit-given i)
+          ∷ because why.notSupported false
+          ∷ because why.brokenRule (rules-kept i)
+          ∷ because why.noRoom (enough-room i)
+          ∷ because why.noAddress (no-address ueChooses no-ue-choice i && isNil (freeAddresses s m))
+          ∷ []
+          ))

@@ -1,23 +1,22 @@
 -- Sessions restored one after the other, in any order, into an empty table make the table that holds them.
 -- Assumes nothing.
 use mathlib.Core.Path.{_≡_, refl, sym, ap, ap₂, _∙_, subst}
-use Prim.Native.Nat.{ℕ, suc, _+_, _≤_, _<_}
+use Prim.Native.Nat.{ℕ, _+_, _≤_, _<_}
 use native.Mathlib.Nat.{le-trans, le-of-eq}
-use native.Mathlib.Omega.{arith}
 use mathlib.Core.Bool.{Bool, true, _&&_}
 use mathlib.Core.List.{List, [], _∷_, map, List·Permᴰ}
 use lib.ListN.{length, length-map}
 use lib.Dec.{T, leb, eqb, leb→le}
 use Rattle.octets.specs.Octets.{octets, put}
-use Rattle.octets.specs.Lists.{all, allPairs, ascending, insertBy, insertAll}
-use Rattle.octets.proofs.Tests.{each, Each, all-head, all-tail, all-cons, of-true}
-use Rattle.octets.proofs.Ordered.{perm-length, all-perm, pairs-head, pairs-tail, pairs-perm, otherKey, insertAll-perm, insert-length, insert-all, ascending-other}
+use Rattle.octets.specs.Lists.{all, allPairs, insertBy, insertAll}
+use Rattle.octets.proofs.Tests.{each, all-head, all-tail, all-cons, of-true}
+use Rattle.octets.proofs.Ordered.{all-perm, pairs-head, pairs-tail, pairs-perm, otherKey, insertAll-perm, insert-all, ascending-other}
 use Rattle.rules.specs.Model.{Settings, Session, Sessions, sessionKey}
 use Rattle.rules.specs.Limits.{minSpace}
 use Rattle.rules.specs.Layout.{encode}
 use Rattle.laws.proofs.LayoutLaws.{fewPdrs, fewEndpoints}
 use Rattle.laws.proofs.ReportLaws.{few-pdr-reports, few-endpoint-reports}
-use Rattle.rules.specs.Sound.{settingsAllowed, sessionAllowed, apart, sessionsTests, sessionsAllowed}
+use Rattle.rules.specs.Sound.{settingsAllowed, sessionAllowed, apart, sessionsAllowed}
 use Rattle.rules.specs.Reading.{readRequest}
 use Rattle.rules.specs.Request.{Request}
 use Rattle.rules.specs.Grants.{granted}
@@ -37,7 +36,7 @@ use Rattle.rules.specs.Causes as why
 use Rattle.laws.proofs.HeaderLaws.{header-long}
 use Rattle.invariants.proofs.Beside.{apart-turn, other-seid-turn, separate-all, separate-addresses, fresh-seid, put-fresh, insert-allowed, empty-allowed, insert-apart}
 use Rattle.laws.proofs.PeerLaws.{known-peer, peers-kept}
-use Rattle.invariants.proofs.KeptRules.{sessions-kept}
+use Rattle.laws.proofs.KeptRules.{SessionsKept, sessions-kept}
 use Rattle.claim.proofs.PeersRestored.{Weighs, weighs-first, weighs-next, weighs-kept, room-next}
 use Rattle.claim.proofs.RestorationJudge.{RoomFor}
 
@@ -105,12 +104,24 @@ ready-next s m x xs r =
       weighs = next;
     }
 
+-- Claim.restoreAllowed by name
+pub record RestoreKept (r : Restore) : Type 0 where
+  pub sender : T (senderAllowed (r .sender))
+  pub octets : T (octets (r .space))
+  pub room : minSpace ≤ length (r .space)
+
+-- from the tests to the names
+pub restore-kept : (r : Restore) → T (restoreAllowed r) → RestoreKept r
+unfolding restoreAllowed
+restore-kept r h =
+    let e = each (senderAllowed (r .sender) ∷ octets (r .space) ∷ leb minSpace (length (r .space)) ∷ []) h in
+    record { sender = e .0; octets = e .1 .0; room = leb→le minSpace (length (r .space)) (e .1 .1 .0) }
+
 module _ (s : Settings) (hs : T (settingsAllowed s)) where
   -- one restoration: the table after it, and its acceptance
   module _ (m : Sessions) (r : Restore) (ok : T (restoreAllowed r)) (xs : Sessions) (ready : Ready s m (r .session ∷ xs)) where
-    okFacts : Each (senderAllowed (r .sender) ∷ octets (r .space) ∷ leb minSpace (length (r .space)) ∷ [])
-    unfolding restoreAllowed
-    okFacts = each (senderAllowed (r .sender) ∷ octets (r .space) ∷ leb minSpace (length (r .space)) ∷ []) ok
+    given : RestoreKept r
+    given = restore-kept r ok
 
     abbrev x : Session
     x = r .session
@@ -128,8 +139,8 @@ module _ (s : Settings) (hs : T (settingsAllowed s)) where
         ≡ record { outcome = 0; place = 0; space = put 0 (replyTo s (x .peer) m (restoration s (r .sender) x) (plain why.accepted)) (r .space); table = encode s (putSession x m) }
     call =
         restored-call s hs x hx m (fresh-seid x m other) fits (separate-all s x m (all-head (λ y. all (apart s y) m) x xs (ready .beside)))
-        (separate-addresses s x m (all-head (λ y. all (apart s y) m) x xs (ready .beside))) (r .sender) (okFacts .0)
-        (ready .sound) (r .space) (leb→le minSpace (length (r .space)) (okFacts .1 .1 .0))
+        (separate-addresses s x m (all-head (λ y. all (apart s y) m) x xs (ready .beside))) (r .sender) (given .sender)
+        (ready .sound) (r .space) (given .room)
 
     table-after : tableAfterCall (encode s m) (restoreCall s r) ≡ encode s (insertBy sessionKey x m)
     unfolding tableAfterCall restoreCall
@@ -137,7 +148,7 @@ module _ (s : Settings) (hs : T (settingsAllowed s)) where
 
     is-accepted : T (acceptedEvent (eventOf (encode s m) (restoreCall s r)))
     unfolding acceptedEvent eventOf restoreCall
-    is-accepted = of-true (ap₂ (λ (o : ℕ) (l : List ℕ). eqb o 0 && eqb (replyCause l) 1) (ap (λ (v : Served). v .outcome) call) (ap (λ (v : Served). v .space) call) ∙ ap (λ (c : ℕ). eqb c 1) (restored-cause s hs x hx (r .sender) (okFacts .0) m (r .space)))
+    is-accepted = of-true (ap₂ (λ (o : ℕ) (l : List ℕ). eqb o 0 && eqb (replyCause l) 1) (ap (λ (v : Served). v .outcome) call) (ap (λ (v : Served). v .space) call) ∙ ap (λ (c : ℕ). eqb c 1) (restored-cause s hs x hx (r .sender) (given .sender) m (r .space)))
 
   run-table : (rs : List Restore) (m : Sessions) → T (all restoreAllowed rs) → Ready s m (map restored rs)
       → tableAfterAll (encode s m) (restoreCalls s rs) ≡ encode s (insertAll sessionKey (map restored rs) m)
@@ -160,25 +171,20 @@ module _ (s : Settings) (hs : T (settingsAllowed s)) where
   -- ---- in any order
 
   module _ (m : Sessions) (hm : T (sessionsAllowed s m)) (rs : List Restore) (ok : T (all restoreAllowed rs)) (order : List·Permᴰ m (map restored rs)) where
-    facts : Each (sessionsTests s m)
-    unfolding sessionsAllowed
-    facts = each (sessionsTests s m) hm
-
-    up : T (ascending (map sessionKey m))
-    unfolding sessionsTests
-    up = facts .1 .0
+    kept : SessionsKept s m
+    kept = sessions-kept s m hm
 
     ready : Ready s [] (map restored rs)
-    unfolding sessionsTests all
+    unfolding all
     ready =
         record {
           sound = empty-allowed s hs;
-          allowed = all-perm (sessionAllowed s) order (facts .1 .1 .0);
-          seids = pairs-perm (otherKey sessionKey) other-seid-turn order (ascending-other sessionKey m up);
-          separate = pairs-perm (apart s) (apart-turn s) order (facts .1 .1 .1 .0);
+          allowed = all-perm (sessionAllowed s) order (kept .sessions);
+          seids = pairs-perm (otherKey sessionKey) other-seid-turn order (ascending-other sessionKey m (kept .order));
+          separate = pairs-perm (apart s) (apart-turn s) order (kept .separate);
           newSeids = nothing (map restored rs);
           beside = nothing (map restored rs);
-          weighs = weighs-first s m (map restored rs) (facts .1 .1 .1 .0) (peers-kept s m hm) order;
+          weighs = weighs-first s m (map restored rs) (kept .separate) (peers-kept s m hm) order;
         }
       where
         nothing : (xs : Sessions) → T (all (λ x. true) xs)
@@ -189,7 +195,7 @@ module _ (s : Settings) (hs : T (settingsAllowed s)) where
     pub restored-table : tableAfterAll (encode s []) (restoreCalls s rs) ≡ encode s m
     restored-table =
         run-table rs [] ok ready
-        ∙ ap (encode s) (sym (insertAll-perm sessionKey order (ascending-other sessionKey m up) []) ∙ insertAll-up sessionKey m [] up (under-nil sessionKey m))
+        ∙ ap (encode s) (sym (insertAll-perm sessionKey order (ascending-other sessionKey m (kept .order)) []) ∙ insertAll-up sessionKey m [] (kept .order) (under-nil sessionKey m))
 
     -- and every restoration is accepted
     pub restored-accepted : T (all acceptedEvent (eventsOf (encode s []) (restoreCalls s rs)))

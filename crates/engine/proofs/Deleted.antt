@@ -23,7 +23,7 @@ use Rattle.rules.specs.Serve.{sessionsAfter, replyTo}
 use Rattle.rules.specs.Causes as why
 use Rattle.laws.proofs.PeerLaws.{peers-kept}
 use Rattle.areas.specs.Records.{pairKey}
-use Rattle.invariants.proofs.ServeLaws.{TableKept, table-kept}
+use Rattle.laws.proofs.KeptRules.{TableKept, table-kept}
 use Rattle.invariants.proofs.Changed.{entry-known}
 use Rattle.areas.specs.Counted.{withoutRecord}
 use Rattle.unit.specs.declared.Settings.{Settings as Unit}
@@ -71,7 +71,7 @@ module _ (t : List ℕ) (who : ℕ) (msg out : List ℕ) (a : Asked t who msg ou
         let k = entry-known s who m msg (a .peer) (kept .sessions) (a .octets) (subst (λ (b : Bool). T (not b)) (sym (a .named)) tt) known rd .kept in
         read-through s who m msg live fr rd
         ∙ accepted-empty s m (entrySession who m msg) (readRequest msg) (deletion-empty msg del) who (a .peer) (peers-kept s m (kept .sessions)) (kindOf msg) (ap (λ (n : ℕ). eqb n establishment) del)
-        (leb→le (length (entrySession who m msg .pdrs)) maxPdrs (k .fewPdrs)) (leb→le (length (entrySession who m msg .endpoints)) maxEndpoints (k .fewEndpoints))
+        (leb→le (length (entrySession who m msg .pdrs)) maxPdrs (k .records .fewPdrs)) (leb→le (length (entrySession who m msg .endpoints)) maxEndpoints (k .records .fewEndpoints))
 
     same-reply : reply s who msg 0 (plain why.accepted) noReports ≡ replyTo s who m msg (verdictOn t who msg)
     unfolding replyTo

@@ -17,9 +17,9 @@ use Rattle.rules.specs.Elements.{Fqcsid}
 use Rattle.rules.specs.Message.{Element, kindOf, headerLength, body, elements, actedOn, establishment, deletion}
 use Rattle.rules.specs.Reading.{done, elementRead, elementsRead, finished, aloneIn, sessionRead, topRead, read, faultIn, readFault, askedIn, readRequest}
 use Rattle.rules.specs.Request.{Request, Draft, emptyDraft, requestFrom, listing}
-use Rattle.rules.specs.Grants.{Kind, Got, choices, needFrom, need}
+use Rattle.rules.specs.Grants.{Kind, Got, choices, need, needOf}
 use Rattle.rules.specs.Reply.{noReports, reports}
-use Rattle.rules.specs.Stages.{plain, fteidsOf, addressesOf, restoredAddresses, addressClash, addressLacks, invalidAllocation, createdPdrs, createdEndpoints, updatedPdrs, idTwice, createdLive, absentId, removedPdrs, updatesRemoved, namesAbsent, restoredHoldings, clash, requestRules, brokenRules, breaksRule, tooManySessions, tooManyPdrs, tooManyEndpoints, needed, tooFewTeids, roomLacks, judge}
+use Rattle.rules.specs.Stages.{plain, fteidsOf, addressesOf, restoredAddresses, addressClash, addressLacks, invalidAllocation, createdPdrs, createdEndpoints, updatedPdrs, idTwice, createdLive, absentId, removedPdrs, updatesRemoved, namesAbsent, restoredHoldings, clash, requestRules, brokenRules, breaksRule, tooManySessions, tooManyPdrs, tooManyEndpoints, needed, tooFewTeids, roomLacks, judge, reasons, alreadyLive}
 use Rattle.rules.specs.Causes as why
 use Rattle.octets.proofs.Tests.{is-false}
 use Rattle.laws.proofs.PeerLaws.{PeersKept}
@@ -82,7 +82,7 @@ module _ (s : Settings) (m : Sessions) (x : Session) (r : Request) (e : Empty r)
   kept = rw (no-fteids, no-addresses, no-holdings, e .pdrs, e .endpoints, e .changes, e .gonePdrs, e .goneEndpoints)
 
   needs-none : needed r ≡ 0
-  unfolding needed need needFrom choices collect distinct
+  unfolding needed need needOf choices keep collect distinct
   needs-none = rw (no-holdings, e .endpoints, e .pdrs)
 
   addressed : addressLacks s m r ≡ false
@@ -108,5 +108,5 @@ module _ (s : Settings) (m : Sessions) (x : Session) (r : Request) (e : Empty r)
     room kind k a b = rw (is-false (tooFewTeids s who m r) (nothing-needed s who m r known peers needs-none), k, few-pdrs a, few-endpoints b)
 
     pub accepted-empty : (kind : ℕ) → eqb kind establishment ≡ false → length (x .pdrs) ≤ 16 → length (x .endpoints) ≤ 8 → judge kind s who m x r ≡ plain why.accepted
-    unfolding judge
+    unfolding judge reasons alreadyLive
     accepted-empty kind k a b = rw (kept, room kind k a b, addressed, allocated, k, e .unsupported)

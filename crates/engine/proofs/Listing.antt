@@ -24,7 +24,7 @@ use Rattle.rules.specs.Reply.{noReports, reply}
 use Rattle.rules.specs.Serve.{sessionsAfter, replyTo}
 use Rattle.rules.specs.Causes as why
 use Rattle.laws.proofs.PeerLaws.{PeersKept, peers-kept}
-use Rattle.invariants.proofs.ServeLaws.{table-kept}
+use Rattle.laws.proofs.KeptRules.{table-kept}
 use Rattle.laws.proofs.HeaderLaws.{unnamed-sets}
 use Rattle.frame.specs.Framed as frame
 use Rattle.frame.specs.declared.Framing.{Framing}

@@ -7,7 +7,7 @@ use Prim.Native.Nat.{ℕ, _-_, _≤_, _<_}
 use native.Mathlib.Omega.{arith}
 use lib.Dec.{T, eqb}
 use lib.ListN.{length}
-use borrow.Author.Tests.{lt-ltb, eqb-true, not-true, not-false, eq-eqb, ne-eqb}
+use borrow.Author.Tests.{lt-ltb, eqb-true, not-true, not-false}
 use Rattle.octets.specs.Choice.{pick}
 use Rattle.octets.specs.Octets.{octets}
 use Rattle.octets.proofs.Tests.{of-true, is-true}
@@ -17,7 +17,7 @@ use Rattle.rules.specs.Layout.{viewSettings, viewSessions}
 use Rattle.rules.specs.Sound.{sound}
 use Rattle.rules.specs.Message.{kindOf, headerSeid, served, establishment, modification, deletion, setDeletion}
 use Rattle.rules.specs.Serve.{unserved, replyTo, answered, answer, serveSound, serveOf, serve}
-use Rattle.invariants.proofs.ServeLaws.{table-kept}
+use Rattle.laws.proofs.KeptRules.{table-kept}
 use Rattle.frame.specs.HeaderOf.{outcome, request, sets, opened, headerOf}
 use Rattle.frame.specs.declared.header.Header.{Header}
 use Rattle.frame.specs.declared.header.Header.the-variants.{Request, Sets}
@@ -47,15 +47,6 @@ small-kind k = go (eqb k establishment) (eqb k modification) (eqb k deletion) (e
     go false false true d x y z w h = let e = eqb-true k deletion z in omega arith
     go false false false true x y z w h = let e = eqb-true k setDeletion w in omega arith
     go false false false false x y z w h = absurd (subst T (sym h) tt)
-
--- the number of a peer, as the code tests it
-pub first-peer : (who : ℕ) → who ≡ 1 → true ≡ isPeer who
-unfolding isPeer
-first-peer who e = sym (rw (eq-eqb who 1 e))
-
-pub other-number : (who : ℕ) → (who ≡ 1 → ⊥) → eqb who 2 ≡ isPeer who
-unfolding isPeer
-other-number who n = sym (rw (ne-eqb who 1 n))
 
 -- what the walk told, and what is counted with a peer's share
 module _ {t : List ℕ} {r : Walked} {w ips : List ℕ} (x : Examined t r w ips) {one two first held : ℕ} (e : r ≡ Held one two first held) {u : Unit} (z : settingsOf u ≡ viewSettings t) where

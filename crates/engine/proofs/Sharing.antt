@@ -11,8 +11,7 @@ use Rattle.rules.specs.Model.{Settings, Sessions, isPeer, peerOf, otherPeer, of
 use Rattle.rules.specs.Layout.{viewSettings, viewSessions, settingsWidth, sessionWidth}
 use Rattle.rules.specs.Sound.{sound, due}
 use Rattle.laws.proofs.PeerLaws.{PeersKept, peers-kept, peer-cases, known-peers, count-peers}
-use Rattle.invariants.proofs.KeptRules.{sessions-kept}
-use Rattle.invariants.proofs.ServeLaws.{TableKept, table-kept}
+use Rattle.laws.proofs.KeptRules.{sessions-kept, TableKept, table-kept}
 use Rattle.areas.specs.Counted.{countIn}
 use Rattle.session.specs.Areas.{tableArea}
 use Rattle.session.proofs.Saved.{sessions-counted}

@@ -10,12 +10,13 @@ use lib.Dec.{T, eqb}
 use lib.ListN.{length}
 use Rattle.octets.specs.Choice.{pick}
 use Rattle.octets.specs.Octets.{part, number}
-use Rattle.octets.proofs.Tests.{each, is-true, of-true}
+use Rattle.octets.proofs.Tests.{is-true, of-true}
+use Rattle.laws.proofs.KeptRules.{sessions-kept}
 use Rattle.laws.proofs.PeerLaws.{peer-cases, known-peers, count-peers}
-use Rattle.rules.specs.Model.{Settings, Sessions, isPeer, ofPeer, holdings}
+use Rattle.rules.specs.Model.{isPeer, ofPeer, holdings}
 use Rattle.rules.specs.Layout.{tableLength, viewSettings, viewSessions, settingsWidth}
 use Rattle.rules.specs.Finding.{Share, unshared, countPeer}
-use Rattle.rules.specs.Sound.{sessionsTests, sessionsAllowed, sound}
+use Rattle.rules.specs.Sound.{sound}
 use Rattle.marking.specs.declared.Walked.{Walked}
 use Rattle.marking.specs.declared.Walked.the-variants as marked
 use Rattle.marking.specs.declared.Walked.the-variants.{Held}
@@ -68,11 +69,10 @@ module _ (t : List ℕ) (who : ℕ) (a : Bool) (p : a ≡ isPeer who) where
 
       module _ (n : ℕ) (c : n ≡ number (part settingsWidth 2 t)) where
         all-counted : n ≡ length (ofPeer 1 (viewSessions t)) + length (ofPeer 2 (viewSessions t))
-        unfolding sessionsAllowed sessionsTests
         all-counted =
             let m = viewSessions t in
-            let k = each (sessionsTests (viewSettings t) m) (sound-encoded t (told .0) .sessions) in
-            c ∙ sym (count-read t (told .0)) ∙ count-peers m (known-peers (viewSettings t) m (k .1 .1 .0))
+            let k = sessions-kept (viewSettings t) m (sound-encoded t (told .0) .sessions) in
+            c ∙ sym (count-read t (told .0)) ∙ count-peers m (known-peers (viewSettings t) m (k .sessions))
 
         first-is : first ≡ length (ofPeer 1 (viewSessions t))
         first-is = let q = told .1 in cc

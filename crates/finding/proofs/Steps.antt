@@ -25,7 +25,7 @@ use Rattle.areas.specs.Counted.{placeIn}
 use Rattle.session.specs.Areas.{tableArea}
 use Rattle.session.proofs.Saved.{session-place, session-absent}
 use Rattle.table.proofs.Encoded.{Encoded, sound-encoded}
-use Rattle.table.proofs.SoundSlots.{slotAt, few-pdrs, few-endpoints, slot-long, slot-session, session-kept, count-read, table-long}
+use Rattle.table.proofs.SoundSlots.{slotAt, few-pdrs, few-endpoints, slot-long, slot-session, place-allowed, count-read, table-long}
 use Rattle.finding.specs.declared.Answer.{Answer}
 use Rattle.finding.specs.Holds.{SlotCounted}
 use Rattle.finding.specs.Answers.{findingTold}
@@ -123,7 +123,7 @@ module _ (t : List ℕ) (h : T (sound t)) (teid i n : ℕ) (count : n ≡ length
 
   pub slot-counted : SlotCounted (slotAt t i)
   slot-counted =
-      let fine : T (sessionAllowed (viewSettings t) (viewSession (slotAt t i))) = rw (slot-session t h i less) (session-kept t h i less) in
+      let fine : T (sessionAllowed (viewSettings t) (viewSession (slotAt t i))) = rw (slot-session t h i less) (place-allowed t h i less) in
       record {
         long = slot-long t h i less;
         pdrs = few-pdrs (viewSettings t) (slotAt t i) (slot-long t h i less) fine;

@@ -107,13 +107,6 @@ module _ {a b : List ℕ} (w : Alike a b) where
   unfolding hasTag
   same-tag t = ap (λ (x : ℕ). eqb x t) (w .words 0 (λ z. omega arith) (λ z. omega arith))
 
-  pub same-choosing : (t : ℕ) → choosing t a ≡ choosing t b
-  unfolding choosing
-  same-choosing t =
-      let tag = same-tag t in
-      let flags = w .words 12 (λ z. omega arith) (λ z. omega arith) in
-      λ j. tag j && bit 2 (flags j)
-
   same-pdr : rowPdr a ≡ rowPdr b
   unfolding rowPdr rowLocal present
   same-pdr =

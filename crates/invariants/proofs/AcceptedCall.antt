@@ -34,7 +34,7 @@ use Rattle.invariants.proofs.GrantReply.{reportAddress, said, accepted-
 use Rattle.invariants.proofs.Reported.{said-teids, said-pdr-addresses, said-endpoint-addresses}
 use Rattle.laws.proofs.HeaderLaws.{header-long}
 use Rattle.invariants.proofs.Accepting.{SoundAfter}
-use Rattle.invariants.proofs.KeptRules.{RulesKept, rules-kept}
+use Rattle.laws.proofs.KeptRequest.{RulesKept}
 use Rattle.invariants.proofs.FreeTeids.{free-there}
 use Rattle.invariants.proofs.FreeAddresses.{ChosenFree, chosen-there}
 use Rattle.invariants.proofs.NewHolds.{choices-other}
@@ -42,14 +42,15 @@ use Rattle.invariants.proofs.ChangedHolds.{stayingHoldings}
 use Rattle.invariants.proofs.ChangedAddresses.{stayingAddresses}
 use Rattle.invariants.proofs.Allocation.{pdrChooseId, pdrs-share, Allocates, allocates}
 use Rattle.invariants.proofs.Freed.{removed-free, deleted-free, listed-free, removed-address-free, deleted-address-free, listed-address-free}
-use Rattle.invariants.proofs.ServeLaws.{Answers, answers, answered-zero, table-kept, served-cause, sessions-after}
+use Rattle.laws.proofs.KeptRules.{table-kept}
+use Rattle.invariants.proofs.ServeLaws.{Answers, answers, answered-zero, served-cause, sessions-after}
 use Rattle.rules.specs.Apply.{goesSession}
 
 -- an accepted request's TEIDs are given by 01's rules
 pub passed-allocates : (s : Settings) (who : ℕ) (m : Sessions) (msg : List ℕ) → T (isPeer who) → T (sessionsAllowed s m) → Passed s who m msg → Allocates s m (readRequest msg)
 passed-allocates s who m msg hw hm p =
     let r = readRequest msg in
-    let k = rules-kept s m (entrySession who m msg) r (p .rules) in
+    let k = p .rules in
     allocates s m r (choices-other r (k .createdPdrsOnce) (k .createdEndpointsOnce)) (enough hw hm p)
 
 -- ---- an accepted call
@@ -116,7 +117,7 @@ module _ (t : List ℕ) (who : ℕ) (msg space : List ℕ) where
 
   -- what the request kept of its IDs
   rules : Passed s who m msg → RulesKept s m (entrySession who m msg) r
-  rules p = rules-kept s m (entrySession who m msg) r (p .rules)
+  rules p = p .rules
 
   module _ (ho : T (octets msg)) (a : Answers t who msg space) (p : Passed s who m msg) (c : verdict s who m msg .cause ≡ why.accepted) where
     -- the TEIDs of the grants

@@ -10,12 +10,11 @@ use Rattle.rules.specs.Sound.{settingsAllowed, sessionsAllowed}
 use Rattle.rules.specs.Message.{kindOf, headerSeid, served}
 use Rattle.rules.specs.Reading.{readRequest}
 use Rattle.rules.specs.Grants.{Kind, Got, granted}
-use Rattle.rules.specs.Stages.{verdict, entrySession}
+use Rattle.rules.specs.Stages.{verdict}
 use Rattle.rules.specs.Reply.{reports}
 use Rattle.rules.specs.Apply.{follow}
 use Rattle.rules.specs.Serve.{sessionsAfter, replyTo}
 use Rattle.invariants.proofs.VerdictLaws.{Passed, passed}
-use Rattle.invariants.proofs.KeptRules.{rules-kept}
 use Rattle.laws.proofs.ReportLaws.{granted-reports-fit}
 use Rattle.invariants.proofs.ReplyLength.{reports-few}
 use Rattle.invariants.proofs.GrantReply.{accepted-cause, accepted-got}
@@ -34,7 +33,7 @@ unfolding AcceptedKeeps SoundAfter
 accepting sound-after s who m msg space hw hs hm ho hh hk e =
     let p = passed s who m msg e in
     let r = readRequest msg in
-    let k = rules-kept s m (entrySession who m msg) r (p .rules) in
+    let k = p .rules in
     let gs = reports (granted s m r) r in
     let few = reports-few s hs who m msg e in
     let fits = granted-reports-fit s hs m msg ho in

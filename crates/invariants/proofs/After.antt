@@ -1,31 +1,28 @@
 -- The sessions after an accepted request keep the rules, if the one session that it made or changed does.
 -- Assumes nothing.
 use mathlib.Core.Path.{_≡_, refl, sym, subst}
-use Prim.Native.Nat.{ℕ, _≤_, _<_, suc-le-suc}
-use native.Mathlib.Nat.{le-trans, lt-of-lt-of-le}
+use Prim.Native.Nat.{ℕ, _≤_, _<_}
 use mathlib.Core.Bool.{Bool, true, false, not, _&&_, _||_}
 use mathlib.Core.Option.{some, Option}
-use mathlib.Core.List.{List, [], _∷_, map}
-use lib.ListN.{length}
-use lib.Dec.{T, leb, eqb, leb→le, eqb→eq, nleb→lt}
-use mir.Facts.{yes-leb}
+use mathlib.Core.List.{List, [], _∷_}
+use lib.Dec.{T, eqb, eqb→eq}
 use Rattle.octets.specs.Choice.{pick, isSome, valueOr}
 use Rattle.octets.specs.Octets.{octets}
-use Rattle.octets.specs.Lists.{all, any, allPairs, ascending, keep, findBy}
-use Rattle.octets.proofs.Tests.{each, all-of-each, all-head, all-tail, all-cons, no-eqb}
-use Rattle.octets.proofs.Ordered.{otherKey, keep-all, keep-pairs, keep-length, keep-passes, keep-less, keep-ascending, ne-of}
+use Rattle.octets.specs.Lists.{all, keep, findBy}
+use Rattle.octets.proofs.Tests.{all-head, all-tail, all-cons, no-eqb}
+use Rattle.octets.proofs.Ordered.{otherKey, keep-all, keep-pairs, keep-passes, keep-ascending, ne-of}
 use Rattle.rules.specs.Model.{Settings, Session, Sessions, sessionKey, keyFor, isPeer}
-use Rattle.rules.specs.Sound.{settingsAllowed, sessionAllowed, apart, sessionsTests, sessionsAllowed}
+use Rattle.rules.specs.Sound.{settingsAllowed, sessionAllowed, apart, sessionsAllowed}
 use Rattle.rules.specs.Message.{kindOf, headerSeid, served, deletion, setDeletion}
 use Rattle.rules.specs.Reading.{readRequest}
 use Rattle.rules.specs.Grants.{granted}
-use Rattle.rules.specs.Stages.{hasKey, sessionOf, isLive, newSession, atEntry, entrySession, unknownSession, tooManySessions, unnamed}
+use Rattle.rules.specs.Stages.{hasKey, sessionOf, isLive, newSession, atEntry, entrySession}
 use Rattle.rules.specs.Apply.{apply, otherSession, removeSession, putSession, follow, staysSession}
 use Rattle.rules.specs.Serve.{sessionsAfter}
 use Rattle.invariants.proofs.VerdictLaws.{Passed}
 use Rattle.invariants.proofs.Beside.{insert-allowed}
 use Rattle.invariants.proofs.Accepting.{SoundAfter}
-use Rattle.laws.proofs.HeaderLaws.{unnamed-new}
+use Rattle.laws.proofs.KeptRules.{sessions-kept, sessions-allowed}
 use Rattle.laws.proofs.PeerLaws.{PeersKept, peers-kept, peers-keep}
 use Rattle.invariants.proofs.PeersAfter.{keep-kept}
 
@@ -33,19 +30,14 @@ use Rattle.invariants.proofs.PeersAfter.{keep-kept}
 
 -- any of the sessions
 pub keep-allowed : (s : Settings) (q : Session → Bool) (m : Sessions) → T (sessionsAllowed s m) → T (sessionsAllowed s (keep q m))
-unfolding sessionsAllowed sessionsTests
 keep-allowed s q m h =
-    let e = each (sessionsTests s m) h in
-    all-of-each (sessionsTests s (keep q m)) (
-      peers-keep s (keep q m) (keep-kept s q m (e .1 .1 .1 .0) (peers-kept s m h)),
-      (
-        keep-ascending q sessionKey m (e .1 .0),
-        (
-          keep-all q (sessionAllowed s) m (e .1 .1 .0),
-          (keep-pairs q (apart s) m (e .1 .1 .1 .0), tt),
-        ),
-      ),
-    )
+    let e = sessions-kept s m h in
+    sessions-allowed (record {
+      peers = peers-keep s (keep q m) (keep-kept s q m (e .separate) (peers-kept s m h));
+      order = keep-ascending q sessionKey m (e .order);
+      sessions = keep-all q (sessionAllowed s) m (e .sessions);
+      separate = keep-pairs q (apart s) m (e .separate);
+    })
 
 pub remove-allowed : (s : Settings) (n : ℕ) (m : Sessions) → T (sessionsAllowed s m) → T (sessionsAllowed s (removeSession n m))
 unfolding removeSession
@@ -62,17 +54,7 @@ others x (y ∷ m) h =
     unfold-it : T (all (otherSession (sessionKey x)) (y ∷ m)) → T (all (otherSession (sessionKey x)) (y ∷ m))
     unfold-it g = g
 
--- ---- room for the session
-
-pub live-any : (n : ℕ) (m : Sessions) → T (isLive n m) → T (any (λ y. not (otherSession n y)) m)
-unfolding isLive sessionOf findBy any otherSession hasKey
-live-any n [] h = absurd h
-live-any n (y ∷ m) h = one (eqb (sessionKey y) n) (λ g. live-any n m g) h
-  where
-    one : (b : Bool) → (T (isSome (findBy (λ z. eqb (sessionKey z) n) m)) → T (any (λ z. not (not (eqb (sessionKey z) n))) m))
-        → T (isSome (pick b (some y) (findBy (λ z. eqb (sessionKey z) n) m))) → T (not (not b) || any (λ z. not (not (eqb (sessionKey z) n))) m)
-    one true f g = tt
-    one false f g = f g
+-- ---- the session after a request
 
 -- the session that a request makes or changes
 unfoldable pub changed : Settings → ℕ → Sessions → List ℕ → Session

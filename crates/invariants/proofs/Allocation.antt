@@ -21,8 +21,9 @@ use Rattle.rules.specs.Model.{Settings, Sessions, heldTeids, freeTeids}
 use Rattle.rules.specs.Elements.{Fteid, given, choose, chooseIdOf}
 use Rattle.rules.specs.Sound.{inPool}
 use Rattle.rules.specs.Request.{NewPdr, Request}
-use Rattle.rules.specs.Grants.{Kind, ofPdr, Choice, Chosen, choiceOf, endpointChoice, pdrChoice, choices, chosen, isChoice, chosenTeid, remember, teidFor, freeAfter, chosenAfter, grants, grantedTeid, isFresh, noted, needFrom, need}
+use Rattle.rules.specs.Grants.{Kind, ofPdr, Choice, Chosen, choiceOf, endpointChoice, pdrChoice, choices, chosen, isChoice, chosenTeid, remember, teidFor, freeAfter, chosenAfter, grants, grantedTeid, need}
 use Rattle.rules.specs.Stages.{sameChoice}
+use Rattle.laws.proofs.NeedLaws.{isFresh, noted, needFrom, enough-given}
 use Rattle.invariants.proofs.GrantLaws.{Matches, matches-new, matches-old}
 use Rattle.invariants.proofs.FreeTeids.{free-there, free-ascends}
 use Rattle.invariants.proofs.PoolLaws.{free-in-pool, free-not-held}
@@ -242,7 +243,6 @@ pub record Allocates (s : Settings) (m : Sessions) (r : Request) : Type 0 where
 
 -- a request whose records are created once, and that finds TEIDs enough
 pub allocates : (s : Settings) (m : Sessions) (r : Request) → T (allPairs otherRecord (choices r)) → need r ≤ length (freeTeids s m) → Allocates s m r
-unfolding need
 allocates s m r other enough =
     record {
       given = grantedFrom [] (freeTeids s m) (choices r);
@@ -257,7 +257,7 @@ allocates s m r other enough =
             new = all-always (λ u. not (member u [])) (λ u. unfold member in tt) (freeTeids s m);
             whole = λ u p h n. free-there s m u p h;
             known = unfold all in tt;
-          }) enough;
+          }) (enough-given r (length (freeTeids s m)) enough);
       shared = granted-same (choices r) [] (freeTeids s m);
     }
 

@@ -5,15 +5,15 @@ use Prim.Native.Nat.{ℕ, _+_, _-_, _≤_, zero-le}
 use native.Mathlib.Omega.{arith}
 use mathlib.Core.Bool.{Bool, false, not}
 use mathlib.Core.List.{[], _∷_}
-use lib.ListN.{length}
 use lib.Dec.{T, eqb}
 use Rattle.octets.specs.Choice.{pick, isSome}
 use Rattle.octets.specs.Lists.{distinct, anyIn, all, allPairs, keep, findBy, ascending, insertBy}
-use Rattle.octets.proofs.Tests.{pick-yes, pick-no, each, all-of-each, both, and-left, and-right, all-head, all-tail, all-cons}
+use Rattle.octets.proofs.Tests.{pick-yes, pick-no, both, and-left, and-right, all-head, all-tail, all-cons}
 use Rattle.octets.proofs.Ordered.{otherKey, insert-all, insert-pairs, insert-ascending}
 use Rattle.octets.proofs.ListLaws.{all-imply}
 use Rattle.rules.specs.Model.{Settings, Session, Sessions, sessionKey, sessionTeids, heldTeids, sessionAddresses, heldAddresses, ofPeer, holdings, unused, otherPeer, peerOf}
-use Rattle.rules.specs.Sound.{settingsAllowed, sessionAllowed, apart, due, sessionsTests, sessionsAllowed}
+use Rattle.rules.specs.Sound.{settingsAllowed, sessionAllowed, apart, due, sessionsAllowed}
+use Rattle.laws.proofs.KeptRules.{sessions-kept, sessions-allowed}
 use Rattle.laws.proofs.PeerLaws.{peer-cases, guarantees-fit, PeersKept, peers-keep}
 use Rattle.rules.specs.Stages.{hasKey, sessionOf, isLive}
 use Rattle.rules.specs.Apply.{otherSession, removeSession, putSession}
@@ -78,19 +78,14 @@ insert-apart s x m sep h = insert-pairs sessionKey (apart s) x m sep (turn-all (
 -- one more session keeps the rules, if both peers have what is theirs then
 pub insert-allowed : (s : Settings) (x : Session) (m : Sessions) → T (sessionsAllowed s m) → T (sessionAllowed s x)
     → T (all (otherKey sessionKey x) m) → T (all (apart s x) m) → PeersKept s (insertBy sessionKey x m) → T (sessionsAllowed s (insertBy sessionKey x m))
-unfolding sessionsAllowed sessionsTests
 insert-allowed s x m hm hx other sep room =
-    let e = each (sessionsTests s m) hm in
-    all-of-each (sessionsTests s (insertBy sessionKey x m)) (
-      peers-keep s (insertBy sessionKey x m) room,
-      (
-        insert-ascending sessionKey x m other (e .1 .0),
-        (
-          insert-all sessionKey (sessionAllowed s) x m hx (e .1 .1 .0),
-          (insert-apart s x m sep (e .1 .1 .1 .0), tt),
-        ),
-      ),
-    )
+    let e = sessions-kept s m hm in
+    sessions-allowed (record {
+      peers = peers-keep s (insertBy sessionKey x m) room;
+      order = insert-ascending sessionKey x m other (e .order);
+      sessions = insert-all sessionKey (sessionAllowed s) x m hx (e .sessions);
+      separate = insert-apart s x m sep (e .separate);
+    })
 
 -- an empty table keeps the rules
 empty-kept : (s : Settings) → T (settingsAllowed s) → PeersKept s []
@@ -104,5 +99,5 @@ empty-kept s hs =
     }
 
 pub empty-allowed : (s : Settings) → T (settingsAllowed s) → T (sessionsAllowed s [])
-unfolding sessionsAllowed sessionsTests ascending all allPairs
-empty-allowed s hs = all-of-each (sessionsTests s []) (peers-keep s [] (empty-kept s hs), (tt, (tt, (tt, tt))))
+unfolding ascending all allPairs
+empty-allowed s hs = sessions-allowed (record { peers = peers-keep s [] (empty-kept s hs); order = tt; sessions = tt; separate = tt })

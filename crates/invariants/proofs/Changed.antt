@@ -24,7 +24,8 @@ use Rattle.invariants.proofs.VerdictLaws.{Passed}
 use Rattle.invariants.proofs.GrantLaws.{enough}
 use Rattle.laws.proofs.ReadLaws.{SeidRead}
 use Rattle.laws.proofs.RequestLaws.{RequestRead, request-read, seid-read}
-use Rattle.invariants.proofs.KeptRules.{SessionKept, session-kept, session-allowed, sessions-kept, RulesKept, rules-kept, RoomLeft, room-left}
+use Rattle.laws.proofs.KeptRules.{SessionKept, session-kept, session-allowed, sessions-kept}
+use Rattle.laws.proofs.KeptRequest.{RulesKept, RoomLeft}
 use Rattle.invariants.proofs.ChangedCsids.{CsidsKept, csids-kept, csids-few}
 use Rattle.invariants.proofs.ChangedRecords.{endpoints-few, endpoints-order, endpoints-allowed, pdrs-few, pdrs-order, pdrs-allowed}
 use Rattle.invariants.proofs.HeldLaws.{all-held, all-addresses-held}
@@ -72,19 +73,21 @@ unfolding newSession
 new-entry s who m n hw h =
     record {
       kept = record {
-        seid = h .nonzero;
-        seidFits = h .fits;
-        fewPdrs = tt;
-        pdrOrder = unfold ascending in tt;
-        pdrs = unfold all in tt;
-        fewEndpoints = tt;
-        endpointOrder = unfold ascending in tt;
-        endpoints = unfold all in tt;
-        fewCsids = tt;
-        csidOrder = unfold ascending in tt;
-        csids = unfold all in tt;
+        records = record {
+          seid = h .nonzero;
+          seidFits = h .fits;
+          fewPdrs = tt;
+          pdrOrder = unfold ascending in tt;
+          pdrs = unfold all in tt;
+          fewEndpoints = tt;
+          endpointOrder = unfold ascending in tt;
+          endpoints = unfold all in tt;
+          fewCsids = tt;
+          csidOrder = unfold ascending in tt;
+          csids = unfold all in tt;
+          peer = hw;
+        };
         holds = unfold sessionHoldings collect allPairs in tt;
-        peer = hw;
       };
       held = unfold sessionTeids sessionHoldings collect all in tt;
       heldAddresses = unfold sessionAddresses collect keep all in tt;
@@ -126,7 +129,7 @@ found-entry s who m n fits hm live = one (findBy (hasKey (keyFor who n)) m) refl
           heldAddresses = found-knows (λ z. T (all (λ t. member t (heldAddresses s m)) (sessionAddresses s z))) (hasKey key) m x
               (all-every (λ z. all (λ t. member t (heldAddresses s m)) (sessionAddresses s z)) m (all-addresses-held s m)) e;
           separate = found-separate s m key x (k .separate) e;
-          peer = key-peer (x .peer) (x .seid) who n (ltb→lt (x .seid) (2 ^ 64) (kept′ .seidFits)) fits (found-has m key x e);
+          peer = key-peer (x .peer) (x .seid) who n (ltb→lt (x .seid) (2 ^ 64) (kept′ .records .seidFits)) fits (found-has m key x e);
           weighed = found-weighed (peerTeids who) m key x e;
         }
 
@@ -155,7 +158,7 @@ found-room s who m n fits hm live = one (findBy (hasKey (keyFor who n)) m) refl 
     one none e h = absurd h
     one (some x) e h =
         let key = keyFor who n in
-        let fits′ = session-kept s x (found-knows (λ z. T (sessionAllowed s z)) (hasKey key) m x (all-every (sessionAllowed s) m (sessions-kept s m hm .sessions)) e) .seidFits in
+        let fits′ = session-kept s x (found-knows (λ z. T (sessionAllowed s z)) (hasKey key) m x (all-every (sessionAllowed s) m (sessions-kept s m hm .sessions)) e) .records .seidFits in
         let own = key-peer (x .peer) (x .seid) who n (ltb→lt (x .seid) (2 ^ 64) fits′) fits (found-has m key x e) in
         let a = total-found (peerSessions who) (hasKey key) m x e in
         let b : peerSessions who x ≡ 1 = unfold hasPeer in (ap flag (is-true (eqb (x .peer) who) (yes-eqb own))) in
@@ -165,7 +168,7 @@ found-room s who m n fits hm live = one (findBy (hasKey (keyFor who n)) m) refl 
 own-room : (s : Settings) (who : ℕ) (m : Sessions) (msg : List ℕ) → T (sessionsAllowed s m) → T (isPeer who) → T (octets msg) → T (not (eqb (kindOf msg) setDeletion)) → Passed s who m msg
     → 1 + total (peerSessions who) (removeSession (sessionKey (entrySession who m msg)) m) ≤ half s
 unfolding entrySession atEntry tooManySessions unknownSession
-own-room s who m msg hm hw ho ns p = one (unnamed (kindOf msg)) (p .known) (subst (λ (b : Bool). T (not (b && leb (half s) (length (ofPeer who m))))) (sym (unnamed-new (kindOf msg) ns)) (p .room .0))
+own-room s who m msg hm hw ho ns p = one (unnamed (kindOf msg)) (p .known) (subst (λ (b : Bool). T (not (b && leb (half s) (length (ofPeer who m))))) (sym (unnamed-new (kindOf msg) ns)) (p .room .sessions))
   where
     one : (b : Bool) → T (not (not b && not (isLive (keyFor who (headerSeid msg)) m))) → T (not (b && leb (half s) (length (ofPeer who m))))
         → 1 + total (peerSessions who) (removeSession (sessionKey (pick b (newSession who (readRequest msg .seid)) (valueOr (newSession who (headerSeid msg)) (sessionOf (keyFor who (headerSeid msg)) m)))) m) ≤ half s
@@ -195,26 +198,28 @@ module _ (kind : ℕ) (s : Settings) (who : ℕ) (m : Sessions) (x : Session) (r
   -- its FQ-CSIDs
   csids-after : CsidsKept (apply got r x .csids)
   unfolding apply
-  csids-after = csids-kept (r .csids) (x .csids) (read .csids) (record { order = entry .kept .csidOrder; each = entry .kept .csids })
+  csids-after = csids-kept (r .csids) (x .csids) (read .csids) (record { order = entry .kept .records .csidOrder; each = entry .kept .records .csids })
 
   -- it keeps every rule
   pub applied-kept : SessionKept s (apply got r x)
   applied-kept =
       let k = entry .kept in
       record {
-        seid = unfold apply in (k .seid);
-        seidFits = unfold apply in (k .seidFits);
-        fewPdrs = unfold apply in (pdrs-few kind s who m x r k rules room read enough′ fits);
-        pdrOrder = unfold apply in (pdrs-order kind s who m x r k rules room read enough′ fits);
-        pdrs = unfold apply in (pdrs-allowed kind s who m x r k rules room read enough′ fits);
-        fewEndpoints = unfold apply in (endpoints-few kind s who m x r k rules room read enough′ fits);
-        endpointOrder = unfold apply in (endpoints-order kind s who m x r k rules room read enough′ fits);
-        endpoints = unfold apply in (endpoints-allowed kind s who m x r k rules room read enough′ fits);
-        fewCsids = csids-few (apply got r x .csids) csids-after;
-        csidOrder = csids-after .order;
-        csids = csids-after .each;
+        records = record {
+          seid = unfold apply in (k .records .seid);
+          seidFits = unfold apply in (k .records .seidFits);
+          fewPdrs = unfold apply in (pdrs-few kind s who m x r k rules room read enough′ fits);
+          pdrOrder = unfold apply in (pdrs-order kind s who m x r k rules room read enough′ fits);
+          pdrs = unfold apply in (pdrs-allowed kind s who m x r k rules room read enough′ fits);
+          fewEndpoints = unfold apply in (endpoints-few kind s who m x r k rules room read enough′ fits);
+          endpointOrder = unfold apply in (endpoints-order kind s who m x r k rules room read enough′ fits);
+          endpoints = unfold apply in (endpoints-allowed kind s who m x r k rules room read enough′ fits);
+          fewCsids = csids-few (apply got r x .csids) csids-after;
+          csidOrder = csids-after .order;
+          csids = csids-after .each;
+          peer = unfold apply in (k .records .peer);
+        };
         holds = changed-agree s m x r k rules read enough′ (entry .held) ok;
-        peer = unfold apply in (k .peer);
       }
 
   -- and no other session holds its TEIDs or addresses
@@ -285,14 +290,14 @@ changed-sound s who m msg hw hs hm ho hk ns nd p =
     let x = entrySession who m msg in
     let r = readRequest msg in
     let entry = entry-sound s who m msg hw hm ho ns p in
-    let rules = rules-kept s m x r (p .rules) in
-    let room = room-left (kindOf msg) s who m x r (p .room) in
+    let rules = p .rules in
+    let room = p .room in
     let far = applied-separate (kindOf msg) s who m x r entry rules room (request-read msg ho) (enough hw hm p) (p .allocation) (p .address) (chosen-address-fits s hs m) in
     record {
       sound = unfold changed in (session-allowed (applied-kept (kindOf msg) s who m x r entry rules room (request-read msg ho) (enough hw hm p) (p .allocation) (p .address) (chosen-address-fits s hs m)));
       separate = unfold changed apply in far;
       peers = unfold changed in (
-          applied-peers (kindOf msg) s who m x r entry rules room (request-read msg ho) (enough hw hm p) (p .allocation) (p .address) (chosen-address-fits s hs m) hw (k .peers) (k .separate)
+          applied-peers (kindOf msg) s who m x r entry rules room (request-read msg ho) (enough hw hm p) (p .allocation) (p .address) (chosen-address-fits s hs m) hw (peers-kept s m hm) (k .separate)
           (unfold putSession apply in (insert-apart s (apply (granted s m r) r x) (removeSession (sessionKey x) m) far (unfold removeSession in (keep-pairs (otherSession (sessionKey x)) (apart s) m (k .separate)))))
           (own-room s who m msg hm hw ho ns p));
     }

@@ -22,7 +22,8 @@ use Rattle.rules.specs.Grants.{granted, chosenAddress, need}
 use Rattle.rules.specs.Stages.{newPdrAddress, newEndpointAddress, addressesOf, removedPdrs, restoredAddresses, addressLacks}
 use Rattle.rules.specs.Apply.{addressGot, addressFrom, madePdr, madeEndpoint, pdrsAfter, endpointsAfter, apply}
 use Rattle.laws.proofs.RequestLaws.{RequestRead}
-use Rattle.invariants.proofs.KeptRules.{SessionKept, RulesKept}
+use Rattle.laws.proofs.KeptRules.{SessionKept}
+use Rattle.laws.proofs.KeptRequest.{RulesKept}
 use Rattle.invariants.proofs.HeldLaws.{all-held, all-addresses-held}
 use Rattle.invariants.proofs.Beside.{apart-teids, apart-addresses}
 use Rattle.invariants.proofs.FreeAddresses.{chosen-free}

@@ -20,7 +20,7 @@ use Rattle.rules.specs.Request.{CsidChanges, cleared, changed}
 use Rattle.rules.specs.Apply.{otherNode, setCsid, setCsids, followCsids}
 use Rattle.laws.proofs.ReadLaws.{CsidRead}
 use Rattle.laws.proofs.RequestLaws.{CsidsRead}
-use Rattle.invariants.proofs.KeptRules.{csid-kept, csid-allowed}
+use Rattle.laws.proofs.KeptRules.{csid-kept, csid-allowed}
 
 -- FQ-CSIDs in order and by their rules
 pub record CsidsKept (ds : List Csid) : Type 0 where

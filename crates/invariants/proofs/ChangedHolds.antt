@@ -21,7 +21,8 @@ use Rattle.rules.specs.Request.{Change, Request}
 use Rattle.rules.specs.Grants.{Kind, grants, grantedTeid, Got, granted, need}
 use Rattle.rules.specs.Stages.{invalidAllocation, removedPdrs}
 use Rattle.rules.specs.Apply.{madePdr, madeEndpoint, updateAll, keptPdr, keptEndpoint, pdrsAfter, endpointsAfter, apply}
-use Rattle.invariants.proofs.KeptRules.{shares, share-tests, SessionKept, RulesKept}
+use Rattle.laws.proofs.KeptRules.{shares, share-tests, SessionKept}
+use Rattle.laws.proofs.KeptRequest.{RulesKept}
 use Rattle.invariants.proofs.NewHolds.{locals, localTunnel, localHolding, newHoldings, new-locals, locals-read}
 use Rattle.invariants.proofs.NewTeids.{new-not-held, new-agree}
 use Rattle.laws.proofs.RequestLaws.{RequestRead}

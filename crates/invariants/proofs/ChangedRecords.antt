@@ -27,7 +27,8 @@ use Rattle.rules.specs.Apply.{namedMatch, matchFrom, addressGot, addressFrom, m
 use Rattle.laws.proofs.ReadLaws.{UeRead}
 use Rattle.laws.proofs.RequestLaws.{PdrRead, EndpointRead, ChangeRead, RequestRead}
 use Rattle.invariants.proofs.RemovedPdrs.{removed-live, removed-once, stays-named}
-use Rattle.invariants.proofs.KeptRules.{pdr-kept, pdr-allowed, kept-match, kept-with, endpoint-allowed, SessionKept, RulesKept, RoomLeft}
+use Rattle.laws.proofs.KeptRules.{pdr-kept, pdr-allowed, kept-match, kept-with, endpoint-allowed, SessionKept}
+use Rattle.laws.proofs.KeptRequest.{RulesKept, RoomLeft}
 use Rattle.invariants.proofs.NewHolds.{locals, endpointNew, pdrNew, localTunnel, locals-read}
 use Rattle.invariants.proofs.NewTeids.{new-tunnels}
 
@@ -153,7 +154,7 @@ module _ (kind : ℕ) (s : Settings) (who : ℕ) (m : Sessions) (x : Session) (r
   unfolding endpointsAfter keptEndpoint
   endpoints-order =
       after-ascending endpointId (r .goneEndpoints) newEndpoints (x .endpoints) (subst (λ (l : List ℕ). T (not (hasRepeat l))) (sym endpoint-ids) (rules .createdEndpointsOnce))
-      (subst (λ (l : List ℕ). T (not (anyIn l (map endpointId (x .endpoints))))) (sym endpoint-ids) (unfold liveEndpoints in (rules .createdEndpointsNew))) (kept .endpointOrder)
+      (subst (λ (l : List ℕ). T (not (anyIn l (map endpointId (x .endpoints))))) (sym endpoint-ids) (unfold liveEndpoints in (rules .createdEndpointsNew))) (kept .records .endpointOrder)
 
   -- each by its rule
   pub endpoints-allowed : T (all (endpointAllowed s) (endpointsAfter got r (x .endpoints)))
@@ -165,7 +166,7 @@ module _ (kind : ℕ) (s : Settings) (who : ℕ) (m : Sessions) (x : Session) (r
       (λ e k h. unfold madeEndpoint in (endpoint-allowed {s = s} {e = madeEndpoint got e} (record { id = k .id; local = unfold granted in h; address = unfold granted in (address-made (chosenAddress s m) fits (e .address) (k .address)) }))) (r .endpoints) (read .endpoints)
       (subst T (all-map endpointNew (λ l. tunnelAllowed s (localTunnel teids l)) (r .endpoints))
       (all-front (λ l. tunnelAllowed s (localTunnel teids l)) (map endpointNew (r .endpoints)) (collect pdrNew (r .pdrs)) (unfold locals in tunnels)))))
-      (keep-all (keptKey endpointId (r .goneEndpoints)) (endpointAllowed s) (x .endpoints) (kept .endpoints))
+      (keep-all (keptKey endpointId (r .goneEndpoints)) (endpointAllowed s) (x .endpoints) (kept .records .endpoints))
 
   -- the IDs of the endpoints afterwards
   abbrev liveAfter : List ℕ
@@ -196,7 +197,7 @@ module _ (kind : ℕ) (s : Settings) (who : ℕ) (m : Sessions) (x : Session) (r
   -- at most 16 PDRs
   pub pdrs-few : T (leb (length (pdrsAfter got r (x .pdrs))) maxPdrs)
   pdrs-few =
-      let a = after-length pdrId gone newPdrs (x .pdrs) (removed-once r (x .pdrs) (kept .pdrOrder)) (removed-live r (x .pdrs)) in
+      let a = after-length pdrId gone newPdrs (x .pdrs) (removed-once r (x .pdrs) (kept .records .pdrOrder)) (removed-live r (x .pdrs)) in
       let b = length-map (r .pdrs) (madePdr got) in
       let c = room .pdrs in
       let e = ap length pdr-keys in
@@ -210,7 +211,7 @@ module _ (kind : ℕ) (s : Settings) (who : ℕ) (m : Sessions) (x : Session) (r
   pdrs-order =
       subst (λ (l : List ℕ). T (ascending l)) (sym pdr-keys)
       (after-ascending pdrId gone newPdrs (x .pdrs) (subst (λ (l : List ℕ). T (not (hasRepeat l))) (sym pdr-ids) (rules .createdPdrsOnce))
-      (subst (λ (l : List ℕ). T (not (anyIn l (map pdrId (x .pdrs))))) (sym pdr-ids) (unfold livePdrs in (rules .createdPdrsNew))) (kept .pdrOrder))
+      (subst (λ (l : List ℕ). T (not (anyIn l (map pdrId (x .pdrs))))) (sym pdr-ids) (unfold livePdrs in (rules .createdPdrsNew))) (kept .records .pdrOrder))
 
   -- a new PDR keeps its rule
   new-pdrs-allowed : T (all (pdrAllowed s liveAfter) newPdrs)
@@ -245,7 +246,7 @@ module _ (kind : ℕ) (s : Settings) (who : ℕ) (m : Sessions) (x : Session) (r
   old-pdrs-allowed : T (all (pdrAllowed s liveAfter) (keep (keptKey pdrId gone) (x .pdrs)))
   old-pdrs-allowed =
       all-join (pdrAllowed s (map endpointId (x .endpoints))) (λ p. onSome (λ n. not (member n (r .goneEndpoints))) (pdrEndpoint p)) (pdrAllowed s liveAfter) one
-      (keep (keptKey pdrId gone) (x .pdrs)) (keep-all (keptKey pdrId gone) (pdrAllowed s (map endpointId (x .endpoints))) (x .pdrs) (kept .pdrs))
+      (keep (keptKey pdrId gone) (x .pdrs)) (keep-all (keptKey pdrId gone) (pdrAllowed s (map endpointId (x .endpoints))) (x .pdrs) (kept .records .pdrs))
       (stays-named r (x .pdrs))
     where
       matched : (q : Match) → T (matchAllowed s (map endpointId (x .endpoints)) q) → T (onSome (λ n. not (member n (r .goneEndpoints))) (matchedEndpoint q)) → T (matchAllowed s liveAfter q)

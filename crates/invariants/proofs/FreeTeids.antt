@@ -13,7 +13,7 @@ use Rattle.octets.proofs.ListLaws.{onSome, all-imply, all-append, all-map, all-
 use Rattle.laws.proofs.RangeLaws.{unheld-there, unheld-ascends, unheld-once, unheld-count}
 use Rattle.rules.specs.Model.{Settings, Match, neither, tunnel, endpoint, Pdr, Endpoint, Session, Sessions, teidOf, matchedTunnel, tunnelHolding, pdrHolding, endpointHolding, sessionHoldings, sessionTeids, heldTeids, freeCount, freeTeids, endpointId}
 use Rattle.rules.specs.Sound.{inPool, matchAllowed, pdrAllowed, endpointAllowed, sessionAllowed, sessionsAllowed}
-use Rattle.invariants.proofs.KeptRules.{tunnel-kept, endpoint-kept, pdr-kept, session-kept, sessions-kept}
+use Rattle.laws.proofs.KeptRules.{tunnel-kept, endpoint-kept, pdr-kept, session-kept, sessions-kept}
 
 -- ---- what is free
 
@@ -39,7 +39,7 @@ module _ (s : Settings) (m : Sessions) where
 session-pool : (s : Settings) (x : Session) → T (sessionAllowed s x) → T (all (inPool s) (sessionTeids x))
 unfolding sessionTeids sessionHoldings
 session-pool s x h =
-    let k = session-kept s x h in
+    let k = session-kept s x h .records in
     subst T (sym (all-map teidOf (inPool s) (map endpointHolding (x .endpoints) ++ collect pdrHolding (x .pdrs))))
     (all-append (λ g. inPool s (g .teid)) (map endpointHolding (x .endpoints)) (collect pdrHolding (x .pdrs))
     (subst T (sym (all-map endpointHolding (λ g. inPool s (g .teid)) (x .endpoints)))

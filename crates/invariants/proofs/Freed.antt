@@ -25,7 +25,8 @@ use Rattle.rules.specs.Serve.{sessionsAfter}
 use Rattle.invariants.proofs.VerdictLaws.{Passed}
 use Rattle.invariants.proofs.GrantLaws.{enough}
 use Rattle.invariants.proofs.After.{found-key, keep-allowed}
-use Rattle.invariants.proofs.KeptRules.{RulesKept, rules-kept, sessions-kept}
+use Rattle.laws.proofs.KeptRules.{sessions-kept}
+use Rattle.laws.proofs.KeptRequest.{RulesKept}
 use Rattle.invariants.proofs.FreeTeids.{free-there, held-in-pool}
 use Rattle.invariants.proofs.FreeAddresses.{address-free-there, held-addresses-pool}
 use Rattle.invariants.proofs.HeldLaws.{member-append, absent-held, absent-address-held}
@@ -57,7 +58,7 @@ module _ (s : Settings) (who : ℕ) (m : Sessions) (msg : List ℕ) (hw : T (isP
   entry = entry-sound s who m msg hw hm ho ns p
 
   rules : RulesKept s m x r
-  rules = rules-kept s m x r (p .rules)
+  rules = p .rules
 
   -- ---- TEIDs and addresses alike: `of` are those that a session holds, `held` those of all sessions
 

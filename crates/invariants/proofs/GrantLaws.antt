@@ -2,13 +2,12 @@
 -- Assumes nothing.
 use mathlib.Core.Path.{_≡_, refl, sym, ap, ap₂, _∙_, subst}
 use Prim.Native.Nat.{ℕ, _+_, _≤_}
-use native.Mathlib.Nat.{le-trans}
 use native.Mathlib.Omega.{arith}
 use mathlib.Core.Bool.{Bool, true, false, _||_}
 use mathlib.Core.Option.{some}
 use mathlib.Core.List.{List, [], _∷_}
 use lib.ListN.{length}
-use lib.Dec.{T, eqb, eqb→eq, nltb→le}
+use lib.Dec.{T, eqb, eqb→eq}
 use Rattle.octets.specs.Choice.{pick, isSome, headOr, rest}
 use Rattle.octets.specs.Lists.{member, all, findBy}
 use Rattle.octets.proofs.Tests.{all-head, all-tail}
@@ -16,13 +15,12 @@ use Rattle.octets.proofs.Bools.{eqb-turn}
 use Rattle.rules.specs.Model.{Settings, Sessions, freeCount, freeTeids, isPeer}
 use Rattle.rules.specs.Reading.{readRequest}
 use Rattle.rules.specs.Grants.{Chosen, isChoice, need}
-use Rattle.rules.specs.Stages.{tooFewTeids, needed, entrySession}
+use Rattle.rules.specs.Stages.{needed}
 use Rattle.invariants.proofs.VerdictLaws.{Passed}
 use Rattle.invariants.proofs.PoolLaws.{free-enough}
 use Rattle.rules.specs.Sound.{sessionsAllowed}
-use Rattle.rules.specs.Message.{kindOf}
 use Rattle.laws.proofs.PeerLaws.{known-peers}
-use Rattle.invariants.proofs.KeptRules.{sessions-kept, room-left}
+use Rattle.laws.proofs.KeptRules.{sessions-kept}
 use Rattle.invariants.proofs.Totals.{both-hold}
 
 -- the CHOOSE IDs seen are those that have a TEID
@@ -56,7 +54,7 @@ module _ {s : Settings} {who : ℕ} {m : Sessions} {msg : List ℕ} (hw : T (isP
   pub enough : need (readRequest msg) ≤ length (freeTeids s m)
   unfolding freeCount needed
   enough =
-      let a = room-left (kindOf msg) s who m (entrySession who m msg) (readRequest msg) (passed .room) .pool in
+      let a = passed .room .pool in
       let k = sessions-kept s m hm in
       let b = both-hold s who hw m (known-peers s m (k .sessions)) (k .separate) in
       let c = free-enough s m in

@@ -17,8 +17,9 @@ use Rattle.octets.proofs.Tests.{both, all-head, all-tail, all-cons, is-true, is
 use Rattle.octets.proofs.Ordered.{pairs-head, pairs-tail, pairs-cons}
 use Rattle.octets.proofs.ListLaws.{by-test, or-right, or-by-left, or-by-right, Every, all-every, all-imply, found-passes, found-knows, found-related}
 use Rattle.octets.proofs.MemberLaws.{differ-turn, absent-each, each-absent}
-use Rattle.rules.specs.Grants.{Kind, ofPdr, ofEndpoint, sameKind, Choice, Chosen, Grant, chosen, isChoice, chosenTeid, remember, grantOf, teidFor, freeAfter, chosenAfter, grantFrom, isFresh, noted, needFrom, grantTeid, isGrantFor, grantedTeid}
+use Rattle.rules.specs.Grants.{Kind, ofPdr, ofEndpoint, sameKind, Choice, Chosen, Grant, chosen, isChoice, chosenTeid, remember, grantOf, teidFor, freeAfter, chosenAfter, grantFrom, grantTeid, isGrantFor, grantedTeid}
 use Rattle.rules.specs.Stages.{sameChoice}
+use Rattle.laws.proofs.NeedLaws.{isFresh, noted, needFrom}
 use Rattle.invariants.proofs.GrantLaws.{Matches, matches-new, matches-old, next-ok}
 
 -- a CHOOSE with the TEID that it is given

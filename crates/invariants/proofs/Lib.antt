@@ -15,7 +15,6 @@ pub mod GrantReply
 pub mod GrantedTeids
 pub mod HeldLaws
 pub mod InsertLaws
-pub mod KeptRules
 pub mod NewHolds
 pub mod NewTeids
 pub mod NoRoom

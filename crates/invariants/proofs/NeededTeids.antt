@@ -9,20 +9,21 @@ use mathlib.Core.List.{List, [], _∷_, _++_, map, append-nil, Permᴰ·symm}
 use lib.ListN.{length}
 use lib.Dec.{T}
 use Rattle.octets.specs.Choice.{pick, flag, isSome, mapOption, headOr, rest}
-use Rattle.octets.specs.Lists.{member, distinct, all, allPairs, findBy}
+use Rattle.octets.specs.Lists.{member, distinct, all, findBy}
 use Rattle.octets.proofs.Tests.{all-cons, is-true}
 use Rattle.octets.proofs.Ordered.{all-perm}
 use Rattle.octets.proofs.Counting.{distinct-middle}
-use Rattle.octets.proofs.ListLaws.{all-imply, all-every, all-know, all-join, all-append, all-map, all-collect, onSome, found-knows, Every}
+use Rattle.octets.proofs.ListLaws.{all-imply, all-every, all-know, all-join, all-append, all-map, all-collect, onSome, found-knows}
 use Rattle.octets.proofs.MemberLaws.{member-first, member-front, member-behind, all-members}
 use Rattle.rules.specs.Model.{Settings, Session, Sessions, Holding, teidOf, tunnelHolding, sessionHoldings, sessionTeids, freeTeids}
 use Rattle.rules.specs.Elements.{Fteid, given, choose}
 use Rattle.rules.specs.Request.{Request}
-use Rattle.rules.specs.Grants.{Kind, Choice, Chosen, choiceOf, choices, chosen, isChoice, chosenTeid, remember, teidFor, freeAfter, chosenAfter, isFresh, noted, needFrom, need, grants, grantedTeid, granted}
+use Rattle.rules.specs.Grants.{Kind, Choice, Chosen, choiceOf, choices, chosen, isChoice, chosenTeid, remember, teidFor, freeAfter, chosenAfter, need, grants, grantedTeid, granted}
 use Rattle.rules.specs.Stages.{restoredHolding, restoredHoldings, needed}
 use Rattle.rules.specs.Apply.{tunnelFrom, apply}
+use Rattle.laws.proofs.NeedLaws.{isFresh, noted, needFrom, need-given}
 use Rattle.laws.proofs.DistinctLaws.{distinct-within, distinct-both}
-use Rattle.invariants.proofs.KeptRules.{RulesKept}
+use Rattle.laws.proofs.KeptRequest.{RulesKept}
 use Rattle.invariants.proofs.GrantLaws.{Matches, matches-new, matches-old}
 use Rattle.invariants.proofs.GrantedTeids.{Granted, grantedFrom, choiceIn, granted-choices}
 use Rattle.invariants.proofs.NewHolds.{shared, locals, localChoice, localRestored, localTunnel, localHolding, newHoldings, choices-locals, restored-locals, new-locals, choices-other}
@@ -109,12 +110,11 @@ module _ (s : Settings) (m : Sessions) (x : Session) (r : Request) (rules : Rule
   namedTeids = map teidOf (restoredHoldings r)
 
   few : distinct chosenTeids ≤ need r
-  unfolding need
   few =
       let a = granted-few (choices r) [] (freeTeids s m) [] [] (λ i. unfold member findBy in refl) (unfold all in tt) in
       let b = ap distinct (append-nil chosenTeids) in
       let c : distinct [] ≡ 0 = unfold distinct in refl in
-      omega arith
+      omega (arith, need-given r)
 
   -- every CHOOSE has one of those given
   choices-there : T (all (λ c. member (teids (c .kind) (c .id)) chosenTeids) (choices r))

@@ -22,8 +22,10 @@ use Rattle.rules.specs.Stages.{fteidsOf, allocationWrong, invalidAllocation, sa
 use Rattle.rules.specs.Apply.{tunnelFrom}
 use Rattle.invariants.proofs.PoolLaws.{free-in-pool, free-not-held}
 use Rattle.invariants.proofs.FreeTeids.{free-once}
+use Rattle.laws.proofs.NeedLaws.{enough-given}
 use Rattle.laws.proofs.ReadLaws.{FteidRead}
-use Rattle.invariants.proofs.KeptRules.{tunnel-allowed, share-tests, RulesKept}
+use Rattle.laws.proofs.KeptRules.{tunnel-allowed, share-tests}
+use Rattle.laws.proofs.KeptRequest.{RulesKept}
 use Rattle.invariants.proofs.GrantedTeids.{Granted, grantedFrom, choiceIn, granted-grants, granted-choices, granted-all, granted-apart, otherRecord, own-teid, no-choice}
 use Rattle.invariants.proofs.NewHolds.{shared, locals, localFteid, localChoice, localRestored, localTunnel, localHolding, newHoldings, choices-locals, restored-locals, fteids-locals, new-locals, choices-other, alikeLocals, locals-alike}
 
@@ -51,12 +53,11 @@ module _ (s : Settings) (m : Sessions) (r : Request) (other : T (allPairs otherR
 
   -- a test of every free TEID holds of every TEID given
   pub given-test : (p : ℕ → Bool) → T (all p (freeTeids s m)) → T (all (λ c. p (teidFor′ c)) (choices r))
-  unfolding need
   given-test p h =
       subst (λ (l : List Choice). T (all (λ c. p (teidFor′ c)) l)) (granted-choices (choices r) [] (freeTeids s m))
       (subst T (sym (all-map choiceIn (λ c. p (teidFor′ c)) given′))
       (all-know (λ d. teids (d .choice .kind) (d .choice .id) ≡ d .teid) (λ d. p (d .teid)) (λ d. p (teidFor′ (d .choice))) (λ d e g. subst (λ (t : ℕ). T (p t)) (sym e) g) given′ looked-up
-      (granted-all p (λ i t. p t) (λ i t g. g) (choices r) [] (freeTeids s m) [] (λ i. unfold member findBy in refl) (unfold all in tt) h enough)))
+      (granted-all p (λ i t. p t) (λ i t g. g) (choices r) [] (freeTeids s m) [] (λ i. unfold member findBy in refl) (unfold all in tt) h (enough-given r (length (freeTeids s m)) enough))))
 
   -- two CHOOSEs have one TEID only with one CHOOSE ID
   abbrev givenApart : Choice → Choice → Bool
@@ -64,7 +65,6 @@ module _ (s : Settings) (m : Sessions) (r : Request) (other : T (allPairs otherR
 
   -- which holds of every two
   pub given-apart : T (allPairs givenApart (choices r))
-  unfolding need
   given-apart =
       subst (λ (l : List Choice). T (allPairs givenApart l)) (granted-choices (choices r) [] (freeTeids s m))
       (subst T (sym (pairs-map choiceIn givenApart given′))
@@ -73,7 +73,7 @@ module _ (s : Settings) (m : Sessions) (r : Request) (other : T (allPairs otherR
       (λ a b e g h. subst (λ (t : ℕ). T (not (eqb t (teidFor′ (b .choice))) || sameChoice (a .choice .chooseId) (b .choice .chooseId))) (sym e)
       (subst (λ (t : ℕ). T (not (eqb (a .teid) t) || sameChoice (a .choice .chooseId) (b .choice .chooseId))) (sym g) h)) given′ looked-up
       (granted-apart (choices r) [] (freeTeids s m) [] (λ i. unfold member findBy in refl)
-      (record { taken = unfold all in tt; own = unfold allPairs in tt; once = free-once s m }) enough)))
+      (record { taken = unfold all in tt; own = unfold allPairs in tt; once = free-once s m }) (enough-given r (length (freeTeids s m)) enough))))
 
 -- ---- sharing
 

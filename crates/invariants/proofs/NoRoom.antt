@@ -4,69 +4,46 @@
 use mathlib.Core.Path.{_≡_, refl, sym, ap, ap₂, _∙_, subst}
 use mathlib.Core.Logic.{_≢_}
 use Prim.Native.Nat.{ℕ, suc, _+_, _-_, _≤_, _<_}
-use native.Mathlib.Nat.{le-trans}
 use native.Mathlib.Omega.{arith}
 use mathlib.Core.Bool.{Bool, true, false, not, _&&_, _||_}
-use mathlib.Core.Option.{Option, none, some}
 use mathlib.Core.List.{List, [], _∷_, map}
 use lib.ListN.{length, length-map}
-use lib.Dec.{T, T-not, leb, ltb, eqb, eqb→eq, leb→le, leb·suc-suc}
+use lib.Dec.{T, leb, ltb, eqb, eqb→eq, leb·suc-suc}
 use mir.Facts.{no-ltb, yes-eqb}
 use Rattle.octets.specs.Choice.{pick, oneOf, valueOr, flag}
 use Rattle.octets.specs.Octets.{octets}
-use Rattle.octets.specs.Lists.{member, ascending, keep, insertBy}
-use Rattle.octets.proofs.Tests.{pick-no, pick-yes, is-false, of-true, is-true}
-use Rattle.octets.proofs.Ordered.{insert-length, keep-length, keep-less}
+use Rattle.octets.specs.Lists.{member, ascending, keep, insertBy, all}
+use Rattle.octets.proofs.Tests.{pick-yes, is-false, of-true, is-true}
 use Rattle.octets.proofs.ListLaws.{not-not, none-found, by-test}
 use Rattle.invariants.proofs.InsertLaws.{keep-everything}
 use Rattle.invariants.proofs.RecordsAfter.{after, after-count}
-use Rattle.rules.specs.Model.{Settings, Session, Sessions, freeTeids, pdrId, endpointId, sessionKey, keyFor, isPeer, half, ofPeer, hasPeer}
+use Rattle.rules.specs.Model.{Settings, Session, Sessions, pdrId, endpointId, sessionKey, keyFor, isPeer, half, ofPeer, hasPeer}
 use Rattle.rules.specs.Limits.{maxPdrs, maxEndpoints}
 use Rattle.rules.specs.Layout.{viewSettings, viewSessions}
-use Rattle.rules.specs.Elements.{Refusal, missing, conditional, tooShort, incorrect, causeOf}
 use Rattle.rules.specs.Sound.{sessionsAllowed}
-use Rattle.rules.specs.Message.{kindOf, headerSeid, Spot, frameFault, establishment, deletion, setDeletion}
-use Rattle.rules.specs.Reading.{Fault, readFault, readRequest}
+use Rattle.rules.specs.Message.{kindOf, headerSeid, establishment, deletion, setDeletion}
+use Rattle.rules.specs.Reading.{readRequest}
 use Rattle.rules.specs.Request.{Request}
-use Rattle.rules.specs.Grants.{Kind, Got, granted, need}
-use Rattle.rules.specs.Stages.{hasKey, sessionOf, isLive, newSession, atEntry, liveEndpoints, removedPdrs, invalidAllocation, brokenRules, breaksRule, tooManySessions, tooManyPdrs, tooManyEndpoints, tooFewTeids, roomLacks, addressLacks, Verdict, plain, judge, entrySession, judged, fromReading, verdictFrom, unknownSession, verdict, unnamed}
+use Rattle.rules.specs.Grants.{Kind, Got, granted}
+use Rattle.rules.specs.Stages.{hasKey, sessionOf, isLive, newSession, atEntry, liveEndpoints, removedPdrs, tooManySessions, tooManyPdrs, tooManyEndpoints, tooFewTeids, roomLacks, addressLacks, entrySession, unknownSession, verdict, unnamed, alreadyLive}
 use Rattle.rules.specs.Apply.{madePdr, madeEndpoint, updateAll, keptPdr, keptEndpoint, pdrsAfter, endpointsAfter, apply, otherSession, removeSession, putSession, follow, staysSession}
 use Rattle.rules.specs.Serve.{sessionsAfter, serve}
 use Rattle.rules.specs.Live.{replyCause}
 use Rattle.rules.specs.Causes as why
-use Rattle.invariants.proofs.VerdictLaws.{none-hold}
-use Rattle.invariants.proofs.KeptRules.{sessions-kept, RulesKept, rules-kept}
+use Rattle.laws.proofs.ReasonLaws.{first-past, first-rest, first-holds}
+use Rattle.laws.proofs.KeptRules.{table-kept}
+use Rattle.laws.proofs.KeptRequest.{RulesKept, rules-kept}
+use Rattle.invariants.proofs.VerdictLaws.{Reached, reached, reached-cause, noRoom, noAddress}
 use Rattle.invariants.proofs.RemovedPdrs.{removed-live, removed-once}
-use Rattle.invariants.proofs.FreeTeids.{free-count}
 use Rattle.invariants.proofs.ChangedRecords.{update-map, update-id}
-use Rattle.invariants.proofs.After.{changed, live-any, found-key}
+use Rattle.invariants.proofs.After.{changed, found-key}
 use Rattle.invariants.proofs.Changed.{entry-known, found-room}
-use Rattle.invariants.proofs.ServeLaws.{answers, table-kept, served-cause}
+use Rattle.invariants.proofs.ServeLaws.{answers, served-cause}
 use Rattle.laws.proofs.HeaderLaws.{unnamed-new, unnamed-sets}
 use Rattle.invariants.proofs.Totals.{total, total-insert, total-keep, peerSessions, count-total}
-use Rattle.laws.proofs.PeerLaws.{header-seid-fits}
-
--- no fault of stages 1 to 4 stands
-pub record Reached (s : Settings) (who : ℕ) (m : Sessions) (msg : List ℕ) : Type 0 where
-  pub known : T (not (unknownSession who m msg))
-  pub framed : frameFault msg ≡ none
-  pub read : readFault msg ≡ none
-  pub fresh : T (not (eqb (kindOf msg) establishment && isLive (keyFor who (readRequest msg .seid)) m))
-  pub allocation : T (not (invalidAllocation (readRequest msg)))
-  pub supported : T (not (readRequest msg .unsupported))
-  -- the rules that the request keeps
-  pub rules : T (not (breaksRule s m (entrySession who m msg) (readRequest msg)))
+use Rattle.laws.proofs.PeerLaws.{peers-kept, header-seid-fits}
 
 -- ---- exactly when
-
--- a cause comes not from a branch with another cause
-past : (n c : ℕ) (b : Bool) (v : Verdict) → c ≢ n → pick b (plain c) v .cause ≡ n → T (not b) × (v .cause ≡ n)
-past n c true v ne e = absurd (ne e)
-past n c false v ne e = (tt, e)
-
--- the causes of stages 1 to 4
-earlier : List ℕ
-earlier = why.noSession ∷ why.mandatoryMissing ∷ why.conditionalMissing ∷ why.wrongLength ∷ why.incorrect ∷ why.rejected ∷ why.wrongAllocation ∷ why.notSupported ∷ why.brokenRule ∷ []
 
 module _ (s : Settings) (who : ℕ) (m : Sessions) (msg : List ℕ) where
   -- the limits leave no room for the request
@@ -77,107 +54,31 @@ module _ (s : Settings) (who : ℕ) (m : Sessions) (msg : List ℕ) where
   abbrev pub Unaddressed : Type 0
   Unaddressed = T (addressLacks s m (readRequest msg))
 
-  -- stages 5 and 6
-  abbrev last : Verdict
-  last = pick (roomLacks (kindOf msg) s who m (entrySession who m msg) (readRequest msg)) (plain why.noRoom) (pick (addressLacks s m (readRequest msg)) (plain why.noAddress) (plain why.accepted))
-
-  -- any other cause n
-  module _ (n : ℕ) (late : T (not (member n earlier))) where
-    other : (c : ℕ) → T (member c earlier) → c ≢ n
-    other c h e = T-not (member n earlier) late (subst (λ (k : ℕ). T (member k earlier)) e h)
-
-    -- stage 2
-    past-framing : (o : Option Spot) → verdictFrom s who m msg o .cause ≡ n → (o ≡ none) × (fromReading s who m msg (readFault msg) .cause ≡ n)
-    unfolding verdictFrom
-    past-framing none e = (refl, e)
-    past-framing (some t) e = absurd (other why.wrongLength (unfold earlier member in tt) e)
-
-    -- a reader's refusal has another cause
-    refused : (f : Refusal) → causeOf f ≢ n
-    unfolding causeOf earlier member
-    refused missing = other why.mandatoryMissing tt
-    refused conditional = other why.conditionalMissing tt
-    refused tooShort = other why.wrongLength tt
-    refused incorrect = other why.incorrect tt
-
-    -- stage 3
-    past-reading : (o : Option Fault) → fromReading s who m msg o .cause ≡ n → (o ≡ none) × (judged s who m msg .cause ≡ n)
-    unfolding fromReading
-    past-reading none e = (refl, e)
-    past-reading (some f) e = absurd (refused (f .cause) e)
-
-    -- it comes from stages 5 and 6
-    reached : verdict s who m msg .cause ≡ n → Reached s who m msg × (last .cause ≡ n)
-    unfolding verdict judged judge earlier member
-    reached e =
-        let a = past n why.noSession (unknownSession who m msg) (verdictFrom s who m msg (frameFault msg)) (other why.noSession tt) e in
-        let b = past-framing (frameFault msg) (a .1) in
-        let c = past-reading (readFault msg) (b .1) in
-        let x = entrySession who m msg in
-        let r = readRequest msg in
-        let k = kindOf msg in
-        let d = past n why.rejected (eqb k establishment && isLive (keyFor who (r .seid)) m) _ (other why.rejected tt) (c .1) in
-        let f = past n why.wrongAllocation (invalidAllocation r) _ (other why.wrongAllocation tt) (d .1) in
-        let g = past n why.notSupported (r .unsupported) _ (other why.notSupported tt) (f .1) in
-        let h = past n why.brokenRule (breaksRule s m x r) last (other why.brokenRule tt) (g .1) in
-        (record { known = a .0; framed = b .0; read = c .0; fresh = d .0; allocation = f .0; supported = g .0; rules = h .0 }, h .1)
-
-  -- the branch of 75
-  full-branch : (b c : Bool) → pick b (plain why.noRoom) (pick c (plain why.noAddress) (plain why.accepted)) .cause ≡ why.noRoom → T b
-  full-branch true c e = tt
-  full-branch false true e = absurd (omega arith)
-  full-branch false false e = absurd (omega arith)
-
   -- 75 only then
   pub cause-75 : verdict s who m msg .cause ≡ why.noRoom → Reached s who m msg × Full
+  unfolding member all
   cause-75 e =
-      let k = reached why.noRoom (unfold earlier member in tt) e in
-      (k .0, full-branch (roomLacks (kindOf msg) s who m (entrySession who m msg) (readRequest msg)) (addressLacks s m (readRequest msg)) (k .1))
-
-  -- the branch of 79
-  empty-branch : (b c : Bool) → pick b (plain why.noRoom) (pick c (plain why.noAddress) (plain why.accepted)) .cause ≡ why.noAddress → T (not b) × T c
-  empty-branch true c e = absurd (omega arith)
-  empty-branch false true e = (tt, tt)
-  empty-branch false false e = absurd (omega arith)
+      let k = reached s who m msg why.noRoom tt tt e in
+      (k .0, first-holds (noRoom s who m msg) (noAddress s who m msg ∷ []) tt tt (k .1))
 
   -- 79 only where there is room, and no address
   pub cause-79 : verdict s who m msg .cause ≡ why.noAddress → Reached s who m msg × (T (not (roomLacks (kindOf msg) s who m (entrySession who m msg) (readRequest msg))) × Unaddressed)
+  unfolding member all
   cause-79 e =
-      let k = reached why.noAddress (unfold earlier member in tt) e in
-      (k .0, empty-branch (roomLacks (kindOf msg) s who m (entrySession who m msg) (readRequest msg)) (addressLacks s m (readRequest msg)) (k .1))
-
-  -- the verdict of a request without an earlier fault
-  reached-verdict : Reached s who m msg → verdict s who m msg ≡ last
-  unfolding verdict judged judge
-  reached-verdict p =
-      let r = readRequest msg in
-      pick-no (unknownSession who m msg) (plain why.noSession) _ (p .known)
-      ∙ ap (verdictFrom s who m msg) (p .framed)
-      ∙ framed
-      ∙ ap (fromReading s who m msg) (p .read)
-      ∙ read
-      ∙ pick-no (eqb (kindOf msg) establishment && isLive (keyFor who (r .seid)) m) (plain why.rejected) _ (p .fresh)
-      ∙ pick-no (invalidAllocation r) (plain why.wrongAllocation) _ (p .allocation)
-      ∙ pick-no (r .unsupported) (plain why.notSupported) _ (p .supported)
-      ∙ pick-no (breaksRule s m (entrySession who m msg) r) (plain why.brokenRule) _ (p .rules)
-    where
-      framed : verdictFrom s who m msg none ≡ fromReading s who m msg (readFault msg)
-      framed = unfold verdictFrom in refl
-
-      read : fromReading s who m msg none ≡ judged s who m msg
-      read = unfold fromReading in refl
+      let k = reached s who m msg why.noAddress tt tt e in
+      let p = first-past why.noAddress (noRoom s who m msg ∷ []) (noAddress s who m msg ∷ []) tt (k .1) in
+      (k .0, (p .0 .0, first-holds (noAddress s who m msg) [] tt tt (p .1)))
 
   -- 75 always then
   pub verdict-75 : Reached s who m msg → Full → verdict s who m msg .cause ≡ why.noRoom
-  verdict-75 p full = ap {B = ℕ} (λ (v : Verdict). v .cause) (reached-verdict p ∙ pick-yes (roomLacks (kindOf msg) s who m (entrySession who m msg) (readRequest msg)) (plain why.noRoom) _ full)
+  verdict-75 p full = reached-cause s who m msg p ∙ pick-yes (roomLacks (kindOf msg) s who m (entrySession who m msg) (readRequest msg)) why.noRoom _ full
 
   -- 79 always then
   pub verdict-79 : Reached s who m msg → T (not (roomLacks (kindOf msg) s who m (entrySession who m msg) (readRequest msg))) → Unaddressed → verdict s who m msg .cause ≡ why.noAddress
   verdict-79 p room full =
-      ap {B = ℕ} (λ (v : Verdict). v .cause)
-      (reached-verdict p
-      ∙ pick-no (roomLacks (kindOf msg) s who m (entrySession who m msg) (readRequest msg)) (plain why.noRoom) _ room
-      ∙ pick-yes (addressLacks s m (readRequest msg)) (plain why.noAddress) (plain why.accepted) full)
+      reached-cause s who m msg p
+      ∙ first-rest (noRoom s who m msg ∷ []) (noAddress s who m msg ∷ []) (room, tt)
+      ∙ pick-yes (addressLacks s m (readRequest msg)) why.noAddress why.accepted full
 
 -- ---- what would result
 
@@ -223,21 +124,20 @@ module _ (s : Settings) (who : ℕ) (m : Sessions) (msg : List ℕ) (hw : T (isP
   pdr-order : T (ascending (map pdrId (x .pdrs)))
   pdr-order =
       by-test (eqb (kindOf msg) setDeletion) (λ d. subst (λ (y : Session). T (ascending (map pdrId (y .pdrs)))) (sym (sets-entry d)) (unfold newSession ascending in tt))
-      (λ ns. entry-known s who m msg hw hm ho ns (p .known) (p .read) .kept .pdrOrder)
+      (λ ns. entry-known s who m msg hw hm ho ns (p .known) (p .read) .kept .records .pdrOrder)
 
   endpoint-order : T (ascending (map endpointId (x .endpoints)))
   endpoint-order =
       by-test (eqb (kindOf msg) setDeletion) (λ d. subst (λ (y : Session). T (ascending (map endpointId (y .endpoints)))) (sym (sets-entry d)) (unfold newSession ascending in tt))
-      (λ ns. entry-known s who m msg hw hm ho ns (p .known) (p .read) .kept .endpointOrder)
+      (λ ns. entry-known s who m msg hw hm ho ns (p .known) (p .read) .kept .records .endpointOrder)
 
   -- the rules that the request keeps
   rules : RulesKept s m x r
-  unfolding breaksRule
-  rules = rules-kept s m x r (none-hold (brokenRules s m x r) (p .rules))
+  rules = rules-kept s m x r (p .rules)
 
   -- the peer's sessions at entry are within its half
   few : length (ofPeer who m) ≤ half s
-  few = sessions-kept s m hm .peers .sessions who hw
+  few = peers-kept s m hm .sessions who hw
 
   -- and so are fewer
   kept-few : (q : Session → Bool) → length (ofPeer who (keep q m)) ≤ half s
@@ -257,7 +157,7 @@ module _ (s : Settings) (who : ℕ) (m : Sessions) (msg : List ℕ) (hw : T (isP
 
   -- the number of the peer's sessions
   sessions-exact : ltb (half s) (length (ofPeer who (sessionsAfter s who m msg))) ≡ tooManySessions s who (kindOf msg) m
-  unfolding sessionsAfter follow tooManySessions
+  unfolding sessionsAfter follow tooManySessions alreadyLive
   sessions-exact = sets (eqb (kindOf msg) setDeletion) refl
     where
       y : Session

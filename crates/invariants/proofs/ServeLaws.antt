@@ -12,14 +12,14 @@ use lib.Dec.{T, T-not, not-T, ltb, eqb, eqb→eq, nltb→le, lit≤}
 use mir.Facts.{no-ltb}
 use Rattle.octets.specs.Choice.{pick}
 use Rattle.octets.specs.Octets.{octets, put}
-use Rattle.octets.proofs.Tests.{each, and-right, of-true, pick-yes, pick-no}
-use Rattle.octets.proofs.Numbers.{same-eq}
+use Rattle.octets.proofs.Tests.{and-right, of-true, pick-yes, pick-no}
 use Rattle.octets.proofs.ListLaws.{not-not, pick-cases}
 use Rattle.rules.specs.Model.{Settings, Sessions, isPeer}
 use Rattle.rules.specs.Limits.{maxMessage, minSpace}
-use Rattle.rules.specs.Layout.{tableLength, encode, viewSettings, viewSessions}
-use Rattle.laws.proofs.TableLaws.{ipv4-four, sound-encode}
-use Rattle.rules.specs.Sound.{settingsAllowed, sessionsAllowed, soundTests, sound}
+use Rattle.rules.specs.Layout.{encode, viewSettings, viewSessions}
+use Rattle.laws.proofs.KeptRules.{table-kept}
+use Rattle.laws.proofs.TableLaws.{sound-encode}
+use Rattle.rules.specs.Sound.{sound}
 use Rattle.rules.specs.Message.{kindOf, headerAllowed, served}
 use Rattle.rules.specs.Reading.{readRequest}
 use Rattle.rules.specs.Grants.{granted}
@@ -50,22 +50,6 @@ sessions-after = sound-after changed-sound
 -- and the live set reads the same from the reply
 pub accepted-keeps : AcceptedKeeps
 accepted-keeps = accepting sessions-after
-
--- ---- a table that is not broken
-
--- Sound.soundTests
-pub record TableKept (t : List ℕ) : Type 0 where
-  pub whole : length t ≡ tableLength (viewSettings t .limit)
-  pub settings : T (settingsAllowed (viewSettings t))
-  pub sessions : T (sessionsAllowed (viewSettings t) (viewSessions t))
-  pub encoded : encode (viewSettings t) (viewSessions t) ≡ t
-
--- from the tests to the names
-pub table-kept : (t : List ℕ) → T (sound t) → TableKept t
-unfolding sound soundTests
-table-kept t h =
-    let e = each (soundTests t (viewSettings t) (viewSessions t)) h in
-    record { whole = eqb→eq (length t) (tableLength (viewSettings t .limit)) (e .0); settings = e .1 .0; sessions = e .1 .1 .0; encoded = same-eq (encode (viewSettings t) (viewSessions t)) t (e .1 .1 .1 .0) }
 
 -- ---- the outcomes
 

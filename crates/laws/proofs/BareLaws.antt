@@ -16,7 +16,7 @@ use Rattle.rules.specs.Message.{kindOf, headerSeid, Spot, frameFault}
 use Rattle.rules.specs.Reading.{Fault, readFault, readRequest}
 use Rattle.rules.specs.Request.{Request}
 use Rattle.rules.specs.Grants.{choices, grantFrom, grants, grantedTeid, chosenAddress, granted}
-use Rattle.rules.specs.Stages.{Verdict, plain, hasKey, sessionOf, isLive, newSession, unnamed, atEntry, createdPdrs, createdEndpoints, updatedPdrs, livePdrs, liveEndpoints, goesPdr, removedPdrs, createdLive, absentId, updatesRemoved, endpointIdsAfter, namesAbsent, clash, addressClash, requestRules, brokenRules, breaksRule, tooManySessions, tooManyPdrs, tooManyEndpoints, needed, passesLimit, passesPool, tooFewTeids, roomLacks, addressLacks, judge, entrySession, judged, fromReading, verdictFrom, unknownSession, verdict}
+use Rattle.rules.specs.Stages.{Verdict, plain, hasKey, sessionOf, isLive, newSession, unnamed, atEntry, createdPdrs, createdEndpoints, updatedPdrs, livePdrs, liveEndpoints, goesPdr, removedPdrs, createdLive, absentId, updatesRemoved, endpointIdsAfter, namesAbsent, clash, addressClash, requestRules, brokenRules, breaksRule, tooManySessions, tooManyPdrs, tooManyEndpoints, needed, passesLimit, passesPool, tooFewTeids, roomLacks, addressLacks, judge, entrySession, judged, fromReading, verdictFrom, unknownSession, verdict, reasons, alreadyLive}
 use Rattle.rules.specs.Finding.{placeFrom, sessionPlace, isHolder, holderPlace}
 use Rattle.rules.specs.Causes as why
 use Rattle.rules.specs.Bare.{barePdr, bareSession, bare, Alike}
@@ -148,7 +148,7 @@ module _ (s : Settings) (m : Sessions) (x : Session) (r : Request) where
   room-bare who kind = simp (sessions-bare s m r who kind, pdrs-bare x r, endpoints-bare x r, few-teids-bare s m r who)
 
   judge-bare : (who kind : ℕ) → judge kind s who (bare m) (bareSession x) r ≡ judge kind s who m x r
-  unfolding judge
+  unfolding judge reasons alreadyLive
   judge-bare who kind = simp (live-bare (keyFor who (r .seid)) m, breaks-bare, room-bare who kind, address-lacks-bare s m r)
 
 module _ (s : Settings) (who : ℕ) (m : Sessions) (msg : List ℕ) where

@@ -12,14 +12,15 @@ use lib.Seq.{take-at, drop-at}
 use Rattle.octets.specs.Octets.{be, put, zeros, padded, concatMap}
 use Rattle.octets.specs.Fields.{fieldOctets}
 use Rattle.octets.specs.Lists.{all}
-use Rattle.octets.proofs.Tests.{each, all-head, all-tail}
+use Rattle.octets.proofs.Tests.{all-head, all-tail}
 use Rattle.octets.proofs.Numbers.{length-be, length-zeros, zeros-split}
 use Rattle.octets.proofs.ListLaws.{all-always}
 use Rattle.rules.specs.Model.{Settings, Pdr, Session, Sessions, endpointId}
 use Rattle.rules.specs.Limits.{maxPdrs, maxEndpoints, nodeTypes}
 use Rattle.rules.specs.Layout.{pdrWidth, endpointWidth, csidWidth, sessionWidth, headWidth, pdrNumbers, area, pdrOctets, endpointOctets, csidOctets, sessionOctets, settingsOctets, encode}
-use Rattle.rules.specs.Sound.{settingsAllowed, pdrAllowed, sessionAllowed, sessionsTests, sessionsAllowed}
+use Rattle.rules.specs.Sound.{settingsAllowed, pdrAllowed, sessionAllowed, sessionsAllowed}
 use Rattle.laws.proofs.LayoutLaws.{length-area, length-pdr, length-session, pdrsOk, fewPdrs}
+use Rattle.laws.proofs.KeptRules.{sessions-kept}
 use Rattle.laws.proofs.PeerLaws.{all-sessions}
 use Rattle.laws.proofs.TableLaws.{length-settings, encoded-settings}
 use Rattle.rules.specs.Bare.{barePdr, bareSession, bare, Alike, eachPart, blankPdr, blankSession, blankTable}
@@ -109,9 +110,8 @@ module _ (s : Settings) (hs : T (settingsAllowed s)) where
   -- ---- a table
 
   pub blank-table : (m : Sessions) → T (sessionsAllowed s m) → blankTable (encode s m) ≡ encode s (bare m)
-  unfolding blankTable sessionsAllowed sessionsTests
+  unfolding blankTable
   blank-table m hm =
-      let tests = each (sessionsTests s m) hm in
       let head : List ℕ = settingsOctets s ++ be 2 (length m) in
       let slots : List ℕ = area sessionOctets sessionWidth (s .limit) m in
       let long : length head ≡ headWidth = length-append (settingsOctets s) (be 2 (length m)) ∙ ap₂ _+_ (length-settings s hs) (length-be 2 (length m)) in
@@ -119,7 +119,7 @@ module _ (s : Settings) (hs : T (settingsAllowed s)) where
       ∙ ap₂ (λ (l r : List ℕ). l ++ eachPart blankSession sessionWidth (s .limit) r) (take-at head slots headWidth long) (drop-at head slots headWidth long ∙ sym (append-nil slots))
       ∙ ap (λ (l : List ℕ). head ++ l)
       (each-area sessionOctets sessionOctets bareSession sessionWidth blankSession (sessionAllowed s) (length-session s hs) bare-wide blank-session session-room
-      (s .limit) m (tests .1 .1 .0) (all-sessions s m hm) []
+      (s .limit) m (sessions-kept s m hm .sessions) (all-sessions s m hm) []
       ∙ append-nil (area sessionOctets sessionWidth (s .limit) (bare m)))
       ∙ ap (λ (k : ℕ). (settingsOctets s ++ be 2 k) ++ area sessionOctets sessionWidth (s .limit) (bare m)) (sym (length-map m bareSession))
       ∙ sym (encoded (bare m))

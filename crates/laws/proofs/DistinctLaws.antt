@@ -1,7 +1,7 @@
 -- How many different numbers there are in lists: in a part of another, and in two together.
 -- Assumes nothing.
 use mathlib.Core.Path.{_≡_, refl, sym, ap, subst}
-use Prim.Native.Nat.{ℕ, _+_, _≤_, zero-le}
+use Prim.Native.Nat.{ℕ, _+_, _≤_}
 use native.Mathlib.Omega.{arith}
 use mathlib.Core.Bool.{Bool, true, false, not, _||_}
 use mathlib.Core.List.{List, [], _∷_, _++_}
@@ -56,15 +56,6 @@ distinct-within xs ys h =
     let a = without-count (once ys) xs (all-imply (λ n. member n ys) (λ n. member n (once ys)) (λ n g. once-member n ys g) xs h) in
     let b = length-once ys in
     omega arith
-
-pub distinct-length : (xs : List ℕ) → distinct xs ≤ length xs
-unfolding distinct
-distinct-length [] = zero-le
-distinct-length (x ∷ xs) = one (member x xs) (distinct-length xs)
-  where
-    one : (b : Bool) → distinct xs ≤ length xs → flag (not b) + distinct xs ≤ length (x ∷ xs)
-    one true k = omega arith
-    one false k = omega arith
 
 -- two lists together
 pub distinct-both : (xs ys : List ℕ) → distinct (xs ++ ys) ≤ distinct xs + distinct ys

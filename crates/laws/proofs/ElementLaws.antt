@@ -9,13 +9,14 @@ use mathlib.Core.Option.{none, some}
 use mathlib.Core.List.{List, [], _∷_, _++_, append-assoc}
 use lib.ListN.{length, take, drop, getD, length-append}
 use lib.Dec.{T, leb, ltb, eqb, eqb→eq, leb→le, ltb→lt, lit≤}
-use mir.Facts.{no-ltb}
+use mir.Facts.{no-ltb, yes-leb}
 use lib.Seq.{take-at, drop-at, drop-drop, take-all, getD-at}
 use Rattle.octets.specs.Choice.{flag, allOf, isNil}
 use Rattle.octets.specs.Octets.{be, number, numberAt, octetAt, bit, octets, slices, concatMap}
-use Rattle.octets.proofs.Tests.{pick-yes, pick-no, each, all-of-each, and-left, and-right}
+use Rattle.octets.proofs.Tests.{pick-yes, pick-no, all-of-each, and-left, and-right}
 use Rattle.octets.proofs.Numbers.{length-be, number-be}
-use Rattle.rules.specs.Elements.{value, Fteid, given, choose, v4Flag, v6Flag, chFlag, wrongFlags, fteidLength, chosenFields, givenFields, fteidFields, readFteid, addressOf, givenTests, fteidAllowed, fteidOctets, UeIp, ueGiven, ueChoose, ueOther, ueUnsupported, ueFields, readUeIp, ueAllowed, ueOctets, sets, addressLength, operatorAllowed, nodeAddressTests, nodeAddressAllowed, nodeTypeKept, csidsRead, csidFields, countAllowed, checkedCsid, csidRest, readFqcsid, below16, fqcsidOctets, fseidLength, seidAnswer, readFseid, fseidOctets}
+use Rattle.rules.specs.Elements.{value, Fteid, given, choose, v4Flag, v6Flag, chFlag, wrongFlags, fteidLength, chosenFields, givenFields, fteidFields, readFteid, addressOf, fteidAllowed, fteidOctets, UeIp, ueGiven, ueChoose, ueOther, ueUnsupported, ueFields, readUeIp, ueAllowed, ueOctets, sets, addressLength, operatorAllowed, nodeAddressAllowed, nodeTypeKept, csidsRead, csidFields, countAllowed, checkedCsid, csidRest, readFqcsid, below16, fqcsidOctets, fseidLength, seidAnswer, readFseid, fseidOctets}
+use Rattle.laws.proofs.KeptRules.{given-kept, node-address-kept}
 
 -- ---- F-TEID
 
@@ -61,10 +62,10 @@ given-back e t (x ∷ a) (y ∷ b) ht ha hb h = given-answer e t (x ∷ a) (y �
 
 -- reading what was written of an allowed value gives the value
 pub fteid-back : (e : Bool) (v : Fteid) → T (fteidAllowed e v) → readFteid e (fteidOctets v) ≡ value v
-unfolding fteidAllowed givenTests fteidOctets readFteid wrongFlags bit fteidLength fteidFields chosenFields octetAt
+unfolding fteidAllowed fteidOctets readFteid wrongFlags bit fteidLength fteidFields chosenFields octetAt
 fteid-back e (given t a b) h =
-    let g = each (givenTests t a b) h in
-    given-back e t a b (ltb→lt t (2 ^ 32) (g .0)) (g .1 .0) (g .1 .1 .0) (g .1 .1 .1 .0)
+    let g = given-kept t a b h in
+    given-back e t a b (g .teid) (g .ipv4) (g .ipv6) (g .some)
 fteid-back e (choose true true none) h = refl
 fteid-back e (choose true false none) h = refl
 fteid-back e (choose false true none) h = refl
@@ -161,7 +162,7 @@ type-one (suc (suc (suc t))) a c n h ha hc ho hn = absurd (not-suc-le-zero (nati
 
 pub fqcsid-back : (t : ℕ) (a : List ℕ) (c n : ℕ) → T (nodeAddressAllowed t a) → T (below16 c) → T (nodeTypeKept n)
     → readFqcsid (fqcsidOctets (sets t a (c ∷ []) n)) ≡ value (sets t a (c ∷ []) n)
-unfolding nodeAddressAllowed nodeAddressTests below16
+unfolding below16
 fqcsid-back t a c n h hc hn =
-    let e = each (nodeAddressTests t a) h in
-    type-one t a c n (e .0) (eqb→eq (length a) (addressLength t) (e .1 .0)) (ltb→lt c (2 ^ 16) hc) (e .1 .1 .1 .0) hn
+    let e = node-address-kept t a h in
+    type-one t a c n (yes-leb (e .type)) (e .long) (ltb→lt c (2 ^ 16) hc) (e .operator) hn

@@ -160,10 +160,6 @@ module _ (s : Settings) (hs : T (settingsAllowed s)) (m : Sessions) (msg : List 
       (without-fits (range (s .first) (s .size)) (heldTeids m) (range-fits (s .first) (s .size) (pool-fits s hs)))
       (choices-read msg h)
 
-  pub grants-few : length (readRequest msg .pdrs) ≤ 16 → length (readRequest msg .endpoints) ≤ 8 → length (grants s m (readRequest msg)) ≤ 24
-  unfolding grants
-  grants-few hp he = let a = grants-length [] (freeTeids s m) (choices (readRequest msg)) in let b = choices-few (readRequest msg) hp he in omega arith
-
 -- ---- what the records of a request get
 
 found-fits : (q : Grant → Bool) (gs : List Grant) → T (all grantFits gs) → T (fourOctets (valueOr 0 (mapOption grantTeid (findBy q gs))))

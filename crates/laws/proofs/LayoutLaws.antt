@@ -8,21 +8,23 @@ use mathlib.Core.Bool.{Bool, true, false}
 use mathlib.Core.Option.{Option, none, some}
 use mathlib.Core.List.{List, [], _∷_, _++_, map, append-assoc, append-nil}
 use lib.ListN.{length, take, drop, getD, length-append, length-drop, take-append-drop}
-use lib.Dec.{T, leb, ltb, eqb, eqb→eq, leb→le, ltb→lt, lit≤, lit<}
+use lib.Dec.{T, leb, ltb, eqb, leb→le, ltb→lt, lit≤, lit<}
 use lib.Seq.{take-at, take-take, take-all, drop-at, drop-drop, length-take-le}
 use Rattle.octets.specs.Choice.{pick, flag, isSome, valueOr}
 use Rattle.octets.specs.Octets.{be, part, number, numberAt, octetAt, octets, bit, zeros, padded, concatMap, slices}
 use Rattle.octets.specs.Fields.{fieldsAt, fit}
 use Rattle.octets.specs.Lists.{all, member}
-use Rattle.octets.proofs.Tests.{each, Each, and-left, and-right, all-head, all-tail}
+use Rattle.octets.proofs.Tests.{and-left, and-right, all-head, all-tail}
 use Rattle.octets.proofs.Digits.{number-below, take-octets, drop-octets, be-back, be-part}
 use Rattle.octets.proofs.Put.{part-two}
 use Rattle.octets.proofs.FieldLaws.{all-fit, length-fieldOctets, octet-field, record-back}
 use Rattle.octets.proofs.Numbers.{number-be, length-padded, length-concatMap, slices-concatMap}
 use Rattle.rules.specs.Model.{Settings, Tunnel, Match, neither, tunnel, endpoint, Pdr, Endpoint, Csid, Session, endpointId}
 use Rattle.rules.specs.Limits.{maxPdrs, maxEndpoints, nodeTypes}
-use Rattle.rules.specs.Elements.{addressLength, nodeTypeKept, nodeAddressAllowed, nodeAddressTests, below16}
-use Rattle.rules.specs.Sound.{poolTests, settingsTests, settingsAllowed, inPool, tunnelTests, tunnelAllowed, matchAllowed, farAllowed, addressAllowed, pdrTests, pdrAllowed, endpointTests, endpointAllowed, csidTests, csidAllowed, sessionTests, sessionAllowed}
+use Rattle.rules.specs.Elements.{addressLength, nodeTypeKept, below16}
+use Rattle.rules.specs.Sound.{settingsAllowed, inPool, tunnelAllowed, matchAllowed, farAllowed, addressAllowed, pdrAllowed, endpointAllowed, csidAllowed, sessionAllowed}
+use Rattle.laws.proofs.KeptSettings.{settings-kept}
+use Rattle.laws.proofs.KeptRules.{tunnel-kept, pdr-kept, endpoint-kept, node-address-kept, csid-kept, SessionKept, session-kept}
 use Rattle.rules.specs.Layout.{families, optionRead, tunnelRead, pdrWidths, matchKind, matchTeid, matchFamilies, matchEndpoint, matchRead, pdrNumbers, pdrFrom, endpointWidths, endpointNumbers, endpointFrom, csidSlotWidths, csidSlotNumbers, addressRead, csidFrom, pdrWidth, endpointWidth, csidWidth, sessionWidth, area, pdrOctets, endpointOctets, csidOctets, sessionOctets, viewPdr, viewEndpoint, viewCsid, viewArea, viewSession, viewSettings, limitAt, precedenceAt, farAt, farIdAt, sourceAt, matchAt, teidAt, familiesAt, namedEndpointAt, pdrAddressThereAt, pdrAddressAt, endpointTeidAt, endpointFamiliesAt, endpointAddressThereAt, endpointAddressAt, csidIdTypeAt, csidAddressAt, csidAddressRestAt}
 
 -- ---- areas
@@ -80,15 +82,14 @@ families-fit t = go (t .v4) (t .v6)
 
 -- a TEID of the pool has four octets
 teid-below : (s : Settings) → s .first + s .size ≤ 2 ^ 32 → (t : Tunnel) → T (tunnelAllowed s t) → t .teid < 256 ^ 4
-unfolding tunnelAllowed tunnelTests inPool
+unfolding inPool
 teid-below s hs t ht =
     lt-of-lt-of-le
-    (ltb→lt (t .teid) (s .first + s .size) (and-right (leb (s .first) (t .teid)) (ltb (t .teid) (s .first + s .size)) (each (tunnelTests s t) ht .0)))
+    (ltb→lt (t .teid) (s .first + s .size) (and-right (leb (s .first) (t .teid)) (ltb (t .teid) (s .first + s .size)) (tunnel-kept s t ht .pool)))
     hs
 
 pool-below : (s : Settings) → T (settingsAllowed s) → s .first + s .size ≤ 2 ^ 32
-unfolding settingsAllowed settingsTests poolTests
-pool-below s hs = leb→le (s .first + s .size) (2 ^ 32) (each (poolTests (s .first) (s .size)) (each (settingsTests s) hs .1 .1 .1 .1 .0) .1 .1 .1 .0)
+pool-below s hs = settings-kept s hs .pool .last
 
 pub teid-fits : (s : Settings) (t : Tunnel) → T (settingsAllowed s) → T (tunnelAllowed s t) → t .teid < 256 ^ 4
 teid-fits s t hs ht = teid-below s (pool-below s hs) t ht
@@ -142,21 +143,21 @@ module _ (s : Settings) (hs : s .first + s .size ≤ 2 ^ 32) where
   match-fits live (endpoint e) h = record { kind = lit< tt; teid = lit< tt; families = lit< tt; endpoint = ltb→lt e 256 (and-left (ltb e 256) (member e live) h) }
 
   pub pdr-fits : (live : List ℕ) (p : Pdr) → T (pdrAllowed s live p) → fit pdrWidths (pdrNumbers p) ≡ true
-  unfolding pdrAllowed pdrTests pdrNumbers
+  unfolding pdrNumbers
   pdr-fits live p h =
-      let e = each (pdrTests s live p) h in
-      let l = match-fits live (p .match) (e .1 .1 .1 .1 .0) in
+      let e = pdr-kept s live p h in
+      let l = match-fits live (p .match) (e .match) in
       all-fit pdrWidths _ (
-        ltb→lt (p .id) (2 ^ 16) (e .0),
+        ltb→lt (p .id) (2 ^ 16) (e .id),
         (
-          ltb→lt (p .precedence) (2 ^ 32) (e .1 .0),
+          ltb→lt (p .precedence) (2 ^ 32) (e .precedence),
           (
             there-fits (p .far),
             (
-              value-fits (p .far) (e .1 .1 .0),
+              value-fits (p .far) (e .far),
               (
-                lt-of-lt-of-le (ltb→lt (p .source) 16 (e .1 .1 .1 .0)) (lit≤ tt),
-                (l .kind, (l .teid, (l .families, (l .endpoint, (there-fits (p .address), (ue-fits (p .address) (e .1 .1 .1 .1 .1 .0), tt)))))),
+                lt-of-lt-of-le (ltb→lt (p .source) 16 (e .source)) (lit≤ tt),
+                (l .kind, (l .teid, (l .families, (l .endpoint, (there-fits (p .address), (ue-fits (p .address) (e .address), tt)))))),
               ),
             ),
           ),
@@ -164,10 +165,10 @@ module _ (s : Settings) (hs : s .first + s .size ≤ 2 ^ 32) where
       )
 
   pub endpoint-fits : (e : Endpoint) → T (endpointAllowed s e) → fit endpointWidths (endpointNumbers e) ≡ true
-  unfolding endpointAllowed endpointTests endpointNumbers
+  unfolding endpointNumbers
   endpoint-fits e h =
-      let t = each (endpointTests s e) h in
-      all-fit endpointWidths _ (ltb→lt (e .id) 256 (t .0), (teid-below s hs (e .local) (t .1 .0), (families-fit (e .local), (there-fits (e .address), (ue-fits (e .address) (t .1 .1 .0), tt)))))
+      let t = endpoint-kept s e h in
+      all-fit endpointWidths _ (ltb→lt (e .id) 256 (t .id), (teid-below s hs (e .local) (t .local), (families-fit (e .local), (there-fits (e .address), (ue-fits (e .address) (t .address), tt)))))
 
 module _ (s : Settings) (hs : T (settingsAllowed s)) where
   pub pdr-back : (live : List ℕ) (p : Pdr) → T (pdrAllowed s live p) → viewPdr (pdrOctets p) ≡ p
@@ -189,9 +190,7 @@ unfolding addressLength
 address-short t = short-either (eqb t 1)
 
 pub csid-address-length : (c : Csid) → T (csidAllowed c) → length (c .address) ≡ addressLength (c .idType)
-unfolding csidAllowed csidTests nodeAddressAllowed nodeAddressTests
-csid-address-length c h =
-    eqb→eq (length (c .address)) (addressLength (c .idType)) (each (nodeAddressTests (c .idType) (c .address)) (each (csidTests c) h .1 .0) .1 .0)
+csid-address-length c h = node-address-kept (c .idType) (c .address) (csid-kept c h .address) .long
 
 -- an address of sixteen octets or four is read back from its two numbers, which fit
 module _ (a : List ℕ) (o : T (octets a)) where
@@ -219,22 +218,21 @@ module _ (a : List ℕ) (o : T (octets a)) where
 
 module _ (c : Csid) (h : T (csidAllowed c)) where
   csid-octets : T (octets (c .address))
-  unfolding csidAllowed csidTests nodeAddressAllowed nodeAddressTests
-  csid-octets = each (nodeAddressTests (c .idType) (c .address)) (each (csidTests c) h .1 .0) .1 .1 .0
+  csid-octets = node-address-kept (c .idType) (c .address) (csid-kept c h .address) .octets
 
   csid-numbers : csidFrom (csidSlotNumbers c) ≡ c
   unfolding csidFrom csidSlotNumbers addressRead addressLength
   csid-numbers = λ j. record { nodeType = c .nodeType; idType = c .idType; address = address-back (c .address) csid-octets (eqb (c .idType) 1) (csid-address-length c h) j; csid = c .csid }
 
   pub csid-fits : fit csidSlotWidths (csidSlotNumbers c) ≡ true
-  unfolding csidAllowed csidTests nodeTypeKept nodeAddressAllowed nodeAddressTests below16 csidSlotNumbers addressLength
+  unfolding nodeTypeKept below16 csidSlotNumbers addressLength
   csid-fits =
-      let t = each (csidTests c) h in
+      let t = csid-kept c h in
       let a = address-fits (c .address) csid-octets (eqb (c .idType) 1) (csid-address-length c h) in
-      let k : c .idType ≤ 2 = leb→le (c .idType) 2 (each (nodeAddressTests (c .idType) (c .address)) (t .1 .0) .0) in
+      let k = node-address-kept (c .idType) (c .address) (t .address) .type in
       all-fit csidSlotWidths _ (
-        lt-of-lt-of-le (ltb→lt (c .nodeType) 6 (t .0)) (lit≤ tt),
-        (omega arith, (a .0, (a .1, (ltb→lt (c .csid) (2 ^ 16) (t .1 .1 .0), tt)))),
+        lt-of-lt-of-le (ltb→lt (c .nodeType) 6 (t .node)) (lit≤ tt),
+        (omega arith, (a .0, (a .1, (ltb→lt (c .csid) (2 ^ 16) (t .csid), tt)))),
       )
 
   pub csid-back : viewCsid (csidOctets c) ≡ c
@@ -285,38 +283,30 @@ abbrev twelve : ℕ → ℕ
 twelve n = suc (suc (suc (suc (suc (suc (suc (suc (suc (suc (suc (suc n)))))))))))
 
 module _ (s : Settings) (hs : T (settingsAllowed s)) (x : Session) (hx : T (sessionAllowed s x)) where
-  -- the facts that a session's tests give
-  pub tests : Each (sessionTests s x)
-  unfolding sessionAllowed
-  tests = each (sessionTests s x) hx
+  -- what its tests say
+  kept : SessionKept s x
+  kept = session-kept s x hx
 
   pub pdrsOk : T (all (pdrAllowed s (map endpointId (x .endpoints))) (x .pdrs))
-  unfolding sessionTests tests
-  pdrsOk = tests .1 .1 .1 .1 .0
+  pdrsOk = kept .records .pdrs
 
   pub endpointsOk : T (all (endpointAllowed s) (x .endpoints))
-  unfolding sessionTests tests
-  endpointsOk = tests .1 .1 .1 .1 .1 .1 .1 .0
+  endpointsOk = kept .records .endpoints
 
   pub csidsOk : T (all csidAllowed (x .csids))
-  unfolding sessionTests tests
-  csidsOk = tests .1 .1 .1 .1 .1 .1 .1 .1 .1 .1 .0
+  csidsOk = kept .records .csids
 
   pub fewPdrs : length (x .pdrs) ≤ maxPdrs
-  unfolding sessionTests tests
-  fewPdrs = leb→le (length (x .pdrs)) maxPdrs (tests .1 .1 .0)
+  fewPdrs = leb→le (length (x .pdrs)) maxPdrs (kept .records .fewPdrs)
 
   pub fewEndpoints : length (x .endpoints) ≤ maxEndpoints
-  unfolding sessionTests tests
-  fewEndpoints = leb→le (length (x .endpoints)) maxEndpoints (tests .1 .1 .1 .1 .1 .0)
+  fewEndpoints = leb→le (length (x .endpoints)) maxEndpoints (kept .records .fewEndpoints)
 
   pub fewCsids : length (x .csids) ≤ nodeTypes
-  unfolding sessionTests tests
-  fewCsids = leb→le (length (x .csids)) nodeTypes (tests .1 .1 .1 .1 .1 .1 .1 .1 .0)
+  fewCsids = leb→le (length (x .csids)) nodeTypes (kept .records .fewCsids)
 
   pub seidFits : x .seid < 256 ^ 8
-  unfolding sessionTests tests
-  seidFits = ltb→lt (x .seid) (2 ^ 64) (tests .1 .0)
+  seidFits = ltb→lt (x .seid) (2 ^ 64) (kept .records .seidFits)
 
   -- the three areas
   pdrArea : List ℕ

@@ -1,4 +1,9 @@
 pub mod BoundLaws
+pub mod KeptSettings
+pub mod KeptRules
+pub mod KeptRequest
+pub mod ReasonLaws
+pub mod NeedLaws
 pub mod ElementLaws
 pub mod LayoutLaws
 pub mod DistinctLaws

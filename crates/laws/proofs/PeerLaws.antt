@@ -6,17 +6,19 @@ use native.Mathlib.Omega.{arith}
 use mathlib.Core.Bool.{Bool, true, false, _||_}
 use mathlib.Core.List.{List, [], _∷_}
 use lib.ListN.{length, drop}
-use lib.Dec.{T, eqb, eqb→eq, leb→le, ltb→lt}
+use lib.Dec.{T, eqb, eqb→eq, leb→le}
 use mir.Facts.{yes-leb}
 use Rattle.octets.specs.Choice.{pick, allOf}
 use Rattle.octets.specs.Lists.{all, keep}
-use Rattle.octets.proofs.Tests.{each, Each, all-of-each, all-head, all-tail}
+use Rattle.octets.proofs.Tests.{each, all-of-each, all-head, all-tail}
 use Rattle.octets.proofs.ListLaws.{all-imply}
-use Rattle.rules.specs.Model.{Settings, Peer, Session, Sessions, isPeer, peerOf, otherPeer, half, hasPeer, ofPeer, holdings, keyFor}
-use Rattle.rules.specs.Sound.{peerTests, peersTests, settingsTests, settingsAllowed, sessionTests, sessionAllowed, fewSessions, fewTeids, due, peersKept, sessionsTests, sessionsAllowed}
+use Rattle.rules.specs.Model.{Settings, Session, Sessions, isPeer, peerOf, otherPeer, half, hasPeer, ofPeer, holdings, keyFor}
+use Rattle.rules.specs.Sound.{settingsAllowed, sessionAllowed, fewSessions, fewTeids, due, peersKept, sessionsAllowed}
 use Rattle.rules.specs.Message.{headerSeid}
 use Rattle.octets.specs.Octets.{numberAt, octets}
 use Rattle.laws.proofs.BoundLaws.{bytes-drop, field-bound}
+use Rattle.laws.proofs.KeptSettings.{PeerAllowed, settings-kept}
+use Rattle.laws.proofs.KeptRules.{session-kept, sessions-kept}
 
 -- what holds of 1 and of 2 holds of a peer
 pub peer-cases : (P : ℕ → Type 0) → P 1 → P 2 → (who : ℕ) → T (isPeer who) → P who
@@ -29,8 +31,7 @@ peer-cases P a b who h = one (eqb who 1) refl (eqb who 2) refl h
     one false e false f g = absurd g
 
 pub known-peer : (s : Settings) (x : Session) → T (sessionAllowed s x) → T (isPeer (x .peer))
-unfolding sessionAllowed sessionTests
-known-peer s x h = each (sessionTests s x) h .1 .1 .1 .1 .1 .1 .1 .1 .1 .1 .1 .0
+known-peer s x h = session-kept s x h .records .peer
 
 pub known-peers : (s : Settings) (m : Sessions) → T (all (sessionAllowed s) m) → T (all (λ x. isPeer (x .peer)) m)
 known-peers s m h = all-imply (sessionAllowed s) (λ x. isPeer (x .peer)) (known-peer s) m h
@@ -48,39 +49,14 @@ count-peers (x ∷ m) h =
 
 -- ---- the settings
 
--- a peer's limit is from its guarantee to the pool's size, and its address has four octets
-pub record PeerAllowed (size : ℕ) (q : Peer) : Type 0 where
-  pub address : q .address < 256 ^ 4
-  pub guarantee : q .guarantee ≤ q .limit
-  pub limit : q .limit ≤ size
-
-peer-allowed : (size : ℕ) (q : Peer) → T (allOf (peerTests size q)) → PeerAllowed size q
-unfolding peerTests
-peer-allowed size q h =
-    let e = each (peerTests size q) h in
-    record { address = ltb→lt (q .address) (2 ^ 32) (e .0); guarantee = leb→le (q .guarantee) (q .limit) (e .1 .0); limit = leb→le (q .limit) size (e .1 .1 .0) }
-
 module _ (s : Settings) (hs : T (settingsAllowed s)) where
-  peersFacts : Each (peersTests (s .size) (s .peer1) (s .peer2))
-  unfolding settingsAllowed settingsTests
-  peersFacts = each (peersTests (s .size) (s .peer1) (s .peer2)) (each (settingsTests s) hs .1 .1 .1 .1 .1 .1 .1 .0)
-
-  pub first-peer : PeerAllowed (s .size) (s .peer1)
-  unfolding peersTests
-  first-peer = peer-allowed (s .size) (s .peer1) (peersFacts .0)
-
-  pub second-peer : PeerAllowed (s .size) (s .peer2)
-  unfolding peersTests
-  second-peer = peer-allowed (s .size) (s .peer2) (peersFacts .1 .0)
-
   pub peer-known : (who : ℕ) → T (isPeer who) → PeerAllowed (s .size) (peerOf s who)
   unfolding peerOf
-  peer-known = peer-cases (λ (who : ℕ). PeerAllowed (s .size) (pick (eqb who 1) (s .peer1) (s .peer2))) first-peer second-peer
+  peer-known = peer-cases (λ (who : ℕ). PeerAllowed (s .size) (pick (eqb who 1) (s .peer1) (s .peer2))) (settings-kept s hs .peers .one) (settings-kept s hs .peers .other)
 
   -- the guarantees together don't exceed the pool
   pub guarantees-fit : s .peer1 .guarantee + s .peer2 .guarantee ≤ s .size
-  unfolding peersTests
-  guarantees-fit = leb→le (s .peer1 .guarantee + s .peer2 .guarantee) (s .size) (peersFacts .1 .1 .1 .0)
+  guarantees-fit = settings-kept s hs .peers .guarantees
 
 -- ---- what the sessions keep for the peers
 
@@ -88,15 +64,16 @@ pub other-peer : (who : ℕ) → T (isPeer who) → T (isPeer (otherPeer who))
 unfolding otherPeer isPeer
 other-peer = peer-cases (λ (who : ℕ). T (eqb (pick (eqb who 1) 2 1) 1 || eqb (pick (eqb who 1) 2 1) 2)) tt tt
 
+-- Sound.peersKept, of either peer
 pub record PeersKept (s : Settings) (m : Sessions) : Type 0 where
   pub sessions : (who : ℕ) → T (isPeer who) → length (ofPeer who m) ≤ half s
   pub teids : (who : ℕ) → T (isPeer who) → holdings who m ≤ peerOf s who .limit
   pub pool : (who : ℕ) → T (isPeer who) → due s who m + due s (otherPeer who) m ≤ s .size
 
 pub peers-kept : (s : Settings) (m : Sessions) → T (sessionsAllowed s m) → PeersKept s m
-unfolding sessionsAllowed sessionsTests peersKept fewSessions fewTeids otherPeer
+unfolding peersKept fewSessions fewTeids otherPeer
 peers-kept s m h =
-    let e = each (peersKept s m) (each (sessionsTests s m) h .0) in
+    let e = each (peersKept s m) (sessions-kept s m h .peers) in
     let pool : due s 1 m + due s 2 m ≤ s .size = leb→le (due s 1 m + due s 2 m) (s .size) (e .1 .1 .1 .1 .0) in
     record {
       sessions = peer-cases (λ (who : ℕ). length (ofPeer who m) ≤ half s) (leb→le (length (ofPeer 1 m)) (half s) (e .0)) (leb→le (length (ofPeer 2 m)) (half s) (e .1 .0));
@@ -119,12 +96,12 @@ peers-keep s m k =
 
 -- no more sessions than the limit
 pub all-sessions : (s : Settings) (m : Sessions) → T (sessionsAllowed s m) → length m ≤ s .limit
-unfolding sessionsAllowed sessionsTests half
+unfolding half
 all-sessions s m h =
     let k = peers-kept s m h in
     let a = k .sessions 1 (unfold isPeer in tt) in
     let b = k .sessions 2 (unfold isPeer in tt) in
-    let c = count-peers m (known-peers s m (each (sessionsTests s m) h .1 .1 .0)) in
+    let c = count-peers m (known-peers s m (sessions-kept s m h .sessions)) in
     omega arith
 
 -- ---- keys

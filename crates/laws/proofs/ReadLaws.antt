@@ -9,16 +9,17 @@ use mathlib.Core.Option.{Option, none, some}
 use mathlib.Core.List.{List, [], _∷_}
 use lib.ListN.{length, take, drop, length-take}
 use lib.Dec.{T, leb, ltb, eqb, lt→ltb, nltb→le, lit<}
-use mir.Facts.{yes-leb, yes-eqb}
+use mir.Facts.{yes-leb}
 use lib.Pow.{areBytes}
 use Rattle.octets.specs.Choice.{pick, isNil, flag, allOf, headOr, sameBool}
 use Rattle.octets.specs.Octets.{number, part, numberAt, octetAt, bit, slices}
-use Rattle.octets.proofs.Tests.{Each, each, all-of-each, and-left, and-right, pick-either}
+use Rattle.octets.proofs.Tests.{Each, each, and-left, and-right, pick-either}
 use Rattle.octets.proofs.ListLaws.{pick-cases, not-not, or-by-right, OnSome}
 use Rattle.laws.proofs.BoundLaws.{field-bound, bytes-take, bytes-drop}
 use Rattle.octets.proofs.Ordered.{ne-of}
 use Rattle.octets.proofs.Bools.{not-or}
-use Rattle.rules.specs.Elements.{Refusal, tooShort, incorrect, Answer, refuse, value, Fteid, given, choose, v4Flag, v6Flag, chFlag, chidFlag, wrongFlags, fteidLength, chosenFields, givenFields, fteidFields, readFteid, hasV4, hasV6, chooseIdOf, UeIp, ueGiven, ueChoose, ueOther, ueV4, ueChv4, ueUnsupported, ueFields, readUeIp, ueAddressOf, Fqcsid, sets, removal, addressLength, operatorAllowed, nodeAddressTests, nodeAddressAllowed, nodeTypeKept, csidsRead, csidFields, countAllowed, checkedCsid, csidRest, readFqcsid, below16, fseidLength, seidAnswer, readFseid}
+use Rattle.rules.specs.Elements.{Refusal, tooShort, incorrect, Answer, refuse, value, Fteid, given, choose, v4Flag, v6Flag, chFlag, chidFlag, wrongFlags, fteidLength, chosenFields, givenFields, fteidFields, readFteid, hasV4, hasV6, chooseIdOf, UeIp, ueGiven, ueChoose, ueOther, ueV4, ueChv4, ueUnsupported, ueFields, readUeIp, ueAddressOf, Fqcsid, sets, removal, addressLength, operatorAllowed, nodeAddressAllowed, nodeTypeKept, csidsRead, csidFields, countAllowed, checkedCsid, csidRest, readFqcsid, below16, fseidLength, seidAnswer, readFseid}
+use Rattle.laws.proofs.KeptRules.{node-address-allowed}
 use Rattle.rules.specs.Reading.{Reading, faulty, done, andThen, named, requiring, once}
 
 -- ---- answers and readings
@@ -175,12 +176,11 @@ first-csid (suc m) xs h = lt→ltb (number (take 2 xs)) (2 ^ 16) (unfold numberA
 
 -- the octets of an address that is there whole
 address-allowed : (t : ℕ) (xs : List ℕ) → T (areBytes xs) → t ≤ 2 → addressLength t ≤ length xs → T (operatorAllowed t (part 0 (addressLength t) xs)) → T (nodeAddressAllowed t (part 0 (addressLength t) xs))
-unfolding nodeAddressAllowed nodeAddressTests
 address-allowed t xs h l k o =
     let a = take (addressLength t) xs in
     let e = length-take (addressLength t) xs in
     let whole : length a ≡ addressLength t = omega arith in
-    all-of-each (leb t 2 ∷ eqb (length a) (addressLength t) ∷ areBytes a ∷ operatorAllowed t a ∷ []) (yes-leb l, (yes-eqb whole, (bytes-take (addressLength t) xs h, (o, tt))))
+    node-address-allowed (record { type = l; long = whole; octets = bytes-take (addressLength t) xs h; operator = o })
 
 -- the rest of an FQ-CSID, once the octets are known to be there
 checked-read : (m t : ℕ) (xs : List ℕ) (n : ℕ) → T (areBytes xs) → t ≤ 2 → addressLength t ≤ length xs

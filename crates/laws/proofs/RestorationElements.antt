@@ -8,19 +8,21 @@ use mathlib.Core.Bool.{Bool, true, false, not, _&&_, _||_}
 use mathlib.Core.Option.{Option, none, some}
 use mathlib.Core.List.{List, [], _∷_, _++_}
 use lib.ListN.{length, length-append}
-use lib.Dec.{T, eqb, ltb→lt, lt→ltb, lit<, lit≤}
+use lib.Dec.{T, eqb, ltb→lt, lit<, lit≤}
 use mir.Facts.{yes-eqb}
 use Rattle.octets.specs.Choice.{pick, mapOption, isNil}
 use Rattle.octets.specs.Octets.{be, number, numberAt, octets, concatMap}
 use Rattle.octets.specs.Lists.{member}
-use Rattle.octets.proofs.Tests.{each, all-of-each, both}
+use Rattle.octets.proofs.Tests.{both}
 use Rattle.octets.proofs.Numbers.{length-be, number-be}
 use Rattle.rules.specs.Model.{Settings, Tunnel, Match, neither, tunnel, endpoint, Pdr, Endpoint, Csid, matchedTunnel, matchedEndpoint}
-use Rattle.rules.specs.Elements.{value, Fteid, UeIp, ueGiven, ueAllowed, ueOctets, readFteid, readUeIp, readFqcsid, addressOf, givenTests, fteidAllowed, fteidOctets, unitFteid, fqcsidOctets}
+use Rattle.rules.specs.Elements.{value, Fteid, UeIp, ueGiven, ueAllowed, ueOctets, readFteid, readUeIp, readFqcsid, addressOf, fteidAllowed, fteidOctets, unitFteid, fqcsidOctets}
 use Rattle.laws.proofs.ElementLaws.{fteid-back, ue-back, fqcsid-back}
-use Rattle.rules.specs.Sound.{ipv6Allowed, settingsTests, settingsAllowed, unitFamilies, tunnelTests, tunnelAllowed, matchAllowed, farAllowed, addressAllowed, pdrTests, pdrAllowed, csidTests, csidAllowed}
+use Rattle.rules.specs.Sound.{ipv6Allowed, settingsAllowed, unitFamilies, tunnelAllowed, matchAllowed, farAllowed, addressAllowed, pdrAllowed, csidAllowed}
 use Rattle.laws.proofs.LayoutLaws.{csid-address-length, address-short, teid-fits}
-use Rattle.laws.proofs.TableLaws.{settingsFacts, ipv4-four, ipv6-ok, ipv6-short}
+use Rattle.laws.proofs.KeptSettings.{settings-kept}
+use Rattle.laws.proofs.KeptRules.{given-tests, tunnel-kept, pdr-kept, csid-kept}
+use Rattle.laws.proofs.TableLaws.{ipv4-four, ipv6-ok, ipv6-short}
 use Rattle.rules.specs.Message.{inside, Element, elements, placesOf, openedIn, numberWidth, establishment}
 use Rattle.rules.specs.Reading.{done, andThen, Members, noMembers, memberThere, numberRead, farRead, pdiIn, valueRead, memberRead, membersRead, unopened, pdiEnd, pdiRead, pdrItem, endpointItem, itemFrom, groupRead}
 use Rattle.rules.specs.Request.{createsPdr, createsEndpoint}
@@ -33,12 +35,10 @@ use Rattle.rules.specs.Types as ie
 
 module _ (s : Settings) (hs : T (settingsAllowed s)) where
   ipv4-octets : T (octets (s .ipv4))
-  unfolding settingsTests
-  ipv4-octets = settingsFacts s hs .1 .0
+  ipv4-octets = settings-kept s hs .ipv4Octets
 
   ipv6-octets : T (octets (s .ipv6))
-  unfolding settingsTests
-  ipv6-octets = settingsFacts s hs .1 .1 .1 .0
+  ipv6-octets = settings-kept s hs .ipv6Octets
 
   four-not-nil : (a : List ℕ) → length a ≡ 4 → T (not (isNil a))
   four-not-nil [] h = absurd (omega arith)
@@ -69,11 +69,10 @@ module _ (s : Settings) (hs : T (settingsAllowed s)) where
   some-address false false h g = absurd h
 
   unit-allowed : (e : Bool) (t : Tunnel) → T (tunnelAllowed s t) → T (fteidAllowed e (unitFteid s t))
-  unfolding fteidAllowed unitFteid tunnelAllowed tunnelTests givenTests
+  unfolding fteidAllowed unitFteid
   unit-allowed e t h =
-      let g = each (tunnelTests s t) h in
-      all-of-each (givenTests (t .teid) (pick (t .v4) (s .ipv4) []) (pick (t .v6) (s .ipv6) []))
-      (lt→ltb (t .teid) (2 ^ 32) (teid-fits s t hs h), (address4 (t .v4), (address16 (t .v6), (some-address (t .v4) (t .v6) (g .1 .0) (g .1 .1 .0), tt))))
+      let g = tunnel-kept s t h in
+      given-tests (record { teid = teid-fits s t hs h; ipv4 = address4 (t .v4); ipv6 = address16 (t .v6); some = some-address (t .v4) (t .v6) (g .family) (g .unit) })
 
   -- the unit's F-TEID is read back
   pub unit-back : (e : Bool) (t : Tunnel) → T (tunnelAllowed s t) → readFteid e (fteidOctets (unitFteid s t)) ≡ value (unitFteid s t)
@@ -284,12 +283,12 @@ module _ (s : Settings) (hs : T (settingsAllowed s)) where
 
   -- a Create PDR is read as the record
   pub pdr-read : (p : Pdr) (live : List ℕ) → T (pdrAllowed s live p) → (q : ℕ) → groupRead 1 q (pdrContent s p) ≡ done (createsPdr (restoredPdr s p))
-  unfolding groupRead restoredPdr pdrElements pdrAllowed pdrTests
+  unfolding groupRead restoredPdr pdrElements
   pdr-read p live h q =
-      let e = each (pdrTests s live p) h in
+      let e = pdr-kept s live p h in
       ap (λ (es : List Element). andThen (membersRead pdiRead 1 es noMembers) (itemFrom 1 q)) (pdr-elements (inside q) p)
       ∙ pdr-members _ _ (pdiAt (inside q) p) _ q (p .id) (p .precedence) (pdiContent s p) (p .far) (p .source) (mapOption (unitFteid s) (matchedTunnel (p .match))) (matchedEndpoint (p .match)) (mapOption ueGiven (p .address))
-      (ltb→lt (p .id) (2 ^ 16) (e .0)) (ltb→lt (p .precedence) (2 ^ 32) (e .1 .0)) (e .1 .1 .0) (pdi-read p live (ltb→lt (p .source) 16 (e .1 .1 .1 .0)) (e .1 .1 .1 .1 .0) (e .1 .1 .1 .1 .1 .0) (pdiAt (inside q) p))
+      (ltb→lt (p .id) (2 ^ 16) (e .id)) (ltb→lt (p .precedence) (2 ^ 32) (e .precedence)) (e .far) (pdi-read p live (ltb→lt (p .source) 16 (e .source)) (e .match) (e .address) (pdiAt (inside q) p))
 
   -- ---- framing a Create PDR, at depth 2 in an establishment
 
@@ -373,10 +372,10 @@ module _ (s : Settings) (hs : T (settingsAllowed s)) where
 -- ---- an FQ-CSID
 
 pub csid-read : (c : Csid) → T (csidAllowed c) → readFqcsid (fqcsidOctets (recordCsid c)) ≡ value (recordCsid c)
-unfolding recordCsid csidAllowed csidTests
+unfolding recordCsid
 csid-read c h =
-    let e = each (csidTests c) h in
-    fqcsid-back (c .idType) (c .address) (c .csid) (c .nodeType) (e .1 .0) (e .1 .1 .0) (e .0)
+    let e = csid-kept c h in
+    fqcsid-back (c .idType) (c .address) (c .csid) (c .nodeType) (e .address) (e .csid) (e .node)
 
 pub csid-octets-short : (c : Csid) → T (csidAllowed c) → length (fqcsidOctets (recordCsid c)) ≤ 20
 unfolding fqcsidOctets recordCsid concatMap be

@@ -12,20 +12,21 @@ use lib.Dec.{T, ltb, eqb, eqb→eq, leb→le, lt→ltb, lit<, lit≤}
 use Rattle.octets.specs.Choice.{pick, mapOption}
 use Rattle.octets.specs.Lists.{collect, member, any, all, ascending}
 use Rattle.octets.specs.Octets.{be, octetAt, bit, octets, concatMap}
-use Rattle.octets.proofs.Tests.{pick-yes, each, Each, and-left, all-head, all-tail, all-cons, below-not-member, below-mono, ascending-head, ascending-tail}
+use Rattle.octets.proofs.Tests.{pick-yes, and-left, all-head, all-tail, all-cons, below-not-member, below-mono, ascending-head, ascending-tail}
 use Rattle.octets.proofs.ListLaws.{collect-append, collect-map}
 use Rattle.rules.specs.Limits.{maxRestoration}
 use Rattle.rules.specs.Model.{Settings, Pdr, Endpoint, Csid, Session, endpointId, nodeTypeOf}
 use Rattle.rules.specs.Elements.{incorrect, Answer, value, ueGiven, ueStrange, Fqcsid, readFseid, addressOf, fqcsidOctets, fseidOctets, nodeOf}
 use Rattle.laws.proofs.ElementLaws.{fseid-back}
-use Rattle.rules.specs.Sound.{settingsAllowed, pdrAllowed, endpointTests, endpointAllowed, csidAllowed, sessionTests, sessionAllowed}
-use Rattle.laws.proofs.LayoutLaws.{pdrsOk, endpointsOk, csidsOk, fewPdrs, fewEndpoints, fewCsids, seidFits, tests}
+use Rattle.rules.specs.Sound.{settingsAllowed, pdrAllowed, endpointAllowed, csidAllowed, sessionAllowed}
+use Rattle.laws.proofs.LayoutLaws.{pdrsOk, endpointsOk, csidsOk, fewPdrs, fewEndpoints, fewCsids, seidFits}
+use Rattle.laws.proofs.KeptRules.{endpoint-kept, session-kept, SenderKept, sender-kept}
 use Rattle.rules.specs.Message.{Element, elements, body, bodyPlace, kindOf, headerAllowed, atMessage, frame, frameFault, openedIn, openedAtTop, actedOn, establishment, headerLength, seidThere, listPlace}
 use Rattle.rules.specs.Reading.{Reading, done, refusalAt, andThen, named, seidRead, flagsRead, csidCountAllowed, withCsid, csidRead, actedRead, elementRead, elementsRead, finished, aloneIn, topRead, read, faultIn, readFault, askedIn, readRequest, sessionRead}
 use Rattle.rules.specs.Request.{Item, createsPdr, createsEndpoint, setsCsid, cleared, changed, Draft, emptyDraft, withNode, withItem, pdrIn, endpointIn, changeIn, gonePdrIn, goneEndpointIn, csidIn, clears, strangeAddress, isUnsupported, restoringIn, requestFrom}
 use Rattle.laws.proofs.MessageLaws.{Fits, el, after, elements-cons, elements-nil, Framed, Inside, framed-nil, framed-cons, length-one, written, asElement, asElements, afterAll, elements-map, framed-map, short-map}
 use Rattle.rules.specs.Reply.{element, message}
-use Rattle.rules.specs.Restoration.{pdrContent, pdrElement, endpointContent, endpointElement, recordCsid, csidElement, Sender, senderTests, senderAllowed, recordElements, restoration, restoredPdr, restoredEndpoint, restoredRequest}
+use Rattle.rules.specs.Restoration.{pdrContent, pdrElement, endpointContent, endpointElement, recordCsid, csidElement, Sender, senderAllowed, recordElements, restoration, restoredPdr, restoredEndpoint, restoredRequest}
 use Rattle.rules.specs.Types as ie
 use Rattle.laws.proofs.MessageHeader.{message-body, message-kind, message-length, message-allowed, message-seid}
 use Rattle.laws.proofs.RestorationElements.{small, one-fits, pdr-short, pdr-read, pdr-framed, endpoint-short, endpoint-read, endpoint-framed, csid-read, csid-octets-short}
@@ -74,18 +75,16 @@ module _ (s : Settings) (hs : T (settingsAllowed s)) (p : Sender) (hp : T (sende
   fseid : List ℕ
   fseid = fseidOctets (x .seid) (p .ipv4) (p .ipv6)
 
-  senderFacts : Each (senderTests p)
-  unfolding senderAllowed
-  senderFacts = each (senderTests p) hp
+  sender : SenderKept p
+  sender = sender-kept p hp
 
   seid-pos : 1 ≤ x .seid
-  unfolding sessionTests
-  seid-pos = leb→le 1 (x .seid) (tests s hs x hx .0)
+  seid-pos = leb→le 1 (x .seid) (session-kept s x hx .records .seid)
 
   -- the F-SEID is read as the session's SEID
   fseid-read : readFseid fseid ≡ value (x .seid)
-  unfolding fseid senderTests
-  fseid-read = fseid-back (x .seid) (p .ipv4) (p .ipv6) seid-pos (seidFits s hs x hx) (senderFacts .1 .1 .0) (senderFacts .1 .1 .1 .0) (senderFacts .1 .1 .1 .1 .0)
+  unfolding fseid
+  fseid-read = fseid-back (x .seid) (p .ipv4) (p .ipv6) seid-pos (seidFits s hs x hx) (sender .ipv4) (sender .ipv6) (sender .some)
 
   address-le : (n : ℕ) (a : List ℕ) → T (addressOf n a) → length a ≤ n
   unfolding addressOf
@@ -93,10 +92,10 @@ module _ (s : Settings) (hs : T (settingsAllowed s)) (p : Sender) (hp : T (sende
   address-le n (y ∷ a) h = le-of-eq (eqb→eq (length (y ∷ a)) n (and-left (eqb (length (y ∷ a)) n) (octets (y ∷ a)) h))
 
   fseid-short : length fseid ≤ 29
-  unfolding fseid fseidOctets be senderTests
+  unfolding fseid fseidOctets be
   fseid-short =
-      let a = address-le 4 (p .ipv4) (senderFacts .1 .1 .0) in
-      let b = address-le 16 (p .ipv6) (senderFacts .1 .1 .1 .0) in
+      let a = address-le 4 (p .ipv4) (sender .ipv4) in
+      let b = address-le 16 (p .ipv6) (sender .ipv6) in
       let e = length-append (p .ipv4) (p .ipv6) in
       omega arith
 
@@ -270,8 +269,7 @@ module _ (s : Settings) (hs : T (settingsAllowed s)) (p : Sender) (hp : T (sende
   started = record { seid = some (x .seid); restores = some true; nodes = []; items = [] }
 
   nodes-up : T (ascending (map nodeTypeOf (x .csids)))
-  unfolding sessionTests
-  nodes-up = tests s hs x hx .1 .1 .1 .1 .1 .1 .1 .1 .1 .0
+  nodes-up = session-kept s x hx .records .csidOrder
 
   module _ (alone : Bool) where
     pdr-item : (q : Pdr) → T (pdrAllowed s live q) → (at : ℕ) (d : Draft) → elementRead establishment alone (el at ie.createPdr (pdrContent s q)) d ≡ done (withItem (pdrItem q) d)
@@ -279,8 +277,8 @@ module _ (s : Settings) (hs : T (settingsAllowed s)) (p : Sender) (hp : T (sende
     pdr-item q h at d = rw (pdr-read s hs q live h at)
 
     endpoint-item : (e : Endpoint) → T (endpointAllowed s e) → (at : ℕ) (d : Draft) → elementRead establishment alone (el at ie.createEndpoint (endpointContent s e)) d ≡ done (withItem (endpointItem e) d)
-    unfolding elementRead actedRead actedOn member endpointAllowed endpointTests
-    endpoint-item e h at d = let k = each (endpointTests s e) h in rw (endpoint-read s hs e (k .1 .0) (k .1 .1 .0) at)
+    unfolding elementRead actedRead actedOn member
+    endpoint-item e h at d = let k = endpoint-kept s e h in rw (endpoint-read s hs e (k .local) (k .address) at)
 
     csid-item : (c : Csid) → T (csidAllowed c) → (at : ℕ) (d : Draft) → T (not (member (c .nodeType) (d .nodes)))
         → elementRead establishment alone (el at ie.fqcsid (csidContent c)) d ≡ done (withNode (c .nodeType) (withItem (csidItem c) d))

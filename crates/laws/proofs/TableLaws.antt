@@ -7,19 +7,21 @@ use native.Mathlib.Omega.{arith}
 use mathlib.Core.Bool.{not}
 use mathlib.Core.List.{List, [], _∷_, _++_, map, append-assoc, append-nil}
 use lib.ListN.{length, take, drop, length-append}
-use lib.Dec.{T, eqb, eqb→eq, leb→le, lit<}
+use lib.Dec.{T, eqb, eqb→eq, lit<}
 use mir.Facts.{yes-eqb}
 use lib.Seq.{take-at, drop-at, drop-drop}
 use Rattle.octets.specs.Choice.{pick, flag, isNil}
 use Rattle.octets.specs.Octets.{be, number, numberAt, octetAt, zeros, padded, slices}
 use Rattle.octets.specs.Lists.{all}
-use Rattle.octets.proofs.Tests.{each, Each, all-of-each, of-true}
+use Rattle.octets.proofs.Tests.{all-of-each, of-true}
 use Rattle.octets.proofs.Numbers.{same-refl, number-be, length-be, length-padded}
 use Rattle.rules.specs.Model.{Settings, Sessions, Peer}
-use Rattle.rules.specs.Limits.{maxSessions, maxAddresses}
-use Rattle.rules.specs.Sound.{poolTests, addressPoolTests, limitTests, ipv6Allowed, settingsTests, settingsAllowed, sessionAllowed, sessionsTests, sessionsAllowed, soundTests, sound}
+use Rattle.rules.specs.Limits.{maxSessions}
+use Rattle.rules.specs.Sound.{ipv6Allowed, settingsAllowed, sessionAllowed, sessionsAllowed, soundTests, sound}
 use Rattle.rules.specs.Layout.{headWidth, sessionWidth, tableLength, area, sessionOctets, settingsOctets, encode, viewArea, viewSession, viewPeer, viewSettings, viewSessions, settingsWidth, peerOctets}
-use Rattle.laws.proofs.PeerLaws.{PeerAllowed, first-peer, second-peer, all-sessions}
+use Rattle.laws.proofs.KeptSettings.{PeerAllowed, SettingsKept, settings-kept}
+use Rattle.laws.proofs.KeptRules.{sessions-kept}
+use Rattle.laws.proofs.PeerLaws.{all-sessions}
 use Rattle.laws.proofs.LayoutLaws.{length-area, area-back, length-session, session-back}
 
 -- ---- settings
@@ -96,57 +98,35 @@ regroup : (n : ℕ) → settingsWidth + suc (suc n) ≡ headWidth + n
 regroup n = omega arith
 
 module _ (s : Settings) (hs : T (settingsAllowed s)) where
-  pub settingsFacts : Each (settingsTests s)
-  unfolding settingsAllowed
-  settingsFacts = each (settingsTests s) hs
+  kept : SettingsKept s
+  kept = settings-kept s hs
 
   pub ipv4-four : length (s .ipv4) ≡ 4
-  unfolding settingsTests
-  ipv4-four = eqb→eq (length (s .ipv4)) 4 (settingsFacts .0)
+  ipv4-four = kept .ipv4Four
 
   pub ipv6-ok : T (ipv6Allowed (s .ipv6))
-  unfolding settingsTests
-  ipv6-ok = settingsFacts .1 .1 .0
-
-  poolFacts : Each (poolTests (s .first) (s .size))
-  unfolding settingsTests
-  poolFacts = each (poolTests (s .first) (s .size)) (settingsFacts .1 .1 .1 .1 .0)
+  ipv6-ok = kept .ipv6
 
   pub pool-fits : s .first + s .size ≤ 256 ^ 4
-  unfolding poolTests
-  pool-fits = leb→le (s .first + s .size) (2 ^ 32) (poolFacts .1 .1 .1 .0)
+  pool-fits = kept .pool .last
 
   first-fits : s .first < 256 ^ 4
-  unfolding poolTests
-  first-fits = let one : 1 ≤ s .size = leb→le 1 (s .size) (poolFacts .1 .0) in omega (arith, pool-fits)
+  first-fits = omega (arith, kept .pool .some, pool-fits)
 
   size-fits : s .size < 256 ^ 4
-  unfolding poolTests
-  size-fits = let one : 1 ≤ s .first = leb→le 1 (s .first) (poolFacts .0) in omega (arith, pool-fits)
-
-  addressFacts : Each (addressPoolTests (s .firstAddress) (s .addressCount))
-  unfolding settingsTests
-  addressFacts = each (addressPoolTests (s .firstAddress) (s .addressCount)) (settingsFacts .1 .1 .1 .1 .1 .0)
+  size-fits = omega (arith, kept .pool .first, pool-fits)
 
   pub address-pool-fits : s .firstAddress + s .addressCount ≤ 256 ^ 4
-  unfolding addressPoolTests
-  address-pool-fits = leb→le (s .firstAddress + s .addressCount) (2 ^ 32) (addressFacts .1 .1 .0)
+  address-pool-fits = kept .addresses .last
 
   first-address-fits : s .firstAddress < 256 ^ 4
-  unfolding addressPoolTests
-  first-address-fits = let one : 1 ≤ s .addressCount = leb→le 1 (s .addressCount) (addressFacts .0) in omega (arith, address-pool-fits)
+  first-address-fits = omega (arith, kept .addresses .some, address-pool-fits)
 
   address-count-fits : s .addressCount < 256 ^ 4
-  unfolding addressPoolTests
-  address-count-fits = lt-of-le-of-lt (leb→le (s .addressCount) maxAddresses (addressFacts .1 .0)) (lit< tt)
-
-  limitFacts : Each (limitTests (s .limit))
-  unfolding settingsTests
-  limitFacts = each (limitTests (s .limit)) (settingsFacts .1 .1 .1 .1 .1 .1 .0)
+  address-count-fits = lt-of-le-of-lt (kept .addresses .few) (lit< tt)
 
   pub limit-most : s .limit ≤ maxSessions
-  unfolding limitTests
-  limit-most = leb→le (s .limit) maxSessions (limitFacts .1 .0)
+  limit-most = kept .limit .most
 
   pub limit-fits : s .limit < 256 ^ 2
   limit-fits = lt-of-le-of-lt limit-most (lit< tt)
@@ -164,7 +144,7 @@ module _ (s : Settings) (hs : T (settingsAllowed s)) where
       (λ (v : List ℕ). viewSettings (settingsOctets (record { ipv4 = v; ipv6 = s .ipv6; first = s .first; size = s .size; firstAddress = s .firstAddress; addressCount = s .addressCount; limit = s .limit; peer1 = s .peer1; peer2 = s .peer2 }) ++ t)
       ≡ record { ipv4 = v; ipv6 = s .ipv6; first = s .first; size = s .size; firstAddress = s .firstAddress; addressCount = s .addressCount; limit = s .limit; peer1 = s .peer1; peer2 = s .peer2 })
       (λ a b c d. cells a b c d (s .ipv6) (s .first) (s .size) (s .firstAddress) (s .addressCount) (s .limit) (s .peer1) (s .peer2) t ipv6-ok first-fits size-fits first-address-fits address-count-fits limit-fits
-      (peer-fits (s .peer1) (first-peer s hs)) (peer-fits (s .peer2) (second-peer s hs)))
+      (peer-fits (s .peer1) (kept .peers .one)) (peer-fits (s .peer2) (kept .peers .other)))
       (s .ipv4) ipv4-four
 
   pub length-settings : length (settingsOctets s) ≡ settingsWidth
@@ -176,16 +156,11 @@ module _ (s : Settings) (hs : T (settingsAllowed s)) where
       (length-append (padded 16 (s .ipv6)) numbers ∙ ap (λ (k : ℕ). k + 42) (length-padded 16 (s .ipv6) (ipv6-short (s .ipv6) ipv6-ok)))
 
   module _ (m : Sessions) (hm : T (sessionsAllowed s m)) where
-    sessionsFacts : Each (sessionsTests s m)
-    unfolding sessionsAllowed
-    sessionsFacts = each (sessionsTests s m) hm
-
     fewSessions : length m ≤ s .limit
     fewSessions = all-sessions s m hm
 
     eachSession : T (all (sessionAllowed s) m)
-    unfolding sessionsTests
-    eachSession = sessionsFacts .1 .1 .0
+    eachSession = sessions-kept s m hm .sessions
 
     sessionArea : List ℕ
     sessionArea = area sessionOctets sessionWidth (s .limit) m

@@ -8,7 +8,7 @@ use native.Mathlib.Omega.{arith}
 use lib.Dec.{T, eqb, ltb, eqb→eq}
 use lib.ListN.{length, getD}
 use Rattle.octets.specs.Choice.{pick}
-use Rattle.octets.specs.Octets.{part, slices, octetAt, octets}
+use Rattle.octets.specs.Octets.{part, slices, octets}
 use Rattle.octets.specs.Fields.{fieldsAt}
 use Rattle.octets.specs.Lists.{all}
 use Rattle.octets.proofs.Tests.{each, of-true, and-left, all-at}
@@ -22,9 +22,9 @@ use Rattle.rules.specs.Limits.{maxPdrs, maxEndpoints}
 use Rattle.rules.specs.Model.{Settings}
 use Rattle.rules.specs.Layout.{pdrWidths, pdrWidth, endpointWidths, endpointWidth, pdrsAt, endpointsAt, pdrCountAt, endpointCountAt, pdrAddressThereAt, endpointAddressThereAt, sessionWidth}
 use Rattle.records.specs.Kept.{optionalTest, tunnelTest, matchTest, pdrSound, pdrTest, endpointSound, endpointTest, endpointIds}
-use Rattle.records.specs.Slot.{areaSound, headSound, slotTests, slotSound, pdrArea, endpointArea}
+use Rattle.records.specs.Slot.{areaSound, headSound, slotSound, pdrArea, endpointArea}
 use Rattle.records.proofs.Slots.{pdr-law, endpoint-law}
-use Rattle.records.proofs.SlotLaws.{counts-headed}
+use Rattle.records.proofs.SlotLaws.{counts-headed, slot-kept}
 use Rattle.marking.specs.Offsets.{Present}
 
 optional-few : (g h : ℕ) → T (optionalTest g h) → g ≤ 1
@@ -79,20 +79,17 @@ present p w k at n a o l t f =
 -- ---- a slot
 
 pub sound-head : (s : Settings) (xs : List ℕ) → T (slotSound s xs) → T (headSound xs)
-unfolding slotSound slotTests
-sound-head s xs t = each (slotTests s xs) t .0
+sound-head s xs t = slot-kept s xs t .head
 
 module _ (s : Settings) (pool : s .first + s .size ≤ 2 ^ 32) (xs : List ℕ) (long : length xs ≡ sessionWidth) (o : T (octets xs)) (t : T (slotSound s xs)) where
   pub present-endpoints : Present endpointWidth endpointAddressThereAt (getD xs endpointCountAt 0) (endpointArea xs)
-  unfolding slotSound slotTests octetAt
   present-endpoints =
       let counts = counts-headed xs (sound-head s xs t) in
       present (endpointSound s) endpointWidth 1 endpointAddressThereAt (getD xs endpointCountAt 0) (endpointArea xs) (part-octets endpointsAt (maxEndpoints * endpointWidth) xs o)
-      (omega (arith, counts .endpoints, length-part endpointsAt (maxEndpoints * endpointWidth) xs (omega arith))) (each (slotTests s xs) t .1 .1 .0) (endpoint-there s pool)
+      (omega (arith, counts .endpoints, length-part endpointsAt (maxEndpoints * endpointWidth) xs (omega arith))) (slot-kept s xs t .endpoints) (endpoint-there s pool)
 
   pub present-pdrs : Present pdrWidth pdrAddressThereAt (getD xs pdrCountAt 0) (pdrArea xs)
-  unfolding slotSound slotTests octetAt
   present-pdrs =
       let counts = counts-headed xs (sound-head s xs t) in
       present (pdrSound s (endpointIds (getD xs endpointCountAt 0) (endpointArea xs))) pdrWidth 2 pdrAddressThereAt (getD xs pdrCountAt 0) (pdrArea xs) (part-octets pdrsAt (maxPdrs * pdrWidth) xs o)
-      (omega (arith, counts .pdrs, length-part pdrsAt (maxPdrs * pdrWidth) xs (omega arith))) (each (slotTests s xs) t .1 .0) (pdr-there s pool (endpointIds (getD xs endpointCountAt 0) (endpointArea xs)))
+      (omega (arith, counts .pdrs, length-part pdrsAt (maxPdrs * pdrWidth) xs (omega arith))) (slot-kept s xs t .pdrs) (pdr-there s pool (endpointIds (getD xs endpointCountAt 0) (endpointArea xs)))

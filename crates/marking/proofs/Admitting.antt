@@ -8,15 +8,16 @@ use mathlib.Core.Bool.{Bool, true, false, not, _&&_}
 use mathlib.Core.Option.{Option, none, some}
 use mathlib.Core.List.{List, [], _∷_, _++_, map}
 use borrow.Author.Tests.{not-true, not-false}
-use lib.ListN.{length, take, getD, length-map}
+use lib.ListN.{length, getD, length-map}
 use lib.Dec.{T}
 use Rattle.octets.specs.Choice.{pick, flag, consOption}
 use Rattle.octets.specs.Octets.{slices}
 use Rattle.octets.specs.Lists.{all, collect}
-use Rattle.octets.proofs.Tests.{each, of-true}
+use Rattle.octets.proofs.Tests.{of-true}
 use Rattle.rules.specs.Model.{Settings, Session, Holding, Pdr, sessionHoldings, sessionTeids, teidOf, pdrHolding, endpointHolding, endpointId}
 use Rattle.rules.specs.Layout.{viewPdr, viewEndpoint, pdrWidth, endpointWidth, csidWidth, pdrCountAt, endpointCountAt, csidCountAt}
-use Rattle.rules.specs.Sound.{inPool, sessionTests}
+use Rattle.rules.specs.Sound.{inPool, recordsAllowed}
+use Rattle.laws.proofs.KeptRules.{records-kept}
 use Rattle.pool.specs.Map.{marked, mark, marks, newMarks, offsets}
 use Rattle.pool.proofs.Marks.{length-marks}
 use Rattle.marking.specs.Walk.{sessionMarks}
@@ -25,7 +26,7 @@ use Rattle.marking.proofs.SessionWalk.{session-split}
 use Rattle.unit.specs.declared.Settings.{Settings as Unit}
 use Rattle.unit.specs.Meaning.{settingsOf}
 use Rattle.records.specs.Kept.{pdrSound, endpointSound, csidSound, endpointIds}
-use Rattle.records.specs.Slot.{areaSound, headSound, recordsAllowed, pdrArea, endpointArea, csidArea}
+use Rattle.records.specs.Slot.{areaSound, headSound, pdrArea, endpointArea, csidArea}
 use Rattle.records.proofs.SlotLaws.{Counts, counts-headed, slotOf, view-slot}
 use Rattle.records.proofs.Turns.{slot-areas}
 use Rattle.marking.specs.declared.Marks.{Marks}
@@ -114,10 +115,9 @@ module _ {sound : Bool} {first : ℕ} {ws : List ℕ} {hs : List Holding} {r : M
       go false e = refl
 
 pub records-pooled : (s : Settings) (x : Session) → T (recordsAllowed s x) → T (all (inPool s) (sessionTeids x))
-unfolding recordsAllowed sessionTests
 records-pooled s x a =
-    let t = each (take 12 (sessionTests s x)) a in
-    records-in-pool s x (map endpointId (x .endpoints)) (t .1 .1 .1 .1 .0) (t .1 .1 .1 .1 .1 .1 .1 .0)
+    let k = records-kept s x a in
+    records-in-pool s x (map endpointId (x .endpoints)) (k .pdrs) (k .endpoints)
 
 -- ---- the slot's tests in the order of the code
 

@@ -256,9 +256,6 @@ module _ (s : Settings) (ws₀ as₀ a : List ℕ) (n : ℕ) where
           let g = here .few j k e in
           record { ones = omega arith; twos = omega arith; firsts = omega arith; addresses = omega arith; teids = g .0; new = g .1; least = w .0; most = w .1 }
 
-      pub passing-few : (j k : ℕ) → r ≡ Held j k → (j ≤ 24) × (k ≤ 24)
-      passing-few j k e = here .few j k e
-
       pub passing-more : (j k q : ℕ) → r ≡ Held j k → q ≡ getD slot 0 0 → Passing ws₁ hs₁ as₁ (i + 1) (one + j * (2 - q)) (two + j * (q - 1)) (first + (2 - q)) (taken + k)
       unfolding newBy slotsBy octetAt
       passing-more j k q e z =

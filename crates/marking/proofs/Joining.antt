@@ -8,10 +8,11 @@ use lib.Dec.{T, T-not, eqb, eqb→eq}
 use mir.Facts.{yes-eqb}
 use Rattle.octets.specs.Choice.{allOf, sameBool}
 use Rattle.octets.specs.Lists.{member, any, all, allPairs}
-use Rattle.octets.proofs.Tests.{both, and-right, each, all-of-each, all-head, all-tail, all-cons}
+use Rattle.octets.proofs.Tests.{both, and-right, all-head, all-tail, all-cons}
 use Rattle.octets.proofs.Ordered.{pairs-head, pairs-tail}
 use Rattle.rules.specs.Model.{Holding, teidOf}
 use Rattle.rules.specs.Sound.{shareTests, agree}
+use Rattle.laws.proofs.KeptRules.{shares, share-tests}
 use Rattle.marking.specs.Walk.{onSame, sharedWith, joins}
 use Rattle.octets.proofs.Bools.{not-or}
 
@@ -63,25 +64,29 @@ eqb-third a b c g h = yes-eqb (sym (eqb→eq a b g) ∙ eqb→eq a c h)
 
 -- two that share with a third share with each other
 share-third : (x k h : Holding) → Share x k → Share x h → Share k h
-unfolding shareTests
 share-third x k h f g =
-    let a = each (shareTests x k) f in
-    let b = each (shareTests x h) g in
-    let v4 = same-third (x .v4) (k .v4) (h .v4) (a .1 .1 .0) (b .1 .1 .0) in
-    let v6 = same-third (x .v6) (k .v6) (h .v6) (a .1 .1 .1 .0) (b .1 .1 .1 .0) in
-    let source = eqb-third (x .source) (k .source) (h .source) (a .1 .1 .1 .1 .0) (b .1 .1 .1 .1 .0) in
-    all-of-each (shareTests k h) (a .1 .0, (b .1 .0, (v4, (v6, (source, tt)))))
+    let a = shares x k f in
+    let b = shares x h g in
+    share-tests (record {
+      first = a .second;
+      second = b .second;
+      v4 = same-third (x .v4) (k .v4) (h .v4) (a .v4) (b .v4);
+      v6 = same-third (x .v6) (k .v6) (h .v6) (a .v6) (b .v6);
+      source = eqb-third (x .source) (k .source) (h .source) (a .source) (b .source);
+    })
 
 -- one that shares with another shares with what that shares with
 share-on : (x k h : Holding) → Share x k → Share k h → Share x h
-unfolding shareTests
 share-on x k h f g =
-    let a = each (shareTests x k) f in
-    let b = each (shareTests k h) g in
-    let v4 = same-third (k .v4) (x .v4) (h .v4) (same-turn (x .v4) (k .v4) (a .1 .1 .0)) (b .1 .1 .0) in
-    let v6 = same-third (k .v6) (x .v6) (h .v6) (same-turn (x .v6) (k .v6) (a .1 .1 .1 .0)) (b .1 .1 .1 .0) in
-    let source = yes-eqb (eqb→eq (x .source) (k .source) (a .1 .1 .1 .1 .0) ∙ eqb→eq (k .source) (h .source) (b .1 .1 .1 .1 .0)) in
-    all-of-each (shareTests x h) (a .0, (b .1 .0, (v4, (v6, (source, tt)))))
+    let a = shares x k f in
+    let b = shares k h g in
+    share-tests (record {
+      first = a .first;
+      second = b .second;
+      v4 = same-third (k .v4) (x .v4) (h .v4) (same-turn (x .v4) (k .v4) (a .v4)) (b .v4);
+      v6 = same-third (k .v6) (x .v6) (h .v6) (same-turn (x .v6) (k .v6) (a .v6)) (b .v6);
+      source = yes-eqb (eqb→eq (x .source) (k .source) (a .source) ∙ eqb→eq (k .source) (h .source) (b .source));
+    })
   where
     same-turn : (a b : Bool) → T (sameBool a b) → T (sameBool b a)
     same-turn true true g = tt
@@ -90,8 +95,7 @@ share-on x k h f g =
     same-turn false false g = tt
 
 share-left : (h k : Holding) → Share h k → T (h .shared)
-unfolding shareTests
-share-left h k g = each (shareTests h k) g .0
+share-left h k g = shares h k g .first
 
 -- ---- a hold and the earlier ones
 

@@ -9,11 +9,12 @@ use lib.Dec.{T}
 use lib.ListN.{length, replicate, length-replicate}
 use Rattle.octets.specs.Choice.{consOption, mapOption}
 use Rattle.octets.specs.Lists.{all, allPairs, collect}
-use Rattle.octets.proofs.Tests.{each, all-head, all-tail, all-cons}
+use Rattle.octets.proofs.Tests.{all-head, all-tail, all-cons}
 use Rattle.octets.proofs.Bools.{and-swap, and-four}
 use Rattle.octets.proofs.EachTwo.{all-step, all-append}
 use Rattle.rules.specs.Model.{Settings, Tunnel, Match, neither, tunnel, endpoint, Pdr, Endpoint, Holding, Session, Sessions, teidOf, matchedTunnel, tunnelHolding, pdrHolding, endpointHolding, endpointId, sessionHoldings, sessionTeids, heldTeids}
-use Rattle.rules.specs.Sound.{inPool, tunnelTests, tunnelAllowed, matchAllowed, pdrTests, pdrAllowed, endpointTests, endpointAllowed, agree, sessionTests, sessionAllowed, sessionsTests, sessionsAllowed}
+use Rattle.rules.specs.Sound.{inPool, tunnelAllowed, matchAllowed, pdrAllowed, endpointAllowed, agree, sessionAllowed, sessionsAllowed}
+use Rattle.laws.proofs.KeptRules.{tunnel-kept, pdr-kept, endpoint-kept, session-kept, sessions-kept}
 use Rattle.pool.specs.Map.{mark, marks, offsets}
 use Rattle.pool.proofs.Marks.{length-mark, length-marks}
 use Rattle.pool.proofs.TakenLaws.{Means, means-empty, means-test, means-mark, pool-from, pool-offset}
@@ -90,15 +91,14 @@ module _ (s : Settings) where
   -- ---- TEIDs of records that keep the rules
 
   tunnel-pooled : (t : Tunnel) → T (tunnelAllowed s t) → T (inPool s (t .teid))
-  unfolding tunnelAllowed tunnelTests
-  tunnel-pooled t h = each (tunnelTests s t) h .0
+  tunnel-pooled t h = tunnel-kept s t h .pool
 
   endpoints-pooled : (es : List Endpoint) → T (all (endpointAllowed s) es) → T (pooled (map endpointHolding es))
-  unfolding endpointAllowed endpointTests endpointHolding tunnelHolding
+  unfolding endpointHolding tunnelHolding
   endpoints-pooled [] h = unfold all in tt
   endpoints-pooled (e ∷ es) h =
       all-cons (inPool s) (e .local .teid) (map teidOf (map endpointHolding es))
-      (tunnel-pooled (e .local) (each (endpointTests s e) (all-head (endpointAllowed s) e es h) .1 .0))
+      (tunnel-pooled (e .local) (endpoint-kept s e (all-head (endpointAllowed s) e es h) .local))
       (endpoints-pooled es (all-tail (endpointAllowed s) e es h))
 
   pdrs-pooled : (live : List ℕ) (ps : List Pdr) → T (all (pdrAllowed s live) ps) → T (pooled (collect pdrHolding ps))
@@ -107,7 +107,7 @@ module _ (s : Settings) where
   pdrs-pooled live (p ∷ ps) h = one (p .match) (allowed (all-head (pdrAllowed s live) p ps h)) (pdrs-pooled live ps (all-tail (pdrAllowed s live) p ps h))
     where
       allowed : T (pdrAllowed s live p) → T (matchAllowed s live (p .match))
-      allowed g = unfold pdrAllowed pdrTests in (each (pdrTests s live p) g .1 .1 .1 .1 .0)
+      allowed g = pdr-kept s live p g .match
 
       one : (w : Match) → T (matchAllowed s live w) → T (pooled (collect pdrHolding ps))
           → T (pooled (consOption (mapOption (tunnelHolding true (p .source)) (matchedTunnel w)) (collect pdrHolding ps)))
@@ -122,10 +122,9 @@ module _ (s : Settings) where
       (all-append (inPool s) (map teidOf (map endpointHolding (x .endpoints))) (map teidOf (collect pdrHolding (x .pdrs))) (endpoints-pooled (x .endpoints) he) (pdrs-pooled live (x .pdrs) hp))
 
   pub session-in-pool : (x : Session) → T (sessionAllowed s x) → T (all (inPool s) (sessionTeids x))
-  unfolding sessionAllowed sessionTests
   session-in-pool x h =
-      let t = each (sessionTests s x) h in
-      records-in-pool x (map endpointId (x .endpoints)) (t .1 .1 .1 .1 .0) (t .1 .1 .1 .1 .1 .1 .1 .0)
+      let k = session-kept s x h .records in
+      records-in-pool x (map endpointId (x .endpoints)) (k .pdrs) (k .endpoints)
 
   pub all-in-pool : (m : Sessions) → T (all (sessionAllowed s) m) → T (all (inPool s) (heldTeids m))
   unfolding all heldTeids
@@ -135,5 +134,4 @@ module _ (s : Settings) where
 
   -- every TEID held in sessions that are allowed is in the pool
   pub held-in-pool : (m : Sessions) → T (sessionsAllowed s m) → T (all (inPool s) (heldTeids m))
-  unfolding sessionsAllowed sessionsTests
-  held-in-pool m h = all-in-pool m (each (sessionsTests s m) h .1 .1 .0)
+  held-in-pool m h = all-in-pool m (sessions-kept s m h .sessions)

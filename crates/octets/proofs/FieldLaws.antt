@@ -2,7 +2,7 @@
 use mathlib.Core.Bool.{Bool, true, false, _&&_, false≢true}
 use mathlib.Core.List.{List, [], _∷_, _++_, append-assoc, append-nil}
 use mathlib.Core.Path.{_≡_, refl, sym, ap, _∙_}
-use Prim.Native.Nat.{ℕ, zero, suc, _+_, _*_, _^_, _≤_, _<_, zero-le}
+use Prim.Native.Nat.{ℕ, zero, suc, _+_, _*_, _^_, _≤_, _<_}
 use native.Mathlib.Nat.{suc-ne-zero, suc-inj, zero-add, zero-mul, suc-mul, one-le-pow, add-zero, le-of-suc-le-suc}
 use native.Mathlib.Numerals.{add-one}
 use native.Mathlib.Omega.{arith}
@@ -14,7 +14,7 @@ use lib.Dec.{T}
 use Rattle.octets.specs.Octets.{part, put, number, be, octets, sameOctets, allZero}
 use Rattle.octets.specs.Fields.{widthOf, narrow, fieldsAt, fit, fieldOctets}
 use Rattle.octets.proofs.Parts.{part-first}
-use Rattle.octets.proofs.Put.{length-part, length-put, put-none, put-put, put-over}
+use Rattle.octets.proofs.Put.{length-part, put-put, put-over}
 use Rattle.octets.proofs.Numbers.{length-be, number-be, same-refl, same-eq}
 use Rattle.octets.proofs.Tests.{of-true, is-true}
 use Rattle.octets.proofs.Digits.{number-one, be-number, number-below, part-octets}
@@ -66,22 +66,6 @@ fit-fields at [] s o h = refl
 fit-fields at (w ∷ ws) s o h =
     let b : number (part at w s) < 256 ^ w = rw (length-part at w s (omega arith)) at (number-below (part at w s) (part-octets at w s o)) in
     rw (lt-ltb _ _ b) (fit-fields (at + w) ws s o (omega arith))
-
--- the fields put one by one, as straight-line code writes them
-abbrev pub putEach : ℕ → List ℕ → List ℕ → List ℕ → List ℕ
-putEach at [] vs s = s
-putEach at (w ∷ ws) [] s = s
-putEach at (w ∷ ws) (v ∷ vs) s = putEach (at + w) ws vs (put at (be w v) s)
-
--- are their octets put at once
-pub put-each : (at : ℕ) (ws vs s : List ℕ) → fit ws vs ≡ true → at + widthOf ws ≤ length s → putEach at ws vs s ≡ put at (fieldOctets ws vs) s
-unfolding fit fieldOctets
-put-each at [] vs s f h = sym (put-none at [] s (zero-le))
-put-each at (w ∷ ws) [] s f h = absurd (false≢true f)
-put-each at (w ∷ ws) (v ∷ vs) s f h =
-    let l : length (be w v) ≡ w = length-be w v in
-    let k : length (put at (be w v) s) ≡ length s = length-put at (be w v) s (omega arith) in
-    put-each (at + w) ws vs (put at (be w v) s) (both (ltb v (256 ^ w)) (fit ws vs) f .1) (omega arith) ∙ put-put at w (be w v) (fieldOctets ws vs) s l (omega arith)
 
 -- ---- the loops over widths and numbers: what stands at index i, and the rest
 

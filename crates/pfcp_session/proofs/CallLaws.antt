@@ -5,27 +5,27 @@ use Prim.Native.Nat.{ℕ, _-_, _/_, _^_, _≤_, _<_}
 use native.Mathlib.Omega.{arith}
 use mathlib.Core.Bool.{Bool, true, false}
 use mathlib.Core.List.{List}
-use lib.Dec.{T, leb→le}
+use lib.Dec.{T}
 use lib.ListN.{length}
 use Rattle.octets.specs.Choice.{pick}
-use Rattle.octets.proofs.Tests.{each}
 use Rattle.rules.specs.Limits.{maxSessions, maxPool, maxAddresses}
 use Rattle.rules.specs.Model.{Settings, Sessions, freeCount, freeAddressCount, isPeer, half, ofPeer, holdings}
-use Rattle.rules.specs.Layout.{headWidth, sessionWidth, tableLength, viewSettings, viewSessions}
-use Rattle.rules.specs.Sound.{poolTests, addressPoolTests, settingsTests, settingsAllowed, soundTests, sound, make, Count, broken, free, countFree, countAddresses}
+use Rattle.rules.specs.Layout.{viewSettings, viewSessions}
+use Rattle.rules.specs.Sound.{sound, make, Count, broken, free, countFree, countAddresses}
 use Rattle.table.specs.declared.Making.{Making}
 use Rattle.table.specs.declared.Making.the-variants.{Made, Refused}
 use Rattle.table.specs.declared.Count as code
 use Rattle.table.specs.declared.Count.the-variants.{Broken, Free}
 use Rattle.table.specs.Answers.{madeOf, countTold}
 use Rattle.engine.specs.Steps.{Serves}
-use Rattle.rules.specs.Store.{Emptied, empty}
+use Rattle.rules.specs.Store.{empty}
 use Rattle.rules.specs.Repeats.{Once, requestOnce}
 use Rattle.rules.specs.Finding.{Finding, findIn, countSessions, Share, unshared, countPeer}
 use Rattle.laws.proofs.PeerLaws.{peers-kept, peer-known}
 use Rattle.laws.proofs.TableLaws.{limit-most}
+use Rattle.laws.proofs.KeptRules.{table-kept}
+use Rattle.laws.proofs.KeptSettings.{settings-kept}
 use Rattle.pool.proofs.TakenLaws.{pool-fits}
-use Rattle.invariants.proofs.ServeLaws.{table-kept}
 use Rattle.table.proofs.SoundSlots.{few-sessions}
 use Rattle.pfcp_session.specs.Calls.{StoreCall, storeAnswer, storeCall, onceCall, MakeCall, makeAnswer, makeCall, CountCall, countAnswer, countCall, addressCountCall, CountFits, RequestCall, replyOf, requestAnswer, requestCall}
 
@@ -54,22 +54,12 @@ few-with false k n most h e = absurd (let z : _≡_ {A = ℕ} 0 1 = cc in omega 
 
 module _ (t : List ℕ) (h : T (sound t)) where
   few-free : freeCount (viewSettings t) (viewSessions t) ≤ maxPool
-  unfolding sound soundTests settingsAllowed settingsTests poolTests freeCount
-  few-free =
-      let s = viewSettings t in
-      let f = each (soundTests t s (viewSessions t)) h in
-      let p = each (poolTests (s .first) (s .size)) (each (settingsTests s) (f .1 .0) .1 .1 .1 .1 .0) in
-      let few = leb→le (s .size) maxPool (p .1 .1 .0) in
-      omega arith
+  unfolding freeCount
+  few-free = omega (arith, settings-kept (viewSettings t) (table-kept t h .settings) .pool .few)
 
   few-addresses : freeAddressCount (viewSettings t) (viewSessions t) ≤ maxAddresses
-  unfolding sound soundTests settingsAllowed settingsTests addressPoolTests freeAddressCount
-  few-addresses =
-      let s = viewSettings t in
-      let f = each (soundTests t s (viewSessions t)) h in
-      let p = each (addressPoolTests (s .firstAddress) (s .addressCount)) (each (settingsTests s) (f .1 .0) .1 .1 .1 .1 .1 .0) in
-      let few = leb→le (s .addressCount) maxAddresses (p .1 .0) in
-      omega arith
+  unfolding freeAddressCount
+  few-addresses = omega (arith, settings-kept (viewSettings t) (table-kept t h .settings) .addresses .few)
 
 module _ (t : List ℕ) (r : code.Count) where
   pub teids-fit : countTold r ≡ countFree t → CountFits r

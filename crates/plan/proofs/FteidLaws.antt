@@ -12,11 +12,11 @@ use Rattle.octets.specs.Rows.{hasTag}
 use Rattle.rules.specs.Model.{Holding}
 use Rattle.rules.specs.Elements.{Fteid, given, choose, hasV4, hasV6, chooses, chooseIdOf}
 use Rattle.rules.specs.Stages.{restoredHolding, endpointRestored, pdrRestored}
-use Rattle.rules.specs.Grants.{Kind, ofPdr, ofEndpoint, Choice, choiceOf, endpointChoice, pdrChoice}
+use Rattle.rules.specs.Grants.{Kind, ofPdr, ofEndpoint, Choice, choiceOf, endpointChoice, pdrChoice, choiceId}
 use Rattle.plan.specs.Rows.{word, fteidFrom, rowFteid, rowLocal, rowPdr, rowEndpoint}
 use Rattle.rules.specs.Types as ie
 use Rattle.plan.specs.Words as its
-use Rattle.plan.specs.RowRules.{hasFteid, rowHolding, rowChoice, rowChooseId, choiceId, rowIpv4, rowIpv6}
+use Rattle.plan.specs.RowRules.{hasFteid, rowHolding, rowChoice, rowChooseId, rowIpv4, rowIpv6}
 
 -- ---- the value
 

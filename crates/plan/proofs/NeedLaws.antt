@@ -1,27 +1,27 @@
 -- How many TEIDs the rows need: counted at the last CHOOSE of each CHOOSE ID, whatever the rows' order. Assumes nothing.
 use mathlib.Core.Path.{_≡_, refl, sym, ap, ap₂, _∙_}
-use mathlib.Core.Bool.{Bool, true, false, not, _&&_, _||_, false≢true, and-false}
+use mathlib.Core.Bool.{Bool, true, false, not, _&&_, _||_, false≢true}
 use mathlib.Core.Option.{Option, none, some}
 use mathlib.Core.List.{List, [], _∷_, _++_, map}
 use Prim.Native.Nat.{ℕ, _+_, _-_, _≤_, _<_}
 use native.Mathlib.Nat.{zero-add}
 use native.Mathlib.Omega.{arith}
-use lib.Dec.{eqb, eqb-refl}
+use lib.ListN.{length}
+use lib.Dec.{eqb}
 use borrow.Author.Tests.{eqb-true}
 use Rattle.octets.specs.Choice.{pick, flag, isSome, bindOption, consOption}
-use Rattle.octets.specs.Lists.{member, any, keep, collect}
+use Rattle.octets.specs.Lists.{member, distinct, any, keep, collect}
 use Rattle.octets.specs.Rows.{hasTag}
-use Rattle.octets.proofs.Tests.{is-true}
 use Rattle.octets.proofs.ListLaws.{collect-map}
 use Rattle.rules.specs.Stages.{sameChoice}
-use Rattle.rules.specs.Grants.{Choice, choices, need, needFrom, isFresh, noted, endpointChoice, pdrChoice}
+use Rattle.rules.specs.Grants.{Choice, choices, choiceId, isAlone, needOf, need, endpointChoice, pdrChoice}
 use Rattle.plan.specs.Rows.{tagged, rowPdr, rowEndpoint, requestIn}
 use Rattle.rules.specs.Types as ie
-use Rattle.plan.specs.RowRules.{onSome, rowChoice, rowChooseId, choiceId, sharesChoice}
+use Rattle.plan.specs.RowRules.{onSome, rowChoice, rowChooseId, sharesChoice}
 use Rattle.plan.proofs.ListLaws.{any-ext, any-collect}
 use Rattle.plan.proofs.MergeLaws.{Merge, empty, left, right, any-middle, any-merge, merged}
 use Rattle.plan.proofs.PairLaws.{same-none, tags-apart}
-use Rattle.octets.proofs.Bools.{eqb-turn, or-swap}
+use Rattle.octets.proofs.Bools.{eqb-turn}
 
 -- a later CHOOSE has the CHOOSE ID
 abbrev shared : Option ℕ → List Choice → Bool
@@ -32,75 +32,30 @@ unfoldable needLast : List Choice → ℕ
 needLast [] = 0
 needLast (c ∷ cs) = flag (not (shared (choiceId c) cs)) + needLast cs
 
--- ---- first or last
-
--- what was seen counts only by what is in it
-need-ext : (s s′ : List ℕ) → ((x : ℕ) → member x s ≡ member x s′) → (cs : List Choice) → needFrom s cs ≡ needFrom s′ cs
-unfolding needFrom isFresh noted member
-need-ext s s′ h [] = refl
-need-ext s s′ h (c ∷ cs) = one (c .chooseId) (λ a b g. need-ext a b g cs)
-  where
-    one : (o : Option ℕ) → ((a b : List ℕ) → ((x : ℕ) → member x a ≡ member x b) → needFrom a cs ≡ needFrom b cs)
-        → pick (isFresh s o) 1 0 + needFrom (noted s o) cs ≡ pick (isFresh s′ o) 1 0 + needFrom (noted s′ o) cs
-    one none ih = ap (λ (n : ℕ). 1 + n) (ih s s′ h)
-    one (some j) ih = ap₂ _+_ (ap (λ (b : Bool). pick (not b) 1 0) (h j)) (ih (j ∷ s) (j ∷ s′) (λ x. ap (λ (b : Bool). eqb x j || b) (h x)))
-
-swap : (i j : ℕ) (seen : List ℕ) (cs : List Choice) → needFrom (i ∷ j ∷ seen) cs ≡ needFrom (j ∷ i ∷ seen) cs
-unfolding member
-swap i j seen cs = need-ext (i ∷ j ∷ seen) (j ∷ i ∷ seen) (λ x. or-swap (eqb x i) (eqb x j) (member x seen)) cs
-
--- the numbers alone: t says that two IDs are equal, s that the first comes again, m and k that they were seen
-equal-ids : (x y : ℕ) (s m : Bool) → x ≡ flag (s && false) + y → pick (not m) 1 0 + x ≡ flag (not m) + (0 + y)
-equal-ids x y s m e = one m (e ∙ ap (λ (b : Bool). flag b + y) (and-false s))
-  where
-    one : (m : Bool) → x ≡ 0 + y → pick (not m) 1 0 + x ≡ flag (not m) + (0 + y)
-    one true k = omega arith
-    one false k = omega arith
-
-other-ids : (x y : ℕ) (s m k : Bool) → x ≡ flag (s && not m) + y → pick (not k) 1 0 + x ≡ flag (s && not m) + (pick (not k) 1 0 + y)
-other-ids x y s m true e = omega arith
-other-ids x y s m false e = omega arith
-
--- one more seen
-more : (i : ℕ) (seen : List ℕ) (cs : List Choice) → needFrom seen cs ≡ flag (shared (some i) cs && not (member i seen)) + needFrom (i ∷ seen) cs
-unfolding needFrom isFresh noted member any sameChoice
-more i seen [] = refl
-more i seen (c ∷ cs) = one (c .chooseId) (λ a. more i a cs)
-  where
-    count : (t : Bool) (j : ℕ) → eqb i j ≡ t → ((a : List ℕ) → needFrom a cs ≡ flag (shared (some i) cs && not (member i a)) + needFrom (i ∷ a) cs)
-        → pick (not (member j seen)) 1 0 + needFrom (j ∷ seen) cs
-        ≡ flag ((t || shared (some i) cs) && not (member i seen)) + (pick (not (t || member j seen)) 1 0 + needFrom (j ∷ i ∷ seen) cs)
-    count true j e ih =
-        rw (← eqb-true i j e)
-        (equal-ids (needFrom (i ∷ seen) cs) (needFrom (i ∷ i ∷ seen) cs) (shared (some i) cs) (member i seen)
-        (ih (i ∷ seen) ∙ ap (λ (b : Bool). flag (shared (some i) cs && not (b || member i seen)) + needFrom (i ∷ i ∷ seen) cs) (is-true (eqb i i) (eqb-refl i))))
-    count false j e ih =
-        other-ids (needFrom (j ∷ seen) cs) (needFrom (j ∷ i ∷ seen) cs) (shared (some i) cs) (member i seen) (member j seen)
-        (ih (j ∷ seen) ∙ ap₂ (λ (b : Bool) (n : ℕ). flag (shared (some i) cs && not (b || member i seen)) + n) e (swap i j seen cs))
-
-    one : (o : Option ℕ) → ((a : List ℕ) → needFrom a cs ≡ flag (shared (some i) cs && not (member i a)) + needFrom (i ∷ a) cs)
-        → pick (isFresh seen o) 1 0 + needFrom (noted seen o) cs
-        ≡ flag ((sameChoice (some i) o || shared (some i) cs) && not (member i seen)) + (pick (isFresh (i ∷ seen) o) 1 0 + needFrom (noted (i ∷ seen) o) cs)
-    one none ih = omega (arith, ih seen)
-    one (some j) ih = rw (eqb-turn j i) (count (eqb i j) j refl ih)
-
 never : (cs : List Choice) → shared none cs ≡ false
 unfolding any sameChoice
 never [] = refl
 never (c ∷ cs) = never cs
 
-need-last : (cs : List Choice) → needFrom [] cs ≡ needLast cs
-unfolding needFrom needLast isFresh noted member
+-- a later CHOOSE has the ID where it is among the later IDs
+later-shared : (i : ℕ) (cs : List Choice) → member i (collect choiceId cs) ≡ shared (some i) cs
+unfolding member collect any sameChoice
+later-shared i [] = refl
+later-shared i (c ∷ cs) = one (c .chooseId) (later-shared i cs)
+  where
+    one : (o : Option ℕ) → member i (collect choiceId cs) ≡ shared (some i) cs → member i (consOption o (collect choiceId cs)) ≡ (sameChoice (some i) o || shared (some i) cs)
+    one none ih = ih
+    one (some j) ih = ap (λ (b : Bool). eqb i j || b) ih
+
+need-last : (cs : List Choice) → needOf cs ≡ needLast cs
+unfolding needOf needLast keep isAlone distinct collect
 need-last [] = refl
 need-last (c ∷ cs) = one (c .chooseId) (need-last cs)
   where
-    all-in : (s : Bool) (x y : ℕ) → x ≡ flag (s && true) + y → 1 + y ≡ flag (not s) + x
-    all-in true x y e = omega arith
-    all-in false x y e = omega arith
-
-    one : (o : Option ℕ) → needFrom [] cs ≡ needLast cs → pick (isFresh [] o) 1 0 + needFrom (noted [] o) cs ≡ flag (not (shared o cs)) + needLast cs
-    one none ih = rw (never cs, ih)
-    one (some i) ih = rw (← ih) (all-in (shared (some i) cs) (needFrom [] cs) (needFrom (i ∷ []) cs) (more i [] cs))
+    one : (o : Option ℕ) → length (keep isAlone cs) + distinct (collect choiceId cs) ≡ needLast cs
+        → length (pick (not (isSome o)) (c ∷ keep isAlone cs) (keep isAlone cs)) + distinct (consOption o (collect choiceId cs)) ≡ flag (not (shared o cs)) + needLast cs
+    one none ih = rw (never cs) (omega (arith, ih))
+    one (some i) ih = rw (← later-shared i cs) (omega (arith, ih))
 
 -- ---- any order
 

@@ -16,11 +16,11 @@ use Rattle.rules.specs.Model.{Holding}
 use Rattle.rules.specs.Elements.{Fteid, given, choose, chooseIdOf}
 use Rattle.rules.specs.Sound.{agree, shareTests}
 use Rattle.rules.specs.Stages.{sameChoice, alikeFteids, fteidsMayShare, localsMayShare, choicesAgree}
-use Rattle.rules.specs.Grants.{ofPdr, choiceOf, pdrChoice}
+use Rattle.rules.specs.Grants.{ofPdr, choiceOf, pdrChoice, choiceId}
 use Rattle.plan.specs.Rows.{word, rowFteid, rowLocal, rowPdr}
 use Rattle.rules.specs.Types as ie
 use Rattle.plan.specs.Words as its
-use Rattle.plan.specs.RowRules.{hasFteid, rowHolding, rowChoice, rowChooseId, choiceId, alikeRows, repeats, sameId, otherChoice, holdsApart, otherHold, disagree, sharesChoice}
+use Rattle.plan.specs.RowRules.{hasFteid, rowHolding, rowChoice, rowChooseId, alikeRows, repeats, sameId, otherChoice, holdsApart, otherHold, disagree, sharesChoice}
 use Rattle.plan.proofs.FteidLaws.{v4-row, v6-row, chooses-some, choose-id-row, holding-row, holdOf}
 use Rattle.plan.proofs.RowTests.{tag-yes, tag-no}
 use Rattle.octets.proofs.Bools.{both-ways, same-bit}

@@ -14,7 +14,7 @@ use Rattle.rules.specs.Elements.{Fteid, UeIp, ueAddressOf}
 use Rattle.rules.specs.Request.{Request}
 use Rattle.rules.specs.Sound.{inPool, agree}
 use Rattle.rules.specs.Stages.{choicesAgree, alikeFteids, sameChoice, endpointRestored, pdrRestored}
-use Rattle.rules.specs.Grants.{Choice, endpointChoice, pdrChoice}
+use Rattle.rules.specs.Grants.{Choice, endpointChoice, pdrChoice, choiceId}
 use Rattle.plan.specs.Rows.{word, rowPdr, rowEndpoint, rowFteid, rowUe, requestIn}
 use Rattle.rules.specs.Types as ie
 use Rattle.plan.specs.Words as its
@@ -123,9 +123,6 @@ unfoldable pub disagree : List ℕ → List ℕ → Bool
 disagree a b = oneOf (sameId a b ∷ otherChoice a b ∷ otherHold a b ∷ [])
 
 -- ---- cause 75: TEIDs needed
-
-abbrev pub choiceId : Choice → Option ℕ
-choiceId c = c .chooseId
 
 -- the CHOOSE ID of a row
 unfoldable pub rowChooseId : List ℕ → Option ℕ

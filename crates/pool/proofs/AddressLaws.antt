@@ -1,21 +1,20 @@
 -- The map of taken addresses (02 (v)) is a map like that of the TEIDs, over another pool: the laws of TakenLaws at the pool of addresses.
 -- Assumes nothing.
-use mathlib.Core.Path.{_≡_, sym, _∙_, ap}
-use mathlib.Core.Bool.{Bool}
+use mathlib.Core.Path.{_≡_, _∙_}
 use mathlib.Core.List.{List, [], _∷_, _++_}
 use Prim.Native.Nat.{ℕ, _+_, _-_, _*_, _≤_}
 use native.Mathlib.Omega.{arith}
-use lib.Dec.{T, leb→le}
-use lib.ListN.{length, replicate}
+use lib.Dec.{T}
+use lib.ListN.{replicate}
 use Rattle.octets.specs.Lists.{distinct, all}
-use Rattle.octets.proofs.Tests.{each}
 use Rattle.octets.proofs.Ordered.{keep-passes}
 use Rattle.octets.proofs.EachTwo.{all-append}
-use Rattle.rules.specs.Limits.{maxAddresses, addressWords}
+use Rattle.rules.specs.Limits.{addressWords}
 use Rattle.rules.specs.Model.{Settings, Session, Sessions, inAddressPool, sessionAddresses, heldAddresses, freeAddresses}
-use Rattle.rules.specs.Sound.{addressPoolTests, settingsTests, settingsAllowed, inPool, addressMap}
+use Rattle.rules.specs.Sound.{settingsAllowed, inPool, addressMap}
+use Rattle.laws.proofs.KeptSettings.{settings-kept}
 use Rattle.pool.specs.Map.{marks, newMarks, offsets, teidsFrom}
-use Rattle.pool.proofs.TakenLaws.{Means, means-marks, words-is, words-mean, free-are, new-marks-distinct}
+use Rattle.pool.proofs.TakenLaws.{Means, words-is, words-mean, free-are, new-marks-distinct}
 
 -- the pool of addresses in the place of the pool of TEIDs
 abbrev pub asPool : Settings → Settings
@@ -34,8 +33,7 @@ module _ (s : Settings) where
 
   -- the map has a bit for each address of a pool that is allowed
   pub addresses-fit : T (settingsAllowed s) → s .addressCount ≤ 64 * addressWords
-  unfolding settingsAllowed settingsTests addressPoolTests
-  addresses-fit h = let few = leb→le (s .addressCount) maxAddresses (each (addressPoolTests (s .firstAddress) (s .addressCount)) (each (settingsTests s) h .1 .1 .1 .1 .1 .0) .1 .0) in omega arith
+  addresses-fit h = omega (arith, settings-kept s h .addresses .few)
 
   module _ (m : Sessions) where
     -- marking every held address in an empty map makes the map of 02 (v), and counts the different addresses

@@ -14,10 +14,11 @@ use lib.ListN.{length, replicate, length-replicate}
 use Rattle.octets.specs.Choice.{pick, flag, headOr, rest}
 use Rattle.octets.specs.Octets.{bit}
 use Rattle.octets.specs.Lists.{member, distinct, range, without, keep, all}
-use Rattle.octets.proofs.Tests.{and-left, and-right, all-head, all-tail, each}
-use Rattle.rules.specs.Limits.{maxPool, mapWords}
+use Rattle.octets.proofs.Tests.{and-left, and-right, all-head, all-tail}
+use Rattle.rules.specs.Limits.{mapWords}
 use Rattle.rules.specs.Model.{Settings, Sessions, heldTeids, freeTeids}
-use Rattle.rules.specs.Sound.{poolTests, settingsTests, settingsAllowed, inPool, taken, takenBits, takenWords, takenMap}
+use Rattle.rules.specs.Sound.{settingsAllowed, inPool, taken, takenBits, takenWords, takenMap}
+use Rattle.laws.proofs.KeptSettings.{settings-kept}
 use Rattle.pool.specs.declared.Lowest.the-variants.{At, Full}
 use Rattle.pool.specs.Answer.{lowest}
 use Rattle.pool.specs.Map.{marked, mark, marks, newMarks, freeFrom, offsets, teidsFrom}
@@ -84,8 +85,7 @@ module _ (s : Settings) where
 
   -- 01's map has a bit for each offset of a pool that is allowed
   pub pool-fits : T (settingsAllowed s) → s .size ≤ 64 * mapWords
-  unfolding settingsAllowed settingsTests poolTests
-  pool-fits h = let few = leb→le (s .size) maxPool (each (poolTests (s .first) (s .size)) (each (settingsTests s) h .1 .1 .1 .1 .0) .1 .1 .0) in omega arith
+  pool-fits h = omega (arith, settings-kept s h .pool .few)
 
   pub means-marks : (ws seen ts : List ℕ) → Means (s .first) ws seen → s .size ≤ 64 * length ws → T (all (inPool s) ts) → Means (s .first) (marks ws (offsets (s .first) ts)) (ts ++ seen)
   unfolding marks offsets

@@ -7,17 +7,17 @@ use mathlib.Core.Bool.{Bool, true, false, not, _&&_, _||_}
 use mathlib.Core.Option.{Option, none, some}
 use mathlib.Core.List.{List, [], _∷_, _++_, map}
 use lib.ListN.{length}
-use lib.Dec.{T, T-not, not-T, eqb, eqb→eq, leb→le}
+use lib.Dec.{T, T-not, not-T, eqb, eqb→eq}
 use Rattle.rules.specs.Elements.{UeIp, ueChooses}
 use Rattle.octets.specs.Choice.{pick, valueOr, mapOption, isSome, consOption}
 use Rattle.octets.specs.Lists.{member, all, any, findBy, keep, collect}
-use Rattle.octets.proofs.Tests.{each, is-true, is-false, all-cons, pick-no, pick-yes, of-true}
+use Rattle.octets.proofs.Tests.{is-true, is-false, all-cons, pick-no, pick-yes, of-true}
 use Rattle.octets.proofs.Ordered.{keep-passes}
 use Rattle.octets.proofs.ListLaws.{Every, by-test, or-right, all-every, all-map, found-knows, or-by-right, or-by-left}
 use Rattle.octets.proofs.MemberLaws.{member-passes}
 use Rattle.rules.specs.Model.{Settings, Session, Sessions, teidOf, sessionHoldings, sessionTeids, heldTeids, freeCount, freeTeids, inAddressPool, sessionAddresses, heldAddresses, freeAddressCount, freeAddresses}
 use Rattle.rules.specs.Layout.{viewSettings, viewSessions}
-use Rattle.rules.specs.Sound.{poolTests, settingsTests, settingsAllowed, inPool, sessionsAllowed, sound, broken, free, countFree}
+use Rattle.rules.specs.Sound.{inPool, sessionsAllowed, sound, broken, free, countFree}
 use Rattle.rules.specs.Message.{kindOf, deletion, setDeletion}
 use Rattle.rules.specs.Reading.{readRequest}
 use Rattle.rules.specs.Request.{Request, NewPdr, NewEndpoint}
@@ -37,9 +37,11 @@ use Rattle.invariants.proofs.FreeAddresses.{address-free-there, free-address-co
 use Rattle.invariants.proofs.OneHolder.{one-teid-holder, one-address-holder}
 use Rattle.invariants.proofs.ChangedAddresses.{stayingAddresses}
 use Rattle.invariants.proofs.FreeTeids.{free-there, held-in-pool, free-count}
-use Rattle.invariants.proofs.KeptRules.{sessions-kept}
+use Rattle.laws.proofs.NeedLaws.{enough-given}
+use Rattle.laws.proofs.KeptSettings.{settings-kept}
+use Rattle.laws.proofs.KeptRules.{sessions-kept, TableKept, table-kept}
 use Rattle.invariants.proofs.ChangedHolds.{stayingHoldings}
-use Rattle.invariants.proofs.ServeLaws.{TableKept, table-kept, serve-sound}
+use Rattle.invariants.proofs.ServeLaws.{serve-sound}
 use Rattle.invariants.proofs.AcceptedCall.{choosesAddress, AcceptedCall, accepted-call, next-removed, next-deleted, next-listed, next-removed-address, next-deleted-address, next-listed-address, address-chosen}
 use Rattle.pfcp_session.specs.Calls.{countAnswer, countCall, addressCountCall, RequestCall}
 use Rattle.promises.specs.Runs.{Run, liveAfter, tableAfter, HostClaim}
@@ -143,22 +145,21 @@ as-chosen (some v) h = subst (λ (b : Bool). T (isSome (pick b (some v) none))) 
 
 -- 0 is no TEID of a pool, so no record holds it
 zero-unheld : (t : List ℕ) → TableKept t → T (not (member 0 (heldTeids (viewSessions t))))
-unfolding settingsAllowed settingsTests poolTests
 zero-unheld t k =
     let s = viewSettings t in
     let m = viewSessions t in
-    let one = leb→le 1 (s .first) (each (poolTests (s .first) (s .size)) (each (settingsTests s) (k .settings) .1 .1 .1 .1 .0) .0) in
+    let one = settings-kept s (k .settings) .pool .first in
     not-T (member 0 (heldTeids m)) (λ h. let low = pool-from s 0 (member-passes (inPool s) 0 (heldTeids m) h (held-in-pool s m (k .sessions))) in omega arith)
 
 -- no record holds what is granted
 grants-unheld : (s : Settings) (m : Sessions) (r : Request) → need r ≤ length (freeTeids s m) → T (all (λ g. not (member (grantTeid g) (heldTeids m))) (grants s m r))
-unfolding grants need grantOf
+unfolding grants grantOf
 grants-unheld s m r few =
     let unheld : ℕ → Bool = λ n. not (member n (heldTeids m)) in
     let given = grantedFrom [] (freeTeids s m) (choices r) in
     subst (λ (gs : List Grant). T (all (λ g. unheld (grantTeid g)) gs)) (sym (granted-grants (choices r) [] (freeTeids s m)))
     (subst T (sym (all-map asGrant (λ g. unheld (grantTeid g)) given))
-    (granted-all unheld (λ i n. unheld n) (λ i n h. h) (choices r) [] (freeTeids s m) [] (λ i. unfold member findBy in refl) (unfold all in tt) (free-not-held s m) few))
+    (granted-all unheld (λ i n. unheld n) (λ i n h. h) (choices r) [] (freeTeids s m) [] (λ i. unfold member findBy in refl) (unfold all in tt) (free-not-held s m) (enough-given r (length (freeTeids s m)) few)))
 
 module _ (run : Run) (who : ℕ) (msg space : List ℕ) (r : RequestCall) (a : Accepted run who msg space r) where
   -- the table at entry, and what the rules leave

@@ -27,7 +27,7 @@ use Rattle.rules.specs.Claim.{stepAllowed, lastTable}
 use Rattle.laws.proofs.TableLaws.{sound-encode, encoded-settings, sessions-back, length-encode}
 use Rattle.laws.proofs.BareLaws.{length-alike, seid-place-alike, holder-place-alike, peer-sessions-alike, peer-holdings-alike}
 use Rattle.laws.proofs.BlankLaws.{blank-alike}
-use Rattle.invariants.proofs.ServeLaws.{TableKept, table-kept}
+use Rattle.laws.proofs.KeptRules.{TableKept, table-kept}
 use Rattle.restoration.proofs.RequestSteps.{take-put}
 use Rattle.restoration.proofs.SoundSlots.{request-short}
 use Rattle.claim.proofs.Unwinding.{Pair, reply-alike, counts-alike, address-counts-alike, serve-agree}

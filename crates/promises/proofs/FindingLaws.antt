@@ -19,8 +19,7 @@ use Rattle.rules.specs.Stages.{hasKey}
 use Rattle.rules.specs.Restoring.{sessionAt}
 use Rattle.rules.specs.Finding.{Finding, findingOf, placeFrom, sessionPlace, isHolder, holderPlace, findIn, countSessions, findSession, findHolder, countPeer}
 use Rattle.laws.proofs.PeerLaws.{key-peer}
-use Rattle.invariants.proofs.KeptRules.{SessionsKept, sessions-kept}
-use Rattle.invariants.proofs.ServeLaws.{table-kept}
+use Rattle.laws.proofs.KeptRules.{SessionsKept, sessions-kept, table-kept}
 use Rattle.invariants.proofs.Beside.{apart-teids}
 use Rattle.finding.proofs.PlaceLaws.{place-says, none-says, place-only}
 use Rattle.pfcp_session.specs.Calls.{sessionCountCall, findSessionCall, findTeidCall, peerCountCall}

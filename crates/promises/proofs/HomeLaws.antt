@@ -4,7 +4,7 @@ use mathlib.Core.Path.{_≡_, refl, sym, ap, _∙_, subst}
 use Prim.Native.Nat.{ℕ, _+_, _^_, _≤_, _<_}
 use native.Mathlib.Nat.{le-trans}
 use native.Mathlib.Omega.{arith}
-use mathlib.Core.Bool.{Bool, true, false, _||_}
+use mathlib.Core.Bool.{Bool, false, _||_}
 use mathlib.Core.Option.{Option, none, some}
 use mathlib.Core.List.{List, [], _∷_, _++_}
 use borrow.Author.Tests.{eq-eqb}
@@ -12,14 +12,14 @@ use lib.ListN.{length}
 use lib.Dec.{T, eqb, eqb→eq, lit<, lit≤}
 use mir.Facts.{yes-eqb}
 use Rattle.octets.specs.Choice.{pick, mapOption}
-use Rattle.octets.specs.Octets.{be, put, octets}
+use Rattle.octets.specs.Octets.{be, put}
 use Rattle.octets.specs.Lists.{findBy}
 use Rattle.octets.proofs.Tests.{is-true}
 use Rattle.octets.proofs.Numbers.{length-be}
 use Rattle.rules.specs.Model.{Settings, Sessions, peerOf}
 use Rattle.rules.specs.Elements.{fseidOctets}
 use Rattle.rules.specs.Layout.{viewSettings, viewSessions}
-use Rattle.rules.specs.Message.{Element, elements, kindOf, hasType, contentIn, contentOf, sequenceOf, establishment, setDeletion}
+use Rattle.rules.specs.Message.{elements, kindOf, hasType, contentIn, contentOf, sequenceOf, establishment, setDeletion}
 use Rattle.rules.specs.Reading.{readRequest}
 use Rattle.rules.specs.Grants.{granted}
 use Rattle.rules.specs.Stages.{Verdict, verdict}
@@ -33,7 +33,8 @@ use Rattle.laws.proofs.HeaderLaws.{header-long}
 use Rattle.laws.proofs.MessageLaws.{Fits, el, after, elements-cons}
 use Rattle.laws.proofs.ReplyLaws.{reply-elements, reply-cause, sequence-three}
 use Rattle.invariants.proofs.ReplyLength.{reply-body-short}
-use Rattle.invariants.proofs.ServeLaws.{table-kept, answers, answered-zero}
+use Rattle.laws.proofs.KeptRules.{table-kept}
+use Rattle.invariants.proofs.ServeLaws.{answers, answered-zero}
 use Rattle.pfcp_session.specs.Calls.{RequestCall, requestCall}
 use Rattle.promises.specs.Runs.{Run, tableAfter}
 use Rattle.promises.specs.Due.{NamedFor, RepliesNamed}

@@ -23,10 +23,10 @@ use Rattle.rules.specs.Apply.{apply, otherSession, removeSession, putSession, g
 use Rattle.rules.specs.Serve.{Served, sessionsAfter, serve}
 use Rattle.rules.specs.Live.{replied, acceptedEvent}
 use Rattle.laws.proofs.PeerLaws.{key-peer, header-seid-fits}
-use Rattle.invariants.proofs.KeptRules.{session-kept, sessions-kept}
+use Rattle.laws.proofs.KeptRules.{session-kept, sessions-kept, table-kept}
 use Rattle.invariants.proofs.Changed.{entry-sound}
 use Rattle.invariants.proofs.VerdictLaws.{Passed}
-use Rattle.invariants.proofs.ServeLaws.{table-kept, refused-same}
+use Rattle.invariants.proofs.ServeLaws.{refused-same}
 use Rattle.invariants.proofs.AcceptedCall.{accepted-call}
 use Rattle.pfcp_session.specs.Calls.{RequestCall, requestCall}
 use Rattle.promises.specs.Runs.{Run, liveAfter, tableAfter}
@@ -73,7 +73,7 @@ module _ (s : Settings) (who other : ℕ) (m : Sessions) (differ : T (not (eqb w
   unfolding ofPeer removeSession otherSession hasKey
   stays-removed n fits =
       keep-through (sessionAllowed s) (hasPeer other) (λ z. not (eqb (sessionKey z) (keyFor who n)))
-      (λ z h g. not-T (eqb (sessionKey z) (keyFor who n)) (λ k. not-both z g (key-peer (z .peer) (z .seid) who n (ltb→lt (z .seid) (2 ^ 64) (session-kept s z h .seidFits)) fits (eqb→eq (sessionKey z) (keyFor who n) k))))
+      (λ z h g. not-T (eqb (sessionKey z) (keyFor who n)) (λ k. not-both z g (key-peer (z .peer) (z .seid) who n (ltb→lt (z .seid) (2 ^ 64) (session-kept s z h .records .seidFits)) fits (eqb→eq (sessionKey z) (keyFor who n) k))))
       m fine
 
   stays-insert : (x : Session) → eqb (x .peer) other ≡ false → (l : Sessions) → ofPeer other (insertBy sessionKey x l) ≡ ofPeer other l
@@ -112,7 +112,7 @@ module _ (s : Settings) (who other : ℕ) (m : Sessions) (differ : T (not (eqb w
       changed ns =
           let e = entry-sound s who m msg hw hm ho ns p in
           stays-put (apply (granted s m (readRequest msg)) (readRequest msg) (entrySession who m msg)) (unfold apply in (e .peer))
-          (unfold apply in (ltb→lt (entrySession who m msg .seid) (2 ^ 64) (e .kept .seidFits)))
+          (unfold apply in (ltb→lt (entrySession who m msg .seid) (2 ^ 64) (e .kept .records .seidFits)))
 
 -- ---- of the calls
 

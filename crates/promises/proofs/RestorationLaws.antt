@@ -23,7 +23,7 @@ use Rattle.rules.specs.Stages.{newSession, sessionOf, isLive, plain}
 use Rattle.rules.specs.Apply.{putSession}
 use Rattle.rules.specs.Serve.{Served, replyTo, serve}
 use Rattle.rules.specs.Live.{acceptedEvent, replyCause}
-use Rattle.rules.specs.Calls.{Call, request, tableAfterAll}
+use Rattle.rules.specs.Calls.{request, tableAfterAll}
 use Rattle.rules.specs.Restoration.{senderAllowed, restoration}
 use Rattle.rules.specs.Restoring.{sessionAt, senderAddressed, senderAt, restorationAt, Writing, unwritten, writeInto, writeRestoration}
 use Rattle.rules.specs.Claim.{Step, Ran, Restore, restored, restoreAllowed, restoreCall, restoreCalls, callIn, Restores}
@@ -35,13 +35,13 @@ use Rattle.claim.proofs.RestoreAll.{restored-cause, restored-table}
 use Rattle.laws.proofs.PeerLaws.{known-peer, PeersKept, peers-kept}
 use Rattle.invariants.proofs.Totals.{total, peerSessions, peerTeids, count-total, holdings-total}
 use Rattle.invariants.proofs.PeersAfter.{due-less}
-use Rattle.invariants.proofs.KeptRules.{sessions-kept}
+use Rattle.laws.proofs.KeptRules.{sessions-kept}
 use Rattle.invariants.proofs.Beside.{separate-all, separate-addresses, empty-allowed}
 use Rattle.claim.proofs.Sequence.{made-empty}
 use Rattle.claim.proofs.Runs.{restores-table}
 use Rattle.table.proofs.Encoded.{Encoded, sound-encoded}
 use Rattle.restoration.proofs.RequestSteps.{take-put}
-use Rattle.table.proofs.SoundSlots.{session-kept}
+use Rattle.table.proofs.SoundSlots.{place-allowed}
 use Rattle.restoration.proofs.SoundSlots.{sender-kept, request-short}
 use Rattle.pfcp_session.specs.Calls.{MakeCall, makeCall, restorationCall}
 use Rattle.promises.specs.Runs.{stepsOf}
@@ -120,7 +120,7 @@ at-total w (x ∷ m) (suc n) h = let a = at-total w m n (omega arith) in omega a
 
 -- so there is room for a table's session in an empty one
 room-alone : (t : List ℕ) → T (sound t) → (place : ℕ) → place < length (viewSessions t) → RoomFor (viewSettings t) (sessionAt (viewSessions t) place) []
-room-alone t h place live = room-next s x [] [] (known-peer s x (session-kept t h place live)) (unfold allPairs in tt) weighs
+room-alone t h place live = room-next s x [] [] (known-peer s x (place-allowed t h place live)) (unfold allPairs in tt) weighs
   where
     s : Settings
     s = viewSettings t
@@ -159,7 +159,7 @@ restoration-accepted t place r made space answer w e long call =
     let s = viewSettings t in
     let hs = sound-encoded t (k .sound) .settings in
     let x = sessionAt (viewSessions t) place in
-    let hx = session-kept t (k .sound) place (k .live) in
+    let hx = place-allowed t (k .sound) place (k .live) in
     let p = senderAt place (w .ipv4) (w .ipv6) in
     let hp = sender-kept t (k .sound) place (k .live) (w .ipv4) (w .ipv6) (k .address) in
     let m = emptied t made e in

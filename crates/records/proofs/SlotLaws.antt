@@ -5,13 +5,12 @@ use mathlib.Core.Path.{_≡_, refl, sym, ap, subst, _∙_}
 use Prim.Native.Nat.{ℕ, _+_, _*_, _^_, _≤_, _<_, suc}
 use native.Mathlib.Nat.{le-trans, le-of-eq}
 use native.Mathlib.Omega.{arith}
-use mathlib.Core.Bool.{Bool, true, false, _&&_}
+use mathlib.Core.Bool.{Bool, _&&_}
 use mathlib.Core.List.{List, [], _∷_, _++_, map, append-assoc}
 use lib.ListN.{length, take, drop, getD, length-map, length-drop, length-append, take-append-drop}
 use lib.Seq.{take-at, drop-at, drop-drop, drop-cons, take-all}
 use lib.Dec.{T, leb, leb→le, lt→ltb}
 use mir.Facts.{yes-leb}
-use Rattle.octets.specs.Choice.{allOf}
 use Rattle.octets.specs.Octets.{part, be, number, numberAt, octetAt, slices, sameOctets, octets}
 use Rattle.octets.specs.Fields.{fieldsAt}
 use Rattle.octets.specs.Lists.{all, ascending, allPairs}
@@ -19,29 +18,25 @@ use Rattle.octets.proofs.Tests.{each, all-of-each, both, and-left, and-right, o
 use Rattle.octets.proofs.Numbers.{same-refl, same-eq, length-slices}
 use Rattle.octets.proofs.Digits.{be-back, number-below, part-octets}
 use Rattle.octets.proofs.Put.{length-part, part-of}
-use Rattle.octets.proofs.Bools.{both-ways, and-assoc}
+use Rattle.octets.proofs.Bools.{both-ways}
 use Rattle.rules.specs.Limits.{maxPdrs, maxEndpoints, nodeTypes}
 use Rattle.rules.specs.Model.{Settings, Session, pdrId, endpointId, nodeTypeOf, keyFor, sessionKey, isPeer, sessionHoldings}
 use Rattle.rules.specs.Layout.{area, pdrFrom, endpointFrom, csidFrom, pdrWidth, endpointWidth, csidWidth, pdrOctets, endpointOctets, csidOctets, sessionOctets, viewArea, viewPdr, viewEndpoint, viewCsid, viewSession, pdrCountAt, endpointCountAt, csidCountAt, pdrsAt, endpointsAt, csidsAt, sessionWidth, seidAt, keyWidth}
-use Rattle.rules.specs.Sound.{pdrAllowed, endpointAllowed, csidAllowed, agree, sessionTests, sessionAllowed}
+use Rattle.rules.specs.Sound.{pdrAllowed, endpointAllowed, csidAllowed, agree, sessionAllowed, recordsAllowed}
+use Rattle.laws.proofs.KeptRules.{records-kept, records-allowed}
 use Rattle.laws.proofs.LayoutLaws.{length-area, length-pdr, length-endpoint, length-csid}
 use Rattle.areas.specs.Records.{keyOf}
 use Rattle.records.specs.Kept.{kept, pdrSound, endpointSound, csidSound, endpointIds}
-use Rattle.records.specs.Slot.{pdrArea, endpointArea, csidArea, headSound, slotTests, slotSound, recordsAllowed}
+use Rattle.records.specs.Slot.{pdrArea, endpointArea, csidArea, headSound, slotTests, slotSound, areaSound}
 use Rattle.records.proofs.Areas.{slices-take, area-from, area-to}
 use Rattle.areas.proofs.PairLaws.{number-pair}
 use Rattle.octets.proofs.FieldLaws.{octet-read}
 
--- ---- all tests but the last
-
-all-last : (bs : List Bool) (b : Bool) → allOf (bs ++ (b ∷ [])) ≡ (allOf bs && b)
-all-last [] true = refl
-all-last [] false = refl
-all-last (c ∷ bs) b = ap (λ (t : Bool). c && t) (all-last bs b) ∙ sym (and-assoc c (allOf bs) b)
+-- ---- the records, and what they hold
 
 pub allowed-split : (s : Settings) (x : Session) → sessionAllowed s x ≡ (recordsAllowed s x && allPairs agree (sessionHoldings x))
-unfolding sessionAllowed recordsAllowed sessionTests
-allowed-split s x = all-last (take 12 (sessionTests s x)) (allPairs agree (sessionHoldings x))
+unfolding sessionAllowed
+allowed-split s x = refl
 
 -- ---- keys are the first octets
 
@@ -94,14 +89,50 @@ view-slot xs c =
 cut : (at n : ℕ) (xs : List ℕ) → drop at xs ≡ part at n xs ++ drop (at + n) xs
 cut at n xs = sym (take-append-drop n (drop at xs)) ∙ rw (drop-drop n at xs)
 
+-- Slot.headSound by name
+record HeadKept (xs : List ℕ) : Type 0 where
+  peer : T (isPeer (getD xs 0 0))
+  seid : 1 ≤ number (part seidAt 8 xs)
+  counts : Counts xs
+
 abbrev headTests : List ℕ → List Bool
 headTests xs = isPeer (getD xs 0 0) ∷ leb 1 (number (part seidAt 8 xs)) ∷ leb (getD xs pdrCountAt 0) maxPdrs ∷ leb (getD xs endpointCountAt 0) maxEndpoints ∷ leb (getD xs csidCountAt 0) nodeTypes ∷ []
 
-pub counts-headed : (xs : List ℕ) → T (headSound xs) → Counts xs
+-- from the tests to the names
+head-kept : (xs : List ℕ) → T (headSound xs) → HeadKept xs
 unfolding headSound octetAt numberAt
-counts-headed xs h =
+head-kept xs h =
     let t = each (headTests xs) h in
-    record { pdrs = leb→le (getD xs pdrCountAt 0) maxPdrs (t .1 .1 .0); endpoints = leb→le (getD xs endpointCountAt 0) maxEndpoints (t .1 .1 .1 .0); csids = leb→le (getD xs csidCountAt 0) nodeTypes (t .1 .1 .1 .1 .0) }
+    record {
+      peer = t .0;
+      seid = leb→le 1 (number (part seidAt 8 xs)) (t .1 .0);
+      counts = record { pdrs = leb→le (getD xs pdrCountAt 0) maxPdrs (t .1 .1 .0); endpoints = leb→le (getD xs endpointCountAt 0) maxEndpoints (t .1 .1 .1 .0); csids = leb→le (getD xs csidCountAt 0) nodeTypes (t .1 .1 .1 .1 .0) };
+    }
+
+-- and back
+head-sound : {xs : List ℕ} → HeadKept xs → T (headSound xs)
+unfolding headSound octetAt numberAt
+head-sound {xs} k = let c = k .counts in all-of-each (headTests xs) (k .peer, (yes-leb (k .seid), (yes-leb (c .pdrs), (yes-leb (c .endpoints), (yes-leb (c .csids), tt)))))
+
+pub counts-headed : (xs : List ℕ) → T (headSound xs) → Counts xs
+counts-headed xs h = head-kept xs h .counts
+
+-- Slot.slotTests by name
+pub record SlotKept (s : Settings) (xs : List ℕ) : Type 0 where
+  pub head : T (headSound xs)
+  pub pdrs : T (areaSound (pdrSound s (endpointIds (getD xs endpointCountAt 0) (endpointArea xs))) pdrWidth 2 (getD xs pdrCountAt 0) (pdrArea xs))
+  pub endpoints : T (areaSound (endpointSound s) endpointWidth 1 (getD xs endpointCountAt 0) (endpointArea xs))
+  pub csids : T (areaSound csidSound csidWidth 1 (getD xs csidCountAt 0) (csidArea xs))
+
+-- from the tests to the names
+pub slot-kept : (s : Settings) (xs : List ℕ) → T (slotSound s xs) → SlotKept s xs
+unfolding slotSound slotTests octetAt
+slot-kept s xs h = let t = each (slotTests s xs) h in record { head = t .0; pdrs = t .1 .0; endpoints = t .1 .1 .0; csids = t .1 .1 .1 .0 }
+
+-- and back
+slot-sound : {s : Settings} {xs : List ℕ} → SlotKept s xs → T (slotSound s xs)
+unfolding slotSound slotTests octetAt
+slot-sound {s} {xs} k = all-of-each (slotTests s xs) (k .head, (k .pdrs, (k .endpoints, (k .csids, tt))))
 
 module _ (xs : List ℕ) (long : length xs ≡ sessionWidth) where
   slot-parts : getD xs 0 0 ∷ part seidAt 8 xs ++ (getD xs pdrCountAt 0 ∷ getD xs endpointCountAt 0 ∷ getD xs csidCountAt 0 ∷ pdrArea xs ++ (endpointArea xs ++ csidArea xs)) ≡ xs
@@ -134,12 +165,12 @@ module _ (xs : List ℕ) (long : length xs ≡ sessionWidth) where
   long-csids = length-part csidsAt (nodeTypes * csidWidth) xs (omega arith)
 
   counts-viewed : (s : Settings) → T (recordsAllowed s (viewSession xs)) → Counts xs
-  unfolding recordsAllowed sessionTests viewSession viewArea octetAt
+  unfolding viewSession viewArea octetAt
   counts-viewed s h =
-      let t = each (take 12 (sessionTests s (viewSession xs))) h in
-      let lp = leb→le (length (viewSession xs .pdrs)) 16 (t .1 .1 .0) in
-      let le′ = leb→le (length (viewSession xs .endpoints)) 8 (t .1 .1 .1 .1 .1 .0) in
-      let lc = leb→le (length (viewSession xs .csids)) 6 (t .1 .1 .1 .1 .1 .1 .1 .1 .0) in
+      let t = records-kept s (viewSession xs) h in
+      let lp = leb→le (length (viewSession xs .pdrs)) maxPdrs (t .fewPdrs) in
+      let le′ = leb→le (length (viewSession xs .endpoints)) maxEndpoints (t .fewEndpoints) in
+      let lc = leb→le (length (viewSession xs .csids)) nodeTypes (t .fewCsids) in
       record {
         pdrs = le-trans (le-of-eq (sym (length-map (slices pdrWidth (getD xs pdrCountAt 0) (drop pdrsAt xs)) viewPdr ∙ length-slices pdrWidth (getD xs pdrCountAt 0) (drop pdrsAt xs)))) lp;
         endpoints = le-trans (le-of-eq (sym (length-map (slices endpointWidth (getD xs endpointCountAt 0) (drop endpointsAt xs)) viewEndpoint ∙ length-slices endpointWidth (getD xs endpointCountAt 0) (drop endpointsAt xs)))) le′;
@@ -147,8 +178,7 @@ module _ (xs : List ℕ) (long : length xs ≡ sessionWidth) where
       }
 
   counts-tested : (s : Settings) → T (slotSound s xs) → Counts xs
-  unfolding slotSound slotTests
-  counts-tested s h = counts-headed xs (each (slotTests s xs) h .0)
+  counts-tested s h = counts-headed xs (slot-kept s xs h .head)
 
   module _ (s : Settings) (o : T (octets xs)) (c : Counts xs) where
     live : List ℕ
@@ -183,67 +213,51 @@ module _ (xs : List ℕ) (long : length xs ≡ sessionWidth) where
       csids-up : T (ascending (map nodeTypeOf (map viewCsid (slices csidWidth (getD xs csidCountAt 0) (csidArea xs)))))
 
     facts-from : T (recordsAllowed s (slotOf xs)) → Facts
-    unfolding recordsAllowed sessionTests slotOf live endpointIds
+    unfolding slotOf live endpointIds
     facts-from h =
-        let t = each (take 12 (sessionTests s (slotOf xs))) h in
+        let t = records-kept s (slotOf xs) h in
         record {
-          peer = t .1 .1 .1 .1 .1 .1 .1 .1 .1 .1 .1 .0;
-          seid = leb→le 1 (number (part seidAt 8 xs)) (t .0);
-          pdrs = t .1 .1 .1 .1 .0;
-          pdrs-up = t .1 .1 .1 .0;
-          endpoints = t .1 .1 .1 .1 .1 .1 .1 .0;
-          endpoints-up = t .1 .1 .1 .1 .1 .1 .0;
-          csids = t .1 .1 .1 .1 .1 .1 .1 .1 .1 .1 .0;
-          csids-up = t .1 .1 .1 .1 .1 .1 .1 .1 .1 .0;
+          peer = t .peer;
+          seid = leb→le 1 (number (part seidAt 8 xs)) (t .seid);
+          pdrs = t .pdrs;
+          pdrs-up = t .pdrOrder;
+          endpoints = t .endpoints;
+          endpoints-up = t .endpointOrder;
+          csids = t .csids;
+          csids-up = t .csidOrder;
         }
 
     facts-to : Facts → T (recordsAllowed s (slotOf xs))
-    unfolding recordsAllowed sessionTests slotOf live endpointIds
+    unfolding slotOf live endpointIds
     facts-to f =
         let below : number (part seidAt 8 xs) < 256 ^ 8 = rw (length-part seidAt 8 xs (omega arith)) at (number-below (part seidAt 8 xs) (part-octets seidAt 8 xs o)) in
-        all-of-each (take 12 (sessionTests s (slotOf xs))) (
-          yes-leb (f .seid),
-          (
-            lt→ltb (number (part seidAt 8 xs)) (2 ^ 64) below,
-            (
-              yes-leb (le-trans (le-of-eq count-pdrs) (c .pdrs)),
-              (
-                f .pdrs-up,
-                (
-                  f .pdrs,
-                  (
-                    yes-leb (le-trans (le-of-eq count-endpoints) (c .endpoints)),
-                    (
-                      f .endpoints-up,
-                      (
-                        f .endpoints,
-                        (
-                          yes-leb (le-trans (le-of-eq count-csids) (c .csids)),
-                          (
-                            f .csids-up,
-                            (f .csids, (f .peer, tt)),
-                          ),
-                        ),
-                      ),
-                    ),
-                  ),
-                ),
-              ),
-            ),
-          ),
-        )
+        records-allowed (record {
+          seid = yes-leb (f .seid);
+          seidFits = lt→ltb (number (part seidAt 8 xs)) (2 ^ 64) below;
+          fewPdrs = yes-leb (le-trans (le-of-eq count-pdrs) (c .pdrs));
+          pdrOrder = f .pdrs-up;
+          pdrs = f .pdrs;
+          fewEndpoints = yes-leb (le-trans (le-of-eq count-endpoints) (c .endpoints));
+          endpointOrder = f .endpoints-up;
+          endpoints = f .endpoints;
+          fewCsids = yes-leb (le-trans (le-of-eq count-csids) (c .csids));
+          csidOrder = f .csids-up;
+          csids = f .csids;
+          peer = f .peer;
+        })
 
     -- from the slot's tests
     slot-from : T (slotSound s xs) → T (recordsAllowed s (slotOf xs)) × (sessionOctets (slotOf xs) ≡ xs)
-    unfolding slotSound slotTests headSound octetAt numberAt pdrSound endpointSound csidSound live pdrsWritten endpointsWritten csidsWritten
+    unfolding pdrSound endpointSound csidSound live pdrsWritten endpointsWritten csidsWritten
     slot-from h =
-        let t = each (slotTests s xs) h in
-        let ps = area-from (pdrAllowed s live) pdrOctets viewPdr pdrId pdrWidth 2 (λ p q. length-pdr p) key-pdr maxPdrs (getD xs pdrCountAt 0) (pdrArea xs) long-pdrs (c .pdrs) (t .1 .0) in
-        let es = area-from (endpointAllowed s) endpointOctets viewEndpoint endpointId endpointWidth 1 (λ e q. length-endpoint e) key-endpoint maxEndpoints (getD xs endpointCountAt 0) (endpointArea xs) long-endpoints (c .endpoints) (t .1 .1 .0) in
-        let cs = area-from csidAllowed csidOctets viewCsid nodeTypeOf csidWidth 1 (λ r q. length-csid r) key-csid nodeTypes (getD xs csidCountAt 0) (csidArea xs) long-csids (c .csids) (t .1 .1 .1 .0) in (
+        let t = slot-kept s xs h in
+        let head = head-kept xs (t .head) in
+        let ps = area-from (pdrAllowed s live) pdrOctets viewPdr pdrId pdrWidth 2 (λ p q. length-pdr p) key-pdr maxPdrs (getD xs pdrCountAt 0) (pdrArea xs) long-pdrs (c .pdrs) (t .pdrs) in
+        let es = area-from (endpointAllowed s) endpointOctets viewEndpoint endpointId endpointWidth 1 (λ e q. length-endpoint e) key-endpoint maxEndpoints (getD xs endpointCountAt 0) (endpointArea xs) long-endpoints (c .endpoints) (t .endpoints) in
+        let cs = area-from csidAllowed csidOctets viewCsid nodeTypeOf csidWidth 1 (λ r q. length-csid r) key-csid nodeTypes (getD xs csidCountAt 0) (csidArea xs) long-csids (c .csids) (t .csids) in (
           facts-to (record {
-            peer = each (headTests xs) (t .0) .0;
-            seid = leb→le 1 (number (part seidAt 8 xs)) (each (headTests xs) (t .0) .1 .0);
+            peer = head .peer;
+            seid = head .seid;
             pdrs = ps .0;
             pdrs-up = ps .1;
             endpoints = es .0;
@@ -256,7 +270,7 @@ module _ (xs : List ℕ) (long : length xs ≡ sessionWidth) where
 
     -- to the slot's tests
     slot-to : T (recordsAllowed s (slotOf xs)) → sessionOctets (slotOf xs) ≡ xs → T (slotSound s xs)
-    unfolding slotSound slotTests headSound octetAt numberAt pdrSound endpointSound csidSound live pdrsWritten endpointsWritten csidsWritten
+    unfolding pdrSound endpointSound csidSound live pdrsWritten endpointsWritten csidsWritten
     slot-to h e =
         let f = facts-from h in
         let lp : length pdrsWritten ≡ maxPdrs * pdrWidth = length-area pdrOctets pdrWidth (pdrAllowed s live) (λ p q. length-pdr p) maxPdrs _ (f .pdrs) (le-trans (le-of-eq count-pdrs) (c .pdrs)) in
@@ -270,16 +284,12 @@ module _ (xs : List ℕ) (long : length xs ≡ sessionWidth) where
         let ee : endpointsWritten ≡ endpointArea xs = sym (take-at endpointsWritten csidsWritten (maxEndpoints * endpointWidth) le′) ∙ ap (take (maxEndpoints * endpointWidth)) behind in
         let ce : csidsWritten ≡ csidArea xs =
         sym (take-all (nodeTypes * csidWidth) csidsWritten (le-of-eq lc)) ∙ ap (take (nodeTypes * csidWidth)) (sym (drop-at endpointsWritten csidsWritten (maxEndpoints * endpointWidth) le′) ∙ ap (drop (maxEndpoints * endpointWidth)) behind ∙ drop-drop (maxEndpoints * endpointWidth) endpointsAt xs) in
-        all-of-each (slotTests s xs) (
-          all-of-each (headTests xs) (f .peer, (yes-leb (f .seid), (yes-leb (c .pdrs), (yes-leb (c .endpoints), (yes-leb (c .csids), tt))))),
-          (
-            area-to (pdrAllowed s live) pdrOctets viewPdr pdrId pdrWidth 2 (λ p q. length-pdr p) key-pdr maxPdrs (getD xs pdrCountAt 0) (pdrArea xs) long-pdrs (c .pdrs) (f .pdrs) (f .pdrs-up) pe,
-            (
-              area-to (endpointAllowed s) endpointOctets viewEndpoint endpointId endpointWidth 1 (λ e q. length-endpoint e) key-endpoint maxEndpoints (getD xs endpointCountAt 0) (endpointArea xs) long-endpoints (c .endpoints) (f .endpoints) (f .endpoints-up) ee,
-              (area-to csidAllowed csidOctets viewCsid nodeTypeOf csidWidth 1 (λ r q. length-csid r) key-csid nodeTypes (getD xs csidCountAt 0) (csidArea xs) long-csids (c .csids) (f .csids) (f .csids-up) ce, tt),
-            ),
-          ),
-        )
+        slot-sound (record {
+          head = head-sound (record { peer = f .peer; seid = f .seid; counts = c });
+          pdrs = area-to (pdrAllowed s live) pdrOctets viewPdr pdrId pdrWidth 2 (λ p q. length-pdr p) key-pdr maxPdrs (getD xs pdrCountAt 0) (pdrArea xs) long-pdrs (c .pdrs) (f .pdrs) (f .pdrs-up) pe;
+          endpoints = area-to (endpointAllowed s) endpointOctets viewEndpoint endpointId endpointWidth 1 (λ e q. length-endpoint e) key-endpoint maxEndpoints (getD xs endpointCountAt 0) (endpointArea xs) long-endpoints (c .endpoints) (f .endpoints) (f .endpoints-up) ee;
+          csids = area-to csidAllowed csidOctets viewCsid nodeTypeOf csidWidth 1 (λ r q. length-csid r) key-csid nodeTypes (getD xs csidCountAt 0) (csidArea xs) long-csids (c .csids) (f .csids) (f .csids-up) ce;
+        })
 
   -- a slot's tests say just that it is the slot of a session that keeps the rules but for the last one
   pub slot-law : (s : Settings) → T (octets xs) → slotSound s xs ≡ kept (recordsAllowed s) sessionOctets viewSession xs

@@ -4,14 +4,13 @@ use Prim.Native.Nat.{ℕ, _*_}
 use mathlib.Core.Bool.{Bool, _&&_}
 use mathlib.Core.List.{List, [], _∷_, map}
 use lib.Dec.{leb}
-use lib.ListN.{take, drop}
+use lib.ListN.{drop}
 use Rattle.octets.specs.Choice.{allOf}
 use Rattle.octets.specs.Octets.{part, numberAt, octetAt, allZero, slices}
 use Rattle.octets.specs.Lists.{all, ascending}
 use Rattle.rules.specs.Limits.{maxPdrs, maxEndpoints, nodeTypes}
-use Rattle.rules.specs.Model.{Settings, Session, isPeer}
+use Rattle.rules.specs.Model.{Settings, isPeer}
 use Rattle.rules.specs.Layout.{pdrWidth, endpointWidth, csidWidth, seidAt, pdrCountAt, endpointCountAt, csidCountAt, pdrsAt, endpointsAt, csidsAt}
-use Rattle.rules.specs.Sound.{sessionTests}
 use Rattle.areas.specs.Records.{keyOf}
 use Rattle.records.specs.Kept.{pdrSound, endpointSound, csidSound, endpointIds}
 
@@ -48,7 +47,3 @@ slotTests s xs =
 
 unfoldable pub slotSound : Settings → List ℕ → Bool
 slotSound s xs = allOf (slotTests s xs)
-
--- a session's rules but for the last one, on shared TEIDs
-unfoldable pub recordsAllowed : Settings → Session → Bool
-recordsAllowed s x = allOf (take 12 (sessionTests s x))

@@ -26,9 +26,6 @@ abbrev pub usedOf : List ℕ → ℕ → List ℕ → ℕ → ℕ
 usedOf t who msg o = pick (eqb o 0) (length (engineReply t who msg)) 0
 
 module _ (t : List ℕ) (who : ℕ) (store msg space : List ℕ) where
-  stored-or : Bool
-  stored-or = isSome (storedReply msg (storeEntries store))
-
   sound-there : T (reaches store msg) → T (storeSound store)
   unfolding reaches
   sound-there h = and-left (storeSound store) (not (isSome (storedReply msg (storeEntries store)))) (and-left (storeSound store && not (isSome (storedReply msg (storeEntries store)))) (takes (storeEntries store) msg) h)

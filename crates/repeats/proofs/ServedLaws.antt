@@ -21,7 +21,8 @@ use Rattle.rules.specs.Reply.{message, listMessage, reply}
 use Rattle.rules.specs.Serve.{Served, unserved, answered, answer, serveSound, serveOf, serve, replyTo}
 use Rattle.laws.proofs.HeaderLaws.{header-long}
 use Rattle.invariants.proofs.ReplyLength.{reply-short}
-use Rattle.invariants.proofs.ServeLaws.{Answers, answers, answered-zero, unserved-nothing, table-kept}
+use Rattle.laws.proofs.KeptRules.{table-kept}
+use Rattle.invariants.proofs.ServeLaws.{Answers, answers, answered-zero, unserved-nothing}
 use Rattle.engine.specs.Steps.{Serves}
 use Rattle.rules.specs.Store.{requestAllowed, maxReply}
 use Rattle.rules.specs.Repeats.{engineReply}

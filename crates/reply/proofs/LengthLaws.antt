@@ -2,12 +2,11 @@
 use mathlib.Core.Option.{Option, none, some}
 use mathlib.Core.List.{List, [], _∷_, _++_}
 use Prim.Native.Nat.{ℕ, _+_, _*_, _≤_}
-use native.Mathlib.Nat.{le-trans, le-of-eq, min-le-left}
 use native.Mathlib.Omega.{arith}
 use lib.Dec.{eqb}
-use lib.ListN.{length, drop, length-append, length-take}
+use lib.ListN.{length, length-append}
 use Rattle.octets.specs.Choice.{pick}
-use Rattle.octets.specs.Octets.{be, part, concatMap}
+use Rattle.octets.specs.Octets.{be, concatMap}
 use Rattle.octets.specs.Lists.{keep}
 use Rattle.octets.proofs.Numbers.{length-be}
 use Rattle.octets.proofs.Tests.{pick-either}
@@ -33,10 +32,6 @@ atMost n xs = length xs ≤ n
 
 abbrev told : Kind → Report → Told
 told k g = record { kind = k; report = g }
-
--- a part is no longer than was asked for
-length-part-most : (at n : ℕ) (xs : List ℕ) → length (part at n xs) ≤ n
-length-part-most at n xs = le-trans (le-of-eq (length-take n (drop at xs))) (min-le-left n (length (drop at xs)))
 
 pub unit-ipv4 : (u : Unit) → length (settingsOf u .ipv4) ≤ 4
 unfolding settingsOf

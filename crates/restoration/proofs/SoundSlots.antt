@@ -5,30 +5,30 @@ use native.Mathlib.Nat.{suc-mul}
 use native.Mathlib.Omega.{arith}
 use mathlib.Core.Bool.{Bool, true}
 use mathlib.Core.List.{List}
-use lib.Dec.{T, ltb, eqb, leb→le, lt→ltb}
+use lib.Dec.{T, ltb, eqb, lt→ltb}
 use lib.ListN.{length, getD, take, drop, length-drop}
 use lib.Seq.{length-take-le}
 use mir.Facts.{yes-eqb}
-use Rattle.octets.specs.Octets.{octets, be, part, number, octetAt, slices}
+use Rattle.octets.specs.Octets.{be, octetAt, slices}
 use Rattle.octets.specs.Lists.{all}
-use Rattle.octets.specs.Fields.{widthOf, fieldsAt}
-use Rattle.octets.proofs.Tests.{each, all-of-each, both, all-head, all-tail, all-cons}
+use Rattle.octets.specs.Fields.{fieldsAt}
+use Rattle.octets.proofs.Tests.{each, both, all-head, all-tail, all-cons}
 use Rattle.octets.proofs.ListLaws.{all-always}
 use Rattle.octets.proofs.Put.{getD-part}
 use Rattle.octets.proofs.FieldLaws.{octet-field}
 use Rattle.rules.specs.Limits.{maxRestoration}
 use Rattle.rules.specs.Model.{Settings, Session}
-use Rattle.rules.specs.Elements.{nodeAddressTests, nodeAddressAllowed}
 use Rattle.rules.specs.Layout.{headWidth, pdrWidth, endpointWidth, csidWidth, sessionWidth, csidFrom, viewCsid, viewSession, viewSettings, viewSessions, pdrCountAt, endpointCountAt, csidCountAt, pdrsAt, endpointsAt, csidsAt, csidIdTypeAt}
-use Rattle.rules.specs.Sound.{csidTests, csidAllowed, sessionAllowed, sound}
+use Rattle.rules.specs.Sound.{csidAllowed, sessionAllowed, sound}
 use Rattle.rules.specs.Reply.{message}
-use Rattle.rules.specs.Restoration.{senderTests, senderAllowed, restoration}
+use Rattle.rules.specs.Restoration.{senderAllowed, restoration}
 use Rattle.rules.specs.Restoring.{sessionAt, addressTests, senderAddressed, senderAt, restorationAt}
 use Rattle.rules.specs.Types as ie
 use Rattle.rules.specs.Message.{establishment}
+use Rattle.laws.proofs.KeptRules.{node-address-kept, csid-kept, sender-allowed}
 use Rattle.laws.proofs.MessageHeader.{message-length}
 use Rattle.laws.proofs.RestorationRead.{msg-short}
-use Rattle.table.proofs.SoundSlots.{few-pdrs, few-endpoints, few-csids, csids-kept, slotAt, table-long, settings-kept, within-limit, few-sessions, slot-long, slot-session, session-kept}
+use Rattle.table.proofs.SoundSlots.{few-pdrs, few-endpoints, few-csids, csids-kept, slotAt, table-long, settings-allowed, within-limit, few-sessions, slot-long, slot-session, place-allowed}
 use Rattle.restoration.specs.Records.{recordWidth, recordFits, areaFits, SlotFits, content}
 
 -- ---- the records of an area
@@ -45,10 +45,10 @@ slices-each w p q f (suc n) xs h g =
 
 -- an FQ-CSID that keeps the rules has a Node-ID type below 16
 csid-type : (ys : List ℕ) → length ys ≡ csidWidth → T (csidAllowed (viewCsid ys)) → T (recordFits ie.fqcsid ys)
-unfolding csidAllowed csidTests nodeAddressAllowed nodeAddressTests viewCsid csidFrom fieldsAt recordFits octetAt
+unfolding viewCsid csidFrom fieldsAt recordFits octetAt
 csid-type ys l h =
     let c = viewCsid ys in
-    let t = leb→le (number (part csidIdTypeAt 1 ys)) 2 (each (nodeAddressTests (c .idType) (c .address)) (each (csidTests c) h .1 .0) .0) in
+    let t = node-address-kept (c .idType) (c .address) (csid-kept c h .address) .type in
     both (eqb (length ys) csidWidth) (ltb (getD ys csidIdTypeAt 0) 16) (yes-eqb l) (lt→ltb (getD ys csidIdTypeAt 0) 16 (let e = octet-field csidIdTypeAt ys in omega arith))
 
 module _ (s : Settings) (slot : List ℕ) (long : length slot ≡ sessionWidth) (h : T (sessionAllowed s (viewSession slot))) where
@@ -72,7 +72,7 @@ module _ (t : List ℕ) (h : T (sound t)) (place : ℕ) (live : place < length (
   slot = slotAt t place
 
   pub place-fits : SlotFits slot
-  place-fits = slot-fits st slot (slot-long t h place live) (rw (slot-session t h place live) (session-kept t h place live))
+  place-fits = slot-fits st slot (slot-long t h place live) (rw (slot-session t h place live) (place-allowed t h place live))
 
   -- the peer stands first in the slot
   pub slot-place : headWidth + place * sessionWidth < length t
@@ -89,11 +89,11 @@ module _ (t : List ℕ) (h : T (sound t)) (place : ℕ) (live : place < length (
 
   module _ (ipv4 ipv6 : List ℕ) (address : T (senderAddressed ipv4 ipv6)) where
     pub sender-kept : T (senderAllowed (senderAt place ipv4 ipv6))
-    unfolding senderAllowed senderTests senderAt senderAddressed addressTests
+    unfolding senderAt senderAddressed addressTests
     sender-kept =
         let a = each (addressTests ipv4 ipv6) address in
         let f = few-sessions t h in
-        all-of-each (senderTests (senderAt place ipv4 ipv6)) (lt→ltb 0 (2 ^ 64) (omega arith), (lt→ltb (place + 1) (2 ^ 24) (omega arith), (a .0, (a .1 .0, (a .1 .1 .0, tt)))))
+        sender-allowed (record { header = lt→ltb 0 (2 ^ 64) (omega arith); sequence = lt→ltb (place + 1) (2 ^ 24) (omega arith); ipv4 = a .0; ipv6 = a .1 .0; some = a .1 .1 .0 })
 
     pub request-is : restorationAt t place ipv4 ipv6 ≡ message establishment 0 (be 3 (place + 1)) (content st (viewSession slot) ipv4 ipv6)
     unfolding restorationAt restoration senderAt content
@@ -101,7 +101,7 @@ module _ (t : List ℕ) (h : T (sound t)) (place : ℕ) (live : place < length (
 
     pub request-short : length (restorationAt t place ipv4 ipv6) ≤ maxRestoration
     unfolding restorationAt
-    request-short = msg-short st (settings-kept t h) (senderAt place ipv4 ipv6) sender-kept (sessionAt (viewSessions t) place) (session-kept t h place live)
+    request-short = msg-short st (settings-allowed t h) (senderAt place ipv4 ipv6) sender-kept (sessionAt (viewSessions t) place) (place-allowed t h place live)
 
     -- the elements stand after a header of 16 octets
     pub content-room : 16 + length (content st (viewSession slot) ipv4 ipv6) ≤ maxRestoration

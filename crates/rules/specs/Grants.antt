@@ -4,9 +4,10 @@ use Prim.Native.Nat.{ℕ, _+_}
 use mathlib.Core.Bool.{Bool, true, false, not, _&&_}
 use mathlib.Core.Option.{Option, none, some}
 use mathlib.Core.List.{List, [], _∷_, _++_}
+use lib.ListN.{length}
 use lib.Dec.{eqb}
-use Rattle.octets.specs.Choice.{pick, valueOr, mapOption, bindOption, headOr, rest}
-use Rattle.octets.specs.Lists.{findBy, keep, collect, member}
+use Rattle.octets.specs.Choice.{valueOr, mapOption, bindOption, isSome, headOr, rest}
+use Rattle.octets.specs.Lists.{distinct, findBy, keep, collect}
 use Rattle.rules.specs.Model.{Settings, Tunnel, Sessions, freeTeids, freeAddresses}
 use Rattle.rules.specs.Elements.{Fteid, given, choose}
 use Rattle.rules.specs.Request.{NewPdr, NewEndpoint, Request}
@@ -105,21 +106,18 @@ chosenAddress s m = headOr 0 (freeAddresses s m)
 
 -- ---- how many TEIDs are needed
 
-unfoldable pub isFresh : List ℕ → Option ℕ → Bool
-isFresh seen none = true
-isFresh seen (some i) = not (member i seen)
+abbrev pub choiceId : Choice → Option ℕ
+choiceId c = c .chooseId
 
-unfoldable pub noted : List ℕ → Option ℕ → List ℕ
-noted seen none = seen
-noted seen (some i) = i ∷ seen
+unfoldable pub isAlone : Choice → Bool
+isAlone c = not (isSome (c .chooseId))
 
-unfoldable pub needFrom : List ℕ → List Choice → ℕ
-needFrom seen [] = 0
-needFrom seen (c ∷ more) = pick (isFresh seen (c .chooseId)) 1 0 + needFrom (noted seen (c .chooseId)) more
+-- one for each CHOOSE without an ID, and one for each different CHOOSE ID
+unfoldable pub needOf : List Choice → ℕ
+needOf cs = length (keep isAlone cs) + distinct (collect choiceId cs)
 
--- one for each CHOOSE without an ID and one for each different CHOOSE ID
 unfoldable pub need : Request → ℕ
-need r = needFrom [] (choices r)
+need r = needOf (choices r)
 
 -- ---- looking a grant up
 
@@ -141,13 +139,6 @@ pub record Got : Type 0 where
 unfoldable pub granted : Settings → Sessions → Request → Kind → ℕ → Got
 granted s m r k i = record { teid = grantedTeid (grants s m r) k i; address = chosenAddress s m }
 
-unfoldable pub isKind : Kind → Grant → Bool
-isKind k g = sameKind k (g .kind)
-
--- the grants of one kind, in request order
-unfoldable pub grantsOf : Kind → List Grant → List Grant
-grantsOf k gs = keep (isKind k) gs
-
 unfoldable pub computing : ℕ
-unfolding sameKind choiceOf endpointChoice pdrChoice choices isChoice chosenTeid remember grantOf teidFor freeAfter chosenAfter grantFrom grants chosenAddress isFresh noted needFrom need isGrantFor grantedTeid granted isKind grantsOf
+unfolding sameKind choiceOf endpointChoice pdrChoice choices isChoice chosenTeid remember grantOf teidFor freeAfter chosenAfter grantFrom grants chosenAddress isAlone needOf need isGrantFor grantedTeid granted
 computing = 0

@@ -14,6 +14,7 @@ use Rattle.rules.specs.Reading.{readRequest}
 use Rattle.rules.specs.Grants.{Kind, ofPdr, ofEndpoint, Got}
 use Rattle.rules.specs.Apply.{follow}
 use Rattle.rules.specs.Types as ie
+use Rattle.rules.specs.Causes as why
 
 -- what the host sees of a call: a request with its peer, its message, the outcome and the reply space at exit; or a free count
 pub data Event : Type 0 where
@@ -34,7 +35,7 @@ replyCause space = octetAt (valueOr [] (contentOf ie.cause (replyElements space)
 
 -- the Created group of a kind, and the element that holds its ID
 unfoldable pub createdType : Kind → ℕ
-createdType ofPdr = 8
+createdType ofPdr = ie.createdPdr
 createdType ofEndpoint = ie.createdEndpoint
 
 unfoldable pub idElement : Kind → ℕ
@@ -70,7 +71,7 @@ createdGot space k i = record { teid = createdTeid space k i; address = createdA
 
 -- outcome 0 and the reply's cause 1
 unfoldable pub acceptedEvent : Event → Bool
-acceptedEvent (replied who msg outcome space) = eqb outcome 0 && eqb (replyCause space) 1
+acceptedEvent (replied who msg outcome space) = eqb outcome 0 && eqb (replyCause space) why.accepted
 acceptedEvent counted = false
 
 unfoldable pub followEvent : Sessions → Event → Sessions

@@ -121,8 +121,9 @@ shareTests h k = h .shared ∷ k .shared ∷ sameBool (h .v4) (k .v4) ∷ sameBo
 unfoldable pub agree : Holding → Holding → Bool
 agree h k = not (eqb (h .teid) (k .teid)) || allOf (shareTests h k)
 
-unfoldable pub sessionTests : Settings → Session → List Bool
-sessionTests s x =
+-- a session's fields and records, each by itself
+unfoldable pub recordTests : Settings → Session → List Bool
+recordTests s x =
     leb 1 (x .seid)
     ∷ ltb (x .seid) (2 ^ 64)
     ∷ leb (length (x .pdrs)) maxPdrs
@@ -135,11 +136,14 @@ sessionTests s x =
     ∷ ascending (map nodeTypeOf (x .csids))
     ∷ all csidAllowed (x .csids)
     ∷ isPeer (x .peer)
-    ∷ allPairs agree (sessionHoldings x)
     ∷ []
 
+unfoldable pub recordsAllowed : Settings → Session → Bool
+recordsAllowed s x = allOf (recordTests s x)
+
+-- and every two of its holds keep the rule on shared TEIDs
 unfoldable pub sessionAllowed : Settings → Session → Bool
-sessionAllowed s x = allOf (sessionTests s x)
+sessionAllowed s x = recordsAllowed s x && allPairs agree (sessionHoldings x)
 
 -- two sessions hold no TEID and no address of the pool in common
 unfoldable pub apart : Settings → Session → Session → Bool
@@ -232,5 +236,5 @@ unfoldable pub addressMap : Settings → Sessions → List ℕ
 addressMap s m = takenWords (s .firstAddress) (heldAddresses s m) addressWords 0
 
 unfoldable pub computing : ℕ
-unfolding poolTests addressPoolTests limitTests peerTests peersTests ipv6Allowed settingsTests settingsAllowed inPool unitFamilies tunnelTests tunnelAllowed matchAllowed farAllowed addressAllowed pdrTests pdrAllowed endpointTests endpointAllowed csidTests csidAllowed sessionTests shareTests agree sessionAllowed apart fewSessions fewTeids due peersKept sessionsTests sessionsAllowed soundTests sound lengthFor make countFree countAddresses taken takenBits takenWords takenMap addressMap
+unfolding poolTests addressPoolTests limitTests peerTests peersTests ipv6Allowed settingsTests settingsAllowed inPool unitFamilies tunnelTests tunnelAllowed matchAllowed farAllowed addressAllowed pdrTests pdrAllowed endpointTests endpointAllowed csidTests csidAllowed shareTests agree recordTests recordsAllowed sessionAllowed apart fewSessions fewTeids due peersKept sessionsTests sessionsAllowed soundTests sound lengthFor make countFree countAddresses taken takenBits takenWords takenMap addressMap
 computing = 0

@@ -107,6 +107,12 @@ newEndpointAddress e = e .address
 unfoldable pub addressesOf : Request → List UeIp
 addressesOf r = collect newEndpointAddress (r .endpoints) ++ collect newPdrAddress (r .pdrs)
 
+-- ---- stage 4, cause 64
+
+-- an establishment of a live SEID
+unfoldable pub alreadyLive : ℕ → ℕ → Sessions → Request → Bool
+alreadyLive kind who m r = eqb kind establishment && isLive (keyFor who (r .seid)) m
+
 -- ---- stage 4, cause 71
 
 -- without CH outside restoration, or with CH inside it
@@ -279,15 +285,33 @@ pub record Verdict : Type 0 where
 abbrev pub plain : ℕ → Verdict
 plain c = record { cause = c; offending = none; place = 0 }
 
+-- a row of 01's table of causes: a cause, and whether its "exactly when" holds
+pub record Reason : Type 0 where
+  pub cause : ℕ
+  pub holds : Bool
+
+abbrev pub because : ℕ → Bool → Reason
+because c b = record { cause = c; holds = b }
+
+-- the rows of stages 4 and 5, from the top of the table down
+unfoldable pub reasons : ℕ → Settings → ℕ → Sessions → Session → Request → List Reason
+reasons kind s who m x r =
+    because why.rejected (alreadyLive kind who m r)
+    ∷ because why.wrongAllocation (invalidAllocation r)
+    ∷ because why.notSupported (r .unsupported)
+    ∷ because why.brokenRule (breaksRule s m x r)
+    ∷ because why.noRoom (roomLacks kind s who m x r)
+    ∷ because why.noAddress (addressLacks s m r)
+    ∷ []
+
+-- the first that holds decides; where none does, the request is accepted: stage 6
+abbrev pub firstOf : List Reason → ℕ
+firstOf [] = why.accepted
+firstOf (r ∷ rs) = pick (r .holds) (r .cause) (firstOf rs)
+
 -- stages 4 to 6, of a peer's request without a fault
 unfoldable pub judge : ℕ → Settings → ℕ → Sessions → Session → Request → Verdict
-judge kind s who m x r =
-    pick (eqb kind establishment && isLive (keyFor who (r .seid)) m) (plain why.rejected)
-    (pick (invalidAllocation r) (plain why.wrongAllocation)
-    (pick (r .unsupported) (plain why.notSupported)
-    (pick (breaksRule s m x r) (plain why.brokenRule)
-    (pick (roomLacks kind s who m x r) (plain why.noRoom)
-    (pick (addressLacks s m r) (plain why.noAddress) (plain why.accepted))))))
+judge kind s who m x r = plain (firstOf (reasons kind s who m x r))
 
 -- the session at entry, in a request without a fault
 unfoldable pub entrySession : ℕ → Sessions → List ℕ → Session
@@ -314,5 +338,5 @@ unfoldable pub verdict : Settings → ℕ → Sessions → List ℕ → Verdict
 verdict s who m msg = pick (unknownSession who m msg) (plain why.noSession) (verdictFrom s who m msg (frameFault msg))
 
 unfoldable pub computing : ℕ
-unfolding hasKey sessionOf isLive newSession unnamed atEntry createdPdrs createdEndpoints updatedPdrs livePdrs liveEndpoints namesOneOf goesPdr removedPdrs fteidsOf addressesOf allocationWrong invalidAllocation idTwice createdLive absentId updatesRemoved namesBoth endpointIdsAfter namesAbsent sameChoice alikeFteids fteidsMayShare localsMayShare choicesAgree lacksFamily otherAddress strange restoredHolding endpointRestored pdrRestored restoredHoldings clash wrongAddress restoredAddresses addressClash requestRules brokenRules breaksRule tooManySessions tooManyPdrs tooManyEndpoints needed passesLimit passesPool tooFewTeids roomLacks addressLacks judge entrySession judged fromReading verdictFrom unknownSession verdict
+unfolding hasKey sessionOf isLive newSession unnamed atEntry createdPdrs createdEndpoints updatedPdrs livePdrs liveEndpoints namesOneOf goesPdr removedPdrs fteidsOf addressesOf alreadyLive allocationWrong invalidAllocation idTwice createdLive absentId updatesRemoved namesBoth endpointIdsAfter namesAbsent sameChoice alikeFteids fteidsMayShare localsMayShare choicesAgree lacksFamily otherAddress strange restoredHolding endpointRestored pdrRestored restoredHoldings clash wrongAddress restoredAddresses addressClash requestRules brokenRules breaksRule tooManySessions tooManyPdrs tooManyEndpoints needed passesLimit passesPool tooFewTeids roomLacks addressLacks reasons judge entrySession judged fromReading verdictFrom unknownSession verdict
 computing = 0

@@ -11,14 +11,14 @@ use lib.ListN.{length, getD}
 use lib.Seq.{take-at}
 use Rattle.octets.specs.Octets.{be, number, part, put, zeros, padded, concatMap}
 use Rattle.octets.specs.Lists.{all, ascending, keep, insertBy}
-use Rattle.octets.proofs.Tests.{Each, each}
 use Rattle.octets.proofs.Numbers.{length-be, number-be}
 use Rattle.octets.proofs.Digits.{be-one}
 use Rattle.rules.specs.Model.{Settings, Session, Sessions, keyFor, sessionKey}
 use Rattle.rules.specs.Layout.{area, keyWidth, sessionWidth, sessionOctets, settingsOctets, encode}
-use Rattle.rules.specs.Sound.{settingsAllowed, sessionAllowed, sessionsTests, sessionsAllowed}
+use Rattle.rules.specs.Sound.{settingsAllowed, sessionAllowed, sessionsAllowed}
 use Rattle.rules.specs.Stages.{hasKey, sessionOf, newSession}
 use Rattle.rules.specs.Apply.{otherSession, removeSession, putSession}
+use Rattle.laws.proofs.KeptRules.{sessions-kept}
 use Rattle.laws.proofs.LayoutLaws.{length-session, seidFits}
 use Rattle.laws.proofs.TableLaws.{length-settings, limit-fits}
 use Rattle.laws.proofs.PeerLaws.{all-sessions}
@@ -50,20 +50,14 @@ module _ (s : Settings) (hs : T (settingsAllowed s)) where
   grouped m = rw append-nil
 
   module _ (m : Sessions) (hm : T (sessionsAllowed s m)) where
-    tests : Each (sessionsTests s m)
-    unfolding sessionsAllowed
-    tests = each (sessionsTests s m) hm
-
     few : length m ≤ s .limit
     few = all-sessions s m hm
 
     up : T (ascending (map sessionKey m))
-    unfolding sessionsTests
-    up = tests .1 .0
+    up = sessions-kept s m hm .order
 
     ok : T (all (sessionAllowed s) m)
-    unfolding sessionsTests
-    ok = tests .1 .1 .0
+    ok = sessions-kept s m hm .sessions
 
     held : HeldSessions m (encode s m)
     held =

@@ -25,9 +25,8 @@ use Rattle.rules.specs.Apply.{coversSession, goesSession, staysSession, otherSe
 use Rattle.laws.proofs.LayoutLaws.{session-back, limit-read}
 use Rattle.laws.proofs.TableLaws.{sessions-back, encoded-settings, sound-encode}
 use Rattle.laws.proofs.PeerLaws.{all-sessions}
-use Rattle.invariants.proofs.KeptRules.{session-kept, sessions-kept}
+use Rattle.laws.proofs.KeptRules.{session-kept, sessions-kept, table-kept}
 use Rattle.invariants.proofs.After.{keep-allowed, remove-allowed}
-use Rattle.invariants.proofs.ServeLaws.{table-kept}
 use Rattle.areas.specs.Records.{keyOf, pairKey, lookupFrom, lookup}
 use Rattle.areas.specs.declared.Lookup.the-variants.{Found}
 use Rattle.areas.proofs.Places.{removeAt, remove-found}
@@ -128,7 +127,7 @@ module _ {s : Settings} {m : Sessions} {t : List ℕ} (h : Encodes s m t) (p : �
   slot-is = rw (h .octets) (session-at s (h .settings) m (h .sessions) p (newSession 0 0) less)
 
   pub slot-few : octetAt (slotAt (s .limit) p t) csidCountAt ≤ nodeTypes
-  slot-few = rw (slot-is, csids-counted x) (leb→le (length (x .csids)) nodeTypes (session-kept s x allowed .fewCsids))
+  slot-few = rw (slot-is, csids-counted x) (leb→le (length (x .csids)) nodeTypes (session-kept s x allowed .records .fewCsids))
 
   pub place-room : p < s .limit
   place-room = let f = all-sessions s m (h .sessions) in omega arith

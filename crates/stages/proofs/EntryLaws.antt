@@ -9,17 +9,18 @@ use lib.ListN.{length, take, drop, getD, replicate, length-map}
 use lib.Seq.{sets}
 use Rattle.octets.specs.Octets.{octetAt, slices}
 use Rattle.octets.specs.Lists.{keep}
-use Rattle.octets.proofs.Tests.{each}
 use Rattle.octets.proofs.Ordered.{keep-length}
 use Rattle.octets.proofs.Numbers.{length-slices}
 use Rattle.octets.proofs.Loops.{stored}
-use Rattle.rules.specs.Limits.{maxPdrs, maxEndpoints, maxPool, mapWords, addressWords}
+use Rattle.rules.specs.Limits.{maxPdrs, maxEndpoints, mapWords, addressWords}
 use Rattle.rules.specs.Model.{Settings, Session, pdrId, heldTeids, heldAddresses, freeAddressCount, keyFor}
 use Rattle.rules.specs.Request.{Request}
 use Rattle.rules.specs.Layout.{viewPdr, viewEndpoint, viewArea, viewSession, viewSettings, viewSessions, pdrWidth, endpointWidth, sessionWidth, pdrCountAt, endpointCountAt, pdrsAt}
-use Rattle.rules.specs.Sound.{sessionTests, sessionAllowed, poolTests, settingsTests, settingsAllowed, soundTests, sound}
+use Rattle.rules.specs.Sound.{sessionAllowed, settingsAllowed, sound}
 use Rattle.rules.specs.Stages.{newSession, isLive, goesPdr, removedPdrs}
 use Rattle.rules.specs.Message.{establishment}
+use Rattle.laws.proofs.KeptRules.{session-kept, table-kept}
+use Rattle.laws.proofs.KeptSettings.{settings-kept}
 use Rattle.plan.specs.Rows.{rowWidth, rowsOf}
 use Rattle.plan.specs.RowRules.{requestOf}
 use Rattle.pool.proofs.TakenLaws.{Means}
@@ -46,10 +47,9 @@ slot-of slot x long e p q =
 
 -- of a live session
 pub slot-live : (s : Settings) (slot : List ℕ) (x : Session) → length slot ≡ sessionWidth → viewSession slot ≡ x → T (sessionAllowed s x) → Slot slot
-unfolding sessionAllowed sessionTests
 slot-live s slot x long e h =
-    let tests = each (sessionTests s x) h in
-    slot-of slot x long e (leb→le (length (x .pdrs)) maxPdrs (tests .1 .1 .0)) (leb→le (length (x .endpoints)) maxEndpoints (tests .1 .1 .1 .1 .1 .0))
+    let k = session-kept s x h .records in
+    slot-of slot x long e (leb→le (length (x .pdrs)) maxPdrs (k .fewPdrs)) (leb→le (length (x .endpoints)) maxEndpoints (k .fewEndpoints))
 
 -- of a new one
 pub slot-new : (slot : List ℕ) (who seid : ℕ) → length slot ≡ sessionWidth → viewSession slot ≡ newSession who seid → Slot slot
@@ -74,12 +74,7 @@ gone-stored slot out rows k h e f = stored (replicate 16 0) (removedPdrs (reques
 
 -- the map has a bit for each TEID of the pool
 pub pool-wide : (s : Settings) (words : List ℕ) → T (settingsAllowed s) → length words ≡ mapWords → s .size ≤ 64 * length words
-unfolding settingsAllowed settingsTests poolTests
-pool-wide s words h e =
-    let tests = each (settingsTests s) h in
-    let pool = each (poolTests (s .first) (s .size)) (tests .1 .1 .1 .1 .0) in
-    let few = leb→le (s .size) maxPool (pool .1 .1 .0) in
-    omega arith
+pool-wide s words h e = omega (arith, settings-kept s h .pool .few)
 
 -- ---- a sound table, with its maps and free counts
 
@@ -90,18 +85,17 @@ pub at-entry : (s : Settings) (t taken addresses slot gone plan : List ℕ) (n w
     → freed ≡ freeAddressCount (viewSettings t) (viewSessions t)
     → (kind ≡ establishment → live ≡ isLive (keyFor who seid) (viewSessions t))
     → AtEntry s t taken addresses slot gone plan n who teids sessions freed kind seid live
-unfolding sound soundTests
 at-entry s t taken addresses slot gone plan n who teids sessions freed kind seid live same h place rows removed words means count wordsA meansA countA known =
-    let tests = each (soundTests t (viewSettings t) (viewSessions t)) h in
+    let settings = table-kept t h .settings in
     subst (λ (x : Settings). AtEntry x t taken addresses slot gone plan n who teids sessions freed kind seid live) (sym same)
     (record {
       place = place;
       rows = rows;
       removed = removed;
-      wide = pool-wide (viewSettings t) taken (tests .1 .0) words;
+      wide = pool-wide (viewSettings t) taken settings words;
       marks = λ i below. means i;
       share = count;
-      wideAddresses = omega (arith, wordsA, addresses-fit (viewSettings t) (tests .1 .0));
+      wideAddresses = omega (arith, wordsA, addresses-fit (viewSettings t) settings);
       marksAddresses = λ i below. meansA i;
       countAddresses = countA;
       known = known;

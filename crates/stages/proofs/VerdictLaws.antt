@@ -10,7 +10,7 @@ use Rattle.rules.specs.Model.{Settings, Session, Sessions, peerOf, otherPeer, h
 use Rattle.rules.specs.Message.{establishment}
 use Rattle.rules.specs.Request.{Request}
 use Rattle.rules.specs.Layout.{viewSession, viewSessions}
-use Rattle.rules.specs.Stages.{isLive, goesPdr, removedPdrs, invalidAllocation, breaksRule, tooManySessions, tooManyPdrs, tooManyEndpoints, passesLimit, passesPool, tooFewTeids, roomLacks, addressLacks, judge, plain}
+use Rattle.rules.specs.Stages.{isLive, goesPdr, removedPdrs, invalidAllocation, breaksRule, tooManySessions, tooManyPdrs, tooManyEndpoints, passesLimit, passesPool, tooFewTeids, roomLacks, addressLacks, judge, plain, reasons, alreadyLive}
 use Rattle.rules.specs.Causes as why
 use Rattle.plan.specs.Rows.{rowsOf, requestIn}
 use Rattle.plan.specs.RowRules.{heldIn, markedAddress}
@@ -55,19 +55,9 @@ chain a b c d e f = pick a why.rejected (pick b why.wrongAllocation (pick c why.
 
 judge-is : (kind : ℕ) (s : Settings) (who : ℕ) (m : Sessions) (x : Session) (r : Request) (seid : ℕ) → r .seid ≡ seid
     → judge kind s who m x r .cause ≡ chain (eqb kind establishment && isLive (keyFor who seid) m) (invalidAllocation r) (r .unsupported) (breaksRule s m x r) (roomLacks kind s who m x r) (addressLacks s m r)
-unfolding judge chain
+unfolding judge reasons alreadyLive chain
 judge-is kind s who m x r seid h =
-    one (eqb kind establishment && isLive (keyFor who (r .seid)) m) (invalidAllocation r) (r .unsupported) (breaksRule s m x r) (roomLacks kind s who m x r) (addressLacks s m r)
-    ∙ ap (λ (k : ℕ). chain (eqb kind establishment && isLive (keyFor who k) m) (invalidAllocation r) (r .unsupported) (breaksRule s m x r) (roomLacks kind s who m x r) (addressLacks s m r)) h
-  where
-    one : (a b c d e f : Bool) → pick a (plain why.rejected) (pick b (plain why.wrongAllocation) (pick c (plain why.notSupported) (pick d (plain why.brokenRule) (pick e (plain why.noRoom) (pick f (plain why.noAddress) (plain why.accepted)))))) .cause ≡ chain a b c d e f
-    one true b c d e f = refl
-    one false true c d e f = refl
-    one false false true d e f = refl
-    one false false false true e f = refl
-    one false false false false true f = refl
-    one false false false false false true = refl
-    one false false false false false false = refl
+    ap (λ (k : ℕ). chain (eqb kind establishment && isLive (keyFor who k) m) (invalidAllocation r) (r .unsupported) (breaksRule s m x r) (roomLacks kind s who m x r) (addressLacks s m r)) h
 
 module _ (a b c d e f : Bool) where
   pub is-64 : a ≡ true → chain a b c d e f ≡ 64
@@ -135,15 +125,4 @@ module _ {s : Settings} {t taken addresses slot gone plan : List ℕ} {n who tei
 -- these causes name no element
 pub judge-plain : (kind : ℕ) (s : Settings) (who : ℕ) (m : Sessions) (x : Session) (r : Request) → judge kind s who m x r ≡ plain (judge kind s who m x r .cause)
 unfolding judge
-judge-plain kind s who m x r = one (eqb kind establishment && isLive (keyFor who (r .seid)) m) (invalidAllocation r) (r .unsupported) (breaksRule s m x r) (roomLacks kind s who m x r) (addressLacks s m r)
-  where
-    one : (a b c d e f : Bool)
-        → pick a (plain why.rejected) (pick b (plain why.wrongAllocation) (pick c (plain why.notSupported) (pick d (plain why.brokenRule) (pick e (plain why.noRoom) (pick f (plain why.noAddress) (plain why.accepted))))))
-        ≡ plain (pick a (plain why.rejected) (pick b (plain why.wrongAllocation) (pick c (plain why.notSupported) (pick d (plain why.brokenRule) (pick e (plain why.noRoom) (pick f (plain why.noAddress) (plain why.accepted)))))) .cause)
-    one true b c d e f = refl
-    one false true c d e f = refl
-    one false false true d e f = refl
-    one false false false true e f = refl
-    one false false false false true f = refl
-    one false false false false false true = refl
-    one false false false false false false = refl
+judge-plain kind s who m x r = refl

@@ -4,11 +4,10 @@ use mathlib.Core.Path.{_≡_, sym, ap, subst, _∙_}
 use Prim.Native.Nat.{ℕ}
 use mathlib.Core.List.{List}
 use lib.Dec.{T}
-use Rattle.octets.proofs.Tests.{each}
-use Rattle.octets.proofs.Numbers.{same-eq}
 use Rattle.rules.specs.Model.{Settings, Sessions}
 use Rattle.rules.specs.Layout.{encode, viewSettings, viewSessions}
-use Rattle.rules.specs.Sound.{settingsAllowed, sessionsAllowed, soundTests, sound}
+use Rattle.rules.specs.Sound.{settingsAllowed, sessionsAllowed, sound}
+use Rattle.laws.proofs.KeptRules.{table-kept}
 use Rattle.laws.proofs.TableLaws.{encoded-settings, sessions-back, sound-encode}
 
 -- octets that encode settings and sessions that keep the rules
@@ -19,10 +18,7 @@ pub record Encoded (t : List ℕ) (s : Settings) (m : Sessions) : Type 0 where
 
 -- a table that is not broken encodes what it is read as
 pub sound-encoded : (t : List ℕ) → T (sound t) → Encoded t (viewSettings t) (viewSessions t)
-unfolding sound soundTests
-sound-encoded t h =
-    let e = each (soundTests t (viewSettings t) (viewSessions t)) h in
-    record { settings = e .1 .0; sessions = e .1 .1 .0; whole = sym (same-eq (encode (viewSettings t) (viewSessions t)) t (e .1 .1 .1 .0)) }
+sound-encoded t h = let k = table-kept t h in record { settings = k .settings; sessions = k .sessions; whole = sym (k .encoded) }
 
 module _ (t : List ℕ) (s : Settings) (m : Sessions) (e : Encoded t s m) where
   -- what allowed settings and sessions encode to is not broken

@@ -8,15 +8,17 @@ use mathlib.Core.List.{List, [], _∷_, map}
 use borrow.Author.Tests.{eq-eqb, ne-eqb, le-leb, lt-leb, not-true, not-false}
 use lib.ListN.{length, drop, replicate, length-drop}
 use lib.Seq.{take-all}
-use lib.Dec.{T, leb, ltb, eqb→eq, leb→le, lt→ltb}
+use lib.Dec.{T, leb, ltb, leb→le, lt→ltb}
 use Rattle.octets.specs.Choice.{pick}
 use Rattle.octets.specs.Octets.{part, number, slices, allZero, octets}
 use Rattle.octets.specs.Lists.{all, allPairs, ascending, distinct}
-use Rattle.octets.proofs.Tests.{each, of-true, all-head, all-tail, all-cons}
+use Rattle.octets.proofs.Tests.{of-true, all-head, all-tail, all-cons}
 use Rattle.rules.specs.Limits.{maxSessions, maxPool, maxAddresses, mapWords, addressWords}
 use Rattle.rules.specs.Model.{Settings, Session, Sessions, heldTeids, freeCount, heldAddresses, freeAddressCount, isPeer, otherPeer, peerOf, half, ofPeer, holdings, unused}
 use Rattle.rules.specs.Layout.{headWidth, keyWidth, sessionWidth, tableLength, viewSettings, viewSessions, settingsWidth}
-use Rattle.rules.specs.Sound.{poolTests, addressPoolTests, settingsTests, settingsAllowed, apart, inPool, peersKept, fewSessions, fewTeids, due, sessionsTests, sessionsAllowed, soundTests, sound, free, countFree, countAddresses}
+use Rattle.rules.specs.Sound.{settingsAllowed, apart, inPool, peersKept, fewSessions, fewTeids, due, soundTests, sound, free, countFree, countAddresses}
+use Rattle.laws.proofs.KeptRules.{SessionsKept, sessions-kept, TableKept, table-kept}
+use Rattle.laws.proofs.KeptSettings.{settings-kept}
 use Rattle.laws.proofs.TableLaws.{limit-most}
 use Rattle.laws.proofs.PeerLaws.{known-peers, count-peers}
 use Rattle.invariants.proofs.Totals.{both-hold}
@@ -36,7 +38,7 @@ use Rattle.marking.specs.declared.Walked.the-variants.{Held}
 use Rattle.marking.specs.Marking.{teidsIn, addressesIn, newBy, slotsBy, AllAdmitted}
 use Rattle.table.specs.Tests.{limitOf, slotsOf, orderSound, frontTests, frontSound, walkSound, peersSound, sessionsFit, teidsFit}
 use Rattle.table.specs.Answers.{Examined, counted, countTold}
-use Rattle.table.proofs.SoundLaws.{settings-front, settings-from, sessions-are, count-are, sound-law, walk-says}
+use Rattle.table.proofs.SoundLaws.{settings-front, settings-from, sessions-are, count-are, sound-law, walk-says, front-kept}
 use Rattle.table.proofs.Walks.{teids-are, addresses-are, by-peer, slots-by}
 use Rattle.octets.proofs.Bools.{and-true, and-false, both-ways}
 use mir.Facts.{yes-leb}
@@ -93,21 +95,19 @@ pub record Front (t : List ℕ) (u : Unit) : Type 0 where
   pub last : u .«first_address» + u .addresses ≤ 2 ^ 32
 
 pub front-facts : (t : List ℕ) (u : Unit) → settingsOf u ≡ viewSettings t → (f : Bool) → f ≡ frontSound t → not f ≡ false → Front t u
-unfolding frontSound frontTests settingsAllowed settingsTests poolTests addressPoolTests settingsOf
+unfolding settingsOf
 front-facts t u is f q h =
-    let e = each (frontTests t) (of-true (sym q ∙ not-false f h)) in
-    let hs = settings-from t (e .0) .0 in
-    let tests = each (settingsTests (settingsOf u)) (subst (λ (x : Settings). T (settingsAllowed x)) (sym is) hs) in
-    let pool = each (poolTests (u .first) (u .size)) (tests .1 .1 .1 .1 .0) in
-    let addresses = each (addressPoolTests (u .«first_address») (u .addresses)) (tests .1 .1 .1 .1 .1 .0) in
+    let e = front-kept t (of-true (sym q ∙ not-false f h)) in
+    let hs = settings-from t (e .settings) .0 in
+    let k = settings-kept (settingsOf u) (subst (λ (x : Settings). T (settingsAllowed x)) (sym is) hs) in
     record {
-      long = eqb→eq (length t) (tableLength (limitOf t)) (e .1 .0);
+      long = e .long;
       room = limit-most (viewSettings t) hs;
-      few = leb→le (number (part settingsWidth 2 t)) (limitOf t) (e .1 .1 .0);
-      pool = leb→le (u .first + u .size) (2 ^ 32) (pool .1 .1 .1 .0);
-      size = leb→le (u .size) maxPool (pool .1 .1 .0);
-      count = leb→le (u .addresses) maxAddresses (addresses .1 .0);
-      last = leb→le (u .«first_address» + u .addresses) (2 ^ 32) (addresses .1 .1 .0);
+      few = e .few;
+      pool = k .pool .last;
+      size = k .pool .few;
+      count = k .addresses .few;
+      last = k .addresses .last;
     }
 
 -- ---- the peers by numbers
@@ -149,12 +149,6 @@ module _ (u : Unit) where
                 both-ways (leb (x + y) z) (leb x (z - y))
                 (λ h. let g = leb→le (x + y) z h in let k : x ≤ z - y = omega arith in yes-leb k)
                 (λ h. let g = leb→le x (z - y) h in let k : x + y ≤ z = omega arith in yes-leb k)
-
-pub due-more : (n g : ℕ) → n < g → g ≡ n + (g - n)
-due-more n g h = omega arith
-
-pub due-held : (n g : ℕ) → g ≤ n → n ≡ n + (g - n)
-due-held n g h = omega arith
 
 module _ (s : Settings) (first second one two : ℕ) (a : Bool) (e : a ≡ sessionsFit s first second) where
   pub fit-not : not a ≡ true → false ≡ (sessionsFit s first second && teidsFit s one two)
@@ -346,34 +340,28 @@ module _ (t : List ℕ) (r : Walked) (w u : List ℕ) (x : Examined t r w u) whe
     pub numbers : (p ≡ holdings 1 (viewSessions t)) × (q ≡ holdings 2 (viewSessions t)) × (f ≡ length (ofPeer 1 (viewSessions t))) × (k ≡ distinct (heldAddresses (viewSettings t) (viewSessions t)))
     numbers = held-same _ _ _ _ p q f k (held-is (sound t) (counted t) p q f k (sym (x .answer) ∙ e))
 
-    tests : (length t ≡ tableLength (limitOf t)) × T (sessionsAllowed (viewSettings t) (viewSessions t))
-    unfolding sound soundTests
-    tests = let h = each (soundTests t (viewSettings t) (viewSessions t)) examined-yes in (eqb→eq (length t) (tableLength (limitOf t)) (h .0), h .1 .1 .0)
+    kept : TableKept t
+    kept = table-kept t examined-yes
+
+    sessions : SessionsKept (viewSettings t) (viewSessions t)
+    sessions = sessions-kept (viewSettings t) (viewSessions t) (kept .sessions)
 
     -- where the settings are read
     pub count-long : length t ≡ tableLength (limitOf t)
-    count-long = tests .0
+    count-long = kept .whole
 
     -- the two hold all that is held
     held-both : p + q ≡ distinct (heldTeids (viewSessions t))
-    unfolding sessionsAllowed sessionsTests otherPeer
+    unfolding otherPeer
     held-both =
-        let g = each (sessionsTests (viewSettings t) (viewSessions t)) (tests .1) in
-        let b = both-hold (viewSettings t) 1 (unfold isPeer in tt) (viewSessions t) (known-peers (viewSettings t) (viewSessions t) (g .1 .1 .0)) (g .1 .1 .1 .0) in
+        let b = both-hold (viewSettings t) 1 (unfold isPeer in tt) (viewSessions t) (known-peers (viewSettings t) (viewSessions t) (sessions .sessions)) (sessions .separate) in
         omega (arith, numbers .0, numbers .1)
 
     pub held-less : p + q ≤ viewSettings t .size
-    unfolding sessionsAllowed sessionsTests
-    held-less =
-        let g = each (sessionsTests (viewSettings t) (viewSessions t)) (tests .1) in
-        omega (arith, held-both, held-few (viewSettings t) (heldTeids (viewSessions t)) (all-in-pool (viewSettings t) (viewSessions t) (g .1 .1 .0)))
-
-    settings-kept : T (settingsAllowed (viewSettings t))
-    unfolding sound soundTests
-    settings-kept = each (soundTests t (viewSettings t) (viewSessions t)) examined-yes .1 .0
+    held-less = omega (arith, held-both, held-few (viewSettings t) (heldTeids (viewSessions t)) (all-in-pool (viewSettings t) (viewSessions t) (sessions .sessions)))
 
     pub count-add : p + q < 2 ^ 64
-    count-add = omega (arith, held-less, pool-fits (viewSettings t) settings-kept)
+    count-add = omega (arith, held-less, pool-fits (viewSettings t) (kept .settings))
 
     module _ (s : Unit) (is : settingsOf s ≡ viewSettings t) where
       pub count-less : p + q ≤ s .size

@@ -14,13 +14,14 @@ use Rattle.octets.specs.Choice.{pick, allOf}
 use Rattle.octets.specs.Octets.{part, be, number, numberAt, octetAt, sameOctets, allZero, octets}
 use Rattle.octets.specs.Lists.{all, allPairs, ascending}
 use Rattle.octets.proofs.Tests.{each, all-of-each, both, and-left, and-right, of-true, all-head, all-tail, all-cons}
-use Rattle.octets.proofs.Numbers.{same-refl, same-eq, length-slices}
+use Rattle.octets.proofs.Numbers.{same-refl, length-slices}
 use Rattle.octets.proofs.Digits.{be-back, part-octets, drop-octets}
 use Rattle.octets.proofs.Put.{length-part, drop-take}
 use Rattle.rules.specs.Limits.{mapWords, addressWords}
 use Rattle.rules.specs.Model.{Settings, Session, sessionKey}
 use Rattle.rules.specs.Layout.{headWidth, keyWidth, viewPeer, peer1At, peer2At, sessionWidth, tableLength, area, sessionOctets, settingsOctets, encode, viewArea, viewSession, viewSettings, viewSessions, settingsWidth, ipv6ThereAt, ipv6At, firstAt, sizeAt, firstAddressAt, addressCountAt, limitAt}
-use Rattle.rules.specs.Sound.{settingsAllowed, sessionAllowed, apart, peersKept, sessionsTests, sessionsAllowed, soundTests, sound}
+use Rattle.rules.specs.Sound.{settingsAllowed, sessionAllowed, apart, peersKept, sessionsAllowed, sound}
+use Rattle.laws.proofs.KeptRules.{sessions-kept, sessions-allowed, table-kept, table-sound}
 use Rattle.laws.proofs.LayoutLaws.{length-session}
 use Rattle.laws.proofs.TableLaws.{length-settings}
 use Rattle.laws.proofs.PeerLaws.{all-sessions}
@@ -71,6 +72,25 @@ sessions-are t = refl
 
 pub count-are : (t : List ℕ) → length (viewSessions t) ≡ sessionCount t
 count-are t = ap length (sessions-are t) ∙ length-map (slotsOf t) viewSession ∙ length-slices sessionWidth (sessionCount t) (drop headWidth t)
+
+-- Tests.frontTests by name
+pub record FrontKept (t : List ℕ) : Type 0 where
+  pub settings : T (settingsSound (part 0 settingsWidth t))
+  pub long : length t ≡ tableLength (limitOf t)
+  pub few : sessionCount t ≤ limitOf t
+  pub order : T (orderSound t)
+
+-- from the tests to the names
+pub front-kept : (t : List ℕ) → T (frontSound t) → FrontKept t
+unfolding frontSound frontTests
+front-kept t h =
+    let e = each (frontTests t) h in
+    record { settings = e .0; long = eqb→eq (length t) (tableLength (limitOf t)) (e .1 .0); few = leb→le (sessionCount t) (limitOf t) (e .1 .1 .0); order = e .1 .1 .1 .0 }
+
+-- and back
+front-sound : {t : List ℕ} → FrontKept t → T (frontSound t)
+unfolding frontSound frontTests
+front-sound {t} k = all-of-each (frontTests t) (k .settings, (yes-eqb (k .long), (yes-leb (k .few), (k .order, tt))))
 
 -- the settings' slot
 module _ (t : List ℕ) where
@@ -160,37 +180,39 @@ module _ (t : List ℕ) (long : length t ≡ tableLength (limitOf t)) (o : T (oc
   -- ---- both ways
 
   sound-from : T (frontSound t) → T (walkSound t) → T (peersSound t) → T (sound t)
-  unfolding frontSound frontTests orderSound sound soundTests areaSound peersSound
+  unfolding orderSound areaSound peersSound
   sound-from h w pk =
-      let f = each (frontTests t) h in
-      let st = settings-from t (f .0) in
-      let few = leb→le (sessionCount t) (s .limit) (f .1 .1 .0) in
+      let f = front-kept t h in
+      let st = settings-from t (f .settings) in
+      let few : sessionCount t ≤ s .limit = f .few in
       let wk = subst T (walk-is (st .0) few) w in
       let allowed-apart = and-left (all (sessionAllowed s) (map viewSession (slotsOf t)) && allPairs (apart s) (map viewSession (slotsOf t))) (all canonical (slotsOf t)) wk in
       let canon = and-right (all (sessionAllowed s) (map viewSession (slotsOf t)) && allPairs (apart s) (map viewSession (slotsOf t))) (all canonical (slotsOf t)) wk in
       let allowed = and-left (all (sessionAllowed s) (map viewSession (slotsOf t))) (allPairs (apart s) (map viewSession (slotsOf t))) allowed-apart in
       let apart′ = and-right (all (sessionAllowed s) (map viewSession (slotsOf t))) (allPairs (apart s) (map viewSession (slotsOf t))) allowed-apart in
       let k = kept (sessionAllowed s) sessionOctets viewSession in
-      let ar = sessions-from (st .0) few (both (all k (slotsOf t)) (ascending (map (keyOf keyWidth) (slotsOf t)) && allZero (drop (sessionCount t * sessionWidth) (drop headWidth t))) (all-kept s (slotsOf t) allowed canon) (f .1 .1 .1 .0)) in
+      let ar = sessions-from (st .0) few (both (all k (slotsOf t)) (ascending (map (keyOf keyWidth) (slotsOf t)) && allZero (drop (sessionCount t * sessionWidth) (drop headWidth t))) (all-kept s (slotsOf t) allowed canon) (f .order)) in
       let whole : encode s (viewSessions t) ≡ t = encoded-is ∙ (λ i. st .1 i ++ (part settingsWidth 2 t ++ ar .2 i)) ∙ parts in
-      all-of-each (soundTests t s (viewSessions t))
-      (yes-eqb long, (st .0, (subst (λ (m : List Session). T (sessionsAllowed s m)) (sym (sessions-are t)) (sessions-ok s (map viewSession (slotsOf t)) (subst (λ (m : List Session). T (allOf (peersKept s m))) (sessions-are t) pk) (ar .1) (ar .0) apart′), (of-true (ap (λ (l : List ℕ). sameOctets l t) whole ∙ same-refl t), tt))))
-    where
-      sessions-ok : (x : Settings) (m : List Session) → T (allOf (peersKept x m)) → T (ascending (map sessionKey m)) → T (all (sessionAllowed x) m) → T (allPairs (apart x) m) → T (sessionsAllowed x m)
-      sessions-ok x m a b c d = unfold sessionsAllowed sessionsTests in all-of-each (sessionsTests x m) (a, (b, (c, (d, tt))))
+      table-sound (record {
+        whole = long;
+        settings = st .0;
+        sessions = subst (λ (m : List Session). T (sessionsAllowed s m)) (sym (sessions-are t))
+            (sessions-allowed (record { peers = subst (λ (m : List Session). T (allOf (peersKept s m))) (sessions-are t) pk; order = ar .1; sessions = ar .0; separate = apart′ }));
+        encoded = whole;
+      })
 
   sound-to : T (sound t) → T (frontSound t) × T (walkSound t) × T (peersSound t)
-  unfolding frontSound frontTests orderSound sound soundTests sessionsAllowed sessionsTests areaSound peersSound
+  unfolding orderSound areaSound peersSound
   sound-to h =
-      let f = each (soundTests t s (viewSessions t)) h in
-      let hs : T (settingsAllowed s) = f .1 .0 in
-      let g = each (sessionsTests s (viewSessions t)) (f .1 .1 .0) in
-      let same : encode s (viewSessions t) ≡ t = same-eq (encode s (viewSessions t)) t (f .1 .1 .1 .0) in
-      let few : sessionCount t ≤ s .limit = le-trans (le-of-eq (sym (count-are t))) (all-sessions s (viewSessions t) (f .1 .1 .0)) in
+      let f = table-kept t h in
+      let hs = f .settings in
+      let g = sessions-kept s (viewSessions t) (f .sessions) in
+      let same = f .encoded in
+      let few : sessionCount t ≤ s .limit = le-trans (le-of-eq (sym (count-are t))) (all-sessions s (viewSessions t) (f .sessions)) in
       let m = map viewSession (slotsOf t) in
-      let up : T (ascending (map sessionKey m)) = subst (λ (x : List Session). T (ascending (map sessionKey x))) (sessions-are t) (g .1 .0) in
-      let allowed : T (all (sessionAllowed s) m) = subst (λ (x : List Session). T (all (sessionAllowed s) x)) (sessions-are t) (g .1 .1 .0) in
-      let apart′ : T (allPairs (apart s) m) = subst (λ (x : List Session). T (allPairs (apart s) x)) (sessions-are t) (g .1 .1 .1 .0) in
+      let up : T (ascending (map sessionKey m)) = subst (λ (x : List Session). T (ascending (map sessionKey x))) (sessions-are t) (g .order) in
+      let allowed : T (all (sessionAllowed s) m) = subst (λ (x : List Session). T (all (sessionAllowed s) x)) (sessions-are t) (g .sessions) in
+      let apart′ : T (allPairs (apart s) m) = subst (λ (x : List Session). T (allPairs (apart s) x)) (sessions-are t) (g .separate) in
       let rest : List ℕ = part settingsWidth 2 t ++ area sessionOctets sessionWidth (s .limit) m in
       let eq : settingsOctets s ++ rest ≡ t = sym encoded-is ∙ same in
       let se : settingsOctets s ≡ part 0 settingsWidth t = sym (take-at (settingsOctets s) rest settingsWidth (length-settings s hs)) ∙ ap (take settingsWidth) eq in
@@ -200,20 +222,18 @@ module _ (t : List ℕ) (long : length t ≡ tableLength (limitOf t)) (o : T (oc
       let ar = sessions-to hs few allowed up ae in
       let kepts = and-left (all k (slotsOf t)) (ascending (map (keyOf keyWidth) (slotsOf t)) && allZero (drop (sessionCount t * sessionWidth) (drop headWidth t))) ar in
       let order = and-right (all k (slotsOf t)) (ascending (map (keyOf keyWidth) (slotsOf t)) && allZero (drop (sessionCount t * sessionWidth) (drop headWidth t))) ar in (
-        all-of-each (frontTests t) (settings-to t hs se, (yes-eqb long, (yes-leb few, (order, tt)))),
+        front-sound (record { settings = settings-to t hs se; long = long; few = few; order = order }),
         subst T (sym (walk-is hs few)) (both (all (sessionAllowed s) m && allPairs (apart s) m) (all canonical (slotsOf t)) (both (all (sessionAllowed s) m) (allPairs (apart s) m) allowed apart′) (all-canonical s (slotsOf t) kepts)),
-        g .0,
+        g .peers,
       )
 
 -- ---- for any octets
 
 long-of : (t : List ℕ) → T (frontSound t) → length t ≡ tableLength (limitOf t)
-unfolding frontSound frontTests
-long-of t h = eqb→eq (length t) (tableLength (limitOf t)) (each (frontTests t) h .1 .0)
+long-of t h = front-kept t h .long
 
 long-sound : (t : List ℕ) → T (sound t) → length t ≡ tableLength (limitOf t)
-unfolding sound soundTests
-long-sound t h = eqb→eq (length t) (tableLength (limitOf t)) (each (soundTests t (viewSettings t) (viewSessions t)) h .0)
+long-sound t h = table-kept t h .whole
 
 -- the tests on the octets say just that the table is not broken
 pub sound-law : (t : List ℕ) → T (octets t) → sound t ≡ (frontSound t && (walkSound t && peersSound t))
@@ -228,13 +248,12 @@ sound-law t o =
 -- what the walk says of the sessions, once the front is sound
 pub walk-says : (t : List ℕ) → T (octets t) → T (frontSound t) → T (walkSound t)
     → T (settingsAllowed (viewSettings t)) × T (all (sessionAllowed (viewSettings t)) (viewSessions t)) × T (allPairs (apart (viewSettings t)) (viewSessions t))
-unfolding frontSound frontTests
 walk-says t o h w =
-    let f = each (frontTests t) h in
-    let st = settings-from t (f .0) in
+    let f = front-kept t h in
+    let st = settings-from t (f .settings) in
     let x = viewSettings t in
     let m = map viewSession (slotsOf t) in
-    let few = leb→le (sessionCount t) (x .limit) (f .1 .1 .0) in
+    let few : sessionCount t ≤ x .limit = f .few in
     let both′ = and-left (all (sessionAllowed x) m && allPairs (apart x) m) (all canonical (slotsOf t)) (subst T (walk-is t (long-of t h) o (st .0) few) w) in (
       st .0,
       subst (λ (y : List Session). T (all (sessionAllowed x) y)) (sym (sessions-are t)) (and-left (all (sessionAllowed x) m) (allPairs (apart x) m) both′),

@@ -3,12 +3,12 @@ use mathlib.Core.Path.{_≡_, refl, sym, ap, _∙_, subst}
 use Prim.Native.Nat.{ℕ, zero, suc, _+_, _-_, _*_, _≤_, _<_}
 use native.Mathlib.Omega.{arith}
 use mathlib.Core.List.{List, [], _∷_, map}
-use lib.Dec.{T, leb→le, eqb→eq}
+use lib.Dec.{T, leb→le}
 use lib.ListN.{length, getD, take, drop, length-map, List·getD-map}
 use lib.Seq.{drop-drop}
 use Rattle.octets.specs.Octets.{part, number, octetAt, slices}
 use Rattle.octets.specs.Lists.{all}
-use Rattle.octets.proofs.Tests.{each, Each, all-at}
+use Rattle.octets.proofs.Tests.{all-at}
 use Rattle.octets.proofs.ListLaws.{all-map}
 use Rattle.octets.proofs.Put.{length-part}
 use Rattle.octets.proofs.Numbers.{length-slices}
@@ -16,9 +16,10 @@ use Rattle.areas.proofs.LookupLaws.{getD-slices}
 use Rattle.rules.specs.Limits.{maxSessions, maxPdrs, maxEndpoints, nodeTypes}
 use Rattle.rules.specs.Model.{Settings, Session, Sessions}
 use Rattle.rules.specs.Layout.{pdrWidth, endpointWidth, csidWidth, headWidth, sessionWidth, tableLength, viewArea, viewPdr, viewEndpoint, viewCsid, viewSession, viewSettings, viewSessions, settingsWidth, pdrCountAt, endpointCountAt, csidCountAt, pdrsAt, endpointsAt, csidsAt}
-use Rattle.rules.specs.Sound.{settingsAllowed, csidAllowed, sessionTests, sessionAllowed, sessionsTests, sessionsAllowed, soundTests, sound}
+use Rattle.rules.specs.Sound.{settingsAllowed, csidAllowed, sessionAllowed, sound}
 use Rattle.rules.specs.Stages.{newSession}
 use Rattle.rules.specs.Restoring.{sessionAt}
+use Rattle.laws.proofs.KeptRules.{RecordsKept, session-kept, sessions-kept, table-kept}
 use Rattle.laws.proofs.TableLaws.{limit-most}
 use Rattle.laws.proofs.PeerLaws.{all-sessions}
 use Rattle.table.specs.Tests.{sessionCount, slotsOf}
@@ -27,37 +28,33 @@ use Rattle.table.proofs.SoundLaws.{sessions-are}
 -- ---- the records of a slot
 
 module _ (s : Settings) (slot : List ℕ) (long : length slot ≡ sessionWidth) (h : T (sessionAllowed s (viewSession slot))) where
-  facts : Each (sessionTests s (viewSession slot))
-  unfolding sessionAllowed
-  facts = each (sessionTests s (viewSession slot)) h
+  facts : RecordsKept s (viewSession slot)
+  facts = session-kept s (viewSession slot) h .records
 
   count-pdrs : length (viewSession slot .pdrs) ≡ getD slot pdrCountAt 0
   unfolding viewSession viewArea octetAt
   count-pdrs = length-map (slices pdrWidth (getD slot pdrCountAt 0) (drop pdrsAt slot)) viewPdr ∙ length-slices pdrWidth (getD slot pdrCountAt 0) (drop pdrsAt slot)
 
   pub few-pdrs : getD slot pdrCountAt 0 ≤ maxPdrs
-  unfolding sessionTests
-  few-pdrs = let g = leb→le (length (viewSession slot .pdrs)) 16 (facts .1 .1 .0) in let e = count-pdrs in omega arith
+  few-pdrs = let g = leb→le (length (viewSession slot .pdrs)) maxPdrs (facts .fewPdrs) in let e = count-pdrs in omega arith
 
   count-endpoints : length (viewSession slot .endpoints) ≡ getD slot endpointCountAt 0
   unfolding viewSession viewArea octetAt
   count-endpoints = length-map (slices endpointWidth (getD slot endpointCountAt 0) (drop endpointsAt slot)) viewEndpoint ∙ length-slices endpointWidth (getD slot endpointCountAt 0) (drop endpointsAt slot)
 
   pub few-endpoints : getD slot endpointCountAt 0 ≤ maxEndpoints
-  unfolding sessionTests
-  few-endpoints = let g = leb→le (length (viewSession slot .endpoints)) 8 (facts .1 .1 .1 .1 .1 .0) in let e = count-endpoints in omega arith
+  few-endpoints = let g = leb→le (length (viewSession slot .endpoints)) maxEndpoints (facts .fewEndpoints) in let e = count-endpoints in omega arith
 
   count-csids : length (viewSession slot .csids) ≡ getD slot csidCountAt 0
   unfolding viewSession viewArea octetAt
   count-csids = length-map (slices csidWidth (getD slot csidCountAt 0) (drop csidsAt slot)) viewCsid ∙ length-slices csidWidth (getD slot csidCountAt 0) (drop csidsAt slot)
 
   pub few-csids : getD slot csidCountAt 0 ≤ nodeTypes
-  unfolding sessionTests
-  few-csids = let g = leb→le (length (viewSession slot .csids)) 6 (facts .1 .1 .1 .1 .1 .1 .1 .1 .0) in let e = count-csids in omega arith
+  few-csids = let g = leb→le (length (viewSession slot .csids)) nodeTypes (facts .fewCsids) in let e = count-csids in omega arith
 
   pub csids-kept : T (all (λ ys. csidAllowed (viewCsid ys)) (slices csidWidth (getD slot csidCountAt 0) (drop csidsAt slot)))
-  unfolding sessionTests viewSession viewArea octetAt
-  csids-kept = subst T (all-map viewCsid csidAllowed (slices csidWidth (getD slot csidCountAt 0) (drop csidsAt slot))) (facts .1 .1 .1 .1 .1 .1 .1 .1 .1 .1 .0)
+  unfolding viewSession viewArea octetAt
+  csids-kept = subst T (all-map viewCsid csidAllowed (slices csidWidth (getD slot csidCountAt 0) (drop csidsAt slot))) (facts .csids)
 
 -- ---- the slots of a sound table
 
@@ -69,28 +66,17 @@ module _ (t : List ℕ) (h : T (sound t)) where
   abbrev st : Settings
   st = viewSettings t
 
-  tests : Each (soundTests t st (viewSessions t))
-  unfolding sound
-  tests = each (soundTests t st (viewSessions t)) h
-
   pub table-long : length t ≡ tableLength (viewSettings t .limit)
-  unfolding soundTests
-  table-long = eqb→eq (length t) (tableLength (viewSettings t .limit)) (tests .0)
+  table-long = table-kept t h .whole
 
-  pub settings-kept : T (settingsAllowed st)
-  unfolding soundTests
-  settings-kept = tests .1 .0
-
-  sessions-kept : Each (sessionsTests st (viewSessions t))
-  unfolding soundTests sessionsAllowed
-  sessions-kept = each (sessionsTests st (viewSessions t)) (tests .1 .1 .0)
+  pub settings-allowed : T (settingsAllowed st)
+  settings-allowed = table-kept t h .settings
 
   pub within-limit : length (viewSessions t) ≤ viewSettings t .limit
-  unfolding soundTests
-  within-limit = all-sessions st (viewSessions t) (tests .1 .1 .0)
+  within-limit = all-sessions st (viewSessions t) (table-kept t h .sessions)
 
   pub few-sessions : length (viewSessions t) ≤ maxSessions
-  few-sessions = omega (arith, within-limit, limit-most st settings-kept)
+  few-sessions = omega (arith, within-limit, limit-most st settings-allowed)
 
   -- the number of sessions, as the table has it
   pub count-read : length (viewSessions t) ≡ number (part settingsWidth 2 t)
@@ -122,6 +108,6 @@ module _ (t : List ℕ) (h : T (sound t)) where
         getD-any (x ∷ m) zero a b l = refl
         getD-any (x ∷ m) (suc i) a b l = getD-any m i a b (omega arith)
 
-    pub session-kept : T (sessionAllowed st (sessionAt (viewSessions t) place))
-    unfolding sessionsTests sessionAt
-    session-kept = all-at (sessionAllowed st) (newSession 0 0) (viewSessions t) place live (sessions-kept .1 .1 .0)
+    pub place-allowed : T (sessionAllowed st (sessionAt (viewSessions t) place))
+    unfolding sessionAt
+    place-allowed = all-at (sessionAllowed st) (newSession 0 0) (viewSessions t) place live (sessions-kept st (viewSessions t) (table-kept t h .sessions) .sessions)

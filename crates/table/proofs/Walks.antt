@@ -19,7 +19,7 @@ use Rattle.octets.proofs.Digits.{take-octets, drop-octets}
 use Rattle.rules.specs.Model.{Settings, Session, Sessions, sessionTeids, heldTeids, sessionAddresses, heldAddresses, hasPeer, ofPeer, holdings}
 use Rattle.rules.specs.Layout.{sessionOctets, viewSession, sessionWidth}
 use Rattle.octets.specs.Octets.{octetAt}
-use Rattle.rules.specs.Sound.{sessionAllowed, apart, inPool}
+use Rattle.rules.specs.Sound.{sessionAllowed, apart, inPool, recordsAllowed}
 use Rattle.laws.proofs.DistinctLaws.{distinct-both, distinct-apart}
 use Rattle.invariants.proofs.Beside.{separate-all}
 use Rattle.invariants.proofs.Totals.{total, peerTeids, peerSessions, holdings-total, count-total}
@@ -31,7 +31,7 @@ use Rattle.pool.specs.Map.{marked, marks, newMarks, offsets}
 use Rattle.pool.proofs.Marks.{offsets-append, marks-append, new-append}
 use Rattle.marking.specs.Offsets.{heldOffsets}
 use Rattle.records.specs.Kept.{kept}
-use Rattle.records.specs.Slot.{slotSound, recordsAllowed}
+use Rattle.records.specs.Slot.{slotSound}
 use Rattle.records.proofs.SlotLaws.{allowed-split, slot-law}
 use Rattle.marking.specs.Marking.{slotHolds, slotTeids, slotFree, inTurn, slotKeeps, slotsKeep, slotsFree, teidsIn, addressesIn, newBy, slotsBy}
 use Rattle.marking.proofs.Admitting.{records-pooled}

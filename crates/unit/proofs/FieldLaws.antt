@@ -2,7 +2,6 @@
 use mathlib.Core.Path.{_≡_, refl, ap}
 use mathlib.Core.Bool.{Bool, true, false, not}
 use mathlib.Core.List.{[], _++_}
-use Prim.Native.Nat.{ℕ}
 use Rattle.octets.specs.Choice.{pick, isNil}
 use Rattle.octets.specs.Octets.{be}
 use Rattle.rules.specs.Model.{Settings}
