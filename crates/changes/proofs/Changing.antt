@@ -1,7 +1,7 @@
 -- An establishment or a modification from its reading on.
 -- Assumes nothing.
 use mathlib.Core.Path.{_≡_, refl, sym, ap, _∙_, subst}
-use mathlib.Core.Bool.{Bool}
+use mathlib.Core.Bool.{Bool, false}
 use mathlib.Core.Option.{Option, none, some}
 use mathlib.Core.List.{List}
 use Prim.Native.Nat.{ℕ, _*_, _≤_, _<_, _^_}
@@ -20,10 +20,15 @@ use Rattle.request.specs.Requests.{refused, whole, resultOf, fromFraming, readi
 use Rattle.request.specs.declared.Plan.{Plan}
 use Rattle.request.specs.declared.Reading.{Reading}
 use Rattle.request.specs.declared.Reading.the-variants as reading
-use Rattle.changes.specs.Answers.{OnlyNull, Answers, Replies}
-use Rattle.changes.specs.Steps.{Changing, Readable}
-use Rattle.changes.proofs.Entering.{Entering}
-use Rattle.changes.proofs.Faults.{Faulted, not-framed-refuses, not-read-refuses}
+use Rattle.unit.specs.Meaning.{settingsOf}
+use Rattle.unit.proofs.FieldLaws.{limit-is}
+use Rattle.stages.specs.declared.Known.{Known}
+use Rattle.stages.specs.declared.Told.{Told}
+use Rattle.reply.specs.declared.Offending.the-variants.{Element}
+use Rattle.changes.specs.Answers.{OnlyNull, Answers, Replies, Refusing}
+use Rattle.changes.specs.Steps.{Changing, Readable, Fetching, Fetched, Entered}
+use Rattle.changes.proofs.Entering.{Entering, fetch-asks, entered}
+use Rattle.changes.proofs.Faults.{Faulted, replies-fault, not-framed-refuses, not-read-refuses}
 use Rattle.changes.proofs.VerdictSteps.{read-through}
 
 -- a request that was read whole has no fault
@@ -43,68 +48,93 @@ faultless msg r = by-frame (frameFault msg) refl
     by-frame none e h = record { framed = e; fine = by-read (read msg) h }
     by-frame (some u) e h = let z : _≡_ {A = ℕ} 0 1 = cc in absurd (omega arith)
 
-module _ {t : List ℕ} {who : ℕ} {msg out : List ℕ} {kind at : ℕ} (ch : Changing t who msg out kind at) where
-  module _ {r : Reading} {plan : List ℕ} (given : Read msg r plan) where
-    pub fault-refuses : (c k p : ℕ) → r ≡ reading.Fault c k p → Faulted t who msg out c k p
+-- what reading told, with whether the SEID is live
+abbrev pub toldBy : Plan → Bool → Told
+toldBy w live = record { seid = w .seid; live = live; rows = w .rows; restoring = w .restoring; noted = w .noted }
+
+module _ {k : Known} {t msg out : List ℕ} {at : ℕ} (ch : Changing k t msg out at) {r : Reading} {plan : List ℕ} (given : Read msg r plan) where
+  -- a fault
+  module _ {c e p : ℕ} (is : r ≡ reading.Fault c e p) where
+    pub fault-refuses : Faulted t (k .share .peer) msg out c e p
     unfolding readingOf fromFraming
-    fault-refuses c k p q = by-frame (frameFault msg) refl (sym (ap (λ (x : Reading). meant x plan) q) ∙ given .result)
+    fault-refuses = by-frame (frameFault msg) refl (sym (ap (λ (x : Reading). meant x plan) is) ∙ given .result)
       where
-        by-read : (g : rules.Reading Request) → read msg ≡ g → frameFault msg ≡ none → refused c k p ≡ resultOf g → Faulted t who msg out c k p
-        by-read (done y) e f h = let z : _≡_ {A = ℕ} 0 1 = cc in absurd (omega arith)
-        by-read (faulty x) e f h =
+        by-read : (g : rules.Reading Request) → read msg ≡ g → frameFault msg ≡ none → refused c e p ≡ resultOf g → Faulted t (k .share .peer) msg out c e p
+        by-read (done y) q f h = let z : _≡_ {A = ℕ} 0 1 = cc in absurd (omega arith)
+        by-read (faulty x) q f h =
             let ec : causeOf (x .cause) ≡ c = cc in
-            let ek : x .type ≡ k = cc in
+            let ek : x .type ≡ e = cc in
             let ep : x .place ≡ p = cc in
-            not-read-refuses t who msg out (ch .live) f x e c k p ec ek ep
+            not-read-refuses t (k .share .peer) msg out (ch .live) f x q c e p ec ek ep
 
-        by-frame : (f : Option Spot) → frameFault msg ≡ f → refused c k p ≡ fromFraming msg f → Faulted t who msg out c k p
-        by-frame none e h = by-read (read msg) refl e h
-        by-frame (some u) e h =
+        by-frame : (f : Option Spot) → frameFault msg ≡ f → refused c e p ≡ fromFraming msg f → Faulted t (k .share .peer) msg out c e p
+        by-frame none q h = by-read (read msg) refl q h
+        by-frame (some u) q h =
             let ec : c ≡ 68 = cc in
-            let ek : k ≡ u .type = cc in
+            let ek : e ≡ u .type = cc in
             let ep : p ≡ u .place = cc in
-            rw (ec, ek, ep) (not-framed-refuses t who msg out (ch .live) u e)
+            rw (ec, ek, ep) (not-framed-refuses t (k .share .peer) msg out (ch .live) u q)
 
-    module _ {w : Plan} (q : r ≡ reading.Whole w) where
-      is-whole : whole (requestIn (w .seid) (w .restoring) (w .noted) (rowsOf (w .rows) plan)) ≡ readingOf msg
-      is-whole = sym (ap (λ (x : Reading). meant x plan) q) ∙ given .result
+    pub fault-asks : Refusing t (k .share .peer) msg out c (Element e)
+    fault-asks = fault-refuses .refusing
 
-      none-at-fault : Faultless msg (requestIn (w .seid) (w .restoring) (w .noted) (rowsOf (w .rows) plan))
-      none-at-fault = faultless msg (requestIn (w .seid) (w .restoring) (w .noted) (rowsOf (w .rows) plan)) is-whole
+    pub fault-replies : {used : ℕ} {out′ : List ℕ} → Answers t (k .share .peer) msg out used out′ t → Replies t (k .share .peer) msg out used p out′ t
+    fault-replies a = replies-fault fault-refuses a
 
-      is-read : readRequest msg ≡ requestIn (w .seid) (w .restoring) (w .noted) (rowsOf (w .rows) plan)
-      unfolding readRequest askedIn
-      is-read = ap askedIn (none-at-fault .fine)
+  -- none
+  module _ {w : Plan} (is : r ≡ reading.Whole w) where
+    abbrev request : Request
+    request = requestIn (w .seid) (w .restoring) (w .noted) (rowsOf (w .rows) plan)
 
-      no-fault : readFault msg ≡ none
-      unfolding readFault faultIn
-      no-fault = ap faultIn (none-at-fault .fine)
+    is-whole : whole request ≡ readingOf msg
+    is-whole = sym (ap (λ (x : Reading). meant x plan) is) ∙ given .result
 
-      rows-within : w .rows * rowWidth ≤ length plan
-      rows-within = let h : rowWidth * w .rows ≤ length plan = subst (λ (x : Reading). rowWidth * rowsLeft x ≤ length plan) q (given .room) in omega arith
+    none-at-fault : Faultless msg request
+    none-at-fault = faultless msg request is-whole
 
-      pub readable : Readable t who msg out plan kind (w .seid) (w .rows) (w .restoring) (w .noted)
-      readable =
-          record {
-            asked = ch .asked;
-            kindIs = ch .kindIs;
-            other = ch .other;
-            verdict = read-through (viewSettings t) who (viewSessions t) msg (ch .live) (none-at-fault .framed) no-fault;
-            means = is-read;
-            rows = rows-within;
-            onlyNull = subst (λ (x : Reading). OnlyNull (rowsOf (rowsLeft x) plan)) q (given .onlyNull);
-          }
+    is-read : readRequest msg ≡ request
+    unfolding readRequest askedIn
+    is-read = ap askedIn (none-at-fault .fine)
 
-      pub enter-asks : (slot : List ℕ) → w .seid < 2 ^ 64 → length slot ≡ sessionWidth → Entering t who msg slot kind (w .seid) at
+    no-fault : readFault msg ≡ none
+    unfolding readFault faultIn
+    no-fault = ap faultIn (none-at-fault .fine)
+
+    rows-within : w .rows * rowWidth ≤ length plan
+    rows-within = let h : rowWidth * w .rows ≤ length plan = subst (λ (x : Reading). rowWidth * rowsLeft x ≤ length plan) is (given .room) in omega arith
+
+    pub readable : {live : Bool} → Readable k (toldBy w live) t msg out plan
+    readable =
+        record {
+          asked = ch .asked;
+          kindIs = ch .kindIs;
+          other = ch .other;
+          verdict = read-through (viewSettings t) (k .share .peer) (viewSessions t) msg (ch .live) (none-at-fault .framed) no-fault;
+          means = is-read;
+          rows = rows-within;
+          onlyNull = subst (λ (x : Reading). OnlyNull (rowsOf (rowsLeft x) plan)) is (given .onlyNull);
+        }
+
+    -- stages 4 to 6 have no place
+    pub judged-replies : {used : ℕ} {out′ t′ : List ℕ} → Answers t (k .share .peer) msg out used out′ t′ → Replies t (k .share .peer) msg out used 0 out′ t′
+    unfolding judged
+    judged-replies a =
+        record {
+          answers = a;
+          placed =
+              sym (ap (λ (v : Verdict). v .place)
+              (readable {live = false} .verdict ∙ judge-plain (kindOf msg) (viewSettings t) (k .share .peer) (viewSessions t) (entrySession (k .share .peer) (viewSessions t) msg) (readRequest msg)));
+        }
+
+    -- the session at entry: what fetching it asks, and that it is it
+    module _ (same : settingsOf (k .u) ≡ viewSettings t) (fits : w .seid < 2 ^ 64) where
+      entering : Entering k (w .seid) t msg at
       unfolding requestIn
-      enter-asks slot f l =
-          record { peer = ch .asked .peer; table = ch .asked .table; tableLong = ch .asked .tableLong; kindIs = ch .kindIs; named = ch .asked .named; new = λ e. sym (ap (λ (x : Request). x .seid) is-read); fits = f; found = ch .found; long = l }
+      entering =
+          record { peer = ch .asked .peer; table = ch .asked .table; tableLong = ch .asked .tableLong; kindIs = ch .kindIs; named = ch .asked .named; new = λ e. sym (ap (λ (x : Request). x .seid) is-read); fits = fits; found = ch .found }
 
--- stages 4 to 6 have no place
-pub replies-judged : {t : List ℕ} {who : ℕ} {msg out plan : List ℕ} {kind seid n used : ℕ} {restoring noted : Bool} {out′ t′ : List ℕ} → Readable t who msg out plan kind seid n restoring noted → Answers t who msg out used out′ t′ → Replies t who msg out used 0 out′ t′
-unfolding judged
-replies-judged {t} {who} {msg} r a =
-    record {
-      answers = a;
-      placed = sym (ap (λ (v : Verdict). v .place) (r .verdict ∙ judge-plain (kindOf msg) (viewSettings t) who (viewSessions t) (entrySession who (viewSessions t) msg) (readRequest msg)));
-    }
+      pub fetches : {slot : List ℕ} → length slot ≡ sessionWidth → Fetching t slot (k .u .limit) (k .kind) (w .seid) at
+      fetches l = fetch-asks k (w .seid) t msg at entering (limit-is (k .u) (viewSettings t) same) l
+
+      pub enters : {live : Bool} {slot : List ℕ} → Fetched t (k .u .limit) (k .kind) (k .share .peer) (w .seid) at live slot → Entered k (toldBy w live) t msg slot
+      enters {live} f = entered k (w .seid) t msg at entering (limit-is (k .u) (viewSettings t) same) (toldBy w live) refl refl f

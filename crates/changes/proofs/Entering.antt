@@ -32,23 +32,33 @@ use Rattle.areas.specs.Counted.{areaIn, placeIn}
 use Rattle.session.specs.Areas.{tableArea}
 use Rattle.session.proofs.Saved.{session-found, session-absent, session-loaded, fresh-slot}
 use Rattle.stages.proofs.EntryLaws.{slot-live, slot-new}
+use Rattle.stages.specs.declared.Known.{Known}
+use Rattle.stages.specs.declared.Told.{Told}
 use Rattle.changes.specs.Steps.{Fetching, Fetched, Entered}
 
 -- the table is as long as its room says
 pub long-by : (t : List ℕ) (room : ℕ) → room ≡ viewSettings t .limit → length t ≡ tableLength (viewSettings t .limit) → length t ≡ tableLength room
 long-by t room l long = long ∙ ap tableLength (sym l)
 
+-- a request that makes no session has a place
+pub place-there : {t slot : List ℕ} {room kind seid p : ℕ} → Fetching t slot room kind seid p → (kind ≡ establishment → ⊥) → p < room
+place-there f n = f .there n
+
+-- the slot of a live session, as it was copied
+pub fetched-old : {t slot slot′ : List ℕ} {room kind who seid p : ℕ} {live : Bool} → Fetching t slot room kind seid p → (kind ≡ establishment → ⊥) → length slot′ ≡ length slot
+    → slot′ ≡ part (p * sessionWidth) sessionWidth (areaIn (tableArea room) t) → Fetched t room kind who seid p live slot′
+fetched-old f n l e = record { long = l ∙ f .long; new = λ z. absurd (n z); known = λ z. absurd (n z); old = λ z. e }
+
 -- where the session at entry comes from: the SEID of an establishment's F-SEID, or the place of the header's session in the table
-pub record Entering (t : List ℕ) (who : ℕ) (msg slot : List ℕ) (kind seid p : ℕ) : Type 0 where
-  pub peer : T (isPeer who)
+pub record Entering (k : Known) (seid : ℕ) (t msg : List ℕ) (p : ℕ) : Type 0 where
+  pub peer : T (isPeer (k .share .peer))
   pub table : T (sound t)
   pub tableLong : length t ≡ tableLength (viewSettings t .limit)
-  pub kindIs : kind ≡ kindOf msg
+  pub kindIs : k .kind ≡ kindOf msg
   pub named : eqb (kindOf msg) setDeletion ≡ false
-  pub new : kind ≡ establishment → seid ≡ readRequest msg .seid
+  pub new : k .kind ≡ establishment → seid ≡ readRequest msg .seid
   pub fits : seid < 2 ^ 64
-  pub found : (kind ≡ establishment → ⊥) → placeIn (tableArea (viewSettings t .limit)) (keyFor who (headerSeid msg)) t ≡ Found p
-  pub long : length slot ≡ sessionWidth
+  pub found : (k .kind ≡ establishment → ⊥) → placeIn (tableArea (viewSettings t .limit)) (keyFor (k .share .peer) (headerSeid msg)) t ≡ Found p
 
 module _ (t : List ℕ) (h : T (sound t)) where
   abbrev s : Settings
@@ -102,64 +112,66 @@ new-viewed : (who n : ℕ) → n < 2 ^ 64 → viewSession (sessionOctets (newSes
 unfolding newSession sessionOctets viewSession viewArea numberAt octetAt be slices
 new-viewed who n h = λ j. record { peer = who; seid = number-be 8 n h j; pdrs = []; endpoints = []; csids = [] }
 
--- a new session in its slot
-entered-new : (t : List ℕ) (who : ℕ) (msg slot slot′ : List ℕ) (kind seid p : ℕ) (live : Bool) → Entering t who msg slot kind seid p → kind ≡ establishment → slot′ ≡ put 1 (be 8 seid) (put 0 (be 1 who) (zeros sessionWidth)) → length slot′ ≡ sessionWidth
-    → live ≡ isLive (keyFor who seid) (viewSessions t) → Entered t who msg kind seid live slot′
-entered-new t who msg slot slot′ kind seid p live a k e long l =
-    let small : who < 256 = peer-cases (λ (n : ℕ). n < 256) (omega arith) (omega arith) who (a .peer) in
-    let fresh : slot′ ≡ sessionOctets (newSession who seid) = e ∙ fresh-slot who seid small in
-    let at : newSession who seid ≡ entrySession who (viewSessions t) msg = ap (newSession who) (a .new k) ∙ sym (new-entry who (viewSessions t) msg (sym (a .kindIs) ∙ k)) in
-    let viewed : viewSession slot′ ≡ newSession who seid = ap viewSession fresh ∙ new-viewed who seid (a .fits) in
-    record { entry = fresh ∙ ap sessionOctets at; viewed = viewed ∙ at; place = slot-new slot′ who seid long viewed; known = λ z. l }
+module _ (k : Known) (seid : ℕ) (t msg : List ℕ) (p : ℕ) (a : Entering k seid t msg p) where
+  abbrev who : ℕ
+  who = k .share .peer
 
--- a live session in its slot
-module _ (t : List ℕ) (who : ℕ) (msg slot : List ℕ) (kind seid p : ℕ) (a : Entering t who msg slot kind seid p) (other : kind ≡ establishment → ⊥) where
-  sound-table : T (sound t)
-  sound-table = a .table
+  -- a new session in its slot
+  entered-new : (live : Bool) (q : Told) → q .seid ≡ seid → q .live ≡ live → (slot : List ℕ) → k .kind ≡ establishment → slot ≡ put 1 (be 8 seid) (put 0 (be 1 who) (zeros sessionWidth)) → length slot ≡ sessionWidth
+      → live ≡ isLive (keyFor who seid) (viewSessions t) → Entered k q t msg slot
+  entered-new live q qs ql slot new e long l =
+      let small : who < 256 = peer-cases (λ (n : ℕ). n < 256) (omega arith) (omega arith) who (a .peer) in
+      let fresh : slot ≡ sessionOctets (newSession who seid) = e ∙ fresh-slot who seid small in
+      let at : newSession who seid ≡ entrySession who (viewSessions t) msg = ap (newSession who) (a .new new) ∙ sym (new-entry who (viewSessions t) msg (sym (a .kindIs) ∙ new)) in
+      let viewed : viewSession slot ≡ newSession who seid = ap viewSession fresh ∙ new-viewed who seid (a .fits) in
+      record { entry = fresh ∙ ap sessionOctets at; viewed = viewed ∙ at; place = slot-new slot who seid long viewed; known = λ z. ql ∙ l ∙ ap (λ (n : ℕ). isLive (keyFor who n) (viewSessions t)) (sym qs) }
 
-  k : TableKept t
-  k = table-kept t sound-table
+  -- a live session in its slot
+  module _ (other : k .kind ≡ establishment → ⊥) where
+    kept-table : TableKept t
+    kept-table = table-kept t (a .table)
 
-  x : Session
-  x = getD (viewSessions t) p (newSession 0 0)
+    x : Session
+    x = getD (viewSessions t) p (newSession 0 0)
 
-  abbrev area′ : Area
-  area′ = tableArea (viewSettings t .limit)
+    abbrev area′ : Area
+    area′ = tableArea (viewSettings t .limit)
 
-  abbrev key : ℕ
-  key = keyFor who (headerSeid msg)
+    abbrev key : ℕ
+    key = keyFor who (headerSeid msg)
 
-  there : placeIn area′ key (encode (viewSettings t) (viewSessions t)) ≡ Found p
-  there = ap (placeIn area′ key) (k .encoded) ∙ a .found other
+    there : placeIn area′ key (encode (viewSettings t) (viewSessions t)) ≡ Found p
+    there = ap (placeIn area′ key) (kept-table .encoded) ∙ a .found other
 
-  found : (p < viewSettings t .limit) × (sessionOf key (viewSessions t) ≡ some x)
-  unfolding x
-  found = session-found (viewSettings t) (k .settings) (viewSessions t) (k .sessions) key p (newSession 0 0) there
+    found : (p < viewSettings t .limit) × (sessionOf key (viewSessions t) ≡ some x)
+    unfolding x
+    found = session-found (viewSettings t) (kept-table .settings) (viewSessions t) (kept-table .sessions) key p (newSession 0 0) there
 
-  place-within : p < viewSettings t .limit
-  place-within = found .0
+    place-within : p < viewSettings t .limit
+    place-within = found .0
 
-  allowed : T (sessionAllowed (viewSettings t) x)
-  allowed = live-allowed t sound-table key x (found .1)
+    allowed : T (sessionAllowed (viewSettings t) x)
+    allowed = live-allowed t (a .table) key x (found .1)
 
-  is-entry : x ≡ entrySession who (viewSessions t) msg
-  is-entry = sym (live-entry who (viewSessions t) msg x (a .named) (λ e. other (a .kindIs ∙ e)) (found .1))
+    is-entry : x ≡ entrySession who (viewSessions t) msg
+    is-entry = sym (live-entry who (viewSessions t) msg x (a .named) (λ e. other (a .kindIs ∙ e)) (found .1))
 
-  entered-live : (live : Bool) (slot′ : List ℕ) → slot′ ≡ part (p * sessionWidth) sessionWidth (areaIn area′ t) → length slot′ ≡ sessionWidth → Entered t who msg kind seid live slot′
-  unfolding x
-  entered-live live slot′ e long =
-      let loaded : slot′ ≡ sessionOctets x = e ∙ ap (λ (u : List ℕ). part (p * sessionWidth) sessionWidth (areaIn area′ u)) (sym (k .encoded)) ∙ session-loaded (viewSettings t) (k .settings) (viewSessions t) (k .sessions) key p (newSession 0 0) there in
-      let viewed : viewSession slot′ ≡ x = ap viewSession loaded ∙ session-back (viewSettings t) (k .settings) x allowed in
-      record { entry = loaded ∙ ap sessionOctets is-entry; viewed = viewed ∙ is-entry; place = slot-live (viewSettings t) slot′ x long viewed allowed; known = λ z. absurd (other z) }
+    entered-live : (q : Told) (slot : List ℕ) → slot ≡ part (p * sessionWidth) sessionWidth (areaIn area′ t) → length slot ≡ sessionWidth → Entered k q t msg slot
+    unfolding x
+    entered-live q slot e long =
+        let loaded : slot ≡ sessionOctets x =
+        e ∙ ap (λ (u : List ℕ). part (p * sessionWidth) sessionWidth (areaIn area′ u)) (sym (kept-table .encoded)) ∙ session-loaded (viewSettings t) (kept-table .settings) (viewSessions t) (kept-table .sessions) key p (newSession 0 0) there in
+        let viewed : viewSession slot ≡ x = ap viewSession loaded ∙ session-back (viewSettings t) (kept-table .settings) x allowed in
+        record { entry = loaded ∙ ap sessionOctets is-entry; viewed = viewed ∙ is-entry; place = slot-live (viewSettings t) slot x long viewed allowed; known = λ z. absurd (other z) }
 
--- what fetching it asks, and that what it leaves is the session at entry
-module _ (t : List ℕ) (who : ℕ) (msg slot : List ℕ) (kind seid p : ℕ) (a : Entering t who msg slot kind seid p) where
-  pub fetch-asks : (room : ℕ) → room ≡ viewSettings t .limit → Fetching t slot room kind seid p
-  fetch-asks room l = record { table = a .table; tableLong = long-by t room l (a .tableLong); limit = l; fits = a .fits; there = λ n. rw l (place-within t who msg slot kind seid p a n); long = a .long }
+  -- what fetching it asks, and that what it leaves is the session at entry
+  module _ {room : ℕ} (l : room ≡ viewSettings t .limit) where
+    pub fetch-asks : {slot : List ℕ} → length slot ≡ sessionWidth → Fetching t slot room (k .kind) seid p
+    fetch-asks long = record { table = a .table; tableLong = long-by t room l (a .tableLong); limit = l; fits = a .fits; there = λ n. rw l (place-within n); long = long }
 
-  pub entered : (live : Bool) (slot′ : List ℕ) → (room : ℕ) → room ≡ viewSettings t .limit → Fetched t room kind who seid p live slot′ → Entered t who msg kind seid live slot′
-  entered live slot′ room l f = go (ℕ-discrete kind establishment)
-    where
-      go : Dec (kind ≡ establishment) → Entered t who msg kind seid live slot′
-      go (yes e) = entered-new t who msg slot slot′ kind seid p live a e (f .new e) (f .long) (f .known e)
-      go (no n) = entered-live t who msg slot kind seid p a n live slot′ (f .old n ∙ ap (λ (z : ℕ). part (p * sessionWidth) sessionWidth (areaIn (tableArea z) t)) l) (f .long)
+    pub entered : (q : Told) {live : Bool} {slot : List ℕ} → q .seid ≡ seid → q .live ≡ live → Fetched t room (k .kind) who seid p live slot → Entered k q t msg slot
+    entered q {live} {slot} qs ql f = go (ℕ-discrete (k .kind) establishment)
+      where
+        go : Dec (k .kind ≡ establishment) → Entered k q t msg slot
+        go (yes e) = entered-new live q qs ql slot e (f .new e) (f .long) (f .known e)
+        go (no n) = entered-live n q slot (f .old n ∙ ap (λ (z : ℕ). part (p * sessionWidth) sessionWidth (areaIn (tableArea z) t)) l) (f .long)

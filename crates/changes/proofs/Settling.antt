@@ -1,13 +1,15 @@
 -- Stages 4 to 6 of a request that was read: what the code's cause means.
 -- Assumes nothing.
 use mathlib.Core.Path.{_≡_, sym, ap, _∙_, subst}
-use mathlib.Core.Bool.{Bool, _&&_}
+use mathlib.Core.Bool.{Bool, false, _&&_}
 use mathlib.Core.List.{List}
 use Prim.Native.Nat.{ℕ, _+_, _≤_, _<_, _^_}
 use native.Mathlib.Omega.{arith}
 use lib.Dec.{T, ltb→lt, ltb}
+use lib.ListN.{length, take, replicate}
+use lib.Seq.{sets, length-take-le}
 use Rattle.octets.specs.Lists.{all}
-use Rattle.rules.specs.Limits.{maxPool, maxAddresses}
+use Rattle.rules.specs.Limits.{maxPdrs, maxPool, maxAddresses}
 use Rattle.rules.specs.Model.{Settings, Session, Sessions, heldTeids, heldAddresses}
 use Rattle.rules.specs.Layout.{viewSession, viewSettings, viewSessions}
 use Rattle.rules.specs.Sound.{settingsAllowed}
@@ -22,13 +24,14 @@ use Rattle.invariants.proofs.FreeTeids.{held-in-pool}
 use Rattle.pool.proofs.TakenLaws.{Means, map-means}
 use Rattle.pool.proofs.AddressLaws.{address-map-means}
 use Rattle.plan.specs.Rows.{rowsOf, requestIn}
-use Rattle.unit.specs.declared.Settings.{Settings as Unit}
+use Rattle.plan.specs.RowRules.{requestOf}
 use Rattle.unit.specs.Meaning.{settingsOf}
 use Rattle.reply.specs.declared.Offending.the-variants.{Nothing}
-use Rattle.stages.specs.Rules.{Gone, AtEntry}
-use Rattle.stages.specs.declared.Share.{Share}
+use Rattle.stages.specs.Rules.{Slot, Gone, AtEntry}
+use Rattle.stages.specs.declared.Known.{Known}
+use Rattle.stages.specs.declared.Told.{Told}
 use Rattle.stages.proofs.SlotLaws.{removed-rows}
-use Rattle.stages.proofs.EntryLaws.{at-entry}
+use Rattle.stages.proofs.EntryLaws.{gone-few, gone-stored, at-entry}
 use Rattle.stages.proofs.VerdictLaws.{judge-plain}
 use Rattle.changes.specs.Answers.{verdictOn, Refusing, Accepting}
 use Rattle.changes.specs.Steps.{Counted, Entered, Readable}
@@ -50,76 +53,88 @@ addresses-few s h = settings-kept s h .addresses .few
 addresses-below : (s : Settings) → T (settingsAllowed s) → s .firstAddress < 2 ^ 32
 addresses-below s h = omega (arith, settings-kept s h .addresses .some, settings-kept s h .addresses .last)
 
-module _ {u : Unit} {t msg out plan words ips slot gone : List ℕ} {share : Share} {kind seid n left : ℕ} {restoring noted live : Bool} (r : Readable t (share .peer) msg out plan kind seid n restoring noted)
-    (k : Counted u t words share ips left) (e : Entered t (share .peer) msg kind seid live slot) (g : Gone slot (rowsOf n plan) gone) where
+module _ {k : Known} {q : Told} {t msg out plan words ips slot stored : List ℕ} {n : ℕ} (r : Readable k q t msg out plan) (h : Counted k t words ips) (e : Entered k q t msg slot)
+    (count : n ≡ length (removedPdrs (requestOf false (rowsOf (q .rows) plan)) (viewSession slot .pdrs)))
+    (ids : stored ≡ sets (replicate 16 0) 0 (removedPdrs (requestOf false (rowsOf (q .rows) plan)) (viewSession slot .pdrs))) where
   abbrev who : ℕ
-  who = share .peer
+  who = k .share .peer
+
+  abbrev request : Request
+  request = requestIn (q .seid) (q .restoring) (q .noted) (rowsOf (q .rows) plan)
 
   kept : TableKept t
   kept = table-kept t (r .asked .table)
 
+  -- the PDRs that go are the rules'
+  found : Gone slot (rowsOf (q .rows) plan) (take n stored)
+  found = gone-stored slot stored (rowsOf (q .rows) plan) n (e .place) count ids
+
   marked-held : Means (viewSettings t .first) words (heldTeids (viewSessions t))
   marked-held =
-      subst (λ (w : List ℕ). Means (viewSettings t .first) w (heldTeids (viewSessions t))) (sym (k .marks))
+      subst (λ (w : List ℕ). Means (viewSettings t .first) w (heldTeids (viewSessions t))) (sym (h .marks))
       (map-means (viewSettings t) (viewSessions t) (kept .settings) (held-in-pool (viewSettings t) (viewSessions t) (kept .sessions)))
 
   marked-addresses : Means (viewSettings t .firstAddress) ips (heldAddresses (viewSettings t) (viewSessions t))
   marked-addresses =
-      subst (λ (w : List ℕ). Means (viewSettings t .firstAddress) w (heldAddresses (viewSettings t) (viewSessions t))) (sym (k .addressMarks))
+      subst (λ (w : List ℕ). Means (viewSettings t .firstAddress) w (heldAddresses (viewSettings t) (viewSessions t))) (sym (h .addressMarks))
       (address-map-means (viewSettings t) (viewSessions t) (kept .settings))
 
   -- what stages 4 to 6 ask
-  pub entry-asks : AtEntry (settingsOf u) t words ips slot gone plan n (share .peer) (share .teids) (share .sessions) left kind seid live
-  entry-asks =
-      at-entry (settingsOf u) t words ips slot gone plan n (share .peer) (share .teids) (share .sessions) left kind seid live (k .settings) (r .asked .table) (e .place) (r .rows) g (k .long) marked-held (k .own)
-      (k .addressLong) marked-addresses (k .addressCount) (e .known)
+  pub entry-asks : AtEntry k q t words ips slot (take n stored) plan
+  entry-asks = at-entry (h .settings) (r .asked .table) (e .place) (r .rows) found (h .long) marked-held (h .own) (h .addressLong) marked-addresses (h .addressCount) (e .known)
 
   abbrev judgement : Verdict
-  judgement = judge kind (settingsOf u) who (viewSessions t) (viewSession slot) (requestIn seid restoring noted (rowsOf n plan))
+  judgement = judge (k .kind) (settingsOf (k .u)) who (viewSessions t) (viewSession slot) request
 
   same-judgement : verdictOn t who msg ≡ judgement
   unfolding judged
-  same-judgement = r .verdict ∙ (λ i. judge (sym (r .kindIs) i) (sym (k .settings) i) who (viewSessions t) (sym (e .viewed) i) (r .means i))
+  same-judgement = r .verdict ∙ (λ i. judge (sym (r .kindIs) i) (sym (h .settings) i) who (viewSessions t) (sym (e .viewed) i) (r .means i))
 
-  same-verdict : (c : ℕ) → c ≡ judgement .cause → verdictOn t who msg ≡ plain c
-  same-verdict c q =
-      same-judgement ∙ judge-plain kind (settingsOf u) who (viewSessions t) (viewSession slot) (requestIn seid restoring noted (rowsOf n plan)) ∙ ap plain (sym q)
-
-  same-removed : gone ≡ removedPdrs (readRequest msg) (entrySession who (viewSessions t) msg .pdrs)
+  same-removed : take n stored ≡ removedPdrs (readRequest msg) (entrySession who (viewSessions t) msg .pdrs)
   same-removed =
-      g ∙ sym (removed-rows seid restoring noted (rowsOf n plan) (viewSession slot .pdrs))
+      found ∙ sym (removed-rows (q .seid) (q .restoring) (q .noted) (rowsOf (q .rows) plan) (viewSession slot .pdrs))
       ∙ (λ i. removedPdrs (sym (r .means) i) (e .viewed i .pdrs))
 
-  pub settle-refuses : (c : ℕ) → c ≡ judgement .cause → (c ≡ 1 → ⊥) → Refusing t who msg out c Nothing
-  settle-refuses c q o =
-      record {
-        place = 0;
-        verdict = same-verdict c q;
-        small = subst (λ (z : ℕ). z < 256) (sym q) (judge-small kind (settingsOf u) who (viewSessions t) (viewSession slot) (requestIn seid restoring noted (rowsOf n plan)));
-        other = o;
-      }
+  module _ {c : ℕ} (is : c ≡ judgement .cause) where
+    same-verdict : verdictOn t who msg ≡ plain c
+    same-verdict = same-judgement ∙ judge-plain (k .kind) (settingsOf (k .u)) who (viewSessions t) (viewSession slot) request ∙ ap plain (sym is)
 
-  pub settle-accepts : (c : ℕ) → c ≡ judgement .cause → c ≡ 1 → Accepting u t who words ips msg slot gone plan out seid n
-  settle-accepts c q o =
-      record {
-        asked = r .asked;
-        verdict = same-verdict c q ∙ ap plain o;
-        other = r .other;
-        restoring = restoring;
-        noted = noted;
-        means = r .means;
-        rows = r .rows;
-        onlyNull = r .onlyNull;
-        entry = e .entry;
-        slotLong = e .place .long;
-        removed = same-removed;
-        marks = k .marks;
-        mapLong = k .long;
-        settings = k .settings;
-        first = pool-below (viewSettings t) (kept .settings);
-        size = pool-small (viewSettings t) (kept .settings);
-        addressMarks = k .addressMarks;
-        addressMapLong = k .addressLong;
-        firstAddress = addresses-below (viewSettings t) (kept .settings);
-        addresses = addresses-few (viewSettings t) (kept .settings);
-      }
+    pub settle-refuses : (c ≡ 1 → ⊥) → Refusing t (k .share .peer) msg out c Nothing
+    settle-refuses o =
+        record {
+          place = 0;
+          verdict = same-verdict;
+          small = subst (λ (z : ℕ). z < 256) (sym is) (judge-small (k .kind) (settingsOf (k .u)) who (viewSessions t) (viewSession slot) request);
+          other = o;
+        }
+
+    pub settle-accepts : c ≡ 1 → Accepting k q t words ips msg slot (take n stored) plan out
+    settle-accepts o =
+        record {
+          asked = r .asked;
+          verdict = same-verdict ∙ ap plain o;
+          other = r .other;
+          means = r .means;
+          rows = r .rows;
+          onlyNull = r .onlyNull;
+          entry = e .entry;
+          slotLong = e .place .long;
+          removed = same-removed;
+          marks = h .marks;
+          mapLong = h .long;
+          settings = h .settings;
+          first = pool-below (viewSettings t) (kept .settings);
+          size = pool-small (viewSettings t) (kept .settings);
+          addressMarks = h .addressMarks;
+          addressMapLong = h .addressLong;
+          firstAddress = addresses-below (viewSettings t) (kept .settings);
+          addresses = addresses-few (viewSettings t) (kept .settings);
+        }
+
+-- no more PDRs go than there is room for
+module _ {slot : List ℕ} (stored : List ℕ) (rows : List (List ℕ)) {n : ℕ} (p : Slot slot) (count : n ≡ length (removedPdrs (requestOf false rows) (viewSession slot .pdrs))) (long : length stored ≡ maxPdrs) where
+  pub gone-within : n ≤ length stored
+  gone-within = omega (arith, count, long, gone-few (requestOf false rows) slot p)
+
+  pub gone-part : n ≡ length (take n stored)
+  gone-part = sym (length-take-le n stored gone-within)

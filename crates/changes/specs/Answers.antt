@@ -2,7 +2,7 @@
 -- Assumes nothing.
 use Prim.Native.Nat.{ℕ, _*_, _≤_, _<_, _^_}
 use mathlib.Core.Path.{_≡_}
-use mathlib.Core.Bool.{Bool, true, false}
+use mathlib.Core.Bool.{true, false}
 use mathlib.Core.List.{List, []}
 use lib.Dec.{T, eqb}
 use lib.ListN.{length}
@@ -20,8 +20,9 @@ use Rattle.rules.specs.Serve.{sessionsAfter, replyTo}
 use Rattle.plan.specs.Rows.{rowWidth, rowsOf, tagged, rowCsid, isNullRow, requestIn}
 use Rattle.rules.specs.Types as ie
 use Rattle.rules.specs.Causes as why
-use Rattle.unit.specs.declared.Settings.{Settings as Unit}
 use Rattle.unit.specs.Meaning.{settingsOf}
+use Rattle.stages.specs.declared.Known.{Known}
+use Rattle.stages.specs.declared.Told.{Told}
 use Rattle.reply.specs.declared.Offending.{Offending}
 use Rattle.reply.specs.Naming.{refusal}
 use Rattle.reply.specs.Parts.{WithSeid}
@@ -76,21 +77,19 @@ OnlyNull rows = any isNullRow (tagged ie.fqcsid rows) ≡ true → collect rowCs
 
 -- the verdict is acceptance: the plan is the request's, the slot holds the session at entry, those of its PDRs that go are the rules', and the
 -- maps mark the TEIDs and addresses held
-pub record Accepting (u : Unit) (t : List ℕ) (who : ℕ) (words ips msg slot gone plan out : List ℕ) (seid n : ℕ) : Type 0 where
-  pub asked : Asked t who msg out
-  pub verdict : verdictOn t who msg ≡ plain why.accepted
+pub record Accepting (k : Known) (q : Told) (t words ips msg slot gone plan out : List ℕ) : Type 0 where
+  pub asked : Asked t (k .share .peer) msg out
+  pub verdict : verdictOn t (k .share .peer) msg ≡ plain why.accepted
   pub other : eqb (kindOf msg) deletion ≡ false
-  pub restoring : Bool
-  pub noted : Bool
-  pub means : readRequest msg ≡ requestIn seid restoring noted (rowsOf n plan)
-  pub rows : n * rowWidth ≤ length plan
-  pub onlyNull : OnlyNull (rowsOf n plan)
-  pub entry : slot ≡ sessionOctets (entrySession who (viewSessions t) msg)
+  pub means : readRequest msg ≡ requestIn (q .seid) (q .restoring) (q .noted) (rowsOf (q .rows) plan)
+  pub rows : q .rows * rowWidth ≤ length plan
+  pub onlyNull : OnlyNull (rowsOf (q .rows) plan)
+  pub entry : slot ≡ sessionOctets (entrySession (k .share .peer) (viewSessions t) msg)
   pub slotLong : length slot ≡ sessionWidth
-  pub removed : gone ≡ removedPdrs (readRequest msg) (entrySession who (viewSessions t) msg .pdrs)
+  pub removed : gone ≡ removedPdrs (readRequest msg) (entrySession (k .share .peer) (viewSessions t) msg .pdrs)
   pub marks : words ≡ takenMap (viewSettings t) (viewSessions t)
   pub mapLong : length words ≡ mapWords
-  pub settings : settingsOf u ≡ viewSettings t
+  pub settings : settingsOf (k .u) ≡ viewSettings t
   pub first : viewSettings t .first < 2 ^ 32
   pub size : viewSettings t .size ≤ maxPool
   pub addressMarks : ips ≡ addressMap (viewSettings t) (viewSessions t)

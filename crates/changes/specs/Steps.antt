@@ -23,18 +23,19 @@ use Rattle.areas.specs.declared.Lookup.the-variants.{Found}
 use Rattle.created.specs.Entries.{maxGrants}
 use Rattle.grants.specs.Choosing.{Granted, addressed, lowestAddress, reportPlaces}
 use Rattle.stages.specs.Rules.{Slot, ShareOf}
-use Rattle.stages.specs.declared.Share.{Share}
+use Rattle.stages.specs.declared.Known.{Known}
+use Rattle.stages.specs.declared.Told.{Told}
 use Rattle.changes.specs.Answers.{Asked, Live, verdictOn, OnlyNull}
 
 -- the settings, the maps of taken TEIDs and addresses, the peer's share and the free addresses are the table's
-pub record Counted (u : Unit) (t words : List ℕ) (share : Share) (ips : List ℕ) (left : ℕ) : Type 0 where
-  pub settings : settingsOf u ≡ viewSettings t
+pub record Counted (k : Known) (t words ips : List ℕ) : Type 0 where
+  pub settings : settingsOf (k .u) ≡ viewSettings t
   pub marks : words ≡ takenMap (viewSettings t) (viewSessions t)
   pub long : length words ≡ mapWords
-  pub own : ShareOf (viewSettings t) (viewSessions t) (share .peer) (share .teids) (share .sessions)
+  pub own : ShareOf (viewSettings t) (viewSessions t) (k .share .peer) (k .share .teids) (k .share .sessions)
   pub addressMarks : ips ≡ addressMap (viewSettings t) (viewSessions t)
   pub addressLong : length ips ≡ addressWords
-  pub addressCount : left ≡ freeAddressCount (viewSettings t) (viewSessions t)
+  pub addressCount : k .addresses ≡ freeAddressCount (viewSettings t) (viewSessions t)
 
 -- what giving TEIDs and an address asks: maps with a bit for each number of their pools, and room for the places
 pub record Giving (u : Unit) (teids ips plan places : List ℕ) (n : ℕ) : Type 0 where
@@ -74,26 +75,26 @@ pub record Fetched (t : List ℕ) (room kind who seid p : ℕ) (live : Bool) (sl
   pub old : (kind ≡ establishment → ⊥) → slot ≡ part (p * sessionWidth) sessionWidth (areaIn (tableArea room) t)
 
 -- the session at entry in its slot, and whether the SEID of an establishment is live
-pub record Entered (t : List ℕ) (who : ℕ) (msg : List ℕ) (kind seid : ℕ) (live : Bool) (slot : List ℕ) : Type 0 where
-  pub entry : slot ≡ sessionOctets (entrySession who (viewSessions t) msg)
-  pub viewed : viewSession slot ≡ entrySession who (viewSessions t) msg
+pub record Entered (k : Known) (q : Told) (t msg slot : List ℕ) : Type 0 where
+  pub entry : slot ≡ sessionOctets (entrySession (k .share .peer) (viewSessions t) msg)
+  pub viewed : viewSession slot ≡ entrySession (k .share .peer) (viewSessions t) msg
   pub place : Slot slot
-  pub known : kind ≡ establishment → live ≡ isLive (keyFor who seid) (viewSessions t)
+  pub known : k .kind ≡ establishment → q .live ≡ isLive (keyFor (k .share .peer) (q .seid)) (viewSessions t)
 
 -- a request without a fault, as the rows of its plan, that is not a deletion
-pub record Readable (t : List ℕ) (who : ℕ) (msg out plan : List ℕ) (kind seid n : ℕ) (restoring noted : Bool) : Type 0 where
-  pub asked : Asked t who msg out
-  pub kindIs : kind ≡ kindOf msg
+pub record Readable (k : Known) (q : Told) (t msg out plan : List ℕ) : Type 0 where
+  pub asked : Asked t (k .share .peer) msg out
+  pub kindIs : k .kind ≡ kindOf msg
   pub other : eqb (kindOf msg) deletion ≡ false
-  pub verdict : verdictOn t who msg ≡ judged (viewSettings t) who (viewSessions t) msg
-  pub means : readRequest msg ≡ requestIn seid restoring noted (rowsOf n plan)
-  pub rows : n * rowWidth ≤ length plan
-  pub onlyNull : OnlyNull (rowsOf n plan)
+  pub verdict : verdictOn t (k .share .peer) msg ≡ judged (viewSettings t) (k .share .peer) (viewSessions t) msg
+  pub means : readRequest msg ≡ requestIn (q .seid) (q .restoring) (q .noted) (rowsOf (q .rows) plan)
+  pub rows : q .rows * rowWidth ≤ length plan
+  pub onlyNull : OnlyNull (rowsOf (q .rows) plan)
 
 -- an establishment, or the modification of the session at the place p
-pub record Changing (t : List ℕ) (who : ℕ) (msg out : List ℕ) (kind p : ℕ) : Type 0 where
-  pub asked : Asked t who msg out
-  pub live : Live t who msg
-  pub kindIs : kind ≡ kindOf msg
+pub record Changing (k : Known) (t msg out : List ℕ) (p : ℕ) : Type 0 where
+  pub asked : Asked t (k .share .peer) msg out
+  pub live : Live t (k .share .peer) msg
+  pub kindIs : k .kind ≡ kindOf msg
   pub other : eqb (kindOf msg) deletion ≡ false
-  pub found : (kind ≡ establishment → ⊥) → placeIn (tableArea (viewSettings t .limit)) (keyFor who (headerSeid msg)) t ≡ Found p
+  pub found : (k .kind ≡ establishment → ⊥) → placeIn (tableArea (viewSettings t .limit)) (keyFor (k .share .peer) (headerSeid msg)) t ≡ Found p

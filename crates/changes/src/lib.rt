@@ -21,9 +21,9 @@ use areas::Lookup;
 use format::causes;
 use format::kinds;
 use reply::Offending;
-use request::Plan;
 use request::Reading;
-use stages::Share;
+use stages::Known;
+use stages::Told;
 use unit::Settings;
 
 // A reply: how many octets of the reply space hold it, and the place in the message of a fault of stages 2 and 3, else 0.
@@ -35,17 +35,17 @@ pub struct Replied {
 // The reply of a refusal; the table stays.
 pub fn refuse(
     t: &[u8],
-    u: Settings,
-    peer: u32,
+    k: Known,
     msg: &[u8],
     cause: u64,
     offending: Offending,
     out: &mut [u8],
 ) -> usize
-    requires { ⌜ Asked (now t) peer (now msg) (now out) × Refusing (now t) peer (now msg) (now out) cause offending × (settingsOf u ≡ viewSettings (now t)) ⌝ }
-    ensures { λ r. ⌜ Answers (now (t .entry)) peer (now (msg .entry)) (now (out .entry)) r (now (out .exit)) (now (t .entry)) ⌝ }
+    requires { ⌜ Asked (now t) (k .share .peer) (now msg) (now out) × Refusing (now t) (k .share .peer) (now msg) (now out) cause offending × (settingsOf (k .u) ≡ viewSettings (now t)) ⌝ }
+    ensures { λ r. ⌜ Answers (now (t .entry)) (k .share .peer) (now (msg .entry)) (now (out .entry)) r (now (out .exit)) (now (t .entry)) ⌝ }
 {
-    reply::refused(u, peer, msg, cause as u8, offending, out)
+    let u = k.u;
+    reply::refused(u, k.share.peer, msg, cause as u8, offending, out)
 }
 
 // The session of an accepted request: built in its slot, and the slot stored in a table with so much room.
@@ -78,25 +78,24 @@ fn give(
 // An accepted establishment or modification: the TEIDs and the address, the reply, the session in its slot, and the slot in the table.
 fn accept(
     t: &mut [u8],
-    u: Settings,
-    peer: u32,
+    k: Known,
     words: &[u64],
     ips: &[u64],
     msg: &[u8],
-    seid: u64,
     slot: &mut [u8],
     gone: &[u64],
     plan: &mut [u64],
-    n: usize,
+    q: Told,
     out: &mut [u8],
 ) -> usize
-    requires { ⌜ Accepting u (now t) peer (now words) (now ips) (now msg) (now slot) (now gone) (now plan) (now out) seid n ⌝ }
-    ensures { λ r. ⌜ Answers (now (t .entry)) peer (now (msg .entry)) (now (out .entry)) r (now (out .exit)) (now (t .exit)) ⌝ }
+    requires { ⌜ Accepting k q (now t) (now words) (now ips) (now msg) (now slot) (now gone) (now plan) (now out) ⌝ }
+    ensures { λ r. ⌜ Answers (now (t .entry)) (k .share .peer) (now (msg .entry)) (now (out .entry)) r (now (out .exit)) (now (t .exit)) ⌝ }
 {
+    let u = k.u;
     let mut places = [0usize; format::GRANTS];
-    let k = give(plan, n, u, words, ips, &mut places);
-    let used = reply::accepted(u, peer, msg, seid, plan, &places[..k], out);
-    keep(t, u.limit as usize, slot, gone, plan, n);
+    let n = give(plan, q.rows, u, words, ips, &mut places);
+    let used = reply::accepted(u, k.share.peer, msg, q.seid, plan, &places[..n], out);
+    keep(t, u.limit as usize, slot, gone, plan, q.rows);
     used
 }
 
@@ -114,13 +113,14 @@ fn is_live(t: &[u8], room: usize, peer: u32, seid: u64) -> bool
 
 // Puts the session at entry into its slot: a new one for an establishment, else the one at the place p. The answer is whether the SEID of
 // an establishment is live.
-fn enter(t: &[u8], room: usize, kind: u64, peer: u32, seid: u64, p: usize, slot: &mut [u8]) -> bool
-    requires { ⌜ Fetching (now t) (now slot) room kind seid p ⌝ }
-    ensures { λ r. ⌜ Fetched (now (t .entry)) room kind peer seid p r (now (slot .exit)) ⌝ }
+fn enter(t: &[u8], k: Known, seid: u64, p: usize, slot: &mut [u8]) -> bool
+    requires { ⌜ Fetching (now t) (now slot) (k .u .limit) (k .kind) seid p ⌝ }
+    ensures { λ r. ⌜ Fetched (now (t .entry)) (k .u .limit) (k .kind) (k .share .peer) seid p r (now (slot .exit)) ⌝ }
 {
-    if kind == kinds::ESTABLISHMENT {
-        session::fresh(slot, peer as u64, seid);
-        return is_live(t, room, peer, seid);
+    let room = k.u.limit as usize;
+    if k.kind == kinds::ESTABLISHMENT {
+        session::fresh(slot, k.share.peer as u64, seid);
+        return is_live(t, room, k.share.peer, seid);
     }
     session::load(t, room, format::COUNT, p, slot);
     false
@@ -129,89 +129,45 @@ fn enter(t: &[u8], room: usize, kind: u64, peer: u32, seid: u64, p: usize, slot:
 // Stages 4 to 6 of a request that was read, and what follows. The PDRs that go are named once, for the stages and for the new session.
 fn settle(
     t: &mut [u8],
-    u: Settings,
+    k: Known,
     words: &[u64],
-    share: Share,
     ips: &[u64],
-    left: usize,
     msg: &[u8],
-    kind: u64,
-    live: bool,
     slot: &mut [u8],
     plan: &mut [u64],
-    read: Plan,
+    q: Told,
     out: &mut [u8],
 ) -> usize
-    requires { ⌜ Readable (now t) (share .peer) (now msg) (now out) (now plan) kind (read .seid) (read .rows) (read .restoring) (read .noted) × Counted u (now t) (now words) share (now ips) left × Entered (now t) (share .peer) (now msg) kind (read .seid) live (now slot) ⌝ }
-    ensures { λ r. ⌜ Answers (now (t .entry)) (share .peer) (now (msg .entry)) (now (out .entry)) r (now (out .exit)) (now (t .exit)) ⌝ }
+    requires { ⌜ Readable k q (now t) (now msg) (now out) (now plan) × Counted k (now t) (now words) (now ips) × Entered k q (now t) (now msg) (now slot) ⌝ }
+    ensures { λ r. ⌜ Answers (now (t .entry)) (k .share .peer) (now (msg .entry)) (now (out .entry)) r (now (out .exit)) (now (t .exit)) ⌝ }
 {
     let mut gone = [0u64; format::MAX_PDRS];
-    let k = stages::session::removed(slot, plan, read.rows, &mut gone);
-    let cause = stages::judge(
-        t,
-        u,
-        words,
-        ips,
-        share,
-        left,
-        kind,
-        read.seid,
-        live,
-        slot,
-        &gone[..k],
-        plan,
-        read.rows,
-        read.restoring,
-        read.noted,
-    );
+    let n = stages::session::removed(slot, plan, q.rows, &mut gone);
+    let cause = stages::judge(t, k, words, ips, slot, &gone[..n], plan, q);
     if cause != causes::ACCEPTED {
-        return refuse(t, u, share.peer, msg, cause, Offending::Nothing, out);
+        return refuse(t, k, msg, cause, Offending::Nothing, out);
     }
-    accept(
-        t,
-        u,
-        share.peer,
-        words,
-        ips,
-        msg,
-        read.seid,
-        slot,
-        &gone[..k],
-        plan,
-        read.rows,
-        out,
-    )
+    accept(t, k, words, ips, msg, slot, &gone[..n], plan, q, out)
 }
 
 // An establishment, or the modification of the session at the place p, with room for its plan.
 fn change_with(
     t: &mut [u8],
-    u: Settings,
+    k: Known,
     words: &[u64],
-    share: Share,
     ips: &[u64],
-    left: usize,
     msg: &[u8],
-    kind: u64,
     p: usize,
     plan: &mut [u64],
     out: &mut [u8],
 ) -> Replied
-    requires { ⌜ Changing (now t) (share .peer) (now msg) (now out) kind p × Counted u (now t) (now words) share (now ips) left × RoomFor (length (now msg) - 16) (now plan) ⌝ }
-    ensures { λ r. ⌜ Replies (now (t .entry)) (share .peer) (now (msg .entry)) (now (out .entry)) (r .used) (r .place) (now (out .exit)) (now (t .exit)) ⌝ }
+    requires { ⌜ Changing k (now t) (now msg) (now out) p × Counted k (now t) (now words) (now ips) × RoomFor (length (now msg) - 16) (now plan) ⌝ }
+    ensures { λ r. ⌜ Replies (now (t .entry)) (k .share .peer) (now (msg .entry)) (now (out .entry)) (r .used) (r .place) (now (out .exit)) (now (t .exit)) ⌝ }
 {
     let reading = request::read_request(msg, plan);
     match reading {
         Reading::Fault(cause, element, place) => {
-            let used = refuse(
-                t,
-                u,
-                share.peer,
-                msg,
-                cause,
-                Offending::Element(element),
-                out,
-            );
+            let used = refuse(t, k, msg, cause, Offending::Element(element), out);
             return Replied {
                 used: used,
                 place: place,
@@ -219,30 +175,15 @@ fn change_with(
         }
         Reading::Whole(read) => {
             let mut slot = [0u8; format::SLOT];
-            let live = enter(
-                t,
-                u.limit as usize,
-                kind,
-                share.peer,
-                read.seid,
-                p,
-                &mut slot,
-            );
-            let used = settle(
-                t,
-                u,
-                words,
-                share,
-                ips,
-                left,
-                msg,
-                kind,
-                live,
-                &mut slot,
-                plan,
-                read,
-                out,
-            );
+            let live = enter(t, k, read.seid, p, &mut slot);
+            let told = Told {
+                seid: read.seid,
+                live: live,
+                rows: read.rows,
+                restoring: read.restoring,
+                noted: read.noted,
+            };
+            let used = settle(t, k, words, ips, msg, &mut slot, plan, told, out);
             return Replied {
                 used: used,
                 place: 0,
@@ -254,84 +195,72 @@ fn change_with(
 // The same of a short message. Each of these has its plan in a frame of its own.
 fn change_short(
     t: &mut [u8],
-    u: Settings,
+    k: Known,
     words: &[u64],
-    share: Share,
     ips: &[u64],
-    left: usize,
     msg: &[u8],
-    kind: u64,
     p: usize,
     out: &mut [u8],
 ) -> Replied
-    requires { ⌜ Changing (now t) (share .peer) (now msg) (now out) kind p × Counted u (now t) (now words) share (now ips) left × (length (now msg) ≤ 374) ⌝ }
-    ensures { λ r. ⌜ Replies (now (t .entry)) (share .peer) (now (msg .entry)) (now (out .entry)) (r .used) (r .place) (now (out .exit)) (now (t .exit)) ⌝ }
+    requires { ⌜ Changing k (now t) (now msg) (now out) p × Counted k (now t) (now words) (now ips) × (length (now msg) ≤ 374) ⌝ }
+    ensures { λ r. ⌜ Replies (now (t .entry)) (k .share .peer) (now (msg .entry)) (now (out .entry)) (r .used) (r .place) (now (out .exit)) (now (t .exit)) ⌝ }
 {
     let mut plan = [0u64; format::SHORT_PLAN];
-    change_with(t, u, words, share, ips, left, msg, kind, p, &mut plan, out)
+    change_with(t, k, words, ips, msg, p, &mut plan, out)
 }
 
 // The same of a message of middle length.
 fn change_middle(
     t: &mut [u8],
-    u: Settings,
+    k: Known,
     words: &[u64],
-    share: Share,
     ips: &[u64],
-    left: usize,
     msg: &[u8],
-    kind: u64,
     p: usize,
     out: &mut [u8],
 ) -> Replied
-    requires { ⌜ Changing (now t) (share .peer) (now msg) (now out) kind p × Counted u (now t) (now words) share (now ips) left × (length (now msg) ≤ 1094) ⌝ }
-    ensures { λ r. ⌜ Replies (now (t .entry)) (share .peer) (now (msg .entry)) (now (out .entry)) (r .used) (r .place) (now (out .exit)) (now (t .exit)) ⌝ }
+    requires { ⌜ Changing k (now t) (now msg) (now out) p × Counted k (now t) (now words) (now ips) × (length (now msg) ≤ 1094) ⌝ }
+    ensures { λ r. ⌜ Replies (now (t .entry)) (k .share .peer) (now (msg .entry)) (now (out .entry)) (r .used) (r .place) (now (out .exit)) (now (t .exit)) ⌝ }
 {
     let mut plan = [0u64; format::MIDDLE_PLAN];
-    change_with(t, u, words, share, ips, left, msg, kind, p, &mut plan, out)
+    change_with(t, k, words, ips, msg, p, &mut plan, out)
 }
 
 // The same of any message.
 fn change_long(
     t: &mut [u8],
-    u: Settings,
+    k: Known,
     words: &[u64],
-    share: Share,
     ips: &[u64],
-    left: usize,
     msg: &[u8],
-    kind: u64,
     p: usize,
     out: &mut [u8],
 ) -> Replied
-    requires { ⌜ Changing (now t) (share .peer) (now msg) (now out) kind p × Counted u (now t) (now words) share (now ips) left ⌝ }
-    ensures { λ r. ⌜ Replies (now (t .entry)) (share .peer) (now (msg .entry)) (now (out .entry)) (r .used) (r .place) (now (out .exit)) (now (t .exit)) ⌝ }
+    requires { ⌜ Changing k (now t) (now msg) (now out) p × Counted k (now t) (now words) (now ips) ⌝ }
+    ensures { λ r. ⌜ Replies (now (t .entry)) (k .share .peer) (now (msg .entry)) (now (out .entry)) (r .used) (r .place) (now (out .exit)) (now (t .exit)) ⌝ }
 {
     let mut plan = [0u64; format::PLAN];
-    change_with(t, u, words, share, ips, left, msg, kind, p, &mut plan, out)
+    change_with(t, k, words, ips, msg, p, &mut plan, out)
 }
 
 // The same, with a plan by the message's length: a short one is soon cleared.
 pub fn change(
     t: &mut [u8],
-    u: Settings,
+    k: Known,
     words: &[u64],
-    share: Share,
     ips: &[u64],
-    left: usize,
     msg: &[u8],
-    kind: u64,
     p: usize,
     out: &mut [u8],
 ) -> Replied
-    requires { ⌜ Changing (now t) (share .peer) (now msg) (now out) kind p × Counted u (now t) (now words) share (now ips) left ⌝ }
-    ensures { λ r. ⌜ Replies (now (t .entry)) (share .peer) (now (msg .entry)) (now (out .entry)) (r .used) (r .place) (now (out .exit)) (now (t .exit)) ⌝ }
+    requires { ⌜ Changing k (now t) (now msg) (now out) p × Counted k (now t) (now words) (now ips) ⌝ }
+    ensures { λ r. ⌜ Replies (now (t .entry)) (k .share .peer) (now (msg .entry)) (now (out .entry)) (r .used) (r .place) (now (out .exit)) (now (t .exit)) ⌝ }
 {
     if msg.len() <= format::SHORT {
-        return change_short(t, u, words, share, ips, left, msg, kind, p, out);
+        return change_short(t, k, words, ips, msg, p, out);
     }
     if msg.len() <= format::MIDDLE {
-        return change_middle(t, u, words, share, ips, left, msg, kind, p, out);
+        return change_middle(t, k, words, ips, msg, p, out);
     }
-    change_long(t, u, words, share, ips, left, msg, kind, p, out)
+    change_long(t, k, words, ips, msg, p, out)
 }

@@ -20,7 +20,7 @@ use Rattle.rules.specs.Serve.{unserved, replyTo, answered, answer, serveSound, 
 use Rattle.laws.proofs.KeptRules.{table-kept}
 use Rattle.frame.specs.HeaderOf.{outcome, request, sets, opened, headerOf}
 use Rattle.frame.specs.declared.header.Header.{Header}
-use Rattle.frame.specs.declared.header.Header.the-variants.{Request, Sets}
+use Rattle.frame.specs.declared.header.Header.the-variants.{TooLong, Malformed, NotServed, Request, Sets}
 use Rattle.laws.proofs.HeaderLaws.{seid-there, seid-absent, long-there, long-absent}
 use Rattle.frame.proofs.HeaderLaws.{Opens, request-opens, sets-opens, request-is, sets-is}
 use Rattle.frame.proofs.ServeLaws.{header-outcome, header-answered}
@@ -55,8 +55,8 @@ module _ {t : List ℕ} {r : Walked} {w ips : List ℕ} (x : Examined t r w ips)
       let n = numbers t r w ips x one two first held e in
       record { table = of-true (sym (sound-yes t r w ips x one two first held e)); settings = z; firstHolds = n .0; secondHolds = n .1; firstSessions = n .2 }
 
-  pub counts : {who : ℕ} {share : Share} → length w ≡ mapWords → length ips ≡ addressWords → (share .peer ≡ who) × ShareOf (viewSettings t) (viewSessions t) who (share .teids) (share .sessions)
-      → Counted u t w share ips (u .addresses - held)
+  pub counts : {who kind seid : ℕ} {share : Share} → length w ≡ mapWords → length ips ≡ addressWords → (share .peer ≡ who) × ShareOf (viewSettings t) (viewSessions t) who (share .teids) (share .sessions)
+      → Counted (record { u = u; share = share; addresses = u .addresses - held; kind = kind; seid = seid }) t w ips
   unfolding freeAddressCount
   counts {share = share} l k part =
       record {
@@ -135,6 +135,15 @@ module _ (t : List ℕ) (who : ℕ) (msg out : List ℕ) where
           pub serves-outcome : {o u p : ℕ} (g : Header) (n : ℕ) → eqb n 0 ≡ false → opened g ≡ outcome n → h ≡ g → (o ≡ n) × (u ≡ 0) × (p ≡ 0) → Serves t who msg out o u p out t
           serves-outcome g n z q d a =
               without-reply n z (after-sound ∙ header-outcome msg (viewSettings t) who (viewSessions t) t out room n (sym q ∙ sym (ap opened d) ∙ is)) a
+
+          pub serves-long : {o u p : ℕ} → h ≡ TooLong → (o ≡ 3) × (u ≡ 0) × (p ≡ 0) → Serves t who msg out o u p out t
+          serves-long = serves-outcome TooLong 3 refl refl
+
+          pub serves-malformed : {o u p : ℕ} → h ≡ Malformed → (o ≡ 4) × (u ≡ 0) × (p ≡ 0) → Serves t who msg out o u p out t
+          serves-malformed = serves-outcome Malformed 4 refl refl
+
+          pub serves-other : {o u p : ℕ} → h ≡ NotServed → (o ≡ 5) × (u ≡ 0) × (p ≡ 0) → Serves t who msg out o u p out t
+          serves-other = serves-outcome NotServed 5 refl refl
 
           module _ (d : h ≡ Sets) where
             is-sets : sets ≡ headerOf msg

@@ -17,29 +17,26 @@ use frame::Framing;
 use frame::header::Header;
 use pool::Taken;
 use reply::Offending;
-use stages::Share;
-use unit::Settings;
+use stages::Known;
 
 mod set_deletion;
 mod shares;
 
-// The addresses of the pool at entry: the map of taken ones, and how many are free.
+// The map of the pool's taken addresses at entry.
 struct TakenAddresses {
     words: [u64; pool::ADDRESS_WORDS],
-    free: usize,
 }
 
 // A deletion of a live session.
-fn delete(t: &mut [u8], u: Settings, peer: u32, msg: &[u8], seid: u64, out: &mut [u8]) -> Replied
-    requires { ⌜ Asked (now t) peer (now msg) (now out) × Live (now t) peer (now msg) × (kindOf (now msg) ≡ deletion) × (seid ≡ headerSeid (now msg)) × (settingsOf u ≡ viewSettings (now t)) ⌝ }
-    ensures { λ r. ⌜ Replies (now (t .entry)) peer (now (msg .entry)) (now (out .entry)) (r .used) (r .place) (now (out .exit)) (now (t .exit)) ⌝ }
+fn delete(t: &mut [u8], k: Known, msg: &[u8], out: &mut [u8]) -> Replied
+    requires { ⌜ Asked (now t) (k .share .peer) (now msg) (now out) × Live (now t) (k .share .peer) (now msg) × (kindOf (now msg) ≡ deletion) × (k .seid ≡ headerSeid (now msg)) × (settingsOf (k .u) ≡ viewSettings (now t)) ⌝ }
+    ensures { λ r. ⌜ Replies (now (t .entry)) (k .share .peer) (now (msg .entry)) (now (out .entry)) (r .used) (r .place) (now (out .exit)) (now (t .exit)) ⌝ }
 {
     let framing = frame::frame_fault(msg);
     if let Framing::Fault(kind, place) = framing {
         let used = changes::refuse(
             t,
-            u,
-            peer,
+            k,
             msg,
             causes::WRONG_LENGTH,
             Offending::Element(kind),
@@ -50,10 +47,17 @@ fn delete(t: &mut [u8], u: Settings, peer: u32, msg: &[u8], seid: u64, out: &mut
             place: place,
         };
     }
+    let u = k.u;
     let plan = [0u64; 1];
     let places = [0usize; 1];
-    let used = reply::accepted(u, peer, msg, 0, &plan[0..0], &places[0..0], out);
-    session::remove(t, u.limit as usize, format::COUNT, peer as u64, seid);
+    let used = reply::accepted(u, k.share.peer, msg, 0, &plan[0..0], &places[0..0], out);
+    session::remove(
+        t,
+        u.limit as usize,
+        format::COUNT,
+        k.share.peer as u64,
+        k.seid,
+    );
     Replied {
         used: used,
         place: 0,
@@ -63,47 +67,37 @@ fn delete(t: &mut [u8], u: Settings, peer: u32, msg: &[u8], seid: u64, out: &mut
 // A request whose header is allowed. The maps come by value and are lent on; a deletion reads neither, so it copies neither.
 fn answer(
     t: &mut [u8],
-    u: Settings,
+    k: Known,
     taken: Taken,
-    share: Share,
     addresses: TakenAddresses,
     msg: &[u8],
-    kind: u64,
-    seid: u64,
     out: &mut [u8],
 ) -> Replied
-    requires { ⌜ Asked (now t) (share .peer) (now msg) (now out) × Counted u (now t) (taken .words) share (addresses .words) (addresses .free) × (kind ≡ kindOf (now msg)) × (seid ≡ headerSeid (now msg)) ⌝ }
-    ensures { λ r. ⌜ Replies (now (t .entry)) (share .peer) (now (msg .entry)) (now (out .entry)) (r .used) (r .place) (now (out .exit)) (now (t .exit)) ⌝ }
+    requires { ⌜ Asked (now t) (k .share .peer) (now msg) (now out) × Counted k (now t) (taken .words) (addresses .words) × (k .kind ≡ kindOf (now msg)) × (k .seid ≡ headerSeid (now msg)) ⌝ }
+    ensures { λ r. ⌜ Replies (now (t .entry)) (k .share .peer) (now (msg .entry)) (now (out .entry)) (r .used) (r .place) (now (out .exit)) (now (t .exit)) ⌝ }
 {
-    if kind == kinds::ESTABLISHMENT {
+    if k.kind == kinds::ESTABLISHMENT {
         let words = taken.words;
         let ips = addresses.words;
-        return changes::change(t, u, &words, share, &ips, addresses.free, msg, kind, 0, out);
+        return changes::change(t, k, &words, &ips, msg, 0, out);
     }
-    let place = session::find(t, u.limit as usize, format::COUNT, share.peer as u64, seid);
+    let room = k.u.limit as usize;
+    let place = session::find(t, room, format::COUNT, k.share.peer as u64, k.seid);
     match place {
         Lookup::Absent(p) => {
-            let used = changes::refuse(
-                t,
-                u,
-                share.peer,
-                msg,
-                causes::NO_SESSION,
-                Offending::Nothing,
-                out,
-            );
+            let used = changes::refuse(t, k, msg, causes::NO_SESSION, Offending::Nothing, out);
             return Replied {
                 used: used,
                 place: 0,
             };
         }
         Lookup::Found(p) => {
-            if kind == kinds::DELETION {
-                return delete(t, u, share.peer, msg, seid, out);
+            if k.kind == kinds::DELETION {
+                return delete(t, k, msg, out);
             }
             let words = taken.words;
             let ips = addresses.words;
-            return changes::change(t, u, &words, share, &ips, addresses.free, msg, kind, p, out);
+            return changes::change(t, k, &words, &ips, msg, p, out);
         }
     }
 }
@@ -158,19 +152,19 @@ fn serve_of(t: &mut [u8], peer: u32, msg: &[u8], out: &mut [u8]) -> Served
         Header::Request(kind, seid) => {
             let share = shares::share(t, u, peer, one, two, first);
             let free = u.addresses as usize - held;
-            let left = TakenAddresses {
-                words: ips,
-                free: free,
+            let known = Known {
+                u: u,
+                share: share,
+                addresses: free,
+                kind: kind,
+                seid: seid,
             };
             let replied = answer(
                 t,
-                u,
+                known,
                 Taken { words: words },
-                share,
-                left,
+                TakenAddresses { words: ips },
                 msg,
-                kind,
-                seid,
                 out,
             );
             return Served {

@@ -1,14 +1,14 @@
 -- What a caller knows of the session at entry and of the settings gives what stages 4 and 5 ask. Assumes nothing.
 use mathlib.Core.Path.{_≡_, sym, ap, _∙_, subst}
-use mathlib.Core.Bool.{Bool, false}
+use mathlib.Core.Bool.{false}
 use mathlib.Core.List.{List}
-use Prim.Native.Nat.{ℕ, _*_, _≤_}
+use Prim.Native.Nat.{ℕ, _+_, _*_, _≤_}
 use native.Mathlib.Omega.{arith}
 use lib.Dec.{T, leb→le}
 use lib.ListN.{length, take, drop, getD, replicate, length-map}
 use lib.Seq.{sets}
 use Rattle.octets.specs.Octets.{octetAt, slices}
-use Rattle.octets.specs.Lists.{keep}
+use Rattle.octets.specs.Lists.{keep, member}
 use Rattle.octets.proofs.Ordered.{keep-length}
 use Rattle.octets.proofs.Numbers.{length-slices}
 use Rattle.octets.proofs.Loops.{stored}
@@ -23,8 +23,12 @@ use Rattle.laws.proofs.KeptRules.{session-kept, table-kept}
 use Rattle.laws.proofs.KeptSettings.{settings-kept}
 use Rattle.plan.specs.Rows.{rowWidth, rowsOf}
 use Rattle.plan.specs.RowRules.{requestOf}
+use Rattle.pool.specs.Map.{marked}
 use Rattle.pool.proofs.TakenLaws.{Means}
 use Rattle.pool.proofs.AddressLaws.{addresses-fit}
+use Rattle.unit.specs.Meaning.{settingsOf}
+use Rattle.stages.specs.declared.Known.{Known}
+use Rattle.stages.specs.declared.Told.{Told}
 use Rattle.stages.specs.Rules.{Slot, Gone, ShareOf, AtEntry}
 
 -- ---- the slot
@@ -78,25 +82,24 @@ pool-wide s words h e = omega (arith, settings-kept s h .pool .few)
 
 -- ---- a sound table, with its maps and free counts
 
-pub at-entry : (s : Settings) (t taken addresses slot gone plan : List ℕ) (n who teids sessions freed kind seid : ℕ) (live : Bool) → s ≡ viewSettings t → T (sound t) → Slot slot → n * rowWidth ≤ length plan → Gone slot (rowsOf n plan) gone
+pub at-entry : {k : Known} {q : Told} {t taken addresses slot gone plan : List ℕ} → settingsOf (k .u) ≡ viewSettings t → T (sound t) → Slot slot → q .rows * rowWidth ≤ length plan → Gone slot (rowsOf (q .rows) plan) gone
     → length taken ≡ mapWords → Means (viewSettings t .first) taken (heldTeids (viewSessions t))
-    → ShareOf (viewSettings t) (viewSessions t) who teids sessions
+    → ShareOf (viewSettings t) (viewSessions t) (k .share .peer) (k .share .teids) (k .share .sessions)
     → length addresses ≡ addressWords → Means (viewSettings t .firstAddress) addresses (heldAddresses (viewSettings t) (viewSessions t))
-    → freed ≡ freeAddressCount (viewSettings t) (viewSessions t)
-    → (kind ≡ establishment → live ≡ isLive (keyFor who seid) (viewSessions t))
-    → AtEntry s t taken addresses slot gone plan n who teids sessions freed kind seid live
-at-entry s t taken addresses slot gone plan n who teids sessions freed kind seid live same h place rows removed words means count wordsA meansA countA known =
+    → k .addresses ≡ freeAddressCount (viewSettings t) (viewSessions t)
+    → (k .kind ≡ establishment → q .live ≡ isLive (keyFor (k .share .peer) (q .seid)) (viewSessions t))
+    → AtEntry k q t taken addresses slot gone plan
+at-entry {k} {q} {t} {taken} {addresses} {slot} {gone} {plan} same h place rows removed words means count wordsA meansA countA known =
     let settings = table-kept t h .settings in
-    subst (λ (x : Settings). AtEntry x t taken addresses slot gone plan n who teids sessions freed kind seid live) (sym same)
-    (record {
+    record {
       place = place;
       rows = rows;
       removed = removed;
-      wide = pool-wide (viewSettings t) taken settings words;
-      marks = λ i below. means i;
-      share = count;
-      wideAddresses = omega (arith, wordsA, addresses-fit (viewSettings t) settings);
-      marksAddresses = λ i below. meansA i;
-      countAddresses = countA;
+      wide = subst (λ (x : Settings). x .size ≤ 64 * length taken) (sym same) (pool-wide (viewSettings t) taken settings words);
+      marks = λ i below. subst (λ (x : Settings). marked taken i ≡ member (x .first + i) (heldTeids (viewSessions t))) (sym same) (means i);
+      share = subst (λ (x : Settings). ShareOf x (viewSessions t) (k .share .peer) (k .share .teids) (k .share .sessions)) (sym same) count;
+      wideAddresses = subst (λ (x : Settings). x .addressCount ≤ 64 * length addresses) (sym same) (omega (arith, wordsA, addresses-fit (viewSettings t) settings));
+      marksAddresses = λ i below. subst (λ (x : Settings). marked addresses i ≡ member (x .firstAddress + i) (heldAddresses x (viewSessions t))) (sym same) (meansA i);
+      countAddresses = countA ∙ ap (λ (x : Settings). freeAddressCount x (viewSessions t)) (sym same);
       known = known;
-    })
+    }

@@ -17,6 +17,9 @@ use Rattle.plan.specs.RowRules.{heldIn, markedAddress}
 use Rattle.plan.proofs.RequestLaws.{invalid-rows, unsupported-rows}
 use Rattle.plan.proofs.UeLaws.{choose-rows}
 use Rattle.plan.proofs.NeededLaws.{needed-rows}
+use Rattle.unit.specs.Meaning.{settingsOf}
+use Rattle.stages.specs.declared.Known.{Known}
+use Rattle.stages.specs.declared.Told.{Told}
 use Rattle.stages.specs.Rules.{AtEntry, breaksRuleBy}
 use Rattle.stages.proofs.CauseLaws.{breaks-by, map-agrees, addresses-agree, rule-rows}
 
@@ -93,7 +96,31 @@ module _ (a b c d e f : Bool) where
             unfolding chain
             is-1 h = rw (p, q, r, s, t, h)
 
-module _ {s : Settings} {t taken addresses slot gone plan : List ℕ} {n who teids sessions freed kind seid : ℕ} {live : Bool} (restoring noted : Bool) (known : AtEntry s t taken addresses slot gone plan n who teids sessions freed kind seid live) where
+module _ {k : Known} {q : Told} {t taken addresses slot gone plan : List ℕ} (known : AtEntry k q t taken addresses slot gone plan) where
+  abbrev s : Settings
+  s = settingsOf (k .u)
+
+  abbrev who : ℕ
+  who = k .share .peer
+
+  abbrev kind : ℕ
+  kind = k .kind
+
+  abbrev seid : ℕ
+  seid = q .seid
+
+  abbrev live : Bool
+  live = q .live
+
+  abbrev n : ℕ
+  n = q .rows
+
+  abbrev restoring : Bool
+  restoring = q .restoring
+
+  abbrev noted : Bool
+  noted = q .noted
+
   live-same : (eqb kind establishment && live) ≡ (eqb kind establishment && isLive (keyFor who seid) (viewSessions t))
   live-same = one (eqb kind establishment) refl
     where

@@ -17,6 +17,9 @@ use Rattle.rules.specs.Request.{Request}
 use Rattle.rules.specs.Sound.{agree, due}
 use Rattle.rules.specs.Stages.{needed, tooFewTeids, isLive, removedPdrs, requestRules, restoredHoldings, restoredAddresses}
 use Rattle.rules.specs.Message.{establishment}
+use Rattle.unit.specs.Meaning.{settingsOf}
+use Rattle.stages.specs.declared.Known.{Known}
+use Rattle.stages.specs.declared.Told.{Told}
 
 -- a restored TEID that is held, or shared against the table's rule
 unfoldable pub clashBy : (ℕ → Bool) → Request → Bool
@@ -48,17 +51,17 @@ roomBy limit size own due = pick (ltb (size - (own + due)) (limit - own)) (size 
 unfoldable pub roomFor : Settings → ℕ → Sessions → ℕ
 roomFor s who m = roomBy (peerOf s who .limit) (s .size) (holdings who m) (due s (otherPeer who) m)
 
--- What is known before stages 4 and 5, s being the settings: each map, of TEIDs and of addresses, has a bit for each number of its pool, set
--- where a session holds the number; the removed PDRs are the rules', the peer's share and the free addresses are the rules', and for an
--- establishment (50) it is known whether the SEID is live.
-pub record AtEntry (s : Settings) (t taken addresses slot gone plan : List ℕ) (n who teids sessions freeAddresses kind seid : ℕ) (live : Bool) : Type 0 where
+-- What is known before stages 4 and 5: each map, of TEIDs and of addresses, has a bit for each number of its pool, set where a session holds the
+-- number; the removed PDRs are the rules', the peer's share and the free addresses are the rules', and for an establishment (50) it is known whether
+-- the SEID is live.
+pub record AtEntry (k : Known) (q : Told) (t taken addresses slot gone plan : List ℕ) : Type 0 where
   pub place : Slot slot
-  pub rows : n * rowWidth ≤ length plan
-  pub removed : Gone slot (rowsOf n plan) gone
-  pub wide : s .size ≤ 64 * length taken
-  pub marks : (i : ℕ) → i < s .size → marked taken i ≡ member (s .first + i) (heldTeids (viewSessions t))
-  pub share : ShareOf s (viewSessions t) who teids sessions
-  pub wideAddresses : s .addressCount ≤ 64 * length addresses
-  pub marksAddresses : (i : ℕ) → i < s .addressCount → marked addresses i ≡ member (s .firstAddress + i) (heldAddresses s (viewSessions t))
-  pub countAddresses : freeAddresses ≡ freeAddressCount s (viewSessions t)
-  pub known : kind ≡ establishment → live ≡ isLive (keyFor who seid) (viewSessions t)
+  pub rows : q .rows * rowWidth ≤ length plan
+  pub removed : Gone slot (rowsOf (q .rows) plan) gone
+  pub wide : settingsOf (k .u) .size ≤ 64 * length taken
+  pub marks : (i : ℕ) → i < settingsOf (k .u) .size → marked taken i ≡ member (settingsOf (k .u) .first + i) (heldTeids (viewSessions t))
+  pub share : ShareOf (settingsOf (k .u)) (viewSessions t) (k .share .peer) (k .share .teids) (k .share .sessions)
+  pub wideAddresses : settingsOf (k .u) .addressCount ≤ 64 * length addresses
+  pub marksAddresses : (i : ℕ) → i < settingsOf (k .u) .addressCount → marked addresses i ≡ member (settingsOf (k .u) .firstAddress + i) (heldAddresses (settingsOf (k .u)) (viewSessions t))
+  pub countAddresses : k .addresses ≡ freeAddressCount (settingsOf (k .u)) (viewSessions t)
+  pub known : k .kind ≡ establishment → q .live ≡ isLive (keyFor (k .share .peer) (q .seid)) (viewSessions t)

@@ -30,6 +30,26 @@ pub struct Share {
     pub sessions: usize,
 }
 
+// What is known of a request from its header on: the settings, what its peer has, how many addresses are free at entry, its type, and the SEID of
+// its header.
+pub struct Known {
+    pub u: Settings,
+    pub share: Share,
+    pub addresses: usize,
+    pub kind: u64,
+    pub seid: u64,
+}
+
+// What reading it added: the SEID of its F-SEID and whether that is live, which counts for an establishment; how many rows its plan has, whether it
+// is a restoration, and whether element 129 was met.
+pub struct Told {
+    pub seid: u64,
+    pub live: bool,
+    pub rows: usize,
+    pub restoring: bool,
+    pub noted: bool,
+}
+
 // Cause 73: does one of the n rows break a rule?
 fn breaks_rows(
     plan: &[u64],
@@ -119,31 +139,22 @@ fn too_many(live: usize, limit: usize, removed: usize, plan: &[u64], n: usize, n
 }
 
 // Would an establishment be one session too many for its peer?
-fn full(t: &[u8], u: Settings, share: Share, kind: u64) -> bool
-    requires { ⌜ share .sessions ≡ length (ofPeer (share .peer) (viewSessions (now t))) ⌝ }
-    ensures { λ r. ⌜ r ≡ tooManySessions (settingsOf u) (share .peer) kind (viewSessions (now (t .entry))) ⌝ }
+fn full(t: &[u8], k: Known) -> bool
+    requires { ⌜ k .share .sessions ≡ length (ofPeer (k .share .peer) (viewSessions (now t))) ⌝ }
+    ensures { λ r. ⌜ r ≡ tooManySessions (settingsOf (k .u)) (k .share .peer) (k .kind) (viewSessions (now (t .entry))) ⌝ }
 {
-    if kind != kinds::ESTABLISHMENT {
+    if k.kind != kinds::ESTABLISHMENT {
         return false;
     }
-    u.limit / 2 <= share.sessions as u64
+    k.u.limit / 2 <= k.share.sessions as u64
 }
 
 // Cause 75: more sessions of the peer than half the settings' limit, 16 PDRs or 8 endpoints would result, or more TEIDs are needed than the peer may take.
-pub fn no_room(
-    t: &[u8],
-    u: Settings,
-    share: Share,
-    kind: u64,
-    slot: &[u8],
-    gone: &[u64],
-    plan: &[u64],
-    n: usize,
-) -> bool
-    requires { ⌜ ShareOf (settingsOf u) (viewSessions (now t)) (share .peer) (share .teids) (share .sessions) × Slot (now slot) × (n * rowWidth ≤ length (now plan)) × Gone (now slot) (rowsOf n (now plan)) (now gone) ⌝ }
-    ensures { λ r. ⌜ r ≡ roomLacks kind (settingsOf u) (share .peer) (viewSessions (now (t .entry))) (viewSession (now (slot .entry))) (requestOf false (rowsOf n (now (plan .entry)))) ⌝ }
+pub fn no_room(t: &[u8], k: Known, slot: &[u8], gone: &[u64], plan: &[u64], n: usize) -> bool
+    requires { ⌜ ShareOf (settingsOf (k .u)) (viewSessions (now t)) (k .share .peer) (k .share .teids) (k .share .sessions) × Slot (now slot) × (n * rowWidth ≤ length (now plan)) × Gone (now slot) (rowsOf n (now plan)) (now gone) ⌝ }
+    ensures { λ r. ⌜ r ≡ roomLacks (k .kind) (settingsOf (k .u)) (k .share .peer) (viewSessions (now (t .entry))) (viewSession (now (slot .entry))) (requestOf false (rowsOf n (now (plan .entry)))) ⌝ }
 {
-    if full(t, u, share, kind) {
+    if full(t, k) {
         return true;
     }
     if too_many(
@@ -166,7 +177,7 @@ pub fn no_room(
     ) {
         return true;
     }
-    share.teids < plan::needed(plan, n)
+    k.share.teids < plan::needed(plan, n)
 }
 
 // Cause 79: a record chooses an address, and none is free at entry.
@@ -190,43 +201,37 @@ fn already_live(kind: u64, live: bool) -> bool
     live
 }
 
-// The cause of stages 4 to 6, 1 where there is none. seid is the F-SEID's, and live says whether its session is: for an establishment.
+// The cause of stages 4 to 6, 1 where there is none.
 pub fn judge(
     t: &[u8],
-    u: Settings,
+    k: Known,
     taken: &[u64],
     addresses: &[u64],
-    share: Share,
-    free_addresses: usize,
-    kind: u64,
-    seid: u64,
-    live: bool,
     slot: &[u8],
     gone: &[u64],
     plan: &[u64],
-    n: usize,
-    restoring: bool,
-    noted: bool,
+    q: Told,
 ) -> u64
-    requires { ⌜ AtEntry (settingsOf u) (now t) (now taken) (now addresses) (now slot) (now gone) (now plan) n (share .peer) (share .teids) (share .sessions) «free_addresses» kind seid live ⌝ }
-    ensures { λ r. ⌜ r ≡ judge kind (settingsOf u) (share .peer) (viewSessions (now (t .entry))) (viewSession (now (slot .entry))) (requestIn seid restoring noted (rowsOf n (now (plan .entry)))) .cause ⌝ }
+    requires { ⌜ AtEntry k q (now t) (now taken) (now addresses) (now slot) (now gone) (now plan) ⌝ }
+    ensures { λ r. ⌜ r ≡ judge (k .kind) (settingsOf (k .u)) (k .share .peer) (viewSessions (now (t .entry))) (viewSession (now (slot .entry))) (requestIn (q .seid) (q .restoring) (q .noted) (rowsOf (q .rows) (now (plan .entry)))) .cause ⌝ }
 {
-    if already_live(kind, live) {
+    let u = k.u;
+    if already_live(k.kind, q.live) {
         return causes::REJECTED;
     }
-    if plan::invalid_allocation(plan, n, restoring) {
+    if plan::invalid_allocation(plan, q.rows, q.restoring) {
         return causes::WRONG_ALLOCATION;
     }
-    if plan::unsupported(plan, n, noted) {
+    if plan::unsupported(plan, q.rows, q.noted) {
         return causes::NOT_SUPPORTED;
     }
-    if breaks_rule(u, taken, addresses, slot, gone, plan, n, restoring) {
+    if breaks_rule(u, taken, addresses, slot, gone, plan, q.rows, q.restoring) {
         return causes::BROKEN_RULE;
     }
-    if no_room(t, u, share, kind, slot, gone, plan, n) {
+    if no_room(t, k, slot, gone, plan, q.rows) {
         return causes::NO_ROOM;
     }
-    if no_address(t, u, free_addresses, plan, n) {
+    if no_address(t, u, k.addresses, plan, q.rows) {
         return causes::NO_ADDRESS;
     }
     causes::ACCEPTED

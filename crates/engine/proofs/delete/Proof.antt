@@ -3,8 +3,7 @@ use borrow.Author.Needs.{needs}
 use Rattle.octets.specs.Lists.{all}
 use mathlib.Core.Path.{refl}
 use native.Mathlib.Omega.{arith}
-use Rattle.unit.proofs.FieldLaws.{limit-is}
-use Rattle.changes.proofs.Entering.{long-by}
+use Rattle.engine.proofs.Answering.{table-room}
 use Rattle.engine.proofs.Deleted.{deleted-through}
 use Rattle.engine.proofs.Faults.{frame-asks, frame-replies}
 use Rattle.engine.proofs.delete.Statement.{statement}
@@ -21,10 +20,7 @@ unfolding all
 accepted-requires c κs = (search needs, search needs, omega arith, tt, refl, search needs)
 
 remove-requires : tie.Need-remove-requires
-remove-requires c κs =
-    let p = c .before .before .before .before .before .before .before .before .before .before .before .before .before .before .before .pre in
-    let long = long-by _ _ (limit-is _ _ (p .4)) (p .0 .tableLong) in
-    omega arith
+remove-requires c κs = search table-room
 
 returns-2 : tie.Need-returns-2
 returns-2 c = search deleted-through
@@ -47,6 +43,7 @@ delete-spec =
     (λ c. search needs)
     (λ c. search needs)
     accepted-requires
+    (λ c. search needs)
     remove-requires
     (λ c. search needs)
     (λ c. search needs)

@@ -1,34 +1,32 @@
 -- `engine::serve_of` meets its contract.
 -- Assumes nothing.
 use native.Mathlib.Omega.{arith}
-use Rattle.frame.specs.declared.header.Header.the-variants.{TooLong, Malformed, NotServed}
-use Rattle.engine.proofs.Serving.{serves-broken, serves-small, serves-outcome, asks-list, serves-list, asks, counts, kind-is, seid-is, serves-answer, tallies}
-use Rattle.table.proofs.Examining.{count-long, addresses-less}
-use Rattle.octets.proofs.Digits.{octets-known}
-use Rattle.octets.specs.Octets.{octets}
 use lib.Dec.{T}
-use mathlib.Core.Path.{refl}
+use Rattle.octets.specs.Octets.{octets}
+use Rattle.octets.proofs.Digits.{octets-known}
+use Rattle.table.proofs.Examining.{count-long, addresses-less}
+use Rattle.engine.proofs.Serving.{serves-broken, serves-small, serves-long, serves-malformed, serves-other, asks-list, serves-list, asks, counts, kind-is, seid-is, serves-answer, tallies}
 use borrow.Author.Needs.{needs}
 use Rattle.engine.proofs.serve_of.Statement.{statement}
 use Rattle.engine.proofs.serve_of.Tie as tie
 
 returns : tie.Need-returns
-returns c = serves-broken _ _ _ _ (c .before .before .before .before .before .before .before .before .before .before .before .before .pre) (c .before .before .before .before .before .examine .ensures) (c .before .enum-told .given .1) (c .unserved .ensures)
+returns c = search serves-broken
 
 returns-2 : tie.Need-returns-2
-returns-2 c = serves-small _ _ _ _ (c .before .before .before .before .before .before .before .before .before .before .before .before .before .before .pre) (c .before .before .before .before .before .before .before .examine .ensures) (c .before .before .before .walked .given .1) (c .before .if1 .taken) (c .unserved2 .ensures)
+returns-2 c = search serves-small
 
 read-requires : tie.Need-read-requires
 read-requires c κs = omega (arith, count-long _ _ _ _ (c .before .before .before .before .before .before .before .examine .ensures) _ _ _ _ (c .before .before .before .walked .given .1))
 
 returns-3 : tie.Need-returns-3
-returns-3 c = serves-outcome _ _ _ _ (c .before .before .before .before .before .before .before .before .before .before .before .before .before .before .before .before .before .before .before .pre) (c .before .before .before .before .before .before .before .before .before .before .before .before .examine .ensures) (c .before .before .before .before .before .before .before .before .walked .given .1) (c .before .before .before .before .before .before .if1 .left) (c .before .before .before .read-header .ensures) TooLong 3 refl refl (c .before .enum-told2 .given .1) (c .unserved3 .ensures)
+returns-3 c = search serves-long
 
 returns-4 : tie.Need-returns-4
-returns-4 c = serves-outcome _ _ _ _ (c .before .before .before .before .before .before .before .before .before .before .before .before .before .before .before .before .before .before .before .pre) (c .before .before .before .before .before .before .before .before .before .before .before .before .examine .ensures) (c .before .before .before .before .before .before .before .before .walked .given .1) (c .before .before .before .before .before .before .if1 .left) (c .before .before .before .read-header .ensures) Malformed 4 refl refl (c .before .enum-told3 .given .1) (c .unserved4 .ensures)
+returns-4 c = search serves-malformed
 
 returns-5 : tie.Need-returns-5
-returns-5 c = serves-outcome _ _ _ _ (c .before .before .before .before .before .before .before .before .before .before .before .before .before .before .before .before .before .before .before .pre) (c .before .before .before .before .before .before .before .before .before .before .before .before .examine .ensures) (c .before .before .before .before .before .before .before .before .walked .given .1) (c .before .before .before .before .before .before .if1 .left) (c .before .before .before .read-header .ensures) NotServed 5 refl refl (c .before .enum-told4 .given .1) (c .unserved5 .ensures)
+returns-5 c = search serves-other
 
 delete-list-requires : tie.Need-delete-list-requires
 delete-list-requires c κs = (asks-list _ _ _ _ (c .before .before .before .before .before .before .before .before .before .before .before .before .before .before .before .before .before .before .before .before .pre) (c .before .before .before .before .before .before .before .before .before .before .before .before .before .examine .ensures) (c .before .before .before .before .before .before .before .before .before .walked .given .1) (c .before .before .before .before .before .before .before .if1 .left) (c .before .before .before .before .read-header .ensures) (c .before .before .enum-told5 .given .1), c .before .before .before .before .before .read .ensures)
@@ -37,10 +35,10 @@ returns-6 : tie.Need-returns-6
 returns-6 c = serves-list _ _ _ _ (c .before .before .before .before .before .before .before .before .before .before .before .before .before .before .before .before .before .before .before .before .before .before .before .before .before .pre) (c .before .before .before .before .before .before .before .before .before .before .before .before .before .before .before .before .before .before .examine .ensures) (c .before .before .before .before .before .before .before .before .before .before .before .before .before .before .walked .given .1) (c .before .before .before .before .before .before .before .before .before .before .before .before .if1 .left) (c .before .before .before .before .before .before .before .before .before .read-header .ensures) (c .before .before .before .before .before .before .before .enum-told5 .given .1) (c .before .before .before .before .delete-list .ensures)
 
 sub-free : tie.Need-sub-free
-sub-free c = addresses-less _ _ _ _ (c .before .before .before .before .before .before .before .before .before .before .before .before .before .before .examine .ensures) _ _ _ _ (c .before .before .before .before .before .before .before .before .before .before .walked .given .1) _ (c .before .before .before .before .before .before .read .ensures)
+sub-free c = search addresses-less
 
 share-requires : tie.Need-share-requires
-share-requires c κs = (c .before .before .before .before .before .before .before .before .before .before .before .before .before .before .before .before .before .before .before .before .pre, tallies (c .before .before .before .before .before .before .before .before .before .before .before .before .before .examine .ensures) (c .before .before .before .before .before .before .before .before .before .walked .given .1) (c .before .before .before .before .before .read .ensures))
+share-requires c κs = (search needs, search tallies)
 
 answer-requires : tie.Need-answer-requires
 answer-requires c κs =
