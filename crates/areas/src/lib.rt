@@ -132,15 +132,3 @@ pub fn drop_record(s: &mut [u8], a: Area, x: u64)
     };
     remove(s, a, p);
 }
-
-// The same for a key of nine octets, in two numbers.
-pub fn drop_pair(s: &mut [u8], a: Area, hi: u64, lo: u64)
-    requires { ⌜ Fits a (length (now s)) × (a .key ≡ 9) ⌝ }
-    ensures { λ _. ⌜ now (s .exit) ≡ withoutRecord a (pairKey hi lo) (now (s .entry)) ⌝ }
-{
-    let place = find_pair(s, a, hi, lo);
-    let Lookup::Found(p) = place else {
-        return;
-    };
-    remove(s, a, p);
-}

@@ -12,7 +12,7 @@ use Rattle.octets.specs.Octets.{put}
 use Rattle.octets.specs.Lists.{all, hasRepeat}
 use Rattle.octets.proofs.Tests.{is-false}
 use Rattle.rules.specs.Model.{Settings, Sessions, heldTeids, heldAddresses}
-use Rattle.rules.specs.Layout.{viewSettings, viewSessions, tableLength}
+use Rattle.rules.specs.Layout.{keyWidth, viewSettings, viewSessions, tableLength}
 use Rattle.rules.specs.Reading.{readRequest}
 use Rattle.rules.specs.Request.{Request}
 use Rattle.rules.specs.Grants.{Kind, Got, choices, grants, chosenAddress, granted}
@@ -39,8 +39,11 @@ use Rattle.grants.proofs.ChoiceLaws.{choiceFits}
 use Rattle.writing.specs.Placed.{written}
 use Rattle.created.specs.Groups.{idFits}
 use Rattle.created.specs.Entries.{maxGrants, toldsAt, reportsAt, within}
-use Rattle.areas.specs.Counted.{withRecord}
+use Rattle.areas.specs.declared.Lookup.{Lookup}
+use Rattle.areas.specs.Records.{keyOf}
+use Rattle.areas.specs.Counted.{placeIn, withRecord}
 use Rattle.session.specs.Areas.{tableArea}
+use Rattle.session.specs.Places.{lookedUp}
 use Rattle.session.specs.Build.{built}
 use Rattle.session.proofs.Built.{Ready}
 use Rattle.unit.specs.declared.Settings.{Settings as Unit}
@@ -52,7 +55,7 @@ use Rattle.changes.specs.Answers.{verdictOn, Answers, OnlyNull, Acceptin
 use Rattle.changes.specs.Steps.{Giving, Given}
 use Rattle.changes.proofs.Accepted.{RowsFit, GotStored, ready}
 use Rattle.changes.proofs.Granting.{rows-fit, got-stored, whole-rows}
-use Rattle.changes.proofs.NewTable.{changed-table}
+use Rattle.changes.proofs.NewTable.{built-key, changed-table}
 use Rattle.changes.proofs.Entering.{long-by}
 
 module _ {k : Known} {d : Told} {t words ips msg slot gone plan out : List ℕ} (a : Accepting k d t words ips msg slot gone plan out) where
@@ -197,6 +200,13 @@ module _ {k : Known} {d : Told} {t words ips msg slot gone plan out : List ℕ} 
     unfolding replyTo
     same-reply = λ i. reply s who msg (same-seid i) (sym (a .verdict) i) (same-reports i)
 
+    -- the session that is built has its place where the one at entry stands
+    pub keep-place : placeIn (tableArea (u .limit)) (keyOf keyWidth (built gone (rowsOf n plan′) slot)) t ≡ lookedUp (d .live) (d .place)
+    keep-place =
+        ap₂ (λ (l x : ℕ). placeIn (tableArea l) x t) (limit-is u s (a .settings))
+        (built-key s (kept .settings) who (a .asked .peer) m (kept .sessions) msg (a .asked .octets) (a .asked .kind) (a .asked .named) passes (a .other) seid (d .restoring) (d .noted) gone (rowsOf n plan′) slot means′ (a .removed) (a .entry) is-ready)
+        ∙ a .place
+
     pub accepted-answers : {used : ℕ} {out′ t′ : List ℕ} → (used, out′) ≡ written (reply (settingsOf u) who msg seid (plain why.accepted) (reportsAt plan′ (take j places′))) out
         → t′ ≡ withRecord (tableArea (u .limit)) (built gone (rowsOf n plan′) slot) t → Answers t who msg out used out′ t′
     accepted-answers w′ e =
@@ -222,6 +232,11 @@ module _ {u : Unit} {teids ips plan : List ℕ} {n r : ℕ} {plan′ places′ :
 pub gives-all : {u : Unit} {teids ips plan : List ℕ} {n r : ℕ} {between plan′ chosen places′ : List ℕ} {count : ℕ} → Granted n (u .first) teids (u .size) plan count between chosen
     → plan′ ≡ addressed (lowestAddress (u .«first_address») ips (u .addresses)) n between → (r ≤ maxGrants) × (take r places′ ≡ reportPlaces n plan′) → Given u teids ips plan n r plan′ places′
 gives-all {between = between} {chosen = chosen} {count = count} g e f = record { count = count; between = between; chosen = chosen; granted = g; address = e; few = f .0; reported = f .1 }
+
+-- the place of what was built
+pub kept-place : (room n : ℕ) (gone plan slot slot′ t : List ℕ) (q : Lookup) → slot′ ≡ built gone (rowsOf n plan) slot → placeIn (tableArea room) (keyOf keyWidth (built gone (rowsOf n plan) slot)) t ≡ q
+    → placeIn (tableArea room) (keyOf keyWidth slot′) t ≡ q
+kept-place room n gone plan slot slot′ t q b e = ap (λ (l : List ℕ). placeIn (tableArea room) (keyOf keyWidth l) t) b ∙ e
 
 -- the session built and stored
 pub kept-session : (room n : ℕ) (gone plan slot slot′ t t′ : List ℕ) → slot′ ≡ built gone (rowsOf n plan) slot → t′ ≡ withRecord (tableArea room) slot′ t

@@ -1,7 +1,7 @@
 -- An establishment or a modification from its reading on.
 -- Assumes nothing.
 use mathlib.Core.Path.{_≡_, refl, sym, ap, _∙_, subst}
-use mathlib.Core.Bool.{Bool, false}
+use mathlib.Core.Bool.{false}
 use mathlib.Core.Option.{Option, none, some}
 use mathlib.Core.List.{List}
 use Prim.Native.Nat.{ℕ, _*_, _≤_, _<_, _^_}
@@ -26,7 +26,8 @@ use Rattle.stages.specs.declared.Known.{Known}
 use Rattle.stages.specs.declared.Told.{Told}
 use Rattle.reply.specs.declared.Offending.the-variants.{Element}
 use Rattle.changes.specs.Answers.{OnlyNull, Answers, Replies, Refusing}
-use Rattle.changes.specs.Steps.{Changing, Readable, Fetching, Fetched, Entered}
+use Rattle.changes.specs.Steps.{Changing, Readable, Fetching, toldOf, Fetched, Entered}
+use Rattle.session.specs.declared.Place.{Place}
 use Rattle.changes.proofs.Entering.{Entering, fetch-asks, entered}
 use Rattle.changes.proofs.Faults.{Faulted, replies-fault, not-framed-refuses, not-read-refuses}
 use Rattle.changes.proofs.VerdictSteps.{read-through}
@@ -47,10 +48,6 @@ faultless msg r = by-frame (frameFault msg) refl
     by-frame : (f : Option Spot) → frameFault msg ≡ f → whole r ≡ fromFraming msg f → Faultless msg r
     by-frame none e h = record { framed = e; fine = by-read (read msg) h }
     by-frame (some u) e h = let z : _≡_ {A = ℕ} 0 1 = cc in absurd (omega arith)
-
--- what reading told, with whether the SEID is live
-abbrev pub toldBy : Plan → Bool → Told
-toldBy w live = record { seid = w .seid; live = live; rows = w .rows; restoring = w .restoring; noted = w .noted }
 
 module _ {k : Known} {t msg out : List ℕ} {at : ℕ} (ch : Changing k t msg out at) {r : Reading} {plan : List ℕ} (given : Read msg r plan) where
   -- a fault
@@ -103,8 +100,8 @@ module _ {k : Known} {t msg out : List ℕ} {at : ℕ} (ch : Changing k t msg ou
     rows-within : w .rows * rowWidth ≤ length plan
     rows-within = let h : rowWidth * w .rows ≤ length plan = subst (λ (x : Reading). rowWidth * rowsLeft x ≤ length plan) is (given .room) in omega arith
 
-    pub readable : {live : Bool} → Readable k (toldBy w live) t msg out plan
-    readable =
+    readable : (place : Place) → Readable k (toldOf w place) t msg out plan
+    readable place =
         record {
           asked = ch .asked;
           kindIs = ch .kindIs;
@@ -115,6 +112,10 @@ module _ {k : Known} {t msg out : List ℕ} {at : ℕ} (ch : Changing k t msg ou
           onlyNull = subst (λ (x : Reading). OnlyNull (rowsOf (rowsLeft x) plan)) is (given .onlyNull);
         }
 
+    -- the rows are the request's
+    pub reads : {q : Told} {slot : List ℕ} → Fetched t (k .u .limit) (k .kind) (k .share .peer) at w q slot → Readable k q t msg out plan
+    reads f = subst (λ (d : Told). Readable k d t msg out plan) (sym (f .told)) (readable (f .at))
+
     -- stages 4 to 6 have no place
     pub judged-replies : {used : ℕ} {out′ t′ : List ℕ} → Answers t (k .share .peer) msg out used out′ t′ → Replies t (k .share .peer) msg out used 0 out′ t′
     unfolding judged
@@ -123,7 +124,7 @@ module _ {k : Known} {t msg out : List ℕ} {at : ℕ} (ch : Changing k t msg ou
           answers = a;
           placed =
               sym (ap (λ (v : Verdict). v .place)
-              (readable {live = false} .verdict ∙ judge-plain (kindOf msg) (viewSettings t) (k .share .peer) (viewSessions t) (entrySession (k .share .peer) (viewSessions t) msg) (readRequest msg)));
+              (readable (record { live = false; at = 0 }) .verdict ∙ judge-plain (kindOf msg) (viewSettings t) (k .share .peer) (viewSessions t) (entrySession (k .share .peer) (viewSessions t) msg) (readRequest msg)));
         }
 
     -- the session at entry: what fetching it asks, and that it is it
@@ -134,7 +135,7 @@ module _ {k : Known} {t msg out : List ℕ} {at : ℕ} (ch : Changing k t msg ou
           record { peer = ch .asked .peer; table = ch .asked .table; tableLong = ch .asked .tableLong; kindIs = ch .kindIs; named = ch .asked .named; new = λ e. sym (ap (λ (x : Request). x .seid) is-read); fits = fits; found = ch .found }
 
       pub fetches : {slot : List ℕ} → length slot ≡ sessionWidth → Fetching t slot (k .u .limit) (k .kind) (w .seid) at
-      fetches l = fetch-asks k (w .seid) t msg at entering (limit-is (k .u) (viewSettings t) same) l
+      fetches l = fetch-asks k w t msg at entering (limit-is (k .u) (viewSettings t) same) l
 
-      pub enters : {live : Bool} {slot : List ℕ} → Fetched t (k .u .limit) (k .kind) (k .share .peer) (w .seid) at live slot → Entered k (toldBy w live) t msg slot
-      enters {live} f = entered k (w .seid) t msg at entering (limit-is (k .u) (viewSettings t) same) (toldBy w live) refl refl f
+      pub enters : {q : Told} {slot : List ℕ} → Fetched t (k .u .limit) (k .kind) (k .share .peer) at w q slot → Entered k q t msg slot
+      enters f = entered k w t msg at entering (limit-is (k .u) (viewSettings t) same) f

@@ -11,9 +11,9 @@ use Rattle.octets.specs.Octets.{octets}
 use Rattle.octets.specs.Lists.{all}
 use Rattle.octets.proofs.Tests.{both, all-head, all-tail, all-cons}
 use Rattle.rules.specs.Limits.{maxPdrs, maxEndpoints, nodeTypes}
-use Rattle.rules.specs.Model.{Settings, Session, Sessions, Pdr, Endpoint, Csid, endpointId, isPeer}
+use Rattle.rules.specs.Model.{Settings, Session, Sessions, Pdr, Endpoint, Csid, endpointId, isPeer, sessionKey}
 use Rattle.rules.specs.Elements.{nodeTypeKept}
-use Rattle.rules.specs.Layout.{sessionOctets, encode}
+use Rattle.rules.specs.Layout.{keyWidth, sessionOctets, encode}
 use Rattle.rules.specs.Sound.{settingsAllowed, sessionAllowed, sessionsAllowed, pdrAllowed, endpointAllowed, csidAllowed}
 use Rattle.rules.specs.Message.{kindOf, served, deletion, setDeletion}
 use Rattle.rules.specs.Reading.{readRequest}
@@ -30,12 +30,13 @@ use Rattle.invariants.proofs.Changed.{entry-sound, changed-sound}
 use Rattle.invariants.proofs.After.{changed, ChangedSound, sound-after}
 use Rattle.invariants.proofs.Accepting.{SoundAfter}
 use Rattle.plan.specs.Rows.{requestIn}
+use Rattle.areas.specs.Records.{keyOf}
 use Rattle.areas.specs.Counted.{withRecord}
 use Rattle.session.specs.Areas.{tableArea}
 use Rattle.session.specs.Build.{built}
 use Rattle.session.proofs.Slot.{Slot, pdrFits, endpointFits, csidFits}
 use Rattle.session.proofs.Built.{Ready, built-session}
-use Rattle.session.proofs.Saved.{session-saved}
+use Rattle.session.proofs.Saved.{good, session-saved}
 
 pdrs-fit : (s : Settings) (live : List ℕ) (ps : List Pdr) → T (all (pdrAllowed s live) ps) → T (all pdrFits ps)
 unfolding all
@@ -104,11 +105,18 @@ module _ (s : Settings) (hs : T (settingsAllowed s)) (who : ℕ) (hw : T (isPeer
     few-after =
         subst (λ (n : Sessions). length n ≤ s .limit) after-is (all-sessions s (sessionsAfter s who m msg) (sound-after changed-sound s who m msg hw hs hm ho hk p))
 
-    pub changed-table : (seid : ℕ) (restoring noted : Bool) (gone : List ℕ) (rows : List (List ℕ)) (slot : List ℕ) → readRequest msg ≡ requestIn seid restoring noted rows
-        → gone ≡ removedPdrs (readRequest msg) (entrySession who m msg .pdrs) → slot ≡ sessionOctets (entrySession who m msg)
-        → Ready got gone rows (entrySession who m msg) → withRecord (tableArea (s .limit)) (built gone rows slot) (encode s m) ≡ encode s (sessionsAfter s who m msg)
-    changed-table seid restoring noted gone rows slot means g e ready =
-        let holds = slot-holds s (entrySession who m msg) slot (entry-sound s who m msg hw hm ho not-sets p .kept) e in
-        let g′ : gone ≡ removedPdrs (requestIn seid restoring noted rows) (entrySession who m msg .pdrs) = g ∙ ap (λ (q : Request). removedPdrs q (entrySession who m msg .pdrs)) means in
-        let b : built gone rows slot ≡ sessionOctets new = built-session got gone rows holds ready seid restoring noted g′ .octets ∙ ap (λ (q : Request). sessionOctets (apply got q (entrySession who m msg))) (sym means) in
-        ap (λ (l : List ℕ). withRecord (tableArea (s .limit)) l (encode s m)) b ∙ session-saved s hs m hm new new-allowed few-after ∙ ap (encode s) (sym after-is)
+    module _ (seid : ℕ) (restoring noted : Bool) (gone : List ℕ) (rows : List (List ℕ)) (slot : List ℕ) (means : readRequest msg ≡ requestIn seid restoring noted rows)
+        (g : gone ≡ removedPdrs (readRequest msg) (entrySession who m msg .pdrs)) (e : slot ≡ sessionOctets (entrySession who m msg)) (ready : Ready got gone rows (entrySession who m msg)) where
+      is-built : built gone rows slot ≡ sessionOctets new
+      is-built =
+          let holds = slot-holds s (entrySession who m msg) slot (entry-sound s who m msg hw hm ho not-sets p .kept) e in
+          let g′ : gone ≡ removedPdrs (requestIn seid restoring noted rows) (entrySession who m msg .pdrs) = g ∙ ap (λ (q : Request). removedPdrs q (entrySession who m msg .pdrs)) means in
+          built-session got gone rows holds ready seid restoring noted g′ .octets ∙ ap (λ (q : Request). sessionOctets (apply got q (entrySession who m msg))) (sym means)
+
+      -- it has the key of the session at entry
+      pub built-key : keyOf keyWidth (built gone rows slot) ≡ sessionKey (entrySession who m msg)
+      unfolding apply
+      built-key = ap (keyOf keyWidth) is-built ∙ good s hs new new-allowed .1
+
+      pub changed-table : withRecord (tableArea (s .limit)) (built gone rows slot) (encode s m) ≡ encode s (sessionsAfter s who m msg)
+      changed-table = ap (λ (l : List ℕ). withRecord (tableArea (s .limit)) l (encode s m)) is-built ∙ session-saved s hs m hm new new-allowed few-after ∙ ap (encode s) (sym after-is)

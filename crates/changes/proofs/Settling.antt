@@ -119,6 +119,7 @@ module _ {k : Known} {q : Told} {t msg out plan words ips slot stored : List ℕ
           onlyNull = r .onlyNull;
           entry = e .entry;
           slotLong = e .place .long;
+          place = e .stands;
           removed = same-removed;
           marks = h .marks;
           mapLong = h .long;

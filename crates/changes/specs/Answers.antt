@@ -10,7 +10,7 @@ use Rattle.octets.specs.Choice.{pick}
 use Rattle.octets.specs.Octets.{octets, put}
 use Rattle.octets.specs.Lists.{any, collect}
 use Rattle.rules.specs.Limits.{maxPool, mapWords, maxAddresses, addressWords, maxMessage, minSpace}
-use Rattle.rules.specs.Model.{isPeer}
+use Rattle.rules.specs.Model.{isPeer, sessionKey}
 use Rattle.rules.specs.Layout.{sessionOctets, encode, viewSettings, viewSessions, sessionWidth, tableLength}
 use Rattle.rules.specs.Sound.{sound, takenMap, addressMap}
 use Rattle.rules.specs.Message.{kindOf, headerAllowed, served, deletion, setDeletion}
@@ -20,6 +20,9 @@ use Rattle.rules.specs.Serve.{sessionsAfter, replyTo}
 use Rattle.plan.specs.Rows.{rowWidth, rowsOf, tagged, rowCsid, isNullRow, requestIn}
 use Rattle.rules.specs.Types as ie
 use Rattle.rules.specs.Causes as why
+use Rattle.areas.specs.Counted.{placeIn}
+use Rattle.session.specs.Areas.{tableArea}
+use Rattle.session.specs.Places.{lookedUp}
 use Rattle.unit.specs.Meaning.{settingsOf}
 use Rattle.stages.specs.declared.Known.{Known}
 use Rattle.stages.specs.declared.Told.{Told}
@@ -75,8 +78,8 @@ pub record Refusing (t : List ℕ) (who : ℕ) (msg out : List ℕ) (c : ℕ) (o
 abbrev pub OnlyNull : List (List ℕ) → Type 0
 OnlyNull rows = any isNullRow (tagged ie.fqcsid rows) ≡ true → collect rowCsid (tagged ie.fqcsid rows) ≡ []
 
--- the verdict is acceptance: the plan is the request's, the slot holds the session at entry, those of its PDRs that go are the rules', and the
--- maps mark the TEIDs and addresses held
+-- the verdict is acceptance: the plan is the request's, the slot holds the session at entry, whose place in the table is known, those of its PDRs
+-- that go are the rules', and the maps mark the TEIDs and addresses held
 pub record Accepting (k : Known) (q : Told) (t words ips msg slot gone plan out : List ℕ) : Type 0 where
   pub asked : Asked t (k .share .peer) msg out
   pub verdict : verdictOn t (k .share .peer) msg ≡ plain why.accepted
@@ -86,6 +89,7 @@ pub record Accepting (k : Known) (q : Told) (t words ips msg slot gone plan out 
   pub onlyNull : OnlyNull (rowsOf (q .rows) plan)
   pub entry : slot ≡ sessionOctets (entrySession (k .share .peer) (viewSessions t) msg)
   pub slotLong : length slot ≡ sessionWidth
+  pub place : placeIn (tableArea (viewSettings t .limit)) (sessionKey (entrySession (k .share .peer) (viewSessions t) msg)) t ≡ lookedUp (q .live) (q .place)
   pub removed : gone ≡ removedPdrs (readRequest msg) (entrySession (k .share .peer) (viewSessions t) msg .pdrs)
   pub marks : words ≡ takenMap (viewSettings t) (viewSessions t)
   pub mapLong : length words ≡ mapWords

@@ -2,25 +2,29 @@
 -- Assumes nothing.
 use Prim.Native.Nat.{ℕ, _*_, _≤_, _<_, _^_}
 use mathlib.Core.Path.{_≡_}
-use mathlib.Core.Bool.{Bool, false}
+use mathlib.Core.Bool.{false}
 use mathlib.Core.List.{List}
 use lib.Dec.{T, eqb}
 use lib.ListN.{length, take}
 use Rattle.octets.specs.Octets.{be, part, put, zeros}
 use Rattle.rules.specs.Limits.{maxPool, mapWords, maxAddresses, addressWords}
-use Rattle.rules.specs.Model.{freeAddressCount, keyFor}
+use Rattle.rules.specs.Model.{freeAddressCount, keyFor, sessionKey}
 use Rattle.rules.specs.Layout.{sessionOctets, viewSession, viewSettings, viewSessions, sessionWidth, tableLength}
 use Rattle.rules.specs.Sound.{sound, takenMap, addressMap}
 use Rattle.rules.specs.Message.{kindOf, headerSeid, establishment, deletion}
 use Rattle.rules.specs.Reading.{readRequest}
 use Rattle.rules.specs.Stages.{isLive, entrySession, judged}
 use Rattle.plan.specs.Rows.{rowWidth, rowsOf, requestIn}
+use Rattle.areas.specs.Records.{pairKey}
 use Rattle.areas.specs.Counted.{areaIn, placeIn}
 use Rattle.session.specs.Areas.{tableArea}
+use Rattle.session.specs.Places.{lookedUp, placed}
+use Rattle.session.specs.declared.Place.{Place}
 use Rattle.unit.specs.declared.Settings.{Settings as Unit}
 use Rattle.unit.specs.Meaning.{settingsOf}
 use Rattle.areas.specs.declared.Lookup.the-variants.{Found}
 use Rattle.created.specs.Entries.{maxGrants}
+use Rattle.request.specs.declared.Plan.{Plan}
 use Rattle.grants.specs.Choosing.{Granted, addressed, lowestAddress, reportPlaces}
 use Rattle.stages.specs.Rules.{Slot, ShareOf}
 use Rattle.stages.specs.declared.Known.{Known}
@@ -67,18 +71,26 @@ pub record Fetching (t slot : List ℕ) (room kind seid p : ℕ) : Type 0 where
   pub there : (kind ≡ establishment → ⊥) → p < room
   pub long : length slot ≡ sessionWidth
 
--- what it leaves and answers: the slot of a peer's new session and whether its SEID is live, or the slot at the place
-pub record Fetched (t : List ℕ) (room kind who seid p : ℕ) (live : Bool) (slot : List ℕ) : Type 0 where
+-- what reading told of a request, with its session's place
+abbrev pub toldOf : Plan → Place → Told
+toldOf w at = record { seid = w .seid; live = at .live; place = at .at; rows = w .rows; restoring = w .restoring; noted = w .noted }
+
+-- what it leaves and answers: the slot of a peer's new session and the place of its SEID, or the slot at the place
+pub record Fetched (t : List ℕ) (room kind who p : ℕ) (w : Plan) (q : Told) (slot : List ℕ) : Type 0 where
+  pub at : Place
+  pub told : q ≡ toldOf w at
   pub long : length slot ≡ sessionWidth
-  pub new : kind ≡ establishment → slot ≡ put 1 (be 8 seid) (put 0 (be 1 who) (zeros sessionWidth))
-  pub known : kind ≡ establishment → live ≡ isLive (keyFor who seid) (viewSessions t)
+  pub new : kind ≡ establishment → slot ≡ put 1 (be 8 (w .seid)) (put 0 (be 1 who) (zeros sessionWidth))
+  pub sought : kind ≡ establishment → placeIn (tableArea room) (pairKey who (w .seid)) t ≡ placed at
+  pub still : (kind ≡ establishment → ⊥) → placed at ≡ Found p
   pub old : (kind ≡ establishment → ⊥) → slot ≡ part (p * sessionWidth) sessionWidth (areaIn (tableArea room) t)
 
--- the session at entry in its slot, and whether the SEID of an establishment is live
+-- the session at entry in its slot, its place in the table, and whether the SEID of an establishment is live
 pub record Entered (k : Known) (q : Told) (t msg slot : List ℕ) : Type 0 where
   pub entry : slot ≡ sessionOctets (entrySession (k .share .peer) (viewSessions t) msg)
   pub viewed : viewSession slot ≡ entrySession (k .share .peer) (viewSessions t) msg
   pub place : Slot slot
+  pub stands : placeIn (tableArea (viewSettings t .limit)) (sessionKey (entrySession (k .share .peer) (viewSessions t) msg)) t ≡ lookedUp (q .live) (q .place)
   pub known : k .kind ≡ establishment → q .live ≡ isLive (keyFor (k .share .peer) (q .seid)) (viewSessions t)
 
 -- a request without a fault, as the rows of its plan, that is not a deletion

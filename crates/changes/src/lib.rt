@@ -3,25 +3,24 @@
 // splice.
 ghost use mathlib.Core.Path.{_≡_};
 ghost use Prim.Native.Nat.{_*_, _-_, _≤_};
-ghost use lib.Dec.{T};
 ghost use lib.ListN.{length};
-ghost use Rattle.rules.specs.Model.{keyFor};
-ghost use Rattle.rules.specs.Layout.{viewSettings, viewSessions, sessionWidth, tableLength};
-ghost use Rattle.rules.specs.Sound.{sound};
-ghost use Rattle.rules.specs.Stages.{isLive};
+ghost use Rattle.rules.specs.Layout.{viewSettings, keyWidth, sessionWidth, tableLength};
 ghost use Rattle.plan.specs.Rows.{rowWidth, rowsOf};
 ghost use Rattle.unit.specs.Meaning.{settingsOf};
-ghost use Rattle.areas.specs.Counted.{withRecord};
+ghost use Rattle.areas.specs.Records.{keyOf};
+ghost use Rattle.areas.specs.Counted.{placeIn, withRecord};
 ghost use Rattle.session.specs.Areas.{tableArea};
+ghost use Rattle.session.specs.Places.{lookedUp};
 ghost use Rattle.session.specs.Build.{built};
 ghost use Rattle.request.specs.Requests.{RoomFor};
 ghost use Rattle.changes.specs.Answers.{Asked, Answers, Replies, Refusing, Accepting};
-ghost use Rattle.changes.specs.Steps.{Counted, Giving, Given, Fetching, Fetched, Entered, Readable, Changing};
-use areas::Lookup;
+ghost use Rattle.changes.specs.Steps.{Counted, Giving, Given, Fetching, toldOf, Fetched, Entered, Readable, Changing};
 use format::causes;
 use format::kinds;
 use reply::Offending;
+use request::Plan;
 use request::Reading;
+use session::Place;
 use stages::Known;
 use stages::Told;
 use unit::Settings;
@@ -48,13 +47,17 @@ pub fn refuse(
     reply::refused(u, k.share.peer, msg, cause as u8, offending, out)
 }
 
-// The session of an accepted request: built in its slot, and the slot stored in a table with so much room.
-fn keep(t: &mut [u8], room: usize, slot: &mut [u8], gone: &[u64], plan: &[u64], n: usize)
-    requires { ⌜ (length (now t) ≡ tableLength room) × (length (now slot) ≡ sessionWidth) × (n * rowWidth ≤ length (now plan)) ⌝ }
-    ensures { λ _. ⌜ (now (slot .exit) ≡ built (now (gone .entry)) (rowsOf n (now (plan .entry))) (now (slot .entry))) × (now (t .exit) ≡ withRecord (tableArea room) (built (now (gone .entry)) (rowsOf n (now (plan .entry))) (now (slot .entry))) (now (t .entry))) ⌝ }
+// The session of an accepted request: built in its slot, and the slot stored in its place of a table with so much room.
+fn keep(t: &mut [u8], room: usize, q: Told, slot: &mut [u8], gone: &[u64], plan: &[u64])
+    requires { ⌜ (length (now t) ≡ tableLength room) × (length (now slot) ≡ sessionWidth) × (q .rows * rowWidth ≤ length (now plan)) × (placeIn (tableArea room) (keyOf keyWidth (built (now gone) (rowsOf (q .rows) (now plan)) (now slot))) (now t) ≡ lookedUp (q .live) (q .place)) ⌝ }
+    ensures { λ _. ⌜ (now (slot .exit) ≡ built (now (gone .entry)) (rowsOf (q .rows) (now (plan .entry))) (now (slot .entry))) × (now (t .exit) ≡ withRecord (tableArea room) (built (now (gone .entry)) (rowsOf (q .rows) (now (plan .entry))) (now (slot .entry))) (now (t .entry))) ⌝ }
 {
-    session::build(slot, gone, plan, n);
-    session::save(t, room, format::COUNT, slot);
+    session::build(slot, gone, plan, q.rows);
+    let place = Place {
+        live: q.live,
+        at: q.place,
+    };
+    session::save(t, room, format::COUNT, place, slot);
 }
 
 // Gives the TEIDs and the address that rows choose, by the maps of taken ones. `places` gets where the rows with something chosen begin,
@@ -70,7 +73,7 @@ fn give(
     requires { ⌜ Giving u (now teids) (now addresses) (now plan) (now places) n ⌝ }
     ensures { λ r. ⌜ Given u (now (teids .entry)) (now (addresses .entry)) (now (plan .entry)) n r (now (plan .exit)) (now (places .exit)) ⌝ }
 {
-    let given = grants::grant(plan, n, teids, u, places);
+    grants::grant(plan, n, teids, u, places);
     grants::grant_address(plan, n, addresses, u);
     grants::reported(plan, n, places)
 }
@@ -95,35 +98,40 @@ fn accept(
     let mut places = [0usize; format::GRANTS];
     let n = give(plan, q.rows, u, words, ips, &mut places);
     let used = reply::accepted(u, k.share.peer, msg, q.seid, plan, &places[..n], out);
-    keep(t, u.limit as usize, slot, gone, plan, q.rows);
+    keep(t, u.limit as usize, q, slot, gone, plan);
     used
 }
 
-// Whether the session of a peer's SEID is live; room is the table's session limit.
-fn is_live(t: &[u8], room: usize, peer: u32, seid: u64) -> bool
-    requires { ⌜ T (sound (now t)) × (length (now t) ≡ tableLength room) × (room ≡ viewSettings (now t) .limit) ⌝ }
-    ensures { λ r. ⌜ r ≡ isLive (keyFor peer seid) (viewSessions (now (t .entry))) ⌝ }
+// What reading told of a request, with its session's place.
+fn tell(read: Plan, place: Place) -> Told
+    ensures { λ r. ⌜ r ≡ toldOf read place ⌝ }
 {
-    let place = session::find(t, room, format::COUNT, peer as u64, seid);
-    match place {
-        Lookup::Found(p) => return true,
-        Lookup::Absent(p) => return false,
+    Told {
+        seid: read.seid,
+        live: place.live,
+        place: place.at,
+        rows: read.rows,
+        restoring: read.restoring,
+        noted: read.noted,
     }
 }
 
-// Puts the session at entry into its slot: a new one for an establishment, else the one at the place p. The answer is whether the SEID of
-// an establishment is live.
-fn enter(t: &[u8], k: Known, seid: u64, p: usize, slot: &mut [u8]) -> bool
-    requires { ⌜ Fetching (now t) (now slot) (k .u .limit) (k .kind) seid p ⌝ }
-    ensures { λ r. ⌜ Fetched (now (t .entry)) (k .u .limit) (k .kind) (k .share .peer) seid p r (now (slot .exit)) ⌝ }
+// Puts the session at entry into its slot: a new one for an establishment, else the one at the place p. The answer has where it stands in the
+// table, or has its place.
+fn enter(t: &[u8], k: Known, read: Plan, p: usize, slot: &mut [u8]) -> Told
+    requires { ⌜ Fetching (now t) (now slot) (k .u .limit) (k .kind) (read .seid) p ⌝ }
+    ensures { λ r. ⌜ Fetched (now (t .entry)) (k .u .limit) (k .kind) (k .share .peer) p read r (now (slot .exit)) ⌝ }
 {
     let room = k.u.limit as usize;
     if k.kind == kinds::ESTABLISHMENT {
-        session::fresh(slot, k.share.peer as u64, seid);
-        return is_live(t, room, k.share.peer, seid);
+        let peer = k.share.peer as u64;
+        session::fresh(slot, peer, read.seid);
+        let place = session::seek(t, room, format::COUNT, peer, read.seid);
+        return tell(read, place);
     }
     session::load(t, room, format::COUNT, p, slot);
-    false
+    let place = Place { live: true, at: p };
+    tell(read, place)
 }
 
 // Stages 4 to 6 of a request that was read, and what follows. The PDRs that go are named once, for the stages and for the new session.
@@ -175,14 +183,7 @@ fn change_with(
         }
         Reading::Whole(read) => {
             let mut slot = [0u8; format::SLOT];
-            let live = enter(t, k, read.seid, p, &mut slot);
-            let told = Told {
-                seid: read.seid,
-                live: live,
-                rows: read.rows,
-                restoring: read.restoring,
-                noted: read.noted,
-            };
+            let told = enter(t, k, read, p, &mut slot);
             let used = settle(t, k, words, ips, msg, &mut slot, plan, told, out);
             return Replied {
                 used: used,

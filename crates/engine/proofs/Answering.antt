@@ -74,17 +74,24 @@ module _ (k : Known) {t msg out : List ℕ} (a : Asked t (k .share .peer) msg ou
       absent-replies x = record { answers = x; placed = sym (ap (λ (v : Verdict). v .place) none-live) }
 
     module _ {p : ℕ} (e : r ≡ Found p) where
-      pub named-live : Live t (k .share .peer) msg
+      named-live : Live t (k .share .peer) msg
       named-live = unknown-is who (viewSessions t) msg true (a .named) (λ z. o (is ∙ z)) (live-found t (a .table) who (headerSeid msg) p (k .u .limit) r room at-header e)
+
+      -- where it stands
+      named-place : placeIn (tableArea (viewSettings t .limit)) (keyFor (k .share .peer) (headerSeid msg)) t ≡ Found p
+      unfolding keyFor
+      named-place = ap (λ (i : ℕ). placeIn (tableArea i) (pairKey who (headerSeid msg)) t) (sym room) ∙ sym at-header ∙ e
+
+      pub named-at : Live t (k .share .peer) msg × (placeIn (tableArea (viewSettings t .limit)) (keyFor (k .share .peer) (headerSeid msg)) t ≡ Found p)
+      named-at = (named-live, named-place)
 
       -- a modification
       pub modifies : (k .kind ≡ deletion → ⊥) → Changing k t msg out p
-      unfolding keyFor
       modifies n =
           record {
             asked = a;
             live = named-live;
             kindIs = is;
             other = other-than (kindOf msg) deletion (λ z. n (is ∙ z));
-            found = λ z. ap (λ (i : ℕ). placeIn (tableArea i) (pairKey who (headerSeid msg)) t) (sym room) ∙ sym at-header ∙ e;
+            found = λ z. named-place;
           }

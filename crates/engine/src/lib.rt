@@ -8,7 +8,10 @@ ghost use Rattle.changes.specs.Steps.{Counted};
 ghost use Rattle.engine.specs.Steps.{Serves};
 ghost use lib.Dec.{T};
 ghost use Rattle.rules.specs.Layout.{viewSettings};
-ghost use Rattle.rules.specs.Model.{isPeer};
+ghost use Rattle.rules.specs.Model.{isPeer, keyFor};
+ghost use Rattle.areas.specs.declared.Lookup.the-variants.{Found};
+ghost use Rattle.areas.specs.Counted.{placeIn};
+ghost use Rattle.session.specs.Areas.{tableArea};
 use areas::Lookup;
 use changes::Replied;
 use format::causes;
@@ -27,9 +30,9 @@ struct TakenAddresses {
     words: [u64; pool::ADDRESS_WORDS],
 }
 
-// A deletion of a live session.
-fn delete(t: &mut [u8], k: Known, msg: &[u8], out: &mut [u8]) -> Replied
-    requires { ⌜ Asked (now t) (k .share .peer) (now msg) (now out) × Live (now t) (k .share .peer) (now msg) × (kindOf (now msg) ≡ deletion) × (k .seid ≡ headerSeid (now msg)) × (settingsOf (k .u) ≡ viewSettings (now t)) ⌝ }
+// A deletion of the live session at the place p.
+fn delete(t: &mut [u8], k: Known, msg: &[u8], p: usize, out: &mut [u8]) -> Replied
+    requires { ⌜ Asked (now t) (k .share .peer) (now msg) (now out) × Live (now t) (k .share .peer) (now msg) × (kindOf (now msg) ≡ deletion) × (placeIn (tableArea (viewSettings (now t) .limit)) (keyFor (k .share .peer) (headerSeid (now msg))) (now t) ≡ Found p) × (settingsOf (k .u) ≡ viewSettings (now t)) ⌝ }
     ensures { λ r. ⌜ Replies (now (t .entry)) (k .share .peer) (now (msg .entry)) (now (out .entry)) (r .used) (r .place) (now (out .exit)) (now (t .exit)) ⌝ }
 {
     let framing = frame::frame_fault(msg);
@@ -51,13 +54,7 @@ fn delete(t: &mut [u8], k: Known, msg: &[u8], out: &mut [u8]) -> Replied
     let plan = [0u64; 1];
     let places = [0usize; 1];
     let used = reply::accepted(u, k.share.peer, msg, 0, &plan[0..0], &places[0..0], out);
-    session::remove(
-        t,
-        u.limit as usize,
-        format::COUNT,
-        k.share.peer as u64,
-        k.seid,
-    );
+    session::remove(t, u.limit as usize, format::COUNT, p);
     Replied {
         used: used,
         place: 0,
@@ -93,7 +90,7 @@ fn answer(
         }
         Lookup::Found(p) => {
             if k.kind == kinds::DELETION {
-                return delete(t, k, msg, out);
+                return delete(t, k, msg, p, out);
             }
             let words = taken.words;
             let ips = addresses.words;

@@ -97,7 +97,7 @@ new-entry s who m n hw h =
     }
 
 -- the one found has the key
-found-has : (m : Sessions) (k : ℕ) (x : Session) → findBy (hasKey k) m ≡ some x → sessionKey x ≡ k
+pub found-has : (m : Sessions) (k : ℕ) (x : Session) → findBy (hasKey k) m ≡ some x → sessionKey x ≡ k
 unfolding hasKey
 found-has m k x e = eqb→eq (sessionKey x) k (found-passes (hasKey k) m x e)
 

@@ -23,9 +23,10 @@ use Rattle.laws.proofs.LayoutLaws.{length-session, seidFits}
 use Rattle.laws.proofs.TableLaws.{length-settings, limit-fits}
 use Rattle.laws.proofs.PeerLaws.{all-sessions}
 use Rattle.areas.specs.Records.{keyOf, lookup}
+use Rattle.areas.specs.declared.Lookup.{Lookup}
 use Rattle.areas.specs.declared.Lookup.the-variants.{Found, Absent}
 use Rattle.areas.proofs.Places.{otherThan, found-within, found-record, absent-record}
-use Rattle.areas.specs.Counted.{countIn, areaIn, placeIn, withRecord, withoutRecord}
+use Rattle.areas.specs.Counted.{countIn, areaIn, placeIn, atPlace, removedIn, withRecord, withoutRecord}
 use Rattle.areas.proofs.Held.{Held, count-held, place-held, record-held, with-held, without-held}
 use Rattle.session.specs.Areas.{tableArea}
 
@@ -108,6 +109,15 @@ module _ (s : Settings) (hs : T (settingsAllowed s)) where
     pub session-removed : (n : ℕ) → withoutRecord (tableArea (s .limit)) n (encode s m) ≡ encode s (removeSession n m)
     unfolding removeSession otherSession hasKey
     session-removed n = without-held sessionOctets sessionKey (tableArea (s .limit)) (sessionAllowed s) good held n .octets ∙ sym (grouped (keep (otherThan sessionKey n) m))
+
+    -- the same by the place where its key was found
+    pub session-taken : (n p : ℕ) → placeIn (tableArea (s .limit)) n (encode s m) ≡ Found p → removedIn (tableArea (s .limit)) p (encode s m) ≡ encode s (removeSession n m)
+    unfolding withoutRecord
+    session-taken n p e = sym (ap (λ (q : Lookup). atPlace q (λ k. removedIn (tableArea (s .limit)) k (encode s m)) (λ k. encode s m)) e) ∙ session-removed n
+
+    -- where a session that is live stands, one stands
+    pub session-within : (n p : ℕ) → placeIn (tableArea (s .limit)) n (encode s m) ≡ Found p → p < length m
+    session-within n p e = found-within sessionKey n p m (sym (session-place n) ∙ e)
 
 -- the slot of a new session
 pub fresh-slot : (who n : ℕ) → who < 256 → put 1 (be 8 n) (put 0 (be 1 who) (zeros sessionWidth)) ≡ sessionOctets (newSession who n)

@@ -6,15 +6,16 @@ ghost use mathlib.Core.Path.{_≡_};
 ghost use Prim.Native.Nat.{_*_, _≤_, _<_, _+_};
 ghost use lib.ListN.{length};
 ghost use Rattle.octets.specs.Octets.{slices, be, part, put, zeros};
-ghost use Rattle.rules.specs.Layout.{sessionWidth, pdrWidth, endpointWidth};
+ghost use Rattle.rules.specs.Layout.{keyWidth, sessionWidth, pdrWidth, endpointWidth};
 ghost use Rattle.plan.specs.Rows.{rowWidth};
 ghost use Rattle.session.specs.Build.{withoutPdrs, updatedAt, updatedPdr, followedCsid, rowApplied, passed, built};
 use areas::Lookup;
 use format::types;
 use format::words;
-ghost use Rattle.areas.specs.Records.{pairKey};
-ghost use Rattle.areas.specs.Counted.{countIn, areaIn, placeIn, withRecord, withoutRecord};
+ghost use Rattle.areas.specs.Records.{keyOf, pairKey};
+ghost use Rattle.areas.specs.Counted.{countIn, areaIn, placeIn, removedIn, withRecord};
 ghost use Rattle.session.specs.Areas.{areaOfPdrs, areaOfEndpoints, sessionArea};
+ghost use Rattle.session.specs.Places.{placed};
 
 pub mod layout;
 mod record;
@@ -179,12 +180,30 @@ pub fn count(t: &[u8], room: usize, base: usize) -> usize
     areas::count(t, layout::sessions(room, base))
 }
 
+// Where a session stands among those of an area, or, where it is not live, has its place.
+pub struct Place {
+    pub live: bool,
+    pub at: usize,
+}
+
 // Where the session of a peer's SEID stands, or has its place.
 pub fn find(t: &[u8], room: usize, base: usize, peer: u64, seid: u64) -> Lookup
     requires { ⌜ base + 2 + room * sessionWidth ≤ length (now t) ⌝ }
     ensures { λ r. ⌜ r ≡ placeIn (sessionArea room base) (pairKey peer seid) (now (t .entry)) ⌝ }
 {
     areas::find_pair(t, layout::sessions(room, base), peer, seid)
+}
+
+// The same as a value that can be handed on.
+pub fn seek(t: &[u8], room: usize, base: usize, peer: u64, seid: u64) -> Place
+    requires { ⌜ base + 2 + room * sessionWidth ≤ length (now t) ⌝ }
+    ensures { λ r. ⌜ placeIn (sessionArea room base) (pairKey peer seid) (now (t .entry)) ≡ placed r ⌝ }
+{
+    let found = find(t, room, base, peer, seid);
+    match found {
+        Lookup::Found(p) => return Place { live: true, at: p },
+        Lookup::Absent(p) => return Place { live: false, at: p },
+    }
 }
 
 // Copies the slot at place p.
@@ -207,30 +226,26 @@ pub fn fresh(slot: &mut [u8], peer: u64, seid: u64)
     octets::write(slot, format::SEID, 8, seid);
 }
 
-// Makes the slot that of its peer and SEID: over the one that is there, or put in where there is room. As areas::put_record, written out for
-// slots: where their width is known, all that come after move at once.
-pub fn save(t: &mut [u8], room: usize, base: usize, slot: &[u8])
-    requires { ⌜ (base + 2 + room * sessionWidth ≤ length (now t)) × (length (now slot) ≡ sessionWidth) ⌝ }
+// Makes the slot that of its peer and SEID, whose place was looked up: over the one that is there, or put in where there is room. As
+// areas::put_record, written out for slots: where their width is known, all that come after move at once.
+pub fn save(t: &mut [u8], room: usize, base: usize, place: Place, slot: &[u8])
+    requires { ⌜ (base + 2 + room * sessionWidth ≤ length (now t)) × (length (now slot) ≡ sessionWidth) × (placeIn (sessionArea room base) (keyOf keyWidth (now slot)) (now t) ≡ placed place) ⌝ }
     ensures { λ _. ⌜ now (t .exit) ≡ withRecord (sessionArea room base) (now (slot .entry)) (now (t .entry)) ⌝ }
 {
     let a = layout::sessions(room, base);
-    let peer = octets::read(slot, 0, 1);
-    let seid = octets::read(slot, format::SEID, 8);
-    let place = areas::find_pair(t, a, peer, seid);
-    match place {
-        Lookup::Found(p) => areas::replace(t, a, p, slot),
-        Lookup::Absent(p) => {
-            if areas::count(t, a) < a.room {
-                areas::insert(t, a, p, slot);
-            }
-        }
+    if place.live {
+        areas::replace(t, a, place.at, slot);
+        return;
+    }
+    if areas::count(t, a) < a.room {
+        areas::insert(t, a, place.at, slot);
     }
 }
 
-// Takes the session of a peer's SEID out, if there is one.
-pub fn remove(t: &mut [u8], room: usize, base: usize, peer: u64, seid: u64)
-    requires { ⌜ base + 2 + room * sessionWidth ≤ length (now t) ⌝ }
-    ensures { λ _. ⌜ now (t .exit) ≡ withoutRecord (sessionArea room base) (pairKey peer seid) (now (t .entry)) ⌝ }
+// Takes the session at place p out.
+pub fn remove(t: &mut [u8], room: usize, base: usize, p: usize)
+    requires { ⌜ (base + 2 + room * sessionWidth ≤ length (now t)) × (p < countIn (sessionArea room base) (now t)) × (countIn (sessionArea room base) (now t) ≤ room) ⌝ }
+    ensures { λ _. ⌜ now (t .exit) ≡ removedIn (sessionArea room base) p (now (t .entry)) ⌝ }
 {
-    areas::drop_pair(t, layout::sessions(room, base), peer, seid);
+    areas::remove(t, layout::sessions(room, base), p);
 }

@@ -6,15 +6,15 @@ use native.Mathlib.Omega.{arith}
 use mathlib.Core.Bool.{Bool, true, false, not, _&&_, _||_}
 use mathlib.Core.List.{List, [], _∷_, _++_, map}
 use lib.ListN.{length, take, drop, getD}
-use lib.Dec.{T, eqb, eqb→eq, leb→le}
+use lib.Dec.{T, eqb, leb→le}
 use borrow.Author.Tests.{eq-eqb, ne-eqb, le-leb, lt-leb}
 use Rattle.octets.specs.Choice.{pick}
 use Rattle.octets.specs.Octets.{octetAt, be, part, number}
 use Rattle.octets.specs.Lists.{keep, any, all, ascending}
-use Rattle.octets.proofs.Tests.{all-head, all-tail, ascending-head, ascending-tail, and-left, of-true}
+use Rattle.octets.proofs.Tests.{all-head, all-tail, ascending-head, ascending-tail}
 use Rattle.rules.specs.Limits.{nodeTypes}
 use Rattle.rules.specs.Model.{Settings, Session, Sessions, sessionKey, hasPeer}
-use Rattle.rules.specs.Layout.{csidCountAt, sessionOctets, viewSession, viewSettings, viewSessions, encode, headWidth, seidAt, keyWidth, sessionWidth, tableLength, settingsWidth, limitAt}
+use Rattle.rules.specs.Layout.{csidCountAt, sessionOctets, viewSession, viewSettings, viewSessions, encode, headWidth, sessionWidth, tableLength, settingsWidth, limitAt}
 use Rattle.rules.specs.Sound.{settingsAllowed, sessionAllowed, sessionsAllowed}
 use Rattle.rules.specs.Sound as rules
 use Rattle.rules.specs.Elements.{Fqcsid}
@@ -27,21 +27,18 @@ use Rattle.laws.proofs.TableLaws.{sessions-back, encoded-settings, sound-encode
 use Rattle.laws.proofs.PeerLaws.{all-sessions}
 use Rattle.laws.proofs.KeptRules.{session-kept, sessions-kept, table-kept}
 use Rattle.invariants.proofs.After.{keep-allowed, remove-allowed}
-use Rattle.areas.specs.Records.{keyOf, pairKey, lookupFrom, lookup}
+use Rattle.areas.specs.Records.{lookupFrom, lookup}
 use Rattle.areas.specs.declared.Lookup.the-variants.{Found}
 use Rattle.areas.proofs.Places.{removeAt, remove-found}
-use Rattle.areas.proofs.PairLaws.{number-pair}
-use Rattle.areas.specs.Counted.{countIn, withoutRecord, areaIn}
+use Rattle.areas.specs.Counted.{countIn, placeIn, removedIn, areaIn}
 use Rattle.session.specs.Areas.{tableArea}
-use Rattle.session.proofs.Saved.{good, sessions-counted, session-at, session-removed}
+use Rattle.session.proofs.Saved.{sessions-counted, session-at, session-place, session-taken}
 use Rattle.frame.proofs.Front.{Front, behind}
 use Rattle.sets.specs.Listed.{blank, gotten, listedIn, listsIn, Sized, slotAt, goesBy, afterOne, Sound}
 use Rattle.sets.proofs.ListLaws.{rest-fine, listed-sized, lists-more}
 use Rattle.octets.proofs.Put.{length-part, getD-part}
-use Rattle.octets.proofs.FieldLaws.{octet-read}
 use Rattle.octets.proofs.Bools.{and-false}
 use Rattle.session.proofs.Steps.{part-part}
-use lib.Seq.{take-take}
 
 -- ---- a table that encodes sessions
 
@@ -94,14 +91,14 @@ map-long : (m : Sessions) → length (map sessionKey m) ≡ length m
 map-long [] = refl
 map-long (x ∷ m) = ap suc (map-long m)
 
--- so taking the session of its key out takes the one at the place out
+-- so the key of the session at a place is found there, and taking it out by its key takes out the one at the place
+own-found : (m : Sessions) (p : ℕ) (d : Session) → T (ascending (map sessionKey m)) → p < length m → lookup (sessionKey (getD m p d)) (map sessionKey m) ≡ Found p
+own-found m p d up l =
+    ap (λ (k : ℕ). lookupFrom 0 k (map sessionKey m)) (sym (keys-at m p d l)) ∙ own-place 0 (map sessionKey m) p up (let e = map-long m in omega arith) ∙ ap (λ (k : ℕ). Found k) (let z : 0 + p ≡ p = omega arith in z)
+
 remove-place : (m : Sessions) (p : ℕ) (d : Session) → T (ascending (map sessionKey m)) → p < length m → removeSession (sessionKey (getD m p d)) m ≡ removeAt p m
 unfolding removeSession otherSession hasKey
-remove-place m p d up l =
-    let n = sessionKey (getD m p d) in
-    let found : lookup n (map sessionKey m) ≡ Found p =
-    ap (λ (k : ℕ). lookupFrom 0 k (map sessionKey m)) (sym (keys-at m p d l)) ∙ own-place 0 (map sessionKey m) p up (let e = map-long m in omega arith) ∙ ap (λ (k : ℕ). Found k) (let z : 0 + p ≡ p = omega arith in z) in
-    sym (remove-found sessionKey n p m up found)
+remove-place m p d up l = sym (remove-found sessionKey (sessionKey (getD m p d)) p m up (own-found m p d up l))
 
 -- ---- one place
 
@@ -129,27 +126,35 @@ module _ {s : Settings} {m : Sessions} {t : List ℕ} (h : Encodes s m t) (p : �
   pub slot-few : octetAt (slotAt (s .limit) p t) csidCountAt ≤ nodeTypes
   slot-few = rw (slot-is, csids-counted x) (leb→le (length (x .csids)) nodeTypes (session-kept s x allowed .records .fewCsids))
 
-  pub place-room : p < s .limit
-  place-room = let f = all-sessions s m (h .sessions) in omega arith
+  -- as many are counted as stand there
+  pub place-counted : p < countIn (tableArea (s .limit)) t
+  place-counted = rw (h .octets, sessions-counted s (h .settings) m (h .sessions)) less
+
+  pub count-within : countIn (tableArea (s .limit)) t ≤ s .limit
+  count-within = rw (h .octets, sessions-counted s (h .settings) m (h .sessions)) (all-sessions s m (h .sessions))
 
   -- with it, or without
   pub one-after : (who : ℕ) (l : Fqcsid) → Encodes s (pick (goesBy who l x) (removeAt p m) m) (afterOne (s .limit) p who l t)
   unfolding afterOne
   one-after who l =
-      subst (λ (y : List ℕ). Encodes s (pick (goesBy who l x) (removeAt p m) m) (pick (goesBy who l (viewSession y)) (withoutRecord (tableArea (s .limit)) (keyOf keyWidth y) t) t)) (sym slot-is)
-      (subst (λ (y : Session). Encodes s (pick (goesBy who l x) (removeAt p m) m) (pick (goesBy who l y) (withoutRecord (tableArea (s .limit)) (keyOf keyWidth (sessionOctets x)) t) t)) (sym (session-back s (h .settings) x allowed))
-      (go (goesBy who l x)))
+      subst (λ (y : Session). Encodes s (pick (goesBy who l x) (removeAt p m) m) (pick (goesBy who l y) (removedIn (tableArea (s .limit)) p t) t)) (sym (ap viewSession slot-is ∙ session-back s (h .settings) x allowed))
+      (go (goesBy who l x))
     where
-      gone : removeSession (sessionKey x) m ≡ removeAt p m
-      gone = remove-place m p (newSession 0 0) (sessions-kept s m (h .sessions) .order) less
+      up : T (ascending (map sessionKey m))
+      up = sessions-kept s m (h .sessions) .order
 
-      go : (b : Bool) → Encodes s (pick b (removeAt p m) m) (pick b (withoutRecord (tableArea (s .limit)) (keyOf keyWidth (sessionOctets x)) t) t)
+      gone : removeSession (sessionKey x) m ≡ removeAt p m
+      gone = remove-place m p (newSession 0 0) up less
+
+      there : placeIn (tableArea (s .limit)) (sessionKey x) (encode s m) ≡ Found p
+      there = session-place s (h .settings) m (h .sessions) (sessionKey x) ∙ own-found m p (newSession 0 0) up less
+
+      go : (b : Bool) → Encodes s (pick b (removeAt p m) m) (pick b (removedIn (tableArea (s .limit)) p t) t)
       go true =
           record {
             settings = h .settings;
             sessions = subst (λ (l : Sessions). T (sessionsAllowed s l)) gone (remove-allowed s (sessionKey x) m (h .sessions));
-            octets = ap₂ (λ (n : ℕ) (u : List ℕ). withoutRecord (tableArea (s .limit)) n u) (good s (h .settings) x allowed .1) (h .octets)
-                ∙ session-removed s (h .settings) m (h .sessions) (sessionKey x) ∙ ap (encode s) gone;
+            octets = ap (removedIn (tableArea (s .limit)) p) (h .octets) ∙ session-taken s (h .settings) m (h .sessions) (sessionKey x) p there ∙ ap (encode s) gone;
           }
       go false = h
 
@@ -190,27 +195,15 @@ module _ (room p : ℕ) (t : List ℕ) (long : length t ≡ tableLength room) (l
     unfolding goesBy hasPeer
     slot-here e h = h ∙ ap (λ (y : List ℕ). coversSession (viewSession y) (listedIn v)) slice-is ∙ sym (rw (slot-peer, eq-eqb (getD t (headWidth + p * sessionWidth) 0) who e))
 
-    module _ {b : Bool} (is : b ≡ goesBy who (listedIn v) (viewSession (slotAt room p t))) where
-      pub stays-one : b ≡ false → t ≡ afterOne room p who (listedIn v) t
-      unfolding afterOne
-      stays-one e = rw (← is, e)
+-- it stays, or is taken out
+module _ (room p : ℕ) (t : List ℕ) (who : ℕ) (v : List ℕ) {b : Bool} (is : b ≡ goesBy who (listedIn v) (viewSession (slotAt room p t))) where
+  pub stays-one : b ≡ false → t ≡ afterOne room p who (listedIn v) t
+  unfolding afterOne
+  stays-one e = rw (← is, e)
 
-      -- the peer's, as it goes
-      theirs : b ≡ true → number (part (headWidth + p * sessionWidth) 1 t) ≡ who
-      unfolding goesBy hasPeer
-      theirs e =
-          octet-read (headWidth + p * sessionWidth) t (omega arith) ∙ sym slot-peer
-          ∙ eqb→eq (viewSession (slotAt room p t) .peer) who (and-left (eqb (viewSession (slotAt room p t) .peer) who) (coversSession (viewSession (slotAt room p t)) (listedIn v)) (of-true (sym is ∙ e)))
-
-      pub goes-one : b ≡ true → (n : ℕ) {t′ : List ℕ} → n ≡ number (part (headWidth + p * sessionWidth + seidAt) 8 t) → t′ ≡ withoutRecord (tableArea room) (pairKey who n) t
-          → t′ ≡ afterOne room p who (listedIn v) t
-      unfolding afterOne keyOf
-      goes-one e n k h =
-          let front : number (part (headWidth + p * sessionWidth) keyWidth t) ≡ number (take keyWidth (slotAt room p t)) =
-          ap number (sym (take-take keyWidth sessionWidth (drop (headWidth + p * sessionWidth) t) (omega arith)) ∙ ap (take keyWidth) part-is) in
-          let key : pairKey who n ≡ number (part (headWidth + p * sessionWidth) keyWidth t) =
-          (λ i. pairKey (sym (theirs e) i) (k i)) ∙ sym (number-pair (headWidth + p * sessionWidth) t (omega arith)) in
-          h ∙ rw (← is, e) (ap (λ (i : ℕ). withoutRecord (tableArea room) i t) (key ∙ front))
+  pub goes-one : b ≡ true → {t′ : List ℕ} → t′ ≡ removedIn (tableArea room) p t → t′ ≡ afterOne room p who (listedIn v) t
+  unfolding afterOne
+  goes-one e h = h ∙ rw (← is, e)
 
 -- ---- from the last place to the first
 
@@ -273,8 +266,11 @@ module _ {t₀ v t : List ℕ} {who room p : ℕ} (g : Going t₀ who v t room p
   low : at < length (viewSessions t₀)
   low = let w = g .within in omega arith
 
-  pub going-place : p - 1 < room
-  going-place = rw (g .limit) (place-room here at (half-long (stays who (listedIn v)) at (viewSessions t₀) low))
+  pub going-counted : p - 1 < countIn (tableArea room) t
+  going-counted = rw (g .limit) (place-counted here at (half-long (stays who (listedIn v)) at (viewSessions t₀) low))
+
+  pub going-within : countIn (tableArea room) t ≤ room
+  going-within = rw (g .limit) (count-within here at (half-long (stays who (listedIn v)) at (viewSessions t₀) low))
 
   pub going-few : octetAt (slotAt room (p - 1) t) csidCountAt ≤ nodeTypes
   going-few = rw (g .limit) (slot-few here at (half-long (stays who (listedIn v)) at (viewSessions t₀) low))

@@ -9,14 +9,13 @@ use lib.ListN.{length, drop, getD}
 use Rattle.octets.specs.Choice.{pick}
 use Rattle.octets.specs.Octets.{part}
 use Rattle.rules.specs.Model.{Session, hasPeer}
-use Rattle.rules.specs.Layout.{keyWidth, sessionWidth, tableLength, viewSession, viewSettings}
+use Rattle.rules.specs.Layout.{sessionWidth, tableLength, viewSession, viewSettings}
 use Rattle.rules.specs.Sound.{sound}
 use Rattle.rules.specs.Elements.{Fqcsid, sets, addressLength, csidsRead}
 use Rattle.rules.specs.Reading.{Reading, faulty, done, listedRead}
 use Rattle.rules.specs.Apply.{coversSession}
 use Rattle.rules.specs.Types as ie
-use Rattle.areas.specs.Records.{keyOf}
-use Rattle.areas.specs.Counted.{areaIn, withoutRecord}
+use Rattle.areas.specs.Counted.{areaIn, removedIn}
 use Rattle.session.specs.Areas.{tableArea}
 
 -- a reading without what was read, and what was read, nothing where there is a fault
@@ -64,7 +63,7 @@ goesBy who l x = hasPeer who x && coversSession x l
 
 -- the table without the session at place p, if that goes
 unfoldable pub afterOne : ℕ → ℕ → ℕ → Fqcsid → List ℕ → List ℕ
-afterOne room p who l t = pick (goesBy who l (viewSession (slotAt room p t))) (withoutRecord (tableArea room) (keyOf keyWidth (slotAt room p t)) t) t
+afterOne room p who l t = pick (goesBy who l (viewSession (slotAt room p t))) (removedIn (tableArea room) p t) t
 
 -- a table that is not broken
 pub record Sound (t : List ℕ) : Type 0 where

@@ -16,6 +16,8 @@ ghost use Rattle.rules.specs.Elements.{csidsRead};
 ghost use Rattle.rules.specs.Message.{listPlace, elements};
 ghost use Rattle.rules.specs.Reading.{done, listRead};
 ghost use Rattle.rules.specs.Apply.{covers, coversSession, staysSession};
+ghost use Rattle.areas.specs.Counted.{countIn};
+ghost use Rattle.session.specs.Areas.{tableArea};
 ghost use Rattle.reading.specs.Verdicts.{outcome, numbered};
 ghost use Rattle.sets.specs.Listed.{blank, gotten, listStep, listedIn, listsIn, Sized, slotAt, goesBy, afterOne, Sound};
 ghost use Rattle.rules.specs.Types as ie;
@@ -134,14 +136,13 @@ fn goes(t: &[u8], room: usize, p: usize, peer: u32, v: &[u8]) -> bool
 
 // Takes the session at place p out if it goes.
 fn remove_one(t: &mut [u8], room: usize, p: usize, peer: u32, v: &[u8])
-    requires { ⌜ (length (now t) ≡ tableLength room) × (p < room) × (octetAt (slotAt room p (now t)) csidCountAt ≤ nodeTypes) × Sized (now v) ⌝ }
+    requires { ⌜ (length (now t) ≡ tableLength room) × (p < countIn (tableArea room) (now t)) × (countIn (tableArea room) (now t) ≤ room) × (octetAt (slotAt room p (now t)) csidCountAt ≤ nodeTypes) × Sized (now v) ⌝ }
     ensures { λ _. ⌜ now (t .exit) ≡ afterOne room p peer (listedIn (now (v .entry))) (now (t .entry)) ⌝ }
 {
     if !goes(t, room, p, peer, v) {
         return;
     }
-    let seid = octets::read(t, format::HEAD + p * format::SLOT + format::SEID, 8);
-    session::remove(t, room, format::COUNT, peer as u64, seid);
+    session::remove(t, room, format::COUNT, p);
 }
 
 // Takes out every session of the peer that the FQ-CSID of value v covers, from the last place to the first, so that no place moves before it is looked at.

@@ -40,11 +40,12 @@ pub struct Known {
     pub seid: u64,
 }
 
-// What reading it added: the SEID of its F-SEID and whether that is live, which counts for an establishment; how many rows its plan has, whether it
-// is a restoration, and whether element 129 was met.
+// What reading it added: the SEID of its F-SEID, which counts for an establishment; whether its session is live, and where that stands in the table
+// or has its place; how many rows its plan has, whether it is a restoration, and whether element 129 was met.
 pub struct Told {
     pub seid: u64,
     pub live: bool,
+    pub place: usize,
     pub rows: usize,
     pub restoring: bool,
     pub noted: bool,

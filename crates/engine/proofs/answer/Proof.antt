@@ -1,6 +1,6 @@
 -- `engine::answer` meets its contract.
 -- Assumes nothing.
-use Rattle.engine.proofs.Answering.{table-room, establishes, absent-refuses, absent-replies, named-live, deletes, modifies}
+use Rattle.engine.proofs.Answering.{table-room, establishes, absent-refuses, absent-replies, named-at, deletes, modifies}
 use mathlib.Core.Path.{sym}
 use borrow.Author.Needs.{needs}
 use Rattle.engine.proofs.answer.Statement.{statement}
@@ -19,8 +19,8 @@ delete-requires : tie.Need-delete-requires
 delete-requires c κs =
     let b = c .before .before .before .before .before .before .before .before .before .before .before .before .before .before .before in
     let p = b .pre in
-    let live = named-live (b .args .k) (p .0) (p .2) (c .before .before .before .before .before .before .before .before .before .before .if1 .left) (p .3) (p .1 .settings) (c .before .before .before .before .before .before .before .find .ensures) (c .before .before .before .before .before .place2 .given .1) in
-    (p .0, live, deletes (b .args .k) (p .0) (p .2) (c .before .before .if2 .taken), p .3, p .1 .settings)
+    let at = named-at (b .args .k) (p .0) (p .2) (c .before .before .before .before .before .before .before .before .before .before .if1 .left) (p .3) (p .1 .settings) (c .before .before .before .before .before .before .before .find .ensures) (c .before .before .before .before .before .place2 .given .1) in
+    (p .0, at .0, deletes (b .args .k) (p .0) (p .2) (c .before .before .if2 .taken), at .1, p .1 .settings)
 
 change-requires-2 : tie.Need-change-requires-2
 change-requires-2 c κs =

@@ -4,7 +4,7 @@ use Rattle.octets.specs.Lists.{all}
 use mathlib.Core.Path.{refl}
 use native.Mathlib.Omega.{arith}
 use Rattle.engine.proofs.Answering.{table-room}
-use Rattle.engine.proofs.Deleted.{deleted-through}
+use Rattle.engine.proofs.Deleted.{deleted-within, deleted-room, deleted-through}
 use Rattle.engine.proofs.Faults.{frame-asks, frame-replies}
 use Rattle.engine.proofs.delete.Statement.{statement}
 use Rattle.engine.proofs.delete.Tie as tie
@@ -20,7 +20,7 @@ unfolding all
 accepted-requires c κs = (search needs, search needs, omega arith, tt, refl, search needs)
 
 remove-requires : tie.Need-remove-requires
-remove-requires c κs = search table-room
+remove-requires c κs = (search table-room, search deleted-within, search deleted-room)
 
 returns-2 : tie.Need-returns-2
 returns-2 c = search deleted-through
@@ -43,7 +43,6 @@ delete-spec =
     (λ c. search needs)
     (λ c. search needs)
     accepted-requires
-    (λ c. search needs)
     remove-requires
     (λ c. search needs)
     (λ c. search needs)

@@ -1,7 +1,7 @@
 -- `sets::remove_covered` meets its contract: from the last place to the first. Assumes nothing.
 use borrow.Author.Needs.{needs}
 use native.Mathlib.Omega.{arith}
-use Rattle.sets.proofs.GoneLaws.{Going, count-room, going-none, going-place, going-few, going-more, going-end, going-same, going-long}
+use Rattle.sets.proofs.GoneLaws.{Going, count-room, going-none, going-counted, going-within, going-few, going-more, going-end, going-same, going-long}
 use Rattle.sets.proofs.remove_covered.Statement.{statement}
 use Rattle.sets.proofs.remove_covered.Tie as tie
 
@@ -21,7 +21,7 @@ loop-holds : tie.Need-loop-holds Inv-loop μ-loop
 loop-holds c = search going-none
 
 remove-one-requires : tie.Need-remove-one-requires Inv-loop μ-loop
-remove-one-requires c κs = let g = c .before .before .loop .inv in (going-long g, going-place g (omega arith), going-few g (omega arith), c .before .before .before .before .before .before .before .before .before .pre .1)
+remove-one-requires c κs = let g = c .before .before .loop .inv in (going-long g, going-counted g (omega arith), going-within g (omega arith), going-few g (omega arith), c .before .before .before .before .before .before .before .before .before .pre .1)
 
 loop-again : tie.Need-loop-again Inv-loop μ-loop
 loop-again c = going-more (c .before .before .before .before .before .loop .inv) (omega arith) (c .before .before .remove-one .ensures)
