@@ -9,7 +9,7 @@ use Rattle.octets.specs.Lists.{all}
 use Rattle.octets.proofs.Tests.{all-head, all-tail, all-cons, pick-yes}
 use Rattle.rules.specs.Model.{Settings, Sessions, freeCount, freeAddressCount}
 use Rattle.rules.specs.Layout.{encode, viewSettings, viewSessions}
-use Rattle.rules.specs.Sound.{settingsAllowed, sessionsAllowed, sound, make, free, broken, countFree, takenMap, countAddresses, addressMap}
+use Rattle.rules.specs.Sound.{settingsAllowed, sessionsAllowed, sound, make, free, broken, countFree, marked, takenMap, countAddresses, addressMap}
 use Rattle.rules.specs.Serve.{Served, serve}
 use Rattle.rules.specs.Live.{Event, replied, acceptedEvent, live, liveFrom, replyCause}
 use Rattle.rules.specs.Calls.{Call, callAllowed, tableAfterCall, eventOf, tableAfterAll, eventsOf}
@@ -21,6 +21,9 @@ use Rattle.invariants.proofs.Beside.{empty-allowed}
 use Rattle.claim.proofs.Sequence.{kept-all, made-empty, made-settings}
 use Rattle.invariants.proofs.Steps.{Keeps}
 use Rattle.laws.proofs.PeerLaws.{peers-kept}
+use Rattle.pool.proofs.TakenLaws.{map-means}
+use Rattle.pool.proofs.AddressLaws.{address-map-means}
+use Rattle.invariants.proofs.FreeTeids.{held-in-pool}
 use Rattle.invariants.proofs.PeersAfter.{guaranteed-passes}
 use Rattle.invariants.proofs.ServeLaws.{answers, served-cause}
 use Rattle.invariants.proofs.NoRoom.{cause-75}
@@ -84,10 +87,6 @@ module _ (s : Settings) (hs : T (settingsAllowed s)) (m : Sessions) (hm : T (ses
             (sym (run-events (make s b .table) again ran ∙ ap₂ (λ (u : List ℕ) (cs : List Call). eventsOf u cs) e are))
             (restored-accepted s hs m hm rs ok order);
         octetsEqual = same;
-        countEqual = ap (countFree) same;
-        mapEqual = ap mapOf same;
-        addressCountEqual = ap (countAddresses) same;
-        addressMapEqual = ap addressMapOf same;
       }
 
 -- ---- the claim
@@ -107,11 +106,11 @@ module _ (keeps : Keeps) (s : Settings) where
         count =
             pick-yes (sound t) (free (freeCount (viewSettings t) (viewSessions t))) broken yes
             ∙ ap₂ (λ (u : Settings) (n : Sessions). free (freeCount u n)) settings records;
-        marks = ap₂ takenMap settings records;
+        marks = λ i. ap (λ (words : List ℕ). marked words i) (ap₂ takenMap settings records) ∙ map-means s m hs (held-in-pool s m hm) i;
         addressCount =
             pick-yes (sound t) (free (freeAddressCount (viewSettings t) (viewSessions t))) broken yes
             ∙ ap₂ (λ (u : Settings) (n : Sessions). free (freeAddressCount u n)) settings records;
-        addressMarks = ap₂ addressMap settings records;
+        addressMarks = λ i. ap (λ (words : List ℕ). marked words i) (ap₂ addressMap settings records) ∙ address-map-means s m hs i;
       }
 
   module _ (a : List ℕ) (steps : List Step) (ha : T (make s a .made)) (ho : T (all stepAllowed steps)) (hr : Ran (make s a .table) steps) where

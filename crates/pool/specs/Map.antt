@@ -1,17 +1,13 @@
 -- A map of taken TEIDs as any number of words of 64 bits, a bit for each offset in the pool (a TEID less the pool's first TEID).
 -- Assumes nothing.
-use mathlib.Core.Bool.{Bool, not}
+use mathlib.Core.Bool.{not}
 use mathlib.Core.List.{List, [], _∷_, map}
 use Prim.Native.Nat.{ℕ, _+_, _-_, _/_, _%_, _^_}
 use lib.Bits.{bitOr}
 use lib.ListN.{getD, set}
 use Rattle.octets.specs.Choice.{flag}
-use Rattle.octets.specs.Octets.{bit}
 use Rattle.octets.specs.Lists.{keep, range}
-
--- an offset is marked: its bit in its word is 1
-unfoldable pub marked : List ℕ → ℕ → Bool
-marked words i = bit (i % 64) (getD words (i / 64) 0)
+unfoldable pub use Rattle.rules.specs.Sound.{marked}
 
 -- the words with an offset marked too
 unfoldable pub mark : List ℕ → ℕ → List ℕ

@@ -1,6 +1,6 @@
 -- The accident does not happen in any run of the exported calls: released is removed, and no two patients have one TEID or one address of the pool.
 -- Assumes nothing.
-use mathlib.Core.Path.{_≡_, refl, sym, ap, ap₂, _∙_, subst}
+use mathlib.Core.Path.{_≡_, refl, sym, ap, _∙_, subst}
 use Prim.Native.Nat.{ℕ, _-_, _≤_}
 use native.Mathlib.Omega.{arith}
 use mathlib.Core.Bool.{Bool, true, false, not, _&&_, _||_}
@@ -17,7 +17,7 @@ use Rattle.octets.proofs.ListLaws.{Every, by-test, or-right, all-every, all-map
 use Rattle.octets.proofs.MemberLaws.{member-passes}
 use Rattle.rules.specs.Model.{Settings, Session, Sessions, teidOf, sessionHoldings, sessionTeids, heldTeids, freeCount, freeTeids, inAddressPool, sessionAddresses, heldAddresses, freeAddressCount, freeAddresses}
 use Rattle.rules.specs.Layout.{viewSettings, viewSessions}
-use Rattle.rules.specs.Sound.{inPool, sessionsAllowed, sound, broken, free, countFree}
+use Rattle.rules.specs.Sound.{inPool, sessionsAllowed, sound, broken, free, countFree, marked}
 use Rattle.rules.specs.Message.{kindOf, deletion, setDeletion}
 use Rattle.rules.specs.Reading.{readRequest}
 use Rattle.rules.specs.Request.{Request, NewPdr, NewEndpoint}
@@ -27,7 +27,6 @@ use Rattle.rules.specs.Apply.{keptPdr, keptEndpoint}
 use Rattle.rules.specs.Serve.{Served, serve}
 use Rattle.rules.specs.Live.{replied, acceptedEvent, createdTeid, createdAddress}
 use Rattle.rules.specs.Claim.{mapOf, addressMapOf, Holds}
-use Rattle.pool.specs.Map.{marked}
 use Rattle.pool.proofs.TakenLaws.{means-test, map-means, pool-from}
 use Rattle.pool.proofs.AddressLaws.{asPool, address-map-means}
 use Rattle.invariants.proofs.GrantLaws.{enough}
@@ -323,19 +322,13 @@ released-is-removed run =
     let allowed : T (sessionsAllowed s m) = subst (λ (u : Settings). T (sessionsAllowed u m)) (l .settings) (subst (λ (w : Sessions). T (sessionsAllowed (viewSettings t) w)) (l .records) (k .sessions)) in
     record {
       records = ap heldTeids (l .records);
-      marks = λ n h.
-          ap (λ (u : Settings). marked (mapOf t) (n - u .first)) (sym (l .settings))
-          ∙ bit-says t k n (in-table n h)
-          ∙ ap (λ (w : Sessions). member n (heldTeids w)) (l .records);
+      marks = λ n h. means-test (s .first) (mapOf t) (heldTeids m) n (l .marks) (pool-from s n h);
       count = ap countAnswer (l .count) ∙ ap (λ (n : ℕ). record { outcome = 0; count = n }) (sym (free-count s m allowed));
       unheld = λ n h g. out-of-use t k n (in-table n h) (subst (λ (w : Sessions). T (not (member n (heldTeids w)))) (sym (l .records)) g);
       removed = λ who msg space r a n h g. removed-out run who msg space r a n h g;
       listed = λ who msg space r a d n h. listed-out run who msg space r a d n h;
       addressRecords = ap (heldAddresses s) (l .records);
-      addressMarks = λ a h.
-          ap (λ (u : Settings). marked (addressMapOf t) (a - u .firstAddress)) (sym (l .settings))
-          ∙ address-bit-says t k a (address-in-table a h)
-          ∙ ap₂ (λ (u : Settings) (w : Sessions). member a (heldAddresses u w)) (l .settings) (l .records);
+      addressMarks = λ a h. means-test (s .firstAddress) (addressMapOf t) (heldAddresses s m) a (l .addressMarks) (pool-from (asPool s) a (unfold inPool inAddressPool in h));
       addressCount = ap countAnswer (l .addressCount) ∙ ap (λ (n : ℕ). record { outcome = 0; count = n }) (sym (free-address-count s m));
       addressUnheld = λ a h g.
           address-out-of-use t k a (address-in-table a h)

@@ -14,7 +14,7 @@ use Rattle.octets.specs.Lists.{member, ascending, all, any, keep}
 use Rattle.rules.specs.Model.{Settings, Session, Sessions, sessionTeids, heldTeids, freeTeids, inAddressPool, sessionAddresses, heldAddresses, freeAddresses, hasPeer, sessionKey}
 use Rattle.rules.specs.Elements.{UeIp, ueChooses}
 use Rattle.rules.specs.Layout.{viewSettings, viewSessions}
-use Rattle.rules.specs.Sound.{inPool}
+use Rattle.rules.specs.Sound.{inPool, marked}
 use Rattle.rules.specs.Message.{deletion, kindOf, setDeletion}
 use Rattle.rules.specs.Reading.{readRequest}
 use Rattle.rules.specs.Request.{Request, NewPdr, NewEndpoint}
@@ -23,7 +23,6 @@ use Rattle.rules.specs.Stages.{hasKey, newSession, removedPdrs, entrySession}
 use Rattle.rules.specs.Apply.{keptPdr, keptEndpoint, goesSession}
 use Rattle.rules.specs.Live.{replied, acceptedEvent, createdTeid, createdAddress}
 use Rattle.rules.specs.Claim.{mapOf, addressMapOf}
-use Rattle.pool.specs.Map.{marked}
 use Rattle.pfcp_session.specs.Calls.{countCall, addressCountCall, RequestCall, requestCall}
 use Rattle.promises.specs.Runs.{Run, liveAfter, tableAfter}
 

@@ -1,9 +1,9 @@
 -- Demand 3 as one statement. An empty table is made, and any calls follow, each of which leaves what its contract says it leaves: the host
 -- outcome, the reply space and the table of `serve`, or the answer of `countFree` or `countAddresses`. Then
 -- * the table holds the live set that the messages, outcomes and replies alone determine, field by field, in the octets that encode it; the
---   free counts and the maps of taken TEIDs and addresses are those of the live set;
+--   free counts are those of the live set, and the maps mark its TEIDs and addresses, bit by bit;
 -- * one restoration request for each live session, in any order, run on an empty table with the same settings, is accepted each time, and
---   leaves the same octets, the same free counts and the same maps;
+--   leaves the same octets, and so the same free counts and the same maps;
 -- * any other calls from an empty table with the same settings that leave the same live set leave the same octets.
 -- Assumes nothing.
 use mathlib.Core.Path.{_≡_}
@@ -14,11 +14,11 @@ use lib.ListN.{length}
 use lib.Dec.{T, leb}
 use Rattle.octets.specs.Choice.{allOf, oneOf}
 use Rattle.octets.specs.Octets.{octets}
-use Rattle.octets.specs.Lists.{all, distinct}
+use Rattle.octets.specs.Lists.{all, member, distinct}
 use Rattle.rules.specs.Limits.{minSpace}
 use Rattle.rules.specs.Model.{Settings, Session, Sessions, heldTeids, heldAddresses, isPeer, peerOf, holdings}
 use Rattle.rules.specs.Layout.{encode, viewSettings, viewSessions}
-use Rattle.rules.specs.Sound.{make, Count, free, countFree, takenMap, countAddresses, addressMap}
+use Rattle.rules.specs.Sound.{make, Count, free, countFree, marked, takenMap, countAddresses, addressMap}
 use Rattle.rules.specs.Serve.{serve, Served}
 use Rattle.rules.specs.Live.{Event, replied, counted, acceptedEvent, live, replyCause}
 use Rattle.rules.specs.Restoration.{Sender, senderAllowed, restoration}
@@ -102,24 +102,21 @@ mapOf t = takenMap (viewSettings t) (viewSessions t)
 unfoldable pub addressMapOf : List ℕ → List ℕ
 addressMapOf t = addressMap (viewSettings t) (viewSessions t)
 
--- the table t holds the settings s and the sessions m
+-- The table t holds the settings s and the sessions m. A bit of a map is that of the number so far from the pool's first, and says whether a
+-- record holds it: past the pool's last none is held, and no bit is 1.
 pub record Holds (s : Settings) (m : Sessions) (t : List ℕ) : Type 0 where
   pub settings : viewSettings t ≡ s
   pub records : viewSessions t ≡ m
   pub encoded : t ≡ encode s m
   pub count : countFree t ≡ free (s .size - distinct (heldTeids m))
-  pub marks : mapOf t ≡ takenMap s m
+  pub marks : (i : ℕ) → marked (mapOf t) i ≡ member (s .first + i) (heldTeids m)
   pub addressCount : countAddresses t ≡ free (s .addressCount - distinct (heldAddresses s m))
-  pub addressMarks : addressMapOf t ≡ addressMap s m
+  pub addressMarks : (i : ℕ) → marked (addressMapOf t) i ≡ member (s .firstAddress + i) (heldAddresses s m)
 
--- restorations that ran on an empty table t₀ left the table t
+-- restorations that ran on an empty table t₀ were accepted each time, and left the table t
 pub record Restores (t : List ℕ) (t₀ : List ℕ) (steps : List Step) : Type 0 where
   pub each : T (all acceptedEvent (map eventIn steps))
   pub octetsEqual : lastTable t₀ steps ≡ t
-  pub countEqual : countFree (lastTable t₀ steps) ≡ countFree t
-  pub mapEqual : mapOf (lastTable t₀ steps) ≡ mapOf t
-  pub addressCountEqual : countAddresses (lastTable t₀ steps) ≡ countAddresses t
-  pub addressMapEqual : addressMapOf (lastTable t₀ steps) ≡ addressMapOf t
 
 -- of the table t that a run with the settings s left, and its live set m; `List·Permᴰ` says "one for each, in any order"
 pub record Promise (s : Settings) (m : Sessions) (t : List ℕ) : Type 0 where

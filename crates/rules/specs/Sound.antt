@@ -1,13 +1,13 @@
 -- Which settings are allowed, which octets are a table that is not broken, and the calls that make and count (01, "Settings and table").
 -- Assumes nothing.
-use Prim.Native.Nat.{ℕ, zero, suc, _+_, _*_, _^_}
+use Prim.Native.Nat.{ℕ, zero, suc, _+_, _*_, _/_, _%_, _^_}
 use mathlib.Core.Bool.{Bool, true, false, not, _&&_, _||_}
 use mathlib.Core.Option.{Option, none, some}
 use mathlib.Core.List.{List, [], _∷_, map}
-use lib.ListN.{length}
+use lib.ListN.{length, getD}
 use lib.Dec.{leb, ltb, eqb}
 use Rattle.octets.specs.Choice.{pick, allOf, isNil, sameBool, flag}
-use Rattle.octets.specs.Octets.{octets, sameOctets}
+use Rattle.octets.specs.Octets.{octets, sameOctets, bit}
 use Rattle.octets.specs.Lists.{member, anyIn, ascending, all, allPairs}
 use Rattle.rules.specs.Model.{Peer, isPeer, peerOf, half, ofPeer, holdings, unused, Settings, Tunnel, Match, neither, tunnel, endpoint, Pdr, Endpoint, Csid, Session, Sessions, Holding, sessionHoldings, sessionTeids, heldTeids, freeCount, sessionAddresses, heldAddresses, freeAddressCount, pdrId, endpointId, nodeTypeOf, sessionKey}
 use Rattle.rules.specs.Limits.{maxPdrs, maxEndpoints, nodeTypes, maxSessions, maxPool, maxAddresses}
@@ -213,6 +213,10 @@ countAddresses t = pick (sound t) (free (freeAddressCount (viewSettings t) (view
 
 -- ---- the maps of what is taken
 
+-- an offset is marked in a map of words of 64 bits: its bit in its word is 1
+unfoldable pub marked : List ℕ → ℕ → Bool
+marked words i = bit (i % 64) (getD words (i / 64) 0)
+
 -- is the number at an offset from the first one among those held
 unfoldable pub taken : ℕ → List ℕ → ℕ → Bool
 taken first held i = member (first + i) held
@@ -236,5 +240,5 @@ unfoldable pub addressMap : Settings → Sessions → List ℕ
 addressMap s m = takenWords (s .firstAddress) (heldAddresses s m) addressWords 0
 
 unfoldable pub computing : ℕ
-unfolding poolTests addressPoolTests limitTests peerTests peersTests ipv6Allowed settingsTests settingsAllowed inPool unitFamilies tunnelTests tunnelAllowed matchAllowed farAllowed addressAllowed pdrTests pdrAllowed endpointTests endpointAllowed csidTests csidAllowed shareTests agree recordTests recordsAllowed sessionAllowed apart fewSessions fewTeids due peersKept sessionsTests sessionsAllowed soundTests sound lengthFor make countFree countAddresses taken takenBits takenWords takenMap addressMap
+unfolding poolTests addressPoolTests limitTests peerTests peersTests ipv6Allowed settingsTests settingsAllowed inPool unitFamilies tunnelTests tunnelAllowed matchAllowed farAllowed addressAllowed pdrTests pdrAllowed endpointTests endpointAllowed csidTests csidAllowed shareTests agree recordTests recordsAllowed sessionAllowed apart fewSessions fewTeids due peersKept sessionsTests sessionsAllowed soundTests sound lengthFor make countFree countAddresses marked taken takenBits takenWords takenMap addressMap
 computing = 0
