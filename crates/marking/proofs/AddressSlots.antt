@@ -15,8 +15,9 @@ use Rattle.octets.specs.Lists.{any, keep, collect}
 use Rattle.octets.proofs.ListLaws.{collect-append, collect-same, collect-map}
 use Rattle.rules.specs.Model.{Settings, Pdr, Endpoint, pdrAddress, endpointAddress, inAddressPool, sessionAddresses}
 use Rattle.rules.specs.Layout.{viewPdr, viewEndpoint, pdrWidth, endpointWidth, pdrCountAt, endpointCountAt, pdrAddressThereAt, endpointAddressThereAt}
+use Rattle.rules.specs.Sound.{marked}
 use Rattle.laws.proofs.LayoutLaws.{pdr-view, endpoint-view}
-use Rattle.pool.specs.Map.{marked, marks, newMarks, offsets}
+use Rattle.pool.specs.Map.{marks, newMarks, offsets}
 use Rattle.pool.proofs.Marks.{marks-append, length-marks, new-append}
 use Rattle.marking.specs.Walk.{addressOffsets}
 use Rattle.records.specs.Slot.{headSound, pdrArea, endpointArea}

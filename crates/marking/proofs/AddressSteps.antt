@@ -19,7 +19,8 @@ use Rattle.octets.proofs.Tests.{of-true}
 use Rattle.rules.specs.Limits.{maxSessions, maxAddresses}
 use Rattle.rules.specs.Model.{Settings, inAddressPool}
 use Rattle.rules.specs.Layout.{optionRead}
-use Rattle.pool.specs.Map.{marked, mark, marks, newMarks}
+use Rattle.rules.specs.Sound.{marked}
+use Rattle.pool.specs.Map.{mark, marks, newMarks}
 use Rattle.pool.proofs.Marks.{length-mark, marked-mark, mark-there}
 use Rattle.unit.specs.declared.Settings.{Settings as Unit}
 use Rattle.unit.specs.Meaning.{settingsOf}

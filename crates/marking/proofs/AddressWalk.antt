@@ -12,8 +12,8 @@ use Rattle.octets.proofs.Bools.{and-four, or-four, and-swap}
 use Rattle.octets.proofs.Questions.{any-nil, any-cons, any-turn, member-append}
 use Rattle.octets.proofs.EachTwo.{all-step, pairs-step}
 use Rattle.rules.specs.Model.{Settings, Session, Sessions, sessionAddresses}
-use Rattle.rules.specs.Sound.{inPool, apart}
-use Rattle.pool.specs.Map.{marked, marks, offsets}
+use Rattle.rules.specs.Sound.{inPool, apart, marked}
+use Rattle.pool.specs.Map.{marks, offsets}
 use Rattle.pool.proofs.Marks.{length-marks}
 use Rattle.pool.proofs.TakenLaws.{Means, means-empty, means-test, means-marks, pool-from}
 use Rattle.pool.proofs.AddressLaws.{asPool, session-pooled}

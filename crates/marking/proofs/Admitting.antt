@@ -16,9 +16,9 @@ use Rattle.octets.specs.Lists.{all, collect}
 use Rattle.octets.proofs.Tests.{of-true}
 use Rattle.rules.specs.Model.{Settings, Session, Holding, Pdr, sessionHoldings, sessionTeids, teidOf, pdrHolding, endpointHolding, endpointId}
 use Rattle.rules.specs.Layout.{viewPdr, viewEndpoint, pdrWidth, endpointWidth, csidWidth, pdrCountAt, endpointCountAt, csidCountAt}
-use Rattle.rules.specs.Sound.{inPool, recordsAllowed}
+use Rattle.rules.specs.Sound.{inPool, recordsAllowed, marked}
 use Rattle.laws.proofs.KeptRules.{records-kept}
-use Rattle.pool.specs.Map.{marked, mark, marks, newMarks, offsets}
+use Rattle.pool.specs.Map.{mark, marks, newMarks, offsets}
 use Rattle.pool.proofs.Marks.{length-marks}
 use Rattle.marking.specs.Walk.{sessionMarks}
 use Rattle.marking.proofs.MapWalk.{records-in-pool}

@@ -15,7 +15,8 @@ use Rattle.octets.specs.Fields.{fieldsAt}
 use Rattle.octets.specs.Lists.{collect}
 use Rattle.rules.specs.Model.{Holding, pdrHolding, endpointHolding, tunnelHolding}
 use Rattle.rules.specs.Layout.{tunnelRead, endpointFrom, viewEndpoint, pdrWidth, endpointWidth, matchAt, teidAt, endpointTeidAt}
-use Rattle.pool.specs.Map.{marked, mark}
+use Rattle.rules.specs.Sound.{marked}
+use Rattle.pool.specs.Map.{mark}
 use Rattle.marking.specs.Walk.{joins}
 use Rattle.marking.proofs.RecordWalk.{look-none}
 use Rattle.unit.specs.declared.Settings.{Settings as Unit}

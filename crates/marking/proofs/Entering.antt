@@ -15,7 +15,8 @@ use Rattle.octets.proofs.Tests.{of-true, and-left}
 use Rattle.rules.specs.Limits.{maxAddresses, maxSessions}
 use Rattle.rules.specs.Model.{Settings, isPeer}
 use Rattle.rules.specs.Layout.{sessionWidth}
-use Rattle.pool.specs.Map.{marked, marks, newMarks}
+use Rattle.rules.specs.Sound.{marked}
+use Rattle.pool.specs.Map.{marks, newMarks}
 use Rattle.pool.proofs.Marks.{zeros-at, marked-zeros}
 use Rattle.records.specs.Slot.{slotSound, slotTests, headSound}
 use Rattle.marking.specs.declared.addresses.Met.{Met}

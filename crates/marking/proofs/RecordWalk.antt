@@ -12,8 +12,8 @@ use Rattle.octets.specs.Lists.{all, collect}
 use Rattle.octets.proofs.Tests.{all-head, all-tail, all-cons, is-false}
 use Rattle.octets.proofs.Bools.{and-true}
 use Rattle.rules.specs.Model.{Holding, teidOf}
-use Rattle.rules.specs.Sound.{shareTests}
-use Rattle.pool.specs.Map.{marked, mark, marks, offsets}
+use Rattle.rules.specs.Sound.{shareTests, marked}
+use Rattle.pool.specs.Map.{mark, marks, offsets}
 use Rattle.marking.specs.Walk.{onSame, sharedWith, joins, sessionMarks}
 use Rattle.marking.proofs.Joining.{joins-nil, joins-cons, joins-append}
 

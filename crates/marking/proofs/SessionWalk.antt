@@ -7,7 +7,8 @@ use Prim.Native.Nat.{ℕ, _-_}
 use lib.Dec.{T}
 use Rattle.octets.specs.Lists.{all, collect}
 use Rattle.rules.specs.Model.{Endpoint, Session, teidOf, tunnelHolding, pdrHolding, endpointHolding, sessionHoldings}
-use Rattle.pool.specs.Map.{marked, mark, marks, offsets}
+use Rattle.rules.specs.Sound.{marked}
+use Rattle.pool.specs.Map.{mark, marks, offsets}
 use Rattle.marking.specs.Walk.{sessionMarks}
 use Rattle.marking.proofs.RecordWalk.{unshared, marks-split, marks-own}
 

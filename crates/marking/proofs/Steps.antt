@@ -13,7 +13,8 @@ use Rattle.octets.specs.Choice.{pick, flag, consOption}
 use Rattle.octets.specs.Lists.{collect}
 use Rattle.octets.proofs.Bools.{or-false}
 use Rattle.rules.specs.Model.{Holding, Pdr, Endpoint, pdrHolding, endpointHolding, tunnelHolding}
-use Rattle.pool.specs.Map.{marked, mark, marks, newMarks, offsets}
+use Rattle.rules.specs.Sound.{marked}
+use Rattle.pool.specs.Map.{mark, marks, newMarks, offsets}
 use Rattle.pool.proofs.Marks.{length-mark}
 use Rattle.marking.specs.Walk.{joins, sessionMarks}
 use Rattle.marking.proofs.RecordWalk.{marks-nil, record-none, record-some, look-none}

@@ -13,7 +13,8 @@ use Rattle.octets.specs.Octets.{part, number, octetAt, slices, concatMap}
 use Rattle.octets.specs.Lists.{any, collect}
 use Rattle.rules.specs.Model.{Settings, Holding, tunnelHolding, pdrHolding, endpointHolding, sessionHoldings, teidOf}
 use Rattle.rules.specs.Layout.{tunnelRead, viewPdr, viewEndpoint, viewSession, pdrWidth, endpointWidth, sourceAt, matchAt, teidAt, familiesAt}
-use Rattle.pool.specs.Map.{marked, mark, marks, newMarks, offsets}
+use Rattle.rules.specs.Sound.{marked}
+use Rattle.pool.specs.Map.{mark, marks, newMarks, offsets}
 use Rattle.marking.specs.Walk.{joins, sessionMarks}
 use Rattle.records.specs.Slot.{slotSound}
 use Rattle.marking.specs.Offsets.{heldOffsets, Agrees}

@@ -14,7 +14,8 @@ use Rattle.octets.specs.Lists.{any, collect}
 use Rattle.rules.specs.Limits.{maxSessions, maxAddresses}
 use Rattle.rules.specs.Model.{Settings, inAddressPool}
 use Rattle.rules.specs.Layout.{optionRead, viewSession, pdrWidth, endpointWidth, pdrCountAt, endpointCountAt, pdrAddressThereAt, endpointAddressThereAt}
-use Rattle.pool.specs.Map.{marked, mark, marks, newMarks}
+use Rattle.rules.specs.Sound.{marked}
+use Rattle.pool.specs.Map.{mark, marks, newMarks}
 use Rattle.marking.specs.Walk.{addressOffsets}
 use Rattle.records.specs.Slot.{pdrArea, endpointArea}
 use Rattle.marking.specs.declared.addresses.Met.{Met}

@@ -9,8 +9,8 @@ use lib.Dec.{eqb}
 use Rattle.octets.specs.Choice.{allOf}
 use Rattle.octets.specs.Lists.{member, anyIn, any}
 use Rattle.rules.specs.Model.{Settings, Holding, Session, Sessions, sessionHoldings, sessionTeids, sessionAddresses}
-use Rattle.rules.specs.Sound.{shareTests}
-use Rattle.pool.specs.Map.{marked, mark, marks, offsets}
+use Rattle.rules.specs.Sound.{shareTests, marked}
+use Rattle.pool.specs.Map.{mark, marks, offsets}
 
 -- a PDR's hold on the same TEID
 unfoldable pub onSame : Holding → Holding → Bool

@@ -7,9 +7,9 @@ use native.Mathlib.Omega.{arith}
 use lib.Dec.{T, ltb, leb, leb→le, le→leb, ltb→lt, nltb→le, not-T}
 use borrow.Author.Tests.{le-leb, lt-leb, not-true, not-false}
 use Rattle.octets.proofs.Tests.{of-true, and-left, and-right}
-use Rattle.pool.specs.Map.{marked}
 use Rattle.plan.specs.RowRules.{inRange}
 use Rattle.octets.proofs.Bools.{both-ways}
+use Rattle.rules.specs.Sound.{marked}
 
 module _ (first size n : ℕ) where
   pub range-below : n < first → not (inRange first size n) ≡ true

@@ -10,11 +10,10 @@ use Rattle.octets.specs.Choice.{isSome, isNil, sameBool}
 use Rattle.octets.specs.Octets.{be, bit, sameOctets}
 use Rattle.octets.proofs.Numbers.{length-be, same-append}
 use Rattle.rules.specs.Model.{Settings, Holding}
-use Rattle.rules.specs.Sound.{inPool, unitFamilies}
+use Rattle.rules.specs.Sound.{inPool, unitFamilies, marked}
 use Rattle.rules.specs.Stages.{allocationWrong, lacksFamily, strange, otherAddress}
 use Rattle.plan.specs.Rows.{word, rowFteid}
 use Rattle.plan.specs.Words as its
-use Rattle.pool.specs.Map.{marked}
 use Rattle.unit.specs.declared.Settings.{Settings as Unit}
 use Rattle.unit.specs.Meaning.{settingsOf}
 use Rattle.plan.specs.RowRules.{hasFteid, ofFteid, rowHolding, rowIpv4, rowIpv6, restores, heldIn, inRange}

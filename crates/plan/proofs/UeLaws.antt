@@ -14,9 +14,9 @@ use Rattle.rules.specs.Model.{inAddressPool}
 use Rattle.rules.specs.Elements.{UeIp, ueGiven, ueChoose, ueOther, ueAddressOf, ueChooses}
 use Rattle.rules.specs.Stages.{addressesOf, newPdrAddress, newEndpointAddress, wrongAddress}
 use Rattle.rules.specs.Types as ie
+use Rattle.rules.specs.Sound.{marked}
 use Rattle.plan.specs.Rows.{word, tagged, ueFrom, rowUe, rowPdr, rowEndpoint, requestIn}
 use Rattle.plan.specs.Words as its
-use Rattle.pool.specs.Map.{marked}
 use Rattle.unit.specs.declared.Settings.{Settings as Unit}
 use Rattle.unit.specs.Meaning.{settingsOf}
 use Rattle.plan.specs.RowRules.{onSome, creates, ofAddress, ofUeKind, takesAddress, markedAddress, inRange}

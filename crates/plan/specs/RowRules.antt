@@ -12,13 +12,12 @@ use Rattle.octets.specs.Rows.{hasTag}
 use Rattle.rules.specs.Model.{Settings, Holding, inAddressPool}
 use Rattle.rules.specs.Elements.{Fteid, UeIp, ueAddressOf}
 use Rattle.rules.specs.Request.{Request}
-use Rattle.rules.specs.Sound.{inPool, agree}
+use Rattle.rules.specs.Sound.{inPool, agree, marked}
 use Rattle.rules.specs.Stages.{choicesAgree, alikeFteids, sameChoice, endpointRestored, pdrRestored}
 use Rattle.rules.specs.Grants.{Choice, endpointChoice, pdrChoice, choiceId}
 use Rattle.plan.specs.Rows.{word, rowPdr, rowEndpoint, rowFteid, rowUe, requestIn}
 use Rattle.rules.specs.Types as ie
 use Rattle.plan.specs.Words as its
-use Rattle.pool.specs.Map.{marked}
 
 -- the request that rows mean, where its SEID and element 129 do not matter
 abbrev pub requestOf : Bool → List (List ℕ) → Request

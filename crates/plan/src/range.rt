@@ -3,8 +3,8 @@ ghost use mathlib.Core.Path.{_≡_};
 ghost use mathlib.Core.Bool.{not, _&&_};
 ghost use Prim.Native.Nat.{_*_, _-_, _≤_};
 ghost use lib.ListN.{length};
-ghost use Rattle.pool.specs.Map.{marked};
 ghost use Rattle.plan.specs.RowRules.{inRange};
+ghost use Rattle.rules.specs.Sound.{marked};
 
 // Does a number lie outside the pool?
 pub fn outside(n: u64, first: u64, size: u64) -> bool

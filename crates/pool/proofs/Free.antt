@@ -10,7 +10,8 @@ use Rattle.octets.specs.Choice.{pick}
 use Rattle.octets.specs.Lists.{keep, range}
 use Rattle.pool.specs.declared.Lowest.the-variants.{At, Full}
 use Rattle.pool.specs.Answer.{lowest}
-use Rattle.pool.specs.Map.{marked, freeFrom}
+use Rattle.pool.specs.Map.{freeFrom}
+use Rattle.rules.specs.Sound.{marked}
 
 module _ (ws : List ℕ) (i size : ℕ) where
   free-more : i < size → freeFrom ws i size ≡ pick (not (marked ws i)) (i ∷ freeFrom ws (i + 1) size) (freeFrom ws (i + 1) size)

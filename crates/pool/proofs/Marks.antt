@@ -13,8 +13,9 @@ use lib.Pow.{pow-lt}
 use lib.Seq.{getD-set-same, getD-set-other}
 use Rattle.octets.specs.Lists.{all}
 use Rattle.octets.proofs.Tests.{all-head, all-tail, all-cons}
-use Rattle.pool.specs.Map.{marked, mark, marks, newMarks, offsets}
+use Rattle.pool.specs.Map.{mark, marks, newMarks, offsets}
 use Rattle.pool.proofs.Bits.{or-set, bit-set-same, bit-set-other, bit-of-zero}
+use Rattle.rules.specs.Sound.{marked}
 
 -- ---- one mark
 

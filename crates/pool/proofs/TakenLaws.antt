@@ -17,11 +17,11 @@ use Rattle.octets.specs.Lists.{member, distinct, range, without, keep, all}
 use Rattle.octets.proofs.Tests.{and-left, and-right, all-head, all-tail}
 use Rattle.rules.specs.Limits.{mapWords}
 use Rattle.rules.specs.Model.{Settings, Sessions, heldTeids, freeTeids}
-use Rattle.rules.specs.Sound.{settingsAllowed, inPool, taken, takenBits, takenWords, takenMap}
+use Rattle.rules.specs.Sound.{settingsAllowed, inPool, taken, takenBits, takenWords, takenMap, marked}
 use Rattle.laws.proofs.KeptSettings.{settings-kept}
 use Rattle.pool.specs.declared.Lowest.the-variants.{At, Full}
 use Rattle.pool.specs.Answer.{lowest}
-use Rattle.pool.specs.Map.{marked, mark, marks, newMarks, freeFrom, offsets, teidsFrom}
+use Rattle.pool.specs.Map.{mark, marks, newMarks, freeFrom, offsets, teidsFrom}
 use Rattle.pool.proofs.Bits.{bit-low, bit-suc}
 use Rattle.pool.proofs.Marks.{allWords, marked-mark, marked-zeros, length-mark, length-marks, words-map}
 use Rattle.pool.proofs.Free.{lowest-at, lowest-full}

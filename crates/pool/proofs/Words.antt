@@ -7,9 +7,10 @@ use Prim.Native.Nat.{ℕ, _+_, _-_, _*_, _/_, _%_, _^_, _<_}
 use native.Mathlib.Omega.{arith}
 use lib.ListN.{getD}
 use Rattle.octets.specs.Octets.{bit}
-use Rattle.pool.specs.Map.{marked, freeFrom}
+use Rattle.pool.specs.Map.{freeFrom}
 use Rattle.pool.proofs.Bits.{openFrom, firstOpen, open-none, open-before, open-within, open-first}
 use Rattle.pool.proofs.Free.{free-run}
+use Rattle.rules.specs.Sound.{marked}
 
 -- an offset's bit, by its word and its place there
 pub marked-in : (ws : List ℕ) (k b j : ℕ) → b + j < 64 → marked ws (64 * k + b + j) ≡ bit (b + j) (getD ws k 0)

@@ -7,7 +7,7 @@ use lib.Bits.{bitOr}
 use lib.ListN.{getD, set}
 use Rattle.octets.specs.Choice.{flag}
 use Rattle.octets.specs.Lists.{keep, range}
-unfoldable pub use Rattle.rules.specs.Sound.{marked}
+use Rattle.rules.specs.Sound.{marked}
 
 -- the words with an offset marked too
 unfoldable pub mark : List ℕ → ℕ → List ℕ

@@ -3,8 +3,9 @@
 ghost use mathlib.Core.Path.{_≡_};
 ghost use Prim.Native.Nat.{_*_, _≤_, _<_};
 ghost use lib.ListN.{length};
-ghost use Rattle.pool.specs.Map.{marked, mark, freeFrom};
+ghost use Rattle.pool.specs.Map.{mark, freeFrom};
 ghost use Rattle.pool.specs.Answer.{lowest};
+ghost use Rattle.rules.specs.Sound.{marked};
 
 // The number of words in the map of TEIDs, and in that of addresses.
 pub const WORDS: usize = 1024;

@@ -12,11 +12,10 @@ use Rattle.octets.proofs.Tests.{and-left, and-right, of-true}
 use Rattle.rules.specs.Model.{Settings, Session, Sessions, Holding, teidOf, heldTeids, inAddressPool, heldAddresses}
 use Rattle.rules.specs.Elements.{UeIp, ueGiven, ueChoose, ueOther, ueAddressOf}
 use Rattle.rules.specs.Request.{Request}
-use Rattle.rules.specs.Sound.{inPool, agree}
+use Rattle.rules.specs.Sound.{inPool, agree, marked}
 use Rattle.rules.specs.Stages.{removedPdrs, lacksFamily, strange, restoredHoldings, clash, addressesOf, wrongAddress, restoredAddresses, addressClash, requestRules, brokenRules, breaksRule, livePdrs, liveEndpoints}
 use Rattle.plan.specs.Rows.{word, rowUe, requestIn}
 use Rattle.plan.specs.Words as its
-use Rattle.pool.specs.Map.{marked}
 use Rattle.plan.specs.RowRules.{onSome, requestOf, ofFteid, creates, ofAddress, takesAddress, markedAddress, rowHolding, restores, heldIn, sameId, otherChoice, otherHold, disagree}
 use Rattle.plan.proofs.ListLaws.{any-ext, any-or, any-keep, any-map, any-collect, any-in, anyPair}
 use Rattle.plan.proofs.RequestLaws.{any-fteids}

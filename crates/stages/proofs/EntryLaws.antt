@@ -16,14 +16,13 @@ use Rattle.rules.specs.Limits.{maxPdrs, maxEndpoints, mapWords, addressWords}
 use Rattle.rules.specs.Model.{Settings, Session, pdrId, heldTeids, heldAddresses, freeAddressCount, keyFor}
 use Rattle.rules.specs.Request.{Request}
 use Rattle.rules.specs.Layout.{viewPdr, viewEndpoint, viewArea, viewSession, viewSettings, viewSessions, pdrWidth, endpointWidth, sessionWidth, pdrCountAt, endpointCountAt, pdrsAt}
-use Rattle.rules.specs.Sound.{sessionAllowed, settingsAllowed, sound}
+use Rattle.rules.specs.Sound.{sessionAllowed, settingsAllowed, sound, marked}
 use Rattle.rules.specs.Stages.{newSession, isLive, goesPdr, removedPdrs}
 use Rattle.rules.specs.Message.{establishment}
 use Rattle.laws.proofs.KeptRules.{session-kept, table-kept}
 use Rattle.laws.proofs.KeptSettings.{settings-kept}
 use Rattle.plan.specs.Rows.{rowWidth, rowsOf}
 use Rattle.plan.specs.RowRules.{requestOf}
-use Rattle.pool.specs.Map.{marked}
 use Rattle.pool.proofs.TakenLaws.{Means}
 use Rattle.pool.proofs.AddressLaws.{addresses-fit}
 use Rattle.unit.specs.Meaning.{settingsOf}

@@ -12,9 +12,8 @@ use Rattle.rules.specs.Layout.{viewSession, viewSessions, pdrCountAt, endpointC
 use Rattle.rules.specs.Model.{Settings, Session, Sessions, teidOf, heldTeids, heldAddresses, freeAddressCount, peerOf, otherPeer, ofPeer, holdings, keyFor}
 use Rattle.plan.specs.Rows.{rowWidth, rowsOf}
 use Rattle.plan.specs.RowRules.{requestOf}
-use Rattle.pool.specs.Map.{marked}
 use Rattle.rules.specs.Request.{Request}
-use Rattle.rules.specs.Sound.{agree, due}
+use Rattle.rules.specs.Sound.{agree, due, marked}
 use Rattle.rules.specs.Stages.{needed, tooFewTeids, isLive, removedPdrs, requestRules, restoredHoldings, restoredAddresses}
 use Rattle.rules.specs.Message.{establishment}
 use Rattle.unit.specs.Meaning.{settingsOf}

@@ -19,7 +19,7 @@ use Rattle.octets.proofs.Digits.{take-octets, drop-octets}
 use Rattle.rules.specs.Model.{Settings, Session, Sessions, sessionTeids, heldTeids, sessionAddresses, heldAddresses, hasPeer, ofPeer, holdings}
 use Rattle.rules.specs.Layout.{sessionOctets, viewSession, sessionWidth}
 use Rattle.octets.specs.Octets.{octetAt}
-use Rattle.rules.specs.Sound.{sessionAllowed, apart, inPool, recordsAllowed}
+use Rattle.rules.specs.Sound.{sessionAllowed, apart, inPool, recordsAllowed, marked}
 use Rattle.laws.proofs.DistinctLaws.{distinct-both, distinct-apart}
 use Rattle.invariants.proofs.Beside.{separate-all}
 use Rattle.invariants.proofs.Totals.{total, peerTeids, peerSessions, holdings-total, count-total}
@@ -27,7 +27,7 @@ use Rattle.pool.proofs.TakenLaws.{new-marks-distinct}
 use Rattle.marking.specs.Walk.{sessionMarks, tableMarks, apartTeids, apartAddresses, addressOffsets, addressMarks}
 use Rattle.marking.proofs.MapWalk.{sessions-marks}
 use Rattle.marking.proofs.AddressWalk.{address-marks}
-use Rattle.pool.specs.Map.{marked, marks, newMarks, offsets}
+use Rattle.pool.specs.Map.{marks, newMarks, offsets}
 use Rattle.pool.proofs.Marks.{offsets-append, marks-append, new-append}
 use Rattle.marking.specs.Offsets.{heldOffsets}
 use Rattle.records.specs.Kept.{kept}

@@ -2,9 +2,9 @@
 use mathlib.Core.Path.{refl}
 use borrow.Author.Needs.{needs}
 use Rattle.octets.specs.Octets.{bit}
-use Rattle.pool.specs.Map.{marked}
 use Rattle.pool.proofs.is_marked.Statement.{statement}
 use Rattle.pool.proofs.is_marked.Tie as tie
+use Rattle.rules.specs.Sound.{marked}
 
 returns : tie.Need-returns
 unfolding marked bit

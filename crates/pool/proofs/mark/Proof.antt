@@ -2,11 +2,12 @@
 use mathlib.Core.Path.{refl}
 use Prim.Native.Nat.{_%_}
 use Rattle.octets.specs.Octets.{bit}
-use Rattle.pool.specs.Map.{marked, mark}
+use Rattle.pool.specs.Map.{mark}
 use borrow.Author.Needs.{needs}
 use Rattle.pool.proofs.Bits.{one-shl}
 use Rattle.pool.proofs.mark.Statement.{statement}
 use Rattle.pool.proofs.mark.Tie as tie
+use Rattle.rules.specs.Sound.{marked}
 
 returns : tie.Need-returns
 unfolding marked bit mark
