@@ -1,7 +1,9 @@
 # The commands that README.md names.
-.PHONY: all lib install test check fmt run demo bench bench-table trust docs accident
+.PHONY: all lib install uninstall deb test check fmt run demo bench bench-table trust docs accident clean distclean help
 PREFIX = /usr/local
 DESTDIR =
+# Where settings are: not under the prefixes that are the system's.
+SYSCONFDIR = $(if $(filter /usr /usr/local,$(PREFIX)),/etc,$(PREFIX)/etc)
 
 # the archive, the unit, pfcp-list and restore; only what has changed since
 all:
@@ -11,9 +13,17 @@ all:
 lib:
 	@scripts/build lib
 
-# both libraries, the header, the pkg-config file, the programs and the man pages under DESTDIR and PREFIX
+# both libraries, the header, the pkg-config file, the programs, the man pages and the service under DESTDIR and PREFIX
 install:
-	@PREFIX='$(PREFIX)' DESTDIR='$(DESTDIR)' scripts/install
+	@PREFIX='$(PREFIX)' SYSCONFDIR='$(SYSCONFDIR)' DESTDIR='$(DESTDIR)' scripts/install
+
+# takes away what make install has installed with the same DESTDIR and PREFIX
+uninstall:
+	@PREFIX='$(PREFIX)' SYSCONFDIR='$(SYSCONFDIR)' DESTDIR='$(DESTDIR)' scripts/install --remove
+
+# a Debian package of all of this, with the record of the last make test, in target/deb
+deb:
+	@scripts/deb
 
 # every proof from nothing, every must-fail edit, every program, then the C and Rust tests
 test:
@@ -23,6 +33,7 @@ test:
 check:
 	@rt check
 
+# the layout of the Rattle sources
 fmt:
 	@rt fmt
 
@@ -54,3 +65,15 @@ docs:
 # the old program's two mistakes, made in a scratch copy and refused by the prover
 accident:
 	@scripts/accident
+
+# takes away what was compiled and packed; what is proved stays, since it takes minutes
+clean:
+	@rm -rf target/c target/lib target/deb
+
+# takes away what is proved too, and what cargo has built
+distclean: clean
+	@rm -rf target second/target bench/ordinary/target tests/differential/target
+
+# these lines; CC, CFLAGS, LDFLAGS and HARDENING are heeded
+help:
+	@scripts/help

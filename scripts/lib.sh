@@ -8,11 +8,49 @@ need() {
     return 1
 }
 
-need_gcc() { need gcc 'the C tests need a C compiler (Debian: gcc, libc6-dev)'; }
+# The C compiler and its flags, which may be given: make CC=clang CFLAGS='-g -O3' LDFLAGS=-Wl,--as-needed. What is installed is hardened
+# besides, unless HARDENING gives other words or none.
+read -ra cc <<<"${CC:-gcc}"
+read -ra cflags <<<"${CFLAGS--g -O2}"
+read -ra ldflags <<<"${LDFLAGS-}"
+read -ra hardening <<<"${HARDENING--fstack-protector-strong -fstack-clash-protection -fPIE -pie -Wl,-z,relro,-z,now,-z,noexecstack}"
+# A program that is not optimised cannot have its buffers checked so.
+if [ -z "${HARDENING+given}" ] && [[ " ${cflags[*]}" =~ \ -O[123sz] ]]; then
+    hardening+=(-U_FORTIFY_SOURCE -D_FORTIFY_SOURCE=2)
+fi
+
+need_gcc() { need "${cc[0]}" 'the unit and the C tests need a C compiler (Debian: gcc, libc6-dev)'; }
 need_gxx() { need g++ 'a C++ program is built against the installed tree (Debian: g++)'; }
 need_pkg_config() { need pkg-config 'programs are built against the installed tree by it (Debian: pkg-config)'; }
+# need_nettle: the library by which the SHA-256 of a table and of its file is worked out, and its header; version 3, as Debian 10 to 13 have it
+need_nettle() {
+    need_gcc || return 1
+    printf '#include <nettle/sha2.h>\nint main(void) { struct sha256_ctx c; uint8_t d[32]; sha256_digest(&c, 32, d); return 0; }\n' |
+        "${cc[@]}" -xc - -lnettle -o /dev/null 2>/dev/null && return
+    printf 'the library nettle (version 3) and its header are not there: the stored table has a SHA-256 (Debian: nettle-dev)\n' >&2
+    return 1
+}
 need_rt() { need rt 'the Rattle kit (compiler, prover and libraries) has to be installed; see README.md'; }
 need_cargo() { need cargo 'the Rust tests need Rust 1.88 or newer with cargo'; }
+
+# need_rust: cargo, and a compiler that is new enough
+need_rust() {
+    local found
+    { need_cargo && need rustc 'the Rust tests need Rust 1.88 or newer'; } || return 1
+    found=$(rustc --version | sed -nE 's/^rustc ([0-9]+)\.([0-9]+)\..*/\1 \2/p')
+    if [ -z "$found" ] || [ "${found% *}" -lt 1 ] || { [ "${found% *}" -eq 1 ] && [ "${found#* }" -lt 88 ]; }; then
+        printf 'rustc is %s: the Rust tests need 1.88 or newer\n' "${found/ /.}" >&2
+        return 1
+    fi
+}
+
+# need_python: python3, and one that is new enough
+need_python() {
+    need python3 'lists in JSON are read by it (3.9 or newer)' || return 1
+    python3 -c 'import sys; sys.exit(sys.version_info < (3, 9))' && return
+    printf '%s: the tests need 3.9 or newer\n' "$(python3 --version)" >&2
+    return 1
+}
 need_valgrind() { need valgrind 'the memory checks need it (Debian: valgrind)'; }
 
 # quietly COMMAND..: runs a command and prints what it says only if it fails
@@ -67,10 +105,36 @@ proved_archive() {
     archive_name=pfcp_session
 }
 
-# aloud COMMAND..: runs a command and shows on standard error what it says
+# crates_of NAME: how many crates of crates.txt this one is made of, itself among them
+crates_of() {
+    awk -v first="$1" '/^[a-z_]+:/ { name = $1; sub(/:.*/, "", name); $1 = ""; uses[name] = $0 }
+        END {
+            due[1] = first; seen[first]; last = 1
+            for (i = 1; i <= last; i++) {
+                n = split(uses[due[i]], names, " ")
+                for (k = 1; k <= n; k++) if (names[k] in uses && !(names[k] in seen)) { seen[names[k]]; due[++last] = names[k] }
+            }
+            print last
+        }' crates.txt
+}
+
+# counted ALL: passes on what rt says, and counts the crates that it has done
+counted() {
+    local line proved=0
+    while IFS= read -r line; do
+        if [[ $line =~ ^rt:\ [a-z_]+\ proved ]]; then
+            proved=$((proved + 1))
+            line="crate $proved of $1: ${line#rt: }"
+        fi
+        printf '%s\n' "$line"
+    done
+}
+
+# aloud COMMAND.. NAME: runs a command that proves the crate NAME, and shows on standard error what it says, with how far it is
 aloud() {
-    printf 'proving and building the archive; the first time takes minutes\n' >&2
-    "$@" >&2
+    printf 'proving and building %s; the first time takes minutes\n' "${!#}" >&2
+    "$@" 2>&1 | counted "$(crates_of "${!#}")" >&2
+    return "${PIPESTATUS[0]}"
 }
 
 # find_archive [HOW]: builds the archive and sets archive_dir, archive_name and archive_file. It is the proved one of the crate
@@ -96,12 +160,16 @@ find_archive() {
 strict=(-std=c11 -D_POSIX_C_SOURCE=200809L -Wall -Wextra -Werror -pedantic -Iinclude -Ihost)
 sanitizers=(-g -O1 -fsanitize=address,undefined -fno-sanitize-recover=all -fno-omit-frame-pointer)
 bench_sources=(-O2 -Ibench bench/workload.c bench/sides.c bench/measure.c host/message.c)
-unit_sources=(host/main.c host/options.c host/number.c host/service.c host/unit.c host/table.c host/stores.c host/disk.c host/datagrams.c host/address.c
-    host/line.c host/sessions.c host/listing.c host/control.c host/output.c host/text.c host/words.c host/message.c host/demo.c -pthread)
-list_sources=(host/pfcp_list.c host/number.c)
+# a stored table's file, for the unit, pfcp-list and restore
+stored_sources=(host/stored.c host/table.c host/digest.c host/wipe.c host/text.c host/words.c host/message.c host/address.c -lnettle)
+# what makes a list of a table, for the unit, for pfcp-list and for a test
+listing_sources=(host/sessions.c host/listing.c host/session_words.c host/prometheus.c "${stored_sources[@]}")
+unit_sources=(host/main.c host/options.c host/arguments.c host/number.c host/service.c host/unit.c host/stores.c host/disk.c host/datagrams.c
+    host/line.c host/control.c host/output.c host/complaint.c host/demo.c "${listing_sources[@]}" -pthread)
+list_sources=(host/pfcp_list.c host/stored_unit.c host/arguments.c host/number.c "${listing_sources[@]}")
 # the program restore, which adds to its C file a proved library and the kit's C code for it, and the unit's list of a stored table
-restore_sources=(host/restore.c)
-list_table_sources=(tests/c/list_table.c host/sessions.c host/listing.c host/text.c host/words.c host/message.c)
+restore_sources=(host/restore.c host/send.c host/number.c -Wl,--wrap=rattle_open_to_read)
+list_table_sources=(tests/c/list_table.c "${listing_sources[@]}")
 checked_by_valgrind=(valgrind -q --error-exitcode=9 --leak-check=full --errors-for-leak-kinds=all)
 
 # compile OUTPUT WORDS..: compiles C files to target/c/OUTPUT
@@ -110,7 +178,7 @@ compile() {
     shift
     need_gcc || return 1
     mkdir -p target/c
-    gcc "${strict[@]}" "$@" -o "target/c/$output"
+    "${cc[@]}" "${strict[@]}" "$@" -o "target/c/$output"
 }
 
 # compile_bench OUTPUT WORDS..: compiles a program of bench/ with both archives
@@ -138,37 +206,55 @@ compile_copies() {
 # compile_summary: the program that sums up what those print
 compile_summary() { compile summary -O2 -Ibench bench/summary.c bench/samples.c bench/picture.c bench/measure.c -lm; }
 
-# compile_changed OUTPUT WORDS..: as compile, unless no file that it is made from has changed since
-compile_changed() {
+# is_current OUTPUT WORDS..: whether no file that it is made from, and none of the words, has changed since it was compiled
+is_current() {
     local file
-    for file in "${@:2}" host/*.h include/*.h scripts/lib.sh; do
+    [ "$(cat "target/c/$1.words" 2>/dev/null)" = "${cc[*]} ${strict[*]} ${*:2}" ] || return 1
+    for file in "${@:2}" host/*.h include/*.h; do
         if [ -f "$file" ] && [ "$file" -nt "target/c/$1" ]; then
-            compile "$@"
-            return
+            return 1
         fi
     done
 }
 
-# compile_restore OUTPUT WORDS..: compiles what has changed of the program restore
+# compile_changed OUTPUT WORDS..: as compile, unless nothing has changed since
+compile_changed() {
+    is_current "$@" && return
+    rm -f "target/c/$1.words"
+    compile "$@" && printf '%s\n' "${cc[*]} ${strict[*]} ${*:2}" >"target/c/$1.words"
+}
+
+# compile_product OUTPUT WORDS..: the same for a program that is installed, with the flags that were given, hardened. No folder's name is in it, so
+# that the same sources make the same octets anywhere.
+compile_product() { compile_changed "$1" "${cflags[@]}" "${hardening[@]}" "-ffile-prefix-map=$PWD=." "${@:2}" "${ldflags[@]}"; }
+
+# compile_restore HOW OUTPUT WORDS..: compiles what has changed of the program restore; HOW is compile_product or compile_changed
 compile_restore() {
     local kit
     kit=$(rt doc) || return 1
-    compile_changed "$@" "${restore_sources[@]}" target/staticlib/librestoring.a "${kit%/docs/*}/lib/libos_c.a"
+    "$@" "${restore_sources[@]}" target/staticlib/librestoring.a "${kit%/docs/*}/lib/libos_c.a" "${stored_sources[@]}" \
+        "$archive_file"
 }
 
 # build_restore [HOW]: builds what has changed of the program restore and its proved library
 build_restore() {
-    { need_gcc && need_rt; } || return 1
-    proved_library "${1:-quietly}" restoring && compile_restore restore -g -O2
+    { need_gcc && need_rt && need_nettle; } || return 1
+    find_archive "${1:-quietly}" && proved_library "${1:-quietly}" restoring && compile_restore compile_product restore
 }
 
-# build_unit: builds what has changed of the archive, the unit, pfcp-list and restore
-build_unit() {
-    { need_gcc && need_rt; } || return 1
-    find_archive aloud || return 1
-    compile_changed pfcp_unit -g -O2 "${unit_sources[@]}" "$archive_file" &&
-        compile_changed pfcp-list -g -O2 "${list_sources[@]}" && build_restore aloud
+# compile_unit: compiles what has changed of the unit and pfcp-list
+compile_unit() {
+    { compile_product pfcp_unit "${unit_sources[@]}" "$archive_file" && compile_product pfcp-list "${list_sources[@]}" "$archive_file"; } && return
+    need_nettle
+    return 1
 }
+
+# build_unit: builds what has changed of the archive, the unit and pfcp-list; build_all: of restore too, which has more to be proved
+build_unit() {
+    { need_gcc && need_rt && need_nettle; } || return 1
+    find_archive aloud && compile_unit
+}
+build_all() { build_unit && build_restore aloud; }
 
 # version: the version, which stands in the header; soname: the name that a program asks the dynamic linker for. Before version 1 every
 # minor number is another interface.
@@ -183,7 +269,7 @@ build_shared() {
     shared_file=target/lib/libpfcp_session.so.$(version)
     [ "$shared_file" -nt "$archive_file" ] && [ "$shared_file" -nt include/pfcp_session.h ] && return
     mkdir -p target/lib
-    gcc -shared -Wl,-soname,"$(soname)" -Wl,-z,text -Wl,-z,defs -Wl,-z,relro -Wl,-z,now \
+    "${cc[@]}" -shared "${ldflags[@]}" -Wl,-soname,"$(soname)" -Wl,-z,text -Wl,-z,defs -Wl,-z,relro -Wl,-z,now \
         -Wl,--whole-archive "$archive_file" -Wl,--no-whole-archive -o "$shared_file"
 }
 
