@@ -24,6 +24,16 @@ bool address_read(struct address *address, const char *text)
     return false;
 }
 
+bool address_number(const char *text, uint32_t *number)
+{
+    struct in_addr address;
+
+    if (inet_pton(AF_INET, text, &address) != 1)
+        return false;
+    *number = ntohl(address.s_addr);
+    return true;
+}
+
 /* The port has the same place in both kinds of address. */
 void address_set_port(struct address *address, uint16_t port)
 {
@@ -46,6 +56,13 @@ static const uint8_t *octets_of(const struct address *address)
     if (address->socket.ss_family == AF_INET)
         return (const uint8_t *)&v4->sin_addr;
     return v6->sin6_addr.s6_addr + (address_is_ipv4(address) ? 12 : 0);
+}
+
+const char *address_alone(const struct address *address, char *room, size_t size)
+{
+    int family = address_is_ipv4(address) ? AF_INET : AF_INET6;
+
+    return inet_ntop(family, octets_of(address), room, (socklen_t)size) ? room : "?";
 }
 
 const char *address_text(const struct address *address, char *room, size_t size)

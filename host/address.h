@@ -19,11 +19,17 @@ struct address {
 /* Reads an address, whose port is then 0; gives false where the text is none. */
 bool address_read(struct address *address, const char *text);
 
+/* Reads an IPv4 address as a number; gives false where the text is none. */
+bool address_number(const char *text, uint32_t *number);
+
 /* Gives an address a port. */
 void address_set_port(struct address *address, uint16_t port);
 
 /* The address with its port. An IPv4 address that an IPv6 socket reports is shown as IPv4. */
 const char *address_text(const struct address *address, char *room, size_t size);
+
+/* The address without its port. */
+const char *address_alone(const struct address *address, char *room, size_t size);
 
 /* Whether two addresses are the same, whatever the ports. */
 bool address_same(const struct address *one, const struct address *other);

@@ -9,37 +9,59 @@
 #include <sys/stat.h>
 #include <unistd.h>
 
+#include "complaint.h"
 #include "number.h"
+#include "status.h"
+#include "wipe.h"
 
-static bool complain(const char *path, const char *what)
+static bool refuse(struct control *control, const char *path, int status, const char *what)
 {
-    fprintf(stderr, "pfcp_unit: --control %s: %s\n", path, what);
+    complaint("--control %s: %s", path, what);
+    control->status = status;
     return false;
 }
 
-/* Removes a socket that nobody listens on; what is not a socket, or is in use, stays. */
-static bool make_way(const struct sockaddr_un *address)
+/* The same of a call of the system. */
+static bool refuse_by(struct control *control, const char *path, int error)
 {
+    return refuse(control, path, status_of(error), strerror(error));
+}
+
+/* Removes a socket that nobody listens on; what is not a socket, or is in use, stays. */
+static bool make_way(struct control *control)
+{
+    const struct sockaddr_un *address = &control->address;
+    const char *path = address->sun_path;
     struct stat found;
     bool used;
 
-    if (lstat(address->sun_path, &found) != 0)
-        return errno == ENOENT || complain(address->sun_path, strerror(errno));
+    if (lstat(path, &found) != 0)
+        return errno == ENOENT || refuse_by(control, path, errno);
     if (!S_ISSOCK(found.st_mode))
-        return complain(address->sun_path, "is there and is not a socket");
+        return refuse(control, path, STATUS_REFUSED, "is there and is not a socket");
     int probe = socket(AF_UNIX, SOCK_STREAM | SOCK_CLOEXEC | SOCK_NONBLOCK, 0);
     if (probe < 0)
-        return complain(address->sun_path, strerror(errno));
+        return refuse_by(control, path, errno);
     used = connect(probe, (const struct sockaddr *)address, sizeof *address) == 0 ||
            errno != ECONNREFUSED;
     close(probe);
     if (used)
-        return complain(address->sun_path, "another unit listens there");
-    return unlink(address->sun_path) == 0 || complain(address->sun_path, strerror(errno));
+        return refuse(control, path, STATUS_PASSING, "another unit listens there");
+    return unlink(path) == 0 || refuse_by(control, path, errno);
 }
 
-bool control_start(struct control *control, const char *path)
+/* A group that may ask too. Nobody could before the socket is its. */
+static bool admit_group(const struct options *options)
 {
+    return !options->has_control_group ||
+           (chown(options->control, (uid_t)-1, options->control_group) == 0 &&
+            chmod(options->control, 0660) == 0);
+}
+
+bool control_start(struct control *control, const struct options *options)
+{
+    const char *path = options->control;
+
     memset(control, 0, sizeof *control);
     control->listener = -1;
     control->client = -1;
@@ -47,18 +69,18 @@ bool control_start(struct control *control, const char *path)
         return true;
     control->address.sun_family = AF_UNIX;
     if (path[0] == '\0' || strlen(path) >= sizeof control->address.sun_path)
-        return complain(path, "not a path of 1 to 107 octets");
+        return refuse(control, path, STATUS_REFUSED, "not a path of 1 to 107 octets");
     strcpy(control->address.sun_path, path);
-    if (!make_way(&control->address))
+    if (!make_way(control))
         return false;
     int listener = socket(AF_UNIX, SOCK_STREAM | SOCK_CLOEXEC | SOCK_NONBLOCK, 0);
-    /* Only the unit's own user may ask. */
+    /* Only the unit's own user may ask, and the group that is named. */
     mode_t before = umask(0177);
     bool bound = listener >= 0 && bind(listener, (const struct sockaddr *)&control->address,
                                        sizeof control->address) == 0;
     int error = errno;
     umask(before);
-    if (bound && listen(listener, 8) == 0) {
+    if (bound && admit_group(options) && listen(listener, 8) == 0) {
         control->listener = listener;
         return true;
     }
@@ -67,13 +89,17 @@ bool control_start(struct control *control, const char *path)
         unlink(path);
     if (listener >= 0)
         close(listener);
-    return complain(path, strerror(error));
+    return refuse_by(control, path, error);
 }
 
+/* What the client asked and was told is not kept. */
 static void drop_client(struct control *control)
 {
     close(control->client);
     control->client = -1;
+    wipe(control->question, sizeof control->question);
+    wipe(&control->piece, sizeof control->piece);
+    wipe(&control->listing, sizeof control->listing);
 }
 
 void control_stop(struct control *control)
@@ -123,23 +149,53 @@ static bool cut(char *question, const char *ending)
     return true;
 }
 
+/* The form is the last word. */
+static bool understand_form(char *question, struct wanted *wanted)
+{
+    if (cut(question, " json"))
+        wanted->form = LIST_JSON;
+    else if (cut(question, " summary"))
+        wanted->form = LIST_SUMMARY;
+    else if (cut(question, " prometheus"))
+        wanted->form = LIST_PROMETHEUS;
+    else if (!cut(question, " text"))
+        return false;
+    wanted->form |= LIST_COUNTERS;
+    return true;
+}
+
 /* Takes a question apart; gives false where it is none. */
 static bool understand(char *question, struct wanted *wanted)
 {
+    uint64_t teid;
+
     memset(wanted, 0, sizeof *wanted);
-    if (cut(question, " json"))
-        wanted->form = LIST_JSON;
-    else if (!cut(question, " text"))
+    if (!understand_form(question, wanted))
         return false;
     if (cut(question, " peer 1"))
         wanted->peer = 1;
     else if (cut(question, " peer 2"))
         wanted->peer = 2;
-    wanted->form |= LIST_COUNTERS;
     if (strcmp(question, "list") == 0)
         return true;
-    return strncmp(question, "session ", 8) == 0 &&
-           read_number(question + 8, 1, UINT64_MAX, &wanted->seid);
+    if (wanted->form & LIST_PROMETHEUS)
+        return false;
+    if (strncmp(question, "session ", 8) == 0)
+        return read_number(question + 8, 1, UINT64_MAX, &wanted->seid);
+    if (strncmp(question, "teid ", 5) == 0 && read_number(question + 5, 1, UINT32_MAX, &teid)) {
+        wanted->teid = (uint32_t)teid;
+        return true;
+    }
+    wanted->has_address = strncmp(question, "address ", 8) == 0;
+    return wanted->has_address && address_number(question + 8, &wanted->address);
+}
+
+/* What is not live. */
+static const char *absence(const struct wanted *wanted)
+{
+    if (wanted->seid != 0)
+        return "this session is not live";
+    return wanted->teid != 0 ? "no session holds this TEID" : "no session holds this address";
 }
 
 /* Starts the answer: its first line, and the list that follows. */
@@ -153,7 +209,7 @@ static void answer(struct control *control, const struct unit *unit, struct outp
     else if (wanted.peer > unit->options->peer_count)
         wrong = "the unit has one control plane, peer 1";
     else if (!listing_start(&control->listing, unit, &wanted, output_dropped(out)))
-        wrong = "this session is not live";
+        wrong = absence(&wanted);
     control->answering = true;
     control->limit = seconds() + ANSWER_TIME;
     control->last = wrong != NULL;

@@ -2,11 +2,13 @@
  * The control socket: a Unix socket on which pfcp-list asks for the list of live sessions. It takes
  * one client at a time and never waits for it. The client writes one line and reads the answer:
  *
- *   list text | list json | session SEID text | session SEID json
+ *   WHAT FORM
  *
- * Before the last word "peer 1" or "peer 2" may stand: that peer's sessions only.
+ * WHAT is "list", "session SEID", "teid TEID" or "address ADDRESS"; FORM is "text", "json", "summary" or,
+ * with "list" alone, "prometheus". Between them "peer 1" or "peer 2" may stand: that peer's only.
  *
- * The answer is a line "ok" and the list, or a line that says what is wrong; a zero octet ends it.
+ * The answer is a line "ok" and the list, or a line that says what is wrong; a zero octet ends it. A line
+ * that begins with "the unit" speaks of the question, any other of what was asked for.
  */
 #ifndef CONTROL_H
 #define CONTROL_H
@@ -20,7 +22,7 @@
 #include "output.h"
 #include "unit.h"
 
-/* The longest question is "session 18446744073709551615 peer 1 text". */
+/* The longest question is "session 18446744073709551615 peer 1 summary". */
 enum { QUESTION_ROOM = 64 };
 
 /* The seconds that a client has for its question, and for the answer: a list of 256 sessions is given
@@ -28,6 +30,7 @@ enum { QUESTION_ROOM = 64 };
 enum { QUESTION_TIME = 2, ANSWER_TIME = 8 };
 
 struct control {
+    int status; /* of status.h, where it could not start */
     struct sockaddr_un address;
     int listener; /* -1: there is no control socket */
     int client;   /* -1: nobody is connected */
@@ -41,9 +44,9 @@ struct control {
     size_t sent;
 };
 
-/* Binds the socket, if a path is given, in place of one that nobody listens on any more; says on
-   standard error what failed and gives false. */
-bool control_start(struct control *control, const char *path);
+/* Binds the socket, if the options name a path, in place of one that nobody listens on any more; says on
+   standard error what failed, keeps the exit status and gives false. */
+bool control_start(struct control *control, const struct options *options);
 void control_stop(struct control *control);
 
 /* What to wait for, and for how many milliseconds at most (-1: any time). */

@@ -12,6 +12,7 @@
 #include <sys/time.h>
 #include <unistd.h>
 
+#include "complaint.h"
 #include "listing.h"
 #include "message.h"
 #include "unit.h"
@@ -50,7 +51,7 @@ static void print_line(const struct served *served)
 static bool send_octets(struct exchange *x, const char *title, const uint8_t *octets, size_t length)
 {
     uint8_t reply[PFCP_REPLY_SPACE];
-    struct served served;
+    const struct served *served;
     int own = x->sockets[x->peer - 1];
 
     printf("\n%d. %s\n  request, %zu octets\n", ++x->step, title, length);
@@ -58,11 +59,14 @@ static bool send_octets(struct exchange *x, const char *title, const uint8_t *oc
     print_message(stdout, octets, length);
     fflush(stdout);
     if (send(own, octets, length, 0) != (ssize_t)length) {
-        fprintf(stderr, "pfcp_unit: the request could not be sent: %s\n", strerror(errno));
+        complaint("the request could not be sent: %s", strerror(errno));
         return false;
     }
-    enum turn turn = unit_serve(x->unit, x->peer, &served);
-    if (turn == TURN_REPLY) {
+    enum turn turn = unit_take(x->unit, x->peer, &served);
+    unit_settle(x->unit);
+    if (turn == TURN_LAST)
+        turn = TURN_TAKEN;
+    if (turn == TURN_TAKEN && served->outcome == PFCP_ANSWERED) {
         ssize_t used = recv(own, reply, sizeof reply, 0);
 
         if (used < 0)
@@ -71,13 +75,14 @@ static bool send_octets(struct exchange *x, const char *title, const uint8_t *oc
         print_octets(stdout, "    ", reply, used < 0 ? 0 : (size_t)used);
         print_message(stdout, reply, used < 0 ? 0 : (size_t)used);
     }
-    if (turn != TURN_REPLY && turn != TURN_NO_REPLY) {
-        fputs("pfcp_unit: the unit did not answer\n", stderr);
+    if (turn != TURN_TAKEN) {
+        complaint("the unit did not answer");
         return false;
     }
-    print_line(&served);
-    if (served.cause == ACCEPTED)
+    print_line(served);
+    if (served->cause == ACCEPTED)
         print_sessions(x->unit);
+    unit_forget(x->unit);
     return true;
 }
 
@@ -310,7 +315,7 @@ static bool exchange_start(struct exchange *x, struct unit *unit)
     for (size_t i = 0; i < unit->options->peer_count; i++) {
         x->sockets[i] = connect_peer(unit, i);
         if (x->sockets[i] < 0) {
-            fprintf(stderr, "pfcp_unit: no socket for the demonstration: %s\n", strerror(errno));
+            complaint("no socket for the demonstration: %s", strerror(errno));
             return false;
         }
     }

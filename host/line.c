@@ -1,4 +1,5 @@
 /* The line that the unit says of each message. A new field is added in served_facts. */
+#include <arpa/inet.h>
 #include <inttypes.h>
 #include <string.h>
 
@@ -17,6 +18,27 @@ static void add_fault(struct text *text, const struct served *served)
     text_add(text, ", place %zu, octets", served->place);
     for (size_t i = 0; i < served->there_length; i++)
         text_add(text, " %02X", served->there[i]);
+}
+
+/* Records, each with the TEID and the address that it got or gave up. */
+static void add_grants(struct text *text, const char *title, const struct grant *grants,
+                       size_t count)
+{
+    char room[INET6_ADDRSTRLEN];
+
+    for (size_t i = 0; i < count; i++) {
+        const struct grant *grant = &grants[i];
+
+        text_add(text, "%s %s %u", i == 0 ? title : ",", grant->is_endpoint ? "endpoint" : "PDR",
+                 grant->id);
+        if (grant->has_teid)
+            text_add(text, " TEID %" PRIu32 "%s", grant->teid,
+                     grant->teid_stays ? " (still held)" : "");
+        if (grant->address.is_there)
+            text_add(text, " address %s%s",
+                     address_in_words(grant->address.octets, 4, room, sizeof room),
+                     grant->address_stays ? " (still held)" : "");
+    }
 }
 
 /* Which sessions a set deletion took. */
@@ -71,6 +93,8 @@ void served_facts(struct text *text, const struct served *served)
         add_fault(text, served);
     if (served->cause == NO_RESOURCES && !served->repeated)
         add_shortage(text, served);
+    add_grants(text, ", gave", served->given, served->given_count);
+    add_grants(text, ", released", served->released, served->released_count);
     if (served->is_set)
         add_removed(text, served);
     if (served->send_error != 0)
@@ -80,12 +104,28 @@ void served_facts(struct text *text, const struct served *served)
              served->live_sessions, served->free_teids, served->free_addresses);
 }
 
-void served_line(struct text *text, const struct served *served)
+/* When and from where the message came. */
+static void add_origin(struct text *text, const struct served *served)
 {
     char time[TIME_ROOM];
     char sender[ADDRESS_ROOM];
 
     text_add(text, "%s %s ", time_in_words(&served->time, time, sizeof time),
              address_text(&served->sender, sender, sizeof sender));
+}
+
+void served_line(struct text *text, const struct served *served)
+{
+    add_origin(text, served);
     served_facts(text, served);
+}
+
+void released_line(struct text *text, const struct served *served, uint64_t seid,
+                   const struct grant *grants, size_t count)
+{
+    add_origin(text, served);
+    text_add(text, "peer %" PRIu32 ", %s (%u), sequence %" PRIu32 ", removed SEID %" PRIu64,
+             served->peer, message_in_words(served->type), served->type, served->sequence, seid);
+    add_grants(text, ", released", grants, count);
+    text_add(text, count == 0 ? ", released nothing\n" : "\n");
 }

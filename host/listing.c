@@ -4,136 +4,34 @@
 #include <inttypes.h>
 #include <string.h>
 
+#include "digest.h"
 #include "message.h"
+#include "prometheus.h"
+#include "session_words.h"
 #include "sessions.h"
+#include "table.h"
 #include "words.h"
-
-static const char *families_in_words(unsigned families)
-{
-    static const char *const words[] = {"no family", "IPv4", "IPv6", "IPv4 and IPv6"};
-
-    return words[families & 3];
-}
 
 static const char *truth(bool is)
 {
     return is ? "true" : "false";
 }
 
-/* The node of an FQ-CSID: an address, or eight hexadecimal digits. */
-static const char *node_in_words(const struct fq_csid *fq_csid, char *room, size_t size)
+/* Any octets as text of JSON; those past ASCII one by one, since a file's name may be none of UTF-8. */
+static void add_json_text(struct text *text, const char *octets)
 {
-    if (fq_csid->node_id_type != 2)
-        return address_in_words(fq_csid->address, fq_csid->node_id_type == 1 ? 16 : 4, room, size);
-    snprintf(room, size, "%08" PRIX64, number_at(fq_csid->address, 4));
-    return room;
-}
+    text_add(text, "\"");
+    for (; *octets; octets++) {
+        unsigned char octet = (unsigned char)*octets;
 
-static void address_text_of(struct text *text, const struct patient_address *address)
-{
-    char room[INET6_ADDRSTRLEN];
-
-    if (address->is_there)
-        text_add(text, ", address %s", address_in_words(address->octets, 4, room, sizeof room));
-}
-
-static void address_json(struct text *text, const struct patient_address *address)
-{
-    char room[INET6_ADDRSTRLEN];
-
-    if (address->is_there)
-        text_add(text, ",\"address\":\"%s\"",
-                 address_in_words(address->octets, 4, room, sizeof room));
-}
-
-static void pdr_text(struct text *text, const struct pdr *pdr)
-{
-    text_add(text, "    PDR %u: precedence %" PRIu32, pdr->id, pdr->precedence);
-    if (pdr->has_far)
-        text_add(text, ", FAR %" PRIu32, pdr->far_id);
-    else
-        text_add(text, ", no FAR");
-    text_add(text, ", source interface %u", pdr->source_interface);
-    if (pdr->place == LOCAL_F_TEID)
-        text_add(text, ", TEID %" PRIu32 " (%s)", pdr->teid, families_in_words(pdr->families));
-    else if (pdr->place == NAMED_ENDPOINT)
-        text_add(text, ", endpoint %u", pdr->endpoint_id);
-    address_text_of(text, &pdr->address);
-    text_add(text, "\n");
-}
-
-static void endpoint_text(struct text *text, const struct endpoint *endpoint)
-{
-    text_add(text, "    endpoint %u: TEID %" PRIu32 " (%s)", endpoint->id, endpoint->teid,
-             families_in_words(endpoint->families));
-    address_text_of(text, &endpoint->address);
-    text_add(text, "\n");
-}
-
-static void session_text(struct text *text, const struct session *session)
-{
-    char room[INET6_ADDRSTRLEN];
-
-    text_add(text, "  session %" PRIu64 " of peer %" PRIu32 "\n", session->seid, session->peer);
-    for (size_t i = 0; i < session->pdr_count; i++)
-        pdr_text(text, &session->pdrs[i]);
-    for (size_t i = 0; i < session->endpoint_count; i++)
-        endpoint_text(text, &session->endpoints[i]);
-    for (size_t i = 0; i < session->fq_csid_count; i++) {
-        const struct fq_csid *fq_csid = &session->fq_csids[i];
-
-        text_add(text, "    FQ-CSID of node type %u: CSID %u of %s%s\n", fq_csid->node_type,
-                 fq_csid->csid, fq_csid->node_id_type == 2 ? "operator node " : "",
-                 node_in_words(fq_csid, room, sizeof room));
+        if (octet == '"' || octet == '\\')
+            text_add(text, "\\%c", octet);
+        else if (octet < 0x20 || octet >= 0x7F)
+            text_add(text, "\\u%04x", octet);
+        else
+            text_add(text, "%c", octet);
     }
-}
-
-static void tunnel_json(struct text *text, uint32_t teid, unsigned families)
-{
-    text_add(text, ",\"teid\":%" PRIu32 ",\"ipv4\":%s,\"ipv6\":%s", teid, truth(families & V4),
-             truth(families & V6));
-}
-
-static void pdr_json(struct text *text, const struct pdr *pdr)
-{
-    text_add(text, "{\"id\":%u,\"precedence\":%" PRIu32, pdr->id, pdr->precedence);
-    if (pdr->has_far)
-        text_add(text, ",\"far_id\":%" PRIu32, pdr->far_id);
-    text_add(text, ",\"source_interface\":%u", pdr->source_interface);
-    if (pdr->place == LOCAL_F_TEID)
-        tunnel_json(text, pdr->teid, pdr->families);
-    else if (pdr->place == NAMED_ENDPOINT)
-        text_add(text, ",\"endpoint_id\":%u", pdr->endpoint_id);
-    address_json(text, &pdr->address);
-    text_add(text, "}");
-}
-
-/* A SEID is text: many readers of JSON keep 53 bits of a number. */
-static void session_json(struct text *text, const struct session *session)
-{
-    char room[INET6_ADDRSTRLEN];
-
-    text_add(text, "{\"peer\":%" PRIu32 ",\"seid\":\"%" PRIu64 "\",\"pdrs\":[", session->peer,
-             session->seid);
-    for (size_t i = 0; i < session->pdr_count; i++) {
-        text_add(text, i > 0 ? "," : "");
-        pdr_json(text, &session->pdrs[i]);
-    }
-    text_add(text, "],\"endpoints\":[");
-    for (size_t i = 0; i < session->endpoint_count; i++) {
-        text_add(text, "%s{\"id\":%u", i > 0 ? "," : "", session->endpoints[i].id);
-        tunnel_json(text, session->endpoints[i].teid, session->endpoints[i].families);
-        address_json(text, &session->endpoints[i].address);
-        text_add(text, "}");
-    }
-    text_add(text, "],\"fq_csids\":[");
-    for (size_t i = 0; i < session->fq_csid_count; i++) {
-        const struct fq_csid *fq_csid = &session->fq_csids[i];
-
-        text_add(text, "%s{\"node_type\":%u,\"node\":\"%s\",\"csid\":%u}", i > 0 ? "," : "",
-                 fq_csid->node_type, node_in_words(fq_csid, room, sizeof room), fq_csid->csid);
-    }
-    text_add(text, "]}");
+    text_add(text, "\"");
 }
 
 /* The general meaning: a message that is not a session's counts as outcome 4 too. */
@@ -186,40 +84,137 @@ static void add_counters(struct text *text, const struct counters *c, bool json)
              c->repeats, c->untyped, c->undone, c->unsent, c->strangers, c->dropped);
 }
 
-/* What a peer has, against what it is due and may have. */
+static uint32_t session_limit(const struct listing *listing)
+{
+    return table_limit(listing->table_length);
+}
+
+/* What a peer has, against what it is due and may have; a stored table does not tell these. */
 static void add_holding(struct text *text, const struct listing *listing, uint32_t peer)
 {
-    const struct peer *of = &listing->options->peers[peer - 1];
     const struct holding *has = &listing->holdings[peer - 1];
-    uint8_t octets[4] = {(uint8_t)(of->address >> 24), (uint8_t)(of->address >> 16),
-                         (uint8_t)(of->address >> 8), (uint8_t)of->address};
+    bool json = (listing->wanted.form & LIST_JSON) != 0;
     char room[INET6_ADDRSTRLEN];
 
+    if (!listing->options) {
+        text_add(text,
+                 json ? "{\"peer\":%" PRIu32 ",\"sessions\":%" PRIu32 ",\"most_sessions\":%" PRIu32
+                        ",\"teids\":%" PRIu32
+                      : "peer %" PRIu32 ": sessions %" PRIu32 " of %" PRIu32 "; TEIDs %" PRIu32
+                        "\n",
+                 peer, has->sessions, session_limit(listing) / PFCP_PEERS, has->teids);
+        return;
+    }
+    const struct peer *of = &listing->options->peers[peer - 1];
     text_add(text,
-             listing->wanted.form & LIST_JSON
-                 ? "{\"peer\":%" PRIu32 ",\"address\":\"%s\",\"sessions\":%" PRIu32
-                   ",\"most_sessions\":%" PRIu32 ",\"teids\":%" PRIu32 ",\"guarantee\":%" PRIu32
-                   ",\"limit\":%" PRIu32
-                 : "peer %" PRIu32 ", answered as %s: sessions %" PRIu32 " of %" PRIu32
-                   "; TEIDs %" PRIu32 ", guaranteed %" PRIu32 ", at most %" PRIu32 "\n",
-             peer, address_in_words(octets, sizeof octets, room, sizeof room), has->sessions,
+             json ? "{\"peer\":%" PRIu32 ",\"address\":\"%s\",\"sessions\":%" PRIu32
+                    ",\"most_sessions\":%" PRIu32 ",\"teids\":%" PRIu32 ",\"guarantee\":%" PRIu32
+                    ",\"limit\":%" PRIu32
+                  : "peer %" PRIu32 ", answered as %s: sessions %" PRIu32 " of %" PRIu32
+                    "; TEIDs %" PRIu32 ", guaranteed %" PRIu32 ", at most %" PRIu32 "\n",
+             peer, ipv4_in_words(of->address, room, sizeof room), has->sessions,
              sessions_of_peer(listing->options), has->teids, of->guarantee, of->limit);
 }
 
-/* Whether this peer is among those that are asked for. */
-static bool is_wanted(const struct wanted *wanted, uint32_t peer)
+bool listing_has(const struct listing *listing, uint32_t peer)
 {
-    return wanted->peer == 0 || wanted->peer == peer;
+    return listing->wanted.peer == 0 || listing->wanted.peer == peer;
 }
 
-/* The end of the sessions, and what comes before the peers, which a list of one SEID does not have. */
+/* Whether the list is of some sessions alone, without a head and counters. */
+static bool is_part(const struct wanted *wanted)
+{
+    return wanted->seid != 0 || wanted->teid != 0 || wanted->has_address;
+}
+
+/* Who may ask as a peer, and where. */
+static void add_listeners(struct text *text, const struct options *options, bool json)
+{
+    char listen[ADDRESS_ROOM];
+
+    text_add(text, json ? ",\"listens\":[" : "");
+    for (size_t i = 0; i < options->peer_count; i++) {
+        const struct peer *peer = &options->peers[i];
+
+        text_add(text, json ? "%s{\"peer\":%zu,\"on\":\"%s\",\"from\":[" : "%s peer %zu on %s from",
+                 json && i > 0 ? ","
+                 : json        ? ""
+                               : ",",
+                 i + 1, address_text(&peer->listen, listen, sizeof listen));
+        for (size_t k = 0; k < peer->from_count; k++)
+            text_add(text, json ? "%s\"%s\"" : "%s %s", json && k > 0 ? "," : "",
+                     address_alone(&peer->from[k], listen, sizeof listen));
+        text_add(text, json ? "]}" : peer->from_count == 0 ? " anybody" : "");
+    }
+    text_add(text, json ? "]" : "\n");
+}
+
+/* Where the table is kept. */
+static void add_file(struct text *text, const struct options *options, bool json)
+{
+    if (json && options->table) {
+        text_add(text, ",\"table\":");
+        add_json_text(text, options->table);
+        text_add(text, ",\"table_sync\":%s", truth(options->table_sync));
+    } else if (!json) {
+        text_add(text, ", table in %s%s", options->table ? options->table : "memory only",
+                 options->table && !options->table_sync ? " without synchronising" : "");
+    }
+}
+
+/* The options that the unit was started with. */
+static void add_settings(struct text *text, const struct options *options, bool json)
+{
+    char room[INET6_ADDRSTRLEN];
+
+    text_add(text, json ? ",\"settings\":{\"ipv4\":\"%s\"" : "settings: IPv4 %s",
+             ipv4_in_words(options->ipv4, room, sizeof room));
+    if (options->ipv6_length > 0)
+        text_add(text, json ? ",\"ipv6\":\"%s\"" : ", IPv6 %s",
+                 address_in_words(options->ipv6, sizeof options->ipv6, room, sizeof room));
+    text_add(text,
+             json ? ",\"pool\":%" PRIu32 ",\"first_teid\":%" PRIu32 ",\"addresses\":%" PRIu32
+                    ",\"first_address\":\"%s\""
+                  : ", TEIDs %" PRIu32 " from %" PRIu32 " on, addresses %" PRIu32 " from %s on",
+             options->pool_size, options->first_teid, options->address_count,
+             ipv4_in_words(options->first_address, room, sizeof room));
+    if (json)
+        text_add(text, ",\"repeats\":%s", truth(options->repeats));
+    else
+        text_add(text, ", repeats %s",
+                 options->repeats ? "get the old reply" : "are not looked for");
+    add_file(text, options, json);
+    add_listeners(text, options, json);
+    text_add(text, json ? "}" : "");
+}
+
+/* The end of the sessions; then which unit or table this is, what it was started with, and the digest by
+   which two tables are known to be the same. */
 static void end_sessions(struct text *text, struct listing *listing)
 {
     bool json = (listing->wanted.form & LIST_JSON) != 0;
+    char time[TIME_ROOM];
+    char sum[DIGEST_WORDS];
 
-    if (!json || listing->wanted.seid != 0)
+    if (is_part(&listing->wanted) || listing->wanted.form & LIST_SUMMARY)
         return;
-    text_add(text, listing->wanted.form & LIST_COUNTERS ? "],\"peers\":[" : "]");
+    text_add(text, json ? "]" : "");
+    if (!(listing->wanted.form & LIST_COUNTERS))
+        return;
+    if (!listing->options)
+        text_add(text, json ? ",\"stored_table\":{" : "stored table: ");
+    else
+        text_add(text,
+                 json ? ",\"unit\":{\"version\":\"%s\",\"started\":\"%s\","
+                      : "unit: version %s, started %s, ",
+                 PFCP_VERSION, time_in_words(&listing->started, time, sizeof time));
+    text_add(text,
+             json ? "\"session_limit\":%" PRIu32 ",\"table_sha256\":\"%s\""
+                  : "session limit %" PRIu32 ", SHA-256 of the table %s\n",
+             session_limit(listing), digest_in_words(listing->table, listing->table_length, sum));
+    if (listing->options)
+        add_settings(text, listing->options, json);
+    text_add(text, json ? "},\"peers\":[" : "");
 }
 
 /* Adds what the next peer has, and its counters; gives false where there is none left. */
@@ -228,68 +223,113 @@ static bool add_peer(struct text *text, struct listing *listing)
     bool json = (listing->wanted.form & LIST_JSON) != 0;
     uint32_t peer = listing->peers_listed + 1;
 
-    if (!(listing->wanted.form & LIST_COUNTERS) || listing->wanted.seid != 0)
+    if (!(listing->wanted.form & LIST_COUNTERS) || is_part(&listing->wanted) ||
+        listing->wanted.form & LIST_SUMMARY)
         return false;
-    while (peer <= listing->options->peer_count && !is_wanted(&listing->wanted, peer))
+    while (peer <= listing->peer_count && !listing_has(listing, peer))
         peer++;
-    if (peer > listing->options->peer_count)
+    if (peer > listing->peer_count)
         return false;
     text_add(text, json && listing->peers_listed > 0 ? "," : "");
     add_holding(text, listing, peer);
-    add_counters(text, &listing->counters[peer - 1], json);
+    if (listing->options)
+        add_counters(text, &listing->counters[peer - 1], json);
     text_add(text, json ? "}" : "");
     listing->peers_listed = peer;
     return true;
 }
 
+static bool is_address(const struct patient_address *address, uint32_t wanted)
+{
+    return address->is_there && number_at(address->octets, 4) == wanted;
+}
+
+/* Whether the session at a place holds the address that is asked for. */
+static bool holds_address(const struct listing *listing, size_t place)
+{
+    struct session session;
+
+    if (!sessions_read(listing->table, listing->table_length, place, &session))
+        return false;
+    for (size_t i = 0; i < session.pdr_count; i++)
+        if (is_address(&session.pdrs[i].address, listing->wanted.address))
+            return true;
+    for (size_t i = 0; i < session.endpoint_count; i++)
+        if (is_address(&session.endpoints[i].address, listing->wanted.address))
+            return true;
+    return false;
+}
+
+/* Whether the session of a peer with the SEID or the TEID that is asked for has a place. */
+static bool find_place(const struct listing *listing, uint32_t peer, size_t *place)
+{
+    const struct wanted *wanted = &listing->wanted;
+
+    if (wanted->seid != 0)
+        return pfcp_find_session(listing->table, listing->table_length, peer, wanted->seid,
+                                 place) == PFCP_FOUND;
+    return pfcp_find_teid(listing->table, listing->table_length, wanted->teid, place) == PFCP_FOUND;
+}
+
 /* The places of a peer's sessions that are asked for; those of peer 1 come first. */
 static void find_places(struct listing *listing, uint32_t peer)
 {
-    size_t *next = &listing->places[peer - 1].next;
-    size_t *end = &listing->places[peer - 1].end;
+    const struct wanted *wanted = &listing->wanted;
+    size_t first = peer == 1 ? 0 : listing->holdings[0].sessions;
+    size_t end = first + listing->holdings[peer - 1].sessions;
+    size_t place;
 
-    if (!is_wanted(&listing->wanted, peer))
+    if (!listing_has(listing, peer))
         return;
-    if (listing->wanted.seid == 0) {
-        *next = peer == 1 ? 0 : listing->holdings[0].sessions;
-        *end = *next + listing->holdings[peer - 1].sessions;
-    } else if (pfcp_find_session(listing->table, listing->table_length, peer, listing->wanted.seid,
-                                 next) == PFCP_FOUND) {
-        *end = *next + 1;
+    if (wanted->seid != 0 || wanted->teid != 0) {
+        if (find_place(listing, peer, &place) && place >= first && place < end)
+            listing->places[listing->place_count++] = (uint16_t)place;
+        return;
     }
+    for (place = first; place < end; place++)
+        if (!wanted->has_address || holds_address(listing, place))
+            listing->places[listing->place_count++] = (uint16_t)place;
 }
 
 bool listing_start(struct listing *listing, const struct unit *unit, const struct wanted *wanted,
                    unsigned long lines_dropped)
 {
-    bool found = wanted->seid == 0;
-
     memset(listing, 0, sizeof *listing);
     memcpy(listing->table, unit->table, unit->table_length);
     listing->table_length = unit->table_length;
     listing->options = unit->options;
+    listing->peer_count = unit->options ? unit->options->peer_count : PFCP_PEERS;
+    listing->started = unit->started;
+    listing->disk_failing = unit->disk.failing;
     memcpy(listing->counters, unit->counters, sizeof listing->counters);
     memcpy(listing->holdings, unit->holdings, sizeof listing->holdings);
     listing->lines_dropped = lines_dropped;
     listing->free_teids = unit->free_teids;
     listing->free_addresses = unit->free_addresses;
     listing->wanted = *wanted;
-    for (uint32_t peer = 1; peer <= PFCP_PEERS; peer++) {
+    for (uint32_t peer = 1; peer <= PFCP_PEERS; peer++)
         find_places(listing, peer);
-        found = found || listing->places[peer - 1].next < listing->places[peer - 1].end;
-    }
-    return found;
+    if (wanted->form & LIST_PROMETHEUS)
+        listing->stage = LIST_METRICS;
+    return !is_part(wanted) || listing->place_count > 0;
 }
 
-/* One session alone has no head. */
+/* Some sessions alone have no head. */
 static void add_head(struct text *text, const struct listing *listing)
 {
-    size_t count = 0;
+    size_t count = listing->place_count;
 
-    if (listing->wanted.seid != 0)
+    if (is_part(&listing->wanted))
         return;
-    for (size_t i = 0; i < PFCP_PEERS; i++)
-        count += listing->places[i].end - listing->places[i].next;
+    if (!listing->options) {
+        text_add(text,
+                 listing->wanted.form & LIST_JSON ? "{\"live_sessions\":%zu,\"free_teids\":%" PRIu32
+                                                    ",\"free_addresses\":%" PRIu32 ",\"sessions\":["
+                                                  : "live sessions: %zu; free TEIDs: %" PRIu32
+                                                    "; free addresses: %" PRIu32 "\n",
+                 count, listing->free_teids, listing->free_addresses);
+        return;
+    }
     text_add(text,
              listing->wanted.form & LIST_JSON
                  ? "{\"live_sessions\":%zu,\"free_teids\":%" PRIu32 ",\"pool_size\":%" PRIu32
@@ -305,30 +345,34 @@ static void add_head(struct text *text, const struct listing *listing)
 static bool add_session(struct text *text, struct listing *listing)
 {
     struct session session;
-    size_t i = listing->places[0].next < listing->places[0].end ? 0 : 1;
 
-    if (listing->places[i].next == listing->places[i].end)
+    if (listing->listed == listing->place_count)
         return false;
-    if (!sessions_read(listing->table, listing->table_length, listing->places[i].next++, &session))
+    size_t place = listing->places[listing->listed++];
+    if (!sessions_read(listing->table, listing->table_length, place, &session))
         return true;
     if (listing->wanted.form & LIST_JSON) {
-        text_add(text, listing->listed == 0 ? "" : listing->wanted.seid == 0 ? ",\n" : "\n");
+        text_add(text, listing->listed == 1 ? "" : is_part(&listing->wanted) ? "\n" : ",\n");
         session_json(text, &session);
+    } else if (listing->wanted.form & LIST_SUMMARY) {
+        session_summary(text, &session);
     } else {
         session_text(text, &session);
     }
-    listing->listed++;
     return true;
 }
 
 static void add_foot(struct text *text, const struct listing *listing)
 {
     bool json = (listing->wanted.form & LIST_JSON) != 0;
-    bool whole = listing->wanted.seid == 0;
+    bool whole = !is_part(&listing->wanted);
 
-    if (whole && listing->wanted.form & LIST_COUNTERS)
-        text_add(text, json ? "],\"lines_dropped\":%lu" : "lines of output dropped: %lu\n",
-                 listing->lines_dropped);
+    if (whole && listing->wanted.form & LIST_COUNTERS && !(listing->wanted.form & LIST_SUMMARY)) {
+        text_add(text, json ? "]" : "");
+        if (listing->options)
+            text_add(text, json ? ",\"lines_dropped\":%lu" : "lines of output dropped: %lu\n",
+                     listing->lines_dropped);
+    }
     text_add(text, json ? whole ? "}\n" : "\n" : "");
 }
 
@@ -351,6 +395,8 @@ bool listing_next(struct listing *listing, struct text *text)
         add_foot(text, listing);
         listing->stage = LIST_DONE;
         return true;
+    case LIST_METRICS:
+        return metrics_add(text, listing);
     default:
         return false;
     }

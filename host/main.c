@@ -5,9 +5,11 @@
 #include <stdlib.h>
 #include <string.h>
 
+#include "complaint.h"
 #include "options.h"
 #include "pfcp_session.h"
 #include "service.h"
+#include "status.h"
 #include "unit.h"
 
 /* A closed standard descriptor would be taken by the next socket. Writing to this one fails. */
@@ -22,7 +24,7 @@ static int end_of_text(void)
 {
     if (fflush(stdout) == 0)
         return EXIT_SUCCESS;
-    fprintf(stderr, "pfcp_unit: the output could not be written: %s\n", strerror(errno));
+    complaint("the output could not be written: %s", strerror(errno));
     return EXIT_FAILURE;
 }
 
@@ -32,7 +34,7 @@ static int run_with_unit(const struct options *options, int (*run)(struct unit *
     static struct unit unit;
 
     bool started = unit_start(&unit, options);
-    int status = started ? run(&unit) : 2;
+    int status = started ? run(&unit) : unit.status;
     unit_stop(&unit);
     return status;
 }
@@ -60,7 +62,7 @@ static int run_demonstration(const struct options *options)
     share(&shared);
     if (status == EXIT_SUCCESS)
         status = run_with_unit(&shared, run_shared_demo);
-    if (status == 2)
+    if (status == STATUS_REFUSED || status == STATUS_PASSING)
         return status;
     return end_of_text() == EXIT_SUCCESS ? status : EXIT_FAILURE;
 }
@@ -71,7 +73,7 @@ int main(int argc, char **argv)
 
     fill_standard_descriptors();
     if (!read_options(&options, argc, argv))
-        return 2;
+        return STATUS_REFUSED;
     if (options.help || options.version) {
         fputs(options.help ? usage : "pfcp_unit " PFCP_VERSION "\n", stdout);
         return end_of_text();

@@ -1,17 +1,20 @@
 #include "options.h"
 
 #include <arpa/inet.h>
+#include <grp.h>
 #include <stdio.h>
 #include <string.h>
 
-#include "message.h"
+#include "arguments.h"
+#include "complaint.h"
 #include "number.h"
 
-/* The session limit where no option says it: 64 sessions for each control plane. */
-enum { USUAL_SESSIONS = 128, LARGEST_POOL = 65536 };
+/* Where no option says it: a session limit of 64 sessions for each control plane; and addresses from
+   100.96.0.1 on, which no control plane gives out by itself and no hospital's own network has (RFC 6598). */
+enum { USUAL_SESSIONS = 128, USUAL_ADDRESS = 0x64600001, LARGEST_POOL = 65536 };
 
 const char usage[] =
-    "usage: pfcp_unit [OPTION VALUE].. [--demo]\n"
+    "usage: pfcp_unit [OPTION VALUE | OPTION=VALUE].. [--demo]\n"
     "Serves PFCP requests for sessions and sets of sessions over UDP and says a line for each.\n"
     "One control plane, which is peer 1:\n"
     "  --address ADDRESS   where to listen, IPv4 or IPv6 (127.0.0.1)\n"
@@ -27,7 +30,11 @@ const char usage[] =
     "  --no-repeats        do not look for repeated requests (a repeat gets the old reply, any "
     "other\n"
     "                      request whose sequence number is not newer is dropped)\n"
+    "  --no-grants         leave out of the lines which TEIDs and addresses a request gave and "
+    "released\n"
     "  --control PATH      a Unix socket on which pfcp-list asks for the live sessions (none)\n"
+    "  --control-group GROUP  this group may ask there too (only the unit's user)\n"
+    "  --quiet             no line for a message; start, end, lists and complaints stay\n"
     "  --table FILE        keep the table in FILE, and what repeats need: they are there before a\n"
     "                      reply is sent, and the next start restores them (in memory only)\n"
     "  --table-sync yes|no whether a reply waits until the disk has the table (yes)\n"
@@ -35,17 +42,18 @@ const char usage[] =
     "  --ipv6 ADDRESS      the unit's own IPv6 address (none)\n"
     "  --first-teid TEID   the first TEID of the pool, from 1 on (4096)\n"
     "  --pool SIZE         the number of TEIDs, 1 to 65536 (4096)\n"
-    "  --first-address ADDRESS  the first IPv4 address for patients' devices (10.45.0.1)\n"
+    "  --first-address ADDRESS  the first IPv4 address for patients' devices (100.96.0.1)\n"
     "  --addresses NUMBER  the number of these addresses, 1 to 1024 (254)\n"
     "  --sessions NUMBER   the session limit, 2 to 256: each control plane has half of it, also\n"
     "                      where there is one only (128)\n"
     "  --demo              run a scripted exchange over the loopback interface and end; without\n"
     "                      these options it takes any free port, 3 TEIDs and 2 addresses\n"
-    "  --version           print the version\n"
-    "  --help              print this\n"
+    "  -V, --version       print the version\n"
+    "  -h, --help          print this\n"
     "SIGINT and SIGTERM stop it; SIGUSR1 has it print the live sessions and the counters.\n"
-    "Exit status: 0; 1 if it could not go on; 2 for a bad option, or a port, socket or table's "
-    "file that cannot be had.\n";
+    "Exit status: 0; 1 if it could not go on; 2 for a bad option, path or table's file; 4 where "
+    "the\n"
+    "start may succeed later: an address or a socket in use, a table that another unit keeps.\n";
 
 /* Which options there are that go with one control plane only, or with two. */
 struct given {
@@ -56,18 +64,13 @@ struct given {
 
 static bool complain(const char *option, const char *value, const char *wanted)
 {
-    fprintf(stderr, "pfcp_unit: %s %s: %s\n", option, value, wanted);
+    complaint("%s %s: %s", option, value, wanted);
     return false;
 }
 
 static bool read_ipv4(const char *name, const char *value, uint32_t *address)
 {
-    uint8_t octets[4];
-
-    if (inet_pton(AF_INET, value, octets) != 1)
-        return complain(name, value, "not an IPv4 address");
-    *address = (uint32_t)number_at(octets, sizeof octets);
-    return true;
+    return address_number(value, address) || complain(name, value, "not an IPv4 address");
 }
 
 /* A setting of the table that is a number. */
@@ -148,20 +151,33 @@ static bool read_peer_option(struct options *options, struct given *given, const
     size_t peer = name[strlen(name) - 1] == '2' ? 1 : 0;
 
     if (strncmp(name, "--from", 6) == 0) {
-        given->with_two = name;
+        given->with_two = peer == 1 ? "--from2" : "--from1";
         return add_from(&options->peers[peer], name, value);
     }
     if (strcmp(name, "--peer") == 0) {
-        given->with_one = name;
+        given->with_one = "--peer";
         return add_from(&options->peers[0], name, value);
     }
     if (strcmp(name, "--address") == 0) {
-        given->with_one = name;
+        given->with_one = "--address";
         return address_read(&options->peers[0].listen, value) ||
                complain(name, value, "not an IPv4 or IPv6 address");
     }
     given->peers[peer] = true;
     return read_peer(&options->peers[peer], name, value);
+}
+
+/* A group by its name or its number. */
+static bool read_group(struct options *options, const char *name, const char *value)
+{
+    const struct group *group = getgrnam(value);
+    uint64_t number;
+
+    if (!group && !read_number(value, 0, UINT32_MAX - 1, &number))
+        return complain(name, value, "no such group");
+    options->has_control_group = true;
+    options->control_group = group ? group->gr_gid : (gid_t)number;
+    return true;
 }
 
 static bool read_option(struct options *options, const char *name, const char *value)
@@ -174,6 +190,8 @@ static bool read_option(struct options *options, const char *name, const char *v
         options->port = (uint16_t)number;
     } else if (strcmp(name, "--control") == 0) {
         options->control = value;
+    } else if (strcmp(name, "--control-group") == 0) {
+        return read_group(options, name, value);
     } else if (strcmp(name, "--table") == 0) {
         options->table = value;
     } else if (strcmp(name, "--table-sync") == 0) {
@@ -221,15 +239,6 @@ static bool is_of_peer(const char *name)
     return is_among(name, names, sizeof names / sizeof names[0]);
 }
 
-static bool takes_value(const char *name)
-{
-    static const char *const names[] = {
-        "--port", "--control",       "--table",     "--table-sync", "--ipv4",    "--ipv6",
-        "--pool", "--first-address", "--addresses", "--first-teid", "--sessions"};
-
-    return is_of_peer(name) || is_among(name, names, sizeof names / sizeof names[0]);
-}
-
 /* Sets what was not given. The demonstration's pools are small, so that it comes to their end. One
    control plane is peer 1, which is answered as the unit itself and may have the whole pool; peer 2 then
    has nothing, and an address that is nobody's. */
@@ -255,15 +264,13 @@ static void fill_in(struct options *options, const struct given *given)
 static bool go_together(const struct given *given)
 {
     if (given->peers[0] != given->peers[1])
-        fputs("pfcp_unit: --peer1 and --peer2 are given both or not at all\n", stderr);
+        complaint("--peer1 and --peer2 are given both or not at all");
     else if (given->peers[0] && given->with_one)
-        fprintf(stderr, "pfcp_unit: %s is for one control plane, not for --peer1 and --peer2\n",
-                given->with_one);
+        complaint("%s is for one control plane, not for --peer1 and --peer2", given->with_one);
     else if (!given->peers[0] && given->with_two)
-        fprintf(stderr,
-                "pfcp_unit: %s goes with --peer1 and --peer2; for one control plane there "
-                "is --peer\n",
-                given->with_two);
+        complaint("%s goes with --peer1 and --peer2; for one control plane there "
+                  "is --peer",
+                  given->with_two);
     else
         return true;
     return false;
@@ -290,25 +297,25 @@ static bool are_peers_possible(const struct options *options)
 
     for (size_t i = 0; i < options->peer_count; i++) {
         if (!can_hear(&peers[i])) {
-            fprintf(stderr, "pfcp_unit: peer %zu cannot ask on %s from IPv%d\n", i + 1,
-                    address_text(&peers[i].listen, listen, sizeof listen),
-                    address_is_ipv4(&peers[i].listen) ? 6 : 4);
+            complaint("peer %zu cannot ask on %s from IPv%d", i + 1,
+                      address_text(&peers[i].listen, listen, sizeof listen),
+                      address_is_ipv4(&peers[i].listen) ? 6 : 4);
             return false;
         }
         if (peers[i].limit > options->pool_size) {
-            fprintf(stderr, "pfcp_unit: --peer%zu: a limit of %u is more than the pool of %u\n",
-                    i + 1, (unsigned)peers[i].limit, (unsigned)options->pool_size);
+            complaint("--peer%zu: a limit of %u is more than the pool of %u", i + 1,
+                      (unsigned)peers[i].limit, (unsigned)options->pool_size);
             return false;
         }
     }
     if (peers[0].address == peers[1].address) {
-        fputs("pfcp_unit: --peer1 and --peer2 have the same address\n", stderr);
+        complaint("--peer1 and --peer2 have the same address");
         return false;
     }
     if (guaranteed > options->pool_size) {
-        fprintf(stderr, "pfcp_unit: guarantees of %u and %u are more than the pool of %u\n",
-                (unsigned)peers[0].guarantee, (unsigned)peers[1].guarantee,
-                (unsigned)options->pool_size);
+        complaint("guarantees of %u and %u are more than the pool of %u",
+                  (unsigned)peers[0].guarantee, (unsigned)peers[1].guarantee,
+                  (unsigned)options->pool_size);
         return false;
     }
     return true;
@@ -317,16 +324,16 @@ static bool are_peers_possible(const struct options *options)
 static bool are_pools_possible(const struct options *options)
 {
     if ((uint64_t)options->first_teid + options->pool_size > (uint64_t)UINT32_MAX + 1) {
-        fprintf(stderr, "pfcp_unit: a pool of %u from %u on ends after TEID 4294967295\n",
-                (unsigned)options->pool_size, (unsigned)options->first_teid);
+        complaint("a pool of %u from %u on ends after TEID 4294967295",
+                  (unsigned)options->pool_size, (unsigned)options->first_teid);
         return false;
     }
     if ((uint64_t)options->first_address + options->address_count > (uint64_t)UINT32_MAX + 1) {
-        fprintf(stderr, "pfcp_unit: %u addresses from %u.%u.%u.%u on end after 255.255.255.255\n",
-                (unsigned)options->address_count, (unsigned)(options->first_address >> 24),
-                (unsigned)(options->first_address >> 16 & 255),
-                (unsigned)(options->first_address >> 8 & 255),
-                (unsigned)(options->first_address & 255));
+        complaint("%u addresses from %u.%u.%u.%u on end after 255.255.255.255",
+                  (unsigned)options->address_count, (unsigned)(options->first_address >> 24),
+                  (unsigned)(options->first_address >> 16 & 255),
+                  (unsigned)(options->first_address >> 8 & 255),
+                  (unsigned)(options->first_address & 255));
         return false;
     }
     return true;
@@ -334,22 +341,103 @@ static bool are_pools_possible(const struct options *options)
 
 static bool is_possible(const struct options *options)
 {
+    if (options->has_control_group && !options->control) {
+        complaint("--control-group goes with --control");
+        return false;
+    }
     if (options->demo && options->table) {
-        fputs("pfcp_unit: the demonstration keeps no table\n", stderr);
+        complaint("the demonstration keeps no table");
         return false;
     }
     if (options->demo && options->peer_count > 1) {
-        fputs("pfcp_unit: the demonstration has control planes of its own\n", stderr);
+        complaint("the demonstration has control planes of its own");
         return false;
     }
     return are_pools_possible(options) && are_peers_possible(options);
 }
 
-static bool read_any_option(struct options *options, struct given *given, const char *name,
+/* What is answered of an option that has a value, whose name is in the list. */
+enum { WITH_VALUE = 1 };
+
+static const struct option known[] = {{"address", required_argument, NULL, WITH_VALUE},
+                                      {"peer", required_argument, NULL, WITH_VALUE},
+                                      {"peer1", required_argument, NULL, WITH_VALUE},
+                                      {"peer2", required_argument, NULL, WITH_VALUE},
+                                      {"from1", required_argument, NULL, WITH_VALUE},
+                                      {"from2", required_argument, NULL, WITH_VALUE},
+                                      {"port", required_argument, NULL, WITH_VALUE},
+                                      {"control", required_argument, NULL, WITH_VALUE},
+                                      {"control-group", required_argument, NULL, WITH_VALUE},
+                                      {"table", required_argument, NULL, WITH_VALUE},
+                                      {"table-sync", required_argument, NULL, WITH_VALUE},
+                                      {"ipv4", required_argument, NULL, WITH_VALUE},
+                                      {"ipv6", required_argument, NULL, WITH_VALUE},
+                                      {"first-teid", required_argument, NULL, WITH_VALUE},
+                                      {"pool", required_argument, NULL, WITH_VALUE},
+                                      {"first-address", required_argument, NULL, WITH_VALUE},
+                                      {"addresses", required_argument, NULL, WITH_VALUE},
+                                      {"sessions", required_argument, NULL, WITH_VALUE},
+                                      {"no-repeats", no_argument, NULL, 'n'},
+                                      {"no-grants", no_argument, NULL, 'g'},
+                                      {"quiet", no_argument, NULL, 'q'},
+                                      {"demo", no_argument, NULL, 'd'},
+                                      {"version", no_argument, NULL, 'V'},
+                                      {"help", no_argument, NULL, 'h'},
+                                      {NULL, 0, NULL, 0}};
+
+static bool read_any_option(struct options *options, struct given *given, const char *option,
                             const char *value)
 {
+    char name[32];
+
+    snprintf(name, sizeof name, "--%s", option);
     return is_of_peer(name) ? read_peer_option(options, given, name, value)
                             : read_option(options, name, value);
+}
+
+/* An option that has no value; gives false where it is none. */
+static bool set_option(struct options *options, int option)
+{
+    switch (option) {
+    case 'n':
+        options->repeats = false;
+        return true;
+    case 'g':
+        options->grants = false;
+        return true;
+    case 'q':
+        options->quiet = true;
+        return true;
+    case 'd':
+        options->demo = true;
+        return true;
+    case 'V':
+        options->version = true;
+        return true;
+    case 'h':
+        options->help = true;
+        return true;
+    default:
+        return false;
+    }
+}
+
+static bool read_words(struct options *options, struct given *given, int argc, char **argv)
+{
+    char wrong[WRONG_ROOM];
+    int index;
+    int found;
+
+    while ((found = next_option(argc, argv, known, &index, wrong)) != -1) {
+        if (found == WITH_VALUE) {
+            if (!read_any_option(options, given, known[index].name, optarg))
+                return false;
+        } else if (!set_option(options, found)) {
+            complaint("%s", wrong);
+            return false;
+        }
+    }
+    return true;
 }
 
 bool read_options(struct options *options, int argc, char **argv)
@@ -360,31 +448,16 @@ bool read_options(struct options *options, int argc, char **argv)
     address_read(&options->peers[0].listen, "127.0.0.1");
     options->ipv4 = 0xC0000201;
     options->first_teid = 4096;
-    options->first_address = 0x0A2D0001;
+    options->first_address = USUAL_ADDRESS;
     options->session_limit = USUAL_SESSIONS;
     options->table_sync = true;
     options->repeats = true;
-    for (int i = 1; i < argc; i++) {
-        if (strcmp(argv[i], "--demo") == 0) {
-            options->demo = true;
-        } else if (strcmp(argv[i], "--no-repeats") == 0) {
-            options->repeats = false;
-        } else if (strcmp(argv[i], "--help") == 0) {
-            options->help = true;
-        } else if (strcmp(argv[i], "--version") == 0) {
-            options->version = true;
-        } else if (!takes_value(argv[i])) {
-            fprintf(stderr, "pfcp_unit: unknown option %s (--help lists them)\n", argv[i]);
-            return false;
-        } else if (i + 1 == argc) {
-            fprintf(stderr, "pfcp_unit: %s needs a value\n", argv[i]);
-            return false;
-        } else {
-            if (!read_any_option(options, &given, argv[i], argv[i + 1]))
-                return false;
-            i++;
-        }
-    }
+    options->grants = true;
+    if (!read_words(options, &given, argc, argv))
+        return false;
+    /* Who asks for these wants nothing else. */
+    if (options->help || options->version)
+        return true;
     if (!go_together(&given))
         return false;
     fill_in(options, &given);

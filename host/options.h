@@ -5,6 +5,7 @@
 #include <stdbool.h>
 #include <stddef.h>
 #include <stdint.h>
+#include <sys/types.h>
 
 #include "address.h"
 #include "pfcp_session.h"
@@ -27,10 +28,14 @@ struct options {
     struct peer peers[PFCP_PEERS]; /* peer 1, peer 2 */
     size_t peer_count;             /* how many of them are served; the other one has nothing */
     bool repeats;                  /* repeated requests get the old reply */
+    bool grants;                   /* lines say what was given and released */
     const char *control;           /* the control socket's path, or NULL */
-    const char *table;             /* the table's file, or NULL */
-    bool table_sync;               /* replies wait until the disk has the table */
-    uint32_t ipv4;                 /* the unit's own addresses and its pools */
+    bool has_control_group;        /* this group may ask there too */
+    gid_t control_group;
+    bool quiet;        /* no line for a message */
+    const char *table; /* the table's file, or NULL */
+    bool table_sync;   /* replies wait until the disk has the table */
+    uint32_t ipv4;     /* the unit's own addresses and its pools */
     uint8_t ipv6[16];
     size_t ipv6_length; /* 0 or 16 */
     uint32_t first_teid;

@@ -8,6 +8,8 @@
 #include <time.h>
 #include <unistd.h>
 
+#include "complaint.h"
+#include "wipe.h"
 #include "words.h"
 
 static unsigned long count_lines(const char *text, size_t length)
@@ -21,13 +23,14 @@ static unsigned long count_lines(const char *text, size_t length)
 
 static void complain(struct output *output, const char *what)
 {
-    char line[256];
+    struct text line = {.length = 0};
+    char words[256];
 
     if (!output->complaints)
         return;
-    int length = snprintf(line, sizeof line,
-                          "pfcp_unit: %s: lines of output are dropped and counted\n", what);
-    output_say(output->complaints, line, (size_t)length);
+    snprintf(words, sizeof words, "%s: lines of output are dropped and counted", what);
+    complaint_add(&line, LEVEL_WARNING, words);
+    output_say(output->complaints, line.octets, line.length);
 }
 
 /* One write. A descriptor that somebody else made non-blocking is waited for. */
@@ -159,6 +162,7 @@ static void *write_lines(void *argument)
             output->failing = false;
         else
             drop_taken(output, error);
+        wipe(taken->text, taken->length);
         taken->length = 0;
         taken->written = 0;
     }

@@ -1,4 +1,5 @@
-/* Asks a running unit for its live sessions and counters, over its control socket (control.h). */
+/* Asks a running unit for its live sessions and counters, over its control socket (control.h), or lists
+   the sessions of a stored table. */
 #include <errno.h>
 #include <inttypes.h>
 #include <stdbool.h>
@@ -10,106 +11,213 @@
 #include <sys/un.h>
 #include <unistd.h>
 
+#include "address.h"
+#include "arguments.h"
+#include "listing.h"
 #include "number.h"
+#include "paths.h"
 #include "pfcp_session.h"
+#include "stored_unit.h"
+#include "words.h"
 
-static const char usage[] =
-    "usage: pfcp-list --control PATH [--peer NUMBER] [--session SEID] [--json]\n"
+static const char help[] =
+    "usage: pfcp-list [OPTION VALUE | OPTION=VALUE]..\n"
     "Prints the live sessions of a running pfcp_unit, what its peers have, and the counters.\n"
-    "  --control PATH   the unit's control socket, as given to pfcp_unit --control\n"
+    "  --control PATH   the unit's control socket, as given to pfcp_unit --control (that of the\n"
+    "                   service, " USUAL_CONTROL ")\n"
+    "  --table FILE     the sessions of a stored table instead; no unit is asked\n"
     "  --peer NUMBER    those of one of the two control planes only, 1 or 2\n"
     "  --session SEID   that session only, or both peers' with this SEID, without counters\n"
+    "  --teid TEID      the session that holds this TEID only\n"
+    "  --address ADDRESS  the sessions that hold this patient's address only\n"
+    "                   SEID and TEID are decimal, or after 0x hexadecimal\n"
+    "  --summary        a line for each session\n"
     "  --json           as JSON\n"
-    "  --version        print the version\n"
-    "  --help           print this\n"
-    "Exit status: 0; 1 where the session is not live or the unit does not answer; 2 for a bad "
-    "option.\n";
+    "  --prometheus     counters and gauges, in the text form of Prometheus\n"
+    "  -V, --version    print the version\n"
+    "  -h, --help       print this\n"
+    "Exit status: 0; 1 where the session, TEID or address is not live or the unit has no such "
+    "peer;\n"
+    "2 for a bad option; 3 where nobody answers, or FILE is no stored table; 4 where the list\n"
+    "cannot be written.\n";
+
+enum { NOT_LIVE = 1, BAD_OPTION = 2, NOBODY_ANSWERS = 3, NOT_WRITTEN = 4 };
 
 struct question {
-    const char *path;
-    uint64_t session; /* 0: all */
-    uint64_t peer;    /* 0: both */
-    bool json;
+    const char *control; /* NULL: the usual one */
+    const char *table;   /* NULL: a unit is asked */
+    struct wanted wanted;
+    unsigned whats; /* how many of --session, --teid and --address there are, ... */
+    unsigned forms; /* ... and of --summary, --json and --prometheus */
 };
 
-/* What the options ask for: a question to the unit, a text that was printed, or nothing good. */
-enum asked { ASKED_UNIT, ASKED_TEXT, ASKED_WRONG };
+/* What the options ask for: a list, a text that was printed, or nothing good. */
+enum asked { ASKED_LIST, ASKED_TEXT, ASKED_WRONG };
 
-/* Reads an option that has a value. */
-static bool read_option(struct question *question, const char *name, const char *value)
+static const struct option known[] = {{"control", required_argument, NULL, 'c'},
+                                      {"table", required_argument, NULL, 'f'},
+                                      {"peer", required_argument, NULL, 'p'},
+                                      {"session", required_argument, NULL, 's'},
+                                      {"teid", required_argument, NULL, 't'},
+                                      {"address", required_argument, NULL, 'a'},
+                                      {"summary", no_argument, NULL, LIST_SUMMARY},
+                                      {"json", no_argument, NULL, LIST_JSON},
+                                      {"prometheus", no_argument, NULL, LIST_PROMETHEUS},
+                                      {"version", no_argument, NULL, 'V'},
+                                      {"help", no_argument, NULL, 'h'},
+                                      {NULL, 0, NULL, 0}};
+
+static bool refuse(const char *name, const char *value, const char *wanted)
 {
-    if (!value) {
-        fprintf(stderr, "pfcp-list: %s needs a value\n", name);
-        return false;
-    }
-    if (strcmp(name, "--control") == 0) {
-        question->path = value;
-        return true;
-    }
-    if (strcmp(name, "--peer") == 0) {
-        if (read_number(value, 1, PFCP_PEERS, &question->peer))
-            return true;
-        fprintf(stderr, "pfcp-list: --peer %s: neither 1 nor 2\n", value);
-        return false;
-    }
-    if (read_number(value, 1, UINT64_MAX, &question->session))
-        return true;
-    fprintf(stderr, "pfcp-list: --session %s: not a SEID from 1 to %" PRIu64 "\n", value,
-            UINT64_MAX);
+    fprintf(stderr, "pfcp-list: --%s %s: %s\n", name, value, wanted);
     return false;
 }
 
-static bool takes_value(const char *name)
+/* Which sessions are asked for. */
+static bool take_what(struct question *question, int option, const char *value)
 {
-    return strcmp(name, "--control") == 0 || strcmp(name, "--session") == 0 ||
-           strcmp(name, "--peer") == 0;
+    struct wanted *wanted = &question->wanted;
+    uint64_t number;
+
+    question->whats++;
+    if (option == 's')
+        return read_any_number(value, 1, UINT64_MAX, &wanted->seid) ||
+               refuse("session", value, "not a SEID from 1 to 18446744073709551615");
+    if (option == 'a') {
+        wanted->has_address = true;
+        return address_number(value, &wanted->address) ||
+               refuse("address", value, "not an IPv4 address");
+    }
+    if (!read_any_number(value, 1, UINT32_MAX, &number))
+        return refuse("teid", value, "not a TEID from 1 to 4294967295");
+    wanted->teid = (uint32_t)number;
+    return true;
+}
+
+/* Takes an option; gives false where its value is none that it may have. */
+static bool take_option(struct question *question, int option, const char *value)
+{
+    uint64_t peer;
+
+    switch (option) {
+    case 'c':
+        question->control = value;
+        return true;
+    case 'f':
+        question->table = value;
+        return true;
+    case 'p':
+        if (!read_number(value, 1, PFCP_PEERS, &peer))
+            return refuse("peer", value, "neither 1 nor 2");
+        question->wanted.peer = (uint32_t)peer;
+        return true;
+    case LIST_SUMMARY:
+    case LIST_JSON:
+    case LIST_PROMETHEUS:
+        question->wanted.form |= (unsigned)option;
+        question->forms++;
+        return true;
+    default:
+        return take_what(question, option, value);
+    }
+}
+
+/* Whether the options go together. */
+static bool is_possible(const struct question *question)
+{
+    const char *wrong = NULL;
+
+    if (question->whats > 1)
+        wrong = "--session, --teid and --address do not go together";
+    else if (question->forms > 1)
+        wrong = "--summary, --json and --prometheus do not go together";
+    else if (question->wanted.form & LIST_PROMETHEUS && question->whats > 0)
+        wrong = "--prometheus is of the whole unit";
+    else if (question->table && question->control)
+        wrong = "--table and --control do not go together";
+    else if (question->table && question->wanted.form & LIST_PROMETHEUS)
+        wrong = "--prometheus is of a running unit, not of a stored table";
+    if (wrong)
+        fprintf(stderr, "pfcp-list: %s\n", wrong);
+    return wrong == NULL;
+}
+
+static enum asked print_text(const char *text)
+{
+    fputs(text, stdout);
+    return ASKED_TEXT;
 }
 
 static enum asked read_question(struct question *question, int argc, char **argv)
 {
-    for (int i = 1; i < argc; i++) {
-        if (strcmp(argv[i], "--help") == 0) {
-            fputs(usage, stdout);
-            return ASKED_TEXT;
-        }
-        if (strcmp(argv[i], "--version") == 0) {
-            puts("pfcp-list " PFCP_VERSION);
-            return ASKED_TEXT;
-        }
-        if (strcmp(argv[i], "--json") == 0) {
-            question->json = true;
-        } else if (!takes_value(argv[i])) {
-            fprintf(stderr, "pfcp-list: unknown option %s (--help lists them)\n", argv[i]);
+    char wrong[WRONG_ROOM];
+    int index;
+    int found;
+
+    while ((found = next_option(argc, argv, known, &index, wrong)) != -1) {
+        if (found == 'h')
+            return print_text(help);
+        if (found == 'V')
+            return print_text("pfcp-list " PFCP_VERSION "\n");
+        if (found == '?') {
+            fprintf(stderr, "pfcp-list: %s\n", wrong);
             return ASKED_WRONG;
-        } else {
-            if (!read_option(question, argv[i], argv[i + 1]))
-                return ASKED_WRONG;
-            i++;
         }
+        if (!take_option(question, found, optarg))
+            return ASKED_WRONG;
     }
-    if (!question->path) {
-        fputs("pfcp-list: --control PATH is needed (--help lists the options)\n", stderr);
+    if (!is_possible(question))
         return ASKED_WRONG;
-    }
-    return ASKED_UNIT;
+    question->wanted.form |= LIST_COUNTERS;
+    return ASKED_LIST;
 }
 
 static bool complain(const struct question *question, const char *what)
 {
-    fprintf(stderr, "pfcp-list: %s: %s\n", question->path, what);
+    fprintf(stderr, "pfcp-list: %s: %s\n", question->table ? question->table : question->control,
+            what);
     return false;
 }
 
-/* The question in words, as control.h has them; gives its length. */
-static size_t write_question(const struct question *question, char *line, size_t size)
+/* What is not live, in words, where one is asked for. */
+static void complain_absence(const struct wanted *wanted, const char *words, int length)
 {
-    int length = question->session > 0 ? snprintf(line, size, "session %" PRIu64, question->session)
-                                       : snprintf(line, size, "list");
+    char room[INET6_ADDRSTRLEN];
 
-    if (question->peer > 0)
-        length += snprintf(line + length, size - (size_t)length, " peer %" PRIu64, question->peer);
-    length +=
-        snprintf(line + length, size - (size_t)length, question->json ? " json\n" : " text\n");
+    if (wanted->seid != 0)
+        fprintf(stderr, "pfcp-list: session %" PRIu64 ": ", wanted->seid);
+    else if (wanted->teid != 0)
+        fprintf(stderr, "pfcp-list: TEID %" PRIu32 ": ", wanted->teid);
+    else if (wanted->has_address)
+        fprintf(stderr,
+                "pfcp-list: address %s: ", ipv4_in_words(wanted->address, room, sizeof room));
+    else
+        fputs("pfcp-list: ", stderr);
+    fprintf(stderr, "%.*s\n", length, words);
+}
+
+/* The question in words, as control.h has them; gives its length. */
+static size_t write_question(const struct wanted *wanted, char *line, size_t size)
+{
+    char room[INET6_ADDRSTRLEN];
+    int length;
+
+    if (wanted->seid != 0)
+        length = snprintf(line, size, "session %" PRIu64, wanted->seid);
+    else if (wanted->teid != 0)
+        length = snprintf(line, size, "teid %" PRIu32, wanted->teid);
+    else if (wanted->has_address)
+        length =
+            snprintf(line, size, "address %s", ipv4_in_words(wanted->address, room, sizeof room));
+    else
+        length = snprintf(line, size, "list");
+    if (wanted->peer > 0)
+        length += snprintf(line + length, size - (size_t)length, " peer %" PRIu32, wanted->peer);
+    length += snprintf(line + length, size - (size_t)length, " %s\n",
+                       wanted->form & LIST_JSON         ? "json"
+                       : wanted->form & LIST_SUMMARY    ? "summary"
+                       : wanted->form & LIST_PROMETHEUS ? "prometheus"
+                                                        : "text");
     return (size_t)length;
 }
 
@@ -119,13 +227,13 @@ static int ask(const struct question *question)
     struct sockaddr_un address = {.sun_family = AF_UNIX};
     struct timeval limit = {.tv_sec = 10};
     char line[64];
-    size_t length = write_question(question, line, sizeof line);
+    size_t length = write_question(&question->wanted, line, sizeof line);
 
-    if (strlen(question->path) >= sizeof address.sun_path) {
+    if (strlen(question->control) >= sizeof address.sun_path) {
         complain(question, "too long for a socket's path");
         return -1;
     }
-    strcpy(address.sun_path, question->path);
+    strcpy(address.sun_path, question->control);
     int unit = socket(AF_UNIX, SOCK_STREAM, 0);
     if (unit >= 0 && setsockopt(unit, SOL_SOCKET, SO_RCVTIMEO, &limit, sizeof limit) == 0 &&
         setsockopt(unit, SOL_SOCKET, SO_SNDTIMEO, &limit, sizeof limit) == 0 &&
@@ -171,39 +279,81 @@ static char *read_answer(const struct question *question, int unit)
     return NULL;
 }
 
-/* The first line of the answer is "ok", or says what is wrong. */
-static bool print_answer(const struct question *question, const char *answer)
+/* Gives the exit status. */
+static int end_of_list(void)
 {
-    if (strncmp(answer, "ok\n", 3) != 0) {
-        int length = (int)strcspn(answer, "\n");
+    if (fflush(stdout) == 0 && !ferror(stdout))
+        return EXIT_SUCCESS;
+    fprintf(stderr, "pfcp-list: the list could not be written: %s\n", strerror(errno));
+    return NOT_WRITTEN;
+}
 
-        if (question->session > 0)
-            fprintf(stderr, "pfcp-list: session %" PRIu64 ": %.*s\n", question->session, length,
-                    answer);
-        else
-            fprintf(stderr, "pfcp-list: %.*s\n", length, answer);
-        return false;
+/* The first line of the answer is "ok", or says what is wrong; gives the exit status. */
+static int print_answer(const struct question *question, const char *answer)
+{
+    static const char unknown[] = "the unit does not know this question";
+
+    if (strncmp(answer, "ok\n", 3) == 0) {
+        fputs(answer + 3, stdout);
+        return end_of_list();
     }
-    if (fputs(answer + 3, stdout) < 0 || fflush(stdout) != 0) {
-        fprintf(stderr, "pfcp-list: the list could not be written: %s\n", strerror(errno));
-        return false;
+    if (strncmp(answer, unknown, strlen(unknown)) == 0) {
+        complain(question, "the unit is of another version, and does not know this question");
+        return NOBODY_ANSWERS;
     }
-    return true;
+    complain_absence(&question->wanted, answer, (int)strcspn(answer, "\n"));
+    return NOT_LIVE;
+}
+
+/* The list of a running unit; gives the exit status. */
+static int list_unit(const struct question *question)
+{
+    int unit = ask(question);
+
+    if (unit < 0)
+        return NOBODY_ANSWERS;
+    char *answer = read_answer(question, unit);
+    int status = answer ? print_answer(question, answer) : NOBODY_ANSWERS;
+    free(answer);
+    close(unit);
+    return status;
+}
+
+/* The list of a stored table; gives the exit status. */
+static int list_table(const struct question *question)
+{
+    static struct unit unit;
+    static struct listing listing;
+    static struct text piece;
+    char why[STORED_WHY];
+
+    if (!stored_unit_read(&unit, question->table, why)) {
+        complain(question, why);
+        return NOBODY_ANSWERS;
+    }
+    if (!listing_start(&listing, &unit, &question->wanted, 0)) {
+        const char *words = "not in this table";
+
+        complain_absence(&question->wanted, words, (int)strlen(words));
+        return NOT_LIVE;
+    }
+    while (listing_next(&listing, &piece)) {
+        fwrite(piece.octets, 1, piece.length, stdout);
+        piece.length = 0;
+    }
+    return end_of_list();
 }
 
 int main(int argc, char **argv)
 {
-    struct question question = {.path = NULL};
+    struct question question = {.control = NULL};
     enum asked asked = read_question(&question, argc, argv);
 
-    if (asked != ASKED_UNIT)
-        return asked == ASKED_TEXT ? EXIT_SUCCESS : 2;
-    int unit = ask(&question);
-    if (unit < 0)
-        return EXIT_FAILURE;
-    char *answer = read_answer(&question, unit);
-    bool good = answer && print_answer(&question, answer);
-    free(answer);
-    close(unit);
-    return good ? EXIT_SUCCESS : EXIT_FAILURE;
+    if (asked != ASKED_LIST)
+        return asked == ASKED_TEXT ? EXIT_SUCCESS : BAD_OPTION;
+    if (question.table)
+        return list_table(&question);
+    if (!question.control)
+        question.control = USUAL_CONTROL;
+    return list_unit(&question);
 }

@@ -8,18 +8,18 @@
 #include <stdio.h>
 #include <stdlib.h>
 #include <string.h>
+#include <sys/prctl.h>
 #include <sys/signalfd.h>
 #include <unistd.h>
 
+#include "complaint.h"
 #include "control.h"
 #include "datagrams.h"
 #include "listing.h"
 #include "output.h"
 #include "unit.h"
+#include "wipe.h"
 #include "words.h"
-
-/* So many messages are served before signals and the control socket get their turn. */
-enum { BATCH = 64 };
 
 struct service {
     struct unit unit;
@@ -64,12 +64,18 @@ static void say(struct service *service, const char *words)
     output_say(&service->out, text.octets, text.length);
 }
 
-static void warn(struct service *service, const char *words)
+/* A line on standard error. */
+static void tell(struct service *service, enum level level, const char *words)
 {
     struct text text = {.length = 0};
 
-    text_add(&text, "pfcp_unit: %s\n", words);
+    complaint_add(&text, level, words);
     output_say(&service->complaints, text.octets, text.length);
+}
+
+static void warn(struct service *service, const char *words)
+{
+    tell(service, LEVEL_WARNING, words);
 }
 
 static void say_sessions(struct service *service)
@@ -83,6 +89,7 @@ static void say_sessions(struct service *service)
         output_say(&service->out, text.octets, text.length);
         text.length = 0;
     }
+    wipe(&service->listing, sizeof service->listing);
 }
 
 static void take_signal(struct service *service)
@@ -136,35 +143,74 @@ static void say_disk(struct service *service)
     else
         snprintf(words, sizeof words, "the table is kept on the disk again; requests undone: %lu",
                  unit_undone(unit));
-    warn(service, words);
+    tell(service, unit->disk.failing ? LEVEL_ERROR : LEVEL_WARNING, words);
 }
 
-/* A disk may be slow: where the table is kept on one, each message may be the last of its batch. */
-static void serve_batch(struct service *service, uint32_t peer)
+/* What each session released that a set deletion took. */
+static void say_released(struct service *service, const struct served *served)
 {
-    int batch = service->unit.disk.path ? 1 : BATCH;
-    struct served served;
+    struct grant grants[MOST_GRANTS];
     struct text line;
 
-    for (int i = 0; i < batch; i++) {
-        enum turn turn = unit_serve(&service->unit, peer, &served);
+    for (size_t i = 0; i < served->removed_count; i++) {
+        size_t count = unit_released(&service->unit, served, served->removed[i], grants);
 
-        if (turn == TURN_NOTHING)
-            return;
-        if (turn == TURN_STRANGER) {
-            say_stranger(service, &served);
-            continue;
-        }
         line.length = 0;
-        served_line(&line, &served);
+        released_line(&line, served, served->removed[i], grants, count);
         output_say(&service->out, line.octets, line.length);
-        say_disk(service);
-        if (turn == TURN_BROKEN) {
-            service->end = "a broken table";
-            service->status = EXIT_FAILURE;
-            return;
-        }
     }
+}
+
+/* The line of a message, and those of the sessions that it took. With --quiet only a broken table's. */
+static void say_served(struct service *service, const struct served *served)
+{
+    struct text line = {.length = 0};
+
+    if (service->unit.options->quiet && served->outcome != PFCP_BROKEN_TABLE)
+        return;
+    served_line(&line, served);
+    output_say(&service->out, line.octets, line.length);
+    if (served->is_set && service->unit.options->grants)
+        say_released(service, served);
+}
+
+/* Has the batch on the disk and answered, and says what became of its messages. */
+static void settle(struct service *service)
+{
+    const struct batch *batch = service->unit.batch;
+
+    unit_settle(&service->unit);
+    for (size_t i = 0; i < batch->count; i++)
+        say_served(service, &batch->held[i].served);
+    say_disk(service);
+    if (batch->broken) {
+        service->end = "a broken table";
+        service->status = EXIT_FAILURE;
+    }
+    unit_forget(&service->unit);
+}
+
+/* Serves what waits, of both peers in turn. Where the table is kept on a disk, which may be slow, all of
+   it goes there in one write, and then it is answered; else each message at once. */
+static void serve_batch(struct service *service)
+{
+    struct unit *unit = &service->unit;
+    const struct served *served;
+    uint32_t peer = 1;
+    size_t idle = 0; /* peers of whom nothing waits, one after the other */
+
+    for (int i = 0; i < BATCH && idle < PFCP_PEERS && !service->end; peer = PFCP_PEERS + 1 - peer) {
+        enum turn turn = unit_take(unit, peer, &served);
+
+        idle = turn == TURN_NOTHING ? idle + 1 : 0;
+        i += turn != TURN_NOTHING;
+        if (turn == TURN_STRANGER)
+            say_stranger(service, served);
+        else if (turn == TURN_BROKEN || turn == TURN_LAST ||
+                 (turn == TURN_TAKEN && !unit->disk.path))
+            settle(service);
+    }
+    settle(service);
 }
 
 /* What is waited for: signals, the control socket, then the peers' sockets. */
@@ -188,26 +234,43 @@ static void serve(struct service *service)
         }
         if (waits[SIGNALS].revents)
             take_signal(service);
-        for (uint32_t peer = 1; peer <= PFCP_PEERS; peer++)
-            if (waits[FIRST_PEER + peer - 1].revents && !service->end)
-                serve_batch(service, peer);
+        if ((waits[FIRST_PEER].revents || waits[FIRST_PEER + 1].revents) && !service->end)
+            serve_batch(service);
         control_step(&service->control, waits[CONTROL].revents, &service->unit, &service->out);
+        wipe_stack();
     }
+}
+
+/* Whether the file is of the form before, which nobody can check, and when it has the form. */
+static void say_form(struct service *service)
+{
+    const struct disk *disk = &service->unit.disk;
+    char words[PATH_MAX + 192];
+
+    if (disk->made || disk->stored.settings)
+        return;
+    snprintf(
+        words, sizeof words,
+        "%s was of the form before, without a SHA-256: nothing tells whether it was damaged; %s",
+        disk->path,
+        disk->rewritten ? "it is written anew with one" : "from the next change on it has one");
+    say(service, words);
 }
 
 /* Whether the file lacks the stores of repeats, or has some that are not used. */
 static void say_stores(struct service *service)
 {
     const struct disk *disk = &service->unit.disk;
+    bool has_stores = disk->stored.has_stores;
     char words[PATH_MAX + 128];
 
-    if (disk->made || disk->has_stores == service->unit.options->repeats)
+    if (disk->made || has_stores == service->unit.options->repeats)
         return;
     snprintf(words, sizeof words,
-             disk->has_stores ? "the stores of repeats in %s are not used; from the next change on "
-                                "they are not there"
-                              : "%s lacks the stores of repeats: a repeat from before is taken for "
-                                "a new request",
+             has_stores ? "the stores of repeats in %s are not used; from the next change on "
+                          "they are not there"
+                        : "%s lacks the stores of repeats: a repeat from before is taken for "
+                          "a new request",
              disk->path);
     say(service, words);
 }
@@ -233,14 +296,16 @@ static void say_table(struct service *service)
                  "the table is kept in %s; sessions restored from it: %" PRIu32, disk->path,
                  disk->restored);
     say(service, words);
-    if (!disk->made && disk->stored_limit != limit) {
+    say_form(service);
+    if (!disk->made && disk->stored.limit != limit) {
         snprintf(words, sizeof words,
                  "%s has a session limit of %" PRIu32
                  "; from the next change on it has one of %" PRIu32,
-                 disk->path, disk->stored_limit, limit);
+                 disk->path, disk->stored.limit, limit);
         say(service, words);
     }
     say_stores(service);
+    say_disk(service);
     if (!disk->sync)
         warn(service, "warning: --table-sync no: after a power failure the table's file may lack "
                       "what was answered, or be broken");
@@ -314,6 +379,18 @@ static void say_start(struct service *service)
     }
 }
 
+static void end_output(struct service *service)
+{
+    unsigned long dropped = output_end(&service->out);
+    char words[64];
+
+    if (dropped > 0) {
+        snprintf(words, sizeof words, "lines of output dropped: %lu", dropped);
+        warn(service, words);
+    }
+    output_end(&service->complaints);
+}
+
 static void say_end(struct service *service)
 {
     char words[128];
@@ -322,12 +399,7 @@ static void say_end(struct service *service)
              "stopped by %s; requests answered: %lu, messages without a reply: %lu", service->end,
              unit_answered(&service->unit), unit_unanswered(&service->unit));
     say(service, words);
-    unsigned long dropped = output_end(&service->out);
-    if (dropped > 0) {
-        snprintf(words, sizeof words, "lines of output dropped: %lu", dropped);
-        warn(service, words);
-    }
-    output_end(&service->complaints);
+    end_output(service);
 }
 
 /* The threads inherit the signals that are blocked. */
@@ -338,7 +410,7 @@ static bool start_output(struct service *service)
     if (error == 0)
         error = output_start(&service->out, 1, &service->complaints);
     if (error != 0)
-        fprintf(stderr, "pfcp_unit: no threads: %s\n", strerror(error));
+        complaint("no threads: %s", strerror(error));
     return error == 0;
 }
 
@@ -349,24 +421,32 @@ int run_service(const struct options *options)
     static struct service room;
     struct service *service = &room;
 
+    /* No core file, and no other process of this user, has what is in memory. */
+    prctl(PR_SET_DUMPABLE, 0);
     service->signals = open_signals();
     if (service->signals < 0) {
-        fprintf(stderr, "pfcp_unit: no signals: %s\n", strerror(errno));
+        complaint("no signals: %s", strerror(errno));
         return EXIT_FAILURE;
     }
-    if (!control_start(&service->control, options->control))
-        return 2;
+    if (!control_start(&service->control, options))
+        return service->control.status;
     service->status = EXIT_FAILURE;
-    bool bound = unit_start(&service->unit, options);
-    bool started = bound && start_output(service);
-    if (started) {
+    /* A thread takes over the registers of the one that makes it, and may put them on its stack: so the
+       threads come before the table. */
+    bool heard = start_output(service);
+    bool bound = heard && unit_start(&service->unit, options);
+    if (bound) {
         service->status = EXIT_SUCCESS;
         say_start(service);
+        wipe_stack();
         serve(service);
     }
     control_stop(&service->control);
-    unit_stop(&service->unit);
-    if (started)
+    if (heard)
+        unit_stop(&service->unit);
+    if (bound)
         say_end(service);
-    return bound ? service->status : 2;
+    else if (heard)
+        end_output(service);
+    return bound || !heard ? service->status : service->unit.status;
 }

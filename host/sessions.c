@@ -157,3 +157,95 @@ bool sessions_read(const uint8_t *table, size_t length, size_t place, struct ses
     session->peer = peer;
     return true;
 }
+
+void sessions_find(const uint8_t *table, size_t length, uint32_t peer, uint64_t seid,
+                   struct session *session)
+{
+    size_t place;
+
+    if (pfcp_find_session(table, length, peer, seid, &place) != PFCP_FOUND ||
+        !sessions_read(table, length, place, session))
+        memset(session, 0, sizeof *session);
+}
+
+/* What all records of a session hold. */
+static size_t hold(const struct session *session, struct grant *grants)
+{
+    size_t count = 0;
+
+    for (size_t i = 0; i < session->pdr_count; i++) {
+        const struct pdr *pdr = &session->pdrs[i];
+
+        grants[count++] = (struct grant){.id = pdr->id,
+                                         .has_teid = pdr->place == LOCAL_F_TEID,
+                                         .teid = pdr->teid,
+                                         .address = pdr->address};
+    }
+    for (size_t i = 0; i < session->endpoint_count; i++) {
+        const struct endpoint *endpoint = &session->endpoints[i];
+
+        grants[count++] = (struct grant){.is_endpoint = true,
+                                         .id = endpoint->id,
+                                         .has_teid = true,
+                                         .teid = endpoint->teid,
+                                         .address = endpoint->address};
+    }
+    return count;
+}
+
+static bool same_teid(const struct grant *one, const struct grant *other)
+{
+    return one->has_teid && other->has_teid && one->teid == other->teid;
+}
+
+static bool same_address(const struct grant *one, const struct grant *other)
+{
+    return one->address.is_there && other->address.is_there &&
+           memcmp(one->address.octets, other->address.octets, sizeof one->address.octets) == 0;
+}
+
+/* What the records of one session hold and the same records of the other do not. */
+static size_t differences(const struct session *one, const struct session *other,
+                          struct grant *grants)
+{
+    struct grant all[MOST_GRANTS];
+    struct grant others[MOST_GRANTS];
+    size_t all_count = hold(one, all);
+    size_t others_count = hold(other, others);
+    size_t count = 0;
+
+    for (size_t i = 0; i < all_count; i++) {
+        struct grant grant = all[i];
+
+        for (size_t k = 0; k < others_count; k++) {
+            if (others[k].is_endpoint != grant.is_endpoint || others[k].id != grant.id)
+                continue;
+            grant.has_teid = grant.has_teid && !same_teid(&all[i], &others[k]);
+            grant.address.is_there = grant.address.is_there && !same_address(&all[i], &others[k]);
+        }
+        if (grant.has_teid || grant.address.is_there)
+            grants[count++] = grant;
+    }
+    return count;
+}
+
+size_t sessions_given(const struct session *before, const struct session *now,
+                      struct grant grants[MOST_GRANTS])
+{
+    return differences(now, before, grants);
+}
+
+size_t sessions_released(const struct session *before, const struct session *now,
+                         struct grant grants[MOST_GRANTS])
+{
+    struct grant held[MOST_GRANTS];
+    size_t held_count = hold(now, held);
+    size_t count = differences(before, now, grants);
+
+    for (size_t i = 0; i < count; i++)
+        for (size_t k = 0; k < held_count; k++) {
+            grants[i].teid_stays = grants[i].teid_stays || same_teid(&grants[i], &held[k]);
+            grants[i].address_stays = grants[i].address_stays || same_address(&grants[i], &held[k]);
+        }
+    return count;
+}

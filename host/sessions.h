@@ -54,6 +54,33 @@ struct session {
     struct fq_csid fq_csids[MOST_FQ_CSIDS];
 };
 
+/* What a record of a session holds that the unit hands out; after a comparison, what of it was given or
+   released. */
+struct grant {
+    bool is_endpoint; /* else a PDR */
+    uint16_t id;
+    bool has_teid;
+    uint32_t teid;
+    bool teid_stays; /* released by this record, and still held by another one of the session */
+    struct patient_address address;
+    bool address_stays;
+};
+
+enum { MOST_GRANTS = MOST_PDRS + MOST_ENDPOINTS };
+
+/* What the records of a session hold now and did not hold before; gives their number. A session without
+   records stands for one that is not there. */
+size_t sessions_given(const struct session *before, const struct session *now,
+                      struct grant grants[MOST_GRANTS]);
+
+/* What they held before and do not hold now. */
+size_t sessions_released(const struct session *before, const struct session *now,
+                         struct grant grants[MOST_GRANTS]);
+
+/* The session of a peer with this SEID in a sound table; one without records where there is none. */
+void sessions_find(const uint8_t *table, size_t length, uint32_t peer, uint64_t seid,
+                   struct session *session);
+
 /* The SEIDs, in the table's order, of sessions that a table of this length had before and has no more
    after; gives their number, at most the room. No session has come between the two. */
 size_t sessions_gone(const uint8_t *before, const uint8_t *after, size_t length, uint64_t *seids,

@@ -1,10 +1,5 @@
 #include "stores.h"
 
-size_t stores_length(const struct options *options)
-{
-    return options->repeats ? STORES_ROOM : 0;
-}
-
 uint8_t *stores_at(uint8_t *stores, uint32_t peer)
 {
     return stores + (peer - 1) * PFCP_STORE_LENGTH;

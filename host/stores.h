@@ -16,7 +16,10 @@
 enum { STORES_ROOM = PFCP_PEERS * PFCP_STORE_LENGTH };
 
 /* The number of octets of the stores that the options ask for. */
-size_t stores_length(const struct options *options);
+static inline size_t stores_length(const struct options *options)
+{
+    return options->repeats ? STORES_ROOM : 0;
+}
 
 /* Makes these stores, both of them empty. */
 void stores_make(uint8_t *stores, const struct options *options);

@@ -5,9 +5,6 @@
 #include "message.h"
 #include "pfcp_session.h"
 
-/* The layout before two peers: a head, and a slot for each of 1 to 256 sessions. */
-enum { OLD_HEAD = 41, OLD_SLOT = 603 };
-
 /* A session's restoration request, and the peer to run it under. */
 struct restoration {
     uint8_t octets[PFCP_LONGEST_RESTORATION];
@@ -33,12 +30,6 @@ uint32_t table_limit(size_t length)
         if (pfcp_table_length(limit) == length)
             return limit;
     return 0;
-}
-
-bool table_is_old(size_t length)
-{
-    return length > OLD_HEAD && (length - OLD_HEAD) % OLD_SLOT == 0 &&
-           (length - OLD_HEAD) / OLD_SLOT <= PFCP_MOST_SESSIONS;
 }
 
 /* The control plane's address is in each request, and in no table. */

@@ -16,9 +16,6 @@ bool table_make(uint8_t *room, const struct options *options, uint32_t session_l
 /* The session limit of tables of this length; 0 where no table has it. */
 uint32_t table_limit(size_t length);
 
-/* Whether a table of the layout before two peers has this length. */
-bool table_is_old(size_t length);
-
 /* Runs the restoration requests of a sound table on an empty one, each under its peer; gives whether all
    were accepted and the two have the same sessions now. */
 bool table_restore(const uint8_t *stored, size_t stored_length, uint8_t *table, size_t length);

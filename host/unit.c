@@ -6,40 +6,60 @@
 #include <string.h>
 #include <unistd.h>
 
+#include "complaint.h"
 #include "datagrams.h"
+#include "digest.h"
 #include "message.h"
+#include "status.h"
 #include "stores.h"
 #include "table.h"
+#include "wipe.h"
 
-/* What the peers have, and the free TEIDs and addresses, after a request that may have changed them. */
-static bool count_table(struct unit *unit)
+/* What a peer has, and the free TEIDs and addresses, after a request of this peer that may have changed
+   them; the other one has what it had. Each call checks the whole table, so the free TEIDs are worked out:
+   every TEID of a sound table is of the pool and of one session (9.4, 9.5 and 9.7 of docs/rules.md). */
+static bool count_peer(struct unit *unit, uint32_t peer)
 {
-    const uint8_t *table = unit->table;
-    size_t length = unit->table_length;
+    struct holding *holdings = unit->holdings;
+    struct holding *own = &holdings[peer - 1];
 
-    unit->live_sessions = 0;
-    for (uint32_t peer = 1; peer <= PFCP_PEERS; peer++) {
-        struct holding *holding = &unit->holdings[peer - 1];
-
-        if (pfcp_peer_count(table, length, peer, &holding->sessions, &holding->teids) != PFCP_FOUND)
-            return false;
-        unit->live_sessions += holding->sessions;
-    }
-    return pfcp_free_count(table, length, &unit->free_teids) == PFCP_ANSWERED &&
-           pfcp_free_addresses(table, length, &unit->free_addresses) == PFCP_ANSWERED;
+    if (pfcp_peer_count(unit->table, unit->table_length, peer, &own->sessions, &own->teids) !=
+            PFCP_FOUND ||
+        pfcp_free_addresses(unit->table, unit->table_length, &unit->free_addresses) !=
+            PFCP_ANSWERED)
+        return false;
+    unit->live_sessions = holdings[0].sessions + holdings[1].sessions;
+    unit->free_teids = unit->options->pool_size - holdings[0].teids - holdings[1].teids;
+    return true;
 }
 
-/* An empty table and empty stores in memory of just their length. */
+/* The same at the start, where the free TEIDs are counted too. */
+static bool count_table(struct unit *unit)
+{
+    uint32_t counted;
+
+    for (uint32_t peer = 1; peer <= PFCP_PEERS; peer++)
+        if (!count_peer(unit, peer))
+            return false;
+    return pfcp_free_count(unit->table, unit->table_length, &counted) == PFCP_ANSWERED &&
+           counted == unit->free_teids;
+}
+
+/* An empty table and empty stores, in memory of just the length of their file. */
 static bool start_table(struct unit *unit, const struct options *options)
 {
-    unit->table_length = pfcp_table_length(options->session_limit);
-    unit->table = malloc(unit->table_length + stores_length(options));
-    if (!unit->table) {
-        fputs("pfcp_unit: no memory for the table\n", stderr);
+    unit->file = malloc(stored_room(options));
+    unit->batch = calloc(1, sizeof *unit->batch);
+    if (!unit->file || !unit->batch) {
+        complaint("no memory for the table");
+        unit->status = STATUS_PASSING;
         return false;
     }
+    stored_begin(unit->file, options);
+    unit->table = unit->file + STORED_FRONT;
+    unit->table_length = pfcp_table_length(options->session_limit);
     if (!table_make(unit->table, options, options->session_limit)) {
-        fputs("pfcp_unit: these settings are refused\n", stderr);
+        complaint("these settings are refused");
         return false;
     }
     unit->stores = unit->table + unit->table_length;
@@ -59,8 +79,9 @@ static bool open_sockets(struct unit *unit)
 
         unit->sockets[i] = datagrams_open(listen, &buffer);
         if (unit->sockets[i] < 0) {
-            fprintf(stderr, "pfcp_unit: cannot listen on %s: %s\n",
-                    address_text(listen, text, sizeof text), strerror(errno));
+            unit->status = status_of(errno);
+            complaint("cannot listen on %s: %s", address_text(listen, text, sizeof text),
+                      strerror(errno));
             return false;
         }
         if (buffer < unit->receive_buffer)
@@ -69,20 +90,34 @@ static bool open_sockets(struct unit *unit)
     return true;
 }
 
+static bool start(struct unit *unit, const struct options *options)
+{
+    if (!start_table(unit, options))
+        return false;
+    if (!disk_start(&unit->disk, options, unit->file)) {
+        unit->status = unit->disk.status;
+        return false;
+    }
+    if (!count_table(unit)) {
+        complaint("the table is broken");
+        return false;
+    }
+    return open_sockets(unit);
+}
+
 bool unit_start(struct unit *unit, const struct options *options)
 {
     memset(unit, 0, sizeof *unit);
     for (size_t i = 0; i < PFCP_PEERS; i++)
         unit->sockets[i] = -1;
     unit->disk.lock = -1;
+    unit->status = STATUS_REFUSED;
+    clock_gettime(CLOCK_REALTIME, &unit->started);
     unit->options = options;
-    if (!start_table(unit, options) || !disk_start(&unit->disk, options, unit->table))
-        return false;
-    if (!count_table(unit)) {
-        fputs("pfcp_unit: the table is broken\n", stderr);
-        return false;
-    }
-    return open_sockets(unit);
+    if (start(unit, options))
+        return true;
+    disk_undo_start(&unit->disk);
+    return false;
 }
 
 void unit_stop(struct unit *unit)
@@ -93,7 +128,12 @@ void unit_stop(struct unit *unit)
         unit->sockets[i] = -1;
     }
     disk_stop(&unit->disk);
-    free(unit->table);
+    if (unit->file)
+        wipe(unit->file, stored_room(unit->options));
+    free(unit->file);
+    free(unit->batch);
+    unit->file = NULL;
+    unit->batch = NULL;
     unit->table = NULL;
     unit->stores = NULL;
 }
@@ -206,71 +246,114 @@ unsigned long unit_unanswered(const struct unit *unit)
     return sum;
 }
 
+/* The counts, for a message's line. */
+static void keep_counts(const struct unit *unit, struct served *served)
+{
+    served->live_sessions = unit->live_sessions;
+    served->free_teids = unit->free_teids;
+    served->free_addresses = unit->free_addresses;
+}
+
 /* Hands the message on, with the store of its peer where there is one. Whatever the engine answers is
    stored, so an answer that leaves the store as it was is an old one. */
-static void hand_on(struct unit *unit, struct served *served, const uint8_t *message,
-                    uint8_t *reply, size_t *used)
+static void hand_on(struct unit *unit, struct held *held, const uint8_t *message)
 {
     static uint8_t before[PFCP_STORE_LENGTH];
+    struct served *served = &held->served;
 
     if (!unit->options->repeats) {
         served->outcome =
             pfcp_request(unit->table, unit->table_length, served->peer, message, served->length,
-                         reply, PFCP_REPLY_SPACE, used, &served->place);
+                         held->reply, sizeof held->reply, &held->used, &served->place);
         return;
     }
     uint8_t *store = stores_at(unit->stores, served->peer);
     memcpy(before, store, PFCP_STORE_LENGTH);
-    served->outcome =
-        pfcp_request_once(unit->table, unit->table_length, served->peer, store, PFCP_STORE_LENGTH,
-                          message, served->length, reply, PFCP_REPLY_SPACE, used, &served->place);
+    served->outcome = pfcp_request_once(unit->table, unit->table_length, served->peer, store,
+                                        PFCP_STORE_LENGTH, message, served->length, held->reply,
+                                        sizeof held->reply, &held->used, &served->place);
     served->repeated =
         served->outcome == PFCP_ANSWERED && memcmp(before, store, PFCP_STORE_LENGTH) == 0;
+    wipe(before, sizeof before);
 }
 
-/* Has the message answered, has table and stores on the disk if they have changed, and sends the
-   reply. */
-static void answer(struct unit *unit, struct served *served, struct datagram *from,
-                   const uint8_t *message)
+/* A request whose number is not newer may be one whose reply is owed since the last batch. */
+static void look_for_owed(const struct unit *unit, struct held *held, const uint8_t *message)
 {
-    uint8_t reply[PFCP_REPLY_SPACE];
-    size_t used;
+    struct served *served = &held->served;
 
-    disk_remember(&unit->disk, unit->table);
-    hand_on(unit, served, message, reply, &used);
+    if (!unit->disk.path || !unit->options->repeats)
+        return;
+    digest(message, served->length, held->digest);
+    if (served->outcome != PFCP_OLD_NUMBER)
+        return;
+    held->used = stored_owed(unit->file, served->peer, held->digest, held->reply);
+    if (held->used == 0)
+        return;
+    served->outcome = PFCP_ANSWERED;
+    served->repeated = true;
+}
+
+/* Has the message answered. */
+static void answer(struct unit *unit, struct held *held, const uint8_t *message)
+{
+    struct served *served = &held->served;
+
+    hand_on(unit, held, message);
+    look_for_owed(unit, held, message);
     if (served->outcome != PFCP_ANSWERED)
         return;
-    if (!disk_keep(&unit->disk, unit->table)) {
-        served->undone = unit->disk.trouble;
-        return;
-    }
-    served->send_error = datagrams_answer(unit->sockets[served->peer - 1], from, reply, used);
-    read_reply(served, reply, used);
+    read_reply(served, held->reply, held->used);
     if (served->repeated)
         return;
     if (served->has_offending)
         keep_octets(served, message);
     if (served->cause == NO_RESOURCES)
         keep_shortage(unit, served);
-    if (served->cause == ACCEPTED && !count_table(unit))
+    if (served->cause == ACCEPTED && !count_peer(unit, served->peer))
         served->outcome = PFCP_BROKEN_TABLE;
 }
 
-/* The same for a set deletion, whose reply does not say which sessions it took: those that lived
-   before it and do so no more. */
-static void answer_set(struct unit *unit, struct served *served, struct datagram *from,
-                       const uint8_t *message)
+/* What the records of the request's session got by it, and what they gave up. */
+static void keep_grants(const struct unit *unit, struct served *served)
 {
-    static uint8_t before[PFCP_LONGEST_TABLE];
+    struct session before;
+    struct session now;
+
+    sessions_find(unit->batch->before, unit->table_length, served->peer, served->seid, &before);
+    sessions_find(unit->table, unit->table_length, served->peer, served->seid, &now);
+    served->given_count = sessions_given(&before, &now, served->given);
+    served->released_count = sessions_released(&before, &now, served->released);
+}
+
+size_t unit_released(const struct unit *unit, const struct served *served, uint64_t seid,
+                     struct grant grants[MOST_GRANTS])
+{
+    static const struct session gone;
+    struct session before;
+
+    sessions_find(unit->batch->before, unit->table_length, served->peer, seid, &before);
+    return sessions_released(&before, &gone, grants);
+}
+
+/* Has the message answered, and compares the table after it with that before: no reply says what was
+   released, and a set deletion's does not say which sessions it took. */
+static void answer_and_compare(struct unit *unit, struct held *held, const uint8_t *message)
+{
+    struct served *served = &held->served;
+    bool is_set = served->has_type && served->type == SET_DELETION;
     size_t lived = unit->live_sessions;
 
-    memcpy(before, unit->table, unit->table_length);
-    answer(unit, served, from, message);
+    if (is_set || unit->options->grants)
+        memcpy(unit->batch->before, unit->table, unit->table_length);
+    answer(unit, held, message);
     if (served->outcome != PFCP_ANSWERED || served->cause != ACCEPTED || served->repeated)
         return;
-    served->is_set = true;
-    if (unit->live_sessions < lived)
-        served->removed_count = sessions_gone(before, unit->table, unit->table_length,
+    served->is_set = is_set;
+    if (!is_set && unit->options->grants)
+        keep_grants(unit, served);
+    if (is_set && unit->live_sessions < lived)
+        served->removed_count = sessions_gone(unit->batch->before, unit->table, unit->table_length,
                                               served->removed, PFCP_MOST_SESSIONS);
 }
 
@@ -283,37 +366,173 @@ static bool may_ask(const struct peer *peer, const struct address *sender)
     return peer->from_count == 0;
 }
 
-enum turn unit_serve(struct unit *unit, uint32_t peer, struct served *served)
+/* Before the first message of a batch: what the unit has. */
+static void begin_batch(struct unit *unit)
+{
+    struct batch *batch = unit->batch;
+
+    disk_remember(&unit->disk);
+    memcpy(batch->holdings, unit->holdings, sizeof batch->holdings);
+    batch->live_sessions = unit->live_sessions;
+    batch->free_teids = unit->free_teids;
+    batch->free_addresses = unit->free_addresses;
+}
+
+enum turn unit_take(struct unit *unit, uint32_t peer, const struct served **given)
 {
     /* Longer than any datagram, so that a message that is too long is seen as such. */
     static uint8_t message[65536];
-    struct counters *counters = &unit->counters[peer - 1];
+    struct held *held = &unit->batch->held[unit->batch->count];
+    struct served *served = &held->served;
     uint32_t *system_dropped = &unit->system_dropped[peer - 1];
-    struct datagram from = {.dropped = *system_dropped};
-    ssize_t length = datagrams_receive(unit->sockets[peer - 1], &from, message, sizeof message);
 
+    memset(held, 0, sizeof *held);
+    held->from.dropped = *system_dropped;
+    ssize_t length =
+        datagrams_receive(unit->sockets[peer - 1], &held->from, message, sizeof message);
     if (length < 0)
         return TURN_NOTHING;
-    memset(served, 0, sizeof *served);
+    *given = served;
     clock_gettime(CLOCK_REALTIME, &served->time);
-    served->sender = from.sender;
+    served->sender = held->from.sender;
     served->peer = peer;
-    counters->dropped += (uint32_t)(from.dropped - *system_dropped);
-    *system_dropped = from.dropped;
-    if (!may_ask(&unit->options->peers[peer - 1], &from.sender)) {
-        counters->strangers++;
+    unit->counters[peer - 1].dropped += (uint32_t)(held->from.dropped - *system_dropped);
+    *system_dropped = held->from.dropped;
+    if (!may_ask(&unit->options->peers[peer - 1], &held->from.sender)) {
+        unit->counters[peer - 1].strangers++;
+        wipe(message, (size_t)length);
         return TURN_STRANGER;
     }
+    if (unit->batch->count++ == 0)
+        begin_batch(unit);
     read_head(served, message, (size_t)length);
-    if (served->has_type && served->type == SET_DELETION)
-        answer_set(unit, served, &from, message);
-    else
-        answer(unit, served, &from, message);
-    served->live_sessions = unit->live_sessions;
-    served->free_teids = unit->free_teids;
-    served->free_addresses = unit->free_addresses;
-    count(counters, served);
-    if (served->outcome == PFCP_ANSWERED)
-        return served->undone ? TURN_NO_REPLY : TURN_REPLY;
-    return served->outcome == PFCP_BROKEN_TABLE ? TURN_BROKEN : TURN_NO_REPLY;
+    answer_and_compare(unit, held, message);
+    wipe(message, (size_t)length);
+    keep_counts(unit, served);
+    unit->batch->broken = unit->batch->broken || served->outcome == PFCP_BROKEN_TABLE;
+    if (unit->batch->broken)
+        return TURN_BROKEN;
+    return served->is_set || unit->batch->count == BATCH ? TURN_LAST : TURN_TAKEN;
+}
+
+/* Whether a message of the batch was answered and may have changed the table or a store. */
+static bool has_changed(const struct unit *unit, const struct served *served)
+{
+    return served->outcome == PFCP_ANSWERED && !served->repeated &&
+           (unit->options->repeats || served->cause == ACCEPTED);
+}
+
+/* Whether a reply depends on what the batch has changed: its own change, that of the request of which it
+   is a repeat, or any before a refusal. */
+static bool depends_on_batch(const struct unit *unit, size_t at)
+{
+    const struct held *held = unit->batch->held;
+    const struct served *served = &held[at].served;
+
+    if (unit->disk.unsure || has_changed(unit, served))
+        return true;
+    for (size_t i = 0; i < at; i++)
+        if (has_changed(unit, &held[i].served) &&
+            (!served->repeated ||
+             (held[i].served.peer == served->peer && held[i].served.sequence == served->sequence)))
+            return true;
+    return false;
+}
+
+/* Has the file owe the replies of the batch that no store may hold any more after it: those after which
+   eight new requests of the peer came, and those of repeats after which any came, since they may be the
+   oldest of the store. What was owed before is still owed, until it is too old. */
+static void owe_replies(struct unit *unit)
+{
+    enum { STORE_HOLDS = 8 };
+    const struct batch *batch = unit->batch;
+    const uint8_t *before = unit->disk.before;
+    size_t newer[PFCP_PEERS] = {0};
+
+    if (!unit->options->repeats)
+        return;
+    stored_owe_nothing(unit->file);
+    for (size_t i = batch->count; i > 0; i--) {
+        const struct held *held = &batch->held[i - 1];
+        const struct served *served = &held->served;
+        size_t after = newer[served->peer - 1];
+
+        if (served->outcome == PFCP_ANSWERED && after >= (served->repeated ? 1 : STORE_HOLDS))
+            stored_owe(unit->file, &(struct owed){.peer = served->peer,
+                                                  .request = held->digest,
+                                                  .reply = held->reply,
+                                                  .length = held->used});
+        newer[served->peer - 1] += has_changed(unit, served);
+    }
+    stored_owe_all(unit->file, before + stored_replies_at(before),
+                   stored_sealed_at(before) - stored_replies_at(before), newer);
+}
+
+/* A broken table is not written over the one that the disk has. */
+static bool keep_batch(struct unit *unit)
+{
+    if (unit->batch->broken) {
+        disk_undo(&unit->disk);
+        return false;
+    }
+    if (!disk_has_changed(&unit->disk))
+        return true;
+    owe_replies(unit);
+    return disk_keep(&unit->disk);
+}
+
+/* The unit is as before the batch, and so is what a message's line says of it. */
+static void undo_counts(struct unit *unit)
+{
+    struct batch *batch = unit->batch;
+
+    memcpy(unit->holdings, batch->holdings, sizeof unit->holdings);
+    unit->live_sessions = batch->live_sessions;
+    unit->free_teids = batch->free_teids;
+    unit->free_addresses = batch->free_addresses;
+    for (size_t i = 0; i < batch->count; i++)
+        keep_counts(unit, &batch->held[i].served);
+}
+
+/* What a reply said is not so. */
+static void undo(struct served *served, const char *why)
+{
+    served->undone = why;
+    served->cause = 0;
+    served->has_offending = false;
+    served->is_set = false;
+    served->given_count = 0;
+    served->released_count = 0;
+}
+
+void unit_settle(struct unit *unit)
+{
+    struct batch *batch = unit->batch;
+    bool kept = batch->count == 0 || keep_batch(unit);
+    const char *why = batch->broken ? "the table in memory is broken" : unit->disk.trouble;
+
+    if (!kept && unit->disk.path)
+        undo_counts(unit);
+    for (size_t i = 0; !kept && i < batch->count; i++)
+        batch->held[i].depends = depends_on_batch(unit, i);
+    for (size_t i = 0; i < batch->count; i++) {
+        struct held *held = &batch->held[i];
+        struct served *served = &held->served;
+
+        if (served->outcome == PFCP_ANSWERED && held->depends)
+            undo(served, why);
+        else if (served->outcome == PFCP_ANSWERED)
+            served->send_error = datagrams_answer(unit->sockets[served->peer - 1], &held->from,
+                                                  held->reply, held->used);
+        count(&unit->counters[served->peer - 1], served);
+    }
+}
+
+void unit_forget(struct unit *unit)
+{
+    wipe(unit->batch->held, unit->batch->count * sizeof unit->batch->held[0]);
+    wipe(unit->batch->before, unit->table_length);
+    disk_forget(&unit->disk);
+    unit->batch->count = 0;
+    unit->batch->broken = false;
 }

@@ -124,6 +124,22 @@ const char *element_in_words(unsigned type)
 }
 
 /* TS 29.244, table 7.3-1. */
+const char *interface_in_words(unsigned interface)
+{
+    static const char *const words[] = {"access", "core", "SGi-LAN or N6-LAN", "CP function",
+                                        "5G VN internal"};
+
+    return interface < sizeof words / sizeof words[0] ? words[interface] : "spare";
+}
+
+const char *node_type_in_words(unsigned type)
+{
+    static const char *const words[] = {"MME",  "SGW-C", "PGW-C or SMF",
+                                        "ePDG", "TWAN",  "PGW-U, SGW-U or UPF"};
+
+    return type < sizeof words / sizeof words[0] ? words[type] : "spare";
+}
+
 const char *message_in_words(unsigned type)
 {
     static const char *const words[] = {
@@ -179,6 +195,14 @@ const char *address_in_words(const uint8_t *address, size_t octets, char *room, 
     const char *text = inet_ntop(octets == 16 ? AF_INET6 : AF_INET, address, room, (socklen_t)size);
 
     return text ? text : "?";
+}
+
+const char *ipv4_in_words(uint32_t address, char *room, size_t size)
+{
+    const uint8_t octets[4] = {(uint8_t)(address >> 24), (uint8_t)(address >> 16),
+                               (uint8_t)(address >> 8), (uint8_t)address};
+
+    return address_in_words(octets, sizeof octets, room, size);
 }
 
 void print_octets(FILE *out, const char *margin, const uint8_t *octets, size_t length)

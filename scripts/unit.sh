@@ -1,10 +1,9 @@
 # shellcheck shell=bash disable=SC2034,SC2154
 # Shell functions for tests that run the unit; to be sourced after lib.sh. Sets work, a folder for the test's files.
 
-{ need_gcc && need_valgrind && find_archive; } || give_up
-compile_changed pfcp_unit -g -O2 "${unit_sources[@]}" "$archive_file" || give_up
+{ need_gcc && need_nettle && need_valgrind && find_archive; } || give_up
+compile_unit || give_up
 compile_changed pfcp_unit_sanitized "${sanitizers[@]}" "${unit_sources[@]}" "$archive_file" || give_up
-compile_changed pfcp-list -g -O2 "${list_sources[@]}" || give_up
 plain=(target/c/pfcp_unit)
 sanitized=(target/c/pfcp_unit_sanitized)
 valgrinded=("${checked_by_valgrind[@]}" target/c/pfcp_unit)
@@ -49,7 +48,7 @@ start_unit() {
         listens "$port" && continue
         "$@" --port "$port" "${settings[@]}" >"$out" 2>"$err" &
         unit_pid=$!
-        within 20 is_up
+        within 120 is_up # under valgrind, on a machine with other work, a start takes long
         is_gone "$unit_pid" || return 0
         wait "$unit_pid"
     done
@@ -132,13 +131,13 @@ burst() {
 # cause REPLY: the node that answers an establishment, as eight digits, and the cause; nothing where there is no reply
 cause() { [ ${#1} -ge 60 ] && printf '%s %d' "${1:42:8}" "0x${1:58:2}"; }
 
-# said FILE: the lines of a unit's output, with TIME and PORT in the place of the time and the sender's port
+# said FILE: the lines of a unit's output or of its complaints, with TIME and PORT in the place of the time and the sender's port
 said() {
     sed -E 's/^[0-9]{4}-[0-9]{2}-[0-9]{2}T[0-9]{2}:[0-9]{2}:[0-9]{2}\.[0-9]{3}Z /TIME /
         s/^TIME (127\.0\.0\.[0-9]+):[0-9]+ /TIME \1:PORT /' "$1"
 }
 
-anybody='pfcp_unit: warning: no --peer is given, so requests from any address are answered, as those of one control plane'
+anybody='TIME pfcp_unit: warning: no --peer is given, so requests from any address are answered, as those of one control plane'
 # Session 2: an endpoint with a TEID for IPv4, a PDR that names it and has FAR 10, an FQ-CSID of an operator's node.
 second='21 32 00 5F 00 00 00 00 00 00 00 00 00 00 02 00 00 39 00 0D 02 00 00 00 00 00 00 00 02 7F 00 00 01'
 second+=' 00 01 00 24 00 38 00 02 00 03 00 1D 00 04 00 00 00 32 00 02 00 0A 00 14 00 01 01 00 83 00 01 01 00 6C 00 04 00 00 00 0A'

@@ -40,7 +40,7 @@ pub fn text(settings: &Settings, sessions: &Sessions) -> String {
 
 fn add_text(list: &mut String, key: Key, session: &Session) {
     let mut line = |text: String| writeln!(list, "{text}").expect("a string takes any text");
-    line(format!("  session {} of peer {}", key.seid, key.peer));
+    line(format!("  session {} of peer {} (0x{:x})", key.seid, key.peer, key.seid));
     for (id, pdr) in &session.pdrs {
         let far = pdr.far_id.map_or("no FAR".to_string(), |far_id| format!("FAR {far_id}"));
         let local = match &pdr.local {
@@ -49,10 +49,9 @@ fn add_text(list: &mut String, key: Key, session: &Session) {
             Local::Endpoint(id) => format!(", endpoint {id}"),
         };
         let (precedence, source) = (pdr.precedence, pdr.source_interface);
-        let address = address_text(pdr.address);
-        line(format!(
-            "    PDR {id}: precedence {precedence}, {far}, source interface {source}{local}{address}"
-        ));
+        let (name, address) = (interface_name(source), address_text(pdr.address));
+        let from = format!("source interface {source} ({name})");
+        line(format!("    PDR {id}: precedence {precedence}, {far}, {from}{local}{address}"));
     }
     for (id, endpoint) in &session.endpoints {
         let (tunnel, address) = (tunnel_text(&endpoint.tunnel), address_text(endpoint.address));
@@ -63,8 +62,33 @@ fn add_text(list: &mut String, key: Key, session: &Session) {
             NodeId::Operator { .. } => "operator node ",
             _ => "",
         };
-        let (csid, node) = (held.csid, node_text(&held.node));
-        line(format!("    FQ-CSID of node type {node_type}: CSID {csid} of {kind}{node}"));
+        let (csid, node, name) = (held.csid, node_text(&held.node), node_type_name(*node_type));
+        line(format!("    FQ-CSID of node type {node_type} ({name}): CSID {csid} of {kind}{node}"));
+    }
+}
+
+/// TS 29.244, clause 8.2.2.
+fn interface_name(source: u8) -> &'static str {
+    match source {
+        0 => "access",
+        1 => "core",
+        2 => "SGi-LAN or N6-LAN",
+        3 => "CP function",
+        4 => "5G VN internal",
+        _ => "spare",
+    }
+}
+
+/// TS 29.244, clause 8.2.45.
+fn node_type_name(node_type: u8) -> &'static str {
+    match node_type {
+        0 => "MME",
+        1 => "SGW-C",
+        2 => "PGW-C or SMF",
+        3 => "ePDG",
+        4 => "TWAN",
+        5 => "PGW-U, SGW-U or UPF",
+        _ => "spare",
     }
 }
 
@@ -134,11 +158,13 @@ fn session_json(key: Key, session: &Session) -> String {
         .iter()
         .map(|(node_type, held)| {
             let (node, csid) = (node_text(&held.node), held.csid);
-            format!("{{\"node_type\":{node_type},\"node\":\"{node}\",\"csid\":{csid}}}")
+            let name = format!("\"node_type_name\":\"{}\"", node_type_name(*node_type));
+            format!("{{\"node_type\":{node_type},{name},\"node\":\"{node}\",\"csid\":{csid}}}")
         })
         .collect();
+    let seids = format!("\"seid\":\"{seid}\",\"seid_hex\":\"0x{seid:x}\"");
     format!(
-        "{{\"peer\":{peer},\"seid\":\"{seid}\",\"pdrs\":[{}],\"endpoints\":[{}],\"fq_csids\":[{}]}}",
+        "{{\"peer\":{peer},{seids},\"pdrs\":[{}],\"endpoints\":[{}],\"fq_csids\":[{}]}}",
         pdrs.join(","),
         endpoints.join(","),
         fq_csids.join(",")
@@ -153,7 +179,11 @@ fn pdr_json(id: u16, pdr: &Pdr) -> String {
         Local::Endpoint(id) => format!(",\"endpoint_id\":{id}"),
     };
     let (precedence, source) = (pdr.precedence, pdr.source_interface);
-    let rest = format!("\"source_interface\":{source}{local}{}", address_json(pdr.address));
+    let from = format!(
+        "\"source_interface\":{source},\"source_interface_name\":\"{}\"",
+        interface_name(source)
+    );
+    let rest = format!("{from}{local}{}", address_json(pdr.address));
     format!("{{\"id\":{id},\"precedence\":{precedence}{far},{rest}}}")
 }
 

@@ -92,18 +92,18 @@ fn example() -> (Settings, Sessions) {
 fn the_list_as_text() {
     let (settings, sessions) = example();
     let expected = "live sessions: 3; free TEIDs: 7 of 10; free addresses: 3 of 4
-  session 18446744073709551615 of peer 1
-  session 1 of peer 2
-  session 18446744073709551615 of peer 2
-    PDR 1: precedence 4294967295, no FAR, source interface 15, address 0.0.0.0
-    PDR 2: precedence 4294967295, FAR 0, source interface 15, endpoint 255
-    PDR 65535: precedence 4294967295, no FAR, source interface 15, TEID 4096 (IPv4 and IPv6), address 10.45.0.3
+  session 18446744073709551615 of peer 1 (0xffffffffffffffff)
+  session 1 of peer 2 (0x1)
+  session 18446744073709551615 of peer 2 (0xffffffffffffffff)
+    PDR 1: precedence 4294967295, no FAR, source interface 15 (spare), address 0.0.0.0
+    PDR 2: precedence 4294967295, FAR 0, source interface 15 (spare), endpoint 255
+    PDR 65535: precedence 4294967295, no FAR, source interface 15 (spare), TEID 4096 (IPv4 and IPv6), address 10.45.0.3
     endpoint 0: TEID 4098 (IPv4)
     endpoint 255: TEID 4097 (IPv6), address 10.45.0.3
-    FQ-CSID of node type 0: CSID 65535 of ::1
-    FQ-CSID of node type 3: CSID 65535 of ::10.0.0.1
-    FQ-CSID of node type 4: CSID 65535 of 10.0.0.1
-    FQ-CSID of node type 5: CSID 65535 of operator node 3FF71005
+    FQ-CSID of node type 0 (MME): CSID 65535 of ::1
+    FQ-CSID of node type 3 (ePDG): CSID 65535 of ::10.0.0.1
+    FQ-CSID of node type 4 (TWAN): CSID 65535 of 10.0.0.1
+    FQ-CSID of node type 5 (PGW-U, SGW-U or UPF): CSID 65535 of operator node 3FF71005
 ";
     assert_eq!(list::text(&settings, &sessions), expected);
 }
@@ -114,21 +114,26 @@ fn the_list_as_json() {
     let expected = concat!(
         r#"{"live_sessions":3,"free_teids":7,"pool_size":10,"#,
         r#""free_addresses":3,"address_pool_size":4,"sessions":["#,
-        r#"{"peer":1,"seid":"18446744073709551615","pdrs":[],"endpoints":[],"fq_csids":[]},"#,
+        r#"{"peer":1,"seid":"18446744073709551615","seid_hex":"0xffffffffffffffff","#,
+        r#""pdrs":[],"endpoints":[],"fq_csids":[]},"#,
         "\n",
-        r#"{"peer":2,"seid":"1","pdrs":[],"endpoints":[],"fq_csids":[]},"#,
+        r#"{"peer":2,"seid":"1","seid_hex":"0x1","pdrs":[],"endpoints":[],"fq_csids":[]},"#,
         "\n",
-        r#"{"peer":2,"seid":"18446744073709551615","pdrs":["#,
-        r#"{"id":1,"precedence":4294967295,"source_interface":15,"address":"0.0.0.0"},"#,
-        r#"{"id":2,"precedence":4294967295,"far_id":0,"source_interface":15,"endpoint_id":255},"#,
+        r#"{"peer":2,"seid":"18446744073709551615","seid_hex":"0xffffffffffffffff","pdrs":["#,
+        r#"{"id":1,"precedence":4294967295,"source_interface":15,"#,
+        r#""source_interface_name":"spare","address":"0.0.0.0"},"#,
+        r#"{"id":2,"precedence":4294967295,"far_id":0,"source_interface":15,"#,
+        r#""source_interface_name":"spare","endpoint_id":255},"#,
         r#"{"id":65535,"precedence":4294967295,"source_interface":15,"#,
+        r#""source_interface_name":"spare","#,
         r#""teid":4096,"ipv4":true,"ipv6":true,"address":"10.45.0.3"}],"#,
         r#""endpoints":[{"id":0,"teid":4098,"ipv4":true,"ipv6":false},"#,
         r#"{"id":255,"teid":4097,"ipv4":false,"ipv6":true,"address":"10.45.0.3"}],"#,
-        r#""fq_csids":[{"node_type":0,"node":"::1","csid":65535},"#,
-        r#"{"node_type":3,"node":"::10.0.0.1","csid":65535},"#,
-        r#"{"node_type":4,"node":"10.0.0.1","csid":65535},"#,
-        r#"{"node_type":5,"node":"3FF71005","csid":65535}]}]}"#,
+        r#""fq_csids":[{"node_type":0,"node_type_name":"MME","node":"::1","csid":65535},"#,
+        r#"{"node_type":3,"node_type_name":"ePDG","node":"::10.0.0.1","csid":65535},"#,
+        r#"{"node_type":4,"node_type_name":"TWAN","node":"10.0.0.1","csid":65535},"#,
+        r#"{"node_type":5,"node_type_name":"PGW-U, SGW-U or UPF","node":"3FF71005","#,
+        r#""csid":65535}]}]}"#,
         "\n"
     );
     assert_eq!(list::json(&settings, &sessions), expected);

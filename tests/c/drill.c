@@ -2,10 +2,11 @@
  * A unit is killed at random moments under load and started again: drill UNIT FILE SYNC ROUNDS
  * SEED, where SYNC is the unit's --table-sync.
  *
- * Requests go to the unit, several at a time, and through the archive here as well. Each reply must be
- * the same to the octet. After each kill the file must be table and store after all requests whose
- * reply came or, since a unit may be killed between its disk and its reply, after one request more;
- * so every session whose reply was sent is there and no other. The next unit goes on from it.
+ * Requests go to the unit, as many at a time as it serves together, and through the archive here as well.
+ * Each reply must be the same to the octet. After each kill the file must be table and store after all
+ * requests whose reply came or, since a unit may be killed between its disk and its replies, after some
+ * requests more, at most as many as are served together; so every session whose reply was sent is there
+ * and no other. The next unit goes on from it.
  *
  * As a control plane does, the drill sends each request that has no reply again, with the same octets.
  * Its reply must be the one that the archive gave the first time, whether the unit had it on the disk
@@ -31,19 +32,20 @@
 
 #include "message.h"
 #include "pfcp_session.h"
+#include "stored.h"
 
 enum {
     SESSIONS = 128, /* the unit's session limit where no option says it */
-    WINDOW = 8,
+    WINDOW = 64,
     MOMENT = 250 /* milliseconds at most until a kill */,
     PATIENCE = 60 /* seconds for a start */,
     FIRST_NUMBER = 0xFFFFFF - 100 /* so that numbers come to their end and start again */
 };
 
-/* The file: a table, and both peers' stores (docs/layout.md). The drill is peer 1. */
+/* What the file keeps: a table, and both peers' stores. The drill is peer 1. */
 enum { STORES = PFCP_PEERS * PFCP_STORE_LENGTH, MOST_KEPT = PFCP_LONGEST_TABLE + STORES };
 
-/* A request: its number and octets, its reply, and the file after it. */
+/* A request: its number and octets, its reply, and what is kept after it. */
 struct asked {
     uint32_t sequence;
     struct message message;
@@ -58,16 +60,19 @@ struct drill {
     const char *sync;
     char port[8];
     size_t table_length;
-    struct asked last;          /* the request that was answered last */
-    struct asked asked[WINDOW]; /* those without a reply, in the order in which they were sent */
+    struct asked last; /* the request that was answered last */
+    struct asked
+        asked[WINDOW]; /* those without a reply, in the order in which they were sent, ... */
+    size_t first;      /* ... from this one on, and on from the start */
     size_t waiting;
-    bool is_ahead; /* the first of these is in the file already */
+    size_t ahead; /* so many of these are in the file already */
     uint32_t sequence;
     int socket;
     pid_t pid;
     useconds_t moment; /* of the kill, after the start, ... */
     bool at_write;     /* ... or as soon as the file is replaced after that */
-    unsigned long answered, accepted, served, ahead, ahead_accepted, old_replies;
+    unsigned long answered, accepted, served;
+    unsigned long left, left_requests, left_accepted, most_left, old_replies;
 };
 
 static void give_up(const char *what)
@@ -127,6 +132,12 @@ static size_t kept_length(const struct drill *drill)
     return drill->table_length + STORES;
 }
 
+/* The request that has waited longest, the next one, and so on. */
+static struct asked *asked_at(struct drill *drill, size_t place)
+{
+    return &drill->asked[(drill->first + place) % WINDOW];
+}
+
 /* A unit that was killed does not hear it. */
 static void send_request(const struct drill *drill, const struct asked *asked)
 {
@@ -136,9 +147,9 @@ static void send_request(const struct drill *drill, const struct asked *asked)
 /* Sends a new request and works out what becomes of it. */
 static void ask(struct drill *drill)
 {
-    struct asked *asked = &drill->asked[drill->waiting];
+    struct asked *asked = asked_at(drill, drill->waiting);
     const struct asked *before =
-        drill->waiting > 0 ? &drill->asked[drill->waiting - 1] : &drill->last;
+        drill->waiting > 0 ? asked_at(drill, drill->waiting - 1) : &drill->last;
     uint8_t *store = asked->kept + drill->table_length;
     size_t place;
 
@@ -162,12 +173,13 @@ static bool is_reply_to(const struct asked *asked, const uint8_t *reply, size_t 
 /* The first request that waits has its reply. */
 static void take_answered(struct drill *drill)
 {
-    drill->last = drill->asked[0];
+    drill->last = *asked_at(drill, 0);
     drill->answered++;
     drill->accepted += is_accepted(&drill->last);
-    drill->old_replies += drill->is_ahead;
-    drill->is_ahead = false;
-    memmove(drill->asked, drill->asked + 1, --drill->waiting * sizeof drill->asked[0]);
+    drill->old_replies += drill->ahead > 0;
+    drill->ahead -= drill->ahead > 0;
+    drill->first = (drill->first + 1) % WINDOW;
+    drill->waiting--;
 }
 
 /* Takes a reply, if there is one; it is that of the request that has waited longest, or once more that
@@ -185,11 +197,11 @@ static bool take_reply(struct drill *drill)
         return false;
     if (is_reply_to(&drill->last, reply, (size_t)length))
         return true;
-    if (drill->waiting == 0 || number_at(reply + 12, 3) != drill->asked[0].sequence)
+    if (drill->waiting == 0 || number_at(reply + 12, 3) != asked_at(drill, 0)->sequence)
         give_up("a reply came that nobody waits for");
-    if (!is_reply_to(&drill->asked[0], reply, (size_t)length))
-        give_up(drill->is_ahead ? "a request that is on the disk does not get its old reply"
-                                : "a reply is not the archive's: the unit's table is another one");
+    if (!is_reply_to(asked_at(drill, 0), reply, (size_t)length))
+        give_up(drill->ahead > 0 ? "a request that is on the disk does not get its old reply"
+                                 : "a reply is not the archive's: the unit's table is another one");
     take_answered(drill);
     return true;
 }
@@ -253,12 +265,12 @@ static bool wait_for_unit(struct drill *drill)
             give_up("the unit does not answer");
         if (has_ended(drill))
             return false;
-        send_request(drill, &drill->asked[0]);
+        send_request(drill, asked_at(drill, 0));
         usleep(1000);
         take_reply(drill);
     }
     for (size_t i = 0; i < drill->waiting; i++)
-        send_request(drill, &drill->asked[i]);
+        send_request(drill, asked_at(drill, i));
     return true;
 }
 
@@ -298,35 +310,44 @@ static void load(struct drill *drill, uint32_t most)
     }
 }
 
-static void read_file(const struct drill *drill, uint8_t *kept)
+/* The table and both stores of the file, which must be whole. */
+static const uint8_t *read_file(const struct drill *drill)
 {
-    size_t length = kept_length(drill);
+    static uint8_t octets[STORED_MOST];
+    struct stored stored;
+    char why[STORED_WHY];
     FILE *file = fopen(drill->file, "rb");
+    size_t length = file ? fread(octets, 1, sizeof octets, file) : 0;
 
-    if (!file || fread(kept, 1, length, file) != length || getc(file) != EOF)
-        give_up("the file is not there, or not as long as a table and two stores");
+    if (!file || !stored_read(octets, length, &stored, why) || !stored.settings ||
+        stored.table_length != drill->table_length || !stored.has_stores)
+        give_up("the file is not there, or not whole");
     fclose(file);
+    return stored.table;
 }
 
-/* What the unit has left: table and stores as answered, or after one request more. */
+/* What the unit has left: table and stores as answered, or after some requests more. */
 static void compare(struct drill *drill)
 {
-    static uint8_t found[MOST_KEPT];
     size_t length = kept_length(drill);
+    size_t before = drill->ahead;
 
     while (take_reply(drill))
-        ;
+        before = drill->ahead;
     close(drill->socket);
-    read_file(drill, found);
-    if (!drill->is_ahead && memcmp(found, drill->last.kept, length) == 0)
-        return;
-    if (drill->waiting == 0 || memcmp(found, drill->asked[0].kept, length) != 0)
-        give_up("the file is not what was answered");
-    if (drill->is_ahead)
-        return;
-    drill->is_ahead = true;
-    drill->ahead++;
-    drill->ahead_accepted += is_accepted(&drill->asked[0]);
+    const uint8_t *found = read_file(drill);
+    const uint8_t *kept = before > 0 ? asked_at(drill, before - 1)->kept : drill->last.kept;
+    while (memcmp(found, kept, length) != 0) {
+        if (drill->ahead == drill->waiting)
+            give_up("the file is not what was answered");
+        kept = asked_at(drill, drill->ahead)->kept;
+        drill->left_accepted += is_accepted(asked_at(drill, drill->ahead));
+        drill->ahead++;
+    }
+    drill->left += drill->ahead > before;
+    drill->left_requests += drill->ahead - before;
+    if (drill->ahead - before > drill->most_left)
+        drill->most_left = drill->ahead - before;
 }
 
 /* One kill of five comes while the unit starts, the others while it serves, half of them at a write. */
@@ -357,7 +378,7 @@ static void run_round(struct drill *drill)
 /* A unit that is ended in order, under load: nothing is ahead. */
 static void run_in_order(struct drill *drill)
 {
-    unsigned long ahead = drill->ahead;
+    unsigned long left = drill->left;
     int status;
 
     start_unit(drill);
@@ -370,7 +391,7 @@ static void run_in_order(struct drill *drill)
     kill(drill->pid, SIGTERM);
     waitpid(drill->pid, &status, 0);
     compare(drill);
-    if (!WIFEXITED(status) || WEXITSTATUS(status) != 0 || drill->ahead != ahead)
+    if (!WIFEXITED(status) || WEXITSTATUS(status) != 0 || drill->left != left)
         give_up("SIGTERM does not end a unit in order");
 }
 
@@ -381,7 +402,7 @@ static void make_kept(struct drill *drill)
 
     drill->table_length = pfcp_table_length(SESSIONS);
     if (pfcp_make_table(drill->last.kept, drill->table_length, 0xC0000201, NULL, 0, 4096, 100,
-                        0x0A2D0001, 254, SESSIONS, 0xC0000201, 0, 100, 0, 0, 0) != 0 ||
+                        0x64600001, 254, SESSIONS, 0xC0000201, 0, 100, 0, 0, 0) != 0 ||
         pfcp_make_store(stores, PFCP_STORE_LENGTH) != 0 ||
         pfcp_make_store(stores + PFCP_STORE_LENGTH, PFCP_STORE_LENGTH) != 0)
         give_up("no table");
@@ -406,10 +427,10 @@ int main(int argc, char **argv)
     for (unsigned long i = 0; i < rounds; i++)
         run_round(&drill);
     run_in_order(&drill);
-    printf(
-        "kills: %lu, of them while it served: %lu; one request ahead of the replies: %lu, of them "
-        "accepted: %lu; then the old reply: %lu; replies: %lu, accepted: %lu\n",
-        rounds, drill.served, drill.ahead, drill.ahead_accepted, drill.old_replies, drill.answered,
-        drill.accepted);
+    printf("kills: %lu, of them while it served: %lu; with requests ahead of the replies: %lu, at "
+           "most %lu; requests ahead: %lu, of them accepted: %lu; then the old reply: %lu; "
+           "replies: %lu, accepted: %lu\n",
+           rounds, drill.served, drill.left, drill.most_left, drill.left_requests,
+           drill.left_accepted, drill.old_replies, drill.answered, drill.accepted);
     return EXIT_SUCCESS;
 }

@@ -20,11 +20,11 @@
 #include <sys/stat.h>
 #include <unistd.h>
 
-#include "pfcp_session.h"
+#include "stored.h"
 
-/* The length of the file: a table with the unit's usual session limit of 128, and both peers' stores of
-   repeats (docs/layout.md). */
-enum { FILE_LENGTH = 65 + 128 * 604 + PFCP_PEERS * PFCP_STORE_LENGTH };
+/* The least length of the file: a table with the unit's usual session limit of 128, and both peers' stores
+   of repeats, in their form (docs/layout.md). */
+enum { FILE_LENGTH = STORED_FRONT + 65 + 128 * 604 + STORES_ROOM + STORED_DIGEST };
 
 static int steps;
 
@@ -70,13 +70,13 @@ static bool is_folder(int file)
     return fstat(file, &found) == 0 && S_ISDIR(found.st_mode);
 }
 
-/* Only the file is written in one piece of this length. */
+/* Only the file is written in one piece of this length and more. */
 ssize_t write(int file, const void *octets, size_t length)
 {
     ssize_t (*next)(int, const void *, size_t);
 
     *(void **)&next = dlsym(RTLD_NEXT, "write");
-    if (length != FILE_LENGTH)
+    if (length < FILE_LENGTH)
         return next(file, octets, length);
     if (is_marked() && next(file, octets, length / 2) < 0)
         return -1;

@@ -5,8 +5,9 @@
 //
 // Before each request of the file stands an octet with its peer, 1 or 2 (02 (xiv)): a request does not say whose session it restores.
 //
-// A Rattle program has no exit status, so the work is a call that answers it: 0 done, 1 refused, 2 wrong arguments. Every refusal is one
-// line on standard error. What is written stands beside its place until all of it is there, and is then renamed; a refusal leaves nothing.
+// A Rattle program has no exit status, so the work is a call that answers it: 0 done, 1 refused, 2 wrong arguments, 3 done, but the new
+// table differs from the stored one. Every refusal is one line on standard error. What is written stands beside its place
+// until all of it is there, and is then renamed; a refusal leaves nothing.
 mod address;
 mod file;
 mod names;

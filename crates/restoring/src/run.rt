@@ -245,7 +245,8 @@ fn write_table(new: &[u8], path: &[u8], done: Done) -> u32 {
     write_beside(new, path, &mut name[0..n], done)
 }
 
-// The file's requests on an empty table with the settings of the stored table, and the result into the file at path.
+// The file's requests on an empty table with the settings of the stored table, and the result into the file at path. A result that is another
+// table than the stored one is no success, though it is kept.
 fn run_on(file: &[u8], stored: &[u8], new: &mut [u8], path: &[u8]) -> u32
     requires { ⌜ 63 ≤ length (now stored) ⌝ }
 {
@@ -258,7 +259,14 @@ fn run_on(file: &[u8], stored: &[u8], new: &mut [u8], path: &[u8]) -> u32
         return say::REFUSED;
     };
     let same = check::same(stored, new);
-    write_table(new, path, Done::Accepted(n, same))
+    let status = write_table(new, path, Done::Accepted(n, same));
+    if status != 0 {
+        return status;
+    }
+    if same {
+        return 0;
+    }
+    say::DIFFERS
 }
 
 fn run_named(file: &[u8], table: &[u8], path: &[u8]) -> u32 {

@@ -6,6 +6,9 @@ pub const REFUSED: u32 = 1;
 
 const WRONG_ARGUMENTS: u32 = 2;
 
+// The requests were run and the new table is written, but it is not the stored one.
+pub const DIFFERS: u32 = 3;
+
 // What a run has done, for its line on standard output.
 pub enum Done {
     Written(u64),
