@@ -5,11 +5,11 @@ DESTDIR =
 # Where settings are: not under the prefixes that are the system's.
 SYSCONFDIR = $(if $(filter /usr /usr/local,$(PREFIX)),/etc,$(PREFIX)/etc)
 
-# the archive, the unit, pfcp-list and restore; only what has changed since
+# the archive, the unit, pfcp-list and pfcp-restore; only what has changed since
 all:
 	@scripts/build
 
-# what is proved: the archive, a shared object of it, and the program restore
+# what is proved: the archive, a shared object of it, and the program pfcp-restore
 lib:
 	@scripts/build lib
 

@@ -32,7 +32,7 @@ void complaint_add(struct text *text, enum level level, const char *words)
 
     if (is_journal())
         text_add(text, "<%d>", level);
-    text_add(text, "%s pfcp_unit: %s\n", time_in_words(NULL, time, sizeof time), words);
+    text_add(text, "%s pfcp-unit: %s\n", time_in_words(NULL, time, sizeof time), words);
 }
 
 void complaint(const char *format, ...)

@@ -75,7 +75,7 @@ int main(int argc, char **argv)
     if (!read_options(&options, argc, argv))
         return STATUS_REFUSED;
     if (options.help || options.version) {
-        fputs(options.help ? usage : "pfcp_unit " PFCP_VERSION "\n", stdout);
+        fputs(options.help ? usage : "pfcp-unit " PFCP_VERSION "\n", stdout);
         return end_of_text();
     }
     if (options.demo)

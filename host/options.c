@@ -14,7 +14,7 @@
 enum { USUAL_SESSIONS = 128, USUAL_ADDRESS = 0x64600001, LARGEST_POOL = 65536 };
 
 const char usage[] =
-    "usage: pfcp_unit [OPTION VALUE | OPTION=VALUE].. [--demo]\n"
+    "usage: pfcp-unit [OPTION VALUE | OPTION=VALUE].. [--demo]\n"
     "Serves PFCP requests for sessions and sets of sessions over UDP and says a line for each.\n"
     "One control plane, which is peer 1:\n"
     "  --address ADDRESS   where to listen, IPv4 or IPv6 (127.0.0.1)\n"

@@ -22,8 +22,8 @@
 
 static const char help[] =
     "usage: pfcp-list [OPTION VALUE | OPTION=VALUE]..\n"
-    "Prints the live sessions of a running pfcp_unit, what its peers have, and the counters.\n"
-    "  --control PATH   the unit's control socket, as given to pfcp_unit --control (that of the\n"
+    "Prints the live sessions of a running pfcp-unit, what its peers have, and the counters.\n"
+    "  --control PATH   the unit's control socket, as given to pfcp-unit --control (that of the\n"
     "                   service, " USUAL_CONTROL ")\n"
     "  --table FILE     the sessions of a stored table instead; no unit is asked\n"
     "  --peer NUMBER    those of one of the two control planes only, 1 or 2\n"

@@ -1,8 +1,8 @@
 /*
- * The program restore. Its work on files is the proved call pfcp_restore (crates/restoring), which reads
- * the arguments and answers the exit status: a program in Rattle has none of its own. It knows tables;
- * where a file has the form of stored.h, what it is given to read is the table in it, if that is whole.
- * What goes over the network is in send.c.
+ * The program pfcp-restore. Its work on files is the proved call pfcp_restore (crates/restoring),
+ * which reads the arguments and answers the exit status: a program in Rattle has none of its own. It
+ * knows tables; where a file has the form of stored.h, what it is given to read is the table in it,
+ * if that is whole. What goes over the network is in send.c.
  */
 #define _GNU_SOURCE /* memfd_create */
 
@@ -29,31 +29,25 @@ int __real_rattle_open_to_read(const char *path);
 int __wrap_rattle_open_to_read(const char *path);
 
 static const char use[] =
-    "usage: restore write TABLE FILE [IPV4] [IPV6]\n"
-    "       restore run FILE TABLE NEW\n"
-    "       restore send FILE ADDRESS [ADDRESS] [PORT]\n"
-    "TABLE is a stored table with room for 64 sessions at most: a file of pfcp_unit --table, whose "
-    "SHA-256\n"
-    "is looked at, or a table's octets alone.\n"
-    "write: the restoration requests of a stored table, in its order, into FILE: each after an "
-    "octet\n"
-    "       with its peer, 1 or 2, and nothing else between.\n"
+    "usage: pfcp-restore write TABLE FILE [IPV4] [IPV6]\n"
+    "       pfcp-restore run FILE TABLE NEW\n"
+    "       pfcp-restore send FILE ADDRESS [ADDRESS] [PORT]\n"
+    "TABLE is a stored table with room for 64 sessions at most: a file of pfcp-unit --table,\n"
+    "whose SHA-256 is looked at, or a table's octets alone.\n"
+    "write: the restoration requests of a stored table, in its order, into FILE: each after\n"
+    "       an octet with its peer, 1 or 2, and nothing else between.\n"
     "       IPV4 and IPV6 are the control plane's addresses, one or both.\n"
-    "run:   the requests of FILE, each under its peer, on an empty table with the settings of "
-    "TABLE;\n"
-    "       the result into NEW, if all were accepted. It is said whether it is the same as "
-    "TABLE.\n"
-    "send:  the requests of FILE to the unit on ADDRESS, each after the reply to the one before, "
-    "until "
-    "one\n"
-    "       is not accepted. Where FILE has those of both peers there is an address for each. PORT "
-    "is "
-    "8805.\n"
+    "run:   the requests of FILE, each under its peer, on an empty table with the settings of\n"
+    "       TABLE; the result into NEW, if all were accepted. It is said whether it is the\n"
+    "       same as TABLE.\n"
+    "send:  the requests of FILE to the unit on ADDRESS, each after the reply to the one\n"
+    "       before, until one is not accepted. Where FILE has those of both peers there is an\n"
+    "       address for each. PORT is 8805.\n"
     "  -V, --version   print the version\n"
     "  -h, --help      print this\n"
-    "Exit status: 0; 1 where something is refused, and no file is changed; 2 for wrong arguments;\n"
-    "3 where run has written NEW and it differs from TABLE, or nobody answers what send has "
-    "sent.\n";
+    "Exit status: 0; 1 where something is refused, and no file is changed; 2 for wrong\n"
+    "arguments; 3 where run has written NEW and it differs from TABLE, or nobody answers what\n"
+    "send has sent.\n";
 
 /* A standard stream that is closed is taken by /dev/null, so that no file that is opened later gets
    its number and the lines that are meant for it. What is said there is refused. */
@@ -108,7 +102,7 @@ int __wrap_rattle_open_to_read(const char *path)
         return file;
     }
     if (!stored_read(octets, length, &stored, why)) {
-        fprintf(stderr, "restore: %s: %s\n", path, why);
+        fprintf(stderr, "pfcp-restore: %s: %s\n", path, why);
         exit(EXIT_FAILURE);
     }
     close(file);
@@ -124,13 +118,13 @@ int main(int argc, char **argv)
     if (argc == 2 && (strcmp(argv[1], "--help") == 0 || strcmp(argv[1], "-h") == 0))
         return fputs(use, stdout) < 0 || fflush(stdout) != 0;
     if (argc == 2 && (strcmp(argv[1], "--version") == 0 || strcmp(argv[1], "-V") == 0))
-        return puts("restore " PFCP_VERSION) < 0 || fflush(stdout) != 0;
+        return puts("pfcp-restore " PFCP_VERSION) < 0 || fflush(stdout) != 0;
     if (argc >= 2 && strcmp(argv[1], "send") == 0)
         return send_requests(argc - 2, argv + 2);
     /* The proved call knows the words of files alone. */
     if (argc < 2 || (strcmp(argv[1], "write") != 0 && strcmp(argv[1], "run") != 0)) {
-        fputs("usage: restore write TABLE FILE [IPV4] [IPV6], restore run FILE TABLE NEW, or "
-              "restore send FILE ADDRESS [ADDRESS] [PORT]\n",
+        fputs("usage: pfcp-restore write TABLE FILE [IPV4] [IPV6], pfcp-restore run FILE TABLE "
+              "NEW, or pfcp-restore send FILE ADDRESS [ADDRESS] [PORT]\n",
               stderr);
         return 2;
     }

@@ -43,20 +43,21 @@ struct request {
 
 static bool complain(const char *what, const char *why)
 {
-    fprintf(stderr, "restore: %s: %s\n", what, why);
+    fprintf(stderr, "pfcp-restore: %s: %s\n", what, why);
     return false;
 }
 
 /* What is wrong with a request of the file. */
 static bool complain_of(const struct sending *sending, unsigned long number, const char *why)
 {
-    fprintf(stderr, "restore: %s: request %lu %s\n", sending->path, number, why);
+    fprintf(stderr, "pfcp-restore: %s: request %lu %s\n", sending->path, number, why);
     return false;
 }
 
 static bool complain_use(void)
 {
-    fputs("usage: restore send FILE ADDRESS [PORT], or restore send FILE ADDRESS ADDRESS [PORT]\n",
+    fputs("usage: pfcp-restore send FILE ADDRESS [PORT], or pfcp-restore send FILE ADDRESS ADDRESS "
+          "[PORT]\n",
           stderr);
     return false;
 }
@@ -226,15 +227,16 @@ static int send_one(struct sending *sending, const struct request *request)
         return ACCEPTED_ALL;
     }
     if (cause == 0)
-        fprintf(stderr,
-                "restore: %s: request %lu: nobody answers on %s (%s); requests accepted before: "
-                "%lu\n",
-                sending->path, request->number, address_text(&sending->units[i], text, sizeof text),
-                strerror(errno), sending->accepted);
+        fprintf(
+            stderr,
+            "pfcp-restore: %s: request %lu: nobody answers on %s (%s); requests accepted before: "
+            "%lu\n",
+            sending->path, request->number, address_text(&sending->units[i], text, sizeof text),
+            strerror(errno), sending->accepted);
     else
         fprintf(stderr,
-                "restore: %s: request %lu is refused with cause %u (%s); requests accepted before: "
-                "%lu\n",
+                "pfcp-restore: %s: request %lu is refused with cause %u (%s); requests accepted "
+                "before: %lu\n",
                 sending->path, request->number, cause, cause_in_words(cause), sending->accepted);
     return cause == 0 ? NOBODY_ANSWERS : REFUSED;
 }

@@ -1,4 +1,4 @@
-/* Sends the requests of a file, as restore writes them, to a unit. */
+/* Sends the requests of a file, as pfcp-restore writes them, to a unit. */
 #ifndef SEND_H
 #define SEND_H
 

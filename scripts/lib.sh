@@ -160,14 +160,14 @@ find_archive() {
 strict=(-std=c11 -D_POSIX_C_SOURCE=200809L -Wall -Wextra -Werror -pedantic -Iinclude -Ihost)
 sanitizers=(-g -O1 -fsanitize=address,undefined -fno-sanitize-recover=all -fno-omit-frame-pointer)
 bench_sources=(-O2 -Ibench bench/workload.c bench/sides.c bench/measure.c host/message.c)
-# a stored table's file, for the unit, pfcp-list and restore
+# a stored table's file, for the unit, pfcp-list and pfcp-restore
 stored_sources=(host/stored.c host/table.c host/digest.c host/wipe.c host/text.c host/words.c host/message.c host/address.c -lnettle)
 # what makes a list of a table, for the unit, for pfcp-list and for a test
 listing_sources=(host/sessions.c host/listing.c host/session_words.c host/prometheus.c "${stored_sources[@]}")
 unit_sources=(host/main.c host/options.c host/arguments.c host/number.c host/service.c host/unit.c host/stores.c host/disk.c host/datagrams.c
     host/line.c host/control.c host/output.c host/complaint.c host/demo.c "${listing_sources[@]}" -pthread)
 list_sources=(host/pfcp_list.c host/stored_unit.c host/arguments.c host/number.c "${listing_sources[@]}")
-# the program restore, which adds to its C file a proved library and the kit's C code for it, and the unit's list of a stored table
+# the program pfcp-restore, which adds to its C file a proved library and the kit's C code for it, and the unit's list of a stored table
 restore_sources=(host/restore.c host/send.c host/number.c -Wl,--wrap=rattle_open_to_read)
 list_table_sources=(tests/c/list_table.c "${listing_sources[@]}")
 checked_by_valgrind=(valgrind -q --error-exitcode=9 --leak-check=full --errors-for-leak-kinds=all)
@@ -228,7 +228,7 @@ compile_changed() {
 # that the same sources make the same octets anywhere.
 compile_product() { compile_changed "$1" "${cflags[@]}" "${hardening[@]}" "-ffile-prefix-map=$PWD=." "${@:2}" "${ldflags[@]}"; }
 
-# compile_restore HOW OUTPUT WORDS..: compiles what has changed of the program restore; HOW is compile_product or compile_changed
+# compile_restore HOW OUTPUT WORDS..: compiles what has changed of the program pfcp-restore; HOW is compile_product or compile_changed
 compile_restore() {
     local kit
     kit=$(rt doc) || return 1
@@ -236,20 +236,20 @@ compile_restore() {
         "$archive_file"
 }
 
-# build_restore [HOW]: builds what has changed of the program restore and its proved library
+# build_restore [HOW]: builds what has changed of the program pfcp-restore and its proved library
 build_restore() {
     { need_gcc && need_rt && need_nettle; } || return 1
-    find_archive "${1:-quietly}" && proved_library "${1:-quietly}" restoring && compile_restore compile_product restore
+    find_archive "${1:-quietly}" && proved_library "${1:-quietly}" restoring && compile_restore compile_product pfcp-restore
 }
 
 # compile_unit: compiles what has changed of the unit and pfcp-list
 compile_unit() {
-    { compile_product pfcp_unit "${unit_sources[@]}" "$archive_file" && compile_product pfcp-list "${list_sources[@]}" "$archive_file"; } && return
+    { compile_product pfcp-unit "${unit_sources[@]}" "$archive_file" && compile_product pfcp-list "${list_sources[@]}" "$archive_file"; } && return
     need_nettle
     return 1
 }
 
-# build_unit: builds what has changed of the archive, the unit and pfcp-list; build_all: of restore too, which has more to be proved
+# build_unit: builds what has changed of the archive, the unit and pfcp-list; build_all: of pfcp-restore too, which has more to be proved
 build_unit() {
     { need_gcc && need_rt && need_nettle; } || return 1
     find_archive aloud && compile_unit

@@ -3,10 +3,10 @@
 
 { need_gcc && need_nettle && need_valgrind && find_archive; } || give_up
 compile_unit || give_up
-compile_changed pfcp_unit_sanitized "${sanitizers[@]}" "${unit_sources[@]}" "$archive_file" || give_up
-plain=(target/c/pfcp_unit)
-sanitized=(target/c/pfcp_unit_sanitized)
-valgrinded=("${checked_by_valgrind[@]}" target/c/pfcp_unit)
+compile_changed pfcp-unit_sanitized "${sanitizers[@]}" "${unit_sources[@]}" "$archive_file" || give_up
+plain=(target/c/pfcp-unit)
+sanitized=(target/c/pfcp-unit_sanitized)
+valgrinded=("${checked_by_valgrind[@]}" target/c/pfcp-unit)
 
 work=$(mktemp -d)
 unit_pid=
@@ -137,7 +137,7 @@ said() {
         s/^TIME (127\.0\.0\.[0-9]+):[0-9]+ /TIME \1:PORT /' "$1"
 }
 
-anybody='TIME pfcp_unit: warning: no --peer is given, so requests from any address are answered, as those of one control plane'
+anybody='TIME pfcp-unit: warning: no --peer is given, so requests from any address are answered, as those of one control plane'
 # Session 2: an endpoint with a TEID for IPv4, a PDR that names it and has FAR 10, an FQ-CSID of an operator's node.
 second='21 32 00 5F 00 00 00 00 00 00 00 00 00 00 02 00 00 39 00 0D 02 00 00 00 00 00 00 00 02 7F 00 00 01'
 second+=' 00 01 00 24 00 38 00 02 00 03 00 1D 00 04 00 00 00 32 00 02 00 0A 00 14 00 01 01 00 83 00 01 01 00 6C 00 04 00 00 00 0A'

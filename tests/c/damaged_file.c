@@ -82,7 +82,7 @@ static void expect(const char *what, size_t at, const char *wanted)
     char line[8192];
     const char *got = start();
 
-    snprintf(line, sizeof line, "pfcp_unit: --table %s: %s", options.table, wanted);
+    snprintf(line, sizeof line, "pfcp-unit: --table %s: %s", options.table, wanted);
     /* An ending of '..' stands for any. */
     size_t compared = strlen(line);
     if (compared >= 2 && strcmp(line + compared - 2, "..") == 0)

@@ -1,7 +1,7 @@
-// The program `restore`: a stored table becomes a file of restoration requests, and such a file is run on an empty table.
+// The program `pfcp-restore`: a stored table becomes a file of restoration requests, and such a file is run on an empty table.
 //
-//     restore write TABLE FILE [IPV4] [IPV6]    the requests of a stored table, in its order, nothing between
-//     restore run FILE TABLE NEW                an empty table with TABLE's settings, the file's requests run on it, the result into NEW
+//     pfcp-restore write TABLE FILE [IPV4] [IPV6]    the requests of a stored table, in its order, nothing between
+//     pfcp-restore run FILE TABLE NEW                an empty table with TABLE's settings, the file's requests run on it, the result into NEW
 //
 // Before each request of the file stands an octet with its peer, 1 or 2 (02 (xiv)): a request does not say whose session it restores.
 //

@@ -1,4 +1,4 @@
-// restore run FILE TABLE NEW
+// pfcp-restore run FILE TABLE NEW
 ghost use mathlib.Core.Path.{_≡_};
 ghost use Prim.Native.Nat.{_+_, _≤_};
 ghost use lib.ListN.{length};

@@ -24,20 +24,22 @@ fn out(s: &[u8]) -> bool {
 }
 
 pub fn usage() -> u32 {
-    err(b"usage: restore write TABLE FILE [IPV4] [IPV6], or restore run FILE TABLE NEW\n");
+    err(
+        b"usage: pfcp-restore write TABLE FILE [IPV4] [IPV6], or pfcp-restore run FILE TABLE NEW\n",
+    );
     WRONG_ARGUMENTS
 }
 
 // A call of the system on what has failed; errno says why.
 pub fn failed(what: &[u8]) -> u32 {
-    err(b"restore: ");
+    err(b"pfcp-restore: ");
     os::fail(what);
     REFUSED
 }
 
 // What is wrong with this file or word.
 pub fn refused(what: &[u8], why: &[u8]) -> u32 {
-    err(b"restore: ");
+    err(b"pfcp-restore: ");
     err(what);
     err(b": ");
     err(why);
@@ -47,7 +49,7 @@ pub fn refused(what: &[u8], why: &[u8]) -> u32 {
 
 // What is wrong with the command as a whole.
 pub fn refused_alone(why: &[u8]) -> u32 {
-    err(b"restore: ");
+    err(b"pfcp-restore: ");
     err(why);
     err(b"\n");
     REFUSED
@@ -55,7 +57,7 @@ pub fn refused_alone(why: &[u8]) -> u32 {
 
 // The start of a line about a request of a file, the first being 1.
 fn request(file: &[u8], number: u64) {
-    err(b"restore: ");
+    err(b"pfcp-restore: ");
     err(file);
     err(b": request ");
     io::print_decimal(STDERR_FILENO, number);

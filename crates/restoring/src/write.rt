@@ -1,4 +1,4 @@
-// restore write TABLE FILE [IPV4] [IPV6]
+// pfcp-restore write TABLE FILE [IPV4] [IPV6]
 ghost use mathlib.Core.Path.{_≡_};
 ghost use Prim.Native.Nat.{_≤_};
 ghost use lib.ListN.{length};

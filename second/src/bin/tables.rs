@@ -1,7 +1,7 @@
 //! `tables FOLDER SEED COUNT [LIMIT]`: writes sound tables with what the rules and docs/layout.md make
 //! of them: ones of one and of three sessions, empty ones, full ones without and with an IPv6 address,
 //! the largest, and COUNT drawn at random from the seed. LIMIT is the session limit of all of them.
-//! Without it the limit is 64, the largest that the program `restore` takes, and at most that in the
+//! Without it the limit is 64, the largest that the program `pfcp-restore` takes, and at most that in the
 //! random ones. For each NAME, which it prints with the control plane's addresses to give:
 //!
 //! * NAME.table: the table's octets,
