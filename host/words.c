@@ -123,7 +123,7 @@ const char *element_in_words(unsigned type)
     }
 }
 
-/* TS 29.244, table 7.3-1. */
+/* TS 29.244, table 8.2.2-1. */
 const char *interface_in_words(unsigned interface)
 {
     static const char *const words[] = {"access", "core", "SGi-LAN or N6-LAN", "CP function",
@@ -132,6 +132,7 @@ const char *interface_in_words(unsigned interface)
     return interface < sizeof words / sizeof words[0] ? words[interface] : "spare";
 }
 
+/* TS 29.244, table 8.2.43-2. */
 const char *node_type_in_words(unsigned type)
 {
     static const char *const words[] = {"MME",  "SGW-C", "PGW-C or SMF",
@@ -140,6 +141,7 @@ const char *node_type_in_words(unsigned type)
     return type < sizeof words / sizeof words[0] ? words[type] : "spare";
 }
 
+/* TS 29.244, table 7.3-1. */
 const char *message_in_words(unsigned type)
 {
     static const char *const words[] = {

@@ -22,7 +22,7 @@ const char *message_in_words(unsigned type);
 const char *cause_in_words(unsigned cause);
 const char *element_in_words(unsigned type);
 
-/* What a source interface (clause 8.2.2) and the node type of an FQ-CSID (clause 8.2.45) mean. */
+/* What a source interface (clause 8.2.2) and the node type of an FQ-CSID (clause 8.2.43) mean. */
 const char *interface_in_words(unsigned interface);
 const char *node_type_in_words(unsigned type);
 

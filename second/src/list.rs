@@ -79,7 +79,7 @@ fn interface_name(source: u8) -> &'static str {
     }
 }
 
-/// TS 29.244, clause 8.2.45.
+/// TS 29.244, clause 8.2.43.
 fn node_type_name(node_type: u8) -> &'static str {
     match node_type {
         0 => "MME",
