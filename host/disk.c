@@ -207,10 +207,13 @@ bool disk_has_changed(const struct disk *disk)
            (disk->unsure || memcmp(disk->before + STORED_FRONT, disk->kept, disk->length) != 0);
 }
 
+/* What the file owed more than before is not left behind its end. */
 void disk_undo(struct disk *disk)
 {
-    if (disk->path)
-        memcpy(disk->file, disk->before, disk->remembered);
+    if (!disk->path)
+        return;
+    stored_owe_nothing(disk->file);
+    memcpy(disk->file, disk->before, disk->remembered);
 }
 
 void disk_forget(struct disk *disk)
