@@ -11,6 +11,9 @@ ghost use Rattle.rules.specs.Finding.{isHolder, holderPlace, findingOf, countSe
 ghost use Rattle.finding.specs.Holds.{endpointsHold, pdrsHold, SlotCounted};
 ghost use Rattle.finding.specs.Answers.{findingTold};
 ghost use Rattle.finding.specs.Peers.{shareTold, shareOf};
+
+pub mod counts;
+
 use format::ENDPOINT;
 use format::ENDPOINT_COUNT;
 use format::ENDPOINTS;

@@ -20,7 +20,8 @@ use Rattle.table.specs.Answers.{madeOf, countTold}
 use Rattle.engine.specs.Steps.{Serves}
 use Rattle.rules.specs.Store.{empty}
 use Rattle.rules.specs.Repeats.{Once, requestOnce}
-use Rattle.rules.specs.Finding.{Finding, findIn, countSessions, Share, unshared, countPeer}
+use Rattle.rules.specs.Finding.{Finding, findIn, countSessions, Share, unshared, countPeer, Counts, uncounted, countsOf, countAll}
+use Rattle.octets.proofs.Tests.{is-true}
 use Rattle.laws.proofs.PeerLaws.{peers-kept, peer-known}
 use Rattle.laws.proofs.TableLaws.{limit-most}
 use Rattle.laws.proofs.KeptRules.{table-kept}
@@ -136,3 +137,32 @@ share-fits t who r e = go (isPeer who) (sound t) refl refl e
         let g = peer-known (viewSettings t) (k .settings) who hw .limit in
         let z = pool-fits (viewSettings t) (k .settings) in
         (few-half (viewSettings t .limit) (r .sessions) (subst (λ (n : ℕ). n ≤ viewSettings t .limit / 2) (sym x) c) l, omega arith)
+
+-- all counts
+pub record CountsFit (r : Counts) : Type 0 where
+  pub sessions1 : r .sessions1 < 2 ^ 32
+  pub teids1 : r .teids1 < 2 ^ 32
+  pub sessions2 : r .sessions2 < 2 ^ 32
+  pub teids2 : r .teids2 < 2 ^ 32
+  pub free : r .free < 2 ^ 32
+  pub freeAddresses : r .freeAddresses < 2 ^ 32
+
+peer-fits : (t : List ℕ) (who : ℕ) → T (isPeer who) → T (sound t) → (length (ofPeer who (viewSessions t)) < 2 ^ 32) × (holdings who (viewSessions t) < 2 ^ 32)
+unfolding countPeer
+peer-fits t who hw h =
+    share-fits t who (record { outcome = 0; sessions = length (ofPeer who (viewSessions t)); teids = holdings who (viewSessions t) })
+    (sym (rw (is-true (isPeer who) hw, is-true (sound t) h)))
+
+pub counts-fit : (t : List ℕ) (r : Counts) → r ≡ countAll t → CountsFit r
+unfolding countAll isPeer
+counts-fit t r e = subst CountsFit (sym e) (go (sound t) (λ h. h))
+  where
+    go : (b : Bool) → (T b → T (sound t)) → CountsFit (pick b (countsOf (viewSettings t) (viewSessions t)) (uncounted 1))
+    go false k = record { sessions1 = omega arith; teids1 = omega arith; sessions2 = omega arith; teids2 = omega arith; free = omega arith; freeAddresses = omega arith }
+    go true k =
+        let h = k tt in
+        let one = peer-fits t 1 tt h in
+        let two = peer-fits t 2 tt h in
+        let f = few-free t h in
+        let a = few-addresses t h in
+        record { sessions1 = one .0; teids1 = one .1; sessions2 = two .0; teids2 = two .1; free = omega arith; freeAddresses = omega arith }

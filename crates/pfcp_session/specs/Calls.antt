@@ -16,7 +16,7 @@ use Rattle.rules.specs.Serve.{Served, replyTo, serve}
 use Rattle.rules.specs.Restoring.{Writing, writeRestoration}
 use Rattle.rules.specs.Store.{Emptied, empty}
 use Rattle.rules.specs.Repeats.{Once, requestOnce}
-use Rattle.rules.specs.Finding.{Finding, countSessions, findSession, findHolder, Share, countPeer}
+use Rattle.rules.specs.Finding.{Finding, countSessions, findSession, findHolder, Share, countPeer, Counts, countAll}
 
 -- making: 0 made, 1 refused; and the table at exit
 pub record MakeCall : Type 0 where
@@ -102,3 +102,7 @@ findTeidCall t teid = findHolder t teid
 -- and what a peer has (02 (xiv)): 0, its sessions and the different TEIDs that their records hold; 7 no peer, 1 a broken table, and zeros
 unfoldable pub peerCountCall : List ℕ → ℕ → Share
 peerCountCall t who = countPeer t who
+
+-- all counts at once: 0, of each peer its sessions and TEIDs, and the free TEIDs and addresses; 1 a broken table, and zeros
+unfoldable pub countsCall : List ℕ → Counts
+countsCall t = countAll t

@@ -6,7 +6,7 @@ ghost use Rattle.rules.specs.Sound.{lengthFor};
 ghost use Rattle.unit.specs.Meaning.{settingsGiven};
 ghost use Rattle.table.specs.Answers.{countTold};
 ghost use Rattle.rules.specs.Store.{storeLength};
-ghost use Rattle.pfcp_session.specs.Calls.{storeCall, onceCall, CountFits, countAnswer, makeCall, countCall, addressCountCall, requestCall, restorationCall, sessionCountCall, findSessionCall, findTeidCall, peerCountCall};
+ghost use Rattle.pfcp_session.specs.Calls.{storeCall, onceCall, CountFits, countAnswer, makeCall, countCall, addressCountCall, requestCall, restorationCall, sessionCountCall, findSessionCall, findTeidCall, peerCountCall, countsCall};
 use unit::Peer;
 
 // Outcomes of making a table.
@@ -254,4 +254,28 @@ pub extern "C" fn pfcp_peer_count(
     *sessions = share.sessions as u32;
     *teids = share.teids as u32;
     share.outcome
+}
+
+// Writes all counts of a table at once, by one check of it: of each peer its sessions and the different TEIDs that their records hold, and how many TEIDs
+// and addresses of the pools are free. Outcome 0, or 1 where the table is broken or of wrong length, and zeros there.
+#[no_mangle]
+pub extern "C" fn pfcp_counts(
+    table: &[u8],
+    sessions1: &mut u32,
+    teids1: &mut u32,
+    sessions2: &mut u32,
+    teids2: &mut u32,
+    free: &mut u32,
+    addresses: &mut u32,
+) -> u32
+    ensures { λ r. ⌜ record { outcome = r; sessions1 = now (sessions1 .exit); teids1 = now (teids1 .exit); sessions2 = now (sessions2 .exit); teids2 = now (teids2 .exit); free = now (free .exit); freeAddresses = now (addresses .exit) } ≡ countsCall (now (table .entry)) ⌝ }
+{
+    let all = finding::counts::all(table);
+    *sessions1 = all.sessions1 as u32;
+    *teids1 = all.teids1 as u32;
+    *sessions2 = all.sessions2 as u32;
+    *teids2 = all.teids2 as u32;
+    *free = all.free as u32;
+    *addresses = all.addresses as u32;
+    all.outcome
 }

@@ -21,17 +21,17 @@ use Rattle.rules.specs.Sound.{settingsAllowed, sessionsAllowed, sound}
 use Rattle.rules.specs.Stages.{newSession, verdict}
 use Rattle.rules.specs.Serve.{Served, replyTo, serve}
 use Rattle.rules.specs.Restoring.{sessionAt, senderAddressed, restorationAt, Writing, unwritten, writeInto, writeRestoration}
-use Rattle.rules.specs.Finding.{findingOf, sessionPlace, holderPlace, findIn, countSessions, findSession, findHolder, Share, unshared, countPeer}
+use Rattle.rules.specs.Finding.{findingOf, sessionPlace, holderPlace, findIn, countSessions, findSession, findHolder, Share, unshared, countPeer, countsOf, countAll}
 use Rattle.rules.specs.Bare.{bareSession, bare, Alike}
 use Rattle.rules.specs.Claim.{stepAllowed, lastTable}
 use Rattle.laws.proofs.TableLaws.{sound-encode, encoded-settings, sessions-back, length-encode}
-use Rattle.laws.proofs.BareLaws.{length-alike, seid-place-alike, holder-place-alike, peer-sessions-alike, peer-holdings-alike}
+use Rattle.laws.proofs.BareLaws.{length-alike, seid-place-alike, holder-place-alike, peer-sessions-alike, peer-holdings-alike, count-alike, address-count-alike}
 use Rattle.laws.proofs.BlankLaws.{blank-alike}
 use Rattle.laws.proofs.KeptRules.{TableKept, table-kept}
 use Rattle.restoration.proofs.RequestSteps.{take-put}
 use Rattle.restoration.proofs.SoundSlots.{request-short}
 use Rattle.claim.proofs.Unwinding.{Pair, reply-alike, counts-alike, address-counts-alike, serve-agree}
-use Rattle.pfcp_session.specs.Calls.{countAnswer, countCall, addressCountCall, RequestCall, replyOf, requestAnswer, requestCall, restorationCall, sessionCountCall, findSessionCall, findTeidCall, peerCountCall}
+use Rattle.pfcp_session.specs.Calls.{countAnswer, countCall, addressCountCall, RequestCall, replyOf, requestAnswer, requestCall, restorationCall, sessionCountCall, findSessionCall, findTeidCall, peerCountCall, countsCall}
 use Rattle.promises.specs.Runs.{HostStep, requested, counted, countedAddresses, HostRan, claimStep, stepsOf, Run, liveAfter, tableAfter}
 use Rattle.promises.specs.Departed.{calledIn, hearsReply, hearsCount, heardIn, Differ, ReadAlike, WriteAlike, NoMemory}
 use Rattle.promises.proofs.AccidentLaws.{left, counted-sound}
@@ -190,6 +190,11 @@ module _ (s : Settings) (hs : T (settingsAllowed s)) where
   unfolding countPeer
   shared who m hm = rw (is-true (sound (encode s m)) (sound-encode s hs m hm)) (ap (λ (l : Sessions). pick (isPeer who) (shareOf (length (ofPeer who l)) (holdings who l)) (unshared 7)) (sessions-back s hs m hm))
 
+  -- and all counts
+  all-counted : (m : Sessions) → T (sessionsAllowed s m) → countAll (encode s m) ≡ countsOf s m
+  unfolding countAll
+  all-counted m hm = rw (is-true (sound (encode s m)) (sound-encode s hs m hm)) (ap₂ (λ (u : Settings) (l : Sessions). countsOf u l) (encoded-settings s hs m hm) (sessions-back s hs m hm))
+
   module _ (m n : Sessions) (hm : T (sessionsAllowed s m)) (hn : T (sessionsAllowed s n)) (e : Alike m n) where
     found-same : (o : Sessions → Option ℕ) → o m ≡ o n → findIn (encode s m) (o (viewSessions (encode s m))) ≡ findIn (encode s n) (o (viewSessions (encode s n)))
     found-same o same = found-encoded m hm o ∙ ap findingOf same ∙ sym (found-encoded n hn o)
@@ -204,7 +209,7 @@ module _ (s : Settings) (hs : T (settingsAllowed s)) where
         }
 
     read-alike : ReadAlike (encode s m) (encode s n)
-    unfolding countCall addressCountCall sessionCountCall countSessions findSessionCall findSession findTeidCall findHolder peerCountCall
+    unfolding countCall addressCountCall sessionCountCall countSessions findSessionCall findSession findTeidCall findHolder peerCountCall countsCall
     read-alike =
         record {
           count = ap countAnswer (counts-alike s hs m n hm hn e);
@@ -213,6 +218,15 @@ module _ (s : Settings) (hs : T (settingsAllowed s)) where
           seids = λ who seid. found-same (sessionPlace who seid) (seid-place-alike m n e who seid);
           teids = λ teid. found-same (holderPlace teid) (holder-place-alike m n e teid);
           peers = λ who. shared who m hm ∙ (λ i. pick (isPeer who) (shareOf (peer-sessions-alike m n e who i) (peer-holdings-alike m n e who i)) (unshared 7)) ∙ sym (shared who n hn);
+          counts = all-counted m hm ∙ (λ i. record {
+            outcome = 0;
+            sessions1 = peer-sessions-alike m n e 1 i;
+            teids1 = peer-holdings-alike m n e 1 i;
+            sessions2 = peer-sessions-alike m n e 2 i;
+            teids2 = peer-holdings-alike m n e 2 i;
+            free = count-alike s m n e i;
+            freeAddresses = address-count-alike s m n e i;
+          }) ∙ sym (all-counted n hn);
         }
 
     write-alike : WriteAlike (encode s m) (encode s n)

@@ -1,6 +1,6 @@
 -- A place that a reading call found is the one place there is, of the table and of the live set after any run.
 -- Assumes nothing.
-use mathlib.Core.Path.{_≡_, refl, sym, ap, subst, _∙_}
+use mathlib.Core.Path.{_≡_, refl, sym, ap, ap₂, subst, _∙_}
 use Prim.Native.Nat.{ℕ, _-_, _<_}
 use native.Mathlib.Omega.{arith}
 use mathlib.Core.Bool.{Bool, true, false, not}
@@ -17,12 +17,12 @@ use Rattle.rules.specs.Layout.{viewSettings, viewSessions}
 use Rattle.rules.specs.Sound.{apart, sound}
 use Rattle.rules.specs.Stages.{hasKey}
 use Rattle.rules.specs.Restoring.{sessionAt}
-use Rattle.rules.specs.Finding.{Finding, findingOf, placeFrom, sessionPlace, isHolder, holderPlace, findIn, countSessions, findSession, findHolder, countPeer}
+use Rattle.rules.specs.Finding.{Finding, findingOf, placeFrom, sessionPlace, isHolder, holderPlace, findIn, countSessions, findSession, findHolder, countPeer, countsOf, countAll}
 use Rattle.laws.proofs.PeerLaws.{key-peer}
 use Rattle.laws.proofs.KeptRules.{SessionsKept, sessions-kept, table-kept}
 use Rattle.invariants.proofs.Beside.{apart-teids}
 use Rattle.finding.proofs.PlaceLaws.{place-says, none-says, place-only}
-use Rattle.pfcp_session.specs.Calls.{sessionCountCall, findSessionCall, findTeidCall, peerCountCall}
+use Rattle.pfcp_session.specs.Calls.{sessionCountCall, findSessionCall, findTeidCall, peerCountCall, countsCall}
 use Rattle.promises.specs.Runs.{Run, tableAfter}
 use Rattle.promises.specs.Findings.{At, foundAt, nowhere, TheOne, SessionFound, HolderFound, KeysApart, LiveFound}
 use Rattle.promises.proofs.AccidentLaws.{left, counted-sound}
@@ -118,7 +118,7 @@ holder-found t teid h = teid-one t h teid
 -- ---- after any run
 
 pub live-found : (run : Run) → LiveFound run
-unfolding sessionCountCall countSessions SessionFound HolderFound peerCountCall countPeer
+unfolding sessionCountCall countSessions SessionFound HolderFound peerCountCall countPeer countsCall countAll
 live-found run =
     let t = tableAfter run in
     let l = left run in
@@ -128,4 +128,5 @@ live-found run =
       seids = λ who seid. subst (λ (m : Sessions). TheOne (At (hasKey (keyFor who seid)) m) (findSessionCall t who seid)) (l .records) (session-found t who seid h);
       teids = λ teid. subst (λ (m : Sessions). TheOne (At (isHolder teid) m) (findTeidCall t teid)) (l .records) (holder-found t teid h);
       peers = λ who hw. rw (is-true (isPeer who) hw, is-true (sound t) h) (ap (λ (m : Sessions). record { outcome = 0; sessions = length (ofPeer who m); teids = holdings who m }) (l .records));
+      counts = rw (is-true (sound t) h) (ap₂ (λ (s : Settings) (m : Sessions). countsOf s m) (l .settings) (l .records));
     }

@@ -12,7 +12,7 @@ use Rattle.rules.specs.Layout.{viewSettings, viewSessions}
 use Rattle.rules.specs.Restoring.{sessionAt}
 use Rattle.rules.specs.Bare.{bareSession, Alike, blankTable}
 use Rattle.rules.specs.Claim.{stepAllowed, lastTable}
-use Rattle.pfcp_session.specs.Calls.{CountCall, countCall, addressCountCall, restorationCall, sessionCountCall, findSessionCall, findTeidCall, peerCountCall}
+use Rattle.pfcp_session.specs.Calls.{CountCall, countCall, addressCountCall, restorationCall, sessionCountCall, findSessionCall, findTeidCall, peerCountCall, countsCall}
 use Rattle.promises.specs.Runs.{HostStep, requested, counted, countedAddresses, HostRan, stepsOf, Run, liveAfter, tableAfter}
 
 -- ---- the same calls and the same answers
@@ -55,6 +55,7 @@ pub record ReadAlike (t u : List ℕ) : Type 0 where
   pub seids : (who seid : ℕ) → findSessionCall t who seid ≡ findSessionCall u who seid
   pub teids : (teid : ℕ) → findTeidCall t teid ≡ findTeidCall u teid
   pub peers : (who : ℕ) → peerCountCall t who ≡ peerCountCall u who
+  pub counts : countsCall t ≡ countsCall u
 
 -- but for the writer of restorations, which writes these fields: where any request fits, its outcomes are the same, and the session at a place, whose
 -- restoration it writes, agrees in all but these fields

@@ -12,8 +12,8 @@ use Rattle.rules.specs.Layout.{viewSessions}
 use Rattle.rules.specs.Sound.{sound}
 use Rattle.rules.specs.Stages.{hasKey}
 use Rattle.rules.specs.Restoring.{sessionAt}
-use Rattle.rules.specs.Finding.{Finding, isHolder}
-use Rattle.pfcp_session.specs.Calls.{sessionCountCall, findSessionCall, findTeidCall, peerCountCall}
+use Rattle.rules.specs.Finding.{Finding, isHolder, countsOf}
+use Rattle.pfcp_session.specs.Calls.{sessionCountCall, findSessionCall, findTeidCall, peerCountCall, countsCall}
 use Rattle.promises.specs.Runs.{Run, liveAfter, tableAfter}
 
 -- there is a session at the place, and it passes the test
@@ -47,9 +47,10 @@ HolderFound = (t : List ℕ) (teid : ℕ) → T (sound t) → TheOne (At (isHold
 unfoldable pub KeysApart : Type 0
 KeysApart = (who seid other n : ℕ) → seid < 2 ^ 64 → n < 2 ^ 64 → keyFor who seid ≡ keyFor other n → (who ≡ other) × (seid ≡ n)
 
--- after any run: the number of live sessions, the live session of a peer's SEID, the live session that holds a TEID, and what a peer has
+-- after any run: the number of live sessions, the live session of a peer's SEID, the live session that holds a TEID, what a peer has, and all counts
 pub record LiveFound (run : Run) : Type 0 where
   pub count : sessionCountCall (tableAfter run) ≡ foundAt (length (liveAfter run))
   pub seids : (who seid : ℕ) → TheOne (At (hasKey (keyFor who seid)) (liveAfter run)) (findSessionCall (tableAfter run) who seid)
   pub teids : (teid : ℕ) → TheOne (At (isHolder teid) (liveAfter run)) (findTeidCall (tableAfter run) teid)
   pub peers : (who : ℕ) → T (isPeer who) → peerCountCall (tableAfter run) who ≡ record { outcome = 0; sessions = length (ofPeer who (liveAfter run)); teids = holdings who (liveAfter run) }
+  pub counts : countsCall (tableAfter run) ≡ countsOf (run .settings) (liveAfter run)

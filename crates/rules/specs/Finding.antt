@@ -1,5 +1,5 @@
 -- What a table tells beside its requests (the library's reading calls): how many sessions there are, the place of a peer's SEID, for a TEID the
--- place of the session that holds it, and what a peer has. A place counts sessions from 0, in the table's order.
+-- place of the session that holds it, what a peer has, and all counts at once. A place counts sessions from 0, in the table's order.
 -- Assumes nothing.
 use Prim.Native.Nat.{ℕ, _+_}
 use mathlib.Core.Bool.{Bool}
@@ -8,8 +8,8 @@ use mathlib.Core.List.{List, [], _∷_}
 use lib.ListN.{length}
 use Rattle.octets.specs.Choice.{pick}
 use Rattle.octets.specs.Lists.{member}
-use Rattle.rules.specs.Model.{Session, Sessions, keyFor, sessionTeids, isPeer, ofPeer, holdings}
-use Rattle.rules.specs.Layout.{viewSessions}
+use Rattle.rules.specs.Model.{Settings, Session, Sessions, keyFor, sessionTeids, isPeer, ofPeer, holdings, freeCount, freeAddressCount}
+use Rattle.rules.specs.Layout.{viewSettings, viewSessions}
 use Rattle.rules.specs.Sound.{sound}
 use Rattle.rules.specs.Stages.{hasKey}
 
@@ -67,6 +67,35 @@ countPeer t who =
     (pick (sound t) (record { outcome = 0; sessions = length (ofPeer who (viewSessions t)); teids = holdings who (viewSessions t) }) (unshared 1))
     (unshared 7)
 
+-- all counts at once: 0, of each peer its sessions and the different TEIDs that their records hold, and how many TEIDs and addresses of the pools are
+-- free; or 1 a broken table, and zeros
+pub record Counts : Type 0 where
+  pub outcome : ℕ
+  pub sessions1 : ℕ
+  pub teids1 : ℕ
+  pub sessions2 : ℕ
+  pub teids2 : ℕ
+  pub free : ℕ
+  pub freeAddresses : ℕ
+
+abbrev pub uncounted : ℕ → Counts
+uncounted n = record { outcome = n; sessions1 = 0; teids1 = 0; sessions2 = 0; teids2 = 0; free = 0; freeAddresses = 0 }
+
+abbrev pub countsOf : Settings → Sessions → Counts
+countsOf s m =
+    record {
+      outcome = 0;
+      sessions1 = length (ofPeer 1 m);
+      teids1 = holdings 1 m;
+      sessions2 = length (ofPeer 2 m);
+      teids2 = holdings 2 m;
+      free = freeCount s m;
+      freeAddresses = freeAddressCount s m;
+    }
+
+unfoldable pub countAll : List ℕ → Counts
+countAll t = pick (sound t) (countsOf (viewSettings t) (viewSessions t)) (uncounted 1)
+
 unfoldable pub computing : ℕ
-unfolding placeFrom sessionPlace isHolder holderPlace findIn countSessions findSession findHolder countPeer
+unfolding placeFrom sessionPlace isHolder holderPlace findIn countSessions findSession findHolder countPeer countAll
 computing = 0

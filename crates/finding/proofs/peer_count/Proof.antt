@@ -15,7 +15,7 @@ returns-2 c = search share-broken
 read-requires : tie.Need-read-requires
 read-requires c κs =
     let e = c .before .seen .given in
-    (omega (arith, told-long _ _ _ (c .before .before .before .before .before .before .before .before .before .is-peer .ensures) (c .before .before .before .before .before .before .before .before .if1 .left) _ _ _ (c .before .before .before .before .before .examine .ensures) (e .0 .0) (e .0 .1 .0) (e .0 .1 .1 .0) (e .0 .1 .1 .1 .0) (e .1)), omega arith)
+    (omega (arith, told-long _ _ _ _ (c .before .before .before .before .before .examine .ensures) (e .0 .0) (e .0 .1 .0) (e .0 .1 .1 .0) (e .0 .1 .1 .1 .0) (e .1)), omega arith)
 
 tell-requires : tie.Need-tell-requires
 tell-requires c κs = search first-few
