@@ -7,6 +7,7 @@
 #include <unistd.h>
 
 #include "complaint.h"
+#include "counts.h"
 #include "datagrams.h"
 #include "digest.h"
 #include "message.h"
@@ -14,36 +15,6 @@
 #include "stores.h"
 #include "table.h"
 #include "wipe.h"
-
-/* What a peer has, and the free TEIDs and addresses, after a request of this peer that may have changed
-   them; the other one has what it had. Each call checks the whole table, so the free TEIDs are worked out:
-   every TEID of a sound table is of the pool and of one session (9.4, 9.5 and 9.7 of docs/rules.md). */
-static bool count_peer(struct unit *unit, uint32_t peer)
-{
-    struct holding *holdings = unit->holdings;
-    struct holding *own = &holdings[peer - 1];
-
-    if (pfcp_peer_count(unit->table, unit->table_length, peer, &own->sessions, &own->teids) !=
-            PFCP_FOUND ||
-        pfcp_free_addresses(unit->table, unit->table_length, &unit->free_addresses) !=
-            PFCP_ANSWERED)
-        return false;
-    unit->live_sessions = holdings[0].sessions + holdings[1].sessions;
-    unit->free_teids = unit->options->pool_size - holdings[0].teids - holdings[1].teids;
-    return true;
-}
-
-/* The same at the start, where the free TEIDs are counted too. */
-static bool count_table(struct unit *unit)
-{
-    uint32_t counted;
-
-    for (uint32_t peer = 1; peer <= PFCP_PEERS; peer++)
-        if (!count_peer(unit, peer))
-            return false;
-    return pfcp_free_count(unit->table, unit->table_length, &counted) == PFCP_ANSWERED &&
-           counted == unit->free_teids;
-}
 
 /* An empty table and empty stores, in memory of just the length of their file. */
 static bool start_table(struct unit *unit, const struct options *options)
@@ -310,7 +281,7 @@ static void answer(struct unit *unit, struct held *held, const uint8_t *message)
         keep_octets(served, message);
     if (served->cause == NO_RESOURCES)
         keep_shortage(unit, served);
-    if (served->cause == ACCEPTED && !count_peer(unit, served->peer))
+    if (served->cause == ACCEPTED && !count_table(unit))
         served->outcome = PFCP_BROKEN_TABLE;
 }
 

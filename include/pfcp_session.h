@@ -258,6 +258,15 @@ uint32_t pfcp_session_count(const uint8_t *table, size_t table_len, uint32_t *co
 uint32_t pfcp_peer_count(const uint8_t *table, size_t table_len, uint32_t peer, uint32_t *sessions,
                          uint32_t *teids);
 
+/*
+ * All counts of a table by one check of it: of each peer the number of its sessions and that of the
+ * different TEIDs that they hold, and how many TEIDs and addresses of the pools are free. Each number is
+ * the one that the call for it alone gives. It gives 0 or 1; with 1 all numbers are 0.
+ */
+uint32_t pfcp_counts(const uint8_t *table, size_t table_len, uint32_t *sessions1, uint32_t *teids1,
+                     uint32_t *sessions2, uint32_t *teids2, uint32_t *free_teids,
+                     uint32_t *free_addresses);
+
 /* The place of the peer's session with this SEID. Any other peer than 1 and 2 has none. */
 uint32_t pfcp_find_session(const uint8_t *table, size_t table_len, uint32_t peer, uint64_t seid,
                            size_t *place);

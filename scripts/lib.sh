@@ -163,7 +163,7 @@ bench_sources=(-O2 -Ibench bench/workload.c bench/sides.c bench/measure.c host/m
 # a stored table's file, for the unit, pfcp-list and pfcp-restore
 stored_sources=(host/stored.c host/table.c host/digest.c host/wipe.c host/text.c host/words.c host/message.c host/address.c -lnettle)
 # what makes a list of a table, for the unit, for pfcp-list and for a test
-listing_sources=(host/sessions.c host/listing.c host/session_words.c host/prometheus.c "${stored_sources[@]}")
+listing_sources=(host/sessions.c host/counts.c host/listing.c host/session_words.c host/prometheus.c "${stored_sources[@]}")
 unit_sources=(host/main.c host/options.c host/arguments.c host/number.c host/service.c host/unit.c host/stores.c host/disk.c host/datagrams.c
     host/line.c host/control.c host/output.c host/complaint.c host/demo.c "${listing_sources[@]}" -pthread)
 list_sources=(host/pfcp_list.c host/stored_unit.c host/arguments.c host/number.c "${listing_sources[@]}")

@@ -5,6 +5,7 @@
 #include <stdlib.h>
 #include <string.h>
 
+#include "counts.h"
 #include "listing.h"
 #include "message.h"
 #include "unit.h"
@@ -14,16 +15,6 @@ static uint8_t table[PFCP_LONGEST_TABLE];
 static struct unit unit;
 static struct listing listing;
 static struct text piece;
-
-/* What the peers have. */
-static bool count_peers(void)
-{
-    for (uint32_t peer = 1; peer <= PFCP_PEERS; peer++)
-        if (pfcp_peer_count(table, unit.table_length, peer, &unit.holdings[peer - 1].sessions,
-                            &unit.holdings[peer - 1].teids) != PFCP_FOUND)
-            return false;
-    return true;
-}
 
 /* The pools' sizes stand in the settings (docs/layout.md). */
 static bool read_unit(const char *path)
@@ -40,9 +31,7 @@ static bool read_unit(const char *path)
     options.pool_size = (uint32_t)number_at(table + 25, 4);
     options.address_count = (uint32_t)number_at(table + 33, 4);
     unit.options = &options;
-    return whole && count_peers() &&
-           pfcp_free_count(table, unit.table_length, &unit.free_teids) == PFCP_ANSWERED &&
-           pfcp_free_addresses(table, unit.table_length, &unit.free_addresses) == PFCP_ANSWERED;
+    return whole && count_table(&unit);
 }
 
 int main(int argc, char **argv)

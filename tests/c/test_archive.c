@@ -1183,9 +1183,41 @@ static uint32_t count_peer_in(const uint8_t *octets, size_t length)
     return outcome;
 }
 
+/* All counts at once, in the order of the call's numbers. */
+static uint32_t count_all_in(const uint8_t *octets, size_t length, uint32_t n[6])
+{
+    uint8_t *table = length > 0 ? copy_of(octets, length) : NULL;
+
+    memset(n, 0xA5, 6 * sizeof n[0]);
+    uint32_t outcome = pfcp_counts(table, length, &n[0], &n[1], &n[2], &n[3], &n[4], &n[5]);
+    CHECK(length == 0 || memcmp(table, octets, length) == 0);
+    free(table);
+    return outcome;
+}
+
+/* Each of them is the number that the call for it alone gives. */
+static void counts_agree(const uint8_t *table, size_t length)
+{
+    uint32_t n[6];
+    uint32_t teids;
+    uint32_t addresses;
+
+    CHECK(count_all_in(table, length, n) == PFCP_FOUND);
+    for (uint32_t one = 1; one <= PFCP_PEERS; one++) {
+        uint32_t held;
+        uint32_t sessions;
+
+        CHECK(pfcp_peer_count(table, length, one, &sessions, &held) == PFCP_FOUND);
+        CHECK(n[2 * one - 2] == sessions && n[2 * one - 1] == held);
+    }
+    CHECK(pfcp_free_count(table, length, &teids) == PFCP_ANSWERED && n[4] == teids);
+    CHECK(pfcp_free_addresses(table, length, &addresses) == PFCP_ANSWERED && n[5] == addresses);
+}
+
 /* Whether the asking peer has so many sessions and TEIDs. */
 static int has(const uint8_t *table, uint32_t sessions, uint32_t teids)
 {
+    counts_agree(table, length_of(table));
     return count_peer_in(table, length_of(table)) == PFCP_FOUND && told.count == sessions &&
            told.teids == teids;
 }
@@ -1204,6 +1236,11 @@ static uint32_t find_teid_in(const uint8_t *octets, size_t length, uint32_t teid
 /* All of them say that there is no table. */
 static void nothing_told(const uint8_t *octets, size_t length)
 {
+    static const uint32_t zeros[6];
+    uint32_t n[6];
+
+    CHECK(count_all_in(octets, length, n) == PFCP_BROKEN_TABLE);
+    CHECK(memcmp(n, zeros, sizeof n) == 0);
     CHECK(count_in(octets, length) == PFCP_BROKEN_TABLE && told.count == 0);
     CHECK(count_peer_in(octets, length) == PFCP_BROKEN_TABLE && told.count == 0 && told.teids == 0);
     CHECK(find_seid_in(octets, length, 4) == PFCP_BROKEN_TABLE && told.place == 0);

@@ -84,6 +84,17 @@ extern "C" {
         sessions: *mut u32,
         teids: *mut u32,
     ) -> u32;
+    #[cfg(feature = "reading")]
+    fn pfcp_counts(
+        table: *const u8,
+        table_len: usize,
+        sessions1: *mut u32,
+        teids1: *mut u32,
+        sessions2: *mut u32,
+        teids2: *mut u32,
+        free_teids: *mut u32,
+        free_addresses: *mut u32,
+    ) -> u32;
 }
 
 #[cfg(feature = "restoration")]
@@ -98,6 +109,7 @@ const READING: Option<Reading> = Some(Reading {
     find_session: pfcp_find_session,
     find_teid: pfcp_find_teid,
     peer_count: pfcp_peer_count,
+    counts: pfcp_counts,
 });
 
 #[cfg(not(feature = "reading"))]

@@ -29,6 +29,10 @@ pub type RequestOnce = unsafe extern "C" fn(
 pub type FindSession = unsafe extern "C" fn(*const u8, usize, u32, u64, *mut usize) -> u32;
 pub type FindTeid = unsafe extern "C" fn(*const u8, usize, u32, *mut usize) -> u32;
 pub type PeerCount = unsafe extern "C" fn(*const u8, usize, u32, *mut u32, *mut u32) -> u32;
+#[rustfmt::skip]
+pub type Counts = unsafe extern "C" fn(
+    *const u8, usize, *mut u32, *mut u32, *mut u32, *mut u32, *mut u32, *mut u32,
+) -> u32;
 
 /// The calls that read a table. The first has the same form as the free count.
 #[derive(Clone, Copy)]
@@ -37,6 +41,7 @@ pub struct Reading {
     pub find_session: FindSession,
     pub find_teid: FindTeid,
     pub peer_count: PeerCount,
+    pub counts: Counts,
 }
 
 impl Reading {
@@ -62,6 +67,15 @@ impl Reading {
             (self.peer_count)(pointer(table), table.len(), peer, &mut sessions, &mut teids)
         };
         (outcome, sessions, teids)
+    }
+
+    /// The outcome and all counts: the sessions and TEIDs of peer 1, those of peer 2, the free TEIDs and
+    /// the free addresses.
+    pub fn counts(&self, table: &[u8]) -> (u32, [u32; 6]) {
+        let mut n = [0xA5A5_A5A5; 6];
+        let [a, b, c, d, e, f] = &mut n;
+        let outcome = unsafe { (self.counts)(pointer(table), table.len(), a, b, c, d, e, f) };
+        (outcome, n)
     }
 
     /// The outcome and the place of the session that holds a TEID.

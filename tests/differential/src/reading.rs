@@ -1,5 +1,5 @@
 //! The calls that read a table: how many sessions, the place of a peer's SEID, the place of a TEID's
-//! holder, what a peer has, each compared with the second implementation's answer.
+//! holder, what a peer has, all counts, each compared with the second implementation's answer.
 
 use std::collections::BTreeMap;
 
@@ -67,6 +67,7 @@ impl Run<'_> {
             }
         }
         self.counts_of_peers(reading, &table, sessions);
+        self.all_counts(reading, &table, settings, sessions);
         let holders = session::holders(sessions);
         for teid in holders.keys() {
             self.one_teid(reading, &table, &holders, *teid);
@@ -97,6 +98,28 @@ impl Run<'_> {
         let of_peers = [1, 2, other].map(|peer| reading.peer_count(table.content(), peer));
         let right = of_peers == [(1, 0, 0), (1, 0, 0), (7, 0, 0)];
         self.report.check(right, || format!("{of_peers:?}: the peers of a broken table"));
+        let all = reading.counts(table.content());
+        self.report.check(all == (1, [0; 6]), || format!("{all:?}: all counts of a broken table"));
+    }
+
+    /// All counts at once: the second implementation's, and those that the calls for one each give.
+    fn all_counts(
+        &mut self,
+        reading: Reading,
+        table: &Lent,
+        settings: &Settings,
+        sessions: &Sessions,
+    ) {
+        let of = |peer| {
+            let peer = named_peer(peer).expect("a peer");
+            [session::count_of(sessions, peer) as u32, session::holdings(sessions, peer) as u32]
+        };
+        let ([sessions1, teids1], [sessions2, teids2]) = (of(1), of(2));
+        let teids = settings.size - session::holders(sessions).len() as u32;
+        let (_, addresses) = self.product.free_addresses(table.content());
+        let expected = (0, [sessions1, teids1, sessions2, teids2, teids, addresses]);
+        let given = reading.counts(table.content());
+        self.report.check(given == expected, || format!("all counts {given:?}, not {expected:?}"));
     }
 
     /// What each peer has, and that there is no other.
