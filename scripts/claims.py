@@ -1,19 +1,39 @@
-"""Makes docs/claims.md from docs/claims.list and the sources: each sentence with the statements that answer it, cut from where they stand."""
+"""Makes docs/claims.md and docs/statements.md from docs/claims.list and the sources: each sentence with its plain answer and links, and the
+statements that carry it, cut from where they stand."""
 
 import re
 
 from sources import ROOT, SourceError, words
 
-HEAD = '''# Which theorem answers which sentence
+CLAIMS = 'docs/claims.md'
+STATEMENTS = 'docs/statements.md'
+RULES = 'docs/rules.md'
 
-Made by `make docs` from `docs/claims.list` and the sources; `make test` fails where it is stale. Each sentence of what was asked, what
-answers it in plain words, and the statements themselves. A contract is the head of a function: the prover accepts the function only if
-it keeps it. A theorem is proved; its proof is left out here. A definition has to be believed only if `make trust` lists it. An edit is a
-wrong program that the prover must refuse. A statement is shown once, where it is first named. What the rules say in words is in
-[rules.md](rules.md). Where an answer speaks of the rules alone, it says so; `pfcp_request` carries it over to the code.
+HEAD = '''# What was asked, and what answers it
 
-`serve t msg space` is the definition of one request: the outcome, the reply space and the table at exit, of any octets. `make` and
-`countFree` are the definitions of the other two calls. The session limit is a setting, which the table keeps; the largest is `maxSessions`.
+Each sentence of what was asked of this library, and the answer in plain words. Under it stand the rules that say it ([rules.md](rules.md)) and the names
+of the contracts, theorems and definitions that carry it; each name leads to its statement, word for word, in [statements.md](statements.md).
+Both pages are made by `make docs` from `docs/claims.list` and the sources, and `make test` fails where they are stale.
+
+A *contract* is the head of a function: the prover accepts the function only if it keeps it. A *theorem* is proved. A *definition* has to be believed only
+if `make trust` lists it ([trust.md](trust.md)). An *edit* is a wrong program that the prover must refuse. Where an answer speaks of the rules alone, it
+says so; `pfcp_request` carries it over to the code.
+
+Three demands were made of the base: that any octets may come (1), that requests mean what the rules say (2), and one claim about every sequence of calls
+(3). The changes that came after it have sections or sentences of their own. Terms (PDR, TEID, CHOOSE, peer, live) are explained at the head of
+[rules.md](rules.md).
+
+'''
+
+STATEMENTS_HEAD = '''# The statements, word for word
+
+What [claims.md](claims.md) names, cut from the sources by `make docs`: contracts, theorems, definitions, and the edits that the prover must refuse. Under
+each stands where it is and which sentences it answers. Of a theorem the proof is left out here. What the rules say in words is in
+[rules.md](rules.md).
+
+`serve t who msg space` is the definition of one request of a peer: the outcome, the place of a fault, the reply space and the table at exit, of any octets.
+`make` and `countFree` are the definitions of making a table and of counting free TEIDs. The session limit is a setting, which the table keeps;
+the largest is `maxSessions`.
 
 | Sign | How to read it |
 |---|---|
@@ -27,14 +47,18 @@ wrong program that the prover must refuse. A statement is shown once, where it i
 | `List·Permᴰ xs ys` | xs and ys have the same members, in any order |
 | `requires`, `ensures { λ r. ⌜ .. ⌝ }` | what a caller has to see to; what then holds of the answer r |
 | `now (t .entry)`, `now (t .exit)` | what stands in the lent t when the call begins, and when it ends |
+
 '''
+
+# the kinds of names, in the order in which they are shown
+KINDS = {'contract': 'Contracts', 'theorem': 'Theorems', 'definition': 'Definitions', 'edit': 'Edits that the prover must refuse'}
 
 
 class Row:
-    """A sentence with its plain answer and the names that carry it, each with its line in the list."""
+    """A sentence with its plain answer, its rules, and the names that carry it, each with its line in the list."""
 
     def __init__(self, sentence, line):
-        self.sentence, self.line, self.words, self.names = sentence, line, [], []
+        self.sentence, self.line, self.words, self.rules, self.names = sentence, line, [], None, []
 
 
 class Section:
@@ -56,42 +80,65 @@ def read_list(path):
         elif line.startswith('* '):
             sections[-1].rows.append(Row(line[2:], number))
         elif line.startswith('  ') and sections[-1].rows:
-            row = sections[-1].rows[-1]
-            if line.startswith('  - '):
-                row.names.append((line[4:].strip(), place))
-            else:
-                row.words.append(line.strip())
+            add_to(sections[-1].rows[-1], line, place)
         elif not line.startswith(' ') and not sections[-1].rows:
             sections[-1].text.append(line)
         elif line:
             raise SourceError(f'{place}: neither a section, a sentence, its answer nor a name: {line}')
+    seen = set()
     for row in (row for section in sections for row in section.rows):
         if not row.words:
             raise SourceError(f'{path}:{row.line}: no plain words for this sentence')
+        if anchor(row.sentence) in seen:
+            raise SourceError(f'{path}:{row.line}: this sentence stands twice')
+        seen.add(anchor(row.sentence))
     return sections
 
 
-class Found:
-    """What a name stands for: its kind, where it is, its statement, and the key by which it counts as shown."""
+def add_to(row, line, place):
+    """One more line under a sentence."""
+    if line.startswith('  - '):
+        row.names.append((line[4:].strip(), place))
+    elif line.startswith('  = '):
+        row.rules = (line[4:].strip(), place)
+    else:
+        row.words.append(line.strip())
 
-    def __init__(self, kind, path, line, text, key, owner=None):
-        self.kind, self.path, self.line, self.text, self.key, self.owner = kind, path, line, text, key, owner
+
+class Found:
+    """What a name stands for: its kind, where it is, its statement, and the key by which it is shown."""
+
+    def __init__(self, kind, path, line, text, key):
+        self.kind, self.path, self.line, self.text, self.key = kind, path, line, text, key
+
+    def heading(self):
+        return f'{self.kind} `{self.key}`'
+
+    def link(self):
+        return f'[`{self.key}`](statements.md#{anchor(self.heading())})'
 
 
 def find(sources, name, place):
     """A name of the list in the sources; an error says which row it is of."""
-    found = find_edit(name) or find_contract(sources, name) or find_declaration(sources, name)
+    try:
+        found = find_edit(name) or find_contract(sources, name) or find_declaration(sources, name)
+    except SourceError as error:
+        raise SourceError(f'{place}: {error}') from error
     if found is None:
         raise SourceError(f'{place}: {name} is not found in the sources')
     return found
 
 
 def find_edit(name):
-    path = f'crates/{name}.edit'
-    if '/must-fail/' not in name or not (ROOT / path).is_file():
+    if 'must-fail/' not in name:
         return None
-    lines = (ROOT / path).read_text().rstrip('\n').split('\n')
-    return Found('edit', path, 1, lines, name)
+    paths = sorted(ROOT.glob(f'crates/{name}.edit' if '/must-fail/' in name else f'crates/*/{name}.edit'))
+    if len(paths) > 1:
+        raise SourceError(f'{name} stands in {" and in ".join(p.parts[-3] for p in paths)}')
+    if not paths:
+        return None
+    lines = paths[0].read_text().rstrip('\n').split('\n')
+    return Found('edit', str(paths[0].relative_to(ROOT)), 1, lines, f'{paths[0].parts[-3]}/{paths[0].stem}')
 
 
 def find_contract(sources, name):
@@ -105,16 +152,14 @@ def find_contract(sources, name):
 
 
 def find_declaration(sources, name):
-    parts = name.split('.')
-    for length in (len(parts) - 1, len(parts) - 2):
-        module = sources.modules.get(f'crates/{"/".join(parts[:length])}.antt')
-        one = module and module.declarations.get(parts[length])
-        if one and length == len(parts) - 1:
-            kind = 'definition' if one.is_definition() else 'theorem'
-            return Found(kind, module.path, one.line, statement(one), name)
-        if one and parts[-1] in one.parts:
-            return Found('field', module.path, one.parts[parts[-1]], field(one, parts[-1]), name, '.'.join(parts[:-1]))
-    return None
+    one = sources.named(name)
+    if one is None:
+        return None
+    part = name.split('.')[-1]
+    kind = 'definition' if one.is_definition() else 'theorem'
+    if part == one.name:
+        return Found(kind, one.module.path, one.line, statement(one), name)
+    return Found(kind, one.module.path, one.parts[part], field(one, part), name)
 
 
 def statement(one):
@@ -151,55 +196,64 @@ def field(one, name):
     return lines
 
 
-def render_edit(found):
-    said = ' '.join(line[1:].strip() for line in found.text if line.startswith('#'))
-    told = {k: v for k, v in (line.split(': ', 1) for line in found.text if ': ' in line and not line.startswith('#'))}
-    yield f'- edit [`{found.key.replace("/must-fail/", "/")}`](../{found.path}): {said.rstrip(".")}. In `{told["file"]}` the line'
-    yield f'  `{told["old"]}` becomes `{told["new"]}`.'
-
-
-def render_name(found, shown):
-    if found.kind == 'edit':
-        yield from render_edit(found)
-        return
-    short = found.key if found.kind == 'contract' else found.key.split('.')[-1]
-    where = f'- {found.kind} [`{short}`](../{found.path}#L{found.line}), {found.path.removeprefix("crates/")}:{found.line}'
-    if found.key in shown or found.owner in shown:
-        yield where + ', shown above'
-        return
-    shown.add(found.key)
-    indent = min(len(line) - len(line.lstrip()) for line in found.text if line.strip())
-    yield where
-    yield ''
-    yield '  ```'
-    yield from ('  ' + line[indent:] for line in found.text)
-    yield '  ```'
-
-
 def anchor(title):
     """The name that a heading has in a link."""
     return re.sub(r'[^\w\- ]', '', title.lower()).replace(' ', '-')
 
 
-def contents(sections, path):
-    """Every sentence at a glance, each a link to its answer."""
-    seen = set()
-    for section in sections:
-        yield f'- [{section.title}](#{anchor(section.title)})'
-        for row in section.rows:
-            if anchor(row.sentence) in seen:
-                raise SourceError(f'{path}:{row.line}: this sentence stands twice')
-            seen.add(anchor(row.sentence))
-            yield f'  - [{row.sentence}](#{anchor(row.sentence)})'
+class Claims:
+    """The list with every name found, and each statement with the sentences that it answers."""
+
+    def __init__(self, sources, path):
+        self.sections = read_list(path)
+        self.found = {}  # key -> (Found, its sentences)
+        self.of_row = {}
+        self.rules = sections_of_rules()
+        for row in (row for section in self.sections for row in section.rows):
+            found = [find(sources, name, place) for name, place in row.names]
+            self.of_row[row] = found
+            for one in found:
+                self.found.setdefault(one.key, (one, []))[1].append(row.sentence)
+        anchors = {}
+        for key, (one, _) in self.found.items():
+            other = anchors.setdefault(anchor(one.heading()), key)
+            if other != key:
+                raise SourceError(f'{path}: {other} and {key} have one link')
+
+    def of_kind(self, kind):
+        """The statements of a kind in order of file and line, with their sentences."""
+        return sorted((pair for pair in self.found.values() if pair[0].kind == kind), key=lambda p: (p[0].path, p[0].line))
 
 
-def render(sources, path):
-    """The page's lines."""
-    shown, sections = set(), read_list(path)
-    yield from HEAD.split('\n')
-    yield from contents(sections, path)
+def sections_of_rules():
+    """Each rule of docs/rules.md with the link to the section that it stands in."""
+    found, section = {}, ''
+    for line in (ROOT / RULES).read_text().split('\n'):
+        if line.startswith('## '):
+            section = anchor(line[3:])
+        rule = re.match(r'- \*\*([0-9.]+)\*\* ', line)
+        if rule:
+            found[rule.group(1)] = f'rules.md#{section}'
+    return found
+
+
+def render_rules(claims, row):
+    text, place = row.rules
+    for rule in re.findall(r'[0-9]+\.[0-9]+', text):
+        if rule not in claims.rules:
+            raise SourceError(f'{place}: {rule} is no rule of {RULES}')
+    linked = re.sub(r'[0-9]+\.[0-9]+', lambda m: f'[{m.group()}]({claims.rules[m.group()]})', text)
+    return f'- rules {linked}'
+
+
+def render_claims(claims):
+    """The lines of docs/claims.md."""
+    yield from HEAD.rstrip('\n').split('\n')
     yield ''
-    for section in sections:
+    for section in claims.sections:
+        yield f'- [{section.title}](#{anchor(section.title)})'
+    yield ''
+    for section in claims.sections:
         yield f'## {section.title}'
         yield ''
         text = '\n'.join(section.text).strip('\n')
@@ -207,11 +261,55 @@ def render(sources, path):
             yield from text.split('\n')
             yield ''
         for row in section.rows:
-            yield f'### {row.sentence}'
+            yield from render_row(claims, row)
+
+
+def render_row(claims, row):
+    yield f'### {row.sentence}'
+    yield ''
+    yield from row.words
+    yield ''
+    if row.rules:
+        yield render_rules(claims, row)
+    for kind, title in KINDS.items():
+        links = [one.link() for one in claims.of_row[row] if one.kind == kind]
+        if links:
+            yield f'- {title.split(" ")[0].lower() if len(links) > 1 else kind} {", ".join(links)}'
+    if row.rules or row.names:
+        yield ''
+
+
+def render_statements(claims):
+    """The lines of docs/statements.md."""
+    yield from STATEMENTS_HEAD.rstrip('\n').split('\n')
+    yield ''
+    for kind, title in KINDS.items():
+        yield f'- [{title}](#{anchor(title)})'
+    yield ''
+    for kind, title in KINDS.items():
+        yield f'## {title}'
+        yield ''
+        for one, sentences in claims.of_kind(kind):
+            yield f'### {one.heading()}'
             yield ''
-            yield from row.words
+            yield from render_edit(one) if kind == 'edit' else render_statement(one)
+            yield f'Answers: {" ".join(f"[{said}](claims.md#{anchor(said)})" for said in dict.fromkeys(sentences))}'
             yield ''
-            for name, place in row.names:
-                yield from render_name(find(sources, name, place), shown)
-            if row.names:
-                yield ''
+
+
+def render_statement(one):
+    indent = min(len(line) - len(line.lstrip()) for line in one.text if line.strip())
+    yield f'[{one.path.removeprefix("crates/")}:{one.line}](../{one.path}#L{one.line})'
+    yield ''
+    yield '```'
+    yield from (line[indent:] for line in one.text)
+    yield '```'
+    yield ''
+
+
+def render_edit(one):
+    said = ' '.join(line[1:].strip() for line in one.text if line.startswith('#'))
+    told = {k: v for k, v in (line.split(': ', 1) for line in one.text if ': ' in line and not line.startswith('#'))}
+    yield f'{said.rstrip(".")}. In `{told["file"]}` of [this crate](../{one.path}) the line'
+    yield f'`{told["old"]}` becomes `{told["new"]}`.'
+    yield ''

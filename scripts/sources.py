@@ -238,6 +238,26 @@ class Sources:
             raise SourceError(f'{path} has no {name}')
         return found
 
+    def named(self, name):
+        """The declaration that `File.name` stands for, in whichever crate the file is; of `File.record.field` the record. None where there is
+        none; two are an error."""
+        parts = name.split('.')
+        for length in (len(parts) - 1, len(parts) - 2):
+            ending = f'/{"/".join(parts[:length])}.antt'
+            found = [m.declarations[parts[length]] for p, m in self.modules.items() if p.endswith(ending) and parts[length] in m.declarations]
+            if len(found) > 1:
+                raise SourceError(f'{name} stands in {" and in ".join(one.module.path for one in found)}')
+            if found and (length == len(parts) - 1 or parts[-1] in found[0].parts):
+                return found[0]
+        return None
+
+    def specified(self, name):
+        """The one definition of this name in the specs of the crates."""
+        found = [m.declarations[name] for p, m in self.modules.items() if '/specs/' in p and name in m.declarations]
+        if len(found) != 1:
+            raise SourceError(f'{name}: {len(found)} definitions of this name in crates/*/specs, not one')
+        return found[0]
+
     def scope(self, where):
         """What each name means in a module or source, operators by each of their parts too."""
         table = {}
