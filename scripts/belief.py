@@ -8,6 +8,8 @@ CALL = 'pfcp_request'
 # each is looked for in the specs of all crates
 CLAIMS = [
     'HostClaim',
+    'ReleasedIsRemoved',
+    'NoTwoPatients',
     'NoMemory',
     'HostDue',
     'TrafficDue',

@@ -13,7 +13,8 @@ HEAD = '''# What was asked, and what answers it
 
 Each sentence of what was asked of this library, and the answer in plain words. Under it stand the rules that say it ([rules.md](rules.md)) and the names
 of the contracts, theorems and definitions that carry it; each name leads to its statement, word for word, in [statements.md](statements.md).
-Both pages are made by `make docs` from `docs/claims.list` and the sources, and `make test` fails where they are stale.
+Both pages are made by `make docs` from `docs/claims.list` and the sources, and `make test` fails where they are stale. What all of this comes to,
+for somebody who reads no proofs, is in [PROMISES.md](PROMISES.md).
 
 A *contract* is the head of a function: the prover accepts the function only if it keeps it. A *theorem* is proved. A *definition* has to be believed only
 if `make trust` lists it ([trust.md](trust.md)). An *edit* is a wrong program that the prover must refuse. Where an answer speaks of the rules alone, it

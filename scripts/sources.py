@@ -317,6 +317,21 @@ class Sources:
             elif name not in binding and name not in where.aliases:
                 strange.add(name)
 
+    def said_by(self, theorem):
+        """The definitions that the statement of a theorem reaches."""
+        text, used = '\n'.join(theorem.around + theorem.signature), set()
+        self.collect(text, theorem.module, self.scope(theorem.module), binders([text]) | {theorem.name}, set(), used, set())
+        found = self.reached(one for one in used if isinstance(one, Declaration) and one.is_definition())[0]
+        return {one for one in found if isinstance(one, Declaration) and one.is_definition()}
+
+    def theorem(self, name):
+        """The one theorem of this name in the proofs of the crates, or None."""
+        found = [m.declarations[name] for p, m in self.modules.items() if '/proofs/' in p and name in m.declarations]
+        found = [one for one in found if not one.is_definition()]
+        if len(found) > 1:
+            raise SourceError(f'{name} is a theorem in {" and in ".join(one.module.path for one in found)}')
+        return found[0] if found else None
+
     def contract_uses(self, function):
         used, strange = set(), set()
         scope = self.scope(function.source)
