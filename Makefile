@@ -1,5 +1,5 @@
 # The commands that README.md names.
-.PHONY: all lib install uninstall deb test check fmt run demo bench bench-table trust docs accident clean distclean help
+.PHONY: all lib install uninstall deb test check fmt run demo bench bench-table trust docs accident dossier clean distclean help
 PREFIX = /usr/local
 DESTDIR =
 # Where settings are: not under the prefixes that are the system's.
@@ -65,6 +65,11 @@ docs:
 # the old program's two mistakes, made in a scratch copy and refused by the prover
 accident:
 	@scripts/accident
+
+# one document to print and sign: what is promised, believed and proved, what was checked, and what was built; target/dossier.html, and a PDF where a
+# browser prints it
+dossier:
+	@scripts/dossier $(ARGS)
 
 # takes away what was compiled and packed; what is proved stays, since it takes minutes
 clean:
