@@ -58,7 +58,7 @@ bench-table:
 trust:
 	@scripts/trust
 
-# docs/claims.md and docs/statements.md, and the table of docs/trust.md, from the sources
+# docs/claims.md and docs/statements.md, and the tables of docs/trust.md and docs/rules.md, from the sources
 docs:
 	@scripts/docs
 
