@@ -6,7 +6,8 @@ use std::net::{Ipv4Addr, Ipv6Addr};
 
 use crate::element::fq_csid::NodeId;
 use crate::session::{
-    distinct_teids, taken_addresses, Families, Key, Local, Pdr, Session, Sessions, Tunnel,
+    distinct_teids, taken_addresses, Endpoint, Families, HeldCsid, Key, Local, Pdr, Session,
+    Sessions, Tunnel,
 };
 use crate::settings::Settings;
 
@@ -42,28 +43,14 @@ fn add_text(list: &mut String, key: Key, session: &Session) {
     let mut line = |text: String| writeln!(list, "{text}").expect("a string takes any text");
     line(format!("  session {} of peer {} (0x{:x})", key.seid, key.peer, key.seid));
     for (id, pdr) in &session.pdrs {
-        let far = pdr.far_id.map_or("no FAR".to_string(), |far_id| format!("FAR {far_id}"));
-        let local = match &pdr.local {
-            Local::Neither => String::new(),
-            Local::Tunnel(tunnel) => format!(", {}", tunnel_text(tunnel)),
-            Local::Endpoint(id) => format!(", endpoint {id}"),
-        };
-        let (precedence, source) = (pdr.precedence, pdr.source_interface);
-        let (name, address) = (interface_name(source), address_text(pdr.address));
-        let from = format!("source interface {source} ({name})");
-        line(format!("    PDR {id}: precedence {precedence}, {far}, {from}{local}{address}"));
+        line(format!("    PDR {id}: {}", pdr_text(pdr)));
     }
     for (id, endpoint) in &session.endpoints {
-        let (tunnel, address) = (tunnel_text(&endpoint.tunnel), address_text(endpoint.address));
-        line(format!("    endpoint {id}: {tunnel}{address}"));
+        line(format!("    endpoint {id}: {}", endpoint_text(endpoint)));
     }
     for (node_type, held) in &session.fq_csids {
-        let kind = match held.node {
-            NodeId::Operator { .. } => "operator node ",
-            _ => "",
-        };
-        let (csid, node, name) = (held.csid, node_text(&held.node), node_type_name(*node_type));
-        line(format!("    FQ-CSID of node type {node_type} ({name}): CSID {csid} of {kind}{node}"));
+        let name = node_type_name(*node_type);
+        line(format!("    FQ-CSID of node type {node_type} ({name}): {}", fq_csid_text(held)));
     }
 }
 
@@ -90,6 +77,33 @@ fn node_type_name(node_type: u8) -> &'static str {
         5 => "PGW-U, SGW-U or UPF",
         _ => "spare",
     }
+}
+
+/// What a PDR has, without its ID.
+pub fn pdr_text(pdr: &Pdr) -> String {
+    let far = pdr.far_id.map_or("no FAR".to_string(), |far_id| format!("FAR {far_id}"));
+    let local = match &pdr.local {
+        Local::Neither => String::new(),
+        Local::Tunnel(tunnel) => format!(", {}", tunnel_text(tunnel)),
+        Local::Endpoint(id) => format!(", endpoint {id}"),
+    };
+    let (precedence, source) = (pdr.precedence, pdr.source_interface);
+    let (name, address) = (interface_name(source), address_text(pdr.address));
+    format!("precedence {precedence}, {far}, source interface {source} ({name}){local}{address}")
+}
+
+/// What an endpoint has, without its ID.
+pub fn endpoint_text(endpoint: &Endpoint) -> String {
+    format!("{}{}", tunnel_text(&endpoint.tunnel), address_text(endpoint.address))
+}
+
+/// What an FQ-CSID says, without its node type.
+pub fn fq_csid_text(held: &HeldCsid) -> String {
+    let kind = match held.node {
+        NodeId::Operator { .. } => "operator node ",
+        _ => "",
+    };
+    format!("CSID {} of {kind}{}", held.csid, node_text(&held.node))
 }
 
 fn tunnel_text(tunnel: &Tunnel) -> String {

@@ -1,0 +1,206 @@
+//! The list of a unit's sessions as `pfcp-list --json` gives it, read back into records.
+
+use std::io::{Read, Write};
+use std::net::{Ipv4Addr, Ipv6Addr};
+use std::os::unix::net::UnixStream;
+use std::time::Duration;
+
+use second::element::fq_csid::NodeId;
+use second::session::{
+    distinct_teids, Endpoint, Families, HeldCsid, Key, Local, Pdr, Session, Sessions, Tunnel,
+};
+
+use crate::json::{self, Json};
+
+/// What a list says.
+#[derive(Clone, Debug)]
+pub struct Listed {
+    pub sessions: Sessions,
+    /// Where the list contradicts itself, in words.
+    pub faults: Vec<String>,
+    /// The addresses in the replies to the peers that the list tells of.
+    pub peers: Vec<(u8, Ipv4Addr)>,
+    /// What its head says to be free of the TEIDs, and how many there are.
+    pub teids: Option<(u64, u64)>,
+}
+
+/// Reads a whole list.
+pub fn read(text: &[u8]) -> Result<Listed, String> {
+    let list = json::read(text)?;
+    let whole = "not a whole list of pfcp-list --json";
+    let written = list.member("sessions").and_then(Json::array).ok_or(whole)?;
+    let live: u64 = list.member("live_sessions").and_then(Json::number).ok_or(whole)?;
+    let (mut sessions, mut faults) = (Sessions::new(), Vec::new());
+    for (place, one) in written.iter().enumerate() {
+        let wrong = || format!("session {} of the list is not one of pfcp-list --json", place + 1);
+        let (key, session) = session(one, &mut faults).ok_or_else(wrong)?;
+        if sessions.insert(key, session).is_some() {
+            faults.push(format!("the list has {} twice", crate::words::session(key)));
+        }
+    }
+    if live != written.len() as u64 {
+        faults.push(format!("the list says {live} live sessions and has {}", written.len()));
+    }
+    let mut peers = Vec::new();
+    for one in list.member("peers").and_then(Json::array).unwrap_or(&[]) {
+        let peer: u8 = one.member("peer").and_then(Json::number).ok_or(whole)?;
+        let address = one.member("address").and_then(Json::text).ok_or(whole)?;
+        peers.push((peer, address.parse().map_err(|_| whole)?));
+        faults.extend(of_peer(peer, one, &sessions));
+    }
+    let number = |name: &str| list.member(name).and_then(Json::number::<u64>);
+    let teids = number("free_teids").zip(number("pool_size"));
+    if let Some((free, size)) = teids {
+        let held = distinct_teids(&sessions).len() as u64;
+        // A list of one peer has the whole unit's free TEIDs.
+        if peers.len() != 1 && free.checked_add(held) != Some(size) {
+            faults.push(format!(
+                "the list says {free} of {size} TEIDs free, and has {held} of them in its records"
+            ));
+        }
+    }
+    Ok(Listed { sessions, faults, peers, teids })
+}
+
+/// Where what a peer is said to have is not what its sessions have.
+fn of_peer(peer: u8, said: &Json, sessions: &Sessions) -> Vec<String> {
+    let number = |name: &str| said.member(name).and_then(Json::number::<u64>);
+    let live = second::session::count_of(sessions, peer) as u64;
+    let teids = second::session::holdings(sessions, peer) as u64;
+    let mut faults = Vec::new();
+    for (what, said, has) in
+        [("sessions", number("sessions"), live), ("TEIDs", number("teids"), teids)]
+    {
+        if said.is_some_and(|said| said != has) {
+            let said = said.unwrap_or(0);
+            faults.push(format!(
+                "the list says that peer {peer} has {said} {what}, and has {has} of it"
+            ));
+        }
+    }
+    faults
+}
+
+fn session(one: &Json, faults: &mut Vec<String>) -> Option<(Key, Session)> {
+    let peer = one.member("peer")?.number()?;
+    let seid = one.member("seid")?.text()?.parse().ok()?;
+    let key = Key { peer, seid };
+    let mut session = Session::default();
+    let mut twice = |what: String| {
+        faults.push(format!("the list has {what} of {} twice", crate::words::session(key)));
+    };
+    for record in one.member("pdrs")?.array()? {
+        let (id, pdr) = pdr(record)?;
+        if session.pdrs.insert(id, pdr).is_some() {
+            twice(format!("PDR {id}"));
+        }
+    }
+    for record in one.member("endpoints")?.array()? {
+        let id = record.member("id")?.number()?;
+        let endpoint = Endpoint { tunnel: tunnel(record)??, address: address(record)? };
+        if session.endpoints.insert(id, endpoint).is_some() {
+            twice(format!("endpoint {id}"));
+        }
+    }
+    for record in one.member("fq_csids")?.array()? {
+        let node_type = record.member("node_type")?.number()?;
+        let held = HeldCsid {
+            node: node(record.member("node")?.text()?)?,
+            csid: record.member("csid")?.number()?,
+        };
+        if session.fq_csids.insert(node_type, held).is_some() {
+            twice(format!("the FQ-CSID of node type {node_type}"));
+        }
+    }
+    Some((key, session))
+}
+
+fn pdr(record: &Json) -> Option<(u16, Pdr)> {
+    let endpoint = match record.member("endpoint_id") {
+        None => None,
+        Some(id) => Some(id.number()?),
+    };
+    let local = match (tunnel(record)?, endpoint) {
+        (None, None) => Local::Neither,
+        (Some(tunnel), None) => Local::Tunnel(tunnel),
+        (None, Some(id)) => Local::Endpoint(id),
+        (Some(_), Some(_)) => return None,
+    };
+    let far_id = match record.member("far_id") {
+        None => None,
+        Some(id) => Some(id.number()?),
+    };
+    let pdr = Pdr {
+        precedence: record.member("precedence")?.number()?,
+        far_id,
+        source_interface: record.member("source_interface")?.number()?,
+        local,
+        address: address(record)?,
+    };
+    Some((record.member("id")?.number()?, pdr))
+}
+
+/// The F-TEID of a record, if it has one; nothing at all where it is not whole.
+fn tunnel(record: &Json) -> Option<Option<Tunnel>> {
+    let parts = (record.member("teid"), record.member("ipv4"), record.member("ipv6"));
+    match parts {
+        (None, None, None) => Some(None),
+        (Some(teid), Some(v4), Some(v6)) => {
+            let families = Families { v4: v4.truth()?, v6: v6.truth()? };
+            Some(Some(Tunnel { teid: teid.number()?, families }))
+        }
+        _ => None,
+    }
+}
+
+fn address(record: &Json) -> Option<Option<Ipv4Addr>> {
+    match record.member("address") {
+        None => Some(None),
+        Some(address) => Some(Some(address.text()?.parse().ok()?)),
+    }
+}
+
+fn node(text: &str) -> Option<NodeId> {
+    if let Ok(address) = text.parse::<Ipv4Addr>() {
+        return Some(NodeId::Ipv4(address.octets()));
+    }
+    if let Ok(address) = text.parse::<Ipv6Addr>() {
+        return Some(NodeId::Ipv6(address.octets()));
+    }
+    if text.len() != 8 || !text.bytes().all(|octet| octet.is_ascii_hexdigit()) {
+        return None;
+    }
+    let word = u32::from_str_radix(text, 16).ok()?;
+    Some(NodeId::Operator { country_and_network: word >> 12, number: (word & 0xFFF) as u16 })
+}
+
+/// The longest list is that of 256 full sessions, under a mebioctet for each ten of them.
+const LONGEST: usize = 64 << 20;
+
+/// Asks a running unit for its whole list, over its control socket, as pfcp-list does.
+pub fn ask(socket: &str) -> Result<Vec<u8>, String> {
+    let told = |error: std::io::Error| match error.kind() {
+        std::io::ErrorKind::WouldBlock => "the unit does not answer".to_string(),
+        _ => crate::words::system(&error),
+    };
+    let limit = Some(Duration::from_secs(10));
+    let mut unit = UnixStream::connect(socket).map_err(told)?;
+    unit.set_read_timeout(limit).map_err(told)?;
+    unit.set_write_timeout(limit).map_err(told)?;
+    unit.write_all(b"list json\n").map_err(told)?;
+    let (mut answer, mut room) = (Vec::new(), [0; 65_536]);
+    while answer.last() != Some(&0) {
+        match unit.read(&mut room).map_err(told)? {
+            0 => return Err("the answer was cut short".to_string()),
+            got => answer.extend(&room[..got]),
+        }
+        if answer.len() > LONGEST {
+            return Err("the answer is longer than any list".to_string());
+        }
+    }
+    answer.pop();
+    match answer.strip_prefix(b"ok\n") {
+        Some(list) => Ok(list.to_vec()),
+        None => Err(String::from_utf8_lossy(&answer).lines().next().unwrap_or("").to_string()),
+    }
+}
