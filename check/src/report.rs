@@ -100,7 +100,7 @@ fn described(
 ) -> String {
     let (key, record) = difference.item;
     let (live, table) = (&verdict.history.live, &compared.sessions);
-    let sure = if difference.doubts.is_empty() { "different" } else { "perhaps different" };
+    let sure = if difference.is_doubted { "perhaps different" } else { "different" };
     let what = compared.what;
     let mut text = format!("{sure}: {}", session(key));
     let mut add = |words: String| {

@@ -30,8 +30,8 @@ pub struct Difference {
     pub item: Item,
     /// The request after which it began, if it began in the capture.
     pub since: Option<String>,
-    /// The doubts that may explain it.
-    pub doubts: Vec<String>,
+    /// Whether something that the capture does not show may explain it.
+    pub is_doubted: bool,
 }
 
 #[derive(Clone, Copy, PartialEq, Eq, Debug)]
@@ -59,68 +59,71 @@ pub fn judge(traffic: &Traffic, start: &Start, no_repeats: bool, compared: &Comp
     let setting = Setting { start, table: &compared.sessions, no_repeats };
     let history = history::follow(&setting, &history::steps(traffic, &[]), &mut |_, _, _| {});
     let of_stores = stores(traffic, start, compared);
-    let open = Open::find(traffic, &setting, &history, compared);
-    let unknown = |item: &Item| history.unknown.contains(&item.0);
+    let mut open = Open::find(traffic, &setting, &history, compared);
     let items: Vec<Item> = compare::differing(&history.live, &compared.sessions)
         .into_iter()
-        .filter(|item| !unknown(item))
+        .filter(|item| !history.unknown.contains(&item.0))
         .collect();
-    let (assumed, left) = open.best(traffic, &setting, &items);
+    open.try_out(traffic, &setting, &items);
 
-    let mut doubts: Vec<Doubt> = traffic.doubts.clone();
-    doubts.extend(history.doubts.iter().cloned());
-    doubts.extend(of_stores.doubts);
-    doubts.extend(open.doubts(&assumed, compared));
-    if traffic.exchanges.is_empty() {
-        let text = "the capture has no session request with a reply, on this port (--port) of these addresses (--peer1, --peer2)".to_string();
-        doubts.push(Doubt { packet: u64::MAX, scope: Scope::All, text });
-    }
-    doubts.retain(|doubt| match doubt.scope {
-        Scope::Session(key) => is_open(&history, doubt, key),
-        _ => true,
-    });
-    doubts.sort_by_key(|doubt| doubt.packet);
-
+    let mut doubts = [traffic.doubts.clone(), history.doubts.clone(), of_stores.doubts].concat();
+    doubts.extend(nothing_heard(traffic));
+    let of_open = open.doubts(compared);
     let began = since(traffic, &setting, &items);
     let differences: Vec<Difference> = items
         .iter()
         .map(|item| {
-            let covers =
-                |doubt: &&Doubt| doubt.scope.covers(item.0) && is_open(&history, doubt, item.0);
-            let mut doubts: Vec<String> =
-                doubts.iter().filter(covers).map(|doubt| doubt.text.clone()).collect();
             // A request without a reply explains just what it would have done.
-            if left.contains(item) {
-                doubts.retain(|text| !open.texts(&assumed, compared).contains(text));
-            }
-            Difference { item: *item, since: began.get(item).cloned(), doubts }
+            let explained = if open.left.contains(item) { &[][..] } else { &of_open };
+            let all = doubts.iter().chain(explained);
+            let is_doubted = all.into_iter().any(|doubt| doubt.covers(&history, item.0));
+            Difference { item: *item, since: began.get(item).cloned(), is_doubted }
         })
         .collect();
-
+    doubts.extend(of_open);
+    doubts.retain(|doubt| doubt.stands(&history));
+    doubts.sort_by_key(|doubt| doubt.packet);
     let mut not_known: Vec<String> = doubts.into_iter().map(|doubt| doubt.text).collect();
     not_known.extend(late(&history, &setting, compared));
+    let notes = [of_stores.notes, open.notes, answered_old(traffic)].concat();
     let faults = compared.faults.clone();
-    let is_certain = |difference: &Difference| difference.doubts.is_empty();
-    let result = if !faults.is_empty() || differences.iter().any(is_certain) {
-        Result::Different
-    } else if !differences.is_empty() || !not_known.is_empty() {
-        Result::NotKnown
-    } else {
-        Result::Same
-    };
-    let mut notes = [of_stores.notes, open.notes].concat();
-    if traffic.counts.old_answered > 0 {
-        notes.push(
-            "requests seem to be answered whose number is not newer: if the unit ran with --no-repeats, check with --no-repeats"
-                .to_string(),
-        );
-    }
+    let result = result(&faults, &differences, &not_known);
     Verdict { result, history, differences, faults, not_known, notes }
 }
 
-/// Whether a doubt still stands for a session: nothing since has told all of it.
-fn is_open(history: &History, doubt: &Doubt, key: Key) -> bool {
-    history.known_since.get(&key).is_none_or(|known| doubt.packet > *known)
+fn result(faults: &[String], differences: &[Difference], not_known: &[String]) -> Result {
+    match (faults, differences) {
+        ([], []) if not_known.is_empty() => Result::Same,
+        ([], _) if differences.iter().all(|difference| difference.is_doubted) => Result::NotKnown,
+        _ => Result::Different,
+    }
+}
+
+fn nothing_heard(traffic: &Traffic) -> Option<Doubt> {
+    let text = "the capture has no session request with a reply, on this port (--port) of these addresses (--peer1, --peer2)";
+    let doubt = || Doubt { packet: u64::MAX, scope: Scope::All, text: text.to_string() };
+    traffic.exchanges.is_empty().then(doubt)
+}
+
+fn answered_old(traffic: &Traffic) -> Vec<String> {
+    let text = "requests seem to be answered whose number is not newer: if the unit ran with --no-repeats, check with --no-repeats";
+    (traffic.counts.old_answered > 0).then(|| text.to_string()).into_iter().collect()
+}
+
+impl Doubt {
+    /// Whether it still stands for a session that it is about: nothing since has told all of it.
+    fn covers(&self, history: &History, key: Key) -> bool {
+        let known = history.known_since.get(&key);
+        self.scope.covers(key) && known.is_none_or(|known| self.packet > *known)
+    }
+
+    /// Whether it still stands at all.
+    fn stands(&self, history: &History) -> bool {
+        match self.scope {
+            Scope::Session(key) => self.covers(history, key),
+            Scope::All | Scope::Peer(_) => true,
+        }
+    }
 }
 
 /// Sessions that are older than the capture, where nobody says what lived then.
@@ -306,7 +309,12 @@ fn key_of(peer: u8, message: &[u8]) -> Option<Key> {
 
 /// The requests without a reply that would change the end if they had been accepted.
 struct Open<'a> {
+    /// Each with a reply that accepts it.
     requests: Vec<(&'a Request, Vec<u8>)>,
+    /// The places of those that the table seems to have accepted.
+    assumed: Vec<usize>,
+    /// What differs even so.
+    left: BTreeSet<Item>,
     notes: Vec<String>,
 }
 
@@ -339,75 +347,62 @@ impl<'a> Open<'a> {
                 notes.push(format!("{} without a reply: {why}", words::count(number, "request")));
             }
         }
-        Open { requests, notes }
+        Open { requests, assumed: Vec::new(), left: BTreeSet::new(), notes }
     }
 
-    /// Which of them the table seems to have accepted, and what differs even so.
-    fn best(
-        &self,
-        traffic: &Traffic,
-        setting: &Setting,
-        items: &[Item],
-    ) -> (Vec<usize>, BTreeSet<Item>) {
-        let (mut best, mut left) = (Vec::new(), items.iter().copied().collect::<BTreeSet<Item>>());
+    /// Finds out which of them the table seems to have accepted: one after the other, as long as less differs with it.
+    fn try_out(&mut self, traffic: &Traffic, setting: &Setting, items: &[Item]) {
         if self.requests.len() > MOST_TRIED {
-            return (best, BTreeSet::new());
+            return;
         }
-        let mut least = weight(&left, setting);
+        self.left = items.iter().copied().collect();
+        let mut least = weight(&self.left, setting);
         for place in 0..self.requests.len() {
-            if left.is_empty() {
-                break;
-            }
-            let tried: Vec<usize> = best.iter().copied().chain([place]).collect();
-            let assumed: Vec<(&Request, &[u8])> =
-                tried.iter().map(|at| (self.requests[*at].0, &self.requests[*at].1[..])).collect();
-            let steps = history::steps(traffic, &assumed);
-            let with = history::follow(setting, &steps, &mut |_, _, _| {});
-            let now: BTreeSet<Item> = compare::differing(&with.live, setting.table)
-                .into_iter()
-                .filter(|item| !with.unknown.contains(&item.0))
-                .collect();
-            let weight = weight(&now, setting);
+            let tried: Vec<usize> = self.assumed.iter().copied().chain([place]).collect();
+            let left = self.left_with(traffic, setting, &tried);
+            let weight = weight(&left, setting);
             if weight < least {
-                (best, left, least) = (tried, now, weight);
+                (self.assumed, self.left, least) = (tried, left, weight);
             }
         }
-        (best, left)
     }
 
-    fn text(&self, place: usize, assumed: &[usize], compared: &Compared) -> String {
-        let request = self.requests[place].0;
-        let stored = compared.stores.as_ref().and_then(|stores| {
-            let store = &stores[usize::from(request.peer) - 1];
-            store.iter().find(|entry| entry.message == request.octets)
-        });
-        let stored = stored.map_or(String::new(), |entry| match cause_of(&entry.reply) {
-            Some(cause) => format!(" and its store of repeats has the reply, cause {cause}"),
-            None => String::new(),
-        });
-        let has = if assumed.contains(&place) { "had" } else { "had not" };
-        format!(
-            "{}: no reply in the capture, so from there on the wire may be otherwise; the {} is as if it {has} been accepted{stored}",
-            words::request(request),
-            compared.what
-        )
+    /// What differs with some of them accepted.
+    fn left_with(&self, traffic: &Traffic, setting: &Setting, tried: &[usize]) -> BTreeSet<Item> {
+        let requests = tried.iter().map(|place| &self.requests[*place]);
+        let assumed: Vec<(&Request, &[u8])> =
+            requests.map(|(request, reply)| (*request, &reply[..])).collect();
+        let steps = history::steps(traffic, &assumed);
+        let with = history::follow(setting, &steps, &mut |_, _, _| {});
+        let differing = compare::differing(&with.live, setting.table).into_iter();
+        differing.filter(|item| !with.unknown.contains(&item.0)).collect()
     }
 
-    fn texts(&self, assumed: &[usize], compared: &Compared) -> Vec<String> {
-        (0..self.requests.len()).map(|place| self.text(place, assumed, compared)).collect()
+    fn doubts(&self, compared: &Compared) -> Vec<Doubt> {
+        let doubt = |(place, (request, _)): (usize, &(&Request, Vec<u8>))| {
+            let scope = request.key().map_or(Scope::Peer(request.peer), Scope::Session);
+            let text = unanswered(request, self.assumed.contains(&place), compared);
+            Doubt { packet: request.number, scope, text }
+        };
+        self.requests.iter().enumerate().map(doubt).collect()
     }
+}
 
-    fn doubts(&self, assumed: &[usize], compared: &Compared) -> Vec<Doubt> {
-        let texts = self.texts(assumed, compared);
-        self.requests
-            .iter()
-            .zip(texts)
-            .map(|((request, _), text)| {
-                let scope = request.key().map_or(Scope::Peer(request.peer), Scope::Session);
-                Doubt { packet: request.number, scope, text }
-            })
-            .collect()
-    }
+/// What is said of a request without a reply.
+fn unanswered(request: &Request, is_assumed: bool, compared: &Compared) -> String {
+    let stored = compared.stores.as_ref().and_then(|stores| {
+        let store = &stores[usize::from(request.peer) - 1];
+        store.iter().find(|entry| entry.message == request.octets)
+    });
+    let stored = stored.and_then(|entry| cause_of(&entry.reply)).map_or(String::new(), |cause| {
+        format!(" and its store of repeats has the reply, cause {cause}")
+    });
+    let has = if is_assumed { "had" } else { "had not" };
+    format!(
+        "{}: no reply in the capture, so from there on the wire may be otherwise; the {} is as if it {has} been accepted{stored}",
+        words::request(request),
+        compared.what
+    )
 }
 
 /// How much differs: records, and those of sessions that only the table has.
