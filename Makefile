@@ -5,7 +5,7 @@ DESTDIR =
 # Where settings are: not under the prefixes that are the system's.
 SYSCONFDIR = $(if $(filter /usr /usr/local,$(PREFIX)),/etc,$(PREFIX)/etc)
 
-# the archive, the unit, pfcp-list and pfcp-restore; only what has changed since
+# the archive, the unit, pfcp-list, pfcp-restore and pfcp-check; only what has changed since
 all:
 	@scripts/build
 
@@ -77,7 +77,7 @@ clean:
 
 # takes away what is proved too, and what cargo has built
 distclean: clean
-	@rm -rf target second/target bench/ordinary/target tests/differential/target
+	@rm -rf target second/target check/target bench/ordinary/target tests/differential/target
 
 # these lines; CC, CFLAGS, LDFLAGS and HARDENING are heeded
 help:

@@ -51,6 +51,7 @@ need_python() {
     printf '%s: the tests need 3.9 or newer\n' "$(python3 --version)" >&2
     return 1
 }
+need_tcpdump() { need tcpdump 'captures of the loopback interface are taken by it (Debian: apt-get install tcpdump)'; }
 need_valgrind() { need valgrind 'the memory checks need it (Debian: valgrind)'; }
 
 # quietly COMMAND..: runs a command and prints what it says only if it fails
@@ -255,6 +256,16 @@ build_unit() {
     find_archive aloud && compile_unit
 }
 build_all() { build_unit && build_restore aloud; }
+# build_check: builds what has changed of pfcp-check, which is in Rust, and sets check_file; leaves it out, and says so, where there is no cargo
+build_check() {
+    check_file=
+    if ! need_cargo; then
+        printf 'pfcp-check is left out\n' >&2
+        return
+    fi
+    quietly cargo build --release --offline --manifest-path check/Cargo.toml || return 1
+    check_file=check/target/release/pfcp-check
+}
 
 # version: the version, which stands in the header; soname: the name that a program asks the dynamic linker for. Before version 1 every
 # minor number is another interface.
@@ -304,6 +315,22 @@ take_counts() {
         failed=$((failed + 1))
         printf 'failed: %s did not count its tests (exit status %s)\n' "$3" "$2"
     fi
+}
+
+# take_cargo_counts FILE STATUS WHAT: adds the counts of the test programs that cargo has run: 'test result: ok. N passed; M failed; ..'
+take_cargo_counts() {
+    local good bad counted=0 sum=0
+    while read -r good bad; do
+        counted=$((counted + good + bad))
+        passed=$((passed + good))
+        failed=$((failed + bad))
+        sum=$((sum + bad))
+    done < <(sed -n 's/^test result: [a-zA-Z]*\. \([0-9]*\) passed; \([0-9]*\) failed;.*/\1 \2/p' "$1")
+    if [ "$2" -ne 0 ] || [ "$counted" -eq 0 ]; then
+        cat "$1"
+        [ "$sum" -gt 0 ] || failed=$((failed + 1))
+    fi
+    printf '%s: %s run, %s failed\n' "$3" "$counted" "$sum"
 }
 
 # finish: the last line of a test script, and its exit status
