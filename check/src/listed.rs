@@ -1,5 +1,6 @@
 //! The list of a unit's sessions as `pfcp-list --json` gives it, read back into records.
 
+use std::collections::BTreeSet;
 use std::io::{Read, Write};
 use std::net::{Ipv4Addr, Ipv6Addr};
 use std::os::unix::net::UnixStream;
@@ -20,8 +21,6 @@ pub struct Listed {
     pub faults: Vec<String>,
     /// The addresses in the replies to the peers that the list tells of.
     pub peers: Vec<(u8, Ipv4Addr)>,
-    /// What its head says to be free of the TEIDs, and how many there are.
-    pub teids: Option<(u64, u64)>,
 }
 
 /// Reads a whole list.
@@ -48,18 +47,33 @@ pub fn read(text: &[u8]) -> Result<Listed, String> {
         peers.push((peer, address.parse().map_err(|_| whole)?));
         faults.extend(of_peer(peer, one, &sessions));
     }
+    faults.extend(of_pools(&list, &sessions, peers.len() != 1));
+    Ok(Listed { sessions, faults, peers })
+}
+
+/// Where what the head says of the pools does not fit the records. A list of one peer has the whole unit's pools, of which
+/// another peer may hold some. Which addresses are the pool's is not said: the records have as many at least.
+fn of_pools(list: &Json, sessions: &Sessions, is_whole: bool) -> Vec<String> {
     let number = |name: &str| list.member(name).and_then(Json::number::<u64>);
-    let teids = number("free_teids").zip(number("pool_size"));
-    if let Some((free, size)) = teids {
-        let held = distinct_teids(&sessions).len() as u64;
-        // A list of one peer has the whole unit's free TEIDs.
-        if peers.len() != 1 && free.checked_add(held) != Some(size) {
-            faults.push(format!(
-                "the list says {free} of {size} TEIDs free, and has {held} of them in its records"
-            ));
-        }
+    let held = |free: &str, size: &str| number(size)?.checked_sub(number(free)?);
+    let teids = distinct_teids(sessions).len() as u64;
+    let addresses: BTreeSet<Ipv4Addr> =
+        sessions.values().flat_map(|session| session.addresses()).collect();
+    let mut faults = Vec::new();
+    let of_pool = held("free_teids", "pool_size");
+    if of_pool.is_none_or(|held| held < teids || is_whole && held > teids) {
+        faults.push(format!(
+            "the free TEIDs of the list are not the pool less the {teids} of its records"
+        ));
     }
-    Ok(Listed { sessions, faults, peers, teids })
+    let of_pool = held("free_addresses", "address_pool_size");
+    if of_pool.is_none_or(|held| is_whole && held > addresses.len() as u64) {
+        faults.push(
+            "the free addresses of the list are too few for the addresses of its records"
+                .to_string(),
+        );
+    }
+    faults
 }
 
 /// Where what a peer is said to have is not what its sessions have.

@@ -199,6 +199,29 @@ fn forms(night: &Recorded) -> [Vec<u8>; 2] {
     [capture(&night.sent), section(true, &[113]).into_iter().chain(blocks).collect()]
 }
 
+/// Where a file ends too early, or goes on with nonsense, it is said, also where nothing else tells that something is
+/// missing.
+#[test]
+fn a_cut_and_damage_are_told() {
+    let (mut night, folder) = (night(), Folder::new());
+    let table = night.table();
+    // A heartbeat, which is no request of a session.
+    night.sent.push(to_unit(1, &[0x20, 1, 0, 12, 0, 0, 9, 0, 0, 0x60, 0, 4, 0, 0, 0, 0], 900));
+    for file in forms(&night) {
+        assert_eq!(check(&folder, &file, &table).status, 0);
+        let done = check(&folder, &file[..file.len() - 5], &table);
+        assert_eq!(done.status, 3, "{}", done.text);
+        assert!(
+            done.text.contains("not known: the file ends in the middle of a packet\n"),
+            "{}",
+            done.text
+        );
+        let done = check(&folder, &[&file[..], &[0xFF; 64]].concat(), &table);
+        assert_eq!(done.status, 3, "{}", done.text);
+        assert!(done.text.contains("not known: the file is damaged at octet "), "{}", done.text);
+    }
+}
+
 /// Cut at every octet: never the same where the table lies; a true one is never called different. What is missing of
 /// the night the table's stores tell.
 #[test]

@@ -81,6 +81,7 @@ fn lies_in_a_list() {
     for (old, new) in [
         ("\"live_sessions\":3", "\"live_sessions\":2"),
         ("\"free_teids\":29", "\"free_teids\":30"),
+        ("\"free_addresses\":8", "\"free_addresses\":7"),
         ("\"precedence\":100", "\"precedence\":101"),
         ("\"seid\":\"7\"", "\"seid\":\"8\""),
         ("\"peer\":2", "\"peer\":1"),
@@ -99,6 +100,54 @@ fn lies_in_a_list() {
     }
     let twice = json.replacen("\"pdrs\":[{", "\"pdrs\":[{\"id\":1,\"precedence\":100,\"source_interface\":0,\"teid\":4096,\"ipv4\":true,\"ipv6\":false},{", 1);
     has(&listed(&twice).text, &["wrong: the list has PDR 1 of session 1 of peer 1 twice\n"]);
+}
+
+/// Wire and table part with the first request that the table does not follow, not with the last.
+#[test]
+fn where_they_part() {
+    let folder = Folder::new();
+    let mut unit = Recorded::new(settings());
+    let update = |sequence: u32, precedence: u8| {
+        let parts = [ie(56, &[0, 1]), ie(29, &[0, 0, 0, precedence])].concat();
+        modification(1, sequence, &[ie(9, &parts)])
+    };
+    unit.ask(1, &establishment(1, 1, &[create_pdr(1)]));
+    unit.ask(1, &update(2, 7));
+    let told = unit.unit.sessions().clone();
+    unit.ask(1, &update(3, 8));
+    unit.ask(1, &update(4, 7));
+    unit.ask(1, &update(5, 8));
+    unit.ask(1, &update(6, 9));
+    let done = check(&folder, &capture(&unit.sent), &unit.file(&told));
+    assert_eq!(done.status, 1);
+    has(&done.text, &["\n    since packet 9, 2027-01-15T08:00:00.250000Z, peer 1, Session Modification Request, SEID 1, sequence 5\n"]);
+}
+
+/// Every octet of a table's sessions and of a list's, changed by itself: each is a lie, and each is found.
+#[test]
+fn every_octet_of_a_table_and_a_list() {
+    let (night, folder) = (night(), Folder::new());
+    let table = night.table();
+    let mut options = options(&folder, &capture(&night.sent), &table);
+    let Other::Table(path) = &options.other else { unreachable!() };
+    for at in second::layout::COUNT..second::layout::length(LIMIT) {
+        let mut told = table.clone();
+        told[at] ^= 1 << (at % 8);
+        std::fs::write(path, told).unwrap();
+        assert_eq!(status(&options), 1, "octet {at} of the table");
+    }
+    let list = list::json(night.unit.settings(), night.unit.sessions()).into_bytes();
+    let first = list.windows(10).position(|part| part == b"\"sessions\"").unwrap();
+    options.other = Other::List(folder.write("list", &list));
+    assert_eq!(status(&options), 0);
+    for at in first..list.len() - 1 {
+        for bit in 0..8 {
+            let mut told = list.clone();
+            told[at] ^= 1 << bit;
+            folder.write("list", &told);
+            assert!(matches!(status(&options), 1 | 2), "bit {bit} of octet {at} of the list");
+        }
+    }
 }
 
 /// Octets of a table that no record explains.
@@ -235,7 +284,7 @@ fn without_repeats() {
     }
     unit.stores = [vec![], vec![]];
     let mut options =
-        options(&folder, &capture(&unit.sent), &unit.table()[..second::layout::length(16)]);
+        options(&folder, &capture(&unit.sent), &unit.table()[..second::layout::length(LIMIT)]);
     let done = check::run(&options).unwrap();
     assert_ne!(done.status, 0, "{}", done.text);
     options.no_repeats = true;

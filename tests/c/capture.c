@@ -77,8 +77,8 @@ static bool take(int loopback, FILE *file, unsigned port)
     static uint8_t packet[SNAP_LENGTH];
     struct sockaddr_ll from = {.sll_family = AF_PACKET};
     socklen_t length = sizeof from;
-    ssize_t got = recvfrom(loopback, packet, sizeof packet, MSG_DONTWAIT, (struct sockaddr *)&from,
-                           &length);
+    ssize_t got =
+        recvfrom(loopback, packet, sizeof packet, MSG_DONTWAIT, (struct sockaddr *)&from, &length);
 
     if (got < 0)
         return false;

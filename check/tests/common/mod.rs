@@ -253,11 +253,21 @@ pub struct Recorded {
     pub clock: u64,
 }
 
+/// The session limit of the usual settings.
+pub const LIMIT: u16 = 8;
+
 pub fn settings() -> Settings {
     let peer = |octet, limit| Peer { address: [192, 0, 2, octet], guarantee: 2, limit };
     let addresses = ("10.45.0.1".parse().unwrap(), 8);
-    Settings::make([192, 0, 2, 9], &[], (4096, 32), addresses, 16, [peer(1, 32), peer(2, 20)])
-        .unwrap()
+    Settings::make(
+        [192, 0, 2, 9],
+        &[],
+        (4096, 32),
+        addresses,
+        LIMIT.into(),
+        [peer(1, 32), peer(2, 20)],
+    )
+    .unwrap()
 }
 
 impl Recorded {
