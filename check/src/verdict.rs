@@ -226,8 +226,8 @@ fn stores(traffic: &Traffic, start: &Start, compared: &Compared) -> OfStores {
                 text,
             }));
         }
-        said.notes.extend(age(peer, entries, &own));
     }
+    said.notes.extend(age(traffic, stores));
     said
 }
 
@@ -275,19 +275,29 @@ fn missing(peer: u8, entry: &Entry, own: &[&Exchange]) -> Option<String> {
     })
 }
 
-/// Where the table is older than the end of the capture.
-fn age(peer: u8, entries: &[Entry], own: &[&Exchange]) -> Option<String> {
-    let entry = entries.last()?;
-    let last = own.iter().rposition(|exchange| {
-        exchange.request.octets == entry.message && exchange.reply.octets == entry.reply
-    })?;
-    let is_stored =
-        |exchange: &Exchange| entries.iter().any(|entry| entry.message == exchange.request.octets);
-    let later = own[last + 1..].iter().filter(|exchange| !is_stored(exchange)).count();
-    let packet = own[last].reply.number;
+/// Where the table is older than the end of the capture: it is of one moment, after the last request that one of its
+/// stores has.
+fn age(traffic: &Traffic, stores: &[Vec<Entry>; 2]) -> Option<String> {
+    let store = |exchange: &Exchange| &stores[usize::from(exchange.request.peer) - 1];
+    let is = |entry: &Entry, exchange: &Exchange| entry.message == exchange.request.octets;
+    // Later ones are repeats of it.
+    let first = |entries: &Vec<Entry>| {
+        let last = entries.last()?;
+        let is_last = |exchange: &&Exchange| {
+            std::ptr::eq(store(exchange), entries)
+                && is(last, exchange)
+                && last.reply == exchange.reply.octets
+        };
+        Some(traffic.exchanges.iter().find(is_last)?.reply.number)
+    };
+    let packet = stores.iter().filter_map(first).max()?;
+    let is_new = |exchange: &&Exchange| {
+        exchange.reply.number > packet && !store(exchange).iter().any(|entry| is(entry, exchange))
+    };
+    let later = traffic.exchanges.iter().filter(is_new).count();
     (later > 0).then(|| {
         format!(
-            "the table is as old as packet {packet}: after it peer {peer} has {} that its store of repeats does not have. If it was copied then, compare with --until {packet}",
+            "the table is as old as packet {packet}: its stores of repeats do not have the {} after it. If it was copied then, compare with --until {packet}",
             words::count(later, "answered request")
         )
     })

@@ -254,7 +254,7 @@ fn until_a_packet() {
     has(
         &done.text,
         &[
-            "\nnote: the table is as old as packet 28: after it peer 1 has 1 answered request that its store of repeats does not have. If it was copied then, compare with --until 28\n",
+            "\nnote: the table is as old as packet 28: its stores of repeats do not have the 1 answered request after it. If it was copied then, compare with --until 28\n",
             "\n    it is not live by the wire and stands in the table, with\n",
             "\n    since packet 29, 2027-01-15T08:00:00.800000Z, peer 1, Session Deletion Request, SEID 1, sequence 8\n",
         ],

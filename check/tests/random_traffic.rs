@@ -199,6 +199,29 @@ fn packets_in_another_order() {
     }
 }
 
+/// A table that was copied during the capture is the same at the packet that is said, of both peers.
+#[test]
+fn a_table_that_was_copied_before_the_end() {
+    let (mut generator, mut random) = (Generator::new(47), Random::new(48));
+    let folder = Folder::new();
+    let mut told = 0;
+    for _ in 0..SEQUENCES {
+        let (recorded, tables) = count(&mut generator, &mut random);
+        let file = capture(&recorded.sent);
+        for _ in 0..8 {
+            let (_, table) = random.pick(&tables[10..]);
+            let mut options = options(&folder, &file, &table);
+            let text = check::run(&options).unwrap().text;
+            let Some((_, rest)) = text.split_once(" compare with --until ") else { continue };
+            options.until = rest.lines().next().unwrap().parse().unwrap();
+            let done = check::run(&options).unwrap();
+            assert_eq!(done.status, 0, "{}", done.text);
+            told += 1;
+        }
+    }
+    assert!(told > 40, "{told}");
+}
+
 /// A capture that began late, with the table of that moment, or with one copied a little later.
 #[test]
 fn a_capture_that_began_late() {

@@ -310,7 +310,10 @@ pub struct Folder(pub PathBuf);
 impl Folder {
     pub fn new() -> Folder {
         let number = FOLDERS.fetch_add(1, Ordering::Relaxed);
-        let path = std::env::temp_dir().join(format!("pfcp-check-{}-{number}", std::process::id()));
+        // In memory where that can be had: thousands of files are written again and again.
+        let memory = PathBuf::from("/dev/shm");
+        let base = if memory.is_dir() { memory } else { std::env::temp_dir() };
+        let path = base.join(format!("pfcp-check-{}-{number}", std::process::id()));
         std::fs::create_dir_all(&path).unwrap();
         Folder(path)
     }
