@@ -191,6 +191,8 @@ pub struct Counts {
     pub copies: usize,
     /// Messages of the types 14, 50, 52 and 54 that no unit reads: outcomes 3 to 5.
     pub unread: usize,
+    /// Repeats with an old number that got their old reply again, as the unit gives where it is owed.
+    pub owed: usize,
     /// Replies without a request to which one with an old number could belong.
     pub old_answered: usize,
     /// PFCP messages of other types.
@@ -232,6 +234,15 @@ impl Matching {
         let is_other = |one: &Request| reply.fits(one) && one.octets != request.octets;
         let is_sure = !self.asked.iter().any(is_other);
         Some((request, is_sure))
+    }
+
+    /// Takes out a repeat with an old number whose request got just this reply before.
+    fn owed_by(&mut self, reply: &Reply) -> Option<Request> {
+        let had = |request: &Request| {
+            self.used.iter().any(|(asked, got)| *asked == request.octets && *got == reply.octets)
+        };
+        let place = self.old.iter().position(had)?;
+        self.old.remove(place)
     }
 }
 
@@ -368,6 +379,7 @@ impl Listener {
             }
             // A copy of a reply, as where packets are captured on two interfaces, or that to a repeat.
             None if self.stores[usize::from(peer) - 1].has_reply(&reply.octets) => {}
+            None if matching.owed_by(&reply).is_some() => self.traffic.counts.owed += 1,
             None => matching.replied.push_back(reply),
         }
     }

@@ -6,7 +6,8 @@
 //! * `exchange`: the requests of both peers, each with its reply.
 //! * `repeats`: the unit's store of repeated requests, as the wire tells it.
 //! * `history`: the live set through them, and what the capture leaves open of it.
-//! * `stored`, `json`, `listed`: a stored table; a list of a unit's sessions.
+//! * `stored`, `sha256`: a stored table of either form.
+//! * `json`, `listed`: a list of a unit's sessions.
 //! * `compare`: two live sets, record by record.
 //! * `verdict`: the same, different, or not to be known.
 //! * `options`, `report`, `words`: the command line, and what is printed.
@@ -22,6 +23,7 @@ pub mod listed;
 pub mod options;
 pub mod repeats;
 pub mod report;
+pub mod sha256;
 pub mod stored;
 pub mod verdict;
 pub mod words;
@@ -79,8 +81,8 @@ fn other(options: &Options) -> Result<Result<(Compared, Unit), Done>, String> {
         Other::Table(path) => match stored::read(&octets(path)?) {
             Ok(stored) => {
                 let addresses = given.or_else(|| signalling(&stored));
-                let Stored { sessions, faults, stores, .. } = stored;
-                let compared = Compared { what: "table", sessions, faults, stores };
+                let Stored { sessions, faults, stores, owed, .. } = stored;
+                let compared = Compared { what: "table", sessions, faults, stores, owed };
                 return Ok(Ok((compared, Unit { port: options.port, addresses })));
             }
             Err(NotStored::NoTable(why)) => return Err(format!("{path}: {why}")),
@@ -109,7 +111,7 @@ fn other(options: &Options) -> Result<Result<(Compared, Unit), Done>, String> {
         _ => None,
     };
     let (sessions, faults) = (listed.sessions, listed.faults);
-    let compared = Compared { what: "list", sessions, faults, stores: None };
+    let compared = Compared { what: "list", sessions, faults, stores: None, owed: Vec::new() };
     Ok(Ok((compared, Unit { port: options.port, addresses: given.or(addresses) })))
 }
 

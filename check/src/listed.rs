@@ -7,6 +7,7 @@ use std::os::unix::net::UnixStream;
 use std::time::Duration;
 
 use second::element::fq_csid::NodeId;
+use second::list;
 use second::session::{
     distinct_teids, Endpoint, Families, HeldCsid, Key, Local, Pdr, Session, Sessions, Tunnel,
 };
@@ -99,21 +100,23 @@ fn session(one: &Json, faults: &mut Vec<String>) -> Option<(Key, Session)> {
     let peer = one.member("peer")?.number()?;
     let seid = one.member("seid")?.text()?.parse().ok()?;
     let key = Key { peer, seid };
+    let own = crate::words::session(key);
     let mut session = Session::default();
-    let mut twice = |what: String| {
-        faults.push(format!("the list has {what} of {} twice", crate::words::session(key)));
-    };
+    named(one, "seid_hex", &format!("0x{seid:x}"), &own, faults)?;
     for record in one.member("pdrs")?.array()? {
         let (id, pdr) = pdr(record)?;
+        let (what, name) =
+            (format!("PDR {id} of {own}"), list::interface_name(pdr.source_interface));
+        named(record, "source_interface_name", name, &what, faults)?;
         if session.pdrs.insert(id, pdr).is_some() {
-            twice(format!("PDR {id}"));
+            faults.push(format!("the list has {what} twice"));
         }
     }
     for record in one.member("endpoints")?.array()? {
         let id = record.member("id")?.number()?;
         let endpoint = Endpoint { tunnel: tunnel(record)??, address: address(record)? };
         if session.endpoints.insert(id, endpoint).is_some() {
-            twice(format!("endpoint {id}"));
+            faults.push(format!("the list has endpoint {id} of {own} twice"));
         }
     }
     for record in one.member("fq_csids")?.array()? {
@@ -122,11 +125,28 @@ fn session(one: &Json, faults: &mut Vec<String>) -> Option<(Key, Session)> {
             node: node(record.member("node")?.text()?)?,
             csid: record.member("csid")?.number()?,
         };
+        let what = format!("the FQ-CSID of node type {node_type} of {own}");
+        named(record, "node_type_name", list::node_type_name(node_type), &what, faults)?;
         if session.fq_csids.insert(node_type, held).is_some() {
-            twice(format!("the FQ-CSID of node type {node_type}"));
+            faults.push(format!("the list has {what} twice"));
         }
     }
     Some((key, session))
+}
+
+/// A member that says in other words what a number says: a fault where it does not, nothing where it is not there.
+fn named(
+    record: &Json,
+    member: &str,
+    words: &str,
+    what: &str,
+    faults: &mut Vec<String>,
+) -> Option<()> {
+    let said = record.member(member)?.text()?;
+    if said != words {
+        faults.push(format!("the list has \"{said}\" and not \"{words}\" as {member} of {what}"));
+    }
+    Some(())
 }
 
 fn pdr(record: &Json) -> Option<(u16, Pdr)> {

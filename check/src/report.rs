@@ -40,6 +40,7 @@ pub fn report(
         (traffic.open.len(), "requests without a reply"),
         (traffic.orphans.len(), "replies without a request"),
         (counts.copies, "repeats without a reply of their own"),
+        (counts.owed, "repeats older than eight requests, answered as before"),
         (counts.unread, "messages that no unit reads (outcomes 3 to 5)"),
         (counts.damaged, "damaged packets, whose check sum or length is wrong"),
         (counts.put_together, "datagrams put together from fragments"),

@@ -14,6 +14,8 @@ use crate::compare::{self, Item};
 use crate::exchange::{cause_of, Doubt, Exchange, Request, Scope, Traffic};
 use crate::history::{self, History, Setting, Start, Step};
 use crate::repeats::{number_of, Repeats};
+use crate::sha256;
+use crate::stored::Owed;
 use crate::words;
 
 /// What the live set is compared with.
@@ -24,6 +26,8 @@ pub struct Compared {
     /// What is wrong with it by itself.
     pub faults: Vec<String>,
     pub stores: Option<[Vec<Entry>; 2]>,
+    /// The replies that are owed.
+    pub owed: Vec<Owed>,
 }
 
 pub struct Difference {
@@ -404,9 +408,14 @@ fn unanswered(request: &Request, is_assumed: bool, compared: &Compared) -> Strin
         let store = &stores[usize::from(request.peer) - 1];
         store.iter().find(|entry| entry.message == request.octets)
     });
-    let stored = stored.and_then(|entry| cause_of(&entry.reply)).map_or(String::new(), |cause| {
-        format!(" and its store of repeats has the reply, cause {cause}")
+    let stored = stored.map(|entry| ("its store of repeats has the reply", &entry.reply));
+    let stored = stored.or_else(|| {
+        let digest = sha256::digest(&request.octets);
+        let is_own = |owed: &&Owed| owed.peer == request.peer && owed.request == digest;
+        Some(("the reply is owed in its file", &compared.owed.iter().find(is_own)?.reply))
     });
+    let stored = stored.and_then(|(has, reply)| Some((has, cause_of(reply)?)));
+    let stored = stored.map_or(String::new(), |(has, cause)| format!(" and {has}, cause {cause}"));
     let has = if is_assumed { "had" } else { "had not" };
     format!(
         "{}: no reply in the capture, so from there on the wire may be otherwise; the {} is as if it {has} been accepted{stored}",

@@ -49,7 +49,7 @@ fn the_accident() {
             "\nwrong: the table is broken: session 7 of peer 1: PDRs share a TEID against the rule\n",
             "\ndifferent: session 1 of peer 1\n    \
              PDR 2 by the wire: not there\n    \
-             PDR 2 in the table: precedence 100, no FAR, source interface 0, TEID 4097 (IPv4)\n    \
+             PDR 2 in the table: precedence 100, no FAR, source interface 0 (access), TEID 4097 (IPv4)\n    \
              TEID 4097 is by the wire that of session 7 of peer 1, PDR 1\n    \
              since packet 23, 2027-01-15T08:00:00.650000Z, peer 1, Session Modification Request, SEID 1, sequence 6\n",
             "\nDIFFERENT: the table is not what lives by the wire\n",
@@ -88,7 +88,12 @@ fn lies_in_a_list() {
         ("\"teid\":4096", "\"teid\":4099"),
         ("\"ipv6\":false", "\"ipv6\":true"),
         ("\"source_interface\":0", "\"source_interface\":1"),
-        ("\"fq_csids\":[]", "\"fq_csids\":[{\"node_type\":5,\"node\":\"3FF71005\",\"csid\":9}]"),
+        ("\"seid_hex\":\"0x7\"", "\"seid_hex\":\"0x8\""),
+        ("\"source_interface_name\":\"access\"", "\"source_interface_name\":\"core\""),
+        (
+            "\"fq_csids\":[]",
+            "\"fq_csids\":[{\"node_type\":5,\"node_type_name\":\"PGW-U, SGW-U or UPF\",\"node\":\"3FF71005\",\"csid\":9}]",
+        ),
         (
             "\"endpoints\":[]",
             "\"endpoints\":[{\"id\":1,\"teid\":4100,\"ipv4\":true,\"ipv6\":false}]",
@@ -98,7 +103,7 @@ fn lies_in_a_list() {
         let done = listed(&json.replacen(old, new, 1));
         assert_eq!(done.status, 1, "{new}: {}", done.text);
     }
-    let twice = json.replacen("\"pdrs\":[{", "\"pdrs\":[{\"id\":1,\"precedence\":100,\"source_interface\":0,\"teid\":4096,\"ipv4\":true,\"ipv6\":false},{", 1);
+    let twice = json.replacen("\"pdrs\":[{", "\"pdrs\":[{\"id\":1,\"precedence\":100,\"source_interface\":0,\"source_interface_name\":\"access\",\"teid\":4096,\"ipv4\":true,\"ipv6\":false},{", 1);
     has(&listed(&twice).text, &["wrong: the list has PDR 1 of session 1 of peer 1 twice\n"]);
 }
 
@@ -127,13 +132,13 @@ fn where_they_part() {
 #[test]
 fn every_octet_of_a_table_and_a_list() {
     let (night, folder) = (night(), Folder::new());
-    let table = night.table();
-    let mut options = options(&folder, &capture(&night.sent), &table);
+    let table = night.table_of(night.unit.sessions());
+    let mut options = options(&folder, &capture(&night.sent), &night.table());
     let Other::Table(path) = &options.other else { unreachable!() };
-    for at in second::layout::COUNT..second::layout::length(LIMIT) {
+    for at in second::layout::COUNT..table.len() {
         let mut told = table.clone();
         told[at] ^= 1 << (at % 8);
-        std::fs::write(path, told).unwrap();
+        std::fs::write(path, night.file_with(&told)).unwrap();
         assert_eq!(status(&options), 1, "octet {at} of the table");
     }
     let list = list::json(night.unit.settings(), night.unit.sessions()).into_bytes();
@@ -155,7 +160,8 @@ fn every_octet_of_a_table_and_a_list() {
 fn hidden_octets() {
     let (night, folder) = (night(), Folder::new());
     let file = capture(&night.sent);
-    let table = night.table();
+    let mut table = night.table_of(night.unit.sessions());
+    table.extend(night.stores_part());
     for (at, said) in [
         (
             second::layout::SLOTS + 100,
@@ -169,9 +175,134 @@ fn hidden_octets() {
     ] {
         let mut told = table.clone();
         told[at] = 9;
-        let done = check(&folder, &file, &told);
-        assert_eq!(done.status, 1, "{at}: {}", done.text);
-        has(&done.text, &[said]);
+        let (own, stores) = told.split_at(second::layout::length(LIMIT));
+        // Of the form before, and sealed again by whoever told it.
+        for told in [told.clone(), sealed(night.unit.settings(), own, stores, &[])] {
+            let done = check(&folder, &file, &told);
+            assert_eq!(done.status, 1, "{at}: {}", done.text);
+            has(&done.text, &[said]);
+        }
+    }
+    // Settings before the table that are not its own, and a number of control planes that no unit has.
+    for at in 28..100 {
+        let mut told = night.table();
+        told.truncate(told.len() - 32);
+        told[at] ^= 4;
+        let done = check(&folder, &file, &seal(told));
+        assert_eq!(done.status, 1, "octet {at} of the file");
+        has(&done.text, &["wrong: the settings before the table are not the table's\n"]);
+    }
+}
+
+/// The form before, with its stores and without, is read too.
+#[test]
+fn the_form_before() {
+    let (night, folder) = (night(), Folder::new());
+    let mut plain = night.table_of(night.unit.sessions());
+    let file = capture(&night.sent);
+    assert_eq!(check(&folder, &file, &plain).status, 0);
+    plain.extend(night.stores_part());
+    assert_eq!(check(&folder, &file, &plain).status, 0);
+    plain.push(0);
+    let fault = check::run(&options(&folder, &file, &plain)).err().unwrap();
+    assert!(fault.ends_with(&format!("{} octets long, which no table is", plain.len())), "{fault}");
+}
+
+/// A stored file that is cut, lengthened, damaged, of another version or put together wrongly is refused, each with
+/// its line: every bit of it, and every cut.
+#[test]
+fn damaged_files() {
+    let (night, folder) = (night(), Folder::new());
+    let whole = sealed(night.unit.settings(), &night.table_of(night.unit.sessions()), &[], &[]);
+    let options = options(&folder, &capture(&night.sent), &whole);
+    let Other::Table(path) = &options.other else { unreachable!() };
+    assert_eq!(status(&options), 0);
+    let refused = |octets: &[u8], why: &str| {
+        std::fs::write(path, octets).unwrap();
+        let fault = check::run(&options).err();
+        assert!(fault.as_deref().is_some_and(|fault| fault.contains(why)), "{why}: {fault:?}");
+    };
+    for at in 8..whole.len() {
+        let mut told = whole.clone();
+        told[at] ^= 1 << (at % 8);
+        // A head whose lengths were damaged says another length; what it says is not believed where it cannot be.
+        let why = if (12..28).contains(&at) {
+            ": "
+        } else {
+            "damaged: its SHA-256 is not that of its octets"
+        };
+        refused(&told, why);
+    }
+    for length in 1..whole.len() {
+        let octets = &whole[..length];
+        match length {
+            1..28 => refused(octets, &format!("cut: {length} octets, fewer than a head has")),
+            _ => refused(octets, &format!("cut: {length} octets of {}", whole.len())),
+        }
+    }
+    refused(
+        &[&whole[..], &[0]].concat(),
+        &format!("longer than it says: {} octets, not {}", whole.len() + 1, whole.len()),
+    );
+    // Sealed again by whoever changed them.
+    for (at, why) in [
+        (11, "of version 3 of the stored form, not 1"),
+        (15, "its parts do not fit together"),
+        (19, "its parts do not fit together"),
+        (23, "its parts do not fit together"),
+        (27, "its parts do not fit together"),
+    ] {
+        let mut told = whole[..whole.len() - 32].to_vec();
+        told[at] ^= 2;
+        refused(&seal(told), why);
+    }
+}
+
+/// A reply that is owed in the table's file stands with the request that has none in the capture, and replies that
+/// are none are refused.
+#[test]
+fn owed_replies() {
+    let folder = Folder::new();
+    let mut unit = Recorded::new(settings());
+    let asked = establishment(1, 1, &[create_pdr(1)]);
+    let (_, reply) = unit.ask(1, &asked);
+    // Nine more, so that the store does not hold it; then its repeat, which a unit that owes it the reply answers.
+    for sequence in 2..11 {
+        unit.ask(1, &establishment(1, sequence, &[create_pdr(1)]));
+    }
+    let mut again = unit.sent.clone();
+    again.extend([to_unit(1, &asked, 900), from_unit(1, &reply, 901)]);
+    let done = check(&folder, &capture(&again), &unit.table());
+    assert_eq!(done.status, 0, "{}", done.text);
+    has(&done.text, &["\nrepeats older than eight requests, answered as before: 1\n"]);
+    // Another reply than before is none that is owed.
+    let mut other = reply.clone();
+    *other.last_mut().unwrap() ^= 1;
+    *again.last_mut().unwrap() = from_unit(1, &other, 901);
+    assert_eq!(check(&folder, &capture(&again), &unit.table()).status, 3);
+    // The first reply is lost; the file owes it.
+    let mut sent = unit.sent.clone();
+    sent.remove(1);
+    let mut owed = vec![1, 9];
+    owed.extend(check::sha256::digest(&asked));
+    owed.extend((reply.len() as u16).to_be_bytes());
+    owed.extend(&reply);
+    let table = unit.table_of(unit.unit.sessions());
+    let with = |owed: &[u8]| sealed(unit.unit.settings(), &table, &unit.stores_part(), owed);
+    let done = check(&folder, &capture(&sent), &with(&owed));
+    assert_eq!(done.status, 3, "{}", done.text);
+    has(
+        &done.text,
+        &["the table is as if it had been accepted and the reply is owed in its file, cause 1\n"],
+    );
+    for (at, value) in [(0, 0), (0, 3), (34, 5), (35, 0)] {
+        let mut told = owed.clone();
+        told[at] = value;
+        let fault = check::run(&options(&folder, &capture(&sent), &with(&told))).err();
+        assert!(
+            fault.is_some_and(|fault| fault.ends_with("its parts do not fit together")),
+            "octet {at}"
+        );
     }
 }
 
@@ -223,7 +354,7 @@ fn requests_without_a_reply() {
     has(
         &done.text,
         &[
-            "\nperhaps different: session 1 of peer 1\n    PDR 2 by the wire: precedence 100, no FAR, source interface 0, TEID 4097 (IPv4)\n    PDR 2 in the table: not there\n",
+            "\nperhaps different: session 1 of peer 1\n    PDR 2 by the wire: precedence 100, no FAR, source interface 0 (access), TEID 4097 (IPv4)\n    PDR 2 in the table: not there\n",
             "not known: packet 23, 2027-01-15T08:00:00.650000Z, peer 1, Session Modification Request, SEID 1, sequence 6: no reply in the capture, so from there on the wire may be otherwise; the table is as if it had been accepted and its store of repeats has the reply, cause 1\n",
             "\nNOT KNOWN: the table differs, and the capture does not show enough to say why\n",
         ],
@@ -283,8 +414,8 @@ fn without_repeats() {
         unit.ask(1, &message);
     }
     unit.stores = [vec![], vec![]];
-    let mut options =
-        options(&folder, &capture(&unit.sent), &unit.table()[..second::layout::length(LIMIT)]);
+    let table = unit.table_of(unit.unit.sessions());
+    let mut options = options(&folder, &capture(&unit.sent), &table);
     let done = check::run(&options).unwrap();
     assert_ne!(done.status, 0, "{}", done.text);
     options.no_repeats = true;

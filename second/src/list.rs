@@ -55,7 +55,7 @@ fn add_text(list: &mut String, key: Key, session: &Session) {
 }
 
 /// TS 29.244, clause 8.2.2.
-fn interface_name(source: u8) -> &'static str {
+pub fn interface_name(source: u8) -> &'static str {
     match source {
         0 => "access",
         1 => "core",
@@ -67,7 +67,7 @@ fn interface_name(source: u8) -> &'static str {
 }
 
 /// TS 29.244, clause 8.2.43.
-fn node_type_name(node_type: u8) -> &'static str {
+pub fn node_type_name(node_type: u8) -> &'static str {
     match node_type {
         0 => "MME",
         1 => "SGW-C",

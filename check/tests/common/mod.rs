@@ -290,16 +290,59 @@ impl Recorded {
         (way, reply)
     }
 
-    /// The file that a unit keeps, with these sessions.
+    /// The octets of a table with these sessions.
+    pub fn table_of(&self, sessions: &Sessions) -> Vec<u8> {
+        layout::encode(self.unit.settings(), sessions)
+    }
+
+    /// The octets of both stores.
+    pub fn stores_part(&self) -> Vec<u8> {
+        self.stores.iter().flat_map(|entries| store::encode(entries)).collect()
+    }
+
+    /// The file that a unit keeps, with these octets for a table.
+    pub fn file_with(&self, table: &[u8]) -> Vec<u8> {
+        sealed(self.unit.settings(), table, &self.stores_part(), &[])
+    }
+
+    /// The same with these sessions.
     pub fn file(&self, sessions: &Sessions) -> Vec<u8> {
-        let mut octets = layout::encode(self.unit.settings(), sessions);
-        octets.extend(self.stores.iter().flat_map(|entries| store::encode(entries)));
-        octets
+        self.file_with(&self.table_of(sessions))
     }
 
     pub fn table(&self) -> Vec<u8> {
         self.file(self.unit.sessions())
     }
+}
+
+/// The SHA-256 after some octets.
+pub fn seal(mut octets: Vec<u8>) -> Vec<u8> {
+    let sum = check::sha256::digest(&octets);
+    octets.extend(sum);
+    octets
+}
+
+/// A file of a stored table as docs/layout.md has it: the front, the parts, the SHA-256.
+pub fn sealed(settings: &Settings, table: &[u8], stores: &[u8], owed: &[u8]) -> Vec<u8> {
+    let number = |number: usize| (number as u32).to_be_bytes();
+    let mut file = b"PFCPUNIT\0\0\0\x01".to_vec();
+    file.extend([72, table.len(), stores.len(), owed.len()].map(number).concat());
+    file.extend(settings.ipv4);
+    file.extend(number(settings.ipv6.map_or(0, |_| 16)));
+    file.extend(settings.ipv6.unwrap_or([0; 16]));
+    file.extend(number(settings.first as usize));
+    file.extend(number(settings.size as usize));
+    file.extend(settings.first_address.octets());
+    file.extend(number(settings.addresses as usize));
+    file.extend(number(settings.session_limit.into()));
+    file.extend(number(if settings.peers[1].limit == 0 { 1 } else { 2 }));
+    for peer in &settings.peers {
+        file.extend(peer.address);
+        file.extend(number(peer.guarantee as usize));
+        file.extend(number(peer.limit as usize));
+    }
+    file.extend([table, stores, owed].concat());
+    seal(file)
 }
 
 static FOLDERS: AtomicUsize = AtomicUsize::new(0);
