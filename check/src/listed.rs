@@ -42,13 +42,21 @@ pub fn read(text: &[u8]) -> Result<Listed, String> {
         faults.push(format!("the list says {live} live sessions and has {}", written.len()));
     }
     let mut peers = Vec::new();
-    for one in list.member("peers").and_then(Json::array).unwrap_or(&[]) {
+    let told = list.member("peers").and_then(Json::array).unwrap_or(&[]);
+    for one in told {
         let peer: u8 = one.member("peer").and_then(Json::number).ok_or(whole)?;
-        let address = one.member("address").and_then(Json::text).ok_or(whole)?;
-        peers.push((peer, address.parse().map_err(|_| whole)?));
+        // The list of a stored table does not have it.
+        if let Some(address) = one.member("address") {
+            let address = address.text().and_then(|text| text.parse().ok()).ok_or(whole)?;
+            peers.push((peer, address));
+        }
         faults.extend(of_peer(peer, one, &sessions));
     }
-    faults.extend(of_pools(&list, &sessions, peers.len() != 1));
+    // The list of a stored table does not say how large the pools are.
+    let has = |name: &str| list.member(name).is_some();
+    if has("pool_size") || has("address_pool_size") || !has("stored_table") {
+        faults.extend(of_pools(&list, &sessions, told.len() != 1));
+    }
     Ok(Listed { sessions, faults, peers })
 }
 
