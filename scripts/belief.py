@@ -8,6 +8,8 @@ CALL = 'pfcp_request'
 # each is looked for in the specs of all crates
 CLAIMS = [
     'HostClaim',
+    'HostRestores',
+    'TwoRuns',
     'ReleasedIsRemoved',
     'NoTwoPatients',
     'NoMemory',
@@ -25,8 +27,6 @@ CLAIMS = [
     'SessionFound',
     'HolderFound',
     'LiveFound',
-    'HostRestores',
-    'TwoRuns',
     # reading and writing an element are inverse
     'FteidInverse',
     'FteidCodeInverse',
