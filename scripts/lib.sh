@@ -256,15 +256,17 @@ build_unit() {
     find_archive aloud && compile_unit
 }
 build_all() { build_unit && build_restore aloud; }
-# build_check: builds what has changed of pfcp-check, which is in Rust, and sets check_file; leaves it out, and says so, where there is no cargo
+
+# build_check: builds what has changed of pfcp-check, which is in Rust, and sets check_file; leaves it out, and says so, where there is no cargo. No
+# folder's name is in it; the tests of check/ are built without that, in a folder of their own.
 build_check() {
     check_file=
     if ! need_cargo; then
         printf 'pfcp-check is left out\n' >&2
         return
     fi
-    quietly cargo build --release --offline --manifest-path check/Cargo.toml || return 1
-    check_file=check/target/release/pfcp-check
+    RUSTFLAGS="${RUSTFLAGS:-} --remap-path-prefix=$PWD=." quietly cargo build --release --offline --target-dir target/check --manifest-path check/Cargo.toml || return 1
+    check_file=target/check/release/pfcp-check
 }
 
 # version: the version, which stands in the header; soname: the name that a program asks the dynamic linker for. Before version 1 every
