@@ -4,8 +4,9 @@ mod common;
 
 use check::options::{self, Asked, Other};
 use common::*;
+use second::element::fq_csid::NodeId;
 use second::list;
-use second::session::{Key, Local};
+use second::session::{Key, Local, Session, Tunnel};
 
 const ONE: Key = Key { peer: 1, seid: 1 };
 
@@ -152,6 +153,74 @@ fn every_octet_of_a_table_and_a_list() {
             folder.write("list", &told);
             assert!(matches!(status(&options), 1 | 2), "bit {bit} of octet {at} of the list");
         }
+    }
+}
+
+/// Session 5 of peer 2, with every kind of record.
+fn with_every_record() -> Recorded {
+    let mut with_ipv6 = settings();
+    with_ipv6.ipv6 = Some([0x20; 16]);
+    let mut unit = Recorded::new(with_ipv6);
+    let address = |last: u8| ie(93, &[2, 198, 51, 100, last]);
+    let pdr = |id: u8, members: &[Vec<u8>]| {
+        let pdi = [&[ie(20, &[0])], members].concat().concat();
+        let parts =
+            [ie(56, &[0, id]), ie(29, &[0, 0, 0, 100]), ie(2, &pdi), ie(108, &[0, 0, 0, 9])];
+        ie(1, &parts.concat())
+    };
+    let endpoint = |id: u8| ie(127, &[ie(131, &[id]), ie(21, &[7]), address(10 + id)].concat());
+    let parts = [
+        pdr(1, &[ie(21, &[7]), address(7)]),
+        pdr(2, &[ie(131, &[3])]),
+        endpoint(3),
+        endpoint(4),
+        fq_csid(),
+    ];
+    unit.ask(2, &establishment(5, 1, &parts));
+    unit
+}
+
+/// A session with every kind of record, each field of which is changed by itself so that the table stays an allowed one: each is found.
+#[test]
+fn every_field_of_a_record() {
+    let (unit, folder) = (with_every_record(), Folder::new());
+    let key = Key { peer: 2, seid: 5 };
+    let changes: [(&str, fn(&mut Session)); 14] = [
+        ("a precedence", |one| one.pdrs.get_mut(&1).unwrap().precedence = 7),
+        ("a FAR", |one| one.pdrs.get_mut(&1).unwrap().far_id = Some(8)),
+        ("no FAR", |one| one.pdrs.get_mut(&1).unwrap().far_id = None),
+        ("a source interface", |one| one.pdrs.get_mut(&1).unwrap().source_interface = 1),
+        ("a PDR's address", |one| one.pdrs.get_mut(&1).unwrap().address = None),
+        ("a PDR's TEID", |one| tunnel_of(one).teid = 4127),
+        ("a PDR's families", |one| tunnel_of(one).families.v6 = false),
+        ("another endpoint", |one| one.pdrs.get_mut(&2).unwrap().local = Local::Endpoint(4)),
+        ("an endpoint's TEID", |one| one.endpoints.get_mut(&3).unwrap().tunnel.teid = 4127),
+        ("its families", |one| one.endpoints.get_mut(&3).unwrap().tunnel.families.v4 = false),
+        ("its address", |one| one.endpoints.get_mut(&3).unwrap().address = None),
+        ("an endpoint less", |one| assert!(one.endpoints.remove(&4).is_some())),
+        ("a CSID", |one| one.fq_csids.get_mut(&5).unwrap().csid = 10),
+        ("a node", |one| one.fq_csids.get_mut(&5).unwrap().node = NodeId::Ipv4([9; 4])),
+    ];
+    for (name, change) in changes {
+        let mut told = unit.unit.sessions().clone();
+        change(told.get_mut(&key).unwrap());
+        let table = unit.table_of(&told);
+        assert_eq!(second::layout::sound(&table).err(), None, "{name}");
+        let mut options = options(&folder, &capture(&unit.sent), &unit.file_with(&table));
+        let listed = list::json(unit.unit.settings(), &told);
+        for other in [options.other.clone(), Other::List(folder.write("list", listed.as_bytes()))] {
+            options.other = other;
+            let done = check::run(&options).unwrap();
+            assert_eq!(done.status, 1, "{name}: {}", done.text);
+            has(&done.text, &["\ndifferent: session 5 of peer 2\n"]);
+        }
+    }
+}
+
+fn tunnel_of(session: &mut Session) -> &mut Tunnel {
+    match &mut session.pdrs.get_mut(&1).unwrap().local {
+        Local::Tunnel(tunnel) => tunnel,
+        _ => panic!("PDR 1 has a TEID"),
     }
 }
 
