@@ -73,6 +73,17 @@ pub fn steps<'a>(traffic: &'a Traffic, assumed: &[(&'a Request, &'a [u8])]) -> V
     steps
 }
 
+/// How a request came by its reply.
+#[derive(Clone, Copy, PartialEq, Eq)]
+enum Reach {
+    /// From the store.
+    Stored,
+    /// From the engine, in the order of the capture.
+    InOrder,
+    /// From the engine, but when is not known: what it says of a session may be older than what others say.
+    OutOfOrder,
+}
+
 struct Follower<'a> {
     setting: &'a Setting<'a>,
     live: LiveSet,
@@ -158,13 +169,14 @@ impl Follower<'_> {
         match step {
             Step::Answered(exchange) => {
                 let Exchange { request, reply } = exchange;
-                if !self.reaches_engine(request, reply) {
+                let reach = self.reach(request, reply);
+                if reach == Reach::Stored {
                     return Vec::new();
                 }
                 match reply.is_accepted() {
                     true => {
                         self.history.accepted += 1;
-                        self.accepted(request, &reply.octets, position)
+                        self.accepted(request, &reply.octets, position, reach)
                     }
                     false => {
                         self.history.refused += 1;
@@ -184,12 +196,15 @@ impl Follower<'_> {
             {
                 Vec::new()
             }
-            Step::Assumed(request, reply) => self.accepted(request, reply, position),
+            Step::Assumed(request, reply) => {
+                self.accepted(request, reply, position, Reach::InOrder)
+            }
         }
     }
 
-    /// Whether a request got its reply from the engine, and not from the store, as 02 (xi) has it.
-    fn reaches_engine(&mut self, request: &Request, reply: &Reply) -> bool {
+    /// Whether a request got its reply from the engine or from the store, as 02 (xi) has it.
+    fn reach(&mut self, request: &Request, reply: &Reply) -> Reach {
+        let mut reach = Reach::InOrder;
         let place = usize::from(request.peer) - 1;
         let scope = request.key().map_or(Scope::Peer(request.peer), Scope::Session);
         if !self.setting.no_repeats {
@@ -197,7 +212,7 @@ impl Follower<'_> {
             match store.reply_to(&request.octets) {
                 Some(stored) if stored == reply.octets => {
                     self.history.repeats += 1;
-                    return false;
+                    return Reach::Stored;
                 }
                 Some(_) => {
                     let text = format!(
@@ -209,20 +224,21 @@ impl Follower<'_> {
                 None if store.drops(request.header.sequence) => {
                     if self.from_start[place] {
                         self.history.before += 1;
-                        return false;
+                        return Reach::Stored;
                     }
                     let text = format!(
                         "{}: answered, although its number is not newer than that of the request before it: their order is not known, or the unit ran with --no-repeats, and is checked with it",
                         words::request(request)
                     );
                     self.doubt(reply.number, scope, text);
+                    reach = Reach::OutOfOrder;
                 }
                 None => {}
             }
         }
         self.from_start[place] = false;
         self.stores[place].keep(&request.octets, &reply.octets);
-        true
+        reach
     }
 
     fn is_unknown(&self) -> bool {
@@ -233,19 +249,31 @@ impl Follower<'_> {
         self.live.sessions.contains_key(&key)
     }
 
-    fn is_known(&mut self, key: Key, position: u64) {
+    /// All is known of a session again, unless the request that says so may be older than others.
+    fn is_known(&mut self, key: Key, position: u64, reach: Reach) {
+        if reach == Reach::OutOfOrder {
+            return;
+        }
         self.history.unknown.remove(&key);
         self.history.known_since.insert(key, position);
     }
 
-    fn accepted(&mut self, request: &Request, reply: &[u8], position: u64) -> Vec<Key> {
-        let Some(key) = request.key() else { return self.set_deleted(request, reply, position) };
+    fn accepted(
+        &mut self,
+        request: &Request,
+        reply: &[u8],
+        position: u64,
+        reach: Reach,
+    ) -> Vec<Key> {
+        let Some(key) = request.key() else {
+            return self.set_deleted(request, reply, position, reach);
+        };
         let kind = request.header.kind;
         let late = kind != Kind::Establishment && self.is_unknown() && !self.lives(key);
         if late || self.history.unknown.contains(&key) && kind != Kind::Establishment {
             // It was established before the capture began.
             match kind {
-                Kind::Deletion => self.is_known(key, position),
+                Kind::Deletion => self.is_known(key, position, reach),
                 _ => {
                     self.history.unknown.insert(key);
                 }
@@ -255,7 +283,7 @@ impl Follower<'_> {
         match self.live.follow(request.peer.into(), &request.octets, 0, reply) {
             Ok(()) => {
                 if kind != Kind::Modification {
-                    self.is_known(key, position);
+                    self.is_known(key, position, reach);
                 }
                 vec![key]
             }
@@ -267,13 +295,19 @@ impl Follower<'_> {
         }
     }
 
-    fn set_deleted(&mut self, request: &Request, reply: &[u8], position: u64) -> Vec<Key> {
+    fn set_deleted(
+        &mut self,
+        request: &Request,
+        reply: &[u8],
+        position: u64,
+        reach: Reach,
+    ) -> Vec<Key> {
         let before: Vec<Key> = self.live.sessions.keys().copied().collect();
         match self.live.follow(request.peer.into(), &request.octets, 0, reply) {
             Ok(()) => {
                 let gone: Vec<Key> = before.into_iter().filter(|key| !self.lives(*key)).collect();
                 for key in &gone {
-                    self.is_known(*key, position);
+                    self.is_known(*key, position, reach);
                 }
                 gone
             }

@@ -441,6 +441,29 @@ fn requests_without_a_reply() {
     has(&done.text, &["not known: packet 23: the reply that accepts a Session Modification Request of peer 1 (sequence 6); the request is not in the capture\n"]);
 }
 
+/// A deletion whose first reply is not in the capture, its session made again, and then the deletion's repeat, which
+/// gets the old reply: when it was carried out is not known, so a table with the session is not called different.
+#[test]
+fn a_repeat_that_seems_the_first() {
+    let folder = Folder::new();
+    let mut unit = Recorded::new(settings());
+    let gone = deletion(1, 2);
+    unit.ask(1, &establishment(1, 1, &[create_pdr(1)]));
+    unit.ask(1, &gone);
+    unit.ask(1, &establishment(1, 3, &[create_pdr(2)]));
+    unit.ask(1, &gone);
+    assert_eq!(check(&folder, &capture(&unit.sent), &unit.table()).status, 0);
+    let mut sent = unit.sent.clone();
+    sent.remove(3);
+    let file = capture(&sent);
+    let done = check(&folder, &file, &unit.table());
+    assert_eq!(done.status, 3, "{}", done.text);
+    has(&done.text, &["\nperhaps different: session 1 of peer 1\n", "their order is not known"]);
+    // Nor is a table without it called the same.
+    let done = check(&folder, &file, &unit.file(&second::session::Sessions::new()));
+    assert_eq!(done.status, 3, "{}", done.text);
+}
+
 /// A table that was copied before the capture ended.
 #[test]
 fn until_a_packet() {
