@@ -1,7 +1,7 @@
 -- Tests that hold, lists of them, and choosing by them; numbers in ascending order.
 -- Assumes nothing.
 use mathlib.Core.Path.{◌≡◌, refl, sym, subst}
-use Prim.Native.Nat.{ℕ, zero, suc, ◌-◌, ◌≤◌, ◌<◌}
+use Prim.Native.Nat.{ℕ, zero, suc, ◌≤◌, ◌<◌}
 use mathlib.Core.Logic.{◌≢◌}
 use native.Mathlib.Nat.{le_trans}
 use native.Mathlib.Omega.{arith}

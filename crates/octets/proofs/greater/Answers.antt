@@ -6,18 +6,14 @@ use native.Mathlib.Omega.{arith}
 use lib.Dec.{eqb}
 use borrow.Author.Tests.{eqb-true, eq-eqb, ne_eqb}
 use Rattle.octets.proofs.Bools.{and-false}
-use Rattle.octets.proofs.greater.Statement.{statement}
-use Rattle.octets.proofs.greater.Tie as tie
+use Rattle.octets.proofs.greater.Goals as goal
 
 first : (a x : ℕ) → x ≤ a → (b : Bool) → eqb a 0 ≡ b → eqb a 0 ≡ (eqb x 0 && eqb a 0)
 first a x le true e = let z : a ≡ 0 = eqb-true a 0 e in rw (eq-eqb x 0 (omega arith))
 first a x le false e = rw (e, and-false)
 
-returns : tie.Need-returns
-returns c = rw (ne_eqb c.before.args.x 0 (λ z. omega arith))
+pub returns-then-a-x : goal.returns-then-a-x
+returns-then-a-x c = rw (ne_eqb c.args.x 0 (λ z. omega arith))
 
-returns-2 : tie.Need-returns-2
-returns-2 c = first c.before.args.a c.before.args.x (omega arith) _ refl
-
-pub greater-spec : {M : Type 1} → statement M
-greater-spec = tie.close (tie.spec returns returns-2)
+pub returns : goal.returns
+returns c = first c.args.a c.args.x (omega arith) _ refl
