@@ -17,6 +17,7 @@ HERE = os.path.dirname(os.path.abspath(__file__))
 # the fields of records that had a dash
 FIELDS = {"pdrs-up", "endpoints-up", "csids-up"}
 WORD = re.compile(r"(?<![\w'·-])[A-Za-z][\w']*(?:-[\w']+)*")
+CAMEL = re.compile("[a-z0-9][A-Z]")
 STRING = re.compile(r'"(?:[^"\\\n]|\\.)*"')
 
 
@@ -28,14 +29,17 @@ def table():
 NAMES = table()
 
 
-def word(text):
+def word(text, code=False):
+    """The text with its words turned; in code, where a lemma's name is a function's, only those in camel case."""
+
     def turn(m):
         old = m[0]
-        if old not in NAMES:
+        if old not in NAMES or (code and not CAMEL.search(old)):
             return old
-        if "-" in old and m.start() and text[m.start() - 1] == "." and old not in FIELDS:
-            before = re.search(r"([\w']+)\.$", text[max(0, m.start() - 60) : m.start()])
-            if not before or not before[1][:1].isupper():
+        before = text[max(0, m.start() - 60) : m.start()]
+        if not CAMEL.search(old) and old not in FIELDS:
+            # a lemma, and no step of a function or path of its proof
+            if before.endswith("::") or (before.endswith(".") and not re.search(r"\b[A-Z][\w']*\.$", before)):
                 return old
         return NAMES[old]
 
@@ -45,9 +49,9 @@ def word(text):
 def outside_strings(text):
     out, at = [], 0
     for m in STRING.finditer(text):
-        out += [word(text[at : m.start()]), m[0]]
+        out += [word(text[at : m.start()], True), m[0]]
         at = m.end()
-    return "".join(out) + word(text[at:])
+    return "".join(out) + word(text[at:], True)
 
 
 def write(path, text, new):
@@ -60,7 +64,7 @@ def write(path, text, new):
 
 def has_run(texts):
     """Whether no old name in camel case is left: those are never new names."""
-    camel = {old for old in NAMES if re.search("[a-z0-9][A-Z]", old)}
+    camel = {old for old in NAMES if CAMEL.search(old)}
     return not any(camel.intersection(WORD.findall(text)) for text in texts)
 
 

@@ -1,5 +1,7 @@
 // Areas of records inside octets that also hold the area's count, somewhere before it: the records of a session slot, and the
 // sessions of a table. A record is put in or taken out by its key, and the count follows.
+#![tactic(auto)]
+
 ghost use Rattle.std.specs.Prelude.{◌≡◌, ◌≤◌, ◌<◌, length};
 ghost use Rattle.areas.specs.Records.{pair_key};
 ghost use Rattle.areas.specs.Counted.{Fits, count_in, place_in, inserted_in, removed_in, replaced_in, cleared_in, with_record, without_record};
@@ -7,7 +9,7 @@ ghost use Rattle.areas.specs.Counted.{Fits, count_in, place_in, inserted_in, rem
 pub mod slots;
 
 // Where a key stands, or where a record with that key has its place.
-#[derive(Drop)]
+#[derive(Clone, Copy)]
 pub enum Lookup {
     Found(usize),
     Absent(usize),
@@ -15,7 +17,7 @@ pub enum Lookup {
 
 // Where an area stands: its count, of count_width octets at count_at; its records, room for `room` of them of `width` octets
 // each from `at` on; a record's key is the number of its first `key` octets.
-#[derive(Drop)]
+#[derive(Clone, Copy)]
 pub struct Area {
     pub count_at: usize,
     pub count_width: usize,

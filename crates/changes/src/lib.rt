@@ -22,7 +22,7 @@ use stages::{Known, Told};
 use unit::Settings;
 
 // A reply: how many octets of the reply space hold it, and the place in the message of a fault of stages 2 and 3, else 0.
-#[derive(Drop)]
+#[derive(Clone, Copy)]
 pub struct Replied {
     pub used: usize,
     pub place: usize,

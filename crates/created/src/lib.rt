@@ -17,7 +17,7 @@ use unit::Settings;
 
 // One entry of the list: a record's kind and ID; the flags of its F-TEID (V4 1, V6 2, CH 4) and the TEID, which it was granted where CH is
 // there; the kind of its UE IP Address and the address, which it was granted where the kind is CHOOSE.
-#[derive(Drop)]
+#[derive(Clone, Copy)]
 pub struct Grant {
     pub kind: u64,
     pub id: u64,

@@ -1,5 +1,7 @@
 // What the readers and writers of element values share (fteid, ue_ip, fqcsid, fseid): why a value is refused, what a writer
 // answers, and numbers written one after the other.
+#![tactic(auto)]
+
 ghost use Rattle.std.specs.Prelude.{◌≡◌, true, ◌+◌, ◌≤◌, length};
 ghost use Rattle.octets.specs.Octets.{put};
 ghost use Rattle.octets.specs.Fields.{width_of, narrow, field_octets};
@@ -7,14 +9,14 @@ ghost use Rattle.rules.specs.Elements.{cause_of, write_if};
 ghost use Rattle.element.specs.Answers.{refusal_of, left};
 
 // Why a reader refuses a value: it has too few octets, or it breaks a rule.
-#[derive(Drop)]
+#[derive(Clone, Copy)]
 pub enum Refusal {
     TooShort,
     Incorrect,
 }
 
 // What a writer answers: how many octets it wrote at the start of the space, or that it refused and wrote nothing.
-#[derive(Drop)]
+#[derive(Clone, Copy)]
 pub enum Written {
     Octets(usize),
     Refused,

@@ -25,7 +25,7 @@ mod set_deletion;
 mod shares;
 
 // The map of the pool's taken addresses at entry.
-#[derive(Drop)]
+#[derive(Clone, Copy)]
 struct TakenAddresses {
     words: [u64; pool::ADDRESS_WORDS],
 }
@@ -101,7 +101,7 @@ fn answer(
 
 // What the host gets: 01's outcome, how many octets of the reply space hold the reply, and the place in the message of a fault of stages 2
 // and 3, else 0.
-#[derive(Drop)]
+#[derive(Clone, Copy)]
 pub struct Served {
     pub outcome: u32,
     pub used: usize,

@@ -4,7 +4,7 @@ ghost use Rattle.rules.specs.Finding.{count_all, uncounted};
 ghost use Rattle.finding.specs.All.{counts_told};
 
 // Of each peer its sessions and TEIDs, and the free TEIDs and addresses; zeros beside outcome 1.
-#[derive(Drop)]
+#[derive(Clone, Copy)]
 pub struct Counts {
     pub outcome: u32,
     pub sessions1: usize,

@@ -23,14 +23,14 @@ const NONE: u32 = 2;
 // A number that is no peer's.
 const NO_PEER: u32 = 7;
 
-#[derive(Drop)]
+#[derive(Clone, Copy)]
 pub struct Answer {
     pub outcome: u32,
     pub number: usize,
 }
 
 // What a peer has; zeros beside any outcome but 0.
-#[derive(Drop)]
+#[derive(Clone, Copy)]
 pub struct Share {
     pub outcome: u32,
     pub sessions: usize,

@@ -3,6 +3,8 @@
 //
 // How many there are at most: sessions (a unit's own limit is a setting), in a session PDRs, endpoints and FQ-CSIDs, TEIDs in the pool,
 // and addresses in theirs.
+#![tactic(auto)]
+
 pub const MAX_SESSIONS: u64 = 256;
 
 pub const MAX_PDRS: usize = 16;

@@ -14,7 +14,7 @@ use element::{Refusal, Written};
 // A Node-ID of 4 octets has its address in address_low alone. The CSIDs, of which there are count, stand two octets each in
 // four words, the first of them in csids_1, eight octets or what is left of them in each. So a single CSID is csids_1.
 // A count of 0 is the removal.
-#[derive(Drop)]
+#[derive(Clone, Copy)]
 pub struct FqCsid {
     pub id_type: u64,
     pub count: u64,
@@ -28,7 +28,7 @@ pub struct FqCsid {
 }
 
 // The value, or why it is refused.
-#[derive(Drop)]
+#[derive(Clone, Copy)]
 pub enum Answer {
     Value(FqCsid),
     Refused(Refusal),

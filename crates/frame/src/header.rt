@@ -7,7 +7,7 @@ ghost use Rattle.rules.specs.Message.{body_place, list_place, first_octet_allowe
 
 use format::{header, kinds};
 
-#[derive(Drop)]
+#[derive(Clone, Copy)]
 pub enum Header {
     // Over 2,048 octets: outcome 3.
     TooLong,

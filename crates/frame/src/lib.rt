@@ -2,6 +2,8 @@
 //
 // The walk takes any octets: an element that runs past the end has the octets that are there. So each promise is an equation with no
 // assumption, and stage 2 need not have been passed.
+#![tactic(auto)]
+
 ghost use Rattle.std.specs.Prelude.{◌≡◌, ◌+◌, ◌<◌, ◌^◌, length};
 ghost use Rattle.octets.specs.Lists.{member, keep};
 ghost use Rattle.rules.specs.Message.{opened_in, spot, frame, frame_fault, elements, has_type};
@@ -13,7 +15,7 @@ use format::{kinds, types};
 pub mod header;
 
 // What the framing of a message or of a group finds.
-#[derive(Drop)]
+#[derive(Clone, Copy)]
 pub enum Framing {
     Framed,
     // The type at fault and its place in the message: of an element that runs past its end, or of the group (0 at 0: the message) where under
@@ -104,7 +106,7 @@ pub fn frame_fault(msg: &[u8]) -> Framing
 }
 
 // What stands at the front of some octets.
-#[derive(Drop)]
+#[derive(Clone, Copy)]
 pub enum First {
     // Under 4 octets.
     Done,

@@ -9,7 +9,7 @@ ghost use Rattle.fseid.specs.Meaning.{fseid_flags, fseid_answer, fseid_cause};
 use element::{Refusal, Written};
 
 // The SEID, or why the value is refused.
-#[derive(Drop)]
+#[derive(Clone, Copy)]
 pub enum Answer {
     Value(u64),
     Refused(Refusal),

@@ -1,4 +1,6 @@
 // F-TEID (TS 29.244, clause 8.2.3): the value octets, read and written.
+#![tactic(auto)]
+
 ghost use Rattle.std.specs.Prelude.{◌≡◌, false, ◌+◌, ◌≤◌, ◌<◌, length, drop};
 ghost use Rattle.std.proofs.Math.Option.{some};
 ghost use Rattle.octets.specs.Octets.{put};
@@ -11,7 +13,7 @@ use element::{Refusal, Written};
 
 // Flags (V4 1, V6 2, CH 4, CHID 8) and fields. A field that the flags leave out is 0. The IPv6 address is two numbers
 // of 8 octets.
-#[derive(Drop)]
+#[derive(Clone, Copy)]
 pub struct FTeid {
     pub flags: u64,
     pub teid: u64,
@@ -22,7 +24,7 @@ pub struct FTeid {
 }
 
 // The value, or why it is refused.
-#[derive(Drop)]
+#[derive(Clone, Copy)]
 pub enum Answer {
     Value(FTeid),
     Refused(Refusal),

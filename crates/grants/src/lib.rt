@@ -16,7 +16,7 @@ use unit::Settings;
 const IDS: usize = 256;
 
 // A TEID, and the offset from which the next search for a free one starts.
-#[derive(Drop)]
+#[derive(Clone, Copy)]
 struct Given {
     teid: u64,
     next: usize,

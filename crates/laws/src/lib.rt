@@ -1,1 +1,3 @@
 // Laws of the rules' definitions stand in proofs/; this crate has no code.
+#![tactic(auto)]
+

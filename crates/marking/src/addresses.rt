@@ -23,7 +23,7 @@ pub const HOLDERS: usize = NO_ADDRESS + 1;
 pub const NO_ADDRESS: usize = MAX_ADDRESSES as usize;
 
 // What became of addresses that were to be entered: one is an earlier session's, or so many were new.
-#[derive(Drop)]
+#[derive(Clone, Copy)]
 pub enum Met {
     Clash,
     New(usize),

@@ -4,6 +4,8 @@
 // follow in a second map (addresses.rt).
 //
 // A PDR that matches on an F-TEID has 1 at MATCH.
+#![tactic(auto)]
+
 ghost use Rattle.std.specs.Prelude.{◌≡◌, ◌+◌, ◌-◌, ◌*◌, ◌^◌, ◌≤◌, [], length, replicate};
 ghost use Rattle.octets.specs.Octets.{part, slices};
 ghost use Rattle.rules.specs.Layout.{pdr_width, endpoint_width, session_width};
@@ -24,7 +26,7 @@ use unit::Settings;
 pub mod addresses;
 
 // What became of records that were to be tested and marked: one is broken or holds a TEID against the rule, or so many TEIDs were new.
-#[derive(Drop)]
+#[derive(Clone, Copy)]
 pub enum Marks {
     Clash,
     New(usize),
@@ -42,7 +44,7 @@ pub fn holds(slot: &[u8], teid: u64) -> bool
 }
 
 // Whether two PDRs have equal families and source interface.
-fn same_kind_lem(a: &[u8], b: &[u8]) -> bool
+fn same_kind(a: &[u8], b: &[u8]) -> bool
     requires { (length a.now ≡ pdr_width) × (length b.now ≡ pdr_width) }
     ensures { result ≡ alike a.now b.now }
 {
@@ -65,7 +67,7 @@ fn shares(pdrs: &[u8], n: usize, slot: &[u8]) -> bool
         let at = i * PDR;
         let earlier = &pdrs[at..at + PDR];
         if holds(earlier, teid) {
-            if same_kind_lem(earlier, slot) {
+            if same_kind(earlier, slot) {
                 return true;
             }
         }
@@ -196,7 +198,7 @@ fn admit(words: &mut [u64], slot: &[u8], u: Settings) -> Marks
 }
 
 // What became of a table's sessions: one is broken or holds what another one holds, or so many TEIDs and addresses were new.
-#[derive(Drop)]
+#[derive(Clone, Copy)]
 pub enum Seen {
     Broken,
     Held(usize, usize),
@@ -227,14 +229,14 @@ fn admit_session(
 
 // What became of the whole walk: a session is broken or holds what another one holds; or how many TEIDs peer 1's sessions hold and peer 2's, how many
 // sessions peer 1 has, and how many addresses were new.
-#[derive(Drop)]
+#[derive(Clone, Copy)]
 pub enum Walked {
     Broken,
     Held(usize, usize, usize, usize),
 }
 
 // What was counted so far, in that order.
-#[derive(Drop)]
+#[derive(Clone, Copy)]
 pub struct Tally {
     pub one: usize,
     pub two: usize,

@@ -1,5 +1,7 @@
 // The map of taken TEIDs. An offset is a TEID less the pool's first TEID; its bit is bit offset % 64 of word offset / 64.
 // A map is filled through a lent slice of words, so that no mark copies it, and made into the record `Taken` once.
+#![tactic(auto)]
+
 ghost use Rattle.std.specs.Prelude.{◌≡◌, ◌*◌, ◌≤◌, ◌<◌, length};
 ghost use Rattle.pool.specs.Map.{mark, free_from};
 ghost use Rattle.pool.specs.Answer.{lowest};
@@ -11,13 +13,13 @@ pub const WORDS: usize = 1024;
 pub const ADDRESS_WORDS: usize = 16;
 
 // The map of taken TEIDs: words of 64 bits, a bit for each offset.
-#[derive(Drop)]
+#[derive(Clone, Copy)]
 pub struct Taken {
     pub words: [u64; WORDS],
 }
 
 // The lowest free offset, if there is one.
-#[derive(Drop)]
+#[derive(Clone, Copy)]
 pub enum Lowest {
     At(usize),
     Full,

@@ -3,7 +3,7 @@ pub mod group;
 pub mod members;
 
 // What stage 3 finds.
-#[derive(Drop)]
+#[derive(Clone, Copy)]
 pub enum Verdict {
     Fine,
     // The cause, the type at fault, and its place in the message: the element's own, or where one is missing that of the group that lacks it.

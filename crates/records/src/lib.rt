@@ -1,5 +1,7 @@
 // Tests of the records in the session table's slots, for any octets of a slot: the record keeps the rules, and the slot has
 // just that record's octets. Each reads the fields where they stand; proofs/Slots.antt says why these tests of a record's numbers are enough.
+#![tactic(auto)]
+
 ghost use Rattle.std.specs.Prelude.{◌≡◌, ◌+◌, ◌*◌, ◌^◌, ◌≤◌, length, get_or, eqb, not, ◌||◌};
 ghost use Rattle.octets.specs.Choice.{pick, flag};
 ghost use Rattle.octets.specs.Lists.{member};

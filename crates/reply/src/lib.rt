@@ -20,7 +20,7 @@ use format::{header, kinds};
 use unit::Settings;
 
 // The element at fault, by its type, where the refusal names one.
-#[derive(Drop)]
+#[derive(Clone, Copy)]
 pub enum Offending {
     Nothing,
     Element(u64),

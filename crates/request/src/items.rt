@@ -13,7 +13,7 @@ use fseid::Answer;
 
 // What was read of a message so far: how many rows there are, the SEID of the F-SEID (0 before it is met), the flags 186 (0 before they are
 // met, then 1, or 2 for a restoration), whether element 129 was met, and whether a PDR is created.
-#[derive(Drop)]
+#[derive(Clone, Copy)]
 pub struct Draft {
     pub rows: usize,
     pub seid: u64,
@@ -23,7 +23,7 @@ pub struct Draft {
 }
 
 // What reading an element leads to: a fault, its cause, the type at fault and its place in the message; or what was read with it.
-#[derive(Drop)]
+#[derive(Clone, Copy)]
 pub enum Step {
     Fault(u64, u64, usize),
     Next(Draft),

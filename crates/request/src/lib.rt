@@ -15,7 +15,7 @@ pub mod row;
 
 // The rows that were written, and what has no row: the F-SEID's SEID, whether the request is a restoration, and whether element 129 was
 // met.
-#[derive(Drop)]
+#[derive(Clone, Copy)]
 pub struct Plan {
     pub rows: usize,
     pub seid: u64,
@@ -24,7 +24,7 @@ pub struct Plan {
 }
 
 // What reading a request gives.
-#[derive(Drop)]
+#[derive(Clone, Copy)]
 pub enum Reading {
     // The first fault of stages 2 and 3: the cause, the type at fault, and its place in the message.
     Fault(u64, u64, usize),

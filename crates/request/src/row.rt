@@ -75,7 +75,7 @@ fn refused(verdict: Verdict, d: Draft) -> Step
 }
 
 // An FQ-CSID as the words of a row: 1 sets a node type's, 2 removes it, 3 is of null length.
-#[derive(Drop)]
+#[derive(Clone, Copy)]
 pub struct Csid {
     pub state: u64,
     pub node: u64,

@@ -286,7 +286,7 @@ fn has_address(ipv4: &[u8], ipv6: &[u8]) -> bool
 }
 
 // What the host gets: the outcome, how many octets of the space hold the request, and the peer under which it is to be run (02 (xiv)).
-#[derive(Drop)]
+#[derive(Clone, Copy)]
 pub struct Answer {
     pub outcome: u32,
     pub used: usize,

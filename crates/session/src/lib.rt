@@ -179,7 +179,7 @@ pub fn count(t: &[u8], room: usize, base: usize) -> usize
 }
 
 // Where a session stands among those of an area, or, where it is not live, has its place.
-#[derive(Drop)]
+#[derive(Clone, Copy)]
 pub struct Place {
     pub live: bool,
     pub at: usize,

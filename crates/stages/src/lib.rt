@@ -18,7 +18,7 @@ use format::{causes, kinds, types};
 use unit::Settings;
 
 // What the peer of a request has at entry: how many TEIDs it may still take, and how many sessions it has.
-#[derive(Drop)]
+#[derive(Clone, Copy)]
 pub struct Share {
     pub peer: u32,
     pub teids: usize,
@@ -27,7 +27,7 @@ pub struct Share {
 
 // What is known of a request from its header on: the settings, what its peer has, how many addresses are free at entry, its type, and the SEID of
 // its header.
-#[derive(Drop)]
+#[derive(Clone, Copy)]
 pub struct Known {
     pub u: Settings,
     pub share: Share,
@@ -38,7 +38,7 @@ pub struct Known {
 
 // What reading it added: the SEID of its F-SEID, which counts for an establishment; whether its session is live, and where that stands in the table
 // or has its place; how many rows its plan has, whether it is a restoration, and whether element 129 was met.
-#[derive(Drop)]
+#[derive(Clone, Copy)]
 pub struct Told {
     pub seid: u64,
     pub live: bool,
@@ -179,7 +179,7 @@ pub fn no_room(t: &[u8], k: Known, slot: &[u8], gone: &[u64], plan: &[u64], n: u
 }
 
 // Cause 79: a record chooses an address, and none is free at entry.
-fn no_address_lem(t: &[u8], u: Settings, free: usize, plan: &[u64], n: usize) -> bool
+fn no_address(t: &[u8], u: Settings, free: usize, plan: &[u64], n: usize) -> bool
     requires { (free ≡ free_address_count (settings_of u) (view_sessions t.now)) × (n * row_width ≤ length plan.now) }
     ensures { result ≡ address_lacks (settings_of u) (view_sessions t.now) (request_of false (rows_of n plan.now)) }
 {
@@ -229,7 +229,7 @@ pub fn judge(
     if no_room(t, k, slot, gone, plan, q.rows) {
         return causes::NO_ROOM;
     }
-    if no_address_lem(t, u, k.addresses, plan, q.rows) {
+    if no_address(t, u, k.addresses, plan, q.rows) {
         return causes::NO_ADDRESS;
     }
     causes::ACCEPTED

@@ -22,7 +22,7 @@ pub const REPLY: usize = format::SPACE;
 pub const LENGTH: usize = 1 + ENTRIES * (2 + format::MESSAGE + 2 + REPLY);
 
 // What stands at the front of some octets of a store.
-#[derive(Drop)]
+#[derive(Clone, Copy)]
 pub enum Kept {
     // No entry that is whole and allowed.
     Broken,
@@ -97,7 +97,7 @@ fn equal(a: &[u8], b: &[u8]) -> bool
 }
 
 // Where the reply to a message stands: its first octet's place, and the place behind its last.
-#[derive(Drop)]
+#[derive(Clone, Copy)]
 pub enum Found {
     Nothing,
     Reply(usize, usize),

@@ -2,6 +2,8 @@
 //
 // A table is the settings (63 octets), the number of sessions (2) and as many slots of 604 octets as the settings' limit says; docs/ has
 // the layout.
+#![tactic(auto)]
+
 ghost use Rattle.std.specs.Prelude.{◌≡◌, ◌||◌, eqb, ◌≤◌, length, replicate, ◌+◌, ◌-◌, ◌&&◌};
 ghost use Rattle.rules.specs.Limits.{map_words, address_words};
 ghost use Rattle.rules.specs.Sound.{sound, count_free, count_addresses, length_for, make};
@@ -14,7 +16,7 @@ use format::{COUNT, HEAD, SETTINGS, SLOT};
 use unit::{Peer, Settings};
 
 // The number of free TEIDs or addresses, or that the table is broken (01's outcome 1).
-#[derive(Drop)]
+#[derive(Clone, Copy)]
 pub enum Count {
     Broken,
     Free(u64),
@@ -162,7 +164,7 @@ pub fn length_for(limit: u32) -> usize
 }
 
 // Whether an empty table was made, or the settings or the length were refused.
-#[derive(Drop)]
+#[derive(Clone, Copy)]
 pub enum Making {
     Made,
     Refused,

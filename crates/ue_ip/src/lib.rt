@@ -8,7 +8,7 @@ ghost use Rattle.ue_ip.specs.Meaning.{ue_of, ue_answer, ue_cause};
 use element::{Refusal, Written};
 
 // An address; a CHOOSE; or a value with what the unit does not have, of which no more is read.
-#[derive(Drop)]
+#[derive(Clone, Copy)]
 pub enum UeIp {
     Given(u64),
     Choose,
@@ -16,7 +16,7 @@ pub enum UeIp {
 }
 
 // The value, or why it is refused.
-#[derive(Drop)]
+#[derive(Clone, Copy)]
 pub enum Answer {
     Value(UeIp),
     Refused(Refusal),

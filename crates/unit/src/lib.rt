@@ -1,5 +1,7 @@
 // The unit's settings as one value: read from the front of a table once a call, and handed on. A setting more is a field more here, in
 // `settings_of`, in the readers and in the writer; whoever hands the value on stays as it is.
+#![tactic(auto)]
+
 ghost use Rattle.std.specs.Prelude.{◌≡◌, ◌+◌, ◌≤◌, T, length};
 ghost use Rattle.octets.specs.Choice.{flag, all_of};
 ghost use Rattle.octets.specs.Octets.{zeros, put};
@@ -9,7 +11,7 @@ ghost use Rattle.rules.specs.Sound.{settings_allowed, ipv6_allowed, limit_tests,
 ghost use Rattle.unit.specs.Meaning.{peer_from, settings_of, settings_given, range_tests, number_octets};
 
 // A control plane: its signalling IPv4 address on the unit, as a number; how many TEIDs it is guaranteed, and how many it may hold.
-#[derive(Drop)]
+#[derive(Clone, Copy)]
 pub struct Peer {
     pub address: u64,
     pub guarantee: u64,
@@ -18,7 +20,7 @@ pub struct Peer {
 
 // The IPv4 address as a number, whether there is an IPv6 address and that address in two halves, the first TEID and the pool's size, the
 // first address for patients and how many there are, how many sessions there is room for, and the two peers.
-#[derive(Drop)]
+#[derive(Clone, Copy)]
 pub struct Settings {
     pub ipv4: u64,
     pub has_ipv6: bool,

@@ -1,9 +1,9 @@
--- `marking::same_kind_lem` meets its contract.
+-- `marking::same_kind` meets its contract.
 -- Assumes nothing.
 use Rattle.marking.proofs.Looking.{alike_not, alike_test}
 use Rattle.std.proofs.Common.{rules}
-use Rattle.marking.proofs.same_kind_lem.Statement.{statement}
-use Rattle.marking.proofs.same_kind_lem.Tie as tie
+use Rattle.marking.proofs.same_kind.Statement.{statement}
+use Rattle.marking.proofs.same_kind.Tie as tie
 
 shared-slice-read-if1 : tie.Need-shared-slice-read-if1
 shared-slice-read-if1 c = search rules

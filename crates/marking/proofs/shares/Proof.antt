@@ -49,7 +49,7 @@ returns c =
     let l = c.before.before.before.before.before.before.loop in
     let read = c.before.before.before.before.before.before.before.read in
     let held = c.before.before.before.holds in
-    look_here g.pdrs.now l.i g.slot.now c.before.before.before.before.before.loop-test.true read.result read.ensures.0 held.result held.ensures c.before.same_kind_lem.result c.before.same_kind_lem.ensures c.before.before.if1.true c.if2.true ∙ l.invariant.1
+    look_here g.pdrs.now l.i g.slot.now c.before.before.before.before.before.loop-test.true read.result read.ensures.0 held.result held.ensures c.before.same_kind.result c.before.same_kind.ensures c.before.before.if1.true c.if2.true ∙ l.invariant.1
 
 loop-less : tie.Need-loop-smaller invariant-loop decreases-loop
 loop-less c = search rules
@@ -60,7 +60,7 @@ loop-again c =
     let l = c.before.before.before.before.before.before.loop in
     let read = c.before.before.before.before.before.before.before.read in
     let held = c.before.before.before.holds in
-    (omega (arith, l.invariant.0), sym (look_unlike g.pdrs.now l.i g.slot.now c.before.before.before.before.before.loop-test.true read.result read.ensures.0 held.result held.ensures c.before.same_kind_lem.result c.before.same_kind_lem.ensures c.before.before.if1.true c.if2.false) ∙ l.invariant.1)
+    (omega (arith, l.invariant.0), sym (look_unlike g.pdrs.now l.i g.slot.now c.before.before.before.before.before.loop-test.true read.result read.ensures.0 held.result held.ensures c.before.same_kind.result c.before.same_kind.ensures c.before.before.if1.true c.if2.false) ∙ l.invariant.1)
 
 loop-less-2 : tie.Need-loop-smaller-2 invariant-loop decreases-loop
 loop-less-2 c = search rules

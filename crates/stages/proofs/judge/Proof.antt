@@ -78,7 +78,7 @@ returns-6 c =
     sym
     (verdict_is b.requires
     ∙ is_79 _ _ _ _ _ _ (sym e.before.already-live.ensures ∙ e.if1.false) (sym f.before.invalid-allocation.ensures ∙ f.if2.false) (sym g.before.unsupported.ensures ∙ g.if3.false)
-    (sym h.before.breaks-rule.ensures ∙ h.if4.false) (sym k.before.no_room.ensures ∙ k.if5.false) (sym c.before.no_address_lem.ensures ∙ c.if6.true))
+    (sym h.before.breaks-rule.ensures ∙ h.if4.false) (sym k.before.no_room.ensures ∙ k.if5.false) (sym c.before.no_address.ensures ∙ c.if6.true))
 
 returns-7 : tie.Need-returns-7
 returns-7 c =
@@ -91,7 +91,7 @@ returns-7 c =
     sym
     (verdict_is b.requires
     ∙ is_1 _ _ _ _ _ _ (sym e.before.already-live.ensures ∙ e.if1.false) (sym f.before.invalid-allocation.ensures ∙ f.if2.false) (sym g.before.unsupported.ensures ∙ g.if3.false)
-    (sym h.before.breaks-rule.ensures ∙ h.if4.false) (sym k.before.no_room.ensures ∙ k.if5.false) (sym c.before.no_address_lem.ensures ∙ c.if6.false))
+    (sym h.before.breaks-rule.ensures ∙ h.if4.false) (sym k.before.no_room.ensures ∙ k.if5.false) (sym c.before.no_address.ensures ∙ c.if6.false))
 
 pub judge-spec : {M : Type 1} → statement M
 judge-spec = tie.close (tie.spec (λ c κs. search rules) returns (λ c κs. search rules) returns-2 (λ c κs. search rules) returns-3 breaks-rule-requires returns-4 no-room-requires returns-5 no-address-requires returns-6 returns-7)

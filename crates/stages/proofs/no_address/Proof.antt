@@ -1,9 +1,9 @@
--- `stages::no_address_lem` meets its contract. Assumes nothing.
+-- `stages::no_address` meets its contract. Assumes nothing.
 use mathlib.Core.Path.{◌∙◌}
 use Rattle.stages.proofs.CountLaws.{address_free, address_full}
 use borrow.Author.Rules.{rules}
-use Rattle.stages.proofs.no_address_lem.Statement.{statement}
-use Rattle.stages.proofs.no_address_lem.Tie as tie
+use Rattle.stages.proofs.no_address.Statement.{statement}
+use Rattle.stages.proofs.no_address.Tie as tie
 
 returns : tie.Need-returns
 returns c = search address_free

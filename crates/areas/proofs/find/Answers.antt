@@ -1,0 +1,20 @@
+
+use borrow.Author.Rules.{rules}
+use Rattle.areas.proofs.Steps.{room_from, place_none, place_found}
+use Rattle.areas.proofs.find.Goals as goal
+
+-- src/lib.rt:33:9
+-- src/lib.rt:35:9
+pub returns-then-a-n : goal.returns-then-a-n
+returns-then-a-n c = search place_none
+
+-- src/lib.rt:38:17
+-- src/lib.rt:38:17
+-- src/lib.rt:38:17
+-- src/lib.rt:38:5
+pub find-requires : goal.find-requires
+find-requires c = (search room_from, search rules, search rules)
+
+-- src/lib.rt:29:1
+pub returns : goal.returns
+returns c = search place_found

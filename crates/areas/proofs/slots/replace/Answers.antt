@@ -1,0 +1,8 @@
+-- `areas::slots::replace` meets its contract. Assumes nothing.
+use borrow.Author.Rules.{rules}
+use Rattle.areas.specs.Records.{replaced}
+use Rattle.areas.proofs.slots.replace.Goals as goal
+
+pub returns : goal.returns
+unfolding replaced
+returns c = c.copy.ensures

@@ -1,0 +1,20 @@
+-- `records::names_endpoint` meets its contract: what was found and what is left of the IDs give the same answer.
+-- Assumes nothing.
+use mathlib.Core.Bool.{Bool, ◌||◌}
+use mathlib.Core.Logic.{⊎_elim}
+use mathlib.Core.Path.{◌≡◌, ap, ◌∙◌}
+use Prim.Native.Nat.{◌+◌, ◌≤◌, ◌-◌, ◌*◌}
+use native.Mathlib.Omega.{arith}
+use lib.ListN.{drop}
+use borrow.Author.Rules.{rules}
+use Rattle.octets.specs.Lists.{member}
+use Rattle.rules.specs.Layout.{endpoint_width}
+use Rattle.records.specs.Kept.{endpoint_ids}
+use Rattle.records.proofs.Answers.{found_here, found_later, found_all}
+use Rattle.records.proofs.names_endpoint.Given as goal
+
+abbrev pub invariant-loop-i : goal.invariant-loop-i
+invariant-loop-i l = (l.i ≤ l.n) × ((l.found || member l.id (endpoint_ids (l.n - l.i) (drop (l.i * endpoint_width) l.ends))) ≡ member l.id (endpoint_ids l.n l.ends))
+
+abbrev pub decreases-loop-i : goal.decreases-loop-i
+decreases-loop-i l = l.n - l.i

@@ -1,0 +1,16 @@
+-- `records::slot::ascends` meets its contract.
+-- Assumes nothing.
+use Prim.Native.Nat.{◌+◌, ◌-◌, ◌*◌, ◌<◌, ◌≤◌}
+use native.Mathlib.Omega.{arith}
+use native.Mathlib.Nat.{mul-le-mul_right}
+use borrow.Author.Rules.{rules}
+use Rattle.areas.specs.Records.{pair_key}
+use Rattle.areas.proofs.LookupLaws.{keys}
+use Rattle.records.proofs.Turns.{Rising, rising_from, rising_pair, rising_pair_not, rising_end, ascends_none}
+use Rattle.records.proofs.slot.ascends.Given as goal
+
+abbrev pub invariant-loop-i : goal.invariant-loop-i
+invariant-loop-i l = Rising (keys l.w 9 l.n l.a) l.n l.i (pair_key l.high l.last)
+
+abbrev pub decreases-loop-i : goal.decreases-loop-i
+decreases-loop-i l = l.n - l.i

@@ -1,0 +1,7 @@
+-- `unit::write_peer` meets its contract. Assumes nothing.
+use Rattle.unit.proofs.WriteLaws.{peer_steps}
+use borrow.Author.Rules.{rules}
+use Rattle.unit.proofs.write_peer.Goals as goal
+
+pub returns : goal.returns
+returns c = search peer_steps
