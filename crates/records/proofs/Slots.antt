@@ -29,7 +29,7 @@ use Rattle.laws.proofs.LayoutLaws.{pdr_fits_lem, endpoint_fits_lem, csid_fits_le
 use Rattle.records.specs.Kept.{kept, settings_sound, pdr_sound, endpoint_sound, csid_sound, optional_test, tunnel_test, match_test, pdr_test, endpoint_test, csid_test}
 use Rattle.records.proofs.Cells.{eqb_same, same_zeros, two_parts, and_comm, last_first}
 use Rattle.records.proofs.Tunnels.{tunnel_law}
-use Rattle.octets.proofs.Bools.{eqb_turn, and-false, and-true, and_four}
+use Rattle.octets.proofs.Bools.{eqb_turn, and-true, and_four}
 
 -- ---- fields one by one
 

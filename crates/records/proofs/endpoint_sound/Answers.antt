@@ -4,7 +4,6 @@ use lib.Dec.{T}
 use Rattle.octets.specs.Octets.{octets}
 use Rattle.octets.proofs.Digits.{octets_known}
 use Rattle.records.proofs.Answers.{endpoint_address_lem, endpoint_in_lem}
-use borrow.Author.Rules.{rules}
 use Rattle.records.proofs.endpoint_sound.Goals as goal
 
 pub returns-then-not-field_sound : goal.returns-then-not-field_sound

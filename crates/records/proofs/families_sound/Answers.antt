@@ -1,7 +1,6 @@
 -- `records::families_sound` meets its contract.
 -- Assumes nothing.
 use Rattle.records.proofs.Answers.{families_none, families_most}
-use borrow.Author.Rules.{rules}
 use Rattle.records.proofs.families_sound.Goals as goal
 
 pub returns-then-families-lt1 : goal.returns-then-families-lt1

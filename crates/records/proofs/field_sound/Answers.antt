@@ -1,7 +1,6 @@
 -- `records::field_sound` meets its contract.
 -- Assumes nothing.
 use Rattle.records.proofs.Answers.{field_high, field_law}
-use borrow.Author.Rules.{rules}
 use Rattle.records.proofs.field_sound.Goals as goal
 
 pub returns-then-there-gt1 : goal.returns-then-there-gt1

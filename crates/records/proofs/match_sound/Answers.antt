@@ -1,7 +1,6 @@
 -- `records::match_sound` meets its contract.
 -- Assumes nothing.
 use Rattle.records.proofs.Answers.{match_both, match_tunnel, match_stray, match_named, match_none}
-use borrow.Author.Rules.{rules}
 use Rattle.records.proofs.match_sound.Goals as goal
 
 pub returns-then-id-ne0 : goal.returns-then-id-ne0

@@ -2,10 +2,9 @@
 -- Assumes nothing.
 use mathlib.Core.Bool.{Bool, ◌||◌}
 use mathlib.Core.Path.{◌≡◌, ap, ◌∙◌}
-use Prim.Native.Nat.{◌+◌, ◌≤◌, ◌-◌, ◌*◌}
+use Prim.Native.Nat.{◌+◌, ◌-◌, ◌*◌}
 use native.Mathlib.Omega.{arith}
 use lib.ListN.{drop}
-use borrow.Author.Rules.{rules}
 use Rattle.octets.specs.Lists.{member}
 use Rattle.rules.specs.Layout.{endpoint_width}
 use Rattle.records.specs.Kept.{endpoint_ids}
@@ -23,10 +22,10 @@ loop-i-preserved c =
     let answer = member a.id (endpoint_ids a.n a.ends.now) in
     let h = c.loop-i-test.true in
     let rest = member a.id (endpoint_ids (a.n - (l.i + 1)) (drop ((l.i + 1) * endpoint_width) a.ends.now)) in
-    elim c.if-ends-i.branch
-      [ then-ends-i w ↦ (omega arith, ap (λ (t : Bool). t || rest) w.found-is ∙ found_here a.ends.now a.n l.i h a.id l.found answer l.invariant.1 w.if-ends-i.true)
+    elim c.if-ends-i.branch [
+      | then-ends-i w ↦ (omega arith, ap (λ (t : Bool). t || rest) w.found-is ∙ found_here a.ends.now a.n l.i h a.id l.found answer l.invariant.1 w.if-ends-i.true)
       | else-ends-i w ↦ (omega arith, ap (λ (t : Bool). t || rest) w.found-is ∙ found_later a.ends.now a.n l.i h a.id l.found answer l.invariant.1 w.if-ends-i.false)
-      ]
+    ]
 
 pub returns : goal.returns
 returns c =

@@ -1,16 +1,12 @@
 -- `records::names_endpoint` meets its contract: what was found and what is left of the IDs give the same answer.
 -- Assumes nothing.
-use mathlib.Core.Bool.{Bool, ◌||◌}
-use mathlib.Core.Logic.{⊎_elim}
-use mathlib.Core.Path.{◌≡◌, ap, ◌∙◌}
-use Prim.Native.Nat.{◌+◌, ◌≤◌, ◌-◌, ◌*◌}
-use native.Mathlib.Omega.{arith}
+use mathlib.Core.Bool.{◌||◌}
+use mathlib.Core.Path.{◌≡◌}
+use Prim.Native.Nat.{◌≤◌, ◌-◌, ◌*◌}
 use lib.ListN.{drop}
-use borrow.Author.Rules.{rules}
 use Rattle.octets.specs.Lists.{member}
 use Rattle.rules.specs.Layout.{endpoint_width}
 use Rattle.records.specs.Kept.{endpoint_ids}
-use Rattle.records.proofs.Answers.{found_here, found_later, found_all}
 use Rattle.records.proofs.names_endpoint.Given as goal
 
 abbrev pub invariant-loop-i : goal.invariant-loop-i

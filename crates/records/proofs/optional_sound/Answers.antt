@@ -1,7 +1,6 @@
 -- `records::optional_sound` meets its contract.
 -- Assumes nothing.
 use Rattle.records.proofs.Answers.{optional_absent, optional_there}
-use borrow.Author.Rules.{rules}
 use Rattle.records.proofs.optional_sound.Goals as goal
 
 pub returns-then-there-eq0 : goal.returns-then-there-eq0

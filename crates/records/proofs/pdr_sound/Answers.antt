@@ -4,7 +4,6 @@ use lib.Dec.{T}
 use Rattle.octets.specs.Octets.{octets}
 use Rattle.octets.proofs.Digits.{octets_known}
 use Rattle.records.proofs.Answers.{pdr_source, pdr_far, pdr_address_lem, pdr_match}
-use borrow.Author.Rules.{rules}
 use Rattle.records.proofs.pdr_sound.Goals as goal
 
 pub returns-then-slot-gt15 : goal.returns-then-slot-gt15

@@ -1,6 +1,5 @@
 -- `records::rest_sound` meets its contract.
 -- Assumes nothing.
-use borrow.Author.Rules.{rules}
 use Rattle.records.proofs.Answers.{rest_law}
 use Rattle.records.proofs.rest_sound.Goals as goal
 

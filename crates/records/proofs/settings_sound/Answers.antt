@@ -4,7 +4,6 @@ use lib.Dec.{T}
 use Rattle.octets.specs.Octets.{octets}
 use Rattle.octets.proofs.Digits.{octets_known}
 use Rattle.records.proofs.Answers.{settings_absent, settings_all}
-use borrow.Author.Rules.{rules}
 use Rattle.records.proofs.settings_sound.Goals as goal
 
 pub returns-then-not-optional_sound : goal.returns-then-not-optional_sound

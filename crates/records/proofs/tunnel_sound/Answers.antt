@@ -1,7 +1,6 @@
 -- `records::tunnel_sound` meets its contract.
 -- Assumes nothing.
 use Rattle.records.proofs.Answers.{tunnel_low, tunnel_high, tunnel_in_lem}
-use borrow.Author.Rules.{rules}
 use Rattle.records.proofs.tunnel_sound.Goals as goal
 
 pub returns-then-teid-u : goal.returns-then-teid-u

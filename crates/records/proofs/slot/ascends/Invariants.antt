@@ -1,12 +1,9 @@
 -- `records::slot::ascends` meets its contract.
 -- Assumes nothing.
-use Prim.Native.Nat.{◌+◌, ◌-◌, ◌*◌, ◌<◌, ◌≤◌}
-use native.Mathlib.Omega.{arith}
-use native.Mathlib.Nat.{mul-le-mul_right}
-use borrow.Author.Rules.{rules}
+use Prim.Native.Nat.{◌-◌}
 use Rattle.areas.specs.Records.{pair_key}
 use Rattle.areas.proofs.LookupLaws.{keys}
-use Rattle.records.proofs.Turns.{Rising, rising_from, rising_pair, rising_pair_not, rising_end, ascends_none}
+use Rattle.records.proofs.Turns.{Rising}
 use Rattle.records.proofs.slot.ascends.Given as goal
 
 abbrev pub invariant-loop-i : goal.invariant-loop-i

@@ -1,7 +1,6 @@
 -- `records::slot::counts_sound` meets its contract.
 -- Assumes nothing.
 use Rattle.records.proofs.Turns.{counts_pdrs, counts_endpoints, counts_csids}
-use borrow.Author.Rules.{rules}
 use Rattle.records.proofs.slot.counts_sound.Goals as goal
 
 pub returns-then-slot-gt-MOST_PDRS : goal.returns-then-slot-gt-MOST_PDRS

@@ -1,13 +1,11 @@
 -- `records::slot::csids_sound` meets its contract: what is left of the area gives the same answer.
 -- Assumes nothing.
 use mathlib.Core.Path.{sym, ◌∙◌}
-use Prim.Native.Nat.{◌-◌}
 use native.Mathlib.Omega.{arith}
 use lib.Dec.{lit≤}
-use borrow.Author.Rules.{rules}
 use borrow.Author.Tests.{not-true, not-false}
 use Rattle.records.specs.Kept.{csid_sound}
-use Rattle.records.proofs.Turns.{Rows, rows_none, rows_low, rows_bad, rows_more, rows_room, record_read}
+use Rattle.records.proofs.Turns.{rows_none, rows_low, rows_bad, rows_more, rows_room, record_read}
 use Rattle.rules.specs.Layout.{csid_width}
 use Rattle.records.proofs.slot.csids_sound.Goals as goal
 

@@ -1,7 +1,6 @@
 -- `records::slot::head_sound` meets its contract.
 -- Assumes nothing.
 use Rattle.records.proofs.Turns.{head_peer, head_seid, head_counts}
-use borrow.Author.Rules.{rules}
 use Rattle.records.proofs.slot.head_sound.Goals as goal
 
 pub returns-then-not-is_peer : goal.returns-then-not-is_peer

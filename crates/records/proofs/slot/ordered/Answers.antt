@@ -1,7 +1,6 @@
 -- `records::slot::ordered` meets its contract.
 -- Assumes nothing.
 use Rattle.records.proofs.Turns.{order_bad, order_good}
-use borrow.Author.Rules.{rules}
 use Rattle.records.proofs.slot.ordered.Goals as goal
 
 pub returns-then-not-ascends : goal.returns-then-not-ascends
