@@ -1,7 +1,7 @@
 -- The loop over an area's records: what is left gives the same answer, the same map and the same number.
 -- Assumes nothing.
 use Rattle.std.proofs.Common.{◌≡◌, ℕ, ◌+◌, ◌-◌, ◌*◌, ◌<◌, ◌≤◌, Bool, true, false, ◌||◌, List, [], ◌∷◌, length, get_or, take, drop, sym, refl, ap, ◌∙◌, subst, zero-le, add-zero, add_assoc, zero-add, arith}
-use mathlib.Core.Option.{Option, some}
+use mathlib.Core.Option.{Option}
 use Rattle.octets.specs.Choice.{pick, cons_option}
 use Rattle.octets.specs.Octets.{part, slices}
 use Rattle.octets.specs.Lists.{any, collect}
@@ -11,7 +11,7 @@ use Rattle.pool.specs.Map.{marks, new_marks}
 use Rattle.records.proofs.Turns.{slices_more}
 use Rattle.marking.specs.declared.addresses.Met.{Met}
 use Rattle.marking.specs.declared.addresses.Met.TheVariants.{Clash, New}
-use Rattle.marking.specs.Offsets.{address_at, offset_of, offsets_in, new_by, mark_by, Present, holder_at, earlier, Agrees, Claimable, Claimed, AreaClaimed}
+use Rattle.marking.specs.Offsets.{address_at, offset_of, offsets_in, Present, holder_at, earlier, Agrees, Claimable, Claimed, AreaClaimed}
 use Rattle.marking.proofs.AddressSteps.{below, claimable, Entering, entering, marks_more, new_more, new_few, length_mark_by}
 
 -- the same answer about each is the same about any

@@ -1,6 +1,6 @@
 -- A session's slot: endpoints first, then PDRs; and its offsets are those that the session holds.
 -- Assumes nothing.
-use Rattle.std.proofs.Common.{◌≡◌, ℕ, ◌+◌, ◌-◌, ◌<◌, ◌≤◌, Bool, true, false, not, ◌&&◌, ◌||◌, T, eqb, ltb, List, [], ◌∷◌, ◌++◌, map, length, get_or, sym, refl, ap, ◌∙◌, ap₂, arith, lt-ltb}
+use Rattle.std.proofs.Common.{◌≡◌, ℕ, ◌+◌, ◌-◌, ◌<◌, ◌≤◌, Bool, true, false, not, ◌&&◌, ◌||◌, T, List, [], ◌∷◌, ◌++◌, map, length, get_or, sym, refl, ap, ◌∙◌, ap₂, arith, lt-ltb}
 use mathlib.Core.Bool.{or_assoc}
 use mathlib.Core.Option.{Option, none, some}
 use Rattle.octets.specs.Choice.{pick, cons_option}
@@ -18,7 +18,7 @@ use Rattle.records.specs.Slot.{head_sound, pdr_area, endpoint_area}
 use Rattle.records.proofs.SlotLaws.{counts_headed, slot_of, view_slot}
 use Rattle.marking.specs.declared.addresses.Met.{Met}
 use Rattle.marking.specs.declared.addresses.Met.TheVariants.{Clash, New}
-use Rattle.marking.specs.Offsets.{address_at, offset_of, offsets_in, slot_offsets, held_offsets, earlier, Agrees, AreaClaimed, AddressesAdmitted, SlotClaimed}
+use Rattle.marking.specs.Offsets.{address_at, offset_of, offsets_in, slot_offsets, held_offsets, earlier, Agrees, AreaClaimed, SlotClaimed}
 use Rattle.marking.proofs.AddressSteps.{below}
 use Rattle.marking.proofs.AddressAreas.{any_same}
 

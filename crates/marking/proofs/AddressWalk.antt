@@ -1,10 +1,10 @@
 -- The walk that marks addresses (02 (v)) says just what `apart` says of addresses: every two sessions have none of the pool in common.
 -- Assumes nothing.
-use Rattle.std.proofs.Common.{◌≡◌, ℕ, ◌-◌, ◌*◌, ◌≤◌, Bool, true, false, not, ◌&&◌, ◌||◌, T, List, [], ◌∷◌, ◌++◌, map, length, replicate, sym, refl, ap, ◌∙◌}
+use Rattle.std.proofs.Common.{◌≡◌, ℕ, ◌*◌, ◌≤◌, Bool, true, false, not, ◌&&◌, ◌||◌, T, List, [], ◌∷◌, ◌++◌, map, length, replicate, sym, refl, ap, ◌∙◌}
 use lib.ListN.{length-replicate}
 use Rattle.octets.specs.Lists.{member, any_in, any, all, all_pairs}
 use Rattle.octets.proofs.Tests.{all_head, all_tail}
-use Rattle.octets.proofs.Bools.{and_four, or_four, and_swap}
+use Rattle.octets.proofs.Bools.{and_four, or_four}
 use Rattle.octets.proofs.Questions.{any_nil, any_cons, any_turn, member_append}
 use Rattle.octets.proofs.EachTwo.{all_step, pairs_step}
 use Rattle.rules.specs.Model.{Settings, Session, Sessions, session_addresses}

@@ -7,7 +7,7 @@ use Rattle.octets.specs.Choice.{pick}
 use Rattle.octets.specs.Octets.{part, number, octets}
 use Rattle.octets.specs.Fields.{fields_at}
 use Rattle.octets.specs.Lists.{collect}
-use Rattle.rules.specs.Model.{Holding, pdr_holding, endpoint_holding, tunnel_holding}
+use Rattle.rules.specs.Model.{Holding, endpoint_holding, tunnel_holding}
 use Rattle.rules.specs.Layout.{tunnel_read, endpoint_from, view_endpoint, pdr_width, endpoint_width, match_at, teid_at, endpoint_teid_at}
 use Rattle.rules.specs.Sound.{marked}
 use Rattle.pool.specs.Map.{mark}

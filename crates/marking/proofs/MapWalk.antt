@@ -1,7 +1,7 @@
 -- The walk with the map of taken TEIDs: the map's bits stand for the TEIDs seen, so it says what the walk with their list says.
 -- The TEIDs of records that keep the rules are in the pool, so that each has its bit.
 -- Assumes nothing.
-use Rattle.std.proofs.Common.{◌≡◌, ℕ, ◌+◌, ◌-◌, ◌*◌, ◌≤◌, Bool, true, false, not, ◌&&◌, ◌||◌, T, List, [], ◌∷◌, ◌++◌, map, length, replicate, sym, refl, ap, ◌∙◌, subst}
+use Rattle.std.proofs.Common.{◌≡◌, ℕ, ◌-◌, ◌*◌, ◌≤◌, Bool, true, false, not, ◌&&◌, ◌||◌, T, List, [], ◌∷◌, ◌++◌, map, length, replicate, sym, refl, ap, ◌∙◌, subst}
 use mathlib.Core.Bool.{and_assoc}
 use mathlib.Core.List.{map-append}
 use lib.ListN.{length-replicate}

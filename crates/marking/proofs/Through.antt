@@ -1,7 +1,7 @@
 -- The loop over the slots of a table: what is left gives the same answer, the same map and the same number of new marks. It is the same for
 -- TEIDs and for addresses: a slot has a test against the map, and offsets that are marked.
 -- Assumes nothing.
-use Rattle.std.proofs.Common.{◌≡◌, ℕ, ◌+◌, ◌-◌, ◌*◌, ◌<◌, ◌≤◌, Bool, true, false, ◌&&◌, List, [], ◌∷◌, length, drop, sym, refl, ap, ◌∙◌, subst, zero-le, add-zero, add_assoc, zero-add, arith}
+use Rattle.std.proofs.Common.{◌≡◌, ℕ, ◌+◌, ◌-◌, ◌*◌, ◌<◌, ◌≤◌, Bool, true, false, ◌&&◌, List, [], ◌∷◌, length, drop, sym, refl, ap, ◌∙◌, zero-le, add-zero, add_assoc, zero-add, arith}
 use Rattle.octets.specs.Octets.{part, slices, concat_map}
 use Rattle.rules.specs.Layout.{session_width}
 use Rattle.pool.specs.Map.{marks, new_marks}

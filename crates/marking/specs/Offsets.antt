@@ -1,7 +1,7 @@
 -- Which addresses of the pool stand in the octets of a session's slot, and the walk that marks them (02 (v)). An offset is an address less the
 -- pool's first.
 -- Assumes nothing.
-use Rattle.std.specs.Prelude.{◌≡◌, ℕ, ◌+◌, ◌-◌, ◌*◌, ◌<◌, ◌≤◌, Bool, not, ◌&&◌, List, [], ◌∷◌, ◌++◌, length, ◌==◌, nat_lt, slice_index, slice_index_or, slice_set}
+use Rattle.std.specs.Prelude.{◌≡◌, ℕ, ◌+◌, ◌-◌, ◌*◌, ◌<◌, ◌≤◌, Bool, not, ◌&&◌, List, ◌++◌, length, ◌==◌, nat_lt, slice_index, slice_index_or, slice_set}
 use Rattle.std.proofs.Math.Option.{Option, none, some}
 use Rattle.octets.specs.Choice.{pick, flag}
 use Rattle.octets.specs.Octets.{part, number, octet_at, slices}

@@ -1,0 +1,57 @@
+-- `marking::admit_all` meets its contract.
+-- Assumes nothing.
+use Rattle.std.proofs.Common.{◌≡◌, ℕ, length, ap, ◌∙◌, arith, rules}
+use lib.ListN.{length-replicate}
+use Rattle.unit.specs.Meaning.{settings_of}
+use Rattle.rules.specs.Limits.{address_words}
+use Rattle.marking.proofs.Entering.{holders_none, passing_none, passing_turn, turn_tally, turn_added, passing_stop, passing_all}
+use Rattle.marking.proofs.admit_all.Goals as goal
+
+pub loop-i-init : goal.loop-i-init
+unfolding settings_of
+loop-i-init c =
+    let start = c in
+    let g = c.args in
+    passing_none (settings_of g.u) g.words.now g.addresses.now g.a.now g.n _ (holders_none g.u.addresses address_words g.addresses.now c.requires.5 c.requires.6)
+
+pub overflow_add-i : goal.overflow_add-i
+overflow_add-i c = omega (arith, c.loop-i-test.true, c.requires.1)
+
+pub overflow_cast-i : goal.overflow_cast-i
+overflow_cast-i c = omega (arith, c.loop-i-test.true, c.requires.1)
+
+pub admit_session-step-requires : goal.admit_session-step-requires
+unfolding settings_of
+admit_session-step-requires c =
+    let start = c in
+    let g = c.args in
+    let l = c.loop-i in
+    let taken = c.loop-i-test.true in
+    let sound : length g.addresses.now ≡ address_words = ap length c.requires.6 ∙ length-replicate {A = ℕ} address_words 0 in
+    (search rules, c.requires.2, omega (arith, c.requires.3, l.invariant.teids.long), c.requires.4, omega (arith, c.requires.5, l.invariant.addresses.long, sound), omega arith, omega (arith, taken, c.requires.1), passing_turn (settings_of g.u) g.words.now g.addresses.now g.a.now g.n l.invariant)
+
+pub returns-in_default : goal.returns-in_default
+returns-in_default c =
+    let g = c.args in
+    let l = c.loop-i in
+    let t = c.admit_session-step in
+    passing_stop (settings_of g.u) g.words.now g.addresses.now g.a.now g.n l.invariant c.loop-i-test.true t.result t.new.words t.new.holders t.new.addresses t.ensures t.new.words t.new.addresses c.in_default.is
+
+pub added-sum-requires : goal.added-sum-requires
+added-sum-requires c =
+    let g = c.args in
+    let l = c.loop-i in
+    let t = c.admit_session-step in
+    turn_tally (settings_of g.u) g.words.now g.addresses.now g.a.now g.n l.invariant c.loop-i-test.true t.result t.new.words t.new.holders t.new.addresses t.ensures c.in-Held.j c.in-Held.k c.in-Held.is c.requires.1
+
+pub loop-i-preserved : goal.loop-i-preserved
+loop-i-preserved c =
+    let g = c.args in
+    let l = c.loop-i in
+    let t = c.admit_session-step in
+    turn_added (settings_of g.u) g.words.now g.addresses.now g.a.now g.n l.invariant c.loop-i-test.true t.result t.new.words t.new.holders t.new.addresses t.ensures c.in-Held.j c.in-Held.k _ _ _ _ c.in-Held.is c.added-sum.ensures
+
+pub returns : goal.returns
+returns c =
+    let g = c.args in
+    passing_all (settings_of g.u) g.words.now g.addresses.now g.a.now g.n c.loop-i.invariant c.loop-i-test.false
