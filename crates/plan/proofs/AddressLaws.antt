@@ -1,8 +1,8 @@
 -- Octets of two numbers compared, as their numbers are; and the addresses of a row against the unit's. Assumes nothing.
 use mathlib.Core.Path.{◌≡◌, sym, ap, ap₂, ◌∙◌}
-use mathlib.Core.Bool.{true, false, not, ◌&&◌}
-use mathlib.Core.List.{List, [], ◌∷◌, ◌++◌}
-use Prim.Native.Nat.{ℕ, ◌+◌, ◌-◌, ◌%◌, ◌^◌}
+use mathlib.Core.Bool.{true, false, not}
+use mathlib.Core.List.{List}
+use Prim.Native.Nat.{ℕ, ◌%◌, ◌^◌}
 use lib.Dec.{T, eqb, eqb→eq, eqb_refl}
 use Rattle.octets.specs.Choice.{is_nil}
 use Rattle.octets.specs.Octets.{be, number, same_octets}

@@ -4,13 +4,13 @@ use mathlib.Core.Path.{◌≡◌, refl, ap}
 use mathlib.Core.Bool.{Bool, true, false, not, ◌&&◌, ◌||◌}
 use mathlib.Core.Option.{Option, none, some}
 use mathlib.Core.List.{List, [], ◌++◌}
-use Prim.Native.Nat.{ℕ, ◌+◌, ◌-◌}
+use Prim.Native.Nat.{ℕ}
 use lib.Dec.{eqb}
 use Rattle.octets.specs.Choice.{pick, is_some, is_nil, bind_option}
 use Rattle.octets.specs.Octets.{be, bit}
 use Rattle.octets.specs.Rows.{has_tag}
 use Rattle.rules.specs.Model.{Holding}
-use Rattle.rules.specs.Elements.{Fteid, given, choose, has_v4, has_v6, chooses, choose_id_of}
+use Rattle.rules.specs.Elements.{Fteid, given, choose, has_v4, has_v6, chooses}
 use Rattle.rules.specs.Stages.{restored_holding, endpoint_restored, pdr_restored}
 use Rattle.rules.specs.Grants.{Kind, ofPdr, ofEndpoint, Choice, choice_of, endpoint_choice, pdr_choice, choice_id}
 use Rattle.plan.specs.Rows.{word, fteid_from, row_fteid, row_local, row_pdr, row_endpoint}

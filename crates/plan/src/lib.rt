@@ -1,5 +1,7 @@
 // Questions about a request's plan, which is rows of 20 words: what the causes 71, 76, 73, 75 and 79 ask of the rows alone.
 // A rule on one row or on two rows is a function of its own; a loop asks it of every row.
+#![tactic(auto)]
+
 ghost use Rattle.std.specs.Prelude.{◌≡◌, false, ◌&&◌, ◌*◌, ◌≤◌, ◌<◌, eqb, length};
 ghost use Rattle.octets.specs.Lists.{member, any};
 ghost use Rattle.octets.specs.Rows.{has_tag, column};

@@ -1,0 +1,37 @@
+-- `plan::named_later` meets its contract. The rows that are left give the same answer. Assumes nothing.
+use mathlib.Core.Path.{refl, sym, ◌∙◌}
+use native.Mathlib.Omega.{arith}
+use Rattle.plan.specs.Rows.{row_width}
+use Rattle.plan.proofs.WalkLaws.{any_none, any_hit, any_miss, row_length, rest_length}
+use borrow.Author.Rules.{rules}
+use Rattle.plan.proofs.named_later.Goals as goal
+
+pub loop-left-init : goal.loop-left-init
+loop-left-init c = (search rules, refl)
+
+pub slice_bounds-same_teid-end : goal.slice_bounds-same_teid-end
+slice_bounds-same_teid-end c =
+    let l = c.loop-left in
+    sym (row_length row_width l.rest.now l.left c.loop-left-test.true l.invariant.0)
+
+pub same_teid-requires : goal.same_teid-requires
+same_teid-requires c =
+    let l = c.loop-left in
+    (search rules, row_length row_width l.rest.now l.left c.loop-left-test.true l.invariant.0)
+
+pub returns-then-same_teid : goal.returns-then-same_teid
+returns-then-same_teid c =
+    let t = c in
+    sym (any_hit _ _ _ _ c.loop-left-test.true (sym c.same_teid.ensures ∙ c.if-same_teid.true)) ∙ c.loop-left.invariant.1
+
+pub slice_bounds-rest-count : goal.slice_bounds-rest-count
+slice_bounds-rest-count c = omega arith
+
+pub loop-left-preserved : goal.loop-left-preserved
+loop-left-preserved c =
+    let t = c in
+    let l = c.loop-left in
+    (rest_length row_width l.rest.now l.left c.loop-left-test.true l.invariant.0, any_miss _ _ _ _ c.loop-left-test.true (sym c.same_teid.ensures ∙ c.if-same_teid.false) ∙ l.invariant.1)
+
+pub returns : goal.returns
+returns c = sym (any_none _ _ _ _ c.loop-left-test.false) ∙ c.loop-left.invariant.1
