@@ -11,12 +11,12 @@ use Rattle.octets.specs.Choice.{pick, one_of, value_or, map_option, is_some, hea
 use Rattle.octets.specs.Lists.{member, any_in, all_in, distinct, without, range, keep}
 use Rattle.octets.proofs.ListLaws.{map-map, collect_map}
 use Rattle.octets.proofs.Mapped.{of_pick, keep_map, find_map}
-use Rattle.rules.specs.Model.{peer_of, other_peer, has_peer, of_peer, holdings, unused, key_for, Settings, Pdr, Session, Sessions, Holding, teid_of, pdr_holding, session_holdings, session_teids, held_teids, free_count, free_teids, session_addresses, held_addresses, free_address_count, free_addresses, pdr_id, pdr_endpoint}
+use Rattle.rules.specs.Model.{other_peer, has_peer, of_peer, holdings, unused, key_for, Settings, Pdr, Session, Sessions, Holding, teid_of, pdr_holding, session_holdings, session_teids, held_teids, free_count, free_teids, session_addresses, held_addresses, free_address_count, free_addresses, pdr_id, pdr_endpoint}
 use Rattle.rules.specs.Message.{kind_of, header_seid, Spot, frame_fault}
 use Rattle.rules.specs.Reading.{Fault, read_fault, read_request}
 use Rattle.rules.specs.Request.{Request}
 use Rattle.rules.specs.Grants.{choices, grant_from, grants, granted_teid, chosen_address, granted}
-use Rattle.rules.specs.Stages.{Verdict, plain, has_key, session_of, is_live, new_session, unnamed, at_entry, created_pdrs, created_endpoints, updated_pdrs, live_pdrs, live_endpoints, goes_pdr, removed_pdrs, created_live, absent_id, updates_removed, endpoint_ids_after, names_absent, clash, address_clash, request_rules, broken_rules, breaks_rule, too_many_sessions, too_many_pdrs, too_many_endpoints, needed, passes_limit, passes_pool, too_few_teids, room_lacks, address_lacks, judge, entry_session, judged, from_reading, verdict_from, unknown_session, verdict, reasons, already_live}
+use Rattle.rules.specs.Stages.{Verdict, plain, has_key, session_of, is_live, new_session, unnamed, at_entry, created_pdrs, created_endpoints, updated_pdrs, live_pdrs, live_endpoints, goes_pdr, removed_pdrs, created_live, absent_id, updates_removed, endpoint_ids_after, names_absent, clash, address_clash, request_rules, broken_rules, breaks_rule, too_many_sessions, too_many_pdrs, too_many_endpoints, passes_limit, passes_pool, too_few_teids, room_lacks, address_lacks, judge, entry_session, judged, from_reading, verdict_from, unknown_session, verdict, reasons, already_live}
 use Rattle.rules.specs.Finding.{place_from, session_place, is_holder, holder_place}
 use Rattle.rules.specs.Causes as why
 use Rattle.rules.specs.Bare.{bare_pdr, bare_session, bare, Alike}

@@ -1,3 +1,2 @@
 // Laws of the rules' definitions stand in proofs/; this crate has no code.
 #![tactic(auto)]
-

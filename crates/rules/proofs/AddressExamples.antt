@@ -2,11 +2,10 @@
 -- holders, and one that is remembered into the next request.
 -- Assumes nothing.
 use mathlib.Core.Path.{◌≡◌, refl}
-use Prim.Native.Nat.{ℕ, ◌+◌}
-use mathlib.Core.Bool.{true}
-use mathlib.Core.Option.{Option, none, some}
+use Prim.Native.Nat.{ℕ}
+use mathlib.Core.Option.{Option, some}
 use mathlib.Core.List.{List, [], ◌∷◌, ◌++◌, map}
-use Rattle.octets.specs.Octets.{be, same_octets}
+use Rattle.octets.specs.Octets.{be}
 use Rattle.rules.specs.Model.{Pdr, Session}
 use Rattle.rules.specs.Layout.{encode, view_sessions}
 use Rattle.rules.specs.Sound.{Count, free, count_addresses}
@@ -15,7 +14,7 @@ use Rattle.rules.specs.Reply.{element, message}
 use Rattle.rules.specs.Serve.{Served}
 use Rattle.rules.specs.Live.{reply_cause, created_address}
 use Rattle.rules.proofs.Computing.{computing}
-use Rattle.rules.proofs.CallExamples.{unit, fseid, create, remove, own, establish, modify, delete, calls, ask}
+use Rattle.rules.proofs.CallExamples.{unit, fseid, create, remove, own, establish, modify, calls, ask}
 
 -- the unit's two addresses, 10.0.0.1 and 10.0.0.2, and one of another's
 abbrev low : ℕ

@@ -1,7 +1,7 @@
 -- 01's worked calls ("Worked on paper") and errors seen, by computation.
 -- Assumes nothing.
 use mathlib.Core.Path.{◌≡◌, refl}
-use Prim.Native.Nat.{ℕ, ◌+◌}
+use Prim.Native.Nat.{ℕ}
 use mathlib.Core.List.{List, [], ◌∷◌, ◌++◌, map}
 use Rattle.octets.specs.Octets.{be, zeros}
 use Rattle.rules.specs.Model.{Settings}

@@ -2,7 +2,7 @@
 -- Assumes nothing.
 use mathlib.Core.Path.{◌≡◌, refl}
 use Prim.Native.Nat.{ℕ}
-use mathlib.Core.List.{List, [], ◌∷◌, map}
+use mathlib.Core.List.{[], ◌∷◌, map}
 use Rattle.rules.specs.Finding.{Finding, Share, count_sessions, find_session, find_holder, count_peer}
 use Rattle.rules.proofs.Computing.{computing}
 use Rattle.rules.proofs.CallExamples.{calls}

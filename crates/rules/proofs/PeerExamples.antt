@@ -5,12 +5,12 @@ use Prim.Native.Nat.{ℕ}
 use mathlib.Core.Bool.{true, false}
 use mathlib.Core.List.{List, [], ◌∷◌, ◌++◌, map}
 use Rattle.octets.specs.Octets.{zeros, same_octets}
-use Rattle.rules.specs.Model.{Settings, Peer, Session, Sessions}
+use Rattle.rules.specs.Model.{Settings, Session, Sessions}
 use Rattle.rules.specs.Layout.{encode, view_sessions}
 use Rattle.rules.specs.Sound.{settings_allowed, sound}
 use Rattle.rules.specs.Reply.{element, list_message}
 use Rattle.rules.specs.Serve.{serve, Served}
-use Rattle.rules.specs.Live.{Event, replied, counted, reply_cause, reply_in, live}
+use Rattle.rules.specs.Live.{Event, replied, counted, reply_cause, reply_in}
 use Rattle.rules.specs.Calls.{Call, request, events_of, table_after_all}
 use Rattle.rules.specs.Claim.{Restore, restore_calls}
 use Rattle.rules.specs.Finding.{count_peer}

@@ -14,7 +14,7 @@
 -- its octets, its view and its width follow.
 --
 -- Assumes nothing.
-use Rattle.std.specs.Prelude.{ℕ, ◌+◌, ◌-◌, ◌*◌, not, List, [], ◌∷◌, ◌++◌, map, length, take, drop, get_or, eqb}
+use Rattle.std.specs.Prelude.{ℕ, ◌+◌, ◌*◌, not, List, [], ◌∷◌, ◌++◌, map, length, take, drop, get_or, eqb}
 use Rattle.std.proofs.Math.Option.{Option, none, some}
 use Rattle.octets.specs.Choice.{pick, flag, is_nil, is_some, value_or}
 use Rattle.octets.specs.Octets.{be, part, number, number_at, octet_at, bit, padded, slices, concat_map}

@@ -11,12 +11,11 @@ use borrow.Author.Tests.{eqb-true}
 use lib.ListN.{length, set}
 use Rattle.octets.specs.Choice.{pick, flag, is_some, value_or}
 use Rattle.octets.specs.Octets.{be, put, zeros}
-use Rattle.octets.specs.Fields.{width_of}
 use Rattle.octets.proofs.Put.{put_put}
 use Rattle.octets.proofs.Numbers.{length_be}
 use Rattle.octets.proofs.FieldLaws.{put_field}
 use Rattle.rules.specs.Model.{Pdr}
-use Rattle.rules.specs.Layout.{pdr_widths, pdr_numbers, pdr_octets, pdr_width, precedence_at, far_at, far_id_at}
+use Rattle.rules.specs.Layout.{pdr_widths, pdr_numbers, pdr_octets, precedence_at, far_at, far_id_at}
 use Rattle.laws.proofs.LayoutLaws.{length_pdr}
 use Rattle.rules.specs.Apply.{or_old, pdr_with}
 use Rattle.plan.specs.Rows.{word, present, row_far, row_change}

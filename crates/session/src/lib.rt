@@ -2,6 +2,8 @@
 // the PDRs that go and the rows of a plan, after every check has passed; put back, or taken out.
 //
 // The functions work on any octets of the slot's length; proofs/ says that on a session's octets they make the rules' session.
+#![tactic(auto)]
+
 ghost use Rattle.std.specs.Prelude.{◌≡◌, ◌*◌, ◌≤◌, ◌<◌, ◌+◌, length};
 ghost use Rattle.octets.specs.Octets.{slices, be, part, put, zeros};
 ghost use Rattle.rules.specs.Layout.{key_width, session_width, pdr_width, endpoint_width};

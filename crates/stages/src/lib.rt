@@ -1,5 +1,7 @@
 // Stages 4 and 5 of a request: the causes 64, 71, 76, 73, 75 and 79, judged on the plan's rows, the session's slot at entry and the IDs of its PDRs
 // that go. Nothing is written here.
+#![tactic(auto)]
+
 ghost use Rattle.std.specs.Prelude.{◌≡◌, false, ◌&&◌, ◌*◌, ◌+◌, ◌-◌, ◌≤◌, eqb, ltb, length};
 ghost use Rattle.rules.specs.Message.{establishment};
 ghost use Rattle.rules.specs.Model.{free_address_count, of_peer};

@@ -1,0 +1,40 @@
+use Rattle.areas.proofs.Steps.{found_room, absent_room, put_over_found, put_in_absent, put_nowhere}
+use Rattle.session.proofs.Steps.{endpoints_fit_lem, endpoints_key, endpoint_wide, endpoint_keyed, put_there}
+use mathlib.Core.Path.{sym, ◌∙◌}
+use native.Mathlib.Omega.{arith}
+use borrow.Author.Rules.{rules}
+use Rattle.session.proofs.put_endpoint.Goals as goal
+
+pub read-id-requires : goal.read-id-requires
+read-id-requires c = endpoint_keyed _ _ c.endpoints-a.ensures c.requires.1
+
+pub find-place-requires : goal.find-place-requires
+find-place-requires c = (endpoints_fit_lem _ _ c.endpoints-a.ensures c.requires.0, endpoints_key _ c.endpoints-a.ensures)
+
+pub replace-requires : goal.replace-requires
+replace-requires c =
+    let f = found_room _ c.args.slot.now c.read-id.result c.in-Found.p (sym c.find-place.ensures ∙ c.in-Found.is) in
+    (endpoints_fit_lem _ _ c.endpoints-a.ensures c.requires.0, omega (arith, f), endpoint_wide _ _ c.endpoints-a.ensures c.requires.1)
+
+pub count-requires : goal.count-requires
+count-requires c = endpoints_fit_lem _ _ c.endpoints-a.ensures c.requires.0
+
+pub insert-requires : goal.insert-requires
+insert-requires c =
+    let f = absent_room _ c.args.slot.now c.read-id.result c.in-Absent.p (sym c.find-place.ensures ∙ c.in-Absent.is) in
+    (endpoints_fit_lem _ _ c.endpoints-a.ensures c.requires.0, f, search rules, endpoint_wide _ _ c.endpoints-a.ensures c.requires.1)
+
+pub returns-in-Found : goal.returns-in-Found
+returns-in-Found c =
+    put_there _ _ _ _ _ c.endpoints-a.ensures
+    (put_over_found _ _ _ c.in-Found.p _ c.find-place.ensures _ _ c.read-id.ensures.0 c.in-Found.is c.replace.ensures)
+
+pub returns-then-count-a : goal.returns-then-count-a
+returns-then-count-a c =
+    put_there _ _ _ _ _ c.endpoints-a.ensures
+    (put_in_absent _ _ _ c.in-Absent.p _ c.find-place.ensures _ _ _ c.read-id.ensures.0 c.in-Absent.is c.count.ensures c.if-count-a.true c.insert.ensures)
+
+pub returns-else-count-a : goal.returns-else-count-a
+returns-else-count-a c =
+    put_there _ _ _ _ _ c.endpoints-a.ensures
+    (put_nowhere _ _ _ c.in-Absent.p _ c.find-place.ensures _ _ c.read-id.ensures.0 c.in-Absent.is c.count.ensures c.if-count-a.false)
