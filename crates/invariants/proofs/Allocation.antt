@@ -182,7 +182,7 @@ module _ (s : Settings) (m : Sessions) where
 
   -- every CHOOSE in turn
   each_lowest : (l : List Choice) (cs : List Chosen) (free seen before : List ℕ) → Matches seen cs → Between s m before cs free → need_from seen l ≤ length free → EachLowest s m before seen (granted_from cs free l)
-  unfolding granted_from need_from
+  unfolding granted_from need_from teid_for chosen_after free_after noted is_fresh
   each_lowest [] cs free seen before h b hn = tt
   each_lowest (c ∷ l) cs free seen before h b hn =
       by_id c.choose_id (λ cs' free' seen' before' h' b' hn'. each_lowest l cs' free' seen' before' h' b' hn') hn
@@ -214,12 +214,11 @@ module _ (s : Settings) (m : Sessions) where
 
       again : (i : ℕ) → Rest → (d : Chosen) → find_by (is_choice i) cs ≡ some d → need_from (i ∷ seen) l ≤ length free → Goal free (some i) (some d.teid)
       again i ih d e n =
-          unfold teid_for chosen_after free_after noted is_fresh in (
           let there : member i seen ≡ true = h i ∙ ap is_some e in
           let old = found_knows (λ e'. T (member e'.teid before)) (is_choice i) cs d (all_every (λ e'. member e'.teid before) cs b.known) e in (
             λ fresh. absurd (subst (λ (k : Bool). T (not k)) there fresh),
             ih cs free (i ∷ seen) (d.teid ∷ before) (matches_old seen cs i h (ap is_some e)) (between_again before cs free d.teid old b) n,
-          ))
+          )
 
       with_id_lem : (i : ℕ) → Rest → (o : Option Chosen) → find_by (is_choice i) cs ≡ o → pick (not (is_some o)) 1 0 + need_from (i ∷ seen) l ≤ length free → Goal free (some i) (map_option chosen o)
       with_id_lem i ih none e n = first_use i ih free b n
@@ -270,10 +269,10 @@ pdr_choose_id p = bind_option p.local choose_id_of
 -- two PDRs with one CHOOSE ID have one TEID
 pub pdrs_share : (s : Settings) (m : Sessions) (r : Request) → Allocates s m r
     → T (all_pairs (λ p q. not (same_choice (pdr_choose_id p) (pdr_choose_id q)) || eqb (granted_teid (grants s m r) ofPdr p.id) (granted_teid (grants s m r) ofPdr q.id)) r.pdrs)
-unfolding choices
+unfolding choices pdr_choice
 pdrs_share s m r a =
     pairs_imply (λ p q. on_both alike (pdr_choice p) (pdr_choice q)) (λ p q. not (same_choice (pdr_choose_id p) (pdr_choose_id q)) || eqb (teid ofPdr p.id) (teid ofPdr q.id))
-    (λ p q h. one p.id q.id p.local q.local (unfold pdr_choice in h)) r.pdrs
+    (λ p q h. one p.id q.id p.local q.local h) r.pdrs
     (subst T (pairs_collect pdr_choice alike r.pdrs)
     (pairs_behind alike (collect endpoint_choice r.endpoints) (collect pdr_choice r.pdrs)
     (subst (λ (l : List Choice). T (all_pairs alike l)) a.order

@@ -215,19 +215,20 @@ module _ (kind : ℕ) (s : Settings) (who : ℕ) (m : Sessions) (x : Session) (r
 
   -- a new PDR keeps its rule
   new_pdrs_allowed : T (all (pdr_allowed s live_after) new_pdrs)
+  unfolding made_pdr granted
   new_pdrs_allowed =
       subst T (sym (all_map (made_pdr got) (pdr_allowed s live_after) r.pdrs))
       (all_know PdrRead (λ p. on_some (λ l. tunnel_allowed s (local_tunnel teids l)) (pdr_new p) && on_some (λ n. member n (endpoint_ids_after x r)) p.endpoint) (λ p. pdr_allowed s live_after (made_pdr got p))
-      (λ p k h. unfold made_pdr in (pdr_allowed_lem {s = s} {live = live_after} {p = made_pdr got p} (record {
+      (λ p k h. pdr_allowed_lem {s = s} {live = live_after} {p = made_pdr got p} (record {
         id = k.id;
         precedence = k.precedence;
         far = k.far;
         source = k.source;
-        match = unfold granted in (matched p.id p.source p.local p.endpoint k.endpoint
+        match = matched p.id p.source p.local p.endpoint k.endpoint
             (and_left (on_some (λ l. tunnel_allowed s (local_tunnel teids l)) (pdr_new p)) (on_some (λ n. member n (endpoint_ids_after x r)) p.endpoint) h)
-            (and_right (on_some (λ l. tunnel_allowed s (local_tunnel teids l)) (pdr_new p)) (on_some (λ n. member n (endpoint_ids_after x r)) p.endpoint) h));
-        address = unfold granted in (address_made (chosen_address s m) fits p.address k.address);
-      }))) r.pdrs read.pdrs
+            (and_right (on_some (λ l. tunnel_allowed s (local_tunnel teids l)) (pdr_new p)) (on_some (λ n. member n (endpoint_ids_after x r)) p.endpoint) h);
+        address = address_made (chosen_address s m) fits p.address k.address;
+      })) r.pdrs read.pdrs
       (all_join (λ p. on_some (λ l. tunnel_allowed s (local_tunnel teids l)) (pdr_new p)) (λ p. on_some (λ n. member n (endpoint_ids_after x r)) p.endpoint)
       (λ p. on_some (λ l. tunnel_allowed s (local_tunnel teids l)) (pdr_new p) && on_some (λ n. member n (endpoint_ids_after x r)) p.endpoint)
       (λ p a b. both (on_some (λ l. tunnel_allowed s (local_tunnel teids l)) (pdr_new p)) (on_some (λ n. member n (endpoint_ids_after x r)) p.endpoint) a b) r.pdrs
@@ -244,6 +245,7 @@ module _ (kind : ℕ) (s : Settings) (who : ℕ) (m : Sessions) (x : Session) (r
 
   -- a PDR that stays keeps its rule: its endpoint stays too
   old_pdrs_allowed : T (all (pdr_allowed s live_after) (keep (kept_key pdr_id gone) x.pdrs))
+  unfolding pdr_endpoint
   old_pdrs_allowed =
       all_join (pdr_allowed s (map endpoint_id x.endpoints)) (λ p. on_some (λ n. not (member n r.gone_endpoints)) (pdr_endpoint p)) (pdr_allowed s live_after) one
       (keep (kept_key pdr_id gone) x.pdrs) (keep_all (kept_key pdr_id gone) (pdr_allowed s (map endpoint_id x.endpoints)) x.pdrs kept.records.pdrs)
@@ -261,7 +263,7 @@ module _ (kind : ℕ) (s : Settings) (who : ℕ) (m : Sessions) (x : Session) (r
       one : (p : Pdr) → T (pdr_allowed s (map endpoint_id x.endpoints) p) → T (on_some (λ n. not (member n r.gone_endpoints)) (pdr_endpoint p)) → T (pdr_allowed s live_after p)
       one p h g =
           let k = pdr_kept s (map endpoint_id x.endpoints) p h in
-          pdr_allowed_lem (kept_match k (matched p.match k.match (unfold pdr_endpoint in g)))
+          pdr_allowed_lem (kept_match k (matched p.match k.match g))
 
   -- every PDR afterwards keeps its rule
   pub pdrs_allowed : T (all (pdr_allowed s live_after) (pdrs_after got r x.pdrs))

@@ -37,7 +37,7 @@ module _ (s : Settings) (m : Sessions) where
 
 -- every TEID of a session's records
 session_pool : (s : Settings) (x : Session) → T (session_allowed s x) → T (all (in_pool s) (session_teids x))
-unfolding session_teids session_holdings
+unfolding session_teids session_holdings pdr_holding
 session_pool s x h =
     let k = (session_kept s x h).records in
     subst T (sym (all_map teid_of (in_pool s) (map endpoint_holding x.endpoints ++ collect pdr_holding x.pdrs)))
@@ -56,7 +56,7 @@ session_pool s x h =
     matched a (endpoint e) g = unfold matched_tunnel in tt
 
     of_pdr : (p : Pdr) → T (pdr_allowed s (map endpoint_id x.endpoints) p) → T (on_some (λ g. in_pool s g.teid) (pdr_holding p))
-    of_pdr p g = unfold pdr_holding in (matched p.source p.match (pdr_kept s (map endpoint_id x.endpoints) p g).match)
+    of_pdr p g = matched p.source p.match (pdr_kept s (map endpoint_id x.endpoints) p g).match
 
 -- every held TEID is in the pool
 pub held_in_pool : (s : Settings) (m : Sessions) → T (sessions_allowed s m) → T (all (in_pool s) (held_teids m))

@@ -1,7 +1,7 @@
 -- What the live set reads from an accepted reply is what the reply's reports say.
 -- Assumes nothing.
 use mathlib.Core.Path.{◌≡◌, refl, sym, ap, ◌∙◌, subst}
-use Prim.Native.Nat.{ℕ, suc, ◌+◌, ◌^◌, ◌≤◌}
+use Prim.Native.Nat.{ℕ, suc, ◌^◌, ◌≤◌}
 use native.Mathlib.Nat.{le_trans, le_of_eq}
 use mathlib.Core.Bool.{Bool, true, false, ◌&&◌, ◌||◌}
 use mathlib.Core.Option.{Option, none, some}
@@ -17,7 +17,6 @@ use Rattle.octets.proofs.Numbers.{number_be, length_be}
 use Rattle.rules.specs.Model.{Settings, Tunnel, peer_of}
 use Rattle.rules.specs.Elements.{fteid_octets, unit_fteid, ue_given, ue_octets, fseid_octets}
 use Rattle.rules.specs.Sound.{settings_allowed}
-use Rattle.laws.proofs.TableLaws.{ipv4_four_lem}
 use Rattle.rules.specs.Message.{Element, elements, has_type, content_in, content_of, number_width, field, field_or0, kind_of, establishment, header_length, set_deletion}
 use Rattle.laws.proofs.MessageLaws.{Fits, el, after, elements_cons, elements_nil, written, as_element, as_elements, after_all, elements_map}
 use Rattle.rules.specs.Grants.{Kind, ofPdr, ofEndpoint, Got}
@@ -165,12 +164,12 @@ module _ (s : Settings) (hs : T (settings_allowed s)) where
   no_pdr_here : (i at : ℕ) (gs : List Report) → find_by (is_created ofPdr i) (as_endpoints at gs) ≡ none
   unfolding find_by is_created created_type has_type as_element as_elements
   no_pdr_here i at [] = refl
-  no_pdr_here i at (g ∷ gs) = no_pdr_here i _ gs
+  no_pdr_here i at (g ∷ gs) = no_pdr_here i (after at (created_endpoint_content s g)) gs
 
   skip_pdrs : (i at : ℕ) (gs : List Report) (es : List Element) → find_by (is_created ofEndpoint i) (as_pdrs at gs ++ es) ≡ find_by (is_created ofEndpoint i) es
   unfolding find_by is_created created_type has_type as_element as_elements
   skip_pdrs i at [] es = refl
-  skip_pdrs i at (g ∷ gs) es = skip_pdrs i _ gs es
+  skip_pdrs i at (g ∷ gs) es = skip_pdrs i (after at (created_pdr_content s g)) gs es
 
   found_pdr : (i at : ℕ) (gs : List Report) → T (all report_fits gs) → (es : List Element) → find_by (is_created ofPdr i) es ≡ none
       → value_of (find_by (is_created ofPdr i) (as_pdrs at gs ++ es)) ≡ said_in (find_by (has_id i) gs)

@@ -179,7 +179,7 @@ later_apart i t l cs free seen h hc hf hn = granted_all (λ u. not (eqb t u)) (s
 
 -- two CHOOSEs of a request get one TEID only if they have one CHOOSE ID
 pub granted_apart_lem : (l : List Choice) (cs : List Chosen) (free seen : List ℕ) → Matches seen cs → Distinct cs free → need_from seen l ≤ length free → T (all_pairs granted_apart (granted_from cs free l))
-unfolding granted_from need_from all_pairs
+unfolding granted_from need_from all_pairs teid_for chosen_after free_after remember same_choice is_choice
 granted_apart_lem [] cs free seen h k hn = tt
 granted_apart_lem (c ∷ l) cs free seen h k hn = by_id c.choose_id (λ cs' free' seen' h' k' hn'. granted_apart_lem l cs' free' seen' h' k' hn') hn
   where
@@ -218,14 +218,13 @@ granted_apart_lem (c ∷ l) cs free seen h k hn = by_id c.choose_id (λ cs' free
 
     again : (i : ℕ) → Rest → (d : Chosen) → find_by (is_choice i) cs ≡ some d → need_from (i ∷ seen) l ≤ length free → Goal free (some i) (some d.teid)
     again i ih d e n =
-        unfold teid_for chosen_after free_after remember same_choice is_choice in (
         let m' = matches_old seen cs i h (ap is_some e) in
         let same : d.choose_id ≡ i = eqb→eq d.choose_id i (found_passes (is_choice i) cs d e) in
         both (all (λ b. shared_only (some i) d.teid b.choice.choose_id b.teid) (granted_from cs free l)) (all_pairs granted_apart (granted_from cs free l))
         (later_apart (some i) d.teid l cs free (i ∷ seen) m'
         (subst (λ (j : ℕ). T (all (λ e'. not (eqb d.teid e'.teid) || eqb j e'.choose_id) cs)) same (found_related chosen_apart chosen_own chosen_turn (is_choice i) cs d k.own e))
         (absent_each d.teid free (found_knows (λ e'. T (not (member e'.teid free))) (is_choice i) cs d (all_every (λ e'. not (member e'.teid free)) cs k.taken) e)) n)
-        (ih cs free (i ∷ seen) m' k n))
+        (ih cs free (i ∷ seen) m' k n)
 
     with_id_lem : (i : ℕ) → Rest → (o : Option Chosen) → find_by (is_choice i) cs ≡ o → pick (not (is_some o)) 1 0 + need_from (i ∷ seen) l ≤ length free → Goal free (some i) (map_option chosen o)
     with_id_lem i ih none e n = first_use i ih free k n

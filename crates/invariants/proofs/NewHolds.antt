@@ -10,7 +10,7 @@ use Rattle.octets.specs.Choice.{map_option, bind_option}
 use Rattle.octets.specs.Lists.{has_repeat, all, all_pairs, collect}
 use Rattle.octets.proofs.ListLaws.{Every, OnSome, on_some, on_both, every_map, every_collect, every_append, all_always, pairs_always, pairs_imply, pairs_append, all_map, pairs_map, all_collect, pairs_collect, collect_append, map-append, collect_same, map-map, collect_map, map_collect, collect_collect}
 use Rattle.octets.proofs.MemberLaws.{once_differ}
-use Rattle.rules.specs.Model.{Tunnel, endpoint, Holding, matched_tunnel, tunnel_holding, pdr_holding, endpoint_holding}
+use Rattle.rules.specs.Model.{Tunnel, Holding, matched_tunnel, tunnel_holding, pdr_holding, endpoint_holding}
 use Rattle.rules.specs.Elements.{Fteid, given, choose}
 use Rattle.rules.specs.Request.{NewPdr, NewEndpoint, Request}
 use Rattle.rules.specs.Grants.{Kind, ofPdr, ofEndpoint, same_kind, Choice, choice_of, endpoint_choice, pdr_choice, choices, Got}

@@ -1,22 +1,21 @@
 -- What keeps each peer's due (02 (xiv)): fewer sessions do, and so does a request that stage 5 lets pass.
 -- Assumes nothing.
-use mathlib.Core.Path.{◌≡◌, refl, sym, ap, ap₂, subst, ◌∙◌}
+use mathlib.Core.Path.{◌≡◌, refl, sym, subst}
 use Prim.Native.Nat.{ℕ, ◌+◌, ◌-◌, ◌≤◌}
 use native.Mathlib.Nat.{le_trans}
 use native.Mathlib.Omega.{arith}
-use mathlib.Core.Bool.{Bool, true, false, not}
-use mathlib.Core.List.{List, [], ◌∷◌}
+use mathlib.Core.Bool.{Bool, not}
 use lib.ListN.{length}
 use lib.Dec.{T, eqb, ltb}
 use Rattle.octets.specs.Choice.{pick}
-use Rattle.octets.specs.Lists.{distinct, all_pairs, keep}
+use Rattle.octets.specs.Lists.{all_pairs, keep}
 use Rattle.octets.proofs.Ordered.{keep_pairs}
 use Rattle.rules.specs.Model.{Settings, Session, Sessions, is_peer, peer_of, other_peer, half, of_peer, holdings, unused}
 use Rattle.rules.specs.Sound.{apart, due, settings_allowed}
 use Rattle.rules.specs.Request.{Request}
 use Rattle.rules.specs.Stages.{needed, passes_limit, passes_pool, too_few_teids}
 use Rattle.laws.proofs.PeerLaws.{peer_cases, other_peer_lem, peer_known, PeersKept}
-use Rattle.invariants.proofs.Totals.{total, total_keep, peer_sessions, peer_teids, count_total, holdings_total}
+use Rattle.invariants.proofs.Totals.{total_keep, peer_sessions, peer_teids, count_total, holdings_total}
 use mir.Facts.{no_ltb}
 use Rattle.octets.proofs.Tests.{neither_one}
 

@@ -14,7 +14,6 @@ use Rattle.octets.specs.Octets.{be, concat_map}
 use Rattle.octets.proofs.Numbers.{length_be}
 use Rattle.octets.proofs.ListLaws.{all_always}
 use Rattle.rules.specs.Model.{Settings, Tunnel, Sessions, peer_of}
-use Rattle.laws.proofs.TableLaws.{ipv4_four_lem}
 use Rattle.rules.specs.Elements.{fteid_octets, unit_fteid, fseid_octets}
 use Rattle.rules.specs.Sound.{settings_allowed}
 use Rattle.rules.specs.Message.{kind_of, establishment, header_length, set_deletion}

@@ -12,7 +12,7 @@ use Rattle.octets.specs.Octets.{octets, put}
 use Rattle.rules.specs.Limits.{max_message, min_space}
 use Rattle.rules.specs.Model.{Settings, Sessions, peer_of, is_peer}
 use Rattle.rules.specs.Layout.{encode}
-use Rattle.laws.proofs.TableLaws.{ipv4_four_lem, sound_encode, encoded_settings, sessions_back}
+use Rattle.laws.proofs.TableLaws.{sound_encode, encoded_settings, sessions_back}
 use Rattle.rules.specs.Sound.{settings_allowed, sessions_allowed, sound}
 use Rattle.rules.specs.Message.{kind_of, header_seid, header_allowed, served}
 use Rattle.rules.specs.Reading.{read_request}
@@ -24,7 +24,7 @@ use Rattle.invariants.proofs.ReplyLength.{body_short}
 use Rattle.laws.proofs.HeaderLaws.{header_long}
 use Rattle.laws.proofs.ReplyLaws.{reply_cause_lem, sequence_three}
 use Rattle.rules.specs.Serve.{Served, unserved, sessions_after, reply_to, answered, answer, serve_sound, serve, serve_of}
-use Rattle.rules.specs.Live.{replied, accepted_event, follow_event, live_step, reply_cause, created_got, Event, live}
+use Rattle.rules.specs.Live.{replied, accepted_event, follow_event, live_step, reply_cause, created_got, Event}
 use Rattle.rules.specs.Causes as why
 
 -- what one call does to a table and to the live set: both go to sessions m' that keep the rules

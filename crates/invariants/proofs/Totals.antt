@@ -1,15 +1,15 @@
 -- What the sessions of a peer come to (02 (xiv)): how many there are, and how many TEIDs they hold, as sums over the sessions.
 -- Assumes nothing.
-use mathlib.Core.Path.{◌≡◌, refl, sym, ap, ap₂, subst, ◌∙◌}
+use mathlib.Core.Path.{◌≡◌, refl, ap, ap₂, subst, ◌∙◌}
 use Prim.Native.Nat.{ℕ, ◌+◌, ◌≤◌, zero-le}
 use native.Mathlib.Omega.{arith}
 use mathlib.Core.Bool.{Bool, true, false, not}
 use mathlib.Core.Option.{Option, some}
-use mathlib.Core.List.{List, [], ◌∷◌, ◌++◌, Permᴰ}
+use mathlib.Core.List.{[], ◌∷◌, ◌++◌, Permᴰ}
 use lib.ListN.{length}
 use lib.Dec.{T, leb, eqb}
 use Rattle.octets.specs.Choice.{pick, flag, is_some}
-use Rattle.octets.specs.Lists.{any_in, distinct, all, all_pairs, keep, find_by, insert_by}
+use Rattle.octets.specs.Lists.{distinct, all, all_pairs, keep, find_by, insert_by}
 use Rattle.octets.proofs.Tests.{pick_either, all_head, all_tail}
 use Rattle.octets.proofs.Ordered.{pairs_head, pairs_tail, keep_all}
 use Rattle.octets.proofs.ListLaws.{OnSome}

@@ -1,1 +1,2 @@
 // What every accepted request keeps stands in proofs/; this crate has no code.
+#![tactic(auto)]
