@@ -1,20 +1,19 @@
 -- Sessions that are restored one after the other: what a table has and what is still to come together leave each peer what it is due (02 (xiv)), so
 -- there is room for each in turn.
 -- Assumes nothing.
-use mathlib.Core.Path.{◌≡◌, refl, sym, ap, ap₂, subst, ◌∙◌}
+use mathlib.Core.Path.{◌≡◌, ap, subst}
 use Prim.Native.Nat.{ℕ, ◌+◌, ◌-◌, ◌≤◌}
 use native.Mathlib.Nat.{le_trans}
 use native.Mathlib.Omega.{arith}
-use mathlib.Core.Bool.{Bool, true, false}
-use mathlib.Core.List.{List, [], ◌∷◌, Permᴰ}
-use lib.ListN.{length}
+use mathlib.Core.Bool.{Bool, true}
+use mathlib.Core.List.{[], ◌∷◌, Permᴰ}
 use lib.Dec.{T, eqb, eqb_refl}
 use Rattle.octets.specs.Choice.{pick, flag}
 use Rattle.octets.specs.Lists.{distinct, all_pairs, insert_by}
 use Rattle.octets.proofs.Tests.{is_true}
-use Rattle.rules.specs.Model.{Settings, Session, Sessions, is_peer, other_peer, peer_of, half, has_peer, of_peer, holdings, unused, session_teids, session_key}
+use Rattle.rules.specs.Model.{Settings, Session, Sessions, is_peer, other_peer, peer_of, half, has_peer, holdings, unused, session_teids, session_key}
 use Rattle.rules.specs.Sound.{apart, due}
-use Rattle.laws.proofs.PeerLaws.{other_peer_lem, PeersKept}
+use Rattle.laws.proofs.PeerLaws.{PeersKept}
 use Rattle.invariants.proofs.Totals.{total, total_insert, total_perm, peer_sessions, peer_teids, count_total, holdings_total}
 use Rattle.invariants.proofs.PeersAfter.{due_less}
 use Rattle.claim.proofs.RestorationJudge.{RoomFor}

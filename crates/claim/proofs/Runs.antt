@@ -2,7 +2,7 @@
 -- order make it again, and no history can be told from it.
 -- Assumes nothing.
 use mathlib.Core.Path.{◌≡◌, refl, sym, ap, ap₂, ◌∙◌, subst}
-use Prim.Native.Nat.{ℕ, ◌-◌}
+use Prim.Native.Nat.{ℕ}
 use mathlib.Core.List.{List, [], ◌∷◌, map, Permᴰ}
 use lib.Dec.{T}
 use Rattle.octets.specs.Lists.{all}

@@ -13,7 +13,7 @@ use Rattle.octets.proofs.Tests.{and_left, and_right, all_head, all_tail}
 use Rattle.rules.specs.Model.{Settings, Sessions}
 use Rattle.rules.specs.Layout.{table_length, encode}
 use Rattle.rules.specs.Sound.{settings_allowed, sessions_allowed, make, Made}
-use Rattle.rules.specs.Live.{accepted_event, live_step, live_from, live}
+use Rattle.rules.specs.Live.{accepted_event, live_step, live_from}
 use Rattle.rules.specs.Calls.{Call, request, count, countIps, call_allowed, table_after_call, event_of, table_after_all, events_of}
 use Rattle.invariants.proofs.Steps.{Kept, Keeps}
 
