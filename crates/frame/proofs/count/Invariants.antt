@@ -1,12 +1,9 @@
 -- `frame::count` meets its contract. The invariant: what is counted and what is left to count make up the whole. Assumes nothing.
-use Prim.Native.Nat.{ℕ, ◌+◌, ◌≤◌}
-use mathlib.Core.Path.{◌≡◌, sym, ap, ◌∙◌}
-use mathlib.Core.Logic.{⊎_elim}
-use native.Mathlib.Omega.{arith}
+use Prim.Native.Nat.{◌+◌, ◌≤◌}
+use mathlib.Core.Path.{◌≡◌}
 use lib.ListN.{length}
-use borrow.Author.Rules.{rules}
 use Rattle.rules.specs.Message.{elements}
-use Rattle.frame.proofs.Front.{Front, front, none_left, behind, count_of, count_none, counted, uncounted}
+use Rattle.frame.proofs.Front.{count_of}
 use Rattle.frame.proofs.count.Given as goal
 
 abbrev pub invariant-loop-found : goal.invariant-loop-found

@@ -1,5 +1,4 @@
 -- `frame::first_of` meets its contract. Assumes nothing.
-use borrow.Author.Rules.{rules}
 use Rattle.frame.proofs.Front.{first_short, first_over, first_whole}
 use Rattle.frame.proofs.first_of.Goals as goal
 

@@ -1,5 +1,4 @@
 -- `frame::frame_fault` meets its contract: the framing of what follows the header, three deep. Assumes nothing.
-use borrow.Author.Rules.{rules}
 use Rattle.frame.proofs.MessageFrame.{no_header, no_elements, by_elements}
 use Rattle.frame.proofs.frame_fault.Goals as goal
 
