@@ -1,6 +1,5 @@
 -- `fteid::cause_of` meets its contract, by the arms of its match. Assumes nothing.
 use mathlib.Core.Path.{sym, ap, ◌∙◌}
-use borrow.Author.Rules.{rules}
 use Rattle.fteid.specs.Meaning.{fteid_cause}
 use Rattle.fteid.proofs.cause_of.Goals as goal
 

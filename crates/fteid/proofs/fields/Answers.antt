@@ -1,6 +1,5 @@
 -- `fteid::fields` meets its contract: the numbers read are the struct of the value. Assumes nothing.
 use native.Mathlib.Omega.{arith}
-use borrow.Author.Rules.{rules}
 use Rattle.octets.proofs.Digits.{octets_known}
 use Rattle.fteid.proofs.ValueLaws.{length_chosen, length_given, fields_chosen, fields_given}
 use Rattle.fteid.proofs.fields.Goals as goal
@@ -10,7 +9,6 @@ read-id-requires c = let l = length_chosen _ c.if-f-eq1.true in omega arith
 
 pub returns-then-f-eq1 : goal.returns-then-f-eq1
 returns-then-f-eq1 c =
-    let a = c in
     fields_chosen c.args.s.now c.args.flags c.requires.0 c.requires.1 c.requires.2 c.read-id.result c.if-f-eq1.true c.read-id.ensures.0 c.read-id.ensures.1
 
 pub read-teid-requires : goal.read-teid-requires
@@ -27,8 +25,5 @@ read-low-requires c = let l = length_given _ c.if-f-eq1.false in omega arith
 
 pub returns : goal.returns
 returns c =
-    let r = c in
-    let i = c in
-    let a = c in
     fields_given c.args.s.now c.args.flags c.requires.0 c.requires.1 c.requires.2 c.read-teid.result c.read-ipv4.result c.read-high.result c.read-low.result
     (octets_known c.args.s.now (λ k. (c.type_inv.s k).fits)) c.if-f-eq1.false c.read-teid.ensures.0 c.read-teid.ensures.1 c.read-ipv4.ensures.0 c.read-ipv4.ensures.1 c.read-high.ensures.0 c.read-high.ensures.1 c.read-low.ensures.0 c.read-low.ensures.1

@@ -1,6 +1,5 @@
 -- `fteid::is_allowed` meets its contract, by the test at each return. Assumes nothing.
 use mathlib.Core.Path.{sym, ◌∙◌}
-use borrow.Author.Rules.{rules}
 use native.Mathlib.Omega.{arith}
 use Rattle.fteid.proofs.ValueLaws.{fteid_allowed_lem, fteid_too_large, fteid_fits}
 use Rattle.fteid.proofs.is_allowed.Goals as goal

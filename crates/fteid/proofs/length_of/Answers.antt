@@ -1,5 +1,4 @@
 -- `fteid::length_of` meets its contract, by the test at each return. Assumes nothing.
-use borrow.Author.Rules.{rules}
 use Rattle.fteid.proofs.ValueLaws.{length_chosen, length_given}
 use Rattle.fteid.proofs.length_of.Goals as goal
 

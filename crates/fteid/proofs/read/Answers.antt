@@ -2,7 +2,6 @@
 -- Assumes nothing.
 use mathlib.Core.Option.{some}
 use mathlib.Core.Path.{sym, ap, ◌∙◌}
-use borrow.Author.Rules.{rules}
 use native.Mathlib.Omega.{arith}
 use Rattle.octets.specs.Choice.{map_option}
 use Rattle.rules.specs.Elements.{value}
@@ -14,25 +13,20 @@ returns-then-s-eq0 c = ap some (sym (read_empty _ _ c.if-s-eq0.true))
 
 pub returns-then-wrong_flags : goal.returns-then-wrong_flags
 returns-then-wrong_flags c =
-    let w = c in
     let a = c.args in
     ap some (sym (read_wrong a.endpoint a.s.now (omega arith) (sym c.wrong_flags.ensures ∙ c.if-wrong_flags.true)))
 
 pub returns-then-s-length_of : goal.returns-then-s-length_of
 returns-then-s-length_of c =
-    let w = c in
     let a = c.args in
     ap some (sym (read_short a.endpoint a.s.now (omega arith) (sym c.wrong_flags.ensures ∙ c.if-wrong_flags.false) (omega arith)))
 
 pub fields-requires : goal.fields-requires
 fields-requires c =
-    let w = c in
     (omega arith, right_anywhere _ _ (sym c.wrong_flags.ensures ∙ c.if-wrong_flags.false), omega arith)
 
 pub returns : goal.returns
 returns c =
-    let i = c in
-    let w = c in
     let a = c.args in
     ap (map_option value) c.fields.ensures
     ∙ ap some (sym (read_value_lem a.endpoint a.s.now (sym c.wrong_flags.ensures ∙ c.if-wrong_flags.false) (omega arith)))

@@ -1,5 +1,4 @@
 -- `fteid::widths_of` meets its contract, by the test at each return. Assumes nothing.
-use borrow.Author.Rules.{rules}
 use Rattle.fteid.proofs.ValueLaws.{widths_chosen, widths_given}
 use Rattle.fteid.proofs.widths_of.Goals as goal
 

@@ -1,8 +1,6 @@
 -- `fteid::write` meets its contract: a value that is not allowed is refused, and of an allowed one the numbers are written at their widths.
 -- Assumes nothing.
 use mathlib.Core.Path.{sym, ◌∙◌}
-use borrow.Author.Rules.{rules}
-use borrow.Author.Tests.{not-true, not-false}
 use Rattle.element.proofs.OctetLaws.{fields_ready}
 use Rattle.fteid.proofs.ValueLaws.{narrow_widths, six, write_refused, write_allowed}
 use Rattle.fteid.proofs.write.Goals as goal
@@ -10,19 +8,14 @@ use Rattle.fteid.proofs.write.Goals as goal
 pub returns-then-not-is_allowed : goal.returns-then-not-is_allowed
 returns-then-not-is_allowed c =
     let a = c.args in
-    write_refused a.endpoint a.v a.out.now (sym c.is_allowed.ensures ∙ not-true c.is_allowed.result c.if-not-is_allowed.true-raw)
+    write_refused a.endpoint a.v a.out.now (sym c.is_allowed.ensures ∙ c.if-not-is_allowed.true)
 
 pub write_fields-requires : goal.write_fields-requires
 write_fields-requires c =
-    let n = c in
-    fields_ready _ _ _ _ (six _) (narrow_widths _) c.widths_of-ws.ensures c.Numbers_of.ensures
+    fields_ready _ _ _ _ (six _) (narrow_widths _) c.widths_of-ws.ensures c.numbers_of-vs.ensures
 
 pub returns : goal.returns
 returns c =
-    let k = c in
-    let n = c in
-    let i = c in
-    let b = c in
     let a = c.args in
-    write_allowed a.endpoint a.v a.out.now _ _ (sym c.is_allowed.ensures ∙ not-false c.is_allowed.result c.if-not-is_allowed.false-raw)
-    c.widths_of-ws.ensures c.Numbers_of.ensures c.write_fields.ensures
+    write_allowed a.endpoint a.v a.out.now _ _ (sym c.is_allowed.ensures ∙ c.if-not-is_allowed.false)
+    c.widths_of-ws.ensures c.numbers_of-vs.ensures c.write_fields.ensures

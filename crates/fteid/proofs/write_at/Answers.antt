@@ -1,18 +1,13 @@
 -- `fteid::write_at` meets its contract: the numbers are written at their widths. Assumes nothing.
-use borrow.Author.Rules.{rules}
 use Rattle.element.proofs.OctetLaws.{fields_fit, fields_at}
 use Rattle.fteid.proofs.ValueLaws.{narrow_widths, six}
 use Rattle.fteid.proofs.write_at.Goals as goal
 
 pub write_fields_at-requires : goal.write_fields_at-requires
 write_fields_at-requires c =
-    let n = c in
-    let s = c in
-    fields_fit c.args.at _ _ _ _ c.args.out.now c.requires (six _) (narrow_widths _) c.widths_of-ws.ensures c.Numbers_of.ensures
+    fields_fit c.args.at _ _ _ _ c.args.out.now c.requires (six _) (narrow_widths _) c.widths_of-ws.ensures c.numbers_of-vs.ensures
 
 pub returns : goal.returns
 returns c =
-    let k = c in
-    let n = c in
     let a = c.args in
-    fields_at a.at _ _ _ _ a.out.now c.widths_of-ws.ensures c.Numbers_of.ensures c.write_fields_at.ensures
+    fields_at a.at _ _ _ _ a.out.now c.widths_of-ws.ensures c.numbers_of-vs.ensures c.write_fields_at.ensures

@@ -1,6 +1,5 @@
 -- `fteid::wrong_flags` meets its contract, by the tests at each return. Assumes nothing.
 use mathlib.Core.Path.{sym}
-use borrow.Author.Rules.{rules}
 use Rattle.fteid.proofs.ValueLaws.{no_family, no_chid, chid_alone, chid_with}
 use Rattle.fteid.proofs.wrong_flags.Goals as goal
 
