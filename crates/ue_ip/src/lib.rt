@@ -1,4 +1,6 @@
 // UE IP Address (TS 29.244, clause 8.2.62), for IPv4: the value octets, read and written.
+#![tactic(auto)]
+
 ghost use Rattle.std.specs.Prelude.{◌≡◌, ◌+◌, ◌≤◌, length};
 ghost use Rattle.octets.specs.Octets.{put};
 ghost use Rattle.rules.specs.Elements.{ue_octets, ue_given, ueChoose, ue_unsupported, read_ue_ip, write_ue_ip};
