@@ -3,7 +3,7 @@ use mathlib.Core.Bool.{Bool, true, false, ◌&&◌}
 use mathlib.Core.List.{List, [], ◌∷◌, ◌++◌, map, append-nil}
 use mathlib.Core.Option.{none, some}
 use mathlib.Core.Path.{◌≡◌, refl, sym, ap, ◌∙◌}
-use Prim.Native.Nat.{ℕ, zero, suc, ◌+◌, ◌-◌, ◌*◌, ◌≤◌, ◌<◌}
+use Prim.Native.Nat.{ℕ, zero, suc, ◌+◌, ◌*◌, ◌≤◌, ◌<◌}
 use native.Mathlib.Omega.{arith}
 use borrow.Author.Tests.{lt-ltb, le-leb, eq-eqb}
 use lib.Dec.{T, ltb, leb, eqb, ltb→lt, leb→le, eqb→eq}
@@ -22,7 +22,7 @@ use Rattle.element.specs.Answers.{allowed_in, write_meant}
 use Rattle.fqcsid.specs.Meaning.{fqcsid_numbers, address_widths, csid_widths, fqcsid_widths, address_numbers, csid_numbers, csid_address, csids_in, fqcsid_tests, fqcsid_meant, fqcsid_of}
 use Rattle.element.proofs.OctetLaws.{no_octets, one_octet, octets_field_octets, field_octets_two, fit_two, concat_slices, below_slices}
 use Rattle.element.proofs.AnswerLaws.{picked, allowed_picked, never, not_allowed, allowed_fields}
-use Rattle.fqcsid.proofs.ValueLaws.{two_widths, width_address, width_csids, rule_tests, rules_are, meant, small}
+use Rattle.fqcsid.proofs.ValueLaws.{two_widths, width_address, width_csids, rule_tests, rules_are, meant}
 
 -- ---- the values that are written: the numbers as they stand in the octets
 

@@ -1,4 +1,6 @@
 // FQ-CSID (TS 29.244, clause 8.2.43): the value octets, read and written.
+#![tactic(auto)]
+
 ghost use Rattle.std.specs.Prelude.{◌≡◌, not, ◌&&◌, ◌||◌, [], ◌∷◌, ◌+◌, ◌/◌, ◌≤◌, ◌<◌, eqb, leb, length};
 ghost use Rattle.std.proofs.Math.Option.{some};
 ghost use Rattle.octets.specs.Choice.{all_of};
