@@ -3,7 +3,7 @@ use mathlib.Core.Bool.{Bool, true, false, not, ◌&&◌, ◌||◌}
 use mathlib.Core.List.{List, [], ◌∷◌, ◌++◌}
 use mathlib.Core.Option.{some}
 use mathlib.Core.Path.{◌≡◌, refl, sym, ap, ◌∙◌}
-use Prim.Native.Nat.{ℕ, zero, suc, ◌+◌, ◌-◌, ◌*◌, ◌^◌, ◌≤◌, ◌<◌}
+use Prim.Native.Nat.{ℕ, zero, suc, ◌+◌, ◌*◌, ◌^◌, ◌≤◌, ◌<◌}
 use native.Mathlib.Omega.{arith}
 use borrow.Author.Tests.{le-ltb, ltb-false}
 use lib.Dec.{T, ltb, eqb, lit<}
@@ -11,7 +11,6 @@ use lib.ListN.{length, length-append}
 use lib.Seq.{take_all}
 use Rattle.octets.specs.Choice.{flag, is_nil}
 use Rattle.octets.specs.Octets.{be, bit, number, number_at, part, octet_at, octets}
-use Rattle.octets.specs.Lists.{all}
 use Rattle.octets.proofs.Parts.{part_first}
 use Rattle.octets.proofs.Numbers.{bytes_be}
 use Rattle.octets.proofs.Put.{part_two}

@@ -1,5 +1,7 @@
 // F-SEID (TS 29.244, clause 8.2.37): the value octets, read and written. V6 is bit 1 of the flags and V4 bit 2, the other
 // way round than in an F-TEID.
+#![tactic(auto)]
+
 ghost use Rattle.std.specs.Prelude.{◌≡◌, not, [], ◌+◌, ◌≤◌, eqb, length};
 ghost use Rattle.octets.specs.Octets.{put, be};
 ghost use Rattle.rules.specs.Elements.{read_fseid, fseid_octets, write_if};
