@@ -21,7 +21,6 @@ shares_choice-requires c =
 
 pub returns-then-shares_choice : goal.returns-then-shares_choice
 returns-then-shares_choice c =
-    let t = c in
     sym (any_hit _ _ _ _ c.loop-left-test.true (sym c.shares_choice.ensures ∙ c.if-shares_choice.true)) ∙ c.loop-left.invariant.1
 
 pub slice_bounds-rest-count : goal.slice_bounds-rest-count
@@ -29,7 +28,6 @@ slice_bounds-rest-count c = omega arith
 
 pub loop-left-preserved : goal.loop-left-preserved
 loop-left-preserved c =
-    let t = c in
     let l = c.loop-left in
     (rest_length row_width l.rest.now l.left c.loop-left-test.true l.invariant.0, any_miss _ _ _ _ c.loop-left-test.true (sym c.shares_choice.ensures ∙ c.if-shares_choice.false) ∙ l.invariant.1)
 

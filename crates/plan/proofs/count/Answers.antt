@@ -10,13 +10,11 @@ loop-left-init c = (search rules, search rules, search rules)
 
 pub loop-left-preserved-then-here-tag : goal.loop-left-preserved-then-here-tag
 loop-left-preserved-then-here-tag c =
-    let t = c in
     let l = c.loop-left in
     (rest_length row_width l.rest.now l.left c.loop-left-test.true l.invariant.0, omega arith, omega (arith, count_hit c.args.tag l.rest.now l.left c.loop-left-test.true c.if-here-tag.true))
 
 pub loop-left-preserved : goal.loop-left-preserved
 loop-left-preserved c =
-    let t = c in
     let l = c.loop-left in
     (rest_length row_width l.rest.now l.left c.loop-left-test.true l.invariant.0, omega arith, omega (arith, count_miss c.args.tag l.rest.now l.left c.loop-left-test.true c.if-here-tag.false))
 

@@ -22,7 +22,6 @@ wrong_allocation-requires c =
 
 pub returns-then-wrong_allocation : goal.returns-then-wrong_allocation
 returns-then-wrong_allocation c =
-    let t = c in
     sym (any_hit _ _ _ _ c.loop-left-test.true (sym c.wrong_allocation.ensures ∙ c.if-wrong_allocation.true)) ∙ c.loop-left.invariant.1
 
 pub slice_bounds-rest-count : goal.slice_bounds-rest-count
@@ -30,7 +29,6 @@ slice_bounds-rest-count c = omega arith
 
 pub loop-left-preserved : goal.loop-left-preserved
 loop-left-preserved c =
-    let t = c in
     let l = c.loop-left in
     (rest_length row_width l.rest.now l.left c.loop-left-test.true l.invariant.0, any_miss _ _ _ _ c.loop-left-test.true (sym c.wrong_allocation.ensures ∙ c.if-wrong_allocation.false) ∙ l.invariant.1)
 

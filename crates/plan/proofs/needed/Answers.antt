@@ -23,14 +23,12 @@ slice_bounds-rest-count c = omega arith
 
 pub counts-requires : goal.counts-requires
 counts-requires c =
-    let t = c in
     let l = c.loop-left in
     (row_length row_width l.rest.now l.left c.loop-left-test.true l.invariant.0, rest_length row_width l.rest.now l.left c.loop-left-test.true l.invariant.0)
 
 pub loop-left-preserved-then-not-counts : goal.loop-left-preserved-then-not-counts
 loop-left-preserved-then-not-counts c =
     let h = c.counts in
-    let t = c in
     let l = c.loop-left in (
       rest_length row_width l.rest.now l.left c.loop-left-test.true l.invariant.0,
       omega arith,
@@ -43,7 +41,6 @@ overflow_add-teids c = omega arith
 pub loop-left-preserved : goal.loop-left-preserved
 loop-left-preserved c =
     let h = c.counts in
-    let t = c in
     let l = c.loop-left in (
       rest_length row_width l.rest.now l.left c.loop-left-test.true l.invariant.0,
       omega arith,

@@ -12,13 +12,10 @@ returns-then-noted c =
 
 pub returns-then-named : goal.returns-then-named
 returns-then-named c =
-    let e = c in
     let a = c.args in
     rw (unsupported_rows 0 false a.noted (rows_of a.n a.plan.now), c.if-noted.false, sym c.named.ensures ∙ c.if-named.true)
 
 pub returns : goal.returns
 returns c =
-    let f = c in
-    let e = c in
     let a = c.args in
     rw (unsupported_rows 0 false a.noted (rows_of a.n a.plan.now), c.if-noted.false, sym c.named.ensures ∙ c.if-named.false) c.some_address.ensures

@@ -17,6 +17,5 @@ returns-then-row-ne-UE_GIVEN c =
 pub returns : goal.returns
 returns c =
     let created : creates c.args.row.now ≡ true = let h = c.creates in sym h.ensures ∙ not-false h.result c.if-not-creates.false-raw in
-    let e = c in
     let a = c.args in
     c.is_taken.ensures ∙ taken_given a.u a.row.now created a.taken.now c.if-row-ne-UE_GIVEN.false

@@ -9,12 +9,10 @@ returns-then-not-creates c = let h = c.creates in kind_none _ _ (sym h.ensures �
 
 pub returns-then-choose : goal.returns-then-choose
 returns-then-choose c =
-    let e = c in
     let h = c.creates in
     rw (kind_is_lem _ _ (sym h.ensures ∙ not-false h.result c.if-not-creates.false-raw), c.if-choose.true)
 
 pub returns : goal.returns
 returns c =
-    let e = c in
     let h = c.creates in
     rw (kind_is_lem _ _ (sym h.ensures ∙ not-false h.result c.if-not-creates.false-raw), c.if-choose.false)

@@ -22,15 +22,10 @@ returns-then-row-ne-UE_GIVEN c =
 pub returns-then-restoring : goal.returns-then-restoring
 returns-then-restoring c =
     let created : creates c.args.row.now ≡ true = let h = c.creates in sym h.ensures ∙ not-false h.result c.if-not-creates.false-raw in
-    let f = c in
-    let e = c in
     wrong_restored _ _ created _ c.if-row-ne-UE_GIVEN.false c.if-restoring.true
 
 pub returns : goal.returns
 returns c =
     let created : creates c.args.row.now ≡ true = let h = c.creates in sym h.ensures ∙ not-false h.result c.if-not-creates.false-raw in
-    let g = c in
-    let f = c in
-    let e = c in
     let a = c.args in
     wrong_given a.u a.row.now created a.restoring _ c.if-row-ne-UE_GIVEN.false c.if-restoring.false c.outside.ensures

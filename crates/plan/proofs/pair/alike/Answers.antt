@@ -10,6 +10,5 @@ returns-then-a-b c =
 
 pub returns : goal.returns
 returns c =
-    let e = c in
     let g = c.args in
     rw (alike_row g.a.now g.b.now, eq-eqb _ _ c.if-a-b.false)

@@ -8,11 +8,8 @@ returns-then-same_id c = sym (disagree_id _ _ (sym c.same_id.ensures ∙ c.if-sa
 
 pub returns-then-other_choice : goal.returns-then-other_choice
 returns-then-other_choice c =
-    let e = c in
     sym (disagree_choice _ _ (sym c.same_id.ensures ∙ c.if-same_id.false) (sym c.other_choice.ensures ∙ c.if-other_choice.true))
 
 pub returns : goal.returns
 returns c =
-    let f = c in
-    let e = c in
     c.other_hold.ensures ∙ sym (disagree_hold _ _ (sym c.same_id.ensures ∙ c.if-same_id.false) (sym c.other_choice.ensures ∙ c.if-other_choice.false))

@@ -13,16 +13,11 @@ returns-then-b-ne-CREATE_PDR c = sym (choice_right _ _ c.if-a-ne-CREATE_PDR.fals
 pub returns-then-not-shares_choice : goal.returns-then-not-shares_choice
 returns-then-not-shares_choice c =
     let h = c.shares_choice in
-    let f = c in
-    let e = c in
     let g = c.args in
     rw (choice_other g.a.now g.b.now c.if-a-ne-CREATE_PDR.false c.if-b-ne-CREATE_PDR.false, sym h.ensures ∙ not-true h.result c.if-not-shares_choice.true-raw)
 
 pub returns : goal.returns
 returns c =
-    let j = c in
     let h = c.shares_choice in
-    let f = c in
-    let e = c in
     let g = c.args in
     rw (choice_other g.a.now g.b.now c.if-a-ne-CREATE_PDR.false c.if-b-ne-CREATE_PDR.false, sym h.ensures ∙ not-false h.result c.if-not-shares_choice.false-raw, sym c.alike.ensures)

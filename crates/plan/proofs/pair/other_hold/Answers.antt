@@ -15,31 +15,19 @@ returns-then-not-restored-2 c = let g = c.restored-2 in sym (hold_right _ _ (sym
 
 pub returns-then-a-eq-CREATE_ENDPOINT : goal.returns-then-a-eq-CREATE_ENDPOINT
 returns-then-a-eq-CREATE_ENDPOINT c =
-    let k = c in
     let g = c.restored-2 in
-    let f = c in
     let h = c.restored in
-    let e = c in
     sym (hold_endpoint _ _ c.if-a-b.false (sym h.ensures ∙ not-false h.result c.if-not-restored.false-raw) (sym g.ensures ∙ not-false g.result c.if-not-restored-2.false-raw) c.if-a-eq-CREATE_ENDPOINT.true)
 
 pub returns-then-b-eq-CREATE_ENDPOINT : goal.returns-then-b-eq-CREATE_ENDPOINT
 returns-then-b-eq-CREATE_ENDPOINT c =
-    let l = c in
-    let k = c in
     let g = c.restored-2 in
-    let f = c in
     let h = c.restored in
-    let e = c in
     sym (hold_later _ _ c.if-a-b.false (sym h.ensures ∙ not-false h.result c.if-not-restored.false-raw) (sym g.ensures ∙ not-false g.result c.if-not-restored-2.false-raw) c.if-a-eq-CREATE_ENDPOINT.false c.if-b-eq-CREATE_ENDPOINT.true)
 
 pub returns : goal.returns
 returns c =
-    let m = c in
-    let l = c in
-    let k = c in
     let g = c.restored-2 in
-    let f = c in
     let h = c.restored in
-    let e = c in
     rw c.alike.ensures
     (sym (hold_pdrs _ _ c.if-a-b.false (sym h.ensures ∙ not-false h.result c.if-not-restored.false-raw) (sym g.ensures ∙ not-false g.result c.if-not-restored-2.false-raw) c.if-a-eq-CREATE_ENDPOINT.false c.if-b-eq-CREATE_ENDPOINT.false))

@@ -10,8 +10,6 @@ returns-then-not-restored-2 c = search same_right
 
 pub returns : goal.returns
 returns c =
-    let f = c in
     let g = c.restored-2 in
-    let e = c in
     let h = c.restored in
     same_both _ _ h.result h.ensures c.if-not-restored.false-raw g.result g.ensures c.if-not-restored-2.false-raw

@@ -12,8 +12,6 @@ returns-then-not-with_id-2 c = let g = c.with_id-2 in sym (shares_right _ _ (sym
 
 pub returns : goal.returns
 returns c =
-    let f = c in
     let g = c.with_id-2 in
-    let e = c in
     let h = c.with_id in
     sym (shares_both _ _ (sym h.ensures ∙ not-false h.result c.if-not-with_id.false-raw) (sym g.ensures ∙ not-false g.result c.if-not-with_id-2.false-raw))

@@ -21,6 +21,5 @@ is_marked-requires c =
 
 pub returns : goal.returns
 returns c =
-    let e = c in
     let a = c.args in
     c.is_marked.ensures ∙ sym (taken_inside a.first a.size a.n a.taken.now (sym c.outside.ensures ∙ c.if-outside.false))

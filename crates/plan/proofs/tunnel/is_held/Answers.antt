@@ -11,7 +11,6 @@ returns-then-not-restored c = let h = c.restored in sym (held_none _ _ (sym h.en
 
 pub returns : goal.returns
 returns c =
-    let e = c in
     let h = c.restored in
     let a = c.args in
     let held = held_in (settings_of a.u) a.taken.now in

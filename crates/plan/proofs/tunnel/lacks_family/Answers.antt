@@ -15,8 +15,6 @@ returns-then-not-has_fteid c = let h = c.has_fteid in sym (of_none _ _ (sym h.en
 pub returns : goal.returns
 unfolding bit
 returns c =
-    let b = c in
-    let e = c in
     let a = c.args in
     let h = c.has_fteid in
     sym (lacks_six a.u a.row.now c.if-u.false (sym h.ensures ∙ not-false h.result c.if-not-has_fteid.false-raw))

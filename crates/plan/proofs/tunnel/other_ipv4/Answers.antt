@@ -10,6 +10,5 @@ returns-then-row-ne1 c = let a = c.args in sym (four_none a.u a.row.now (bit_zer
 
 pub returns : goal.returns
 returns c =
-    let e = c in
     let a = c.args in
     sym (four_some a.u a.row.now (bit_zero _ ∙ eq-eqb _ 1 c.if-row-ne1.false))

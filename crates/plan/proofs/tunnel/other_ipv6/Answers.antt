@@ -11,23 +11,17 @@ returns-then-row-ne1 c = let a = c.args in sym (six_none a.u a.row.now (bit_no 1
 
 pub returns-then-not-u : goal.returns-then-not-u
 returns-then-not-u c =
-    let e = c in
     let a = c.args in
     sym (six_lacking a.u a.row.now (bit_yes 1 _ c.if-row-ne1.false) (not-true a.u.has_ipv6 c.if-not-u.true))
 
 pub returns-then-row-u : goal.returns-then-row-u
 returns-then-row-u c =
-    let f = c in
-    let e = c in
     let a = c.args in
     let k = c.type_inv.row in
     rw (six_some a.u a.row.now (bit_yes 1 _ c.if-row-ne1.false) (not-false a.u.has_ipv6 c.if-not-u.false) (omega (arith, k 15)) (omega (arith, k 16)) (omega arith) (omega arith), ne_eqb _ _ c.if-row-u.true)
 
 pub returns : goal.returns
 returns c =
-    let g = c in
-    let f = c in
-    let e = c in
     let a = c.args in
     let k = c.type_inv.row in
     rw (six_some a.u a.row.now (bit_yes 1 _ c.if-row-ne1.false) (not-false a.u.has_ipv6 c.if-not-u.false) (omega (arith, k 15)) (omega (arith, k 16)) (omega arith) (omega arith), eq-eqb _ _ c.if-row-u.false)

@@ -13,6 +13,5 @@ returns-then-not-has_fteid c =
 pub returns : goal.returns
 unfolding bit
 returns c =
-    let b = c in
     let h = c.has_fteid in
     rw (restores_row c.args.row.now, sym h.ensures ∙ not-false h.result c.if-not-has_fteid.false-raw)

@@ -10,27 +10,18 @@ returns-then-not-restored c = let h = c.restored in sym (strange_none _ _ (sym h
 
 pub returns-then-outside : goal.returns-then-outside
 returns-then-outside c =
-    let o = c in
-    let e = c in
     let h = c.restored in
     let a = c.args in
     rw (strange_some (settings_of a.u) a.row.now (sym h.ensures ∙ not-false h.result c.if-not-restored.false-raw), outside_pool a.u _ _ _ c.outside.ensures c.if-outside.true)
 
 pub returns-then-other_ipv4 : goal.returns-then-other_ipv4
 returns-then-other_ipv4 c =
-    let f = c in
-    let o = c in
-    let e = c in
     let h = c.restored in
     let a = c.args in
     rw (strange_some (settings_of a.u) a.row.now (sym h.ensures ∙ not-false h.result c.if-not-restored.false-raw), outside_pool a.u _ _ _ c.outside.ensures c.if-outside.false, sym c.other_ipv4.ensures ∙ c.if-other_ipv4.true)
 
 pub returns : goal.returns
 returns c =
-    let g = c in
-    let f = c in
-    let o = c in
-    let e = c in
     let h = c.restored in
     let a = c.args in
     rw (strange_some (settings_of a.u) a.row.now (sym h.ensures ∙ not-false h.result c.if-not-restored.false-raw), outside_pool a.u _ _ _ c.outside.ensures c.if-outside.false, sym c.other_ipv4.ensures ∙ c.if-other_ipv4.false) c.other_ipv6.ensures

@@ -10,14 +10,12 @@ returns-then-not-has_fteid c = let h = c.has_fteid in sym (of_none _ _ (sym h.en
 
 pub returns-then-row-eq1 : goal.returns-then-row-eq1
 returns-then-row-eq1 c =
-    let b = c in
     let a = c.args in
     let h = c.has_fteid in
     rw (wrong_row a.restoring a.row.now (sym h.ensures ∙ not-false h.result c.if-not-has_fteid.false-raw), bit_yes 2 _ c.if-row-eq1.true)
 
 pub returns : goal.returns
 returns c =
-    let b = c in
     let a = c.args in
     let h = c.has_fteid in
     rw (wrong_row a.restoring a.row.now (sym h.ensures ∙ not-false h.result c.if-not-has_fteid.false-raw), bit_no 2 _ c.if-row-eq1.false)
