@@ -1,6 +1,8 @@
 // What a table tells beside its requests: how many sessions there are, the place of a peer's SEID, for a TEID the place of the session that
 // holds it, and how many sessions and TEIDs a peer has. Each is asked of any octets; a broken table is told first, but a number that is no
 // peer's before it.
+#![tactic(auto)]
+
 ghost use Rattle.std.specs.Prelude.{◌≡◌, ◌*◌, ◌≤◌, T, length};
 ghost use Rattle.rules.specs.Layout.{view_session, view_sessions, pdr_width, endpoint_width};
 ghost use Rattle.rules.specs.Sound.{sound};

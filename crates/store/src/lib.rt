@@ -2,6 +2,8 @@
 //
 // A store is the number of entries (1 octet), the entries one after the other, and zeros. An entry is its message's length (2 octets), the
 // message, its reply's length (2) and the reply; docs/ has the layout.
+#![tactic(auto)]
+
 ghost use Rattle.std.specs.Prelude.{◌≡◌, ◌+◌, ◌-◌, ◌<◌, ◌≤◌, T, [], ◌∷◌, ◌++◌, length};
 ghost use Rattle.octets.specs.Octets.{put, same_octets};
 ghost use Rattle.octets.specs.Choice.{rest};
