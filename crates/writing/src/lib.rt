@@ -1,4 +1,6 @@
 // The elements of replies and restorations, each written from a place on, with the place after it as the answer; and a message's header.
+#![tactic(auto)]
+
 ghost use Rattle.std.specs.Prelude.{◌≡◌, ◌+◌, ◌*◌, ◌/◌, ◌%◌, ◌≤◌, ◌<◌, length, [], ◌∷◌, ◌++◌, ◌||◌, eqb};
 ghost use Rattle.std.proofs.Math.Option.{some};
 ghost use Rattle.rules.specs.Message.{establishment, set_deletion, body_place, list_place};
