@@ -1,14 +1,12 @@
 -- Entries of the list of grants, from the rows of a plan.
 -- Assumes nothing.
 use mathlib.Core.Path.{◌≡◌, ap, ◌∙◌}
-use mathlib.Core.Bool.{Bool}
-use mathlib.Core.List.{List, [], ◌∷◌}
-use Prim.Native.Nat.{ℕ, zero, suc, ◌+◌, ◌-◌, ◌≤◌, ◌<◌}
+use mathlib.Core.List.{List}
+use Prim.Native.Nat.{ℕ, ◌+◌, ◌-◌, ◌≤◌, ◌<◌}
 use native.Mathlib.Omega.{arith}
 use borrow.Author.Tests.{eq-eqb, ne_eqb}
 use lib.Dec.{T, leb→le}
 use lib.ListN.{length, take, drop, get_or, length-take, length-drop}
-use Rattle.octets.specs.Lists.{all}
 use Rattle.octets.proofs.Tests.{all_at}
 use Rattle.plan.specs.Rows.{row_width}
 use Rattle.created.specs.Entries.{row_id, row_entry, entry_at, within}

@@ -13,7 +13,6 @@ use Rattle.octets.specs.Lists.{all}
 use Rattle.octets.proofs.FieldLaws.{both}
 use Rattle.rules.specs.Model.{Settings}
 use Rattle.rules.specs.Grants.{Kind}
-use Rattle.plan.specs.Rows.{row_width}
 use Rattle.created.specs.declared.Grant.{Grant as Entry}
 use Rattle.created.specs.Groups.{Told, groups, id_fits}
 use Rattle.created.specs.Entries.{no_entry, told_of, row_told, listed, entry_at, told_at, tolds_at, firsts, filled}

@@ -2,6 +2,8 @@
 // grants.
 // The list is made for each request: an array of 24 entries, lent as a slice to be filled and then lent to the writer of the groups.
 // `fill`, `write_groups` and `write_created` are proved by a walk of their steps, by hand; whoever calls `write_created` names no list.
+#![tactic(auto)]
+
 ghost use Rattle.std.specs.Prelude.{◌≡◌, true, [], ◌∷◌, ◌++◌, ◌+◌, ◌≤◌, ◌<◌, T, length};
 ghost use Rattle.octets.specs.Octets.{be};
 ghost use Rattle.octets.specs.Lists.{all};

@@ -16,7 +16,7 @@ use Rattle.octets.proofs.Numbers.{length_be}
 use Rattle.octets.proofs.Put.{length_put, length_part, part_two}
 use Rattle.octets.proofs.FieldLaws.{octet_field, length_field_octets}
 use Rattle.octets.proofs.Digits.{be_part, be_one}
-use Rattle.rules.specs.Model.{Settings, endpoint, Pdr, Endpoint}
+use Rattle.rules.specs.Model.{Settings, Pdr, Endpoint}
 use Rattle.rules.specs.Elements.{address_length, fqcsid_octets}
 use Rattle.rules.specs.Layout.{option_read, tunnel_read, match_read, pdr_from, endpoint_from, csid_from, view_pdr, view_endpoint, view_csid, pdr_width, csid_width, endpoint_width, precedence_at, far_at, far_id_at, source_at, match_at, teid_at, families_at, named_endpoint_at, pdr_address_there_at, pdr_address_at, endpoint_teid_at, endpoint_families_at, endpoint_address_there_at, endpoint_address_at, csid_id_type_at, csid_address_at, csid_number_at}
 use Rattle.rules.specs.Reply.{element, unit_element, address_part}

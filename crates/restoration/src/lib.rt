@@ -1,6 +1,8 @@
 // The writer of restoration requests (02 (i)): a session's slot as the request that makes it again. Each element is written from what it
 // holds outwards, the content first and then type and length before it. The writers of records take the octets of a record's slot and the
 // unit's settings, and know nothing of the message around them.
+#![tactic(auto)]
+
 ghost use Rattle.std.specs.Prelude.{◌≡◌, ◌+◌, ◌*◌, ◌≤◌, ◌<◌, ◌||◌, T, eqb, length, get_or};
 ghost use Rattle.octets.specs.Octets.{slices, concat_map};
 ghost use Rattle.octets.specs.Lists.{all};
