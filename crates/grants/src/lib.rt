@@ -1,5 +1,7 @@
 // Grants: the TEIDs that a request's CHOOSEs get (01, "What a request does"), to endpoints in request order and then to PDRs, and the one
 // address that they share (02 (v)). A TEID or address goes into its row of the plan, where crate `created` reads it for the list of grants.
+#![tactic(auto)]
+
 ghost use Rattle.std.specs.Prelude.{◌≡◌, ◌++◌, ◌+◌, ◌*◌, ◌^◌, ◌≤◌, ◌<◌, T, length, take, get_or, set};
 ghost use Rattle.std.proofs.lemmas.List.Edits.{sets};
 ghost use Rattle.octets.specs.Choice.{value_or};

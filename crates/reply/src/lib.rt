@@ -1,5 +1,7 @@
 // The reply to a request (01, "Reply"; 02 (vii)), written straight into the reply space: the elements after the place of the header, then the
 // header before them.
+#![tactic(auto)]
+
 ghost use Rattle.std.specs.Prelude.{◌≡◌, ◌+◌, ◌-◌, ◌≤◌, ◌<◌, true, T, length};
 ghost use Rattle.octets.specs.Octets.{put};
 ghost use Rattle.octets.specs.Lists.{all};
