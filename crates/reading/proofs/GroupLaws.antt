@@ -4,14 +4,13 @@ use mathlib.Core.Logic.{inl, inr}
 use Prim.Native.Nat.{ℕ, zero, suc, ◌+◌, ◌-◌, ◌^◌, ◌≤◌, ◌<◌}
 use native.Mathlib.Nat.{le_trans}
 use native.Mathlib.Omega.{arith}
-use mathlib.Core.Bool.{Bool, true, false, not, ◌&&◌}
+use mathlib.Core.Bool.{Bool, true, false, ◌&&◌}
 use mathlib.Core.Option.{Option, none, some}
 use mathlib.Core.List.{List, [], ◌∷◌}
 use lib.ListN.{length, take, drop, length-drop}
 use lib.Dec.{eqb}
 use borrow.Author.Tests.{ne_eqb}
 use Rattle.octets.specs.Choice.{pick}
-use Rattle.octets.specs.Octets.{be}
 use Rattle.octets.specs.Lists.{member}
 use Rattle.octets.proofs.Put.{part_from}
 use Rattle.rules.specs.Elements.{Refusal, missing, conditional, incorrect, cause_of, Fteid}

@@ -1,6 +1,6 @@
 -- What each function of the group reader answers on a member is a case of the rules' reading of it. Assumes nothing.
 use mathlib.Core.Path.{◌≡◌, refl, sym, ap, ◌∙◌}
-use Prim.Native.Nat.{ℕ, suc, ◌+◌, ◌-◌, ◌*◌, ◌%◌, ◌≤◌, ◌<◌}
+use Prim.Native.Nat.{ℕ, suc, ◌+◌, ◌*◌, ◌%◌, ◌≤◌, ◌<◌}
 use native.Mathlib.Omega.{arith}
 use mathlib.Core.Bool.{Bool, true, false, not, ◌&&◌, ◌||◌}
 use mathlib.Core.Option.{Option, none, some}
@@ -17,7 +17,7 @@ use Rattle.octets.proofs.Bools.{and-false}
 use Rattle.rules.specs.Elements as rules
 use Rattle.rules.specs.Elements.{Refusal, tooShort, incorrect, cause_of, refuse, value, Fteid, given, choose, v4_flag, v6_flag, ch_flag, chid_flag, wrong_flags, fteid_length, chosen_fields, given_fields, fteid_fields, read_fteid, read_ue_ip}
 use Rattle.rules.specs.Message.{places_of, number_width}
-use Rattle.rules.specs.Reading.{Reading, faulty, done, refusal_at, and_then, Members, with_pdr_id, with_precedence, with_far, with_pdi, with_source, with_endpoint_id, member_there, number_read, far_read, pdi_in, value_read, member_read, unopened}
+use Rattle.rules.specs.Reading.{Reading, faulty, done, refusal_at, and_then, Members, with_pdr_id, with_precedence, with_far, with_pdi, with_source, with_endpoint_id, number_read, far_read, pdi_in, value_read, member_read, unopened}
 use Rattle.rules.specs.Types as ie
 use Rattle.rules.specs.Causes as why
 use Rattle.fteid.specs.Meaning.{fteid_tests, fteid_meant, fteid_of}

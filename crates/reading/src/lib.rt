@@ -1,4 +1,6 @@
 // Stage 3 of the rules for groups: members.rt reads a group once, straight into its row of the plan; group.rt has the tables of groups.
+#![tactic(auto)]
+
 pub mod group;
 pub mod members;
 

@@ -18,7 +18,7 @@ use Rattle.rules.specs.Types as ie
 use Rattle.rules.specs.Causes as why
 use Rattle.element.proofs.FlagLaws.{bit_first}
 use Rattle.reading.specs.Verdicts.{stopped, numbered}
-use Rattle.request.specs.Items.{flags_of, met, SeidThere, Means, Passes}
+use Rattle.request.specs.Items.{flags_of, SeidThere, Means, Passes}
 use Rattle.request.specs.declared.items.Draft.{Draft}
 use Rattle.request.specs.declared.items.Step.{Step}
 use Rattle.request.specs.declared.items.Step.TheVariants.{Fault, Next}

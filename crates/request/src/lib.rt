@@ -1,5 +1,7 @@
 // A request as a plan: stages 2 and 3, which read each element that the request acts on once, into a row of words, in request order. What a
 // row means stands in the crate plan.
+#![tactic(auto)]
+
 ghost use Rattle.std.specs.Prelude.{◌≡◌, ◌-◌, ◌≤◌, length, not, ◌||◌, eqb};
 ghost use Rattle.rules.specs.Limits.{max_message};
 ghost use Rattle.request.specs.Items.{plan_of, concluded};

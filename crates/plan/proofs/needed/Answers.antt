@@ -3,7 +3,6 @@ use mathlib.Core.Path.{sym, ap, ◌∙◌}
 use Prim.Native.Nat.{ℕ, ◌+◌}
 use native.Mathlib.Nat.{zero-add, add_assoc}
 use native.Mathlib.Omega.{arith}
-use borrow.Author.Tests.{not-true, not-false}
 use Rattle.plan.specs.Rows.{row_width}
 use Rattle.plan.proofs.WalkLaws.{row_length, rest_length}
 use Rattle.plan.proofs.NeededLaws.{needed_rows_lem, needed_none, needed_other, needed_one}
@@ -32,7 +31,7 @@ loop-left-preserved-then-not-counts c =
     let l = c.loop-left in (
       rest_length row_width l.rest.now l.left c.loop-left-test.true l.invariant.0,
       omega arith,
-      ap (λ (k : ℕ). l.teids + k) (needed_other l.rest.now l.left c.loop-left-test.true (sym h.ensures ∙ not-true h.result c.if-not-counts.true-raw)) ∙ l.invariant.2,
+      ap (λ (k : ℕ). l.teids + k) (needed_other l.rest.now l.left c.loop-left-test.true (sym h.ensures ∙ c.if-not-counts.true)) ∙ l.invariant.2,
     )
 
 pub overflow_add-teids : goal.overflow_add-teids
@@ -46,7 +45,7 @@ loop-left-preserved c =
       omega arith,
       add_assoc l.teids 1 _
           ∙ ap (λ (k : ℕ). l.teids + k)
-          (needed_one l.rest.now l.left c.loop-left-test.true (sym h.ensures ∙ not-false h.result c.if-not-counts.false-raw))
+          (needed_one l.rest.now l.left c.loop-left-test.true (sym h.ensures ∙ c.if-not-counts.false))
           ∙ l.invariant.2,
     )
 

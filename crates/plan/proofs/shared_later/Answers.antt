@@ -1,8 +1,7 @@
 -- `plan::shared_later` meets its contract. Assumes nothing.
 use mathlib.Core.Path.{sym, ◌∙◌}
-use borrow.Author.Tests.{not-true}
 use Rattle.plan.proofs.AloneLaws.{unshared}
 use Rattle.plan.proofs.shared_later.Goals as goal
 
 pub returns-then-not-with_id : goal.returns-then-not-with_id
-returns-then-not-with_id c = let h = c.with_id in sym (unshared _ _ (sym h.ensures ∙ not-true h.result c.if-not-with_id.true-raw))
+returns-then-not-with_id c = let h = c.with_id in sym (unshared _ _ (sym h.ensures ∙ c.if-not-with_id.true))

@@ -1,6 +1,5 @@
 -- `plan::pair::other_choice` meets its contract. Assumes nothing.
 use mathlib.Core.Path.{sym, ◌∙◌}
-use borrow.Author.Tests.{not-true, not-false}
 use Rattle.plan.proofs.PairLaws.{choice_left, choice_right, choice_other}
 use Rattle.plan.proofs.pair.other_choice.Goals as goal
 
@@ -14,10 +13,10 @@ pub returns-then-not-shares_choice : goal.returns-then-not-shares_choice
 returns-then-not-shares_choice c =
     let h = c.shares_choice in
     let g = c.args in
-    rw (choice_other g.a.now g.b.now c.if-a-ne-CREATE_PDR.false c.if-b-ne-CREATE_PDR.false, sym h.ensures ∙ not-true h.result c.if-not-shares_choice.true-raw)
+    rw (choice_other g.a.now g.b.now c.if-a-ne-CREATE_PDR.false c.if-b-ne-CREATE_PDR.false, sym h.ensures ∙ c.if-not-shares_choice.true)
 
 pub returns : goal.returns
 returns c =
     let h = c.shares_choice in
     let g = c.args in
-    rw (choice_other g.a.now g.b.now c.if-a-ne-CREATE_PDR.false c.if-b-ne-CREATE_PDR.false, sym h.ensures ∙ not-false h.result c.if-not-shares_choice.false-raw, sym c.alike.ensures)
+    rw (choice_other g.a.now g.b.now c.if-a-ne-CREATE_PDR.false c.if-b-ne-CREATE_PDR.false, sym h.ensures ∙ c.if-not-shares_choice.false, sym c.alike.ensures)

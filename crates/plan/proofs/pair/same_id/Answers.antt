@@ -1,4 +1,5 @@
 -- `plan::pair::same_id` meets its contract. Assumes nothing.
+use native.Mathlib.Omega.{arith}
 use mathlib.Core.Path.{sym}
 use Rattle.plan.proofs.PairLaws.{id_apart, id_1, id_9, id_15, id_127, id_130, id_other}
 use Rattle.plan.proofs.pair.same_id.Goals as goal
@@ -23,5 +24,4 @@ returns-in-130 c = let m = c in sym (id_130 _ _ c.if-tag-b.false c.in-130.is)
 
 pub returns-in_default : goal.returns-in_default
 returns-in_default c =
-    let r = c.in_default.in_default-own.rest in
-    sym (id_other _ _ r.0.0.0.0.1 r.0.0.0.1 r.0.0.1 r.0.1 r.1)
+    sym (id_other _ _ (grind arith) (grind arith) (grind arith) (grind arith) (grind arith))

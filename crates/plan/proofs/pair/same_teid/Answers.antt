@@ -9,7 +9,4 @@ pub returns-then-not-restored-2 : goal.returns-then-not-restored-2
 returns-then-not-restored-2 c = search same_right
 
 pub returns : goal.returns
-returns c =
-    let g = c.restored-2 in
-    let h = c.restored in
-    same_both _ _ h.result h.ensures c.if-not-restored.false-raw g.result g.ensures c.if-not-restored-2.false-raw
+returns c = search same_both

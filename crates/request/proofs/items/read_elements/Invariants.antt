@@ -1,0 +1,10 @@
+-- `read_elements` meets its contract. The invariant: what is left gives the same draft from this one as the whole from the first. Assumes nothing.
+use lib.ListN.{length}
+use Rattle.request.proofs.TurnLaws.{Going}
+use Rattle.request.proofs.items.read_elements.Given as goal
+
+abbrev pub invariant-loop-kind : goal.invariant-loop-kind
+invariant-loop-kind l = Going l.message l.s l.initial.words l.at l.rest l.words l.nodes l.d
+
+abbrev pub decreases-loop-kind : goal.decreases-loop-kind
+decreases-loop-kind l = length l.rest

@@ -1,0 +1,13 @@
+-- `refused` meets its contract. Assumes nothing.
+use mathlib.Core.Path.{sym, ap, ◌∙◌}
+use Prim.Native.Nat.{ℕ}
+use Rattle.request.specs.Csids.{seid_refusal}
+use Rattle.request.specs.declared.items.Step.TheVariants.{Fault}
+use Rattle.rules.specs.Types as ie
+use Rattle.request.proofs.items.refused.Goals as goal
+
+pub returns-in_default : goal.returns-in_default
+returns-in_default c = sym (ap (seid_refusal _ _) c.in_default.is)
+
+pub returns : goal.returns
+returns c = let p = c.args.place in ap (λ (n : ℕ). Fault n ie.fseid p) c.cause_of.ensures ∙ sym (ap (seid_refusal p _) c.in-Refused.is)
