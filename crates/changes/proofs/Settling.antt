@@ -1,9 +1,9 @@
 -- Stages 4 to 6 of a request that was read: what the code's cause means.
 -- Assumes nothing.
 use mathlib.Core.Path.{◌≡◌, sym, ap, ◌∙◌, subst}
-use mathlib.Core.Bool.{Bool, false, ◌&&◌}
+use mathlib.Core.Bool.{false}
 use mathlib.Core.List.{List}
-use Prim.Native.Nat.{ℕ, ◌+◌, ◌≤◌, ◌<◌, ◌^◌}
+use Prim.Native.Nat.{ℕ, ◌≤◌, ◌<◌, ◌^◌}
 use native.Mathlib.Omega.{arith}
 use lib.Dec.{T, ltb→lt, ltb}
 use lib.ListN.{length, take, replicate}
@@ -16,7 +16,6 @@ use Rattle.rules.specs.Sound.{settings_allowed}
 use Rattle.rules.specs.Reading.{read_request}
 use Rattle.rules.specs.Request.{Request}
 use Rattle.rules.specs.Stages.{removed_pdrs, entry_session, Verdict, plain, judge, judged, reasons}
-use Rattle.rules.specs.Causes as why
 use Rattle.laws.proofs.ReasonLaws.{first_passes}
 use Rattle.laws.proofs.KeptSettings.{settings_kept}
 use Rattle.laws.proofs.KeptRules.{TableKept, table_kept}

@@ -1,6 +1,8 @@
 // A request's change: an establishment or a modification from its reading on: the session at entry, stages 4 to 6, then what an accepted one gives,
 // replies and stores. A refusal never writes the table: every check comes first, then the session is built in a slot of its own and stored by one
 // splice.
+#![tactic(auto)]
+
 ghost use Rattle.std.specs.Prelude.{◌≡◌, ◌*◌, ◌-◌, ◌≤◌, length};
 ghost use Rattle.rules.specs.Layout.{view_settings, key_width, session_width, table_length};
 ghost use Rattle.plan.specs.Rows.{row_width, rows_of};

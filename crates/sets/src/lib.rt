@@ -1,4 +1,6 @@
 // Session sets (02 (vii)): the FQ-CSIDs that a Session Set Deletion Request lists, and the sessions that go.
+#![tactic(auto)]
+
 ghost use Rattle.std.specs.Prelude.{◌≡◌, ◌+◌, ◌*◌, ◌/◌, ◌≤◌, ◌<◌, [], ◌∷◌, length};
 ghost use Rattle.octets.specs.Octets.{octet_at};
 ghost use Rattle.octets.specs.Lists.{member, keep};

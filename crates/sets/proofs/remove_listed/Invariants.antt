@@ -1,0 +1,10 @@
+-- `sets::remove_listed` meets its contract: what is left takes the same sessions out of those that are left. Assumes nothing.
+use lib.ListN.{length}
+use Rattle.sets.proofs.GoneLaws.{Left}
+use Rattle.sets.proofs.remove_listed.Given as goal
+
+abbrev pub invariant-loop-kind : goal.invariant-loop-kind
+invariant-loop-kind l = Left l.initial.t l.peer l.s l.t l.rest
+
+abbrev pub decreases-loop-kind : goal.decreases-loop-kind
+decreases-loop-kind l = length l.rest
