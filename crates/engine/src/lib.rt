@@ -1,5 +1,7 @@
 // One call: the outcomes in their order, then what the header asks for: an establishment or a modification (crate `changes`), a deletion, or a set
 // deletion. A refusal never writes the table: every check comes first.
+#![tactic(auto)]
+
 ghost use Rattle.std.specs.Prelude.{◌≡◌, T};
 ghost use Rattle.rules.specs.Message.{kind_of, header_seid, deletion};
 ghost use Rattle.unit.specs.Meaning.{settings_of};

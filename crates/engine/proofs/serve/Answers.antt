@@ -1,0 +1,9 @@
+-- `engine::serve` meets its contract: a number that is no peer's, then the peer's request. Assumes nothing.
+use Rattle.engine.proofs.Serving.{serves_none, is_peers}
+use Rattle.engine.proofs.serve.Goals as goal
+
+pub returns-then-not-is_peer : goal.returns-then-not-is_peer
+returns-then-not-is_peer c = search serves_none
+
+pub serve_of-requires : goal.serve_of-requires
+serve_of-requires c = search is_peers

@@ -1,0 +1,59 @@
+-- `engine::serve_of` meets its contract.
+-- Assumes nothing.
+use native.Mathlib.Omega.{arith}
+use lib.Dec.{T}
+use Rattle.octets.specs.Octets.{octets}
+use Rattle.octets.proofs.Digits.{octets_known}
+use Rattle.table.proofs.Examining.{count_long, addresses_less}
+use Rattle.engine.proofs.Serving.{serves_broken, serves_small, serves_long, serves_malformed, serves_other, asks_list, serves_list, asks, counts, kind_is_lem, seid_is, serves_answer, tallies}
+use borrow.Author.Rules.{rules}
+use Rattle.engine.proofs.serve_of.Goals as goal
+
+pub returns-in_default : goal.returns-in_default
+returns-in_default c = search serves_broken
+
+pub returns-then-out-lt-SPACE : goal.returns-then-out-lt-SPACE
+returns-then-out-lt-SPACE c = search serves_small
+
+pub read-u-requires : goal.read-u-requires
+read-u-requires c = omega (arith, count_long _ _ _ _ c.examine-walked.ensures _ _ _ _ c.in-Held.is)
+
+pub returns-in-TooLong : goal.returns-in-TooLong
+returns-in-TooLong c = search serves_long
+
+pub returns-in-Malformed : goal.returns-in-Malformed
+returns-in-Malformed c = search serves_malformed
+
+pub returns-in-NotServed : goal.returns-in-NotServed
+returns-in-NotServed c = search serves_other
+
+pub delete_list-replied-requires : goal.delete_list-replied-requires
+delete_list-replied-requires c = (asks_list _ _ _ _ c.requires c.examine-walked.ensures c.in-Held.is c.if-out-lt-SPACE.false c.read_header-header.ensures c.in-Sets.is, c.read-u.ensures)
+
+pub returns-in-Sets : goal.returns-in-Sets
+returns-in-Sets c = serves_list _ _ _ _ c.requires c.examine-walked.ensures c.in-Held.is c.if-out-lt-SPACE.false c.read_header-header.ensures c.in-Sets.is c.delete_list-replied.ensures
+
+pub share-share-requires : goal.share-share-requires
+share-share-requires c = (search rules, search tallies)
+
+pub overflow_sub-free : goal.overflow_sub-free
+overflow_sub-free c = search addresses_less
+
+pub answer-replied-requires : goal.answer-replied-requires
+answer-replied-requires c =
+    let s = c in
+    let o : T (octets c.args.msg.now) = octets_known c.args.msg.now (λ i. (c.type_inv.msg i).fits) in
+    let x = c.examine-walked.ensures in
+    let e = c.in-Held.is in
+    let l = c.if-out-lt-SPACE.false in
+    let h = c.read_header-header.ensures in
+    let d = c.in-Request.is in
+    let own = c.share-share.ensures in (
+      asks _ _ _ _ c.requires x e l h d own.0 o,
+      counts x e c.read-u.ensures (search rules) (search rules) own,
+      kind_is_lem c.args.msg.now h d,
+      seid_is c.args.msg.now h d,
+    )
+
+pub returns-in-Request : goal.returns-in-Request
+returns-in-Request c = serves_answer _ _ _ _ c.requires c.examine-walked.ensures c.in-Held.is c.if-out-lt-SPACE.false c.read_header-header.ensures c.in-Request.is c.share-share.ensures.0 c.answer-replied.ensures
