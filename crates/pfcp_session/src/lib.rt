@@ -1,6 +1,8 @@
 // The calls for a host program in C. include/pfcp_session.h says what a host must pass.
 //
 // A slice is passed as a pointer and then its length. Every call may be given any octets and any numbers.
+#![tactic(auto)]
+
 ghost use Rattle.std.specs.Prelude.{◌≡◌};
 ghost use Rattle.rules.specs.Sound.{length_for};
 ghost use Rattle.unit.specs.Meaning.{settings_given};

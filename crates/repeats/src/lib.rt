@@ -1,5 +1,7 @@
 // A request of which a repeat gets the old reply (02 (xi)): the store stands before the engine, which stays as it is. The table is tested once
 // on every way: by the engine, or here where the engine is not asked.
+#![tactic(auto)]
+
 ghost use Rattle.std.specs.Prelude.{◌≡◌, ◌-◌, T};
 ghost use Rattle.octets.specs.Octets.{part};
 ghost use Rattle.rules.specs.Model.{is_peer};
