@@ -1,7 +1,7 @@
 -- The answers of the calls as numbers.
 -- Assumes nothing.
 use mathlib.Core.Path.{◌≡◌, refl, sym, ap, ◌∙◌, subst}
-use Prim.Native.Nat.{ℕ, ◌-◌, ◌/◌, ◌^◌, ◌≤◌, ◌<◌}
+use Prim.Native.Nat.{ℕ, ◌/◌, ◌^◌, ◌≤◌, ◌<◌}
 use native.Mathlib.Omega.{arith}
 use mathlib.Core.Bool.{Bool, true, false}
 use mathlib.Core.List.{List}
@@ -11,7 +11,7 @@ use Rattle.octets.specs.Choice.{pick}
 use Rattle.rules.specs.Limits.{max_sessions, max_pool, max_addresses}
 use Rattle.rules.specs.Model.{Settings, Sessions, free_count, free_address_count, is_peer, half, of_peer, holdings}
 use Rattle.rules.specs.Layout.{view_settings, view_sessions}
-use Rattle.rules.specs.Sound.{sound, make, Count, broken, free, count_free, count_addresses}
+use Rattle.rules.specs.Sound.{sound, make, broken, free, count_free, count_addresses}
 use Rattle.table.specs.declared.Making.{Making}
 use Rattle.table.specs.declared.Making.TheVariants.{Made, Refused}
 use Rattle.table.specs.declared.Count as code

@@ -1,0 +1,8 @@
+-- `pfcp_session::pfcp_find_session` meets its contract.
+-- Assumes nothing.
+use Rattle.pfcp_session.specs.Calls.{find_session_call}
+use Rattle.pfcp_session.proofs.pfcp_find_session.Goals as goal
+
+pub returns : goal.returns
+unfolding find_session_call
+returns c = c.find_session-found.ensures
