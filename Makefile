@@ -31,11 +31,11 @@ test:
 
 # the proofs only, of what has changed since they were last checked
 check:
-	@rt check
+	@rt all check
 
 # the layout of the Rattle sources
 fmt:
-	@rt fmt
+	@for crate in crates/*/; do (cd "$$crate" && rt fmt) || exit 1; done
 
 # the unit on UDP port 8805 of 127.0.0.1; make run ARGS='--help' lists its options
 run:

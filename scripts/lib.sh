@@ -81,21 +81,26 @@ stand_in_archive() {
     archive_name=ordinary
 }
 
-# library_origin NAME: a line that changes with the library that rt writes of this crate and with what it is made from
+# library_origin NAME: a line that changes with target/staticlib/libNAME.a and with what it is made from
 library_origin() {
     {
         rt version
-        find crates.txt crates -type f \( -name '*.rt' -o -name '*.antt' \) -print0 | sort -z | xargs -0 sha256sum
+        find crates.txt crates/*/src crates/*/specs crates/*/proofs -type f -print0 | sort -z | xargs -0 sha256sum
         sha256sum "target/staticlib/lib$1.a"
     } 2>/dev/null | sha256sum
 }
 
-# proved_library HOW NAME: has rt prove what has changed and write target/staticlib/libNAME.a, unless nothing has changed since it was
-# written. HOW is quietly or aloud.
+# build_library CRATE: has rt prove what has changed of a crate NAME_c and of those below it, and write target/staticlib/libNAME.a, by the name
+# that C programs link. rt's own is in the crate's out/, which rt ci empties.
+build_library() {
+    (cd "crates/$1" && rm -f "out/lib$1.a" && rt lib) && mkdir -p target/staticlib && cp "crates/$1/out/lib$1.a" "target/staticlib/lib${1%_c}.a"
+}
+
+# proved_library HOW NAME: builds target/staticlib/libNAME.a, unless nothing has changed since it was written. HOW is quietly or aloud.
 proved_library() {
     need_rt || return 1
     [ "$(cat "target/staticlib/$2.origin" 2>/dev/null)" = "$(library_origin "$2")" ] && return
-    "$1" rt staticlib "$2" || return 1
+    "$1" build_library "$2_c" || return 1
     library_origin "$2" >"target/staticlib/$2.origin"
 }
 
@@ -108,7 +113,7 @@ proved_archive() {
 
 # crates_of NAME: how many crates of crates.txt this one is made of, itself among them
 crates_of() {
-    awk -v first="$1" '/^[a-z_]+:/ { name = $1; sub(/:.*/, "", name); $1 = ""; uses[name] = $0 }
+    awk -v first="$1" '/^[a-z]/ { name = $1; sub(/:.*/, "", name); sub(/^[^:]*:/, ""); uses[name] = $0 }
         END {
             due[1] = first; seen[first]; last = 1
             for (i = 1; i <= last; i++) {
@@ -119,15 +124,19 @@ crates_of() {
         }' crates.txt
 }
 
-# counted ALL: passes on what rt says, and counts the crates that it has done
+# counted ALL: passes on what rt says of functions, and counts the crates that it has done. Those that it finds proved are not told.
 counted() {
-    local line proved=0
+    local line name='' proved=0
     while IFS= read -r line; do
-        if [[ $line =~ ^rt:\ [a-z_]+\ proved ]]; then
+        case $line in
+        'crate '*': modules loaded='*) name=${line#crate } && name=${name%%:*} ;;
+        logic=proved*)
             proved=$((proved + 1))
-            line="crate $proved of $1: ${line#rt: }"
-        fi
-        printf '%s\n' "$line"
+            printf 'crate %s of %s: %s proved\n' "$proved" "$1" "$name"
+            ;;
+        'logic '* | 'library '* | 'statements '* | 'axioms '*) ;;
+        *) printf '%s\n' "$line" ;;
+        esac
     done
 }
 
@@ -139,16 +148,16 @@ aloud() {
 }
 
 # find_archive [HOW]: builds the archive and sets archive_dir, archive_name and archive_file. It is the proved one of the crate
-# pfcp_session. Before that crate exists, and only where PFCP_STAND_IN=1 asks for it, bench/ordinary stands in.
+# pfcp_session_c. Where that crate is not there, and only where PFCP_STAND_IN=1 asks for it, bench/ordinary stands in.
 find_archive() {
-    if grep -qs '^pfcp_session *:' crates.txt &&
-        grep -rqs 'extern "C" fn pfcp_request' crates/pfcp_session/src; then
+    if grep -qs '^pfcp_session_c staticlib *:' crates.txt &&
+        grep -rqs 'extern "C" fn pfcp_request' crates/pfcp_session_c/src; then
         proved_archive "${1:-quietly}" || return 1
     elif [ "${PFCP_STAND_IN:-}" = 1 ]; then
         printf 'PFCP_STAND_IN=1: bench/ordinary stands in for the proved archive\n'
         stand_in_archive || return 1
     else
-        printf 'there is no archive: the crate pfcp_session does not export pfcp_request\n' >&2
+        printf 'there is no archive: the crate pfcp_session_c does not export pfcp_request\n' >&2
         return 1
     fi
     archive_file=$archive_dir/lib$archive_name.a
