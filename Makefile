@@ -77,7 +77,7 @@ clean:
 
 # takes away what is proved too, and what cargo has built
 distclean: clean
-	@rm -rf target second/target check/target bench/ordinary/target tests/differential/target
+	@rm -rf target crates/*/out second/target check/target bench/ordinary/target tests/differential/target
 
 # these lines; CC, CFLAGS, LDFLAGS and HARDENING are heeded
 help:

@@ -3,8 +3,8 @@ beside it."""
 
 from sources import Declaration, SourceError
 
-# a call of the library that C links; the others are exported by the same file
-CALL = 'pfcp_request'
+# the static library that C links
+EXPORTS = 'crates/pfcp_session_c/src/lib.rt'
 # each is looked for in the specs of all crates
 CLAIMS = [
     'HostClaim',
@@ -40,15 +40,14 @@ CLAIMS = [
     'FseidCodeBack',
 ]
 # what the kit gives every file and every contract without a `use` line
-PRELUDE = {'Unit', '⊥', 'now'}
+PRELUDE = {'Unit', '⊥'}
 
 
 def exported_calls(sources):
     """The functions that the library exports to C."""
-    files = [s for s in sources.sources.values() if CALL in s.functions and s.functions[CALL].exported()]
-    if len(files) != 1:
-        raise SourceError(f'{CALL} is exported by {len(files)} files of crates/*/src, not by one')
-    return [function for function in files[0].functions.values() if function.exported()]
+    if EXPORTS not in sources.sources:
+        raise SourceError(f'there is no file {EXPORTS}')
+    return [function for function in sources.sources[EXPORTS].functions.values() if function.exported()]
 
 
 class Belief:

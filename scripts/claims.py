@@ -33,8 +33,8 @@ each stands where it is and which sentences it answers. Of a theorem the proof i
 [rules.md](rules.md).
 
 `serve t who msg space` is the definition of one request of a peer: the outcome, the place of a fault, the reply space and the table at exit, of any octets.
-`make` and `countFree` are the definitions of making a table and of counting free TEIDs. The session limit is a setting, which the table keeps;
-the largest is `maxSessions`.
+`make` and `count_free` are the definitions of making a table and of counting free TEIDs. The session limit is a setting, which the table keeps;
+the largest is `max_sessions`.
 
 | Sign | How to read it |
 |---|---|
@@ -42,12 +42,12 @@ the largest is `maxSessions`.
 | `T b` | the test b holds |
 | `(x : A) → B`, `{x : A} → B` | for every x of the type A: B; `A → B` also says: from A follows B; `A → ⊥`: A does not hold |
 | `A × B`; `(x : A) × B` | A and B; there is an x with B |
-| `f a b`; `x .f` | the function f of a and b; the field f of x |
+| `f a b`; `x.f` | the function f of a and b; the field f of x |
 | `unfoldable`, `abbrev`, `pub` | marks of a definition; they change nothing of what it says |
 | `List ℕ`; `[]`, `x ∷ xs`, `xs ++ ys` | numbers in a row, octets for one; none, x and then xs, xs and then ys |
-| `List·Permᴰ xs ys` | xs and ys have the same members, in any order |
-| `requires`, `ensures { λ r. ⌜ .. ⌝ }` | what a caller has to see to; what then holds of the answer r |
-| `now (t .entry)`, `now (t .exit)` | what stands in the lent t when the call begins, and when it ends |
+| `Permᴰ xs ys` | xs and ys have the same members, in any order |
+| `requires { .. }`, `ensures { .. }` | what a caller has to see to; what then holds, of the answer as `result` |
+| `t.old`, `t.new`; `t.now` | what stands in the lent t when the call begins, and when it ends; the same of a t that is only read |
 
 '''
 
@@ -310,7 +310,15 @@ def render_statement(one):
 
 def render_edit(one):
     said = ' '.join(line[1:].strip() for line in one.text if line.startswith('#'))
-    told = {k: v for k, v in (line.split(': ', 1) for line in one.text if ': ' in line and not line.startswith('#'))}
-    yield f'{said.rstrip(".")}. In `{told["file"]}` of [this crate](../{one.path}) the line'
-    yield f'`{told["old"]}` becomes `{told["new"]}`.'
+    file = was = None
+    for line in one.text:
+        word, _, text = line.partition(':')
+        text = text.removeprefix(' ')
+        if word == 'file':
+            yield f'{"And in" if file else said.rstrip(".") + ". In"} `{text}` of [this crate](../{one.path}) the line'
+            file = text
+        elif word == 'old':
+            was = text
+        elif word == 'new':
+            yield f'`{was}` becomes `{text}`.' if text else f'`{was}` goes.'
     yield ''

@@ -65,6 +65,9 @@ quietly() {
     return "$status"
 }
 
+# copy_crates FOLDER: copies the crates there without what rt keeps in their out/: that is large, and rt finds it from a copy too
+copy_crates() { tar -cf - --no-wildcards-match-slash --exclude='crates/*/out' crates crates.txt | tar -xf - -C "$1"; }
+
 # ordinary_archive: builds bench/ordinary and sets archive_ordinary
 ordinary_archive() {
     need_cargo || return 1

@@ -13,7 +13,9 @@ TOKEN = re.compile(NAME + r'|[(){}.;,@"]')
 PUNCTUATION = set('(){}.;,@"')
 MARKS = {'unfoldable', 'abbrev', 'pub', 'axiom', 'data', 'record'}
 # words of the language, and what every file has without a `use` line
-WORDS = MARKS | set('= : → λ let in where module do elim Type × _ ⊔ ↔ ∀ ⌜ ⌝ requires ensures'.split())
+WORDS = MARKS | set('= : → λ let in where module do elim Type × _ ⊔ ↔ ∀ requires ensures'.split())
+# the head of a clause, with its name if it has one
+CLAUSE = re.compile(r'\b(?:requires|ensures)(?: \w+)? \{')
 
 
 class SourceError(Exception):
@@ -87,8 +89,11 @@ class Module:
             first = words(text)
             if first[0] == 'use' or first[:2] == ['pub', 'use']:
                 self.use(text, number)
-            elif first[0] in ('infix', 'infixl', 'infixr') or first[:2] == ['pub', 'mod']:
+            elif first[0] in ('infix', 'infixl', 'infixr', 'mod', 'open') or first[:2] == ['pub', 'mod']:
                 pass
+            elif 'ruleset' in first[:2]:
+                current = Declaration(self, first[first.index('ruleset') + 1], number, [])
+                current.signature.append(text)
             elif first[0] == 'module':
                 while words(text)[-1] != 'where':
                     text += '\n' + without_comment(lines[number])
@@ -164,7 +169,7 @@ class Source:
         for number, text in enumerate(lines, 1):
             if text.startswith('ghost use '):
                 read_use(text.removeprefix('ghost use ').rstrip(';'), self.imported, self.aliases, f'{self.path}:{number}')
-            found = re.match(r'(?:pub )?(?:extern "C" )?fn (\w+)', text)
+            found = re.match(r'(?:pub )?(?:unsafe )?(?:extern "C" )?fn (\w+)', text)
             kind = re.match(r'pub (?:enum|struct) (\w+)', text)
             if kind:
                 self.types[kind.group(1)] = number
@@ -212,8 +217,8 @@ def read_use(text, imported, aliases, place):
 
 def module_path(name):
     """The file below crates/ that a module's name stands for, or None for one of the kit or one made from code."""
-    found = re.fullmatch(r'Rattle·(\w+?)(?:·specs|·proofs)?\.(specs|proofs)\.(.+)', name)
-    if not found or found.group(3).startswith('declared.'):
+    found = re.fullmatch(r'Rattle\.(\w+)\.(specs|proofs)\.(.+)', name)
+    if not found or found.group(3).startswith('declared.') or not (ROOT / 'crates' / found.group(1)).is_dir():
         return None
     return f'crates/{found.group(1)}/{found.group(2)}/{found.group(3).replace(".", "/")}.antt'
 
@@ -266,8 +271,8 @@ class Sources:
         for own in (getattr(where, 'constructors', {}), getattr(where, 'declarations', {})):
             table.update(own)
         for name in list(table):
-            if '_' in name and not name.startswith('«'):
-                for part in filter(None, name.split('_')):
+            if '◌' in name:
+                for part in filter(None, name.split('◌')):
                     table.setdefault(part, table[name])
         return table
 
@@ -337,7 +342,7 @@ class Sources:
         scope = self.scope(function.source)
         parameters = set(re.findall(r'(\w+):', '\n'.join(function.head)))
         text = re.sub(r'[«»]', '', function.contract())
-        self.collect(re.sub(r'\b(requires|ensures) \{', '{', text), function.source, scope, parameters, binders([text]), used, strange)
+        self.collect(CLAUSE.sub('{', text), function.source, scope, parameters | {'result'}, binders([text]), used, strange)
         return used, strange
 
     def reached(self, roots):
