@@ -25,7 +25,7 @@ uninstall:
 deb:
 	@scripts/deb
 
-# every proof from nothing, every must-fail edit, every program, then the C and Rust tests
+# every proof, every must-fail edit and every program (rt ci), then the C and Rust tests
 test:
 	@scripts/test
 
