@@ -84,12 +84,12 @@ stand_in_archive() {
     archive_name=ordinary
 }
 
-# library_origin NAME: a line that changes with target/staticlib/libNAME.a and with what it is made from
-library_origin() {
+# origin FILE: a line that changes with target/staticlib/FILE and with what it is made from
+origin() {
     {
         rt version
         find crates.txt crates/*/src crates/*/specs crates/*/proofs -type f -print0 | sort -z | xargs -0 sha256sum
-        sha256sum "target/staticlib/lib$1.a"
+        sha256sum "target/staticlib/$1"
     } 2>/dev/null | sha256sum
 }
 
@@ -99,17 +99,26 @@ build_library() {
     (cd "crates/$1" && rm -f "out/lib$1.a" && rt lib) && mkdir -p target/staticlib && cp "crates/$1/out/lib$1.a" "target/staticlib/lib${1%_c}.a"
 }
 
-# proved_library HOW NAME: builds target/staticlib/libNAME.a, unless nothing has changed since it was written. HOW is quietly or aloud.
-proved_library() {
+# build_program CRATE: the same of a program, and writes its compiled code, target/staticlib/CRATE.o. rt has no command that compiles a program and does
+# not run it; without arguments this one only says how it is used.
+build_program() {
+    local made=crates/$1/out/$1
+    rm -f "$made" "$made.o"
+    (cd "crates/$1" && rt run </dev/null)
+    [ -f "$made" ] && mkdir -p target/staticlib && cp "$made.o" target/staticlib/
+}
+
+# proved HOW FILE BUILD CRATE: has target/staticlib/FILE built, unless nothing has changed since it was written. HOW is quietly or aloud.
+proved() {
     need_rt || return 1
-    [ "$(cat "target/staticlib/$2.origin" 2>/dev/null)" = "$(library_origin "$2")" ] && return
-    "$1" build_library "$2_c" || return 1
-    library_origin "$2" >"target/staticlib/$2.origin"
+    [ "$(cat "target/staticlib/$2.origin" 2>/dev/null)" = "$(origin "$2")" ] && return
+    "$1" "$3" "$4" || return 1
+    origin "$2" >"target/staticlib/$2.origin"
 }
 
 # proved_archive HOW: the library that C links
 proved_archive() {
-    proved_library "$1" pfcp_session || return 1
+    proved "$1" libpfcp_session.a build_library pfcp_session_c || return 1
     archive_dir=$PWD/target/staticlib
     archive_name=pfcp_session
 }
@@ -180,8 +189,8 @@ listing_sources=(host/sessions.c host/counts.c host/listing.c host/session_words
 unit_sources=(host/main.c host/options.c host/arguments.c host/number.c host/service.c host/unit.c host/stores.c host/disk.c host/datagrams.c
     host/line.c host/control.c host/output.c host/complaint.c host/demo.c "${listing_sources[@]}" -pthread)
 list_sources=(host/pfcp_list.c host/stored_unit.c host/arguments.c host/number.c "${listing_sources[@]}")
-# the program pfcp-restore, which adds to its C file a proved library and the kit's C code for it, and the unit's list of a stored table
-restore_sources=(host/restore.c host/send.c host/number.c -Wl,--wrap=rattle_open_to_read)
+# the program pfcp-restore, which adds to its C file a proved program and the kit's C code for it, and the unit's list of a stored table
+restore_sources=(host/restore.c host/send.c host/number.c -Wl,--wrap=main -Wl,--wrap=open)
 list_table_sources=(tests/c/list_table.c "${listing_sources[@]}")
 checked_by_valgrind=(valgrind -q --error-exitcode=9 --leak-check=full --errors-for-leak-kinds=all)
 
@@ -245,14 +254,14 @@ compile_product() { compile_changed "$1" "${cflags[@]}" "${hardening[@]}" "-ffil
 compile_restore() {
     local kit
     kit=$(rt doc) || return 1
-    "$@" "${restore_sources[@]}" target/staticlib/librestoring.a "${kit%/docs/*}/lib/libos_c.a" "${stored_sources[@]}" \
-        "$archive_file"
+    kit=${kit%/*}/c
+    "$@" "${restore_sources[@]}" target/staticlib/restore.o "$kit/libos_c.a" "$kit/liblibc_c.a" "${stored_sources[@]}" "$archive_file"
 }
 
-# build_restore [HOW]: builds what has changed of the program pfcp-restore and its proved library
+# build_restore [HOW]: builds what has changed of the program pfcp-restore and of the proved one in it
 build_restore() {
     { need_gcc && need_rt && need_nettle; } || return 1
-    find_archive "${1:-quietly}" && proved_library "${1:-quietly}" restoring && compile_restore compile_product pfcp-restore
+    find_archive "${1:-quietly}" && proved "${1:-quietly}" restore.o build_program restore && compile_restore compile_product pfcp-restore
 }
 
 # compile_unit: compiles what has changed of the unit and pfcp-list
