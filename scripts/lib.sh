@@ -99,13 +99,12 @@ build_library() {
     (cd "crates/$1" && rm -f "out/lib$1.a" && rt lib) && mkdir -p target/staticlib && cp "crates/$1/out/lib$1.a" "target/staticlib/lib${1%_c}.a"
 }
 
-# build_program CRATE: the same of a program, and writes its compiled code, target/staticlib/CRATE.o. rt has no command that compiles a program and does
-# not run it; without arguments this one only says how it is used.
-build_program() {
-    local made=crates/$1/out/$1
-    rm -f "$made" "$made.o"
-    (cd "crates/$1" && rt run </dev/null)
-    [ -f "$made" ] && mkdir -p target/staticlib && cp "$made.o" target/staticlib/
+# build_restoring CRATE: the same of the program pfcp-restore, whose compiled code becomes target/staticlib/CRATE.o. rt compiles a program to run it, and so it
+# is run, on the table and the file that the gate runs it on.
+build_restoring() {
+    local out=crates/$1/out
+    rm -f "$out/$1" "$out/$1.o"
+    (cd "crates/$1" && rt run -- run data/few.requests data/few.table out/new.table) && mkdir -p target/staticlib && cp "$out/$1.o" target/staticlib/
 }
 
 # proved HOW FILE BUILD CRATE: has target/staticlib/FILE built, unless nothing has changed since it was written. HOW is quietly or aloud.
@@ -261,7 +260,7 @@ compile_restore() {
 # build_restore [HOW]: builds what has changed of the program pfcp-restore and of the proved one in it
 build_restore() {
     { need_gcc && need_rt && need_nettle; } || return 1
-    find_archive "${1:-quietly}" && proved "${1:-quietly}" restore.o build_program restore && compile_restore compile_product pfcp-restore
+    find_archive "${1:-quietly}" && proved "${1:-quietly}" restore.o build_restoring restore && compile_restore compile_product pfcp-restore
 }
 
 # compile_unit: compiles what has changed of the unit and pfcp-list
