@@ -2,10 +2,12 @@
 // counts of TEIDs and addresses, and for each damage how many of the damaged tables pass: of those damaged in the settings before the peers',
 // in the peers' and the number of sessions, in the first two slots, and after.
 // The numbers in `stdout` were worked out by a second reading of the layout in another language.
+#![tactic(auto)]
+
 ghost use Rattle.std.specs.Prelude.{◌≡◌, ◌≤◌, ◌<◌, length};
 ghost use Rattle.rules.specs.Layout.{table_length};
 
-use libc::STDOUT_FILENO;
+use std::io;
 use unit::Peer;
 
 // The tables have room for four sessions. Where the first two slots end, and where a table ends.
@@ -31,13 +33,12 @@ const SECOND_PDR: usize = SECOND + format::PDRS;
 // Where the largest table ends, with room for 256 sessions.
 const LARGEST: usize = format::HEAD + 256 * format::SLOT;
 
-fn number(n: u64) {
-    io::print_decimal(STDOUT_FILENO, n);
-    io::write_all(STDOUT_FILENO, b" ");
+fn number(rt: &impl Print, n: u64) -> io::Result<()> {
+    print!(rt; "{n} ")
 }
 
-fn end() {
-    io::write_all(STDOUT_FILENO, b"\n");
+fn end(rt: &impl Print) -> io::Result<()> {
+    println!(rt)
 }
 
 // Another octet than x: the complement, or the one that differs in the lowest bit.
@@ -96,40 +97,40 @@ fn write_field(t: &mut [u8], record: usize, place: usize, n: usize, value: u64) 
     octets::write(t, record + place, n, value);
 }
 
-fn counts(t: &mut [u8], lowest: bool)
+fn counts(rt: &impl Print, t: &mut [u8], lowest: bool) -> io::Result<()>
     requires { length t.old ≡ table_length 4 }
 {
-    number(count_sound(t, 0, format::PEER1, lowest));
-    number(count_sound(t, format::PEER1, format::HEAD, lowest));
-    number(count_sound(t, format::HEAD, TWO_SLOTS, lowest));
-    number(count_sound(t, TWO_SLOTS, LENGTH, lowest));
-    end();
+    number(rt, count_sound(t, 0, format::PEER1, lowest))?;
+    number(rt, count_sound(t, format::PEER1, format::HEAD, lowest))?;
+    number(rt, count_sound(t, format::HEAD, TWO_SLOTS, lowest))?;
+    number(rt, count_sound(t, TWO_SLOTS, LENGTH, lowest))?;
+    end(rt)
 }
 
-fn told(count: table::Count) {
+fn told(rt: &impl Print, count: table::Count) -> io::Result<()> {
     match count {
-        table::Count::Broken => number(1),
+        table::Count::Broken => number(rt, 1)?,
         table::Count::Free(n) => {
-            number(0);
-            number(n);
+            number(rt, 0)?;
+            number(rt, n)?;
         }
     }
-    end();
+    end(rt)
 }
 
 // The free counts, of TEIDs and of addresses.
-fn free(t: &[u8]) {
-    told(table::free_count(t));
-    told(table::free_addresses(t));
+fn free(rt: &impl Print, t: &[u8]) -> io::Result<()> {
+    told(rt, table::free_count(t))?;
+    told(rt, table::free_addresses(t))
 }
 
 // Says whether a table was made.
-fn made(answer: table::Making) {
+fn made(rt: &impl Print, answer: table::Making) -> io::Result<()> {
     match answer {
-        table::Making::Made => number(0),
-        table::Making::Refused => number(1),
+        table::Making::Made => number(rt, 0)?,
+        table::Making::Refused => number(rt, 1)?,
     }
-    end();
+    end(rt)
 }
 
 // A peer of the address 192.0.2.x.
@@ -153,8 +154,17 @@ fn peer2() -> Peer {
 }
 
 // Makes a table of the unit 192.0.2.1 with these peers, and says whether it was made.
-fn make(t: &mut [u8], ipv6: &[u8], first: u32, size: u32, address: u32, count: u32, limit: u32) {
-    made(table::make(
+fn make(
+    rt: &impl Print,
+    t: &mut [u8],
+    ipv6: &[u8],
+    first: u32,
+    size: u32,
+    address: u32,
+    count: u32,
+    limit: u32,
+) -> io::Result<()> {
+    let answer = table::make(
         t,
         3221225985,
         ipv6,
@@ -165,17 +175,26 @@ fn make(t: &mut [u8], ipv6: &[u8], first: u32, size: u32, address: u32, count: u
         limit,
         peer1(),
         peer2(),
-    ));
+    );
+    made(rt, answer)
 }
 
 // The same with other guarantees and limits of the peers, the second's address 192.0.2.x, 8 TEIDs and 4 addresses.
-fn make_for(t: &mut [u8], guarantee1: u64, limit1: u64, x: u64, guarantee2: u64, limit2: u64)
+fn make_for(
+    rt: &impl Print,
+    t: &mut [u8],
+    guarantee1: u64,
+    limit1: u64,
+    x: u64,
+    guarantee2: u64,
+    limit2: u64,
+) -> io::Result<()>
     requires { x ≤ 2 }
 {
     let none: [u8; 0] = [];
     let one = peer(1, guarantee1, limit1);
     let two = peer(x, guarantee2, limit2);
-    made(table::make(
+    let answer = table::make(
         t,
         3221225985,
         &none,
@@ -186,7 +205,8 @@ fn make_for(t: &mut [u8], guarantee1: u64, limit1: u64, x: u64, guarantee2: u64,
         LIMIT as u32,
         one,
         two,
-    ));
+    );
+    made(rt, answer)
 }
 
 // A slot's peer and SEID, and the numbers of its PDRs, endpoints and FQ-CSIDs.
@@ -282,93 +302,101 @@ fn second(t: &mut [u8]) {
 }
 
 // Says whether the table is sound with this guarantee and this limit of a peer in its settings.
-fn sound_with(t: &mut [u8], peer: usize, guarantee: u64, limit: u64) {
+fn sound_with(
+    rt: &impl Print,
+    t: &mut [u8],
+    peer: usize,
+    guarantee: u64,
+    limit: u64,
+) -> io::Result<()> {
     write_field(t, peer, format::GUARANTEE, 4, guarantee);
     write_field(t, peer, format::PEER_LIMIT, 4, limit);
     if table::is_sound(t) {
-        number(1);
+        number(rt, 1)
     } else {
-        number(0);
+        number(rt, 0)
     }
 }
 
 // Peer 1 holds two TEIDs and peer 2 one: within limits of two and of one, past limits of one and of none.
-fn within_limits(t: &mut [u8]) {
-    sound_with(t, format::PEER1, 2, 2);
-    sound_with(t, format::PEER1, 1, 1);
-    sound_with(t, format::PEER1, 0, 6);
-    sound_with(t, format::PEER2, 1, 1);
-    sound_with(t, format::PEER2, 0, 0);
-    end();
+fn within_limits(rt: &impl Print, t: &mut [u8]) -> io::Result<()> {
+    sound_with(rt, t, format::PEER1, 2, 2)?;
+    sound_with(rt, t, format::PEER1, 1, 1)?;
+    sound_with(rt, t, format::PEER1, 0, 6)?;
+    sound_with(rt, t, format::PEER2, 1, 1)?;
+    sound_with(rt, t, format::PEER2, 0, 0)?;
+    end(rt)
 }
 
 // With a guarantee of five for peer 2 each has its due in a pool of seven, and not in one of six: there is room there for both guarantees and
 // for all that is held, but not for what peer 1 holds and what peer 2 is due.
-fn within_dues(t: &mut [u8]) {
+fn within_dues(rt: &impl Print, t: &mut [u8]) -> io::Result<()> {
     write_field(t, format::SIZE, 0, 4, 7);
-    sound_with(t, format::PEER2, 5, 5);
+    sound_with(rt, t, format::PEER2, 5, 5)?;
     write_field(t, format::SIZE, 0, 4, 6);
-    sound_with(t, format::PEER2, 5, 5);
-    sound_with(t, format::PEER2, 4, 5);
-    end();
+    sound_with(rt, t, format::PEER2, 5, 5)?;
+    sound_with(rt, t, format::PEER2, 4, 5)?;
+    end(rt)
 }
 
 // Peers that are refused: equal addresses, a guarantee past its limit, a limit past the pool, guarantees that together pass it.
 // Nothing is written.
-fn peers(t: &mut [u8]) {
-    make_for(t, 3, 8, 1, 3, 5);
-    make_for(t, 9, 8, 2, 3, 5);
-    make_for(t, 3, 8, 2, 3, 9);
-    make_for(t, 4, 8, 2, 5, 5);
+fn peers(rt: &impl Print, t: &mut [u8]) -> io::Result<()> {
+    make_for(rt, t, 3, 8, 1, 3, 5)?;
+    make_for(rt, t, 9, 8, 2, 3, 5)?;
+    make_for(rt, t, 3, 8, 2, 3, 9)?;
+    make_for(rt, t, 4, 8, 2, 5, 5)
 }
 
 // The limits at the ends, each in a table of the length that follows: 0, 1 and 257 are refused, 256 is not, with the largest pools.
-fn limits(address: &[u8]) {
+fn limits(rt: &impl Print, address: &[u8]) -> io::Result<()> {
     let mut head = [0u8; format::HEAD];
-    make(&mut head, address, 4096, 8, 167772160, 4, 0);
+    make(rt, &mut head, address, 4096, 8, 167772160, 4, 0)?;
     let mut one = [0u8; format::HEAD + format::SLOT];
-    make(&mut one, address, 4096, 8, 167772160, 4, 1);
+    make(rt, &mut one, address, 4096, 8, 167772160, 4, 1)?;
     let mut t = [0u8; LARGEST + format::SLOT];
-    make(&mut t, address, 4096, 8, 167772160, 4, 257);
+    make(rt, &mut t, address, 4096, 8, 167772160, 4, 257)?;
     let largest = &mut t[0..LARGEST];
-    make(largest, address, 4096, 65536, 167772160, 1024, 256);
-    free(largest);
+    make(rt, largest, address, 4096, 65536, 167772160, 1024, 256)?;
+    free(rt, largest)
 }
 
 // Refused: a pool that ends past the last TEID, an IPv6 address cut short, addresses that end past the last one, none, and one too many; room
 // for another number of sessions than the table's length says. Nothing is written.
-fn refusals(t: &mut [u8], address: &[u8])
+fn refusals(rt: &impl Print, t: &mut [u8], address: &[u8]) -> io::Result<()>
     requires { length address.now ≡ 16 }
 {
-    make(t, address, 4294967295, 2, 167772160, 4, LIMIT as u32);
-    make(t, &address[0..4], 4096, 8, 167772160, 4, LIMIT as u32);
-    make(t, address, 4096, 8, 4294967295, 2, LIMIT as u32);
-    make(t, address, 4096, 8, 167772160, 0, LIMIT as u32);
-    make(t, address, 4096, 8, 167772160, 1025, LIMIT as u32);
-    make(t, address, 4096, 8, 167772160, 4, LIMIT as u32 + 1);
+    let limit = LIMIT as u32;
+    make(rt, t, address, 4294967295, 2, 167772160, 4, limit)?;
+    make(rt, t, &address[0..4], 4096, 8, 167772160, 4, limit)?;
+    make(rt, t, address, 4096, 8, 4294967295, 2, limit)?;
+    make(rt, t, address, 4096, 8, 167772160, 0, limit)?;
+    make(rt, t, address, 4096, 8, 167772160, 1025, limit)?;
+    make(rt, t, address, 4096, 8, 167772160, 4, limit + 1)
 }
 
-fn main() {
+fn main(rt: HostRuntime) -> io::Result<()> {
     let mut t = [0u8; LENGTH];
     let address: [u8; 16] = [32, 1, 13, 184, 0, 0, 0, 0, 0, 0, 0, 0, 0, 0, 0, 1];
+    let limit = LIMIT as u32;
     // No IPv6 address, a pool of 8 TEIDs from 4,096, and one of 4 addresses from 10.0.0.0.
-    make(&mut t, &address[0..0], 4096, 8, 167772160, 4, LIMIT as u32);
-    free(&t);
-    counts(&mut t, true);
-    counts(&mut t, false);
+    make(&rt, &mut t, &address[0..0], 4096, 8, 167772160, 4, limit)?;
+    free(&rt, &t)?;
+    counts(&rt, &mut t, true)?;
+    counts(&rt, &mut t, false)?;
     // The same with an IPv6 address, and two sessions.
-    make(&mut t, &address, 4096, 8, 167772160, 4, LIMIT as u32);
+    make(&rt, &mut t, &address, 4096, 8, 167772160, 4, limit)?;
     write_field(&mut t, format::COUNT, 0, 2, 2);
     first(&mut t);
     first_others(&mut t);
     second(&mut t);
-    free(&t);
-    counts(&mut t, true);
-    counts(&mut t, false);
-    refusals(&mut t, &address);
-    peers(&mut t);
-    free(&t);
-    within_limits(&mut t);
-    within_dues(&mut t);
-    limits(&address);
+    free(&rt, &t)?;
+    counts(&rt, &mut t, true)?;
+    counts(&rt, &mut t, false)?;
+    refusals(&rt, &mut t, &address)?;
+    peers(&rt, &mut t)?;
+    free(&rt, &t)?;
+    within_limits(&rt, &mut t)?;
+    within_dues(&rt, &mut t)?;
+    limits(&rt, &address)
 }

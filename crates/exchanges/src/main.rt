@@ -12,10 +12,12 @@
 // Writes a line for each: `octet` and its index where a store is changed, else `table` or `outcome` and the call's outcome, the free TEIDs
 // and addresses after it (`broken` where there is no count), and the place of a fault and the reply's octets where there is a reply. The
 // lines in `stdout` are the second implementation's.
-ghost use Rattle.std.specs.Prelude.{◌≡◌, ◌+◌, ◌≤◌, length};
+#![tactic(auto)]
+
+ghost use Rattle.std.specs.Prelude.{◌≡◌, ◌+◌, ◌≤◌, length, IfOk};
 
 use engine::Served;
-use libc::STDOUT_FILENO;
+use std::io;
 use table::{Count, Making};
 use unit::Peer;
 
@@ -27,26 +29,21 @@ const CHANGING: usize = 5;
 // The room for the largest table that is made here, of 16 sessions.
 const ROOM: usize = format::HEAD + 16 * format::SLOT;
 
-fn text(s: &[u8]) {
-    io::write_all(STDOUT_FILENO, s);
-}
+// So many octets of standard input are read at most.
+const INPUT: usize = 65536;
 
-fn counted(name: &[u8], count: Count) {
-    text(name);
+fn counted(rt: &impl Print, name: &str, count: Count) -> io::Result<()> {
     match count {
-        Count::Broken => text(b"broken"),
-        Count::Free(free) => {
-            io::print_decimal(STDOUT_FILENO, free);
-        }
+        Count::Broken => print!(rt; "{name}broken"),
+        Count::Free(free) => print!(rt; "{name}{free}"),
     }
 }
 
 // The outcome of a call, and the free counts after it.
-fn outcome(t: &[u8], name: &[u8], n: u64) {
-    text(name);
-    io::print_decimal(STDOUT_FILENO, n);
-    counted(b" free ", table::free_count(t));
-    counted(b" addresses ", table::free_addresses(t));
+fn outcome(rt: &impl Print, t: &[u8], name: &str, n: u64) -> io::Result<()> {
+    print!(rt; "{name}{n}")?;
+    counted(rt, " free ", table::free_count(t))?;
+    counted(rt, " addresses ", table::free_addresses(t))
 }
 
 // The peer's settings at a place of s.
@@ -105,56 +102,73 @@ fn make(t: &mut [u8], s: &[u8]) -> usize
 }
 
 // The table after a part that makes one, by its length: a new one, with empty stores, or where it is refused the one of the first n octets.
-fn remake(t: &mut [u8], one: &mut [u8], two: &mut [u8], n: usize, s: &[u8]) -> usize
+fn remake(
+    rt: &impl Print,
+    t: &mut [u8],
+    one: &mut [u8],
+    two: &mut [u8],
+    n: usize,
+    s: &[u8],
+) -> io::Result<usize>
     requires { (n ≤ length t.old) × (length s.now ≡ 49) }
-    ensures { result ≤ length t.new }
+    ensures { IfOk result (λ end. end ≤ length t.new) }
 {
     let end = make(t, s);
     if end == 0 {
-        outcome(&t[0..n], b"table ", 1);
-        text(b"\n");
-        return n;
+        outcome(rt, &t[0..n], "table ", 1)?;
+        println!(rt)?;
+        return Ok(n);
     }
     store::clear(one);
     store::clear(two);
-    outcome(&t[0..end], b"table ", 0);
-    text(b"\n");
-    end
+    outcome(rt, &t[0..end], "table ", 0)?;
+    println!(rt)?;
+    Ok(end)
 }
 
 // What a request got.
-fn answer(t: &[u8], served: Served, reply: &[u8]) {
-    outcome(t, b"outcome ", served.outcome as u64);
+fn answer(rt: &impl Print, t: &[u8], served: Served, reply: &[u8]) -> io::Result<()> {
+    outcome(rt, t, "outcome ", served.outcome as u64)?;
     if served.outcome == 0 {
-        text(b" place ");
-        io::print_decimal(STDOUT_FILENO, served.place as u64);
-        text(b" reply ");
-        output::hex(reply, served.used);
+        print!(rt; " place {} reply ", served.place)?;
+        output::hex(rt, reply, served.used)?;
     }
-    text(b"\n");
+    println!(rt)
 }
 
 // One request of a peer on the table.
-fn request(t: &mut [u8], peer: u32, msg: &[u8]) {
+fn request(rt: &impl Print, t: &mut [u8], peer: u32, msg: &[u8]) -> io::Result<()> {
     let mut reply = [0u8; format::SPACE];
     let served = engine::serve(t, peer, msg, &mut reply);
-    answer(t, served, &reply);
+    answer(rt, t, served, &reply)
 }
 
 // One request of a peer on the table, with the peer's store before it.
-fn request_once(t: &mut [u8], peer: u32, store: &mut [u8], msg: &[u8]) {
+fn request_once(
+    rt: &impl Print,
+    t: &mut [u8],
+    peer: u32,
+    store: &mut [u8],
+    msg: &[u8],
+) -> io::Result<()> {
     let mut reply = [0u8; format::SPACE];
     let served = repeats::serve_once(t, peer, store, msg, &mut reply);
-    answer(t, served, &reply);
+    answer(rt, t, served, &reply)
 }
 
 // The peer's store is lent; with a number that is no peer's either does, for neither is looked at.
-fn once(t: &mut [u8], one: &mut [u8], two: &mut [u8], peer: u32, msg: &[u8]) {
+fn once(
+    rt: &impl Print,
+    t: &mut [u8],
+    one: &mut [u8],
+    two: &mut [u8],
+    peer: u32,
+    msg: &[u8],
+) -> io::Result<()> {
     if peer == 2 {
-        request_once(t, peer, two, msg);
-        return;
+        return request_once(rt, t, peer, two, msg);
     }
-    request_once(t, peer, one, msg);
+    request_once(rt, t, peer, one, msg)
 }
 
 // Changes an octet, if there are so many.
@@ -165,20 +179,19 @@ fn set(store: &mut [u8], at: usize, octet: u8) {
 }
 
 // Changes an octet of a peer's store.
-fn change(one: &mut [u8], two: &mut [u8], s: &[u8])
+fn change(rt: &impl Print, one: &mut [u8], two: &mut [u8], s: &[u8]) -> io::Result<()>
     requires { length s.now ≡ 5 }
 {
     let at = octets::read(s, 2, 2) as usize;
-    text(b"octet ");
-    io::print_decimal(STDOUT_FILENO, at as u64);
-    text(b"\n");
+    println!(rt; "octet {at}")?;
     if s[1] == 1 {
         set(one, at, s[4]);
-        return;
+        return Ok(());
     }
     if s[1] == 2 {
         set(two, at, s[4]);
     }
+    Ok(())
 }
 
 // The peer of a part.
@@ -189,58 +202,75 @@ fn peer_of(s: &[u8]) -> u32
 }
 
 // A part that is not there to make a table. One that is too short to name a peer is a request of none.
-fn call(t: &mut [u8], one: &mut [u8], two: &mut [u8], s: &[u8]) {
+fn call(
+    rt: &impl Print,
+    t: &mut [u8],
+    one: &mut [u8],
+    two: &mut [u8],
+    s: &[u8],
+) -> io::Result<()> {
     if s.len() < 2 {
-        request(t, 0, s);
-        return;
+        return request(rt, t, 0, s);
     }
     let peer = peer_of(s);
     if s[0] == 1 {
-        once(t, one, two, peer, &s[2..]);
-        return;
+        return once(rt, t, one, two, peer, &s[2..]);
     }
     if s[0] == 2 {
         if s.len() == CHANGING {
-            change(one, two, s);
-            return;
+            return change(rt, one, two, s);
         }
     }
-    request(t, peer, &s[2..]);
+    request(rt, t, peer, &s[2..])
 }
 
 // One part, on the table of the first n octets of t and the stores of both peers; the table's length after that.
-fn exchange(t: &mut [u8], one: &mut [u8], two: &mut [u8], n: usize, s: &[u8]) -> usize
+fn exchange(
+    rt: &impl Print,
+    t: &mut [u8],
+    one: &mut [u8],
+    two: &mut [u8],
+    n: usize,
+    s: &[u8],
+) -> io::Result<usize>
     requires { n ≤ length t.old }
-    ensures { result ≤ length t.new }
+    ensures { IfOk result (λ end. end ≤ length t.new) }
 {
     if s.len() == MAKING {
         if s[0] == 0 {
-            return remake(t, one, two, n, s);
+            return remake(rt, t, one, two, n, s);
         }
     }
-    call(&mut t[0..n], one, two, s);
-    n
+    call(rt, &mut t[0..n], one, two, s)?;
+    Ok(n)
 }
 
 // The parts of s, one after the other. At first there is no table.
-fn exchanges(t: &mut [u8], one: &mut [u8], two: &mut [u8], s: &[u8]) {
+fn exchanges(
+    rt: &impl Print,
+    t: &mut [u8],
+    one: &mut [u8],
+    two: &mut [u8],
+    s: &[u8],
+) -> io::Result<()> {
     let mut n: usize = 0;
     let mut rest = s;
     while 2 <= rest.len() {
         let end = 2 + octets::read(rest, 0, 2) as usize;
         if rest.len() < end {
-            return;
+            return Ok(());
         }
-        n = exchange(t, one, two, n, &rest[2..end]);
+        n = exchange(rt, t, one, two, n, &rest[2..end])?;
         rest = &rest[end..];
     }
+    Ok(())
 }
 
-fn main() {
+fn main(rt: HostRuntime) -> io::Result<()> {
     let mut t = [0u8; ROOM];
     let mut one = [0u8; store::LENGTH];
     let mut two = [0u8; store::LENGTH];
-    let mut buf = io::large_buffer();
-    let n = io::read_full(0, &mut buf);
-    exchanges(&mut t, &mut one, &mut two, &buf[..n]);
+    let mut buf = [0u8; INPUT];
+    let n = input::read_full(&mut rt.reader(), &mut buf)?;
+    exchanges(&rt, &mut t, &mut one, &mut two, &buf[..n])
 }

@@ -1,14 +1,17 @@
 // What programs print on standard output.
-use libc::STDOUT_FILENO;
+#![tactic(auto)]
+
+use std::io;
 
 // The first n octets of s in hexadecimal digits; all of them where there are fewer.
-pub fn hex(s: &[u8], n: usize) {
+pub fn hex(rt: &impl Print, s: &[u8], n: usize) -> io::Result<()> {
     let mut i = 0;
     while i < s.len() {
         if n <= i {
-            return;
+            return Ok(());
         }
-        io::print_hex(STDOUT_FILENO, octets::read(s, i, 1), 2);
+        print!(rt; "{:02x}", octets::read(s, i, 1))?;
         i += 1;
     }
+    Ok(())
 }

@@ -1,5 +1,9 @@
-// The program `pfcp-restore` as the gate runs it, on the stored table and the file in data/. A Rattle program has no exit status; the one that is
-// installed, host/restore.c, is the same call and passes its answer on.
-fn main() {
-    restoring::pfcp_restore();
+// The program `pfcp-restore` as the gate runs it, on the stored table and the file in data/. The one that is installed is this program too,
+// after the main function of host/restore.c.
+#![tactic(auto)]
+
+use std::process::ExitCode;
+
+fn main(rt: HostRuntime) -> ExitCode {
+    ExitCode::from(restoring::pfcp_restore(&rt, &rt.stderr()))
 }

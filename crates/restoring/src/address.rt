@@ -2,14 +2,14 @@
 ghost use Rattle.std.specs.Prelude.{◌≡◌, ◌≤◌, ◌<◌, length};
 
 // An IPv4 address as a number, its first octet on top.
-#[derive(Drop)]
+#[derive(Clone, Copy)]
 pub enum Ipv4 {
     Is(u64),
     Other,
 }
 
 // How far an IPv4 address was read: the numbers that are whole, the one under way and its digits, the dots; whether it can still be one.
-#[derive(Drop)]
+#[derive(Clone, Copy)]
 struct Dotted {
     value: u64,
     part: u64,
@@ -133,7 +133,7 @@ pub fn read_ipv4(s: &[u8]) -> Ipv4 {
 
 // How far an IPv6 address was read: its octets so far, where among them the `::` stands (NO_GAP: nowhere), the group under way with its
 // digits and its first index, how many colons came last; whether it ends as an IPv4 address, and whether it can still be an address.
-#[derive(Drop)]
+#[derive(Clone, Copy)]
 struct Groups {
     octets: usize,
     gap: usize,

@@ -1,8 +1,15 @@
 // Reading a stored table, and putting a new file in its place.
-ghost use Rattle.std.specs.Prelude.{◌≡◌, ◌≤◌, length};
+ghost use Rattle.std.specs.Prelude.{◌≡◌, ◌≤◌, length, IfOk};
 
-use crate::say;
 use crate::say::Done;
+use crate::{names, say};
+use std::fs;
+use std::fs::{OpenFile, OpenOptions};
+use std::io;
+use std::io::{ErrorKind, Read};
+use std::os::unix::fs::OpenOptionsExt;
+use std::random::RandomSource;
+use std::rt::Files;
 
 // The program takes tables with room for so many sessions at most (02 (vi)); so long is such a table.
 pub const MOST_SESSIONS: usize = 64;
@@ -24,24 +31,26 @@ const MOST_OLD_STORES: usize = 8;
 
 const OLD_STORES: usize = MOST_OLD_STORES * OLD_STORE;
 
-// Whether there is no more to read from fd: 0 nothing, 1 something, 2 a failure, which errno tells.
-pub fn more(fd: i32) -> u8 {
+// Whether there is more to read.
+pub fn more(file: &mut impl Read) -> io::Result<bool> {
     let mut one = [0u8; 1];
-    let got = libc::read(fd, &mut one);
-    if got < 0 {
-        return 2;
-    }
-    if got == 0 {
-        return 0;
-    }
-    1
+    let got = file.read(&mut one)?;
+    Ok(got != 0)
 }
 
 // No table at path, and why.
-fn refused(path: &[u8], why: &[u8]) -> usize
+fn refused(err: &impl Print, path: &[u8], why: &[u8]) -> usize
     ensures { result ≡ 0 }
 {
-    say::refused(path, why);
+    say::refused(err, path, why);
+    0
+}
+
+// No table at path, for it cannot be read.
+fn failed(err: &impl Print, path: &[u8], why: &io::Error) -> usize
+    ensures { result ≡ 0 }
+{
+    say::failed(err, path, why);
     0
 }
 
@@ -60,42 +69,43 @@ fn is_old(all: usize, limit: usize) -> bool {
     (all - table) % OLD_STORE == 0
 }
 
-fn old(path: &[u8]) -> usize
+fn old(err: &impl Print, path: &[u8]) -> usize
     ensures { result ≡ 0 }
 {
     refused(
+        err,
         path,
         b"of the layout before two control planes; its sessions can be brought over (docs/operators.md)",
     )
 }
 
 // No table, though its length may be one. A few lengths are both an old and a new layout's, so this is said of a broken one too.
-fn broken(path: &[u8], all: usize, limit: usize) -> usize
+fn broken(err: &impl Print, path: &[u8], all: usize, limit: usize) -> usize
     ensures { result ≡ 0 }
 {
     if is_old(all, limit) {
-        return old(path);
+        return old(err, path);
     }
-    refused(path, b"not a sound table")
+    refused(err, path, b"not a sound table")
 }
 
 // A file of so many octets, which is not the length that its session limit says.
-fn wrong_length(path: &[u8], all: usize, said: usize, limit: usize) -> usize
+fn wrong_length(err: &impl Print, path: &[u8], all: usize, said: usize, limit: usize) -> usize
     ensures { result ≡ 0 }
 {
     if is_old(all, limit) {
-        return old(path);
+        return old(err, path);
     }
     if all < said {
-        return refused(path, b"shorter than its session limit says");
+        return refused(err, path, b"shorter than its session limit says");
     }
-    too_long(path)
+    too_long(err, path)
 }
 
-fn too_long(path: &[u8]) -> usize
+fn too_long(err: &impl Print, path: &[u8]) -> usize
     ensures { result ≡ 0 }
 {
-    refused(path, b"longer than its session limit says")
+    refused(err, path, b"longer than its session limit says")
 }
 
 // Whether a file of so many octets is a table of that length alone, or with both stores.
@@ -110,156 +120,264 @@ fn has_form(all: usize, said: usize) -> bool {
 }
 
 // The length of the table at the front of t, if it is sound and the stores or nothing follow; the file has so many octets in all.
-fn sound(path: &[u8], t: &[u8], all: usize, said: usize, limit: usize) -> usize
+fn sound(
+    err: &impl Print,
+    path: &[u8],
+    t: &[u8],
+    all: usize,
+    said: usize,
+    limit: usize,
+) -> usize
     ensures { result ≤ length t.now }
 {
     if t.len() < said {
-        return wrong_length(path, all, said, limit);
+        return wrong_length(err, path, all, said, limit);
     }
     if !has_form(all, said) {
-        return wrong_length(path, all, said, limit);
+        return wrong_length(err, path, all, said, limit);
     }
     let mut free = 0u32;
     if pfcp_session::pfcp_free_count(&t[0..said], &mut free) != 0 {
-        return broken(path, all, limit);
+        return broken(err, path, all, limit);
     }
     said
 }
 
 // The length of the table at the front of t, if this program takes it; the file has so many octets in all. A limit that is not allowed says
 // no length.
-fn taken(path: &[u8], t: &[u8], all: usize) -> usize
+fn taken(err: &impl Print, path: &[u8], t: &[u8], all: usize) -> usize
     ensures { result ≤ length t.now }
 {
     if t.len() < format::HEAD {
-        return refused(path, b"shorter than its session limit says");
+        return refused(err, path, b"shorter than its session limit says");
     }
     let limit = octets::read(t, format::LIMIT, 2) as usize;
     let said = pfcp_session::pfcp_table_length(limit as u32);
     if said == 0 {
-        return broken(path, all, limit);
+        return broken(err, path, all, limit);
     }
     if MOST_SESSIONS < limit {
-        return refused(path, b"the table has room for more than 64 sessions");
+        return refused(
+            err,
+            path,
+            b"the table has room for more than 64 sessions",
+        );
     }
-    sound(path, t, all, said, limit)
+    sound(err, path, t, all, said, limit)
 }
 
-// How many octets fd still has, up to those of one store of the layout before.
-fn store_of(fd: i32) -> usize
-    ensures { result ≤ 26673 }
+// How many octets the file still has, up to those of one store of the layout before.
+fn store_of(file: &mut impl Read) -> io::Result<usize>
+    ensures { IfOk result (λ n. n ≤ 26673) }
 {
     let mut space = [0u8; OLD_STORE];
-    io::read_full(fd, &mut space)
+    input::read_full(file, &mut space)
 }
 
-// How many octets fd still has, up to those of all stores that may follow a table.
-fn rest_of(fd: i32) -> usize
-    ensures { result ≤ 213384 }
+// How many octets the file still has, up to those of all stores that may follow a table.
+fn rest_of(file: &mut impl Read) -> io::Result<usize>
+    ensures { IfOk result (λ n. n ≤ 213384) }
 {
     let mut stores: usize = 0;
     while stores < MOST_OLD_STORES {
-        let n = store_of(fd);
+        let n = store_of(file)?;
         if n < OLD_STORE {
-            return stores * OLD_STORE + n;
+            return Ok(stores * OLD_STORE + n);
         }
         stores += 1;
     }
-    OLD_STORES
+    Ok(OLD_STORES)
 }
 
-// Reads the table at the front of fd into t, which has room for the longest one.
-fn fill_table(path: &[u8], fd: i32, t: &mut [u8]) -> usize
+// How much of a file was read: so many octets stand at the front of the table, so many it has with the stores, and whether it has more.
+#[derive(Clone, Copy)]
+struct Extent {
+    held: usize,
+    all: usize,
+    longer: bool,
+}
+
+// Reads the front of the file into t, which has room for the longest table.
+fn read_front(file: &mut impl Read, t: &mut [u8]) -> io::Result<Extent>
+    requires { length t.old ≤ 38721 }
+    ensures { IfOk result (λ extent. extent.held ≤ length t.new) }
+{
+    let held = input::read_full(file, t)?;
+    let all = held + rest_of(file)?;
+    let longer = more(file)?;
+    Ok(Extent { held, all, longer })
+}
+
+// Reads the table at the front of the file into t, which has room for the longest one.
+fn fill_table(err: &impl Print, path: &[u8], file: &mut impl Read, t: &mut [u8]) -> usize
     requires { length t.old ≤ 38721 }
     ensures { result ≤ length t.new }
 {
-    let n = io::read_full(fd, t);
-    let all = n + rest_of(fd);
-    let rest = more(fd);
-    if rest == 2 {
-        say::failed(path);
-        return 0;
+    match read_front(file, t) {
+        Err(why) => failed(err, path, &why),
+        Ok(extent) => {
+            if extent.longer {
+                return too_long(err, path);
+            }
+            taken(err, path, &t[0..extent.held], extent.all)
+        }
     }
-    if rest == 1 {
-        return too_long(path);
-    }
-    taken(path, &t[0..n], all)
+}
+
+// Opens the file of that name to read it.
+pub fn open<R: Files>(rt: &R, path: &[u8]) -> io::Result<R::File> {
+    fs::open(rt, names::text(path)?)
 }
 
 // Reads the stored table at path, which has to be sound, into the front of t: its length, or 0 where it is refused, and that was said.
-pub fn read_table(path: &[u8], t: &mut [u8]) -> usize
+pub fn read_table(rt: &impl Files, err: &impl Print, path: &[u8], t: &mut [u8]) -> usize
     requires { length t.old ≤ 38721 }
     ensures { result ≤ length t.new }
 {
-    let fd = os::open_read(path);
-    if fd < 0 {
-        say::failed(path);
-        return 0;
+    match open(rt, path) {
+        Err(why) => failed(err, path, &why),
+        Ok(mut file) => fill_table(err, path, &mut file, t),
     }
-    let n = fill_table(path, fd, t);
-    libc::close(fd);
-    n
+}
+
+// Opens the file of that name to read and write it, as it is.
+fn open_update<R: Files>(rt: &R, path: &[u8]) -> io::Result<R::File> {
+    OpenOptions::new()
+        .read(true)
+        .write(true)
+        .open(rt, names::text(path)?)
 }
 
 // Whether path is free, or is a file that can be replaced; a refusal is said. A device or a pipe cannot be made to keep its octets, which
 // is how it is told from a file.
-fn replaceable(path: &[u8]) -> bool {
-    let fd = os::open_update(path);
-    if fd < 0 {
-        if os::errno() == libc::EISDIR {
-            say::failed(path);
-            return false;
+fn replaceable(rt: &impl Files, err: &impl Print, path: &[u8]) -> bool {
+    match open_update(rt, path) {
+        Err(why) => {
+            if why.kind() == ErrorKind::IsADirectory {
+                say::failed(err, path, &why);
+                return false;
+            }
+            true
         }
-        return true;
+        Ok(file) => {
+            if file.sync_all().is_err() {
+                say::refused(err, path, b"not a file that can be replaced");
+                return false;
+            }
+            true
+        }
     }
-    let kept = libc::fsync(fd);
-    libc::close(fd);
-    if kept != 0 {
-        say::refused(path, b"not a file that can be replaced");
-        return false;
-    }
-    true
 }
 
-// A new file beside path, whose name is then in name: its descriptor, or -1, and the refusal was said.
-pub fn create(path: &[u8], name: &mut [u8]) -> i32 {
-    if !replaceable(path) {
-        return -1;
+// The letters that stand for the X's of a name, and how many names are tried, as the C library tries them.
+const LETTERS: [u8; 62] = *b"abcdefghijklmnopqrstuvwxyzABCDEFGHIJKLMNOPQRSTUVWXYZ0123456789";
+
+const TRIES: u32 = 62 * 62 * 62;
+
+// Puts six letters, which are up to chance, at the end of name.
+fn put_letters(rt: &impl RandomSource, name: &mut [u8]) -> io::Result<()>
+    requires { 6 ≤ length name.old }
+{
+    let mut chance = [0u8; 6];
+    rt.fill_bytes(&mut chance)?;
+    let at = name.len() - 6;
+    for (i, x) in chance.iter().enumerate() {
+        name[at + i] = LETTERS[*x as usize % 62];
     }
-    let fd = os::create_temp(name);
-    if fd < 0 {
-        say::failed(path);
+    Ok(())
+}
+
+// A new file of that name, for its user alone.
+fn create_new<R: Files>(rt: &R, name: &[u8]) -> io::Result<R::File> {
+    OpenOptions::new()
+        .read(true)
+        .write(true)
+        .create_new(true)
+        .mode(0o600)
+        .open(rt, names::text(name)?)
+}
+
+// A new file, whose name is name with other letters at its end.
+fn create_temp<R: Files + RandomSource>(rt: &R, name: &mut [u8]) -> io::Result<R::File>
+    requires { 6 ≤ length name.old }
+{
+    for _ in 1..TRIES {
+        put_letters(rt, name)?;
+        match create_new(rt, name) {
+            Ok(file) => return Ok(file),
+            Err(why) => {
+                if why.kind() != ErrorKind::AlreadyExists {
+                    return Err(why);
+                }
+            }
+        }
     }
-    fd
+    put_letters(rt, name)?;
+    create_new(rt, name)
+}
+
+// A new file beside path, whose name is then in name; nothing where that failed, and the refusal was said.
+pub fn create<R: Files + RandomSource>(
+    rt: &R,
+    err: &impl Print,
+    path: &[u8],
+    name: &mut [u8],
+) -> Option<R::File>
+    requires { 6 ≤ length name.old }
+{
+    if !replaceable(rt, err, path) {
+        return None;
+    }
+    match create_temp(rt, name) {
+        Ok(file) => Some(file),
+        Err(why) => {
+            say::failed(err, path, &why);
+            None
+        }
+    }
 }
 
 // Removes the file of that name beside another.
-fn undo(name: &[u8], answer: u32) -> u32 {
-    os::unlink(name);
+fn undo(rt: &impl Files, name: &[u8], answer: u8) -> u8 {
+    if let Ok(words) = names::text(name) {
+        let _ = fs::remove_file(rt, words);
+    }
     answer
 }
 
 // Gives up a file beside another that could not be written wholly; the refusal was said.
-pub fn drop(name: &[u8], fd: i32) -> u32 {
-    libc::close(fd);
-    undo(name, say::REFUSED)
+pub fn drop(rt: &impl Files, name: &[u8]) -> u8 {
+    undo(rt, name, say::REFUSED)
+}
+
+// Brings the octets of a file to the device, and closes it.
+fn finish(file: impl OpenFile + Drop) -> io::Result<()> {
+    file.sync_all()
+}
+
+// Gives a file another name, in the place of what has that.
+fn rename(rt: &impl Files, from: &[u8], to: &[u8]) -> io::Result<()> {
+    fs::rename(rt, names::text(from)?, names::text(to)?)
 }
 
 // Ends a file beside path that is wholly written: its octets reach the device, the operator is told, and it takes path's name. Where one
 // of these fails, it is gone.
-pub fn settle(path: &[u8], name: &[u8], fd: i32, done: Done) -> u32 {
-    if libc::fsync(fd) != 0 {
-        say::failed(path);
-        return drop(name, fd);
+pub fn settle<R: Files + Print>(
+    rt: &R,
+    err: &impl Print,
+    path: &[u8],
+    name: &[u8],
+    file: R::File,
+    done: Done,
+) -> u8 {
+    if let Err(why) = finish(file) {
+        return undo(rt, name, say::failed(err, path, &why));
     }
-    if libc::close(fd) != 0 {
-        return undo(name, say::failed(path));
+    if let Err(why) = say::tell(rt, done) {
+        return undo(rt, name, say::failed(err, b"standard output", &why));
     }
-    if !say::tell(done) {
-        return undo(name, say::failed(b"standard output"));
-    }
-    if os::rename(name, path) != 0 {
-        return undo(name, say::failed(path));
+    if let Err(why) = rename(rt, name, path) {
+        return undo(rt, name, say::failed(err, path, &why));
     }
     0
 }

@@ -5,9 +5,11 @@
 //
 // Before each request of the file stands an octet with its peer, 1 or 2 (02 (xiv)): a request does not say whose session it restores.
 //
-// A Rattle program has no exit status, so the work is a call that answers it: 0 done, 1 refused, 2 wrong arguments, 3 done, but the new
-// table differs from the stored one. Every refusal is one line on standard error. What is written stands beside its place
-// until all of it is there, and is then renamed; a refusal leaves nothing.
+// The work is a call that answers the exit status: 0 done, 1 refused, 2 wrong arguments, 3 done, but the new table differs from the stored one.
+// Every refusal is one line on standard error. What is written stands beside its place until all of it is there, and is then renamed; a refusal
+// leaves nothing.
+#![tactic(auto)]
+
 mod address;
 mod file;
 mod names;
@@ -15,17 +17,20 @@ mod run;
 mod say;
 mod write;
 
-// Reads the program's arguments and does what they ask.
-#[unsafe(no_mangle)]
-pub extern "C" fn pfcp_restore() -> u32 {
-    let n = os::arg_count();
+use std::env::Env;
+use std::random::RandomSource;
+use std::rt::Files;
+
+// Reads the program's arguments and does what they ask; err is standard error.
+pub fn pfcp_restore<R: Env + Files + Print + RandomSource>(rt: &R, err: &impl Print) -> u8 {
+    let n = names::count(rt);
     let mut word = [0u8; 8];
-    let length = os::arg(1, &mut word);
-    if check::same(&word[..length], b"write") {
-        return write::arguments(n);
+    let Ok(length) = names::argument(rt, 1, &mut word) else {
+        return say::usage(err);
+    };
+    match &word[..length] {
+        b"write" => write::arguments(rt, err, n),
+        b"run" => run::arguments(rt, err, n),
+        _ => say::usage(err),
     }
-    if check::same(&word[..length], b"run") {
-        return run::arguments(n);
-    }
-    say::usage()
 }

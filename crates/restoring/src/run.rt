@@ -3,6 +3,11 @@ ghost use Rattle.std.specs.Prelude.{◌≡◌, ◌+◌, ◌≤◌, length};
 
 use crate::say::Done;
 use crate::{file, names, say};
+use std::env::Env;
+use std::io;
+use std::io::{Read, Write};
+use std::random::RandomSource;
+use std::rt::Files;
 
 // What became of one request, or that there was none.
 const ACCEPTED: u8 = 0;
@@ -14,7 +19,7 @@ const STOPPED: u8 = 2;
 const CAUSE_OF_ACCEPTANCE: u8 = 1;
 
 // A peer's settings.
-#[derive(Drop)]
+#[derive(Clone, Copy)]
 struct Peer {
     address: u32,
     guarantee: u32,
@@ -84,7 +89,14 @@ fn cause(reply: &[u8]) -> u8
 }
 
 // One request on the new table, under its peer.
-fn serve(new: &mut [u8], peer: u8, message: &[u8], path: &[u8], number: u64) -> u8 {
+fn serve(
+    err: &impl Print,
+    new: &mut [u8],
+    peer: u8,
+    message: &[u8],
+    path: &[u8],
+    number: u64,
+) -> u8 {
     let mut reply = [0u8; format::SPACE];
     let mut used = 0usize;
     let mut place = 0usize;
@@ -98,6 +110,7 @@ fn serve(new: &mut [u8], peer: u8, message: &[u8], path: &[u8], number: u64) -> 
     );
     if outcome != 0 {
         say::refused_request(
+            err,
             path,
             number,
             b"is not a session request with a right header",
@@ -106,42 +119,44 @@ fn serve(new: &mut [u8], peer: u8, message: &[u8], path: &[u8], number: u64) -> 
     }
     let answer = cause(&reply);
     if answer != CAUSE_OF_ACCEPTANCE {
-        say::refused_cause(path, number, answer);
+        say::refused_cause(err, path, number, answer);
         return STOPPED;
     }
     ACCEPTED
 }
 
-// A request that does not go on: the file ends there, or it cannot be read.
-fn cut(fd: i32, path: &[u8], number: u64, why: &[u8]) -> u8 {
-    let mut one = [0u8; 1];
-    if libc::read(fd, &mut one) < 0 {
-        say::failed(path);
-        return STOPPED;
-    }
-    say::refused_request(path, number, why);
+// A file that cannot be read on.
+fn failed(err: &impl Print, path: &[u8], why: &io::Error) -> u8 {
+    say::failed(err, path, why);
     STOPPED
 }
 
-// The end of the file, if it is one.
-fn end(fd: i32, path: &[u8]) -> u8 {
-    let rest = file::more(fd);
-    if rest == 0 {
-        return NONE;
-    }
-    say::failed(path);
+// A request that does not go on: the file ends there.
+fn cut(err: &impl Print, path: &[u8], number: u64, why: &[u8]) -> u8 {
+    say::refused_request(err, path, number, why);
     STOPPED
 }
 
 // The next request of the file on the new table, after its peer. Its length is that of its header's length field and the four octets up to
 // there.
-fn next_in(message: &mut [u8], new: &mut [u8], fd: i32, peer: u8, path: &[u8], number: u64) -> u8
+fn next_in(
+    err: &impl Print,
+    message: &mut [u8],
+    new: &mut [u8],
+    file: &mut impl Read,
+    peer: u8,
+    path: &[u8],
+    number: u64,
+) -> u8
     requires { length message.old ≡ 2048 }
 {
-    let got = io::read_full(fd, &mut message[0..4]);
+    let got = match input::read_full(file, &mut message[0..4]) {
+        Ok(got) => got,
+        Err(why) => return failed(err, path, &why),
+    };
     if got < 4 {
         return cut(
-            fd,
+            err,
             path,
             number,
             b"is not there: under 5 octets are left over",
@@ -149,23 +164,34 @@ fn next_in(message: &mut [u8], new: &mut [u8], fd: i32, peer: u8, path: &[u8], n
     }
     let length = octets::read(message, 2, 2) as usize + 4;
     if length > format::MESSAGE {
-        say::refused_request(path, number, b"is longer than 2048 octets");
+        say::refused_request(err, path, number, b"is longer than 2048 octets");
         return STOPPED;
     }
-    let rest = io::read_full(fd, &mut message[4..length]);
+    let rest = match input::read_full(file, &mut message[4..length]) {
+        Ok(rest) => rest,
+        Err(why) => return failed(err, path, &why),
+    };
     if rest != length - 4 {
-        return cut(fd, path, number, b"is cut short");
+        return cut(err, path, number, b"is cut short");
     }
     let whole = &message[..];
-    serve(new, peer, &whole[0..length], path, number)
+    serve(err, new, peer, &whole[0..length], path, number)
 }
 
 // The next request of the file, if its peer is one. The engine would say outcome 7 of any other; here the operator is told which request it
 // is. A file that was written before there were two peers is refused so too.
-fn next_of(peer: u8, new: &mut [u8], fd: i32, path: &[u8], number: u64) -> u8 {
+fn next_of(
+    err: &impl Print,
+    peer: u8,
+    new: &mut [u8],
+    file: &mut impl Read,
+    path: &[u8],
+    number: u64,
+) -> u8 {
     if peer != 1 {
         if peer != 2 {
             say::refused_request(
+                err,
                 path,
                 number,
                 b"is of no peer: the octet before it is neither 1 nor 2",
@@ -174,30 +200,36 @@ fn next_of(peer: u8, new: &mut [u8], fd: i32, path: &[u8], number: u64) -> u8 {
         }
     }
     let mut message = [0u8; format::MESSAGE];
-    next_in(&mut message, new, fd, peer, path, number)
+    next_in(err, &mut message, new, file, peer, path, number)
 }
 
 // The next peer of the file and its request.
-fn next(new: &mut [u8], fd: i32, path: &[u8], number: u64) -> u8 {
+fn next(
+    err: &impl Print,
+    new: &mut [u8],
+    file: &mut impl Read,
+    path: &[u8],
+    number: u64,
+) -> u8 {
     let mut peer = [0u8; 1];
-    let got = io::read_full(fd, &mut peer);
-    if got == 0 {
-        return end(fd, path);
+    match input::read_full(file, &mut peer) {
+        Err(why) => failed(err, path, &why),
+        Ok(0) => NONE,
+        Ok(_) => next_of(err, peer[0], new, file, path, number),
     }
-    next_of(peer[0], new, fd, path, number)
 }
 
 // How many requests were accepted, or that one was not.
-#[derive(Drop)]
+#[derive(Clone, Copy)]
 enum Ran {
     All(u64),
     Stopped,
 }
 
-fn requests(new: &mut [u8], fd: i32, path: &[u8]) -> Ran {
+fn requests(err: &impl Print, new: &mut [u8], file: &mut impl Read, path: &[u8]) -> Ran {
     let mut accepted: u64 = 0;
     while accepted < u64::MAX {
-        let became = next(new, fd, path, accepted + 1);
+        let became = next(err, new, file, path, accepted + 1);
         if became == NONE {
             return Ran::All(accepted);
         }
@@ -210,55 +242,76 @@ fn requests(new: &mut [u8], fd: i32, path: &[u8]) -> Ran {
 }
 
 // The requests of the file at path on the new table.
-fn run_file(path: &[u8], new: &mut [u8]) -> Ran {
-    let fd = os::open_read(path);
-    if fd < 0 {
-        say::failed(path);
-        return Ran::Stopped;
+fn run_file(rt: &impl Files, err: &impl Print, path: &[u8], new: &mut [u8]) -> Ran {
+    match file::open(rt, path) {
+        Err(why) => {
+            say::failed(err, path, &why);
+            Ran::Stopped
+        }
+        Ok(mut opened) => requests(err, new, &mut opened, path),
     }
-    let ran = requests(new, fd, path);
-    libc::close(fd);
-    ran
 }
 
 // The new table into a file of that name beside path, which then takes its place.
-fn write_beside(new: &[u8], path: &[u8], name: &mut [u8], done: Done) -> u32 {
-    let fd = file::create(path, name);
-    if fd < 0 {
+fn write_beside<R: Files + Print + RandomSource>(
+    rt: &R,
+    err: &impl Print,
+    new: &[u8],
+    path: &[u8],
+    name: &mut [u8],
+    done: Done,
+) -> u8
+    requires { 6 ≤ length name.old }
+{
+    let Some(mut beside) = file::create(rt, err, path, name) else {
         return say::REFUSED;
+    };
+    if let Err(why) = beside.write_all(new) {
+        say::failed(err, path, &why);
+        return file::drop(rt, name);
     }
-    if !io::write_all(fd, new) {
-        say::failed(path);
-        return file::drop(name, fd);
-    }
-    file::settle(path, name, fd, done)
+    file::settle(rt, err, path, name, beside, done)
 }
 
 // The new table into the file at path.
-fn write_table(new: &[u8], path: &[u8], done: Done) -> u32 {
+fn write_table<R: Files + Print + RandomSource>(
+    rt: &R,
+    err: &impl Print,
+    new: &[u8],
+    path: &[u8],
+    done: Done,
+) -> u8 {
     let mut name = [0u8; names::ROOM];
     let n = names::beside(path, &mut name);
     if n == 0 {
-        return say::refused(path, b"the name is too long");
+        return say::refused(err, path, b"the name is too long");
     }
-    write_beside(new, path, &mut name[0..n], done)
+    write_beside(rt, err, new, path, &mut name[0..n], done)
 }
 
 // The file's requests on an empty table with the settings of the stored table, and the result into the file at path. A result that is another
 // table than the stored one is no success, though it is kept.
-fn run_on(file: &[u8], stored: &[u8], new: &mut [u8], path: &[u8]) -> u32
+fn run_on<R: Files + Print + RandomSource>(
+    rt: &R,
+    err: &impl Print,
+    file: &[u8],
+    stored: &[u8],
+    new: &mut [u8],
+    path: &[u8],
+) -> u8
     requires { 63 ≤ length stored.now }
 {
     let made = make(&stored[0..format::SETTINGS], new);
     if made != 0 {
-        return say::refused_alone(b"a table with these settings cannot be made");
+        return say::refused_alone(err, b"a table with these settings cannot be made");
     }
-    let ran = run_file(file, new);
+    let ran = run_file(rt, err, file, new);
     let Ran::All(n) = ran else {
         return say::REFUSED;
     };
-    let same = check::same(stored, new);
-    let status = write_table(new, path, Done::Accepted(n, same));
+    let result_is: &[u8] = new;
+    let same = stored == result_is;
+    let status = write_table(rt, err, new, path, Done::Accepted(n, same));
     if status != 0 {
         return status;
     }
@@ -268,47 +321,69 @@ fn run_on(file: &[u8], stored: &[u8], new: &mut [u8], path: &[u8]) -> u32
     say::DIFFERS
 }
 
-fn run_named(file: &[u8], table: &[u8], path: &[u8]) -> u32 {
+fn run_named<R: Files + Print + RandomSource>(
+    rt: &R,
+    err: &impl Print,
+    file: &[u8],
+    table: &[u8],
+    path: &[u8],
+) -> u8 {
     let mut stored = [0u8; file::LONGEST];
-    let n = file::read_table(table, &mut stored);
+    let n = file::read_table(rt, err, table, &mut stored);
     // No table is shorter than a head, so the stored one was refused.
     if n < format::HEAD {
         return say::REFUSED;
     }
     let mut new = [0u8; file::LONGEST];
-    run_on(file, &stored[0..n], &mut new[0..n], path)
+    run_on(rt, err, file, &stored[0..n], &mut new[0..n], path)
 }
 
-fn with_table(file: &[u8], table: &[u8]) -> u32 {
-    let mut path = io::buffer();
-    let length = os::arg(4, &mut path);
-    if os::errno() != 0 {
-        return say::failed(b"NEW");
+fn with_table<R: Env + Files + Print + RandomSource>(
+    rt: &R,
+    err: &impl Print,
+    file: &[u8],
+    table: &[u8],
+) -> u8 {
+    let mut path = [0u8; names::ROOM];
+    let length = match names::argument(rt, 4, &mut path) {
+        Ok(length) => length,
+        Err(why) => return say::failed(err, b"NEW", &why),
+    };
+    let new = &path[..length];
+    if file == new {
+        return say::refused(
+            err,
+            file,
+            b"it is read, and would be replaced by the new table",
+        );
     }
-    if check::same(file, &path[..length]) {
-        return say::refused(file, b"it is read, and would be replaced by the new table");
-    }
-    run_named(file, table, &path[..length])
+    run_named(rt, err, file, table, new)
 }
 
-fn with_file(file: &[u8]) -> u32 {
-    let mut table = io::buffer();
-    let length = os::arg(3, &mut table);
-    if os::errno() != 0 {
-        return say::failed(b"TABLE");
+fn with_file<R: Env + Files + Print + RandomSource>(
+    rt: &R,
+    err: &impl Print,
+    file: &[u8],
+) -> u8 {
+    let mut table = [0u8; names::ROOM];
+    match names::argument(rt, 3, &mut table) {
+        Ok(length) => with_table(rt, err, file, &table[..length]),
+        Err(why) => say::failed(err, b"TABLE", &why),
     }
-    with_table(file, &table[..length])
 }
 
 // n arguments, the program's own name and the word `run` among them.
-pub fn arguments(n: usize) -> u32 {
+pub fn arguments<R: Env + Files + Print + RandomSource>(
+    rt: &R,
+    err: &impl Print,
+    n: usize,
+) -> u8 {
     if n != 5 {
-        return say::usage();
+        return say::usage(err);
     }
-    let mut file = io::buffer();
-    let length = os::arg(2, &mut file);
-    if os::errno() != 0 {
-        return say::failed(b"FILE");
+    let mut file = [0u8; names::ROOM];
+    match names::argument(rt, 2, &mut file) {
+        Ok(length) => with_file(rt, err, &file[..length]),
+        Err(why) => say::failed(err, b"FILE", &why),
     }
-    with_file(&file[..length])
 }

@@ -1,133 +1,138 @@
 // Lines for the operator. A refusal is one line on standard error, and its answer is the exit status.
-use libc::{STDERR_FILENO, STDOUT_FILENO};
+use std::io;
+use std::io::Write;
+use std::str;
 
-pub const REFUSED: u32 = 1;
+pub const REFUSED: u8 = 1;
 
-const WRONG_ARGUMENTS: u32 = 2;
+const WRONG_ARGUMENTS: u8 = 2;
 
 // The requests were run and the new table is written, but it is not the stored one.
-pub const DIFFERS: u32 = 3;
+pub const DIFFERS: u8 = 3;
 
 // What a run has done, for its line on standard output.
-#[derive(Drop)]
+#[derive(Clone, Copy)]
 pub enum Done {
     Written(u64),
     Accepted(u64, bool),
 }
 
-fn err(s: &[u8]) {
-    io::write_all(STDERR_FILENO, s);
+// Nobody is told where standard error takes no line.
+fn put(err: &impl Print, s: &[u8]) {
+    let _ = err.write_all(s);
 }
 
-fn out(s: &[u8]) -> bool {
-    io::write_all(STDOUT_FILENO, s)
-}
-
-pub fn usage() -> u32 {
-    err(
+pub fn usage(err: &impl Print) -> u8 {
+    put(
+        err,
         b"usage: pfcp-restore write TABLE FILE [IPV4] [IPV6], or pfcp-restore run FILE TABLE NEW\n",
     );
     WRONG_ARGUMENTS
 }
 
-// A call of the system on what has failed; errno says why.
-pub fn failed(what: &[u8]) -> u32 {
-    err(b"pfcp-restore: ");
-    os::fail(what);
+// Room for what the system says of an error.
+const WORDS: usize = 320;
+
+// The system's words for an error, without the number that the library puts after them.
+fn without_number(words: &str) -> &str {
+    match words.split_once(" (os error ") {
+        Some((before, _)) => before,
+        None => words,
+    }
+}
+
+// Why a call of the system has failed.
+fn put_error(err: &impl Print, why: &io::Error) {
+    let mut space = [0u8; WORDS];
+    let mut room: &mut [u8] = &mut space;
+    let _ = write!(room, "{why}");
+    let used = WORDS.saturating_sub(room.len());
+    if let Ok(words) = str::from_utf8(&space[..used]) {
+        put(err, without_number(words).as_bytes());
+    }
+}
+
+// A call of the system on what has failed, and why.
+pub fn failed(err: &impl Print, what: &[u8], why: &io::Error) -> u8 {
+    put(err, b"pfcp-restore: ");
+    put(err, what);
+    put(err, b": ");
+    put_error(err, why);
+    put(err, b"\n");
     REFUSED
 }
 
 // What is wrong with this file or word.
-pub fn refused(what: &[u8], why: &[u8]) -> u32 {
-    err(b"pfcp-restore: ");
-    err(what);
-    err(b": ");
-    err(why);
-    err(b"\n");
+pub fn refused(err: &impl Print, what: &[u8], why: &[u8]) -> u8 {
+    put(err, b"pfcp-restore: ");
+    put(err, what);
+    put(err, b": ");
+    put(err, why);
+    put(err, b"\n");
     REFUSED
 }
 
 // What is wrong with the command as a whole.
-pub fn refused_alone(why: &[u8]) -> u32 {
-    err(b"pfcp-restore: ");
-    err(why);
-    err(b"\n");
+pub fn refused_alone(err: &impl Print, why: &[u8]) -> u8 {
+    put(err, b"pfcp-restore: ");
+    put(err, why);
+    put(err, b"\n");
     REFUSED
 }
 
 // The start of a line about a request of a file, the first being 1.
-fn request(file: &[u8], number: u64) {
-    err(b"pfcp-restore: ");
-    err(file);
-    err(b": request ");
-    io::print_decimal(STDERR_FILENO, number);
+fn request(err: &impl Print, file: &[u8], number: u64) {
+    put(err, b"pfcp-restore: ");
+    put(err, file);
+    let _ = print!(err; ": request {number}");
 }
 
 // What is wrong with a request of a file.
-pub fn refused_request(file: &[u8], number: u64, why: &[u8]) -> u32 {
-    request(file, number);
-    err(b" ");
-    err(why);
-    err(b"\n");
+pub fn refused_request(err: &impl Print, file: &[u8], number: u64, why: &[u8]) -> u8 {
+    request(err, file, number);
+    put(err, b" ");
+    put(err, why);
+    put(err, b"\n");
     REFUSED
 }
 
 // The meaning of a cause.
-fn cause_in_words(cause: u8) {
+fn cause_in_words(cause: u8) -> &'static str {
     match cause {
-        64 => err(b"request rejected"),
-        65 => err(b"session context not found"),
-        66 => err(b"mandatory element missing"),
-        67 => err(b"conditional element missing"),
-        68 => err(b"invalid length"),
-        69 => err(b"mandatory element incorrect"),
-        71 => err(b"invalid F-TEID allocation option"),
-        73 => err(b"rule creation or modification failure"),
-        75 => err(b"no resources available"),
-        76 => err(b"service not supported"),
-        79 => err(b"all dynamic addresses are occupied"),
-        _ => err(b"unknown cause"),
+        64 => "request rejected",
+        65 => "session context not found",
+        66 => "mandatory element missing",
+        67 => "conditional element missing",
+        68 => "invalid length",
+        69 => "mandatory element incorrect",
+        71 => "invalid F-TEID allocation option",
+        73 => "rule creation or modification failure",
+        75 => "no resources available",
+        76 => "service not supported",
+        79 => "all dynamic addresses are occupied",
+        _ => "unknown cause",
     }
 }
 
 // A request that was answered with another cause than acceptance.
-pub fn refused_cause(file: &[u8], number: u64, cause: u8) -> u32 {
-    request(file, number);
-    err(b" is refused with cause ");
-    io::print_decimal(STDERR_FILENO, cause as u64);
-    err(b" (");
-    cause_in_words(cause);
-    err(b")\n");
+pub fn refused_cause(err: &impl Print, file: &[u8], number: u64, cause: u8) -> u8 {
+    request(err, file, number);
+    let words = cause_in_words(cause);
+    let _ = println!(err; " is refused with cause {cause} ({words})");
     REFUSED
 }
 
-fn accepted(n: u64, same: bool) -> bool {
-    if !out(b"requests accepted: ") {
-        return false;
-    }
-    if !io::print_decimal(STDOUT_FILENO, n) {
-        return false;
-    }
+fn accepted(rt: &impl Print, n: u64, same: bool) -> io::Result<()> {
     if same {
-        return out(b"; the new table is the same as the stored one\n");
+        return println!(rt; "requests accepted: {n}; the new table is the same as the stored one");
     }
-    out(b"; the new table differs from the stored one\n")
+    println!(rt; "requests accepted: {n}; the new table differs from the stored one")
 }
 
-fn written(n: u64) -> bool {
-    if !out(b"requests written: ") {
-        return false;
-    }
-    if !io::print_decimal(STDOUT_FILENO, n) {
-        return false;
-    }
-    out(b"\n")
-}
-
-// Says on standard output what was done; gives false where nobody could be told.
-pub fn tell(what: Done) -> bool {
+// Says on standard output what was done.
+pub fn tell(rt: &impl Print, what: Done) -> io::Result<()> {
     match what {
-        Done::Written(n) => written(n),
-        Done::Accepted(n, same) => accepted(n, same),
+        Done::Written(n) => println!(rt; "requests written: {n}"),
+        Done::Accepted(n, same) => accepted(rt, n, same),
     }
 }

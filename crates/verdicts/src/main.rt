@@ -2,6 +2,8 @@
 // (3 to 5), `cause`, `type` and `place` of the first fault of stages 2 and 3, or `read` and the request from the rows of its plan. The lines are those
 // that the independent second reader writes, but for what a plan does not keep: the F-SEID's addresses, a set deletion's FQ-CSIDs, and
 // where an element 129 stands, which is said at the end.
+#![tactic(auto)]
+
 mod record;
 
 ghost use Rattle.std.specs.Prelude.{◌≤◌, length};
@@ -12,119 +14,104 @@ use frame::Framing;
 use frame::header::Header;
 use reading::Verdict;
 use request::{Plan, Reading};
+use std::io;
 
-fn text(s: &[u8]) {
-    io::write_all(1, s);
+// So many octets of standard input are read at most.
+const ROOM: usize = 65536;
+
+fn outcome(rt: &impl Print, n: u64) -> io::Result<()> {
+    println!(rt; "outcome {n}")
 }
 
-fn outcome(n: u64) {
-    text(b"outcome ");
-    io::print_decimal(1, n);
-    text(b"\n");
+fn fault(rt: &impl Print, cause: u64, kind: u64, place: u64) -> io::Result<()> {
+    println!(rt; "cause {cause} type {kind} place {place}")
 }
 
-fn fault(cause: u64, kind: u64, place: u64) {
-    text(b"cause ");
-    io::print_decimal(1, cause);
-    text(b" type ");
-    io::print_decimal(1, kind);
-    text(b" place ");
-    io::print_decimal(1, place);
-    text(b"\n");
-}
-
-fn title(kind: u64) {
+fn title(rt: &impl Print, kind: u64) -> io::Result<()> {
     match kind {
-        50 => text(b"read establishment"),
-        52 => text(b"read modification"),
-        _ => text(b"read deletion"),
+        50 => print!(rt; "read establishment"),
+        52 => print!(rt; "read modification"),
+        _ => print!(rt; "read deletion"),
     }
 }
 
-fn flag(b: bool) {
+fn flag(rt: &impl Print, b: bool) -> io::Result<()> {
     if b {
-        text(b"1");
+        print!(rt; "1")
     } else {
-        text(b"0");
+        print!(rt; "0")
     }
 }
 
 // What stands before the records.
-fn head(kind: u64, header: u64, sequence: u64, plan: Plan) {
-    title(kind);
-    text(b" header=");
-    io::print_hex(1, header, 16);
-    text(b" sequence=");
-    io::print_decimal(1, sequence);
+fn head(rt: &impl Print, kind: u64, header: u64, sequence: u64, plan: &Plan) -> io::Result<()> {
+    title(rt, kind)?;
+    print!(rt; " header={header:016x} sequence={sequence}")?;
     if kind == 50 {
-        text(b" seid=");
-        io::print_hex(1, plan.seid, 16);
-        text(b" restoration=");
-        flag(plan.restoring);
+        print!(rt; " seid={:016x} restoration=", plan.seid)?;
+        flag(rt, plan.restoring)?;
     }
+    Ok(())
 }
 
 // A message whose header is allowed and has a SEID.
-fn message(msg: &[u8], kind: u64, header: u64)
+fn message(rt: &impl Print, msg: &[u8], kind: u64, header: u64) -> io::Result<()>
     requires { SessionHeader msg.now × (length msg.now ≤ 2048) }
 {
     let mut words = [0u64; format::PLAN];
     let sequence = octets::read(msg, 12, 3);
     match request::read_request(msg, &mut words) {
-        Reading::Fault(cause, kind, place) => fault(cause, kind, place as u64),
+        Reading::Fault(cause, kind, place) => fault(rt, cause, kind, place as u64),
         Reading::Whole(plan) => {
-            head(kind, header, sequence, plan);
-            record::all(&words, plan.rows);
+            head(rt, kind, header, sequence, &plan)?;
+            record::all(rt, &words, plan.rows)?;
             if plan.noted {
-                text(b" | update-endpoint");
+                print!(rt; " | update-endpoint")?;
             }
-            text(b"\n");
+            println!(rt)
         }
     }
 }
 
 // A set deletion whose header is allowed.
-fn set_deletion(msg: &[u8])
+fn set_deletion(rt: &impl Print, msg: &[u8]) -> io::Result<()>
     requires { (8 ≤ length msg.now) × (length msg.now ≤ 2048) }
 {
     if let Framing::Fault(kind, place) = frame::frame_fault(msg) {
-        fault(causes::WRONG_LENGTH, kind, place as u64);
-        return;
+        return fault(rt, causes::WRONG_LENGTH, kind, place as u64);
     }
     if let Verdict::Refused(cause, kind, place) = sets::list_fault(&msg[8..]) {
-        fault(cause, kind, place as u64);
-        return;
+        return fault(rt, cause, kind, place as u64);
     }
-    text(b"read set-deletion sequence=");
-    io::print_decimal(1, octets::read(msg, 4, 3));
-    text(b"\n");
+    println!(rt; "read set-deletion sequence={}", octets::read(msg, 4, 3))
 }
 
-fn verdict(msg: &[u8]) {
+fn verdict(rt: &impl Print, msg: &[u8]) -> io::Result<()> {
     match frame::header::read_header(msg) {
-        Header::TooLong => outcome(3),
-        Header::Malformed => outcome(4),
-        Header::NotServed => outcome(5),
-        Header::Request(kind, seid) => message(msg, kind, seid),
-        Header::Sets => set_deletion(msg),
+        Header::TooLong => outcome(rt, 3),
+        Header::Malformed => outcome(rt, 4),
+        Header::NotServed => outcome(rt, 5),
+        Header::Request(kind, seid) => message(rt, msg, kind, seid),
+        Header::Sets => set_deletion(rt, msg),
     }
 }
 
 // The messages in s, one after the other.
-fn verdicts(s: &[u8]) {
+fn verdicts(rt: &impl Print, s: &[u8]) -> io::Result<()> {
     let mut rest = s;
     while 2 <= rest.len() {
         let end = 2 + octets::read(rest, 0, 2) as usize;
         if rest.len() < end {
-            return;
+            return Ok(());
         }
-        verdict(&rest[2..end]);
+        verdict(rt, &rest[2..end])?;
         rest = &rest[end..];
     }
+    Ok(())
 }
 
-fn main() {
-    let mut buf = io::large_buffer();
-    let n = io::read_full(0, &mut buf);
-    verdicts(&buf[..n]);
+fn main(rt: HostRuntime) -> io::Result<()> {
+    let mut buf = [0u8; ROOM];
+    let n = input::read_full(&mut rt.reader(), &mut buf)?;
+    verdicts(&rt, &buf[..n])
 }

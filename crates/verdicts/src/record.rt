@@ -3,181 +3,164 @@ ghost use Rattle.std.specs.Prelude.{◌≡◌, ◌*◌, ◌≤◌, length};
 ghost use Rattle.plan.specs.Rows.{row_width};
 
 use format::words;
+use std::io;
 
-fn text(s: &[u8]) {
-    io::write_all(1, s);
-}
-
-fn number(name: &[u8], n: u64) {
-    text(name);
-    io::print_decimal(1, n);
+fn number(rt: &impl Print, name: &str, n: u64) -> io::Result<()> {
+    print!(rt; "{name}{n}")
 }
 
 // A value that may be absent.
-fn optional(name: &[u8], there: u64, n: u64) {
-    text(name);
+fn optional(rt: &impl Print, name: &str, there: u64, n: u64) -> io::Result<()> {
     match there {
-        0 => text(b"-"),
-        2 => text(b"none"),
-        _ => {
-            io::print_decimal(1, n);
-        }
+        0 => print!(rt; "{name}-"),
+        2 => print!(rt; "{name}none"),
+        _ => print!(rt; "{name}{n}"),
     }
 }
 
-fn given(row: &[u64])
+fn given(rt: &impl Print, row: &[u64]) -> io::Result<()>
     requires { length row.now ≡ row_width }
 {
-    number(b"given:", row[words::TEID]);
-    text(b":");
+    number(rt, "given:", row[words::TEID])?;
     if row[words::FLAGS] % 2 == 1 {
-        io::print_hex(1, row[words::IPV4], 8);
+        print!(rt; ":{:08x}:", row[words::IPV4])?;
     } else {
-        text(b"-");
-    }
-    text(b":");
-    if row[words::FLAGS] / 2 % 2 == 1 {
-        io::print_hex(1, row[words::IPV6_HIGH], 16);
-        io::print_hex(1, row[words::IPV6_LOW], 16);
-    } else {
-        text(b"-");
-    }
-}
-
-fn choose(row: &[u64])
-    requires { length row.now ≡ row_width }
-{
-    text(b"choose:");
-    if row[words::FLAGS] % 2 == 1 {
-        text(b"4");
+        print!(rt; ":-:")?;
     }
     if row[words::FLAGS] / 2 % 2 == 1 {
-        text(b"6");
+        let high = row[words::IPV6_HIGH];
+        let low = row[words::IPV6_LOW];
+        print!(rt; "{high:016x}{low:016x}")
+    } else {
+        print!(rt; "-")
     }
-    optional(b":", row[words::FLAGS] / 8 % 2, row[words::CHOOSE_ID]);
 }
 
-fn tunnel(row: &[u64])
+fn choose(rt: &impl Print, row: &[u64]) -> io::Result<()>
     requires { length row.now ≡ row_width }
 {
-    text(b" f-teid=");
+    print!(rt; "choose:")?;
+    if row[words::FLAGS] % 2 == 1 {
+        print!(rt; "4")?;
+    }
+    if row[words::FLAGS] / 2 % 2 == 1 {
+        print!(rt; "6")?;
+    }
+    optional(rt, ":", row[words::FLAGS] / 8 % 2, row[words::CHOOSE_ID])
+}
+
+fn tunnel(rt: &impl Print, row: &[u64]) -> io::Result<()>
+    requires { length row.now ≡ row_width }
+{
+    print!(rt; " f-teid=")?;
     if row[words::FLAGS] == 0 {
-        text(b"-");
-        return;
+        return print!(rt; "-");
     }
     if row[words::FLAGS] / 4 % 2 == 1 {
-        choose(row);
-        return;
+        return choose(rt, row);
     }
-    given(row);
+    given(rt, row)
 }
 
 // A UE IP Address.
-fn address(row: &[u64])
+fn address(rt: &impl Print, row: &[u64]) -> io::Result<()>
     requires { length row.now ≡ row_width }
 {
-    text(b" address=");
+    print!(rt; " address=")?;
     match row[words::UE_KIND] {
-        0 => text(b"-"),
-        1 => {
-            io::print_hex(1, row[words::UE_ADDRESS], 8);
-        }
-        2 => text(b"choose"),
-        _ => text(b"other"),
+        0 => print!(rt; "-"),
+        1 => print!(rt; "{:08x}", row[words::UE_ADDRESS]),
+        2 => print!(rt; "choose"),
+        _ => print!(rt; "other"),
     }
 }
 
-fn create_pdr(row: &[u64])
+fn create_pdr(rt: &impl Print, row: &[u64]) -> io::Result<()>
     requires { length row.now ≡ row_width }
 {
-    number(b"create-pdr id=", row[words::PDR_ID]);
-    number(b" precedence=", row[words::PRECEDENCE]);
-    number(b" source=", row[words::SOURCE]);
-    tunnel(row);
+    number(rt, "create-pdr id=", row[words::PDR_ID])?;
+    number(rt, " precedence=", row[words::PRECEDENCE])?;
+    number(rt, " source=", row[words::SOURCE])?;
+    tunnel(rt, row)?;
     optional(
-        b" endpoint=",
+        rt,
+        " endpoint=",
         row[words::HAS_ENDPOINT_ID],
         row[words::ENDPOINT_ID],
-    );
-    address(row);
-    optional(b" far=", row[words::HAS_FAR_ID], row[words::FAR_ID]);
+    )?;
+    address(rt, row)?;
+    optional(rt, " far=", row[words::HAS_FAR_ID], row[words::FAR_ID])
 }
 
-fn update_pdr(row: &[u64])
+fn update_pdr(rt: &impl Print, row: &[u64]) -> io::Result<()>
     requires { length row.now ≡ row_width }
 {
-    number(b"update-pdr id=", row[words::PDR_ID]);
+    number(rt, "update-pdr id=", row[words::PDR_ID])?;
     optional(
-        b" precedence=",
+        rt,
+        " precedence=",
         row[words::HAS_PRECEDENCE],
         row[words::PRECEDENCE],
-    );
-    optional(b" far=", row[words::HAS_FAR_ID], row[words::FAR_ID]);
-    number(b" pdi=", row[words::HAS_PDI]);
+    )?;
+    optional(rt, " far=", row[words::HAS_FAR_ID], row[words::FAR_ID])?;
+    number(rt, " pdi=", row[words::HAS_PDI])
 }
 
-fn node(row: &[u64])
+fn node(rt: &impl Print, row: &[u64]) -> io::Result<()>
     requires { length row.now ≡ row_width }
 {
+    let high = row[words::ADDRESS_HIGH];
+    let low = row[words::ADDRESS_LOW];
     match row[words::ID_TYPE] {
-        0 => {
-            text(b"0:");
-            io::print_hex(1, row[words::ADDRESS_LOW], 8);
-        }
-        1 => {
-            text(b"1:");
-            io::print_hex(1, row[words::ADDRESS_HIGH], 16);
-            io::print_hex(1, row[words::ADDRESS_LOW], 16);
-        }
-        _ => {
-            number(b"2:", row[words::ADDRESS_LOW] / 4096);
-            number(b":", row[words::ADDRESS_LOW] % 4096);
-        }
+        0 => print!(rt; "0:{low:08x}"),
+        1 => print!(rt; "1:{high:016x}{low:016x}"),
+        _ => print!(rt; "2:{}:{}", low / 4096, low % 4096),
     }
 }
 
-fn csid(row: &[u64])
+fn csid(rt: &impl Print, row: &[u64]) -> io::Result<()>
     requires { length row.now ≡ row_width }
 {
     match row[words::VERB] {
         1 => {
-            text(b"fq-csid node=");
-            node(row);
-            number(b" csids=", row[words::CSID]);
-            number(b" node-type=", row[words::NODE_TYPE]);
+            print!(rt; "fq-csid node=")?;
+            node(rt, row)?;
+            number(rt, " csids=", row[words::CSID])?;
+            number(rt, " node-type=", row[words::NODE_TYPE])
         }
-        2 => number(b"fq-csid-removal node-type=", row[words::NODE_TYPE]),
-        _ => text(b"fq-csid-removal-all"),
+        2 => number(rt, "fq-csid-removal node-type=", row[words::NODE_TYPE]),
+        _ => print!(rt; "fq-csid-removal-all"),
     }
 }
 
-fn one(row: &[u64])
+fn one(rt: &impl Print, row: &[u64]) -> io::Result<()>
     requires { length row.now ≡ row_width }
 {
-    text(b" | ");
+    print!(rt; " | ")?;
     match row[words::TAG] {
-        1 => create_pdr(row),
+        1 => create_pdr(rt, row),
         127 => {
-            number(b"create-endpoint id=", row[words::ENDPOINT_ID]);
-            tunnel(row);
-            address(row);
+            number(rt, "create-endpoint id=", row[words::ENDPOINT_ID])?;
+            tunnel(rt, row)?;
+            address(rt, row)
         }
-        9 => update_pdr(row),
-        15 => number(b"remove-pdr id=", row[words::PDR_ID]),
-        130 => number(b"remove-endpoint id=", row[words::ENDPOINT_ID]),
-        _ => csid(row),
+        9 => update_pdr(rt, row),
+        15 => number(rt, "remove-pdr id=", row[words::PDR_ID]),
+        130 => number(rt, "remove-endpoint id=", row[words::ENDPOINT_ID]),
+        _ => csid(rt, row),
     }
 }
 
 // So many rows from the front of words.
-pub(crate) fn all(words: &[u64], rows: usize)
+pub(crate) fn all(rt: &impl Print, words: &[u64], rows: usize) -> io::Result<()>
     requires { row_width * rows ≤ length words.now }
 {
     let mut i = 0;
     while i < rows {
         let at = format::ROW * i;
         let end = at + format::ROW;
-        one(&words[at..end]);
+        one(rt, &words[at..end])?;
         i += 1;
     }
+    Ok(())
 }
