@@ -1,14 +1,15 @@
 /*
- * The program pfcp-restore. Its work on files is the proved call pfcp_restore (crates/restoring),
- * which reads the arguments and answers the exit status: a program in Rattle has none of its own. It
- * knows tables; where a file has the form of stored.h, what it is given to read is the table in it,
- * if that is whole. What goes over the network is in send.c.
+ * The program pfcp-restore. Its work on files is the proved program of crates/restore, which reads
+ * the arguments and ends with the exit status; this file has the main function that goes before its
+ * own. The proved program knows tables; where a file has the form of stored.h, what it is given to
+ * read is the table in it, if that is whole. What goes over the network is in send.c.
  */
 #define _GNU_SOURCE /* memfd_create */
 
 #include <errno.h>
 #include <fcntl.h>
 #include <signal.h>
+#include <stdarg.h>
 #include <stdint.h>
 #include <stdio.h>
 #include <stdlib.h>
@@ -21,12 +22,15 @@
 #include "send.h"
 #include "stored.h"
 
-uint32_t pfcp_restore(void);
+/* The proved program's main function; the linker has the C library start the second of these instead
+   (--wrap=main). */
+int __real_main(int argc, char **argv);
+int __wrap_main(int argc, char **argv);
 
-/* The kit's call that opens a file to read it, for a name that ends with a zero; the linker has
-   pfcp_restore call the second of these instead (--wrap). */
-int __real_rattle_open_to_read(const char *path);
-int __wrap_rattle_open_to_read(const char *path);
+/* The C library's call that opens a file; the linker has the proved program call the second of these
+   instead (--wrap=open). */
+int __real_open(const char *path, int flags, ...);
+int __wrap_open(const char *path, int flags, ...);
 
 static const char use[] =
     "usage: pfcp-restore write TABLE FILE [IPV4] [IPV6]\n"
@@ -55,7 +59,7 @@ static void keep_streams(void)
 {
     for (int fd = 0; fd <= 2; fd++)
         if (fcntl(fd, F_GETFD) < 0)
-            open("/dev/null", O_RDONLY);
+            __real_open("/dev/null", O_RDONLY);
 }
 
 /* Reads what a file has, up to the room. */
@@ -86,13 +90,13 @@ static int open_table(const struct stored *stored)
 
 /* Tables are opened before anything is written, so a refusal here may end the program. What has not the
    form, a table alone for example, and what is no plain file is read as it is. */
-int __wrap_rattle_open_to_read(const char *path)
+static int open_to_read(const char *path, int flags)
 {
     static uint8_t octets[STORED_MOST + 1];
     struct stored stored;
     struct stat found;
     char why[STORED_WHY];
-    int file = __real_rattle_open_to_read(path);
+    int file = __real_open(path, flags);
 
     if (file < 0 || fstat(file, &found) != 0 || !S_ISREG(found.st_mode))
         return file;
@@ -109,7 +113,23 @@ int __wrap_rattle_open_to_read(const char *path)
     return open_table(&stored);
 }
 
-int main(int argc, char **argv)
+/* What is opened to be written, and is there to be replaced, is opened as it is. */
+int __wrap_open(const char *path, int flags, ...)
+{
+    va_list rest;
+    mode_t mode = 0;
+
+    if ((flags & O_ACCMODE) == O_RDONLY)
+        return open_to_read(path, flags);
+    if (flags & O_CREAT) {
+        va_start(rest, flags);
+        mode = va_arg(rest, mode_t);
+        va_end(rest);
+    }
+    return __real_open(path, flags, mode);
+}
+
+int __wrap_main(int argc, char **argv)
 {
     keep_streams();
     /* A write that fails is told and undone, and does not end the program halfway. */
@@ -121,12 +141,12 @@ int main(int argc, char **argv)
         return puts("pfcp-restore " PFCP_VERSION) < 0 || fflush(stdout) != 0;
     if (argc >= 2 && strcmp(argv[1], "send") == 0)
         return send_requests(argc - 2, argv + 2);
-    /* The proved call knows the words of files alone. */
+    /* The proved program knows the words of files alone. */
     if (argc < 2 || (strcmp(argv[1], "write") != 0 && strcmp(argv[1], "run") != 0)) {
         fputs("usage: pfcp-restore write TABLE FILE [IPV4] [IPV6], pfcp-restore run FILE TABLE "
               "NEW, or pfcp-restore send FILE ADDRESS [ADDRESS] [PORT]\n",
               stderr);
         return 2;
     }
-    return (int)pfcp_restore();
+    return __real_main(argc, argv);
 }
