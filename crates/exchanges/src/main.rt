@@ -202,13 +202,7 @@ fn peer_of(s: &[u8]) -> u32
 }
 
 // A part that is not there to make a table. One that is too short to name a peer is a request of none.
-fn call(
-    rt: &impl Print,
-    t: &mut [u8],
-    one: &mut [u8],
-    two: &mut [u8],
-    s: &[u8],
-) -> io::Result<()> {
+fn call(rt: &impl Print, t: &mut [u8], one: &mut [u8], two: &mut [u8], s: &[u8]) -> io::Result<()> {
     if s.len() < 2 {
         return request(rt, t, 0, s);
     }

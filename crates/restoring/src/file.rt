@@ -3,13 +3,12 @@ ghost use Rattle.std.specs.Prelude.{◌≡◌, ◌≤◌, length, IfOk};
 
 use crate::say::Done;
 use crate::{names, say};
-use std::fs;
 use std::fs::{OpenFile, OpenOptions};
-use std::io;
 use std::io::{ErrorKind, Read};
 use std::os::unix::fs::OpenOptionsExt;
 use std::random::RandomSource;
 use std::rt::Files;
+use std::{fs, io};
 
 // The program takes tables with room for so many sessions at most (02 (vi)); so long is such a table.
 pub const MOST_SESSIONS: usize = 64;
@@ -120,14 +119,7 @@ fn has_form(all: usize, said: usize) -> bool {
 }
 
 // The length of the table at the front of t, if it is sound and the stores or nothing follow; the file has so many octets in all.
-fn sound(
-    err: &impl Print,
-    path: &[u8],
-    t: &[u8],
-    all: usize,
-    said: usize,
-    limit: usize,
-) -> usize
+fn sound(err: &impl Print, path: &[u8], t: &[u8], all: usize, said: usize, limit: usize) -> usize
     ensures { result ≤ length t.now }
 {
     if t.len() < said {
@@ -157,11 +149,7 @@ fn taken(err: &impl Print, path: &[u8], t: &[u8], all: usize) -> usize
         return broken(err, path, all, limit);
     }
     if MOST_SESSIONS < limit {
-        return refused(
-            err,
-            path,
-            b"the table has room for more than 64 sessions",
-        );
+        return refused(err, path, b"the table has room for more than 64 sessions");
     }
     sound(err, path, t, all, said, limit)
 }

@@ -2,8 +2,7 @@
 ghost use Rattle.std.specs.Prelude.{◌≡◌, ◌≢◌, ◌≤◌, length, IfOk};
 
 use std::env::{Env, FillError};
-use std::io;
-use std::str;
+use std::{io, str};
 
 // Room for a name, which C reads up to a 0.
 pub const ROOM: usize = 4096;

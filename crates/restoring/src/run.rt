@@ -204,13 +204,7 @@ fn next_of(
 }
 
 // The next peer of the file and its request.
-fn next(
-    err: &impl Print,
-    new: &mut [u8],
-    file: &mut impl Read,
-    path: &[u8],
-    number: u64,
-) -> u8 {
+fn next(err: &impl Print, new: &mut [u8], file: &mut impl Read, path: &[u8], number: u64) -> u8 {
     let mut peer = [0u8; 1];
     match input::read_full(file, &mut peer) {
         Err(why) => failed(err, path, &why),
@@ -360,11 +354,7 @@ fn with_table<R: Env + Files + Print + RandomSource>(
     run_named(rt, err, file, table, new)
 }
 
-fn with_file<R: Env + Files + Print + RandomSource>(
-    rt: &R,
-    err: &impl Print,
-    file: &[u8],
-) -> u8 {
+fn with_file<R: Env + Files + Print + RandomSource>(rt: &R, err: &impl Print, file: &[u8]) -> u8 {
     let mut table = [0u8; names::ROOM];
     match names::argument(rt, 3, &mut table) {
         Ok(length) => with_table(rt, err, file, &table[..length]),
@@ -373,11 +363,7 @@ fn with_file<R: Env + Files + Print + RandomSource>(
 }
 
 // n arguments, the program's own name and the word `run` among them.
-pub fn arguments<R: Env + Files + Print + RandomSource>(
-    rt: &R,
-    err: &impl Print,
-    n: usize,
-) -> u8 {
+pub fn arguments<R: Env + Files + Print + RandomSource>(rt: &R, err: &impl Print, n: usize) -> u8 {
     if n != 5 {
         return say::usage(err);
     }

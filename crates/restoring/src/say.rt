@@ -1,7 +1,6 @@
 // Lines for the operator. A refusal is one line on standard error, and its answer is the exit status.
-use std::io;
 use std::io::Write;
-use std::str;
+use std::{io, str};
 
 pub const REFUSED: u8 = 1;
 

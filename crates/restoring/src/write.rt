@@ -272,14 +272,7 @@ fn write_named<R: Files + Print + RandomSource>(
     }
     let a = end4(given.ipv4);
     let b = end6(given.ipv6);
-    write_file(
-        rt,
-        err,
-        &stored[0..n],
-        &known[0..a],
-        &known[4..b],
-        path,
-    )
+    write_file(rt, err, &stored[0..n], &known[0..a], &known[4..b], path)
 }
 
 fn with_file<R: Env + Files + Print + RandomSource>(
@@ -328,11 +321,7 @@ fn with_table<R: Env + Files + Print + RandomSource>(
 }
 
 // n arguments, the program's own name and the word `write` among them.
-pub fn arguments<R: Env + Files + Print + RandomSource>(
-    rt: &R,
-    err: &impl Print,
-    n: usize,
-) -> u8 {
+pub fn arguments<R: Env + Files + Print + RandomSource>(rt: &R, err: &impl Print, n: usize) -> u8 {
     if n < 4 {
         return say::usage(err);
     }

@@ -147,7 +147,14 @@ fn write_address(rt: &impl Print, v: UeIp, out: &mut [u8]) -> io::Result<()> {
 }
 
 // An F-TEID without IPv6, and an FQ-CSID with an address of four octets and at most four CSIDs, into 16 octets.
-fn tunnel_in_16(rt: &impl Print, flags: u64, teid: u64, ipv4: u64, id: u64, endpoint: bool) -> io::Result<()> {
+fn tunnel_in_16(
+    rt: &impl Print,
+    flags: u64,
+    teid: u64,
+    ipv4: u64,
+    id: u64,
+    endpoint: bool,
+) -> io::Result<()> {
     let mut out = [0xaau8; 16];
     let v = FTeid {
         flags: flags,
@@ -174,9 +181,20 @@ fn csid_of(id_type: u64, count: u64, address: u64, csids: u64, node_type: u64) -
     }
 }
 
-fn csid_in_16(rt: &impl Print, id_type: u64, count: u64, address: u64, csids: u64, node_type: u64) -> io::Result<()> {
+fn csid_in_16(
+    rt: &impl Print,
+    id_type: u64,
+    count: u64,
+    address: u64,
+    csids: u64,
+    node_type: u64,
+) -> io::Result<()> {
     let mut out = [0xaau8; 16];
-    write_csid(rt, csid_of(id_type, count, address, csids, node_type), &mut out)
+    write_csid(
+        rt,
+        csid_of(id_type, count, address, csids, node_type),
+        &mut out,
+    )
 }
 
 // "Worked on paper" first (nine F-TEIDs, seven FQ-CSIDs), then each rule of the order.
@@ -224,8 +242,14 @@ fn csids(rt: &impl Print) -> io::Result<()> {
     csid(rt, b"\x31\xc0\x00\x02\x0a\x00\x05\x01")?;
     csid(rt, b"\x21\xf4\x23\xf0\x00\x00\x09\x05")?;
     csid(rt, b"\x21\xf4\x24\x00\x00\x00\x09\x05")?;
-    csid(rt, b"\x06\xc0\x00\x02\x0a\x00\x01\x00\x02\x00\x03\x00\x04\x00\x05\x00\x06\xf3\x99")?;
-    csid(rt, b"\x11\x20\x01\x0d\xb8\x00\x00\x00\x00\x00\x00\x00\x00\x00\x00\x00\x09\x00\x05\x04")?;
+    csid(
+        rt,
+        b"\x06\xc0\x00\x02\x0a\x00\x01\x00\x02\x00\x03\x00\x04\x00\x05\x00\x06\xf3\x99",
+    )?;
+    csid(
+        rt,
+        b"\x11\x20\x01\x0d\xb8\x00\x00\x00\x00\x00\x00\x00\x00\x00\x00\x00\x09\x00\x05\x04",
+    )?;
     csid(
         rt,
         b"\x0f\xc0\x00\x02\x0a\x00\x01\x00\x02\x00\x03\x00\x04\x00\x05\x00\x06\x00\x07\x00\x08\x00\x09\x00\x0a\x00\x0b\x00\x0c\x00\x0d\x00\x0e\x00\x0f\x00",
@@ -239,7 +263,10 @@ fn csids(rt: &impl Print) -> io::Result<()> {
     csid(rt, b"\x01\xc0\x00\x02\x0a\x00\x05")?;
     csid(rt, b"\x00\x00\x00\x00\x01\x02")?;
     csid(rt, b"\x20\x00\x00\x00\x00\x02")?;
-    csid(rt, b"\x10\x00\x00\x00\x00\x00\x00\x00\x00\x00\x00\x00\x00\x00\x00\x00\x00\x02")?;
+    csid(
+        rt,
+        b"\x10\x00\x00\x00\x00\x00\x00\x00\x00\x00\x00\x00\x00\x00\x00\x00\x00\x02",
+    )?;
     csid(rt, b"\x00\x00\x00\x00\x00")?;
     csid(rt, b"\x21\xff\xff\xff\xff\x00\x09")?;
     csid(rt, b"")
@@ -263,7 +290,10 @@ fn seids(rt: &impl Print) -> io::Result<()> {
     )?;
     seid(rt, b"\x00\x00\x00\x00\x00\x00\x00\x00\x01\xc0\x00\x02\x01")?;
     seid(rt, b"\xfc\x00\x00\x00\x00\x00\x00\x00\x01\xc0\x00\x02\x01")?;
-    seid(rt, b"\xfe\x00\x00\x00\x00\x00\x00\x00\x07\xc0\x00\x02\x01\x99")?;
+    seid(
+        rt,
+        b"\xfe\x00\x00\x00\x00\x00\x00\x00\x07\xc0\x00\x02\x01\x99",
+    )?;
     seid(rt, b"\x02\x00\x00\x00\x00\x00\x00\x00\x00\xc0\x00\x02\x01")?;
     seid(rt, b"\x02\x00\x00\x00\x00\x00\x00\x00\x00")?;
     seid(rt, b"")

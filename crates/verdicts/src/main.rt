@@ -36,11 +36,7 @@ fn title(rt: &impl Print, kind: u64) -> io::Result<()> {
 }
 
 fn flag(rt: &impl Print, b: bool) -> io::Result<()> {
-    if b {
-        print!(rt; "1")
-    } else {
-        print!(rt; "0")
-    }
+    if b { print!(rt; "1") } else { print!(rt; "0") }
 }
 
 // What stands before the records.
