@@ -9,8 +9,8 @@ use Rattle.rules.specs.Serve.{Served}
 use Rattle.rules.specs.Live.{reply_cause}
 use Rattle.rules.specs.Claim.{last_table, live_set, Due, EachItsDue}
 use Rattle.claim.proofs.Demand3.{each_its_due}
-use Rattle.promises.specs.Runs.{steps_of, Run, live_after, table_after}
-use Rattle.promises.specs.Traffic.{Traffic, traffic_live, traffic_after}
+use Rattle.promises.specs.Runs.{steps_of, live_after, table_after}
+use Rattle.promises.specs.Traffic.{traffic_live}
 use Rattle.promises.specs.Due.{DueTo, HostDue, TrafficDue}
 use Rattle.promises.proofs.RunLaws.{request_step, run_began}
 use Rattle.promises.proofs.TrafficLaws.{engine_run, engine_settings, engine_live, engine_table}

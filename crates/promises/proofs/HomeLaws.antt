@@ -1,7 +1,7 @@
 -- A reply names the unit by the peer's signalling address.
 -- Assumes nothing.
 use mathlib.Core.Path.{◌≡◌, refl, sym, ap, ◌∙◌, subst}
-use Prim.Native.Nat.{ℕ, ◌+◌, ◌^◌, ◌≤◌, ◌<◌}
+use Prim.Native.Nat.{ℕ, ◌^◌, ◌≤◌, ◌<◌}
 use native.Mathlib.Nat.{le_trans}
 use native.Mathlib.Omega.{arith}
 use mathlib.Core.Bool.{Bool, false, ◌||◌}
@@ -35,8 +35,7 @@ use Rattle.laws.proofs.ReplyLaws.{reply_elements_lem, reply_cause_lem, sequence_
 use Rattle.invariants.proofs.ReplyLength.{reply_body_short}
 use Rattle.laws.proofs.KeptRules.{table_kept}
 use Rattle.invariants.proofs.ServeLaws.{answers, answered_zero}
-use Rattle.pfcp_session.specs.Calls.{RequestCall, request_call}
-use Rattle.promises.specs.Runs.{Run, table_after}
+use Rattle.promises.specs.Runs.{table_after}
 use Rattle.promises.specs.Due.{NamedFor, RepliesNamed}
 use Rattle.promises.proofs.RunLaws.{request_step}
 use Rattle.promises.proofs.AccidentLaws.{left}

@@ -28,8 +28,7 @@ use Rattle.invariants.proofs.Changed.{entry_sound}
 use Rattle.invariants.proofs.VerdictLaws.{Passed}
 use Rattle.invariants.proofs.ServeLaws.{refused_same}
 use Rattle.invariants.proofs.AcceptedCall.{accepted_call}
-use Rattle.pfcp_session.specs.Calls.{RequestCall, request_call}
-use Rattle.promises.specs.Runs.{Run, live_after, table_after}
+use Rattle.promises.specs.Runs.{table_after}
 use Rattle.promises.specs.Due.{OthersStay}
 use Rattle.promises.proofs.RunLaws.{request_step}
 use Rattle.promises.proofs.AccidentLaws.{left}

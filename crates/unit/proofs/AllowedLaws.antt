@@ -2,7 +2,7 @@
 -- Assumes nothing.
 use mathlib.Core.Path.{◌≡◌, refl, sym, ◌∙◌}
 use mathlib.Core.Bool.{Bool, true, false, not, ◌&&◌, true≢false}
-use mathlib.Core.List.{[], ◌∷◌, ◌++◌}
+use mathlib.Core.List.{[], ◌++◌}
 use Prim.Native.Nat.{ℕ, ◌+◌, ◌-◌, ◌≤◌, ◌<◌, ◌^◌}
 use native.Mathlib.Omega.{arith}
 use borrow.Author.Tests.{lt-leb, le-leb, eq-eqb, lt-ltb, le-ltb, ne_eqb}
@@ -21,7 +21,6 @@ use Rattle.rules.specs.Sound.{pool_tests, address_pool_tests, limit_tests, ipv6_
 use Rattle.unit.specs.declared.Settings.{Settings as Unit}
 use Rattle.unit.specs.declared.Peer as declared
 use Rattle.unit.specs.Meaning.{settings_of, range_tests, peer_from}
-use mathlib.Core.Logic.{◌≢◌}
 
 -- an IPv6 address of two halves, or none
 module _ (a b : ℕ) where

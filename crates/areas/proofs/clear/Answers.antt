@@ -1,5 +1,3 @@
-
-use borrow.Author.Rules.{rules}
 use Rattle.areas.proofs.Steps.{cleared_in_lem}
 use Rattle.areas.proofs.clear.Goals as goal
 

@@ -1,5 +1,3 @@
-
-use borrow.Author.Rules.{rules}
 use Rattle.octets.specs.Octets.{number_at}
 use Rattle.areas.specs.Counted.{count_in}
 use Rattle.areas.proofs.count.Goals as goal

@@ -1,4 +1,3 @@
-
 use borrow.Author.Rules.{rules}
 use Rattle.areas.proofs.Steps.{found_room, take_none, take_out_lem}
 use mathlib.Core.Path.{sym, ◌∙◌}

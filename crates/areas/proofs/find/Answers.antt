@@ -1,4 +1,3 @@
-
 use borrow.Author.Rules.{rules}
 use Rattle.areas.proofs.Steps.{room_from, place_none, place_found}
 use Rattle.areas.proofs.find.Goals as goal

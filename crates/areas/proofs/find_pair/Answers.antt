@@ -1,5 +1,3 @@
-
-use borrow.Author.Rules.{rules}
 use Rattle.areas.proofs.Steps.{room_from, place_none, place_pair, pair_wide}
 use Rattle.areas.proofs.find_pair.Goals as goal
 

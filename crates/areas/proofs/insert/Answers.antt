@@ -1,4 +1,3 @@
-
 use borrow.Author.Rules.{rules}
 use Rattle.areas.proofs.Steps.{after_counted, inserted_in_lem}
 use Rattle.areas.proofs.insert.Goals as goal

@@ -1,4 +1,3 @@
-
 use borrow.Author.Rules.{rules}
 use Rattle.areas.proofs.Steps.{found_room, absent_room, put_over_found, put_in_absent, put_nowhere}
 use mathlib.Core.Path.{sym, ◌∙◌}

@@ -1,4 +1,3 @@
-
 use borrow.Author.Rules.{rules}
 use Rattle.areas.proofs.Steps.{room_counted, removed_in_lem}
 use Rattle.areas.proofs.remove.Goals as goal

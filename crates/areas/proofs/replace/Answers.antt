@@ -1,5 +1,3 @@
-
-use borrow.Author.Rules.{rules}
 use Rattle.areas.proofs.Steps.{room_after, replaced_in_lem}
 use Rattle.areas.proofs.replace.Goals as goal
 

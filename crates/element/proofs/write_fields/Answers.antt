@@ -1,5 +1,4 @@
 -- `element::write_fields` meets its contract, by the test of the space. Assumes nothing.
-use borrow.Author.Rules.{rules}
 use Rattle.element.proofs.AnswerLaws.{fields_no_room, fields_done}
 use Rattle.element.proofs.write_fields.Goals as goal
 

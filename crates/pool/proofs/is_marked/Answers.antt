@@ -1,6 +1,5 @@
 -- `pool::is_marked` meets its contract: a word shifted by a bit number has that bit lowest. Assumes nothing.
 use mathlib.Core.Path.{refl}
-use borrow.Author.Rules.{rules}
 use Rattle.octets.specs.Octets.{bit}
 use Rattle.rules.specs.Sound.{marked}
 use Rattle.pool.proofs.is_marked.Goals as goal

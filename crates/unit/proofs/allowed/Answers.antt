@@ -1,6 +1,5 @@
 -- `unit::allowed` meets its contract. Assumes nothing.
 use Rattle.unit.proofs.AllowedLaws.{allowed_room, allowed_first, allowed_teids, allowed_ips, allowed_peers}
-use borrow.Author.Rules.{rules}
 use Rattle.unit.proofs.allowed.Goals as goal
 
 pub returns-then-not-limit_allowed : goal.returns-then-not-limit_allowed

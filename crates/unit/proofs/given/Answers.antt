@@ -1,7 +1,6 @@
 -- `unit::given` meets its contract. Assumes nothing.
 use mathlib.Core.Path.{refl}
 use Rattle.unit.proofs.ReadLaws.{given_is}
-use borrow.Author.Rules.{rules}
 use Rattle.unit.proofs.given.Goals as goal
 
 pub returns : goal.returns

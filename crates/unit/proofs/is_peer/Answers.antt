@@ -1,6 +1,5 @@
 -- `unit::is_peer` meets its contract. Assumes nothing.
 use Rattle.unit.proofs.AllowedLaws.{peer_first, peer_second}
-use borrow.Author.Rules.{rules}
 use Rattle.unit.proofs.is_peer.Goals as goal
 
 pub returns-then-peer-eq1 : goal.returns-then-peer-eq1

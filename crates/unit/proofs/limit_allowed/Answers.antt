@@ -1,6 +1,5 @@
 -- `unit::limit_allowed` meets its contract. Assumes nothing.
 use Rattle.unit.proofs.AllowedLaws.{limit_none, limit_some}
-use borrow.Author.Rules.{rules}
 use Rattle.unit.proofs.limit_allowed.Goals as goal
 
 pub returns-then-limit-lt2 : goal.returns-then-limit-lt2

@@ -1,6 +1,5 @@
 -- `unit::peers_allowed` meets its contract. Assumes nothing.
 use Rattle.unit.proofs.AllowedLaws.{peers_first, peers_second, peers_large, peers_both, peers_last}
-use borrow.Author.Rules.{rules}
 use Rattle.unit.proofs.peers_allowed.Goals as goal
 
 pub returns-then-not-peer_allowed : goal.returns-then-not-peer_allowed

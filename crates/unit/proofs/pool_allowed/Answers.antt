@@ -1,6 +1,5 @@
 -- `unit::pool_allowed` meets its contract. Assumes nothing.
 use Rattle.unit.proofs.AllowedLaws.{pool_empty, pool_large, pool_last}
-use borrow.Author.Rules.{rules}
 use Rattle.unit.proofs.pool_allowed.Goals as goal
 
 pub returns-then-size-lt1 : goal.returns-then-size-lt1

@@ -1,7 +1,6 @@
 -- `unit::read` meets its contract. Assumes nothing.
 use mathlib.Core.Path.{refl}
 use Rattle.unit.proofs.ReadLaws.{read_is}
-use borrow.Author.Rules.{rules}
 use Rattle.unit.proofs.read.Goals as goal
 
 pub returns : goal.returns

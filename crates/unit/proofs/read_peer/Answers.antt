@@ -1,6 +1,5 @@
 -- `unit::read_peer` meets its contract. Assumes nothing.
 use Rattle.unit.proofs.ReadLaws.{peer_is}
-use borrow.Author.Rules.{rules}
 use Rattle.unit.proofs.read_peer.Goals as goal
 
 pub returns : goal.returns

@@ -1,6 +1,5 @@
 -- `unit::write` meets its contract. Assumes nothing.
 use Rattle.unit.proofs.WriteLaws.{write_steps}
-use borrow.Author.Rules.{rules}
 use Rattle.unit.proofs.write.Goals as goal
 
 pub returns : goal.returns

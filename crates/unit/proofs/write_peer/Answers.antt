@@ -1,6 +1,5 @@
 -- `unit::write_peer` meets its contract. Assumes nothing.
 use Rattle.unit.proofs.WriteLaws.{peer_steps}
-use borrow.Author.Rules.{rules}
 use Rattle.unit.proofs.write_peer.Goals as goal
 
 pub returns : goal.returns

@@ -1,10 +1,9 @@
 -- `areas::slots::find` meets its contract. Assumes nothing.
 use mathlib.Core.Path.{◌≡◌, sym, ◌∙◌}
-use Prim.Native.Nat.{◌-◌}
 use native.Mathlib.Nat.{mul-le-mul_right}
 use lib.ListN.{get_or}
 use native.Mathlib.Omega.{arith}
-use Rattle.areas.proofs.LookupLaws.{keys, length_keys, key_at, Looking, looking_none, looking_more, looking_found, looking_absent, looking_end}
+use Rattle.areas.proofs.LookupLaws.{keys, length_keys, key_at, looking_none, looking_more, looking_found, looking_absent, looking_end}
 use Rattle.areas.proofs.slots.find.Goals as goal
 
 pub loop-i-init : goal.loop-i-init

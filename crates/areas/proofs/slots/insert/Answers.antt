@@ -1,6 +1,5 @@
 -- `areas::slots::insert` meets its contract: what is moved up and what is written stand side by side. Assumes nothing.
 use native.Mathlib.Omega.{arith}
-use borrow.Author.Rules.{rules}
 use lib.ListN.{length}
 use Rattle.areas.proofs.Rows.{rows, insert_steps}
 use Rattle.areas.proofs.slots.insert.Goals as goal

@@ -1,6 +1,5 @@
 -- `areas::slots::remove` meets its contract: what is moved down and the zeros stand side by side. Assumes nothing.
 use native.Mathlib.Omega.{arith}
-use borrow.Author.Rules.{rules}
 use Rattle.areas.proofs.Rows.{rows_after, remove_steps}
 use Rattle.areas.proofs.slots.remove.Goals as goal
 

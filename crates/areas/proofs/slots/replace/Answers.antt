@@ -1,5 +1,4 @@
 -- `areas::slots::replace` meets its contract. Assumes nothing.
-use borrow.Author.Rules.{rules}
 use Rattle.areas.specs.Records.{replaced}
 use Rattle.areas.proofs.slots.replace.Goals as goal
 
