@@ -303,8 +303,8 @@ fn run_on<R: Files + Print + RandomSource>(
     let Ran::All(n) = ran else {
         return say::REFUSED;
     };
-    let result_is: &[u8] = new;
-    let same = stored == result_is;
+    let after: &[u8] = new;
+    let same = stored == after;
     let status = write_table(rt, err, new, path, Done::Accepted(n, same));
     if status != 0 {
         return status;
