@@ -262,10 +262,14 @@ const LETTERS: [u8; 62] = *b"abcdefghijklmnopqrstuvwxyzABCDEFGHIJKLMNOPQRSTUVWXY
 
 const TRIES: u32 = 62 * 62 * 62;
 
-// Puts six letters, which are up to chance, at the end of name.
-fn put_letters(rt: &impl RandomSource, name: &mut [u8]) -> io::Result<()>
-    requires { 6 ≤ length name.old }
-{
+// What the system says of what it cannot take: Linux's number.
+const INVALID: i32 = 22;
+
+// Puts six letters, which are up to chance, at the end of name; a name without room for them is refused, as mkstemp refuses it.
+fn put_letters(rt: &impl RandomSource, name: &mut [u8]) -> io::Result<()> {
+    if name.len() < 6 {
+        return Err(io::Error::from_raw_os_error(INVALID));
+    }
     let mut chance = [0u8; 6];
     rt.fill_bytes(&mut chance)?;
     let at = name.len() - 6;
@@ -286,9 +290,7 @@ fn create_new<R: Files>(rt: &R, name: &[u8]) -> io::Result<R::File> {
 }
 
 // A new file, whose name is name with other letters at its end.
-fn create_temp<R: Files + RandomSource>(rt: &R, name: &mut [u8]) -> io::Result<R::File>
-    requires { 6 ≤ length name.old }
-{
+fn create_temp<R: Files + RandomSource>(rt: &R, name: &mut [u8]) -> io::Result<R::File> {
     for _ in 1..TRIES {
         put_letters(rt, name)?;
         match create_new(rt, name) {
@@ -310,9 +312,7 @@ pub fn create<R: Files + RandomSource>(
     err: &impl Print,
     path: &[u8],
     name: &mut [u8],
-) -> Option<R::File>
-    requires { 6 ≤ length name.old }
-{
+) -> Option<R::File> {
     if !replaceable(rt, err, path) {
         return None;
     }

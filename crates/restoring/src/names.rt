@@ -1,5 +1,5 @@
 // Names of files: the arguments, and a name beside another.
-ghost use Rattle.std.specs.Prelude.{◌≡◌, ◌≢◌, ◌≤◌, length, IfOk};
+ghost use Rattle.std.specs.Prelude.{◌≡◌, ◌≤◌, length, IfOk};
 
 use std::env::{Env, FillError};
 use std::{io, str};
@@ -55,8 +55,7 @@ pub fn text(name: &[u8]) -> io::Result<&str> {
 // The name beside path at the front of name, and its length; 0 where path is too long for that. Letters come in the place of the X's.
 pub fn beside(path: &[u8], name: &mut [u8]) -> usize
     requires { length name.old ≡ 4096 }
-    ensures room { result ≤ 4096 }
-    ensures letters { result ≢ 0 → 6 ≤ result }
+    ensures { result ≤ 4096 }
 {
     if path.len() > 4095 - BESIDE {
         return 0;

@@ -254,9 +254,7 @@ fn write_beside<R: Files + Print + RandomSource>(
     path: &[u8],
     name: &mut [u8],
     done: Done,
-) -> u8
-    requires { 6 ≤ length name.old }
-{
+) -> u8 {
     let Some(mut beside) = file::create(rt, err, path, name) else {
         return say::REFUSED;
     };

@@ -216,9 +216,7 @@ fn write_beside<R: Files + Print + RandomSource>(
     ipv6: &[u8],
     path: &[u8],
     name: &mut [u8],
-) -> u8
-    requires { 6 ≤ length name.old }
-{
+) -> u8 {
     let Some(mut beside) = file::create(rt, err, path, name) else {
         return say::REFUSED;
     };
